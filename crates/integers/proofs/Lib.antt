@@ -1,0 +1,8 @@
+pub mod Omega
+pub mod Laws
+pub mod Tests
+pub mod Sums
+pub mod IntegerSums
+pub mod Counting
+pub mod Pigeonhole
+pub mod Injections
