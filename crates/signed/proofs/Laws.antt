@@ -1,0 +1,68 @@
+-- Laws of signed machine numbers: 32 bits and back, sums and differences of two i32 fit 64 bits, and the bits of a number below 0 turned over.
+use mathlib.Core.Path.{_≡_, refl, ap, _∙_}
+use mathlib.Core.Bool.{Bool, true, false, cond}
+use Prim.Native.Nat.{ℕ, zero, suc, _+_, _-_, _≤_, _<_}
+use native.Mathlib.Omega.{arith}
+use lib.IntN.{ℤ, pos, negsuc, _+ℤ_, _-ℤ_, negℤ, subℕ, natAbs}
+use lib.Signed.{mag, ltZ, nonNeg}
+use lib.Dec.{T, ltb}
+use borrow.Author.Tests.{ltb-true}
+use mir.Syntax.{w32, w64}
+use mir.Val.{SFits, toZ, ofZ}
+use mir.ValLaws.{toZ-pos, toZ-ofZ, toZ-fits, ofZ-toZ, ofZ-fits}
+
+-- ── 32 bits and back ──
+pub number-of-bits : (x : ℤ) → SFits w32 x → toZ w32 (ofZ w32 x) ≡ x
+number-of-bits x f = toZ-ofZ w32 x f
+
+pub bits-of-number : (n : ℕ) → n < 4294967296 → ofZ w32 (toZ w32 n) ≡ n
+bits-of-number n h = ofZ-toZ w32 n (record { fits = h })
+
+-- the bits of a number that fits are 32, and 32 bits make a number that fits
+pub bits-below : (x : ℤ) → SFits w32 x → ofZ w32 x < 4294967296
+bits-below x f = ofZ-fits w32 x f .fits
+
+pub number-fits : (n : ℕ) → n < 4294967296 → SFits w32 (toZ w32 n)
+number-fits n h = toZ-fits w32 n (record { fits = h })
+
+-- ── what fits 32 bits, at 64 ──
+pub fits-wider : {x : ℤ} → SFits w32 x → SFits w64 x
+fits-wider f = record { sfits = omega (arith, f .sfits) }
+
+-- a signed local holds bits: a number of 32 bits, taken to 64, is itself
+pub widened : (x : ℤ) → SFits w32 x → toZ w64 (ofZ w64 (toZ w32 (ofZ w32 x))) ≡ x
+widened x f = ap (λ v. toZ w64 (ofZ w64 v)) (number-of-bits x f) ∙ toZ-ofZ w64 x (fits-wider f)
+
+mag-either : (t : Bool) (a b m : ℕ) → a ≤ m → b ≤ m → mag (cond t (negsuc a) (pos b)) ≤ m
+mag-either true a b m p q = p
+mag-either false a b m p q = q
+
+mag-sub : (a b : ℕ) → mag (subℕ a b) ≤ a + b
+mag-sub a b = mag-either (ltb a b) (b - suc a) (a - b) (a + b) (omega arith) (omega arith)
+
+mag-add : (x y : ℤ) → mag (x +ℤ y) ≤ mag x + mag y + 1
+mag-add (pos a) (pos b) = omega arith
+mag-add (pos a) (negsuc b) = omega (arith, mag-sub a (suc b))
+mag-add (negsuc a) (pos b) = omega (arith, mag-sub b (suc a))
+mag-add (negsuc a) (negsuc b) = omega arith
+
+mag-neg : (x : ℤ) → mag (negℤ x) ≤ mag x + 1
+mag-neg (pos zero) = omega arith
+mag-neg (pos (suc a)) = omega arith
+mag-neg (negsuc a) = omega arith
+
+pub add-fits : (x y : ℤ) → SFits w32 x → SFits w32 y → SFits w64 (x +ℤ y)
+add-fits x y f g = record { sfits = omega (arith, f .sfits, g .sfits, mag-add x y) }
+
+pub sub-fits : (x y : ℤ) → SFits w32 x → SFits w32 y → SFits w64 (x -ℤ y)
+sub-fits x y f g = record { sfits = omega (arith, f .sfits, g .sfits, mag-add x (negℤ y), mag-neg y) }
+
+-- ── below 0, and not ──
+-- the bits of a number below 0, turned over, are those of a number that is not
+pub turned-over : (x : ℤ) → SFits w32 x → ltZ x (pos 0) ≡ true → toZ w32 (4294967295 - ofZ w32 x) ≡ pos (4294967295 - ofZ w32 x)
+turned-over (pos n) f h = let b : n < 0 = ltb-true n 0 h in absurd (omega arith)
+turned-over (negsuc k) f h = toZ-pos w32 (4294967295 - (4294967296 - suc k)) (omega (arith, f .sfits))
+
+pub not-below : (x : ℤ) → ltZ x (pos 0) ≡ false → T (nonNeg x) × (natAbs x ≡ ofZ w32 x)
+not-below (pos n) h = (tt, refl)
+not-below (negsuc k) h = let z : _≡_ {A = ℕ} 0 1 = cc in absurd (omega arith)

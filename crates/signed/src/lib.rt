@@ -1,0 +1,56 @@
+// Signed machine arithmetic, one step to a function, with contracts in ℤ: sums and differences of two i32 are exact in i64, and an i32 is made of its bits.
+ghost use mathlib.Core.Path.{_≡_};
+ghost use lib.IntN.{_+ℤ_, _-ℤ_};
+ghost use mir.Syntax.{w32};
+ghost use mir.Val.{toZ, ofZ, SFits};
+
+// The same number at 64 bits.
+pub fn widen(x: i32) -> i64
+    ensures { λ r. ⌜ r ≡ x ⌝ }
+{
+    x as i64
+}
+
+// The same number at 32 bits, where it fits them.
+pub fn narrow(x: i64) -> i32
+    requires { ⌜ SFits w32 x ⌝ }
+    ensures { λ r. ⌜ r ≡ x ⌝ }
+{
+    x as i32
+}
+
+// The sum, at 64 bits: it never wraps.
+pub fn add32(a: i32, b: i32) -> i64
+    ensures { λ r. ⌜ r ≡ a +ℤ b ⌝ }
+{
+    a as i64 + b as i64
+}
+
+// The difference, at 64 bits: it never wraps.
+pub fn sub32(a: i32, b: i32) -> i64
+    ensures { λ r. ⌜ r ≡ a -ℤ b ⌝ }
+{
+    a as i64 - b as i64
+}
+
+// The number that has these 32 bits in two's complement.
+pub fn of_bits(n: u32) -> i32
+    ensures { λ r. ⌜ r ≡ toZ w32 n ⌝ }
+{
+    if n < 2147483648 {
+        n as i32
+    } else {
+        !((4294967295 - n) as i32)
+    }
+}
+
+// The 32 bits of a number in two's complement.
+pub fn to_bits(x: i32) -> u32
+    ensures { λ r. ⌜ r ≡ ofZ w32 x ⌝ }
+{
+    if x < 0 {
+        4294967295 - (!x as u32)
+    } else {
+        x as u32
+    }
+}
