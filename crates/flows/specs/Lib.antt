@@ -1,0 +1,4 @@
+pub mod Settings
+pub mod Levels
+pub mod Highest
+pub mod ProvingSet
