@@ -2,3 +2,4 @@ pub mod Settings
 pub mod Levels
 pub mod Highest
 pub mod ProvingSet
+pub mod Check
