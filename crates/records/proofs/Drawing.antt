@@ -1,0 +1,66 @@
+-- What a drawing is whose every edge passes the checks 4 to 7: its ends are nodes, its rotations darts, its capacities in range, and the two of an edge
+-- add to zero or more. For sheets and for what Write is given alike.
+use Prim.Native.Nat.{ℕ, _+_, _*_, _≤_, _<_}
+use mathlib.Core.Logic.{_⊎_, inl, inr}
+use native.Mathlib.Omega.{arith}
+use lib.IntN.{ℤ, pos, negsuc, _+ℤ_}
+use lib.Signed.{_<ℤ_, _≤ℤ_}
+use Rattle.integers.proofs.Omega.{atoms₂, parts, at-most, from-at-most}
+use Rattle.integers.proofs.Laws.{lt-or-ge}
+use Rattle.refusals.specs.Order.{NoneOf}
+use Rattle.faces.specs.Dart.{rev}
+use Rattle.faces.specs.Check.{InRange}
+use Rattle.faces.proofs.Darts.{by-edge, rev-even, rev-odd}
+use Rattle.records.specs.Drawing.{Drawing}
+use Rattle.records.specs.Check.{CapacityOutside, countChecks, fieldChecks, edgeChecks}
+
+-- neither of two
+pub not-left : {A B : Type 0} → (A ⊎ B → ⊥) → A → ⊥
+not-left h a = h (inl a)
+
+pub not-right : {A B : Type 0} → (A ⊎ B → ⊥) → B → ⊥
+not-right h b = h (inr b)
+
+not-less : (x y : ℤ) → (x <ℤ y → ⊥) → y ≤ℤ x
+not-less x y h = go (lt-or-ge x y)
+  where
+    go : (x <ℤ y) ⊎ (y ≤ℤ x) → y ≤ℤ x
+    go (inl l) = absurd (h l)
+    go (inr l) = l
+
+-- what check 6 leaves: −1,000,000 to 1,000,000
+pub capacity-inside : (c : ℤ) → (CapacityOutside c → ⊥) → (negsuc 999999 ≤ℤ c) × (c ≤ℤ pos 1000000)
+capacity-inside c h = (not-less c (negsuc 999999) (not-left h), not-less (pos 1000000) c (not-right h))
+
+turned-round : (x y : ℤ) → pos 0 ≤ℤ (x +ℤ y) → pos 0 ≤ℤ (y +ℤ x)
+turned-round x y h = let a = atoms₂ x y in at-most (search parts) (omega (arith, from-at-most h (search parts)))
+
+pub counts-range : (nodes edges : ℕ) → NoneOf (countChecks nodes edges) → (2 ≤ nodes) × (nodes ≤ 513) × (1 ≤ edges) × (edges ≤ 512)
+unfolding NoneOf countChecks
+counts-range nodes edges passed =
+    let h = passed .0 in
+    (omega (arith, not-left (not-left h)), omega (arith, not-right (not-left h)), omega (arith, not-left (not-right h)), omega (arith, not-right (not-right h)))
+
+module _ (𝓓 : Drawing) (passed : (e : ℕ) → e < 𝓓 .map .edges → NoneOf (edgeChecks 𝓓 e)) where
+  pub drawing-range : InRange (𝓓 .map)
+  unfolding NoneOf edgeChecks fieldChecks
+  drawing-range =
+      record {
+        tail-in = by-edge (𝓓 .map .edges) (λ d. 𝓓 .map .tail d < 𝓓 .map .nodes) (λ e l. omega (arith, not-left (passed e l .0))) (λ e l. omega (arith, not-right (passed e l .0)));
+        rotation-in = by-edge (𝓓 .map .edges) (λ d. 𝓓 .map .rotation d < 2 * 𝓓 .map .edges) (λ e l. omega (arith, not-left (passed e l .1 .0))) (λ e l. omega (arith, not-right (passed e l .1 .0)));
+      }
+
+  pub drawing-capacities : (d : ℕ) → d < 2 * 𝓓 .map .edges → CapacityOutside (𝓓 .capacity d) → ⊥
+  unfolding NoneOf edgeChecks fieldChecks
+  drawing-capacities =
+      by-edge (𝓓 .map .edges) (λ d. CapacityOutside (𝓓 .capacity d) → ⊥) (λ e l. not-left (passed e l .1 .1 .0)) (λ e l. not-right (passed e l .1 .1 .0))
+
+  pub edge-pair : (e : ℕ) → e < 𝓓 .map .edges → pos 0 ≤ℤ (𝓓 .capacity (2 * e) +ℤ 𝓓 .capacity (2 * e + 1))
+  unfolding NoneOf edgeChecks fieldChecks
+  edge-pair e l = not-less _ _ (passed e l .1 .1 .1 .0)
+
+  pub drawing-pairs : (d : ℕ) → d < 2 * 𝓓 .map .edges → pos 0 ≤ℤ (𝓓 .capacity d +ℤ 𝓓 .capacity (rev d))
+  drawing-pairs =
+      by-edge (𝓓 .map .edges) (λ d. pos 0 ≤ℤ (𝓓 .capacity d +ℤ 𝓓 .capacity (rev d)))
+      (λ e l. rw (rev-even e) (edge-pair e l))
+      (λ e l. rw (rev-odd e) (turned-round (𝓓 .capacity (2 * e)) (𝓓 .capacity (2 * e + 1)) (edge-pair e l)))

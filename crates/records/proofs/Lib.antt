@@ -1,0 +1,12 @@
+pub mod Record
+pub mod Fields
+pub mod Drawing
+pub mod Bytes
+pub mod Examples
+pub mod Places
+pub mod Tabulate
+pub mod SheetAgain
+pub mod Encodable
+pub mod Decode
+pub mod EncodeAccepted
+pub mod RoundTripExample

@@ -1,0 +1,112 @@
+-- `records::check_bytes` meets its contract: the head, the edges in turn, then what is left over.
+-- The invariant: the counts are the head's, and every edge before e has passed.
+use Prim.Native.Nat.{ℕ, _-_, _≤_, _<_}
+use mathlib.Core.Path.{_≡_, refl}
+use mathlib.Core.Logic.{inl}
+use native.Mathlib.Omega.{arith}
+use borrow.Author.Count.{below-more}
+use Rattle.refusals.specs.Order.{NoneOf, FirstOf}
+use Rattle.records.specs.Sheet.{nodesOf, edgesOf, headChecks, edgeRecordChecks}
+use Rattle.records.proofs.Bytes.{head-whole, head-counts, refused-head, refused-edge, refused-left, all-passed}
+use borrow.Author.Needs.{needs}
+use Rattle.records.proofs.check_bytes.Statement.{statement}
+use Rattle.records.proofs.check_bytes.Tie as tie
+
+abbrev Inv-loop : tie.InvT-loop
+Inv-loop s nodes edges e₀ e =
+    (e ≤ edges) × (edges ≤ 512) × (nodes ≡ nodesOf s) × (edges ≡ edgesOf s) × NoneOf (headChecks s) × ((i : ℕ) → i < e → NoneOf (edgeRecordChecks s i))
+
+abbrev μ-loop : tie.MeasureT-loop
+μ-loop s nodes edges e₀ e = edges - e
+
+check-head-requires : tie.Need-check-head-requires Inv-loop μ-loop
+check-head-requires c κs = search needs
+
+enum-known-head : tie.Need-enum-known-head Inv-loop μ-loop
+enum-known-head c = search needs
+
+returns : tie.Need-returns Inv-loop μ-loop
+returns c = refused-head _ _ _ (rw (c .before .head .given .1) at (c .before .before .before .check-head .ensures))
+
+enum-told : tie.Need-enum-told Inv-loop μ-loop
+enum-told c = search needs
+
+read-wide-requires : tie.Need-read-wide-requires Inv-loop μ-loop
+read-wide-requires c κs = omega (arith, head-whole _ (rw (c .enum-told .given .1) at (c .before .before .check-head .ensures)))
+
+read-wide-requires-2 : tie.Need-read-wide-requires-2 Inv-loop μ-loop
+read-wide-requires-2 c κs = omega (arith, head-whole _ (rw (c .before .enum-told .given .1) at (c .before .before .before .check-head .ensures)))
+
+loop-holds : tie.Need-loop-holds Inv-loop μ-loop
+loop-holds c =
+    let told = c .before .before in
+    let h = rw (told .enum-told .given .1) at (told .before .before .check-head .ensures) in
+    (omega arith, omega (arith, head-counts _ h .3), c .before .read-wide .ensures, c .read-wide2 .ensures, h, λ i l. absurd (omega arith))
+
+check-edge-record-requires : tie.Need-check-edge-record-requires Inv-loop μ-loop
+check-edge-record-requires c κs = search needs
+
+enum-known-edge : tie.Need-enum-known-edge Inv-loop μ-loop
+enum-known-edge c = search needs
+
+returns-2 : tie.Need-returns-2 Inv-loop μ-loop
+returns-2 c =
+    let i = c .before .before .before .before .before .loop in
+    refused-edge _ (i .inv .4) (i .e) _ _ (omega arith) (i .inv .5) (rw (c .before .edge .given .1) at (c .before .before .before .check-edge-record .ensures))
+
+enum-told-2 : tie.Need-enum-told-2 Inv-loop μ-loop
+enum-told-2 c = search needs
+
+add-e : tie.Need-add-e Inv-loop μ-loop
+add-e c = search needs
+
+loop-less : tie.Need-loop-less Inv-loop μ-loop
+loop-less c = search needs
+
+loop-again : tie.Need-loop-again Inv-loop μ-loop
+loop-again c =
+    let i = c .before .before .before .before .loop in
+    (omega arith, i .inv .1, i .inv .2, i .inv .3, i .inv .4, below-more _ (i .e) (i .inv .5) (rw (c .enum-told2 .given .1) at (c .before .before .check-edge-record .ensures)))
+
+mul-if1 : tie.Need-mul-if1 Inv-loop μ-loop
+mul-if1 c = search needs
+
+add-if1 : tie.Need-add-if1 Inv-loop μ-loop
+add-if1 c = search needs
+
+returns-3 : tie.Need-returns-3 Inv-loop μ-loop
+unfolding FirstOf
+returns-3 c =
+    let i = c .before .before .loop in
+    refused-left _ (i .inv .4) (λ k l. i .inv .5 k (omega arith)) (inl (omega arith, refl, refl))
+
+returns-4 : tie.Need-returns-4 Inv-loop μ-loop
+unfolding NoneOf
+returns-4 c =
+    let i = c .before .before .loop in
+    all-passed _ (i .inv .4) (λ k l. i .inv .5 k (omega arith)) (λ l. omega arith, tt)
+
+pub check-bytes-spec : {M : Type 1} → statement M
+check-bytes-spec =
+    tie.close
+    (tie.spec
+    Inv-loop
+    μ-loop
+    check-head-requires
+    enum-known-head
+    returns
+    enum-told
+    read-wide-requires
+    read-wide-requires-2
+    loop-holds
+    check-edge-record-requires
+    enum-known-edge
+    returns-2
+    enum-told-2
+    add-e
+    loop-less
+    loop-again
+    mul-if1
+    add-if1
+    returns-3
+    returns-4)

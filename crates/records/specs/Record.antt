@@ -1,0 +1,21 @@
+-- Records. Document 01, "Records of a sheet": "A record is one byte of kind, then a body. A table fixes the body length of each kind: 1 has 4 bytes, 2 has
+-- 16, 3 has 8." Kind 1 is the head of a sheet, 2 an edge ("channel"), 3 a question.
+use Prim.Native.Nat.{ℕ, _+_, _≤_, _<_}
+use mathlib.Core.Logic.{_≢_}
+use mathlib.Core.Bool.{cond}
+use mathlib.Core.List.{List, [], _∷_}
+use lib.Dec.{ltb}
+use lib.ListN.{length, getD}
+use Rattle.refusals.specs.Order.{Check, _when_}
+
+-- the table; 0 for a kind that there is not
+unfoldable pub bodyLength : ℕ → ℕ
+bodyLength kind = cond (ltb kind 4) (getD (0 ∷ 4 ∷ 16 ∷ 8 ∷ []) kind 0) 0
+
+-- a record of this kind is asked for at `at`: "1 no first byte; 2 kind not 1; 1 body cut short", and so for each kind
+unfoldable pub recordChecks : List ℕ → ℕ → ℕ → List Check
+recordChecks s kind at =
+    (1 when length s ≤ at)
+    ∷ (2 when getD s at 0 ≢ kind)
+    ∷ (1 when length s < at + 1 + bodyLength kind)
+    ∷ []

@@ -1,0 +1,70 @@
+-- Laws of `holding`: a place that stops holding the value lowers it by 1, and it is 0 exactly when no place holds the value. Arrays of one value.
+use mathlib.Core.Path.{_≡_, refl, sym, _∙_, ap}
+use mathlib.Core.Logic.{_⊎_, inl, inr, _≢_}
+use Prim.Native.Nat.{ℕ, zero, suc, _+_, _<_}
+use native.Mathlib.Omega.{arith}
+use native.Mathlib.Decide.{ℕ-discrete, decLt}
+use lib.Dec.{eqb}
+use lib.ListN.{replicate, length-replicate, getD-replicate, List·getD-eq-default}
+use Rattle.integers.specs.Sum.{sum, bit}
+use Rattle.integers.proofs.Tests.{eqb-true, eqb-false}
+use Rattle.rotations.specs.Arrays.{at}
+use Rattle.rotations.specs.Holding.{holding}
+
+holding-suc : (x n : ℕ) (g : ℕ → ℕ) → holding x (suc n) g ≡ holding x n g + bit (eqb (g n) x)
+unfolding holding sum
+holding-suc x n g = refl
+
+holding-zero : (x : ℕ) (g : ℕ → ℕ) → holding x 0 g ≡ 0
+unfolding holding sum
+holding-zero x g = refl
+
+-- the last place holds x, or does not
+last-holds : (x n : ℕ) (g : ℕ → ℕ) → g n ≡ x → holding x (suc n) g ≡ holding x n g + 1
+last-holds x n g e = holding-suc x n g ∙ rw (eqb-true (g n) x e)
+
+last-not : (x n : ℕ) (g : ℕ → ℕ) → g n ≢ x → holding x (suc n) g ≡ holding x n g
+last-not x n g h = holding-suc x n g ∙ rw (eqb-false (g n) x h) (omega arith)
+
+holding-same : (x n : ℕ) (g h : ℕ → ℕ) → ((y : ℕ) → y < n → h y ≡ g y) → holding x n h ≡ holding x n g
+holding-same x zero g h e = holding-zero x h ∙ sym (holding-zero x g)
+holding-same x (suc n) g h e =
+    holding-suc x n h ∙ rw (e n (omega arith), holding-same x n g h (λ y l. e y (omega arith))) (sym (holding-suc x n g))
+
+-- one place stops holding x, and the others stay
+pub holding-less : (x n : ℕ) (g h : ℕ → ℕ) (z : ℕ) → z < n → g z ≡ x → h z ≢ x → ((y : ℕ) → y ≢ z → h y ≡ g y) → holding x n h + 1 ≡ holding x n g
+holding-less x zero g h z l a b e = absurd (omega arith)
+holding-less x (suc n) g h z l a b e = go (ℕ-discrete z n) (holding-less x n g h z)
+  where
+    go : Dec (z ≡ n) → (z < n → g z ≡ x → h z ≢ x → ((y : ℕ) → y ≢ z → h y ≡ g y) → holding x n h + 1 ≡ holding x n g) → holding x (suc n) h + 1 ≡ holding x (suc n) g
+    go (yes p) r =
+        let rest = holding-same x n g h (λ y m. e y (λ q. omega (arith, p))) in
+        omega (arith, last-not x n h (rw p at b), last-holds x n g (rw p at a))
+    go (no p) r = omega (arith, holding-suc x n h, holding-suc x n g, r (omega (arith, p)) a b e, ap (λ y. bit (eqb y x)) (e n (λ q. p (sym q))))
+
+-- no place holds x, or one does
+pub holding-find : (x n : ℕ) (g : ℕ → ℕ) → (((y : ℕ) → y < n → g y ≢ x) × (holding x n g ≡ 0)) ⊎ ((y : ℕ) × (y < n) × (g y ≡ x) × (0 < holding x n g))
+holding-find x zero g = inl ((λ y l. absurd (omega arith)), holding-zero x g)
+holding-find x (suc n) g = go (ℕ-discrete (g n) x) (holding-find x n g)
+  where
+    go : Dec (g n ≡ x) → (((y : ℕ) → y < n → g y ≢ x) × (holding x n g ≡ 0)) ⊎ ((y : ℕ) × (y < n) × (g y ≡ x) × (0 < holding x n g))
+        → (((y : ℕ) → y < suc n → g y ≢ x) × (holding x (suc n) g ≡ 0)) ⊎ ((y : ℕ) × (y < suc n) × (g y ≡ x) × (0 < holding x (suc n) g))
+    go (yes p) r = inr (n, omega arith, p, omega (arith, last-holds x n g p))
+    go (no p) (inl r) = inl ((λ y l. each y l (ℕ-discrete y n)), last-not x n g p ∙ r .1)
+      where
+        each : (y : ℕ) → y < suc n → Dec (y ≡ n) → g y ≢ x
+        each y l (yes q) = rw q p
+        each y l (no q) = r .0 y (omega (arith, q))
+    go (no p) (inr r) = inr (r .0, omega (arith, r .1), r .2, omega (arith, last-not x n g p, r .3))
+
+pub holding-all : (x n : ℕ) (g : ℕ → ℕ) → ((y : ℕ) → g y ≡ x) → holding x n g ≡ n
+holding-all x zero g h = holding-zero x g
+holding-all x (suc n) g h = omega (arith, last-holds x n g (h n), holding-all x n g h)
+
+-- a new array holds 0 everywhere
+pub zeros : (k : ℕ) → _≡_ {A = ℕ} (at (replicate 1024 0) k) 0
+zeros k = go (decLt k 1024)
+  where
+    go : Dec (k < 1024) → _≡_ {A = ℕ} (at (replicate 1024 0) k) 0
+    go (yes l) = getD-replicate 1024 k 0 0 l
+    go (no l) = List·getD-eq-default (replicate 1024 0) 0 {n = k} (rw (length-replicate {A = ℕ} 1024 0) (omega (arith, l)))

@@ -1,0 +1,58 @@
+-- The rounds of the rotation are numbered, and each node is entered with the number of its darts: two numbers, or none, are a fault.
+use Prim.Native.Nat.{ℕ}
+use native.Mathlib.Omega.{arith}
+use lib.ListN.{length-replicate}
+use borrow.Author.Needs.{needs}
+use Rattle.faces.proofs.Checks.{rotation-permutes}
+use Rattle.rotations.proofs.Holding.{zeros}
+use Rattle.rotations.proofs.Numbering.{number-small}
+use Rattle.rotations.proofs.Register.{two-rounds, no-dart, nodes-good}
+use Rattle.rotations.proofs.Decisions.{decides-by}
+use Rattle.rotations.proofs.node_fault.Statement.{statement}
+use Rattle.rotations.proofs.node_fault.Tie as tie
+
+mul-darts : tie.Need-mul-darts
+mul-darts c = search needs
+
+number-orbits-requires : tie.Need-number-orbits-requires
+number-orbits-requires c κs =
+    let p = c .before .pre in
+    (length-replicate {A = ℕ} 1024 0, omega (arith, p .0), rotation-permutes (p .2) (p .3))
+
+enter-all-requires : tie.Need-enter-all-requires
+enter-all-requires c κs =
+    let p = c .before .before .before .before .pre in
+    let n = c .before .before .number-orbits .ensures in (
+      omega (arith, p .0),
+      length-replicate {A = ℕ} 1024 0,
+      zeros,
+      (λ d l. omega (arith, p .1, p .2 .tail-in d l)),
+      (λ d l. omega (arith, n .2 d l, number-small (omega (arith, p .0)) (rotation-permutes (p .2) (p .3)) d l)),
+    )
+
+returns : tie.Need-returns
+returns c =
+    let p = c .before .before .before .before .before .before .pre in
+    two-rounds (p .2) (rotation-permutes (p .2) (p .3)) (c .before .before .before .before .number-orbits .ensures .2) (rw (c .if1 .taken) at (c .before .enter-all .ensures .1))
+
+some-empty-requires : tie.Need-some-empty-requires
+some-empty-requires c κs = search needs
+
+returns-2 : tie.Need-returns-2
+returns-2 c =
+    let p = c .before .before .before .before .before .before .before .before .pre in
+    let π = rotation-permutes (p .2) (p .3) in
+    let rounds = c .before .before .before .before .before .before .number-orbits .ensures .2 in
+    let ρ = rw (c .before .before .if1 .left) at (c .before .before .before .enter-all .ensures .1) in
+    decides-by (c .some-empty .result) (no-dart (p .2) π rounds ρ) (nodes-good (p .2) π rounds ρ) (c .some-empty .ensures)
+
+pub node-fault-spec : {M : Type 1} → statement M
+node-fault-spec =
+    tie.close
+    (tie.spec
+    mul-darts
+    number-orbits-requires
+    enter-all-requires
+    returns
+    some-empty-requires
+    returns-2)

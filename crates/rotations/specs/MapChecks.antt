@@ -1,0 +1,24 @@
+-- The checks 9 to 12 in the paper's order, and what a function that makes them leaves. Document 01, "Operations": "Then 9 a turn has another tail, or
+-- two darts have one turn; 10 some node's darts do not form exactly one round, or it has none; 11 not connected; 12 not flat."
+use mathlib.Core.Path.{_≡_}
+use mathlib.Core.List.{List, [], _∷_}
+use Prim.Native.Nat.{ℕ, _<_}
+use Rattle.refusals.specs.Order.{Check, _when_, NoneOf, FirstOf}
+use Rattle.refusals.specs.declared.Verdict.{Verdict}
+use Rattle.refusals.specs.declared.Verdict.the-variants.{Passed, Refused}
+use Rattle.faces.specs.Map.{Map, darts}
+use Rattle.faces.specs.Face.{left}
+use Rattle.faces.specs.Check.{RotationFault, NodeFault, Disconnected, NotFlat}
+
+unfoldable pub mapChecks : Map → List Check
+mapChecks 𝓜 =
+    (9 when RotationFault 𝓜)
+    ∷ (10 when NodeFault 𝓜)
+    ∷ (11 when Disconnected 𝓜)
+    ∷ (12 when NotFlat 𝓜)
+    ∷ []
+
+-- passed: no check holds, and each dart has the number of the face at its left; refused: by the first that holds
+abbrev pub MapJudged : Map → (ℕ → ℕ) → Verdict → Type 0
+MapJudged 𝓜 faces Passed = NoneOf (mapChecks 𝓜) × ((d : ℕ) → d < darts 𝓜 → faces d ≡ left 𝓜 d)
+MapJudged 𝓜 faces (Refused k p) = FirstOf (mapChecks 𝓜) k p

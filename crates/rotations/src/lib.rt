@@ -1,0 +1,262 @@
+// The sheet checks 9 to 12 on a map given by two arrays: the tail of each dart, and its rotation (the paper's "turn").
+// Each is decided in work that grows as the number of darts, and check 12 leaves the faces numbered in order of their lowest darts.
+ghost use mathlib.Core.Path.{_≡_};
+ghost use Prim.Native.Nat.{ℕ, _+_, _*_, _<_, _≤_};
+ghost use lib.ListN.{length};
+ghost use Rattle.refusals.specs.Order.{Decides};
+ghost use Rattle.faces.specs.Dart.{rev};
+ghost use Rattle.faces.specs.Orbit.{orbits, orbitOf};
+ghost use Rattle.faces.specs.Check.{InRange, RotationFault, NodeFault, Disconnected, Sound};
+ghost use Rattle.faces.proofs.Orbits.{Permutes};
+ghost use Rattle.rotations.specs.Arrays.{at, mapOf};
+ghost use Rattle.rotations.specs.Holding.{holding};
+ghost use Rattle.rotations.specs.Marking.{unmarked, Markable, Marked};
+ghost use Rattle.rotations.specs.Register.{Entered};
+ghost use Rattle.rotations.specs.Queue.{Pushed};
+ghost use Rattle.rotations.specs.MapChecks.{MapJudged};
+use refusals::Verdict;
+
+// The label of a place that has no number yet. Numbers stay below 1,024.
+const UNMARKED: u16 = 65535;
+
+fn wide(x: u16) -> usize
+    ensures { λ r. ⌜ r ≡ x ⌝ }
+{
+    x as usize
+}
+
+fn narrow(x: usize) -> u16
+    requires { ⌜ x < 65536 ⌝ }
+    ensures { λ r. ⌜ r ≡ x ⌝ }
+{
+    x as u16
+}
+
+// Orbits of a step on 0, .., n - 1: rounds of the rotation around nodes, and rounds of the face step around faces.
+
+fn unmark_all(label: &mut [u16; 1024])
+    requires { ⌜ length (now label) ≡ 1024 ⌝ }
+    ensures { λ _. ⌜ (length (now (label .exit)) ≡ 1024) × ((d : ℕ) → d < 1024 → at (now (label .exit)) d ≡ unmarked) ⌝ }
+{
+    for i in 0..1024usize {
+        label[i] = UNMARKED;
+    }
+}
+
+// Gives every place of the orbit of `start` this number. It ends because each step leads to a place that has no number yet, until it is back at `start`.
+fn mark_orbit(next: &[u16; 1024], n: usize, start: usize, number: u16, label: &mut [u16; 1024])
+    requires { ⌜ (length (now label) ≡ 1024) × Markable n (at (now next)) (at (now label)) start number ⌝ }
+    ensures { λ _. ⌜ (length (now (label .exit)) ≡ 1024) × Marked n (at (now (next .entry))) (at (now (label .entry))) (at (now (label .exit))) start number ⌝ }
+{
+    let mut x = start;
+    loop {
+        label[x] = number;
+        x = wide(next[x]);
+        if x == start {
+            break;
+        }
+    }
+}
+
+// Numbers the orbits from 0 in order of their lowest members, and says how many they are. The first place of an orbit that the loop meets is its lowest.
+pub fn number_orbits(next: &[u16; 1024], n: usize, label: &mut [u16; 1024]) -> usize
+    requires { ⌜ (length (now label) ≡ 1024) × (n ≤ 1024) × Permutes n (at (now next)) ⌝ }
+    ensures { λ r. ⌜ (length (now (label .exit)) ≡ 1024) × (r ≡ orbits n (at (now (next .entry)))) × ((d : ℕ) → d < n → at (now (label .exit)) d ≡ orbitOf n (at (now (next .entry))) d) ⌝ }
+{
+    unmark_all(label);
+    let mut f: usize = 0;
+    let mut d: usize = 0;
+    while d < n {
+        if label[d] == UNMARKED {
+            mark_orbit(next, n, d, narrow(f), label);
+            f += 1;
+        }
+        d += 1;
+    }
+    f
+}
+
+// Check 9: "a turn has another tail, or two darts have one turn". `origin` holds, for each dart met as a rotation, 1 more than the dart that it follows.
+pub fn rotation_fault<'a>(
+    tails: &'a [u16; 1024],
+    rotations: &'a [u16; 1024],
+    nodes: usize,
+    edges: usize,
+) -> bool
+    requires { ⌜ (edges ≤ 512) × ((d : ℕ) → d < 2 * edges → at (now rotations) d < 2 * edges) ⌝ }
+    ensures { λ r. ⌜ Decides (RotationFault (mapOf nodes edges (now (tails .entry)) (now (rotations .entry)))) r ⌝ }
+{
+    let darts = 2 * edges;
+    let mut origin = [0u16; 1024];
+    let mut d: usize = 0;
+    while d < darts {
+        let t = wide(rotations[d]);
+        if tails[t] != tails[d] {
+            return true;
+        }
+        if origin[t] != 0 {
+            return true;
+        }
+        origin[t] = narrow(d + 1);
+        d += 1;
+    }
+    false
+}
+
+// Enters each place's value under its key, and says whether two places of one key have two values.
+fn enter_all<'a>(
+    keys: &'a [u16; 1024],
+    values: &'a [u16; 1024],
+    n: usize,
+    table: &mut [u16; 1024],
+) -> bool
+    requires { ⌜ (n ≤ 1024) × (length (now table) ≡ 1024) × ((k : ℕ) → at (now table) k ≡ 0) × ((d : ℕ) → d < n → at (now keys) d < 1024) × ((d : ℕ) → d < n → at (now values) d < 1024) ⌝ }
+    ensures { λ r. ⌜ (length (now (table .exit)) ≡ 1024) × Entered (at (now (keys .entry))) (at (now (values .entry))) (at (now (table .exit))) n r ⌝ }
+{
+    let mut d: usize = 0;
+    while d < n {
+        let k = wide(keys[d]);
+        let entry = wide(values[d]) + 1;
+        let old = wide(table[k]);
+        if old == 0 {
+            table[k] = narrow(entry);
+        } else if old != entry {
+            return true;
+        }
+        d += 1;
+    }
+    false
+}
+
+// Whether some key has no entry.
+fn some_empty(table: &[u16; 1024], n: usize) -> bool
+    requires { ⌜ n ≤ 1024 ⌝ }
+    ensures { λ r. ⌜ Decides ((k : ℕ) × (k < n) × (at (now (table .entry)) k ≡ 0)) r ⌝ }
+{
+    let mut k: usize = 0;
+    while k < n {
+        if table[k] == 0 {
+            return true;
+        }
+        k += 1;
+    }
+    false
+}
+
+// Check 10: "some node's darts do not form exactly one round, or it has none". Each node is entered with the round of its darts.
+pub fn node_fault<'a>(
+    tails: &'a [u16; 1024],
+    rotations: &'a [u16; 1024],
+    nodes: usize,
+    edges: usize,
+) -> bool
+    requires { ⌜ (edges ≤ 512) × (nodes ≤ 1024) × InRange (mapOf nodes edges (now tails) (now rotations)) × (RotationFault (mapOf nodes edges (now tails) (now rotations)) → ⊥) ⌝ }
+    ensures { λ r. ⌜ Decides (NodeFault (mapOf nodes edges (now (tails .entry)) (now (rotations .entry)))) r ⌝ }
+{
+    let darts = 2 * edges;
+    let mut round = [0u16; 1024];
+    number_orbits(rotations, darts, &mut round);
+    let mut owner = [0u16; 1024];
+    if enter_all(tails, &round, darts, &mut owner) {
+        return true;
+    }
+    some_empty(&owner, nodes)
+}
+
+// The other dart of d's edge.
+fn reverse(d: usize) -> usize
+    requires { ⌜ d < 1024 ⌝ }
+    ensures { λ r. ⌜ r ≡ rev d ⌝ }
+{
+    if d % 2 == 0 { d + 1 } else { d - 1 }
+}
+
+// Puts d at the end of the queue unless it was seen, and answers the new end.
+fn push(
+    queue: &mut [u16; 1024],
+    seen: &mut [u16; 1024],
+    darts: usize,
+    end: usize,
+    d: usize,
+) -> usize
+    requires { ⌜ (length (now queue) ≡ 1024) × (length (now seen) ≡ 1024) × (darts ≤ 1024) × (d < darts) × (end + holding 0 darts (at (now seen)) ≡ darts) ⌝ }
+    ensures { λ r. ⌜ (length (now (queue .exit)) ≡ 1024) × (length (now (seen .exit)) ≡ 1024) × Pushed darts d (at (now (seen .entry))) (at (now (seen .exit))) (at (now (queue .entry))) (at (now (queue .exit))) end r ⌝ }
+{
+    if seen[d] != 0 {
+        return end;
+    }
+    seen[d] = 1;
+    queue[end] = narrow(d);
+    end + 1
+}
+
+// Check 11: "not connected". From dart 0 it walks to the rotation and to the reverse of every dart met. The rounds being nodes, all darts are met if and
+// only if every node is joined to the first; so it reads neither tails nor nodes, which only its contract names.
+pub fn disconnected<'a>(
+    tails: &'a [u16; 1024],
+    rotations: &'a [u16; 1024],
+    nodes: usize,
+    edges: usize,
+) -> bool
+    requires { ⌜ (0 < edges) × (edges ≤ 512) × Sound (mapOf nodes edges (now tails) (now rotations)) ⌝ }
+    ensures { λ r. ⌜ Decides (Disconnected (mapOf nodes edges (now (tails .entry)) (now (rotations .entry)))) r ⌝ }
+{
+    let darts = 2 * edges;
+    let mut queue = [0u16; 1024];
+    let mut seen = [0u16; 1024];
+    seen[0] = 1;
+    let mut head: usize = 0;
+    let mut end: usize = 1;
+    while head < end {
+        let d = wide(queue[head]);
+        let t = wide(rotations[d]);
+        end = push(&mut queue, &mut seen, darts, end, t);
+        let back = reverse(d);
+        end = push(&mut queue, &mut seen, darts, end, back);
+        head += 1;
+    }
+    end != darts
+}
+
+// "The face step of a dart is the turn of its reverse."
+pub fn fill_steps(rotations: &[u16; 1024], edges: usize, steps: &mut [u16; 1024])
+    requires { ⌜ (length (now steps) ≡ 1024) × (edges ≤ 512) ⌝ }
+    ensures { λ _. ⌜ (length (now (steps .exit)) ≡ 1024) × ((d : ℕ) → d < 2 * edges → at (now (steps .exit)) d ≡ at (now (rotations .entry)) (rev d)) ⌝ }
+{
+    let darts = 2 * edges;
+    let mut d: usize = 0;
+    while d < darts {
+        let r = reverse(d);
+        steps[d] = rotations[r];
+        d += 1;
+    }
+}
+
+// The checks 9 to 12 in order, of a map that the checks 3 to 5 left in range. Where they pass, `faces` holds the face at the left of each dart.
+pub fn check_map<'a>(
+    tails: &'a [u16; 1024],
+    rotations: &'a [u16; 1024],
+    nodes: usize,
+    edges: usize,
+    faces: &mut [u16; 1024],
+) -> Verdict
+    requires { ⌜ (0 < edges) × (edges ≤ 512) × (nodes ≤ 1024) × (length (now faces) ≡ 1024) × InRange (mapOf nodes edges (now tails) (now rotations)) ⌝ }
+    ensures { λ r. ⌜ (length (now (faces .exit)) ≡ 1024) × MapJudged (mapOf nodes edges (now (tails .entry)) (now (rotations .entry))) (at (now (faces .exit))) r ⌝ }
+{
+    if rotation_fault(tails, rotations, nodes, edges) {
+        return refusals::refused(9);
+    }
+    if node_fault(tails, rotations, nodes, edges) {
+        return refusals::refused(10);
+    }
+    if disconnected(tails, rotations, nodes, edges) {
+        return refusals::refused(11);
+    }
+    let mut steps = [0u16; 1024];
+    fill_steps(rotations, edges, &mut steps);
+    let count = number_orbits(&steps, 2 * edges, faces);
+    if nodes + count != edges + 2 {
+        return refusals::refused(12);
+    }
+    Verdict::Passed
+}

@@ -1,0 +1,5 @@
+pub mod Filling
+pub mod Opening
+pub mod Reading
+pub mod Placing
+pub mod Writing

@@ -1,0 +1,4 @@
+pub mod Network
+pub mod Open
+pub mod Read
+pub mod Write

@@ -1,0 +1,45 @@
+-- Write. Document 01, "Operations": "Write takes a node count and those three slices, fills bytes and gives their number. First 16: input slices of unequal or odd
+-- length. Then 3, 4, 5, 6, 7, 9, 10, 11, 12 as for a sheet, 4 to 7 channel by channel; then 16 output shorter than the sheet."
+use Prim.Native.Nat.{ℕ, _*_, _/_, _%_, _+_, _<_}
+use mathlib.Core.Path.{_≡_}
+use mathlib.Core.Logic.{_⊎_, _≢_}
+use mathlib.Core.List.{List, [], _∷_, _++_}
+use lib.ListN.{length, drop}
+use lib.IntN.{ℤ}
+use Rattle.refusals.specs.Order.{Check, _when_, inTurn, NoneOf, FirstOf}
+use Rattle.rotations.specs.Arrays.{mapOf}
+use Rattle.rotations.specs.MapChecks.{mapChecks}
+use Rattle.records.specs.Drawing.{Drawing}
+use Rattle.records.specs.Check.{countChecks, edgeChecks}
+use Rattle.records.specs.Sheet.{edgeAt}
+use Rattle.records.specs.Encode.{encode}
+use Rattle.sheets.specs.Network.{atℤ}
+use Rattle.sheets.specs.declared.WriteAnswer.{WriteAnswer}
+use Rattle.sheets.specs.declared.WriteAnswer.the-variants.{Bytes, Refused}
+
+-- two elements to an edge
+abbrev pub edgesIn : List ℕ → ℕ
+edgesIn tails = length tails / 2
+
+-- the drawing that the slices describe
+abbrev pub slicesDrawing : ℕ → List ℕ → List ℕ → List ℤ → Drawing
+slicesDrawing nodes tails rotations capacities = record { map = mapOf nodes (edgesIn tails) tails rotations; capacity = atℤ capacities }
+
+-- 3 to 7, then 9 to 12, on a drawing
+unfoldable pub drawingChecks : Drawing → List Check
+drawingChecks 𝓓 = countChecks (𝓓 .map .nodes) (𝓓 .map .edges) ++ (inTurn (𝓓 .map .edges) (edgeChecks 𝓓) ++ mapChecks (𝓓 .map))
+
+-- the refusals, in order
+unfoldable pub writeChecks : ℕ → List ℕ → List ℕ → List ℤ → List ℕ → List Check
+writeChecks nodes tails rotations capacities out =
+    (16 when (length rotations ≢ length tails) ⊎ ((length capacities ≢ length tails) ⊎ (length tails % 2 ≢ 0)))
+    ∷ (drawingChecks (slicesDrawing nodes tails rotations capacities)
+    ++ ((16 when length out < edgeAt (edgesIn tails)) ∷ []))
+
+-- the answer and the lent output; the input slices are only read
+abbrev pub Writes : ℕ → (tails rotations : List ℕ) (capacities : List ℤ) (out out' : List ℕ) → WriteAnswer → Type 0
+Writes nodes tails rotations capacities out out' (Bytes n) =
+    NoneOf (writeChecks nodes tails rotations capacities out)
+    × (n ≡ edgeAt (edgesIn tails))
+    × (out' ≡ encode (slicesDrawing nodes tails rotations capacities) ++ drop n out)
+Writes nodes tails rotations capacities out out' (Refused k p) = FirstOf (writeChecks nodes tails rotations capacities out) k p × (out' ≡ out)
