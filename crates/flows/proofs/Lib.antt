@@ -5,3 +5,8 @@ pub mod Plane
 pub mod Lengths
 pub mod HighestFlow
 pub mod Exact
+pub mod Bounded
+pub mod LevelBound
+pub mod ValueBound
+pub mod Interval
+pub mod Parts

@@ -1,0 +1,7 @@
+pub mod Tests
+pub mod Lowest
+pub mod Bounds
+pub mod Nets
+pub mod Within
+pub mod Balance
+pub mod Examples

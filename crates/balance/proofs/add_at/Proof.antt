@@ -1,0 +1,43 @@
+-- `balance::add_at` meets its contract: the store changes the element at v by x, and no other.
+use mathlib.Core.Path.{ap₂, _∙_, _≡_}
+use native.Mathlib.Omega.{arith}
+use lib.ListN.{length-set}
+use lib.IntN.{_+ℤ_}
+use mir.Syntax.{w32}
+use mir.Val.{toZ, ofZ}
+use borrow.Author.Needs.{needs}
+use Rattle.signed.proofs.Laws.{number-of-bits}
+use Rattle.balance.specs.Arrays.{atℤ}
+use Rattle.balance.proofs.Nets.{set-added}
+use Rattle.balance.proofs.add_at.Statement.{statement}
+use Rattle.balance.proofs.add_at.Tie as tie
+
+mul-add : tie.Need-mul-add
+mul-add c = search needs
+
+element-copy-out-add : tie.Need-element-copy-out-add
+element-copy-out-add c = search needs
+
+add-requires : tie.Need-add-requires
+add-requires c κs = search needs
+
+mul-t9 : tie.Need-mul-t9
+mul-t9 c = search needs
+
+element-set-from-nets : tie.Need-element-set-from-nets
+element-set-from-nets c = search needs
+
+returns : tie.Need-returns
+returns c =
+    let l = c .before .before .args .nets .now in
+    let v = c .before .before .args .v in
+    let x = c .before .before .args .x in
+    let r : toZ w32 (ofZ w32 (c .add .result)) ≡ atℤ l v +ℤ x =
+    number-of-bits _ (record { sfits = c .add .ok }) ∙ c .add .ensures
+    ∙ ap₂ _+ℤ_ (number-of-bits (atℤ l v) (record { sfits = c .before .add-arg .given })) (number-of-bits x (c .before .before .fits .x)) in
+    (simp length-set (c .before .before .pre .0), set-added l v x _ (omega (arith, c .before .before .pre .0)) r)
+
+pub add-at-spec : {M : Type 1} → statement M
+add-at-spec =
+    tie.close
+    (tie.spec mul-add element-copy-out-add add-requires mul-t9 element-set-from-nets returns)

@@ -1,0 +1,90 @@
+-- Invariant: no node below v is off balance.
+use Prim.Native.Nat.{ℕ, _≤_, _<_, _-_}
+use native.Mathlib.Omega.{arith}
+use borrow.Author.Count.{below-more}
+use borrow.Author.Needs.{needs}
+use Rattle.signed.proofs.Laws.{number-of-bits}
+use Rattle.refusals.specs.Order.{Decides}
+use Rattle.refusals.proofs.Order.{said-yes, said-no}
+use Rattle.balance.specs.Arrays.{atℤ}
+use Rattle.balance.specs.Check.{Off, offChecks}
+use Rattle.balance.proofs.Lowest.{lowest, none-holds}
+use Rattle.balance.proofs.narrow.Reads as narrow-reads
+use Rattle.balance.proofs.off_balance.Reads as off-balance-reads
+use Rattle.balance.proofs.check_balance.Lts as lts
+use Rattle.balance.proofs.check_balance.Reads as reads
+use Rattle.balance.proofs.check_balance.Statement.{statement}
+use Rattle.balance.proofs.check_balance.Tie as tie
+
+abbrev Inv-loop : tie.InvT-loop
+Inv-loop nets nodes a b v₀ v = (v ≤ nodes) × ((u : ℕ) → u < v → Off a b (atℤ nets) u → ⊥)
+
+abbrev μ-loop : tie.MeasureT-loop
+μ-loop nets nodes a b v₀ v = nodes - v
+
+loop-holds : tie.Need-loop-holds Inv-loop μ-loop
+loop-holds c = (omega arith, λ u l. absurd (omega arith))
+
+mul-off-balance : tie.Need-mul-off-balance Inv-loop μ-loop
+mul-off-balance c = search needs
+
+element-copy-out-off-balance : tie.Need-element-copy-out-off-balance Inv-loop μ-loop
+element-copy-out-off-balance c = search needs
+
+off-balance-requires : tie.Need-off-balance-requires Inv-loop μ-loop
+off-balance-requires c κs = search needs
+
+narrow-requires : tie.Need-narrow-requires Inv-loop μ-loop
+narrow-requires c κs = search needs
+
+-- the test of node v, on the number in the array
+abbrev Place : Type 0
+Place = lts.After-off-balance (off-balance-reads.Asked, off-balance-reads.Learnt, narrow-reads.Asked, narrow-reads.Learnt) reads.Pre reads.Post Inv-loop μ-loop
+
+judged-here : (c : Place)
+    → Decides (Off (c .before .before .before .before .args .a) (c .before .before .before .before .args .b) (atℤ (c .before .before .before .before .args .nets .now)) (c .before .before .before .loop .v)) (c .off-balance .result)
+judged-here c =
+    rw (number-of-bits (atℤ (c .before .before .before .before .args .nets .now) (c .before .before .before .loop .v)) (record { sfits = c .before .off-balance-arg .given }))
+    at (c .off-balance .ensures)
+
+returns : tie.Need-returns Inv-loop μ-loop
+unfolding offChecks
+returns c =
+    let s = c .before .before .before .before .before .before in
+    let o = c .before .before .before .before .before .loop in
+    lowest (s .args .nodes) 18 (Off (s .args .a) (s .args .b) (atℤ (s .args .nets .now))) (o .v) (c .narrow .result) (omega arith) (o .inv .1)
+    (said-yes (judged-here (c .before .before)) (c .before .if1 .taken)) (c .narrow .ensures)
+
+add-v : tie.Need-add-v Inv-loop μ-loop
+add-v c = search needs
+
+loop-less : tie.Need-loop-less Inv-loop μ-loop
+loop-less c = search needs
+
+loop-again : tie.Need-loop-again Inv-loop μ-loop
+loop-again c =
+    let o = c .before .before .before .before .loop in
+    (omega arith, below-more _ (o .v) (o .inv .1) (said-no (judged-here (c .before)) (c .if1 .left)))
+
+returns-2 : tie.Need-returns-2 Inv-loop μ-loop
+unfolding offChecks
+returns-2 c =
+    let s = c .before .before in
+    none-holds (s .args .nodes) 18 (Off (s .args .a) (s .args .b) (atℤ (s .args .nets .now))) (λ u l. c .before .loop .inv .1 u (omega arith))
+
+pub check-balance-spec : {M : Type 1} → statement M
+check-balance-spec =
+    tie.close
+    (tie.spec
+    Inv-loop
+    μ-loop
+    loop-holds
+    mul-off-balance
+    element-copy-out-off-balance
+    off-balance-requires
+    narrow-requires
+    returns
+    add-v
+    loop-less
+    loop-again
+    returns-2)

@@ -1,0 +1,16 @@
+-- Refusal 18 on given sums at the nodes. Document 01, "Operations": "18 a node other than those two off balance", with the lowest node.
+use mathlib.Core.Path.{_≡_}
+use mathlib.Core.Logic.{_≢_}
+use mathlib.Core.List.{List, [], _∷_}
+use Prim.Native.Nat.{ℕ}
+use lib.IntN.{ℤ, pos}
+use Rattle.refusals.specs.Order.{Check, _at_when_, inTurn}
+use Rattle.flows.specs.Check.{EndOf}
+
+-- node v is not one of the two ends a and b, and its sum is not 0
+abbrev pub Off : ℕ → ℕ → (ℕ → ℤ) → ℕ → Type 0
+Off a b nets v = (EndOf a b v → ⊥) × (nets v ≢ pos 0)
+
+-- 18, node by node
+unfoldable pub offChecks : ℕ → ℕ → ℕ → (ℕ → ℤ) → List Check
+offChecks nodes a b nets = inTurn nodes (λ v. (18 at v when Off a b nets v) ∷ [])

@@ -1,0 +1,3 @@
+pub mod Arrays
+pub mod Nets
+pub mod Check

@@ -1,0 +1,59 @@
+-- A cut counts at most one dart of each edge, so with capacities of at most C in magnitude it is at most edges · C in magnitude; and so is the value of a flow,
+-- which is the cut of its own flow out of {s}.
+use mathlib.Core.Path.{_≡_, refl, _∙_, ap₂}
+use mathlib.Core.Logic.{_≢_}
+use mathlib.Core.Bool.{Bool, true, false, not, _&&_}
+use Prim.Native.Nat.{ℕ, _+_, _*_, _≤_, _<_}
+use native.Mathlib.Omega.{arith}
+use lib.Dec.{eqb}
+use lib.IntN.{ℤ, pos, _+ℤ_, _-ℤ_, +ℤ-idl, +ℤ-idr}
+use lib.Signed.{_≤ℤ_}
+use Rattle.integers.specs.Sum.{Integers, when}
+use Rattle.integers.proofs.Tests.{eqb-true, eqb-false}
+use Rattle.integers.proofs.Sums.{sum-pairs}
+use Rattle.faces.specs.Map.{Map, darts}
+use Rattle.faces.specs.Check.{InRange}
+use Rattle.faces.specs.Cut.{leaves, cut}
+use Rattle.faces.proofs.Darts.{rev-even, rev-odd}
+use Rattle.faces.proofs.Cuts.{flow-sent}
+use Rattle.flows.specs.Settings.{onDarts, Carries}
+use Rattle.flows.proofs.Bounded.{Bounded, bounded-zero, bounded-more, bounded-sum, settings-bounded}
+
+pub cut-bounded : (𝓜 : Map) (C : ℕ) (c : ℕ → ℤ) → ((d : ℕ) → d < darts 𝓜 → Bounded C (c d)) → (S : ℕ → Bool) → Bounded (𝓜 .edges * C) (cut 𝓜 c S)
+unfolding cut
+cut-bounded 𝓜 C c small S =
+    rw (sum-pairs Integers (𝓜 .edges) (λ d. when (leaves 𝓜 S d) (c d)))
+    (bounded-sum (𝓜 .edges) C (λ e. when (leaves 𝓜 S (2 * e)) (c (2 * e)) +ℤ when (leaves 𝓜 S (2 * e + 1)) (c (2 * e + 1))) edge)
+  where
+    -- the tail of an edge is in S (a) and its head is (b)
+    one-of : (a b : Bool) (x y : ℤ) → Bounded C x → Bounded C y → Bounded C (when (a && not b) x +ℤ when (b && not a) y)
+    one-of true true x y h g = bounded-zero C
+    one-of true false x y h g = rw (+ℤ-idr x) h
+    one-of false true x y h g = rw (+ℤ-idl y) g
+    one-of false false x y h g = bounded-zero C
+
+    edge : (e : ℕ) → e < 𝓜 .edges → Bounded C (when (leaves 𝓜 S (2 * e)) (c (2 * e)) +ℤ when (leaves 𝓜 S (2 * e + 1)) (c (2 * e + 1)))
+    edge e l = rw heads (one-of (S (𝓜 .tail (2 * e))) (S (𝓜 .tail (2 * e + 1))) (c (2 * e)) (c (2 * e + 1)) (small (2 * e) (omega arith)) (small (2 * e + 1) (omega arith)))
+      where
+        heads : when (leaves 𝓜 S (2 * e)) (c (2 * e)) +ℤ when (leaves 𝓜 S (2 * e + 1)) (c (2 * e + 1))
+            ≡ when (S (𝓜 .tail (2 * e)) && not (S (𝓜 .tail (2 * e + 1)))) (c (2 * e)) +ℤ when (S (𝓜 .tail (2 * e + 1)) && not (S (𝓜 .tail (2 * e)))) (c (2 * e + 1))
+        heads =
+            ap₂ (λ x y. when (S (𝓜 .tail (2 * e)) && not (S (𝓜 .tail x))) (c (2 * e)) +ℤ when (S (𝓜 .tail (2 * e + 1)) && not (S (𝓜 .tail y))) (c (2 * e + 1)))
+            (rev-even e) (rev-odd e)
+
+module _ {𝓜 : Map} (range : InRange 𝓜) {s t : ℕ} (s-in : s < 𝓜 .nodes) (t-in : t < 𝓜 .nodes) (s≢t : s ≢ t) (c : ℕ → ℤ) where
+  pub value-bounded : (C : ℕ) → ((d : ℕ) → d < darts 𝓜 → c d ≤ℤ pos C) → (value : ℤ) (x : ℕ → ℤ) → Carries 𝓜 c s t value x → Bounded (𝓜 .edges * C) value
+  value-bounded C low value x flow = rw out at (cut-bounded 𝓜 C (onDarts x) (settings-bounded 𝓜 C c x low (flow .within)) (eqb s))
+    where
+      out : cut 𝓜 (onDarts x) (eqb s) ≡ value
+      out =
+          flow-sent range s-in t-in s≢t flow (eqb s)
+          ∙ ap₂ (λ a b. when a value -ℤ when b value) (eqb-true s s refl) (eqb-false s t s≢t)
+          ∙ +ℤ-idr value
+
+  -- ── in a sheet ──
+  pub value-small : 𝓜 .edges ≤ 512 → ((d : ℕ) → d < darts 𝓜 → c d ≤ℤ pos 1000000) → (value : ℤ) (x : ℕ → ℤ) → Carries 𝓜 c s t value x → Bounded 512000000 value
+  value-small few low value x flow = bounded-more (𝓜 .edges * 1000000) 512000000 value (omega arith) (value-bounded 1000000 low value x flow)
+
+pub cut-small : (𝓜 : Map) (c : ℕ → ℤ) → 𝓜 .edges ≤ 512 → ((d : ℕ) → d < darts 𝓜 → Bounded 1000000 (c d)) → (S : ℕ → Bool) → Bounded 512000000 (cut 𝓜 c S)
+cut-small 𝓜 c few small S = bounded-more (𝓜 .edges * 1000000) 512000000 (cut 𝓜 c S) (omega arith) (cut-bounded 𝓜 1000000 c small S)
