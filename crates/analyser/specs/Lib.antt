@@ -1,0 +1,4 @@
+pub mod Question
+pub mod Mark
+pub mod LevelsOf
+pub mod SettingsOf
