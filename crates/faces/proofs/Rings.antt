@@ -59,12 +59,12 @@ one-cross 𝓜 d l x =
 
 module _ {𝓜 : Map} where
   -- how often a walk crosses the dart i
-  pub times : {f g : ℕ} → FaceWalk 𝓜 f g → ℕ → ℕ
+  unfoldable pub times : {f g : ℕ} → FaceWalk 𝓜 f g → ℕ → ℕ
   times stay i = 0
   times (cross d l e w) i = bit (eqb i d) + times w i
 
   -- forth minus back
-  pub winding : {f g : ℕ} → FaceWalk 𝓜 f g → ℕ → ℤ
+  unfoldable pub winding : {f g : ℕ} → FaceWalk 𝓜 f g → ℕ → ℤ
   winding w i = pos (times w i) -ℤ pos (times w (rev i))
 
   winding-antisymmetric : {f g : ℕ} (w : FaceWalk 𝓜 f g) → Antisymmetric 𝓜 (winding w)

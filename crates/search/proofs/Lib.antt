@@ -1,0 +1,11 @@
+pub mod Order
+pub mod Change
+pub mod Circle
+pub mod Lowering
+pub mod Turning
+pub mod Chains
+pub mod Reached
+pub mod Highest
+pub mod Loops
+pub mod OfMap
+pub mod Examples

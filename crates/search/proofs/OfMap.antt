@@ -1,0 +1,87 @@
+-- The net of a map, for who calls the search on a drawing: it is sound, connectedness joins its faces, and a ring is a walk over faces of the map.
+use mathlib.Core.Path.{_≡_, refl, sym, _∙_, ap}
+use mathlib.Core.List.{List}
+use Prim.Native.Nat.{ℕ, _≤_, _<_}
+use native.Mathlib.Omega.{arith}
+use lib.ListN.{getD}
+use lib.IntN.{ℤ, pos, _+ℤ_}
+use Rattle.integers.specs.Sum.{bit}
+use Rattle.integers.proofs.Counting.{bit-le, sum-le-size}
+use Rattle.faces.specs.Dart.{rev}
+use Rattle.faces.specs.Orbit.{isLowest, orbits}
+use lib.Signed.{mag, _<ℤ_}
+use Rattle.faces.specs.Map.{Map, darts}
+use Rattle.faces.specs.Face.{step, faces, left, right}
+use Rattle.faces.specs.Walk.{Components}
+use Rattle.faces.specs.Check as check
+use Rattle.faces.specs.FaceWalk.{FaceWalk}
+use Rattle.faces.specs.FaceWalk as faceWalk
+use Rattle.faces.proofs.Darts.{rev-in}
+use Rattle.faces.proofs.Faces.{left-in, right-in, left-rotation, face-dart, same-in-part}
+use Rattle.search.specs.Net.{Net, netOf, Sound, Joined, longest}
+use Rattle.search.specs.Walk.{Crossing, stay, cross, total, Ring}
+
+-- the net has the darts and the faces of the map
+pub record OfMap (N : Net) (𝓜 : Map) : Type 0 where
+  pub darts-are : N .darts ≡ darts 𝓜
+  pub faces-are : N .faces ≡ faces 𝓜
+  pub left-is : (d : ℕ) → d < darts 𝓜 → N .left d ≡ left 𝓜 d
+  pub right-is : (d : ℕ) → d < darts 𝓜 → N .right d ≡ right 𝓜 d
+
+-- an array with the left faces is enough
+pub of-array : {𝓜 : Map} (lefts : List ℕ) (lengths : List ℤ) (root : ℕ) → ((d : ℕ) → d < darts 𝓜 → getD lefts d 0 ≡ left 𝓜 d) → OfMap (netOf lefts lengths (darts 𝓜) (faces 𝓜) root) 𝓜
+of-array {𝓜} lefts lengths root is = record { darts-are = refl; faces-are = refl; left-is = is; right-is = λ d l. is (rev d) (rev-in (𝓜 .edges) d l) }
+
+-- no more faces than darts
+pub faces-few : (𝓜 : Map) → faces 𝓜 ≤ darts 𝓜
+unfolding faces orbits
+faces-few 𝓜 = sum-le-size (darts 𝓜) (λ d. bit (isLowest (darts 𝓜) (step 𝓜) d)) (λ d l. bit-le (isLowest (darts 𝓜) (step 𝓜) d))
+
+module _ {N : Net} {𝓜 : Map} (of : OfMap N 𝓜) where
+  -- ── sound ──
+  pub sound-of-map : check.Sound 𝓜 → darts 𝓜 ≤ 1024 → N .root < faces 𝓜 → ((d : ℕ) → d < darts 𝓜 → mag (N .length d) < longest) → Sound N
+  sound-of-map σ few root-in short = record {
+    few-darts = omega (arith, of .darts-are);
+    few-faces = omega (arith, of .faces-are, faces-few 𝓜);
+    root-in = omega (arith, of .faces-are);
+    left-in = λ d l. let m : d < darts 𝓜 = omega (arith, of .darts-are) in omega (arith, of .left-is d m, left-in σ d m, of .faces-are);
+    right-in = λ d l. let m : d < darts 𝓜 = omega (arith, of .darts-are) in omega (arith, of .right-is d m, right-in σ d m, of .faces-are);
+    short = λ d l. short d (omega (arith, of .darts-are));
+    even = omega (arith, of .darts-are);
+    reversed = λ d l. let m : d < darts 𝓜 = omega (arith, of .darts-are) in of .right-is d m ∙ sym (of .left-is (rev d) (rev-in (𝓜 .edges) d m));
+  }
+
+  -- ── joined ──
+  module _ (σ : check.Sound 𝓜) {part : ℕ → ℕ} (κ : Components 𝓜 1 part) (root-in : N .root < N .faces) where
+    pub joined-of-map : Joined N
+    joined-of-map B same f l = sym (ap B (of-f .2)) ∙ around ∙ ap B (of-root .2)
+      where
+        across : (d : ℕ) → d < darts 𝓜 → B (right 𝓜 d) ≡ B (left 𝓜 d)
+        across d m = sym (ap B (of .right-is d m)) ∙ sym (same d (omega (arith, of .darts-are))) ∙ ap B (of .left-is d m)
+
+        of-f : (d : ℕ) × (d < darts 𝓜) × (left 𝓜 d ≡ f)
+        of-f = face-dart σ f (omega (arith, of .faces-are))
+
+        of-root : (d : ℕ) × (d < darts 𝓜) × (left 𝓜 d ≡ N .root)
+        of-root = face-dart σ (N .root) (omega (arith, of .faces-are, root-in))
+
+        one : (d : ℕ) → d < darts 𝓜 → part (𝓜 .tail d) ≡ 0
+        one d m = omega (arith, κ .below (𝓜 .tail d) (σ .range .tail-in d m))
+
+        around : B (left 𝓜 (of-f .0)) ≡ B (left 𝓜 (of-root .0))
+        around =
+            same-in-part σ κ (λ d. B (left 𝓜 d)) across (λ d m. ap B (left-rotation σ d m) ∙ across d m) (of-f .0) (of-root .0) (of-f .1) (of-root .1)
+            (one (of-f .0) (of-f .1) ∙ sym (one (of-root .0) (of-root .1)))
+
+  -- ── rings ──
+  -- darts crossed in turn, as a walk over faces of the same length
+  pub face-walk : {e f g : ℕ} {ds : List ℕ} → e ≡ f → Crossing N f g ds → (w : FaceWalk 𝓜 e g) × (faceWalk.total (N .length) w ≡ total (N .length) ds)
+  unfolding total faceWalk.total
+  face-walk q stay = rw q (faceWalk.stay, refl)
+  face-walk q (cross d l e r) =
+      let d-in : d < darts 𝓜 = omega (arith, of .darts-are) in
+      let w = face-walk (sym (of .left-is d d-in)) r in
+      (faceWalk.cross d d-in (sym (of .right-is d d-in) ∙ e ∙ sym q) (w .0), ap (λ z. N .length d +ℤ z) (w .1))
+
+  pub ring-walk : {x : ℕ} → Ring N x → (w : FaceWalk 𝓜 x x) × (faceWalk.total (N .length) w <ℤ pos 0)
+  ring-walk r = let w = face-walk refl (r .closed) in (w .0, rw (w .1) (r .negative))

@@ -1,0 +1,128 @@
+-- `search::relax` meets its contract: the sum is compared and stored as 64 bits, and read back it is the sum.
+use mathlib.Core.Path.{ap, ap₂, _∙_, _≡_, refl}
+use lib.IntN.{ℤ, _+ℤ_}
+use lib.ListN.{set}
+use mir.Syntax.{w32, w64}
+use mir.Val.{toZ, ofZ}
+use mir.ValLaws.{toZ-ofZ}
+use borrow.Author.Needs.{needs}
+use Rattle.grouping.proofs.wide.Reads as wide-reads
+use Rattle.search.specs.Answer.{level, at}
+use Rattle.search.proofs.Order.{test-yes, test-no}
+use Rattle.search.proofs.relax.Statement.{statement}
+use Rattle.search.proofs.relax.Tie as tie
+use Rattle.search.proofs.relax.Reads as reads
+use Rattle.search.proofs.relax.Lts as lts
+use Rattle.search.proofs.plus.Reads as plus-reads
+
+mul-wide : tie.Need-mul-wide
+mul-wide c = search needs
+
+element-copy-out-wide : tie.Need-element-copy-out-wide
+element-copy-out-wide c = search needs
+
+wide-requires : tie.Need-wide-requires
+wide-requires c κs = search needs
+
+mul-plus : tie.Need-mul-plus
+mul-plus c = search needs
+
+element-copy-out-plus : tie.Need-element-copy-out-plus
+element-copy-out-plus c = search needs
+
+mul-plus-2 : tie.Need-mul-plus-2
+mul-plus-2 c = search needs
+
+element-copy-out-plus-2 : tie.Need-element-copy-out-plus-2
+element-copy-out-plus-2 c = search needs
+
+plus-requires : tie.Need-plus-requires
+plus-requires c κs = search needs
+
+abbrev Place : Type 0
+Place = lts.After-if12 (wide-reads.Asked, wide-reads.Learnt, plus-reads.Asked, plus-reads.Learnt) reads.Pre reads.Post
+
+new : (c : Place) → ℤ
+new c = let a = c .before .before .before .before .before .before .args in level (a .potentials .now) (a .i) +ℤ level (a .lengths .now) (a .d)
+
+new-is : (c : Place) → toZ w64 (ofZ w64 (c .before .plus .result)) ≡ new c
+unfolding new
+new-is c =
+    let a = c .before .before .before .before .before .before .args in
+    toZ-ofZ w64 (c .before .plus .result) (record { sfits = c .before .plus .ok })
+    ∙ c .before .plus .ensures
+    ∙ ap₂ _+ℤ_
+    (toZ-ofZ w64 (level (a .potentials .now) (a .i)) (record { sfits = c .before .before .before .plus-arg .given }))
+    (toZ-ofZ w32 (level (a .lengths .now) (a .d)) (record { sfits = c .before .before .plus-arg2 .given }))
+
+old : (c : Place) → ℤ
+old c = let a = c .before .before .before .before .before .before .args in level (a .potentials .now) (at (a .lefts .now) (a .d))
+
+old-is : (c : Place) → toZ w64 (ofZ w64 (level (c .before .before .before .before .before .before .args .potentials .now) (c .before .before .before .before .wide .result))) ≡ old c
+unfolding old
+old-is c =
+    let p = c .before .before .before .before .before .before .args .potentials .now in
+    let w = c .before .before .before .before .wide in
+    toZ-ofZ w64 (level p (w .result)) (record { sfits = c .if12 .given }) ∙ ap (level p) (w .ensures)
+
+mul-if1 : tie.Need-mul-if1
+mul-if1 c = search needs
+
+element-copy-out-if1 : tie.Need-element-copy-out-if1
+element-copy-out-if1 c = search needs
+
+mul-v : tie.Need-mul-v
+mul-v c = search needs
+
+element-set-from-v : tie.Need-element-set-from-v
+element-set-from-v c = search needs
+
+cast-parents : tie.Need-cast-parents
+cast-parents c = search needs
+
+mul-parents : tie.Need-mul-parents
+mul-parents c = search needs
+
+element-write-parents : tie.Need-element-write-parents
+element-write-parents c = search needs
+
+element-write-waiting : tie.Need-element-write-waiting
+element-write-waiting c = search needs
+
+returns : tie.Need-returns
+unfolding new old
+returns c =
+    let a = c .before .before .before .before .before .before .before .args in
+    let w = c .before .before .before .before .before .wide .ensures in (
+      ap₂ (set (a .potentials .now)) w (new-is (c .before)),
+      ap (λ f. set (a .parents .now) f (a .d)) w,
+      ap (λ f. set (a .waiting .now) f 1) w,
+      test-yes _ _ _ _ (new-is (c .before)) (old-is (c .before)) (c .if1 .taken),
+    )
+
+returns-2 : tie.Need-returns-2
+unfolding new old
+returns-2 c = (refl, refl, refl, test-no _ _ _ _ (new-is (c .before)) (old-is (c .before)) (c .if1 .left))
+
+pub relax-spec : {M : Type 1} → statement M
+relax-spec =
+    tie.close
+    (tie.spec
+    mul-wide
+    element-copy-out-wide
+    wide-requires
+    mul-plus
+    element-copy-out-plus
+    mul-plus-2
+    element-copy-out-plus-2
+    plus-requires
+    mul-if1
+    element-copy-out-if1
+    mul-v
+    element-set-from-v
+    cast-parents
+    mul-parents
+    element-write-parents
+    element-write-waiting
+    returns
+    returns-2)

@@ -1,0 +1,6 @@
+pub mod Net
+pub mod Walk
+pub mod Settled
+pub mod Parents
+pub mod Answer
+pub mod Progress
