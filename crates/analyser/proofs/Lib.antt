@@ -1,2 +1,4 @@
 pub mod Held
 pub mod Marking
+pub mod SheetPlane
+pub mod Round

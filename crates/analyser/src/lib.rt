@@ -3,6 +3,7 @@ ghost use mathlib.Core.Path.{_≡_};
 ghost use Rattle.refusals.specs.Order.{Judged};
 ghost use Rattle.analyser.specs.Question.{endChecks};
 ghost use Rattle.analyser.specs.Mark.{Marks};
+ghost use Rattle.analyser.specs.LevelsOf.{GivesLevels};
 use refusals::Verdict;
 
 fn wide(x: u16) -> usize
@@ -70,4 +71,42 @@ pub fn mark(sheet: &[u8], source: u16, sink: u16, flows: &[i32]) -> MarkAnswer
 pub enum LevelAnswer {
     Done,
     Refused(u8, u16),
+}
+
+// Levels from settings: the potentials of the faces that balanced flows of the edges have, with face 0 at 0. Nothing is written before the last check.
+pub fn levels_from_settings(sheet: &[u8], flows: &[i32], levels: &mut [i32]) -> LevelAnswer
+    ensures { λ r. ⌜ GivesLevels (now (sheet .entry)) (now (flows .entry)) (now (levels .entry)) (now (levels .exit)) r ⌝ }
+{
+    let opened = sheets::open(sheet);
+    let verdict = opened.verdict;
+    if let Verdict::Refused(k, p) = verdict {
+        return LevelAnswer::Refused(k, p);
+    }
+    let network = opened.network;
+    let edges = network.edges;
+    let nodes = network.nodes;
+    let faces = edges + 2 - nodes;
+    if flows.len() < edges {
+        return LevelAnswer::Refused(16, 0);
+    }
+    if levels.len() < faces {
+        return LevelAnswer::Refused(16, 0);
+    }
+    let within = balance::check_within(&network.capacities, edges, flows);
+    if let Verdict::Refused(k, p) = within {
+        return LevelAnswer::Refused(k, p);
+    }
+    let mut nets = [0i32; 1024];
+    balance::fill_nets(&network.tails, edges, flows, &mut nets);
+    let balanced = balance::check_balance(&nets, nodes, nodes, nodes);
+    if let Verdict::Refused(k, p) = balanced {
+        return LevelAnswer::Refused(k, p);
+    }
+    let mut order = [0u16; 1024];
+    let mut from = [0u16; 1024];
+    traversal::spread(&network.rotations, 2 * edges, 0, &mut order, &mut from);
+    let mut all = [0i32; 1024];
+    leveling::fill_levels(&network.faces, &order, &from, 2 * edges, flows, &mut all);
+    sheets::copy_out_signed(&all, faces, levels);
+    LevelAnswer::Done
 }

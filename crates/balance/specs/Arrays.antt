@@ -1,13 +1,8 @@
--- Arrays of signed numbers as functions of the index, and what the sums at the nodes need in order to fit.
-use mathlib.Core.List.{List}
+-- What the sums at the nodes need in order to fit.
 use Prim.Native.Nat.{ℕ, _<_}
-use lib.ListN.{getD}
 use lib.IntN.{ℤ, pos, negsuc}
 use lib.Signed.{_≤ℤ_}
-
--- 0 past the end
-abbrev pub atℤ : List ℤ → ℕ → ℤ
-atℤ l d = getD l d (pos 0)
+pub use Rattle.rotations.specs.Arrays.{atℤ}
 
 -- from -1,000,000 to 1,000,000
 pub record Small (x : ℤ) : Type 0 where

@@ -8,13 +8,14 @@ use lib.Dec.{eqb}
 use Rattle.integers.proofs.Tests.{eqb-true, eqb-eq}
 use Rattle.integers.proofs.Injections.{find, find-is}
 use Rattle.faces.specs.Dart.{rev}
-use Rattle.faces.specs.Orbit.{Orbit, iter}
+use Rattle.integers.specs.Sum.{sum, count}
+use Rattle.faces.specs.Orbit.{Orbit, iter, lowest, isLowest, orbitOf}
 use Rattle.faces.specs.Map.{Map, darts, head}
 use Rattle.faces.specs.Face.{step, faces, left, right}
 use Rattle.faces.specs.Walk.{Walk, here, along, Components}
 use Rattle.faces.specs.Check.{Sound}
 use Rattle.faces.proofs.Darts.{rev-rev, rev-in, rev-injective}
-use Rattle.faces.proofs.Orbits.{Permutes, iter-keeps, iter-zero, iter-suc}
+use Rattle.faces.proofs.Orbits.{Permutes, iter-keeps, iter-zero, iter-suc, lowest-below}
 use Rattle.faces.proofs.Numbering.{Numbered, orbitOf-below, orbitOf-along, orbitOf-same, orbitOf-first, orbits-numbered, one-numbering, one-count}
 use Rattle.faces.proofs.Walks.{walk-keeps}
 
@@ -61,6 +62,14 @@ module _ {𝓜 : Map} (σ : Sound 𝓜) where
   pub face-dart : (f : ℕ) → f < faces 𝓜 → (d : ℕ) × (d < darts 𝓜) × (left 𝓜 d ≡ f)
   unfolding left faces
   face-dart f l = let r = orbitOf-first step-permutes f l in (r .0, r .1, r .2)
+
+  -- dart 0 is the lowest of its face, which is face 0
+  pub first-face : left 𝓜 0 ≡ 0
+  unfolding left orbitOf sum
+  first-face = ap (λ m. count m (isLowest (darts 𝓜) (step 𝓜))) low
+    where
+      low : lowest (step 𝓜) (darts 𝓜) 0 ≡ 0
+      low = omega (arith, lowest-below step-permutes 0)
 
   pub faces-numbered : Numbered (darts 𝓜) (step 𝓜) (left 𝓜) (faces 𝓜)
   unfolding left faces

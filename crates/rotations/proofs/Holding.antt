@@ -1,6 +1,6 @@
--- Laws of `holding`: a place that stops holding the value lowers it by 1, and it is 0 exactly when no place holds the value. Arrays of one value.
+-- Laws of `holding`: a place that stops holding the value lowers it by 1. Arrays of one value.
 use mathlib.Core.Path.{_≡_, refl, sym, _∙_, ap}
-use mathlib.Core.Logic.{_⊎_, inl, inr, _≢_}
+use mathlib.Core.Logic.{_≢_}
 use Prim.Native.Nat.{ℕ, zero, suc, _+_, _<_}
 use native.Mathlib.Omega.{arith}
 use native.Mathlib.Decide.{ℕ-discrete, decLt}
@@ -41,25 +41,6 @@ holding-less x (suc n) g h z l a b e = go (ℕ-discrete z n) (holding-less x n g
         let rest = holding-same x n g h (λ y m. e y (λ q. omega (arith, p))) in
         omega (arith, last-not x n h (rw p at b), last-holds x n g (rw p at a))
     go (no p) r = omega (arith, holding-suc x n h, holding-suc x n g, r (omega (arith, p)) a b e, ap (λ y. bit (eqb y x)) (e n (λ q. p (sym q))))
-
--- no place holds x, or one does
-pub holding-find : (x n : ℕ) (g : ℕ → ℕ) → (((y : ℕ) → y < n → g y ≢ x) × (holding x n g ≡ 0)) ⊎ ((y : ℕ) × (y < n) × (g y ≡ x) × (0 < holding x n g))
-holding-find x zero g = inl ((λ y l. absurd (omega arith)), holding-zero x g)
-holding-find x (suc n) g = go (ℕ-discrete (g n) x) (holding-find x n g)
-  where
-    go : Dec (g n ≡ x) → (((y : ℕ) → y < n → g y ≢ x) × (holding x n g ≡ 0)) ⊎ ((y : ℕ) × (y < n) × (g y ≡ x) × (0 < holding x n g))
-        → (((y : ℕ) → y < suc n → g y ≢ x) × (holding x (suc n) g ≡ 0)) ⊎ ((y : ℕ) × (y < suc n) × (g y ≡ x) × (0 < holding x (suc n) g))
-    go (yes p) r = inr (n, omega arith, p, omega (arith, last-holds x n g p))
-    go (no p) (inl r) = inl ((λ y l. each y l (ℕ-discrete y n)), last-not x n g p ∙ r .1)
-      where
-        each : (y : ℕ) → y < suc n → Dec (y ≡ n) → g y ≢ x
-        each y l (yes q) = rw q p
-        each y l (no q) = r .0 y (omega (arith, q))
-    go (no p) (inr r) = inr (r .0, omega (arith, r .1), r .2, omega (arith, last-not x n g p, r .3))
-
-pub holding-all : (x n : ℕ) (g : ℕ → ℕ) → ((y : ℕ) → g y ≡ x) → holding x n g ≡ n
-holding-all x zero g h = holding-zero x g
-holding-all x (suc n) g h = omega (arith, last-holds x n g (h n), holding-all x n g h)
 
 -- a new array holds 0 everywhere
 pub zeros : (k : ℕ) → _≡_ {A = ℕ} (at (replicate 1024 0) k) 0

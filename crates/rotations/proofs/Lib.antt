@@ -2,7 +2,6 @@ pub mod Holding
 pub mod Trail
 pub mod Numbering
 pub mod Register
-pub mod Search
 pub mod Decisions
 pub mod Steps
 pub mod Order

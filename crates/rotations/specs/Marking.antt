@@ -3,9 +3,7 @@ use mathlib.Core.Path.{_≡_}
 use Prim.Native.Nat.{ℕ, _≤_, _<_}
 use Rattle.faces.specs.Orbit.{Orbit}
 use Rattle.faces.proofs.Orbits.{Permutes}
-
-abbrev pub unmarked : ℕ
-unmarked = 65535
+pub use Rattle.traversal.specs.Arrays.{unmarked}
 
 -- the orbit of `start` may be given this number: no place of it has one
 pub record Markable (n : ℕ) (next label : ℕ → ℕ) (start number : ℕ) : Type 0 where

@@ -9,39 +9,17 @@ ghost use Rattle.faces.specs.Orbit.{orbits, orbitOf};
 ghost use Rattle.faces.specs.Check.{InRange, RotationFault, NodeFault, Disconnected, Sound};
 ghost use Rattle.faces.proofs.Orbits.{Permutes};
 ghost use Rattle.rotations.specs.Arrays.{at, mapOf};
-ghost use Rattle.rotations.specs.Holding.{holding};
-ghost use Rattle.rotations.specs.Marking.{unmarked, Markable, Marked};
+ghost use Rattle.rotations.specs.Marking.{Markable, Marked};
 ghost use Rattle.rotations.specs.Register.{Entered};
-ghost use Rattle.rotations.specs.Queue.{Pushed};
 ghost use Rattle.rotations.specs.MapChecks.{MapJudged};
 use refusals::Verdict;
+use traversal::narrow;
+use traversal::wide;
 
 // The label of a place that has no number yet. Numbers stay below 1,024.
 const UNMARKED: u16 = 65535;
 
-fn wide(x: u16) -> usize
-    ensures { λ r. ⌜ r ≡ x ⌝ }
-{
-    x as usize
-}
-
-fn narrow(x: usize) -> u16
-    requires { ⌜ x < 65536 ⌝ }
-    ensures { λ r. ⌜ r ≡ x ⌝ }
-{
-    x as u16
-}
-
 // Orbits of a step on 0, .., n - 1: rounds of the rotation around nodes, and rounds of the face step around faces.
-
-fn unmark_all(label: &mut [u16; 1024])
-    requires { ⌜ length (now label) ≡ 1024 ⌝ }
-    ensures { λ _. ⌜ (length (now (label .exit)) ≡ 1024) × ((d : ℕ) → d < 1024 → at (now (label .exit)) d ≡ unmarked) ⌝ }
-{
-    for i in 0..1024usize {
-        label[i] = UNMARKED;
-    }
-}
 
 // Gives every place of the orbit of `start` this number. It ends because each step leads to a place that has no number yet, until it is back at `start`.
 fn mark_orbit(next: &[u16; 1024], n: usize, start: usize, number: u16, label: &mut [u16; 1024])
@@ -63,7 +41,7 @@ pub fn number_orbits(next: &[u16; 1024], n: usize, label: &mut [u16; 1024]) -> u
     requires { ⌜ (length (now label) ≡ 1024) × (n ≤ 1024) × Permutes n (at (now next)) ⌝ }
     ensures { λ r. ⌜ (length (now (label .exit)) ≡ 1024) × (r ≡ orbits n (at (now (next .entry)))) × ((d : ℕ) → d < n → at (now (label .exit)) d ≡ orbitOf n (at (now (next .entry))) d) ⌝ }
 {
-    unmark_all(label);
+    traversal::unmark_all(label);
     let mut f: usize = 0;
     let mut d: usize = 0;
     while d < n {
@@ -163,34 +141,7 @@ pub fn node_fault<'a>(
     some_empty(&owner, nodes)
 }
 
-// The other dart of d's edge.
-fn reverse(d: usize) -> usize
-    requires { ⌜ d < 1024 ⌝ }
-    ensures { λ r. ⌜ r ≡ rev d ⌝ }
-{
-    if d % 2 == 0 { d + 1 } else { d - 1 }
-}
-
-// Puts d at the end of the queue unless it was seen, and answers the new end.
-fn push(
-    queue: &mut [u16; 1024],
-    seen: &mut [u16; 1024],
-    darts: usize,
-    end: usize,
-    d: usize,
-) -> usize
-    requires { ⌜ (length (now queue) ≡ 1024) × (length (now seen) ≡ 1024) × (darts ≤ 1024) × (d < darts) × (end + holding 0 darts (at (now seen)) ≡ darts) ⌝ }
-    ensures { λ r. ⌜ (length (now (queue .exit)) ≡ 1024) × (length (now (seen .exit)) ≡ 1024) × Pushed darts d (at (now (seen .entry))) (at (now (seen .exit))) (at (now (queue .entry))) (at (now (queue .exit))) end r ⌝ }
-{
-    if seen[d] != 0 {
-        return end;
-    }
-    seen[d] = 1;
-    queue[end] = narrow(d);
-    end + 1
-}
-
-// Check 11: "not connected". From dart 0 it walks to the rotation and to the reverse of every dart met. The rounds being nodes, all darts are met if and
+// Check 11: "not connected". From dart 0 the walk goes to the rotation and to the reverse of every dart met. The rounds being nodes, all darts are met if and
 // only if every node is joined to the first; so it reads neither tails nor nodes, which only its contract names.
 pub fn disconnected<'a>(
     tails: &'a [u16; 1024],
@@ -202,20 +153,10 @@ pub fn disconnected<'a>(
     ensures { λ r. ⌜ Decides (Disconnected (mapOf nodes edges (now (tails .entry)) (now (rotations .entry)))) r ⌝ }
 {
     let darts = 2 * edges;
-    let mut queue = [0u16; 1024];
-    let mut seen = [0u16; 1024];
-    seen[0] = 1;
-    let mut head: usize = 0;
-    let mut end: usize = 1;
-    while head < end {
-        let d = wide(queue[head]);
-        let t = wide(rotations[d]);
-        end = push(&mut queue, &mut seen, darts, end, t);
-        let back = reverse(d);
-        end = push(&mut queue, &mut seen, darts, end, back);
-        head += 1;
-    }
-    end != darts
+    let mut order = [0u16; 1024];
+    let mut from = [0u16; 1024];
+    let met = traversal::spread(rotations, darts, 0, &mut order, &mut from);
+    met != darts
 }
 
 // "The face step of a dart is the turn of its reverse."
@@ -226,7 +167,7 @@ pub fn fill_steps(rotations: &[u16; 1024], edges: usize, steps: &mut [u16; 1024]
     let darts = 2 * edges;
     let mut d: usize = 0;
     while d < darts {
-        let r = reverse(d);
+        let r = traversal::reverse(d);
         steps[d] = rotations[r];
         d += 1;
     }

@@ -2,18 +2,11 @@
 -- that it holds. Its arrays have a zero past the darts; a drawing's functions have one there too, so that both are equal everywhere.
 use Prim.Native.Nat.{ℕ, _<_}
 use mathlib.Core.Path.{_≡_}
-use mathlib.Core.List.{List}
-use lib.ListN.{getD}
-use lib.IntN.{ℤ, pos}
 use Rattle.faces.specs.Map.{Map, darts}
 use Rattle.faces.specs.Face.{left}
-use Rattle.rotations.specs.Arrays.{at}
+pub use Rattle.rotations.specs.Arrays.{at, atℤ}
 use Rattle.records.specs.Drawing.{Drawing}
 use Rattle.sheets.specs.declared.Network.{Network}
-
--- an array of integers as a function of the index, 0 past the end
-abbrev pub atℤ : List ℤ → ℕ → ℤ
-atℤ l d = getD l d (pos 0)
 
 pub record Holds (𝓓 : Drawing) (net : Network) : Type 0 where
   pub nodes : net .nodes ≡ 𝓓 .map .nodes

@@ -118,7 +118,7 @@ fn copy_out(from: &[u16; 1024], n: usize, to: &mut [u16])
     }
 }
 
-fn copy_out_signed(from: &[i32; 1024], n: usize, to: &mut [i32])
+pub fn copy_out_signed(from: &[i32; 1024], n: usize, to: &mut [i32])
     requires { ⌜ (n ≤ 1024) × (n ≤ length (now to)) ⌝ }
     ensures { λ _. ⌜ now (to .exit) ≡ filled n (atℤ (now (from .entry))) (now (to .entry)) ⌝ }
 {

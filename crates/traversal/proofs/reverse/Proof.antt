@@ -2,8 +2,8 @@
 use borrow.Author.Needs.{needs}
 use Rattle.integers.proofs.Tests.{eqb-true, eqb-false}
 use Rattle.faces.specs.Dart.{rev}
-use Rattle.rotations.proofs.reverse.Statement.{statement}
-use Rattle.rotations.proofs.reverse.Tie as tie
+use Rattle.traversal.proofs.reverse.Statement.{statement}
+use Rattle.traversal.proofs.reverse.Tie as tie
 
 add-result : tie.Need-add-result
 add-result c = search needs

@@ -7,10 +7,10 @@ use lib.Seq.{getD-set-same}
 use borrow.Author.Needs.{read-below}
 use borrow.Author.Count.{below-more}
 use borrow.Author.Needs.{needs}
-use Rattle.rotations.specs.Arrays.{at}
-use Rattle.rotations.specs.Marking.{unmarked}
-use Rattle.rotations.proofs.unmark_all.Statement.{statement}
-use Rattle.rotations.proofs.unmark_all.Tie as tie
+use Rattle.traversal.specs.Arrays.{at}
+use Rattle.traversal.specs.Arrays.{unmarked}
+use Rattle.traversal.proofs.unmark_all.Statement.{statement}
+use Rattle.traversal.proofs.unmark_all.Tie as tie
 
 abbrev Inv-loop : tie.InvT-loop
 Inv-loop label₀ i₀ label i = (i ≤ 1024) × (length label ≡ 1024) × ((d : ℕ) → d < i → at label d ≡ unmarked)
