@@ -1,4 +1,5 @@
 pub mod Held
 pub mod Marking
 pub mod SheetPlane
+pub mod LevelsFound
 pub mod Round

@@ -37,6 +37,7 @@ use Rattle.analyser.specs.LevelsOf.{levelsChecks, GivesLevels}
 use Rattle.analyser.specs.SettingsOf.{LevelOutside, fromLevels, settingsChecks, GivesSettings}
 use Rattle.analyser.specs.declared.LevelAnswer.{LevelAnswer}
 use Rattle.analyser.specs.declared.LevelAnswer.the-variants.{Done, Refused}
+use Rattle.analyser.proofs.LevelsFound.{levels-none}
 use Rattle.analyser.proofs.SheetPlane.{plane, root-in, faces-at-most, capacity-high, levels-unique}
 
 -- ── reading filled slices ──
@@ -80,12 +81,6 @@ module _ (s : List ℕ) where
       let f : length flows < edgesOf s → ⊥ = λ l. p .1 .0 (inl l) in
       let g : length levels < F → ⊥ = λ l. p .1 .0 (inr l) in
       (p .0, omega arith, omega arith, q .0, q .1)
-
-  levels-whole : (flows levels : List ℤ) → NoneOf (sheetChecks s) → edgesOf s ≤ length flows → F ≤ length levels
-      → NoneOf (withinChecks (edgesOf s) (capacityOf s) (atℤ flows)) → NoneOf (balanceChecks 𝓜 NoNode (atℤ flows)) → NoneOf (levelsChecks s flows levels)
-  unfolding levelsChecks NoneOf
-  levels-whole flows levels h e f w b =
-      none-append (sheetChecks s) _ h (neither (λ l. omega arith) (λ l. omega arith), none-append (withinChecks (edgesOf s) (capacityOf s) (atℤ flows)) (balanceChecks 𝓜 NoNode (atℤ flows)) w b)
 
   settings-parts : (levels flows : List ℤ) → NoneOf (settingsChecks s levels flows) → NoneOf (sheetChecks s) × (edgesOf s ≤ length flows) × (F ≤ length levels)
       × (atℤ levels 0 ≡ pos 0) × NoneOf (withinChecks (edgesOf s) (capacityOf s) (fromLevels 𝓜 (atℤ levels)))
@@ -185,7 +180,7 @@ module _ (s : List ℕ) where
 
       whole : NoneOf (levelsChecks s flows' levels₀)
       whole =
-          levels-whole flows' levels₀ (p .0) long room
+          levels-none s flows' levels₀ (p .0) long room
           (within-none 𝓜 (capacityOf s) (atℤ flows') (within-ext 𝓜 (capacityOf s) x (atℤ flows') same (none-within 𝓜 (capacityOf s) x (p .4))))
           (circulation-none 𝓜 (atℤ flows') balanced)
 
