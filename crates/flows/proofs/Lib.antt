@@ -10,3 +10,4 @@ pub mod LevelBound
 pub mod ValueBound
 pub mod Interval
 pub mod Parts
+pub mod Examples
