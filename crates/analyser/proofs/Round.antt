@@ -34,7 +34,8 @@ use Rattle.sheets.specs.Open.{sheetChecks}
 use Rattle.sheets.specs.Read.{filled}
 use Rattle.sheets.proofs.Reading.{filled-length}
 use Rattle.analyser.specs.LevelsOf.{levelsChecks, GivesLevels}
-use Rattle.analyser.specs.SettingsOf.{LevelOutside, fromLevels, settingsChecks, GivesSettings}
+use Rattle.differences.specs.Level.{LevelOutside, levelChecks}
+use Rattle.analyser.specs.SettingsOf.{fromLevels, settingsChecks, GivesSettings}
 use Rattle.analyser.specs.declared.LevelAnswer.{LevelAnswer}
 use Rattle.analyser.specs.declared.LevelAnswer.the-variants.{Done, Refused}
 use Rattle.analyser.proofs.LevelsFound.{levels-none}
@@ -84,7 +85,7 @@ module _ (s : List ℕ) where
 
   settings-parts : (levels flows : List ℤ) → NoneOf (settingsChecks s levels flows) → NoneOf (sheetChecks s) × (edgesOf s ≤ length flows) × (F ≤ length levels)
       × (atℤ levels 0 ≡ pos 0) × NoneOf (withinChecks (edgesOf s) (capacityOf s) (fromLevels 𝓜 (atℤ levels)))
-  unfolding settingsChecks NoneOf
+  unfolding settingsChecks levelChecks NoneOf
   settings-parts levels flows h =
       let p = append-none (sheetChecks s) _ h in
       let f : length flows < edgesOf s → ⊥ = λ l. p .1 .0 (inl l) in
@@ -97,7 +98,7 @@ module _ (s : List ℕ) where
 
   settings-whole : (levels flows : List ℤ) → NoneOf (sheetChecks s) → edgesOf s ≤ length flows → F ≤ length levels → ((f : ℕ) → f < F → LevelOutside (atℤ levels f) → ⊥)
       → atℤ levels 0 ≡ pos 0 → NoneOf (withinChecks (edgesOf s) (capacityOf s) (fromLevels 𝓜 (atℤ levels))) → NoneOf (settingsChecks s levels flows)
-  unfolding settingsChecks NoneOf
+  unfolding settingsChecks levelChecks NoneOf
   settings-whole levels flows h e f inside zero-at w =
       none-append (sheetChecks s) _ h (neither (λ l. omega arith) (λ l. omega arith), ((λ r. inside (r .0) (r .1) (r .2)), ((λ n. n zero-at), w)))
 

@@ -1,11 +1,10 @@
--- Settings from levels. Document 01, "Operations": "sheet checks, 16, 19 a level beyond ±600,000,000, 20 face 0 not at 0, 17."
+-- Settings from levels. Document 01, "Operations": "sheet checks, 16, 19 a level beyond ±600,000,000, 20 face 0 not at 0, 17." 19 and 20 are `levelChecks`.
 use Prim.Native.Nat.{ℕ, _*_, _<_}
 use mathlib.Core.Path.{_≡_}
-use mathlib.Core.Logic.{_⊎_, _≢_}
+use mathlib.Core.Logic.{_⊎_}
 use mathlib.Core.List.{List, [], _∷_, _++_}
 use lib.ListN.{length}
-use lib.IntN.{ℤ, pos, negsuc}
-use lib.Signed.{_<ℤ_}
+use lib.IntN.{ℤ}
 use Rattle.refusals.specs.Order.{Check, _when_, NoneOf, FirstOf}
 use Rattle.faces.specs.Map.{Map}
 use Rattle.faces.specs.Face.{faces}
@@ -15,12 +14,9 @@ use Rattle.records.specs.Sheet.{edgesOf, capacityOf, sheetMap}
 use Rattle.sheets.specs.Network.{atℤ}
 use Rattle.sheets.specs.Open.{sheetChecks}
 use Rattle.sheets.specs.Read.{filled}
+use Rattle.differences.specs.Level.{levelChecks}
 use Rattle.analyser.specs.declared.LevelAnswer.{LevelAnswer}
 use Rattle.analyser.specs.declared.LevelAnswer.the-variants.{Done, Refused}
-
--- not from −600,000,000 to 600,000,000; negsuc 599999999 is −600,000,000
-abbrev pub LevelOutside : ℤ → Type 0
-LevelOutside x = (x <ℤ negsuc 599999999) ⊎ (pos 600000000 <ℤ x)
 
 -- the setting of edge e: the level left of dart 2e less the level right of it
 abbrev pub fromLevels : Map → (ℕ → ℤ) → ℕ → ℤ
@@ -30,9 +26,8 @@ unfoldable pub settingsChecks : List ℕ → List ℤ → List ℤ → List Chec
 settingsChecks s levels flows =
     sheetChecks s
     ++ ((16 when (length flows < edgesOf s) ⊎ (length levels < faces (sheetMap s)))
-    ∷ (19 when (f : ℕ) × (f < faces (sheetMap s)) × LevelOutside (atℤ levels f))
-    ∷ (20 when atℤ levels 0 ≢ pos 0)
-    ∷ withinChecks (edgesOf s) (capacityOf s) (fromLevels (sheetMap s) (atℤ levels)))
+    ∷ (levelChecks (faces (sheetMap s)) (atℤ levels)
+    ++ withinChecks (edgesOf s) (capacityOf s) (fromLevels (sheetMap s) (atℤ levels))))
 
 abbrev pub GivesSettings : List ℕ → List ℤ → (flows flows' : List ℤ) → LevelAnswer → Type 0
 GivesSettings s levels flows flows' Done =

@@ -4,6 +4,7 @@ ghost use Rattle.refusals.specs.Order.{Judged};
 ghost use Rattle.analyser.specs.Question.{endChecks};
 ghost use Rattle.analyser.specs.Mark.{Marks};
 ghost use Rattle.analyser.specs.LevelsOf.{GivesLevels};
+ghost use Rattle.analyser.specs.SettingsOf.{GivesSettings};
 use refusals::Verdict;
 
 fn wide(x: u16) -> usize
@@ -108,5 +109,36 @@ pub fn levels_from_settings(sheet: &[u8], flows: &[i32], levels: &mut [i32]) -> 
     let mut all = [0i32; 1024];
     leveling::fill_levels(&network.faces, &order, &from, 2 * edges, flows, &mut all);
     sheets::copy_out_signed(&all, faces, levels);
+    LevelAnswer::Done
+}
+
+// Settings from levels: the flows that face levels give, if no level is refused and every flow keeps within its capacities.
+// A sheet that opens is flat, so its faces are edges + 2 - nodes. Flows are written only after every check.
+pub fn settings_from_levels(sheet: &[u8], levels: &[i32], flows: &mut [i32]) -> LevelAnswer
+    ensures { λ r. ⌜ GivesSettings (now (sheet .entry)) (now (levels .entry)) (now (flows .entry)) (now (flows .exit)) r ⌝ }
+{
+    let opened = sheets::open(sheet);
+    let verdict = opened.verdict;
+    if let Verdict::Refused(k, p) = verdict {
+        return LevelAnswer::Refused(k, p);
+    }
+    let network = opened.network;
+    let edges = network.edges;
+    let faces = edges + 2 - network.nodes;
+    if flows.len() < edges {
+        return LevelAnswer::Refused(16, 0);
+    }
+    if levels.len() < faces {
+        return LevelAnswer::Refused(16, 0);
+    }
+    let judged = differences::check_levels(levels, faces);
+    if let Verdict::Refused(k, p) = judged {
+        return LevelAnswer::Refused(k, p);
+    }
+    let within = differences::check_differences(&network.faces, &network.capacities, edges, levels);
+    if let Verdict::Refused(k, p) = within {
+        return LevelAnswer::Refused(k, p);
+    }
+    differences::fill_differences(&network.faces, edges, levels, flows);
     LevelAnswer::Done
 }

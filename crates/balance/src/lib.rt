@@ -53,7 +53,7 @@ fn below_zero(x: i64) -> bool
 
 // Whether a flow is more than its edge's forward capacity, or against the edge more than its backward capacity.
 // -x > backward is tested as x + backward < 0 at 64 bits, since -x does not fit 32 bits where x is the least i32.
-fn exceeds(forward: i32, backward: i32, x: i32) -> bool
+pub fn exceeds(forward: i32, backward: i32, x: i32) -> bool
     ensures { λ r. ⌜ Decides ((forward <ℤ x) ⊎ (backward <ℤ negℤ x)) r ⌝ }
 {
     if forward < x {
