@@ -1,0 +1,82 @@
+-- Invariant: the words below j are written.
+use Prim.Native.Nat.{ℕ, _-_, _≤_}
+use mathlib.Core.Path.{_≡_, subst}
+use native.Mathlib.Omega.{arith}
+use lib.ListN.{length, length-set}
+use borrow.Author.Needs.{needs}
+use Rattle.flows.specs.ProvingSet.{wordsFor}
+use Rattle.node_sets.proofs.Writing.{Writing, writing-start, writing-step, writing-end}
+use Rattle.node_sets.proofs.write_set.Statement.{statement}
+use Rattle.node_sets.proofs.write_set.Tie as tie
+
+abbrev Inv-loop : tie.InvT-loop
+Inv-loop inside nodes words₀ n j₀ words j =
+    (j ≤ n) × (n ≤ 16) × (n ≡ wordsFor nodes) × (n ≤ length words) × Writing inside nodes words₀ words j
+
+abbrev μ-loop : tie.MeasureT-loop
+μ-loop inside nodes words₀ n j₀ words j = n - j
+
+words-for-requires : tie.Need-words-for-requires Inv-loop μ-loop
+words-for-requires c κs = c .before .pre .0
+
+loop-holds : tie.Need-loop-holds Inv-loop μ-loop
+loop-holds c =
+    let s = c .before .before in
+    let e = c .words-for .ensures in
+    (omega arith, omega (arith, e, s .pre .0), e, omega (arith, e, s .pre .1), writing-start (s .args .inside .now) (s .args .nodes) (s .args .words .now))
+
+word-of-requires : tie.Need-word-of-requires Inv-loop μ-loop
+word-of-requires c κs = (c .before .before .before .before .pre .0, omega (arith, c .before .loop .inv .1))
+
+mul-words : tie.Need-mul-words Inv-loop μ-loop
+mul-words c = search needs
+
+slice-write-words : tie.Need-slice-write-words Inv-loop μ-loop
+slice-write-words c = search needs
+
+add-j : tie.Need-add-j Inv-loop μ-loop
+add-j c = search needs
+
+loop-less : tie.Need-loop-less Inv-loop μ-loop
+loop-less c = search needs
+
+loop-again : tie.Need-loop-again Inv-loop μ-loop
+loop-again c =
+    let o = c .before .before .loop in
+    let s = c .before .before .before .before .before in
+    let w = c .word-of .result in
+    let e = o .inv .2 in (
+      omega arith,
+      o .inv .1,
+      e,
+      omega (arith, length-set (o .words) (o .j) w, o .inv .3),
+      writing-step (s .args .inside .now) (s .args .nodes) (s .args .words .now) (o .words) (o .j) w (o .inv .4) (omega (arith, e)) (s .pre .1) (c .word-of .ensures),
+    )
+
+same-length : tie.Need-same-length Inv-loop μ-loop
+same-length c = c .before .loop .inv .4 .length-kept
+
+returns : tie.Need-returns Inv-loop μ-loop
+returns c =
+    let o = c .before .loop in
+    let s = c .before .before .before .before in
+    let e : o .j ≡ wordsFor (s .args .nodes) = omega (arith, o .inv .2, o .inv .0) in
+    writing-end (s .args .inside .now) (s .args .nodes) (s .args .words .now) (o .words)
+    (subst (λ (x : ℕ). Writing (s .args .inside .now) (s .args .nodes) (s .args .words .now) (o .words) x) e (o .inv .4)) (s .pre .1)
+
+pub write-set-spec : {M : Type 1} → statement M
+write-set-spec =
+    tie.close
+    (tie.spec
+    Inv-loop
+    μ-loop
+    words-for-requires
+    loop-holds
+    word-of-requires
+    mul-words
+    slice-write-words
+    add-j
+    loop-less
+    loop-again
+    same-length
+    returns)
