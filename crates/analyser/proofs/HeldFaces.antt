@@ -1,5 +1,4 @@
--- The faces of an accepted sheet: how many there are, that the record's face numbers are below that, and what functions say of the record's faces, said of the
--- sheet's drawing.
+-- The faces that the record of an accepted sheet holds: their numbers are below the count of faces, and what functions say of them, said of the sheet's drawing.
 use mathlib.Core.Path.{_≡_, refl, _∙_, ap, ap₂}
 use mathlib.Core.List.{List, _++_}
 use Prim.Native.Nat.{ℕ, _+_, _*_, _≤_, _<_}
@@ -11,41 +10,27 @@ use Rattle.refusals.specs.declared.Verdict.{Verdict}
 use Rattle.refusals.proofs.Same.{Same, same-in-turn, judged-same}
 use Rattle.faces.specs.Dart.{rev}
 use Rattle.faces.specs.Face.{faces}
-use Rattle.faces.specs.Check.{Sound}
 use Rattle.faces.proofs.Darts.{rev-in}
 use Rattle.faces.proofs.Faces.{left-in}
 use Rattle.flows.specs.Check.{withinChecks}
 use Rattle.rotations.specs.Arrays.{at}
-use Rattle.rotations.proofs.Accepted.{accepted}
-use Rattle.records.specs.Sheet.{nodesOf, edgesOf, capacityOf, sheetMap, sheetDrawing}
-use Rattle.records.proofs.Bytes.{bytes-range}
+use Rattle.records.specs.Sheet.{edgesOf, capacityOf, sheetMap, sheetDrawing}
 use Rattle.records.proofs.Tabulate.{tabulate-ext}
 use Rattle.sheets.specs.Network.{atℤ, Holds}
 use Rattle.sheets.specs.Open.{sheetChecks}
 use Rattle.sheets.specs.Read.{filled}
 use Rattle.sheets.specs.declared.Network.{Network}
-use Rattle.sheets.proofs.Reading.{sheet-bytes, sheet-map, sheet-counts}
 use Rattle.differences.specs.Level.{levelChecks}
 use Rattle.differences.specs.Across.{across, AllLevelled}
 use Rattle.differences.proofs.Level.{all-levelled}
 use Rattle.analyser.specs.SettingsOf.{fromLevels}
 use Rattle.analyser.proofs.Held.{within-of}
+use Rattle.analyser.proofs.SheetPlane.{plane}
 
 module _ (s : List ℕ) (opened : NoneOf (sheetChecks s)) where
-  sheet-sound : Sound (sheetMap s)
-  sheet-sound = accepted (bytes-range s (sheet-bytes s opened)) (sheet-map s opened) .0
-
-  -- an accepted sheet is flat
-  pub sheet-faces : nodesOf s + faces (sheetMap s) ≡ edgesOf s + 2
-  sheet-faces = accepted (bytes-range s (sheet-bytes s opened)) (sheet-map s opened) .2
-
-  -- dart 0 has a face
-  pub some-face : 1 ≤ faces (sheetMap s)
-  some-face = let n = sheet-counts s opened in omega (arith, left-in sheet-sound 0 (omega arith))
-
   module _ (record' : Network) (h : Holds (sheetDrawing s) record') where
     face-in : (d : ℕ) → d < 2 * record' .edges → at (record' .faces) d < faces (sheetMap s)
-    face-in d l = let m : d < 2 * edgesOf s = omega (arith, h .edges) in omega (arith, h .faces d m, left-in sheet-sound d m)
+    face-in d l = let m : d < 2 * edgesOf s = omega (arith, h .edges) in omega (arith, h .faces d m, left-in (plane s opened .sound) d m)
 
     -- what the functions of `differences` require, after 19
     pub levels-ready : (levels : List ℤ) → faces (sheetMap s) ≤ length levels → NoneOf (levelChecks (faces (sheetMap s)) (atℤ levels))

@@ -23,7 +23,8 @@ use Rattle.differences.specs.Across.{AllLevelled}
 use Rattle.differences.proofs.check_differences.Reads as check-differences-reads
 use Rattle.differences.proofs.check_levels.Reads as check-levels-reads
 use Rattle.differences.proofs.fill_differences.Reads as fill-differences-reads
-use Rattle.analyser.proofs.HeldFaces.{sheet-faces, some-face, levels-ready, differences-within, differences-filled}
+use Rattle.analyser.proofs.SheetPlane.{faces-counted, root-in}
+use Rattle.analyser.proofs.HeldFaces.{levels-ready, differences-within, differences-filled}
 use Rattle.analyser.proofs.Settling.{settings-sheet, settings-short, settings-levels, settings-within, settings-none}
 use Rattle.analyser.proofs.settings_from_levels.Lts as lts
 use Rattle.analyser.proofs.settings_from_levels.Reads as reads
@@ -60,7 +61,7 @@ held : (c : Opened) → NoneOf (sheetChecks (sheetOf c)) × Holds (sheetDrawing 
 held c = rw (c .enum-told .given .1) at (c .before .before .«open» .ensures)
 
 face-count : (c : Opened) → networkOf c .edges + 2 - networkOf c .nodes ≡ faces (sheetMap (sheetOf c))
-face-count c = let h = held c in omega (arith, h .1 .edges, h .1 .nodes, sheet-faces (sheetOf c) (h .0))
+face-count c = let h = held c in omega (arith, h .1 .edges, h .1 .nodes, faces-counted (sheetOf c) (h .0))
 
 levels-judged : (c : Opened) (v : Verdict) → Judged (levelChecks (networkOf c .edges + 2 - networkOf c .nodes) (atℤ (levelsOf c))) v
     → Judged (levelChecks (faces (sheetMap (sheetOf c))) (atℤ (levelsOf c))) v
@@ -134,7 +135,7 @@ add-faces : tie.Need-add-faces
 add-faces c = let h = held (c .before) in let n = sheet-counts (sheetOf (c .before)) (h .0) in omega (arith, h .1 .edges)
 
 sub-faces : tie.Need-sub-faces
-sub-faces c = let h = held (c .before) in omega (arith, h .1 .edges, h .1 .nodes, sheet-faces (sheetOf (c .before)) (h .0))
+sub-faces c = let h = held (c .before) in omega (arith, h .1 .edges, h .1 .nodes, faces-counted (sheetOf (c .before)) (h .0))
 
 returns-2 : tie.Need-returns-2
 returns-2 c =
@@ -150,7 +151,7 @@ returns-3 c =
 check-levels-requires : tie.Need-check-levels-requires
 check-levels-requires c κs =
     let o = opened c in
-    (omega (arith, face-count o, some-face (sheetOf o) (held o .0)), omega (arith, c .if2 .left))
+    (omega (arith, face-count o, root-in (sheetOf o) (held o .0)), omega (arith, c .if2 .left))
 
 enum-known-judged : tie.Need-enum-known-judged
 enum-known-judged c = search needs

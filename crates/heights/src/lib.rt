@@ -1,0 +1,44 @@
+// Heights of the nodes, in one pass along the order in which a walk over the darts met them: a dart was met as the reverse of one whose node's height is known, one
+// difference away, or at the node of one met before.
+ghost use mathlib.Core.Path.{_≡_};
+ghost use lib.ListN.{length};
+ghost use lib.IntN.{_-ℤ_};
+ghost use mir.Syntax.{w32};
+ghost use mir.Val.{SFits};
+ghost use Rattle.heights.specs.Filling.{at, atℤ, Fillable, Filled};
+
+fn minus(a: i32, b: i32) -> i32
+    requires { ⌜ SFits w32 (a -ℤ b) ⌝ }
+    ensures { λ r. ⌜ r ≡ a -ℤ b ⌝ }
+{
+    a - b
+}
+
+// The node of the first dart in the order is at 0; the node at the end of a dart is lower by the dart's winding.
+pub fn fill_heights(
+    tails: &[u16; 1024],
+    order: &[u16; 1024],
+    from: &[u16; 1024],
+    darts: usize,
+    winding: &[i32; 1024],
+    heights: &mut [i32; 1024],
+)
+    requires { ⌜ (length (now heights) ≡ 1024) × Fillable darts (at (now tails)) (at (now order)) (at (now from)) (atℤ (now winding)) ⌝ }
+    ensures { λ _. ⌜ (length (now (heights .exit)) ≡ 1024) × Filled darts (at (now (tails .entry))) (at (now (order .entry)) 0) (atℤ (now (winding .entry))) (atℤ (now (heights .exit))) ⌝ }
+{
+    let start = traversal::wide(order[0]);
+    let root = traversal::wide(tails[start]);
+    heights[root] = 0;
+    let mut i: usize = 1;
+    while i < darts {
+        let d = traversal::wide(order[i]);
+        i += 1;
+        let p = traversal::wide(from[d]);
+        let back = traversal::reverse(p);
+        if d == back {
+            let known = traversal::wide(tails[p]);
+            let next = traversal::wide(tails[d]);
+            heights[next] = minus(heights[known], winding[p]);
+        }
+    }
+}

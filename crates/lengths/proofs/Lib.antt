@@ -1,0 +1,5 @@
+pub mod Limits
+pub mod Place
+pub mod Carrying
+pub mod Backing
+pub mod Found

@@ -1,0 +1,86 @@
+-- Sizes of signed numbers: sums and differences, what fits 32 bits, and a value along a dart once at most.
+use mathlib.Core.Path.{_≡_, refl, sym, _∙_, ap, ap₂, subst}
+use mathlib.Core.Logic.{_⊎_, inl, inr}
+use mathlib.Core.Bool.{Bool, true, false}
+use Prim.Native.Nat.{ℕ, _+_, _≤_, _<_}
+use native.Mathlib.Omega.{arith}
+use lib.IntN.{ℤ, pos, negsuc, negℤ, _+ℤ_, _-ℤ_, _*ℤ_}
+use mir.Syntax.{w32}
+use mir.Val.{toZ, ofZ, SFits}
+use Rattle.signed.proofs.Laws.{number-of-bits}
+use Rattle.integers.specs.Sum.{when}
+use Rattle.integers.proofs.Omega.{atoms₁, atoms₂, parts, equal, at-most, from-at-most}
+use Rattle.lengths.specs.Filling.{Limited, mostCapacity, mostValue, mostLength}
+
+pub limited-plus : {a b : ℕ} {x y : ℤ} → Limited a x → Limited b y → Limited (a + b) (x +ℤ y)
+limited-plus {a} {b} {x} {y} h g =
+    let t = atoms₂ x y in
+    record {
+      low = at-most (search parts) (omega (arith, from-at-most (h .low) (search parts), from-at-most (g .low) (search parts)));
+      high = at-most (search parts) (omega (arith, from-at-most (h .high) (search parts), from-at-most (g .high) (search parts)));
+    }
+
+pub limited-minus : {a b : ℕ} {x y : ℤ} → Limited a x → Limited b y → Limited (a + b) (x -ℤ y)
+limited-minus {a} {b} {x} {y} h g =
+    let t = atoms₂ x y in
+    record {
+      low = at-most (search parts) (omega (arith, from-at-most (h .low) (search parts), from-at-most (g .high) (search parts)));
+      high = at-most (search parts) (omega (arith, from-at-most (h .high) (search parts), from-at-most (g .low) (search parts)));
+    }
+
+pub limited-more : {a b : ℕ} {x : ℤ} → a ≤ b → Limited a x → Limited b x
+limited-more {a} {b} {x} l h =
+    let t = atoms₁ x in
+    record {
+      low = at-most (search parts) (omega (arith, from-at-most (h .low) (search parts)));
+      high = at-most (search parts) (omega (arith, from-at-most (h .high) (search parts)));
+    }
+
+pub limited-fits : (b : ℕ) (x : ℤ) → b < 2147483648 → Limited b x → SFits w32 x
+limited-fits b (pos n) l h = record { sfits = omega (arith, from-at-most (h .high) (search parts)) }
+limited-fits b (negsuc n) l h = record { sfits = omega (arith, from-at-most (h .low) (search parts)) }
+
+-- a number that fits is read back from its bits
+pub same-bits : {b : ℕ} {x : ℤ} → b < 2147483648 → Limited b x → toZ w32 (ofZ w32 x) ≡ x
+same-bits {b} {x} l h = number-of-bits x (limited-fits b x l h)
+
+-- ── along a dart, against it, or not at all ──
+abbrev pub Unit : ℤ → Type 0
+Unit x = (x ≡ pos 0) ⊎ ((x ≡ pos 1) ⊎ (x ≡ negsuc 0))
+
+pub two-tests : (p q : Bool) → Unit (when p (pos 1) -ℤ when q (pos 1))
+two-tests true true = inl refl
+two-tests true false = inr (inl refl)
+two-tests false true = inr (inr refl)
+two-tests false false = inl refl
+
+pub less-nothing : (c value : ℤ) → c -ℤ value *ℤ pos 0 ≡ c
+less-nothing c value = let t = atoms₂ c value in equal (search parts) (omega arith)
+
+pub limited-unit : {a b : ℕ} {c value : ℤ} (f : ℤ) → Unit f → Limited a c → Limited b value → Limited (a + b) (c -ℤ value *ℤ f)
+limited-unit {a} {b} {c} {value} f u h g = go u
+  where
+    once : c -ℤ value *ℤ pos 1 ≡ c -ℤ value
+    once = let t = atoms₂ c value in equal (search parts) (omega arith)
+
+    back : c -ℤ value *ℤ negsuc 0 ≡ c +ℤ value
+    back = let t = atoms₂ c value in equal (search parts) (omega arith)
+
+    go : Unit f → Limited (a + b) (c -ℤ value *ℤ f)
+    go (inl e) = subst (Limited (a + b)) (sym (ap (λ z. c -ℤ value *ℤ z) e ∙ less-nothing c value)) (limited-more (omega arith) h)
+    go (inr (inl e)) = subst (Limited (a + b)) (sym (ap (λ z. c -ℤ value *ℤ z) e ∙ once)) (limited-minus h g)
+    go (inr (inr e)) = subst (Limited (a + b)) (sym (ap (λ z. c -ℤ value *ℤ z) e ∙ back)) (limited-plus h g)
+
+-- ── one step of the machine, on a capacity and a value ──
+module _ {x y : ℤ} (h : Limited mostCapacity x) (g : Limited mostValue y) where
+  pub minus-read : toZ w32 (ofZ w32 x) -ℤ toZ w32 (ofZ w32 y) ≡ x -ℤ y
+  minus-read = ap₂ (λ a b. a -ℤ b) (same-bits (omega arith) h) (same-bits (omega arith) g)
+
+  pub plus-read : toZ w32 (ofZ w32 x) +ℤ toZ w32 (ofZ w32 y) ≡ x +ℤ y
+  plus-read = ap₂ (λ a b. a +ℤ b) (same-bits (omega arith) h) (same-bits (omega arith) g)
+
+  pub minus-fits : SFits w32 (toZ w32 (ofZ w32 x) -ℤ toZ w32 (ofZ w32 y))
+  minus-fits = subst (SFits w32) (sym minus-read) (limited-fits mostLength (x -ℤ y) (omega arith) (limited-minus h g))
+
+  pub plus-fits : SFits w32 (toZ w32 (ofZ w32 x) +ℤ toZ w32 (ofZ w32 y))
+  plus-fits = subst (SFits w32) (sym plus-read) (limited-fits mostLength (x +ℤ y) (omega arith) (limited-plus h g))
