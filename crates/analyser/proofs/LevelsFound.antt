@@ -93,7 +93,7 @@ module _ (s : List ℕ) (sheet : NoneOf (sheetChecks s)) (held : Network) (h : H
         (map-fillable (h .faces) (plane s sheet .sound) (plane s sheet .connected) (omega (arith, sheet-counts s sheet .2)) (sheet-counts s sheet .3) room limited spread-map)
       where
         limited : (e : ℕ) → e < edgesOf s → Limited mostFlow (atℤ flows e)
-        limited e l = let x = small e (omega (arith, h .edges)) in record { low = x .low; high = x .high }
+        limited e l = small e (omega (arith, h .edges))
 
     pub found : (levels : ℕ → ℤ) → NoneOf (balanceChecks (sheetMap s) NoNode (atℤ flows)) → Filled (2 * held .edges) (at (held .faces)) (order 0) (atℤ flows) levels → Levels (sheetMap s) 0 (atℤ flows) levels
     found levels balanced filled =

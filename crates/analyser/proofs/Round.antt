@@ -8,6 +8,7 @@ use native.Mathlib.Omega.{arith}
 use lib.ListN.{length, getD, drop, List·getD-append}
 use lib.IntN.{ℤ, pos, negsuc, negℤ, _-ℤ_}
 use lib.Signed.{_≤ℤ_, _<ℤ_}
+use Rattle.integers.specs.Limited.{Limited}
 use Rattle.integers.proofs.Omega.{atoms₁, parts, from-less, from-at-most}
 use Rattle.refusals.specs.Order.{Check, _when_, NoneOf, FirstOf}
 use Rattle.refusals.proofs.Order.{none-append, append-none, first-none, neither}
@@ -134,9 +135,9 @@ module _ (s : List ℕ) where
           ∙ onDarts-even (atℤ flows) e
 
       inside : (f : ℕ) → f < F → LevelOutside (atℤ levels' f) → ⊥
-      inside f l = rw (at-face f l) (neither (λ h. let x = atoms₁ (ρ f) in omega (arith, from-less h (search parts), from-at-most (small .0) (search parts))) (λ h. let x = atoms₁ (ρ f) in omega (arith, from-less h (search parts), from-at-most (small .1) (search parts))))
+      inside f l = rw (at-face f l) (neither (λ h. let x = atoms₁ (ρ f) in omega (arith, from-less h (search parts), from-at-most (small .low) (search parts))) (λ h. let x = atoms₁ (ρ f) in omega (arith, from-less h (search parts), from-at-most (small .high) (search parts))))
         where
-          small : (negℤ (pos 511000000) ≤ℤ ρ f) × (ρ f ≤ℤ pos 511000000)
+          small : Limited 511000000 (ρ f)
           small = levels-small (plane s (p .0)) (faces-at-most s (p .0)) 0 (root-in s (p .0)) (capacityOf s) (atℤ flows) ρ (capacity-high s (p .0)) within is f l
 
       whole : NoneOf (settingsChecks s levels' flows₀)

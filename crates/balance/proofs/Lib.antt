@@ -1,6 +1,5 @@
 pub mod Tests
 pub mod Lowest
-pub mod Bounds
 pub mod Nets
 pub mod Within
 pub mod Balance

@@ -12,7 +12,10 @@ use lib.IntN.{ℤ, pos, negℤ, _+ℤ_, _-ℤ_, +ℤ-idr}
 use mir.Syntax.{w32}
 use mir.Val.{SFits}
 use Rattle.integers.specs.Sum.{Integers, sum, when}
+use Rattle.integers.specs.Limited.{Limited}
+use Rattle.integers.proofs.Limits.{limited-plus, limited-minus, limited-neg, limited-when, limited-sum}
 use Rattle.integers.proofs.Tests.{eqb-true, eqb-false}
+use Rattle.signed.proofs.Limits.{limited-fits}
 use Rattle.integers.proofs.Sums.{sum-zero, sum-suc}
 use Rattle.faces.specs.Map.{Map}
 use Rattle.faces.specs.Flow.{net}
@@ -20,9 +23,8 @@ use Rattle.faces.proofs.Darts.{by-edge}
 use Rattle.flows.specs.Settings.{onDarts}
 use Rattle.flows.proofs.OnDarts.{onDarts-even, onDarts-odd}
 use Rattle.rotations.specs.Arrays.{at, mapOf}
-use Rattle.balance.specs.Arrays.{atℤ, Small, SmallFlows}
+use Rattle.balance.specs.Arrays.{atℤ, SmallFlows}
 use Rattle.balance.specs.Nets.{netOf}
-use Rattle.balance.proofs.Bounds.{Bounded, small-neg, small-when, bounded-more, sum-bounded, bounded-fits}
 
 -- the sums that `fill_nets` leaves are the net flows of the map
 pub nets-are-net : (nodes edges : ℕ) (tails rotations : List ℕ) (x : ℕ → ℤ) (v : ℕ)
@@ -73,16 +75,16 @@ module _ (tail : ℕ → ℕ) (x : ℕ → ℤ) where
   net-stepped e v a b ea eb ep eq er = cc (net-more e v)
 
   module _ (edges : ℕ) (small : SmallFlows edges x) where
-    small-dart : (d : ℕ) → d < 2 * edges → Small (onDarts x d)
-    small-dart = by-edge edges (λ d. Small (onDarts x d)) (λ e l. rw onDarts-even (small e l)) (λ e l. rw onDarts-odd (small-neg (small e l)))
+    small-dart : (d : ℕ) → d < 2 * edges → Limited 1000000 (onDarts x d)
+    small-dart = by-edge edges (λ d. Limited 1000000 (onDarts x d)) (λ e l. rw onDarts-even (small e l)) (λ e l. rw onDarts-odd (limited-neg (small e l)))
 
-    net-bounded : (e v : ℕ) → e < edges → Bounded (2 * e) (netOf tail x (2 * e) v)
+    net-limited : (e v : ℕ) → e < edges → Limited (2 * e * 1000000) (netOf tail x (2 * e) v)
     unfolding netOf
-    net-bounded e v l = sum-bounded (2 * e) _ (λ d m. small-when (eqb v (tail d)) (small-dart d (omega arith)))
+    net-limited e v l = limited-sum (2 * e) 1000000 _ (λ d m. limited-when (eqb v (tail d)) (small-dart d (omega arith)))
 
     -- an edge's flow is added, and then taken away: both sums fit
     pub added-fits : (e v : ℕ) → e < edges → edges ≤ 512 → SFits w32 (netOf tail x (2 * e) v +ℤ x e)
-    added-fits e v l m = bounded-fits (bounded-more (net-bounded e v l) (small e l)) (omega arith)
+    added-fits e v l m = limited-fits _ _ (omega arith) (limited-plus (net-limited e v l) (small e l))
 
     pub taken-fits : (e v : ℕ) (b : Bool) → e < edges → edges ≤ 512 → SFits w32 ((netOf tail x (2 * e) v +ℤ when b (x e)) -ℤ x e)
-    taken-fits e v b l m = bounded-fits (bounded-more (bounded-more (net-bounded e v l) (small-when b (small e l))) (small-neg (small e l))) (omega arith)
+    taken-fits e v b l m = limited-fits _ _ (omega arith) (limited-minus (limited-plus (net-limited e v l) (limited-when b (small e l))) (small e l))

@@ -31,20 +31,6 @@ fn narrow(x: usize) -> u16
     x as u16
 }
 
-fn add(a: i32, b: i32) -> i32
-    requires { ⌜ SFits w32 (a +ℤ b) ⌝ }
-    ensures { λ r. ⌜ r ≡ a +ℤ b ⌝ }
-{
-    a + b
-}
-
-fn sub(a: i32, b: i32) -> i32
-    requires { ⌜ SFits w32 (a -ℤ b) ⌝ }
-    ensures { λ r. ⌜ r ≡ a -ℤ b ⌝ }
-{
-    a - b
-}
-
 fn below_zero(x: i64) -> bool
     ensures { λ r. ⌜ Decides (x <ℤ pos 0) r ⌝ }
 {
@@ -91,7 +77,7 @@ fn add_at(nets: &mut [i32; 1024], v: usize, x: i32)
     requires { ⌜ (length (now nets) ≡ 1024) × (v < 1024) × SFits w32 (atℤ (now nets) v +ℤ x) ⌝ }
     ensures { λ _. ⌜ (length (now (nets .exit)) ≡ 1024) × ((u : ℕ) → atℤ (now (nets .exit)) u ≡ atℤ (now (nets .entry)) u +ℤ when (eqb u v) x) ⌝ }
 {
-    nets[v] = add(nets[v], x);
+    nets[v] = signed::plus(nets[v], x);
 }
 
 // Subtracts x at node v.
@@ -99,7 +85,7 @@ fn sub_at(nets: &mut [i32; 1024], v: usize, x: i32)
     requires { ⌜ (length (now nets) ≡ 1024) × (v < 1024) × SFits w32 (atℤ (now nets) v -ℤ x) ⌝ }
     ensures { λ _. ⌜ (length (now (nets .exit)) ≡ 1024) × ((u : ℕ) → atℤ (now (nets .exit)) u ≡ atℤ (now (nets .entry)) u +ℤ when (eqb u v) (negℤ x)) ⌝ }
 {
-    nets[v] = sub(nets[v], x);
+    nets[v] = signed::minus(nets[v], x);
 }
 
 // The net flow out of every node: an edge's flow leaves its tail and comes to its head; an edge from a node to itself cancels.

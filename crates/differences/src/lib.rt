@@ -28,13 +28,6 @@ fn narrow(x: usize) -> u16
     x as u16
 }
 
-fn sub(a: i32, b: i32) -> i32
-    requires { ⌜ SFits w32 (a -ℤ b) ⌝ }
-    ensures { λ r. ⌜ r ≡ a -ℤ b ⌝ }
-{
-    a - b
-}
-
 // Whether a level is not from -600,000,000 to 600,000,000.
 fn level_outside(x: i32) -> bool
     ensures { λ r. ⌜ Decides (LevelOutside x) r ⌝ }
@@ -73,7 +66,7 @@ fn drop_across(levels: &[i32], faces: &[u16; 1024], e: usize) -> i32
 {
     let left = wide(faces[2 * e]);
     let right = wide(faces[2 * e + 1]);
-    sub(levels[left], levels[right])
+    signed::minus(levels[left], levels[right])
 }
 
 // Refusal 17 on the flows that the levels give: "a setting outside its channel's limits", at the lowest such edge.

@@ -12,6 +12,8 @@ use lib.Signed.{_≤ℤ_, _<ℤ_, leZ}
 use Rattle.integers.specs.Sum.{sum, sumℕ, bit, count}
 use Rattle.integers.proofs.Omega.{atoms₁, atoms₂, parts, at-most, less, from-equal, from-at-most, from-less}
 use Rattle.integers.proofs.Laws.{lt-or-ge, lt-le-clash, le-of-test}
+use Rattle.integers.specs.Limited.{Limited}
+use Rattle.integers.proofs.Limits.{limited-more, limited-both}
 use Rattle.integers.proofs.Tests.{of-T, either}
 use Rattle.integers.proofs.Counting.{bit-le, bit-one, sum-le-sum, term-le-sum, sum-full}
 use Rattle.faces.specs.Map.{Map, darts}
@@ -20,7 +22,7 @@ use Rattle.faces.specs.Potential.{difference}
 use Rattle.faces.proofs.Faces.{left-in, right-in, left-rotation, face-dart, same-in-part}
 use Rattle.flows.specs.Settings.{Within}
 use Rattle.flows.specs.Levels.{Levels}
-use Rattle.flows.proofs.Bounded.{Bounded, bounded-more, bounded-both, settings-bounded}
+use Rattle.flows.proofs.Limits.{settings-limited}
 use Rattle.flows.proofs.Plane.{Plane, one-part}
 
 -- what is one on both sides of every dart is one for all faces
@@ -46,7 +48,7 @@ sum-squeezed (suc n) f g h s i l = go (ℕ-discrete i n) (sum-squeezed n f g (λ
     go (no c) r = r (omega (arith, h n (omega arith))) i (omega arith)
 
 module _ {𝓜 : Map} (p : Plane 𝓜) (root : ℕ) (root-in : root < faces 𝓜) (M : ℕ) (ρ : ℕ → ℤ) (rooted : ρ root ≡ pos 0)
-    (near : (d : ℕ) → d < darts 𝓜 → Bounded M (difference 𝓜 ρ d)) where
+    (near : (d : ℕ) → d < darts 𝓜 → Limited M (difference 𝓜 ρ d)) where
   -- the potential of g is at most k times M
   abbrev under : ℕ → ℕ → Bool
   under k g = leZ (ρ g) (pos (k * M))
@@ -84,13 +86,13 @@ module _ {𝓜 : Map} (p : Plane 𝓜) (root : ℕ) (root-in : root < faces 𝓜
         kept : (d : ℕ) → d < darts 𝓜 → under k (right 𝓜 d) ≡ under k (left 𝓜 d)
         kept d m =
             same (under k (right 𝓜 d)) (under k (left 𝓜 d))
-            (across (right 𝓜 d) (left 𝓜 d) (left-in (p .sound) d m) (near d m .1))
+            (across (right 𝓜 d) (left 𝓜 d) (left-in (p .sound) d m) (near d m .high))
             (across (left 𝓜 d) (right 𝓜 d) (right-in (p .sound) d m) back)
           where
             back : (ρ (right 𝓜 d) -ℤ ρ (left 𝓜 d)) ≤ℤ pos M
             back =
                 let a = atoms₂ (ρ (left 𝓜 d)) (ρ (right 𝓜 d)) in
-                at-most (search parts) (omega (arith, from-at-most (near d m .0) (search parts)))
+                at-most (search parts) (omega (arith, from-at-most (near d m .low) (search parts)))
 
   -- so, while some face is above, more than k faces are under k times M
   climb : (f : ℕ) → f < faces 𝓜 → (k : ℕ) → pos (k * M) <ℤ ρ f → k < count (faces 𝓜) (under k)
@@ -130,17 +132,20 @@ module _ {𝓜 : Map} (p : Plane 𝓜) (root : ℕ) (root-in : root < faces 𝓜
       go (inr h) = h
 
 -- the potentials below the root are those of −ρ above it
-pub levels-bounded : {𝓜 : Map} → Plane 𝓜 → (root : ℕ) → root < faces 𝓜 → (M : ℕ) (ρ : ℕ → ℤ) → ρ root ≡ pos 0
-    → ((d : ℕ) → d < darts 𝓜 → Bounded M (difference 𝓜 ρ d)) → (f : ℕ) → f < faces 𝓜 → Bounded ((faces 𝓜 - 1) * M) (ρ f)
-levels-bounded {𝓜} p root root-in M ρ rooted near f l =
-    bounded-both ((faces 𝓜 - 1) * M) (ρ f)
+pub levels-limited : {𝓜 : Map} → Plane 𝓜 → (root : ℕ) → root < faces 𝓜 → (M : ℕ) (ρ : ℕ → ℤ) → ρ root ≡ pos 0
+    → ((d : ℕ) → d < darts 𝓜 → Limited M (difference 𝓜 ρ d)) → (f : ℕ) → f < faces 𝓜 → Limited ((faces 𝓜 - 1) * M) (ρ f)
+levels-limited {𝓜} p root root-in M ρ rooted near f l =
+    limited-both
     (level-above p root root-in M ρ rooted near f l)
     (level-above p root root-in M (λ g. negℤ (ρ g)) (ap negℤ rooted) turned f l)
   where
-    turned : (d : ℕ) → d < darts 𝓜 → Bounded M (negℤ (ρ (left 𝓜 d)) -ℤ negℤ (ρ (right 𝓜 d)))
+    turned : (d : ℕ) → d < darts 𝓜 → Limited M (negℤ (ρ (left 𝓜 d)) -ℤ negℤ (ρ (right 𝓜 d)))
     turned d m =
         let a = atoms₂ (ρ (left 𝓜 d)) (ρ (right 𝓜 d)) in
-        (at-most (search parts) (omega (arith, from-at-most (near d m .1) (search parts))), at-most (search parts) (omega (arith, from-at-most (near d m .0) (search parts))))
+        record {
+          low = at-most (search parts) (omega (arith, from-at-most (near d m .high) (search parts)));
+          high = at-most (search parts) (omega (arith, from-at-most (near d m .low) (search parts)));
+        }
 
 -- ── in a sheet ──
 -- Euler: nodes + faces = edges + 2
@@ -148,10 +153,10 @@ pub faces-few : {𝓜 : Map} → Plane 𝓜 → 𝓜 .edges ≤ 512 → 2 ≤ �
 faces-few p few two = omega (arith, p .flat)
 
 pub levels-small : {𝓜 : Map} → Plane 𝓜 → faces 𝓜 ≤ 512 → (root : ℕ) → root < faces 𝓜 → (c x ρ : ℕ → ℤ) → ((d : ℕ) → d < darts 𝓜 → c d ≤ℤ pos 1000000) → Within 𝓜 c x
-    → Levels 𝓜 root x ρ → (f : ℕ) → f < faces 𝓜 → Bounded 511000000 (ρ f)
+    → Levels 𝓜 root x ρ → (f : ℕ) → f < faces 𝓜 → Limited 511000000 (ρ f)
 levels-small {𝓜} p few root root-in c x ρ low within levels f l =
-    bounded-more ((faces 𝓜 - 1) * 1000000) 511000000 (ρ f) (omega arith)
-    (levels-bounded p root root-in 1000000 ρ (levels .rooted) near f l)
+    limited-more (omega arith)
+    (levels-limited p root root-in 1000000 ρ (levels .rooted) near f l)
   where
-    near : (d : ℕ) → d < darts 𝓜 → Bounded 1000000 (difference 𝓜 ρ d)
-    near d m = rw (levels .differences d m) at (settings-bounded 𝓜 1000000 c x low within d m)
+    near : (d : ℕ) → d < darts 𝓜 → Limited 1000000 (difference 𝓜 ρ d)
+    near d m = rw (levels .differences d m) at (settings-limited 𝓜 1000000 c x low within d m)

@@ -5,7 +5,7 @@ pub mod Plane
 pub mod Lengths
 pub mod HighestFlow
 pub mod Exact
-pub mod Bounded
+pub mod Limits
 pub mod LevelBound
 pub mod ValueBound
 pub mod Interval

@@ -15,7 +15,8 @@ use Rattle.faces.specs.Dart.{rev}
 use Rattle.traversal.specs.Spread.{Follows}
 use Rattle.traversal.proofs.Reach.{full-meets}
 use Rattle.heights.specs.Filling.{at, atℤ, Limited, mostWinding, mostHeight, Fillable, HeightsOf, Filled}
-use Rattle.heights.proofs.Limits.{limited-minus, limited-more, limited-zero, limited-fits, same-bits}
+use Rattle.integers.proofs.Limits.{limited-minus, limited-more, limited-zero}
+use Rattle.signed.proofs.Limits.{limited-fits, same-bits}
 
 pub record Filling (darts : ℕ) (tail order : ℕ → ℕ) (winding height : ℕ → ℤ) (i : ℕ) : Type 0 where
   pub begun : 0 < i

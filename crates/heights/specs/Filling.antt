@@ -2,15 +2,10 @@
 use mathlib.Core.Path.{_≡_}
 use Prim.Native.Nat.{ℕ, _≤_, _<_}
 use lib.IntN.{ℤ, pos, negℤ, _-ℤ_}
-use lib.Signed.{_≤ℤ_}
+pub use Rattle.integers.specs.Limited.{Limited}
 use Rattle.faces.specs.Dart.{rev}
 pub use Rattle.traversal.specs.Arrays.{at, atℤ}
 use Rattle.traversal.specs.Spread.{Spread}
-
--- x lies between - bound and bound
-pub record Limited (bound : ℕ) (x : ℤ) : Type 0 where
-  pub low : negℤ (pos bound) ≤ℤ x
-  pub high : x ≤ℤ pos bound
 
 -- with differences of at most 1,024, no height along 1,024 darts is more than their product
 abbrev pub mostWinding : ℕ

@@ -7,13 +7,6 @@ ghost use mir.Syntax.{w32};
 ghost use mir.Val.{SFits};
 ghost use Rattle.heights.specs.Filling.{at, atℤ, Fillable, Filled};
 
-fn minus(a: i32, b: i32) -> i32
-    requires { ⌜ SFits w32 (a -ℤ b) ⌝ }
-    ensures { λ r. ⌜ r ≡ a -ℤ b ⌝ }
-{
-    a - b
-}
-
 // The node of the first dart in the order is at 0; the node at the end of a dart is lower by the dart's winding.
 pub fn fill_heights(
     tails: &[u16; 1024],
@@ -38,7 +31,7 @@ pub fn fill_heights(
         if d == back {
             let known = traversal::wide(tails[p]);
             let next = traversal::wide(tails[d]);
-            heights[next] = minus(heights[known], winding[p]);
+            heights[next] = signed::minus(heights[known], winding[p]);
         }
     }
 }

@@ -6,3 +6,4 @@ pub mod IntegerSums
 pub mod Counting
 pub mod Pigeonhole
 pub mod Injections
+pub mod Limits

@@ -19,7 +19,8 @@ use Rattle.faces.proofs.Darts.{rev-rev}
 use Rattle.flows.proofs.UnitFlow.{single, walkFlow}
 use Rattle.traversal.specs.Spread.{Met, Follows}
 use Rattle.lengths.specs.Filling.{Limited, mostCapacity, mostValue, mostLength, Reached, Fillable, Filled}
-use Rattle.lengths.proofs.Limits.{same-bits, Unit, two-tests, less-nothing, limited-unit}
+use Rattle.signed.proofs.Limits.{same-bits}
+use Rattle.lengths.proofs.Limits.{Unit, two-tests, less-nothing, limited-unit}
 use Rattle.lengths.proofs.Place.{spot, met-before, met-in}
 
 -- a walk between two nodes that carries this flow

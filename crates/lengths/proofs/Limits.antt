@@ -1,4 +1,4 @@
--- Sizes of signed numbers: sums and differences, what fits 32 bits, and a value along a dart once at most.
+-- A capacity less a value along a dart once at most: how great it is, and that its machine step fits.
 use mathlib.Core.Path.{_≡_, refl, sym, _∙_, ap, ap₂, subst}
 use mathlib.Core.Logic.{_⊎_, inl, inr}
 use mathlib.Core.Bool.{Bool, true, false}
@@ -7,42 +7,11 @@ use native.Mathlib.Omega.{arith}
 use lib.IntN.{ℤ, pos, negsuc, negℤ, _+ℤ_, _-ℤ_, _*ℤ_}
 use mir.Syntax.{w32}
 use mir.Val.{toZ, ofZ, SFits}
-use Rattle.signed.proofs.Laws.{number-of-bits}
+use Rattle.integers.proofs.Limits.{limited-plus, limited-minus, limited-more}
+use Rattle.signed.proofs.Limits.{limited-fits, same-bits}
 use Rattle.integers.specs.Sum.{when}
-use Rattle.integers.proofs.Omega.{atoms₁, atoms₂, parts, equal, at-most, from-at-most}
+use Rattle.integers.proofs.Omega.{atoms₂, parts, equal}
 use Rattle.lengths.specs.Filling.{Limited, mostCapacity, mostValue, mostLength}
-
-pub limited-plus : {a b : ℕ} {x y : ℤ} → Limited a x → Limited b y → Limited (a + b) (x +ℤ y)
-limited-plus {a} {b} {x} {y} h g =
-    let t = atoms₂ x y in
-    record {
-      low = at-most (search parts) (omega (arith, from-at-most (h .low) (search parts), from-at-most (g .low) (search parts)));
-      high = at-most (search parts) (omega (arith, from-at-most (h .high) (search parts), from-at-most (g .high) (search parts)));
-    }
-
-pub limited-minus : {a b : ℕ} {x y : ℤ} → Limited a x → Limited b y → Limited (a + b) (x -ℤ y)
-limited-minus {a} {b} {x} {y} h g =
-    let t = atoms₂ x y in
-    record {
-      low = at-most (search parts) (omega (arith, from-at-most (h .low) (search parts), from-at-most (g .high) (search parts)));
-      high = at-most (search parts) (omega (arith, from-at-most (h .high) (search parts), from-at-most (g .low) (search parts)));
-    }
-
-pub limited-more : {a b : ℕ} {x : ℤ} → a ≤ b → Limited a x → Limited b x
-limited-more {a} {b} {x} l h =
-    let t = atoms₁ x in
-    record {
-      low = at-most (search parts) (omega (arith, from-at-most (h .low) (search parts)));
-      high = at-most (search parts) (omega (arith, from-at-most (h .high) (search parts)));
-    }
-
-pub limited-fits : (b : ℕ) (x : ℤ) → b < 2147483648 → Limited b x → SFits w32 x
-limited-fits b (pos n) l h = record { sfits = omega (arith, from-at-most (h .high) (search parts)) }
-limited-fits b (negsuc n) l h = record { sfits = omega (arith, from-at-most (h .low) (search parts)) }
-
--- a number that fits is read back from its bits
-pub same-bits : {b : ℕ} {x : ℤ} → b < 2147483648 → Limited b x → toZ w32 (ofZ w32 x) ≡ x
-same-bits {b} {x} l h = number-of-bits x (limited-fits b x l h)
 
 -- ── along a dart, against it, or not at all ──
 abbrev pub Unit : ℤ → Type 0

@@ -2,18 +2,13 @@
 use mathlib.Core.Path.{_≡_}
 use Prim.Native.Nat.{ℕ, _≤_, _<_}
 use lib.IntN.{ℤ, pos, negℤ}
-use lib.Signed.{_≤ℤ_}
+pub use Rattle.integers.specs.Limited.{Limited}
 use Rattle.faces.specs.Map.{Map, darts}
 use Rattle.faces.specs.Walk.{Walk}
 use Rattle.flows.proofs.UnitFlow.{walkFlow}
 use Rattle.flows.proofs.Lengths.{lengthFor}
 pub use Rattle.traversal.specs.Arrays.{at, atℤ}
 use Rattle.traversal.specs.Spread.{Met, Spread}
-
--- x lies between - bound and bound
-pub record Limited (bound : ℕ) (x : ℤ) : Type 0 where
-  pub low : negℤ (pos bound) ≤ℤ x
-  pub high : x ≤ℤ pos bound
 
 -- with capacities and values of these sizes, no length is too large for 32 bits: the path uses an edge once at most
 abbrev pub mostCapacity : ℕ

@@ -11,20 +11,6 @@ ghost use mir.Val.{SFits};
 ghost use Rattle.integers.specs.Sum.{when};
 ghost use Rattle.lengths.specs.Filling.{at, atℤ, Limited, mostCapacity, mostValue, Fillable, Filled};
 
-fn plus(a: i32, b: i32) -> i32
-    requires { ⌜ SFits w32 (a +ℤ b) ⌝ }
-    ensures { λ r. ⌜ r ≡ a +ℤ b ⌝ }
-{
-    a + b
-}
-
-fn minus(a: i32, b: i32) -> i32
-    requires { ⌜ SFits w32 (a -ℤ b) ⌝ }
-    ensures { λ r. ⌜ r ≡ a -ℤ b ⌝ }
-{
-    a - b
-}
-
 fn copy_capacities(capacities: &[i32; 1024], darts: usize, lengths: &mut [i32; 1024])
     requires { ⌜ (length (now lengths) ≡ 1024) × (darts ≤ 1024) ⌝ }
     ensures { λ _. ⌜ (length (now (lengths .exit)) ≡ 1024) × ((d : ℕ) → d < darts → atℤ (now (lengths .exit)) d ≡ atℤ (now (capacities .entry)) d) ⌝ }
@@ -41,8 +27,8 @@ fn carry(lengths: &mut [i32; 1024], p: usize, x: usize, value: i32)
     requires { ⌜ (length (now lengths) ≡ 1024) × (p < 1024) × (x < 1024) × (x ≢ p) × Limited mostCapacity (atℤ (now lengths) p) × Limited mostCapacity (atℤ (now lengths) x) × Limited mostValue value ⌝ }
     ensures { λ _. ⌜ (length (now (lengths .exit)) ≡ 1024) × ((d : ℕ) → atℤ (now (lengths .exit)) d ≡ atℤ (now (lengths .entry)) d -ℤ value *ℤ (when (eqb d p) (pos 1) -ℤ when (eqb d x) (pos 1))) ⌝ }
 {
-    lengths[p] = minus(lengths[p], value);
-    lengths[x] = plus(lengths[x], value);
+    lengths[p] = signed::minus(lengths[p], value);
+    lengths[x] = signed::plus(lengths[x], value);
 }
 
 // `order` is named by the contract only: a dart's place in it falls with every step back, so the path ends.

@@ -14,7 +14,8 @@ use Rattle.integers.proofs.Laws.{sub-sub}
 use Rattle.faces.specs.Dart.{rev}
 use Rattle.flows.specs.Settings.{onDarts}
 use Rattle.leveling.specs.Filling.{atℤ, Limited, mostFlow, Crossing, Fillable, PotentialsFrom, Filled}
-use Rattle.leveling.proofs.Limits.{limited-minus, limited-more, limited-zero, limited-fits, same-bits}
+use Rattle.integers.proofs.Limits.{limited-minus, limited-more, limited-zero}
+use Rattle.signed.proofs.Limits.{limited-fits, same-bits}
 
 pub record Filling (darts : ℕ) (left order : ℕ → ℕ) (x level : ℕ → ℤ) (i : ℕ) : Type 0 where
   pub begun : 0 < i

@@ -1,3 +1,3 @@
-pub mod Limits
+pub mod DartFlow
 pub mod Filling
 pub mod Found

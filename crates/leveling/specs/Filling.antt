@@ -4,16 +4,11 @@ use mathlib.Core.List.{List}
 use Prim.Native.Nat.{ℕ, _*_, _≤_, _<_}
 use lib.ListN.{length}
 use lib.IntN.{ℤ, pos, negℤ, _-ℤ_}
-use lib.Signed.{_≤ℤ_}
+pub use Rattle.integers.specs.Limited.{Limited}
 use Rattle.faces.specs.Dart.{rev}
 use Rattle.flows.specs.Settings.{onDarts}
 pub use Rattle.traversal.specs.Arrays.{atℤ}
 use Rattle.traversal.specs.Spread.{Met}
-
--- x lies between - bound and bound
-pub record Limited (bound : ℕ) (x : ℤ) : Type 0 where
-  pub low : negℤ (pos bound) ≤ℤ x
-  pub high : x ≤ℤ pos bound
 
 -- with flows of at most a million, levels of 1,024 darts fit 32 bits
 abbrev pub mostFlow : ℕ

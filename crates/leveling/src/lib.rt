@@ -10,13 +10,6 @@ ghost use Rattle.flows.specs.Settings.{onDarts};
 ghost use Rattle.traversal.specs.Arrays.{at};
 ghost use Rattle.leveling.specs.Filling.{atℤ, Limited, mostFlow, Fillable, Filled};
 
-fn minus(a: i32, b: i32) -> i32
-    requires { ⌜ SFits w32 (a -ℤ b) ⌝ }
-    ensures { λ r. ⌜ r ≡ a -ℤ b ⌝ }
-{
-    signed::narrow(signed::sub32(a, b))
-}
-
 // The flow of a dart: that of its edge, or its negative for the dart that goes back.
 fn dart_flow(flows: &[i32], d: usize) -> i32
     requires { ⌜ (d / 2 < length (now flows)) × Limited mostFlow (atℤ (now flows) (d / 2)) ⌝ }
@@ -25,7 +18,7 @@ fn dart_flow(flows: &[i32], d: usize) -> i32
     if d % 2 == 0 {
         return flows[d / 2];
     }
-    minus(0, flows[d / 2])
+    signed::minus(0, flows[d / 2])
 }
 
 // The level of each face that a dart below `darts` has at its left. The face of the first dart in the order is at 0; the level across a dart is less by its flow.
@@ -50,7 +43,7 @@ pub fn fill_levels(
         let known = traversal::wide(faces[p]);
         let across = traversal::wide(faces[d]);
         let flow = dart_flow(flows, p);
-        levels[across] = minus(levels[known], flow);
+        levels[across] = signed::minus(levels[known], flow);
         i += 1;
     }
 }

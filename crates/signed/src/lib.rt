@@ -1,4 +1,5 @@
-// Signed machine arithmetic, one step to a function, with contracts in ℤ: sums and differences of two i32 are exact in i64, and an i32 is made of its bits.
+// Signed machine arithmetic, one step to a function, with contracts in ℤ: sums and differences of two i32, at 32 bits where they fit and exact at 64, and an i32
+// made of its bits.
 ghost use mathlib.Core.Path.{_≡_};
 ghost use lib.IntN.{_+ℤ_, _-ℤ_};
 ghost use mir.Syntax.{w32};
@@ -17,6 +18,22 @@ pub fn narrow(x: i64) -> i32
     ensures { λ r. ⌜ r ≡ x ⌝ }
 {
     x as i32
+}
+
+// A sum at 32 bits, where it fits them.
+pub fn plus(a: i32, b: i32) -> i32
+    requires { ⌜ SFits w32 (a +ℤ b) ⌝ }
+    ensures { λ r. ⌜ r ≡ a +ℤ b ⌝ }
+{
+    a + b
+}
+
+// A difference at 32 bits, where it fits them.
+pub fn minus(a: i32, b: i32) -> i32
+    requires { ⌜ SFits w32 (a -ℤ b) ⌝ }
+    ensures { λ r. ⌜ r ≡ a -ℤ b ⌝ }
+{
+    a - b
 }
 
 // The sum, at 64 bits: it never wraps.

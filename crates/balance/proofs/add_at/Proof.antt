@@ -12,14 +12,14 @@ use Rattle.balance.proofs.Nets.{set-added}
 use Rattle.balance.proofs.add_at.Statement.{statement}
 use Rattle.balance.proofs.add_at.Tie as tie
 
-mul-add : tie.Need-mul-add
-mul-add c = search needs
+mul-plus : tie.Need-mul-plus
+mul-plus c = search needs
 
-element-copy-out-add : tie.Need-element-copy-out-add
-element-copy-out-add c = search needs
+element-copy-out-plus : tie.Need-element-copy-out-plus
+element-copy-out-plus c = search needs
 
-add-requires : tie.Need-add-requires
-add-requires c κs = search needs
+plus-requires : tie.Need-plus-requires
+plus-requires c κs = search needs
 
 mul-t9 : tie.Need-mul-t9
 mul-t9 c = search needs
@@ -32,12 +32,12 @@ returns c =
     let l = c .before .before .args .nets .now in
     let v = c .before .before .args .v in
     let x = c .before .before .args .x in
-    let r : toZ w32 (ofZ w32 (c .add .result)) ≡ atℤ l v +ℤ x =
-    number-of-bits _ (record { sfits = c .add .ok }) ∙ c .add .ensures
-    ∙ ap₂ _+ℤ_ (number-of-bits (atℤ l v) (record { sfits = c .before .add-arg .given })) (number-of-bits x (c .before .before .fits .x)) in
+    let r : toZ w32 (ofZ w32 (c .plus .result)) ≡ atℤ l v +ℤ x =
+    number-of-bits _ (record { sfits = c .plus .ok }) ∙ c .plus .ensures
+    ∙ ap₂ _+ℤ_ (number-of-bits (atℤ l v) (record { sfits = c .before .plus-arg .given })) (number-of-bits x (c .before .before .fits .x)) in
     (simp length-set (c .before .before .pre .0), set-added l v x _ (omega (arith, c .before .before .pre .0)) r)
 
 pub add-at-spec : {M : Type 1} → statement M
 add-at-spec =
     tie.close
-    (tie.spec mul-add element-copy-out-add add-requires mul-t9 element-set-from-nets returns)
+    (tie.spec mul-plus element-copy-out-plus plus-requires mul-t9 element-set-from-nets returns)

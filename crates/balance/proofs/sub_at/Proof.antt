@@ -12,14 +12,14 @@ use Rattle.balance.proofs.Nets.{set-added}
 use Rattle.balance.proofs.sub_at.Statement.{statement}
 use Rattle.balance.proofs.sub_at.Tie as tie
 
-mul-sub : tie.Need-mul-sub
-mul-sub c = search needs
+mul-minus : tie.Need-mul-minus
+mul-minus c = search needs
 
-element-copy-out-sub : tie.Need-element-copy-out-sub
-element-copy-out-sub c = search needs
+element-copy-out-minus : tie.Need-element-copy-out-minus
+element-copy-out-minus c = search needs
 
-sub-requires : tie.Need-sub-requires
-sub-requires c κs = search needs
+minus-requires : tie.Need-minus-requires
+minus-requires c κs = search needs
 
 mul-t9 : tie.Need-mul-t9
 mul-t9 c = search needs
@@ -32,12 +32,12 @@ returns c =
     let l = c .before .before .args .nets .now in
     let v = c .before .before .args .v in
     let x = c .before .before .args .x in
-    let r : toZ w32 (ofZ w32 (c .sub .result)) ≡ atℤ l v -ℤ x =
-    number-of-bits _ (record { sfits = c .sub .ok }) ∙ c .sub .ensures
-    ∙ ap₂ _-ℤ_ (number-of-bits (atℤ l v) (record { sfits = c .before .sub-arg .given })) (number-of-bits x (c .before .before .fits .x)) in
+    let r : toZ w32 (ofZ w32 (c .minus .result)) ≡ atℤ l v -ℤ x =
+    number-of-bits _ (record { sfits = c .minus .ok }) ∙ c .minus .ensures
+    ∙ ap₂ _-ℤ_ (number-of-bits (atℤ l v) (record { sfits = c .before .minus-arg .given })) (number-of-bits x (c .before .before .fits .x)) in
     (simp length-set (c .before .before .pre .0), set-added l v (negℤ x) _ (omega (arith, c .before .before .pre .0)) r)
 
 pub sub-at-spec : {M : Type 1} → statement M
 sub-at-spec =
     tie.close
-    (tie.spec mul-sub element-copy-out-sub sub-requires mul-t9 element-set-from-nets returns)
+    (tie.spec mul-minus element-copy-out-minus minus-requires mul-t9 element-set-from-nets returns)

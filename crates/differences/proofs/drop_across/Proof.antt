@@ -37,25 +37,25 @@ element-copy-out-wide-2 c = search needs
 wide-requires-2 : tie.Need-wide-requires-2
 wide-requires-2 c κs = search needs
 
-mul-sub : tie.Need-mul-sub
-mul-sub c = search needs
+mul-minus : tie.Need-mul-minus
+mul-minus c = search needs
 
-shared-slice-copy-out-sub : tie.Need-shared-slice-copy-out-sub
-shared-slice-copy-out-sub c = search needs
+shared-slice-copy-out-minus : tie.Need-shared-slice-copy-out-minus
+shared-slice-copy-out-minus c = search needs
 
-mul-sub-2 : tie.Need-mul-sub-2
-mul-sub-2 c = search needs
+mul-minus-2 : tie.Need-mul-minus-2
+mul-minus-2 c = search needs
 
-shared-slice-copy-out-sub-2 : tie.Need-shared-slice-copy-out-sub-2
-shared-slice-copy-out-sub-2 c = search needs
+shared-slice-copy-out-minus-2 : tie.Need-shared-slice-copy-out-minus-2
+shared-slice-copy-out-minus-2 c = search needs
 
-sub-requires : tie.Need-sub-requires
-sub-requires c κs =
+minus-requires : tie.Need-minus-requires
+minus-requires c κs =
     let s = c .before .before .before .before .before .before in
     let ρ = atℤ (s .args .levels .now) in
     rw (
-      number-of-bits (ρ (c .before .before .before .before .wide .result)) (record { sfits = c .before .sub-arg .given }),
-      number-of-bits (ρ (c .before .before .wide2 .result)) (record { sfits = c .sub-arg2 .given }),
+      number-of-bits (ρ (c .before .before .before .before .wide .result)) (record { sfits = c .before .minus-arg .given }),
+      number-of-bits (ρ (c .before .before .wide2 .result)) (record { sfits = c .minus-arg2 .given }),
       c .before .before .before .before .wide .ensures,
       c .before .before .wide2 .ensures,
     ) (difference-fits _ _ (s .pre .1 .inside) (s .pre .2 .inside))
@@ -65,11 +65,11 @@ returns c =
     let s = c .before .before .before .before .before .before .before in
     let ρ = atℤ (s .args .levels .now) in
     let faces = at (s .args .faces .now) in
-    number-of-bits _ (record { sfits = c .sub .ok })
-    ∙ c .sub .ensures
+    number-of-bits _ (record { sfits = c .minus .ok })
+    ∙ c .minus .ensures
     ∙ ap₂ _-ℤ_
-    (number-of-bits _ (record { sfits = c .before .before .sub-arg .given }) ∙ ap ρ (c .before .before .before .before .before .wide .ensures))
-    (number-of-bits _ (record { sfits = c .before .sub-arg2 .given }) ∙ ap ρ (c .before .before .before .wide2 .ensures ∙ ap faces (sym (rev-even (s .args .e)))))
+    (number-of-bits _ (record { sfits = c .before .before .minus-arg .given }) ∙ ap ρ (c .before .before .before .before .before .wide .ensures))
+    (number-of-bits _ (record { sfits = c .before .minus-arg2 .given }) ∙ ap ρ (c .before .before .before .wide2 .ensures ∙ ap faces (sym (rev-even (s .args .e)))))
 
 pub drop-across-spec : {M : Type 1} → statement M
 drop-across-spec =
@@ -84,9 +84,9 @@ drop-across-spec =
     mul-wide-4
     element-copy-out-wide-2
     wide-requires-2
-    mul-sub
-    shared-slice-copy-out-sub
-    mul-sub-2
-    shared-slice-copy-out-sub-2
-    sub-requires
+    mul-minus
+    shared-slice-copy-out-minus
+    mul-minus-2
+    shared-slice-copy-out-minus-2
+    minus-requires
     returns)

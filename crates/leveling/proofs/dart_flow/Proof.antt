@@ -6,7 +6,9 @@ use borrow.Author.Needs.{needs}
 use mir.Syntax.{w32}
 use mir.Val.{toZ, ofZ, SFits}
 use Rattle.leveling.specs.Filling.{Limited, atℤ, mostFlow}
-use Rattle.leveling.proofs.Limits.{limited-fits, same-bits, limited-neg, zero-minus, flow-forth, flow-back}
+use Rattle.integers.proofs.Limits.{limited-neg}
+use Rattle.signed.proofs.Limits.{limited-fits, same-bits}
+use Rattle.leveling.proofs.DartFlow.{zero-minus, flow-forth, flow-back}
 use Rattle.leveling.proofs.dart_flow.Statement.{statement}
 use Rattle.leveling.proofs.dart_flow.Tie as tie
 
