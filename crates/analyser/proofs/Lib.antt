@@ -5,3 +5,4 @@ pub mod Settling
 pub mod SheetPlane
 pub mod LevelsFound
 pub mod Round
+pub mod Solving

@@ -2,3 +2,4 @@ pub mod Question
 pub mod Mark
 pub mod LevelsOf
 pub mod SettingsOf
+pub mod Solve

@@ -1,7 +1,9 @@
-// The analyser's operations on sheets. Document 01, "Operations": Mark, Levels from settings, Settings from levels.
+// The analyser's operations on sheets. Document 01, "Operations": Solve, Mark, Levels from settings, Settings from levels.
 ghost use mathlib.Core.Path.{_≡_};
-ghost use Rattle.refusals.specs.Order.{Judged};
-ghost use Rattle.analyser.specs.Question.{endChecks};
+ghost use Prim.Native.Nat.{_<_, _≤_};
+ghost use Rattle.refusals.specs.Order.{Decides, Judged};
+ghost use Rattle.analyser.specs.Question.{endChecks, ValueOutside, roomChecks};
+ghost use Rattle.analyser.specs.Solve.{Solves};
 ghost use Rattle.analyser.specs.Mark.{Marks};
 ghost use Rattle.analyser.specs.LevelsOf.{GivesLevels};
 ghost use Rattle.analyser.specs.SettingsOf.{GivesSettings};
@@ -11,6 +13,13 @@ fn wide(x: u16) -> usize
     ensures { λ r. ⌜ r ≡ x ⌝ }
 {
     x as usize
+}
+
+fn narrow(x: usize) -> u16
+    requires { ⌜ x < 65536 ⌝ }
+    ensures { λ r. ⌜ r ≡ x ⌝ }
+{
+    x as u16
 }
 
 // Checks 13 and 14: source and sink are nodes, and two.
@@ -27,6 +36,93 @@ fn check_ends(nodes: usize, source: usize, sink: usize) -> Verdict
         return Verdict::Refused(14, 0);
     }
     Verdict::Passed
+}
+
+// Whether a value is not from -600,000,000 to 600,000,000.
+fn value_outside(value: i32) -> bool
+    ensures { λ r. ⌜ Decides (ValueOutside value) r ⌝ }
+{
+    if value < -600000000 {
+        return true;
+    }
+    if value > 600000000 {
+        return true;
+    }
+    false
+}
+
+// Check 16 of a question: room for the flows of the edges, and for the words of a set of nodes.
+fn check_room(nodes: usize, edges: usize, flows: usize, set: usize) -> Verdict
+    requires { ⌜ nodes ≤ 1024 ⌝ }
+    ensures { λ r. ⌜ Judged (roomChecks nodes edges flows set) r ⌝ }
+{
+    if flows < edges {
+        return Verdict::Refused(16, 0);
+    }
+    if set < node_sets::words_for(nodes) {
+        return Verdict::Refused(16, 0);
+    }
+    Verdict::Passed
+}
+
+// What Solve answers: it can, and the flows are written; it cannot, and a proving set of this size is written; or the number of a refusal and its place.
+pub enum SolveAnswer {
+    Can,
+    Cannot(u16),
+    Refused(u8, u16),
+}
+
+// Solve: the highest flow of a value from source to sink, or a set of nodes that proves that there is none. The flows are written if it can, the set if it cannot.
+pub fn solve(
+    sheet: &[u8],
+    source: u16,
+    sink: u16,
+    value: i32,
+    flows: &mut [i32],
+    set: &mut [u64],
+) -> SolveAnswer
+    ensures { λ r. ⌜ Solves (now (sheet .entry)) source sink value (now (flows .entry)) (now (flows .exit)) (now (set .entry)) (now (set .exit)) r ⌝ }
+{
+    let opened = sheets::open(sheet);
+    let verdict = opened.verdict;
+    if let Verdict::Refused(k, p) = verdict {
+        return SolveAnswer::Refused(k, p);
+    }
+    let network = opened.network;
+    let nodes = network.nodes;
+    let edges = network.edges;
+    let s = wide(source);
+    let t = wide(sink);
+    let ends = check_ends(nodes, s, t);
+    if let Verdict::Refused(k, p) = ends {
+        return SolveAnswer::Refused(k, p);
+    }
+    if value_outside(value) {
+        return SolveAnswer::Refused(15, 0);
+    }
+    let room = check_room(nodes, edges, flows.len(), set.len());
+    if let Verdict::Refused(k, p) = room {
+        return SolveAnswer::Refused(k, p);
+    }
+    let mut inside = [0u8; 1024];
+    if solver::decide(
+        &network.tails,
+        &network.rotations,
+        &network.faces,
+        &network.capacities,
+        nodes,
+        edges,
+        0,
+        s,
+        t,
+        value,
+        flows,
+        &mut inside,
+    ) {
+        return SolveAnswer::Can;
+    }
+    node_sets::write_set(&inside, nodes, set);
+    SolveAnswer::Cannot(narrow(node_sets::count_set(&*set, nodes)))
 }
 
 // What Mark answers: the value, or the number of a refusal and its place.

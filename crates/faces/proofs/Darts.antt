@@ -1,9 +1,10 @@
 -- Laws of the reverse of a dart, and proofs edge by edge.
 use mathlib.Core.Path.{_≡_, refl, sym, _∙_, ap, ap₂}
-use mathlib.Core.Logic.{_⊎_, inl, inr}
+use mathlib.Core.Logic.{_⊎_, _≢_, inl, inr}
 use mathlib.Core.Bool.{cond}
 use Prim.Native.Nat.{ℕ, zero, suc, _+_, _*_, _-_, _/_, _%_, _≤_, _<_}
 use native.Mathlib.Omega.{arith}
+use native.Mathlib.Decide.{ℕ-discrete}
 use lib.Dec.{eqb}
 use lib.Bits.{bitXor, xor-step, xor-zero-r, differ}
 use Rattle.integers.proofs.Tests.{eqb-true, eqb-false}
@@ -45,3 +46,15 @@ rev-in n d l = by-edge n (λ d. rev d < 2 * n) (λ e m. rw (rev-even e) (omega a
 
 pub rev-injective : (c d : ℕ) → rev c ≡ rev d → c ≡ d
 rev-injective c d e = sym (rev-rev c) ∙ ap rev e ∙ rev-rev d
+
+pub rev-apart : (d : ℕ) → rev d ≢ d
+rev-apart d =
+    by-edge (suc d) (λ d. rev d ≢ d) (λ e l q. absurd (omega (arith, sym (rev-even e) ∙ q))) (λ e l q. absurd (omega (arith, sym (rev-odd e) ∙ q))) d (omega arith)
+
+-- to be the reverse of d is to have d as reverse
+pub eqb-rev : (i d : ℕ) → eqb (rev i) d ≡ eqb i (rev d)
+eqb-rev i d = go (ℕ-discrete (rev i) d)
+  where
+    go : Dec (rev i ≡ d) → eqb (rev i) d ≡ eqb i (rev d)
+    go (yes p) = eqb-true (rev i) d p ∙ sym (eqb-true i (rev d) (sym (rev-rev i) ∙ ap rev p))
+    go (no p) = eqb-false (rev i) d p ∙ sym (eqb-false i (rev d) (λ q. p (ap rev q ∙ rev-rev d)))

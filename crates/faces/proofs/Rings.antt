@@ -4,14 +4,12 @@ use mathlib.Core.Path.{_≡_, refl, sym, _∙_, ap, ap₂}
 use mathlib.Core.Bool.{Bool, true, false, cond}
 use Prim.Native.Nat.{ℕ, zero, suc, _+_, _*_, _-_, _≤_, _<_, min}
 use native.Mathlib.Omega.{arith}
-use native.Mathlib.Decide.{ℕ-discrete}
 use lib.Dec.{eqb}
 use lib.IntN.{ℤ, pos, negℤ, _+ℤ_, _-ℤ_, _*ℤ_, +ℤ-invr}
 use lib.Signed.{_≤ℤ_, _<ℤ_}
 use Rattle.integers.specs.Sum.{Integers, sum, sumℤ, when, bit}
 use Rattle.integers.proofs.Omega.{atom, literal, added, negated, atoms₁, atoms₂, atoms₃, parts, positive, positive-is, equal, at-most, less, from-less, from-at-most}
 use Rattle.integers.proofs.Laws.{neg-sub, mul-le}
-use Rattle.integers.proofs.Tests.{eqb-true, eqb-false}
 use Rattle.integers.proofs.Sums.{sum-ext, sum-nil, sum-add, sum-pick, sum-pairs}
 use Rattle.integers.proofs.IntegerSums.{sum-le, sum-sub, when-zero}
 use Rattle.faces.specs.Dart.{rev}
@@ -24,7 +22,7 @@ use Rattle.faces.specs.Flow.{Antisymmetric}
 use Rattle.faces.specs.Potential.{around, Heights}
 use Rattle.faces.specs.Cut.{cut}
 use Rattle.faces.specs.FaceWalk.{FaceWalk, stay, cross, total}
-use Rattle.faces.proofs.Darts.{rev-even, rev-odd, rev-rev, rev-in, rev-injective}
+use Rattle.faces.proofs.Darts.{rev-even, rev-odd, rev-rev, rev-in, rev-injective, eqb-rev}
 use Rattle.faces.proofs.Planar.{tension-heights}
 use Rattle.faces.proofs.LayerCake.{above, threshold}
 
@@ -33,19 +31,12 @@ one-cross : (𝓜 : Map) (d : ℕ) → d < darts 𝓜 → (x : ℕ)
     → sumℤ (darts 𝓜) (λ i. when (eqb x (left 𝓜 i)) (pos (bit (eqb i d)) -ℤ pos (bit (eqb (rev i) d)))) ≡ when (eqb x (left 𝓜 d)) (pos 1) -ℤ when (eqb x (right 𝓜 d)) (pos 1)
 one-cross 𝓜 d l x =
     sum-ext Integers (darts 𝓜) (λ i. when (eqb x (left 𝓜 i)) (pos (bit (eqb i d)) -ℤ pos (bit (eqb (rev i) d)))) (λ i. cond (eqb i d) (unit i) (pos 0) -ℤ cond (eqb i (rev d)) (unit i) (pos 0))
-    (λ i m. ap (λ t. when (eqb x (left 𝓜 i)) (pos (bit (eqb i d)) -ℤ pos (bit t))) (turned i) ∙ split (eqb x (left 𝓜 i)) (eqb i d) (eqb i (rev d)))
+    (λ i m. ap (λ t. when (eqb x (left 𝓜 i)) (pos (bit (eqb i d)) -ℤ pos (bit t))) (eqb-rev i d) ∙ split (eqb x (left 𝓜 i)) (eqb i d) (eqb i (rev d)))
     ∙ sum-sub (darts 𝓜) (λ i. cond (eqb i d) (unit i) (pos 0)) (λ i. cond (eqb i (rev d)) (unit i) (pos 0))
     ∙ ap₂ _-ℤ_ (sum-pick Integers (darts 𝓜) d unit l) (sum-pick Integers (darts 𝓜) (rev d) unit (rev-in (𝓜 .edges) d l))
   where
     unit : ℕ → ℤ
     unit i = when (eqb x (left 𝓜 i)) (pos 1)
-
-    turned : (i : ℕ) → eqb (rev i) d ≡ eqb i (rev d)
-    turned i = go (ℕ-discrete (rev i) d)
-      where
-        go : Dec (rev i ≡ d) → eqb (rev i) d ≡ eqb i (rev d)
-        go (yes p) = eqb-true (rev i) d p ∙ sym (eqb-true i (rev d) (sym (rev-rev i) ∙ ap rev p))
-        go (no p) = eqb-false (rev i) d p ∙ sym (eqb-false i (rev d) (λ q. p (ap rev q ∙ rev-rev d)))
 
     split : (t p q : Bool) → when t (pos (bit p) -ℤ pos (bit q)) ≡ cond p (when t (pos 1)) (pos 0) -ℤ cond q (when t (pos 1)) (pos 0)
     split true true true = refl

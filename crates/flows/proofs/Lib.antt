@@ -5,6 +5,7 @@ pub mod Plane
 pub mod Lengths
 pub mod HighestFlow
 pub mod Exact
+pub mod Agreement
 pub mod Limits
 pub mod LevelBound
 pub mod ValueBound

@@ -4,20 +4,18 @@ use mathlib.Core.Logic.{_≢_}
 use mathlib.Core.Bool.{Bool, true, false, cond}
 use Prim.Native.Nat.{ℕ, zero, suc, _+_, _*_, _≤_, _<_}
 use native.Mathlib.Omega.{arith}
-use native.Mathlib.Decide.{ℕ-discrete}
 use lib.Dec.{eqb}
 use lib.IntN.{ℤ, pos, negℤ, _+ℤ_, _-ℤ_, _*ℤ_, +ℤ-invr}
 use Rattle.integers.specs.Sum.{Integers, sumℤ, when, bit}
 use Rattle.integers.proofs.Omega.{atoms₁, atoms₂, atoms₃, parts, equal}
 use Rattle.integers.proofs.Laws.{neg-sub}
-use Rattle.integers.proofs.Tests.{eqb-true, eqb-false}
 use Rattle.integers.proofs.Sums.{sum-ext, sum-nil, sum-add, sum-pick}
 use Rattle.integers.proofs.IntegerSums.{sum-sub, when-zero, when-mul}
 use Rattle.faces.specs.Dart.{rev}
 use Rattle.faces.specs.Map.{Map, darts, head}
 use Rattle.faces.specs.Walk.{Walk, here, along}
 use Rattle.faces.specs.Flow.{Antisymmetric, net}
-use Rattle.faces.proofs.Darts.{rev-rev, rev-in}
+use Rattle.faces.proofs.Darts.{rev-rev, rev-in, eqb-rev}
 use Rattle.flows.proofs.Nets.{net-ext, net-add}
 
 pub record UnitFlow (𝓜 : Map) (s t : ℕ) (π : ℕ → ℤ) : Type 0 where
@@ -27,13 +25,6 @@ pub record UnitFlow (𝓜 : Map) (s t : ℕ) (π : ℕ → ℤ) : Type 0 where
 -- one on the dart d, minus one on its reverse
 abbrev pub single : ℕ → ℕ → ℤ
 single d i = when (eqb i d) (pos 1) -ℤ when (eqb i (rev d)) (pos 1)
-
-eqb-rev : (i d : ℕ) → eqb (rev i) d ≡ eqb i (rev d)
-eqb-rev i d = go (ℕ-discrete (rev i) d)
-  where
-    go : Dec (rev i ≡ d) → eqb (rev i) d ≡ eqb i (rev d)
-    go (yes p) = eqb-true (rev i) d p ∙ sym (eqb-true i (rev d) (sym (rev-rev i) ∙ ap rev p))
-    go (no p) = eqb-false (rev i) d p ∙ sym (eqb-false i (rev d) (λ q. p (ap rev q ∙ rev-rev d)))
 
 pub single-antisymmetric : (d i : ℕ) → single d (rev i) ≡ negℤ (single d i)
 single-antisymmetric d i =

@@ -8,7 +8,7 @@ ghost use Rattle.flows.specs.ProvingSet.{wordsFor, member, size};
 ghost use Rattle.node_sets.specs.Words.{flag, setWord, Written};
 
 // As many words as the nodes need.
-fn words_for(nodes: usize) -> usize
+pub fn words_for(nodes: usize) -> usize
     requires { ⌜ nodes ≤ 1024 ⌝ }
     ensures { λ r. ⌜ r ≡ wordsFor nodes ⌝ }
 {

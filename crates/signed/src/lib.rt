@@ -2,7 +2,7 @@
 // made of its bits.
 ghost use mathlib.Core.Path.{_≡_};
 ghost use lib.IntN.{_+ℤ_, _-ℤ_};
-ghost use mir.Syntax.{w32};
+ghost use mir.Syntax.{w32, w64};
 ghost use mir.Val.{toZ, ofZ, SFits};
 
 // The same number at 64 bits.
@@ -31,6 +31,22 @@ pub fn plus(a: i32, b: i32) -> i32
 // A difference at 32 bits, where it fits them.
 pub fn minus(a: i32, b: i32) -> i32
     requires { ⌜ SFits w32 (a -ℤ b) ⌝ }
+    ensures { λ r. ⌜ r ≡ a -ℤ b ⌝ }
+{
+    a - b
+}
+
+// A sum at 64 bits, where it fits them.
+pub fn plus64(a: i64, b: i64) -> i64
+    requires { ⌜ SFits w64 (a +ℤ b) ⌝ }
+    ensures { λ r. ⌜ r ≡ a +ℤ b ⌝ }
+{
+    a + b
+}
+
+// A difference at 64 bits, where it fits them.
+pub fn minus64(a: i64, b: i64) -> i64
+    requires { ⌜ SFits w64 (a -ℤ b) ⌝ }
     ensures { λ r. ⌜ r ≡ a -ℤ b ⌝ }
 {
     a - b

@@ -40,6 +40,18 @@ pub fn reverse(d: usize) -> usize
     if d % 2 == 0 { d + 1 } else { d - 1 }
 }
 
+// The first dart that leaves the node v; that it leaves v is all that the contract tells.
+pub fn dart_at(tails: &[u16; 1024], darts: usize, v: usize) -> usize
+    requires { ⌜ (darts ≤ 1024) × ((d : ℕ) × (d < darts) × (at (now tails) d ≡ v)) ⌝ }
+    ensures { λ r. ⌜ (r < darts) × (at (now (tails .entry)) r ≡ v) ⌝ }
+{
+    let mut d: usize = 0;
+    while wide(tails[d]) != v {
+        d += 1;
+    }
+    d
+}
+
 // Lists d at the end, as met from `origin`, unless it was met before, and answers the new end.
 fn add(
     order: &mut [u16; 1024],

@@ -1,0 +1,107 @@
+-- `edge_flows::drop_over` meets its contract: the second dart of an edge is the reverse of its first, and the drop fits as required.
+use mathlib.Core.Path.{sym, _∙_, ap, ap₂}
+use Prim.Native.Nat.{_<_}
+use native.Mathlib.Omega.{arith}
+use lib.IntN.{_-ℤ_}
+use mir.Syntax.{w64}
+use mir.ValLaws.{toZ-ofZ}
+use borrow.Author.Needs.{needs}
+use Rattle.faces.proofs.Darts.{rev-even}
+use Rattle.signed.proofs.minus64.Reads as minus64-reads
+use Rattle.traversal.specs.Arrays.{at, atℤ}
+use Rattle.traversal.proofs.wide.Reads as wide-reads
+use Rattle.edge_flows.proofs.drop_over.Lts as lts
+use Rattle.edge_flows.proofs.drop_over.Reads as reads
+use Rattle.edge_flows.proofs.drop_over.Statement.{statement}
+use Rattle.edge_flows.proofs.drop_over.Tie as tie
+
+mul-wide : tie.Need-mul-wide
+mul-wide c = search needs
+
+mul-wide-2 : tie.Need-mul-wide-2
+mul-wide-2 c = search needs
+
+element-copy-out-wide : tie.Need-element-copy-out-wide
+element-copy-out-wide c = search needs
+
+wide-requires : tie.Need-wide-requires
+wide-requires c κs = search needs
+
+mul-wide-3 : tie.Need-mul-wide-3
+mul-wide-3 c = search needs
+
+add-wide : tie.Need-add-wide
+add-wide c = search needs
+
+mul-wide-4 : tie.Need-mul-wide-4
+mul-wide-4 c = search needs
+
+element-copy-out-wide-2 : tie.Need-element-copy-out-wide-2
+element-copy-out-wide-2 c = search needs
+
+wide-requires-2 : tie.Need-wide-requires-2
+wide-requires-2 c κs = search needs
+
+mul-minus64 : tie.Need-mul-minus64
+mul-minus64 c = search needs
+
+element-copy-out-minus64 : tie.Need-element-copy-out-minus64
+element-copy-out-minus64 c = search needs
+
+-- the face on the right, as the code reads it: left of dart 2e + 1
+abbrev Place : Type 0
+Place = lts.After-wide2 (wide-reads.Asked, wide-reads.Learnt, minus64-reads.Asked, minus64-reads.Learnt) reads.Pre reads.Post
+
+right-in : (c : Place) → c .wide2 .result < 1024
+right-in c =
+    let s = c .before .before .before .before in
+    rw (c .wide2 .ensures, sym (rev-even (s .args .e))) (s .pre .2)
+
+mul-minus64-2 : tie.Need-mul-minus64-2
+mul-minus64-2 c = omega (arith, right-in (c .before))
+
+element-copy-out-minus64-2 : tie.Need-element-copy-out-minus64-2
+element-copy-out-minus64-2 c = omega (arith, right-in (c .before))
+
+minus64-requires : tie.Need-minus64-requires
+minus64-requires c κs =
+    let s = c .before .before .before .before .before .before in
+    let ρ = atℤ (s .args .potentials .now) in
+    rw (
+      toZ-ofZ w64 (ρ (c .before .before .before .before .wide .result)) (record { sfits = c .before .minus64-arg .given }),
+      toZ-ofZ w64 (ρ (c .before .before .wide2 .result)) (record { sfits = c .minus64-arg2 .given }),
+      c .before .before .before .before .wide .ensures,
+      c .before .before .wide2 .ensures,
+      sym (rev-even (s .args .e)),
+    ) (s .pre .3)
+
+returns : tie.Need-returns
+returns c =
+    let s = c .before .before .before .before .before .before .before in
+    let ρ = atℤ (s .args .potentials .now) in
+    let left = at (s .args .lefts .now) in
+    toZ-ofZ w64 _ (record { sfits = c .minus64 .ok })
+    ∙ c .minus64 .ensures
+    ∙ ap₂ _-ℤ_
+    (toZ-ofZ w64 _ (record { sfits = c .before .before .minus64-arg .given }) ∙ ap ρ (c .before .before .before .before .before .wide .ensures))
+    (toZ-ofZ w64 _ (record { sfits = c .before .minus64-arg2 .given }) ∙ ap ρ (c .before .before .before .wide2 .ensures ∙ ap left (sym (rev-even (s .args .e)))))
+
+pub drop-over-spec : {M : Type 1} → statement M
+drop-over-spec =
+    tie.close
+    (tie.spec
+    mul-wide
+    mul-wide-2
+    element-copy-out-wide
+    wide-requires
+    mul-wide-3
+    add-wide
+    mul-wide-4
+    element-copy-out-wide-2
+    wide-requires-2
+    mul-minus64
+    element-copy-out-minus64
+    mul-minus64-2
+    element-copy-out-minus64-2
+    minus64-requires
+    returns)

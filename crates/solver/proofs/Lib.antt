@@ -1,0 +1,4 @@
+pub mod Settling
+pub mod Ringing
+pub mod Preparing
+pub mod Deciding

@@ -1,0 +1,77 @@
+-- From a ring of parents to a set of nodes: its winding is that of a walk over faces of length below zero, so the heights of the nodes are heights of that winding,
+-- and some threshold has a cut below zero.
+use mathlib.Core.Path.{_≡_, refl, sym, _∙_, ap, ap₂, subst}
+use mathlib.Core.List.{List}
+use Prim.Native.Nat.{ℕ, _+_, _*_, _%_, _≤_, _<_}
+use native.Mathlib.Omega.{arith}
+use lib.IntN.{ℤ, pos, _+ℤ_, _-ℤ_}
+use lib.Signed.{_≤ℤ_, _<ℤ_}
+use Rattle.integers.specs.Limited.{Limited}
+use Rattle.integers.proofs.Omega.{atoms₃, parts, equal}
+use Rattle.faces.specs.Dart.{rev}
+use Rattle.faces.specs.Map.{Map, darts}
+use Rattle.faces.specs.Cut.{cut}
+use Rattle.faces.specs.FaceWalk.{FaceWalk, total}
+use Rattle.faces.specs.Potential.{Heights}
+use Rattle.faces.proofs.Darts.{rev-in}
+use Rattle.faces.proofs.Rings.{winding, ring-threshold}
+use Rattle.flows.proofs.Exact.{ring-heights-exist}
+use Rattle.search.specs.Net.{Net}
+use Rattle.windings.specs.Winding.{Round, Wound}
+use Rattle.windings.proofs.Found.{round-of, ring-wound}
+use Rattle.heights.specs.Filling as heights
+use Rattle.heights.proofs.Found.{sound-fillable}
+use Rattle.thresholds.specs.Cut.{cutOf, above}
+use Rattle.thresholds.specs.Choice.{mostHeight, Choosable}
+use Rattle.thresholds.proofs.Found.{cut-of}
+use Rattle.solver.specs.Search.{Ringed}
+
+module _ {𝓜 : Map} {N : Net} {parent : ℕ → ℕ} {y : ℕ} {order from : ℕ → ℕ} (q : Ringed 𝓜 N parent y order from) where
+  pub few-darts : darts 𝓜 ≤ 1024
+  few-darts = omega (arith, q .few-edges)
+
+  pub ring-round : Round (N .right) parent (N .darts) y
+  ring-round = round-of (q .few-faces) (q .ring)
+
+  module _ {wd : ℕ → ℤ} (wound : Wound (N .right) parent (N .darts) y wd) where
+    pub heights-fillable : heights.Fillable (darts 𝓜) (𝓜 .tail) order from wd
+    heights-fillable = sound-fillable (q .plane .sound) (q .few-nodes) few-darts (q .spread) refl (λ d l. wound .limited d (omega (arith, q .of .darts-are)))
+
+    module _ {height : ℕ → ℤ} (filled : heights.Filled (darts 𝓜) (𝓜 .tail) (order 0) wd height) where
+      walk : (w : FaceWalk 𝓜 y y) × (total (N .length) w <ℤ pos 0) × ((d : ℕ) → d < N .darts → wd d ≡ winding w d)
+      walk = ring-wound (q .of) (q .few-faces) (q .ring) wound
+
+      -- the winding is the difference of the heights found
+      found-heights : Heights 𝓜 (winding (walk .0)) height
+      found-heights d l = known d l ∙ sym (ap₂ _-ℤ_ (at-node d l) (at-node (rev d) (rev-in (𝓜 .edges) d l)) ∙ shift (H (𝓜 .tail d)) (H (𝓜 .tail (rev d))) (H (𝓜 .tail (order 0))))
+        where
+          H : ℕ → ℤ
+          H = ring-heights-exist (q .plane) (walk .0) .0
+
+          known : Heights 𝓜 (winding (walk .0)) H
+          known = ring-heights-exist (q .plane) (walk .0) .1
+
+          at-node : (d : ℕ) → d < darts 𝓜 → height (𝓜 .tail d) ≡ H (𝓜 .tail d) -ℤ H (𝓜 .tail (order 0))
+          at-node = filled .right H (λ d l. walk .2 d (omega (arith, q .of .darts-are)) ∙ known d l)
+
+          shift : (a b z : ℤ) → (a -ℤ z) -ℤ (b -ℤ z) ≡ a -ℤ b
+          shift a b z = let k = atoms₃ a b z in equal (search parts) (omega arith)
+
+      some-threshold : (θ : ℤ) × (cut 𝓜 (N .length) (above height θ) <ℤ pos 0)
+      some-threshold = ring-threshold (q .plane .sound) (N .length) (q .pairs) (walk .0) (walk .1) height found-heights
+
+      pub choosable : Choosable (𝓜 .nodes) (darts 𝓜) (𝓜 .tail) (N .length) height
+      choosable = record {
+        few-nodes = q .few-nodes;
+        some-node = q .plane .some;
+        few-darts = few-darts;
+        even = omega arith;
+        tail-in = q .plane .sound .range .tail-in;
+        short = q .short;
+        low = λ v l. let d = q .plane .sound .has-dart v l in subst (λ u. Limited mostHeight (height u)) (d .2) (filled .limited (d .0) (d .1));
+        threshold = some-threshold .0;
+        negative = rw (cut-of 𝓜 (N .length) (above height (some-threshold .0))) at (some-threshold .1);
+      }
+
+  pub chosen : (S : ℕ → _) → cutOf (darts 𝓜) (𝓜 .tail) (N .length) S <ℤ pos 0 → cut 𝓜 (N .length) S <ℤ pos 0
+  chosen S h = rw (cut-of 𝓜 (N .length) S) h

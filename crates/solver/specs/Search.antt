@@ -1,0 +1,47 @@
+-- The two halves of a decision: the search on the net of faces, which ends with flows or with a ring, and the set of nodes made from a ring.
+use mathlib.Core.Path.{_≡_}
+use mathlib.Core.List.{List}
+use Prim.Native.Nat.{ℕ, _*_, _≤_, _<_}
+use lib.IntN.{ℤ, pos, _+ℤ_}
+use lib.Signed.{_≤ℤ_}
+use Rattle.integers.specs.Limited.{Limited}
+use Rattle.faces.specs.Dart.{rev}
+use Rattle.faces.specs.Map.{Map, darts}
+use Rattle.traversal.specs.Spread.{Spread}
+use Rattle.sheets.specs.Read.{filled}
+use Rattle.search.specs.Net.{Net, Sound, Joined}
+use Rattle.search.specs.Parents.{ParentRing}
+use Rattle.search.specs.Settled.{Settled}
+use Rattle.search.specs.declared.Outcome.{Outcome}
+use Rattle.search.specs.declared.Outcome.the-variants as outcome
+use Rattle.search.proofs.OfMap.{OfMap}
+use Rattle.flows.proofs.Plane.{Plane}
+use Rattle.edge_flows.specs.Flow.{flowOf}
+use Rattle.thresholds.specs.Choice.{mostLength}
+use Rattle.solver.specs.Question.{mostCapacity}
+
+-- what is searched: lengths of the two darts of an edge add up as their capacities do, so that settled potentials make flows within the capacities
+pub record Searchable (N : Net) (edges : ℕ) (capacity : ℕ → ℤ) : Type 0 where
+  pub sound : Sound N
+  pub joined : Joined N
+  pub darts-are : N .darts ≡ 2 * edges
+  pub small : (d : ℕ) → d < N .darts → Limited mostCapacity (capacity d)
+  pub sums : (d : ℕ) → d < N .darts → N .length d +ℤ N .length (rev d) ≡ capacity d +ℤ capacity (rev d)
+
+abbrev pub Searched : Net → (edges : ℕ) → (ℕ → ℤ) → (flows flows' : List ℤ) → (parent : ℕ → ℕ) → Outcome → Type 0
+Searched N edges capacity flows flows' parent outcome.Settled =
+    (ρ : ℕ → ℤ) × Settled N ρ × (flows' ≡ filled edges (flowOf (N .left) capacity (N .length) ρ) flows)
+Searched N edges capacity flows flows' parent (outcome.Ring y) = (flows' ≡ flows) × ParentRing N parent y
+
+-- a ring of parents on the net of a plane map, and a walk over all its darts
+pub record Ringed (𝓜 : Map) (N : Net) (parent : ℕ → ℕ) (y : ℕ) (order from : ℕ → ℕ) : Type 0 where
+  pub plane : Plane 𝓜
+  pub few-nodes : 𝓜 .nodes ≤ 1024
+  pub few-edges : 𝓜 .edges ≤ 512
+  pub of : OfMap N 𝓜
+  pub few-faces : N .faces ≤ 1024
+  pub short : (d : ℕ) → d < darts 𝓜 → Limited mostLength (N .length d)
+  pub pairs : (d : ℕ) → d < darts 𝓜 → pos 0 ≤ℤ (N .length d +ℤ N .length (rev d))
+  pub ring : ParentRing N parent y
+  pub start : ℕ
+  pub spread : Spread (darts 𝓜) (𝓜 .rotation) start order from (darts 𝓜)

@@ -1,0 +1,5 @@
+pub mod Adding
+pub mod Lowering
+pub mod Choosing
+pub mod Found
+pub mod Examples

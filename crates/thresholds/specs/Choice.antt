@@ -1,0 +1,26 @@
+-- Which set of nodes is chosen: one of those above a threshold whose cut is below zero. What the choice needs, and what it leaves.
+use mathlib.Core.Path.{_≡_}
+use Prim.Native.Nat.{ℕ, _%_, _≤_, _<_}
+use lib.IntN.{ℤ, pos}
+use lib.Signed.{_<ℤ_}
+use Rattle.integers.specs.Limited.{Limited}
+use Rattle.thresholds.specs.Cut.{cutOf, above}
+
+-- with lengths of these sizes no cut of 1,024 darts is too large for 64 bits
+abbrev pub mostLength : ℕ
+mostLength = 602000000
+
+abbrev pub mostHeight : ℕ
+mostHeight = 1048576
+
+-- some threshold has a cut below zero
+pub record Choosable (nodes darts : ℕ) (tail : ℕ → ℕ) (length height : ℕ → ℤ) : Type 0 where
+  pub few-nodes : nodes ≤ 1024
+  pub some-node : 0 < nodes
+  pub few-darts : darts ≤ 1024
+  pub even : darts % 2 ≡ 0
+  pub tail-in : (d : ℕ) → d < darts → tail d < nodes
+  pub short : (d : ℕ) → d < darts → Limited mostLength (length d)
+  pub low : (v : ℕ) → v < nodes → Limited mostHeight (height v)
+  pub threshold : ℤ
+  pub negative : cutOf darts tail length (above height threshold) <ℤ pos 0

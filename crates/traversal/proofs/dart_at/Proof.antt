@@ -1,0 +1,54 @@
+-- Invariant: a dart that leaves v is at d or further on. The loop ends where it stands at such a dart.
+use mathlib.Core.Path.{sym, _∙_}
+use Prim.Native.Nat.{_-_}
+use native.Mathlib.Omega.{arith}
+use borrow.Author.Needs.{needs}
+use Rattle.traversal.specs.Arrays.{at}
+use Rattle.traversal.proofs.Ahead.{Ahead, ahead-start, ahead-step, ahead-in}
+use Rattle.traversal.proofs.dart_at.Statement.{statement}
+use Rattle.traversal.proofs.dart_at.Tie as tie
+
+abbrev Inv-loop : tie.InvT-loop
+Inv-loop tails darts v d₀ d = Ahead (at tails) darts v d
+
+abbrev μ-loop : tie.MeasureT-loop
+μ-loop tails darts v d₀ d = darts - d
+
+loop-holds : tie.Need-loop-holds Inv-loop μ-loop
+loop-holds c = ahead-start (c .pre .1 .0) (c .pre .1 .1) (c .pre .1 .2)
+
+mul-wide : tie.Need-mul-wide Inv-loop μ-loop
+mul-wide c = omega (arith, c .before .pre .0, ahead-in (c .loop .inv))
+
+element-copy-out-wide : tie.Need-element-copy-out-wide Inv-loop μ-loop
+element-copy-out-wide c = omega (arith, c .before .pre .0, ahead-in (c .loop .inv))
+
+wide-requires : tie.Need-wide-requires Inv-loop μ-loop
+wide-requires c κs = search needs
+
+add-d : tie.Need-add-d Inv-loop μ-loop
+add-d c = omega (arith, c .before .before .before .before .pre .0, ahead-in (c .before .before .before .loop .inv))
+
+loop-less : tie.Need-loop-less Inv-loop μ-loop
+loop-less c = omega (arith, ahead-in (c .before .before .before .loop .inv))
+
+loop-again : tie.Need-loop-again Inv-loop μ-loop
+loop-again c = ahead-step (c .before .before .before .loop .inv) (λ p. c .if1 .taken (c .before .wide .ensures ∙ p))
+
+returns : tie.Need-returns Inv-loop μ-loop
+returns c = (ahead-in (c .before .before .before .loop .inv), sym (c .before .wide .ensures) ∙ c .if1 .left)
+
+pub dart-at-spec : {M : Type 1} → statement M
+dart-at-spec =
+    tie.close
+    (tie.spec
+    Inv-loop
+    μ-loop
+    loop-holds
+    mul-wide
+    element-copy-out-wide
+    wide-requires
+    add-d
+    loop-less
+    loop-again
+    returns)

@@ -1,0 +1,3 @@
+pub mod Crossing
+pub mod Round
+pub mod Found

@@ -1,0 +1,89 @@
+-- `windings::cross` meets its contract: the two stores change the winding of the dart and of its reverse, and no other.
+use mathlib.Core.Path.{_≡_, sym, _∙_, ap, subst}
+use lib.IntN.{pos, _+ℤ_, _-ℤ_}
+use lib.ListN.{set}
+use lib.Seq.{getD-set-other}
+use mir.Syntax.{w32}
+use mir.Val.{toZ, ofZ}
+use borrow.Author.Needs.{needs}
+use Rattle.integers.specs.Limited.{Limited}
+use Rattle.signed.proofs.Laws.{number-of-bits}
+use Rattle.traversal.specs.Arrays.{atℤ}
+use Rattle.faces.proofs.Darts.{rev-apart}
+use Rattle.windings.proofs.Crossing.{plus-read, minus-read, plus-fits, minus-fits, crossed-once}
+use Rattle.windings.proofs.cross.Statement.{statement}
+use Rattle.windings.proofs.cross.Tie as tie
+
+other-requires : tie.Need-other-requires
+other-requires c κs = search needs
+
+mul-plus : tie.Need-mul-plus
+mul-plus c = search needs
+
+element-copy-out-plus : tie.Need-element-copy-out-plus
+element-copy-out-plus c = search needs
+
+plus-requires : tie.Need-plus-requires
+plus-requires c κs = plus-fits (c .before .before .pre .2)
+
+mul-winding : tie.Need-mul-winding
+mul-winding c = search needs
+
+element-set-from-winding : tie.Need-element-set-from-winding
+element-set-from-winding c = search needs
+
+mul-minus : tie.Need-mul-minus
+mul-minus c = search needs
+
+element-copy-out-minus : tie.Need-element-copy-out-minus
+element-copy-out-minus c = search needs
+
+-- the first store left the winding of the reverse as it was
+minus-requires : tie.Need-minus-requires
+minus-requires c κs =
+    let s = c .before .before .before .before in
+    let o = c .before .before .before .other in
+    let l = s .args .winding .now in
+    let a = toZ w32 (ofZ w32 (c .before .plus .result)) in
+    let same = getD-set-other l (s .args .p) (o .result) a (pos 0) (λ q. rev-apart (s .args .p) (sym (o .ensures .0) ∙ q)) in
+    minus-fits (subst (Limited 1024) (sym (same ∙ ap (atℤ l) (o .ensures .0))) (s .pre .3))
+
+mul-t5 : tie.Need-mul-t5
+mul-t5 c = search needs
+
+element-set-from-winding-2 : tie.Need-element-set-from-winding-2
+element-set-from-winding-2 c = search needs
+
+returns : tie.Need-returns
+returns c =
+    let s = c .before .before .before .before .before in
+    let o = c .before .before .before .before .other in
+    let l = s .args .winding .now in
+    let p = s .args .p in
+    let x = o .result in
+    let h = s .pre in
+    let more = c .before .before .plus in
+    let a = toZ w32 (ofZ w32 (more .result)) in
+    let b = toZ w32 (ofZ w32 (c .minus .result)) in
+    let same : atℤ (set l p a) x ≡ atℤ l x = getD-set-other l p x a (pos 0) (λ q. rev-apart p (sym (o .ensures .0) ∙ q)) in
+    let h-x : Limited 1024 (atℤ (set l p a) x) = subst (Limited 1024) (sym (same ∙ ap (atℤ l) (o .ensures .0))) (h .3) in
+    let is-a : a ≡ atℤ l p +ℤ pos 1 = number-of-bits _ (record { sfits = more .ok }) ∙ more .ensures ∙ plus-read (h .2) in
+    let is-b : b ≡ atℤ l x -ℤ pos 1 = number-of-bits _ (record { sfits = c .minus .ok }) ∙ c .minus .ensures ∙ minus-read h-x ∙ ap (λ y. y -ℤ pos 1) same in
+    crossed-once l p x a b (h .0) (h .1) (o .ensures .1) (o .ensures .0) is-a is-b
+
+pub cross-spec : {M : Type 1} → statement M
+cross-spec =
+    tie.close
+    (tie.spec
+    other-requires
+    mul-plus
+    element-copy-out-plus
+    plus-requires
+    mul-winding
+    element-set-from-winding
+    mul-minus
+    element-copy-out-minus
+    minus-requires
+    mul-t5
+    element-set-from-winding-2
+    returns)
