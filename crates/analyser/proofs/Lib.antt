@@ -6,3 +6,4 @@ pub mod SheetPlane
 pub mod LevelsFound
 pub mod Round
 pub mod Solving
+pub mod Demand3

@@ -27,6 +27,7 @@ use Rattle.flows.proofs.Nets.{net-ext}
 use Rattle.flows.proofs.LevelBound.{levels-small}
 use Rattle.balance.proofs.Within.{none-within, within-none}
 use Rattle.balance.proofs.Balance.{none-circulation, circulation-none}
+use Rattle.flows.proofs.Agreement.{onDarts-agrees, within-agrees}
 use Rattle.records.specs.Table.{tabulate}
 use Rattle.records.proofs.Tabulate.{length-tabulate, getD-tabulate}
 use Rattle.records.specs.Sheet.{edgesOf, capacityOf, sheetMap}
@@ -48,19 +49,6 @@ filled-at n f old new h i l =
     ap (λ x. getD x i (pos 0)) h
     ∙ List·getD-append (tabulate n f) (drop n old) (pos 0) i (omega (arith, length-tabulate n f))
     ∙ getD-tabulate n i f (pos 0) l
-
--- flows of edges that agree below the edges are the same settings
-within-ext : (𝓜 : Map) (c x y : ℕ → ℤ) → ((e : ℕ) → e < 𝓜 .edges → x e ≡ y e) → Within 𝓜 c x → Within 𝓜 c y
-within-ext 𝓜 c x y h w =
-    Rattle.faces.proofs.Darts.by-edge (𝓜 .edges) (λ d. onDarts y d ≤ℤ c d)
-    (λ e l. rw (onDarts-even y e, ← h e l, ← onDarts-even x e) (w (2 * e) (omega arith)))
-    (λ e l. rw (Rattle.flows.proofs.OnDarts.onDarts-odd y e, ← h e l, ← Rattle.flows.proofs.OnDarts.onDarts-odd x e) (w (2 * e + 1) (omega arith)))
-
-onDarts-ext : (𝓜 : Map) (x y : ℕ → ℤ) → ((e : ℕ) → e < 𝓜 .edges → x e ≡ y e) → (d : ℕ) → d < darts 𝓜 → onDarts x d ≡ onDarts y d
-onDarts-ext 𝓜 x y h =
-    Rattle.faces.proofs.Darts.by-edge (𝓜 .edges) (λ d. onDarts x d ≡ onDarts y d)
-    (λ e l. onDarts-even x e ∙ h e l ∙ sym (onDarts-even y e))
-    (λ e l. Rattle.flows.proofs.OnDarts.onDarts-odd x e ∙ ap negℤ (h e l) ∙ sym (Rattle.flows.proofs.OnDarts.onDarts-odd y e))
 
 -- the settings from levels have those levels
 fromLevels-darts : {𝓜 : Map} → Rattle.faces.specs.Check.Sound 𝓜 → (ρ : ℕ → ℤ) (d : ℕ) → d < darts 𝓜 → onDarts (fromLevels 𝓜 ρ) d ≡ difference 𝓜 ρ d
@@ -144,7 +132,7 @@ module _ (s : List ℕ) where
       whole =
           settings-whole levels' flows₀ (p .0) room long inside
           (at-face 0 (root-in s (p .0)) ∙ is .rooted)
-          (within-none 𝓜 (capacityOf s) (fromLevels 𝓜 (atℤ levels')) (within-ext 𝓜 (capacityOf s) (atℤ flows) (fromLevels 𝓜 (atℤ levels')) (λ e l. sym (same e l)) within))
+          (within-none 𝓜 (capacityOf s) (fromLevels 𝓜 (atℤ levels')) (within-agrees 𝓜 (atℤ flows) (fromLevels 𝓜 (atℤ levels')) (λ e l. sym (same e l)) (capacityOf s) within))
 
       finish : (a : LevelAnswer) → GivesSettings s levels' flows₀ flows₁ a → (a ≡ Done) × ((e : ℕ) → e < edgesOf s → atℤ flows₁ e ≡ atℤ flows e)
       finish Done h = (refl, λ e l. filled-at (edgesOf s) (fromLevels 𝓜 (atℤ levels')) flows₀ flows₁ (h .1) e l ∙ same e l)
@@ -166,7 +154,7 @@ module _ (s : List ℕ) where
       same e l = sym (filled-at (edgesOf s) x flows flows' (given .1) e l)
 
       differ : (d : ℕ) → d < darts 𝓜 → onDarts (atℤ flows') d ≡ difference 𝓜 (atℤ levels) d
-      differ d l = sym (onDarts-ext 𝓜 x (atℤ flows') same d l) ∙ fromLevels-darts (plane s (p .0) .sound) (atℤ levels) d l
+      differ d l = sym (onDarts-agrees 𝓜 x (atℤ flows') same d l) ∙ fromLevels-darts (plane s (p .0) .sound) (atℤ levels) d l
 
       are : Levels 𝓜 0 (atℤ flows') (atℤ levels)
       are = record { differences = differ; rooted = p .3 }
@@ -183,7 +171,7 @@ module _ (s : List ℕ) where
       whole : NoneOf (levelsChecks s flows' levels₀)
       whole =
           levels-none s flows' levels₀ (p .0) long room
-          (within-none 𝓜 (capacityOf s) (atℤ flows') (within-ext 𝓜 (capacityOf s) x (atℤ flows') same (none-within 𝓜 (capacityOf s) x (p .4))))
+          (within-none 𝓜 (capacityOf s) (atℤ flows') (within-agrees 𝓜 x (atℤ flows') same (capacityOf s) (none-within 𝓜 (capacityOf s) x (p .4))))
           (circulation-none 𝓜 (atℤ flows') balanced)
 
       finish : (a : LevelAnswer) → GivesLevels s flows' levels₀ levels₁ a → (a ≡ Done) × ((f : ℕ) → f < F → atℤ levels₁ f ≡ atℤ levels f)

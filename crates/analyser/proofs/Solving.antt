@@ -1,7 +1,7 @@
 -- Solve: its ways out as verdicts of its whole list of checks; the record's arrays as the question that the solver takes; and what the solver decides, said of the
 -- sheet's drawing.
 use mathlib.Core.Path.{_≡_, refl, sym, _∙_, ap, subst}
-use mathlib.Core.Logic.{_⊎_, inl, inr}
+use mathlib.Core.Logic.{_⊎_, _≢_, inl, inr}
 use mathlib.Core.Bool.{Bool, true, false}
 use mathlib.Core.List.{List, [], _∷_, _++_}
 use Prim.Native.Nat.{ℕ, _+_, _*_, _≤_, _<_}
@@ -101,6 +101,10 @@ value-limited value h = record { low = low (lt-or-ge value (negsuc 599999999)); 
     high (inl l) = absurd (h .0 (inr l))
     high (inr l) = l
 
+pub ends-differ : (nodes source sink : ℕ) → NoneOf (endChecks nodes source sink) → source ≢ sink
+unfolding NoneOf endChecks
+ends-differ nodes source sink h = h .1 .0
+
 pub room-flows : (nodes edges flows set : ℕ) → NoneOf (roomChecks nodes edges flows set) → (edges ≤ flows) × (wordsFor nodes ≤ set)
 unfolding NoneOf roomChecks
 room-flows nodes edges flows set h =
@@ -142,8 +146,7 @@ module _ (s : List ℕ) (sheet : NoneOf (sheetChecks s)) (held : Network) (h : H
 
   module _ (source sink : ℕ) (two : NoneOf (endChecks (nodesOf s) source sink)) where
     ends-sheet : Ends (sheetMap s) source sink
-    unfolding NoneOf endChecks
-    ends-sheet = let r = ends-in (nodesOf s) source sink two in record { source-in = r .0; sink-in = r .1; two = two .1 .0 }
+    ends-sheet = let r = ends-in (nodesOf s) source sink two in record { source-in = r .0; sink-in = r .1; two = ends-differ (nodesOf s) source sink two }
 
     pub ends-held : (a b : ℕ) → a ≡ source → b ≡ sink → Ends (mapOf (held .nodes) (held .edges) (held .tails) (held .rotations)) a b
     ends-held a b p q = rw (p, q) (subst (λ 𝓜. Ends 𝓜 source sink) (sym map-held) ends-sheet)

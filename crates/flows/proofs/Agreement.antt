@@ -12,7 +12,7 @@ use Rattle.faces.specs.Map.{Map, darts, head}
 use Rattle.faces.specs.Check.{InRange}
 use Rattle.faces.specs.Cut.{leaves, cut}
 use Rattle.faces.proofs.Darts.{by-edge, rev-in}
-use Rattle.flows.specs.Settings.{onDarts, Carries}
+use Rattle.flows.specs.Settings.{onDarts, Within, Carries}
 use Rattle.flows.specs.Highest.{Highest}
 use Rattle.flows.specs.ProvingSet.{bound, Proves}
 use Rattle.flows.proofs.OnDarts.{onDarts-even, onDarts-odd, onDarts-antisymmetric, onDarts-sub}
@@ -33,16 +33,19 @@ module _ {𝓜 : Map} (range : InRange 𝓜) (S T : ℕ → Bool) (same : (v : �
 
 -- ── settings ──
 module _ (𝓜 : Map) (x y : ℕ → ℤ) (same : (e : ℕ) → e < 𝓜 .edges → x e ≡ y e) where
-  onDarts-agrees : (d : ℕ) → d < darts 𝓜 → onDarts x d ≡ onDarts y d
+  pub onDarts-agrees : (d : ℕ) → d < darts 𝓜 → onDarts x d ≡ onDarts y d
   onDarts-agrees =
       by-edge (𝓜 .edges) (λ d. onDarts x d ≡ onDarts y d)
       (λ e l. onDarts-even x e ∙ same e l ∙ sym (onDarts-even y e))
       (λ e l. onDarts-odd x e ∙ ap negℤ (same e l) ∙ sym (onDarts-odd y e))
 
+  pub within-agrees : (c : ℕ → ℤ) → Within 𝓜 c x → Within 𝓜 c y
+  within-agrees c h d l = rw (sym (onDarts-agrees d l)) (h d l)
+
   pub carries-agrees : {c : ℕ → ℤ} {s t : ℕ} {value : ℤ} → Carries 𝓜 c s t value x → Carries 𝓜 c s t value y
   carries-agrees {s = s} h = record {
     antisymmetric = onDarts-antisymmetric 𝓜 y;
-    within = λ d l. rw (sym (onDarts-agrees d l)) (h .within d l);
+    within = within-agrees _ (h .within);
     balanced = λ v l p q. sym (net-ext 𝓜 v (onDarts x) (onDarts y) onDarts-agrees) ∙ h .balanced v l p q;
     carries = sym (net-ext 𝓜 s (onDarts x) (onDarts y) onDarts-agrees) ∙ h .carries;
   }
