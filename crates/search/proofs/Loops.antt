@@ -149,6 +149,14 @@ module _ {N : Net} (sound : Sound N) where
       → (y < N .faces) × ParentRing N (at parents) y × Ring N y
   end-ring i y r l e h = rw e (above-in sound (r .state) i l h, above-ring sound (r .state) i l h, ring-of (above-ring sound (r .state) i l h))
 
+  -- the parent of a face on the ring closes it
+  pub closing-dart : (parents : List ℕ) {y d : ℕ} → d ≡ at parents y → (y < N .faces) × ParentRing N (at parents) y × Ring N y
+      → (d < N .darts) × (at parents (N .left d) ≡ d) × ParentRing N (at parents) (N .left d) × Ring N (N .left d)
+  unfolding iter
+  closing-dart parents {y} {d} e r =
+      let q : N .left d ≡ y = ap (N .left) e ∙ r .1 .left-is 0 in
+      (omega (arith, e, r .1 .dart 0), ap (at parents) q ∙ sym e, subst (ParentRing N (at parents)) (sym q) (r .1), subst (Ring N) (sym q) (r .2))
+
   -- ── a face is taken up ──
   module _ {order starts ends : List ℕ} (g : Grouped (N .right) (N .darts) (N .faces) order starts ends) where
     pub begin-taking : {ρ : List ℤ} {parents waiting : List ℕ} {n k a : ℕ} (i : ℕ) → Passing N ρ parents waiting n k a → k < N .faces → a < N .faces → i ≡ place (N .faces) k a → at waiting i ≡ 1

@@ -13,6 +13,7 @@ ghost use Rattle.search.specs.Net.{netOf, Sound, Joined};
 ghost use Rattle.search.specs.Answer.{Answer};
 ghost use Rattle.search.specs.Progress.{Relaxed, Climb, Begun, Passing, place};
 
+// Settled potentials, or the dart that closes a ring.
 pub enum Outcome {
     Settled,
     Ring(usize),
@@ -157,7 +158,8 @@ fn take_up(
 }
 
 // The search from the face `root`. Where it is settled, `potentials` has the highest potentials that no dart can lower, with the root at 0; where it
-// answers a ring, the face y is on it, and the parents lead round: y, then the face right of parents[y], and so on back to y.
+// answers a ring, its dart closes it: the face left of that dart is on the ring, the dart is that face's parent, and the parents lead round: to the face right of the
+// dart, then to the face right of that one's parent, and so on back.
 pub fn search(
     lefts: &[u16; 1024],
     lengths: &[i32; 1024],
@@ -187,7 +189,7 @@ pub fn search(
                 if due(faces, k, next, count) {
                     next = count + faces;
                     if let Climbed::At(y) = climb(lefts, &*parents, darts, faces, i) {
-                        break 'search Outcome::Ring(y);
+                        break 'search Outcome::Ring(grouping::wide(parents[y]));
                     }
                 }
                 count = take_up(

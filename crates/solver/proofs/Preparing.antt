@@ -1,4 +1,4 @@
--- What serves every value: the count of the faces, a dart at each node, the walk over all darts, the groups; and a signed argument as the number of its bits.
+-- What a decision stands on: the count of the faces, the lengths from a walk over the darts; and a signed argument as the number of its bits.
 use mathlib.Core.Path.{_≡_, refl, sym, _∙_, ap, subst}
 use mathlib.Core.Bool.{Bool}
 use mathlib.Core.List.{List}
@@ -9,17 +9,15 @@ use mir.Syntax.{w32}
 use mir.Val.{toZ, ofZ}
 use Rattle.integers.specs.Limited.{Limited}
 use Rattle.signed.proofs.Limits.{same-bits}
-use Rattle.faces.specs.Dart.{rev}
 use Rattle.faces.specs.Map.{Map, darts}
 use Rattle.faces.specs.Face.{faces}
-use Rattle.faces.proofs.Darts.{rev-in}
-use Rattle.faces.proofs.Faces.{left-in}
-use Rattle.traversal.specs.Arrays.{at}
+use Rattle.flows.proofs.Plane.{Plane}
 use Rattle.traversal.specs.Spread.{Spread}
-use Rattle.traversal.proofs.Reach.{connected-full}
-use Rattle.grouping.specs.Grouped.{Grouped, rightOf}
+use Rattle.lengths.specs.Filling as lengths
+use Rattle.lengths.proofs.Found.{reached-connected, filled-unit}
 use Rattle.search.proofs.OfMap.{faces-few}
-use Rattle.solver.specs.Question.{mostValue, Drawn, Ends, Prepared}
+use Rattle.solver.specs.Question.{mostCapacity, mostValue, Drawn, Ends}
+use Rattle.solver.specs.Search.{Lengthened}
 use Rattle.solver.specs.Decision.{Decided}
 
 -- a signed argument that is passed on comes as the number of its bits
@@ -29,7 +27,25 @@ same-value h = same-bits (omega arith) h
 pub small-value : {v : ℤ} → Limited mostValue v → Limited mostValue (toZ w32 (ofZ w32 v))
 small-value h = subst (Limited mostValue) (sym (same-value h)) h
 
-module _ {𝓜 : Map} (lefts : List ℕ) {root : ℕ} {c : ℕ → ℤ} (drawn : Drawn 𝓜 (at lefts) root c) where
+-- ── the lengths ──
+module _ {𝓜 : Map} (plane : Plane 𝓜) (few : 𝓜 .edges ≤ 512) {start : ℕ} {order from : ℕ → ℕ} {met : ℕ} (ξ : Spread (darts 𝓜) (𝓜 .rotation) start order from met) (finish : ℕ) (finish-in : finish < darts 𝓜) where
+  reached : lengths.Reached 𝓜 (darts 𝓜) start finish order from
+  reached = reached-connected (plane .sound) ξ (plane .connected) finish finish-in
+
+  pub lengths-fillable : {c : ℕ → ℤ} {value : ℤ} → ((d : ℕ) → d < darts 𝓜 → Limited mostCapacity (c d)) → Limited mostValue value → lengths.Fillable (darts 𝓜) start finish order from c value
+  lengths-fillable capacities small = record { few = omega (arith, few); map = 𝓜; reached = reached; capacities = capacities; small = small }
+
+  pub lengthened : {c : ℕ → ℤ} {value asked : ℤ} {length : ℕ → ℤ} → value ≡ asked → lengths.Filled (darts 𝓜) start finish order from c value length
+      → Lengthened 𝓜 (𝓜 .tail start) (𝓜 .tail finish) c asked length
+  lengthened {c} {length = length} e h =
+      subst (λ v. Lengthened 𝓜 (𝓜 .tail start) (𝓜 .tail finish) c v length) e
+      (let r = filled-unit reached h in record { along = r .0; unit = r .1; is = r .2; short = h .limited })
+
+-- the darts found stand at the ends
+pub lengthened-for : {𝓜 : Map} {c : ℕ → ℤ} {length : ℕ → ℤ} {s t s' t' : ℕ} {v v' : ℤ} → s' ≡ s → t' ≡ t → v' ≡ v → Lengthened 𝓜 s' t' c v' length → Lengthened 𝓜 s t c v length
+lengthened-for p q e h = rw (← p, ← q, ← e) h
+
+module _ {𝓜 : Map} {left : ℕ → ℕ} {root : ℕ} {c : ℕ → ℤ} (drawn : Drawn 𝓜 left root c) where
   -- Euler: the faces are counted without a walk
   pub faces-counted : 𝓜 .nodes + faces 𝓜 ≡ 𝓜 .edges + 2
   faces-counted = drawn .plane .flat
@@ -40,24 +56,7 @@ module _ {𝓜 : Map} (lefts : List ℕ) {root : ℕ} {c : ℕ → ℤ} (drawn :
   pub faces-most : faces 𝓜 ≤ 1024
   faces-most = omega (arith, faces-few 𝓜, drawn .few-edges)
 
-  pub right-in : (count : ℕ) → count ≡ faces 𝓜 → (d : ℕ) → d < darts 𝓜 → rightOf lefts d < count
-  right-in count e d l =
-      let r = rev-in (𝓜 .edges) d l in
-      omega (arith, e, drawn .left-is (rev d) r, left-in (drawn .plane .sound) (rev d) r)
-
-  pub prepared : {start finish : ℕ} → finish < darts 𝓜 → (order from : List ℕ) (met : ℕ) → Spread (darts 𝓜) (𝓜 .rotation) start (at order) (at from) met
-      → (grouped starts ends : List ℕ) (count : ℕ) → count ≡ faces 𝓜 → Grouped (rightOf lefts) (darts 𝓜) count grouped starts ends
-      → Prepared 𝓜 lefts start finish order from grouped starts ends
-  prepared {start} {finish} l order from met ξ grouped starts ends count e g = record {
-    finish-in = l;
-    spread = subst (Spread (darts 𝓜) (𝓜 .rotation) start (at order) (at from)) (connected-full (drawn .plane .sound) ξ (drawn .plane .connected)) ξ;
-    groups = subst (λ n. Grouped (rightOf lefts) (darts 𝓜) n grouped starts ends) e g;
-  }
-
--- darts found at the source and at the sink
-pub ends-at : {𝓜 : Map} {s t : ℕ} (s' t' : ℕ) → s' ≡ s → t' ≡ t → Ends 𝓜 s t → Ends 𝓜 s' t'
-ends-at {𝓜} s' t' p q h = rw (p, q) h
-
+-- a decision for equal ends and an equal value
 pub decided-for : (𝓜 : Map) (root : ℕ) (c : ℕ → ℤ) {s t s' t' : ℕ} {v v' : ℤ} → s' ≡ s → t' ≡ t → v' ≡ v → (flows flows' : List ℤ) (inside : List ℕ) (r : Bool)
     → Decided 𝓜 root c s' t' v' flows flows' inside r → Decided 𝓜 root c s t v flows flows' inside r
 decided-for 𝓜 root c p q e flows flows' inside r h = rw (← p, ← q, ← e) h

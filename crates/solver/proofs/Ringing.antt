@@ -16,6 +16,8 @@ use Rattle.faces.specs.Potential.{Heights}
 use Rattle.faces.proofs.Darts.{rev-in}
 use Rattle.faces.proofs.Rings.{winding, ring-threshold}
 use Rattle.flows.proofs.Exact.{ring-heights-exist}
+use Rattle.traversal.specs.Spread.{Spread}
+use Rattle.traversal.proofs.Reach.{connected-full}
 use Rattle.search.specs.Net.{Net}
 use Rattle.windings.specs.Winding.{Round, Wound}
 use Rattle.windings.proofs.Found.{round-of, ring-wound}
@@ -26,16 +28,16 @@ use Rattle.thresholds.specs.Choice.{mostHeight, Choosable}
 use Rattle.thresholds.proofs.Found.{cut-of}
 use Rattle.solver.specs.Search.{Ringed}
 
-module _ {𝓜 : Map} {N : Net} {parent : ℕ → ℕ} {y : ℕ} {order from : ℕ → ℕ} (q : Ringed 𝓜 N parent y order from) where
+module _ {𝓜 : Map} {N : Net} {parent : ℕ → ℕ} {y : ℕ} (q : Ringed 𝓜 N parent y) where
   pub few-darts : darts 𝓜 ≤ 1024
   few-darts = omega (arith, q .few-edges)
 
   pub ring-round : Round (N .right) parent (N .darts) y
   ring-round = round-of (q .few-faces) (q .ring)
 
-  module _ {wd : ℕ → ℤ} (wound : Wound (N .right) parent (N .darts) y wd) where
+  module _ {order from : ℕ → ℕ} {start met : ℕ} (ξ : Spread (darts 𝓜) (𝓜 .rotation) start order from met) {wd : ℕ → ℤ} (wound : Wound (N .right) parent (N .darts) y wd) where
     pub heights-fillable : heights.Fillable (darts 𝓜) (𝓜 .tail) order from wd
-    heights-fillable = sound-fillable (q .plane .sound) (q .few-nodes) few-darts (q .spread) refl (λ d l. wound .limited d (omega (arith, q .of .darts-are)))
+    heights-fillable = sound-fillable (q .plane .sound) (q .few-nodes) few-darts ξ (connected-full (q .plane .sound) ξ (q .plane .connected)) (λ d l. wound .limited d (omega (arith, q .of .darts-are)))
 
     module _ {height : ℕ → ℤ} (filled : heights.Filled (darts 𝓜) (𝓜 .tail) (order 0) wd height) where
       walk : (w : FaceWalk 𝓜 y y) × (total (N .length) w <ℤ pos 0) × ((d : ℕ) → d < N .darts → wd d ≡ winding w d)

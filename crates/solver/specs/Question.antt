@@ -12,8 +12,6 @@ use Rattle.faces.specs.Map.{Map, darts}
 use Rattle.faces.specs.Face as face
 use Rattle.flows.proofs.Plane.{Plane}
 use Rattle.traversal.specs.Arrays.{at}
-use Rattle.traversal.specs.Spread.{Spread}
-use Rattle.grouping.specs.Grouped.{Grouped, rightOf}
 
 -- the map that the arrays hold
 abbrev pub mapOf : (nodes edges : ℕ) (tails rotations : List ℕ) → Map
@@ -41,10 +39,3 @@ pub record Ends (𝓜 : Map) (source sink : ℕ) : Type 0 where
   pub source-in : source < 𝓜 .nodes
   pub sink-in : sink < 𝓜 .nodes
   pub two : source ≢ sink
-
--- what a walk over all darts leaves, from `start`, a dart at the source, with `finish`, a dart at the sink; and the darts in groups by their right faces.
--- It serves any value.
-pub record Prepared (𝓜 : Map) (lefts : List ℕ) (start finish : ℕ) (order from grouped starts ends : List ℕ) : Type 0 where
-  pub finish-in : finish < darts 𝓜
-  pub spread : Spread (darts 𝓜) (𝓜 .rotation) start (at order) (at from) (darts 𝓜)
-  pub groups : Grouped (rightOf lefts) (darts 𝓜) (face.faces 𝓜) grouped starts ends

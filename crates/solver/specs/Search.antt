@@ -1,4 +1,5 @@
--- The two halves of a decision: the search on the net of faces, which ends with flows or with a ring, and the set of nodes made from a ring.
+-- The three steps of a decision: the lengths of the darts for a value, the search on the net of faces, which ends with flows or with a ring, and the set of nodes made
+-- from a ring.
 use mathlib.Core.Path.{_≡_}
 use mathlib.Core.List.{List}
 use Prim.Native.Nat.{ℕ, _*_, _≤_, _<_}
@@ -7,7 +8,6 @@ use lib.Signed.{_≤ℤ_}
 use Rattle.integers.specs.Limited.{Limited}
 use Rattle.faces.specs.Dart.{rev}
 use Rattle.faces.specs.Map.{Map, darts}
-use Rattle.traversal.specs.Spread.{Spread}
 use Rattle.sheets.specs.Read.{filled}
 use Rattle.search.specs.Net.{Net, Sound, Joined}
 use Rattle.search.specs.Parents.{ParentRing}
@@ -16,9 +16,18 @@ use Rattle.search.specs.declared.Outcome.{Outcome}
 use Rattle.search.specs.declared.Outcome.the-variants as outcome
 use Rattle.search.proofs.OfMap.{OfMap}
 use Rattle.flows.proofs.Plane.{Plane}
+use Rattle.flows.proofs.UnitFlow.{UnitFlow}
+use Rattle.flows.proofs.Lengths.{lengthFor}
 use Rattle.edge_flows.specs.Flow.{flowOf}
 use Rattle.thresholds.specs.Choice.{mostLength}
 use Rattle.solver.specs.Question.{mostCapacity}
+
+-- the lengths of the darts for a value from s to t: the capacity, less the value along some unit flow
+pub record Lengthened (𝓜 : Map) (s t : ℕ) (capacity : ℕ → ℤ) (value : ℤ) (length : ℕ → ℤ) : Type 0 where
+  pub along : ℕ → ℤ
+  pub unit : UnitFlow 𝓜 s t along
+  pub is : (d : ℕ) → d < darts 𝓜 → length d ≡ lengthFor capacity along value d
+  pub short : (d : ℕ) → d < darts 𝓜 → Limited mostLength (length d)
 
 -- what is searched: lengths of the two darts of an edge add up as their capacities do, so that settled potentials make flows within the capacities
 pub record Searchable (N : Net) (edges : ℕ) (capacity : ℕ → ℤ) : Type 0 where
@@ -31,10 +40,10 @@ pub record Searchable (N : Net) (edges : ℕ) (capacity : ℕ → ℤ) : Type 0 
 abbrev pub Searched : Net → (edges : ℕ) → (ℕ → ℤ) → (flows flows' : List ℤ) → (parent : ℕ → ℕ) → Outcome → Type 0
 Searched N edges capacity flows flows' parent outcome.Settled =
     (ρ : ℕ → ℤ) × Settled N ρ × (flows' ≡ filled edges (flowOf (N .left) capacity (N .length) ρ) flows)
-Searched N edges capacity flows flows' parent (outcome.Ring y) = (flows' ≡ flows) × ParentRing N parent y
+Searched N edges capacity flows flows' parent (outcome.Ring d) = (flows' ≡ flows) × (d < N .darts) × ParentRing N parent (N .left d)
 
--- a ring of parents on the net of a plane map, and a walk over all its darts
-pub record Ringed (𝓜 : Map) (N : Net) (parent : ℕ → ℕ) (y : ℕ) (order from : ℕ → ℕ) : Type 0 where
+-- a ring of parents on the net of a plane map
+pub record Ringed (𝓜 : Map) (N : Net) (parent : ℕ → ℕ) (y : ℕ) : Type 0 where
   pub plane : Plane 𝓜
   pub few-nodes : 𝓜 .nodes ≤ 1024
   pub few-edges : 𝓜 .edges ≤ 512
@@ -43,5 +52,3 @@ pub record Ringed (𝓜 : Map) (N : Net) (parent : ℕ → ℕ) (y : ℕ) (order
   pub short : (d : ℕ) → d < darts 𝓜 → Limited mostLength (N .length d)
   pub pairs : (d : ℕ) → d < darts 𝓜 → pos 0 ≤ℤ (N .length d +ℤ N .length (rev d))
   pub ring : ParentRing N parent y
-  pub start : ℕ
-  pub spread : Spread (darts 𝓜) (𝓜 .rotation) start order from (darts 𝓜)

@@ -1,45 +1,77 @@
 // The solver: decides whether a value can be carried from a source to a sink of a plane map held in arrays. It gives the highest flow, or the nodes of a proving set.
+//
+// Each step has its own arrays, and none is kept longer than the step: the walk over the darts is made anew for a ring, since memory is scarcer than time.
 ghost use mathlib.Core.Path.{_≡_};
 ghost use Prim.Native.Nat.{ℕ, _*_, _<_, _≤_};
 ghost use lib.ListN.{length};
 ghost use lib.IntN.{pos};
 ghost use lib.Signed.{_<ℤ_};
 ghost use Rattle.integers.specs.Limited.{Limited};
-ghost use Rattle.faces.specs.Face.{faces};
 ghost use Rattle.faces.specs.Cut.{cut};
+ghost use Rattle.flows.proofs.Plane.{Plane};
 ghost use Rattle.traversal.specs.Arrays.{at, atℤ};
-ghost use Rattle.grouping.specs.Grouped.{Grouped, rightOf};
 ghost use Rattle.search.specs.Net.{netOf};
-ghost use Rattle.solver.specs.Question.{mapOf, mostValue, Drawn, Ends, Prepared};
-ghost use Rattle.solver.specs.Search.{Searchable, Searched, Ringed};
+ghost use Rattle.solver.specs.Question.{mapOf, mostCapacity, mostValue, Drawn, Ends};
+ghost use Rattle.solver.specs.Search.{Lengthened, Searchable, Searched, Ringed};
 ghost use Rattle.solver.specs.Decision.{flagged, Decided};
 use search::Outcome;
 
-// Searches; where the potentials settle, writes the flows that they make. Where there is a ring, the parents lead round it.
+// The lengths of the darts for a value, along the path that a walk over the darts finds from `start`, a dart at the source, to `finish`, a dart at the sink.
+fn lengths_for(
+    tails: &[u16; 1024],
+    rotations: &[u16; 1024],
+    capacities: &[i32; 1024],
+    nodes: usize,
+    edges: usize,
+    start: usize,
+    finish: usize,
+    value: i32,
+    lengths: &mut [i32; 1024],
+)
+    requires { ⌜ (length (now lengths) ≡ 1024) × (edges ≤ 512) × (start < 2 * edges) × (finish < 2 * edges) × Plane (mapOf nodes edges (now tails) (now rotations)) × ((d : ℕ) → d < 2 * edges → Limited mostCapacity (atℤ (now capacities) d)) × Limited mostValue value ⌝ }
+    ensures { λ _. ⌜ (length (now (lengths .exit)) ≡ 1024) × Lengthened (mapOf nodes edges (now (tails .entry)) (now (rotations .entry))) (at (now (tails .entry)) start) (at (now (tails .entry)) finish) (atℤ (now (capacities .entry))) value (atℤ (now (lengths .exit))) ⌝ }
+{
+    let mut order = [0u16; 1024];
+    let mut from = [0u16; 1024];
+    traversal::spread(rotations, 2 * edges, start, &mut order, &mut from);
+    lengths::fill_lengths(
+        capacities,
+        &order,
+        &from,
+        2 * edges,
+        start,
+        finish,
+        value,
+        lengths,
+    );
+}
+
+// Searches; where the potentials settle, writes the flows that they make. Where there is a ring, answers the dart that closes it, and the parents lead round it.
 fn settle(
     lefts: &[u16; 1024],
     capacities: &[i32; 1024],
     lengths: &[i32; 1024],
-    grouped: &[u16; 1024],
-    starts: &[u16; 1024],
-    ends: &[u16; 1024],
     edges: usize,
     faces: usize,
     root: usize,
     parents: &mut [u16; 1024],
     flows: &mut [i32],
 ) -> Outcome
-    requires { ⌜ (length (now parents) ≡ 1024) × (edges ≤ 512) × (edges ≤ length (now flows)) × Searchable (netOf (now lefts) (now lengths) (2 * edges) faces root) edges (atℤ (now capacities)) × Grouped (rightOf (now lefts)) (2 * edges) faces (now grouped) (now starts) (now ends) ⌝ }
+    requires { ⌜ (length (now parents) ≡ 1024) × (edges ≤ 512) × (edges ≤ length (now flows)) × Searchable (netOf (now lefts) (now lengths) (2 * edges) faces root) edges (atℤ (now capacities)) ⌝ }
     ensures { λ r. ⌜ Searched (netOf (now (lefts .entry)) (now (lengths .entry)) (2 * edges) faces root) edges (atℤ (now (capacities .entry))) (now (flows .entry)) (now (flows .exit)) (at (now (parents .exit))) r ⌝ }
 {
+    let mut order = [0u16; 1024];
+    let mut starts = [0u16; 1024];
+    let mut ends = [0u16; 1024];
+    grouping::group(lefts, 2 * edges, faces, &mut order, &mut starts, &mut ends);
     let mut potentials = [0i64; 1024];
     let mut waiting = [0u8; 1024];
     let outcome = search::search(
         lefts,
         lengths,
-        grouped,
-        starts,
-        ends,
+        &order,
+        &starts,
+        &ends,
         2 * edges,
         faces,
         root,
@@ -47,21 +79,19 @@ fn settle(
         &mut *parents,
         &mut waiting,
     );
-    if let Outcome::Ring(y) = outcome {
-        return Outcome::Ring(y);
+    if let Outcome::Ring(d) = outcome {
+        return Outcome::Ring(d);
     }
     edge_flows::fill_flows(lefts, capacities, lengths, &potentials, edges, flows);
     Outcome::Settled
 }
 
-// Flags nodes whose cut of the lengths is below zero, from the ring that the parents lead round: its winding, heights of the nodes, a threshold.
+// Flags nodes whose cut of the lengths is below zero, from the ring that the parents lead round from the face y: its winding, heights of the nodes, a threshold.
 fn cut_of_ring(
     tails: &[u16; 1024],
     rotations: &[u16; 1024],
     lefts: &[u16; 1024],
     lengths: &[i32; 1024],
-    order: &[u16; 1024],
-    from: &[u16; 1024],
     parents: &[u16; 1024],
     nodes: usize,
     edges: usize,
@@ -70,87 +100,20 @@ fn cut_of_ring(
     y: usize,
     inside: &mut [u8; 1024],
 )
-    requires { ⌜ (length (now inside) ≡ 1024) × Ringed (mapOf nodes edges (now tails) (now rotations)) (netOf (now lefts) (now lengths) (2 * edges) faces root) (at (now parents)) y (at (now order)) (at (now from)) ⌝ }
+    requires { ⌜ (length (now inside) ≡ 1024) × (0 < edges) × Ringed (mapOf nodes edges (now tails) (now rotations)) (netOf (now lefts) (now lengths) (2 * edges) faces root) (at (now parents)) y ⌝ }
     ensures { λ _. ⌜ (length (now (inside .exit)) ≡ 1024) × (cut (mapOf nodes edges (now (tails .entry)) (now (rotations .entry))) (atℤ (now (lengths .entry))) (flagged (now (inside .exit))) <ℤ pos 0) ⌝ }
 {
+    let mut order = [0u16; 1024];
+    let mut from = [0u16; 1024];
+    traversal::spread(rotations, 2 * edges, 0, &mut order, &mut from);
     let mut winding = [0i32; 1024];
     windings::fill_winding(lefts, parents, 2 * edges, y, &mut winding);
     let mut heights = [0i32; 1024];
-    heights::fill_heights(tails, order, from, 2 * edges, &winding, &mut heights);
+    heights::fill_heights(tails, &order, &from, 2 * edges, &winding, &mut heights);
     thresholds::choose_set(tails, lengths, &heights, nodes, 2 * edges, inside);
 }
 
-// Decides one value, on what was prepared for all: true with the highest flow written, false with the nodes of a proving set flagged.
-pub fn probe(
-    tails: &[u16; 1024],
-    rotations: &[u16; 1024],
-    lefts: &[u16; 1024],
-    capacities: &[i32; 1024],
-    order: &[u16; 1024],
-    from: &[u16; 1024],
-    grouped: &[u16; 1024],
-    starts: &[u16; 1024],
-    ends: &[u16; 1024],
-    nodes: usize,
-    edges: usize,
-    root: usize,
-    start: usize,
-    finish: usize,
-    value: i32,
-    flows: &mut [i32],
-    inside: &mut [u8; 1024],
-) -> bool
-    requires { ⌜ (length (now inside) ≡ 1024) × (edges ≤ length (now flows)) × Drawn (mapOf nodes edges (now tails) (now rotations)) (at (now lefts)) root (atℤ (now capacities)) × Ends (mapOf nodes edges (now tails) (now rotations)) (at (now tails) start) (at (now tails) finish) × Prepared (mapOf nodes edges (now tails) (now rotations)) (now lefts) start finish (now order) (now from) (now grouped) (now starts) (now ends) × Limited mostValue value ⌝ }
-    ensures { λ r. ⌜ (length (now (inside .exit)) ≡ 1024) × Decided (mapOf nodes edges (now (tails .entry)) (now (rotations .entry))) root (atℤ (now (capacities .entry))) (at (now (tails .entry)) start) (at (now (tails .entry)) finish) value (now (flows .entry)) (now (flows .exit)) (now (inside .exit)) r ⌝ }
-{
-    let faces = edges + 2 - nodes;
-    let mut lengths = [0i32; 1024];
-    lengths::fill_lengths(
-        capacities,
-        order,
-        from,
-        2 * edges,
-        start,
-        finish,
-        value,
-        &mut lengths,
-    );
-    let mut parents = [0u16; 1024];
-    let outcome = settle(
-        lefts,
-        capacities,
-        &lengths,
-        grouped,
-        starts,
-        ends,
-        edges,
-        faces,
-        root,
-        &mut parents,
-        flows,
-    );
-    if let Outcome::Ring(y) = outcome {
-        cut_of_ring(
-            tails,
-            rotations,
-            lefts,
-            &lengths,
-            order,
-            from,
-            &parents,
-            nodes,
-            edges,
-            faces,
-            root,
-            y,
-            inside,
-        );
-        return false;
-    }
-    true
-}
-
-// Decides one value from a source to a sink.
+// Decides one value from a source to a sink: true with the highest flow written, false with the nodes of a proving set flagged.
 pub fn decide<'a>(
     tails: &'a [u16; 1024],
     rotations: &'a [u16; 1024],
@@ -170,37 +133,46 @@ pub fn decide<'a>(
 {
     let start = traversal::dart_at(tails, 2 * edges, source);
     let finish = traversal::dart_at(tails, 2 * edges, sink);
-    let mut order = [0u16; 1024];
-    let mut from = [0u16; 1024];
-    traversal::spread(rotations, 2 * edges, start, &mut order, &mut from);
-    let mut grouped = [0u16; 1024];
-    let mut starts = [0u16; 1024];
-    let mut ends = [0u16; 1024];
-    grouping::group(
-        lefts,
-        2 * edges,
-        edges + 2 - nodes,
-        &mut grouped,
-        &mut starts,
-        &mut ends,
-    );
-    probe(
+    let mut lengths = [0i32; 1024];
+    lengths_for(
         tails,
         rotations,
-        lefts,
         capacities,
-        &order,
-        &from,
-        &grouped,
-        &starts,
-        &ends,
         nodes,
         edges,
-        root,
         start,
         finish,
         value,
+        &mut lengths,
+    );
+    let faces = edges + 2 - nodes;
+    let mut parents = [0u16; 1024];
+    let outcome = settle(
+        lefts,
+        capacities,
+        &lengths,
+        edges,
+        faces,
+        root,
+        &mut parents,
         flows,
-        inside,
-    )
+    );
+    if let Outcome::Ring(d) = outcome {
+        let y = grouping::wide(lefts[d]);
+        cut_of_ring(
+            tails,
+            rotations,
+            lefts,
+            &lengths,
+            &parents,
+            nodes,
+            edges,
+            faces,
+            root,
+            y,
+            inside,
+        );
+        return false;
+    }
+    true
 }

@@ -2,13 +2,16 @@
 -- faces at most: a face that waits in the last round is above a ring, so that round takes up no face.
 use mathlib.Core.Logic.{⊎-elim}
 use mathlib.Core.Path.{_≡_}
-use Prim.Native.Nat.{suc, _-_}
+use Prim.Native.Nat.{suc, _-_, _<_}
 use native.Mathlib.Omega.{arith}
 use borrow.Author.Tests.{not-true, not-false}
 use borrow.Author.Needs.{needs}
 use Rattle.search.specs.Net.{netOf}
+use Rattle.search.specs.Walk.{Ring}
+use Rattle.search.specs.Parents.{ParentRing}
+use Rattle.search.specs.Answer.{at}
 use Rattle.search.specs.Progress.{Passing}
-use Rattle.search.proofs.Loops.{Scanning, begin-rounds, begin-scan, next-round, pass-by, taken-up, end-settled, last-deep, end-ring, same-scanning}
+use Rattle.search.proofs.Loops.{Scanning, begin-rounds, begin-scan, next-round, pass-by, taken-up, end-settled, last-deep, end-ring, closing-dart, same-scanning}
 use Rattle.search.proofs.search.Statement.{statement}
 use Rattle.search.proofs.search.Tie as tie
 
@@ -27,6 +30,15 @@ Inv-search lefts lengths order starts ends darts faces root potentials₀ parent
 abbrev μ-search : tie.MeasureT-search
 μ-search lefts lengths order starts ends darts faces root potentials₀ parents₀ waiting₀ count₀ next₀ k₀ potentials parents waiting count next k =
     suc faces - k
+
+-- where the steps up end, they lead round
+on-ring : (c : tie.After-known-told Inv-loop μ-loop Inv-search μ-search)
+    → let N = netOf (c .before .before .before .before .before .before .before .before .before .before .before .before .before .before .before .before .before .args .lefts .now) (c .before .before .before .before .before .before .before .before .before .before .before .before .before .before .before .before .before .args .lengths .now) (c .before .before .before .before .before .before .before .before .before .before .before .before .before .before .before .before .before .args .darts) (c .before .before .before .before .before .before .before .before .before .before .before .before .before .before .before .before .before .args .faces) (c .before .before .before .before .before .before .before .before .before .before .before .before .before .before .before .before .before .args .root) in
+    (c .before .y .given .0 .0 < N .faces) × ParentRing N (at (c .before .before .before .before .before .before .before .before .before .before .before .loop .parents)) (c .before .y .given .0 .0) × Ring N (c .before .y .given .0 .0)
+on-ring c =
+    let g = c .before .y .given in
+    let r = rw (g .1) at (c .before .before .before .climb .ensures) in
+    end-ring (c .before .before .before .before .before .before .before .before .before .before .before .before .before .before .before .before .before .pre .0) (c .before .before .before .before .before .before .before .before .before .face-at .result) (g .0 .0) (c .before .before .before .before .before .before .before .before .before .before .before .loop .inv .passing) (c .before .before .before .before .before .before .before .before .before .face-at .ensures .1) (r .0) (r .1)
 
 begin-requires : tie.Need-begin-requires Inv-loop μ-loop Inv-search μ-search
 begin-requires c κs = let p = c .before .before .before .pre in (p .3, p .4, p .5, omega (arith, p .0 .root-in, p .0 .few-faces))
@@ -54,6 +66,15 @@ climb-requires c κs = let p = c .before .before .before .before .before .before
 
 enum-known-y : tie.Need-enum-known-y Inv-loop μ-loop Inv-search μ-search
 enum-known-y c = search needs
+
+mul-wide : tie.Need-mul-wide Inv-loop μ-loop Inv-search μ-search
+mul-wide c = omega (arith, on-ring c .0, c .before .before .before .before .before .before .before .before .before .before .before .before .before .before .before .before .before .pre .0 .few-faces)
+
+element-copy-out-wide : tie.Need-element-copy-out-wide Inv-loop μ-loop Inv-search μ-search
+element-copy-out-wide c = omega (arith, on-ring c .0, c .before .before .before .before .before .before .before .before .before .before .before .before .before .before .before .before .before .pre .0 .few-faces)
+
+wide-requires : tie.Need-wide-requires Inv-loop μ-loop Inv-search μ-search
+wide-requires c κs = search needs
 
 enum-told : tie.Need-enum-told Inv-loop μ-loop Inv-search μ-search
 enum-told c = search needs
@@ -104,9 +125,9 @@ search-again c = next-round (c .before .before .before .before .before .before .
 
 returns : tie.Need-returns Inv-loop μ-loop Inv-search μ-search
 returns c =
-    let g = c .before .y .given in
-    let r = rw (g .1) at (c .before .before .before .climb .ensures) in
-    end-ring (c .before .before .before .before .before .before .before .before .before .before .before .before .before .before .before .before .before .pre .0) (c .before .before .before .before .before .before .before .before .before .face-at .result) (g .0 .0) (c .before .before .before .before .before .before .before .before .before .before .before .loop .inv .passing) (c .before .before .before .before .before .before .before .before .before .face-at .ensures .1) (r .0) (r .1)
+    let k = c .before .before in
+    closing-dart (k .before .before .before .before .before .before .before .before .before .before .before .before .before .before .before .before .before .pre .0)
+    (k .before .before .before .before .before .before .before .before .before .before .before .loop .parents) (c .wide .ensures) (on-ring k)
 
 returns-2 : tie.Need-returns-2 Inv-loop μ-loop Inv-search μ-search
 returns-2 c = end-settled (c .before .before .before .before .before .before .before .before .pre .0) (c .before .before .before .before .before .before .before .before .pre .1) (c .before .before .loop .inv) (c .before .loop-test .left) (not-true (c .before .before .loop .any) (c .if3 .taken))
@@ -128,6 +149,9 @@ search-spec =
     add-next
     climb-requires
     enum-known-y
+    mul-wide
+    element-copy-out-wide
+    wide-requires
     enum-told
     take-up-requires
     add-a

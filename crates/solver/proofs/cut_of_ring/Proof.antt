@@ -1,4 +1,4 @@
--- Winding, heights and threshold in turn: each call's requirement is a law of `Ringing`.
+-- Walk, winding, heights and threshold in turn: each call's requirement is a law of `Ringing`.
 use mathlib.Core.Path.{refl}
 use native.Mathlib.Omega.{arith}
 use borrow.Author.Needs.{needs}
@@ -6,39 +6,52 @@ use Rattle.solver.proofs.Ringing.{few-darts, ring-round, heights-fillab
 use Rattle.solver.proofs.cut_of_ring.Statement.{statement}
 use Rattle.solver.proofs.cut_of_ring.Tie as tie
 
+mul-spread : tie.Need-mul-spread
+mul-spread c = omega (arith, c .pre .2 .few-edges)
+
+spread-requires : tie.Need-spread-requires
+spread-requires c κs =
+    let p = c .before .before .pre in
+    (refl, refl, few-darts (p .2), omega arith, omega (arith, p .1), p .2 .plane .sound .range .rotation-in)
+
 mul-fill-winding : tie.Need-mul-fill-winding
-mul-fill-winding c = search needs
+mul-fill-winding c = omega (arith, c .before .before .before .pre .2 .few-edges)
 
 fill-winding-requires : tie.Need-fill-winding-requires
-fill-winding-requires c κs = let q = c .before .pre .1 in (refl, few-darts q, omega arith, ring-round q)
+fill-winding-requires c κs = let q = c .before .before .before .before .pre .2 in (refl, few-darts q, omega arith, ring-round q)
 
 mul-fill-heights : tie.Need-mul-fill-heights
-mul-fill-heights c = search needs
+mul-fill-heights c = omega (arith, c .before .before .before .before .before .before .before .pre .2 .few-edges)
 
 fill-heights-requires : tie.Need-fill-heights-requires
 fill-heights-requires c κs =
-    let w = c .before .before in
-    (refl, heights-fillable (w .before .before .pre .1) (w .fill-winding .ensures .1))
+    let w = c .before .before .before .before in
+    let s = w .before .before in
+    (refl, heights-fillable (s .before .before .before .pre .2) (s .spread .ensures .2) (w .fill-winding .ensures .1))
 
 mul-choose-set : tie.Need-mul-choose-set
-mul-choose-set c = search needs
+mul-choose-set c = omega (arith, c .before .before .before .before .before .before .before .before .before .before .before .pre .2 .few-edges)
 
 choose-set-requires : tie.Need-choose-set-requires
 choose-set-requires c κs =
     let h = c .before .before in
-    let w = h .before .before .before in
-    let p = w .before .before .pre in
-    (p .0, choosable (p .1) (w .fill-winding .ensures .1) (h .fill-heights .ensures .1))
+    let w = h .before .before .before .before .before in
+    let s = w .before .before in
+    let p = s .before .before .before .pre in
+    (p .0, choosable (p .2) (s .spread .ensures .2) (w .fill-winding .ensures .1) (h .fill-heights .ensures .1))
 
 returns : tie.Need-returns
 returns c =
     let e = c .choose-set .ensures in
-    (e .0, chosen (c .before .before .before .before .before .before .before .before .pre .1) _ (e .1))
+    let s = c .before .before .before .before .before .before .before .before .before .before in
+    (e .0, chosen (s .before .before .before .pre .2) _ (e .1))
 
 pub cut-of-ring-spec : {M : Type 1} → statement M
 cut-of-ring-spec =
     tie.close
     (tie.spec
+    mul-spread
+    spread-requires
     mul-fill-winding
     fill-winding-requires
     mul-fill-heights

@@ -1,10 +1,15 @@
--- A question decided: darts at its ends, the walk and the groups are what `probe` asks for (`Preparing`).
+-- A question decided: darts at its ends, lengths, search, and both ways out, which are laws of `Deciding`.
 use mathlib.Core.Path.{refl}
+use mathlib.Core.List.{List}
+use Prim.Native.Nat.{_<_}
 use native.Mathlib.Omega.{arith}
+use lib.IntN.{ℤ}
 use borrow.Author.Needs.{needs}
 use Rattle.traversal.specs.Arrays.{atℤ}
 use Rattle.solver.specs.Question.{mapOf}
-use Rattle.solver.proofs.Preparing.{same-value, small-value, faces-counted, faces-by-counts, faces-most, right-in, prepared, ends-at, decided-for}
+use Rattle.solver.specs.Search.{Lengthened}
+use Rattle.solver.proofs.Preparing.{same-value, small-value, lengthened-for, faces-counted, faces-by-counts}
+use Rattle.solver.proofs.Deciding.{searchable, decided-can, ringed, decided-cannot}
 use Rattle.solver.proofs.decide.Statement.{statement}
 use Rattle.solver.proofs.decide.Tie as tie
 
@@ -12,7 +17,7 @@ mul-dart-at : tie.Need-mul-dart-at
 mul-dart-at c = omega (arith, c .pre .2 .few-edges)
 
 dart-at-requires : tie.Need-dart-at-requires
-dart-at-requires c κs = (omega (arith, c .pre .2 .few-edges), c .pre .2 .plane .sound .has-dart _ (c .pre .3 .source-in))
+dart-at-requires c κs = let p = c .pre in (omega (arith, p .2 .few-edges), p .2 .plane .sound .has-dart _ (p .3 .source-in))
 
 mul-dart-at-2 : tie.Need-mul-dart-at-2
 mul-dart-at-2 c = omega (arith, c .before .pre .2 .few-edges)
@@ -20,46 +25,72 @@ mul-dart-at-2 c = omega (arith, c .before .pre .2 .few-edges)
 dart-at-requires-2 : tie.Need-dart-at-requires-2
 dart-at-requires-2 c κs = let p = c .before .pre in (omega (arith, p .2 .few-edges), p .2 .plane .sound .has-dart _ (p .3 .sink-in))
 
-mul-spread : tie.Need-mul-spread
-mul-spread c = omega (arith, c .before .before .pre .2 .few-edges)
-
-spread-requires : tie.Need-spread-requires
-spread-requires c κs =
-    let d = c .before .before .before in
-    let p = d .before .pre in
-    (refl, refl, omega (arith, p .2 .few-edges), omega arith, d .dart-at .ensures .0, p .2 .plane .sound .range .rotation-in)
-
-mul-group : tie.Need-mul-group
-mul-group c = omega (arith, c .before .before .before .before .before .pre .2 .few-edges)
-
-add-group : tie.Need-add-group
-add-group c = omega (arith, c .before .before .before .before .before .pre .2 .few-edges)
-
-sub-group : tie.Need-sub-group
-sub-group c = let a = c .before .before .before .before .before in omega (arith, faces-counted (a .args .lefts .now) (a .pre .2))
-
-group-requires : tie.Need-group-requires
-group-requires c κs =
-    let a = c .before .before .before .before .before .before .before .before in
-    let l = a .args .lefts .now in
-    let p = a .pre in
-    let n = faces-by-counts l (p .2) in
-    (omega (arith, p .2 .few-edges), omega (arith, n, faces-most l (p .2)), right-in l (p .2) _ n, refl, refl, refl)
-
-probe-requires : tie.Need-probe-requires
-probe-requires c κs =
-    let g = c .before .before .before .before .before .before .before in
-    let s = g .before .before .before .before in
-    let t = s .before .before .before in
+lengths-for-requires : tie.Need-lengths-for-requires
+lengths-for-requires c κs =
+    let t = c .before in
     let d = t .before in
-    let l = d .before .args .lefts .now in
-    let p = d .before .pre in (
+    let p = d .before .pre in
+    (refl, p .2 .few-edges, d .dart-at .ensures .0, t .dart-at2 .ensures .0, p .2 .plane, p .2 .small, small-value (p .4))
+
+-- ── the lengths are known ──
+abbrev begun : tie.After-lengths-for → tie.Start
+begun c = c .before .before .before .before
+
+abbrev row : tie.After-lengths-for → List ℤ
+row c = c .lengths-for .last .1 .1 .1 .1 .1 .1 .1 .1 .0
+
+known : (c : tie.After-lengths-for)
+    → Lengthened (mapOf (begun c .args .nodes) (begun c .args .edges) (begun c .args .tails .now) (begun c .args .rotations .now)) (begun c .args .source) (begun c .args .sink)
+    (atℤ (begun c .args .capacities .now)) (begun c .args .value) (atℤ (row c))
+known c =
+    let t = c .before .before in
+    let d = t .before in
+    lengthened-for (d .dart-at .ensures .1) (t .dart-at2 .ensures .1) (same-value (begun c .pre .4)) (c .lengths-for .ensures .1)
+
+add-faces : tie.Need-add-faces
+add-faces c = omega (arith, begun c .pre .2 .few-edges)
+
+sub-faces : tie.Need-sub-faces
+sub-faces c = omega (arith, faces-counted (begun c .pre .2))
+
+settle-requires : tie.Need-settle-requires
+settle-requires c κs =
+    let f = c .before .before .before in
+    let p = begun f .pre in
+    (refl, p .2 .few-edges, p .1, searchable (begun f .args .lefts .now) (p .2) (p .3) (row f) (known f) _ (faces-by-counts (p .2)))
+
+enum-known-outcome : tie.Need-enum-known-outcome
+enum-known-outcome c = search needs
+
+-- ── a ring: the dart that closes it ──
+abbrev measured : tie.After-settle → tie.After-lengths-for
+measured c = c .before .before .before .before
+
+closes : (c : tie.After-known-told) → c .before .outcome .given .0 .0 < 1024
+closes c =
+    let s = c .before .before .before .before in
+    let p = s .before .before .before .before .before .before .before .before .pre in
+    omega (arith, (rw (c .before .outcome .given .1) at (s .settle .ensures)) .1, p .2 .few-edges)
+
+mul-wide : tie.Need-mul-wide
+mul-wide c = omega (arith, closes c)
+
+element-copy-out-wide : tie.Need-element-copy-out-wide
+element-copy-out-wide c = omega (arith, closes c)
+
+wide-requires : tie.Need-wide-requires
+wide-requires c κs = search needs
+
+cut-of-ring-requires : tie.Need-cut-of-ring-requires
+cut-of-ring-requires c κs =
+    let w = c .before .before .before in
+    let o = w .before .before .before in
+    let s = o .before .before .before in
+    let f = measured s in
+    let p = begun f .pre in (
       p .0,
-      p .1,
-      p .2,
-      ends-at _ _ (d .dart-at .ensures .1) (t .dart-at2 .ensures .1) (p .3),
-      prepared l (p .2) (t .dart-at2 .ensures .0) (s .spread .last .1 .1 .1 .0) (s .spread .last .1 .1 .1 .1 .0) _ (s .spread .ensures .2) _ _ _ _ (faces-by-counts l (p .2)) (g .group .ensures .3),
-      small-value (p .4),
+      omega (arith, f .before .before .before .dart-at .ensures .0),
+      ringed (begun f .args .lefts .now) (p .2) (p .3) (row f) (known f) _ (faces-by-counts (p .2)) _ (w .wide .ensures) ((rw (o .outcome .given .1) at (s .settle .ensures)) .2),
     )
 
 same-length : tie.Need-same-length
@@ -67,18 +98,29 @@ same-length c = search needs
 
 returns : tie.Need-returns
 returns c =
-    let g = c .before .before .before .before .before .before .before .before .before in
-    let t = g .before .before .before .before .before .before .before in
-    let d = t .before in
-    let a = d .before .args in
-    let p = d .before .pre in
-    let o = c .before .probe in
-    let flows' = o .last .1 .1 .1 .1 .1 .1 .1 .1 .1 .1 .1 .1 .1 .1 .1 .0 in
-    let inside' = o .last .1 .1 .1 .1 .1 .1 .1 .1 .1 .1 .1 .1 .1 .1 .1 .1 .0 in (
-      o .ensures .0,
-      decided-for (mapOf (a .nodes) (a .edges) (a .tails .now) (a .rotations .now)) (a .root) (atℤ (a .capacities .now)) (d .dart-at .ensures .1) (t .dart-at2 .ensures .1) (same-value (p .4))
-          (a .flows .now) flows' inside' (o .result) (o .ensures .1),
+    let o = c .before .before .before .before .before .before .before in
+    let s = o .before .before .before in
+    let f = measured s in
+    let p = begun f .pre in
+    let e = c .cut-of-ring .ensures in
+    let inside' = c .cut-of-ring .last .1 .1 .1 .1 .1 .1 .1 .1 .1 .1 .0 in (
+      e .0,
+      decided-cannot (begun f .args .lefts .now) (p .2) (p .3) (row f) (known f) _ (faces-by-counts (p .2)) _ _ inside' ((rw (o .outcome .given .1) at (s .settle .ensures)) .0) (e .1),
     )
+
+enum-told : tie.Need-enum-told
+enum-told c = search needs
+
+same-length-2 : tie.Need-same-length-2
+same-length-2 c = search needs
+
+returns-2 : tie.Need-returns-2
+returns-2 c =
+    let s = c .before .before .before in
+    let f = measured s in
+    let p = begun f .pre in
+    let r = rw (c .enum-told .given .1) at (s .settle .ensures) in
+    (p .0, decided-can (begun f .args .lefts .now) (p .2) (p .3) (row f) (known f) _ (faces-by-counts (p .2)) (r .0) (r .1) _ _ (begun f .args .inside .now) (r .2))
 
 pub decide-spec : {M : Type 1} → statement M
 decide-spec =
@@ -88,12 +130,17 @@ decide-spec =
     dart-at-requires
     mul-dart-at-2
     dart-at-requires-2
-    mul-spread
-    spread-requires
-    mul-group
-    add-group
-    sub-group
-    group-requires
-    probe-requires
+    lengths-for-requires
+    add-faces
+    sub-faces
+    settle-requires
+    enum-known-outcome
+    mul-wide
+    element-copy-out-wide
+    wide-requires
+    cut-of-ring-requires
     same-length
-    returns)
+    returns
+    enum-told
+    same-length-2
+    returns-2)

@@ -1,4 +1,4 @@
--- The search's answer, and where it is settled the flows: what `fill_flows` requires is `flowing`.
+-- The groups, the search's answer, and where it is settled the flows: what `fill_flows` requires is `flowing`.
 use mathlib.Core.Path.{refl}
 use native.Mathlib.Omega.{arith}
 use borrow.Author.Needs.{needs}
@@ -6,17 +6,30 @@ use Rattle.solver.proofs.Settling.{flowing}
 use Rattle.solver.proofs.settle.Statement.{statement}
 use Rattle.solver.proofs.settle.Tie as tie
 
+mul-group : tie.Need-mul-group
+mul-group c = omega (arith, c .pre .1)
+
+group-requires : tie.Need-group-requires
+group-requires c κs =
+    let p = c .before .before .before .pre in
+    (omega (arith, p .1), p .3 .sound .few-faces, p .3 .sound .right-in, refl, refl, refl)
+
 mul-search : tie.Need-mul-search
-mul-search c = search needs
+mul-search c = omega (arith, c .before .before .before .before .before .before .before .pre .1)
 
 search-requires : tie.Need-search-requires
-search-requires c κs = search needs
+search-requires c κs =
+    let g = c .before .before .before .before .before .before in
+    let p = g .before .before .before .before .pre in
+    (p .3 .sound, p .3 .joined, g .group .ensures .3, refl, p .0, refl)
 
 enum-known-outcome : tie.Need-enum-known-outcome
 enum-known-outcome c = search needs
 
 returns : tie.Need-returns
-returns c = let s = c .before .before .before in (refl, (rw (c .before .outcome .given .1) at (s .search .ensures)) .1)
+returns c =
+    let a = rw (c .before .outcome .given .1) at (c .before .before .before .search .ensures) in
+    (refl, a .0, a .2)
 
 enum-told : tie.Need-enum-told
 enum-told c = search needs
@@ -25,7 +38,7 @@ fill-flows-requires : tie.Need-fill-flows-requires
 fill-flows-requires c κs =
     let t = c .before .before in
     let s = t .before .before in
-    let p = s .before .before .before .before .pre in
+    let p = s .before .before .before .before .before .before .before .before .before .before .before .pre in
     (p .1, p .2, flowing (p .3) _ (rw (t .enum-told .given .1) at (s .search .ensures)))
 
 same-length : tie.Need-same-length
@@ -40,6 +53,8 @@ pub settle-spec : {M : Type 1} → statement M
 settle-spec =
     tie.close
     (tie.spec
+    mul-group
+    group-requires
     mul-search
     search-requires
     enum-known-outcome

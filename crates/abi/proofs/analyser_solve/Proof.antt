@@ -1,0 +1,83 @@
+-- Each arm of the match has what Solve ensures of its answer, and tells it.
+use mathlib.Core.Path.{_≡_, refl}
+use mathlib.Core.List.{List}
+use Prim.Native.Nat.{ℕ}
+use lib.IntN.{ℤ}
+use borrow.Author.Needs.{needs}
+use Rattle.signed.proofs.Laws.{number-of-bits}
+use Rattle.analyser.specs.Solve.{Solves}
+use Rattle.analyser.specs.declared.SolveAnswer.{SolveAnswer}
+use Rattle.analyser.specs.declared.SolveAnswer.the-variants.{Can, Cannot, Refused}
+use Rattle.abi.proofs.analyser_solve.Statement.{statement}
+use Rattle.abi.proofs.analyser_solve.Tie as tie
+
+abbrev start : tie.After-solve → tie.Start
+start c = c .before .before .before .before .before
+
+abbrev flows' : tie.After-solve → List ℤ
+flows' c = c .solve .last .1 .1 .1 .1 .0
+
+abbrev set' : tie.After-solve → List ℕ
+set' c = c .solve .last .1 .1 .1 .1 .1 .0
+
+-- the value that Solve is given is the one that came in
+solved : (c : tie.After-solve) (answer : SolveAnswer) → c .solve .result ≡ answer
+    → Solves (start c .args .sheet .now) (start c .args .source) (start c .args .sink) (start c .args .value) (start c .args .flows .now) (flows' c) (start c .args .set .now) (set' c) answer
+solved c answer e = rw (number-of-bits _ (start c .fits .value), e) at (c .solve .ensures)
+
+solve-requires : tie.Need-solve-requires
+solve-requires c κs = search needs
+
+enum-told : tie.Need-enum-told
+enum-told c = search needs
+
+enum-known-answer : tie.Need-enum-known-answer
+enum-known-answer c = search needs
+
+enum-known-answer-2 : tie.Need-enum-known-answer-2
+enum-known-answer-2 c = search needs
+
+same-length : tie.Need-same-length
+same-length c = search needs
+
+same-length-2 : tie.Need-same-length-2
+same-length-2 c = search needs
+
+returns : tie.Need-returns
+returns c = (Can, solved (c .before .before .before .before .before) Can (c .enum-told .given .1), (refl, refl, refl, refl))
+
+same-length-3 : tie.Need-same-length-3
+same-length-3 c = search needs
+
+same-length-4 : tie.Need-same-length-4
+same-length-4 c = search needs
+
+returns-2 : tie.Need-returns-2
+returns-2 c = (Cannot _, solved (c .before .before .before .before .before .before) (Cannot _) (c .before .answer .given .1), (refl, refl, refl, refl))
+
+same-length-5 : tie.Need-same-length-5
+same-length-5 c = search needs
+
+same-length-6 : tie.Need-same-length-6
+same-length-6 c = search needs
+
+returns-3 : tie.Need-returns-3
+returns-3 c = (Refused _ _, solved (c .before .before .before .before .before .before) (Refused _ _) (c .before .answer2 .given .1), (refl, refl, refl, refl))
+
+pub analyser-solve-spec : {M : Type 1} → statement M
+analyser-solve-spec =
+    tie.close
+    (tie.spec
+    solve-requires
+    enum-told
+    enum-known-answer
+    enum-known-answer-2
+    same-length
+    same-length-2
+    returns
+    same-length-3
+    same-length-4
+    returns-2
+    same-length-5
+    same-length-6
+    returns-3)

@@ -1,0 +1,4 @@
+pub mod Tested
+pub mod Filling
+pub mod Adding
+pub mod Examples

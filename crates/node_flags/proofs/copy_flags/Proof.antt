@@ -1,0 +1,54 @@
+-- Invariant: the flags below u are copied. The measure is how many nodes are left.
+use mathlib.Core.Path.{refl}
+use Prim.Native.Nat.{_-_}
+use native.Mathlib.Omega.{arith}
+use borrow.Author.Needs.{needs}
+use Rattle.node_flags.specs.Flags.{flagged}
+use Rattle.node_flags.proofs.Filling.{Filled, filled-start, filled-step, filled-all}
+use Rattle.node_flags.proofs.copy_flags.Statement.{statement}
+use Rattle.node_flags.proofs.copy_flags.Tie as tie
+
+abbrev Inv-loop : tie.InvT-loop
+Inv-loop from to₀ u₀ to u = Filled (flagged from) to u
+
+abbrev μ-loop : tie.MeasureT-loop
+μ-loop from to₀ u₀ to u = 1024 - u
+
+loop-holds : tie.Need-loop-holds Inv-loop μ-loop
+loop-holds c = filled-start _ _ (c .pre)
+
+element-copy-out-to : tie.Need-element-copy-out-to Inv-loop μ-loop
+element-copy-out-to c = search needs
+
+element-write-to : tie.Need-element-write-to Inv-loop μ-loop
+element-write-to c = search needs
+
+add-u : tie.Need-add-u Inv-loop μ-loop
+add-u c = search needs
+
+loop-less : tie.Need-loop-less Inv-loop μ-loop
+loop-less c = search needs
+
+loop-again : tie.Need-loop-again Inv-loop μ-loop
+loop-again c =
+    let o = c .before .before .loop in
+    filled-step _ (o .to) (o .u) _ (omega arith) (o .inv) refl
+
+returns : tie.Need-returns Inv-loop μ-loop
+returns c =
+    let o = c .before .loop in
+    (o .inv .long, filled-all _ (omega arith) (o .inv))
+
+pub copy-flags-spec : {M : Type 1} → statement M
+copy-flags-spec =
+    tie.close
+    (tie.spec
+    Inv-loop
+    μ-loop
+    loop-holds
+    element-copy-out-to
+    element-write-to
+    add-u
+    loop-less
+    loop-again
+    returns)
