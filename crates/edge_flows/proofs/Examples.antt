@@ -7,7 +7,7 @@ use Rattle.faces.specs.Dart.{rev}
 use Rattle.traversal.specs.Arrays.{at, atℤ}
 use Rattle.edge_flows.specs.Flow.{flowOf}
 
-drop-and-along : flowOf
+pub drop-and-along : flowOf
     (at (0 ∷ 1 ∷ 1 ∷ 2 ∷ []))
     (atℤ (pos 9 ∷ pos 9 ∷ pos 6 ∷ pos 7 ∷ []))
     (atℤ (pos 1 ∷ pos 1 ∷ pos 4 ∷ pos 1 ∷ []))
@@ -17,6 +17,6 @@ unfolding rev
 drop-and-along = refl
 
 -- a potential that rises, and a dart longer than its capacity: the flow runs against the dart
-against-the-dart : flowOf (at (0 ∷ 1 ∷ [])) (atℤ (pos 2 ∷ pos 3 ∷ [])) (atℤ (pos 3 ∷ pos 2 ∷ [])) (atℤ (pos 0 ∷ pos 4 ∷ [])) 0 ≡ negsuc 4
+pub against-the-dart : flowOf (at (0 ∷ 1 ∷ [])) (atℤ (pos 2 ∷ pos 3 ∷ [])) (atℤ (pos 3 ∷ pos 2 ∷ [])) (atℤ (pos 0 ∷ pos 4 ∷ [])) 0 ≡ negsuc 4
 unfolding rev
 against-the-dart = refl

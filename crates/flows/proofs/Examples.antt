@@ -7,9 +7,10 @@ use native.Mathlib.Omega.{arith}
 use lib.Dec.{eqb}
 use lib.ListN.{getD}
 use lib.Count.{ones, onesIn}
-use lib.IntN.{ℤ, pos, negsuc, negℤ}
+use lib.IntN.{ℤ, pos, negsuc, negℤ, _+ℤ_, _-ℤ_}
 use lib.Signed.{_<ℤ_, ltZ}
 use Rattle.integers.specs.Sum.{sum}
+use Rattle.integers.proofs.Omega.{atoms₃, parts, equal, at-most, from-equal, from-at-most}
 use Rattle.integers.proofs.Laws.{lt-of-test}
 use Rattle.integers.proofs.Tests.{every, every-equalℤ, every-at-most, eqZ}
 use Rattle.faces.specs.Dart.{rev}
@@ -22,6 +23,7 @@ use Rattle.faces.specs.Potential.{difference}
 use Rattle.faces.proofs.Examples.{A, B, A-capacity, B-capacity}
 use Rattle.flows.specs.Settings.{onDarts, Carries}
 use Rattle.flows.specs.Levels.{Levels}
+use Rattle.flows.specs.Highest.{Highest}
 use Rattle.flows.specs.ProvingSet.{bound, Proves, member, size}
 use Rattle.flows.proofs.OnDarts.{onDarts-antisymmetric}
 
@@ -85,3 +87,49 @@ A-levels = record {
 pub B-none : (value : ℤ) → Proves B B-capacity 0 1 value (member (4 ∷ []))
 unfolding B-capacity bound cut sum rev
 B-none value = lt-of-test (negsuc 0) (pos 0) refl
+
+-- "6: settings 0, 2, 4" is the highest: of settings y that carry 6, the levels of y minus these are 0, −y 0 and y 2 − 4, and none is above zero
+levelsLess : (ℕ → ℤ) → ℕ → ℤ
+levelsLess y zero = pos 0
+levelsLess y (suc zero) = negℤ (y 0)
+levelsLess y (suc (suc f)) = y 2 -ℤ pos 4
+
+-- what holds of the six darts, and of the three faces
+six : (P : ℕ → Type 0) → P 0 → P 1 → P 2 → P 3 → P 4 → P 5 → (d : ℕ) → d < 6 → P d
+six P a b c d e f zero l = a
+six P a b c d e f (suc zero) l = b
+six P a b c d e f (suc (suc zero)) l = c
+six P a b c d e f (suc (suc (suc zero))) l = d
+six P a b c d e f (suc (suc (suc (suc zero)))) l = e
+six P a b c d e f (suc (suc (suc (suc (suc zero))))) l = f
+six P a b c d e f (suc (suc (suc (suc (suc (suc i)))))) l = absurd (omega arith)
+
+three : (P : ℕ → Type 0) → P 0 → P 1 → P 2 → (f : ℕ) → f < 3 → P f
+three P a b c zero l = a
+three P a b c (suc zero) l = b
+three P a b c (suc (suc zero)) l = c
+three P a b c (suc (suc (suc i))) l = absurd (omega arith)
+
+pub A-six-highest : Highest A 0 A-capacity 0 1 (pos 6) (settings (pos 0 ∷ pos 2 ∷ pos 4 ∷ []))
+unfolding settings A-capacity onDarts net sum faces left orbits orbitOf isLowest lowest iter rev levelsLess
+A-six-highest = record {
+  carries = A-six;
+  highest = λ y g.
+      let a = atoms₃ (y 0) (y 1) (y 2) in
+      let all : pos 0 +ℤ y 0 +ℤ pos 0 +ℤ y 1 +ℤ pos 0 +ℤ y 2 +ℤ pos 0 ≡ pos 6 = g .carries in
+      let low : lib.Signed._≤ℤ_ (negℤ (y 0)) (pos 0) = g .within 1 (omega arith) in
+      let high : lib.Signed._≤ℤ_ (y 2) (pos 4) = g .within 4 (omega arith) in (
+        levelsLess y,
+        record {
+          differences = six _
+              (equal (search parts) (omega arith))
+              (equal (search parts) (omega arith))
+              (equal (search parts) (omega (arith, from-equal all (search parts depth 9))))
+              (equal (search parts) (omega (arith, from-equal all (search parts depth 9))))
+              (equal (search parts) (omega arith))
+              (equal (search parts) (omega arith));
+          rooted = refl;
+        },
+        three _ (at-most (search parts) (omega arith)) (at-most (search parts) (omega (arith, from-at-most low (search parts)))) (at-most (search parts) (omega (arith, from-at-most high (search parts)))),
+      );
+}

@@ -3,3 +3,4 @@ pub mod Place
 pub mod Carrying
 pub mod Backing
 pub mod Found
+pub mod Examples

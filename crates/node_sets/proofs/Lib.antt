@@ -1,3 +1,4 @@
 pub mod Bits
 pub mod Size
 pub mod Writing
+pub mod Examples

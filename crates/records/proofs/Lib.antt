@@ -2,6 +2,7 @@ pub mod Record
 pub mod Fields
 pub mod Drawing
 pub mod Bytes
+pub mod ByteChecks
 pub mod Examples
 pub mod Places
 pub mod Tabulate

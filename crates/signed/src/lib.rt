@@ -37,19 +37,19 @@ pub fn minus(a: i32, b: i32) -> i32
 }
 
 // A sum at 64 bits, where it fits them.
-pub fn plus64(a: i64, b: i64) -> i64
-    requires { ⌜ SFits w64 (a +ℤ b) ⌝ }
-    ensures { λ r. ⌜ r ≡ a +ℤ b ⌝ }
+pub fn plus64(x: i64, y: i64) -> i64
+    requires { ⌜ SFits w64 (x +ℤ y) ⌝ }
+    ensures { λ r. ⌜ r ≡ x +ℤ y ⌝ }
 {
-    a + b
+    x + y
 }
 
 // A difference at 64 bits, where it fits them.
-pub fn minus64(a: i64, b: i64) -> i64
-    requires { ⌜ SFits w64 (a -ℤ b) ⌝ }
-    ensures { λ r. ⌜ r ≡ a -ℤ b ⌝ }
+pub fn minus64(x: i64, y: i64) -> i64
+    requires { ⌜ SFits w64 (x -ℤ y) ⌝ }
+    ensures { λ r. ⌜ r ≡ x -ℤ y ⌝ }
 {
-    a - b
+    x - y
 }
 
 // The sum, at 64 bits: it never wraps.

@@ -11,10 +11,15 @@ use Rattle.integers.proofs.Limits.{limited-more, limited-both}
 use Rattle.faces.specs.Dart.{rev}
 use Rattle.faces.proofs.Darts.{rev-rev, rev-in}
 use Rattle.search.specs.Net.{Net}
+use Rattle.search.specs.Parents.{ParentRing}
 use Rattle.search.specs.Settled.{Still, Settled}
 use Rattle.edge_flows.specs.Flow.{flowOf, Flowing, mostPotential}
 use Rattle.solver.specs.Question.{mostCapacity}
 use Rattle.solver.specs.Search.{Searchable}
+
+-- of a ring, all that is said is that no flow was written and that the parents lead round it
+pub ring-kept : {N : Net} {parent : ℕ → ℕ} {d : ℕ} (flows : List ℤ) → d < N .darts → ParentRing N parent (N .left d) → (flows ≡ flows) × (d < N .darts) × ParentRing N parent (N .left d)
+ring-kept flows l r = (refl, l, r)
 
 mag-limited : (b : ℕ) (x : ℤ) → mag x ≤ b → Limited (b + 1) x
 mag-limited b (pos n) h = record { low = at-most (search parts) (omega arith); high = at-most (search parts) (omega arith) }

@@ -1,41 +1,14 @@
--- A worked example: two nodes and one edge, of lengths -1 from node 0 to node 1 and 3 back.
-use mathlib.Core.Path.{_≡_, refl}
-use mathlib.Core.Bool.{true}
+-- What the choice needs can be met: the case of `Above`, with node 0 at height 5 and node 1 at 4.
+use mathlib.Core.Path.{refl}
 use mathlib.Core.List.{[], _∷_}
 use native.Mathlib.Omega.{arith}
-use lib.Dec.{eqb}
 use lib.IntN.{pos, negsuc, negℤ}
 use lib.Signed.{ltZ-yes}
-use Rattle.integers.specs.Sum.{sum}
 use Rattle.integers.proofs.Tests.{every, every-below, every-at-most}
-use Rattle.faces.specs.Dart.{rev}
 use Rattle.traversal.specs.Arrays.{at, atℤ}
-use Rattle.thresholds.specs.Cut.{cutOf, above}
 use Rattle.thresholds.specs.Choice.{mostLength, mostHeight, Choosable}
+use Rattle.thresholds.proofs.Above.{above-four}
 
-first-node : cutOf 2 (at (0 ∷ 1 ∷ [])) (atℤ (negsuc 0 ∷ pos 3 ∷ [])) (λ v. eqb v 0) ≡ negsuc 0
-unfolding cutOf sum rev
-first-node = refl
-
-second-node : cutOf 2 (at (0 ∷ 1 ∷ [])) (atℤ (negsuc 0 ∷ pos 3 ∷ [])) (λ v. eqb v 1) ≡ pos 3
-unfolding cutOf sum rev
-second-node = refl
-
--- no dart leaves the set of all nodes
-both-nodes : cutOf 2 (at (0 ∷ 1 ∷ [])) (atℤ (negsuc 0 ∷ pos 3 ∷ [])) (λ v. true) ≡ pos 0
-unfolding cutOf sum rev
-both-nodes = refl
-
--- node 0 has height 5 and node 1 has 4: at the threshold 4 the set is node 0, and at 3 it is both
-above-four : cutOf 2 (at (0 ∷ 1 ∷ [])) (atℤ (negsuc 0 ∷ pos 3 ∷ [])) (above (atℤ (pos 5 ∷ pos 4 ∷ [])) (pos 4)) ≡ negsuc 0
-unfolding cutOf sum rev
-above-four = refl
-
-above-three : cutOf 2 (at (0 ∷ 1 ∷ [])) (atℤ (negsuc 0 ∷ pos 3 ∷ [])) (above (atℤ (pos 5 ∷ pos 4 ∷ [])) (pos 3)) ≡ pos 0
-unfolding cutOf sum rev
-above-three = refl
-
--- what the choice needs is met there: it is no empty demand
 heights-meet : Choosable 2 2 (at (0 ∷ 1 ∷ [])) (atℤ (negsuc 0 ∷ pos 3 ∷ [])) (atℤ (pos 5 ∷ pos 4 ∷ []))
 unfolding every
 heights-meet =

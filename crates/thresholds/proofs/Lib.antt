@@ -1,3 +1,4 @@
+pub mod Above
 pub mod Adding
 pub mod Lowering
 pub mod Choosing

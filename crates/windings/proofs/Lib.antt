@@ -1,3 +1,4 @@
 pub mod Crossing
 pub mod Round
 pub mod Found
+pub mod Examples

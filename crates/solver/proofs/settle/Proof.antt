@@ -2,7 +2,7 @@
 use mathlib.Core.Path.{refl}
 use native.Mathlib.Omega.{arith}
 use borrow.Author.Needs.{needs}
-use Rattle.solver.proofs.Settling.{flowing}
+use Rattle.solver.proofs.Settling.{ring-kept, flowing}
 use Rattle.solver.proofs.settle.Statement.{statement}
 use Rattle.solver.proofs.settle.Tie as tie
 
@@ -29,7 +29,7 @@ enum-known-outcome c = search needs
 returns : tie.Need-returns
 returns c =
     let a = rw (c .before .outcome .given .1) at (c .before .before .before .search .ensures) in
-    (refl, a .0, a .2)
+    ring-kept _ (a .0) (a .2)
 
 enum-told : tie.Need-enum-told
 enum-told c = search needs

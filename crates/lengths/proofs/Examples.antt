@@ -1,0 +1,28 @@
+-- A worked example: one edge from node 0 to node 1, of capacities 5 forth and 3 back. The value 7 goes along dart 0, so the lengths are 5 − 7 = −2 and 3 + 7 = 10.
+use mathlib.Core.Path.{_≡_, refl}
+use mathlib.Core.List.{[], _∷_}
+use Prim.Native.Nat.{ℕ, zero, suc, _<_}
+use native.Mathlib.Omega.{arith}
+use lib.IntN.{pos, negsuc, negℤ}
+use Rattle.integers.proofs.Tests.{every, every-at-most}
+use Rattle.faces.specs.Dart.{rev}
+use Rattle.faces.specs.Walk.{here, along}
+use Rattle.flows.proofs.UnitFlow.{walkFlow}
+use Rattle.lengths.specs.Filling.{at, atℤ, mostLength, Filled}
+
+-- what holds of 0 and of 1 holds of each number below 2
+two : (P : ℕ → Type 0) → P 0 → P 1 → (d : ℕ) → d < 2 → P d
+two P p q zero l = p
+two P p q (suc zero) l = q
+two P p q (suc (suc d)) l = absurd (omega arith)
+
+-- the walk from the node of dart 0 to the node of dart 1 is dart 0, in every map of one edge
+pub one-edge : Filled 2 0 1 (at (0 ∷ 1 ∷ [])) (at (0 ∷ 0 ∷ [])) (atℤ (pos 5 ∷ pos 3 ∷ [])) (pos 7) (atℤ (negsuc 1 ∷ pos 10 ∷ []))
+unfolding walkFlow rev every
+one-edge = record {
+  along = λ 𝓜 ρ. (along 0 (omega (arith, ρ .all-darts)) refl here, two _ refl refl);
+  limited = λ d l. record {
+    low = every-at-most 2 (λ d. negℤ (pos mostLength)) (atℤ (negsuc 1 ∷ pos 10 ∷ [])) refl d l;
+    high = every-at-most 2 (atℤ (negsuc 1 ∷ pos 10 ∷ [])) (λ d. pos mostLength) refl d l;
+  };
+}
