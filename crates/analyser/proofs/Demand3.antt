@@ -1,10 +1,18 @@
--- Demand 3, of Solve: "For every accepted flat connected drawing and question: "cannot" exactly when no whole-number settings carry the delivery, with a set of nodes
--- that proves it". Everything here follows from Solve's contract, `Solves`, and from nothing else; a sheet that is accepted is flat and connected, because 11 and 12
--- are among its checks. Settings are any function from edges to whole numbers: no bound is assumed of them.
+-- Demand 3, of Solve and Largest: "For every accepted flat connected drawing and question: "cannot" exactly when no whole-number settings carry the delivery, with a set of
+-- nodes that proves it; the largest delivery is carried by the settings given, nothing greater can be, and its set proves the next one impossible; "none" exactly when
+-- nothing at all can be delivered, with a set that proves it." Everything here follows from the contracts, `Solves` and `FindsLargest`, and from nothing else; a sheet
+-- that is accepted is flat and connected, because 11 and 12 are among its checks. Settings are any function from edges to whole numbers, deliveries any whole number: no
+-- bound is assumed of them.
 use mathlib.Core.Path.{_≡_, refl, sym, subst}
+use mathlib.Core.Logic.{_≢_, _⊎_, inl, inr}
+use mathlib.Core.Bool.{Bool}
 use mathlib.Core.List.{List}
 use Prim.Native.Nat.{ℕ, _<_}
-use lib.IntN.{ℤ}
+use native.Mathlib.Omega.{arith}
+use lib.IntN.{ℤ, pos, _+ℤ_}
+use lib.Signed.{_≤ℤ_, _<ℤ_}
+use Rattle.integers.specs.Limited.{Limited}
+use Rattle.integers.proofs.Omega.{atoms₁, atoms₃, parts, at-most, from-at-most, from-less}
 use Rattle.refusals.specs.Order.{NoneOf}
 use Rattle.refusals.proofs.Order.{first-none}
 use Rattle.flows.specs.Settings.{Carries}
@@ -13,16 +21,25 @@ use Rattle.flows.specs.ProvingSet.{Proves, member, size}
 use Rattle.flows.proofs.Exact.{proves-excludes}
 use Rattle.flows.proofs.HighestFlow.{highest-unique}
 use Rattle.flows.proofs.Agreement.{highest-agrees}
+use Rattle.flows.proofs.Interval.{AtSource, AtSink, Beside, which, source-limits, source-short, sink-proves-less, beside-proves, beside-proves-all}
+use Rattle.flows.proofs.ValueBound.{value-small}
+use Rattle.faces.specs.Cut.{cut}
 use Rattle.records.specs.Sheet.{nodesOf, edgesOf, capacityOf, sheetMap}
 use Rattle.sheets.specs.Network.{atℤ}
 use Rattle.analyser.specs.Question.{SetWritten}
 use Rattle.analyser.specs.Solve.{solveChecks, Solves}
 use Rattle.analyser.specs.declared.SolveAnswer.{SolveAnswer}
 use Rattle.analyser.specs.declared.SolveAnswer.the-variants.{Can, Cannot, Refused}
+use Rattle.analyser.specs.Largest.{largestChecks, FindsLargest}
+use Rattle.analyser.specs.declared.LargestAnswer.{LargestAnswer}
+use Rattle.analyser.specs.declared.LargestAnswer.the-variants.{Value, None}
+use Rattle.analyser.specs.declared.LargestAnswer.the-variants as largest
 use Rattle.analyser.proofs.Marking.{ends-in}
-use Rattle.analyser.proofs.SheetPlane.{plane, root-in}
+use Rattle.analyser.proofs.SheetPlane.{plane, root-in, capacity-high}
 use Rattle.analyser.proofs.Round.{filled-at}
+use Rattle.sheets.proofs.Reading.{sheet-counts}
 use Rattle.analyser.proofs.Solving.{Accepted, accepted, ends-differ}
+use Rattle.analyser.proofs.Finding.{Sought, sought}
 
 -- settings x carry the delivery asked, from the sheet's headgate to its outfall within its limits
 abbrev pub Delivers : List ℕ → (source sink : ℕ) → ℤ → (ℕ → ℤ) → Type 0
@@ -85,3 +102,92 @@ module _ (s : List ℕ) (source sink : ℕ) (value : ℤ) (flows flows' : List �
         by Can h none = absurd (none (atℤ flows') (can-carries h))
         by (Cannot n) h none = (n, refl)
         by (Refused k p) h none = absurd (never-refused k p h)
+
+-- ── Largest ──
+module _ (s : List ℕ) (source sink : ℕ) (flows flows' : List ℤ) (set set' : List ℕ) (asked : NoneOf (largestChecks s source sink flows set)) where
+  known : Sought s source sink flows set
+  known = sought s source sink flows set asked
+
+  ends : (source < nodesOf s) × (sink < nodesOf s)
+  ends = ends-in (nodesOf s) source sink (known .ends-two)
+
+  apart : source ≢ sink
+  apart = ends-differ (nodesOf s) source sink (known .ends-two)
+
+  excludes : (value : ℤ) (S : ℕ → Bool) → Proves (sheetMap s) (capacityOf s) source sink value S → (x : ℕ → ℤ) → Delivers s source sink value x → ⊥
+  excludes value S = proves-excludes (plane s (known .sheet) .sound .range) (ends .0) (ends .1) apart (capacityOf s) value S
+
+  pub largest-answered : (k p : ℕ) → FindsLargest s source sink flows flows' set set' (largest.Refused k p) → ⊥
+  largest-answered k p h = first-none (largestChecks s source sink flows set) k p (h .0) asked
+
+  -- ── the largest delivery is carried by the settings given, the highest answer, of which there is one ──
+  module _ (v : ℤ) (h : FindsLargest s source sink flows flows' set set' (Value v)) where
+    pub largest-highest : Highest (sheetMap s) 0 (capacityOf s) source sink v (atℤ flows')
+    largest-highest =
+        let x = h .1 .0 in
+        highest-agrees (sheetMap s) x (atℤ flows') (λ i l. sym (filled-at (edgesOf s) x flows flows' (h .1 .2) i l)) (h .1 .1)
+
+    pub largest-carries : Delivers s source sink v (atℤ flows')
+    largest-carries = largest-highest .carries
+
+    pub largest-only : (y : ℕ → ℤ) → Highest (sheetMap s) 0 (capacityOf s) source sink v y → (i : ℕ) → i < edgesOf s → atℤ flows' i ≡ y i
+    largest-only y = highest-unique (plane s (known .sheet)) (ends .0) (ends .1) apart 0 (root-in s (known .sheet)) (atℤ flows') y largest-highest
+
+    -- ── its set proves the next one impossible ──
+    pub next-impossible : (words : List ℕ) × SetWritten (nodesOf s) words set set' × Proves (sheetMap s) (capacityOf s) source sink (v +ℤ pos 1) (member words)
+    next-impossible = h .2
+
+    -- ── nothing greater can be delivered: the set holds the source only, since it would exclude v as well if it held the sink only, or both or neither ──
+    pub nothing-greater : (w : ℤ) (x : ℕ → ℤ) → Delivers s source sink w x → w ≤ℤ v
+    nothing-greater w x d = go (which source sink (member (h .2 .0)))
+      where
+        proves : Proves (sheetMap s) (capacityOf s) source sink (v +ℤ pos 1) (member (h .2 .0))
+        proves = h .2 .2
+
+        go : AtSource source sink (member (h .2 .0)) ⊎ (AtSink source sink (member (h .2 .0)) ⊎ Beside source sink (member (h .2 .0))) → w ≤ℤ v
+        go (inl side) =
+            let k = atoms₃ w v (cut (sheetMap s) (capacityOf s) (member (h .2 .0))) in
+            at-most (search parts) (omega (
+              arith,
+              from-at-most (source-limits (plane s (known .sheet) .sound .range) (ends .0) (ends .1) apart (capacityOf s) (member (h .2 .0)) side w x d) (search parts),
+              from-less (source-short (sheetMap s) (capacityOf s) source sink (member (h .2 .0)) side (v +ℤ pos 1) proves) (search parts),
+            ))
+        go (inr (inl side)) = absurd (excludes v (member (h .2 .0)) (sink-proves-less (sheetMap s) (capacityOf s) source sink (member (h .2 .0)) side (v +ℤ pos 1) v below proves) (atℤ flows') largest-carries)
+          where
+            below : v ≤ℤ (v +ℤ pos 1)
+            below = let k = atoms₁ v in at-most (search parts) (omega arith)
+        go (inr (inr side)) = absurd (excludes v (member (h .2 .0)) (beside-proves-all (sheetMap s) (capacityOf s) source sink (member (h .2 .0)) side (v +ℤ pos 1) proves v) (atℤ flows') largest-carries)
+
+    -- it lies within ±512,000,000
+    pub largest-small : Limited 512000000 v
+    largest-small =
+        value-small (plane s (known .sheet) .sound .range) (ends .0) (ends .1) apart (capacityOf s) (sheet-counts s (known .sheet) .3) (capacity-high s (known .sheet)) v (atℤ flows') largest-carries
+
+  -- ── "none": the set given proves each delivery impossible, of every whole number ──
+  module _ (h : FindsLargest s source sink flows flows' set set' None) where
+    pub none-proves : (value : ℤ) → Proves (sheetMap s) (capacityOf s) source sink value (member (h .2 .0))
+    none-proves = beside-proves (sheetMap s) (capacityOf s) source sink (member (h .2 .0)) (h .2 .2) (h .2 .3)
+
+    pub none-delivered : (value : ℤ) (x : ℕ → ℤ) → Delivers s source sink value x → ⊥
+    none-delivered value = excludes value (member (h .2 .0)) (none-proves value)
+
+  -- ── exactly when ──
+  module _ (answer : LargestAnswer) (found : FindsLargest s source sink flows flows' set set' answer) where
+    pub none-exactly : (answer ≡ None → (value : ℤ) (x : ℕ → ℤ) → Delivers s source sink value x → ⊥)
+        × (((value : ℤ) (x : ℕ → ℤ) → Delivers s source sink value x → ⊥) → answer ≡ None)
+    none-exactly = ((λ q. none-delivered (subst (FindsLargest s source sink flows flows' set set') q found)), (λ nothing. by answer found nothing))
+      where
+        by : (r : LargestAnswer) → FindsLargest s source sink flows flows' set set' r → ((value : ℤ) (x : ℕ → ℤ) → Delivers s source sink value x → ⊥) → r ≡ None
+        by (Value v) h nothing = absurd (nothing v (atℤ flows') (largest-carries v h))
+        by None h nothing = refl
+        by (largest.Refused k p) h nothing = absurd (largest-answered k p h)
+
+    -- a value is given exactly when something can be delivered
+    pub value-exactly : ((v : ℤ) → answer ≡ Value v → Delivers s source sink v (atℤ flows'))
+        × ((value : ℤ) (x : ℕ → ℤ) → Delivers s source sink value x → (v : ℤ) × (answer ≡ Value v))
+    value-exactly = ((λ v q. largest-carries v (subst (FindsLargest s source sink flows flows' set set') q found)), (λ value x d. by answer found value x d))
+      where
+        by : (r : LargestAnswer) → FindsLargest s source sink flows flows' set set' r → (value : ℤ) (x : ℕ → ℤ) → Delivers s source sink value x → (v : ℤ) × (r ≡ Value v)
+        by (Value v) h value x d = (v, refl)
+        by None h value x d = absurd (none-delivered h value x d)
+        by (largest.Refused k p) h value x d = absurd (largest-answered k p h)

@@ -6,4 +6,5 @@ pub mod SheetPlane
 pub mod LevelsFound
 pub mod Round
 pub mod Solving
+pub mod Finding
 pub mod Demand3

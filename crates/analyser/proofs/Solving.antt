@@ -122,7 +122,7 @@ module _ (s : List ℕ) (sheet : NoneOf (sheetChecks s)) (held : Network) (h : H
   abbrev map' : Map
   map' = mapOf (held .nodes) (held .edges) (held .tails) (held .rotations)
 
-  map-held : mapOf (held .nodes) (held .edges) (held .tails) (held .rotations) ≡ sheetMap s
+  pub map-held : mapOf (held .nodes) (held .edges) (held .tails) (held .rotations) ≡ sheetMap s
   map-held = rw (h .nodes, h .edges, h .tails, h .rotations) refl
 
   drawn-sheet : Drawn (sheetMap s) (at (held .faces)) 0 (capacityOf s)
@@ -166,7 +166,7 @@ module _ (s : List ℕ) (sheet : NoneOf (sheetChecks s)) (held : Network) (h : H
     abbrev words : List ℕ
     words = take (wordsFor (nodesOf s)) set'
 
-    written-sheet : Written inside (nodesOf s) set set'
+    pub written-sheet : Written inside (nodesOf s) set set'
     written-sheet = subst (λ n. Written inside n set set') (h .nodes) written
 
     pub set-written : SetWritten (nodesOf s) (take (wordsFor (nodesOf s)) set') set set'

@@ -1,12 +1,14 @@
-// The analyser's operations on sheets. Document 01, "Operations": Solve, Mark, Levels from settings, Settings from levels.
+// The analyser's operations on sheets. Document 01, "Operations": Solve, Largest, Mark, Levels from settings, Settings from levels.
 ghost use mathlib.Core.Path.{_≡_};
 ghost use Prim.Native.Nat.{_<_, _≤_};
 ghost use Rattle.refusals.specs.Order.{Decides, Judged};
 ghost use Rattle.analyser.specs.Question.{endChecks, ValueOutside, roomChecks};
 ghost use Rattle.analyser.specs.Solve.{Solves};
+ghost use Rattle.analyser.specs.Largest.{FindsLargest};
 ghost use Rattle.analyser.specs.Mark.{Marks};
 ghost use Rattle.analyser.specs.LevelsOf.{GivesLevels};
 ghost use Rattle.analyser.specs.SettingsOf.{GivesSettings};
+use maximum::Maximum;
 use refusals::Verdict;
 
 fn wide(x: u16) -> usize
@@ -123,6 +125,63 @@ pub fn solve(
     }
     node_sets::write_set(&inside, nodes, set);
     SolveAnswer::Cannot(narrow(node_sets::count_set(&*set, nodes)))
+}
+
+// What Largest answers: the largest value that can be carried, that nothing at all can be, or the number of a refusal and its place.
+pub enum LargestAnswer {
+    Value(i32),
+    None,
+    Refused(u8, u16),
+}
+
+// Largest: the largest value that can be carried from source to sink, its highest flow, and a set that proves the next greater one impossible; or a set that proves
+// that nothing can be carried, with the flows left as they were.
+pub fn largest(
+    sheet: &[u8],
+    source: u16,
+    sink: u16,
+    flows: &mut [i32],
+    set: &mut [u64],
+) -> LargestAnswer
+    ensures { λ r. ⌜ FindsLargest (now (sheet .entry)) source sink (now (flows .entry)) (now (flows .exit)) (now (set .entry)) (now (set .exit)) r ⌝ }
+{
+    let opened = sheets::open(sheet);
+    let verdict = opened.verdict;
+    if let Verdict::Refused(k, p) = verdict {
+        return LargestAnswer::Refused(k, p);
+    }
+    let network = opened.network;
+    let nodes = network.nodes;
+    let edges = network.edges;
+    let s = wide(source);
+    let t = wide(sink);
+    let ends = check_ends(nodes, s, t);
+    if let Verdict::Refused(k, p) = ends {
+        return LargestAnswer::Refused(k, p);
+    }
+    let room = check_room(nodes, edges, flows.len(), set.len());
+    if let Verdict::Refused(k, p) = room {
+        return LargestAnswer::Refused(k, p);
+    }
+    let mut inside = [0u8; 1024];
+    let most = maximum::maximize(
+        &network.tails,
+        &network.rotations,
+        &network.faces,
+        &network.capacities,
+        nodes,
+        edges,
+        0,
+        s,
+        t,
+        flows,
+        &mut inside,
+    );
+    node_sets::write_set(&inside, nodes, set);
+    if let Maximum::Value(v) = most {
+        return LargestAnswer::Value(v);
+    }
+    LargestAnswer::None
 }
 
 // What Mark answers: the value, or the number of a refusal and its place.

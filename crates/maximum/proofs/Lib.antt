@@ -1,0 +1,4 @@
+pub mod Gap
+pub mod Stepping
+pub mod Joining
+pub mod Bracketing

@@ -1,0 +1,25 @@
+-- `maximum::halve` meets its contract: the bits of a number that is not below zero are the number itself.
+use mathlib.Core.Path.{_∙_, ap}
+use borrow.Author.Needs.{needs}
+use mir.Syntax.{w32}
+use mir.Val.{ofZ}
+use Rattle.signed.proofs.Laws.{number-of-bits}
+use Rattle.maximum.proofs.Stepping.{halved}
+use Rattle.maximum.proofs.halve.Statement.{statement}
+use Rattle.maximum.proofs.halve.Tie as tie
+
+to-bits-requires : tie.Need-to-bits-requires
+to-bits-requires c κs = search needs
+
+of-bits-requires : tie.Need-of-bits-requires
+of-bits-requires c κs = search needs
+
+returns : tie.Need-returns
+returns c =
+    let s = c .before .before in
+    halved (s .args .x) _ (c .before .to-bits .result) (s .fits .x) (s .pre)
+    (c .before .to-bits .ensures ∙ ap (ofZ w32) (number-of-bits _ (s .fits .x)))
+    (number-of-bits _ (record { sfits = c .of-bits .ok }) ∙ c .of-bits .ensures)
+
+pub halve-spec : {M : Type 1} → statement M
+halve-spec = tie.close (tie.spec to-bits-requires of-bits-requires returns)

@@ -1,0 +1,83 @@
+-- `maximum::join` meets its contract: the total is the cut of the union, and its sign says which of the two is kept.
+use mathlib.Core.Path.{_≡_, sym, _∙_, subst}
+use mathlib.Core.Logic.{inl, inr}
+use lib.IntN.{pos}
+use lib.Signed.{_≤ℤ_, _<ℤ_}
+use mir.Syntax.{w32}
+use mir.Val.{toZ, ofZ}
+use borrow.Author.Needs.{needs}
+use Rattle.integers.proofs.Laws.{lt-of-test, ge-of-test}
+use Rattle.signed.proofs.Laws.{number-of-bits}
+use Rattle.faces.specs.Cut.{union}
+use Rattle.traversal.specs.Arrays.{at, atℤ}
+use Rattle.thresholds.specs.Cut.{cutOf}
+use Rattle.node_flags.specs.Flags.{flagged}
+use Rattle.maximum.proofs.Joining.{cut-flags}
+use Rattle.maximum.proofs.join.Statement.{statement}
+use Rattle.maximum.proofs.join.Tie as tie
+
+-- the flags that are united have the cut of the union
+abbrev UnionTotal : tie.After-cut-of → Type 0
+UnionTotal c =
+    let s = c .before .before .before .before .before in
+    toZ w32 (ofZ w32 (c .cut-of .result))
+    ≡ cutOf (s .args .darts) (at (s .args .tails .now)) (atℤ (s .args .capacities .now)) (union (flagged (s .args .a .now)) (flagged (s .args .b .now)))
+
+union-total : (c : tie.After-cut-of) → UnionTotal c
+union-total c =
+    let s = c .before .before .before .before .before in
+    number-of-bits _ (record { sfits = c .cut-of .ok }) ∙ c .cut-of .ensures ∙ cut-flags _ _ _ _ _ (s .pre .2) (s .pre .3) (c .before .before .unite .ensures .1)
+
+unite-requires : tie.Need-unite-requires
+unite-requires c κs = search needs
+
+cut-of-requires : tie.Need-cut-of-requires
+cut-of-requires c κs = search needs
+
+is-less-requires : tie.Need-is-less-requires
+is-less-requires c κs = search needs
+
+copy-flags-requires : tie.Need-copy-flags-requires
+copy-flags-requires c κs = search needs
+
+returns : tie.Need-returns
+returns c =
+    let tested = c .before .before .before .before in
+    let united = tested .before .before .before in (
+      c .copy-flags .ensures .0,
+      inl (
+        λ u l. c .copy-flags .ensures .1 u l ∙ united .unite .ensures .1 u l,
+        subst (λ t. t <ℤ pos 0) (union-total (tested .before)) (lt-of-test _ _ (sym (tested .is-less .ensures) ∙ c .before .before .before .if1 .taken)),
+      ),
+    )
+
+intersect-requires : tie.Need-intersect-requires
+intersect-requires c κs = search needs
+
+copy-flags-requires-2 : tie.Need-copy-flags-requires-2
+copy-flags-requires-2 c κs = search needs
+
+returns-2 : tie.Need-returns-2
+returns-2 c =
+    let met = c .before .before .before in
+    let left = met .before .before .before in
+    let tested = left .before in (
+      c .copy-flags2 .ensures .0,
+      inr (
+        λ u l. c .copy-flags2 .ensures .1 u l ∙ met .intersect .ensures .1 u l,
+        subst (λ t. pos 0 ≤ℤ t) (union-total (tested .before)) (ge-of-test _ _ (sym (tested .is-less .ensures) ∙ left .if1 .left)),
+      ),
+    )
+
+pub join-spec : {M : Type 1} → statement M
+join-spec =
+    tie.close
+    (tie.spec
+    unite-requires
+    cut-of-requires
+    is-less-requires
+    copy-flags-requires
+    returns
+    intersect-requires
+    copy-flags-requires-2
+    returns-2)

@@ -1,0 +1,380 @@
+-- Probing between two bounds meets its contract: the loop keeps `Probing`, each probe makes the gap smaller, and its three ways out are laws of `Bracketing`.
+use mathlib.Core.Path.{_≡_, refl, sym, _∙_, ap, subst}
+use mathlib.Core.Bool.{Bool, true, false}
+use mathlib.Core.List.{List}
+use Prim.Native.Nat.{ℕ, _*_, _≤_, _<_}
+use native.Mathlib.Omega.{arith}
+use lib.Dec.{eqb}
+use lib.ListN.{length}
+use lib.IntN.{ℤ, negℤ}
+use lib.Signed.{_≤ℤ_, _<ℤ_}
+use mir.Syntax.{w32}
+use mir.Val.{toZ, ofZ}
+use borrow.Author.Needs.{needs}
+use Rattle.integers.specs.Limited.{Limited}
+use Rattle.integers.proofs.Laws.{ge-of-test, lt-of-test}
+use Rattle.integers.proofs.Limits.{limited-more, limited-neg}
+use Rattle.signed.proofs.Laws.{number-of-bits}
+use Rattle.signed.proofs.Limits.{same-bits}
+use Rattle.faces.specs.Map.{Map}
+use Rattle.flows.proofs.ValueBound.{cut-small}
+use Rattle.traversal.specs.Arrays.{at, atℤ}
+use Rattle.sheets.proofs.Reading.{filled-length}
+use Rattle.thresholds.specs.Cut.{cutOf}
+use Rattle.thresholds.proofs.Found.{cut-of}
+use Rattle.node_flags.specs.Flags.{flagged}
+use Rattle.solver.specs.Question.{mapOf}
+use Rattle.solver.specs.Decision.{Decided}
+use Rattle.maximum.specs.Bracket.{Bracket}
+use Rattle.maximum.specs.Maximum.{Maximized}
+use Rattle.maximum.proofs.Gap.{gap, gap-carried}
+use Rattle.maximum.proofs.Bracketing.{Ground, Probing, high-small, low-small, begins, between-limited, above-low, carried, nothing, narrowed, met, passed, bits-bracket, bits-gap, same-bracket}
+use Rattle.maximum.proofs.maximize.Statement.{statement}
+use Rattle.maximum.proofs.maximize.Tie as tie
+
+abbrev Inv-loop : tie.InvT-loop
+Inv-loop tails rotations lefts capacities nodes edges root source sink flows₀ a₀ b₀ inside₀ high₀ low₀ found₀ top₀ flows a b inside high low found top =
+    Probing (mapOf nodes edges tails rotations) root (atℤ capacities) source sink flows₀ flows a b inside (toZ w32 low) (toZ w32 high) found
+
+abbrev μ-loop : tie.MeasureT-loop
+μ-loop tails rotations lefts capacities nodes edges root source sink flows₀ a₀ b₀ inside₀ high₀ low₀ found₀ top₀ flows a b inside high low found top =
+    gap (toZ w32 low) (toZ w32 high) found
+
+-- ── what the function is given ──
+abbrev 𝓜 : tie.Start Inv-loop μ-loop → Map
+𝓜 c = mapOf (c .args .nodes) (c .args .edges) (c .args .tails .now) (c .args .rotations .now)
+
+abbrev caps : tie.Start Inv-loop μ-loop → ℕ → ℤ
+caps c = atℤ (c .args .capacities .now)
+
+abbrev src : tie.Start Inv-loop μ-loop → ℕ
+src c = c .args .source
+
+abbrev snk : tie.Start Inv-loop μ-loop → ℕ
+snk c = c .args .sink
+
+ground : (c : tie.Start Inv-loop μ-loop) → Ground (𝓜 c) (caps c) (src c) (snk c)
+ground c =
+    let p = c .pre in
+    record { plane = p .3 .plane; few-nodes = p .3 .few-nodes; few-edges = p .3 .few-edges; small = p .2; pairs = p .3 .pairs; two = p .4 }
+
+tails-in : (c : tie.Start Inv-loop μ-loop) (d : ℕ) → d < 2 * c .args .edges → at (c .args .tails .now) d < 1024
+tails-in c d l = omega (arith, c .pre .3 .few-nodes, c .pre .3 .plane .sound .range .tail-in d l)
+
+caps-in : (c : tie.Start Inv-loop μ-loop) (d : ℕ) → d < 2 * c .args .edges → Limited 2000000 (caps c d)
+caps-in c d l = limited-more (omega arith) (c .pre .2 d l)
+
+-- ── before the loop ──
+flag-one-requires : tie.Need-flag-one-requires Inv-loop μ-loop
+flag-one-requires c κs = let p = c .before .pre in (p .0, omega (arith, p .4 .source-in, p .3 .few-nodes))
+
+flag-one-requires-2 : tie.Need-flag-one-requires-2 Inv-loop μ-loop
+flag-one-requires-2 c κs = let p = c .before .before .before .pre in (refl, omega (arith, p .4 .sink-in, p .3 .few-nodes))
+
+mul-cut-of : tie.Need-mul-cut-of Inv-loop μ-loop
+mul-cut-of c = omega (arith, c .before .before .before .before .before .pre .3 .few-edges)
+
+cut-of-requires : tie.Need-cut-of-requires Inv-loop μ-loop
+cut-of-requires c κs =
+    let b = c .before .before .before .before .before in
+    (omega (arith, b .pre .3 .few-edges), omega arith, tails-in b, caps-in b)
+
+mul-cut-of-2 : tie.Need-mul-cut-of-2 Inv-loop μ-loop
+mul-cut-of-2 c = omega (arith, c .before .before .before .before .before .before .before .pre .3 .few-edges)
+
+cut-of-requires-2 : tie.Need-cut-of-requires-2 Inv-loop μ-loop
+cut-of-requires-2 c κs =
+    let b = c .before .before .before .before .before .before .before in
+    (omega (arith, b .pre .3 .few-edges), omega arith, tails-in b, caps-in b)
+
+-- the cut of a set, of the map
+small-cut : (c : tie.Start Inv-loop μ-loop) (S : ℕ → _) (total : ℤ) → total ≡ cutOf (2 * c .args .edges) (at (c .args .tails .now)) (caps c) S → Limited 512000000 total
+small-cut c S total e = subst (Limited 512000000) (sym (e ∙ sym (cut-of (𝓜 c) (caps c) S))) (cut-small (𝓜 c) (caps c) (c .pre .3 .few-edges) (c .pre .2) S)
+
+bits-limited : {b : ℕ} {x : ℤ} → b < 2147483648 → Limited b x → Limited b (toZ w32 (ofZ w32 x))
+bits-limited {b} l h = subst (Limited b) (sym (same-bits l h)) h
+
+abbrev first : tie.After-cut-of2 Inv-loop μ-loop → tie.Start Inv-loop μ-loop
+first c = c .before .before .before .before .before .before .before .before
+
+second-small : (c : tie.After-cut-of2 Inv-loop μ-loop) → Limited 512000000 (c .cut-of2 .result)
+second-small c = small-cut (first c) (flagged (c .before .before .before .before .flag-one2 .last .1 .0)) (c .cut-of2 .result) (c .cut-of2 .ensures)
+
+negate-requires : tie.Need-negate-requires Inv-loop μ-loop
+negate-requires c κs = limited-more (omega arith) (bits-limited (omega arith) (second-small c))
+
+loop-holds : tie.Need-loop-holds Inv-loop μ-loop
+loop-holds c =
+    let k = c .before in
+    let b = first k in
+    let f2 = k .before .before .before .before in
+    let f1 = f2 .before .before in
+    let A = f1 .flag-one .last .1 .0 in
+    let B = f2 .flag-one2 .last .1 .0 in
+    let o = k .before .before .cut-of in
+    let is-low = c .negate .ensures ∙ ap negℤ (same-bits (omega arith) (second-small k)) in
+    record {
+      size-a = f1 .flag-one .ensures .0;
+      size-b = f2 .flag-one2 .ensures .0;
+      size-inside = refl;
+      size-flows = refl;
+      bracket =
+          begins (b .args .root) (ground b) (b .args .flows .now) A B _ _
+          (f1 .flag-one .ensures .1) (f2 .flag-one2 .ensures .1)
+          (same-bits (omega arith) (small-cut b (flagged A) (o .result) (o .ensures)) ∙ o .ensures)
+          (same-bits (omega arith) (subst (Limited 512000000) (sym is-low) (limited-neg (second-small k))) ∙ is-low ∙ ap negℤ (k .cut-of2 .ensures));
+    }
+
+-- ── in the loop ──
+abbrev start : tie.At-loop Inv-loop μ-loop → tie.Start Inv-loop μ-loop
+start c = c .before .before .before .before .before .before .before .before .before .before
+
+abbrev lo : tie.At-loop Inv-loop μ-loop → ℤ
+lo c = toZ w32 (c .loop .low)
+
+abbrev hi : tie.At-loop Inv-loop μ-loop → ℤ
+hi c = toZ w32 (c .loop .high)
+
+is-less-requires : tie.Need-is-less-requires Inv-loop μ-loop
+is-less-requires c κs = search needs
+
+mul-join : tie.Need-mul-join Inv-loop μ-loop
+mul-join c = omega (arith, start (c .before .before) .pre .3 .few-edges)
+
+join-requires : tie.Need-join-requires Inv-loop μ-loop
+join-requires c κs =
+    let l = c .before .before .before .before in
+    let b = start l in
+    (l .loop .inv .size-a, omega (arith, b .pre .3 .few-edges), omega arith, tails-in b, caps-in b)
+
+finished-requires : tie.Need-finished-requires Inv-loop μ-loop
+finished-requires c κs = search needs
+
+-- the bounds are small
+lo-small : (c : tie.At-loop Inv-loop μ-loop) → Limited 512000000 (lo c)
+lo-small c = low-small (start c .args .root) (ground (start c)) _ _ (flagged (c .loop .b)) (lo c) (c .loop .found) (c .loop .inv .bracket .floor)
+
+hi-small : (c : tie.At-loop Inv-loop μ-loop) → Limited 512000000 (hi c)
+hi-small c = high-small (start c .args .root) (ground (start c)) (c .loop .inv .bracket .ceiling)
+
+-- and in order, where they have not passed each other
+abbrev looping : tie.Else2 Inv-loop μ-loop → tie.At-loop Inv-loop μ-loop
+looping c = c .before .before .before .before
+
+in-order : (c : tie.Else2 Inv-loop μ-loop) → lo (looping c) ≤ℤ hi (looping c)
+in-order c = let e = c .before .before in ge-of-test _ _ (sym (e .before .is-less .ensures) ∙ e .if1 .left)
+
+next-value-requires : tie.Need-next-value-requires Inv-loop μ-loop
+next-value-requires c κs = (in-order c, limited-more (omega arith) (lo-small (looping c)), limited-more (omega arith) (hi-small (looping c)))
+
+-- ── the value probed, as the number of its bits ──
+abbrev top : tie.After-next-value Inv-loop μ-loop → tie.At-loop Inv-loop μ-loop
+top c = looping (c .before)
+
+abbrev value : tie.After-next-value Inv-loop μ-loop → ℤ
+value c = toZ w32 (ofZ w32 (c .next-value .result))
+
+value-small : (c : tie.After-next-value Inv-loop μ-loop) → Limited 512000000 (c .next-value .result)
+value-small c = let e = c .next-value .ensures in between-limited 512000000 _ _ _ (e .0) (e .1) (lo-small (top c)) (hi-small (top c))
+
+same-value : (c : tie.After-next-value Inv-loop μ-loop) → value c ≡ c .next-value .result
+same-value c = same-bits (omega arith) (value-small c)
+
+at-least : (c : tie.After-next-value Inv-loop μ-loop) → lo (top c) ≤ℤ value c
+at-least c = subst (λ v. lo (top c) ≤ℤ v) (sym (same-value c)) (c .next-value .ensures .0)
+
+at-most : (c : tie.After-next-value Inv-loop μ-loop) → value c ≤ℤ hi (top c)
+at-most c = subst (λ v. v ≤ℤ hi (top c)) (sym (same-value c)) (c .next-value .ensures .1)
+
+above : (c : tie.After-next-value Inv-loop μ-loop) → top c .loop .found ≡ true → lo (top c) <ℤ value c
+above c e =
+    let q = c .before in
+    subst (λ v. lo (top c) <ℤ v) (sym (same-value c))
+    (above-low (lo (top c)) (hi (top c)) (c .next-value .result) (top c .loop .found) (in-order q) (q .before .finished .ensures .1 (q .if2 .left)) (c .next-value .ensures .2) e)
+
+decide-requires : tie.Need-decide-requires Inv-loop μ-loop
+decide-requires c κs =
+    let n = c .before .before in
+    let l = top n in
+    let p = start l .pre in
+    (l .loop .inv .size-inside, omega (arith, p .1, l .loop .inv .size-flows), p .3, p .4, limited-more (omega arith) (bits-limited (omega arith) (value-small n)))
+
+-- ── the value is carried ──
+abbrev asked : tie.After-decide Inv-loop μ-loop → tie.After-next-value Inv-loop μ-loop
+asked c = c .before .before .before
+
+abbrev flows' : tie.After-decide Inv-loop μ-loop → List ℤ
+flows' c = c .decide .last .1 .1 .1 .1 .1 .1 .1 .1 .1 .1 .0
+
+abbrev inside' : tie.After-decide Inv-loop μ-loop → List ℕ
+inside' c = c .decide .last .1 .1 .1 .1 .1 .1 .1 .1 .1 .1 .1 .0
+
+decided : (c : tie.After-decide Inv-loop μ-loop) {r : Bool} → c .decide .result ≡ r
+    → Decided (𝓜 (start (top (asked c)))) (start (top (asked c)) .args .root) (caps (start (top (asked c)))) (src (start (top (asked c)))) (snk (start (top (asked c)))) (value (asked c))
+    (top (asked c) .loop .flows) (flows' c) (inside' c) r
+decided c e =
+    let b = start (top (asked c)) in
+    subst (Decided (𝓜 b) (b .args .root) (caps b) (src b) (snk b) (value (asked c)) (top (asked c) .loop .flows) (flows' c) (inside' c)) e (c .decide .ensures .1)
+
+loop-less : tie.Need-loop-less Inv-loop μ-loop
+loop-less c =
+    let n = asked (c .before .before) in
+    gap-carried (lo (top n)) (hi (top n)) (value n) (at-least n) (at-most n) (top n .loop .found) (above n)
+
+loop-again : tie.Need-loop-again Inv-loop μ-loop
+loop-again c =
+    let k = c .before .before in
+    let n = asked k in
+    let l = top n in
+    let b = start l in
+    let i = l .loop .inv in
+    let d = decided k (c .if3 .taken) in
+    record {
+      size-a = i .size-a;
+      size-b = i .size-b;
+      size-inside = k .decide .ensures .0;
+      size-flows = filled-length _ _ (l .loop .flows) (flows' k) (d .2) (omega (arith, b .pre .1, i .size-flows)) ∙ i .size-flows;
+      bracket = carried (b .args .root) (ground b) (b .args .flows .now) (l .loop .flows) (l .loop .a) (l .loop .b) (lo l) (hi l) (l .loop .found) (i .bracket) (value n) (flows' k) (inside' k) d;
+    }
+
+-- ── it cannot be: the set moves a bound, or shows that there is nothing ──
+mul-narrow-by : tie.Need-mul-narrow-by Inv-loop μ-loop
+mul-narrow-by c = omega (arith, start (top (asked (c .before .before .before))) .pre .3 .few-edges)
+
+narrow-by-requires : tie.Need-narrow-by-requires Inv-loop μ-loop
+narrow-by-requires c κs =
+    let k = c .before .before .before .before .before in
+    let l = top (asked k) in
+    let b = start l in (
+      l .loop .inv .size-a,
+      l .loop .inv .size-b,
+      omega (arith, b .pre .4 .source-in, b .pre .3 .few-nodes),
+      omega (arith, b .pre .4 .sink-in, b .pre .3 .few-nodes),
+      omega (arith, b .pre .3 .few-edges),
+      omega arith,
+      tails-in b,
+      caps-in b,
+    )
+
+abbrev probed : tie.After-narrow-by Inv-loop μ-loop → tie.After-decide Inv-loop μ-loop
+probed c = c .before .before .before .before .before .before
+
+abbrev a' : tie.After-narrow-by Inv-loop μ-loop → List ℕ
+a' c = c .narrow-by .last .1 .1 .1 .1 .1 .1 .1 .1 .0
+
+abbrev b' : tie.After-narrow-by Inv-loop μ-loop → List ℕ
+b' c = c .narrow-by .last .1 .1 .1 .1 .1 .1 .1 .1 .1 .0
+
+refused : (c : tie.After-narrow-by Inv-loop μ-loop) → probed c .decide .result ≡ false
+refused c = c .before .before .before .before .if3 .left
+
+moved : (c : tie.After-narrow-by Inv-loop μ-loop) → c .narrow-by .result .none ≡ false
+    → Bracket (𝓜 (start (top (asked (probed c))))) (start (top (asked (probed c))) .args .root) (caps (start (top (asked (probed c))))) (src (start (top (asked (probed c))))) (snk (start (top (asked (probed c)))))
+    (start (top (asked (probed c))) .args .flows .now) (top (asked (probed c)) .loop .flows) (a' c) (b' c) (c .narrow-by .result .low) (c .narrow-by .result .high) (top (asked (probed c)) .loop .found)
+    × (gap (c .narrow-by .result .low) (c .narrow-by .result .high) (top (asked (probed c)) .loop .found) < gap (lo (top (asked (probed c)))) (hi (top (asked (probed c)))) (top (asked (probed c)) .loop .found))
+moved c e =
+    let k = probed c in
+    let n = asked k in
+    let l = top n in
+    let b = start l in
+    let r = c .narrow-by .ensures .2 in
+    let d = decided k (refused c) in
+    narrowed (b .args .root) (ground b) (b .args .flows .now) (l .loop .flows) (l .loop .a) (l .loop .b) (lo l) (hi l) (l .loop .found) (l .loop .inv .bracket)
+    (value n) (at-least n) (at-most n) (inside' k) (d .1) (a' c) (b' c) (c .narrow-by .result) (r .0) (r .1) (r .2) e
+
+loop-less-2 : tie.Need-loop-less-2 Inv-loop μ-loop
+loop-less-2 c =
+    let m = c .before .before .before in
+    let l = top (asked (probed m)) in
+    let b = start l in
+    let r = moved m (c .before .before .if4 .left) in
+    bits-gap (b .args .root) (ground b) _ _ (a' m) (b' m) _ _ (l .loop .found) (r .0) _ (r .1)
+
+loop-again-2 : tie.Need-loop-again-2 Inv-loop μ-loop
+loop-again-2 c =
+    let m = c .before .before .before in
+    let k = probed m in
+    let l = top (asked k) in
+    let b = start l in
+    let d = decided k (refused m) in
+    let r = moved m (c .before .before .if4 .left) in
+    record {
+      size-a = m .narrow-by .ensures .0;
+      size-b = m .narrow-by .ensures .1;
+      size-inside = k .decide .ensures .0;
+      size-flows = ap length (d .0) ∙ l .loop .inv .size-flows;
+      bracket = same-bracket (d .0) (bits-bracket (b .args .root) (ground b) _ _ (a' m) (b' m) _ _ (l .loop .found) (r .0));
+    }
+
+-- ── the ways out ──
+same-length : tie.Need-same-length Inv-loop μ-loop
+same-length c = search needs
+
+returns : tie.Need-returns Inv-loop μ-loop
+returns c =
+    let t = c .before .before .before in
+    let l = t .before .before in
+    let b = start l in (
+      c .join .ensures .0,
+      passed (b .args .root) (ground b) (b .args .flows .now) (l .loop .flows) (l .loop .a) (l .loop .b) (lo l) (hi l) (l .loop .found) (l .loop .inv .bracket)
+          (lt-of-test _ _ (sym (t .before .is-less .ensures) ∙ t .if1 .taken)) (c .join .last .1 .1 .1 .0) (c .join .ensures .1),
+    )
+
+same-length-2 : tie.Need-same-length-2 Inv-loop μ-loop
+same-length-2 c = search needs
+
+returns-2 : tie.Need-returns-2 Inv-loop μ-loop
+returns-2 c =
+    let l = c .before .before .before .before in
+    let b = start l in
+    let r = c .before .finished .ensures .0 (c .if2 .taken) in
+    (l .loop .inv .size-a, met (b .args .root) (ground b) (b .args .flows .now) (l .loop .flows) (l .loop .a) (l .loop .b) (lo l) (hi l) (l .loop .found) (l .loop .inv .bracket) (r .0) (r .1))
+
+same-length-3 : tie.Need-same-length-3 Inv-loop μ-loop
+same-length-3 c = search needs
+
+returns-3 : tie.Need-returns-3 Inv-loop μ-loop
+returns-3 c =
+    let m = c .before in
+    let k = probed m in
+    let n = asked k in
+    let l = top n in
+    let b = start l in
+    let r = m .narrow-by .ensures .2 in
+    let d = decided k (refused m) in
+    let h = nothing (b .args .root) (ground b) (b .args .flows .now) (l .loop .flows) (l .loop .a) (l .loop .b) (lo l) (hi l) (l .loop .found) (l .loop .inv .bracket)
+    (value n) (at-least n) (at-most n) (inside' k) (d .1) (a' m) (b' m) (m .narrow-by .result) (r .0) (r .1) (r .2) (c .if4 .taken) in
+    (m .narrow-by .ensures .0, (d .0 ∙ h .0, h .1, h .2))
+
+pub maximize-spec : {M : Type 1} → statement M
+maximize-spec =
+    tie.close
+    (tie.spec
+    Inv-loop
+    μ-loop
+    flag-one-requires
+    flag-one-requires-2
+    mul-cut-of
+    cut-of-requires
+    mul-cut-of-2
+    cut-of-requires-2
+    negate-requires
+    loop-holds
+    is-less-requires
+    mul-join
+    join-requires
+    finished-requires
+    next-value-requires
+    decide-requires
+    loop-less
+    loop-again
+    mul-narrow-by
+    narrow-by-requires
+    loop-less-2
+    loop-again-2
+    same-length
+    returns
+    same-length-2
+    returns-2
+    same-length-3
+    returns-3)

@@ -1,0 +1,212 @@
+// The largest value that can be carried: values are probed between two bounds. A set around the source bounds them above by its cut, a set around the sink below by the
+// negative of its cut; a probe carries its value, or its proving set moves a bound or shows that there is nothing. Where the bounds leave no value between them, the
+// union or the intersection of the two sets shows it.
+ghost use mathlib.Core.Path.{_≡_};
+ghost use mathlib.Core.Bool.{true, false};
+ghost use Prim.Native.Nat.{ℕ, _*_, _%_, _<_, _≤_};
+ghost use lib.ListN.{length};
+ghost use lib.IntN.{pos, negℤ};
+ghost use lib.Signed.{_≤ℤ_, _<ℤ_, ltZ};
+ghost use Rattle.integers.specs.Limited.{Limited};
+ghost use Rattle.traversal.specs.Arrays.{at, atℤ};
+ghost use Rattle.thresholds.specs.Cut.{cutOf};
+ghost use Rattle.node_flags.specs.Flags.{flagged, Sided};
+ghost use Rattle.node_flags.specs.declared.Side.{Side};
+ghost use Rattle.solver.specs.Question.{mapOf, Drawn, Ends};
+ghost use Rattle.maximum.specs.Bracket.{Bracket};
+ghost use Rattle.maximum.specs.Narrowing.{Narrows, Joins};
+ghost use Rattle.maximum.specs.Maximum.{Maximized};
+use node_flags::Side;
+
+// The two bounds after a proving set, or that it shows that there is nothing between any.
+pub struct Narrowed {
+    low: i32,
+    high: i32,
+    none: bool,
+}
+
+// The largest value, or that nothing at all can be carried.
+pub enum Maximum {
+    Value(i32),
+    Nothing,
+}
+
+fn negate(x: i32) -> i32
+    requires { ⌜ Limited 2048000000 x ⌝ }
+    ensures { λ r. ⌜ r ≡ negℤ x ⌝ }
+{
+    signed::minus(0, x)
+}
+
+fn is_less(x: i32, y: i32) -> bool
+    ensures { λ r. ⌜ r ≡ ltZ x y ⌝ }
+{
+    x < y
+}
+
+// Half of a number that is not below zero, rounded down.
+fn halve(x: i32) -> i32
+    requires { ⌜ pos 0 ≤ℤ x ⌝ }
+    ensures { λ r. ⌜ (pos 0 ≤ℤ r) × (r ≤ℤ x) × (pos 0 <ℤ x → r <ℤ x) ⌝ }
+{
+    signed::of_bits(signed::to_bits(x) / 2)
+}
+
+// The value to probe: the high bound or the middle in turn. The high bound, carried, is the answer at once; the middle halves what is left.
+fn next_value(low: i32, high: i32, top: bool) -> i32
+    requires { ⌜ (low ≤ℤ high) × Limited 600000000 low × Limited 600000000 high ⌝ }
+    ensures { λ r. ⌜ (low ≤ℤ r) × (r ≤ℤ high) × (low <ℤ high → low <ℤ r) ⌝ }
+{
+    if top {
+        return high;
+    }
+    signed::minus(high, halve(signed::minus(high, low)))
+}
+
+// Whether the bounds have met at a value that is carried.
+fn finished(low: i32, high: i32, found: bool) -> bool
+    ensures { λ r. ⌜ (r ≡ true → (found ≡ true) × (low ≡ high)) × (r ≡ false → found ≡ true → low ≡ high → ⊥) ⌝ }
+{
+    if found {
+        return low == high;
+    }
+    false
+}
+
+// What the flagged nodes, which prove a value impossible, do to the bounds. A set at the source is kept in a, one at the sink in b, and one beside both in a.
+fn narrow_by(
+    tails: &[u16; 1024],
+    capacities: &[i32; 1024],
+    inside: &[u8; 1024],
+    darts: usize,
+    source: usize,
+    sink: usize,
+    low: i32,
+    high: i32,
+    a: &mut [u8; 1024],
+    b: &mut [u8; 1024],
+) -> Narrowed
+    requires { ⌜ (length (now a) ≡ 1024) × (length (now b) ≡ 1024) × (source < 1024) × (sink < 1024) × (darts ≤ 1024) × (darts % 2 ≡ 0) × ((d : ℕ) → d < darts → at (now tails) d < 1024) × ((d : ℕ) → d < darts → Limited 2000000 (atℤ (now capacities) d)) ⌝ }
+    ensures { λ r. ⌜ (length (now (a .exit)) ≡ 1024) × (length (now (b .exit)) ≡ 1024) × ((side : Side) × Sided source sink (flagged (now (inside .entry))) side × Narrows (cutOf darts (at (now (tails .entry))) (atℤ (now (capacities .entry))) (flagged (now (inside .entry)))) low high (now (inside .entry)) (now (a .entry)) (now (a .exit)) (now (b .entry)) (now (b .exit)) r side) ⌝ }
+{
+    let total = node_flags::cut_of(tails, capacities, inside, darts);
+    let side = node_flags::side_of(inside, source, sink);
+    if let Side::Source = side {
+        node_flags::copy_flags(inside, a);
+        return Narrowed {
+            low: low,
+            high: total,
+            none: false,
+        };
+    }
+    if let Side::Sink = side {
+        node_flags::copy_flags(inside, b);
+        return Narrowed {
+            low: negate(total),
+            high: high,
+            none: false,
+        };
+    }
+    node_flags::copy_flags(inside, a);
+    Narrowed {
+        low: low,
+        high: high,
+        none: true,
+    }
+}
+
+// Where no value is left between the cuts of a and b, the union or the intersection has a cut below zero: it is kept in a.
+fn join(
+    tails: &[u16; 1024],
+    capacities: &[i32; 1024],
+    darts: usize,
+    a: &mut [u8; 1024],
+    b: &[u8; 1024],
+)
+    requires { ⌜ (length (now a) ≡ 1024) × (darts ≤ 1024) × (darts % 2 ≡ 0) × ((d : ℕ) → d < darts → at (now tails) d < 1024) × ((d : ℕ) → d < darts → Limited 2000000 (atℤ (now capacities) d)) ⌝ }
+    ensures { λ _. ⌜ (length (now (a .exit)) ≡ 1024) × Joins darts (at (now (tails .entry))) (atℤ (now (capacities .entry))) (now (a .entry)) (now (a .exit)) (now (b .entry)) ⌝ }
+{
+    let mut joined = [0u8; 1024];
+    node_flags::unite(&*a, b, &mut joined);
+    let total = node_flags::cut_of(tails, capacities, &joined, darts);
+    if is_less(total, 0) {
+        node_flags::copy_flags(&joined, a);
+        return;
+    }
+    node_flags::intersect(&*a, b, &mut joined);
+    node_flags::copy_flags(&joined, a);
+}
+
+// Probes values between the bounds until they meet or pass each other. The set that bounds the answer, or shows that there is none, is left in a.
+pub fn maximize<'a>(
+    tails: &'a [u16; 1024],
+    rotations: &'a [u16; 1024],
+    lefts: &'a [u16; 1024],
+    capacities: &'a [i32; 1024],
+    nodes: usize,
+    edges: usize,
+    root: usize,
+    source: usize,
+    sink: usize,
+    flows: &mut [i32],
+    a: &mut [u8; 1024],
+) -> Maximum
+    requires { ⌜ (length (now a) ≡ 1024) × (edges ≤ length (now flows)) × ((d : ℕ) → d < 2 * edges → Limited 1000000 (atℤ (now capacities) d)) × Drawn (mapOf nodes edges (now tails) (now rotations)) (at (now lefts)) root (atℤ (now capacities)) × Ends (mapOf nodes edges (now tails) (now rotations)) source sink ⌝ }
+    ensures { λ r. ⌜ (length (now (a .exit)) ≡ 1024) × Maximized (mapOf nodes edges (now (tails .entry)) (now (rotations .entry))) root (atℤ (now (capacities .entry))) source sink (now (flows .entry)) (now (flows .exit)) (now (a .exit)) r ⌝ }
+{
+    let mut b = [0u8; 1024];
+    let mut inside = [0u8; 1024];
+    node_flags::flag_one(source, &mut *a);
+    node_flags::flag_one(sink, &mut b);
+    let mut high = node_flags::cut_of(tails, capacities, &*a, 2 * edges);
+    let mut low = negate(node_flags::cut_of(tails, capacities, &b, 2 * edges));
+    let mut found = false;
+    let mut top = true;
+    let outcome = loop {
+        if is_less(high, low) {
+            join(tails, capacities, 2 * edges, &mut *a, &b);
+            break Maximum::Nothing;
+        }
+        if finished(low, high, found) {
+            break Maximum::Value(high);
+        }
+        let value = next_value(low, high, top);
+        top = !top;
+        if solver::decide(
+            tails,
+            rotations,
+            lefts,
+            capacities,
+            nodes,
+            edges,
+            root,
+            source,
+            sink,
+            value,
+            &mut *flows,
+            &mut inside,
+        ) {
+            low = value;
+            found = true;
+        } else {
+            let n = narrow_by(
+                tails,
+                capacities,
+                &inside,
+                2 * edges,
+                source,
+                sink,
+                low,
+                high,
+                &mut *a,
+                &mut b,
+            );
+            if n.none {
+                break Maximum::Nothing;
+            }
+            low = n.low;
+            high = n.high;
+        }
+    };
+    outcome
+}
