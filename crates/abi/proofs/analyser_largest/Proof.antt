@@ -1,0 +1,88 @@
+-- Each arm of the match has what Largest ensures of its answer, and tells it. The value fits 32 bits, since it is within ±512,000,000.
+use mathlib.Core.Path.{_≡_, refl}
+use mathlib.Core.List.{List}
+use Prim.Native.Nat.{ℕ}
+use native.Mathlib.Omega.{arith}
+use lib.IntN.{ℤ}
+use borrow.Author.Needs.{needs}
+use Rattle.signed.proofs.Limits.{same-bits}
+use Rattle.analyser.specs.Largest.{FindsLargest}
+use Rattle.analyser.specs.declared.LargestAnswer.{LargestAnswer}
+use Rattle.analyser.specs.declared.LargestAnswer.the-variants.{Value, None, Refused}
+use Rattle.analyser.proofs.Demand3.{largest-small}
+use Rattle.abi.proofs.analyser_largest.Statement.{statement}
+use Rattle.abi.proofs.analyser_largest.Tie as tie
+
+abbrev start : tie.After-largest → tie.Start
+start c = c .before .before .before .before .before
+
+abbrev flows' : tie.After-largest → List ℤ
+flows' c = c .largest .last .1 .1 .1 .0
+
+abbrev set' : tie.After-largest → List ℕ
+set' c = c .largest .last .1 .1 .1 .1 .0
+
+found : (c : tie.After-largest) (answer : LargestAnswer) → c .largest .result ≡ answer
+    → FindsLargest (start c .args .sheet .now) (start c .args .source) (start c .args .sink) (start c .args .flows .now) (flows' c) (start c .args .set .now) (set' c) answer
+found c answer e = rw e at (c .largest .ensures)
+
+largest-requires : tie.Need-largest-requires
+largest-requires c κs = search needs
+
+enum-known-answer : tie.Need-enum-known-answer
+enum-known-answer c = search needs
+
+enum-told : tie.Need-enum-told
+enum-told c = search needs
+
+enum-known-answer-2 : tie.Need-enum-known-answer-2
+enum-known-answer-2 c = search needs
+
+same-length : tie.Need-same-length
+same-length c = search needs
+
+same-length-2 : tie.Need-same-length-2
+same-length-2 c = search needs
+
+returns : tie.Need-returns
+returns c =
+    let l = c .before .before .before .before .before .before in
+    let a = start l .args in
+    let h = found l (Value _) (c .before .answer .given .1) in
+    (Value _, h, (refl, refl, same-bits (omega arith) (largest-small (a .sheet .now) (a .source) (a .sink) (a .flows .now) (flows' l) (a .set .now) (set' l) (h .0) _ h), refl))
+
+same-length-3 : tie.Need-same-length-3
+same-length-3 c = search needs
+
+same-length-4 : tie.Need-same-length-4
+same-length-4 c = search needs
+
+returns-2 : tie.Need-returns-2
+returns-2 c = (None, found (c .before .before .before .before .before) None (c .enum-told .given .1), (refl, refl, refl, refl))
+
+same-length-5 : tie.Need-same-length-5
+same-length-5 c = search needs
+
+same-length-6 : tie.Need-same-length-6
+same-length-6 c = search needs
+
+returns-3 : tie.Need-returns-3
+returns-3 c = (Refused _ _, found (c .before .before .before .before .before .before) (Refused _ _) (c .before .answer2 .given .1), (refl, refl, refl, refl))
+
+pub analyser-largest-spec : {M : Type 1} → statement M
+analyser-largest-spec =
+    tie.close
+    (tie.spec
+    largest-requires
+    enum-known-answer
+    enum-told
+    enum-known-answer-2
+    same-length
+    same-length-2
+    returns
+    same-length-3
+    same-length-4
+    returns-2
+    same-length-5
+    same-length-6
+    returns-3)
