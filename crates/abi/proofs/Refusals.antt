@@ -1,76 +1,90 @@
 -- A result tells whether there is an answer: every check has a number of 1 or more, so a result of 0 is no refusal, and any other is one.
-use Prim.Native.Nat.{ℕ, zero, suc, _≤_}
+use Prim.Native.Nat.{ℕ}
 use mathlib.Core.Path.{_≡_}
-use mathlib.Core.Logic.{_≢_, inl, inr}
-use mathlib.Core.List.{List, [], _∷_, _++_}
+use mathlib.Core.Logic.{_≢_}
+use mathlib.Core.List.{List}
 use native.Mathlib.Omega.{arith}
 use lib.IntN.{ℤ}
-use Rattle.refusals.specs.Order.{Check, _at_when_, NoneOf, FirstOf, inTurn}
-use Rattle.rotations.specs.MapChecks.{mapChecks}
-use Rattle.records.specs.Record.{recordChecks}
-use Rattle.records.specs.Check.{countChecks, fieldChecks, edgeChecks}
-use Rattle.records.specs.Sheet.{headChecks, edgeRecordChecks, byteChecks, edgesOf}
-use Rattle.sheets.specs.Open.{sheetChecks}
-use Rattle.analyser.specs.Question.{endChecks, valueChecks, roomChecks}
+use Rattle.refusals.specs.Order.{Check, NoneOf, FirstOf}
+use Rattle.refusals.proofs.Order.{first-none}
+use Rattle.sheets.specs.Read.{readChecks}
+use Rattle.sheets.specs.Write.{writeChecks}
+use Rattle.sheets.specs.declared.ReadAnswer.the-variants as read
+use Rattle.sheets.specs.declared.WriteAnswer.the-variants as write
 use Rattle.analyser.specs.Solve.{solveChecks}
-use Rattle.analyser.specs.declared.SolveAnswer.the-variants.{Can, Cannot, Refused}
+use Rattle.analyser.specs.Largest.{largestChecks}
+use Rattle.analyser.specs.Mark.{markChecks}
+use Rattle.analyser.specs.LevelsOf.{levelsChecks}
+use Rattle.analyser.specs.SettingsOf.{settingsChecks}
+use Rattle.analyser.specs.declared.SolveAnswer.the-variants as solve
+use Rattle.analyser.specs.declared.LargestAnswer.the-variants as largest
+use Rattle.analyser.specs.declared.MarkAnswer.the-variants as mark
+use Rattle.analyser.specs.declared.LevelAnswer.the-variants as level
+use Rattle.abi.specs.Read.{TellsRead}
+use Rattle.abi.specs.Write.{TellsWrite}
 use Rattle.abi.specs.Solve.{TellsSolve}
+use Rattle.abi.specs.Largest.{TellsLargest}
+use Rattle.abi.specs.Mark.{TellsMark}
+use Rattle.abi.specs.Levels.{TellsLevels, TellsSettings}
+use Rattle.abi.proofs.Numbered.{Numbered, first-numbered, read-numbered, write-numbered, solve-numbered, largest-numbered, mark-numbered, levels-numbered, settings-numbered}
 
--- ── lists of checks whose numbers are 1 or more ──
-unfoldable pub Numbered : List Check → Type 0
-Numbered [] = Unit
-Numbered ((j at q when P) ∷ cs) = (1 ≤ j) × Numbered cs
-
-pub first-numbered : (cs : List Check) (k p : ℕ) → Numbered cs → FirstOf cs k p → 1 ≤ k
-unfolding Numbered FirstOf
-first-numbered [] k p n h = absurd h
-first-numbered ((j at q when P) ∷ cs) k p n (inl h) = omega (arith, n .0, h .1)
-first-numbered ((j at q when P) ∷ cs) k p n (inr h) = first-numbered cs k p (n .1) (h .1)
-
-pub numbered-append : (xs ys : List Check) → Numbered xs → Numbered ys → Numbered (xs ++ ys)
-unfolding Numbered
-numbered-append [] ys m n = n
-numbered-append ((j at q when P) ∷ xs) ys m n = (m .0, numbered-append xs ys (m .1) n)
-
-pub numbered-in-turn : (n : ℕ) (f : ℕ → List Check) → ((i : ℕ) → Numbered (f i)) → Numbered (inTurn n f)
-unfolding Numbered inTurn
-numbered-in-turn zero f h = tt
-numbered-in-turn (suc n) f h = numbered-append (inTurn n f) (f n) (numbered-in-turn n f h) (h n)
-
--- ── the checks of a sheet, and of Solve ──
-record-numbered : (s : List ℕ) (kind start : ℕ) → Numbered (recordChecks s kind start)
-unfolding Numbered recordChecks
-record-numbered s kind start = (omega arith, (omega arith, (omega arith, tt)))
-
-edge-numbered : (s : List ℕ) (e : ℕ) → Numbered (edgeRecordChecks s e)
-unfolding Numbered edgeRecordChecks edgeChecks fieldChecks
-edge-numbered s e = numbered-append (recordChecks s 2 _) _ (record-numbered s 2 _) (omega arith, (omega arith, (omega arith, (omega arith, tt))))
-
-pub sheet-numbered : (s : List ℕ) → Numbered (sheetChecks s)
-unfolding Numbered sheetChecks byteChecks headChecks countChecks mapChecks
-sheet-numbered s =
-    numbered-append (byteChecks s) _
-    (numbered-append (headChecks s) _
-    (numbered-append (recordChecks s 1 0) _ (record-numbered s 1 0) (omega arith, tt))
-    (numbered-append (inTurn (edgesOf s) (edgeRecordChecks s)) _ (numbered-in-turn (edgesOf s) (edgeRecordChecks s) (edge-numbered s)) (omega arith, tt)))
-    (omega arith, (omega arith, (omega arith, (omega arith, tt))))
-
-pub solve-numbered : (s : List ℕ) (source sink : ℕ) (value : ℤ) (flows : List ℤ) (set : List ℕ) → Numbered (solveChecks s source sink value flows set)
-unfolding Numbered solveChecks endChecks valueChecks roomChecks
-solve-numbered s source sink value flows set =
-    numbered-append (sheetChecks s) _ (sheet-numbered s) (omega arith, (omega arith, (omega arith, (omega arith, tt))))
-
--- ── what a result of Solve says ──
-module _ {s : List ℕ} {source sink : ℕ} {value : ℤ} {flows flows' : List ℤ} {set set' : List ℕ} {can can' size size' place place' result : ℕ} where
-  -- 0: no check refuses
-  pub solve-zero : TellsSolve s source sink value flows flows' set set' can can' size size' place place' result → result ≡ 0 → NoneOf (solveChecks s source sink value flows set)
-  solve-zero (Can, h, t) z = h .0
-  solve-zero (Cannot n, h, t) z = h .0
-  solve-zero (Refused k p, h, t) z = absurd (omega (arith, first-numbered _ k p (solve-numbered s source sink value flows set) (h .0), t .0))
-
+-- ── what a result says, of any operation with these checks; Same: everything else behind a pointer is as it was ──
+pub record Says (cs : List Check) (result place place' : ℕ) (Same : Type 0) : Type 0 where
+  -- 0 exactly when no check refuses; the place is then as it was
+  pub zero-none : result ≡ 0 → NoneOf cs × (place' ≡ place)
+  pub none-zero : NoneOf cs → result ≡ 0
   -- not 0: it is the number of the first check that refuses, at the place written, and nothing else is written
-  pub solve-refused : TellsSolve s source sink value flows flows' set set' can can' size size' place place' result → result ≢ 0
-      → FirstOf (solveChecks s source sink value flows set) result place' × (flows' ≡ flows) × (set' ≡ set) × (can' ≡ can) × (size' ≡ size)
-  solve-refused (Can, h, t) z = absurd (z (t .0))
-  solve-refused (Cannot n, h, t) z = absurd (z (t .0))
-  solve-refused (Refused k p, h, t) z = (rw (t .0, t .3) (h .0), h .1, h .2, t .1, t .2)
+  pub refused : result ≢ 0 → FirstOf cs result place' × Same
+
+module _ {cs : List Check} {result place place' : ℕ} {Same : Type 0} where
+  says-answer : NoneOf cs → result ≡ 0 → place' ≡ place → Says cs result place place' Same
+  says-answer none z same = record { zero-none = λ _. (none, same); none-zero = λ _. z; refused = λ n. absurd (n z) }
+
+  says-refusal : (k p : ℕ) → Numbered cs → FirstOf cs k p → result ≡ k → place' ≡ p → Same → Says cs result place place' Same
+  says-refusal k p n h e q same = record {
+    zero-none = λ z. absurd (omega (arith, first-numbered cs k p n h, e, z));
+    none-zero = λ none. absurd (first-none cs k p h none);
+    refused = λ _. (rw (e, q) h, same);
+  }
+
+-- ── and so of each ──
+module _ {place place' result : ℕ} where
+  pub write-says : {nodes : ℕ} {tails rotations sheet sheet' : List ℕ} {capacities : List ℤ} {length length' : ℕ}
+      → TellsWrite nodes tails rotations capacities sheet sheet' length length' place place' result
+      → Says (writeChecks nodes tails rotations capacities sheet) result place place' ((sheet' ≡ sheet) × (length' ≡ length))
+  write-says (write.Bytes n, h, t) = says-answer (h .0) (t .0) (t .2)
+  write-says (write.Refused k p, h, t) = says-refusal k p (write-numbered _ _ _ _ _) (h .0) (t .0) (t .2) (h .1, t .1)
+
+  module _ {s : List ℕ} where
+    pub read-says : {tails rotations tails' rotations' : List ℕ} {capacities capacities' : List ℤ} {nodes nodes' edges edges' : ℕ}
+        → TellsRead s tails rotations capacities tails' rotations' capacities' nodes nodes' edges edges' place place' result
+        → Says (readChecks s tails rotations capacities) result place place' ((tails' ≡ tails) × (rotations' ≡ rotations) × (capacities' ≡ capacities) × (nodes' ≡ nodes) × (edges' ≡ edges))
+    read-says (read.Counts n e, h, t) = says-answer (h .0) (t .0) (t .3)
+    read-says (read.Refused k p, h, t) = says-refusal k p (read-numbered s _ _ _) (h .0) (t .0) (t .3) (h .1, h .2, h .3, t .1, t .2)
+
+    pub solve-says : {source sink : ℕ} {value : ℤ} {flows flows' : List ℤ} {set set' : List ℕ} {can can' size size' : ℕ}
+        → TellsSolve s source sink value flows flows' set set' can can' size size' place place' result
+        → Says (solveChecks s source sink value flows set) result place place' ((flows' ≡ flows) × (set' ≡ set) × (can' ≡ can) × (size' ≡ size))
+    solve-says (solve.Can, h, t) = says-answer (h .0) (t .0) (t .3)
+    solve-says (solve.Cannot n, h, t) = says-answer (h .0) (t .0) (t .3)
+    solve-says (solve.Refused k p, h, t) = says-refusal k p (solve-numbered s _ _ _ _ _) (h .0) (t .0) (t .3) (h .1, h .2, t .1, t .2)
+
+    pub largest-says : {source sink : ℕ} {flows flows' : List ℤ} {set set' : List ℕ} {found found' : ℕ} {value value' : ℤ}
+        → TellsLargest s source sink flows flows' set set' found found' value value' place place' result
+        → Says (largestChecks s source sink flows set) result place place' ((flows' ≡ flows) × (set' ≡ set) × (found' ≡ found) × (value' ≡ value))
+    largest-says (largest.Value v, h, t) = says-answer (h .0) (t .0) (t .3)
+    largest-says (largest.None, h, t) = says-answer (h .0) (t .0) (t .3)
+    largest-says (largest.Refused k p, h, t) = says-refusal k p (largest-numbered s _ _ _ _) (h .0) (t .0) (t .3) (h .1, h .2, t .1, t .2)
+
+    pub mark-says : {source sink : ℕ} {flows : List ℤ} {value value' : ℤ}
+        → TellsMark s source sink flows value value' place place' result → Says (markChecks s source sink flows) result place place' (value' ≡ value)
+    mark-says (mark.Value v, h, t) = says-answer (h .0) (t .0) (t .2)
+    mark-says (mark.Refused k p, h, t) = says-refusal k p (mark-numbered s _ _ _) h (t .0) (t .2) (t .1)
+
+    pub levels-says : {flows levels levels' : List ℤ} → TellsLevels s flows levels levels' place place' result → Says (levelsChecks s flows levels) result place place' (levels' ≡ levels)
+    levels-says (level.Done, h, t) = says-answer (h .0) (t .0) (t .1)
+    levels-says (level.Refused k p, h, t) = says-refusal k p (levels-numbered s _ _) (h .0) (t .0) (t .1) (h .1)
+
+    pub settings-says : {levels flows flows' : List ℤ} → TellsSettings s levels flows flows' place place' result → Says (settingsChecks s levels flows) result place place' (flows' ≡ flows)
+    settings-says (level.Done, h, t) = says-answer (h .0) (t .0) (t .1)
+    settings-says (level.Refused k p, h, t) = says-refusal k p (settings-numbered s _ _) (h .0) (t .0) (t .1) (h .1)

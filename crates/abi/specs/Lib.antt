@@ -1,2 +1,6 @@
+pub mod Read
+pub mod Write
 pub mod Solve
 pub mod Largest
+pub mod Mark
+pub mod Levels

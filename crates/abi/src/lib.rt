@@ -1,9 +1,70 @@
 // The C interface: each operation of the analyser under a plain name. A slice is passed as a pointer and a length. The result is the number of
 // the refusal, or 0. Answers and the place of a refusal come through pointers: a refusal writes the place alone, and an answer leaves it as it was.
+ghost use Rattle.abi.specs.Read.{TellsRead};
+ghost use Rattle.abi.specs.Write.{TellsWrite};
 ghost use Rattle.abi.specs.Solve.{TellsSolve};
 ghost use Rattle.abi.specs.Largest.{TellsLargest};
+ghost use Rattle.abi.specs.Mark.{TellsMark};
+ghost use Rattle.abi.specs.Levels.{TellsLevels, TellsSettings};
 use analyser::LargestAnswer;
+use analyser::LevelAnswer;
+use analyser::MarkAnswer;
 use analyser::SolveAnswer;
+use sheets::ReadAnswer;
+use sheets::WriteAnswer;
+
+// Read. The counts of nodes and edges, and the three slices, two elements to an edge.
+#[no_mangle]
+pub extern "C" fn analyser_read(
+    sheet: &[u8],
+    tails: &mut [u16],
+    rotations: &mut [u16],
+    capacities: &mut [i32],
+    nodes: &mut u16,
+    edges: &mut u16,
+    place: &mut u16,
+) -> u8
+    ensures { λ r. ⌜ TellsRead (now (sheet .entry)) (now (tails .entry)) (now (rotations .entry)) (now (capacities .entry)) (now (tails .exit)) (now (rotations .exit)) (now (capacities .exit)) (now (nodes .entry)) (now (nodes .exit)) (now (edges .entry)) (now (edges .exit)) (now (place .entry)) (now (place .exit)) r ⌝ }
+{
+    let answer = sheets::read(sheet, tails, rotations, capacities);
+    match answer {
+        ReadAnswer::Counts(n, e) => {
+            *nodes = n;
+            *edges = e;
+            0
+        }
+        ReadAnswer::Refused(k, p) => {
+            *place = p;
+            k
+        }
+    }
+}
+
+// Write. The bytes of the sheet, and in length their number.
+#[no_mangle]
+pub extern "C" fn analyser_write(
+    nodes: u16,
+    tails: &[u16],
+    rotations: &[u16],
+    capacities: &[i32],
+    sheet: &mut [u8],
+    length: &mut usize,
+    place: &mut u16,
+) -> u8
+    ensures { λ r. ⌜ TellsWrite nodes (now (tails .entry)) (now (rotations .entry)) (now (capacities .entry)) (now (sheet .entry)) (now (sheet .exit)) (now (length .entry)) (now (length .exit)) (now (place .entry)) (now (place .exit)) r ⌝ }
+{
+    let answer = sheets::write(nodes, tails, rotations, capacities, sheet);
+    match answer {
+        WriteAnswer::Bytes(n) => {
+            *length = n;
+            0
+        }
+        WriteAnswer::Refused(k, p) => {
+            *place = p;
+            k
+        }
+    }
+}
 
 // Solve. It can: can is 1 and the flows are written. It cannot: can is 0, the set is written and size is its number of nodes.
 #[no_mangle]
@@ -64,6 +125,71 @@ pub extern "C" fn analyser_largest(
             0
         }
         LargestAnswer::Refused(k, p) => {
+            *place = p;
+            k
+        }
+    }
+}
+
+// Mark. The value of given flows.
+#[no_mangle]
+pub extern "C" fn analyser_mark(
+    sheet: &[u8],
+    source: u16,
+    sink: u16,
+    flows: &[i32],
+    value: &mut i32,
+    place: &mut u16,
+) -> u8
+    ensures { λ r. ⌜ TellsMark (now (sheet .entry)) source sink (now (flows .entry)) (now (value .entry)) (now (value .exit)) (now (place .entry)) (now (place .exit)) r ⌝ }
+{
+    let answer = analyser::mark(sheet, source, sink, flows);
+    match answer {
+        MarkAnswer::Value(carried) => {
+            *value = carried;
+            0
+        }
+        MarkAnswer::Refused(k, p) => {
+            *place = p;
+            k
+        }
+    }
+}
+
+// Levels from settings: the levels of the faces are written.
+#[no_mangle]
+pub extern "C" fn analyser_levels_from_settings(
+    sheet: &[u8],
+    flows: &[i32],
+    levels: &mut [i32],
+    place: &mut u16,
+) -> u8
+    ensures { λ r. ⌜ TellsLevels (now (sheet .entry)) (now (flows .entry)) (now (levels .entry)) (now (levels .exit)) (now (place .entry)) (now (place .exit)) r ⌝ }
+{
+    let answer = analyser::levels_from_settings(sheet, flows, levels);
+    match answer {
+        LevelAnswer::Done => 0,
+        LevelAnswer::Refused(k, p) => {
+            *place = p;
+            k
+        }
+    }
+}
+
+// Settings from levels: the flows are written.
+#[no_mangle]
+pub extern "C" fn analyser_settings_from_levels(
+    sheet: &[u8],
+    levels: &[i32],
+    flows: &mut [i32],
+    place: &mut u16,
+) -> u8
+    ensures { λ r. ⌜ TellsSettings (now (sheet .entry)) (now (levels .entry)) (now (flows .entry)) (now (flows .exit)) (now (place .entry)) (now (place .exit)) r ⌝ }
+{
+    let answer = analyser::settings_from_levels(sheet, levels, flows);
+    match answer {
+        LevelAnswer::Done => 0,
+        LevelAnswer::Refused(k, p) => {
             *place = p;
             k
         }

@@ -1,7 +1,7 @@
 -- Proving sets. Document 01, "A proving set": "For delivery L, the set proves impossibility if its outward total is less than L when it holds the headgate and not
 -- the outfall, less than −L when it holds the outfall and not the headgate, less than 0 otherwise. It is written as 64-bit words, node i being bit i mod 64 of
 -- word i div 64, unused bits zero, words as many as the nodes need. Its size is the number of ones in its words."
-use Prim.Native.Nat.{ℕ, _+_, _/_, _%_, _^_, _≤_}
+use Prim.Native.Nat.{ℕ, _+_, _/_, _%_, _^_, _≤_, _<_}
 use mathlib.Core.Path.{_≡_}
 use mathlib.Core.Bool.{Bool, false, cond}
 use mathlib.Core.List.{List, [], _∷_}
@@ -30,9 +30,10 @@ wordsFor nodes = (nodes + 63) / 64
 abbrev pub member : List ℕ → ℕ → Bool
 member words i = eqb (getD words (i / 64) 0 / 2 ^ (i % 64) % 2) 1
 
--- a set of nodes, written in as many words as they need, unused bits zero
+-- a set of nodes, written in as many words as they need, each of 64 bits, unused bits zero
 pub record SetOf (nodes : ℕ) (words : List ℕ) : Type 0 where
   pub long : length words ≡ wordsFor nodes
+  pub fits : (i : ℕ) → i < length words → getD words i 0 < 2 ^ 64
   pub unused : (i : ℕ) → nodes ≤ i → member words i ≡ false
 
 -- the number of ones in the words

@@ -57,13 +57,13 @@ size-bits (w ∷ ws) h =
         ap₂ (λ (x y : ℕ). eqb (getD (w ∷ ws) x 0 / 2 ^ y % 2) 1) a b
 
 -- "Its size is the number of ones in its words": and that is the number of the nodes in it.
-pub size-members : (nodes : ℕ) (words : List ℕ) → SetOf nodes words → ((i : ℕ) → i < length words → getD words i 0 < 2 ^ 64) → size words ≡ count nodes (member words)
-size-members nodes words s fit =
+pub size-members : (nodes : ℕ) (words : List ℕ) → SetOf nodes words → size words ≡ count nodes (member words)
+size-members nodes words s =
     let rest = 64 * length words - nodes in
     let long = s .long in
     let e : 64 * length words ≡ nodes + rest = omega (arith, long) in
     let none : count rest (λ i. member words (nodes + i)) ≡ 0 =
     sum-nil Naturals rest (λ i. bit (member words (nodes + i))) (λ i l. ap bit (s .unused (nodes + i) (omega arith))) in
     let all : size words ≡ count nodes (member words) + count rest (λ i. member words (nodes + i)) =
-    size-bits words fit ∙ ap (λ (x : ℕ). count x (member words)) e ∙ count-split nodes rest (member words) in
+    size-bits words (s .fits) ∙ ap (λ (x : ℕ). count x (member words)) e ∙ count-split nodes rest (member words) in
     omega (arith, none, all)

@@ -58,9 +58,14 @@ pub writing-end : (inside : List ℕ) (nodes : ℕ) (before after : List ℕ)
 writing-end inside nodes before after s m = record {
   length-kept = s .length-kept;
   rest-kept = s .rest-kept;
-  set-of = record { long = taken; unused = λ i h. past i h (either (ltb (i / 64) (wordsFor nodes))) };
+  set-of = record {
+    long = taken;
+    fits = λ i h.
+        let l : i < wordsFor nodes = omega (arith, taken) in
+        subst (λ (x : ℕ). x < 2 ^ 64) (sym (at i l)) (word-below (λ k. flag inside nodes (64 * i + k)) 64);
+    unused = λ i h. past i h (either (ltb (i / 64) (wordsFor nodes)));
+  };
   members = λ v h. in-word v (omega arith) ∙ flag-inside inside nodes v h;
-  in-range = λ i h. subst (λ (x : ℕ). x < 2 ^ 64) (sym (at i h)) (word-below (λ k. flag inside nodes (64 * i + k)) 64);
 }
   where
     kept : length after ≡ length before
@@ -96,6 +101,5 @@ pub written-size : (inside : List ℕ) (nodes : ℕ) (before after : List ℕ) �
     → size (take (wordsFor nodes) after) ≡ count nodes (λ v. eqb (getD inside v 0) 1)
 written-size inside nodes before after r =
     let new = take (wordsFor nodes) after in
-    let long = r .set-of .long in
-    size-members nodes new (r .set-of) (λ i l. r .in-range i (omega (arith, long)))
+    size-members nodes new (r .set-of)
     ∙ sum-ext Naturals nodes (λ v. bit (member new v)) (λ v. bit (eqb (getD inside v 0) 1)) (λ v l. ap bit (r .members v l))

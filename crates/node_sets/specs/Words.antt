@@ -27,4 +27,3 @@ pub record Written (inside : List ℕ) (nodes : ℕ) (before after : List ℕ) :
   pub rest-kept : drop (wordsFor nodes) after ≡ drop (wordsFor nodes) before
   pub set-of : SetOf nodes (take (wordsFor nodes) after)
   pub members : (v : ℕ) → v < nodes → member (take (wordsFor nodes) after) v ≡ eqb (getD inside v 0) 1
-  pub in-range : (i : ℕ) → i < wordsFor nodes → getD (take (wordsFor nodes) after) i 0 < 2 ^ 64

@@ -1,15 +1,13 @@
--- Each arm of the match has what Largest ensures of its answer, and tells it. The value fits 32 bits, since it is within ±512,000,000.
+-- Each arm of the match has what Largest ensures of its answer, and tells it. The value fits 32 bits, as a field of the answer does.
 use mathlib.Core.Path.{_≡_, refl}
 use mathlib.Core.List.{List}
 use Prim.Native.Nat.{ℕ}
-use native.Mathlib.Omega.{arith}
 use lib.IntN.{ℤ}
 use borrow.Author.Needs.{needs}
-use Rattle.signed.proofs.Limits.{same-bits}
+use Rattle.signed.proofs.Laws.{number-of-bits}
 use Rattle.analyser.specs.Largest.{FindsLargest}
 use Rattle.analyser.specs.declared.LargestAnswer.{LargestAnswer}
 use Rattle.analyser.specs.declared.LargestAnswer.the-variants.{Value, None, Refused}
-use Rattle.analyser.proofs.Demand3.{largest-small}
 use Rattle.abi.proofs.analyser_largest.Statement.{statement}
 use Rattle.abi.proofs.analyser_largest.Tie as tie
 
@@ -45,11 +43,7 @@ same-length-2 : tie.Need-same-length-2
 same-length-2 c = search needs
 
 returns : tie.Need-returns
-returns c =
-    let l = c .before .before .before .before .before .before in
-    let a = start l .args in
-    let h = found l (Value _) (c .before .answer .given .1) in
-    (Value _, h, (refl, refl, same-bits (omega arith) (largest-small (a .sheet .now) (a .source) (a .sink) (a .flows .now) (flows' l) (a .set .now) (set' l) (h .0) _ h), refl))
+returns c = (Value _, found (c .before .before .before .before .before .before) (Value _) (c .before .answer .given .1), (refl, refl, number-of-bits _ (record { sfits = c .known-told .given .0 .1 }), refl))
 
 same-length-3 : tie.Need-same-length-3
 same-length-3 c = search needs

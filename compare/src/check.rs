@@ -1,0 +1,484 @@
+//! The comparison: for each random drawing a list of calls, each held to what the judge, the flow solver and the face levels say of it. All memory that a call can reach
+//! is compared, so what must stay as it was is seen to.
+use crate::chance::Chance;
+use crate::damage;
+use crate::drawing::{count, Drawing, EDGE, HEAD};
+use crate::faults::Library;
+use crate::flow::{carry, net_flows, range};
+use crate::grow::{grow, Grown};
+use crate::judge;
+use crate::levels::{flows_of, highest, levels_of};
+use crate::unit::{Call, Lent};
+use std::collections::BTreeMap;
+use std::fmt::Write;
+
+/// What was compared, by kind.
+#[derive(Default)]
+pub struct Tally {
+    pub drawings: BTreeMap<&'static str, u64>,
+    pub answers: BTreeMap<(&'static str, u8, &'static str), u64>,
+}
+
+impl Tally {
+    pub fn compared(&self) -> u64 {
+        self.answers.values().sum()
+    }
+
+    fn add(&mut self, call: &Call, result: u8, after: &Lent) {
+        let answer = match (call, result) {
+            (Call::Solve { .. }, 0) => ["cannot", "can"][after.can as usize],
+            (Call::Largest { .. }, 0) if after.found == 1 && after.value < 0 => "value below 0",
+            (Call::Largest { .. }, 0) => ["none", "value"][after.found as usize],
+            (Call::Mark { .. }, 0) => "value",
+            (Call::KeyText, 0) => match after.text[3] {
+                b' ' => "can",
+                b'n' => "cannot",
+                _ => "refused in the text",
+            },
+            (_, 0) => "done",
+            _ => "refused",
+        };
+        *self.answers.entry((call.name(), result, answer)).or_default() += 1;
+    }
+}
+
+/// A difference between the unit and this program, told with the drawing.
+#[derive(Debug)]
+pub struct Wrong(pub String);
+
+type Check<T = ()> = Result<T, Wrong>;
+
+/// Compares everything about the drawing of this number.
+pub fn compare_drawing(library: &Library, seed: u64, number: u64, tally: &mut Tally) -> Check {
+    let mut chance = Chance::new(seed, number);
+    let grown = grow(&mut chance, number);
+    *tally.drawings.entry(grown.name).or_default() += 1;
+    let mut checker = Checker { library, tally, chance };
+    checker.all_of(&grown).map_err(|Wrong(text)| Wrong(format!("seed {seed}, drawing {number} ({})\n{text}", grown.name)))
+}
+
+/// What is due from a call. The set is any that proves what it is given for: for a value, or without one that nothing can be carried.
+struct Due {
+    result: u8,
+    lent: Lent,
+    proof: Option<Proof>,
+}
+
+struct Proof {
+    drawing: Drawing,
+    source: u16,
+    sink: u16,
+    value: Option<i64>,
+}
+
+struct Checker<'a> {
+    library: &'a Library,
+    tally: &'a mut Tally,
+    chance: Chance,
+}
+
+impl Checker<'_> {
+    fn all_of(&mut self, grown: &Grown) -> Check {
+        let drawing = &grown.drawing;
+        self.read_and_write(drawing)?;
+        self.questions(drawing, grown.source, grown.sink)?;
+        let nodes = drawing.nodes as usize;
+        let source = self.chance.below(nodes);
+        let sink = (source + 1 + self.chance.below(nodes - 1)) % nodes;
+        self.questions(drawing, source, sink)?;
+        self.levels(drawing, source, sink)?;
+        self.wrong_questions(drawing)?;
+        for _ in 0..3 {
+            self.damaged(drawing)?;
+        }
+        Ok(())
+    }
+
+    /// One call, and its answer if it is as it should be.
+    fn compare(&mut self, call: Call, before: &Lent) -> Check<Lent> {
+        let mut after = before.clone();
+        let result = self.library.call(&call, &mut after);
+        let mut due = self.due(&call, before)?;
+        let mut differences = String::new();
+        if result != due.result {
+            writeln!(differences, "result: {result}, not {}", due.result).unwrap();
+        }
+        if let Some(proof) = &due.proof {
+            let words = proof.drawing.words();
+            due.lent.set[..words].copy_from_slice(&after.set[..words]);
+            if let Call::Solve { .. } = call {
+                due.lent.size = after.set[..words].iter().map(|word| word.count_ones() as u16).sum();
+            }
+        }
+        differ(&mut differences, &after, &due.lent);
+        if let (true, Some(proof)) = (differences.is_empty(), &due.proof) {
+            let objection = judge::objection(&proof.drawing, &after.set[..proof.drawing.words()], proof.source, proof.sink, proof.value);
+            differences.extend(objection.map(|text| text + "\n"));
+        }
+        if !differences.is_empty() {
+            return Err(Wrong(format!("{call:?}\n{}{differences}", picture(&call, before))));
+        }
+        self.tally.add(&call, result, &after);
+        Ok(after)
+    }
+
+    fn due(&mut self, call: &Call, before: &Lent) -> Check<Due> {
+        let mut due = Due { result: 0, lent: before.clone(), proof: None };
+        let drawing = match judge::accept(call, before) {
+            Ok(drawing) => drawing,
+            Err(refusal) => {
+                due.result = refusal.number;
+                due.lent.place = refusal.place;
+                return Ok(due);
+            }
+        };
+        let lent = &mut due.lent;
+        match *call {
+            Call::Read => {
+                lent.tails[..drawing.darts()].copy_from_slice(&drawing.tails);
+                lent.rotations[..drawing.darts()].copy_from_slice(&drawing.rotations);
+                lent.capacities[..drawing.darts()].copy_from_slice(&drawing.capacities);
+                (lent.nodes, lent.edges) = (drawing.nodes, drawing.edges() as u16);
+            }
+            Call::Write { .. } => {
+                let bytes = drawing.bytes();
+                lent.sheet[..bytes.len()].copy_from_slice(&bytes);
+                lent.length = bytes.len();
+            }
+            Call::Solve { source, sink, value } => {
+                let flows = carry(&drawing, source as usize, sink as usize, value as i64);
+                lent.can = flows.is_some() as u8;
+                match flows {
+                    Some(flows) => store(&mut lent.flows, &highest(&drawing, &drawing.faces(), &flows)),
+                    None => due.proof = Some(Proof { drawing, source, sink, value: Some(value as i64) }),
+                }
+            }
+            Call::Largest { source, sink } => {
+                let largest = range(&drawing, source as usize, sink as usize).map(|(_, largest)| largest);
+                lent.found = largest.is_some() as u8;
+                if let Some(value) = largest {
+                    let flows = carry(&drawing, source as usize, sink as usize, value).expect("the largest can be carried");
+                    store(&mut lent.flows, &highest(&drawing, &drawing.faces(), &flows));
+                    lent.value = value as i32;
+                }
+                due.proof = Some(Proof { drawing, source, sink, value: largest.map(|value| value + 1) });
+            }
+            Call::Mark { source, .. } => lent.value = net_flows(&drawing, &judge::wide(&lent.flows))[source as usize] as i32,
+            Call::LevelsFromSettings => store(&mut lent.levels, &levels_of(&drawing.faces(), &judge::wide(&before.flows))),
+            Call::SettingsFromLevels => store(&mut lent.flows, &flows_of(&drawing.faces(), &judge::wide(&before.levels))),
+            Call::KeyText => {
+                let text = self.key_text(&before.sheet)?;
+                due.lent.text[..text.len()].copy_from_slice(text.as_bytes());
+                due.lent.length = text.len();
+            }
+        }
+        Ok(due)
+    }
+
+    /// What the key prints, from Solve's answer to the same question, which is compared too.
+    fn key_text(&mut self, input: &[u8]) -> Check<String> {
+        let (drawing, call) = match judge::key(input) {
+            Ok(asked) => asked,
+            Err(refusal) => return Ok(format!("refused {}\n", refusal.number)),
+        };
+        let mut lent = Lent::new(input[9..].to_vec());
+        lent.flows = vec![0; drawing.edges()];
+        lent.set = vec![0; drawing.words()];
+        let after = self.compare(call, &lent)?;
+        let Call::Solve { value, .. } = call else { unreachable!("the key asks Solve") };
+        let mut text = String::new();
+        if after.can == 1 {
+            writeln!(text, "can {value}").unwrap();
+            for (edge, flow) in after.flows.iter().enumerate() {
+                writeln!(text, "{edge} {flow}").unwrap();
+            }
+            return Ok(text);
+        }
+        writeln!(text, "cannot {value} {}", after.size).unwrap();
+        for node in (0..drawing.nodes as usize).filter(|node| after.set[node / 64] >> (node % 64) & 1 == 1) {
+            writeln!(text, "{node}").unwrap();
+        }
+        Ok(text)
+    }
+
+    /// How long a slice is lent that needs so many elements: as long, longer, or too short if that may be.
+    fn room(&mut self, needed: usize, short: bool) -> usize {
+        match self.chance.below(6) {
+            0 | 1 if short => needed.saturating_sub(1),
+            2 if short => self.chance.below(needed + 1),
+            3 => needed + 1 + self.chance.below(9),
+            _ => needed,
+        }
+    }
+
+    /// Memory for a call on a sheet; seldom too short.
+    fn lend(&mut self, sheet: Vec<u8>, drawing: &Drawing) -> Lent {
+        let short = self.chance.one_in(12);
+        let mut lent = Lent::new(sheet);
+        let lengths = [drawing.edges(), drawing.words(), count(&drawing.faces()), drawing.darts(), drawing.darts(), drawing.darts(), judge::TEXT];
+        let [flows, set, levels, tails, rotations, capacities, text] = lengths.map(|needed| self.room(needed, short));
+        lent.flows = self.chance.junk(flows, |x| x as i32);
+        lent.set = self.chance.junk(set, |x| x);
+        lent.levels = self.chance.junk(levels, |x| x as i32);
+        lent.tails = self.chance.junk(tails, |x| x as u16);
+        lent.rotations = self.chance.junk(rotations, |x| x as u16);
+        lent.capacities = self.chance.junk(capacities, |x| x as i32);
+        lent.text = if cfg!(key_text) { self.chance.junk(text, |x| x as u8) } else { vec![] };
+        lent
+    }
+
+    fn read_and_write(&mut self, drawing: &Drawing) -> Check {
+        for _ in 0..2 {
+            let lent = self.lend(drawing.bytes(), drawing);
+            self.compare(Call::Read, &lent)?;
+            self.write(drawing)?;
+        }
+        Ok(())
+    }
+
+    /// Write; seldom of slices of unequal or odd length.
+    fn write(&mut self, drawing: &Drawing) -> Check {
+        let short = self.chance.one_in(6);
+        let length = self.room(HEAD + EDGE * drawing.edges(), short);
+        let mut lent = Lent::new(self.chance.junk(length, |x| x as u8));
+        lent.tails = drawing.tails.clone();
+        lent.rotations = drawing.rotations.clone();
+        lent.capacities = drawing.capacities.clone();
+        if self.chance.one_in(8) {
+            let which = 1 + self.chance.below(7); // a set of slices, perhaps all: then the length is odd
+            let longer = self.chance.one_in(2);
+            let change = |length: usize| if longer { length + 1 } else { length.saturating_sub(1) };
+            if which & 1 != 0 {
+                lent.tails.resize(change(lent.tails.len()), 0);
+            }
+            if which & 2 != 0 {
+                lent.rotations.resize(change(lent.rotations.len()), 0);
+            }
+            if which & 4 != 0 {
+                lent.capacities.resize(change(lent.capacities.len()), 0);
+            }
+        }
+        self.compare(Call::Write { nodes: drawing.nodes }, &lent)?;
+        Ok(())
+    }
+
+    /// Largest, Solve of several values, and Mark of what they give.
+    fn questions(&mut self, drawing: &Drawing, source: usize, sink: usize) -> Check {
+        let (from, to) = (source as u16, sink as u16);
+        let lent = self.lend(drawing.bytes(), drawing);
+        self.compare(Call::Largest { source: from, sink: to }, &lent)?;
+        let (least, largest) = range(drawing, source, sink).unwrap_or((-3, 3));
+        let mut values = vec![0, largest, largest + 1, -1, least, least - 1, 600_000_000, -600_000_000];
+        values.extend([self.chance.between(least, largest), self.chance.between(least, largest), self.chance.between(-9, 9)]);
+        let order = self.chance.shuffled(values.len());
+        let some = if drawing.edges() > 60 { 3 } else { 7 };
+        for at in order.into_iter().take(some) {
+            let lent = self.lend(drawing.bytes(), drawing);
+            let call = Call::Solve { source: from, sink: to, value: values[at] as i32 };
+            let after = self.compare(call, &lent)?;
+            if after.can == 1 {
+                self.marks(drawing, from, to, &after.flows)?;
+            }
+            self.key(call, &lent.sheet)?;
+        }
+        Ok(())
+    }
+
+    fn marks(&mut self, drawing: &Drawing, source: u16, sink: u16, flows: &[i32]) -> Check {
+        let mut lent = Lent::new(drawing.bytes());
+        lent.flows = flows.to_vec();
+        self.compare(Call::Mark { source, sink }, &lent)?;
+        self.compare(Call::Mark { source: sink, sink: source }, &lent)?;
+        self.compare(Call::Mark { source, sink: (sink + 1) % drawing.nodes }, &lent)?;
+        for _ in 0..2 {
+            self.spoil(drawing, &mut lent.flows);
+            self.compare(Call::Mark { source, sink }, &lent)?;
+        }
+        if self.chance.one_in(6) {
+            let length = self.chance.below(drawing.edges() + 1);
+            lent.flows.truncate(length);
+            self.compare(Call::Mark { source, sink }, &lent)?;
+        }
+        Ok(())
+    }
+
+    /// Flows changed here and there: within the capacities, or beyond them.
+    fn spoil(&mut self, drawing: &Drawing, flows: &mut [i32]) {
+        for _ in 0..1 + self.chance.below(3) {
+            let edge = self.chance.below(drawing.edges());
+            let (forward, back) = (drawing.capacities[2 * edge], drawing.capacities[2 * edge + 1]);
+            flows[edge] = match self.chance.below(8) {
+                0 => forward + 1,
+                1 => -back - 1,
+                2 => self.chance.pick(&[i32::MIN, i32::MAX]),
+                3 => forward,
+                4 => -back,
+                5 => flows[edge].saturating_add(1),
+                6 => flows[edge].saturating_sub(1),
+                _ => self.chance.between(-back as i64, forward as i64) as i32,
+            };
+        }
+    }
+
+    /// Levels from settings and back, of balanced flows, of spoiled ones and of random levels.
+    fn levels(&mut self, drawing: &Drawing, source: usize, sink: usize) -> Check {
+        let faces = drawing.faces();
+        if let Some(flows) = carry(drawing, source, sink, 0) {
+            for flows in [highest(drawing, &faces, &flows), flows] {
+                let mut lent = self.lend(drawing.bytes(), drawing);
+                fill(&mut lent.flows, &flows);
+                let after = self.compare(Call::LevelsFromSettings, &lent)?;
+                lent.levels = after.levels;
+                lent.flows = self.chance.junk(lent.flows.len(), |x| x as i32);
+                self.compare(Call::SettingsFromLevels, &lent)?;
+                self.spoil_levels(&mut lent.levels);
+                self.compare(Call::SettingsFromLevels, &lent)?;
+                lent.flows.resize(drawing.edges(), 0);
+                fill(&mut lent.flows, &flows);
+                self.spoil(drawing, &mut lent.flows);
+                self.compare(Call::LevelsFromSettings, &lent)?;
+            }
+        }
+        let most = self.chance.pick(&[0, 1, 5, 500_000, 600_000_000]);
+        let mut levels: Vec<i64> = (0..count(&faces)).map(|_| self.chance.between(-most, most)).collect();
+        levels[0] = 0;
+        let mut lent = self.lend(drawing.bytes(), drawing);
+        fill(&mut lent.levels, &levels);
+        let after = self.compare(Call::SettingsFromLevels, &lent)?;
+        let mut lent = self.lend(drawing.bytes(), drawing);
+        lent.flows = after.flows;
+        self.compare(Call::LevelsFromSettings, &lent)?;
+        Ok(())
+    }
+
+    fn spoil_levels(&mut self, levels: &mut [i32]) {
+        for _ in 0..1 + self.chance.below(3) {
+            if !levels.is_empty() {
+                let face = if self.chance.one_in(3) { 0 } else { self.chance.below(levels.len()) };
+                levels[face] = self.chance.pick(&[0, 1, -1, 600_000_000, -600_000_000, 600_000_001, -600_000_001, i32::MIN, i32::MAX]);
+            }
+        }
+    }
+
+    fn some_end(&mut self, drawing: &Drawing) -> u16 {
+        let node = self.chance.below(drawing.nodes.max(1) as usize) as u16;
+        self.chance.pick(&[0, 0, node, node, node, drawing.nodes.wrapping_sub(1), drawing.nodes, u16::MAX])
+    }
+
+    fn some_value(&mut self) -> i32 {
+        let some = self.chance.between(-9, 9) as i32;
+        self.chance.pick(&[some, some, some, 600_000_000, 600_000_001, -600_000_001, i32::MIN, i32::MAX])
+    }
+
+    /// Ends that are no nodes or equal, values out of range.
+    fn wrong_questions(&mut self, drawing: &Drawing) -> Check {
+        for _ in 0..3 {
+            let (source, sink, value) = (self.some_end(drawing), self.some_end(drawing), self.some_value());
+            let lent = self.lend(drawing.bytes(), drawing);
+            self.compare(Call::Solve { source, sink, value }, &lent)?;
+            self.key(Call::Solve { source, sink, value }, &lent.sheet)?;
+            self.compare(Call::Largest { source, sink }, &lent)?;
+            self.compare(Call::Mark { source, sink }, &lent)?;
+        }
+        Ok(())
+    }
+
+    /// A damaged sheet, to every operation, and damaged slices to Write.
+    fn damaged(&mut self, whole: &Drawing) -> Check {
+        let bytes = damage::bytes(&mut self.chance, whole);
+        let (source, sink, value) = (self.some_end(whole), self.some_end(whole), self.some_value());
+        let calls = [
+            Call::Read,
+            Call::Solve { source, sink, value },
+            Call::Largest { source, sink },
+            Call::Mark { source, sink },
+            Call::LevelsFromSettings,
+            Call::SettingsFromLevels,
+        ];
+        for call in calls {
+            let lent = self.lend(bytes.clone(), whole);
+            self.compare(call, &lent)?;
+        }
+        self.key(calls[1], &bytes)?;
+        let drawing = damage::drawing(&mut self.chance, whole);
+        self.write(&drawing)
+    }
+
+    /// The key's text, if the library has it; seldom with a damaged question or too little room.
+    fn key(&mut self, solve: Call, sheet: &[u8]) -> Check {
+        let Call::Solve { source, sink, value } = solve else { unreachable!("the key asks Solve") };
+        if !cfg!(key_text) {
+            return Ok(());
+        }
+        let mut input = vec![3];
+        input.extend(source.to_le_bytes());
+        input.extend(sink.to_le_bytes());
+        input.extend(value.to_le_bytes());
+        input.extend_from_slice(sheet);
+        match self.chance.below(24) {
+            0 => input.truncate(self.chance.below(12)),
+            1 => input[0] = self.chance.pick(&[0, 1, 2, 4]),
+            _ => {}
+        }
+        let short = self.chance.one_in(12);
+        let length = self.room(judge::TEXT, short);
+        let mut lent = Lent::new(input);
+        lent.text = self.chance.junk(length, |x| x as u8);
+        self.compare(Call::KeyText, &lent)?;
+        Ok(())
+    }
+}
+
+/// Puts numbers into the first elements of a slice that has room for them.
+fn store(slice: &mut [i32], numbers: &[i64]) {
+    assert!(numbers.len() <= slice.len());
+    fill(slice, numbers);
+}
+
+/// Puts as many of the numbers as there is room for.
+fn fill(slice: &mut [i32], numbers: &[i64]) {
+    for (element, &number) in slice.iter_mut().zip(numbers) {
+        *element = i32::try_from(number).expect("a flow or level of 32 bits");
+    }
+}
+
+/// Names the memory that differs.
+fn differ(text: &mut String, got: &Lent, due: &Lent) {
+    macro_rules! each {
+        ($slices:ident: $($slice:ident)*; answers: $($answer:ident)*) => {
+            $(if let Some(at) = (0..due.$slice.len()).find(|&at| got.$slice[at] != due.$slice[at]) {
+                writeln!(text, "{}: {:?} at {at}, not {:?}", stringify!($slice), got.$slice[at], due.$slice[at]).unwrap();
+            })*
+            $(if got.$answer != due.$answer {
+                writeln!(text, "{}: {:?}, not {:?}", stringify!($answer), got.$answer, due.$answer).unwrap();
+            })*
+        };
+    }
+    each!(slices: sheet flows set levels tails rotations capacities text; answers: can found size value nodes edges length place guards);
+}
+
+/// The drawing and what was lent with it: as text that tools/sheet reads, else the bytes or slices.
+fn picture(call: &Call, before: &Lent) -> String {
+    let mut text = String::new();
+    let (question, sheet) = match call {
+        Call::KeyText => before.sheet.split_at(before.sheet.len().min(9)),
+        _ => (&[][..], &before.sheet[..]),
+    };
+    if let Call::Solve { source, sink, value } = call {
+        writeln!(text, "question {source} {sink} {value}").unwrap();
+    }
+    if let Call::KeyText = call {
+        writeln!(text, "# question {question:?}").unwrap();
+    }
+    match call {
+        Call::Write { .. } => writeln!(text, "tails {:?}\nrotations {:?}\ncapacities {:?}", before.tails, before.rotations, before.capacities).unwrap(),
+        _ => text += &Drawing::of_bytes(sheet).map_or_else(|| format!("# bytes {sheet:?}\n"), |drawing| drawing.text()),
+    }
+    match call {
+        Call::Mark { .. } | Call::LevelsFromSettings => writeln!(text, "# flows {:?}", before.flows).unwrap(),
+        Call::SettingsFromLevels => writeln!(text, "# levels {:?}", before.levels).unwrap(),
+        _ => {}
+    }
+    writeln!(text, "# lent: sheet {}, flows {}, set {}, levels {}", before.sheet.len(), before.flows.len(), before.set.len(), before.levels.len()).unwrap();
+    text
+}

@@ -1,0 +1,352 @@
+//! Deliberate faults, put between the unit and the comparison: every call passes through here. They show that the comparison can fail, and each must be caught.
+use crate::drawing::{rounds, Drawing, EDGE, HEAD};
+use crate::flow::{carry, range};
+use crate::judge;
+use crate::levels::{flows_of, highest, lowest};
+use crate::unit::{self, Call, Lent};
+
+macro_rules! faults {
+    ($($name:ident: $says:literal,)*) => {
+        #[derive(Clone, Copy, Debug, PartialEq)]
+        pub enum Fault {
+            $(#[doc = $says] $name,)*
+        }
+
+        pub const ALL: &[(Fault, &str)] = &[$((Fault::$name, $says),)*];
+    };
+}
+
+faults! {
+    RefusesAll: "every call is refused with 1",
+    CannotToAll: "Solve says cannot to every value, with the source alone as its set",
+    ZeroFlows: "Solve says can with flows of zero",
+    CanUntouched: "Solve says can and leaves the flows as they were",
+    CanBelowLargest: "Solve says can to every value up to the largest, with the flows of the largest",
+    NotHighest: "Solve gives another flow of the value than the highest",
+    Lowest: "Solve gives the lowest flow in place of the highest",
+    LowestOfLargest: "Largest gives the lowest flow in place of the highest",
+    StepByTheDart: "faces are walked by the turn of the dart, not of its reverse",
+    InventedSize: "a set's size is one too great",
+    SizeOfAllNodes: "a set's size is the number of nodes",
+    UnusedBit: "the set has a bit past the last node",
+    ProvesNothing: "the set holds all nodes",
+    OtherSide: "the set holds the nodes that it should leave out",
+    ShortSetUnseen: "a set slice too short is not refused where Solve can",
+    FirstLimitingSet: "Largest stops after its first limiting set, the source alone, and gives its outward total",
+    OneMore: "Largest is one too great",
+    NegativeAsZero: "Largest gives its set's outward total with limits below zero counted as zero",
+    DartsWithin: "Largest gives its set's outward total with darts between two of its nodes counted",
+    NoneWithoutLooking: "Largest says none where there is a value",
+    NoneIsZero: "Largest says 0 where there is none",
+    NoneByOneSide: "the set of a none parts source from sink",
+    MarkOffByOne: "Mark's value is one too great",
+    MarkAtTheSink: "Mark's value is taken at the sink",
+    PlaceOffByOne: "the place of 17 and 18 is one too great",
+    PlaceOfTheLast: "the place of 17 is that of the last flow outside",
+    PlaceOfFields: "the place of 6 is its edge",
+    PlaceOnAnswer: "an answer writes the place",
+    LevelsTurned: "levels have the other sign",
+    FlowsTurned: "flows of levels have the other sign",
+    TwelveForEleven: "flatness is looked at before connection",
+    ElevenForTen: "connection is looked at before the rounds",
+    SevenForSix: "the sum of two limits is looked at before their ranges",
+    CutBeforeFields: "a sheet cut short is seen before the fields of its first edges",
+    FourteenForThirteen: "equal ends are looked at before whether they are nodes",
+    SixteenForFifteen: "room is looked at before the value's range",
+    TwentyForNineteen: "face 0 is looked at before the ranges of the levels",
+    ExtraFlow: "an element past the flows is written",
+    ExtraWord: "a word past the set is cleared",
+    FlowsOnRefusal: "Settings from levels writes flows before it meets one that it refuses",
+    LevelsOnRefusal: "Levels from settings writes levels before it refuses a node",
+    AnswerOnRefusal: "a refusal of Solve writes the answer behind its pointer",
+    SetOnCan: "a can clears the set",
+    FlowsOnCannot: "a cannot clears the flows",
+    SheetWritten: "the sheet's last byte is changed",
+    GuardWritten: "memory beside a slice is written",
+    ReadShifted: "Read gives the rotations of the reverse darts",
+    ReadCounts: "Read exchanges its counts",
+    LastByte: "Write's last byte is wrong",
+    LengthOffByOne: "Write's length is one too small",
+    KeyWithoutLastLineFeed: "the key's text lacks its last line feed",
+    KeyOtherNode: "the key's text ends with another number",
+    KeyPastTheText: "the key writes past its text",
+}
+
+/// The unit, with a fault or without.
+pub struct Library {
+    pub fault: Option<Fault>,
+}
+
+impl Library {
+    pub fn call(&self, call: &Call, lent: &mut Lent) -> u8 {
+        let Some(fault) = self.fault else {
+            return unit::call(call, lent);
+        };
+        let before = lent.clone();
+        let result = unit::call(call, lent);
+        if fault == Fault::RefusesAll {
+            *lent = Lent { place: 0, ..before };
+            return 1;
+        }
+        if result != 0 {
+            return refusal(fault, call, &before, lent, result);
+        }
+        if *call == Call::KeyText {
+            key(fault, lent);
+        }
+        let sheet = if let Call::Write { .. } = call { &lent.sheet } else { &before.sheet };
+        if let Ok(drawing) = judge::records(sheet) {
+            answer(fault, call, &drawing, &before, lent);
+        }
+        0
+    }
+}
+
+/// What a fault makes of an answer.
+fn answer(fault: Fault, call: &Call, drawing: &Drawing, before: &Lent, after: &mut Lent) {
+    match fault {
+        Fault::PlaceOnAnswer => after.place = 0,
+        Fault::GuardWritten => after.guards = false,
+        _ => {}
+    }
+    match *call {
+        Call::Solve { source, sink, value } if after.can == 1 => can(fault, (source, sink, value), drawing, before, after),
+        Call::Solve { source, sink, value } => cannot(fault, (source, sink, value), drawing, before, after),
+        Call::Largest { source, sink } if after.found == 1 => found(fault, (source, sink), drawing, before, after),
+        Call::Largest { source, .. } => none(fault, source, drawing, after),
+        Call::Mark { sink, .. } => match fault {
+            Fault::MarkOffByOne => after.value += 1,
+            Fault::MarkAtTheSink => after.value = crate::flow::net_flows(drawing, &judge::wide(&before.flows))[sink as usize] as i32,
+            _ => {}
+        },
+        Call::LevelsFromSettings => {
+            let faces = drawing.edges() + 2 - drawing.nodes as usize;
+            if fault == Fault::LevelsTurned {
+                after.levels[..faces].iter_mut().for_each(|level| *level = -*level);
+            }
+        }
+        Call::SettingsFromLevels => match fault {
+            Fault::FlowsTurned => after.flows[..drawing.edges()].iter_mut().for_each(|flow| *flow = -*flow),
+            Fault::StepByTheDart => {
+                let mut levels = judge::wide(&before.levels);
+                levels.resize(levels.len().max(drawing.nodes as usize), 0);
+                put(&mut after.flows, &flows_of(&rounds(&drawing.rotation()), &levels));
+            }
+            _ => {}
+        },
+        Call::Read => match fault {
+            Fault::ReadShifted => (0..drawing.darts()).for_each(|dart| after.rotations[dart] = drawing.rotations[dart ^ 1]),
+            Fault::ReadCounts => (after.nodes, after.edges) = (after.edges, after.nodes),
+            Fault::SheetWritten => *after.sheet.last_mut().unwrap() ^= 1,
+            _ => {}
+        },
+        Call::Write { .. } => match fault {
+            Fault::LastByte => after.sheet[after.length - 1] ^= 1,
+            Fault::LengthOffByOne => after.length -= 1,
+            _ => {}
+        },
+        Call::KeyText => {}
+    }
+}
+
+fn can(fault: Fault, (source, sink, value): (u16, u16, i32), drawing: &Drawing, before: &Lent, after: &mut Lent) {
+    let other = || carry(drawing, source as usize, sink as usize, value as i64).unwrap();
+    match fault {
+        Fault::CannotToAll => {
+            after.flows = before.flows.clone();
+            only(source, drawing, after);
+            (after.can, after.size) = (0, 1);
+        }
+        Fault::ZeroFlows => after.flows[..drawing.edges()].fill(0),
+        Fault::CanUntouched => after.flows = before.flows.clone(),
+        Fault::NotHighest => put(&mut after.flows, &other()),
+        Fault::Lowest => put(&mut after.flows, &lowest(drawing, &drawing.faces(), &other())),
+        Fault::StepByTheDart => put(&mut after.flows, &highest(drawing, &rounds(&drawing.rotation()), &other())),
+        Fault::ExtraFlow => after.flows[drawing.edges()..].fill(0),
+        Fault::SetOnCan => after.set.fill(0),
+        _ => {}
+    }
+}
+
+fn cannot(fault: Fault, (source, sink, value): (u16, u16, i32), drawing: &Drawing, before: &Lent, after: &mut Lent) {
+    let words = drawing.words();
+    match fault {
+        Fault::CanBelowLargest => {
+            if let Some((_, largest)) = range(drawing, source as usize, sink as usize).filter(|(_, largest)| *largest > value as i64) {
+                let flows = carry(drawing, source as usize, sink as usize, largest).unwrap();
+                put(&mut after.flows, &highest(drawing, &drawing.faces(), &flows));
+                (after.can, after.set, after.size) = (1, before.set.clone(), before.size);
+            }
+        }
+        Fault::InventedSize => after.size += 1,
+        Fault::SizeOfAllNodes => after.size = drawing.nodes,
+        Fault::UnusedBit if drawing.nodes % 64 != 0 => {
+            after.set[words - 1] |= 1 << 63;
+            after.size += 1;
+        }
+        Fault::ProvesNothing => {
+            (0..drawing.nodes).for_each(|node| after.set[node as usize / 64] |= 1 << (node % 64));
+            after.size = drawing.nodes;
+        }
+        Fault::OtherSide => {
+            (0..drawing.nodes).for_each(|node| after.set[node as usize / 64] ^= 1 << (node % 64));
+            after.size = drawing.nodes - after.size;
+        }
+        Fault::ExtraWord => after.set[words..].fill(0),
+        Fault::FlowsOnCannot => after.flows.fill(0),
+        _ => {}
+    }
+}
+
+fn found(fault: Fault, (source, sink): (u16, u16), drawing: &Drawing, before: &Lent, after: &mut Lent) {
+    match fault {
+        Fault::LowestOfLargest => {
+            let flows = carry(drawing, source as usize, sink as usize, after.value as i64).unwrap();
+            put(&mut after.flows, &lowest(drawing, &drawing.faces(), &flows));
+        }
+        Fault::FirstLimitingSet => {
+            only(source, drawing, after);
+            after.value = outward(drawing, &after.set, false, i32::MIN);
+        }
+        Fault::NegativeAsZero => after.value = outward(drawing, &after.set, false, 0),
+        Fault::DartsWithin => after.value = outward(drawing, &after.set, true, i32::MIN),
+        Fault::OneMore => after.value += 1,
+        Fault::NoneWithoutLooking => {
+            (after.found, after.value, after.flows) = (0, before.value, before.flows.clone());
+        }
+        _ => {}
+    }
+}
+
+fn none(fault: Fault, source: u16, drawing: &Drawing, after: &mut Lent) {
+    match fault {
+        Fault::NoneIsZero => {
+            (after.found, after.value) = (1, 0);
+            after.flows[..drawing.edges()].fill(0);
+        }
+        Fault::NoneByOneSide => only(source, drawing, after),
+        _ => {}
+    }
+}
+
+fn key(fault: Fault, after: &mut Lent) {
+    match fault {
+        Fault::KeyWithoutLastLineFeed => after.length -= 1,
+        Fault::KeyOtherNode => after.text[after.length - 2] ^= 1,
+        Fault::KeyPastTheText => after.text[after.length..].fill(0),
+        _ => {}
+    }
+}
+
+/// What a fault makes of a refusal: its number.
+fn refusal(fault: Fault, call: &Call, before: &Lent, after: &mut Lent, result: u8) -> u8 {
+    let sheet = if let Call::Write { .. } = call { &[][..] } else { &before.sheet };
+    match (fault, result) {
+        (Fault::PlaceOffByOne, 17 | 18) => after.place += 1,
+        (Fault::PlaceOfTheLast, 17) => after.place = last_outside(call, before).unwrap_or(after.place),
+        (Fault::PlaceOfFields, 6) => after.place = 1,
+        (Fault::FlowsOnRefusal, 17) if *call == Call::SettingsFromLevels => after.flows[..after.place as usize].fill(0),
+        (Fault::LevelsOnRefusal, 18) if *call == Call::LevelsFromSettings => after.levels[0] = 0,
+        (Fault::AnswerOnRefusal, _) if matches!(call, Call::Solve { .. }) => after.can = 0,
+        (Fault::TwelveForEleven, 11) if judge::records(sheet).is_ok_and(|drawing| !judge::flat(&drawing)) => return 12,
+        (Fault::ElevenForTen, 10) if judge::records(sheet).is_ok_and(|drawing| !judge::connected(&drawing)) => return 11,
+        (Fault::SevenForSix, 6) if sum_below_zero(sheet) => return 7,
+        (Fault::CutBeforeFields, 4..=7) if sheet.len() >= HEAD && sheet.len() < HEAD + EDGE * u16::from_le_bytes([sheet[3], sheet[4]]) as usize => return 1,
+        (Fault::FourteenForThirteen, 13) => match *call {
+            Call::Solve { source, sink, .. } | Call::Largest { source, sink } | Call::Mark { source, sink } if source == sink => return 14,
+            _ => {}
+        },
+        (Fault::SixteenForFifteen, 15) if judge::records(sheet).is_ok_and(|drawing| before.flows.len() < drawing.edges()) => return 16,
+        (Fault::TwentyForNineteen, 19) if before.levels[0] != 0 => return 20,
+        (Fault::ShortSetUnseen, 16) => {
+            let mut longer = Lent { set: vec![0; 9], ..before.clone() };
+            if let (Call::Solve { .. }, 0, 1) = (call, unit::call(call, &mut longer), longer.can) {
+                *after = Lent { set: before.set.clone(), ..longer };
+                return 0;
+            }
+        }
+        _ => {}
+    }
+    result
+}
+
+/// The last edge whose flow is outside its capacities, where flows are given.
+fn last_outside(call: &Call, before: &Lent) -> Option<u16> {
+    let drawing = judge::records(&before.sheet).ok()?;
+    if let Call::SettingsFromLevels = call {
+        return None;
+    }
+    let outside = |edge: &usize| before.flows[*edge] > drawing.capacities[2 * edge] || -(before.flows[*edge] as i64) > drawing.capacity(2 * edge + 1);
+    (0..drawing.edges()).rev().find(outside).map(|edge| edge as u16)
+}
+
+/// Whether the first edge of a sheet with a capacity out of range has capacities that add to less than zero.
+fn sum_below_zero(sheet: &[u8]) -> bool {
+    let number = |edge: &[u8], at: usize| i32::from_le_bytes(edge[at..at + 4].try_into().unwrap()) as i64;
+    let edges = sheet.get(HEAD..).unwrap_or_default().chunks_exact(EDGE).map(|edge| (number(edge, 9), number(edge, 13)));
+    edges.into_iter().find(|(forward, back)| forward.abs().max(back.abs()) > 1_000_000).is_some_and(|(forward, back)| forward + back < 0)
+}
+
+/// The set of one node.
+fn only(node: u16, drawing: &Drawing, after: &mut Lent) {
+    after.set[..drawing.words()].fill(0);
+    after.set[node as usize / 64] = 1 << (node % 64);
+}
+
+/// The outward total of a set, with or without darts within it, no capacity counted below `least`.
+fn outward(drawing: &Drawing, set: &[u64], within: bool, least: i32) -> i32 {
+    let holds = |dart: usize| set[drawing.tail(dart) / 64] >> (drawing.tail(dart) % 64) & 1 == 1;
+    (0..drawing.darts()).filter(|&dart| holds(dart) && (within || !holds(dart ^ 1))).map(|dart| drawing.capacities[dart].max(least)).sum()
+}
+
+fn put(slice: &mut [i32], numbers: &[i64]) {
+    for (element, &number) in slice.iter_mut().zip(numbers) {
+        *element = number as i32;
+    }
+}
+
+#[cfg(test)]
+mod tests {
+    use super::*;
+    use crate::check::{compare_drawing, Tally};
+
+    const SEED: u64 = 11;
+    const DRAWINGS: u64 = 600;
+
+    fn run(fault: Option<Fault>, tally: &mut Tally) -> Result<(), String> {
+        let library = Library { fault };
+        (0..DRAWINGS).try_for_each(|number| compare_drawing(&library, SEED, number, tally)).map_err(|wrong| wrong.0)
+    }
+
+    #[test]
+    fn every_fault_is_caught() {
+        let there = |name: String| cfg!(key_text) || !name.starts_with("Key");
+        let faults = ALL.iter().filter(|(fault, _)| there(format!("{fault:?}")));
+        let uncaught: Vec<_> = faults.filter(|(fault, _)| run(Some(*fault), &mut Tally::default()).is_ok()).collect();
+        assert!(uncaught.is_empty(), "not caught: {uncaught:?}");
+    }
+
+    /// Without a fault all is right, and every answer and every refusal of every operation comes up.
+    #[test]
+    fn no_fault_no_difference_and_every_answer_is_met() {
+        let mut tally = Tally::default();
+        run(None, &mut tally).unwrap_or_else(|wrong| panic!("{wrong}"));
+        let sheet: Vec<u8> = (1..=12).collect();
+        let with = |more: &[u8]| [&sheet[..], more].concat();
+        let due: [(&str, Vec<u8>, &[&str]); 7] = [
+            ("Read", with(&[16]), &["done"]),
+            ("Write", vec![3, 4, 5, 6, 7, 9, 10, 11, 12, 16], &["done"]),
+            ("Solve", with(&[13, 14, 15, 16]), &["can", "cannot"]),
+            ("Largest", with(&[13, 14, 16]), &["value", "value below 0", "none"]),
+            ("Mark", with(&[13, 14, 16, 17, 18]), &["value"]),
+            ("Levels from settings", with(&[16, 17, 18]), &["done"]),
+            ("Settings from levels", with(&[16, 17, 19, 20]), &["done"]),
+        ];
+        for (name, refusals, answers) in due {
+            let met: Vec<_> = tally.answers.keys().filter(|key| key.0 == name).map(|&(_, number, answer)| (number, answer)).collect();
+            let mut expected: Vec<_> = answers.iter().map(|&answer| (0, answer)).chain(refusals.iter().map(|&number| (number, "refused"))).collect();
+            expected.sort();
+            assert_eq!(met, expected, "{name}");
+        }
+    }
+}

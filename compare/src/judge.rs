@@ -1,0 +1,282 @@
+//! An independent judge of what is refused, written from document 01 in the plainest way: the checks of each operation in their order.
+use crate::drawing::{count, rounds, Drawing, EDGE, HEAD};
+use crate::flow::{along, net_flows};
+use crate::unit::{Call, Lent};
+
+#[derive(Clone, Copy, Debug, PartialEq)]
+pub struct Refusal {
+    pub number: u8,
+    pub place: u16,
+}
+
+type Verdict = Result<(), Refusal>;
+
+fn refuse(number: u8, holds: bool) -> Verdict {
+    if holds {
+        return Err(Refusal { number, place: 0 });
+    }
+    Ok(())
+}
+
+fn refuse_at(number: u8, place: Option<usize>) -> Verdict {
+    match place {
+        Some(place) => Err(Refusal { number, place: place as u16 }),
+        None => Ok(()),
+    }
+}
+
+/// The shortest text that the key's slice must have room for.
+pub const TEXT: usize = 6671;
+
+/// The drawing that a call is about, or the first of its refusals.
+pub fn accept(call: &Call, lent: &Lent) -> Result<Drawing, Refusal> {
+    match *call {
+        Call::Write { nodes } => return write(nodes, lent),
+        Call::KeyText => {
+            refuse(16, lent.text.len() < TEXT)?;
+            return Ok(Drawing::default());
+        }
+        _ => {}
+    }
+    let drawing = sheet(&lent.sheet)?;
+    let faces = count(&drawing.faces());
+    match *call {
+        Call::Read => {
+            let shortest = lent.tails.len().min(lent.rotations.len()).min(lent.capacities.len());
+            refuse(16, shortest < drawing.darts())?;
+        }
+        Call::Solve { source, sink, value } => {
+            question(&drawing, source, sink, value)?;
+            refuse(16, lent.flows.len() < drawing.edges() || lent.set.len() < drawing.words())?;
+        }
+        Call::Largest { source, sink } => {
+            ends(&drawing, source, sink)?;
+            refuse(16, lent.flows.len() < drawing.edges() || lent.set.len() < drawing.words())?;
+        }
+        Call::Mark { source, sink } => {
+            ends(&drawing, source, sink)?;
+            refuse(16, lent.flows.len() < drawing.edges())?;
+            within(&drawing, &wide(&lent.flows))?;
+            balanced(&drawing, &wide(&lent.flows), &[source as usize, sink as usize])?;
+        }
+        Call::LevelsFromSettings => {
+            refuse(16, lent.flows.len() < drawing.edges() || lent.levels.len() < faces)?;
+            within(&drawing, &wide(&lent.flows))?;
+            balanced(&drawing, &wide(&lent.flows), &[])?;
+        }
+        Call::SettingsFromLevels => {
+            refuse(16, lent.flows.len() < drawing.edges() || lent.levels.len() < faces)?;
+            let levels = wide(&lent.levels[..faces]);
+            refuse(19, levels.iter().any(|level| level.abs() > 600_000_000))?;
+            refuse(20, levels[0] != 0)?;
+            within(&drawing, &crate::levels::flows_of(&drawing.faces(), &levels))?;
+        }
+        Call::Write { .. } | Call::KeyText => unreachable!("judged above"),
+    }
+    Ok(drawing)
+}
+
+pub fn wide(numbers: &[i32]) -> Vec<i64> {
+    numbers.iter().map(|&number| number as i64).collect()
+}
+
+/// All sheet checks.
+pub fn sheet(bytes: &[u8]) -> Result<Drawing, Refusal> {
+    let drawing = records(bytes)?;
+    rotation(&drawing)?;
+    Ok(drawing)
+}
+
+/// A record of this kind at this place: 1 no byte, 2 another kind, 1 body cut short.
+fn record(bytes: &[u8], at: usize, kind: u8, body: usize) -> Result<&[u8], Refusal> {
+    refuse(1, bytes.len() <= at)?;
+    refuse(2, bytes[at] != kind)?;
+    refuse(1, bytes.len() < at + 1 + body)?;
+    Ok(&bytes[at + 1..at + 1 + body])
+}
+
+fn unsigned(body: &[u8], at: usize) -> u16 {
+    u16::from_le_bytes([body[at], body[at + 1]])
+}
+
+fn signed(body: &[u8], at: usize) -> i32 {
+    i32::from_le_bytes([body[at], body[at + 1], body[at + 2], body[at + 3]])
+}
+
+/// Checks 1 to 8.
+pub fn records(bytes: &[u8]) -> Result<Drawing, Refusal> {
+    let head = record(bytes, 0, 1, 4)?;
+    let (nodes, edges) = (unsigned(head, 0), unsigned(head, 2) as usize);
+    counts(nodes, edges)?;
+    let mut drawing = Drawing { nodes, ..Drawing::default() };
+    for edge in 0..edges {
+        let body = record(bytes, HEAD + EDGE * edge, 2, 16)?;
+        drawing.tails.extend([unsigned(body, 0), unsigned(body, 2)]);
+        drawing.rotations.extend([unsigned(body, 4), unsigned(body, 6)]);
+        drawing.capacities.extend([signed(body, 8), signed(body, 12)]);
+        fields(&drawing, edge, edges)?;
+    }
+    refuse(8, bytes.len() > HEAD + EDGE * edges)?;
+    Ok(drawing)
+}
+
+fn counts(nodes: u16, edges: usize) -> Verdict {
+    refuse(3, !(2..=513).contains(&nodes) || !(1..=512).contains(&edges))
+}
+
+/// Checks 4 to 7 of one edge.
+fn fields(drawing: &Drawing, edge: usize, edges: usize) -> Verdict {
+    let darts = [2 * edge, 2 * edge + 1];
+    refuse(4, darts.iter().any(|&dart| drawing.tails[dart] >= drawing.nodes))?;
+    refuse(5, darts.iter().any(|&dart| drawing.rotations[dart] as usize >= 2 * edges))?;
+    refuse(6, darts.iter().any(|&dart| drawing.capacity(dart).abs() > 1_000_000))?;
+    refuse(7, drawing.capacity(darts[0]) + drawing.capacity(darts[1]) < 0)
+}
+
+/// Checks 9 to 12.
+fn rotation(drawing: &Drawing) -> Verdict {
+    let rotation = drawing.rotation();
+    refuse(9, rotation.iter().enumerate().any(|(dart, &next)| drawing.tail(next) != drawing.tail(dart)))?;
+    let mut met = vec![false; rotation.len()];
+    refuse(9, rotation.iter().any(|&next| std::mem::replace(&mut met[next], true)))?;
+    refuse(10, !one_round_each(drawing))?;
+    refuse(11, !connected(drawing))?;
+    refuse(12, !flat(drawing))
+}
+
+fn one_round_each(drawing: &Drawing) -> bool {
+    let rounds = rounds(&drawing.rotation());
+    let mut round = vec![None; drawing.nodes as usize];
+    for dart in 0..drawing.darts() {
+        let first = *round[drawing.tail(dart)].get_or_insert(rounds[dart]);
+        if first != rounds[dart] {
+            return false;
+        }
+    }
+    round.iter().all(Option::is_some)
+}
+
+pub fn connected(drawing: &Drawing) -> bool {
+    let mut beside = vec![vec![]; drawing.nodes as usize];
+    for dart in 0..drawing.darts() {
+        beside[drawing.tail(dart)].push(drawing.head(dart));
+    }
+    let mut reached = vec![false; drawing.nodes as usize];
+    reached[0] = true;
+    let mut waiting = vec![0];
+    while let Some(node) = waiting.pop() {
+        for &next in &beside[node] {
+            if !reached[next] {
+                reached[next] = true;
+                waiting.push(next);
+            }
+        }
+    }
+    reached.iter().all(|&there| there)
+}
+
+pub fn flat(drawing: &Drawing) -> bool {
+    drawing.nodes as usize + count(&drawing.faces()) == drawing.edges() + 2
+}
+
+fn write(nodes: u16, lent: &Lent) -> Result<Drawing, Refusal> {
+    let darts = lent.tails.len();
+    refuse(16, lent.rotations.len() != darts || lent.capacities.len() != darts || darts % 2 != 0)?;
+    let drawing = Drawing { nodes, tails: lent.tails.clone(), rotations: lent.rotations.clone(), capacities: lent.capacities.clone() };
+    counts(nodes, drawing.edges())?;
+    for edge in 0..drawing.edges() {
+        fields(&drawing, edge, drawing.edges())?;
+    }
+    rotation(&drawing)?;
+    refuse(16, lent.sheet.len() < HEAD + EDGE * drawing.edges())?;
+    Ok(drawing)
+}
+
+/// Checks 13 and 14.
+fn ends(drawing: &Drawing, source: u16, sink: u16) -> Verdict {
+    refuse(13, source >= drawing.nodes || sink >= drawing.nodes)?;
+    refuse(14, source == sink)
+}
+
+/// Checks 13 to 15.
+pub fn question(drawing: &Drawing, source: u16, sink: u16, value: i32) -> Verdict {
+    ends(drawing, source, sink)?;
+    refuse(15, (value as i64).abs() > 600_000_000)
+}
+
+/// The question of the key, and the sheet after it.
+#[cfg_attr(not(key_text), allow(dead_code))]
+pub fn key(input: &[u8]) -> Result<(Drawing, Call), Refusal> {
+    let body = record(input, 0, 3, 8)?;
+    let (source, sink, value) = (unsigned(body, 0), unsigned(body, 2), signed(body, 4));
+    let drawing = sheet(&input[9..])?;
+    question(&drawing, source, sink, value)?;
+    Ok((drawing, Call::Solve { source, sink, value }))
+}
+
+/// Check 17, with the lowest edge whose flow is outside its capacities.
+fn within(drawing: &Drawing, flows: &[i64]) -> Verdict {
+    refuse_at(17, (0..drawing.darts()).find(|&dart| along(flows, dart) > drawing.capacity(dart)).map(|dart| dart / 2))
+}
+
+/// Check 18, with the lowest node off balance, save those that are free.
+fn balanced(drawing: &Drawing, flows: &[i64], free: &[usize]) -> Verdict {
+    let sums = net_flows(drawing, flows);
+    refuse_at(18, (0..sums.len()).find(|&node| sums[node] != 0 && !free.contains(&node)))
+}
+
+/// What keeps a set of nodes, in words, from proving that a value is impossible; without a value, that nothing can be carried.
+pub fn objection(drawing: &Drawing, set: &[u64], source: u16, sink: u16, value: Option<i64>) -> Option<String> {
+    let holds = |node: usize| set[node / 64] >> (node % 64) & 1 == 1;
+    if (drawing.nodes as usize..64 * set.len()).any(holds) {
+        return Some("the set has an unused bit".to_string());
+    }
+    let mut outward = 0;
+    for dart in 0..drawing.darts() {
+        if holds(drawing.tail(dart)) && !holds(drawing.head(dart)) {
+            outward += drawing.capacity(dart);
+        }
+    }
+    let bound = match (holds(source as usize), holds(sink as usize), value) {
+        (true, false, Some(value)) => value,
+        (false, true, Some(value)) => -value,
+        (true, false, None) | (false, true, None) => return Some("the set parts source from sink".to_string()),
+        _ => 0,
+    };
+    (outward >= bound).then(|| format!("the set does not prove it: outward total {outward}, not below {bound}"))
+}
+
+#[cfg(test)]
+mod tests {
+    use super::*;
+    use crate::paper;
+
+    fn number(bytes: &[u8]) -> u8 {
+        sheet(bytes).map_or_else(|refusal| refusal.number, |_| 0)
+    }
+
+    #[test]
+    fn the_edges_of_the_paper() {
+        let with = |dart: usize, capacity: i32| number(&paper::a_with(&[(dart, capacity)]).bytes());
+        assert_eq!([with(0, 1_000_000), with(0, 1_000_001)], [0, 6]);
+        assert_eq!([with(5, -4), with(5, -5)], [0, 7]);
+        assert_eq!(number(&[]), 1);
+        assert_eq!(number(&[2]), 2);
+        assert_eq!(number(&[1]), 1);
+        assert_eq!(number(&[1, 2, 0, 88, 2]), 3); // 600 edges, and no byte of them
+        assert_eq!(number(&paper::a_twisted().bytes()), 12);
+    }
+
+    #[test]
+    fn sets_of_the_paper_prove() {
+        let a = paper::a();
+        assert_eq!(objection(&a, &[1], 0, 1, Some(13)), None);
+        assert!(objection(&a, &[1], 0, 1, Some(12)).is_some());
+        assert_eq!(objection(&a, &[2], 0, 1, Some(-1)), None);
+        assert!(objection(&a, &[0], 0, 1, Some(13)).is_some());
+        assert!(objection(&a, &[5], 0, 1, Some(13)).is_some()); // an unused bit
+        assert_eq!(objection(&paper::b(), &[4], 0, 1, None), None);
+        assert_eq!(objection(&paper::two_bridges(), &[5], 2, 0, None), None);
+        assert!(objection(&paper::two_bridges(), &[4], 2, 0, None).is_some());
+    }
+}

@@ -1,0 +1,86 @@
+//! Face levels, from document 01: "flow on d = level of left(d) - level of right(d), with face 0 at level 0", and the highest answer by shortest distances of faces.
+use crate::drawing::{count, Drawing};
+use crate::flow::along;
+
+/// The flows of the edges that face levels give.
+pub fn flows_of(faces: &[usize], levels: &[i64]) -> Vec<i64> {
+    faces.chunks(2).map(|pair| levels[pair[0]] - levels[pair[1]]).collect()
+}
+
+/// The levels of balanced flows, carried from face to face over the darts between them.
+pub fn levels_of(faces: &[usize], flows: &[i64]) -> Vec<i64> {
+    let mut levels = vec![None; count(faces)];
+    levels[0] = Some(0);
+    let mut changed = true;
+    while changed {
+        changed = false;
+        for dart in 0..faces.len() {
+            let (left, right) = (faces[dart], faces[dart ^ 1]);
+            if let (None, Some(level)) = (levels[left], levels[right]) {
+                levels[left] = Some(level + along(flows, dart));
+                changed = true;
+            }
+        }
+    }
+    levels.into_iter().map(|level| level.expect("the faces of a connected drawing are connected")).collect()
+}
+
+/// The shortest distances from face 0 over arcs (from, to, length), none of them below zero (Bellman-Ford).
+fn distances(faces: usize, arcs: &[(usize, usize, i64)]) -> Vec<i64> {
+    let mut distances = vec![i64::MAX / 4; faces];
+    distances[0] = 0;
+    let mut changed = true;
+    while changed {
+        changed = false;
+        for &(from, to, length) in arcs {
+            if distances[from] + length < distances[to] {
+                distances[to] = distances[from] + length;
+                changed = true;
+            }
+        }
+    }
+    distances
+}
+
+/// The highest answer of the same value as a given flow y within the capacities. Another flow of that value is y and the balanced flow of some levels p, and keeps within
+/// the capacities if p(left d) <= p(right d) + capacity(d) - y(d) for every dart. The greatest such p are the distances of the faces from face 0, with an arc from
+/// right(d) to left(d) of that length: all others are nowhere above them.
+pub fn highest(drawing: &Drawing, faces: &[usize], flows: &[i64]) -> Vec<i64> {
+    let arcs: Vec<_> = (0..drawing.darts()).map(|dart| (faces[dart ^ 1], faces[dart], drawing.capacity(dart) - along(flows, dart))).collect();
+    let risen = flows_of(faces, &distances(count(faces), &arcs));
+    flows.iter().zip(risen).map(|(flow, rise)| flow + rise).collect()
+}
+
+/// The other way round: the answer from which all others rise. Wanted only as a deliberate fault.
+pub fn lowest(drawing: &Drawing, faces: &[usize], flows: &[i64]) -> Vec<i64> {
+    let arcs: Vec<_> = (0..drawing.darts()).map(|dart| (faces[dart], faces[dart ^ 1], drawing.capacity(dart) - along(flows, dart))).collect();
+    let fallen = flows_of(faces, &distances(count(faces), &arcs));
+    flows.iter().zip(fallen).map(|(flow, fall)| flow - fall).collect()
+}
+
+#[cfg(test)]
+mod tests {
+    use super::*;
+    use crate::flow::carry;
+    use crate::paper;
+
+    #[test]
+    fn highest_answers_of_a_are_those_of_the_paper() {
+        let drawing = paper::a();
+        let faces = drawing.faces();
+        for (value, answer) in [(6, [0, 2, 4]), (12, [5, 3, 4]), (0, [0, 0, 0])] {
+            assert_eq!(highest(&drawing, &faces, &carry(&drawing, 0, 1, value).unwrap()), answer);
+        }
+        for flows in [[5, 1, 0], [2, 2, 2], [3, 3, 0]] {
+            assert_eq!(highest(&drawing, &faces, &flows), [0, 2, 4]);
+        }
+        assert_eq!(lowest(&drawing, &faces, &[2, 2, 2]), [5, 1, 0]);
+    }
+
+    #[test]
+    fn levels_of_a_are_those_of_the_paper() {
+        let faces = paper::a().faces();
+        assert_eq!(levels_of(&faces, &[2, 1, -3]), [0, -2, -3]);
+        assert_eq!(flows_of(&faces, &[0, -2, -3]), [2, 1, -3]);
+    }
+}

@@ -1,0 +1,123 @@
+//! The drawings of document 01 with known answers, asked of the unit: the answers stand here as the paper has them. (The other tests use the same drawings.)
+use crate::drawing::Drawing;
+use crate::unit::{self, Call, Lent};
+
+fn drawing(nodes: u16, edges: &[[i32; 6]]) -> Drawing {
+    let two = |first: usize| edges.iter().flat_map(move |edge| [edge[first], edge[first + 1]]);
+    Drawing { nodes, tails: two(0).map(|x| x as u16).collect(), rotations: two(2).map(|x| x as u16).collect(), capacities: two(4).collect() }
+}
+
+pub fn a() -> Drawing {
+    drawing(2, &[[0, 1, 2, 5, 5, 0], [0, 1, 4, 1, 3, 0], [0, 1, 0, 3, 4, 0]])
+}
+
+/// A with other capacities of some darts.
+pub fn a_with(capacities: &[(usize, i32)]) -> Drawing {
+    let mut drawing = a();
+    capacities.iter().for_each(|&(dart, capacity)| drawing.capacities[dart] = capacity);
+    drawing
+}
+
+/// A with turns 1 -> 3 -> 5 -> 1 at node 1.
+pub fn a_twisted() -> Drawing {
+    let mut drawing = a();
+    [(1, 3), (3, 5), (5, 1)].iter().for_each(|&(dart, next)| drawing.rotations[dart] = next);
+    drawing
+}
+
+pub fn b() -> Drawing {
+    drawing(3, &[[0, 1, 2, 1, 5, 0], [0, 2, 0, 3, 3, -1]])
+}
+
+/// A path on which nothing can be carried, though every set of one side allows something.
+pub fn two_bridges() -> Drawing {
+    drawing(3, &[[1, 2, 3, 1, 1, -1], [0, 1, 2, 0, 0, 0]])
+}
+
+/// The result of a call with one word for the set, and the memory after it.
+fn ask(sheet: Vec<u8>, call: Call, flows: &[i32], levels: &[i32]) -> (u8, Lent) {
+    let mut lent = Lent::new(sheet);
+    (lent.flows, lent.levels, lent.set) = (flows.to_vec(), levels.to_vec(), vec![99]);
+    let result = unit::call(&call, &mut lent);
+    assert!(lent.guards);
+    (result, lent)
+}
+
+fn solve(drawing: &Drawing, value: i32) -> (u8, Lent) {
+    ask(drawing.bytes(), Call::Solve { source: 0, sink: 1, value }, &[77; 3], &[])
+}
+
+fn can(drawing: &Drawing, value: i32, flows: [i32; 3]) {
+    let (result, lent) = solve(drawing, value);
+    assert_eq!((result, lent.can, lent.flows, lent.set), (0, 1, flows.to_vec(), vec![99]), "{value}");
+}
+
+fn cannot(drawing: &Drawing, value: i32, set: u64) {
+    let (result, lent) = solve(drawing, value);
+    assert_eq!((result, lent.can, lent.size, lent.set, lent.flows), (0, 0, 1, vec![set], vec![77; 3]), "{value}");
+}
+
+#[test]
+fn faces_of_a() {
+    assert_eq!(a().faces(), [0, 1, 1, 2, 2, 0]); // {0,5}, {1,2}, {3,4}
+}
+
+#[test]
+fn solve_on_a() {
+    can(&a(), 6, [0, 2, 4]);
+    can(&a(), 12, [5, 3, 4]);
+    cannot(&a(), 13, 1);
+    can(&a(), 0, [0, 0, 0]);
+    cannot(&a(), -1, 2);
+    can(&a_with(&[(3, -2)]), 2, [0, 2, 0]);
+    cannot(&a_with(&[(3, -2)]), 1, 2);
+    assert_eq!(solve(&a_twisted(), 6).0, 12);
+}
+
+#[test]
+fn largest() {
+    let (result, lent) = ask(a().bytes(), Call::Largest { source: 0, sink: 1 }, &[77; 3], &[]);
+    assert_eq!((result, lent.found, lent.value, lent.flows, lent.set), (0, 1, 12, vec![5, 3, 4], vec![1]));
+    let (result, lent) = ask(b().bytes(), Call::Largest { source: 0, sink: 1 }, &[77; 3], &[]);
+    assert_eq!((result, lent.found, lent.flows, lent.set), (0, 0, vec![77; 3], vec![4]));
+    let (result, lent) = ask(two_bridges().bytes(), Call::Largest { source: 2, sink: 0 }, &[77; 3], &[]);
+    assert_eq!((result, lent.found, lent.flows, lent.set), (0, 0, vec![77; 3], vec![5]));
+}
+
+#[test]
+fn levels() {
+    let sheet = a_with(&[(0, 5), (1, 5), (2, 5), (3, 5), (4, 5), (5, 5)]).bytes();
+    let (result, lent) = ask(sheet.clone(), Call::LevelsFromSettings, &[2, 1, -3], &[77; 3]);
+    assert_eq!((result, lent.levels), (0, vec![0, -2, -3]));
+    let (result, lent) = ask(sheet, Call::SettingsFromLevels, &[77; 3], &[0, -2, -3]);
+    assert_eq!((result, lent.flows), (0, vec![2, 1, -3]));
+}
+
+#[test]
+fn ranges() {
+    let result = |drawing: Drawing, value: i32| solve(&drawing, value).0;
+    assert_eq!(result(a_with(&[(0, 1_000_000)]), 6), 0);
+    assert_eq!(result(a_with(&[(0, 1_000_001)]), 6), 6);
+    assert_eq!(result(a_with(&[(2, 2), (3, -2)]), 6), 0);
+    assert_eq!(result(a_with(&[(2, 2), (3, -3)]), 6), 7);
+    cannot(&a(), 600_000_000, 1);
+    assert_eq!(result(a(), 600_000_001), 15);
+    assert_eq!(ask(vec![], Call::Read, &[], &[]).0, 1);
+}
+
+#[cfg(key_text)]
+#[test]
+fn key() {
+    let text = |drawing: Drawing, value: i32| {
+        let mut input = vec![3, 0, 0, 1, 0];
+        input.extend(value.to_le_bytes());
+        input.extend(drawing.bytes());
+        let mut lent = Lent::new(input);
+        lent.text = vec![0; crate::judge::TEXT];
+        assert_eq!(unit::call(&Call::KeyText, &mut lent), 0);
+        String::from_utf8(lent.text[..lent.length].to_vec()).unwrap()
+    };
+    assert_eq!(text(a(), 6), "can 6\n0 0\n1 2\n2 4\n");
+    assert_eq!(text(a(), 13), "cannot 13 1\n0\n");
+    assert_eq!(text(a_twisted(), 6), "refused 12\n");
+}

@@ -1,0 +1,282 @@
+//! The unit under test: its C interface, called with lent memory that stands between guard elements.
+
+/// One call, with what is passed by value.
+#[derive(Clone, Copy, Debug, PartialEq)]
+pub enum Call {
+    Read,
+    Write {
+        nodes: u16,
+    },
+    Solve {
+        source: u16,
+        sink: u16,
+        value: i32,
+    },
+    Largest {
+        source: u16,
+        sink: u16,
+    },
+    Mark {
+        source: u16,
+        sink: u16,
+    },
+    LevelsFromSettings,
+    SettingsFromLevels,
+    #[cfg_attr(not(key_text), allow(dead_code))]
+    KeyText,
+}
+
+impl Call {
+    pub fn name(&self) -> &'static str {
+        match self {
+            Call::Read => "Read",
+            Call::Write { .. } => "Write",
+            Call::Solve { .. } => "Solve",
+            Call::Largest { .. } => "Largest",
+            Call::Mark { .. } => "Mark",
+            Call::LevelsFromSettings => "Levels from settings",
+            Call::SettingsFromLevels => "Settings from levels",
+            Call::KeyText => "Key text",
+        }
+    }
+}
+
+/// All memory that a call can reach: the slices, and the answers behind pointers. A call uses some of it, and must leave the rest.
+#[derive(Clone, Debug, PartialEq)]
+pub struct Lent {
+    /// The sheet given; Write's bytes; the input of the key.
+    pub sheet: Vec<u8>,
+    pub flows: Vec<i32>,
+    pub set: Vec<u64>,
+    pub levels: Vec<i32>,
+    pub tails: Vec<u16>,
+    pub rotations: Vec<u16>,
+    pub capacities: Vec<i32>,
+    pub text: Vec<u8>,
+    pub can: u8,
+    pub found: u8,
+    pub size: u16,
+    pub value: i32,
+    pub nodes: u16,
+    pub edges: u16,
+    pub length: usize,
+    pub place: u16,
+    /// Whether every guard element is as it was.
+    pub guards: bool,
+}
+
+impl Lent {
+    /// Answers that no call gives stand behind the pointers at first.
+    pub fn new(sheet: Vec<u8>) -> Self {
+        Lent {
+            sheet,
+            flows: vec![],
+            set: vec![],
+            levels: vec![],
+            tails: vec![],
+            rotations: vec![],
+            capacities: vec![],
+            text: vec![],
+            can: 0xa5,
+            found: 0xa5,
+            size: 0xbeef,
+            value: -0x5a5a_5a5a,
+            nodes: 0xbeef,
+            edges: 0xbeef,
+            length: 0xdead_beef,
+            place: 0xbeef,
+            guards: true,
+        }
+    }
+}
+
+/// A slice with guard elements before and after it.
+struct Guarded<T> {
+    all: Vec<T>,
+    guard: T,
+}
+
+const GUARDS: usize = 16;
+
+impl<T: Copy + PartialEq> Guarded<T> {
+    fn new(lent: &[T], guard: T) -> Self {
+        let mut all = vec![guard; GUARDS];
+        all.extend_from_slice(lent);
+        all.extend([guard; GUARDS]);
+        Guarded { all, guard }
+    }
+
+    fn length(&self) -> usize {
+        self.all.len() - 2 * GUARDS
+    }
+
+    fn pointer(&mut self) -> *mut T {
+        self.all[GUARDS..].as_mut_ptr()
+    }
+
+    /// Gives the slice back, and says whether the guards are whole.
+    fn give_back(&self, lent: &mut [T]) -> bool {
+        let end = GUARDS + self.length();
+        lent.copy_from_slice(&self.all[GUARDS..end]);
+        self.all[..GUARDS].iter().chain(&self.all[end..]).all(|&element| element == self.guard)
+    }
+}
+
+extern "C" {
+    #[rustfmt::skip]
+    fn analyser_read(
+        sheet: *const u8,
+        sheet_length: usize,
+        tails: *mut u16,
+        tails_length: usize,
+        rotations: *mut u16,
+        rotations_length: usize,
+        capacities: *mut i32,
+        capacities_length: usize,
+        nodes: *mut u16,
+        edges: *mut u16,
+        place: *mut u16,
+    ) -> u8;
+    #[rustfmt::skip]
+    fn analyser_write(
+        nodes: u16,
+        tails: *const u16,
+        tails_length: usize,
+        rotations: *const u16,
+        rotations_length: usize,
+        capacities: *const i32,
+        capacities_length: usize,
+        sheet: *mut u8,
+        sheet_length: usize,
+        length: *mut usize,
+        place: *mut u16,
+    ) -> u8;
+    #[rustfmt::skip]
+    fn analyser_solve(
+        sheet: *const u8,
+        sheet_length: usize,
+        source: u16,
+        sink: u16,
+        value: i32,
+        flows: *mut i32,
+        flows_length: usize,
+        set: *mut u64,
+        set_length: usize,
+        can: *mut u8,
+        size: *mut u16,
+        place: *mut u16,
+    ) -> u8;
+    #[rustfmt::skip]
+    fn analyser_largest(
+        sheet: *const u8,
+        sheet_length: usize,
+        source: u16,
+        sink: u16,
+        flows: *mut i32,
+        flows_length: usize,
+        set: *mut u64,
+        set_length: usize,
+        found: *mut u8,
+        value: *mut i32,
+        place: *mut u16,
+    ) -> u8;
+    #[rustfmt::skip]
+    fn analyser_mark(
+        sheet: *const u8,
+        sheet_length: usize,
+        source: u16,
+        sink: u16,
+        flows: *const i32,
+        flows_length: usize,
+        value: *mut i32,
+        place: *mut u16,
+    ) -> u8;
+    #[rustfmt::skip]
+    fn analyser_levels_from_settings(
+        sheet: *const u8,
+        sheet_length: usize,
+        flows: *const i32,
+        flows_length: usize,
+        levels: *mut i32,
+        levels_length: usize,
+        place: *mut u16,
+    ) -> u8;
+    #[rustfmt::skip]
+    fn analyser_settings_from_levels(
+        sheet: *const u8,
+        sheet_length: usize,
+        levels: *const i32,
+        levels_length: usize,
+        flows: *mut i32,
+        flows_length: usize,
+        place: *mut u16,
+    ) -> u8;
+    #[cfg(key_text)]
+    #[rustfmt::skip]
+    fn analyser_key_text(input: *const u8, input_length: usize, text: *mut u8, text_length: usize, length: *mut usize, place: *mut u16) -> u8;
+}
+
+/// Calls the unit. The result is the number of the refusal, or 0.
+#[rustfmt::skip]
+pub fn call(call: &Call, lent: &mut Lent) -> u8 {
+    let mut sheet = Guarded::new(&lent.sheet, 0xa5);
+    let mut flows = Guarded::new(&lent.flows, -0x5a5a_5a5a);
+    let mut set = Guarded::new(&lent.set, 0xa5a5_a5a5_a5a5_a5a5);
+    let mut levels = Guarded::new(&lent.levels, -0x5a5a_5a5a);
+    let mut tails = Guarded::new(&lent.tails, 0xa5a5);
+    let mut rotations = Guarded::new(&lent.rotations, 0xa5a5);
+    let mut capacities = Guarded::new(&lent.capacities, -0x5a5a_5a5a);
+    #[cfg_attr(not(key_text), allow(unused_mut))]
+    let mut text = Guarded::new(&lent.text, 0xa5);
+    // Each pointer is to as many elements as its length says, and no two slices overlap.
+    let result = unsafe {
+        match *call {
+            Call::Read => analyser_read(sheet.pointer(), sheet.length(), tails.pointer(), tails.length(), rotations.pointer(), rotations.length(),
+                capacities.pointer(), capacities.length(), &mut lent.nodes, &mut lent.edges, &mut lent.place),
+            Call::Write { nodes } => analyser_write(nodes, tails.pointer(), tails.length(), rotations.pointer(), rotations.length(),
+                capacities.pointer(), capacities.length(), sheet.pointer(), sheet.length(), &mut lent.length, &mut lent.place),
+            Call::Solve { source, sink, value } => analyser_solve(sheet.pointer(), sheet.length(), source, sink, value, flows.pointer(), flows.length(),
+                set.pointer(), set.length(), &mut lent.can, &mut lent.size, &mut lent.place),
+            Call::Largest { source, sink } => analyser_largest(sheet.pointer(), sheet.length(), source, sink, flows.pointer(), flows.length(),
+                set.pointer(), set.length(), &mut lent.found, &mut lent.value, &mut lent.place),
+            Call::Mark { source, sink } => analyser_mark(sheet.pointer(), sheet.length(), source, sink, flows.pointer(), flows.length(), &mut lent.value,
+                &mut lent.place),
+            Call::LevelsFromSettings => analyser_levels_from_settings(sheet.pointer(), sheet.length(), flows.pointer(), flows.length(),
+                levels.pointer(), levels.length(), &mut lent.place),
+            Call::SettingsFromLevels => analyser_settings_from_levels(sheet.pointer(), sheet.length(), levels.pointer(), levels.length(),
+                flows.pointer(), flows.length(), &mut lent.place),
+            #[cfg(key_text)]
+            Call::KeyText => analyser_key_text(sheet.pointer(), sheet.length(), text.pointer(), text.length(), &mut lent.length, &mut lent.place),
+            #[cfg(not(key_text))]
+            Call::KeyText => unreachable!("the library has no key text"),
+        }
+    };
+    lent.guards = sheet.give_back(&mut lent.sheet)
+        & flows.give_back(&mut lent.flows)
+        & set.give_back(&mut lent.set)
+        & levels.give_back(&mut lent.levels)
+        & tails.give_back(&mut lent.tails)
+        & rotations.give_back(&mut lent.rotations)
+        & capacities.give_back(&mut lent.capacities)
+        & text.give_back(&mut lent.text);
+    result
+}
+
+#[cfg(test)]
+mod tests {
+    use super::*;
+
+    #[test]
+    fn a_write_outside_the_slice_is_seen() {
+        for at in [-1, -(GUARDS as isize), 3, 2 + GUARDS as isize] {
+            let mut guarded = Guarded::new(&[1, 2, 3], 77);
+            unsafe { *guarded.all.as_mut_ptr().offset(GUARDS as isize + at) += 1 };
+            assert!(!guarded.give_back(&mut [0; 3]), "{at}");
+        }
+        let mut guarded = Guarded::new(&[1, 2, 3], 77);
+        unsafe { *guarded.pointer() = 9 };
+        let mut lent = [0; 3];
+        assert!(guarded.give_back(&mut lent));
+        assert_eq!(lent, [9, 2, 3]);
+    }
+}

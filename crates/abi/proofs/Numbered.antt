@@ -1,0 +1,117 @@
+-- Every check of every operation has a number of 1 or more: no refusal is told as 0.
+use Prim.Native.Nat.{ℕ, zero, suc, _≤_}
+use mathlib.Core.Path.{_≡_}
+use mathlib.Core.Logic.{inl, inr}
+use mathlib.Core.List.{List, [], _∷_, _++_}
+use native.Mathlib.Omega.{arith}
+use lib.IntN.{ℤ}
+use Rattle.refusals.specs.Order.{Check, _at_when_, FirstOf, inTurn}
+use Rattle.faces.specs.Map.{Map}
+use Rattle.flows.specs.Check.{withinChecks, balanceChecks}
+use Rattle.rotations.specs.MapChecks.{mapChecks}
+use Rattle.records.specs.Record.{recordChecks}
+use Rattle.records.specs.Drawing.{Drawing}
+use Rattle.records.specs.Check.{countChecks, fieldChecks, edgeChecks}
+use Rattle.records.specs.Sheet.{headChecks, edgeRecordChecks, byteChecks, edgesOf}
+use Rattle.sheets.specs.Open.{sheetChecks}
+use Rattle.sheets.specs.Read.{readChecks}
+use Rattle.sheets.specs.Write.{drawingChecks, writeChecks}
+use Rattle.differences.specs.Level.{levelChecks}
+use Rattle.analyser.specs.Question.{endChecks, valueChecks, roomChecks}
+use Rattle.analyser.specs.Solve.{solveChecks}
+use Rattle.analyser.specs.Largest.{largestChecks}
+use Rattle.analyser.specs.Mark.{markChecks}
+use Rattle.analyser.specs.LevelsOf.{levelsChecks}
+use Rattle.analyser.specs.SettingsOf.{settingsChecks}
+
+-- ── lists of checks whose numbers are 1 or more ──
+unfoldable pub Numbered : List Check → Type 0
+Numbered [] = Unit
+Numbered ((j at q when P) ∷ cs) = (1 ≤ j) × Numbered cs
+
+pub first-numbered : (cs : List Check) (k p : ℕ) → Numbered cs → FirstOf cs k p → 1 ≤ k
+unfolding Numbered FirstOf
+first-numbered [] k p n h = absurd h
+first-numbered ((j at q when P) ∷ cs) k p n (inl h) = omega (arith, n .0, h .1)
+first-numbered ((j at q when P) ∷ cs) k p n (inr h) = first-numbered cs k p (n .1) (h .1)
+
+pub numbered-append : (xs ys : List Check) → Numbered xs → Numbered ys → Numbered (xs ++ ys)
+unfolding Numbered
+numbered-append [] ys m n = n
+numbered-append ((j at q when P) ∷ xs) ys m n = (m .0, numbered-append xs ys (m .1) n)
+
+pub numbered-in-turn : (n : ℕ) (f : ℕ → List Check) → ((i : ℕ) → Numbered (f i)) → Numbered (inTurn n f)
+unfolding Numbered inTurn
+numbered-in-turn zero f h = tt
+numbered-in-turn (suc n) f h = numbered-append (inTurn n f) (f n) (numbered-in-turn n f h) (h n)
+
+-- ── the checks of each operation ──
+record-numbered : (s : List ℕ) (kind start : ℕ) → Numbered (recordChecks s kind start)
+unfolding Numbered recordChecks
+record-numbered s kind start = (omega arith, (omega arith, (omega arith, tt)))
+
+field-numbered : (𝓓 : Drawing) (e : ℕ) → Numbered (edgeChecks 𝓓 e)
+unfolding Numbered edgeChecks fieldChecks
+field-numbered 𝓓 e = (omega arith, (omega arith, (omega arith, (omega arith, tt))))
+
+map-numbered : (𝓜 : Map) → Numbered (mapChecks 𝓜)
+unfolding Numbered mapChecks
+map-numbered 𝓜 = (omega arith, (omega arith, (omega arith, (omega arith, tt))))
+
+edge-numbered : (s : List ℕ) (e : ℕ) → Numbered (edgeRecordChecks s e)
+unfolding edgeRecordChecks
+edge-numbered s e = numbered-append (recordChecks s 2 _) _ (record-numbered s 2 _) (field-numbered _ e)
+
+pub sheet-numbered : (s : List ℕ) → Numbered (sheetChecks s)
+unfolding Numbered sheetChecks byteChecks headChecks countChecks
+sheet-numbered s =
+    numbered-append (byteChecks s) _
+    (numbered-append (headChecks s) _
+    (numbered-append (recordChecks s 1 0) _ (record-numbered s 1 0) (omega arith, tt))
+    (numbered-append (inTurn (edgesOf s) (edgeRecordChecks s)) _ (numbered-in-turn (edgesOf s) (edgeRecordChecks s) (edge-numbered s)) (omega arith, tt)))
+    (map-numbered _)
+
+drawing-numbered : (𝓓 : Drawing) → Numbered (drawingChecks 𝓓)
+unfolding Numbered drawingChecks countChecks
+drawing-numbered 𝓓 =
+    (omega arith, numbered-append (inTurn (𝓓 .map .edges) (edgeChecks 𝓓)) _ (numbered-in-turn (𝓓 .map .edges) (edgeChecks 𝓓) (field-numbered 𝓓)) (map-numbered _))
+
+within-numbered : (edges : ℕ) (c x : ℕ → ℤ) → Numbered (withinChecks edges c x)
+unfolding Numbered withinChecks
+within-numbered edges c x = numbered-in-turn edges _ (λ e. (omega arith, tt))
+
+balance-numbered : (𝓜 : Map) (Excused : ℕ → Type 0) (x : ℕ → ℤ) → Numbered (balanceChecks 𝓜 Excused x)
+unfolding Numbered balanceChecks
+balance-numbered 𝓜 Excused x = numbered-in-turn (𝓜 .nodes) _ (λ v. (omega arith, tt))
+
+pub read-numbered : (s tails rotations : List ℕ) (capacities : List ℤ) → Numbered (readChecks s tails rotations capacities)
+unfolding Numbered readChecks
+read-numbered s tails rotations capacities = numbered-append (sheetChecks s) _ (sheet-numbered s) (omega arith, tt)
+
+pub write-numbered : (nodes : ℕ) (tails rotations : List ℕ) (capacities : List ℤ) (sheet : List ℕ) → Numbered (writeChecks nodes tails rotations capacities sheet)
+unfolding Numbered writeChecks
+write-numbered nodes tails rotations capacities sheet = (omega arith, numbered-append (drawingChecks _) _ (drawing-numbered _) (omega arith, tt))
+
+pub solve-numbered : (s : List ℕ) (source sink : ℕ) (value : ℤ) (flows : List ℤ) (set : List ℕ) → Numbered (solveChecks s source sink value flows set)
+unfolding Numbered solveChecks endChecks valueChecks roomChecks
+solve-numbered s source sink value flows set =
+    numbered-append (sheetChecks s) _ (sheet-numbered s) (omega arith, (omega arith, (omega arith, (omega arith, tt))))
+
+pub largest-numbered : (s : List ℕ) (source sink : ℕ) (flows : List ℤ) (set : List ℕ) → Numbered (largestChecks s source sink flows set)
+unfolding Numbered largestChecks endChecks roomChecks
+largest-numbered s source sink flows set = numbered-append (sheetChecks s) _ (sheet-numbered s) (omega arith, (omega arith, (omega arith, tt)))
+
+pub mark-numbered : (s : List ℕ) (source sink : ℕ) (flows : List ℤ) → Numbered (markChecks s source sink flows)
+unfolding Numbered markChecks endChecks
+mark-numbered s source sink flows =
+    numbered-append (sheetChecks s) _ (sheet-numbered s)
+    (omega arith, (omega arith, (omega arith, numbered-append (withinChecks _ _ _) _ (within-numbered _ _ _) (balance-numbered _ _ _))))
+
+pub levels-numbered : (s : List ℕ) (flows levels : List ℤ) → Numbered (levelsChecks s flows levels)
+unfolding Numbered levelsChecks
+levels-numbered s flows levels =
+    numbered-append (sheetChecks s) _ (sheet-numbered s) (omega arith, numbered-append (withinChecks _ _ _) _ (within-numbered _ _ _) (balance-numbered _ _ _))
+
+pub settings-numbered : (s : List ℕ) (levels flows : List ℤ) → Numbered (settingsChecks s levels flows)
+unfolding Numbered settingsChecks levelChecks
+settings-numbered s levels flows = numbered-append (sheetChecks s) _ (sheet-numbered s) (omega arith, (omega arith, (omega arith, within-numbered _ _ _)))

@@ -1,0 +1,53 @@
+-- Each arm of the match has what Settings from levels ensures of its answer, and tells it.
+use mathlib.Core.Path.{_≡_, refl}
+use mathlib.Core.List.{List}
+use lib.IntN.{ℤ}
+use borrow.Author.Needs.{needs}
+use Rattle.analyser.specs.SettingsOf.{GivesSettings}
+use Rattle.analyser.specs.declared.LevelAnswer.{LevelAnswer}
+use Rattle.analyser.specs.declared.LevelAnswer.the-variants.{Done, Refused}
+use Rattle.abi.proofs.analyser_settings_from_levels.Statement.{statement}
+use Rattle.abi.proofs.analyser_settings_from_levels.Tie as tie
+
+abbrev start : tie.After-settings-from-levels → tie.Start
+start c = c .before .before .before
+
+abbrev flows' : tie.After-settings-from-levels → List ℤ
+flows' c = c .settings-from-levels .last .1 .1 .0
+
+found : (c : tie.After-settings-from-levels) (answer : LevelAnswer) → c .settings-from-levels .result ≡ answer
+    → GivesSettings (start c .args .sheet .now) (start c .args .levels .now) (start c .args .flows .now) (flows' c) answer
+found c answer e = rw e at (c .settings-from-levels .ensures)
+
+settings-from-levels-requires : tie.Need-settings-from-levels-requires
+settings-from-levels-requires c κs = search needs
+
+enum-told : tie.Need-enum-told
+enum-told c = search needs
+
+enum-known-answer : tie.Need-enum-known-answer
+enum-known-answer c = search needs
+
+same-length : tie.Need-same-length
+same-length c = search needs
+
+returns : tie.Need-returns
+returns c = (Done, found (c .before .before .before) Done (c .enum-told .given .1), (refl, refl))
+
+same-length-2 : tie.Need-same-length-2
+same-length-2 c = search needs
+
+returns-2 : tie.Need-returns-2
+returns-2 c = (Refused _ _, found (c .before .before .before .before) (Refused _ _) (c .before .answer .given .1), (refl, refl))
+
+pub analyser-settings-from-levels-spec : {M : Type 1} → statement M
+analyser-settings-from-levels-spec =
+    tie.close
+    (tie.spec
+    settings-from-levels-requires
+    enum-told
+    enum-known-answer
+    same-length
+    returns
+    same-length-2
+    returns-2)

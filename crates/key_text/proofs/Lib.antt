@@ -1,0 +1,4 @@
+pub mod Alike
+pub mod Unread
+pub mod Joined
+pub mod Answering

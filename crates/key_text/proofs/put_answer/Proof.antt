@@ -1,0 +1,177 @@
+-- Each arm of the match has what Solve ensures of its answer, and prints it.
+use mathlib.Core.Path.{_≡_, sym, ap, subst, _∙_}
+use mathlib.Core.List.{List}
+use Prim.Native.Nat.{ℕ, _≤_, _<_, _+_, _*_}
+use native.Mathlib.Omega.{arith}
+use lib.ListN.{length, replicate, length-replicate}
+use lib.IntN.{ℤ, pos}
+use borrow.Author.Needs.{needs}
+use Rattle.signed.proofs.Laws.{number-of-bits}
+use Rattle.integers.specs.Limited.{Limited}
+use Rattle.refusals.specs.Order.{NoneOf}
+use Rattle.records.specs.Record.{recordChecks}
+use Rattle.records.specs.Sheet.{nodesOf, edgesOf}
+use Rattle.analyser.specs.Solve.{Solves}
+use Rattle.analyser.specs.declared.SolveAnswer.{SolveAnswer}
+use Rattle.analyser.specs.declared.SolveAnswer.the-variants.{Can, Cannot, Refused}
+use Rattle.key_text.specs.Question.{sourceOf, sinkOf, valueOf, sheetOf}
+use Rattle.key_text.proofs.Answering.{of-bytes, head-there, few-nodes, few-edges, value-fits, flows-fit, can-printed, cannot-printed, refused-printed}
+use Rattle.key_text.proofs.put_answer.Statement.{statement}
+use Rattle.key_text.proofs.put_answer.Tie as tie
+
+abbrev start : tie.After-solve → tie.Start
+start c = c .before .before .before .before .before
+
+abbrev flows' : tie.After-solve → List ℤ
+flows' c = c .solve .last .1 .1 .1 .1 .0
+
+abbrev set' : tie.After-solve → List ℕ
+set' c = c .solve .last .1 .1 .1 .1 .1 .0
+
+-- the key's own slices, before Solve
+abbrev noFlows : List ℤ
+noFlows = replicate 512 (pos 0)
+
+abbrev noSet : List ℕ
+noSet = replicate 9 0
+
+long : 512 ≤ length noFlows
+long = omega (arith, length-replicate 512 (pos 0))
+
+wide : 9 ≤ length noSet
+wide = omega (arith, length-replicate {A = ℕ} 9 0)
+
+-- the value that Solve is given is the one that came in
+solved : (c : tie.After-solve) (answer : SolveAnswer) → c .solve .result ≡ answer
+    → Solves (start c .args .sheet .now) (start c .args .source) (start c .args .sink) (start c .args .value) noFlows (flows' c) noSet (set' c) answer
+solved c answer e = rw (number-of-bits _ (start c .fits .value), e) at (c .solve .ensures)
+
+-- of whichever bytes the sheet and the question were read
+module _ (c : tie.After-solve) (b : List ℕ) (question : NoneOf (recordChecks b 3 0)) (sheet : sheetOf b ≡ start c .args .sheet .now) (source : sourceOf b ≡ start c .args .source)
+    (sink : sinkOf b ≡ start c .args .sink) (value : valueOf b ≡ start c .args .value) where
+  solved-of : (answer : SolveAnswer) → c .solve .result ≡ answer → Solves (sheetOf b) (sourceOf b) (sinkOf b) (valueOf b) noFlows (flows' c) noSet (set' c) answer
+  solved-of answer e = of-bytes (sym sheet) (sym source) (sym sink) (sym value) noFlows (flows' c) noSet (set' c) answer (solved c answer e)
+
+slice-aggregate-solve : tie.Need-slice-aggregate-solve
+slice-aggregate-solve c = search needs
+
+slice-aggregate-solve-2 : tie.Need-slice-aggregate-solve-2
+slice-aggregate-solve-2 c = search needs
+
+solve-requires : tie.Need-solve-requires
+solve-requires c κs = search needs
+
+enum-told : tie.Need-enum-told
+enum-told c = search needs
+
+-- ── it can ──
+edges-of-requires : tie.Need-edges-of-requires
+edges-of-requires c κs =
+    let a = c .before .before .before .before .before in
+    head-there _ _ _ _ _ (flows' a) _ (set' a) (solved a Can (c .before .enum-told .given .1) .0)
+
+put-can-requires : tie.Need-put-can-requires
+put-can-requires c κs =
+    let a = c .before .before .before .before .before .before .before in
+    let s = start a in
+    let h = solved a Can (c .before .before .before .enum-told .given .1) in
+    let few = few-edges _ _ _ _ _ (flows' a) _ (set' a) (h .0) in
+    let e = c .before .edges-of .ensures in (
+      omega (arith, few, e, s .pre),
+      subst (Limited 600000000) (sym (number-of-bits _ (s .fits .value))) (value-fits _ _ _ _ _ (flows' a) _ (set' a) (h .0)),
+      omega (arith, few, e),
+      λ i l. flows-fit _ _ _ _ _ (flows' a) _ (set' a) h i (subst (λ k. i < k) e l),
+    )
+
+same-length : tie.Need-same-length
+same-length c = search needs
+
+returns : tie.Need-returns
+returns c b question sheet source sink value =
+    let p = c .before .before in
+    let a = p .before .before .before .before .before .before .before .before in
+    let s = start a in
+    can-printed b question noFlows (flows' a) noSet (set' a) long wide (s .args .text .now) (p .put-can .last .0) (s .pre) (p .put-can .result) _ (number-of-bits _ (s .fits .value) ∙ sym value)
+    (solved-of a b question sheet source sink value Can (p .before .before .before .before .enum-told .given .1))
+    _
+    (p .before .before .edges-of .ensures ∙ ap edgesOf (sym sheet))
+    (p .put-can .ensures)
+
+-- ── it cannot ──
+enum-known-answer : tie.Need-enum-known-answer
+enum-known-answer c = search needs
+
+nodes-of-requires : tie.Need-nodes-of-requires
+nodes-of-requires c κs =
+    let a = c .before .before .before .before .before .before in
+    head-there _ _ _ _ _ (flows' a) _ (set' a) (solved a (Cannot _) (c .before .before .answer .given .1) .0)
+
+put-cannot-requires : tie.Need-put-cannot-requires
+put-cannot-requires c κs =
+    let a = c .before .before .before .before .before .before .before .before in
+    let s = start a in
+    let h = solved a (Cannot _) (c .before .before .before .before .answer .given .1) in
+    let few = few-nodes _ _ _ _ _ (flows' a) _ (set' a) (h .0) in
+    let e = c .before .nodes-of .ensures in (
+      omega (arith, few, e, s .pre),
+      subst (Limited 600000000) (sym (number-of-bits _ (s .fits .value))) (value-fits _ _ _ _ _ (flows' a) _ (set' a) (h .0)),
+      omega (arith, few, e),
+    )
+
+same-length-2 : tie.Need-same-length-2
+same-length-2 c = search needs
+
+returns-2 : tie.Need-returns-2
+returns-2 c b question sheet source sink value =
+    let p = c .before .before in
+    let a = p .before .before .before .before .before .before .before .before .before in
+    let s = start a in
+    cannot-printed b question noFlows (flows' a) noSet (set' a) long wide (s .args .text .now) (p .put-cannot .last .0) (s .pre) (p .put-cannot .result) _ (number-of-bits _ (s .fits .value) ∙ sym value)
+    _
+    (p .before .before .before .before .known-told .given .0 .1)
+    (solved-of a b question sheet source sink value (Cannot _) (p .before .before .before .before .before .answer .given .1))
+    _
+    (p .before .before .nodes-of .ensures ∙ ap nodesOf (sym sheet))
+    (p .put-cannot .ensures)
+
+-- ── refused ──
+enum-known-answer-2 : tie.Need-enum-known-answer-2
+enum-known-answer-2 c = search needs
+
+put-refused-requires : tie.Need-put-refused-requires
+put-refused-requires c κs = omega (arith, start (c .before .before .before .before .before .before) .pre)
+
+same-length-3 : tie.Need-same-length-3
+same-length-3 c = search needs
+
+returns-3 : tie.Need-returns-3
+returns-3 c b question sheet source sink value =
+    let p = c .before .before in
+    let a = p .before .before .before .before .before .before .before in
+    let s = start a in
+    refused-printed b question noFlows (flows' a) noSet (set' a) long wide (s .args .text .now) (p .put-refused .last .0) (s .pre) (p .put-refused .result) _ _
+    (p .before .before .known-told2 .given .0 .1)
+    (solved-of a b question sheet source sink value (Refused _ _) (p .before .before .before .answer2 .given .1))
+    (p .put-refused .ensures)
+
+pub put-answer-spec : {M : Type 1} → statement M
+put-answer-spec =
+    tie.close
+    (tie.spec
+    slice-aggregate-solve
+    slice-aggregate-solve-2
+    solve-requires
+    enum-told
+    edges-of-requires
+    put-can-requires
+    enum-known-answer
+    nodes-of-requires
+    put-cannot-requires
+    enum-known-answer-2
+    put-refused-requires
+    same-length
+    returns
+    same-length-2
+    returns-2
+    same-length-3
+    returns-3)

@@ -1,0 +1,82 @@
+-- Three pieces: the word, the value, a line feed.
+use mathlib.Core.Path.{_≡_, sym, subst}
+use mathlib.Core.List.{List, [], _∷_}
+use Prim.Native.Nat.{ℕ, _≤_, _+_}
+use native.Mathlib.Omega.{arith}
+use lib.ListN.{length}
+use borrow.Author.Needs.{needs}
+use Rattle.signed.proofs.Laws.{number-of-bits}
+use Rattle.texts.specs.Decimal.{number}
+use Rattle.texts.specs.Placed.{Placed}
+use Rattle.texts.proofs.Length.{number-length}
+use Rattle.key_text.specs.Text.{canWord, canLine}
+use Rattle.key_text.proofs.Joined.{placed-room, three-placed}
+use Rattle.key_text.proofs.put_can_line.Statement.{statement}
+use Rattle.key_text.proofs.put_can_line.Tie as tie
+
+nine-digits : (c : tie.Start) → length (number (c .args .value)) ≤ 10
+nine-digits c = number-length 8 600000000 (c .args .value) (omega arith) (c .pre .1)
+
+-- ── the word ──
+abbrev begin : tie.After-put-bytes → tie.Start
+begin c = c .before .before .before .before
+
+word : (c : tie.After-put-bytes) → Placed 0 canWord (begin c .args .text .now) (c .put-bytes .last .0) (c .put-bytes .result)
+word c = c .put-bytes .ensures
+
+word-room : (c : tie.After-put-bytes) → c .put-bytes .result + 11 ≤ length (c .put-bytes .last .0)
+word-room c = placed-room 4 11 _ _ _ _ _ (word c) (omega arith) (begin c .pre .0)
+
+-- ── the value ──
+abbrev said : tie.After-put-number → tie.After-put-bytes
+said c = c .before .before .before .before
+
+valued : (c : tie.After-put-number) → Placed (said c .put-bytes .result) (number (begin (said c) .args .value)) (said c .put-bytes .last .0) (c .put-number .last .0) (c .put-number .result)
+valued c =
+    subst
+    (λ x. Placed (said c .put-bytes .result) (number x) (said c .put-bytes .last .0) (c .put-number .last .0) (c .put-number .result))
+    (number-of-bits _ (begin (said c) .fits .value))
+    (c .put-number .ensures)
+
+value-room : (c : tie.After-put-number) → c .put-number .result + 1 ≤ length (c .put-number .last .0)
+value-room c = placed-room 10 1 _ _ _ _ _ (valued c) (nine-digits (begin (said c))) (word-room (said c))
+
+slice-aggregate-put-bytes : tie.Need-slice-aggregate-put-bytes
+slice-aggregate-put-bytes c = search needs
+
+put-bytes-requires : tie.Need-put-bytes-requires
+put-bytes-requires c κs = omega (arith, c .before .before .before .pre .0)
+
+put-number-requires : tie.Need-put-number-requires
+put-number-requires c κs =
+    let b = c .before .before .before in
+    let s = begin b in
+    omega (arith, subst (λ x. length (number x) ≤ 10) (sym (number-of-bits _ (s .fits .value))) (nine-digits s), word-room b)
+
+slice-aggregate-put-bytes-2 : tie.Need-slice-aggregate-put-bytes-2
+slice-aggregate-put-bytes-2 c = search needs
+
+put-bytes-requires-2 : tie.Need-put-bytes-requires-2
+put-bytes-requires-2 c κs = value-room (c .before .before .before .before)
+
+same-length : tie.Need-same-length
+same-length c = search needs
+
+returns : tie.Need-returns
+unfolding canLine
+returns c =
+    let n = c .before .before .before .before .before .before .before in
+    let s = begin (said n) in
+    three-placed _ _ _ _ _ _ _ _ _ _ _ (word (said n)) (valued n) (c .before .before .put-bytes2 .ensures) (omega (arith, nine-digits s, s .pre .0))
+
+pub put-can-line-spec : {M : Type 1} → statement M
+put-can-line-spec =
+    tie.close
+    (tie.spec
+    slice-aggregate-put-bytes
+    put-bytes-requires
+    put-number-requires
+    slice-aggregate-put-bytes-2
+    put-bytes-requires-2
+    same-length
+    returns)

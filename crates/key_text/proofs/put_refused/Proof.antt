@@ -1,0 +1,84 @@
+-- Three pieces: the word, at most three digits, a line feed.
+use mathlib.Core.Path.{_≡_, refl, sym, subst}
+use mathlib.Core.List.{List, [], _∷_}
+use Prim.Native.Nat.{ℕ, _≤_, _<_, _+_}
+use native.Mathlib.Omega.{arith}
+use lib.ListN.{length}
+use borrow.Author.Needs.{needs}
+use Rattle.texts.specs.Decimal.{decimal}
+use Rattle.texts.specs.Placed.{Placed}
+use Rattle.texts.proofs.Length.{decimal-length}
+use Rattle.key_text.specs.Text.{refusedWord, refusedText}
+use Rattle.key_text.proofs.Joined.{placed-room, three-placed}
+use Rattle.key_text.proofs.put_refused.Statement.{statement}
+use Rattle.key_text.proofs.put_refused.Tie as tie
+
+-- ── the word ──
+abbrev begin : tie.After-put-bytes → tie.Start
+begin c = c .before .before .before .before
+
+word : (c : tie.After-put-bytes) → Placed 0 refusedWord (begin c .args .text .now) (c .put-bytes .last .0) (c .put-bytes .result)
+word c = c .put-bytes .ensures
+
+word-room : (c : tie.After-put-bytes) → c .put-bytes .result + 4 ≤ length (c .put-bytes .last .0)
+word-room c = placed-room 8 4 _ _ _ _ _ (word c) (omega arith) (begin c .pre)
+
+-- ── the number ──
+abbrev said : tie.After-byte → tie.After-put-bytes
+said c = c .before .before .before .before
+
+three-digits : (c : tie.After-byte) → length (decimal (c .byte .result)) ≤ 3
+three-digits c = decimal-length 2 (c .byte .result) (omega (arith, c .byte .ensures .1))
+
+numbered : (c : tie.After-put-decimal) → Placed (said (c .before) .put-bytes .result) (decimal (begin (said (c .before)) .args .k)) (said (c .before) .put-bytes .last .0) (c .put-decimal .last .0) (c .put-decimal .result)
+numbered c =
+    subst (λ n. Placed (said (c .before) .put-bytes .result) (decimal n) (said (c .before) .put-bytes .last .0) (c .put-decimal .last .0) (c .put-decimal .result)) (c .before .byte .ensures .0) (c .put-decimal .ensures)
+
+few-digits : (c : tie.After-byte) → length (decimal (begin (said c) .args .k)) ≤ 3
+few-digits c = subst (λ n. length (decimal n) ≤ 3) (c .byte .ensures .0) (three-digits c)
+
+number-room : (c : tie.After-put-decimal) → c .put-decimal .result + 1 ≤ length (c .put-decimal .last .0)
+number-room c = placed-room 3 1 _ _ _ _ _ (numbered c) (few-digits (c .before)) (word-room (said (c .before)))
+
+slice-aggregate-put-bytes : tie.Need-slice-aggregate-put-bytes
+slice-aggregate-put-bytes c = search needs
+
+put-bytes-requires : tie.Need-put-bytes-requires
+put-bytes-requires c κs = omega (arith, c .before .before .before .pre)
+
+byte-requires : tie.Need-byte-requires
+byte-requires c κs = search needs
+
+put-decimal-requires : tie.Need-put-decimal-requires
+put-decimal-requires c κs = omega (arith, three-digits c, word-room (said c))
+
+slice-aggregate-put-bytes-2 : tie.Need-slice-aggregate-put-bytes-2
+slice-aggregate-put-bytes-2 c = search needs
+
+put-bytes-requires-2 : tie.Need-put-bytes-requires-2
+put-bytes-requires-2 c κs = number-room (c .before .before .before .before)
+
+same-length : tie.Need-same-length
+same-length c = search needs
+
+returns : tie.Need-returns
+unfolding refusedText
+returns c =
+    three-placed _ _ _ _ _ _ _ _ _ _ _ (word (said (d .before))) (numbered d) (c .before .before .put-bytes2 .ensures)
+    (omega (arith, few-digits (d .before), begin (said (d .before)) .pre))
+  where
+    d : tie.After-put-decimal
+    d = c .before .before .before .before .before .before .before
+
+pub put-refused-spec : {M : Type 1} → statement M
+put-refused-spec =
+    tie.close
+    (tie.spec
+    slice-aggregate-put-bytes
+    put-bytes-requires
+    byte-requires
+    put-decimal-requires
+    slice-aggregate-put-bytes-2
+    put-bytes-requires-2
+    same-length
+    returns)

@@ -1,0 +1,25 @@
+-- Too short a slice is refused before anything is written.
+use mathlib.Core.Path.{refl}
+use mathlib.Core.Logic.{inl}
+use native.Mathlib.Omega.{arith}
+use borrow.Author.Needs.{needs}
+use Rattle.refusals.specs.Order.{NoneOf, FirstOf}
+use Rattle.key_text.proofs.write_key.Statement.{statement}
+use Rattle.key_text.proofs.write_key.Tie as tie
+
+returns : tie.Need-returns
+unfolding FirstOf
+returns c = (inl (c .if1 .taken, refl, refl), refl)
+
+put-key-requires : tie.Need-put-key-requires
+put-key-requires c κs = search needs
+
+same-length : tie.Need-same-length
+same-length c = search needs
+
+returns-2 : tie.Need-returns-2
+unfolding NoneOf
+returns-2 c = (((λ l. omega arith), tt), c .before .before .put-key .ensures)
+
+pub write-key-spec : {M : Type 1} → statement M
+write-key-spec = tie.close (tie.spec returns put-key-requires same-length returns-2)

@@ -1,0 +1,3 @@
+pub mod Drawings
+pub mod Texts
+pub mod Table

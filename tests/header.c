@@ -1,0 +1,146 @@
+// The header and the library, as a C program and as a C++ program: each operation on drawing A of document 01, and a refusal of each. tests/header compiles and runs it, and
+// compares what it prints.
+#include "analyser.h"
+#include "analyser.h"
+#include <stdio.h>
+#include <string.h>
+
+// Channels (tail, head, two turns, two limits): 0 1 2 5 5 0; 0 1 4 1 3 0; 0 1 0 3 4 0. Headgate 0, outfall 1.
+static const uint8_t drawing_a[56] = {
+    1, 2, 0, 3, 0, //
+    2, 0, 0, 1, 0, 2, 0, 5, 0, 5, 0, 0, 0, 0, 0, 0, 0, //
+    2, 0, 0, 1, 0, 4, 0, 1, 0, 3, 0, 0, 0, 0, 0, 0, 0, //
+    2, 0, 0, 1, 0, 0, 0, 3, 0, 4, 0, 0, 0, 0, 0, 0, 0, //
+};
+
+// What no operation gives: it shows what was left as it was.
+enum { UNTOUCHED = 99 };
+
+static uint16_t tails[ANALYSER_MAX_DARTS], turns[ANALYSER_MAX_DARTS], nodes, channels, size, place;
+static int32_t limits[ANALYSER_MAX_DARTS], settings[ANALYSER_MAX_CHANNELS], levels[ANALYSER_MAX_FACES], value;
+static uint8_t sheet[ANALYSER_SHEET_BYTES], all_five[ANALYSER_SHEET_BYTES], flag;
+static uint64_t set[ANALYSER_SET_WORDS];
+static size_t length;
+
+static void untouched(void) {
+    nodes = channels = size = place = UNTOUCHED;
+    value = UNTOUCHED;
+    flag = UNTOUCHED;
+    length = UNTOUCHED;
+    for (int i = 0; i < ANALYSER_MAX_CHANNELS; i++) settings[i] = UNTOUCHED;
+    for (int i = 0; i < ANALYSER_MAX_FACES; i++) levels[i] = UNTOUCHED;
+    for (int i = 0; i < ANALYSER_SET_WORDS; i++) set[i] = UNTOUCHED;
+}
+
+static void numbers(const char *name, const int32_t *from, int count) {
+    printf(", %s", name);
+    for (int i = 0; i < count; i++) printf(" %d", (int)from[i]);
+}
+
+static void ended(void) { printf(", place %d\n", place); }
+
+static void set_three(int32_t first, int32_t second, int32_t third) {
+    settings[0] = first;
+    settings[1] = second;
+    settings[2] = third;
+}
+
+int main(void) {
+    int result;
+
+    untouched();
+    result = analyser_read(drawing_a, sizeof drawing_a, tails, ANALYSER_MAX_DARTS, turns, ANALYSER_MAX_DARTS, limits, ANALYSER_MAX_DARTS, &nodes, &channels, &place);
+    printf("read %d: %d nodes, %d channels", result, nodes, channels);
+    numbers("limits", limits, 6);
+    ended();
+
+    untouched();
+    result = analyser_write(2, tails, 6, turns, 6, limits, 6, sheet, sizeof sheet, &length, &place);
+    printf("write %d: %d bytes, %s", result, (int)length, memcmp(sheet, drawing_a, sizeof drawing_a) == 0 ? "the same" : "others");
+    ended();
+
+    untouched();
+    result = analyser_solve(drawing_a, sizeof drawing_a, 0, 1, 6, settings, ANALYSER_MAX_CHANNELS, set, ANALYSER_SET_WORDS, &flag, &size, &place);
+    printf("solve 6 %d: can %d, size %d, set %d", result, flag, size, (int)set[0]);
+    numbers("settings", settings, 4);
+    ended();
+
+    untouched();
+    result = analyser_solve(drawing_a, sizeof drawing_a, 0, 1, 13, settings, ANALYSER_MAX_CHANNELS, set, ANALYSER_SET_WORDS, &flag, &size, &place);
+    printf("solve 13 %d: can %d, size %d, set %d", result, flag, size, (int)set[0]);
+    numbers("settings", settings, 4);
+    ended();
+
+    untouched();
+    result = analyser_largest(drawing_a, sizeof drawing_a, 0, 1, settings, ANALYSER_MAX_CHANNELS, set, ANALYSER_SET_WORDS, &flag, &value, &place);
+    printf("largest %d: found %d, value %d, set %d", result, flag, (int)value, (int)set[0]);
+    numbers("settings", settings, 4);
+    ended();
+
+    untouched();
+    set_three(0, 2, 4);
+    result = analyser_mark(drawing_a, sizeof drawing_a, 0, 1, settings, ANALYSER_MAX_CHANNELS, &value, &place);
+    printf("mark %d: value %d", result, (int)value);
+    ended();
+
+    // A with all limits 5
+    for (int d = 0; d < 6; d++) limits[d] = 5;
+    untouched();
+    result = analyser_write(2, tails, 6, turns, 6, limits, 6, all_five, sizeof all_five, &length, &place);
+    printf("write %d: %d bytes, %s", result, (int)length, memcmp(all_five, drawing_a, sizeof drawing_a) == 0 ? "the same" : "others");
+    ended();
+
+    untouched();
+    set_three(2, 1, -3);
+    result = analyser_levels_from_settings(all_five, sizeof drawing_a, settings, ANALYSER_MAX_CHANNELS, levels, ANALYSER_MAX_FACES, &place);
+    printf("levels from settings %d", result);
+    numbers("levels", levels, 4);
+    ended();
+
+    set_three(UNTOUCHED, UNTOUCHED, UNTOUCHED);
+    result = analyser_settings_from_levels(all_five, sizeof drawing_a, levels, ANALYSER_MAX_FACES, settings, ANALYSER_MAX_CHANNELS, &place);
+    printf("settings from levels %d", result);
+    numbers("settings", settings, 4);
+    ended();
+
+    // refusals: the number and the place, and nothing else
+    untouched();
+    result = analyser_read(drawing_a, 0, tails, ANALYSER_MAX_DARTS, turns, ANALYSER_MAX_DARTS, limits, ANALYSER_MAX_DARTS, &nodes, &channels, &place);
+    printf("read %s: %d nodes, %d channels", result == ANALYSER_CUT_SHORT ? "cut short" : "?", nodes, channels);
+    ended();
+
+    untouched();
+    result = analyser_write(2, tails, 6, turns, 5, limits, 6, sheet, sizeof sheet, &length, &place);
+    printf("write %s: %d bytes", result == ANALYSER_SLICE_TOO_SHORT ? "slice too short" : "?", (int)length);
+    ended();
+
+    untouched();
+    result = analyser_solve(drawing_a, sizeof drawing_a, 0, 1, 600000001, settings, ANALYSER_MAX_CHANNELS, set, ANALYSER_SET_WORDS, &flag, &size, &place);
+    printf("solve %s: can %d, size %d", result == ANALYSER_DELIVERY_OUT_OF_RANGE ? "delivery out of range" : "?", flag, size);
+    ended();
+
+    untouched();
+    result = analyser_largest(drawing_a, sizeof drawing_a, 1, 1, settings, ANALYSER_MAX_CHANNELS, set, ANALYSER_SET_WORDS, &flag, &value, &place);
+    printf("largest %s: found %d, value %d", result == ANALYSER_ENDS_EQUAL ? "ends equal" : "?", flag, (int)value);
+    ended();
+
+    untouched();
+    set_three(0, 2, 5);
+    result = analyser_mark(drawing_a, sizeof drawing_a, 0, 1, settings, ANALYSER_MAX_CHANNELS, &value, &place);
+    printf("mark %s: value %d", result == ANALYSER_OUTSIDE_LIMITS ? "outside limits" : "?", (int)value);
+    ended();
+
+    untouched();
+    set_three(2, 1, -2);
+    result = analyser_levels_from_settings(all_five, sizeof drawing_a, settings, ANALYSER_MAX_CHANNELS, levels, ANALYSER_MAX_FACES, &place);
+    printf("levels from settings %s", result == ANALYSER_OFF_BALANCE ? "off balance" : "?");
+    numbers("levels", levels, 1);
+    ended();
+
+    untouched();
+    result = analyser_settings_from_levels(all_five, sizeof drawing_a, levels, ANALYSER_MAX_FACES, settings, ANALYSER_MAX_CHANNELS, &place);
+    printf("settings from levels %s", result == ANALYSER_FACE_0_NOT_AT_0 ? "face 0 not at 0" : "?");
+    numbers("settings", settings, 1);
+    ended();
+    return 0;
+}
