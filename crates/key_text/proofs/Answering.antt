@@ -10,7 +10,7 @@ use lib.ListN.{length, getD, drop}
 use lib.IntN.{ℤ}
 use Rattle.integers.specs.Limited.{Limited}
 use Rattle.refusals.specs.Order.{Check, NoneOf, FirstOf}
-use Rattle.refusals.proofs.Order.{none-append, append-first, first-left, first-right, first-none, neither}
+use Rattle.refusals.proofs.Order.{none-append, append-none, append-first, first-left, first-right, first-none, neither}
 use Rattle.faces.specs.Map.{darts}
 use Rattle.flows.specs.ProvingSet.{wordsFor, member, size}
 use Rattle.flows.proofs.Limits.{settings-limited}
@@ -25,7 +25,7 @@ use Rattle.analyser.specs.Question.{endChecks, valueChecks, roomChecks, SetWrit
 use Rattle.analyser.specs.Solve.{solveChecks, Solves}
 use Rattle.analyser.specs.declared.SolveAnswer.{SolveAnswer}
 use Rattle.analyser.specs.declared.SolveAnswer.the-variants.{Can, Cannot, Refused}
-use Rattle.analyser.proofs.Solving.{Accepted, accepted, value-limited}
+use Rattle.analyser.proofs.Solving.{Accepted, accepted, solve-none, value-limited}
 use Rattle.analyser.proofs.SheetPlane.{capacity-high}
 use Rattle.analyser.proofs.Demand3.{can-highest}
 use Rattle.texts.specs.Decimal.{decimal}
@@ -88,17 +88,29 @@ module _ (s : List ℕ) (source sink : ℕ) (value : ℤ) (flows flows' : List �
       subst (Limited 1000000) (onDarts-even (atℤ flows') e)
       (settings-limited (sheetMap s) 1000000 (capacityOf s) (atℤ flows') (capacity-high s (a .sheet)) (x .carries .within) (2 * e) (omega arith))
 
+-- "the key's own slices are long enough, so 16 never comes"
+no-sixteen : (s : List ℕ) (flows : List ℤ) (set : List ℕ) → 512 ≤ length flows → 9 ≤ length set → NoneOf (sheetChecks s)
+    → NoneOf (roomChecks (nodesOf s) (edgesOf s) (length flows) (length set))
+unfolding NoneOf roomChecks
+no-sixteen s flows set long wide h = let c = sheet-counts s h in (neither (λ l. omega (arith, c .3)) (λ l. omega (arith, c .1)), tt)
+
+-- what the key accepts, Solve accepts
+pub key-solve : (b : List ℕ) (flows : List ℤ) (set : List ℕ) → 512 ≤ length flows → 9 ≤ length set → NoneOf (keyChecks b)
+    → NoneOf (solveChecks (sheetOf b) (sourceOf b) (sinkOf b) (valueOf b) flows set)
+unfolding keyChecks
+key-solve b flows set long wide h =
+    let s = sheetOf b in
+    let a = append-none (recordChecks b 3 0) _ h in
+    let c = append-none (sheetChecks s) _ (a .1) in
+    let d = append-none (endChecks (nodesOf s) (sourceOf b) (sinkOf b)) (valueChecks (valueOf b)) (c .1) in
+    solve-none s (sourceOf b) (sinkOf b) (valueOf b) flows set (c .0) (d .0) (d .1) (no-sixteen s flows set long wide (c .0))
+
 module _ (b : List ℕ) (question : NoneOf (recordChecks b 3 0)) (flows flows' : List ℤ) (set set' : List ℕ) (long : 512 ≤ length flows) (wide : 9 ≤ length set) where
   abbrev s : List ℕ
   s = sheetOf b
 
   abbrev checks : List Check
   checks = solveChecks s (sourceOf b) (sinkOf b) (valueOf b) flows set
-
-  -- "the key's own slices are long enough, so 16 never comes"
-  no-sixteen : NoneOf (sheetChecks s) → NoneOf (roomChecks (nodesOf s) (edgesOf s) (length flows) (length set))
-  unfolding NoneOf roomChecks
-  no-sixteen h = let c = sheet-counts s h in (neither (λ l. omega (arith, c .3)) (λ l. omega (arith, c .1)), tt)
 
   key-none : NoneOf checks → NoneOf (keyChecks b)
   unfolding keyChecks
@@ -122,7 +134,7 @@ module _ (b : List ℕ) (question : NoneOf (recordChecks b 3 0)) (flows flows' :
 
       by-value : NoneOf (sheetChecks s) → FirstOf asked k p ⊎ (NoneOf asked × FirstOf room k p) → FirstOf asked k p
       by-value h (inl g) = g
-      by-value h (inr g) = absurd (first-none room k p (g .1) (no-sixteen h))
+      by-value h (inr g) = absurd (first-none room k p (g .1) (no-sixteen s flows set long wide h))
 
       by-ends : NoneOf (sheetChecks s) → FirstOf ends k p ⊎ (NoneOf ends × FirstOf (asked ++ room) k p) → FirstOf (ends ++ asked) k p
       by-ends h (inl g) = first-left ends asked k p g

@@ -2,3 +2,4 @@ pub mod Alike
 pub mod Unread
 pub mod Joined
 pub mod Answering
+pub mod Demand3
