@@ -114,8 +114,8 @@ uint8_t analyser_levels_from_settings(const uint8_t *sheet, size_t sheet_length,
 uint8_t analyser_settings_from_levels(const uint8_t *sheet, size_t sheet_length, const int32_t *levels, size_t levels_length, int32_t *settings, size_t settings_length,
                                       uint16_t *place);
 
-// Key (declared here ahead: the library does not define it yet): the text of the answer key of a question and a sheet. The input is a question record, then the sheet: byte 0 is 3, the kind of a question; bytes 1-2 and 3-4 are the headgate
-// and the outfall, bytes 5-8 the delivery; the sheet is all that follows.
+// Key: the text of the answer key of a question and a sheet. The input is a question record, then the sheet: byte 0 is 3, the kind of a question; bytes 1-2 and 3-4 are the
+// headgate and the outfall, bytes 5-8 the delivery; the sheet is all that follows.
 // Refusals: 16 where text_length is less than ANALYSER_KEY_TEXT_BYTES. Every other refusal (of the question: 1, 2; then the sheet checks; 13; 14; 15) is an answer here, with
 // "refused" and its number as the text.
 // Writes where there is an answer: *length bytes of text, and *length. The text is ASCII, a line feed after each line, and does not end in a zero byte.

@@ -23,6 +23,7 @@ use Rattle.analyser.specs.Largest.{largestChecks}
 use Rattle.analyser.specs.Mark.{markChecks}
 use Rattle.analyser.specs.LevelsOf.{levelsChecks}
 use Rattle.analyser.specs.SettingsOf.{settingsChecks}
+use Rattle.key_text.specs.Key.{keyRoomChecks}
 
 -- ── lists of checks whose numbers are 1 or more ──
 unfoldable pub Numbered : List Check → Type 0
@@ -115,3 +116,7 @@ levels-numbered s flows levels =
 pub settings-numbered : (s : List ℕ) (levels flows : List ℤ) → Numbered (settingsChecks s levels flows)
 unfolding Numbered settingsChecks levelChecks
 settings-numbered s levels flows = numbered-append (sheetChecks s) _ (sheet-numbered s) (omega arith, (omega arith, (omega arith, within-numbered _ _ _)))
+
+pub key-numbered : (text : List ℕ) → Numbered (keyRoomChecks text)
+unfolding Numbered
+key-numbered text = (omega arith, tt)

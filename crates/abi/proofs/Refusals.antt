@@ -20,13 +20,16 @@ use Rattle.analyser.specs.declared.SolveAnswer.the-variants as solve
 use Rattle.analyser.specs.declared.LargestAnswer.the-variants as largest
 use Rattle.analyser.specs.declared.MarkAnswer.the-variants as mark
 use Rattle.analyser.specs.declared.LevelAnswer.the-variants as level
+use Rattle.key_text.specs.Key.{keyRoomChecks}
+use Rattle.key_text.specs.declared.KeyAnswer.the-variants as key
 use Rattle.abi.specs.Read.{TellsRead}
 use Rattle.abi.specs.Write.{TellsWrite}
 use Rattle.abi.specs.Solve.{TellsSolve}
 use Rattle.abi.specs.Largest.{TellsLargest}
 use Rattle.abi.specs.Mark.{TellsMark}
 use Rattle.abi.specs.Levels.{TellsLevels, TellsSettings}
-use Rattle.abi.proofs.Numbered.{Numbered, first-numbered, read-numbered, write-numbered, solve-numbered, largest-numbered, mark-numbered, levels-numbered, settings-numbered}
+use Rattle.abi.specs.Key.{TellsKey}
+use Rattle.abi.proofs.Numbered.{Numbered, first-numbered, read-numbered, write-numbered, solve-numbered, largest-numbered, mark-numbered, levels-numbered, settings-numbered, key-numbered}
 
 -- ── what a result says, of any operation with these checks; Same: everything else behind a pointer is as it was ──
 pub record Says (cs : List Check) (result place place' : ℕ) (Same : Type 0) : Type 0 where
@@ -54,6 +57,11 @@ module _ {place place' result : ℕ} where
       → Says (writeChecks nodes tails rotations capacities sheet) result place place' ((sheet' ≡ sheet) × (length' ≡ length))
   write-says (write.Bytes n, h, t) = says-answer (h .0) (t .0) (t .2)
   write-says (write.Refused k p, h, t) = says-refusal k p (write-numbered _ _ _ _ _) (h .0) (t .0) (t .2) (h .1, t .1)
+
+  pub key-says : (input text : List ℕ) {text' : List ℕ} {length length' : ℕ} → TellsKey input text text' length length' place place' result
+      → Says (keyRoomChecks text) result place place' ((text' ≡ text) × (length' ≡ length))
+  key-says input text (key.Bytes n, h, t) = says-answer (h .0) (t .0) (t .2)
+  key-says input text (key.Refused k p, h, t) = says-refusal k p (key-numbered text) (h .0) (t .0) (t .2) (h .1, t .1)
 
   module _ {s : List ℕ} where
     pub read-says : {tails rotations tails' rotations' : List ℕ} {capacities capacities' : List ℤ} {nodes nodes' edges edges' : ℕ}

@@ -4,3 +4,4 @@ pub mod Solve
 pub mod Largest
 pub mod Mark
 pub mod Levels
+pub mod Key

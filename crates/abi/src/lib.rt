@@ -6,10 +6,12 @@ ghost use Rattle.abi.specs.Solve.{TellsSolve};
 ghost use Rattle.abi.specs.Largest.{TellsLargest};
 ghost use Rattle.abi.specs.Mark.{TellsMark};
 ghost use Rattle.abi.specs.Levels.{TellsLevels, TellsSettings};
+ghost use Rattle.abi.specs.Key.{TellsKey};
 use analyser::LargestAnswer;
 use analyser::LevelAnswer;
 use analyser::MarkAnswer;
 use analyser::SolveAnswer;
+use key_text::KeyAnswer;
 use sheets::ReadAnswer;
 use sheets::WriteAnswer;
 
@@ -190,6 +192,29 @@ pub extern "C" fn analyser_settings_from_levels(
     match answer {
         LevelAnswer::Done => 0,
         LevelAnswer::Refused(k, p) => {
+            *place = p;
+            k
+        }
+    }
+}
+
+// The key's text. There is one: it is in front of text, and length is the number of its bytes. 16: text is too short for some key.
+#[no_mangle]
+pub extern "C" fn analyser_key_text(
+    input: &[u8],
+    text: &mut [u8],
+    length: &mut usize,
+    place: &mut u16,
+) -> u8
+    ensures { λ r. ⌜ TellsKey (now (input .entry)) (now (text .entry)) (now (text .exit)) (now (length .entry)) (now (length .exit)) (now (place .entry)) (now (place .exit)) r ⌝ }
+{
+    let answer = key_text::write_key(input, text);
+    match answer {
+        KeyAnswer::Bytes(bytes) => {
+            *length = bytes;
+            0
+        }
+        KeyAnswer::Refused(k, p) => {
             *place = p;
             k
         }

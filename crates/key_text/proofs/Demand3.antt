@@ -119,8 +119,8 @@ module _ (b : List ℕ) (asked : NoneOf (keyChecks b)) where
       let carried = can-exactly t key .0 c in
       let y = can-prints u other (can-exactly u other .1 (carried .0) (carried .1)) in
       x .2
-          ∙ ap (λ l. canLine (valueOf b) ++ l) (lines-agree (edgesOf s) (λ e. edgeLine e (x .0 e)) (λ e. edgeLine e (y .0 e)) (λ e l. ap (edgeLine e) (one-highest (x .0) (y .0) (x .1) (y .1) e l)))
-          ∙ sym (y .2)
+      ∙ ap (λ l. canLine (valueOf b) ++ l) (lines-agree (edgesOf s) (λ e. edgeLine e (x .0 e)) (λ e. edgeLine e (y .0 e)) (λ e l. ap (edgeLine e) (one-highest (x .0) (y .0) (x .1) (y .1) e l)))
+      ∙ sym (y .2)
 
   -- ── what stands under "cannot": the nodes of a set that proves it, and its size ──
   pub cannot-prints : (t : List ℕ) → Key b t → Says cannotWord t

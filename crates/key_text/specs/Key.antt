@@ -5,7 +5,7 @@ use mathlib.Core.Path.{_≡_}
 use mathlib.Core.List.{List, [], _∷_, _++_}
 use lib.ListN.{length, drop}
 use lib.IntN.{ℤ}
-use Rattle.refusals.specs.Order.{_when_, NoneOf, FirstOf}
+use Rattle.refusals.specs.Order.{Check, _when_, NoneOf, FirstOf}
 use Rattle.flows.specs.Highest.{Highest}
 use Rattle.flows.specs.ProvingSet.{Proves, SetOf, member, size}
 use Rattle.records.specs.Sheet.{nodesOf, edgesOf, capacityOf, sheetMap}
@@ -38,6 +38,9 @@ abbrev pub textRoom : ℕ
 textRoom = 6671
 
 -- for a caller that lends any slice: 16 where it is too short for some key, and it is left as it was
+abbrev pub keyRoomChecks : List ℕ → List Check
+keyRoomChecks text = (16 when length text < textRoom) ∷ []
+
 abbrev pub Writes : List ℕ → (text text' : List ℕ) → KeyAnswer → Type 0
-Writes b text text' (Bytes n) = NoneOf ((16 when length text < textRoom) ∷ []) × Prints b text text' n
-Writes b text text' (Refused k p) = FirstOf ((16 when length text < textRoom) ∷ []) k p × (text' ≡ text)
+Writes b text text' (Bytes n) = NoneOf (keyRoomChecks text) × Prints b text text' n
+Writes b text text' (Refused k p) = FirstOf (keyRoomChecks text) k p × (text' ≡ text)

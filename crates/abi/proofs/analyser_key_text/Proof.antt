@@ -1,0 +1,52 @@
+-- Each arm of the match has what the key's function ensures of its answer, and tells it.
+use mathlib.Core.Path.{_≡_, refl}
+use mathlib.Core.List.{List}
+use Prim.Native.Nat.{ℕ}
+use borrow.Author.Needs.{needs}
+use Rattle.key_text.specs.Key.{Writes}
+use Rattle.key_text.specs.declared.KeyAnswer.{KeyAnswer}
+use Rattle.key_text.specs.declared.KeyAnswer.the-variants.{Bytes, Refused}
+use Rattle.abi.proofs.analyser_key_text.Statement.{statement}
+use Rattle.abi.proofs.analyser_key_text.Tie as tie
+
+abbrev start : tie.After-write-key → tie.Start
+start c = c .before .before .before .before
+
+abbrev text' : tie.After-write-key → List ℕ
+text' c = c .write-key .last .1 .0
+
+found : (c : tie.After-write-key) (answer : KeyAnswer) → c .write-key .result ≡ answer → Writes (start c .args .input .now) (start c .args .text .now) (text' c) answer
+found c answer e = rw e at (c .write-key .ensures)
+
+write-key-requires : tie.Need-write-key-requires
+write-key-requires c κs = search needs
+
+enum-known-answer : tie.Need-enum-known-answer
+enum-known-answer c = search needs
+
+enum-known-answer-2 : tie.Need-enum-known-answer-2
+enum-known-answer-2 c = search needs
+
+same-length : tie.Need-same-length
+same-length c = search needs
+
+returns : tie.Need-returns
+returns c = (Bytes _, found (c .before .before .before .before .before) (Bytes _) (c .before .answer .given .1), (refl, refl, refl))
+
+same-length-2 : tie.Need-same-length-2
+same-length-2 c = search needs
+
+returns-2 : tie.Need-returns-2
+returns-2 c = (Refused _ _, found (c .before .before .before .before .before) (Refused _ _) (c .before .answer2 .given .1), (refl, refl, refl))
+
+pub analyser-key-text-spec : {M : Type 1} → statement M
+analyser-key-text-spec =
+    tie.close
+    (tie.spec
+    write-key-requires
+    enum-known-answer
+    enum-known-answer-2
+    same-length
+    returns
+    same-length-2
+    returns-2)
