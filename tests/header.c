@@ -20,6 +20,7 @@ static uint16_t tails[ANALYSER_MAX_DARTS], turns[ANALYSER_MAX_DARTS], nodes, cha
 static int32_t limits[ANALYSER_MAX_DARTS], settings[ANALYSER_MAX_CHANNELS], levels[ANALYSER_MAX_FACES], value;
 static uint8_t sheet[ANALYSER_SHEET_BYTES], all_five[ANALYSER_SHEET_BYTES], flag;
 static uint64_t set[ANALYSER_SET_WORDS];
+static uint8_t input[9 + sizeof drawing_a], text[ANALYSER_KEY_TEXT_BYTES];
 static size_t length;
 
 static void untouched(void) {
@@ -103,6 +104,15 @@ int main(void) {
     numbers("settings", settings, 4);
     ended();
 
+    // a question record, then the sheet: headgate 0, outfall 1, delivery 6
+    static const uint8_t question[9] = {3, 0, 0, 1, 0, 6, 0, 0, 0};
+    memcpy(input, question, sizeof question);
+    memcpy(input + sizeof question, drawing_a, sizeof drawing_a);
+    untouched();
+    result = analyser_key_text(input, sizeof input, text, sizeof text, &length, &place);
+    printf("key %d: %d bytes, place %d\n", result, (int)length, place);
+    fwrite(text, 1, length, stdout);
+
     // refusals: the number and the place, and nothing else
     untouched();
     result = analyser_read(drawing_a, 0, tails, ANALYSER_MAX_DARTS, turns, ANALYSER_MAX_DARTS, limits, ANALYSER_MAX_DARTS, &nodes, &channels, &place);
@@ -141,6 +151,12 @@ int main(void) {
     result = analyser_settings_from_levels(all_five, sizeof drawing_a, levels, ANALYSER_MAX_FACES, settings, ANALYSER_MAX_CHANNELS, &place);
     printf("settings from levels %s", result == ANALYSER_FACE_0_NOT_AT_0 ? "face 0 not at 0" : "?");
     numbers("settings", settings, 1);
+    ended();
+
+    untouched();
+    text[0] = UNTOUCHED;
+    result = analyser_key_text(input, sizeof input, text, ANALYSER_KEY_TEXT_BYTES - 1, &length, &place);
+    printf("key %s: %d bytes, text %d", result == ANALYSER_SLICE_TOO_SHORT ? "slice too short" : "?", (int)length, text[0]);
     ended();
     return 0;
 }

@@ -57,6 +57,26 @@ pub fn compare_drawing(library: &Library, seed: u64, number: u64, tally: &mut Ta
     checker.all_of(&grown).map_err(|Wrong(text)| Wrong(format!("seed {seed}, drawing {number} ({})\n{text}", grown.name)))
 }
 
+/// Compares everything about a stored sheet; its largest value, which was found elsewhere, too.
+pub fn compare_sheet(library: &Library, name: &str, grown: &Grown, largest: Option<i64>, tally: &mut Tally) -> Check {
+    let told = |text: String| Wrong(format!("{name}\n{text}"));
+    let found = range(&grown.drawing, grown.source, grown.sink).map(|(_, largest)| largest);
+    if found != largest {
+        return Err(told(format!("the largest is {found:?}, not {largest:?}\n")));
+    }
+    *tally.drawings.entry(grown.name).or_default() += 1;
+    let chance = Chance::new(grown.drawing.darts() as u64, grown.source as u64);
+    Checker { library, tally, chance }.all_of(grown).map_err(|Wrong(text)| told(text))
+}
+
+/// The key's text of these bytes, compared.
+pub fn key_of(library: &Library, input: &[u8], tally: &mut Tally) -> Check<String> {
+    let mut lent = Lent::new(input.to_vec());
+    lent.text = vec![0; judge::TEXT];
+    let after = Checker { library, tally, chance: Chance::new(0, 0) }.compare(Call::KeyText, &lent)?;
+    Ok(String::from_utf8_lossy(&after.text[..after.length]).into_owned())
+}
+
 /// What is due from a call. The set is any that proves what it is given for: for a value, or without one that nothing can be carried.
 struct Due {
     result: u8,
@@ -223,7 +243,7 @@ impl Checker<'_> {
         lent.tails = self.chance.junk(tails, |x| x as u16);
         lent.rotations = self.chance.junk(rotations, |x| x as u16);
         lent.capacities = self.chance.junk(capacities, |x| x as i32);
-        lent.text = if cfg!(key_text) { self.chance.junk(text, |x| x as u8) } else { vec![] };
+        lent.text = self.chance.junk(text, |x| x as u8);
         lent
     }
 
@@ -404,12 +424,9 @@ impl Checker<'_> {
         self.write(&drawing)
     }
 
-    /// The key's text, if the library has it; seldom with a damaged question or too little room.
+    /// The key's text; seldom with a damaged question or too little room.
     fn key(&mut self, solve: Call, sheet: &[u8]) -> Check {
         let Call::Solve { source, sink, value } = solve else { unreachable!("the key asks Solve") };
-        if !cfg!(key_text) {
-            return Ok(());
-        }
         let mut input = vec![3];
         input.extend(source.to_le_bytes());
         input.extend(sink.to_le_bytes());

@@ -320,9 +320,7 @@ mod tests {
 
     #[test]
     fn every_fault_is_caught() {
-        let there = |name: String| cfg!(key_text) || !name.starts_with("Key");
-        let faults = ALL.iter().filter(|(fault, _)| there(format!("{fault:?}")));
-        let uncaught: Vec<_> = faults.filter(|(fault, _)| run(Some(*fault), &mut Tally::default()).is_ok()).collect();
+        let uncaught: Vec<_> = ALL.iter().filter(|(fault, _)| run(Some(*fault), &mut Tally::default()).is_ok()).collect();
         assert!(uncaught.is_empty(), "not caught: {uncaught:?}");
     }
 
@@ -333,7 +331,7 @@ mod tests {
         run(None, &mut tally).unwrap_or_else(|wrong| panic!("{wrong}"));
         let sheet: Vec<u8> = (1..=12).collect();
         let with = |more: &[u8]| [&sheet[..], more].concat();
-        let due: [(&str, Vec<u8>, &[&str]); 7] = [
+        let due: [(&str, Vec<u8>, &[&str]); 8] = [
             ("Read", with(&[16]), &["done"]),
             ("Write", vec![3, 4, 5, 6, 7, 9, 10, 11, 12, 16], &["done"]),
             ("Solve", with(&[13, 14, 15, 16]), &["can", "cannot"]),
@@ -341,6 +339,7 @@ mod tests {
             ("Mark", with(&[13, 14, 16, 17, 18]), &["value"]),
             ("Levels from settings", with(&[16, 17, 18]), &["done"]),
             ("Settings from levels", with(&[16, 17, 19, 20]), &["done"]),
+            ("Key text", vec![16], &["can", "cannot", "refused in the text"]),
         ];
         for (name, refusals, answers) in due {
             let met: Vec<_> = tally.answers.keys().filter(|key| key.0 == name).map(|&(_, number, answer)| (number, answer)).collect();

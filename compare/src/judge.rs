@@ -205,7 +205,6 @@ pub fn question(drawing: &Drawing, source: u16, sink: u16, value: i32) -> Verdic
 }
 
 /// The question of the key, and the sheet after it.
-#[cfg_attr(not(key_text), allow(dead_code))]
 pub fn key(input: &[u8]) -> Result<(Drawing, Call), Refusal> {
     let body = record(input, 0, 3, 8)?;
     let (source, sink, value) = (unsigned(body, 0), unsigned(body, 2), signed(body, 4));

@@ -1,7 +1,9 @@
 //! Compares the analyser's C interface with an independent flow solver, on random flat drawings and damaged sheets.
 //!
-//!     compare [--seed N] [--count N | --seconds N] [--from N] [--fault NAME]
+//!     compare [--seed N] [--count N | --seconds N] [--from N] [--sheets FOLDER] [--questions FOLDER [--program PATH]] [--fault NAME]
 //!
+//! --sheets compares the sheets of a folder first: its file cases.txt has a line for each, with its name, counts, ends and largest value (see bench/sheets).
+//! --questions runs the program key on the files *.question of a folder, and compares what it prints.
 //! The same seed and count give the same run. A drawing is made from the seed and its number alone: --from N begins with that number. --fault shows how a
 //! deliberate fault is caught (any other word lists them). It ends with 'N compared, 0 wrong' and status 0, or with the drawing and the difference and status 1.
 mod chance;
@@ -15,10 +17,14 @@ mod judge;
 mod levels;
 #[cfg(test)]
 mod paper;
+mod program;
 mod unit;
 
-use check::{compare_drawing, Tally};
+use check::{compare_drawing, compare_sheet, Tally, Wrong};
+use drawing::Drawing;
 use faults::{Fault, Library};
+use grow::Grown;
+use program::compare_program;
 use std::process::ExitCode;
 use std::time::{Duration, Instant};
 
@@ -27,13 +33,17 @@ struct Switches {
     first: u64,
     count: u64,
     seconds: Option<u64>,
+    sheets: Option<String>,
+    questions: Option<String>,
+    program: String,
     fault: Option<Fault>,
 }
 
-const USAGE: &str = "compare [--seed N] [--count N | --seconds N] [--from N] [--fault NAME]";
+const USAGE: &str = "compare [--seed N] [--count N | --seconds N] [--from N] [--sheets FOLDER] [--questions FOLDER [--program PATH]] [--fault NAME]";
 
 fn switches() -> Result<Switches, String> {
-    let mut switches = Switches { seed: 1, first: 0, count: 1000, seconds: None, fault: None };
+    let mut switches =
+        Switches { seed: 1, first: 0, count: 1000, seconds: None, sheets: None, questions: None, program: "target/bin/key".to_string(), fault: None };
     let words: Vec<String> = std::env::args().skip(1).collect();
     for pair in words.chunks(2) {
         let [name, value] = pair else { return Err(USAGE.to_string()) };
@@ -43,6 +53,9 @@ fn switches() -> Result<Switches, String> {
             "--from" => switches.first = number()?,
             "--count" => (switches.count, switches.seconds) = (number()?, None),
             "--seconds" => switches.seconds = Some(number()?),
+            "--questions" => switches.questions = Some(value.clone()),
+            "--program" => switches.program = value.clone(),
+            "--sheets" => switches.sheets = Some(value.clone()),
             "--fault" => switches.fault = Some(fault(value)?),
             _ => return Err(USAGE.to_string()),
         }
@@ -66,6 +79,14 @@ fn main() -> ExitCode {
     println!("seed {}", switches.seed);
     let library = Library { fault: switches.fault };
     let mut tally = Tally::default();
+    let mut kept = switches.sheets.iter().try_for_each(|folder| stored(&library, folder, &mut tally));
+    if kept.is_ok() {
+        kept = switches.questions.iter().try_for_each(|folder| compare_program(&library, &switches.program, folder, &mut tally));
+    }
+    if let Err(wrong) = kept {
+        println!("{}{} compared, 1 wrong", wrong.0, tally.compared() + 1);
+        return ExitCode::FAILURE;
+    }
     let start = Instant::now();
     let mut number = switches.first;
     let goes_on = |number: u64| match switches.seconds {
@@ -93,6 +114,22 @@ fn main() -> ExitCode {
     ExitCode::SUCCESS
 }
 
+/// The sheets of a folder, each with the ends and the largest value that its file cases.txt says: sheet nodes channels faces headgate outfall largest.
+fn stored(library: &Library, folder: &str, tally: &mut Tally) -> Result<(), Wrong> {
+    let missing = |what: String| Wrong(format!("{folder}: {what}\n"));
+    let cases = std::fs::read_to_string(format!("{folder}/cases.txt")).map_err(|error| missing(format!("cases.txt: {error}")))?;
+    for line in cases.lines().filter(|line| !line.starts_with('#')) {
+        let words: Vec<&str> = line.split_whitespace().collect();
+        let [name, _, _, _, source, sink, largest] = words[..] else { return Err(missing(format!("cases.txt: {line}"))) };
+        let bytes = std::fs::read(format!("{folder}/{name}.sheet")).map_err(|error| missing(format!("{name}: {error}")))?;
+        let drawing = Drawing::of_bytes(&bytes).ok_or_else(|| missing(format!("{name} is no sheet")))?;
+        let node = |word: &str| word.parse::<usize>().map_err(|_| missing(format!("cases.txt: {line}")));
+        let grown = Grown { name: "stored", drawing, source: node(source)?, sink: node(sink)? };
+        compare_sheet(library, name, &grown, largest.parse().ok(), tally)?;
+    }
+    Ok(())
+}
+
 fn print_counts(tally: &Tally) {
     let shapes: Vec<String> = tally.drawings.iter().map(|(name, count)| format!("{name} {count}")).collect();
     println!("drawings {}: {}", tally.drawings.values().sum::<u64>(), shapes.join(", "));
@@ -103,8 +140,5 @@ fn print_counts(tally: &Tally) {
         let counts: Vec<String> =
             of.map(|(key, count)| if key.1 == 0 { format!("{} {count}", key.2) } else { format!("refused {}: {count}", key.1) }).collect();
         println!("{name}: {}", counts.join(", "));
-    }
-    if !cfg!(key_text) {
-        println!("Key text: not in this library, so not compared");
     }
 }

@@ -105,7 +105,6 @@ fn ranges() {
     assert_eq!(ask(vec![], Call::Read, &[], &[]).0, 1);
 }
 
-#[cfg(key_text)]
 #[test]
 fn key() {
     let text = |drawing: Drawing, value: i32| {

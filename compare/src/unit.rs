@@ -4,25 +4,12 @@
 #[derive(Clone, Copy, Debug, PartialEq)]
 pub enum Call {
     Read,
-    Write {
-        nodes: u16,
-    },
-    Solve {
-        source: u16,
-        sink: u16,
-        value: i32,
-    },
-    Largest {
-        source: u16,
-        sink: u16,
-    },
-    Mark {
-        source: u16,
-        sink: u16,
-    },
+    Write { nodes: u16 },
+    Solve { source: u16, sink: u16, value: i32 },
+    Largest { source: u16, sink: u16 },
+    Mark { source: u16, sink: u16 },
     LevelsFromSettings,
     SettingsFromLevels,
-    #[cfg_attr(not(key_text), allow(dead_code))]
     KeyText,
 }
 
@@ -211,7 +198,6 @@ extern "C" {
         flows_length: usize,
         place: *mut u16,
     ) -> u8;
-    #[cfg(key_text)]
     #[rustfmt::skip]
     fn analyser_key_text(input: *const u8, input_length: usize, text: *mut u8, text_length: usize, length: *mut usize, place: *mut u16) -> u8;
 }
@@ -226,7 +212,6 @@ pub fn call(call: &Call, lent: &mut Lent) -> u8 {
     let mut tails = Guarded::new(&lent.tails, 0xa5a5);
     let mut rotations = Guarded::new(&lent.rotations, 0xa5a5);
     let mut capacities = Guarded::new(&lent.capacities, -0x5a5a_5a5a);
-    #[cfg_attr(not(key_text), allow(unused_mut))]
     let mut text = Guarded::new(&lent.text, 0xa5);
     // Each pointer is to as many elements as its length says, and no two slices overlap.
     let result = unsafe {
@@ -245,10 +230,7 @@ pub fn call(call: &Call, lent: &mut Lent) -> u8 {
                 levels.pointer(), levels.length(), &mut lent.place),
             Call::SettingsFromLevels => analyser_settings_from_levels(sheet.pointer(), sheet.length(), levels.pointer(), levels.length(),
                 flows.pointer(), flows.length(), &mut lent.place),
-            #[cfg(key_text)]
             Call::KeyText => analyser_key_text(sheet.pointer(), sheet.length(), text.pointer(), text.length(), &mut lent.length, &mut lent.place),
-            #[cfg(not(key_text))]
-            Call::KeyText => unreachable!("the library has no key text"),
         }
     };
     lent.guards = sheet.give_back(&mut lent.sheet)
