@@ -14,6 +14,7 @@ ghost use Rattle.key_text.specs.Key.{Prints, textRoom, Writes};
 use analyser::SolveAnswer;
 use refusals::Verdict;
 
+// The number of an edge or a node, of a refusal, of a set's size, at the width in which digits are taken; the bound says how many there are.
 fn index(e: usize) -> u32
     requires { ⌜ e < 1000 ⌝ }
     ensures { λ r. ⌜ r ≡ e ⌝ }
