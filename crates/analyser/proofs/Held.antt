@@ -10,7 +10,7 @@ use Rattle.faces.specs.Flow.{net}
 use Rattle.flows.specs.Settings.{onDarts}
 use Rattle.flows.specs.Check.{withinChecks, balanceChecks, EndOf, NoNode}
 use Rattle.rotations.specs.Arrays.{at}
-use Rattle.records.specs.Sheet.{nodesOf, edgesOf, tailOf, capacityOf, sheetMap, sheetDrawing}
+use Rattle.records.specs.Sheet.{nodesOf, edgesOf, tailOf, rotationOf, capacityOf, sheetMap, sheetDrawing}
 use Rattle.records.proofs.Bytes.{bytes-range, bytes-capacities}
 use Rattle.sheets.specs.Network.{atℤ, Holds}
 use Rattle.sheets.specs.Open.{sheetChecks}
@@ -18,10 +18,10 @@ use Rattle.sheets.specs.declared.Network.{Network}
 use Rattle.sheets.proofs.Reading.{sheet-bytes, sheet-counts}
 use Rattle.balance.specs.Arrays.{SmallFlows}
 use Rattle.balance.specs.Nets.{netOf}
-use Rattle.balance.specs.Check.{offChecks}
+use Rattle.balance.specs.Check.{offChecks, JudgedAll}
 use Rattle.balance.proofs.Nets.{netOf-net}
 use Rattle.balance.proofs.Within.{small-flows}
-use Rattle.balance.proofs.Balance.{judged-ends, judged-all}
+use Rattle.balance.proofs.Balance.{judged-ends}
 
 module _ (s : List ℕ) (accepted : NoneOf (sheetChecks s)) (record' : Network) (h : Holds (sheetDrawing s) record') where
   pub tails-small : (d : ℕ) → d < 2 * record' .edges → at (record' .tails) d < 1024
@@ -46,6 +46,8 @@ module _ (s : List ℕ) (accepted : NoneOf (sheetChecks s)) (record' : Network) 
       pub ends-balanced : (a b : ℕ) (v : Verdict) → Judged (offChecks (record' .nodes) a b (atℤ nets)) v → Judged (balanceChecks (sheetMap s) (EndOf a b) x) v
       ends-balanced a b v j = judged-ends (sheetMap s) x (atℤ nets) net-of a b v (subst (λ n. Judged (offChecks n a b (atℤ nets)) v) (h .nodes) j)
 
-      pub all-balanced : (a b : ℕ) (v : Verdict) → record' .nodes ≤ a → record' .nodes ≤ b → Judged (offChecks (record' .nodes) a b (atℤ nets)) v → Judged (balanceChecks (sheetMap s) NoNode x) v
-      all-balanced a b v la lb j =
-          judged-all (sheetMap s) x (atℤ nets) net-of a b v (omega (arith, h .nodes)) (omega (arith, h .nodes)) (subst (λ n. Judged (offChecks n a b (atℤ nets)) v) (h .nodes) j)
+    pub all-balanced : (v : Verdict) → JudgedAll (record' .nodes) (record' .edges) (at (record' .tails)) x v → Judged (balanceChecks (sheetMap s) NoNode x) v
+    all-balanced v j =
+        subst (λ n. Judged (balanceChecks (record { nodes = n; edges = edgesOf s; tail = tailOf s; rotation = rotationOf s }) NoNode x) v) (h .nodes)
+        (subst (λ n. Judged (balanceChecks (record { nodes = record' .nodes; edges = n; tail = tailOf s; rotation = rotationOf s }) NoNode x) v) (h .edges)
+        (subst (λ t. Judged (balanceChecks (record { nodes = record' .nodes; edges = record' .edges; tail = t; rotation = rotationOf s }) NoNode x) v) (h .tails) (j (rotationOf s))))

@@ -252,18 +252,11 @@ pub fn levels_from_settings(sheet: &[u8], flows: &[i32], levels: &mut [i32]) -> 
     if let Verdict::Refused(k, p) = within {
         return LevelAnswer::Refused(k, p);
     }
-    let mut nets = [0i32; 1024];
-    balance::fill_nets(&network.tails, edges, flows, &mut nets);
-    let balanced = balance::check_balance(&nets, nodes, nodes, nodes);
+    let balanced = balance::check_all_balanced(&network.tails, nodes, edges, flows);
     if let Verdict::Refused(k, p) = balanced {
         return LevelAnswer::Refused(k, p);
     }
-    let mut order = [0u16; 1024];
-    let mut from = [0u16; 1024];
-    traversal::spread(&network.rotations, 2 * edges, 0, &mut order, &mut from);
-    let mut all = [0i32; 1024];
-    leveling::fill_levels(&network.faces, &order, &from, 2 * edges, flows, &mut all);
-    sheets::copy_out_signed(&all, faces, levels);
+    leveling::write_levels(&network.rotations, &network.faces, edges, flows, levels);
     LevelAnswer::Done
 }
 

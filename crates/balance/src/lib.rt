@@ -15,7 +15,7 @@ ghost use Rattle.flows.specs.Check.{withinChecks, EndOf};
 ghost use Rattle.rotations.specs.Arrays.{at};
 ghost use Rattle.balance.specs.Arrays.{atℤ, SmallFlows};
 ghost use Rattle.balance.specs.Nets.{netOf};
-ghost use Rattle.balance.specs.Check.{offChecks};
+ghost use Rattle.balance.specs.Check.{offChecks, JudgedAll};
 use refusals::Verdict;
 
 fn wide(x: u16) -> usize
@@ -128,4 +128,14 @@ pub fn check_balance(nets: &[i32; 1024], nodes: usize, a: usize, b: usize) -> Ve
         v += 1;
     }
     Verdict::Passed
+}
+
+// Refusal 18 with no node excused: "18 for any node". The sums have their array here, so that the caller's later arrays can lie where it was.
+pub fn check_all_balanced(tails: &[u16; 1024], nodes: usize, edges: usize, flows: &[i32]) -> Verdict
+    requires { ⌜ (nodes ≤ 1024) × (edges ≤ 512) × (edges ≤ length (now flows)) × ((d : ℕ) → d < 2 * edges → at (now tails) d < 1024) × SmallFlows edges (atℤ (now flows)) ⌝ }
+    ensures { λ r. ⌜ JudgedAll nodes edges (at (now (tails .entry))) (atℤ (now (flows .entry))) r ⌝ }
+{
+    let mut nets = [0i32; 1024];
+    fill_nets(tails, edges, flows, &mut nets);
+    check_balance(&nets, nodes, nodes, nodes)
 }

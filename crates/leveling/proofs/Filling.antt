@@ -6,14 +6,14 @@ use Prim.Native.Nat.{ℕ, _+_, _*_, _≤_, _<_}
 use native.Mathlib.Omega.{arith}
 use native.Mathlib.Decide.{ℕ-discrete}
 use lib.IntN.{ℤ, pos, _-ℤ_}
-use lib.ListN.{length, set, length-set}
+use lib.ListN.{length, set}
 use lib.Seq.{getD-set-same, getD-set-other}
 use mir.Syntax.{w32}
 use mir.Val.{toZ, ofZ, SFits}
 use Rattle.integers.proofs.Laws.{sub-sub}
 use Rattle.faces.specs.Dart.{rev}
 use Rattle.flows.specs.Settings.{onDarts}
-use Rattle.leveling.specs.Filling.{atℤ, Limited, mostFlow, Crossing, Fillable, PotentialsFrom, Filled}
+use Rattle.leveling.specs.Filling.{atℤ, Limited, mostFlow, Crossing, Fillable, PotentialsFrom, Filled, Kept}
 use Rattle.integers.proofs.Limits.{limited-minus, limited-more, limited-zero}
 use Rattle.signed.proofs.Limits.{limited-fits, same-bits}
 
@@ -24,14 +24,14 @@ pub record Filling (darts : ℕ) (left order : ℕ → ℕ) (x level : ℕ → �
   pub right : (ρ : ℕ → ℤ) → PotentialsFrom darts left (order 0) x ρ → (j : ℕ) → j < i → level (left (order j)) ≡ ρ (left (order j))
 
 -- the places that the pass reads and writes
-module _ {darts : ℕ} {left order from : ℕ → ℕ} {flows : List ℤ} (ok : Fillable darts left order from flows) where
+module _ {darts room : ℕ} {left order from : ℕ → ℕ} {flows : List ℤ} (ok : Fillable darts room left order from flows) where
   pub dart-in : {i d : ℕ} → i < darts → d ≡ order i → d < darts
   dart-in {i} {d} l e = omega (arith, ok .crossing .inside i l)
 
   pub origin-in : {i d p : ℕ} → 0 < i → i < darts → d ≡ order i → p ≡ from d → p < darts
   origin-in {i} {d} {p} z l e o = let r = ok .crossing .met i z l in omega (arith, ap from e, r .2, ok .crossing .inside (r .0) (omega (arith, r .1)))
 
-  pub face-in : {d f : ℕ} → d < darts → f ≡ left d → f < 1024
+  pub face-in : {d f : ℕ} → d < darts → f ≡ left d → f < room
   face-in {d} {f} l e = omega (arith, ok .left-in d l)
 
 pub filling-start : {darts : ℕ} {left order : ℕ → ℕ} {x level : ℕ → ℤ} → 0 < darts → level (left (order 0)) ≡ pos 0 → Filling darts left order x level 1
@@ -98,8 +98,12 @@ module _ {darts : ℕ} {left order from : ℕ → ℕ} (crossing : Crossing dart
       let r = crossing .every d l in
       subst (λ c. level (left c) ≡ ρ (left c)) (r .2) (ξ .right ρ h (r .0) (omega (arith, r .1)))
 
+-- a store at the face of a dart keeps the places of no dart's face
+pub kept-stored : {darts : ℕ} {left : ℕ → ℕ} (before now : List ℤ) {d f : ℕ} (v : ℤ) → d < darts → f ≡ left d → Kept darts left before now → Kept darts left before (set now f v)
+kept-stored before now {d} {f} v l is-f kept g none = getD-set-other now f g v (pos 0) (λ e. none d l (sym is-f ∙ sym e)) ∙ kept g none
+
 -- one step of the machine: the level at `known` less the flow fits, and storing it at `across` passes one dart
-module _ {darts : ℕ} {left order from : ℕ → ℕ} {flows : List ℤ} (ok : Fillable darts left order from flows) (levels : List ℤ) {i d p known : ℕ} {flow : ℤ}
+module _ {darts room : ℕ} {left order from : ℕ → ℕ} {flows : List ℤ} (ok : Fillable darts room left order from flows) (levels : List ℤ) {i d p known : ℕ} {flow : ℤ}
     (ξ : Filling darts left order (atℤ flows) (atℤ levels) i) (l : i < darts) (is-d : d ≡ order i) (is-p : p ≡ from d) (is-known : known ≡ left p)
     (is-flow : flow ≡ onDarts (atℤ flows) p) (small : Limited mostFlow flow) where
   origin-is : p ≡ from (order i)
@@ -123,14 +127,12 @@ module _ {darts : ℕ} {left order from : ℕ → ℕ} {flows : List ℤ} (ok : 
   pub new-fits : SFits w32 read
   new-fits = limited-fits (i * mostFlow + mostFlow) read (fits-32 .1) new-limited
 
-  pub filling-stored : {across : ℕ} {result : ℤ} → length levels ≡ 1024 → across ≡ left d → result ≡ read
-      → (length (set levels across (toZ w32 (ofZ w32 result))) ≡ 1024) × Filling darts left order (atℤ flows) (atℤ (set levels across (toZ w32 (ofZ w32 result)))) (i + 1)
-  filling-stored {across} {result} long is-across is-result = (
-    length-set levels across bits ∙ long,
-    filling-on (ok .crossing) ξ l (is-flow ∙ ap (onDarts (atℤ flows)) origin-is) small (is-result ∙ read-is ∙ ap (λ f. atℤ levels f -ℤ flow) (is-known ∙ ap left origin-is))
-        (ap (atℤ (set levels across bits)) (sym place) ∙ getD-set-same levels across bits (pos 0) (omega (arith, long, across-in)) ∙ back)
-        (λ f n. getD-set-other levels across f bits (pos 0) (λ e. n (e ∙ place))),
-  )
+  pub filling-stored : {across : ℕ} {result : ℤ} → length levels ≡ room → across ≡ left d → result ≡ read
+      → Filling darts left order (atℤ flows) (atℤ (set levels across (toZ w32 (ofZ w32 result)))) (i + 1)
+  filling-stored {across} {result} long is-across is-result =
+      filling-on (ok .crossing) ξ l (is-flow ∙ ap (onDarts (atℤ flows)) origin-is) small (is-result ∙ read-is ∙ ap (λ f. atℤ levels f -ℤ flow) (is-known ∙ ap left origin-is))
+      (ap (atℤ (set levels across bits)) (sym place) ∙ getD-set-same levels across bits (pos 0) (omega (arith, long, across-in)) ∙ back)
+      (λ f n. getD-set-other levels across f bits (pos 0) (λ e. n (e ∙ place)))
     where
       bits : ℤ
       bits = toZ w32 (ofZ w32 result)
@@ -138,7 +140,7 @@ module _ {darts : ℕ} {left order from : ℕ → ℕ} {flows : List ℤ} (ok : 
       place : across ≡ left (order i)
       place = is-across ∙ ap left is-d
 
-      across-in : across < 1024
+      across-in : across < room
       across-in = face-in ok (dart-in ok l is-d) is-across
 
       back : bits ≡ result

@@ -9,6 +9,7 @@ use lib.IntN.{ℤ, pos, _-ℤ_}
 use Rattle.faces.specs.Dart.{rev}
 use Rattle.faces.specs.Map.{Map, darts}
 use Rattle.faces.specs.Face.{left, right}
+use Rattle.faces.specs.Face as face
 use Rattle.faces.specs.Walk.{Connected}
 use Rattle.faces.specs.Check.{Sound}
 use Rattle.faces.proofs.Darts.{rev-in}
@@ -18,7 +19,6 @@ use Rattle.flows.specs.Levels.{Levels}
 use Rattle.flows.proofs.Plane.{Plane, potentials-at}
 use Rattle.traversal.specs.Spread.{Spread, Follows}
 use Rattle.traversal.proofs.Reach.{full-meets, connected-full}
-use Rattle.rotations.proofs.Steps.{faces-le}
 use Rattle.leveling.specs.Filling.{atℤ, Limited, mostFlow, Crossing, Fillable, PotentialsFrom, Filled}
 
 -- where the rotation of a dart has at its left what the dart has at its right, a walk over all darts gives an order to fill along
@@ -43,12 +43,12 @@ module _ {𝓜 : Map} {faces : ℕ → ℕ} (numbered : (d : ℕ) → d < darts 
       crossing-of-spread ξ (connected-full σ ξ con)
       (λ d l. numbered (𝓜 .rotation d) (σ .range .rotation-in d l) ∙ left-rotation σ d l ∙ sym (numbered (rev d) (rev-in (𝓜 .edges) d l)))
 
-  pub map-fillable : {start : ℕ} {order from : ℕ → ℕ} {count : ℕ} {flows : List ℤ} → Sound 𝓜 → Connected 𝓜 → 0 < 𝓜 .edges → 𝓜 .edges ≤ 512 → 𝓜 .edges ≤ length flows
-      → ((e : ℕ) → e < 𝓜 .edges → Limited mostFlow (atℤ flows e)) → Spread (darts 𝓜) (𝓜 .rotation) start order from count → Fillable (darts 𝓜) faces order from flows
-  map-fillable σ con some few long small ξ = record {
+  pub map-fillable : {start : ℕ} {order from : ℕ → ℕ} {count room : ℕ} {flows : List ℤ} → Sound 𝓜 → Connected 𝓜 → 0 < 𝓜 .edges → 𝓜 .edges ≤ 512 → face.faces 𝓜 ≤ room → 𝓜 .edges ≤ length flows
+      → ((e : ℕ) → e < 𝓜 .edges → Limited mostFlow (atℤ flows e)) → Spread (darts 𝓜) (𝓜 .rotation) start order from count → Fillable (darts 𝓜) room faces order from flows
+  map-fillable σ con some few roomy long small ξ = record {
     some = omega arith;
     few = omega arith;
-    left-in = λ d l. omega (arith, numbered d l, left-in σ d l, faces-le 𝓜);
+    left-in = λ d l. omega (arith, numbered d l, left-in σ d l);
     long = omega arith;
     small = λ e l. small e (omega arith);
     crossing = map-crossing σ con ξ;

@@ -1,5 +1,6 @@
--- Filling the levels of the faces along an order of the darts: what it needs, and what it leaves.
+-- Filling the levels of the faces along an order of the darts, and along a walk from dart 0: what they need, and what they leave in the slice.
 use mathlib.Core.Path.{_≡_}
+use mathlib.Core.Logic.{_≢_}
 use mathlib.Core.List.{List}
 use Prim.Native.Nat.{ℕ, _*_, _≤_, _<_}
 use lib.ListN.{length}
@@ -8,7 +9,7 @@ pub use Rattle.integers.specs.Limited.{Limited}
 use Rattle.faces.specs.Dart.{rev}
 use Rattle.flows.specs.Settings.{onDarts}
 pub use Rattle.traversal.specs.Arrays.{atℤ}
-use Rattle.traversal.specs.Spread.{Met}
+use Rattle.traversal.specs.Spread.{Met, Spread}
 
 -- with flows of at most a million, levels of 1,024 darts fit 32 bits
 abbrev pub mostFlow : ℕ
@@ -20,10 +21,11 @@ pub record Crossing (darts : ℕ) (left order from : ℕ → ℕ) : Type 0 where
   pub every : (d : ℕ) → d < darts → Met order darts d
   pub met : (i : ℕ) → 0 < i → i < darts → (j : ℕ) × (j < i) × (order j ≡ from (order i)) × (left (order i) ≡ left (rev (from (order i))))
 
-pub record Fillable (darts : ℕ) (left order from : ℕ → ℕ) (flows : List ℤ) : Type 0 where
+-- there is room for the level of each face that a dart has at its left
+pub record Fillable (darts room : ℕ) (left order from : ℕ → ℕ) (flows : List ℤ) : Type 0 where
   pub some : 0 < darts
   pub few : darts ≤ 1024
-  pub left-in : (d : ℕ) → d < darts → left d < 1024
+  pub left-in : (d : ℕ) → d < darts → left d < room
   pub long : darts ≤ 2 * length flows
   pub small : (e : ℕ) → 2 * e < darts → Limited mostFlow (atℤ flows e)
   pub crossing : Crossing darts left order from
@@ -36,3 +38,20 @@ pub record PotentialsFrom (darts : ℕ) (left : ℕ → ℕ) (first : ℕ) (x ρ
 -- where there are such potentials, the levels are those
 abbrev pub Filled : ℕ → (ℕ → ℕ) → ℕ → (ℕ → ℤ) → (ℕ → ℤ) → Type 0
 Filled darts left first x level = (ρ : ℕ → ℤ) → PotentialsFrom darts left first x ρ → (d : ℕ) → d < darts → level (left d) ≡ ρ (left d)
+
+-- the places of faces that no dart has at its left are as they were
+abbrev pub Kept : ℕ → (ℕ → ℕ) → (before after : List ℤ) → Type 0
+Kept darts left before after = (f : ℕ) → ((d : ℕ) → d < darts → left d ≢ f) → atℤ after f ≡ atℤ before f
+
+-- the slice as it is left: the levels, and the other places as they were
+pub record Levelled (darts : ℕ) (left : ℕ → ℕ) (first : ℕ) (x : ℕ → ℤ) (before after : List ℤ) : Type 0 where
+  pub as-long : length after ≡ length before
+  pub filled : Filled darts left first x (atℤ after)
+  pub kept : Kept darts left before after
+
+-- whichever way a walk over the darts goes from dart 0, it gives an order to fill along
+pub record Levelable (edges room : ℕ) (rotation left : ℕ → ℕ) (flows : List ℤ) : Type 0 where
+  pub some : 0 < edges
+  pub few : edges ≤ 512
+  pub rotation-in : (d : ℕ) → d < 2 * edges → rotation d < 2 * edges
+  pub walked : {order from : ℕ → ℕ} {count : ℕ} → Spread (2 * edges) rotation 0 order from count → Fillable (2 * edges) room left order from flows

@@ -1,0 +1,29 @@
+-- The sums are the net flows of the map, whatever its rotations, and no node is numbered `nodes`.
+use mathlib.Core.Path.{_∙_}
+use native.Mathlib.Omega.{arith}
+use borrow.Author.Needs.{needs}
+use Rattle.faces.specs.Map.{Map}
+use Rattle.rotations.specs.Arrays.{at}
+use Rattle.balance.specs.Arrays.{atℤ}
+use Rattle.balance.proofs.Nets.{netOf-net}
+use Rattle.balance.proofs.Balance.{judged-all}
+use Rattle.balance.proofs.check_all_balanced.Statement.{statement}
+use Rattle.balance.proofs.check_all_balanced.Tie as tie
+
+fill-nets-requires : tie.Need-fill-nets-requires
+fill-nets-requires c κs = search needs
+
+check-balance-requires : tie.Need-check-balance-requires
+check-balance-requires c κs = search needs
+
+returns : tie.Need-returns
+returns c rotation =
+    let filled = c .before .before .fill-nets in
+    let start = c .before .before .before .before in
+    let a = start .args in
+    let 𝓜 : Map = record { nodes = a .nodes; edges = a .edges; tail = at (a .tails .now); rotation = rotation } in
+    judged-all 𝓜 (atℤ (a .flows .now)) (atℤ (filled .last .1 .1 .1 .0)) (λ v l. filled .ensures .1 v (omega (arith, l, start .pre .0)) ∙ netOf-net 𝓜 (atℤ (a .flows .now)) v)
+    (a .nodes) (a .nodes) (c .check-balance .result) (omega arith) (omega arith) (c .check-balance .ensures)
+
+pub check-all-balanced-spec : {M : Type 1} → statement M
+check-all-balanced-spec = tie.close (tie.spec fill-nets-requires check-balance-requires returns)
