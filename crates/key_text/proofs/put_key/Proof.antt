@@ -70,10 +70,10 @@ read-i32-requires : tie.Need-read-i32-requires
 read-i32-requires c κs = omega (arith, whole (c .before .before))
 
 sub-put-answer : tie.Need-sub-put-answer
-sub-put-answer c = whole (c .before .before .before)
+sub-put-answer c = omega (arith, whole (c .before .before .before))
 
 part-put-answer-start : tie.Need-part-put-answer-start
-part-put-answer-start c = whole (c .before .before .before)
+part-put-answer-start c = omega (arith, whole (c .before .before .before))
 
 part-put-answer-end : tie.Need-part-put-answer-end
 part-put-answer-end c = search needs
