@@ -105,7 +105,8 @@ fn face_at(faces: usize, k: usize, a: usize) -> usize
     if k % 2 == 0 { a } else { faces - 1 - a }
 }
 
-// Whether to look for a ring: in the last round, where a face that waits is sure to be above one, and once in as many lowerings as there are faces.
+// Whether to look for a ring: in the last round, where a face that waits is sure to be above one, and before that once `next` lowerings are made: as many
+// after the last look as there are faces, less what `earlier` takes off for the rounds between.
 fn due(faces: usize, k: usize, next: usize, count: usize) -> bool
     ensures { λ r. ⌜ (r ≡ false → k ≡ faces → ⊥) ⌝ }
 {
@@ -113,6 +114,13 @@ fn due(faces: usize, k: usize, next: usize, count: usize) -> bool
         return true;
     }
     next <= count
+}
+
+// A round counts as an eighth of the faces towards the next look: where each round lowers little, a look comes after some eight rounds, though it might
+// take hundreds to make as many lowerings as there are faces.
+fn earlier(next: usize, faces: usize) -> usize {
+    let part = faces / 8;
+    if next < part { 0 } else { next - part }
 }
 
 // Takes up the face i, which stands at place a of round k and waits: crosses the darts whose right face it is. Returns the lowerings so far.
@@ -214,6 +222,7 @@ pub fn search(
         if !any {
             break 'search Outcome::Settled;
         }
+        next = earlier(next, faces);
         k += 1;
     };
     outcome

@@ -114,14 +114,17 @@ loop-again c =
     (λ u. same-scanning (p .0) (u .1) (u .2) (u .3) (u .4) (u .6) (pass-by (p .0) (i .result) r (c .before .before .before .loop-test .taken) (i .ensures .0) (u .0 .left)))
     (c .if1 .came)
 
+earlier-requires : tie.Need-earlier-requires Inv-loop μ-loop Inv-search μ-search
+earlier-requires c κs = search needs
+
 add-k : tie.Need-add-k Inv-loop μ-loop Inv-search μ-search
-add-k c = record { fits = omega (arith, c .before .before .loop .inv .passing .k-in, c .before .before .before .before .before .before .before .before .pre .0 .few-faces) }
+add-k c = record { fits = omega (arith, c .before .before .before .loop .inv .passing .k-in, c .before .before .before .before .before .before .before .before .before .pre .0 .few-faces) }
 
 search-less : tie.Need-search-less Inv-loop μ-loop Inv-search μ-search
-search-less c = omega (arith, c .before .before .loop .inv .passing .k-in)
+search-less c = omega (arith, c .before .before .before .loop .inv .passing .k-in)
 
 search-again : tie.Need-search-again Inv-loop μ-loop Inv-search μ-search
-search-again c = next-round (c .before .before .before .before .before .before .before .before .pre .0) (c .before .before .loop .inv) (c .before .loop-test .left) (not-false (c .before .before .loop .any) (c .if3 .left))
+search-again c = next-round (c .before .before .before .before .before .before .before .before .before .pre .0) (c .before .before .before .loop .inv) (c .before .before .loop-test .left) (not-false (c .before .before .before .loop .any) (c .before .if3 .left))
 
 returns : tie.Need-returns Inv-loop μ-loop Inv-search μ-search
 returns c =
@@ -157,6 +160,7 @@ search-spec =
     add-a
     loop-less
     loop-again
+    earlier-requires
     add-k
     search-less
     search-again
