@@ -33,7 +33,7 @@ pub data Key (b t : List ℕ) : Type 0 where
 abbrev pub Prints : List ℕ → (text text' : List ℕ) → ℕ → Type 0
 Prints b text text' n = (t : List ℕ) × Key b t × (length t ≡ n) × (n ≤ length text) × (text' ≡ t ++ drop n text)
 
--- the longest key: 15 bytes for "can −600000000" and its line feed, 13 for each of 512 lines such as "511 −1000000"
+-- room for every key: 15 bytes for "can −600000000" and its line feed, 13 for each of 512 lines, the longest of which is such as "511 −1000000"
 abbrev pub textRoom : ℕ
 textRoom = 6671
 
