@@ -5,12 +5,11 @@
 -- bound is assumed of them.
 use mathlib.Core.Path.{_≡_, refl, sym, subst}
 use mathlib.Core.Logic.{_≢_, _⊎_, inl, inr}
-use mathlib.Core.Bool.{Bool}
 use mathlib.Core.List.{List}
 use Prim.Native.Nat.{ℕ, _<_}
 use native.Mathlib.Omega.{arith}
 use lib.IntN.{ℤ, pos, _+ℤ_}
-use lib.Signed.{_≤ℤ_, _<ℤ_}
+use lib.Signed.{_≤ℤ_}
 use Rattle.integers.specs.Limited.{Limited}
 use Rattle.integers.proofs.Omega.{atoms₁, atoms₃, parts, at-most, from-at-most, from-less}
 use Rattle.refusals.specs.Order.{NoneOf}
@@ -18,8 +17,6 @@ use Rattle.refusals.proofs.Order.{first-none}
 use Rattle.flows.specs.Settings.{Carries}
 use Rattle.flows.specs.Highest.{Highest}
 use Rattle.flows.specs.ProvingSet.{Proves, member, size}
-use Rattle.flows.proofs.Exact.{proves-excludes}
-use Rattle.flows.proofs.HighestFlow.{highest-unique}
 use Rattle.flows.proofs.Agreement.{highest-agrees}
 use Rattle.flows.proofs.Interval.{AtSource, AtSink, Beside, which, source-limits, source-short, sink-proves-less, beside-proves, beside-proves-all}
 use Rattle.flows.proofs.ValueBound.{value-small}
@@ -35,11 +32,12 @@ use Rattle.analyser.specs.declared.LargestAnswer.{LargestAnswer}
 use Rattle.analyser.specs.declared.LargestAnswer.the-variants.{Value, None}
 use Rattle.analyser.specs.declared.LargestAnswer.the-variants as largest
 use Rattle.analyser.proofs.Marking.{ends-in}
-use Rattle.analyser.proofs.SheetPlane.{plane, root-in, capacity-high}
+use Rattle.analyser.proofs.SheetPlane.{plane, capacity-high}
 use Rattle.analyser.proofs.Round.{filled-at}
 use Rattle.sheets.proofs.Reading.{sheet-counts}
-use Rattle.analyser.proofs.Solving.{Accepted, accepted, ends-differ}
+use Rattle.analyser.proofs.Solving.{accepted, ends-differ}
 use Rattle.analyser.proofs.Finding.{Sought, sought}
+use Rattle.analyser.proofs.Asked.{excludes, one-highest}
 
 -- settings x carry the delivery asked, from the sheet's headgate to its outfall within its limits
 abbrev pub Delivers : List ℕ → (source sink : ℕ) → ℤ → (ℕ → ℤ) → Type 0
@@ -50,8 +48,7 @@ pub set-excludes : (s : List ℕ) (source sink : ℕ) (value : ℤ) (flows : Lis
     → (words : List ℕ) → Proves (sheetMap s) (capacityOf s) source sink value (member words) → (x : ℕ → ℤ) → Delivers s source sink value x → ⊥
 set-excludes s source sink value flows set h words p x carries =
     let a = accepted s source sink value flows set h in
-    let e = ends-in (nodesOf s) source sink (a .ends-two) in
-    proves-excludes (plane s (a .sheet) .sound .range) (e .0) (e .1) (ends-differ (nodesOf s) source sink (a .ends-two)) (capacityOf s) value (member words) p x carries
+    excludes s (a .sheet) source sink (a .ends-two) value (member words) p x carries
 
 module _ (s : List ℕ) (source sink : ℕ) (value : ℤ) (flows flows' : List ℤ) (set set' : List ℕ)
     (asked : NoneOf (solveChecks s source sink value flows set)) where
@@ -71,8 +68,7 @@ module _ (s : List ℕ) (source sink : ℕ) (value : ℤ) (flows flows' : List �
   pub can-only : Solves s source sink value flows flows' set set' Can → (y : ℕ → ℤ) → Highest (sheetMap s) 0 (capacityOf s) source sink value y → (e : ℕ) → e < edgesOf s → atℤ flows' e ≡ y e
   can-only h y highest =
       let a = accepted s source sink value flows set asked in
-      let e = ends-in (nodesOf s) source sink (a .ends-two) in
-      highest-unique (plane s (a .sheet)) (e .0) (e .1) (ends-differ (nodesOf s) source sink (a .ends-two)) 0 (root-in s (a .sheet)) (atℤ flows') y (can-highest h) highest
+      one-highest s (a .sheet) source sink (a .ends-two) value (atℤ flows') y (can-highest h) highest
 
   -- ── "cannot": the set given proves it, its size is the number of ones, and nothing carries the delivery ──
   pub cannot-proves : (n : ℕ) → Solves s source sink value flows flows' set set' (Cannot n)
@@ -114,9 +110,6 @@ module _ (s : List ℕ) (source sink : ℕ) (flows flows' : List ℤ) (set set' 
   apart : source ≢ sink
   apart = ends-differ (nodesOf s) source sink (known .ends-two)
 
-  excludes : (value : ℤ) (S : ℕ → Bool) → Proves (sheetMap s) (capacityOf s) source sink value S → (x : ℕ → ℤ) → Delivers s source sink value x → ⊥
-  excludes value S = proves-excludes (plane s (known .sheet) .sound .range) (ends .0) (ends .1) apart (capacityOf s) value S
-
   pub largest-answered : (k p : ℕ) → FindsLargest s source sink flows flows' set set' (largest.Refused k p) → ⊥
   largest-answered k p h = first-none (largestChecks s source sink flows set) k p (h .0) asked
 
@@ -131,7 +124,7 @@ module _ (s : List ℕ) (source sink : ℕ) (flows flows' : List ℤ) (set set' 
     largest-carries = largest-highest .carries
 
     pub largest-only : (y : ℕ → ℤ) → Highest (sheetMap s) 0 (capacityOf s) source sink v y → (i : ℕ) → i < edgesOf s → atℤ flows' i ≡ y i
-    largest-only y = highest-unique (plane s (known .sheet)) (ends .0) (ends .1) apart 0 (root-in s (known .sheet)) (atℤ flows') y largest-highest
+    largest-only y = one-highest s (known .sheet) source sink (known .ends-two) v (atℤ flows') y largest-highest
 
     -- ── its set proves the next one impossible ──
     pub next-impossible : (words : List ℕ) × SetWritten (nodesOf s) words set set' × Proves (sheetMap s) (capacityOf s) source sink (v +ℤ pos 1) (member words)
@@ -152,11 +145,11 @@ module _ (s : List ℕ) (source sink : ℕ) (flows flows' : List ℤ) (set set' 
               from-at-most (source-limits (plane s (known .sheet) .sound .range) (ends .0) (ends .1) apart (capacityOf s) (member (h .2 .0)) side w x d) (search parts),
               from-less (source-short (sheetMap s) (capacityOf s) source sink (member (h .2 .0)) side (v +ℤ pos 1) proves) (search parts),
             ))
-        go (inr (inl side)) = absurd (excludes v (member (h .2 .0)) (sink-proves-less (sheetMap s) (capacityOf s) source sink (member (h .2 .0)) side (v +ℤ pos 1) v below proves) (atℤ flows') largest-carries)
+        go (inr (inl side)) = absurd (excludes s (known .sheet) source sink (known .ends-two) v (member (h .2 .0)) (sink-proves-less (sheetMap s) (capacityOf s) source sink (member (h .2 .0)) side (v +ℤ pos 1) v below proves) (atℤ flows') largest-carries)
           where
             below : v ≤ℤ (v +ℤ pos 1)
             below = let k = atoms₁ v in at-most (search parts) (omega arith)
-        go (inr (inr side)) = absurd (excludes v (member (h .2 .0)) (beside-proves-all (sheetMap s) (capacityOf s) source sink (member (h .2 .0)) side (v +ℤ pos 1) proves v) (atℤ flows') largest-carries)
+        go (inr (inr side)) = absurd (excludes s (known .sheet) source sink (known .ends-two) v (member (h .2 .0)) (beside-proves-all (sheetMap s) (capacityOf s) source sink (member (h .2 .0)) side (v +ℤ pos 1) proves v) (atℤ flows') largest-carries)
 
     -- it lies within ±512,000,000
     pub largest-small : Limited 512000000 v
@@ -169,7 +162,7 @@ module _ (s : List ℕ) (source sink : ℕ) (flows flows' : List ℤ) (set set' 
     none-proves = beside-proves (sheetMap s) (capacityOf s) source sink (member (h .2 .0)) (h .2 .2) (h .2 .3)
 
     pub none-delivered : (value : ℤ) (x : ℕ → ℤ) → Delivers s source sink value x → ⊥
-    none-delivered value = excludes value (member (h .2 .0)) (none-proves value)
+    none-delivered value = excludes s (known .sheet) source sink (known .ends-two) value (member (h .2 .0)) (none-proves value)
 
   -- ── exactly when ──
   module _ (answer : LargestAnswer) (found : FindsLargest s source sink flows flows' set set' answer) where

@@ -7,4 +7,5 @@ pub mod LevelsFound
 pub mod Round
 pub mod Solving
 pub mod Finding
+pub mod Asked
 pub mod Demand3

@@ -1,23 +1,21 @@
 -- Demand 3, of the key's text: "a delivery is called impossible by "cannot" and possible by "can", in Solve's answer and in the key's text alike". For bytes that no check
 -- refuses, "cannot" is printed exactly when no whole-number settings carry the delivery, and "can" otherwise; bytes that a check refuses have "refused" and its number.
 -- Everything here follows from `Key`, and so from the contracts of `key_text` and `write_key`. Settings are any function from edges to whole numbers.
-use mathlib.Core.Path.{_≡_, refl, sym, ap, _∙_}
+use mathlib.Core.Path.{_≡_, sym, ap, _∙_}
 use mathlib.Core.Logic.{_⊎_, inl, inr}
-use mathlib.Core.List.{List, [], _∷_, _++_}
-use Prim.Native.Nat.{ℕ, _≤_, _<_}
+use mathlib.Core.List.{List, _++_}
+use Prim.Native.Nat.{ℕ}
 use native.Mathlib.Omega.{arith}
-use lib.ListN.{length, getD, replicate, length-replicate}
+use lib.ListN.{getD, replicate, length-replicate}
 use lib.IntN.{ℤ, pos}
 use Rattle.refusals.specs.Order.{NoneOf, FirstOf}
 use Rattle.refusals.proofs.Order.{first-none, first-one}
 use Rattle.flows.specs.Highest.{Highest}
 use Rattle.flows.specs.ProvingSet.{Proves, SetOf, member, size}
-use Rattle.flows.proofs.HighestFlow.{highest-unique}
 use Rattle.records.specs.Sheet.{nodesOf, edgesOf, capacityOf, sheetMap}
 use Rattle.analyser.specs.Solve.{solveChecks}
-use Rattle.analyser.proofs.Marking.{ends-in}
-use Rattle.analyser.proofs.SheetPlane.{plane, root-in}
-use Rattle.analyser.proofs.Solving.{Accepted, accepted, ends-differ}
+use Rattle.analyser.proofs.Solving.{Accepted, accepted}
+use Rattle.analyser.proofs.Asked.{one-highest}
 use Rattle.analyser.proofs.Demand3.{Delivers, set-excludes}
 use Rattle.key_text.specs.Question.{sourceOf, sinkOf, valueOf, sheetOf, keyChecks}
 use Rattle.key_text.specs.Text.{canWord, cannotWord, refusedWord, edgeLine, canLine, canText, cannotLine, cannotText, refusedText}
@@ -77,12 +75,8 @@ module _ (b : List ℕ) (asked : NoneOf (keyChecks b)) where
   excluded : (words : List ℕ) → Proves (sheetMap s) (capacityOf s) (sourceOf b) (sinkOf b) (valueOf b) (member words) → (x : ℕ → ℤ) → Carried x → ⊥
   excluded = set-excludes s (sourceOf b) (sinkOf b) (valueOf b) noFlows noSet question-asked
 
-  one-highest : (x y : ℕ → ℤ) → Highest (sheetMap s) 0 (capacityOf s) (sourceOf b) (sinkOf b) (valueOf b) x → Highest (sheetMap s) 0 (capacityOf s) (sourceOf b) (sinkOf b) (valueOf b) y
-      → (e : ℕ) → e < edgesOf s → x e ≡ y e
-  one-highest x y h g =
-      let a = accepted s (sourceOf b) (sinkOf b) (valueOf b) noFlows noSet question-asked in
-      let e = ends-in (nodesOf s) (sourceOf b) (sinkOf b) (a .ends-two) in
-      highest-unique (plane s (a .sheet)) (e .0) (e .1) (ends-differ (nodesOf s) (sourceOf b) (sinkOf b) (a .ends-two)) 0 (root-in s (a .sheet)) x y h g
+  known : Accepted s (sourceOf b) (sinkOf b) (valueOf b) noFlows noSet
+  known = accepted s (sourceOf b) (sinkOf b) (valueOf b) noFlows noSet question-asked
 
   -- ── an accepted question is answered ──
   pub never-refused : (t : List ℕ) → Key b t → Says refusedWord t → ⊥
@@ -119,7 +113,7 @@ module _ (b : List ℕ) (asked : NoneOf (keyChecks b)) where
       let carried = can-exactly t key .0 c in
       let y = can-prints u other (can-exactly u other .1 (carried .0) (carried .1)) in
       x .2
-      ∙ ap (λ l. canLine (valueOf b) ++ l) (lines-agree (edgesOf s) (λ e. edgeLine e (x .0 e)) (λ e. edgeLine e (y .0 e)) (λ e l. ap (edgeLine e) (one-highest (x .0) (y .0) (x .1) (y .1) e l)))
+      ∙ ap (λ l. canLine (valueOf b) ++ l) (lines-agree (edgesOf s) (λ e. edgeLine e (x .0 e)) (λ e. edgeLine e (y .0 e)) (λ e l. ap (edgeLine e) (one-highest s (known .sheet) (sourceOf b) (sinkOf b) (known .ends-two) (valueOf b) (x .0) (y .0) (x .1) (y .1) e l)))
       ∙ sym (y .2)
 
   -- ── what stands under "cannot": the nodes of a set that proves it, and its size ──

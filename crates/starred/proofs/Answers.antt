@@ -16,12 +16,10 @@ use Rattle.refusals.proofs.Order.{first-none, first-one, neither}
 use Rattle.faces.specs.Map.{darts}
 use Rattle.faces.specs.Face.{faces, left}
 use Rattle.faces.specs.Cut.{cut}
-use Rattle.flows.specs.Settings.{Within, Carries, Balanced}
+use Rattle.flows.specs.Settings.{Within, Balanced}
 use Rattle.flows.specs.Levels.{Levels}
 use Rattle.flows.specs.Highest.{Highest}
 use Rattle.flows.specs.ProvingSet.{Proves, member, size, SetOf}
-use Rattle.flows.proofs.Exact.{proves-excludes}
-use Rattle.flows.proofs.HighestFlow.{highest-unique}
 use Rattle.flows.proofs.Interval.{AtSource, source-limits}
 use Rattle.balance.proofs.Within.{within-none}
 use Rattle.balance.proofs.Balance.{circulation-none}
@@ -45,10 +43,11 @@ use Rattle.analyser.specs.declared.LevelAnswer.{LevelAnswer}
 use Rattle.analyser.specs.declared.LevelAnswer.the-variants.{Done}
 use Rattle.analyser.specs.declared.LevelAnswer.the-variants as level
 use Rattle.analyser.proofs.Marking.{ends-in}
-use Rattle.analyser.proofs.SheetPlane.{plane, root-in, levels-unique}
+use Rattle.analyser.proofs.SheetPlane.{plane, levels-unique}
 use Rattle.analyser.proofs.Solving.{solve-sheet, solve-none, ends-differ}
 use Rattle.analyser.proofs.Finding.{largest-none}
 use Rattle.analyser.proofs.LevelsFound.{levels-none}
+use Rattle.analyser.proofs.Asked.{excludes, one-highest}
 use Rattle.analyser.proofs.Demand3.{never-refused, largest-answered, nothing-greater, none-delivered}
 use Rattle.starred.specs.Table.{front, Room, SolveCan, SolveCannot, SolveRefused, LargestIs, LargestNone, LevelsAre, InFace}
 use Rattle.starred.proofs.Sheets.{Good}
@@ -101,19 +100,6 @@ has-room : (s : List ℕ) (flows : List ℤ) (set : List ℕ) → Room s flows s
 unfolding NoneOf roomChecks
 has-room s flows set room = (neither (λ h. omega (arith, room .0)) (λ h. omega (arith, room .1)), tt)
 
-module _ (s : List ℕ) (sheet : NoneOf (sheetChecks s)) (source sink : ℕ) (two : NoneOf (endChecks (nodesOf s) source sink)) where
-  -- a set that proves the value impossible excludes all that carries it, and the highest answer is one
-  pub excludes : (value : ℤ) (words : List ℕ) → Proves (sheetMap s) (capacityOf s) source sink value (member words) → (x : ℕ → ℤ) → Carries (sheetMap s) (capacityOf s) source sink value x → ⊥
-  excludes value words =
-      let e = ends-in (nodesOf s) source sink two in
-      proves-excludes (plane s sheet .sound .range) (e .0) (e .1) (ends-differ (nodesOf s) source sink two) (capacityOf s) value (member words)
-
-  pub one-highest : (value : ℤ) (x y : ℕ → ℤ) → Highest (sheetMap s) 0 (capacityOf s) source sink value x → Highest (sheetMap s) 0 (capacityOf s) source sink value y
-      → (e : ℕ) → e < edgesOf s → x e ≡ y e
-  one-highest value x y =
-      let e = ends-in (nodesOf s) source sink two in
-      highest-unique (plane s sheet) (e .0) (e .1) (ends-differ (nodesOf s) source sink two) 0 (root-in s sheet) x y
-
 -- ── Solve ──
 module _ {s : List ℕ} {𝓓 : Drawing} (good : Good s 𝓓) (source sink : ℕ) (value : ℤ) (inside : NoneOf (valueChecks value)) where
   asked : (flows : List ℤ) (set : List ℕ) → NoneOf (endChecks (nodesOf s) source sink) → Room s flows set → NoneOf (solveChecks s source sink value flows set)
@@ -133,7 +119,7 @@ module _ {s : List ℕ} {𝓓 : Drawing} (good : Good s 𝓓) (source sink : ℕ
             (h .1 .2),
         h .2,
       )
-      go (Cannot n) h = absurd (excludes s (good .accepted) source sink (k .ends) value (h .1 .0) (h .1 .2) (atℤ settings) (k .highest .carries))
+      go (Cannot n) h = absurd (excludes s (good .accepted) source sink (k .ends) value (member (h .1 .0)) (h .1 .2) (atℤ settings) (k .highest .carries))
       go (Refused j p) h = absurd (never-refused s source sink value flows flows' set set' (asked flows set (k .ends) room) j p h)
 
   pub solve-cannot : (words : List ℕ) (n : ℕ) → size words ≡ n → CannotBy source sink value words 𝓓 → SolveCannot s source sink value words n
@@ -143,7 +129,7 @@ module _ {s : List ℕ} {𝓓 : Drawing} (good : Good s 𝓓) (source sink : ℕ
       k = on-sheet good (CannotBy source sink value words) by
 
       go : (a : SolveAnswer) → Solves s source sink value flows flows' set set' a → (a ≡ Cannot n) × (set' ≡ front words set) × (flows' ≡ flows)
-      go Can h = absurd (excludes s (good .accepted) source sink (k .ends) value words (k .proves) (h .1 .0) (h .1 .1 .carries))
+      go Can h = absurd (excludes s (good .accepted) source sink (k .ends) value (member words) (k .proves) (h .1 .0) (h .1 .1 .carries))
       go (Cannot m) h =
           let same : h .1 .0 ≡ words = k .only (h .1 .0) (h .1 .1 .is-set) (h .1 .2) in
           (ap Cannot (h .1 .3 ∙ ap size same ∙ ones), set-front (h .1 .1) same, h .2)
@@ -212,7 +198,7 @@ module _ {s : List ℕ} {𝓓 : Drawing} (good : Good s 𝓓) (source sink : ℕ
       k = on-sheet good (NoneBy source sink words) by
 
       go : (a : LargestAnswer) → FindsLargest s source sink flows flows' set set' a → (a ≡ None) × (flows' ≡ flows) × (set' ≡ front words set)
-      go (Value v) h = absurd (excludes s (good .accepted) source sink (k .ends) v words (k .proves v) (h .1 .0) (h .1 .1 .carries))
+      go (Value v) h = absurd (excludes s (good .accepted) source sink (k .ends) v (member words) (k .proves v) (h .1 .0) (h .1 .1 .carries))
       go None h = (refl, h .1, set-front (h .2 .1) (k .only (h .2 .0) (h .2 .1 .is-set) (h .2 .2) (h .2 .3)))
       go (largest.Refused j p) h = absurd (largest-answered s source sink flows flows' set set' (sought flows set (k .ends) room) j p h)
 

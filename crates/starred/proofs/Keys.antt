@@ -1,6 +1,6 @@
 -- The key's text for a question and a sheet that holds a known drawing: the same facts as of Solve, said of the text.
 use mathlib.Core.Path.{_≡_, refl, sym, _∙_, ap, ap₂}
-use mathlib.Core.List.{List, [], _∷_, _++_}
+use mathlib.Core.List.{List, _++_}
 use Prim.Native.Nat.{ℕ, _<_}
 use native.Mathlib.Omega.{arith}
 use lib.ListN.{length, drop}
@@ -8,7 +8,7 @@ use lib.IntN.{ℤ}
 use Rattle.refusals.specs.Order.{Check, NoneOf, FirstOf}
 use Rattle.refusals.proofs.Order.{none-append, first-left, first-right, first-none, first-one}
 use Rattle.fields.specs.Fields.{le16, leBits, le32}
-use Rattle.flows.specs.ProvingSet.{size}
+use Rattle.flows.specs.ProvingSet.{member, size}
 use Rattle.records.specs.Drawing.{Drawing}
 use Rattle.records.specs.Record.{bodyLength, recordChecks}
 use Rattle.records.specs.Sheet.{nodesOf, edgesOf, sheetDrawing}
@@ -16,6 +16,7 @@ use Rattle.records.proofs.Record.{record-passes}
 use Rattle.sheets.specs.Network.{atℤ}
 use Rattle.sheets.specs.Open.{sheetChecks}
 use Rattle.analyser.specs.Question.{endChecks, valueChecks}
+use Rattle.analyser.proofs.Asked.{excludes, one-highest}
 use Rattle.key_text.specs.Question.{sourceOf, sinkOf, valueOf, sheetOf, keyChecks}
 use Rattle.key_text.specs.Text.{canLine, edgeLine, canText, cannotText, refusedText}
 use Rattle.key_text.specs.Key.{Key, can, cannot, refused}
@@ -23,7 +24,7 @@ use Rattle.key_text.proofs.Joined.{lines-agree}
 use Rattle.starred.specs.Drawings.{question}
 use Rattle.starred.specs.Table.{KeyPrints}
 use Rattle.starred.proofs.Sheets.{Good}
-use Rattle.starred.proofs.Answers.{CanBy, CannotBy, on-sheet, excludes, one-highest}
+use Rattle.starred.proofs.Answers.{CanBy, CannotBy, on-sheet}
 
 -- a question record is whole and of its kind, whatever it asks and whatever follows
 pub question-whole : (source sink : ℕ) (value : ℤ) (s : List ℕ) → NoneOf (recordChecks (question source sink value ++ s) 3 0)
@@ -82,7 +83,7 @@ module _ (b : List ℕ) (whole : NoneOf (recordChecks b 3 0)) where
             e
             ∙ can-text (valueOf b) (edgesOf (sheetOf b)) (length settings) x (atℤ settings) (sym (k .long))
             (one-highest (sheetOf b) (good .accepted) (sourceOf b) (sinkOf b) (k .ends) (valueOf b) x (atℤ settings) h (k .highest))
-        go (cannot none ws h p e) = absurd (excludes (sheetOf b) (good .accepted) (sourceOf b) (sinkOf b) (k .ends) (valueOf b) ws p (atℤ settings) (k .highest .carries))
+        go (cannot none ws h p e) = absurd (excludes (sheetOf b) (good .accepted) (sourceOf b) (sinkOf b) (k .ends) (valueOf b) (member ws) p (atℤ settings) (k .highest .carries))
         go (refused j p h e) = absurd (first-none (keyChecks b) j p h (accepted (k .ends)))
 
     pub key-cannot : (words : List ℕ) → CannotBy (sourceOf b) (sinkOf b) (valueOf b) words 𝓓 → OnlyKey b (cannotText (valueOf b) (size words) (𝓓 .map .nodes) words)
@@ -92,7 +93,7 @@ module _ (b : List ℕ) (whole : NoneOf (recordChecks b 3 0)) where
         k = on-sheet good (CannotBy (sourceOf b) (sinkOf b) (valueOf b) words) by
 
         go : Key b t → t ≡ cannotText (valueOf b) (size words) (𝓓 .map .nodes) words
-        go (can none x h e) = absurd (excludes (sheetOf b) (good .accepted) (sourceOf b) (sinkOf b) (k .ends) (valueOf b) words (k .proves) x (h .carries))
+        go (can none x h e) = absurd (excludes (sheetOf b) (good .accepted) (sourceOf b) (sinkOf b) (k .ends) (valueOf b) (member words) (k .proves) x (h .carries))
         go (cannot none ws h p e) =
             e ∙ ap₂ (λ (n : ℕ) (l : List ℕ). cannotText (valueOf b) (size l) n l) (ap (λ (𝓔 : Drawing). 𝓔 .map .nodes) (good .drawing)) (k .only ws h p)
         go (refused j p h e) = absurd (first-none (keyChecks b) j p h (accepted (k .ends)))

@@ -1,0 +1,31 @@
+-- An accepted sheet with two ends that are nodes: a proving set excludes every flow of its value, and the highest answer is one. What is said of Solve, of Largest and of
+-- the key rests on these two.
+use mathlib.Core.Path.{_≡_}
+use mathlib.Core.Bool.{Bool}
+use mathlib.Core.List.{List}
+use Prim.Native.Nat.{ℕ, _<_}
+use lib.IntN.{ℤ}
+use Rattle.refusals.specs.Order.{NoneOf}
+use Rattle.flows.specs.Settings.{Carries}
+use Rattle.flows.specs.Highest.{Highest}
+use Rattle.flows.specs.ProvingSet.{Proves}
+use Rattle.flows.proofs.Exact.{proves-excludes}
+use Rattle.flows.proofs.HighestFlow.{highest-unique}
+use Rattle.records.specs.Sheet.{nodesOf, edgesOf, capacityOf, sheetMap}
+use Rattle.sheets.specs.Open.{sheetChecks}
+use Rattle.analyser.specs.Question.{endChecks}
+use Rattle.analyser.proofs.Marking.{ends-in}
+use Rattle.analyser.proofs.SheetPlane.{plane, root-in}
+use Rattle.analyser.proofs.Solving.{ends-differ}
+
+module _ (s : List ℕ) (sheet : NoneOf (sheetChecks s)) (source sink : ℕ) (two : NoneOf (endChecks (nodesOf s) source sink)) where
+  pub excludes : (value : ℤ) (S : ℕ → Bool) → Proves (sheetMap s) (capacityOf s) source sink value S → (x : ℕ → ℤ) → Carries (sheetMap s) (capacityOf s) source sink value x → ⊥
+  excludes value S =
+      let e = ends-in (nodesOf s) source sink two in
+      proves-excludes (plane s sheet .sound .range) (e .0) (e .1) (ends-differ (nodesOf s) source sink two) (capacityOf s) value S
+
+  pub one-highest : (value : ℤ) (x y : ℕ → ℤ) → Highest (sheetMap s) 0 (capacityOf s) source sink value x → Highest (sheetMap s) 0 (capacityOf s) source sink value y
+      → (e : ℕ) → e < edgesOf s → x e ≡ y e
+  one-highest value x y =
+      let e = ends-in (nodesOf s) source sink two in
+      highest-unique (plane s sheet) (e .0) (e .1) (ends-differ (nodesOf s) source sink two) 0 (root-in s sheet) x y
