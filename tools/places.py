@@ -15,6 +15,23 @@ ROUNDS = 40  # of making room, at most
 ASIDE, ABOVE, BELOW = 96, 100, 88  # the margins of a page
 
 
+class NoPicture(Exception):
+    """A picture would be wrong, so there is none."""
+
+
+def rounds(step):
+    """The rounds of darts by a step that is one to one, in order of their lowest dart, each from there."""
+    seen, found = set(), []
+    for dart in range(len(step)):
+        one = []
+        while dart not in seen:
+            seen.add(dart)
+            one.append(dart)
+            dart = step[dart]
+        found += [one] if one else []
+    return found
+
+
 class Drawing:
     """Nodes, and for each dart its tail and its turn; source and sink only say how it is to lie on the page."""
 
@@ -24,15 +41,7 @@ class Drawing:
 
     def faces(self):
         """Rounds of the face step, the turn of the reverse. As turns are clockwise, a face lies to the left of its darts."""
-        seen, faces = set(), []
-        for dart in range(len(self.tail)):
-            face = []
-            while dart not in seen:
-                seen.add(dart)
-                face.append(dart)
-                dart = self.rotation[dart ^ 1]
-            faces += [face] if face else []
-        return faces
+        return rounds([self.rotation[dart ^ 1] for dart in range(len(self.tail))])
 
     def outer_face(self):
         """The longest of the faces with both source and sink, or of those with one of them, or of all."""
@@ -201,7 +210,7 @@ def check_turns(drawing, curves):
         gaps[drawing.tail[dart]].append((angle[turn] - angle[dart]) % (2 * math.pi))
     for node in gaps:
         if len(gaps[node]) > 1 and (min(gaps[node]) < 1e-9 or abs(sum(gaps[node]) - 2 * math.pi) > 1e-6):
-            raise SystemExit(f"no picture: at node {node} it would not follow the turns clockwise")
+            raise NoPicture(f"at node {node} it would not follow the turns clockwise")
 
 
 def checked_curves(drawing, place):
@@ -214,6 +223,6 @@ def checked_curves(drawing, place):
         more = found - straight
         straight |= more
     if found:
-        raise SystemExit(f"no picture: the channels {sorted(found)} would cross")
+        raise NoPicture(f"{len(found)} channels would cross, the lowest are {', '.join(map(str, sorted(found)[:3]))}")
     check_turns(drawing, curves)
     return curves
