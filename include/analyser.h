@@ -1,4 +1,5 @@
 // The analyser's C interface: every operation on sheets, under a plain name. Build the library with `rt staticlib abi` and link target/staticlib/libabi.a (x86-64 Linux).
+// Of the C library it needs memcpy and memset, and nothing else.
 //
 // WORDS. The paper's headgate is the source and its outfall the sink; a channel is an edge with two darts, 2e from its tail to its head and 2e + 1 back; a dart's limit is the
 // most that it may carry (below zero: the least the other way); a dart's turn is the next dart clockwise with the same tail; a setting is the flow on dart 2e. Nodes, channels,
@@ -23,6 +24,9 @@
 //     bytes 1-2, 3-4     tail, head
 //     bytes 5-6, 7-8     turn of dart 2e, turn of dart 2e + 1
 //     bytes 9-12, 13-16  forward limit (of dart 2e), back limit (of dart 2e + 1)
+//
+// Who reads a sheet from a file or a stream reads up to one byte more than the longest: ANALYSER_SHEET_BYTES + 1, or ANALYSER_KEY_INPUT_BYTES + 1 for a question with its sheet.
+// Bytes left over are refused with 8, and a buffer of exactly the longest would hide them. What lies beyond that one byte changes no answer.
 //
 // THE SHEET CHECKS, in order. Head: 1 no first byte, 2, 1 body cut short, 3. For each channel in turn: 1 no byte, 2, 1 body cut short, 4, 5, 6, 7. Then 8. Then 9, 10, 11, 12.
 #ifndef ANALYSER_H
