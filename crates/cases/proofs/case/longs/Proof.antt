@@ -1,0 +1,83 @@
+use Prim.Native.Nat.{ℕ, _≤_, _<_, _-_, _+_}
+use mathlib.Core.Path.{_≡_, refl}
+use native.Mathlib.Omega.{arith}
+use lib.ListN.{length, length-set}
+use borrow.Author.Needs.{needs}
+use Rattle.cases.proofs.case.longs.Statement.{statement}
+use Rattle.cases.proofs.case.longs.Tie as tie
+use Rattle.cases.proofs.case.longs.Reads as reads
+use Rattle.cases.proofs.case.longs.Lts as lts
+use Rattle.cases.proofs.case.long.Reads as long-reads
+
+abbrev Inv-loop : tie.InvT-loop
+Inv-loop s to₀ i₀ to i = (length to ≡ length to₀) × (i ≤ length to)
+
+abbrev μ-loop : tie.MeasureT-loop
+μ-loop s to₀ i₀ to i = length to₀ - i
+
+-- src/case.rt:141:5
+loop-holds : tie.Need-loop-holds Inv-loop μ-loop
+loop-holds c = search needs
+
+-- src/case.rt:143:13
+same-length : tie.Need-same-length Inv-loop μ-loop
+same-length c = search needs
+
+-- src/case.rt:143:13
+returns : tie.Need-returns Inv-loop μ-loop
+returns c = search needs
+
+-- src/case.rt:145:25
+mul-long : tie.Need-mul-long Inv-loop μ-loop
+mul-long c = search needs
+
+-- src/case.rt:145:17
+long-requires : tie.Need-long-requires Inv-loop μ-loop
+long-requires c κs = search needs
+
+-- src/case.rt:145:9
+mul-to : tie.Need-mul-to Inv-loop μ-loop
+mul-to c = search needs
+
+-- src/case.rt:145:9
+slice-write-to : tie.Need-slice-write-to Inv-loop μ-loop
+slice-write-to c = search needs
+
+-- src/case.rt:146:9
+add-i : tie.Need-add-i Inv-loop μ-loop
+add-i c = search needs
+
+-- src/case.rt:141:5
+loop-less : tie.Need-loop-less Inv-loop μ-loop
+loop-less c = search needs
+
+-- src/case.rt:141:5
+loop-again : tie.Need-loop-again Inv-loop μ-loop
+loop-again c = (simp length-set (omega arith), simp length-set (omega arith))
+
+-- src/case.rt:137:1
+same-length-2 : tie.Need-same-length-2 Inv-loop μ-loop
+same-length-2 c = search needs
+
+-- src/case.rt:137:1
+returns-2 : tie.Need-returns-2 Inv-loop μ-loop
+returns-2 c = search needs
+
+pub longs-spec : {M : Type 1} → statement M
+longs-spec =
+    tie.close
+    (tie.spec
+    Inv-loop
+    μ-loop
+    loop-holds
+    same-length
+    returns
+    mul-long
+    long-requires
+    mul-to
+    slice-write-to
+    add-i
+    loop-less
+    loop-again
+    same-length-2
+    returns-2)
