@@ -1,14 +1,8 @@
-// A case in bytes, as `tools/cases` packs it: the operation at 0; four numbers, two of 16 bits at 1 and 3, two of 32 with their sign at 5 and 9; from 13 on where
-// each of eight parts starts and ends, in 16 bits each; then the parts. Part 0 is the name, 1 a sheet or other bytes, 2 to 7 the slices of the operation in their order.
+// A case in bytes, as `tools/cases` packs it: the operation at 0; four numbers, two of 16 bits at 1 and 3, two of 32 with their sign at 5 and 9; from 13 on, in 16 bits
+// each, where part 0 starts and where each of sixteen parts ends, the next starting there; then the parts. Part 0 is the operation with the case's name, 1 a sheet or
+// other bytes; then come the slices in their order, each as two parts: its name and its elements.
 // What lies outside reads as zero or as nothing: a case that is not well formed is not run.
-ghost use Prim.Native.Nat.{_+_, _<_, _≤_};
-ghost use lib.ListN.{length};
-
-fn wide(x: u16) -> usize
-    ensures { λ r. ⌜ r < 65536 ⌝ }
-{
-    x as usize
-}
+ghost use Prim.Native.Nat.{_+_, _<_};
 
 fn wide_bits(x: u32) -> u64
     ensures { λ r. ⌜ r < 4294967296 ⌝ }
@@ -16,11 +10,12 @@ fn wide_bits(x: u32) -> u64
     x as u64
 }
 
-pub fn operation(s: &[u8]) -> u8 {
-    if s.len() == 0 {
-        return 0;
+// The byte at a place.
+pub fn byte(s: &[u8], at: usize) -> u8 {
+    if at < s.len() {
+        return s[at];
     }
-    s[0]
+    0
 }
 
 // The number of 16 bits at a place.
@@ -58,15 +53,15 @@ fn long(s: &[u8], at: usize) -> u64
 pub fn count(s: &[u8], at: usize) -> usize
     ensures { λ r. ⌜ r < 65536 ⌝ }
 {
-    wide(half(s, at))
+    half(s, at) as usize
 }
 
 // A part of a case; one that does not lie within it is empty.
 pub fn part(s: &[u8], k: usize) -> &[u8]
-    requires { ⌜ k < 8 ⌝ }
+    requires { ⌜ k < 16 ⌝ }
 {
-    let start = count(s, 13 + 4 * k);
-    let end = count(s, 15 + 4 * k);
+    let start = count(s, 13 + 2 * k);
+    let end = count(s, 15 + 2 * k);
     if end < start {
         return &s[0..0];
     }
@@ -76,98 +71,81 @@ pub fn part(s: &[u8], k: usize) -> &[u8]
     &s[start..end]
 }
 
-// Whether a part lies within its case, and is not longer than the arrays here.
-fn part_fits(s: &[u8], k: usize) -> bool
-    requires { ⌜ k < 8 ⌝ }
-{
-    let start = count(s, 13 + 4 * k);
-    let end = count(s, 15 + 4 * k);
-    if end < start {
-        return false;
-    }
-    if s.len() < end {
-        return false;
-    }
-    end - start <= 16384
-}
-
+// Whether every part lies within the case, one behind another.
 pub fn well_formed(s: &[u8]) -> bool {
-    if s.len() < 45 {
-        return false;
-    }
     let mut k: usize = 0;
-    while k < 8 {
-        if !part_fits(s, k) {
+    while k < 16 {
+        if count(s, 15 + 2 * k) < count(s, 13 + 2 * k) {
             return false;
         }
         k += 1;
     }
-    true
+    count(s, 45) == s.len()
 }
 
-// The numbers of a part, put into the front of an array: how many there were, or as many as there is room for.
-pub fn halves(s: &[u8], to: &mut [u16]) -> usize
-    ensures { λ r. ⌜ r ≤ length (now (to .exit)) ⌝ }
+// The numbers of a part, put into the front of an array, which is lent on as far as they go.
+pub fn halves<'a>(s: &[u8], k: usize, to: &'a mut [u16]) -> &'a mut [u16]
+    requires { ⌜ k < 16 ⌝ }
 {
-    let mut i: usize = 0;
-    while i < to.len() {
-        if s.len() / 2 <= i {
-            return i;
-        }
-        to[i] = half(s, 2 * i);
-        i += 1;
-    }
-    i
-}
-
-pub fn words(s: &[u8], to: &mut [i32]) -> usize
-    ensures { λ r. ⌜ r ≤ length (now (to .exit)) ⌝ }
-{
-    let mut i: usize = 0;
-    while i < to.len() {
-        if s.len() / 4 <= i {
-            return i;
-        }
-        to[i] = word(s, 4 * i);
-        i += 1;
-    }
-    i
-}
-
-pub fn longs(s: &[u8], to: &mut [u64]) -> usize
-    ensures { λ r. ⌜ r ≤ length (now (to .exit)) ⌝ }
-{
-    let mut i: usize = 0;
-    while i < to.len() {
-        if s.len() / 8 <= i {
-            return i;
-        }
-        to[i] = long(s, 8 * i);
-        i += 1;
-    }
-    i
-}
-
-// A slice of bytes comes as its length and the one byte that it holds throughout.
-pub fn filled(s: &[u8], to: &mut [u8]) -> usize
-    ensures { λ r. ⌜ r ≤ length (now (to .exit)) ⌝ }
-{
-    let n = count(s, 0);
-    let byte = last(s);
+    let from = part(s, k);
+    let n = from.len() / 2;
     let mut i: usize = 0;
     while i < to.len() {
         if n <= i {
-            return i;
+            return &mut to[0..i];
         }
-        to[i] = byte;
+        to[i] = half(from, 2 * i);
         i += 1;
     }
-    i
+    to
 }
 
-fn last(s: &[u8]) -> u8 {
-    if s.len() == 0 {
-        return 0;
+pub fn words<'a>(s: &[u8], k: usize, to: &'a mut [i32]) -> &'a mut [i32]
+    requires { ⌜ k < 16 ⌝ }
+{
+    let from = part(s, k);
+    let n = from.len() / 4;
+    let mut i: usize = 0;
+    while i < to.len() {
+        if n <= i {
+            return &mut to[0..i];
+        }
+        to[i] = word(from, 4 * i);
+        i += 1;
     }
-    s[s.len() - 1]
+    to
+}
+
+pub fn longs<'a>(s: &[u8], k: usize, to: &'a mut [u64]) -> &'a mut [u64]
+    requires { ⌜ k < 16 ⌝ }
+{
+    let from = part(s, k);
+    let n = from.len() / 8;
+    let mut i: usize = 0;
+    while i < to.len() {
+        if n <= i {
+            return &mut to[0..i];
+        }
+        to[i] = long(from, 8 * i);
+        i += 1;
+    }
+    to
+}
+
+// A slice of bytes comes as its length and the one byte that it holds throughout.
+pub fn filled<'a>(s: &[u8], k: usize, to: &'a mut [u8]) -> &'a mut [u8]
+    requires { ⌜ k < 16 ⌝ }
+{
+    let from = part(s, k);
+    let n = count(from, 0);
+    let value = byte(from, 2);
+    let mut i: usize = 0;
+    while i < to.len() {
+        if n <= i {
+            return &mut to[0..i];
+        }
+        to[i] = value;
+        i += 1;
+    }
+    to
 }

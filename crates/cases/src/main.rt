@@ -9,7 +9,7 @@ mod say;
 
 // The operation of a case. A new one is an arm here, a function in `operations` and a row in `tools/cases`.
 fn run(s: &[u8]) {
-    match case::operation(s) {
+    match case::byte(s, 0) {
         1 => operations::read(s),
         2 => operations::write(s),
         3 => operations::solve(s),
@@ -53,8 +53,7 @@ fn next(buffer: &mut [u8]) -> usize
 }
 
 fn malformed(at: usize) {
-    say::say(b"malformed at");
-    say::number(at as u64);
+    say::count(b"malformed at", at);
     say::say(b"\n");
 }
 

@@ -26,56 +26,60 @@ fn say_read(answer: ReadAnswer) {
 
 fn read_into(s: &[u8], tails: &mut [u16], rotations: &mut [u16], capacities: &mut [i32]) {
     say_read(sheets::read(sheet(s), tails, rotations, capacities));
-    say::halves(b", tails", tails);
-    say::halves(b", rotations", rotations);
-    say::words(b", capacities", capacities);
+    say::halves(s, 2, tails);
+    say::halves(s, 4, rotations);
+    say::words(s, 6, capacities);
 }
 
 pub fn read(s: &[u8]) {
     let mut tails = [0u16; 8192];
     let mut rotations = [0u16; 8192];
-    let mut capacities = [0i32; 4096];
-    let l = case::halves(case::part(s, 2), &mut tails);
-    let m = case::halves(case::part(s, 3), &mut rotations);
-    let n = case::words(case::part(s, 4), &mut capacities);
+    let mut capacities = [0i32; 8192];
     read_into(
         s,
-        &mut tails[0..l],
-        &mut rotations[0..m],
-        &mut capacities[0..n],
+        case::halves(s, 3, &mut tails),
+        case::halves(s, 5, &mut rotations),
+        case::words(s, 7, &mut capacities),
     );
 }
 
 fn say_write(answer: WriteAnswer) {
     match answer {
-        WriteAnswer::Bytes(n) => {
-            say::say(b": bytes");
-            say::count(n);
-        }
+        WriteAnswer::Bytes(n) => say::count(b": bytes", n),
         WriteAnswer::Refused(k, p) => say::refused(k, p),
     }
 }
 
-fn write_from(nodes: u16, tails: &[u16], rotations: &[u16], capacities: &[i32], out: &mut [u8]) {
-    say_write(sheets::write(nodes, tails, rotations, capacities, out));
-    say::bytes(b", out", out);
+fn write_into(
+    s: &[u8],
+    tails: &mut [u16],
+    rotations: &mut [u16],
+    capacities: &mut [i32],
+    out: &mut [u8],
+) {
+    say_write(sheets::write(case::half(s, 1), tails, rotations, capacities, out));
+    say::bytes(s, 8, out);
+}
+
+fn write_from(s: &[u8], tails: &mut [u16], rotations: &mut [u16]) {
+    let mut capacities = [0i32; 8192];
+    let mut out = [0u8; 65536];
+    write_into(
+        s,
+        tails,
+        rotations,
+        case::words(s, 7, &mut capacities),
+        case::filled(s, 9, &mut out),
+    );
 }
 
 pub fn write(s: &[u8]) {
     let mut tails = [0u16; 8192];
     let mut rotations = [0u16; 8192];
-    let mut capacities = [0i32; 4096];
-    let mut out = [0u8; 65536];
-    let l = case::halves(case::part(s, 2), &mut tails);
-    let m = case::halves(case::part(s, 3), &mut rotations);
-    let n = case::words(case::part(s, 4), &mut capacities);
-    let o = case::filled(case::part(s, 5), &mut out);
     write_from(
-        case::half(s, 1),
-        &tails[0..l],
-        &rotations[0..m],
-        &capacities[0..n],
-        &mut out[0..o],
+        s,
+        case::halves(s, 3, &mut tails),
+        case::halves(s, 5, &mut rotations),
     );
 }
 
@@ -95,16 +99,18 @@ fn solve_into(s: &[u8], flows: &mut [i32], set: &mut [u64]) {
     let sink = case::half(s, 3);
     let value = case::word(s, 5);
     say_solve(analyser::solve(sheet(s), source, sink, value, flows, set));
-    say::words(b", flows", flows);
-    say::longs(b", set", set);
+    say::words(s, 2, flows);
+    say::longs(s, 4, set);
 }
 
 pub fn solve(s: &[u8]) {
-    let mut flows = [0i32; 4096];
-    let mut set = [0u64; 2048];
-    let m = case::words(case::part(s, 2), &mut flows);
-    let n = case::longs(case::part(s, 3), &mut set);
-    solve_into(s, &mut flows[0..m], &mut set[0..n]);
+    let mut flows = [0i32; 8192];
+    let mut set = [0u64; 8192];
+    solve_into(
+        s,
+        case::words(s, 3, &mut flows),
+        case::longs(s, 5, &mut set),
+    );
 }
 
 fn say_largest(answer: LargestAnswer) {
@@ -122,16 +128,18 @@ fn largest_into(s: &[u8], flows: &mut [i32], set: &mut [u64]) {
     let source = case::half(s, 1);
     let sink = case::half(s, 3);
     say_largest(analyser::largest(sheet(s), source, sink, flows, set));
-    say::words(b", flows", flows);
-    say::longs(b", set", set);
+    say::words(s, 2, flows);
+    say::longs(s, 4, set);
 }
 
 pub fn largest(s: &[u8]) {
-    let mut flows = [0i32; 4096];
-    let mut set = [0u64; 2048];
-    let m = case::words(case::part(s, 2), &mut flows);
-    let n = case::longs(case::part(s, 3), &mut set);
-    largest_into(s, &mut flows[0..m], &mut set[0..n]);
+    let mut flows = [0i32; 8192];
+    let mut set = [0u64; 8192];
+    largest_into(
+        s,
+        case::words(s, 3, &mut flows),
+        case::longs(s, 5, &mut set),
+    );
 }
 
 fn say_mark(answer: MarkAnswer) {
@@ -144,12 +152,15 @@ fn say_mark(answer: MarkAnswer) {
     }
 }
 
-pub fn mark(s: &[u8]) {
-    let mut flows = [0i32; 4096];
-    let n = case::words(case::part(s, 2), &mut flows);
+fn mark_of(s: &[u8], flows: &mut [i32]) {
     let source = case::half(s, 1);
     let sink = case::half(s, 3);
-    say_mark(analyser::mark(sheet(s), source, sink, &flows[0..n]));
+    say_mark(analyser::mark(sheet(s), source, sink, flows));
+}
+
+pub fn mark(s: &[u8]) {
+    let mut flows = [0i32; 8192];
+    mark_of(s, case::words(s, 3, &mut flows));
 }
 
 fn say_levels(answer: LevelAnswer) {
@@ -159,35 +170,37 @@ fn say_levels(answer: LevelAnswer) {
     }
 }
 
-fn levels_into(s: &[u8], flows: &[i32], levels: &mut [i32]) {
+fn levels_into(s: &[u8], flows: &mut [i32], levels: &mut [i32]) {
     say_levels(analyser::levels_from_settings(sheet(s), flows, levels));
-    say::words(b", levels", levels);
+    say::words(s, 4, levels);
 }
 
 pub fn levels(s: &[u8]) {
-    let mut flows = [0i32; 4096];
-    let mut levels = [0i32; 4096];
-    let m = case::words(case::part(s, 2), &mut flows);
-    let n = case::words(case::part(s, 3), &mut levels);
-    levels_into(s, &flows[0..m], &mut levels[0..n]);
+    let mut flows = [0i32; 8192];
+    let mut levels = [0i32; 8192];
+    levels_into(
+        s,
+        case::words(s, 3, &mut flows),
+        case::words(s, 5, &mut levels),
+    );
 }
 
-fn settings_into(s: &[u8], levels: &[i32], flows: &mut [i32]) {
+fn settings_into(s: &[u8], levels: &mut [i32], flows: &mut [i32]) {
     say_levels(analyser::settings_from_levels(sheet(s), levels, flows));
-    say::words(b", flows", flows);
+    say::words(s, 4, flows);
 }
 
 pub fn settings(s: &[u8]) {
-    let mut levels = [0i32; 4096];
-    let mut flows = [0i32; 4096];
-    let m = case::words(case::part(s, 2), &mut levels);
-    let n = case::words(case::part(s, 3), &mut flows);
-    settings_into(s, &levels[0..m], &mut flows[0..n]);
+    let mut levels = [0i32; 8192];
+    let mut flows = [0i32; 8192];
+    settings_into(
+        s,
+        case::words(s, 3, &mut levels),
+        case::words(s, 5, &mut flows),
+    );
 }
 
 fn say_text(text: &[u8; 6671], n: usize) {
-    say::say(b": bytes");
-    say::count(n);
     say::text(text, n);
 }
 
@@ -198,27 +211,18 @@ pub fn key(s: &[u8]) {
     say_text(&text, n);
 }
 
-fn say_key(answer: KeyAnswer, text: &[u8]) {
+fn key_into(s: &[u8], text: &mut [u8]) {
+    let answer = key_text::write_key(sheet(s), text);
     match answer {
-        KeyAnswer::Bytes(n) => {
-            say::say(b": bytes");
-            say::count(n);
-            say::text(text, n);
-        }
+        KeyAnswer::Bytes(n) => say::text(text, n),
         KeyAnswer::Refused(k, p) => {
             say::refused(k, p);
-            say::bytes(b", text", text);
+            say::bytes(s, 2, text);
         }
     }
 }
 
-fn key_into(s: &[u8], text: &mut [u8]) {
-    let answer = key_text::write_key(sheet(s), text);
-    say_key(answer, text);
-}
-
 pub fn write_key(s: &[u8]) {
     let mut text = [0u8; 65536];
-    let n = case::filled(case::part(s, 2), &mut text);
-    key_into(s, &mut text[0..n]);
+    key_into(s, case::filled(s, 3, &mut text));
 }

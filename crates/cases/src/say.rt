@@ -1,26 +1,15 @@
 // What is printed: words, numbers, slices.
 ghost use Prim.Native.Nat.{_+_, _<_, _≤_};
 ghost use lib.ListN.{length};
+use super::case;
 
 pub fn say(text: &[u8]) {
     io::write_all(1, text);
 }
 
-fn wide8(x: u8) -> u64 {
-    x as u64
-}
-
-fn wide16(x: u16) -> u64 {
-    x as u64
-}
-
 fn wide32(x: u32) -> u64
     ensures { λ r. ⌜ r < 4294967296 ⌝ }
 {
-    x as u64
-}
-
-fn wide_count(x: usize) -> u64 {
     x as u64
 }
 
@@ -40,42 +29,57 @@ pub fn signed(x: i32) {
 }
 
 pub fn half(x: u16) {
-    number(wide16(x));
+    number(x as u64);
 }
 
-pub fn count(x: usize) {
-    number(wide_count(x));
+pub fn count(word: &[u8], x: usize) {
+    say(word);
+    number(x as u64);
 }
 
 pub fn refused(k: u8, p: u16) {
     say(b": refused");
-    number(wide8(k));
+    number(k as u64);
     half(p);
 }
 
-pub fn halves(name: &[u8], s: &[u16]) {
-    say(name);
+// The name of a slice.
+fn name(s: &[u8], k: usize)
+    requires { ⌜ k < 16 ⌝ }
+{
+    say(b", ");
+    say(case::part(s, k));
+}
+
+pub fn halves(s: &[u8], k: usize, values: &[u16])
+    requires { ⌜ k < 16 ⌝ }
+{
+    name(s, k);
     let mut i: usize = 0;
-    while i < s.len() {
-        half(s[i]);
+    while i < values.len() {
+        half(values[i]);
         i += 1;
     }
 }
 
-pub fn words(name: &[u8], s: &[i32]) {
-    say(name);
+pub fn words(s: &[u8], k: usize, values: &[i32])
+    requires { ⌜ k < 16 ⌝ }
+{
+    name(s, k);
     let mut i: usize = 0;
-    while i < s.len() {
-        signed(s[i]);
+    while i < values.len() {
+        signed(values[i]);
         i += 1;
     }
 }
 
-pub fn longs(name: &[u8], s: &[u64]) {
-    say(name);
+pub fn longs(s: &[u8], k: usize, values: &[u64])
+    requires { ⌜ k < 16 ⌝ }
+{
+    name(s, k);
     let mut i: usize = 0;
-    while i < s.len() {
-        number(s[i]);
+    while i < values.len() {
+        number(values[i]);
         i += 1;
     }
 }
@@ -97,30 +101,37 @@ fn alike(s: &[u8], at: usize) -> usize
 
 // A byte, and how often it stands there if more than once.
 fn run(byte: u8, n: usize) {
-    number(wide8(byte));
+    number(byte as u64);
     if n > 1 {
         say(b"*");
-        io::print_decimal(1, wide_count(n));
+        io::print_decimal(1, n as u64);
     }
 }
 
-pub fn bytes(name: &[u8], s: &[u8]) {
-    say(name);
+fn runs(values: &[u8]) {
     let mut at: usize = 0;
-    while at < s.len() {
-        let n = alike(s, at);
-        run(s[at], n);
+    while at < values.len() {
+        let n = alike(values, at);
+        run(values[at], n);
         at += n;
     }
 }
 
-// A text of n bytes in the front of a slice: what the rest of the slice holds, and below that the text, whose last line feed ends the case's last line.
-pub fn text(s: &[u8], n: usize) {
-    if s.len() < n {
-        say(b", longer than the slice");
+pub fn bytes(s: &[u8], k: usize, values: &[u8])
+    requires { ⌜ k < 16 ⌝ }
+{
+    name(s, k);
+    runs(values);
+}
+
+// A text of n bytes in the front of a slice: what the rest of the slice holds, and below that the text.
+pub fn text(values: &[u8], n: usize) {
+    count(b": bytes", n);
+    if values.len() < n {
         return;
     }
-    bytes(b", rest", &s[n..]);
+    say(b", rest");
+    runs(&values[n..]);
     say(b"\n");
-    say(&s[0..n]);
+    say(&values[0..n]);
 }

@@ -7,56 +7,65 @@ use Rattle.cases.proofs.case.filled.Statement.{statement}
 use Rattle.cases.proofs.case.filled.Tie as tie
 use Rattle.cases.proofs.case.filled.Reads as reads
 use Rattle.cases.proofs.case.filled.Lts as lts
+use Rattle.cases.proofs.case.byte.Reads as byte-reads
 use Rattle.cases.proofs.case.count.Reads as count-reads
-use Rattle.cases.proofs.case.last.Reads as last-reads
+use Rattle.cases.proofs.case.part.Reads as part-reads
 
 abbrev Inv-loop : tie.InvT-loop
-Inv-loop s to₀ n byte i₀ to i = (length to ≡ length to₀) × (i ≤ length to)
+Inv-loop s k to₀ n value i₀ to i = (length to ≡ length to₀) × (i ≤ length to)
 
 abbrev μ-loop : tie.MeasureT-loop
-μ-loop s to₀ n byte i₀ to i = length to₀ - i
+μ-loop s k to₀ n value i₀ to i = length to₀ - i
 
--- src/case.rt:155:9
+-- src/case.rt:139:9
+part-requires : tie.Need-part-requires Inv-loop μ-loop
+part-requires c κs = search needs
+
+-- src/case.rt:140:9
 count-requires : tie.Need-count-requires Inv-loop μ-loop
 count-requires c κs = search needs
 
--- src/case.rt:156:9
-last-requires : tie.Need-last-requires Inv-loop μ-loop
-last-requires c κs = search needs
+-- src/case.rt:141:9
+byte-requires : tie.Need-byte-requires Inv-loop μ-loop
+byte-requires c κs = search needs
 
--- src/case.rt:158:5
+-- src/case.rt:143:5
 loop-holds : tie.Need-loop-holds Inv-loop μ-loop
 loop-holds c = search needs
 
--- src/case.rt:160:13
-same-length : tie.Need-same-length Inv-loop μ-loop
-same-length c = search needs
+-- src/case.rt:145:20
+sub-result : tie.Need-sub-result Inv-loop μ-loop
+sub-result c = search needs
 
--- src/case.rt:160:13
+-- src/case.rt:145:20
+part-to-start : tie.Need-part-to-start Inv-loop μ-loop
+part-to-start c = search needs
+
+-- src/case.rt:145:20
+part-to-end : tie.Need-part-to-end Inv-loop μ-loop
+part-to-end c = search needs
+
+-- src/case.rt:145:13
 returns : tie.Need-returns Inv-loop μ-loop
 returns c = search needs
 
--- src/case.rt:162:9
+-- src/case.rt:147:9
 slice-write-to : tie.Need-slice-write-to Inv-loop μ-loop
 slice-write-to c = search needs
 
--- src/case.rt:163:9
+-- src/case.rt:148:9
 add-i : tie.Need-add-i Inv-loop μ-loop
 add-i c = search needs
 
--- src/case.rt:158:5
+-- src/case.rt:143:5
 loop-less : tie.Need-loop-less Inv-loop μ-loop
 loop-less c = search needs
 
--- src/case.rt:158:5
+-- src/case.rt:143:5
 loop-again : tie.Need-loop-again Inv-loop μ-loop
 loop-again c = (simp length-set (omega arith), simp length-set (omega arith))
 
--- src/case.rt:152:1
-same-length-2 : tie.Need-same-length-2 Inv-loop μ-loop
-same-length-2 c = search needs
-
--- src/case.rt:152:1
+-- src/case.rt:136:1
 returns-2 : tie.Need-returns-2 Inv-loop μ-loop
 returns-2 c = search needs
 
@@ -66,14 +75,16 @@ filled-spec =
     (tie.spec
     Inv-loop
     μ-loop
+    part-requires
     count-requires
-    last-requires
+    byte-requires
     loop-holds
-    same-length
+    sub-result
+    part-to-start
+    part-to-end
     returns
     slice-write-to
     add-i
     loop-less
     loop-again
-    same-length-2
     returns-2)

@@ -8,58 +8,67 @@ use Rattle.cases.proofs.case.halves.Tie as tie
 use Rattle.cases.proofs.case.halves.Reads as reads
 use Rattle.cases.proofs.case.halves.Lts as lts
 use Rattle.cases.proofs.case.half.Reads as half-reads
+use Rattle.cases.proofs.case.part.Reads as part-reads
 
 abbrev Inv-loop : tie.InvT-loop
-Inv-loop s to₀ i₀ to i = (length to ≡ length to₀) × (i ≤ length to)
+Inv-loop s k to₀ from n i₀ to i = (length to ≡ length to₀) × (i ≤ length to)
 
 abbrev μ-loop : tie.MeasureT-loop
-μ-loop s to₀ i₀ to i = length to₀ - i
+μ-loop s k to₀ from n i₀ to i = length to₀ - i
 
--- src/case.rt:113:5
+-- src/case.rt:90:9
+part-requires : tie.Need-part-requires Inv-loop μ-loop
+part-requires c κs = search needs
+
+-- src/case.rt:93:5
 loop-holds : tie.Need-loop-holds Inv-loop μ-loop
 loop-holds c = search needs
 
--- src/case.rt:115:13
-same-length : tie.Need-same-length Inv-loop μ-loop
-same-length c = search needs
+-- src/case.rt:95:20
+sub-result : tie.Need-sub-result Inv-loop μ-loop
+sub-result c = search needs
 
--- src/case.rt:115:13
+-- src/case.rt:95:20
+part-to-start : tie.Need-part-to-start Inv-loop μ-loop
+part-to-start c = search needs
+
+-- src/case.rt:95:20
+part-to-end : tie.Need-part-to-end Inv-loop μ-loop
+part-to-end c = search needs
+
+-- src/case.rt:95:13
 returns : tie.Need-returns Inv-loop μ-loop
 returns c = search needs
 
--- src/case.rt:117:25
+-- src/case.rt:97:28
 mul-half : tie.Need-mul-half Inv-loop μ-loop
 mul-half c = search needs
 
--- src/case.rt:117:17
+-- src/case.rt:97:17
 half-requires : tie.Need-half-requires Inv-loop μ-loop
 half-requires c κs = search needs
 
--- src/case.rt:117:9
+-- src/case.rt:97:9
 mul-to : tie.Need-mul-to Inv-loop μ-loop
 mul-to c = search needs
 
--- src/case.rt:117:9
+-- src/case.rt:97:9
 slice-write-to : tie.Need-slice-write-to Inv-loop μ-loop
 slice-write-to c = search needs
 
--- src/case.rt:118:9
+-- src/case.rt:98:9
 add-i : tie.Need-add-i Inv-loop μ-loop
 add-i c = search needs
 
--- src/case.rt:113:5
+-- src/case.rt:93:5
 loop-less : tie.Need-loop-less Inv-loop μ-loop
 loop-less c = search needs
 
--- src/case.rt:113:5
+-- src/case.rt:93:5
 loop-again : tie.Need-loop-again Inv-loop μ-loop
 loop-again c = (simp length-set (omega arith), simp length-set (omega arith))
 
--- src/case.rt:109:1
-same-length-2 : tie.Need-same-length-2 Inv-loop μ-loop
-same-length-2 c = search needs
-
--- src/case.rt:109:1
+-- src/case.rt:87:1
 returns-2 : tie.Need-returns-2 Inv-loop μ-loop
 returns-2 c = search needs
 
@@ -69,8 +78,11 @@ halves-spec =
     (tie.spec
     Inv-loop
     μ-loop
+    part-requires
     loop-holds
-    same-length
+    sub-result
+    part-to-start
+    part-to-end
     returns
     mul-half
     half-requires
@@ -79,5 +91,4 @@ halves-spec =
     add-i
     loop-less
     loop-again
-    same-length-2
     returns-2)

@@ -7,59 +7,68 @@ use Rattle.cases.proofs.case.words.Statement.{statement}
 use Rattle.cases.proofs.case.words.Tie as tie
 use Rattle.cases.proofs.case.words.Reads as reads
 use Rattle.cases.proofs.case.words.Lts as lts
+use Rattle.cases.proofs.case.part.Reads as part-reads
 use Rattle.cases.proofs.case.word.Reads as word-reads
 
 abbrev Inv-loop : tie.InvT-loop
-Inv-loop s to₀ i₀ to i = (length to ≡ length to₀) × (i ≤ length to)
+Inv-loop s k to₀ from n i₀ to i = (length to ≡ length to₀) × (i ≤ length to)
 
 abbrev μ-loop : tie.MeasureT-loop
-μ-loop s to₀ i₀ to i = length to₀ - i
+μ-loop s k to₀ from n i₀ to i = length to₀ - i
 
--- src/case.rt:127:5
+-- src/case.rt:106:9
+part-requires : tie.Need-part-requires Inv-loop μ-loop
+part-requires c κs = search needs
+
+-- src/case.rt:109:5
 loop-holds : tie.Need-loop-holds Inv-loop μ-loop
 loop-holds c = search needs
 
--- src/case.rt:129:13
-same-length : tie.Need-same-length Inv-loop μ-loop
-same-length c = search needs
+-- src/case.rt:111:20
+sub-result : tie.Need-sub-result Inv-loop μ-loop
+sub-result c = search needs
 
--- src/case.rt:129:13
+-- src/case.rt:111:20
+part-to-start : tie.Need-part-to-start Inv-loop μ-loop
+part-to-start c = search needs
+
+-- src/case.rt:111:20
+part-to-end : tie.Need-part-to-end Inv-loop μ-loop
+part-to-end c = search needs
+
+-- src/case.rt:111:13
 returns : tie.Need-returns Inv-loop μ-loop
 returns c = search needs
 
--- src/case.rt:131:25
+-- src/case.rt:113:28
 mul-word : tie.Need-mul-word Inv-loop μ-loop
 mul-word c = search needs
 
--- src/case.rt:131:17
+-- src/case.rt:113:17
 word-requires : tie.Need-word-requires Inv-loop μ-loop
 word-requires c κs = search needs
 
--- src/case.rt:131:9
-mul-t6 : tie.Need-mul-t6 Inv-loop μ-loop
-mul-t6 c = search needs
+-- src/case.rt:113:9
+mul-t14 : tie.Need-mul-t14 Inv-loop μ-loop
+mul-t14 c = search needs
 
--- src/case.rt:131:9
+-- src/case.rt:113:9
 slice-set-from-to : tie.Need-slice-set-from-to Inv-loop μ-loop
 slice-set-from-to c = search needs
 
--- src/case.rt:132:9
+-- src/case.rt:114:9
 add-i : tie.Need-add-i Inv-loop μ-loop
 add-i c = search needs
 
--- src/case.rt:127:5
+-- src/case.rt:109:5
 loop-less : tie.Need-loop-less Inv-loop μ-loop
 loop-less c = search needs
 
--- src/case.rt:127:5
+-- src/case.rt:109:5
 loop-again : tie.Need-loop-again Inv-loop μ-loop
 loop-again c = (simp length-set (omega arith), simp length-set (omega arith))
 
--- src/case.rt:123:1
-same-length-2 : tie.Need-same-length-2 Inv-loop μ-loop
-same-length-2 c = search needs
-
--- src/case.rt:123:1
+-- src/case.rt:103:1
 returns-2 : tie.Need-returns-2 Inv-loop μ-loop
 returns-2 c = search needs
 
@@ -69,15 +78,17 @@ words-spec =
     (tie.spec
     Inv-loop
     μ-loop
+    part-requires
     loop-holds
-    same-length
+    sub-result
+    part-to-start
+    part-to-end
     returns
     mul-word
     word-requires
-    mul-t6
+    mul-t14
     slice-set-from-to
     add-i
     loop-less
     loop-again
-    same-length-2
     returns-2)

@@ -8,17 +8,17 @@ use Rattle.cases.proofs.say.halves.Tie as tie
 use Rattle.cases.proofs.say.halves.Reads as reads
 use Rattle.cases.proofs.say.halves.Lts as lts
 use Rattle.cases.proofs.say.half.Reads as half-reads
-use Rattle.cases.proofs.say.say.Reads as say-reads
+use Rattle.cases.proofs.say.name.Reads as name-reads
 
 abbrev Inv-loop : tie.InvT-loop
-Inv-loop name s i₀ i = i ≤ length s
+Inv-loop s k values i₀ i = i ≤ length values
 
 abbrev μ-loop : tie.MeasureT-loop
-μ-loop name s i₀ i = length s - i
+μ-loop s k values i₀ i = length values - i
 
 -- src/say.rt:57:5
-say-requires : tie.Need-say-requires Inv-loop μ-loop
-say-requires c κs = search needs
+name-requires : tie.Need-name-requires Inv-loop μ-loop
+name-requires c κs = search needs
 
 -- src/say.rt:59:5
 loop-holds : tie.Need-loop-holds Inv-loop μ-loop
@@ -48,7 +48,7 @@ loop-less c = search needs
 loop-again : tie.Need-loop-again Inv-loop μ-loop
 loop-again c = search needs
 
--- src/say.rt:56:1
+-- src/say.rt:54:1
 returns : tie.Need-returns Inv-loop μ-loop
 returns c = search needs
 
@@ -58,7 +58,7 @@ halves-spec =
     (tie.spec
     Inv-loop
     μ-loop
-    say-requires
+    name-requires
     loop-holds
     mul-half
     shared-slice-read-half

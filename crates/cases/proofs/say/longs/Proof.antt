@@ -7,48 +7,48 @@ use Rattle.cases.proofs.say.longs.Statement.{statement}
 use Rattle.cases.proofs.say.longs.Tie as tie
 use Rattle.cases.proofs.say.longs.Reads as reads
 use Rattle.cases.proofs.say.longs.Lts as lts
+use Rattle.cases.proofs.say.name.Reads as name-reads
 use Rattle.cases.proofs.say.number.Reads as number-reads
-use Rattle.cases.proofs.say.say.Reads as say-reads
 
 abbrev Inv-loop : tie.InvT-loop
-Inv-loop name s i₀ i = i ≤ length s
+Inv-loop s k values i₀ i = i ≤ length values
 
 abbrev μ-loop : tie.MeasureT-loop
-μ-loop name s i₀ i = length s - i
+μ-loop s k values i₀ i = length values - i
 
--- src/say.rt:75:5
-say-requires : tie.Need-say-requires Inv-loop μ-loop
-say-requires c κs = search needs
+-- src/say.rt:79:5
+name-requires : tie.Need-name-requires Inv-loop μ-loop
+name-requires c κs = search needs
 
--- src/say.rt:77:5
+-- src/say.rt:81:5
 loop-holds : tie.Need-loop-holds Inv-loop μ-loop
 loop-holds c = search needs
 
--- src/say.rt:78:16
+-- src/say.rt:82:16
 mul-number : tie.Need-mul-number Inv-loop μ-loop
 mul-number c = search needs
 
--- src/say.rt:78:16
+-- src/say.rt:82:16
 shared-slice-read-number : tie.Need-shared-slice-read-number Inv-loop μ-loop
 shared-slice-read-number c = search needs
 
--- src/say.rt:78:9
+-- src/say.rt:82:9
 number-requires : tie.Need-number-requires Inv-loop μ-loop
 number-requires c κs = search needs
 
--- src/say.rt:79:9
+-- src/say.rt:83:9
 add-i : tie.Need-add-i Inv-loop μ-loop
 add-i c = search needs
 
--- src/say.rt:77:5
+-- src/say.rt:81:5
 loop-less : tie.Need-loop-less Inv-loop μ-loop
 loop-less c = search needs
 
--- src/say.rt:77:5
+-- src/say.rt:81:5
 loop-again : tie.Need-loop-again Inv-loop μ-loop
 loop-again c = search needs
 
--- src/say.rt:74:1
+-- src/say.rt:76:1
 returns : tie.Need-returns Inv-loop μ-loop
 returns c = search needs
 
@@ -58,7 +58,7 @@ longs-spec =
     (tie.spec
     Inv-loop
     μ-loop
-    say-requires
+    name-requires
     loop-holds
     mul-number
     shared-slice-read-number

@@ -7,44 +7,44 @@ use Rattle.cases.proofs.say.words.Statement.{statement}
 use Rattle.cases.proofs.say.words.Tie as tie
 use Rattle.cases.proofs.say.words.Reads as reads
 use Rattle.cases.proofs.say.words.Lts as lts
-use Rattle.cases.proofs.say.say.Reads as say-reads
+use Rattle.cases.proofs.say.name.Reads as name-reads
 use Rattle.cases.proofs.say.signed.Reads as signed-reads
 
 abbrev Inv-loop : tie.InvT-loop
-Inv-loop name s i₀ i = i ≤ length s
+Inv-loop s k values i₀ i = i ≤ length values
 
 abbrev μ-loop : tie.MeasureT-loop
-μ-loop name s i₀ i = length s - i
-
--- src/say.rt:66:5
-say-requires : tie.Need-say-requires Inv-loop μ-loop
-say-requires c κs = search needs
+μ-loop s k values i₀ i = length values - i
 
 -- src/say.rt:68:5
+name-requires : tie.Need-name-requires Inv-loop μ-loop
+name-requires c κs = search needs
+
+-- src/say.rt:70:5
 loop-holds : tie.Need-loop-holds Inv-loop μ-loop
 loop-holds c = search needs
 
--- src/say.rt:69:16
+-- src/say.rt:71:16
 mul-signed : tie.Need-mul-signed Inv-loop μ-loop
 mul-signed c = search needs
 
--- src/say.rt:69:16
+-- src/say.rt:71:16
 shared-slice-copy-out-signed : tie.Need-shared-slice-copy-out-signed Inv-loop μ-loop
 shared-slice-copy-out-signed c = search needs
 
--- src/say.rt:69:9
+-- src/say.rt:71:9
 signed-requires : tie.Need-signed-requires Inv-loop μ-loop
 signed-requires c κs = search needs
 
--- src/say.rt:70:9
+-- src/say.rt:72:9
 add-i : tie.Need-add-i Inv-loop μ-loop
 add-i c = search needs
 
--- src/say.rt:68:5
+-- src/say.rt:70:5
 loop-less : tie.Need-loop-less Inv-loop μ-loop
 loop-less c = search needs
 
--- src/say.rt:68:5
+-- src/say.rt:70:5
 loop-again : tie.Need-loop-again Inv-loop μ-loop
 loop-again c = search needs
 
@@ -58,7 +58,7 @@ words-spec =
     (tie.spec
     Inv-loop
     μ-loop
-    say-requires
+    name-requires
     loop-holds
     mul-signed
     shared-slice-copy-out-signed
