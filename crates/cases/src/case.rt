@@ -1,21 +1,14 @@
-// A case in bytes, as `tools/cases` packs it: the operation at 0; four numbers, two of 16 bits at 1 and 3, two of 32 with their sign at 5 and 9; from 13 on, in 16 bits
-// each, where part 0 starts and where each of sixteen parts ends, the next starting there; then the parts. Part 0 is the operation with the case's name, 1 a sheet or
-// other bytes; then come the slices in their order, each as two parts: its name and its elements.
-// What lies outside reads as zero or as nothing: a case that is not well formed is not run.
-ghost use Prim.Native.Nat.{_+_, _<_};
+// A case in bytes, as `tools/cases` packs it: the operation at 0, in 16 bits; four numbers, two of 16 bits at 2 and 4, two of 32 with their sign at 6 and 10; from 14 on,
+// in 16 bits each, where part 0 starts and where each of sixteen parts ends, the next starting there; then the parts. Part 0 is the operation with the case's name, 1 a
+// sheet or other bytes, 2 to 7 the elements of the slices, 8 to 13 the names of those that are printed after the call, 14 the name of one that the operation prints.
+// What lies outside reads as zero or as nothing.
+ghost use Prim.Native.Nat.{_+_, _<_, _≤_};
+ghost use lib.ListN.{length};
 
 fn wide_bits(x: u32) -> u64
     ensures { λ r. ⌜ r < 4294967296 ⌝ }
 {
     x as u64
-}
-
-// The byte at a place.
-pub fn byte(s: &[u8], at: usize) -> u8 {
-    if at < s.len() {
-        return s[at];
-    }
-    0
 }
 
 // The number of 16 bits at a place.
@@ -60,8 +53,8 @@ pub fn count(s: &[u8], at: usize) -> usize
 pub fn part(s: &[u8], k: usize) -> &[u8]
     requires { ⌜ k < 16 ⌝ }
 {
-    let start = count(s, 13 + 2 * k);
-    let end = count(s, 15 + 2 * k);
+    let start = count(s, 14 + 2 * k);
+    let end = count(s, 16 + 2 * k);
     if end < start {
         return &s[0..0];
     }
@@ -71,16 +64,20 @@ pub fn part(s: &[u8], k: usize) -> &[u8]
     &s[start..end]
 }
 
-// Whether every part lies within the case, one behind another.
-pub fn well_formed(s: &[u8]) -> bool {
-    let mut k: usize = 0;
-    while k < 16 {
-        if count(s, 15 + 2 * k) < count(s, 13 + 2 * k) {
-            return false;
-        }
-        k += 1;
+// How long the case at a place is, or 0 if it does not lie within the bytes.
+pub fn length(s: &[u8], at: usize) -> usize
+    requires { ⌜ at < length (now s) ⌝ }
+    ensures { λ r. ⌜ at + r ≤ length (now (s .entry)) ⌝ }
+{
+    let left = s.len() - at;
+    if left < 48 {
+        return 0;
     }
-    count(s, 45) == s.len()
+    let n = count(s, at + 46);
+    if left < n {
+        return 0;
+    }
+    n
 }
 
 // The numbers of a part, put into the front of an array, which is lent on as far as they go.
@@ -138,7 +135,7 @@ pub fn filled<'a>(s: &[u8], k: usize, to: &'a mut [u8]) -> &'a mut [u8]
 {
     let from = part(s, k);
     let n = count(from, 0);
-    let value = byte(from, 2);
+    let value = (half(from, 2) % 256) as u8;
     let mut i: usize = 0;
     while i < to.len() {
         if n <= i {

@@ -1,88 +1,101 @@
-// Every operation at the edges of document 01, case by case: each case is read from standard input, where `tools/cases` packs the texts of `tests/cases`, and is printed
-// as one line: the operation and the case's name, the answer, and every lent slice as the call left it. `stdout` has what the texts expect.
-ghost use Prim.Native.Nat.{_<_, _≤_};
-ghost use lib.ListN.{length};
-
+// Every operation at the edges of document 01, case by case: the cases come as data from standard input, where `tools/cases` packs the texts of `tests/cases`, and
+// each is printed as one line: the operation and the case's name, the answer, and every slice that the operation may write, as the call left it. `stdout` has what the
+// texts expect.
 mod case;
 mod operations;
 mod say;
 
-// The operation of a case. A new one is an arm here, a function in `operations` and a row in `tools/cases`.
-fn run(s: &[u8]) {
-    match case::byte(s, 0) {
-        1 => operations::read(s),
-        2 => operations::write(s),
-        3 => operations::solve(s),
-        4 => operations::largest(s),
-        5 => operations::mark(s),
-        6 => operations::levels(s),
-        7 => operations::settings(s),
+// The operation of a case, on the slices that it is lent. A new one is an arm here, a function in `operations` and a row in `tools/cases`.
+fn run(
+    s: &[u8],
+    tails: &mut [u16],
+    rotations: &mut [u16],
+    first: &mut [i32],
+    second: &mut [i32],
+    set: &mut [u64],
+    bytes: &mut [u8],
+) {
+    match case::half(s, 0) {
+        1 => operations::read(s, tails, rotations, first),
+        2 => operations::write(s, tails, rotations, first, bytes),
+        3 => operations::solve(s, first, set),
+        4 => operations::largest(s, first, set),
+        5 => operations::mark(s, first),
+        6 => operations::levels(s, first, second),
+        7 => operations::settings(s, first, second),
         8 => operations::key(s),
-        9 => operations::write_key(s),
+        9 => operations::write_key(s, bytes),
         _ => say::say(b": no such operation"),
     }
 }
 
-fn run_named(s: &[u8]) {
-    say::say(case::part(s, 0));
-    run(s);
-    say::say(b"\n");
+// The call, and the slices after it that have a name in the case.
+fn show(
+    s: &[u8],
+    tails: &mut [u16],
+    rotations: &mut [u16],
+    first: &mut [i32],
+    second: &mut [i32],
+    set: &mut [u64],
+    bytes: &mut [u8],
+) {
+    run(s, tails, rotations, first, second, set, bytes);
+    say::halves(s, 8, tails);
+    say::halves(s, 9, rotations);
+    say::words(s, 10, first);
+    say::words(s, 11, second);
+    say::longs(s, 12, set);
+    say::bytes(s, 13, bytes);
 }
 
-// A case is read into the front of the buffer: its length. A case that is not there has none, and one whose bytes end too soon has 1, which is too short for a case.
-fn next(buffer: &mut [u8]) -> usize
-    requires { ⌜ 0 < length (now buffer) ⌝ }
-    ensures { λ r. ⌜ (r < 65536) × (r ≤ length (now (buffer .exit))) ⌝ }
-{
-    let mut size = [0u8; 2];
-    let got = io::read_full(0, &mut size);
-    if got == 0 {
-        return 0;
-    }
-    if got == 1 {
-        return 1;
-    }
-    let n = case::count(&size, 0);
-    if buffer.len() < n {
-        return 1;
-    }
-    if io::read_full(0, &mut buffer[0..n]) < n {
-        return 1;
-    }
-    n
+// The slices of a case, each as long as the case says.
+fn lend_more(s: &[u8], tails: &mut [u16], rotations: &mut [u16], first: &mut [i32]) {
+    let mut second = [0i32; 8192];
+    let mut set = [0u64; 8192];
+    let mut bytes = [0u8; 65536];
+    show(
+        s,
+        tails,
+        rotations,
+        first,
+        case::words(s, 5, &mut second),
+        case::longs(s, 6, &mut set),
+        case::filled(s, 7, &mut bytes),
+    );
 }
 
-fn malformed(at: usize) {
-    say::count(b"malformed at", at);
-    say::say(b"\n");
+fn lend(s: &[u8]) {
+    let mut tails = [0u16; 8192];
+    let mut rotations = [0u16; 8192];
+    let mut first = [0i32; 8192];
+    lend_more(
+        s,
+        case::halves(s, 2, &mut tails),
+        case::halves(s, 3, &mut rotations),
+        case::words(s, 4, &mut first),
+    );
 }
 
-// The case at a place of the input: how many bytes it took, or 0 where the input ends or is not well formed.
-fn turn(at: usize) -> usize
-    ensures { λ r. ⌜ r < 65538 ⌝ }
-{
-    let mut buffer = [0u8; 65536];
-    let n = next(&mut buffer);
-    if n == 0 {
-        return 0;
+fn cases(input: &[u8]) {
+    let mut at: usize = 0;
+    while at < input.len() {
+        let n = case::length(input, at);
+        if n == 0 {
+            say::count(b"malformed at", at);
+            say::say(b"\n");
+            return;
+        }
+        let end = at + n;
+        let s = &input[at..end];
+        say::say(case::part(s, 0));
+        lend(s);
+        say::say(b"\n");
+        at = end;
     }
-    let s = &buffer[0..n];
-    if !case::well_formed(s) {
-        malformed(at);
-        return 0;
-    }
-    run_named(s);
-    n + 2
 }
 
 fn main() {
-    let mut at: usize = 0;
-    while at < 16777216 {
-        let n = turn(at);
-        if n == 0 {
-            return;
-        }
-        at += n;
-    }
-    malformed(at);
+    let mut input = [0u8; 524288];
+    let n = io::read_full(0, &mut input);
+    cases(&input[..n]);
 }

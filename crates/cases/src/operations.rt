@@ -1,4 +1,4 @@
-// The operations on a case. Each lends slices of the case's lengths and values, and prints the answer and the slices after the call.
+// The operations on a case: each makes the call and prints the answer.
 use super::case;
 use super::say;
 use analyser::LargestAnswer;
@@ -8,10 +8,6 @@ use analyser::SolveAnswer;
 use key_text::KeyAnswer;
 use sheets::ReadAnswer;
 use sheets::WriteAnswer;
-
-fn sheet(s: &[u8]) -> &[u8] {
-    case::part(s, 1)
-}
 
 fn say_read(answer: ReadAnswer) {
     match answer {
@@ -24,23 +20,8 @@ fn say_read(answer: ReadAnswer) {
     }
 }
 
-fn read_into(s: &[u8], tails: &mut [u16], rotations: &mut [u16], capacities: &mut [i32]) {
-    say_read(sheets::read(sheet(s), tails, rotations, capacities));
-    say::halves(s, 2, tails);
-    say::halves(s, 4, rotations);
-    say::words(s, 6, capacities);
-}
-
-pub fn read(s: &[u8]) {
-    let mut tails = [0u16; 8192];
-    let mut rotations = [0u16; 8192];
-    let mut capacities = [0i32; 8192];
-    read_into(
-        s,
-        case::halves(s, 3, &mut tails),
-        case::halves(s, 5, &mut rotations),
-        case::words(s, 7, &mut capacities),
-    );
+pub fn read(s: &[u8], tails: &mut [u16], rotations: &mut [u16], capacities: &mut [i32]) {
+    say_read(sheets::read(case::part(s, 1), tails, rotations, capacities));
 }
 
 fn say_write(answer: WriteAnswer) {
@@ -50,37 +31,14 @@ fn say_write(answer: WriteAnswer) {
     }
 }
 
-fn write_into(
+pub fn write(
     s: &[u8],
     tails: &mut [u16],
     rotations: &mut [u16],
     capacities: &mut [i32],
     out: &mut [u8],
 ) {
-    say_write(sheets::write(case::half(s, 1), tails, rotations, capacities, out));
-    say::bytes(s, 8, out);
-}
-
-fn write_from(s: &[u8], tails: &mut [u16], rotations: &mut [u16]) {
-    let mut capacities = [0i32; 8192];
-    let mut out = [0u8; 65536];
-    write_into(
-        s,
-        tails,
-        rotations,
-        case::words(s, 7, &mut capacities),
-        case::filled(s, 9, &mut out),
-    );
-}
-
-pub fn write(s: &[u8]) {
-    let mut tails = [0u16; 8192];
-    let mut rotations = [0u16; 8192];
-    write_from(
-        s,
-        case::halves(s, 3, &mut tails),
-        case::halves(s, 5, &mut rotations),
-    );
+    say_write(sheets::write(case::half(s, 2), tails, rotations, capacities, out));
 }
 
 fn say_solve(answer: SolveAnswer) {
@@ -94,23 +52,11 @@ fn say_solve(answer: SolveAnswer) {
     }
 }
 
-fn solve_into(s: &[u8], flows: &mut [i32], set: &mut [u64]) {
-    let source = case::half(s, 1);
-    let sink = case::half(s, 3);
-    let value = case::word(s, 5);
-    say_solve(analyser::solve(sheet(s), source, sink, value, flows, set));
-    say::words(s, 2, flows);
-    say::longs(s, 4, set);
-}
-
-pub fn solve(s: &[u8]) {
-    let mut flows = [0i32; 8192];
-    let mut set = [0u64; 8192];
-    solve_into(
-        s,
-        case::words(s, 3, &mut flows),
-        case::longs(s, 5, &mut set),
-    );
+pub fn solve(s: &[u8], flows: &mut [i32], set: &mut [u64]) {
+    let source = case::half(s, 2);
+    let sink = case::half(s, 4);
+    let value = case::word(s, 6);
+    say_solve(analyser::solve(case::part(s, 1), source, sink, value, flows, set));
 }
 
 fn say_largest(answer: LargestAnswer) {
@@ -124,22 +70,10 @@ fn say_largest(answer: LargestAnswer) {
     }
 }
 
-fn largest_into(s: &[u8], flows: &mut [i32], set: &mut [u64]) {
-    let source = case::half(s, 1);
-    let sink = case::half(s, 3);
-    say_largest(analyser::largest(sheet(s), source, sink, flows, set));
-    say::words(s, 2, flows);
-    say::longs(s, 4, set);
-}
-
-pub fn largest(s: &[u8]) {
-    let mut flows = [0i32; 8192];
-    let mut set = [0u64; 8192];
-    largest_into(
-        s,
-        case::words(s, 3, &mut flows),
-        case::longs(s, 5, &mut set),
-    );
+pub fn largest(s: &[u8], flows: &mut [i32], set: &mut [u64]) {
+    let source = case::half(s, 2);
+    let sink = case::half(s, 4);
+    say_largest(analyser::largest(case::part(s, 1), source, sink, flows, set));
 }
 
 fn say_mark(answer: MarkAnswer) {
@@ -152,15 +86,10 @@ fn say_mark(answer: MarkAnswer) {
     }
 }
 
-fn mark_of(s: &[u8], flows: &mut [i32]) {
-    let source = case::half(s, 1);
-    let sink = case::half(s, 3);
-    say_mark(analyser::mark(sheet(s), source, sink, flows));
-}
-
-pub fn mark(s: &[u8]) {
-    let mut flows = [0i32; 8192];
-    mark_of(s, case::words(s, 3, &mut flows));
+pub fn mark(s: &[u8], flows: &mut [i32]) {
+    let source = case::half(s, 2);
+    let sink = case::half(s, 4);
+    say_mark(analyser::mark(case::part(s, 1), source, sink, flows));
 }
 
 fn say_levels(answer: LevelAnswer) {
@@ -170,34 +99,12 @@ fn say_levels(answer: LevelAnswer) {
     }
 }
 
-fn levels_into(s: &[u8], flows: &mut [i32], levels: &mut [i32]) {
-    say_levels(analyser::levels_from_settings(sheet(s), flows, levels));
-    say::words(s, 4, levels);
+pub fn levels(s: &[u8], flows: &mut [i32], levels: &mut [i32]) {
+    say_levels(analyser::levels_from_settings(case::part(s, 1), flows, levels));
 }
 
-pub fn levels(s: &[u8]) {
-    let mut flows = [0i32; 8192];
-    let mut levels = [0i32; 8192];
-    levels_into(
-        s,
-        case::words(s, 3, &mut flows),
-        case::words(s, 5, &mut levels),
-    );
-}
-
-fn settings_into(s: &[u8], levels: &mut [i32], flows: &mut [i32]) {
-    say_levels(analyser::settings_from_levels(sheet(s), levels, flows));
-    say::words(s, 4, flows);
-}
-
-pub fn settings(s: &[u8]) {
-    let mut levels = [0i32; 8192];
-    let mut flows = [0i32; 8192];
-    settings_into(
-        s,
-        case::words(s, 3, &mut levels),
-        case::words(s, 5, &mut flows),
-    );
+pub fn settings(s: &[u8], levels: &mut [i32], flows: &mut [i32]) {
+    say_levels(analyser::settings_from_levels(case::part(s, 1), levels, flows));
 }
 
 fn say_text(text: &[u8; 6671], n: usize) {
@@ -207,22 +114,17 @@ fn say_text(text: &[u8; 6671], n: usize) {
 // The key's text in an array of zeros that is long enough for every key.
 pub fn key(s: &[u8]) {
     let mut text = [0u8; 6671];
-    let n = key_text::key_text(sheet(s), &mut text);
+    let n = key_text::key_text(case::part(s, 1), &mut text);
     say_text(&text, n);
 }
 
-fn key_into(s: &[u8], text: &mut [u8]) {
-    let answer = key_text::write_key(sheet(s), text);
+pub fn write_key(s: &[u8], text: &mut [u8]) {
+    let answer = key_text::write_key(case::part(s, 1), text);
     match answer {
         KeyAnswer::Bytes(n) => say::text(text, n),
         KeyAnswer::Refused(k, p) => {
             say::refused(k, p);
-            say::bytes(s, 2, text);
+            say::bytes(s, 14, text);
         }
     }
-}
-
-pub fn write_key(s: &[u8]) {
-    let mut text = [0u8; 65536];
-    key_into(s, case::filled(s, 3, &mut text));
 }

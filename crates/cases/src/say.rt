@@ -43,18 +43,25 @@ pub fn refused(k: u8, p: u16) {
     half(p);
 }
 
-// The name of a slice.
-fn name(s: &[u8], k: usize)
+// The name of a slice, and whether it has one.
+fn name(s: &[u8], k: usize) -> bool
     requires { ⌜ k < 16 ⌝ }
 {
+    let text = case::part(s, k);
+    if text.len() == 0 {
+        return false;
+    }
     say(b", ");
-    say(case::part(s, k));
+    say(text);
+    true
 }
 
 pub fn halves(s: &[u8], k: usize, values: &[u16])
     requires { ⌜ k < 16 ⌝ }
 {
-    name(s, k);
+    if !name(s, k) {
+        return;
+    }
     let mut i: usize = 0;
     while i < values.len() {
         half(values[i]);
@@ -65,7 +72,9 @@ pub fn halves(s: &[u8], k: usize, values: &[u16])
 pub fn words(s: &[u8], k: usize, values: &[i32])
     requires { ⌜ k < 16 ⌝ }
 {
-    name(s, k);
+    if !name(s, k) {
+        return;
+    }
     let mut i: usize = 0;
     while i < values.len() {
         signed(values[i]);
@@ -76,7 +85,9 @@ pub fn words(s: &[u8], k: usize, values: &[i32])
 pub fn longs(s: &[u8], k: usize, values: &[u64])
     requires { ⌜ k < 16 ⌝ }
 {
-    name(s, k);
+    if !name(s, k) {
+        return;
+    }
     let mut i: usize = 0;
     while i < values.len() {
         number(values[i]);
@@ -120,7 +131,9 @@ fn runs(values: &[u8]) {
 pub fn bytes(s: &[u8], k: usize, values: &[u8])
     requires { ⌜ k < 16 ⌝ }
 {
-    name(s, k);
+    if !name(s, k) {
+        return;
+    }
     runs(values);
 }
 

@@ -16,59 +16,59 @@ Inv-loop s k to₀ from n i₀ to i = (length to ≡ length to₀) × (i ≤ len
 abbrev μ-loop : tie.MeasureT-loop
 μ-loop s k to₀ from n i₀ to i = length to₀ - i
 
--- src/case.rt:122:9
+-- src/case.rt:119:9
 part-requires : tie.Need-part-requires Inv-loop μ-loop
 part-requires c κs = search needs
 
--- src/case.rt:125:5
+-- src/case.rt:122:5
 loop-holds : tie.Need-loop-holds Inv-loop μ-loop
 loop-holds c = search needs
 
--- src/case.rt:127:20
+-- src/case.rt:124:20
 sub-result : tie.Need-sub-result Inv-loop μ-loop
 sub-result c = search needs
 
--- src/case.rt:127:20
+-- src/case.rt:124:20
 part-to-start : tie.Need-part-to-start Inv-loop μ-loop
 part-to-start c = search needs
 
--- src/case.rt:127:20
+-- src/case.rt:124:20
 part-to-end : tie.Need-part-to-end Inv-loop μ-loop
 part-to-end c = search needs
 
--- src/case.rt:127:13
+-- src/case.rt:124:13
 returns : tie.Need-returns Inv-loop μ-loop
 returns c = search needs
 
--- src/case.rt:129:28
+-- src/case.rt:126:28
 mul-long : tie.Need-mul-long Inv-loop μ-loop
 mul-long c = search needs
 
--- src/case.rt:129:17
+-- src/case.rt:126:17
 long-requires : tie.Need-long-requires Inv-loop μ-loop
 long-requires c κs = search needs
 
--- src/case.rt:129:9
+-- src/case.rt:126:9
 mul-to : tie.Need-mul-to Inv-loop μ-loop
 mul-to c = search needs
 
--- src/case.rt:129:9
+-- src/case.rt:126:9
 slice-write-to : tie.Need-slice-write-to Inv-loop μ-loop
 slice-write-to c = search needs
 
--- src/case.rt:130:9
+-- src/case.rt:127:9
 add-i : tie.Need-add-i Inv-loop μ-loop
 add-i c = search needs
 
--- src/case.rt:125:5
+-- src/case.rt:122:5
 loop-less : tie.Need-loop-less Inv-loop μ-loop
 loop-less c = search needs
 
--- src/case.rt:125:5
+-- src/case.rt:122:5
 loop-again : tie.Need-loop-again Inv-loop μ-loop
 loop-again c = (simp length-set (omega arith), simp length-set (omega arith))
 
--- src/case.rt:119:1
+-- src/case.rt:116:1
 returns-2 : tie.Need-returns-2 Inv-loop μ-loop
 returns-2 c = search needs
 

@@ -16,59 +16,59 @@ Inv-loop s k to₀ from n i₀ to i = (length to ≡ length to₀) × (i ≤ len
 abbrev μ-loop : tie.MeasureT-loop
 μ-loop s k to₀ from n i₀ to i = length to₀ - i
 
--- src/case.rt:106:9
+-- src/case.rt:103:9
 part-requires : tie.Need-part-requires Inv-loop μ-loop
 part-requires c κs = search needs
 
--- src/case.rt:109:5
+-- src/case.rt:106:5
 loop-holds : tie.Need-loop-holds Inv-loop μ-loop
 loop-holds c = search needs
 
--- src/case.rt:111:20
+-- src/case.rt:108:20
 sub-result : tie.Need-sub-result Inv-loop μ-loop
 sub-result c = search needs
 
--- src/case.rt:111:20
+-- src/case.rt:108:20
 part-to-start : tie.Need-part-to-start Inv-loop μ-loop
 part-to-start c = search needs
 
--- src/case.rt:111:20
+-- src/case.rt:108:20
 part-to-end : tie.Need-part-to-end Inv-loop μ-loop
 part-to-end c = search needs
 
--- src/case.rt:111:13
+-- src/case.rt:108:13
 returns : tie.Need-returns Inv-loop μ-loop
 returns c = search needs
 
--- src/case.rt:113:28
+-- src/case.rt:110:28
 mul-word : tie.Need-mul-word Inv-loop μ-loop
 mul-word c = search needs
 
--- src/case.rt:113:17
+-- src/case.rt:110:17
 word-requires : tie.Need-word-requires Inv-loop μ-loop
 word-requires c κs = search needs
 
--- src/case.rt:113:9
+-- src/case.rt:110:9
 mul-t14 : tie.Need-mul-t14 Inv-loop μ-loop
 mul-t14 c = search needs
 
--- src/case.rt:113:9
+-- src/case.rt:110:9
 slice-set-from-to : tie.Need-slice-set-from-to Inv-loop μ-loop
 slice-set-from-to c = search needs
 
--- src/case.rt:114:9
+-- src/case.rt:111:9
 add-i : tie.Need-add-i Inv-loop μ-loop
 add-i c = search needs
 
--- src/case.rt:109:5
+-- src/case.rt:106:5
 loop-less : tie.Need-loop-less Inv-loop μ-loop
 loop-less c = search needs
 
--- src/case.rt:109:5
+-- src/case.rt:106:5
 loop-again : tie.Need-loop-again Inv-loop μ-loop
 loop-again c = (simp length-set (omega arith), simp length-set (omega arith))
 
--- src/case.rt:103:1
+-- src/case.rt:100:1
 returns-2 : tie.Need-returns-2 Inv-loop μ-loop
 returns-2 c = search needs
 

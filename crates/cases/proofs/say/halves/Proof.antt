@@ -16,41 +16,45 @@ Inv-loop s k values i₀ i = i ≤ length values
 abbrev μ-loop : tie.MeasureT-loop
 μ-loop s k values i₀ i = length values - i
 
--- src/say.rt:57:5
+-- src/say.rt:62:9
 name-requires : tie.Need-name-requires Inv-loop μ-loop
 name-requires c κs = search needs
 
--- src/say.rt:59:5
+-- src/say.rt:63:9
+returns : tie.Need-returns Inv-loop μ-loop
+returns c = search needs
+
+-- src/say.rt:66:5
 loop-holds : tie.Need-loop-holds Inv-loop μ-loop
 loop-holds c = search needs
 
--- src/say.rt:60:14
+-- src/say.rt:67:14
 mul-half : tie.Need-mul-half Inv-loop μ-loop
 mul-half c = search needs
 
--- src/say.rt:60:14
+-- src/say.rt:67:14
 shared-slice-read-half : tie.Need-shared-slice-read-half Inv-loop μ-loop
 shared-slice-read-half c = search needs
 
--- src/say.rt:60:9
+-- src/say.rt:67:9
 half-requires : tie.Need-half-requires Inv-loop μ-loop
 half-requires c κs = search needs
 
--- src/say.rt:61:9
+-- src/say.rt:68:9
 add-i : tie.Need-add-i Inv-loop μ-loop
 add-i c = search needs
 
--- src/say.rt:59:5
+-- src/say.rt:66:5
 loop-less : tie.Need-loop-less Inv-loop μ-loop
 loop-less c = search needs
 
--- src/say.rt:59:5
+-- src/say.rt:66:5
 loop-again : tie.Need-loop-again Inv-loop μ-loop
 loop-again c = search needs
 
--- src/say.rt:54:1
-returns : tie.Need-returns Inv-loop μ-loop
-returns c = search needs
+-- src/say.rt:59:1
+returns-2 : tie.Need-returns-2 Inv-loop μ-loop
+returns-2 c = search needs
 
 pub halves-spec : {M : Type 1} → statement M
 halves-spec =
@@ -59,6 +63,7 @@ halves-spec =
     Inv-loop
     μ-loop
     name-requires
+    returns
     loop-holds
     mul-half
     shared-slice-read-half
@@ -66,4 +71,4 @@ halves-spec =
     add-i
     loop-less
     loop-again
-    returns)
+    returns-2)

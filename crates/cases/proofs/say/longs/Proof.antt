@@ -16,41 +16,45 @@ Inv-loop s k values i₀ i = i ≤ length values
 abbrev μ-loop : tie.MeasureT-loop
 μ-loop s k values i₀ i = length values - i
 
--- src/say.rt:79:5
+-- src/say.rt:88:9
 name-requires : tie.Need-name-requires Inv-loop μ-loop
 name-requires c κs = search needs
 
--- src/say.rt:81:5
+-- src/say.rt:89:9
+returns : tie.Need-returns Inv-loop μ-loop
+returns c = search needs
+
+-- src/say.rt:92:5
 loop-holds : tie.Need-loop-holds Inv-loop μ-loop
 loop-holds c = search needs
 
--- src/say.rt:82:16
+-- src/say.rt:93:16
 mul-number : tie.Need-mul-number Inv-loop μ-loop
 mul-number c = search needs
 
--- src/say.rt:82:16
+-- src/say.rt:93:16
 shared-slice-read-number : tie.Need-shared-slice-read-number Inv-loop μ-loop
 shared-slice-read-number c = search needs
 
--- src/say.rt:82:9
+-- src/say.rt:93:9
 number-requires : tie.Need-number-requires Inv-loop μ-loop
 number-requires c κs = search needs
 
--- src/say.rt:83:9
+-- src/say.rt:94:9
 add-i : tie.Need-add-i Inv-loop μ-loop
 add-i c = search needs
 
--- src/say.rt:81:5
+-- src/say.rt:92:5
 loop-less : tie.Need-loop-less Inv-loop μ-loop
 loop-less c = search needs
 
--- src/say.rt:81:5
+-- src/say.rt:92:5
 loop-again : tie.Need-loop-again Inv-loop μ-loop
 loop-again c = search needs
 
--- src/say.rt:76:1
-returns : tie.Need-returns Inv-loop μ-loop
-returns c = search needs
+-- src/say.rt:85:1
+returns-2 : tie.Need-returns-2 Inv-loop μ-loop
+returns-2 c = search needs
 
 pub longs-spec : {M : Type 1} → statement M
 longs-spec =
@@ -59,6 +63,7 @@ longs-spec =
     Inv-loop
     μ-loop
     name-requires
+    returns
     loop-holds
     mul-number
     shared-slice-read-number
@@ -66,4 +71,4 @@ longs-spec =
     add-i
     loop-less
     loop-again
-    returns)
+    returns-2)

@@ -16,35 +16,35 @@ Inv-loop values at₀ at = at ≤ length values
 abbrev μ-loop : tie.MeasureT-loop
 μ-loop values at₀ at = length values - at
 
--- src/say.rt:113:5
+-- src/say.rt:124:5
 loop-holds : tie.Need-loop-holds Inv-loop μ-loop
 loop-holds c = search needs
 
--- src/say.rt:114:13
+-- src/say.rt:125:13
 alike-requires : tie.Need-alike-requires Inv-loop μ-loop
 alike-requires c κs = search needs
 
--- src/say.rt:115:13
+-- src/say.rt:126:13
 shared-slice-read-run : tie.Need-shared-slice-read-run Inv-loop μ-loop
 shared-slice-read-run c = search needs
 
--- src/say.rt:115:9
+-- src/say.rt:126:9
 run-requires : tie.Need-run-requires Inv-loop μ-loop
 run-requires c κs = search needs
 
--- src/say.rt:116:9
+-- src/say.rt:127:9
 add-at : tie.Need-add-at Inv-loop μ-loop
 add-at c = search needs
 
--- src/say.rt:113:5
+-- src/say.rt:124:5
 loop-less : tie.Need-loop-less Inv-loop μ-loop
 loop-less c = search needs
 
--- src/say.rt:113:5
+-- src/say.rt:124:5
 loop-again : tie.Need-loop-again Inv-loop μ-loop
 loop-again c = search needs
 
--- src/say.rt:111:1
+-- src/say.rt:122:1
 returns : tie.Need-returns Inv-loop μ-loop
 returns c = search needs
 

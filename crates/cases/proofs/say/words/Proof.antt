@@ -16,41 +16,45 @@ Inv-loop s k values i₀ i = i ≤ length values
 abbrev μ-loop : tie.MeasureT-loop
 μ-loop s k values i₀ i = length values - i
 
--- src/say.rt:68:5
+-- src/say.rt:75:9
 name-requires : tie.Need-name-requires Inv-loop μ-loop
 name-requires c κs = search needs
 
--- src/say.rt:70:5
+-- src/say.rt:76:9
+returns : tie.Need-returns Inv-loop μ-loop
+returns c = search needs
+
+-- src/say.rt:79:5
 loop-holds : tie.Need-loop-holds Inv-loop μ-loop
 loop-holds c = search needs
 
--- src/say.rt:71:16
+-- src/say.rt:80:16
 mul-signed : tie.Need-mul-signed Inv-loop μ-loop
 mul-signed c = search needs
 
--- src/say.rt:71:16
+-- src/say.rt:80:16
 shared-slice-copy-out-signed : tie.Need-shared-slice-copy-out-signed Inv-loop μ-loop
 shared-slice-copy-out-signed c = search needs
 
--- src/say.rt:71:9
+-- src/say.rt:80:9
 signed-requires : tie.Need-signed-requires Inv-loop μ-loop
 signed-requires c κs = search needs
 
--- src/say.rt:72:9
+-- src/say.rt:81:9
 add-i : tie.Need-add-i Inv-loop μ-loop
 add-i c = search needs
 
--- src/say.rt:70:5
+-- src/say.rt:79:5
 loop-less : tie.Need-loop-less Inv-loop μ-loop
 loop-less c = search needs
 
--- src/say.rt:70:5
+-- src/say.rt:79:5
 loop-again : tie.Need-loop-again Inv-loop μ-loop
 loop-again c = search needs
 
--- src/say.rt:65:1
-returns : tie.Need-returns Inv-loop μ-loop
-returns c = search needs
+-- src/say.rt:72:1
+returns-2 : tie.Need-returns-2 Inv-loop μ-loop
+returns-2 c = search needs
 
 pub words-spec : {M : Type 1} → statement M
 words-spec =
@@ -59,6 +63,7 @@ words-spec =
     Inv-loop
     μ-loop
     name-requires
+    returns
     loop-holds
     mul-signed
     shared-slice-copy-out-signed
@@ -66,4 +71,4 @@ words-spec =
     add-i
     loop-less
     loop-again
-    returns)
+    returns-2)
