@@ -50,9 +50,9 @@ fn show(
 
 // The slices of a case, each as long as the case says.
 fn lend_more(s: &[u8], tails: &mut [u16], rotations: &mut [u16], first: &mut [i32]) {
-    let mut second = [0i32; 8192];
-    let mut set = [0u64; 8192];
-    let mut bytes = [0u8; 65536];
+    let mut second = [0i32; 4096];
+    let mut set = [0u64; 4096];
+    let mut bytes = [0u8; 16384];
     show(
         s,
         tails,
@@ -65,9 +65,9 @@ fn lend_more(s: &[u8], tails: &mut [u16], rotations: &mut [u16], first: &mut [i3
 }
 
 fn lend(s: &[u8]) {
-    let mut tails = [0u16; 8192];
-    let mut rotations = [0u16; 8192];
-    let mut first = [0i32; 8192];
+    let mut tails = [0u16; 4096];
+    let mut rotations = [0u16; 4096];
+    let mut first = [0i32; 4096];
     lend_more(
         s,
         case::halves(s, 2, &mut tails),
