@@ -5,7 +5,7 @@ mod case;
 mod operations;
 mod say;
 
-// The operation of a case, on the slices that it is lent. A new one is an arm here, a function in `operations` and a row in `tools/cases`.
+// The operation of a case on the slices that it is lent. A new one is an arm here, a function in `operations` and a row in `tools/cases`.
 fn run(
     s: &[u8],
     tails: &mut [u16],
