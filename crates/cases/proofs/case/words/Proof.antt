@@ -1,14 +1,11 @@
-use Prim.Native.Nat.{ℕ, _≤_, _<_, _-_, _+_}
-use mathlib.Core.Path.{_≡_, refl}
+-- The array keeps its length, and the place rises to its end.
+use Prim.Native.Nat.{_≤_, _-_}
+use mathlib.Core.Path.{_≡_}
 use native.Mathlib.Omega.{arith}
 use lib.ListN.{length, length-set}
 use borrow.Author.Needs.{needs}
 use Rattle.cases.proofs.case.words.Statement.{statement}
 use Rattle.cases.proofs.case.words.Tie as tie
-use Rattle.cases.proofs.case.words.Reads as reads
-use Rattle.cases.proofs.case.words.Lts as lts
-use Rattle.cases.proofs.case.part.Reads as part-reads
-use Rattle.cases.proofs.case.word.Reads as word-reads
 
 abbrev Inv-loop : tie.InvT-loop
 Inv-loop s k to₀ from n i₀ to i = (length to ≡ length to₀) × (i ≤ length to)
@@ -16,59 +13,45 @@ Inv-loop s k to₀ from n i₀ to i = (length to ≡ length to₀) × (i ≤ len
 abbrev μ-loop : tie.MeasureT-loop
 μ-loop s k to₀ from n i₀ to i = length to₀ - i
 
--- src/case.rt:103:9
 part-requires : tie.Need-part-requires Inv-loop μ-loop
 part-requires c κs = search needs
 
--- src/case.rt:106:5
 loop-holds : tie.Need-loop-holds Inv-loop μ-loop
 loop-holds c = search needs
 
--- src/case.rt:108:20
 sub-result : tie.Need-sub-result Inv-loop μ-loop
 sub-result c = search needs
 
--- src/case.rt:108:20
 part-to-start : tie.Need-part-to-start Inv-loop μ-loop
 part-to-start c = search needs
 
--- src/case.rt:108:20
 part-to-end : tie.Need-part-to-end Inv-loop μ-loop
 part-to-end c = search needs
 
--- src/case.rt:108:13
 returns : tie.Need-returns Inv-loop μ-loop
 returns c = search needs
 
--- src/case.rt:110:28
 mul-word : tie.Need-mul-word Inv-loop μ-loop
 mul-word c = search needs
 
--- src/case.rt:110:17
 word-requires : tie.Need-word-requires Inv-loop μ-loop
 word-requires c κs = search needs
 
--- src/case.rt:110:9
 mul-t14 : tie.Need-mul-t14 Inv-loop μ-loop
 mul-t14 c = search needs
 
--- src/case.rt:110:9
 slice-set-from-to : tie.Need-slice-set-from-to Inv-loop μ-loop
 slice-set-from-to c = search needs
 
--- src/case.rt:111:9
 add-i : tie.Need-add-i Inv-loop μ-loop
 add-i c = search needs
 
--- src/case.rt:106:5
 loop-less : tie.Need-loop-less Inv-loop μ-loop
 loop-less c = search needs
 
--- src/case.rt:106:5
 loop-again : tie.Need-loop-again Inv-loop μ-loop
 loop-again c = (simp length-set (omega arith), simp length-set (omega arith))
 
--- src/case.rt:100:1
 returns-2 : tie.Need-returns-2 Inv-loop μ-loop
 returns-2 c = search needs
 

@@ -1,12 +1,9 @@
-use Prim.Native.Nat.{ℕ, _≤_, _<_, _-_, _+_}
-use mathlib.Core.Path.{_≡_, refl}
-use native.Mathlib.Omega.{arith}
-use lib.ListN.{length, getD, set}
+-- The end stays behind the place, and within the slice.
+use Prim.Native.Nat.{_≤_, _<_, _-_}
+use lib.ListN.{length}
 use borrow.Author.Needs.{needs}
 use Rattle.cases.proofs.say.alike.Statement.{statement}
 use Rattle.cases.proofs.say.alike.Tie as tie
-use Rattle.cases.proofs.say.alike.Reads as reads
-use Rattle.cases.proofs.say.alike.Lts as lts
 
 abbrev Inv-loop : tie.InvT-loop
 Inv-loop s at end₀ end = (at < end) × (end ≤ length s)
@@ -14,47 +11,36 @@ Inv-loop s at end₀ end = (at < end) × (end ≤ length s)
 abbrev μ-loop : tie.MeasureT-loop
 μ-loop s at end₀ end = length s - end
 
--- src/say.rt:103:19
 add-end : tie.Need-add-end Inv-loop μ-loop
 add-end c = search needs
 
--- src/say.rt:104:5
 loop-holds : tie.Need-loop-holds Inv-loop μ-loop
 loop-holds c = search needs
 
--- src/say.rt:105:12
 shared-slice-read-if1 : tie.Need-shared-slice-read-if1 Inv-loop μ-loop
 shared-slice-read-if1 c = search needs
 
--- src/say.rt:105:22
 shared-slice-read-if1-2 : tie.Need-shared-slice-read-if1-2 Inv-loop μ-loop
 shared-slice-read-if1-2 c = search needs
 
--- src/say.rt:106:20
 sub-result : tie.Need-sub-result Inv-loop μ-loop
 sub-result c = search needs
 
--- src/say.rt:106:13
 returns : tie.Need-returns Inv-loop μ-loop
 returns c = search needs
 
--- src/say.rt:108:9
 add-end-2 : tie.Need-add-end-2 Inv-loop μ-loop
 add-end-2 c = search needs
 
--- src/say.rt:104:5
 loop-less : tie.Need-loop-less Inv-loop μ-loop
 loop-less c = search needs
 
--- src/say.rt:104:5
 loop-again : tie.Need-loop-again Inv-loop μ-loop
 loop-again c = search needs
 
--- src/say.rt:110:5
 sub-result-2 : tie.Need-sub-result-2 Inv-loop μ-loop
 sub-result-2 c = search needs
 
--- src/say.rt:99:1
 returns-2 : tie.Need-returns-2 Inv-loop μ-loop
 returns-2 c = search needs
 
