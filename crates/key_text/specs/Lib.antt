@@ -1,3 +1,4 @@
 pub mod Question
 pub mod Text
 pub mod Key
+pub mod Input

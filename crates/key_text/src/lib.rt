@@ -11,6 +11,7 @@ ghost use Rattle.texts.specs.Placed.{Placed};
 ghost use Rattle.key_text.specs.Question.{sourceOf, sinkOf, valueOf, sheetOf};
 ghost use Rattle.key_text.specs.Text.{lines, edgeLine, canLine, canText, nodeLine, cannotLine, cannotText, refusedText};
 ghost use Rattle.key_text.specs.Key.{Prints, textRoom, Writes};
+ghost use Rattle.key_text.specs.Input.{inputRoom, Begins};
 use analyser::SolveAnswer;
 use refusals::Verdict;
 
@@ -171,6 +172,15 @@ pub fn key_text(input: &[u8], text: &mut [u8; 6671]) -> usize
     ensures { λ r. ⌜ Prints (now (input .entry)) (now (text .entry)) (now (text .exit)) r ⌝ }
 {
     put_key(input, text)
+}
+
+// The key of an input whose first n bytes stand in the buffer, whether it ends there or the buffer is full and more follows: the program's own call. What is left unread
+// decides nothing, since the buffer is longer than every input that can be accepted; a shorter buffer would not see a byte left over.
+pub fn key_of_input(buffer: &[u8], n: usize, text: &mut [u8; 6671]) -> usize
+    requires { ⌜ (inputRoom ≤ length (now buffer)) × (n ≤ length (now buffer)) ⌝ }
+    ensures { λ r. ⌜ ((whole : List ℕ) → Begins (now (buffer .entry)) n whole → Prints whole (now (text .entry)) (now (text .exit)) r) ⌝ }
+{
+    put_key(&buffer[0..n], text)
 }
 
 // How many bytes of the lent slice are the key, or the number of a refusal and its place.
