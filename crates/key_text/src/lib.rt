@@ -180,7 +180,7 @@ pub fn key_of_input(buffer: &[u8], n: usize, text: &mut [u8; 6671]) -> usize
     requires { ⌜ (inputRoom ≤ length (now buffer)) × (n ≤ length (now buffer)) ⌝ }
     ensures { λ r. ⌜ ((whole : List ℕ) → Begins (now (buffer .entry)) n whole → Prints whole (now (text .entry)) (now (text .exit)) r) ⌝ }
 {
-    put_key(&buffer[0..n], text)
+    key_text(&buffer[0..n], text)
 }
 
 // How many bytes of the lent slice are the key, or the number of a refusal and its place.

@@ -1,11 +1,17 @@
--- What is printed is the front of the text, as long as `key_text` says.
-use mathlib.Core.Path.{_≡_, sym, ap, _∙_}
+-- What was read stands in the buffer, which has the room that the key asks for; what is printed is the front of the text, as long as `key_of_input` says.
+use mathlib.Core.Path.{_≡_, sym, ap, subst, _∙_}
+use mathlib.Core.Logic.{inl, ⊎-elim}
 use mathlib.Core.List.{List, _++_}
 use Prim.Native.Nat.{ℕ, _≤_}
 use native.Mathlib.Omega.{arith}
-use lib.ListN.{length, take, drop, length-append}
-use lib.Seq.{take-at}
+use lib.ListN.{length, take, drop, replicate, length-append}
+use lib.Seq.{take-at, take-all, length-take-le}
 use borrow.Author.Needs.{needs}
+use Rattle.key_text.specs.Input.{Begins}
+use Rattle.key_text.specs.Key.{Prints}
+use Rattle.key.specs.Input.{Filled}
+use Rattle.key.specs.declared.Input.{Input}
+use Rattle.key.specs.declared.Input.the-variants.{Ended, Full}
 use Rattle.key.proofs.main.Statement.{statement}
 use Rattle.key.proofs.main.Tie as tie
 
@@ -16,52 +22,99 @@ front-there n t old new e p = omega (arith, ap length p, length-append t (drop n
 front-taken : (n : ℕ) (t old new : List ℕ) → length t ≡ n → new ≡ t ++ drop n old → n ≡ length (take n new)
 front-taken n t old new e p = sym (ap length (ap (take n) p ∙ take-at t (drop n old) n e) ∙ e)
 
--- src/main.rt:5:30
-slice-aggregate-read-full : tie.Need-slice-aggregate-read-full
-slice-aggregate-read-full c = search needs
+-- the bytes read, as an input that ends there
+bytes-begin : (buffer : List ℕ) (n : ℕ) → n ≤ length buffer → Begins buffer n (take n buffer)
+bytes-begin buffer n there = let long = length-take-le n buffer there in (take-all n (take n buffer) (omega arith), inl long)
 
--- src/main.rt:5:9
-read-full-requires : tie.Need-read-full-requires
-read-full-requires c κs = search needs
+ended-there : (buffer : List ℕ) (r : Input) (k n : ℕ) → Filled buffer r → r ≡ Ended k → n ≡ k → n ≤ length buffer
+ended-there buffer r k n filled e p = omega (arith, subst (Filled buffer) e filled)
 
--- src/main.rt:7:32
-array-share-prefix-input : tie.Need-array-share-prefix-input
-array-share-prefix-input c = search needs
+full-there : (buffer : List ℕ) (r : Input) (k n : ℕ) → Filled buffer r → r ≡ Full k → n ≡ k → n ≤ length buffer
+full-there buffer r k n filled e p = omega (arith, subst (Filled buffer) e filled)
 
--- src/main.rt:7:32
-slice-aggregate-key-text : tie.Need-slice-aggregate-key-text
-slice-aggregate-key-text c = search needs
+-- where the two ways meet, by which the count came
+there : (c : tie.At-match-came) → c .match .n ≤ length (c .before .before .read-input .last .0)
+there c =
+    let filled = c .before .before .read-input .ensures in
+    ⊎-elim (λ w. ended-there _ _ _ _ filled (w .1 .given .1) (w .3)) (λ w. full-there _ _ _ _ filled (w .1 .given .1) (w .3)) (c .match .came)
 
--- src/main.rt:7:9
-key-text-requires : tie.Need-key-text-requires
-key-text-requires c κs = search needs
+abbrev text : tie.After-key-of-input → List ℕ
+text c = c .key-of-input .last .1 .1 .0
 
--- src/main.rt:8:22
-array-share-prefix-text : tie.Need-array-share-prefix-text
-array-share-prefix-text c = front-there _ (c .key-text .ensures .0) _ _ (c .key-text .ensures .2) (c .key-text .ensures .4)
+front : (c : tie.After-key-of-input) → (t : List ℕ) × (length t ≡ c .key-of-input .result) × (text c ≡ t ++ drop (c .key-of-input .result) (replicate 6671 0))
+front c =
+    let k = c .key-of-input .ensures _ (bytes-begin _ _ (there (c .before .before .before))) in
+    (k .0, k .2, k .4)
 
--- src/main.rt:8:22
-slice-aggregate-write-all : tie.Need-slice-aggregate-write-all
-slice-aggregate-write-all c = let k = c .before .key-text .ensures in front-taken _ (k .0) _ _ (k .2) (k .4)
+slice-aggregate-read-input : tie.Need-slice-aggregate-read-input
+slice-aggregate-read-input c = search needs
 
--- src/main.rt:8:5
-write-all-requires : tie.Need-write-all-requires
-write-all-requires c κs = search needs
+read-input-requires : tie.Need-read-input-requires
+read-input-requires c κs = search needs
 
--- src/main.rt:3:1
+enum-known-n : tie.Need-enum-known-n
+enum-known-n c = search needs
+
+enum-known-n-2 : tie.Need-enum-known-n-2
+enum-known-n-2 c = search needs
+
+enum-told : tie.Need-enum-told
+enum-told c = search needs
+
+slice-aggregate-fail : tie.Need-slice-aggregate-fail
+slice-aggregate-fail c = search needs
+
+fail-requires : tie.Need-fail-requires
+fail-requires c κs = search needs
+
 returns : tie.Need-returns
 returns c = search needs
+
+slice-aggregate-key-of-input : tie.Need-slice-aggregate-key-of-input
+slice-aggregate-key-of-input c = search needs
+
+key-of-input-requires : tie.Need-key-of-input-requires
+key-of-input-requires c κs = (search needs, there (c .before .before))
+
+array-share-prefix-text : tie.Need-array-share-prefix-text
+array-share-prefix-text c = let f = front c in front-there _ (f .0) _ _ (f .1) (f .2)
+
+slice-aggregate-write-text : tie.Need-slice-aggregate-write-text
+slice-aggregate-write-text c = let f = front (c .before) in front-taken _ (f .0) _ _ (f .1) (f .2)
+
+write-text-requires : tie.Need-write-text-requires
+write-text-requires c κs = search needs
+
+slice-aggregate-fail-2 : tie.Need-slice-aggregate-fail-2
+slice-aggregate-fail-2 c = search needs
+
+fail-requires-2 : tie.Need-fail-requires-2
+fail-requires-2 c κs = search needs
+
+returns-2 : tie.Need-returns-2
+returns-2 c = search needs
+
+returns-3 : tie.Need-returns-3
+returns-3 c = search needs
 
 pub main-spec : {M : Type 1} → statement M
 main-spec =
     tie.close
     (tie.spec
-    slice-aggregate-read-full
-    read-full-requires
-    array-share-prefix-input
-    slice-aggregate-key-text
-    key-text-requires
+    slice-aggregate-read-input
+    read-input-requires
+    enum-known-n
+    enum-known-n-2
+    enum-told
+    slice-aggregate-fail
+    fail-requires
+    returns
+    slice-aggregate-key-of-input
+    key-of-input-requires
     array-share-prefix-text
-    slice-aggregate-write-all
-    write-all-requires
-    returns)
+    slice-aggregate-write-text
+    write-text-requires
+    slice-aggregate-fail-2
+    fail-requires-2
+    returns-2
+    returns-3)

@@ -24,20 +24,20 @@ printed buffer n text text' m room (t, key, long, fits, placed) whole begins =
     let same : n - 0 ≡ n = omega arith in
     (t, begun buffer n room whole t begins (subst (λ k. Key (take k buffer) t) same key), long, fits, placed)
 
-sub-put-key : tie.Need-sub-put-key
-sub-put-key c = search needs
+sub-key-text : tie.Need-sub-key-text
+sub-key-text c = search needs
 
-part-put-key-start : tie.Need-part-put-key-start
-part-put-key-start c = search needs
+part-key-text-start : tie.Need-part-key-text-start
+part-key-text-start c = search needs
 
-part-put-key-end : tie.Need-part-put-key-end
-part-put-key-end c = search needs
+part-key-text-end : tie.Need-part-key-text-end
+part-key-text-end c = search needs
 
-put-key-requires : tie.Need-put-key-requires
-put-key-requires c κs = search needs
+key-text-requires : tie.Need-key-text-requires
+key-text-requires c κs = search needs
 
 returns : tie.Need-returns
-returns c = let s = c .before .before .before .before in printed (s .args .buffer .now) (s .args .n) _ _ _ (s .pre .0) (c .put-key .ensures)
+returns c = let s = c .before .before .before .before in printed (s .args .buffer .now) (s .args .n) _ _ _ (s .pre .0) (c .key-text .ensures)
 
 pub key-of-input-spec : {M : Type 1} → statement M
-key-of-input-spec = tie.close (tie.spec sub-put-key part-put-key-start part-put-key-end put-key-requires returns)
+key-of-input-spec = tie.close (tie.spec sub-key-text part-key-text-start part-key-text-end key-text-requires returns)
