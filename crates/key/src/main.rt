@@ -1,5 +1,6 @@
-// The program key: standard input to standard output (document 01, "The program key"). It reads a question and a sheet into a buffer one byte longer than the longest that can
-// be accepted, so that a byte left over is seen (`key_text::key_of_input`). A read or write that fails is told on standard error: a program of this kit has no exit status.
+// The program key: standard input to standard output (document 01, "The program key"). It reads a question and a sheet into a buffer one byte longer than the
+// longest that can be accepted, so that a byte left over is seen (`key_text::key_of_input` asks for it). A read or write that fails is told on standard error,
+// since a program of this kit has no exit status.
 ghost use mathlib.Core.Path.{_≡_};
 ghost use Prim.Native.Nat.{_≤_};
 ghost use lib.ListN.{length};
@@ -17,8 +18,8 @@ fn interrupted(answer: isize) -> bool {
     answer < 0 && os::errno() == libc::EINTR
 }
 
-// Reads straight into what is left of the buffer, until the input ends or the buffer is full. A proved loop has to end, so interrupted calls are counted down, from a number
-// that no run uses up. Any other failure is one, that of a non-blocking input with nothing to read yet (EAGAIN) too: half an input has no key.
+// Reads straight into what is left of the buffer, until the input ends or the buffer is full. A proved loop has to end, so interrupted calls are counted down,
+// from a number that no run uses up. Any other failure is one, that of a non-blocking input with nothing to read yet (EAGAIN) too: half an input has no key.
 fn read_input(buffer: &mut [u8]) -> Input
     ensures { λ r. ⌜ Filled (now (buffer .exit)) r ⌝ }
 {

@@ -174,8 +174,8 @@ pub fn key_text(input: &[u8], text: &mut [u8; 6671]) -> usize
     put_key(input, text)
 }
 
-// The key of an input whose first n bytes stand in the buffer, whether it ends there or the buffer is full and more follows: the program's own call. What is left unread
-// decides nothing, since the buffer is longer than every input that can be accepted; a shorter buffer would not see a byte left over.
+// The key of an input whose first n bytes stand in the buffer, whether it ends there or the buffer is full and more may follow: the program's own call. What is
+// left unread decides nothing, since the buffer is longer than every input that can be accepted; a shorter one would not see a byte left over.
 pub fn key_of_input(buffer: &[u8], n: usize, text: &mut [u8; 6671]) -> usize
     requires { ⌜ (inputRoom ≤ length (now buffer)) × (n ≤ length (now buffer)) ⌝ }
     ensures { λ r. ⌜ ((whole : List ℕ) → Begins (now (buffer .entry)) n whole → Prints whole (now (text .entry)) (now (text .exit)) r) ⌝ }
