@@ -1,9 +1,6 @@
 // The program key: standard input to standard output (document 01, "The program key"). It reads a question and a sheet into a buffer one byte longer than the
 // longest that can be accepted, so that a byte left over is seen (`key_text::key_of_input` asks for it). A read or write that fails is told on standard error,
 // since a program of this kit has no exit status.
-ghost use mathlib.Core.Path.{_≡_};
-ghost use Prim.Native.Nat.{_≤_};
-ghost use lib.ListN.{length};
 ghost use Rattle.key.specs.Input.{Filled};
 
 // The input ended after so many bytes, or filled the buffer; or a read failed, and errno says why.
