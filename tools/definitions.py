@@ -343,7 +343,7 @@ def above(lines, at):
 def operation(file, name):
     """A public function without its body, as a definition: its parameters are bound in its clauses. None if there is none."""
     lines = file.path.read_text(encoding="utf-8").split("\n")
-    at = next((at for at, line in enumerate(lines) if re.match(rf"pub fn {name}\b", line)), None)
+    at = next((at for at, line in enumerate(lines) if re.match(rf'pub (extern "C" )?fn {name}\b', line)), None)
     if at is None:
         return None
     end = at
