@@ -6,18 +6,23 @@ use mathlib.Core.List.{List, [], _∷_, _++_}
 use native.Mathlib.Omega.{arith}
 use lib.IntN.{ℤ}
 use Rattle.refusals.specs.Order.{Check, _at_when_, FirstOf, inTurn}
-use Rattle.faces.specs.Map.{Map}
+use Rattle.maps.specs.Map.{Map}
 use Rattle.flows.specs.Check.{withinChecks, balanceChecks}
 use Rattle.rotations.specs.MapChecks.{mapChecks}
 use Rattle.records.specs.Record.{recordChecks}
-use Rattle.records.specs.Drawing.{Drawing}
+use Rattle.maps.specs.Drawing.{Drawing}
 use Rattle.records.specs.Check.{countChecks, fieldChecks, edgeChecks}
 use Rattle.records.specs.Sheet.{headChecks, edgeRecordChecks, byteChecks, edgesOf}
 use Rattle.sheets.specs.Open.{sheetChecks}
 use Rattle.sheets.specs.Read.{readChecks}
 use Rattle.sheets.specs.Write.{drawingChecks, writeChecks}
-use Rattle.differences.specs.Level.{levelChecks}
-use Rattle.analyser.specs.Question.{endChecks, valueChecks, roomChecks}
+use Rattle.levels.specs.Level.{levelChecks}
+use Rattle.questions.specs.Question.{endChecks, valueChecks, roomChecks}
+use Rattle.questions.specs.Solve.{questionChecks}
+use Rattle.questions.specs.Largest.{searchChecks}
+use Rattle.questions.specs.Mark.{paperChecks}
+use Rattle.levels.specs.LevelsOf.{balancedChecks}
+use Rattle.levels.specs.SettingsOf.{leveledChecks}
 use Rattle.analyser.specs.Solve.{solveChecks}
 use Rattle.analyser.specs.Largest.{largestChecks}
 use Rattle.analyser.specs.Mark.{markChecks}
@@ -94,27 +99,27 @@ unfolding Numbered writeChecks
 write-numbered nodes tails rotations capacities sheet = (omega arith, numbered-append (drawingChecks _) _ (drawing-numbered _) (omega arith, tt))
 
 pub solve-numbered : (s : List ℕ) (source sink : ℕ) (value : ℤ) (flows : List ℤ) (set : List ℕ) → Numbered (solveChecks s source sink value flows set)
-unfolding Numbered solveChecks endChecks valueChecks roomChecks
+unfolding Numbered solveChecks questionChecks endChecks valueChecks roomChecks
 solve-numbered s source sink value flows set =
     numbered-append (sheetChecks s) _ (sheet-numbered s) (omega arith, (omega arith, (omega arith, (omega arith, tt))))
 
 pub largest-numbered : (s : List ℕ) (source sink : ℕ) (flows : List ℤ) (set : List ℕ) → Numbered (largestChecks s source sink flows set)
-unfolding Numbered largestChecks endChecks roomChecks
+unfolding Numbered largestChecks searchChecks endChecks roomChecks
 largest-numbered s source sink flows set = numbered-append (sheetChecks s) _ (sheet-numbered s) (omega arith, (omega arith, (omega arith, tt)))
 
 pub mark-numbered : (s : List ℕ) (source sink : ℕ) (flows : List ℤ) → Numbered (markChecks s source sink flows)
-unfolding Numbered markChecks endChecks
+unfolding Numbered markChecks paperChecks endChecks
 mark-numbered s source sink flows =
     numbered-append (sheetChecks s) _ (sheet-numbered s)
     (omega arith, (omega arith, (omega arith, numbered-append (withinChecks _ _ _) _ (within-numbered _ _ _) (balance-numbered _ _ _))))
 
 pub levels-numbered : (s : List ℕ) (flows levels : List ℤ) → Numbered (levelsChecks s flows levels)
-unfolding Numbered levelsChecks
+unfolding Numbered levelsChecks balancedChecks
 levels-numbered s flows levels =
     numbered-append (sheetChecks s) _ (sheet-numbered s) (omega arith, numbered-append (withinChecks _ _ _) _ (within-numbered _ _ _) (balance-numbered _ _ _))
 
 pub settings-numbered : (s : List ℕ) (levels flows : List ℤ) → Numbered (settingsChecks s levels flows)
-unfolding Numbered settingsChecks levelChecks
+unfolding Numbered settingsChecks leveledChecks levelChecks
 settings-numbered s levels flows = numbered-append (sheetChecks s) _ (sheet-numbered s) (omega arith, (omega arith, (omega arith, within-numbered _ _ _)))
 
 pub key-numbered : (text : List ℕ) → Numbered (keyRoomChecks text)

@@ -16,10 +16,10 @@ use Rattle.analyser.specs.Largest.{largestChecks}
 use Rattle.analyser.specs.Mark.{markChecks}
 use Rattle.analyser.specs.LevelsOf.{levelsChecks}
 use Rattle.analyser.specs.SettingsOf.{settingsChecks}
-use Rattle.analyser.specs.declared.SolveAnswer.the-variants as solve
-use Rattle.analyser.specs.declared.LargestAnswer.the-variants as largest
-use Rattle.analyser.specs.declared.MarkAnswer.the-variants as mark
-use Rattle.analyser.specs.declared.LevelAnswer.the-variants as level
+use Rattle.questions.specs.declared.SolveAnswer.the-variants as solve
+use Rattle.questions.specs.declared.LargestAnswer.the-variants as largest
+use Rattle.questions.specs.declared.MarkAnswer.the-variants as mark
+use Rattle.levels.specs.declared.LevelAnswer.the-variants as level
 use Rattle.key_text.specs.Key.{keyRoomChecks}
 use Rattle.key_text.specs.declared.KeyAnswer.the-variants as key
 use Rattle.abi.specs.Read.{TellsRead}
@@ -63,7 +63,7 @@ module _ {place place' result : ℕ} where
   key-says input text (key.Bytes n, h, t) = says-answer (h .0) (t .0) (t .2)
   key-says input text (key.Refused k p, h, t) = says-refusal k p (key-numbered text) (h .0) (t .0) (t .2) (h .1, t .1)
 
-  module _ {s : List ℕ} where
+  module _ (s : List ℕ) where
     pub read-says : {tails rotations tails' rotations' : List ℕ} {capacities capacities' : List ℤ} {nodes nodes' edges edges' : ℕ}
         → TellsRead s tails rotations capacities tails' rotations' capacities' nodes nodes' edges edges' place place' result
         → Says (readChecks s tails rotations capacities) result place place' ((tails' ≡ tails) × (rotations' ≡ rotations) × (capacities' ≡ capacities) × (nodes' ≡ nodes) × (edges' ≡ edges))

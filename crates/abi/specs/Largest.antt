@@ -5,8 +5,8 @@ use mathlib.Core.Path.{_≡_}
 use mathlib.Core.List.{List}
 use lib.IntN.{ℤ}
 use Rattle.analyser.specs.Largest.{FindsLargest}
-use Rattle.analyser.specs.declared.LargestAnswer.{LargestAnswer}
-use Rattle.analyser.specs.declared.LargestAnswer.the-variants.{Value, None, Refused}
+use Rattle.questions.specs.declared.LargestAnswer.{LargestAnswer}
+use Rattle.questions.specs.declared.LargestAnswer.the-variants.{Value, None, Refused}
 
 -- found is 1 or 0 where there is an answer, value is the largest where there is one, place is that of the refusal; what an answer does not give is as it was
 abbrev pub LargestTold : LargestAnswer → (result found found' : ℕ) (value value' : ℤ) (place place' : ℕ) → Type 0

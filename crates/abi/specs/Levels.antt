@@ -6,8 +6,8 @@ use mathlib.Core.List.{List}
 use lib.IntN.{ℤ}
 use Rattle.analyser.specs.LevelsOf.{GivesLevels}
 use Rattle.analyser.specs.SettingsOf.{GivesSettings}
-use Rattle.analyser.specs.declared.LevelAnswer.{LevelAnswer}
-use Rattle.analyser.specs.declared.LevelAnswer.the-variants.{Done, Refused}
+use Rattle.levels.specs.declared.LevelAnswer.{LevelAnswer}
+use Rattle.levels.specs.declared.LevelAnswer.the-variants.{Done, Refused}
 
 -- place is that of the refusal, and as it was where there is an answer
 abbrev pub LevelTold : LevelAnswer → (result place place' : ℕ) → Type 0

@@ -5,8 +5,8 @@ use mathlib.Core.Path.{_≡_}
 use mathlib.Core.List.{List}
 use lib.IntN.{ℤ}
 use Rattle.analyser.specs.Mark.{Marks}
-use Rattle.analyser.specs.declared.MarkAnswer.{MarkAnswer}
-use Rattle.analyser.specs.declared.MarkAnswer.the-variants.{Value, Refused}
+use Rattle.questions.specs.declared.MarkAnswer.{MarkAnswer}
+use Rattle.questions.specs.declared.MarkAnswer.the-variants.{Value, Refused}
 
 -- value is that of the settings where there is an answer, place is that of the refusal; what an answer does not give is as it was
 abbrev pub MarkTold : MarkAnswer → (result : ℕ) (value value' : ℤ) (place place' : ℕ) → Type 0

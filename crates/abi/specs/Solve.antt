@@ -5,8 +5,8 @@ use mathlib.Core.Path.{_≡_}
 use mathlib.Core.List.{List}
 use lib.IntN.{ℤ}
 use Rattle.analyser.specs.Solve.{Solves}
-use Rattle.analyser.specs.declared.SolveAnswer.{SolveAnswer}
-use Rattle.analyser.specs.declared.SolveAnswer.the-variants.{Can, Cannot, Refused}
+use Rattle.questions.specs.declared.SolveAnswer.{SolveAnswer}
+use Rattle.questions.specs.declared.SolveAnswer.the-variants.{Can, Cannot, Refused}
 
 -- can is 1 or 0 where there is an answer, size is that of the set where it cannot, place is that of the refusal; what an answer does not give is as it was
 abbrev pub Told : SolveAnswer → (result can can' size size' place place' : ℕ) → Type 0

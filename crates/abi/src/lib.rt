@@ -7,11 +7,11 @@ ghost use Rattle.abi.specs.Largest.{TellsLargest};
 ghost use Rattle.abi.specs.Mark.{TellsMark};
 ghost use Rattle.abi.specs.Levels.{TellsLevels, TellsSettings};
 ghost use Rattle.abi.specs.Key.{TellsKey};
-use analyser::LargestAnswer;
-use analyser::LevelAnswer;
-use analyser::MarkAnswer;
-use analyser::SolveAnswer;
 use key_text::KeyAnswer;
+use levels::LevelAnswer;
+use questions::LargestAnswer;
+use questions::MarkAnswer;
+use questions::SolveAnswer;
 use sheets::ReadAnswer;
 use sheets::WriteAnswer;
 

@@ -11,12 +11,11 @@ use Rattle.flows.specs.Highest.{Highest}
 use Rattle.flows.specs.ProvingSet.{Proves}
 use Rattle.flows.proofs.Exact.{proves-excludes}
 use Rattle.flows.proofs.HighestFlow.{highest-unique}
-use Rattle.records.specs.Sheet.{nodesOf, edgesOf, capacityOf, sheetMap}
+use Rattle.records.specs.Sheet.{nodesOf, edgesOf, capacityOf, outerOf, sheetMap}
 use Rattle.sheets.specs.Open.{sheetChecks}
-use Rattle.analyser.specs.Question.{endChecks}
-use Rattle.analyser.proofs.Marking.{ends-in}
-use Rattle.analyser.proofs.SheetPlane.{plane, root-in}
-use Rattle.analyser.proofs.Solving.{ends-differ}
+use Rattle.questions.specs.Question.{endChecks}
+use Rattle.questions.proofs.Asked.{ends-in, ends-differ}
+use Rattle.analyser.proofs.SheetPlane.{plane, outer-in}
 
 module _ (s : List ℕ) (sheet : NoneOf (sheetChecks s)) (source sink : ℕ) (two : NoneOf (endChecks (nodesOf s) source sink)) where
   pub excludes : (value : ℤ) (S : ℕ → Bool) → Proves (sheetMap s) (capacityOf s) source sink value S → (x : ℕ → ℤ) → Carries (sheetMap s) (capacityOf s) source sink value x → ⊥
@@ -24,8 +23,8 @@ module _ (s : List ℕ) (sheet : NoneOf (sheetChecks s)) (source sink : ℕ) (tw
       let e = ends-in (nodesOf s) source sink two in
       proves-excludes (plane s sheet .sound .range) (e .0) (e .1) (ends-differ (nodesOf s) source sink two) (capacityOf s) value S
 
-  pub one-highest : (value : ℤ) (x y : ℕ → ℤ) → Highest (sheetMap s) 0 (capacityOf s) source sink value x → Highest (sheetMap s) 0 (capacityOf s) source sink value y
+  pub one-highest : (value : ℤ) (x y : ℕ → ℤ) → Highest (sheetMap s) (outerOf s) (capacityOf s) source sink value x → Highest (sheetMap s) (outerOf s) (capacityOf s) source sink value y
       → (e : ℕ) → e < edgesOf s → x e ≡ y e
   one-highest value x y =
       let e = ends-in (nodesOf s) source sink two in
-      highest-unique (plane s sheet) (e .0) (e .1) (ends-differ (nodesOf s) source sink two) 0 (root-in s sheet) x y
+      highest-unique (plane s sheet) (e .0) (e .1) (ends-differ (nodesOf s) source sink two) (outerOf s) (outer-in s sheet) x y

@@ -18,25 +18,25 @@ use Rattle.flows.specs.Settings.{Carries}
 use Rattle.flows.specs.Highest.{Highest}
 use Rattle.flows.specs.ProvingSet.{Proves, member, size}
 use Rattle.flows.proofs.Agreement.{highest-agrees}
-use Rattle.flows.proofs.Interval.{AtSource, AtSink, Beside, which, source-limits, source-short, sink-proves-less, beside-proves, beside-proves-all}
+use Rattle.flows.proofs.Interval.{which, source-limits, source-short, sink-proves-less, beside-proves, beside-proves-all}
+use Rattle.flows.specs.Sides.{AtSource, AtSink, Beside}
 use Rattle.flows.proofs.ValueBound.{value-small}
-use Rattle.faces.specs.Cut.{cut}
-use Rattle.records.specs.Sheet.{nodesOf, edgesOf, capacityOf, sheetMap}
-use Rattle.sheets.specs.Network.{atℤ}
-use Rattle.analyser.specs.Question.{SetWritten}
+use Rattle.maps.specs.Cut.{cut}
+use Rattle.records.specs.Sheet.{nodesOf, edgesOf, capacityOf, outerOf, sheetMap}
+use Rattle.arrays.specs.At.{atℤ}
+use Rattle.questions.specs.Question.{SetWritten}
 use Rattle.analyser.specs.Solve.{solveChecks, Solves}
-use Rattle.analyser.specs.declared.SolveAnswer.{SolveAnswer}
-use Rattle.analyser.specs.declared.SolveAnswer.the-variants.{Can, Cannot, Refused}
+use Rattle.questions.specs.declared.SolveAnswer.{SolveAnswer}
+use Rattle.questions.specs.declared.SolveAnswer.the-variants.{Can, Cannot, Refused}
 use Rattle.analyser.specs.Largest.{largestChecks, FindsLargest}
-use Rattle.analyser.specs.declared.LargestAnswer.{LargestAnswer}
-use Rattle.analyser.specs.declared.LargestAnswer.the-variants.{Value, None}
-use Rattle.analyser.specs.declared.LargestAnswer.the-variants as largest
-use Rattle.analyser.proofs.Marking.{ends-in}
-use Rattle.analyser.proofs.SheetPlane.{plane, capacity-high}
-use Rattle.analyser.proofs.Round.{filled-at}
-use Rattle.sheets.proofs.Reading.{sheet-counts}
-use Rattle.analyser.proofs.Solving.{accepted, ends-differ}
-use Rattle.analyser.proofs.Finding.{Sought, sought}
+use Rattle.questions.specs.declared.LargestAnswer.{LargestAnswer}
+use Rattle.questions.specs.declared.LargestAnswer.the-variants.{Value, None}
+use Rattle.questions.specs.declared.LargestAnswer.the-variants as largest
+use Rattle.questions.proofs.Asked.{ends-in, ends-differ}
+use Rattle.analyser.proofs.SheetPlane.{plane, capacity-small}
+use Rattle.arrays.proofs.FillLoops.{filled-front}
+use Rattle.sheets.proofs.Accepted.{sheet-counts}
+use Rattle.analyser.proofs.Accepted.{accepted, Sought, sought}
 use Rattle.analyser.proofs.Asked.{excludes, one-highest}
 
 -- settings x carry the delivery asked, from the sheet's headgate to its outfall within its limits
@@ -57,15 +57,15 @@ module _ (s : List ℕ) (source sink : ℕ) (value : ℤ) (flows flows' : List �
   never-refused k p h = first-none (solveChecks s source sink value flows set) k p (h .0) asked
 
   -- ── "can": the settings given carry the delivery; they are the highest answer, and there is one ──
-  pub can-highest : Solves s source sink value flows flows' set set' Can → Highest (sheetMap s) 0 (capacityOf s) source sink value (atℤ flows')
+  pub can-highest : Solves s source sink value flows flows' set set' Can → Highest (sheetMap s) (outerOf s) (capacityOf s) source sink value (atℤ flows')
   can-highest h =
       let x = h .1 .0 in
-      highest-agrees (sheetMap s) x (atℤ flows') (λ e l. sym (filled-at (edgesOf s) x flows flows' (h .1 .2) e l)) (h .1 .1)
+      highest-agrees (sheetMap s) x (atℤ flows') (λ e l. sym (filled-front (pos 0) (edgesOf s) x flows flows' (h .1 .2) e l)) (h .1 .1)
 
   pub can-carries : Solves s source sink value flows flows' set set' Can → Delivers s source sink value (atℤ flows')
   can-carries h = can-highest h .carries
 
-  pub can-only : Solves s source sink value flows flows' set set' Can → (y : ℕ → ℤ) → Highest (sheetMap s) 0 (capacityOf s) source sink value y → (e : ℕ) → e < edgesOf s → atℤ flows' e ≡ y e
+  pub can-only : Solves s source sink value flows flows' set set' Can → (y : ℕ → ℤ) → Highest (sheetMap s) (outerOf s) (capacityOf s) source sink value y → (e : ℕ) → e < edgesOf s → atℤ flows' e ≡ y e
   can-only h y highest =
       let a = accepted s source sink value flows set asked in
       one-highest s (a .sheet) source sink (a .ends-two) value (atℤ flows') y (can-highest h) highest
@@ -115,15 +115,15 @@ module _ (s : List ℕ) (source sink : ℕ) (flows flows' : List ℤ) (set set' 
 
   -- ── the largest delivery is carried by the settings given, the highest answer, of which there is one ──
   module _ (v : ℤ) (h : FindsLargest s source sink flows flows' set set' (Value v)) where
-    pub largest-highest : Highest (sheetMap s) 0 (capacityOf s) source sink v (atℤ flows')
+    pub largest-highest : Highest (sheetMap s) (outerOf s) (capacityOf s) source sink v (atℤ flows')
     largest-highest =
         let x = h .1 .0 in
-        highest-agrees (sheetMap s) x (atℤ flows') (λ i l. sym (filled-at (edgesOf s) x flows flows' (h .1 .2) i l)) (h .1 .1)
+        highest-agrees (sheetMap s) x (atℤ flows') (λ i l. sym (filled-front (pos 0) (edgesOf s) x flows flows' (h .1 .2) i l)) (h .1 .1)
 
     pub largest-carries : Delivers s source sink v (atℤ flows')
     largest-carries = largest-highest .carries
 
-    pub largest-only : (y : ℕ → ℤ) → Highest (sheetMap s) 0 (capacityOf s) source sink v y → (i : ℕ) → i < edgesOf s → atℤ flows' i ≡ y i
+    pub largest-only : (y : ℕ → ℤ) → Highest (sheetMap s) (outerOf s) (capacityOf s) source sink v y → (i : ℕ) → i < edgesOf s → atℤ flows' i ≡ y i
     largest-only y = one-highest s (known .sheet) source sink (known .ends-two) v (atℤ flows') y largest-highest
 
     -- ── its set proves the next one impossible ──
@@ -154,7 +154,7 @@ module _ (s : List ℕ) (source sink : ℕ) (flows flows' : List ℤ) (set set' 
     -- it lies within ±512,000,000
     pub largest-small : Limited 512000000 v
     largest-small =
-        value-small (plane s (known .sheet) .sound .range) (ends .0) (ends .1) apart (capacityOf s) (sheet-counts s (known .sheet) .3) (capacity-high s (known .sheet)) v (atℤ flows') largest-carries
+        value-small (plane s (known .sheet) .sound .range) (ends .0) (ends .1) apart (capacityOf s) (sheet-counts s (known .sheet) .3) (λ d l. capacity-small s (known .sheet) d l .high) v (atℤ flows') largest-carries
 
   -- ── "none": the set given proves each delivery impossible, of every whole number ──
   module _ (h : FindsLargest s source sink flows flows' set set' None) where

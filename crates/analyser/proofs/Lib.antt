@@ -1,11 +1,6 @@
-pub mod Held
-pub mod Marking
-pub mod HeldFaces
-pub mod Settling
 pub mod SheetPlane
-pub mod LevelsFound
-pub mod Round
-pub mod Solving
-pub mod Finding
+pub mod Opened
+pub mod Accepted
+pub mod ThereAndBack
 pub mod Asked
 pub mod Demand3

@@ -1,25 +1,29 @@
--- An accepted sheet's map is plane: sound, connected and flat. Its circulations have levels with face 0 at 0, one set of them.
+-- An accepted sheet's drawing is plane, its outer dart is one of its darts, and its capacities are within their range; its circulations have levels, one set of them.
 use mathlib.Core.Path.{_≡_, refl, sym, _∙_, ap}
 use mathlib.Core.List.{List}
 use Prim.Native.Nat.{ℕ, _+_, _*_, _≤_, _<_}
 use native.Mathlib.Omega.{arith}
 use lib.IntN.{ℤ, pos, negsuc}
 use lib.Signed.{_≤ℤ_}
+use Rattle.integers.specs.Limited.{Limited}
+use Rattle.integers.proofs.Limits.{limited-more}
 use Rattle.refusals.specs.Order.{NoneOf}
-use Rattle.faces.specs.Dart.{rev}
-use Rattle.faces.specs.Map.{Map, darts}
-use Rattle.faces.specs.Face.{faces, left}
-use Rattle.faces.proofs.Faces.{left-in, first-face}
+use Rattle.maps.specs.Map.{Map, darts}
+use Rattle.maps.specs.Face.{faces, left}
 use Rattle.flows.specs.Settings.{onDarts, Balanced}
 use Rattle.flows.specs.Levels.{Levels}
-use Rattle.flows.proofs.Plane.{Plane, potentials-at, potentials-one}
+use Rattle.flows.specs.Plane.{Plane}
+use Rattle.flows.proofs.Plane.{potentials-at, potentials-one}
 use Rattle.flows.proofs.LevelBound.{faces-few}
+use Rattle.arrays.specs.At.{at}
+use Rattle.arrays.specs.Sizes.{mostOnSheet}
+use Rattle.arrays.specs.Drawn.{Drawn}
 use Rattle.rotations.proofs.Accepted.{accepted}
-use Rattle.records.specs.Sheet.{nodesOf, edgesOf, capacityOf, sheetMap}
+use Rattle.records.specs.Sheet.{nodesOf, edgesOf, capacityOf, outerOf, sheetMap}
 use Rattle.records.proofs.Bytes.{bytes-range, bytes-capacities, bytes-pairs}
 use Rattle.records.proofs.Drawing.{capacity-inside}
 use Rattle.sheets.specs.Open.{sheetChecks}
-use Rattle.sheets.proofs.Reading.{sheet-bytes, sheet-map, sheet-counts}
+use Rattle.sheets.proofs.Accepted.{sheet-bytes, sheet-map, sheet-counts}
 
 module _ (s : List ℕ) (h : NoneOf (sheetChecks s)) where
   pub plane : Plane (sheetMap s)
@@ -28,22 +32,35 @@ module _ (s : List ℕ) (h : NoneOf (sheetChecks s)) where
       let n = sheet-counts s h in
       record { sound = a .0; connected = a .1; flat = a .2; some = omega arith }
 
-  -- nodes + faces = edges + 2, so the faces can be counted without a walk
-  pub faces-counted : nodesOf s + faces (sheetMap s) ≡ edgesOf s + 2
-  faces-counted = plane .flat
-
   pub faces-at-most : faces (sheetMap s) ≤ 512
   faces-at-most = let n = sheet-counts s h in faces-few plane (n .3) (n .0)
 
-  pub root-in : 0 < faces (sheetMap s)
-  root-in = let n = sheet-counts s h in rw (first-face (plane .sound)) at (left-in (plane .sound) 0 (omega arith))
+  pub outer-in : outerOf s < darts (sheetMap s)
+  unfolding outerOf
+  outer-in = let n = sheet-counts s h in omega arith
 
-  pub capacity-high : (d : ℕ) → d < darts (sheetMap s) → capacityOf s d ≤ℤ pos 1000000
-  capacity-high d l = capacity-inside (capacityOf s d) (bytes-capacities s (sheet-bytes s h) d l) .1
+  pub capacity-small : (d : ℕ) → d < darts (sheetMap s) → Limited mostOnSheet (capacityOf s d)
+  capacity-small d l = let r = capacity-inside (capacityOf s d) (bytes-capacities s (sheet-bytes s h) d l) in record { low = r .0; high = r .1 }
+
+  -- what the operations on drawings ask of the arrays that hold it
+  pub sheet-drawn : (left' : ℕ → ℕ) (count : ℕ) → ((d : ℕ) → d < darts (sheetMap s) → left' d ≡ left (sheetMap s) d) → count ≡ faces (sheetMap s)
+      → Drawn (sheetMap s) left' count (outerOf s) (capacityOf s)
+  sheet-drawn left' count lefts counted =
+      let n = sheet-counts s h in
+      record {
+        plane = plane;
+        few-nodes = omega (arith, n .1);
+        few-edges = n .3;
+        left-is = lefts;
+        counted = counted;
+        outer-in = outer-in;
+        small = λ d l. limited-more (omega arith) (capacity-small d l);
+        pairs = bytes-pairs s (sheet-bytes s h);
+      }
 
   -- the levels of balanced settings, and that there is one set of them
-  pub levels-exist : (x : ℕ → ℤ) → Balanced (sheetMap s) x → (ρ : ℕ → ℤ) × Levels (sheetMap s) 0 x ρ
-  levels-exist x b = let r = potentials-at plane 0 root-in (onDarts x) b in (r .0, record { differences = r .1; rooted = r .2 })
+  pub levels-exist : (x : ℕ → ℤ) → Balanced (sheetMap s) x → (ρ : ℕ → ℤ) × Levels (sheetMap s) (outerOf s) x ρ
+  levels-exist x b = let r = potentials-at plane (outerOf s) outer-in (onDarts x) b in (r .0, record { differences = r .1; rooted = r .2 })
 
-  pub levels-unique : (x ρ τ : ℕ → ℤ) → Levels (sheetMap s) 0 x ρ → Levels (sheetMap s) 0 x τ → (f : ℕ) → f < faces (sheetMap s) → ρ f ≡ τ f
-  levels-unique x ρ τ p q = potentials-one plane 0 root-in (onDarts x) ρ τ (p .differences) (q .differences) (p .rooted) (q .rooted)
+  pub levels-unique : (x ρ τ : ℕ → ℤ) → Levels (sheetMap s) (outerOf s) x ρ → Levels (sheetMap s) (outerOf s) x τ → (f : ℕ) → f < faces (sheetMap s) → ρ f ≡ τ f
+  levels-unique x ρ τ p q = potentials-one plane (outerOf s) outer-in (onDarts x) ρ τ (p .differences) (q .differences) (p .rooted) (q .rooted)

@@ -1,4 +1,3 @@
-pub mod Question
 pub mod Mark
 pub mod LevelsOf
 pub mod SettingsOf

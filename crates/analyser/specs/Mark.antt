@@ -1,30 +1,15 @@
--- Mark. Document 01, "Operations": "Mark takes headgate, outfall, settings. Sheet checks, 13, 14; 16 settings shorter than the channels; 17 a setting outside its
--- channel's limits; 18 a node other than those two off balance. It gives the value."
-use Prim.Native.Nat.{ℕ, _<_}
-use mathlib.Core.Path.{_≡_}
-use mathlib.Core.List.{List, [], _∷_, _++_}
-use lib.ListN.{length}
+-- Mark. Document 01, "Operations": "Mark takes headgate, outfall, settings. Sheet checks, 13, 14; 16 ..; 17 ..; 18 ..": on the sheet's drawing.
+use Prim.Native.Nat.{ℕ}
+use mathlib.Core.List.{List, _++_}
 use lib.IntN.{ℤ}
-use Rattle.refusals.specs.Order.{Check, _when_, NoneOf, FirstOf}
-use Rattle.faces.specs.Flow.{net}
-use Rattle.flows.specs.Settings.{onDarts}
-use Rattle.flows.specs.Check.{withinChecks, balanceChecks, EndOf}
-use Rattle.records.specs.Sheet.{nodesOf, edgesOf, capacityOf, sheetMap}
-use Rattle.sheets.specs.Network.{atℤ}
+use Rattle.refusals.specs.Order.{Check}
+use Rattle.records.specs.Sheet.{sheetDrawing}
 use Rattle.sheets.specs.Open.{sheetChecks}
-use Rattle.analyser.specs.Question.{endChecks}
-use Rattle.analyser.specs.declared.MarkAnswer.{MarkAnswer}
-use Rattle.analyser.specs.declared.MarkAnswer.the-variants.{Value, Refused}
+use Rattle.questions.specs.Mark.{paperChecks, Marked}
+use Rattle.questions.specs.declared.MarkAnswer.{MarkAnswer}
 
 unfoldable pub markChecks : List ℕ → ℕ → ℕ → List ℤ → List Check
-markChecks s source sink flows =
-    sheetChecks s
-    ++ (endChecks (nodesOf s) source sink
-    ++ ((16 when length flows < edgesOf s)
-    ∷ (withinChecks (edgesOf s) (capacityOf s) (atℤ flows)
-    ++ balanceChecks (sheetMap s) (EndOf source sink) (atℤ flows))))
+markChecks s source sink flows = sheetChecks s ++ paperChecks (sheetDrawing s) source sink flows
 
--- the value: "the sum over darts with tail at the headgate"
 abbrev pub Marks : List ℕ → ℕ → ℕ → List ℤ → MarkAnswer → Type 0
-Marks s source sink flows (Value v) = NoneOf (markChecks s source sink flows) × (v ≡ net (sheetMap s) (onDarts (atℤ flows)) source)
-Marks s source sink flows (Refused k p) = FirstOf (markChecks s source sink flows) k p
+Marks s source sink flows answer = Marked (sheetDrawing s) (markChecks s source sink flows) source sink flows answer

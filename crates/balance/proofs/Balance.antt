@@ -8,8 +8,8 @@ use Rattle.refusals.specs.Order.{NoneOf, Judged}
 use Rattle.refusals.specs.declared.Verdict.{Verdict}
 use Rattle.refusals.proofs.Order.{neither}
 use Rattle.refusals.proofs.Same.{Same, same-in-turn, judged-same}
-use Rattle.faces.specs.Map.{Map}
-use Rattle.faces.specs.Flow.{net}
+use Rattle.maps.specs.Map.{Map}
+use Rattle.maps.specs.Flow.{net}
 use Rattle.flows.specs.Settings.{onDarts, Carries, Balanced}
 use Rattle.flows.specs.Check.{withinChecks, balanceChecks, EndOf, NoNode}
 use Rattle.flows.proofs.OnDarts.{onDarts-antisymmetric}

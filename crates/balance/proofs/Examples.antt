@@ -11,9 +11,8 @@ use Rattle.refusals.specs.declared.Verdict.the-variants.{Refused}
 use Rattle.refusals.proofs.Order.{neither}
 use Rattle.flows.specs.Settings.{onDarts}
 use Rattle.flows.specs.Check.{withinChecks}
-use Rattle.rotations.specs.Arrays.{at}
-use Rattle.balance.specs.Arrays.{atℤ}
-use Rattle.balance.specs.Nets.{netOf}
+use Rattle.arrays.specs.At.{at, atℤ}
+use Rattle.balance.specs.NetUpTo.{netUpTo}
 use Rattle.balance.specs.Check.{offChecks}
 
 -- a flow of -2^31 on an edge of capacities 1,000,000
@@ -22,8 +21,8 @@ unfolding withinChecks inTurn FirstOf
 least-refused = inl (inr (ltZ-yes tt), refl, refl)
 
 -- edge 0 from node 0 to node 1 with 7, edge 1 from node 1 to itself with 5: node 1 takes in 7
-loop-cancels : netOf (at (0 ∷ 1 ∷ 1 ∷ 1 ∷ [])) (atℤ (pos 7 ∷ pos 5 ∷ [])) 4 1 ≡ negsuc 6
-unfolding netOf sum onDarts
+loop-cancels : netUpTo (at (0 ∷ 1 ∷ 1 ∷ 1 ∷ [])) (atℤ (pos 7 ∷ pos 5 ∷ [])) 4 1 ≡ negsuc 6
+unfolding netUpTo sum onDarts
 loop-cancels = refl
 
 -- nodes 0 and 2 are excused, nodes 1 and 3 are off balance: node 1 is named

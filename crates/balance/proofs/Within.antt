@@ -8,12 +8,12 @@ use Rattle.integers.proofs.Omega.{Parts, atoms₁, parts, at-most, from-at-most
 use Rattle.integers.proofs.Laws.{lt-or-ge, lt-le-clash, le-trans}
 use Rattle.refusals.specs.Order.{NoneOf, FirstOf}
 use Rattle.refusals.proofs.Order.{neither, first-none}
-use Rattle.faces.specs.Map.{Map}
-use Rattle.faces.proofs.Darts.{by-edge}
+use Rattle.maps.specs.Map.{Map}
+use Rattle.maps.proofs.Darts.{by-edge}
 use Rattle.flows.specs.Settings.{onDarts, Within}
 use Rattle.flows.specs.Check.{Exceeds, withinChecks}
 use Rattle.flows.proofs.OnDarts.{onDarts-even, onDarts-odd}
-use Rattle.balance.specs.Arrays.{SmallFlows}
+use Rattle.balance.specs.SmallFlows.{SmallFlows}
 use Rattle.balance.proofs.Lowest.{none-holds, holds-none}
 
 not-less : (x y : ℤ) → (x <ℤ y → ⊥) → y ≤ℤ x

@@ -1,3 +1,3 @@
-pub mod Arrays
-pub mod Nets
+pub mod SmallFlows
+pub mod NetUpTo
 pub mod Check

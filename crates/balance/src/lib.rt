@@ -12,24 +12,11 @@ ghost use mir.Val.{SFits};
 ghost use Rattle.integers.specs.Sum.{when};
 ghost use Rattle.refusals.specs.Order.{Decides, Judged};
 ghost use Rattle.flows.specs.Check.{withinChecks, EndOf};
-ghost use Rattle.rotations.specs.Arrays.{at};
-ghost use Rattle.balance.specs.Arrays.{atℤ, SmallFlows};
-ghost use Rattle.balance.specs.Nets.{netOf};
+ghost use Rattle.arrays.specs.At.{at, atℤ};
+ghost use Rattle.balance.specs.SmallFlows.{SmallFlows};
+ghost use Rattle.balance.specs.NetUpTo.{netUpTo};
 ghost use Rattle.balance.specs.Check.{offChecks, JudgedAll};
 use refusals::Verdict;
-
-fn wide(x: u16) -> usize
-    ensures { λ r. ⌜ r ≡ x ⌝ }
-{
-    x as usize
-}
-
-fn narrow(x: usize) -> u16
-    requires { ⌜ x < 65536 ⌝ }
-    ensures { λ r. ⌜ r ≡ x ⌝ }
-{
-    x as u16
-}
 
 fn below_zero(x: i64) -> bool
     ensures { λ r. ⌜ Decides (x <ℤ pos 0) r ⌝ }
@@ -56,20 +43,11 @@ pub fn check_within(capacities: &[i32; 1024], edges: usize, flows: &[i32]) -> Ve
     let mut e: usize = 0;
     while e < edges {
         if exceeds(capacities[2 * e], capacities[2 * e + 1], flows[e]) {
-            return Verdict::Refused(17, narrow(e));
+            return Verdict::Refused(17, arrays::narrow(e));
         }
         e += 1;
     }
     Verdict::Passed
-}
-
-fn clear(nets: &mut [i32; 1024])
-    requires { ⌜ length (now nets) ≡ 1024 ⌝ }
-    ensures { λ _. ⌜ (length (now (nets .exit)) ≡ 1024) × ((v : ℕ) → v < 1024 → atℤ (now (nets .exit)) v ≡ pos 0) ⌝ }
-{
-    for v in 0..1024usize {
-        nets[v] = 0;
-    }
 }
 
 // Adds x at node v.
@@ -88,16 +66,15 @@ fn sub_at(nets: &mut [i32; 1024], v: usize, x: i32)
     nets[v] = signed::minus(nets[v], x);
 }
 
-// The net flow out of every node: an edge's flow leaves its tail and comes to its head; an edge from a node to itself cancels.
+// The net flow out of every node, added into an array of zeros: an edge's flow leaves its tail and comes to its head; an edge from a node to itself cancels.
 pub fn fill_nets(tails: &[u16; 1024], edges: usize, flows: &[i32], nets: &mut [i32; 1024])
-    requires { ⌜ (edges ≤ 512) × (edges ≤ length (now flows)) × (length (now nets) ≡ 1024) × ((d : ℕ) → d < 2 * edges → at (now tails) d < 1024) × SmallFlows edges (atℤ (now flows)) ⌝ }
-    ensures { λ _. ⌜ (length (now (nets .exit)) ≡ 1024) × ((v : ℕ) → v < 1024 → atℤ (now (nets .exit)) v ≡ netOf (at (now (tails .entry))) (atℤ (now (flows .entry))) (2 * edges) v) ⌝ }
+    requires { ⌜ (edges ≤ 512) × (edges ≤ length (now flows)) × (length (now nets) ≡ 1024) × ((d : ℕ) → d < 2 * edges → at (now tails) d < 1024) × SmallFlows edges (atℤ (now flows)) × ((v : ℕ) → atℤ (now nets) v ≡ pos 0) ⌝ }
+    ensures { λ _. ⌜ (length (now (nets .exit)) ≡ 1024) × ((v : ℕ) → v < 1024 → atℤ (now (nets .exit)) v ≡ netUpTo (at (now (tails .entry))) (atℤ (now (flows .entry))) (2 * edges) v) ⌝ }
 {
-    clear(nets);
     let mut e: usize = 0;
     while e < edges {
-        add_at(nets, wide(tails[2 * e]), flows[e]);
-        sub_at(nets, wide(tails[2 * e + 1]), flows[e]);
+        add_at(nets, arrays::wide(tails[2 * e]), flows[e]);
+        sub_at(nets, arrays::wide(tails[2 * e + 1]), flows[e]);
         e += 1;
     }
 }
@@ -123,7 +100,7 @@ pub fn check_balance(nets: &[i32; 1024], nodes: usize, a: usize, b: usize) -> Ve
     let mut v: usize = 0;
     while v < nodes {
         if off_balance(v, a, b, nets[v]) {
-            return Verdict::Refused(18, narrow(v));
+            return Verdict::Refused(18, arrays::narrow(v));
         }
         v += 1;
     }

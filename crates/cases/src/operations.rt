@@ -1,11 +1,11 @@
 // The operations on a case: each makes the call and prints the answer.
 use super::case;
 use super::say;
-use analyser::LargestAnswer;
-use analyser::LevelAnswer;
-use analyser::MarkAnswer;
-use analyser::SolveAnswer;
 use key_text::KeyAnswer;
+use levels::LevelAnswer;
+use questions::LargestAnswer;
+use questions::MarkAnswer;
+use questions::SolveAnswer;
 use sheets::ReadAnswer;
 use sheets::WriteAnswer;
 

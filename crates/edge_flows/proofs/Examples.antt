@@ -3,8 +3,8 @@
 use mathlib.Core.Path.{_≡_, refl}
 use mathlib.Core.List.{[], _∷_}
 use lib.IntN.{pos, negsuc}
-use Rattle.faces.specs.Dart.{rev}
-use Rattle.traversal.specs.Arrays.{at, atℤ}
+use Rattle.maps.specs.Dart.{rev}
+use Rattle.arrays.specs.At.{at, atℤ}
 use Rattle.edge_flows.specs.Flow.{flowOf}
 
 pub drop-and-along : flowOf

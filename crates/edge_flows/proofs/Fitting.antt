@@ -6,9 +6,10 @@ use mir.Syntax.{w32, w64}
 use mir.Val.{SFits}
 use Rattle.integers.proofs.Limits.{limited-minus}
 use Rattle.signed.proofs.Limits.{limited-fits, limited-fits64}
-use Rattle.faces.specs.Dart.{rev}
-use Rattle.faces.proofs.Darts.{rev-in}
-use Rattle.edge_flows.specs.Flow.{flowOf, mostPotential, mostFlow, Flowing}
+use Rattle.maps.specs.Dart.{rev}
+use Rattle.maps.proofs.Darts.{rev-in}
+use Rattle.edge_flows.specs.Flow.{flowOf, Flowing}
+use Rattle.arrays.specs.Sizes.{mostPotential, mostCapacity}
 
 module _ {edges : ℕ} {left : ℕ → ℕ} {capacity length potential : ℕ → ℤ} (φ : Flowing edges left capacity length potential) (e : ℕ) (below : e < edges) where
   -- dart 2e and its reverse are darts of the edges
@@ -31,7 +32,7 @@ module _ {edges : ℕ} {left : ℕ → ℕ} {capacity length potential : ℕ →
       (limited-minus (φ .near (2 * e) first-in) (φ .near (rev (2 * e)) second-in))
 
   pub flow-fits64 : SFits w64 (flowOf left capacity length potential e)
-  flow-fits64 = limited-fits64 mostFlow (flowOf left capacity length potential e) (omega arith) (φ .small e below)
+  flow-fits64 = limited-fits64 mostCapacity (flowOf left capacity length potential e) (omega arith) (φ .small e below)
 
   pub flow-fits : SFits w32 (flowOf left capacity length potential e)
-  flow-fits = limited-fits mostFlow (flowOf left capacity length potential e) (omega arith) (φ .small e below)
+  flow-fits = limited-fits mostCapacity (flowOf left capacity length potential e) (omega arith) (φ .small e below)

@@ -3,19 +3,13 @@
 use Prim.Native.Nat.{ℕ, _*_, _<_}
 use lib.IntN.{ℤ, _+ℤ_, _-ℤ_}
 use Rattle.integers.specs.Limited.{Limited}
-use Rattle.faces.specs.Dart.{rev}
+use Rattle.maps.specs.Dart.{rev}
+use Rattle.arrays.specs.Sizes.{mostPotential, mostCapacity}
 
 abbrev pub flowOf : (ℕ → ℕ) → (capacity length potential : ℕ → ℤ) → ℕ → ℤ
 flowOf left capacity length potential e = (potential (left (2 * e)) -ℤ potential (left (rev (2 * e)))) +ℤ (capacity (2 * e) -ℤ length (2 * e))
 
--- potentials whose differences 64 bits hold, and flows that fit 32 bits
-abbrev pub mostPotential : ℕ
-mostPotential = 4000000000000000000
-
-abbrev pub mostFlow : ℕ
-mostFlow = 2000000
-
 pub record Flowing (edges : ℕ) (left : ℕ → ℕ) (capacity length potential : ℕ → ℤ) : Type 0 where
   pub face-in : (d : ℕ) → d < 2 * edges → left d < 1024
   pub near : (d : ℕ) → d < 2 * edges → Limited mostPotential (potential (left d))
-  pub small : (e : ℕ) → e < edges → Limited mostFlow (flowOf left capacity length potential e)
+  pub small : (e : ℕ) → e < edges → Limited mostCapacity (flowOf left capacity length potential e)

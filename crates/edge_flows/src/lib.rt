@@ -5,9 +5,9 @@ ghost use lib.ListN.{length};
 ghost use lib.IntN.{_-ℤ_};
 ghost use mir.Syntax.{w64};
 ghost use mir.Val.{SFits};
-ghost use Rattle.faces.specs.Dart.{rev};
-ghost use Rattle.traversal.specs.Arrays.{at, atℤ};
-ghost use Rattle.sheets.specs.Read.{filled};
+ghost use Rattle.maps.specs.Dart.{rev};
+ghost use Rattle.arrays.specs.At.{at, atℤ};
+ghost use Rattle.arrays.specs.Filled.{filled};
 ghost use Rattle.edge_flows.specs.Flow.{flowOf, Flowing};
 
 // The drop of the potential over dart 2e, from its left face to its right one.
@@ -15,8 +15,8 @@ fn drop_over(lefts: &[u16; 1024], potentials: &[i64; 1024], e: usize) -> i64
     requires { ⌜ (e < 512) × (at (now lefts) (2 * e) < 1024) × (at (now lefts) (rev (2 * e)) < 1024) × SFits w64 (atℤ (now potentials) (at (now lefts) (2 * e)) -ℤ atℤ (now potentials) (at (now lefts) (rev (2 * e)))) ⌝ }
     ensures { λ r. ⌜ r ≡ atℤ (now (potentials .entry)) (at (now (lefts .entry)) (2 * e)) -ℤ atℤ (now (potentials .entry)) (at (now (lefts .entry)) (rev (2 * e))) ⌝ }
 {
-    let left = traversal::wide(lefts[2 * e]);
-    let right = traversal::wide(lefts[2 * e + 1]);
+    let left = arrays::wide(lefts[2 * e]);
+    let right = arrays::wide(lefts[2 * e + 1]);
     signed::minus64(potentials[left], potentials[right])
 }
 

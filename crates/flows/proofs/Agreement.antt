@@ -7,11 +7,11 @@ use native.Mathlib.Omega.{arith}
 use lib.IntN.{ℤ, pos, negℤ, _-ℤ_}
 use Rattle.integers.specs.Sum.{Integers, when}
 use Rattle.integers.proofs.Sums.{sum-ext}
-use Rattle.faces.specs.Dart.{rev}
-use Rattle.faces.specs.Map.{Map, darts, head}
-use Rattle.faces.specs.Check.{InRange}
-use Rattle.faces.specs.Cut.{leaves, cut}
-use Rattle.faces.proofs.Darts.{by-edge, rev-in}
+use Rattle.maps.specs.Dart.{rev}
+use Rattle.maps.specs.Map.{Map, darts, head}
+use Rattle.maps.specs.Check.{InRange}
+use Rattle.maps.specs.Cut.{leaves, cut}
+use Rattle.maps.proofs.Darts.{by-edge, rev-in}
 use Rattle.flows.specs.Settings.{onDarts, Within, Carries}
 use Rattle.flows.specs.Highest.{Highest}
 use Rattle.flows.specs.ProvingSet.{bound, Proves}
@@ -50,7 +50,7 @@ module _ (𝓜 : Map) (x y : ℕ → ℤ) (same : (e : ℕ) → e < 𝓜 .edges 
     carries = sym (net-ext 𝓜 s (onDarts x) (onDarts y) onDarts-agrees) ∙ h .carries;
   }
 
-  pub highest-agrees : {root : ℕ} {c : ℕ → ℤ} {s t : ℕ} {value : ℤ} → Highest 𝓜 root c s t value x → Highest 𝓜 root c s t value y
+  pub highest-agrees : {outer : ℕ} {c : ℕ → ℤ} {s t : ℕ} {value : ℤ} → Highest 𝓜 outer c s t value x → Highest 𝓜 outer c s t value y
   highest-agrees h = record {
     carries = carries-agrees (h .carries);
     highest = λ z hz.

@@ -13,22 +13,23 @@ use Rattle.integers.proofs.Omega.{atoms₁, atoms₂, atoms₃, parts, equal, l
 use Rattle.integers.proofs.Laws.{lt-le-clash}
 use Rattle.integers.proofs.Sums.{sum-ext}
 use Rattle.integers.proofs.IntegerSums.{sum-sub, when-neg, when-add}
-use Rattle.faces.specs.Dart.{rev}
-use Rattle.faces.specs.Map.{Map, darts}
-use Rattle.faces.specs.Check.{InRange}
-use Rattle.faces.specs.Flow.{Antisymmetric, net, Flow}
-use Rattle.faces.specs.Cut.{leaves, cut, sent}
-use Rattle.faces.specs.FaceWalk.{FaceWalk, total}
-use Rattle.faces.specs.Potential.{Heights}
-use Rattle.faces.proofs.Cuts.{cut-bound, flow-sent}
-use Rattle.faces.proofs.LayerCake.{above}
-use Rattle.faces.proofs.Rings.{winding, ring-heights, ring-threshold}
+use Rattle.maps.specs.Dart.{rev}
+use Rattle.maps.specs.Map.{Map, darts}
+use Rattle.maps.specs.Check.{InRange}
+use Rattle.maps.specs.Flow.{Antisymmetric, net, Flow}
+use Rattle.maps.specs.Cut.{leaves, cut, sent}
+use Rattle.maps.specs.FaceWalk.{FaceWalk, total}
+use Rattle.maps.specs.Potential.{Heights}
+use Rattle.maps.proofs.Cuts.{cut-bound, flow-sent}
+use Rattle.maps.proofs.LayerCake.{above}
+use Rattle.maps.proofs.Rings.{winding, ring-heights, ring-threshold}
 use Rattle.flows.specs.Settings.{onDarts, Carries}
 use Rattle.flows.specs.ProvingSet.{bound, Proves}
 use Rattle.flows.proofs.Nets.{net-mul}
-use Rattle.flows.proofs.Plane.{Plane, one-part, flat-part}
-use Rattle.flows.proofs.UnitFlow.{UnitFlow}
-use Rattle.flows.proofs.Lengths.{lengthFor}
+use Rattle.flows.proofs.Plane.{one-part, flat-part}
+use Rattle.flows.specs.Plane.{Plane}
+use Rattle.flows.specs.UnitFlow.{UnitFlow}
+use Rattle.flows.specs.Lengths.{lengthFor}
 
 -- the bound of a set is what a flow of the value sends out of it
 pub bound-sent : (S : ℕ → Bool) (s t : ℕ) (value : ℤ) → bound S s t value ≡ sent S s t value

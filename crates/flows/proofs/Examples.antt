@@ -1,5 +1,5 @@
 -- The definitions on document 01's drawings, by computation: what carries, what proves impossible, levels, sets as words.
-use mathlib.Core.Path.{_≡_, refl, sym, _∙_}
+use mathlib.Core.Path.{_≡_, refl, sym, _∙_, ap}
 use mathlib.Core.Logic.{_⊎_, inl, inr}
 use mathlib.Core.List.{List, [], _∷_}
 use mathlib.Core.Bool.{Bool, true, false}
@@ -14,14 +14,14 @@ use Rattle.integers.specs.Sum.{sum}
 use Rattle.integers.proofs.Omega.{atoms₁, atoms₂, atoms₃, atoms₅, parts, equal, at-most, from-equal, from-at-most}
 use Rattle.integers.proofs.Laws.{lt-of-test, le-of-test}
 use Rattle.integers.proofs.Tests.{every, every-equalℤ, every-at-most, eqZ}
-use Rattle.faces.specs.Dart.{rev}
-use Rattle.faces.specs.Orbit.{iter, lowest, isLowest, orbits, orbitOf}
-use Rattle.faces.specs.Map.{Map}
-use Rattle.faces.specs.Face.{faces, left}
-use Rattle.faces.specs.Flow.{net}
-use Rattle.faces.specs.Cut.{cut}
-use Rattle.faces.specs.Potential.{difference}
-use Rattle.faces.proofs.Examples.{A, B, A-capacity, B-capacity}
+use Rattle.maps.specs.Dart.{rev}
+use Rattle.maps.specs.Orbit.{iter, lowest, isLowest, orbits, orbitOf}
+use Rattle.maps.specs.Map.{Map}
+use Rattle.maps.specs.Face.{faces, left}
+use Rattle.maps.specs.Flow.{net}
+use Rattle.maps.specs.Cut.{cut}
+use Rattle.maps.specs.Potential.{difference}
+use Rattle.maps.proofs.Examples.{A, B, A-capacity, B-capacity}
 use Rattle.flows.specs.Settings.{onDarts, Carries}
 use Rattle.flows.specs.Levels.{Levels}
 use Rattle.flows.specs.Highest.{Highest}
@@ -75,7 +75,7 @@ A-levels : Levels A 0 (settings (pos 2 ∷ pos 1 ∷ negsuc 2 ∷ [])) (settings
 unfolding settings onDarts faces left orbits orbitOf isLowest lowest iter sum rev every eqZ
 A-levels = record {
   differences = every-equalℤ 6 (onDarts (settings (pos 2 ∷ pos 1 ∷ negsuc 2 ∷ []))) (difference A (settings (pos 0 ∷ negsuc 1 ∷ negsuc 2 ∷ []))) refl;
-  rooted = refl;
+  rooted = λ f z. ap (settings (pos 0 ∷ negsuc 1 ∷ negsuc 2 ∷ [])) z;
 }
 
 -- "B .. headgate 0, outfall 1: largest is none, set {2}": it holds neither end, so it proves every value impossible
@@ -161,7 +161,7 @@ levels-less x y same =
           (equal (search parts) (omega (arith, from-equal same (search parts))))
           (equal (search parts) (omega arith))
           (equal (search parts) (omega arith));
-      rooted = refl;
+      rooted = λ f z. ap (levelsLess x y) z;
     }
 
 pub A-highest : (c x : ℕ → ℤ) (value : ℤ) → Carries A c 0 1 value x

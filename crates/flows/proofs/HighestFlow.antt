@@ -8,21 +8,24 @@ use lib.IntN.{ℤ, pos, negℤ, _+ℤ_, _-ℤ_, _*ℤ_, +ℤ-invr}
 use lib.Signed.{_≤ℤ_}
 use Rattle.integers.proofs.Omega.{atoms₂, atoms₃, atoms₄, atoms₅, parts, equal, at-most, from-equal, from-at-most}
 use Rattle.integers.proofs.Laws.{le-antisym, equal-of-sub}
-use Rattle.faces.specs.Dart.{rev}
-use Rattle.faces.specs.Map.{Map, darts}
-use Rattle.faces.specs.Face.{faces, left, right}
-use Rattle.faces.specs.Flow.{net, Circulation, Flow}
-use Rattle.faces.specs.Potential.{difference, Potentials}
-use Rattle.faces.proofs.Cuts.{sink-takes}
-use Rattle.faces.proofs.Faces.{left-in, right-in}
+use Rattle.maps.specs.Dart.{rev}
+use Rattle.maps.specs.Map.{Map, darts}
+use Rattle.maps.specs.Face.{faces, left, right}
+use Rattle.maps.specs.Flow.{net, Circulation, Flow}
+use Rattle.maps.specs.Potential.{difference, Potentials}
+use Rattle.maps.proofs.Cuts.{sink-takes}
+use Rattle.maps.proofs.Faces.{left-in, right-in}
 use Rattle.flows.specs.Settings.{onDarts, Carries, Balanced}
+use Rattle.flows.specs.ZeroFace.{ZeroFace}
 use Rattle.flows.specs.Levels.{Levels}
 use Rattle.flows.specs.Highest.{Highest}
 use Rattle.flows.proofs.OnDarts.{onDarts-antisymmetric, onDarts-sub, onDarts-injective}
 use Rattle.flows.proofs.Nets.{net-ext, net-sub}
-use Rattle.flows.proofs.Plane.{Plane, potentials-at, potentials-one}
-use Rattle.flows.proofs.UnitFlow.{UnitFlow}
-use Rattle.flows.proofs.Lengths.{lengthFor, Feasible, made, edgeFlow, edgeFlow-darts, feasible-carries}
+use Rattle.flows.proofs.Plane.{potentials-at, potentials-one}
+use Rattle.flows.specs.Plane.{Plane}
+use Rattle.flows.specs.UnitFlow.{UnitFlow}
+use Rattle.flows.proofs.Lengths.{edgeFlow-darts, feasible-carries}
+use Rattle.flows.specs.Lengths.{lengthFor, Feasible, made, edgeFlow}
 
 module _ {𝓜 : Map} (p : Plane 𝓜) {s t : ℕ} (s-in : s < 𝓜 .nodes) (t-in : t < 𝓜 .nodes) (s≢t : s ≢ t) where
   -- two flows of one value differ by balanced settings
@@ -47,14 +50,14 @@ module _ {𝓜 : Map} (p : Plane 𝓜) {s t : ℕ} (s-in : s < 𝓜 .nodes) (t-i
           go (no e) (no q) = both (pos 0) (g .balanced v l e q) (f .balanced v l e q)
 
   -- ── there is at most one highest answer: the levels of the difference are at most zero both ways ──
-  pub highest-unique : (root : ℕ) → root < faces 𝓜 → {c : ℕ → ℤ} {value : ℤ} (x y : ℕ → ℤ) → Highest 𝓜 root c s t value x → Highest 𝓜 root c s t value y
+  pub highest-unique : (outer : ℕ) → outer < darts 𝓜 → {c : ℕ → ℤ} {value : ℤ} (x y : ℕ → ℤ) → Highest 𝓜 outer c s t value x → Highest 𝓜 outer c s t value y
       → (e : ℕ) → e < 𝓜 .edges → x e ≡ y e
-  highest-unique root root-in x y hx hy = onDarts-injective 𝓜 x y (λ d l. sym (equal-of-sub (onDarts y d) (onDarts x d) (none d l)))
+  highest-unique outer outer-in x y hx hy = onDarts-injective 𝓜 x y (λ d l. sym (equal-of-sub (onDarts y d) (onDarts x d) (none d l)))
     where
-      r : (ρ : ℕ → ℤ) × Levels 𝓜 root (λ e. y e -ℤ x e) ρ × ((f : ℕ) → f < faces 𝓜 → ρ f ≤ℤ pos 0)
+      r : (ρ : ℕ → ℤ) × Levels 𝓜 outer (λ e. y e -ℤ x e) ρ × ((f : ℕ) → f < faces 𝓜 → ρ f ≤ℤ pos 0)
       r = hx .highest y (hy .carries)
 
-      q : (ρ : ℕ → ℤ) × Levels 𝓜 root (λ e. x e -ℤ y e) ρ × ((f : ℕ) → f < faces 𝓜 → ρ f ≤ℤ pos 0)
+      q : (ρ : ℕ → ℤ) × Levels 𝓜 outer (λ e. x e -ℤ y e) ρ × ((f : ℕ) → f < faces 𝓜 → ρ f ≤ℤ pos 0)
       q = hy .highest x (hx .carries)
 
       -- the levels one way are the negatives of those the other way
@@ -66,7 +69,7 @@ module _ {𝓜 : Map} (p : Plane 𝓜) {s t : ℕ} (s-in : s < 𝓜 .nodes) (t-i
 
       zero-at : (f : ℕ) → f < faces 𝓜 → r .0 f ≡ pos 0
       zero-at f l =
-          let same = potentials-one p root root-in (onDarts (λ e. y e -ℤ x e)) (r .0) (λ f. negℤ (q .0 f)) (r .1 .differences) turned (r .1 .rooted) (ap negℤ (q .1 .rooted)) f l in
+          let same = potentials-one p outer outer-in (onDarts (λ e. y e -ℤ x e)) (r .0) (λ f. negℤ (q .0 f)) (r .1 .differences) turned (r .1 .rooted) (λ g z. ap negℤ (q .1 .rooted g z)) f l in
           le-antisym (r .2 f l)
           (let a = atoms₂ (r .0 f) (q .0 f) in at-most (search parts) (omega (arith, from-equal same (search parts), from-at-most (q .2 f l) (search parts))))
 
@@ -77,10 +80,10 @@ module _ {𝓜 : Map} (p : Plane 𝓜) {s t : ℕ} (s-in : s < 𝓜 .nodes) (t-i
           ∙ ap₂ _-ℤ_ (zero-at (left 𝓜 d) (left-in (p .sound) d l)) (zero-at (right 𝓜 d) (right-in (p .sound) d l))
 
   -- ── potentials above all others make it ──
-  module _ {π : ℕ → ℤ} (unit : UnitFlow 𝓜 s t π) (c : ℕ → ℤ) (value : ℤ) (root : ℕ) (root-in : root < faces 𝓜) where
-    pub top-is-highest : (ρ : ℕ → ℤ) → Feasible 𝓜 (lengthFor c π value) ρ → ρ root ≡ pos 0
-        → ((τ : ℕ → ℤ) → Feasible 𝓜 (lengthFor c π value) τ → τ root ≡ pos 0 → (f : ℕ) → f < faces 𝓜 → τ f ≤ℤ ρ f)
-        → Highest 𝓜 root c s t value (edgeFlow 𝓜 π value ρ)
+  module _ {π : ℕ → ℤ} (unit : UnitFlow 𝓜 s t π) (c : ℕ → ℤ) (value : ℤ) (outer : ℕ) (outer-in : outer < darts 𝓜) where
+    pub top-is-highest : (ρ : ℕ → ℤ) → Feasible 𝓜 (lengthFor c π value) ρ → ((f : ℕ) → ZeroFace 𝓜 outer f → ρ f ≡ pos 0)
+        → ((τ : ℕ → ℤ) → Feasible 𝓜 (lengthFor c π value) τ → ((f : ℕ) → ZeroFace 𝓜 outer f → τ f ≡ pos 0) → (f : ℕ) → f < faces 𝓜 → τ f ≤ℤ ρ f)
+        → Highest 𝓜 outer c s t value (edgeFlow 𝓜 π value ρ)
     top-is-highest ρ feasible zero top = record { carries = mine; highest = others }
       where
         x : ℕ → ℤ
@@ -89,11 +92,11 @@ module _ {𝓜 : Map} (p : Plane 𝓜) {s t : ℕ} (s-in : s < 𝓜 .nodes) (t-i
         mine : Carries 𝓜 c s t value (edgeFlow 𝓜 π value ρ)
         mine = feasible-carries (p .sound) unit c value s-in s≢t ρ feasible
 
-        others : (y : ℕ → ℤ) → Carries 𝓜 c s t value y → (τ : ℕ → ℤ) × Levels 𝓜 root (λ e. y e -ℤ x e) τ × ((f : ℕ) → f < faces 𝓜 → τ f ≤ℤ pos 0)
+        others : (y : ℕ → ℤ) → Carries 𝓜 c s t value y → (τ : ℕ → ℤ) × Levels 𝓜 outer (λ e. y e -ℤ x e) τ × ((f : ℕ) → f < faces 𝓜 → τ f ≤ℤ pos 0)
         others y other = (r .0, record { differences = r .1; rooted = r .2 }, below)
           where
-            r : (τ : ℕ → ℤ) × Potentials 𝓜 (onDarts (λ e. y e -ℤ x e)) τ × (τ root ≡ pos 0)
-            r = potentials-at p root root-in (onDarts (λ e. y e -ℤ x e)) (flows-differ x y mine other)
+            r : (τ : ℕ → ℤ) × Potentials 𝓜 (onDarts (λ e. y e -ℤ x e)) τ × ((f : ℕ) → ZeroFace 𝓜 outer f → τ f ≡ pos 0)
+            r = potentials-at p outer outer-in (onDarts (λ e. y e -ℤ x e)) (flows-differ x y mine other)
 
             raised : ℕ → ℤ
             raised f = ρ f +ℤ r .0 f
@@ -118,4 +121,4 @@ module _ {𝓜 : Map} (p : Plane 𝓜) {s t : ℕ} (s-in : s < 𝓜 .nodes) (t-i
             below : (f : ℕ) → f < faces 𝓜 → r .0 f ≤ℤ pos 0
             below f l =
                 let a = atoms₂ (ρ f) (r .0 f) in
-                at-most (search parts) (omega (arith, from-at-most (top raised raised-feasible (ap₂ _+ℤ_ zero (r .2)) f l) (search parts)))
+                at-most (search parts) (omega (arith, from-at-most (top raised raised-feasible (λ g z. ap₂ _+ℤ_ (zero g z) (r .2 g z)) f l) (search parts)))

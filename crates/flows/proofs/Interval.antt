@@ -11,24 +11,15 @@ use lib.Signed.{_≤ℤ_, _<ℤ_}
 use Rattle.integers.proofs.Omega.{atoms₁, atoms₂, atoms₃, atoms₄, parts, less, from-at-most, from-less}
 use Rattle.integers.proofs.Laws.{lt-or-ge}
 use Rattle.integers.proofs.Tests.{either}
-use Rattle.faces.specs.Dart.{rev}
-use Rattle.faces.specs.Map.{Map, darts}
-use Rattle.faces.specs.Check.{InRange}
-use Rattle.faces.specs.Cut.{cut, union, intersection}
-use Rattle.faces.proofs.Submodular.{submodular}
+use Rattle.maps.specs.Dart.{rev}
+use Rattle.maps.specs.Map.{Map, darts}
+use Rattle.maps.specs.Check.{InRange}
+use Rattle.maps.specs.Cut.{cut, union, intersection}
+use Rattle.maps.proofs.Submodular.{submodular}
 use Rattle.flows.specs.Settings.{Carries}
 use Rattle.flows.specs.ProvingSet.{bound, Proves}
 use Rattle.flows.proofs.Exact.{proves-excludes}
-
--- S holds the source and not the sink; the sink and not the source; both or neither
-abbrev pub AtSource : (s t : ℕ) → (ℕ → Bool) → Type 0
-AtSource s t S = (S s ≡ true) × (S t ≡ false)
-
-abbrev pub AtSink : (s t : ℕ) → (ℕ → Bool) → Type 0
-AtSink s t S = (S s ≡ false) × (S t ≡ true)
-
-abbrev pub Beside : (s t : ℕ) → (ℕ → Bool) → Type 0
-Beside s t S = S s ≡ S t
+use Rattle.flows.specs.Sides.{AtSource, AtSink, Beside}
 
 module _ (s t : ℕ) (S : ℕ → Bool) where
   pub which : AtSource s t S ⊎ (AtSink s t S ⊎ Beside s t S)

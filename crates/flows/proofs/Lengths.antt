@@ -10,32 +10,18 @@ use lib.Signed.{_≤ℤ_}
 use Rattle.integers.specs.Sum.{when}
 use Rattle.integers.proofs.Omega.{atoms₁, atoms₂, atoms₃, atoms₄, parts, equal, at-most, from-equal, from-at-most}
 use Rattle.integers.proofs.Tests.{eqb-true, eqb-false}
-use Rattle.faces.specs.Dart.{rev}
-use Rattle.faces.specs.Map.{Map, darts}
-use Rattle.faces.specs.Face.{left, right}
-use Rattle.faces.specs.Check.{Sound}
-use Rattle.faces.specs.Flow.{Antisymmetric, net, Circulation, Flow}
-use Rattle.faces.specs.Potential.{difference}
-use Rattle.faces.proofs.Planar.{difference-circulation}
+use Rattle.maps.specs.Dart.{rev}
+use Rattle.maps.specs.Map.{Map, darts}
+use Rattle.maps.specs.Face.{left, right}
+use Rattle.maps.specs.Check.{Sound}
+use Rattle.maps.specs.Flow.{Antisymmetric, net, Circulation, Flow}
+use Rattle.maps.specs.Potential.{difference}
+use Rattle.maps.proofs.Planar.{difference-circulation}
 use Rattle.flows.specs.Settings.{onDarts, Carries}
 use Rattle.flows.proofs.OnDarts.{onDarts-antisymmetric, onDarts-of}
 use Rattle.flows.proofs.Nets.{net-ext, net-add, net-mul}
-use Rattle.flows.proofs.UnitFlow.{UnitFlow}
-
--- the length of a dart
-abbrev pub lengthFor : (ℕ → ℤ) → (ℕ → ℤ) → ℤ → ℕ → ℤ
-lengthFor c π value d = c d -ℤ value *ℤ π d
-
--- no dart can lower a potential
-abbrev pub Feasible : Map → (ℕ → ℤ) → (ℕ → ℤ) → Type 0
-Feasible 𝓜 length ρ = (d : ℕ) → d < darts 𝓜 → ρ (left 𝓜 d) ≤ℤ (ρ (right 𝓜 d) +ℤ length d)
-
--- the flow of the darts, and of the edges, that potentials and a value make
-abbrev pub made : Map → (ℕ → ℤ) → ℤ → (ℕ → ℤ) → ℕ → ℤ
-made 𝓜 π value ρ d = difference 𝓜 ρ d +ℤ value *ℤ π d
-
-abbrev pub edgeFlow : Map → (ℕ → ℤ) → ℤ → (ℕ → ℤ) → ℕ → ℤ
-edgeFlow 𝓜 π value ρ e = made 𝓜 π value ρ (2 * e)
+use Rattle.flows.specs.UnitFlow.{UnitFlow}
+use Rattle.flows.specs.Lengths.{lengthFor, Feasible, made, edgeFlow}
 
 module _ {𝓜 : Map} (σ : Sound 𝓜) {s t : ℕ} {π : ℕ → ℤ} (unit : UnitFlow 𝓜 s t π) (c : ℕ → ℤ) (value : ℤ) where
   made-antisymmetric : (ρ : ℕ → ℤ) → Antisymmetric 𝓜 (made 𝓜 π value ρ)

@@ -16,14 +16,15 @@ use Rattle.integers.specs.Limited.{Limited}
 use Rattle.integers.proofs.Limits.{limited-more, limited-both}
 use Rattle.integers.proofs.Tests.{of-T, either}
 use Rattle.integers.proofs.Counting.{bit-le, bit-one, sum-le-sum, term-le-sum, sum-full}
-use Rattle.faces.specs.Map.{Map, darts}
-use Rattle.faces.specs.Face.{faces, left, right}
-use Rattle.faces.specs.Potential.{difference}
-use Rattle.faces.proofs.Faces.{left-in, right-in, left-rotation, face-dart, same-in-part}
+use Rattle.maps.specs.Map.{Map, darts}
+use Rattle.maps.specs.Face.{faces, left, right}
+use Rattle.maps.specs.Potential.{difference}
+use Rattle.maps.proofs.Faces.{left-in, right-in, left-rotation, face-dart, same-in-part}
 use Rattle.flows.specs.Settings.{Within}
 use Rattle.flows.specs.Levels.{Levels}
 use Rattle.flows.proofs.Limits.{settings-limited}
-use Rattle.flows.proofs.Plane.{Plane, one-part}
+use Rattle.flows.proofs.Plane.{one-part}
+use Rattle.flows.specs.Plane.{Plane}
 
 -- what is one on both sides of every dart is one for all faces
 pub faces-agree : {𝓜 : Map} → Plane 𝓜 → {A : Type 0} (q : ℕ → A) → ((d : ℕ) → d < darts 𝓜 → q (right 𝓜 d) ≡ q (left 𝓜 d)) → (f g : ℕ) → f < faces 𝓜 → g < faces 𝓜 → q f ≡ q g
@@ -152,11 +153,11 @@ levels-limited {𝓜} p root root-in M ρ rooted near f l =
 pub faces-few : {𝓜 : Map} → Plane 𝓜 → 𝓜 .edges ≤ 512 → 2 ≤ 𝓜 .nodes → faces 𝓜 ≤ 512
 faces-few p few two = omega (arith, p .flat)
 
-pub levels-small : {𝓜 : Map} → Plane 𝓜 → faces 𝓜 ≤ 512 → (root : ℕ) → root < faces 𝓜 → (c x ρ : ℕ → ℤ) → ((d : ℕ) → d < darts 𝓜 → c d ≤ℤ pos 1000000) → Within 𝓜 c x
-    → Levels 𝓜 root x ρ → (f : ℕ) → f < faces 𝓜 → Limited 511000000 (ρ f)
-levels-small {𝓜} p few root root-in c x ρ low within levels f l =
+pub levels-small : {𝓜 : Map} → Plane 𝓜 → faces 𝓜 ≤ 512 → (outer : ℕ) → outer < darts 𝓜 → (c x ρ : ℕ → ℤ) → ((d : ℕ) → d < darts 𝓜 → c d ≤ℤ pos 1000000) → Within 𝓜 c x
+    → Levels 𝓜 outer x ρ → (f : ℕ) → f < faces 𝓜 → Limited 511000000 (ρ f)
+levels-small {𝓜} p few outer outer-in c x ρ low within levels f l =
     limited-more (omega arith)
-    (levels-limited p root root-in 1000000 ρ (levels .rooted) near f l)
+    (levels-limited p (left 𝓜 outer) (left-in (p .sound) outer outer-in) 1000000 ρ (levels .rooted (left 𝓜 outer) refl) near f l)
   where
     near : (d : ℕ) → d < darts 𝓜 → Limited 1000000 (difference 𝓜 ρ d)
     near d m = rw (levels .differences d m) at (settings-limited 𝓜 1000000 c x low within d m)

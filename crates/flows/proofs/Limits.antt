@@ -5,9 +5,9 @@ use lib.Signed.{_≤ℤ_}
 use Rattle.integers.specs.Limited.{Limited}
 use Rattle.integers.proofs.Laws.{le-trans}
 use Rattle.integers.proofs.Limits.{limited-both}
-use Rattle.faces.specs.Dart.{rev}
-use Rattle.faces.specs.Map.{Map, darts}
-use Rattle.faces.proofs.Darts.{rev-in}
+use Rattle.maps.specs.Dart.{rev}
+use Rattle.maps.specs.Map.{Map, darts}
+use Rattle.maps.proofs.Darts.{rev-in}
 use Rattle.flows.specs.Settings.{onDarts, Within}
 use Rattle.flows.proofs.OnDarts.{onDarts-antisymmetric}
 

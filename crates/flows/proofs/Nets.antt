@@ -6,8 +6,8 @@ use lib.IntN.{ℤ, pos, negℤ, _+ℤ_, _-ℤ_, _*ℤ_}
 use Rattle.integers.specs.Sum.{Integers, sumℤ, when}
 use Rattle.integers.proofs.Sums.{sum-ext, sum-add}
 use Rattle.integers.proofs.IntegerSums.{sum-neg, sum-mul, when-neg, when-add, when-mul}
-use Rattle.faces.specs.Map.{Map, darts}
-use Rattle.faces.specs.Flow.{net, Circulation, Flow}
+use Rattle.maps.specs.Map.{Map, darts}
+use Rattle.maps.specs.Flow.{net, Circulation, Flow}
 
 module _ (𝓜 : Map) (v : ℕ) where
   abbrev here : ℕ → ℤ → ℤ

@@ -7,10 +7,10 @@ use native.Mathlib.Omega.{arith}
 use lib.Dec.{eqb}
 use lib.IntN.{ℤ, pos, negℤ, _+ℤ_, _-ℤ_, negℤ-negℤ, negℤ-+ℤ}
 use Rattle.integers.proofs.Tests.{eqb-true, eqb-false}
-use Rattle.faces.specs.Dart.{rev}
-use Rattle.faces.specs.Map.{Map, darts}
-use Rattle.faces.specs.Flow.{Antisymmetric}
-use Rattle.faces.proofs.Darts.{rev-even, rev-odd, by-edge}
+use Rattle.maps.specs.Dart.{rev}
+use Rattle.maps.specs.Map.{Map, darts}
+use Rattle.maps.specs.Flow.{Antisymmetric}
+use Rattle.maps.proofs.Darts.{rev-even, rev-odd, by-edge}
 use Rattle.flows.specs.Settings.{onDarts}
 
 pub onDarts-even : (x : ℕ → ℤ) (e : ℕ) → onDarts x (2 * e) ≡ x e

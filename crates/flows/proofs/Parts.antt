@@ -5,10 +5,10 @@ use mathlib.Core.Bool.{Bool}
 use Prim.Native.Nat.{ℕ, suc, _<_}
 use lib.IntN.{ℤ, pos, _*ℤ_}
 use Rattle.integers.proofs.Laws.{lt-le-clash}
-use Rattle.faces.specs.Map.{Map}
-use Rattle.faces.specs.Check.{InRange}
-use Rattle.faces.specs.Flow.{Flow}
-use Rattle.faces.proofs.Cuts.{cut-bound-parts}
+use Rattle.maps.specs.Map.{Map}
+use Rattle.maps.specs.Check.{InRange}
+use Rattle.maps.specs.Flow.{Flow}
+use Rattle.maps.proofs.Cuts.{cut-bound-parts}
 use Rattle.flows.specs.ProvingSet.{Proves}
 use Rattle.flows.proofs.Exact.{bound-sent}
 

@@ -11,20 +11,13 @@ use Rattle.integers.proofs.Omega.{atoms₁, atoms₂, atoms₃, parts, equal}
 use Rattle.integers.proofs.Laws.{neg-sub}
 use Rattle.integers.proofs.Sums.{sum-ext, sum-nil, sum-add, sum-pick}
 use Rattle.integers.proofs.IntegerSums.{sum-sub, when-zero, when-mul}
-use Rattle.faces.specs.Dart.{rev}
-use Rattle.faces.specs.Map.{Map, darts, head}
-use Rattle.faces.specs.Walk.{Walk, here, along}
-use Rattle.faces.specs.Flow.{Antisymmetric, net}
-use Rattle.faces.proofs.Darts.{rev-rev, rev-in, eqb-rev}
+use Rattle.maps.specs.Dart.{rev}
+use Rattle.maps.specs.Map.{Map, darts, head}
+use Rattle.maps.specs.Walk.{Walk, here, along}
+use Rattle.maps.specs.Flow.{Antisymmetric, net}
+use Rattle.maps.proofs.Darts.{rev-rev, rev-in, eqb-rev}
 use Rattle.flows.proofs.Nets.{net-ext, net-add}
-
-pub record UnitFlow (𝓜 : Map) (s t : ℕ) (π : ℕ → ℤ) : Type 0 where
-  pub antisymmetric : Antisymmetric 𝓜 π
-  pub nets : (v : ℕ) → net 𝓜 π v ≡ when (eqb v s) (pos 1) -ℤ when (eqb v t) (pos 1)
-
--- one on the dart d, minus one on its reverse
-abbrev pub single : ℕ → ℕ → ℤ
-single d i = when (eqb i d) (pos 1) -ℤ when (eqb i (rev d)) (pos 1)
+use Rattle.flows.specs.UnitFlow.{UnitFlow, single, walkFlow}
 
 pub single-antisymmetric : (d i : ℕ) → single d (rev i) ≡ negℤ (single d i)
 single-antisymmetric d i =
@@ -51,11 +44,6 @@ single-net 𝓜 d l v =
     split false true false = refl
     split false false true = refl
     split false false false = refl
-
--- one along each dart of a walk
-unfoldable pub walkFlow : {𝓜 : Map} {v w : ℕ} → Walk 𝓜 v w → ℕ → ℤ
-walkFlow here i = pos 0
-walkFlow (along d l e r) i = single d i +ℤ walkFlow r i
 
 walk-antisymmetric : {𝓜 : Map} {v w : ℕ} (r : Walk 𝓜 v w) (i : ℕ) → walkFlow r (rev i) ≡ negℤ (walkFlow r i)
 unfolding walkFlow

@@ -13,11 +13,11 @@ use Rattle.integers.specs.Limited.{Limited}
 use Rattle.integers.proofs.Limits.{limited-zero, limited-more, limited-sum}
 use Rattle.integers.proofs.Tests.{eqb-true, eqb-false}
 use Rattle.integers.proofs.Sums.{sum-pairs}
-use Rattle.faces.specs.Map.{Map, darts}
-use Rattle.faces.specs.Check.{InRange}
-use Rattle.faces.specs.Cut.{leaves, cut}
-use Rattle.faces.proofs.Darts.{rev-even, rev-odd}
-use Rattle.faces.proofs.Cuts.{flow-sent}
+use Rattle.maps.specs.Map.{Map, darts}
+use Rattle.maps.specs.Check.{InRange}
+use Rattle.maps.specs.Cut.{leaves, cut}
+use Rattle.maps.proofs.Darts.{rev-even, rev-odd}
+use Rattle.maps.proofs.Cuts.{flow-sent}
 use Rattle.flows.specs.Settings.{onDarts, Carries}
 use Rattle.flows.proofs.Limits.{settings-limited}
 

@@ -7,8 +7,8 @@ use mathlib.Core.List.{List, [], _∷_}
 use lib.IntN.{ℤ, pos, negℤ}
 use lib.Signed.{_<ℤ_}
 use Rattle.refusals.specs.Order.{Check, _at_when_, inTurn}
-use Rattle.faces.specs.Map.{Map}
-use Rattle.faces.specs.Flow.{net}
+use Rattle.maps.specs.Map.{Map}
+use Rattle.maps.specs.Flow.{net}
 use Rattle.flows.specs.Settings.{onDarts}
 
 -- the flow of edge e is more than its forward capacity, or against it more than its back capacity

@@ -1,5 +1,10 @@
+pub mod ZeroFace
 pub mod Settings
 pub mod Levels
 pub mod Highest
 pub mod ProvingSet
+pub mod Sides
 pub mod Check
+pub mod Plane
+pub mod UnitFlow
+pub mod Lengths

@@ -10,8 +10,8 @@ use lib.ListN.{length, getD}
 use lib.Count.{ones}
 use lib.IntN.{ℤ, pos, negℤ}
 use lib.Signed.{_<ℤ_}
-use Rattle.faces.specs.Map.{Map}
-use Rattle.faces.specs.Cut.{cut}
+use Rattle.maps.specs.Map.{Map}
+use Rattle.maps.specs.Cut.{cut}
 
 -- what the outward total of S must be below, to prove the value impossible
 unfoldable pub bound : (ℕ → Bool) → ℕ → ℕ → ℤ → ℤ

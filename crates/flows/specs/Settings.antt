@@ -6,8 +6,8 @@ use mathlib.Core.Bool.{cond}
 use lib.Dec.{eqb}
 use lib.IntN.{ℤ, negℤ}
 use lib.Signed.{_≤ℤ_}
-use Rattle.faces.specs.Map.{Map, darts}
-use Rattle.faces.specs.Flow.{Circulation, Flow}
+use Rattle.maps.specs.Map.{Map, darts}
+use Rattle.maps.specs.Flow.{Circulation, Flow}
 
 -- the flow of the darts: x e on dart 2e, its negative on dart 2e+1
 unfoldable pub onDarts : (ℕ → ℤ) → ℕ → ℤ

@@ -5,8 +5,9 @@ use mathlib.Core.List.{[], _∷_}
 use Prim.Native.Nat.{ℕ, zero, suc, _<_}
 use native.Mathlib.Omega.{arith}
 use lib.IntN.{pos, negsuc}
-use Rattle.faces.specs.Dart.{rev}
-use Rattle.heights.specs.Filling.{at, atℤ, HeightsOf}
+use Rattle.maps.specs.Dart.{rev}
+use Rattle.heights.specs.Heights.{HeightsOf}
+use Rattle.arrays.specs.At.{at, atℤ}
 
 -- what holds of 0, 1, 2 and 3 holds of each number below 4
 four : (P : ℕ → Type 0) → P 0 → P 1 → P 2 → P 3 → (d : ℕ) → d < 4 → P d

@@ -1,3 +1,3 @@
-pub mod Filling
-pub mod Found
+pub mod FillingHeights
+pub mod HeightsOfMap
 pub mod Examples

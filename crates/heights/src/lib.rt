@@ -5,7 +5,8 @@ ghost use lib.ListN.{length};
 ghost use lib.IntN.{_-ℤ_};
 ghost use mir.Syntax.{w32};
 ghost use mir.Val.{SFits};
-ghost use Rattle.heights.specs.Filling.{at, atℤ, Fillable, Filled};
+ghost use Rattle.heights.specs.Heights.{Fillable, Filled};
+ghost use Rattle.arrays.specs.At.{at, atℤ};
 
 // The node of the first dart in the order is at 0; the node at the end of a dart is lower by the dart's winding.
 pub fn fill_heights(
@@ -19,18 +20,18 @@ pub fn fill_heights(
     requires { ⌜ (length (now heights) ≡ 1024) × Fillable darts (at (now tails)) (at (now order)) (at (now from)) (atℤ (now winding)) ⌝ }
     ensures { λ _. ⌜ (length (now (heights .exit)) ≡ 1024) × Filled darts (at (now (tails .entry))) (at (now (order .entry)) 0) (atℤ (now (winding .entry))) (atℤ (now (heights .exit))) ⌝ }
 {
-    let start = traversal::wide(order[0]);
-    let root = traversal::wide(tails[start]);
+    let start = arrays::wide(order[0]);
+    let root = arrays::wide(tails[start]);
     heights[root] = 0;
     let mut i: usize = 1;
     while i < darts {
-        let d = traversal::wide(order[i]);
+        let d = arrays::wide(order[i]);
         i += 1;
-        let p = traversal::wide(from[d]);
-        let back = traversal::reverse(p);
+        let p = arrays::wide(from[d]);
+        let back = arrays::reverse(p);
         if d == back {
-            let known = traversal::wide(tails[p]);
-            let next = traversal::wide(tails[d]);
+            let known = arrays::wide(tails[p]);
+            let next = arrays::wide(tails[d]);
             heights[next] = signed::minus(heights[known], winding[p]);
         }
     }

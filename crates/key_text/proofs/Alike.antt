@@ -84,7 +84,7 @@ module _ (n : ℕ) (s s' : List ℕ) (h : Alike n s s') where
       )
 
   head-alike : 5 ≤ n → Same (headChecks s) (headChecks s')
-  unfolding headChecks bodyLength
+  unfolding headChecks
   head-alike l =
       same-append (recordChecks s 1 0) (recordChecks s' 1 0) (countChecks (nodesOf s) (edgesOf s)) (countChecks (nodesOf s') (edgesOf s'))
       (record-alike 1 0 l) (same-if _ _ (ap₂ countChecks (u16-alike n s s' h 1 (omega arith)) (u16-alike n s s' h 3 (omega arith))))
@@ -105,7 +105,7 @@ module _ (n : ℕ) (s s' : List ℕ) (h : Alike n s s') where
         ∙ sym (edge-fields s' e (omega (arith, edges-alike)))
 
     edge-alike : (e : ℕ) → e < edgesOf s → Same (edgeRecordChecks s e) (edgeRecordChecks s' e)
-    unfolding edgeRecordChecks bodyLength
+    unfolding edgeRecordChecks
     edge-alike e l =
         same-append (recordChecks s 2 (edgeAt e)) (recordChecks s' 2 (edgeAt e)) (edgeChecks (sheetDrawing s) e) (edgeChecks (sheetDrawing s') e)
         (record-alike 2 (edgeAt e) (omega arith)) (same-if _ _ (drawn-alike e l))

@@ -11,22 +11,24 @@ use lib.IntN.{ℤ}
 use Rattle.integers.specs.Limited.{Limited}
 use Rattle.refusals.specs.Order.{Check, NoneOf, FirstOf}
 use Rattle.refusals.proofs.Order.{none-append, append-none, append-first, first-left, first-right, first-none, neither}
-use Rattle.faces.specs.Map.{darts}
+use Rattle.maps.specs.Map.{darts}
 use Rattle.flows.specs.ProvingSet.{wordsFor, member, size}
 use Rattle.flows.proofs.Limits.{settings-limited}
 use Rattle.flows.proofs.OnDarts.{onDarts-even}
 use Rattle.records.specs.Record.{bodyLength, recordChecks}
 use Rattle.records.specs.Sheet.{nodesOf, edgesOf, capacityOf, sheetMap}
-use Rattle.sheets.specs.Network.{atℤ}
+use Rattle.arrays.specs.At.{atℤ}
 use Rattle.sheets.specs.Open.{sheetChecks}
 use Rattle.sheets.proofs.Opening.{bytes-room}
-use Rattle.sheets.proofs.Reading.{sheet-bytes, sheet-counts}
-use Rattle.analyser.specs.Question.{endChecks, valueChecks, roomChecks, SetWritten}
+use Rattle.sheets.proofs.Accepted.{sheet-bytes, sheet-counts}
+use Rattle.questions.specs.Question.{endChecks, valueChecks, roomChecks, SetWritten}
+use Rattle.questions.specs.Solve.{questionChecks}
 use Rattle.analyser.specs.Solve.{solveChecks, Solves}
-use Rattle.analyser.specs.declared.SolveAnswer.{SolveAnswer}
-use Rattle.analyser.specs.declared.SolveAnswer.the-variants.{Can, Cannot, Refused}
-use Rattle.analyser.proofs.Solving.{Accepted, accepted, solve-none, value-limited}
-use Rattle.analyser.proofs.SheetPlane.{capacity-high}
+use Rattle.questions.specs.declared.SolveAnswer.{SolveAnswer}
+use Rattle.questions.specs.declared.SolveAnswer.the-variants.{Can, Cannot, Refused}
+use Rattle.questions.proofs.Asked.{value-limited}
+use Rattle.analyser.proofs.Accepted.{Accepted, accepted, solve-none}
+use Rattle.analyser.proofs.SheetPlane.{capacity-small}
 use Rattle.analyser.proofs.Demand3.{can-highest}
 use Rattle.texts.specs.Decimal.{decimal}
 use Rattle.texts.specs.Placed.{Placed}
@@ -41,7 +43,7 @@ printed b t text text' n k p room = (t, k, omega (arith, p .1), omega (arith, p 
 
 -- a question that is not refused has nine bytes
 pub question-whole : (b : List ℕ) → NoneOf (recordChecks b 3 0) → 9 ≤ length b
-unfolding NoneOf recordChecks bodyLength
+unfolding NoneOf recordChecks
 question-whole b h = let short : length b < 9 → ⊥ = h .1 .1 .0 in omega (arith, short)
 
 -- 1 or 2, of the question
@@ -86,7 +88,7 @@ module _ (s : List ℕ) (source sink : ℕ) (value : ℤ) (flows flows' : List �
       let a = accepted s source sink value flows set (h .0) in
       let x = can-highest s source sink value flows flows' set set' (h .0) h in
       subst (Limited 1000000) (onDarts-even (atℤ flows') e)
-      (settings-limited (sheetMap s) 1000000 (capacityOf s) (atℤ flows') (capacity-high s (a .sheet)) (x .carries .within) (2 * e) (omega arith))
+      (settings-limited (sheetMap s) 1000000 (capacityOf s) (atℤ flows') (λ d m. capacity-small s (a .sheet) d m .high) (x .carries .within) (2 * e) (omega arith))
 
 -- "the key's own slices are long enough, so 16 never comes"
 no-sixteen : (s : List ℕ) (flows : List ℤ) (set : List ℕ) → 512 ≤ length flows → 9 ≤ length set → NoneOf (sheetChecks s)
@@ -103,7 +105,8 @@ key-solve b flows set long wide h =
     let a = append-none (recordChecks b 3 0) _ h in
     let c = append-none (sheetChecks s) _ (a .1) in
     let d = append-none (endChecks (nodesOf s) (sourceOf b) (sinkOf b)) (valueChecks (valueOf b)) (c .1) in
-    solve-none s (sourceOf b) (sinkOf b) (valueOf b) flows set (c .0) (d .0) (d .1) (no-sixteen s flows set long wide (c .0))
+    solve-none s (sourceOf b) (sinkOf b) (valueOf b) flows set
+    (record { sheet = c .0; ends-two = d .0; value-inside = d .1; has-room = no-sixteen s flows set long wide (c .0) })
 
 module _ (b : List ℕ) (question : NoneOf (recordChecks b 3 0)) (flows flows' : List ℤ) (set set' : List ℕ) (long : 512 ≤ length flows) (wide : 9 ≤ length set) where
   abbrev s : List ℕ
@@ -120,7 +123,7 @@ module _ (b : List ℕ) (question : NoneOf (recordChecks b 3 0)) (flows flows' :
       (none-append (sheetChecks s) _ (a .sheet) (none-append (endChecks (nodesOf s) (sourceOf b) (sinkOf b)) _ (a .ends-two) (a .value-inside)))
 
   key-first : (k p : ℕ) → FirstOf checks k p → FirstOf (keyChecks b) k p
-  unfolding keyChecks solveChecks
+  unfolding keyChecks solveChecks questionChecks
   key-first k p f = first-right (recordChecks b 3 0) (sheetChecks s ++ (ends ++ asked)) k p question (by-sheet (append-first (sheetChecks s) (ends ++ (asked ++ room)) k p f))
     where
       ends : List Check

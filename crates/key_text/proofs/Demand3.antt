@@ -12,9 +12,9 @@ use Rattle.refusals.specs.Order.{NoneOf, FirstOf}
 use Rattle.refusals.proofs.Order.{first-none, first-one}
 use Rattle.flows.specs.Highest.{Highest}
 use Rattle.flows.specs.ProvingSet.{Proves, SetOf, member, size}
-use Rattle.records.specs.Sheet.{nodesOf, edgesOf, capacityOf, sheetMap}
+use Rattle.records.specs.Sheet.{nodesOf, edgesOf, capacityOf, sheetMap, outerOf}
 use Rattle.analyser.specs.Solve.{solveChecks}
-use Rattle.analyser.proofs.Solving.{Accepted, accepted}
+use Rattle.analyser.proofs.Accepted.{Accepted, accepted}
 use Rattle.analyser.proofs.Asked.{one-highest}
 use Rattle.analyser.proofs.Demand3.{Delivers, set-excludes}
 use Rattle.key_text.specs.Question.{sourceOf, sinkOf, valueOf, sheetOf, keyChecks}
@@ -101,7 +101,7 @@ module _ (b : List ℕ) (asked : NoneOf (keyChecks b)) where
 
   -- ── what stands under "can": each edge with its flow in the highest answer, of which there is one ──
   pub can-prints : (t : List ℕ) → Key b t → Says canWord t
-      → (x : ℕ → ℤ) × Highest (sheetMap s) 0 (capacityOf s) (sourceOf b) (sinkOf b) (valueOf b) x × (t ≡ canText (valueOf b) (edgesOf s) x)
+      → (x : ℕ → ℤ) × Highest (sheetMap s) (outerOf s) (capacityOf s) (sourceOf b) (sinkOf b) (valueOf b) x × (t ≡ canText (valueOf b) (edgesOf s) x)
   can-prints t (can none x h e) c = (x, h, e)
   can-prints t (cannot none words k p e) c = absurd (can-cannot t c (says-cannot _ _ _ _ t e))
   can-prints t (refused k p f e) c = absurd (first-none (keyChecks b) k p f asked)

@@ -8,11 +8,11 @@ use lib.ListN.{length, take, length-drop}
 use lib.Seq.{take-all}
 use Rattle.refusals.specs.Order.{Check, NoneOf, FirstOf}
 use Rattle.refusals.proofs.Order.{append-none}
-use Rattle.records.specs.Record.{bodyLength, recordChecks}
+use Rattle.records.specs.Record.{recordLength, bodyLength, recordChecks}
 use Rattle.records.specs.Sheet.{nodesOf}
 use Rattle.sheets.specs.Open.{sheetChecks}
-use Rattle.sheets.proofs.Reading.{sheet-bytes}
-use Rattle.analyser.specs.Question.{endChecks, valueChecks}
+use Rattle.sheets.proofs.Accepted.{sheet-bytes}
+use Rattle.questions.specs.Question.{endChecks, valueChecks}
 use Rattle.key_text.specs.Question.{sourceOf, sinkOf, valueOf, sheetOf, keyChecks}
 use Rattle.key_text.specs.Key.{Key, can, cannot, refused}
 use Rattle.key_text.proofs.Alike.{Alike, alike-sym, alike-take, alike-drop, record-alike, first-after, first-within, first-sheet, longest-bytes}
@@ -26,14 +26,14 @@ pub longest : (b : List ℕ) → NoneOf (keyChecks b) → length b ≤ 8718
 unfolding keyChecks
 longest b none =
     let sheet = append-none (sheetChecks (sheetOf b)) (asked b) (append-none (recordChecks b 3 0) (sheetChecks (sheetOf b) ++ asked b) none .1) .0 in
-    omega (arith, length-drop 9 b, longest-bytes (sheetOf b) (sheet-bytes (sheetOf b) sheet))
+    omega (arith, length-drop (recordLength 3) b, longest-bytes (sheetOf b) (sheet-bytes (sheetOf b) sheet))
 
 module _ (b b' : List ℕ) (h : Alike 8718 b b') where
   sheets : Alike 8709 (sheetOf b) (sheetOf b')
-  sheets = alike-drop 9 8709 b b' h
+  sheets = alike-drop (recordLength 3) 8709 b b' h
 
   first-key : (k p : ℕ) → FirstOf (keyChecks b) k p → FirstOf (keyChecks b') k p
-  unfolding keyChecks bodyLength
+  unfolding keyChecks
   first-key k p =
       first-after (recordChecks b 3 0) (recordChecks b' 3 0) (sheetChecks (sheetOf b) ++ asked b) (sheetChecks (sheetOf b') ++ asked b') k p
       (record-alike 8718 b b' h 3 0 (omega arith))

@@ -8,7 +8,7 @@ use lib.IntN.{ℤ}
 use Rattle.refusals.specs.Order.{Check, _when_, NoneOf, FirstOf}
 use Rattle.flows.specs.Highest.{Highest}
 use Rattle.flows.specs.ProvingSet.{Proves, SetOf, member, size}
-use Rattle.records.specs.Sheet.{nodesOf, edgesOf, capacityOf, sheetMap}
+use Rattle.records.specs.Sheet.{nodesOf, edgesOf, capacityOf, sheetMap, outerOf}
 use Rattle.key_text.specs.Question.{sourceOf, sinkOf, valueOf, sheetOf, keyChecks}
 use Rattle.key_text.specs.declared.KeyAnswer.{KeyAnswer}
 use Rattle.key_text.specs.declared.KeyAnswer.the-variants.{Bytes, Refused}
@@ -18,7 +18,7 @@ use Rattle.key_text.specs.Text.{canText, cannotText, refusedText}
 pub data Key (b t : List ℕ) : Type 0 where
   can : NoneOf (keyChecks b)
       → (x : ℕ → ℤ)
-      → Highest (sheetMap (sheetOf b)) 0 (capacityOf (sheetOf b)) (sourceOf b) (sinkOf b) (valueOf b) x
+      → Highest (sheetMap (sheetOf b)) (outerOf (sheetOf b)) (capacityOf (sheetOf b)) (sourceOf b) (sinkOf b) (valueOf b) x
       → t ≡ canText (valueOf b) (edgesOf (sheetOf b)) x
       → Key b t
   cannot : NoneOf (keyChecks b)

@@ -6,10 +6,10 @@ use lib.ListN.{drop}
 use lib.IntN.{ℤ}
 use Rattle.refusals.specs.Order.{Check}
 use Rattle.fields.specs.Fields.{u16At, i32At}
-use Rattle.records.specs.Record.{recordChecks}
+use Rattle.records.specs.Record.{recordLength, recordChecks}
 use Rattle.records.specs.Sheet.{nodesOf}
 use Rattle.sheets.specs.Open.{sheetChecks}
-use Rattle.analyser.specs.Question.{endChecks, valueChecks}
+use Rattle.questions.specs.Question.{endChecks, valueChecks}
 
 abbrev pub sourceOf : List ℕ → ℕ
 sourceOf b = u16At b 1
@@ -20,9 +20,9 @@ sinkOf b = u16At b 3
 abbrev pub valueOf : List ℕ → ℤ
 valueOf b = i32At b 5
 
--- a question has one byte of kind and 8 of body; the sheet is all that follows
+-- the sheet is all that follows the question's record
 abbrev pub sheetOf : List ℕ → List ℕ
-sheetOf b = drop 9 b
+sheetOf b = drop (recordLength 3) b
 
 -- "1 or 2 for the question come first, then Solve's order; the key's own slices are long enough, so 16 never comes"
 unfoldable pub keyChecks : List ℕ → List Check

@@ -6,13 +6,13 @@ ghost use lib.ListN.{length};
 ghost use Rattle.integers.specs.Limited.{Limited};
 ghost use Rattle.refusals.specs.Order.{NoneOf};
 ghost use Rattle.records.specs.Record.{recordChecks};
-ghost use Rattle.sheets.specs.Network.{atℤ};
+ghost use Rattle.arrays.specs.At.{atℤ};
 ghost use Rattle.texts.specs.Placed.{Placed};
 ghost use Rattle.key_text.specs.Question.{sourceOf, sinkOf, valueOf, sheetOf};
 ghost use Rattle.key_text.specs.Text.{lines, edgeLine, canLine, canText, nodeLine, cannotLine, cannotText, refusedText};
 ghost use Rattle.key_text.specs.Key.{Prints, textRoom, Writes};
 ghost use Rattle.key_text.specs.Input.{inputRoom, Begins};
-use analyser::SolveAnswer;
+use questions::SolveAnswer;
 use refusals::Verdict;
 
 // The number of an edge or a node, of a refusal, of a set's size, at the width in which digits are taken; the bound says how many there are.
@@ -164,7 +164,8 @@ fn put_key(input: &[u8], text: &mut [u8]) -> usize
     let source = fields::read_u16(input, 1);
     let sink = fields::read_u16(input, 3);
     let value = fields::read_i32(input, 5);
-    put_answer(&input[9..], source, sink, value, text)
+    let after = records::record_length(3);
+    put_answer(&input[after..], source, sink, value, text)
 }
 
 // The key in an array that is long enough for every key: this is what the program prints.

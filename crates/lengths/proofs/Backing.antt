@@ -12,13 +12,15 @@ use mir.Val.{toZ, ofZ}
 use Rattle.integers.specs.Sum.{when}
 use Rattle.integers.proofs.Omega.{atoms₁, atoms₄, parts, equal}
 use Rattle.integers.proofs.Tests.{eqb-false}
-use Rattle.faces.specs.Dart.{rev}
-use Rattle.faces.specs.Map.{Map, darts}
-use Rattle.faces.specs.Walk.{Walk, here, along}
-use Rattle.faces.proofs.Darts.{rev-rev}
-use Rattle.flows.proofs.UnitFlow.{single, walkFlow}
+use Rattle.maps.specs.Dart.{rev}
+use Rattle.maps.specs.Map.{Map, darts}
+use Rattle.maps.specs.Walk.{Walk, here, along}
+use Rattle.maps.proofs.Darts.{rev-rev}
+use Rattle.flows.specs.UnitFlow.{single, walkFlow}
 use Rattle.traversal.specs.Spread.{Met, Follows}
-use Rattle.lengths.specs.Filling.{Limited, mostCapacity, mostValue, mostLength, Reached, Fillable, Filled}
+use Rattle.lengths.specs.Lengths.{Reached, Fillable, Filled}
+use Rattle.integers.specs.Limited.{Limited}
+use Rattle.arrays.specs.Sizes.{mostCapacity, mostValue, mostLength}
 use Rattle.signed.proofs.Limits.{same-bits}
 use Rattle.lengths.proofs.Limits.{Unit, two-tests, less-nothing, limited-unit}
 use Rattle.lengths.proofs.Place.{spot, met-before, met-in}

@@ -12,7 +12,7 @@ use lib.Seq.{getD-set-same, getD-set-other}
 use Rattle.integers.specs.Sum.{when}
 use Rattle.integers.proofs.Omega.{atoms₂, parts, equal}
 use Rattle.integers.proofs.Tests.{eqb-true, eqb-false}
-use Rattle.lengths.specs.Filling.{atℤ}
+use Rattle.arrays.specs.At.{atℤ}
 use Rattle.lengths.proofs.Limits.{less-nothing}
 
 pub carried : (l : List ℤ) (p x : ℕ) (value a b : ℤ) → length l ≡ 1024 → p < 1024 → x < 1024 → x ≢ p → a ≡ atℤ l p -ℤ value → b ≡ atℤ l x +ℤ value

@@ -2,5 +2,5 @@ pub mod Limits
 pub mod Place
 pub mod Carrying
 pub mod Backing
-pub mod Found
+pub mod PathFlow
 pub mod Examples

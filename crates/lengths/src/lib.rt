@@ -9,7 +9,10 @@ ghost use lib.IntN.{pos, _+ℤ_, _-ℤ_, _*ℤ_};
 ghost use mir.Syntax.{w32};
 ghost use mir.Val.{SFits};
 ghost use Rattle.integers.specs.Sum.{when};
-ghost use Rattle.lengths.specs.Filling.{at, atℤ, Limited, mostCapacity, mostValue, Fillable, Filled};
+ghost use Rattle.lengths.specs.Lengths.{Fillable, Filled};
+ghost use Rattle.arrays.specs.At.{at, atℤ};
+ghost use Rattle.integers.specs.Limited.{Limited};
+ghost use Rattle.arrays.specs.Sizes.{mostCapacity, mostValue};
 
 fn copy_capacities(capacities: &[i32; 1024], darts: usize, lengths: &mut [i32; 1024])
     requires { ⌜ (length (now lengths) ≡ 1024) × (darts ≤ 1024) ⌝ }
@@ -48,8 +51,8 @@ pub fn fill_lengths(
     copy_capacities(capacities, darts, lengths);
     let mut x: usize = finish;
     while x != start {
-        let p = traversal::wide(from[x]);
-        let back = traversal::reverse(p);
+        let p = arrays::wide(from[x]);
+        let back = arrays::reverse(p);
         if x == back {
             carry(lengths, p, x, value);
         }

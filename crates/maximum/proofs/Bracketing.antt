@@ -19,25 +19,26 @@ use Rattle.integers.proofs.Laws.{lt-le-clash, le-trans, le-antisym, lt-or-ge}
 use Rattle.integers.proofs.Limits.{limited-neg}
 use Rattle.integers.proofs.Tests.{eqb-true, eqb-false}
 use Rattle.signed.proofs.Limits.{same-bits}
-use Rattle.faces.specs.Dart.{rev}
-use Rattle.faces.specs.Map.{Map, darts}
-use Rattle.faces.specs.Cut.{cut, union, intersection}
+use Rattle.maps.specs.Dart.{rev}
+use Rattle.maps.specs.Map.{Map, darts}
+use Rattle.maps.specs.Cut.{cut, union, intersection}
 use Rattle.flows.specs.Highest.{Highest}
 use Rattle.flows.specs.ProvingSet.{Proves}
-use Rattle.flows.proofs.Plane.{Plane}
+use Rattle.flows.specs.Plane.{Plane}
 use Rattle.flows.proofs.Exact.{proves-excludes}
 use Rattle.flows.proofs.Agreement.{cut-agrees}
-use Rattle.flows.proofs.Interval.{AtSource, AtSink, Beside, source-short, sink-short, sink-proves-less, beside-short, beside-proves-all, source-limits, union-both, intersection-neither, intersection-short}
+use Rattle.flows.proofs.Interval.{source-short, sink-short, sink-proves-less, beside-short, beside-proves-all, source-limits, union-both, intersection-neither, intersection-short}
+use Rattle.flows.specs.Sides.{AtSource, AtSink, Beside}
 use Rattle.flows.proofs.ValueBound.{value-small, cut-small}
-use Rattle.records.specs.Table.{tabulate}
-use Rattle.records.proofs.Tabulate.{length-tabulate}
-use Rattle.sheets.specs.Read.{filled}
-use Rattle.thresholds.specs.Cut.{cutOf}
-use Rattle.thresholds.proofs.Found.{cut-of}
-use Rattle.node_flags.specs.Flags.{flagged, Sided}
+use Rattle.arrays.specs.Filled.{tabulate, filled}
+use Rattle.arrays.proofs.Tabulate.{length-tabulate}
+use Rattle.cuts.specs.Cut.{cutOf}
+use Rattle.cuts.proofs.CutOfMap.{cut-of}
+use Rattle.node_flags.specs.Flags.{Sided}
+use Rattle.arrays.specs.Flags.{flagged}
 use Rattle.node_flags.specs.declared.Side.{Side}
 use Rattle.node_flags.specs.declared.Side.the-variants as side
-use Rattle.solver.specs.Question.{Ends}
+use Rattle.solver.specs.Ends.{Ends}
 use Rattle.solver.specs.Decision.{Decided}
 use Rattle.maximum.specs.Bracket.{Ceiling, Floor, Bracket}
 use Rattle.maximum.specs.Narrowing.{SameFlags, Narrows, Joins}
@@ -71,14 +72,14 @@ pub record Ground (𝓜 : Map) (c : ℕ → ℤ) (s t : ℕ) : Type 0 where
   pub two : Ends 𝓜 s t
 
 -- what the loop keeps: the sizes of its arrays, and the bounds
-pub record Probing (𝓜 : Map) (root : ℕ) (c : ℕ → ℤ) (s t : ℕ) (before flows : List ℤ) (A B inside : List ℕ) (low high : ℤ) (found : Bool) : Type 0 where
+pub record Probing (𝓜 : Map) (outer : ℕ) (c : ℕ → ℤ) (s t : ℕ) (before flows : List ℤ) (A B inside : List ℕ) (low high : ℤ) (found : Bool) : Type 0 where
   pub size-a : length A ≡ 1024
   pub size-b : length B ≡ 1024
   pub size-inside : length inside ≡ 1024
   pub size-flows : length flows ≡ length before
-  pub bracket : Bracket 𝓜 root c s t before flows A B low high found
+  pub bracket : Bracket 𝓜 outer c s t before flows A B low high found
 
-module _ {𝓜 : Map} (root : ℕ) {c : ℕ → ℤ} {s t : ℕ} (ground : Ground 𝓜 c s t) where
+module _ {𝓜 : Map} (outer : ℕ) {c : ℕ → ℤ} {s t : ℕ} (ground : Ground 𝓜 c s t) where
   -- flags that agree have one cut
   same-cut : (xs ys : List ℕ) → SameFlags xs ys → cut 𝓜 c (flagged xs) ≡ cut 𝓜 c (flagged ys)
   same-cut xs ys same = cut-agrees (ground .plane .sound .range) (flagged xs) (flagged ys) (λ v l. same v (omega (arith, ground .few-nodes))) c
@@ -93,7 +94,7 @@ module _ {𝓜 : Map} (root : ℕ) {c : ℕ → ℤ} {s t : ℕ} (ground : Groun
   pub high-small : {A : ℕ → Bool} {high : ℤ} → Ceiling 𝓜 c s t A high → Limited 512000000 high
   high-small {A} h = subst (Limited 512000000) (sym (h .is-cut)) (cut-small 𝓜 c (ground .few-edges) (ground .small) A)
 
-  pub low-small : (before flows : List ℤ) (B : ℕ → Bool) (low : ℤ) (found : Bool) → Floor 𝓜 root c s t before flows B low found → Limited 512000000 low
+  pub low-small : (before flows : List ℤ) (B : ℕ → Bool) (low : ℤ) (found : Bool) → Floor 𝓜 outer c s t before flows B low found → Limited 512000000 low
   low-small before flows B low true h =
       value-small (ground .plane .sound .range) (ground .two .source-in) (ground .two .sink-in) (ground .two .two) c (ground .few-edges) (λ d l. limit d l) low (h .0) (h .1 .carries)
     where
@@ -104,7 +105,7 @@ module _ {𝓜 : Map} (root : ℕ) {c : ℕ → ℤ} {s t : ℕ} (ground : Groun
   -- ── how it begins: the source alone, the sink alone ──
   pub begins : (before : List ℤ) (A B : List ℕ) (low high : ℤ) → ((u : ℕ) → u < 1024 → flagged A u ≡ eqb u s) → ((u : ℕ) → u < 1024 → flagged B u ≡ eqb u t)
       → high ≡ cutOf (darts 𝓜) (𝓜 .tail) c (flagged A) → low ≡ negℤ (cutOf (darts 𝓜) (𝓜 .tail) c (flagged B))
-      → Bracket 𝓜 root c s t before before A B low high false
+      → Bracket 𝓜 outer c s t before before A B low high false
   begins before A B low high one-a one-b is-high is-low = record {
     ceiling = record {
       side = (one-a s s-in ∙ eqb-true s s refl, one-a t t-in ∙ eqb-false t s (λ e. ground .two .two (sym e)));
@@ -117,26 +118,26 @@ module _ {𝓜 : Map} (root : ℕ) {c : ℕ → ℤ} {s t : ℕ} (ground : Groun
     );
   }
 
-  module _ (before flows : List ℤ) (A B : List ℕ) (low high : ℤ) (found : Bool) (b : Bracket 𝓜 root c s t before flows A B low high found) where
+  module _ (before flows : List ℤ) (A B : List ℕ) (low high : ℤ) (found : Bool) (b : Bracket 𝓜 outer c s t before flows A B low high found) where
     -- what is carried lies between the bounds
-    carried-low : found ≡ true → (x : ℕ → ℤ) × Highest 𝓜 root c s t low x
-    carried-low e = let r = subst (Floor 𝓜 root c s t before flows (flagged B) low) e (b .floor) in (r .0, r .1)
+    carried-low : found ≡ true → (x : ℕ → ℤ) × Highest 𝓜 outer c s t low x
+    carried-low e = let r = subst (Floor 𝓜 outer c s t before flows (flagged B) low) e (b .floor) in (r .0, r .1)
 
     excluded : (S : ℕ → Bool) → Proves 𝓜 c s t low S → found ≡ true → ⊥
     excluded S p e = let r = carried-low e in proves-excludes (ground .plane .sound .range) (ground .two .source-in) (ground .two .sink-in) (ground .two .two) c low S p (r .0) (r .1 .carries)
 
     -- ── a carried value is the new low bound ──
-    pub carried : (value : ℤ) (flows' : List ℤ) (inside : List ℕ) → Decided 𝓜 root c s t value flows flows' inside true → Bracket 𝓜 root c s t before flows' A B value high true
+    pub carried : (value : ℤ) (flows' : List ℤ) (inside : List ℕ) → Decided 𝓜 outer c s t value flows flows' inside true → Bracket 𝓜 outer c s t before flows' A B value high true
     carried value flows' inside d = record { ceiling = b .ceiling; floor = (d .0, d .1, d .2 ∙ again found (b .floor)) }
       where
-        again : (f : Bool) → Floor 𝓜 root c s t before flows (flagged B) low f → filled (𝓜 .edges) (d .0) flows ≡ filled (𝓜 .edges) (d .0) before
+        again : (f : Bool) → Floor 𝓜 outer c s t before flows (flagged B) low f → filled (𝓜 .edges) (d .0) flows ≡ filled (𝓜 .edges) (d .0) before
         again true h = ap (λ l. tabulate (𝓜 .edges) (d .0) ++ l) (ap (drop (𝓜 .edges)) (h .2) ∙ drop-tabulate (𝓜 .edges) (h .0) (drop (𝓜 .edges) before))
         again false h = ap (filled (𝓜 .edges) (d .0)) (h .0)
 
     -- ── a proving set at the source, at the sink, beside both ──
     module _ (value : ℤ) (at-least : low ≤ℤ value) (inside : List ℕ) (proves : Proves 𝓜 c s t value (flagged inside)) where
       pub at-source : AtSource s t (flagged inside) → (A' : List ℕ) → SameFlags A' inside → (total : ℤ) → total ≡ cutOf (darts 𝓜) (𝓜 .tail) c (flagged inside)
-          → Bracket 𝓜 root c s t before flows A' B low total found × (total <ℤ value)
+          → Bracket 𝓜 outer c s t before flows A' B low total found × (total <ℤ value)
       at-source side A' same total e = (
         record {
           ceiling = record { side = (same s s-in ∙ side .0, same t t-in ∙ side .1); is-cut = is-cut ∙ sym (same-cut A' inside same) };
@@ -149,42 +150,42 @@ module _ {𝓜 : Map} (root : ℕ) {c : ℕ → ℤ} {s t : ℕ} (ground : Groun
           is-cut = e ∙ sym (cut-of 𝓜 c (flagged inside))
 
       pub at-sink : AtSink s t (flagged inside) → (B' : List ℕ) → SameFlags B' inside → (total : ℤ) → total ≡ negℤ (cutOf (darts 𝓜) (𝓜 .tail) c (flagged inside))
-          → (found ≡ false) × Bracket 𝓜 root c s t before flows A B' total high found × (value <ℤ total)
+          → (found ≡ false) × Bracket 𝓜 outer c s t before flows A B' total high found × (value <ℤ total)
       at-sink side B' same total e = go found refl (b .floor)
         where
           is-cut : total ≡ negℤ (cut 𝓜 c (flagged inside))
           is-cut = e ∙ ap negℤ (sym (cut-of 𝓜 c (flagged inside)))
 
-          go : (f : Bool) → found ≡ f → Floor 𝓜 root c s t before flows (flagged B) low f → (found ≡ false) × Bracket 𝓜 root c s t before flows A B' total high found × (value <ℤ total)
+          go : (f : Bool) → found ≡ f → Floor 𝓜 outer c s t before flows (flagged B) low f → (found ≡ false) × Bracket 𝓜 outer c s t before flows A B' total high found × (value <ℤ total)
           go true q h = absurd (excluded (flagged inside) (sink-proves-less 𝓜 c s t (flagged inside) side value low at-least proves) q)
           go false q h = (
             q,
             record {
               ceiling = b .ceiling;
-              floor = subst (Floor 𝓜 root c s t before flows (flagged B') total) (sym q)
+              floor = subst (Floor 𝓜 outer c s t before flows (flagged B') total) (sym q)
                   (h .0, (same s s-in ∙ side .0, same t t-in ∙ side .1), is-cut ∙ ap negℤ (sym (same-cut B' inside same)));
             },
             rw is-cut (sink-short 𝓜 c s t (flagged inside) side value proves),
           )
 
-      pub beside : Beside s t (flagged inside) → (A' : List ℕ) → SameFlags A' inside → Maximized 𝓜 root c s t before flows A' maximum.Nothing
+      pub beside : Beside s t (flagged inside) → (A' : List ℕ) → SameFlags A' inside → Maximized 𝓜 outer c s t before flows A' maximum.Nothing
       beside side A' same = go found refl (b .floor)
         where
-          go : (f : Bool) → found ≡ f → Floor 𝓜 root c s t before flows (flagged B) low f → Maximized 𝓜 root c s t before flows A' maximum.Nothing
+          go : (f : Bool) → found ≡ f → Floor 𝓜 outer c s t before flows (flagged B) low f → Maximized 𝓜 outer c s t before flows A' maximum.Nothing
           go true q h = absurd (excluded (flagged inside) (beside-proves-all 𝓜 c s t (flagged inside) side value proves low) q)
           go false q h = (h .0, same s s-in ∙ side ∙ sym (same t t-in), rw (same-cut A' inside same) (beside-short 𝓜 c s t (flagged inside) side value proves))
 
     -- ── the bounds have met: the high one is carried ──
-    pub met : found ≡ true → low ≡ high → Maximized 𝓜 root c s t before flows A (maximum.Value high)
+    pub met : found ≡ true → low ≡ high → Maximized 𝓜 outer c s t before flows A (maximum.Value high)
     met e q =
-        let r = subst (Floor 𝓜 root c s t before flows (flagged B) low) e (b .floor) in
-        ((r .0, subst (λ v. Highest 𝓜 root c s t v (r .0)) q (r .1), r .2), b .ceiling .side, b .ceiling .is-cut)
+        let r = subst (Floor 𝓜 outer c s t before flows (flagged B) low) e (b .floor) in
+        ((r .0, subst (λ v. Highest 𝓜 outer c s t v (r .0)) q (r .1), r .2), b .ceiling .side, b .ceiling .is-cut)
 
     -- ── the bounds have passed each other: the two sets joined ──
-    pub passed : high <ℤ low → (A' : List ℕ) → Joins (darts 𝓜) (𝓜 .tail) c A A' B → Maximized 𝓜 root c s t before flows A' maximum.Nothing
+    pub passed : high <ℤ low → (A' : List ℕ) → Joins (darts 𝓜) (𝓜 .tail) c A A' B → Maximized 𝓜 outer c s t before flows A' maximum.Nothing
     passed l A' j = go found refl (b .floor)
       where
-        go : (f : Bool) → found ≡ f → Floor 𝓜 root c s t before flows (flagged B) low f → Maximized 𝓜 root c s t before flows A' maximum.Nothing
+        go : (f : Bool) → found ≡ f → Floor 𝓜 outer c s t before flows (flagged B) low f → Maximized 𝓜 outer c s t before flows A' maximum.Nothing
         go true q h =
             absurd (lt-le-clash l (rw (b .ceiling .is-cut) (source-limits (ground .plane .sound .range) (ground .two .source-in) (ground .two .sink-in) (ground .two .two) c (flagged A) (b .ceiling .side) low (h .0) (h .1 .carries))))
         go false q h = by j
@@ -197,7 +198,7 @@ module _ {𝓜 : Map} (root : ℕ) {c : ℕ → ℤ} {s t : ℕ} (ground : Groun
             agree : (S : ℕ → Bool) → ((u : ℕ) → u < 1024 → flagged A' u ≡ S u) → cut 𝓜 c (flagged A') ≡ cut 𝓜 c S
             agree S same = cut-agrees (ground .plane .sound .range) (flagged A') S (λ v m. same v (omega (arith, ground .few-nodes))) c
 
-            by : Joins (darts 𝓜) (𝓜 .tail) c A A' B → Maximized 𝓜 root c s t before flows A' maximum.Nothing
+            by : Joins (darts 𝓜) (𝓜 .tail) c A A' B → Maximized 𝓜 outer c s t before flows A' maximum.Nothing
             by (inl r) =
                 let both = union-both 𝓜 c s t (flagged A) (flagged B) (b .ceiling .side) (h .1) in
                 (h .0, r .0 s s-in ∙ both .0 ∙ sym (r .0 t t-in ∙ both .1), rw (agree _ (r .0), cut-of 𝓜 c (union (flagged A) (flagged B))) (r .1))
@@ -213,13 +214,13 @@ module _ {𝓜 : Map} (root : ℕ) {c : ℕ → ℤ} {s t : ℕ} (ground : Groun
       abbrev total : ℤ
       total = cutOf (darts 𝓜) (𝓜 .tail) c (flagged inside)
 
-      pub nothing : (side : Side) → Sided s t (flagged inside) side → Narrows total low high inside A A' B B' n side → n .none ≡ true → Maximized 𝓜 root c s t before flows A' maximum.Nothing
+      pub nothing : (side : Side) → Sided s t (flagged inside) side → Narrows total low high inside A A' B B' n side → n .none ≡ true → Maximized 𝓜 outer c s t before flows A' maximum.Nothing
       nothing side.Source h r e = absurd (omega (arith, ap bit (sym (r .0) ∙ e)))
       nothing side.Sink h r e = absurd (omega (arith, ap bit (sym (r .0) ∙ e)))
       nothing side.Beside h r e = beside value at-least inside proves h A' (r .1)
 
       pub narrowed : (side : Side) → Sided s t (flagged inside) side → Narrows total low high inside A A' B B' n side → n .none ≡ false
-          → Bracket 𝓜 root c s t before flows A' B' (n .low) (n .high) found × (gap (n .low) (n .high) found < gap low high found)
+          → Bracket 𝓜 outer c s t before flows A' B' (n .low) (n .high) found × (gap (n .low) (n .high) found < gap low high found)
       narrowed side.Source h r e =
           let k = at-source value at-least inside proves h A' (r .3) (n .high) (r .2) in (
             rw (r .1, r .4) (k .0),
@@ -233,24 +234,24 @@ module _ {𝓜 : Map} (root : ℕ) {c : ℕ → ℤ} {s t : ℕ} (ground : Groun
       narrowed side.Beside h r e = absurd (omega (arith, ap bit (sym e ∙ r .0)))
 
 -- ── bounds that are passed on come as the numbers of their bits ──
-module _ {𝓜 : Map} (root : ℕ) {c : ℕ → ℤ} {s t : ℕ} (ground : Ground 𝓜 c s t) (before flows : List ℤ) (A B : List ℕ) (low high : ℤ) (found : Bool)
-    (b : Bracket 𝓜 root c s t before flows A B low high found) where
+module _ {𝓜 : Map} (outer : ℕ) {c : ℕ → ℤ} {s t : ℕ} (ground : Ground 𝓜 c s t) (before flows : List ℤ) (A B : List ℕ) (low high : ℤ) (found : Bool)
+    (b : Bracket 𝓜 outer c s t before flows A B low high found) where
   same-low : toZ w32 (ofZ w32 low) ≡ low
-  same-low = same-bits (omega arith) (low-small root ground before flows (flagged B) low found (b .floor))
+  same-low = same-bits (omega arith) (low-small outer ground before flows (flagged B) low found (b .floor))
 
   same-high : toZ w32 (ofZ w32 high) ≡ high
-  same-high = same-bits (omega arith) (high-small root ground (b .ceiling))
+  same-high = same-bits (omega arith) (high-small outer ground (b .ceiling))
 
-  pub bits-bracket : Bracket 𝓜 root c s t before flows A B (toZ w32 (ofZ w32 low)) (toZ w32 (ofZ w32 high)) found
+  pub bits-bracket : Bracket 𝓜 outer c s t before flows A B (toZ w32 (ofZ w32 low)) (toZ w32 (ofZ w32 high)) found
   bits-bracket =
-      subst (λ l. Bracket 𝓜 root c s t before flows A B l (toZ w32 (ofZ w32 high)) found) (sym same-low)
-      (subst (λ h. Bracket 𝓜 root c s t before flows A B low h found) (sym same-high) b)
+      subst (λ l. Bracket 𝓜 outer c s t before flows A B l (toZ w32 (ofZ w32 high)) found) (sym same-low)
+      (subst (λ h. Bracket 𝓜 outer c s t before flows A B low h found) (sym same-high) b)
 
   pub bits-gap : (g : ℕ) → gap low high found < g → gap (toZ w32 (ofZ w32 low)) (toZ w32 (ofZ w32 high)) found < g
   bits-gap g h = subst (λ l. gap l (toZ w32 (ofZ w32 high)) found < g) (sym same-low) (subst (λ k. gap low k found < g) (sym same-high) h)
 
 -- a probe that cannot leaves the slice
-pub same-bracket : {𝓜 : Map} {root : ℕ} {c : ℕ → ℤ} {s t : ℕ} {before flows flows' : List ℤ} {A B : List ℕ} {low high : ℤ} {found : Bool} → flows' ≡ flows
-    → Bracket 𝓜 root c s t before flows A B low high found → Bracket 𝓜 root c s t before flows' A B low high found
-same-bracket {𝓜} {root} {c} {s} {t} {before} {A = A} {B = B} {low = low} {high = high} {found = found} e b =
-    subst (λ f. Bracket 𝓜 root c s t before f A B low high found) (sym e) b
+pub same-bracket : {𝓜 : Map} {outer : ℕ} {c : ℕ → ℤ} {s t : ℕ} {before flows flows' : List ℤ} {A B : List ℕ} {low high : ℤ} {found : Bool} → flows' ≡ flows
+    → Bracket 𝓜 outer c s t before flows A B low high found → Bracket 𝓜 outer c s t before flows' A B low high found
+same-bracket {𝓜} {outer} {c} {s} {t} {before} {A = A} {B = B} {low = low} {high = high} {found = found} e b =
+    subst (λ f. Bracket 𝓜 outer c s t before f A B low high found) (sym e) b

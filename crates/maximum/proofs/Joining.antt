@@ -8,9 +8,9 @@ use Rattle.integers.specs.Sum.{Integers, when}
 use Rattle.integers.specs.Limited.{Limited}
 use Rattle.integers.proofs.Limits.{limited-when, limited-sum, limited-more}
 use Rattle.integers.proofs.Sums.{sum-ext}
-use Rattle.faces.specs.Dart.{rev}
-use Rattle.thresholds.specs.Cut.{leavesOf, cutOf}
-use Rattle.thresholds.proofs.Adding.{reverse-in}
+use Rattle.maps.specs.Dart.{rev}
+use Rattle.cuts.specs.Cut.{leavesOf, cutOf}
+use Rattle.cuts.proofs.Adding.{reverse-in}
 
 -- sets that agree on the nodes that an array has flags of have one cut
 pub cut-flags : (darts : ℕ) (tail : ℕ → ℕ) (c : ℕ → ℤ) (S S' : ℕ → Bool) → darts % 2 ≡ 0 → ((d : ℕ) → d < darts → tail d < 1024)

@@ -5,16 +5,16 @@ use mathlib.Core.List.{List}
 use Prim.Native.Nat.{ℕ}
 use lib.IntN.{ℤ, pos}
 use lib.Signed.{_<ℤ_}
-use Rattle.faces.specs.Map.{Map}
-use Rattle.faces.specs.Cut.{cut}
+use Rattle.maps.specs.Map.{Map}
+use Rattle.maps.specs.Cut.{cut}
 use Rattle.flows.specs.Highest.{Highest}
-use Rattle.flows.proofs.Interval.{AtSource, Beside}
-use Rattle.sheets.specs.Read.{filled}
-use Rattle.node_flags.specs.Flags.{flagged}
+use Rattle.flows.specs.Sides.{AtSource, Beside}
+use Rattle.arrays.specs.Filled.{filled}
+use Rattle.arrays.specs.Flags.{flagged}
 use Rattle.maximum.specs.declared.Maximum.{Maximum}
 use Rattle.maximum.specs.declared.Maximum.the-variants as maximum
 
-abbrev pub Maximized : Map → (root : ℕ) → (ℕ → ℤ) → (s t : ℕ) → (before flows : List ℤ) → List ℕ → Maximum → Type 0
-Maximized 𝓜 root c s t before flows A (maximum.Value v) =
-    ((x : ℕ → ℤ) × Highest 𝓜 root c s t v x × (flows ≡ filled (𝓜 .edges) x before)) × AtSource s t (flagged A) × (v ≡ cut 𝓜 c (flagged A))
-Maximized 𝓜 root c s t before flows A maximum.Nothing = (flows ≡ before) × Beside s t (flagged A) × (cut 𝓜 c (flagged A) <ℤ pos 0)
+abbrev pub Maximized : Map → (outer : ℕ) → (ℕ → ℤ) → (s t : ℕ) → (before flows : List ℤ) → List ℕ → Maximum → Type 0
+Maximized 𝓜 outer c s t before flows A (maximum.Value v) =
+    ((x : ℕ → ℤ) × Highest 𝓜 outer c s t v x × (flows ≡ filled (𝓜 .edges) x before)) × AtSource s t (flagged A) × (v ≡ cut 𝓜 c (flagged A))
+Maximized 𝓜 outer c s t before flows A maximum.Nothing = (flows ≡ before) × Beside s t (flagged A) × (cut 𝓜 c (flagged A) <ℤ pos 0)

@@ -6,9 +6,10 @@ use mathlib.Core.List.{List}
 use Prim.Native.Nat.{ℕ, _<_}
 use lib.IntN.{ℤ, pos, negℤ}
 use lib.Signed.{_≤ℤ_, _<ℤ_}
-use Rattle.faces.specs.Cut.{union, intersection}
-use Rattle.thresholds.specs.Cut.{cutOf}
-use Rattle.node_flags.specs.Flags.{flagged, Sided}
+use Rattle.maps.specs.Cut.{union, intersection}
+use Rattle.cuts.specs.Cut.{cutOf}
+use Rattle.node_flags.specs.Flags.{Sided}
+use Rattle.arrays.specs.Flags.{flagged}
 use Rattle.node_flags.specs.declared.Side.{Side}
 use Rattle.node_flags.specs.declared.Side.the-variants as side
 use Rattle.maximum.specs.declared.Narrowed.{Narrowed}

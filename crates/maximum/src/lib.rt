@@ -8,11 +8,14 @@ ghost use lib.ListN.{length};
 ghost use lib.IntN.{pos, negℤ};
 ghost use lib.Signed.{_≤ℤ_, _<ℤ_, ltZ};
 ghost use Rattle.integers.specs.Limited.{Limited};
-ghost use Rattle.traversal.specs.Arrays.{at, atℤ};
-ghost use Rattle.thresholds.specs.Cut.{cutOf};
-ghost use Rattle.node_flags.specs.Flags.{flagged, Sided};
+ghost use Rattle.arrays.specs.At.{at, atℤ};
+ghost use Rattle.cuts.specs.Cut.{cutOf};
+ghost use Rattle.node_flags.specs.Flags.{Sided};
+ghost use Rattle.arrays.specs.Flags.{flagged};
 ghost use Rattle.node_flags.specs.declared.Side.{Side};
-ghost use Rattle.solver.specs.Question.{mapOf, Drawn, Ends};
+ghost use Rattle.arrays.specs.Drawn.{Drawn};
+ghost use Rattle.solver.specs.Ends.{Ends};
+ghost use Rattle.arrays.specs.Maps.{mapOf};
 ghost use Rattle.maximum.specs.Bracket.{Bracket};
 ghost use Rattle.maximum.specs.Narrowing.{Narrows, Joins};
 ghost use Rattle.maximum.specs.Maximum.{Maximized};
@@ -89,7 +92,7 @@ fn narrow_by(
     requires { ⌜ (length (now a) ≡ 1024) × (length (now b) ≡ 1024) × (source < 1024) × (sink < 1024) × (darts ≤ 1024) × (darts % 2 ≡ 0) × ((d : ℕ) → d < darts → at (now tails) d < 1024) × ((d : ℕ) → d < darts → Limited 2000000 (atℤ (now capacities) d)) ⌝ }
     ensures { λ r. ⌜ (length (now (a .exit)) ≡ 1024) × (length (now (b .exit)) ≡ 1024) × ((side : Side) × Sided source sink (flagged (now (inside .entry))) side × Narrows (cutOf darts (at (now (tails .entry))) (atℤ (now (capacities .entry))) (flagged (now (inside .entry)))) low high (now (inside .entry)) (now (a .entry)) (now (a .exit)) (now (b .entry)) (now (b .exit)) r side) ⌝ }
 {
-    let total = node_flags::cut_of(tails, capacities, inside, darts);
+    let total = cuts::capacity(tails, capacities, inside, darts);
     let side = node_flags::side_of(inside, source, sink);
     if let Side::Source = side {
         node_flags::copy_flags(inside, a);
@@ -128,7 +131,7 @@ fn join(
 {
     let mut joined = [0u8; 1024];
     node_flags::unite(&*a, b, &mut joined);
-    let total = node_flags::cut_of(tails, capacities, &joined, darts);
+    let total = cuts::capacity(tails, capacities, &joined, darts);
     if is_less(total, 0) {
         node_flags::copy_flags(&joined, a);
         return;
@@ -145,21 +148,22 @@ pub fn maximize<'a>(
     capacities: &'a [i32; 1024],
     nodes: usize,
     edges: usize,
-    root: usize,
+    faces: usize,
+    outer: usize,
     source: usize,
     sink: usize,
     flows: &mut [i32],
     a: &mut [u8; 1024],
 ) -> Maximum
-    requires { ⌜ (length (now a) ≡ 1024) × (edges ≤ length (now flows)) × ((d : ℕ) → d < 2 * edges → Limited 1000000 (atℤ (now capacities) d)) × Drawn (mapOf nodes edges (now tails) (now rotations)) (at (now lefts)) root (atℤ (now capacities)) × Ends (mapOf nodes edges (now tails) (now rotations)) source sink ⌝ }
-    ensures { λ r. ⌜ (length (now (a .exit)) ≡ 1024) × Maximized (mapOf nodes edges (now (tails .entry)) (now (rotations .entry))) root (atℤ (now (capacities .entry))) source sink (now (flows .entry)) (now (flows .exit)) (now (a .exit)) r ⌝ }
+    requires { ⌜ (length (now a) ≡ 1024) × (edges ≤ length (now flows)) × ((d : ℕ) → d < 2 * edges → Limited 1000000 (atℤ (now capacities) d)) × Drawn (mapOf nodes edges (now tails) (now rotations)) (at (now lefts)) faces outer (atℤ (now capacities)) × Ends (mapOf nodes edges (now tails) (now rotations)) source sink ⌝ }
+    ensures { λ r. ⌜ (length (now (a .exit)) ≡ 1024) × Maximized (mapOf nodes edges (now (tails .entry)) (now (rotations .entry))) outer (atℤ (now (capacities .entry))) source sink (now (flows .entry)) (now (flows .exit)) (now (a .exit)) r ⌝ }
 {
     let mut b = [0u8; 1024];
     let mut inside = [0u8; 1024];
     node_flags::flag_one(source, &mut *a);
     node_flags::flag_one(sink, &mut b);
-    let mut high = node_flags::cut_of(tails, capacities, &*a, 2 * edges);
-    let mut low = negate(node_flags::cut_of(tails, capacities, &b, 2 * edges));
+    let mut high = cuts::capacity(tails, capacities, &*a, 2 * edges);
+    let mut low = negate(cuts::capacity(tails, capacities, &b, 2 * edges));
     let mut found = false;
     let mut top = true;
     let outcome = loop {
@@ -179,7 +183,8 @@ pub fn maximize<'a>(
             capacities,
             nodes,
             edges,
-            root,
+            faces,
+            outer,
             source,
             sink,
             value,

@@ -6,11 +6,12 @@ use mathlib.Core.List.{List, [], _∷_}
 use Prim.Native.Nat.{ℕ}
 use lib.IntN.{ℤ, pos, negsuc}
 use Rattle.integers.specs.Sum.{sum}
-use Rattle.faces.specs.Dart.{rev}
-use Rattle.faces.specs.Cut.{union, intersection}
-use Rattle.traversal.specs.Arrays.{at, atℤ}
-use Rattle.thresholds.specs.Cut.{cutOf}
-use Rattle.node_flags.specs.Flags.{flagged, Sided}
+use Rattle.maps.specs.Dart.{rev}
+use Rattle.maps.specs.Cut.{union, intersection}
+use Rattle.arrays.specs.At.{at, atℤ}
+use Rattle.cuts.specs.Cut.{cutOf}
+use Rattle.node_flags.specs.Flags.{Sided}
+use Rattle.arrays.specs.Flags.{flagged}
 use Rattle.node_flags.specs.declared.Side.the-variants as side
 
 abbrev tails : List ℕ

@@ -1,4 +1,3 @@
 pub mod Tested
-pub mod Filling
-pub mod Adding
+pub mod FillingFlags
 pub mod Examples

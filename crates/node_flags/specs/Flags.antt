@@ -4,13 +4,9 @@ use mathlib.Core.List.{List}
 use Prim.Native.Nat.{ℕ}
 use lib.Dec.{eqb}
 use lib.ListN.{getD}
-use Rattle.flows.proofs.Interval.{AtSource, AtSink, Beside}
+use Rattle.flows.specs.Sides.{AtSource, AtSink, Beside}
 use Rattle.node_flags.specs.declared.Side.{Side}
 use Rattle.node_flags.specs.declared.Side.the-variants as side
-
--- the nodes whose flag is 1
-abbrev pub flagged : List ℕ → ℕ → Bool
-flagged inside v = eqb (getD inside v 0) 1
 
 -- the set holds the source only, the sink only, or both or neither
 abbrev pub Sided : (s t : ℕ) → (ℕ → Bool) → Side → Type 0

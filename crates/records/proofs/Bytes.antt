@@ -8,8 +8,8 @@ use lib.IntN.{pos, _+ℤ_}
 use lib.Signed.{_≤ℤ_}
 use Rattle.refusals.specs.Order.{Check, _when_, NoneOf, FirstOf, inTurn}
 use Rattle.refusals.proofs.Order.{none-append, append-none, none-in-turn, in-turn-none, first-left, first-right, first-in-turn}
-use Rattle.faces.specs.Dart.{rev}
-use Rattle.faces.specs.Check.{InRange}
+use Rattle.maps.specs.Dart.{rev}
+use Rattle.maps.specs.Check.{InRange}
 use Rattle.records.specs.Record.{recordChecks}
 use Rattle.records.specs.Check.{CapacityOutside, countChecks, edgeChecks}
 use Rattle.records.specs.Sheet.{nodesOf, edgesOf, edgeAt, capacityOf, sheetMap, sheetDrawing, headChecks, edgeRecordChecks, byteChecks}

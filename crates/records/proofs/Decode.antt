@@ -10,9 +10,9 @@ use mir.Syntax.{w32}
 use mir.Val.{SFits}
 use Rattle.fields.specs.Fields.{u16At, i32At, le16, leBits, le32}
 use Rattle.fields.proofs.Laws.{u16-of}
-use Rattle.faces.proofs.Darts.{by-edge}
-use Rattle.records.specs.Drawing.{Drawing}
-use Rattle.records.specs.Sheet.{nodesOf, edgesOf, edgeAt, tailOf, rotationOf, capacityOf, sheetDrawing}
+use Rattle.maps.proofs.Darts.{by-edge}
+use Rattle.maps.specs.Drawing.{Drawing}
+use Rattle.records.specs.Sheet.{nodesOf, edgesOf, edgeAt, tailOf, rotationOf, capacityOf, outerOf, sheetDrawing}
 use Rattle.records.specs.Encode.{encodeHead, encodeEdge, encodeEdges, encode}
 use Rattle.records.proofs.Fields.{tail-even, tail-odd, rotation-even, rotation-odd, capacity-even, capacity-odd, tail-past, rotation-past, capacity-past}
 use Rattle.records.proofs.Places.{edge-length, edge-stands, stands-inside, first-stands, u16-stands, i32-stands}
@@ -97,9 +97,14 @@ module _ (𝓓 : Drawing) (fit : Encodable 𝓓) where
       (λ e h. capacity-odd (encode 𝓓) e (here e h) ∙ i32-in 𝓓 e h 13 (c (2 * e + 1)) (omega arith) (fit .capacity-fits (2 * e + 1) (omega arith)) refl)
       (λ d h. capacity-past (encode 𝓓) d (past d h) ∙ sym (fit .zero-past .capacity-zero d h))
 
+  same-outer : outerOf (encode 𝓓) ≡ 𝓓 .outer
+  unfolding outerOf
+  same-outer = sym (fit .zero-past .outer-zero)
+
   pub sheet-encode : sheetDrawing (encode 𝓓) ≡ 𝓓
   sheet-encode =
       λ i. record {
         map = record { nodes = nodes-of-encode 𝓓 (fit .nodes-fit) i; edges = same-edges i; tail = same-tail i; rotation = same-rotation i };
         capacity = same-capacity i;
+        outer = same-outer i;
       }

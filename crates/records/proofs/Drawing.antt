@@ -8,10 +8,10 @@ use lib.Signed.{_<ℤ_, _≤ℤ_}
 use Rattle.integers.proofs.Omega.{atoms₂, parts, at-most, from-at-most}
 use Rattle.integers.proofs.Laws.{lt-or-ge}
 use Rattle.refusals.specs.Order.{NoneOf}
-use Rattle.faces.specs.Dart.{rev}
-use Rattle.faces.specs.Check.{InRange}
-use Rattle.faces.proofs.Darts.{by-edge, rev-even, rev-odd}
-use Rattle.records.specs.Drawing.{Drawing}
+use Rattle.maps.specs.Dart.{rev}
+use Rattle.maps.specs.Check.{InRange}
+use Rattle.maps.proofs.Darts.{by-edge, rev-even, rev-odd}
+use Rattle.maps.specs.Drawing.{Drawing}
 use Rattle.records.specs.Check.{CapacityOutside, countChecks, fieldChecks, edgeChecks}
 
 -- neither of two

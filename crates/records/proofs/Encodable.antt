@@ -1,5 +1,5 @@
 -- The drawings that a sheet can hold: their numbers fit its fields, and they are zero past their darts, as the drawing read from a sheet is.
-use mathlib.Core.Path.{_≡_}
+use mathlib.Core.Path.{_≡_, refl}
 use mathlib.Core.Logic.{inl, inr}
 use mathlib.Core.List.{List}
 use Prim.Native.Nat.{ℕ, _*_, _≤_, _<_}
@@ -11,16 +11,18 @@ use lib.Signed.{ltZ-yes}
 use mir.Syntax.{w32}
 use mir.Val.{SFits}
 use Rattle.refusals.specs.Order.{NoneOf}
-use Rattle.records.specs.Drawing.{Drawing}
+use Rattle.maps.specs.Drawing.{Drawing}
 use Rattle.records.specs.Check.{CapacityOutside, countChecks, edgeChecks}
-use Rattle.records.specs.Sheet.{sheetDrawing}
+use Rattle.records.specs.Sheet.{outerOf, sheetDrawing}
 use Rattle.records.proofs.Fields.{tail-past, rotation-past, capacity-past}
 use Rattle.records.proofs.Drawing.{counts-range, drawing-range, drawing-capacities}
 
+-- zero past the darts, and the outer dart, which a head of kind 1 does not name, is dart 0
 pub record ZeroPast (𝓓 : Drawing) : Type 0 where
   pub tail-zero : (d : ℕ) → 2 * 𝓓 .map .edges ≤ d → 𝓓 .map .tail d ≡ 0
   pub rotation-zero : (d : ℕ) → 2 * 𝓓 .map .edges ≤ d → 𝓓 .map .rotation d ≡ 0
   pub capacity-zero : (d : ℕ) → 2 * 𝓓 .map .edges ≤ d → 𝓓 .capacity d ≡ pos 0
+  pub outer-zero : 𝓓 .outer ≡ 0
 
 pub record Encodable (𝓓 : Drawing) : Type 0 where
   pub nodes-fit : 𝓓 .map .nodes < 65536
@@ -31,7 +33,8 @@ pub record Encodable (𝓓 : Drawing) : Type 0 where
   pub zero-past : ZeroPast 𝓓
 
 pub sheet-zero-past : (s : List ℕ) → ZeroPast (sheetDrawing s)
-sheet-zero-past s = record { tail-zero = tail-past s; rotation-zero = rotation-past s; capacity-zero = capacity-past s }
+unfolding outerOf
+sheet-zero-past s = record { tail-zero = tail-past s; rotation-zero = rotation-past s; capacity-zero = capacity-past s; outer-zero = refl }
 
 -- ── what the checks leave fits ──
 -- 1,000,000 is far below 2 ^ 31

@@ -6,7 +6,7 @@ use native.Mathlib.Omega.{arith}
 use lib.ListN.{length}
 use Rattle.refusals.specs.Order.{Check, _when_, NoneOf, inTurn}
 use Rattle.refusals.proofs.Order.{none-append, none-in-turn}
-use Rattle.records.specs.Drawing.{Drawing}
+use Rattle.maps.specs.Drawing.{Drawing}
 use Rattle.records.specs.Record.{bodyLength, recordChecks}
 use Rattle.records.specs.Check.{countChecks, edgeChecks}
 use Rattle.records.specs.Sheet.{nodesOf, edgesOf, edgeAt, sheetDrawing, headChecks, edgeRecordChecks, byteChecks}
@@ -18,11 +18,9 @@ use Rattle.records.proofs.Decode.{kind-of-head, kind-of-edge, same-edge
 
 module _ (𝓓 : Drawing) where
   head-record : NoneOf (recordChecks (encode 𝓓) 1 0)
-  unfolding bodyLength
   head-record = record-passes (encode 𝓓) 1 0 (kind-of-head 𝓓) (omega (arith, encode-length 𝓓))
 
   edge-record : (e : ℕ) → e < 𝓓 .map .edges → NoneOf (recordChecks (encode 𝓓) 2 (edgeAt e))
-  unfolding bodyLength
   edge-record e h = record-passes (encode 𝓓) 2 (edgeAt e) (kind-of-edge 𝓓 e h) (omega (arith, encode-length 𝓓))
 
   module _ (fit : Encodable 𝓓) where

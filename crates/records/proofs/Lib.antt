@@ -5,7 +5,6 @@ pub mod Bytes
 pub mod ByteChecks
 pub mod Examples
 pub mod Places
-pub mod Tabulate
 pub mod SheetAgain
 pub mod Encodable
 pub mod Decode

@@ -11,7 +11,7 @@ use mir.Syntax.{w32}
 use mir.Val.{SFits}
 use Rattle.fields.specs.Fields.{u16At, i32At, le16, leBits, le32}
 use Rattle.fields.proofs.Laws.{u16-of, i32-of}
-use Rattle.records.specs.Drawing.{Drawing}
+use Rattle.maps.specs.Drawing.{Drawing}
 use Rattle.records.specs.Sheet.{edgeAt}
 use Rattle.records.specs.Encode.{encodeHead, encodeEdge, encodeEdges, encode}
 

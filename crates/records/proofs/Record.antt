@@ -6,11 +6,11 @@ use native.Mathlib.Omega.{arith}
 use native.Mathlib.Decide.{ℕ-discrete}
 use lib.ListN.{length, getD}
 use Rattle.refusals.specs.Order.{NoneOf}
-use Rattle.records.specs.Record.{bodyLength, recordChecks}
+use Rattle.records.specs.Record.{recordLength, recordChecks}
 use Rattle.records.specs.Sheet.{edgeAt}
 
 module _ (s : List ℕ) (kind at : ℕ) (passed : NoneOf (recordChecks s kind at)) where
-  pub record-whole : at + 1 + bodyLength kind ≤ length s
+  pub record-whole : at + recordLength kind ≤ length s
   unfolding NoneOf recordChecks
   record-whole = omega (arith, passed .1 .1 .0)
 
@@ -23,14 +23,12 @@ module _ (s : List ℕ) (kind at : ℕ) (passed : NoneOf (recordChecks s kind at
       go (no e) = absurd (passed .1 .0 e)
 
 -- the other way round: whole and of its kind, a record passes
-pub record-passes : (s : List ℕ) (kind at : ℕ) → getD s at 0 ≡ kind → at + 1 + bodyLength kind ≤ length s → NoneOf (recordChecks s kind at)
+pub record-passes : (s : List ℕ) (kind at : ℕ) → getD s at 0 ≡ kind → at + recordLength kind ≤ length s → NoneOf (recordChecks s kind at)
 unfolding NoneOf recordChecks
 record-passes s kind at first whole = ((λ h. omega (arith, whole)), ((λ h. h first), ((λ h. omega (arith, whole)), tt)))
 
 pub head-body : (s : List ℕ) → NoneOf (recordChecks s 1 0) → 5 ≤ length s
-unfolding bodyLength
 head-body s h = record-whole s 1 0 h
 
 pub edge-body : (s : List ℕ) (e : ℕ) → NoneOf (recordChecks s 2 (edgeAt e)) → edgeAt e + 17 ≤ length s
-unfolding bodyLength
 edge-body s e h = omega (arith, record-whole s 2 (edgeAt e) h)

@@ -8,7 +8,7 @@ use lib.IntN.{pos, negsuc}
 use Rattle.refusals.specs.Order.{NoneOf}
 use Rattle.refusals.proofs.Order.{neither}
 use Rattle.fields.specs.Fields.{le16, leBits, le32}
-use Rattle.records.specs.Drawing.{Drawing}
+use Rattle.maps.specs.Drawing.{Drawing}
 use Rattle.records.specs.Check.{countChecks, fieldChecks, edgeChecks}
 use Rattle.records.specs.Sheet.{sheetDrawing, byteChecks}
 use Rattle.records.specs.Encode.{encodeHead, encodeEdge, encodeEdges, encode}
@@ -22,6 +22,7 @@ bridge =
     record {
       map = record { nodes = 2; edges = 1; tail = λ d. getD (0 ∷ 1 ∷ []) d 0; rotation = λ d. getD (0 ∷ 1 ∷ []) d 0 };
       capacity = λ d. getD (pos 5 ∷ negsuc 2 ∷ []) d (pos 0);
+      outer = 0;
     }
 
 -- the head, then the kind of an edge with its ends and turns, then its capacities
@@ -54,6 +55,7 @@ bridge-encodable =
       tail-zero = λ d h. List·getD-eq-default (0 ∷ 1 ∷ []) 0 h;
       rotation-zero = λ d h. List·getD-eq-default (0 ∷ 1 ∷ []) 0 h;
       capacity-zero = λ d h. List·getD-eq-default (pos 5 ∷ negsuc 2 ∷ []) (pos 0) h;
+      outer-zero = refl;
     })
 
 bridge-accepted : NoneOf (byteChecks bridgeSheet)

@@ -7,8 +7,8 @@ use mathlib.Core.List.{List, [], _∷_}
 use lib.IntN.{ℤ, pos, negsuc, _+ℤ_}
 use lib.Signed.{_<ℤ_}
 use Rattle.refusals.specs.Order.{Check, _when_}
-use Rattle.faces.specs.Map.{Map, darts}
-use Rattle.records.specs.Drawing.{Drawing}
+use Rattle.maps.specs.Map.{Map, darts}
+use Rattle.maps.specs.Drawing.{Drawing}
 
 -- x is not one of low, .., high
 abbrev pub Outside : ℕ → ℕ → ℕ → Type 0

@@ -3,8 +3,8 @@ use Prim.Native.Nat.{ℕ, zero, suc, _+_, _*_}
 use mathlib.Core.List.{List, [], _∷_, _++_}
 use lib.IntN.{ℤ}
 use Rattle.fields.specs.Fields.{le16, le32}
-use Rattle.faces.specs.Map.{Map}
-use Rattle.records.specs.Drawing.{Drawing}
+use Rattle.maps.specs.Map.{Map}
+use Rattle.maps.specs.Drawing.{Drawing}
 
 -- the head's record, and an edge's with its fields in their order
 abbrev pub headBytes : ℕ → ℕ → List ℕ

@@ -1,6 +1,4 @@
-pub mod Drawing
 pub mod Record
 pub mod Check
 pub mod Sheet
 pub mod Encode
-pub mod Table

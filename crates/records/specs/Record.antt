@@ -9,13 +9,17 @@ use lib.ListN.{length, getD}
 use Rattle.refusals.specs.Order.{Check, _when_}
 
 -- the table; 0 for a kind that there is not
-unfoldable pub bodyLength : ℕ → ℕ
+abbrev pub bodyLength : ℕ → ℕ
 bodyLength kind = cond (ltb kind 4) (getD (0 ∷ 4 ∷ 16 ∷ 8 ∷ []) kind 0) 0
+
+-- the byte of kind, and the body
+abbrev pub recordLength : ℕ → ℕ
+recordLength kind = 1 + bodyLength kind
 
 -- a record of this kind is asked for at `at`: "1 no first byte; 2 kind not 1; 1 body cut short", and so for each kind
 unfoldable pub recordChecks : List ℕ → ℕ → ℕ → List Check
 recordChecks s kind at =
     (1 when length s ≤ at)
     ∷ (2 when getD s at 0 ≢ kind)
-    ∷ (1 when length s < at + 1 + bodyLength kind)
+    ∷ (1 when length s < at + recordLength kind)
     ∷ []

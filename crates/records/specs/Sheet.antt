@@ -8,9 +8,9 @@ use lib.ListN.{length}
 use lib.IntN.{ℤ, pos}
 use Rattle.refusals.specs.Order.{Check, _when_, inTurn}
 use Rattle.fields.specs.Fields.{u16At, i32At}
-use Rattle.faces.specs.Map.{Map, darts}
-use Rattle.records.specs.Drawing.{Drawing}
-use Rattle.records.specs.Record.{recordChecks}
+use Rattle.maps.specs.Map.{Map, darts}
+use Rattle.maps.specs.Drawing.{Drawing}
+use Rattle.records.specs.Record.{recordLength, recordChecks}
 use Rattle.records.specs.Check.{countChecks, edgeChecks}
 
 abbrev pub nodesOf : List ℕ → ℕ
@@ -19,25 +19,36 @@ nodesOf s = u16At s 1
 abbrev pub edgesOf : List ℕ → ℕ
 edgesOf s = u16At s 3
 
--- where the record of edge e begins; after the last one the sheet ends
+-- where the record of edge e begins, after the head's and those of the edges before it; after the last one the sheet ends
 abbrev pub edgeAt : ℕ → ℕ
-edgeAt e = 5 + 17 * e
+edgeAt e = recordLength 1 + recordLength 2 * e
 
--- the fields of dart d = 2e or 2e + 1, and zero where there is no such dart
+-- a field of dart d = 2e or 2e + 1, which stands `first` bytes into the record of its edge for dart 2e, and right after for the other
+abbrev pub field16 : List ℕ → (first : ℕ) → ℕ → ℕ
+field16 s first d = u16At s (edgeAt (d / 2) + first + 2 * (d % 2))
+
+abbrev pub field32 : List ℕ → (first : ℕ) → ℕ → ℤ
+field32 s first d = i32At s (edgeAt (d / 2) + first + 4 * (d % 2))
+
+-- the fields of dart d, and zero where there is no such dart
 unfoldable pub tailOf : List ℕ → ℕ → ℕ
-tailOf s d = cond (ltb d (2 * edgesOf s)) (u16At s (edgeAt (d / 2) + 1 + 2 * (d % 2))) 0
+tailOf s d = cond (ltb d (2 * edgesOf s)) (field16 s 1 d) 0
 
 unfoldable pub rotationOf : List ℕ → ℕ → ℕ
-rotationOf s d = cond (ltb d (2 * edgesOf s)) (u16At s (edgeAt (d / 2) + 5 + 2 * (d % 2))) 0
+rotationOf s d = cond (ltb d (2 * edgesOf s)) (field16 s 5 d) 0
 
 unfoldable pub capacityOf : List ℕ → ℕ → ℤ
-capacityOf s d = cond (ltb d (2 * edgesOf s)) (i32At s (edgeAt (d / 2) + 9 + 4 * (d % 2))) (pos 0)
+capacityOf s d = cond (ltb d (2 * edgesOf s)) (field32 s 9 d) (pos 0)
 
 abbrev pub sheetMap : List ℕ → Map
 sheetMap s = record { nodes = nodesOf s; edges = edgesOf s; tail = tailOf s; rotation = rotationOf s }
 
+-- a dart on the outer face: dart 0, which lies on face 0 ("with face 0 at level 0")
+unfoldable pub outerOf : List ℕ → ℕ
+outerOf s = 0
+
 abbrev pub sheetDrawing : List ℕ → Drawing
-sheetDrawing s = record { map = sheetMap s; capacity = capacityOf s }
+sheetDrawing s = record { map = sheetMap s; capacity = capacityOf s; outer = outerOf s }
 
 -- "Head: 1 no first byte; 2 kind not 1; 1 body cut short; 3 a count out of range."
 unfoldable pub headChecks : List ℕ → List Check

@@ -7,9 +7,9 @@ ghost use lib.IntN.{pos, _+ℤ_};
 ghost use lib.Signed.{_<ℤ_};
 ghost use Rattle.refusals.specs.Order.{Judged, Decides};
 ghost use Rattle.fields.specs.Fields.{u16At};
-ghost use Rattle.records.specs.Record.{bodyLength, recordChecks};
+ghost use Rattle.records.specs.Record.{bodyLength, recordLength, recordChecks};
 ghost use Rattle.records.specs.Check.{Outside, CapacityOutside, countChecks, fieldChecks};
-ghost use Rattle.records.specs.Sheet.{nodesOf, edgesOf, headChecks, edgeRecordChecks, byteChecks};
+ghost use Rattle.records.specs.Sheet.{nodesOf, edgesOf, outerOf, edgeAt, headChecks, edgeRecordChecks, byteChecks};
 use refusals::Verdict;
 
 // The body length of each kind of record: kind 0 is none, 1 a head, 2 an edge, 3 a question.
@@ -33,17 +33,24 @@ fn read_wide(s: &[u8], at: usize) -> usize
 
 // The two counts of a head.
 pub fn nodes_of(s: &[u8]) -> usize
-    requires { ⌜ 5 ≤ length (now s) ⌝ }
+    requires { ⌜ recordLength 1 ≤ length (now s) ⌝ }
     ensures { λ r. ⌜ r ≡ nodesOf (now (s .entry)) ⌝ }
 {
     read_wide(s, 1)
 }
 
 pub fn edges_of(s: &[u8]) -> usize
-    requires { ⌜ 5 ≤ length (now s) ⌝ }
+    requires { ⌜ recordLength 1 ≤ length (now s) ⌝ }
     ensures { λ r. ⌜ r ≡ edgesOf (now (s .entry)) ⌝ }
 {
     read_wide(s, 3)
+}
+
+// The dart on the outer face that the head names: a head of kind 1 names none, and it is dart 0.
+pub fn outer_of(s: &[u8]) -> usize
+    ensures { λ r. ⌜ r ≡ outerOf (now (s .entry)) ⌝ }
+{
+    0
 }
 
 // Every reader of records takes a body's length from the table; 0 for a kind that there is not.
@@ -54,12 +61,27 @@ pub fn body_length(kind: u8) -> u8
     if k < 4 { BODY[k] } else { 0 }
 }
 
+// A record: the byte of kind, and the body.
+pub fn record_length(kind: u8) -> usize
+    ensures { λ r. ⌜ (r ≡ recordLength kind) × (r ≤ 256) ⌝ }
+{
+    1 + wide8(body_length(kind))
+}
+
+// Where the record of edge e begins; after the last one the sheet ends.
+pub fn edge_at(e: usize) -> usize
+    requires { ⌜ e ≤ 512 ⌝ }
+    ensures { λ r. ⌜ r ≡ edgeAt e ⌝ }
+{
+    record_length(1) + record_length(2) * e
+}
+
 // A record of this kind, whole, at `at`. Its kind is looked at before its length: a wrong kind is 2 even where the body is cut short.
 pub fn check_record(s: &[u8], kind: u8, at: usize) -> Verdict
     requires { ⌜ at ≤ 100000 ⌝ }
     ensures { λ r. ⌜ Judged (recordChecks (now (s .entry)) kind at) r ⌝ }
 {
-    let end = at + 1 + wide8(body_length(kind));
+    let end = at + record_length(kind);
     if s.len() <= at {
         return Verdict::Refused(1, 0);
     }
@@ -196,7 +218,7 @@ pub fn check_edge_record(s: &[u8], nodes: usize, edges: usize, e: usize) -> Verd
     requires { ⌜ (edges ≤ 512) × (e < edges) × (nodes ≡ nodesOf (now s)) × (edges ≡ edgesOf (now s)) ⌝ }
     ensures { λ r. ⌜ Judged (edgeRecordChecks (now (s .entry)) e) r ⌝ }
 {
-    let at = 5 + 17 * e;
+    let at = edge_at(e);
     let whole = check_record(s, 2, at);
     if let Verdict::Refused(k, p) = whole {
         return Verdict::Refused(k, p);
@@ -237,7 +259,7 @@ pub fn check_bytes(s: &[u8]) -> Verdict
         }
         e += 1;
     }
-    if 5 + 17 * edges < s.len() {
+    if edge_at(edges) < s.len() {
         return Verdict::Refused(8, 0);
     }
     Verdict::Passed

@@ -1,3 +1,4 @@
 pub mod Order
 pub mod Same
 pub mod Examples
+pub mod Decisions

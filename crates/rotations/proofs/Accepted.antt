@@ -5,12 +5,12 @@ use Prim.Native.Nat.{_+_}
 use native.Mathlib.Omega.{arith}
 use native.Mathlib.Decide.{ℕ-discrete}
 use Rattle.refusals.specs.Order.{NoneOf}
-use Rattle.faces.specs.Map.{Map}
-use Rattle.faces.specs.Face.{faces}
-use Rattle.faces.specs.Walk.{Connected}
-use Rattle.faces.specs.Flat.{Flat}
-use Rattle.faces.specs.Check.{InRange, RotationFault, NodeFault, NotFlat, Sound}
-use Rattle.faces.proofs.Checks.{sound-of-checks, connected-of-checks}
+use Rattle.maps.specs.Map.{Map}
+use Rattle.maps.specs.Face.{faces}
+use Rattle.maps.specs.Walk.{Connected}
+use Rattle.maps.specs.Flat.{Flat}
+use Rattle.maps.specs.Check.{InRange, RotationFault, NodeFault, NotFlat, Sound}
+use Rattle.maps.proofs.Checks.{sound-of-checks, connected-of-checks}
 use Rattle.rotations.specs.MapChecks.{mapChecks}
 
 -- ── passed: sound, connected and flat ──

@@ -5,16 +5,16 @@ use native.Mathlib.Omega.{arith}
 use Rattle.integers.proofs.Tests.{every, every-below}
 use Rattle.refusals.specs.Order.{FirstOf, Judged}
 use Rattle.refusals.specs.declared.Verdict.the-variants.{Passed, Refused}
-use Rattle.faces.specs.Map.{Map}
-use Rattle.faces.specs.Face.{left}
-use Rattle.faces.specs.Check.{NodeFault}
-use Rattle.faces.proofs.Examples.{A, A-sound, A-connected, A-flat, twistedA, twisted-sound, twisted-connected, twisted-not-flat}
+use Rattle.maps.specs.Map.{Map}
+use Rattle.maps.specs.Face.{faces, left}
+use Rattle.maps.specs.Check.{NodeFault}
+use Rattle.maps.proofs.Examples.{A, A-sound, A-connected, A-flat, twistedA, twisted-sound, twisted-connected, twisted-not-flat}
 use Rattle.rotations.specs.MapChecks.{mapChecks, MapJudged}
 use Rattle.rotations.proofs.Accepted.{no-rotation-fault, no-node-fault, passes}
 
 -- drawing A
-A-passes : MapJudged A (left A) Passed
-A-passes = (passes A-sound A-connected A-flat, λ d l. refl)
+A-passes : MapJudged A (left A) (faces A) Passed
+A-passes = (passes A-sound A-connected A-flat, (λ d l. refl), refl)
 
 -- "A with turns 1→3→5→1 at node 1": one face only
 twisted-refused : Judged (mapChecks twistedA) (Refused 12 0)

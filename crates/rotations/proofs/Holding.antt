@@ -8,7 +8,7 @@ use lib.Dec.{eqb}
 use lib.ListN.{replicate, length-replicate, getD-replicate, List·getD-eq-default}
 use Rattle.integers.specs.Sum.{sum, bit}
 use Rattle.integers.proofs.Tests.{eqb-true, eqb-false}
-use Rattle.rotations.specs.Arrays.{at}
+use Rattle.arrays.specs.At.{at}
 use Rattle.rotations.specs.Holding.{holding}
 
 holding-suc : (x n : ℕ) (g : ℕ → ℕ) → holding x (suc n) g ≡ holding x n g + bit (eqb (g n) x)

@@ -2,7 +2,6 @@ pub mod Holding
 pub mod Trail
 pub mod Numbering
 pub mod Register
-pub mod Decisions
 pub mod Steps
 pub mod Order
 pub mod Accepted

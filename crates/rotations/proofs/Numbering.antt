@@ -8,10 +8,11 @@ use native.Mathlib.Decide.{ℕ-discrete, decLt}
 use Rattle.integers.specs.Sum.{sum, count, bit}
 use Rattle.integers.proofs.Tests.{eqb-true, eqb-false}
 use Rattle.integers.proofs.Counting.{bit-le, sum-le-size}
-use Rattle.faces.specs.Orbit.{Orbit, lowest, isLowest, orbits, orbitOf}
-use Rattle.faces.proofs.Orbits.{Permutes, lowest-orbit, lowest-below, lowest-same, orbit-sym, orbit-in, orbit-decided}
-use Rattle.faces.proofs.Numbering.{orbitOf-below}
-use Rattle.rotations.specs.Marking.{unmarked, Markable, Marked}
+use Rattle.maps.specs.Orbit.{Orbit, lowest, isLowest, orbits, orbitOf, Permutes}
+use Rattle.maps.proofs.Orbits.{lowest-orbit, lowest-below, lowest-same, orbit-sym, orbit-in, orbit-decided}
+use Rattle.maps.proofs.Numbering.{orbitOf-below}
+use Rattle.rotations.specs.Marking.{Markable, Marked}
+use Rattle.traversal.specs.Mark.{unmarked}
 
 count-le-size : (n : ℕ) (b : ℕ → Bool) → count n b ≤ n
 count-le-size n b = sum-le-size n (λ i. bit (b i)) (λ i l. bit-le (b i))

@@ -3,9 +3,9 @@ use mathlib.Core.Path.{_≡_, refl, sym, _∙_, ap}
 use mathlib.Core.Logic.{inl, inr, _≢_}
 use Prim.Native.Nat.{ℕ, _+_}
 use Rattle.refusals.specs.Order.{NoneOf, FirstOf}
-use Rattle.faces.specs.Map.{Map}
-use Rattle.faces.specs.Face.{faces}
-use Rattle.faces.specs.Check.{RotationFault, NodeFault, Disconnected}
+use Rattle.maps.specs.Map.{Map}
+use Rattle.maps.specs.Face.{faces}
+use Rattle.maps.specs.Check.{RotationFault, NodeFault, Disconnected}
 use Rattle.rotations.specs.MapChecks.{mapChecks}
 
 module _ (𝓜 : Map) where

@@ -7,12 +7,11 @@ use native.Mathlib.Omega.{arith}
 use native.Mathlib.Decide.{ℕ-discrete}
 use lib.ListN.{length, set}
 use lib.Seq.{getD-set-same, getD-set-other}
-use Rattle.faces.specs.Orbit.{orbitOf}
-use Rattle.faces.specs.Map.{Map, darts}
-use Rattle.faces.specs.Check.{InRange, RotationFault, NodeFault}
-use Rattle.faces.proofs.Orbits.{Permutes}
-use Rattle.faces.proofs.Numbering.{orbitOf-along, orbitOf-same}
-use Rattle.rotations.specs.Arrays.{at}
+use Rattle.maps.specs.Orbit.{orbitOf, Permutes}
+use Rattle.maps.specs.Map.{Map, darts}
+use Rattle.maps.specs.Check.{InRange, RotationFault, NodeFault}
+use Rattle.maps.proofs.Numbering.{orbitOf-along, orbitOf-same}
+use Rattle.arrays.specs.At.{at}
 use Rattle.rotations.specs.Register.{Register, Clash}
 
 -- ── entering places one by one ──

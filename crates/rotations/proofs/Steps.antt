@@ -1,13 +1,13 @@
 -- An array of the face steps: its orbits are the faces, and their numbers too.
 use mathlib.Core.Path.{_≡_, refl, sym, _∙_, ap}
 use Prim.Native.Nat.{ℕ, zero, suc, _≤_, _<_}
-use Rattle.faces.specs.Orbit.{iter, orbits, orbitOf}
-use Rattle.faces.specs.Map.{Map, darts}
-use Rattle.faces.specs.Face.{step, faces, left}
-use Rattle.faces.specs.Check.{Sound}
-use Rattle.faces.proofs.Orbits.{Permutes, iter-zero, iter-suc}
-use Rattle.faces.proofs.Numbering.{Numbered, orbits-numbered}
-use Rattle.faces.proofs.Faces.{step-permutes, faces-unique}
+use Rattle.maps.specs.Orbit.{iter, orbits, orbitOf, Permutes}
+use Rattle.maps.specs.Map.{Map, darts}
+use Rattle.maps.specs.Face.{step, faces, left}
+use Rattle.maps.specs.Check.{Sound}
+use Rattle.maps.proofs.Orbits.{iter-zero, iter-suc}
+use Rattle.maps.proofs.Numbering.{Numbered, orbits-numbered}
+use Rattle.maps.proofs.Faces.{step-permutes, faces-unique}
 use Rattle.rotations.proofs.Numbering.{orbits-le}
 
 -- steps that agree below n have the same orbits there

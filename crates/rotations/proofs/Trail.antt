@@ -7,11 +7,12 @@ use native.Mathlib.Omega.{arith}
 use native.Mathlib.Decide.{ℕ-discrete}
 use lib.ListN.{length, set}
 use lib.Seq.{getD-set-same, getD-set-other}
-use Rattle.faces.specs.Orbit.{iter, Orbit}
-use Rattle.faces.proofs.Orbits.{Permutes, iter-zero, iter-suc, iter-in}
-use Rattle.rotations.specs.Arrays.{at}
+use Rattle.maps.specs.Orbit.{iter, Orbit, Permutes}
+use Rattle.maps.proofs.Orbits.{iter-zero, iter-suc, iter-in}
+use Rattle.arrays.specs.At.{at}
 use Rattle.rotations.specs.Holding.{holding}
-use Rattle.rotations.specs.Marking.{unmarked, Markable, Marked}
+use Rattle.rotations.specs.Marking.{Markable, Marked}
+use Rattle.traversal.specs.Mark.{unmarked}
 use Rattle.rotations.proofs.Holding.{holding-less}
 
 -- two places of a walk that are equal: the steps between them lead round

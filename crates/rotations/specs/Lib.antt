@@ -1,4 +1,3 @@
-pub mod Arrays
 pub mod Holding
 pub mod Marking
 pub mod Register

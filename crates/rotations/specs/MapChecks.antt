@@ -6,9 +6,9 @@ use Prim.Native.Nat.{ℕ, _<_}
 use Rattle.refusals.specs.Order.{Check, _when_, NoneOf, FirstOf}
 use Rattle.refusals.specs.declared.Verdict.{Verdict}
 use Rattle.refusals.specs.declared.Verdict.the-variants.{Passed, Refused}
-use Rattle.faces.specs.Map.{Map, darts}
-use Rattle.faces.specs.Face.{left}
-use Rattle.faces.specs.Check.{RotationFault, NodeFault, Disconnected, NotFlat}
+use Rattle.maps.specs.Map.{Map, darts}
+use Rattle.maps.specs.Face.{faces, left}
+use Rattle.maps.specs.Check.{RotationFault, NodeFault, Disconnected, NotFlat}
 
 unfoldable pub mapChecks : Map → List Check
 mapChecks 𝓜 =
@@ -18,7 +18,7 @@ mapChecks 𝓜 =
     ∷ (12 when NotFlat 𝓜)
     ∷ []
 
--- passed: no check holds, and each dart has the number of the face at its left; refused: by the first that holds
-abbrev pub MapJudged : Map → (ℕ → ℕ) → Verdict → Type 0
-MapJudged 𝓜 faces Passed = NoneOf (mapChecks 𝓜) × ((d : ℕ) → d < darts 𝓜 → faces d ≡ left 𝓜 d)
-MapJudged 𝓜 faces (Refused k p) = FirstOf (mapChecks 𝓜) k p
+-- passed: no check holds, each dart has the number of the face at its left, and the faces are counted; refused: by the first that holds
+abbrev pub MapJudged : Map → (lefts : ℕ → ℕ) → (count : ℕ) → Verdict → Type 0
+MapJudged 𝓜 lefts count Passed = NoneOf (mapChecks 𝓜) × ((d : ℕ) → d < darts 𝓜 → lefts d ≡ left 𝓜 d) × (count ≡ faces 𝓜)
+MapJudged 𝓜 lefts count (Refused k p) = FirstOf (mapChecks 𝓜) k p

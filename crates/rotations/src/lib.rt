@@ -4,17 +4,17 @@ ghost use mathlib.Core.Path.{_≡_};
 ghost use Prim.Native.Nat.{ℕ, _+_, _*_, _<_, _≤_};
 ghost use lib.ListN.{length};
 ghost use Rattle.refusals.specs.Order.{Decides};
-ghost use Rattle.faces.specs.Dart.{rev};
-ghost use Rattle.faces.specs.Orbit.{orbits, orbitOf};
-ghost use Rattle.faces.specs.Check.{InRange, RotationFault, NodeFault, Disconnected, Sound};
-ghost use Rattle.faces.proofs.Orbits.{Permutes};
-ghost use Rattle.rotations.specs.Arrays.{at, mapOf};
+ghost use Rattle.maps.specs.Dart.{rev};
+ghost use Rattle.maps.specs.Orbit.{orbits, orbitOf, Permutes};
+ghost use Rattle.maps.specs.Check.{InRange, RotationFault, NodeFault, Disconnected, Sound};
+ghost use Rattle.arrays.specs.At.{at};
+ghost use Rattle.arrays.specs.Maps.{mapOf};
 ghost use Rattle.rotations.specs.Marking.{Markable, Marked};
 ghost use Rattle.rotations.specs.Register.{Entered};
 ghost use Rattle.rotations.specs.MapChecks.{MapJudged};
+use arrays::narrow;
+use arrays::wide;
 use refusals::Verdict;
-use traversal::narrow;
-use traversal::wide;
 
 // The label of a place that has no number yet. Numbers stay below 1,024.
 const UNMARKED: u16 = 65535;
@@ -167,37 +167,55 @@ pub fn fill_steps(rotations: &[u16; 1024], edges: usize, steps: &mut [u16; 1024]
     let darts = 2 * edges;
     let mut d: usize = 0;
     while d < darts {
-        let r = traversal::reverse(d);
+        let r = arrays::reverse(d);
         steps[d] = rotations[r];
         d += 1;
     }
 }
 
-// The checks 9 to 12 in order, of a map that the checks 3 to 5 left in range. Where they pass, `faces` holds the face at the left of each dart.
+// What the checks found, and how many faces there are where they passed.
+pub struct Checked {
+    pub verdict: Verdict,
+    pub faces: usize,
+}
+
+fn refused(number: u8) -> Checked
+    ensures { λ r. ⌜ r .verdict ≡ Verdict.Refused number 0 ⌝ }
+{
+    Checked {
+        verdict: refusals::refused(number),
+        faces: 0,
+    }
+}
+
+// The checks 9 to 12 in order, of a map that the checks 3 to 5 left in range. Where they pass, `lefts` holds the face at the left of each dart.
 pub fn check_map<'a>(
     tails: &'a [u16; 1024],
     rotations: &'a [u16; 1024],
     nodes: usize,
     edges: usize,
-    faces: &mut [u16; 1024],
-) -> Verdict
-    requires { ⌜ (0 < edges) × (edges ≤ 512) × (nodes ≤ 1024) × (length (now faces) ≡ 1024) × InRange (mapOf nodes edges (now tails) (now rotations)) ⌝ }
-    ensures { λ r. ⌜ (length (now (faces .exit)) ≡ 1024) × MapJudged (mapOf nodes edges (now (tails .entry)) (now (rotations .entry))) (at (now (faces .exit))) r ⌝ }
+    lefts: &mut [u16; 1024],
+) -> Checked
+    requires { ⌜ (0 < edges) × (edges ≤ 512) × (nodes ≤ 1024) × (length (now lefts) ≡ 1024) × InRange (mapOf nodes edges (now tails) (now rotations)) ⌝ }
+    ensures { λ r. ⌜ (length (now (lefts .exit)) ≡ 1024) × MapJudged (mapOf nodes edges (now (tails .entry)) (now (rotations .entry))) (at (now (lefts .exit))) (r .faces) (r .verdict) ⌝ }
 {
     if rotation_fault(tails, rotations, nodes, edges) {
-        return refusals::refused(9);
+        return refused(9);
     }
     if node_fault(tails, rotations, nodes, edges) {
-        return refusals::refused(10);
+        return refused(10);
     }
     if disconnected(tails, rotations, nodes, edges) {
-        return refusals::refused(11);
+        return refused(11);
     }
     let mut steps = [0u16; 1024];
     fill_steps(rotations, edges, &mut steps);
-    let count = number_orbits(&steps, 2 * edges, faces);
+    let count = number_orbits(&steps, 2 * edges, lefts);
     if nodes + count != edges + 2 {
-        return refusals::refused(12);
+        return refused(12);
     }
-    Verdict::Passed
+    Checked {
+        verdict: Verdict::Passed,
+        faces: count,
+    }
 }

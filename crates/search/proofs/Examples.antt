@@ -1,18 +1,18 @@
--- The smallest net: one edge between two faces. What the search asks can be met, and both its answers can be given.
+-- The smallest dual: one edge between two faces. What the search asks can be met, and both its answers can be given.
 use mathlib.Core.Path.{_≡_, refl, sym}
 use mathlib.Core.List.{[], _∷_}
 use Prim.Native.Nat.{ℕ, zero, suc, _<_}
 use native.Mathlib.Omega.{arith}
 use lib.IntN.{ℤ, pos, negsuc, _+ℤ_}
 use lib.Signed.{mag, ltZ-yes, leZ-yes}
-use Rattle.faces.specs.Dart.{rev}
-use Rattle.search.specs.Net.{Net, netOf, Sound, Joined}
+use Rattle.maps.specs.Dart.{rev}
+use Rattle.search.specs.Dual.{Dual, dualOf, WellFormed, Joined}
 use Rattle.search.specs.Walk.{Walk, here, onward, stay, cross, total, Ring}
 use Rattle.search.specs.Settled.{Settled}
 
 -- the two darts of one edge, of these lengths; the face 0 is left of the dart 0, the face 1 left of the dart 1
-abbrev pub edge : ℤ → ℤ → Net
-edge forth back = netOf (0 ∷ 1 ∷ []) (forth ∷ back ∷ []) 2 2 0
+abbrev pub edge : ℤ → ℤ → Dual
+edge forth back = dualOf (0 ∷ 1 ∷ []) (forth ∷ back ∷ []) 2 2 0
 
 -- what holds of 0 and of 1 holds of each number below 2
 two : (P : ℕ → Type 0) → P 0 → P 1 → (d : ℕ) → d < 2 → P d
@@ -20,7 +20,7 @@ two P p q zero l = p
 two P p q (suc zero) l = q
 two P p q (suc (suc d)) l = absurd (omega arith)
 
-pub edge-sound : Sound (edge (pos 3) (negsuc 1))
+pub edge-sound : WellFormed (edge (pos 3) (negsuc 1))
 unfolding rev
 edge-sound = record {
   few-darts = omega arith;

@@ -10,13 +10,13 @@ use lib.Dec.{eqb}
 use lib.ListN.{length, getD, set, length-set}
 use lib.IntN.{ℤ, pos, _+ℤ_}
 use lib.Signed.{mag, _≤ℤ_, _<ℤ_}
-use Rattle.faces.specs.Orbit.{iter}
+use Rattle.maps.specs.Orbit.{iter}
 use Rattle.grouping.specs.Grouped.{Grouped}
-use Rattle.search.specs.Net.{Net, Sound, Joined}
+use Rattle.search.specs.Dual.{Dual, WellFormed, Joined}
 use Rattle.search.specs.Walk.{Ring}
 use Rattle.search.specs.Settled.{Settled}
 use Rattle.search.specs.Parents.{up, ParentRing}
-use Rattle.search.specs.Answer.{level, at}
+use Rattle.arrays.specs.At.{atℤ, at}
 use Rattle.search.specs.Progress.{far, Begun, place, State, Quiet, Passing}
 use Rattle.search.proofs.Change.{Changed, stored}
 use Rattle.search.proofs.Lowering.{lower, lower-taken, set-stays, quiet-lower}
@@ -53,13 +53,13 @@ abbrev pub Todo : List ℕ → ℕ → ℕ → ℕ → Type 0
 Todo order e j d = (m : ℕ) × (j ≤ m) × (m < e) × (getD order m 0 ≡ d)
 
 -- a round, of which the faces at the first a places are passed; `any` says whether one of them was taken up
-pub record Scanning (N : Net) (ρ : List ℤ) (parents waiting : List ℕ) (n k a : ℕ) (any : Bool) : Type 0 where
+pub record Scanning (N : Dual) (ρ : List ℤ) (parents waiting : List ℕ) (n k a : ℕ) (any : Bool) : Type 0 where
   pub passing : Passing N ρ parents waiting n k a
   pub none : any ≡ false → (f : ℕ) → f < N .faces → place (N .faces) k f < a → at waiting f ≡ 1 → ⊥
   pub some : any ≡ true → k < N .faces
 
 -- the face i, at place a of round k, is taken up: its darts before place j of the order are tried
-pub record Taking (N : Net) (order starts ends : List ℕ) (ρ : List ℤ) (parents waiting : List ℕ) (n k a i j : ℕ) : Type 0 where
+pub record Taking (N : Dual) (order starts ends : List ℕ) (ρ : List ℤ) (parents waiting : List ℕ) (n k a i j : ℕ) : Type 0 where
   pub size-ρ : length ρ ≡ 1024
   pub size-parents : length parents ≡ 1024
   pub size-waiting : length waiting ≡ 1024
@@ -70,12 +70,12 @@ pub record Taking (N : Net) (order starts ends : List ℕ) (ρ : List ℤ) (pare
   pub to-end : j ≤ getD ends i 0
   pub end-in : getD ends i 0 ≤ 1024
   pub lowerings : n ≤ k * 1048576 + a * 1024 + j
-  pub state : State N (level ρ) (at parents) (at waiting) n k (λ f. place (N .faces) k f < a + 1)
+  pub state : State N (atℤ ρ) (at parents) (at waiting) n k (λ f. place (N .faces) k f < a + 1)
   pub taken : k ≤ state .round i
-  pub set : level ρ i ≡ far → ⊥
-  pub quiet : Quiet N (level ρ) (at waiting) (Todo order (getD ends i 0) j)
+  pub set : atℤ ρ i ≡ far → ⊥
+  pub quiet : Quiet N (atℤ ρ) (at waiting) (Todo order (getD ends i 0) j)
 
-module _ {N : Net} (sound : Sound N) where
+module _ {N : Dual} (sound : WellFormed N) where
   -- ── rounds ──
   pub begin-rounds : {ρ : List ℤ} {parents waiting : List ℕ} → Begun ρ parents waiting (N .root) → Passing N ρ parents waiting 0 0 0
   begin-rounds {ρ} {parents} {waiting} b = record {
@@ -89,7 +89,7 @@ module _ {N : Net} (sound : Sound N) where
         begin-state (λ f. place (N .faces) 0 f < 0) (λ f l p. omega arith) (b .zero) (λ f l c. b .others f (omega (arith, sound .few-faces)) c)
         (λ f l. omega (arith, sound .few-faces, sound .few-darts, b .none f (omega (arith, sound .few-faces))))
         (λ f l c h. omega (arith, b .rests f (omega (arith, sound .few-faces)) c));
-    quiet = begin-quiet {N = N} {ρ = level ρ} {waiting = at waiting} sound (b .waits) (λ f l c. b .others f (omega (arith, sound .few-faces)) c);
+    quiet = begin-quiet {N = N} {ρ = atℤ ρ} {waiting = at waiting} sound (b .waits) (λ f l c. b .others f (omega (arith, sound .few-faces)) c);
   }
 
   pub begin-scan : {ρ : List ℤ} {parents waiting : List ℕ} {n k : ℕ} → Passing N ρ parents waiting n k 0 → Scanning N ρ parents waiting n k 0 false
@@ -134,7 +134,7 @@ module _ {N : Net} (sound : Sound N) where
   taken-up a r l = record { passing = r; none = λ q. let z : _≡_ {A = ℕ} 0 1 = cc in absurd (omega arith); some = λ _. l }
 
   -- all is passed, and none waited
-  pub end-settled : {ρ : List ℤ} {parents waiting : List ℕ} {n k a : ℕ} {any : Bool} → Joined N → Scanning N ρ parents waiting n k a any → N .faces ≤ a → any ≡ false → Settled N (level ρ)
+  pub end-settled : {ρ : List ℤ} {parents waiting : List ℕ} {n k a : ℕ} {any : Bool} → Joined N → Scanning N ρ parents waiting n k a any → N .faces ≤ a → any ≡ false → Settled N (atℤ ρ)
   end-settled {k = k} joined r all e =
       settled sound joined (r .passing .state) (r .passing .quiet) (λ f l. r .none e f l (omega (arith, place-in (N .faces) k f l)))
       (omega (arith, r .passing .lowerings, r .passing .k-in, r .passing .a-in, sound .few-faces))
@@ -208,11 +208,11 @@ module _ {N : Net} (sound : Sound N) where
       pub try-few : n + 1 ≤ 1073741824
       try-few = omega (arith, r .lowerings, r .k-in, r .a-in, r .end-in, r .to-end, sound .few-faces)
 
-      pub try-near : mag (level ρ i) + mag (N .length d) + 1 < 9223372036854775808
+      pub try-near : mag (atℤ ρ i) + mag (N .length d) + 1 < 9223372036854775808
       try-near = omega (arith, r .state .reached i (r .i-in) (r .set) .0, sound .short d try-in, try-few)
 
       -- it cannot lower
-      pub try-keep : level ρ (N .left d) ≤ℤ (level ρ i +ℤ N .length d) → Taking N order starts ends ρ parents waiting n k a i (j + 1)
+      pub try-keep : atℤ ρ (N .left d) ≤ℤ (atℤ ρ i +ℤ N .length d) → Taking N order starts ends ρ parents waiting n k a i (j + 1)
       try-keep le = record {
         size-ρ = r .size-ρ;
         size-parents = r .size-parents;
@@ -229,12 +229,12 @@ module _ {N : Net} (sound : Sound N) where
         set = r .set;
         quiet =
             quiet-weaken (λ x. (Todo order (getD ends i 0) j x) × (x ≡ d → ⊥)) (Todo order (getD ends i 0) (j + 1)) (λ x b t. todo-next (getD ends i 0) j d d-is x t)
-            (quiet-keep (Todo order (getD ends i 0) j) d (subst (λ u. level ρ (N .left d) ≤ℤ (level ρ u +ℤ N .length d)) (sym try-right) le) (r .quiet));
+            (quiet-keep (Todo order (getD ends i 0) j) d (subst (λ u. atℤ ρ (N .left d) ≤ℤ (atℤ ρ u +ℤ N .length d)) (sym try-right) le) (r .quiet));
       }
 
       -- it lowers
-      pub try-lower : {ρ' : List ℤ} {parents' waiting' : List ℕ} → ρ' ≡ set ρ (N .left d) (level ρ i +ℤ N .length d) → parents' ≡ set parents (N .left d) d → waiting' ≡ set waiting (N .left d) 1
-          → (level ρ i +ℤ N .length d) <ℤ level ρ (N .left d) → Taking N order starts ends ρ' parents' waiting' (n + 1) k a i (j + 1)
+      pub try-lower : {ρ' : List ℤ} {parents' waiting' : List ℕ} → ρ' ≡ set ρ (N .left d) (atℤ ρ i +ℤ N .length d) → parents' ≡ set parents (N .left d) d → waiting' ≡ set waiting (N .left d) 1
+          → (atℤ ρ i +ℤ N .length d) <ℤ atℤ ρ (N .left d) → Taking N order starts ends ρ' parents' waiting' (n + 1) k a i (j + 1)
       try-lower {ρ'} {parents'} {waiting'} e-ρ e-parents e-waiting less = record {
         size-ρ = rw e-ρ (simp length-set (r .size-ρ));
         size-parents = rw e-parents (simp length-set (r .size-parents));
@@ -257,21 +257,21 @@ module _ {N : Net} (sound : Sound N) where
       }
         where
           v : ℤ
-          v = level ρ i +ℤ N .length d
+          v = atℤ ρ i +ℤ N .length d
 
-          v-is : v ≡ level ρ (N .right d) +ℤ N .length d
-          v-is = ap (λ u. level ρ u +ℤ N .length d) (sym try-right)
+          v-is : v ≡ atℤ ρ (N .right d) +ℤ N .length d
+          v-is = ap (λ u. atℤ ρ u +ℤ N .length d) (sym try-right)
 
           f-in : N .left d < 1024
           f-in = omega (arith, sound .left-in d try-in, sound .few-faces)
 
-          set' : level ρ (N .right d) ≡ far → ⊥
-          set' h = r .set (ap (level ρ) (sym try-right) ∙ h)
+          set' : atℤ ρ (N .right d) ≡ far → ⊥
+          set' h = r .set (ap (atℤ ρ) (sym try-right) ∙ h)
 
           taken' : k ≤ r .state .round (N .right d)
           taken' = rw try-right (r .taken)
 
-          c-ρ : Changed (level ρ) (level ρ') (N .left d) v
+          c-ρ : Changed (atℤ ρ) (atℤ ρ') (N .left d) v
           c-ρ = rw e-ρ (stored ρ (N .left d) v (pos 0) (omega (arith, f-in, r .size-ρ)))
 
           c-parents : Changed (at parents) (at parents') (N .left d) d

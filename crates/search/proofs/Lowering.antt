@@ -7,13 +7,13 @@ use native.Mathlib.Decide.{ℕ-discrete}
 use lib.IntN.{ℤ, _+ℤ_}
 use lib.Signed.{mag, _≤ℤ_, _<ℤ_}
 use Rattle.integers.proofs.Laws.{le-trans, le-of-lt}
-use Rattle.search.specs.Net.{Net, Sound, longest}
+use Rattle.search.specs.Dual.{Dual, WellFormed, longest}
 use Rattle.search.specs.Walk.{Walk, onward}
 use Rattle.search.specs.Progress.{far, State, Quiet}
 use Rattle.search.proofs.Order.{le-of-eq, lt-ne, fall, self-fall, mag-add, near-not-far}
 use Rattle.search.proofs.Change.{Changed, change, changed}
 
-module _ {N : Net} (sound : Sound N) {ρ : ℕ → ℤ} {parent waiting : ℕ → ℕ} {n k : ℕ} {passed : ℕ → Type 0} (s : State N ρ parent waiting n k passed)
+module _ {N : Dual} (sound : WellFormed N) {ρ : ℕ → ℤ} {parent waiting : ℕ → ℕ} {n k : ℕ} {passed : ℕ → Type 0} (s : State N ρ parent waiting n k passed)
     (d : ℕ) (d-in : d < N .darts) (set : ρ (N .right d) ≡ far → ⊥) (taken : k ≤ s .round (N .right d)) (v : ℤ) (v-is : v ≡ ρ (N .right d) +ℤ N .length d)
     (v-less : v <ℤ ρ (N .left d)) (n' : ℕ) (n-less : n < n') (few : n' ≤ 1073741824) {ρ' : ℕ → ℤ} {parent' waiting' : ℕ → ℕ}
     (c-ρ : Changed ρ ρ' (N .left d) v) (c-parent : Changed parent parent' (N .left d) d) (c-waiting : Changed waiting waiting' (N .left d) 1) where

@@ -1,4 +1,4 @@
--- The net of a map, for who calls the search on a drawing: it is sound, connectedness joins its faces, and a ring is a walk over faces of the map.
+-- The dual of a map, for who calls the search on a drawing: it is sound, connectedness joins its faces, and a ring is a walk over faces of the map.
 use mathlib.Core.Path.{_≡_, refl, sym, _∙_, ap}
 use mathlib.Core.List.{List}
 use Prim.Native.Nat.{ℕ, _≤_, _<_}
@@ -7,29 +7,23 @@ use lib.ListN.{getD}
 use lib.IntN.{ℤ, pos, _+ℤ_}
 use Rattle.integers.specs.Sum.{bit}
 use Rattle.integers.proofs.Counting.{bit-le, sum-le-size}
-use Rattle.faces.specs.Dart.{rev}
-use Rattle.faces.specs.Orbit.{isLowest, orbits}
+use Rattle.maps.specs.Dart.{rev}
+use Rattle.maps.specs.Orbit.{isLowest, orbits}
 use lib.Signed.{mag, _<ℤ_}
-use Rattle.faces.specs.Map.{Map, darts}
-use Rattle.faces.specs.Face.{step, faces, left, right}
-use Rattle.faces.specs.Walk.{Components}
-use Rattle.faces.specs.Check as check
-use Rattle.faces.specs.FaceWalk.{FaceWalk}
-use Rattle.faces.specs.FaceWalk as faceWalk
-use Rattle.faces.proofs.Darts.{rev-in}
-use Rattle.faces.proofs.Faces.{left-in, right-in, left-rotation, face-dart, same-in-part}
-use Rattle.search.specs.Net.{Net, netOf, Sound, Joined, longest}
+use Rattle.maps.specs.Map.{Map, darts}
+use Rattle.maps.specs.Face.{step, faces, left, right}
+use Rattle.maps.specs.Walk.{Components}
+use Rattle.maps.specs.Check as check
+use Rattle.maps.specs.FaceWalk.{FaceWalk}
+use Rattle.maps.specs.FaceWalk as faceWalk
+use Rattle.maps.proofs.Darts.{rev-in}
+use Rattle.maps.proofs.Faces.{left-in, right-in, left-rotation, face-dart, same-in-part}
+use Rattle.search.specs.Dual.{Dual, dualOf, WellFormed, Joined, longest}
 use Rattle.search.specs.Walk.{Crossing, stay, cross, total, Ring}
-
--- the net has the darts and the faces of the map
-pub record OfMap (N : Net) (𝓜 : Map) : Type 0 where
-  pub darts-are : N .darts ≡ darts 𝓜
-  pub faces-are : N .faces ≡ faces 𝓜
-  pub left-is : (d : ℕ) → d < darts 𝓜 → N .left d ≡ left 𝓜 d
-  pub right-is : (d : ℕ) → d < darts 𝓜 → N .right d ≡ right 𝓜 d
+use Rattle.search.specs.OfMap.{OfMap}
 
 -- an array with the left faces is enough
-pub of-array : {𝓜 : Map} (lefts : List ℕ) (lengths : List ℤ) (root : ℕ) → ((d : ℕ) → d < darts 𝓜 → getD lefts d 0 ≡ left 𝓜 d) → OfMap (netOf lefts lengths (darts 𝓜) (faces 𝓜) root) 𝓜
+pub of-array : {𝓜 : Map} (lefts : List ℕ) (lengths : List ℤ) (root : ℕ) → ((d : ℕ) → d < darts 𝓜 → getD lefts d 0 ≡ left 𝓜 d) → OfMap (dualOf lefts lengths (darts 𝓜) (faces 𝓜) root) 𝓜
 of-array {𝓜} lefts lengths root is = record { darts-are = refl; faces-are = refl; left-is = is; right-is = λ d l. is (rev d) (rev-in (𝓜 .edges) d l) }
 
 -- no more faces than darts
@@ -37,9 +31,9 @@ pub faces-few : (𝓜 : Map) → faces 𝓜 ≤ darts 𝓜
 unfolding faces orbits
 faces-few 𝓜 = sum-le-size (darts 𝓜) (λ d. bit (isLowest (darts 𝓜) (step 𝓜) d)) (λ d l. bit-le (isLowest (darts 𝓜) (step 𝓜) d))
 
-module _ {N : Net} {𝓜 : Map} (of : OfMap N 𝓜) where
+module _ {N : Dual} {𝓜 : Map} (of : OfMap N 𝓜) where
   -- ── sound ──
-  pub sound-of-map : check.Sound 𝓜 → darts 𝓜 ≤ 1024 → N .root < faces 𝓜 → ((d : ℕ) → d < darts 𝓜 → mag (N .length d) < longest) → Sound N
+  pub sound-of-map : check.Sound 𝓜 → darts 𝓜 ≤ 1024 → N .root < faces 𝓜 → ((d : ℕ) → d < darts 𝓜 → mag (N .length d) < longest) → WellFormed N
   sound-of-map σ few root-in short = record {
     few-darts = omega (arith, of .darts-are);
     few-faces = omega (arith, of .faces-are, faces-few 𝓜);

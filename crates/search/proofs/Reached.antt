@@ -6,9 +6,9 @@ use Prim.Native.Nat.{ℕ, _*_, _/_, _≤_, _<_}
 use native.Mathlib.Omega.{arith}
 use lib.IntN.{ℤ, pos, _+ℤ_}
 use Rattle.integers.proofs.Tests.{either, eqb-true, eqZ, eqZ-eq}
-use Rattle.faces.specs.Dart.{rev}
-use Rattle.faces.proofs.Darts.{rev-rev, rev-in}
-use Rattle.search.specs.Net.{Net, Sound, Joined}
+use Rattle.maps.specs.Dart.{rev}
+use Rattle.maps.proofs.Darts.{rev-rev, rev-in}
+use Rattle.search.specs.Dual.{Dual, WellFormed, Joined}
 use Rattle.search.specs.Walk.{Walk}
 use Rattle.search.specs.Settled.{Still, Settled}
 use Rattle.search.specs.Progress.{far, State, Quiet}
@@ -31,7 +31,7 @@ isSet-is : (z : ℤ) → isSet z ≡ true → z ≡ far → ⊥
 unfolding isSet eqZ
 isSet-is z h e = false≢true (sym (ap not (eqb-true 4611686018427387904 4611686018427387904 refl)) ∙ ap (λ w. not (eqZ w far)) (sym e) ∙ h)
 
-module _ {N : Net} (sound : Sound N) (joined : Joined N) {ρ : ℕ → ℤ} {parent waiting : ℕ → ℕ} {n k : ℕ} {passed : ℕ → Type 0} (s : State N ρ parent waiting n k passed)
+module _ {N : Dual} (sound : WellFormed N) (joined : Joined N) {ρ : ℕ → ℤ} {parent waiting : ℕ → ℕ} {n k : ℕ} {passed : ℕ → Type 0} (s : State N ρ parent waiting n k passed)
     (q : Quiet N ρ waiting (λ d. ⊥)) (rests : (f : ℕ) → f < N .faces → waiting f ≡ 1 → ⊥) (few : n ≤ 2000000000) where
   -- what a dart leads to from a reached face is reached
   onward-set : (d : ℕ) → d < N .darts → (ρ (N .right d) ≡ far → ⊥) → ρ (N .left d) ≡ far → ⊥

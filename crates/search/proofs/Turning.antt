@@ -5,18 +5,18 @@ use native.Mathlib.Omega.{arith}
 use native.Mathlib.Decide.{ℕ-discrete}
 use lib.IntN.{ℤ, pos, _+ℤ_}
 use lib.Signed.{mag, _≤ℤ_}
-use Rattle.search.specs.Net.{Net, Sound, longest}
+use Rattle.search.specs.Dual.{Dual, WellFormed, longest}
 use Rattle.search.specs.Walk.{Walk, here}
 use Rattle.search.specs.Progress.{far, State, Quiet}
 use Rattle.search.proofs.Order.{le-of-eq, near-not-far}
 use Rattle.search.proofs.Change.{Changed}
 
 -- ── quiet darts ──
-pub quiet-weaken : {N : Net} {ρ : ℕ → ℤ} {waiting : ℕ → ℕ} (todo todo' : ℕ → Type 0) → ((d : ℕ) → d < N .darts → todo d → todo' d) → Quiet N ρ waiting todo → Quiet N ρ waiting todo'
+pub quiet-weaken : {N : Dual} {ρ : ℕ → ℤ} {waiting : ℕ → ℕ} (todo todo' : ℕ → Type 0) → ((d : ℕ) → d < N .darts → todo d → todo' d) → Quiet N ρ waiting todo → Quiet N ρ waiting todo'
 quiet-weaken todo todo' w q = record { quiet = λ d l not off h. q .quiet d l (λ t. not (w d l t)) off h }
 
 -- a dart that cannot lower
-pub quiet-keep : {N : Net} {ρ : ℕ → ℤ} {waiting : ℕ → ℕ} (todo : ℕ → Type 0) (d : ℕ) → ρ (N .left d) ≤ℤ (ρ (N .right d) +ℤ N .length d)
+pub quiet-keep : {N : Dual} {ρ : ℕ → ℤ} {waiting : ℕ → ℕ} (todo : ℕ → Type 0) (d : ℕ) → ρ (N .left d) ≤ℤ (ρ (N .right d) +ℤ N .length d)
     → Quiet N ρ waiting todo → Quiet N ρ waiting (λ e. todo e × (e ≡ d → ⊥))
 quiet-keep {N} {ρ} {waiting} todo d le q = record { quiet = λ e e-in not off h. by e e-in not off h (ℕ-discrete e d) }
   where
@@ -25,11 +25,11 @@ quiet-keep {N} {ρ} {waiting} todo d le q = record { quiet = λ e e-in not off h
     by e e-in not off h (no c) = q .quiet e e-in (λ t. not (t, c)) off h
 
 -- a face is taken up: its darts are to be tried
-pub quiet-take : {N : Net} {ρ : ℕ → ℤ} {waiting waiting' : ℕ → ℕ} (x w : ℕ) → Changed waiting waiting' x w → Quiet N ρ waiting (λ d. ⊥) → Quiet N ρ waiting' (λ d. N .right d ≡ x)
+pub quiet-take : {N : Dual} {ρ : ℕ → ℤ} {waiting waiting' : ℕ → ℕ} (x w : ℕ) → Changed waiting waiting' x w → Quiet N ρ waiting (λ d. ⊥) → Quiet N ρ waiting' (λ d. N .right d ≡ x)
 quiet-take {N} x w c q = record { quiet = λ d l not off h. q .quiet d l (λ a. a) (λ e. off (c .off (N .right d) not ∙ e)) h }
 
 -- ── the state ──
-module _ {N : Net} {ρ : ℕ → ℤ} {parent waiting : ℕ → ℕ} {n k : ℕ} {passed : ℕ → Type 0} (s : State N ρ parent waiting n k passed) where
+module _ {N : Dual} {ρ : ℕ → ℤ} {parent waiting : ℕ → ℕ} {n k : ℕ} {passed : ℕ → Type 0} (s : State N ρ parent waiting n k passed) where
   -- the face x is taken up: it waits no more
   pub clear : {waiting' : ℕ → ℕ} (x : ℕ) (passed' : ℕ → Type 0) → ((f : ℕ) → f < N .faces → passed' f → (f ≡ x → ⊥) → passed f) → Changed waiting waiting' x 0 → State N ρ parent waiting' n k passed'
   clear {waiting'} x passed' sub c = record {
@@ -91,7 +91,7 @@ module _ {N : Net} {ρ : ℕ → ℤ} {parent waiting : ℕ → ℕ} {n k : ℕ}
   }
 
 -- ── the beginning ──
-pub begin-state : {N : Net} {ρ : ℕ → ℤ} {parent waiting : ℕ → ℕ} (passed : ℕ → Type 0) → ((f : ℕ) → f < N .faces → passed f → ⊥)
+pub begin-state : {N : Dual} {ρ : ℕ → ℤ} {parent waiting : ℕ → ℕ} (passed : ℕ → Type 0) → ((f : ℕ) → f < N .faces → passed f → ⊥)
     → (ρ (N .root) ≡ pos 0) → ((f : ℕ) → f < N .faces → (f ≡ N .root → ⊥) → ρ f ≡ far) → ((f : ℕ) → f < N .faces → N .darts ≤ parent f)
     → ((f : ℕ) → f < N .faces → (f ≡ N .root → ⊥) → waiting f ≡ 1 → ⊥) → State N ρ parent waiting 0 0 passed
 begin-state {N} {ρ} {parent} {waiting} passed empty zero others none rests = record {
@@ -117,7 +117,7 @@ begin-state {N} {ρ} {parent} {waiting} passed empty zero others none rests = re
     not-far f (yes e) l h q = near-not-far (pos 0) (omega arith) (sym zero ∙ ap ρ (sym e) ∙ q)
     not-far f (no c) l h q = rests f l c h
 
-pub begin-quiet : {N : Net} {ρ : ℕ → ℤ} {waiting : ℕ → ℕ} → Sound N → waiting (N .root) ≡ 1 → ((f : ℕ) → f < N .faces → (f ≡ N .root → ⊥) → ρ f ≡ far) → Quiet N ρ waiting (λ d. ⊥)
+pub begin-quiet : {N : Dual} {ρ : ℕ → ℤ} {waiting : ℕ → ℕ} → WellFormed N → waiting (N .root) ≡ 1 → ((f : ℕ) → f < N .faces → (f ≡ N .root → ⊥) → ρ f ≡ far) → Quiet N ρ waiting (λ d. ⊥)
 begin-quiet {N} {ρ} {waiting} sound z others = record { quiet = λ d l not off h. by d l off h (ℕ-discrete (N .right d) (N .root)) }
   where
     by : (d : ℕ) → d < N .darts → (waiting (N .right d) ≡ 1 → ⊥) → (ρ (N .right d) ≡ far → ⊥) → Dec (N .right d ≡ N .root) → ρ (N .left d) ≤ℤ (ρ (N .right d) +ℤ N .length d)

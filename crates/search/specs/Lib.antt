@@ -1,4 +1,5 @@
-pub mod Net
+pub mod Dual
+pub mod OfMap
 pub mod Walk
 pub mod Settled
 pub mod Parents

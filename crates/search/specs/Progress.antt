@@ -7,11 +7,11 @@ use lib.Dec.{eqb}
 use lib.ListN.{length, set}
 use lib.IntN.{ℤ, pos, _+ℤ_}
 use lib.Signed.{mag, _≤ℤ_, _<ℤ_}
-use Rattle.faces.specs.Orbit.{iter}
-use Rattle.search.specs.Net.{Net, longest}
+use Rattle.maps.specs.Orbit.{iter}
+use Rattle.search.specs.Dual.{Dual, longest}
 use Rattle.search.specs.Walk.{Walk}
 use Rattle.search.specs.Parents.{up}
-use Rattle.search.specs.Answer.{level, at}
+use Rattle.arrays.specs.At.{atℤ, at}
 use Rattle.search.specs.declared.Climbed.{Climbed}
 use Rattle.search.specs.declared.Climbed.the-variants as climbed
 
@@ -22,12 +22,12 @@ far = pos 4611686018427387904
 -- what crossing the dart d from the face i does: its left face falls, or it cannot
 abbrev pub Relaxed : List ℕ → List ℤ → List ℤ → List ℕ → List ℕ → List ℤ → List ℕ → List ℕ → ℕ → ℕ → Bool → Type 0
 Relaxed lefts lengths ρ parents waiting ρ' parents' waiting' i d true =
-    (ρ' ≡ set ρ (at lefts d) (level ρ i +ℤ level lengths d))
+    (ρ' ≡ set ρ (at lefts d) (atℤ ρ i +ℤ atℤ lengths d))
     × (parents' ≡ set parents (at lefts d) d)
     × (waiting' ≡ set waiting (at lefts d) 1)
-    × ((level ρ i +ℤ level lengths d) <ℤ level ρ (at lefts d))
+    × ((atℤ ρ i +ℤ atℤ lengths d) <ℤ atℤ ρ (at lefts d))
 Relaxed lefts lengths ρ parents waiting ρ' parents' waiting' i d false =
-    (ρ' ≡ ρ) × (parents' ≡ parents) × (waiting' ≡ waiting) × (level ρ (at lefts d) ≤ℤ (level ρ i +ℤ level lengths d))
+    (ρ' ≡ ρ) × (parents' ≡ parents) × (waiting' ≡ waiting) × (atℤ ρ (at lefts d) ≤ℤ (atℤ ρ i +ℤ atℤ lengths d))
 
 -- where as many steps up as there are faces lead, or the step that lacks a parent
 abbrev pub Climb : (ℕ → ℕ) → ℕ → ℕ → List ℕ → ℕ → Climbed → Type 0
@@ -40,8 +40,8 @@ pub record Begun (ρ : List ℤ) (parents waiting : List ℕ) (root : ℕ) : Typ
   pub size-ρ : length ρ ≡ 1024
   pub size-parents : length parents ≡ 1024
   pub size-waiting : length waiting ≡ 1024
-  pub zero : level ρ root ≡ pos 0
-  pub others : (f : ℕ) → f < 1024 → (f ≡ root → ⊥) → level ρ f ≡ far
+  pub zero : atℤ ρ root ≡ pos 0
+  pub others : (f : ℕ) → f < 1024 → (f ≡ root → ⊥) → atℤ ρ f ≡ far
   pub none : (f : ℕ) → f < 1024 → at parents f ≡ 1024
   pub waits : at waiting root ≡ 1
   pub rests : (f : ℕ) → f < 1024 → (f ≡ root → ⊥) → at waiting f ≡ 0
@@ -52,7 +52,7 @@ place faces k f = cond (eqb (k % 2) 0) f (faces - 1 - f)
 
 -- After n lowerings, in round k, with the faces in `passed` behind it. There are numbers for each face, which no array holds: how many lowerings
 -- there had been when it last fell, and the round that it is of, one more than the one in which it last fell.
-pub record State (N : Net) (ρ : ℕ → ℤ) (parent waiting : ℕ → ℕ) (n k : ℕ) (passed : ℕ → Type 0) : Type 0 where
+pub record State (N : Dual) (ρ : ℕ → ℤ) (parent waiting : ℕ → ℕ) (n k : ℕ) (passed : ℕ → Type 0) : Type 0 where
   pub fell : ℕ → ℕ
   pub round : ℕ → ℕ
   pub fell-by : (f : ℕ) → fell f ≤ n
@@ -69,16 +69,16 @@ pub record State (N : Net) (ρ : ℕ → ℤ) (parent waiting : ℕ → ℕ) (n 
   pub root-low : ρ (N .root) ≤ℤ pos 0
 
 -- a dart that can lower a potential is among those still open, or its right face waits or is not reached
-pub record Quiet (N : Net) (ρ : ℕ → ℤ) (waiting : ℕ → ℕ) (still-open : ℕ → Type 0) : Type 0 where
+pub record Quiet (N : Dual) (ρ : ℕ → ℤ) (waiting : ℕ → ℕ) (still-open : ℕ → Type 0) : Type 0 where
   pub quiet : (d : ℕ) → d < N .darts → (still-open d → ⊥) → (waiting (N .right d) ≡ 1 → ⊥) → (ρ (N .right d) ≡ far → ⊥) → ρ (N .left d) ≤ℤ (ρ (N .right d) +ℤ N .length d)
 
 -- in round k, with the faces at the first a places passed, after n lowerings
-pub record Passing (N : Net) (ρ : List ℤ) (parents waiting : List ℕ) (n k a : ℕ) : Type 0 where
+pub record Passing (N : Dual) (ρ : List ℤ) (parents waiting : List ℕ) (n k a : ℕ) : Type 0 where
   pub size-ρ : length ρ ≡ 1024
   pub size-parents : length parents ≡ 1024
   pub size-waiting : length waiting ≡ 1024
   pub k-in : k ≤ N .faces
   pub a-in : a ≤ N .faces
   pub lowerings : n ≤ k * 1048576 + a * 1024
-  pub state : State N (level ρ) (at parents) (at waiting) n k (λ f. place (N .faces) k f < a)
-  pub quiet : Quiet N (level ρ) (at waiting) (λ d. ⊥)
+  pub state : State N (atℤ ρ) (at parents) (at waiting) n k (λ f. place (N .faces) k f < a)
+  pub quiet : Quiet N (atℤ ρ) (at waiting) (λ d. ⊥)

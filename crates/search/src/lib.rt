@@ -8,8 +8,9 @@ ghost use Prim.Native.Nat.{ℕ, _+_, _<_, _≤_};
 ghost use lib.ListN.{length, getD};
 ghost use lib.IntN.{pos, _+ℤ_};
 ghost use lib.Signed.{mag};
-ghost use Rattle.grouping.specs.Grouped.{Grouped, rightOf};
-ghost use Rattle.search.specs.Net.{netOf, Sound, Joined};
+ghost use Rattle.grouping.specs.Grouped.{Grouped};
+ghost use Rattle.arrays.specs.Maps.{rightOf};
+ghost use Rattle.search.specs.Dual.{dualOf, WellFormed, Joined};
 ghost use Rattle.search.specs.Answer.{Answer};
 ghost use Rattle.search.specs.Progress.{Relaxed, Climb, Begun, Passing, place};
 
@@ -22,14 +23,6 @@ pub enum Outcome {
 enum Climbed {
     Ended,
     At(usize),
-}
-
-// The sum, where it fits.
-fn plus(s: i64, x: i32) -> i64
-    requires { ⌜ mag s + mag x + 1 < 9223372036854775808 ⌝ }
-    ensures { λ r. ⌜ r ≡ s +ℤ x ⌝ }
-{
-    s + x as i64
 }
 
 // Crosses the dart d from its right face i: lowers the potential of its left face if it can, and says whether.
@@ -45,8 +38,8 @@ fn relax(
     requires { ⌜ (length (now potentials) ≡ 1024) × (length (now parents) ≡ 1024) × (length (now waiting) ≡ 1024) × (i < 1024) × (d < 1024) × (getD (now lefts) d 0 < 1024) × (mag (getD (now potentials) i (pos 0)) + mag (getD (now lengths) d (pos 0)) + 1 < 9223372036854775808) ⌝ }
     ensures { λ r. ⌜ Relaxed (now (lefts .entry)) (now (lengths .entry)) (now (potentials .entry)) (now (parents .entry)) (now (waiting .entry)) (now (potentials .exit)) (now (parents .exit)) (now (waiting .exit)) i d r ⌝ }
 {
-    let f = grouping::wide(lefts[d]);
-    let v = plus(potentials[i], lengths[d]);
+    let f = arrays::wide(lefts[d]);
+    let v = signed::plus_wide(potentials[i], lengths[d]);
     if v < potentials[f] {
         potentials[f] = v;
         parents[f] = d as u16;
@@ -69,11 +62,11 @@ fn climb(
 {
     let mut y = x;
     for a in 0..faces {
-        let p = grouping::wide(parents[y]);
+        let p = arrays::wide(parents[y]);
         if darts <= p {
             return Climbed::Ended;
         }
-        y = grouping::right(lefts, p);
+        y = arrays::right(lefts, p);
     }
     Climbed::At(y)
 }
@@ -141,15 +134,15 @@ fn take_up(
     a: usize,
     i: usize,
 ) -> usize
-    requires { ⌜ Sound (netOf (now lefts) (now lengths) darts faces root) × Grouped (rightOf (now lefts)) darts faces (now order) (now starts) (now ends) × Passing (netOf (now lefts) (now lengths) darts faces root) (now potentials) (now parents) (now waiting) lowerings k a × (k < faces) × (a < faces) × (i ≡ place faces k a) × (getD (now waiting) i 0 ≡ 1) ⌝ }
-    ensures { λ r. ⌜ Passing (netOf (now (lefts .entry)) (now (lengths .entry)) darts faces root) (now (potentials .exit)) (now (parents .exit)) (now (waiting .exit)) r k (a + 1) ⌝ }
+    requires { ⌜ WellFormed (dualOf (now lefts) (now lengths) darts faces root) × Grouped (rightOf (now lefts)) darts faces (now order) (now starts) (now ends) × Passing (dualOf (now lefts) (now lengths) darts faces root) (now potentials) (now parents) (now waiting) lowerings k a × (k < faces) × (a < faces) × (i ≡ place faces k a) × (getD (now waiting) i 0 ≡ 1) ⌝ }
+    ensures { λ r. ⌜ Passing (dualOf (now (lefts .entry)) (now (lengths .entry)) darts faces root) (now (potentials .exit)) (now (parents .exit)) (now (waiting .exit)) r k (a + 1) ⌝ }
 {
     waiting[i] = 0;
-    let s = grouping::wide(starts[i]);
-    let e = grouping::wide(ends[i]);
+    let s = arrays::wide(starts[i]);
+    let e = arrays::wide(ends[i]);
     let mut count = lowerings;
     for j in s..e {
-        let d = grouping::wide(order[j]);
+        let d = arrays::wide(order[j]);
         if relax(
             lefts,
             lengths,
@@ -181,8 +174,8 @@ pub fn search(
     parents: &mut [u16; 1024],
     waiting: &mut [u8; 1024],
 ) -> Outcome
-    requires { ⌜ Sound (netOf (now lefts) (now lengths) darts faces root) × Joined (netOf (now lefts) (now lengths) darts faces root) × Grouped (rightOf (now lefts)) darts faces (now order) (now starts) (now ends) × (length (now potentials) ≡ 1024) × (length (now parents) ≡ 1024) × (length (now waiting) ≡ 1024) ⌝ }
-    ensures { λ r. ⌜ Answer (netOf (now (lefts .entry)) (now (lengths .entry)) darts faces root) (now (potentials .exit)) (now (parents .exit)) r ⌝ }
+    requires { ⌜ WellFormed (dualOf (now lefts) (now lengths) darts faces root) × Joined (dualOf (now lefts) (now lengths) darts faces root) × Grouped (rightOf (now lefts)) darts faces (now order) (now starts) (now ends) × (length (now potentials) ≡ 1024) × (length (now parents) ≡ 1024) × (length (now waiting) ≡ 1024) ⌝ }
+    ensures { λ r. ⌜ Answer (dualOf (now (lefts .entry)) (now (lengths .entry)) darts faces root) (now (potentials .exit)) (now (parents .exit)) r ⌝ }
 {
     begin(&mut *potentials, &mut *parents, &mut *waiting, root);
     let mut count: usize = 0;
@@ -197,7 +190,7 @@ pub fn search(
                 if due(faces, k, next, count) {
                     next = count + faces;
                     if let Climbed::At(y) = climb(lefts, &*parents, darts, faces, i) {
-                        break 'search Outcome::Ring(grouping::wide(parents[y]));
+                        break 'search Outcome::Ring(arrays::wide(parents[y]));
                     }
                 }
                 count = take_up(

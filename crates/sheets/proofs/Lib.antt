@@ -1,5 +1,5 @@
-pub mod Filling
 pub mod Opening
+pub mod Accepted
 pub mod Reading
 pub mod Placing
 pub mod Writing

@@ -1,4 +1,4 @@
--- Read: the ways out of the operation, each as a verdict of its whole list of checks, and slices filled as the definition says.
+-- Read: the ways out of the operation, each as a verdict of its whole list of checks, and the slices that it leaves.
 use mathlib.Core.Path.{_≡_, refl, sym, _∙_, ap, ap₂}
 use mathlib.Core.Logic.{_⊎_, inl, inr}
 use mathlib.Core.List.{List, [], _∷_, _++_}
@@ -8,25 +8,12 @@ use lib.ListN.{length, drop}
 use lib.IntN.{ℤ}
 use Rattle.refusals.specs.Order.{Check, _when_, NoneOf, FirstOf}
 use Rattle.refusals.proofs.Order.{none-append, append-none, first-left, first-right, neither}
-use Rattle.rotations.specs.MapChecks.{mapChecks}
-use Rattle.records.specs.Table.{tabulate}
-use Rattle.records.proofs.Tabulate.{length-tabulate}
-use Rattle.records.specs.Sheet.{nodesOf, edgesOf, sheetMap, byteChecks}
-use Rattle.records.proofs.Bytes.{bytes-counts}
+use Rattle.integers.proofs.Tests.{ltb-true}
+use Rattle.arrays.specs.Filled.{filled}
+use Rattle.arrays.proofs.FillLoops.{filled-below}
+use Rattle.records.specs.Sheet.{edgesOf, field16, field32, tailOf, rotationOf, capacityOf}
 use Rattle.sheets.specs.Open.{sheetChecks}
-use Rattle.sheets.specs.Read.{readChecks, filled}
-
--- an accepted sheet's bytes passed, so its counts are in range
-pub sheet-bytes : (s : List ℕ) → NoneOf (sheetChecks s) → NoneOf (byteChecks s)
-unfolding sheetChecks
-sheet-bytes s h = append-none (byteChecks s) (mapChecks (sheetMap s)) h .0
-
-pub sheet-map : (s : List ℕ) → NoneOf (sheetChecks s) → NoneOf (mapChecks (sheetMap s))
-unfolding sheetChecks
-sheet-map s h = append-none (byteChecks s) (mapChecks (sheetMap s)) h .1
-
-pub sheet-counts : (s : List ℕ) → NoneOf (sheetChecks s) → (2 ≤ nodesOf s) × (nodesOf s ≤ 513) × (1 ≤ edgesOf s) × (edgesOf s ≤ 512)
-sheet-counts s h = bytes-counts s (sheet-bytes s h)
+use Rattle.sheets.specs.Read.{readChecks}
 
 module _ (s tails rotations : List ℕ) (capacities : List ℤ) where
   abbrev short : List Check
@@ -46,8 +33,19 @@ module _ (s tails rotations : List ℕ) (capacities : List ℤ) where
   unfolding readChecks NoneOf
   read-whole h t r c = none-append (sheetChecks s) short h (neither (λ l. omega arith) (neither (λ l. omega arith) (λ l. omega arith)), tt)
 
-pub filled-as : {A : Type 0} (n m : ℕ) (f g : ℕ → A) (old new : List A) → new ≡ filled n f old → n ≡ m → f ≡ g → new ≡ filled m g old
-filled-as n m f g old new h e p = h ∙ ap₂ (λ k φ. filled k φ old) e p
+-- ── the slices as the definition says ──
+module _ (s : List ℕ) (edges : ℕ) (are : edges ≡ edgesOf s) where
+  all : 2 * edges ≡ 2 * edgesOf s
+  all = ap (λ m. 2 * m) are
 
-pub filled-length : {A : Type 0} (n : ℕ) (f : ℕ → A) (old new : List A) → new ≡ filled n f old → n ≤ length old → length new ≡ length old
-filled-length n f old new h l = ap length h ∙ lib.ListN.length-append (tabulate n f) (drop n old) ∙ ap₂ _+_ (length-tabulate n f) (lib.ListN.length-drop n old) ∙ omega arith
+  pub tails-read : (old new : List ℕ) → new ≡ filled (2 * edges) (field16 s 1) old → new ≡ filled (2 * edgesOf s) (tailOf s) old
+  unfolding tailOf
+  tails-read old new h = filled-below _ _ _ _ old new h all (λ d l. rw (ltb-true d (2 * edgesOf s) l))
+
+  pub rotations-read : (old new : List ℕ) → new ≡ filled (2 * edges) (field16 s 5) old → new ≡ filled (2 * edgesOf s) (rotationOf s) old
+  unfolding rotationOf
+  rotations-read old new h = filled-below _ _ _ _ old new h all (λ d l. rw (ltb-true d (2 * edgesOf s) l))
+
+  pub capacities-read : (old new : List ℤ) → new ≡ filled (2 * edges) (field32 s 9) old → new ≡ filled (2 * edgesOf s) (capacityOf s) old
+  unfolding capacityOf
+  capacities-read old new h = filled-below _ _ _ _ old new h all (λ d l. rw (ltb-true d (2 * edgesOf s) l))

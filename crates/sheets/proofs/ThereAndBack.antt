@@ -11,31 +11,32 @@ use lib.Seq.{take-at}
 use lib.IntN.{ℤ, pos}
 use Rattle.refusals.specs.Order.{NoneOf, FirstOf, inTurn}
 use Rattle.refusals.proofs.Order.{none-append, none-in-turn, first-none}
-use Rattle.faces.specs.Map.{Map}
-use Rattle.rotations.specs.Arrays.{at, mapOf}
+use Rattle.maps.specs.Map.{Map}
+use Rattle.arrays.specs.At.{at, atℤ}
+use Rattle.arrays.specs.Maps.{mapOf}
 use Rattle.rotations.specs.MapChecks.{mapChecks}
-use Rattle.records.specs.Drawing.{Drawing}
+use Rattle.maps.specs.Drawing.{Drawing}
 use Rattle.records.specs.Check.{countChecks, edgeChecks}
 use Rattle.records.specs.Sheet.{nodesOf, edgesOf, edgeAt, tailOf, rotationOf, capacityOf, sheetMap, sheetDrawing, byteChecks}
 use Rattle.records.specs.Encode.{encode}
-use Rattle.records.specs.Table.{tabulate}
-use Rattle.records.proofs.Tabulate.{length-tabulate, getD-tabulate, getD-past, tabulate-getD}
+use Rattle.arrays.specs.Filled.{tabulate, filled}
+use Rattle.arrays.proofs.Tabulate.{length-tabulate, getD-tabulate, getD-past, tabulate-getD}
 use Rattle.records.proofs.Fields.{tail-past, rotation-past, capacity-past}
 use Rattle.records.proofs.Bytes.{bytes-length, bytes-head, head-range, bytes-drawn}
 use Rattle.records.proofs.SheetAgain.{encode-sheet}
-use Rattle.records.proofs.Encodable.{ZeroPast, Encodable, encodable-of-checks}
+use Rattle.records.proofs.Encodable.{ZeroPast, Encodable, sheet-zero-past, encodable-of-checks}
 use Rattle.records.proofs.Places.{encode-length}
 use Rattle.records.proofs.Decode.{sheet-encode}
 use Rattle.records.proofs.EncodeAccepted.{encode-accepted}
-use Rattle.sheets.specs.Network.{atℤ}
 use Rattle.sheets.specs.Open.{sheetChecks}
-use Rattle.sheets.specs.Read.{readChecks, filled, Reads}
+use Rattle.sheets.specs.Read.{readChecks, Reads}
 use Rattle.sheets.specs.Write.{edgesIn, slicesDrawing, drawingChecks, writeChecks, Writes}
 use Rattle.sheets.specs.declared.ReadAnswer.{ReadAnswer}
 use Rattle.sheets.specs.declared.ReadAnswer.the-variants as read
 use Rattle.sheets.specs.declared.WriteAnswer.{WriteAnswer}
 use Rattle.sheets.specs.declared.WriteAnswer.the-variants as write
-use Rattle.sheets.proofs.Reading.{sheet-bytes, sheet-map, read-whole}
+use Rattle.sheets.proofs.Reading.{read-whole}
+use Rattle.sheets.proofs.Accepted.{sheet-bytes, sheet-map}
 use Rattle.sheets.proofs.Writing.{drawing-parts, write-whole}
 
 -- ── from bytes to slices to bytes ──
@@ -73,6 +74,7 @@ module _ (s : List ℕ) where
       rotation = fun-ext (table-at 0 m (rotationOf s) (rotation-past s)) i;
     };
     capacity = fun-ext (table-at (pos 0) m (capacityOf s) (capacity-past s)) i;
+    outer = sym (sheet-zero-past s .outer-zero) i;
   }
 
   module _ (accepted : NoneOf (sheetChecks s)) where
@@ -133,6 +135,7 @@ module _ (nodes : ℕ) (tails rotations : List ℕ) (capacities : List ℤ) (out
     tail-zero = λ d l. List·getD-eq-default tails 0 {n = d} (omega (arith, whole-length));
     rotation-zero = λ d l. List·getD-eq-default rotations 0 {n = d} (omega (arith, whole-length, same-lengths .0));
     capacity-zero = λ d l. List·getD-eq-default capacities (pos 0) {n = d} (omega (arith, whole-length, same-lengths .1));
+    outer-zero = refl;
   }
 
   fits : Encodable drawing

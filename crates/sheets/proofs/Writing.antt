@@ -14,19 +14,20 @@ use Rattle.refusals.specs.declared.Verdict.the-variants.{Passed, Refused}
 use Rattle.refusals.proofs.Order.{none-append, append-none, none-in-turn, in-turn-none, first-left, first-right, first-in-turn, judged-right, neither}
 use Rattle.fields.specs.Fields.{put, le16}
 use Rattle.fields.proofs.Laws.{put-after}
-use Rattle.faces.specs.Map.{Map}
-use Rattle.faces.specs.Check.{InRange}
-use Rattle.rotations.specs.Arrays.{at, mapOf}
+use Rattle.maps.specs.Map.{Map}
+use Rattle.maps.specs.Check.{InRange}
+use Rattle.arrays.specs.At.{at, atℤ}
+use Rattle.arrays.specs.Maps.{mapOf}
 use Rattle.rotations.specs.MapChecks.{mapChecks, MapJudged}
-use Rattle.records.specs.Drawing.{Drawing}
+use Rattle.maps.specs.Drawing.{Drawing}
 use Rattle.records.specs.Check.{countChecks, edgeChecks}
+use Rattle.records.specs.Record.{recordLength}
 use Rattle.records.specs.Sheet.{edgeAt}
 use Rattle.records.specs.Encode.{headBytes, encodeHead, encodeEdge, encodeEdges, encode}
 use Rattle.records.proofs.Drawing.{counts-range, drawing-range}
 use Rattle.records.proofs.Places.{head-length, front-length, edge-length}
-use Rattle.sheets.specs.Network.{atℤ}
 use Rattle.sheets.specs.Write.{edgesIn, slicesDrawing, drawingChecks, writeChecks}
-use Rattle.sheets.proofs.Filling.{Filling, filling-end}
+use Rattle.arrays.proofs.FillLoops.{Filling, filling-end}
 
 -- ── arrays loaded from slices ──
 pub loaded : {to : List ℕ} (from : List ℕ) → Filling 0 (at from) (length from) to → (d : ℕ) → at to d ≡ at from d
@@ -40,9 +41,9 @@ pub loaded-map : (nodes edges : ℕ) (t r : List ℕ) (tails rotations : List �
 loaded-map nodes edges t r tails rotations p q = λ i. record { nodes = nodes; edges = edges; tail = fun-ext p i; rotation = fun-ext q i }
 
 -- ── the checks on slices ──
-pub map-judged : (𝓜 : Map) (f : ℕ → ℕ) (v : Verdict) → MapJudged 𝓜 f v → Judged (mapChecks 𝓜) v
-map-judged 𝓜 f Passed h = h .0
-map-judged 𝓜 f (Refused k p) h = h
+pub map-judged : (𝓜 : Map) (lefts : ℕ → ℕ) (count : ℕ) (v : Verdict) → MapJudged 𝓜 lefts count v → Judged (mapChecks 𝓜) v
+map-judged 𝓜 lefts count Passed h = h .0
+map-judged 𝓜 lefts count (Refused k p) h = h
 
 module _ (𝓓 : Drawing) where
   abbrev counts : List Check
@@ -76,9 +77,9 @@ module _ (𝓓 : Drawing) where
 
 -- ── edges written one after another ──
 module _ (𝓓 : Drawing) (old : List ℕ) where
-  pub write-start : (l : List ℕ) → l ≡ encodeHead 𝓓 ++ drop 5 old → l ≡ (encodeHead 𝓓 ++ encodeEdges 𝓓 0) ++ drop (edgeAt 0) old
+  pub write-start : (l : List ℕ) → l ≡ encodeHead 𝓓 ++ drop (recordLength 1) old → l ≡ (encodeHead 𝓓 ++ encodeEdges 𝓓 0) ++ drop (edgeAt 0) old
   unfolding encodeEdges
-  write-start l e = e ∙ ap (λ x. x ++ drop 5 old) (sym (mathlib.Core.List.append-nil (encodeHead 𝓓)))
+  write-start l e = e ∙ ap (λ x. x ++ drop (recordLength 1) old) (sym (mathlib.Core.List.append-nil (encodeHead 𝓓)))
 
   pub write-step : (e : ℕ) (l next : List ℕ) → l ≡ (encodeHead 𝓓 ++ encodeEdges 𝓓 e) ++ drop (edgeAt e) old → next ≡ put (edgeAt e) (encodeEdge 𝓓 e) l
       → next ≡ (encodeHead 𝓓 ++ encodeEdges 𝓓 (e + 1)) ++ drop (edgeAt (e + 1)) old
@@ -96,7 +97,7 @@ module _ (𝓓 : Drawing) (old : List ℕ) where
   write-end e l h so-far = so-far ∙ ap (λ n. (encodeHead 𝓓 ++ encodeEdges 𝓓 n) ++ drop (edgeAt n) old) h
 
 -- the head, at the front of what was there
-pub head-written : (𝓓 : Drawing) (old l : List ℕ) (edges : ℕ) → edges ≡ 𝓓 .map .edges → l ≡ put 0 (headBytes (𝓓 .map .nodes) edges) old → l ≡ encodeHead 𝓓 ++ drop 5 old
+pub head-written : (𝓓 : Drawing) (old l : List ℕ) (edges : ℕ) → edges ≡ 𝓓 .map .edges → l ≡ put 0 (headBytes (𝓓 .map .nodes) edges) old → l ≡ encodeHead 𝓓 ++ drop (recordLength 1) old
 unfolding put encodeHead le16
 head-written 𝓓 old l edges e h = h ∙ ap (λ m. headBytes (𝓓 .map .nodes) m ++ drop (length (headBytes (𝓓 .map .nodes) m)) old) e ∙ ap (λ k. headBytes (𝓓 .map .nodes) (𝓓 .map .edges) ++ drop k old) (head-length 𝓓)
 

@@ -1,4 +1,3 @@
-pub mod Network
 pub mod Open
 pub mod Read
 pub mod Write

@@ -7,7 +7,7 @@ use mathlib.Core.List.{List, [], _∷_, _++_}
 use lib.ListN.{length, drop}
 use lib.IntN.{ℤ}
 use Rattle.refusals.specs.Order.{Check, _when_, NoneOf, FirstOf}
-use Rattle.records.specs.Table.{tabulate}
+use Rattle.arrays.specs.Filled.{tabulate, filled}
 use Rattle.records.specs.Sheet.{nodesOf, edgesOf, tailOf, rotationOf, capacityOf}
 use Rattle.sheets.specs.Open.{sheetChecks}
 use Rattle.sheets.specs.declared.ReadAnswer.{ReadAnswer}
@@ -17,10 +17,6 @@ use Rattle.sheets.specs.declared.ReadAnswer.the-variants.{Counts, Refuse
 unfoldable pub readChecks : List ℕ → List ℕ → List ℕ → List ℤ → List Check
 readChecks s tails rotations capacities =
     sheetChecks s ++ ((16 when (length tails < 2 * edgesOf s) ⊎ ((length rotations < 2 * edgesOf s) ⊎ (length capacities < 2 * edgesOf s))) ∷ [])
-
--- a slice whose first n elements are those of f, and whose others are as they were
-abbrev pub filled : {A : Type 0} → ℕ → (ℕ → A) → List A → List A
-filled n f old = tabulate n f ++ drop n old
 
 -- the answer, and every lent slice: as it came (tails, rotations, capacities), and as it is left (tails', rotations', capacities')
 abbrev pub Reads : List ℕ → (tails rotations : List ℕ) (capacities : List ℤ) (tails' rotations' : List ℕ) (capacities' : List ℤ) → ReadAnswer → Type 0

@@ -7,13 +7,13 @@ use mathlib.Core.List.{List, [], _∷_, _++_}
 use lib.ListN.{length, drop}
 use lib.IntN.{ℤ}
 use Rattle.refusals.specs.Order.{Check, _when_, inTurn, NoneOf, FirstOf}
-use Rattle.rotations.specs.Arrays.{mapOf}
+use Rattle.arrays.specs.Maps.{mapOf}
 use Rattle.rotations.specs.MapChecks.{mapChecks}
-use Rattle.records.specs.Drawing.{Drawing}
+use Rattle.maps.specs.Drawing.{Drawing}
 use Rattle.records.specs.Check.{countChecks, edgeChecks}
 use Rattle.records.specs.Sheet.{edgeAt}
 use Rattle.records.specs.Encode.{encode}
-use Rattle.sheets.specs.Network.{atℤ}
+use Rattle.arrays.specs.At.{atℤ}
 use Rattle.sheets.specs.declared.WriteAnswer.{WriteAnswer}
 use Rattle.sheets.specs.declared.WriteAnswer.the-variants.{Bytes, Refused}
 
@@ -21,9 +21,9 @@ use Rattle.sheets.specs.declared.WriteAnswer.the-variants.{Bytes, Refuse
 abbrev pub edgesIn : List ℕ → ℕ
 edgesIn tails = length tails / 2
 
--- the drawing that the slices describe
+-- the drawing that the slices describe, with dart 0 on the outer face
 abbrev pub slicesDrawing : ℕ → List ℕ → List ℕ → List ℤ → Drawing
-slicesDrawing nodes tails rotations capacities = record { map = mapOf nodes (edgesIn tails) tails rotations; capacity = atℤ capacities }
+slicesDrawing nodes tails rotations capacities = record { map = mapOf nodes (edgesIn tails) tails rotations; capacity = atℤ capacities; outer = 0 }
 
 -- 3 to 7, then 9 to 12, on a drawing
 unfoldable pub drawingChecks : Drawing → List Check

@@ -6,126 +6,129 @@ ghost use lib.Dec.{ltb};
 ghost use lib.ListN.{length, drop};
 ghost use mathlib.Core.List.{List, _++_};
 ghost use lib.IntN.{pos};
-ghost use Rattle.refusals.specs.Order.{Judged, inTurn};
-ghost use Rattle.fields.specs.Fields.{u16At, i32At, put};
-ghost use Rattle.rotations.specs.Arrays.{at};
-ghost use Rattle.records.specs.Sheet.{edgeAt};
+ghost use Rattle.refusals.specs.Order.{NoneOf, Judged, inTurn};
+ghost use Rattle.fields.specs.Fields.{put};
+ghost use Rattle.arrays.specs.At.{at, atℤ};
+ghost use Rattle.records.specs.Record.{recordLength};
+ghost use Rattle.records.specs.Sheet.{edgesOf, edgeAt, field16, field32, tailOf, rotationOf, capacityOf, byteChecks};
 ghost use Rattle.records.specs.Check.{edgeChecks};
 ghost use Rattle.records.specs.Encode.{headBytes, edgeBytes, encodeHead, encode};
-ghost use Rattle.sheets.specs.Network.{atℤ};
 ghost use Rattle.sheets.specs.Open.{Opens};
-ghost use Rattle.sheets.specs.Read.{filled, Reads};
+ghost use Rattle.sheets.specs.Read.{Reads};
+ghost use Rattle.arrays.specs.Filled.{filled};
 ghost use Rattle.sheets.specs.Write.{edgesIn, slicesDrawing, drawingChecks, Writes};
 use refusals::Verdict;
 
-// All 1,024 darts with their tails, rotations ("turns"), capacities ("limits") and faces. It is made once, by `open`, and its arrays are lent to what works on
-// it. `outer` is a dart on the outer face.
+// All 1,024 darts with their tails, rotations ("turns"), capacities ("limits") and left faces; how many nodes, edges and faces there are, and a dart on the outer face.
+// An operation makes it once, in its own frame, fills its arrays in place, and lends them to what works on it.
 pub struct Network {
     pub nodes: usize,
     pub edges: usize,
-    pub outer: u16,
+    pub faces: usize,
+    pub outer: usize,
     pub tails: [u16; 1024],
     pub rotations: [u16; 1024],
     pub capacities: [i32; 1024],
-    pub faces: [u16; 1024],
+    pub lefts: [u16; 1024],
 }
 
+// The verdict of the sheet checks; where they passed, the numbers of the sheet's drawing.
 pub struct Opened {
     pub verdict: Verdict,
-    pub network: Network,
+    pub nodes: usize,
+    pub edges: usize,
+    pub faces: usize,
+    pub outer: usize,
 }
 
-// The field of 16 bits of each dart, which stands `first` bytes into the record of its edge, the second dart's right after.
-fn fill_fields(s: &[u8], first: usize, darts: usize, to: &mut [u16; 1024])
-    requires { ⌜ (length (now to) ≡ 1024) × (darts ≤ 1024) × (darts % 2 ≡ 0) × (first ≤ 13) × (5 + 17 * (darts / 2) ≤ length (now s)) × ((d : ℕ) → at (now to) d ≡ 0) ⌝ }
-    ensures { λ _. ⌜ (length (now (to .exit)) ≡ 1024) × ((d : ℕ) → at (now (to .exit)) d ≡ cond (ltb d darts) (u16At (now (s .entry)) (edgeAt (d / 2) + first + 2 * (d % 2))) 0) ⌝ }
+// A field of 16 bits of each dart, which stands `first` bytes into the record of its edge, into the first places of a slice.
+fn fill_fields(s: &[u8], first: usize, edges: usize, to: &mut [u16])
+    requires { ⌜ (first ≤ 13) × (edges ≤ 512) × (edgeAt edges ≤ length (now s)) × (2 * edges ≤ length (now to)) ⌝ }
+    ensures { λ _. ⌜ now (to .exit) ≡ filled (2 * edges) (field16 (now (s .entry)) first) (now (to .entry)) ⌝ }
 {
+    let darts = 2 * edges;
     let mut d: usize = 0;
     while d < darts {
-        let place = 5 + 17 * (d / 2) + first + 2 * (d % 2);
-        to[d] = fields::read_u16(s, place);
+        let at = records::edge_at(d / 2);
+        to[d] = fields::read_u16(s, at + first + 2 * (d % 2));
         d += 1;
     }
 }
 
-// The capacity of each dart.
-fn fill_capacities(s: &[u8], darts: usize, to: &mut [i32; 1024])
-    requires { ⌜ (length (now to) ≡ 1024) × (darts ≤ 1024) × (darts % 2 ≡ 0) × (5 + 17 * (darts / 2) ≤ length (now s)) × ((d : ℕ) → atℤ (now to) d ≡ pos 0) ⌝ }
-    ensures { λ _. ⌜ (length (now (to .exit)) ≡ 1024) × ((d : ℕ) → atℤ (now (to .exit)) d ≡ cond (ltb d darts) (i32At (now (s .entry)) (edgeAt (d / 2) + 9 + 4 * (d % 2))) (pos 0)) ⌝ }
+// The capacity of each dart, into the first places of a slice.
+fn fill_limits(s: &[u8], edges: usize, to: &mut [i32])
+    requires { ⌜ (edges ≤ 512) × (edgeAt edges ≤ length (now s)) × (2 * edges ≤ length (now to)) ⌝ }
+    ensures { λ _. ⌜ now (to .exit) ≡ filled (2 * edges) (field32 (now (s .entry)) 9) (now (to .entry)) ⌝ }
 {
+    let darts = 2 * edges;
     let mut d: usize = 0;
     while d < darts {
-        let place = 5 + 17 * (d / 2) + 9 + 4 * (d % 2);
-        to[d] = fields::read_i32(s, place);
+        let at = records::edge_at(d / 2);
+        to[d] = fields::read_i32(s, at + 9 + 4 * (d % 2));
         d += 1;
     }
 }
 
-// The sheet checks on any bytes, and the network record of a sheet that passes them.
-pub fn open(s: &[u8]) -> Opened
-    ensures { λ r. ⌜ Opens (now (s .entry)) (r .network) (r .verdict) ⌝ }
+// The tail of each dart of a sheet whose bytes are accepted, into an array of zeros.
+pub fn fill_tails(s: &[u8], edges: usize, to: &mut [u16; 1024])
+    requires { ⌜ NoneOf (byteChecks (now s)) × (edges ≡ edgesOf (now s)) × (length (now to) ≡ 1024) × ((d : ℕ) → at (now to) d ≡ 0) ⌝ }
+    ensures { λ _. ⌜ (length (now (to .exit)) ≡ 1024) × (at (now (to .exit)) ≡ tailOf (now (s .entry))) ⌝ }
 {
-    let mut tails = [0u16; 1024];
-    let mut rotations = [0u16; 1024];
-    let mut capacities = [0i32; 1024];
-    let mut faces = [0u16; 1024];
+    fill_fields(s, 1, edges, to);
+}
+
+// The rotation of each dart, likewise.
+pub fn fill_rotations(s: &[u8], edges: usize, to: &mut [u16; 1024])
+    requires { ⌜ NoneOf (byteChecks (now s)) × (edges ≡ edgesOf (now s)) × (length (now to) ≡ 1024) × ((d : ℕ) → at (now to) d ≡ 0) ⌝ }
+    ensures { λ _. ⌜ (length (now (to .exit)) ≡ 1024) × (at (now (to .exit)) ≡ rotationOf (now (s .entry))) ⌝ }
+{
+    fill_fields(s, 5, edges, to);
+}
+
+// The capacity of each dart, likewise.
+pub fn fill_capacities(s: &[u8], edges: usize, to: &mut [i32; 1024])
+    requires { ⌜ NoneOf (byteChecks (now s)) × (edges ≡ edgesOf (now s)) × (length (now to) ≡ 1024) × ((d : ℕ) → atℤ (now to) d ≡ pos 0) ⌝ }
+    ensures { λ _. ⌜ (length (now (to .exit)) ≡ 1024) × (atℤ (now (to .exit)) ≡ capacityOf (now (s .entry))) ⌝ }
+{
+    fill_limits(s, edges, to);
+}
+
+fn refused(number: u8, place: u16) -> Opened
+    ensures { λ r. ⌜ r .verdict ≡ Verdict.Refused number place ⌝ }
+{
+    Opened {
+        verdict: Verdict::Refused(number, place),
+        nodes: 0,
+        edges: 0,
+        faces: 0,
+        outer: 0,
+    }
+}
+
+// The sheet checks on any bytes. Of a sheet that passes them it gives the numbers, and the left face of each dart. Tails and rotations are read into arrays of its own, since
+// no two fields of a caller's record can be lent beside one that is written.
+pub fn open(s: &[u8], lefts: &mut [u16; 1024]) -> Opened
+    requires { ⌜ length (now lefts) ≡ 1024 ⌝ }
+    ensures { λ r. ⌜ (length (now (lefts .exit)) ≡ 1024) × Opens (now (s .entry)) (now (lefts .exit)) r (r .verdict) ⌝ }
+{
     let bytes = records::check_bytes(s);
     if let Verdict::Refused(k, p) = bytes {
-        let none = Network {
-            nodes: 0,
-            edges: 0,
-            outer: 0,
-            tails: tails,
-            rotations: rotations,
-            capacities: capacities,
-            faces: faces,
-        };
-        return Opened {
-            verdict: Verdict::Refused(k, p),
-            network: none,
-        };
+        return refused(k, p);
     }
     let nodes = records::nodes_of(s);
     let edges = records::edges_of(s);
-    fill_fields(s, 1, 2 * edges, &mut tails);
-    fill_fields(s, 5, 2 * edges, &mut rotations);
-    fill_capacities(s, 2 * edges, &mut capacities);
-    let verdict = rotations::check_map(&tails, &rotations, nodes, edges, &mut faces);
-    let network = Network {
-        nodes: nodes,
-        edges: edges,
-        outer: 0,
-        tails: tails,
-        rotations: rotations,
-        capacities: capacities,
-        faces: faces,
-    };
+    let mut tails = [0u16; 1024];
+    let mut rotations = [0u16; 1024];
+    fill_tails(s, edges, &mut tails);
+    fill_rotations(s, edges, &mut rotations);
+    let checked = rotations::check_map(&tails, &rotations, nodes, edges, lefts);
+    let verdict = checked.verdict;
     Opened {
         verdict: verdict,
-        network: network,
-    }
-}
-
-// The first n elements of an array, into a slice.
-fn copy_out(from: &[u16; 1024], n: usize, to: &mut [u16])
-    requires { ⌜ (n ≤ 1024) × (n ≤ length (now to)) ⌝ }
-    ensures { λ _. ⌜ now (to .exit) ≡ filled n (at (now (from .entry))) (now (to .entry)) ⌝ }
-{
-    let mut d: usize = 0;
-    while d < n {
-        to[d] = from[d];
-        d += 1;
-    }
-}
-
-pub fn copy_out_signed(from: &[i32; 1024], n: usize, to: &mut [i32])
-    requires { ⌜ (n ≤ 1024) × (n ≤ length (now to)) ⌝ }
-    ensures { λ _. ⌜ now (to .exit) ≡ filled n (atℤ (now (from .entry))) (now (to .entry)) ⌝ }
-{
-    let mut d: usize = 0;
-    while d < n {
-        to[d] = from[d];
-        d += 1;
+        nodes: nodes,
+        edges: edges,
+        faces: checked.faces,
+        outer: records::outer_of(s),
     }
 }
 
@@ -144,13 +147,13 @@ pub fn read(
 ) -> ReadAnswer
     ensures { λ r. ⌜ Reads (now (sheet .entry)) (now (tails .entry)) (now (rotations .entry)) (now (capacities .entry)) (now (tails .exit)) (now (rotations .exit)) (now (capacities .exit)) r ⌝ }
 {
-    let opened = open(sheet);
+    let mut lefts = [0u16; 1024];
+    let opened = open(sheet, &mut lefts);
     let verdict = opened.verdict;
     if let Verdict::Refused(k, p) = verdict {
         return ReadAnswer::Refused(k, p);
     }
-    let network = opened.network;
-    let edges = network.edges;
+    let edges = opened.edges;
     let darts = 2 * edges;
     if tails.len() < darts {
         return ReadAnswer::Refused(16, 0);
@@ -161,23 +164,10 @@ pub fn read(
     if capacities.len() < darts {
         return ReadAnswer::Refused(16, 0);
     }
-    copy_out(&network.tails, darts, tails);
-    copy_out(&network.rotations, darts, rotations);
-    copy_out_signed(&network.capacities, darts, capacities);
-    ReadAnswer::Counts(narrow(network.nodes), narrow(edges))
-}
-
-fn narrow(x: usize) -> u16
-    requires { ⌜ x < 65536 ⌝ }
-    ensures { λ r. ⌜ r ≡ x ⌝ }
-{
-    x as u16
-}
-
-fn wide(x: u16) -> usize
-    ensures { λ r. ⌜ r ≡ x ⌝ }
-{
-    x as usize
+    fill_fields(sheet, 1, edges, &mut *tails);
+    fill_fields(sheet, 5, edges, &mut *rotations);
+    fill_limits(sheet, edges, &mut *capacities);
+    ReadAnswer::Counts(arrays::narrow(opened.nodes), arrays::narrow(edges))
 }
 
 // The elements of a slice, into an array of zeros.
@@ -204,10 +194,10 @@ fn check_edge(
     ensures { λ r. ⌜ Judged (edgeChecks (slicesDrawing nodes (now (tails .entry)) (now (rotations .entry)) (now (capacities .entry))) e) r ⌝ }
 {
     let edges = tails.len() / 2;
-    let tail = wide(tails[2 * e]);
-    let head = wide(tails[2 * e + 1]);
-    let rotation = wide(rotations[2 * e]);
-    let back_rotation = wide(rotations[2 * e + 1]);
+    let tail = arrays::wide(tails[2 * e]);
+    let head = arrays::wide(tails[2 * e + 1]);
+    let rotation = arrays::wide(rotations[2 * e]);
+    let back_rotation = arrays::wide(rotations[2 * e + 1]);
     let forward = capacities[2 * e];
     let backward = capacities[2 * e + 1];
     records::check_fields(
@@ -255,15 +245,17 @@ fn check_slices(nodes: usize, tails: &[u16], rotations: &[u16], capacities: &[i3
     }
     let mut all_tails = [0u16; 1024];
     let mut all_rotations = [0u16; 1024];
-    let mut faces = [0u16; 1024];
+    let mut lefts = [0u16; 1024];
     load(tails, &mut all_tails);
     load(rotations, &mut all_rotations);
-    rotations::check_map(&all_tails, &all_rotations, nodes, edges, &mut faces)
+    let checked = rotations::check_map(&all_tails, &all_rotations, nodes, edges, &mut lefts);
+    let verdict = checked.verdict;
+    verdict
 }
 
 // The head of a sheet.
 fn write_head(out: &mut [u8], nodes: u16, edges: u16)
-    requires { ⌜ 5 ≤ length (now out) ⌝ }
+    requires { ⌜ recordLength 1 ≤ length (now out) ⌝ }
     ensures { λ _. ⌜ now (out .exit) ≡ put 0 (headBytes nodes edges) (now (out .entry)) ⌝ }
 {
     fields::write_u8(out, 0, 1);
@@ -282,7 +274,7 @@ fn write_edge(
     forward: i32,
     backward: i32,
 )
-    requires { ⌜ (place ≤ 100000) × (place + 17 ≤ length (now out)) ⌝ }
+    requires { ⌜ (place ≤ 100000) × (place + recordLength 2 ≤ length (now out)) ⌝ }
     ensures { λ _. ⌜ now (out .exit) ≡ put place (edgeBytes tail head rotation «back_rotation» forward backward) (now (out .entry)) ⌝ }
 {
     fields::write_u8(out, place, 2);
@@ -297,13 +289,13 @@ fn write_edge(
 // The records of all edges, after the head.
 fn write_edges(out: &mut [u8], tails: &[u16], rotations: &[u16], capacities: &[i32])
     requires { ⌜ (length (now rotations) ≡ length (now tails)) × (length (now capacities) ≡ length (now tails)) × (length (now tails) ≤ 1024) × (edgeAt (edgesIn (now tails)) ≤ length (now out)) ⌝ }
-    ensures { λ _. ⌜ ((nodes : ℕ) (old : List ℕ) → now (out .entry) ≡ encodeHead (slicesDrawing nodes (now (tails .entry)) (now (rotations .entry)) (now (capacities .entry))) ++ drop 5 old
+    ensures { λ _. ⌜ ((nodes : ℕ) (old : List ℕ) → now (out .entry) ≡ encodeHead (slicesDrawing nodes (now (tails .entry)) (now (rotations .entry)) (now (capacities .entry))) ++ drop (recordLength 1) old
         → now (out .exit) ≡ encode (slicesDrawing nodes (now (tails .entry)) (now (rotations .entry)) (now (capacities .entry))) ++ drop (edgeAt (edgesIn (now (tails .entry)))) old) ⌝ }
 {
     let edges = tails.len() / 2;
     let mut e: usize = 0;
     while e < edges {
-        let place = 5 + 17 * e;
+        let place = records::edge_at(e);
         write_edge(
             out,
             place,
@@ -344,16 +336,16 @@ pub fn write(
     if length % 2 != 0 {
         return WriteAnswer::Refused(16, 0);
     }
-    let drawing = check_slices(wide(nodes), tails, rotations, capacities);
+    let drawing = check_slices(arrays::wide(nodes), tails, rotations, capacities);
     if let Verdict::Refused(k, p) = drawing {
         return WriteAnswer::Refused(k, p);
     }
     let edges = length / 2;
-    let end = 5 + 17 * edges;
+    let end = records::edge_at(edges);
     if out.len() < end {
         return WriteAnswer::Refused(16, 0);
     }
-    write_head(out, nodes, narrow(edges));
+    write_head(out, nodes, arrays::narrow(edges));
     write_edges(out, tails, rotations, capacities);
     WriteAnswer::Bytes(end)
 }

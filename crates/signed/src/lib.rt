@@ -44,6 +44,14 @@ pub fn plus64(x: i64, y: i64) -> i64
     x + y
 }
 
+// A sum of a number at 64 bits and one at 32, where it fits 64.
+pub fn plus_wide(x: i64, y: i32) -> i64
+    requires { ⌜ SFits w64 (x +ℤ y) ⌝ }
+    ensures { λ r. ⌜ r ≡ x +ℤ y ⌝ }
+{
+    x + y as i64
+}
+
 // A difference at 64 bits, where it fits them.
 pub fn minus64(x: i64, y: i64) -> i64
     requires { ⌜ SFits w64 (x -ℤ y) ⌝ }

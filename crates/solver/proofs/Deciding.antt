@@ -12,41 +12,46 @@ use Rattle.integers.specs.Limited.{Limited}
 use Rattle.integers.specs.Sum.{Integers, sumℤ, when}
 use Rattle.integers.proofs.Omega.{atoms₂, atoms₃, atoms₄, parts, equal, at-most, from-equal, from-at-most}
 use Rattle.integers.proofs.Sums.{sum-ext}
-use Rattle.faces.specs.Dart.{rev}
-use Rattle.faces.specs.Map.{Map, darts}
-use Rattle.faces.specs.Face.{left, right, faces}
-use Rattle.faces.specs.Cut.{leaves, cut}
-use Rattle.faces.specs.Flow.{Antisymmetric}
-use Rattle.faces.proofs.Darts.{rev-in}
+use Rattle.maps.specs.Dart.{rev}
+use Rattle.maps.specs.Map.{Map, darts}
+use Rattle.maps.specs.Face.{left, right, faces}
+use Rattle.maps.specs.Cut.{leaves, cut}
+use Rattle.maps.specs.Flow.{Antisymmetric}
+use Rattle.maps.proofs.Darts.{rev-in}
+use Rattle.maps.proofs.Faces.{left-in}
+use Rattle.flows.specs.ZeroFace.{ZeroFace}
 use Rattle.flows.specs.Highest.{Highest}
 use Rattle.flows.specs.ProvingSet.{Proves}
 use Rattle.flows.proofs.Plane.{one-part}
-use Rattle.flows.proofs.UnitFlow.{UnitFlow}
-use Rattle.flows.proofs.Lengths.{lengthFor, Feasible, edgeFlow}
+use Rattle.flows.specs.UnitFlow.{UnitFlow}
+use Rattle.flows.specs.Lengths.{lengthFor, Feasible, edgeFlow}
 use Rattle.flows.proofs.HighestFlow.{top-is-highest}
 use Rattle.flows.proofs.Exact.{negative-proves, length-pairs}
-use Rattle.traversal.specs.Arrays.{at, atℤ}
-use Rattle.records.proofs.Tabulate.{tabulate-ext}
-use Rattle.sheets.specs.Read.{filled}
-use Rattle.search.specs.Net.{Net, netOf}
+use Rattle.arrays.specs.At.{at, atℤ}
+use Rattle.arrays.proofs.Tabulate.{tabulate-ext}
+use Rattle.arrays.specs.Filled.{filled}
+use Rattle.search.specs.Dual.{Dual, dualOf}
 use Rattle.search.specs.Parents.{ParentRing}
 use Rattle.search.specs.Settled.{Settled}
-use Rattle.search.proofs.OfMap.{OfMap, sound-of-map, joined-of-map}
+use Rattle.search.proofs.OfMap.{sound-of-map, joined-of-map}
+use Rattle.search.specs.OfMap.{OfMap}
 use Rattle.search.proofs.Highest as settled
 use Rattle.edge_flows.specs.Flow.{flowOf}
-use Rattle.solver.specs.Question.{Drawn, Ends}
+use Rattle.arrays.specs.Drawn.{Drawn}
+use Rattle.solver.specs.Ends.{Ends}
 use Rattle.solver.specs.Search.{Lengthened, Searchable, Ringed}
-use Rattle.solver.specs.Decision.{flagged, Decided}
+use Rattle.solver.specs.Decision.{Decided}
+use Rattle.arrays.specs.Flags.{flagged}
 use Rattle.solver.proofs.Preparing.{faces-most}
 
 limited-mag : (b : ℕ) (x : ℤ) → Limited b x → mag x ≤ b
 limited-mag b (pos n) h = omega (arith, from-at-most (h .high) (search parts))
 limited-mag b (negsuc n) h = omega (arith, from-at-most (h .low) (search parts))
 
-module _ {𝓜 : Map} (lefts : List ℕ) {root : ℕ} {c : ℕ → ℤ} (drawn : Drawn 𝓜 (at lefts) root c) {s t : ℕ} (two : Ends 𝓜 s t) {value : ℤ} (row : List ℤ)
-    (known : Lengthened 𝓜 s t c value (atℤ row)) (count : ℕ) (counted : count ≡ faces 𝓜) where
-  abbrev N : Net
-  N = netOf lefts row (darts 𝓜) count root
+module _ {𝓜 : Map} (lefts : List ℕ) {count outer : ℕ} {c : ℕ → ℤ} (drawn : Drawn 𝓜 (at lefts) count outer c) {s t : ℕ} (two : Ends 𝓜 s t) {value : ℤ} (row : List ℤ)
+    (known : Lengthened 𝓜 s t c value (atℤ row)) {root : ℕ} (rooted : root ≡ at lefts outer) where
+  abbrev N : Dual
+  N = dualOf lefts row (darts 𝓜) count root
 
   abbrev π : ℕ → ℤ
   π = known .along
@@ -60,10 +65,17 @@ module _ {𝓜 : Map} (lefts : List ℕ) {root : ℕ} {c : ℕ → ℤ} (drawn :
   of : OfMap N 𝓜
   of = record {
     darts-are = refl;
-    faces-are = counted;
+    faces-are = drawn .counted;
     left-is = drawn .left-is;
     right-is = λ d l. drawn .left-is (rev d) (rev-in (𝓜 .edges) d l);
   }
+
+  -- the root is the face of the outer dart
+  root-is : root ≡ left 𝓜 outer
+  root-is = rooted ∙ drawn .left-is outer (drawn .outer-in)
+
+  root-in : root < faces 𝓜
+  root-in = rw root-is (left-in (drawn .plane .sound) outer (drawn .outer-in))
 
   -- what a value takes from a dart it gives to the reverse
   sums : (d : ℕ) → d < darts 𝓜 → atℤ row d +ℤ atℤ row (rev d) ≡ c d +ℤ c (rev d)
@@ -73,8 +85,8 @@ module _ {𝓜 : Map} (lefts : List ℕ) {root : ℕ} {c : ℕ → ℤ} (drawn :
 
   pub searchable : Searchable N (𝓜 .edges) c
   searchable = record {
-    sound = sound-of-map of (drawn .plane .sound) (omega (arith, drawn .few-edges)) (drawn .root-in) (λ d l. omega (arith, limited-mag 602000000 (atℤ row d) (known .short d l)));
-    joined = joined-of-map of (drawn .plane .sound) (one-part (drawn .plane)) (omega (arith, drawn .root-in));
+    sound = sound-of-map of (drawn .plane .sound) (omega (arith, drawn .few-edges)) root-in (λ d l. omega (arith, limited-mag 602000000 (atℤ row d) (known .short d l)));
+    joined = joined-of-map of (drawn .plane .sound) (one-part (drawn .plane)) (omega (arith, root-in, drawn .counted));
     darts-are = refl;
     small = drawn .small;
     sums = sums;
@@ -85,14 +97,14 @@ module _ {𝓜 : Map} (lefts : List ℕ) {root : ℕ} {c : ℕ → ℤ} (drawn :
     feasible : Feasible 𝓜 (lengthFor c π value) ρ
     feasible d l = rw (drawn .left-is d l, drawn .left-is (rev d) (rev-in (𝓜 .edges) d l), length-is d l) at (σ .still d l)
 
-    top : (τ : ℕ → ℤ) → Feasible 𝓜 (lengthFor c π value) τ → τ root ≡ pos 0 → (f : ℕ) → f < faces 𝓜 → τ f ≤ℤ ρ f
-    top τ h zero f l = settled.highest σ τ still zero f (omega (arith, counted))
+    top : (τ : ℕ → ℤ) → Feasible 𝓜 (lengthFor c π value) τ → ((f : ℕ) → ZeroFace 𝓜 outer f → τ f ≡ pos 0) → (f : ℕ) → f < faces 𝓜 → τ f ≤ℤ ρ f
+    top τ h zero f l = settled.highest σ τ still (zero root root-is) f (omega (arith, drawn .counted))
       where
         still : (d : ℕ) → d < darts 𝓜 → τ (at lefts d) ≤ℤ (τ (at lefts (rev d)) +ℤ atℤ row d)
         still d l = rw (drawn .left-is d l, drawn .left-is (rev d) (rev-in (𝓜 .edges) d l), length-is d l) (h d l)
 
-    highest : Highest 𝓜 root c s t value (edgeFlow 𝓜 π value ρ)
-    highest = top-is-highest (drawn .plane) (two .source-in) (two .sink-in) (two .two) unit c value root (drawn .root-in) ρ feasible (σ .rooted) top
+    highest : Highest 𝓜 outer c s t value (edgeFlow 𝓜 π value ρ)
+    highest = top-is-highest (drawn .plane) (two .source-in) (two .sink-in) (two .two) unit c value outer (drawn .outer-in) ρ feasible (λ f z. ap ρ (z ∙ sym root-is) ∙ σ .rooted) top
 
     flows-are : (e : ℕ) → e < 𝓜 .edges → flowOf (at lefts) c (atℤ row) ρ e ≡ edgeFlow 𝓜 π value ρ e
     flows-are e l =
@@ -104,7 +116,7 @@ module _ {𝓜 : Map} (lefts : List ℕ) {root : ℕ} {c : ℕ → ℤ} (drawn :
         d-in = omega arith
 
     pub decided-can : (flows flows' : List ℤ) (inside : List ℕ) → flows' ≡ filled (𝓜 .edges) (flowOf (at lefts) c (atℤ row) ρ) flows
-        → Decided 𝓜 root c s t value flows flows' inside true
+        → Decided 𝓜 outer c s t value flows flows' inside true
     decided-can flows flows' inside e =
         (edgeFlow 𝓜 π value ρ, highest, e ∙ ap (λ l. l ++ drop (𝓜 .edges) flows) (tabulate-ext (𝓜 .edges) _ _ flows-are))
 
@@ -115,14 +127,14 @@ module _ {𝓜 : Map} (lefts : List ℕ) {root : ℕ} {c : ℕ → ℤ} (drawn :
     few-nodes = drawn .few-nodes;
     few-edges = drawn .few-edges;
     of = of;
-    few-faces = omega (arith, counted, faces-most drawn);
+    few-faces = omega (arith, drawn .counted, faces-most drawn);
     short = known .short;
     pairs = λ d l. rw (sums d l) (drawn .pairs d l);
     ring = subst (ParentRing N parent) (sym e) r;
   }
 
   pub decided-cannot : (flows flows' : List ℤ) (inside : List ℕ) → flows' ≡ flows → cut 𝓜 (atℤ row) (flagged inside) <ℤ pos 0
-      → Decided 𝓜 root c s t value flows flows' inside false
+      → Decided 𝓜 outer c s t value flows flows' inside false
   unfolding cut
   decided-cannot flows flows' inside e h =
       (e, negative-proves (drawn .plane .sound .range) (two .source-in) (two .sink-in) (two .two) c unit value (flagged inside) (rw by-lengths at h))

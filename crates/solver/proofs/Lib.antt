@@ -1,4 +1,4 @@
-pub mod Settling
+pub mod SettledFlows
 pub mod Ringing
 pub mod Preparing
 pub mod Deciding

@@ -1,4 +1,4 @@
--- What a decision stands on: the count of the faces, the lengths from a walk over the darts; and a signed argument as the number of its bits.
+-- What a decision stands on: the lengths from a walk over the darts; and a signed argument as the number of its bits.
 use mathlib.Core.Path.{_≡_, refl, sym, _∙_, ap, subst}
 use mathlib.Core.Bool.{Bool}
 use mathlib.Core.List.{List}
@@ -9,14 +9,16 @@ use mir.Syntax.{w32}
 use mir.Val.{toZ, ofZ}
 use Rattle.integers.specs.Limited.{Limited}
 use Rattle.signed.proofs.Limits.{same-bits}
-use Rattle.faces.specs.Map.{Map, darts}
-use Rattle.faces.specs.Face.{faces}
-use Rattle.flows.proofs.Plane.{Plane}
+use Rattle.maps.specs.Map.{Map, darts}
+use Rattle.maps.specs.Face.{faces}
+use Rattle.flows.specs.Plane.{Plane}
 use Rattle.traversal.specs.Spread.{Spread}
-use Rattle.lengths.specs.Filling as lengths
-use Rattle.lengths.proofs.Found.{reached-connected, filled-unit}
+use Rattle.lengths.specs.Lengths as lengths
+use Rattle.lengths.proofs.PathFlow.{reached-connected, filled-unit}
 use Rattle.search.proofs.OfMap.{faces-few}
-use Rattle.solver.specs.Question.{mostCapacity, mostValue, Drawn, Ends}
+use Rattle.arrays.specs.Drawn.{Drawn}
+use Rattle.solver.specs.Ends.{Ends}
+use Rattle.arrays.specs.Sizes.{mostCapacity, mostValue}
 use Rattle.solver.specs.Search.{Lengthened}
 use Rattle.solver.specs.Decision.{Decided}
 
@@ -45,18 +47,11 @@ module _ {𝓜 : Map} (plane : Plane 𝓜) (few : 𝓜 .edges ≤ 512) {start : 
 pub lengthened-for : {𝓜 : Map} {c : ℕ → ℤ} {length : ℕ → ℤ} {s t s' t' : ℕ} {v v' : ℤ} → s' ≡ s → t' ≡ t → v' ≡ v → Lengthened 𝓜 s' t' c v' length → Lengthened 𝓜 s t c v length
 lengthened-for p q e h = rw (← p, ← q, ← e) h
 
-module _ {𝓜 : Map} {left : ℕ → ℕ} {root : ℕ} {c : ℕ → ℤ} (drawn : Drawn 𝓜 left root c) where
-  -- Euler: the faces are counted without a walk
-  pub faces-counted : 𝓜 .nodes + faces 𝓜 ≡ 𝓜 .edges + 2
-  faces-counted = drawn .plane .flat
-
-  pub faces-by-counts : 𝓜 .edges + 2 - 𝓜 .nodes ≡ faces 𝓜
-  faces-by-counts = omega (arith, faces-counted)
-
+module _ {𝓜 : Map} {left : ℕ → ℕ} {count outer : ℕ} {c : ℕ → ℤ} (drawn : Drawn 𝓜 left count outer c) where
   pub faces-most : faces 𝓜 ≤ 1024
   faces-most = omega (arith, faces-few 𝓜, drawn .few-edges)
 
 -- a decision for equal ends and an equal value
-pub decided-for : (𝓜 : Map) (root : ℕ) (c : ℕ → ℤ) {s t s' t' : ℕ} {v v' : ℤ} → s' ≡ s → t' ≡ t → v' ≡ v → (flows flows' : List ℤ) (inside : List ℕ) (r : Bool)
-    → Decided 𝓜 root c s' t' v' flows flows' inside r → Decided 𝓜 root c s t v flows flows' inside r
-decided-for 𝓜 root c p q e flows flows' inside r h = rw (← p, ← q, ← e) h
+pub decided-for : (𝓜 : Map) (outer : ℕ) (c : ℕ → ℤ) {s t s' t' : ℕ} {v v' : ℤ} → s' ≡ s → t' ≡ t → v' ≡ v → (flows flows' : List ℤ) (inside : List ℕ) (r : Bool)
+    → Decided 𝓜 outer c s' t' v' flows flows' inside r → Decided 𝓜 outer c s t v flows flows' inside r
+decided-for 𝓜 outer c p q e flows flows' inside r h = rw (← p, ← q, ← e) h

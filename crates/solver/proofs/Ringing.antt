@@ -8,27 +8,29 @@ use lib.IntN.{ℤ, pos, _+ℤ_, _-ℤ_}
 use lib.Signed.{_≤ℤ_, _<ℤ_}
 use Rattle.integers.specs.Limited.{Limited}
 use Rattle.integers.proofs.Omega.{atoms₃, parts, equal}
-use Rattle.faces.specs.Dart.{rev}
-use Rattle.faces.specs.Map.{Map, darts}
-use Rattle.faces.specs.Cut.{cut}
-use Rattle.faces.specs.FaceWalk.{FaceWalk, total}
-use Rattle.faces.specs.Potential.{Heights}
-use Rattle.faces.proofs.Darts.{rev-in}
-use Rattle.faces.proofs.Rings.{winding, ring-threshold}
+use Rattle.maps.specs.Dart.{rev}
+use Rattle.maps.specs.Map.{Map, darts}
+use Rattle.maps.specs.Cut.{cut}
+use Rattle.maps.specs.FaceWalk.{FaceWalk, total}
+use Rattle.maps.specs.Potential.{Heights}
+use Rattle.maps.proofs.Darts.{rev-in}
+use Rattle.maps.proofs.Rings.{winding, ring-threshold}
 use Rattle.flows.proofs.Exact.{ring-heights-exist}
 use Rattle.traversal.specs.Spread.{Spread}
 use Rattle.traversal.proofs.Reach.{connected-full}
-use Rattle.search.specs.Net.{Net}
+use Rattle.search.specs.Dual.{Dual}
 use Rattle.windings.specs.Winding.{Round, Wound}
-use Rattle.windings.proofs.Found.{round-of, ring-wound}
-use Rattle.heights.specs.Filling as heights
-use Rattle.heights.proofs.Found.{sound-fillable}
-use Rattle.thresholds.specs.Cut.{cutOf, above}
-use Rattle.thresholds.specs.Choice.{mostHeight, Choosable}
-use Rattle.thresholds.proofs.Found.{cut-of}
+use Rattle.windings.proofs.WindingOfRing.{round-of, ring-wound}
+use Rattle.heights.specs.Heights as heights
+use Rattle.heights.proofs.HeightsOfMap.{sound-fillable}
+use Rattle.cuts.specs.Cut.{cutOf}
+use Rattle.thresholds.specs.Above.{above}
+use Rattle.thresholds.specs.Choice.{Choosable}
+use Rattle.arrays.specs.Sizes.{mostHeight}
+use Rattle.cuts.proofs.CutOfMap.{cut-of}
 use Rattle.solver.specs.Search.{Ringed}
 
-module _ {𝓜 : Map} {N : Net} {parent : ℕ → ℕ} {y : ℕ} (q : Ringed 𝓜 N parent y) where
+module _ {𝓜 : Map} {N : Dual} {parent : ℕ → ℕ} {y : ℕ} (q : Ringed 𝓜 N parent y) where
   pub few-darts : darts 𝓜 ≤ 1024
   few-darts = omega (arith, q .few-edges)
 

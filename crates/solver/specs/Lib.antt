@@ -1,3 +1,3 @@
-pub mod Question
+pub mod Ends
 pub mod Search
 pub mod Decision

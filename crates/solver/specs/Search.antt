@@ -1,4 +1,4 @@
--- The three steps of a decision: the lengths of the darts for a value, the search on the net of faces, which ends with flows or with a ring, and the set of nodes made
+-- The three steps of a decision: the lengths of the darts for a value, the search on the dual graph, which ends with flows or with a ring, and the set of nodes made
 -- from a ring.
 use mathlib.Core.Path.{_≡_}
 use mathlib.Core.List.{List}
@@ -6,21 +6,20 @@ use Prim.Native.Nat.{ℕ, _*_, _≤_, _<_}
 use lib.IntN.{ℤ, pos, _+ℤ_}
 use lib.Signed.{_≤ℤ_}
 use Rattle.integers.specs.Limited.{Limited}
-use Rattle.faces.specs.Dart.{rev}
-use Rattle.faces.specs.Map.{Map, darts}
-use Rattle.sheets.specs.Read.{filled}
-use Rattle.search.specs.Net.{Net, Sound, Joined}
+use Rattle.maps.specs.Dart.{rev}
+use Rattle.maps.specs.Map.{Map, darts}
+use Rattle.arrays.specs.Filled.{filled}
+use Rattle.search.specs.Dual.{Dual, WellFormed, Joined}
 use Rattle.search.specs.Parents.{ParentRing}
 use Rattle.search.specs.Settled.{Settled}
 use Rattle.search.specs.declared.Outcome.{Outcome}
 use Rattle.search.specs.declared.Outcome.the-variants as outcome
-use Rattle.search.proofs.OfMap.{OfMap}
-use Rattle.flows.proofs.Plane.{Plane}
-use Rattle.flows.proofs.UnitFlow.{UnitFlow}
-use Rattle.flows.proofs.Lengths.{lengthFor}
+use Rattle.search.specs.OfMap.{OfMap}
+use Rattle.flows.specs.Plane.{Plane}
+use Rattle.flows.specs.UnitFlow.{UnitFlow}
+use Rattle.flows.specs.Lengths.{lengthFor}
 use Rattle.edge_flows.specs.Flow.{flowOf}
-use Rattle.thresholds.specs.Choice.{mostLength}
-use Rattle.solver.specs.Question.{mostCapacity}
+use Rattle.arrays.specs.Sizes.{mostLength, mostCapacity}
 
 -- the lengths of the darts for a value from s to t: the capacity, less the value along some unit flow
 pub record Lengthened (𝓜 : Map) (s t : ℕ) (capacity : ℕ → ℤ) (value : ℤ) (length : ℕ → ℤ) : Type 0 where
@@ -30,20 +29,20 @@ pub record Lengthened (𝓜 : Map) (s t : ℕ) (capacity : ℕ → ℤ) (value :
   pub short : (d : ℕ) → d < darts 𝓜 → Limited mostLength (length d)
 
 -- what is searched: lengths of the two darts of an edge add up as their capacities do, so that settled potentials make flows within the capacities
-pub record Searchable (N : Net) (edges : ℕ) (capacity : ℕ → ℤ) : Type 0 where
-  pub sound : Sound N
+pub record Searchable (N : Dual) (edges : ℕ) (capacity : ℕ → ℤ) : Type 0 where
+  pub sound : WellFormed N
   pub joined : Joined N
   pub darts-are : N .darts ≡ 2 * edges
   pub small : (d : ℕ) → d < N .darts → Limited mostCapacity (capacity d)
   pub sums : (d : ℕ) → d < N .darts → N .length d +ℤ N .length (rev d) ≡ capacity d +ℤ capacity (rev d)
 
-abbrev pub Searched : Net → (edges : ℕ) → (ℕ → ℤ) → (flows flows' : List ℤ) → (parent : ℕ → ℕ) → Outcome → Type 0
+abbrev pub Searched : Dual → (edges : ℕ) → (ℕ → ℤ) → (flows flows' : List ℤ) → (parent : ℕ → ℕ) → Outcome → Type 0
 Searched N edges capacity flows flows' parent outcome.Settled =
     (ρ : ℕ → ℤ) × Settled N ρ × (flows' ≡ filled edges (flowOf (N .left) capacity (N .length) ρ) flows)
 Searched N edges capacity flows flows' parent (outcome.Ring d) = (flows' ≡ flows) × (d < N .darts) × ParentRing N parent (N .left d)
 
--- a ring of parents on the net of a plane map
-pub record Ringed (𝓜 : Map) (N : Net) (parent : ℕ → ℕ) (y : ℕ) : Type 0 where
+-- a ring of parents on the dual of a plane map
+pub record Ringed (𝓜 : Map) (N : Dual) (parent : ℕ → ℕ) (y : ℕ) : Type 0 where
   pub plane : Plane 𝓜
   pub few-nodes : 𝓜 .nodes ≤ 1024
   pub few-edges : 𝓜 .edges ≤ 512

@@ -7,13 +7,17 @@ ghost use lib.ListN.{length};
 ghost use lib.IntN.{pos};
 ghost use lib.Signed.{_<ℤ_};
 ghost use Rattle.integers.specs.Limited.{Limited};
-ghost use Rattle.faces.specs.Cut.{cut};
-ghost use Rattle.flows.proofs.Plane.{Plane};
-ghost use Rattle.traversal.specs.Arrays.{at, atℤ};
-ghost use Rattle.search.specs.Net.{netOf};
-ghost use Rattle.solver.specs.Question.{mapOf, mostCapacity, mostValue, Drawn, Ends};
+ghost use Rattle.maps.specs.Cut.{cut};
+ghost use Rattle.flows.specs.Plane.{Plane};
+ghost use Rattle.arrays.specs.At.{at, atℤ};
+ghost use Rattle.search.specs.Dual.{dualOf};
+ghost use Rattle.arrays.specs.Drawn.{Drawn};
+ghost use Rattle.solver.specs.Ends.{Ends};
+ghost use Rattle.arrays.specs.Maps.{mapOf};
+ghost use Rattle.arrays.specs.Sizes.{mostCapacity, mostValue};
 ghost use Rattle.solver.specs.Search.{Lengthened, Searchable, Searched, Ringed};
-ghost use Rattle.solver.specs.Decision.{flagged, Decided};
+ghost use Rattle.solver.specs.Decision.{Decided};
+ghost use Rattle.arrays.specs.Flags.{flagged};
 use search::Outcome;
 
 // The lengths of the darts for a value, along the path that a walk over the darts finds from `start`, a dart at the source, to `finish`, a dart at the sink.
@@ -57,8 +61,8 @@ fn settle(
     parents: &mut [u16; 1024],
     flows: &mut [i32],
 ) -> Outcome
-    requires { ⌜ (length (now parents) ≡ 1024) × (edges ≤ 512) × (edges ≤ length (now flows)) × Searchable (netOf (now lefts) (now lengths) (2 * edges) faces root) edges (atℤ (now capacities)) ⌝ }
-    ensures { λ r. ⌜ Searched (netOf (now (lefts .entry)) (now (lengths .entry)) (2 * edges) faces root) edges (atℤ (now (capacities .entry))) (now (flows .entry)) (now (flows .exit)) (at (now (parents .exit))) r ⌝ }
+    requires { ⌜ (length (now parents) ≡ 1024) × (edges ≤ 512) × (edges ≤ length (now flows)) × Searchable (dualOf (now lefts) (now lengths) (2 * edges) faces root) edges (atℤ (now capacities)) ⌝ }
+    ensures { λ r. ⌜ Searched (dualOf (now (lefts .entry)) (now (lengths .entry)) (2 * edges) faces root) edges (atℤ (now (capacities .entry))) (now (flows .entry)) (now (flows .exit)) (at (now (parents .exit))) r ⌝ }
 {
     let mut order = [0u16; 1024];
     let mut starts = [0u16; 1024];
@@ -100,7 +104,7 @@ fn cut_of_ring(
     y: usize,
     inside: &mut [u8; 1024],
 )
-    requires { ⌜ (length (now inside) ≡ 1024) × (0 < edges) × Ringed (mapOf nodes edges (now tails) (now rotations)) (netOf (now lefts) (now lengths) (2 * edges) faces root) (at (now parents)) y ⌝ }
+    requires { ⌜ (length (now inside) ≡ 1024) × (0 < edges) × Ringed (mapOf nodes edges (now tails) (now rotations)) (dualOf (now lefts) (now lengths) (2 * edges) faces root) (at (now parents)) y ⌝ }
     ensures { λ _. ⌜ (length (now (inside .exit)) ≡ 1024) × (cut (mapOf nodes edges (now (tails .entry)) (now (rotations .entry))) (atℤ (now (lengths .entry))) (flagged (now (inside .exit))) <ℤ pos 0) ⌝ }
 {
     let mut order = [0u16; 1024];
@@ -113,7 +117,7 @@ fn cut_of_ring(
     thresholds::choose_set(tails, lengths, &heights, nodes, 2 * edges, inside);
 }
 
-// Decides one value from a source to a sink: true with the highest flow written, false with the nodes of a proving set flagged.
+// Decides one value from a source to a sink, with the face of the outer dart at 0: true with the highest flow written, false with the nodes of a proving set flagged.
 pub fn decide<'a>(
     tails: &'a [u16; 1024],
     rotations: &'a [u16; 1024],
@@ -121,15 +125,16 @@ pub fn decide<'a>(
     capacities: &'a [i32; 1024],
     nodes: usize,
     edges: usize,
-    root: usize,
+    faces: usize,
+    outer: usize,
     source: usize,
     sink: usize,
     value: i32,
     flows: &mut [i32],
     inside: &mut [u8; 1024],
 ) -> bool
-    requires { ⌜ (length (now inside) ≡ 1024) × (edges ≤ length (now flows)) × Drawn (mapOf nodes edges (now tails) (now rotations)) (at (now lefts)) root (atℤ (now capacities)) × Ends (mapOf nodes edges (now tails) (now rotations)) source sink × Limited mostValue value ⌝ }
-    ensures { λ r. ⌜ (length (now (inside .exit)) ≡ 1024) × Decided (mapOf nodes edges (now (tails .entry)) (now (rotations .entry))) root (atℤ (now (capacities .entry))) source sink value (now (flows .entry)) (now (flows .exit)) (now (inside .exit)) r ⌝ }
+    requires { ⌜ (length (now inside) ≡ 1024) × (edges ≤ length (now flows)) × Drawn (mapOf nodes edges (now tails) (now rotations)) (at (now lefts)) faces outer (atℤ (now capacities)) × Ends (mapOf nodes edges (now tails) (now rotations)) source sink × Limited mostValue value ⌝ }
+    ensures { λ r. ⌜ (length (now (inside .exit)) ≡ 1024) × Decided (mapOf nodes edges (now (tails .entry)) (now (rotations .entry))) outer (atℤ (now (capacities .entry))) source sink value (now (flows .entry)) (now (flows .exit)) (now (inside .exit)) r ⌝ }
 {
     let start = traversal::dart_at(tails, 2 * edges, source);
     let finish = traversal::dart_at(tails, 2 * edges, sink);
@@ -145,7 +150,7 @@ pub fn decide<'a>(
         value,
         &mut lengths,
     );
-    let faces = edges + 2 - nodes;
+    let root = arrays::wide(lefts[outer]);
     let mut parents = [0u16; 1024];
     let outcome = settle(
         lefts,
@@ -158,7 +163,7 @@ pub fn decide<'a>(
         flows,
     );
     if let Outcome::Ring(d) = outcome {
-        let y = grouping::wide(lefts[d]);
+        let y = arrays::wide(lefts[d]);
         cut_of_ring(
             tails,
             rotations,

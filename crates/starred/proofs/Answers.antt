@@ -13,40 +13,41 @@ use Rattle.refusals.specs.declared.Verdict.{Verdict}
 use Rattle.refusals.specs.declared.Verdict.the-variants.{Passed}
 use Rattle.refusals.specs.declared.Verdict.the-variants as verdict
 use Rattle.refusals.proofs.Order.{first-none, first-one, neither}
-use Rattle.faces.specs.Map.{darts}
-use Rattle.faces.specs.Face.{faces, left}
-use Rattle.faces.specs.Cut.{cut}
+use Rattle.maps.specs.Map.{darts}
+use Rattle.maps.specs.Face.{faces, left}
+use Rattle.maps.specs.Cut.{cut}
 use Rattle.flows.specs.Settings.{Within, Balanced}
 use Rattle.flows.specs.Levels.{Levels}
 use Rattle.flows.specs.Highest.{Highest}
 use Rattle.flows.specs.ProvingSet.{Proves, member, size, SetOf}
-use Rattle.flows.proofs.Interval.{AtSource, source-limits}
+use Rattle.flows.proofs.Interval.{source-limits}
+use Rattle.flows.specs.Sides.{AtSource}
 use Rattle.balance.proofs.Within.{within-none}
 use Rattle.balance.proofs.Balance.{circulation-none}
-use Rattle.records.specs.Drawing.{Drawing}
-use Rattle.records.proofs.Tabulate.{tabulate-ext, tabulate-getD}
-use Rattle.records.specs.Sheet.{nodesOf, edgesOf, capacityOf, sheetMap, sheetDrawing}
-use Rattle.sheets.specs.declared.Network.{Network}
-use Rattle.sheets.specs.Network.{atℤ}
+use Rattle.maps.specs.Drawing.{Drawing}
+use Rattle.arrays.proofs.Tabulate.{tabulate-ext, tabulate-getD}
+use Rattle.records.specs.Sheet.{nodesOf, edgesOf, capacityOf, sheetMap, sheetDrawing, outerOf}
+use Rattle.sheets.specs.declared.Opened.{Opened}
+use Rattle.arrays.specs.At.{atℤ}
 use Rattle.sheets.specs.Open.{sheetChecks, Opens}
-use Rattle.sheets.specs.Read.{filled}
-use Rattle.analyser.specs.Question.{endChecks, valueChecks, roomChecks, SetWritten}
+use Rattle.arrays.specs.Filled.{filled}
+use Rattle.questions.specs.Question.{endChecks, valueChecks, roomChecks, SetWritten}
 use Rattle.analyser.specs.Solve.{solveChecks, Solves}
-use Rattle.analyser.specs.declared.SolveAnswer.{SolveAnswer}
-use Rattle.analyser.specs.declared.SolveAnswer.the-variants.{Can, Cannot, Refused}
+use Rattle.questions.specs.declared.SolveAnswer.{SolveAnswer}
+use Rattle.questions.specs.declared.SolveAnswer.the-variants.{Can, Cannot, Refused}
 use Rattle.analyser.specs.Largest.{largestChecks, FindsLargest}
-use Rattle.analyser.specs.declared.LargestAnswer.{LargestAnswer}
-use Rattle.analyser.specs.declared.LargestAnswer.the-variants.{Value, None}
-use Rattle.analyser.specs.declared.LargestAnswer.the-variants as largest
+use Rattle.questions.specs.declared.LargestAnswer.{LargestAnswer}
+use Rattle.questions.specs.declared.LargestAnswer.the-variants.{Value, None}
+use Rattle.questions.specs.declared.LargestAnswer.the-variants as largest
 use Rattle.analyser.specs.LevelsOf.{levelsChecks, GivesLevels}
-use Rattle.analyser.specs.declared.LevelAnswer.{LevelAnswer}
-use Rattle.analyser.specs.declared.LevelAnswer.the-variants.{Done}
-use Rattle.analyser.specs.declared.LevelAnswer.the-variants as level
-use Rattle.analyser.proofs.Marking.{ends-in}
+use Rattle.levels.specs.declared.LevelAnswer.{LevelAnswer}
+use Rattle.levels.specs.declared.LevelAnswer.the-variants.{Done}
+use Rattle.levels.specs.declared.LevelAnswer.the-variants as level
+use Rattle.questions.proofs.Asked.{ends-in, ends-differ}
 use Rattle.analyser.proofs.SheetPlane.{plane, levels-unique}
-use Rattle.analyser.proofs.Solving.{solve-sheet, solve-none, ends-differ}
-use Rattle.analyser.proofs.Finding.{largest-none}
-use Rattle.analyser.proofs.LevelsFound.{levels-none}
+use Rattle.analyser.proofs.Accepted.{solve-none, largest-none, levels-none}
+use Rattle.analyser.proofs.Opened as with-sheet
+use Rattle.levels.proofs.Given.{balanced-none}
 use Rattle.analyser.proofs.Asked.{excludes, one-highest}
 use Rattle.analyser.proofs.Demand3.{never-refused, largest-answered, nothing-greater, none-delivered}
 use Rattle.starred.specs.Table.{front, Room, SolveCan, SolveCannot, SolveRefused, LargestIs, LargestNone, LevelsAre, InFace}
@@ -57,7 +58,7 @@ use Rattle.starred.proofs.Sheets.{Good}
 pub record CanBy (source sink : ℕ) (value : ℤ) (settings : List ℤ) (𝓓 : Drawing) : Type 0 where
   pub ends : NoneOf (endChecks (𝓓 .map .nodes) source sink)
   pub long : length settings ≡ 𝓓 .map .edges
-  pub highest : Highest (𝓓 .map) 0 (𝓓 .capacity) source sink value (atℤ settings)
+  pub highest : Highest (𝓓 .map) (𝓓 .outer) (𝓓 .capacity) source sink value (atℤ settings)
 
 -- this set proves the value impossible, and no other does
 pub record CannotBy (source sink : ℕ) (value : ℤ) (words : List ℕ) (𝓓 : Drawing) : Type 0 where
@@ -81,7 +82,7 @@ pub record LevelsBy (settings : List ℤ) (found : List ℤ) (𝓓 : Drawing) : 
   pub found-long : length found ≡ faces (𝓓 .map)
   pub within : Within (𝓓 .map) (𝓓 .capacity) (atℤ settings)
   pub balanced : Balanced (𝓓 .map) (atℤ settings)
-  pub levels : Levels (𝓓 .map) 0 (atℤ settings) (atℤ found)
+  pub levels : Levels (𝓓 .map) (𝓓 .outer) (atℤ settings) (atℤ found)
 
 -- what is known of the drawing is known of the sheet's
 pub on-sheet : {s : List ℕ} {𝓓 : Drawing} → Good s 𝓓 → (P : Drawing → Type 0) → P 𝓓 → P (sheetDrawing s)
@@ -103,7 +104,7 @@ has-room s flows set room = (neither (λ h. omega (arith, room .0)) (λ h. omega
 -- ── Solve ──
 module _ {s : List ℕ} {𝓓 : Drawing} (good : Good s 𝓓) (source sink : ℕ) (value : ℤ) (inside : NoneOf (valueChecks value)) where
   asked : (flows : List ℤ) (set : List ℕ) → NoneOf (endChecks (nodesOf s) source sink) → Room s flows set → NoneOf (solveChecks s source sink value flows set)
-  asked flows set two room = solve-none s source sink value flows set (good .accepted) two inside (has-room s flows set room)
+  asked flows set two room = solve-none s source sink value flows set (record { sheet = good .accepted; ends-two = two; value-inside = inside; has-room = has-room s flows set room })
 
   pub solve-can : (settings : List ℤ) → CanBy source sink value settings 𝓓 → SolveCan s source sink value settings
   solve-can settings by flows flows' set set' answer room solved = go answer solved
@@ -139,7 +140,7 @@ pub solve-refused : (s : List ℕ) (n : ℕ) → FirstOf (sheetChecks s) n 0 →
 solve-refused s n bad source sink value flows flows' set set' answer solved = go answer solved
   where
     first : FirstOf (solveChecks s source sink value flows set) n 0
-    first = solve-sheet s source sink value flows set n 0 bad
+    first = with-sheet.solve-refused s n 0 bad source sink value flows set
 
     go : (a : SolveAnswer) → Solves s source sink value flows flows' set set' a → (a ≡ Refused n 0) × (flows' ≡ flows) × (set' ≡ set)
     go Can h = absurd (first-none (solveChecks s source sink value flows set) n 0 first (h .0))
@@ -149,7 +150,7 @@ solve-refused s n bad source sink value flows flows' set set' answer solved = go
 -- ── Largest ──
 module _ {s : List ℕ} {𝓓 : Drawing} (good : Good s 𝓓) (source sink : ℕ) where
   sought : (flows : List ℤ) (set : List ℕ) → NoneOf (endChecks (nodesOf s) source sink) → Room s flows set → NoneOf (largestChecks s source sink flows set)
-  sought flows set two room = largest-none s source sink flows set (good .accepted) two (has-room s flows set room)
+  sought flows set two room = largest-none s source sink flows set (record { sheet = good .accepted; ends-two = two; has-room = has-room s flows set room })
 
   -- the settings carry the value, and the set lets no more out; the next value has one proving set
   pub largest-is : (value : ℤ) (settings : List ℤ) (words : List ℕ) → CanBy source sink value settings 𝓓 → Full source sink value words 𝓓
@@ -183,7 +184,7 @@ module _ {s : List ℕ} {𝓓 : Drawing} (good : Good s 𝓓) (source sink : ℕ
           let ws = h .2 .0 in (
             ap Value e,
             filled-front (pos 0) (edgesOf s) x settings flows flows' (k .long)
-                (one-highest s (good .accepted) source sink (k .ends) value x (atℤ settings) (subst (λ (w : ℤ). Highest (sheetMap s) 0 (capacityOf s) source sink w x) e (h .1 .1)) (k .highest))
+                (one-highest s (good .accepted) source sink (k .ends) value x (atℤ settings) (subst (λ (w : ℤ). Highest (sheetMap s) (outerOf s) (capacityOf s) source sink w x) e (h .1 .1)) (k .highest))
                 (h .1 .2),
             set-front (h .2 .1)
                 (n .only ws (h .2 .1 .is-set) (subst (λ (w : ℤ). Proves (sheetMap s) (capacityOf s) source sink (w +ℤ pos 1) (member ws)) e (h .2 .2))),
@@ -214,9 +215,9 @@ levels-are {s} good settings found by more levels levels' answer room given = go
 
     whole : NoneOf (levelsChecks s (settings ++ more) levels)
     whole =
-        levels-none s (settings ++ more) levels (good .accepted) (k .settings-long) (omega (arith, k .found-long))
+        levels-none s (settings ++ more) levels (good .accepted) (balanced-none (sheetDrawing s) (settings ++ more) levels (k .settings-long) (omega (arith, k .found-long))
         (within-none (sheetMap s) (capacityOf s) (atℤ (settings ++ more)) (k .within))
-        (circulation-none (sheetMap s) (atℤ (settings ++ more)) (k .balanced))
+        (circulation-none (sheetMap s) (atℤ (settings ++ more)) (k .balanced)))
 
     go : (a : LevelAnswer) → GivesLevels s (settings ++ more) levels levels' a → (a ≡ Done) × (levels' ≡ front found levels)
     go Done h = (
@@ -228,16 +229,16 @@ levels-are {s} good settings found by more levels levels' answer room given = go
     go (level.Refused j p) h = absurd (first-none (levelsChecks s (settings ++ more) levels) j p (h .0) whole)
 
 -- ── opening a sheet ──
-pub opened : {s : List ℕ} {𝓓 : Drawing} → Good s 𝓓 → (net : Network) (v : Verdict) → Opens s net v → (v ≡ Passed) × ((d : ℕ) → d < darts (𝓓 .map) → InFace net (left (𝓓 .map) d) d)
-opened {s} {𝓓} good net v h = subst (λ (𝓔 : Drawing). (v ≡ Passed) × ((d : ℕ) → d < darts (𝓔 .map) → InFace net (left (𝓔 .map) d) d)) (good .drawing) (go v h)
+pub opened : {s : List ℕ} {𝓓 : Drawing} → Good s 𝓓 → (lefts : List ℕ) (o : Opened) (v : Verdict) → Opens s lefts o v → (v ≡ Passed) × ((d : ℕ) → d < darts (𝓓 .map) → InFace lefts (left (𝓓 .map) d) d)
+opened {s} {𝓓} good lefts o v h = subst (λ (𝓔 : Drawing). (v ≡ Passed) × ((d : ℕ) → d < darts (𝓔 .map) → InFace lefts (left (𝓔 .map) d) d)) (good .drawing) (go v h)
   where
-    go : (v : Verdict) → Opens s net v → (v ≡ Passed) × ((d : ℕ) → d < darts (sheetMap s) → InFace net (left (sheetMap s) d) d)
-    go Passed h = (refl, h .1 .faces)
+    go : (v : Verdict) → Opens s lefts o v → (v ≡ Passed) × ((d : ℕ) → d < darts (sheetMap s) → InFace lefts (left (sheetMap s) d) d)
+    go Passed h = (refl, h .1 .lefts-are)
     go (verdict.Refused j p) h = absurd (first-none (sheetChecks s) j p h (good .accepted))
 
-pub refused-open : (s : List ℕ) (n : ℕ) → FirstOf (sheetChecks s) n 0 → (net : Network) (v : Verdict) → Opens s net v → v ≡ verdict.Refused n 0
-refused-open s n bad net v h = go v h
+pub refused-open : (s : List ℕ) (n : ℕ) → FirstOf (sheetChecks s) n 0 → (lefts : List ℕ) (o : Opened) (v : Verdict) → Opens s lefts o v → v ≡ verdict.Refused n 0
+refused-open s n bad lefts o v h = go v h
   where
-    go : (v : Verdict) → Opens s net v → v ≡ verdict.Refused n 0
+    go : (v : Verdict) → Opens s lefts o v → v ≡ verdict.Refused n 0
     go Passed h = absurd (first-none (sheetChecks s) n 0 bad (h .0))
     go (verdict.Refused j p) h = let e = first-one (sheetChecks s) j p n 0 h bad in ap₂ verdict.Refused (e .0) (e .1)

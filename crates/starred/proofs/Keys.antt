@@ -9,13 +9,13 @@ use Rattle.refusals.specs.Order.{Check, NoneOf, FirstOf}
 use Rattle.refusals.proofs.Order.{none-append, first-left, first-right, first-none, first-one}
 use Rattle.fields.specs.Fields.{le16, leBits, le32}
 use Rattle.flows.specs.ProvingSet.{member, size}
-use Rattle.records.specs.Drawing.{Drawing}
+use Rattle.maps.specs.Drawing.{Drawing}
 use Rattle.records.specs.Record.{bodyLength, recordChecks}
 use Rattle.records.specs.Sheet.{nodesOf, edgesOf, sheetDrawing}
 use Rattle.records.proofs.Record.{record-passes}
-use Rattle.sheets.specs.Network.{atℤ}
+use Rattle.arrays.specs.At.{atℤ}
 use Rattle.sheets.specs.Open.{sheetChecks}
-use Rattle.analyser.specs.Question.{endChecks, valueChecks}
+use Rattle.questions.specs.Question.{endChecks, valueChecks}
 use Rattle.analyser.proofs.Asked.{excludes, one-highest}
 use Rattle.key_text.specs.Question.{sourceOf, sinkOf, valueOf, sheetOf, keyChecks}
 use Rattle.key_text.specs.Text.{canLine, edgeLine, canText, cannotText, refusedText}
@@ -28,7 +28,7 @@ use Rattle.starred.proofs.Answers.{CanBy, CannotBy, on-sheet}
 
 -- a question record is whole and of its kind, whatever it asks and whatever follows
 pub question-whole : (source sink : ℕ) (value : ℤ) (s : List ℕ) → NoneOf (recordChecks (question source sink value ++ s) 3 0)
-unfolding question le16 le32 leBits bodyLength
+unfolding question le16 le32 leBits
 question-whole source sink value s = record-passes (question source sink value ++ s) 3 0 refl (omega arith)
 
 -- these bytes have one key, this one

@@ -1,5 +1,5 @@
 -- Each kind of line of the table, from tests that are computed: so a line that is wrong fails at a test. The questions are all "Headgate 0, outfall 1".
-use mathlib.Core.Path.{_≡_, refl, sym, _∙_}
+use mathlib.Core.Path.{_≡_, refl, sym, _∙_, ap}
 use mathlib.Core.Logic.{_⊎_, inl, inr}
 use mathlib.Core.Bool.{Bool, true, false, not, _&&_, _||_, Bool·beq, true≢false, false≢true}
 use mathlib.Core.List.{List, [], _∷_}
@@ -12,18 +12,18 @@ use Rattle.integers.proofs.Laws.{lt-le-clash, lt-of-test, le-of-test}
 use Rattle.integers.proofs.Tests.{of-T, and-both, and-true, every, every-equalℤ, every-at-most, eqZ}
 use Rattle.refusals.specs.Order.{NoneOf}
 use Rattle.refusals.proofs.Order.{neither}
-use Rattle.faces.specs.Flow.{net}
-use Rattle.faces.specs.Cut.{cut}
-use Rattle.faces.specs.Potential.{difference}
-use Rattle.faces.proofs.Examples as maps
+use Rattle.maps.specs.Flow.{net}
+use Rattle.maps.specs.Cut.{cut}
+use Rattle.maps.specs.Potential.{difference}
+use Rattle.maps.proofs.Examples as maps
 use Rattle.flows.specs.Settings.{onDarts}
 use Rattle.flows.specs.ProvingSet.{bound, Proves, member, size}
 use Rattle.flows.proofs.OnDarts.{onDarts-antisymmetric}
 use Rattle.flows.proofs.Examples.{A-carries, A-highest}
 use Rattle.flows.proofs.Interval.{beside-proves}
-use Rattle.records.specs.Drawing.{Drawing}
-use Rattle.sheets.specs.Network.{atℤ}
-use Rattle.analyser.specs.Question.{endChecks, valueChecks}
+use Rattle.maps.specs.Drawing.{Drawing}
+use Rattle.arrays.specs.At.{atℤ}
+use Rattle.questions.specs.Question.{endChecks, valueChecks}
 use Rattle.starred.specs.Table.{SolveCan, SolveCannot, LargestIs, LargestNone, LevelsAre}
 use Rattle.starred.proofs.Sheets.{Good, drawn}
 use Rattle.starred.proofs.Sets.{only-one}
@@ -168,5 +168,5 @@ module _ (capacities : List ℤ) (x₀ x₁ x₂ l₀ l₁ l₂ : ℤ) where
         found-long = sym (maps.A-faces .0);
         within = every-at-most 6 (onDarts (flows more)) (atℤ capacities) (fits more);
         balanced = record { antisymmetric = onDarts-antisymmetric maps.A (flows more); balanced = every-equalℤ 2 (net maps.A (onDarts (flows more))) (λ v. pos 0) (balanced more) };
-        levels = record { differences = every-equalℤ 6 (onDarts (flows more)) (difference maps.A heights) (differ more); rooted = rooted };
+        levels = record { differences = every-equalℤ 6 (onDarts (flows more)) (difference maps.A heights) (differ more); rooted = λ f z. ap heights (z ∙ maps.A-faces .1) ∙ rooted };
       }

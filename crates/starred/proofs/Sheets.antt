@@ -17,25 +17,25 @@ use Rattle.integers.proofs.Injections.{find}
 use Rattle.refusals.specs.Order.{NoneOf, FirstOf}
 use Rattle.refusals.proofs.Order.{none-append, first-right, neither}
 use Rattle.fields.specs.Fields.{le16, leBits, le32}
-use Rattle.faces.specs.Dart.{rev}
-use Rattle.faces.specs.Orbit.{iter, lowest, isLowest, orbits}
-use Rattle.faces.specs.Map.{Map}
-use Rattle.faces.specs.Face.{faces}
-use Rattle.faces.specs.Walk.{Walk, here, along, Connected}
-use Rattle.faces.specs.Flat.{Flat}
-use Rattle.faces.specs.Check.{InRange, Sound}
-use Rattle.faces.proofs.Walks.{walk-append, walk-back}
-use Rattle.faces.proofs.Examples as maps
+use Rattle.maps.specs.Dart.{rev}
+use Rattle.maps.specs.Orbit.{iter, lowest, isLowest, orbits}
+use Rattle.maps.specs.Map.{Map}
+use Rattle.maps.specs.Face.{faces}
+use Rattle.maps.specs.Walk.{Walk, here, along, Connected}
+use Rattle.maps.specs.Flat.{Flat}
+use Rattle.maps.specs.Check.{InRange, Sound}
+use Rattle.maps.proofs.Walks.{walk-append, walk-back}
+use Rattle.maps.proofs.Examples as maps
 use Rattle.rotations.specs.MapChecks.{mapChecks}
 use Rattle.rotations.proofs.Accepted.{no-rotation-fault, no-node-fault, passes}
-use Rattle.records.specs.Drawing.{Drawing}
+use Rattle.maps.specs.Drawing.{Drawing}
 use Rattle.records.specs.Check.{countChecks, fieldChecks, edgeChecks}
 use Rattle.records.specs.Sheet.{sheetDrawing, sheetMap, byteChecks}
 use Rattle.records.specs.Encode.{encodeHead, encodeEdge, encodeEdges, encode}
 use Rattle.records.proofs.Encodable.{ZeroPast, encodable-of-checks}
 use Rattle.records.proofs.Decode.{sheet-encode}
 use Rattle.records.proofs.EncodeAccepted.{encode-accepted}
-use Rattle.sheets.specs.Network.{atℤ}
+use Rattle.arrays.specs.At.{atℤ}
 use Rattle.sheets.specs.Open.{sheetChecks}
 use Rattle.starred.specs.Drawings.{A, leastTwo, allFive, twisted, B}
 
@@ -106,7 +106,7 @@ fair-by-tests edges c low high pairs = record {
 -- ── A, its map with other capacities, and A twisted ──
 -- a map with the capacities of a list
 abbrev pub drawn : Map → List ℤ → Drawing
-drawn 𝓜 capacities = record { map = 𝓜; capacity = atℤ capacities }
+drawn 𝓜 capacities = record { map = 𝓜; capacity = atℤ capacities; outer = 0 }
 
 abbrev pub A-capacities : List ℤ
 A-capacities = pos 5 ∷ pos 0 ∷ pos 3 ∷ pos 0 ∷ pos 4 ∷ pos 0 ∷ []
@@ -137,6 +137,7 @@ A-with s capacities six e fair =
       tail-zero = λ d h. List·getD-eq-default (0 ∷ 1 ∷ 0 ∷ 1 ∷ 0 ∷ 1 ∷ []) 0 h;
       rotation-zero = λ d h. List·getD-eq-default (2 ∷ 5 ∷ 4 ∷ 1 ∷ 0 ∷ 3 ∷ []) 0 h;
       capacity-zero = λ d h. List·getD-eq-default capacities (pos 0) (omega (arith, six));
+      outer-zero = refl;
     }))
     A-checked
 
@@ -167,6 +168,7 @@ twisted-bad =
       tail-zero = λ d h. List·getD-eq-default (0 ∷ 1 ∷ 0 ∷ 1 ∷ 0 ∷ 1 ∷ []) 0 h;
       rotation-zero = λ d h. List·getD-eq-default (2 ∷ 3 ∷ 4 ∷ 5 ∷ 0 ∷ 1 ∷ []) 0 h;
       capacity-zero = λ d h. List·getD-eq-default A-capacities (pos 0) h;
+      outer-zero = refl;
     }))
     12 0 twisted-checked
 
@@ -219,5 +221,6 @@ B-good =
       tail-zero = λ d h. List·getD-eq-default (0 ∷ 1 ∷ 0 ∷ 2 ∷ []) 0 h;
       rotation-zero = λ d h. List·getD-eq-default (2 ∷ 1 ∷ 0 ∷ 3 ∷ []) 0 h;
       capacity-zero = λ d h. List·getD-eq-default B-capacities (pos 0) h;
+      outer-zero = refl;
     }))
     (passes B-sound B-connected B-flat)

@@ -8,16 +8,16 @@ use lib.IntN.{ℤ, pos}
 use Rattle.integers.specs.Sum.{sum}
 use Rattle.integers.proofs.Tests.{every, eqZ}
 use Rattle.fields.specs.Fields.{u16At, u32At, i32At, le16, leBits, le32}
-use Rattle.faces.specs.Dart.{rev}
-use Rattle.faces.specs.Orbit.{iter, lowest, isLowest, orbits, orbitOf}
-use Rattle.faces.specs.Face.{left}
-use Rattle.faces.specs.Flow.{net}
-use Rattle.faces.specs.Cut.{cut}
-use Rattle.faces.proofs.Examples as maps
+use Rattle.maps.specs.Dart.{rev}
+use Rattle.maps.specs.Orbit.{iter, lowest, isLowest, orbits, orbitOf}
+use Rattle.maps.specs.Face.{left}
+use Rattle.maps.specs.Flow.{net}
+use Rattle.maps.specs.Cut.{cut}
+use Rattle.maps.proofs.Examples as maps
 use Rattle.flows.specs.Settings.{onDarts}
 use Rattle.flows.specs.ProvingSet.{bound, size}
 use Rattle.texts.specs.Decimal.{digits, decimal, number}
-use Rattle.sheets.specs.Network.{atℤ}
+use Rattle.arrays.specs.At.{atℤ}
 use Rattle.key_text.specs.Text.{lines, edgeLine, nodeLine, canLine, canText, cannotLine, cannotText, refusedText}
 use Rattle.starred.specs.Drawings.{A, twisted, question}
 use Rattle.starred.specs.Texts.{canSix, cannotThirteen, refusedTwelve}
@@ -62,8 +62,8 @@ twisted-only source sink value t key = key-refused (question source sink value +
 pub starred : Starred
 unfolding every onDarts net cut bound sum rev size ones onesIn left orbits orbitOf isLowest lowest iter eqZ
 starred = record {
-  faces-of-A = λ net v h.
-      let o = opened A-good net v h in
+  faces-of-A = λ lefts r v h.
+      let o = opened A-good lefts r v h in
       let at-left = o .1 in (
         o .0,
         (at-left 0 (omega arith), at-left 5 (omega arith)),

@@ -10,18 +10,18 @@ use Rattle.refusals.specs.declared.Verdict.the-variants.{Passed}
 use Rattle.refusals.specs.declared.Verdict.the-variants as verdict
 use Rattle.flows.specs.ProvingSet.{wordsFor}
 use Rattle.records.specs.Sheet.{nodesOf, edgesOf}
-use Rattle.sheets.specs.declared.Network.{Network}
-use Rattle.sheets.specs.Network.{at}
+use Rattle.sheets.specs.declared.Opened.{Opened}
+use Rattle.arrays.specs.At.{at}
 use Rattle.sheets.specs.Open.{Opens}
 use Rattle.analyser.specs.Solve.{Solves}
-use Rattle.analyser.specs.declared.SolveAnswer.{SolveAnswer}
-use Rattle.analyser.specs.declared.SolveAnswer.the-variants.{Can, Cannot, Refused}
+use Rattle.questions.specs.declared.SolveAnswer.{SolveAnswer}
+use Rattle.questions.specs.declared.SolveAnswer.the-variants.{Can, Cannot, Refused}
 use Rattle.analyser.specs.Largest.{FindsLargest}
-use Rattle.analyser.specs.declared.LargestAnswer.{LargestAnswer}
-use Rattle.analyser.specs.declared.LargestAnswer.the-variants.{Value, None}
+use Rattle.questions.specs.declared.LargestAnswer.{LargestAnswer}
+use Rattle.questions.specs.declared.LargestAnswer.the-variants.{Value, None}
 use Rattle.analyser.specs.LevelsOf.{GivesLevels}
-use Rattle.analyser.specs.declared.LevelAnswer.{LevelAnswer}
-use Rattle.analyser.specs.declared.LevelAnswer.the-variants.{Done}
+use Rattle.levels.specs.declared.LevelAnswer.{LevelAnswer}
+use Rattle.levels.specs.declared.LevelAnswer.the-variants.{Done}
 use Rattle.key_text.specs.Key.{Prints}
 use Rattle.starred.specs.Drawings.{A, leastTwo, allFive, twisted, B, question}
 use Rattle.starred.specs.Texts.{canSix, cannotThirteen, refusedTwelve}
@@ -71,9 +71,9 @@ LevelsAre s settings found =
     (more levels levels' : List ℤ) (answer : LevelAnswer) → length found ≤ length levels → GivesLevels s (settings ++ more) levels levels' answer
     → (answer ≡ Done) × (levels' ≡ front found levels)
 
--- the dart d is in the face f of the record
-abbrev pub InFace : Network → ℕ → ℕ → Type 0
-InFace net f d = at (net .faces) d ≡ f
+-- the dart d is in the face f, by the left faces that opening a sheet tells
+abbrev pub InFace : List ℕ → ℕ → ℕ → Type 0
+InFace lefts f d = at lefts d ≡ f
 
 -- the key's function writes this text for these bytes, and gives its length
 abbrev pub KeyPrints : List ℕ → List ℕ → Type 0
@@ -82,8 +82,8 @@ KeyPrints bytes t = (text text' : List ℕ) (n : ℕ) → Prints bytes text text
 -- ── the table ──
 pub record Starred : Type 0 where
   -- "faces {0,5}, {1,2}, {3,4}"
-  pub faces-of-A : (net : Network) (v : Verdict) → Opens A net v
-      → (v ≡ Passed) × (InFace net 0 0 × InFace net 0 5) × (InFace net 1 1 × InFace net 1 2) × (InFace net 2 3 × InFace net 2 4)
+  pub faces-of-A : (lefts : List ℕ) (o : Opened) (v : Verdict) → Opens A lefts o v
+      → (v ≡ Passed) × (InFace lefts 0 0 × InFace lefts 0 5) × (InFace lefts 1 1 × InFace lefts 1 2) × (InFace lefts 2 3 × InFace lefts 2 4)
   -- "6: settings 0, 2, 4; key prints `can 6`, `0 0`, `1 2`, `2 4`, one per line"
   pub six : SolveCan A 0 1 (pos 6) (pos 0 ∷ pos 2 ∷ pos 4 ∷ [])
   pub six-key : KeyPrints (question 0 1 (pos 6) ++ A) canSix
@@ -104,7 +104,7 @@ pub record Starred : Type 0 where
   -- "A with all limits 5: settings 2, 1, −3 have levels 0, −2, −3"
   pub levels-of-five : LevelsAre allFive (pos 2 ∷ pos 1 ∷ negsuc 2 ∷ []) (pos 0 ∷ negsuc 1 ∷ negsuc 2 ∷ [])
   -- "A with turns 1→3→5→1 at node 1: refused 12; key prints `refused 12`", whatever is asked of it
-  pub twisted-opened : (net : Network) (v : Verdict) → Opens twisted net v → v ≡ verdict.Refused 12 0
+  pub twisted-opened : (lefts : List ℕ) (o : Opened) (v : Verdict) → Opens twisted lefts o v → v ≡ verdict.Refused 12 0
   pub twisted-refused : (source sink : ℕ) (value : ℤ) → SolveRefused twisted source sink value 12
   pub twisted-key : (source sink : ℕ) (value : ℤ) → KeyPrints (question source sink value ++ twisted) refusedTwelve
   -- "B, 3 nodes: ..; headgate 0, outfall 1: largest is none, set {2}"; {2} is bit 2

@@ -1,26 +1,12 @@
--- Cuts by computation: two nodes and one edge, of lengths -1 from node 0 to node 1 and 3 back.
+-- Cuts of the nodes above a threshold, by computation: two nodes and one edge, of lengths -1 from node 0 to node 1 and 3 back.
 use mathlib.Core.Path.{_≡_, refl}
-use mathlib.Core.Bool.{true}
 use mathlib.Core.List.{[], _∷_}
-use lib.Dec.{eqb}
 use lib.IntN.{pos, negsuc}
 use Rattle.integers.specs.Sum.{sum}
-use Rattle.faces.specs.Dart.{rev}
-use Rattle.traversal.specs.Arrays.{at, atℤ}
-use Rattle.thresholds.specs.Cut.{cutOf, above}
-
-pub first-node : cutOf 2 (at (0 ∷ 1 ∷ [])) (atℤ (negsuc 0 ∷ pos 3 ∷ [])) (λ v. eqb v 0) ≡ negsuc 0
-unfolding cutOf sum rev
-first-node = refl
-
-pub second-node : cutOf 2 (at (0 ∷ 1 ∷ [])) (atℤ (negsuc 0 ∷ pos 3 ∷ [])) (λ v. eqb v 1) ≡ pos 3
-unfolding cutOf sum rev
-second-node = refl
-
--- no dart leaves the set of all nodes
-pub both-nodes : cutOf 2 (at (0 ∷ 1 ∷ [])) (atℤ (negsuc 0 ∷ pos 3 ∷ [])) (λ v. true) ≡ pos 0
-unfolding cutOf sum rev
-both-nodes = refl
+use Rattle.maps.specs.Dart.{rev}
+use Rattle.arrays.specs.At.{at, atℤ}
+use Rattle.cuts.specs.Cut.{cutOf}
+use Rattle.thresholds.specs.Above.{above}
 
 -- node 0 has height 5 and node 1 has 4: at the threshold 4 the set is node 0, and at 3 it is both
 pub above-four : cutOf 2 (at (0 ∷ 1 ∷ [])) (atℤ (negsuc 0 ∷ pos 3 ∷ [])) (above (atℤ (pos 5 ∷ pos 4 ∷ [])) (pos 4)) ≡ negsuc 0

@@ -13,10 +13,12 @@ use Rattle.integers.proofs.Omega.{atoms₂, atoms₃, parts, positive, positive
 use Rattle.integers.proofs.Laws.{le-antisym, le-of-lt, lt-or-ge, lt-le-clash, lt-of-test, ge-of-test}
 use Rattle.integers.proofs.Sums.{sum-ext, sum-nil}
 use Rattle.integers.proofs.Tests.{of-T, either}
-use Rattle.faces.specs.Dart.{rev}
-use Rattle.thresholds.specs.Cut.{cutOf, above}
-use Rattle.thresholds.specs.Choice.{mostHeight, Choosable}
-use Rattle.thresholds.proofs.Adding.{reverse-in}
+use Rattle.maps.specs.Dart.{rev}
+use Rattle.cuts.specs.Cut.{cutOf}
+use Rattle.thresholds.specs.Above.{above}
+use Rattle.thresholds.specs.Choice.{Choosable}
+use Rattle.arrays.specs.Sizes.{mostHeight}
+use Rattle.cuts.proofs.Adding.{reverse-in}
 
 pub not-false : (b : Bool) → not b ≡ false → b ≡ true
 not-false true e = refl
@@ -89,11 +91,6 @@ module _ {nodes darts : ℕ} {tail : ℕ → ℕ} {length height : ℕ → ℤ} 
       not-over : (pos mostHeight <ℤ ok .threshold) ⊎ (ok .threshold ≤ℤ pos mostHeight) → ok .threshold ≤ℤ pos mostHeight
       not-over (inl l) = absurd (not-uniform false (λ v m. test-of-ge (ok .threshold) (height v) (le-of-lt (le-lt (ok .low v m .high) l))))
       not-over (inr l) = l
-
-  -- the flags of the nodes above t, where the cut at t is below zero
-  pub chosen : (t : ℤ) (S : ℕ → Bool) → ltZ (cutOf darts tail length (above height t)) (pos 0) ≡ true → ((v : ℕ) → v < nodes → S v ≡ above height t v)
-      → cutOf darts tail length S <ℤ pos 0
-  chosen t S e h = rw (cut-same S (above height t) h) (lt-of-test _ _ e)
 
 module _ {darts : ℕ} {tail : ℕ → ℕ} {length height : ℕ → ℤ} {t : ℤ} (now : Trying darts tail length height t) where
   module _ (fails : ltZ (cutOf darts tail length (above height t)) (pos 0) ≡ false) where

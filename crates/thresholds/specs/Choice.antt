@@ -4,14 +4,9 @@ use Prim.Native.Nat.{ℕ, _%_, _≤_, _<_}
 use lib.IntN.{ℤ, pos}
 use lib.Signed.{_<ℤ_}
 use Rattle.integers.specs.Limited.{Limited}
-use Rattle.thresholds.specs.Cut.{cutOf, above}
-
--- with lengths of these sizes no cut of 1,024 darts is too large for 64 bits
-abbrev pub mostLength : ℕ
-mostLength = 602000000
-
-abbrev pub mostHeight : ℕ
-mostHeight = 1048576
+use Rattle.cuts.specs.Cut.{cutOf}
+use Rattle.thresholds.specs.Above.{above}
+use Rattle.arrays.specs.Sizes.{mostLength, mostHeight}
 
 -- some threshold has a cut below zero
 pub record Choosable (nodes darts : ℕ) (tail : ℕ → ℕ) (length height : ℕ → ℤ) : Type 0 where

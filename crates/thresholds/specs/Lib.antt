@@ -1,2 +1,2 @@
-pub mod Cut
+pub mod Above
 pub mod Choice

@@ -9,25 +9,17 @@ ghost use lib.IntN.{ℤ, pos};
 ghost use lib.Signed.{_≤ℤ_, _<ℤ_, ltZ};
 ghost use Rattle.integers.specs.Sum.{when};
 ghost use Rattle.integers.specs.Limited.{Limited};
-ghost use Rattle.faces.specs.Dart.{rev};
-ghost use Rattle.traversal.specs.Arrays.{at, atℤ};
-ghost use Rattle.thresholds.specs.Cut.{leavesOf, cutOf, above};
-ghost use Rattle.thresholds.specs.Choice.{mostLength, mostHeight, Choosable};
+ghost use Rattle.maps.specs.Dart.{rev};
+ghost use Rattle.arrays.specs.At.{at, atℤ};
+ghost use Rattle.cuts.specs.Cut.{leavesOf, cutOf};
+ghost use Rattle.thresholds.specs.Above.{above};
+ghost use Rattle.thresholds.specs.Choice.{Choosable};
+ghost use Rattle.arrays.specs.Sizes.{mostLength, mostHeight};
 
 fn is_above(x: i32, threshold: i32) -> bool
     ensures { λ r. ⌜ r ≡ ltZ threshold x ⌝ }
 {
     threshold < x
-}
-
-// Whether the threshold lies from y up to below x.
-fn falls(x: i32, y: i32, threshold: i32) -> bool
-    ensures { λ r. ⌜ r ≡ (ltZ threshold x && not (ltZ threshold y)) ⌝ }
-{
-    if is_above(x, threshold) {
-        return !is_above(y, threshold);
-    }
-    false
 }
 
 fn is_negative(x: i64) -> bool
@@ -40,56 +32,6 @@ fn lower(x: i32, y: i32) -> i32
     ensures { λ r. ⌜ (r ≤ℤ x) × (r ≤ℤ y) × ((r ≡ x) ⊎ (r ≡ y)) ⌝ }
 {
     if x < y { x } else { y }
-}
-
-// Whether the dart d leaves the set of the nodes above the threshold.
-fn leaves(tails: &[u16; 1024], heights: &[i32; 1024], d: usize, threshold: i32) -> bool
-    requires { ⌜ (d < 1024) × (at (now tails) d < 1024) × (at (now tails) (rev d) < 1024) ⌝ }
-    ensures { λ r. ⌜ r ≡ leavesOf (at (now (tails .entry))) (above (atℤ (now (heights .entry))) threshold) d ⌝ }
-{
-    let tail = traversal::wide(tails[d]);
-    let back = traversal::reverse(d);
-    let head = traversal::wide(tails[back]);
-    falls(heights[tail], heights[head], threshold)
-}
-
-// What the dart d adds to the cut of the nodes above the threshold.
-fn share(
-    tails: &[u16; 1024],
-    lengths: &[i32; 1024],
-    heights: &[i32; 1024],
-    d: usize,
-    threshold: i32,
-) -> i32
-    requires { ⌜ (d < 1024) × (at (now tails) d < 1024) × (at (now tails) (rev d) < 1024) ⌝ }
-    ensures { λ r. ⌜ r ≡ when (leavesOf (at (now (tails .entry))) (above (atℤ (now (heights .entry))) threshold) d) (atℤ (now (lengths .entry)) d) ⌝ }
-{
-    if leaves(tails, heights, d, threshold) {
-        lengths[d]
-    } else {
-        0
-    }
-}
-
-// The cut of the nodes above the threshold.
-fn cut_above(
-    tails: &[u16; 1024],
-    lengths: &[i32; 1024],
-    heights: &[i32; 1024],
-    darts: usize,
-    threshold: i32,
-) -> i64
-    requires { ⌜ (darts ≤ 1024) × (darts % 2 ≡ 0) × ((d : ℕ) → d < darts → at (now tails) d < 1024) × ((d : ℕ) → d < darts → Limited mostLength (atℤ (now lengths) d)) ⌝ }
-    ensures { λ r. ⌜ r ≡ cutOf darts (at (now (tails .entry))) (atℤ (now (lengths .entry))) (above (atℤ (now (heights .entry))) threshold) ⌝ }
-{
-    let mut total: i64 = 0;
-    for d in 0..darts {
-        total = signed::plus64(
-            total,
-            signed::widen(share(tails, lengths, heights, d, threshold)),
-        );
-    }
-    total
 }
 
 // The lowest height of a node.
@@ -134,8 +76,9 @@ pub fn choose_set(
     ensures { λ _. ⌜ (length (now (inside .exit)) ≡ 1024) × (cutOf darts (at (now (tails .entry))) (atℤ (now (lengths .entry))) (λ v. eqb (at (now (inside .exit)) v) 1) <ℤ pos 0) ⌝ }
 {
     let mut threshold = lowest(heights, nodes);
-    while !is_negative(cut_above(tails, lengths, heights, darts, threshold)) {
+    flag_above(heights, nodes, threshold, &mut *inside);
+    while !is_negative(cuts::total(tails, lengths, &*inside, darts)) {
         threshold = signed::plus(threshold, 1);
+        flag_above(heights, nodes, threshold, &mut *inside);
     }
-    flag_above(heights, nodes, threshold, inside);
 }

@@ -8,14 +8,14 @@ use lib.Dec.{eqb}
 use Rattle.integers.proofs.Tests.{eqb-true, eqb-eq}
 use Rattle.integers.proofs.Pigeonhole.{seek}
 use Rattle.integers.proofs.Injections.{find, find-is}
-use Rattle.faces.specs.Dart.{rev}
-use Rattle.faces.specs.Orbit.{iter}
-use Rattle.faces.specs.Map.{Map, darts}
-use Rattle.faces.specs.Walk.{Walk, here, along, Connected}
-use Rattle.faces.specs.Check.{Sound, Disconnected}
-use Rattle.faces.proofs.Darts.{rev-in}
-use Rattle.faces.proofs.Orbits.{iter-zero, iter-suc}
-use Rattle.faces.proofs.Walks.{walk-append, walk-back}
+use Rattle.maps.specs.Dart.{rev}
+use Rattle.maps.specs.Orbit.{iter}
+use Rattle.maps.specs.Map.{Map, darts}
+use Rattle.maps.specs.Walk.{Walk, here, along, Connected}
+use Rattle.maps.specs.Check.{Sound, Disconnected}
+use Rattle.maps.proofs.Darts.{rev-in}
+use Rattle.maps.proofs.Orbits.{iter-zero, iter-suc}
+use Rattle.maps.proofs.Walks.{walk-append, walk-back}
 use Rattle.traversal.specs.Spread.{Met, Follows, Spread}
 use Rattle.traversal.proofs.Spreading.{at-most-n, all-met}
 

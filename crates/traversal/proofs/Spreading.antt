@@ -7,9 +7,9 @@ use native.Mathlib.Decide.{ℕ-discrete, decLt}
 use Rattle.integers.proofs.Tests.{eqb-eq}
 use Rattle.integers.proofs.Pigeonhole.{pigeonhole, Twice}
 use Rattle.integers.proofs.Injections.{onto}
-use Rattle.faces.specs.Dart.{rev}
-use Rattle.faces.proofs.Darts.{rev-in}
-use Rattle.traversal.specs.Arrays.{unmarked}
+use Rattle.maps.specs.Dart.{rev}
+use Rattle.maps.proofs.Darts.{rev-in}
+use Rattle.traversal.specs.Mark.{unmarked}
 use Rattle.traversal.specs.Spread.{Met, Follows, Spread, Added}
 
 -- ── listing one dart ──

@@ -3,25 +3,13 @@
 ghost use mathlib.Core.Path.{_≡_};
 ghost use Prim.Native.Nat.{ℕ, _%_, _<_, _≤_};
 ghost use lib.ListN.{length};
-ghost use Rattle.faces.specs.Dart.{rev};
-ghost use Rattle.traversal.specs.Arrays.{at, unmarked};
+ghost use Rattle.maps.specs.Dart.{rev};
+ghost use Rattle.arrays.specs.At.{at};
+ghost use Rattle.traversal.specs.Mark.{unmarked};
 ghost use Rattle.traversal.specs.Spread.{Spread, Added};
 
 // The mark of a place that has no number yet: for a dart, that it was not met. Numbers stay below 1,024.
 const UNMARKED: u16 = 65535;
-
-pub fn wide(x: u16) -> usize
-    ensures { λ r. ⌜ r ≡ x ⌝ }
-{
-    x as usize
-}
-
-pub fn narrow(x: usize) -> u16
-    requires { ⌜ x < 65536 ⌝ }
-    ensures { λ r. ⌜ r ≡ x ⌝ }
-{
-    x as u16
-}
 
 pub fn unmark_all(label: &mut [u16; 1024])
     requires { ⌜ length (now label) ≡ 1024 ⌝ }
@@ -32,21 +20,13 @@ pub fn unmark_all(label: &mut [u16; 1024])
     }
 }
 
-// The other dart of d's edge.
-pub fn reverse(d: usize) -> usize
-    requires { ⌜ d < 1024 ⌝ }
-    ensures { λ r. ⌜ r ≡ rev d ⌝ }
-{
-    if d % 2 == 0 { d + 1 } else { d - 1 }
-}
-
 // The first dart that leaves the node v; that it leaves v is all that the contract tells.
 pub fn dart_at(tails: &[u16; 1024], darts: usize, v: usize) -> usize
     requires { ⌜ (darts ≤ 1024) × ((d : ℕ) × (d < darts) × (at (now tails) d ≡ v)) ⌝ }
     ensures { λ r. ⌜ (r < darts) × (at (now (tails .entry)) r ≡ v) ⌝ }
 {
     let mut d: usize = 0;
-    while wide(tails[d]) != v {
+    while arrays::wide(tails[d]) != v {
         d += 1;
     }
     d
@@ -66,8 +46,8 @@ fn add(
     if from[d] != UNMARKED {
         return end;
     }
-    from[d] = narrow(origin);
-    order[end] = narrow(d);
+    from[d] = arrays::narrow(origin);
+    order[end] = arrays::narrow(d);
     end + 1
 }
 
@@ -83,15 +63,15 @@ pub fn spread(
     ensures { λ r. ⌜ (length (now (order .exit)) ≡ 1024) × (length (now (from .exit)) ≡ 1024) × Spread darts (at (now (rotations .entry))) start (at (now (order .exit))) (at (now (from .exit))) r ⌝ }
 {
     unmark_all(from);
-    from[start] = narrow(start);
-    order[0] = narrow(start);
+    from[start] = arrays::narrow(start);
+    order[0] = arrays::narrow(start);
     let mut head: usize = 0;
     let mut end: usize = 1;
     while head < end {
-        let d = wide(order[head]);
-        let t = wide(rotations[d]);
+        let d = arrays::wide(order[head]);
+        let t = arrays::wide(rotations[d]);
         end = add(order, from, end, t, d);
-        let back = reverse(d);
+        let back = arrays::reverse(d);
         end = add(order, from, end, back, d);
         head += 1;
     }

@@ -15,10 +15,10 @@ use Rattle.integers.proofs.Limits.{limited-plus, limited-minus}
 use Rattle.integers.proofs.Omega.{atoms₁, parts, equal, at-most}
 use Rattle.integers.proofs.Tests.{eqb-true, eqb-false}
 use Rattle.signed.proofs.Limits.{limited-fits, same-bits}
-use Rattle.faces.specs.Dart.{rev}
-use Rattle.faces.proofs.Darts.{rev-apart}
-use Rattle.flows.proofs.UnitFlow.{single}
-use Rattle.traversal.specs.Arrays.{atℤ}
+use Rattle.maps.specs.Dart.{rev}
+use Rattle.maps.proofs.Darts.{rev-apart}
+use Rattle.flows.specs.UnitFlow.{single}
+use Rattle.arrays.specs.At.{atℤ}
 
 limited-one : Limited 1 (pos 1)
 limited-one = record { low = at-most (search parts) (omega arith); high = at-most (search parts) (omega arith) }

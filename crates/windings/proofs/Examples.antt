@@ -4,9 +4,9 @@ use mathlib.Core.Path.{_≡_, refl}
 use mathlib.Core.List.{List, [], _∷_}
 use Prim.Native.Nat.{ℕ}
 use lib.IntN.{pos, negsuc}
-use Rattle.faces.specs.Dart.{rev}
-use Rattle.faces.specs.Orbit.{iter}
-use Rattle.traversal.specs.Arrays.{at}
+use Rattle.maps.specs.Dart.{rev}
+use Rattle.maps.specs.Orbit.{iter}
+use Rattle.arrays.specs.At.{at}
 use Rattle.search.specs.Parents.{up, down}
 use Rattle.windings.specs.Winding.{crossings}
 

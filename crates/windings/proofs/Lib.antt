@@ -1,4 +1,4 @@
 pub mod Crossing
 pub mod Round
-pub mod Found
+pub mod WindingOfRing
 pub mod Examples

@@ -12,10 +12,10 @@ use Rattle.integers.specs.Limited.{Limited}
 use Rattle.integers.proofs.Limits.{limited-plus, limited-more, limited-zero}
 use Rattle.integers.proofs.Omega.{parts, at-most}
 use Rattle.integers.proofs.Tests.{eqb-true, eqb-false}
-use Rattle.faces.specs.Dart.{rev}
-use Rattle.faces.specs.Orbit.{iter}
-use Rattle.faces.proofs.Darts.{rev-in}
-use Rattle.flows.proofs.UnitFlow.{single}
+use Rattle.maps.specs.Dart.{rev}
+use Rattle.maps.specs.Orbit.{iter}
+use Rattle.maps.proofs.Darts.{rev-in}
+use Rattle.flows.specs.UnitFlow.{single}
 use Rattle.search.specs.Parents.{up, down}
 use Rattle.windings.specs.Winding.{crossings, Round, Wound}
 

@@ -5,8 +5,8 @@ use mathlib.Core.List.{List, [], _∷_}
 use Prim.Native.Nat.{ℕ, _≤_, _<_}
 use lib.IntN.{ℤ, pos, _+ℤ_}
 use Rattle.integers.specs.Limited.{Limited}
-use Rattle.faces.specs.Orbit.{iter}
-use Rattle.flows.proofs.UnitFlow.{single}
+use Rattle.maps.specs.Orbit.{iter}
+use Rattle.flows.specs.UnitFlow.{single}
 use Rattle.search.specs.Parents.{up, down}
 
 -- forth minus back, of darts crossed in turn

@@ -4,33 +4,23 @@ ghost use Prim.Native.Nat.{ℕ, _<_, _≤_, _%_};
 ghost use lib.ListN.{length};
 ghost use lib.IntN.{pos, _+ℤ_};
 ghost use Rattle.integers.specs.Limited.{Limited};
-ghost use Rattle.faces.specs.Dart.{rev};
-ghost use Rattle.flows.proofs.UnitFlow.{single};
-ghost use Rattle.grouping.specs.Grouped.{rightOf};
-ghost use Rattle.traversal.specs.Arrays.{at, atℤ};
+ghost use Rattle.maps.specs.Dart.{rev};
+ghost use Rattle.flows.specs.UnitFlow.{single};
+ghost use Rattle.arrays.specs.Maps.{rightOf};
+ghost use Rattle.arrays.specs.At.{at, atℤ};
 ghost use Rattle.windings.specs.Winding.{Round, Wound};
-
-// No dart is crossed yet.
-fn clear(darts: usize, winding: &mut [i32; 1024])
-    requires { ⌜ (length (now winding) ≡ 1024) × (darts ≤ 1024) ⌝ }
-    ensures { λ _. ⌜ (length (now (winding .exit)) ≡ 1024) × ((d : ℕ) → d < darts → atℤ (now (winding .exit)) d ≡ pos 0) ⌝ }
-{
-    for d in 0..darts {
-        winding[d] = 0;
-    }
-}
 
 // Crosses the dart p once: one more for p, one less for its reverse.
 fn cross(p: usize, winding: &mut [i32; 1024])
     requires { ⌜ (length (now winding) ≡ 1024) × (p < 1024) × Limited 1024 (atℤ (now winding) p) × Limited 1024 (atℤ (now winding) (rev p)) ⌝ }
     ensures { λ _. ⌜ (length (now (winding .exit)) ≡ 1024) × ((d : ℕ) → atℤ (now (winding .exit)) d ≡ single p d +ℤ atℤ (now (winding .entry)) d) ⌝ }
 {
-    let back = grouping::other(p);
+    let back = arrays::reverse(p);
     winding[p] = signed::plus(winding[p], 1);
     winding[back] = signed::minus(winding[back], 1);
 }
 
-// Follows the parents from the face y round to y again.
+// Follows the parents from the face y round to y again. `winding` is all zeros before: no dart is crossed yet.
 pub fn fill_winding(
     lefts: &[u16; 1024],
     parents: &[u16; 1024],
@@ -38,15 +28,14 @@ pub fn fill_winding(
     y: usize,
     winding: &mut [i32; 1024],
 )
-    requires { ⌜ (length (now winding) ≡ 1024) × (darts ≤ 1024) × (darts % 2 ≡ 0) × Round (rightOf (now lefts)) (at (now parents)) darts y ⌝ }
+    requires { ⌜ (length (now winding) ≡ 1024) × (darts ≤ 1024) × (darts % 2 ≡ 0) × Round (rightOf (now lefts)) (at (now parents)) darts y × ((d : ℕ) → atℤ (now winding) d ≡ pos 0) ⌝ }
     ensures { λ _. ⌜ (length (now (winding .exit)) ≡ 1024) × Wound (rightOf (now (lefts .entry))) (at (now (parents .entry))) darts y (atℤ (now (winding .exit))) ⌝ }
 {
-    clear(darts, winding);
     let mut x = y;
     loop {
-        let p = grouping::wide(parents[x]);
+        let p = arrays::wide(parents[x]);
         cross(p, winding);
-        x = grouping::right(lefts, p);
+        x = arrays::right(lefts, p);
         if x == y {
             break;
         }

@@ -6,8 +6,8 @@ use lib.IntN.{ℤ}
 use borrow.Author.Needs.{needs}
 use Rattle.signed.proofs.Laws.{number-of-bits}
 use Rattle.analyser.specs.Largest.{FindsLargest}
-use Rattle.analyser.specs.declared.LargestAnswer.{LargestAnswer}
-use Rattle.analyser.specs.declared.LargestAnswer.the-variants.{Value, None, Refused}
+use Rattle.questions.specs.declared.LargestAnswer.{LargestAnswer}
+use Rattle.questions.specs.declared.LargestAnswer.the-variants.{Value, None, Refused}
 use Rattle.abi.proofs.analyser_largest.Statement.{statement}
 use Rattle.abi.proofs.analyser_largest.Tie as tie
 

@@ -3,8 +3,8 @@ use mathlib.Core.Path.{_≡_, refl}
 use borrow.Author.Needs.{needs}
 use Rattle.signed.proofs.Laws.{number-of-bits}
 use Rattle.analyser.specs.Mark.{Marks}
-use Rattle.analyser.specs.declared.MarkAnswer.{MarkAnswer}
-use Rattle.analyser.specs.declared.MarkAnswer.the-variants.{Value, Refused}
+use Rattle.questions.specs.declared.MarkAnswer.{MarkAnswer}
+use Rattle.questions.specs.declared.MarkAnswer.the-variants.{Value, Refused}
 use Rattle.abi.proofs.analyser_mark.Statement.{statement}
 use Rattle.abi.proofs.analyser_mark.Tie as tie
 

@@ -4,8 +4,8 @@ use mathlib.Core.List.{List}
 use lib.IntN.{ℤ}
 use borrow.Author.Needs.{needs}
 use Rattle.analyser.specs.SettingsOf.{GivesSettings}
-use Rattle.analyser.specs.declared.LevelAnswer.{LevelAnswer}
-use Rattle.analyser.specs.declared.LevelAnswer.the-variants.{Done, Refused}
+use Rattle.levels.specs.declared.LevelAnswer.{LevelAnswer}
+use Rattle.levels.specs.declared.LevelAnswer.the-variants.{Done, Refused}
 use Rattle.abi.proofs.analyser_settings_from_levels.Statement.{statement}
 use Rattle.abi.proofs.analyser_settings_from_levels.Tie as tie
 

@@ -6,8 +6,8 @@ use lib.IntN.{ℤ}
 use borrow.Author.Needs.{needs}
 use Rattle.signed.proofs.Laws.{number-of-bits}
 use Rattle.analyser.specs.Solve.{Solves}
-use Rattle.analyser.specs.declared.SolveAnswer.{SolveAnswer}
-use Rattle.analyser.specs.declared.SolveAnswer.the-variants.{Can, Cannot, Refused}
+use Rattle.questions.specs.declared.SolveAnswer.{SolveAnswer}
+use Rattle.questions.specs.declared.SolveAnswer.the-variants.{Can, Cannot, Refused}
 use Rattle.abi.proofs.analyser_solve.Statement.{statement}
 use Rattle.abi.proofs.analyser_solve.Tie as tie
 

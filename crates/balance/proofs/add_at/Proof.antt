@@ -7,7 +7,7 @@ use mir.Syntax.{w32}
 use mir.Val.{toZ, ofZ}
 use borrow.Author.Needs.{needs}
 use Rattle.signed.proofs.Laws.{number-of-bits}
-use Rattle.balance.specs.Arrays.{atℤ}
+use Rattle.arrays.specs.At.{atℤ}
 use Rattle.balance.proofs.Nets.{set-added}
 use Rattle.balance.proofs.add_at.Statement.{statement}
 use Rattle.balance.proofs.add_at.Tie as tie

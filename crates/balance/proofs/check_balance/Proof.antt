@@ -6,10 +6,10 @@ use borrow.Author.Needs.{needs}
 use Rattle.signed.proofs.Laws.{number-of-bits}
 use Rattle.refusals.specs.Order.{Decides}
 use Rattle.refusals.proofs.Order.{said-yes, said-no}
-use Rattle.balance.specs.Arrays.{atℤ}
+use Rattle.arrays.specs.At.{atℤ}
 use Rattle.balance.specs.Check.{Off, offChecks}
 use Rattle.balance.proofs.Lowest.{lowest, none-holds}
-use Rattle.balance.proofs.narrow.Reads as narrow-reads
+use Rattle.arrays.proofs.narrow.Reads as narrow-reads
 use Rattle.balance.proofs.off_balance.Reads as off-balance-reads
 use Rattle.balance.proofs.check_balance.Lts as lts
 use Rattle.balance.proofs.check_balance.Reads as reads

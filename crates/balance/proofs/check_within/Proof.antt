@@ -7,14 +7,14 @@ use Rattle.signed.proofs.Laws.{number-of-bits}
 use Rattle.refusals.proofs.Order.{said-yes, said-no}
 use Rattle.refusals.specs.Order.{Decides}
 use Rattle.flows.specs.Check.{Exceeds, withinChecks}
-use Rattle.balance.specs.Arrays.{atℤ}
+use Rattle.arrays.specs.At.{atℤ}
 use Rattle.balance.proofs.Lowest.{lowest, none-holds}
 use Rattle.balance.proofs.check_within.Lts as lts
 use Rattle.balance.proofs.check_within.Reads as reads
 use Rattle.balance.proofs.check_within.Statement.{statement}
 use Rattle.balance.proofs.check_within.Tie as tie
 use Rattle.balance.proofs.exceeds.Reads as exceeds-reads
-use Rattle.balance.proofs.narrow.Reads as narrow-reads
+use Rattle.arrays.proofs.narrow.Reads as narrow-reads
 
 abbrev Inv-loop : tie.InvT-loop
 Inv-loop capacities edges flows e₀ e = (e ≤ edges) × ((k : ℕ) → k < e → Exceeds (atℤ capacities) (atℤ flows) k → ⊥)

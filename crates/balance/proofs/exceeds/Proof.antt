@@ -9,7 +9,7 @@ use borrow.Author.Needs.{needs}
 use Rattle.integers.proofs.Laws.{lt-of-test, ge-of-test, lt-le-clash}
 use Rattle.signed.proofs.Laws.{number-of-bits}
 use Rattle.refusals.proofs.Order.{neither}
-use Rattle.rotations.proofs.Decisions.{decides-by}
+use Rattle.refusals.proofs.Decisions.{decides-by}
 use Rattle.balance.proofs.Tests.{below-against, against-below}
 use Rattle.balance.proofs.exceeds.Statement.{statement}
 use Rattle.balance.proofs.exceeds.Tie as tie

@@ -6,25 +6,21 @@ use lib.Dec.{eqb}
 use lib.ListN.{length}
 use borrow.Author.Needs.{needs}
 use Rattle.signed.proofs.Laws.{number-of-bits}
-use Rattle.rotations.specs.Arrays.{at}
-use Rattle.balance.specs.Arrays.{atℤ}
-use Rattle.balance.specs.Nets.{netOf}
+use Rattle.arrays.specs.At.{at, atℤ}
+use Rattle.balance.specs.NetUpTo.{netUpTo}
 use Rattle.balance.proofs.Nets.{net-none, net-stepped, added-fits, taken-fits}
 use Rattle.balance.proofs.fill_nets.Statement.{statement}
 use Rattle.balance.proofs.fill_nets.Tie as tie
 
 abbrev Inv-loop : tie.InvT-loop
 Inv-loop tails edges flows nets₀ e₀ nets e =
-    (e ≤ edges) × (length nets ≡ 1024) × ((v : ℕ) → v < 1024 → atℤ nets v ≡ netOf (at tails) (atℤ flows) (2 * e) v)
+    (e ≤ edges) × (length nets ≡ 1024) × ((v : ℕ) → v < 1024 → atℤ nets v ≡ netUpTo (at tails) (atℤ flows) (2 * e) v)
 
 abbrev μ-loop : tie.MeasureT-loop
 μ-loop tails edges flows nets₀ e₀ nets e = edges - e
 
-clear-requires : tie.Need-clear-requires Inv-loop μ-loop
-clear-requires c κs = search needs
-
 loop-holds : tie.Need-loop-holds Inv-loop μ-loop
-loop-holds c = (omega arith, c .clear .ensures .0, λ v l. c .clear .ensures .1 v l ∙ sym (net-none _ _ v))
+loop-holds c = (omega arith, c .pre .2, λ v l. c .pre .5 v ∙ sym (net-none _ _ v))
 
 mul-wide : tie.Need-mul-wide Inv-loop μ-loop
 mul-wide c = search needs
@@ -46,7 +42,7 @@ shared-slice-copy-out-add-at c = search needs
 
 add-at-requires : tie.Need-add-at-requires Inv-loop μ-loop
 add-at-requires c κs =
-    let s = c .before .before .before .before .before .before .before .before in
+    let s = c .before .before .before .before .before .before in
     let o = c .before .before .before .before .before .loop in
     let w : c .before .wide .result < 1024 = omega (arith, c .before .wide .ensures, s .pre .3 (2 * o .e) (omega arith)) in (
       o .inv .1,
@@ -78,7 +74,7 @@ shared-slice-copy-out-sub-at c = search needs
 
 sub-at-requires : tie.Need-sub-at-requires Inv-loop μ-loop
 sub-at-requires c κs =
-    let s = c .before .before .before .before .before .before .before .before .before .before .before .before .before in
+    let s = c .before .before .before .before .before .before .before .before .before .before .before in
     let o = c .before .before .before .before .before .before .before .before .before .before .loop in
     let between = c .before .before .before .before .add-at in
     let v = c .before .wide2 .result in
@@ -100,7 +96,7 @@ loop-less c = search needs
 
 loop-again : tie.Need-loop-again Inv-loop μ-loop
 loop-again c =
-    let s = c .before .before .before .before .before .before .before .before .before .before .before .before .before .before in
+    let s = c .before .before .before .before .before .before .before .before .before .before .before .before in
     let o = c .before .before .before .before .before .before .before .before .before .before .before .loop in
     let between = c .before .before .before .before .before .add-at in
     let x = atℤ (s .args .flows .now) (o .e) in
@@ -120,7 +116,7 @@ loop-again c =
 returns : tie.Need-returns Inv-loop μ-loop
 returns c =
     let o = c .before .loop in
-    let all : o .e ≡ c .before .before .before .before .args .edges = omega arith in
+    let all : o .e ≡ c .before .before .args .edges = omega arith in
     (o .inv .1, λ v l. rw all at (o .inv .2 v l))
 
 pub fill-nets-spec : {M : Type 1} → statement M
@@ -129,7 +125,6 @@ fill-nets-spec =
     (tie.spec
     Inv-loop
     μ-loop
-    clear-requires
     loop-holds
     mul-wide
     mul-wide-2

@@ -3,7 +3,7 @@ use mathlib.Core.Logic.{inl, inr}
 use mir.Syntax.{w32}
 use mir.Val.{ofZ}
 use Rattle.refusals.proofs.Order.{neither}
-use Rattle.rotations.proofs.Decisions.{decides-ne}
+use Rattle.refusals.proofs.Decisions.{decides-ne}
 use Rattle.balance.proofs.Tests.{bits-not-zero, bits-zero}
 use Rattle.balance.proofs.off_balance.Statement.{statement}
 use Rattle.balance.proofs.off_balance.Tie as tie

@@ -6,10 +6,10 @@ use lib.IntN.{_-ℤ_}
 use mir.Syntax.{w64}
 use mir.ValLaws.{toZ-ofZ}
 use borrow.Author.Needs.{needs}
-use Rattle.faces.proofs.Darts.{rev-even}
+use Rattle.maps.proofs.Darts.{rev-even}
 use Rattle.signed.proofs.minus64.Reads as minus64-reads
-use Rattle.traversal.specs.Arrays.{at, atℤ}
-use Rattle.traversal.proofs.wide.Reads as wide-reads
+use Rattle.arrays.specs.At.{at, atℤ}
+use Rattle.arrays.proofs.wide.Reads as wide-reads
 use Rattle.edge_flows.proofs.drop_over.Lts as lts
 use Rattle.edge_flows.proofs.drop_over.Reads as reads
 use Rattle.edge_flows.proofs.drop_over.Statement.{statement}

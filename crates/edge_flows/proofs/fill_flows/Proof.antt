@@ -6,9 +6,9 @@ use native.Mathlib.Omega.{arith}
 use lib.ListN.{drop}
 use borrow.Author.Needs.{needs}
 use Rattle.signed.proofs.Laws.{number-of-bits}
-use Rattle.traversal.specs.Arrays.{at, atℤ}
-use Rattle.records.specs.Table.{tabulate}
-use Rattle.sheets.proofs.Filling.{copy-start, copy-step, copy-length}
+use Rattle.arrays.specs.At.{at, atℤ}
+use Rattle.arrays.specs.Filled.{tabulate}
+use Rattle.arrays.proofs.FillLoops.{copy-start, copy-step, filled-length}
 use Rattle.edge_flows.specs.Flow.{flowOf}
 use Rattle.edge_flows.proofs.fill_flows.Statement.{statement}
 use Rattle.edge_flows.proofs.fill_flows.Tie as tie
@@ -30,7 +30,7 @@ mul-t10 : tie.Need-mul-t10 Inv-loop μ-loop
 mul-t10 c = search needs
 
 slice-set-from-flows : tie.Need-slice-set-from-flows Inv-loop μ-loop
-slice-set-from-flows c = omega (arith, copy-length _ _ _ _ (c .before .before .loop .inv .1) (omega arith))
+slice-set-from-flows c = omega (arith, filled-length _ _ _ _ (c .before .before .loop .inv .1) (omega arith))
 
 add-e : tie.Need-add-e Inv-loop μ-loop
 add-e c = search needs
@@ -44,7 +44,7 @@ loop-again c =
     (omega arith, copy-step _ (o .e) _ _ _ (o .inv .1) (omega arith) (number-of-bits _ (record { sfits = c .flow-of .ok }) ∙ c .flow-of .ensures))
 
 same-length : tie.Need-same-length Inv-loop μ-loop
-same-length c = copy-length _ _ _ _ (c .before .loop .inv .1) (omega arith)
+same-length c = filled-length _ _ _ _ (c .before .loop .inv .1) (omega arith)
 
 returns : tie.Need-returns Inv-loop μ-loop
 returns c =

@@ -6,8 +6,8 @@ use lib.IntN.{pos}
 use lib.ListN.{length, set, length-set}
 use lib.Seq.{getD-set-same}
 use borrow.Author.Needs.{needs}
-use Rattle.heights.specs.Filling.{at, atℤ}
-use Rattle.heights.proofs.Filling.{Filling, dart-in, origin-in, node-in, filling-start, filling-turned, new-fits, filling-stored, filled}
+use Rattle.arrays.specs.At.{at, atℤ}
+use Rattle.heights.proofs.FillingHeights.{Filling, dart-in, origin-in, node-in, filling-start, filling-turned, new-fits, filling-stored, filled}
 use Rattle.heights.proofs.fill_heights.Statement.{statement}
 use Rattle.heights.proofs.fill_heights.Tie as tie
 
@@ -220,7 +220,7 @@ loop-again c =
     let l = c .before .before .before .before .before .before .before .before .before .before .before .before .before .loop-test .taken in
     let is-d = c .before .before .before .before .before .before .before .before .before .before .before .wide3 .ensures in
     let is-p = c .before .before .before .before .before .before .before .before .before .wide4 .ensures in
-    let back = c .before .before .before .before .before .before .before .if1 .taken ∙ c .before .before .before .before .before .before .before .before .reverse .ensures in
+    let back = c .before .before .before .before .before .before .before .if1 .taken ∙ c .before .before .before .before .before .before .before .before .reverse .ensures .0 in
     let is-known = c .before .before .before .before .before .wide5 .ensures in
     let is-next = c .before .before .before .wide6 .ensures in
     filling-stored p (o .heights) (o .inv .1) l is-d is-p is-known (o .inv .0) back is-next (c .minus .ensures)
@@ -237,7 +237,7 @@ loop-again-2 c =
     let l = c .before .before .before .before .before .before .loop-test .taken in
     let is-d = c .before .before .before .before .wide3 .ensures in
     let is-p = c .before .before .wide4 .ensures in
-    (o .inv .0, filling-turned p (o .inv .1) l is-d is-p (λ e. c .if1 .left (e ∙ sym (c .before .reverse .ensures))))
+    (o .inv .0, filling-turned p (o .inv .1) l is-d is-p (λ e. c .if1 .left (e ∙ sym (c .before .reverse .ensures .0))))
 
 returns : tie.Need-returns Inv-loop μ-loop
 returns c =

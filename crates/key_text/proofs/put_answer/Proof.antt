@@ -12,8 +12,8 @@ use Rattle.refusals.specs.Order.{NoneOf}
 use Rattle.records.specs.Record.{recordChecks}
 use Rattle.records.specs.Sheet.{nodesOf, edgesOf}
 use Rattle.analyser.specs.Solve.{Solves}
-use Rattle.analyser.specs.declared.SolveAnswer.{SolveAnswer}
-use Rattle.analyser.specs.declared.SolveAnswer.the-variants.{Can, Cannot, Refused}
+use Rattle.questions.specs.declared.SolveAnswer.{SolveAnswer}
+use Rattle.questions.specs.declared.SolveAnswer.the-variants.{Can, Cannot, Refused}
 use Rattle.key_text.specs.Question.{sourceOf, sinkOf, valueOf, sheetOf}
 use Rattle.key_text.proofs.Answering.{of-bytes, head-there, few-nodes, few-edges, value-fits, flows-fit, can-printed, cannot-printed, refused-printed}
 use Rattle.key_text.proofs.put_answer.Statement.{statement}

@@ -7,7 +7,7 @@ use lib.ListN.{length}
 use borrow.Author.Needs.{needs}
 use Rattle.integers.specs.Limited.{Limited}
 use Rattle.signed.proofs.Laws.{number-of-bits}
-use Rattle.sheets.specs.Network.{atℤ}
+use Rattle.arrays.specs.At.{atℤ}
 use Rattle.texts.specs.Placed.{Placed}
 use Rattle.key_text.specs.Text.{lines, edgeLine, canLine, canText}
 use Rattle.key_text.proofs.Joined.{placed-room, placed-then, can-line-length, edge-line-length, lines-length}

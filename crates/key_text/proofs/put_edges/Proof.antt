@@ -9,7 +9,7 @@ use lib.IntN.{ℤ}
 use borrow.Author.Needs.{needs}
 use Rattle.integers.specs.Limited.{Limited}
 use Rattle.signed.proofs.Laws.{number-of-bits}
-use Rattle.sheets.specs.Network.{atℤ}
+use Rattle.arrays.specs.At.{atℤ}
 use Rattle.texts.specs.Placed.{Placed}
 use Rattle.key_text.specs.Text.{lines, edgeLine}
 use Rattle.key_text.proofs.Joined.{placed-none, placed-length, lines-more, lines-length, edge-line-length}

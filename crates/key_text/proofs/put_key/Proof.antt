@@ -10,7 +10,7 @@ use Rattle.signed.proofs.Laws.{number-of-bits}
 use Rattle.refusals.specs.Order.{NoneOf, Judged}
 use Rattle.refusals.specs.declared.Verdict.{Verdict}
 use Rattle.refusals.specs.declared.Verdict.the-variants.{Passed, Refused}
-use Rattle.records.specs.Record.{recordChecks}
+use Rattle.records.specs.Record.{recordLength, recordChecks}
 use Rattle.key_text.proofs.Joined.{refused-text-length}
 use Rattle.key_text.proofs.Answering.{question-whole, question-refused}
 use Rattle.key_text.proofs.put_key.Statement.{statement}
@@ -22,9 +22,9 @@ begin c = c .before .before .before
 judged : (c : tie.After-check-record) (v : Verdict) → c .check-record .result ≡ v → Judged (recordChecks (begin c .args .input .now) 3 0) v
 judged c v e = rw e at (c .check-record .ensures)
 
--- the part of the bytes from the tenth on is all of them
-rest : (b : List ℕ) → drop 9 b ≡ take (length b - 9) (drop 9 b)
-rest b = sym (ap (λ n. take n (drop 9 b)) (sym (length-drop 9 b)) ∙ take-length (drop 9 b))
+-- the part of the bytes after the question's record is all of them
+rest : (b : List ℕ) (n : ℕ) → n ≡ recordLength 3 → drop (recordLength 3) b ≡ take (length b - n) (drop n b)
+rest b n e = ap (λ k. drop k b) (sym e) ∙ sym (ap (λ m. take m (drop n b)) (sym (length-drop n b)) ∙ take-length (drop n b))
 
 -- ── 1 or 2 ──
 check-record-requires : tie.Need-check-record-requires
@@ -69,11 +69,14 @@ read-u16-requires-2 c κs = omega (arith, whole (c .before))
 read-i32-requires : tie.Need-read-i32-requires
 read-i32-requires c κs = omega (arith, whole (c .before .before))
 
+record-length-requires : tie.Need-record-length-requires
+record-length-requires c κs = search needs
+
 sub-put-answer : tie.Need-sub-put-answer
-sub-put-answer c = omega (arith, whole (c .before .before .before))
+sub-put-answer c = omega (arith, whole (c .before .before .before .before), c .record-length .ensures .0)
 
 part-put-answer-start : tie.Need-part-put-answer-start
-part-put-answer-start c = omega (arith, whole (c .before .before .before))
+part-put-answer-start c = omega (arith, whole (c .before .before .before .before), c .record-length .ensures .0)
 
 part-put-answer-end : tie.Need-part-put-answer-end
 part-put-answer-end c = search needs
@@ -87,9 +90,11 @@ same-length-2 c = search needs
 returns-2 : tie.Need-returns-2
 returns-2 c =
     let p = c .before .before in
-    let i = p .before .before .before in
+    let r = p .before .before .before in
+    let i = r .before in
     let t = i .before .before .before in
-    p .put-answer .ensures (begin (t .before .before) .args .input .now) (passed t) (rest (begin (t .before .before) .args .input .now)) (sym (i .before .before .read-u16 .ensures)) (sym (i .before .read-u162 .ensures))
+    let b = begin (t .before .before) .args .input .now in
+    p .put-answer .ensures b (passed t) (rest b _ (r .record-length .ensures .0)) (sym (i .before .before .read-u16 .ensures)) (sym (i .before .read-u162 .ensures))
     (sym (number-of-bits _ (record { sfits = i .read-i32 .ok }) ∙ i .read-i32 .ensures))
 
 pub put-key-spec : {M : Type 1} → statement M
@@ -105,6 +110,7 @@ put-key-spec =
     read-u16-requires
     read-u16-requires-2
     read-i32-requires
+    record-length-requires
     sub-put-answer
     part-put-answer-start
     part-put-answer-end

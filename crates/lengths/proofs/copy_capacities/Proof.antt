@@ -10,7 +10,7 @@ use borrow.Author.Needs.{read-below, needs}
 use mir.Syntax.{w32}
 use mir.Val.{toZ, ofZ}
 use Rattle.signed.proofs.Laws.{number-of-bits}
-use Rattle.lengths.specs.Filling.{atℤ}
+use Rattle.arrays.specs.At.{atℤ}
 use Rattle.lengths.proofs.copy_capacities.Statement.{statement}
 use Rattle.lengths.proofs.copy_capacities.Tie as tie
 

@@ -5,7 +5,7 @@ use lib.ListN.{length}
 use borrow.Author.Needs.{needs}
 use mir.Syntax.{w32}
 use mir.Val.{toZ}
-use Rattle.lengths.specs.Filling.{at, atℤ}
+use Rattle.arrays.specs.At.{at, atℤ}
 use Rattle.lengths.proofs.Place.{spot}
 use Rattle.lengths.proofs.Backing.{Backing, backing-start, reached-in, backing-end, origin-in, nearer, backing-turned, edge-fresh, backing-carried, by-bits, from-bits}
 use Rattle.lengths.proofs.fill_lengths.Statement.{statement}
@@ -58,7 +58,7 @@ carry-requires c κs =
     let p = w .before .before .before .pre in
     let ok = by-bits (p .1) in
     let t = c .before in
-    let is-x = t .if1 .taken ∙ t .before .reverse .ensures in
+    let is-x = t .if1 .taken ∙ t .before .reverse .ensures .0 in
     let r = edge-fresh ok (o .inv .1) (t .before .before .before .before .loop-test .taken) (t .before .before .wide .ensures) is-x in
     (o .inv .0, omega (arith, r .0, ok .few), omega (arith, r .1, ok .few), r .2, r .3, r .4, ok .small)
 
@@ -77,7 +77,7 @@ loop-again c =
     let p = w .before .before .before .pre in
     let ok = by-bits (p .1) in
     let t = c .before .before in
-    let is-x = t .if1 .taken ∙ t .before .reverse .ensures in
+    let is-x = t .if1 .taken ∙ t .before .reverse .ensures .0 in
     let e = c .carry .ensures in
     (e .0, backing-carried ok (o .inv .1) (c .before .before .before .before .before .before .loop-test .taken) (c .before .before .before .before .wide .ensures) is-x (e .1))
 
@@ -95,7 +95,7 @@ loop-again-2 c =
     let o = w .loop in
     let p = w .before .before .before .pre in
     let ok = by-bits (p .1) in
-    (o .inv .0, backing-turned ok (o .inv .1) (c .before .before .before .before .loop-test .taken) (c .before .before .wide .ensures) (λ e. c .if1 .left (e ∙ sym (c .before .reverse .ensures))))
+    (o .inv .0, backing-turned ok (o .inv .1) (c .before .before .before .before .loop-test .taken) (c .before .before .wide .ensures) (λ e. c .if1 .left (e ∙ sym (c .before .reverse .ensures .0))))
 
 returns : tie.Need-returns Inv-loop μ-loop
 returns c =

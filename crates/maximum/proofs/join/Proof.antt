@@ -8,31 +8,31 @@ use mir.Val.{toZ, ofZ}
 use borrow.Author.Needs.{needs}
 use Rattle.integers.proofs.Laws.{lt-of-test, ge-of-test}
 use Rattle.signed.proofs.Laws.{number-of-bits}
-use Rattle.faces.specs.Cut.{union}
-use Rattle.traversal.specs.Arrays.{at, atℤ}
-use Rattle.thresholds.specs.Cut.{cutOf}
-use Rattle.node_flags.specs.Flags.{flagged}
+use Rattle.maps.specs.Cut.{union}
+use Rattle.arrays.specs.At.{at, atℤ}
+use Rattle.cuts.specs.Cut.{cutOf}
+use Rattle.arrays.specs.Flags.{flagged}
 use Rattle.maximum.proofs.Joining.{cut-flags}
 use Rattle.maximum.proofs.join.Statement.{statement}
 use Rattle.maximum.proofs.join.Tie as tie
 
 -- the flags that are united have the cut of the union
-abbrev UnionTotal : tie.After-cut-of → Type 0
+abbrev UnionTotal : tie.After-capacity → Type 0
 UnionTotal c =
     let s = c .before .before .before .before .before in
-    toZ w32 (ofZ w32 (c .cut-of .result))
+    toZ w32 (ofZ w32 (c .capacity .result))
     ≡ cutOf (s .args .darts) (at (s .args .tails .now)) (atℤ (s .args .capacities .now)) (union (flagged (s .args .a .now)) (flagged (s .args .b .now)))
 
-union-total : (c : tie.After-cut-of) → UnionTotal c
+union-total : (c : tie.After-capacity) → UnionTotal c
 union-total c =
     let s = c .before .before .before .before .before in
-    number-of-bits _ (record { sfits = c .cut-of .ok }) ∙ c .cut-of .ensures ∙ cut-flags _ _ _ _ _ (s .pre .2) (s .pre .3) (c .before .before .unite .ensures .1)
+    number-of-bits _ (record { sfits = c .capacity .ok }) ∙ c .capacity .ensures ∙ cut-flags _ _ _ _ _ (s .pre .2) (s .pre .3) (c .before .before .unite .ensures .1)
 
 unite-requires : tie.Need-unite-requires
 unite-requires c κs = search needs
 
-cut-of-requires : tie.Need-cut-of-requires
-cut-of-requires c κs = search needs
+capacity-requires : tie.Need-capacity-requires
+capacity-requires c κs = search needs
 
 is-less-requires : tie.Need-is-less-requires
 is-less-requires c κs = search needs
@@ -74,7 +74,7 @@ join-spec =
     tie.close
     (tie.spec
     unite-requires
-    cut-of-requires
+    capacity-requires
     is-less-requires
     copy-flags-requires
     returns

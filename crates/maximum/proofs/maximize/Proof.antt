@@ -16,14 +16,14 @@ use Rattle.integers.proofs.Laws.{ge-of-test, lt-of-test}
 use Rattle.integers.proofs.Limits.{limited-more, limited-neg}
 use Rattle.signed.proofs.Laws.{number-of-bits}
 use Rattle.signed.proofs.Limits.{same-bits}
-use Rattle.faces.specs.Map.{Map}
+use Rattle.maps.specs.Map.{Map}
 use Rattle.flows.proofs.ValueBound.{cut-small}
-use Rattle.traversal.specs.Arrays.{at, atℤ}
-use Rattle.sheets.proofs.Reading.{filled-length}
-use Rattle.thresholds.specs.Cut.{cutOf}
-use Rattle.thresholds.proofs.Found.{cut-of}
-use Rattle.node_flags.specs.Flags.{flagged}
-use Rattle.solver.specs.Question.{mapOf}
+use Rattle.arrays.specs.At.{at, atℤ}
+use Rattle.arrays.proofs.FillLoops.{filled-length}
+use Rattle.cuts.specs.Cut.{cutOf}
+use Rattle.cuts.proofs.CutOfMap.{cut-of}
+use Rattle.arrays.specs.Flags.{flagged}
+use Rattle.arrays.specs.Maps.{mapOf}
 use Rattle.solver.specs.Decision.{Decided}
 use Rattle.maximum.specs.Bracket.{Bracket}
 use Rattle.maximum.specs.Maximum.{Maximized}
@@ -33,11 +33,11 @@ use Rattle.maximum.proofs.maximize.Statement.{statement}
 use Rattle.maximum.proofs.maximize.Tie as tie
 
 abbrev Inv-loop : tie.InvT-loop
-Inv-loop tails rotations lefts capacities nodes edges root source sink flows₀ a₀ b₀ inside₀ high₀ low₀ found₀ top₀ flows a b inside high low found top =
-    Probing (mapOf nodes edges tails rotations) root (atℤ capacities) source sink flows₀ flows a b inside (toZ w32 low) (toZ w32 high) found
+Inv-loop tails rotations lefts capacities nodes edges faces outer source sink flows₀ a₀ b₀ inside₀ high₀ low₀ found₀ top₀ flows a b inside high low found top =
+    Probing (mapOf nodes edges tails rotations) outer (atℤ capacities) source sink flows₀ flows a b inside (toZ w32 low) (toZ w32 high) found
 
 abbrev μ-loop : tie.MeasureT-loop
-μ-loop tails rotations lefts capacities nodes edges root source sink flows₀ a₀ b₀ inside₀ high₀ low₀ found₀ top₀ flows a b inside high low found top =
+μ-loop tails rotations lefts capacities nodes edges faces outer source sink flows₀ a₀ b₀ inside₀ high₀ low₀ found₀ top₀ flows a b inside high low found top =
     gap (toZ w32 low) (toZ w32 high) found
 
 -- ── what the function is given ──
@@ -71,19 +71,19 @@ flag-one-requires c κs = let p = c .before .pre in (p .0, omega (arith, p .4 .s
 flag-one-requires-2 : tie.Need-flag-one-requires-2 Inv-loop μ-loop
 flag-one-requires-2 c κs = let p = c .before .before .before .pre in (refl, omega (arith, p .4 .sink-in, p .3 .few-nodes))
 
-mul-cut-of : tie.Need-mul-cut-of Inv-loop μ-loop
-mul-cut-of c = omega (arith, c .before .before .before .before .before .pre .3 .few-edges)
+mul-capacity : tie.Need-mul-capacity Inv-loop μ-loop
+mul-capacity c = omega (arith, c .before .before .before .before .before .pre .3 .few-edges)
 
-cut-of-requires : tie.Need-cut-of-requires Inv-loop μ-loop
-cut-of-requires c κs =
+capacity-requires : tie.Need-capacity-requires Inv-loop μ-loop
+capacity-requires c κs =
     let b = c .before .before .before .before .before in
     (omega (arith, b .pre .3 .few-edges), omega arith, tails-in b, caps-in b)
 
-mul-cut-of-2 : tie.Need-mul-cut-of-2 Inv-loop μ-loop
-mul-cut-of-2 c = omega (arith, c .before .before .before .before .before .before .before .pre .3 .few-edges)
+mul-capacity-2 : tie.Need-mul-capacity-2 Inv-loop μ-loop
+mul-capacity-2 c = omega (arith, c .before .before .before .before .before .before .before .pre .3 .few-edges)
 
-cut-of-requires-2 : tie.Need-cut-of-requires-2 Inv-loop μ-loop
-cut-of-requires-2 c κs =
+capacity-requires-2 : tie.Need-capacity-requires-2 Inv-loop μ-loop
+capacity-requires-2 c κs =
     let b = c .before .before .before .before .before .before .before in
     (omega (arith, b .pre .3 .few-edges), omega arith, tails-in b, caps-in b)
 
@@ -94,11 +94,11 @@ small-cut c S total e = subst (Limited 512000000) (sym (e ∙ sym (cut-of (𝓜 
 bits-limited : {b : ℕ} {x : ℤ} → b < 2147483648 → Limited b x → Limited b (toZ w32 (ofZ w32 x))
 bits-limited {b} l h = subst (Limited b) (sym (same-bits l h)) h
 
-abbrev first : tie.After-cut-of2 Inv-loop μ-loop → tie.Start Inv-loop μ-loop
+abbrev first : tie.After-capacity2 Inv-loop μ-loop → tie.Start Inv-loop μ-loop
 first c = c .before .before .before .before .before .before .before .before
 
-second-small : (c : tie.After-cut-of2 Inv-loop μ-loop) → Limited 512000000 (c .cut-of2 .result)
-second-small c = small-cut (first c) (flagged (c .before .before .before .before .flag-one2 .last .1 .0)) (c .cut-of2 .result) (c .cut-of2 .ensures)
+second-small : (c : tie.After-capacity2 Inv-loop μ-loop) → Limited 512000000 (c .capacity2 .result)
+second-small c = small-cut (first c) (flagged (c .before .before .before .before .flag-one2 .last .1 .0)) (c .capacity2 .result) (c .capacity2 .ensures)
 
 negate-requires : tie.Need-negate-requires Inv-loop μ-loop
 negate-requires c κs = limited-more (omega arith) (bits-limited (omega arith) (second-small c))
@@ -111,7 +111,7 @@ loop-holds c =
     let f1 = f2 .before .before in
     let A = f1 .flag-one .last .1 .0 in
     let B = f2 .flag-one2 .last .1 .0 in
-    let o = k .before .before .cut-of in
+    let o = k .before .before .capacity in
     let is-low = c .negate .ensures ∙ ap negℤ (same-bits (omega arith) (second-small k)) in
     record {
       size-a = f1 .flag-one .ensures .0;
@@ -119,10 +119,10 @@ loop-holds c =
       size-inside = refl;
       size-flows = refl;
       bracket =
-          begins (b .args .root) (ground b) (b .args .flows .now) A B _ _
+          begins (b .args .outer) (ground b) (b .args .flows .now) A B _ _
           (f1 .flag-one .ensures .1) (f2 .flag-one2 .ensures .1)
           (same-bits (omega arith) (small-cut b (flagged A) (o .result) (o .ensures)) ∙ o .ensures)
-          (same-bits (omega arith) (subst (Limited 512000000) (sym is-low) (limited-neg (second-small k))) ∙ is-low ∙ ap negℤ (k .cut-of2 .ensures));
+          (same-bits (omega arith) (subst (Limited 512000000) (sym is-low) (limited-neg (second-small k))) ∙ is-low ∙ ap negℤ (k .capacity2 .ensures));
     }
 
 -- ── in the loop ──
@@ -152,10 +152,10 @@ finished-requires c κs = search needs
 
 -- the bounds are small
 lo-small : (c : tie.At-loop Inv-loop μ-loop) → Limited 512000000 (lo c)
-lo-small c = low-small (start c .args .root) (ground (start c)) _ _ (flagged (c .loop .b)) (lo c) (c .loop .found) (c .loop .inv .bracket .floor)
+lo-small c = low-small (start c .args .outer) (ground (start c)) _ _ (flagged (c .loop .b)) (lo c) (c .loop .found) (c .loop .inv .bracket .floor)
 
 hi-small : (c : tie.At-loop Inv-loop μ-loop) → Limited 512000000 (hi c)
-hi-small c = high-small (start c .args .root) (ground (start c)) (c .loop .inv .bracket .ceiling)
+hi-small c = high-small (start c .args .outer) (ground (start c)) (c .loop .inv .bracket .ceiling)
 
 -- and in order, where they have not passed each other
 abbrev looping : tie.Else2 Inv-loop μ-loop → tie.At-loop Inv-loop μ-loop
@@ -204,17 +204,17 @@ abbrev asked : tie.After-decide Inv-loop μ-loop → tie.After-next-value Inv-lo
 asked c = c .before .before .before
 
 abbrev flows' : tie.After-decide Inv-loop μ-loop → List ℤ
-flows' c = c .decide .last .1 .1 .1 .1 .1 .1 .1 .1 .1 .1 .0
+flows' c = c .decide .last .1 .1 .1 .1 .1 .1 .1 .1 .1 .1 .1 .0
 
 abbrev inside' : tie.After-decide Inv-loop μ-loop → List ℕ
-inside' c = c .decide .last .1 .1 .1 .1 .1 .1 .1 .1 .1 .1 .1 .0
+inside' c = c .decide .last .1 .1 .1 .1 .1 .1 .1 .1 .1 .1 .1 .1 .0
 
 decided : (c : tie.After-decide Inv-loop μ-loop) {r : Bool} → c .decide .result ≡ r
-    → Decided (𝓜 (start (top (asked c)))) (start (top (asked c)) .args .root) (caps (start (top (asked c)))) (src (start (top (asked c)))) (snk (start (top (asked c)))) (value (asked c))
+    → Decided (𝓜 (start (top (asked c)))) (start (top (asked c)) .args .outer) (caps (start (top (asked c)))) (src (start (top (asked c)))) (snk (start (top (asked c)))) (value (asked c))
     (top (asked c) .loop .flows) (flows' c) (inside' c) r
 decided c e =
     let b = start (top (asked c)) in
-    subst (Decided (𝓜 b) (b .args .root) (caps b) (src b) (snk b) (value (asked c)) (top (asked c) .loop .flows) (flows' c) (inside' c)) e (c .decide .ensures .1)
+    subst (Decided (𝓜 b) (b .args .outer) (caps b) (src b) (snk b) (value (asked c)) (top (asked c) .loop .flows) (flows' c) (inside' c)) e (c .decide .ensures .1)
 
 loop-less : tie.Need-loop-less Inv-loop μ-loop
 loop-less c =
@@ -234,7 +234,7 @@ loop-again c =
       size-b = i .size-b;
       size-inside = k .decide .ensures .0;
       size-flows = filled-length _ _ (l .loop .flows) (flows' k) (d .2) (omega (arith, b .pre .1, i .size-flows)) ∙ i .size-flows;
-      bracket = carried (b .args .root) (ground b) (b .args .flows .now) (l .loop .flows) (l .loop .a) (l .loop .b) (lo l) (hi l) (l .loop .found) (i .bracket) (value n) (flows' k) (inside' k) d;
+      bracket = carried (b .args .outer) (ground b) (b .args .flows .now) (l .loop .flows) (l .loop .a) (l .loop .b) (lo l) (hi l) (l .loop .found) (i .bracket) (value n) (flows' k) (inside' k) d;
     }
 
 -- ── it cannot be: the set moves a bound, or shows that there is nothing ──
@@ -269,7 +269,7 @@ refused : (c : tie.After-narrow-by Inv-loop μ-loop) → probed c .decide .resul
 refused c = c .before .before .before .before .if3 .left
 
 moved : (c : tie.After-narrow-by Inv-loop μ-loop) → c .narrow-by .result .none ≡ false
-    → Bracket (𝓜 (start (top (asked (probed c))))) (start (top (asked (probed c))) .args .root) (caps (start (top (asked (probed c))))) (src (start (top (asked (probed c))))) (snk (start (top (asked (probed c)))))
+    → Bracket (𝓜 (start (top (asked (probed c))))) (start (top (asked (probed c))) .args .outer) (caps (start (top (asked (probed c))))) (src (start (top (asked (probed c))))) (snk (start (top (asked (probed c)))))
     (start (top (asked (probed c))) .args .flows .now) (top (asked (probed c)) .loop .flows) (a' c) (b' c) (c .narrow-by .result .low) (c .narrow-by .result .high) (top (asked (probed c)) .loop .found)
     × (gap (c .narrow-by .result .low) (c .narrow-by .result .high) (top (asked (probed c)) .loop .found) < gap (lo (top (asked (probed c)))) (hi (top (asked (probed c)))) (top (asked (probed c)) .loop .found))
 moved c e =
@@ -279,7 +279,7 @@ moved c e =
     let b = start l in
     let r = c .narrow-by .ensures .2 in
     let d = decided k (refused c) in
-    narrowed (b .args .root) (ground b) (b .args .flows .now) (l .loop .flows) (l .loop .a) (l .loop .b) (lo l) (hi l) (l .loop .found) (l .loop .inv .bracket)
+    narrowed (b .args .outer) (ground b) (b .args .flows .now) (l .loop .flows) (l .loop .a) (l .loop .b) (lo l) (hi l) (l .loop .found) (l .loop .inv .bracket)
     (value n) (at-least n) (at-most n) (inside' k) (d .1) (a' c) (b' c) (c .narrow-by .result) (r .0) (r .1) (r .2) e
 
 loop-less-2 : tie.Need-loop-less-2 Inv-loop μ-loop
@@ -288,7 +288,7 @@ loop-less-2 c =
     let l = top (asked (probed m)) in
     let b = start l in
     let r = moved m (c .before .before .if4 .left) in
-    bits-gap (b .args .root) (ground b) _ _ (a' m) (b' m) _ _ (l .loop .found) (r .0) _ (r .1)
+    bits-gap (b .args .outer) (ground b) _ _ (a' m) (b' m) _ _ (l .loop .found) (r .0) _ (r .1)
 
 loop-again-2 : tie.Need-loop-again-2 Inv-loop μ-loop
 loop-again-2 c =
@@ -303,7 +303,7 @@ loop-again-2 c =
       size-b = m .narrow-by .ensures .1;
       size-inside = k .decide .ensures .0;
       size-flows = ap length (d .0) ∙ l .loop .inv .size-flows;
-      bracket = same-bracket (d .0) (bits-bracket (b .args .root) (ground b) _ _ (a' m) (b' m) _ _ (l .loop .found) (r .0));
+      bracket = same-bracket (d .0) (bits-bracket (b .args .outer) (ground b) _ _ (a' m) (b' m) _ _ (l .loop .found) (r .0));
     }
 
 -- ── the ways out ──
@@ -316,7 +316,7 @@ returns c =
     let l = t .before .before in
     let b = start l in (
       c .join .ensures .0,
-      passed (b .args .root) (ground b) (b .args .flows .now) (l .loop .flows) (l .loop .a) (l .loop .b) (lo l) (hi l) (l .loop .found) (l .loop .inv .bracket)
+      passed (b .args .outer) (ground b) (b .args .flows .now) (l .loop .flows) (l .loop .a) (l .loop .b) (lo l) (hi l) (l .loop .found) (l .loop .inv .bracket)
           (lt-of-test _ _ (sym (t .before .is-less .ensures) ∙ t .if1 .taken)) (c .join .last .1 .1 .1 .0) (c .join .ensures .1),
     )
 
@@ -328,7 +328,7 @@ returns-2 c =
     let l = c .before .before .before .before in
     let b = start l in
     let r = c .before .finished .ensures .0 (c .if2 .taken) in
-    (l .loop .inv .size-a, met (b .args .root) (ground b) (b .args .flows .now) (l .loop .flows) (l .loop .a) (l .loop .b) (lo l) (hi l) (l .loop .found) (l .loop .inv .bracket) (r .0) (r .1))
+    (l .loop .inv .size-a, met (b .args .outer) (ground b) (b .args .flows .now) (l .loop .flows) (l .loop .a) (l .loop .b) (lo l) (hi l) (l .loop .found) (l .loop .inv .bracket) (r .0) (r .1))
 
 same-length-3 : tie.Need-same-length-3 Inv-loop μ-loop
 same-length-3 c = search needs
@@ -342,7 +342,7 @@ returns-3 c =
     let b = start l in
     let r = m .narrow-by .ensures .2 in
     let d = decided k (refused m) in
-    let h = nothing (b .args .root) (ground b) (b .args .flows .now) (l .loop .flows) (l .loop .a) (l .loop .b) (lo l) (hi l) (l .loop .found) (l .loop .inv .bracket)
+    let h = nothing (b .args .outer) (ground b) (b .args .flows .now) (l .loop .flows) (l .loop .a) (l .loop .b) (lo l) (hi l) (l .loop .found) (l .loop .inv .bracket)
     (value n) (at-least n) (at-most n) (inside' k) (d .1) (a' m) (b' m) (m .narrow-by .result) (r .0) (r .1) (r .2) (c .if4 .taken) in
     (m .narrow-by .ensures .0, (d .0 ∙ h .0, h .1, h .2))
 
@@ -354,10 +354,10 @@ maximize-spec =
     μ-loop
     flag-one-requires
     flag-one-requires-2
-    mul-cut-of
-    cut-of-requires
-    mul-cut-of-2
-    cut-of-requires-2
+    mul-capacity
+    capacity-requires
+    mul-capacity-2
+    capacity-requires-2
     negate-requires
     loop-holds
     is-less-requires

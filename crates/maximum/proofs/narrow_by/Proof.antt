@@ -11,9 +11,10 @@ use denote.Enum.Declared.{tagOf}
 use borrow.Author.Needs.{needs}
 use Rattle.integers.specs.Limited.{Limited}
 use Rattle.signed.proofs.Laws.{number-of-bits}
-use Rattle.traversal.specs.Arrays.{at, atℤ}
-use Rattle.thresholds.specs.Cut.{cutOf}
-use Rattle.node_flags.specs.Flags.{flagged, Sided}
+use Rattle.arrays.specs.At.{at, atℤ}
+use Rattle.cuts.specs.Cut.{cutOf}
+use Rattle.node_flags.specs.Flags.{Sided}
+use Rattle.arrays.specs.Flags.{flagged}
 use Rattle.node_flags.specs.declared.Side.{Side}
 use Rattle.node_flags.specs.declared.Side.the-variants as side
 use Rattle.node_flags.proofs.Side as tags
@@ -30,13 +31,13 @@ third side.Sink g (inr e) = absurd (omega arith)
 third side.Beside g h = refl
 
 -- the total is the cut of the flagged nodes
-abbrev Total : tie.After-cut-of → Type 0
+abbrev Total : tie.After-capacity → Type 0
 Total c =
     let s = c .before in
-    toZ w32 (ofZ w32 (c .cut-of .result)) ≡ cutOf (s .args .darts) (at (s .args .tails .now)) (atℤ (s .args .capacities .now)) (flagged (s .args .inside .now))
+    toZ w32 (ofZ w32 (c .capacity .result)) ≡ cutOf (s .args .darts) (at (s .args .tails .now)) (atℤ (s .args .capacities .now)) (flagged (s .args .inside .now))
 
-total-is : (c : tie.After-cut-of) → Total c
-total-is c = number-of-bits _ (record { sfits = c .cut-of .ok }) ∙ c .cut-of .ensures
+total-is : (c : tie.After-capacity) → Total c
+total-is c = number-of-bits _ (record { sfits = c .capacity .ok }) ∙ c .capacity .ensures
 
 -- the set lies on the side that was told
 abbrev OnSide : tie.After-side-of → Side → Type 0
@@ -47,8 +48,8 @@ OnSide c r =
 on-side : (c : tie.After-side-of) (r : Side) → c .side-of .result ≡ r → OnSide c r
 on-side c r e = subst (OnSide c) e (c .side-of .ensures)
 
-cut-of-requires : tie.Need-cut-of-requires
-cut-of-requires c κs = search needs
+capacity-requires : tie.Need-capacity-requires
+capacity-requires c κs = search needs
 
 side-of-requires : tie.Need-side-of-requires
 side-of-requires c κs = search needs
@@ -126,7 +127,7 @@ pub narrow-by-spec : {M : Type 1} → statement M
 narrow-by-spec =
     tie.close
     (tie.spec
-    cut-of-requires
+    capacity-requires
     side-of-requires
     enum-told
     copy-flags-requires

@@ -1,6 +1,6 @@
 -- `node_flags::both` meets its contract: the second flag counts where the first is 1.
 use Rattle.integers.proofs.Tests.{eqb-true, eqb-false}
-use Rattle.thresholds.proofs.Adding.{and-yes, and-no}
+use Rattle.cuts.proofs.Adding.{and-yes, and-no}
 use Rattle.node_flags.proofs.both.Statement.{statement}
 use Rattle.node_flags.proofs.both.Tie as tie
 

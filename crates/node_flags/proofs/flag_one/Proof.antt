@@ -5,7 +5,7 @@ use Prim.Native.Nat.{_-_}
 use native.Mathlib.Omega.{arith}
 use lib.ListN.{length-set}
 use borrow.Author.Needs.{needs}
-use Rattle.node_flags.proofs.Filling.{Filled, filled-start, filled-step, one-flagged}
+use Rattle.node_flags.proofs.FillingFlags.{Filled, filled-start, filled-step, one-flagged}
 use Rattle.node_flags.proofs.flag_one.Statement.{statement}
 use Rattle.node_flags.proofs.flag_one.Tie as tie
 

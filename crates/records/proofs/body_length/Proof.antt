@@ -9,11 +9,9 @@ array-read-result : tie.Need-array-read-result
 array-read-result c = search needs
 
 returns : tie.Need-returns
-unfolding bodyLength
 returns c = simp (lt-ltb _ _ (c .if1 .taken))
 
 returns-2 : tie.Need-returns-2
-unfolding bodyLength
 returns-2 c = simp (le-ltb _ _ (c .if1 .left))
 
 pub body-length-spec : {M : Type 1} → statement M

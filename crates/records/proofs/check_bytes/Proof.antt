@@ -68,23 +68,20 @@ loop-again c =
     let i = c .before .before .before .before .loop in
     (omega arith, i .inv .1, i .inv .2, i .inv .3, i .inv .4, below-more _ (i .e) (i .inv .5) (rw (c .enum-told2 .given .1) at (c .before .before .check-edge-record .ensures)))
 
-mul-if1 : tie.Need-mul-if1 Inv-loop μ-loop
-mul-if1 c = search needs
-
-add-if1 : tie.Need-add-if1 Inv-loop μ-loop
-add-if1 c = search needs
+edge-at-requires : tie.Need-edge-at-requires Inv-loop μ-loop
+edge-at-requires c κs = search needs
 
 returns-3 : tie.Need-returns-3 Inv-loop μ-loop
 unfolding FirstOf
 returns-3 c =
-    let i = c .before .before .loop in
-    refused-left _ (i .inv .4) (λ k l. i .inv .5 k (omega arith)) (inl (omega arith, refl, refl))
+    let i = c .before .before .before .loop in
+    refused-left _ (i .inv .4) (λ k l. i .inv .5 k (omega arith)) (inl (omega (arith, c .before .edge-at .ensures, i .inv .3), refl, refl))
 
 returns-4 : tie.Need-returns-4 Inv-loop μ-loop
 unfolding NoneOf
 returns-4 c =
-    let i = c .before .before .loop in
-    all-passed _ (i .inv .4) (λ k l. i .inv .5 k (omega arith)) (λ l. omega arith, tt)
+    let i = c .before .before .before .loop in
+    all-passed _ (i .inv .4) (λ k l. i .inv .5 k (omega arith)) (λ l. omega (arith, c .before .edge-at .ensures, i .inv .3), tt)
 
 pub check-bytes-spec : {M : Type 1} → statement M
 check-bytes-spec =
@@ -106,7 +103,6 @@ check-bytes-spec =
     add-e
     loop-less
     loop-again
-    mul-if1
-    add-if1
+    edge-at-requires
     returns-3
     returns-4)

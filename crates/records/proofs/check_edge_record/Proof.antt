@@ -1,19 +1,23 @@
--- `records::check_edge_record` meets its contract: the record, and then its fields, as they stand in it.
+-- `check_edge_record` meets its contract: the record, and then its fields, as they stand in it.
+use mathlib.Core.Path.{_≡_, _∙_, ap, subst}
+use Prim.Native.Nat.{_+_, _≤_}
+use lib.ListN.{length}
+use Rattle.fields.specs.Fields.{u16At, i32At}
+use Rattle.refusals.specs.Order.{Judged}
+use Rattle.refusals.specs.declared.Verdict.{Verdict}
+use Rattle.records.specs.Record.{recordChecks}
 use native.Mathlib.Omega.{arith}
 use Rattle.signed.proofs.Laws.{number-of-bits}
 use Rattle.refusals.proofs.Order.{first-left, judged-right}
-use Rattle.records.specs.Sheet.{edgeRecordChecks}
+use Rattle.records.specs.Sheet.{edgeAt, edgeRecordChecks}
 use Rattle.records.proofs.Record.{edge-body}
 use Rattle.records.proofs.Fields.{edge-fields}
 use borrow.Author.Needs.{needs}
 use Rattle.records.proofs.check_edge_record.Statement.{statement}
 use Rattle.records.proofs.check_edge_record.Tie as tie
 
-mul-at : tie.Need-mul-at
-mul-at c = search needs
-
-add-at : tie.Need-add-at
-add-at c = search needs
+edge-at-requires : tie.Need-edge-at-requires
+edge-at-requires c κs = search needs
 
 check-record-requires : tie.Need-check-record-requires
 check-record-requires c κs = search needs
@@ -21,48 +25,61 @@ check-record-requires c κs = search needs
 enum-known-whole : tie.Need-enum-known-whole
 enum-known-whole c = search needs
 
+-- the record begins where the table has it
+judged : (c : tie.After-check-record) (v : Verdict) → c .check-record .result ≡ v → Judged (recordChecks (c .before .before .before .args .s .now) 2 (edgeAt (c .before .before .before .args .e))) v
+judged c v e = subst (λ n. Judged (recordChecks (c .before .before .before .args .s .now) 2 n) v) (c .before .edge-at .ensures) (subst (Judged _) e (c .check-record .ensures))
+
 returns : tie.Need-returns
 unfolding edgeRecordChecks
-returns c = first-left _ _ _ _ (rw (c .before .whole .given .1) at (c .before .before .before .check-record .ensures))
+returns c = first-left _ _ _ _ (judged (c .before .before .before) _ (c .before .whole .given .1))
 
 enum-told : tie.Need-enum-told
 enum-told c = search needs
+
+-- and is whole
+whole : (c : tie.After-enum-told) → c .before .before .before .edge-at .result + 17 ≤ length (c .before .before .before .before .before .args .s .now)
+whole c =
+    omega (
+      arith,
+      c .before .before .before .edge-at .ensures,
+      edge-body _ (c .before .before .before .before .before .args .e) (judged (c .before .before) _ (c .enum-told .given .1)),
+    )
 
 add-read-wide : tie.Need-add-read-wide
 add-read-wide c = search needs
 
 read-wide-requires : tie.Need-read-wide-requires
-read-wide-requires c κs = omega (arith, edge-body _ (c .before .before .before .before .args .e) (rw (c .enum-told .given .1) at (c .before .before .check-record .ensures)))
+read-wide-requires c κs = omega (arith, whole c)
 
 add-read-wide-2 : tie.Need-add-read-wide-2
 add-read-wide-2 c = search needs
 
 read-wide-requires-2 : tie.Need-read-wide-requires-2
-read-wide-requires-2 c κs = omega (arith, edge-body _ (c .before .before .before .before .before .args .e) (rw (c .before .enum-told .given .1) at (c .before .before .before .check-record .ensures)))
+read-wide-requires-2 c κs = omega (arith, whole (c .before))
 
 add-read-wide-3 : tie.Need-add-read-wide-3
 add-read-wide-3 c = search needs
 
 read-wide-requires-3 : tie.Need-read-wide-requires-3
-read-wide-requires-3 c κs = omega (arith, edge-body _ (c .before .before .before .before .before .before .args .e) (rw (c .before .before .enum-told .given .1) at (c .before .before .before .before .check-record .ensures)))
+read-wide-requires-3 c κs = omega (arith, whole (c .before .before))
 
 add-read-wide-4 : tie.Need-add-read-wide-4
 add-read-wide-4 c = search needs
 
 read-wide-requires-4 : tie.Need-read-wide-requires-4
-read-wide-requires-4 c κs = omega (arith, edge-body _ (c .before .before .before .before .before .before .before .args .e) (rw (c .before .before .before .enum-told .given .1) at (c .before .before .before .before .before .check-record .ensures)))
+read-wide-requires-4 c κs = omega (arith, whole (c .before .before .before))
 
 add-read-i32 : tie.Need-add-read-i32
 add-read-i32 c = search needs
 
 read-i32-requires : tie.Need-read-i32-requires
-read-i32-requires c κs = omega (arith, edge-body _ (c .before .before .before .before .before .before .before .before .args .e) (rw (c .before .before .before .before .enum-told .given .1) at (c .before .before .before .before .before .before .check-record .ensures)))
+read-i32-requires c κs = omega (arith, whole (c .before .before .before .before))
 
 add-read-i32-2 : tie.Need-add-read-i32-2
 add-read-i32-2 c = search needs
 
 read-i32-requires-2 : tie.Need-read-i32-requires-2
-read-i32-requires-2 c κs = omega (arith, edge-body _ (c .before .before .before .before .before .before .before .before .before .args .e) (rw (c .before .before .before .before .before .enum-told .given .1) at (c .before .before .before .before .before .before .before .check-record .ensures)))
+read-i32-requires-2 c κs = omega (arith, whole (c .before .before .before .before .before))
 
 check-fields-requires : tie.Need-check-fields-requires
 check-fields-requires c κs = search needs
@@ -77,29 +94,30 @@ returns-2 c =
     let second = third .before in
     let first = second .before in
     let told = first .before in
-    let start = told .before .before .before .before in
+    let start = told .before .before .before .before .before in
+    let s = start .args .s .now in
+    let here = told .before .before .before .edge-at .ensures in
     judged-right _ _ (c .check-fields .result)
-    (rw (told .enum-told .given .1) at (told .before .before .check-record .ensures))
+    (judged (told .before .before) _ (told .enum-told .given .1))
     (rw (edge-fields (start .args .s .now) (start .args .e) (omega arith))
     (rw (
       start .pre .2,
       start .pre .3,
-      first .read-wide .ensures,
-      second .read-wide2 .ensures,
-      third .read-wide3 .ensures,
-      fourth .read-wide4 .ensures,
+      first .read-wide .ensures ∙ ap (λ n. u16At s (n + 1)) here,
+      second .read-wide2 .ensures ∙ ap (λ n. u16At s (n + 3)) here,
+      third .read-wide3 .ensures ∙ ap (λ n. u16At s (n + 5)) here,
+      fourth .read-wide4 .ensures ∙ ap (λ n. u16At s (n + 7)) here,
       number-of-bits (forward .read-i32 .result) (record { sfits = forward .read-i32 .ok }),
       number-of-bits (backward .read-i322 .result) (record { sfits = backward .read-i322 .ok }),
-      forward .read-i32 .ensures,
-      backward .read-i322 .ensures,
+      forward .read-i32 .ensures ∙ ap (λ n. i32At s (n + 9)) here,
+      backward .read-i322 .ensures ∙ ap (λ n. i32At s (n + 13)) here,
     ) at (c .check-fields .ensures)))
 
 pub check-edge-record-spec : {M : Type 1} → statement M
 check-edge-record-spec =
     tie.close
     (tie.spec
-    mul-at
-    add-at
+    edge-at-requires
     check-record-requires
     enum-known-whole
     returns

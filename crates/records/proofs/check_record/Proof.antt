@@ -1,4 +1,4 @@
--- `records::check_record` meets its contract: three tests in the order of the record's checks.
+-- `check_record` meets its contract: three tests in the order of the record's checks.
 use mathlib.Core.Path.{refl}
 use mathlib.Core.Logic.{inl, inr}
 use native.Mathlib.Omega.{arith}
@@ -8,17 +8,11 @@ use Rattle.records.specs.Record.{recordChecks}
 use Rattle.records.proofs.check_record.Statement.{statement}
 use Rattle.records.proofs.check_record.Tie as tie
 
+record-length-requires : tie.Need-record-length-requires
+record-length-requires c κs = search needs
+
 add-end : tie.Need-add-end
 add-end c = search needs
-
-body-length-requires : tie.Need-body-length-requires
-body-length-requires c κs = search needs
-
-wide8-requires : tie.Need-wide8-requires
-wide8-requires c κs = search needs
-
-add-end-2 : tie.Need-add-end-2
-add-end-2 c = search needs
 
 returns : tie.Need-returns
 unfolding FirstOf recordChecks
@@ -43,10 +37,8 @@ pub check-record-spec : {M : Type 1} → statement M
 check-record-spec =
     tie.close
     (tie.spec
+    record-length-requires
     add-end
-    body-length-requires
-    wide8-requires
-    add-end-2
     returns
     shared-slice-read-if2
     returns-2

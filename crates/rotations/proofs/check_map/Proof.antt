@@ -4,8 +4,8 @@ use Prim.Native.Nat.{_-_}
 use native.Mathlib.Omega.{arith}
 use borrow.Author.Needs.{needs}
 use Rattle.refusals.proofs.Order.{said-yes, said-no}
-use Rattle.faces.proofs.Checks.{sound-of-checks}
-use Rattle.rotations.specs.Arrays.{mapOf}
+use Rattle.maps.proofs.Checks.{sound-of-checks}
+use Rattle.arrays.specs.Maps.{mapOf}
 use Rattle.rotations.proofs.Steps.{steps-permute, steps-faces, faces-le}
 use Rattle.rotations.proofs.Order.{refused-9, refused-10, refused-11, refused-12, none-refused}
 use Rattle.rotations.proofs.check_map.Statement.{statement}
@@ -114,7 +114,7 @@ returns-5 c =
     let σ = sound-of-checks (p .4) not-9 not-10 in
     let found = steps-faces σ (c .before .before .before .before .fill-steps .ensures .1) in
     let n = c .before .number-orbits .ensures in
-    (n .0, (none-refused 𝓜 not-9 not-10 not-11 (n .1 ∙ found .1) (c .if4 .left), λ d l. n .2 d l ∙ found .0 d l))
+    (n .0, (none-refused 𝓜 not-9 not-10 not-11 (n .1 ∙ found .1) (c .if4 .left), (λ d l. n .2 d l ∙ found .0 d l), n .1 ∙ found .1))
 
 pub check-map-spec : {M : Type 1} → statement M
 check-map-spec =

@@ -1,7 +1,7 @@
 -- The walk from dart 0 meets all darts if and only if the map is connected.
 use borrow.Author.Needs.{needs}
 use Rattle.traversal.proofs.Reach.{some-unmet, all-connected}
-use Rattle.rotations.proofs.Decisions.{decides-ne}
+use Rattle.refusals.proofs.Decisions.{decides-ne}
 use Rattle.rotations.proofs.disconnected.Statement.{statement}
 use Rattle.rotations.proofs.disconnected.Tie as tie
 

@@ -5,7 +5,7 @@ use Prim.Native.Nat.{_+_, _-_, _≤_, _<_}
 use native.Mathlib.Omega.{arith}
 use lib.ListN.{length, length-set}
 use borrow.Author.Needs.{needs}
-use Rattle.rotations.specs.Arrays.{at}
+use Rattle.arrays.specs.At.{at}
 use Rattle.rotations.specs.Register.{Register}
 use Rattle.rotations.proofs.Register.{register-none, register-same, register-new, clash}
 use Rattle.rotations.proofs.enter_all.Statement.{statement}

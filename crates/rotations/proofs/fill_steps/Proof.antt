@@ -7,9 +7,9 @@ use lib.Seq.{getD-set-same}
 use borrow.Author.Needs.{read-below}
 use borrow.Author.Count.{below-more}
 use borrow.Author.Needs.{needs}
-use Rattle.faces.specs.Dart.{rev}
-use Rattle.faces.proofs.Darts.{rev-in}
-use Rattle.rotations.specs.Arrays.{at}
+use Rattle.maps.specs.Dart.{rev}
+use Rattle.maps.proofs.Darts.{rev-in}
+use Rattle.arrays.specs.At.{at}
 use Rattle.rotations.proofs.fill_steps.Statement.{statement}
 use Rattle.rotations.proofs.fill_steps.Tie as tie
 
@@ -30,10 +30,10 @@ reverse-requires : tie.Need-reverse-requires Inv-loop μ-loop
 reverse-requires c κs = search needs
 
 mul-steps : tie.Need-mul-steps Inv-loop μ-loop
-mul-steps c = let o = c .before .before .loop in omega (arith, c .reverse .ensures, rev-in (c .before .before .before .args .edges) (o .d) (omega arith))
+mul-steps c = let o = c .before .before .loop in omega (arith, c .reverse .ensures .0, rev-in (c .before .before .before .args .edges) (o .d) (omega arith))
 
 element-copy-out-steps : tie.Need-element-copy-out-steps Inv-loop μ-loop
-element-copy-out-steps c = let o = c .before .before .loop in omega (arith, c .reverse .ensures, rev-in (c .before .before .before .args .edges) (o .d) (omega arith))
+element-copy-out-steps c = let o = c .before .before .loop in omega (arith, c .reverse .ensures .0, rev-in (c .before .before .before .args .edges) (o .d) (omega arith))
 
 mul-steps-2 : tie.Need-mul-steps-2 Inv-loop μ-loop
 mul-steps-2 c = search needs
@@ -56,7 +56,7 @@ loop-again c =
       o .inv .1,
       length-set (o .steps) (o .d) v ∙ o .inv .2,
       below-more (λ k. at (set (o .steps) (o .d) v) k ≡ at t (rev k)) (o .d) (λ k l. read-below _ (o .steps) (o .d) k v 0 (at t (rev k)) l (o .inv .3 k l))
-          (getD-set-same (o .steps) (o .d) v 0 (omega (arith, o .inv .2)) ∙ ap (at t) (c .before .reverse .ensures)),
+          (getD-set-same (o .steps) (o .d) v 0 (omega (arith, o .inv .2)) ∙ ap (at t) (c .before .reverse .ensures .0)),
     )
 
 returns : tie.Need-returns Inv-loop μ-loop

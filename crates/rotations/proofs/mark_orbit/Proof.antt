@@ -4,9 +4,10 @@ use Prim.Native.Nat.{ℕ, suc}
 use native.Mathlib.Omega.{arith}
 use lib.ListN.{length, length-set}
 use borrow.Author.Needs.{needs}
-use Rattle.rotations.specs.Arrays.{at}
+use Rattle.arrays.specs.At.{at}
 use Rattle.rotations.specs.Holding.{holding}
-use Rattle.rotations.specs.Marking.{unmarked, Markable}
+use Rattle.rotations.specs.Marking.{Markable}
+use Rattle.traversal.specs.Mark.{unmarked}
 use Rattle.rotations.proofs.Trail.{Walking, set-off, still-in, walk-on, walk-end, fewer}
 use Rattle.rotations.proofs.mark_orbit.Statement.{statement}
 use Rattle.rotations.proofs.mark_orbit.Tie as tie

@@ -3,11 +3,11 @@ use Prim.Native.Nat.{ℕ}
 use native.Mathlib.Omega.{arith}
 use lib.ListN.{length-replicate}
 use borrow.Author.Needs.{needs}
-use Rattle.faces.proofs.Checks.{rotation-permutes}
+use Rattle.maps.proofs.Checks.{rotation-permutes}
 use Rattle.rotations.proofs.Holding.{zeros}
 use Rattle.rotations.proofs.Numbering.{number-small}
 use Rattle.rotations.proofs.Register.{two-rounds, no-dart, nodes-good}
-use Rattle.rotations.proofs.Decisions.{decides-by}
+use Rattle.refusals.proofs.Decisions.{decides-by}
 use Rattle.rotations.proofs.node_fault.Statement.{statement}
 use Rattle.rotations.proofs.node_fault.Tie as tie
 

@@ -4,7 +4,7 @@ use mathlib.Core.Logic.{⊎-elim}
 use Prim.Native.Nat.{_-_}
 use native.Mathlib.Omega.{arith}
 use lib.ListN.{length}
-use Rattle.rotations.specs.Arrays.{at}
+use Rattle.arrays.specs.At.{at}
 use Rattle.rotations.proofs.Numbering.{Numbering, numbering-start, numbering-end, used-few, pass, markable, mark}
 use Rattle.rotations.proofs.number_orbits.Statement.{statement}
 use Rattle.rotations.proofs.number_orbits.Tie as tie

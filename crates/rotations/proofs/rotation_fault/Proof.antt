@@ -6,7 +6,8 @@ use native.Mathlib.Omega.{arith}
 use lib.ListN.{length, length-set, length-replicate}
 use borrow.Author.Count.{below-more}
 use borrow.Author.Needs.{needs}
-use Rattle.rotations.specs.Arrays.{at, mapOf}
+use Rattle.arrays.specs.At.{at}
+use Rattle.arrays.specs.Maps.{mapOf}
 use Rattle.rotations.specs.Register.{Register}
 use Rattle.rotations.proofs.Holding.{zeros}
 use Rattle.rotations.proofs.Register.{register-none, register-new, rotation-twice, rotation-good}

@@ -3,7 +3,7 @@ use mathlib.Core.Path.{_≡_}
 use Prim.Native.Nat.{ℕ, _-_, _≤_, _<_}
 use native.Mathlib.Omega.{arith}
 use borrow.Author.Count.{below-more}
-use Rattle.rotations.specs.Arrays.{at}
+use Rattle.arrays.specs.At.{at}
 use Rattle.rotations.proofs.some_empty.Statement.{statement}
 use Rattle.rotations.proofs.some_empty.Tie as tie
 

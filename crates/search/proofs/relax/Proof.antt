@@ -1,19 +1,20 @@
--- `search::relax` meets its contract: the sum is compared and stored as 64 bits, and read back it is the sum.
+-- `relax` meets its contract: the sum is compared and stored as 64 bits, and read back it is the sum.
 use mathlib.Core.Path.{ap, ap₂, _∙_, _≡_, refl}
+use native.Mathlib.Omega.{arith}
 use lib.IntN.{ℤ, _+ℤ_}
 use lib.ListN.{set}
 use mir.Syntax.{w32, w64}
 use mir.Val.{toZ, ofZ}
 use mir.ValLaws.{toZ-ofZ}
 use borrow.Author.Needs.{needs}
-use Rattle.grouping.proofs.wide.Reads as wide-reads
-use Rattle.search.specs.Answer.{level, at}
-use Rattle.search.proofs.Order.{test-yes, test-no}
+use Rattle.arrays.proofs.wide.Reads as wide-reads
+use Rattle.arrays.specs.At.{atℤ, at}
+use Rattle.search.proofs.Order.{test-yes, test-no, mag-add}
 use Rattle.search.proofs.relax.Statement.{statement}
 use Rattle.search.proofs.relax.Tie as tie
 use Rattle.search.proofs.relax.Reads as reads
 use Rattle.search.proofs.relax.Lts as lts
-use Rattle.search.proofs.plus.Reads as plus-reads
+use Rattle.signed.proofs.plus_wide.Reads as plus-wide-reads
 
 mul-wide : tie.Need-mul-wide
 mul-wide c = search needs
@@ -24,46 +25,49 @@ element-copy-out-wide c = search needs
 wide-requires : tie.Need-wide-requires
 wide-requires c κs = search needs
 
-mul-plus : tie.Need-mul-plus
-mul-plus c = search needs
+mul-plus-wide : tie.Need-mul-plus-wide
+mul-plus-wide c = search needs
 
-element-copy-out-plus : tie.Need-element-copy-out-plus
-element-copy-out-plus c = search needs
+element-copy-out-plus-wide : tie.Need-element-copy-out-plus-wide
+element-copy-out-plus-wide c = search needs
 
-mul-plus-2 : tie.Need-mul-plus-2
-mul-plus-2 c = search needs
+mul-plus-wide-2 : tie.Need-mul-plus-wide-2
+mul-plus-wide-2 c = search needs
 
-element-copy-out-plus-2 : tie.Need-element-copy-out-plus-2
-element-copy-out-plus-2 c = search needs
+element-copy-out-plus-wide-2 : tie.Need-element-copy-out-plus-wide-2
+element-copy-out-plus-wide-2 c = search needs
 
-plus-requires : tie.Need-plus-requires
-plus-requires c κs = search needs
+plus-wide-requires : tie.Need-plus-wide-requires
+plus-wide-requires c κs =
+    let a = c .before .before .before .before .args in
+    rw (toZ-ofZ w64 (atℤ (a .potentials .now) (a .i)) (record { sfits = c .before .plus-wide-arg .given }), toZ-ofZ w32 (atℤ (a .lengths .now) (a .d)) (record { sfits = c .plus-wide-arg2 .given }))
+    (record { sfits = omega (arith, mag-add (atℤ (a .potentials .now) (a .i)) (atℤ (a .lengths .now) (a .d)), c .before .before .before .before .pre .6) })
 
 abbrev Place : Type 0
-Place = lts.After-if12 (wide-reads.Asked, wide-reads.Learnt, plus-reads.Asked, plus-reads.Learnt) reads.Pre reads.Post
+Place = lts.After-if12 (wide-reads.Asked, wide-reads.Learnt, plus-wide-reads.Asked, plus-wide-reads.Learnt) reads.Pre reads.Post
 
 new : (c : Place) → ℤ
-new c = let a = c .before .before .before .before .before .before .args in level (a .potentials .now) (a .i) +ℤ level (a .lengths .now) (a .d)
+new c = let a = c .before .before .before .before .before .before .args in atℤ (a .potentials .now) (a .i) +ℤ atℤ (a .lengths .now) (a .d)
 
-new-is : (c : Place) → toZ w64 (ofZ w64 (c .before .plus .result)) ≡ new c
+new-is : (c : Place) → toZ w64 (ofZ w64 (c .before .plus-wide .result)) ≡ new c
 unfolding new
 new-is c =
     let a = c .before .before .before .before .before .before .args in
-    toZ-ofZ w64 (c .before .plus .result) (record { sfits = c .before .plus .ok })
-    ∙ c .before .plus .ensures
+    toZ-ofZ w64 (c .before .plus-wide .result) (record { sfits = c .before .plus-wide .ok })
+    ∙ c .before .plus-wide .ensures
     ∙ ap₂ _+ℤ_
-    (toZ-ofZ w64 (level (a .potentials .now) (a .i)) (record { sfits = c .before .before .before .plus-arg .given }))
-    (toZ-ofZ w32 (level (a .lengths .now) (a .d)) (record { sfits = c .before .before .plus-arg2 .given }))
+    (toZ-ofZ w64 (atℤ (a .potentials .now) (a .i)) (record { sfits = c .before .before .before .plus-wide-arg .given }))
+    (toZ-ofZ w32 (atℤ (a .lengths .now) (a .d)) (record { sfits = c .before .before .plus-wide-arg2 .given }))
 
 old : (c : Place) → ℤ
-old c = let a = c .before .before .before .before .before .before .args in level (a .potentials .now) (at (a .lefts .now) (a .d))
+old c = let a = c .before .before .before .before .before .before .args in atℤ (a .potentials .now) (at (a .lefts .now) (a .d))
 
-old-is : (c : Place) → toZ w64 (ofZ w64 (level (c .before .before .before .before .before .before .args .potentials .now) (c .before .before .before .before .wide .result))) ≡ old c
+old-is : (c : Place) → toZ w64 (ofZ w64 (atℤ (c .before .before .before .before .before .before .args .potentials .now) (c .before .before .before .before .wide .result))) ≡ old c
 unfolding old
 old-is c =
     let p = c .before .before .before .before .before .before .args .potentials .now in
     let w = c .before .before .before .before .wide in
-    toZ-ofZ w64 (level p (w .result)) (record { sfits = c .if12 .given }) ∙ ap (level p) (w .ensures)
+    toZ-ofZ w64 (atℤ p (w .result)) (record { sfits = c .if12 .given }) ∙ ap (atℤ p) (w .ensures)
 
 mul-if1 : tie.Need-mul-if1
 mul-if1 c = search needs
@@ -111,11 +115,11 @@ relax-spec =
     mul-wide
     element-copy-out-wide
     wide-requires
-    mul-plus
-    element-copy-out-plus
-    mul-plus-2
-    element-copy-out-plus-2
-    plus-requires
+    mul-plus-wide
+    element-copy-out-plus-wide
+    mul-plus-wide-2
+    element-copy-out-plus-wide-2
+    plus-wide-requires
     mul-if1
     element-copy-out-if1
     mul-v

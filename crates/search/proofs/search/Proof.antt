@@ -6,10 +6,10 @@ use Prim.Native.Nat.{suc, _-_, _<_}
 use native.Mathlib.Omega.{arith}
 use borrow.Author.Tests.{not-true, not-false}
 use borrow.Author.Needs.{needs}
-use Rattle.search.specs.Net.{netOf}
+use Rattle.search.specs.Dual.{dualOf}
 use Rattle.search.specs.Walk.{Ring}
 use Rattle.search.specs.Parents.{ParentRing}
-use Rattle.search.specs.Answer.{at}
+use Rattle.arrays.specs.At.{at}
 use Rattle.search.specs.Progress.{Passing}
 use Rattle.search.proofs.Loops.{Scanning, begin-rounds, begin-scan, next-round, pass-by, taken-up, end-settled, last-deep, end-ring, closing-dart, same-scanning}
 use Rattle.search.proofs.search.Statement.{statement}
@@ -17,7 +17,7 @@ use Rattle.search.proofs.search.Tie as tie
 
 abbrev Inv-loop : tie.InvT-loop
 Inv-loop lefts lengths order starts ends darts faces root potentials₀ parents₀ waiting₀ count₀ next₀ k any₀ a₀ potentials parents waiting count next any a =
-    Scanning (netOf lefts lengths darts faces root) potentials parents waiting count k a any
+    Scanning (dualOf lefts lengths darts faces root) potentials parents waiting count k a any
 
 abbrev μ-loop : tie.MeasureT-loop
 μ-loop lefts lengths order starts ends darts faces root potentials₀ parents₀ waiting₀ count₀ next₀ k any₀ a₀ potentials parents waiting count next any a =
@@ -25,7 +25,7 @@ abbrev μ-loop : tie.MeasureT-loop
 
 abbrev Inv-search : tie.InvT-search
 Inv-search lefts lengths order starts ends darts faces root potentials₀ parents₀ waiting₀ count₀ next₀ k₀ potentials parents waiting count next k =
-    Passing (netOf lefts lengths darts faces root) potentials parents waiting count k 0
+    Passing (dualOf lefts lengths darts faces root) potentials parents waiting count k 0
 
 abbrev μ-search : tie.MeasureT-search
 μ-search lefts lengths order starts ends darts faces root potentials₀ parents₀ waiting₀ count₀ next₀ k₀ potentials parents waiting count next k =
@@ -33,7 +33,7 @@ abbrev μ-search : tie.MeasureT-search
 
 -- where the steps up end, they lead round
 on-ring : (c : tie.After-known-told Inv-loop μ-loop Inv-search μ-search)
-    → let N = netOf (c .before .before .before .before .before .before .before .before .before .before .before .before .before .before .before .before .before .args .lefts .now) (c .before .before .before .before .before .before .before .before .before .before .before .before .before .before .before .before .before .args .lengths .now) (c .before .before .before .before .before .before .before .before .before .before .before .before .before .before .before .before .before .args .darts) (c .before .before .before .before .before .before .before .before .before .before .before .before .before .before .before .before .before .args .faces) (c .before .before .before .before .before .before .before .before .before .before .before .before .before .before .before .before .before .args .root) in
+    → let N = dualOf (c .before .before .before .before .before .before .before .before .before .before .before .before .before .before .before .before .before .args .lefts .now) (c .before .before .before .before .before .before .before .before .before .before .before .before .before .before .before .before .before .args .lengths .now) (c .before .before .before .before .before .before .before .before .before .before .before .before .before .before .before .before .before .args .darts) (c .before .before .before .before .before .before .before .before .before .before .before .before .before .before .before .before .before .args .faces) (c .before .before .before .before .before .before .before .before .before .before .before .before .before .before .before .before .before .args .root) in
     (c .before .y .given .0 .0 < N .faces) × ParentRing N (at (c .before .before .before .before .before .before .before .before .before .before .before .loop .parents)) (c .before .y .given .0 .0) × Ring N (c .before .y .given .0 .0)
 on-ring c =
     let g = c .before .y .given in

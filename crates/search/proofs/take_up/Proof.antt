@@ -4,14 +4,14 @@ use Prim.Native.Nat.{_<_, _-_}
 use native.Mathlib.Omega.{arith}
 use lib.ListN.{getD}
 use borrow.Author.Needs.{needs}
-use Rattle.search.specs.Net.{netOf}
+use Rattle.search.specs.Dual.{dualOf}
 use Rattle.search.proofs.Loops.{Taking, place-in, begin-taking, try-in, try-near, try-few, try-keep, try-lower, end-taking}
 use Rattle.search.proofs.take_up.Statement.{statement}
 use Rattle.search.proofs.take_up.Tie as tie
 
 abbrev Inv-loop : tie.InvT-loop
 Inv-loop lefts lengths order starts ends darts faces root potentials₀ parents₀ waiting₀ lowerings k a i s e count₀ j₀ potentials parents waiting count j =
-    Taking (netOf lefts lengths darts faces root) order starts ends potentials parents waiting count k a i j
+    Taking (dualOf lefts lengths darts faces root) order starts ends potentials parents waiting count k a i j
 
 abbrev μ-loop : tie.MeasureT-loop
 μ-loop lefts lengths order starts ends darts faces root potentials₀ parents₀ waiting₀ lowerings k a i s e count₀ j₀ potentials parents waiting count j =

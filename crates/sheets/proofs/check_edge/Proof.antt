@@ -11,7 +11,7 @@ use Rattle.sheets.proofs.check_edge.Tie as tie
 use Rattle.sheets.proofs.check_edge.Reads as reads
 use Rattle.sheets.proofs.check_edge.Lts as lts
 use Rattle.records.proofs.check_fields.Reads as check-fields-reads
-use Rattle.sheets.proofs.wide.Reads as wide-reads
+use Rattle.arrays.proofs.wide.Reads as wide-reads
 
 -- src/lib.rt:196:27
 mul-wide : tie.Need-mul-wide

@@ -1,69 +1,104 @@
-use Prim.Native.Nat.{ℕ, _≤_, _<_, _-_, _+_, _*_, _/_}
+-- Counts, edges in turn, then the map in arrays: each way out is a verdict of the whole list.
 use mathlib.Core.Path.{_≡_, refl, sym, subst}
+use Prim.Native.Nat.{ℕ, _≤_}
 use native.Mathlib.Omega.{arith}
-use lib.ListN.{length, getD, set}
+use lib.ListN.{length}
 use borrow.Author.Needs.{needs}
-use Rattle.faces.specs.Check.{InRange}
-use Rattle.rotations.specs.Arrays.{at}
+use Rattle.refusals.specs.Order.{NoneOf, inTurn}
+use Rattle.maps.specs.Drawing.{Drawing}
+use Rattle.maps.specs.Check.{InRange}
+use Rattle.arrays.specs.At.{at}
+use Rattle.arrays.specs.Maps.{mapOf}
+use Rattle.arrays.proofs.FillLoops.{same-everywhere}
 use Rattle.rotations.specs.MapChecks.{MapJudged}
+use Rattle.records.specs.Check.{countChecks, edgeChecks}
 use Rattle.records.proofs.Drawing.{counts-range}
-use Rattle.sheets.specs.Write.{slicesDrawing}
-use Rattle.sheets.proofs.Filling.{same-everywhere}
+use Rattle.sheets.specs.Write.{edgesIn, slicesDrawing}
 use Rattle.sheets.proofs.Writing.{loaded-map, map-judged, refused-counts, refused-edges, judged-map, turns-range}
 use Rattle.sheets.proofs.check_slices.Statement.{statement}
 use Rattle.sheets.proofs.check_slices.Tie as tie
-use Rattle.sheets.proofs.check_slices.Reads as reads
-use Rattle.sheets.proofs.check_slices.Lts as lts
-use Rattle.records.proofs.check_counts.Reads as check-counts-reads
-use Rattle.rotations.proofs.check_map.Reads as check-map-reads
-use Rattle.sheets.proofs.check_edges.Reads as check-edges-reads
-use Rattle.sheets.proofs.load.Reads as load-reads
 
--- src/lib.rt:237:9
+abbrev drawn : tie.Start → Drawing
+drawn s = slicesDrawing (s .args .nodes) (s .args .tails .now) (s .args .rotations .now) (s .args .capacities .now)
+
+-- ── the counts passed ──
+abbrev begun : tie.After-enum-told → tie.Start
+begun c = c .before .before .before .before .before
+
+counts-passed : (c : tie.After-enum-told) → NoneOf (countChecks (begun c .args .nodes) (edgesIn (begun c .args .tails .now)))
+counts-passed c = rw (c .enum-told .given .1) at (c .before .before .check-counts .ensures)
+
+-- ── the edges passed ──
+abbrev counted : tie.After-enum-told2 → tie.After-enum-told
+counted c = c .before .before .before
+
+edges-passed : (c : tie.After-enum-told2) → NoneOf (inTurn (edgesIn (begun (counted c) .args .tails .now)) (edgeChecks (drawn (begun (counted c)))))
+edges-passed c = rw (c .enum-told2 .given .1) at (c .before .before .check-edges .ensures)
+
+long : (c : tie.After-enum-told2) → length (begun (counted c) .args .tails .now) ≤ 1024
+long c = omega (arith, begun (counted c) .pre .2, counts-range _ _ (counts-passed (counted c)) .3)
+
+-- ── the arrays are loaded ──
+abbrev told : tie.After-load2 → tie.After-enum-told2
+told c = c .before .before .before .before
+
+map-is : (c : tie.After-load2)
+    → mapOf (begun (counted (told c)) .args .nodes) (edgesIn (begun (counted (told c)) .args .tails .now)) (c .before .before .load .last .1 .0) (c .load2 .last .1 .0)
+    ≡ drawn (begun (counted (told c))) .map
+map-is c =
+    let a = begun (counted (told c)) .args in
+    loaded-map (a .nodes) _ (c .before .before .load .last .1 .0) (c .load2 .last .1 .0) (a .tails .now) (a .rotations .now) (c .before .before .load .ensures .1) (c .load2 .ensures .1)
+
 check-counts-requires : tie.Need-check-counts-requires
 check-counts-requires c κs = search needs
 
--- src/lib.rt:238:29
 enum-known-counts : tie.Need-enum-known-counts
 enum-known-counts c = search needs
 
--- src/lib.rt:239:9
 returns : tie.Need-returns
-returns c = refused-counts (slicesDrawing (c .before .before .before .before .before .before .args .nodes) (c .before .before .before .before .before .before .args .tails .now) (c .before .before .before .before .before .before .args .rotations .now) (c .before .before .before .before .before .before .args .capacities .now)) _ _ (rw (c .before .counts .given .1) at (c .before .before .before .check-counts .ensures))
+returns c = let s = c .before .before .before .before .before .before in refused-counts (drawn s) _ _ (rw (c .before .counts .given .1) at (c .before .before .before .check-counts .ensures))
 
 enum-told : tie.Need-enum-told
 enum-told c = search needs
 
--- src/lib.rt:241:9
 check-edges-requires : tie.Need-check-edges-requires
-check-edges-requires c κs = let p = c .before .before .before .before .before .pre in let n = counts-range (c .before .before .before .before .before .args .nodes) (length (c .before .before .before .before .before .args .tails .now) / 2) (rw (c .enum-told .given .1) at (c .before .before .check-counts .ensures)) in (p .0, p .1, omega (arith, p .2))
+check-edges-requires c κs =
+    let p = begun c .pre in
+    (p .0, p .1, omega (arith, p .2, counts-range _ _ (counts-passed c) .3))
 
--- src/lib.rt:242:29
 enum-known-fields : tie.Need-enum-known-fields
 enum-known-fields c = search needs
 
--- src/lib.rt:243:9
 returns-2 : tie.Need-returns-2
-returns-2 c = refused-edges (slicesDrawing (c .before .before .before .before .before .before .before .before .before .args .nodes) (c .before .before .before .before .before .before .before .before .before .args .tails .now) (c .before .before .before .before .before .before .before .before .before .args .rotations .now) (c .before .before .before .before .before .before .before .before .before .args .capacities .now)) _ _ (rw (c .before .before .before .before .enum-told .given .1) at (c .before .before .before .before .before .before .check-counts .ensures)) (rw (c .before .fields .given .1) at (c .before .before .before .check-edges .ensures))
+returns-2 c =
+    let t = c .before .before .before .before in
+    refused-edges (drawn (begun t)) _ _ (counts-passed t) (rw (c .before .fields .given .1) at (c .before .before .before .check-edges .ensures))
 
 enum-told-2 : tie.Need-enum-told-2
 enum-told-2 c = search needs
 
--- src/lib.rt:248:5
 load-requires : tie.Need-load-requires
-load-requires c κs = let p = c .before .before .before .before .before .before .before .before .before .pre in let n = counts-range (c .before .before .before .before .before .before .before .before .before .args .nodes) (length (c .before .before .before .before .before .before .before .before .before .args .tails .now) / 2) (rw (c .before .before .before .before .enum-told .given .1) at (c .before .before .before .before .before .before .check-counts .ensures)) in (refl, omega (arith, p .2), same-everywhere 1024 0)
+load-requires c κs = (refl, long (c .before), same-everywhere 1024 0)
 
--- src/lib.rt:249:5
 load-requires-2 : tie.Need-load-requires-2
-load-requires-2 c κs = let p = c .before .before .before .before .before .before .before .before .before .before .before .pre in let n = counts-range (c .before .before .before .before .before .before .before .before .before .before .before .args .nodes) (length (c .before .before .before .before .before .before .before .before .before .before .before .args .tails .now) / 2) (rw (c .before .before .before .before .before .before .enum-told .given .1) at (c .before .before .before .before .before .before .before .before .check-counts .ensures)) in (refl, omega (arith, p .0, p .2), same-everywhere 1024 0)
+load-requires-2 c κs = let t = c .before .before .before in (refl, omega (arith, long t, begun (counted t) .pre .0), same-everywhere 1024 0)
 
--- src/lib.rt:250:5
 check-map-requires : tie.Need-check-map-requires
-check-map-requires c κs = let n = counts-range (c .before .before .before .before .before .before .before .before .before .before .before .before .before .before .before .args .nodes) (length (c .before .before .before .before .before .before .before .before .before .before .before .before .before .before .before .args .tails .now) / 2) (rw (c .before .before .before .before .before .before .before .before .before .before .enum-told .given .1) at (c .before .before .before .before .before .before .before .before .before .before .before .before .check-counts .ensures)) in (omega arith, omega arith, omega arith, refl, subst InRange (sym (loaded-map (c .before .before .before .before .before .before .before .before .before .before .before .before .before .before .before .args .nodes) (length (c .before .before .before .before .before .before .before .before .before .before .before .before .before .before .before .args .tails .now) / 2) (c .before .before .before .before .before .load .last .1 .0) (c .before .before .before .load2 .last .1 .0) (c .before .before .before .before .before .before .before .before .before .before .before .before .before .before .before .args .tails .now) (c .before .before .before .before .before .before .before .before .before .before .before .before .before .before .before .args .rotations .now) (c .before .before .before .before .before .load .ensures .1) (c .before .before .before .load2 .ensures .1))) (turns-range (slicesDrawing (c .before .before .before .before .before .before .before .before .before .before .before .before .before .before .before .args .nodes) (c .before .before .before .before .before .before .before .before .before .before .before .before .before .before .before .args .tails .now) (c .before .before .before .before .before .before .before .before .before .before .before .before .before .before .before .args .rotations .now) (c .before .before .before .before .before .before .before .before .before .before .before .before .before .before .before .args .capacities .now)) (rw (c .before .before .before .before .before .before .before .enum-told2 .given .1) at (c .before .before .before .before .before .before .before .before .before .check-edges .ensures))))
+check-map-requires c κs =
+    let l = c .before .before .before in
+    let t = told l in
+    let n = counts-range _ _ (counts-passed (counted t)) in
+    (omega (arith, n .2), n .3, omega (arith, n .1), refl, subst InRange (sym (map-is l)) (turns-range (drawn (begun (counted t))) (edges-passed t)))
 
--- src/lib.rt:232:1
 returns-3 : tie.Need-returns-3
-returns-3 c = let v = c .check-map .result in judged-map (slicesDrawing (c .before .before .before .before .before .before .before .before .before .before .before .before .before .before .before .before .args .nodes) (c .before .before .before .before .before .before .before .before .before .before .before .before .before .before .before .before .args .tails .now) (c .before .before .before .before .before .before .before .before .before .before .before .before .before .before .before .before .args .rotations .now) (c .before .before .before .before .before .before .before .before .before .before .before .before .before .before .before .before .args .capacities .now)) v (rw (c .before .before .before .before .before .before .before .before .before .before .before .enum-told .given .1) at (c .before .before .before .before .before .before .before .before .before .before .before .before .before .check-counts .ensures)) (rw (c .before .before .before .before .before .before .before .before .enum-told2 .given .1) at (c .before .before .before .before .before .before .before .before .before .before .check-edges .ensures)) (map-judged _ (at (c .check-map .last .1 .1 .1 .1 .0)) v (subst (λ 𝓜. MapJudged 𝓜 (at (c .check-map .last .1 .1 .1 .1 .0)) v) (loaded-map (c .before .before .before .before .before .before .before .before .before .before .before .before .before .before .before .before .args .nodes) (length (c .before .before .before .before .before .before .before .before .before .before .before .before .before .before .before .before .args .tails .now) / 2) (c .before .before .before .before .before .before .load .last .1 .0) (c .before .before .before .before .load2 .last .1 .0) (c .before .before .before .before .before .before .before .before .before .before .before .before .before .before .before .before .args .tails .now) (c .before .before .before .before .before .before .before .before .before .before .before .before .before .before .before .before .args .rotations .now) (c .before .before .before .before .before .before .load .ensures .1) (c .before .before .before .before .load2 .ensures .1)) (c .check-map .ensures .1)))
+returns-3 c =
+    let l = c .before .before .before .before in
+    let t = told l in
+    let m = c .check-map in
+    let v = m .result .verdict in
+    let lefts = m .last .1 .1 .1 .1 .0 in
+    judged-map (drawn (begun (counted t))) v (counts-passed (counted t)) (edges-passed t)
+    (map-judged _ (at lefts) (m .result .faces) v (subst (λ 𝓜. MapJudged 𝓜 (at lefts) (m .result .faces) v) (map-is l) (m .ensures .1)))
 
 pub check-slices-spec : {M : Type 1} → statement M
 check-slices-spec =

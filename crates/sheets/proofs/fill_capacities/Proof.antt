@@ -1,97 +1,31 @@
-use Prim.Native.Nat.{ℕ, _≤_, _<_, _-_, _+_, _*_, _/_, _%_}
-use mathlib.Core.Path.{_≡_, refl}
+-- `fill_capacities` meets its contract: what is filled into zeros is the sheet's, everywhere.
+use mathlib.Core.Path.{_≡_, sym, _∙_, subst}
+use Prim.Native.Nat.{_≤_, _*_}
 use native.Mathlib.Omega.{arith}
-use lib.ListN.{length, getD, set}
+use lib.ListN.{length}
 use borrow.Author.Needs.{needs}
-use mathlib.Core.Path.{_∙_}
-use Rattle.signed.proofs.Laws.{number-of-bits}
-use Rattle.sheets.proofs.Filling.{Filling, filling-start, filling-step, filling-end}
-use Rattle.fields.specs.Fields.{i32At}
+use Rattle.arrays.proofs.FillLoops.{filled-length}
 use Rattle.records.specs.Sheet.{edgeAt}
-use lib.IntN.{ℤ, pos}
+use Rattle.sheets.proofs.Opening.{bytes-room, capacities-are}
 use Rattle.sheets.proofs.fill_capacities.Statement.{statement}
 use Rattle.sheets.proofs.fill_capacities.Tie as tie
-use Rattle.sheets.proofs.fill_capacities.Reads as reads
-use Rattle.sheets.proofs.fill_capacities.Lts as lts
-use Rattle.fields.proofs.read_i32.Reads as read-i32-reads
 
-abbrev Inv-loop : tie.InvT-loop
-Inv-loop s darts to₀ d₀ to d = (d ≤ darts) × Filling (pos 0) (λ k. i32At s (edgeAt (k / 2) + 9 + 4 * (k % 2))) d to
+-- an array has room for two elements to an edge
+long : (s : tie.Start) → 2 * s .args .edges ≤ length (s .args .to .now)
+long s = let p = s .pre in omega (arith, p .1, p .2, bytes-room (s .args .s .now) (p .0) .4)
 
-abbrev μ-loop : tie.MeasureT-loop
-μ-loop s darts to₀ d₀ to d = darts - d
+fill-limits-requires : tie.Need-fill-limits-requires
+fill-limits-requires c κs =
+    let s = c .before .before in
+    let p = s .pre in
+    let room = bytes-room (s .args .s .now) (p .0) in
+    (omega (arith, p .1, room .4), subst (λ n. edgeAt n ≤ length (s .args .s .now)) (sym (p .1)) (room .5), omega (arith, p .1, p .2, room .4))
 
--- src/lib.rt:53:5
-loop-holds : tie.Need-loop-holds Inv-loop μ-loop
-loop-holds c = (omega arith, filling-start _ (c .before .pre .0) (c .before .pre .4))
-
--- src/lib.rt:54:25
-mul-place : tie.Need-mul-place Inv-loop μ-loop
-mul-place c = search needs
-
--- src/lib.rt:54:21
-add-place : tie.Need-add-place Inv-loop μ-loop
-add-place c = search needs
-
--- src/lib.rt:54:21
-add-place-2 : tie.Need-add-place-2 Inv-loop μ-loop
-add-place-2 c = search needs
-
--- src/lib.rt:54:44
-mul-place-2 : tie.Need-mul-place-2 Inv-loop μ-loop
-mul-place-2 c = search needs
-
--- src/lib.rt:54:21
-add-place-3 : tie.Need-add-place-3 Inv-loop μ-loop
-add-place-3 c = search needs
-
--- src/lib.rt:55:17
-read-i32-requires : tie.Need-read-i32-requires Inv-loop μ-loop
-read-i32-requires c κs = search needs
-
--- src/lib.rt:55:9
-mul-t7 : tie.Need-mul-t7 Inv-loop μ-loop
-mul-t7 c = search needs
-
--- src/lib.rt:55:9
-element-set-from-to : tie.Need-element-set-from-to Inv-loop μ-loop
-element-set-from-to c = search needs
-
--- src/lib.rt:56:9
-add-d : tie.Need-add-d Inv-loop μ-loop
-add-d c = search needs
-
--- src/lib.rt:53:5
-loop-less : tie.Need-loop-less Inv-loop μ-loop
-loop-less c = search needs
-
--- src/lib.rt:53:5
-loop-again : tie.Need-loop-again Inv-loop μ-loop
-loop-again c = (omega arith, filling-step (c .before .before .loop .inv .1) _ (omega arith) (number-of-bits (c .read-i32 .result) (record { sfits = c .read-i32 .ok }) ∙ c .read-i32 .ensures))
-
--- src/lib.rt:48:1
-returns : tie.Need-returns Inv-loop μ-loop
-returns c = (c .before .loop .inv .1 .long, λ d. filling-end (rw same at (c .before .loop .inv .1)) d)
-  where
-    same : c .before .loop .d ≡ c .before .before .before .args .darts
-    same = omega arith
+returns : tie.Need-returns
+returns c =
+    let s = c .before .before .before in
+    let h = c .fill-limits .ensures in
+    (filled-length _ _ _ _ h (long s) ∙ s .pre .2, capacities-are _ _ (s .pre .1) _ _ (long s) (s .pre .3) h)
 
 pub fill-capacities-spec : {M : Type 1} → statement M
-fill-capacities-spec =
-    tie.close
-    (tie.spec
-    Inv-loop
-    μ-loop
-    loop-holds
-    mul-place
-    add-place
-    add-place-2
-    mul-place-2
-    add-place-3
-    read-i32-requires
-    mul-t7
-    element-set-from-to
-    add-d
-    loop-less
-    loop-again
-    returns)
+fill-capacities-spec = tie.close (tie.spec fill-limits-requires returns)

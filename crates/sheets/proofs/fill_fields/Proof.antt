@@ -1,77 +1,72 @@
+-- Invariant: the places below d have their fields, the others are as they were.
 use Prim.Native.Nat.{ℕ, _≤_, _<_, _-_, _+_, _*_, _/_, _%_}
-use mathlib.Core.Path.{_≡_, refl}
+use mathlib.Core.Path.{_≡_, refl, _∙_, ap}
 use native.Mathlib.Omega.{arith}
-use lib.ListN.{length, getD, set}
+use lib.ListN.{length}
 use borrow.Author.Needs.{needs}
-use Rattle.sheets.proofs.Filling.{Filling, filling-start, filling-step, filling-end}
 use Rattle.fields.specs.Fields.{u16At}
-use Rattle.records.specs.Sheet.{edgeAt}
+use Rattle.arrays.specs.Filled.{filled}
+use Rattle.arrays.proofs.FillLoops.{copy-start, copy-step, filled-length}
+use Rattle.records.specs.Sheet.{field16}
 use Rattle.sheets.proofs.fill_fields.Statement.{statement}
 use Rattle.sheets.proofs.fill_fields.Tie as tie
-use Rattle.sheets.proofs.fill_fields.Reads as reads
-use Rattle.sheets.proofs.fill_fields.Lts as lts
-use Rattle.fields.proofs.read_u16.Reads as read-u16-reads
 
 abbrev Inv-loop : tie.InvT-loop
-Inv-loop s first darts to₀ d₀ to d = (d ≤ darts) × Filling 0 (λ k. u16At s (edgeAt (k / 2) + first + 2 * (k % 2))) d to
+Inv-loop s first edges to₀ darts d₀ to d = (d ≤ darts) × (to ≡ filled d (field16 s first) to₀)
 
 abbrev μ-loop : tie.MeasureT-loop
-μ-loop s first darts to₀ d₀ to d = darts - d
+μ-loop s first edges to₀ darts d₀ to d = darts - d
 
--- src/lib.rt:40:5
+mul-darts : tie.Need-mul-darts Inv-loop μ-loop
+mul-darts c = search needs
+
 loop-holds : tie.Need-loop-holds Inv-loop μ-loop
-loop-holds c = (omega arith, filling-start _ (c .before .pre .0) (c .before .pre .5))
+loop-holds c = (omega arith, copy-start _ _)
 
--- src/lib.rt:41:25
-mul-place : tie.Need-mul-place Inv-loop μ-loop
-mul-place c = search needs
+edge-at-requires : tie.Need-edge-at-requires Inv-loop μ-loop
+edge-at-requires c κs = search needs
 
--- src/lib.rt:41:21
-add-place : tie.Need-add-place Inv-loop μ-loop
-add-place c = search needs
+add-read-u16 : tie.Need-add-read-u16 Inv-loop μ-loop
+add-read-u16 c = omega (arith, c .edge-at .ensures)
 
--- src/lib.rt:41:21
-add-place-2 : tie.Need-add-place-2 Inv-loop μ-loop
-add-place-2 c = search needs
+mul-read-u16 : tie.Need-mul-read-u16 Inv-loop μ-loop
+mul-read-u16 c = search needs
 
--- src/lib.rt:41:48
-mul-place-2 : tie.Need-mul-place-2 Inv-loop μ-loop
-mul-place-2 c = search needs
+add-read-u16-2 : tie.Need-add-read-u16-2 Inv-loop μ-loop
+add-read-u16-2 c = omega (arith, c .edge-at .ensures)
 
--- src/lib.rt:41:21
-add-place-3 : tie.Need-add-place-3 Inv-loop μ-loop
-add-place-3 c = search needs
-
--- src/lib.rt:42:17
 read-u16-requires : tie.Need-read-u16-requires Inv-loop μ-loop
-read-u16-requires c κs = search needs
+read-u16-requires c κs = omega (arith, c .edge-at .ensures)
 
--- src/lib.rt:42:9
 mul-to : tie.Need-mul-to Inv-loop μ-loop
 mul-to c = search needs
 
--- src/lib.rt:42:9
-element-write-to : tie.Need-element-write-to Inv-loop μ-loop
-element-write-to c = search needs
+slice-write-to : tie.Need-slice-write-to Inv-loop μ-loop
+slice-write-to c = omega (arith, filled-length _ _ _ _ (c .before .before .before .loop .inv .1) (omega arith))
 
--- src/lib.rt:43:9
 add-d : tie.Need-add-d Inv-loop μ-loop
 add-d c = search needs
 
--- src/lib.rt:40:5
 loop-less : tie.Need-loop-less Inv-loop μ-loop
 loop-less c = search needs
 
--- src/lib.rt:40:5
 loop-again : tie.Need-loop-again Inv-loop μ-loop
-loop-again c = (omega arith, filling-step (c .before .before .loop .inv .1) _ (omega arith) (c .read-u16 .ensures))
+loop-again c =
+    let o = c .before .before .before .loop in
+    let s = c .before .before .before .before .before .before .args .s .now in (
+      omega arith,
+      copy-step _ (o .d) _ _ _ (o .inv .1) (omega arith)
+          (c .read-u16 .ensures ∙ ap (λ n. u16At s (n + c .before .before .before .before .before .before .args .first + 2 * (o .d % 2))) (c .before .edge-at .ensures)),
+    )
 
--- src/lib.rt:35:1
+same-length : tie.Need-same-length Inv-loop μ-loop
+same-length c = filled-length _ _ _ _ (c .before .loop .inv .1) (omega arith)
+
 returns : tie.Need-returns Inv-loop μ-loop
-returns c = (c .before .loop .inv .1 .long, λ d. filling-end (rw same at (c .before .loop .inv .1)) d)
-  where
-    same : c .before .loop .d ≡ c .before .before .before .args .darts
-    same = omega arith
+returns c =
+    let s = c .before .before .before .before .args in
+    let all : c .before .loop .d ≡ 2 * s .edges = omega arith in
+    c .before .loop .inv .1 ∙ ap (λ k. filled k (field16 (s .s .now) (s .first)) (s .to .now)) all
 
 pub fill-fields-spec : {M : Type 1} → statement M
 fill-fields-spec =
@@ -79,16 +74,17 @@ fill-fields-spec =
     (tie.spec
     Inv-loop
     μ-loop
+    mul-darts
     loop-holds
-    mul-place
-    add-place
-    add-place-2
-    mul-place-2
-    add-place-3
+    edge-at-requires
+    add-read-u16
+    mul-read-u16
+    add-read-u16-2
     read-u16-requires
     mul-to
-    element-write-to
+    slice-write-to
     add-d
     loop-less
     loop-again
+    same-length
     returns)

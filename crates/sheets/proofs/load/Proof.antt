@@ -3,7 +3,7 @@ use mathlib.Core.Path.{_≡_, refl}
 use native.Mathlib.Omega.{arith}
 use lib.ListN.{length, getD, set}
 use borrow.Author.Needs.{needs}
-use Rattle.sheets.proofs.Filling.{Filling, filling-start, filling-step}
+use Rattle.arrays.proofs.FillLoops.{Filling, filling-start, filling-step}
 use Rattle.sheets.proofs.Writing.{loaded}
 use Rattle.sheets.proofs.load.Statement.{statement}
 use Rattle.sheets.proofs.load.Tie as tie

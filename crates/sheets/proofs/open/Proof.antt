@@ -1,81 +1,105 @@
-use Prim.Native.Nat.{ℕ, _≤_, _<_, _-_, _+_, _*_}
-use mathlib.Core.Path.{_≡_, refl, sym, ap, subst}
+-- The bytes, then tails and rotations in arrays, then the map: each way out is a verdict of the whole list.
+use mathlib.Core.Path.{_≡_, refl, sym, subst}
+use mathlib.Core.List.{List}
+use Prim.Native.Nat.{ℕ}
 use native.Mathlib.Omega.{arith}
-use lib.ListN.{length, getD, set}
 use borrow.Author.Needs.{needs}
-use lib.IntN.{pos}
-use Rattle.faces.specs.Check.{InRange}
-use Rattle.rotations.specs.Arrays.{at}
+use Rattle.refusals.specs.Order.{NoneOf}
+use Rattle.maps.specs.Map.{Map}
+use Rattle.maps.specs.Check.{InRange}
+use Rattle.arrays.specs.At.{at}
+use Rattle.arrays.specs.Maps.{mapOf}
+use Rattle.arrays.proofs.FillLoops.{same-everywhere}
 use Rattle.rotations.specs.MapChecks.{MapJudged}
-use Rattle.records.specs.Sheet.{edgesOf}
+use Rattle.records.specs.Sheet.{sheetMap, byteChecks}
 use Rattle.records.proofs.Bytes.{bytes-range}
-use Rattle.sheets.proofs.Filling.{same-everywhere}
-use Rattle.sheets.proofs.Opening.{tails-are, rotations-are, capacities-are, maps-are, bytes-room, opens-refused, opens-judged}
+use Rattle.sheets.proofs.Opening.{maps-are, bytes-room, opens-refused, opens-judged}
 use Rattle.sheets.proofs.open.Statement.{statement}
 use Rattle.sheets.proofs.open.Tie as tie
-use Rattle.sheets.proofs.open.Reads as reads
-use Rattle.sheets.proofs.open.Lts as lts
-use Rattle.records.proofs.check_bytes.Reads as check-bytes-reads
-use Rattle.records.proofs.edges_of.Reads as edges-of-reads
-use Rattle.records.proofs.nodes_of.Reads as nodes-of-reads
-use Rattle.rotations.proofs.check_map.Reads as check-map-reads
-use Rattle.sheets.proofs.fill_capacities.Reads as fill-capacities-reads
-use Rattle.sheets.proofs.fill_fields.Reads as fill-fields-reads
 
--- src/lib.rt:68:9
 check-bytes-requires : tie.Need-check-bytes-requires
 check-bytes-requires c κs = search needs
 
--- src/lib.rt:69:29
 enum-known-bytes : tie.Need-enum-known-bytes
 enum-known-bytes c = search needs
 
--- src/lib.rt:79:9
+refused-requires : tie.Need-refused-requires
+refused-requires c κs = search needs
+
 returns : tie.Need-returns
-returns c = opens-refused _ _ _ (rw (c .before .bytes .given .1) at (c .before .before .before .check-bytes .ensures))
+returns c =
+    let judged = c .before .before .before .before in
+    (judged .before .before .pre, opens-refused _ _ _ _ _ _ (c .refused .ensures) (rw (c .before .before .bytes .given .1) at (judged .check-bytes .ensures)))
 
 enum-told : tie.Need-enum-told
 enum-told c = search needs
 
--- src/lib.rt:84:9
+-- ── the bytes passed ──
+abbrev sheet : tie.After-enum-told → List ℕ
+sheet c = c .before .before .before .before .args .s .now
+
+passed : (c : tie.After-enum-told) → NoneOf (byteChecks (sheet c))
+passed c = rw (c .enum-told .given .1) at (c .before .before .check-bytes .ensures)
+
 nodes-of-requires : tie.Need-nodes-of-requires
-nodes-of-requires c κs = bytes-room (c .before .before .before .before .args .s .now) (rw (c .enum-told .given .1) at (c .before .before .check-bytes .ensures)) .0
+nodes-of-requires c κs = bytes-room (sheet c) (passed c) .0
 
--- src/lib.rt:85:9
 edges-of-requires : tie.Need-edges-of-requires
-edges-of-requires c κs = bytes-room (c .before .before .before .before .before .args .s .now) (rw (c .before .enum-told .given .1) at (c .before .before .before .check-bytes .ensures)) .0
+edges-of-requires c κs = bytes-room (sheet (c .before)) (passed (c .before)) .0
 
--- src/lib.rt:86:23
-mul-fill-fields : tie.Need-mul-fill-fields
-mul-fill-fields c = omega (arith, c .edges-of .ensures, bytes-room (c .before .before .before .before .before .before .args .s .now) (rw (c .before .before .enum-told .given .1) at (c .before .before .before .before .check-bytes .ensures)))
+fill-tails-requires : tie.Need-fill-tails-requires
+fill-tails-requires c κs = let e = c .before in (passed (e .before .before), e .edges-of .ensures, refl, same-everywhere 1024 0)
 
--- src/lib.rt:86:5
-fill-fields-requires : tie.Need-fill-fields-requires
-fill-fields-requires c κs = let room = bytes-room (c .before .before .before .before .before .before .before .args .s .now) (rw (c .before .before .before .enum-told .given .1) at (c .before .before .before .before .before .check-bytes .ensures)) in let e = c .before .edges-of .ensures in (refl, omega arith, omega arith, omega arith, omega arith, same-everywhere 1024 0)
+fill-rotations-requires : tie.Need-fill-rotations-requires
+fill-rotations-requires c κs = let e = c .before .before .before in (passed (e .before .before), e .edges-of .ensures, refl, same-everywhere 1024 0)
 
--- src/lib.rt:87:23
-mul-fill-fields-2 : tie.Need-mul-fill-fields-2
-mul-fill-fields-2 c = omega (arith, c .before .before .edges-of .ensures, bytes-room (c .before .before .before .before .before .before .before .before .args .s .now) (rw (c .before .before .before .before .enum-told .given .1) at (c .before .before .before .before .before .before .check-bytes .ensures)))
+-- ── the arrays are filled ──
+abbrev counted : tie.After-fill-rotations → tie.After-edges-of
+counted c = c .before .before .before .before
 
--- src/lib.rt:87:5
-fill-fields-requires-2 : tie.Need-fill-fields-requires-2
-fill-fields-requires-2 c κs = let room = bytes-room (c .before .before .before .before .before .before .before .before .before .args .s .now) (rw (c .before .before .before .before .before .enum-told .given .1) at (c .before .before .before .before .before .before .before .check-bytes .ensures)) in let e = c .before .before .before .edges-of .ensures in (refl, omega arith, omega arith, omega arith, omega arith, same-everywhere 1024 0)
+abbrev told : tie.After-fill-rotations → tie.After-enum-told
+told c = counted c .before .before
 
--- src/lib.rt:88:24
-mul-fill-capacities : tie.Need-mul-fill-capacities
-mul-fill-capacities c = omega (arith, c .before .before .before .before .edges-of .ensures, bytes-room (c .before .before .before .before .before .before .before .before .before .before .args .s .now) (rw (c .before .before .before .before .before .before .enum-told .given .1) at (c .before .before .before .before .before .before .before .before .check-bytes .ensures)))
+abbrev map' : tie.After-fill-rotations → Map
+map' c =
+    mapOf (counted c .before .nodes-of .result) (counted c .edges-of .result) (c .before .before .fill-tails .last .1 .1 .0) (c .fill-rotations .last .1 .1 .0)
 
--- src/lib.rt:88:5
-fill-capacities-requires : tie.Need-fill-capacities-requires
-fill-capacities-requires c κs = let room = bytes-room (c .before .before .before .before .before .before .before .before .before .before .before .args .s .now) (rw (c .before .before .before .before .before .before .before .enum-told .given .1) at (c .before .before .before .before .before .before .before .before .before .check-bytes .ensures)) in let e = c .before .before .before .before .before .edges-of .ensures in (refl, omega arith, omega arith, omega arith, same-everywhere 1024 (pos 0))
+map-is : (c : tie.After-fill-rotations) → map' c ≡ sheetMap (sheet (told c))
+map-is c =
+    maps-are (sheet (told c)) _ _ (c .before .before .fill-tails .last .1 .1 .0) (c .fill-rotations .last .1 .1 .0)
+    (counted c .before .nodes-of .ensures) (counted c .edges-of .ensures) (c .before .before .fill-tails .ensures .1) (c .fill-rotations .ensures .1)
 
--- src/lib.rt:89:9
 check-map-requires : tie.Need-check-map-requires
-check-map-requires c κs = let passed = (rw (c .before .before .before .before .before .before .before .before .before .before .before .enum-told .given .1) at (c .before .before .before .before .before .before .before .before .before .before .before .before .before .check-bytes .ensures)) in let room = bytes-room (c .before .before .before .before .before .before .before .before .before .before .before .before .before .before .before .args .s .now) passed in let n = c .before .before .before .before .before .before .before .before .before .before .nodes-of .ensures in let e = c .before .before .before .before .before .before .before .before .before .edges-of .ensures in let all : 2 * c .before .before .before .before .before .before .before .before .before .edges-of .result ≡ 2 * edgesOf (c .before .before .before .before .before .before .before .before .before .before .before .before .before .before .before .args .s .now) = ap (λ m. 2 * m) e in let ts = tails-are (c .before .before .before .before .before .before .before .before .before .before .before .before .before .before .before .args .s .now) (2 * c .before .before .before .before .before .before .before .before .before .edges-of .result) all (c .before .before .before .before .before .before .before .fill-fields .last .1 .1 .1 .0) (c .before .before .before .before .before .before .before .fill-fields .ensures .1) in let rs = rotations-are (c .before .before .before .before .before .before .before .before .before .before .before .before .before .before .before .args .s .now) (2 * c .before .before .before .before .before .before .before .before .before .edges-of .result) all (c .before .before .before .before .before .fill-fields2 .last .1 .1 .1 .0) (c .before .before .before .before .before .fill-fields2 .ensures .1) in let cs = capacities-are (c .before .before .before .before .before .before .before .before .before .before .before .before .before .before .before .args .s .now) (2 * c .before .before .before .before .before .before .before .before .before .edges-of .result) all (c .before .before .before .fill-capacities .last .1 .1 .0) (c .before .before .before .fill-capacities .ensures .1) in let same = maps-are (c .before .before .before .before .before .before .before .before .before .before .before .before .before .before .before .args .s .now) (c .before .before .before .before .before .before .before .before .before .before .nodes-of .result) (c .before .before .before .before .before .before .before .before .before .edges-of .result) (c .before .before .before .before .before .before .before .fill-fields .last .1 .1 .1 .0) (c .before .before .before .before .before .fill-fields2 .last .1 .1 .1 .0) n e ts rs in (omega arith, omega arith, omega arith, refl, subst InRange (sym same) (bytes-range (c .before .before .before .before .before .before .before .before .before .before .before .before .before .before .before .args .s .now) passed))
+check-map-requires c κs =
+    let f = c .before .before .before in
+    let t = told f in
+    let room = bytes-room (sheet t) (passed t) in
+    let n = counted f .before .nodes-of .ensures in
+    let e = counted f .edges-of .ensures in (
+      omega (arith, e, room .3),
+      omega (arith, e, room .4),
+      omega (arith, n, room .2),
+      t .before .before .before .before .pre,
+      subst InRange (sym (map-is f)) (bytes-range (sheet t) (passed t)),
+    )
 
--- src/lib.rt:61:1
+outer-of-requires : tie.Need-outer-of-requires
+outer-of-requires c κs = search needs
+
 returns-2 : tie.Need-returns-2
-returns-2 c = let passed = (rw (c .before .before .before .before .before .before .before .before .before .before .before .before .enum-told .given .1) at (c .before .before .before .before .before .before .before .before .before .before .before .before .before .before .check-bytes .ensures)) in let room = bytes-room (c .before .before .before .before .before .before .before .before .before .before .before .before .before .before .before .before .args .s .now) passed in let n = c .before .before .before .before .before .before .before .before .before .before .before .nodes-of .ensures in let e = c .before .before .before .before .before .before .before .before .before .before .edges-of .ensures in let all : 2 * c .before .before .before .before .before .before .before .before .before .before .edges-of .result ≡ 2 * edgesOf (c .before .before .before .before .before .before .before .before .before .before .before .before .before .before .before .before .args .s .now) = ap (λ m. 2 * m) e in let ts = tails-are (c .before .before .before .before .before .before .before .before .before .before .before .before .before .before .before .before .args .s .now) (2 * c .before .before .before .before .before .before .before .before .before .before .edges-of .result) all (c .before .before .before .before .before .before .before .before .fill-fields .last .1 .1 .1 .0) (c .before .before .before .before .before .before .before .before .fill-fields .ensures .1) in let rs = rotations-are (c .before .before .before .before .before .before .before .before .before .before .before .before .before .before .before .before .args .s .now) (2 * c .before .before .before .before .before .before .before .before .before .before .edges-of .result) all (c .before .before .before .before .before .before .fill-fields2 .last .1 .1 .1 .0) (c .before .before .before .before .before .before .fill-fields2 .ensures .1) in let cs = capacities-are (c .before .before .before .before .before .before .before .before .before .before .before .before .before .before .before .before .args .s .now) (2 * c .before .before .before .before .before .before .before .before .before .before .edges-of .result) all (c .before .before .before .before .fill-capacities .last .1 .1 .0) (c .before .before .before .before .fill-capacities .ensures .1) in let same = maps-are (c .before .before .before .before .before .before .before .before .before .before .before .before .before .before .before .before .args .s .now) (c .before .before .before .before .before .before .before .before .before .before .before .nodes-of .result) (c .before .before .before .before .before .before .before .before .before .before .edges-of .result) (c .before .before .before .before .before .before .before .before .fill-fields .last .1 .1 .1 .0) (c .before .before .before .before .before .before .fill-fields2 .last .1 .1 .1 .0) n e ts rs in opens-judged (c .before .before .before .before .before .before .before .before .before .before .before .before .before .before .before .before .args .s .now) _ passed n e refl ts rs cs (c .check-map .result) (subst (λ 𝓜. MapJudged 𝓜 (at (c .check-map .last .1 .1 .1 .1 .0)) (c .check-map .result)) same (c .check-map .ensures .1))
+returns-2 c =
+    let m = c .before in
+    let f = m .before .before .before .before in
+    let t = told f in
+    let v = m .check-map .result .verdict in
+    let lefts = m .check-map .last .1 .1 .1 .1 .0 in
+    let nodes = counted f .before .nodes-of in
+    let edges = counted f .edges-of in (
+      m .check-map .ensures .0,
+      opens-judged (sheet t) lefts (record { verdict = v; nodes = nodes .result; edges = edges .result; faces = m .check-map .result .faces; outer = c .outer-of .result })
+          (passed t) (nodes .ensures) (edges .ensures) (c .outer-of .ensures) v
+          (subst (λ 𝓜. MapJudged 𝓜 (at lefts) (m .check-map .result .faces) v) (map-is f) (m .check-map .ensures .1)),
+    )
 
 pub open-spec : {M : Type 1} → statement M
 open-spec =
@@ -83,15 +107,13 @@ open-spec =
     (tie.spec
     check-bytes-requires
     enum-known-bytes
+    refused-requires
     returns
     enum-told
     nodes-of-requires
     edges-of-requires
-    mul-fill-fields
-    fill-fields-requires
-    mul-fill-fields-2
-    fill-fields-requires-2
-    mul-fill-capacities
-    fill-capacities-requires
+    fill-tails-requires
+    fill-rotations-requires
     check-map-requires
+    outer-of-requires
     returns-2)

@@ -1,85 +1,102 @@
-use Prim.Native.Nat.{ℕ, _≤_, _<_, _-_, _+_, _*_}
-use mathlib.Core.Path.{_≡_, refl, sym, _∙_, ap}
+-- The sheet is opened; then room for two elements to an edge in each slice; then the fields, straight from the bytes.
+use mathlib.Core.Path.{_≡_, refl, sym, _∙_, subst}
 use mathlib.Core.Logic.{inl, inr}
+use mathlib.Core.List.{List}
+use Prim.Native.Nat.{ℕ, _≤_, _*_}
 use native.Mathlib.Omega.{arith}
-use lib.ListN.{length, getD, set}
+use lib.ListN.{length}
 use borrow.Author.Needs.{needs}
-use Rattle.sheets.proofs.Reading.{sheet-counts, read-refused, read-short, read-whole, filled-as, filled-length}
+use Rattle.refusals.specs.Order.{NoneOf}
+use Rattle.records.specs.Sheet.{edgesOf, edgeAt}
+use Rattle.sheets.specs.Open.{sheetChecks, Numbers}
+use Rattle.sheets.proofs.Accepted.{sheet-bytes, sheet-counts}
+use Rattle.sheets.proofs.Opening.{bytes-room, opens-passed, opens-first}
+use Rattle.sheets.proofs.Reading.{read-refused, read-short, read-whole, tails-read, rotations-read, capacities-read}
 use Rattle.sheets.proofs.read.Statement.{statement}
 use Rattle.sheets.proofs.read.Tie as tie
-use Rattle.sheets.proofs.read.Reads as reads
-use Rattle.sheets.proofs.read.Lts as lts
-use Rattle.sheets.proofs.copy_out.Reads as copy-out-reads
-use Rattle.sheets.proofs.copy_out_signed.Reads as copy-out-signed-reads
-use Rattle.sheets.proofs.narrow.Reads as narrow-reads
-use Rattle.sheets.proofs.open.Reads as open-reads
 
--- src/lib.rt:138:9
 open-requires : tie.Need-open-requires
-open-requires c κs = search needs
+open-requires c κs = refl
 
--- src/lib.rt:140:29
 enum-known-verdict : tie.Need-enum-known-verdict
 enum-known-verdict c = search needs
 
--- src/lib.rt:141:9
 returns : tie.Need-returns
-returns c = (read-refused _ _ _ _ _ _ (rw (c .before .verdict .given .1) at (c .before .before .before .«open» .ensures)), refl, refl, refl)
+returns c = (read-refused _ _ _ _ _ _ (opens-first _ _ (c .before .before .before .«open» .result) (c .before .verdict .given .1) (c .before .before .before .«open» .ensures .1)), refl, refl, refl)
 
 enum-told : tie.Need-enum-told
 enum-told c = search needs
 
--- src/lib.rt:145:17
+-- ── the sheet is accepted ──
+abbrev begun : tie.After-enum-told → tie.Start
+begun c = c .before .before .before .before .before .before .before
+
+abbrev sheet : tie.After-enum-told → List ℕ
+sheet c = begun c .args .sheet .now
+
+accepted : (c : tie.After-enum-told) → NoneOf (sheetChecks (sheet c)) × Numbers (sheet c) (c .before .before .«open» .last .1 .0) (c .before .before .«open» .result)
+accepted c = opens-passed (sheet c) _ (c .before .before .«open» .result) (c .enum-told .given .1) (c .before .before .«open» .ensures .1)
+
+few : (c : tie.After-enum-told) → (c .before .before .«open» .result .edges ≤ 512) × (c .before .before .«open» .result .nodes ≤ 513)
+few c = let a = accepted c in let n = sheet-counts (sheet c) (a .0) in (omega (arith, a .1 .edges-are, n .3), omega (arith, a .1 .nodes-are, n .1))
+
+whole : (c : tie.After-enum-told) → edgeAt (c .before .before .«open» .result .edges) ≤ length (sheet c)
+whole c = let a = accepted c in subst (λ n. edgeAt n ≤ length (sheet c)) (sym (a .1 .edges-are)) (bytes-room (sheet c) (sheet-bytes (sheet c) (a .0)) .5)
+
 mul-darts : tie.Need-mul-darts
-mul-darts c = let h = (rw (c .before .enum-told .given .1) at (c .before .before .before .«open» .ensures)) in let n = sheet-counts (c .before .before .before .before .before .before .before .args .sheet .now) (h .0) in omega (arith, h .1 .edges)
+mul-darts c = omega (arith, few c .0)
 
--- src/lib.rt:147:9
 returns-2 : tie.Need-returns-2
-returns-2 c = let h = (rw (c .before .before .enum-told .given .1) at (c .before .before .before .before .«open» .ensures)) in let n = sheet-counts (c .before .before .before .before .before .before .before .before .args .sheet .now) (h .0) in (read-short _ _ _ _ (h .0) (inl (omega (arith, h .1 .edges))), refl, refl, refl)
+returns-2 c = let a = accepted (c .before) in (read-short _ _ _ _ (a .0) (inl (omega (arith, a .1 .edges-are))), refl, refl, refl)
 
--- src/lib.rt:150:9
 returns-3 : tie.Need-returns-3
-returns-3 c = let h = (rw (c .before .before .before .enum-told .given .1) at (c .before .before .before .before .before .«open» .ensures)) in let n = sheet-counts (c .before .before .before .before .before .before .before .before .before .args .sheet .now) (h .0) in (read-short _ _ _ _ (h .0) (inr (inl (omega (arith, h .1 .edges)))), refl, refl, refl)
+returns-3 c = let a = accepted (c .before .before) in (read-short _ _ _ _ (a .0) (inr (inl (omega (arith, a .1 .edges-are)))), refl, refl, refl)
 
--- src/lib.rt:153:9
 returns-4 : tie.Need-returns-4
-returns-4 c = let h = (rw (c .before .before .before .before .enum-told .given .1) at (c .before .before .before .before .before .before .«open» .ensures)) in let n = sheet-counts (c .before .before .before .before .before .before .before .before .before .before .args .sheet .now) (h .0) in (read-short _ _ _ _ (h .0) (inr (inr (omega (arith, h .1 .edges)))), refl, refl, refl)
+returns-4 c = let a = accepted (c .before .before .before) in (read-short _ _ _ _ (a .0) (inr (inr (omega (arith, a .1 .edges-are)))), refl, refl, refl)
 
--- src/lib.rt:155:5
-copy-out-requires : tie.Need-copy-out-requires
-copy-out-requires c κs = let h = (rw (c .before .before .before .before .before .before .before .enum-told .given .1) at (c .before .before .before .before .before .before .before .before .before .«open» .ensures)) in let n = sheet-counts (c .before .before .before .before .before .before .before .before .before .before .before .before .before .args .sheet .now) (h .0) in (omega (arith, h .1 .edges), omega (arith, c .before .before .before .before .before .if1 .left))
+-- ── there is room ──
+abbrev told : tie.Else3 → tie.After-enum-told
+told c = c .before .before .before
 
--- src/lib.rt:156:5
-copy-out-requires-2 : tie.Need-copy-out-requires-2
-copy-out-requires-2 c κs = let h = (rw (c .before .before .before .before .before .before .before .before .before .before .before .before .before .enum-told .given .1) at (c .before .before .before .before .before .before .before .before .before .before .before .before .before .before .before .«open» .ensures)) in let n = sheet-counts (c .before .before .before .before .before .before .before .before .before .before .before .before .before .before .before .before .before .before .before .args .sheet .now) (h .0) in (omega (arith, h .1 .edges), omega (arith, c .before .before .before .before .before .before .before .before .before .before .if2 .left))
+fill-fields-requires : tie.Need-fill-fields-requires
+fill-fields-requires c κs = let t = told (c .before) in (omega arith, few t .0, whole t, omega arith)
 
--- src/lib.rt:157:5
-copy-out-signed-requires : tie.Need-copy-out-signed-requires
-copy-out-signed-requires c κs = let h = (rw (c .before .before .before .before .before .before .before .before .before .before .before .before .before .before .before .before .before .before .before .enum-told .given .1) at (c .before .before .before .before .before .before .before .before .before .before .before .before .before .before .before .before .before .before .before .before .before .«open» .ensures)) in let n = sheet-counts (c .before .before .before .before .before .before .before .before .before .before .before .before .before .before .before .before .before .before .before .before .before .before .before .before .before .args .sheet .now) (h .0) in (omega (arith, h .1 .edges), omega (arith, c .before .before .before .before .before .before .before .before .before .before .before .before .before .before .before .if3 .left))
+fill-fields-requires-2 : tie.Need-fill-fields-requires-2
+fill-fields-requires-2 c κs = let t = told (c .before .before .before .before .before) in (omega arith, few t .0, whole t, omega arith)
 
--- src/lib.rt:158:24
+fill-limits-requires : tie.Need-fill-limits-requires
+fill-limits-requires c κs = let t = told (c .before .before .before .before .before .before .before .before .before) in (few t .0, whole t, omega arith)
+
 narrow-requires : tie.Need-narrow-requires
-narrow-requires c κs = let h = (rw (c .before .before .before .before .before .before .before .before .before .before .before .before .before .before .before .before .before .before .before .before .before .enum-told .given .1) at (c .before .before .before .before .before .before .before .before .before .before .before .before .before .before .before .before .before .before .before .before .before .before .before .«open» .ensures)) in let n = sheet-counts (c .before .before .before .before .before .before .before .before .before .before .before .before .before .before .before .before .before .before .before .before .before .before .before .before .before .before .before .args .sheet .now) (h .0) in omega (arith, h .1 .nodes)
+narrow-requires c κs = omega (arith, few (told (c .before .before .before .before .before .before .before .before .before .before .before)) .1)
 
--- src/lib.rt:158:47
 narrow-requires-2 : tie.Need-narrow-requires-2
-narrow-requires-2 c κs = let h = (rw (c .before .before .before .before .before .before .before .before .before .before .before .before .before .before .before .before .before .before .before .before .before .before .enum-told .given .1) at (c .before .before .before .before .before .before .before .before .before .before .before .before .before .before .before .before .before .before .before .before .before .before .before .before .«open» .ensures)) in let n = sheet-counts (c .before .before .before .before .before .before .before .before .before .before .before .before .before .before .before .before .before .before .before .before .before .before .before .before .before .before .before .before .args .sheet .now) (h .0) in omega (arith, h .1 .edges)
+narrow-requires-2 c κs = omega (arith, few (told (c .before .before .before .before .before .before .before .before .before .before .before .before)) .0)
 
--- src/lib.rt:135:1
 same-length : tie.Need-same-length
 same-length c = search needs
 
--- src/lib.rt:135:1
 same-length-2 : tie.Need-same-length-2
 same-length-2 c = search needs
 
--- src/lib.rt:135:1
 same-length-3 : tie.Need-same-length-3
 same-length-3 c = search needs
 
--- src/lib.rt:135:1
 returns-5 : tie.Need-returns-5
-returns-5 c = let h = (rw (c .before .before .before .before .before .before .before .before .before .before .before .before .before .before .before .before .before .before .before .before .before .before .before .enum-told .given .1) at (c .before .before .before .before .before .before .before .before .before .before .before .before .before .before .before .before .before .before .before .before .before .before .before .before .before .«open» .ensures)) in let n = sheet-counts (c .before .before .before .before .before .before .before .before .before .before .before .before .before .before .before .before .before .before .before .before .before .before .before .before .before .before .before .before .before .args .sheet .now) (h .0) in let m = ap (λ x. 2 * x) (h .1 .edges) in let l1 = c .before .before .before .before .before .before .before .before .before .before .before .before .before .before .before .before .before .before .before .before .before .if1 .left in let l2 = c .before .before .before .before .before .before .before .before .before .before .before .before .before .before .before .before .before .before .before .before .if2 .left in let l3 = c .before .before .before .before .before .before .before .before .before .before .before .before .before .before .before .before .before .before .before .if3 .left in (read-whole _ _ _ _ (h .0) (omega (arith, h .1 .edges)) (omega (arith, h .1 .edges)) (omega (arith, h .1 .edges)), c .before .narrow .ensures ∙ h .1 .nodes, c .narrow2 .ensures ∙ h .1 .edges, filled-as _ _ _ _ _ _ (c .before .before .before .before .before .before .before .before .before .before .before .before .before .before .before .copy-out .ensures) m (h .1 .tails), filled-as _ _ _ _ _ _ (c .before .before .before .before .before .before .before .before .before .copy-out2 .ensures) m (h .1 .rotations), filled-as _ _ _ _ _ _ (c .before .before .before .copy-out-signed .ensures) m (h .1 .capacities))
+returns-5 c =
+    let f = c .before .before .before in
+    let roomy = f .before .before .before .before .before .before .before .before .before .before in
+    let t = told roomy in
+    let a = accepted t in
+    let e = a .1 .edges-are in (
+      read-whole (sheet t) _ _ _ (a .0) (omega (arith, e, roomy .before .before .if1 .left)) (omega (arith, e, roomy .before .if2 .left)) (omega (arith, e, roomy .if3 .left)),
+      c .before .narrow .ensures ∙ a .1 .nodes-are,
+      c .narrow2 .ensures ∙ e,
+      tails-read (sheet t) _ e _ _ (f .before .before .before .before .before .before .before .before .fill-fields .ensures),
+      rotations-read (sheet t) _ e _ _ (f .before .before .before .before .fill-fields2 .ensures),
+      capacities-read (sheet t) _ e _ _ (f .fill-limits .ensures),
+    )
 
 pub read-spec : {M : Type 1} → statement M
 read-spec =
@@ -93,9 +110,9 @@ read-spec =
     returns-2
     returns-3
     returns-4
-    copy-out-requires
-    copy-out-requires-2
-    copy-out-signed-requires
+    fill-fields-requires
+    fill-fields-requires-2
+    fill-limits-requires
     narrow-requires
     narrow-requires-2
     same-length

@@ -2,6 +2,8 @@
 use mathlib.Core.Path.{refl}
 use native.Mathlib.Omega.{arith}
 use borrow.Author.Needs.{needs}
+use lib.IntN.{pos}
+use Rattle.arrays.proofs.FillLoops.{same-everywhere}
 use Rattle.solver.proofs.Ringing.{few-darts, ring-round, heights-fillable, choosable, chosen}
 use Rattle.solver.proofs.cut_of_ring.Statement.{statement}
 use Rattle.solver.proofs.cut_of_ring.Tie as tie
@@ -18,7 +20,7 @@ mul-fill-winding : tie.Need-mul-fill-winding
 mul-fill-winding c = omega (arith, c .before .before .before .pre .2 .few-edges)
 
 fill-winding-requires : tie.Need-fill-winding-requires
-fill-winding-requires c κs = let q = c .before .before .before .before .pre .2 in (refl, few-darts q, omega arith, ring-round q)
+fill-winding-requires c κs = let q = c .before .before .before .before .pre .2 in (refl, few-darts q, omega arith, ring-round q, same-everywhere 1024 (pos 0))
 
 mul-fill-heights : tie.Need-mul-fill-heights
 mul-fill-heights c = omega (arith, c .before .before .before .before .before .before .before .pre .2 .few-edges)

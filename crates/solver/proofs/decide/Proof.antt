@@ -5,10 +5,10 @@ use Prim.Native.Nat.{_<_}
 use native.Mathlib.Omega.{arith}
 use lib.IntN.{ℤ}
 use borrow.Author.Needs.{needs}
-use Rattle.traversal.specs.Arrays.{atℤ}
-use Rattle.solver.specs.Question.{mapOf}
+use Rattle.arrays.specs.At.{atℤ}
+use Rattle.arrays.specs.Maps.{mapOf}
 use Rattle.solver.specs.Search.{Lengthened}
-use Rattle.solver.proofs.Preparing.{same-value, small-value, lengthened-for, faces-counted, faces-by-counts}
+use Rattle.solver.proofs.Preparing.{same-value, small-value, lengthened-for}
 use Rattle.solver.proofs.Deciding.{searchable, decided-can, ringed, decided-cannot}
 use Rattle.solver.proofs.decide.Statement.{statement}
 use Rattle.solver.proofs.decide.Tie as tie
@@ -47,39 +47,47 @@ known c =
     let d = t .before in
     lengthened-for (d .dart-at .ensures .1) (t .dart-at2 .ensures .1) (same-value (begun c .pre .4)) (c .lengths-for .ensures .1)
 
-add-faces : tie.Need-add-faces
-add-faces c = omega (arith, begun c .pre .2 .few-edges)
+-- ── the root is the face of the outer dart ──
+mul-wide : tie.Need-mul-wide
+mul-wide c = omega (arith, begun c .pre .2 .outer-in, begun c .pre .2 .few-edges)
 
-sub-faces : tie.Need-sub-faces
-sub-faces c = omega (arith, faces-counted (begun c .pre .2))
+element-copy-out-wide : tie.Need-element-copy-out-wide
+element-copy-out-wide c = omega (arith, begun c .pre .2 .outer-in, begun c .pre .2 .few-edges)
+
+wide-requires : tie.Need-wide-requires
+wide-requires c κs = search needs
 
 settle-requires : tie.Need-settle-requires
 settle-requires c κs =
-    let f = c .before .before .before in
+    let w = c .before .before .before in
+    let f = w .before .before in
     let p = begun f .pre in
-    (refl, p .2 .few-edges, p .1, searchable (begun f .args .lefts .now) (p .2) (p .3) (row f) (known f) _ (faces-by-counts (p .2)))
+    (refl, p .2 .few-edges, p .1, searchable (begun f .args .lefts .now) (p .2) (p .3) (row f) (known f) (w .wide .ensures))
 
 enum-known-outcome : tie.Need-enum-known-outcome
 enum-known-outcome c = search needs
 
 -- ── a ring: the dart that closes it ──
+abbrev faced : tie.After-settle → tie.After-wide
+faced c = c .before .before .before .before
+
 abbrev measured : tie.After-settle → tie.After-lengths-for
-measured c = c .before .before .before .before
+measured c = faced c .before .before
 
 closes : (c : tie.After-known-told) → c .before .outcome .given .0 .0 < 1024
 closes c =
     let s = c .before .before .before .before in
-    let p = s .before .before .before .before .before .before .before .before .pre in
+    let p = begun (measured s) .pre in
     omega (arith, (rw (c .before .outcome .given .1) at (s .settle .ensures)) .1, p .2 .few-edges)
 
-mul-wide : tie.Need-mul-wide
-mul-wide c = omega (arith, closes c)
+mul-wide-2 : tie.Need-mul-wide-2
+mul-wide-2 c = omega (arith, closes c)
 
-element-copy-out-wide : tie.Need-element-copy-out-wide
-element-copy-out-wide c = omega (arith, closes c)
+element-copy-out-wide-2 : tie.Need-element-copy-out-wide-2
+element-copy-out-wide-2 c = omega (arith, closes c)
 
-wide-requires : tie.Need-wide-requires
-wide-requires c κs = search needs
+wide-requires-2 : tie.Need-wide-requires-2
+wide-requires-2 c κs = search needs
 
 cut-of-ring-requires : tie.Need-cut-of-ring-requires
 cut-of-ring-requires c κs =
@@ -90,7 +98,7 @@ cut-of-ring-requires c κs =
     let p = begun f .pre in (
       p .0,
       omega (arith, f .before .before .before .dart-at .ensures .0),
-      ringed (begun f .args .lefts .now) (p .2) (p .3) (row f) (known f) _ (faces-by-counts (p .2)) _ (w .wide .ensures) ((rw (o .outcome .given .1) at (s .settle .ensures)) .2),
+      ringed (begun f .args .lefts .now) (p .2) (p .3) (row f) (known f) (faced s .wide .ensures) _ (w .wide2 .ensures) ((rw (o .outcome .given .1) at (s .settle .ensures)) .2),
     )
 
 same-length : tie.Need-same-length
@@ -105,7 +113,7 @@ returns c =
     let e = c .cut-of-ring .ensures in
     let inside' = c .cut-of-ring .last .1 .1 .1 .1 .1 .1 .1 .1 .1 .1 .0 in (
       e .0,
-      decided-cannot (begun f .args .lefts .now) (p .2) (p .3) (row f) (known f) _ (faces-by-counts (p .2)) _ _ inside' ((rw (o .outcome .given .1) at (s .settle .ensures)) .0) (e .1),
+      decided-cannot (begun f .args .lefts .now) (p .2) (p .3) (row f) (known f) (faced s .wide .ensures) _ _ inside' ((rw (o .outcome .given .1) at (s .settle .ensures)) .0) (e .1),
     )
 
 enum-told : tie.Need-enum-told
@@ -120,7 +128,7 @@ returns-2 c =
     let f = measured s in
     let p = begun f .pre in
     let r = rw (c .enum-told .given .1) at (s .settle .ensures) in
-    (p .0, decided-can (begun f .args .lefts .now) (p .2) (p .3) (row f) (known f) _ (faces-by-counts (p .2)) (r .0) (r .1) _ _ (begun f .args .inside .now) (r .2))
+    (p .0, decided-can (begun f .args .lefts .now) (p .2) (p .3) (row f) (known f) (faced s .wide .ensures) (r .0) (r .1) _ _ (begun f .args .inside .now) (r .2))
 
 pub decide-spec : {M : Type 1} → statement M
 decide-spec =
@@ -131,13 +139,14 @@ decide-spec =
     mul-dart-at-2
     dart-at-requires-2
     lengths-for-requires
-    add-faces
-    sub-faces
-    settle-requires
-    enum-known-outcome
     mul-wide
     element-copy-out-wide
     wide-requires
+    settle-requires
+    enum-known-outcome
+    mul-wide-2
+    element-copy-out-wide-2
+    wide-requires-2
     cut-of-ring-requires
     same-length
     returns

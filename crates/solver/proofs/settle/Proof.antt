@@ -2,7 +2,8 @@
 use mathlib.Core.Path.{refl}
 use native.Mathlib.Omega.{arith}
 use borrow.Author.Needs.{needs}
-use Rattle.solver.proofs.Settling.{ring-kept, flowing}
+use Rattle.arrays.proofs.FillLoops.{same-everywhere}
+use Rattle.solver.proofs.SettledFlows.{ring-kept, flowing}
 use Rattle.solver.proofs.settle.Statement.{statement}
 use Rattle.solver.proofs.settle.Tie as tie
 
@@ -12,7 +13,7 @@ mul-group c = omega (arith, c .pre .1)
 group-requires : tie.Need-group-requires
 group-requires c κs =
     let p = c .before .before .before .pre in
-    (omega (arith, p .1), p .3 .sound .few-faces, p .3 .sound .right-in, refl, refl, refl)
+    (omega (arith, p .1), p .3 .sound .few-faces, p .3 .sound .right-in, refl, refl, refl, same-everywhere 1024 0)
 
 mul-search : tie.Need-mul-search
 mul-search c = omega (arith, c .before .before .before .before .before .before .before .pre .1)

@@ -11,8 +11,8 @@ use mir.Val.{toZ, ofZ}
 use borrow.Author.Count.{below-more}
 use borrow.Author.Needs.{needs}
 use Rattle.signed.proofs.Laws.{number-of-bits}
-use Rattle.traversal.specs.Arrays.{at, atℤ}
-use Rattle.thresholds.specs.Cut.{above}
+use Rattle.arrays.specs.At.{at, atℤ}
+use Rattle.thresholds.specs.Above.{above}
 use Rattle.thresholds.proofs.flag_above.Statement.{statement}
 use Rattle.thresholds.proofs.flag_above.Tie as tie
 

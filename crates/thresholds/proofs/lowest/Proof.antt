@@ -5,7 +5,7 @@ use mir.Syntax.{w32}
 use mir.Val.{toZ}
 use borrow.Author.Needs.{needs}
 use Rattle.signed.proofs.Laws.{number-of-bits}
-use Rattle.traversal.specs.Arrays.{atℤ}
+use Rattle.arrays.specs.At.{atℤ}
 use Rattle.thresholds.proofs.Lowering.{Low, low-start, low-step}
 use Rattle.thresholds.proofs.lowest.Statement.{statement}
 use Rattle.thresholds.proofs.lowest.Tie as tie

@@ -3,7 +3,7 @@ use mathlib.Core.Path.{sym, _∙_}
 use Prim.Native.Nat.{_-_}
 use native.Mathlib.Omega.{arith}
 use borrow.Author.Needs.{needs}
-use Rattle.traversal.specs.Arrays.{at}
+use Rattle.arrays.specs.At.{at}
 use Rattle.traversal.proofs.Ahead.{Ahead, ahead-start, ahead-step, ahead-in}
 use Rattle.traversal.proofs.dart_at.Statement.{statement}
 use Rattle.traversal.proofs.dart_at.Tie as tie

@@ -5,9 +5,9 @@ use native.Mathlib.Omega.{arith}
 use lib.ListN.{length, length-set}
 use lib.Seq.{getD-set-same, getD-set-other}
 use borrow.Author.Needs.{needs}
-use Rattle.faces.specs.Dart.{rev}
-use Rattle.faces.proofs.Darts.{rev-in}
-use Rattle.traversal.specs.Arrays.{at}
+use Rattle.maps.specs.Dart.{rev}
+use Rattle.maps.proofs.Darts.{rev-in}
+use Rattle.arrays.specs.At.{at}
 use Rattle.traversal.proofs.Spreading.{Spreading, few, room, room-between, finished, spreading-start, spreading-on}
 use Rattle.traversal.proofs.spread.Statement.{statement}
 use Rattle.traversal.proofs.spread.Tie as tie
@@ -113,7 +113,7 @@ add-requires-2 c κs =
     let d-below : w .wide .result < a .darts = omega (arith, w .wide .ensures, ξ .inside (o .head) (w .before .before .loop-test .taken)) in
     let t-below : v .before .before .before .wide2 .result < a .darts = omega (arith, v .before .before .before .wide2 .ensures, p .5 (w .wide .result) d-below) in
     let r-below : rev (w .wide .result) < 2 * (a .darts / 2) = rev-in (a .darts / 2) (w .wide .result) (omega (arith, d-below, p .3)) in
-    let back-below : c .before .before .reverse .result < a .darts = omega (arith, c .before .before .reverse .ensures, r-below) in (
+    let back-below : c .before .before .reverse .result < a .darts = omega (arith, c .before .before .reverse .ensures .0, r-below) in (
       q .0,
       q .1,
       omega (arith, back-below, p .2),
@@ -145,7 +145,7 @@ loop-again c =
     let ξ = o .inv .2 in
     let q = v .add .ensures in
     let q2 = c .add2 .ensures in
-    let back = c .before .before .before .reverse .ensures in
+    let back = c .before .before .before .reverse .ensures .0 in
     let d-below : w .wide .result < a .darts = omega (arith, w .wide .ensures, ξ .inside (o .head) (w .before .before .loop-test .taken)) in
     let t-below : v .before .before .before .wide2 .result < a .darts = omega (arith, v .before .before .before .wide2 .ensures, p .5 (w .wide .result) d-below) in
     let r-below : rev (w .wide .result) < 2 * (a .darts / 2) = rev-in (a .darts / 2) (w .wide .result) (omega (arith, d-below, p .3)) in

@@ -7,8 +7,8 @@ use lib.Seq.{getD-set-same}
 use borrow.Author.Needs.{read-below}
 use borrow.Author.Count.{below-more}
 use borrow.Author.Needs.{needs}
-use Rattle.traversal.specs.Arrays.{at}
-use Rattle.traversal.specs.Arrays.{unmarked}
+use Rattle.arrays.specs.At.{at}
+use Rattle.traversal.specs.Mark.{unmarked}
 use Rattle.traversal.proofs.unmark_all.Statement.{statement}
 use Rattle.traversal.proofs.unmark_all.Tie as tie
 

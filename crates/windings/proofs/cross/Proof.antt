@@ -8,14 +8,14 @@ use mir.Val.{toZ, ofZ}
 use borrow.Author.Needs.{needs}
 use Rattle.integers.specs.Limited.{Limited}
 use Rattle.signed.proofs.Laws.{number-of-bits}
-use Rattle.traversal.specs.Arrays.{atℤ}
-use Rattle.faces.proofs.Darts.{rev-apart}
+use Rattle.arrays.specs.At.{atℤ}
+use Rattle.maps.proofs.Darts.{rev-apart}
 use Rattle.windings.proofs.Crossing.{plus-read, minus-read, plus-fits, minus-fits, crossed-once}
 use Rattle.windings.proofs.cross.Statement.{statement}
 use Rattle.windings.proofs.cross.Tie as tie
 
-other-requires : tie.Need-other-requires
-other-requires c κs = search needs
+reverse-requires : tie.Need-reverse-requires
+reverse-requires c κs = search needs
 
 mul-plus : tie.Need-mul-plus
 mul-plus c = search needs
@@ -42,7 +42,7 @@ element-copy-out-minus c = search needs
 minus-requires : tie.Need-minus-requires
 minus-requires c κs =
     let s = c .before .before .before .before in
-    let o = c .before .before .before .other in
+    let o = c .before .before .before .reverse in
     let l = s .args .winding .now in
     let a = toZ w32 (ofZ w32 (c .before .plus .result)) in
     let same = getD-set-other l (s .args .p) (o .result) a (pos 0) (λ q. rev-apart (s .args .p) (sym (o .ensures .0) ∙ q)) in
@@ -57,7 +57,7 @@ element-set-from-winding-2 c = search needs
 returns : tie.Need-returns
 returns c =
     let s = c .before .before .before .before .before in
-    let o = c .before .before .before .before .other in
+    let o = c .before .before .before .before .reverse in
     let l = s .args .winding .now in
     let p = s .args .p in
     let x = o .result in
@@ -75,7 +75,7 @@ pub cross-spec : {M : Type 1} → statement M
 cross-spec =
     tie.close
     (tie.spec
-    other-requires
+    reverse-requires
     mul-plus
     element-copy-out-plus
     plus-requires

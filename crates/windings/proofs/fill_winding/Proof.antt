@@ -3,8 +3,8 @@ use mathlib.Core.Path.{_≡_}
 use native.Mathlib.Omega.{arith}
 use lib.ListN.{length}
 use borrow.Author.Needs.{needs}
-use Rattle.grouping.specs.Grouped.{rightOf}
-use Rattle.traversal.specs.Arrays.{at, atℤ}
+use Rattle.arrays.specs.Maps.{rightOf}
+use Rattle.arrays.specs.At.{at, atℤ}
 use Rattle.search.specs.Parents.{up}
 use Rattle.windings.proofs.Round.{rev-below, between, Walking, set-off, face-in, parent-in, few-yet, walk-on, walk-end, nearer}
 use Rattle.windings.proofs.fill_winding.Statement.{statement}
@@ -17,24 +17,21 @@ Inv-loop lefts parents darts y winding₀ x₀ winding x =
 abbrev μ-loop : tie.MeasureT-loop
 μ-loop lefts parents darts y winding₀ x₀ winding x = between (up (rightOf lefts) (at parents)) y 1024 x
 
-clear-requires : tie.Need-clear-requires Inv-loop μ-loop
-clear-requires c κs = (c .before .pre .0, c .before .pre .1)
-
 loop-holds : tie.Need-loop-holds Inv-loop μ-loop
-loop-holds c = let e = c .clear .ensures in (e .0, set-off (e .1))
+loop-holds c = (c .pre .0, set-off (λ d l. c .pre .4 d))
 
 mul-wide : tie.Need-mul-wide Inv-loop μ-loop
-mul-wide c = let r = c .before .before .before .pre .3 in omega (arith, face-in r (c .loop .inv .1))
+mul-wide c = let r = c .before .pre .3 in omega (arith, face-in r (c .loop .inv .1))
 
 element-copy-out-wide : tie.Need-element-copy-out-wide Inv-loop μ-loop
-element-copy-out-wide c = let r = c .before .before .before .pre .3 in face-in r (c .loop .inv .1)
+element-copy-out-wide c = let r = c .before .pre .3 in face-in r (c .loop .inv .1)
 
 wide-requires : tie.Need-wide-requires Inv-loop μ-loop
 wide-requires c κs = search needs
 
 cross-requires : tie.Need-cross-requires Inv-loop μ-loop
 cross-requires c κs =
-    let s = c .before .before .before .before .before .before in
+    let s = c .before .before .before .before in
     let o = c .before .before .before .loop in
     let p = c .before .wide .result in
     let r = s .pre .3 in
@@ -43,26 +40,26 @@ cross-requires c κs =
 
 right-requires : tie.Need-right-requires Inv-loop μ-loop
 right-requires c κs =
-    let s = c .before .before .before .before .before .before .before in
+    let s = c .before .before .before .before .before in
     let o = c .before .before .before .before .loop in
     omega (arith, parent-in (s .pre .3) (o .inv .1) (c .before .before .wide .ensures), s .pre .1)
 
 loop-less : tie.Need-loop-less Inv-loop μ-loop
 loop-less c =
-    let s = c .before .before .before .before .before .before .before .before .before in
+    let s = c .before .before .before .before .before .before .before in
     let o = c .before .before .before .before .before .before .loop in
     nearer (s .pre .3) (o .inv .1) (c .before .before .before .before .wide .ensures) (c .before .right .ensures) (c .if1 .left)
 
 loop-again : tie.Need-loop-again Inv-loop μ-loop
 loop-again c =
-    let s = c .before .before .before .before .before .before .before .before .before in
+    let s = c .before .before .before .before .before .before .before in
     let o = c .before .before .before .before .before .before .loop in
     let e = c .before .before .cross .ensures in
     (e .0, walk-on (s .pre .3) (o .inv .1) (c .before .before .before .before .wide .ensures) (c .before .right .ensures) (e .1) (c .if1 .left))
 
 returns : tie.Need-returns Inv-loop μ-loop
 returns c =
-    let s = c .before .before .before .before .before .before .before .before .before in
+    let s = c .before .before .before .before .before .before .before in
     let o = c .before .before .before .before .before .before .loop in
     let e = c .before .before .cross .ensures in
     (e .0, walk-end (s .pre .3) (o .inv .1) (c .before .before .before .before .wide .ensures) (c .before .right .ensures) (e .1) (c .if1 .taken))
@@ -73,7 +70,6 @@ fill-winding-spec =
     (tie.spec
     Inv-loop
     μ-loop
-    clear-requires
     loop-holds
     mul-wide
     element-copy-out-wide

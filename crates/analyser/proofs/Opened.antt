@@ -1,0 +1,128 @@
+-- An opened sheet, for every operation: the arrays filled from it hold its drawing, so that what an operation on drawings asks is met, and what it answers is the answer on the
+-- sheet, with the sheet checks in front.
+use mathlib.Core.Path.{_≡_, refl, sym, ap, subst}
+use mathlib.Core.List.{List, _++_}
+use Prim.Native.Nat.{ℕ, _*_, _≤_, _<_}
+use native.Mathlib.Omega.{arith}
+use lib.IntN.{ℤ}
+use Rattle.integers.specs.Limited.{Limited}
+use Rattle.refusals.specs.Order.{Check, NoneOf, FirstOf}
+use Rattle.refusals.proofs.Order.{first-left}
+use Rattle.maps.specs.Map.{Map, darts}
+use Rattle.maps.specs.Drawing.{Drawing}
+use Rattle.arrays.specs.At.{at, atℤ}
+use Rattle.arrays.specs.Maps.{mapOf, drawingOf}
+use Rattle.arrays.specs.Sizes.{mostOnSheet}
+use Rattle.arrays.specs.Drawn.{Drawn}
+use Rattle.records.specs.Sheet.{nodesOf, edgesOf, outerOf, tailOf, rotationOf, capacityOf, sheetMap, sheetDrawing}
+use Rattle.records.proofs.Bytes.{bytes-range}
+use Rattle.sheets.specs.Open.{sheetChecks, Numbers}
+use Rattle.sheets.specs.declared.Opened.{Opened}
+use Rattle.sheets.proofs.Accepted.{sheet-bytes, sheet-counts}
+use Rattle.sheets.proofs.Opening.{drawings-are}
+use Rattle.questions.specs.Solve.{questionChecks, Solved}
+use Rattle.questions.specs.Largest.{searchChecks, LargestFound}
+use Rattle.questions.specs.Mark.{paperChecks, Marked}
+use Rattle.questions.specs.declared.SolveAnswer.{SolveAnswer}
+use Rattle.questions.specs.declared.LargestAnswer.{LargestAnswer}
+use Rattle.questions.specs.declared.MarkAnswer.{MarkAnswer}
+use Rattle.questions.proofs.After.{solved-after, largest-after, marked-after}
+use Rattle.levels.specs.LevelsOf.{balancedChecks, LevelsGiven}
+use Rattle.levels.specs.SettingsOf.{leveledChecks, SettingsGiven}
+use Rattle.levels.specs.declared.LevelAnswer.{LevelAnswer}
+use Rattle.levels.proofs.After.{levels-after, settings-after}
+use Rattle.analyser.specs.Solve.{solveChecks, Solves}
+use Rattle.analyser.specs.Largest.{largestChecks, FindsLargest}
+use Rattle.analyser.specs.Mark.{markChecks, Marks}
+use Rattle.analyser.specs.LevelsOf.{levelsChecks, GivesLevels}
+use Rattle.analyser.specs.SettingsOf.{settingsChecks, GivesSettings}
+use Rattle.analyser.proofs.SheetPlane.{sheet-drawn, capacity-small}
+
+-- ── a refused sheet ──
+module _ (s : List ℕ) (k p : ℕ) (first : FirstOf (sheetChecks s) k p) where
+  pub solve-refused : (source sink : ℕ) (value : ℤ) (flows : List ℤ) (set : List ℕ) → FirstOf (solveChecks s source sink value flows set) k p
+  unfolding solveChecks
+  solve-refused source sink value flows set = first-left (sheetChecks s) _ k p first
+
+  pub largest-refused : (source sink : ℕ) (flows : List ℤ) (set : List ℕ) → FirstOf (largestChecks s source sink flows set) k p
+  unfolding largestChecks
+  largest-refused source sink flows set = first-left (sheetChecks s) _ k p first
+
+  pub mark-refused : (source sink : ℕ) (flows : List ℤ) → FirstOf (markChecks s source sink flows) k p
+  unfolding markChecks
+  mark-refused source sink flows = first-left (sheetChecks s) _ k p first
+
+  pub levels-refused : (flows levels : List ℤ) → FirstOf (levelsChecks s flows levels) k p
+  unfolding levelsChecks
+  levels-refused flows levels = first-left (sheetChecks s) _ k p first
+
+  pub settings-refused : (levels flows : List ℤ) → FirstOf (settingsChecks s levels flows) k p
+  unfolding settingsChecks
+  settings-refused levels flows = first-left (sheetChecks s) _ k p first
+
+-- ── an accepted one ──
+module _ (s : List ℕ) (o : Opened) (lefts tails rotations : List ℕ) (capacities : List ℤ) (open' : NoneOf (sheetChecks s) × Numbers s lefts o)
+    (tails-are : at tails ≡ tailOf s) (rotations-are : at rotations ≡ rotationOf s) (capacities-are : atℤ capacities ≡ capacityOf s) where
+  abbrev held : Drawing
+  held = drawingOf (o .nodes) (o .edges) (o .outer) tails rotations capacities
+
+  same : drawingOf (o .nodes) (o .edges) (o .outer) tails rotations capacities ≡ sheetDrawing s
+  same =
+      let n = open' .1 in
+      drawings-are s (o .nodes) (o .edges) (o .outer) tails rotations capacities (n .nodes-are) (n .edges-are) (n .outer-is) tails-are rotations-are capacities-are
+
+  pub drawn : Drawn (mapOf (o .nodes) (o .edges) tails rotations) (at lefts) (o .faces) (o .outer) (atℤ capacities)
+  drawn =
+      subst (λ 𝓓. Drawn (𝓓 .map) (at lefts) (o .faces) (𝓓 .outer) (𝓓 .capacity)) (sym same)
+      (sheet-drawn s (open' .0) (at lefts) (o .faces) (open' .1 .lefts-are) (open' .1 .faces-are))
+
+  pub small : (d : ℕ) → d < 2 * o .edges → Limited mostOnSheet (atℤ capacities d)
+  small = subst (λ 𝓓. (d : ℕ) → d < darts (𝓓 .map) → Limited mostOnSheet (𝓓 .capacity d)) (sym same) (capacity-small s (open' .0))
+
+  -- what Mark asks, which is less
+  pub markable : (o .nodes ≤ 1024) × (o .edges ≤ 512) × ((d : ℕ) → d < 2 * o .edges → at tails d < o .nodes) × ((d : ℕ) → d < 2 * o .edges → Limited mostOnSheet (atℤ capacities d))
+  markable =
+      let n = sheet-counts s (open' .0) in (
+        omega (arith, open' .1 .nodes-are, n .1),
+        omega (arith, open' .1 .edges-are, n .3),
+        subst (λ 𝓓. (d : ℕ) → d < darts (𝓓 .map) → 𝓓 .map .tail d < 𝓓 .map .nodes) (sym same) (bytes-range s (sheet-bytes s (open' .0)) .tail-in),
+        small,
+      )
+
+  pub solved-sheet : (source sink : ℕ) {v value : ℤ} → v ≡ value → (flows flows' : List ℤ) (set set' : List ℕ) (r : SolveAnswer)
+      → Solved (drawingOf (o .nodes) (o .edges) (o .outer) tails rotations capacities) (questionChecks (o .nodes) (o .edges) source sink v flows set) source sink v flows flows' set set' r
+      → Solves s source sink value flows flows' set set' r
+  unfolding solveChecks
+  solved-sheet source sink {value = value} e flows flows' set set' r h =
+      solved-after (sheetChecks s) (open' .0) (sheetDrawing s) _ source sink value flows flows' set set' r
+      (subst (λ 𝓓. Solved 𝓓 (questionChecks (𝓓 .map .nodes) (𝓓 .map .edges) source sink value flows set) source sink value flows flows' set set' r) same
+      (subst (λ w. Solved held (questionChecks (o .nodes) (o .edges) source sink w flows set) source sink w flows flows' set set' r) e h))
+
+  pub largest-sheet : (source sink : ℕ) (flows flows' : List ℤ) (set set' : List ℕ) (r : LargestAnswer)
+      → LargestFound (drawingOf (o .nodes) (o .edges) (o .outer) tails rotations capacities) (searchChecks (o .nodes) (o .edges) source sink flows set) source sink flows flows' set set' r
+      → FindsLargest s source sink flows flows' set set' r
+  unfolding largestChecks
+  largest-sheet source sink flows flows' set set' r h =
+      largest-after (sheetChecks s) (open' .0) (sheetDrawing s) _ source sink flows flows' set set' r
+      (subst (λ 𝓓. LargestFound 𝓓 (searchChecks (𝓓 .map .nodes) (𝓓 .map .edges) source sink flows set) source sink flows flows' set set' r) same h)
+
+  pub marked-sheet : (source sink : ℕ) (flows : List ℤ) (r : MarkAnswer)
+      → Marked (drawingOf (o .nodes) (o .edges) (o .outer) tails rotations capacities) (paperChecks (drawingOf (o .nodes) (o .edges) (o .outer) tails rotations capacities) source sink flows) source sink flows r
+      → Marks s source sink flows r
+  unfolding markChecks
+  marked-sheet source sink flows r h =
+      marked-after (sheetChecks s) (open' .0) (sheetDrawing s) _ source sink flows r (subst (λ 𝓓. Marked 𝓓 (paperChecks 𝓓 source sink flows) source sink flows r) same h)
+
+  pub levels-sheet : (flows levels levels' : List ℤ) (r : LevelAnswer)
+      → LevelsGiven (drawingOf (o .nodes) (o .edges) (o .outer) tails rotations capacities) (balancedChecks (drawingOf (o .nodes) (o .edges) (o .outer) tails rotations capacities) flows levels) flows levels levels' r
+      → GivesLevels s flows levels levels' r
+  unfolding levelsChecks
+  levels-sheet flows levels levels' r h =
+      levels-after (sheetChecks s) (open' .0) (sheetDrawing s) _ flows levels levels' r (subst (λ 𝓓. LevelsGiven 𝓓 (balancedChecks 𝓓 flows levels) flows levels levels' r) same h)
+
+  pub settings-sheet : (levels flows flows' : List ℤ) (r : LevelAnswer)
+      → SettingsGiven (drawingOf (o .nodes) (o .edges) (o .outer) tails rotations capacities) (leveledChecks (drawingOf (o .nodes) (o .edges) (o .outer) tails rotations capacities) levels flows) levels flows flows' r
+      → GivesSettings s levels flows flows' r
+  unfolding settingsChecks
+  settings-sheet levels flows flows' r h =
+      settings-after (sheetChecks s) (open' .0) (sheetDrawing s) _ levels flows flows' r (subst (λ 𝓓. SettingsGiven 𝓓 (leveledChecks 𝓓 levels flows) levels flows flows' r) same h)

@@ -1,3 +1,0 @@
-pub mod DartFlow
-pub mod Filling
-pub mod Found

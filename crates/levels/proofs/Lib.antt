@@ -1,0 +1,9 @@
+pub mod DartFlow
+pub mod FillingLevels
+pub mod LevelsOfMap
+pub mod Level
+pub mod LevelsFound
+pub mod SettingsFound
+pub mod Given
+pub mod After
+pub mod Examples

@@ -1,0 +1,65 @@
+-- Settings from levels on a drawing in arrays: what functions say of the arrays' faces, said of the drawing.
+use mathlib.Core.Path.{_≡_, refl, _∙_, ap, ap₂, subst}
+use mathlib.Core.List.{List, _++_}
+use Prim.Native.Nat.{ℕ, _*_, _≤_, _<_}
+use native.Mathlib.Omega.{arith}
+use lib.ListN.{length, drop}
+use lib.IntN.{ℤ, _-ℤ_}
+use Rattle.refusals.specs.Order.{NoneOf, Judged}
+use Rattle.refusals.specs.declared.Verdict.{Verdict}
+use Rattle.refusals.proofs.Same.{Same, same-in-turn, judged-same}
+use Rattle.maps.specs.Dart.{rev}
+use Rattle.maps.specs.Map.{Map, darts}
+use Rattle.maps.specs.Face as face
+use Rattle.maps.proofs.Darts.{rev-in}
+use Rattle.maps.proofs.Faces.{left-in}
+use Rattle.flows.specs.ZeroFace.{ZeroFace}
+use Rattle.flows.specs.Check.{withinChecks}
+use Rattle.arrays.specs.At.{atℤ}
+use Rattle.arrays.specs.Drawn.{Drawn}
+use Rattle.arrays.specs.Filled.{filled}
+use Rattle.arrays.proofs.Tabulate.{tabulate-ext}
+use Rattle.levels.specs.Level.{levelChecks}
+use Rattle.levels.specs.Across.{across, HaveLevels}
+use Rattle.levels.specs.SettingsOf.{fromLevels}
+use Rattle.levels.proofs.Level.{all-levelled}
+
+module _ {𝓜 : Map} {left : ℕ → ℕ} {faces outer : ℕ} {capacity : ℕ → ℤ} (p : Drawn 𝓜 left faces outer capacity) where
+  -- ── the face of the outer dart ──
+  module _ {zero : ℕ} (is : zero ≡ left outer) where
+    zero-is : zero ≡ face.left 𝓜 outer
+    zero-is = is ∙ p .left-is outer (p .outer-in)
+
+    pub zero-in : zero < faces
+    zero-in = omega (arith, zero-is, left-in (p .plane .sound) outer (p .outer-in), p .counted)
+
+    pub levels-judged : (ρ : ℕ → ℤ) (v : Verdict) → Judged (levelChecks faces (λ f. f ≡ zero) ρ) v → Judged (levelChecks (face.faces 𝓜) (ZeroFace 𝓜 outer) ρ) v
+    levels-judged ρ v j = subst (λ cs. Judged cs v) (ap₂ (λ n z. levelChecks n (λ f. f ≡ z) ρ) (p .counted) zero-is) j
+
+  -- ── every dart's face has a level ──
+  face-in : (d : ℕ) → d < darts 𝓜 → left d < face.faces 𝓜
+  face-in d l = omega (arith, p .left-is d l, left-in (p .plane .sound) d l)
+
+  pub levels-ready : (levels : List ℤ) → face.faces 𝓜 ≤ length levels → NoneOf (levelChecks (face.faces 𝓜) (ZeroFace 𝓜 outer) (atℤ levels))
+      → HaveLevels (𝓜 .edges) left levels
+  levels-ready levels long none = all-levelled (𝓜 .edges) (face.faces 𝓜) (ZeroFace 𝓜 outer) left levels face-in long none
+
+  -- ── the flow of an edge, by the array's faces and by the drawing's ──
+  module _ (ρ : ℕ → ℤ) where
+    across-of : (e : ℕ) → e < 𝓜 .edges → across left ρ e ≡ fromLevels 𝓜 ρ e
+    across-of e l = ap₂ (λ f g. ρ f -ℤ ρ g) (p .left-is (2 * e) (omega arith)) (p .left-is (rev (2 * e)) (rev-in (𝓜 .edges) (2 * e) (omega arith)))
+
+    pub differences-within : (v : Verdict) → Judged (withinChecks (𝓜 .edges) capacity (across left ρ)) v
+        → Judged (withinChecks (𝓜 .edges) capacity (fromLevels 𝓜 ρ)) v
+    unfolding withinChecks Same
+    differences-within v j =
+        judged-same _ _ v (same-in-turn (𝓜 .edges) _ _ (λ e l. (
+          refl,
+          refl,
+          (λ x. rw (across-of e l) at x),
+          (λ x. rw (across-of e l) x),
+          tt,
+        ))) j
+
+    pub differences-filled : (old new : List ℤ) → new ≡ filled (𝓜 .edges) (across left ρ) old → new ≡ filled (𝓜 .edges) (fromLevels 𝓜 ρ) old
+    differences-filled old new e = e ∙ ap (λ l. l ++ drop (𝓜 .edges) old) (tabulate-ext (𝓜 .edges) _ _ across-of)

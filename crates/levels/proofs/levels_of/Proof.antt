@@ -1,0 +1,162 @@
+-- Levels from settings on a drawing: facts at places of the code, each gained by a check that did not refuse; the ways out are laws of `Given`.
+use mathlib.Core.Path.{_≡_, refl}
+use mathlib.Core.Logic.{inl, inr}
+use mathlib.Core.List.{List}
+use Prim.Native.Nat.{_≤_}
+use native.Mathlib.Omega.{arith}
+use lib.ListN.{length}
+use lib.IntN.{ℤ}
+use borrow.Author.Needs.{needs}
+use Rattle.refusals.specs.Order.{NoneOf, Judged}
+use Rattle.refusals.specs.declared.Verdict.{Verdict}
+use Rattle.refusals.specs.declared.Verdict.the-variants.{Passed, Refused}
+use Rattle.maps.specs.Drawing.{Drawing}
+use Rattle.maps.specs.Face.{faces}
+use Rattle.flows.specs.Check.{withinChecks, balanceChecks, NoNode}
+use Rattle.arrays.specs.At.{atℤ}
+use Rattle.arrays.specs.Maps.{drawingOf}
+use Rattle.balance.specs.SmallFlows.{SmallFlows}
+use Rattle.levels.proofs.Given.{balanced-short, balanced-within, balanced-balance, balanced-none}
+use Rattle.levels.proofs.LevelsFound.{tails-small, settings-small, levelable, found, in-place}
+use Rattle.levels.proofs.levels_of.Statement.{statement}
+use Rattle.levels.proofs.levels_of.Tie as tie
+
+-- ── what is given ──
+abbrev drawing : tie.Start → Drawing
+drawing s = drawingOf (s .args .nodes) (s .args .edges) (s .args .outer) (s .args .tails .now) (s .args .rotations .now) (s .args .capacities .now)
+
+abbrev flowsOf : tie.Start → List ℤ
+flowsOf s = s .args .flows .now
+
+abbrev levelsOf : tie.Start → List ℤ
+levelsOf s = s .args .levels .now
+
+-- ── 16 did not refuse ──
+abbrev given : tie.Else2 → tie.Start
+given c = c .before .before
+
+room-edges : (c : tie.Else2) → drawing (given c) .map .edges ≤ length (flowsOf (given c))
+room-edges c = omega (arith, c .before .if1 .left)
+
+room-faces : (c : tie.Else2) → faces (drawing (given c) .map) ≤ length (levelsOf (given c))
+room-faces c = omega (arith, c .if2 .left, given c .pre .0 .counted)
+
+-- ── 17 did not refuse ──
+abbrev roomy : tie.After-enum-told → tie.Else2
+roomy c = c .before .before .before
+
+within : (c : tie.After-enum-told)
+    → NoneOf (withinChecks (drawing (given (roomy c)) .map .edges) (drawing (given (roomy c)) .capacity) (atℤ (flowsOf (given (roomy c)))))
+within c = rw (c .enum-told .given .1) at (c .before .before .check-within .ensures)
+
+small : (c : tie.After-enum-told) → SmallFlows (drawing (given (roomy c)) .map .edges) (atℤ (flowsOf (given (roomy c))))
+small c = let s = given (roomy c) in settings-small (s .pre .0) (s .pre .1) (atℤ (flowsOf s)) (within c)
+
+-- ── 18 did not refuse ──
+abbrev limited : tie.After-check-all-balanced → tie.After-enum-told
+limited c = c .before
+
+judged : (c : tie.After-check-all-balanced) (v : Verdict) → c .check-all-balanced .result ≡ v
+    → Judged (balanceChecks (drawing (given (roomy (limited c))) .map) NoNode (atℤ (flowsOf (given (roomy (limited c)))))) v
+judged c v e = (rw e at (c .check-all-balanced .ensures)) (drawing (given (roomy (limited c))) .map .rotation)
+
+abbrev asked : tie.After-enum-told2 → tie.After-check-all-balanced
+asked c = c .before .before
+
+balanced : (c : tie.After-enum-told2)
+    → NoneOf (balanceChecks (drawing (given (roomy (limited (asked c)))) .map) NoNode (atℤ (flowsOf (given (roomy (limited (asked c)))))))
+balanced c = judged (asked c) Passed (c .enum-told2 .given .1)
+
+-- ── the needs, in the order of the code ──
+returns : tie.Need-returns
+returns c = let s = c .before in (balanced-short (drawing s) (flowsOf s) (levelsOf s) (inl (omega (arith, c .if1 .taken))), refl)
+
+returns-2 : tie.Need-returns-2
+returns-2 c =
+    let s = c .before .before in
+    (balanced-short (drawing s) (flowsOf s) (levelsOf s) (inr (omega (arith, c .if2 .taken, s .pre .0 .counted))), refl)
+
+check-within-requires : tie.Need-check-within-requires
+check-within-requires c κs = (given c .pre .0 .few-edges, room-edges c)
+
+enum-known-within : tie.Need-enum-known-within
+enum-known-within c = search needs
+
+returns-3 : tie.Need-returns-3
+returns-3 c =
+    let w = c .before .before .before in
+    let r = w .before in
+    let s = given r in (
+      balanced-within (drawing s) (flowsOf s) (levelsOf s) (room-edges r) (room-faces r) _ _ (rw (c .before .within .given .1) at (w .check-within .ensures)),
+      refl,
+    )
+
+enum-told : tie.Need-enum-told
+enum-told c = search needs
+
+check-all-balanced-requires : tie.Need-check-all-balanced-requires
+check-all-balanced-requires c κs =
+    let r = roomy c in
+    let p = given r .pre .0 in
+    (p .few-nodes, p .few-edges, room-edges r, tails-small p, small c)
+
+enum-known-balanced : tie.Need-enum-known-balanced
+enum-known-balanced c = search needs
+
+returns-4 : tie.Need-returns-4
+returns-4 c =
+    let b = c .before .before .before in
+    let t = limited b in
+    let r = roomy t in
+    let s = given r in (
+      balanced-balance (drawing s) (flowsOf s) (levelsOf s) (room-edges r) (room-faces r) (within t) _ _
+          (judged b (Refused _ _) (c .before .balanced .given .1)),
+      refl,
+    )
+
+enum-told-2 : tie.Need-enum-told-2
+enum-told-2 c = search needs
+
+write-levels-requires : tie.Need-write-levels-requires
+write-levels-requires c κs =
+    let t = limited (asked (c .before)) in
+    let r = roomy t in
+    let s = given r in
+    levelable (s .pre .0) (flowsOf s) (levelsOf s) (room-edges r) (room-faces r) (small t)
+
+same-length : tie.Need-same-length
+same-length c = search needs
+
+returns-5 : tie.Need-returns-5
+returns-5 c =
+    let m = c .before .before .before in
+    let t = limited (asked m) in
+    let r = roomy t in
+    let s = given r in
+    let w = c .before .write-levels in
+    let levels' = w .last .1 .1 .1 .1 .1 .0 in (
+      balanced-none (drawing s) (flowsOf s) (levelsOf s) (room-edges r) (room-faces r) (within t) (balanced m),
+      (
+        atℤ levels',
+        found (s .pre .0) (flowsOf s) (levelsOf s) levels' (w .ensures) (balanced m),
+        in-place (s .pre .0) (flowsOf s) (levelsOf s) levels' (w .ensures) (room-faces r),
+      ),
+    )
+
+pub levels-of-spec : {M : Type 1} → statement M
+levels-of-spec =
+    tie.close
+    (tie.spec
+    returns
+    returns-2
+    check-within-requires
+    enum-known-within
+    returns-3
+    enum-told
+    check-all-balanced-requires
+    enum-known-balanced
+    returns-4
+    enum-told-2
+    write-levels-requires
+    same-length
+    returns-5)

@@ -1,0 +1,5 @@
+pub mod Level
+pub mod Across
+pub mod Laying
+pub mod LevelsOf
+pub mod SettingsOf

@@ -1,0 +1,12 @@
+pub mod Dart
+pub mod Orbit
+pub mod Map
+pub mod Drawing
+pub mod Face
+pub mod Walk
+pub mod Flat
+pub mod Check
+pub mod Flow
+pub mod Potential
+pub mod Cut
+pub mod FaceWalk

@@ -1,0 +1,6 @@
+pub mod Asked
+pub mod Sets
+pub mod Solving
+pub mod Finding
+pub mod Marking
+pub mod After

@@ -1,0 +1,64 @@
+-- Solve: its ways out as verdicts of its whole list of checks; its ends and its value as the solver takes them.
+use mathlib.Core.Path.{_≡_, subst}
+use mathlib.Core.Bool.{Bool}
+use mathlib.Core.List.{List, _++_}
+use Prim.Native.Nat.{ℕ}
+use lib.ListN.{length}
+use lib.IntN.{ℤ}
+use Rattle.refusals.specs.Order.{Check, NoneOf, FirstOf, Judged}
+use Rattle.refusals.specs.declared.Verdict.{Verdict}
+use Rattle.refusals.proofs.Order.{none-append, first-left, first-right}
+use Rattle.maps.specs.Map.{Map}
+use Rattle.solver.specs.Ends.{Ends}
+use Rattle.solver.specs.Decision.{Decided}
+use Rattle.solver.proofs.Preparing.{decided-for}
+use Rattle.questions.specs.Question.{endChecks, valueChecks, roomChecks}
+use Rattle.questions.specs.Solve.{questionChecks}
+use Rattle.questions.proofs.Asked.{ends-in, ends-differ}
+
+-- ── the ways out ──
+module _ (nodes edges source sink : ℕ) (value : ℤ) (flows : List ℤ) (set : List ℕ) where
+  abbrev ends : List Check
+  ends = endChecks nodes source sink
+
+  abbrev asked : List Check
+  asked = valueChecks value
+
+  abbrev room : List Check
+  room = roomChecks nodes edges (length flows) (length set)
+
+  pub solve-ends : (k p : ℕ) → FirstOf ends k p → FirstOf (questionChecks nodes edges source sink value flows set) k p
+  unfolding questionChecks
+  solve-ends k p h = first-left ends (asked ++ room) k p h
+
+  module _ (two : NoneOf ends) where
+    rest : (k p : ℕ) → FirstOf (asked ++ room) k p → FirstOf (questionChecks nodes edges source sink value flows set) k p
+    unfolding questionChecks
+    rest k p h = first-right ends (asked ++ room) k p two h
+
+    pub solve-value : (k p : ℕ) → FirstOf asked k p → FirstOf (questionChecks nodes edges source sink value flows set) k p
+    solve-value k p h = rest k p (first-left asked room k p h)
+
+    module _ (inside : NoneOf asked) where
+      pub solve-room : (k p : ℕ) → FirstOf room k p → FirstOf (questionChecks nodes edges source sink value flows set) k p
+      solve-room k p h = rest k p (first-right asked room k p inside h)
+
+      pub solve-none : NoneOf room → NoneOf (questionChecks nodes edges source sink value flows set)
+      unfolding questionChecks
+      solve-none h = none-append ends (asked ++ room) two (none-append asked room inside h)
+
+-- ── the ends at the width of an index ──
+module _ {a b source sink : ℕ} (p : a ≡ source) (q : b ≡ sink) where
+  pub ends-as : (nodes : ℕ) (v : Verdict) → Judged (endChecks nodes a b) v → Judged (endChecks nodes source sink) v
+  ends-as nodes v j = rw (← p, ← q) j
+
+  pub ends-for : (𝓜 : Map) → NoneOf (endChecks (𝓜 .nodes) source sink) → Ends 𝓜 a b
+  ends-for 𝓜 two =
+      let r = ends-in (𝓜 .nodes) source sink two in
+      rw (p, q) (record { source-in = r .0; sink-in = r .1; two = ends-differ (𝓜 .nodes) source sink two })
+
+  -- what the solver decided, of the question
+  pub decided-as : (𝓜 : Map) (outer : ℕ) (c : ℕ → ℤ) {v value : ℤ} → v ≡ value → (flows flows' : List ℤ) (inside : List ℕ) {r answer : Bool} → r ≡ answer
+      → Decided 𝓜 outer c a b v flows flows' inside r → Decided 𝓜 outer c source sink value flows flows' inside answer
+  decided-as 𝓜 outer c {value = value} e flows flows' inside {r} same d =
+      subst (Decided 𝓜 outer c source sink value flows flows' inside) same (decided-for 𝓜 outer c p q e flows flows' inside r d)

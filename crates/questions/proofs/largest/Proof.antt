@@ -1,0 +1,228 @@
+-- Largest meets its contract: the facts at two places, each gained by a check that did not refuse; then every way out is a law of `Finding` or `Sets`.
+use mathlib.Core.Path.{_≡_, refl, sym, _∙_}
+use mathlib.Core.List.{List}
+use Prim.Native.Nat.{ℕ}
+use lib.ListN.{length, take}
+use lib.IntN.{ℤ}
+use borrow.Author.Needs.{needs}
+use Rattle.refusals.specs.Order.{Check, NoneOf, Judged}
+use Rattle.refusals.specs.declared.Verdict.{Verdict}
+use Rattle.refusals.specs.declared.Verdict.the-variants.{Passed, Refused}
+use Rattle.maps.specs.Map.{Map}
+use Rattle.flows.specs.ProvingSet.{wordsFor}
+use Rattle.arrays.specs.At.{atℤ}
+use Rattle.arrays.specs.Maps.{mapOf}
+use Rattle.maximum.specs.Maximum.{Maximized}
+use Rattle.maximum.specs.declared.Maximum.{Maximum}
+use Rattle.questions.specs.Question.{endChecks, roomChecks}
+use Rattle.questions.specs.Largest.{searchChecks}
+use Rattle.questions.proofs.Asked.{room-flows}
+use Rattle.questions.proofs.Sets.{set-written, next-proved, none-written}
+use Rattle.questions.proofs.Solving.{ends-as, ends-for}
+use Rattle.questions.proofs.Finding.{largest-ends, largest-room, largest-none, told-value, highest-as, maximized-as}
+use Rattle.questions.proofs.largest.Statement.{statement}
+use Rattle.questions.proofs.largest.Tie as tie
+
+-- ── the drawing and the checks, of what the function is given ──
+abbrev mapAt : tie.Start → Map
+mapAt s = mapOf (s .args .nodes) (s .args .edges) (s .args .tails .now) (s .args .rotations .now)
+
+abbrev capacityAt : tie.Start → ℕ → ℤ
+capacityAt s = atℤ (s .args .capacities .now)
+
+abbrev endsAt : tie.Start → List Check
+endsAt s = endChecks (s .args .nodes) (s .args .source) (s .args .sink)
+
+abbrev roomAt : tie.Start → List Check
+roomAt s = roomChecks (s .args .nodes) (s .args .edges) (length (s .args .flows .now)) (length (s .args .set .now))
+
+abbrev checksAt : tie.Start → List Check
+checksAt s = searchChecks (s .args .nodes) (s .args .edges) (s .args .source) (s .args .sink) (s .args .flows .now) (s .args .set .now)
+
+-- ── 13 and 14 did not refuse ──
+abbrev begun : tie.After-check-ends → tie.Start
+begun c = c .before .before .before .before
+
+ends-judged : (c : tie.After-check-ends) (v : Verdict) → c .check-ends .result ≡ v → Judged (endsAt (begun c)) v
+ends-judged c v e = ends-as (c .before .before .wide .ensures) (c .before .wide2 .ensures) (begun c .args .nodes) v (rw e at (c .check-ends .ensures))
+
+abbrev checked : tie.After-enum-told → tie.After-check-ends
+checked c = c .before .before
+
+abbrev base : tie.After-enum-told → tie.Start
+base c = begun (checked c)
+
+two : (c : tie.After-enum-told) → NoneOf (endsAt (base c))
+two c = ends-judged (checked c) Passed (c .enum-told .given .1)
+
+-- ── 16 did not refuse ──
+room-judged : (c : tie.After-check-room) (v : Verdict) → c .check-room .result ≡ v → Judged (roomAt (base (c .before))) v
+room-judged c v e = rw e at (c .check-room .ensures)
+
+abbrev asked : tie.After-enum-told2 → tie.After-enum-told
+asked c = c .before .before .before
+
+room : (c : tie.After-enum-told2) → NoneOf (roomAt (base (asked c)))
+room c = room-judged (c .before .before) Passed (c .enum-told2 .given .1)
+
+-- ── the needs, in the order of the code ──
+wide-requires : tie.Need-wide-requires
+wide-requires c κs = search needs
+
+wide-requires-2 : tie.Need-wide-requires-2
+wide-requires-2 c κs = search needs
+
+check-ends-requires : tie.Need-check-ends-requires
+check-ends-requires c κs = search needs
+
+enum-known-ends : tie.Need-enum-known-ends
+enum-known-ends c = search needs
+
+returns : tie.Need-returns
+returns c =
+    let e = c .before .before .before in
+    let a = begun e .args in
+    let j = ends-judged e (Refused _ _) (c .before .ends .given .1) in
+    (largest-ends (a .nodes) (a .edges) (a .source) (a .sink) (a .flows .now) (a .set .now) _ _ j, refl, refl)
+
+enum-told : tie.Need-enum-told
+enum-told c = search needs
+
+check-room-requires : tie.Need-check-room-requires
+check-room-requires c κs = base c .pre .0 .few-nodes
+
+enum-known-room : tie.Need-enum-known-room
+enum-known-room c = search needs
+
+returns-2 : tie.Need-returns-2
+returns-2 c =
+    let r = c .before .before .before in
+    let e = r .before in
+    let a = base e .args in
+    let j = room-judged r (Refused _ _) (c .before .room .given .1) in
+    (largest-room (a .nodes) (a .edges) (a .source) (a .sink) (a .flows .now) (a .set .now) (two e) _ _ j, refl, refl)
+
+enum-told-2 : tie.Need-enum-told-2
+enum-told-2 c = search needs
+
+maximize-requires : tie.Need-maximize-requires
+maximize-requires c κs =
+    let m = c .before .before in
+    let e = asked m in
+    let w = checked e .before in (
+      refl,
+      room-flows _ _ _ _ (room m) .0,
+      base e .pre .1,
+      base e .pre .0,
+      ends-for (w .before .wide .ensures) (w .wide2 .ensures) (mapAt (base e)) (two e),
+    )
+
+-- ── what was found ──
+abbrev roomy : tie.After-maximize → tie.After-enum-told2
+roomy c = c .before .before .before
+
+abbrev start : tie.After-maximize → tie.Start
+start c = base (asked (roomy c))
+
+abbrev flows' : tie.After-maximize → List ℤ
+flows' c = c .maximize .last .1 .1 .1 .1 .1 .1 .1 .1 .1 .1 .0
+
+abbrev inside' : tie.After-maximize → List ℕ
+inside' c = c .maximize .last .1 .1 .1 .1 .1 .1 .1 .1 .1 .1 .1 .0
+
+found : (c : tie.After-maximize) {answer : Maximum} → c .maximize .result ≡ answer
+    → Maximized (mapAt (start c)) (start c .args .outer) (capacityAt (start c)) (start c .args .source) (start c .args .sink)
+    (start c .args .flows .now) (flows' c) (inside' c) answer
+found c same =
+    let s = start c in
+    let w = checked (asked (roomy c)) .before in
+    maximized-as (w .before .wide .ensures) (w .wide2 .ensures) (mapAt s) (s .args .outer) (capacityAt s)
+    (s .args .flows .now) (flows' c) (inside' c) same (c .maximize .ensures .1)
+
+none : (c : tie.After-maximize) → NoneOf (checksAt (start c))
+none c =
+    let a = start c .args in
+    largest-none (a .nodes) (a .edges) (a .source) (a .sink) (a .flows .now) (a .set .now) (two (asked (roomy c))) (room (roomy c))
+
+write-set-requires : tie.Need-write-set-requires
+write-set-requires c κs = let d = c .before .before .before in (start d .pre .0 .few-nodes, room-flows _ _ _ _ (room (roomy d)) .1)
+
+enum-known-most : tie.Need-enum-known-most
+enum-known-most c = search needs
+
+same-length : tie.Need-same-length
+same-length c = search needs
+
+same-length-2 : tie.Need-same-length-2
+same-length-2 c = search needs
+
+-- ── the set written ──
+abbrev found-at : tie.After-write-set → tie.After-maximize
+found-at c = c .before .before .before .before
+
+abbrev set' : tie.After-write-set → List ℕ
+set' c = c .write-set .last .1 .1 .0
+
+returns-3 : tie.Need-returns-3
+returns-3 c =
+    let w = c .before .before .before .before .before in
+    let m = found-at w in
+    let s = start m in
+    let a = s .args in
+    let p = s .pre in
+    let r = found m (c .before .most .given .1) in
+    let v = told-value (mapAt s) (capacityAt s) (p .0 .few-edges) (p .1) _ (inside' m) (r .2) in
+    let ends = two (asked (roomy m)) in (
+      none m,
+      (r .0 .0, highest-as (sym v) (r .0 .1), r .0 .2),
+      (
+        take (wordsFor (a .nodes)) (set' w),
+        set-written (w .write-set .ensures),
+        next-proved (p .0 .plane .sound .range) (capacityAt s) (w .write-set .ensures) (a .source) (a .sink) ends _ (r .1) (v ∙ r .2),
+      ),
+    )
+
+enum-told-3 : tie.Need-enum-told-3
+enum-told-3 c = search needs
+
+same-length-3 : tie.Need-same-length-3
+same-length-3 c = search needs
+
+same-length-4 : tie.Need-same-length-4
+same-length-4 c = search needs
+
+returns-4 : tie.Need-returns-4
+returns-4 c =
+    let w = c .before .before .before .before in
+    let m = found-at w in
+    let s = start m in
+    let a = s .args in
+    let r = found m (c .enum-told3 .given .1) in
+    let ends = two (asked (roomy m)) in
+    let k = none-written (s .pre .0 .plane .sound .range) (capacityAt s) (w .write-set .ensures) (a .source) (a .sink) ends (r .1) (r .2) in
+    (none m, r .0, (take (wordsFor (a .nodes)) (set' w), set-written (w .write-set .ensures), k .0, k .1))
+
+pub largest-spec : {M : Type 1} → statement M
+largest-spec =
+    tie.close
+    (tie.spec
+    wide-requires
+    wide-requires-2
+    check-ends-requires
+    enum-known-ends
+    returns
+    enum-told
+    check-room-requires
+    enum-known-room
+    returns-2
+    enum-told-2
+    maximize-requires
+    write-set-requires
+    enum-known-most
+    same-length
+    same-length-2
+    returns-3
+    enum-told-3
+    same-length-3
+    same-length-4
+    returns-4)

@@ -1,0 +1,214 @@
+-- Mark meets its contract. The facts at three places of the code, each gained by a check that did not refuse; then every way out is a law of `Marking`.
+use mathlib.Core.Path.{_≡_, refl, _∙_, ap}
+use mathlib.Core.List.{List}
+use Prim.Native.Nat.{_<_}
+use native.Mathlib.Omega.{arith}
+use lib.IntN.{ℤ, pos}
+use borrow.Author.Needs.{needs}
+use Rattle.refusals.specs.Order.{Check, NoneOf, Judged}
+use Rattle.refusals.specs.declared.Verdict.{Verdict}
+use Rattle.refusals.specs.declared.Verdict.the-variants.{Passed, Refused}
+use Rattle.signed.proofs.Laws.{number-of-bits}
+use Rattle.maps.specs.Drawing.{Drawing}
+use Rattle.flows.specs.Check.{withinChecks, balanceChecks, EndOf}
+use Rattle.arrays.specs.At.{atℤ}
+use Rattle.arrays.specs.Maps.{drawingOf}
+use Rattle.arrays.proofs.FillLoops.{same-everywhere}
+use Rattle.questions.specs.Question.{endChecks}
+use Rattle.questions.proofs.Asked.{ends-in}
+use Rattle.questions.proofs.Solving.{ends-as}
+use Rattle.questions.proofs.Marking.{mark-ends, mark-short, mark-within, mark-balance, mark-none, flows-small, net-of, ends-balanced}
+use Rattle.questions.proofs.mark.Statement.{statement}
+use Rattle.questions.proofs.mark.Tie as tie
+
+-- ── the drawing and the checks, of what the function is given ──
+abbrev drawingAt : tie.Start → Drawing
+drawingAt s = drawingOf (s .args .nodes) (s .args .edges) (s .args .outer) (s .args .tails .now) (s .args .rotations .now) (s .args .capacities .now)
+
+abbrev endsAt : tie.Start → List Check
+endsAt s = endChecks (s .args .nodes) (s .args .source) (s .args .sink)
+
+abbrev withinAt : tie.Start → List Check
+withinAt s = withinChecks (s .args .edges) (atℤ (s .args .capacities .now)) (atℤ (s .args .flows .now))
+
+abbrev balanceAt : tie.Start → List Check
+balanceAt s = balanceChecks (drawingAt s .map) (EndOf (s .args .source) (s .args .sink)) (atℤ (s .args .flows .now))
+
+-- ── 13 and 14 did not refuse ──
+abbrev begun : tie.After-check-ends → tie.Start
+begun c = c .before .before .before
+
+ends-judged : (c : tie.After-check-ends) (v : Verdict) → c .check-ends .result ≡ v → Judged (endsAt (begun c)) v
+ends-judged c v e = ends-as (c .before .before .wide .ensures) (c .before .wide2 .ensures) (begun c .args .nodes) v (rw e at (c .check-ends .ensures))
+
+abbrev checked : tie.After-enum-told → tie.After-check-ends
+checked c = c .before .before
+
+abbrev base : tie.After-enum-told → tie.Start
+base c = begun (checked c)
+
+two : (c : tie.After-enum-told) → NoneOf (endsAt (base c))
+two c = ends-judged (checked c) Passed (c .enum-told .given .1)
+
+-- ── 17 did not refuse ──
+abbrev long : tie.After-check-within → tie.After-enum-told
+long c = c .before .before
+
+within-judged : (c : tie.After-check-within) (v : Verdict) → c .check-within .result ≡ v → Judged (withinAt (base (long c))) v
+within-judged c v e = rw e at (c .check-within .ensures)
+
+abbrev roomy : tie.After-enum-told2 → tie.After-enum-told
+roomy c = long (c .before .before)
+
+within : (c : tie.After-enum-told2) → NoneOf (withinAt (base (roomy c)))
+within c = within-judged (c .before .before) Passed (c .enum-told2 .given .1)
+
+-- ── 18 did not refuse ──
+abbrev fitting : tie.After-fill-nets → tie.After-enum-told2
+fitting c = c .before .before
+
+abbrev start : tie.After-fill-nets → tie.Start
+start c = base (roomy (fitting c))
+
+abbrev nets' : tie.After-fill-nets → List ℤ
+nets' c = c .fill-nets .last .1 .1 .1 .0
+
+abbrev filled : tie.After-check-balance → tie.After-fill-nets
+filled c = c .before .before
+
+balance-judged : (c : tie.After-check-balance) (v : Verdict) → c .check-balance .result ≡ v → Judged (balanceAt (start (filled c))) v
+balance-judged c v e =
+    let n = filled c in
+    let s = start n in
+    let w = checked (roomy (fitting n)) .before in
+    ends-balanced (drawingAt s .map) (atℤ (s .args .flows .now)) (s .pre .0) (nets' n) (n .fill-nets .ensures .1)
+    (w .before .wide .ensures) (w .wide2 .ensures) v (rw e at (c .check-balance .ensures))
+
+-- ── the needs, in the order of the code ──
+wide-requires : tie.Need-wide-requires
+wide-requires c κs = search needs
+
+wide-requires-2 : tie.Need-wide-requires-2
+wide-requires-2 c κs = search needs
+
+check-ends-requires : tie.Need-check-ends-requires
+check-ends-requires c κs = search needs
+
+enum-known-ends : tie.Need-enum-known-ends
+enum-known-ends c = search needs
+
+returns : tie.Need-returns
+returns c =
+    let e = c .before .before .before in
+    let s = begun e in
+    mark-ends (drawingAt s) (s .args .source) (s .args .sink) (s .args .flows .now) _ _ (ends-judged e (Refused _ _) (c .before .ends .given .1))
+
+enum-told : tie.Need-enum-told
+enum-told c = search needs
+
+returns-2 : tie.Need-returns-2
+returns-2 c =
+    let e = c .before in
+    let s = base e in
+    mark-short (drawingAt s) (s .args .source) (s .args .sink) (s .args .flows .now) (two e) (c .if1 .taken)
+
+check-within-requires : tie.Need-check-within-requires
+check-within-requires c κs = (base (c .before) .pre .1, c .if1 .left)
+
+enum-known-within : tie.Need-enum-known-within
+enum-known-within c = search needs
+
+returns-3 : tie.Need-returns-3
+returns-3 c =
+    let w = c .before .before .before in
+    let e = long w in
+    let s = base e in
+    let j = within-judged w (Refused _ _) (c .before .within .given .1) in
+    mark-within (drawingAt s) (s .args .source) (s .args .sink) (s .args .flows .now) (two e) (w .before .if1 .left) _ _ j
+
+enum-told-2 : tie.Need-enum-told-2
+enum-told-2 c = search needs
+
+fill-nets-requires : tie.Need-fill-nets-requires
+fill-nets-requires c κs =
+    let t = c .before in
+    let s = base (roomy t) in
+    let p = s .pre in (
+      p .1,
+      t .before .before .before .if1 .left,
+      refl,
+      (λ d l. omega (arith, p .2 d l, p .0)),
+      flows-small (drawingAt s .map) (atℤ (s .args .flows .now)) (atℤ (s .args .capacities .now)) (p .3) (within t),
+      same-everywhere 1024 (pos 0),
+    )
+
+check-balance-requires : tie.Need-check-balance-requires
+check-balance-requires c κs = start (c .before) .pre .0
+
+enum-known-balanced : tie.Need-enum-known-balanced
+enum-known-balanced c = search needs
+
+returns-4 : tie.Need-returns-4
+returns-4 c =
+    let b = c .before .before .before in
+    let t = fitting (filled b) in
+    let s = base (roomy t) in
+    mark-balance (drawingAt s) (s .args .source) (s .args .sink) (s .args .flows .now) (two (roomy t)) (t .before .before .before .if1 .left) (within t) _ _
+    (balance-judged b (Refused _ _) (c .before .balanced .given .1))
+
+enum-told-3 : tie.Need-enum-told-3
+enum-told-3 c = search needs
+
+-- ── the value is the sum at the source ──
+mul-t22 : tie.Need-mul-t22
+mul-t22 c = search needs
+
+abbrev sums : tie.After-enum-told3 → tie.After-fill-nets
+sums c = filled (c .before .before)
+
+source-in : (c : tie.After-fill-nets) → start c .args .source < start c .args .nodes
+source-in c = ends-in _ _ _ (two (roomy (fitting c))) .0
+
+source-wide : (c : tie.After-fill-nets) → checked (roomy (fitting c)) .before .before .wide .result ≡ start c .args .source
+source-wide c = checked (roomy (fitting c)) .before .before .wide .ensures
+
+array-copy-out-t29 : tie.Need-array-copy-out-t29
+array-copy-out-t29 c = let n = sums c in omega (arith, source-in n, source-wide n, start n .pre .0)
+
+returns-5 : tie.Need-returns-5
+returns-5 c =
+    let e = c .before in
+    let n = sums e in
+    let t = fitting n in
+    let s = start n in
+    let x = s .args .flows .now in (
+      mark-none (drawingAt s) (s .args .source) (s .args .sink) x (two (roomy t)) (t .before .before .before .if1 .left) (within t)
+          (balance-judged (e .before .before) Passed (e .enum-told3 .given .1)),
+      number-of-bits _ (record { sfits = c .t29 .given })
+          ∙ ap (atℤ (nets' n)) (source-wide n)
+          ∙ net-of (drawingAt s .map) (atℤ x) (s .pre .0) (nets' n) (n .fill-nets .ensures .1) (s .args .source) (source-in n),
+    )
+
+pub mark-spec : {M : Type 1} → statement M
+mark-spec =
+    tie.close
+    (tie.spec
+    wide-requires
+    wide-requires-2
+    check-ends-requires
+    enum-known-ends
+    returns
+    enum-told
+    returns-2
+    check-within-requires
+    enum-known-within
+    returns-3
+    enum-told-2
+    fill-nets-requires
+    check-balance-requires
+    enum-known-balanced
+    returns-4
+    enum-told-3
+    mul-t22
+    array-copy-out-t29
+    returns-5)

@@ -1,0 +1,4 @@
+pub mod Question
+pub mod Solve
+pub mod Largest
+pub mod Mark

@@ -1,9 +1,0 @@
--- A drawing: a map with the capacities of its darts. Document 01, "What the unit holds": "The forward limit belongs to dart 2e, the back limit to dart 2e+1."
--- A limit is a capacity here; it may be below zero.
-use Prim.Native.Nat.{ℕ}
-use lib.IntN.{ℤ}
-use Rattle.faces.specs.Map.{Map}
-
-pub record Drawing : Type 0 where
-  pub map : Map
-  pub capacity : ℕ → ℤ

@@ -1,0 +1,91 @@
+-- Invariant: the places below d have their fields, the others are as they were.
+use Prim.Native.Nat.{ℕ, _≤_, _<_, _-_, _+_, _*_, _/_, _%_}
+use mathlib.Core.Path.{_≡_, refl, _∙_, ap}
+use native.Mathlib.Omega.{arith}
+use lib.ListN.{length}
+use borrow.Author.Needs.{needs}
+use Rattle.signed.proofs.Laws.{number-of-bits}
+use Rattle.fields.specs.Fields.{i32At}
+use Rattle.arrays.specs.Filled.{filled}
+use Rattle.arrays.proofs.FillLoops.{copy-start, copy-step, filled-length}
+use Rattle.records.specs.Sheet.{field32}
+use Rattle.sheets.proofs.fill_limits.Statement.{statement}
+use Rattle.sheets.proofs.fill_limits.Tie as tie
+
+abbrev Inv-loop : tie.InvT-loop
+Inv-loop s edges to₀ darts d₀ to d = (d ≤ darts) × (to ≡ filled d (field32 s 9) to₀)
+
+abbrev μ-loop : tie.MeasureT-loop
+μ-loop s edges to₀ darts d₀ to d = darts - d
+
+mul-darts : tie.Need-mul-darts Inv-loop μ-loop
+mul-darts c = search needs
+
+loop-holds : tie.Need-loop-holds Inv-loop μ-loop
+loop-holds c = (omega arith, copy-start _ _)
+
+edge-at-requires : tie.Need-edge-at-requires Inv-loop μ-loop
+edge-at-requires c κs = search needs
+
+add-read-i32 : tie.Need-add-read-i32 Inv-loop μ-loop
+add-read-i32 c = omega (arith, c .edge-at .ensures)
+
+mul-read-i32 : tie.Need-mul-read-i32 Inv-loop μ-loop
+mul-read-i32 c = search needs
+
+add-read-i32-2 : tie.Need-add-read-i32-2 Inv-loop μ-loop
+add-read-i32-2 c = omega (arith, c .edge-at .ensures)
+
+read-i32-requires : tie.Need-read-i32-requires Inv-loop μ-loop
+read-i32-requires c κs = omega (arith, c .edge-at .ensures)
+
+mul-t13 : tie.Need-mul-t13 Inv-loop μ-loop
+mul-t13 c = search needs
+
+slice-set-from-to : tie.Need-slice-set-from-to Inv-loop μ-loop
+slice-set-from-to c = omega (arith, filled-length _ _ _ _ (c .before .before .before .loop .inv .1) (omega arith))
+
+add-d : tie.Need-add-d Inv-loop μ-loop
+add-d c = search needs
+
+loop-less : tie.Need-loop-less Inv-loop μ-loop
+loop-less c = search needs
+
+loop-again : tie.Need-loop-again Inv-loop μ-loop
+loop-again c =
+    let o = c .before .before .before .loop in
+    let s = c .before .before .before .before .before .args .s .now in (
+      omega arith,
+      copy-step _ (o .d) _ _ _ (o .inv .1) (omega arith)
+          (number-of-bits (c .read-i32 .result) (record { sfits = c .read-i32 .ok }) ∙ c .read-i32 .ensures ∙ ap (λ n. i32At s (n + 9 + 4 * (o .d % 2))) (c .before .edge-at .ensures)),
+    )
+
+same-length : tie.Need-same-length Inv-loop μ-loop
+same-length c = filled-length _ _ _ _ (c .before .loop .inv .1) (omega arith)
+
+returns : tie.Need-returns Inv-loop μ-loop
+returns c =
+    let s = c .before .before .before .args in
+    let all : c .before .loop .d ≡ 2 * s .edges = omega arith in
+    c .before .loop .inv .1 ∙ ap (λ k. filled k (field32 (s .s .now) 9) (s .to .now)) all
+
+pub fill-limits-spec : {M : Type 1} → statement M
+fill-limits-spec =
+    tie.close
+    (tie.spec
+    Inv-loop
+    μ-loop
+    mul-darts
+    loop-holds
+    edge-at-requires
+    add-read-i32
+    mul-read-i32
+    add-read-i32-2
+    read-i32-requires
+    mul-t13
+    slice-set-from-to
+    add-d
+    loop-less
+    loop-again
+    same-length
+    returns)
