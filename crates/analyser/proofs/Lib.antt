@@ -4,3 +4,4 @@ pub mod Accepted
 pub mod ThereAndBack
 pub mod Asked
 pub mod Demand3
+pub mod Statements

@@ -3,3 +3,4 @@ pub mod LevelsOf
 pub mod SettingsOf
 pub mod Solve
 pub mod Largest
+pub mod Statements

@@ -4,3 +4,4 @@ pub mod Reading
 pub mod Placing
 pub mod Writing
 pub mod ThereAndBack
+pub mod Statements

@@ -1,3 +1,4 @@
 pub mod Open
 pub mod Read
 pub mod Write
+pub mod Statements

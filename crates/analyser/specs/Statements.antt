@@ -1,0 +1,129 @@
+-- What the course book prints of the operations on sheets (document 01, demands 2 and 3), as two records: a field for each statement, with the printed
+-- words above it. Each is about every run of an operation: all that a field knows of a run is its contract, `Solves`, `FindsLargest`, `Marks`,
+-- `GivesLevels` or `GivesSettings`. A sheet or a question is accepted where no check of its list holds; an accepted sheet is flat and connected, because 11
+-- and 12 are among its checks. Settings are any function from edges to whole numbers, deliveries any whole number. The proofs are in
+-- proofs/Statements.antt.
+use Prim.Native.Nat.{ℕ, _≤_, _<_}
+use mathlib.Core.Path.{_≡_}
+use mathlib.Core.Logic.{_↔_}
+use mathlib.Core.Bool.{Bool}
+use mathlib.Core.List.{List}
+use lib.ListN.{length}
+use lib.IntN.{ℤ, pos, _+ℤ_}
+use lib.Signed.{_≤ℤ_}
+use Rattle.refusals.specs.Order.{NoneOf}
+use Rattle.maps.specs.Face.{faces}
+use Rattle.flows.specs.Settings.{Within, Balanced, Carries}
+use Rattle.flows.specs.Levels.{Levels}
+use Rattle.flows.specs.ProvingSet.{Proves, member, size}
+use Rattle.arrays.specs.At.{atℤ}
+use Rattle.records.specs.Sheet.{nodesOf, edgesOf, capacityOf, outerOf, sheetMap}
+use Rattle.sheets.specs.Open.{sheetChecks}
+use Rattle.questions.specs.Question.{endChecks, SetWritten}
+use Rattle.questions.specs.declared.SolveAnswer.{SolveAnswer}
+use Rattle.questions.specs.declared.SolveAnswer.the-variants.{Can, Cannot}
+use Rattle.questions.specs.declared.LargestAnswer.{LargestAnswer}
+use Rattle.questions.specs.declared.LargestAnswer.the-variants as largest
+use Rattle.questions.specs.declared.MarkAnswer.{MarkAnswer}
+use Rattle.questions.specs.declared.MarkAnswer.the-variants as mark
+use Rattle.levels.specs.declared.LevelAnswer.{LevelAnswer}
+use Rattle.levels.specs.declared.LevelAnswer.the-variants.{Done}
+use Rattle.analyser.specs.Solve.{solveChecks, Solves}
+use Rattle.analyser.specs.Largest.{largestChecks, FindsLargest}
+use Rattle.analyser.specs.Mark.{Marks}
+use Rattle.analyser.specs.LevelsOf.{GivesLevels}
+use Rattle.analyser.specs.SettingsOf.{GivesSettings}
+
+-- ── the words of the sentences, of a sheet's drawing ──
+-- the settings x keep every limit, balance at every node but source and sink, and carry the delivery
+abbrev pub Delivers : List ℕ → (source sink : ℕ) → ℤ → (ℕ → ℤ) → Type 0
+Delivers s source sink value x = Carries (sheetMap s) (capacityOf s) source sink value x
+
+-- some settings carry the delivery; none do
+abbrev pub Possible : List ℕ → (source sink : ℕ) → ℤ → Type 0
+Possible s source sink value = (x : ℕ → ℤ) × Delivers s source sink value x
+
+abbrev pub Impossible : List ℕ → (source sink : ℕ) → ℤ → Type 0
+Impossible s source sink value = (x : ℕ → ℤ) → Delivers s source sink value x → ⊥
+
+-- the set of nodes S proves that the delivery is impossible
+abbrev pub ProvesOf : List ℕ → (source sink : ℕ) → ℤ → (ℕ → Bool) → Type 0
+ProvesOf s source sink value S = Proves (sheetMap s) (capacityOf s) source sink value S
+
+-- the settings x balance at every node, within limits
+abbrev pub BalancedWithin : List ℕ → (ℕ → ℤ) → Type 0
+BalancedWithin s x = Balanced (sheetMap s) x × Within (sheetMap s) (capacityOf s) x
+
+-- ρ are the face levels of the settings x
+abbrev pub LevelsFor : List ℕ → (x ρ : ℕ → ℤ) → Type 0
+LevelsFor s x ρ = Levels (sheetMap s) (outerOf s) x ρ
+
+-- ── 2. "Settings handed out keep every limit, balance at every node but source and sink, and carry the delivery asked. Balanced settings within limits
+-- become face levels, levels become settings, there and back gives the same numbers." ──
+pub record SettingsAndLevels : Type 0 where
+  -- "Settings handed out keep every limit, balance at every node but source and sink, and carry the delivery asked": those that Solve writes
+  pub can-carries : (s : List ℕ) (source sink : ℕ) (value : ℤ) (flows flows' : List ℤ) (set set' : List ℕ)
+      → Solves s source sink value flows flows' set set' Can → Delivers s source sink value (atℤ flows')
+  -- those that Largest writes, with the delivery that it gives
+  pub largest-carries : (s : List ℕ) (source sink : ℕ) (v : ℤ) (flows flows' : List ℤ) (set set' : List ℕ)
+      → FindsLargest s source sink flows flows' set set' (largest.Value v) → Delivers s source sink v (atℤ flows')
+  -- those that Mark accepts: they carry the value that it gives
+  pub marked-carries : (s : List ℕ) (source sink : ℕ) (flows : List ℤ) (v : ℤ)
+      → Marks s source sink flows (mark.Value v) → Delivers s source sink v (atℤ flows)
+  -- and conversely: Mark accepts whatever carries a value, and gives that value, where sheet and ends are accepted and there is a setting for each edge
+  pub carries-marked : (s : List ℕ) (source sink : ℕ) (flows : List ℤ) (v : ℤ) (answer : MarkAnswer)
+      → NoneOf (sheetChecks s) → NoneOf (endChecks (nodesOf s) source sink) → edgesOf s ≤ length flows
+      → Delivers s source sink v (atℤ flows) → Marks s source sink flows answer → answer ≡ mark.Value v
+  -- "Balanced settings within limits become face levels": on an accepted sheet, with a setting for each edge and room for a level of each face
+  pub balanced-leveled : (s : List ℕ) (flows levels levels' : List ℤ) (answer : LevelAnswer)
+      → NoneOf (sheetChecks s) → edgesOf s ≤ length flows → faces (sheetMap s) ≤ length levels
+      → BalancedWithin s (atℤ flows) → GivesLevels s flows levels levels' answer → (answer ≡ Done) × LevelsFor s (atℤ flows) (atℤ levels')
+  -- "levels become settings": settings that balance within limits, and whose levels they are
+  pub leveled-balanced : (s : List ℕ) (levels flows flows' : List ℤ)
+      → GivesSettings s levels flows flows' Done → BalancedWithin s (atℤ flows') × LevelsFor s (atℤ flows') (atℤ levels)
+  -- "there and back gives the same numbers": from settings, into any slice with room, which is not refused
+  pub settings-again : (s : List ℕ) (flows levels levels' : List ℤ) → GivesLevels s flows levels levels' Done
+      → (again again' : List ℤ) (answer : LevelAnswer) → edgesOf s ≤ length again → GivesSettings s levels' again again' answer
+      → (answer ≡ Done) × ((e : ℕ) → e < edgesOf s → atℤ again' e ≡ atℤ flows e)
+  -- and from levels
+  pub levels-again : (s : List ℕ) (levels flows flows' : List ℤ) → GivesSettings s levels flows flows' Done
+      → (again again' : List ℤ) (answer : LevelAnswer) → faces (sheetMap s) ≤ length again → GivesLevels s flows' again again' answer
+      → (answer ≡ Done) × ((f : ℕ) → f < faces (sheetMap s) → atℤ again' f ≡ atℤ levels f)
+
+-- ── 3. "For every accepted flat connected drawing and question: "cannot" exactly when no whole-number settings carry the delivery, with a set of nodes
+-- that proves it; the largest delivery is carried by the settings given, nothing greater can be, and its set proves the next one impossible; "none" exactly
+-- when nothing at all can be delivered, with a set that proves it." ──
+pub record PossibleAndImpossible : Type 0 where
+  -- ""cannot" exactly when no whole-number settings carry the delivery"
+  pub cannot-exactly : (s : List ℕ) (source sink : ℕ) (value : ℤ) (flows flows' : List ℤ) (set set' : List ℕ) (answer : SolveAnswer)
+      → NoneOf (solveChecks s source sink value flows set) → Solves s source sink value flows flows' set set' answer
+      → ((n : ℕ) × (answer ≡ Cannot n)) ↔ Impossible s source sink value
+  -- "can" exactly when some do
+  pub can-exactly : (s : List ℕ) (source sink : ℕ) (value : ℤ) (flows flows' : List ℤ) (set set' : List ℕ) (answer : SolveAnswer)
+      → NoneOf (solveChecks s source sink value flows set) → Solves s source sink value flows flows' set set' answer
+      → (answer ≡ Can) ↔ Possible s source sink value
+  -- "with a set of nodes that proves it": in front of the slice, and the number given is its size
+  pub cannot-proves : (s : List ℕ) (source sink : ℕ) (value : ℤ) (flows flows' : List ℤ) (set set' : List ℕ) (n : ℕ)
+      → Solves s source sink value flows flows' set set' (Cannot n)
+      → (words : List ℕ) × SetWritten (nodesOf s) words set set' × ProvesOf s source sink value (member words) × (n ≡ size words)
+  -- what proving is worth: any set of nodes that proves a delivery impossible leaves no settings that carry it, on an accepted sheet with accepted ends
+  pub set-excludes : (s : List ℕ) (source sink : ℕ) (value : ℤ) (S : ℕ → Bool)
+      → NoneOf (sheetChecks s) → NoneOf (endChecks (nodesOf s) source sink) → ProvesOf s source sink value S → Impossible s source sink value
+  -- "the largest delivery is carried by the settings given"
+  pub largest-carries : (s : List ℕ) (source sink : ℕ) (v : ℤ) (flows flows' : List ℤ) (set set' : List ℕ)
+      → FindsLargest s source sink flows flows' set set' (largest.Value v) → Delivers s source sink v (atℤ flows')
+  -- "nothing greater can be"
+  pub nothing-greater : (s : List ℕ) (source sink : ℕ) (v : ℤ) (flows flows' : List ℤ) (set set' : List ℕ)
+      → FindsLargest s source sink flows flows' set set' (largest.Value v) → (w : ℤ) → Possible s source sink w → w ≤ℤ v
+  -- "and its set proves the next one impossible"
+  pub next-impossible : (s : List ℕ) (source sink : ℕ) (v : ℤ) (flows flows' : List ℤ) (set set' : List ℕ)
+      → FindsLargest s source sink flows flows' set set' (largest.Value v)
+      → (words : List ℕ) × SetWritten (nodesOf s) words set set' × ProvesOf s source sink (v +ℤ pos 1) (member words)
+  -- ""none" exactly when nothing at all can be delivered"
+  pub none-exactly : (s : List ℕ) (source sink : ℕ) (flows flows' : List ℤ) (set set' : List ℕ) (answer : LargestAnswer)
+      → NoneOf (largestChecks s source sink flows set) → FindsLargest s source sink flows flows' set set' answer
+      → (answer ≡ largest.None) ↔ ((value : ℤ) → Impossible s source sink value)
+  -- "with a set that proves it": one set, for every delivery
+  pub none-proves : (s : List ℕ) (source sink : ℕ) (flows flows' : List ℤ) (set set' : List ℕ)
+      → FindsLargest s source sink flows flows' set set' largest.None
+      → (words : List ℕ) × SetWritten (nodesOf s) words set set' × ((value : ℤ) → ProvesOf s source sink value (member words))
