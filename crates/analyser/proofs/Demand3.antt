@@ -33,15 +33,12 @@ use Rattle.questions.specs.declared.LargestAnswer.{LargestAnswer}
 use Rattle.questions.specs.declared.LargestAnswer.the-variants.{Value, None}
 use Rattle.questions.specs.declared.LargestAnswer.the-variants as largest
 use Rattle.questions.proofs.Asked.{ends-in, ends-differ}
+use Rattle.analyser.specs.Statements.{Delivers}
 use Rattle.analyser.proofs.SheetPlane.{plane, capacity-small}
 use Rattle.arrays.proofs.FillLoops.{filled-front}
 use Rattle.sheets.proofs.Accepted.{sheet-counts}
 use Rattle.analyser.proofs.Accepted.{accepted, Sought, sought}
 use Rattle.analyser.proofs.Asked.{excludes, one-highest}
-
--- settings x carry the delivery asked, from the sheet's headgate to its outfall within its limits
-abbrev pub Delivers : List ℕ → (source sink : ℕ) → ℤ → (ℕ → ℤ) → Type 0
-Delivers s source sink value x = Carries (sheetMap s) (capacityOf s) source sink value x
 
 -- a proving set excludes every settings, whoever gives it
 pub set-excludes : (s : List ℕ) (source sink : ℕ) (value : ℤ) (flows : List ℤ) (set : List ℕ) → NoneOf (solveChecks s source sink value flows set)

@@ -1,5 +1,5 @@
--- The statements of specs/Statements.antt, proved: those of possible and impossible by proofs/Demand3.antt, those of there and back by
--- proofs/ThereAndBack.antt; here what Mark accepts, and what becomes levels or settings.
+-- The statements of specs/Statements.antt, proved: those of possible and impossible by proofs/Demand3.antt, those of settings from levels and of there and
+-- back by proofs/ThereAndBack.antt; here what Mark accepts, and what becomes levels.
 use mathlib.Core.Path.{_≡_, refl, sym, _∙_, ap, ap₂, subst}
 use mathlib.Core.List.{List}
 use Prim.Native.Nat.{ℕ, _≤_, _<_}
@@ -7,20 +7,13 @@ use native.Mathlib.Omega.{arith}
 use lib.ListN.{length}
 use lib.IntN.{ℤ, pos, _-ℤ_}
 use Rattle.refusals.specs.Order.{NoneOf}
-use Rattle.refusals.proofs.Order.{none-append, append-none, first-none}
-use Rattle.maps.specs.Map.{darts}
+use Rattle.refusals.proofs.Order.{none-append, first-none}
 use Rattle.maps.specs.Face.{faces, left, right}
-use Rattle.maps.specs.Potential.{difference}
 use Rattle.maps.proofs.Faces.{left-in, right-in}
-use Rattle.maps.proofs.Planar.{difference-circulation}
-use Rattle.flows.specs.Settings.{onDarts}
 use Rattle.flows.specs.Check.{withinChecks}
-use Rattle.flows.proofs.OnDarts.{onDarts-of, onDarts-antisymmetric}
-use Rattle.flows.proofs.Nets.{net-ext}
-use Rattle.flows.proofs.Agreement.{onDarts-agrees, within-agrees}
 use Rattle.arrays.specs.At.{atℤ}
 use Rattle.arrays.proofs.FillLoops.{filled-front}
-use Rattle.balance.proofs.Within.{none-within, within-none}
+use Rattle.balance.proofs.Within.{within-none}
 use Rattle.balance.proofs.Balance.{circulation-none, none-carries, carries-none}
 use Rattle.records.specs.Sheet.{nodesOf, edgesOf, capacityOf, outerOf, sheetMap, sheetDrawing}
 use Rattle.sheets.specs.Open.{sheetChecks}
@@ -29,14 +22,12 @@ use Rattle.questions.specs.Mark.{paperChecks}
 use Rattle.questions.specs.declared.MarkAnswer.{MarkAnswer}
 use Rattle.questions.specs.declared.MarkAnswer.the-variants.{Value, Refused}
 use Rattle.questions.proofs.Asked.{paper}
-use Rattle.levels.specs.SettingsOf.{leveledChecks, fromLevels}
 use Rattle.levels.specs.declared.LevelAnswer.{LevelAnswer}
 use Rattle.levels.specs.declared.LevelAnswer.the-variants.{Done}
 use Rattle.levels.specs.declared.LevelAnswer.the-variants as level
-use Rattle.levels.proofs.Given.{balanced-none, leveled-parts}
+use Rattle.levels.proofs.Given.{balanced-none}
 use Rattle.analyser.specs.Mark.{markChecks, Marks}
 use Rattle.analyser.specs.LevelsOf.{levelsChecks, GivesLevels}
-use Rattle.analyser.specs.SettingsOf.{settingsChecks, GivesSettings}
 use Rattle.analyser.specs.Statements.{Delivers, BalancedWithin, LevelsFor, SettingsAndLevels, PossibleAndImpossible}
 use Rattle.analyser.proofs.Accepted.{mark-parts, levels-none}
 use Rattle.analyser.proofs.SheetPlane.{plane, outer-in}
@@ -87,44 +78,6 @@ module _ (s : List ℕ) (sheet : NoneOf (sheetChecks s)) where
       absurd (first-none (levelsChecks s flows levels) k p (h .0) (levels-none s flows levels sheet (balanced-none (sheetDrawing s) flows levels long room
       (within-none (sheetMap s) (capacityOf s) (atℤ flows) (b .1)) (circulation-none (sheetMap s) (atℤ flows) (b .0)))))
 
--- ── what levels become ──
-settings-parts : (s : List ℕ) (levels flows : List ℤ) → NoneOf (settingsChecks s levels flows)
-    → NoneOf (sheetChecks s) × NoneOf (leveledChecks (sheetDrawing s) levels flows)
-unfolding settingsChecks
-settings-parts s levels flows h = append-none (sheetChecks s) _ h
-
-module _ (s : List ℕ) (levels flows flows' : List ℤ) (given : GivesSettings s levels flows flows' Done) where
-  abbrev x : ℕ → ℤ
-  x = fromLevels (sheetMap s) (atℤ levels)
-
-  sheet : NoneOf (sheetChecks s)
-  sheet = settings-parts s levels flows (given .0) .0
-
-  leveled : NoneOf (leveledChecks (sheetDrawing s) levels flows)
-  leveled = settings-parts s levels flows (given .0) .1
-
-  same : (e : ℕ) → e < edgesOf s → x e ≡ atℤ flows' e
-  same e l = sym (filled-front (pos 0) (edgesOf s) x flows flows' (given .1) e l)
-
-  differ : (d : ℕ) → d < darts (sheetMap s) → onDarts (atℤ flows') d ≡ difference (sheetMap s) (atℤ levels) d
-  differ d l =
-      sym (onDarts-agrees (sheetMap s) x (atℤ flows') same d l)
-      ∙ onDarts-of (sheetMap s) (difference (sheetMap s) (atℤ levels)) (difference-circulation (plane s sheet .sound) (atℤ levels) .antisymmetric) d l
-
-  leveled-balanced : BalancedWithin s (atℤ flows') × LevelsFor s (atℤ flows') (atℤ levels)
-  leveled-balanced =
-      let p = leveled-parts (sheetDrawing s) levels flows leveled in
-      let even = difference-circulation (plane s sheet .sound) (atℤ levels) .balanced in (
-        (
-          record {
-            antisymmetric = onDarts-antisymmetric (sheetMap s) (atℤ flows');
-            balanced = λ v l. net-ext (sheetMap s) v (onDarts (atℤ flows')) (difference (sheetMap s) (atℤ levels)) differ ∙ even v l;
-          },
-          within-agrees (sheetMap s) x (atℤ flows') same (capacityOf s) (none-within (sheetMap s) (capacityOf s) x (p .4)),
-        ),
-        record { differences = differ; rooted = p .3 },
-      )
-
 -- ── all ──
 pub settings-and-levels : SettingsAndLevels
 settings-and-levels = record {
@@ -133,7 +86,7 @@ settings-and-levels = record {
   marked-carries = marked-carries;
   carries-marked = λ s source sink flows v answer sheet ends long d h. carries-marked s source sink flows sheet ends long v d answer h;
   balanced-leveled = λ s flows levels levels' answer sheet long room b h. balanced-leveled s sheet flows levels levels' long room b answer h;
-  leveled-balanced = leveled-balanced;
+  leveled-balanced = back.leveled-balanced;
   settings-again = λ s flows levels levels' given again again' answer room h. back.settings-again s flows levels levels' given again again' room answer h;
   levels-again = λ s levels flows flows' given again again' answer room h. back.levels-again s levels flows flows' given again again' room answer h;
 }

@@ -19,7 +19,7 @@ use Rattle.maps.specs.Flow.{Circulation, net}
 use Rattle.maps.specs.Potential.{difference, Potentials}
 use Rattle.maps.proofs.Faces.{left-in, right-in}
 use Rattle.maps.proofs.Planar.{difference-circulation}
-use Rattle.flows.specs.Settings.{onDarts, Within, Balanced}
+use Rattle.flows.specs.Settings.{onDarts, Within}
 use Rattle.flows.specs.Levels.{Levels}
 use Rattle.flows.specs.Check.{withinChecks, balanceChecks, NoNode}
 use Rattle.flows.proofs.OnDarts.{onDarts-even, onDarts-of, onDarts-antisymmetric}
@@ -43,6 +43,7 @@ use Rattle.levels.proofs.Given.{balanced-parts, balanced-none, leveled-parts, l
 use Rattle.flows.specs.ZeroFace.{ZeroFace}
 use Rattle.levels.specs.declared.LevelAnswer.{LevelAnswer}
 use Rattle.levels.specs.declared.LevelAnswer.the-variants.{Done, Refused}
+use Rattle.analyser.specs.Statements.{BalancedWithin, LevelsFor}
 use Rattle.analyser.proofs.Accepted.{levels-none}
 use Rattle.analyser.proofs.SheetPlane.{plane, outer-in, faces-at-most, capacity-small, levels-unique}
 
@@ -121,45 +122,55 @@ module _ (s : List ℕ) where
       finish (Refused k q) h = absurd (first-none (settingsChecks s levels' flows₀) k q (h .0) whole)
 
   -- ── levels to settings to levels ──
-  pub levels-again : (levels flows flows' : List ℤ) → GivesSettings s levels flows flows' Done
-      → (levels₀ levels₁ : List ℤ) → F ≤ length levels₀ → (a : LevelAnswer) → GivesLevels s flows' levels₀ levels₁ a
-      → (a ≡ Done) × ((f : ℕ) → f < F → atℤ levels₁ f ≡ atℤ levels f)
-  levels-again levels flows flows' given levels₀ levels₁ room a back = finish a back
-    where
-      sheet : NoneOf (sheetChecks s)
-      sheet = settings-parts levels flows (given .0) .0
+  module _ (levels flows flows' : List ℤ) (given : GivesSettings s levels flows flows' Done) where
+    sheet : NoneOf (sheetChecks s)
+    sheet = settings-parts levels flows (given .0) .0
 
-      p : (edgesOf s ≤ length flows) × (F ≤ length levels) × ((f : ℕ) → f < F → LevelOutside (atℤ levels f) → ⊥) × ((f : ℕ) → ZeroFace 𝓜 (outerOf s) f → atℤ levels f ≡ pos 0)
-          × NoneOf (withinChecks (edgesOf s) (capacityOf s) (fromLevels 𝓜 (atℤ levels)))
-      p = leveled-parts (sheetDrawing s) levels flows (settings-parts levels flows (given .0) .1)
+    p : (edgesOf s ≤ length flows)
+        × (F ≤ length levels)
+        × ((f : ℕ) → f < F → LevelOutside (atℤ levels f) → ⊥)
+        × ((f : ℕ) → ZeroFace 𝓜 (outerOf s) f → atℤ levels f ≡ pos 0)
+        × NoneOf (withinChecks (edgesOf s) (capacityOf s) (fromLevels 𝓜 (atℤ levels)))
+    p = leveled-parts (sheetDrawing s) levels flows (settings-parts levels flows (given .0) .1)
 
-      x : ℕ → ℤ
-      x = fromLevels 𝓜 (atℤ levels)
+    abbrev x : ℕ → ℤ
+    x = fromLevels (sheetMap s) (atℤ levels)
 
-      same : (e : ℕ) → e < edgesOf s → x e ≡ atℤ flows' e
-      same e l = sym (filled-front (pos 0) (edgesOf s) x flows flows' (given .1) e l)
+    same : (e : ℕ) → e < edgesOf s → x e ≡ atℤ flows' e
+    same e l = sym (filled-front (pos 0) (edgesOf s) x flows flows' (given .1) e l)
 
-      differ : (d : ℕ) → d < darts 𝓜 → onDarts (atℤ flows') d ≡ difference 𝓜 (atℤ levels) d
-      differ d l = sym (onDarts-agrees 𝓜 x (atℤ flows') same d l) ∙ fromLevels-darts (plane s sheet .sound) (atℤ levels) d l
+    differ : (d : ℕ) → d < darts 𝓜 → onDarts (atℤ flows') d ≡ difference 𝓜 (atℤ levels) d
+    differ d l = sym (onDarts-agrees 𝓜 x (atℤ flows') same d l) ∙ fromLevels-darts (plane s sheet .sound) (atℤ levels) d l
 
-      are : Levels 𝓜 (outerOf s) (atℤ flows') (atℤ levels)
-      are = record { differences = differ; rooted = p .3 }
+    -- the settings given balance, within limits, and their levels are those they were made from
+    pub leveled-balanced : BalancedWithin s (atℤ flows') × LevelsFor s (atℤ flows') (atℤ levels)
+    leveled-balanced =
+        let even = difference-circulation (plane s sheet .sound) (atℤ levels) .balanced in (
+          (
+            record {
+              antisymmetric = onDarts-antisymmetric 𝓜 (atℤ flows');
+              balanced = λ v l. net-ext 𝓜 v (onDarts (atℤ flows')) (difference 𝓜 (atℤ levels)) differ ∙ even v l;
+            },
+            within-agrees 𝓜 x (atℤ flows') same (capacityOf s) (none-within 𝓜 (capacityOf s) x (p .4)),
+          ),
+          record { differences = differ; rooted = p .3 },
+        )
 
-      balanced : Balanced 𝓜 (atℤ flows')
-      balanced = record {
-        antisymmetric = onDarts-antisymmetric 𝓜 (atℤ flows');
-        balanced = λ v l. net-ext 𝓜 v (onDarts (atℤ flows')) (difference 𝓜 (atℤ levels)) differ ∙ difference-circulation (plane s sheet .sound) (atℤ levels) .balanced v l;
-      }
+    pub levels-again : (levels₀ levels₁ : List ℤ) → F ≤ length levels₀ → (a : LevelAnswer) → GivesLevels s flows' levels₀ levels₁ a
+        → (a ≡ Done) × ((f : ℕ) → f < F → atℤ levels₁ f ≡ atℤ levels f)
+    levels-again levels₀ levels₁ room Done h = (
+      refl,
+      λ f l.
+          filled-front (pos 0) F (h .1 .0) levels₀ levels₁ (h .1 .2) f l
+          ∙ levels-unique s sheet (atℤ flows') (h .1 .0) (atℤ levels) (h .1 .1) (leveled-balanced .1) f l,
+    )
+    levels-again levels₀ levels₁ room (Refused k q) h = absurd (first-none (levelsChecks s flows' levels₀) k q (h .0) whole)
+      where
+        long : edgesOf s ≤ length flows'
+        long = omega (arith, filled-length (edgesOf s) x flows flows' (given .1) (p .0), p .0)
 
-      long : edgesOf s ≤ length flows'
-      long = omega (arith, filled-length (edgesOf s) x flows flows' (given .1) (p .0), p .0)
-
-      whole : NoneOf (levelsChecks s flows' levels₀)
-      whole =
-          levels-none s flows' levels₀ sheet (balanced-none (sheetDrawing s) flows' levels₀ long room
-          (within-none 𝓜 (capacityOf s) (atℤ flows') (within-agrees 𝓜 x (atℤ flows') same (capacityOf s) (none-within 𝓜 (capacityOf s) x (p .4))))
-          (circulation-none 𝓜 (atℤ flows') balanced))
-
-      finish : (a : LevelAnswer) → GivesLevels s flows' levels₀ levels₁ a → (a ≡ Done) × ((f : ℕ) → f < F → atℤ levels₁ f ≡ atℤ levels f)
-      finish Done h = (refl, λ f l. filled-front (pos 0) F (h .1 .0) levels₀ levels₁ (h .1 .2) f l ∙ levels-unique s sheet (atℤ flows') (h .1 .0) (atℤ levels) (h .1 .1) are f l)
-      finish (Refused k q) h = absurd (first-none (levelsChecks s flows' levels₀) k q (h .0) whole)
+        whole : NoneOf (levelsChecks s flows' levels₀)
+        whole =
+            levels-none s flows' levels₀ sheet (balanced-none (sheetDrawing s) flows' levels₀ long room
+            (within-none 𝓜 (capacityOf s) (atℤ flows') (leveled-balanced .0 .1))
+            (circulation-none 𝓜 (atℤ flows') (leveled-balanced .0 .0)))

@@ -16,7 +16,8 @@ use Rattle.records.specs.Sheet.{nodesOf, edgesOf, capacityOf, sheetMap, outerOf
 use Rattle.analyser.specs.Solve.{solveChecks}
 use Rattle.analyser.proofs.Accepted.{Accepted, accepted}
 use Rattle.analyser.proofs.Asked.{one-highest}
-use Rattle.analyser.proofs.Demand3.{Delivers, set-excludes}
+use Rattle.analyser.specs.Statements.{Delivers}
+use Rattle.analyser.proofs.Demand3.{set-excludes}
 use Rattle.key_text.specs.Question.{sourceOf, sinkOf, valueOf, sheetOf, keyChecks}
 use Rattle.key_text.specs.Text.{canWord, cannotWord, refusedWord, edgeLine, canLine, canText, cannotLine, cannotText, refusedText}
 use Rattle.key_text.specs.Key.{Key, can, cannot, refused}
