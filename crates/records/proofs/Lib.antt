@@ -1,4 +1,5 @@
 pub mod Record
+pub mod Head
 pub mod Fields
 pub mod Drawing
 pub mod Bytes

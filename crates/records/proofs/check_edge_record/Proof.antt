@@ -1,6 +1,7 @@
 -- `check_edge_record` meets its contract: the record, and then its fields, as they stand in it.
 use mathlib.Core.Path.{_≡_, _∙_, ap, subst}
-use Prim.Native.Nat.{_+_, _≤_}
+use mathlib.Core.List.{List}
+use Prim.Native.Nat.{ℕ, _+_, _≤_}
 use lib.ListN.{length}
 use Rattle.fields.specs.Fields.{u16At, i32At}
 use Rattle.refusals.specs.Order.{Judged}
@@ -9,7 +10,7 @@ use Rattle.records.specs.Record.{recordChecks}
 use native.Mathlib.Omega.{arith}
 use Rattle.signed.proofs.Laws.{number-of-bits}
 use Rattle.refusals.proofs.Order.{first-left, judged-right}
-use Rattle.records.specs.Sheet.{edgeAt, edgeRecordChecks}
+use Rattle.records.specs.Sheet.{edgeAfter, edgeAt, edgeRecordChecks}
 use Rattle.records.proofs.Record.{edge-body}
 use Rattle.records.proofs.Fields.{edge-fields}
 use borrow.Author.Needs.{needs}
@@ -25,9 +26,15 @@ check-record-requires c κs = search needs
 enum-known-whole : tie.Need-enum-known-whole
 enum-known-whole c = search needs
 
--- the record begins where the table has it
-judged : (c : tie.After-check-record) (v : Verdict) → c .check-record .result ≡ v → Judged (recordChecks (c .before .before .before .args .s .now) 2 (edgeAt (c .before .before .before .args .e))) v
-judged c v e = subst (λ n. Judged (recordChecks (c .before .before .before .args .s .now) 2 n) v) (c .before .edge-at .ensures) (subst (Judged _) e (c .check-record .ensures))
+-- the record begins behind the sheet's head and the records before it
+abbrev sheet : tie.After-edge-at → List ℕ
+sheet c = c .before .before .args .s .now
+
+place : (c : tie.After-edge-at) → c .edge-at .result ≡ edgeAt (sheet c) (c .before .before .args .e)
+place c = c .edge-at .ensures ∙ ap (λ n. edgeAfter n (c .before .before .args .e)) (c .before .before .pre .3)
+
+judged : (c : tie.After-check-record) (v : Verdict) → c .check-record .result ≡ v → Judged (recordChecks (sheet (c .before)) 2 (edgeAt (sheet (c .before)) (c .before .before .before .args .e))) v
+judged c v e = subst (λ n. Judged (recordChecks (sheet (c .before)) 2 n) v) (place (c .before)) (subst (Judged _) e (c .check-record .ensures))
 
 returns : tie.Need-returns
 unfolding edgeRecordChecks
@@ -41,7 +48,7 @@ whole : (c : tie.After-enum-told) → c .before .before .before .edge-at .result
 whole c =
     omega (
       arith,
-      c .before .before .before .edge-at .ensures,
+      place (c .before .before .before),
       edge-body _ (c .before .before .before .before .before .args .e) (judged (c .before .before) _ (c .enum-told .given .1)),
     )
 
@@ -96,13 +103,13 @@ returns-2 c =
     let told = first .before in
     let start = told .before .before .before .before .before in
     let s = start .args .s .now in
-    let here = told .before .before .before .edge-at .ensures in
+    let here = place (told .before .before .before) in
     judged-right _ _ (c .check-fields .result)
     (judged (told .before .before) _ (told .enum-told .given .1))
     (rw (edge-fields (start .args .s .now) (start .args .e) (omega arith))
     (rw (
-      start .pre .2,
-      start .pre .3,
+      start .pre .4,
+      start .pre .5,
       first .read-wide .ensures ∙ ap (λ n. u16At s (n + 1)) here,
       second .read-wide2 .ensures ∙ ap (λ n. u16At s (n + 3)) here,
       third .read-wide3 .ensures ∙ ap (λ n. u16At s (n + 5)) here,
