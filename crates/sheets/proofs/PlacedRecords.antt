@@ -3,10 +3,10 @@ use mathlib.Core.Path.{_≡_, refl, _∙_, ap}
 use mathlib.Core.List.{List, [], _∷_, _++_, append-assoc}
 use Prim.Native.Nat.{ℕ, _+_, _≤_}
 use native.Mathlib.Omega.{arith}
-use lib.ListN.{length}
+use lib.ListN.{length, length-append}
 use lib.IntN.{ℤ}
 use Rattle.fields.specs.Fields.{put, le16, le32}
-use Rattle.fields.proofs.Laws.{le16-length, le32-length}
+use Rattle.fields.proofs.Laws.{put-length, le16-length, le32-length}
 use Rattle.records.specs.Record.{recordLength}
 use Rattle.records.specs.Encode.{headBytes, edgeBytes}
 use Rattle.sheets.proofs.Placing.{Placed, placed-first, placed-next}
@@ -57,3 +57,8 @@ edge-placed old {l₁} {l₂} {l₃} {l₄} {l₅} {l₆} {l₇} place tail head
 
     whole : Placed old place (((((((2 ∷ []) ++ le16 tail) ++ le16 head) ++ le16 rotation) ++ le16 back) ++ le32 forward) ++ le32 backward) 17 l₇
     whole = placed-32 (placed-32 rotations forward e₆ (omega arith)) backward e₇ (omega arith)
+
+-- the head leaves the length as it was
+pub head-kept : (nodes edges : ℕ) (old l : List ℕ) → l ≡ put 0 (headBytes nodes edges) old → recordLength 1 ≤ length old → length l ≡ length old
+head-kept nodes edges old l h room =
+    ap length h ∙ put-length 0 (headBytes nodes edges) old (omega (arith, length-append (le16 nodes) (le16 edges), le16-length nodes, le16-length edges))
