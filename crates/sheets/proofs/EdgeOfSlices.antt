@@ -4,7 +4,6 @@ use Prim.Native.Nat.{ℕ, _+_, _*_}
 use lib.IntN.{ℤ}
 use Rattle.refusals.specs.Order.{Judged}
 use Rattle.refusals.specs.declared.Verdict.{Verdict}
-use Rattle.maps.specs.Map.{Map}
 use Rattle.maps.specs.Drawing.{Drawing}
 use Rattle.records.specs.Check.{fieldChecks, edgeChecks}
 

@@ -1,14 +1,14 @@
 -- Read meets its contract: the sheet is accepted, then there is room for two elements to an edge in each slice, then the slices are filled straight from the
 -- bytes; every way out is a law of `Reading`.
-use mathlib.Core.Path.{_≡_, refl, sym, _∙_, subst}
+use mathlib.Core.Path.{refl, sym, _∙_, subst}
 use mathlib.Core.Logic.{inl, inr}
 use mathlib.Core.List.{List}
-use Prim.Native.Nat.{ℕ, _≤_, _*_}
+use Prim.Native.Nat.{ℕ, _≤_}
 use native.Mathlib.Omega.{arith}
 use lib.ListN.{length}
 use borrow.Author.Needs.{needs}
 use Rattle.refusals.specs.Order.{NoneOf}
-use Rattle.records.specs.Sheet.{edgesOf, edgeAt}
+use Rattle.records.specs.Sheet.{edgeAt}
 use Rattle.sheets.specs.Open.{sheetChecks, Numbers}
 use Rattle.sheets.proofs.Accepted.{sheet-bytes, sheet-counts}
 use Rattle.sheets.proofs.Opening.{bytes-room, opens-passed, opens-first}

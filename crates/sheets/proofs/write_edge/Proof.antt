@@ -1,7 +1,6 @@
 -- The record of an edge is written field by field: at seven places a field stands behind the one before, and `edge-placed` joins them into one piece.
 use mathlib.Core.Path.{_≡_}
-use mathlib.Core.List.{List}
-use Prim.Native.Nat.{ℕ, _+_}
+use Prim.Native.Nat.{_+_}
 use borrow.Author.Needs.{needs}
 use Rattle.signed.proofs.Laws.{number-of-bits}
 use Rattle.fields.specs.Fields.{put, le32}

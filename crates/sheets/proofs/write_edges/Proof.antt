@@ -1,9 +1,9 @@
 -- The records of all edges, after the head. Invariant: the head and the records of the edges below e stand in front, and the rest is as it was.
 use mathlib.Core.Path.{_≡_, refl, _∙_, ap}
 use mathlib.Core.List.{List, _++_}
-use Prim.Native.Nat.{ℕ, _≤_, _<_, _-_, _+_, _*_}
+use Prim.Native.Nat.{ℕ, _≤_, _-_, _+_, _*_}
 use native.Mathlib.Omega.{arith}
-use lib.IntN.{ℤ, pos}
+use lib.IntN.{pos}
 use lib.ListN.{length, getD, drop}
 use borrow.Author.Needs.{needs}
 use Rattle.signed.proofs.Laws.{number-of-bits}
@@ -11,7 +11,7 @@ use Rattle.fields.specs.Fields.{put}
 use Rattle.maps.specs.Drawing.{Drawing}
 use Rattle.records.specs.Record.{recordLength}
 use Rattle.records.specs.Sheet.{edgeAt}
-use Rattle.records.specs.Encode.{edgeBytes, encodeEdge, encodeHead, encodeEdges}
+use Rattle.records.specs.Encode.{encodeEdge, encodeHead, encodeEdges}
 use Rattle.records.proofs.Places.{edge-length}
 use Rattle.sheets.specs.Write.{slicesDrawing}
 use Rattle.sheets.proofs.Placing.{placed-first, placed-length}
