@@ -57,42 +57,33 @@ seven-digits c = number-length 6 1000000 (c .args .flow) (omega arith) (c .pre .
 flow-room : (c : tie.After-put-number) → c .put-number .result + 1 ≤ length (c .put-number .last .0)
 flow-room c = placed-room 8 1 _ _ _ _ _ (flow c) (seven-digits (begun c)) (blank-room (parted c))
 
--- src/lib.rt:71:39
 index-requires : tie.Need-index-requires
 index-requires c κs = search needs
 
--- src/lib.rt:71:9
 put-decimal-requires : tie.Need-put-decimal-requires
 put-decimal-requires c κs = omega (arith, subst (λ n. length (decimal n) ≤ 3) (sym (c .index .ensures)) (three-digits (c .before .before .before)), c .before .before .before .pre .0)
 
--- src/lib.rt:72:41
 slice-aggregate-put-bytes : tie.Need-slice-aggregate-put-bytes
 slice-aggregate-put-bytes c = search needs
 
--- src/lib.rt:72:9
 put-bytes-requires : tie.Need-put-bytes-requires
 put-bytes-requires c κs = omega (arith, edge-room (c .before .before .before .before))
 
--- src/lib.rt:73:9
 put-number-requires : tie.Need-put-number-requires
 put-number-requires c κs = omega (arith, subst (λ x. length (number x) ≤ 8) (sym (number-of-bits _ (start .fits .flow))) (seven-digits start), blank-room (c .before .before .before))
   where
     start : tie.Start
     start = begin (named (c .before .before .before))
 
--- src/lib.rt:74:26
 slice-aggregate-put-bytes-2 : tie.Need-slice-aggregate-put-bytes-2
 slice-aggregate-put-bytes-2 c = search needs
 
--- src/lib.rt:74:5
 put-bytes-requires-2 : tie.Need-put-bytes-requires-2
 put-bytes-requires-2 c κs = flow-room (c .before .before .before .before)
 
--- src/lib.rt:67:1
 same-length : tie.Need-same-length
 same-length c = search needs
 
--- src/lib.rt:67:1
 returns : tie.Need-returns
 unfolding edgeLine
 returns c = four-placed _ _ _ _ _ _ _ _ _ _ _ _ _ _ (edge (named (parted f))) (blank (parted f)) (flow f) (c .before .before .put-bytes2 .ensures)

@@ -53,20 +53,16 @@ written c =
     let o = c .before .before .before .before .loop in
     subst (λ x. Placed (o .end) (edgeLine (o .e) x) (o .text) (c .put-edge .last .0) (c .put-edge .result)) (number-of-bits (atℤ (s .args .flows .now) (o .e)) (record { sfits = c .before .put-edge-arg2 .given })) (c .put-edge .ensures)
 
--- src/lib.rt:84:5
 loop-holds : tie.Need-loop-holds Inv-loop μ-loop
 unfolding lines
 loop-holds c = (omega arith, placed-none _ _)
 
--- src/lib.rt:85:38
 mul-put-edge : tie.Need-mul-put-edge Inv-loop μ-loop
 mul-put-edge c = search needs
 
--- src/lib.rt:85:38
 element-copy-out-put-edge : tie.Need-element-copy-out-put-edge Inv-loop μ-loop
 element-copy-out-put-edge c = search needs
 
--- src/lib.rt:85:9
 put-edge-requires : tie.Need-put-edge-requires Inv-loop μ-loop
 put-edge-requires c κs =
     let s = started (c .before .before .before) in
@@ -77,15 +73,12 @@ put-edge-requires c κs =
       subst (Limited 1000000) (sym (number-of-bits (atℤ (s .args .flows .now) (o .e)) (record { sfits = c .put-edge-arg2 .given }))) (s .pre .2 (o .e) (c .before .before .loop-test .taken)),
     )
 
--- src/lib.rt:86:9
 add-e : tie.Need-add-e Inv-loop μ-loop
 add-e c = search needs
 
--- src/lib.rt:84:5
 loop-less : tie.Need-loop-less Inv-loop μ-loop
 loop-less c = search needs
 
--- src/lib.rt:84:5
 loop-again : tie.Need-loop-again Inv-loop μ-loop
 loop-again c =
     let s = started (c .before .before .before .before .before .before) in
@@ -96,7 +89,6 @@ loop-again c =
           (omega (arith, f .0, f .1, s .pre .0, c .before .before .before .before .before .loop-test .taken)),
     )
 
--- src/lib.rt:78:1
 same-length : tie.Need-same-length Inv-loop μ-loop
 same-length c =
     let s = started (c .before) in
@@ -104,7 +96,6 @@ same-length c =
     placed-length _ _ _ _ _ (o .inv .1)
     (omega (arith, o .inv .1 .1, s .pre .0, o .inv .0, lines-length 13 (o .e) (line (s .args .flows .now)) (λ i g. edge-line-length i (atℤ (s .args .flows .now) i) (omega (arith, s .pre .1, o .inv .0)) (s .pre .2 i (omega (arith, o .inv .0))))))
 
--- src/lib.rt:78:1
 returns : tie.Need-returns Inv-loop μ-loop
 returns c =
     let s = started (c .before) in
