@@ -1,18 +1,18 @@
 -- What a head is: how long it is and which outer dart it names, by its kind; whole and of one of the two kinds, where its record passes its checks. Document 02,
 -- Job 6: "A kind 1 head is still read, as outer dart 0."
-use Prim.Native.Nat.{ℕ, _≤_}
+use Prim.Native.Nat.{ℕ, zero, suc, _≤_, _<_}
 use mathlib.Core.Path.{_≡_, _∙_, ap}
 use mathlib.Core.Logic.{_≢_, _⊎_, inl, inr}
 use mathlib.Core.Bool.{cond}
 use mathlib.Core.List.{List}
 use native.Mathlib.Omega.{arith}
-use native.Mathlib.Decide.{ℕ-discrete}
+use native.Mathlib.Decide.{ℕ-discrete, decLt}
 use lib.Dec.{eqb}
 use lib.ListN.{length}
-use Rattle.integers.proofs.Tests.{eqb-false}
+use Rattle.integers.proofs.Tests.{eqb-false, ltb-false}
 use Rattle.refusals.specs.Order.{NoneOf}
 use Rattle.fields.specs.Fields.{u16At}
-use Rattle.records.specs.Record.{recordLength}
+use Rattle.records.specs.Record.{bodyLength, recordLength}
 use Rattle.records.specs.Sheet.{kindOf, headLength, outerOf, headRecordChecks}
 
 -- ── by its kind ──
@@ -40,6 +40,23 @@ no-outer s other = rw (eqb-false (kindOf s) 4 other)
 pub head-some : (s : List ℕ) → 1 ≤ headLength s
 unfolding headLength
 head-some s = omega arith
+
+-- no record is longer than an edge's
+body-below : (k : ℕ) → k < 5 → bodyLength k ≤ 16
+body-below zero l = omega arith
+body-below (suc zero) l = omega arith
+body-below (suc (suc zero)) l = omega arith
+body-below (suc (suc (suc zero))) l = omega arith
+body-below (suc (suc (suc (suc zero)))) l = omega arith
+body-below (suc (suc (suc (suc (suc k))))) l = absurd (omega arith)
+
+pub head-at-most : (s : List ℕ) → headLength s ≤ 17
+unfolding headLength
+head-at-most s = go (decLt (kindOf s) 5)
+  where
+    go : Dec (kindOf s < 5) → recordLength (kindOf s) ≤ 17
+    go (yes l) = omega (arith, body-below (kindOf s) l)
+    go (no l) = rw (ltb-false (kindOf s) 5 (omega (arith, l))) (omega arith)
 
 pub head-lengths : (s : List ℕ) → (kindOf s ≡ 1) ⊎ (kindOf s ≡ 4) → (5 ≤ headLength s) × (headLength s ≤ 7)
 head-lengths s (inl is) = let l = head-long s 1 is in (omega arith, omega arith)
