@@ -10,7 +10,7 @@ use Prim.Native.Nat.{ℕ, _<_}
 use native.Mathlib.Omega.{arith}
 use lib.IntN.{ℤ, pos, _+ℤ_}
 use lib.Signed.{_≤ℤ_}
-use Rattle.integers.specs.Limited.{Limited}
+use Rattle.integers.specs.inner.Limited.{Limited}
 use Rattle.integers.proofs.Omega.{atoms₁, atoms₃, parts, at-most, from-at-most, from-less}
 use Rattle.refusals.specs.Order.{NoneOf}
 use Rattle.refusals.proofs.Order.{first-none}
@@ -19,7 +19,7 @@ use Rattle.flows.specs.Highest.{Highest}
 use Rattle.flows.specs.ProvingSet.{Proves, member, size}
 use Rattle.flows.proofs.Agreement.{highest-agrees}
 use Rattle.flows.proofs.Interval.{which, source-limits, source-short, sink-proves-less, beside-proves, beside-proves-all}
-use Rattle.flows.specs.Sides.{AtSource, AtSink, Beside}
+use Rattle.flows.specs.inner.Sides.{AtSource, AtSink, Beside}
 use Rattle.flows.proofs.ValueBound.{value-small}
 use Rattle.maps.specs.Cut.{cut}
 use Rattle.records.specs.Sheet.{nodesOf, edgesOf, capacityOf, outerOf, sheetMap}

@@ -5,15 +5,15 @@ use mathlib.Core.List.{List, _++_}
 use Prim.Native.Nat.{ℕ, _*_, _≤_, _<_}
 use native.Mathlib.Omega.{arith}
 use lib.IntN.{ℤ}
-use Rattle.integers.specs.Limited.{Limited}
+use Rattle.integers.specs.inner.Limited.{Limited}
 use Rattle.refusals.specs.Order.{Check, NoneOf, FirstOf}
 use Rattle.refusals.proofs.Order.{first-left}
 use Rattle.maps.specs.Map.{Map, darts}
 use Rattle.maps.specs.Drawing.{Drawing}
 use Rattle.arrays.specs.At.{at, atℤ}
 use Rattle.arrays.specs.Maps.{mapOf, drawingOf}
-use Rattle.arrays.specs.Sizes.{mostOnSheet}
-use Rattle.arrays.specs.Drawn.{Drawn}
+use Rattle.arrays.specs.inner.Sizes.{mostOnSheet}
+use Rattle.arrays.specs.inner.Drawn.{Drawn}
 use Rattle.records.specs.Sheet.{nodesOf, edgesOf, outerOf, tailOf, rotationOf, capacityOf, sheetMap, sheetDrawing}
 use Rattle.records.proofs.Bytes.{bytes-range}
 use Rattle.sheets.specs.Open.{sheetChecks, Numbers}

@@ -8,7 +8,7 @@ use native.Mathlib.Omega.{arith}
 use lib.ListN.{length, getD, drop, List·getD-append}
 use lib.IntN.{ℤ, pos, negsuc, negℤ, _-ℤ_}
 use lib.Signed.{_≤ℤ_, _<ℤ_}
-use Rattle.integers.specs.Limited.{Limited}
+use Rattle.integers.specs.inner.Limited.{Limited}
 use Rattle.integers.proofs.Omega.{atoms₁, parts, from-less, from-at-most}
 use Rattle.refusals.specs.Order.{Check, _when_, NoneOf, FirstOf}
 use Rattle.refusals.proofs.Order.{none-append, append-none, first-none, neither}

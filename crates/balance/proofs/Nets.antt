@@ -12,7 +12,7 @@ use lib.IntN.{ℤ, pos, negℤ, _+ℤ_, _-ℤ_, +ℤ-idr}
 use mir.Syntax.{w32}
 use mir.Val.{SFits}
 use Rattle.integers.specs.Sum.{Integers, sum, when}
-use Rattle.integers.specs.Limited.{Limited}
+use Rattle.integers.specs.inner.Limited.{Limited}
 use Rattle.integers.proofs.Limits.{limited-plus, limited-minus, limited-neg, limited-when, limited-sum}
 use Rattle.integers.proofs.Tests.{eqb-true, eqb-false}
 use Rattle.signed.proofs.Limits.{limited-fits}
@@ -24,8 +24,8 @@ use Rattle.flows.specs.Settings.{onDarts}
 use Rattle.flows.proofs.OnDarts.{onDarts-even, onDarts-odd}
 use Rattle.arrays.specs.At.{at, atℤ}
 use Rattle.arrays.specs.Maps.{mapOf}
-use Rattle.balance.specs.SmallFlows.{SmallFlows}
-use Rattle.balance.specs.NetUpTo.{netUpTo}
+use Rattle.balance.specs.inner.SmallFlows.{SmallFlows}
+use Rattle.balance.specs.inner.NetUpTo.{netUpTo}
 
 -- the sums that `fill_nets` leaves are the net flows of the map
 pub nets-are-net : (nodes edges : ℕ) (tails rotations : List ℕ) (x : ℕ → ℤ) (v : ℕ)

@@ -13,9 +13,9 @@ ghost use Rattle.integers.specs.Sum.{when};
 ghost use Rattle.refusals.specs.Order.{Decides, Judged};
 ghost use Rattle.flows.specs.Check.{withinChecks, EndOf};
 ghost use Rattle.arrays.specs.At.{at, atℤ};
-ghost use Rattle.balance.specs.SmallFlows.{SmallFlows};
-ghost use Rattle.balance.specs.NetUpTo.{netUpTo};
-ghost use Rattle.balance.specs.Check.{offChecks, JudgedAll};
+ghost use Rattle.balance.specs.inner.SmallFlows.{SmallFlows};
+ghost use Rattle.balance.specs.inner.NetUpTo.{netUpTo};
+ghost use Rattle.balance.specs.inner.Check.{offChecks, JudgedAll};
 use refusals::Verdict;
 
 fn below_zero(x: i64) -> bool

@@ -4,12 +4,12 @@ ghost use mathlib.Core.Bool.{not, _&&_};
 ghost use Prim.Native.Nat.{ℕ, _<_, _≤_, _%_};
 ghost use lib.Dec.{eqb};
 ghost use Rattle.integers.specs.Sum.{when};
-ghost use Rattle.integers.specs.Limited.{Limited};
+ghost use Rattle.integers.specs.inner.Limited.{Limited};
 ghost use Rattle.maps.specs.Dart.{rev};
 ghost use Rattle.arrays.specs.At.{at, atℤ};
-ghost use Rattle.arrays.specs.Flags.{flagged};
-ghost use Rattle.arrays.specs.Sizes.{mostCapacity, mostLength};
-ghost use Rattle.cuts.specs.Cut.{leavesOf, cutOf};
+ghost use Rattle.arrays.specs.inner.Flags.{flagged};
+ghost use Rattle.arrays.specs.inner.Sizes.{mostCapacity, mostLength};
+ghost use Rattle.cuts.specs.inner.Cut.{leavesOf, cutOf};
 
 // Whether a dart leaves the set, from the flags of its tail and of its head.
 fn leaves(tail: u8, head: u8) -> bool

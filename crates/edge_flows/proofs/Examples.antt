@@ -5,7 +5,7 @@ use mathlib.Core.List.{[], _∷_}
 use lib.IntN.{pos, negsuc}
 use Rattle.maps.specs.Dart.{rev}
 use Rattle.arrays.specs.At.{at, atℤ}
-use Rattle.edge_flows.specs.Flow.{flowOf}
+use Rattle.edge_flows.specs.inner.Flow.{flowOf}
 
 pub drop-and-along : flowOf
     (at (0 ∷ 1 ∷ 1 ∷ 2 ∷ []))

@@ -8,7 +8,7 @@ ghost use mir.Val.{SFits};
 ghost use Rattle.maps.specs.Dart.{rev};
 ghost use Rattle.arrays.specs.At.{at, atℤ};
 ghost use Rattle.arrays.specs.Filled.{filled};
-ghost use Rattle.edge_flows.specs.Flow.{flowOf, Flowing};
+ghost use Rattle.edge_flows.specs.inner.Flow.{flowOf, Flowing};
 
 // The drop of the potential over dart 2e, from its left face to its right one.
 fn drop_over(lefts: &[u16; 1024], potentials: &[i64; 1024], e: usize) -> i64

@@ -18,7 +18,7 @@ use Rattle.maps.specs.Map.{Map, darts}
 use Rattle.maps.specs.Check.{InRange}
 use Rattle.maps.specs.Flow.{Antisymmetric, net, Flow}
 use Rattle.maps.specs.Cut.{leaves, cut, sent}
-use Rattle.maps.specs.FaceWalk.{FaceWalk, total}
+use Rattle.maps.specs.inner.FaceWalk.{FaceWalk, total}
 use Rattle.maps.specs.Potential.{Heights}
 use Rattle.maps.proofs.Cuts.{cut-bound, flow-sent}
 use Rattle.maps.proofs.LayerCake.{above}
@@ -27,9 +27,9 @@ use Rattle.flows.specs.Settings.{onDarts, Carries}
 use Rattle.flows.specs.ProvingSet.{bound, Proves}
 use Rattle.flows.proofs.Nets.{net-mul}
 use Rattle.flows.proofs.Plane.{one-part, flat-part}
-use Rattle.flows.specs.Plane.{Plane}
-use Rattle.flows.specs.UnitFlow.{UnitFlow}
-use Rattle.flows.specs.Lengths.{lengthFor}
+use Rattle.flows.specs.inner.Plane.{Plane}
+use Rattle.flows.specs.inner.UnitFlow.{UnitFlow}
+use Rattle.flows.specs.inner.Lengths.{lengthFor}
 
 -- the bound of a set is what a flow of the value sends out of it
 pub bound-sent : (S : ℕ → Bool) (s t : ℕ) (value : ℤ) → bound S s t value ≡ sent S s t value

@@ -22,10 +22,10 @@ use Rattle.flows.specs.Highest.{Highest}
 use Rattle.flows.proofs.OnDarts.{onDarts-antisymmetric, onDarts-sub, onDarts-injective}
 use Rattle.flows.proofs.Nets.{net-ext, net-sub}
 use Rattle.flows.proofs.Plane.{potentials-at, potentials-one}
-use Rattle.flows.specs.Plane.{Plane}
-use Rattle.flows.specs.UnitFlow.{UnitFlow}
+use Rattle.flows.specs.inner.Plane.{Plane}
+use Rattle.flows.specs.inner.UnitFlow.{UnitFlow}
 use Rattle.flows.proofs.Lengths.{edgeFlow-darts, feasible-carries}
-use Rattle.flows.specs.Lengths.{lengthFor, Feasible, made, edgeFlow}
+use Rattle.flows.specs.inner.Lengths.{lengthFor, Feasible, made, edgeFlow}
 
 module _ {𝓜 : Map} (p : Plane 𝓜) {s t : ℕ} (s-in : s < 𝓜 .nodes) (t-in : t < 𝓜 .nodes) (s≢t : s ≢ t) where
   -- two flows of one value differ by balanced settings

@@ -19,7 +19,7 @@ use Rattle.maps.proofs.Submodular.{submodular}
 use Rattle.flows.specs.Settings.{Carries}
 use Rattle.flows.specs.ProvingSet.{bound, Proves}
 use Rattle.flows.proofs.Exact.{proves-excludes}
-use Rattle.flows.specs.Sides.{AtSource, AtSink, Beside}
+use Rattle.flows.specs.inner.Sides.{AtSource, AtSink, Beside}
 
 module _ (s t : ℕ) (S : ℕ → Bool) where
   pub which : AtSource s t S ⊎ (AtSink s t S ⊎ Beside s t S)

@@ -12,7 +12,7 @@ use lib.Signed.{_≤ℤ_, _<ℤ_, leZ}
 use Rattle.integers.specs.Sum.{sum, sumℕ, bit, count}
 use Rattle.integers.proofs.Omega.{atoms₁, atoms₂, parts, at-most, less, from-equal, from-at-most, from-less}
 use Rattle.integers.proofs.Laws.{lt-or-ge, lt-le-clash, le-of-test}
-use Rattle.integers.specs.Limited.{Limited}
+use Rattle.integers.specs.inner.Limited.{Limited}
 use Rattle.integers.proofs.Limits.{limited-more, limited-both}
 use Rattle.integers.proofs.Tests.{of-T, either}
 use Rattle.integers.proofs.Counting.{bit-le, bit-one, sum-le-sum, term-le-sum, sum-full}
@@ -24,7 +24,7 @@ use Rattle.flows.specs.Settings.{Within}
 use Rattle.flows.specs.Levels.{Levels}
 use Rattle.flows.proofs.Limits.{settings-limited}
 use Rattle.flows.proofs.Plane.{one-part}
-use Rattle.flows.specs.Plane.{Plane}
+use Rattle.flows.specs.inner.Plane.{Plane}
 
 -- what is one on both sides of every dart is one for all faces
 pub faces-agree : {𝓜 : Map} → Plane 𝓜 → {A : Type 0} (q : ℕ → A) → ((d : ℕ) → d < darts 𝓜 → q (right 𝓜 d) ≡ q (left 𝓜 d)) → (f g : ℕ) → f < faces 𝓜 → g < faces 𝓜 → q f ≡ q g

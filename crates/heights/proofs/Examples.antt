@@ -6,7 +6,7 @@ use Prim.Native.Nat.{ℕ, zero, suc, _<_}
 use native.Mathlib.Omega.{arith}
 use lib.IntN.{pos, negsuc}
 use Rattle.maps.specs.Dart.{rev}
-use Rattle.heights.specs.Heights.{HeightsOf}
+use Rattle.heights.specs.inner.Heights.{HeightsOf}
 use Rattle.arrays.specs.At.{at, atℤ}
 
 -- what holds of 0, 1, 2 and 3 holds of each number below 4

@@ -12,12 +12,12 @@ use mir.Syntax.{w32}
 use mir.Val.{toZ, ofZ, SFits}
 use Rattle.integers.proofs.Omega.{atoms₃, parts, equal}
 use Rattle.maps.specs.Dart.{rev}
-use Rattle.traversal.specs.Spread.{Follows}
+use Rattle.traversal.specs.inner.Spread.{Follows}
 use Rattle.traversal.proofs.Reach.{full-meets}
-use Rattle.heights.specs.Heights.{Fillable, HeightsOf, Filled}
+use Rattle.heights.specs.inner.Heights.{Fillable, HeightsOf, Filled}
 use Rattle.arrays.specs.At.{at, atℤ}
-use Rattle.integers.specs.Limited.{Limited}
-use Rattle.arrays.specs.Sizes.{mostWinding, mostHeight}
+use Rattle.integers.specs.inner.Limited.{Limited}
+use Rattle.arrays.specs.inner.Sizes.{mostWinding, mostHeight}
 use Rattle.integers.proofs.Limits.{limited-minus, limited-more, limited-zero}
 use Rattle.signed.proofs.Limits.{limited-fits, same-bits}
 

@@ -5,7 +5,7 @@ ghost use lib.ListN.{length};
 ghost use lib.IntN.{_-ℤ_};
 ghost use mir.Syntax.{w32};
 ghost use mir.Val.{SFits};
-ghost use Rattle.heights.specs.Heights.{Fillable, Filled};
+ghost use Rattle.heights.specs.inner.Heights.{Fillable, Filled};
 ghost use Rattle.arrays.specs.At.{at, atℤ};
 
 // The node of the first dart in the order is at 0; the node at the end of a dart is lower by the dart's winding.

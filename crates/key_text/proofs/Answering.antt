@@ -8,7 +8,7 @@ use native.Mathlib.Omega.{arith}
 use lib.Dec.{eqb}
 use lib.ListN.{length, getD, drop}
 use lib.IntN.{ℤ}
-use Rattle.integers.specs.Limited.{Limited}
+use Rattle.integers.specs.inner.Limited.{Limited}
 use Rattle.refusals.specs.Order.{Check, NoneOf, FirstOf}
 use Rattle.refusals.proofs.Order.{none-append, append-none, append-first, first-left, first-right, first-none, neither}
 use Rattle.maps.specs.Map.{darts}
@@ -31,7 +31,7 @@ use Rattle.analyser.proofs.Accepted.{Accepted, accepted, solve-none}
 use Rattle.analyser.proofs.SheetPlane.{capacity-small}
 use Rattle.analyser.proofs.Demand3.{can-highest}
 use Rattle.texts.specs.Decimal.{decimal}
-use Rattle.texts.specs.Placed.{Placed}
+use Rattle.texts.specs.inner.Placed.{Placed}
 use Rattle.key_text.specs.Question.{sourceOf, sinkOf, valueOf, sheetOf, keyChecks}
 use Rattle.key_text.specs.Text.{lines, nodeLine, canText, cannotLine, cannotText, refusedText}
 use Rattle.key_text.specs.Key.{Key, can, cannot, refused, Prints, textRoom}

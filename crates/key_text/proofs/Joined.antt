@@ -8,11 +8,11 @@ use native.Mathlib.Numerals.{add-one}
 use lib.ListN.{length, take, drop, length-append}
 use Rattle.fields.specs.Fields.{put}
 use Rattle.fields.proofs.Laws.{put-length}
-use Rattle.texts.specs.Placed.{Placed}
+use Rattle.texts.specs.inner.Placed.{Placed}
 use Rattle.texts.proofs.Pieces.{put-append, put-none}
 use mathlib.Core.Bool.{Bool, true, false, cond}
 use lib.IntN.{ℤ}
-use Rattle.integers.specs.Limited.{Limited}
+use Rattle.integers.specs.inner.Limited.{Limited}
 use Rattle.flows.specs.ProvingSet.{member}
 use Rattle.texts.specs.Decimal.{decimal, number}
 use Rattle.texts.proofs.Length.{decimal-length, number-length}

@@ -16,11 +16,11 @@ use Rattle.maps.specs.Dart.{rev}
 use Rattle.maps.specs.Map.{Map, darts}
 use Rattle.maps.specs.Walk.{Walk, here, along}
 use Rattle.maps.proofs.Darts.{rev-rev}
-use Rattle.flows.specs.UnitFlow.{single, walkFlow}
-use Rattle.traversal.specs.Spread.{Met, Follows}
-use Rattle.lengths.specs.Lengths.{Reached, Fillable, Filled}
-use Rattle.integers.specs.Limited.{Limited}
-use Rattle.arrays.specs.Sizes.{mostCapacity, mostValue, mostLength}
+use Rattle.flows.specs.inner.UnitFlow.{single, walkFlow}
+use Rattle.traversal.specs.inner.Spread.{Met, Follows}
+use Rattle.lengths.specs.inner.Lengths.{Reached, Fillable, Filled}
+use Rattle.integers.specs.inner.Limited.{Limited}
+use Rattle.arrays.specs.inner.Sizes.{mostCapacity, mostValue, mostLength}
 use Rattle.signed.proofs.Limits.{same-bits}
 use Rattle.lengths.proofs.Limits.{Unit, two-tests, less-nothing, limited-unit}
 use Rattle.lengths.proofs.Place.{spot, met-before, met-in}

@@ -9,8 +9,8 @@ use native.Mathlib.Decide.{ℕ-discrete}
 use lib.Dec.{eqb, ltb}
 use Rattle.integers.proofs.Tests.{eqb-true, eqb-false, ltb-true, ltb-false}
 use Rattle.maps.specs.Map.{Map}
-use Rattle.traversal.specs.Spread.{Met, Follows, Spread}
-use Rattle.lengths.specs.Lengths.{Reached}
+use Rattle.traversal.specs.inner.Spread.{Met, Follows, Spread}
+use Rattle.lengths.specs.inner.Lengths.{Reached}
 
 -- the lowest place below n that holds d, n where none does
 unfoldable pub spot : (ℕ → ℕ) → ℕ → ℕ → ℕ

@@ -9,10 +9,10 @@ ghost use lib.IntN.{pos, _+ℤ_, _-ℤ_, _*ℤ_};
 ghost use mir.Syntax.{w32};
 ghost use mir.Val.{SFits};
 ghost use Rattle.integers.specs.Sum.{when};
-ghost use Rattle.lengths.specs.Lengths.{Fillable, Filled};
+ghost use Rattle.lengths.specs.inner.Lengths.{Fillable, Filled};
 ghost use Rattle.arrays.specs.At.{at, atℤ};
-ghost use Rattle.integers.specs.Limited.{Limited};
-ghost use Rattle.arrays.specs.Sizes.{mostCapacity, mostValue};
+ghost use Rattle.integers.specs.inner.Limited.{Limited};
+ghost use Rattle.arrays.specs.inner.Sizes.{mostCapacity, mostValue};
 
 fn copy_capacities(capacities: &[i32; 1024], darts: usize, lengths: &mut [i32; 1024])
     requires { ⌜ (length (now lengths) ≡ 1024) × (darts ≤ 1024) ⌝ }

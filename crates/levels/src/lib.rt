@@ -1,17 +1,17 @@
 // Face potentials ("levels") both ways: the levels of given flows, laid along a walk over the darts, and the flows that given levels make.
 ghost use Prim.Native.Nat.{ℕ, _+_, _*_, _/_, _<_, _≤_};
-ghost use Rattle.levels.specs.Across.{across, HasLevel, HaveLevels};
+ghost use Rattle.levels.specs.inner.Across.{across, HasLevel, HaveLevels};
 ghost use Rattle.levels.specs.Level.{LevelOutside, levelChecks};
 ghost use Rattle.flows.specs.Check.{withinChecks};
 ghost use Rattle.flows.specs.Settings.{onDarts};
-ghost use Rattle.levels.specs.Laying.{Fillable, Levelled, Levelable};
+ghost use Rattle.levels.specs.inner.Laying.{Fillable, Levelled, Levelable};
 ghost use Rattle.levels.specs.LevelsOf.{balancedChecks, LevelsGiven};
 ghost use Rattle.levels.specs.SettingsOf.{leveledChecks, SettingsGiven};
 ghost use Rattle.arrays.specs.At.{atℤ, at};
 ghost use Rattle.arrays.specs.Maps.{mapOf, drawingOf};
-ghost use Rattle.arrays.specs.Drawn.{Drawn};
-ghost use Rattle.integers.specs.Limited.{Limited};
-ghost use Rattle.arrays.specs.Sizes.{mostOnSheet};
+ghost use Rattle.arrays.specs.inner.Drawn.{Drawn};
+ghost use Rattle.integers.specs.inner.Limited.{Limited};
+ghost use Rattle.arrays.specs.inner.Sizes.{mostOnSheet};
 ghost use Rattle.refusals.specs.Order.{Decides, Judged};
 ghost use Rattle.arrays.specs.Filled.{filled};
 ghost use lib.IntN.{_-ℤ_};

@@ -21,7 +21,7 @@ use Rattle.maps.specs.Check.{Sound}
 use Rattle.maps.specs.Flow.{Antisymmetric}
 use Rattle.maps.specs.Potential.{around, Heights}
 use Rattle.maps.specs.Cut.{cut}
-use Rattle.maps.specs.FaceWalk.{FaceWalk, stay, cross, total}
+use Rattle.maps.specs.inner.FaceWalk.{FaceWalk, stay, cross, total}
 use Rattle.maps.proofs.Darts.{rev-even, rev-odd, rev-rev, rev-in, rev-injective, eqb-rev}
 use Rattle.maps.proofs.Planar.{tension-heights}
 use Rattle.maps.proofs.LayerCake.{above, threshold}

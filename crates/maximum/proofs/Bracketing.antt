@@ -12,7 +12,7 @@ use lib.Seq.{drop-append-seam}
 use lib.Signed.{_≤ℤ_, _<ℤ_}
 use mir.Syntax.{w32}
 use mir.Val.{toZ, ofZ}
-use Rattle.integers.specs.Limited.{Limited}
+use Rattle.integers.specs.inner.Limited.{Limited}
 use Rattle.integers.specs.Sum.{bit}
 use Rattle.integers.proofs.Omega.{atoms₂, atoms₄, parts, less, from-equal, from-less}
 use Rattle.integers.proofs.Laws.{lt-le-clash, le-trans, le-antisym, lt-or-ge}
@@ -24,25 +24,25 @@ use Rattle.maps.specs.Map.{Map, darts}
 use Rattle.maps.specs.Cut.{cut, union, intersection}
 use Rattle.flows.specs.Highest.{Highest}
 use Rattle.flows.specs.ProvingSet.{Proves}
-use Rattle.flows.specs.Plane.{Plane}
+use Rattle.flows.specs.inner.Plane.{Plane}
 use Rattle.flows.proofs.Exact.{proves-excludes}
 use Rattle.flows.proofs.Agreement.{cut-agrees}
 use Rattle.flows.proofs.Interval.{source-short, sink-short, sink-proves-less, beside-short, beside-proves-all, source-limits, union-both, intersection-neither, intersection-short}
-use Rattle.flows.specs.Sides.{AtSource, AtSink, Beside}
+use Rattle.flows.specs.inner.Sides.{AtSource, AtSink, Beside}
 use Rattle.flows.proofs.ValueBound.{value-small, cut-small}
 use Rattle.arrays.specs.Filled.{tabulate, filled}
 use Rattle.arrays.proofs.Tabulate.{length-tabulate}
-use Rattle.cuts.specs.Cut.{cutOf}
+use Rattle.cuts.specs.inner.Cut.{cutOf}
 use Rattle.cuts.proofs.CutOfMap.{cut-of}
-use Rattle.node_flags.specs.Flags.{Sided}
-use Rattle.arrays.specs.Flags.{flagged}
+use Rattle.node_flags.specs.inner.Flags.{Sided}
+use Rattle.arrays.specs.inner.Flags.{flagged}
 use Rattle.node_flags.specs.declared.Side.{Side}
 use Rattle.node_flags.specs.declared.Side.the-variants as side
-use Rattle.solver.specs.Ends.{Ends}
-use Rattle.solver.specs.Decision.{Decided}
-use Rattle.maximum.specs.Bracket.{Ceiling, Floor, Bracket}
-use Rattle.maximum.specs.Narrowing.{SameFlags, Narrows, Joins}
-use Rattle.maximum.specs.Maximum.{Maximized}
+use Rattle.solver.specs.inner.Ends.{Ends}
+use Rattle.solver.specs.inner.Decision.{Decided}
+use Rattle.maximum.specs.inner.Bracket.{Ceiling, Floor, Bracket}
+use Rattle.maximum.specs.inner.Narrowing.{SameFlags, Narrows, Joins}
+use Rattle.maximum.specs.inner.Maximum.{Maximized}
 use Rattle.maximum.specs.declared.Narrowed.{Narrowed}
 use Rattle.maximum.specs.declared.Maximum.the-variants as maximum
 use Rattle.maximum.proofs.Gap.{gap, gap-lowered, gap-raised}

@@ -5,11 +5,11 @@ use Prim.Native.Nat.{ℕ, _*_, _%_, _≤_, _<_}
 use native.Mathlib.Omega.{arith}
 use lib.IntN.{ℤ}
 use Rattle.integers.specs.Sum.{Integers, when}
-use Rattle.integers.specs.Limited.{Limited}
+use Rattle.integers.specs.inner.Limited.{Limited}
 use Rattle.integers.proofs.Limits.{limited-when, limited-sum, limited-more}
 use Rattle.integers.proofs.Sums.{sum-ext}
 use Rattle.maps.specs.Dart.{rev}
-use Rattle.cuts.specs.Cut.{leavesOf, cutOf}
+use Rattle.cuts.specs.inner.Cut.{leavesOf, cutOf}
 use Rattle.cuts.proofs.Adding.{reverse-in}
 
 -- sets that agree on the nodes that an array has flags of have one cut

@@ -9,7 +9,7 @@ use lib.Signed.{_≤ℤ_, _<ℤ_}
 use mir.Syntax.{w32}
 use mir.Val.{toZ, ofZ, SFits}
 use mir.ValLaws.{toZ-pos}
-use Rattle.integers.specs.Limited.{Limited}
+use Rattle.integers.specs.inner.Limited.{Limited}
 use Rattle.integers.proofs.Omega.{atoms₁, atoms₃, atoms₄, parts, equal, at-most, less, from-equal, from-at-most, from-less}
 use Rattle.integers.proofs.Limits.{limited-neg, limited-minus}
 use Rattle.integers.proofs.Tests.{eqb-eq, eqb-ne}

@@ -7,18 +7,18 @@ ghost use Prim.Native.Nat.{ℕ, _*_, _%_, _<_, _≤_};
 ghost use lib.ListN.{length};
 ghost use lib.IntN.{pos, negℤ};
 ghost use lib.Signed.{_≤ℤ_, _<ℤ_, ltZ};
-ghost use Rattle.integers.specs.Limited.{Limited};
+ghost use Rattle.integers.specs.inner.Limited.{Limited};
 ghost use Rattle.arrays.specs.At.{at, atℤ};
-ghost use Rattle.cuts.specs.Cut.{cutOf};
-ghost use Rattle.node_flags.specs.Flags.{Sided};
-ghost use Rattle.arrays.specs.Flags.{flagged};
+ghost use Rattle.cuts.specs.inner.Cut.{cutOf};
+ghost use Rattle.node_flags.specs.inner.Flags.{Sided};
+ghost use Rattle.arrays.specs.inner.Flags.{flagged};
 ghost use Rattle.node_flags.specs.declared.Side.{Side};
-ghost use Rattle.arrays.specs.Drawn.{Drawn};
-ghost use Rattle.solver.specs.Ends.{Ends};
+ghost use Rattle.arrays.specs.inner.Drawn.{Drawn};
+ghost use Rattle.solver.specs.inner.Ends.{Ends};
 ghost use Rattle.arrays.specs.Maps.{mapOf};
-ghost use Rattle.maximum.specs.Bracket.{Bracket};
-ghost use Rattle.maximum.specs.Narrowing.{Narrows, Joins};
-ghost use Rattle.maximum.specs.Maximum.{Maximized};
+ghost use Rattle.maximum.specs.inner.Bracket.{Bracket};
+ghost use Rattle.maximum.specs.inner.Narrowing.{Narrows, Joins};
+ghost use Rattle.maximum.specs.inner.Maximum.{Maximized};
 use node_flags::Side;
 
 // The two bounds after a proving set, or that it shows that there is nothing between any.

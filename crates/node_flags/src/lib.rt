@@ -5,13 +5,13 @@ ghost use Prim.Native.Nat.{ℕ, _<_, _≤_, _%_};
 ghost use lib.Dec.{eqb};
 ghost use lib.ListN.{length};
 ghost use Rattle.integers.specs.Sum.{when};
-ghost use Rattle.integers.specs.Limited.{Limited};
+ghost use Rattle.integers.specs.inner.Limited.{Limited};
 ghost use Rattle.maps.specs.Dart.{rev};
 ghost use Rattle.maps.specs.Cut.{union, intersection};
 ghost use Rattle.arrays.specs.At.{at, atℤ};
-ghost use Rattle.cuts.specs.Cut.{leavesOf, cutOf};
-ghost use Rattle.node_flags.specs.Flags.{Sided};
-ghost use Rattle.arrays.specs.Flags.{flagged};
+ghost use Rattle.cuts.specs.inner.Cut.{leavesOf, cutOf};
+ghost use Rattle.node_flags.specs.inner.Flags.{Sided};
+ghost use Rattle.arrays.specs.inner.Flags.{flagged};
 
 // On which side of a question a set of nodes lies: it holds the source only, the sink only, or both or neither.
 pub enum Side {

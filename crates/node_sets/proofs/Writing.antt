@@ -15,7 +15,7 @@ use Rattle.integers.specs.Sum.{Naturals, bit, count}
 use Rattle.integers.proofs.Sums.{sum-ext}
 use Rattle.integers.proofs.Tests.{either, ltb-true, ltb-false, ltb-lt}
 use Rattle.flows.specs.ProvingSet.{wordsFor, member, size}
-use Rattle.node_sets.specs.Words.{flag, setWord, Written}
+use Rattle.node_sets.specs.inner.Words.{flag, setWord, Written}
 use Rattle.node_sets.proofs.Bits.{word-below, word-test}
 use Rattle.node_sets.proofs.Size.{size-members}
 

@@ -9,7 +9,7 @@ use lib.ListN.{replicate, length-replicate, getD-replicate, List·getD-eq-defaul
 use Rattle.integers.specs.Sum.{sum, bit}
 use Rattle.integers.proofs.Tests.{eqb-true, eqb-false}
 use Rattle.arrays.specs.At.{at}
-use Rattle.rotations.specs.Holding.{holding}
+use Rattle.rotations.specs.inner.Holding.{holding}
 
 holding-suc : (x n : ℕ) (g : ℕ → ℕ) → holding x (suc n) g ≡ holding x n g + bit (eqb (g n) x)
 unfolding holding sum

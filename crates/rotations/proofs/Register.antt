@@ -12,7 +12,7 @@ use Rattle.maps.specs.Map.{Map, darts}
 use Rattle.maps.specs.Check.{InRange, RotationFault, NodeFault}
 use Rattle.maps.proofs.Numbering.{orbitOf-along, orbitOf-same}
 use Rattle.arrays.specs.At.{at}
-use Rattle.rotations.specs.Register.{Register, Clash}
+use Rattle.rotations.specs.inner.Register.{Register, Clash}
 
 -- ── entering places one by one ──
 pub register-none : (key value table : ℕ → ℕ) → ((k : ℕ) → table k ≡ 0) → Register key value table 0

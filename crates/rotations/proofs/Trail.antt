@@ -10,9 +10,9 @@ use lib.Seq.{getD-set-same, getD-set-other}
 use Rattle.maps.specs.Orbit.{iter, Orbit, Permutes}
 use Rattle.maps.proofs.Orbits.{iter-zero, iter-suc, iter-in}
 use Rattle.arrays.specs.At.{at}
-use Rattle.rotations.specs.Holding.{holding}
-use Rattle.rotations.specs.Marking.{Markable, Marked}
-use Rattle.traversal.specs.Mark.{unmarked}
+use Rattle.rotations.specs.inner.Holding.{holding}
+use Rattle.rotations.specs.inner.Marking.{Markable, Marked}
+use Rattle.traversal.specs.inner.Mark.{unmarked}
 use Rattle.rotations.proofs.Holding.{holding-less}
 
 -- two places of a walk that are equal: the steps between them lead round

@@ -8,7 +8,7 @@ use native.Mathlib.Omega.{arith}
 use lib.ListN.{length, drop}
 use lib.IntN.{ℤ, pos, negsuc, negℤ, _+ℤ_, _-ℤ_, _*ℤ_}
 use lib.Signed.{mag, _≤ℤ_, _<ℤ_}
-use Rattle.integers.specs.Limited.{Limited}
+use Rattle.integers.specs.inner.Limited.{Limited}
 use Rattle.integers.specs.Sum.{Integers, sumℤ, when}
 use Rattle.integers.proofs.Omega.{atoms₂, atoms₃, atoms₄, parts, equal, at-most, from-equal, from-at-most}
 use Rattle.integers.proofs.Sums.{sum-ext}
@@ -23,8 +23,8 @@ use Rattle.flows.specs.ZeroFace.{ZeroFace}
 use Rattle.flows.specs.Highest.{Highest}
 use Rattle.flows.specs.ProvingSet.{Proves}
 use Rattle.flows.proofs.Plane.{one-part}
-use Rattle.flows.specs.UnitFlow.{UnitFlow}
-use Rattle.flows.specs.Lengths.{lengthFor, Feasible, edgeFlow}
+use Rattle.flows.specs.inner.UnitFlow.{UnitFlow}
+use Rattle.flows.specs.inner.Lengths.{lengthFor, Feasible, edgeFlow}
 use Rattle.flows.proofs.HighestFlow.{top-is-highest}
 use Rattle.flows.proofs.Exact.{negative-proves, length-pairs}
 use Rattle.arrays.specs.At.{at, atℤ}
@@ -36,12 +36,12 @@ use Rattle.search.specs.Settled.{Settled}
 use Rattle.search.proofs.OfMap.{sound-of-map, joined-of-map}
 use Rattle.search.specs.OfMap.{OfMap}
 use Rattle.search.proofs.Highest as settled
-use Rattle.edge_flows.specs.Flow.{flowOf}
-use Rattle.arrays.specs.Drawn.{Drawn}
-use Rattle.solver.specs.Ends.{Ends}
-use Rattle.solver.specs.Search.{Lengthened, Searchable, Ringed}
-use Rattle.solver.specs.Decision.{Decided}
-use Rattle.arrays.specs.Flags.{flagged}
+use Rattle.edge_flows.specs.inner.Flow.{flowOf}
+use Rattle.arrays.specs.inner.Drawn.{Drawn}
+use Rattle.solver.specs.inner.Ends.{Ends}
+use Rattle.solver.specs.inner.Search.{Lengthened, Searchable, Ringed}
+use Rattle.solver.specs.inner.Decision.{Decided}
+use Rattle.arrays.specs.inner.Flags.{flagged}
 use Rattle.solver.proofs.Preparing.{faces-most}
 
 limited-mag : (b : ℕ) (x : ℤ) → Limited b x → mag x ≤ b

@@ -7,20 +7,20 @@ use native.Mathlib.Omega.{arith}
 use lib.IntN.{ℤ}
 use mir.Syntax.{w32}
 use mir.Val.{toZ, ofZ}
-use Rattle.integers.specs.Limited.{Limited}
+use Rattle.integers.specs.inner.Limited.{Limited}
 use Rattle.signed.proofs.Limits.{same-bits}
 use Rattle.maps.specs.Map.{Map, darts}
 use Rattle.maps.specs.Face.{faces}
-use Rattle.flows.specs.Plane.{Plane}
-use Rattle.traversal.specs.Spread.{Spread}
-use Rattle.lengths.specs.Lengths as lengths
+use Rattle.flows.specs.inner.Plane.{Plane}
+use Rattle.traversal.specs.inner.Spread.{Spread}
+use Rattle.lengths.specs.inner.Lengths as lengths
 use Rattle.lengths.proofs.PathFlow.{reached-connected, filled-unit}
 use Rattle.search.proofs.OfMap.{faces-few}
-use Rattle.arrays.specs.Drawn.{Drawn}
-use Rattle.solver.specs.Ends.{Ends}
-use Rattle.arrays.specs.Sizes.{mostCapacity, mostValue}
-use Rattle.solver.specs.Search.{Lengthened}
-use Rattle.solver.specs.Decision.{Decided}
+use Rattle.arrays.specs.inner.Drawn.{Drawn}
+use Rattle.solver.specs.inner.Ends.{Ends}
+use Rattle.arrays.specs.inner.Sizes.{mostCapacity, mostValue}
+use Rattle.solver.specs.inner.Search.{Lengthened}
+use Rattle.solver.specs.inner.Decision.{Decided}
 
 -- a signed argument that is passed on comes as the number of its bits
 pub same-value : {v : ℤ} → Limited mostValue v → toZ w32 (ofZ w32 v) ≡ v

@@ -6,29 +6,29 @@ use Prim.Native.Nat.{ℕ, _+_, _*_, _%_, _≤_, _<_}
 use native.Mathlib.Omega.{arith}
 use lib.IntN.{ℤ, pos, _+ℤ_, _-ℤ_}
 use lib.Signed.{_≤ℤ_, _<ℤ_}
-use Rattle.integers.specs.Limited.{Limited}
+use Rattle.integers.specs.inner.Limited.{Limited}
 use Rattle.integers.proofs.Omega.{atoms₃, parts, equal}
 use Rattle.maps.specs.Dart.{rev}
 use Rattle.maps.specs.Map.{Map, darts}
 use Rattle.maps.specs.Cut.{cut}
-use Rattle.maps.specs.FaceWalk.{FaceWalk, total}
+use Rattle.maps.specs.inner.FaceWalk.{FaceWalk, total}
 use Rattle.maps.specs.Potential.{Heights}
 use Rattle.maps.proofs.Darts.{rev-in}
 use Rattle.maps.proofs.Rings.{winding, ring-threshold}
 use Rattle.flows.proofs.Exact.{ring-heights-exist}
-use Rattle.traversal.specs.Spread.{Spread}
+use Rattle.traversal.specs.inner.Spread.{Spread}
 use Rattle.traversal.proofs.Reach.{connected-full}
 use Rattle.search.specs.Dual.{Dual}
-use Rattle.windings.specs.Winding.{Round, Wound}
+use Rattle.windings.specs.inner.Winding.{Round, Wound}
 use Rattle.windings.proofs.WindingOfRing.{round-of, ring-wound}
-use Rattle.heights.specs.Heights as heights
+use Rattle.heights.specs.inner.Heights as heights
 use Rattle.heights.proofs.HeightsOfMap.{sound-fillable}
-use Rattle.cuts.specs.Cut.{cutOf}
-use Rattle.thresholds.specs.Above.{above}
-use Rattle.thresholds.specs.Choice.{Choosable}
-use Rattle.arrays.specs.Sizes.{mostHeight}
+use Rattle.cuts.specs.inner.Cut.{cutOf}
+use Rattle.thresholds.specs.inner.Above.{above}
+use Rattle.thresholds.specs.inner.Choice.{Choosable}
+use Rattle.arrays.specs.inner.Sizes.{mostHeight}
 use Rattle.cuts.proofs.CutOfMap.{cut-of}
-use Rattle.solver.specs.Search.{Ringed}
+use Rattle.solver.specs.inner.Search.{Ringed}
 
 module _ {𝓜 : Map} {N : Dual} {parent : ℕ → ℕ} {y : ℕ} (q : Ringed 𝓜 N parent y) where
   pub few-darts : darts 𝓜 ≤ 1024

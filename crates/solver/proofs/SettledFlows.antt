@@ -5,7 +5,7 @@ use Prim.Native.Nat.{ℕ, _+_, _*_, _≤_, _<_}
 use native.Mathlib.Omega.{arith}
 use lib.IntN.{ℤ, pos, negsuc, negℤ, _+ℤ_, _-ℤ_}
 use lib.Signed.{mag, _≤ℤ_}
-use Rattle.integers.specs.Limited.{Limited}
+use Rattle.integers.specs.inner.Limited.{Limited}
 use Rattle.integers.proofs.Omega.{atoms₂, atoms₃, atoms₄, parts, at-most, from-equal, from-at-most}
 use Rattle.integers.proofs.Limits.{limited-more, limited-both}
 use Rattle.maps.specs.Dart.{rev}
@@ -13,9 +13,9 @@ use Rattle.maps.proofs.Darts.{rev-rev, rev-in}
 use Rattle.search.specs.Dual.{Dual}
 use Rattle.search.specs.Parents.{ParentRing}
 use Rattle.search.specs.Settled.{Still, Settled}
-use Rattle.edge_flows.specs.Flow.{flowOf, Flowing}
-use Rattle.arrays.specs.Sizes.{mostPotential, mostCapacity}
-use Rattle.solver.specs.Search.{Searchable}
+use Rattle.edge_flows.specs.inner.Flow.{flowOf, Flowing}
+use Rattle.arrays.specs.inner.Sizes.{mostPotential, mostCapacity}
+use Rattle.solver.specs.inner.Search.{Searchable}
 
 -- of a ring, all that is said is that no flow was written and that the parents lead round it
 pub ring-kept : {N : Dual} {parent : ℕ → ℕ} {d : ℕ} (flows : List ℤ) → d < N .darts → ParentRing N parent (N .left d) → (flows ≡ flows) × (d < N .darts) × ParentRing N parent (N .left d)

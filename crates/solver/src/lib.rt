@@ -6,18 +6,18 @@ ghost use Prim.Native.Nat.{ℕ, _*_, _<_, _≤_};
 ghost use lib.ListN.{length};
 ghost use lib.IntN.{pos};
 ghost use lib.Signed.{_<ℤ_};
-ghost use Rattle.integers.specs.Limited.{Limited};
+ghost use Rattle.integers.specs.inner.Limited.{Limited};
 ghost use Rattle.maps.specs.Cut.{cut};
-ghost use Rattle.flows.specs.Plane.{Plane};
+ghost use Rattle.flows.specs.inner.Plane.{Plane};
 ghost use Rattle.arrays.specs.At.{at, atℤ};
 ghost use Rattle.search.specs.Dual.{dualOf};
-ghost use Rattle.arrays.specs.Drawn.{Drawn};
-ghost use Rattle.solver.specs.Ends.{Ends};
+ghost use Rattle.arrays.specs.inner.Drawn.{Drawn};
+ghost use Rattle.solver.specs.inner.Ends.{Ends};
 ghost use Rattle.arrays.specs.Maps.{mapOf};
-ghost use Rattle.arrays.specs.Sizes.{mostCapacity, mostValue};
-ghost use Rattle.solver.specs.Search.{Lengthened, Searchable, Searched, Ringed};
-ghost use Rattle.solver.specs.Decision.{Decided};
-ghost use Rattle.arrays.specs.Flags.{flagged};
+ghost use Rattle.arrays.specs.inner.Sizes.{mostCapacity, mostValue};
+ghost use Rattle.solver.specs.inner.Search.{Lengthened, Searchable, Searched, Ringed};
+ghost use Rattle.solver.specs.inner.Decision.{Decided};
+ghost use Rattle.arrays.specs.inner.Flags.{flagged};
 use search::Outcome;
 
 // The lengths of the darts for a value, along the path that a walk over the darts finds from `start`, a dart at the source, to `finish`, a dart at the sink.

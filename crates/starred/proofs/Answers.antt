@@ -21,7 +21,7 @@ use Rattle.flows.specs.Levels.{Levels}
 use Rattle.flows.specs.Highest.{Highest}
 use Rattle.flows.specs.ProvingSet.{Proves, member, size, SetOf}
 use Rattle.flows.proofs.Interval.{source-limits}
-use Rattle.flows.specs.Sides.{AtSource}
+use Rattle.flows.specs.inner.Sides.{AtSource}
 use Rattle.balance.proofs.Within.{within-none}
 use Rattle.balance.proofs.Balance.{circulation-none}
 use Rattle.maps.specs.Drawing.{Drawing}

@@ -8,13 +8,13 @@ ghost use lib.ListN.{length};
 ghost use lib.IntN.{ℤ, pos};
 ghost use lib.Signed.{_≤ℤ_, _<ℤ_, ltZ};
 ghost use Rattle.integers.specs.Sum.{when};
-ghost use Rattle.integers.specs.Limited.{Limited};
+ghost use Rattle.integers.specs.inner.Limited.{Limited};
 ghost use Rattle.maps.specs.Dart.{rev};
 ghost use Rattle.arrays.specs.At.{at, atℤ};
-ghost use Rattle.cuts.specs.Cut.{leavesOf, cutOf};
-ghost use Rattle.thresholds.specs.Above.{above};
-ghost use Rattle.thresholds.specs.Choice.{Choosable};
-ghost use Rattle.arrays.specs.Sizes.{mostLength, mostHeight};
+ghost use Rattle.cuts.specs.inner.Cut.{leavesOf, cutOf};
+ghost use Rattle.thresholds.specs.inner.Above.{above};
+ghost use Rattle.thresholds.specs.inner.Choice.{Choosable};
+ghost use Rattle.arrays.specs.inner.Sizes.{mostLength, mostHeight};
 
 fn is_above(x: i32, threshold: i32) -> bool
     ensures { λ r. ⌜ r ≡ ltZ threshold x ⌝ }

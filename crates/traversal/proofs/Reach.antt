@@ -16,7 +16,7 @@ use Rattle.maps.specs.Check.{Sound, Disconnected}
 use Rattle.maps.proofs.Darts.{rev-in}
 use Rattle.maps.proofs.Orbits.{iter-zero, iter-suc}
 use Rattle.maps.proofs.Walks.{walk-append, walk-back}
-use Rattle.traversal.specs.Spread.{Met, Follows, Spread}
+use Rattle.traversal.specs.inner.Spread.{Met, Follows, Spread}
 use Rattle.traversal.proofs.Spreading.{at-most-n, all-met}
 
 -- where a dart stands in the order

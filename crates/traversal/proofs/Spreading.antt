@@ -9,8 +9,8 @@ use Rattle.integers.proofs.Pigeonhole.{pigeonhole, Twice}
 use Rattle.integers.proofs.Injections.{onto}
 use Rattle.maps.specs.Dart.{rev}
 use Rattle.maps.proofs.Darts.{rev-in}
-use Rattle.traversal.specs.Mark.{unmarked}
-use Rattle.traversal.specs.Spread.{Met, Follows, Spread, Added}
+use Rattle.traversal.specs.inner.Mark.{unmarked}
+use Rattle.traversal.specs.inner.Spread.{Met, Follows, Spread, Added}
 
 -- ── listing one dart ──
 pub added-old : {d origin end : ℕ} {from order : ℕ → ℕ} → from d ≢ unmarked → Added d origin from from order order end end

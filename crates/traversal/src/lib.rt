@@ -5,8 +5,8 @@ ghost use Prim.Native.Nat.{ℕ, _%_, _<_, _≤_};
 ghost use lib.ListN.{length};
 ghost use Rattle.maps.specs.Dart.{rev};
 ghost use Rattle.arrays.specs.At.{at};
-ghost use Rattle.traversal.specs.Mark.{unmarked};
-ghost use Rattle.traversal.specs.Spread.{Spread, Added};
+ghost use Rattle.traversal.specs.inner.Mark.{unmarked};
+ghost use Rattle.traversal.specs.inner.Spread.{Spread, Added};
 
 // The mark of a place that has no number yet: for a dart, that it was not met. Numbers stay below 1,024.
 const UNMARKED: u16 = 65535;

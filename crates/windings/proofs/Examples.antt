@@ -8,7 +8,7 @@ use Rattle.maps.specs.Dart.{rev}
 use Rattle.maps.specs.Orbit.{iter}
 use Rattle.arrays.specs.At.{at}
 use Rattle.search.specs.Parents.{up, down}
-use Rattle.windings.specs.Winding.{crossings}
+use Rattle.windings.specs.inner.Winding.{crossings}
 
 abbrev pub right : ℕ → ℕ
 right = at (1 ∷ 0 ∷ 0 ∷ 1 ∷ [])

@@ -12,17 +12,17 @@ use Rattle.integers.specs.Sum.{when, bit}
 use Rattle.integers.proofs.Omega.{parts, equal}
 use Rattle.maps.specs.Dart.{rev}
 use Rattle.maps.specs.Map.{Map, darts}
-use Rattle.maps.specs.FaceWalk.{FaceWalk}
-use Rattle.maps.specs.FaceWalk as faceWalk
+use Rattle.maps.specs.inner.FaceWalk.{FaceWalk}
+use Rattle.maps.specs.inner.FaceWalk as faceWalk
 use Rattle.maps.proofs.Darts.{eqb-rev}
 use Rattle.maps.proofs.Rings.{times, winding}
-use Rattle.flows.specs.UnitFlow.{single}
+use Rattle.flows.specs.inner.UnitFlow.{single}
 use Rattle.search.specs.Dual.{Dual}
 use Rattle.search.specs.Walk.{Crossing, stay, cross, total}
 use Rattle.search.specs.Parents.{ParentRing}
 use Rattle.search.proofs.Chains.{ring-of}
 use Rattle.search.specs.OfMap.{OfMap}
-use Rattle.windings.specs.Winding.{crossings, Round, Wound}
+use Rattle.windings.specs.inner.Winding.{crossings, Round, Wound}
 
 -- one crossing more, of d, as the dart i counts it: a times forth and b times back before
 one-more : (d i a b : ℕ) → pos (bit (eqb i d) + a) -ℤ pos (bit (eqb (rev i) d) + b) ≡ single d i +ℤ (pos a -ℤ pos b)

@@ -7,7 +7,7 @@ use Rattle.signed.proofs.Laws.{number-of-bits}
 use Rattle.refusals.specs.Order.{Decides}
 use Rattle.refusals.proofs.Order.{said-yes, said-no}
 use Rattle.arrays.specs.At.{atℤ}
-use Rattle.balance.specs.Check.{Off, offChecks}
+use Rattle.balance.specs.inner.Check.{Off, offChecks}
 use Rattle.balance.proofs.Lowest.{lowest, none-holds}
 use Rattle.arrays.proofs.narrow.Reads as narrow-reads
 use Rattle.balance.proofs.off_balance.Reads as off-balance-reads

@@ -7,7 +7,7 @@ use lib.ListN.{length}
 use borrow.Author.Needs.{needs}
 use Rattle.signed.proofs.Laws.{number-of-bits}
 use Rattle.arrays.specs.At.{at, atℤ}
-use Rattle.balance.specs.NetUpTo.{netUpTo}
+use Rattle.balance.specs.inner.NetUpTo.{netUpTo}
 use Rattle.balance.proofs.Nets.{net-none, net-stepped, added-fits, taken-fits}
 use Rattle.balance.proofs.fill_nets.Statement.{statement}
 use Rattle.balance.proofs.fill_nets.Tie as tie

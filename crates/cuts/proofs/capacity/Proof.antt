@@ -7,8 +7,8 @@ use mir.Val.{toZ, ofZ}
 use borrow.Author.Needs.{needs}
 use Rattle.signed.proofs.Laws.{number-of-bits}
 use Rattle.arrays.specs.At.{at, atℤ}
-use Rattle.arrays.specs.Flags.{flagged}
-use Rattle.cuts.specs.Cut.{cutOf}
+use Rattle.arrays.specs.inner.Flags.{flagged}
+use Rattle.cuts.specs.inner.Cut.{cutOf}
 use Rattle.cuts.proofs.Adding.{capacity-fits, capacity-short}
 use Rattle.cuts.proofs.capacity.Statement.{statement}
 use Rattle.cuts.proofs.capacity.Tie as tie

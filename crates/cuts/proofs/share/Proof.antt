@@ -7,9 +7,9 @@ use borrow.Author.Needs.{needs}
 use Rattle.signed.proofs.Laws.{number-of-bits}
 use Rattle.maps.specs.Dart.{rev}
 use Rattle.arrays.specs.At.{at}
-use Rattle.cuts.specs.Cut.{leavesOf}
+use Rattle.cuts.specs.inner.Cut.{leavesOf}
 use Rattle.cuts.proofs.Adding.{reverse-in, when-yes, when-no}
-use Rattle.arrays.specs.Flags.{flagged}
+use Rattle.arrays.specs.inner.Flags.{flagged}
 use Rattle.cuts.proofs.share.Statement.{statement}
 use Rattle.cuts.proofs.share.Tie as tie
 use Rattle.cuts.proofs.share.Reads as reads

@@ -9,8 +9,8 @@ use mir.Val.{toZ, ofZ}
 use borrow.Author.Needs.{needs}
 use Rattle.signed.proofs.Laws.{number-of-bits}
 use Rattle.arrays.specs.At.{at, atℤ}
-use Rattle.arrays.specs.Flags.{flagged}
-use Rattle.cuts.specs.Cut.{cutOf}
+use Rattle.arrays.specs.inner.Flags.{flagged}
+use Rattle.cuts.specs.inner.Cut.{cutOf}
 use Rattle.cuts.proofs.Adding.{reverse-in, cut-none, cut-more, cut-fits}
 use Rattle.cuts.proofs.total.Statement.{statement}
 use Rattle.cuts.proofs.total.Tie as tie

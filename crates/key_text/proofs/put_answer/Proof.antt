@@ -7,7 +7,7 @@ use lib.ListN.{length, replicate, length-replicate}
 use lib.IntN.{ℤ, pos}
 use borrow.Author.Needs.{needs}
 use Rattle.signed.proofs.Laws.{number-of-bits}
-use Rattle.integers.specs.Limited.{Limited}
+use Rattle.integers.specs.inner.Limited.{Limited}
 use Rattle.refusals.specs.Order.{NoneOf}
 use Rattle.records.specs.Record.{recordChecks}
 use Rattle.records.specs.Sheet.{nodesOf, edgesOf}

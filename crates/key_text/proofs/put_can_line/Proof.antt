@@ -7,7 +7,7 @@ use lib.ListN.{length}
 use borrow.Author.Needs.{needs}
 use Rattle.signed.proofs.Laws.{number-of-bits}
 use Rattle.texts.specs.Decimal.{number}
-use Rattle.texts.specs.Placed.{Placed}
+use Rattle.texts.specs.inner.Placed.{Placed}
 use Rattle.texts.proofs.Length.{number-length}
 use Rattle.key_text.specs.Text.{canWord, canLine}
 use Rattle.key_text.proofs.Joined.{placed-room, three-placed}

@@ -5,9 +5,9 @@ use Prim.Native.Nat.{ℕ, _≤_, _<_, _+_, _*_}
 use native.Mathlib.Omega.{arith}
 use lib.ListN.{length}
 use borrow.Author.Needs.{needs}
-use Rattle.integers.specs.Limited.{Limited}
+use Rattle.integers.specs.inner.Limited.{Limited}
 use Rattle.signed.proofs.Laws.{number-of-bits}
-use Rattle.texts.specs.Placed.{Placed}
+use Rattle.texts.specs.inner.Placed.{Placed}
 use Rattle.key_text.specs.Text.{lines, nodeLine, cannotLine, cannotText}
 use Rattle.key_text.proofs.Joined.{placed-room, placed-then, cannot-line-length, node-line-length, lines-length}
 use Rattle.key_text.proofs.put_cannot.Statement.{statement}

@@ -7,10 +7,10 @@ use native.Mathlib.Nat.{le-antisymm}
 use lib.ListN.{length}
 use lib.IntN.{ℤ}
 use borrow.Author.Needs.{needs}
-use Rattle.integers.specs.Limited.{Limited}
+use Rattle.integers.specs.inner.Limited.{Limited}
 use Rattle.signed.proofs.Laws.{number-of-bits}
 use Rattle.arrays.specs.At.{atℤ}
-use Rattle.texts.specs.Placed.{Placed}
+use Rattle.texts.specs.inner.Placed.{Placed}
 use Rattle.key_text.specs.Text.{lines, edgeLine}
 use Rattle.key_text.proofs.Joined.{placed-none, placed-length, lines-more, lines-length, edge-line-length}
 use Rattle.key_text.proofs.put_edges.Statement.{statement}

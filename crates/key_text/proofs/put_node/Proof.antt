@@ -8,7 +8,7 @@ use lib.ListN.{length}
 use borrow.Author.Needs.{needs}
 use Rattle.flows.specs.ProvingSet.{member}
 use Rattle.texts.specs.Decimal.{decimal}
-use Rattle.texts.specs.Placed.{Placed}
+use Rattle.texts.specs.inner.Placed.{Placed}
 use Rattle.texts.proofs.Length.{decimal-length}
 use Rattle.key_text.specs.Text.{nodeLine}
 use Rattle.key_text.proofs.Joined.{placed-none, placed-room, placed-then}

@@ -6,7 +6,7 @@ use native.Mathlib.Omega.{arith}
 use native.Mathlib.Nat.{le-antisymm}
 use lib.ListN.{length}
 use borrow.Author.Needs.{needs}
-use Rattle.texts.specs.Placed.{Placed}
+use Rattle.texts.specs.inner.Placed.{Placed}
 use Rattle.key_text.specs.Text.{lines, nodeLine}
 use Rattle.key_text.proofs.Joined.{placed-none, placed-length, lines-more, lines-length, node-line-length}
 use Rattle.key_text.proofs.put_nodes.Statement.{statement}

@@ -6,7 +6,7 @@ use native.Mathlib.Omega.{arith}
 use lib.ListN.{length}
 use borrow.Author.Needs.{needs}
 use Rattle.texts.specs.Decimal.{decimal}
-use Rattle.texts.specs.Placed.{Placed}
+use Rattle.texts.specs.inner.Placed.{Placed}
 use Rattle.texts.proofs.Length.{decimal-length}
 use Rattle.key_text.specs.Text.{refusedWord, refusedText}
 use Rattle.key_text.proofs.Joined.{placed-room, three-placed}

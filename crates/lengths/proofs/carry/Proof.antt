@@ -8,8 +8,8 @@ use mir.Val.{toZ, ofZ}
 use borrow.Author.Needs.{needs}
 use Rattle.signed.proofs.Laws.{number-of-bits}
 use Rattle.arrays.specs.At.{atℤ}
-use Rattle.integers.specs.Limited.{Limited}
-use Rattle.arrays.specs.Sizes.{mostCapacity}
+use Rattle.integers.specs.inner.Limited.{Limited}
+use Rattle.arrays.specs.inner.Sizes.{mostCapacity}
 use Rattle.lengths.proofs.Limits.{minus-read, plus-read, minus-fits, plus-fits}
 use Rattle.lengths.proofs.Carrying.{carried}
 use Rattle.lengths.proofs.carry.Statement.{statement}

@@ -10,8 +10,8 @@ use Rattle.integers.proofs.Laws.{lt-of-test, ge-of-test}
 use Rattle.signed.proofs.Laws.{number-of-bits}
 use Rattle.maps.specs.Cut.{union}
 use Rattle.arrays.specs.At.{at, atℤ}
-use Rattle.cuts.specs.Cut.{cutOf}
-use Rattle.arrays.specs.Flags.{flagged}
+use Rattle.cuts.specs.inner.Cut.{cutOf}
+use Rattle.arrays.specs.inner.Flags.{flagged}
 use Rattle.maximum.proofs.Joining.{cut-flags}
 use Rattle.maximum.proofs.join.Statement.{statement}
 use Rattle.maximum.proofs.join.Tie as tie

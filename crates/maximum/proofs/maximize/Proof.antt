@@ -11,7 +11,7 @@ use lib.Signed.{_≤ℤ_, _<ℤ_}
 use mir.Syntax.{w32}
 use mir.Val.{toZ, ofZ}
 use borrow.Author.Needs.{needs}
-use Rattle.integers.specs.Limited.{Limited}
+use Rattle.integers.specs.inner.Limited.{Limited}
 use Rattle.integers.proofs.Laws.{ge-of-test, lt-of-test}
 use Rattle.integers.proofs.Limits.{limited-more, limited-neg}
 use Rattle.signed.proofs.Laws.{number-of-bits}
@@ -20,13 +20,13 @@ use Rattle.maps.specs.Map.{Map}
 use Rattle.flows.proofs.ValueBound.{cut-small}
 use Rattle.arrays.specs.At.{at, atℤ}
 use Rattle.arrays.proofs.FillLoops.{filled-length}
-use Rattle.cuts.specs.Cut.{cutOf}
+use Rattle.cuts.specs.inner.Cut.{cutOf}
 use Rattle.cuts.proofs.CutOfMap.{cut-of}
-use Rattle.arrays.specs.Flags.{flagged}
+use Rattle.arrays.specs.inner.Flags.{flagged}
 use Rattle.arrays.specs.Maps.{mapOf}
-use Rattle.solver.specs.Decision.{Decided}
-use Rattle.maximum.specs.Bracket.{Bracket}
-use Rattle.maximum.specs.Maximum.{Maximized}
+use Rattle.solver.specs.inner.Decision.{Decided}
+use Rattle.maximum.specs.inner.Bracket.{Bracket}
+use Rattle.maximum.specs.inner.Maximum.{Maximized}
 use Rattle.maximum.proofs.Gap.{gap, gap-carried}
 use Rattle.maximum.proofs.Bracketing.{Ground, Probing, high-small, low-small, begins, between-limited, above-low, carried, nothing, narrowed, met, passed, bits-bracket, bits-gap, same-bracket}
 use Rattle.maximum.proofs.maximize.Statement.{statement}

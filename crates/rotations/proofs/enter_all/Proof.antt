@@ -6,7 +6,7 @@ use native.Mathlib.Omega.{arith}
 use lib.ListN.{length, length-set}
 use borrow.Author.Needs.{needs}
 use Rattle.arrays.specs.At.{at}
-use Rattle.rotations.specs.Register.{Register}
+use Rattle.rotations.specs.inner.Register.{Register}
 use Rattle.rotations.proofs.Register.{register-none, register-same, register-new, clash}
 use Rattle.rotations.proofs.enter_all.Statement.{statement}
 use Rattle.rotations.proofs.enter_all.Tie as tie

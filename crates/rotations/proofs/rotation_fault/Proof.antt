@@ -8,7 +8,7 @@ use borrow.Author.Count.{below-more}
 use borrow.Author.Needs.{needs}
 use Rattle.arrays.specs.At.{at}
 use Rattle.arrays.specs.Maps.{mapOf}
-use Rattle.rotations.specs.Register.{Register}
+use Rattle.rotations.specs.inner.Register.{Register}
 use Rattle.rotations.proofs.Holding.{zeros}
 use Rattle.rotations.proofs.Register.{register-none, register-new, rotation-twice, rotation-good}
 use Rattle.rotations.proofs.rotation_fault.Statement.{statement}

@@ -7,7 +7,7 @@ use lib.IntN.{ℤ}
 use borrow.Author.Needs.{needs}
 use Rattle.arrays.specs.At.{atℤ}
 use Rattle.arrays.specs.Maps.{mapOf}
-use Rattle.solver.specs.Search.{Lengthened}
+use Rattle.solver.specs.inner.Search.{Lengthened}
 use Rattle.solver.proofs.Preparing.{same-value, small-value, lengthened-for}
 use Rattle.solver.proofs.Deciding.{searchable, decided-can, ringed, decided-cannot}
 use Rattle.solver.proofs.decide.Statement.{statement}

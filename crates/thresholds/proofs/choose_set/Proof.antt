@@ -16,10 +16,10 @@ use Rattle.integers.proofs.Laws.{lt-of-test}
 use Rattle.signed.proofs.Laws.{number-of-bits}
 use Rattle.signed.proofs.Limits.{limited-fits}
 use Rattle.arrays.specs.At.{at, atℤ}
-use Rattle.arrays.specs.Flags.{flagged}
-use Rattle.arrays.specs.Sizes.{mostHeight}
-use Rattle.cuts.specs.Cut.{cutOf}
-use Rattle.thresholds.specs.Above.{above}
+use Rattle.arrays.specs.inner.Flags.{flagged}
+use Rattle.arrays.specs.inner.Sizes.{mostHeight}
+use Rattle.cuts.specs.inner.Cut.{cutOf}
+use Rattle.thresholds.specs.inner.Above.{above}
 use Rattle.thresholds.proofs.Choosing.{Trying, left-above, trying-start, trying-next, trying-step, trying-less, cut-same, not-false}
 use Rattle.thresholds.proofs.choose_set.Statement.{statement}
 use Rattle.thresholds.proofs.choose_set.Tie as tie

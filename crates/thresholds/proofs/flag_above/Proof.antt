@@ -12,7 +12,7 @@ use borrow.Author.Count.{below-more}
 use borrow.Author.Needs.{needs}
 use Rattle.signed.proofs.Laws.{number-of-bits}
 use Rattle.arrays.specs.At.{at, atℤ}
-use Rattle.thresholds.specs.Above.{above}
+use Rattle.thresholds.specs.inner.Above.{above}
 use Rattle.thresholds.proofs.flag_above.Statement.{statement}
 use Rattle.thresholds.proofs.flag_above.Tie as tie
 

@@ -8,7 +8,7 @@ use borrow.Author.Needs.{read-below}
 use borrow.Author.Count.{below-more}
 use borrow.Author.Needs.{needs}
 use Rattle.arrays.specs.At.{at}
-use Rattle.traversal.specs.Mark.{unmarked}
+use Rattle.traversal.specs.inner.Mark.{unmarked}
 use Rattle.traversal.proofs.unmark_all.Statement.{statement}
 use Rattle.traversal.proofs.unmark_all.Tie as tie
 

@@ -5,12 +5,12 @@ use mathlib.Core.List.{List}
 use Prim.Native.Nat.{ℕ, _*_, _≤_, _<_}
 use lib.ListN.{length}
 use lib.IntN.{ℤ, pos, negℤ, _-ℤ_}
-use Rattle.integers.specs.Limited.{Limited}
+use Rattle.integers.specs.inner.Limited.{Limited}
 use Rattle.maps.specs.Dart.{rev}
 use Rattle.flows.specs.Settings.{onDarts}
 use Rattle.arrays.specs.At.{atℤ}
-use Rattle.traversal.specs.Spread.{Met, Spread}
-use Rattle.arrays.specs.Sizes.{mostOnSheet}
+use Rattle.traversal.specs.inner.Spread.{Met, Spread}
+use Rattle.arrays.specs.inner.Sizes.{mostOnSheet}
 
 -- the order holds every dart, and the face left of each but the first lies right of a dart listed before it, which `from` names
 pub record Crossing (darts : ℕ) (left order from : ℕ → ℕ) : Type 0 where

@@ -4,9 +4,9 @@ use mathlib.Core.Path.{_≡_}
 use mathlib.Core.List.{List, [], _∷_}
 use Prim.Native.Nat.{ℕ, _≤_, _<_}
 use lib.IntN.{ℤ, pos, _+ℤ_}
-use Rattle.integers.specs.Limited.{Limited}
+use Rattle.integers.specs.inner.Limited.{Limited}
 use Rattle.maps.specs.Orbit.{iter}
-use Rattle.flows.specs.UnitFlow.{single}
+use Rattle.flows.specs.inner.UnitFlow.{single}
 use Rattle.search.specs.Parents.{up, down}
 
 -- forth minus back, of darts crossed in turn

@@ -2,11 +2,11 @@
 use mathlib.Core.Path.{_≡_}
 use Prim.Native.Nat.{ℕ, _≤_, _<_}
 use lib.IntN.{ℤ, pos, negℤ, _-ℤ_}
-use Rattle.integers.specs.Limited.{Limited}
+use Rattle.integers.specs.inner.Limited.{Limited}
 use Rattle.maps.specs.Dart.{rev}
 use Rattle.arrays.specs.At.{at, atℤ}
-use Rattle.traversal.specs.Spread.{Spread}
-use Rattle.arrays.specs.Sizes.{mostWinding, mostHeight}
+use Rattle.traversal.specs.inner.Spread.{Spread}
+use Rattle.arrays.specs.inner.Sizes.{mostWinding, mostHeight}
 
 -- the order is that of a walk over the darts, which met them all
 pub record Fillable (darts : ℕ) (tail order from : ℕ → ℕ) (winding : ℕ → ℤ) : Type 0 where

@@ -5,7 +5,7 @@ use mathlib.Core.List.{List}
 use Prim.Native.Nat.{ℕ, _*_, _≤_, _<_}
 use lib.IntN.{ℤ, pos, _+ℤ_}
 use lib.Signed.{_≤ℤ_}
-use Rattle.integers.specs.Limited.{Limited}
+use Rattle.integers.specs.inner.Limited.{Limited}
 use Rattle.maps.specs.Dart.{rev}
 use Rattle.maps.specs.Map.{Map, darts}
 use Rattle.arrays.specs.Filled.{filled}
@@ -15,11 +15,11 @@ use Rattle.search.specs.Settled.{Settled}
 use Rattle.search.specs.declared.Outcome.{Outcome}
 use Rattle.search.specs.declared.Outcome.the-variants as outcome
 use Rattle.search.specs.OfMap.{OfMap}
-use Rattle.flows.specs.Plane.{Plane}
-use Rattle.flows.specs.UnitFlow.{UnitFlow}
-use Rattle.flows.specs.Lengths.{lengthFor}
-use Rattle.edge_flows.specs.Flow.{flowOf}
-use Rattle.arrays.specs.Sizes.{mostLength, mostCapacity}
+use Rattle.flows.specs.inner.Plane.{Plane}
+use Rattle.flows.specs.inner.UnitFlow.{UnitFlow}
+use Rattle.flows.specs.inner.Lengths.{lengthFor}
+use Rattle.edge_flows.specs.inner.Flow.{flowOf}
+use Rattle.arrays.specs.inner.Sizes.{mostLength, mostCapacity}
 
 -- the lengths of the darts for a value from s to t: the capacity, less the value along some unit flow
 pub record Lengthened (𝓜 : Map) (s t : ℕ) (capacity : ℕ → ℤ) (value : ℤ) (length : ℕ → ℤ) : Type 0 where

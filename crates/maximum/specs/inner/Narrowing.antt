@@ -7,9 +7,9 @@ use Prim.Native.Nat.{ℕ, _<_}
 use lib.IntN.{ℤ, pos, negℤ}
 use lib.Signed.{_≤ℤ_, _<ℤ_}
 use Rattle.maps.specs.Cut.{union, intersection}
-use Rattle.cuts.specs.Cut.{cutOf}
-use Rattle.node_flags.specs.Flags.{Sided}
-use Rattle.arrays.specs.Flags.{flagged}
+use Rattle.cuts.specs.inner.Cut.{cutOf}
+use Rattle.node_flags.specs.inner.Flags.{Sided}
+use Rattle.arrays.specs.inner.Flags.{flagged}
 use Rattle.node_flags.specs.declared.Side.{Side}
 use Rattle.node_flags.specs.declared.Side.the-variants as side
 use Rattle.maximum.specs.declared.Narrowed.{Narrowed}

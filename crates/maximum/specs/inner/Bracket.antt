@@ -8,9 +8,9 @@ use lib.IntN.{ℤ, negℤ}
 use Rattle.maps.specs.Map.{Map}
 use Rattle.maps.specs.Cut.{cut}
 use Rattle.flows.specs.Highest.{Highest}
-use Rattle.flows.specs.Sides.{AtSource, AtSink}
+use Rattle.flows.specs.inner.Sides.{AtSource, AtSink}
 use Rattle.arrays.specs.Filled.{filled}
-use Rattle.arrays.specs.Flags.{flagged}
+use Rattle.arrays.specs.inner.Flags.{flagged}
 
 -- `high` is the cut of the set A, which holds the source and not the sink
 pub record Ceiling (𝓜 : Map) (c : ℕ → ℤ) (s t : ℕ) (A : ℕ → Bool) (high : ℤ) : Type 0 where

@@ -4,12 +4,12 @@ use mathlib.Core.Path.{_≡_}
 use Prim.Native.Nat.{ℕ, _≤_, _<_}
 use lib.IntN.{ℤ, pos, _+ℤ_}
 use lib.Signed.{_≤ℤ_}
-use Rattle.integers.specs.Limited.{Limited}
+use Rattle.integers.specs.inner.Limited.{Limited}
 use Rattle.maps.specs.Dart.{rev}
 use Rattle.maps.specs.Map.{Map, darts}
 use Rattle.maps.specs.Face as face
-use Rattle.flows.specs.Plane.{Plane}
-use Rattle.arrays.specs.Sizes.{mostCapacity}
+use Rattle.flows.specs.inner.Plane.{Plane}
+use Rattle.arrays.specs.inner.Sizes.{mostCapacity}
 
 -- the map is plane, `left` has its faces, and `faces` is how many they are; the outer dart is one of the darts; no edge's two capacities add to less than zero
 pub record Drawn (𝓜 : Map) (left : ℕ → ℕ) (faces outer : ℕ) (capacity : ℕ → ℤ) : Type 0 where

@@ -10,7 +10,7 @@ use Rattle.maps.specs.Map.{Map}
 use Rattle.flows.specs.Highest.{Highest}
 use Rattle.flows.specs.ProvingSet.{Proves}
 use Rattle.arrays.specs.Filled.{filled}
-use Rattle.arrays.specs.Flags.{flagged}
+use Rattle.arrays.specs.inner.Flags.{flagged}
 
 -- true: the highest flow of the value stands in the first places of the slice. false: the slice is as it was, and the flagged nodes prove the value impossible.
 abbrev pub Decided : Map → (outer : ℕ) → (ℕ → ℤ) → (source sink : ℕ) → ℤ → (flows flows' : List ℤ) → (inside' : List ℕ) → Bool → Type 0

@@ -2,7 +2,7 @@
 use mathlib.Core.Path.{_≡_}
 use Prim.Native.Nat.{ℕ, _≤_, _<_}
 use Rattle.maps.specs.Orbit.{Orbit, Permutes}
-use Rattle.traversal.specs.Mark.{unmarked}
+use Rattle.traversal.specs.inner.Mark.{unmarked}
 
 -- the orbit of `start` may be given this number: no place of it has one
 pub record Markable (n : ℕ) (next label : ℕ → ℕ) (start number : ℕ) : Type 0 where

@@ -4,7 +4,7 @@ use mathlib.Core.List.{List}
 use Prim.Native.Nat.{ℕ}
 use lib.Dec.{eqb}
 use lib.ListN.{getD}
-use Rattle.flows.specs.Sides.{AtSource, AtSink, Beside}
+use Rattle.flows.specs.inner.Sides.{AtSource, AtSink, Beside}
 use Rattle.node_flags.specs.declared.Side.{Side}
 use Rattle.node_flags.specs.declared.Side.the-variants as side
 

@@ -3,10 +3,10 @@ use mathlib.Core.Path.{_≡_}
 use Prim.Native.Nat.{ℕ, _%_, _≤_, _<_}
 use lib.IntN.{ℤ, pos}
 use lib.Signed.{_<ℤ_}
-use Rattle.integers.specs.Limited.{Limited}
-use Rattle.cuts.specs.Cut.{cutOf}
-use Rattle.thresholds.specs.Above.{above}
-use Rattle.arrays.specs.Sizes.{mostLength, mostHeight}
+use Rattle.integers.specs.inner.Limited.{Limited}
+use Rattle.cuts.specs.inner.Cut.{cutOf}
+use Rattle.thresholds.specs.inner.Above.{above}
+use Rattle.arrays.specs.inner.Sizes.{mostLength, mostHeight}
 
 -- some threshold has a cut below zero
 pub record Choosable (nodes darts : ℕ) (tail : ℕ → ℕ) (length height : ℕ → ℤ) : Type 0 where

@@ -3,7 +3,7 @@ use mathlib.Core.Path.{_≡_}
 use mathlib.Core.Logic.{_⊎_, _≢_}
 use Prim.Native.Nat.{ℕ, _+_, _≤_, _<_}
 use Rattle.maps.specs.Dart.{rev}
-use Rattle.traversal.specs.Mark.{unmarked}
+use Rattle.traversal.specs.inner.Mark.{unmarked}
 
 -- d is one of the first `count` darts of the order
 abbrev pub Met : (ℕ → ℕ) → ℕ → ℕ → Type 0

@@ -2,14 +2,14 @@
 use mathlib.Core.Path.{_≡_}
 use Prim.Native.Nat.{ℕ, _≤_, _<_}
 use lib.IntN.{ℤ, pos, negℤ}
-use Rattle.integers.specs.Limited.{Limited}
+use Rattle.integers.specs.inner.Limited.{Limited}
 use Rattle.maps.specs.Map.{Map, darts}
 use Rattle.maps.specs.Walk.{Walk}
-use Rattle.flows.specs.UnitFlow.{walkFlow}
-use Rattle.flows.specs.Lengths.{lengthFor}
+use Rattle.flows.specs.inner.UnitFlow.{walkFlow}
+use Rattle.flows.specs.inner.Lengths.{lengthFor}
 use Rattle.arrays.specs.At.{at, atℤ}
-use Rattle.traversal.specs.Spread.{Met, Spread}
-use Rattle.arrays.specs.Sizes.{mostCapacity, mostValue, mostLength}
+use Rattle.traversal.specs.inner.Spread.{Met, Spread}
+use Rattle.arrays.specs.inner.Sizes.{mostCapacity, mostValue, mostLength}
 
 -- `order` and `from` are what a walk over the n darts of the map left, and it met `finish`
 pub record Reached (𝓜 : Map) (n start finish : ℕ) (order from : ℕ → ℕ) : Type 0 where

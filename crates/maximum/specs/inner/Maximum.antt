@@ -8,9 +8,9 @@ use lib.Signed.{_<ℤ_}
 use Rattle.maps.specs.Map.{Map}
 use Rattle.maps.specs.Cut.{cut}
 use Rattle.flows.specs.Highest.{Highest}
-use Rattle.flows.specs.Sides.{AtSource, Beside}
+use Rattle.flows.specs.inner.Sides.{AtSource, Beside}
 use Rattle.arrays.specs.Filled.{filled}
-use Rattle.arrays.specs.Flags.{flagged}
+use Rattle.arrays.specs.inner.Flags.{flagged}
 use Rattle.maximum.specs.declared.Maximum.{Maximum}
 use Rattle.maximum.specs.declared.Maximum.the-variants as maximum
 

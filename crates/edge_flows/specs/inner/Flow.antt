@@ -2,9 +2,9 @@
 -- capacity of that dart is more than its length, which is what the value carries along it.
 use Prim.Native.Nat.{ℕ, _*_, _<_}
 use lib.IntN.{ℤ, _+ℤ_, _-ℤ_}
-use Rattle.integers.specs.Limited.{Limited}
+use Rattle.integers.specs.inner.Limited.{Limited}
 use Rattle.maps.specs.Dart.{rev}
-use Rattle.arrays.specs.Sizes.{mostPotential, mostCapacity}
+use Rattle.arrays.specs.inner.Sizes.{mostPotential, mostCapacity}
 
 abbrev pub flowOf : (ℕ → ℕ) → (capacity length potential : ℕ → ℤ) → ℕ → ℤ
 flowOf left capacity length potential e = (potential (left (2 * e)) -ℤ potential (left (rev (2 * e)))) +ℤ (capacity (2 * e) -ℤ length (2 * e))
