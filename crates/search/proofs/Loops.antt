@@ -11,7 +11,7 @@ use lib.ListN.{length, getD, set, length-set}
 use lib.IntN.{ℤ, pos, _+ℤ_}
 use lib.Signed.{mag, _≤ℤ_, _<ℤ_}
 use Rattle.maps.specs.Orbit.{iter}
-use Rattle.grouping.specs.Grouped.{Grouped}
+use Rattle.grouping.specs.inner.Grouped.{Grouped}
 use Rattle.search.specs.Dual.{Dual, WellFormed, Joined}
 use Rattle.search.specs.Walk.{Ring}
 use Rattle.search.specs.Settled.{Settled}

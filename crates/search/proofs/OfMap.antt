@@ -14,8 +14,8 @@ use Rattle.maps.specs.Map.{Map, darts}
 use Rattle.maps.specs.Face.{step, faces, left, right}
 use Rattle.maps.specs.Walk.{Components}
 use Rattle.maps.specs.Check as check
-use Rattle.maps.specs.FaceWalk.{FaceWalk}
-use Rattle.maps.specs.FaceWalk as faceWalk
+use Rattle.maps.specs.inner.FaceWalk.{FaceWalk}
+use Rattle.maps.specs.inner.FaceWalk as faceWalk
 use Rattle.maps.proofs.Darts.{rev-in}
 use Rattle.maps.proofs.Faces.{left-in, right-in, left-rotation, face-dart, same-in-part}
 use Rattle.search.specs.Dual.{Dual, dualOf, WellFormed, Joined, longest}

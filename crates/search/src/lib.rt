@@ -8,7 +8,7 @@ ghost use Prim.Native.Nat.{ℕ, _+_, _<_, _≤_};
 ghost use lib.ListN.{length, getD};
 ghost use lib.IntN.{pos, _+ℤ_};
 ghost use lib.Signed.{mag};
-ghost use Rattle.grouping.specs.Grouped.{Grouped};
+ghost use Rattle.grouping.specs.inner.Grouped.{Grouped};
 ghost use Rattle.arrays.specs.Maps.{rightOf};
 ghost use Rattle.search.specs.Dual.{dualOf, WellFormed, Joined};
 ghost use Rattle.search.specs.Answer.{Answer};
