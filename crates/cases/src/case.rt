@@ -43,7 +43,7 @@ fn long(s: &[u8], at: usize) -> u64
 }
 
 // A number of 16 bits that counts bytes.
-pub fn count(s: &[u8], at: usize) -> usize
+fn count(s: &[u8], at: usize) -> usize
     ensures { λ r. ⌜ r < 65536 ⌝ }
 {
     half(s, at) as usize

@@ -22,7 +22,7 @@ ghost use Rattle.maximum.specs.inner.Maximum.{Maximized};
 use node_flags::Side;
 
 // The two bounds after a proving set, or that it shows that there is nothing between any.
-pub struct Narrowed {
+struct Narrowed {
     low: i32,
     high: i32,
     none: bool,

@@ -54,7 +54,7 @@ pub fn outer_of(s: &[u8]) -> usize
 }
 
 // Every reader of records takes a body's length from the table; 0 for a kind that there is not.
-pub fn body_length(kind: u8) -> u8
+fn body_length(kind: u8) -> u8
     ensures { λ r. ⌜ r ≡ bodyLength kind ⌝ }
 {
     let k = kind as usize;
@@ -121,7 +121,7 @@ pub fn check_counts(nodes: usize, edges: usize) -> Verdict
 }
 
 // The head of a sheet: a record of kind 1, then its two counts.
-pub fn check_head(s: &[u8]) -> Verdict
+fn check_head(s: &[u8]) -> Verdict
     ensures { λ r. ⌜ Judged (headChecks (now (s .entry))) r ⌝ }
 {
     let whole = check_record(s, 1, 0);
@@ -214,7 +214,7 @@ pub fn check_fields(
 }
 
 // The record of edge e, whole, and then its fields against the head's counts; it is read only once it is known to be whole.
-pub fn check_edge_record(s: &[u8], nodes: usize, edges: usize, e: usize) -> Verdict
+fn check_edge_record(s: &[u8], nodes: usize, edges: usize, e: usize) -> Verdict
     requires { ⌜ (edges ≤ 512) × (e < edges) × (nodes ≡ nodesOf (now s)) × (edges ≡ edgesOf (now s)) ⌝ }
     ensures { λ r. ⌜ Judged (edgeRecordChecks (now (s .entry)) e) r ⌝ }
 {

@@ -37,7 +37,7 @@ fn mark_orbit(next: &[u16; 1024], n: usize, start: usize, number: u16, label: &m
 }
 
 // Numbers the orbits from 0 in order of their lowest members, and says how many they are. The first place of an orbit that the loop meets is its lowest.
-pub fn number_orbits(next: &[u16; 1024], n: usize, label: &mut [u16; 1024]) -> usize
+fn number_orbits(next: &[u16; 1024], n: usize, label: &mut [u16; 1024]) -> usize
     requires { ⌜ (length (now label) ≡ 1024) × (n ≤ 1024) × Permutes n (at (now next)) ⌝ }
     ensures { λ r. ⌜ (length (now (label .exit)) ≡ 1024) × (r ≡ orbits n (at (now (next .entry)))) × ((d : ℕ) → d < n → at (now (label .exit)) d ≡ orbitOf n (at (now (next .entry))) d) ⌝ }
 {
@@ -55,7 +55,7 @@ pub fn number_orbits(next: &[u16; 1024], n: usize, label: &mut [u16; 1024]) -> u
 }
 
 // Check 9: "a turn has another tail, or two darts have one turn". `origin` holds, for each dart met as a rotation, 1 more than the dart that it follows.
-pub fn rotation_fault<'a>(
+fn rotation_fault<'a>(
     tails: &'a [u16; 1024],
     rotations: &'a [u16; 1024],
     nodes: usize,
@@ -122,7 +122,7 @@ fn some_empty(table: &[u16; 1024], n: usize) -> bool
 }
 
 // Check 10: "some node's darts do not form exactly one round, or it has none". Each node is entered with the round of its darts.
-pub fn node_fault<'a>(
+fn node_fault<'a>(
     tails: &'a [u16; 1024],
     rotations: &'a [u16; 1024],
     nodes: usize,
@@ -143,7 +143,7 @@ pub fn node_fault<'a>(
 
 // Check 11: "not connected". From dart 0 the walk goes to the rotation and to the reverse of every dart met. The rounds being nodes, all darts are met if and
 // only if every node is joined to the first; so it reads neither tails nor nodes, which only its contract names.
-pub fn disconnected<'a>(
+fn disconnected<'a>(
     tails: &'a [u16; 1024],
     rotations: &'a [u16; 1024],
     nodes: usize,
@@ -160,7 +160,7 @@ pub fn disconnected<'a>(
 }
 
 // "The face step of a dart is the turn of its reverse."
-pub fn fill_steps(rotations: &[u16; 1024], edges: usize, steps: &mut [u16; 1024])
+fn fill_steps(rotations: &[u16; 1024], edges: usize, steps: &mut [u16; 1024])
     requires { ⌜ (length (now steps) ≡ 1024) × (edges ≤ 512) ⌝ }
     ensures { λ _. ⌜ (length (now (steps .exit)) ≡ 1024) × ((d : ℕ) → d < 2 * edges → at (now (steps .exit)) d ≡ at (now (rotations .entry)) (rev d)) ⌝ }
 {
