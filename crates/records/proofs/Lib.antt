@@ -1,3 +1,4 @@
+-- Records and fields of a sheet: the byte checks, what they leave, and the round trip.
 pub mod Record
 pub mod Fields
 pub mod Drawing
