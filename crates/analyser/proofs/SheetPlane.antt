@@ -1,4 +1,5 @@
--- An accepted sheet's drawing is plane, its outer dart is one of its darts, and its capacities are within their range; its circulations have levels, one set of them.
+-- An accepted sheet's drawing is plane, its outer dart is one of its darts, and its capacities are within their range;
+-- its circulations have levels, one set of them.
 use mathlib.Core.Path.{_≡_, refl, sym, _∙_, ap}
 use mathlib.Core.List.{List}
 use Prim.Native.Nat.{ℕ, _+_, _*_, _≤_, _<_}

@@ -52,13 +52,15 @@ module _ (tail : ℕ → ℕ) (x : ℕ → ℤ) where
   net-none v = sum-zero Integers _
 
   -- one edge more
-  net-more : (e v : ℕ) → netUpTo tail x (2 * (e + 1)) v ≡ (netUpTo tail x (2 * e) v +ℤ when (eqb v (tail (2 * e))) (x e)) +ℤ when (eqb v (tail (2 * e + 1))) (negℤ (x e))
+  net-more : (e v : ℕ)
+      → netUpTo tail x (2 * (e + 1)) v ≡ (netUpTo tail x (2 * e) v +ℤ when (eqb v (tail (2 * e))) (x e)) +ℤ when (eqb v (tail (2 * e + 1))) (negℤ (x e))
   unfolding netUpTo
   net-more e v =
       ap (λ n. sum Integers n term) two
       ∙ sum-suc Integers (2 * e + 1) term
       ∙ ap₂ _+ℤ_
-      (ap (λ n. sum Integers n term) one ∙ sum-suc Integers (2 * e) term ∙ ap (λ z. sum Integers (2 * e) term +ℤ when (eqb v (tail (2 * e))) z) (onDarts-even x e))
+      (ap (λ n. sum Integers n term) one ∙ sum-suc Integers (2 * e) term
+      ∙ ap (λ z. sum Integers (2 * e) term +ℤ when (eqb v (tail (2 * e))) z) (onDarts-even x e))
       (ap (when (eqb v (tail (2 * e + 1)))) (onDarts-odd x e))
     where
       term : ℕ → ℤ

@@ -40,7 +40,8 @@ fn share(tails: &[u16; 1024], lengths: &[i32; 1024], inside: &[u8; 1024], d: usi
 
 // The sum over the darts that leave the flagged nodes.
 pub fn total(tails: &[u16; 1024], lengths: &[i32; 1024], inside: &[u8; 1024], darts: usize) -> i64
-    requires { ⌜ (darts ≤ 1024) × (darts % 2 ≡ 0) × ((d : ℕ) → d < darts → at (now tails) d < 1024) × ((d : ℕ) → d < darts → Limited mostLength (atℤ (now lengths) d)) ⌝ }
+    requires { ⌜ (darts ≤ 1024) × (darts % 2 ≡ 0) × ((d : ℕ) → d < darts → at (now tails) d < 1024)
+        × ((d : ℕ) → d < darts → Limited mostLength (atℤ (now lengths) d)) ⌝ }
     ensures { λ r. ⌜ r ≡ cutOf darts (at (now (tails .entry))) (atℤ (now (lengths .entry))) (flagged (now (inside .entry))) ⌝ }
 {
     let mut sum: i64 = 0;
@@ -57,7 +58,8 @@ pub fn capacity(
     inside: &[u8; 1024],
     darts: usize,
 ) -> i32
-    requires { ⌜ (darts ≤ 1024) × (darts % 2 ≡ 0) × ((d : ℕ) → d < darts → at (now tails) d < 1024) × ((d : ℕ) → d < darts → Limited mostCapacity (atℤ (now capacities) d)) ⌝ }
+    requires { ⌜ (darts ≤ 1024) × (darts % 2 ≡ 0) × ((d : ℕ) → d < darts → at (now tails) d < 1024)
+        × ((d : ℕ) → d < darts → Limited mostCapacity (atℤ (now capacities) d)) ⌝ }
     ensures { λ r. ⌜ r ≡ cutOf darts (at (now (tails .entry))) (atℤ (now (capacities .entry))) (flagged (now (inside .entry))) ⌝ }
 {
     signed::narrow(total(tails, capacities, inside, darts))

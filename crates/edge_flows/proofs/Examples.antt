@@ -1,5 +1,5 @@
--- A made-up case: edge 1 has darts 2 and 3, with face 1 on the left of dart 2 and face 2 on the left of dart 3. The faces' potentials are 5 and −3, so the drop is 8;
--- dart 2 has capacity 6 and length 4, so 2 go along it: the flow is 10.
+-- A made-up case: edge 1 has darts 2 and 3, with face 1 on the left of dart 2 and face 2 on the left of dart 3. The faces' potentials are 5 and −3, so the drop
+-- is 8; dart 2 has capacity 6 and length 4, so 2 go along it: the flow is 10.
 use mathlib.Core.Path.{_≡_, refl}
 use mathlib.Core.List.{[], _∷_}
 use lib.IntN.{pos, negsuc}

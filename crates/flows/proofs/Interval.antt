@@ -113,7 +113,8 @@ module _ (𝓜 : Map) (c : ℕ → ℤ) (s t : ℕ) (A B : ℕ → Bool) (at-sou
     pub intersection-short : pos 0 ≤ℤ cut 𝓜 c (union A B) → cut 𝓜 c (intersection A B) <ℤ pos 0
     intersection-short h =
         let a = atoms₄ (cut 𝓜 c A) (cut 𝓜 c B) (cut 𝓜 c (union A B)) (cut 𝓜 c (intersection A B)) in
-        less (search parts) (omega (arith, from-at-most (submodular 𝓜 c pairs A B) (search parts), from-less none-between (search parts), from-at-most h (search parts)))
+        less (search parts) (omega
+        (arith, from-at-most (submodular 𝓜 c pairs A B) (search parts), from-less none-between (search parts), from-at-most h (search parts)))
 
     pub join-none : ((cut 𝓜 c (union A B) <ℤ pos 0) × ((value : ℤ) → Proves 𝓜 c s t value (union A B)))
         ⊎ ((cut 𝓜 c (intersection A B) <ℤ pos 0) × ((value : ℤ) → Proves 𝓜 c s t value (intersection A B)))

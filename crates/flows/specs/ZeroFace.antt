@@ -1,5 +1,5 @@
--- The faces at level 0. Document 01, "Faces, settings, levels": "with face 0 at level 0". Here it is the face that holds the drawing's outer dart: with dart 0, which
--- lies on face 0, that is the paper's.
+-- The faces at level 0. Document 01, "Faces, settings, levels": "with face 0 at level 0". Here it is the face that holds the drawing's outer dart: with dart 0,
+-- which lies on face 0, that is the paper's.
 use Prim.Native.Nat.{ℕ}
 use mathlib.Core.Path.{_≡_}
 use Rattle.maps.specs.Map.{Map}

@@ -1,5 +1,5 @@
--- Bytes that are alike as far as they matter: the first n the same, and more after them on both sides. The checks that look no further agree one by one, and a sheet longer
--- than any that is accepted is refused by one of those.
+-- Bytes that are alike as far as they matter: the first n the same, and more after them on both sides. The checks that look no further agree one by one, and a
+-- sheet longer than any that is accepted is refused by one of those.
 use Prim.Native.Nat.{ℕ, _+_, _*_, _≤_, _<_}
 use mathlib.Core.Path.{_≡_, refl, sym, _∙_, ap, ap₂, subst}
 use mathlib.Core.Logic.{_⊎_, inl, inr}

@@ -82,7 +82,8 @@ fn put_can_line(text: &mut [u8], value: i32) -> usize
 
 // "can" and the value, then the lines of the edges.
 fn put_can(text: &mut [u8], value: i32, edges: usize, flows: &[i32; 512]) -> usize
-    requires { ⌜ (15 + 13 * edges ≤ length (now text)) × Limited 600000000 value × (edges ≤ 512) × ((e : ℕ) → e < edges → Limited 1000000 (atℤ (now flows) e)) ⌝ }
+    requires { ⌜ (15 + 13 * edges ≤ length (now text)) × Limited 600000000 value
+        × (edges ≤ 512) × ((e : ℕ) → e < edges → Limited 1000000 (atℤ (now flows) e)) ⌝ }
     ensures { λ r. ⌜ Placed 0 (canText value edges (atℤ (now (flows .entry)))) (now (text .entry)) (now (text .exit)) r ⌝ }
 {
     let at = put_can_line(text, value);

@@ -57,7 +57,8 @@ fn both(x: u8, y: u8) -> u8
 // The nodes of either set.
 pub fn unite(a: &[u8; 1024], b: &[u8; 1024], to: &mut [u8; 1024])
     requires { ⌜ length (now to) ≡ 1024 ⌝ }
-    ensures { λ _. ⌜ (length (now (to .exit)) ≡ 1024) × ((u : ℕ) → u < 1024 → flagged (now (to .exit)) u ≡ union (flagged (now (a .entry))) (flagged (now (b .entry))) u) ⌝ }
+    ensures { λ _. ⌜ (length (now (to .exit)) ≡ 1024)
+        × ((u : ℕ) → u < 1024 → flagged (now (to .exit)) u ≡ union (flagged (now (a .entry))) (flagged (now (b .entry))) u) ⌝ }
 {
     for u in 0..1024usize {
         to[u] = either(a[u], b[u]);
@@ -67,7 +68,8 @@ pub fn unite(a: &[u8; 1024], b: &[u8; 1024], to: &mut [u8; 1024])
 // The nodes of both sets.
 pub fn intersect(a: &[u8; 1024], b: &[u8; 1024], to: &mut [u8; 1024])
     requires { ⌜ length (now to) ≡ 1024 ⌝ }
-    ensures { λ _. ⌜ (length (now (to .exit)) ≡ 1024) × ((u : ℕ) → u < 1024 → flagged (now (to .exit)) u ≡ intersection (flagged (now (a .entry))) (flagged (now (b .entry))) u) ⌝ }
+    ensures { λ _. ⌜ (length (now (to .exit)) ≡ 1024)
+        × ((u : ℕ) → u < 1024 → flagged (now (to .exit)) u ≡ intersection (flagged (now (a .entry))) (flagged (now (b .entry))) u) ⌝ }
 {
     for u in 0..1024usize {
         to[u] = both(a[u], b[u]);

@@ -83,10 +83,12 @@ writing-end inside nodes before after s m = record {
         ∙ word-test (λ k. flag inside nodes (64 * (v / 64) + k)) 64 (v % 64) (omega arith)
         ∙ ap (flag inside nodes) (omega arith)
 
-    past : (i : ℕ) → nodes ≤ i → (ltb (i / 64) (wordsFor nodes) ≡ true) ⊎ (ltb (i / 64) (wordsFor nodes) ≡ false) → member (take (wordsFor nodes) after) i ≡ false
+    past : (i : ℕ) → nodes ≤ i → (ltb (i / 64) (wordsFor nodes) ≡ true) ⊎ (ltb (i / 64) (wordsFor nodes) ≡ false)
+        → member (take (wordsFor nodes) after) i ≡ false
     past i h (inl e) = in-word i (ltb-lt (i / 64) (wordsFor nodes) e) ∙ flag-outside inside nodes i h
     past i h (inr e) =
-        ap (λ (x : ℕ). eqb (x / 2 ^ (i % 64) % 2) 1) (List·getD-eq-default (take (wordsFor nodes) after) 0 (omega (arith, taken, at-least (i / 64) (wordsFor nodes) e)))
+        ap (λ (x : ℕ). eqb (x / 2 ^ (i % 64) % 2) 1)
+        (List·getD-eq-default (take (wordsFor nodes) after) 0 (omega (arith, taken, at-least (i / 64) (wordsFor nodes) e)))
         ∙ ap (λ (x : ℕ). eqb (x % 2) 1) (div-eq-of-lt (pow-pos (i % 64)))
 
 -- ── what a caller has ──

@@ -46,8 +46,12 @@ module _ (𝓓 : Drawing) (passed : (e : ℕ) → e < 𝓓 .map .edges → NoneO
   unfolding NoneOf edgeChecks fieldChecks
   drawing-range =
       record {
-        tail-in = by-edge (𝓓 .map .edges) (λ d. 𝓓 .map .tail d < 𝓓 .map .nodes) (λ e l. omega (arith, not-left (passed e l .0))) (λ e l. omega (arith, not-right (passed e l .0)));
-        rotation-in = by-edge (𝓓 .map .edges) (λ d. 𝓓 .map .rotation d < 2 * 𝓓 .map .edges) (λ e l. omega (arith, not-left (passed e l .1 .0))) (λ e l. omega (arith, not-right (passed e l .1 .0)));
+        tail-in =
+            by-edge (𝓓 .map .edges) (λ d. 𝓓 .map .tail d < 𝓓 .map .nodes)
+            (λ e l. omega (arith, not-left (passed e l .0))) (λ e l. omega (arith, not-right (passed e l .0)));
+        rotation-in =
+            by-edge (𝓓 .map .edges) (λ d. 𝓓 .map .rotation d < 2 * 𝓓 .map .edges)
+            (λ e l. omega (arith, not-left (passed e l .1 .0))) (λ e l. omega (arith, not-right (passed e l .1 .0)));
       }
 
   pub drawing-capacities : (d : ℕ) → d < 2 * 𝓓 .map .edges → CapacityOutside (𝓓 .capacity d) → ⊥

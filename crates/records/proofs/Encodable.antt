@@ -50,7 +50,8 @@ capacity-fits-32 (negsuc n) h = go (decLt 999999 n)
     go (yes l) = absurd (h (inl (ltZ-yes (lt→ltb 999999 n l))))
     go (no l) = record { sfits = omega (arith, l) }
 
-pub encodable-of-checks : (𝓓 : Drawing) → NoneOf (countChecks (𝓓 .map .nodes) (𝓓 .map .edges)) → ((e : ℕ) → e < 𝓓 .map .edges → NoneOf (edgeChecks 𝓓 e)) → ZeroPast 𝓓 → Encodable 𝓓
+pub encodable-of-checks : (𝓓 : Drawing) → NoneOf (countChecks (𝓓 .map .nodes) (𝓓 .map .edges))
+    → ((e : ℕ) → e < 𝓓 .map .edges → NoneOf (edgeChecks 𝓓 e)) → ZeroPast 𝓓 → Encodable 𝓓
 encodable-of-checks 𝓓 counts edges zero =
     let n = counts-range (𝓓 .map .nodes) (𝓓 .map .edges) counts in
     record {

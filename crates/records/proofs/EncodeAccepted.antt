@@ -41,7 +41,8 @@ module _ (𝓓 : Drawing) where
     unfolding NoneOf
     end-accepted = ((λ h. omega (arith, encode-length 𝓓, same-edges 𝓓 fit)), tt)
 
-    pub encode-accepted : NoneOf (countChecks (𝓓 .map .nodes) (𝓓 .map .edges)) → ((e : ℕ) → e < 𝓓 .map .edges → NoneOf (edgeChecks 𝓓 e)) → NoneOf (byteChecks (encode 𝓓))
+    pub encode-accepted : NoneOf (countChecks (𝓓 .map .nodes) (𝓓 .map .edges))
+        → ((e : ℕ) → e < 𝓓 .map .edges → NoneOf (edgeChecks 𝓓 e)) → NoneOf (byteChecks (encode 𝓓))
     unfolding byteChecks
     encode-accepted h g =
         let end : List Check = (8 when edgeAt (edgesOf (encode 𝓓)) < length (encode 𝓓)) ∷ [] in

@@ -60,7 +60,8 @@ unfoldable one-edge : List ℕ
 one-edge = 1 ∷ 2 ∷ 0 ∷ 1 ∷ 0 ∷ 2 ∷ 0 ∷ 0 ∷ 1 ∷ 0 ∷ 0 ∷ 0 ∷ 1 ∷ 0 ∷ 5 ∷ 0 ∷ 0 ∷ 0 ∷ 251 ∷ 255 ∷ 255 ∷ 255 ∷ []
 
 one-edge-passes : Judged (byteChecks one-edge) Passed
-unfolding NoneOf inTurn byteChecks headChecks edgeRecordChecks recordChecks countChecks edgeChecks fieldChecks tailOf rotationOf capacityOf u16At u32At i32At one-edge
+unfolding NoneOf inTurn byteChecks headChecks edgeRecordChecks recordChecks countChecks
+    edgeChecks fieldChecks tailOf rotationOf capacityOf u16At u32At i32At one-edge
 one-edge-passes = (
   λ h. omega arith,
   (
@@ -95,7 +96,8 @@ one-edge-passes = (
 
 -- the same with a byte after it: 8
 one-byte-more : Judged (byteChecks (one-edge ++ (0 ∷ []))) (Refused 8 0)
-unfolding FirstOf inTurn byteChecks headChecks edgeRecordChecks recordChecks countChecks edgeChecks fieldChecks tailOf rotationOf capacityOf u16At u32At i32At one-edge
+unfolding FirstOf inTurn byteChecks headChecks edgeRecordChecks recordChecks countChecks
+    edgeChecks fieldChecks tailOf rotationOf capacityOf u16At u32At i32At one-edge
 one-byte-more =
     inr (
       λ h. omega arith,

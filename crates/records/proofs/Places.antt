@@ -109,7 +109,8 @@ edge-among 𝓓 e (suc n) h = go (ℕ-discrete e n) (edge-among 𝓓 e n)
     go : Dec (e ≡ n)
         → (e < n → StandsAt (edgeAt e) (encodeEdge 𝓓 e) (encodeHead 𝓓 ++ encodeEdges 𝓓 n))
         → StandsAt (edgeAt e) (encodeEdge 𝓓 e) (encodeHead 𝓓 ++ (encodeEdges 𝓓 n ++ encodeEdge 𝓓 n))
-    go (yes p) ih = record { before = encodeHead 𝓓 ++ encodeEdges 𝓓 n; after = []; is = rw p (simp (append-assoc, append-nil)); place = rw p (front-length 𝓓 n) }
+    go (yes p) ih =
+        record { before = encodeHead 𝓓 ++ encodeEdges 𝓓 n; after = []; is = rw p (simp (append-assoc, append-nil)); place = rw p (front-length 𝓓 n) }
     go (no p) ih =
         let r = ih (omega (arith, p)) in
         record {
@@ -125,7 +126,8 @@ edge-stands 𝓓 e h = edge-among 𝓓 e (𝓓 .map .edges) h
 
 -- ── a part of a part, and the field that it is ──
 -- cs stands k into bs, and reaches to m
-pub stands-inside : {at : ℕ} {bs s : List ℕ} (k m : ℕ) (cs : List ℕ) → StandsAt at bs s → k ≤ length bs → bs ≡ take k bs ++ (cs ++ drop m bs) → StandsAt (at + k) cs s
+pub stands-inside : {at : ℕ} {bs s : List ℕ} (k m : ℕ) (cs : List ℕ) → StandsAt at bs s
+    → k ≤ length bs → bs ≡ take k bs ++ (cs ++ drop m bs) → StandsAt (at + k) cs s
 stands-inside {at} {bs} {s} k m cs r l p =
     record {
       before = r .before ++ take k bs;

@@ -35,7 +35,8 @@ module _ (s : List ℕ) (bytes : (i : ℕ) → getD s i 0 < 256) (passed : NoneO
   head-again =
       sym (
       byte-then s bytes 0 1 4 1 (bytes-kinds s passed .0) (omega arith) (omega (arith, size))
-      ∙ ap (λ l. 1 ∷ l) (u16-then s bytes 1 3 2 (omega arith) (omega (arith, size)) ∙ ap (λ l. le16 (nodesOf s) ++ l) (u16-again s 3 bytes (omega (arith, size))))
+      ∙ ap (λ l. 1 ∷ l) (u16-then s bytes 1 3 2 (omega arith) (omega (arith, size))
+      ∙ ap (λ l. le16 (nodesOf s) ++ l) (u16-again s 3 bytes (omega (arith, size))))
       )
 
   module _ (e : ℕ) (h : e < edgesOf s) where

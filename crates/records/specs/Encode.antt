@@ -11,14 +11,16 @@ abbrev pub headBytes : ℕ → ℕ → List ℕ
 headBytes nodes edges = 1 ∷ (le16 nodes ++ le16 edges)
 
 abbrev pub edgeBytes : (tail head rotation backRotation : ℕ) (forward backward : ℤ) → List ℕ
-edgeBytes tail head rotation backRotation forward backward = 2 ∷ (le16 tail ++ (le16 head ++ (le16 rotation ++ (le16 backRotation ++ (le32 forward ++ le32 backward)))))
+edgeBytes tail head rotation backRotation forward backward =
+    2 ∷ (le16 tail ++ (le16 head ++ (le16 rotation ++ (le16 backRotation ++ (le32 forward ++ le32 backward)))))
 
 unfoldable pub encodeHead : Drawing → List ℕ
 encodeHead 𝓓 = headBytes (𝓓 .map .nodes) (𝓓 .map .edges)
 
 unfoldable pub encodeEdge : Drawing → ℕ → List ℕ
 encodeEdge 𝓓 e =
-    edgeBytes (𝓓 .map .tail (2 * e)) (𝓓 .map .tail (2 * e + 1)) (𝓓 .map .rotation (2 * e)) (𝓓 .map .rotation (2 * e + 1)) (𝓓 .capacity (2 * e)) (𝓓 .capacity (2 * e + 1))
+    edgeBytes (𝓓 .map .tail (2 * e)) (𝓓 .map .tail (2 * e + 1)) (𝓓 .map .rotation (2 * e))
+    (𝓓 .map .rotation (2 * e + 1)) (𝓓 .capacity (2 * e)) (𝓓 .capacity (2 * e + 1))
 
 -- the first n edges
 unfoldable pub encodeEdges : Drawing → ℕ → List ℕ

@@ -1,5 +1,6 @@
--- A sheet's bytes, and the checks 1 to 8 on them. Document 01, "Records of a sheet": "Kind 1, head: node count, channel count (16 each). Kind 2, channel: tail,
--- head, turn of dart 2e, turn of dart 2e+1 (16 each), forward limit, back limit (32 each)." "A sheet is one head and then its channels in order, nothing after."
+-- A sheet's bytes, and the checks 1 to 8 on them. Document 01, "Records of a sheet": "Kind 1, head: node
+-- count, channel count (16 each). Kind 2, channel: tail, head, turn of dart 2e, turn of dart 2e+1 (16 each),
+-- forward limit, back limit (32 each)." "A sheet is one head and then its channels in order, nothing after."
 use Prim.Native.Nat.{ℕ, _+_, _*_, _/_, _%_, _<_}
 use mathlib.Core.Bool.{cond}
 use mathlib.Core.List.{List, [], _∷_, _++_}

@@ -39,7 +39,8 @@ fn mark_orbit(next: &[u16; 1024], n: usize, start: usize, number: u16, label: &m
 // Numbers the orbits from 0 in order of their lowest members, and says how many they are. The first place of an orbit that the loop meets is its lowest.
 fn number_orbits(next: &[u16; 1024], n: usize, label: &mut [u16; 1024]) -> usize
     requires { ⌜ (length (now label) ≡ 1024) × (n ≤ 1024) × Permutes n (at (now next)) ⌝ }
-    ensures { λ r. ⌜ (length (now (label .exit)) ≡ 1024) × (r ≡ orbits n (at (now (next .entry)))) × ((d : ℕ) → d < n → at (now (label .exit)) d ≡ orbitOf n (at (now (next .entry))) d) ⌝ }
+    ensures { λ r. ⌜ (length (now (label .exit)) ≡ 1024) × (r ≡ orbits n (at (now (next .entry))))
+        × ((d : ℕ) → d < n → at (now (label .exit)) d ≡ orbitOf n (at (now (next .entry))) d) ⌝ }
 {
     traversal::unmark_all(label);
     let mut f: usize = 0;
@@ -88,7 +89,8 @@ fn enter_all<'a>(
     n: usize,
     table: &mut [u16; 1024],
 ) -> bool
-    requires { ⌜ (n ≤ 1024) × (length (now table) ≡ 1024) × ((k : ℕ) → at (now table) k ≡ 0) × ((d : ℕ) → d < n → at (now keys) d < 1024) × ((d : ℕ) → d < n → at (now values) d < 1024) ⌝ }
+    requires { ⌜ (n ≤ 1024) × (length (now table) ≡ 1024) × ((k : ℕ) → at (now table) k ≡ 0)
+        × ((d : ℕ) → d < n → at (now keys) d < 1024) × ((d : ℕ) → d < n → at (now values) d < 1024) ⌝ }
     ensures { λ r. ⌜ (length (now (table .exit)) ≡ 1024) × Entered (at (now (keys .entry))) (at (now (values .entry))) (at (now (table .exit))) n r ⌝ }
 {
     let mut d: usize = 0;
@@ -128,7 +130,8 @@ fn node_fault<'a>(
     nodes: usize,
     edges: usize,
 ) -> bool
-    requires { ⌜ (edges ≤ 512) × (nodes ≤ 1024) × InRange (mapOf nodes edges (now tails) (now rotations)) × (RotationFault (mapOf nodes edges (now tails) (now rotations)) → ⊥) ⌝ }
+    requires { ⌜ (edges ≤ 512) × (nodes ≤ 1024) × InRange (mapOf nodes edges (now tails) (now rotations))
+        × (RotationFault (mapOf nodes edges (now tails) (now rotations)) → ⊥) ⌝ }
     ensures { λ r. ⌜ Decides (NodeFault (mapOf nodes edges (now (tails .entry)) (now (rotations .entry)))) r ⌝ }
 {
     let darts = 2 * edges;
@@ -197,7 +200,8 @@ pub fn check_map<'a>(
     lefts: &mut [u16; 1024],
 ) -> Checked
     requires { ⌜ (0 < edges) × (edges ≤ 512) × (nodes ≤ 1024) × (length (now lefts) ≡ 1024) × InRange (mapOf nodes edges (now tails) (now rotations)) ⌝ }
-    ensures { λ r. ⌜ (length (now (lefts .exit)) ≡ 1024) × MapJudged (mapOf nodes edges (now (tails .entry)) (now (rotations .entry))) (at (now (lefts .exit))) (r .faces) (r .verdict) ⌝ }
+    ensures { λ r. ⌜ (length (now (lefts .exit)) ≡ 1024)
+        × MapJudged (mapOf nodes edges (now (tails .entry)) (now (rotations .entry))) (at (now (lefts .exit))) (r .faces) (r .verdict) ⌝ }
 {
     if rotation_fault(tails, rotations, nodes, edges) {
         return refused(9);

@@ -84,14 +84,17 @@ module _ (s : List ℕ) where
     drawn : NoneOf (drawingChecks (sheetDrawing s))
     unfolding drawingChecks
     drawn =
-        none-append (countChecks (nodesOf s) (edgesOf s)) (inTurn (edgesOf s) (edgeChecks (sheetDrawing s)) ++ mapChecks (sheetMap s)) (head-range s (bytes-head s passed))
-        (none-append (inTurn (edgesOf s) (edgeChecks (sheetDrawing s))) (mapChecks (sheetMap s)) (none-in-turn (edgesOf s) (edgeChecks (sheetDrawing s)) (bytes-drawn s passed)) (sheet-map s accepted))
+        none-append (countChecks (nodesOf s) (edgesOf s))
+        (inTurn (edgesOf s) (edgeChecks (sheetDrawing s)) ++ mapChecks (sheetMap s)) (head-range s (bytes-head s passed))
+        (none-append (inTurn (edgesOf s) (edgeChecks (sheetDrawing s))) (mapChecks (sheetMap s))
+        (none-in-turn (edgesOf s) (edgeChecks (sheetDrawing s)) (bytes-drawn s passed)) (sheet-map s accepted))
 
     size : edgeAt (edgesIn tails) ≡ length s
     size = ap edgeAt half ∙ sym (bytes-length s passed)
 
     -- Write, given what Read gave, writes the sheet again
-    pub write-undoes-read : ((i : ℕ) → getD s i 0 < 256) → (out out' : List ℕ) → length s ≤ length out → (a : WriteAnswer) → Writes (nodesOf s) tails rotations capacities out out' a
+    pub write-undoes-read : ((i : ℕ) → getD s i 0 < 256) → (out out' : List ℕ) → length s ≤ length out
+        → (a : WriteAnswer) → Writes (nodesOf s) tails rotations capacities out out' a
         → (a ≡ write.Bytes (length s)) × (out' ≡ s ++ drop (length s) out)
     write-undoes-read bytes out out' room (write.Refused k p) h = absurd (first-none (writeChecks (nodesOf s) tails rotations capacities out) k p (h .0) whole)
       where
@@ -107,7 +110,8 @@ module _ (s : List ℕ) where
         (ap write.Bytes (h .1 ∙ size), h .2 ∙ ap₂ (λ b k. b ++ drop k out) (ap encode slices-are ∙ encode-sheet s bytes passed) (h .1 ∙ size))
 
 -- ── from slices to bytes to slices ──
-module _ (nodes : ℕ) (tails rotations : List ℕ) (capacities : List ℤ) (out : List ℕ) (accepted : NoneOf (writeChecks nodes tails rotations capacities out)) where
+module _ (nodes : ℕ) (tails rotations : List ℕ) (capacities : List ℤ) (out : List ℕ)
+    (accepted : NoneOf (writeChecks nodes tails rotations capacities out)) where
   abbrev drawing : Drawing
   drawing = slicesDrawing nodes tails rotations capacities
 
@@ -175,6 +179,12 @@ module _ (nodes : ℕ) (tails rotations : List ℕ) (capacities : List ℤ) (out
     read-undoes-write (read.Counts n e) h = (
       ap₂ read.Counts (h .1 ∙ ap (λ 𝓓. 𝓓 .map .nodes) read-again) (h .2 ∙ ap (λ 𝓓. 𝓓 .map .edges) read-again),
       h .3 ∙ ap₂ (λ x k. x ++ drop k t) (table-again 0 _ tails (tailOf (encode drawing)) (ap (λ 𝓓. 𝓓 .map .tail) read-again) same-edges) same-edges,
-      h .4 ∙ ap₂ (λ x k. x ++ drop k r) (table-again 0 _ rotations (rotationOf (encode drawing)) (ap (λ 𝓓. 𝓓 .map .rotation) read-again) (same-edges ∙ sym (same-lengths .0))) (same-edges ∙ sym (same-lengths .0)),
-      h .5 ∙ ap₂ (λ x k. x ++ drop k c) (table-again (pos 0) _ capacities (capacityOf (encode drawing)) (ap (λ 𝓓. 𝓓 .capacity) read-again) (same-edges ∙ sym (same-lengths .1))) (same-edges ∙ sym (same-lengths .1)),
+      h .4
+          ∙ ap₂ (λ x k. x ++ drop k r)
+          (table-again 0 _ rotations (rotationOf (encode drawing)) (ap (λ 𝓓. 𝓓 .map .rotation) read-again) (same-edges ∙ sym (same-lengths .0)))
+          (same-edges ∙ sym (same-lengths .0)),
+      h .5
+          ∙ ap₂ (λ x k. x ++ drop k c)
+          (table-again (pos 0) _ capacities (capacityOf (encode drawing)) (ap (λ 𝓓. 𝓓 .capacity) read-again) (same-edges ∙ sym (same-lengths .1)))
+          (same-edges ∙ sym (same-lengths .1)),
     )

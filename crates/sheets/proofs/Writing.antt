@@ -37,7 +37,8 @@ loaded {to} from φ d = go (decLt d (length from))
     go (yes l) = φ .low d l
     go (no l) = φ .high d (omega (arith, l)) ∙ sym (List·getD-eq-default from 0 {n = d} (omega (arith, l)))
 
-pub loaded-map : (nodes edges : ℕ) (t r : List ℕ) (tails rotations : List ℕ) → ((d : ℕ) → at t d ≡ at tails d) → ((d : ℕ) → at r d ≡ at rotations d) → mapOf nodes edges t r ≡ mapOf nodes edges tails rotations
+pub loaded-map : (nodes edges : ℕ) (t r : List ℕ) (tails rotations : List ℕ) → ((d : ℕ) → at t d ≡ at tails d)
+    → ((d : ℕ) → at r d ≡ at rotations d) → mapOf nodes edges t r ≡ mapOf nodes edges tails rotations
 loaded-map nodes edges t r tails rotations p q = λ i. record { nodes = nodes; edges = edges; tail = fun-ext p i; rotation = fun-ext q i }
 
 -- ── the checks on slices ──
@@ -87,19 +88,24 @@ module _ (𝓓 : Drawing) (old : List ℕ) where
   write-step e l next so-far h =
       h
       ∙ put-after (edgeAt e) (encodeHead 𝓓 ++ encodeEdges 𝓓 e) (encodeEdge 𝓓 e) old l so-far (front-length 𝓓 e)
-      ∙ ap₂ (λ x k. x ++ drop k old) (append-assoc (encodeHead 𝓓) (encodeEdges 𝓓 e) (encodeEdge 𝓓 e) ∙ ap (λ n. encodeHead 𝓓 ++ encodeEdges 𝓓 n) (sym (add-one e))) ends
+      ∙ ap₂ (λ x k. x ++ drop k old)
+      (append-assoc (encodeHead 𝓓) (encodeEdges 𝓓 e) (encodeEdge 𝓓 e) ∙ ap (λ n. encodeHead 𝓓 ++ encodeEdges 𝓓 n) (sym (add-one e))) ends
     where
       ends : edgeAt e + length (encodeEdge 𝓓 e) ≡ edgeAt (e + 1)
       ends = omega (arith, edge-length 𝓓 e)
 
-  pub write-end : (e : ℕ) (l : List ℕ) → e ≡ 𝓓 .map .edges → l ≡ (encodeHead 𝓓 ++ encodeEdges 𝓓 e) ++ drop (edgeAt e) old → l ≡ encode 𝓓 ++ drop (edgeAt (𝓓 .map .edges)) old
+  pub write-end : (e : ℕ) (l : List ℕ) → e ≡ 𝓓 .map .edges
+      → l ≡ (encodeHead 𝓓 ++ encodeEdges 𝓓 e) ++ drop (edgeAt e) old → l ≡ encode 𝓓 ++ drop (edgeAt (𝓓 .map .edges)) old
   unfolding encode
   write-end e l h so-far = so-far ∙ ap (λ n. (encodeHead 𝓓 ++ encodeEdges 𝓓 n) ++ drop (edgeAt n) old) h
 
 -- the head, at the front of what was there
-pub head-written : (𝓓 : Drawing) (old l : List ℕ) (edges : ℕ) → edges ≡ 𝓓 .map .edges → l ≡ put 0 (headBytes (𝓓 .map .nodes) edges) old → l ≡ encodeHead 𝓓 ++ drop (recordLength 1) old
+pub head-written : (𝓓 : Drawing) (old l : List ℕ) (edges : ℕ) → edges ≡ 𝓓 .map .edges
+    → l ≡ put 0 (headBytes (𝓓 .map .nodes) edges) old → l ≡ encodeHead 𝓓 ++ drop (recordLength 1) old
 unfolding put encodeHead le16
-head-written 𝓓 old l edges e h = h ∙ ap (λ m. headBytes (𝓓 .map .nodes) m ++ drop (length (headBytes (𝓓 .map .nodes) m)) old) e ∙ ap (λ k. headBytes (𝓓 .map .nodes) (𝓓 .map .edges) ++ drop k old) (head-length 𝓓)
+head-written 𝓓 old l edges e h =
+    h ∙ ap (λ m. headBytes (𝓓 .map .nodes) m ++ drop (length (headBytes (𝓓 .map .nodes) m)) old) e
+    ∙ ap (λ k. headBytes (𝓓 .map .nodes) (𝓓 .map .edges) ++ drop k old) (head-length 𝓓)
 
 -- ── the ways out ──
 module _ (nodes : ℕ) (tails rotations : List ℕ) (capacities : List ℤ) (out : List ℕ) where

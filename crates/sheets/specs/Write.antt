@@ -1,5 +1,5 @@
--- Write. Document 01, "Operations": "Write takes a node count and those three slices, fills bytes and gives their number. First 16: input slices of unequal or odd
--- length. Then 3, 4, 5, 6, 7, 9, 10, 11, 12 as for a sheet, 4 to 7 channel by channel; then 16 output shorter than the sheet."
+-- Write. Document 01, "Operations": "Write takes a node count and those three slices, fills bytes and gives their number. First 16: input slices of unequal or
+-- odd length. Then 3, 4, 5, 6, 7, 9, 10, 11, 12 as for a sheet, 4 to 7 channel by channel; then 16 output shorter than the sheet."
 use Prim.Native.Nat.{ℕ, _*_, _/_, _%_, _+_, _<_}
 use mathlib.Core.Path.{_≡_}
 use mathlib.Core.Logic.{_⊎_, _≢_}

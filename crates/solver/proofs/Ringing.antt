@@ -1,5 +1,5 @@
--- From a ring of parents to a set of nodes: its winding is that of a walk over faces of length below zero, so the heights of the nodes are heights of that winding,
--- and some threshold has a cut below zero.
+-- From a ring of parents to a set of nodes: its winding is that of a walk over faces of length below zero, so the heights of the nodes are heights of that
+-- winding, and some threshold has a cut below zero.
 use mathlib.Core.Path.{_≡_, refl, sym, _∙_, ap, ap₂, subst}
 use mathlib.Core.List.{List}
 use Prim.Native.Nat.{ℕ, _+_, _*_, _%_, _≤_, _<_}
@@ -37,9 +37,12 @@ module _ {𝓜 : Map} {N : Dual} {parent : ℕ → ℕ} {y : ℕ} (q : Ringed �
   pub ring-round : Round (N .right) parent (N .darts) y
   ring-round = round-of (q .few-faces) (q .ring)
 
-  module _ {order from : ℕ → ℕ} {start met : ℕ} (ξ : Spread (darts 𝓜) (𝓜 .rotation) start order from met) {wd : ℕ → ℤ} (wound : Wound (N .right) parent (N .darts) y wd) where
+  module _ {order from : ℕ → ℕ} {start met : ℕ} (ξ : Spread (darts 𝓜) (𝓜 .rotation) start order from met)
+      {wd : ℕ → ℤ} (wound : Wound (N .right) parent (N .darts) y wd) where
     pub heights-fillable : heights.Fillable (darts 𝓜) (𝓜 .tail) order from wd
-    heights-fillable = sound-fillable (q .plane .sound) (q .few-nodes) few-darts ξ (connected-full (q .plane .sound) ξ (q .plane .connected)) (λ d l. wound .limited d (omega (arith, q .of .darts-are)))
+    heights-fillable =
+        sound-fillable (q .plane .sound) (q .few-nodes) few-darts ξ (connected-full (q .plane .sound) ξ (q .plane .connected))
+        (λ d l. wound .limited d (omega (arith, q .of .darts-are)))
 
     module _ {height : ℕ → ℤ} (filled : heights.Filled (darts 𝓜) (𝓜 .tail) (order 0) wd height) where
       walk : (w : FaceWalk 𝓜 y y) × (total (N .length) w <ℤ pos 0) × ((d : ℕ) → d < N .darts → wd d ≡ winding w d)
@@ -47,7 +50,9 @@ module _ {𝓜 : Map} {N : Dual} {parent : ℕ → ℕ} {y : ℕ} (q : Ringed �
 
       -- the winding is the difference of the heights found
       found-heights : Heights 𝓜 (winding (walk .0)) height
-      found-heights d l = known d l ∙ sym (ap₂ _-ℤ_ (at-node d l) (at-node (rev d) (rev-in (𝓜 .edges) d l)) ∙ shift (H (𝓜 .tail d)) (H (𝓜 .tail (rev d))) (H (𝓜 .tail (order 0))))
+      found-heights d l =
+          known d l
+          ∙ sym (ap₂ _-ℤ_ (at-node d l) (at-node (rev d) (rev-in (𝓜 .edges) d l)) ∙ shift (H (𝓜 .tail d)) (H (𝓜 .tail (rev d))) (H (𝓜 .tail (order 0))))
         where
           H : ℕ → ℤ
           H = ring-heights-exist (q .plane) (walk .0) .0

@@ -1,4 +1,5 @@
-// Numbers in base ten, written into a lent slice of bytes. Document 01: "Numbers are in base ten." Each function writes at a place and returns the place behind.
+// Numbers in base ten, written into a lent slice of bytes. Document 01: "Numbers are in base ten."
+// Each function writes at a place and returns the place behind.
 ghost use mathlib.Core.Path.{_≡_};
 ghost use Prim.Native.Nat.{_+_, _%_, _≤_};
 ghost use lib.ListN.{length};

@@ -41,7 +41,8 @@ fn add(
     origin: usize,
 ) -> usize
     requires { ⌜ (length (now order) ≡ 1024) × (length (now from) ≡ 1024) × (d < 1024) × (origin < 1024) × (at (now from) d ≡ unmarked → end < 1024) ⌝ }
-    ensures { λ r. ⌜ (length (now (order .exit)) ≡ 1024) × (length (now (from .exit)) ≡ 1024) × Added d origin (at (now (from .entry))) (at (now (from .exit))) (at (now (order .entry))) (at (now (order .exit))) end r ⌝ }
+    ensures { λ r. ⌜ (length (now (order .exit)) ≡ 1024) × (length (now (from .exit)) ≡ 1024)
+        × Added d origin (at (now (from .entry))) (at (now (from .exit))) (at (now (order .entry))) (at (now (order .exit))) end r ⌝ }
 {
     if from[d] != UNMARKED {
         return end;
@@ -59,8 +60,10 @@ pub fn spread(
     order: &mut [u16; 1024],
     from: &mut [u16; 1024],
 ) -> usize
-    requires { ⌜ (length (now order) ≡ 1024) × (length (now from) ≡ 1024) × (darts ≤ 1024) × (darts % 2 ≡ 0) × (start < darts) × ((d : ℕ) → d < darts → at (now rotations) d < darts) ⌝ }
-    ensures { λ r. ⌜ (length (now (order .exit)) ≡ 1024) × (length (now (from .exit)) ≡ 1024) × Spread darts (at (now (rotations .entry))) start (at (now (order .exit))) (at (now (from .exit))) r ⌝ }
+    requires { ⌜ (length (now order) ≡ 1024) × (length (now from) ≡ 1024) × (darts ≤ 1024)
+        × (darts % 2 ≡ 0) × (start < darts) × ((d : ℕ) → d < darts → at (now rotations) d < darts) ⌝ }
+    ensures { λ r. ⌜ (length (now (order .exit)) ≡ 1024) × (length (now (from .exit)) ≡ 1024)
+        × Spread darts (at (now (rotations .entry))) start (at (now (order .exit))) (at (now (from .exit))) r ⌝ }
 {
     unmark_all(from);
     from[start] = arrays::narrow(start);

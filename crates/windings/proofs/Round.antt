@@ -1,4 +1,5 @@
--- The way round, pass by pass: the face reached is so many steps up from y, the winding so far counts the parents crossed, and y is not met again before the end.
+-- The way round, pass by pass: the face reached is so many steps up from y, the winding so far counts the parents crossed,
+-- and y is not met again before the end.
 use mathlib.Core.Path.{_≡_, refl, sym, _∙_, ap, ap₂, subst}
 use mathlib.Core.Logic.{_≢_}
 use mathlib.Core.Bool.{Bool, true, false, cond}

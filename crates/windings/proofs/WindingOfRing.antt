@@ -1,5 +1,5 @@
--- For who calls the search on a drawing and then asks for the winding: the ring of parents is a walk over faces of the map, of total length below zero, and the winding
--- filled in is the winding of that walk.
+-- For who calls the search on a drawing and then asks for the winding: the ring of parents is a walk over faces of the map, of total length below zero, and the
+-- winding filled in is the winding of that walk.
 use mathlib.Core.Path.{_≡_, refl, sym, _∙_, ap}
 use mathlib.Core.Bool.{Bool, true, false}
 use mathlib.Core.List.{List}

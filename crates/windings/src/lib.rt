@@ -28,8 +28,10 @@ pub fn fill_winding(
     y: usize,
     winding: &mut [i32; 1024],
 )
-    requires { ⌜ (length (now winding) ≡ 1024) × (darts ≤ 1024) × (darts % 2 ≡ 0) × Round (rightOf (now lefts)) (at (now parents)) darts y × ((d : ℕ) → atℤ (now winding) d ≡ pos 0) ⌝ }
-    ensures { λ _. ⌜ (length (now (winding .exit)) ≡ 1024) × Wound (rightOf (now (lefts .entry))) (at (now (parents .entry))) darts y (atℤ (now (winding .exit))) ⌝ }
+    requires { ⌜ (length (now winding) ≡ 1024) × (darts ≤ 1024) × (darts % 2 ≡ 0)
+        × Round (rightOf (now lefts)) (at (now parents)) darts y × ((d : ℕ) → atℤ (now winding) d ≡ pos 0) ⌝ }
+    ensures { λ _. ⌜ (length (now (winding .exit)) ≡ 1024)
+        × Wound (rightOf (now (lefts .entry))) (at (now (parents .entry))) darts y (atℤ (now (winding .exit))) ⌝ }
 {
     let mut x = y;
     loop {

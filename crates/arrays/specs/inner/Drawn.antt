@@ -1,5 +1,5 @@
--- A plane map with its faces and capacities in arrays, as the functions on arrays take it. Only their contracts cite this: an operation on a sheet has none of it as a
--- condition, but shows it.
+-- A plane map with its faces and capacities in arrays, as the functions on arrays take it.
+-- Only their contracts cite this: an operation on a sheet has none of it as a condition, but shows it.
 use mathlib.Core.Path.{_≡_}
 use Prim.Native.Nat.{ℕ, _≤_, _<_}
 use lib.IntN.{ℤ, pos, _+ℤ_}

@@ -48,7 +48,8 @@ add-at-requires c κs =
       o .inv .1,
       w,
       rw (number-of-bits (atℤ (s .args .flows .now) (o .e)) (record { sfits = c .add-at-arg2 .given }), o .inv .2 (c .before .wide .result) w)
-          (added-fits (at (s .args .tails .now)) (atℤ (s .args .flows .now)) (s .args .edges) (s .pre .4) (o .e) (c .before .wide .result) (omega arith) (s .pre .0)),
+          (added-fits (at (s .args .tails .now)) (atℤ (s .args .flows .now)) (s .args .edges)
+          (s .pre .4) (o .e) (c .before .wide .result) (omega arith) (s .pre .0)),
     )
 
 mul-wide-3 : tie.Need-mul-wide-3 Inv-loop μ-loop

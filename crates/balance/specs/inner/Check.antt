@@ -18,4 +18,5 @@ offChecks nodes a b nets = inTurn nodes (λ v. (18 at v when Off a b nets v) ∷
 
 -- the verdict of "18 for any node" on a map with these nodes, edges and tails; its rotations have no part in it
 abbrev pub JudgedAll : (nodes edges : ℕ) → (ℕ → ℕ) → (ℕ → ℤ) → Verdict → Type 0
-JudgedAll nodes edges tail x r = (rotation : ℕ → ℕ) → Judged (balanceChecks (record { nodes = nodes; edges = edges; tail = tail; rotation = rotation }) NoNode x) r
+JudgedAll nodes edges tail x r =
+    (rotation : ℕ → ℕ) → Judged (balanceChecks (record { nodes = nodes; edges = edges; tail = tail; rotation = rotation }) NoNode x) r

@@ -20,7 +20,9 @@ use Rattle.signed.proofs.narrow.Reads as narrow-reads
 abbrev Added : Type 0
 Added = lts.After-total (total-reads.Asked, total-reads.Learnt, narrow-reads.Asked, narrow-reads.Learnt) reads.Pre reads.Post
 
-sum-is : (c : Added) → toZ w64 (ofZ w64 (c .total .result)) ≡ cutOf (c .before .args .darts) (at (c .before .args .tails .now)) (atℤ (c .before .args .capacities .now)) (flagged (c .before .args .inside .now))
+sum-is : (c : Added)
+    → toZ w64 (ofZ w64 (c .total .result))
+    ≡ cutOf (c .before .args .darts) (at (c .before .args .tails .now)) (atℤ (c .before .args .capacities .now)) (flagged (c .before .args .inside .now))
 sum-is c = toZ-ofZ w64 _ (record { sfits = c .total .ok }) ∙ c .total .ensures
 
 total-requires : tie.Need-total-requires

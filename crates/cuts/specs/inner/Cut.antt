@@ -1,4 +1,5 @@
--- The cut of a set of nodes, over arrays: the sum of the lengths of the darts with tail in the set and head outside it. It is `cut` of any map with these tails.
+-- The cut of a set of nodes, over arrays: the sum of the lengths of the darts with tail in the set and head outside it.
+-- It is `cut` of any map with these tails.
 use Prim.Native.Nat.{ℕ}
 use mathlib.Core.Bool.{Bool, not, _&&_}
 use lib.IntN.{ℤ}

@@ -1,5 +1,5 @@
--- The flow of an edge that potentials of the faces and the lengths of the darts give: the drop from the face left of dart 2e to the face right of it, and what the
--- capacity of that dart is more than its length, which is what the value carries along it.
+-- The flow of an edge that potentials of the faces and the lengths of the darts give: the drop from the face left of dart 2e to the face right of it, and what
+-- the capacity of that dart is more than its length, which is what the value carries along it.
 use Prim.Native.Nat.{ℕ, _*_, _<_}
 use lib.IntN.{ℤ, _+ℤ_, _-ℤ_}
 use Rattle.integers.specs.inner.Limited.{Limited}

@@ -1,4 +1,5 @@
--- Heights of the nodes from the differences along the darts ("winding"), in the order in which a walk over the darts met them: what filling them needs, and what it leaves.
+-- Heights of the nodes from the differences along the darts ("winding"), in the order in which a walk over the darts met them:
+-- what filling them needs, and what it leaves.
 use mathlib.Core.Path.{_≡_}
 use Prim.Native.Nat.{ℕ, _≤_, _<_}
 use lib.IntN.{ℤ, pos, negℤ, _-ℤ_}

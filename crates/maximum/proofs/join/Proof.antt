@@ -26,7 +26,8 @@ UnionTotal c =
 union-total : (c : tie.After-capacity) → UnionTotal c
 union-total c =
     let s = c .before .before .before .before .before in
-    number-of-bits _ (record { sfits = c .capacity .ok }) ∙ c .capacity .ensures ∙ cut-flags _ _ _ _ _ (s .pre .2) (s .pre .3) (c .before .before .unite .ensures .1)
+    number-of-bits _ (record { sfits = c .capacity .ok }) ∙ c .capacity .ensures
+    ∙ cut-flags _ _ _ _ _ (s .pre .2) (s .pre .3) (c .before .before .unite .ensures .1)
 
 unite-requires : tie.Need-unite-requires
 unite-requires c κs = search needs

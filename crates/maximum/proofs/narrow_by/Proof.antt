@@ -34,7 +34,8 @@ third side.Beside g h = refl
 abbrev Total : tie.After-capacity → Type 0
 Total c =
     let s = c .before in
-    toZ w32 (ofZ w32 (c .capacity .result)) ≡ cutOf (s .args .darts) (at (s .args .tails .now)) (atℤ (s .args .capacities .now)) (flagged (s .args .inside .now))
+    toZ w32 (ofZ w32 (c .capacity .result))
+    ≡ cutOf (s .args .darts) (at (s .args .tails .now)) (atℤ (s .args .capacities .now)) (flagged (s .args .inside .now))
 
 total-is : (c : tie.After-capacity) → Total c
 total-is c = number-of-bits _ (record { sfits = c .capacity .ok }) ∙ c .capacity .ensures

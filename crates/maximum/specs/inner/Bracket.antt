@@ -1,5 +1,5 @@
--- What is known of the largest value between two probes: nothing above `high` can be carried, and `low` is carried, or nothing below it can be. Only the contracts below the
--- operation cite this file.
+-- What is known of the largest value between two probes: nothing above `high` can be carried, and `low` is carried, or nothing below it can be. Only the
+-- contracts below the operation cite this file.
 use mathlib.Core.Path.{_≡_}
 use mathlib.Core.Bool.{Bool, true, false}
 use mathlib.Core.List.{List}
@@ -17,8 +17,8 @@ pub record Ceiling (𝓜 : Map) (c : ℕ → ℤ) (s t : ℕ) (A : ℕ → Bool)
   pub side : AtSource s t A
   pub is-cut : high ≡ cut 𝓜 c A
 
--- found: `low` is carried, and its highest flow stands in the slice. Not yet: the slice is as it was, and `low` is the negative of the cut of the set B, which holds the
--- sink and not the source.
+-- found: `low` is carried, and its highest flow stands in the slice.
+-- Not yet: the slice is as it was, and `low` is the negative of the cut of the set B, which holds the sink and not the source.
 abbrev pub Floor : Map → (outer : ℕ) → (ℕ → ℤ) → (s t : ℕ) → (before flows : List ℤ) → (ℕ → Bool) → ℤ → Bool → Type 0
 Floor 𝓜 outer c s t before flows B low true = (x : ℕ → ℤ) × Highest 𝓜 outer c s t low x × (flows ≡ filled (𝓜 .edges) x before)
 Floor 𝓜 outer c s t before flows B low false = (flows ≡ before) × AtSink s t B × (low ≡ negℤ (cut 𝓜 c B))

@@ -1,5 +1,5 @@
--- The largest value that can be carried, with its highest flow and a set around the source whose cut it is; or that there is none, with a set beside source and sink whose
--- cut is below zero.
+-- The largest value that can be carried, with its highest flow and a set around the source whose cut it is;
+-- or that there is none, with a set beside source and sink whose cut is below zero.
 use mathlib.Core.Path.{_≡_}
 use mathlib.Core.List.{List}
 use Prim.Native.Nat.{ℕ}

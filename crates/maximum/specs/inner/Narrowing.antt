@@ -1,4 +1,5 @@
--- What a proving set does to the two bounds: a set at the source lowers `high` to its cut, a set at the sink raises `low` to the negative of its cut, a set beside both ends it.
+-- What a proving set does to the two bounds: a set at the source lowers `high` to its cut,
+-- a set at the sink raises `low` to the negative of its cut, a set beside both ends it.
 use mathlib.Core.Path.{_≡_}
 use mathlib.Core.Bool.{true, false}
 use mathlib.Core.Logic.{_⊎_}

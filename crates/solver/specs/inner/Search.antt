@@ -1,5 +1,5 @@
--- The three steps of a decision: the lengths of the darts for a value, the search on the dual graph, which ends with flows or with a ring, and the set of nodes made
--- from a ring.
+-- The three steps of a decision: the lengths of the darts for a value, the search on the dual graph, which ends with flows or with a ring,
+-- and the set of nodes made from a ring.
 use mathlib.Core.Path.{_≡_}
 use mathlib.Core.List.{List}
 use Prim.Native.Nat.{ℕ, _*_, _≤_, _<_}
