@@ -30,11 +30,11 @@ use Rattle.flows.proofs.Exact.{negative-proves, length-pairs}
 use Rattle.arrays.specs.At.{at, atℤ}
 use Rattle.arrays.proofs.Tabulate.{tabulate-ext}
 use Rattle.arrays.specs.Filled.{filled}
-use Rattle.search.specs.Dual.{Dual, dualOf}
-use Rattle.search.specs.Parents.{ParentRing}
-use Rattle.search.specs.Settled.{Settled}
+use Rattle.search.specs.inner.Dual.{Dual, dualOf}
+use Rattle.search.specs.inner.Parents.{ParentRing}
+use Rattle.search.specs.inner.Settled.{Settled}
 use Rattle.search.proofs.OfMap.{sound-of-map, joined-of-map}
-use Rattle.search.specs.OfMap.{OfMap}
+use Rattle.search.specs.inner.OfMap.{OfMap}
 use Rattle.search.proofs.Highest as settled
 use Rattle.edge_flows.specs.inner.Flow.{flowOf}
 use Rattle.arrays.specs.inner.Drawn.{Drawn}

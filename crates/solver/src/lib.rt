@@ -11,7 +11,7 @@ ghost use Rattle.integers.specs.inner.Limited.{Limited};
 ghost use Rattle.maps.specs.Cut.{cut};
 ghost use Rattle.flows.specs.inner.Plane.{Plane};
 ghost use Rattle.arrays.specs.At.{at, atℤ};
-ghost use Rattle.search.specs.Dual.{dualOf};
+ghost use Rattle.search.specs.inner.Dual.{dualOf};
 ghost use Rattle.arrays.specs.inner.Drawn.{Drawn};
 ghost use Rattle.solver.specs.inner.Ends.{Ends};
 ghost use Rattle.arrays.specs.Maps.{mapOf};

@@ -4,7 +4,7 @@ use mathlib.Core.List.{List, [], _∷_}
 use Prim.Native.Nat.{ℕ, _<_}
 use lib.IntN.{ℤ, pos, _+ℤ_}
 use lib.Signed.{_<ℤ_}
-use Rattle.search.specs.Dual.{Dual}
+use Rattle.search.specs.inner.Dual.{Dual}
 
 -- z is the total length of a walk over faces from the root to f
 pub data Walk (N : Dual) : ℕ → ℤ → Type 0 where

@@ -8,9 +8,9 @@ use lib.ListN.{length, set}
 use lib.IntN.{ℤ, pos, _+ℤ_}
 use lib.Signed.{mag, _≤ℤ_, _<ℤ_}
 use Rattle.maps.specs.Orbit.{iter}
-use Rattle.search.specs.Dual.{Dual, longest}
-use Rattle.search.specs.Walk.{Walk}
-use Rattle.search.specs.Parents.{up}
+use Rattle.search.specs.inner.Dual.{Dual, longest}
+use Rattle.search.specs.inner.Walk.{Walk}
+use Rattle.search.specs.inner.Parents.{up}
 use Rattle.arrays.specs.At.{atℤ, at}
 use Rattle.search.specs.declared.Climbed.{Climbed}
 use Rattle.search.specs.declared.Climbed.the-variants as climbed
@@ -70,7 +70,8 @@ pub record State (N : Dual) (ρ : ℕ → ℤ) (parent waiting : ℕ → ℕ) (n
 
 -- a dart that can lower a potential is among those still open, or its right face waits or is not reached
 pub record Quiet (N : Dual) (ρ : ℕ → ℤ) (waiting : ℕ → ℕ) (still-open : ℕ → Type 0) : Type 0 where
-  pub quiet : (d : ℕ) → d < N .darts → (still-open d → ⊥) → (waiting (N .right d) ≡ 1 → ⊥) → (ρ (N .right d) ≡ far → ⊥) → ρ (N .left d) ≤ℤ (ρ (N .right d) +ℤ N .length d)
+  pub quiet : (d : ℕ) → d < N .darts → (still-open d → ⊥) → (waiting (N .right d) ≡ 1 → ⊥)
+      → (ρ (N .right d) ≡ far → ⊥) → ρ (N .left d) ≤ℤ (ρ (N .right d) +ℤ N .length d)
 
 -- in round k, with the faces at the first a places passed, after n lowerings
 pub record Passing (N : Dual) (ρ : List ℤ) (parents waiting : List ℕ) (n k a : ℕ) : Type 0 where

@@ -3,8 +3,8 @@ use mathlib.Core.Path.{_≡_}
 use Prim.Native.Nat.{ℕ, _≤_, _<_}
 use lib.IntN.{ℤ, pos, _+ℤ_}
 use lib.Signed.{mag, _≤ℤ_}
-use Rattle.search.specs.Dual.{Dual}
-use Rattle.search.specs.Walk.{Walk}
+use Rattle.search.specs.inner.Dual.{Dual}
+use Rattle.search.specs.inner.Walk.{Walk}
 
 -- no dart can lower a potential
 abbrev pub Still : Dual → (ℕ → ℤ) → Type 0

@@ -1,4 +1,5 @@
--- The dual graph, which is searched: its places are the faces; crossing the dart d leads from the face right of it to the face left of it and adds the length of d.
+-- The dual graph, which is searched: its places are the faces;
+-- crossing the dart d leads from the face right of it to the face left of it and adds the length of d.
 use mathlib.Core.Path.{_≡_}
 use mathlib.Core.Bool.{Bool}
 use mathlib.Core.List.{List}
@@ -38,4 +39,5 @@ Joined N = (B : ℕ → Bool) → ((d : ℕ) → d < N .darts → B (N .left d) 
 
 -- the dual that the code's arrays hold
 abbrev pub dualOf : List ℕ → List ℤ → ℕ → ℕ → ℕ → Dual
-dualOf lefts lengths darts faces root = record { darts = darts; faces = faces; root = root; left = λ d. getD lefts d 0; right = rightOf lefts; length = λ d. getD lengths d (pos 0) }
+dualOf lefts lengths darts faces root =
+    record { darts = darts; faces = faces; root = root; left = λ d. getD lefts d 0; right = rightOf lefts; length = λ d. getD lengths d (pos 0) }
