@@ -10,3 +10,5 @@ pub mod Encodable
 pub mod Decode
 pub mod EncodeAccepted
 pub mod RoundTripExample
+pub mod Deciding
+pub mod EdgeRead
