@@ -3,3 +3,4 @@ pub mod Unread
 pub mod Joined
 pub mod Answering
 pub mod Demand3
+pub mod Pieces

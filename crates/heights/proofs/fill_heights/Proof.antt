@@ -1,4 +1,5 @@
--- The heights of the nodes, in one pass. Invariant: `Filling`, the pass so far, whose laws are those of `FillingHeights`. The measure is how many darts have yet to be passed.
+-- The heights of the nodes, in one pass. Invariant: `Filling`, the pass so far, whose laws are those of `FillingHeights`.
+-- The measure is how many darts have yet to be passed.
 use mathlib.Core.Path.{_≡_, sym, _∙_, ap}
 use Prim.Native.Nat.{_≤_, _<_, _-_}
 use native.Mathlib.Omega.{arith}

@@ -24,7 +24,8 @@ abbrev turn : tie.After-read-u16 Inv-loop μ-loop → tie.At-loop Inv-loop μ-lo
 turn c = c .before .before .before
 
 -- the field read is the dart's
-field-read : (c : tie.After-read-u16 Inv-loop μ-loop) → c .read-u16 .result ≡ field16 (begun (turn c) .args .s .now) (begun (turn c) .args .first) (turn c .loop .d)
+field-read : (c : tie.After-read-u16 Inv-loop μ-loop)
+    → c .read-u16 .result ≡ field16 (begun (turn c) .args .s .now) (begun (turn c) .args .first) (turn c .loop .d)
 field-read c =
     let a = begun (turn c) .args in
     c .read-u16 .ensures ∙ ap (λ n. u16At (a .s .now) (n + a .first + 2 * (turn c .loop .d % 2))) (c .before .edge-at .ensures)

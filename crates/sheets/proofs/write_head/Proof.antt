@@ -33,7 +33,8 @@ returns c =
     let nodes = nodes-at edges in
     let kind = kind-at nodes in
     let s = begun kind in
-    head-placed (s .args .out .now) (s .args .nodes) (s .args .edges) (s .pre) (kind .write-u8 .ensures) (nodes .write-u16 .ensures) (edges .write-u162 .ensures)
+    let a = s .args in
+    head-placed (a .out .now) (a .nodes) (a .edges) (s .pre) (kind .write-u8 .ensures) (nodes .write-u16 .ensures) (edges .write-u162 .ensures)
 
 pub write-head-spec : {M : Type 1} → statement M
 write-head-spec =
