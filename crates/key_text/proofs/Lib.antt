@@ -4,3 +4,4 @@ pub mod Joined
 pub mod Answering
 pub mod Demand3
 pub mod Pieces
+pub mod Begun

@@ -27,6 +27,10 @@ first-room c =
     let s = begin c in
     placed-room 15 (13 * s .args .edges) _ _ _ _ _ (first c) (can-line-length (s .args .value) (s .pre .1)) (omega (arith, s .pre .0))
 
+-- ── the lines of the edges ──
+abbrev led : tie.After-put-edges → tie.After-put-can-line
+led c = c .before .before .before .before
+
 -- ── the needs, in the order of the code ──
 put-can-line-requires : tie.Need-put-can-line-requires
 put-can-line-requires c κs =
@@ -45,12 +49,13 @@ same-length c = search needs
 returns : tie.Need-returns
 unfolding canText
 returns c =
-    let f = c .before .before .before .before .before .before in
+    let all-lines = c .before .before in
+    let f = led all-lines in
     let s = begin f in
     let flow = atℤ (s .args .flows .now) in
     let line : ℕ → List ℕ = λ e. edgeLine e (flow e) in
     let all = lines-length 13 (s .args .edges) line (λ i h. edge-line-length i (flow i) (omega (arith, s .pre .2)) (s .pre .3 i h)) in
-    placed-then _ _ _ _ _ _ _ _ (first f) (c .before .before .put-edges .ensures) (omega (arith, all, can-line-length (s .args .value) (s .pre .1), s .pre .0))
+    placed-then _ _ _ _ _ _ _ _ (first f) (all-lines .put-edges .ensures) (omega (arith, all, can-line-length (s .args .value) (s .pre .1), s .pre .0))
 
 pub put-can-spec : {M : Type 1} → statement M
 put-can-spec = tie.close (tie.spec put-can-line-requires put-edges-requires same-length returns)

@@ -38,6 +38,10 @@ valued c = placed-as number _ _ _ _ (number-of-bits _ (begin (said c) .fits .val
 value-room : (c : tie.After-put-number) → c .put-number .result + 1 ≤ length (c .put-number .last .0)
 value-room c = placed-room 10 1 _ _ _ _ _ (valued c) (nine-digits (begin (said c))) (word-room (said c))
 
+-- ── a line feed ──
+abbrev told : tie.After-put-bytes2 → tie.After-put-number
+told c = c .before .before .before .before .before
+
 -- ── the needs, in the order of the code ──
 slice-aggregate-put-bytes : tie.Need-slice-aggregate-put-bytes
 slice-aggregate-put-bytes c = search needs
@@ -63,9 +67,10 @@ same-length c = search needs
 returns : tie.Need-returns
 unfolding canLine
 returns c =
-    let n = c .before .before .before .before .before .before .before in
+    let last = c .before .before in
+    let n = told last in
     let s = begin (said n) in
-    three-placed _ _ _ _ _ _ _ _ _ _ _ (word (said n)) (valued n) (c .before .before .put-bytes2 .ensures) (omega (arith, nine-digits s, s .pre .0))
+    three-placed _ _ _ _ _ _ _ _ _ _ _ (word (said n)) (valued n) (last .put-bytes2 .ensures) (omega (arith, nine-digits s, s .pre .0))
 
 pub put-can-line-spec : {M : Type 1} → statement M
 put-can-line-spec =

@@ -27,6 +27,10 @@ short-line c = cannot-line-length (begin c .args .value) (begin c .args .size) (
 first-room : (c : tie.After-put-cannot-line) → c .put-cannot-line .result + 4 * begin c .args .nodes ≤ length (c .put-cannot-line .last .0)
 first-room c = placed-room 24 (4 * begin c .args .nodes) _ _ _ _ _ (first c) (short-line c) (omega (arith, begin c .pre .0))
 
+-- ── the lines of the nodes ──
+abbrev led : tie.After-put-nodes → tie.After-put-cannot-line
+led c = c .before .before .before .before
+
 -- ── the needs, in the order of the code ──
 put-cannot-line-requires : tie.Need-put-cannot-line-requires
 put-cannot-line-requires c κs =
@@ -42,10 +46,11 @@ same-length c = search needs
 returns : tie.Need-returns
 unfolding cannotText
 returns c =
-    let f = c .before .before .before .before .before .before in
+    let all-lines = c .before .before in
+    let f = led all-lines in
     let s = begin f in
     let all = lines-length 4 (s .args .nodes) (nodeLine (s .args .set .now)) (λ i h. node-line-length (s .args .set .now) i (omega (arith, s .pre .2))) in
-    placed-then _ _ _ _ _ _ _ _ (first f) (c .before .before .put-nodes .ensures) (omega (arith, all, short-line f, s .pre .0))
+    placed-then _ _ _ _ _ _ _ _ (first f) (all-lines .put-nodes .ensures) (omega (arith, all, short-line f, s .pre .0))
 
 pub put-cannot-spec : {M : Type 1} → statement M
 put-cannot-spec = tie.close (tie.spec put-cannot-line-requires put-nodes-requires same-length returns)

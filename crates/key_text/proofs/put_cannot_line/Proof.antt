@@ -74,6 +74,10 @@ sized c = placed-as decimal _ _ _ _ (c .before .short .ensures .0) (c .put-decim
 size-room : (c : tie.After-put-decimal) → c .put-decimal .result + 1 ≤ length (c .put-decimal .last .0)
 size-room c = placed-room 5 1 _ _ _ _ _ (sized c) (size-digits (c .before)) (blank-room (measured c))
 
+-- ── a line feed ──
+abbrev counted : tie.After-put-bytes3 → tie.After-put-decimal
+counted c = c .before .before .before .before .before
+
 -- ── the needs, in the order of the code ──
 slice-aggregate-put-bytes : tie.Need-slice-aggregate-put-bytes
 slice-aggregate-put-bytes c = search needs
@@ -111,12 +115,13 @@ same-length c = search needs
 returns : tie.Need-returns
 unfolding cannotLine
 returns c =
-    let d = c .before .before .before .before .before .before .before in
+    let last = c .before .before in
+    let d = counted last in
     let p = measured d in
     let n = told p in
     let s = begin (said n) in
     let five = size-digits (d .before) in
-    let rest = three-placed _ _ _ _ _ _ _ _ _ _ _ (blank p) (sized d) (c .before .before .put-bytes3 .ensures) (omega (arith, five, value-room n)) in
+    let rest = three-placed _ _ _ _ _ _ _ _ _ _ _ (blank p) (sized d) (last .put-bytes3 .ensures) (omega (arith, five, value-room n)) in
     let more = length-append (decimal (s .args .size)) (10 ∷ []) in
     three-placed _ _ _ _ _ _ _ _ _ _ _ (word (said n)) (valued n) rest (omega (arith, nine-digits s, five, more, s .pre .0))
 
