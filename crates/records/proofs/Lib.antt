@@ -11,3 +11,5 @@ pub mod Encodable
 pub mod Decode
 pub mod EncodeAccepted
 pub mod RoundTripExample
+pub mod Deciding
+pub mod EdgeRead

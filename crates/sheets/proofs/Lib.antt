@@ -3,6 +3,8 @@ pub mod Opening
 pub mod Accepted
 pub mod Reading
 pub mod Placing
+pub mod PlacedRecords
+pub mod EdgeOfSlices
 pub mod Writing
 pub mod ThereAndBack
 pub mod Statements

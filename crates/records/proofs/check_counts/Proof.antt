@@ -1,4 +1,4 @@
--- `records::check_counts` meets its contract.
+-- Check 3: a test for each count; it refuses where one of them says yes.
 use mathlib.Core.Path.{refl}
 use mathlib.Core.Logic.{inl, inr}
 use borrow.Author.Needs.{needs}
@@ -25,7 +25,9 @@ returns-2 c = inl (inr (said-yes (c .before .outside2 .ensures) (c .if2 .taken))
 returns-3 : tie.Need-returns-3
 unfolding NoneOf countChecks
 returns-3 c =
-    (neither (said-no (c .before .before .before .outside .ensures) (c .before .before .if1 .left)) (said-no (c .before .outside2 .ensures) (c .if2 .left)), tt)
+    let nodes = c .before .before in
+    let edges = c .before in
+    (neither (said-no (nodes .before .outside .ensures) (nodes .if1 .left)) (said-no (edges .outside2 .ensures) (c .if2 .left)), tt)
 
 pub check-counts-spec : {M : Type 1} → statement M
 check-counts-spec = tie.close (tie.spec outside-requires returns outside-requires-2 returns-2 returns-3)

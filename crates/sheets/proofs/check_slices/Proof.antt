@@ -1,5 +1,6 @@
--- Counts, edges in turn, then the map in arrays: each way out is a verdict of the whole list.
+-- Checks 3 to 7 and 9 to 12: the counts passed, then the edges, then the map is in arrays; each way out is a verdict of the whole list, by a law of `Writing`.
 use mathlib.Core.Path.{_≡_, refl, sym, subst}
+use mathlib.Core.List.{List}
 use Prim.Native.Nat.{ℕ, _≤_}
 use native.Mathlib.Omega.{arith}
 use lib.ListN.{length}
@@ -42,13 +43,21 @@ long c = omega (arith, begun (counted c) .pre .2, counts-range _ _ (counts-passe
 abbrev told : tie.After-load2 → tie.After-enum-told2
 told c = c .before .before .before .before
 
-map-is : (c : tie.After-load2)
-    → mapOf (begun (counted (told c)) .args .nodes) (edgesIn (begun (counted (told c)) .args .tails .now)) (c .before .before .load .last .1 .0) (c .load2 .last .1 .0)
-    ≡ drawn (begun (counted (told c))) .map
-map-is c =
-    let a = begun (counted (told c)) .args in
-    loaded-map (a .nodes) _ (c .before .before .load .last .1 .0) (c .load2 .last .1 .0) (a .tails .now) (a .rotations .now) (c .before .before .load .ensures .1) (c .load2 .ensures .1)
+abbrev start : tie.After-load2 → tie.Start
+start c = begun (counted (told c))
 
+abbrev tails' : tie.After-load2 → List ℕ
+tails' c = c .before .before .load .last .1 .0
+
+abbrev rotations' : tie.After-load2 → List ℕ
+rotations' c = c .load2 .last .1 .0
+
+map-is : (c : tie.After-load2) → mapOf (start c .args .nodes) (edgesIn (start c .args .tails .now)) (tails' c) (rotations' c) ≡ drawn (start c) .map
+map-is c =
+    let a = start c .args in
+    loaded-map (a .nodes) _ (tails' c) (rotations' c) (a .tails .now) (a .rotations .now) (c .before .before .load .ensures .1) (c .load2 .ensures .1)
+
+-- ── the needs, in the order of the code ──
 check-counts-requires : tie.Need-check-counts-requires
 check-counts-requires c κs = search needs
 
@@ -56,7 +65,9 @@ enum-known-counts : tie.Need-enum-known-counts
 enum-known-counts c = search needs
 
 returns : tie.Need-returns
-returns c = let s = c .before .before .before .before .before .before in refused-counts (drawn s) _ _ (rw (c .before .counts .given .1) at (c .before .before .before .check-counts .ensures))
+returns c =
+    let counts = c .before .before .before in
+    refused-counts (drawn (counts .before .before .before)) _ _ (rw (c .before .counts .given .1) at (counts .check-counts .ensures))
 
 enum-told : tie.Need-enum-told
 enum-told c = search needs
@@ -88,7 +99,7 @@ check-map-requires c κs =
     let l = c .before .before .before in
     let t = told l in
     let n = counts-range _ _ (counts-passed (counted t)) in
-    (omega (arith, n .2), n .3, omega (arith, n .1), refl, subst InRange (sym (map-is l)) (turns-range (drawn (begun (counted t))) (edges-passed t)))
+    (omega (arith, n .2), n .3, omega (arith, n .1), refl, subst InRange (sym (map-is l)) (turns-range (drawn (start l)) (edges-passed t)))
 
 returns-3 : tie.Need-returns-3
 returns-3 c =
@@ -97,7 +108,7 @@ returns-3 c =
     let m = c .check-map in
     let v = m .result .verdict in
     let lefts = m .last .1 .1 .1 .1 .0 in
-    judged-map (drawn (begun (counted t))) v (counts-passed (counted t)) (edges-passed t)
+    judged-map (drawn (start l)) v (counts-passed (counted t)) (edges-passed t)
     (map-judged _ (at lefts) (m .result .faces) v (subst (λ 𝓜. MapJudged 𝓜 (at lefts) (m .result .faces) v) (map-is l) (m .ensures .1)))
 
 pub check-slices-spec : {M : Type 1} → statement M

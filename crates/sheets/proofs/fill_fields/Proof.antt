@@ -1,8 +1,7 @@
--- Invariant: the places below d have their fields, the others are as they were.
-use Prim.Native.Nat.{ℕ, _≤_, _<_, _-_, _+_, _*_, _/_, _%_}
-use mathlib.Core.Path.{_≡_, refl, _∙_, ap}
+-- A field of 16 bits of each dart. Invariant: the places below d have their fields, the others are as they were.
+use Prim.Native.Nat.{_≤_, _-_, _+_, _*_, _%_}
+use mathlib.Core.Path.{_≡_, _∙_, ap}
 use native.Mathlib.Omega.{arith}
-use lib.ListN.{length}
 use borrow.Author.Needs.{needs}
 use Rattle.fields.specs.Fields.{u16At}
 use Rattle.arrays.specs.Filled.{filled}
@@ -17,6 +16,21 @@ Inv-loop s first edges to₀ darts d₀ to d = (d ≤ darts) × (to ≡ filled d
 abbrev μ-loop : tie.MeasureT-loop
 μ-loop s first edges to₀ darts d₀ to d = darts - d
 
+-- ── the turn of the loop in which a field is read, and the start ──
+abbrev begun : tie.At-loop Inv-loop μ-loop → tie.Start Inv-loop μ-loop
+begun c = c .before .before .before
+
+abbrev turn : tie.After-read-u16 Inv-loop μ-loop → tie.At-loop Inv-loop μ-loop
+turn c = c .before .before .before
+
+-- the field read is the dart's
+field-read : (c : tie.After-read-u16 Inv-loop μ-loop)
+    → c .read-u16 .result ≡ field16 (begun (turn c) .args .s .now) (begun (turn c) .args .first) (turn c .loop .d)
+field-read c =
+    let a = begun (turn c) .args in
+    c .read-u16 .ensures ∙ ap (λ n. u16At (a .s .now) (n + a .first + 2 * (turn c .loop .d % 2))) (c .before .edge-at .ensures)
+
+-- ── the needs, in the order of the code ──
 mul-darts : tie.Need-mul-darts Inv-loop μ-loop
 mul-darts c = search needs
 
@@ -42,7 +56,7 @@ mul-to : tie.Need-mul-to Inv-loop μ-loop
 mul-to c = search needs
 
 slice-write-to : tie.Need-slice-write-to Inv-loop μ-loop
-slice-write-to c = omega (arith, filled-length _ _ _ _ (c .before .before .before .loop .inv .1) (omega arith))
+slice-write-to c = omega (arith, filled-length _ _ _ _ (turn c .loop .inv .1) (omega arith))
 
 add-d : tie.Need-add-d Inv-loop μ-loop
 add-d c = search needs
@@ -51,22 +65,17 @@ loop-less : tie.Need-loop-less Inv-loop μ-loop
 loop-less c = search needs
 
 loop-again : tie.Need-loop-again Inv-loop μ-loop
-loop-again c =
-    let o = c .before .before .before .loop in
-    let s = c .before .before .before .before .before .before .args .s .now in (
-      omega arith,
-      copy-step _ (o .d) _ _ _ (o .inv .1) (omega arith)
-          (c .read-u16 .ensures ∙ ap (λ n. u16At s (n + c .before .before .before .before .before .before .args .first + 2 * (o .d % 2))) (c .before .edge-at .ensures)),
-    )
+loop-again c = let o = turn c .loop in (omega arith, copy-step _ (o .d) _ _ _ (o .inv .1) (omega arith) (field-read c))
 
 same-length : tie.Need-same-length Inv-loop μ-loop
 same-length c = filled-length _ _ _ _ (c .before .loop .inv .1) (omega arith)
 
 returns : tie.Need-returns Inv-loop μ-loop
 returns c =
-    let s = c .before .before .before .before .args in
-    let all : c .before .loop .d ≡ 2 * s .edges = omega arith in
-    c .before .loop .inv .1 ∙ ap (λ k. filled k (field16 (s .s .now) (s .first)) (s .to .now)) all
+    let o = c .before in
+    let a = begun o .args in
+    let all : o .loop .d ≡ 2 * a .edges = omega arith in
+    o .loop .inv .1 ∙ ap (λ k. filled k (field16 (a .s .now) (a .first)) (a .to .now)) all
 
 pub fill-fields-spec : {M : Type 1} → statement M
 fill-fields-spec =

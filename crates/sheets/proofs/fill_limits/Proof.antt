@@ -1,9 +1,10 @@
--- Invariant: the places below d have their fields, the others are as they were.
-use Prim.Native.Nat.{ℕ, _≤_, _<_, _-_, _+_, _*_, _/_, _%_}
-use mathlib.Core.Path.{_≡_, refl, _∙_, ap}
+-- The capacity of each dart. Invariant: the places below d have their capacities, the others are as they were.
+use Prim.Native.Nat.{_≤_, _-_, _+_, _*_, _%_}
+use mathlib.Core.Path.{_≡_, _∙_, ap}
 use native.Mathlib.Omega.{arith}
-use lib.ListN.{length}
 use borrow.Author.Needs.{needs}
+use mir.Syntax.{w32}
+use mir.Val.{toZ, ofZ}
 use Rattle.signed.proofs.Laws.{number-of-bits}
 use Rattle.fields.specs.Fields.{i32At}
 use Rattle.arrays.specs.Filled.{filled}
@@ -18,6 +19,21 @@ Inv-loop s edges to₀ darts d₀ to d = (d ≤ darts) × (to ≡ filled d (fiel
 abbrev μ-loop : tie.MeasureT-loop
 μ-loop s edges to₀ darts d₀ to d = darts - d
 
+-- ── the turn of the loop in which a capacity is read, and the start ──
+abbrev begun : tie.At-loop Inv-loop μ-loop → tie.Start Inv-loop μ-loop
+begun c = c .before .before
+
+abbrev turn : tie.After-read-i32 Inv-loop μ-loop → tie.At-loop Inv-loop μ-loop
+turn c = c .before .before .before
+
+-- the capacity read is the dart's
+capacity-read : (c : tie.After-read-i32 Inv-loop μ-loop) → toZ w32 (ofZ w32 (c .read-i32 .result)) ≡ field32 (begun (turn c) .args .s .now) 9 (turn c .loop .d)
+capacity-read c =
+    number-of-bits (c .read-i32 .result) (record { sfits = c .read-i32 .ok })
+    ∙ c .read-i32 .ensures
+    ∙ ap (λ n. i32At (begun (turn c) .args .s .now) (n + 9 + 4 * (turn c .loop .d % 2))) (c .before .edge-at .ensures)
+
+-- ── the needs, in the order of the code ──
 mul-darts : tie.Need-mul-darts Inv-loop μ-loop
 mul-darts c = search needs
 
@@ -43,7 +59,7 @@ mul-t13 : tie.Need-mul-t13 Inv-loop μ-loop
 mul-t13 c = search needs
 
 slice-set-from-to : tie.Need-slice-set-from-to Inv-loop μ-loop
-slice-set-from-to c = omega (arith, filled-length _ _ _ _ (c .before .before .before .loop .inv .1) (omega arith))
+slice-set-from-to c = omega (arith, filled-length _ _ _ _ (turn c .loop .inv .1) (omega arith))
 
 add-d : tie.Need-add-d Inv-loop μ-loop
 add-d c = search needs
@@ -52,22 +68,17 @@ loop-less : tie.Need-loop-less Inv-loop μ-loop
 loop-less c = search needs
 
 loop-again : tie.Need-loop-again Inv-loop μ-loop
-loop-again c =
-    let o = c .before .before .before .loop in
-    let s = c .before .before .before .before .before .args .s .now in (
-      omega arith,
-      copy-step _ (o .d) _ _ _ (o .inv .1) (omega arith)
-          (number-of-bits (c .read-i32 .result) (record { sfits = c .read-i32 .ok }) ∙ c .read-i32 .ensures ∙ ap (λ n. i32At s (n + 9 + 4 * (o .d % 2))) (c .before .edge-at .ensures)),
-    )
+loop-again c = let o = turn c .loop in (omega arith, copy-step _ (o .d) _ _ _ (o .inv .1) (omega arith) (capacity-read c))
 
 same-length : tie.Need-same-length Inv-loop μ-loop
 same-length c = filled-length _ _ _ _ (c .before .loop .inv .1) (omega arith)
 
 returns : tie.Need-returns Inv-loop μ-loop
 returns c =
-    let s = c .before .before .before .args in
-    let all : c .before .loop .d ≡ 2 * s .edges = omega arith in
-    c .before .loop .inv .1 ∙ ap (λ k. filled k (field32 (s .s .now) 9) (s .to .now)) all
+    let o = c .before in
+    let a = begun o .args in
+    let all : o .loop .d ≡ 2 * a .edges = omega arith in
+    o .loop .inv .1 ∙ ap (λ k. filled k (field32 (a .s .now) 9) (a .to .now)) all
 
 pub fill-limits-spec : {M : Type 1} → statement M
 fill-limits-spec =

@@ -1,9 +1,8 @@
 -- `fill_rotations` meets its contract: what is filled into zeros is the sheet's, everywhere.
-use mathlib.Core.Path.{_≡_, sym, _∙_, subst}
+use mathlib.Core.Path.{sym, _∙_, subst}
 use Prim.Native.Nat.{_≤_, _*_}
 use native.Mathlib.Omega.{arith}
 use lib.ListN.{length}
-use borrow.Author.Needs.{needs}
 use Rattle.arrays.proofs.FillLoops.{filled-length}
 use Rattle.records.specs.Sheet.{edgeAt}
 use Rattle.sheets.proofs.Opening.{bytes-room, rotations-are}

@@ -1,4 +1,4 @@
--- The bytes, then tails and rotations in arrays, then the map: each way out is a verdict of the whole list.
+-- The sheet checks: the bytes passed, then the arrays are filled with the sheet's map; each way out is a verdict of the whole list, by a law of `Opening`.
 use mathlib.Core.Path.{_≡_, refl, sym, subst}
 use mathlib.Core.List.{List}
 use Prim.Native.Nat.{ℕ}
@@ -17,6 +17,30 @@ use Rattle.sheets.proofs.Opening.{maps-are, bytes-room, opens-refused, 
 use Rattle.sheets.proofs.open.Statement.{statement}
 use Rattle.sheets.proofs.open.Tie as tie
 
+-- ── the bytes passed ──
+abbrev sheet : tie.After-enum-told → List ℕ
+sheet c = c .before .before .before .before .args .s .now
+
+passed : (c : tie.After-enum-told) → NoneOf (byteChecks (sheet c))
+passed c = rw (c .enum-told .given .1) at (c .before .before .check-bytes .ensures)
+
+-- ── the arrays are filled ──
+abbrev counted : tie.After-fill-rotations → tie.After-edges-of
+counted c = c .before .before .before .before
+
+abbrev told : tie.After-fill-rotations → tie.After-enum-told
+told c = counted c .before .before
+
+abbrev map' : tie.After-fill-rotations → Map
+map' c =
+    mapOf (counted c .before .nodes-of .result) (counted c .edges-of .result) (c .before .before .fill-tails .last .1 .1 .0) (c .fill-rotations .last .1 .1 .0)
+
+map-is : (c : tie.After-fill-rotations) → map' c ≡ sheetMap (sheet (told c))
+map-is c =
+    maps-are (sheet (told c)) _ _ (c .before .before .fill-tails .last .1 .1 .0) (c .fill-rotations .last .1 .1 .0)
+    (counted c .before .nodes-of .ensures) (counted c .edges-of .ensures) (c .before .before .fill-tails .ensures .1) (c .fill-rotations .ensures .1)
+
+-- ── the needs, in the order of the code ──
 check-bytes-requires : tie.Need-check-bytes-requires
 check-bytes-requires c κs = search needs
 
@@ -34,13 +58,6 @@ returns c =
 enum-told : tie.Need-enum-told
 enum-told c = search needs
 
--- ── the bytes passed ──
-abbrev sheet : tie.After-enum-told → List ℕ
-sheet c = c .before .before .before .before .args .s .now
-
-passed : (c : tie.After-enum-told) → NoneOf (byteChecks (sheet c))
-passed c = rw (c .enum-told .given .1) at (c .before .before .check-bytes .ensures)
-
 nodes-of-requires : tie.Need-nodes-of-requires
 nodes-of-requires c κs = bytes-room (sheet c) (passed c) .0
 
@@ -52,22 +69,6 @@ fill-tails-requires c κs = let e = c .before in (passed (e .before .before), e 
 
 fill-rotations-requires : tie.Need-fill-rotations-requires
 fill-rotations-requires c κs = let e = c .before .before .before in (passed (e .before .before), e .edges-of .ensures, refl, same-everywhere 1024 0)
-
--- ── the arrays are filled ──
-abbrev counted : tie.After-fill-rotations → tie.After-edges-of
-counted c = c .before .before .before .before
-
-abbrev told : tie.After-fill-rotations → tie.After-enum-told
-told c = counted c .before .before
-
-abbrev map' : tie.After-fill-rotations → Map
-map' c =
-    mapOf (counted c .before .nodes-of .result) (counted c .edges-of .result) (c .before .before .fill-tails .last .1 .1 .0) (c .fill-rotations .last .1 .1 .0)
-
-map-is : (c : tie.After-fill-rotations) → map' c ≡ sheetMap (sheet (told c))
-map-is c =
-    maps-are (sheet (told c)) _ _ (c .before .before .fill-tails .last .1 .1 .0) (c .fill-rotations .last .1 .1 .0)
-    (counted c .before .nodes-of .ensures) (counted c .edges-of .ensures) (c .before .before .fill-tails .ensures .1) (c .fill-rotations .ensures .1)
 
 check-map-requires : tie.Need-check-map-requires
 check-map-requires c κs =
@@ -91,14 +92,16 @@ returns-2 c =
     let m = c .before in
     let f = m .before .before .before .before in
     let t = told f in
-    let v = m .check-map .result .verdict in
-    let lefts = m .check-map .last .1 .1 .1 .1 .0 in
+    let map = m .check-map in
+    let v = map .result .verdict in
+    let lefts = map .last .1 .1 .1 .1 .0 in
     let nodes = counted f .before .nodes-of in
     let edges = counted f .edges-of in (
-      m .check-map .ensures .0,
-      opens-judged (sheet t) lefts (record { verdict = v; nodes = nodes .result; edges = edges .result; faces = m .check-map .result .faces; outer = c .outer-of .result })
+      map .ensures .0,
+      opens-judged (sheet t) lefts
+          (record { verdict = v; nodes = nodes .result; edges = edges .result; faces = map .result .faces; outer = c .outer-of .result })
           (passed t) (nodes .ensures) (edges .ensures) (c .outer-of .ensures) v
-          (subst (λ 𝓜. MapJudged 𝓜 (at lefts) (m .check-map .result .faces) v) (map-is f) (m .check-map .ensures .1)),
+          (subst (λ 𝓜. MapJudged 𝓜 (at lefts) (map .result .faces) v) (map-is f) (map .ensures .1)),
     )
 
 pub open-spec : {M : Type 1} → statement M

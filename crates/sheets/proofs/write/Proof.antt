@@ -1,18 +1,22 @@
--- Slices of one even length, the checks on their drawing, room; then the head and the edges.
+-- Write meets its contract: the facts at four places (slices of one even length, the drawing passed, there is room, the head is written); then every way out
+-- is a law of `Writing`.
 use mathlib.Core.Path.{_≡_, refl, sym, _∙_, ap}
 use mathlib.Core.Logic.{_⊎_, _≢_, inl, inr}
-use mathlib.Core.List.{List, _++_}
-use Prim.Native.Nat.{ℕ, _≤_, _%_}
+use mathlib.Core.List.{_++_}
+use Prim.Native.Nat.{_≤_, _%_}
 use native.Mathlib.Omega.{arith}
-use lib.ListN.{length, drop, length-append}
+use lib.ListN.{length, drop}
 use borrow.Author.Needs.{needs}
-use Rattle.refusals.specs.Order.{NoneOf, FirstOf}
+use Rattle.refusals.specs.Order.{NoneOf, FirstOf, Judged}
+use Rattle.refusals.specs.declared.Verdict.{Verdict}
+use Rattle.refusals.specs.declared.Verdict.the-variants.{Passed, Refused}
 use Rattle.maps.specs.Drawing.{Drawing}
-use Rattle.fields.specs.Fields.{le16, put}
-use Rattle.fields.proofs.Laws.{put-length, le16-length}
-use Rattle.records.specs.Encode.{headBytes, encode}
+use Rattle.records.specs.Record.{recordLength}
+use Rattle.records.specs.Sheet.{edgeAt}
+use Rattle.records.specs.Encode.{encodeHead, encode}
 use Rattle.records.proofs.Drawing.{counts-range}
 use Rattle.sheets.specs.Write.{edgesIn, slicesDrawing, drawingChecks, writeChecks}
+use Rattle.sheets.proofs.PlacedRecords.{head-kept}
 use Rattle.sheets.proofs.Writing.{drawing-parts, head-written, write-uneven, write-refused, write-short, write-whole}
 use Rattle.sheets.proofs.write.Statement.{statement}
 use Rattle.sheets.proofs.write.Tie as tie
@@ -20,12 +24,67 @@ use Rattle.sheets.proofs.write.Tie as tie
 abbrev drawn : tie.Start → Drawing
 drawn s = slicesDrawing (s .args .nodes) (s .args .tails .now) (s .args .rotations .now) (s .args .capacities .now)
 
+-- ── the slices are of one even length, or not ──
 uneven : (s : tie.Start)
     → (length (s .args .rotations .now) ≢ length (s .args .tails .now))
     ⊎ ((length (s .args .capacities .now) ≢ length (s .args .tails .now)) ⊎ (length (s .args .tails .now) % 2 ≢ 0))
     → FirstOf (writeChecks (s .args .nodes) (s .args .tails .now) (s .args .rotations .now) (s .args .capacities .now) (s .args .out .now)) 16 0
 uneven s = write-uneven (s .args .nodes) (s .args .tails .now) (s .args .rotations .now) (s .args .capacities .now) (s .args .out .now)
 
+abbrev begun : tie.Else3 → tie.Start
+begun c = c .before .before .before .before .before .before
+
+same-rotations : (c : tie.Else3) → length (begun c .args .rotations .now) ≡ length (begun c .args .tails .now)
+same-rotations c = c .before .before .if1 .left
+
+same-capacities : (c : tie.Else3) → length (begun c .args .capacities .now) ≡ length (begun c .args .tails .now)
+same-capacities c = c .before .if2 .left
+
+-- ── the checks on the drawing ──
+abbrev even : tie.After-check-slices → tie.Else3
+even c = c .before .before
+
+judged : (c : tie.After-check-slices) (v : Verdict) → c .check-slices .result ≡ v → Judged (drawingChecks (drawn (begun (even c)))) v
+judged c v e = rw (e, c .before .wide .ensures) at (c .check-slices .ensures)
+
+-- ── the drawing passed ──
+abbrev sliced : tie.After-enum-told → tie.Else3
+sliced c = even (c .before .before)
+
+abbrev base : tie.After-enum-told → tie.Start
+base c = begun (sliced c)
+
+passed : (c : tie.After-enum-told) → NoneOf (drawingChecks (drawn (base c)))
+passed c = judged (c .before .before) Passed (c .enum-told .given .1)
+
+few : (c : tie.After-enum-told) → edgesIn (base c .args .tails .now) ≤ 512
+few c = counts-range _ _ (drawing-parts (drawn (base c)) (passed c) .0) .3
+
+-- ── there is room ──
+abbrev told : tie.Else4 → tie.After-enum-told
+told c = c .before .before
+
+long : (c : tie.Else4) → c .before .edge-at .result ≡ edgeAt (edgesIn (base (told c) .args .tails .now))
+long c = c .before .edge-at .ensures
+
+-- ── the head is written ──
+abbrev roomy : tie.After-write-head → tie.Else4
+roomy c = c .before .before .before
+
+abbrev start : tie.After-write-head → tie.Start
+start c = base (told (roomy c))
+
+head-length : (c : tie.After-write-head) → length (c .write-head .last .0) ≡ length (start c .args .out .now)
+head-length c =
+    let a = start c .args in
+    head-kept (a .nodes) (c .before .narrow .result) (a .out .now) _ (c .write-head .ensures) (omega (arith, long (roomy c)))
+
+headed : (c : tie.After-write-head) → c .write-head .last .0 ≡ encodeHead (drawn (start c)) ++ drop (recordLength 1) (start c .args .out .now)
+headed c =
+    let n = c .before .narrow in
+    head-written (drawn (start c)) (start c .args .out .now) _ (n .result) (n .ensures) (c .write-head .ensures)
+
+-- ── the needs, in the order of the code ──
 returns : tie.Need-returns
 returns c = (uneven (c .before .before .before .before) (inl (c .if1 .taken)), refl)
 
@@ -39,33 +98,23 @@ wide-requires : tie.Need-wide-requires
 wide-requires c κs = search needs
 
 check-slices-requires : tie.Need-check-slices-requires
-check-slices-requires c κs = (c .before .before .before .if1 .left, c .before .before .if2 .left, c .before .if3 .left)
+check-slices-requires c κs = let e = c .before in (same-rotations e, same-capacities e, e .if3 .left)
 
 enum-known-drawing : tie.Need-enum-known-drawing
 enum-known-drawing c = search needs
 
 returns-4 : tie.Need-returns-4
 returns-4 c =
-    let e = c .before .before .before .before .before in
-    let s = e .before .before .before .before .before .before in (
-      write-refused (s .args .nodes) (s .args .tails .now) (s .args .rotations .now) (s .args .capacities .now) (s .args .out .now)
-          (e .before .before .if1 .left) (e .before .if2 .left) (e .if3 .left) _ _
-          (rw (c .before .drawing .given .1, c .before .before .before .before .wide .ensures) at (c .before .before .before .check-slices .ensures)),
+    let j = c .before .before .before in
+    let e = even j in
+    let a = begun e .args in (
+      write-refused (a .nodes) (a .tails .now) (a .rotations .now) (a .capacities .now) (a .out .now)
+          (same-rotations e) (same-capacities e) (e .if3 .left) _ _ (judged j (Refused _ _) (c .before .drawing .given .1)),
       refl,
     )
 
 enum-told : tie.Need-enum-told
 enum-told c = search needs
-
--- ── the drawing passed ──
-abbrev begun : tie.After-enum-told → tie.Start
-begun c = c .before .before .before .before .before .before .before .before .before .before
-
-passed : (c : tie.After-enum-told) → NoneOf (drawingChecks (drawn (begun c)))
-passed c = rw (c .enum-told .given .1, c .before .before .before .wide .ensures) at (c .before .before .check-slices .ensures)
-
-few : (c : tie.After-enum-told) → edgesIn (begun c .args .tails .now) ≤ 512
-few c = counts-range _ _ (drawing-parts (drawn (begun c)) (passed c) .0) .3
 
 edge-at-requires : tie.Need-edge-at-requires
 edge-at-requires c κs = few c
@@ -73,39 +122,25 @@ edge-at-requires c κs = few c
 returns-5 : tie.Need-returns-5
 returns-5 c =
     let t = c .before .before in
-    let s = begun t in (
-      write-short (s .args .nodes) (s .args .tails .now) (s .args .rotations .now) (s .args .capacities .now) (s .args .out .now)
-          (t .before .before .before .before .before .before .if1 .left) (t .before .before .before .before .before .if2 .left) (t .before .before .before .before .if3 .left) (passed t) (omega (arith, c .before .edge-at .ensures)),
+    let e = sliced t in
+    let a = begun e .args in (
+      write-short (a .nodes) (a .tails .now) (a .rotations .now) (a .capacities .now) (a .out .now)
+          (same-rotations e) (same-capacities e) (e .if3 .left) (passed t) (omega (arith, c .before .edge-at .ensures)),
       refl,
     )
-
--- ── there is room ──
-abbrev told : tie.Else4 → tie.After-enum-told
-told c = c .before .before
 
 narrow-requires : tie.Need-narrow-requires
 narrow-requires c κs = omega (arith, few (told (c .before)))
 
 write-head-requires : tie.Need-write-head-requires
-write-head-requires c κs = omega (arith, c .before .before .before .edge-at .ensures)
-
--- the head leaves the length as it was
-head-room : (nodes edges : ℕ) (out l : List ℕ) → l ≡ put 0 (headBytes nodes edges) out → 5 ≤ length out → length l ≡ length out
-head-room nodes edges out l h room =
-    ap length h ∙ put-length 0 (headBytes nodes edges) out (omega (arith, length-append (le16 nodes) (le16 edges), le16-length nodes, le16-length edges))
+write-head-requires c κs = omega (arith, long (c .before .before))
 
 write-edges-requires : tie.Need-write-edges-requires
 write-edges-requires c κs =
     let h = c .before .before .before in
-    let roomy = h .before .before .before in
-    let t = told roomy in
-    let s = begun t in
-    let long = roomy .before .edge-at .ensures in (
-      t .before .before .before .before .before .before .if1 .left,
-      t .before .before .before .before .before .if2 .left,
-      omega (arith, t .before .before .before .before .if3 .left, few t),
-      omega (arith, long, head-room (s .args .nodes) (h .before .narrow .result) (s .args .out .now) _ (h .write-head .ensures) (omega (arith, long))),
-    )
+    let t = told (roomy h) in
+    let e = sliced t in
+    (same-rotations e, same-capacities e, omega (arith, e .if3 .left, few t), omega (arith, long (roomy h), head-length h))
 
 same-length : tie.Need-same-length
 same-length c = search needs
@@ -114,15 +149,15 @@ returns-6 : tie.Need-returns-6
 returns-6 c =
     let w = c .before .before in
     let h = w .before .before .before .before in
-    let roomy = h .before .before .before in
-    let t = told roomy in
-    let s = begun t in
-    let long = roomy .before .edge-at .ensures in (
-      write-whole (s .args .nodes) (s .args .tails .now) (s .args .rotations .now) (s .args .capacities .now) (s .args .out .now)
-          (t .before .before .before .before .before .before .if1 .left) (t .before .before .before .before .before .if2 .left) (t .before .before .before .before .if3 .left) (passed t) (omega (arith, long)),
-      long,
-      w .write-edges .ensures (s .args .nodes) (s .args .out .now) (head-written (drawn s) (s .args .out .now) _ (h .before .narrow .result) (h .before .narrow .ensures) (h .write-head .ensures))
-          ∙ ap (λ n. encode (drawn s) ++ drop n (s .args .out .now)) (sym long),
+    let t = told (roomy h) in
+    let e = sliced t in
+    let s = start h in
+    let a = s .args in
+    let n = long (roomy h) in (
+      write-whole (a .nodes) (a .tails .now) (a .rotations .now) (a .capacities .now) (a .out .now)
+          (same-rotations e) (same-capacities e) (e .if3 .left) (passed t) (omega (arith, n)),
+      n,
+      w .write-edges .ensures (a .nodes) (a .out .now) (headed h) ∙ ap (λ k. encode (drawn s) ++ drop k (a .out .now)) (sym n),
     )
 
 pub write-spec : {M : Type 1} → statement M

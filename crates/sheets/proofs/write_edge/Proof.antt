@@ -1,81 +1,103 @@
-use Prim.Native.Nat.{ℕ, _≤_, _<_, _-_, _+_, _*_}
-use mathlib.Core.Path.{_≡_, refl}
-use native.Mathlib.Omega.{arith}
-use lib.ListN.{length, getD, set}
+-- The record of an edge is written field by field: at seven places a field stands behind the one before, and `edge-placed` joins them into one piece.
+use mathlib.Core.Path.{_≡_}
+use Prim.Native.Nat.{_+_}
 use borrow.Author.Needs.{needs}
-use mathlib.Core.Path.{_∙_, ap}
-use mathlib.Core.List.{[], _∷_, _++_, append-assoc}
-use Rattle.fields.specs.Fields.{put, le16, le32}
-use Rattle.fields.proofs.Laws.{le16-length, le32-length}
-use Rattle.sheets.proofs.Placing.{Placed, placed-first, placed-next}
 use Rattle.signed.proofs.Laws.{number-of-bits}
+use Rattle.fields.specs.Fields.{put, le32}
+use Rattle.sheets.proofs.PlacedRecords.{edge-placed}
 use Rattle.sheets.proofs.write_edge.Statement.{statement}
 use Rattle.sheets.proofs.write_edge.Tie as tie
-use Rattle.sheets.proofs.write_edge.Reads as reads
-use Rattle.sheets.proofs.write_edge.Lts as lts
-use Rattle.fields.proofs.write_i32.Reads as write-i32-reads
-use Rattle.fields.proofs.write_u16.Reads as write-u16-reads
-use Rattle.fields.proofs.write_u8.Reads as write-u8-reads
 
--- src/lib.rt:268:5
 write-u8-requires : tie.Need-write-u8-requires
 write-u8-requires c κs = search needs
 
--- src/lib.rt:269:28
 add-write-u16 : tie.Need-add-write-u16
 add-write-u16 c = search needs
 
--- src/lib.rt:269:5
 write-u16-requires : tie.Need-write-u16-requires
 write-u16-requires c κs = search needs
 
--- src/lib.rt:270:28
 add-write-u16-2 : tie.Need-add-write-u16-2
 add-write-u16-2 c = search needs
 
--- src/lib.rt:270:5
 write-u16-requires-2 : tie.Need-write-u16-requires-2
 write-u16-requires-2 c κs = search needs
 
--- src/lib.rt:271:28
 add-write-u16-3 : tie.Need-add-write-u16-3
 add-write-u16-3 c = search needs
 
--- src/lib.rt:271:5
 write-u16-requires-3 : tie.Need-write-u16-requires-3
 write-u16-requires-3 c κs = search needs
 
--- src/lib.rt:272:28
 add-write-u16-4 : tie.Need-add-write-u16-4
 add-write-u16-4 c = search needs
 
--- src/lib.rt:272:5
 write-u16-requires-4 : tie.Need-write-u16-requires-4
 write-u16-requires-4 c κs = search needs
 
--- src/lib.rt:273:28
 add-write-i32 : tie.Need-add-write-i32
 add-write-i32 c = search needs
 
--- src/lib.rt:273:5
 write-i32-requires : tie.Need-write-i32-requires
 write-i32-requires c κs = search needs
 
--- src/lib.rt:274:28
 add-write-i32-2 : tie.Need-add-write-i32-2
 add-write-i32-2 c = search needs
 
--- src/lib.rt:274:5
 write-i32-requires-2 : tie.Need-write-i32-requires-2
 write-i32-requires-2 c κs = search needs
 
--- src/lib.rt:264:1
 same-length : tie.Need-same-length
 same-length c = search needs
 
--- src/lib.rt:264:1
+-- ── the places, from the last field to the first ──
+abbrev forward-at : tie.After-write-i322 → tie.After-write-i32
+forward-at c = c .before .before .before .before
+
+abbrev back-rotation-at : tie.After-write-i32 → tie.After-write-u164
+back-rotation-at c = c .before .before .before .before
+
+abbrev rotation-at : tie.After-write-u164 → tie.After-write-u163
+rotation-at c = c .before .before .before .before
+
+abbrev head-at : tie.After-write-u163 → tie.After-write-u162
+head-at c = c .before .before .before .before
+
+abbrev tail-at : tie.After-write-u162 → tie.After-write-u16
+tail-at c = c .before .before .before .before
+
+abbrev kind-at : tie.After-write-u16 → tie.After-write-u8
+kind-at c = c .before .before .before .before
+
+abbrev begun : tie.After-write-u8 → tie.Start
+begun c = c .before .before .before
+
+abbrev start : tie.After-write-i32 → tie.Start
+start c = begun (kind-at (tail-at (head-at (rotation-at (back-rotation-at c)))))
+
+-- ── the capacities, whose bits are the numbers given ──
+forward-put : (c : tie.After-write-i32)
+    → c .write-i32 .last .0 ≡ put (start c .args .place + 9) (le32 (start c .args .forward)) (back-rotation-at c .write-u164 .last .0)
+forward-put c = rw (number-of-bits (start c .args .forward) (start c .fits .forward)) at (c .write-i32 .ensures)
+
+backward-put : (c : tie.After-write-i322)
+    → c .write-i322 .last .0 ≡ put (start (forward-at c) .args .place + 13) (le32 (start (forward-at c) .args .backward)) (forward-at c .write-i32 .last .0)
+backward-put c = rw (number-of-bits (start (forward-at c) .args .backward) (start (forward-at c) .fits .backward)) at (c .write-i322 .ensures)
+
+-- ── all seven fields are one record ──
 returns : tie.Need-returns
-returns c = let b1 = placed-first (c .before .before .before .before .before .before .before .before .before .before .before .before .before .before .before .before .before .before .before .before .before .before .before .before .before .before .write-u8 .ensures) refl in let b2 = placed-next b1 (c .before .before .before .before .before .before .before .before .before .before .before .before .before .before .before .before .before .before .before .before .before .before .before .before .before .before .before .before .before .args .place + 1) 2 (le16 (c .before .before .before .before .before .before .before .before .before .before .before .before .before .before .before .before .before .before .before .before .before .before .before .before .before .before .before .before .before .args .tail)) _ (c .before .before .before .before .before .before .before .before .before .before .before .before .before .before .before .before .before .before .before .before .before .before .write-u16 .ensures) refl (le16-length _) (omega arith) in let b3 = placed-next b2 (c .before .before .before .before .before .before .before .before .before .before .before .before .before .before .before .before .before .before .before .before .before .before .before .before .before .before .before .before .before .args .place + 3) 2 (le16 (c .before .before .before .before .before .before .before .before .before .before .before .before .before .before .before .before .before .before .before .before .before .before .before .before .before .before .before .before .before .args .head)) _ (c .before .before .before .before .before .before .before .before .before .before .before .before .before .before .before .before .before .before .write-u162 .ensures) refl (le16-length _) (omega arith) in let b4 = placed-next b3 (c .before .before .before .before .before .before .before .before .before .before .before .before .before .before .before .before .before .before .before .before .before .before .before .before .before .before .before .before .before .args .place + 5) 2 (le16 (c .before .before .before .before .before .before .before .before .before .before .before .before .before .before .before .before .before .before .before .before .before .before .before .before .before .before .before .before .before .args .rotation)) _ (c .before .before .before .before .before .before .before .before .before .before .before .before .before .before .write-u163 .ensures) refl (le16-length _) (omega arith) in let b5 = placed-next b4 (c .before .before .before .before .before .before .before .before .before .before .before .before .before .before .before .before .before .before .before .before .before .before .before .before .before .before .before .before .before .args .place + 7) 2 (le16 (c .before .before .before .before .before .before .before .before .before .before .before .before .before .before .before .before .before .before .before .before .before .before .before .before .before .before .before .before .before .args .back-rotation)) _ (c .before .before .before .before .before .before .before .before .before .before .write-u164 .ensures) refl (le16-length _) (omega arith) in let b6 = placed-next b5 (c .before .before .before .before .before .before .before .before .before .before .before .before .before .before .before .before .before .before .before .before .before .before .before .before .before .before .before .before .before .args .place + 9) 4 (le32 (c .before .before .before .before .before .before .before .before .before .before .before .before .before .before .before .before .before .before .before .before .before .before .before .before .before .before .before .before .before .args .forward)) _ (rw (number-of-bits (c .before .before .before .before .before .before .before .before .before .before .before .before .before .before .before .before .before .before .before .before .before .before .before .before .before .before .before .before .before .args .forward) (c .before .before .before .before .before .before .before .before .before .before .before .before .before .before .before .before .before .before .before .before .before .before .before .before .before .before .before .before .before .fits .forward)) at (c .before .before .before .before .before .before .write-i32 .ensures)) refl (le32-length _) (omega arith) in let b7 = placed-next b6 (c .before .before .before .before .before .before .before .before .before .before .before .before .before .before .before .before .before .before .before .before .before .before .before .before .before .before .before .before .before .args .place + 13) 4 (le32 (c .before .before .before .before .before .before .before .before .before .before .before .before .before .before .before .before .before .before .before .before .before .before .before .before .before .before .before .before .before .args .backward)) _ (rw (number-of-bits (c .before .before .before .before .before .before .before .before .before .before .before .before .before .before .before .before .before .before .before .before .before .before .before .before .before .before .before .before .before .args .backward) (c .before .before .before .before .before .before .before .before .before .before .before .before .before .before .before .before .before .before .before .before .before .before .before .before .before .before .before .before .before .fits .backward)) at (c .before .before .write-i322 .ensures)) refl (le32-length _) (omega arith) in b7 .bytes ∙ ap (λ bs. put (c .before .before .before .before .before .before .before .before .before .before .before .before .before .before .before .before .before .before .before .before .before .before .before .before .before .before .before .before .before .args .place) bs (c .before .before .before .before .before .before .before .before .before .before .before .before .before .before .before .before .before .before .before .before .before .before .before .before .before .before .before .before .before .args .out .now)) (simp append-assoc)
+returns c =
+    let last = c .before .before in
+    let forward = forward-at last in
+    let back = back-rotation-at forward in
+    let rotation = rotation-at back in
+    let head = head-at rotation in
+    let tail = tail-at head in
+    let s = start forward in
+    let a = s .args in
+    edge-placed (a .out .now) (a .place) (a .tail) (a .head) (a .rotation) (a .back-rotation) (a .forward) (a .backward) (s .pre .1)
+    (kind-at tail .write-u8 .ensures) (tail .write-u16 .ensures) (head .write-u162 .ensures) (rotation .write-u163 .ensures) (back .write-u164 .ensures)
+    (forward-put forward) (backward-put last)
 
 pub write-edge-spec : {M : Type 1} → statement M
 write-edge-spec =

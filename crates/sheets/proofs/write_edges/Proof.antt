@@ -1,9 +1,9 @@
--- Invariant: the head and the records of the edges below e stand in front, and the rest is as it was.
+-- The records of all edges, after the head. Invariant: the head and the records of the edges below e stand in front, and the rest is as it was.
 use mathlib.Core.Path.{_≡_, refl, _∙_, ap}
 use mathlib.Core.List.{List, _++_}
-use Prim.Native.Nat.{ℕ, _≤_, _<_, _-_, _+_, _*_}
+use Prim.Native.Nat.{ℕ, _≤_, _-_, _+_, _*_}
 use native.Mathlib.Omega.{arith}
-use lib.IntN.{ℤ, pos}
+use lib.IntN.{pos}
 use lib.ListN.{length, getD, drop}
 use borrow.Author.Needs.{needs}
 use Rattle.signed.proofs.Laws.{number-of-bits}
@@ -11,7 +11,7 @@ use Rattle.fields.specs.Fields.{put}
 use Rattle.maps.specs.Drawing.{Drawing}
 use Rattle.records.specs.Record.{recordLength}
 use Rattle.records.specs.Sheet.{edgeAt}
-use Rattle.records.specs.Encode.{edgeBytes, encodeEdge, encodeHead, encodeEdges}
+use Rattle.records.specs.Encode.{encodeEdge, encodeHead, encodeEdges}
 use Rattle.records.proofs.Places.{edge-length}
 use Rattle.sheets.specs.Write.{slicesDrawing}
 use Rattle.sheets.proofs.Placing.{placed-first, placed-length}
@@ -19,12 +19,16 @@ use Rattle.sheets.proofs.Writing.{write-start, write-step, write-end}
 use Rattle.sheets.proofs.write_edges.Statement.{statement}
 use Rattle.sheets.proofs.write_edges.Tie as tie
 
+-- the head and the records of n edges, in front of what the output held
+abbrev Front : Drawing → ℕ → (old l : List ℕ) → Type 0
+Front 𝓓 n old l = l ≡ (encodeHead 𝓓 ++ encodeEdges 𝓓 n) ++ drop (edgeAt n) old
+
 abbrev Inv-loop : tie.InvT-loop
 Inv-loop out₀ tails rotations capacities edges e₀ out e =
     (e ≤ edges)
     × (length out ≡ length out₀)
     × ((nodes : ℕ) (old : List ℕ) → out₀ ≡ encodeHead (slicesDrawing nodes tails rotations capacities) ++ drop (recordLength 1) old
-    → out ≡ (encodeHead (slicesDrawing nodes tails rotations capacities) ++ encodeEdges (slicesDrawing nodes tails rotations capacities) e) ++ drop (edgeAt e) old)
+    → Front (slicesDrawing nodes tails rotations capacities) e old out)
 
 abbrev μ-loop : tie.MeasureT-loop
 μ-loop out₀ tails rotations capacities edges e₀ out e = edges - e
@@ -32,26 +36,46 @@ abbrev μ-loop : tie.MeasureT-loop
 abbrev drawn : ℕ → tie.Start Inv-loop μ-loop → Drawing
 drawn nodes s = slicesDrawing nodes (s .args .tails .now) (s .args .rotations .now) (s .args .capacities .now)
 
--- ── an edge is written ──
-abbrev turn : tie.After-write-edge Inv-loop μ-loop → tie.At-loop Inv-loop μ-loop
-turn c = c .before .before .before .before .before .before .before .before .before .before
+-- ── the places: where the record's place is known, the turn of the loop, the start ──
+abbrev located : tie.After-write-edge-arg3 Inv-loop μ-loop → tie.After-edge-at Inv-loop μ-loop
+located c = c .before .before .before .before .before .before .before
 
-abbrev begun : tie.After-write-edge Inv-loop μ-loop → tie.Start Inv-loop μ-loop
+abbrev turn : tie.After-write-edge-arg3 Inv-loop μ-loop → tie.At-loop Inv-loop μ-loop
+turn c = located c .before .before
+
+abbrev begun : tie.After-write-edge-arg3 Inv-loop μ-loop → tie.Start Inv-loop μ-loop
 begun c = turn c .before .before .before .before
 
--- its record stands where the table has it; the nodes play no part in it
-written : (c : tie.After-write-edge Inv-loop μ-loop) (nodes : ℕ)
-    → c .write-edge .last .0 ≡ put (edgeAt (turn c .loop .e)) (encodeEdge (drawn nodes (begun c)) (turn c .loop .e)) (turn c .loop .out)
-unfolding encodeEdge
-written c nodes =
-    let e = turn c .loop .e in
-    let capacities = begun c .args .capacities .now in
-    (rw (
-      number-of-bits (getD capacities (2 * e) (pos 0)) (record { sfits = c .before .before .write-edge-arg2 .given }),
-      number-of-bits (getD capacities (2 * e + 1) (pos 0)) (record { sfits = c .before .write-edge-arg3 .given }),
-    ) at (c .write-edge .ensures))
-    ∙ ap (λ n. put n (encodeEdge (drawn nodes (begun c)) e) (turn c .loop .out)) (c .before .before .before .before .before .before .before .before .edge-at .ensures)
+-- ── an edge is written ──
+abbrev record-of : ℕ → tie.After-write-edge-arg3 Inv-loop μ-loop → List ℕ
+record-of nodes c = encodeEdge (drawn nodes (begun c)) (turn c .loop .e)
 
+-- its record stands where the call was told; the nodes play no part in it
+put-there : (c : tie.After-write-edge Inv-loop μ-loop) (nodes : ℕ)
+    → c .write-edge .last .0 ≡ put (located (c .before) .edge-at .result) (record-of nodes (c .before)) (turn (c .before) .loop .out)
+unfolding encodeEdge
+put-there c nodes =
+    let a = c .before in
+    let e = turn a .loop .e in
+    let capacities = begun a .args .capacities .now in
+    rw (
+      number-of-bits (getD capacities (2 * e) (pos 0)) (record { sfits = a .before .write-edge-arg2 .given }),
+      number-of-bits (getD capacities (2 * e + 1) (pos 0)) (record { sfits = a .write-edge-arg3 .given }),
+    ) at (c .write-edge .ensures)
+
+-- and that is where the table has it
+written : (c : tie.After-write-edge Inv-loop μ-loop) (nodes : ℕ)
+    → c .write-edge .last .0 ≡ put (edgeAt (turn (c .before) .loop .e)) (record-of nodes (c .before)) (turn (c .before) .loop .out)
+written c nodes = put-there c nodes ∙ ap (λ n. put n (record-of nodes (c .before)) (turn (c .before) .loop .out)) (located (c .before) .edge-at .ensures)
+
+-- so the length is kept
+kept : (c : tie.After-write-edge Inv-loop μ-loop) → length (c .write-edge .last .0) ≡ length (turn (c .before) .loop .out)
+kept c =
+    let a = c .before in
+    placed-length (placed-first {bs = record-of 0 a} (written c 0) (edge-length (drawn 0 (begun a)) (turn a .loop .e)))
+    (omega (arith, turn a .loop .inv .1, begun a .pre .3))
+
+-- ── the needs, in the order of the code ──
 loop-holds : tie.Need-loop-holds Inv-loop μ-loop
 loop-holds c = (omega arith, refl, λ nodes old e. write-start (drawn nodes (c .before .before .before)) old _ e)
 
@@ -122,7 +146,7 @@ shared-slice-copy-out-write-edge-2 : tie.Need-shared-slice-copy-out-write-edge-2
 shared-slice-copy-out-write-edge-2 c = search needs
 
 write-edge-requires : tie.Need-write-edge-requires Inv-loop μ-loop
-write-edge-requires c κs = omega (arith, c .before .before .before .before .before .before .before .edge-at .ensures, c .before .before .before .before .before .before .before .before .before .loop .inv .1, c .before .before .before .before .before .before .before .before .before .before .before .before .before .pre .3)
+write-edge-requires c κs = omega (arith, located c .edge-at .ensures, turn c .loop .inv .1, begun c .pre .3)
 
 add-e : tie.Need-add-e Inv-loop μ-loop
 add-e c = search needs
@@ -132,18 +156,22 @@ loop-less c = search needs
 
 loop-again : tie.Need-loop-again Inv-loop μ-loop
 loop-again c =
-    let w = c .before .before in (
+    let w = c .before .before in
+    let a = w .before in
+    let o = turn a .loop in (
       omega arith,
-      placed-length (placed-first {bs = encodeEdge (drawn 0 (begun w)) (turn w .loop .e)} (written w 0) (edge-length (drawn 0 (begun w)) (turn w .loop .e)))
-          (omega (arith, turn w .loop .inv .1, begun w .pre .3)) ∙ turn w .loop .inv .1,
-      λ nodes old e. write-step (drawn nodes (begun w)) old (turn w .loop .e) (turn w .loop .out) _ (turn w .loop .inv .2 nodes old e) (written w nodes),
+      kept w ∙ o .inv .1,
+      λ nodes old e. write-step (drawn nodes (begun a)) old (o .e) (o .out) _ (o .inv .2 nodes old e) (written w nodes),
     )
 
 same-length : tie.Need-same-length Inv-loop μ-loop
 same-length c = search needs
 
 returns : tie.Need-returns Inv-loop μ-loop
-returns c = λ nodes old e. let s = c .before .before .before .before .before in write-end (drawn nodes s) old (c .before .loop .e) _ (omega arith) (c .before .loop .inv .2 nodes old e)
+returns c = λ nodes old e.
+    let o = c .before in
+    let s = o .before .before .before .before in
+    write-end (drawn nodes s) old (o .loop .e) _ (omega arith) (o .loop .inv .2 nodes old e)
 
 pub write-edges-spec : {M : Type 1} → statement M
 write-edges-spec =
