@@ -1,19 +1,21 @@
-// The analyser's C interface: every operation on sheets, under a plain name. Build the library with `rt staticlib abi` and link target/staticlib/libabi.a (x86-64 Linux).
+// The analyser's C interface: every operation on sheets, under a plain name.
+// Build the library with `rt staticlib abi` and link target/staticlib/libabi.a (x86-64 Linux).
 // Of the C library it needs memcpy and memset, and nothing else.
 //
-// WORDS. The paper's headgate is the source and its outfall the sink; a channel is an edge with two darts, 2e from its tail to its head and 2e + 1 back; a dart's limit is the
-// most that it may carry (below zero: the least the other way); a dart's turn is the next dart clockwise with the same tail; a setting is the flow on dart 2e. Nodes, channels,
-// darts and faces are numbered from 0, faces in order of their lowest dart: there are channels + 2 - nodes of them. A level is the potential of a face.
+// WORDS. The paper's headgate is the source and its outfall the sink; a channel is an edge with two darts, 2e from its tail to
+// its head and 2e + 1 back; a dart's limit is the most that it may carry (below zero: the least the other way); a dart's turn is
+// the next dart clockwise with the same tail; a setting is the flow on dart 2e. Nodes, channels, darts and faces are numbered
+// from 0, faces in order of their lowest dart: there are channels + 2 - nodes of them. A level is the potential of a face.
 //
-// ANSWERS. Every function takes any input, has no state, and ends. The result is 0 (ANALYSER_ANSWERED) where there is an answer, else the number of the first refusal in the
-// order given at the function. An answer comes through the pointers and leaves *place as it was; a refusal writes *place and nothing else: a channel for 17, a node for 18, the
-// lowest one at fault, and 0 for every other number. What a function is said to write it writes in the first elements of the slice; the rest is left as it was. All this is proved,
-// for every input, where the caller keeps the duties below.
+// ANSWERS. Every function takes any input, has no state, and ends. The result is 0 (ANALYSER_ANSWERED) where there is an answer, else the number of the first
+// refusal in the order given at the function. An answer comes through the pointers and leaves *place as it was; a refusal writes *place and nothing else: a
+// channel for 17, a node for 18, the lowest one at fault, and 0 for every other number. What a function is said to write it writes in the first elements of the
+// slice; the rest is left as it was. All this is proved, for every input, where the caller keeps the duties below.
 //
-// THE CALLER'S DUTIES, which nothing checks. A slice is a pointer and its length in elements. Each pointer is not null, also where the length is 0, is aligned for its type, and
-// points to as many initialised elements as the length says (one, for a pointer with no length), at most PTRDIFF_MAX bytes. Nothing that is lent as not const may overlap anything
-// else that is lent to the same call, and until the call returns no other thread writes what is lent, nor reads what is lent as not const. The stack has room for the call
-// (40 KiB is enough: docs/PERFORMANCE.md).
+// THE CALLER'S DUTIES, which nothing checks. A slice is a pointer and its length in elements. Each pointer is not null, also where the length is 0, is aligned
+// for its type, and points to as many initialised elements as the length says (one, for a pointer with no length), at most PTRDIFF_MAX bytes. Nothing that is
+// lent as not const may overlap anything else that is lent to the same call, and until the call returns no other thread writes what is lent, nor reads what is
+// lent as not const. The stack has room for the call (40 KiB is enough: docs/PERFORMANCE.md).
 //
 // A SHEET is a head and then its channels in order, nothing after. Fields are little-endian; a limit is signed, in two's complement.
 //
@@ -25,10 +27,12 @@
 //     bytes 5-6, 7-8     turn of dart 2e, turn of dart 2e + 1
 //     bytes 9-12, 13-16  forward limit (of dart 2e), back limit (of dart 2e + 1)
 //
-// Who reads a sheet from a file or a stream reads up to one byte more than the longest: ANALYSER_SHEET_BYTES + 1, or ANALYSER_KEY_INPUT_BYTES + 1 for a question with its sheet.
-// Bytes left over are refused with 8, and a buffer of exactly the longest would hide them. What lies beyond that one byte changes no answer.
+// Who reads a sheet from a file or a stream reads up to one byte more than the longest: ANALYSER_SHEET_BYTES + 1,
+// or ANALYSER_KEY_INPUT_BYTES + 1 for a question with its sheet. Bytes left over are refused with 8, and a buffer
+// of exactly the longest would hide them. What lies beyond that one byte changes no answer.
 //
-// THE SHEET CHECKS, in order. Head: 1 no first byte, 2, 1 body cut short, 3. For each channel in turn: 1 no byte, 2, 1 body cut short, 4, 5, 6, 7. Then 8. Then 9, 10, 11, 12.
+// THE SHEET CHECKS, in order. Head: 1 no first byte, 2, 1 body cut short, 3.
+// For each channel in turn: 1 no byte, 2, 1 body cut short, 4, 5, 6, 7. Then 8. Then 9, 10, 11, 12.
 #ifndef ANALYSER_H
 #define ANALYSER_H
 
@@ -80,48 +84,53 @@ extern "C" {
 uint8_t analyser_read(const uint8_t *sheet, size_t sheet_length, uint16_t *tails, size_t tails_length, uint16_t *turns, size_t turns_length, int32_t *limits,
                       size_t limits_length, uint16_t *nodes, uint16_t *channels, uint16_t *place);
 
-// Write: the sheet of a node count and three slices, one element to a dart, as Read gives them. Their lengths are all twice the number of channels: no element is left out.
-// Refusals: 16 where the three input lengths are not one even number; 3; 4, 5, 6, 7 for each channel in turn; 9, 10, 11, 12; 16 where sheet is shorter than 5 + 17 for each channel.
+// Write: the sheet of a node count and three slices, one element to a dart, as Read gives them.
+// Their lengths are all twice the number of channels: no element is left out.
+// Refusals: 16 where the three input lengths are not one even number; 3; 4, 5, 6, 7 for each channel in turn; 9, 10, 11, 12;
+// 16 where sheet is shorter than 5 + 17 for each channel.
 // Writes where there is an answer: *length bytes of sheet, and *length.
-uint8_t analyser_write(uint16_t nodes, const uint16_t *tails, size_t tails_length, const uint16_t *turns, size_t turns_length, const int32_t *limits, size_t limits_length,
-                       uint8_t *sheet, size_t sheet_length, size_t *length, uint16_t *place);
+uint8_t analyser_write(uint16_t nodes, const uint16_t *tails, size_t tails_length, const uint16_t *turns, size_t turns_length,
+                       const int32_t *limits, size_t limits_length, uint8_t *sheet, size_t sheet_length, size_t *length, uint16_t *place);
 
 // Solve: the highest settings that carry a delivery from headgate to outfall, or a set of nodes that proves that no settings do.
-// Refusals: the sheet checks; 13; 14; 15; 16 where settings has less than one element for each channel, or set less than one word for each 64 nodes or part of them.
+// Refusals: the sheet checks; 13; 14; 15; 16 where settings has less than one element for each channel,
+// or set less than one word for each 64 nodes or part of them.
 // Writes where it can: a setting for each channel, and *can = 1. Where it cannot: the words of the set, *size, its number of nodes, and *can = 0.
 // Node i of a set is bit i % 64 of word i / 64; unused bits are 0.
-uint8_t analyser_solve(const uint8_t *sheet, size_t sheet_length, uint16_t headgate, uint16_t outfall, int32_t delivery, int32_t *settings, size_t settings_length, uint64_t *set,
-                       size_t set_length, uint8_t *can, uint16_t *size, uint16_t *place);
+uint8_t analyser_solve(const uint8_t *sheet, size_t sheet_length, uint16_t headgate, uint16_t outfall, int32_t delivery,
+                       int32_t *settings, size_t settings_length, uint64_t *set, size_t set_length, uint8_t *can, uint16_t *size, uint16_t *place);
 
-// Largest: the largest value that can be carried from headgate to outfall and its highest settings, with a set that proves the next greater value impossible; or none, where no
-// value at all can be carried, with a set that proves that: it holds both ends or neither.
+// Largest: the largest value that can be carried from headgate to outfall and its highest settings, with a set that proves the next greater value impossible;
+// or none, where no value at all can be carried, with a set that proves that: it holds both ends or neither.
 // Refusals: the sheet checks; 13; 14; 16 as in Solve.
-// Writes where there is a value: a setting for each channel, the words of the set, *value, and *found = 1. Where there is none: the words of the set, and *found = 0.
-uint8_t analyser_largest(const uint8_t *sheet, size_t sheet_length, uint16_t headgate, uint16_t outfall, int32_t *settings, size_t settings_length, uint64_t *set,
-                         size_t set_length, uint8_t *found, int32_t *value, uint16_t *place);
+// Writes where there is a value: a setting for each channel, the words of the set, *value, and *found = 1.
+// Where there is none: the words of the set, and *found = 0.
+uint8_t analyser_largest(const uint8_t *sheet, size_t sheet_length, uint16_t headgate, uint16_t outfall, int32_t *settings, size_t settings_length,
+                         uint64_t *set, size_t set_length, uint8_t *found, int32_t *value, uint16_t *place);
 
 // Mark: the value that given settings carry from headgate to outfall.
 // Refusals: the sheet checks; 13; 14; 16 where settings has less than one element for each channel; 17; 18 at a node other than those two.
 // Writes where there is an answer: *value.
-uint8_t analyser_mark(const uint8_t *sheet, size_t sheet_length, uint16_t headgate, uint16_t outfall, const int32_t *settings, size_t settings_length, int32_t *value,
-                      uint16_t *place);
+uint8_t analyser_mark(const uint8_t *sheet, size_t sheet_length, uint16_t headgate, uint16_t outfall, const int32_t *settings, size_t settings_length,
+                      int32_t *value, uint16_t *place);
 
-// Levels from settings: the levels of the faces, face 0 at 0, of settings that balance at every node: the setting of channel e is the level left of dart 2e less the level right of it.
+// Levels from settings: the levels of the faces, face 0 at 0, of settings that balance at every node:
+// the setting of channel e is the level left of dart 2e less the level right of it.
 // Refusals: the sheet checks; 16 where settings has less than one element for each channel, or levels less than one for each face; 17; 18 at any node.
 // Writes where there is an answer: a level for each face.
-uint8_t analyser_levels_from_settings(const uint8_t *sheet, size_t sheet_length, const int32_t *settings, size_t settings_length, int32_t *levels, size_t levels_length,
-                                      uint16_t *place);
+uint8_t analyser_levels_from_settings(const uint8_t *sheet, size_t sheet_length, const int32_t *settings, size_t settings_length,
+                                      int32_t *levels, size_t levels_length, uint16_t *place);
 
 // Settings from levels: the settings that the levels of the faces give.
 // Refusals: the sheet checks; 16 as in Levels from settings; 19; 20; 17.
 // Writes where there is an answer: a setting for each channel.
-uint8_t analyser_settings_from_levels(const uint8_t *sheet, size_t sheet_length, const int32_t *levels, size_t levels_length, int32_t *settings, size_t settings_length,
-                                      uint16_t *place);
+uint8_t analyser_settings_from_levels(const uint8_t *sheet, size_t sheet_length, const int32_t *levels, size_t levels_length,
+                                      int32_t *settings, size_t settings_length, uint16_t *place);
 
-// Key: the text of the answer key of a question and a sheet. The input is a question record, then the sheet: byte 0 is 3, the kind of a question; bytes 1-2 and 3-4 are the
-// headgate and the outfall, bytes 5-8 the delivery; the sheet is all that follows.
-// Refusals: 16 where text_length is less than ANALYSER_KEY_TEXT_BYTES. Every other refusal (of the question: 1, 2; then the sheet checks; 13; 14; 15) is an answer here, with
-// "refused" and its number as the text.
+// Key: the text of the answer key of a question and a sheet. The input is a question record, then the sheet: byte 0 is 3, the kind of a question; bytes 1-2 and
+// 3-4 are the headgate and the outfall, bytes 5-8 the delivery; the sheet is all that follows.
+// Refusals: 16 where text_length is less than ANALYSER_KEY_TEXT_BYTES. Every other refusal (of the question: 1, 2; then the sheet checks; 13; 14; 15) is an
+// answer here, with "refused" and its number as the text.
 // Writes where there is an answer: *length bytes of text, and *length. The text is ASCII, a line feed after each line, and does not end in a zero byte.
 uint8_t analyser_key_text(const uint8_t *input, size_t input_length, uint8_t *text, size_t text_length, size_t *length, uint16_t *place);
 

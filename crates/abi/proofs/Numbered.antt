@@ -79,8 +79,10 @@ sheet-numbered s =
 
 drawing-numbered : (𝓓 : Drawing) → Numbered (drawingChecks 𝓓)
 unfolding Numbered drawingChecks countChecks
-drawing-numbered 𝓓 =
-    (omega arith, numbered-append (inTurn (𝓓 .map .edges) (edgeChecks 𝓓)) _ (numbered-in-turn (𝓓 .map .edges) (edgeChecks 𝓓) (field-numbered 𝓓)) (map-numbered _))
+drawing-numbered 𝓓 = (
+  omega arith,
+  numbered-append (inTurn (𝓓 .map .edges) (edgeChecks 𝓓)) _ (numbered-in-turn (𝓓 .map .edges) (edgeChecks 𝓓) (field-numbered 𝓓)) (map-numbered _),
+)
 
 within-numbered : (edges : ℕ) (c x : ℕ → ℤ) → Numbered (withinChecks edges c x)
 unfolding Numbered withinChecks
@@ -94,7 +96,8 @@ pub read-numbered : (s tails rotations : List ℕ) (capacities : List ℤ) → N
 unfolding Numbered readChecks
 read-numbered s tails rotations capacities = numbered-append (sheetChecks s) _ (sheet-numbered s) (omega arith, tt)
 
-pub write-numbered : (nodes : ℕ) (tails rotations : List ℕ) (capacities : List ℤ) (sheet : List ℕ) → Numbered (writeChecks nodes tails rotations capacities sheet)
+pub write-numbered : (nodes : ℕ) (tails rotations : List ℕ) (capacities : List ℤ) (sheet : List ℕ)
+    → Numbered (writeChecks nodes tails rotations capacities sheet)
 unfolding Numbered writeChecks
 write-numbered nodes tails rotations capacities sheet = (omega arith, numbered-append (drawingChecks _) _ (drawing-numbered _) (omega arith, tt))
 

@@ -29,7 +29,18 @@ use Rattle.abi.specs.Largest.{TellsLargest}
 use Rattle.abi.specs.Mark.{TellsMark}
 use Rattle.abi.specs.Levels.{TellsLevels, TellsSettings}
 use Rattle.abi.specs.Key.{TellsKey}
-use Rattle.abi.proofs.Numbered.{Numbered, first-numbered, read-numbered, write-numbered, solve-numbered, largest-numbered, mark-numbered, levels-numbered, settings-numbered, key-numbered}
+use Rattle.abi.proofs.Numbered.{
+  Numbered,
+  first-numbered,
+  read-numbered,
+  write-numbered,
+  solve-numbered,
+  largest-numbered,
+  mark-numbered,
+  levels-numbered,
+  settings-numbered,
+  key-numbered,
+}
 
 -- ── what a result says, of any operation with these checks; Same: everything else behind a pointer is as it was ──
 pub record Says (cs : List Check) (result place place' : ℕ) (Same : Type 0) : Type 0 where
@@ -66,7 +77,8 @@ module _ {place place' result : ℕ} where
   module _ (s : List ℕ) where
     pub read-says : {tails rotations tails' rotations' : List ℕ} {capacities capacities' : List ℤ} {nodes nodes' edges edges' : ℕ}
         → TellsRead s tails rotations capacities tails' rotations' capacities' nodes nodes' edges edges' place place' result
-        → Says (readChecks s tails rotations capacities) result place place' ((tails' ≡ tails) × (rotations' ≡ rotations) × (capacities' ≡ capacities) × (nodes' ≡ nodes) × (edges' ≡ edges))
+        → Says (readChecks s tails rotations capacities) result place place'
+        ((tails' ≡ tails) × (rotations' ≡ rotations) × (capacities' ≡ capacities) × (nodes' ≡ nodes) × (edges' ≡ edges))
     read-says (read.Counts n e, h, t) = says-answer (h .0) (t .0) (t .3)
     read-says (read.Refused k p, h, t) = says-refusal k p (read-numbered s _ _ _) (h .0) (t .0) (t .3) (h .1, h .2, h .3, t .1, t .2)
 
@@ -89,10 +101,12 @@ module _ {place place' result : ℕ} where
     mark-says (mark.Value v, h, t) = says-answer (h .0) (t .0) (t .2)
     mark-says (mark.Refused k p, h, t) = says-refusal k p (mark-numbered s _ _ _) h (t .0) (t .2) (t .1)
 
-    pub levels-says : {flows levels levels' : List ℤ} → TellsLevels s flows levels levels' place place' result → Says (levelsChecks s flows levels) result place place' (levels' ≡ levels)
+    pub levels-says : {flows levels levels' : List ℤ} → TellsLevels s flows levels levels' place place' result
+        → Says (levelsChecks s flows levels) result place place' (levels' ≡ levels)
     levels-says (level.Done, h, t) = says-answer (h .0) (t .0) (t .1)
     levels-says (level.Refused k p, h, t) = says-refusal k p (levels-numbered s _ _) (h .0) (t .0) (t .1) (h .1)
 
-    pub settings-says : {levels flows flows' : List ℤ} → TellsSettings s levels flows flows' place place' result → Says (settingsChecks s levels flows) result place place' (flows' ≡ flows)
+    pub settings-says : {levels flows flows' : List ℤ} → TellsSettings s levels flows flows' place place' result
+        → Says (settingsChecks s levels flows) result place place' (flows' ≡ flows)
     settings-says (level.Done, h, t) = says-answer (h .0) (t .0) (t .1)
     settings-says (level.Refused k p, h, t) = says-refusal k p (settings-numbered s _ _) (h .0) (t .0) (t .1) (h .1)

@@ -1,5 +1,5 @@
--- What a C program is told of a key's text. Document 01, "The program key"; a key that says "refused" is an answer here: the only refusal is 16, of a text that is too
--- short for some key. The result is the number of the refusal, or 0; the number of bytes and the place are behind pointers.
+-- What a C program is told of a key's text. Document 01, "The program key"; a key that says "refused" is an answer here: the only refusal is 16, of a text that
+-- is too short for some key. The result is the number of the refusal, or 0; the number of bytes and the place are behind pointers.
 use Prim.Native.Nat.{ℕ}
 use mathlib.Core.Path.{_≡_}
 use mathlib.Core.List.{List}

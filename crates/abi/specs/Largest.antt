@@ -1,5 +1,5 @@
--- What a C program is told of the largest value. Document 01, "Operations": Largest gives a value, or "none". The result is the number of the refusal, or 0; the rest is
--- behind pointers.
+-- What a C program is told of the largest value. Document 01, "Operations": Largest gives a value, or "none".
+-- The result is the number of the refusal, or 0; the rest is behind pointers.
 use Prim.Native.Nat.{ℕ}
 use mathlib.Core.Path.{_≡_}
 use mathlib.Core.List.{List}
@@ -15,6 +15,7 @@ LargestTold None result found found' value value' place place' = (result ≡ 0) 
 LargestTold (Refused k p) result found found' value value' place place' = (result ≡ k) × (found' ≡ found) × (value' ≡ value) × (place' ≡ p)
 
 -- an answer of Largest, and what is told of it
-abbrev pub TellsLargest : List ℕ → (source sink : ℕ) → (flows flows' : List ℤ) (set set' : List ℕ) (found found' : ℕ) (value value' : ℤ) (place place' result : ℕ) → Type 0
+abbrev pub TellsLargest : List ℕ → (source sink : ℕ)
+    → (flows flows' : List ℤ) (set set' : List ℕ) (found found' : ℕ) (value value' : ℤ) (place place' result : ℕ) → Type 0
 TellsLargest s source sink flows flows' set set' found found' value value' place place' result =
     (answer : LargestAnswer) × FindsLargest s source sink flows flows' set set' answer × LargestTold answer result found found' value value' place place'

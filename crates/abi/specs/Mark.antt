@@ -1,5 +1,5 @@
--- What a C program is told of settings that are marked. Document 01, "Operations", of Mark: "It gives the value." The result is the number of the refusal, or 0; the value and
--- the place are behind pointers.
+-- What a C program is told of settings that are marked. Document 01, "Operations", of Mark: "It gives the value." The result is the number of the refusal, or
+-- 0; the value and the place are behind pointers.
 use Prim.Native.Nat.{ℕ}
 use mathlib.Core.Path.{_≡_}
 use mathlib.Core.List.{List}
@@ -15,4 +15,5 @@ MarkTold (Refused k p) result value value' place place' = (result ≡ k) × (val
 
 -- an answer of Mark, and what is told of it
 abbrev pub TellsMark : List ℕ → (source sink : ℕ) → (flows : List ℤ) (value value' : ℤ) (place place' result : ℕ) → Type 0
-TellsMark s source sink flows value value' place place' result = (answer : MarkAnswer) × Marks s source sink flows answer × MarkTold answer result value value' place place'
+TellsMark s source sink flows value value' place place' result =
+    (answer : MarkAnswer) × Marks s source sink flows answer × MarkTold answer result value value' place place'

@@ -1,5 +1,5 @@
--- What a C program is told of a sheet that is read. Document 01, "Operations": "Read gives both counts and fills three slices". The result is the number of the refusal, or
--- 0; the counts and the place are behind pointers.
+-- What a C program is told of a sheet that is read. Document 01, "Operations": "Read gives both counts and fills three slices". The result is the number of the
+-- refusal, or 0; the counts and the place are behind pointers.
 use Prim.Native.Nat.{ℕ}
 use mathlib.Core.Path.{_≡_}
 use mathlib.Core.List.{List}
@@ -14,6 +14,9 @@ ReadTold (Counts n e) result nodes nodes' edges edges' place place' = (result �
 ReadTold (Refused k p) result nodes nodes' edges edges' place place' = (result ≡ k) × (nodes' ≡ nodes) × (edges' ≡ edges) × (place' ≡ p)
 
 -- an answer of Read, and what is told of it
-abbrev pub TellsRead : List ℕ → (tails rotations : List ℕ) (capacities : List ℤ) (tails' rotations' : List ℕ) (capacities' : List ℤ) (nodes nodes' edges edges' place place' result : ℕ) → Type 0
+abbrev pub TellsRead : List ℕ
+    → (tails rotations : List ℕ) (capacities : List ℤ) (tails' rotations' : List ℕ) (capacities' : List ℤ) (nodes nodes' edges edges' place place' result : ℕ)
+    → Type 0
 TellsRead s tails rotations capacities tails' rotations' capacities' nodes nodes' edges edges' place place' result =
-    (answer : ReadAnswer) × Reads s tails rotations capacities tails' rotations' capacities' answer × ReadTold answer result nodes nodes' edges edges' place place'
+    (answer : ReadAnswer) × Reads s tails rotations capacities tails' rotations' capacities' answer
+    × ReadTold answer result nodes nodes' edges edges' place place'

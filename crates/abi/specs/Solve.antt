@@ -1,5 +1,5 @@
--- What a C program is told of a solve answer. Document 01, "Operations": "A refusal is its number, with a lowest channel (17) or node (18), else place 0."; "Can" and
--- "cannot" with the size of the set are Solve's. The result is the number of the refusal, or 0; the rest is behind pointers.
+-- What a C program is told of a solve answer. Document 01, "Operations": "A refusal is its number, with a lowest channel (17) or node (18), else place 0.";
+-- "Can" and "cannot" with the size of the set are Solve's. The result is the number of the refusal, or 0; the rest is behind pointers.
 use Prim.Native.Nat.{ℕ}
 use mathlib.Core.Path.{_≡_}
 use mathlib.Core.List.{List}

@@ -1,5 +1,5 @@
--- What a C program is told of a sheet that is written. Document 01, "Operations": "Write takes a node count and those three slices, fills bytes and gives their number." The
--- result is the number of the refusal, or 0; the number of bytes and the place are behind pointers.
+-- What a C program is told of a sheet that is written. Document 01, "Operations": "Write takes a node count and those three slices, fills bytes and gives their
+-- number." The result is the number of the refusal, or 0; the number of bytes and the place are behind pointers.
 use Prim.Native.Nat.{ℕ}
 use mathlib.Core.Path.{_≡_}
 use mathlib.Core.List.{List}

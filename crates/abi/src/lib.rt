@@ -26,7 +26,9 @@ pub extern "C" fn analyser_read(
     edges: &mut u16,
     place: &mut u16,
 ) -> u8
-    ensures { λ r. ⌜ TellsRead (now (sheet .entry)) (now (tails .entry)) (now (rotations .entry)) (now (capacities .entry)) (now (tails .exit)) (now (rotations .exit)) (now (capacities .exit)) (now (nodes .entry)) (now (nodes .exit)) (now (edges .entry)) (now (edges .exit)) (now (place .entry)) (now (place .exit)) r ⌝ }
+    ensures { λ r. ⌜ TellsRead (now (sheet .entry)) (now (tails .entry)) (now (rotations .entry)) (now (capacities .entry))
+        (now (tails .exit)) (now (rotations .exit)) (now (capacities .exit)) (now (nodes .entry)) (now (nodes .exit))
+        (now (edges .entry)) (now (edges .exit)) (now (place .entry)) (now (place .exit)) r ⌝ }
 {
     let answer = sheets::read(sheet, tails, rotations, capacities);
     match answer {
@@ -53,7 +55,8 @@ pub extern "C" fn analyser_write(
     length: &mut usize,
     place: &mut u16,
 ) -> u8
-    ensures { λ r. ⌜ TellsWrite nodes (now (tails .entry)) (now (rotations .entry)) (now (capacities .entry)) (now (sheet .entry)) (now (sheet .exit)) (now (length .entry)) (now (length .exit)) (now (place .entry)) (now (place .exit)) r ⌝ }
+    ensures { λ r. ⌜ TellsWrite nodes (now (tails .entry)) (now (rotations .entry)) (now (capacities .entry)) (now (sheet .entry))
+        (now (sheet .exit)) (now (length .entry)) (now (length .exit)) (now (place .entry)) (now (place .exit)) r ⌝ }
 {
     let answer = sheets::write(nodes, tails, rotations, capacities, sheet);
     match answer {
@@ -81,7 +84,8 @@ pub extern "C" fn analyser_solve(
     size: &mut u16,
     place: &mut u16,
 ) -> u8
-    ensures { λ r. ⌜ TellsSolve (now (sheet .entry)) source sink value (now (flows .entry)) (now (flows .exit)) (now (set .entry)) (now (set .exit)) (now (can .entry)) (now (can .exit)) (now (size .entry)) (now (size .exit)) (now (place .entry)) (now (place .exit)) r ⌝ }
+    ensures { λ r. ⌜ TellsSolve (now (sheet .entry)) source sink value (now (flows .entry)) (now (flows .exit)) (now (set .entry)) (now (set .exit))
+        (now (can .entry)) (now (can .exit)) (now (size .entry)) (now (size .exit)) (now (place .entry)) (now (place .exit)) r ⌝ }
 {
     let answer = analyser::solve(sheet, source, sink, value, flows, set);
     match answer {
@@ -113,7 +117,8 @@ pub extern "C" fn analyser_largest(
     value: &mut i32,
     place: &mut u16,
 ) -> u8
-    ensures { λ r. ⌜ TellsLargest (now (sheet .entry)) source sink (now (flows .entry)) (now (flows .exit)) (now (set .entry)) (now (set .exit)) (now (found .entry)) (now (found .exit)) (now (value .entry)) (now (value .exit)) (now (place .entry)) (now (place .exit)) r ⌝ }
+    ensures { λ r. ⌜ TellsLargest (now (sheet .entry)) source sink (now (flows .entry)) (now (flows .exit)) (now (set .entry)) (now (set .exit))
+        (now (found .entry)) (now (found .exit)) (now (value .entry)) (now (value .exit)) (now (place .entry)) (now (place .exit)) r ⌝ }
 {
     let answer = analyser::largest(sheet, source, sink, flows, set);
     match answer {
@@ -143,7 +148,8 @@ pub extern "C" fn analyser_mark(
     value: &mut i32,
     place: &mut u16,
 ) -> u8
-    ensures { λ r. ⌜ TellsMark (now (sheet .entry)) source sink (now (flows .entry)) (now (value .entry)) (now (value .exit)) (now (place .entry)) (now (place .exit)) r ⌝ }
+    ensures { λ r. ⌜ TellsMark (now (sheet .entry)) source sink (now (flows .entry))
+        (now (value .entry)) (now (value .exit)) (now (place .entry)) (now (place .exit)) r ⌝ }
 {
     let answer = analyser::mark(sheet, source, sink, flows);
     match answer {
@@ -166,7 +172,8 @@ pub extern "C" fn analyser_levels_from_settings(
     levels: &mut [i32],
     place: &mut u16,
 ) -> u8
-    ensures { λ r. ⌜ TellsLevels (now (sheet .entry)) (now (flows .entry)) (now (levels .entry)) (now (levels .exit)) (now (place .entry)) (now (place .exit)) r ⌝ }
+    ensures { λ r. ⌜ TellsLevels (now (sheet .entry)) (now (flows .entry)) (now (levels .entry))
+        (now (levels .exit)) (now (place .entry)) (now (place .exit)) r ⌝ }
 {
     let answer = analyser::levels_from_settings(sheet, flows, levels);
     match answer {
@@ -186,7 +193,8 @@ pub extern "C" fn analyser_settings_from_levels(
     flows: &mut [i32],
     place: &mut u16,
 ) -> u8
-    ensures { λ r. ⌜ TellsSettings (now (sheet .entry)) (now (levels .entry)) (now (flows .entry)) (now (flows .exit)) (now (place .entry)) (now (place .exit)) r ⌝ }
+    ensures { λ r. ⌜ TellsSettings (now (sheet .entry)) (now (levels .entry))
+        (now (flows .entry)) (now (flows .exit)) (now (place .entry)) (now (place .exit)) r ⌝ }
 {
     let answer = analyser::settings_from_levels(sheet, levels, flows);
     match answer {
@@ -206,7 +214,8 @@ pub extern "C" fn analyser_key_text(
     length: &mut usize,
     place: &mut u16,
 ) -> u8
-    ensures { λ r. ⌜ TellsKey (now (input .entry)) (now (text .entry)) (now (text .exit)) (now (length .entry)) (now (length .exit)) (now (place .entry)) (now (place .exit)) r ⌝ }
+    ensures { λ r. ⌜ TellsKey (now (input .entry)) (now (text .entry)) (now (text .exit))
+        (now (length .entry)) (now (length .exit)) (now (place .entry)) (now (place .exit)) r ⌝ }
 {
     let answer = key_text::write_key(input, text);
     match answer {

@@ -64,6 +64,7 @@ unfolding markChecks
 mark-parts s source sink flows h = append-none (sheetChecks s) _ h
 
 -- ── Levels from settings ──
-pub levels-none : (s : List ℕ) (flows levels : List ℤ) → NoneOf (sheetChecks s) → NoneOf (balancedChecks (sheetDrawing s) flows levels) → NoneOf (levelsChecks s flows levels)
+pub levels-none : (s : List ℕ) (flows levels : List ℤ) → NoneOf (sheetChecks s)
+    → NoneOf (balancedChecks (sheetDrawing s) flows levels) → NoneOf (levelsChecks s flows levels)
 unfolding levelsChecks
 levels-none s flows levels h b = none-append (sheetChecks s) _ h b

@@ -1,5 +1,5 @@
--- An accepted sheet with two ends that are nodes: a proving set excludes every flow of its value, and the highest answer is one. What is said of Solve, of Largest and of
--- the key rests on these two.
+-- An accepted sheet with two ends that are nodes: a proving set excludes every flow of its value, and the highest answer is one. What is said of Solve, of
+-- Largest and of the key rests on these two.
 use mathlib.Core.Path.{_≡_}
 use mathlib.Core.Bool.{Bool}
 use mathlib.Core.List.{List}
@@ -18,12 +18,14 @@ use Rattle.questions.proofs.Asked.{ends-in, ends-differ}
 use Rattle.analyser.proofs.SheetPlane.{plane, outer-in}
 
 module _ (s : List ℕ) (sheet : NoneOf (sheetChecks s)) (source sink : ℕ) (two : NoneOf (endChecks (nodesOf s) source sink)) where
-  pub excludes : (value : ℤ) (S : ℕ → Bool) → Proves (sheetMap s) (capacityOf s) source sink value S → (x : ℕ → ℤ) → Carries (sheetMap s) (capacityOf s) source sink value x → ⊥
+  pub excludes : (value : ℤ) (S : ℕ → Bool) → Proves (sheetMap s) (capacityOf s) source sink value S
+      → (x : ℕ → ℤ) → Carries (sheetMap s) (capacityOf s) source sink value x → ⊥
   excludes value S =
       let e = ends-in (nodesOf s) source sink two in
       proves-excludes (plane s sheet .sound .range) (e .0) (e .1) (ends-differ (nodesOf s) source sink two) (capacityOf s) value S
 
-  pub one-highest : (value : ℤ) (x y : ℕ → ℤ) → Highest (sheetMap s) (outerOf s) (capacityOf s) source sink value x → Highest (sheetMap s) (outerOf s) (capacityOf s) source sink value y
+  pub one-highest : (value : ℤ) (x y : ℕ → ℤ) → Highest (sheetMap s) (outerOf s) (capacityOf s) source sink value x
+      → Highest (sheetMap s) (outerOf s) (capacityOf s) source sink value y
       → (e : ℕ) → e < edgesOf s → x e ≡ y e
   one-highest value x y =
       let e = ends-in (nodesOf s) source sink two in

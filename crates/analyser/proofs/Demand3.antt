@@ -1,8 +1,8 @@
--- Demand 3, of Solve and Largest: "For every accepted flat connected drawing and question: "cannot" exactly when no whole-number settings carry the delivery, with a set of
--- nodes that proves it; the largest delivery is carried by the settings given, nothing greater can be, and its set proves the next one impossible; "none" exactly when
--- nothing at all can be delivered, with a set that proves it." Everything here follows from the contracts, `Solves` and `FindsLargest`, and from nothing else; a sheet
--- that is accepted is flat and connected, because 11 and 12 are among its checks. Settings are any function from edges to whole numbers, deliveries any whole number: no
--- bound is assumed of them.
+-- Demand 3, of Solve and Largest: "For every accepted flat connected drawing and question: "cannot" exactly when no whole-number settings carry the delivery,
+-- with a set of nodes that proves it; the largest delivery is carried by the settings given, nothing greater can be, and its set proves the next one
+-- impossible; "none" exactly when nothing at all can be delivered, with a set that proves it." Everything here follows from the contracts, `Solves` and
+-- `FindsLargest`, and from nothing else; a sheet that is accepted is flat and connected, because 11 and 12 are among its checks. Settings are any function from
+-- edges to whole numbers, deliveries any whole number: no bound is assumed of them.
 use mathlib.Core.Path.{_≡_, refl, sym, subst}
 use mathlib.Core.Logic.{_≢_, _⊎_, inl, inr}
 use mathlib.Core.List.{List}
@@ -10,7 +10,7 @@ use Prim.Native.Nat.{ℕ, _<_}
 use native.Mathlib.Omega.{arith}
 use lib.IntN.{ℤ, pos, _+ℤ_}
 use lib.Signed.{_≤ℤ_}
-use Rattle.integers.specs.Limited.{Limited}
+use Rattle.integers.specs.inner.Limited.{Limited}
 use Rattle.integers.proofs.Omega.{atoms₁, atoms₃, parts, at-most, from-at-most, from-less}
 use Rattle.refusals.specs.Order.{NoneOf}
 use Rattle.refusals.proofs.Order.{first-none}
@@ -19,7 +19,7 @@ use Rattle.flows.specs.Highest.{Highest}
 use Rattle.flows.specs.ProvingSet.{Proves, member, size}
 use Rattle.flows.proofs.Agreement.{highest-agrees}
 use Rattle.flows.proofs.Interval.{which, source-limits, source-short, sink-proves-less, beside-proves, beside-proves-all}
-use Rattle.flows.specs.Sides.{AtSource, AtSink, Beside}
+use Rattle.flows.specs.inner.Sides.{AtSource, AtSink, Beside}
 use Rattle.flows.proofs.ValueBound.{value-small}
 use Rattle.maps.specs.Cut.{cut}
 use Rattle.records.specs.Sheet.{nodesOf, edgesOf, capacityOf, outerOf, sheetMap}
@@ -62,7 +62,8 @@ module _ (s : List ℕ) (source sink : ℕ) (value : ℤ) (flows flows' : List �
   pub can-carries : Solves s source sink value flows flows' set set' Can → Delivers s source sink value (atℤ flows')
   can-carries h = can-highest h .carries
 
-  pub can-only : Solves s source sink value flows flows' set set' Can → (y : ℕ → ℤ) → Highest (sheetMap s) (outerOf s) (capacityOf s) source sink value y → (e : ℕ) → e < edgesOf s → atℤ flows' e ≡ y e
+  pub can-only : Solves s source sink value flows flows' set set' Can → (y : ℕ → ℤ)
+      → Highest (sheetMap s) (outerOf s) (capacityOf s) source sink value y → (e : ℕ) → e < edgesOf s → atℤ flows' e ≡ y e
   can-only h y highest =
       let a = accepted s source sink value flows set asked in
       one-highest s (a .sheet) source sink (a .ends-two) value (atℤ flows') y (can-highest h) highest
@@ -91,7 +92,8 @@ module _ (s : List ℕ) (source sink : ℕ) (value : ℤ) (flows flows' : List �
         × (((x : ℕ → ℤ) → Delivers s source sink value x → ⊥) → (n : ℕ) × (answer ≡ Cannot n))
     cannot-exactly = ((λ n e. cannot-none n (subst (Solves s source sink value flows flows' set set') e solved)), (λ none. by answer solved none))
       where
-        by : (a : SolveAnswer) → Solves s source sink value flows flows' set set' a → ((x : ℕ → ℤ) → Delivers s source sink value x → ⊥) → (n : ℕ) × (a ≡ Cannot n)
+        by : (a : SolveAnswer) → Solves s source sink value flows flows' set set' a
+            → ((x : ℕ → ℤ) → Delivers s source sink value x → ⊥) → (n : ℕ) × (a ≡ Cannot n)
         by Can h none = absurd (none (atℤ flows') (can-carries h))
         by (Cannot n) h none = (n, refl)
         by (Refused k p) h none = absurd (never-refused k p h)
@@ -139,19 +141,25 @@ module _ (s : List ℕ) (source sink : ℕ) (flows flows' : List ℤ) (set set' 
             let k = atoms₃ w v (cut (sheetMap s) (capacityOf s) (member (h .2 .0))) in
             at-most (search parts) (omega (
               arith,
-              from-at-most (source-limits (plane s (known .sheet) .sound .range) (ends .0) (ends .1) apart (capacityOf s) (member (h .2 .0)) side w x d) (search parts),
+              from-at-most (source-limits (plane s (known .sheet) .sound .range) (ends .0) (ends .1) apart (capacityOf s) (member (h .2 .0)) side w x d)
+                  (search parts),
               from-less (source-short (sheetMap s) (capacityOf s) source sink (member (h .2 .0)) side (v +ℤ pos 1) proves) (search parts),
             ))
-        go (inr (inl side)) = absurd (excludes s (known .sheet) source sink (known .ends-two) v (member (h .2 .0)) (sink-proves-less (sheetMap s) (capacityOf s) source sink (member (h .2 .0)) side (v +ℤ pos 1) v below proves) (atℤ flows') largest-carries)
+        go (inr (inl side)) =
+            absurd (excludes s (known .sheet) source sink (known .ends-two) v (member (h .2 .0))
+            (sink-proves-less (sheetMap s) (capacityOf s) source sink (member (h .2 .0)) side (v +ℤ pos 1) v below proves) (atℤ flows') largest-carries)
           where
             below : v ≤ℤ (v +ℤ pos 1)
             below = let k = atoms₁ v in at-most (search parts) (omega arith)
-        go (inr (inr side)) = absurd (excludes s (known .sheet) source sink (known .ends-two) v (member (h .2 .0)) (beside-proves-all (sheetMap s) (capacityOf s) source sink (member (h .2 .0)) side (v +ℤ pos 1) proves v) (atℤ flows') largest-carries)
+        go (inr (inr side)) =
+            absurd (excludes s (known .sheet) source sink (known .ends-two) v (member (h .2 .0))
+            (beside-proves-all (sheetMap s) (capacityOf s) source sink (member (h .2 .0)) side (v +ℤ pos 1) proves v) (atℤ flows') largest-carries)
 
     -- it lies within ±512,000,000
     pub largest-small : Limited 512000000 v
     largest-small =
-        value-small (plane s (known .sheet) .sound .range) (ends .0) (ends .1) apart (capacityOf s) (sheet-counts s (known .sheet) .3) (λ d l. capacity-small s (known .sheet) d l .high) v (atℤ flows') largest-carries
+        value-small (plane s (known .sheet) .sound .range) (ends .0) (ends .1) apart (capacityOf s)
+        (sheet-counts s (known .sheet) .3) (λ d l. capacity-small s (known .sheet) d l .high) v (atℤ flows') largest-carries
 
   -- ── "none": the set given proves each delivery impossible, of every whole number ──
   module _ (h : FindsLargest s source sink flows flows' set set' None) where
@@ -167,7 +175,8 @@ module _ (s : List ℕ) (source sink : ℕ) (flows flows' : List ℤ) (set set' 
         × (((value : ℤ) (x : ℕ → ℤ) → Delivers s source sink value x → ⊥) → answer ≡ None)
     none-exactly = ((λ q. none-delivered (subst (FindsLargest s source sink flows flows' set set') q found)), (λ nothing. by answer found nothing))
       where
-        by : (r : LargestAnswer) → FindsLargest s source sink flows flows' set set' r → ((value : ℤ) (x : ℕ → ℤ) → Delivers s source sink value x → ⊥) → r ≡ None
+        by : (r : LargestAnswer) → FindsLargest s source sink flows flows' set set' r
+            → ((value : ℤ) (x : ℕ → ℤ) → Delivers s source sink value x → ⊥) → r ≡ None
         by (Value v) h nothing = absurd (nothing v (atℤ flows') (largest-carries v h))
         by None h nothing = refl
         by (largest.Refused k p) h nothing = absurd (largest-answered k p h)
@@ -177,7 +186,8 @@ module _ (s : List ℕ) (source sink : ℕ) (flows flows' : List ℤ) (set set' 
         × ((value : ℤ) (x : ℕ → ℤ) → Delivers s source sink value x → (v : ℤ) × (answer ≡ Value v))
     value-exactly = ((λ v q. largest-carries v (subst (FindsLargest s source sink flows flows' set set') q found)), (λ value x d. by answer found value x d))
       where
-        by : (r : LargestAnswer) → FindsLargest s source sink flows flows' set set' r → (value : ℤ) (x : ℕ → ℤ) → Delivers s source sink value x → (v : ℤ) × (r ≡ Value v)
+        by : (r : LargestAnswer) → FindsLargest s source sink flows flows' set set' r
+            → (value : ℤ) (x : ℕ → ℤ) → Delivers s source sink value x → (v : ℤ) × (r ≡ Value v)
         by (Value v) h value x d = (v, refl)
         by None h value x d = absurd (none-delivered h value x d)
         by (largest.Refused k p) h value x d = absurd (largest-answered k p h)

@@ -1,3 +1,4 @@
+-- From an accepted sheet to the operations on it, and the printed statements.
 pub mod SheetPlane
 pub mod Opened
 pub mod Accepted

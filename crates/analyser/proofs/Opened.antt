@@ -1,19 +1,19 @@
--- An opened sheet, for every operation: the arrays filled from it hold its drawing, so that what an operation on drawings asks is met, and what it answers is the answer on the
--- sheet, with the sheet checks in front.
+-- An opened sheet, for every operation: the arrays filled from it hold its drawing, so that what an operation on drawings asks is met, and what it answers is
+-- the answer on the sheet, with the sheet checks in front.
 use mathlib.Core.Path.{_≡_, refl, sym, ap, subst}
 use mathlib.Core.List.{List, _++_}
 use Prim.Native.Nat.{ℕ, _*_, _≤_, _<_}
 use native.Mathlib.Omega.{arith}
 use lib.IntN.{ℤ}
-use Rattle.integers.specs.Limited.{Limited}
+use Rattle.integers.specs.inner.Limited.{Limited}
 use Rattle.refusals.specs.Order.{Check, NoneOf, FirstOf}
 use Rattle.refusals.proofs.Order.{first-left}
 use Rattle.maps.specs.Map.{Map, darts}
 use Rattle.maps.specs.Drawing.{Drawing}
 use Rattle.arrays.specs.At.{at, atℤ}
 use Rattle.arrays.specs.Maps.{mapOf, drawingOf}
-use Rattle.arrays.specs.Sizes.{mostOnSheet}
-use Rattle.arrays.specs.Drawn.{Drawn}
+use Rattle.arrays.specs.inner.Sizes.{mostOnSheet}
+use Rattle.arrays.specs.inner.Drawn.{Drawn}
 use Rattle.records.specs.Sheet.{nodesOf, edgesOf, outerOf, tailOf, rotationOf, capacityOf, sheetMap, sheetDrawing}
 use Rattle.records.proofs.Bytes.{bytes-range}
 use Rattle.sheets.specs.Open.{sheetChecks, Numbers}
@@ -69,7 +69,8 @@ module _ (s : List ℕ) (o : Opened) (lefts tails rotations : List ℕ) (capacit
   same : drawingOf (o .nodes) (o .edges) (o .outer) tails rotations capacities ≡ sheetDrawing s
   same =
       let n = open' .1 in
-      drawings-are s (o .nodes) (o .edges) (o .outer) tails rotations capacities (n .nodes-are) (n .edges-are) (n .outer-is) tails-are rotations-are capacities-are
+      drawings-are s (o .nodes) (o .edges) (o .outer) tails rotations capacities
+      (n .nodes-are) (n .edges-are) (n .outer-is) tails-are rotations-are capacities-are
 
   pub drawn : Drawn (mapOf (o .nodes) (o .edges) tails rotations) (at lefts) (o .faces) (o .outer) (atℤ capacities)
   drawn =
@@ -80,7 +81,8 @@ module _ (s : List ℕ) (o : Opened) (lefts tails rotations : List ℕ) (capacit
   small = subst (λ 𝓓. (d : ℕ) → d < darts (𝓓 .map) → Limited mostOnSheet (𝓓 .capacity d)) (sym same) (capacity-small s (open' .0))
 
   -- what Mark asks, which is less
-  pub markable : (o .nodes ≤ 1024) × (o .edges ≤ 512) × ((d : ℕ) → d < 2 * o .edges → at tails d < o .nodes) × ((d : ℕ) → d < 2 * o .edges → Limited mostOnSheet (atℤ capacities d))
+  pub markable : (o .nodes ≤ 1024) × (o .edges ≤ 512) × ((d : ℕ) → d < 2 * o .edges → at tails d < o .nodes)
+      × ((d : ℕ) → d < 2 * o .edges → Limited mostOnSheet (atℤ capacities d))
   markable =
       let n = sheet-counts s (open' .0) in (
         omega (arith, open' .1 .nodes-are, n .1),
@@ -90,7 +92,8 @@ module _ (s : List ℕ) (o : Opened) (lefts tails rotations : List ℕ) (capacit
       )
 
   pub solved-sheet : (source sink : ℕ) {v value : ℤ} → v ≡ value → (flows flows' : List ℤ) (set set' : List ℕ) (r : SolveAnswer)
-      → Solved (drawingOf (o .nodes) (o .edges) (o .outer) tails rotations capacities) (questionChecks (o .nodes) (o .edges) source sink v flows set) source sink v flows flows' set set' r
+      → Solved (drawingOf (o .nodes) (o .edges) (o .outer) tails rotations capacities)
+      (questionChecks (o .nodes) (o .edges) source sink v flows set) source sink v flows flows' set set' r
       → Solves s source sink value flows flows' set set' r
   unfolding solveChecks
   solved-sheet source sink {value = value} e flows flows' set set' r h =
@@ -99,7 +102,8 @@ module _ (s : List ℕ) (o : Opened) (lefts tails rotations : List ℕ) (capacit
       (subst (λ w. Solved held (questionChecks (o .nodes) (o .edges) source sink w flows set) source sink w flows flows' set set' r) e h))
 
   pub largest-sheet : (source sink : ℕ) (flows flows' : List ℤ) (set set' : List ℕ) (r : LargestAnswer)
-      → LargestFound (drawingOf (o .nodes) (o .edges) (o .outer) tails rotations capacities) (searchChecks (o .nodes) (o .edges) source sink flows set) source sink flows flows' set set' r
+      → LargestFound (drawingOf (o .nodes) (o .edges) (o .outer) tails rotations capacities)
+      (searchChecks (o .nodes) (o .edges) source sink flows set) source sink flows flows' set set' r
       → FindsLargest s source sink flows flows' set set' r
   unfolding largestChecks
   largest-sheet source sink flows flows' set set' r h =
@@ -107,22 +111,28 @@ module _ (s : List ℕ) (o : Opened) (lefts tails rotations : List ℕ) (capacit
       (subst (λ 𝓓. LargestFound 𝓓 (searchChecks (𝓓 .map .nodes) (𝓓 .map .edges) source sink flows set) source sink flows flows' set set' r) same h)
 
   pub marked-sheet : (source sink : ℕ) (flows : List ℤ) (r : MarkAnswer)
-      → Marked (drawingOf (o .nodes) (o .edges) (o .outer) tails rotations capacities) (paperChecks (drawingOf (o .nodes) (o .edges) (o .outer) tails rotations capacities) source sink flows) source sink flows r
+      → Marked (drawingOf (o .nodes) (o .edges) (o .outer) tails rotations capacities)
+      (paperChecks (drawingOf (o .nodes) (o .edges) (o .outer) tails rotations capacities) source sink flows) source sink flows r
       → Marks s source sink flows r
   unfolding markChecks
   marked-sheet source sink flows r h =
-      marked-after (sheetChecks s) (open' .0) (sheetDrawing s) _ source sink flows r (subst (λ 𝓓. Marked 𝓓 (paperChecks 𝓓 source sink flows) source sink flows r) same h)
+      marked-after (sheetChecks s) (open' .0) (sheetDrawing s) _ source sink flows r
+      (subst (λ 𝓓. Marked 𝓓 (paperChecks 𝓓 source sink flows) source sink flows r) same h)
 
   pub levels-sheet : (flows levels levels' : List ℤ) (r : LevelAnswer)
-      → LevelsGiven (drawingOf (o .nodes) (o .edges) (o .outer) tails rotations capacities) (balancedChecks (drawingOf (o .nodes) (o .edges) (o .outer) tails rotations capacities) flows levels) flows levels levels' r
+      → LevelsGiven (drawingOf (o .nodes) (o .edges) (o .outer) tails rotations capacities)
+      (balancedChecks (drawingOf (o .nodes) (o .edges) (o .outer) tails rotations capacities) flows levels) flows levels levels' r
       → GivesLevels s flows levels levels' r
   unfolding levelsChecks
   levels-sheet flows levels levels' r h =
-      levels-after (sheetChecks s) (open' .0) (sheetDrawing s) _ flows levels levels' r (subst (λ 𝓓. LevelsGiven 𝓓 (balancedChecks 𝓓 flows levels) flows levels levels' r) same h)
+      levels-after (sheetChecks s) (open' .0) (sheetDrawing s) _ flows levels levels' r
+      (subst (λ 𝓓. LevelsGiven 𝓓 (balancedChecks 𝓓 flows levels) flows levels levels' r) same h)
 
   pub settings-sheet : (levels flows flows' : List ℤ) (r : LevelAnswer)
-      → SettingsGiven (drawingOf (o .nodes) (o .edges) (o .outer) tails rotations capacities) (leveledChecks (drawingOf (o .nodes) (o .edges) (o .outer) tails rotations capacities) levels flows) levels flows flows' r
+      → SettingsGiven (drawingOf (o .nodes) (o .edges) (o .outer) tails rotations capacities)
+      (leveledChecks (drawingOf (o .nodes) (o .edges) (o .outer) tails rotations capacities) levels flows) levels flows flows' r
       → GivesSettings s levels flows flows' r
   unfolding settingsChecks
   settings-sheet levels flows flows' r h =
-      settings-after (sheetChecks s) (open' .0) (sheetDrawing s) _ levels flows flows' r (subst (λ 𝓓. SettingsGiven 𝓓 (leveledChecks 𝓓 levels flows) levels flows flows' r) same h)
+      settings-after (sheetChecks s) (open' .0) (sheetDrawing s) _ levels flows flows' r
+      (subst (λ 𝓓. SettingsGiven 𝓓 (leveledChecks 𝓓 levels flows) levels flows flows' r) same h)

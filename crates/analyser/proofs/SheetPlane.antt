@@ -1,23 +1,24 @@
--- An accepted sheet's drawing is plane, its outer dart is one of its darts, and its capacities are within their range; its circulations have levels, one set of them.
+-- An accepted sheet's drawing is plane, its outer dart is one of its darts, and its capacities are within their range;
+-- its circulations have levels, one set of them.
 use mathlib.Core.Path.{_≡_, refl, sym, _∙_, ap}
 use mathlib.Core.List.{List}
 use Prim.Native.Nat.{ℕ, _+_, _*_, _≤_, _<_}
 use native.Mathlib.Omega.{arith}
 use lib.IntN.{ℤ, pos, negsuc}
 use lib.Signed.{_≤ℤ_}
-use Rattle.integers.specs.Limited.{Limited}
+use Rattle.integers.specs.inner.Limited.{Limited}
 use Rattle.integers.proofs.Limits.{limited-more}
 use Rattle.refusals.specs.Order.{NoneOf}
 use Rattle.maps.specs.Map.{Map, darts}
 use Rattle.maps.specs.Face.{faces, left}
 use Rattle.flows.specs.Settings.{onDarts, Balanced}
 use Rattle.flows.specs.Levels.{Levels}
-use Rattle.flows.specs.Plane.{Plane}
+use Rattle.flows.specs.inner.Plane.{Plane}
 use Rattle.flows.proofs.Plane.{potentials-at, potentials-one}
 use Rattle.flows.proofs.LevelBound.{faces-few}
 use Rattle.arrays.specs.At.{at}
-use Rattle.arrays.specs.Sizes.{mostOnSheet}
-use Rattle.arrays.specs.Drawn.{Drawn}
+use Rattle.arrays.specs.inner.Sizes.{mostOnSheet}
+use Rattle.arrays.specs.inner.Drawn.{Drawn}
 use Rattle.rotations.proofs.Accepted.{accepted}
 use Rattle.records.specs.Sheet.{nodesOf, edgesOf, capacityOf, outerOf, sheetMap}
 use Rattle.records.proofs.Bytes.{bytes-range, bytes-capacities, bytes-pairs}

@@ -8,7 +8,7 @@ use native.Mathlib.Omega.{arith}
 use lib.ListN.{length, getD, drop, List·getD-append}
 use lib.IntN.{ℤ, pos, negsuc, negℤ, _-ℤ_}
 use lib.Signed.{_≤ℤ_, _<ℤ_}
-use Rattle.integers.specs.Limited.{Limited}
+use Rattle.integers.specs.inner.Limited.{Limited}
 use Rattle.integers.proofs.Omega.{atoms₁, parts, from-less, from-at-most}
 use Rattle.refusals.specs.Order.{Check, _when_, NoneOf, FirstOf}
 use Rattle.refusals.proofs.Order.{none-append, append-none, first-none, neither}
@@ -63,11 +63,13 @@ module _ (s : List ℕ) where
   unfolding levelsChecks
   levels-parts flows levels h = append-none (sheetChecks s) _ h
 
-  settings-parts : (levels flows : List ℤ) → NoneOf (settingsChecks s levels flows) → NoneOf (sheetChecks s) × NoneOf (leveledChecks (sheetDrawing s) levels flows)
+  settings-parts : (levels flows : List ℤ) → NoneOf (settingsChecks s levels flows)
+      → NoneOf (sheetChecks s) × NoneOf (leveledChecks (sheetDrawing s) levels flows)
   unfolding settingsChecks
   settings-parts levels flows h = append-none (sheetChecks s) _ h
 
-  settings-whole : (levels flows : List ℤ) → NoneOf (sheetChecks s) → NoneOf (leveledChecks (sheetDrawing s) levels flows) → NoneOf (settingsChecks s levels flows)
+  settings-whole : (levels flows : List ℤ) → NoneOf (sheetChecks s)
+      → NoneOf (leveledChecks (sheetDrawing s) levels flows) → NoneOf (settingsChecks s levels flows)
   unfolding settingsChecks
   settings-whole levels flows h b = none-append (sheetChecks s) _ h b
 
@@ -80,7 +82,8 @@ module _ (s : List ℕ) where
       sheet : NoneOf (sheetChecks s)
       sheet = levels-parts flows levels (given .0) .0
 
-      p : (edgesOf s ≤ length flows) × (F ≤ length levels) × NoneOf (withinChecks (edgesOf s) (capacityOf s) (atℤ flows)) × NoneOf (balanceChecks 𝓜 NoNode (atℤ flows))
+      p : (edgesOf s ≤ length flows) × (F ≤ length levels)
+          × NoneOf (withinChecks (edgesOf s) (capacityOf s) (atℤ flows)) × NoneOf (balanceChecks 𝓜 NoNode (atℤ flows))
       p = balanced-parts (sheetDrawing s) flows levels (levels-parts flows levels (given .0) .1)
 
       ρ : ℕ → ℤ
@@ -101,21 +104,27 @@ module _ (s : List ℕ) where
       -- the differences of the levels are the settings
       same : (e : ℕ) → e < edgesOf s → fromLevels 𝓜 (atℤ levels') e ≡ atℤ flows e
       same e l =
-          ap₂ _-ℤ_ (at-face (left 𝓜 (2 * e)) (left-in (plane s sheet .sound) (2 * e) (omega arith))) (at-face (right 𝓜 (2 * e)) (right-in (plane s sheet .sound) (2 * e) (omega arith)))
+          ap₂ _-ℤ_ (at-face (left 𝓜 (2 * e)) (left-in (plane s sheet .sound) (2 * e) (omega arith)))
+          (at-face (right 𝓜 (2 * e)) (right-in (plane s sheet .sound) (2 * e) (omega arith)))
           ∙ sym (is .differences (2 * e) (omega arith))
           ∙ onDarts-even (atℤ flows) e
 
       inside : (f : ℕ) → f < F → LevelOutside (atℤ levels' f) → ⊥
-      inside f l = rw (at-face f l) (neither (λ h. let x = atoms₁ (ρ f) in omega (arith, from-less h (search parts), from-at-most (small .low) (search parts))) (λ h. let x = atoms₁ (ρ f) in omega (arith, from-less h (search parts), from-at-most (small .high) (search parts))))
+      inside f l =
+          rw (at-face f l) (neither (λ h. let x = atoms₁ (ρ f) in omega (arith, from-less h (search parts), from-at-most (small .low) (search parts)))
+          (λ h. let x = atoms₁ (ρ f) in omega (arith, from-less h (search parts), from-at-most (small .high) (search parts))))
         where
           small : Limited 511000000 (ρ f)
-          small = levels-small (plane s sheet) (faces-at-most s sheet) (outerOf s) (outer-in s sheet) (capacityOf s) (atℤ flows) ρ (λ d m. capacity-small s sheet d m .high) within is f l
+          small =
+              levels-small (plane s sheet) (faces-at-most s sheet) (outerOf s) (outer-in s sheet)
+              (capacityOf s) (atℤ flows) ρ (λ d m. capacity-small s sheet d m .high) within is f l
 
       whole : NoneOf (settingsChecks s levels' flows₀)
       whole =
           settings-whole levels' flows₀ sheet (leveled-whole (sheetDrawing s) levels' flows₀ room long inside
           (λ f z. at-face f (rw z (left-in (plane s sheet .sound) (outerOf s) (outer-in s sheet))) ∙ is .rooted f z)
-          (within-none 𝓜 (capacityOf s) (fromLevels 𝓜 (atℤ levels')) (within-agrees 𝓜 (atℤ flows) (fromLevels 𝓜 (atℤ levels')) (λ e l. sym (same e l)) (capacityOf s) within)))
+          (within-none 𝓜 (capacityOf s) (fromLevels 𝓜 (atℤ levels'))
+          (within-agrees 𝓜 (atℤ flows) (fromLevels 𝓜 (atℤ levels')) (λ e l. sym (same e l)) (capacityOf s) within)))
 
       finish : (a : LevelAnswer) → GivesSettings s levels' flows₀ flows₁ a → (a ≡ Done) × ((e : ℕ) → e < edgesOf s → atℤ flows₁ e ≡ atℤ flows e)
       finish Done h = (refl, λ e l. filled-front (pos 0) (edgesOf s) (fromLevels 𝓜 (atℤ levels')) flows₀ flows₁ (h .1) e l ∙ same e l)

@@ -1,8 +1,8 @@
 -- What the course book prints of the operations on sheets (document 01, demands 2 and 3), as two records: a field for each statement, with the printed
 -- words above it. Each is about every run of an operation: all that a field knows of a run is its contract, `Solves`, `FindsLargest`, `Marks`,
 -- `GivesLevels` or `GivesSettings`. A sheet or a question is accepted where no check of its list holds; an accepted sheet is flat and connected, because 11
--- and 12 are among its checks. Of the outer face (document 02, Job 6) there is one more. Settings are any function from edges to whole numbers, deliveries any whole number. The proofs are in
--- proofs/Statements.antt.
+-- and 12 are among its checks. A third record speaks of the outer face (document 02, Job 6). Settings are any function from edges to whole numbers, deliveries
+-- any whole number. The proofs are in proofs/Statements.antt.
 use Prim.Native.Nat.{ℕ, _≤_, _<_}
 use mathlib.Core.Path.{_≡_}
 use mathlib.Core.Logic.{_↔_}
@@ -91,8 +91,8 @@ pub record SettingsAndLevels : Type 0 where
       → (again again' : List ℤ) (answer : LevelAnswer) → faces (sheetMap s) ≤ length again → GivesLevels s flows' again again' answer
       → (answer ≡ Done) × ((f : ℕ) → f < faces (sheetMap s) → atℤ again' f ≡ atℤ levels f)
 
--- ── document 02, Job 6: "A kind 1 head is still read, as outer dart 0." The highest answer, both level operations and refusal 20 know the outer dart by the face at
--- level 0 alone, which is face 0 then, as document 01 has it ──
+-- ── document 02, Job 6: "A kind 1 head is still read, as outer dart 0." The highest answer, both level operations and refusal 20 know the outer dart by the
+-- face at level 0 alone, which is face 0 then, as document 01 has it ──
 pub record OuterFace : Type 0 where
   pub kind-one-outer : (s : List ℕ) → NoneOf (sheetChecks s) → kindOf s ≡ 1 → (f : ℕ) → ZeroFace (sheetMap s) (outerOf s) f ↔ (f ≡ 0)
 

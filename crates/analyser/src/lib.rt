@@ -1,5 +1,5 @@
-// The analyser's operations on sheets. Document 01, "Operations": Solve, Largest, Mark, Levels from settings, Settings from levels. Each makes the network record once, in
-// its own frame, fills it from the sheet, and lends its arrays to the operation on drawings.
+// The analyser's operations on sheets. Document 01, "Operations": Solve, Largest, Mark, Levels from settings, Settings from levels. Each makes the network
+// record once, in its own frame, fills it from the sheet, and lends its arrays to the operation on drawings.
 ghost use Rattle.analyser.specs.Solve.{Solves};
 ghost use Rattle.analyser.specs.Largest.{FindsLargest};
 ghost use Rattle.analyser.specs.Mark.{Marks};
@@ -12,7 +12,8 @@ use questions::SolveAnswer;
 use refusals::Verdict;
 use sheets::Network;
 
-// Solve: the highest flow of a value from source to sink, or a set of nodes that proves that there is none. The flows are written if it can, the set if it cannot.
+// Solve: the highest flow of a value from source to sink, or a set of nodes that proves that there is none.
+// The flows are written if it can, the set if it cannot.
 pub fn solve(
     sheet: &[u8],
     source: u16,
@@ -66,8 +67,8 @@ pub fn solve(
     )
 }
 
-// Largest: the largest value that can be carried from source to sink, its highest flow, and a set that proves the next greater one impossible; or a set that proves
-// that nothing can be carried, with the flows left as they were.
+// Largest: the largest value that can be carried from source to sink, its highest flow, and a set that proves the next greater one impossible; or a set that
+// proves that nothing can be carried, with the flows left as they were.
 pub fn largest(
     sheet: &[u8],
     source: u16,
@@ -161,7 +162,8 @@ pub fn mark(sheet: &[u8], source: u16, sink: u16, flows: &[i32]) -> MarkAnswer
     )
 }
 
-// Levels from settings: the potentials of the faces that balanced flows of the edges have, with the face of the outer dart at 0. Nothing is written before the last check.
+// Levels from settings: the potentials of the faces that balanced flows of the edges have, with the face of the outer dart at 0.
+// Nothing is written before the last check.
 pub fn levels_from_settings(sheet: &[u8], flows: &[i32], levels: &mut [i32]) -> LevelAnswer
     ensures { λ r. ⌜ GivesLevels (now (sheet .entry)) (now (flows .entry)) (now (levels .entry)) (now (levels .exit)) r ⌝ }
 {
@@ -205,7 +207,8 @@ pub fn levels_from_settings(sheet: &[u8], flows: &[i32], levels: &mut [i32]) -> 
     )
 }
 
-// Settings from levels: the flows that face levels give, if no level is refused and every flow keeps within its capacities. Flows are written only after every check.
+// Settings from levels: the flows that face levels give, if no level is refused and every flow keeps within its capacities.
+// Flows are written only after every check.
 pub fn settings_from_levels(sheet: &[u8], levels: &[i32], flows: &mut [i32]) -> LevelAnswer
     ensures { λ r. ⌜ GivesSettings (now (sheet .entry)) (now (levels .entry)) (now (flows .entry)) (now (flows .exit)) r ⌝ }
 {

@@ -58,7 +58,8 @@ copy-step f d old now v e l h =
     ∙ ap (λ k. tabulate k f ++ drop k old) (sym (add-one d))
 
 pub filled-length : {A : Type 0} (n : ℕ) (f : ℕ → A) (old new : List A) → new ≡ filled n f old → n ≤ length old → length new ≡ length old
-filled-length n f old new h l = ap length h ∙ lib.ListN.length-append (tabulate n f) (drop n old) ∙ ap₂ _+_ (length-tabulate n f) (lib.ListN.length-drop n old) ∙ omega arith
+filled-length n f old new h l =
+    ap length h ∙ lib.ListN.length-append (tabulate n f) (drop n old) ∙ ap₂ _+_ (length-tabulate n f) (lib.ListN.length-drop n old) ∙ omega arith
 
 -- a new array holds one value everywhere
 pub same-everywhere : {A : Type 0} (n : ℕ) (a : A) (k : ℕ) → getD (lib.ListN.replicate n a) k a ≡ a
@@ -69,7 +70,8 @@ same-everywhere n a k = go (decLt k n)
     go (no l) = lib.ListN.List·getD-eq-default (lib.ListN.replicate n a) a {n = k} (rw (lib.ListN.length-replicate n a) (omega (arith, l)))
 
 -- ── a filled slice as a function of the index ──
-pub filled-at : {A : Type 0} (n : ℕ) (f : ℕ → A) (old : List A) (z : A) → n ≤ length old → (d : ℕ) → getD (filled n f old) d z ≡ cond (ltb d n) (f d) (getD old d z)
+pub filled-at : {A : Type 0} (n : ℕ) (f : ℕ → A) (old : List A) (z : A) → n ≤ length old
+    → (d : ℕ) → getD (filled n f old) d z ≡ cond (ltb d n) (f d) (getD old d z)
 filled-at n f old z room d = go (decLt d n)
   where
     go : Dec (d < n) → getD (filled n f old) d z ≡ cond (ltb d n) (f d) (getD old d z)

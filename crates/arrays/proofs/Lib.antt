@@ -1,2 +1,3 @@
+-- Arrays as functions, and the loops that fill them.
 pub mod Tabulate
 pub mod FillLoops

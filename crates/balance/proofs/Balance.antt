@@ -13,7 +13,7 @@ use Rattle.maps.specs.Flow.{net}
 use Rattle.flows.specs.Settings.{onDarts, Carries, Balanced}
 use Rattle.flows.specs.Check.{withinChecks, balanceChecks, EndOf, NoNode}
 use Rattle.flows.proofs.OnDarts.{onDarts-antisymmetric}
-use Rattle.balance.specs.Check.{offChecks}
+use Rattle.balance.specs.inner.Check.{offChecks}
 use Rattle.balance.proofs.Lowest.{none-holds, holds-none}
 use Rattle.balance.proofs.Within.{none-within, within-none}
 

@@ -12,8 +12,8 @@ use Rattle.refusals.proofs.Order.{neither}
 use Rattle.flows.specs.Settings.{onDarts}
 use Rattle.flows.specs.Check.{withinChecks}
 use Rattle.arrays.specs.At.{at, atℤ}
-use Rattle.balance.specs.NetUpTo.{netUpTo}
-use Rattle.balance.specs.Check.{offChecks}
+use Rattle.balance.specs.inner.NetUpTo.{netUpTo}
+use Rattle.balance.specs.inner.Check.{offChecks}
 
 -- a flow of -2^31 on an edge of capacities 1,000,000
 least-refused : Judged (withinChecks 1 (atℤ (pos 1000000 ∷ pos 1000000 ∷ [])) (atℤ (negsuc 2147483647 ∷ []))) (Refused 17 0)

@@ -1,3 +1,4 @@
+-- Flows added up node by node, and the first edge or node at which given settings fail.
 pub mod Tests
 pub mod Lowest
 pub mod Nets

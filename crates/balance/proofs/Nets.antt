@@ -12,7 +12,7 @@ use lib.IntN.{ℤ, pos, negℤ, _+ℤ_, _-ℤ_, +ℤ-idr}
 use mir.Syntax.{w32}
 use mir.Val.{SFits}
 use Rattle.integers.specs.Sum.{Integers, sum, when}
-use Rattle.integers.specs.Limited.{Limited}
+use Rattle.integers.specs.inner.Limited.{Limited}
 use Rattle.integers.proofs.Limits.{limited-plus, limited-minus, limited-neg, limited-when, limited-sum}
 use Rattle.integers.proofs.Tests.{eqb-true, eqb-false}
 use Rattle.signed.proofs.Limits.{limited-fits}
@@ -24,8 +24,8 @@ use Rattle.flows.specs.Settings.{onDarts}
 use Rattle.flows.proofs.OnDarts.{onDarts-even, onDarts-odd}
 use Rattle.arrays.specs.At.{at, atℤ}
 use Rattle.arrays.specs.Maps.{mapOf}
-use Rattle.balance.specs.SmallFlows.{SmallFlows}
-use Rattle.balance.specs.NetUpTo.{netUpTo}
+use Rattle.balance.specs.inner.SmallFlows.{SmallFlows}
+use Rattle.balance.specs.inner.NetUpTo.{netUpTo}
 
 -- the sums that `fill_nets` leaves are the net flows of the map
 pub nets-are-net : (nodes edges : ℕ) (tails rotations : List ℕ) (x : ℕ → ℤ) (v : ℕ)
@@ -52,13 +52,15 @@ module _ (tail : ℕ → ℕ) (x : ℕ → ℤ) where
   net-none v = sum-zero Integers _
 
   -- one edge more
-  net-more : (e v : ℕ) → netUpTo tail x (2 * (e + 1)) v ≡ (netUpTo tail x (2 * e) v +ℤ when (eqb v (tail (2 * e))) (x e)) +ℤ when (eqb v (tail (2 * e + 1))) (negℤ (x e))
+  net-more : (e v : ℕ)
+      → netUpTo tail x (2 * (e + 1)) v ≡ (netUpTo tail x (2 * e) v +ℤ when (eqb v (tail (2 * e))) (x e)) +ℤ when (eqb v (tail (2 * e + 1))) (negℤ (x e))
   unfolding netUpTo
   net-more e v =
       ap (λ n. sum Integers n term) two
       ∙ sum-suc Integers (2 * e + 1) term
       ∙ ap₂ _+ℤ_
-      (ap (λ n. sum Integers n term) one ∙ sum-suc Integers (2 * e) term ∙ ap (λ z. sum Integers (2 * e) term +ℤ when (eqb v (tail (2 * e))) z) (onDarts-even x e))
+      (ap (λ n. sum Integers n term) one ∙ sum-suc Integers (2 * e) term
+      ∙ ap (λ z. sum Integers (2 * e) term +ℤ when (eqb v (tail (2 * e))) z) (onDarts-even x e))
       (ap (when (eqb v (tail (2 * e + 1)))) (onDarts-odd x e))
     where
       term : ℕ → ℤ

@@ -13,7 +13,7 @@ use Rattle.maps.proofs.Darts.{by-edge}
 use Rattle.flows.specs.Settings.{onDarts, Within}
 use Rattle.flows.specs.Check.{Exceeds, withinChecks}
 use Rattle.flows.proofs.OnDarts.{onDarts-even, onDarts-odd}
-use Rattle.balance.specs.SmallFlows.{SmallFlows}
+use Rattle.balance.specs.inner.SmallFlows.{SmallFlows}
 use Rattle.balance.proofs.Lowest.{none-holds, holds-none}
 
 not-less : (x y : ℤ) → (x <ℤ y → ⊥) → y ≤ℤ x

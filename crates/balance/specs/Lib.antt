@@ -1,3 +1,1 @@
-pub mod SmallFlows
-pub mod NetUpTo
-pub mod Check
+pub mod inner

@@ -13,9 +13,9 @@ ghost use Rattle.integers.specs.Sum.{when};
 ghost use Rattle.refusals.specs.Order.{Decides, Judged};
 ghost use Rattle.flows.specs.Check.{withinChecks, EndOf};
 ghost use Rattle.arrays.specs.At.{at, atℤ};
-ghost use Rattle.balance.specs.SmallFlows.{SmallFlows};
-ghost use Rattle.balance.specs.NetUpTo.{netUpTo};
-ghost use Rattle.balance.specs.Check.{offChecks, JudgedAll};
+ghost use Rattle.balance.specs.inner.SmallFlows.{SmallFlows};
+ghost use Rattle.balance.specs.inner.NetUpTo.{netUpTo};
+ghost use Rattle.balance.specs.inner.Check.{offChecks, JudgedAll};
 use refusals::Verdict;
 
 fn below_zero(x: i64) -> bool
@@ -68,8 +68,10 @@ fn sub_at(nets: &mut [i32; 1024], v: usize, x: i32)
 
 // The net flow out of every node, added into an array of zeros: an edge's flow leaves its tail and comes to its head; an edge from a node to itself cancels.
 pub fn fill_nets(tails: &[u16; 1024], edges: usize, flows: &[i32], nets: &mut [i32; 1024])
-    requires { ⌜ (edges ≤ 512) × (edges ≤ length (now flows)) × (length (now nets) ≡ 1024) × ((d : ℕ) → d < 2 * edges → at (now tails) d < 1024) × SmallFlows edges (atℤ (now flows)) × ((v : ℕ) → atℤ (now nets) v ≡ pos 0) ⌝ }
-    ensures { λ _. ⌜ (length (now (nets .exit)) ≡ 1024) × ((v : ℕ) → v < 1024 → atℤ (now (nets .exit)) v ≡ netUpTo (at (now (tails .entry))) (atℤ (now (flows .entry))) (2 * edges) v) ⌝ }
+    requires { ⌜ (edges ≤ 512) × (edges ≤ length (now flows)) × (length (now nets) ≡ 1024)
+        × ((d : ℕ) → d < 2 * edges → at (now tails) d < 1024) × SmallFlows edges (atℤ (now flows)) × ((v : ℕ) → atℤ (now nets) v ≡ pos 0) ⌝ }
+    ensures { λ _. ⌜ (length (now (nets .exit)) ≡ 1024)
+        × ((v : ℕ) → v < 1024 → atℤ (now (nets .exit)) v ≡ netUpTo (at (now (tails .entry))) (atℤ (now (flows .entry))) (2 * edges) v) ⌝ }
 {
     let mut e: usize = 0;
     while e < edges {
@@ -109,7 +111,8 @@ pub fn check_balance(nets: &[i32; 1024], nodes: usize, a: usize, b: usize) -> Ve
 
 // Refusal 18 with no node excused: "18 for any node". The sums have their array here, so that the caller's later arrays can lie where it was.
 pub fn check_all_balanced(tails: &[u16; 1024], nodes: usize, edges: usize, flows: &[i32]) -> Verdict
-    requires { ⌜ (nodes ≤ 1024) × (edges ≤ 512) × (edges ≤ length (now flows)) × ((d : ℕ) → d < 2 * edges → at (now tails) d < 1024) × SmallFlows edges (atℤ (now flows)) ⌝ }
+    requires { ⌜ (nodes ≤ 1024) × (edges ≤ 512) × (edges ≤ length (now flows))
+        × ((d : ℕ) → d < 2 * edges → at (now tails) d < 1024) × SmallFlows edges (atℤ (now flows)) ⌝ }
     ensures { λ r. ⌜ JudgedAll nodes edges (at (now (tails .entry))) (atℤ (now (flows .entry))) r ⌝ }
 {
     let mut nets = [0i32; 1024];

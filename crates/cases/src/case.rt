@@ -1,7 +1,7 @@
-// A case in bytes, as `tools/cases` packs it: the operation at 0, in 16 bits; four numbers, two of 16 bits at 2 and 4, two of 32 with their sign at 6 and 10; from 14 on,
-// in 16 bits each, where part 0 starts and where each of sixteen parts ends, the next starting there; then the parts. Part 0 is the operation with the case's name, 1 a
-// sheet or other bytes, 2 to 7 the elements of the slices, 8 to 13 the names of those that are printed after the call, 14 the name of one that the operation prints.
-// What lies outside reads as zero or as nothing.
+// A case in bytes, as `tools/cases` packs it: the operation at 0, in 16 bits; four numbers, two of 16 bits at 2 and 4, two of 32 with their sign at 6 and 10;
+// from 14 on, in 16 bits each, where part 0 starts and where each of sixteen parts ends, the next starting there; then the parts. Part 0 is the operation with
+// the case's name, 1 a sheet or other bytes, 2 to 7 the elements of the slices, 8 to 13 the names of those that are printed after the call, 14 the name of one
+// that the operation prints. What lies outside reads as zero or as nothing.
 ghost use Prim.Native.Nat.{_+_, _<_, _≤_};
 ghost use lib.ListN.{length};
 
@@ -43,7 +43,7 @@ fn long(s: &[u8], at: usize) -> u64
 }
 
 // A number of 16 bits that counts bytes.
-pub fn count(s: &[u8], at: usize) -> usize
+fn count(s: &[u8], at: usize) -> usize
     ensures { λ r. ⌜ r < 65536 ⌝ }
 {
     half(s, at) as usize

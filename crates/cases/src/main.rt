@@ -1,6 +1,6 @@
-// Every operation at the edges of document 01, case by case: the cases come as data from standard input, where `tools/cases` packs the texts of `tests/cases`, and
-// each is printed as one line: the operation and the case's name, the answer, and every slice that the operation may write, as the call left it. `stdout` has what the
-// texts expect.
+// Every operation at the edges of document 01, case by case: the cases come as data from standard input, where
+// `tools/cases` packs the texts of `tests/cases`, and each is printed as one line: the operation and the case's name,
+// the answer, and every slice that the operation may write, as the call left it. `stdout` has what the texts expect.
 mod case;
 mod operations;
 mod say;

@@ -13,7 +13,7 @@ fn wide32(x: u32) -> u64
     x as u64
 }
 
-pub fn number(x: u64) {
+fn number(x: u64) {
     say(b" ");
     io::print_decimal(1, x);
 }

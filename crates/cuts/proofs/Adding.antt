@@ -7,14 +7,14 @@ use lib.IntN.{ℤ, pos, _+ℤ_}
 use mir.Syntax.{w32, w64}
 use mir.Val.{SFits}
 use Rattle.integers.specs.Sum.{Integers, when}
-use Rattle.integers.specs.Limited.{Limited}
+use Rattle.integers.specs.inner.Limited.{Limited}
 use Rattle.integers.proofs.Sums.{sum-zero, sum-more}
 use Rattle.integers.proofs.Limits.{limited-more, limited-when, limited-sum}
 use Rattle.signed.proofs.Limits.{limited-fits, limited-fits64}
 use Rattle.maps.specs.Dart.{rev}
 use Rattle.maps.proofs.Darts.{rev-in}
-use Rattle.cuts.specs.Cut.{leavesOf, cutOf}
-use Rattle.arrays.specs.Sizes.{mostCapacity, mostLength}
+use Rattle.cuts.specs.inner.Cut.{leavesOf, cutOf}
+use Rattle.arrays.specs.inner.Sizes.{mostCapacity, mostLength}
 
 -- of an even number of darts, each has its reverse among them
 pub reverse-in : (n d : ℕ) → n % 2 ≡ 0 → d < n → rev d < n

@@ -7,7 +7,7 @@ use lib.IntN.{pos, negsuc}
 use Rattle.integers.specs.Sum.{sum}
 use Rattle.maps.specs.Dart.{rev}
 use Rattle.arrays.specs.At.{at, atℤ}
-use Rattle.cuts.specs.Cut.{cutOf}
+use Rattle.cuts.specs.inner.Cut.{cutOf}
 
 pub first-node : cutOf 2 (at (0 ∷ 1 ∷ [])) (atℤ (negsuc 0 ∷ pos 3 ∷ [])) (λ v. eqb v 0) ≡ negsuc 0
 unfolding cutOf sum rev

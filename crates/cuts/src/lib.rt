@@ -4,12 +4,12 @@ ghost use mathlib.Core.Bool.{not, _&&_};
 ghost use Prim.Native.Nat.{ℕ, _<_, _≤_, _%_};
 ghost use lib.Dec.{eqb};
 ghost use Rattle.integers.specs.Sum.{when};
-ghost use Rattle.integers.specs.Limited.{Limited};
+ghost use Rattle.integers.specs.inner.Limited.{Limited};
 ghost use Rattle.maps.specs.Dart.{rev};
 ghost use Rattle.arrays.specs.At.{at, atℤ};
-ghost use Rattle.arrays.specs.Flags.{flagged};
-ghost use Rattle.arrays.specs.Sizes.{mostCapacity, mostLength};
-ghost use Rattle.cuts.specs.Cut.{leavesOf, cutOf};
+ghost use Rattle.arrays.specs.inner.Flags.{flagged};
+ghost use Rattle.arrays.specs.inner.Sizes.{mostCapacity, mostLength};
+ghost use Rattle.cuts.specs.inner.Cut.{leavesOf, cutOf};
 
 // Whether a dart leaves the set, from the flags of its tail and of its head.
 fn leaves(tail: u8, head: u8) -> bool
@@ -40,7 +40,8 @@ fn share(tails: &[u16; 1024], lengths: &[i32; 1024], inside: &[u8; 1024], d: usi
 
 // The sum over the darts that leave the flagged nodes.
 pub fn total(tails: &[u16; 1024], lengths: &[i32; 1024], inside: &[u8; 1024], darts: usize) -> i64
-    requires { ⌜ (darts ≤ 1024) × (darts % 2 ≡ 0) × ((d : ℕ) → d < darts → at (now tails) d < 1024) × ((d : ℕ) → d < darts → Limited mostLength (atℤ (now lengths) d)) ⌝ }
+    requires { ⌜ (darts ≤ 1024) × (darts % 2 ≡ 0) × ((d : ℕ) → d < darts → at (now tails) d < 1024)
+        × ((d : ℕ) → d < darts → Limited mostLength (atℤ (now lengths) d)) ⌝ }
     ensures { λ r. ⌜ r ≡ cutOf darts (at (now (tails .entry))) (atℤ (now (lengths .entry))) (flagged (now (inside .entry))) ⌝ }
 {
     let mut sum: i64 = 0;
@@ -57,7 +58,8 @@ pub fn capacity(
     inside: &[u8; 1024],
     darts: usize,
 ) -> i32
-    requires { ⌜ (darts ≤ 1024) × (darts % 2 ≡ 0) × ((d : ℕ) → d < darts → at (now tails) d < 1024) × ((d : ℕ) → d < darts → Limited mostCapacity (atℤ (now capacities) d)) ⌝ }
+    requires { ⌜ (darts ≤ 1024) × (darts % 2 ≡ 0) × ((d : ℕ) → d < darts → at (now tails) d < 1024)
+        × ((d : ℕ) → d < darts → Limited mostCapacity (atℤ (now capacities) d)) ⌝ }
     ensures { λ r. ⌜ r ≡ cutOf darts (at (now (tails .entry))) (atℤ (now (capacities .entry))) (flagged (now (inside .entry))) ⌝ }
 {
     signed::narrow(total(tails, capacities, inside, darts))

@@ -8,8 +8,8 @@ use Rattle.integers.proofs.Limits.{limited-minus}
 use Rattle.signed.proofs.Limits.{limited-fits, limited-fits64}
 use Rattle.maps.specs.Dart.{rev}
 use Rattle.maps.proofs.Darts.{rev-in}
-use Rattle.edge_flows.specs.Flow.{flowOf, Flowing}
-use Rattle.arrays.specs.Sizes.{mostPotential, mostCapacity}
+use Rattle.edge_flows.specs.inner.Flow.{flowOf, Flowing}
+use Rattle.arrays.specs.inner.Sizes.{mostPotential, mostCapacity}
 
 module _ {edges : ℕ} {left : ℕ → ℕ} {capacity length potential : ℕ → ℤ} (φ : Flowing edges left capacity length potential) (e : ℕ) (below : e < edges) where
   -- dart 2e and its reverse are darts of the edges

@@ -1,2 +1,3 @@
+-- The flows that potentials make fit, and are those of the darts.
 pub mod Fitting
 pub mod Examples

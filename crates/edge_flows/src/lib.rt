@@ -8,12 +8,14 @@ ghost use mir.Val.{SFits};
 ghost use Rattle.maps.specs.Dart.{rev};
 ghost use Rattle.arrays.specs.At.{at, atℤ};
 ghost use Rattle.arrays.specs.Filled.{filled};
-ghost use Rattle.edge_flows.specs.Flow.{flowOf, Flowing};
+ghost use Rattle.edge_flows.specs.inner.Flow.{flowOf, Flowing};
 
 // The drop of the potential over dart 2e, from its left face to its right one.
 fn drop_over(lefts: &[u16; 1024], potentials: &[i64; 1024], e: usize) -> i64
-    requires { ⌜ (e < 512) × (at (now lefts) (2 * e) < 1024) × (at (now lefts) (rev (2 * e)) < 1024) × SFits w64 (atℤ (now potentials) (at (now lefts) (2 * e)) -ℤ atℤ (now potentials) (at (now lefts) (rev (2 * e)))) ⌝ }
-    ensures { λ r. ⌜ r ≡ atℤ (now (potentials .entry)) (at (now (lefts .entry)) (2 * e)) -ℤ atℤ (now (potentials .entry)) (at (now (lefts .entry)) (rev (2 * e))) ⌝ }
+    requires { ⌜ (e < 512) × (at (now lefts) (2 * e) < 1024) × (at (now lefts) (rev (2 * e)) < 1024)
+        × SFits w64 (atℤ (now potentials) (at (now lefts) (2 * e)) -ℤ atℤ (now potentials) (at (now lefts) (rev (2 * e)))) ⌝ }
+    ensures { λ r. ⌜ r
+        ≡ atℤ (now (potentials .entry)) (at (now (lefts .entry)) (2 * e)) -ℤ atℤ (now (potentials .entry)) (at (now (lefts .entry)) (rev (2 * e))) ⌝ }
 {
     let left = arrays::wide(lefts[2 * e]);
     let right = arrays::wide(lefts[2 * e + 1]);
@@ -46,8 +48,11 @@ pub fn fill_flows(
     edges: usize,
     flows: &mut [i32],
 )
-    requires { ⌜ (edges ≤ 512) × (edges ≤ length (now flows)) × Flowing edges (at (now lefts)) (atℤ (now capacities)) (atℤ (now lengths)) (atℤ (now potentials)) ⌝ }
-    ensures { λ _. ⌜ now (flows .exit) ≡ filled edges (flowOf (at (now (lefts .entry))) (atℤ (now (capacities .entry))) (atℤ (now (lengths .entry))) (atℤ (now (potentials .entry)))) (now (flows .entry)) ⌝ }
+    requires { ⌜ (edges ≤ 512) × (edges ≤ length (now flows))
+        × Flowing edges (at (now lefts)) (atℤ (now capacities)) (atℤ (now lengths)) (atℤ (now potentials)) ⌝ }
+    ensures { λ _. ⌜ now (flows .exit)
+        ≡ filled edges (flowOf (at (now (lefts .entry))) (atℤ (now (capacities .entry))) (atℤ (now (lengths .entry))) (atℤ (now (potentials .entry))))
+        (now (flows .entry)) ⌝ }
 {
     let mut e: usize = 0;
     while e < edges {

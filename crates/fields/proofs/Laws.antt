@@ -24,7 +24,8 @@ unfolding put
 put-after at pre bs old l e n =
     let t : take at l ≡ pre = ap (take at) e ∙ take-at pre (drop at old) at n in
     let d : drop (at + length bs) l ≡ drop (at + length bs) old =
-    sym (drop-drop (length bs) at l) ∙ ap (λ x. drop (length bs) (drop at x)) e ∙ ap (drop (length bs)) (drop-at pre (drop at old) at n) ∙ drop-drop (length bs) at old in
+    sym (drop-drop (length bs) at l) ∙ ap (λ x. drop (length bs) (drop at x)) e
+    ∙ ap (drop (length bs)) (drop-at pre (drop at old) at n) ∙ drop-drop (length bs) at old in
     ap₂ (λ x y. x ++ (bs ++ y)) t d ∙ sym (append-assoc pre bs (drop (at + length bs) old))
 
 -- stores in a row put their values there
@@ -61,7 +62,12 @@ bits-of : (n at : ℕ) (pre post : List ℕ) → n < 4294967296 → length pre �
 unfolding u32At leBits
 bits-of n at pre post h e =
     let bs = n % 256 ∷ n / 256 % 256 ∷ n / 65536 % 256 ∷ n / 16777216 % 256 ∷ post in
-    rw (getD-at pre (n % 256) (n / 256 % 256 ∷ n / 65536 % 256 ∷ n / 16777216 % 256 ∷ post) 0 at e, beyond pre bs at 1 e, beyond pre bs at 2 e, beyond pre bs at 3 e)
+    rw (
+      getD-at pre (n % 256) (n / 256 % 256 ∷ n / 65536 % 256 ∷ n / 16777216 % 256 ∷ post) 0 at e,
+      beyond pre bs at 1 e,
+      beyond pre bs at 2 e,
+      beyond pre bs at 3 e,
+    )
     (joined32 n h)
 
 pub i32-of : (x : ℤ) (at : ℕ) (pre post : List ℕ) → SFits w32 x → length pre ≡ at → i32At (pre ++ (le32 x ++ post)) at ≡ x
@@ -101,7 +107,8 @@ module _ (l : List ℕ) (at : ℕ) (bytes : (i : ℕ) → getD l i 0 < 256) wher
 
   pub bits-at-below : u32At l at < 4294967296
   unfolding u32At
-  bits-at-below = below32 (getD l at 0) (getD l (at + 1) 0) (getD l (at + 2) 0) (getD l (at + 3) 0) (bytes at) (bytes (at + 1)) (bytes (at + 2)) (bytes (at + 3))
+  bits-at-below =
+      below32 (getD l at 0) (getD l (at + 1) 0) (getD l (at + 2) 0) (getD l (at + 3) 0) (bytes at) (bytes (at + 1)) (bytes (at + 2)) (bytes (at + 3))
 
   pub i32-fits : SFits w32 (i32At l at)
   unfolding i32At

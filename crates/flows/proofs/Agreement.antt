@@ -1,5 +1,5 @@
--- What agrees where it counts is as good: sets that agree on the nodes have one cut and prove the same; settings that agree on the edges carry the same, and are the
--- highest alike.
+-- What agrees where it counts is as good: sets that agree on the nodes have one cut and prove the same;
+-- settings that agree on the edges carry the same, and are the highest alike.
 use mathlib.Core.Path.{_≡_, sym, _∙_, ap, ap₂}
 use mathlib.Core.Bool.{Bool, not, _&&_, cond}
 use Prim.Native.Nat.{ℕ, _+_, _*_, _<_}

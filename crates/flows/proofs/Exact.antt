@@ -1,5 +1,5 @@
--- Proving sets exclude, and rings yield them: a set whose outward total is below its bound excludes the value; a ring of faces of negative total length gives such
--- a set.
+-- Proving sets exclude, and rings yield them: a set whose outward total is below its bound excludes the value;
+-- a ring of faces of negative total length gives such a set.
 use mathlib.Core.Path.{_≡_, refl, sym, _∙_, ap, ap₂}
 use mathlib.Core.Logic.{_≢_}
 use mathlib.Core.Bool.{Bool, true, false, cond}
@@ -18,7 +18,7 @@ use Rattle.maps.specs.Map.{Map, darts}
 use Rattle.maps.specs.Check.{InRange}
 use Rattle.maps.specs.Flow.{Antisymmetric, net, Flow}
 use Rattle.maps.specs.Cut.{leaves, cut, sent}
-use Rattle.maps.specs.FaceWalk.{FaceWalk, total}
+use Rattle.maps.specs.inner.FaceWalk.{FaceWalk, total}
 use Rattle.maps.specs.Potential.{Heights}
 use Rattle.maps.proofs.Cuts.{cut-bound, flow-sent}
 use Rattle.maps.proofs.LayerCake.{above}
@@ -27,9 +27,9 @@ use Rattle.flows.specs.Settings.{onDarts, Carries}
 use Rattle.flows.specs.ProvingSet.{bound, Proves}
 use Rattle.flows.proofs.Nets.{net-mul}
 use Rattle.flows.proofs.Plane.{one-part, flat-part}
-use Rattle.flows.specs.Plane.{Plane}
-use Rattle.flows.specs.UnitFlow.{UnitFlow}
-use Rattle.flows.specs.Lengths.{lengthFor}
+use Rattle.flows.specs.inner.Plane.{Plane}
+use Rattle.flows.specs.inner.UnitFlow.{UnitFlow}
+use Rattle.flows.specs.inner.Lengths.{lengthFor}
 
 -- the bound of a set is what a flow of the value sends out of it
 pub bound-sent : (S : ℕ → Bool) (s t : ℕ) (value : ℤ) → bound S s t value ≡ sent S s t value
@@ -60,18 +60,21 @@ module _ {𝓜 : Map} (range : InRange 𝓜) {s t : ℕ} (s-in : s < 𝓜 .nodes
           within = λ d l. let a = atoms₂ value (π d) in at-most (search parts) (omega arith);
           balanced = λ v l p q.
               nets v
-              ∙ ap₂ (λ x y. value *ℤ (when x (pos 1) -ℤ when y (pos 1))) (Rattle.integers.proofs.Tests.eqb-false v s p) (Rattle.integers.proofs.Tests.eqb-false v t q)
+              ∙ ap₂ (λ x y. value *ℤ (when x (pos 1) -ℤ when y (pos 1)))
+              (Rattle.integers.proofs.Tests.eqb-false v s p) (Rattle.integers.proofs.Tests.eqb-false v t q)
               ∙ (let a = atoms₁ value in equal (search parts) (omega arith));
           carries =
               nets s
-              ∙ ap₂ (λ x y. value *ℤ (when x (pos 1) -ℤ when y (pos 1))) (Rattle.integers.proofs.Tests.eqb-true s s refl) (Rattle.integers.proofs.Tests.eqb-false s t s≢t)
+              ∙ ap₂ (λ x y. value *ℤ (when x (pos 1) -ℤ when y (pos 1)))
+              (Rattle.integers.proofs.Tests.eqb-true s s refl) (Rattle.integers.proofs.Tests.eqb-false s t s≢t)
               ∙ (let a = atoms₁ value in equal (search parts) (omega arith));
         }
 
     pub length-cut : (S : ℕ → Bool) → cut 𝓜 (lengthFor c π value) S ≡ cut 𝓜 c S -ℤ bound S s t value
     unfolding cut
     length-cut S =
-        sum-ext Integers (darts 𝓜) (λ d. when (leaves 𝓜 S d) (c d -ℤ value *ℤ π d)) (λ d. when (leaves 𝓜 S d) (c d) -ℤ when (leaves 𝓜 S d) (value *ℤ π d)) (λ d l. split (leaves 𝓜 S d) (c d) (value *ℤ π d))
+        sum-ext Integers (darts 𝓜) (λ d. when (leaves 𝓜 S d) (c d -ℤ value *ℤ π d))
+        (λ d. when (leaves 𝓜 S d) (c d) -ℤ when (leaves 𝓜 S d) (value *ℤ π d)) (λ d l. split (leaves 𝓜 S d) (c d) (value *ℤ π d))
         ∙ sum-sub (darts 𝓜) (λ d. when (leaves 𝓜 S d) (c d)) (λ d. when (leaves 𝓜 S d) (value *ℤ π d))
         ∙ ap (λ x. cut 𝓜 c S -ℤ x) (sent-unit S ∙ sym (bound-sent S s t value))
       where
@@ -85,7 +88,8 @@ module _ {𝓜 : Map} (range : InRange 𝓜) {s t : ℕ} (s-in : s < 𝓜 .nodes
         less (search parts) (omega (arith, from-less (rw (length-cut S) at h) (search parts)))
 
     -- lengths of the two darts of an edge add up as their capacities do
-    pub length-pairs : ((d : ℕ) → d < darts 𝓜 → pos 0 ≤ℤ (c d +ℤ c (rev d))) → (d : ℕ) → d < darts 𝓜 → pos 0 ≤ℤ (lengthFor c π value d +ℤ lengthFor c π value (rev d))
+    pub length-pairs : ((d : ℕ) → d < darts 𝓜 → pos 0 ≤ℤ (c d +ℤ c (rev d))) → (d : ℕ)
+        → d < darts 𝓜 → pos 0 ≤ℤ (lengthFor c π value d +ℤ lengthFor c π value (rev d))
     length-pairs h d l =
         rw (unit .antisymmetric d l)
         (let a = atoms₃ (c d) (c (rev d)) value in let b = atoms₁ (π d) in at-most (search parts) (omega (arith, from-at-most (h d l) (search parts))))

@@ -144,7 +144,13 @@ module _ (c : ℕ → ℤ) (value : ℤ) where
   first-least x₀ (inr h) y f =
       let a = atoms₅ x₀ (y 0) (y 1) (y 2) value in
       let b = atoms₂ (c 2) (c 4) in
-      at-most (search parts) (omega (arith, from-at-most h (search parts), from-equal (f .total) (search parts), from-at-most (f .middle) (search parts), from-at-most (f .last) (search parts)))
+      at-most (search parts) (omega (
+        arith,
+        from-at-most h (search parts),
+        from-equal (f .total) (search parts),
+        from-at-most (f .middle) (search parts),
+        from-at-most (f .last) (search parts),
+      ))
 
   -- x₂ is the most that the last can carry
   last-most : (x₂ : ℤ) → (c 4 ≤ℤ x₂) ⊎ ((value +ℤ (c 1 +ℤ c 3)) ≤ℤ x₂) → (y : ℕ → ℤ) → Laid y → (y 2 -ℤ x₂) ≤ℤ pos 0
@@ -153,7 +159,13 @@ module _ (c : ℕ → ℤ) (value : ℤ) where
   last-most x₂ (inr h) y f =
       let a = atoms₅ x₂ (y 0) (y 1) (y 2) value in
       let b = atoms₂ (c 1) (c 3) in
-      at-most (search parts) (omega (arith, from-at-most h (search parts), from-equal (f .total) (search parts), from-at-most (f .first-back) (search parts), from-at-most (f .middle-back) (search parts)))
+      at-most (search parts) (omega (
+        arith,
+        from-at-most h (search parts),
+        from-equal (f .total) (search parts),
+        from-at-most (f .first-back) (search parts),
+        from-at-most (f .middle-back) (search parts),
+      ))
 
 -- the differences of those levels are y minus x, on every dart
 levels-less : (x y : ℕ → ℤ) → x 0 +ℤ x 1 +ℤ x 2 ≡ y 0 +ℤ y 1 +ℤ y 2 → Levels A 0 (λ e. y e -ℤ x e) (levelsLess x y)
@@ -190,4 +202,5 @@ A-highest c x value mine low high = record {
 -- "6: settings 0, 2, 4" is the highest
 pub A-six-highest : Highest A 0 A-capacity 0 1 (pos 6) (settings (pos 0 ∷ pos 2 ∷ pos 4 ∷ []))
 unfolding settings A-capacity
-A-six-highest = A-highest A-capacity (settings (pos 0 ∷ pos 2 ∷ pos 4 ∷ [])) (pos 6) A-six (inl (le-of-test (pos 0) (pos 0) refl)) (inl (le-of-test (pos 4) (pos 4) refl))
+A-six-highest =
+    A-highest A-capacity (settings (pos 0 ∷ pos 2 ∷ pos 4 ∷ [])) (pos 6) A-six (inl (le-of-test (pos 0) (pos 0) refl)) (inl (le-of-test (pos 4) (pos 4) refl))

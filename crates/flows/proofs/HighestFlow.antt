@@ -22,10 +22,10 @@ use Rattle.flows.specs.Highest.{Highest}
 use Rattle.flows.proofs.OnDarts.{onDarts-antisymmetric, onDarts-sub, onDarts-injective}
 use Rattle.flows.proofs.Nets.{net-ext, net-sub}
 use Rattle.flows.proofs.Plane.{potentials-at, potentials-one}
-use Rattle.flows.specs.Plane.{Plane}
-use Rattle.flows.specs.UnitFlow.{UnitFlow}
+use Rattle.flows.specs.inner.Plane.{Plane}
+use Rattle.flows.specs.inner.UnitFlow.{UnitFlow}
 use Rattle.flows.proofs.Lengths.{edgeFlow-darts, feasible-carries}
-use Rattle.flows.specs.Lengths.{lengthFor, Feasible, made, edgeFlow}
+use Rattle.flows.specs.inner.Lengths.{lengthFor, Feasible, made, edgeFlow}
 
 module _ {𝓜 : Map} (p : Plane 𝓜) {s t : ℕ} (s-in : s < 𝓜 .nodes) (t-in : t < 𝓜 .nodes) (s≢t : s ≢ t) where
   -- two flows of one value differ by balanced settings
@@ -69,7 +69,9 @@ module _ {𝓜 : Map} (p : Plane 𝓜) {s t : ℕ} (s-in : s < 𝓜 .nodes) (t-i
 
       zero-at : (f : ℕ) → f < faces 𝓜 → r .0 f ≡ pos 0
       zero-at f l =
-          let same = potentials-one p outer outer-in (onDarts (λ e. y e -ℤ x e)) (r .0) (λ f. negℤ (q .0 f)) (r .1 .differences) turned (r .1 .rooted) (λ g z. ap negℤ (q .1 .rooted g z)) f l in
+          let same =
+          potentials-one p outer outer-in (onDarts (λ e. y e -ℤ x e)) (r .0) (λ f. negℤ (q .0 f))
+          (r .1 .differences) turned (r .1 .rooted) (λ g z. ap negℤ (q .1 .rooted g z)) f l in
           le-antisym (r .2 f l)
           (let a = atoms₂ (r .0 f) (q .0 f) in at-most (search parts) (omega (arith, from-equal same (search parts), from-at-most (q .2 f l) (search parts))))
 

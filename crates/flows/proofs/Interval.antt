@@ -19,7 +19,7 @@ use Rattle.maps.proofs.Submodular.{submodular}
 use Rattle.flows.specs.Settings.{Carries}
 use Rattle.flows.specs.ProvingSet.{bound, Proves}
 use Rattle.flows.proofs.Exact.{proves-excludes}
-use Rattle.flows.specs.Sides.{AtSource, AtSink, Beside}
+use Rattle.flows.specs.inner.Sides.{AtSource, AtSink, Beside}
 
 module _ (s t : ℕ) (S : ℕ → Bool) where
   pub which : AtSource s t S ⊎ (AtSink s t S ⊎ Beside s t S)
@@ -113,7 +113,8 @@ module _ (𝓜 : Map) (c : ℕ → ℤ) (s t : ℕ) (A B : ℕ → Bool) (at-sou
     pub intersection-short : pos 0 ≤ℤ cut 𝓜 c (union A B) → cut 𝓜 c (intersection A B) <ℤ pos 0
     intersection-short h =
         let a = atoms₄ (cut 𝓜 c A) (cut 𝓜 c B) (cut 𝓜 c (union A B)) (cut 𝓜 c (intersection A B)) in
-        less (search parts) (omega (arith, from-at-most (submodular 𝓜 c pairs A B) (search parts), from-less none-between (search parts), from-at-most h (search parts)))
+        less (search parts) (omega
+        (arith, from-at-most (submodular 𝓜 c pairs A B) (search parts), from-less none-between (search parts), from-at-most h (search parts)))
 
     pub join-none : ((cut 𝓜 c (union A B) <ℤ pos 0) × ((value : ℤ) → Proves 𝓜 c s t value (union A B)))
         ⊎ ((cut 𝓜 c (intersection A B) <ℤ pos 0) × ((value : ℤ) → Proves 𝓜 c s t value (intersection A B)))

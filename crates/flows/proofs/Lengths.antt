@@ -20,8 +20,8 @@ use Rattle.maps.proofs.Planar.{difference-circulation}
 use Rattle.flows.specs.Settings.{onDarts, Carries}
 use Rattle.flows.proofs.OnDarts.{onDarts-antisymmetric, onDarts-of}
 use Rattle.flows.proofs.Nets.{net-ext, net-add, net-mul}
-use Rattle.flows.specs.UnitFlow.{UnitFlow}
-use Rattle.flows.specs.Lengths.{lengthFor, Feasible, made, edgeFlow}
+use Rattle.flows.specs.inner.UnitFlow.{UnitFlow}
+use Rattle.flows.specs.inner.Lengths.{lengthFor, Feasible, made, edgeFlow}
 
 module _ {𝓜 : Map} (σ : Sound 𝓜) {s t : ℕ} {π : ℕ → ℤ} (unit : UnitFlow 𝓜 s t π) (c : ℕ → ℤ) (value : ℤ) where
   made-antisymmetric : (ρ : ℕ → ℤ) → Antisymmetric 𝓜 (made 𝓜 π value ρ)

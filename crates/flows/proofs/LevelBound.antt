@@ -12,7 +12,7 @@ use lib.Signed.{_≤ℤ_, _<ℤ_, leZ}
 use Rattle.integers.specs.Sum.{sum, sumℕ, bit, count}
 use Rattle.integers.proofs.Omega.{atoms₁, atoms₂, parts, at-most, less, from-equal, from-at-most, from-less}
 use Rattle.integers.proofs.Laws.{lt-or-ge, lt-le-clash, le-of-test}
-use Rattle.integers.specs.Limited.{Limited}
+use Rattle.integers.specs.inner.Limited.{Limited}
 use Rattle.integers.proofs.Limits.{limited-more, limited-both}
 use Rattle.integers.proofs.Tests.{of-T, either}
 use Rattle.integers.proofs.Counting.{bit-le, bit-one, sum-le-sum, term-le-sum, sum-full}
@@ -24,10 +24,11 @@ use Rattle.flows.specs.Settings.{Within}
 use Rattle.flows.specs.Levels.{Levels}
 use Rattle.flows.proofs.Limits.{settings-limited}
 use Rattle.flows.proofs.Plane.{one-part}
-use Rattle.flows.specs.Plane.{Plane}
+use Rattle.flows.specs.inner.Plane.{Plane}
 
 -- what is one on both sides of every dart is one for all faces
-pub faces-agree : {𝓜 : Map} → Plane 𝓜 → {A : Type 0} (q : ℕ → A) → ((d : ℕ) → d < darts 𝓜 → q (right 𝓜 d) ≡ q (left 𝓜 d)) → (f g : ℕ) → f < faces 𝓜 → g < faces 𝓜 → q f ≡ q g
+pub faces-agree : {𝓜 : Map} → Plane 𝓜 → {A : Type 0} (q : ℕ → A)
+    → ((d : ℕ) → d < darts 𝓜 → q (right 𝓜 d) ≡ q (left 𝓜 d)) → (f g : ℕ) → f < faces 𝓜 → g < faces 𝓜 → q f ≡ q g
 faces-agree {𝓜} p q kept f g lf lg =
     let c = face-dart (p .sound) f lf in
     let d = face-dart (p .sound) g lg in
@@ -153,7 +154,8 @@ levels-limited {𝓜} p root root-in M ρ rooted near f l =
 pub faces-few : {𝓜 : Map} → Plane 𝓜 → 𝓜 .edges ≤ 512 → 2 ≤ 𝓜 .nodes → faces 𝓜 ≤ 512
 faces-few p few two = omega (arith, p .flat)
 
-pub levels-small : {𝓜 : Map} → Plane 𝓜 → faces 𝓜 ≤ 512 → (outer : ℕ) → outer < darts 𝓜 → (c x ρ : ℕ → ℤ) → ((d : ℕ) → d < darts 𝓜 → c d ≤ℤ pos 1000000) → Within 𝓜 c x
+pub levels-small : {𝓜 : Map} → Plane 𝓜 → faces 𝓜 ≤ 512 → (outer : ℕ) → outer < darts 𝓜
+    → (c x ρ : ℕ → ℤ) → ((d : ℕ) → d < darts 𝓜 → c d ≤ℤ pos 1000000) → Within 𝓜 c x
     → Levels 𝓜 outer x ρ → (f : ℕ) → f < faces 𝓜 → Limited 511000000 (ρ f)
 levels-small {𝓜} p few outer outer-in c x ρ low within levels f l =
     limited-more (omega arith)

@@ -1,3 +1,4 @@
+-- What carries a value: the highest answer, proving sets and levels, over the planar theorems of maps.
 pub mod OnDarts
 pub mod Nets
 pub mod UnitFlow

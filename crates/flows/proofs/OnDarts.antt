@@ -44,7 +44,8 @@ pub onDarts-sub : (x y : ℕ → ℤ) (d : ℕ) → onDarts (λ e. x e -ℤ y e)
 unfolding onDarts
 onDarts-sub x y d = go (eqb (d % 2) 0)
   where
-    go : (b : Bool) → cond b (x (d / 2) -ℤ y (d / 2)) (negℤ (x (d / 2) -ℤ y (d / 2))) ≡ cond b (x (d / 2)) (negℤ (x (d / 2))) -ℤ cond b (y (d / 2)) (negℤ (y (d / 2)))
+    go : (b : Bool)
+        → cond b (x (d / 2) -ℤ y (d / 2)) (negℤ (x (d / 2) -ℤ y (d / 2))) ≡ cond b (x (d / 2)) (negℤ (x (d / 2))) -ℤ cond b (y (d / 2)) (negℤ (y (d / 2)))
     go true = refl
     go false = negℤ-+ℤ (x (d / 2)) (negℤ (y (d / 2)))
 

@@ -13,7 +13,7 @@ use Rattle.maps.specs.Potential.{Potentials, Roots}
 use Rattle.maps.proofs.Walks.{connected-components}
 use Rattle.maps.proofs.Euler.{flat-in-one}
 use Rattle.maps.proofs.Planar.{rooted-potentials, potentials-unique}
-use Rattle.flows.specs.Plane.{Plane}
+use Rattle.flows.specs.inner.Plane.{Plane}
 use Rattle.flows.specs.ZeroFace.{ZeroFace}
 
 module _ {𝓜 : Map} (p : Plane 𝓜) where

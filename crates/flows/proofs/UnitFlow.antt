@@ -17,7 +17,7 @@ use Rattle.maps.specs.Walk.{Walk, here, along}
 use Rattle.maps.specs.Flow.{Antisymmetric, net}
 use Rattle.maps.proofs.Darts.{rev-rev, rev-in, eqb-rev}
 use Rattle.flows.proofs.Nets.{net-ext, net-add}
-use Rattle.flows.specs.UnitFlow.{UnitFlow, single, walkFlow}
+use Rattle.flows.specs.inner.UnitFlow.{UnitFlow, single, walkFlow}
 
 pub single-antisymmetric : (d i : ℕ) → single d (rev i) ≡ negℤ (single d i)
 single-antisymmetric d i =

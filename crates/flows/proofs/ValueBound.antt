@@ -9,7 +9,7 @@ use lib.Dec.{eqb}
 use lib.IntN.{ℤ, pos, _+ℤ_, _-ℤ_, +ℤ-idl, +ℤ-idr}
 use lib.Signed.{_≤ℤ_}
 use Rattle.integers.specs.Sum.{Integers, when}
-use Rattle.integers.specs.Limited.{Limited}
+use Rattle.integers.specs.inner.Limited.{Limited}
 use Rattle.integers.proofs.Limits.{limited-zero, limited-more, limited-sum}
 use Rattle.integers.proofs.Tests.{eqb-true, eqb-false}
 use Rattle.integers.proofs.Sums.{sum-pairs}
@@ -35,10 +35,13 @@ cut-limited 𝓜 C c small S =
     one-of false false x y h g = limited-zero C
 
     edge : (e : ℕ) → e < 𝓜 .edges → Limited C (when (leaves 𝓜 S (2 * e)) (c (2 * e)) +ℤ when (leaves 𝓜 S (2 * e + 1)) (c (2 * e + 1)))
-    edge e l = rw heads (one-of (S (𝓜 .tail (2 * e))) (S (𝓜 .tail (2 * e + 1))) (c (2 * e)) (c (2 * e + 1)) (small (2 * e) (omega arith)) (small (2 * e + 1) (omega arith)))
+    edge e l =
+        rw heads (one-of (S (𝓜 .tail (2 * e))) (S (𝓜 .tail (2 * e + 1))) (c (2 * e))
+        (c (2 * e + 1)) (small (2 * e) (omega arith)) (small (2 * e + 1) (omega arith)))
       where
         heads : when (leaves 𝓜 S (2 * e)) (c (2 * e)) +ℤ when (leaves 𝓜 S (2 * e + 1)) (c (2 * e + 1))
-            ≡ when (S (𝓜 .tail (2 * e)) && not (S (𝓜 .tail (2 * e + 1)))) (c (2 * e)) +ℤ when (S (𝓜 .tail (2 * e + 1)) && not (S (𝓜 .tail (2 * e)))) (c (2 * e + 1))
+            ≡ when (S (𝓜 .tail (2 * e)) && not (S (𝓜 .tail (2 * e + 1)))) (c (2 * e))
+            +ℤ when (S (𝓜 .tail (2 * e + 1)) && not (S (𝓜 .tail (2 * e)))) (c (2 * e + 1))
         heads =
             ap₂ (λ x y. when (S (𝓜 .tail (2 * e)) && not (S (𝓜 .tail x))) (c (2 * e)) +ℤ when (S (𝓜 .tail (2 * e + 1)) && not (S (𝓜 .tail y))) (c (2 * e + 1)))
             (rev-even e) (rev-odd e)

@@ -1,5 +1,5 @@
--- What the refusals 17 and 18 refuse. Document 01, "Operations": "17 a setting outside its channel's limits; 18 a node other than those two off balance", each with
--- the lowest channel or node; in Levels from settings, "18 for any node".
+-- What the refusals 17 and 18 refuse. Document 01, "Operations": "17 a setting outside its channel's limits; 18 a node other than those two off balance", each
+-- with the lowest channel or node; in Levels from settings, "18 for any node".
 use Prim.Native.Nat.{ℕ, _+_, _*_}
 use mathlib.Core.Path.{_≡_}
 use mathlib.Core.Logic.{_⊎_, _≢_}

@@ -1,5 +1,5 @@
--- The highest answer. Document 01, "The highest answer": "Of all right settings for a delivery, the unit gives the one from which every other differs by balanced
--- settings whose levels are nowhere above zero." Other minus answer has levels of at most zero.
+-- The highest answer. Document 01, "The highest answer": "Of all right settings for a delivery, the unit gives the one from which every other differs by
+-- balanced settings whose levels are nowhere above zero." Other minus answer has levels of at most zero.
 use Prim.Native.Nat.{ℕ, _<_}
 use lib.IntN.{ℤ, pos, _-ℤ_}
 use lib.Signed.{_≤ℤ_}

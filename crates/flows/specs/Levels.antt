@@ -1,5 +1,5 @@
--- Levels. Document 01, "Faces, settings, levels": "Balanced settings (zero sum at every node) have face levels: flow on d = level of left(d) − level of right(d),
--- with face 0 at level 0." Which faces are at 0 is `ZeroFace`, from the drawing's outer dart.
+-- Levels. Document 01, "Faces, settings, levels": "Balanced settings (zero sum at every node) have face levels: flow on d = level of left(d) − level of
+-- right(d), with face 0 at level 0." Which faces are at 0 is `ZeroFace`, from the drawing's outer dart.
 use Prim.Native.Nat.{ℕ}
 use mathlib.Core.Path.{_≡_}
 use lib.IntN.{ℤ, pos}

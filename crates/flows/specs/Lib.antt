@@ -3,8 +3,5 @@ pub mod Settings
 pub mod Levels
 pub mod Highest
 pub mod ProvingSet
-pub mod Sides
 pub mod Check
-pub mod Plane
-pub mod UnitFlow
-pub mod Lengths
+pub mod inner

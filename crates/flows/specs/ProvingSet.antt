@@ -1,6 +1,6 @@
--- Proving sets. Document 01, "A proving set": "For delivery L, the set proves impossibility if its outward total is less than L when it holds the headgate and not
--- the outfall, less than −L when it holds the outfall and not the headgate, less than 0 otherwise. It is written as 64-bit words, node i being bit i mod 64 of
--- word i div 64, unused bits zero, words as many as the nodes need. Its size is the number of ones in its words."
+-- Proving sets. Document 01, "A proving set": "For delivery L, the set proves impossibility if its outward total is less than L when it holds the headgate and
+-- not the outfall, less than −L when it holds the outfall and not the headgate, less than 0 otherwise. It is written as 64-bit words, node i being bit i mod 64
+-- of word i div 64, unused bits zero, words as many as the nodes need. Its size is the number of ones in its words."
 use Prim.Native.Nat.{ℕ, _+_, _/_, _%_, _^_, _≤_, _<_}
 use mathlib.Core.Path.{_≡_}
 use mathlib.Core.Bool.{Bool, false, cond}

@@ -1,6 +1,6 @@
--- Settings. Document 01, "Faces, settings, levels": "A setting is the flow on dart 2e; the reverse dart has its negative. No dart may carry more than its limit.
--- The value is the sum over darts with tail at the headgate (000, 10.3). At other nodes but the outfall that sum is zero. Settings carry a delivery, and are
--- right for it, if they meet all this and their value is that delivery." Settings are flows of the edges here: x e is the flow of edge e, a whole number.
+-- Settings. Document 01, "Faces, settings, levels": "A setting is the flow on dart 2e; the reverse dart has its negative. No dart may carry more than its
+-- limit. The value is the sum over darts with tail at the headgate (000, 10.3). At other nodes but the outfall that sum is zero. Settings carry a delivery, and
+-- are right for it, if they meet all this and their value is that delivery." Settings are flows of the edges here: x e is the flow of edge e, a whole number.
 use Prim.Native.Nat.{ℕ, _/_, _%_, _<_}
 use mathlib.Core.Bool.{cond}
 use lib.Dec.{eqb}

@@ -12,12 +12,12 @@ use mir.Syntax.{w32}
 use mir.Val.{toZ, ofZ, SFits}
 use Rattle.integers.proofs.Omega.{atoms₃, parts, equal}
 use Rattle.maps.specs.Dart.{rev}
-use Rattle.traversal.specs.Spread.{Follows}
+use Rattle.traversal.specs.inner.Spread.{Follows}
 use Rattle.traversal.proofs.Reach.{full-meets}
-use Rattle.heights.specs.Heights.{Fillable, HeightsOf, Filled}
+use Rattle.heights.specs.inner.Heights.{Fillable, HeightsOf, Filled}
 use Rattle.arrays.specs.At.{at, atℤ}
-use Rattle.integers.specs.Limited.{Limited}
-use Rattle.arrays.specs.Sizes.{mostWinding, mostHeight}
+use Rattle.integers.specs.inner.Limited.{Limited}
+use Rattle.arrays.specs.inner.Sizes.{mostWinding, mostHeight}
 use Rattle.integers.proofs.Limits.{limited-minus, limited-more, limited-zero}
 use Rattle.signed.proofs.Limits.{limited-fits, same-bits}
 
@@ -27,7 +27,8 @@ pub record Filling (darts : ℕ) (tail order : ℕ → ℕ) (winding height : �
   pub limited : (j : ℕ) → j < i → Limited (i * mostWinding) (height (tail (order j)))
   pub right : (H : ℕ → ℤ) → HeightsOf darts tail winding H → (j : ℕ) → j < i → height (tail (order j)) ≡ H (tail (order j)) -ℤ H (tail (order 0))
 
-pub filling-start : {darts : ℕ} {tail order : ℕ → ℕ} {winding height : ℕ → ℤ} → 0 < darts → height (tail (order 0)) ≡ pos 0 → Filling darts tail order winding height 1
+pub filling-start : {darts : ℕ} {tail order : ℕ → ℕ} {winding height : ℕ → ℤ} → 0 < darts
+    → height (tail (order 0)) ≡ pos 0 → Filling darts tail order winding height 1
 filling-start {darts} {tail} {order} {winding} {height} some z = record {
   begun = omega arith;
   ordered = omega arith;
@@ -56,7 +57,10 @@ module _ {darts : ℕ} {tail order from : ℕ → ℕ} {winding : ℕ → ℤ} (
     pub filled : darts ≤ i → Filled darts tail (order 0) winding height
     filled over = record {
       right = λ H h d l. let r = met d l in subst (λ c. height (tail c) ≡ H (tail c) -ℤ H (tail (order 0))) (r .2) (ξ .right H h (r .0) (omega (arith, r .1)));
-      limited = λ d l. let r = met d l in subst (λ c. Limited mostHeight (height (tail c))) (r .2) (limited-more (omega (arith, ξ .ordered, ok .few)) (ξ .limited (r .0) (omega (arith, r .1))));
+      limited = λ d l.
+          let r = met d l in
+          subst (λ c. Limited mostHeight (height (tail c))) (r .2)
+          (limited-more (omega (arith, ξ .ordered, ok .few)) (ξ .limited (r .0) (omega (arith, r .1))));
     }
       where
         met : (d : ℕ) → d < darts → (j : ℕ) × (j < darts) × (order j ≡ d)
@@ -110,7 +114,8 @@ module _ {darts : ℕ} {tail order from : ℕ → ℕ} {winding : ℕ → ℤ} (
       -- at the same node: its height is known
       pub filling-turned : d ≢ rev p → Filling darts tail order winding height (i + 1)
       filling-turned turned =
-          passed l (limited-more (omega arith) known-limited) (λ H h. known-right H h ∙ ap (λ v. H v -ℤ H (tail (order 0))) (sym same)) (ap height same) (λ v n. refl)
+          passed l (limited-more (omega arith) known-limited)
+          (λ H h. known-right H h ∙ ap (λ v. H v -ℤ H (tail (order 0))) (sym same)) (ap height same) (λ v n. refl)
         where
           one-node : Follows (ok .rotation) d p → tail d ≡ tail p
           one-node (inl e) = absurd (turned e)
@@ -160,11 +165,13 @@ module _ {darts : ℕ} {tail order from : ℕ → ℕ} {winding : ℕ → ℤ} (
   new-fits = limited-fits (i * mostWinding + mostWinding) read (fits-32 .1) new-limited
 
   pub filling-stored : {next : ℕ} {result : ℤ} → length heights ≡ 1024 → d ≡ rev p → next ≡ tail d → result ≡ read
-      → (length (set heights next (toZ w32 (ofZ w32 result))) ≡ 1024) × Filling darts tail order winding (atℤ (set heights next (toZ w32 (ofZ w32 result)))) (i + 1)
+      → (length (set heights next (toZ w32 (ofZ w32 result))) ≡ 1024)
+      × Filling darts tail order winding (atℤ (set heights next (toZ w32 (ofZ w32 result)))) (i + 1)
   filling-stored {next} {result} long back is-next is-result = (
     length-set heights next bits ∙ long,
     filling-over ok ξ l is-d is-p back (is-result ∙ read-is ∙ ap (λ v. atℤ heights v -ℤ winding p) is-known)
-        (ap (atℤ (set heights next bits)) (sym is-next) ∙ getD-set-same heights next bits (pos 0) (omega (arith, long, node-in ok (dart-in ok l is-d) is-next)) ∙ kept)
+        (ap (atℤ (set heights next bits)) (sym is-next)
+        ∙ getD-set-same heights next bits (pos 0) (omega (arith, long, node-in ok (dart-in ok l is-d) is-next)) ∙ kept)
         (λ v n. getD-set-other heights next v bits (pos 0) (λ e. n (e ∙ is-next))),
   )
     where

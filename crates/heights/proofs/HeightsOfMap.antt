@@ -6,10 +6,10 @@ use lib.IntN.{ℤ, _-ℤ_}
 use Rattle.maps.specs.Map.{Map, darts}
 use Rattle.maps.specs.Check.{Sound}
 use Rattle.maps.specs.Potential.{Heights}
-use Rattle.traversal.specs.Spread.{Spread}
-use Rattle.heights.specs.Heights.{Fillable, Filled}
-use Rattle.integers.specs.Limited.{Limited}
-use Rattle.arrays.specs.Sizes.{mostWinding}
+use Rattle.traversal.specs.inner.Spread.{Spread}
+use Rattle.heights.specs.inner.Heights.{Fillable, Filled}
+use Rattle.integers.specs.inner.Limited.{Limited}
+use Rattle.arrays.specs.inner.Sizes.{mostWinding}
 
 pub sound-fillable : {𝓜 : Map} → Sound 𝓜 → 𝓜 .nodes ≤ 1024 → darts 𝓜 ≤ 1024 → {start : ℕ} {order from : ℕ → ℕ} {count : ℕ}
     → Spread (darts 𝓜) (𝓜 .rotation) start order from count → count ≡ darts 𝓜 → {winding : ℕ → ℤ} → ((d : ℕ) → d < darts 𝓜 → Limited mostWinding (winding d))

@@ -1,11 +1,11 @@
-// Heights of the nodes, in one pass along the order in which a walk over the darts met them: a dart was met as the reverse of one whose node's height is known, one
-// difference away, or at the node of one met before.
+// Heights of the nodes, in one pass along the order in which a walk over the darts met them: a dart was met as the reverse of one whose node's height is known,
+// one difference away, or at the node of one met before.
 ghost use mathlib.Core.Path.{_≡_};
 ghost use lib.ListN.{length};
 ghost use lib.IntN.{_-ℤ_};
 ghost use mir.Syntax.{w32};
 ghost use mir.Val.{SFits};
-ghost use Rattle.heights.specs.Heights.{Fillable, Filled};
+ghost use Rattle.heights.specs.inner.Heights.{Fillable, Filled};
 ghost use Rattle.arrays.specs.At.{at, atℤ};
 
 // The node of the first dart in the order is at 0; the node at the end of a dart is lower by the dart's winding.
@@ -18,7 +18,8 @@ pub fn fill_heights(
     heights: &mut [i32; 1024],
 )
     requires { ⌜ (length (now heights) ≡ 1024) × Fillable darts (at (now tails)) (at (now order)) (at (now from)) (atℤ (now winding)) ⌝ }
-    ensures { λ _. ⌜ (length (now (heights .exit)) ≡ 1024) × Filled darts (at (now (tails .entry))) (at (now (order .entry)) 0) (atℤ (now (winding .entry))) (atℤ (now (heights .exit))) ⌝ }
+    ensures { λ _. ⌜ (length (now (heights .exit)) ≡ 1024)
+        × Filled darts (at (now (tails .entry))) (at (now (order .entry)) 0) (atℤ (now (winding .entry))) (atℤ (now (heights .exit))) ⌝ }
 {
     let start = arrays::wide(order[0]);
     let root = arrays::wide(tails[start]);

@@ -107,15 +107,18 @@ unfolding sum
 count-reach zero f b l = absurd (omega arith)
 count-reach (suc n) f b l = go (decLt f (count n b)) (either (b n)) (count-reach n f b)
   where
-    go : Dec (f < count n b) → (b n ≡ true) ⊎ (b n ≡ false) → (f < count n b → (i : ℕ) × (i < n) × (b i ≡ true) × (count i b ≡ f)) → (i : ℕ) × (i < suc n) × (b i ≡ true) × (count i b ≡ f)
+    go : Dec (f < count n b) → (b n ≡ true) ⊎ (b n ≡ false) → (f < count n b → (i : ℕ) × (i < n) × (b i ≡ true) × (count i b ≡ f))
+        → (i : ℕ) × (i < suc n) × (b i ≡ true) × (count i b ≡ f)
     go (yes h) e r = let q = r h in (q .0, omega (arith, q .1), q .2, q .3)
     go (no h) (inl e) r = (n, omega arith, e, omega (arith, ap bit e))
     go (no h) (inr e) r = absurd (omega (arith, ap bit e))
 
 -- the counts of each label add up to the whole count
-pub count-by-label : (n m : ℕ) (label : ℕ → ℕ) (b : ℕ → Bool) → ((i : ℕ) → i < n → label i < m) → sumℕ m (λ v. count n (λ i. b i && eqb v (label i))) ≡ count n b
+pub count-by-label : (n m : ℕ) (label : ℕ → ℕ) (b : ℕ → Bool) → ((i : ℕ) → i < n → label i < m)
+    → sumℕ m (λ v. count n (λ i. b i && eqb v (label i))) ≡ count n b
 count-by-label n m label b h =
-    sum-ext Naturals m (λ v. count n (λ i. b i && eqb v (label i))) (λ v. sumℕ n (λ i. cond (eqb v (label i)) (bit (b i)) 0)) (λ v l. sum-ext Naturals n (λ i. bit (b i && eqb v (label i))) (λ i. cond (eqb v (label i)) (bit (b i)) 0) (λ i k. both (b i) (eqb v (label i))))
+    sum-ext Naturals m (λ v. count n (λ i. b i && eqb v (label i))) (λ v. sumℕ n (λ i. cond (eqb v (label i)) (bit (b i)) 0))
+    (λ v l. sum-ext Naturals n (λ i. bit (b i && eqb v (label i))) (λ i. cond (eqb v (label i)) (bit (b i)) 0) (λ i k. both (b i) (eqb v (label i))))
     ∙ sym (sum-by-label Naturals n m label (λ i. bit (b i)) h)
   where
     both : (x y : Bool) → bit (x && y) ≡ cond y (bit x) 0

@@ -21,7 +21,8 @@ unfolding find
 find-is zero b i l e = absurd (omega arith)
 find-is (suc n) b i l e = go (either (b n)) (find-is n b i)
   where
-    go : (b n ≡ true) ⊎ (b n ≡ false) → (i < n → b i ≡ true → (find n b < n) × (b (find n b) ≡ true)) → (cond (b n) n (find n b) < suc n) × (b (cond (b n) n (find n b)) ≡ true)
+    go : (b n ≡ true) ⊎ (b n ≡ false) → (i < n → b i ≡ true → (find n b < n) × (b (find n b) ≡ true))
+        → (cond (b n) n (find n b) < suc n) × (b (cond (b n) n (find n b)) ≡ true)
     go (inl p) r = rw p (omega arith, p)
     go (inr p) r = rw p (omega (arith, q), q .1)
       where

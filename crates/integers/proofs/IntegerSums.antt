@@ -67,4 +67,6 @@ negative-term (suc n) f h = go (lt-or-ge (f n) (pos 0)) (negative-term n f)
     go (inr g) r = let q = r less-rest in (q .0, omega (arith, q .1), q .2)
       where
         less-rest : sumℤ n f <ℤ pos 0
-        less-rest = let a = atoms₂ (sumℤ n f) (f n) in Rattle.integers.proofs.Omega.less (search parts) (omega (arith, from-less h (search parts), from-at-most g (search parts)))
+        less-rest =
+            let a = atoms₂ (sumℤ n f) (f n) in
+            Rattle.integers.proofs.Omega.less (search parts) (omega (arith, from-less h (search parts), from-at-most g (search parts)))

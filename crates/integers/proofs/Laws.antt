@@ -7,7 +7,23 @@ use native.Mathlib.Omega.{arith}
 use native.Mathlib.Nat.{mul-le-mul}
 use lib.IntN.{ℤ, pos, negsuc, negℤ, _+ℤ_, _-ℤ_, _*ℤ_}
 use lib.Signed.{_≤ℤ_, _<ℤ_, leZ, ltZ, leZ-yes, ltZ-yes, ltZ-no}
-use Rattle.integers.proofs.Omega.{Parts, atom, atoms₁, atoms₂, atoms₃, atoms₄, parts, positive, negative, equal, at-most, less, from-equal, from-at-most, from-less}
+use Rattle.integers.proofs.Omega.{
+  Parts,
+  atom,
+  atoms₁,
+  atoms₂,
+  atoms₃,
+  atoms₄,
+  parts,
+  positive,
+  negative,
+  equal,
+  at-most,
+  less,
+  from-equal,
+  from-at-most,
+  from-less,
+}
 
 -- ── ring ──
 pub mul-distrib-left : (c x y : ℤ) → c *ℤ (x +ℤ y) ≡ c *ℤ x +ℤ c *ℤ y

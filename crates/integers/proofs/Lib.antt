@@ -1,3 +1,4 @@
+-- Whole numbers by omega; sums, counting, injections.
 pub mod Omega
 pub mod Laws
 pub mod Tests

@@ -5,7 +5,7 @@ use native.Mathlib.Omega.{arith}
 use lib.IntN.{ℤ, pos, negℤ, _+ℤ_, _-ℤ_}
 use lib.Signed.{_≤ℤ_}
 use Rattle.integers.specs.Sum.{sum, sumℤ, when}
-use Rattle.integers.specs.Limited.{Limited}
+use Rattle.integers.specs.inner.Limited.{Limited}
 use Rattle.integers.proofs.Omega.{atoms₁, atoms₂, parts, at-most, from-at-most}
 
 pub limited-plus : {a b : ℕ} {x y : ℤ} → Limited a x → Limited b y → Limited (a + b) (x +ℤ y)

@@ -55,7 +55,8 @@ unfolding positive negative
 neg-pos-parts zero = (refl, refl)
 neg-pos-parts (suc k) = (refl, refl)
 
-mul-parts : (z w : ℤ) → positive (z *ℤ w) + (positive z * negative w + negative z * positive w) ≡ positive z * positive w + negative z * negative w + negative (z *ℤ w)
+mul-parts : (z w : ℤ)
+    → positive (z *ℤ w) + (positive z * negative w + negative z * positive w) ≡ positive z * positive w + negative z * negative w + negative (z *ℤ w)
 unfolding positive negative
 mul-parts (pos a) (pos b) = omega arith
 mul-parts (pos a) (negsuc b) = omega (arith, neg-pos-parts (a * suc b) .0, neg-pos-parts (a * suc b) .1)

@@ -53,4 +53,10 @@ pigeonhole (suc n) g h = go (seek g (g (suc n)) (suc n)) (pigeonhole n)
         same i j li lj (no p) (no q) s = s
 
         back : Twice k n → Twice g (suc n)
-        back t = (t .0, t .1, t .2, omega (arith, t .3), same (t .0) (t .1) (omega (arith, t .2, t .3)) (omega (arith, t .3)) (ℕ-discrete (g (t .0)) n) (ℕ-discrete (g (t .1)) n) (t .4))
+        back t = (
+          t .0,
+          t .1,
+          t .2,
+          omega (arith, t .3),
+          same (t .0) (t .1) (omega (arith, t .2, t .3)) (omega (arith, t .3)) (ℕ-discrete (g (t .0)) n) (ℕ-discrete (g (t .1)) n) (t .4),
+        )

@@ -92,7 +92,8 @@ pub every-equal : (n : ℕ) (f g : ℕ → ℕ) → every n (λ i. eqb (f i) (g 
 every-equal n f g h i l = eqb-eq (f i) (g i) (every-at n (λ i. eqb (f i) (g i)) h i l)
 
 -- at every two numbers below n: where x holds, y holds
-pub every-two : (n : ℕ) (x y : ℕ → ℕ → Bool) → every n (λ i. every n (λ j. not (x i j) || y i j)) ≡ true → (i j : ℕ) → i < n → j < n → x i j ≡ true → y i j ≡ true
+pub every-two : (n : ℕ) (x y : ℕ → ℕ → Bool) → every n (λ i. every n (λ j. not (x i j) || y i j)) ≡ true
+    → (i j : ℕ) → i < n → j < n → x i j ≡ true → y i j ≡ true
 every-two n x y h i j li lj = implied (x i j) (every-at n (λ j. not (x i j) || y i j) (every-at n (λ i. every n (λ j. not (x i j) || y i j)) h i li) j lj)
 
 -- ── integers ──

@@ -1,7 +1,7 @@
 // The program key: standard input to standard output (document 01, "The program key"). It reads a question and a sheet into a buffer one byte longer than the
 // longest that can be accepted, so that a byte left over is seen (`key_text::key_of_input` asks for it). A read or write that fails is told on standard error,
 // since a program of this kit has no exit status.
-ghost use Rattle.key.specs.Input.{Filled};
+ghost use Rattle.key.specs.inner.Input.{Filled};
 
 // The input ended after so many bytes, or filled the buffer; or a read failed, and errno says why.
 enum Input {

@@ -1,5 +1,5 @@
--- Bytes that are alike as far as they matter: the first n the same, and more after them on both sides. The checks that look no further agree one by one, and a sheet longer
--- than any that is accepted is refused by one of those.
+-- Bytes that are alike as far as they matter: the first n the same, and more after them on both sides. The checks that look no further agree one by one, and a
+-- sheet longer than any that is accepted is refused by one of those.
 use Prim.Native.Nat.{ℕ, _+_, _*_, _≤_, _<_}
 use mathlib.Core.Path.{_≡_, refl, sym, _∙_, ap, ap₂, subst}
 use mathlib.Core.Logic.{_⊎_, inl, inr}
@@ -19,7 +19,8 @@ use Rattle.fields.specs.Fields.{u16At, u32At, i32At}
 use Rattle.rotations.specs.MapChecks.{mapChecks}
 use Rattle.records.specs.Record.{recordLength, bodyLength, recordChecks}
 use Rattle.records.specs.Check.{numberChecks, edgeChecks}
-use Rattle.records.specs.Sheet.{kindOf, headLength, nodesOf, edgesOf, outerOf, edgeAfter, edgeAt, sheetMap, sheetDrawing, headRecordChecks, headChecks, edgeRecordChecks, byteChecks}
+use Rattle.records.specs.Sheet.{kindOf, headLength, nodesOf, edgesOf, outerOf, edgeAfter, edgeAt, sheetMap, sheetDrawing}
+use Rattle.records.specs.Sheet.{headRecordChecks, headChecks, edgeRecordChecks, byteChecks}
 use Rattle.records.proofs.Head.{head-at-most, head-lengths}
 use Rattle.records.proofs.Bytes.{head-kinds, head-whole, head-counts, bytes-head, bytes-counts, bytes-length}
 use Rattle.records.proofs.Fields.{edge-fields}
@@ -120,7 +121,8 @@ module _ (n : ℕ) (s s' : List ℕ) (h : Alike n s s') where
   head-alike : 17 ≤ n → Same (headChecks s) (headChecks s')
   unfolding headChecks
   head-alike l =
-      same-append (headRecordChecks s) (headRecordChecks s') (numberChecks (nodesOf s) (edgesOf s) (outerOf s)) (numberChecks (nodesOf s') (edgesOf s') (outerOf s'))
+      same-append (headRecordChecks s) (headRecordChecks s')
+      (numberChecks (nodesOf s) (edgesOf s) (outerOf s)) (numberChecks (nodesOf s') (edgesOf s') (outerOf s'))
       (head-record-alike l)
       (same-if _ _ (λ i. numberChecks (u16-alike n s s' h 1 (omega arith) i) (u16-alike n s s' h 3 (omega arith) i) (outer-alike (omega arith) i)))
 
@@ -205,7 +207,9 @@ module _ (s s' : List ℕ) (h : Alike 8711 s s') where
   first-bytes k p f = go (ℕ-discrete (kindOf s) 1) (ℕ-discrete (kindOf s) 4) (decLe (edgesOf s) 512)
     where
       by-head : (NoneOf (headChecks s) → ⊥) → FirstOf (byteChecks s') k p
-      by-head some = first-within (headChecks s) (headChecks s') _ _ k p some (first-same (headChecks s) (headChecks s') k p (head-alike 8711 s s' h (omega arith))) f
+      by-head some =
+          first-within (headChecks s) (headChecks s') _ _ k p some
+          (first-same (headChecks s) (headChecks s') k p (head-alike 8711 s s' h (omega arith))) f
 
       by-all : headLength s ≤ 7 → edgesOf s ≤ 512 → FirstOf (byteChecks s') k p
       by-all short few = first-same (byteChecks s) (byteChecks s') k p (bytes-alike 8711 s s' h (omega arith) (omega arith)) f

@@ -8,7 +8,7 @@ use native.Mathlib.Omega.{arith}
 use lib.Dec.{eqb}
 use lib.ListN.{length, getD, drop}
 use lib.IntN.{ℤ}
-use Rattle.integers.specs.Limited.{Limited}
+use Rattle.integers.specs.inner.Limited.{Limited}
 use Rattle.refusals.specs.Order.{Check, NoneOf, FirstOf}
 use Rattle.refusals.proofs.Order.{none-append, append-none, append-first, first-left, first-right, first-none, neither}
 use Rattle.maps.specs.Map.{darts}
@@ -31,7 +31,7 @@ use Rattle.analyser.proofs.Accepted.{Accepted, accepted, solve-none}
 use Rattle.analyser.proofs.SheetPlane.{capacity-small}
 use Rattle.analyser.proofs.Demand3.{can-highest}
 use Rattle.texts.specs.Decimal.{decimal}
-use Rattle.texts.specs.Placed.{Placed}
+use Rattle.texts.specs.inner.Placed.{Placed}
 use Rattle.key_text.specs.Question.{sourceOf, sinkOf, valueOf, sheetOf, keyChecks}
 use Rattle.key_text.specs.Text.{lines, nodeLine, canText, cannotLine, cannotText, refusedText}
 use Rattle.key_text.specs.Key.{Key, can, cannot, refused, Prints, textRoom}
@@ -47,9 +47,11 @@ unfolding NoneOf recordChecks
 question-whole b h = let short : length b < 9 → ⊥ = h .1 .1 .0 in omega (arith, short)
 
 -- 1 or 2, of the question
-pub question-refused : (b text text' : List ℕ) (n k p : ℕ) → FirstOf (recordChecks b 3 0) k p → Placed 0 (refusedText k) text text' n → length (refusedText k) ≤ length text → Prints b text text' n
+pub question-refused : (b text text' : List ℕ) (n k p : ℕ) → FirstOf (recordChecks b 3 0) k p
+    → Placed 0 (refusedText k) text text' n → length (refusedText k) ≤ length text → Prints b text text' n
 unfolding keyChecks
-question-refused b text text' n k p f placed room = printed b (refusedText k) text text' n (refused k p (first-left (recordChecks b 3 0) _ k p f) refl) placed room
+question-refused b text text' n k p f placed room =
+    printed b (refusedText k) text text' n (refused k p (first-left (recordChecks b 3 0) _ k p f) refl) placed room
 
 -- a word that lies in front of others is still the word at its place
 in-front : (xs ys : List ℕ) (i : ℕ) → i < length xs → getD (xs ++ ys) i 0 ≡ getD xs i 0
@@ -62,7 +64,8 @@ member-in-front nodes words rest v e l = ap (λ w. eqb (w / 2 ^ (v % 64) % 2) 1)
 
 -- Solve's answer, said of the bytes that sheet and question were read from
 pub of-bytes : {s s₁ : List ℕ} {source source₁ sink sink₁ : ℕ} {value value₁ : ℤ} → s ≡ s₁ → source ≡ source₁ → sink ≡ sink₁ → value ≡ value₁
-    → (flows flows' : List ℤ) (set set' : List ℕ) (answer : SolveAnswer) → Solves s source sink value flows flows' set set' answer → Solves s₁ source₁ sink₁ value₁ flows flows' set set' answer
+    → (flows flows' : List ℤ) (set set' : List ℕ) (answer : SolveAnswer)
+    → Solves s source sink value flows flows' set set' answer → Solves s₁ source₁ sink₁ value₁ flows flows' set set' answer
 of-bytes e₁ e₂ e₃ e₄ flows flows' set set' answer h = rw (e₁, e₂, e₃, e₄) at h
 
 -- ── what an answered question leaves: enough to print its answer ──
@@ -88,7 +91,8 @@ module _ (s : List ℕ) (source sink : ℕ) (value : ℤ) (flows flows' : List �
       let a = accepted s source sink value flows set (h .0) in
       let x = can-highest s source sink value flows flows' set set' (h .0) h in
       subst (Limited 1000000) (onDarts-even (atℤ flows') e)
-      (settings-limited (sheetMap s) 1000000 (capacityOf s) (atℤ flows') (λ d m. capacity-small s (a .sheet) d m .high) (x .carries .within) (2 * e) (omega arith))
+      (settings-limited (sheetMap s) 1000000 (capacityOf s) (atℤ flows')
+      (λ d m. capacity-small s (a .sheet) d m .high) (x .carries .within) (2 * e) (omega arith))
 
 -- "the key's own slices are long enough, so 16 never comes"
 no-sixteen : (s : List ℕ) (flows : List ℤ) (set : List ℕ) → 512 ≤ length flows → 9 ≤ length set → NoneOf (sheetChecks s)
@@ -108,7 +112,8 @@ key-solve b flows set long wide h =
     solve-none s (sourceOf b) (sinkOf b) (valueOf b) flows set
     (record { sheet = c .0; ends-two = d .0; value-inside = d .1; has-room = no-sixteen s flows set long wide (c .0) })
 
-module _ (b : List ℕ) (question : NoneOf (recordChecks b 3 0)) (flows flows' : List ℤ) (set set' : List ℕ) (long : 512 ≤ length flows) (wide : 9 ≤ length set) where
+module _ (b : List ℕ) (question : NoneOf (recordChecks b 3 0)) (flows flows' : List ℤ)
+    (set set' : List ℕ) (long : 512 ≤ length flows) (wide : 9 ≤ length set) where
   abbrev s : List ℕ
   s = sheetOf b
 
@@ -124,7 +129,8 @@ module _ (b : List ℕ) (question : NoneOf (recordChecks b 3 0)) (flows flows' :
 
   key-first : (k p : ℕ) → FirstOf checks k p → FirstOf (keyChecks b) k p
   unfolding keyChecks solveChecks questionChecks
-  key-first k p f = first-right (recordChecks b 3 0) (sheetChecks s ++ (ends ++ asked)) k p question (by-sheet (append-first (sheetChecks s) (ends ++ (asked ++ room)) k p f))
+  key-first k p f =
+      first-right (recordChecks b 3 0) (sheetChecks s ++ (ends ++ asked)) k p question (by-sheet (append-first (sheetChecks s) (ends ++ (asked ++ room)) k p f))
     where
       ends : List Check
       ends = endChecks (nodesOf s) (sourceOf b) (sinkOf b)
@@ -151,14 +157,16 @@ module _ (b : List ℕ) (question : NoneOf (recordChecks b 3 0)) (flows flows' :
   pub answer-can : Solves s (sourceOf b) (sinkOf b) (valueOf b) flows flows' set set' Can → Key b (canText (valueOf b) (edgesOf s) (atℤ flows'))
   answer-can h = can (key-none (h .0)) (atℤ flows') (can-highest s (sourceOf b) (sinkOf b) (valueOf b) flows flows' set set' (h .0) h) refl
 
-  pub answer-cannot : (n : ℕ) → Solves s (sourceOf b) (sinkOf b) (valueOf b) flows flows' set set' (Cannot n) → Key b (cannotText (valueOf b) n (nodesOf s) set')
+  pub answer-cannot : (n : ℕ) → Solves s (sourceOf b) (sinkOf b) (valueOf b) flows flows' set set' (Cannot n)
+      → Key b (cannotText (valueOf b) n (nodesOf s) set')
   unfolding cannotText nodeLine
   answer-cannot n h =
       let words = h .1 .0 in
       let w = h .1 .1 in
       let line : (v : ℕ) → v < nodesOf s → nodeLine set' v ≡ nodeLine words v =
       λ v l. ap (λ m. cond m (decimal v ++ (10 ∷ [])) []) (ap (λ z. member z v) (w .placed) ∙ member-in-front (nodesOf s) words _ v (w .is-set .long) l) in
-      cannot (key-none (h .0)) words (w .is-set) (h .1 .2) (ap₂ (λ k z. cannotLine (valueOf b) k ++ z) (h .1 .3) (lines-agree (nodesOf s) (nodeLine set') (nodeLine words) line))
+      cannot (key-none (h .0)) words (w .is-set) (h .1 .2)
+      (ap₂ (λ k z. cannotLine (valueOf b) k ++ z) (h .1 .3) (lines-agree (nodesOf s) (nodeLine set') (nodeLine words) line))
 
   pub answer-refused : (k p : ℕ) → Solves s (sourceOf b) (sinkOf b) (valueOf b) flows flows' set set' (Refused k p) → Key b (refusedText k)
   answer-refused k p h = refused k p (key-first k p (h .0)) refl
@@ -169,21 +177,28 @@ module _ (b : List ℕ) (question : NoneOf (recordChecks b 3 0)) (flows flows' :
         → Placed 0 (canText value edges (atℤ flows')) text text' n → Prints b text text' n
     can-printed h edges e p =
         let few = few-edges s (sourceOf b) (sinkOf b) (valueOf b) flows flows' set set' (h .0) in
-        let fits = can-text-length (valueOf b) (edgesOf s) (atℤ flows') (value-fits s (sourceOf b) (sinkOf b) (valueOf b) flows flows' set set' (h .0)) few (flows-fit s (sourceOf b) (sinkOf b) (valueOf b) flows flows' set set' h) in
+        let fits =
+        can-text-length (valueOf b) (edgesOf s) (atℤ flows') (value-fits s (sourceOf b) (sinkOf b) (valueOf b) flows flows' set set' (h .0))
+        few (flows-fit s (sourceOf b) (sinkOf b) (valueOf b) flows flows' set set' h) in
         printed b (canText (valueOf b) (edgesOf s) (atℤ flows')) text text' n (answer-can h)
-        (subst (λ v. Placed 0 (canText v (edgesOf s) (atℤ flows')) text text' n) same-value (subst (λ k. Placed 0 (canText value k (atℤ flows')) text text' n) e p))
+        (subst (λ v. Placed 0 (canText v (edgesOf s) (atℤ flows')) text text' n) same-value
+        (subst (λ k. Placed 0 (canText value k (atℤ flows')) text text' n) e p))
         (omega (arith, fits, few, room))
 
-    pub cannot-printed : (size : ℕ) → size < 65536 → Solves s (sourceOf b) (sinkOf b) (valueOf b) flows flows' set set' (Cannot size) → (nodes : ℕ) → nodes ≡ nodesOf s
+    pub cannot-printed : (size : ℕ) → size < 65536
+        → Solves s (sourceOf b) (sinkOf b) (valueOf b) flows flows' set set' (Cannot size) → (nodes : ℕ) → nodes ≡ nodesOf s
         → Placed 0 (cannotText value size nodes set') text text' n → Prints b text text' n
     cannot-printed size short h nodes e p =
         let few = few-nodes s (sourceOf b) (sinkOf b) (valueOf b) flows flows' set set' (h .0) in
-        let fits = cannot-text-length (valueOf b) size (nodesOf s) set' short (value-fits s (sourceOf b) (sinkOf b) (valueOf b) flows flows' set set' (h .0)) few in
+        let fits =
+        cannot-text-length (valueOf b) size (nodesOf s) set' short (value-fits s (sourceOf b) (sinkOf b) (valueOf b) flows flows' set set' (h .0)) few in
         printed b (cannotText (valueOf b) size (nodesOf s) set') text text' n (answer-cannot size h)
-        (subst (λ v. Placed 0 (cannotText v size (nodesOf s) set') text text' n) same-value (subst (λ k. Placed 0 (cannotText value size k set') text text' n) e p))
+        (subst (λ v. Placed 0 (cannotText v size (nodesOf s) set') text text' n) same-value
+        (subst (λ k. Placed 0 (cannotText value size k set') text text' n) e p))
         (omega (arith, fits, few, room))
 
-  pub refused-printed : (text text' : List ℕ) → textRoom ≤ length text → (n k p : ℕ) → k < 256 → Solves s (sourceOf b) (sinkOf b) (valueOf b) flows flows' set set' (Refused k p)
+  pub refused-printed : (text text' : List ℕ) → textRoom ≤ length text → (n k p : ℕ) → k < 256
+      → Solves s (sourceOf b) (sinkOf b) (valueOf b) flows flows' set set' (Refused k p)
       → Placed 0 (refusedText k) text text' n → Prints b text text' n
   refused-printed text text' room n k p small h placed =
       let fits = refused-text-length k small in

@@ -1,6 +1,7 @@
--- Demand 3, of the key's text: "a delivery is called impossible by "cannot" and possible by "can", in Solve's answer and in the key's text alike". For bytes that no check
--- refuses, "cannot" is printed exactly when no whole-number settings carry the delivery, and "can" otherwise; bytes that a check refuses have "refused" and its number.
--- Everything here follows from `Key`, and so from the contracts of `key_text` and `write_key`. Settings are any function from edges to whole numbers.
+-- Demand 3, of the key's text: "a delivery is called impossible by "cannot" and possible by "can", in Solve's answer and in
+-- the key's text alike". For bytes that no check refuses, "cannot" is printed exactly when no whole-number settings carry
+-- the delivery, and "can" otherwise; bytes that a check refuses have "refused" and its number. Everything here follows from
+-- `Key`, and so from the contracts of `key_text` and `write_key`. Settings are any function from edges to whole numbers.
 use mathlib.Core.Path.{_≡_, sym, ap, _∙_}
 use mathlib.Core.Logic.{_⊎_, inl, inr}
 use mathlib.Core.List.{List, _++_}
@@ -51,9 +52,11 @@ cannot-refused : (t : List ℕ) → Says cannotWord t → Says refusedWord t →
 cannot-refused t a b = omega (arith, ap (λ l. getD l 0 0) (sym (a .1) ∙ b .1))
 
 -- ── refused: exactly when a check holds, and the first gives the number ──
-pub refused-exactly : (b t : List ℕ) → Key b t → (Says refusedWord t → (k p : ℕ) × FirstOf (keyChecks b) k p × (t ≡ refusedText k)) × ((k p : ℕ) → FirstOf (keyChecks b) k p → t ≡ refusedText k)
+pub refused-exactly : (b t : List ℕ) → Key b t
+    → (Says refusedWord t → (k p : ℕ) × FirstOf (keyChecks b) k p × (t ≡ refusedText k)) × ((k p : ℕ) → FirstOf (keyChecks b) k p → t ≡ refusedText k)
 refused-exactly b t (can none x h e) = ((λ r. absurd (can-refused t (says-can _ _ _ t e) r)), (λ k p f. absurd (first-none (keyChecks b) k p f none)))
-refused-exactly b t (cannot none words s h e) = ((λ r. absurd (cannot-refused t (says-cannot _ _ _ _ t e) r)), (λ k p f. absurd (first-none (keyChecks b) k p f none)))
+refused-exactly b t (cannot none words s h e) =
+    ((λ r. absurd (cannot-refused t (says-cannot _ _ _ _ t e) r)), (λ k p f. absurd (first-none (keyChecks b) k p f none)))
 refused-exactly b t (refused k p f e) = ((λ r. (k, p, f, e)), (λ j q g. e ∙ ap refusedText (first-one (keyChecks b) k p j q f g .0)))
 
 module _ (b : List ℕ) (asked : NoneOf (keyChecks b)) where
@@ -114,7 +117,9 @@ module _ (b : List ℕ) (asked : NoneOf (keyChecks b)) where
       let carried = can-exactly t key .0 c in
       let y = can-prints u other (can-exactly u other .1 (carried .0) (carried .1)) in
       x .2
-      ∙ ap (λ l. canLine (valueOf b) ++ l) (lines-agree (edgesOf s) (λ e. edgeLine e (x .0 e)) (λ e. edgeLine e (y .0 e)) (λ e l. ap (edgeLine e) (one-highest s (known .sheet) (sourceOf b) (sinkOf b) (known .ends-two) (valueOf b) (x .0) (y .0) (x .1) (y .1) e l)))
+      ∙ ap (λ l. canLine (valueOf b) ++ l)
+      (lines-agree (edgesOf s) (λ e. edgeLine e (x .0 e)) (λ e. edgeLine e (y .0 e))
+      (λ e l. ap (edgeLine e) (one-highest s (known .sheet) (sourceOf b) (sinkOf b) (known .ends-two) (valueOf b) (x .0) (y .0) (x .1) (y .1) e l)))
       ∙ sym (y .2)
 
   -- ── what stands under "cannot": the nodes of a set that proves it, and its size ──

@@ -8,11 +8,11 @@ use native.Mathlib.Numerals.{add-one}
 use lib.ListN.{length, take, drop, length-append}
 use Rattle.fields.specs.Fields.{put}
 use Rattle.fields.proofs.Laws.{put-length}
-use Rattle.texts.specs.Placed.{Placed}
+use Rattle.texts.specs.inner.Placed.{Placed}
 use Rattle.texts.proofs.Pieces.{put-append, put-none}
 use mathlib.Core.Bool.{Bool, true, false, cond}
 use lib.IntN.{ℤ}
-use Rattle.integers.specs.Limited.{Limited}
+use Rattle.integers.specs.inner.Limited.{Limited}
 use Rattle.flows.specs.ProvingSet.{member}
 use Rattle.texts.specs.Decimal.{decimal, number}
 use Rattle.texts.proofs.Length.{decimal-length, number-length}
@@ -23,7 +23,8 @@ pub placed-none : (at : ℕ) (l : List ℕ) → Placed at [] l l at
 placed-none at l = (sym (put-none at l), sym (add-zero at))
 
 -- one piece behind another
-pub placed-then : (at mid end : ℕ) (xs ys l m n : List ℕ) → Placed at xs l m mid → Placed mid ys m n end → at + length xs + length ys ≤ length l → Placed at (xs ++ ys) l n end
+pub placed-then : (at mid end : ℕ) (xs ys l m n : List ℕ) → Placed at xs l m mid
+    → Placed mid ys m n end → at + length xs + length ys ≤ length l → Placed at (xs ++ ys) l n end
 placed-then at mid end xs ys l m n p q h = (
   q .0 ∙ ap₂ (λ k z. put k ys z) (p .1) (p .0) ∙ sym (put-append at xs ys l h),
   let len = length-append xs ys in omega (arith, p .1, q .1, len),
@@ -45,7 +46,8 @@ three-placed at e₁ e₂ e₃ a b c l l₁ l₂ l₃ p q r h =
     let both = placed-then e₁ e₂ e₃ b c l₁ l₂ l₃ q r (omega (arith, p .1, len)) in
     placed-then at e₁ e₃ a (b ++ c) l l₁ l₃ p both (let n = length-append b c in omega (arith, n))
 
-pub four-placed : (at e₁ e₂ e₃ e₄ : ℕ) (a b c d l l₁ l₂ l₃ l₄ : List ℕ) → Placed at a l l₁ e₁ → Placed e₁ b l₁ l₂ e₂ → Placed e₂ c l₂ l₃ e₃ → Placed e₃ d l₃ l₄ e₄
+pub four-placed : (at e₁ e₂ e₃ e₄ : ℕ) (a b c d l l₁ l₂ l₃ l₄ : List ℕ) → Placed at a l l₁ e₁
+    → Placed e₁ b l₁ l₂ e₂ → Placed e₂ c l₂ l₃ e₃ → Placed e₃ d l₃ l₄ e₄
     → at + length a + length b + length c + length d ≤ length l → Placed at (a ++ (b ++ (c ++ d))) l l₄ e₄
 four-placed at e₁ e₂ e₃ e₄ a b c d l l₁ l₂ l₃ l₄ p q r s h =
     let len = placed-length at e₁ a l l₁ p (omega (arith, p .1)) in
@@ -63,7 +65,8 @@ placed-front n t l m p = p .0 ∙ ap (λ k. t ++ drop k l) (sym (p .1))
 pub lines-more : (at mid end i : ℕ) (line : ℕ → List ℕ) (l m n : List ℕ) → Placed at (lines i line) l m mid → Placed mid (line i) m n end
     → at + length (lines i line) + length (line i) ≤ length l → Placed at (lines (i + 1) line) l n end
 unfolding lines
-lines-more at mid end i line l m n p q h = subst (λ k. Placed at (lines k line) l n end) (sym (add-one i)) (placed-then at mid end (lines i line) (line i) l m n p q h)
+lines-more at mid end i line l m n p q h =
+    subst (λ k. Placed at (lines k line) l n end) (sym (add-one i)) (placed-then at mid end (lines i line) (line i) l m n p q h)
 
 -- lines of at most `most` bytes
 pub lines-length : (most n : ℕ) (line : ℕ → List ℕ) → ((i : ℕ) → i < n → length (line i) ≤ most) → length (lines n line) ≤ most * n
@@ -114,7 +117,8 @@ cannot-line-length value size h l =
     omega (arith, n, m, a, b)
 
 -- ── how long keys are ──
-pub can-text-length : (value : ℤ) (edges : ℕ) (x : ℕ → ℤ) → Limited 600000000 value → edges ≤ 512 → ((e : ℕ) → e < edges → Limited 1000000 (x e)) → length (canText value edges x) ≤ 15 + 13 * edges
+pub can-text-length : (value : ℤ) (edges : ℕ) (x : ℕ → ℤ) → Limited 600000000 value → edges ≤ 512
+    → ((e : ℕ) → e < edges → Limited 1000000 (x e)) → length (canText value edges x) ≤ 15 + 13 * edges
 unfolding canText
 can-text-length value edges x l few limited =
     let line : ℕ → List ℕ = λ e. edgeLine e (x e) in
@@ -123,7 +127,8 @@ can-text-length value edges x l few limited =
     let n = length-append (canLine value) (lines edges line) in
     omega (arith, all, first, n)
 
-pub cannot-text-length : (value : ℤ) (size nodes : ℕ) (words : List ℕ) → size < 65536 → Limited 600000000 value → nodes ≤ 513 → length (cannotText value size nodes words) ≤ 24 + 4 * nodes
+pub cannot-text-length : (value : ℤ) (size nodes : ℕ) (words : List ℕ) → size < 65536
+    → Limited 600000000 value → nodes ≤ 513 → length (cannotText value size nodes words) ≤ 24 + 4 * nodes
 unfolding cannotText
 cannot-text-length value size nodes words h l few =
     let all = lines-length 4 nodes (nodeLine words) (λ i g. node-line-length words i (omega arith)) in

@@ -1,5 +1,5 @@
--- What the program key is given: "from standard input a question record, then a sheet" (document 01, "The program key"). "Kind 3, question: headgate, outfall (16 each),
--- delivery (32)." The headgate is the source, the outfall the sink, the delivery the value.
+-- What the program key is given: "from standard input a question record, then a sheet" (document 01, "The program key"). "Kind 3, question: headgate, outfall
+-- (16 each), delivery (32)." The headgate is the source, the outfall the sink, the delivery the value.
 use Prim.Native.Nat.{ℕ}
 use mathlib.Core.List.{List, _++_}
 use lib.ListN.{drop}

@@ -1,5 +1,5 @@
--- The words and lines of the key. Document 01, "The program key": "It prints "can" and delivery, then each channel and its setting; or "cannot", delivery and size, then
--- each node of the set, rising; or "refused" and the number." One space (32) between fields, one line feed (10) after every line, the last one too.
+-- The words and lines of the key. Document 01, "The program key": "It prints "can" and delivery, then each channel and its setting; or "cannot", delivery and
+-- size, then each node of the set, rising; or "refused" and the number." One space (32) between fields, one line feed (10) after every line, the last one too.
 use Prim.Native.Nat.{ℕ, zero, suc}
 use mathlib.Core.Bool.{cond}
 use mathlib.Core.List.{List, [], _∷_, _++_}

@@ -3,11 +3,11 @@ ghost use mathlib.Core.Path.{_≡_};
 ghost use mathlib.Core.List.{List};
 ghost use Prim.Native.Nat.{ℕ, _+_, _*_, _≤_, _<_};
 ghost use lib.ListN.{length};
-ghost use Rattle.integers.specs.Limited.{Limited};
+ghost use Rattle.integers.specs.inner.Limited.{Limited};
 ghost use Rattle.refusals.specs.Order.{NoneOf};
 ghost use Rattle.records.specs.Record.{recordChecks};
 ghost use Rattle.arrays.specs.At.{atℤ};
-ghost use Rattle.texts.specs.Placed.{Placed};
+ghost use Rattle.texts.specs.inner.Placed.{Placed};
 ghost use Rattle.key_text.specs.Question.{sourceOf, sinkOf, valueOf, sheetOf};
 ghost use Rattle.key_text.specs.Text.{lines, edgeLine, canLine, canText, nodeLine, cannotLine, cannotText, refusedText};
 ghost use Rattle.key_text.specs.Key.{Prints, textRoom, Writes};
@@ -82,7 +82,8 @@ fn put_can_line(text: &mut [u8], value: i32) -> usize
 
 // "can" and the value, then the lines of the edges.
 fn put_can(text: &mut [u8], value: i32, edges: usize, flows: &[i32; 512]) -> usize
-    requires { ⌜ (15 + 13 * edges ≤ length (now text)) × Limited 600000000 value × (edges ≤ 512) × ((e : ℕ) → e < edges → Limited 1000000 (atℤ (now flows) e)) ⌝ }
+    requires { ⌜ (15 + 13 * edges ≤ length (now text)) × Limited 600000000 value
+        × (edges ≤ 512) × ((e : ℕ) → e < edges → Limited 1000000 (atℤ (now flows) e)) ⌝ }
     ensures { λ r. ⌜ Placed 0 (canText value edges (atℤ (now (flows .entry)))) (now (text .entry)) (now (text .exit)) r ⌝ }
 {
     let at = put_can_line(text, value);

@@ -1,5 +1,5 @@
--- The path followed back from its end, on its way: a walk leads on from the node of the dart reached, and the lengths are the capacities less the value along it.
--- No edge is used twice, because the places of the darts fall: of an edge used, one dart stands after the dart reached.
+-- The path followed back from its end, on its way: a walk leads on from the node of the dart reached, and the lengths are the capacities less the value along
+-- it. No edge is used twice, because the places of the darts fall: of an edge used, one dart stands after the dart reached.
 use mathlib.Core.Path.{_≡_, refl, sym, _∙_, ap, ap₂, subst}
 use mathlib.Core.Logic.{_⊎_, inl, inr, _≢_}
 use Prim.Native.Nat.{ℕ, _+_, _≤_, _<_}
@@ -16,11 +16,11 @@ use Rattle.maps.specs.Dart.{rev}
 use Rattle.maps.specs.Map.{Map, darts}
 use Rattle.maps.specs.Walk.{Walk, here, along}
 use Rattle.maps.proofs.Darts.{rev-rev}
-use Rattle.flows.specs.UnitFlow.{single, walkFlow}
-use Rattle.traversal.specs.Spread.{Met, Follows}
-use Rattle.lengths.specs.Lengths.{Reached, Fillable, Filled}
-use Rattle.integers.specs.Limited.{Limited}
-use Rattle.arrays.specs.Sizes.{mostCapacity, mostValue, mostLength}
+use Rattle.flows.specs.inner.UnitFlow.{single, walkFlow}
+use Rattle.traversal.specs.inner.Spread.{Met, Follows}
+use Rattle.lengths.specs.inner.Lengths.{Reached, Fillable, Filled}
+use Rattle.integers.specs.inner.Limited.{Limited}
+use Rattle.arrays.specs.inner.Sizes.{mostCapacity, mostValue, mostLength}
 use Rattle.signed.proofs.Limits.{same-bits}
 use Rattle.lengths.proofs.Limits.{Unit, two-tests, less-nothing, limited-unit}
 use Rattle.lengths.proofs.Place.{spot, met-before, met-in}
@@ -61,7 +61,8 @@ backing-start {n} {start} {finish} {order} {from} {capacity} value {length} copi
 }
 
 -- the dart reached is met, and below n
-module _ {n start finish : ℕ} {order from : ℕ → ℕ} {capacity : ℕ → ℤ} {value : ℤ} (ok : Fillable n start finish order from capacity value) {length : ℕ → ℤ} {x : ℕ}
+module _ {n start finish : ℕ} {order from : ℕ → ℕ} {capacity : ℕ → ℤ} {value : ℤ}
+    (ok : Fillable n start finish order from capacity value) {length : ℕ → ℤ} {x : ℕ}
     (ξ : Backing n start finish order from capacity value length x) where
   pub reached-in : x < n
   reached-in = met-in (ok .reached) (ξ .walk (ok .map) (ok .reached) .0)
@@ -122,7 +123,8 @@ module _ {n start finish : ℕ} {order from : ℕ → ℕ} {capacity : ℕ → �
       edge-fresh = (origin-in, reached-in, apart, fresh p origin-in p-unused, fresh x reached-in x-unused)
         where
           fresh : (d : ℕ) → d < n → ξ .flow d ≡ pos 0 → Limited mostCapacity (length d)
-          fresh d l z = subst (Limited mostCapacity) (sym (ξ .lengths d l ∙ ap (λ f. capacity d -ℤ value *ℤ f) z ∙ less-nothing (capacity d) value)) (ok .capacities d l)
+          fresh d l z =
+              subst (Limited mostCapacity) (sym (ξ .lengths d l ∙ ap (λ f. capacity d -ℤ value *ℤ f) z ∙ less-nothing (capacity d) value)) (ok .capacities d l)
 
       pub backing-carried : {length' : ℕ → ℤ} → ((d : ℕ) → length' d ≡ length d -ℤ value *ℤ (when (eqb d p) (pos 1) -ℤ when (eqb d x) (pos 1)))
           → Backing n start finish order from capacity value length' p
@@ -130,7 +132,8 @@ module _ {n start finish : ℕ} {order from : ℕ → ℕ} {capacity : ℕ → �
         flow = λ d. single p d +ℤ ξ .flow d;
         units = λ d. unit d (ℕ-discrete d p) (ℕ-discrete d (rev p));
         unused = λ d h g.
-            ap₂ _+ℤ_ (single-off p d (λ e. absurd (omega (arith, g, nearer, ap (λ y. spot order n (rev y)) e, ap (spot order n) is-x))) (λ e. absurd (omega (arith, h, nearer, ap (spot order n) (e ∙ sym is-x)))))
+            ap₂ _+ℤ_ (single-off p d (λ e. absurd (omega (arith, g, nearer, ap (λ y. spot order n (rev y)) e, ap (spot order n) is-x)))
+            (λ e. absurd (omega (arith, h, nearer, ap (spot order n) (e ∙ sym is-x)))))
             (ξ .unused d (omega (arith, h, nearer)) (omega (arith, g, nearer)));
         lengths = λ d l.
             carried d
@@ -163,8 +166,10 @@ module _ {n start finish : ℕ} {order from : ℕ → ℕ} {capacity : ℕ → �
 -- the machine holds the value as its bits, from which it is read back
 pub by-bits : {n start finish : ℕ} {order from : ℕ → ℕ} {capacity : ℕ → ℤ} {value : ℤ} → Fillable n start finish order from capacity value
     → Fillable n start finish order from capacity (toZ w32 (ofZ w32 value))
-by-bits {n} {start} {finish} {order} {from} {capacity} {value} ok = subst (Fillable n start finish order from capacity) (sym (same-bits (omega arith) (ok .small))) ok
+by-bits {n} {start} {finish} {order} {from} {capacity} {value} ok =
+    subst (Fillable n start finish order from capacity) (sym (same-bits (omega arith) (ok .small))) ok
 
 pub from-bits : {n start finish : ℕ} {order from : ℕ → ℕ} {capacity : ℕ → ℤ} {value : ℤ} {length : ℕ → ℤ} → Fillable n start finish order from capacity value
     → Filled n start finish order from capacity (toZ w32 (ofZ w32 value)) length → Filled n start finish order from capacity value length
-from-bits {n} {start} {finish} {order} {from} {capacity} {value} {length} ok = subst (λ v. Filled n start finish order from capacity v length) (same-bits (omega arith) (ok .small))
+from-bits {n} {start} {finish} {order} {from} {capacity} {value} {length} ok =
+    subst (λ v. Filled n start finish order from capacity v length) (same-bits (omega arith) (ok .small))

@@ -1,4 +1,5 @@
--- A worked example: one edge from node 0 to node 1, of capacities 5 forth and 3 back. The value 7 goes along dart 0, so the lengths are 5 − 7 = −2 and 3 + 7 = 10.
+-- A worked example: one edge from node 0 to node 1, of capacities 5 forth and 3 back.
+-- The value 7 goes along dart 0, so the lengths are 5 − 7 = −2 and 3 + 7 = 10.
 use mathlib.Core.Path.{_≡_, refl}
 use mathlib.Core.List.{[], _∷_}
 use Prim.Native.Nat.{ℕ, zero, suc, _<_}
@@ -7,10 +8,10 @@ use lib.IntN.{pos, negsuc, negℤ}
 use Rattle.integers.proofs.Tests.{every, every-at-most}
 use Rattle.maps.specs.Dart.{rev}
 use Rattle.maps.specs.Walk.{here, along}
-use Rattle.flows.specs.UnitFlow.{walkFlow}
-use Rattle.lengths.specs.Lengths.{Filled}
+use Rattle.flows.specs.inner.UnitFlow.{walkFlow}
+use Rattle.lengths.specs.inner.Lengths.{Filled}
 use Rattle.arrays.specs.At.{at, atℤ}
-use Rattle.arrays.specs.Sizes.{mostLength}
+use Rattle.arrays.specs.inner.Sizes.{mostLength}
 
 -- what holds of 0 and of 1 holds of each number below 2
 two : (P : ℕ → Type 0) → P 0 → P 1 → (d : ℕ) → d < 2 → P d

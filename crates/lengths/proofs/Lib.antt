@@ -1,3 +1,4 @@
+-- The path from source to sink followed back, and the lengths that it gives.
 pub mod Limits
 pub mod Place
 pub mod Carrying

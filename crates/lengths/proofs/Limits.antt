@@ -11,8 +11,8 @@ use Rattle.integers.proofs.Limits.{limited-plus, limited-minus, limited-more}
 use Rattle.signed.proofs.Limits.{limited-fits, same-bits}
 use Rattle.integers.specs.Sum.{when}
 use Rattle.integers.proofs.Omega.{atoms₂, parts, equal}
-use Rattle.integers.specs.Limited.{Limited}
-use Rattle.arrays.specs.Sizes.{mostCapacity, mostValue, mostLength}
+use Rattle.integers.specs.inner.Limited.{Limited}
+use Rattle.arrays.specs.inner.Sizes.{mostCapacity, mostValue, mostLength}
 
 -- ── along a dart, against it, or not at all ──
 abbrev pub Unit : ℤ → Type 0

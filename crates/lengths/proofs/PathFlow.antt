@@ -6,11 +6,11 @@ use Rattle.maps.specs.Map.{Map, darts}
 use Rattle.maps.specs.Walk.{Connected}
 use Rattle.maps.specs.Check.{Sound}
 use Rattle.flows.proofs.UnitFlow.{walk-unit}
-use Rattle.flows.specs.UnitFlow.{UnitFlow, walkFlow}
-use Rattle.flows.specs.Lengths.{lengthFor}
-use Rattle.traversal.specs.Spread.{Met, Spread}
+use Rattle.flows.specs.inner.UnitFlow.{UnitFlow, walkFlow}
+use Rattle.flows.specs.inner.Lengths.{lengthFor}
+use Rattle.traversal.specs.inner.Spread.{Met, Spread}
 use Rattle.traversal.proofs.Reach.{connected-meets}
-use Rattle.lengths.specs.Lengths.{Reached, Filled}
+use Rattle.lengths.specs.inner.Lengths.{Reached, Filled}
 
 module _ {𝓜 : Map} (σ : Sound 𝓜) {start : ℕ} {order from : ℕ → ℕ} {count : ℕ} (ξ : Spread (darts 𝓜) (𝓜 .rotation) start order from count) where
   pub reached-met : {finish : ℕ} → Met order count finish → Reached 𝓜 (darts 𝓜) start finish order from

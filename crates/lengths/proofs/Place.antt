@@ -1,5 +1,5 @@
--- Where a dart stands first in the order. The number of darts that the walk met is no argument of the code, so the place is sought among all n: past the darts met
--- the order may hold anything, but the first place of a dart met is the one where the walk listed it.
+-- Where a dart stands first in the order. The number of darts that the walk met is no argument of the code, so the place is sought among all n: past the darts
+-- met the order may hold anything, but the first place of a dart met is the one where the walk listed it.
 use mathlib.Core.Path.{_≡_, refl, sym, _∙_, ap, subst}
 use mathlib.Core.Logic.{_≢_}
 use mathlib.Core.Bool.{cond}
@@ -9,8 +9,8 @@ use native.Mathlib.Decide.{ℕ-discrete}
 use lib.Dec.{eqb, ltb}
 use Rattle.integers.proofs.Tests.{eqb-true, eqb-false, ltb-true, ltb-false}
 use Rattle.maps.specs.Map.{Map}
-use Rattle.traversal.specs.Spread.{Met, Follows, Spread}
-use Rattle.lengths.specs.Lengths.{Reached}
+use Rattle.traversal.specs.inner.Spread.{Met, Follows, Spread}
+use Rattle.lengths.specs.inner.Lengths.{Reached}
 
 -- the lowest place below n that holds d, n where none does
 unfoldable pub spot : (ℕ → ℕ) → ℕ → ℕ → ℕ
@@ -33,7 +33,8 @@ spot-at order (suc n) d i l e h = go (ℕ-discrete i n) (spot-at order n d i)
     step s = cond (ltb s n) s (cond (eqb d (order n)) n (suc n))
 
     go : Dec (i ≡ n) → (i < n → order i ≡ d → ((j : ℕ) → j < i → order j ≢ d) → spot order n d ≡ i) → step (spot order n d) ≡ i
-    go (yes q) ih = ap step (spot-none order n d (λ j m. h j (omega arith))) ∙ (rw (ltb-false n n (omega arith), eqb-true d (order n) (sym e ∙ ap order q)) (sym q))
+    go (yes q) ih =
+        ap step (spot-none order n d (λ j m. h j (omega arith))) ∙ (rw (ltb-false n n (omega arith), eqb-true d (order n) (sym e ∙ ap order q)) (sym q))
     go (no q) ih = ap step (ih (omega (arith, q)) e h) ∙ (rw (ltb-true i n (omega (arith, q))) refl)
 
 pub spot-of-order : {n : ℕ} {rotation : ℕ → ℕ} {start : ℕ} {order from : ℕ → ℕ} {count : ℕ} → Spread n rotation start order from count

@@ -1,5 +1,5 @@
-// The length of each dart for a value: its capacity, less the value along the path that a walk over the darts found from one dart to another. The path is followed
-// back from its end, from each dart to the one that it was met from.
+// The length of each dart for a value: its capacity, less the value along the path that a walk over the darts found from one dart to another. The path is
+// followed back from its end, from each dart to the one that it was met from.
 ghost use mathlib.Core.Path.{_≡_};
 ghost use mathlib.Core.Logic.{_≢_};
 ghost use Prim.Native.Nat.{ℕ, _<_, _≤_};
@@ -9,10 +9,10 @@ ghost use lib.IntN.{pos, _+ℤ_, _-ℤ_, _*ℤ_};
 ghost use mir.Syntax.{w32};
 ghost use mir.Val.{SFits};
 ghost use Rattle.integers.specs.Sum.{when};
-ghost use Rattle.lengths.specs.Lengths.{Fillable, Filled};
+ghost use Rattle.lengths.specs.inner.Lengths.{Fillable, Filled};
 ghost use Rattle.arrays.specs.At.{at, atℤ};
-ghost use Rattle.integers.specs.Limited.{Limited};
-ghost use Rattle.arrays.specs.Sizes.{mostCapacity, mostValue};
+ghost use Rattle.integers.specs.inner.Limited.{Limited};
+ghost use Rattle.arrays.specs.inner.Sizes.{mostCapacity, mostValue};
 
 fn copy_capacities(capacities: &[i32; 1024], darts: usize, lengths: &mut [i32; 1024])
     requires { ⌜ (length (now lengths) ≡ 1024) × (darts ≤ 1024) ⌝ }
@@ -27,8 +27,10 @@ fn copy_capacities(capacities: &[i32; 1024], darts: usize, lengths: &mut [i32; 1
 
 // Takes the value over one edge: its dart p, which the path goes along, gets shorter by the value, and the other dart x gets longer by it.
 fn carry(lengths: &mut [i32; 1024], p: usize, x: usize, value: i32)
-    requires { ⌜ (length (now lengths) ≡ 1024) × (p < 1024) × (x < 1024) × (x ≢ p) × Limited mostCapacity (atℤ (now lengths) p) × Limited mostCapacity (atℤ (now lengths) x) × Limited mostValue value ⌝ }
-    ensures { λ _. ⌜ (length (now (lengths .exit)) ≡ 1024) × ((d : ℕ) → atℤ (now (lengths .exit)) d ≡ atℤ (now (lengths .entry)) d -ℤ value *ℤ (when (eqb d p) (pos 1) -ℤ when (eqb d x) (pos 1))) ⌝ }
+    requires { ⌜ (length (now lengths) ≡ 1024) × (p < 1024) × (x < 1024) × (x ≢ p) × Limited mostCapacity (atℤ (now lengths) p)
+        × Limited mostCapacity (atℤ (now lengths) x) × Limited mostValue value ⌝ }
+    ensures { λ _. ⌜ (length (now (lengths .exit)) ≡ 1024)
+        × ((d : ℕ) → atℤ (now (lengths .exit)) d ≡ atℤ (now (lengths .entry)) d -ℤ value *ℤ (when (eqb d p) (pos 1) -ℤ when (eqb d x) (pos 1))) ⌝ }
 {
     lengths[p] = signed::minus(lengths[p], value);
     lengths[x] = signed::plus(lengths[x], value);
@@ -46,7 +48,8 @@ pub fn fill_lengths(
     lengths: &mut [i32; 1024],
 )
     requires { ⌜ (length (now lengths) ≡ 1024) × Fillable darts start finish (at (now order)) (at (now from)) (atℤ (now capacities)) value ⌝ }
-    ensures { λ _. ⌜ (length (now (lengths .exit)) ≡ 1024) × Filled darts start finish (at (now (order .entry))) (at (now (from .entry))) (atℤ (now (capacities .entry))) value (atℤ (now (lengths .exit))) ⌝ }
+    ensures { λ _. ⌜ (length (now (lengths .exit)) ≡ 1024)
+        × Filled darts start finish (at (now (order .entry))) (at (now (from .entry))) (atℤ (now (capacities .entry))) value (atℤ (now (lengths .exit))) ⌝ }
 {
     copy_capacities(capacities, darts, lengths);
     let mut x: usize = finish;

@@ -11,7 +11,7 @@ use Rattle.refusals.proofs.Order.{neither}
 use Rattle.maps.specs.Dart.{rev}
 use Rattle.arrays.specs.At.{at, atℤ}
 use Rattle.levels.specs.Level.{LevelOutside, levelChecks}
-use Rattle.levels.specs.Across.{across}
+use Rattle.levels.specs.inner.Across.{across}
 
 bounds-inside : (LevelOutside (negsuc 599999999) → ⊥) × (LevelOutside (pos 600000000) → ⊥)
 bounds-inside = (neither (λ h. h .lt) (λ h. h .lt), neither (λ h. h .lt) (λ h. h .lt))

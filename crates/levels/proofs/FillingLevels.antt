@@ -13,10 +13,10 @@ use mir.Val.{toZ, ofZ, SFits}
 use Rattle.integers.proofs.Laws.{sub-sub}
 use Rattle.maps.specs.Dart.{rev}
 use Rattle.flows.specs.Settings.{onDarts}
-use Rattle.levels.specs.Laying.{Crossing, Fillable, PotentialsFrom, Filled, Kept}
+use Rattle.levels.specs.inner.Laying.{Crossing, Fillable, PotentialsFrom, Filled, Kept}
 use Rattle.arrays.specs.At.{atℤ}
-use Rattle.integers.specs.Limited.{Limited}
-use Rattle.arrays.specs.Sizes.{mostOnSheet}
+use Rattle.integers.specs.inner.Limited.{Limited}
+use Rattle.arrays.specs.inner.Sizes.{mostOnSheet}
 use Rattle.integers.proofs.Limits.{limited-minus, limited-more, limited-zero}
 use Rattle.signed.proofs.Limits.{limited-fits, same-bits}
 

@@ -15,7 +15,7 @@ use Rattle.integers.proofs.Laws.{lt-or-ge}
 use Rattle.refusals.specs.Order.{NoneOf, FirstOf}
 use Rattle.arrays.specs.At.{atℤ}
 use Rattle.levels.specs.Level.{LevelOutside, levelChecks}
-use Rattle.levels.specs.Across.{HaveLevels}
+use Rattle.levels.specs.inner.Across.{HaveLevels}
 
 -- ── a level that is not outside ──
 not-less : (x y : ℤ) → (x <ℤ y → ⊥) → y ≤ℤ x

@@ -9,7 +9,7 @@ use native.Mathlib.Decide.{decLt}
 use lib.ListN.{length, getD, drop, List·getD-append}
 use lib.Seq.{getD-append-add, getD-drop, ext-getD}
 use lib.IntN.{ℤ, pos}
-use Rattle.integers.specs.Limited.{Limited}
+use Rattle.integers.specs.inner.Limited.{Limited}
 use Rattle.integers.proofs.Omega.{atoms₁, parts, at-most, from-at-most}
 use Rattle.integers.proofs.Laws.{le-trans}
 use Rattle.refusals.specs.Order.{NoneOf}
@@ -19,15 +19,15 @@ use Rattle.maps.proofs.Faces.{left-in}
 use Rattle.flows.specs.Levels.{Levels}
 use Rattle.flows.specs.Check.{withinChecks, balanceChecks, NoNode}
 use Rattle.arrays.specs.At.{atℤ}
-use Rattle.arrays.specs.Drawn.{Drawn}
+use Rattle.arrays.specs.inner.Drawn.{Drawn}
 use Rattle.arrays.specs.Filled.{tabulate, filled}
-use Rattle.arrays.specs.Sizes.{mostOnSheet}
+use Rattle.arrays.specs.inner.Sizes.{mostOnSheet}
 use Rattle.arrays.proofs.Tabulate.{length-tabulate, getD-tabulate}
 use Rattle.arrays.proofs.FillLoops.{filled-length}
-use Rattle.balance.specs.SmallFlows.{SmallFlows}
+use Rattle.balance.specs.inner.SmallFlows.{SmallFlows}
 use Rattle.balance.proofs.Within.{none-forward, none-backward}
 use Rattle.balance.proofs.Balance.{none-circulation}
-use Rattle.levels.specs.Laying.{Levelled, Levelable}
+use Rattle.levels.specs.inner.Laying.{Levelled, Levelable}
 use Rattle.levels.proofs.LevelsOfMap.{map-fillable, levels-found}
 
 -- a slice that differs from an older one in its first n places only

@@ -18,13 +18,13 @@ use Rattle.flows.specs.Settings.{onDarts, Balanced}
 use Rattle.flows.specs.ZeroFace.{ZeroFace}
 use Rattle.flows.specs.Levels.{Levels}
 use Rattle.flows.proofs.Plane.{potentials-at}
-use Rattle.flows.specs.Plane.{Plane}
-use Rattle.traversal.specs.Spread.{Spread, Follows}
+use Rattle.flows.specs.inner.Plane.{Plane}
+use Rattle.traversal.specs.inner.Spread.{Spread, Follows}
 use Rattle.traversal.proofs.Reach.{full-meets, connected-full}
-use Rattle.levels.specs.Laying.{Crossing, Fillable, PotentialsFrom, Filled}
+use Rattle.levels.specs.inner.Laying.{Crossing, Fillable, PotentialsFrom, Filled}
 use Rattle.arrays.specs.At.{atℤ}
-use Rattle.integers.specs.Limited.{Limited}
-use Rattle.arrays.specs.Sizes.{mostOnSheet}
+use Rattle.integers.specs.inner.Limited.{Limited}
+use Rattle.arrays.specs.inner.Sizes.{mostOnSheet}
 
 -- where the rotation of a dart has at its left what the dart has at its right, a walk over all darts gives an order to fill along
 pub crossing-of-spread : {n : ℕ} {rotation : ℕ → ℕ} {start : ℕ} {left order from : ℕ → ℕ} {count : ℕ} → Spread n rotation start order from count → count ≡ n

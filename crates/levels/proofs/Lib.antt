@@ -1,3 +1,4 @@
+-- Both level operations: levels laid along the walk, the flows that levels give, and their ways out.
 pub mod DartFlow
 pub mod FillingLevels
 pub mod LevelsOfMap

@@ -16,11 +16,11 @@ use Rattle.maps.proofs.Faces.{left-in}
 use Rattle.flows.specs.ZeroFace.{ZeroFace}
 use Rattle.flows.specs.Check.{withinChecks}
 use Rattle.arrays.specs.At.{atℤ}
-use Rattle.arrays.specs.Drawn.{Drawn}
+use Rattle.arrays.specs.inner.Drawn.{Drawn}
 use Rattle.arrays.specs.Filled.{filled}
 use Rattle.arrays.proofs.Tabulate.{tabulate-ext}
 use Rattle.levels.specs.Level.{levelChecks}
-use Rattle.levels.specs.Across.{across, HaveLevels}
+use Rattle.levels.specs.inner.Across.{across, HaveLevels}
 use Rattle.levels.specs.SettingsOf.{fromLevels}
 use Rattle.levels.proofs.Level.{all-levelled}
 

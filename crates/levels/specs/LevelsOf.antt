@@ -1,5 +1,5 @@
--- Levels from settings, on a drawing. Document 01, "Operations": after the checks on the drawing "16 is a settings slice shorter than the channels or a level slice shorter
--- than the faces", "17, then 18 for any node." Levels are indexed by face number.
+-- Levels from settings, on a drawing. Document 01, "Operations": after the checks on the drawing "16 is a settings slice shorter than the channels or a level
+-- slice shorter than the faces", "17, then 18 for any node." Levels are indexed by face number.
 use Prim.Native.Nat.{ℕ, _<_}
 use mathlib.Core.Path.{_≡_}
 use mathlib.Core.Logic.{_⊎_}
@@ -23,8 +23,8 @@ balancedChecks 𝓓 flows levels =
     ∷ (withinChecks (𝓓 .map .edges) (𝓓 .capacity) (atℤ flows)
     ++ balanceChecks (𝓓 .map) NoNode (atℤ flows))
 
--- What the operation answers, where `checks` are its refusals in order. Done: the levels of the settings, of which there is one, in the first places of the slice; the rest
--- as it was. Refused: the slice as it was.
+-- What the operation answers, where `checks` are its refusals in order. Done: the levels of the settings, of which there is one, in the first places of the
+-- slice; the rest as it was. Refused: the slice as it was.
 abbrev pub LevelsGiven : Drawing → List Check → List ℤ → (levels levels' : List ℤ) → LevelAnswer → Type 0
 LevelsGiven 𝓓 checks flows levels levels' Done =
     NoneOf checks

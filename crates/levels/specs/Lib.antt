@@ -1,5 +1,4 @@
 pub mod Level
-pub mod Across
-pub mod Laying
 pub mod LevelsOf
 pub mod SettingsOf
+pub mod inner

@@ -1,5 +1,5 @@
--- Settings from levels, on a drawing. Document 01, "Operations": after the checks on the drawing 16 as in Levels from settings, "19 a level beyond ±600,000,000, 20 face 0
--- not at 0, 17." 19 and 20 are `levelChecks`.
+-- Settings from levels, on a drawing. Document 01, "Operations": after the checks on the drawing 16 as in Levels from settings, "19 a level beyond
+-- ±600,000,000, 20 face 0 not at 0, 17." 19 and 20 are `levelChecks`.
 use Prim.Native.Nat.{ℕ, _*_, _<_}
 use mathlib.Core.Path.{_≡_}
 use mathlib.Core.Logic.{_⊎_}

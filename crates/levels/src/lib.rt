@@ -1,17 +1,17 @@
 // Face potentials ("levels") both ways: the levels of given flows, laid along a walk over the darts, and the flows that given levels make.
 ghost use Prim.Native.Nat.{ℕ, _+_, _*_, _/_, _<_, _≤_};
-ghost use Rattle.levels.specs.Across.{across, HasLevel, HaveLevels};
+ghost use Rattle.levels.specs.inner.Across.{across, HasLevel, HaveLevels};
 ghost use Rattle.levels.specs.Level.{LevelOutside, levelChecks};
 ghost use Rattle.flows.specs.Check.{withinChecks};
 ghost use Rattle.flows.specs.Settings.{onDarts};
-ghost use Rattle.levels.specs.Laying.{Fillable, Levelled, Levelable};
+ghost use Rattle.levels.specs.inner.Laying.{Fillable, Levelled, Levelable};
 ghost use Rattle.levels.specs.LevelsOf.{balancedChecks, LevelsGiven};
 ghost use Rattle.levels.specs.SettingsOf.{leveledChecks, SettingsGiven};
 ghost use Rattle.arrays.specs.At.{atℤ, at};
 ghost use Rattle.arrays.specs.Maps.{mapOf, drawingOf};
-ghost use Rattle.arrays.specs.Drawn.{Drawn};
-ghost use Rattle.integers.specs.Limited.{Limited};
-ghost use Rattle.arrays.specs.Sizes.{mostOnSheet};
+ghost use Rattle.arrays.specs.inner.Drawn.{Drawn};
+ghost use Rattle.integers.specs.inner.Limited.{Limited};
+ghost use Rattle.arrays.specs.inner.Sizes.{mostOnSheet};
 ghost use Rattle.refusals.specs.Order.{Decides, Judged};
 ghost use Rattle.arrays.specs.Filled.{filled};
 ghost use lib.IntN.{_-ℤ_};
@@ -35,7 +35,7 @@ fn level_outside(x: i32) -> bool
 }
 
 // Refusals 19 and 20: "19 a level beyond ±600,000,000, 20 face 0 not at 0". All faces are looked at for 19 before the face `zero` is for 20.
-pub fn check_levels(levels: &[i32], faces: usize, zero: usize) -> Verdict
+fn check_levels(levels: &[i32], faces: usize, zero: usize) -> Verdict
     requires { ⌜ (zero < faces) × (faces ≤ length (now levels)) ⌝ }
     ensures { λ r. ⌜ Judged (levelChecks faces (λ f. f ≡ zero) (atℤ (now (levels .entry)))) r ⌝ }
 {
@@ -64,7 +64,7 @@ fn drop_across(levels: &[i32], lefts: &[u16; 1024], e: usize) -> i32
 
 // Refusal 17 on the flows that the levels give: "a setting outside its channel's limits", at the lowest such edge.
 // Both arrays are lent at one lifetime, being fields of one record.
-pub fn check_differences<'a>(
+fn check_differences<'a>(
     lefts: &'a [u16; 1024],
     capacities: &'a [i32; 1024],
     edges: usize,
@@ -85,7 +85,7 @@ pub fn check_differences<'a>(
 }
 
 // The flows that the levels give, into the first places of a slice; the rest stays as it was.
-pub fn fill_differences(lefts: &[u16; 1024], edges: usize, levels: &[i32], flows: &mut [i32])
+fn fill_differences(lefts: &[u16; 1024], edges: usize, levels: &[i32], flows: &mut [i32])
     requires { ⌜ (edges ≤ 512) × (edges ≤ length (now flows)) × HaveLevels edges (at (now lefts)) (now levels) ⌝ }
     ensures { λ _. ⌜ now (flows .exit) ≡ filled edges (across (at (now (lefts .entry))) (atℤ (now (levels .entry)))) (now (flows .entry)) ⌝ }
 {
@@ -138,7 +138,7 @@ fn fill_levels(
 
 // The levels of the faces straight into a slice that has room for them, the face of the outer dart at 0. The order of the walk has its arrays here, so that
 // they can lie where the caller's earlier arrays were.
-pub fn write_levels<'a>(
+fn write_levels<'a>(
     rotations: &'a [u16; 1024],
     lefts: &'a [u16; 1024],
     edges: usize,

@@ -49,7 +49,8 @@ rev-injective c d e = sym (rev-rev c) ∙ ap rev e ∙ rev-rev d
 
 pub rev-apart : (d : ℕ) → rev d ≢ d
 rev-apart d =
-    by-edge (suc d) (λ d. rev d ≢ d) (λ e l q. absurd (omega (arith, sym (rev-even e) ∙ q))) (λ e l q. absurd (omega (arith, sym (rev-odd e) ∙ q))) d (omega arith)
+    by-edge (suc d) (λ d. rev d ≢ d) (λ e l q. absurd (omega (arith, sym (rev-even e) ∙ q)))
+    (λ e l q. absurd (omega (arith, sym (rev-odd e) ∙ q))) d (omega arith)
 
 -- to be the reverse of d is to have d as reverse
 pub eqb-rev : (i d : ℕ) → eqb (rev i) d ≡ eqb i (rev d)

@@ -48,7 +48,8 @@ sound-three : (turns : List ℕ)
     → every 6 (λ d. ltb (threeEdges turns .rotation d) 6) ≡ true
     → every 6 (λ d. eqb (threeEdges turns .tail (threeEdges turns .rotation d)) (threeEdges turns .tail d)) ≡ true
     → ((c d : ℕ) → c < 6 → d < 6 → eqb (threeEdges turns .rotation c) (threeEdges turns .rotation d) ≡ true → eqb c d ≡ true)
-    → ((c d : ℕ) → c < 6 → d < 6 → eqb (threeEdges turns .tail c) (threeEdges turns .tail d) ≡ true → eqb (iter (threeEdges turns .rotation) (stepsTo (threeEdges turns) c d) c) d ≡ true)
+    → ((c d : ℕ) → c < 6 → d < 6 → eqb (threeEdges turns .tail c) (threeEdges turns .tail d) ≡ true
+    → eqb (iter (threeEdges turns .rotation) (stepsTo (threeEdges turns) c d) c) d ≡ true)
     → Sound (threeEdges turns)
 unfolding every
 sound-three turns in-range same apart round = record {

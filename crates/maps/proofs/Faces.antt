@@ -108,7 +108,8 @@ module _ {𝓜 : Map} (σ : Sound 𝓜) where
   pub part-head : {k : ℕ} {part : ℕ → ℕ} → Components 𝓜 k part → (d : ℕ) → d < darts 𝓜 → part (head 𝓜 d) ≡ part (𝓜 .tail d)
   part-head κ d l = sym (κ .agree (𝓜 .tail d) (head 𝓜 d) (σ .range .tail-in d l) (σ .range .tail-in (rev d) (rev-in (𝓜 .edges) d l)) (along d l refl here))
 
-  pub part-left : {k : ℕ} {part : ℕ → ℕ} → Components 𝓜 k part → (c d : ℕ) → c < darts 𝓜 → d < darts 𝓜 → left 𝓜 c ≡ left 𝓜 d → part (𝓜 .tail c) ≡ part (𝓜 .tail d)
+  pub part-left : {k : ℕ} {part : ℕ → ℕ} → Components 𝓜 k part → (c d : ℕ) → c < darts 𝓜
+      → d < darts 𝓜 → left 𝓜 c ≡ left 𝓜 d → part (𝓜 .tail c) ≡ part (𝓜 .tail d)
   part-left {part = part} κ c d lc ld e =
       let o = left-same c d lc ld e in
       sym (iter-keeps (darts 𝓜) (step 𝓜) (step-permutes .stays) (λ d. part (𝓜 .tail d)) over-step (o .0) c lc) ∙ ap (λ d. part (𝓜 .tail d)) (o .1)

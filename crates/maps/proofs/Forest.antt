@@ -126,13 +126,15 @@ module _ (allowed : ℕ → Bool) (a b : ℕ → ℕ) where
           where
             side : Dec (k < i) → (taken i ≡ true) ⊎ (taken i ≡ false) → carried (S (a i)) (S (b i)) (φ i) ≡ pos 0
             side (yes h) t = carried-zero (S (a i)) (S (b i)) (φ i) (above i m h)
-            side (no h) (inl t) = carried-inside (S (a i)) (S (b i)) (φ i) (ap (λ x. eqb x (label k (a k))) (label-closed i k (omega arith) (taken-allowed i t)))
+            side (no h) (inl t) =
+                carried-inside (S (a i)) (S (b i)) (φ i) (ap (λ x. eqb x (label k (a k))) (label-closed i k (omega arith) (taken-allowed i t)))
             side (no h) (inr t) = carried-zero (S (a i)) (S (b i)) (φ i) (off i m t)
 
         go : (taken k ≡ true) ⊎ (taken k ≡ false) → φ k ≡ pos 0
         go (inr t) = off k l t
         go (inl t) =
-            sym (carried-out (S (a k)) (S (b k)) (φ k) (eqb-true (label k (a k)) (label k (a k)) refl) (eqb-false (label k (b k)) (label k (a k)) (λ p. taken-joins k t (sym p))))
+            sym (carried-out (S (a k)) (S (b k)) (φ k) (eqb-true (label k (a k)) (label k (a k)) refl)
+            (eqb-false (label k (b k)) (label k (a k)) (λ p. taken-joins k t (sym p))))
             ∙ sym (sum-one Integers n k (λ e. carried (S (a e)) (S (b e)) (φ e)) l rest)
             ∙ closed S
 
@@ -150,9 +152,12 @@ module _ (allowed : ℕ → Bool) (a b : ℕ → ℕ) where
 
     pub height : ℕ → ℕ → ℤ
     height zero v = pos 0
-    height (suc k) v = cond (taken k) (cond (eqb (label k v) (label k (a k))) (height k v +ℤ shift k (height k (a k)) (height k (b k))) (height k v)) (height k v)
+    height (suc k) v =
+        cond (taken k) (cond (eqb (label k v) (label k (a k))) (height k v +ℤ shift k (height k (a k)) (height k (b k))) (height k v)) (height k v)
 
-    height-suc : (k v : ℕ) → height (suc k) v ≡ cond (taken k) (cond (eqb (label k v) (label k (a k))) (height k v +ℤ shift k (height k (a k)) (height k (b k))) (height k v)) (height k v)
+    height-suc : (k v : ℕ)
+        → height (suc k) v
+        ≡ cond (taken k) (cond (eqb (label k v) (label k (a k))) (height k v +ℤ shift k (height k (a k)) (height k (b k))) (height k v)) (height k v)
     unfolding height
     height-suc k v = refl
 
@@ -163,7 +168,9 @@ module _ (allowed : ℕ → Bool) (a b : ℕ → ℕ) where
         c : ℤ
         c = shift k (height k (a k)) (height k (b k))
 
-        go : (t u : Bool) → cond t (cond u (height k v +ℤ c) (height k v)) (height k v) -ℤ cond t (cond u (height k w +ℤ c) (height k w)) (height k w) ≡ height k v -ℤ height k w
+        go : (t u : Bool)
+            → cond t (cond u (height k v +ℤ c) (height k v)) (height k v) -ℤ cond t (cond u (height k w +ℤ c) (height k w)) (height k w)
+            ≡ height k v -ℤ height k w
         go true true = let x = atoms₃ (height k v) (height k w) c in equal (search parts) (omega arith)
         go true false = refl
         go false u = refl

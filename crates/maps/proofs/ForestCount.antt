@@ -83,7 +83,8 @@ module _ (allowed : ℕ → Bool) (a b : ℕ → ℕ) where
             cs : Dec (v ≡ A) → Dec (L k v ≡ A) → bit (eqb (cond (eqb (L k v) A) B (L k v)) v) + bit (eqb v A) ≡ bit (eqb (L k v) v)
             cs (yes p) q =
                 let lv : L k v ≡ A = ap (L k) p ∙ label-idempotent k (a k) in
-                rw (eqb-true (L k v) A lv, eqb-true v A p, eqb-false B v (λ h. taken-joins allowed a b k t (sym p ∙ sym h)), eqb-true (L k v) v (lv ∙ sym p)) refl
+                rw (eqb-true (L k v) A lv, eqb-true v A p, eqb-false B v (λ h. taken-joins allowed a b k t (sym p ∙ sym h)), eqb-true (L k v) v (lv ∙ sym p))
+                refl
             cs (no p) (yes q) =
                 rw (
                   eqb-true (L k v) A q,
@@ -103,7 +104,8 @@ module _ (allowed : ℕ → Bool) (a b : ℕ → ℕ) where
     forest-count zero ha hb = omega (arith, classes-zero)
     forest-count (suc k) ha hb = go (either (taken allowed a b k)) (forest-count k (λ e l. ha e (omega arith)) (λ e l. hb e (omega arith)))
       where
-        go : (taken allowed a b k ≡ true) ⊎ (taken allowed a b k ≡ false) → classes k + count k (taken allowed a b) ≡ N → classes (suc k) + (count k (taken allowed a b) + bit (taken allowed a b k)) ≡ N
+        go : (taken allowed a b k ≡ true) ⊎ (taken allowed a b k ≡ false) → classes k + count k (taken allowed a b) ≡ N
+            → classes (suc k) + (count k (taken allowed a b) + bit (taken allowed a b k)) ≡ N
         go (inl t) ih = rw t (omega (arith, classes-joined k t (label-in k (λ e l. hb e (omega arith)) (a k) (ha k (omega arith)))))
         go (inr t) ih = rw t (omega (arith, classes-kept k t))
 
@@ -111,7 +113,8 @@ module _ (allowed : ℕ → Bool) (a b : ℕ → ℕ) where
     pub classes-le : (k c : ℕ) (part : ℕ → ℕ) → ((v : ℕ) → v < N → part v < c) → ((v w : ℕ) → v < N → w < N → part v ≡ part w → L k v ≡ L k w) → classes k ≤ c
     unfolding classes
     classes-le k c part h j =
-        rw (sum-by-label Naturals N c part (λ v. bit (eqb (L k v) v)) h) (sum-le-size c (λ x. sumℕ N (λ v. cond (eqb x (part v)) (bit (eqb (L k v) v)) 0)) inner)
+        rw (sum-by-label Naturals N c part (λ v. bit (eqb (L k v) v)) h)
+        (sum-le-size c (λ x. sumℕ N (λ v. cond (eqb x (part v)) (bit (eqb (L k v) v)) 0)) inner)
       where
         inner : (x : ℕ) → x < c → sumℕ N (λ v. cond (eqb x (part v)) (bit (eqb (L k v) v)) 0) ≤ 1
         inner x l = sum-unique N (λ v. cond (eqb x (part v)) (bit (eqb (L k v) v)) 0) (λ v m. small (eqb x (part v)) (eqb (L k v) v)) unique

@@ -39,7 +39,8 @@ module _ (n : ℕ) (turn tail left : ℕ → ℕ)
       point : (d : ℕ) → d < 2 * n → when (S (tail d)) (ρ (left d) -ℤ ρ (left (rev d))) ≡ f d -ℤ f (turn d)
       point d l =
           rw (tail-turn d l, left-turn d l)
-          (when-add (S (tail d)) (ρ (left d)) (negℤ (ρ (left (rev d)))) ∙ ap (λ x. when (S (tail d)) (ρ (left d)) +ℤ x) (when-neg (S (tail d)) (ρ (left (rev d)))))
+          (when-add (S (tail d)) (ρ (left d)) (negℤ (ρ (left (rev d))))
+          ∙ ap (λ x. when (S (tail d)) (ρ (left d)) +ℤ x) (when-neg (S (tail d)) (ρ (left (rev d)))))
 
 pub record Incidence (n N F k : ℕ) (turn tail left part onNode onFace : ℕ → ℕ) : Type 0 where
   pub turn-in : (d : ℕ) → d < 2 * n → turn d < 2 * n
@@ -76,7 +77,8 @@ dual {n} {turn = turn} {tail = tail} {left = left} 𝓘 = record {
 }
 
 module _ {n N F k : ℕ} {turn tail left part onNode onFace : ℕ → ℕ} (𝓘 : Incidence n N F k turn tail left part onNode onFace) where
-  as-graphs : TwoGraphs n N F k (λ e. tail (2 * e)) (λ e. tail (2 * e + 1)) (λ e. left (2 * e)) (λ e. left (2 * e + 1)) (λ v. part (onNode v)) (λ f. part (onFace f))
+  as-graphs : TwoGraphs n N F k (λ e. tail (2 * e)) (λ e. tail (2 * e + 1)) (λ e. left (2 * e))
+      (λ e. left (2 * e + 1)) (λ v. part (onNode v)) (λ f. part (onFace f))
   as-graphs = record {
     s-in = λ e l. 𝓘 .tail-in (2 * e) (omega arith);
     t-in = λ e l. 𝓘 .tail-in (2 * e + 1) (omega arith);
@@ -90,7 +92,8 @@ module _ {n N F k : ℕ} {turn tail left part onNode onFace : ℕ → ℕ} (𝓘
         ∙ ap S (𝓘 .onNode-is w lw);
     joinedF = λ S h v w lv lw c.
         ap S (sym (𝓘 .onFace-is v lv))
-        ∙ 𝓘 .joined (λ d. S (left d)) (across left S h) (λ d l. ap S (𝓘 .left-turn d l) ∙ across left S h d l) (onFace v) (onFace w) (𝓘 .onFace-in v lv) (𝓘 .onFace-in w lw) c
+        ∙ 𝓘 .joined (λ d. S (left d)) (across left S h) (λ d l. ap S (𝓘 .left-turn d l) ∙ across left S h d l)
+        (onFace v) (onFace w) (𝓘 .onFace-in v lv) (𝓘 .onFace-in w lw) c
         ∙ ap S (𝓘 .onFace-is w lw);
     closed = λ ρ S.
         sum-ext Integers n

@@ -38,7 +38,8 @@ module _ (n : ℕ) (label : ℕ → ℕ) where
   pub over-labels : (N : ℕ) (φ : ℕ → ℤ) → ((d : ℕ) → d < 2 * n → label d < N) → (S : ℕ → Bool) → sumOver φ S ≡ sumℤ N (λ v. when (S v) (sumAt φ v))
   over-labels N φ b S =
       sum-by-label Integers (2 * n) N label (λ d. when (S (label d)) (φ d)) b
-      ∙ sum-ext Integers N (λ v. sumℤ (2 * n) (λ d. cond (eqb v (label d)) (when (S (label d)) (φ d)) (pos 0))) (λ v. when (S v) (sumAt φ v)) (λ v l. go v (S v) refl)
+      ∙ sum-ext Integers N (λ v. sumℤ (2 * n) (λ d. cond (eqb v (label d)) (when (S (label d)) (φ d)) (pos 0)))
+      (λ v. when (S v) (sumAt φ v)) (λ v l. go v (S v) refl)
     where
       point : (v d : ℕ) (t u : Bool) → eqb v (label d) ≡ t → S v ≡ u → cond t (when (S (label d)) (φ d)) (pos 0) ≡ when u (when t (φ d))
       point v d true u p q = ap (λ x. when (S x) (φ d)) (sym (eqb-eq v (label d) p)) ∙ (rw q)
@@ -46,7 +47,9 @@ module _ (n : ℕ) (label : ℕ → ℕ) where
       point v d false false p q = refl
 
       go : (v : ℕ) (u : Bool) → S v ≡ u → sumℤ (2 * n) (λ d. cond (eqb v (label d)) (when (S (label d)) (φ d)) (pos 0)) ≡ when u (sumAt φ v)
-      go v true q = sum-ext Integers (2 * n) (λ d. cond (eqb v (label d)) (when (S (label d)) (φ d)) (pos 0)) (λ d. when (eqb v (label d)) (φ d)) (λ d m. point v d (eqb v (label d)) true refl q)
+      go v true q =
+          sum-ext Integers (2 * n) (λ d. cond (eqb v (label d)) (when (S (label d)) (φ d)) (pos 0))
+          (λ d. when (eqb v (label d)) (φ d)) (λ d m. point v d (eqb v (label d)) true refl q)
       go v false q = sum-nil Integers (2 * n) (λ d. cond (eqb v (label d)) (when (S (label d)) (φ d)) (pos 0)) (λ d m. point v d (eqb v (label d)) false refl q)
 
   pub over-none : (N : ℕ) (φ : ℕ → ℤ) → ((d : ℕ) → d < 2 * n → label d < N) → ((v : ℕ) → v < N → sumAt φ v ≡ pos 0) → (S : ℕ → Bool) → sumOver φ S ≡ pos 0
@@ -69,5 +72,7 @@ module _ (n : ℕ) (label : ℕ → ℕ) where
       split false true x = refl
       split false false x = refl
 
-      point : (e : ℕ) → e < n → carried (S (label (2 * e))) (S (label (2 * e + 1))) (φ (2 * e)) ≡ when (exits S (2 * e)) (φ (2 * e)) +ℤ when (exits S (2 * e + 1)) (φ (2 * e + 1))
-      point e l = rw (rev-even e, rev-odd e, (ap φ (sym (rev-even e)) ∙ anti (2 * e) (omega arith))) (split (S (label (2 * e))) (S (label (2 * e + 1))) (φ (2 * e)))
+      point : (e : ℕ) → e < n
+          → carried (S (label (2 * e))) (S (label (2 * e + 1))) (φ (2 * e)) ≡ when (exits S (2 * e)) (φ (2 * e)) +ℤ when (exits S (2 * e + 1)) (φ (2 * e + 1))
+      point e l =
+          rw (rev-even e, rev-odd e, (ap φ (sym (rev-even e)) ∙ anti (2 * e) (omega arith))) (split (S (label (2 * e))) (S (label (2 * e + 1))) (φ (2 * e)))

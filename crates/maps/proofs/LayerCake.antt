@@ -75,7 +75,8 @@ module _ (𝓜 : Map) (length : ℕ → ℤ) where
         is : positive (h v +ℤ pos lift) + negative (h v) ≡ positive (h v) + lift
         is = let x = atom (h v) in omega (arith, positive-is (added x (literal lift)), low v l)
 
-        go : Dec (θ < positive (h v +ℤ pos lift)) → (ltZ (pos θ -ℤ pos lift) (h v) ≡ true) ⊎ (ltZ (pos θ -ℤ pos lift) (h v) ≡ false) → ltb θ (positive (h v +ℤ pos lift)) ≡ ltZ (pos θ -ℤ pos lift) (h v)
+        go : Dec (θ < positive (h v +ℤ pos lift)) → (ltZ (pos θ -ℤ pos lift) (h v) ≡ true) ⊎ (ltZ (pos θ -ℤ pos lift) (h v) ≡ false)
+            → ltb θ (positive (h v +ℤ pos lift)) ≡ ltZ (pos θ -ℤ pos lift) (h v)
         go (yes p) (inl q) = ltb-true θ (positive (h v +ℤ pos lift)) p ∙ sym q
         go (yes p) (inr q) = let x = atom (h v) in absurd (omega (arith, is, from-at-most (ge-of-test (pos θ -ℤ pos lift) (h v) q) (search parts)))
         go (no p) (inl q) = let x = atom (h v) in absurd (omega (arith, is, from-less (lt-of-test (pos θ -ℤ pos lift) (h v) q) (search parts)))
@@ -100,7 +101,8 @@ module _ (𝓜 : Map) (length : ℕ → ℤ) where
           where
             same : cut 𝓜 length (λ v. ltb (r .0) (g v)) ≡ cut 𝓜 length (above h (pos (r .0) -ℤ pos lift))
             same =
-                sum-ext Integers (darts 𝓜) (λ d. when (leaves 𝓜 (λ v. ltb (r .0) (g v)) d) (length d)) (λ d. when (leaves 𝓜 (above h (pos (r .0) -ℤ pos lift)) d) (length d))
+                sum-ext Integers (darts 𝓜) (λ d. when (leaves 𝓜 (λ v. ltb (r .0) (g v)) d) (length d))
+                (λ d. when (leaves 𝓜 (above h (pos (r .0) -ℤ pos lift)) d) (length d))
                 (λ d l.
                 ap₂ (λ x y. when (x && not y) (length d))
                 (above-is (r .0) (𝓜 .tail d) (range .tail-in d l))

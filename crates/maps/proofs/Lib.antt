@@ -1,3 +1,4 @@
+-- Drawings as maps: from the checks to the planar theorems, and from rings to cuts.
 pub mod Darts
 pub mod Orbits
 pub mod Numbering

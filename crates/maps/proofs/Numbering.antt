@@ -54,7 +54,8 @@ module _ {n : ℕ} {next : ℕ → ℕ} (π : Permutes n next) where
   unfolding orbitOf orbits isLowest
   orbitOf-first f l = go (count-reach n f (isLowest n next) l)
     where
-      go : (i : ℕ) × (i < n) × (isLowest n next i ≡ true) × (count i (isLowest n next) ≡ f) → (d : ℕ) × (d < n) × (orbitOf n next d ≡ f) × ((c : ℕ) → c < d → orbitOf n next c < f)
+      go : (i : ℕ) × (i < n) × (isLowest n next i ≡ true) × (count i (isLowest n next) ≡ f)
+          → (d : ℕ) × (d < n) × (orbitOf n next d ≡ f) × ((c : ℕ) → c < d → orbitOf n next c < f)
       go q = (q .0, q .1, ap (λ m. count m (isLowest n next)) (eqb-eq (lowest next n (q .0)) (q .0) (q .2)) ∙ q .3, before)
         where
           before : (c : ℕ) → c < q .0 → orbitOf n next c < f
@@ -68,7 +69,8 @@ module _ {n : ℕ} {next : ℕ → ℕ} (π : Permutes n next) where
 -- ── there is one such numbering ──
 module _ {n : ℕ} {next : ℕ → ℕ} where
   -- where a and b agree below d, and d is the first of its orbit, b d is not above a d
-  not-above : {a b : ℕ → ℕ} {k m : ℕ} → Numbered n next a k → Numbered n next b m → (d : ℕ) → d < n → ((c : ℕ) → c < d → a c ≡ b c) → ((c : ℕ) → c < d → a c < a d) → a d < b d → ⊥
+  not-above : {a b : ℕ → ℕ} {k m : ℕ} → Numbered n next a k → Numbered n next b m → (d : ℕ)
+      → d < n → ((c : ℕ) → c < d → a c ≡ b c) → ((c : ℕ) → c < d → a c < a d) → a d < b d → ⊥
   not-above {a} {b} α β d l ih low h = go (β .first (a d) (omega (arith, β .below d l)))
     where
       go : ((x : ℕ) × (x < n) × (b x ≡ a d) × ((c : ℕ) → c < x → b c < a d)) → ⊥

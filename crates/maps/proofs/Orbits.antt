@@ -52,7 +52,13 @@ module _ {n : ℕ} {next : ℕ → ℕ} (π : Permutes n next) where
   closes d l = go (pigeonhole n (λ i. iter next i d) (λ i m. iter-in i d l))
     where
       go : Twice (λ i. iter next i d) n → (p : ℕ) × (0 < p) × (p ≤ n) × (iter next p d ≡ d)
-      go t = (t .1 - t .0, omega (arith, t .2), omega (arith, t .3), iter-cancel (t .0) (iter next (t .1 - t .0) d) d (iter-in (t .1 - t .0) d l) l (sym (iter-add next (t .0) (t .1 - t .0) d) ∙ ap (λ m. iter next m d) back ∙ sym (t .4)))
+      go t = (
+        t .1 - t .0,
+        omega (arith, t .2),
+        omega (arith, t .3),
+        iter-cancel (t .0) (iter next (t .1 - t .0) d) d (iter-in (t .1 - t .0) d l) l
+            (sym (iter-add next (t .0) (t .1 - t .0) d) ∙ ap (λ m. iter next m d) back ∙ sym (t .4)),
+      )
         where
           back : t .0 + (t .1 - t .0) ≡ t .1
           back = omega (arith, t .2)
@@ -68,9 +74,11 @@ module _ {n : ℕ} {next : ℕ → ℕ} (π : Permutes n next) where
       go zero j m e = (j, omega (arith, r .1, r .2), e)
       go (suc fuel) j m e = cs (decLt j (r .0)) (go fuel (j - r .0))
         where
-          cs : Dec (j < r .0) → (j - r .0 ≤ fuel → iter next (j - r .0) c ≡ d → (i : ℕ) × (i < n) × (iter next i c ≡ d)) → (i : ℕ) × (i < n) × (iter next i c ≡ d)
+          cs : Dec (j < r .0) → (j - r .0 ≤ fuel → iter next (j - r .0) c ≡ d → (i : ℕ) × (i < n) × (iter next i c ≡ d))
+              → (i : ℕ) × (i < n) × (iter next i c ≡ d)
           cs (yes s) ih = (j, omega (arith, r .2), e)
-          cs (no s) ih = ih (omega (arith, r .1)) (ap (iter next (j - r .0)) (sym (r .3)) ∙ sym (iter-add next (j - r .0) (r .0) c) ∙ ap (λ m. iter next m c) back ∙ e)
+          cs (no s) ih =
+              ih (omega (arith, r .1)) (ap (iter next (j - r .0)) (sym (r .3)) ∙ sym (iter-add next (j - r .0) (r .0) c) ∙ ap (λ m. iter next m c) back ∙ e)
             where
               back : (j - r .0) + r .0 ≡ j
               back = omega (arith, s)

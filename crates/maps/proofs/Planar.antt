@@ -27,7 +27,9 @@ pub difference-circulation : {𝓜 : Map} → Sound 𝓜 → (ρ : ℕ → ℤ) 
 unfolding net
 difference-circulation {𝓜} σ ρ = record {
   antisymmetric = λ d l. difference-antisymmetric (left 𝓜) ρ d;
-  balanced = λ v l. difference-closed (𝓜 .edges) (𝓜 .rotation) (𝓜 .tail) (left 𝓜) (σ .range .rotation-in) (σ .injective) (σ .same-tail) (left-rotation σ) ρ (λ u. eqb v u);
+  balanced =
+      λ v l. difference-closed (𝓜 .edges) (𝓜 .rotation) (𝓜 .tail) (left 𝓜) (σ .range .rotation-in)
+      (σ .injective) (σ .same-tail) (left-rotation σ) ρ (λ u. eqb v u);
 }
 
 module _ {𝓜 : Map} (σ : Sound 𝓜) {k : ℕ} {part : ℕ → ℕ} (κ : Components 𝓜 k part) where

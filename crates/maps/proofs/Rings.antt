@@ -8,7 +8,23 @@ use lib.Dec.{eqb}
 use lib.IntN.{ℤ, pos, negℤ, _+ℤ_, _-ℤ_, _*ℤ_, +ℤ-invr}
 use lib.Signed.{_≤ℤ_, _<ℤ_}
 use Rattle.integers.specs.Sum.{Integers, sum, sumℤ, when, bit}
-use Rattle.integers.proofs.Omega.{atom, literal, added, negated, atoms₁, atoms₂, atoms₃, parts, positive, positive-is, equal, at-most, less, from-less, from-at-most}
+use Rattle.integers.proofs.Omega.{
+  atom,
+  literal,
+  added,
+  negated,
+  atoms₁,
+  atoms₂,
+  atoms₃,
+  parts,
+  positive,
+  positive-is,
+  equal,
+  at-most,
+  less,
+  from-less,
+  from-at-most,
+}
 use Rattle.integers.proofs.Laws.{neg-sub, mul-le}
 use Rattle.integers.proofs.Sums.{sum-ext, sum-nil, sum-add, sum-pick, sum-pairs}
 use Rattle.integers.proofs.IntegerSums.{sum-le, sum-sub, when-zero}
@@ -21,16 +37,18 @@ use Rattle.maps.specs.Check.{Sound}
 use Rattle.maps.specs.Flow.{Antisymmetric}
 use Rattle.maps.specs.Potential.{around, Heights}
 use Rattle.maps.specs.Cut.{cut}
-use Rattle.maps.specs.FaceWalk.{FaceWalk, stay, cross, total}
+use Rattle.maps.specs.inner.FaceWalk.{FaceWalk, stay, cross, total}
 use Rattle.maps.proofs.Darts.{rev-even, rev-odd, rev-rev, rev-in, rev-injective, eqb-rev}
 use Rattle.maps.proofs.Planar.{tension-heights}
 use Rattle.maps.proofs.LayerCake.{above, threshold}
 
 -- one crossing of d comes into the face left of d, out of the face right of it
 one-cross : (𝓜 : Map) (d : ℕ) → d < darts 𝓜 → (x : ℕ)
-    → sumℤ (darts 𝓜) (λ i. when (eqb x (left 𝓜 i)) (pos (bit (eqb i d)) -ℤ pos (bit (eqb (rev i) d)))) ≡ when (eqb x (left 𝓜 d)) (pos 1) -ℤ when (eqb x (right 𝓜 d)) (pos 1)
+    → sumℤ (darts 𝓜) (λ i. when (eqb x (left 𝓜 i)) (pos (bit (eqb i d)) -ℤ pos (bit (eqb (rev i) d))))
+    ≡ when (eqb x (left 𝓜 d)) (pos 1) -ℤ when (eqb x (right 𝓜 d)) (pos 1)
 one-cross 𝓜 d l x =
-    sum-ext Integers (darts 𝓜) (λ i. when (eqb x (left 𝓜 i)) (pos (bit (eqb i d)) -ℤ pos (bit (eqb (rev i) d)))) (λ i. cond (eqb i d) (unit i) (pos 0) -ℤ cond (eqb i (rev d)) (unit i) (pos 0))
+    sum-ext Integers (darts 𝓜) (λ i. when (eqb x (left 𝓜 i)) (pos (bit (eqb i d)) -ℤ pos (bit (eqb (rev i) d))))
+    (λ i. cond (eqb i d) (unit i) (pos 0) -ℤ cond (eqb i (rev d)) (unit i) (pos 0))
     (λ i m. ap (λ t. when (eqb x (left 𝓜 i)) (pos (bit (eqb i d)) -ℤ pos (bit t))) (eqb-rev i d) ∙ split (eqb x (left 𝓜 i)) (eqb i d) (eqb i (rev d)))
     ∙ sum-sub (darts 𝓜) (λ i. cond (eqb i d) (unit i) (pos 0)) (λ i. cond (eqb i (rev d)) (unit i) (pos 0))
     ∙ ap₂ _-ℤ_ (sum-pick Integers (darts 𝓜) d unit l) (sum-pick Integers (darts 𝓜) (rev d) unit (rev-in (𝓜 .edges) d l))
@@ -72,7 +90,8 @@ module _ {𝓜 : Map} where
   total-times length (cross d l e w) =
       ap₂ _+ℤ_ (sym (sum-pick Integers (darts 𝓜) d length l)) (total-times length w)
       ∙ sym (sum-add Integers (darts 𝓜) (λ i. cond (eqb i d) (length i) (pos 0)) (λ i. pos (times w i) *ℤ length i))
-      ∙ sum-ext Integers (darts 𝓜) (λ i. cond (eqb i d) (length i) (pos 0) +ℤ pos (times w i) *ℤ length i) (λ i. pos (bit (eqb i d) + times w i) *ℤ length i) (λ i m. once (eqb i d) (times w i) (length i))
+      ∙ sum-ext Integers (darts 𝓜) (λ i. cond (eqb i d) (length i) (pos 0) +ℤ pos (times w i) *ℤ length i)
+      (λ i. pos (bit (eqb i d) + times w i) *ℤ length i) (λ i m. once (eqb i d) (times w i) (length i))
     where
       once : (t : Bool) (k : ℕ) (x : ℤ) → cond t x (pos 0) +ℤ pos k *ℤ x ≡ pos (bit t + k) *ℤ x
       once true k x = let a = atoms₁ x in equal (search parts) (omega arith)
@@ -88,7 +107,8 @@ module _ {𝓜 : Map} where
       (λ i. when (eqb x (left 𝓜 i)) (pos (bit (eqb i d) + times w i) -ℤ pos (bit (eqb (rev i) d) + times w (rev i))))
       (λ i. when (eqb x (left 𝓜 i)) (pos (bit (eqb i d)) -ℤ pos (bit (eqb (rev i) d))) +ℤ when (eqb x (left 𝓜 i)) (pos (times w i) -ℤ pos (times w (rev i))))
       (λ i m. split (eqb x (left 𝓜 i)) (bit (eqb i d)) (times w i) (bit (eqb (rev i) d)) (times w (rev i)))
-      ∙ sum-add Integers (darts 𝓜) (λ i. when (eqb x (left 𝓜 i)) (pos (bit (eqb i d)) -ℤ pos (bit (eqb (rev i) d)))) (λ i. when (eqb x (left 𝓜 i)) (pos (times w i) -ℤ pos (times w (rev i))))
+      ∙ sum-add Integers (darts 𝓜) (λ i. when (eqb x (left 𝓜 i)) (pos (bit (eqb i d)) -ℤ pos (bit (eqb (rev i) d))))
+      (λ i. when (eqb x (left 𝓜 i)) (pos (times w i) -ℤ pos (times w (rev i))))
       ∙ ap₂ _+ℤ_ (one-cross 𝓜 d l x) (winding-around w x)
       ∙ (let a = atoms₃ (when (eqb x (left 𝓜 d)) (pos 1)) (when (eqb x (right 𝓜 d)) (pos 1)) (when (eqb x g) (pos 1)) in equal (search parts) (omega arith))
       ∙ ap (λ y. when (eqb x g) (pos 1) -ℤ when (eqb x y) (pos 1)) e

@@ -20,7 +20,8 @@ abbrev across : Bool → Bool → ℤ → ℤ → ℤ
 across p q x y = when (p && not q) x +ℤ when (q && not p) y
 
 -- its tail is in A (a) and in B (b), its head in A (c) and in B (d)
-edge-case : (a b c d : Bool) (x y : ℤ) → pos 0 ≤ℤ (x +ℤ y) → (across (a || b) (c || d) x y +ℤ across (a && b) (c && d) x y) ≤ℤ (across a c x y +ℤ across b d x y)
+edge-case : (a b c d : Bool) (x y : ℤ) → pos 0 ≤ℤ (x +ℤ y)
+    → (across (a || b) (c || d) x y +ℤ across (a && b) (c && d) x y) ≤ℤ (across a c x y +ℤ across b d x y)
 edge-case true true true true x y h = let a = atoms₂ x y in at-most (search parts) (omega (arith, from-at-most h (search parts)))
 edge-case true true true false x y h = let a = atoms₂ x y in at-most (search parts) (omega (arith, from-at-most h (search parts)))
 edge-case true true false true x y h = let a = atoms₂ x y in at-most (search parts) (omega (arith, from-at-most h (search parts)))
@@ -49,13 +50,22 @@ module _ (𝓜 : Map) (c : ℕ → ℤ) where
       ∙ sum-ext Integers (𝓜 .edges)
       (λ e. when (leaves 𝓜 S (2 * e)) (c (2 * e)) +ℤ when (leaves 𝓜 S (2 * e + 1)) (c (2 * e + 1)))
       (term S)
-      (λ e l. ap₂ (λ x y. when (S (𝓜 .tail (2 * e)) && not (S (𝓜 .tail x))) (c (2 * e)) +ℤ when (S (𝓜 .tail (2 * e + 1)) && not (S (𝓜 .tail y))) (c (2 * e + 1))) (rev-even e) (rev-odd e))
+      (λ e l. ap₂
+      (λ x y. when (S (𝓜 .tail (2 * e)) && not (S (𝓜 .tail x))) (c (2 * e)) +ℤ when (S (𝓜 .tail (2 * e + 1)) && not (S (𝓜 .tail y))) (c (2 * e + 1)))
+      (rev-even e) (rev-odd e))
 
   pub submodular : ((d : ℕ) → d < darts 𝓜 → pos 0 ≤ℤ (c d +ℤ c (rev d))) → (A B : ℕ → Bool)
       → (cut 𝓜 c (union A B) +ℤ cut 𝓜 c (intersection A B)) ≤ℤ (cut 𝓜 c A +ℤ cut 𝓜 c B)
   unfolding term
   submodular h A B =
-      rw (cut-edges (union A B), cut-edges (intersection A B), cut-edges A, cut-edges B, ← sum-add Integers (𝓜 .edges) (term (union A B)) (term (intersection A B)), ← sum-add Integers (𝓜 .edges) (term A) (term B))
+      rw (
+        cut-edges (union A B),
+        cut-edges (intersection A B),
+        cut-edges A,
+        cut-edges B,
+        ← sum-add Integers (𝓜 .edges) (term (union A B)) (term (intersection A B)),
+        ← sum-add Integers (𝓜 .edges) (term A) (term B),
+      )
       (sum-le (𝓜 .edges) (λ e. term (union A B) e +ℤ term (intersection A B) e) (λ e. term A e +ℤ term B e)
       (λ e l.
       edge-case (A (𝓜 .tail (2 * e))) (B (𝓜 .tail (2 * e))) (A (𝓜 .tail (2 * e + 1))) (B (𝓜 .tail (2 * e + 1))) (c (2 * e)) (c (2 * e + 1))

@@ -69,7 +69,8 @@ module _ {n N F k : ℕ} {s t l r partN partF : ℕ → ℕ} (𝓖 : TwoGraphs n
   same-node : (v w : ℕ) → v < N → w < N → partN v ≡ partN w → label all s t n v ≡ label all s t n w
   unfolding all
   same-node v w lv lw c =
-      sym (eqb-eq (label all s t n w) (label all s t n v) (sym (𝓖 .joinedN (λ x. eqb (label all s t n x) (label all s t n v)) shut v w lv lw c) ∙ eqb-true (label all s t n v) (label all s t n v) refl))
+      sym (eqb-eq (label all s t n w) (label all s t n v)
+      (sym (𝓖 .joinedN (λ x. eqb (label all s t n x) (label all s t n v)) shut v w lv lw c) ∙ eqb-true (label all s t n v) (label all s t n v) refl))
     where
       shut : (e : ℕ) → e < n → eqb (label all s t n (s e)) (label all s t n v) ≡ eqb (label all s t n (t e)) (label all s t n v)
       shut e l = ap (λ x. eqb x (label all s t n v)) (label-closed all s t e n l refl)
@@ -78,7 +79,8 @@ module _ {n N F k : ℕ} {s t l r partN partF : ℕ → ℕ} (𝓖 : TwoGraphs n
   same-face : (f g : ℕ) → f < F → g < F → partF f ≡ partF g → label offTree l r n f ≡ label offTree l r n g
   unfolding offTree inTree
   same-face f g lf lg c =
-      sym (eqb-eq (label offTree l r n g) (label offTree l r n f) (sym (𝓖 .joinedF B shut f g lf lg c) ∙ eqb-true (label offTree l r n f) (label offTree l r n f) refl))
+      sym (eqb-eq (label offTree l r n g) (label offTree l r n f)
+      (sym (𝓖 .joinedF B shut f g lf lg c) ∙ eqb-true (label offTree l r n f) (label offTree l r n f) refl))
     where
       B : ℕ → Bool
       B x = eqb (label offTree l r n x) (label offTree l r n f)
@@ -135,7 +137,8 @@ module _ {n N F k : ℕ} {s t l r partN partF : ℕ → ℕ} (𝓖 : TwoGraphs n
 
       still : Closed n s t ψ
       still S =
-          sum-ext Integers n (λ e. carried (S (s e)) (S (t e)) (ψ e)) (λ e. carried (S (s e)) (S (t e)) (φ e) +ℤ negℤ (carried (S (s e)) (S (t e)) (ρ (l e) -ℤ ρ (r e))))
+          sum-ext Integers n (λ e. carried (S (s e)) (S (t e)) (ψ e))
+          (λ e. carried (S (s e)) (S (t e)) (φ e) +ℤ negℤ (carried (S (s e)) (S (t e)) (ρ (l e) -ℤ ρ (r e))))
           (λ e m. carried-sub (S (s e)) (S (t e)) (φ e) (ρ (l e) -ℤ ρ (r e)))
           ∙ sum-add Integers n (λ e. carried (S (s e)) (S (t e)) (φ e)) (λ e. negℤ (carried (S (s e)) (S (t e)) (ρ (l e) -ℤ ρ (r e))))
           ∙ ap₂ _+ℤ_ (shut S) (sum-neg n (λ e. carried (S (s e)) (S (t e)) (ρ (l e) -ℤ ρ (r e))) ∙ ap negℤ (𝓖 .closed ρ S))

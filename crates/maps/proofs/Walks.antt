@@ -69,7 +69,8 @@ module _ {𝓜 : Map} where
       step ih (inl t) = rw (label-joined all a b k v t) (cs (either (eqb (L k v) (L k (a k)))))
         where
           cs : (eqb (L k v) (L k (a k)) ≡ true) ⊎ (eqb (L k v) (L k (a k)) ≡ false) → Walk 𝓜 v (cond (eqb (L k v) (L k (a k))) (L k (b k)) (L k v))
-          cs (inl e) = rw e (walk-append (rw (eqb-eq (L k v) (L k (a k)) e) at (ih v)) (walk-append (walk-back (ih (a k))) (walk-append (forth-over k h) (ih (b k)))))
+          cs (inl e) =
+              rw e (walk-append (rw (eqb-eq (L k v) (L k (a k)) e) at (ih v)) (walk-append (walk-back (ih (a k))) (walk-append (forth-over k h) (ih (b k)))))
           cs (inr e) = rw e (ih v)
 
   pub walk-decided : (v w : ℕ) → Dec (Walk 𝓜 v w)

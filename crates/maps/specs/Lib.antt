@@ -9,4 +9,4 @@ pub mod Check
 pub mod Flow
 pub mod Potential
 pub mod Cut
-pub mod FaceWalk
+pub mod inner

@@ -12,7 +12,7 @@ use lib.Seq.{drop-append-seam}
 use lib.Signed.{_≤ℤ_, _<ℤ_}
 use mir.Syntax.{w32}
 use mir.Val.{toZ, ofZ}
-use Rattle.integers.specs.Limited.{Limited}
+use Rattle.integers.specs.inner.Limited.{Limited}
 use Rattle.integers.specs.Sum.{bit}
 use Rattle.integers.proofs.Omega.{atoms₂, atoms₄, parts, less, from-equal, from-less}
 use Rattle.integers.proofs.Laws.{lt-le-clash, le-trans, le-antisym, lt-or-ge}
@@ -24,25 +24,35 @@ use Rattle.maps.specs.Map.{Map, darts}
 use Rattle.maps.specs.Cut.{cut, union, intersection}
 use Rattle.flows.specs.Highest.{Highest}
 use Rattle.flows.specs.ProvingSet.{Proves}
-use Rattle.flows.specs.Plane.{Plane}
+use Rattle.flows.specs.inner.Plane.{Plane}
 use Rattle.flows.proofs.Exact.{proves-excludes}
 use Rattle.flows.proofs.Agreement.{cut-agrees}
-use Rattle.flows.proofs.Interval.{source-short, sink-short, sink-proves-less, beside-short, beside-proves-all, source-limits, union-both, intersection-neither, intersection-short}
-use Rattle.flows.specs.Sides.{AtSource, AtSink, Beside}
+use Rattle.flows.proofs.Interval.{
+  source-short,
+  sink-short,
+  sink-proves-less,
+  beside-short,
+  beside-proves-all,
+  source-limits,
+  union-both,
+  intersection-neither,
+  intersection-short,
+}
+use Rattle.flows.specs.inner.Sides.{AtSource, AtSink, Beside}
 use Rattle.flows.proofs.ValueBound.{value-small, cut-small}
 use Rattle.arrays.specs.Filled.{tabulate, filled}
 use Rattle.arrays.proofs.Tabulate.{length-tabulate}
-use Rattle.cuts.specs.Cut.{cutOf}
+use Rattle.cuts.specs.inner.Cut.{cutOf}
 use Rattle.cuts.proofs.CutOfMap.{cut-of}
-use Rattle.node_flags.specs.Flags.{Sided}
-use Rattle.arrays.specs.Flags.{flagged}
+use Rattle.node_flags.specs.inner.Flags.{Sided}
+use Rattle.arrays.specs.inner.Flags.{flagged}
 use Rattle.node_flags.specs.declared.Side.{Side}
 use Rattle.node_flags.specs.declared.Side.the-variants as side
-use Rattle.solver.specs.Ends.{Ends}
-use Rattle.solver.specs.Decision.{Decided}
-use Rattle.maximum.specs.Bracket.{Ceiling, Floor, Bracket}
-use Rattle.maximum.specs.Narrowing.{SameFlags, Narrows, Joins}
-use Rattle.maximum.specs.Maximum.{Maximized}
+use Rattle.solver.specs.inner.Ends.{Ends}
+use Rattle.solver.specs.inner.Decision.{Decided}
+use Rattle.maximum.specs.inner.Bracket.{Ceiling, Floor, Bracket}
+use Rattle.maximum.specs.inner.Narrowing.{SameFlags, Narrows, Joins}
+use Rattle.maximum.specs.inner.Maximum.{Maximized}
 use Rattle.maximum.specs.declared.Narrowed.{Narrowed}
 use Rattle.maximum.specs.declared.Maximum.the-variants as maximum
 use Rattle.maximum.proofs.Gap.{gap, gap-lowered, gap-raised}
@@ -96,7 +106,8 @@ module _ {𝓜 : Map} (outer : ℕ) {c : ℕ → ℤ} {s t : ℕ} (ground : Grou
 
   pub low-small : (before flows : List ℤ) (B : ℕ → Bool) (low : ℤ) (found : Bool) → Floor 𝓜 outer c s t before flows B low found → Limited 512000000 low
   low-small before flows B low true h =
-      value-small (ground .plane .sound .range) (ground .two .source-in) (ground .two .sink-in) (ground .two .two) c (ground .few-edges) (λ d l. limit d l) low (h .0) (h .1 .carries)
+      value-small (ground .plane .sound .range) (ground .two .source-in) (ground .two .sink-in)
+      (ground .two .two) c (ground .few-edges) (λ d l. limit d l) low (h .0) (h .1 .carries)
     where
       limit : (d : ℕ) → d < darts 𝓜 → c d ≤ℤ pos 1000000
       limit d l = ground .small d l .high
@@ -124,10 +135,13 @@ module _ {𝓜 : Map} (outer : ℕ) {c : ℕ → ℤ} {s t : ℕ} (ground : Grou
     carried-low e = let r = subst (Floor 𝓜 outer c s t before flows (flagged B) low) e (b .floor) in (r .0, r .1)
 
     excluded : (S : ℕ → Bool) → Proves 𝓜 c s t low S → found ≡ true → ⊥
-    excluded S p e = let r = carried-low e in proves-excludes (ground .plane .sound .range) (ground .two .source-in) (ground .two .sink-in) (ground .two .two) c low S p (r .0) (r .1 .carries)
+    excluded S p e =
+        let r = carried-low e in
+        proves-excludes (ground .plane .sound .range) (ground .two .source-in) (ground .two .sink-in) (ground .two .two) c low S p (r .0) (r .1 .carries)
 
     -- ── a carried value is the new low bound ──
-    pub carried : (value : ℤ) (flows' : List ℤ) (inside : List ℕ) → Decided 𝓜 outer c s t value flows flows' inside true → Bracket 𝓜 outer c s t before flows' A B value high true
+    pub carried : (value : ℤ) (flows' : List ℤ) (inside : List ℕ) → Decided 𝓜 outer c s t value flows flows' inside true
+        → Bracket 𝓜 outer c s t before flows' A B value high true
     carried value flows' inside d = record { ceiling = b .ceiling; floor = (d .0, d .1, d .2 ∙ again found (b .floor)) }
       where
         again : (f : Bool) → Floor 𝓜 outer c s t before flows (flagged B) low f → filled (𝓜 .edges) (d .0) flows ≡ filled (𝓜 .edges) (d .0) before
@@ -149,14 +163,16 @@ module _ {𝓜 : Map} (outer : ℕ) {c : ℕ → ℤ} {s t : ℕ} (ground : Grou
           is-cut : total ≡ cut 𝓜 c (flagged inside)
           is-cut = e ∙ sym (cut-of 𝓜 c (flagged inside))
 
-      pub at-sink : AtSink s t (flagged inside) → (B' : List ℕ) → SameFlags B' inside → (total : ℤ) → total ≡ negℤ (cutOf (darts 𝓜) (𝓜 .tail) c (flagged inside))
+      pub at-sink : AtSink s t (flagged inside) → (B' : List ℕ) → SameFlags B' inside
+          → (total : ℤ) → total ≡ negℤ (cutOf (darts 𝓜) (𝓜 .tail) c (flagged inside))
           → (found ≡ false) × Bracket 𝓜 outer c s t before flows A B' total high found × (value <ℤ total)
       at-sink side B' same total e = go found refl (b .floor)
         where
           is-cut : total ≡ negℤ (cut 𝓜 c (flagged inside))
           is-cut = e ∙ ap negℤ (sym (cut-of 𝓜 c (flagged inside)))
 
-          go : (f : Bool) → found ≡ f → Floor 𝓜 outer c s t before flows (flagged B) low f → (found ≡ false) × Bracket 𝓜 outer c s t before flows A B' total high found × (value <ℤ total)
+          go : (f : Bool) → found ≡ f → Floor 𝓜 outer c s t before flows (flagged B) low f
+              → (found ≡ false) × Bracket 𝓜 outer c s t before flows A B' total high found × (value <ℤ total)
           go true q h = absurd (excluded (flagged inside) (sink-proves-less 𝓜 c s t (flagged inside) side value low at-least proves) q)
           go false q h = (
             q,
@@ -187,13 +203,15 @@ module _ {𝓜 : Map} (outer : ℕ) {c : ℕ → ℤ} {s t : ℕ} (ground : Grou
       where
         go : (f : Bool) → found ≡ f → Floor 𝓜 outer c s t before flows (flagged B) low f → Maximized 𝓜 outer c s t before flows A' maximum.Nothing
         go true q h =
-            absurd (lt-le-clash l (rw (b .ceiling .is-cut) (source-limits (ground .plane .sound .range) (ground .two .source-in) (ground .two .sink-in) (ground .two .two) c (flagged A) (b .ceiling .side) low (h .0) (h .1 .carries))))
+            absurd (lt-le-clash l (rw (b .ceiling .is-cut) (source-limits (ground .plane .sound .range) (ground .two .source-in)
+            (ground .two .sink-in) (ground .two .two) c (flagged A) (b .ceiling .side) low (h .0) (h .1 .carries))))
         go false q h = by j
           where
             none-between : (cut 𝓜 c (flagged A) +ℤ cut 𝓜 c (flagged B)) <ℤ pos 0
             none-between =
                 let a = atoms₄ (cut 𝓜 c (flagged A)) (cut 𝓜 c (flagged B)) low high in
-                less (search parts) (omega (arith, from-less l (search parts), from-equal (b .ceiling .is-cut) (search parts), from-equal (h .2) (search parts)))
+                less (search parts) (omega
+                (arith, from-less l (search parts), from-equal (b .ceiling .is-cut) (search parts), from-equal (h .2) (search parts)))
 
             agree : (S : ℕ → Bool) → ((u : ℕ) → u < 1024 → flagged A' u ≡ S u) → cut 𝓜 c (flagged A') ≡ cut 𝓜 c S
             agree S same = cut-agrees (ground .plane .sound .range) (flagged A') S (λ v m. same v (omega (arith, ground .few-nodes))) c
@@ -206,15 +224,18 @@ module _ {𝓜 : Map} (outer : ℕ) {c : ℕ → ℤ} {s t : ℕ} (ground : Grou
                 let neither = intersection-neither 𝓜 c s t (flagged A) (flagged B) (b .ceiling .side) (h .1) in (
                   h .0,
                   r .0 s s-in ∙ neither .0 ∙ sym (r .0 t t-in ∙ neither .1),
-                  rw (agree _ (r .0)) (intersection-short 𝓜 c s t (flagged A) (flagged B) (b .ceiling .side) (h .1) (ground .pairs) none-between (rw (cut-of 𝓜 c (union (flagged A) (flagged B))) (r .1))),
+                  rw (agree _ (r .0)) (intersection-short 𝓜 c s t (flagged A) (flagged B) (b .ceiling .side) (h .1)
+                      (ground .pairs) none-between (rw (cut-of 𝓜 c (union (flagged A) (flagged B))) (r .1))),
                 )
 
     -- ── what a probe that cannot does, on whichever side its set lies ──
-    module _ (value : ℤ) (at-least : low ≤ℤ value) (at-most : value ≤ℤ high) (inside : List ℕ) (proves : Proves 𝓜 c s t value (flagged inside)) (A' B' : List ℕ) (n : Narrowed) where
+    module _ (value : ℤ) (at-least : low ≤ℤ value) (at-most : value ≤ℤ high) (inside : List ℕ)
+        (proves : Proves 𝓜 c s t value (flagged inside)) (A' B' : List ℕ) (n : Narrowed) where
       abbrev total : ℤ
       total = cutOf (darts 𝓜) (𝓜 .tail) c (flagged inside)
 
-      pub nothing : (side : Side) → Sided s t (flagged inside) side → Narrows total low high inside A A' B B' n side → n .none ≡ true → Maximized 𝓜 outer c s t before flows A' maximum.Nothing
+      pub nothing : (side : Side) → Sided s t (flagged inside) side → Narrows total low high inside A A' B B' n side
+          → n .none ≡ true → Maximized 𝓜 outer c s t before flows A' maximum.Nothing
       nothing side.Source h r e = absurd (omega (arith, ap bit (sym (r .0) ∙ e)))
       nothing side.Sink h r e = absurd (omega (arith, ap bit (sym (r .0) ∙ e)))
       nothing side.Beside h r e = beside value at-least inside proves h A' (r .1)

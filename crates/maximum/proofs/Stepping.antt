@@ -9,7 +9,7 @@ use lib.Signed.{_≤ℤ_, _<ℤ_}
 use mir.Syntax.{w32}
 use mir.Val.{toZ, ofZ, SFits}
 use mir.ValLaws.{toZ-pos}
-use Rattle.integers.specs.Limited.{Limited}
+use Rattle.integers.specs.inner.Limited.{Limited}
 use Rattle.integers.proofs.Omega.{atoms₁, atoms₃, atoms₄, parts, equal, at-most, less, from-equal, from-at-most, from-less}
 use Rattle.integers.proofs.Limits.{limited-neg, limited-minus}
 use Rattle.integers.proofs.Tests.{eqb-eq, eqb-ne}
@@ -30,7 +30,8 @@ negative-fits {x} f h = subst (SFits w32) (sym (negative-is f)) (limited-fits 20
 pub halved : (x r : ℤ) (n : ℕ) → SFits w32 x → pos 0 ≤ℤ x → n ≡ ofZ w32 x → r ≡ toZ w32 (n / 2) → (pos 0 ≤ℤ r) × (r ≤ℤ x) × (pos 0 <ℤ x → r <ℤ x)
 halved (pos m) r n f h is-n is-r =
     let is-half : r ≡ pos (m / 2) = is-r ∙ ap (λ k. toZ w32 (k / 2)) is-n ∙ toZ-pos w32 (m / 2) (omega (arith, f .sfits)) in
-    rw is-half (at-most (search parts) (omega arith), at-most (search parts) (omega arith), λ l. less (search parts) (omega (arith, from-less l (search parts))))
+    rw is-half
+    (at-most (search parts) (omega arith), at-most (search parts) (omega arith), λ l. less (search parts) (omega (arith, from-less l (search parts))))
 halved (negsuc m) r n f h is-n is-r = absurd (h .le)
 
 -- ── the value to probe ──
@@ -77,7 +78,8 @@ module _ {low high : ℤ} (ordered : low ≤ℤ high) (small-low : Limited 60000
         above l =
             let a = atoms₄ low high between half in
             let b = atoms₁ r in
-            less (search parts) (omega (arith, from-equal e (search parts), from-equal is-between (search parts), from-less (halves .2 (some l)) (search parts)))
+            less (search parts) (omega
+            (arith, from-equal e (search parts), from-equal is-between (search parts), from-less (halves .2 (some l)) (search parts)))
 
     pub middle-fits : SFits w32 (toZ w32 (ofZ w32 high) -ℤ half)
     middle-fits =
@@ -87,7 +89,9 @@ module _ {low high : ℤ} (ordered : low ≤ℤ high) (small-low : Limited 60000
         limited =
             let a = atoms₄ low high between half in
             record {
-              low = at-most (search parts) (omega (arith, from-equal is-between (search parts), from-at-most (halves .1) (search parts), from-at-most (small-low .low) (search parts)));
+              low =
+                  at-most (search parts) (omega
+                  (arith, from-equal is-between (search parts), from-at-most (halves .1) (search parts), from-at-most (small-low .low) (search parts)));
               high = at-most (search parts) (omega (arith, from-at-most (halves .0) (search parts), from-at-most (small-high .high) (search parts)));
             }
 

@@ -1,3 +1,1 @@
-pub mod Bracket
-pub mod Narrowing
-pub mod Maximum
+pub mod inner

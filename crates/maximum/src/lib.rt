@@ -1,28 +1,28 @@
-// The largest value that can be carried: values are probed between two bounds. A set around the source bounds them above by its cut, a set around the sink below by the
-// negative of its cut; a probe carries its value, or its proving set moves a bound or shows that there is nothing. Where the bounds leave no value between them, the
-// union or the intersection of the two sets shows it.
+// The largest value that can be carried: values are probed between two bounds. A set around the source bounds them above by its cut, a set around the sink
+// below by the negative of its cut; a probe carries its value, or its proving set moves a bound or shows that there is nothing. Where the bounds leave no value
+// between them, the union or the intersection of the two sets shows it.
 ghost use mathlib.Core.Path.{_≡_};
 ghost use mathlib.Core.Bool.{true, false};
 ghost use Prim.Native.Nat.{ℕ, _*_, _%_, _<_, _≤_};
 ghost use lib.ListN.{length};
 ghost use lib.IntN.{pos, negℤ};
 ghost use lib.Signed.{_≤ℤ_, _<ℤ_, ltZ};
-ghost use Rattle.integers.specs.Limited.{Limited};
+ghost use Rattle.integers.specs.inner.Limited.{Limited};
 ghost use Rattle.arrays.specs.At.{at, atℤ};
-ghost use Rattle.cuts.specs.Cut.{cutOf};
-ghost use Rattle.node_flags.specs.Flags.{Sided};
-ghost use Rattle.arrays.specs.Flags.{flagged};
+ghost use Rattle.cuts.specs.inner.Cut.{cutOf};
+ghost use Rattle.node_flags.specs.inner.Flags.{Sided};
+ghost use Rattle.arrays.specs.inner.Flags.{flagged};
 ghost use Rattle.node_flags.specs.declared.Side.{Side};
-ghost use Rattle.arrays.specs.Drawn.{Drawn};
-ghost use Rattle.solver.specs.Ends.{Ends};
+ghost use Rattle.arrays.specs.inner.Drawn.{Drawn};
+ghost use Rattle.solver.specs.inner.Ends.{Ends};
 ghost use Rattle.arrays.specs.Maps.{mapOf};
-ghost use Rattle.maximum.specs.Bracket.{Bracket};
-ghost use Rattle.maximum.specs.Narrowing.{Narrows, Joins};
-ghost use Rattle.maximum.specs.Maximum.{Maximized};
+ghost use Rattle.maximum.specs.inner.Bracket.{Bracket};
+ghost use Rattle.maximum.specs.inner.Narrowing.{Narrows, Joins};
+ghost use Rattle.maximum.specs.inner.Maximum.{Maximized};
 use node_flags::Side;
 
 // The two bounds after a proving set, or that it shows that there is nothing between any.
-pub struct Narrowed {
+struct Narrowed {
     low: i32,
     high: i32,
     none: bool,
@@ -89,8 +89,12 @@ fn narrow_by(
     a: &mut [u8; 1024],
     b: &mut [u8; 1024],
 ) -> Narrowed
-    requires { ⌜ (length (now a) ≡ 1024) × (length (now b) ≡ 1024) × (source < 1024) × (sink < 1024) × (darts ≤ 1024) × (darts % 2 ≡ 0) × ((d : ℕ) → d < darts → at (now tails) d < 1024) × ((d : ℕ) → d < darts → Limited 2000000 (atℤ (now capacities) d)) ⌝ }
-    ensures { λ r. ⌜ (length (now (a .exit)) ≡ 1024) × (length (now (b .exit)) ≡ 1024) × ((side : Side) × Sided source sink (flagged (now (inside .entry))) side × Narrows (cutOf darts (at (now (tails .entry))) (atℤ (now (capacities .entry))) (flagged (now (inside .entry)))) low high (now (inside .entry)) (now (a .entry)) (now (a .exit)) (now (b .entry)) (now (b .exit)) r side) ⌝ }
+    requires { ⌜ (length (now a) ≡ 1024) × (length (now b) ≡ 1024) × (source < 1024) × (sink < 1024) × (darts ≤ 1024) × (darts % 2 ≡ 0)
+        × ((d : ℕ) → d < darts → at (now tails) d < 1024) × ((d : ℕ) → d < darts → Limited 2000000 (atℤ (now capacities) d)) ⌝ }
+    ensures { λ r. ⌜ (length (now (a .exit)) ≡ 1024) × (length (now (b .exit)) ≡ 1024)
+        × ((side : Side) × Sided source sink (flagged (now (inside .entry))) side
+        × Narrows (cutOf darts (at (now (tails .entry))) (atℤ (now (capacities .entry))) (flagged (now (inside .entry))))
+        low high (now (inside .entry)) (now (a .entry)) (now (a .exit)) (now (b .entry)) (now (b .exit)) r side) ⌝ }
 {
     let total = cuts::capacity(tails, capacities, inside, darts);
     let side = node_flags::side_of(inside, source, sink);
@@ -126,8 +130,10 @@ fn join(
     a: &mut [u8; 1024],
     b: &[u8; 1024],
 )
-    requires { ⌜ (length (now a) ≡ 1024) × (darts ≤ 1024) × (darts % 2 ≡ 0) × ((d : ℕ) → d < darts → at (now tails) d < 1024) × ((d : ℕ) → d < darts → Limited 2000000 (atℤ (now capacities) d)) ⌝ }
-    ensures { λ _. ⌜ (length (now (a .exit)) ≡ 1024) × Joins darts (at (now (tails .entry))) (atℤ (now (capacities .entry))) (now (a .entry)) (now (a .exit)) (now (b .entry)) ⌝ }
+    requires { ⌜ (length (now a) ≡ 1024) × (darts ≤ 1024) × (darts % 2 ≡ 0) × ((d : ℕ) → d < darts → at (now tails) d < 1024)
+        × ((d : ℕ) → d < darts → Limited 2000000 (atℤ (now capacities) d)) ⌝ }
+    ensures { λ _. ⌜ (length (now (a .exit)) ≡ 1024)
+        × Joins darts (at (now (tails .entry))) (atℤ (now (capacities .entry))) (now (a .entry)) (now (a .exit)) (now (b .entry)) ⌝ }
 {
     let mut joined = [0u8; 1024];
     node_flags::unite(&*a, b, &mut joined);
@@ -155,8 +161,12 @@ pub fn maximize<'a>(
     flows: &mut [i32],
     a: &mut [u8; 1024],
 ) -> Maximum
-    requires { ⌜ (length (now a) ≡ 1024) × (edges ≤ length (now flows)) × ((d : ℕ) → d < 2 * edges → Limited 1000000 (atℤ (now capacities) d)) × Drawn (mapOf nodes edges (now tails) (now rotations)) (at (now lefts)) faces outer (atℤ (now capacities)) × Ends (mapOf nodes edges (now tails) (now rotations)) source sink ⌝ }
-    ensures { λ r. ⌜ (length (now (a .exit)) ≡ 1024) × Maximized (mapOf nodes edges (now (tails .entry)) (now (rotations .entry))) outer (atℤ (now (capacities .entry))) source sink (now (flows .entry)) (now (flows .exit)) (now (a .exit)) r ⌝ }
+    requires { ⌜ (length (now a) ≡ 1024) × (edges ≤ length (now flows)) × ((d : ℕ) → d < 2 * edges → Limited 1000000 (atℤ (now capacities) d))
+        × Drawn (mapOf nodes edges (now tails) (now rotations)) (at (now lefts)) faces outer (atℤ (now capacities))
+        × Ends (mapOf nodes edges (now tails) (now rotations)) source sink ⌝ }
+    ensures { λ r. ⌜ (length (now (a .exit)) ≡ 1024)
+        × Maximized (mapOf nodes edges (now (tails .entry)) (now (rotations .entry))) outer
+        (atℤ (now (capacities .entry))) source sink (now (flows .entry)) (now (flows .exit)) (now (a .exit)) r ⌝ }
 {
     let mut b = [0u8; 1024];
     let mut inside = [0u8; 1024];

@@ -9,9 +9,9 @@ use Rattle.integers.specs.Sum.{sum}
 use Rattle.maps.specs.Dart.{rev}
 use Rattle.maps.specs.Cut.{union, intersection}
 use Rattle.arrays.specs.At.{at, atℤ}
-use Rattle.cuts.specs.Cut.{cutOf}
-use Rattle.node_flags.specs.Flags.{Sided}
-use Rattle.arrays.specs.Flags.{flagged}
+use Rattle.cuts.specs.inner.Cut.{cutOf}
+use Rattle.node_flags.specs.inner.Flags.{Sided}
+use Rattle.arrays.specs.inner.Flags.{flagged}
 use Rattle.node_flags.specs.declared.Side.the-variants as side
 
 abbrev tails : List ℕ

@@ -11,7 +11,7 @@ use lib.ListN.{length, set, length-set}
 use lib.Seq.{getD-set-other, getD-set-same}
 use borrow.Author.Count.{below-more}
 use Rattle.integers.proofs.Tests.{eqb-true, eqb-false}
-use Rattle.arrays.specs.Flags.{flagged}
+use Rattle.arrays.specs.inner.Flags.{flagged}
 
 -- the flags of the nodes below u are those of the set S
 pub record Filled (S : ℕ → Bool) (to : List ℕ) (u : ℕ) : Type 0 where

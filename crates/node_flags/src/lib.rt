@@ -5,13 +5,13 @@ ghost use Prim.Native.Nat.{ℕ, _<_, _≤_, _%_};
 ghost use lib.Dec.{eqb};
 ghost use lib.ListN.{length};
 ghost use Rattle.integers.specs.Sum.{when};
-ghost use Rattle.integers.specs.Limited.{Limited};
+ghost use Rattle.integers.specs.inner.Limited.{Limited};
 ghost use Rattle.maps.specs.Dart.{rev};
 ghost use Rattle.maps.specs.Cut.{union, intersection};
 ghost use Rattle.arrays.specs.At.{at, atℤ};
-ghost use Rattle.cuts.specs.Cut.{leavesOf, cutOf};
-ghost use Rattle.node_flags.specs.Flags.{Sided};
-ghost use Rattle.arrays.specs.Flags.{flagged};
+ghost use Rattle.cuts.specs.inner.Cut.{leavesOf, cutOf};
+ghost use Rattle.node_flags.specs.inner.Flags.{Sided};
+ghost use Rattle.arrays.specs.inner.Flags.{flagged};
 
 // On which side of a question a set of nodes lies: it holds the source only, the sink only, or both or neither.
 pub enum Side {
@@ -57,7 +57,8 @@ fn both(x: u8, y: u8) -> u8
 // The nodes of either set.
 pub fn unite(a: &[u8; 1024], b: &[u8; 1024], to: &mut [u8; 1024])
     requires { ⌜ length (now to) ≡ 1024 ⌝ }
-    ensures { λ _. ⌜ (length (now (to .exit)) ≡ 1024) × ((u : ℕ) → u < 1024 → flagged (now (to .exit)) u ≡ union (flagged (now (a .entry))) (flagged (now (b .entry))) u) ⌝ }
+    ensures { λ _. ⌜ (length (now (to .exit)) ≡ 1024)
+        × ((u : ℕ) → u < 1024 → flagged (now (to .exit)) u ≡ union (flagged (now (a .entry))) (flagged (now (b .entry))) u) ⌝ }
 {
     for u in 0..1024usize {
         to[u] = either(a[u], b[u]);
@@ -67,7 +68,8 @@ pub fn unite(a: &[u8; 1024], b: &[u8; 1024], to: &mut [u8; 1024])
 // The nodes of both sets.
 pub fn intersect(a: &[u8; 1024], b: &[u8; 1024], to: &mut [u8; 1024])
     requires { ⌜ length (now to) ≡ 1024 ⌝ }
-    ensures { λ _. ⌜ (length (now (to .exit)) ≡ 1024) × ((u : ℕ) → u < 1024 → flagged (now (to .exit)) u ≡ intersection (flagged (now (a .entry))) (flagged (now (b .entry))) u) ⌝ }
+    ensures { λ _. ⌜ (length (now (to .exit)) ≡ 1024)
+        × ((u : ℕ) → u < 1024 → flagged (now (to .exit)) u ≡ intersection (flagged (now (a .entry))) (flagged (now (b .entry))) u) ⌝ }
 {
     for u in 0..1024usize {
         to[u] = both(a[u], b[u]);

@@ -12,7 +12,7 @@ use lib.Bits.{bitOr, or-shifted-r}
 use lib.Count.{ones, ones-step, ones-cat, ones-le}
 use Rattle.integers.specs.Sum.{sum, Naturals, bit, count}
 use Rattle.integers.proofs.Sums.{sum-ext}
-use Rattle.node_sets.specs.Words.{word}
+use Rattle.node_sets.specs.inner.Words.{word}
 
 -- a one shifted within 64 bits
 pub one-shl : (k : ℕ) → k < 64 → 1 * 2 ^ k % 18446744073709551616 ≡ 2 ^ k

@@ -5,7 +5,7 @@ use mathlib.Core.List.{[], _∷_}
 use lib.Count.{ones, onesIn}
 use Rattle.integers.specs.Sum.{bit}
 use Rattle.flows.specs.ProvingSet.{wordsFor, member, size}
-use Rattle.node_sets.specs.Words.{word, setWord}
+use Rattle.node_sets.specs.inner.Words.{word, setWord}
 
 -- of three nodes, 0 and 2 are flagged: bits 0 and 2
 pub nodes-0-and-2 : setWord (1 ∷ 0 ∷ 1 ∷ []) 3 0 ≡ 5

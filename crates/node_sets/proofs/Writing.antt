@@ -15,7 +15,7 @@ use Rattle.integers.specs.Sum.{Naturals, bit, count}
 use Rattle.integers.proofs.Sums.{sum-ext}
 use Rattle.integers.proofs.Tests.{either, ltb-true, ltb-false, ltb-lt}
 use Rattle.flows.specs.ProvingSet.{wordsFor, member, size}
-use Rattle.node_sets.specs.Words.{flag, setWord, Written}
+use Rattle.node_sets.specs.inner.Words.{flag, setWord, Written}
 use Rattle.node_sets.proofs.Bits.{word-below, word-test}
 use Rattle.node_sets.proofs.Size.{size-members}
 
@@ -83,10 +83,12 @@ writing-end inside nodes before after s m = record {
         ∙ word-test (λ k. flag inside nodes (64 * (v / 64) + k)) 64 (v % 64) (omega arith)
         ∙ ap (flag inside nodes) (omega arith)
 
-    past : (i : ℕ) → nodes ≤ i → (ltb (i / 64) (wordsFor nodes) ≡ true) ⊎ (ltb (i / 64) (wordsFor nodes) ≡ false) → member (take (wordsFor nodes) after) i ≡ false
+    past : (i : ℕ) → nodes ≤ i → (ltb (i / 64) (wordsFor nodes) ≡ true) ⊎ (ltb (i / 64) (wordsFor nodes) ≡ false)
+        → member (take (wordsFor nodes) after) i ≡ false
     past i h (inl e) = in-word i (ltb-lt (i / 64) (wordsFor nodes) e) ∙ flag-outside inside nodes i h
     past i h (inr e) =
-        ap (λ (x : ℕ). eqb (x / 2 ^ (i % 64) % 2) 1) (List·getD-eq-default (take (wordsFor nodes) after) 0 (omega (arith, taken, at-least (i / 64) (wordsFor nodes) e)))
+        ap (λ (x : ℕ). eqb (x / 2 ^ (i % 64) % 2) 1)
+        (List·getD-eq-default (take (wordsFor nodes) after) 0 (omega (arith, taken, at-least (i / 64) (wordsFor nodes) e)))
         ∙ ap (λ (x : ℕ). eqb (x % 2) 1) (div-eq-of-lt (pow-pos (i % 64)))
 
 -- ── what a caller has ──

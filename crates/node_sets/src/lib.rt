@@ -5,7 +5,7 @@ ghost use Prim.Native.Nat.{ℕ, _+_, _/_, _^_, _<_, _≤_};
 ghost use lib.ListN.{length, take};
 ghost use lib.Count.{ones};
 ghost use Rattle.flows.specs.ProvingSet.{wordsFor, member, size};
-ghost use Rattle.node_sets.specs.Words.{flag, setWord, Written};
+ghost use Rattle.node_sets.specs.inner.Words.{flag, setWord, Written};
 
 // As many words as the nodes need.
 pub fn words_for(nodes: usize) -> usize

@@ -6,7 +6,7 @@ use native.Mathlib.Omega.{arith}
 use lib.ListN.{length}
 use lib.IntN.{ℤ, pos, negsuc}
 use lib.Signed.{_≤ℤ_, _<ℤ_}
-use Rattle.integers.specs.Limited.{Limited}
+use Rattle.integers.specs.inner.Limited.{Limited}
 use Rattle.integers.proofs.Laws.{lt-or-ge}
 use Rattle.refusals.specs.Order.{_when_, NoneOf}
 use Rattle.refusals.proofs.Order.{append-none}
@@ -14,7 +14,7 @@ use Rattle.maps.specs.Drawing.{Drawing}
 use Rattle.flows.specs.ProvingSet.{wordsFor}
 use Rattle.flows.specs.Check.{withinChecks, balanceChecks, EndOf}
 use Rattle.arrays.specs.At.{atℤ}
-use Rattle.arrays.specs.Sizes.{mostValue}
+use Rattle.arrays.specs.inner.Sizes.{mostValue}
 use Rattle.questions.specs.Question.{endChecks, valueChecks, roomChecks}
 use Rattle.questions.specs.Solve.{questionChecks}
 use Rattle.questions.specs.Largest.{searchChecks}

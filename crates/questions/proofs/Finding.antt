@@ -7,7 +7,7 @@ use lib.ListN.{length}
 use lib.IntN.{ℤ}
 use mir.Syntax.{w32}
 use mir.Val.{toZ, ofZ}
-use Rattle.integers.specs.Limited.{Limited}
+use Rattle.integers.specs.inner.Limited.{Limited}
 use Rattle.refusals.specs.Order.{Check, NoneOf, FirstOf}
 use Rattle.refusals.proofs.Order.{none-append, first-left, first-right}
 use Rattle.signed.proofs.Limits.{same-bits}
@@ -15,9 +15,9 @@ use Rattle.maps.specs.Map.{Map, darts}
 use Rattle.maps.specs.Cut.{cut}
 use Rattle.flows.specs.Highest.{Highest}
 use Rattle.flows.proofs.ValueBound.{cut-small}
-use Rattle.arrays.specs.Flags.{flagged}
-use Rattle.arrays.specs.Sizes.{mostOnSheet}
-use Rattle.maximum.specs.Maximum.{Maximized}
+use Rattle.arrays.specs.inner.Flags.{flagged}
+use Rattle.arrays.specs.inner.Sizes.{mostOnSheet}
+use Rattle.maximum.specs.inner.Maximum.{Maximized}
 use Rattle.maximum.specs.declared.Maximum.{Maximum}
 use Rattle.questions.specs.Question.{endChecks, roomChecks}
 use Rattle.questions.specs.Largest.{searchChecks}

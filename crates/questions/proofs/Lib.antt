@@ -1,3 +1,4 @@
+-- Solve, Largest and Mark on a sound drawing: what the refusals leave, and each way out.
 pub mod Asked
 pub mod Sets
 pub mod Solving

@@ -6,7 +6,7 @@ use Prim.Native.Nat.{ℕ, _*_, _≤_, _<_}
 use native.Mathlib.Omega.{arith}
 use lib.ListN.{length}
 use lib.IntN.{ℤ}
-use Rattle.integers.specs.Limited.{Limited}
+use Rattle.integers.specs.inner.Limited.{Limited}
 use Rattle.integers.proofs.Laws.{lt-le-clash}
 use Rattle.refusals.specs.Order.{Check, _when_, NoneOf, FirstOf, Judged}
 use Rattle.refusals.specs.declared.Verdict.{Verdict}
@@ -17,10 +17,10 @@ use Rattle.maps.specs.Flow.{net}
 use Rattle.flows.specs.Settings.{onDarts}
 use Rattle.flows.specs.Check.{withinChecks, balanceChecks, EndOf}
 use Rattle.arrays.specs.At.{atℤ}
-use Rattle.arrays.specs.Sizes.{mostOnSheet}
-use Rattle.balance.specs.SmallFlows.{SmallFlows}
-use Rattle.balance.specs.NetUpTo.{netUpTo}
-use Rattle.balance.specs.Check.{offChecks}
+use Rattle.arrays.specs.inner.Sizes.{mostOnSheet}
+use Rattle.balance.specs.inner.SmallFlows.{SmallFlows}
+use Rattle.balance.specs.inner.NetUpTo.{netUpTo}
+use Rattle.balance.specs.inner.Check.{offChecks}
 use Rattle.balance.proofs.Nets.{up-to-all}
 use Rattle.balance.proofs.Within.{small-flows}
 use Rattle.balance.proofs.Balance.{judged-ends}

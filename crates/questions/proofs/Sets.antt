@@ -13,11 +13,11 @@ use Rattle.maps.specs.Map.{Map}
 use Rattle.maps.specs.Check.{InRange}
 use Rattle.maps.specs.Cut.{cut}
 use Rattle.flows.specs.ProvingSet.{wordsFor, member, size, Proves}
-use Rattle.flows.specs.Sides.{AtSource, Beside}
+use Rattle.flows.specs.inner.Sides.{AtSource, Beside}
 use Rattle.flows.proofs.Agreement.{cut-agrees, proves-agrees}
 use Rattle.flows.proofs.Interval.{source-proves-next}
-use Rattle.arrays.specs.Flags.{flagged}
-use Rattle.node_sets.specs.Words.{Written}
+use Rattle.arrays.specs.inner.Flags.{flagged}
+use Rattle.node_sets.specs.inner.Words.{Written}
 use Rattle.node_sets.proofs.Writing.{written-whole, written-size}
 use Rattle.questions.specs.Question.{endChecks, SetWritten}
 use Rattle.questions.proofs.Asked.{ends-in}

@@ -9,8 +9,8 @@ use Rattle.refusals.specs.Order.{Check, NoneOf, FirstOf, Judged}
 use Rattle.refusals.specs.declared.Verdict.{Verdict}
 use Rattle.refusals.proofs.Order.{none-append, first-left, first-right}
 use Rattle.maps.specs.Map.{Map}
-use Rattle.solver.specs.Ends.{Ends}
-use Rattle.solver.specs.Decision.{Decided}
+use Rattle.solver.specs.inner.Ends.{Ends}
+use Rattle.solver.specs.inner.Decision.{Decided}
 use Rattle.solver.proofs.Preparing.{decided-for}
 use Rattle.questions.specs.Question.{endChecks, valueChecks, roomChecks}
 use Rattle.questions.specs.Solve.{questionChecks}

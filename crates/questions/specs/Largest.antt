@@ -1,6 +1,6 @@
--- Largest on a drawing. Document 01, "Operations": "Largest refuses as Solve without 15. It gives the largest deliverable value, its highest settings, and a set proving the
--- next greater one impossible. "None" means no whole number can be delivered: settings untouched, and a set holding both or neither of headgate and outfall, outward
--- total below 0."
+-- Largest on a drawing. Document 01, "Operations": "Largest refuses as Solve without 15. It gives the largest deliverable
+-- value, its highest settings, and a set proving the next greater one impossible. "None" means no whole number can be
+-- delivered: settings untouched, and a set holding both or neither of headgate and outfall, outward total below 0."
 use Prim.Native.Nat.{ℕ}
 use mathlib.Core.Path.{_≡_}
 use mathlib.Core.List.{List, _++_}
@@ -23,9 +23,9 @@ unfoldable pub searchChecks : (nodes edges source sink : ℕ) → List ℤ → L
 searchChecks nodes edges source sink flows set = endChecks nodes source sink ++ roomChecks nodes edges (length flows) (length set)
 
 -- What Largest answers, where `checks` are its refusals in order.
--- Value: the highest answer for it stands in the first places of the slice of settings, and a set that proves the next greater value impossible in front of the other.
--- That no greater value can be delivered follows. None: a set that holds both ends or neither, with its outward total below 0; the settings as they were. Refused: both
--- slices as they were.
+-- Value: the highest answer for it stands in the first places of the slice of settings, and a set that proves the next greater value impossible in front of the
+-- other. That no greater value can be delivered follows. None: a set that holds both ends or neither, with its outward total below 0; the settings as they
+-- were. Refused: both slices as they were.
 abbrev pub LargestFound : Drawing → List Check → (source sink : ℕ) → (flows flows' : List ℤ) (set set' : List ℕ) → LargestAnswer → Type 0
 LargestFound 𝓓 checks source sink flows flows' set set' (Value v) =
     NoneOf checks
@@ -34,5 +34,6 @@ LargestFound 𝓓 checks source sink flows flows' set set' (Value v) =
 LargestFound 𝓓 checks source sink flows flows' set set' None =
     NoneOf checks
     × (flows' ≡ flows)
-    × ((words : List ℕ) × SetWritten (𝓓 .map .nodes) words set set' × (member words source ≡ member words sink) × (cut (𝓓 .map) (𝓓 .capacity) (member words) <ℤ pos 0))
+    × ((words : List ℕ) × SetWritten (𝓓 .map .nodes) words set set'
+    × (member words source ≡ member words sink) × (cut (𝓓 .map) (𝓓 .capacity) (member words) <ℤ pos 0))
 LargestFound 𝓓 checks source sink flows flows' set set' (Refused k p) = FirstOf checks k p × (flows' ≡ flows) × (set' ≡ set)

@@ -1,5 +1,5 @@
--- Mark on a drawing. Document 01, "Operations": "Mark takes headgate, outfall, settings." After the checks on the drawing 13, 14; "16 settings shorter than the channels;
--- 17 a setting outside its channel's limits; 18 a node other than those two off balance. It gives the value."
+-- Mark on a drawing. Document 01, "Operations": "Mark takes headgate, outfall, settings." After the checks on the drawing 13, 14; "16 settings shorter than the
+-- channels; 17 a setting outside its channel's limits; 18 a node other than those two off balance. It gives the value."
 use Prim.Native.Nat.{ℕ, _<_}
 use mathlib.Core.Path.{_≡_}
 use mathlib.Core.List.{List, [], _∷_, _++_}

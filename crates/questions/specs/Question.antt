@@ -1,5 +1,5 @@
--- A question's ends, its value, and the slices that its answer needs. Document 01, "Operations": "13 either is no node; 14 they are equal" of the headgate (source)
--- and the outfall (sink); "15 delivery out of range; 16 the settings slice is shorter than the channels or the set slice than its words".
+-- A question's ends, its value, and the slices that its answer needs. Document 01, "Operations": "13 either is no node; 14 they are equal" of the headgate
+-- (source) and the outfall (sink); "15 delivery out of range; 16 the settings slice is shorter than the channels or the set slice than its words".
 use Prim.Native.Nat.{ℕ, _≤_, _<_}
 use mathlib.Core.Path.{_≡_}
 use mathlib.Core.Logic.{_⊎_}

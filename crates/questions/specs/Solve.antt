@@ -1,6 +1,6 @@
--- Solve on a drawing. Document 01, "Operations": "Solve takes headgate, outfall, delivery." After the checks on the drawing: "13 either is no node; 14 they are equal; 15
--- delivery out of range; 16 the settings slice is shorter than the channels or the set slice than its words. "Can" writes the settings only; "cannot" writes the set only
--- and gives its size."
+-- Solve on a drawing. Document 01, "Operations": "Solve takes headgate, outfall, delivery." After the checks on the drawing: "13 either is no node; 14 they are
+-- equal; 15 delivery out of range; 16 the settings slice is shorter than the channels or the set slice than its words. "Can" writes the settings only; "cannot"
+-- writes the set only and gives its size."
 use Prim.Native.Nat.{ℕ}
 use mathlib.Core.Path.{_≡_}
 use mathlib.Core.List.{List, _++_}
@@ -18,7 +18,8 @@ use Rattle.questions.specs.declared.SolveAnswer.the-variants.{Can, Canno
 
 -- 13 to 16, of a drawing with so many nodes and edges
 unfoldable pub questionChecks : (nodes edges source sink : ℕ) → ℤ → List ℤ → List ℕ → List Check
-questionChecks nodes edges source sink value flows set = endChecks nodes source sink ++ (valueChecks value ++ roomChecks nodes edges (length flows) (length set))
+questionChecks nodes edges source sink value flows set =
+    endChecks nodes source sink ++ (valueChecks value ++ roomChecks nodes edges (length flows) (length set))
 
 -- What Solve answers, where `checks` are its refusals in order.
 -- Can: the highest answer, of which there is one, in the first places of the slice of settings, the rest and the set as they were.

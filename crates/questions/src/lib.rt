@@ -1,11 +1,11 @@
 // Questions on a drawing that is open and sound, held in lent arrays: Solve, Largest and Mark with the refusals 13 to 18. They know no bytes.
 ghost use Prim.Native.Nat.{ℕ, _*_, _<_, _≤_};
-ghost use Rattle.integers.specs.Limited.{Limited};
+ghost use Rattle.integers.specs.inner.Limited.{Limited};
 ghost use Rattle.refusals.specs.Order.{Decides, Judged};
 ghost use Rattle.arrays.specs.At.{at, atℤ};
-ghost use Rattle.arrays.specs.Drawn.{Drawn};
+ghost use Rattle.arrays.specs.inner.Drawn.{Drawn};
 ghost use Rattle.arrays.specs.Maps.{mapOf, drawingOf};
-ghost use Rattle.arrays.specs.Sizes.{mostOnSheet};
+ghost use Rattle.arrays.specs.inner.Sizes.{mostOnSheet};
 ghost use Rattle.questions.specs.Question.{endChecks, ValueOutside, roomChecks};
 ghost use Rattle.questions.specs.Solve.{questionChecks, Solved};
 ghost use Rattle.questions.specs.Largest.{searchChecks, LargestFound};

@@ -111,10 +111,12 @@ module _ (s : List ℕ) where
   refused-head k p h = first-left (headChecks s) (edges s ++ leftOver s) k p h
 
   module _ (head : NoneOf (headChecks s)) where
-    pub refused-edge : (e k p : ℕ) → e < edgesOf s → ((i : ℕ) → i < e → NoneOf (edgeRecordChecks s i)) → FirstOf (edgeRecordChecks s e) k p → FirstOf (byteChecks s) k p
+    pub refused-edge : (e k p : ℕ) → e < edgesOf s → ((i : ℕ) → i < e → NoneOf (edgeRecordChecks s i))
+        → FirstOf (edgeRecordChecks s e) k p → FirstOf (byteChecks s) k p
     unfolding byteChecks
     refused-edge e k p l h g =
-        first-right (headChecks s) (edges s ++ leftOver s) k p head (first-left (edges s) (leftOver s) k p (first-in-turn (edgesOf s) (edgeRecordChecks s) e k p l h g))
+        first-right (headChecks s) (edges s ++ leftOver s) k p head
+        (first-left (edges s) (leftOver s) k p (first-in-turn (edgesOf s) (edgeRecordChecks s) e k p l h g))
 
     pub refused-left : ((i : ℕ) → i < edgesOf s → NoneOf (edgeRecordChecks s i)) → FirstOf (leftOver s) 8 0 → FirstOf (byteChecks s) 8 0
     unfolding byteChecks
@@ -123,4 +125,5 @@ module _ (s : List ℕ) where
 
     pub all-passed : ((i : ℕ) → i < edgesOf s → NoneOf (edgeRecordChecks s i)) → NoneOf (leftOver s) → NoneOf (byteChecks s)
     unfolding byteChecks
-    all-passed h g = none-append (headChecks s) (edges s ++ leftOver s) head (none-append (edges s) (leftOver s) (none-in-turn (edgesOf s) (edgeRecordChecks s) h) g)
+    all-passed h g =
+        none-append (headChecks s) (edges s ++ leftOver s) head (none-append (edges s) (leftOver s) (none-in-turn (edgesOf s) (edgeRecordChecks s) h) g)

@@ -39,8 +39,9 @@ module _ (nodes edges outer : ℕ) (passed : NoneOf (numberChecks nodes edges ou
   pub counts-range : (2 ≤ nodes) × (nodes ≤ 513) × (1 ≤ edges) × (edges ≤ 512)
   unfolding NoneOf numberChecks
   counts-range =
-      let h = passed .0 in
-      (omega (arith, not-left (not-left h)), omega (arith, not-right (not-left h)), omega (arith, not-left (not-right h)), omega (arith, not-right (not-right h)))
+      let nodes-in = not-left (passed .0) in
+      let edges-in = not-right (passed .0) in
+      (omega (arith, not-left nodes-in), omega (arith, not-right nodes-in), omega (arith, not-left edges-in), omega (arith, not-right edges-in))
 
   pub outer-range : outer < 2 * edges
   unfolding NoneOf numberChecks
@@ -51,8 +52,12 @@ module _ (𝓓 : Drawing) (passed : (e : ℕ) → e < 𝓓 .map .edges → NoneO
   unfolding NoneOf edgeChecks fieldChecks
   drawing-range =
       record {
-        tail-in = by-edge (𝓓 .map .edges) (λ d. 𝓓 .map .tail d < 𝓓 .map .nodes) (λ e l. omega (arith, not-left (passed e l .0))) (λ e l. omega (arith, not-right (passed e l .0)));
-        rotation-in = by-edge (𝓓 .map .edges) (λ d. 𝓓 .map .rotation d < 2 * 𝓓 .map .edges) (λ e l. omega (arith, not-left (passed e l .1 .0))) (λ e l. omega (arith, not-right (passed e l .1 .0)));
+        tail-in =
+            by-edge (𝓓 .map .edges) (λ d. 𝓓 .map .tail d < 𝓓 .map .nodes)
+            (λ e l. omega (arith, not-left (passed e l .0))) (λ e l. omega (arith, not-right (passed e l .0)));
+        rotation-in =
+            by-edge (𝓓 .map .edges) (λ d. 𝓓 .map .rotation d < 2 * 𝓓 .map .edges)
+            (λ e l. omega (arith, not-left (passed e l .1 .0))) (λ e l. omega (arith, not-right (passed e l .1 .0)));
       }
 
   pub drawing-capacities : (d : ℕ) → d < 2 * 𝓓 .map .edges → CapacityOutside (𝓓 .capacity d) → ⊥

@@ -45,7 +45,8 @@ module _ (𝓓 : Drawing) (fit : Encodable 𝓓) (h : List ℕ) (head : HeadOf �
   unfolding NoneOf
   end-accepted = ((λ l. omega (arith, long, head .edges)), tt)
 
-  headed-accepted : NoneOf (numberChecks (𝓓 .map .nodes) (𝓓 .map .edges) (𝓓 .outer)) → ((e : ℕ) → e < 𝓓 .map .edges → NoneOf (edgeChecks 𝓓 e)) → NoneOf (byteChecks bytes)
+  headed-accepted : NoneOf (numberChecks (𝓓 .map .nodes) (𝓓 .map .edges) (𝓓 .outer))
+      → ((e : ℕ) → e < 𝓓 .map .edges → NoneOf (edgeChecks 𝓓 e)) → NoneOf (byteChecks bytes)
   unfolding byteChecks
   headed-accepted numbers edges =
       let end : List Check = (8 when edgeAt bytes (edgesOf bytes) < length bytes) ∷ [] in
@@ -54,11 +55,12 @@ module _ (𝓓 : Drawing) (fit : Encodable 𝓓) (h : List ℕ) (head : HeadOf �
       (none-append turns end (none-in-turn (edgesOf bytes) (edgeRecordChecks bytes) (edge-accepted edges)) end-accepted)
 
 module _ (𝓓 : Drawing) (fit : Encodable 𝓓) where
-  pub encode-accepted : NoneOf (numberChecks (𝓓 .map .nodes) (𝓓 .map .edges) (𝓓 .outer)) → ((e : ℕ) → e < 𝓓 .map .edges → NoneOf (edgeChecks 𝓓 e)) → NoneOf (byteChecks (encode 𝓓))
+  pub encode-accepted : NoneOf (numberChecks (𝓓 .map .nodes) (𝓓 .map .edges) (𝓓 .outer))
+      → ((e : ℕ) → e < 𝓓 .map .edges → NoneOf (edgeChecks 𝓓 e)) → NoneOf (byteChecks (encode 𝓓))
   unfolding encode
   encode-accepted = headed-accepted 𝓓 fit (encodeHead 𝓓) (outer-head 𝓓 fit)
 
-  pub plain-accepted : 𝓓 .outer ≡ 0 → NoneOf (numberChecks (𝓓 .map .nodes) (𝓓 .map .edges) (𝓓 .outer)) → ((e : ℕ) → e < 𝓓 .map .edges → NoneOf (edgeChecks 𝓓 e))
-      → NoneOf (byteChecks (encodePlain 𝓓))
+  pub plain-accepted : 𝓓 .outer ≡ 0 → NoneOf (numberChecks (𝓓 .map .nodes) (𝓓 .map .edges) (𝓓 .outer))
+      → ((e : ℕ) → e < 𝓓 .map .edges → NoneOf (edgeChecks 𝓓 e)) → NoneOf (byteChecks (encodePlain 𝓓))
   unfolding encodePlain
   plain-accepted zero = headed-accepted 𝓓 fit (plainHead 𝓓) (plain-head 𝓓 fit zero)

@@ -78,7 +78,8 @@ unfoldable one-edge : List ℕ
 one-edge = 1 ∷ 2 ∷ 0 ∷ 1 ∷ 0 ∷ 2 ∷ 0 ∷ 0 ∷ 1 ∷ 0 ∷ 0 ∷ 0 ∷ 1 ∷ 0 ∷ 5 ∷ 0 ∷ 0 ∷ 0 ∷ 251 ∷ 255 ∷ 255 ∷ 255 ∷ []
 
 one-edge-passes : Judged (byteChecks one-edge) Passed
-unfolding NoneOf inTurn byteChecks headChecks headRecordChecks headLength outerOf edgeRecordChecks recordChecks numberChecks edgeChecks fieldChecks tailOf rotationOf capacityOf u16At u32At i32At one-edge
+unfolding NoneOf inTurn byteChecks headChecks headRecordChecks headLength outerOf edgeRecordChecks recordChecks numberChecks
+    edgeChecks fieldChecks tailOf rotationOf capacityOf u16At u32At i32At one-edge
 one-edge-passes = (
   λ h. omega arith,
   (
@@ -87,25 +88,28 @@ one-edge-passes = (
       λ h. omega arith,
       (
         neither (neither (λ h. omega arith) (λ h. omega arith)) (neither (λ h. omega arith) (λ h. omega arith)),
-        (λ h. omega arith, (
+        (
           λ h. omega arith,
           (
-            λ h. h refl,
+            λ h. omega arith,
             (
-              λ h. omega arith,
+              λ h. h refl,
               (
-                neither (λ h. omega arith) (λ h. omega arith),
+                λ h. omega arith,
                 (
                   neither (λ h. omega arith) (λ h. omega arith),
                   (
-                    neither (neither (λ h. h .lt) (λ h. h .lt)) (neither (λ h. h .lt) (λ h. h .lt)),
-                    ((λ h. h .lt), (λ h. omega arith, tt)),
+                    neither (λ h. omega arith) (λ h. omega arith),
+                    (
+                      neither (neither (λ h. h .lt) (λ h. h .lt)) (neither (λ h. h .lt) (λ h. h .lt)),
+                      ((λ h. h .lt), (λ h. omega arith, tt)),
+                    ),
                   ),
                 ),
               ),
             ),
           ),
-        )),
+        ),
       ),
     ),
   ),
@@ -113,7 +117,8 @@ one-edge-passes = (
 
 -- the same with a byte after it: 8
 one-byte-more : Judged (byteChecks (one-edge ++ (0 ∷ []))) (Refused 8 0)
-unfolding FirstOf inTurn byteChecks headChecks headRecordChecks headLength outerOf edgeRecordChecks recordChecks numberChecks edgeChecks fieldChecks tailOf rotationOf capacityOf u16At u32At i32At one-edge
+unfolding FirstOf inTurn byteChecks headChecks headRecordChecks headLength outerOf edgeRecordChecks recordChecks numberChecks
+    edgeChecks fieldChecks tailOf rotationOf capacityOf u16At u32At i32At one-edge
 one-byte-more =
     inr (
       λ h. omega arith,
@@ -123,25 +128,28 @@ one-byte-more =
           λ h. omega arith,
           inr (
             neither (neither (λ h. omega arith) (λ h. omega arith)) (neither (λ h. omega arith) (λ h. omega arith)),
-            inr (λ h. omega arith, inr (
+            inr (
               λ h. omega arith,
               inr (
-                λ h. h refl,
+                λ h. omega arith,
                 inr (
-                  λ h. omega arith,
+                  λ h. h refl,
                   inr (
-                    neither (λ h. omega arith) (λ h. omega arith),
+                    λ h. omega arith,
                     inr (
                       neither (λ h. omega arith) (λ h. omega arith),
                       inr (
-                        neither (neither (λ h. h .lt) (λ h. h .lt)) (neither (λ h. h .lt) (λ h. h .lt)),
-                        inr ((λ h. h .lt), inl (omega arith, refl, refl)),
+                        neither (λ h. omega arith) (λ h. omega arith),
+                        inr (
+                          neither (neither (λ h. h .lt) (λ h. h .lt)) (neither (λ h. h .lt) (λ h. h .lt)),
+                          inr ((λ h. h .lt), inl (omega arith, refl, refl)),
+                        ),
                       ),
                     ),
                   ),
                 ),
               ),
-            )),
+            ),
           ),
         ),
       ),

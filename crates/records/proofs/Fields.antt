@@ -42,7 +42,8 @@ module _ (s : List ℕ) (e : ℕ) (h : e < edgesOf s) where
   -- the checks of an edge of a sheet are those of its record's fields
   pub edge-fields : edgeChecks (sheetDrawing s) e
       ≡ fieldChecks (nodesOf s) (edgesOf s)
-      (u16At s (edgeAt s e + 1)) (u16At s (edgeAt s e + 3)) (u16At s (edgeAt s e + 5)) (u16At s (edgeAt s e + 7)) (i32At s (edgeAt s e + 9)) (i32At s (edgeAt s e + 13))
+      (u16At s (edgeAt s e + 1)) (u16At s (edgeAt s e + 3)) (u16At s (edgeAt s e + 5)) (u16At s (edgeAt s e + 7))
+      (i32At s (edgeAt s e + 9)) (i32At s (edgeAt s e + 13))
   unfolding edgeChecks
   edge-fields = rw (tail-even, tail-odd, rotation-even, rotation-odd, capacity-even, capacity-odd)
 

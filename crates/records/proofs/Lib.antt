@@ -1,3 +1,4 @@
+-- Records and fields of a sheet: the byte checks, what they leave, and the round trip.
 pub mod Record
 pub mod Head
 pub mod Fields
@@ -11,3 +12,5 @@ pub mod Encodable
 pub mod Decode
 pub mod EncodeAccepted
 pub mod RoundTripExample
+pub mod Deciding
+pub mod EdgeRead

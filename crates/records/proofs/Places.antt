@@ -129,7 +129,8 @@ module _ (h : List ℕ) (𝓓 : Drawing) (e : ℕ) where
 
 -- ── a part of a part, and the field that it is ──
 -- cs stands k into bs, and reaches to m
-pub stands-inside : {at : ℕ} {bs s : List ℕ} (k m : ℕ) (cs : List ℕ) → StandsAt at bs s → k ≤ length bs → bs ≡ take k bs ++ (cs ++ drop m bs) → StandsAt (at + k) cs s
+pub stands-inside : {at : ℕ} {bs s : List ℕ} (k m : ℕ) (cs : List ℕ) → StandsAt at bs s
+    → k ≤ length bs → bs ≡ take k bs ++ (cs ++ drop m bs) → StandsAt (at + k) cs s
 stands-inside {at} {bs} {s} k m cs r l p =
     record {
       before = r .before ++ take k bs;

@@ -1,5 +1,5 @@
--- A sheet that the checks on bytes accept is the bytes of the drawing read from it: with a head of kind 4 those that Write writes, with a head of kind 1 those with
--- such a head. What Write writes of a sheet of kind 1 has the kind 4, the same counts, dart 0, and the same edges (document 02, Job 6).
+-- A sheet that the checks on bytes accept is the bytes of the drawing read from it: with a head of kind 4 those that Write writes, with a head of kind 1 those
+-- with such a head. What Write writes of a sheet of kind 1 has the kind 4, the same counts, dart 0, and the same edges (document 02, Job 6).
 use mathlib.Core.Path.{_≡_, refl, sym, _∙_, ap, ap₂}
 use mathlib.Core.List.{List, [], _∷_, _++_}
 use Prim.Native.Nat.{ℕ, zero, suc, _+_, _*_, _≤_, _<_}

@@ -1,5 +1,5 @@
--- The bytes of a drawing: what Write writes. One head, then the edges in order, nothing after (document 01, "Records of a sheet"). Document 02, Job 6: Write takes
--- the outer dart "and always writes kind 4"; "Practice sheets keep kind 1."
+-- The bytes of a drawing: what Write writes. One head, then the edges in order, nothing after (document 01, "Records of a sheet"). Document 02, Job 6: Write
+-- takes the outer dart "and always writes kind 4"; "Practice sheets keep kind 1."
 use Prim.Native.Nat.{ℕ, zero, suc, _+_, _*_}
 use mathlib.Core.List.{List, [], _∷_, _++_}
 use lib.IntN.{ℤ}
@@ -18,7 +18,8 @@ outerHeadBytes nodes edges outer = 4 ∷ (le16 nodes ++ (le16 edges ++ le16 oute
 
 -- an edge's record, with its fields in their order
 abbrev pub edgeBytes : (tail head rotation backRotation : ℕ) (forward backward : ℤ) → List ℕ
-edgeBytes tail head rotation backRotation forward backward = 2 ∷ (le16 tail ++ (le16 head ++ (le16 rotation ++ (le16 backRotation ++ (le32 forward ++ le32 backward)))))
+edgeBytes tail head rotation backRotation forward backward =
+    2 ∷ (le16 tail ++ (le16 head ++ (le16 rotation ++ (le16 backRotation ++ (le32 forward ++ le32 backward)))))
 
 unfoldable pub encodeHead : Drawing → List ℕ
 encodeHead 𝓓 = outerHeadBytes (𝓓 .map .nodes) (𝓓 .map .edges) (𝓓 .outer)
@@ -28,7 +29,8 @@ plainHead 𝓓 = headBytes (𝓓 .map .nodes) (𝓓 .map .edges)
 
 unfoldable pub encodeEdge : Drawing → ℕ → List ℕ
 encodeEdge 𝓓 e =
-    edgeBytes (𝓓 .map .tail (2 * e)) (𝓓 .map .tail (2 * e + 1)) (𝓓 .map .rotation (2 * e)) (𝓓 .map .rotation (2 * e + 1)) (𝓓 .capacity (2 * e)) (𝓓 .capacity (2 * e + 1))
+    edgeBytes (𝓓 .map .tail (2 * e)) (𝓓 .map .tail (2 * e + 1)) (𝓓 .map .rotation (2 * e))
+    (𝓓 .map .rotation (2 * e + 1)) (𝓓 .capacity (2 * e)) (𝓓 .capacity (2 * e + 1))
 
 -- the first n edges
 unfoldable pub encodeEdges : Drawing → ℕ → List ℕ

@@ -1,6 +1,6 @@
--- A sheet's bytes, and the checks 1 to 8 on them. Document 01, "Records of a sheet": "Kind 1, head: node count, channel count (16 each). Kind 2, channel: tail,
--- head, turn of dart 2e, turn of dart 2e+1 (16 each), forward limit, back limit (32 each)." "A sheet is one head and then its channels in order, nothing after."
--- Document 02, Job 6: "A head of kind 4 has a body of 6 bytes: the two counts, then a dart of 16 bits on the outer face."
+-- A sheet's bytes, and the checks 1 to 8 on them. Document 01, "Records of a sheet": "Kind 1, head: node count, channel count (16 each). Kind 2, channel:
+-- tail, head, turn of dart 2e, turn of dart 2e+1 (16 each), forward limit, back limit (32 each)." "A sheet is one head and then its channels in order, nothing
+-- after." Document 02, Job 6: "A head of kind 4 has a body of 6 bytes: the two counts, then a dart of 16 bits on the outer face."
 use Prim.Native.Nat.{ℕ, _+_, _*_, _/_, _%_, _≤_, _<_}
 use mathlib.Core.Logic.{_≢_}
 use mathlib.Core.Bool.{cond}

@@ -20,7 +20,10 @@ A-passes = (passes A-sound A-connected A-flat, (λ d l. refl), refl)
 twisted-refused : Judged (mapChecks twistedA) (Refused 12 0)
 unfolding FirstOf mapChecks
 twisted-refused =
-    inr (no-rotation-fault twisted-sound, inr (no-node-fault twisted-sound, inr ((λ r. r .4 (twisted-connected (r .0) (r .1) (r .2) (r .3))), inl (twisted-not-flat, refl, refl))))
+    inr (
+      no-rotation-fault twisted-sound,
+      inr (no-node-fault twisted-sound, inr ((λ r. r .4 (twisted-connected (r .0) (r .1) (r .2) (r .3))), inl (twisted-not-flat, refl, refl))),
+    )
 
 -- A with a node 2 that no dart leaves: not connected either, and refused 10
 abbrev withBareNode : Map

@@ -9,7 +9,7 @@ use lib.ListN.{replicate, length-replicate, getD-replicate, List·getD-eq-defaul
 use Rattle.integers.specs.Sum.{sum, bit}
 use Rattle.integers.proofs.Tests.{eqb-true, eqb-false}
 use Rattle.arrays.specs.At.{at}
-use Rattle.rotations.specs.Holding.{holding}
+use Rattle.rotations.specs.inner.Holding.{holding}
 
 holding-suc : (x n : ℕ) (g : ℕ → ℕ) → holding x (suc n) g ≡ holding x n g + bit (eqb (g n) x)
 unfolding holding sum
@@ -36,7 +36,8 @@ pub holding-less : (x n : ℕ) (g h : ℕ → ℕ) (z : ℕ) → z < n → g z �
 holding-less x zero g h z l a b e = absurd (omega arith)
 holding-less x (suc n) g h z l a b e = go (ℕ-discrete z n) (holding-less x n g h z)
   where
-    go : Dec (z ≡ n) → (z < n → g z ≡ x → h z ≢ x → ((y : ℕ) → y ≢ z → h y ≡ g y) → holding x n h + 1 ≡ holding x n g) → holding x (suc n) h + 1 ≡ holding x (suc n) g
+    go : Dec (z ≡ n) → (z < n → g z ≡ x → h z ≢ x → ((y : ℕ) → y ≢ z → h y ≡ g y) → holding x n h + 1 ≡ holding x n g)
+        → holding x (suc n) h + 1 ≡ holding x (suc n) g
     go (yes p) r =
         let rest = holding-same x n g h (λ y m. e y (λ q. omega (arith, p))) in
         omega (arith, last-not x n h (rw p at b), last-holds x n g (rw p at a))

@@ -1,3 +1,4 @@
+-- Orbits numbered by lowest member, and the checks 9 to 12.
 pub mod Holding
 pub mod Trail
 pub mod Numbering

@@ -11,8 +11,8 @@ use Rattle.integers.proofs.Counting.{bit-le, sum-le-size}
 use Rattle.maps.specs.Orbit.{Orbit, lowest, isLowest, orbits, orbitOf, Permutes}
 use Rattle.maps.proofs.Orbits.{lowest-orbit, lowest-below, lowest-same, orbit-sym, orbit-in, orbit-decided}
 use Rattle.maps.proofs.Numbering.{orbitOf-below}
-use Rattle.rotations.specs.Marking.{Markable, Marked}
-use Rattle.traversal.specs.Mark.{unmarked}
+use Rattle.rotations.specs.inner.Marking.{Markable, Marked}
+use Rattle.traversal.specs.inner.Mark.{unmarked}
 
 count-le-size : (n : ℕ) (b : ℕ → Bool) → count n b ≤ n
 count-le-size n b = sum-le-size n (λ i. bit (b i)) (λ i l. bit-le (b i))

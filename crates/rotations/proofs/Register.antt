@@ -12,7 +12,7 @@ use Rattle.maps.specs.Map.{Map, darts}
 use Rattle.maps.specs.Check.{InRange, RotationFault, NodeFault}
 use Rattle.maps.proofs.Numbering.{orbitOf-along, orbitOf-same}
 use Rattle.arrays.specs.At.{at}
-use Rattle.rotations.specs.Register.{Register, Clash}
+use Rattle.rotations.specs.inner.Register.{Register, Clash}
 
 -- ── entering places one by one ──
 pub register-none : (key value table : ℕ → ℕ) → ((k : ℕ) → table k ≡ 0) → Register key value table 0
@@ -35,7 +35,8 @@ module _ {key value table : ℕ → ℕ} {n : ℕ} (ρ : Register key value tabl
       more k (inr r) = inr (r .0, omega (arith, r .1), r .2, r .3)
 
   -- the key is new
-  new-entry : (table' : ℕ → ℕ) → table (key n) ≡ 0 → table' (key n) ≡ value n + 1 → ((k : ℕ) → k ≢ key n → table' k ≡ table k) → Register key value table' (n + 1)
+  new-entry : (table' : ℕ → ℕ) → table (key n) ≡ 0 → table' (key n) ≡ value n + 1
+      → ((k : ℕ) → k ≢ key n → table' k ≡ table k) → Register key value table' (n + 1)
   new-entry table' z put other = record { entered = λ d l. each d l (ℕ-discrete d n); from = λ k. more k (ℕ-discrete k (key n)) (ρ .from k) }
     where
       each : (d : ℕ) → d < n + 1 → Dec (d ≡ n) → table' (key d) ≡ value d + 1
@@ -60,7 +61,8 @@ module _ {key value table : ℕ → ℕ} {n : ℕ} (ρ : Register key value tabl
   clash l h g = let r = earlier h in (r .0, n, omega (arith, r .1), l, r .2, λ e. g (r .3 ∙ ap (λ x. x + 1) e))
 
 -- a new key, in an array: k and v are the key and the entry as the code has them
-pub register-new : {key value : ℕ → ℕ} {n : ℕ} (table : List ℕ) (k v : ℕ) → Register key value (at table) n → k < length table → k ≡ key n → v ≡ value n + 1 → at table k ≡ 0
+pub register-new : {key value : ℕ → ℕ} {n : ℕ} (table : List ℕ) (k v : ℕ)
+    → Register key value (at table) n → k < length table → k ≡ key n → v ≡ value n + 1 → at table k ≡ 0
     → Register key value (at (set table k v)) (n + 1)
 register-new table k v ρ l is-key is-value z =
     new-entry ρ (at (set table k v)) (ap (at table) (sym is-key) ∙ z)
@@ -81,9 +83,11 @@ module _ (𝓜 : Map) {table : ℕ → ℕ} where
       omega (arith, r .2)
 
 -- ── 10: the nodes are the keys, and the rounds of the rotation the values ──
-module _ {𝓜 : Map} (range : InRange 𝓜) (π : Permutes (darts 𝓜) (𝓜 .rotation)) {round : ℕ → ℕ} (rounds : (d : ℕ) → d < darts 𝓜 → round d ≡ orbitOf (darts 𝓜) (𝓜 .rotation) d) where
+module _ {𝓜 : Map} (range : InRange 𝓜) (π : Permutes (darts 𝓜) (𝓜 .rotation)) {round : ℕ → ℕ}
+    (rounds : (d : ℕ) → d < darts 𝓜 → round d ≡ orbitOf (darts 𝓜) (𝓜 .rotation) d) where
   pub two-rounds : Clash (𝓜 .tail) round (darts 𝓜) → NodeFault 𝓜
-  two-rounds (c, d, lc, ld, e, h) = (𝓜 .tail c, range .tail-in c lc, inr (c, d, lc, ld, refl, sym e, λ o. h (rounds c lc ∙ orbitOf-along π c d lc o ∙ sym (rounds d ld))))
+  two-rounds (c, d, lc, ld, e, h) =
+      (𝓜 .tail c, range .tail-in c lc, inr (c, d, lc, ld, refl, sym e, λ o. h (rounds c lc ∙ orbitOf-along π c d lc o ∙ sym (rounds d ld))))
 
   module _ {owner : ℕ → ℕ} (ρ : Register (𝓜 .tail) round owner (darts 𝓜)) where
     pub no-dart : (v : ℕ) × (v < 𝓜 .nodes) × (owner v ≡ 0) → NodeFault 𝓜

@@ -10,9 +10,9 @@ use lib.Seq.{getD-set-same, getD-set-other}
 use Rattle.maps.specs.Orbit.{iter, Orbit, Permutes}
 use Rattle.maps.proofs.Orbits.{iter-zero, iter-suc, iter-in}
 use Rattle.arrays.specs.At.{at}
-use Rattle.rotations.specs.Holding.{holding}
-use Rattle.rotations.specs.Marking.{Markable, Marked}
-use Rattle.traversal.specs.Mark.{unmarked}
+use Rattle.rotations.specs.inner.Holding.{holding}
+use Rattle.rotations.specs.inner.Marking.{Markable, Marked}
+use Rattle.traversal.specs.inner.Mark.{unmarked}
 use Rattle.rotations.proofs.Holding.{holding-less}
 
 -- two places of a walk that are equal: the steps between them lead round
@@ -22,7 +22,8 @@ round-between π s (suc i) zero l h e = absurd (omega arith)
 round-between {next = next} π s (suc i) (suc k) l h e =
     let q : suc k - suc i ≡ k - i = omega arith in
     ap (λ m. iter next m s) q
-    ∙ round-between π s i k l (omega arith) (π .apart (iter next i s) (iter next k s) (iter-in π i s l) (iter-in π k s l) (sym (iter-suc next i s) ∙ e ∙ iter-suc next k s))
+    ∙ round-between π s i k l (omega arith)
+    (π .apart (iter next i s) (iter next k s) (iter-in π i s l) (iter-in π k s l) (sym (iter-suc next i s) ∙ e ∙ iter-suc next k s))
 
 -- once round, the places come again
 wrap : (next : ℕ → ℕ) (s k : ℕ) → iter next (suc k) s ≡ s → (i : ℕ) → (m : ℕ) × (m < suc k) × (iter next i s ≡ iter next m s)
@@ -56,7 +57,8 @@ set-off next before start number = record {
   away = λ i a b. absurd (omega arith);
 }
 
-module _ {n : ℕ} {next before after : ℕ → ℕ} {start number k x : ℕ} (μ : Markable n next before start number) (w : Walking next before after start number k x) where
+module _ {n : ℕ} {next before after : ℕ → ℕ} {start number k x : ℕ}
+    (μ : Markable n next before start number) (w : Walking next before after start number k x) where
   pub still-in : x < n
   still-in = rw (w .trail .here) at (iter-in (μ .permutes) k start (μ .inside))
 
@@ -101,7 +103,8 @@ module _ {n : ℕ} {next before after : ℕ → ℕ} {start number k x : ℕ} (�
     less = omega (arith, holding-less unmarked n after after' x still-in fresh (λ e. omega (arith, put, e, μ .small)) kept)
 
 -- the same of an array of labels
-module _ {n : ℕ} {next before : ℕ → ℕ} {start number k x : ℕ} (label : List ℕ) (long : length label ≡ 1024) (μ : Markable n next before start number) (w : Walking next before (at label) start number k x) where
+module _ {n : ℕ} {next before : ℕ → ℕ} {start number k x : ℕ} (label : List ℕ) (long : length label ≡ 1024)
+    (μ : Markable n next before start number) (w : Walking next before (at label) start number k x) where
   put : at (set label x number) x ≡ number
   put = getD-set-same label x number 0 (omega (arith, still-in μ w, μ .few, long))
 

@@ -1,4 +1,2 @@
-pub mod Holding
-pub mod Marking
-pub mod Register
 pub mod MapChecks
+pub mod inner

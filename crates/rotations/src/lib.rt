@@ -9,8 +9,8 @@ ghost use Rattle.maps.specs.Orbit.{orbits, orbitOf, Permutes};
 ghost use Rattle.maps.specs.Check.{InRange, RotationFault, NodeFault, Disconnected, Sound};
 ghost use Rattle.arrays.specs.At.{at};
 ghost use Rattle.arrays.specs.Maps.{mapOf};
-ghost use Rattle.rotations.specs.Marking.{Markable, Marked};
-ghost use Rattle.rotations.specs.Register.{Entered};
+ghost use Rattle.rotations.specs.inner.Marking.{Markable, Marked};
+ghost use Rattle.rotations.specs.inner.Register.{Entered};
 ghost use Rattle.rotations.specs.MapChecks.{MapJudged};
 use arrays::narrow;
 use arrays::wide;
@@ -37,9 +37,10 @@ fn mark_orbit(next: &[u16; 1024], n: usize, start: usize, number: u16, label: &m
 }
 
 // Numbers the orbits from 0 in order of their lowest members, and says how many they are. The first place of an orbit that the loop meets is its lowest.
-pub fn number_orbits(next: &[u16; 1024], n: usize, label: &mut [u16; 1024]) -> usize
+fn number_orbits(next: &[u16; 1024], n: usize, label: &mut [u16; 1024]) -> usize
     requires { ⌜ (length (now label) ≡ 1024) × (n ≤ 1024) × Permutes n (at (now next)) ⌝ }
-    ensures { λ r. ⌜ (length (now (label .exit)) ≡ 1024) × (r ≡ orbits n (at (now (next .entry)))) × ((d : ℕ) → d < n → at (now (label .exit)) d ≡ orbitOf n (at (now (next .entry))) d) ⌝ }
+    ensures { λ r. ⌜ (length (now (label .exit)) ≡ 1024) × (r ≡ orbits n (at (now (next .entry))))
+        × ((d : ℕ) → d < n → at (now (label .exit)) d ≡ orbitOf n (at (now (next .entry))) d) ⌝ }
 {
     traversal::unmark_all(label);
     let mut f: usize = 0;
@@ -55,7 +56,7 @@ pub fn number_orbits(next: &[u16; 1024], n: usize, label: &mut [u16; 1024]) -> u
 }
 
 // Check 9: "a turn has another tail, or two darts have one turn". `origin` holds, for each dart met as a rotation, 1 more than the dart that it follows.
-pub fn rotation_fault<'a>(
+fn rotation_fault<'a>(
     tails: &'a [u16; 1024],
     rotations: &'a [u16; 1024],
     nodes: usize,
@@ -88,7 +89,8 @@ fn enter_all<'a>(
     n: usize,
     table: &mut [u16; 1024],
 ) -> bool
-    requires { ⌜ (n ≤ 1024) × (length (now table) ≡ 1024) × ((k : ℕ) → at (now table) k ≡ 0) × ((d : ℕ) → d < n → at (now keys) d < 1024) × ((d : ℕ) → d < n → at (now values) d < 1024) ⌝ }
+    requires { ⌜ (n ≤ 1024) × (length (now table) ≡ 1024) × ((k : ℕ) → at (now table) k ≡ 0)
+        × ((d : ℕ) → d < n → at (now keys) d < 1024) × ((d : ℕ) → d < n → at (now values) d < 1024) ⌝ }
     ensures { λ r. ⌜ (length (now (table .exit)) ≡ 1024) × Entered (at (now (keys .entry))) (at (now (values .entry))) (at (now (table .exit))) n r ⌝ }
 {
     let mut d: usize = 0;
@@ -122,13 +124,14 @@ fn some_empty(table: &[u16; 1024], n: usize) -> bool
 }
 
 // Check 10: "some node's darts do not form exactly one round, or it has none". Each node is entered with the round of its darts.
-pub fn node_fault<'a>(
+fn node_fault<'a>(
     tails: &'a [u16; 1024],
     rotations: &'a [u16; 1024],
     nodes: usize,
     edges: usize,
 ) -> bool
-    requires { ⌜ (edges ≤ 512) × (nodes ≤ 1024) × InRange (mapOf nodes edges (now tails) (now rotations)) × (RotationFault (mapOf nodes edges (now tails) (now rotations)) → ⊥) ⌝ }
+    requires { ⌜ (edges ≤ 512) × (nodes ≤ 1024) × InRange (mapOf nodes edges (now tails) (now rotations))
+        × (RotationFault (mapOf nodes edges (now tails) (now rotations)) → ⊥) ⌝ }
     ensures { λ r. ⌜ Decides (NodeFault (mapOf nodes edges (now (tails .entry)) (now (rotations .entry)))) r ⌝ }
 {
     let darts = 2 * edges;
@@ -143,7 +146,7 @@ pub fn node_fault<'a>(
 
 // Check 11: "not connected". From dart 0 the walk goes to the rotation and to the reverse of every dart met. The rounds being nodes, all darts are met if and
 // only if every node is joined to the first; so it reads neither tails nor nodes, which only its contract names.
-pub fn disconnected<'a>(
+fn disconnected<'a>(
     tails: &'a [u16; 1024],
     rotations: &'a [u16; 1024],
     nodes: usize,
@@ -160,7 +163,7 @@ pub fn disconnected<'a>(
 }
 
 // "The face step of a dart is the turn of its reverse."
-pub fn fill_steps(rotations: &[u16; 1024], edges: usize, steps: &mut [u16; 1024])
+fn fill_steps(rotations: &[u16; 1024], edges: usize, steps: &mut [u16; 1024])
     requires { ⌜ (length (now steps) ≡ 1024) × (edges ≤ 512) ⌝ }
     ensures { λ _. ⌜ (length (now (steps .exit)) ≡ 1024) × ((d : ℕ) → d < 2 * edges → at (now (steps .exit)) d ≡ at (now (rotations .entry)) (rev d)) ⌝ }
 {
@@ -197,7 +200,8 @@ pub fn check_map<'a>(
     lefts: &mut [u16; 1024],
 ) -> Checked
     requires { ⌜ (0 < edges) × (edges ≤ 512) × (nodes ≤ 1024) × (length (now lefts) ≡ 1024) × InRange (mapOf nodes edges (now tails) (now rotations)) ⌝ }
-    ensures { λ r. ⌜ (length (now (lefts .exit)) ≡ 1024) × MapJudged (mapOf nodes edges (now (tails .entry)) (now (rotations .entry))) (at (now (lefts .exit))) (r .faces) (r .verdict) ⌝ }
+    ensures { λ r. ⌜ (length (now (lefts .exit)) ≡ 1024)
+        × MapJudged (mapOf nodes edges (now (tails .entry)) (now (rotations .entry))) (at (now (lefts .exit))) (r .faces) (r .verdict) ⌝ }
 {
     if rotation_fault(tails, rotations, nodes, edges) {
         return refused(9);

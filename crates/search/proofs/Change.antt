@@ -34,7 +34,8 @@ pub stored : {A : Type 0} (l : List A) (i : ℕ) (v z : A) → i < length l → 
 stored l i v z b = record { at = λ x e. rw e (getD-set-same l i v z b); off = λ x c. getD-set-other l i x v z c }
 
 -- one more element of an array that is filled from the front
-pub filled-more : {A : Type 0} (l : List A) (i : ℕ) (v z : A) → i < length l → ((k : ℕ) → k < i → getD l k z ≡ v) → (k : ℕ) → k < i + 1 → getD (set l i v) k z ≡ v
+pub filled-more : {A : Type 0} (l : List A) (i : ℕ) (v z : A) → i < length l
+    → ((k : ℕ) → k < i → getD l k z ≡ v) → (k : ℕ) → k < i + 1 → getD (set l i v) k z ≡ v
 filled-more {A} l i v z b h k lk = by (ℕ-discrete k i)
   where
     by : Dec (k ≡ i) → getD (set l i v) k z ≡ v

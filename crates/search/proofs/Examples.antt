@@ -6,9 +6,9 @@ use native.Mathlib.Omega.{arith}
 use lib.IntN.{ℤ, pos, negsuc, _+ℤ_}
 use lib.Signed.{mag, ltZ-yes, leZ-yes}
 use Rattle.maps.specs.Dart.{rev}
-use Rattle.search.specs.Dual.{Dual, dualOf, WellFormed, Joined}
-use Rattle.search.specs.Walk.{Walk, here, onward, stay, cross, total, Ring}
-use Rattle.search.specs.Settled.{Settled}
+use Rattle.search.specs.inner.Dual.{Dual, dualOf, WellFormed, Joined}
+use Rattle.search.specs.inner.Walk.{Walk, here, onward, stay, cross, total, Ring}
+use Rattle.search.specs.inner.Settled.{Settled}
 
 -- the two darts of one edge, of these lengths; the face 0 is left of the dart 0, the face 1 left of the dart 1
 abbrev pub edge : ℤ → ℤ → Dual
@@ -45,7 +45,9 @@ levels (suc f) = negsuc 1
 pub edge-settled : Settled (edge (pos 3) (negsuc 1)) levels
 unfolding rev levels
 edge-settled = record {
-  still = two (λ d. lib.Signed._≤ℤ_ (levels (edge (pos 3) (negsuc 1) .left d)) (levels (edge (pos 3) (negsuc 1) .right d) +ℤ edge (pos 3) (negsuc 1) .length d)) (leZ-yes tt) (leZ-yes tt);
+  still =
+      two (λ d. lib.Signed._≤ℤ_ (levels (edge (pos 3) (negsuc 1) .left d)) (levels (edge (pos 3) (negsuc 1) .right d) +ℤ edge (pos 3) (negsuc 1) .length d))
+      (leZ-yes tt) (leZ-yes tt);
   walk = two (λ f. Walk (edge (pos 3) (negsuc 1)) f (levels f)) here (onward 1 (omega arith) refl refl here);
   rooted = refl;
   near = two (λ f. Prim.Native.Nat._≤_ (mag (levels f)) 2000000000000000000) (omega arith) (omega arith);

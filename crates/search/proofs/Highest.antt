@@ -6,15 +6,16 @@ use native.Mathlib.Omega.{arith}
 use lib.IntN.{ℤ, pos, _+ℤ_, _-ℤ_}
 use lib.Signed.{_≤ℤ_}
 use Rattle.integers.proofs.Omega.{atoms₁, atoms₂, atoms₄, atoms₅, parts, equal, at-most, from-at-most, from-less}
-use Rattle.search.specs.Dual.{Dual}
-use Rattle.search.specs.Walk.{Walk, here, onward, Crossing, stay, cross, total, Ring}
-use Rattle.search.specs.Settled.{Still, Settled}
+use Rattle.search.specs.inner.Dual.{Dual}
+use Rattle.search.specs.inner.Walk.{Walk, here, onward, Crossing, stay, cross, total, Ring}
+use Rattle.search.specs.inner.Settled.{Still, Settled}
 use Rattle.search.proofs.Order.{le-of-eq, carry}
 
 -- potentials that no dart can lower are at most the length of any walk from the root
 pub below-walk : {N : Dual} (τ : ℕ → ℤ) → Still N τ → τ (N .root) ≤ℤ pos 0 → {f : ℕ} {z : ℤ} → Walk N f z → τ f ≤ℤ z
 below-walk τ still low here = low
-below-walk {N} τ still low (onward {f} {z} {w} d l e q r) = rw (← e, q) (carry (τ (N .left d)) (τ (N .right d)) z (N .length d) (still d l) (below-walk τ still low r))
+below-walk {N} τ still low (onward {f} {z} {w} d l e q r) =
+    rw (← e, q) (carry (τ (N .left d)) (τ (N .right d)) z (N .length d) (still d l) (below-walk τ still low r))
 
 pub highest : {N : Dual} {ρ : ℕ → ℤ} → Settled N ρ → (τ : ℕ → ℤ) → Still N τ → τ (N .root) ≡ pos 0 → (f : ℕ) → f < N .faces → τ f ≤ℤ ρ f
 highest s τ still zero f l = below-walk τ still (le-of-eq zero) (s .walk f l)

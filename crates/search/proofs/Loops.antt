@@ -11,13 +11,13 @@ use lib.ListN.{length, getD, set, length-set}
 use lib.IntN.{ℤ, pos, _+ℤ_}
 use lib.Signed.{mag, _≤ℤ_, _<ℤ_}
 use Rattle.maps.specs.Orbit.{iter}
-use Rattle.grouping.specs.Grouped.{Grouped}
-use Rattle.search.specs.Dual.{Dual, WellFormed, Joined}
-use Rattle.search.specs.Walk.{Ring}
-use Rattle.search.specs.Settled.{Settled}
-use Rattle.search.specs.Parents.{up, ParentRing}
+use Rattle.grouping.specs.inner.Grouped.{Grouped}
+use Rattle.search.specs.inner.Dual.{Dual, WellFormed, Joined}
+use Rattle.search.specs.inner.Walk.{Ring}
+use Rattle.search.specs.inner.Settled.{Settled}
+use Rattle.search.specs.inner.Parents.{up, ParentRing}
 use Rattle.arrays.specs.At.{atℤ, at}
-use Rattle.search.specs.Progress.{far, Begun, place, State, Quiet, Passing}
+use Rattle.search.specs.inner.Progress.{far, Begun, place, State, Quiet, Passing}
 use Rattle.search.proofs.Change.{Changed, stored}
 use Rattle.search.proofs.Lowering.{lower, lower-taken, set-stays, quiet-lower}
 use Rattle.search.proofs.Turning.{quiet-weaken, quiet-keep, quiet-take, clear, clear-round, pass, turn, begin-state, begin-quiet}
@@ -95,7 +95,8 @@ module _ {N : Dual} (sound : WellFormed N) where
   pub begin-scan : {ρ : List ℤ} {parents waiting : List ℕ} {n k : ℕ} → Passing N ρ parents waiting n k 0 → Scanning N ρ parents waiting n k 0 false
   begin-scan r = record { passing = r; none = λ _ f l p. absurd (omega arith); some = λ q. let z : _≡_ {A = ℕ} 0 1 = cc in absurd (omega arith) }
 
-  pub next-round : {ρ : List ℤ} {parents waiting : List ℕ} {n k a : ℕ} {any : Bool} → Scanning N ρ parents waiting n k a any → N .faces ≤ a → any ≡ true → Passing N ρ parents waiting n (k + 1) 0
+  pub next-round : {ρ : List ℤ} {parents waiting : List ℕ} {n k a : ℕ} {any : Bool}
+      → Scanning N ρ parents waiting n k a any → N .faces ≤ a → any ≡ true → Passing N ρ parents waiting n (k + 1) 0
   next-round {ρ} {parents} {waiting} {n} {k} {a} r all e = record {
     size-ρ = r .passing .size-ρ;
     size-parents = r .passing .size-parents;
@@ -103,12 +104,15 @@ module _ {N : Dual} (sound : WellFormed N) where
     k-in = omega (arith, r .some e);
     a-in = omega arith;
     lowerings = omega (arith, r .passing .lowerings, r .passing .a-in, sound .few-faces);
-    state = turn (r .passing .state) (k + 1) (add-one k) (λ f. place (N .faces) (k + 1) f < 0) (λ f l. omega (arith, place-in (N .faces) k f l)) (λ f l p. omega arith);
+    state =
+        turn (r .passing .state) (k + 1) (add-one k) (λ f. place (N .faces) (k + 1) f < 0)
+        (λ f l. omega (arith, place-in (N .faces) k f l)) (λ f l p. omega arith);
     quiet = r .passing .quiet;
   }
 
   -- the face at place a does not wait
-  pub pass-by : {ρ : List ℤ} {parents waiting : List ℕ} {n k a : ℕ} {any : Bool} (i : ℕ) → Scanning N ρ parents waiting n k a any → a < N .faces → i ≡ place (N .faces) k a → (at waiting i ≡ 1 → ⊥)
+  pub pass-by : {ρ : List ℤ} {parents waiting : List ℕ} {n k a : ℕ} {any : Bool} (i : ℕ)
+      → Scanning N ρ parents waiting n k a any → a < N .faces → i ≡ place (N .faces) k a → (at waiting i ≡ 1 → ⊥)
       → Scanning N ρ parents waiting n k (a + 1) any
   pass-by {ρ} {parents} {waiting} {n} {k} {a} {any} i r l p c = record {
     passing = record {
@@ -130,17 +134,20 @@ module _ {N : Dual} (sound : WellFormed N) where
       by e f b q (no h) = r .none e f b (passed-less (N .faces) k a f b q (λ g. h (g ∙ sym p)))
 
   -- the face at place a was taken up, in a round that is not the last
-  pub taken-up : {ρ : List ℤ} {parents waiting : List ℕ} {n k : ℕ} (a : ℕ) → Passing N ρ parents waiting n k (a + 1) → k < N .faces → Scanning N ρ parents waiting n k (a + 1) true
+  pub taken-up : {ρ : List ℤ} {parents waiting : List ℕ} {n k : ℕ} (a : ℕ)
+      → Passing N ρ parents waiting n k (a + 1) → k < N .faces → Scanning N ρ parents waiting n k (a + 1) true
   taken-up a r l = record { passing = r; none = λ q. let z : _≡_ {A = ℕ} 0 1 = cc in absurd (omega arith); some = λ _. l }
 
   -- all is passed, and none waited
-  pub end-settled : {ρ : List ℤ} {parents waiting : List ℕ} {n k a : ℕ} {any : Bool} → Joined N → Scanning N ρ parents waiting n k a any → N .faces ≤ a → any ≡ false → Settled N (atℤ ρ)
+  pub end-settled : {ρ : List ℤ} {parents waiting : List ℕ} {n k a : ℕ} {any : Bool} → Joined N
+      → Scanning N ρ parents waiting n k a any → N .faces ≤ a → any ≡ false → Settled N (atℤ ρ)
   end-settled {k = k} joined r all e =
       settled sound joined (r .passing .state) (r .passing .quiet) (λ f l. r .none e f l (omega (arith, place-in (N .faces) k f l)))
       (omega (arith, r .passing .lowerings, r .passing .k-in, r .passing .a-in, sound .few-faces))
 
   -- in the last round a face that waits has as many steps up as there are faces
-  pub last-deep : {ρ : List ℤ} {parents waiting : List ℕ} {n k a : ℕ} (i : ℕ) → Passing N ρ parents waiting n k a → k ≡ N .faces → i < N .faces → at waiting i ≡ 1
+  pub last-deep : {ρ : List ℤ} {parents waiting : List ℕ} {n k a : ℕ} (i : ℕ)
+      → Passing N ρ parents waiting n k a → k ≡ N .faces → i < N .faces → at waiting i ≡ 1
       → (b : ℕ) → b < N .faces → at parents (iter (up (N .right) (at parents)) b i) < N .darts
   last-deep i r e l h = deep sound (r .state) i l (omega (arith, r .state .waits i l h .1))
 
@@ -159,7 +166,8 @@ module _ {N : Dual} (sound : WellFormed N) where
 
   -- ── a face is taken up ──
   module _ {order starts ends : List ℕ} (g : Grouped (N .right) (N .darts) (N .faces) order starts ends) where
-    pub begin-taking : {ρ : List ℤ} {parents waiting : List ℕ} {n k a : ℕ} (i : ℕ) → Passing N ρ parents waiting n k a → k < N .faces → a < N .faces → i ≡ place (N .faces) k a → at waiting i ≡ 1
+    pub begin-taking : {ρ : List ℤ} {parents waiting : List ℕ} {n k a : ℕ} (i : ℕ) → Passing N ρ parents waiting n k a
+        → k < N .faces → a < N .faces → i ≡ place (N .faces) k a → at waiting i ≡ 1
         → Taking N order starts ends ρ parents (set waiting i 0) n k a i (getD starts i 0)
     begin-taking {ρ} {parents} {waiting} {n} {k} {a} i r kl al i-is h = record {
       size-ρ = r .size-ρ;
@@ -198,7 +206,8 @@ module _ {N : Dual} (sound : WellFormed N) where
         ne q = t .1 (sym (t .0 .3) ∙ ap (at order) q ∙ sym p)
 
     -- the dart d at place j is tried
-    module _ {ρ : List ℤ} {parents waiting : List ℕ} {n k a i j : ℕ} (r : Taking N order starts ends ρ parents waiting n k a i j) (d : ℕ) (more : j < getD ends i 0) (d-is : d ≡ getD order j 0) where
+    module _ {ρ : List ℤ} {parents waiting : List ℕ} {n k a i j : ℕ} (r : Taking N order starts ends ρ parents waiting n k a i j)
+        (d : ℕ) (more : j < getD ends i 0) (d-is : d ≡ getD order j 0) where
       pub try-in : d < N .darts
       try-in = rw d-is (g .dart i j (r .i-in) (r .from-start) more)
 
@@ -228,12 +237,14 @@ module _ {N : Dual} (sound : WellFormed N) where
         taken = r .taken;
         set = r .set;
         quiet =
-            quiet-weaken (λ x. (Todo order (getD ends i 0) j x) × (x ≡ d → ⊥)) (Todo order (getD ends i 0) (j + 1)) (λ x b t. todo-next (getD ends i 0) j d d-is x t)
+            quiet-weaken (λ x. (Todo order (getD ends i 0) j x) × (x ≡ d → ⊥))
+            (Todo order (getD ends i 0) (j + 1)) (λ x b t. todo-next (getD ends i 0) j d d-is x t)
             (quiet-keep (Todo order (getD ends i 0) j) d (subst (λ u. atℤ ρ (N .left d) ≤ℤ (atℤ ρ u +ℤ N .length d)) (sym try-right) le) (r .quiet));
       }
 
       -- it lowers
-      pub try-lower : {ρ' : List ℤ} {parents' waiting' : List ℕ} → ρ' ≡ set ρ (N .left d) (atℤ ρ i +ℤ N .length d) → parents' ≡ set parents (N .left d) d → waiting' ≡ set waiting (N .left d) 1
+      pub try-lower : {ρ' : List ℤ} {parents' waiting' : List ℕ} → ρ' ≡ set ρ (N .left d) (atℤ ρ i +ℤ N .length d)
+          → parents' ≡ set parents (N .left d) d → waiting' ≡ set waiting (N .left d) 1
           → (atℤ ρ i +ℤ N .length d) <ℤ atℤ ρ (N .left d) → Taking N order starts ends ρ' parents' waiting' (n + 1) k a i (j + 1)
       try-lower {ρ'} {parents'} {waiting'} e-ρ e-parents e-waiting less = record {
         size-ρ = rw e-ρ (simp length-set (r .size-ρ));
@@ -252,8 +263,10 @@ module _ {N : Dual} (sound : WellFormed N) where
             (lower-taken sound (r .state) d try-in set' taken' v v-is less (n + 1) (omega arith) try-few c-ρ c-parents c-waiting);
         set = set-stays sound (r .state) d try-in set' taken' v v-is less (n + 1) (omega arith) try-few c-ρ c-parents c-waiting i (r .set);
         quiet =
-            quiet-weaken (λ x. (Todo order (getD ends i 0) j x) × (x ≡ d → ⊥)) (Todo order (getD ends i 0) (j + 1)) (λ x b t. todo-next (getD ends i 0) j d d-is x t)
-            (quiet-lower sound (r .state) d try-in set' taken' v v-is less (n + 1) (omega arith) try-few c-ρ c-parents c-waiting (Todo order (getD ends i 0) j) (r .quiet));
+            quiet-weaken (λ x. (Todo order (getD ends i 0) j x) × (x ≡ d → ⊥))
+            (Todo order (getD ends i 0) (j + 1)) (λ x b t. todo-next (getD ends i 0) j d d-is x t)
+            (quiet-lower sound (r .state) d try-in set' taken' v v-is less (n + 1) (omega arith)
+            try-few c-ρ c-parents c-waiting (Todo order (getD ends i 0) j) (r .quiet));
       }
         where
           v : ℤ
@@ -281,7 +294,8 @@ module _ {N : Dual} (sound : WellFormed N) where
           c-waiting = rw e-waiting (stored waiting (N .left d) 1 0 (omega (arith, f-in, r .size-waiting)))
 
     -- all its darts are tried
-    pub end-taking : {ρ : List ℤ} {parents waiting : List ℕ} {n k a i j : ℕ} → Taking N order starts ends ρ parents waiting n k a i j → getD ends i 0 ≤ j → Passing N ρ parents waiting n k (a + 1)
+    pub end-taking : {ρ : List ℤ} {parents waiting : List ℕ} {n k a i j : ℕ}
+        → Taking N order starts ends ρ parents waiting n k a i j → getD ends i 0 ≤ j → Passing N ρ parents waiting n k (a + 1)
     end-taking {i = i} {j = j} r all = record {
       size-ρ = r .size-ρ;
       size-parents = r .size-parents;
@@ -294,6 +308,7 @@ module _ {N : Dual} (sound : WellFormed N) where
     }
 
   -- where two ways meet, what is known under other names
-  pub same-scanning : {ρ ρ₁ : List ℤ} {parents parents₁ waiting waiting₁ : List ℕ} {n n₁ k a : ℕ} {any any₁ : Bool} → ρ ≡ ρ₁ → parents ≡ parents₁ → waiting ≡ waiting₁ → n ≡ n₁ → any ≡ any₁
+  pub same-scanning : {ρ ρ₁ : List ℤ} {parents parents₁ waiting waiting₁ : List ℕ} {n n₁ k a : ℕ} {any any₁ : Bool}
+      → ρ ≡ ρ₁ → parents ≡ parents₁ → waiting ≡ waiting₁ → n ≡ n₁ → any ≡ any₁
       → Scanning N ρ₁ parents₁ waiting₁ n₁ k a any₁ → Scanning N ρ parents waiting n k a any
   same-scanning a b c d e r = rw (a, b, c, d, e) r

@@ -7,9 +7,9 @@ use native.Mathlib.Decide.{ℕ-discrete}
 use lib.IntN.{ℤ, _+ℤ_}
 use lib.Signed.{mag, _≤ℤ_, _<ℤ_}
 use Rattle.integers.proofs.Laws.{le-trans, le-of-lt}
-use Rattle.search.specs.Dual.{Dual, WellFormed, longest}
-use Rattle.search.specs.Walk.{Walk, onward}
-use Rattle.search.specs.Progress.{far, State, Quiet}
+use Rattle.search.specs.inner.Dual.{Dual, WellFormed, longest}
+use Rattle.search.specs.inner.Walk.{Walk, onward}
+use Rattle.search.specs.inner.Progress.{far, State, Quiet}
 use Rattle.search.proofs.Order.{le-of-eq, lt-ne, fall, self-fall, mag-add, near-not-far}
 use Rattle.search.proofs.Change.{Changed, change, changed}
 
@@ -72,7 +72,8 @@ module _ {N : Dual} (sound : WellFormed N) {ρ : ℕ → ℤ} {parent waiting : 
   Holds : ℤ → ℤ → ℕ → ℕ → Type 0
   Holds x y a b = (x <ℤ y) ⊎ ((x ≤ℤ y) × (x ≡ y → a < b))
 
-  holds : (g : ℕ) → g < N .faces → parent' g < N .darts → Holds (ρ' (N .right (parent' g)) +ℤ N .length (parent' g)) (ρ' g) (fell' (N .right (parent' g))) (fell' g)
+  holds : (g : ℕ) → g < N .faces → parent' g < N .darts
+      → Holds (ρ' (N .right (parent' g)) +ℤ N .length (parent' g)) (ρ' g) (fell' (N .right (parent' g))) (fell' g)
   unfolding Holds
   holds g l p = by (ℕ-discrete g f)
     where
@@ -159,7 +160,8 @@ module _ {N : Dual} (sound : WellFormed N) {ρ : ℕ → ℤ} {parent waiting : 
   pub quiet-lower : (todo : ℕ → Type 0) → Quiet N ρ waiting todo → Quiet N ρ' waiting' (λ e. todo e × (e ≡ d → ⊥))
   quiet-lower todo q = record { quiet = λ e e-in not off h. by e e-in not off h (ℕ-discrete (N .right e) f) }
     where
-      by : (e : ℕ) → e < N .darts → (todo e × (e ≡ d → ⊥) → ⊥) → (waiting' (N .right e) ≡ 1 → ⊥) → (ρ' (N .right e) ≡ far → ⊥) → Dec (N .right e ≡ f) → ρ' (N .left e) ≤ℤ (ρ' (N .right e) +ℤ N .length e)
+      by : (e : ℕ) → e < N .darts → (todo e × (e ≡ d → ⊥) → ⊥) → (waiting' (N .right e) ≡ 1 → ⊥)
+          → (ρ' (N .right e) ≡ far → ⊥) → Dec (N .right e ≡ f) → ρ' (N .left e) ≤ℤ (ρ' (N .right e) +ℤ N .length e)
       by e e-in not off h (yes r) = absurd (off (c-waiting .at (N .right e) r))
       by e e-in not off h (no c) = rw (c-ρ .off (N .right e) c) (which (ℕ-discrete e d))
         where

@@ -14,16 +14,17 @@ use Rattle.maps.specs.Map.{Map, darts}
 use Rattle.maps.specs.Face.{step, faces, left, right}
 use Rattle.maps.specs.Walk.{Components}
 use Rattle.maps.specs.Check as check
-use Rattle.maps.specs.FaceWalk.{FaceWalk}
-use Rattle.maps.specs.FaceWalk as faceWalk
+use Rattle.maps.specs.inner.FaceWalk.{FaceWalk}
+use Rattle.maps.specs.inner.FaceWalk as faceWalk
 use Rattle.maps.proofs.Darts.{rev-in}
 use Rattle.maps.proofs.Faces.{left-in, right-in, left-rotation, face-dart, same-in-part}
-use Rattle.search.specs.Dual.{Dual, dualOf, WellFormed, Joined, longest}
-use Rattle.search.specs.Walk.{Crossing, stay, cross, total, Ring}
-use Rattle.search.specs.OfMap.{OfMap}
+use Rattle.search.specs.inner.Dual.{Dual, dualOf, WellFormed, Joined, longest}
+use Rattle.search.specs.inner.Walk.{Crossing, stay, cross, total, Ring}
+use Rattle.search.specs.inner.OfMap.{OfMap}
 
 -- an array with the left faces is enough
-pub of-array : {𝓜 : Map} (lefts : List ℕ) (lengths : List ℤ) (root : ℕ) → ((d : ℕ) → d < darts 𝓜 → getD lefts d 0 ≡ left 𝓜 d) → OfMap (dualOf lefts lengths (darts 𝓜) (faces 𝓜) root) 𝓜
+pub of-array : {𝓜 : Map} (lefts : List ℕ) (lengths : List ℤ) (root : ℕ)
+    → ((d : ℕ) → d < darts 𝓜 → getD lefts d 0 ≡ left 𝓜 d) → OfMap (dualOf lefts lengths (darts 𝓜) (faces 𝓜) root) 𝓜
 of-array {𝓜} lefts lengths root is = record { darts-are = refl; faces-are = refl; left-is = is; right-is = λ d l. is (rev d) (rev-in (𝓜 .edges) d l) }
 
 -- no more faces than darts

@@ -1,7 +1,1 @@
-pub mod Dual
-pub mod OfMap
-pub mod Walk
-pub mod Settled
-pub mod Parents
-pub mod Answer
-pub mod Progress
+pub mod inner

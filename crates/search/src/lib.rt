@@ -8,11 +8,11 @@ ghost use Prim.Native.Nat.{ℕ, _+_, _<_, _≤_};
 ghost use lib.ListN.{length, getD};
 ghost use lib.IntN.{pos, _+ℤ_};
 ghost use lib.Signed.{mag};
-ghost use Rattle.grouping.specs.Grouped.{Grouped};
+ghost use Rattle.grouping.specs.inner.Grouped.{Grouped};
 ghost use Rattle.arrays.specs.Maps.{rightOf};
-ghost use Rattle.search.specs.Dual.{dualOf, WellFormed, Joined};
-ghost use Rattle.search.specs.Answer.{Answer};
-ghost use Rattle.search.specs.Progress.{Relaxed, Climb, Begun, Passing, place};
+ghost use Rattle.search.specs.inner.Dual.{dualOf, WellFormed, Joined};
+ghost use Rattle.search.specs.inner.Answer.{Answer};
+ghost use Rattle.search.specs.inner.Progress.{Relaxed, Climb, Begun, Passing, place};
 
 // Settled potentials, or the dart that closes a ring.
 pub enum Outcome {
@@ -35,8 +35,10 @@ fn relax(
     i: usize,
     d: usize,
 ) -> bool
-    requires { ⌜ (length (now potentials) ≡ 1024) × (length (now parents) ≡ 1024) × (length (now waiting) ≡ 1024) × (i < 1024) × (d < 1024) × (getD (now lefts) d 0 < 1024) × (mag (getD (now potentials) i (pos 0)) + mag (getD (now lengths) d (pos 0)) + 1 < 9223372036854775808) ⌝ }
-    ensures { λ r. ⌜ Relaxed (now (lefts .entry)) (now (lengths .entry)) (now (potentials .entry)) (now (parents .entry)) (now (waiting .entry)) (now (potentials .exit)) (now (parents .exit)) (now (waiting .exit)) i d r ⌝ }
+    requires { ⌜ (length (now potentials) ≡ 1024) × (length (now parents) ≡ 1024) × (length (now waiting) ≡ 1024) × (i < 1024) × (d < 1024)
+        × (getD (now lefts) d 0 < 1024) × (mag (getD (now potentials) i (pos 0)) + mag (getD (now lengths) d (pos 0)) + 1 < 9223372036854775808) ⌝ }
+    ensures { λ r. ⌜ Relaxed (now (lefts .entry)) (now (lengths .entry)) (now (potentials .entry)) (now (parents .entry))
+        (now (waiting .entry)) (now (potentials .exit)) (now (parents .exit)) (now (waiting .exit)) i d r ⌝ }
 {
     let f = arrays::wide(lefts[d]);
     let v = signed::plus_wide(potentials[i], lengths[d]);
@@ -134,8 +136,11 @@ fn take_up(
     a: usize,
     i: usize,
 ) -> usize
-    requires { ⌜ WellFormed (dualOf (now lefts) (now lengths) darts faces root) × Grouped (rightOf (now lefts)) darts faces (now order) (now starts) (now ends) × Passing (dualOf (now lefts) (now lengths) darts faces root) (now potentials) (now parents) (now waiting) lowerings k a × (k < faces) × (a < faces) × (i ≡ place faces k a) × (getD (now waiting) i 0 ≡ 1) ⌝ }
-    ensures { λ r. ⌜ Passing (dualOf (now (lefts .entry)) (now (lengths .entry)) darts faces root) (now (potentials .exit)) (now (parents .exit)) (now (waiting .exit)) r k (a + 1) ⌝ }
+    requires { ⌜ WellFormed (dualOf (now lefts) (now lengths) darts faces root) × Grouped (rightOf (now lefts)) darts faces (now order) (now starts) (now ends)
+        × Passing (dualOf (now lefts) (now lengths) darts faces root) (now potentials) (now parents) (now waiting) lowerings k a × (k < faces) × (a < faces)
+        × (i ≡ place faces k a) × (getD (now waiting) i 0 ≡ 1) ⌝ }
+    ensures { λ r. ⌜ Passing (dualOf (now (lefts .entry)) (now (lengths .entry)) darts faces root)
+        (now (potentials .exit)) (now (parents .exit)) (now (waiting .exit)) r k (a + 1) ⌝ }
 {
     waiting[i] = 0;
     let s = arrays::wide(starts[i]);
@@ -158,8 +163,8 @@ fn take_up(
     count
 }
 
-// The search from the face `root`. Where it is settled, `potentials` has the highest potentials that no dart can lower, with the root at 0; where it
-// answers a ring, its dart closes it: the face left of that dart is on the ring, the dart is that face's parent, and the parents lead round: to the face right of the
+// The search from the face `root`. Where it is settled, `potentials` has the highest potentials that no dart can lower, with the root at 0; where it answers a
+// ring, its dart closes it: the face left of that dart is on the ring, the dart is that face's parent, and the parents lead round: to the face right of the
 // dart, then to the face right of that one's parent, and so on back.
 pub fn search(
     lefts: &[u16; 1024],
@@ -174,7 +179,9 @@ pub fn search(
     parents: &mut [u16; 1024],
     waiting: &mut [u8; 1024],
 ) -> Outcome
-    requires { ⌜ WellFormed (dualOf (now lefts) (now lengths) darts faces root) × Joined (dualOf (now lefts) (now lengths) darts faces root) × Grouped (rightOf (now lefts)) darts faces (now order) (now starts) (now ends) × (length (now potentials) ≡ 1024) × (length (now parents) ≡ 1024) × (length (now waiting) ≡ 1024) ⌝ }
+    requires { ⌜ WellFormed (dualOf (now lefts) (now lengths) darts faces root) × Joined (dualOf (now lefts) (now lengths) darts faces root)
+        × Grouped (rightOf (now lefts)) darts faces (now order) (now starts) (now ends) × (length (now potentials) ≡ 1024)
+        × (length (now parents) ≡ 1024) × (length (now waiting) ≡ 1024) ⌝ }
     ensures { λ r. ⌜ Answer (dualOf (now (lefts .entry)) (now (lengths .entry)) darts faces root) (now (potentials .exit)) (now (parents .exit)) r ⌝ }
 {
     begin(&mut *potentials, &mut *parents, &mut *waiting, root);

@@ -1,3 +1,4 @@
+-- Opening, reading and writing a sheet: each way out as a verdict of the whole list.
 pub mod Opening
 pub mod Accepted
 pub mod Reading

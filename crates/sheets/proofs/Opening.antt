@@ -19,7 +19,8 @@ use Rattle.arrays.specs.Filled.{filled}
 use Rattle.arrays.proofs.FillLoops.{filled-zeros}
 use Rattle.rotations.specs.MapChecks.{mapChecks, MapJudged}
 use Rattle.records.specs.Record.{recordLength}
-use Rattle.records.specs.Sheet.{headLength, nodesOf, edgesOf, outerOf, edgeAt, field16, field32, tailOf, rotationOf, capacityOf, sheetMap, sheetDrawing, byteChecks}
+use Rattle.records.specs.Sheet.{headLength, nodesOf, edgesOf, outerOf, edgeAt, field16, field32}
+use Rattle.records.specs.Sheet.{tailOf, rotationOf, capacityOf, sheetMap, sheetDrawing, byteChecks}
 use Rattle.records.proofs.Bytes.{head-whole, bytes-head, bytes-length, bytes-counts}
 use Rattle.sheets.specs.declared.Opened.{Opened}
 use Rattle.sheets.specs.Open.{sheetChecks, Numbers, Opens}
@@ -37,12 +38,14 @@ module _ (s : List ℕ) (edges : ℕ) (are : edges ≡ edgesOf s) where
     unfolding rotationOf
     rotations-are h = filled-zeros 0 (2 * edges) (2 * edgesOf s) (field16 s 5) old new room all zeros h
 
-  pub capacities-are : (old new : List ℤ) → 2 * edges ≤ length old → ((d : ℕ) → atℤ old d ≡ pos 0) → new ≡ filled (2 * edges) (field32 s 9) old → atℤ new ≡ capacityOf s
+  pub capacities-are : (old new : List ℤ) → 2 * edges ≤ length old → ((d : ℕ) → atℤ old d ≡ pos 0)
+      → new ≡ filled (2 * edges) (field32 s 9) old → atℤ new ≡ capacityOf s
   unfolding capacityOf
   capacities-are old new room zeros h = filled-zeros (pos 0) (2 * edges) (2 * edgesOf s) (field32 s 9) old new room all zeros h
 
 -- the map and the drawing of the arrays are the sheet's
-pub maps-are : (s : List ℕ) (nodes edges : ℕ) (t r : List ℕ) → nodes ≡ nodesOf s → edges ≡ edgesOf s → at t ≡ tailOf s → at r ≡ rotationOf s → mapOf nodes edges t r ≡ sheetMap s
+pub maps-are : (s : List ℕ) (nodes edges : ℕ) (t r : List ℕ) → nodes ≡ nodesOf s → edges ≡ edgesOf s
+    → at t ≡ tailOf s → at r ≡ rotationOf s → mapOf nodes edges t r ≡ sheetMap s
 maps-are s nodes edges t r n e p q = λ i. record { nodes = n i; edges = e i; tail = p i; rotation = q i }
 
 pub drawings-are : (s : List ℕ) (nodes edges outer : ℕ) (t r : List ℕ) (c : List ℤ) → nodes ≡ nodesOf s → edges ≡ edgesOf s → outer ≡ outerOf s

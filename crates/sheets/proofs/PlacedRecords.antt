@@ -60,6 +60,7 @@ edge-placed old {l₁} {l₂} {l₃} {l₄} {l₅} {l₆} {l₇} place tail head
     whole = placed-32 (placed-32 rotations forward e₆ (omega arith)) backward e₇ (omega arith)
 
 -- the head leaves the length as it was
-pub head-kept : (nodes edges outer : ℕ) (old l : List ℕ) → l ≡ put 0 (outerHeadBytes nodes edges outer) old → recordLength 4 ≤ length old → length l ≡ length old
+pub head-kept : (nodes edges outer : ℕ) (old l : List ℕ) → l ≡ put 0 (outerHeadBytes nodes edges outer) old
+    → recordLength 4 ≤ length old → length l ≡ length old
 unfolding le16
 head-kept nodes edges outer old l h room = ap length h ∙ put-length 0 (outerHeadBytes nodes edges outer) old room

@@ -16,7 +16,8 @@ pub record Placed (old : List ℕ) (at : ℕ) (bs : List ℕ) (n : ℕ) (l : Lis
 pub placed-first : {old : List ℕ} {at n : ℕ} {bs l : List ℕ} → l ≡ put at bs old → length bs ≡ n → Placed old at bs n l
 placed-first e s = record { bytes = e; size = s }
 
-pub placed-next : {old : List ℕ} {at n : ℕ} {bs l : List ℕ} → Placed old at bs n l → (place m : ℕ) (cs next : List ℕ) → next ≡ put place cs l → place ≡ at + n → length cs ≡ m → at + n + m ≤ length old
+pub placed-next : {old : List ℕ} {at n : ℕ} {bs l : List ℕ} → Placed old at bs n l → (place m : ℕ) (cs next : List ℕ)
+    → next ≡ put place cs l → place ≡ at + n → length cs ≡ m → at + n + m ≤ length old
     → Placed old at (bs ++ cs) (n + m) next
 unfolding put
 placed-next {old} {at} {n} {bs} {l} p place m cs next e where-to size room = record { bytes = both; size = length-append bs cs ∙ ap₂ _+_ (p .size) size }
@@ -28,7 +29,8 @@ placed-next {old} {at} {n} {bs} {l} p place m cs next e where-to size room = rec
     pre-size = length-append (take at old) bs ∙ ap₂ _+_ (length-take-le at old (omega arith)) (p .size) ∙ sym where-to
 
     so-far : l ≡ pre ++ drop place old
-    so-far = p .bytes ∙ sym (append-assoc (take at old) bs (drop (at + length bs) old)) ∙ ap (λ k. pre ++ drop k old) (ap (λ k. at + k) (p .size) ∙ sym where-to)
+    so-far =
+        p .bytes ∙ sym (append-assoc (take at old) bs (drop (at + length bs) old)) ∙ ap (λ k. pre ++ drop k old) (ap (λ k. at + k) (p .size) ∙ sym where-to)
 
     ends : place + length cs ≡ at + length (bs ++ cs)
     ends = omega (arith, length-append bs cs, p .size)

@@ -39,7 +39,8 @@ module _ (s tails rotations tails' rotations' : List ℕ) (capacities capacities
   all = ap (λ e. 2 * e) (read .2)
 
   of-tables : Writes nodes outer (take (2 * edges) tails') (take (2 * edges) rotations') (take (2 * edges) capacities') out out' a
-      → Writes (nodesOf s) (outerOf s) (tabulate (2 * edgesOf s) (tailOf s)) (tabulate (2 * edgesOf s) (rotationOf s)) (tabulate (2 * edgesOf s) (capacityOf s)) out out' a
+      → Writes (nodesOf s) (outerOf s) (tabulate (2 * edgesOf s) (tailOf s)) (tabulate (2 * edgesOf s) (rotationOf s))
+      (tabulate (2 * edgesOf s) (capacityOf s)) out out' a
   of-tables h =
       let t = front-of (2 * edges) m (tailOf s) tails tails' (read .4) all in
       let r = front-of (2 * edges) m (rotationOf s) rotations rotations' (read .5) all in
@@ -57,7 +58,7 @@ read-and-write = record {
       (of-tables s tails rotations tails' rotations' capacities capacities' nodes edges outer read out out' a h);
   kind-one-again = λ s tails rotations tails' rotations' capacities capacities' nodes edges outer bytes one read out out' a room h.
       let w = back.kind-one-again s (read-accepted s tails rotations capacities (read .0)) bytes one out out' room a
-          (of-tables s tails rotations tails' rotations' capacities capacities' nodes edges outer read out out' a h) in
+      (of-tables s tails rotations tails' rotations' capacities capacities' nodes edges outer read out out' a h) in
       (read .3 ∙ kind-one-outer s one, w .0, w .1, w .2);
   written-accepted = λ nodes outer tails rotations capacities out out' n h.
       subst (λ s. NoneOf (sheetChecks s) × (kindOf s ≡ 4)) (sym (back.written-front nodes outer tails rotations capacities out (h .0) out' n h))

@@ -1,6 +1,6 @@
--- Read and Write undo each other, from their contracts alone. Document 01, "Operations": "Each of Read and Write undoes the other."
--- From accepted bytes to slices to the same bytes where the head is of kind 4, and to the same drawing where it is of kind 1; from accepted slices to bytes, which
--- the sheet checks accept, to the same slices.
+-- Read and Write undo each other, from their contracts alone. Document 01, "Operations": "Each of Read and Write undoes the other." From accepted bytes to
+-- slices to the same bytes where the head is of kind 4, and to the same drawing where it is of kind 1; from accepted slices to bytes, which the sheet checks
+-- accept, to the same slices.
 use mathlib.Core.Path.{_≡_, refl, sym, _∙_, ap, ap₂, subst, fun-ext}
 use mathlib.Core.Logic.{_⊎_, inl, inr}
 use mathlib.Core.List.{List, [], _∷_, _++_}
@@ -87,16 +87,20 @@ module _ (s : List ℕ) where
     drawn : NoneOf (drawingChecks (sheetDrawing s))
     unfolding drawingChecks
     drawn =
-        none-append (numberChecks (nodesOf s) (edgesOf s) (outerOf s)) (inTurn (edgesOf s) (edgeChecks (sheetDrawing s)) ++ mapChecks (sheetMap s)) (head-range s (bytes-head s passed))
-        (none-append (inTurn (edgesOf s) (edgeChecks (sheetDrawing s))) (mapChecks (sheetMap s)) (none-in-turn (edgesOf s) (edgeChecks (sheetDrawing s)) (bytes-drawn s passed)) (sheet-map s accepted))
+        none-append (numberChecks (nodesOf s) (edgesOf s) (outerOf s))
+        (inTurn (edgesOf s) (edgeChecks (sheetDrawing s)) ++ mapChecks (sheetMap s)) (head-range s (bytes-head s passed))
+        (none-append (inTurn (edgesOf s) (edgeChecks (sheetDrawing s))) (mapChecks (sheetMap s))
+        (none-in-turn (edgesOf s) (edgeChecks (sheetDrawing s)) (bytes-drawn s passed)) (sheet-map s accepted))
 
     size : encodeLength (edgesIn tails) ≡ encodeLength (edgesOf s)
     size = ap encodeLength half
 
     -- Write, given what Read gave, writes the bytes of the sheet's drawing
-    written-again : (out out' : List ℕ) → encodeLength (edgesOf s) ≤ length out → (a : WriteAnswer) → Writes (nodesOf s) (outerOf s) tails rotations capacities out out' a
+    written-again : (out out' : List ℕ) → encodeLength (edgesOf s) ≤ length out → (a : WriteAnswer)
+        → Writes (nodesOf s) (outerOf s) tails rotations capacities out out' a
         → (a ≡ write.Bytes (encodeLength (edgesOf s))) × (out' ≡ encode (sheetDrawing s) ++ drop (encodeLength (edgesOf s)) out)
-    written-again out out' room (write.Refused k p) h = absurd (first-none (writeChecks (nodesOf s) (outerOf s) tails rotations capacities out) k p (h .0) whole)
+    written-again out out' room (write.Refused k p) h =
+        absurd (first-none (writeChecks (nodesOf s) (outerOf s) tails rotations capacities out) k p (h .0) whole)
       where
         whole : NoneOf (writeChecks (nodesOf s) (outerOf s) tails rotations capacities out)
         whole =
@@ -135,7 +139,8 @@ module _ (s : List ℕ) where
         )
 
 -- ── from slices to bytes to slices ──
-module _ (nodes outer : ℕ) (tails rotations : List ℕ) (capacities : List ℤ) (out : List ℕ) (accepted : NoneOf (writeChecks nodes outer tails rotations capacities out)) where
+module _ (nodes outer : ℕ) (tails rotations : List ℕ) (capacities : List ℤ) (out : List ℕ)
+    (accepted : NoneOf (writeChecks nodes outer tails rotations capacities out)) where
   abbrev drawing : Drawing
   drawing = slicesDrawing nodes outer tails rotations capacities
 
@@ -210,6 +215,12 @@ module _ (nodes outer : ℕ) (tails rotations : List ℕ) (capacities : List ℤ
     read-undoes-write (read.Counts n e o) h = (
       counts-are (h .1 ∙ ap (λ 𝓓. 𝓓 .map .nodes) read-again) (h .2 ∙ ap (λ 𝓓. 𝓓 .map .edges) read-again) (h .3 ∙ ap (λ 𝓓. 𝓓 .outer) read-again),
       h .4 ∙ ap₂ (λ x k. x ++ drop k t) (table-again 0 _ tails (tailOf (encode drawing)) (ap (λ 𝓓. 𝓓 .map .tail) read-again) same-edges) same-edges,
-      h .5 ∙ ap₂ (λ x k. x ++ drop k r) (table-again 0 _ rotations (rotationOf (encode drawing)) (ap (λ 𝓓. 𝓓 .map .rotation) read-again) (same-edges ∙ sym (same-lengths .0))) (same-edges ∙ sym (same-lengths .0)),
-      h .6 ∙ ap₂ (λ x k. x ++ drop k c) (table-again (pos 0) _ capacities (capacityOf (encode drawing)) (ap (λ 𝓓. 𝓓 .capacity) read-again) (same-edges ∙ sym (same-lengths .1))) (same-edges ∙ sym (same-lengths .1)),
+      h .5
+          ∙ ap₂ (λ x k. x ++ drop k r)
+          (table-again 0 _ rotations (rotationOf (encode drawing)) (ap (λ 𝓓. 𝓓 .map .rotation) read-again) (same-edges ∙ sym (same-lengths .0)))
+          (same-edges ∙ sym (same-lengths .0)),
+      h .6
+          ∙ ap₂ (λ x k. x ++ drop k c)
+          (table-again (pos 0) _ capacities (capacityOf (encode drawing)) (ap (λ 𝓓. 𝓓 .capacity) read-again) (same-edges ∙ sym (same-lengths .1)))
+          (same-edges ∙ sym (same-lengths .1)),
     )

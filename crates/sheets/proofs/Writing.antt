@@ -36,7 +36,8 @@ loaded {to} from φ d = go (decLt d (length from))
     go (yes l) = φ .low d l
     go (no l) = φ .high d (omega (arith, l)) ∙ sym (List·getD-eq-default from 0 {n = d} (omega (arith, l)))
 
-pub loaded-map : (nodes edges : ℕ) (t r : List ℕ) (tails rotations : List ℕ) → ((d : ℕ) → at t d ≡ at tails d) → ((d : ℕ) → at r d ≡ at rotations d) → mapOf nodes edges t r ≡ mapOf nodes edges tails rotations
+pub loaded-map : (nodes edges : ℕ) (t r : List ℕ) (tails rotations : List ℕ) → ((d : ℕ) → at t d ≡ at tails d)
+    → ((d : ℕ) → at r d ≡ at rotations d) → mapOf nodes edges t r ≡ mapOf nodes edges tails rotations
 loaded-map nodes edges t r tails rotations p q = λ i. record { nodes = nodes; edges = edges; tail = fun-ext p i; rotation = fun-ext q i }
 
 -- ── the checks on slices ──
@@ -80,13 +81,16 @@ module _ (𝓓 : Drawing) (old : List ℕ) where
   unfolding encodeEdges
   write-start l e = e ∙ ap (λ x. x ++ drop (recordLength 4) old) (sym (mathlib.Core.List.append-nil (encodeHead 𝓓)))
 
-  pub write-step : (e : ℕ) (l next : List ℕ) → l ≡ (encodeHead 𝓓 ++ encodeEdges 𝓓 e) ++ drop (encodeLength e) old → next ≡ put (encodeLength e) (encodeEdge 𝓓 e) l
+  pub write-step : (e : ℕ) (l next : List ℕ) → l ≡ (encodeHead 𝓓 ++ encodeEdges 𝓓 e) ++ drop (encodeLength e) old
+      → next ≡ put (encodeLength e) (encodeEdge 𝓓 e) l
       → next ≡ (encodeHead 𝓓 ++ encodeEdges 𝓓 (e + 1)) ++ drop (encodeLength (e + 1)) old
   unfolding encodeEdges
   write-step e l next so-far h =
       h
-      ∙ put-after (encodeLength e) (encodeHead 𝓓 ++ encodeEdges 𝓓 e) (encodeEdge 𝓓 e) old l so-far (omega (arith, front-length (encodeHead 𝓓) 𝓓 e, head-length 𝓓))
-      ∙ ap₂ (λ x k. x ++ drop k old) (append-assoc (encodeHead 𝓓) (encodeEdges 𝓓 e) (encodeEdge 𝓓 e) ∙ ap (λ n. encodeHead 𝓓 ++ encodeEdges 𝓓 n) (sym (add-one e))) ends
+      ∙ put-after (encodeLength e) (encodeHead 𝓓 ++ encodeEdges 𝓓 e) (encodeEdge 𝓓 e) old l so-far
+      (omega (arith, front-length (encodeHead 𝓓) 𝓓 e, head-length 𝓓))
+      ∙ ap₂ (λ x k. x ++ drop k old)
+      (append-assoc (encodeHead 𝓓) (encodeEdges 𝓓 e) (encodeEdge 𝓓 e) ∙ ap (λ n. encodeHead 𝓓 ++ encodeEdges 𝓓 n) (sym (add-one e))) ends
     where
       ends : encodeLength e + length (encodeEdge 𝓓 e) ≡ encodeLength (e + 1)
       ends = omega (arith, edge-length 𝓓 e)
@@ -125,7 +129,8 @@ module _ (nodes outer : ℕ) (tails rotations : List ℕ) (capacities : List ℤ
     unfolding writeChecks FirstOf
     write-refused k p h = inr (even, first-left (drawingChecks drawn) short k p h)
 
-    pub write-short : NoneOf (drawingChecks drawn) → length out < encodeLength (edgesIn tails) → FirstOf (writeChecks nodes outer tails rotations capacities out) 16 0
+    pub write-short : NoneOf (drawingChecks drawn) → length out < encodeLength (edgesIn tails)
+        → FirstOf (writeChecks nodes outer tails rotations capacities out) 16 0
     unfolding writeChecks FirstOf
     write-short h l = inr (even, first-right (drawingChecks drawn) short 16 0 h (inl (l, refl, refl)))
 

@@ -1,6 +1,6 @@
--- Read. Document 01, "Operations": "Read gives both counts and fills three slices, one element per dart: tails, turns, limits. Sheet checks, then 16 a slice shorter
--- than two per channel." "Extra elements in a lent slice, the sheet excepted, are neither read nor written." Document 02, Job 6: "Read also gives the dart", which is
--- dart 0 of a head of kind 1.
+-- Read. Document 01, "Operations": "Read gives both counts and fills three slices, one element per dart: tails, turns, limits. Sheet checks, then 16 a slice
+-- shorter than two per channel." "Extra elements in a lent slice, the sheet excepted, are neither read nor written." Document 02, Job 6: "Read also gives the
+-- dart", which is dart 0 of a head of kind 1.
 use Prim.Native.Nat.{ℕ, _*_, _<_}
 use mathlib.Core.Path.{_≡_}
 use mathlib.Core.Logic.{_⊎_}

@@ -1,6 +1,6 @@
--- What is said of Read and Write together. Document 01, "Operations": "Each of Read and Write undoes the other." Document 02, Job 6: Write "always writes kind 4,
--- so there and back holds for kind 4 bytes". One record, a field for each statement, about every run of the two operations: all that a field knows of a run is its
--- contract, `Reads` or `Writes`. The proofs are in proofs/Statements.antt.
+-- What is said of Read and Write together. Document 01, "Operations": "Each of Read and Write undoes the other." Document 02, Job 6: Write "always writes kind
+-- 4, so there and back holds for kind 4 bytes". One record, a field for each statement, about every run of the two operations: all that a field knows of a run
+-- is its contract, `Reads` or `Writes`. The proofs are in proofs/Statements.antt.
 use Prim.Native.Nat.{ℕ, _+_, _*_, _≤_, _<_}
 use mathlib.Core.Path.{_≡_}
 use mathlib.Core.List.{List, _∷_, _++_}
@@ -33,7 +33,8 @@ pub record ReadAndWrite : Type 0 where
       → (out out' : List ℕ) (answer : WriteAnswer) → length s ≤ length out
       → Writes nodes outer (take (2 * edges) tails') (take (2 * edges) rotations') (take (2 * edges) capacities') out out' answer
       → (answer ≡ Bytes (length s)) × (out' ≡ s ++ drop (length s) out)
-  -- of a sheet of kind 1: Read gives dart 0, and Write, given all that, writes the sheet as one of kind 4 that names dart 0, two bytes longer; the drawing is the same
+  -- of a sheet of kind 1: Read gives dart 0, and Write, given all that, writes the sheet as one of kind 4 that names dart 0, two bytes longer; the drawing is
+  -- the same
   pub kind-one-again : (s tails rotations tails' rotations' : List ℕ) (capacities capacities' : List ℤ) (nodes edges outer : ℕ)
       → AreBytes s → kindOf s ≡ 1 → Reads s tails rotations capacities tails' rotations' capacities' (Counts nodes edges outer)
       → (out out' : List ℕ) (answer : WriteAnswer) → length s + 2 ≤ length out
@@ -45,8 +46,8 @@ pub record ReadAndWrite : Type 0 where
   -- what Write wrote is a sheet that the checks accept, and of kind 4
   pub written-accepted : (nodes outer : ℕ) (tails rotations : List ℕ) (capacities : List ℤ) (out out' : List ℕ) (n : ℕ)
       → Writes nodes outer tails rotations capacities out out' (Bytes n) → NoneOf (sheetChecks (take n out')) × (kindOf (take n out') ≡ 4)
-  -- and Read, given it, gives the counts and the outer dart and fills in the slices that Write was given: in front of those it is lent, which have room, the rest as
-  -- it was
+  -- and Read, given it, gives the counts and the outer dart and fills in the slices that Write was given: in front of those it is lent, which have room, the
+  -- rest as it was
   pub read-undoes-write : (nodes outer : ℕ) (tails rotations : List ℕ) (capacities : List ℤ) (out out' : List ℕ) (n : ℕ)
       → Writes nodes outer tails rotations capacities out out' (Bytes n)
       → (t r t' r' : List ℕ) (c c' : List ℤ) (answer : ReadAnswer) → length tails ≤ length t → length tails ≤ length r → length tails ≤ length c

@@ -19,8 +19,8 @@ ghost use Rattle.arrays.specs.Filled.{filled};
 ghost use Rattle.sheets.specs.Write.{edgesIn, slicesDrawing, drawingChecks, Writes};
 use refusals::Verdict;
 
-// All 1,024 darts with their tails, rotations ("turns"), capacities ("limits") and left faces; how many nodes, edges and faces there are, and a dart on the outer face.
-// An operation makes it once, in its own frame, fills its arrays in place, and lends them to what works on it.
+// All 1,024 darts with their tails, rotations ("turns"), capacities ("limits") and left faces; how many nodes, edges and faces there are, and a dart on the
+// outer face. An operation makes it once, in its own frame, fills its arrays in place, and lends them to what works on it.
 pub struct Network {
     pub nodes: usize,
     pub edges: usize,
@@ -107,8 +107,8 @@ fn refused(number: u8, place: u16) -> Opened
     }
 }
 
-// The sheet checks on any bytes. Of a sheet that passes them it gives the numbers, and the left face of each dart. Tails and rotations are read into arrays of its own, since
-// no two fields of a caller's record can be lent beside one that is written.
+// The sheet checks on any bytes. Of a sheet that passes them it gives the numbers, and the left face of each dart. Tails and rotations are read into arrays of
+// its own, since no two fields of a caller's record can be lent beside one that is written.
 pub fn open(s: &[u8], lefts: &mut [u16; 1024]) -> Opened
     requires { ⌜ length (now lefts) ≡ 1024 ⌝ }
     ensures { λ r. ⌜ (length (now (lefts .exit)) ≡ 1024) × Opens (now (s .entry)) (now (lefts .exit)) r (r .verdict) ⌝ }
@@ -147,7 +147,8 @@ pub fn read(
     rotations: &mut [u16],
     capacities: &mut [i32],
 ) -> ReadAnswer
-    ensures { λ r. ⌜ Reads (now (sheet .entry)) (now (tails .entry)) (now (rotations .entry)) (now (capacities .entry)) (now (tails .exit)) (now (rotations .exit)) (now (capacities .exit)) r ⌝ }
+    ensures { λ r. ⌜ Reads (now (sheet .entry)) (now (tails .entry)) (now (rotations .entry))
+        (now (capacities .entry)) (now (tails .exit)) (now (rotations .exit)) (now (capacities .exit)) r ⌝ }
 {
     let mut lefts = [0u16; 1024];
     let opened = open(sheet, &mut lefts);
@@ -197,7 +198,8 @@ fn check_edge(
     capacities: &[i32],
     e: usize,
 ) -> Verdict
-    requires { ⌜ (length (now rotations) ≡ length (now tails)) × (length (now capacities) ≡ length (now tails)) × (length (now tails) ≤ 1024) × (e < edgesIn (now tails)) ⌝ }
+    requires { ⌜ (length (now rotations) ≡ length (now tails)) × (length (now capacities) ≡ length (now tails))
+        × (length (now tails) ≤ 1024) × (e < edgesIn (now tails)) ⌝ }
     ensures { λ r. ⌜ Judged (edgeChecks (slicesDrawing nodes outer (now (tails .entry)) (now (rotations .entry)) (now (capacities .entry))) e) r ⌝ }
 {
     let edges = tails.len() / 2;
@@ -228,7 +230,8 @@ fn check_edges(
     capacities: &[i32],
 ) -> Verdict
     requires { ⌜ (length (now rotations) ≡ length (now tails)) × (length (now capacities) ≡ length (now tails)) × (length (now tails) ≤ 1024) ⌝ }
-    ensures { λ r. ⌜ Judged (inTurn (edgesIn (now (tails .entry))) (edgeChecks (slicesDrawing nodes outer (now (tails .entry)) (now (rotations .entry)) (now (capacities .entry))))) r ⌝ }
+    ensures { λ r. ⌜ Judged (inTurn (edgesIn (now (tails .entry)))
+        (edgeChecks (slicesDrawing nodes outer (now (tails .entry)) (now (rotations .entry)) (now (capacities .entry))))) r ⌝ }
 {
     let edges = tails.len() / 2;
     let mut e: usize = 0;
@@ -308,9 +311,11 @@ fn write_edge(
 
 // The records of all edges, after the head.
 fn write_edges(out: &mut [u8], tails: &[u16], rotations: &[u16], capacities: &[i32])
-    requires { ⌜ (length (now rotations) ≡ length (now tails)) × (length (now capacities) ≡ length (now tails)) × (length (now tails) ≤ 1024) × (encodeLength (edgesIn (now tails)) ≤ length (now out)) ⌝ }
+    requires { ⌜ (length (now rotations) ≡ length (now tails)) × (length (now capacities) ≡ length (now tails))
+        × (length (now tails) ≤ 1024) × (encodeLength (edgesIn (now tails)) ≤ length (now out)) ⌝ }
     ensures { λ _. ⌜ ((nodes outer : ℕ) (old : List ℕ)
-        → now (out .entry) ≡ encodeHead (slicesDrawing nodes outer (now (tails .entry)) (now (rotations .entry)) (now (capacities .entry))) ++ drop (recordLength 4) old
+        → now (out .entry) ≡ encodeHead (slicesDrawing nodes outer (now (tails .entry)) (now (rotations .entry)) (now (capacities .entry)))
+        ++ drop (recordLength 4) old
         → now (out .exit) ≡ encode (slicesDrawing nodes outer (now (tails .entry)) (now (rotations .entry)) (now (capacities .entry)))
         ++ drop (encodeLength (edgesIn (now (tails .entry)))) old) ⌝ }
 {

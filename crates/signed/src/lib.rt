@@ -1,5 +1,5 @@
-// Signed machine arithmetic, one step to a function, with contracts in ℤ: sums and differences of two i32, at 32 bits where they fit and exact at 64, and an i32
-// made of its bits.
+// Signed machine arithmetic, one step to a function, with contracts in ℤ: sums and differences of two i32,
+// at 32 bits where they fit and exact at 64, and an i32 made of its bits.
 ghost use mathlib.Core.Path.{_≡_};
 ghost use lib.IntN.{_+ℤ_, _-ℤ_};
 ghost use mir.Syntax.{w32, w64};

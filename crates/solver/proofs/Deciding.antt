@@ -1,5 +1,5 @@
--- One value decided, once its lengths are known: they are what the search and the ring's set ask for; settled potentials are the highest flow, and a cut of the lengths
--- below zero is a proving set.
+-- One value decided, once its lengths are known: they are what the search and the ring's set ask for;
+-- settled potentials are the highest flow, and a cut of the lengths below zero is a proving set.
 use mathlib.Core.Path.{_≡_, refl, sym, _∙_, ap, ap₂, subst}
 use mathlib.Core.Bool.{true, false}
 use mathlib.Core.List.{List, _++_}
@@ -8,7 +8,7 @@ use native.Mathlib.Omega.{arith}
 use lib.ListN.{length, drop}
 use lib.IntN.{ℤ, pos, negsuc, negℤ, _+ℤ_, _-ℤ_, _*ℤ_}
 use lib.Signed.{mag, _≤ℤ_, _<ℤ_}
-use Rattle.integers.specs.Limited.{Limited}
+use Rattle.integers.specs.inner.Limited.{Limited}
 use Rattle.integers.specs.Sum.{Integers, sumℤ, when}
 use Rattle.integers.proofs.Omega.{atoms₂, atoms₃, atoms₄, parts, equal, at-most, from-equal, from-at-most}
 use Rattle.integers.proofs.Sums.{sum-ext}
@@ -23,32 +23,33 @@ use Rattle.flows.specs.ZeroFace.{ZeroFace}
 use Rattle.flows.specs.Highest.{Highest}
 use Rattle.flows.specs.ProvingSet.{Proves}
 use Rattle.flows.proofs.Plane.{one-part}
-use Rattle.flows.specs.UnitFlow.{UnitFlow}
-use Rattle.flows.specs.Lengths.{lengthFor, Feasible, edgeFlow}
+use Rattle.flows.specs.inner.UnitFlow.{UnitFlow}
+use Rattle.flows.specs.inner.Lengths.{lengthFor, Feasible, edgeFlow}
 use Rattle.flows.proofs.HighestFlow.{top-is-highest}
 use Rattle.flows.proofs.Exact.{negative-proves, length-pairs}
 use Rattle.arrays.specs.At.{at, atℤ}
 use Rattle.arrays.proofs.Tabulate.{tabulate-ext}
 use Rattle.arrays.specs.Filled.{filled}
-use Rattle.search.specs.Dual.{Dual, dualOf}
-use Rattle.search.specs.Parents.{ParentRing}
-use Rattle.search.specs.Settled.{Settled}
+use Rattle.search.specs.inner.Dual.{Dual, dualOf}
+use Rattle.search.specs.inner.Parents.{ParentRing}
+use Rattle.search.specs.inner.Settled.{Settled}
 use Rattle.search.proofs.OfMap.{sound-of-map, joined-of-map}
-use Rattle.search.specs.OfMap.{OfMap}
+use Rattle.search.specs.inner.OfMap.{OfMap}
 use Rattle.search.proofs.Highest as settled
-use Rattle.edge_flows.specs.Flow.{flowOf}
-use Rattle.arrays.specs.Drawn.{Drawn}
-use Rattle.solver.specs.Ends.{Ends}
-use Rattle.solver.specs.Search.{Lengthened, Searchable, Ringed}
-use Rattle.solver.specs.Decision.{Decided}
-use Rattle.arrays.specs.Flags.{flagged}
+use Rattle.edge_flows.specs.inner.Flow.{flowOf}
+use Rattle.arrays.specs.inner.Drawn.{Drawn}
+use Rattle.solver.specs.inner.Ends.{Ends}
+use Rattle.solver.specs.inner.Search.{Lengthened, Searchable, Ringed}
+use Rattle.solver.specs.inner.Decision.{Decided}
+use Rattle.arrays.specs.inner.Flags.{flagged}
 use Rattle.solver.proofs.Preparing.{faces-most}
 
 limited-mag : (b : ℕ) (x : ℤ) → Limited b x → mag x ≤ b
 limited-mag b (pos n) h = omega (arith, from-at-most (h .high) (search parts))
 limited-mag b (negsuc n) h = omega (arith, from-at-most (h .low) (search parts))
 
-module _ {𝓜 : Map} (lefts : List ℕ) {count outer : ℕ} {c : ℕ → ℤ} (drawn : Drawn 𝓜 (at lefts) count outer c) {s t : ℕ} (two : Ends 𝓜 s t) {value : ℤ} (row : List ℤ)
+module _ {𝓜 : Map} (lefts : List ℕ) {count outer : ℕ} {c : ℕ → ℤ}
+    (drawn : Drawn 𝓜 (at lefts) count outer c) {s t : ℕ} (two : Ends 𝓜 s t) {value : ℤ} (row : List ℤ)
     (known : Lengthened 𝓜 s t c value (atℤ row)) {root : ℕ} (rooted : root ≡ at lefts outer) where
   abbrev N : Dual
   N = dualOf lefts row (darts 𝓜) count root
@@ -85,7 +86,9 @@ module _ {𝓜 : Map} (lefts : List ℕ) {count outer : ℕ} {c : ℕ → ℤ} (
 
   pub searchable : Searchable N (𝓜 .edges) c
   searchable = record {
-    sound = sound-of-map of (drawn .plane .sound) (omega (arith, drawn .few-edges)) root-in (λ d l. omega (arith, limited-mag 602000000 (atℤ row d) (known .short d l)));
+    sound =
+        sound-of-map of (drawn .plane .sound) (omega (arith, drawn .few-edges)) root-in
+        (λ d l. omega (arith, limited-mag 602000000 (atℤ row d) (known .short d l)));
     joined = joined-of-map of (drawn .plane .sound) (one-part (drawn .plane)) (omega (arith, root-in, drawn .counted));
     darts-are = refl;
     small = drawn .small;
@@ -104,11 +107,14 @@ module _ {𝓜 : Map} (lefts : List ℕ) {count outer : ℕ} {c : ℕ → ℤ} (
         still d l = rw (drawn .left-is d l, drawn .left-is (rev d) (rev-in (𝓜 .edges) d l), length-is d l) (h d l)
 
     highest : Highest 𝓜 outer c s t value (edgeFlow 𝓜 π value ρ)
-    highest = top-is-highest (drawn .plane) (two .source-in) (two .sink-in) (two .two) unit c value outer (drawn .outer-in) ρ feasible (λ f z. ap ρ (z ∙ sym root-is) ∙ σ .rooted) top
+    highest =
+        top-is-highest (drawn .plane) (two .source-in) (two .sink-in) (two .two) unit c value
+        outer (drawn .outer-in) ρ feasible (λ f z. ap ρ (z ∙ sym root-is) ∙ σ .rooted) top
 
     flows-are : (e : ℕ) → e < 𝓜 .edges → flowOf (at lefts) c (atℤ row) ρ e ≡ edgeFlow 𝓜 π value ρ e
     flows-are e l =
-        ap₂ (λ x y. (ρ x -ℤ ρ y) +ℤ (c (2 * e) -ℤ atℤ row (2 * e))) (drawn .left-is (2 * e) d-in) (drawn .left-is (rev (2 * e)) (rev-in (𝓜 .edges) (2 * e) d-in))
+        ap₂ (λ x y. (ρ x -ℤ ρ y) +ℤ (c (2 * e) -ℤ atℤ row (2 * e))) (drawn .left-is (2 * e) d-in)
+        (drawn .left-is (rev (2 * e)) (rev-in (𝓜 .edges) (2 * e) d-in))
         ∙ ap (λ z. (ρ (left 𝓜 (2 * e)) -ℤ ρ (right 𝓜 (2 * e))) +ℤ (c (2 * e) -ℤ z)) (length-is (2 * e) d-in)
         ∙ (let a = atoms₄ (ρ (left 𝓜 (2 * e))) (ρ (right 𝓜 (2 * e))) (c (2 * e)) (value *ℤ π (2 * e)) in equal (search parts) (omega arith))
       where

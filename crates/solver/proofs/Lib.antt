@@ -1,3 +1,4 @@
+-- One value decided: settled potentials are the highest flow, and a ring gives a proving set.
 pub mod SettledFlows
 pub mod Ringing
 pub mod Preparing

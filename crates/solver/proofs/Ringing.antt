@@ -1,34 +1,34 @@
--- From a ring of parents to a set of nodes: its winding is that of a walk over faces of length below zero, so the heights of the nodes are heights of that winding,
--- and some threshold has a cut below zero.
+-- From a ring of parents to a set of nodes: its winding is that of a walk over faces of length below zero, so the heights of the nodes are heights of that
+-- winding, and some threshold has a cut below zero.
 use mathlib.Core.Path.{_≡_, refl, sym, _∙_, ap, ap₂, subst}
 use mathlib.Core.List.{List}
 use Prim.Native.Nat.{ℕ, _+_, _*_, _%_, _≤_, _<_}
 use native.Mathlib.Omega.{arith}
 use lib.IntN.{ℤ, pos, _+ℤ_, _-ℤ_}
 use lib.Signed.{_≤ℤ_, _<ℤ_}
-use Rattle.integers.specs.Limited.{Limited}
+use Rattle.integers.specs.inner.Limited.{Limited}
 use Rattle.integers.proofs.Omega.{atoms₃, parts, equal}
 use Rattle.maps.specs.Dart.{rev}
 use Rattle.maps.specs.Map.{Map, darts}
 use Rattle.maps.specs.Cut.{cut}
-use Rattle.maps.specs.FaceWalk.{FaceWalk, total}
+use Rattle.maps.specs.inner.FaceWalk.{FaceWalk, total}
 use Rattle.maps.specs.Potential.{Heights}
 use Rattle.maps.proofs.Darts.{rev-in}
 use Rattle.maps.proofs.Rings.{winding, ring-threshold}
 use Rattle.flows.proofs.Exact.{ring-heights-exist}
-use Rattle.traversal.specs.Spread.{Spread}
+use Rattle.traversal.specs.inner.Spread.{Spread}
 use Rattle.traversal.proofs.Reach.{connected-full}
-use Rattle.search.specs.Dual.{Dual}
-use Rattle.windings.specs.Winding.{Round, Wound}
+use Rattle.search.specs.inner.Dual.{Dual}
+use Rattle.windings.specs.inner.Winding.{Round, Wound}
 use Rattle.windings.proofs.WindingOfRing.{round-of, ring-wound}
-use Rattle.heights.specs.Heights as heights
+use Rattle.heights.specs.inner.Heights as heights
 use Rattle.heights.proofs.HeightsOfMap.{sound-fillable}
-use Rattle.cuts.specs.Cut.{cutOf}
-use Rattle.thresholds.specs.Above.{above}
-use Rattle.thresholds.specs.Choice.{Choosable}
-use Rattle.arrays.specs.Sizes.{mostHeight}
+use Rattle.cuts.specs.inner.Cut.{cutOf}
+use Rattle.thresholds.specs.inner.Above.{above}
+use Rattle.thresholds.specs.inner.Choice.{Choosable}
+use Rattle.arrays.specs.inner.Sizes.{mostHeight}
 use Rattle.cuts.proofs.CutOfMap.{cut-of}
-use Rattle.solver.specs.Search.{Ringed}
+use Rattle.solver.specs.inner.Search.{Ringed}
 
 module _ {𝓜 : Map} {N : Dual} {parent : ℕ → ℕ} {y : ℕ} (q : Ringed 𝓜 N parent y) where
   pub few-darts : darts 𝓜 ≤ 1024
@@ -37,9 +37,12 @@ module _ {𝓜 : Map} {N : Dual} {parent : ℕ → ℕ} {y : ℕ} (q : Ringed �
   pub ring-round : Round (N .right) parent (N .darts) y
   ring-round = round-of (q .few-faces) (q .ring)
 
-  module _ {order from : ℕ → ℕ} {start met : ℕ} (ξ : Spread (darts 𝓜) (𝓜 .rotation) start order from met) {wd : ℕ → ℤ} (wound : Wound (N .right) parent (N .darts) y wd) where
+  module _ {order from : ℕ → ℕ} {start met : ℕ} (ξ : Spread (darts 𝓜) (𝓜 .rotation) start order from met)
+      {wd : ℕ → ℤ} (wound : Wound (N .right) parent (N .darts) y wd) where
     pub heights-fillable : heights.Fillable (darts 𝓜) (𝓜 .tail) order from wd
-    heights-fillable = sound-fillable (q .plane .sound) (q .few-nodes) few-darts ξ (connected-full (q .plane .sound) ξ (q .plane .connected)) (λ d l. wound .limited d (omega (arith, q .of .darts-are)))
+    heights-fillable =
+        sound-fillable (q .plane .sound) (q .few-nodes) few-darts ξ (connected-full (q .plane .sound) ξ (q .plane .connected))
+        (λ d l. wound .limited d (omega (arith, q .of .darts-are)))
 
     module _ {height : ℕ → ℤ} (filled : heights.Filled (darts 𝓜) (𝓜 .tail) (order 0) wd height) where
       walk : (w : FaceWalk 𝓜 y y) × (total (N .length) w <ℤ pos 0) × ((d : ℕ) → d < N .darts → wd d ≡ winding w d)
@@ -47,7 +50,9 @@ module _ {𝓜 : Map} {N : Dual} {parent : ℕ → ℕ} {y : ℕ} (q : Ringed �
 
       -- the winding is the difference of the heights found
       found-heights : Heights 𝓜 (winding (walk .0)) height
-      found-heights d l = known d l ∙ sym (ap₂ _-ℤ_ (at-node d l) (at-node (rev d) (rev-in (𝓜 .edges) d l)) ∙ shift (H (𝓜 .tail d)) (H (𝓜 .tail (rev d))) (H (𝓜 .tail (order 0))))
+      found-heights d l =
+          known d l
+          ∙ sym (ap₂ _-ℤ_ (at-node d l) (at-node (rev d) (rev-in (𝓜 .edges) d l)) ∙ shift (H (𝓜 .tail d)) (H (𝓜 .tail (rev d))) (H (𝓜 .tail (order 0))))
         where
           H : ℕ → ℤ
           H = ring-heights-exist (q .plane) (walk .0) .0

@@ -5,20 +5,21 @@ use Prim.Native.Nat.{ℕ, _+_, _*_, _≤_, _<_}
 use native.Mathlib.Omega.{arith}
 use lib.IntN.{ℤ, pos, negsuc, negℤ, _+ℤ_, _-ℤ_}
 use lib.Signed.{mag, _≤ℤ_}
-use Rattle.integers.specs.Limited.{Limited}
+use Rattle.integers.specs.inner.Limited.{Limited}
 use Rattle.integers.proofs.Omega.{atoms₂, atoms₃, atoms₄, parts, at-most, from-equal, from-at-most}
 use Rattle.integers.proofs.Limits.{limited-more, limited-both}
 use Rattle.maps.specs.Dart.{rev}
 use Rattle.maps.proofs.Darts.{rev-rev, rev-in}
-use Rattle.search.specs.Dual.{Dual}
-use Rattle.search.specs.Parents.{ParentRing}
-use Rattle.search.specs.Settled.{Still, Settled}
-use Rattle.edge_flows.specs.Flow.{flowOf, Flowing}
-use Rattle.arrays.specs.Sizes.{mostPotential, mostCapacity}
-use Rattle.solver.specs.Search.{Searchable}
+use Rattle.search.specs.inner.Dual.{Dual}
+use Rattle.search.specs.inner.Parents.{ParentRing}
+use Rattle.search.specs.inner.Settled.{Still, Settled}
+use Rattle.edge_flows.specs.inner.Flow.{flowOf, Flowing}
+use Rattle.arrays.specs.inner.Sizes.{mostPotential, mostCapacity}
+use Rattle.solver.specs.inner.Search.{Searchable}
 
 -- of a ring, all that is said is that no flow was written and that the parents lead round it
-pub ring-kept : {N : Dual} {parent : ℕ → ℕ} {d : ℕ} (flows : List ℤ) → d < N .darts → ParentRing N parent (N .left d) → (flows ≡ flows) × (d < N .darts) × ParentRing N parent (N .left d)
+pub ring-kept : {N : Dual} {parent : ℕ → ℕ} {d : ℕ} (flows : List ℤ) → d < N .darts
+    → ParentRing N parent (N .left d) → (flows ≡ flows) × (d < N .darts) × ParentRing N parent (N .left d)
 ring-kept flows l r = (refl, l, r)
 
 mag-limited : (b : ℕ) (x : ℤ) → mag x ≤ b → Limited (b + 1) x
@@ -26,7 +27,8 @@ mag-limited b (pos n) h = record { low = at-most (search parts) (omega arith); h
 mag-limited b (negsuc n) h = record { low = at-most (search parts) (omega arith); high = at-most (search parts) (omega arith) }
 
 -- one edge: x and y are the potentials left and right of a dart, l and m the lengths of it and of its reverse, c and b their capacities
-between : (x y l m c b : ℤ) → x ≤ℤ (y +ℤ l) → y ≤ℤ (x +ℤ m) → l +ℤ m ≡ c +ℤ b → Limited mostCapacity c → Limited mostCapacity b → Limited mostCapacity ((x -ℤ y) +ℤ (c -ℤ l))
+between : (x y l m c b : ℤ) → x ≤ℤ (y +ℤ l) → y ≤ℤ (x +ℤ m) → l +ℤ m ≡ c +ℤ b
+    → Limited mostCapacity c → Limited mostCapacity b → Limited mostCapacity ((x -ℤ y) +ℤ (c -ℤ l))
 between x y l m c b h g e hc hb =
     let a = atoms₃ x y l in
     let a' = atoms₃ m c b in
@@ -39,13 +41,16 @@ module _ {N : Dual} {edges : ℕ} {capacity : ℕ → ℤ} (q : Searchable N edg
   pub flowing : Flowing edges (N .left) capacity (N .length) ρ
   flowing = record {
     face-in = λ d l. omega (arith, q .sound .left-in d (omega (arith, q .darts-are)), q .sound .few-faces);
-    near = λ d l. limited-more (omega arith) (mag-limited 2000000000000000000 (ρ (N .left d)) (s .near (N .left d) (q .sound .left-in d (omega (arith, q .darts-are)))));
+    near =
+        λ d l. limited-more (omega arith)
+        (mag-limited 2000000000000000000 (ρ (N .left d)) (s .near (N .left d) (q .sound .left-in d (omega (arith, q .darts-are)))));
     small = λ e l. small e l;
   }
     where
       small : (e : ℕ) → e < edges → Limited mostCapacity (flowOf (N .left) capacity (N .length) ρ e)
       small e l =
-          between (ρ (N .left d)) (ρ (N .left (rev d))) (N .length d) (N .length (rev d)) (capacity d) (capacity (rev d)) forth back (q .sums d d-in) (q .small d d-in) (q .small (rev d) r-in)
+          between (ρ (N .left d)) (ρ (N .left (rev d))) (N .length d) (N .length (rev d)) (capacity d)
+          (capacity (rev d)) forth back (q .sums d d-in) (q .small d d-in) (q .small (rev d) r-in)
         where
           d : ℕ
           d = 2 * e

@@ -1,3 +1,1 @@
-pub mod Ends
-pub mod Search
-pub mod Decision
+pub mod inner

@@ -1,4 +1,5 @@
-// The solver: decides whether a value can be carried from a source to a sink of a plane map held in arrays. It gives the highest flow, or the nodes of a proving set.
+// The solver: decides whether a value can be carried from a source to a sink of a plane map held in arrays.
+// It gives the highest flow, or the nodes of a proving set.
 //
 // Each step has its own arrays, and none is kept longer than the step: the walk over the darts is made anew for a ring, since memory is scarcer than time.
 ghost use mathlib.Core.Path.{_≡_};
@@ -6,18 +7,18 @@ ghost use Prim.Native.Nat.{ℕ, _*_, _<_, _≤_};
 ghost use lib.ListN.{length};
 ghost use lib.IntN.{pos};
 ghost use lib.Signed.{_<ℤ_};
-ghost use Rattle.integers.specs.Limited.{Limited};
+ghost use Rattle.integers.specs.inner.Limited.{Limited};
 ghost use Rattle.maps.specs.Cut.{cut};
-ghost use Rattle.flows.specs.Plane.{Plane};
+ghost use Rattle.flows.specs.inner.Plane.{Plane};
 ghost use Rattle.arrays.specs.At.{at, atℤ};
-ghost use Rattle.search.specs.Dual.{dualOf};
-ghost use Rattle.arrays.specs.Drawn.{Drawn};
-ghost use Rattle.solver.specs.Ends.{Ends};
+ghost use Rattle.search.specs.inner.Dual.{dualOf};
+ghost use Rattle.arrays.specs.inner.Drawn.{Drawn};
+ghost use Rattle.solver.specs.inner.Ends.{Ends};
 ghost use Rattle.arrays.specs.Maps.{mapOf};
-ghost use Rattle.arrays.specs.Sizes.{mostCapacity, mostValue};
-ghost use Rattle.solver.specs.Search.{Lengthened, Searchable, Searched, Ringed};
-ghost use Rattle.solver.specs.Decision.{Decided};
-ghost use Rattle.arrays.specs.Flags.{flagged};
+ghost use Rattle.arrays.specs.inner.Sizes.{mostCapacity, mostValue};
+ghost use Rattle.solver.specs.inner.Search.{Lengthened, Searchable, Searched, Ringed};
+ghost use Rattle.solver.specs.inner.Decision.{Decided};
+ghost use Rattle.arrays.specs.inner.Flags.{flagged};
 use search::Outcome;
 
 // The lengths of the darts for a value, along the path that a walk over the darts finds from `start`, a dart at the source, to `finish`, a dart at the sink.
@@ -32,8 +33,12 @@ fn lengths_for(
     value: i32,
     lengths: &mut [i32; 1024],
 )
-    requires { ⌜ (length (now lengths) ≡ 1024) × (edges ≤ 512) × (start < 2 * edges) × (finish < 2 * edges) × Plane (mapOf nodes edges (now tails) (now rotations)) × ((d : ℕ) → d < 2 * edges → Limited mostCapacity (atℤ (now capacities) d)) × Limited mostValue value ⌝ }
-    ensures { λ _. ⌜ (length (now (lengths .exit)) ≡ 1024) × Lengthened (mapOf nodes edges (now (tails .entry)) (now (rotations .entry))) (at (now (tails .entry)) start) (at (now (tails .entry)) finish) (atℤ (now (capacities .entry))) value (atℤ (now (lengths .exit))) ⌝ }
+    requires { ⌜ (length (now lengths) ≡ 1024) × (edges ≤ 512) × (start < 2 * edges) × (finish < 2 * edges)
+        × Plane (mapOf nodes edges (now tails) (now rotations))
+        × ((d : ℕ) → d < 2 * edges → Limited mostCapacity (atℤ (now capacities) d)) × Limited mostValue value ⌝ }
+    ensures { λ _. ⌜ (length (now (lengths .exit)) ≡ 1024)
+        × Lengthened (mapOf nodes edges (now (tails .entry)) (now (rotations .entry))) (at (now (tails .entry)) start)
+        (at (now (tails .entry)) finish) (atℤ (now (capacities .entry))) value (atℤ (now (lengths .exit))) ⌝ }
 {
     let mut order = [0u16; 1024];
     let mut from = [0u16; 1024];
@@ -50,7 +55,8 @@ fn lengths_for(
     );
 }
 
-// Searches; where the potentials settle, writes the flows that they make. Where there is a ring, answers the dart that closes it, and the parents lead round it.
+// Searches; where the potentials settle, writes the flows that they make.
+// Where there is a ring, answers the dart that closes it, and the parents lead round it.
 fn settle(
     lefts: &[u16; 1024],
     capacities: &[i32; 1024],
@@ -61,8 +67,10 @@ fn settle(
     parents: &mut [u16; 1024],
     flows: &mut [i32],
 ) -> Outcome
-    requires { ⌜ (length (now parents) ≡ 1024) × (edges ≤ 512) × (edges ≤ length (now flows)) × Searchable (dualOf (now lefts) (now lengths) (2 * edges) faces root) edges (atℤ (now capacities)) ⌝ }
-    ensures { λ r. ⌜ Searched (dualOf (now (lefts .entry)) (now (lengths .entry)) (2 * edges) faces root) edges (atℤ (now (capacities .entry))) (now (flows .entry)) (now (flows .exit)) (at (now (parents .exit))) r ⌝ }
+    requires { ⌜ (length (now parents) ≡ 1024) × (edges ≤ 512) × (edges ≤ length (now flows))
+        × Searchable (dualOf (now lefts) (now lengths) (2 * edges) faces root) edges (atℤ (now capacities)) ⌝ }
+    ensures { λ r. ⌜ Searched (dualOf (now (lefts .entry)) (now (lengths .entry)) (2 * edges) faces root) edges
+        (atℤ (now (capacities .entry))) (now (flows .entry)) (now (flows .exit)) (at (now (parents .exit))) r ⌝ }
 {
     let mut order = [0u16; 1024];
     let mut starts = [0u16; 1024];
@@ -90,7 +98,8 @@ fn settle(
     Outcome::Settled
 }
 
-// Flags nodes whose cut of the lengths is below zero, from the ring that the parents lead round from the face y: its winding, heights of the nodes, a threshold.
+// Flags nodes whose cut of the lengths is below zero, from the ring that the parents lead round from the face y: its winding,
+// heights of the nodes, a threshold.
 fn cut_of_ring(
     tails: &[u16; 1024],
     rotations: &[u16; 1024],
@@ -104,8 +113,10 @@ fn cut_of_ring(
     y: usize,
     inside: &mut [u8; 1024],
 )
-    requires { ⌜ (length (now inside) ≡ 1024) × (0 < edges) × Ringed (mapOf nodes edges (now tails) (now rotations)) (dualOf (now lefts) (now lengths) (2 * edges) faces root) (at (now parents)) y ⌝ }
-    ensures { λ _. ⌜ (length (now (inside .exit)) ≡ 1024) × (cut (mapOf nodes edges (now (tails .entry)) (now (rotations .entry))) (atℤ (now (lengths .entry))) (flagged (now (inside .exit))) <ℤ pos 0) ⌝ }
+    requires { ⌜ (length (now inside) ≡ 1024) × (0 < edges)
+        × Ringed (mapOf nodes edges (now tails) (now rotations)) (dualOf (now lefts) (now lengths) (2 * edges) faces root) (at (now parents)) y ⌝ }
+    ensures { λ _. ⌜ (length (now (inside .exit)) ≡ 1024)
+        × (cut (mapOf nodes edges (now (tails .entry)) (now (rotations .entry))) (atℤ (now (lengths .entry))) (flagged (now (inside .exit))) <ℤ pos 0) ⌝ }
 {
     let mut order = [0u16; 1024];
     let mut from = [0u16; 1024];
@@ -117,7 +128,8 @@ fn cut_of_ring(
     thresholds::choose_set(tails, lengths, &heights, nodes, 2 * edges, inside);
 }
 
-// Decides one value from a source to a sink, with the face of the outer dart at 0: true with the highest flow written, false with the nodes of a proving set flagged.
+// Decides one value from a source to a sink, with the face of the outer dart at 0: true with the highest flow written,
+// false with the nodes of a proving set flagged.
 pub fn decide<'a>(
     tails: &'a [u16; 1024],
     rotations: &'a [u16; 1024],
@@ -133,8 +145,12 @@ pub fn decide<'a>(
     flows: &mut [i32],
     inside: &mut [u8; 1024],
 ) -> bool
-    requires { ⌜ (length (now inside) ≡ 1024) × (edges ≤ length (now flows)) × Drawn (mapOf nodes edges (now tails) (now rotations)) (at (now lefts)) faces outer (atℤ (now capacities)) × Ends (mapOf nodes edges (now tails) (now rotations)) source sink × Limited mostValue value ⌝ }
-    ensures { λ r. ⌜ (length (now (inside .exit)) ≡ 1024) × Decided (mapOf nodes edges (now (tails .entry)) (now (rotations .entry))) outer (atℤ (now (capacities .entry))) source sink value (now (flows .entry)) (now (flows .exit)) (now (inside .exit)) r ⌝ }
+    requires { ⌜ (length (now inside) ≡ 1024) × (edges ≤ length (now flows))
+        × Drawn (mapOf nodes edges (now tails) (now rotations)) (at (now lefts)) faces outer (atℤ (now capacities))
+        × Ends (mapOf nodes edges (now tails) (now rotations)) source sink × Limited mostValue value ⌝ }
+    ensures { λ r. ⌜ (length (now (inside .exit)) ≡ 1024)
+        × Decided (mapOf nodes edges (now (tails .entry)) (now (rotations .entry))) outer (atℤ (now (capacities .entry)))
+        source sink value (now (flows .entry)) (now (flows .exit)) (now (inside .exit)) r ⌝ }
 {
     let start = traversal::dart_at(tails, 2 * edges, source);
     let finish = traversal::dart_at(tails, 2 * edges, sink);

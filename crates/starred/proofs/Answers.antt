@@ -1,5 +1,5 @@
--- From what is known of a drawing to the lines of the table: an accepted sheet that holds the drawing gets these answers, by the contracts of the operations. What the
--- drawing must be known by is a record for each kind of answer; the facts of one drawing are in proofs/Table.antt.
+-- From what is known of a drawing to the lines of the table: an accepted sheet that holds the drawing gets these answers, by the contracts of the operations.
+-- What the drawing must be known by is a record for each kind of answer; the facts of one drawing are in proofs/Table.antt.
 use mathlib.Core.Path.{_≡_, refl, sym, _∙_, subst, ap, ap₂}
 use mathlib.Core.List.{List, _++_}
 use Prim.Native.Nat.{ℕ, _≤_, _<_}
@@ -21,7 +21,7 @@ use Rattle.flows.specs.Levels.{Levels}
 use Rattle.flows.specs.Highest.{Highest}
 use Rattle.flows.specs.ProvingSet.{Proves, member, size, SetOf}
 use Rattle.flows.proofs.Interval.{source-limits}
-use Rattle.flows.specs.Sides.{AtSource}
+use Rattle.flows.specs.inner.Sides.{AtSource}
 use Rattle.balance.proofs.Within.{within-none}
 use Rattle.balance.proofs.Balance.{circulation-none}
 use Rattle.maps.specs.Drawing.{Drawing}
@@ -90,7 +90,8 @@ on-sheet good P h = subst P (sym (good .drawing)) h
 
 -- ── slices ──
 -- a slice filled with the numbers of a list has the list in front
-filled-front : {E : Type 0} (z : E) (n : ℕ) (f : ℕ → E) (new old now' : List E) → length new ≡ n → ((i : ℕ) → i < n → f i ≡ getD new i z) → now' ≡ filled n f old → now' ≡ front new old
+filled-front : {E : Type 0} (z : E) (n : ℕ) (f : ℕ → E) (new old now' : List E) → length new ≡ n
+    → ((i : ℕ) → i < n → f i ≡ getD new i z) → now' ≡ filled n f old → now' ≡ front new old
 filled-front z n f new old now' long same e =
     e ∙ ap₂ (λ (a b : List _). a ++ b) (tabulate-ext n f (λ i. getD new i z) same ∙ tabulate-getD n new z long) (ap (λ (k : ℕ). drop k old) (sym long))
 
@@ -104,7 +105,8 @@ has-room s flows set room = (neither (λ h. omega (arith, room .0)) (λ h. omega
 -- ── Solve ──
 module _ {s : List ℕ} {𝓓 : Drawing} (good : Good s 𝓓) (source sink : ℕ) (value : ℤ) (inside : NoneOf (valueChecks value)) where
   asked : (flows : List ℤ) (set : List ℕ) → NoneOf (endChecks (nodesOf s) source sink) → Room s flows set → NoneOf (solveChecks s source sink value flows set)
-  asked flows set two room = solve-none s source sink value flows set (record { sheet = good .accepted; ends-two = two; value-inside = inside; has-room = has-room s flows set room })
+  asked flows set two room =
+      solve-none s source sink value flows set (record { sheet = good .accepted; ends-two = two; value-inside = inside; has-room = has-room s flows set room })
 
   pub solve-can : (settings : List ℤ) → CanBy source sink value settings 𝓓 → SolveCan s source sink value settings
   solve-can settings by flows flows' set set' answer room solved = go answer solved
@@ -172,19 +174,22 @@ module _ {s : List ℕ} {𝓓 : Drawing} (good : Good s 𝓓) (source sink : ℕ
       ends : (source < nodesOf s) × (sink < nodesOf s)
       ends = ends-in (nodesOf s) source sink (k .ends)
 
-      go : (a : LargestAnswer) → FindsLargest s source sink flows flows' set set' a → (a ≡ Value value) × (flows' ≡ front settings flows) × (set' ≡ front words set)
+      go : (a : LargestAnswer) → FindsLargest s source sink flows flows' set set' a
+          → (a ≡ Value value) × (flows' ≡ front settings flows) × (set' ≡ front words set)
       go (Value v) h =
           let above : value ≤ℤ v = nothing-greater s source sink flows flows' set set' whole v h value (atℤ settings) (k .highest .carries) in
           let below : v ≤ℤ value =
           le-trans
-          (source-limits (plane s (good .accepted) .sound .range) (ends .0) (ends .1) (ends-differ (nodesOf s) source sink (k .ends)) (capacityOf s) (member words) (f .0) v (h .1 .0) (h .1 .1 .carries))
+          (source-limits (plane s (good .accepted) .sound .range) (ends .0) (ends .1)
+          (ends-differ (nodesOf s) source sink (k .ends)) (capacityOf s) (member words) (f .0) v (h .1 .0) (h .1 .1 .carries))
           (f .1) in
           let e : v ≡ value = le-antisym below above in
           let x = h .1 .0 in
           let ws = h .2 .0 in (
             ap Value e,
             filled-front (pos 0) (edgesOf s) x settings flows flows' (k .long)
-                (one-highest s (good .accepted) source sink (k .ends) value x (atℤ settings) (subst (λ (w : ℤ). Highest (sheetMap s) (outerOf s) (capacityOf s) source sink w x) e (h .1 .1)) (k .highest))
+                (one-highest s (good .accepted) source sink (k .ends) value x (atℤ settings)
+                (subst (λ (w : ℤ). Highest (sheetMap s) (outerOf s) (capacityOf s) source sink w x) e (h .1 .1)) (k .highest))
                 (h .1 .2),
             set-front (h .2 .1)
                 (n .only ws (h .2 .1 .is-set) (subst (λ (w : ℤ). Proves (sheetMap s) (capacityOf s) source sink (w +ℤ pos 1) (member ws)) e (h .2 .2))),
@@ -204,7 +209,8 @@ module _ {s : List ℕ} {𝓓 : Drawing} (good : Good s 𝓓) (source sink : ℕ
       go (largest.Refused j p) h = absurd (largest-answered s source sink flows flows' set set' (sought flows set (k .ends) room) j p h)
 
 -- ── Levels from settings ──
-pub levels-are : {s : List ℕ} {𝓓 : Drawing} → Good s 𝓓 → (settings found : List ℤ) → ((more : List ℤ) → LevelsBy (settings ++ more) found 𝓓) → LevelsAre s settings found
+pub levels-are : {s : List ℕ} {𝓓 : Drawing} → Good s 𝓓 → (settings found : List ℤ)
+    → ((more : List ℤ) → LevelsBy (settings ++ more) found 𝓓) → LevelsAre s settings found
 levels-are {s} good settings found by more levels levels' answer room given = go answer given
   where
     flows : List ℤ
@@ -215,7 +221,8 @@ levels-are {s} good settings found by more levels levels' answer room given = go
 
     whole : NoneOf (levelsChecks s (settings ++ more) levels)
     whole =
-        levels-none s (settings ++ more) levels (good .accepted) (balanced-none (sheetDrawing s) (settings ++ more) levels (k .settings-long) (omega (arith, k .found-long))
+        levels-none s (settings ++ more) levels (good .accepted)
+        (balanced-none (sheetDrawing s) (settings ++ more) levels (k .settings-long) (omega (arith, k .found-long))
         (within-none (sheetMap s) (capacityOf s) (atℤ (settings ++ more)) (k .within))
         (circulation-none (sheetMap s) (atℤ (settings ++ more)) (k .balanced)))
 
@@ -229,14 +236,17 @@ levels-are {s} good settings found by more levels levels' answer room given = go
     go (level.Refused j p) h = absurd (first-none (levelsChecks s (settings ++ more) levels) j p (h .0) whole)
 
 -- ── opening a sheet ──
-pub opened : {s : List ℕ} {𝓓 : Drawing} → Good s 𝓓 → (lefts : List ℕ) (o : Opened) (v : Verdict) → Opens s lefts o v → (v ≡ Passed) × ((d : ℕ) → d < darts (𝓓 .map) → InFace lefts (left (𝓓 .map) d) d)
-opened {s} {𝓓} good lefts o v h = subst (λ (𝓔 : Drawing). (v ≡ Passed) × ((d : ℕ) → d < darts (𝓔 .map) → InFace lefts (left (𝓔 .map) d) d)) (good .drawing) (go v h)
+pub opened : {s : List ℕ} {𝓓 : Drawing} → Good s 𝓓 → (lefts : List ℕ) (o : Opened) (v : Verdict)
+    → Opens s lefts o v → (v ≡ Passed) × ((d : ℕ) → d < darts (𝓓 .map) → InFace lefts (left (𝓓 .map) d) d)
+opened {s} {𝓓} good lefts o v h =
+    subst (λ (𝓔 : Drawing). (v ≡ Passed) × ((d : ℕ) → d < darts (𝓔 .map) → InFace lefts (left (𝓔 .map) d) d)) (good .drawing) (go v h)
   where
     go : (v : Verdict) → Opens s lefts o v → (v ≡ Passed) × ((d : ℕ) → d < darts (sheetMap s) → InFace lefts (left (sheetMap s) d) d)
     go Passed h = (refl, h .1 .lefts-are)
     go (verdict.Refused j p) h = absurd (first-none (sheetChecks s) j p h (good .accepted))
 
-pub refused-open : (s : List ℕ) (n : ℕ) → FirstOf (sheetChecks s) n 0 → (lefts : List ℕ) (o : Opened) (v : Verdict) → Opens s lefts o v → v ≡ verdict.Refused n 0
+pub refused-open : (s : List ℕ) (n : ℕ) → FirstOf (sheetChecks s) n 0
+    → (lefts : List ℕ) (o : Opened) (v : Verdict) → Opens s lefts o v → v ≡ verdict.Refused n 0
 refused-open s n bad lefts o v h = go v h
   where
     go : (v : Verdict) → Opens s lefts o v → v ≡ verdict.Refused n 0

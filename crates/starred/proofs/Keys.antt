@@ -70,7 +70,8 @@ module _ (b : List ℕ) (whole : NoneOf (recordChecks b 3 0)) where
     unfolding keyChecks
     accepted two =
         none-append (recordChecks b 3 0) (sheetChecks (sheetOf b) ++ rest) whole
-        (none-append (sheetChecks (sheetOf b)) rest (good .accepted) (none-append (endChecks (nodesOf (sheetOf b)) (sourceOf b) (sinkOf b)) (valueChecks (valueOf b)) two inside))
+        (none-append (sheetChecks (sheetOf b)) rest (good .accepted)
+        (none-append (endChecks (nodesOf (sheetOf b)) (sourceOf b) (sinkOf b)) (valueChecks (valueOf b)) two inside))
 
     pub key-can : (settings : List ℤ) → CanBy (sourceOf b) (sinkOf b) (valueOf b) settings 𝓓 → OnlyKey b (canText (valueOf b) (length settings) (atℤ settings))
     key-can settings by t key = go key
@@ -83,17 +84,20 @@ module _ (b : List ℕ) (whole : NoneOf (recordChecks b 3 0)) where
             e
             ∙ can-text (valueOf b) (edgesOf (sheetOf b)) (length settings) x (atℤ settings) (sym (k .long))
             (one-highest (sheetOf b) (good .accepted) (sourceOf b) (sinkOf b) (k .ends) (valueOf b) x (atℤ settings) h (k .highest))
-        go (cannot none ws h p e) = absurd (excludes (sheetOf b) (good .accepted) (sourceOf b) (sinkOf b) (k .ends) (valueOf b) (member ws) p (atℤ settings) (k .highest .carries))
+        go (cannot none ws h p e) =
+            absurd (excludes (sheetOf b) (good .accepted) (sourceOf b) (sinkOf b) (k .ends) (valueOf b) (member ws) p (atℤ settings) (k .highest .carries))
         go (refused j p h e) = absurd (first-none (keyChecks b) j p h (accepted (k .ends)))
 
-    pub key-cannot : (words : List ℕ) → CannotBy (sourceOf b) (sinkOf b) (valueOf b) words 𝓓 → OnlyKey b (cannotText (valueOf b) (size words) (𝓓 .map .nodes) words)
+    pub key-cannot : (words : List ℕ) → CannotBy (sourceOf b) (sinkOf b) (valueOf b) words 𝓓
+        → OnlyKey b (cannotText (valueOf b) (size words) (𝓓 .map .nodes) words)
     key-cannot words by t key = go key
       where
         k : CannotBy (sourceOf b) (sinkOf b) (valueOf b) words (sheetDrawing (sheetOf b))
         k = on-sheet good (CannotBy (sourceOf b) (sinkOf b) (valueOf b) words) by
 
         go : Key b t → t ≡ cannotText (valueOf b) (size words) (𝓓 .map .nodes) words
-        go (can none x h e) = absurd (excludes (sheetOf b) (good .accepted) (sourceOf b) (sinkOf b) (k .ends) (valueOf b) (member words) (k .proves) x (h .carries))
+        go (can none x h e) =
+            absurd (excludes (sheetOf b) (good .accepted) (sourceOf b) (sinkOf b) (k .ends) (valueOf b) (member words) (k .proves) x (h .carries))
         go (cannot none ws h p e) =
             e ∙ ap₂ (λ (n : ℕ) (l : List ℕ). cannotText (valueOf b) (size l) n l) (ap (λ (𝓔 : Drawing). 𝓔 .map .nodes) (good .drawing)) (k .only ws h p)
         go (refused j p h e) = absurd (first-none (keyChecks b) j p h (accepted (k .ends)))

@@ -111,12 +111,14 @@ module _ (𝓓 : Drawing) where
       only = only-one (𝓓 .map .nodes) (omega arith) few w (λ ws. Proves (𝓓 .map) (𝓓 .capacity) 0 1 value (member ws)) (short value) (λ v h. of-T (h .lt)) tried;
     }
 
-    pub cannot-line : {s : List ℕ} → Good s 𝓓 → (value : ℤ) (w n : ℕ) → inside value ≡ true → short value w ≡ true → alone (short value) w ≡ true → size (w ∷ []) ≡ n
+    pub cannot-line : {s : List ℕ} → Good s 𝓓 → (value : ℤ) (w n : ℕ) → inside value ≡ true
+        → short value w ≡ true → alone (short value) w ≡ true → size (w ∷ []) ≡ n
         → SolveCannot s 0 1 value (w ∷ []) n
     cannot-line good value w n asked proves tried ones = solve-cannot good 0 1 value (in-range value asked) (w ∷ []) n ones (cannot-by value w proves tried)
 
     -- ── "none": the set is beside the ends with an outward total below 0, and of all sets no other is so ──
-    pub none-line : {s : List ℕ} → Good s 𝓓 → (w : ℕ) → member (w ∷ []) 0 ≡ member (w ∷ []) 1 → ltZ (outward w) (pos 0) ≡ true → alone beside w ≡ true → LargestNone s 0 1 (w ∷ [])
+    pub none-line : {s : List ℕ} → Good s 𝓓 → (w : ℕ) → member (w ∷ []) 0 ≡ member (w ∷ []) 1
+        → ltZ (outward w) (pos 0) ≡ true → alone beside w ≡ true → LargestNone s 0 1 (w ∷ [])
     none-line good w same low tried =
         largest-is-none good 0 1 (w ∷ [])
         (record {
@@ -167,6 +169,14 @@ module _ (capacities : List ℤ) (x₀ x₁ x₂ l₀ l₁ l₂ : ℤ) where
         settings-long = omega arith;
         found-long = sym (maps.A-faces .0);
         within = every-at-most 6 (onDarts (flows more)) (atℤ capacities) (fits more);
-        balanced = record { antisymmetric = onDarts-antisymmetric maps.A (flows more); balanced = every-equalℤ 2 (net maps.A (onDarts (flows more))) (λ v. pos 0) (balanced more) };
-        levels = record { differences = every-equalℤ 6 (onDarts (flows more)) (difference maps.A heights) (differ more); rooted = λ f z. ap heights (z ∙ maps.A-faces .1) ∙ rooted };
+        balanced =
+            record {
+              antisymmetric = onDarts-antisymmetric maps.A (flows more);
+              balanced = every-equalℤ 2 (net maps.A (onDarts (flows more))) (λ v. pos 0) (balanced more);
+            };
+        levels =
+            record {
+              differences = every-equalℤ 6 (onDarts (flows more)) (difference maps.A heights) (differ more);
+              rooted = λ f z. ap heights (z ∙ maps.A-faces .1) ∙ rooted;
+            };
       }

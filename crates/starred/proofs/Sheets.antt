@@ -1,5 +1,5 @@
--- The sheets of the table: which drawing each of them holds, and that the sheet checks accept it, or refuse it by 12. A sheet's bytes are those of its drawing, so what
--- is known of drawings and maps carries over.
+-- The sheets of the table: which drawing each of them holds, and that the sheet checks accept it, or refuse it by 12. A sheet's bytes are those of its drawing,
+-- so what is known of drawings and maps carries over.
 use mathlib.Core.Path.{_≡_, refl, sym, subst}
 use mathlib.Core.Logic.{inl, inr}
 use mathlib.Core.List.{List, [], _∷_}
@@ -93,7 +93,8 @@ module _ {s : List ℕ} {𝓓 : Drawing} (k : Known s 𝓓) where
 
   known-bad : (n p : ℕ) → FirstOf (mapChecks (𝓓 .map)) n p → FirstOf (sheetChecks s) n p
   unfolding sheetChecks
-  known-bad n p h = first-right (byteChecks s) (mapChecks (sheetMap s)) n p (k .bytes) (subst (λ (𝓔 : Drawing). FirstOf (mapChecks (𝓔 .map)) n p) (sym (k .drawing)) h)
+  known-bad n p h =
+      first-right (byteChecks s) (mapChecks (sheetMap s)) n p (k .bytes) (subst (λ (𝓔 : Drawing). FirstOf (mapChecks (𝓔 .map)) n p) (sym (k .drawing)) h)
 
 fair-by-tests : (edges : ℕ) (c : ℕ → ℤ) → every (2 * edges) (λ d. leZ (negsuc 999999) (c d)) ≡ true → every (2 * edges) (λ d. leZ (c d) (pos 1000000)) ≡ true
     → every edges (λ e. leZ (pos 0) (c (2 * e) +ℤ c (2 * e + 1))) ≡ true → Fair edges c
@@ -129,7 +130,8 @@ A-checked : NoneOf (mapChecks maps.A)
 A-checked = passes maps.A-sound maps.A-connected maps.A-flat
 
 -- A's map with other capacities
-A-with : (s : List ℕ) (capacities : List ℤ) → length capacities ≡ 6 → encode (drawn maps.A capacities) ≡ s → Fair 3 (atℤ capacities) → Good s (drawn maps.A capacities)
+A-with : (s : List ℕ) (capacities : List ℤ) → length capacities ≡ 6
+    → encode (drawn maps.A capacities) ≡ s → Fair 3 (atℤ capacities) → Good s (drawn maps.A capacities)
 A-with s capacities six e fair =
     known-good
     (known (drawn maps.A capacities) (maps.A-sound .range) fair s e two-three
@@ -157,7 +159,10 @@ allFive-good = A-with allFive allFive-capacities refl refl (fair-by-tests 3 (at�
 twisted-checked : FirstOf (mapChecks maps.twistedA) 12 0
 unfolding FirstOf mapChecks
 twisted-checked =
-    inr (no-rotation-fault maps.twisted-sound, inr (no-node-fault maps.twisted-sound, inr ((λ r. r .4 (maps.twisted-connected (r .0) (r .1) (r .2) (r .3))), inl (maps.twisted-not-flat, refl, refl))))
+    inr (
+      no-rotation-fault maps.twisted-sound,
+      inr (no-node-fault maps.twisted-sound, inr ((λ r. r .4 (maps.twisted-connected (r .0) (r .1) (r .2) (r .3))), inl (maps.twisted-not-flat, refl, refl))),
+    )
 
 pub twisted-bad : FirstOf (sheetChecks twisted) 12 0
 unfolding twisted encode encodeHead encodeEdges encodeEdge le16 le32 leBits every
@@ -193,7 +198,8 @@ B-sound = record {
   one-round = λ c d lc ld e. (
     steps c d,
     eqb-eq (iter (maps.B .rotation) (steps c d) c) d
-        (every-two 4 (λ c d. eqb (maps.B .tail c) (maps.B .tail d)) (λ c d. eqb (iter (maps.B .rotation) (steps c d) c) d) refl c d lc ld (eqb-true (maps.B .tail c) (maps.B .tail d) e)),
+        (every-two 4 (λ c d. eqb (maps.B .tail c) (maps.B .tail d)) (λ c d. eqb (iter (maps.B .rotation) (steps c d) c) d)
+        refl c d lc ld (eqb-true (maps.B .tail c) (maps.B .tail d) e)),
   );
   has-dart = λ v l. (dartOf v, every-below 3 dartOf (λ v. 4) refl v l, every-equal 3 (λ v. maps.B .tail (dartOf v)) (λ v. v) refl v l);
 }

@@ -1,4 +1,5 @@
--- The table, proved: line by line, by the tests of proofs/Lines.antt, which are computed (`refl`). What a line says, its numbers too, is taken from the table (`_`).
+-- The table, proved: line by line, by the tests of proofs/Lines.antt, which are computed (`refl`).
+-- What a line says, its numbers too, is taken from the table (`_`).
 use mathlib.Core.Path.{_≡_, refl, _∙_}
 use mathlib.Core.List.{[], _∷_, _++_}
 use Prim.Native.Nat.{ℕ}
@@ -22,7 +23,18 @@ use Rattle.key_text.specs.Text.{lines, edgeLine, nodeLine, canLine, canText, ca
 use Rattle.starred.specs.Drawings.{A, twisted, question}
 use Rattle.starred.specs.Texts.{canSix, cannotThirteen, refusedTwelve}
 use Rattle.starred.specs.Table.{Starred}
-use Rattle.starred.proofs.Sheets.{drawn, A-capacities, leastTwo-capacities, allFive-capacities, B-capacities, A-good, leastTwo-good, allFive-good, twisted-bad, B-good}
+use Rattle.starred.proofs.Sheets.{
+  drawn,
+  A-capacities,
+  leastTwo-capacities,
+  allFive-capacities,
+  B-capacities,
+  A-good,
+  leastTwo-good,
+  allFive-good,
+  twisted-bad,
+  B-good,
+}
 use Rattle.starred.proofs.Answers.{solve-refused, opened, refused-open}
 use Rattle.starred.proofs.Keys.{OnlyKey, key-prints, question-whole, key-can, key-cannot, key-refused}
 use Rattle.starred.proofs.Lines.{in-range, can-on-A, can-line, cannot-by, cannot-line, largest-line, none-line, levels-line}
@@ -56,7 +68,8 @@ thirteen-only t key =
 
 twisted-only : (source sink : ℕ) (value : ℤ) → OnlyKey (question source sink value ++ twisted) refusedTwelve
 unfolding question le16 le32 leBits
-twisted-only source sink value t key = key-refused (question source sink value ++ twisted) (question-whole source sink value twisted) 12 twisted-bad t key ∙ twelve-text
+twisted-only source sink value t key =
+    key-refused (question source sink value ++ twisted) (question-whole source sink value twisted) 12 twisted-bad t key ∙ twelve-text
 
 -- ── all ──
 pub starred : Starred

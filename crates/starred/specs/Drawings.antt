@@ -1,5 +1,5 @@
--- The drawings of document 01, "Drawings with known answers", as sheets: one record a line, the head with both counts and then each channel with its tail, head, two
--- turns and two limits, as the paper lists them. And the question record of the program key.
+-- The drawings of document 01, "Drawings with known answers", as sheets: one record a line, the head with both counts and then each channel with its tail,
+-- head, two turns and two limits, as the paper lists them. And the question record of the program key.
 use Prim.Native.Nat.{ℕ}
 use mathlib.Core.List.{List, _∷_, _++_}
 use lib.IntN.{ℤ, pos, negsuc}

@@ -1,5 +1,6 @@
--- The starred lines of document 01, "Drawings with known answers", as one table: a field for each, in the paper's order. Each says what an operation answers, and what it
--- leaves in the slices that it is lent, of whatever length; so each is about every run of the operation, by its contract. In all of them "Headgate 0, outfall 1".
+-- The starred lines of document 01, "Drawings with known answers", as one table: a field for each, in the paper's
+-- order. Each says what an operation answers, and what it leaves in the slices that it is lent, of whatever
+-- length; so each is about every run of the operation, by its contract. In all of them "Headgate 0, outfall 1".
 use Prim.Native.Nat.{ℕ, _≤_}
 use mathlib.Core.Path.{_≡_}
 use mathlib.Core.List.{List, [], _∷_, _++_}

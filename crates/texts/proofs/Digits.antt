@@ -1,5 +1,5 @@
--- The digits of a number by its last digit: below ten there is one, else the digits of n div 10 stand before it. What holds of every number by its digits follows
--- by induction on n div 10.
+-- The digits of a number by its last digit: below ten there is one, else the digits of n div 10 stand before it.
+-- What holds of every number by its digits follows by induction on n div 10.
 use mathlib.Core.Path.{_≡_, refl, sym, ap, _∙_}
 use mathlib.Core.Logic.{_⊎_, inl, inr, ⊎-elim}
 use mathlib.Core.Bool.{Bool, true, false}

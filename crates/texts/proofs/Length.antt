@@ -6,7 +6,7 @@ use Prim.Native.Nat.{ℕ, zero, suc, _+_, _/_, _%_, _^_, _<_, _≤_}
 use native.Mathlib.Omega.{arith}
 use lib.ListN.{length, length-append}
 use lib.IntN.{ℤ, pos, negsuc}
-use Rattle.integers.specs.Limited.{Limited}
+use Rattle.integers.specs.inner.Limited.{Limited}
 use Rattle.integers.proofs.Omega.{parts, from-at-most}
 use Rattle.texts.specs.Decimal.{digit, decimal, number}
 use Rattle.texts.proofs.Digits.{decimal-one, decimal-more, by-digits, below-or-not, tenth-below}

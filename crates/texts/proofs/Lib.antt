@@ -1,3 +1,4 @@
+-- Numbers in base ten: written from the right, with their length, and read back.
 pub mod Digits
 pub mod Length
 pub mod Pieces

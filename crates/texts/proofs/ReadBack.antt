@@ -61,7 +61,8 @@ decimal-digits = by-digits (λ n. (i : ℕ) → i < length (decimal n) → Digit
         let first : i ≡ 0 = omega (arith, length-one n h) in
         digit-byte _ n h (ap (λ k. getD (decimal n) k 0) first ∙ ap (λ s. getD s 0 0) (decimal-one n h))
 
-    more : (n : ℕ) → 10 ≤ n → ((i : ℕ) → i < length (decimal (n / 10)) → Digit (getD (decimal (n / 10)) i 0)) → (i : ℕ) → i < length (decimal n) → Digit (getD (decimal n) i 0)
+    more : (n : ℕ) → 10 ≤ n → ((i : ℕ) → i < length (decimal (n / 10)) → Digit (getD (decimal (n / 10)) i 0))
+        → (i : ℕ) → i < length (decimal n) → Digit (getD (decimal n) i 0)
     more n h before i l =
         ⊎-elim
         (λ g. rw (byte-before n h i g) (before i g))

@@ -1,5 +1,5 @@
--- Numbers in base ten, as bytes of ASCII. Document 01, "What the unit holds": "Numbers are in base ten." What is printed has no plus and no leading zero; a number
--- below zero has the minus sign of ASCII before it.
+-- Numbers in base ten, as bytes of ASCII. Document 01, "What the unit holds": "Numbers are in base ten." What is printed has no plus and no leading zero; a
+-- number below zero has the minus sign of ASCII before it.
 use Prim.Native.Nat.{ℕ, zero, suc, _+_, _/_, _%_}
 use mathlib.Core.Bool.{cond}
 use mathlib.Core.List.{List, [], _∷_, _++_}

@@ -1,10 +1,11 @@
-// Numbers in base ten, written into a lent slice of bytes. Document 01: "Numbers are in base ten." Each function writes at a place and returns the place behind.
+// Numbers in base ten, written into a lent slice of bytes. Document 01: "Numbers are in base ten."
+// Each function writes at a place and returns the place behind.
 ghost use mathlib.Core.Path.{_≡_};
 ghost use Prim.Native.Nat.{_+_, _%_, _≤_};
 ghost use lib.ListN.{length};
 ghost use lib.IntN.{natAbs};
 ghost use Rattle.texts.specs.Decimal.{digit, decimal, number};
-ghost use Rattle.texts.specs.Placed.{Placed};
+ghost use Rattle.texts.specs.inner.Placed.{Placed};
 
 // Bytes as they are, such as a word.
 pub fn put_bytes(text: &mut [u8], at: usize, bytes: &[u8]) -> usize

@@ -8,16 +8,16 @@ use native.Mathlib.Omega.{arith}
 use lib.IntN.{ℤ, pos, negℤ, _+ℤ_, _-ℤ_}
 use lib.Signed.{_≤ℤ_, _<ℤ_, ltZ, ≤ℤ-refl}
 use Rattle.integers.specs.Sum.{Integers, when}
-use Rattle.integers.specs.Limited.{Limited}
+use Rattle.integers.specs.inner.Limited.{Limited}
 use Rattle.integers.proofs.Omega.{atoms₂, atoms₃, parts, positive, positive-is, at-most, less, from-at-most, from-less}
 use Rattle.integers.proofs.Laws.{le-antisym, le-of-lt, lt-or-ge, lt-le-clash, lt-of-test, ge-of-test}
 use Rattle.integers.proofs.Sums.{sum-ext, sum-nil}
 use Rattle.integers.proofs.Tests.{of-T, either}
 use Rattle.maps.specs.Dart.{rev}
-use Rattle.cuts.specs.Cut.{cutOf}
-use Rattle.thresholds.specs.Above.{above}
-use Rattle.thresholds.specs.Choice.{Choosable}
-use Rattle.arrays.specs.Sizes.{mostHeight}
+use Rattle.cuts.specs.inner.Cut.{cutOf}
+use Rattle.thresholds.specs.inner.Above.{above}
+use Rattle.thresholds.specs.inner.Choice.{Choosable}
+use Rattle.arrays.specs.inner.Sizes.{mostHeight}
 use Rattle.cuts.proofs.Adding.{reverse-in}
 
 pub not-false : (b : Bool) → not b ≡ false → b ≡ true

@@ -6,8 +6,8 @@ use lib.IntN.{pos, negsuc, negℤ}
 use lib.Signed.{ltZ-yes}
 use Rattle.integers.proofs.Tests.{every, every-below, every-at-most}
 use Rattle.arrays.specs.At.{at, atℤ}
-use Rattle.thresholds.specs.Choice.{Choosable}
-use Rattle.arrays.specs.Sizes.{mostLength, mostHeight}
+use Rattle.thresholds.specs.inner.Choice.{Choosable}
+use Rattle.arrays.specs.inner.Sizes.{mostLength, mostHeight}
 use Rattle.thresholds.proofs.Above.{above-four}
 
 heights-meet : Choosable 2 2 (at (0 ∷ 1 ∷ [])) (atℤ (negsuc 0 ∷ pos 3 ∷ [])) (atℤ (pos 5 ∷ pos 4 ∷ []))

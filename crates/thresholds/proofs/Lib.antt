@@ -1,3 +1,4 @@
+-- Thresholds tried upwards: one whose cut is negative is found.
 pub mod Above
 pub mod Lowering
 pub mod Choosing

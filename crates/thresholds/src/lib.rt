@@ -8,13 +8,13 @@ ghost use lib.ListN.{length};
 ghost use lib.IntN.{ℤ, pos};
 ghost use lib.Signed.{_≤ℤ_, _<ℤ_, ltZ};
 ghost use Rattle.integers.specs.Sum.{when};
-ghost use Rattle.integers.specs.Limited.{Limited};
+ghost use Rattle.integers.specs.inner.Limited.{Limited};
 ghost use Rattle.maps.specs.Dart.{rev};
 ghost use Rattle.arrays.specs.At.{at, atℤ};
-ghost use Rattle.cuts.specs.Cut.{leavesOf, cutOf};
-ghost use Rattle.thresholds.specs.Above.{above};
-ghost use Rattle.thresholds.specs.Choice.{Choosable};
-ghost use Rattle.arrays.specs.Sizes.{mostLength, mostHeight};
+ghost use Rattle.cuts.specs.inner.Cut.{leavesOf, cutOf};
+ghost use Rattle.thresholds.specs.inner.Above.{above};
+ghost use Rattle.thresholds.specs.inner.Choice.{Choosable};
+ghost use Rattle.arrays.specs.inner.Sizes.{mostLength, mostHeight};
 
 fn is_above(x: i32, threshold: i32) -> bool
     ensures { λ r. ⌜ r ≡ ltZ threshold x ⌝ }
@@ -55,15 +55,16 @@ fn flag(x: i32, threshold: i32) -> u8
 // Flags the nodes above the threshold.
 fn flag_above(heights: &[i32; 1024], nodes: usize, threshold: i32, inside: &mut [u8; 1024])
     requires { ⌜ (length (now inside) ≡ 1024) × (nodes ≤ 1024) ⌝ }
-    ensures { λ _. ⌜ (length (now (inside .exit)) ≡ 1024) × ((v : ℕ) → v < nodes → eqb (at (now (inside .exit)) v) 1 ≡ above (atℤ (now (heights .entry))) threshold v) ⌝ }
+    ensures { λ _. ⌜ (length (now (inside .exit)) ≡ 1024)
+        × ((v : ℕ) → v < nodes → eqb (at (now (inside .exit)) v) 1 ≡ above (atℤ (now (heights .entry))) threshold v) ⌝ }
 {
     for v in 0..nodes {
         inside[v] = flag(heights[v], threshold);
     }
 }
 
-// Tries the thresholds upwards from the lowest height, below which all nodes are in the set and nothing leaves it. For a ring that passes no face twice the first
-// one serves.
+// Tries the thresholds upwards from the lowest height, below which all nodes are in the set and nothing leaves it.
+// For a ring that passes no face twice the first one serves.
 pub fn choose_set(
     tails: &[u16; 1024],
     lengths: &[i32; 1024],
@@ -73,7 +74,8 @@ pub fn choose_set(
     inside: &mut [u8; 1024],
 )
     requires { ⌜ (length (now inside) ≡ 1024) × Choosable nodes darts (at (now tails)) (atℤ (now lengths)) (atℤ (now heights)) ⌝ }
-    ensures { λ _. ⌜ (length (now (inside .exit)) ≡ 1024) × (cutOf darts (at (now (tails .entry))) (atℤ (now (lengths .entry))) (λ v. eqb (at (now (inside .exit)) v) 1) <ℤ pos 0) ⌝ }
+    ensures { λ _. ⌜ (length (now (inside .exit)) ≡ 1024)
+        × (cutOf darts (at (now (tails .entry))) (atℤ (now (lengths .entry))) (λ v. eqb (at (now (inside .exit)) v) 1) <ℤ pos 0) ⌝ }
 {
     let mut threshold = lowest(heights, nodes);
     flag_above(heights, nodes, threshold, &mut *inside);

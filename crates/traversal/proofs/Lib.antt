@@ -1,3 +1,4 @@
+-- The walk over the darts from one of them: its loop, and what it reaches.
 pub mod Spreading
 pub mod Ahead
 pub mod Reach

@@ -16,7 +16,7 @@ use Rattle.maps.specs.Check.{Sound, Disconnected}
 use Rattle.maps.proofs.Darts.{rev-in}
 use Rattle.maps.proofs.Orbits.{iter-zero, iter-suc}
 use Rattle.maps.proofs.Walks.{walk-append, walk-back}
-use Rattle.traversal.specs.Spread.{Met, Follows, Spread}
+use Rattle.traversal.specs.inner.Spread.{Met, Follows, Spread}
 use Rattle.traversal.proofs.Spreading.{at-most-n, all-met}
 
 -- where a dart stands in the order
@@ -105,7 +105,8 @@ module _ {𝓜 : Map} (σ : Sound 𝓜) {start : ℕ} {order from : ℕ → ℕ}
     where
       go : ((d : ℕ) → d < darts 𝓜 → Met order count d) ⊎ ((d : ℕ) × (d < darts 𝓜) × (Met order count d → ⊥)) → Disconnected 𝓜
       go (inl every) = absurd (h (meets-full ξ every))
-      go (inr r) = (𝓜 .tail start, 𝓜 .tail (r .0), σ .range .tail-in start start-in, σ .range .tail-in (r .0) (r .1), λ w. r .2 (from-start w (r .0) (r .1) refl))
+      go (inr r) =
+          (𝓜 .tail start, 𝓜 .tail (r .0), σ .range .tail-in start start-in, σ .range .tail-in (r .0) (r .1), λ w. r .2 (from-start w (r .0) (r .1) refl))
 
   -- each dart met is reached by a walk, from the one that it was met from
   step-walk : (d p : ℕ) → p < darts 𝓜 → Follows (𝓜 .rotation) d p → Walk 𝓜 (𝓜 .tail p) (𝓜 .tail d)
@@ -122,7 +123,8 @@ module _ {𝓜 : Map} (σ : Sound 𝓜) {start : ℕ} {order from : ℕ → ℕ}
           let r = ξ .met i (omega (arith, e)) l in
           let j-in : r .0 < count = omega (arith, r .1) in
           walk-append (ih (r .0) (omega (arith, r .1)) j-in)
-          (subst (λ x. Walk 𝓜 (𝓜 .tail x) (𝓜 .tail (order i))) (sym (r .2)) (step-walk (order i) (from (order i)) (omega (arith, r .2, ξ .inside (r .0) j-in)) (r .3)))
+          (subst (λ x. Walk 𝓜 (𝓜 .tail x) (𝓜 .tail (order i))) (sym (r .2))
+          (step-walk (order i) (from (order i)) (omega (arith, r .2, ξ .inside (r .0) j-in)) (r .3)))
 
   pub all-connected : count ≡ darts 𝓜 → Disconnected 𝓜 → ⊥
   all-connected h (v, w, lv, lw, far) = far (walk-append (walk-back (to v lv)) (to w lw))

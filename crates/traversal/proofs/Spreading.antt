@@ -9,8 +9,8 @@ use Rattle.integers.proofs.Pigeonhole.{pigeonhole, Twice}
 use Rattle.integers.proofs.Injections.{onto}
 use Rattle.maps.specs.Dart.{rev}
 use Rattle.maps.proofs.Darts.{rev-in}
-use Rattle.traversal.specs.Mark.{unmarked}
-use Rattle.traversal.specs.Spread.{Met, Follows, Spread, Added}
+use Rattle.traversal.specs.inner.Mark.{unmarked}
+use Rattle.traversal.specs.inner.Spread.{Met, Follows, Spread, Added}
 
 -- ── listing one dart ──
 pub added-old : {d origin end : ℕ} {from order : ℕ → ℕ} → from d ≢ unmarked → Added d origin from from order order end end
@@ -25,7 +25,8 @@ added-old h = record {
 }
 
 pub added-new : {d origin end : ℕ} {from from' order order' : ℕ → ℕ} → origin < 1024 → from d ≡ unmarked
-    → from' d ≡ origin → ((y : ℕ) → y ≢ d → from' y ≡ from y) → order' end ≡ d → ((i : ℕ) → i ≢ end → order' i ≡ order i) → Added d origin from from' order order' end (end + 1)
+    → from' d ≡ origin → ((y : ℕ) → y ≢ d → from' y ≡ from y) → order' end ≡ d
+    → ((i : ℕ) → i ≢ end → order' i ≡ order i) → Added d origin from from' order order' end (end + 1)
 added-new {d} {origin} {end} {from} {from'} {order} {order'} small z put keep last rest = record {
   longer = omega arith;
   by-one = omega arith;
@@ -93,14 +94,17 @@ module _ {darts : ℕ} {rotation : ℕ → ℕ} {start : ℕ} {order from : ℕ 
     inside = ξ .inside;
     apart = ξ .apart;
     met = ξ .met;
-    closed = λ i l. let r = ξ .done i (omega arith) in (ξ .listed (rotation (order i)) (stays (order i) (ξ .inside i l)) (r .0), ξ .listed (rev (order i)) (back i l) (r .1));
+    closed = λ i l.
+        let r = ξ .done i (omega arith) in
+        (ξ .listed (rotation (order i)) (stays (order i) (ξ .inside i l)) (r .0), ξ .listed (rev (order i)) (back i l) (r .1));
   }
     where
       back : (i : ℕ) → i < end → rev (order i) < darts
       back i l = omega (arith, rev-in (darts / 2) (order i) (omega (arith, ξ .inside i l)))
 
 -- the start: one dart is listed, and no other is marked
-pub spreading-start : {darts : ℕ} {rotation : ℕ → ℕ} {start : ℕ} {none order from : ℕ → ℕ} → darts ≤ 1024 → start < darts → ((y : ℕ) → y < 1024 → none y ≡ unmarked)
+pub spreading-start : {darts : ℕ} {rotation : ℕ → ℕ} {start : ℕ} {none order from : ℕ → ℕ}
+    → darts ≤ 1024 → start < darts → ((y : ℕ) → y < 1024 → none y ≡ unmarked)
     → from start ≡ start → ((y : ℕ) → y ≢ start → from y ≡ none y) → order 0 ≡ start → Spreading darts rotation start order from 0 1
 spreading-start {darts} {rotation} {start} {none} {order} {from} small l z own rest head = record {
   some = omega arith;
@@ -124,7 +128,8 @@ follows-same rotation e q (inr r) = inr (e ∙ r ∙ sym (ap rotation q))
 
 -- a neighbour of the dart at the front is listed
 module _ {darts : ℕ} {rotation : ℕ → ℕ} {start d : ℕ} {order order' from from' : ℕ → ℕ} {front end end' : ℕ}
-    (ξ : Spreading darts rotation start order from front end) (l : front < end) (d-in : d < darts) (near : Follows rotation d (order front)) (a : Added d (order front) from from' order order' end end') where
+    (ξ : Spreading darts rotation start order from front end) (l : front < end) (d-in : d < darts)
+    (near : Follows rotation d (order front)) (a : Added d (order front) from from' order order' end end') where
   pub still : (y : ℕ) → from y ≢ unmarked → from' y ≢ unmarked
   still y h e = h (sym (a .grew y h) ∙ e)
 
@@ -174,8 +179,10 @@ module _ {darts : ℕ} {rotation : ℕ → ℕ} {start d : ℕ} {order order' fr
   done' : (i : ℕ) → i < front → (from' (rotation (order' i)) ≢ unmarked) × (from' (rev (order' i)) ≢ unmarked)
   done' i m =
       let r = ξ .done i m in
-      let e = a .kept i (omega arith) in
-      (λ q. still (rotation (order i)) (r .0) (sym (ap (λ x. from' (rotation x)) e) ∙ q), λ q. still (rev (order i)) (r .1) (sym (ap (λ x. from' (rev x)) e) ∙ q))
+      let e = a .kept i (omega arith) in (
+        λ q. still (rotation (order i)) (r .0) (sym (ap (λ x. from' (rotation x)) e) ∙ q),
+        λ q. still (rev (order i)) (r .1) (sym (ap (λ x. from' (rev x)) e) ∙ q),
+      )
 
   pub spreading-added : Spreading darts rotation start order' from' front end'
   spreading-added = record {
@@ -191,13 +198,16 @@ module _ {darts : ℕ} {rotation : ℕ → ℕ} {start d : ℕ} {order order' fr
   }
 
 -- once the rotation of the dart at the front is listed, a dart that was not met still has room
-pub room-between : {darts : ℕ} {rotation : ℕ → ℕ} {start p t : ℕ} {order order' from from' : ℕ → ℕ} {front end end' : ℕ} → Spreading darts rotation start order from front end
-    → front < end → order front ≡ p → rotation p ≡ t → t < darts → Added t p from from' order order' end end' → (d : ℕ) → d < darts → from' d ≡ unmarked → end' < darts
+pub room-between : {darts : ℕ} {rotation : ℕ → ℕ} {start p t : ℕ} {order order' from from' : ℕ → ℕ} {front end end' : ℕ}
+    → Spreading darts rotation start order from front end
+    → front < end → order front ≡ p → rotation p ≡ t → t < darts
+    → Added t p from from' order order' end end' → (d : ℕ) → d < darts → from' d ≡ unmarked → end' < darts
 room-between {rotation = rotation} {t = t} {order = order} {order' = order'} {from = from} {from' = from'} {end = end} {end' = end'} ξ l e et t-in a =
     room (spreading-added ξ l t-in (inr (sym et ∙ ap rotation (sym e))) (subst (λ x. Added t x from from' order order' end end') (sym e) a))
 
 -- the dart at the front is passed, once both its neighbours are listed
-pub spreading-passed : {darts : ℕ} {rotation : ℕ → ℕ} {start : ℕ} {order from : ℕ → ℕ} {front end : ℕ} → Spreading darts rotation start order from front end → front < end
+pub spreading-passed : {darts : ℕ} {rotation : ℕ → ℕ} {start : ℕ} {order from : ℕ → ℕ} {front end : ℕ}
+    → Spreading darts rotation start order from front end → front < end
     → from (rotation (order front)) ≢ unmarked → from (rev (order front)) ≢ unmarked → Spreading darts rotation start order from (front + 1) end
 spreading-passed {darts} {rotation} {start} {order} {from} {front} {end} ξ l a b = record {
   some = ξ .some;
@@ -216,11 +226,15 @@ spreading-passed {darts} {rotation} {start} {order} {from} {front} {end} ξ l a 
     both i m (no p) = ξ .done i (omega (arith, p))
 
 -- both neighbours of the dart at the front, one after the other
-pub spreading-on : {darts : ℕ} {rotation : ℕ → ℕ} {start p t back : ℕ} {order order₁ order₂ from from₁ from₂ : ℕ → ℕ} {front end end₁ end₂ : ℕ} → Spreading darts rotation start order from front end
+pub spreading-on : {darts : ℕ} {rotation : ℕ → ℕ} {start p t back : ℕ} {order order₁ order₂ from from₁ from₂ : ℕ → ℕ} {front end end₁ end₂ : ℕ}
+    → Spreading darts rotation start order from front end
     → front < end → order front ≡ p → rotation p ≡ t → rev p ≡ back → t < darts → back < darts
-    → Added t p from from₁ order order₁ end end₁ → Added back p from₁ from₂ order₁ order₂ end₁ end₂ → Spreading darts rotation start order₂ from₂ (front + 1) end₂
-spreading-on {darts} {rotation} {start} {p} {t} {back} {order} {order₁} {order₂} {from} {from₁} {from₂} {front} {end} {end₁} {end₂} ξ l e et eb t-in back-in a b =
-    spreading-passed ξ₂ l₂ (λ q. still ξ₁ l₁ back-in near₁ b' t (a' .has) (sym (ap from₂ (ap rotation head₂ ∙ et)) ∙ q)) (λ q. b .has (sym (ap from₂ (ap rev head₂ ∙ eb)) ∙ q))
+    → Added t p from from₁ order order₁ end end₁ → Added back p from₁ from₂ order₁ order₂ end₁ end₂
+    → Spreading darts rotation start order₂ from₂ (front + 1) end₂
+spreading-on {darts} {rotation} {start} {p} {t} {back} {order} {order₁} {order₂} {from}
+    {from₁} {from₂} {front} {end} {end₁} {end₂} ξ l e et eb t-in back-in a b =
+    spreading-passed ξ₂ l₂ (λ q. still ξ₁ l₁ back-in near₁ b' t (a' .has) (sym (ap from₂ (ap rotation head₂ ∙ et)) ∙ q))
+    (λ q. b .has (sym (ap from₂ (ap rev head₂ ∙ eb)) ∙ q))
   where
     a' : Added t (order front) from from₁ order order₁ end end₁
     a' = subst (λ x. Added t x from from₁ order order₁ end end₁) (sym e) a

@@ -5,8 +5,8 @@ ghost use Prim.Native.Nat.{ℕ, _%_, _<_, _≤_};
 ghost use lib.ListN.{length};
 ghost use Rattle.maps.specs.Dart.{rev};
 ghost use Rattle.arrays.specs.At.{at};
-ghost use Rattle.traversal.specs.Mark.{unmarked};
-ghost use Rattle.traversal.specs.Spread.{Spread, Added};
+ghost use Rattle.traversal.specs.inner.Mark.{unmarked};
+ghost use Rattle.traversal.specs.inner.Spread.{Spread, Added};
 
 // The mark of a place that has no number yet: for a dart, that it was not met. Numbers stay below 1,024.
 const UNMARKED: u16 = 65535;
@@ -41,7 +41,8 @@ fn add(
     origin: usize,
 ) -> usize
     requires { ⌜ (length (now order) ≡ 1024) × (length (now from) ≡ 1024) × (d < 1024) × (origin < 1024) × (at (now from) d ≡ unmarked → end < 1024) ⌝ }
-    ensures { λ r. ⌜ (length (now (order .exit)) ≡ 1024) × (length (now (from .exit)) ≡ 1024) × Added d origin (at (now (from .entry))) (at (now (from .exit))) (at (now (order .entry))) (at (now (order .exit))) end r ⌝ }
+    ensures { λ r. ⌜ (length (now (order .exit)) ≡ 1024) × (length (now (from .exit)) ≡ 1024)
+        × Added d origin (at (now (from .entry))) (at (now (from .exit))) (at (now (order .entry))) (at (now (order .exit))) end r ⌝ }
 {
     if from[d] != UNMARKED {
         return end;
@@ -59,8 +60,10 @@ pub fn spread(
     order: &mut [u16; 1024],
     from: &mut [u16; 1024],
 ) -> usize
-    requires { ⌜ (length (now order) ≡ 1024) × (length (now from) ≡ 1024) × (darts ≤ 1024) × (darts % 2 ≡ 0) × (start < darts) × ((d : ℕ) → d < darts → at (now rotations) d < darts) ⌝ }
-    ensures { λ r. ⌜ (length (now (order .exit)) ≡ 1024) × (length (now (from .exit)) ≡ 1024) × Spread darts (at (now (rotations .entry))) start (at (now (order .exit))) (at (now (from .exit))) r ⌝ }
+    requires { ⌜ (length (now order) ≡ 1024) × (length (now from) ≡ 1024) × (darts ≤ 1024)
+        × (darts % 2 ≡ 0) × (start < darts) × ((d : ℕ) → d < darts → at (now rotations) d < darts) ⌝ }
+    ensures { λ r. ⌜ (length (now (order .exit)) ≡ 1024) × (length (now (from .exit)) ≡ 1024)
+        × Spread darts (at (now (rotations .entry))) start (at (now (order .exit))) (at (now (from .exit))) r ⌝ }
 {
     unmark_all(from);
     from[start] = arrays::narrow(start);

@@ -10,14 +10,14 @@ use lib.ListN.{length, set, length-set}
 use lib.Seq.{getD-set-same, getD-set-other}
 use mir.Syntax.{w32}
 use mir.Val.{toZ, ofZ, SFits}
-use Rattle.integers.specs.Limited.{Limited}
+use Rattle.integers.specs.inner.Limited.{Limited}
 use Rattle.integers.proofs.Limits.{limited-plus, limited-minus}
 use Rattle.integers.proofs.Omega.{atoms₁, parts, equal, at-most}
 use Rattle.integers.proofs.Tests.{eqb-true, eqb-false}
 use Rattle.signed.proofs.Limits.{limited-fits, same-bits}
 use Rattle.maps.specs.Dart.{rev}
 use Rattle.maps.proofs.Darts.{rev-apart}
-use Rattle.flows.specs.UnitFlow.{single}
+use Rattle.flows.specs.inner.UnitFlow.{single}
 use Rattle.arrays.specs.At.{atℤ}
 
 limited-one : Limited 1 (pos 1)

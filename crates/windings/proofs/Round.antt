@@ -1,4 +1,5 @@
--- The way round, pass by pass: the face reached is so many steps up from y, the winding so far counts the parents crossed, and y is not met again before the end.
+-- The way round, pass by pass: the face reached is so many steps up from y, the winding so far counts the parents crossed,
+-- and y is not met again before the end.
 use mathlib.Core.Path.{_≡_, refl, sym, _∙_, ap, ap₂, subst}
 use mathlib.Core.Logic.{_≢_}
 use mathlib.Core.Bool.{Bool, true, false, cond}
@@ -8,16 +9,16 @@ use native.Mathlib.Decide.{ℕ-discrete}
 use lib.Dec.{eqb}
 use lib.IntN.{ℤ, pos, _+ℤ_, _-ℤ_}
 use Rattle.integers.specs.Sum.{when}
-use Rattle.integers.specs.Limited.{Limited}
+use Rattle.integers.specs.inner.Limited.{Limited}
 use Rattle.integers.proofs.Limits.{limited-plus, limited-more, limited-zero}
 use Rattle.integers.proofs.Omega.{parts, at-most}
 use Rattle.integers.proofs.Tests.{eqb-true, eqb-false}
 use Rattle.maps.specs.Dart.{rev}
 use Rattle.maps.specs.Orbit.{iter}
 use Rattle.maps.proofs.Darts.{rev-in}
-use Rattle.flows.specs.UnitFlow.{single}
-use Rattle.search.specs.Parents.{up, down}
-use Rattle.windings.specs.Winding.{crossings, Round, Wound}
+use Rattle.flows.specs.inner.UnitFlow.{single}
+use Rattle.search.specs.inner.Parents.{up, down}
+use Rattle.windings.specs.inner.Winding.{crossings, Round, Wound}
 
 -- one crossing changes a winding by one at most
 two-tests : (p q : Bool) → Limited 1 (when p (pos 1) -ℤ when q (pos 1))

@@ -1,5 +1,5 @@
--- For who calls the search on a drawing and then asks for the winding: the ring of parents is a walk over faces of the map, of total length below zero, and the winding
--- filled in is the winding of that walk.
+-- For who calls the search on a drawing and then asks for the winding: the ring of parents is a walk over faces of the map, of total length below zero, and the
+-- winding filled in is the winding of that walk.
 use mathlib.Core.Path.{_≡_, refl, sym, _∙_, ap}
 use mathlib.Core.Bool.{Bool, true, false}
 use mathlib.Core.List.{List}
@@ -12,17 +12,17 @@ use Rattle.integers.specs.Sum.{when, bit}
 use Rattle.integers.proofs.Omega.{parts, equal}
 use Rattle.maps.specs.Dart.{rev}
 use Rattle.maps.specs.Map.{Map, darts}
-use Rattle.maps.specs.FaceWalk.{FaceWalk}
-use Rattle.maps.specs.FaceWalk as faceWalk
+use Rattle.maps.specs.inner.FaceWalk.{FaceWalk}
+use Rattle.maps.specs.inner.FaceWalk as faceWalk
 use Rattle.maps.proofs.Darts.{eqb-rev}
 use Rattle.maps.proofs.Rings.{times, winding}
-use Rattle.flows.specs.UnitFlow.{single}
-use Rattle.search.specs.Dual.{Dual}
-use Rattle.search.specs.Walk.{Crossing, stay, cross, total}
-use Rattle.search.specs.Parents.{ParentRing}
+use Rattle.flows.specs.inner.UnitFlow.{single}
+use Rattle.search.specs.inner.Dual.{Dual}
+use Rattle.search.specs.inner.Walk.{Crossing, stay, cross, total}
+use Rattle.search.specs.inner.Parents.{ParentRing}
 use Rattle.search.proofs.Chains.{ring-of}
-use Rattle.search.specs.OfMap.{OfMap}
-use Rattle.windings.specs.Winding.{crossings, Round, Wound}
+use Rattle.search.specs.inner.OfMap.{OfMap}
+use Rattle.windings.specs.inner.Winding.{crossings, Round, Wound}
 
 -- one crossing more, of d, as the dart i counts it: a times forth and b times back before
 one-more : (d i a b : ℕ) → pos (bit (eqb i d) + a) -ℤ pos (bit (eqb (rev i) d) + b) ≡ single d i +ℤ (pos a -ℤ pos b)

@@ -1,1 +1,1 @@
-pub mod Winding
+pub mod inner

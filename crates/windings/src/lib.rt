@@ -3,12 +3,12 @@ ghost use mathlib.Core.Path.{_≡_};
 ghost use Prim.Native.Nat.{ℕ, _<_, _≤_, _%_};
 ghost use lib.ListN.{length};
 ghost use lib.IntN.{pos, _+ℤ_};
-ghost use Rattle.integers.specs.Limited.{Limited};
+ghost use Rattle.integers.specs.inner.Limited.{Limited};
 ghost use Rattle.maps.specs.Dart.{rev};
-ghost use Rattle.flows.specs.UnitFlow.{single};
+ghost use Rattle.flows.specs.inner.UnitFlow.{single};
 ghost use Rattle.arrays.specs.Maps.{rightOf};
 ghost use Rattle.arrays.specs.At.{at, atℤ};
-ghost use Rattle.windings.specs.Winding.{Round, Wound};
+ghost use Rattle.windings.specs.inner.Winding.{Round, Wound};
 
 // Crosses the dart p once: one more for p, one less for its reverse.
 fn cross(p: usize, winding: &mut [i32; 1024])
@@ -28,8 +28,10 @@ pub fn fill_winding(
     y: usize,
     winding: &mut [i32; 1024],
 )
-    requires { ⌜ (length (now winding) ≡ 1024) × (darts ≤ 1024) × (darts % 2 ≡ 0) × Round (rightOf (now lefts)) (at (now parents)) darts y × ((d : ℕ) → atℤ (now winding) d ≡ pos 0) ⌝ }
-    ensures { λ _. ⌜ (length (now (winding .exit)) ≡ 1024) × Wound (rightOf (now (lefts .entry))) (at (now (parents .entry))) darts y (atℤ (now (winding .exit))) ⌝ }
+    requires { ⌜ (length (now winding) ≡ 1024) × (darts ≤ 1024) × (darts % 2 ≡ 0)
+        × Round (rightOf (now lefts)) (at (now parents)) darts y × ((d : ℕ) → atℤ (now winding) d ≡ pos 0) ⌝ }
+    ensures { λ _. ⌜ (length (now (winding .exit)) ≡ 1024)
+        × Wound (rightOf (now (lefts .entry))) (at (now (parents .entry))) darts y (atℤ (now (winding .exit))) ⌝ }
 {
     let mut x = y;
     loop {

@@ -15,7 +15,8 @@ start c = c .before .before .before .before
 abbrev text' : tie.After-write-key → List ℕ
 text' c = c .write-key .last .1 .0
 
-found : (c : tie.After-write-key) (answer : KeyAnswer) → c .write-key .result ≡ answer → Writes (start c .args .input .now) (start c .args .text .now) (text' c) answer
+found : (c : tie.After-write-key) (answer : KeyAnswer) → c .write-key .result ≡ answer
+    → Writes (start c .args .input .now) (start c .args .text .now) (text' c) answer
 found c answer e = rw e at (c .write-key .ensures)
 
 write-key-requires : tie.Need-write-key-requires

@@ -21,7 +21,8 @@ abbrev set' : tie.After-largest → List ℕ
 set' c = c .largest .last .1 .1 .1 .1 .0
 
 found : (c : tie.After-largest) (answer : LargestAnswer) → c .largest .result ≡ answer
-    → FindsLargest (start c .args .sheet .now) (start c .args .source) (start c .args .sink) (start c .args .flows .now) (flows' c) (start c .args .set .now) (set' c) answer
+    → FindsLargest (start c .args .sheet .now) (start c .args .source) (start c .args .sink)
+    (start c .args .flows .now) (flows' c) (start c .args .set .now) (set' c) answer
 found c answer e = rw e at (c .largest .ensures)
 
 largest-requires : tie.Need-largest-requires
@@ -43,7 +44,11 @@ same-length-2 : tie.Need-same-length-2
 same-length-2 c = search needs
 
 returns : tie.Need-returns
-returns c = (Value _, found (c .before .before .before .before .before .before) (Value _) (c .before .answer .given .1), (refl, refl, number-of-bits _ (record { sfits = c .known-told .given .0 .1 }), refl))
+returns c = (
+  Value _,
+  found (c .before .before .before .before .before .before) (Value _) (c .before .answer .given .1),
+  (refl, refl, number-of-bits _ (record { sfits = c .known-told .given .0 .1 }), refl),
+)
 
 same-length-3 : tie.Need-same-length-3
 same-length-3 c = search needs

@@ -25,7 +25,11 @@ enum-known-answer-2 : tie.Need-enum-known-answer-2
 enum-known-answer-2 c = search needs
 
 returns : tie.Need-returns
-returns c = (Value _, found (c .before .before .before) (Value _) (c .before .answer .given .1), (refl, number-of-bits _ (record { sfits = c .known-told .given .0 .1 }), refl))
+returns c = (
+  Value _,
+  found (c .before .before .before) (Value _) (c .before .answer .given .1),
+  (refl, number-of-bits _ (record { sfits = c .known-told .given .0 .1 }), refl),
+)
 
 returns-2 : tie.Need-returns-2
 returns-2 c = (Refused _ _, found (c .before .before .before) (Refused _ _) (c .before .answer2 .given .1), (refl, refl, refl))

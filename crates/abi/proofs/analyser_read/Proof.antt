@@ -23,7 +23,8 @@ abbrev capacities' : tie.After-read → List ℤ
 capacities' c = c .read .last .1 .1 .1 .0
 
 found : (c : tie.After-read) (answer : ReadAnswer) → c .read .result ≡ answer
-    → Reads (start c .args .sheet .now) (start c .args .tails .now) (start c .args .rotations .now) (start c .args .capacities .now) (tails' c) (rotations' c) (capacities' c) answer
+    → Reads (start c .args .sheet .now) (start c .args .tails .now) (start c .args .rotations .now)
+    (start c .args .capacities .now) (tails' c) (rotations' c) (capacities' c) answer
 found c answer e = rw e at (c .read .ensures)
 
 read-requires : tie.Need-read-requires
@@ -45,7 +46,8 @@ same-length-3 : tie.Need-same-length-3
 same-length-3 c = search needs
 
 returns : tie.Need-returns
-returns c = (Counts _ _, found (c .before .before .before .before .before .before .before .before) (Counts _ _) (c .before .answer .given .1), (refl, refl, refl, refl))
+returns c =
+    (Counts _ _, found (c .before .before .before .before .before .before .before .before) (Counts _ _) (c .before .answer .given .1), (refl, refl, refl, refl))
 
 same-length-4 : tie.Need-same-length-4
 same-length-4 c = search needs
@@ -57,7 +59,11 @@ same-length-6 : tie.Need-same-length-6
 same-length-6 c = search needs
 
 returns-2 : tie.Need-returns-2
-returns-2 c = (Refused _ _, found (c .before .before .before .before .before .before .before .before) (Refused _ _) (c .before .answer2 .given .1), (refl, refl, refl, refl))
+returns-2 c = (
+  Refused _ _,
+  found (c .before .before .before .before .before .before .before .before) (Refused _ _) (c .before .answer2 .given .1),
+  (refl, refl, refl, refl),
+)
 
 pub analyser-read-spec : {M : Type 1} → statement M
 analyser-read-spec =

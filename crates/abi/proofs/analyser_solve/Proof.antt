@@ -22,7 +22,8 @@ set' c = c .solve .last .1 .1 .1 .1 .1 .0
 
 -- the value that Solve is given is the one that came in
 solved : (c : tie.After-solve) (answer : SolveAnswer) → c .solve .result ≡ answer
-    → Solves (start c .args .sheet .now) (start c .args .source) (start c .args .sink) (start c .args .value) (start c .args .flows .now) (flows' c) (start c .args .set .now) (set' c) answer
+    → Solves (start c .args .sheet .now) (start c .args .source) (start c .args .sink) (start c .args .value)
+    (start c .args .flows .now) (flows' c) (start c .args .set .now) (set' c) answer
 solved c answer e = rw (number-of-bits _ (start c .fits .value), e) at (c .solve .ensures)
 
 solve-requires : tie.Need-solve-requires

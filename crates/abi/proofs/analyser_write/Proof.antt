@@ -16,7 +16,8 @@ abbrev sheet' : tie.After-write → List ℕ
 sheet' c = c .write .last .1 .1 .1 .1 .0
 
 found : (c : tie.After-write) (answer : WriteAnswer) → c .write .result ≡ answer
-    → Writes (start c .args .nodes) (start c .args .tails .now) (start c .args .rotations .now) (start c .args .capacities .now) (start c .args .sheet .now) (sheet' c) answer
+    → Writes (start c .args .nodes) (start c .args .tails .now) (start c .args .rotations .now)
+    (start c .args .capacities .now) (start c .args .sheet .now) (sheet' c) answer
 found c answer e = rw e at (c .write .ensures)
 
 write-requires : tie.Need-write-requires

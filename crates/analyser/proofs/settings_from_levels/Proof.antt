@@ -23,8 +23,11 @@ enum-known-verdict c = search needs
 returns : tie.Need-returns
 returns c =
     let o = c .before .before .before in
-    let a = o .before .before .before .args in
-    (settings-refused (a .sheet .now) _ _ (opens-first (a .sheet .now) _ (o .«open» .result) (c .before .verdict .given .1) (o .«open» .ensures .1)) (a .levels .now) (a .flows .now), refl)
+    let a = o .before .before .before .args in (
+      settings-refused (a .sheet .now) _ _ (opens-first (a .sheet .now) _ (o .«open» .result) (c .before .verdict .given .1) (o .«open» .ensures .1))
+          (a .levels .now) (a .flows .now),
+      refl,
+    )
 
 enum-told : tie.Need-enum-told
 enum-told c = search needs
@@ -36,7 +39,8 @@ begun c = c .before .before .before .before .before
 abbrev sheet : tie.After-enum-told → List ℕ
 sheet c = begun c .args .sheet .now
 
-accepted : (c : tie.After-enum-told) → NoneOf (sheetChecks (sheet c)) × Numbers (sheet c) (c .before .before .«open» .last .1 .0) (c .before .before .«open» .result)
+accepted : (c : tie.After-enum-told)
+    → NoneOf (sheetChecks (sheet c)) × Numbers (sheet c) (c .before .before .«open» .last .1 .0) (c .before .before .«open» .result)
 accepted c = opens-passed (sheet c) _ (c .before .before .«open» .result) (c .enum-told .given .1) (c .before .before .«open» .ensures .1)
 
 fill-tails-requires : tie.Need-fill-tails-requires
@@ -62,8 +66,10 @@ settings-of-requires : tie.Need-settings-of-requires
 settings-of-requires c κs =
     let f = c .before .before .before .before .before .before in
     let t = told f in
-    drawn (sheet t) (t .before .before .«open» .result) (t .before .before .«open» .last .1 .0) (f .before .before .before .before .fill-tails .last .1 .1 .0) (f .before .before .fill-rotations .last .1 .1 .0)
-    (f .fill-capacities .last .1 .1 .0) (accepted t) (f .before .before .before .before .fill-tails .ensures .1) (f .before .before .fill-rotations .ensures .1) (f .fill-capacities .ensures .1)
+    drawn (sheet t) (t .before .before .«open» .result) (t .before .before .«open» .last .1 .0)
+    (f .before .before .before .before .fill-tails .last .1 .1 .0) (f .before .before .fill-rotations .last .1 .1 .0)
+    (f .fill-capacities .last .1 .1 .0) (accepted t) (f .before .before .before .before .fill-tails .ensures .1)
+    (f .before .before .fill-rotations .ensures .1) (f .fill-capacities .ensures .1)
 
 same-length : tie.Need-same-length
 same-length c = search needs
@@ -74,8 +80,10 @@ returns-2 c =
     let f = k .before .before .before .before .before .before .before in
     let t = told f in
     let a = begun t .args in
-    settings-sheet (sheet t) (t .before .before .«open» .result) (t .before .before .«open» .last .1 .0) (f .before .before .before .before .fill-tails .last .1 .1 .0) (f .before .before .fill-rotations .last .1 .1 .0)
-    (f .fill-capacities .last .1 .1 .0) (accepted t) (f .before .before .before .before .fill-tails .ensures .1) (f .before .before .fill-rotations .ensures .1) (f .fill-capacities .ensures .1)
+    settings-sheet (sheet t) (t .before .before .«open» .result) (t .before .before .«open» .last .1 .0)
+    (f .before .before .before .before .fill-tails .last .1 .1 .0) (f .before .before .fill-rotations .last .1 .1 .0)
+    (f .fill-capacities .last .1 .1 .0) (accepted t) (f .before .before .before .before .fill-tails .ensures .1)
+    (f .before .before .fill-rotations .ensures .1) (f .fill-capacities .ensures .1)
     (a .levels .now) (a .flows .now) _ (k .settings-of .result) (k .settings-of .ensures)
 
 pub settings-from-levels-spec : {M : Type 1} → statement M

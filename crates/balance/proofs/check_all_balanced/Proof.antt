@@ -23,7 +23,8 @@ returns c rotation =
     let start = c .before .before .before .before in
     let a = start .args in
     let 𝓜 : Map = record { nodes = a .nodes; edges = a .edges; tail = at (a .tails .now); rotation = rotation } in
-    judged-all 𝓜 (atℤ (a .flows .now)) (atℤ (filled .last .1 .1 .1 .0)) (λ v l. filled .ensures .1 v (omega (arith, l, start .pre .0)) ∙ up-to-all 𝓜 (atℤ (a .flows .now)) v)
+    judged-all 𝓜 (atℤ (a .flows .now)) (atℤ (filled .last .1 .1 .1 .0))
+    (λ v l. filled .ensures .1 v (omega (arith, l, start .pre .0)) ∙ up-to-all 𝓜 (atℤ (a .flows .now)) v)
     (a .nodes) (a .nodes) (c .check-balance .result) (omega arith) (omega arith) (c .check-balance .ensures)
 
 pub check-all-balanced-spec : {M : Type 1} → statement M

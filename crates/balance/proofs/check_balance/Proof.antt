@@ -7,7 +7,7 @@ use Rattle.signed.proofs.Laws.{number-of-bits}
 use Rattle.refusals.specs.Order.{Decides}
 use Rattle.refusals.proofs.Order.{said-yes, said-no}
 use Rattle.arrays.specs.At.{atℤ}
-use Rattle.balance.specs.Check.{Off, offChecks}
+use Rattle.balance.specs.inner.Check.{Off, offChecks}
 use Rattle.balance.proofs.Lowest.{lowest, none-holds}
 use Rattle.arrays.proofs.narrow.Reads as narrow-reads
 use Rattle.balance.proofs.off_balance.Reads as off-balance-reads
@@ -42,9 +42,13 @@ abbrev Place : Type 0
 Place = lts.After-off-balance (off-balance-reads.Asked, off-balance-reads.Learnt, narrow-reads.Asked, narrow-reads.Learnt) reads.Pre reads.Post Inv-loop μ-loop
 
 judged-here : (c : Place)
-    → Decides (Off (c .before .before .before .before .args .a) (c .before .before .before .before .args .b) (atℤ (c .before .before .before .before .args .nets .now)) (c .before .before .before .loop .v)) (c .off-balance .result)
+    → Decides
+    (Off (c .before .before .before .before .args .a) (c .before .before .before .before .args .b)
+    (atℤ (c .before .before .before .before .args .nets .now)) (c .before .before .before .loop .v))
+    (c .off-balance .result)
 judged-here c =
-    rw (number-of-bits (atℤ (c .before .before .before .before .args .nets .now) (c .before .before .before .loop .v)) (record { sfits = c .before .off-balance-arg .given }))
+    rw (number-of-bits (atℤ (c .before .before .before .before .args .nets .now) (c .before .before .before .loop .v))
+    (record { sfits = c .before .off-balance-arg .given }))
     at (c .off-balance .ensures)
 
 returns : tie.Need-returns Inv-loop μ-loop

@@ -63,7 +63,10 @@ abbrev Place : Type 0
 Place = lts.After-exceeds (exceeds-reads.Asked, exceeds-reads.Learnt, narrow-reads.Asked, narrow-reads.Learnt) reads.Pre reads.Post Inv-loop μ-loop
 
 judged-here : (c : Place)
-    → Decides (Exceeds (atℤ (c .before .before .before .before .before .before .args .capacities .now)) (atℤ (c .before .before .before .before .before .before .args .flows .now)) (c .before .before .before .before .before .loop .e)) (c .exceeds .result)
+    → Decides
+    (Exceeds (atℤ (c .before .before .before .before .before .before .args .capacities .now))
+    (atℤ (c .before .before .before .before .before .before .args .flows .now)) (c .before .before .before .before .before .loop .e))
+    (c .exceeds .result)
 judged-here c =
     let s = c .before .before .before .before .before .before in
     let e = c .before .before .before .before .before .loop .e in

@@ -7,7 +7,7 @@ use lib.ListN.{length}
 use borrow.Author.Needs.{needs}
 use Rattle.signed.proofs.Laws.{number-of-bits}
 use Rattle.arrays.specs.At.{at, atℤ}
-use Rattle.balance.specs.NetUpTo.{netUpTo}
+use Rattle.balance.specs.inner.NetUpTo.{netUpTo}
 use Rattle.balance.proofs.Nets.{net-none, net-stepped, added-fits, taken-fits}
 use Rattle.balance.proofs.fill_nets.Statement.{statement}
 use Rattle.balance.proofs.fill_nets.Tie as tie
@@ -48,7 +48,8 @@ add-at-requires c κs =
       o .inv .1,
       w,
       rw (number-of-bits (atℤ (s .args .flows .now) (o .e)) (record { sfits = c .add-at-arg2 .given }), o .inv .2 (c .before .wide .result) w)
-          (added-fits (at (s .args .tails .now)) (atℤ (s .args .flows .now)) (s .args .edges) (s .pre .4) (o .e) (c .before .wide .result) (omega arith) (s .pre .0)),
+          (added-fits (at (s .args .tails .now)) (atℤ (s .args .flows .now)) (s .args .edges)
+          (s .pre .4) (o .e) (c .before .wide .result) (omega arith) (s .pre .0)),
     )
 
 mul-wide-3 : tie.Need-mul-wide-3 Inv-loop μ-loop

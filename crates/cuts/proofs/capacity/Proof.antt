@@ -7,8 +7,8 @@ use mir.Val.{toZ, ofZ}
 use borrow.Author.Needs.{needs}
 use Rattle.signed.proofs.Laws.{number-of-bits}
 use Rattle.arrays.specs.At.{at, atℤ}
-use Rattle.arrays.specs.Flags.{flagged}
-use Rattle.cuts.specs.Cut.{cutOf}
+use Rattle.arrays.specs.inner.Flags.{flagged}
+use Rattle.cuts.specs.inner.Cut.{cutOf}
 use Rattle.cuts.proofs.Adding.{capacity-fits, capacity-short}
 use Rattle.cuts.proofs.capacity.Statement.{statement}
 use Rattle.cuts.proofs.capacity.Tie as tie
@@ -20,7 +20,9 @@ use Rattle.signed.proofs.narrow.Reads as narrow-reads
 abbrev Added : Type 0
 Added = lts.After-total (total-reads.Asked, total-reads.Learnt, narrow-reads.Asked, narrow-reads.Learnt) reads.Pre reads.Post
 
-sum-is : (c : Added) → toZ w64 (ofZ w64 (c .total .result)) ≡ cutOf (c .before .args .darts) (at (c .before .args .tails .now)) (atℤ (c .before .args .capacities .now)) (flagged (c .before .args .inside .now))
+sum-is : (c : Added)
+    → toZ w64 (ofZ w64 (c .total .result))
+    ≡ cutOf (c .before .args .darts) (at (c .before .args .tails .now)) (atℤ (c .before .args .capacities .now)) (flagged (c .before .args .inside .now))
 sum-is c = toZ-ofZ w64 _ (record { sfits = c .total .ok }) ∙ c .total .ensures
 
 total-requires : tie.Need-total-requires

@@ -7,9 +7,9 @@ use borrow.Author.Needs.{needs}
 use Rattle.signed.proofs.Laws.{number-of-bits}
 use Rattle.maps.specs.Dart.{rev}
 use Rattle.arrays.specs.At.{at}
-use Rattle.cuts.specs.Cut.{leavesOf}
+use Rattle.cuts.specs.inner.Cut.{leavesOf}
 use Rattle.cuts.proofs.Adding.{reverse-in, when-yes, when-no}
-use Rattle.arrays.specs.Flags.{flagged}
+use Rattle.arrays.specs.inner.Flags.{flagged}
 use Rattle.cuts.proofs.share.Statement.{statement}
 use Rattle.cuts.proofs.share.Tie as tie
 use Rattle.cuts.proofs.share.Reads as reads
@@ -19,13 +19,19 @@ use Rattle.arrays.proofs.reverse.Reads as reverse-reads
 use Rattle.arrays.proofs.wide.Reads as wide-reads
 
 abbrev Reversed : Type 0
-Reversed = lts.After-reverse (wide-reads.Asked, wide-reads.Learnt, reverse-reads.Asked, reverse-reads.Learnt, leaves-reads.Asked, leaves-reads.Learnt) reads.Pre reads.Post
+Reversed =
+    lts.After-reverse (wide-reads.Asked, wide-reads.Learnt, reverse-reads.Asked, reverse-reads.Learnt, leaves-reads.Asked, leaves-reads.Learnt)
+    reads.Pre reads.Post
 
 abbrev Ended : Type 0
-Ended = lts.After-wide2 (wide-reads.Asked, wide-reads.Learnt, reverse-reads.Asked, reverse-reads.Learnt, leaves-reads.Asked, leaves-reads.Learnt) reads.Pre reads.Post
+Ended =
+    lts.After-wide2 (wide-reads.Asked, wide-reads.Learnt, reverse-reads.Asked, reverse-reads.Learnt, leaves-reads.Asked, leaves-reads.Learnt)
+    reads.Pre reads.Post
 
 abbrev Asked : Type 0
-Asked = lts.After-leaves (wide-reads.Asked, wide-reads.Learnt, reverse-reads.Asked, reverse-reads.Learnt, leaves-reads.Asked, leaves-reads.Learnt) reads.Pre reads.Post
+Asked =
+    lts.After-leaves (wide-reads.Asked, wide-reads.Learnt, reverse-reads.Asked, reverse-reads.Learnt, leaves-reads.Asked, leaves-reads.Learnt)
+    reads.Pre reads.Post
 
 back-in : (c : Reversed) → c .reverse .result < 1024
 back-in c =
@@ -33,7 +39,8 @@ back-in c =
     rw (c .reverse .ensures .0) (reverse-in 1024 (s .args .d) refl (s .pre .0))
 
 -- the head is the tail of the reverse
-head-is : (c : Ended) → c .wide2 .result ≡ at (c .before .before .before .before .before .args .tails .now) (rev (c .before .before .before .before .before .args .d))
+head-is : (c : Ended)
+    → c .wide2 .result ≡ at (c .before .before .before .before .before .args .tails .now) (rev (c .before .before .before .before .before .args .d))
 head-is c =
     let s = c .before .before .before .before .before in
     c .wide2 .ensures ∙ ap (at (s .args .tails .now)) (c .before .before .reverse .ensures .0)

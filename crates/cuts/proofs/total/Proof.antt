@@ -9,8 +9,8 @@ use mir.Val.{toZ, ofZ}
 use borrow.Author.Needs.{needs}
 use Rattle.signed.proofs.Laws.{number-of-bits}
 use Rattle.arrays.specs.At.{at, atℤ}
-use Rattle.arrays.specs.Flags.{flagged}
-use Rattle.cuts.specs.Cut.{cutOf}
+use Rattle.arrays.specs.inner.Flags.{flagged}
+use Rattle.cuts.specs.inner.Cut.{cutOf}
 use Rattle.cuts.proofs.Adding.{reverse-in, cut-none, cut-more, cut-fits}
 use Rattle.cuts.proofs.total.Statement.{statement}
 use Rattle.cuts.proofs.total.Tie as tie
@@ -27,16 +27,20 @@ abbrev μ-loop : tie.MeasureT-loop
 μ-loop tails lengths inside darts sum₀ d₀ sum d = darts - d
 
 abbrev Place : Type 0
-Place = lts.After-widen (share-reads.Asked, share-reads.Learnt, widen-reads.Asked, widen-reads.Learnt, plus64-reads.Asked, plus64-reads.Learnt) reads.Pre reads.Post Inv-loop μ-loop
+Place =
+    lts.After-widen (share-reads.Asked, share-reads.Learnt, widen-reads.Asked, widen-reads.Learnt, plus64-reads.Asked, plus64-reads.Learnt)
+    reads.Pre reads.Post Inv-loop μ-loop
 
 -- the sum with the dart d is the cut over the darts to d
 sum-next : (c : Place)
     → toZ w64 (c .before .before .before .loop .sum) +ℤ toZ w64 (ofZ w64 (c .widen .result))
-    ≡ cutOf (c .before .before .before .loop .d + 1) (at (c .before .before .before .before .args .tails .now)) (atℤ (c .before .before .before .before .args .lengths .now))
+    ≡ cutOf (c .before .before .before .loop .d + 1) (at (c .before .before .before .before .args .tails .now))
+    (atℤ (c .before .before .before .before .args .lengths .now))
     (flagged (c .before .before .before .before .args .inside .now))
 sum-next c =
     ap₂ _+ℤ_ (c .before .before .before .loop .inv .1)
-    (toZ-ofZ w64 _ (record { sfits = c .widen .ok }) ∙ c .widen .ensures ∙ number-of-bits _ (record { sfits = c .before .share .ok }) ∙ c .before .share .ensures)
+    (toZ-ofZ w64 _ (record { sfits = c .widen .ok }) ∙ c .widen .ensures
+    ∙ number-of-bits _ (record { sfits = c .before .share .ok }) ∙ c .before .share .ensures)
     ∙ sym (cut-more _ _ _ _)
 
 loop-holds : tie.Need-loop-holds Inv-loop μ-loop

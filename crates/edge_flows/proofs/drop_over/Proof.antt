@@ -84,7 +84,8 @@ returns c =
     ∙ c .minus64 .ensures
     ∙ ap₂ _-ℤ_
     (toZ-ofZ w64 _ (record { sfits = c .before .before .minus64-arg .given }) ∙ ap ρ (c .before .before .before .before .before .wide .ensures))
-    (toZ-ofZ w64 _ (record { sfits = c .before .minus64-arg2 .given }) ∙ ap ρ (c .before .before .before .wide2 .ensures ∙ ap left (sym (rev-even (s .args .e)))))
+    (toZ-ofZ w64 _ (record { sfits = c .before .minus64-arg2 .given })
+    ∙ ap ρ (c .before .before .before .wide2 .ensures ∙ ap left (sym (rev-even (s .args .e)))))
 
 pub drop-over-spec : {M : Type 1} → statement M
 drop-over-spec =

@@ -9,7 +9,7 @@ use Rattle.signed.proofs.Laws.{number-of-bits}
 use Rattle.arrays.specs.At.{at, atℤ}
 use Rattle.arrays.specs.Filled.{tabulate}
 use Rattle.arrays.proofs.FillLoops.{copy-start, copy-step, filled-length}
-use Rattle.edge_flows.specs.Flow.{flowOf}
+use Rattle.edge_flows.specs.inner.Flow.{flowOf}
 use Rattle.edge_flows.proofs.fill_flows.Statement.{statement}
 use Rattle.edge_flows.proofs.fill_flows.Tie as tie
 

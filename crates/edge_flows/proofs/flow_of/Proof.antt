@@ -12,7 +12,7 @@ use Rattle.signed.proofs.narrow.Reads as narrow-reads
 use Rattle.signed.proofs.plus64.Reads as plus64-reads
 use Rattle.signed.proofs.sub32.Reads as sub32-reads
 use Rattle.arrays.specs.At.{at, atℤ}
-use Rattle.edge_flows.specs.Flow.{flowOf}
+use Rattle.edge_flows.specs.inner.Flow.{flowOf}
 use Rattle.edge_flows.proofs.Fitting.{left-in, right-in, drop-fits, flow-fits64, flow-fits}
 use Rattle.edge_flows.proofs.drop_over.Reads as drop-over-reads
 use Rattle.edge_flows.proofs.flow_of.Lts as lts

@@ -19,7 +19,11 @@ same-length c = search needs
 
 returns : tie.Need-returns
 unfolding le32
-returns c = let s = c .before .before .before .before .before .before in c .before .before .write-u32 .ensures ∙ ap (λ n. put (s .args .at) (leBits n) (s .args .s .now)) (c .before .before .before .to-bits .ensures ∙ ap (ofZ w32) (number-of-bits (s .args .x) (s .fits .x)))
+returns c =
+    let s = c .before .before .before .before .before .before in
+    c .before .before .write-u32 .ensures
+    ∙ ap (λ n. put (s .args .at) (leBits n) (s .args .s .now))
+    (c .before .before .before .to-bits .ensures ∙ ap (ofZ w32) (number-of-bits (s .args .x) (s .fits .x)))
 
 pub write-i32-spec : {M : Type 1} → statement M
 write-i32-spec = tie.close (tie.spec to-bits-requires write-u32-requires same-length returns)

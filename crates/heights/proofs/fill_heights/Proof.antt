@@ -1,6 +1,7 @@
--- Invariant: the pass so far. The measure is how many darts have yet to be passed.
+-- The heights of the nodes, in one pass. Invariant: `Filling`, the pass so far, whose laws are those of `FillingHeights`.
+-- The measure is how many darts have yet to be passed.
 use mathlib.Core.Path.{_≡_, sym, _∙_, ap}
-use Prim.Native.Nat.{_-_}
+use Prim.Native.Nat.{_≤_, _<_, _-_}
 use native.Mathlib.Omega.{arith}
 use lib.IntN.{pos}
 use lib.ListN.{length, set, length-set}
@@ -18,6 +19,58 @@ Inv-loop tails order from darts winding heights₀ start root i₀ heights i =
 abbrev μ-loop : tie.MeasureT-loop
 μ-loop tails order from darts winding heights₀ start root i₀ heights i = darts - i
 
+-- ── the node of the first dart ──
+abbrev begun : tie.After-wide Inv-loop μ-loop → tie.Start Inv-loop μ-loop
+begun c = c .before .before
+
+first-in : (c : tie.After-wide Inv-loop μ-loop) → c .wide .result < begun c .args .darts
+first-in c = let p = begun c .pre .1 in dart-in p (p .spread .some) (c .wide .ensures)
+
+abbrev rooted : tie.After-wide2 Inv-loop μ-loop → tie.After-wide Inv-loop μ-loop
+rooted c = c .before .before
+
+root-in : (c : tie.After-wide2 Inv-loop μ-loop) → c .wide2 .result < 1024
+root-in c = let w = rooted c in node-in (begun w .pre .1) (first-in w) (c .wide2 .ensures)
+
+-- ── the turn of the loop: its dart d ──
+abbrev start : tie.In-loop Inv-loop μ-loop → tie.Start Inv-loop μ-loop
+start c = begun (rooted (c .before .before))
+
+few : (c : tie.In-loop Inv-loop μ-loop) → start c .args .darts ≤ 1024
+few c = start c .pre .1 .few
+
+abbrev turn : tie.After-wide3 Inv-loop μ-loop → tie.In-loop Inv-loop μ-loop
+turn c = c .before .before
+
+dart-below : (c : tie.After-wide3 Inv-loop μ-loop) → c .wide3 .result < start (turn c) .args .darts
+dart-below c = dart-in (start (turn c) .pre .1) (turn c .loop-test .taken) (c .wide3 .ensures)
+
+-- ── the dart p from which d was met ──
+abbrev met : tie.After-wide4 Inv-loop μ-loop → tie.After-wide3 Inv-loop μ-loop
+met c = c .before .before
+
+origin-below : (c : tie.After-wide4 Inv-loop μ-loop) → c .wide4 .result < start (turn (met c)) .args .darts
+origin-below c =
+    let t = turn (met c) in
+    origin-in (start t .pre .1) (t .before .loop .inv .1 .begun) (t .loop-test .taken) (met c .wide3 .ensures) (c .wide4 .ensures)
+
+-- ── d is the reverse of p: both nodes ──
+abbrev origin : tie.After-wide5 Inv-loop μ-loop → tie.After-wide4 Inv-loop μ-loop
+origin c = c .before .before .before .before
+
+known-in : (c : tie.After-wide5 Inv-loop μ-loop) → c .wide5 .result < 1024
+known-in c = let f = origin c in node-in (start (turn (met f)) .pre .1) (origin-below f) (c .wide5 .ensures)
+
+abbrev knows : tie.After-wide6 Inv-loop μ-loop → tie.After-wide5 Inv-loop μ-loop
+knows c = c .before .before
+
+next-in : (c : tie.After-wide6 Inv-loop μ-loop) → c .wide6 .result < 1024
+next-in c = let d = met (origin (knows c)) in node-in (start (turn d) .pre .1) (dart-below d) (c .wide6 .ensures)
+
+abbrev both : tie.After-minus Inv-loop μ-loop → tie.After-wide6 Inv-loop μ-loop
+both c = c .before .before .before
+
+-- ── the needs, in the order of the code ──
 element-copy-out-wide : tie.Need-element-copy-out-wide Inv-loop μ-loop
 element-copy-out-wide c = search needs
 
@@ -25,225 +78,131 @@ wide-requires : tie.Need-wide-requires Inv-loop μ-loop
 wide-requires c κs = search needs
 
 mul-wide : tie.Need-mul-wide Inv-loop μ-loop
-mul-wide c =
-    let p = c .before .before .pre .1 in
-    omega (arith, p .few, dart-in p (p .spread .some) (c .wide .ensures))
+mul-wide c = omega (arith, begun c .pre .1 .few, first-in c)
 
 element-copy-out-wide-2 : tie.Need-element-copy-out-wide-2 Inv-loop μ-loop
-element-copy-out-wide-2 c =
-    let p = c .before .before .pre .1 in
-    omega (arith, p .few, dart-in p (p .spread .some) (c .wide .ensures))
+element-copy-out-wide-2 c = omega (arith, begun c .pre .1 .few, first-in c)
 
 wide-requires-2 : tie.Need-wide-requires-2 Inv-loop μ-loop
 wide-requires-2 c κs = search needs
 
 mul-heights : tie.Need-mul-heights Inv-loop μ-loop
-mul-heights c =
-    let p = c .before .before .before .before .pre .1 in
-    omega (arith, node-in p (dart-in p (p .spread .some) (c .before .before .wide .ensures)) (c .wide2 .ensures))
+mul-heights c = omega (arith, root-in c)
 
 element-set-of-heights : tie.Need-element-set-of-heights Inv-loop μ-loop
-element-set-of-heights c =
-    let p = c .before .before .before .before .pre .1 in
-    omega (arith, node-in p (dart-in p (p .spread .some) (c .before .before .wide .ensures)) (c .wide2 .ensures))
+element-set-of-heights c = root-in c
 
 loop-holds : tie.Need-loop-holds Inv-loop μ-loop
 loop-holds c =
-    let p = c .before .before .before .before .pre in
-    let a = c .before .before .before .before .args in
-    let first = c .before .before .wide .ensures in
+    let w = rooted c in
+    let a = begun w .args in
+    let p = begun w .pre in
     let root = c .wide2 .result in
-    let root-in = node-in (p .1) (dart-in (p .1) (p .1 .spread .some) first) (c .wide2 .ensures) in
-    let same : at (a .tails .now) (at (a .order .now) 0) ≡ root = ap (at (a .tails .now)) (sym first) ∙ sym (c .wide2 .ensures) in (
+    let same : at (a .tails .now) (at (a .order .now) 0) ≡ root = ap (at (a .tails .now)) (sym (w .wide .ensures)) ∙ sym (c .wide2 .ensures) in
+    let zero = getD-set-same (a .heights .now) root (pos 0) (pos 0) (omega (arith, p .0, root-in c)) in (
       length-set (a .heights .now) root (pos 0) ∙ p .0,
-      filling-start (p .1 .spread .some) (ap (atℤ (set (a .heights .now) root (pos 0))) same ∙ getD-set-same (a .heights .now) root (pos 0) (pos 0) (omega (arith, p .0, root-in))),
+      filling-start (p .1 .spread .some) (ap (atℤ (set (a .heights .now) root (pos 0))) same ∙ zero),
     )
 
 mul-wide-2 : tie.Need-mul-wide-2 Inv-loop μ-loop
-mul-wide-2 c =
-    let p = c .before .before .before .before .before .before .pre .1 in
-    let l = c .loop-test .taken in
-    omega (arith, p .few, l)
+mul-wide-2 c = omega (arith, few c, c .loop-test .taken)
 
 element-copy-out-wide-3 : tie.Need-element-copy-out-wide-3 Inv-loop μ-loop
-element-copy-out-wide-3 c =
-    let p = c .before .before .before .before .before .before .pre .1 in
-    let l = c .loop-test .taken in
-    omega (arith, p .few, l)
+element-copy-out-wide-3 c = omega (arith, few c, c .loop-test .taken)
 
 wide-requires-3 : tie.Need-wide-requires-3 Inv-loop μ-loop
 wide-requires-3 c κs = search needs
 
 add-i : tie.Need-add-i Inv-loop μ-loop
-add-i c =
-    let p = c .before .before .before .before .before .before .before .before .pre .1 in
-    let l = c .before .before .loop-test .taken in
-    omega (arith, p .few, l)
+add-i c = omega (arith, few (turn c), turn c .loop-test .taken)
 
 mul-wide-3 : tie.Need-mul-wide-3 Inv-loop μ-loop
-mul-wide-3 c =
-    let p = c .before .before .before .before .before .before .before .before .pre .1 in
-    let l = c .before .before .loop-test .taken in
-    let is-d = c .wide3 .ensures in
-    omega (arith, p .few, dart-in p l is-d)
+mul-wide-3 c = omega (arith, few (turn c), dart-below c)
 
 element-copy-out-wide-4 : tie.Need-element-copy-out-wide-4 Inv-loop μ-loop
-element-copy-out-wide-4 c =
-    let p = c .before .before .before .before .before .before .before .before .pre .1 in
-    let l = c .before .before .loop-test .taken in
-    let is-d = c .wide3 .ensures in
-    omega (arith, p .few, dart-in p l is-d)
+element-copy-out-wide-4 c = omega (arith, few (turn c), dart-below c)
 
 wide-requires-4 : tie.Need-wide-requires-4 Inv-loop μ-loop
 wide-requires-4 c κs = search needs
 
 reverse-requires : tie.Need-reverse-requires Inv-loop μ-loop
-reverse-requires c κs =
-    let p = c .before .before .before .before .before .before .before .before .before .before .pre .1 in
-    let o = c .before .before .before .before .before .loop in
-    let l = c .before .before .before .before .loop-test .taken in
-    let is-d = c .before .before .wide3 .ensures in
-    let is-p = c .wide4 .ensures in
-    omega (arith, p .few, origin-in p (o .inv .1 .begun) l is-d is-p)
+reverse-requires c κs = omega (arith, few (turn (met c)), origin-below c)
 
 mul-wide-4 : tie.Need-mul-wide-4 Inv-loop μ-loop
-mul-wide-4 c =
-    let p = c .before .before .before .before .before .before .before .before .before .before .before .before .pre .1 in
-    let o = c .before .before .before .before .before .before .before .loop in
-    let l = c .before .before .before .before .before .before .loop-test .taken in
-    let is-d = c .before .before .before .before .wide3 .ensures in
-    let is-p = c .before .before .wide4 .ensures in
-    omega (arith, p .few, origin-in p (o .inv .1 .begun) l is-d is-p)
+mul-wide-4 c = let f = c .before .before in omega (arith, few (turn (met f)), origin-below f)
 
 element-copy-out-wide-5 : tie.Need-element-copy-out-wide-5 Inv-loop μ-loop
-element-copy-out-wide-5 c =
-    let p = c .before .before .before .before .before .before .before .before .before .before .before .before .pre .1 in
-    let o = c .before .before .before .before .before .before .before .loop in
-    let l = c .before .before .before .before .before .before .loop-test .taken in
-    let is-d = c .before .before .before .before .wide3 .ensures in
-    let is-p = c .before .before .wide4 .ensures in
-    omega (arith, p .few, origin-in p (o .inv .1 .begun) l is-d is-p)
+element-copy-out-wide-5 c = let f = c .before .before in omega (arith, few (turn (met f)), origin-below f)
 
 wide-requires-5 : tie.Need-wide-requires-5 Inv-loop μ-loop
 wide-requires-5 c κs = search needs
 
 mul-wide-5 : tie.Need-mul-wide-5 Inv-loop μ-loop
-mul-wide-5 c =
-    let p = c .before .before .before .before .before .before .before .before .before .before .before .before .before .before .pre .1 in
-    let l = c .before .before .before .before .before .before .before .before .loop-test .taken in
-    let is-d = c .before .before .before .before .before .before .wide3 .ensures in
-    omega (arith, p .few, dart-in p l is-d)
+mul-wide-5 c = let d = met (origin c) in omega (arith, few (turn d), dart-below d)
 
 element-copy-out-wide-6 : tie.Need-element-copy-out-wide-6 Inv-loop μ-loop
-element-copy-out-wide-6 c =
-    let p = c .before .before .before .before .before .before .before .before .before .before .before .before .before .before .pre .1 in
-    let l = c .before .before .before .before .before .before .before .before .loop-test .taken in
-    let is-d = c .before .before .before .before .before .before .wide3 .ensures in
-    omega (arith, p .few, dart-in p l is-d)
+element-copy-out-wide-6 c = let d = met (origin c) in omega (arith, few (turn d), dart-below d)
 
 wide-requires-6 : tie.Need-wide-requires-6 Inv-loop μ-loop
 wide-requires-6 c κs = search needs
 
 mul-minus : tie.Need-mul-minus Inv-loop μ-loop
-mul-minus c =
-    let p = c .before .before .before .before .before .before .before .before .before .before .before .before .before .before .before .before .pre .1 in
-    let o = c .before .before .before .before .before .before .before .before .before .before .before .loop in
-    let l = c .before .before .before .before .before .before .before .before .before .before .loop-test .taken in
-    let is-d = c .before .before .before .before .before .before .before .before .wide3 .ensures in
-    let is-p = c .before .before .before .before .before .before .wide4 .ensures in
-    let is-known = c .before .before .wide5 .ensures in
-    omega (arith, node-in p (origin-in p (o .inv .1 .begun) l is-d is-p) is-known)
+mul-minus c = omega (arith, known-in (knows c))
 
 element-copy-out-minus : tie.Need-element-copy-out-minus Inv-loop μ-loop
-element-copy-out-minus c =
-    let p = c .before .before .before .before .before .before .before .before .before .before .before .before .before .before .before .before .pre .1 in
-    let o = c .before .before .before .before .before .before .before .before .before .before .before .loop in
-    let l = c .before .before .before .before .before .before .before .before .before .before .loop-test .taken in
-    let is-d = c .before .before .before .before .before .before .before .before .wide3 .ensures in
-    let is-p = c .before .before .before .before .before .before .wide4 .ensures in
-    let is-known = c .before .before .wide5 .ensures in
-    omega (arith, node-in p (origin-in p (o .inv .1 .begun) l is-d is-p) is-known)
+element-copy-out-minus c = known-in (knows c)
 
 mul-minus-2 : tie.Need-mul-minus-2 Inv-loop μ-loop
-mul-minus-2 c =
-    let p = c .before .before .before .before .before .before .before .before .before .before .before .before .before .before .before .before .before .pre .1 in
-    let o = c .before .before .before .before .before .before .before .before .before .before .before .before .loop in
-    let l = c .before .before .before .before .before .before .before .before .before .before .before .loop-test .taken in
-    let is-d = c .before .before .before .before .before .before .before .before .before .wide3 .ensures in
-    let is-p = c .before .before .before .before .before .before .before .wide4 .ensures in
-    omega (arith, p .few, origin-in p (o .inv .1 .begun) l is-d is-p)
+mul-minus-2 c = let f = origin (knows (c .before)) in omega (arith, few (turn (met f)), origin-below f)
 
 element-copy-out-minus-2 : tie.Need-element-copy-out-minus-2 Inv-loop μ-loop
-element-copy-out-minus-2 c =
-    let p = c .before .before .before .before .before .before .before .before .before .before .before .before .before .before .before .before .before .pre .1 in
-    let o = c .before .before .before .before .before .before .before .before .before .before .before .before .loop in
-    let l = c .before .before .before .before .before .before .before .before .before .before .before .loop-test .taken in
-    let is-d = c .before .before .before .before .before .before .before .before .before .wide3 .ensures in
-    let is-p = c .before .before .before .before .before .before .before .wide4 .ensures in
-    omega (arith, p .few, origin-in p (o .inv .1 .begun) l is-d is-p)
+element-copy-out-minus-2 c = let f = origin (knows (c .before)) in omega (arith, few (turn (met f)), origin-below f)
 
 minus-requires : tie.Need-minus-requires Inv-loop μ-loop
 minus-requires c κs =
-    let p = c .before .before .before .before .before .before .before .before .before .before .before .before .before .before .before .before .before .before .pre .1 in
-    let o = c .before .before .before .before .before .before .before .before .before .before .before .before .before .loop in
-    let l = c .before .before .before .before .before .before .before .before .before .before .before .before .loop-test .taken in
-    let is-d = c .before .before .before .before .before .before .before .before .before .before .wide3 .ensures in
-    let is-p = c .before .before .before .before .before .before .before .before .wide4 .ensures in
-    let is-known = c .before .before .before .before .wide5 .ensures in
-    new-fits p (o .heights) (o .inv .1) l is-d is-p is-known
+    let k = knows (c .before .before) in
+    let f = origin k in
+    let t = turn (met f) in
+    let o = t .before .loop in
+    new-fits (start t .pre .1) (o .heights) (o .inv .1) (t .loop-test .taken) (met f .wide3 .ensures) (f .wide4 .ensures) (k .wide5 .ensures)
 
 mul-t44 : tie.Need-mul-t44 Inv-loop μ-loop
-mul-t44 c =
-    let p = c .before .before .before .before .before .before .before .before .before .before .before .before .before .before .before .before .before .before .before .pre .1 in
-    let l = c .before .before .before .before .before .before .before .before .before .before .before .before .before .loop-test .taken in
-    let is-d = c .before .before .before .before .before .before .before .before .before .before .before .wide3 .ensures in
-    let is-next = c .before .before .before .wide6 .ensures in
-    omega (arith, node-in p (dart-in p l is-d) is-next)
+mul-t44 c = omega (arith, next-in (both c))
 
 element-set-from-heights : tie.Need-element-set-from-heights Inv-loop μ-loop
-element-set-from-heights c =
-    let p = c .before .before .before .before .before .before .before .before .before .before .before .before .before .before .before .before .before .before .before .pre .1 in
-    let l = c .before .before .before .before .before .before .before .before .before .before .before .before .before .loop-test .taken in
-    let is-d = c .before .before .before .before .before .before .before .before .before .before .before .wide3 .ensures in
-    let is-next = c .before .before .before .wide6 .ensures in
-    omega (arith, node-in p (dart-in p l is-d) is-next)
+element-set-from-heights c = next-in (both c)
 
 loop-less : tie.Need-loop-less Inv-loop μ-loop
-loop-less c =
-    let l = c .before .before .before .before .before .before .before .before .before .before .before .before .before .loop-test .taken in
-    omega (arith, l)
+loop-less c = omega (arith, turn (met (origin (knows (both c)))) .loop-test .taken)
 
 loop-again : tie.Need-loop-again Inv-loop μ-loop
 loop-again c =
-    let p = c .before .before .before .before .before .before .before .before .before .before .before .before .before .before .before .before .before .before .before .pre .1 in
-    let o = c .before .before .before .before .before .before .before .before .before .before .before .before .before .before .loop in
-    let l = c .before .before .before .before .before .before .before .before .before .before .before .before .before .loop-test .taken in
-    let is-d = c .before .before .before .before .before .before .before .before .before .before .before .wide3 .ensures in
-    let is-p = c .before .before .before .before .before .before .before .before .before .wide4 .ensures in
-    let back = c .before .before .before .before .before .before .before .if1 .taken ∙ c .before .before .before .before .before .before .before .before .reverse .ensures .0 in
-    let is-known = c .before .before .before .before .before .wide5 .ensures in
-    let is-next = c .before .before .before .wide6 .ensures in
-    filling-stored p (o .heights) (o .inv .1) l is-d is-p is-known (o .inv .0) back is-next (c .minus .ensures)
+    let k = knows (both c) in
+    let f = origin k in
+    let t = turn (met f) in
+    let o = t .before .loop in
+    let branch = k .before .before in
+    let back = branch .if1 .taken ∙ branch .before .reverse .ensures .0 in
+    filling-stored (start t .pre .1) (o .heights) (o .inv .1) (t .loop-test .taken) (met f .wide3 .ensures) (f .wide4 .ensures) (k .wide5 .ensures)
+    (o .inv .0) back (both c .wide6 .ensures) (c .minus .ensures)
 
 loop-less-2 : tie.Need-loop-less-2 Inv-loop μ-loop
-loop-less-2 c =
-    let l = c .before .before .before .before .before .before .loop-test .taken in
-    omega (arith, l)
+loop-less-2 c = omega (arith, turn (met (c .before .before)) .loop-test .taken)
 
 loop-again-2 : tie.Need-loop-again-2 Inv-loop μ-loop
 loop-again-2 c =
-    let p = c .before .before .before .before .before .before .before .before .before .before .before .before .pre .1 in
-    let o = c .before .before .before .before .before .before .before .loop in
-    let l = c .before .before .before .before .before .before .loop-test .taken in
-    let is-d = c .before .before .before .before .wide3 .ensures in
-    let is-p = c .before .before .wide4 .ensures in
-    (o .inv .0, filling-turned p (o .inv .1) l is-d is-p (λ e. c .if1 .left (e ∙ sym (c .before .reverse .ensures .0))))
+    let f = c .before .before in
+    let t = turn (met f) in
+    let o = t .before .loop in
+    let back = c .before .reverse .ensures .0 in (
+      o .inv .0,
+      filling-turned (start t .pre .1) (o .inv .1) (t .loop-test .taken) (met f .wide3 .ensures) (f .wide4 .ensures) (λ e. c .if1 .left (e ∙ sym back)),
+    )
 
 returns : tie.Need-returns Inv-loop μ-loop
 returns c =
-    let p = c .before .before .before .before .before .before .pre .1 in
-    let o = c .before .loop in
-    (o .inv .0, filled p (o .inv .1) (c .loop-test .left))
+    let o = c .before in
+    (o .loop .inv .0, filled (begun (rooted (o .before)) .pre .1) (o .loop .inv .1) (c .loop-test .left))
 
 pub fill-heights-spec : {M : Type 1} → statement M
 fill-heights-spec =

@@ -9,7 +9,7 @@ use lib.Seq.{take-at, take-all, length-take-le}
 use borrow.Author.Needs.{needs}
 use Rattle.key_text.specs.Input.{Begins}
 use Rattle.key_text.specs.Key.{Prints}
-use Rattle.key.specs.Input.{Filled}
+use Rattle.key.specs.inner.Input.{Filled}
 use Rattle.key.specs.declared.Input.{Input}
 use Rattle.key.specs.declared.Input.the-variants.{Ended, Full}
 use Rattle.key.proofs.main.Statement.{statement}

@@ -1,28 +1,8 @@
--- The key of the bytes read is the key of every input that begins with them.
-use Prim.Native.Nat.{ℕ, _≤_, _-_}
-use mathlib.Core.Path.{_≡_, sym, ap, subst, _∙_}
-use mathlib.Core.Logic.{inl, inr}
-use mathlib.Core.List.{List}
-use native.Mathlib.Omega.{arith}
-use lib.ListN.{length, take, drop}
-use lib.Seq.{take-all}
+-- The key of the bytes read is the key of every input that begins with them, by `printed-whole`.
 use borrow.Author.Needs.{needs}
-use Rattle.key_text.specs.Input.{inputRoom, Begins}
-use Rattle.key_text.specs.Key.{Key, Prints}
-use Rattle.key_text.proofs.Unread.{unread}
+use Rattle.key_text.proofs.Begun.{printed-whole}
 use Rattle.key_text.proofs.key_of_input.Statement.{statement}
 use Rattle.key_text.proofs.key_of_input.Tie as tie
-
--- an input that ended is the bytes read; one that filled the buffer has their key, by `unread`
-begun : (buffer : List ℕ) (n : ℕ) → inputRoom ≤ length buffer → (whole t : List ℕ) → Begins buffer n whole → Key (take n buffer) t → Key whole t
-begun buffer n room whole t (same, inl all) key = subst (λ l. Key l t) (sym same ∙ take-all n whole (omega arith)) key
-begun buffer n room whole t (same, inr full) key = unread n (omega arith) whole t .1 (subst (λ l. Key l t) (sym same) key)
-
-printed : (buffer : List ℕ) (n : ℕ) (text text' : List ℕ) (m : ℕ) → inputRoom ≤ length buffer → Prints (take (n - 0) (drop 0 buffer)) text text' m
-    → (whole : List ℕ) → Begins buffer n whole → Prints whole text text' m
-printed buffer n text text' m room (t, key, long, fits, placed) whole begins =
-    let same : n - 0 ≡ n = omega arith in
-    (t, begun buffer n room whole t begins (subst (λ k. Key (take k buffer) t) same key), long, fits, placed)
 
 sub-key-text : tie.Need-sub-key-text
 sub-key-text c = search needs
@@ -37,7 +17,7 @@ key-text-requires : tie.Need-key-text-requires
 key-text-requires c κs = search needs
 
 returns : tie.Need-returns
-returns c = let s = c .before .before .before .before in printed (s .args .buffer .now) (s .args .n) _ _ _ (s .pre .0) (c .key-text .ensures)
+returns c = let s = c .before .before .before .before in printed-whole (s .args .buffer .now) (s .args .n) _ _ _ (s .pre .0) (c .key-text .ensures)
 
 pub key-of-input-spec : {M : Type 1} → statement M
 key-of-input-spec = tie.close (tie.spec sub-key-text part-key-text-start part-key-text-end key-text-requires returns)

@@ -1,32 +1,37 @@
--- The first line and the lines of the edges, in a row.
-use mathlib.Core.Path.{_≡_, sym, subst}
+-- The key of an answer "can": the first line and the lines of the edges, one behind another.
+use mathlib.Core.Path.{sym, subst}
 use mathlib.Core.List.{List}
-use Prim.Native.Nat.{ℕ, _≤_, _<_, _+_, _*_}
+use Prim.Native.Nat.{ℕ, _≤_, _+_, _*_}
 use native.Mathlib.Omega.{arith}
 use lib.ListN.{length}
 use borrow.Author.Needs.{needs}
-use Rattle.integers.specs.Limited.{Limited}
+use Rattle.integers.specs.inner.Limited.{Limited}
 use Rattle.signed.proofs.Laws.{number-of-bits}
 use Rattle.arrays.specs.At.{atℤ}
-use Rattle.texts.specs.Placed.{Placed}
-use Rattle.key_text.specs.Text.{lines, edgeLine, canLine, canText}
+use Rattle.texts.specs.inner.Placed.{Placed}
+use Rattle.key_text.specs.Text.{edgeLine, canLine, canText}
 use Rattle.key_text.proofs.Joined.{placed-room, placed-then, can-line-length, edge-line-length, lines-length}
+use Rattle.key_text.proofs.Pieces.{placed-as}
 use Rattle.key_text.proofs.put_can.Statement.{statement}
 use Rattle.key_text.proofs.put_can.Tie as tie
 
+-- ── the first line ──
 abbrev begin : tie.After-put-can-line → tie.Start
 begin c = c .before .before .before
 
 first : (c : tie.After-put-can-line) → Placed 0 (canLine (begin c .args .value)) (begin c .args .text .now) (c .put-can-line .last .0) (c .put-can-line .result)
-first c =
-    subst
-    (λ x. Placed 0 (canLine x) (begin c .args .text .now) (c .put-can-line .last .0) (c .put-can-line .result))
-    (number-of-bits _ (begin c .fits .value))
-    (c .put-can-line .ensures)
+first c = placed-as canLine _ _ _ _ (number-of-bits _ (begin c .fits .value)) (c .put-can-line .ensures)
 
 first-room : (c : tie.After-put-can-line) → c .put-can-line .result + 13 * begin c .args .edges ≤ length (c .put-can-line .last .0)
-first-room c = placed-room 15 (13 * begin c .args .edges) _ _ _ _ _ (first c) (can-line-length (begin c .args .value) (begin c .pre .1)) (omega (arith, begin c .pre .0))
+first-room c =
+    let s = begin c in
+    placed-room 15 (13 * s .args .edges) _ _ _ _ _ (first c) (can-line-length (s .args .value) (s .pre .1)) (omega (arith, s .pre .0))
 
+-- ── the lines of the edges ──
+abbrev led : tie.After-put-edges → tie.After-put-can-line
+led c = c .before .before .before .before
+
+-- ── the needs, in the order of the code ──
 put-can-line-requires : tie.Need-put-can-line-requires
 put-can-line-requires c κs =
     let s = c .before .before in
@@ -44,11 +49,13 @@ same-length c = search needs
 returns : tie.Need-returns
 unfolding canText
 returns c =
-    let f = c .before .before .before .before .before .before in
+    let all-lines = c .before .before in
+    let f = led all-lines in
     let s = begin f in
-    let line : ℕ → List ℕ = λ e. edgeLine e (atℤ (s .args .flows .now) e) in
-    let all = lines-length 13 (s .args .edges) line (λ i h. edge-line-length i (atℤ (s .args .flows .now) i) (omega (arith, s .pre .2)) (s .pre .3 i h)) in
-    placed-then _ _ _ _ _ _ _ _ (first f) (c .before .before .put-edges .ensures) (omega (arith, all, can-line-length (s .args .value) (s .pre .1), s .pre .0))
+    let flow = atℤ (s .args .flows .now) in
+    let line : ℕ → List ℕ = λ e. edgeLine e (flow e) in
+    let all = lines-length 13 (s .args .edges) line (λ i h. edge-line-length i (flow i) (omega (arith, s .pre .2)) (s .pre .3 i h)) in
+    placed-then _ _ _ _ _ _ _ _ (first f) (all-lines .put-edges .ensures) (omega (arith, all, can-line-length (s .args .value) (s .pre .1), s .pre .0))
 
 pub put-can-spec : {M : Type 1} → statement M
 put-can-spec = tie.close (tie.spec put-can-line-requires put-edges-requires same-length returns)

@@ -1,16 +1,16 @@
--- Three pieces: the word, the value, a line feed.
-use mathlib.Core.Path.{_≡_, sym, subst}
-use mathlib.Core.List.{List, [], _∷_}
-use Prim.Native.Nat.{ℕ, _≤_, _+_}
+-- "can" and the value, three pieces one behind another: the word, the value, a line feed.
+use mathlib.Core.Path.{sym, subst}
+use Prim.Native.Nat.{_≤_, _+_}
 use native.Mathlib.Omega.{arith}
 use lib.ListN.{length}
 use borrow.Author.Needs.{needs}
 use Rattle.signed.proofs.Laws.{number-of-bits}
 use Rattle.texts.specs.Decimal.{number}
-use Rattle.texts.specs.Placed.{Placed}
+use Rattle.texts.specs.inner.Placed.{Placed}
 use Rattle.texts.proofs.Length.{number-length}
 use Rattle.key_text.specs.Text.{canWord, canLine}
 use Rattle.key_text.proofs.Joined.{placed-room, three-placed}
+use Rattle.key_text.proofs.Pieces.{placed-as}
 use Rattle.key_text.proofs.put_can_line.Statement.{statement}
 use Rattle.key_text.proofs.put_can_line.Tie as tie
 
@@ -31,16 +31,18 @@ word-room c = placed-room 4 11 _ _ _ _ _ (word c) (omega arith) (begin c .pre .0
 abbrev said : tie.After-put-number → tie.After-put-bytes
 said c = c .before .before .before .before
 
-valued : (c : tie.After-put-number) → Placed (said c .put-bytes .result) (number (begin (said c) .args .value)) (said c .put-bytes .last .0) (c .put-number .last .0) (c .put-number .result)
-valued c =
-    subst
-    (λ x. Placed (said c .put-bytes .result) (number x) (said c .put-bytes .last .0) (c .put-number .last .0) (c .put-number .result))
-    (number-of-bits _ (begin (said c) .fits .value))
-    (c .put-number .ensures)
+valued : (c : tie.After-put-number)
+    → Placed (said c .put-bytes .result) (number (begin (said c) .args .value)) (said c .put-bytes .last .0) (c .put-number .last .0) (c .put-number .result)
+valued c = placed-as number _ _ _ _ (number-of-bits _ (begin (said c) .fits .value)) (c .put-number .ensures)
 
 value-room : (c : tie.After-put-number) → c .put-number .result + 1 ≤ length (c .put-number .last .0)
 value-room c = placed-room 10 1 _ _ _ _ _ (valued c) (nine-digits (begin (said c))) (word-room (said c))
 
+-- ── a line feed ──
+abbrev told : tie.After-put-bytes2 → tie.After-put-number
+told c = c .before .before .before .before .before
+
+-- ── the needs, in the order of the code ──
 slice-aggregate-put-bytes : tie.Need-slice-aggregate-put-bytes
 slice-aggregate-put-bytes c = search needs
 
@@ -65,9 +67,10 @@ same-length c = search needs
 returns : tie.Need-returns
 unfolding canLine
 returns c =
-    let n = c .before .before .before .before .before .before .before in
+    let last = c .before .before in
+    let n = told last in
     let s = begin (said n) in
-    three-placed _ _ _ _ _ _ _ _ _ _ _ (word (said n)) (valued n) (c .before .before .put-bytes2 .ensures) (omega (arith, nine-digits s, s .pre .0))
+    three-placed _ _ _ _ _ _ _ _ _ _ _ (word (said n)) (valued n) (last .put-bytes2 .ensures) (omega (arith, nine-digits s, s .pre .0))
 
 pub put-can-line-spec : {M : Type 1} → statement M
 put-can-line-spec =

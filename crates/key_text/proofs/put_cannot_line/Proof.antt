@@ -1,16 +1,17 @@
--- Five pieces: the word, the value, a blank, the size, a line feed. The last three are joined first.
-use mathlib.Core.Path.{_≡_, sym, subst}
-use mathlib.Core.List.{List, [], _∷_, _++_}
-use Prim.Native.Nat.{ℕ, _≤_, _+_}
+-- "cannot", the value and the size, five pieces one behind another: the word, the value, a blank, the size, a line feed. The last three are joined first.
+use mathlib.Core.Path.{sym, subst}
+use mathlib.Core.List.{[], _∷_}
+use Prim.Native.Nat.{_≤_, _+_}
 use native.Mathlib.Omega.{arith}
 use lib.ListN.{length, length-append}
 use borrow.Author.Needs.{needs}
 use Rattle.signed.proofs.Laws.{number-of-bits}
 use Rattle.texts.specs.Decimal.{decimal, number}
-use Rattle.texts.specs.Placed.{Placed}
+use Rattle.texts.specs.inner.Placed.{Placed}
 use Rattle.texts.proofs.Length.{decimal-length, number-length}
 use Rattle.key_text.specs.Text.{cannotWord, cannotLine}
 use Rattle.key_text.proofs.Joined.{placed-room, three-placed}
+use Rattle.key_text.proofs.Pieces.{placed-as}
 use Rattle.key_text.proofs.put_cannot_line.Statement.{statement}
 use Rattle.key_text.proofs.put_cannot_line.Tie as tie
 
@@ -31,12 +32,9 @@ word-room c = placed-room 7 17 _ _ _ _ _ (word c) (omega arith) (begin c .pre .0
 abbrev said : tie.After-put-number → tie.After-put-bytes
 said c = c .before .before .before .before
 
-valued : (c : tie.After-put-number) → Placed (said c .put-bytes .result) (number (begin (said c) .args .value)) (said c .put-bytes .last .0) (c .put-number .last .0) (c .put-number .result)
-valued c =
-    subst
-    (λ x. Placed (said c .put-bytes .result) (number x) (said c .put-bytes .last .0) (c .put-number .last .0) (c .put-number .result))
-    (number-of-bits _ (begin (said c) .fits .value))
-    (c .put-number .ensures)
+valued : (c : tie.After-put-number)
+    → Placed (said c .put-bytes .result) (number (begin (said c) .args .value)) (said c .put-bytes .last .0) (c .put-number .last .0) (c .put-number .result)
+valued c = placed-as number _ _ _ _ (number-of-bits _ (begin (said c) .fits .value)) (c .put-number .ensures)
 
 value-room : (c : tie.After-put-number) → c .put-number .result + 7 ≤ length (c .put-number .last .0)
 value-room c = placed-room 10 7 _ _ _ _ _ (valued c) (nine-digits (begin (said c))) (word-room (said c))
@@ -45,7 +43,8 @@ value-room c = placed-room 10 7 _ _ _ _ _ (valued c) (nine-digits (begin (said c
 abbrev told : tie.After-put-bytes2 → tie.After-put-number
 told c = c .before .before .before .before .before
 
-blank : (c : tie.After-put-bytes2) → Placed (told c .put-number .result) (32 ∷ []) (told c .put-number .last .0) (c .put-bytes2 .last .0) (c .put-bytes2 .result)
+blank : (c : tie.After-put-bytes2)
+    → Placed (told c .put-number .result) (32 ∷ []) (told c .put-number .last .0) (c .put-bytes2 .last .0) (c .put-bytes2 .result)
 blank c = c .put-bytes2 .ensures
 
 blank-room : (c : tie.After-put-bytes2) → c .put-bytes2 .result + 6 ≤ length (c .put-bytes2 .last .0)
@@ -64,16 +63,22 @@ five-digits c = decimal-length 4 (c .short .result) (omega (arith, c .short .ens
 size-digits : (c : tie.After-short) → length (decimal (begun c .args .size)) ≤ 5
 size-digits c = subst (λ n. length (decimal n) ≤ 5) (c .short .ensures .0) (five-digits c)
 
-sized : (c : tie.After-put-decimal) → Placed (parted (c .before) .put-bytes2 .result) (decimal (begun (c .before) .args .size)) (parted (c .before) .put-bytes2 .last .0) (c .put-decimal .last .0) (c .put-decimal .result)
-sized c =
-    subst
-    (λ n. Placed (parted (c .before) .put-bytes2 .result) (decimal n) (parted (c .before) .put-bytes2 .last .0) (c .put-decimal .last .0) (c .put-decimal .result))
-    (c .before .short .ensures .0)
-    (c .put-decimal .ensures)
+abbrev measured : tie.After-put-decimal → tie.After-put-bytes2
+measured c = parted (c .before)
+
+sized : (c : tie.After-put-decimal)
+    → Placed (measured c .put-bytes2 .result) (decimal (begun (c .before) .args .size)) (measured c .put-bytes2 .last .0)
+    (c .put-decimal .last .0) (c .put-decimal .result)
+sized c = placed-as decimal _ _ _ _ (c .before .short .ensures .0) (c .put-decimal .ensures)
 
 size-room : (c : tie.After-put-decimal) → c .put-decimal .result + 1 ≤ length (c .put-decimal .last .0)
-size-room c = placed-room 5 1 _ _ _ _ _ (sized c) (size-digits (c .before)) (blank-room (parted (c .before)))
+size-room c = placed-room 5 1 _ _ _ _ _ (sized c) (size-digits (c .before)) (blank-room (measured c))
 
+-- ── a line feed ──
+abbrev counted : tie.After-put-bytes3 → tie.After-put-decimal
+counted c = c .before .before .before .before .before
+
+-- ── the needs, in the order of the code ──
 slice-aggregate-put-bytes : tie.Need-slice-aggregate-put-bytes
 slice-aggregate-put-bytes c = search needs
 
@@ -110,12 +115,13 @@ same-length c = search needs
 returns : tie.Need-returns
 unfolding cannotLine
 returns c =
-    let d = c .before .before .before .before .before .before .before in
-    let p = parted (d .before) in
+    let last = c .before .before in
+    let d = counted last in
+    let p = measured d in
     let n = told p in
     let s = begin (said n) in
     let five = size-digits (d .before) in
-    let rest = three-placed _ _ _ _ _ _ _ _ _ _ _ (blank p) (sized d) (c .before .before .put-bytes3 .ensures) (omega (arith, five, value-room n)) in
+    let rest = three-placed _ _ _ _ _ _ _ _ _ _ _ (blank p) (sized d) (last .put-bytes3 .ensures) (omega (arith, five, value-room n)) in
     let more = length-append (decimal (s .args .size)) (10 ∷ []) in
     three-placed _ _ _ _ _ _ _ _ _ _ _ (word (said n)) (valued n) rest (omega (arith, nine-digits s, five, more, s .pre .0))
 

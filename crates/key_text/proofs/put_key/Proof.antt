@@ -1,32 +1,38 @@
--- The question is looked at first; then the key is that of its question on the rest of the bytes.
-use mathlib.Core.Path.{_≡_, sym, ap, _∙_}
-use mathlib.Core.List.{List}
-use Prim.Native.Nat.{ℕ, _≤_, _-_}
+-- The key of the bytes read: the question is looked at first; where it is whole, the key is that of its question on the rest of the bytes.
+use mathlib.Core.Path.{_≡_, sym, _∙_}
+use Prim.Native.Nat.{_≤_}
 use native.Mathlib.Omega.{arith}
-use lib.ListN.{length, take, drop, length-drop}
-use lib.Seq.{take-length}
+use lib.ListN.{length}
 use borrow.Author.Needs.{needs}
 use Rattle.signed.proofs.Laws.{number-of-bits}
 use Rattle.refusals.specs.Order.{NoneOf, Judged}
 use Rattle.refusals.specs.declared.Verdict.{Verdict}
 use Rattle.refusals.specs.declared.Verdict.the-variants.{Passed, Refused}
-use Rattle.records.specs.Record.{recordLength, recordChecks}
+use Rattle.records.specs.Record.{recordChecks}
 use Rattle.key_text.proofs.Joined.{refused-text-length}
+use Rattle.key_text.proofs.Pieces.{rest}
 use Rattle.key_text.proofs.Answering.{question-whole, question-refused}
 use Rattle.key_text.proofs.put_key.Statement.{statement}
 use Rattle.key_text.proofs.put_key.Tie as tie
 
+-- ── the verdict on the question's record ──
 abbrev begin : tie.After-check-record → tie.Start
 begin c = c .before .before .before
 
 judged : (c : tie.After-check-record) (v : Verdict) → c .check-record .result ≡ v → Judged (recordChecks (begin c .args .input .now) 3 0) v
 judged c v e = rw e at (c .check-record .ensures)
 
--- the part of the bytes after the question's record is all of them
-rest : (b : List ℕ) (n : ℕ) → n ≡ recordLength 3 → drop (recordLength 3) b ≡ take (length b - n) (drop n b)
-rest b n e = ap (λ k. drop k b) (sym e) ∙ sym (ap (λ m. take m (drop n b)) (sym (length-drop n b)) ∙ take-length (drop n b))
+-- ── the question is whole ──
+abbrev asked : tie.After-enum-told → tie.After-check-record
+asked c = c .before .before
 
--- ── 1 or 2 ──
+passed : (c : tie.After-enum-told) → NoneOf (recordChecks (begin (asked c) .args .input .now) 3 0)
+passed c = judged (asked c) Passed (c .enum-told .given .1)
+
+whole : (c : tie.After-enum-told) → 9 ≤ length (begin (asked c) .args .input .now)
+whole c = question-whole (begin (asked c) .args .input .now) (passed c)
+
+-- ── the needs, in the order of the code ──
 check-record-requires : tie.Need-check-record-requires
 check-record-requires c κs = search needs
 
@@ -50,15 +56,8 @@ returns c =
     (p .put-refused .ensures)
     (omega (arith, fits, s .pre))
 
--- ── the question is whole ──
 enum-told : tie.Need-enum-told
 enum-told c = search needs
-
-passed : (c : tie.After-enum-told) → NoneOf (recordChecks (begin (c .before .before) .args .input .now) 3 0)
-passed c = judged (c .before .before) Passed (c .enum-told .given .1)
-
-whole : (c : tie.After-enum-told) → 9 ≤ length (begin (c .before .before) .args .input .now)
-whole c = question-whole (begin (c .before .before) .args .input .now) (passed c)
 
 read-u16-requires : tie.Need-read-u16-requires
 read-u16-requires c κs = omega (arith, whole c)
@@ -91,11 +90,13 @@ returns-2 : tie.Need-returns-2
 returns-2 c =
     let p = c .before .before in
     let r = p .before .before .before in
-    let i = r .before in
-    let t = i .before .before .before in
-    let b = begin (t .before .before) .args .input .now in
-    p .put-answer .ensures b (passed t) (rest b _ (r .record-length .ensures .0)) (sym (i .before .before .read-u16 .ensures)) (sym (i .before .read-u162 .ensures))
-    (sym (number-of-bits _ (record { sfits = i .read-i32 .ok }) ∙ i .read-i32 .ensures))
+    let value = r .before in
+    let sink = value .before in
+    let source = sink .before in
+    let t = source .before in
+    let b = begin (asked t) .args .input .now in
+    p .put-answer .ensures b (passed t) (rest b _ (r .record-length .ensures .0)) (sym (source .read-u16 .ensures)) (sym (sink .read-u162 .ensures))
+    (sym (number-of-bits _ (record { sfits = value .read-i32 .ok }) ∙ value .read-i32 .ensures))
 
 pub put-key-spec : {M : Type 1} → statement M
 put-key-spec =

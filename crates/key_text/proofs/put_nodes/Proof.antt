@@ -1,14 +1,14 @@
--- The lines of the nodes so far stand at the place; each is at most 4 bytes.
-use mathlib.Core.Path.{_≡_, subst}
-use mathlib.Core.List.{List}
-use Prim.Native.Nat.{ℕ, _≤_, _<_, _-_, _+_, _*_}
+-- The lines of the nodes in the set, one behind another. Invariant: the lines of the nodes below v stand at the place; each is at most 4 bytes.
+use mathlib.Core.Path.{_≡_}
+use Prim.Native.Nat.{_≤_, _-_, _*_}
 use native.Mathlib.Omega.{arith}
 use native.Mathlib.Nat.{le-antisymm}
 use lib.ListN.{length}
 use borrow.Author.Needs.{needs}
-use Rattle.texts.specs.Placed.{Placed}
+use Rattle.texts.specs.inner.Placed.{Placed}
 use Rattle.key_text.specs.Text.{lines, nodeLine}
 use Rattle.key_text.proofs.Joined.{placed-none, placed-length, lines-more, lines-length, node-line-length}
+use Rattle.key_text.proofs.Pieces.{placed-as}
 use Rattle.key_text.proofs.put_nodes.Statement.{statement}
 use Rattle.key_text.proofs.put_nodes.Tie as tie
 
@@ -18,15 +18,22 @@ Inv-loop text₀ at nodes set end₀ v₀ text end v = (v ≤ nodes) × Placed a
 abbrev μ-loop : tie.MeasureT-loop
 μ-loop text₀ at nodes set end₀ v₀ text end v = nodes - v
 
+-- ── the turn of the loop, and the start: the lines so far keep within the room ──
 abbrev started : tie.At-loop Inv-loop μ-loop → tie.Start Inv-loop μ-loop
 started c = c .before .before
 
 so-far : (c : tie.At-loop Inv-loop μ-loop) → length (lines (c .loop .v) (nodeLine (started c .args .set .now))) ≤ 4 * c .loop .v
-so-far c = lines-length 4 (c .loop .v) (nodeLine (started c .args .set .now)) (λ i g. node-line-length (started c .args .set .now) i (omega (arith, started c .pre .1, c .loop .inv .0)))
+so-far c =
+    let set = started c .args .set .now in
+    lines-length 4 (c .loop .v) (nodeLine set) (λ i g. node-line-length set i (omega (arith, started c .pre .1, c .loop .inv .0)))
 
 length-now : (c : tie.At-loop Inv-loop μ-loop) → length (c .loop .text) ≡ length (started c .args .text .now)
 length-now c = placed-length _ _ _ _ _ (c .loop .inv .1) (omega (arith, c .loop .inv .1 .1, so-far c, started c .pre .0, c .loop .inv .0))
 
+abbrev turn : tie.After-put-node Inv-loop μ-loop → tie.In-loop Inv-loop μ-loop
+turn c = c .before .before
+
+-- ── the needs, in the order of the code ──
 loop-holds : tie.Need-loop-holds Inv-loop μ-loop
 unfolding lines
 loop-holds c = (omega arith, placed-none _ _)
@@ -47,11 +54,12 @@ loop-less c = search needs
 
 loop-again : tie.Need-loop-again Inv-loop μ-loop
 loop-again c =
-    let a = c .before .before .before .before .before in
+    let w = c .before .before in
+    let a = turn w .before in
     let s = started a in
-    let t = c .before .before .before .before .loop-test .taken in (
+    let t = turn w .loop-test .taken in (
       omega arith,
-      lines-more _ _ _ (a .loop .v) (nodeLine (s .args .set .now)) _ _ _ (a .loop .inv .1) (c .before .before .put-node .ensures)
+      lines-more _ _ _ (a .loop .v) (nodeLine (s .args .set .now)) _ _ _ (a .loop .inv .1) (w .put-node .ensures)
           (omega (arith, so-far a, node-line-length (s .args .set .now) (a .loop .v) (omega (arith, s .pre .1, t)), s .pre .0, t)),
     )
 
@@ -60,9 +68,9 @@ same-length c = length-now (c .before)
 
 returns : tie.Need-returns Inv-loop μ-loop
 returns c =
-    let s = started (c .before) in
-    let o = c .before .loop in
-    subst (λ k. Placed (s .args .at) (lines k (nodeLine (s .args .set .now))) (s .args .text .now) (o .text) (o .end)) (le-antisymm (o .inv .0) (c .loop-test .left)) (o .inv .1)
+    let o = c .before in
+    let set = started o .args .set .now in
+    placed-as (λ k. lines k (nodeLine set)) _ _ _ _ (le-antisymm (o .loop .inv .0) (c .loop-test .left)) (o .loop .inv .1)
 
 pub put-nodes-spec : {M : Type 1} → statement M
 put-nodes-spec = tie.close (tie.spec Inv-loop μ-loop loop-holds put-node-requires add-v loop-less loop-again same-length returns)

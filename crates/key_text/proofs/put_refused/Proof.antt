@@ -1,15 +1,15 @@
--- Three pieces: the word, at most three digits, a line feed.
-use mathlib.Core.Path.{_≡_, refl, sym, subst}
-use mathlib.Core.List.{List, [], _∷_}
-use Prim.Native.Nat.{ℕ, _≤_, _<_, _+_}
+-- "refused" and a number, three pieces one behind another: the word, at most three digits, a line feed.
+use mathlib.Core.Path.{subst}
+use Prim.Native.Nat.{_≤_, _+_}
 use native.Mathlib.Omega.{arith}
 use lib.ListN.{length}
 use borrow.Author.Needs.{needs}
 use Rattle.texts.specs.Decimal.{decimal}
-use Rattle.texts.specs.Placed.{Placed}
+use Rattle.texts.specs.inner.Placed.{Placed}
 use Rattle.texts.proofs.Length.{decimal-length}
 use Rattle.key_text.specs.Text.{refusedWord, refusedText}
 use Rattle.key_text.proofs.Joined.{placed-room, three-placed}
+use Rattle.key_text.proofs.Pieces.{placed-as}
 use Rattle.key_text.proofs.put_refused.Statement.{statement}
 use Rattle.key_text.proofs.put_refused.Tie as tie
 
@@ -30,16 +30,25 @@ said c = c .before .before .before .before
 three-digits : (c : tie.After-byte) → length (decimal (c .byte .result)) ≤ 3
 three-digits c = decimal-length 2 (c .byte .result) (omega (arith, c .byte .ensures .1))
 
-numbered : (c : tie.After-put-decimal) → Placed (said (c .before) .put-bytes .result) (decimal (begin (said (c .before)) .args .k)) (said (c .before) .put-bytes .last .0) (c .put-decimal .last .0) (c .put-decimal .result)
-numbered c =
-    subst (λ n. Placed (said (c .before) .put-bytes .result) (decimal n) (said (c .before) .put-bytes .last .0) (c .put-decimal .last .0) (c .put-decimal .result)) (c .before .byte .ensures .0) (c .put-decimal .ensures)
+abbrev worded : tie.After-put-decimal → tie.After-put-bytes
+worded c = said (c .before)
+
+numbered : (c : tie.After-put-decimal)
+    → Placed (worded c .put-bytes .result) (decimal (begin (worded c) .args .k)) (worded c .put-bytes .last .0)
+    (c .put-decimal .last .0) (c .put-decimal .result)
+numbered c = placed-as decimal _ _ _ _ (c .before .byte .ensures .0) (c .put-decimal .ensures)
 
 few-digits : (c : tie.After-byte) → length (decimal (begin (said c) .args .k)) ≤ 3
 few-digits c = subst (λ n. length (decimal n) ≤ 3) (c .byte .ensures .0) (three-digits c)
 
 number-room : (c : tie.After-put-decimal) → c .put-decimal .result + 1 ≤ length (c .put-decimal .last .0)
-number-room c = placed-room 3 1 _ _ _ _ _ (numbered c) (few-digits (c .before)) (word-room (said (c .before)))
+number-room c = placed-room 3 1 _ _ _ _ _ (numbered c) (few-digits (c .before)) (word-room (worded c))
 
+-- ── a line feed ──
+abbrev counted : tie.After-put-bytes2 → tie.After-put-decimal
+counted c = c .before .before .before .before .before
+
+-- ── the needs, in the order of the code ──
 slice-aggregate-put-bytes : tie.Need-slice-aggregate-put-bytes
 slice-aggregate-put-bytes c = search needs
 
@@ -64,11 +73,9 @@ same-length c = search needs
 returns : tie.Need-returns
 unfolding refusedText
 returns c =
-    three-placed _ _ _ _ _ _ _ _ _ _ _ (word (said (d .before))) (numbered d) (c .before .before .put-bytes2 .ensures)
-    (omega (arith, few-digits (d .before), begin (said (d .before)) .pre))
-  where
-    d : tie.After-put-decimal
-    d = c .before .before .before .before .before .before .before
+    let last = c .before .before in
+    let d = counted last in
+    three-placed _ _ _ _ _ _ _ _ _ _ _ (word (worded d)) (numbered d) (last .put-bytes2 .ensures) (omega (arith, few-digits (d .before), begin (worded d) .pre))
 
 pub put-refused-spec : {M : Type 1} → statement M
 put-refused-spec =

@@ -8,8 +8,8 @@ use mir.Val.{toZ, ofZ}
 use borrow.Author.Needs.{needs}
 use Rattle.signed.proofs.Laws.{number-of-bits}
 use Rattle.arrays.specs.At.{atℤ}
-use Rattle.integers.specs.Limited.{Limited}
-use Rattle.arrays.specs.Sizes.{mostCapacity}
+use Rattle.integers.specs.inner.Limited.{Limited}
+use Rattle.arrays.specs.inner.Sizes.{mostCapacity}
 use Rattle.lengths.proofs.Limits.{minus-read, plus-read, minus-fits, plus-fits}
 use Rattle.lengths.proofs.Carrying.{carried}
 use Rattle.lengths.proofs.carry.Statement.{statement}
@@ -64,7 +64,8 @@ returns c =
     let same : atℤ (set l p a) x ≡ atℤ l x = getD-set-other l p x a (pos 0) (h .3) in
     let is-a : a ≡ atℤ l p -ℤ value = number-of-bits _ (record { sfits = less .ok }) ∙ less .ensures ∙ minus-read (h .4) (h .6) in
     let is-b : b ≡ atℤ l x +ℤ value =
-    number-of-bits _ (record { sfits = c .plus .ok }) ∙ c .plus .ensures ∙ plus-read (subst (Limited mostCapacity) (sym same) (h .5)) (h .6) ∙ ap (λ y. y +ℤ value) same in
+    number-of-bits _ (record { sfits = c .plus .ok }) ∙ c .plus .ensures
+    ∙ plus-read (subst (Limited mostCapacity) (sym same) (h .5)) (h .6) ∙ ap (λ y. y +ℤ value) same in
     carried l p x value a b (h .0) (h .1) (h .2) (h .3) is-a is-b
 
 pub carry-spec : {M : Type 1} → statement M

@@ -7,7 +7,19 @@ use mir.Syntax.{w32}
 use mir.Val.{toZ}
 use Rattle.arrays.specs.At.{at, atℤ}
 use Rattle.lengths.proofs.Place.{spot}
-use Rattle.lengths.proofs.Backing.{Backing, backing-start, reached-in, backing-end, origin-in, nearer, backing-turned, edge-fresh, backing-carried, by-bits, from-bits}
+use Rattle.lengths.proofs.Backing.{
+  Backing,
+  backing-start,
+  reached-in,
+  backing-end,
+  origin-in,
+  nearer,
+  backing-turned,
+  edge-fresh,
+  backing-carried,
+  by-bits,
+  from-bits,
+}
 use Rattle.lengths.proofs.fill_lengths.Statement.{statement}
 use Rattle.lengths.proofs.fill_lengths.Tie as tie
 
@@ -78,8 +90,11 @@ loop-again c =
     let ok = by-bits (p .1) in
     let t = c .before .before in
     let is-x = t .if1 .taken ∙ t .before .reverse .ensures .0 in
-    let e = c .carry .ensures in
-    (e .0, backing-carried ok (o .inv .1) (c .before .before .before .before .before .before .loop-test .taken) (c .before .before .before .before .wide .ensures) is-x (e .1))
+    let e = c .carry .ensures in (
+      e .0,
+      backing-carried ok (o .inv .1) (c .before .before .before .before .before .before .loop-test .taken)
+          (c .before .before .before .before .wide .ensures) is-x (e .1),
+    )
 
 loop-less-2 : tie.Need-loop-less-2 Inv-loop μ-loop
 loop-less-2 c =
@@ -94,8 +109,11 @@ loop-again-2 c =
     let w = c .before .before .before .before .before in
     let o = w .loop in
     let p = w .before .before .before .pre in
-    let ok = by-bits (p .1) in
-    (o .inv .0, backing-turned ok (o .inv .1) (c .before .before .before .before .loop-test .taken) (c .before .before .wide .ensures) (λ e. c .if1 .left (e ∙ sym (c .before .reverse .ensures .0))))
+    let ok = by-bits (p .1) in (
+      o .inv .0,
+      backing-turned ok (o .inv .1) (c .before .before .before .before .loop-test .taken)
+          (c .before .before .wide .ensures) (λ e. c .if1 .left (e ∙ sym (c .before .reverse .ensures .0))),
+    )
 
 returns : tie.Need-returns Inv-loop μ-loop
 returns c =

@@ -10,7 +10,7 @@ use Rattle.flows.specs.Check.{Exceeds, withinChecks}
 use Rattle.arrays.specs.At.{at, atℤ}
 use Rattle.balance.proofs.Lowest.{lowest, none-holds}
 use Rattle.balance.proofs.exceeds.Reads as exceeds-reads
-use Rattle.levels.specs.Across.{across}
+use Rattle.levels.specs.inner.Across.{across}
 use Rattle.levels.proofs.check_differences.Lts as lts
 use Rattle.levels.proofs.check_differences.Reads as reads
 use Rattle.levels.proofs.check_differences.Statement.{statement}

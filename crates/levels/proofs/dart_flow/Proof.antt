@@ -5,9 +5,9 @@ use lib.IntN.{ℤ, pos, negℤ, _-ℤ_}
 use borrow.Author.Needs.{needs}
 use mir.Syntax.{w32}
 use mir.Val.{toZ, ofZ, SFits}
-use Rattle.integers.specs.Limited.{Limited}
+use Rattle.integers.specs.inner.Limited.{Limited}
 use Rattle.arrays.specs.At.{atℤ}
-use Rattle.arrays.specs.Sizes.{mostOnSheet}
+use Rattle.arrays.specs.inner.Sizes.{mostOnSheet}
 use Rattle.integers.proofs.Limits.{limited-neg}
 use Rattle.signed.proofs.Limits.{limited-fits, same-bits}
 use Rattle.levels.proofs.DartFlow.{zero-minus, flow-forth, flow-back}

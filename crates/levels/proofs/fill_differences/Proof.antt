@@ -9,7 +9,7 @@ use Rattle.signed.proofs.Laws.{number-of-bits}
 use Rattle.arrays.specs.At.{at, atℤ}
 use Rattle.arrays.specs.Filled.{tabulate}
 use Rattle.arrays.proofs.FillLoops.{copy-start, copy-step, filled-length}
-use Rattle.levels.specs.Across.{across}
+use Rattle.levels.specs.inner.Across.{across}
 use Rattle.levels.proofs.fill_differences.Statement.{statement}
 use Rattle.levels.proofs.fill_differences.Tie as tie
 

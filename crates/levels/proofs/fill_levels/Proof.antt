@@ -8,7 +8,7 @@ use lib.ListN.{length, set, length-set}
 use lib.Seq.{getD-set-same}
 use borrow.Author.Needs.{needs}
 use Rattle.arrays.specs.At.{at, atℤ}
-use Rattle.levels.specs.Laying.{Kept}
+use Rattle.levels.specs.inner.Laying.{Kept}
 use Rattle.levels.proofs.FillingLevels.{Filling, dart-in, origin-in, face-in, filling-start, new-fits, kept-stored, filling-stored, filled}
 use Rattle.levels.proofs.fill_levels.Statement.{statement}
 use Rattle.levels.proofs.fill_levels.Tie as tie

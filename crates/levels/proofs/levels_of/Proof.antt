@@ -15,7 +15,7 @@ use Rattle.maps.specs.Face.{faces}
 use Rattle.flows.specs.Check.{withinChecks, balanceChecks, NoNode}
 use Rattle.arrays.specs.At.{atℤ}
 use Rattle.arrays.specs.Maps.{drawingOf}
-use Rattle.balance.specs.SmallFlows.{SmallFlows}
+use Rattle.balance.specs.inner.SmallFlows.{SmallFlows}
 use Rattle.levels.proofs.Given.{balanced-short, balanced-within, balanced-balance, balanced-none}
 use Rattle.levels.proofs.LevelsFound.{tails-small, settings-small, levelable, found, in-place}
 use Rattle.levels.proofs.levels_of.Statement.{statement}

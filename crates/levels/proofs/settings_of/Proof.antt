@@ -17,7 +17,7 @@ use Rattle.flows.specs.Check.{withinChecks}
 use Rattle.arrays.specs.At.{at, atℤ}
 use Rattle.arrays.specs.Maps.{drawingOf}
 use Rattle.levels.specs.Level.{levelChecks}
-use Rattle.levels.specs.Across.{HaveLevels}
+use Rattle.levels.specs.inner.Across.{HaveLevels}
 use Rattle.levels.specs.SettingsOf.{fromLevels}
 use Rattle.levels.proofs.Given.{leveled-short, leveled-levels, leveled-within, leveled-none}
 use Rattle.levels.proofs.SettingsFound.{zero-in, levels-judged, levels-ready, differences-within, differences-filled}

@@ -4,7 +4,7 @@ use Prim.Native.Nat.{_*_}
 use native.Mathlib.Omega.{arith}
 use borrow.Author.Needs.{needs}
 use Rattle.arrays.specs.At.{at, atℤ}
-use Rattle.levels.specs.Laying.{Levelled}
+use Rattle.levels.specs.inner.Laying.{Levelled}
 use Rattle.levels.proofs.write_levels.Statement.{statement}
 use Rattle.levels.proofs.write_levels.Tie as tie
 

@@ -10,8 +10,8 @@ use Rattle.integers.proofs.Laws.{lt-of-test, ge-of-test}
 use Rattle.signed.proofs.Laws.{number-of-bits}
 use Rattle.maps.specs.Cut.{union}
 use Rattle.arrays.specs.At.{at, atℤ}
-use Rattle.cuts.specs.Cut.{cutOf}
-use Rattle.arrays.specs.Flags.{flagged}
+use Rattle.cuts.specs.inner.Cut.{cutOf}
+use Rattle.arrays.specs.inner.Flags.{flagged}
 use Rattle.maximum.proofs.Joining.{cut-flags}
 use Rattle.maximum.proofs.join.Statement.{statement}
 use Rattle.maximum.proofs.join.Tie as tie
@@ -26,7 +26,8 @@ UnionTotal c =
 union-total : (c : tie.After-capacity) → UnionTotal c
 union-total c =
     let s = c .before .before .before .before .before in
-    number-of-bits _ (record { sfits = c .capacity .ok }) ∙ c .capacity .ensures ∙ cut-flags _ _ _ _ _ (s .pre .2) (s .pre .3) (c .before .before .unite .ensures .1)
+    number-of-bits _ (record { sfits = c .capacity .ok }) ∙ c .capacity .ensures
+    ∙ cut-flags _ _ _ _ _ (s .pre .2) (s .pre .3) (c .before .before .unite .ensures .1)
 
 unite-requires : tie.Need-unite-requires
 unite-requires c κs = search needs

@@ -11,7 +11,7 @@ use lib.Signed.{_≤ℤ_, _<ℤ_}
 use mir.Syntax.{w32}
 use mir.Val.{toZ, ofZ}
 use borrow.Author.Needs.{needs}
-use Rattle.integers.specs.Limited.{Limited}
+use Rattle.integers.specs.inner.Limited.{Limited}
 use Rattle.integers.proofs.Laws.{ge-of-test, lt-of-test}
 use Rattle.integers.proofs.Limits.{limited-more, limited-neg}
 use Rattle.signed.proofs.Laws.{number-of-bits}
@@ -20,15 +20,31 @@ use Rattle.maps.specs.Map.{Map}
 use Rattle.flows.proofs.ValueBound.{cut-small}
 use Rattle.arrays.specs.At.{at, atℤ}
 use Rattle.arrays.proofs.FillLoops.{filled-length}
-use Rattle.cuts.specs.Cut.{cutOf}
+use Rattle.cuts.specs.inner.Cut.{cutOf}
 use Rattle.cuts.proofs.CutOfMap.{cut-of}
-use Rattle.arrays.specs.Flags.{flagged}
+use Rattle.arrays.specs.inner.Flags.{flagged}
 use Rattle.arrays.specs.Maps.{mapOf}
-use Rattle.solver.specs.Decision.{Decided}
-use Rattle.maximum.specs.Bracket.{Bracket}
-use Rattle.maximum.specs.Maximum.{Maximized}
+use Rattle.solver.specs.inner.Decision.{Decided}
+use Rattle.maximum.specs.inner.Bracket.{Bracket}
+use Rattle.maximum.specs.inner.Maximum.{Maximized}
 use Rattle.maximum.proofs.Gap.{gap, gap-carried}
-use Rattle.maximum.proofs.Bracketing.{Ground, Probing, high-small, low-small, begins, between-limited, above-low, carried, nothing, narrowed, met, passed, bits-bracket, bits-gap, same-bracket}
+use Rattle.maximum.proofs.Bracketing.{
+  Ground,
+  Probing,
+  high-small,
+  low-small,
+  begins,
+  between-limited,
+  above-low,
+  carried,
+  nothing,
+  narrowed,
+  met,
+  passed,
+  bits-bracket,
+  bits-gap,
+  same-bracket,
+}
 use Rattle.maximum.proofs.maximize.Statement.{statement}
 use Rattle.maximum.proofs.maximize.Tie as tie
 
@@ -88,7 +104,8 @@ capacity-requires-2 c κs =
     (omega (arith, b .pre .3 .few-edges), omega arith, tails-in b, caps-in b)
 
 -- the cut of a set, of the map
-small-cut : (c : tie.Start Inv-loop μ-loop) (S : ℕ → _) (total : ℤ) → total ≡ cutOf (2 * c .args .edges) (at (c .args .tails .now)) (caps c) S → Limited 512000000 total
+small-cut : (c : tie.Start Inv-loop μ-loop) (S : ℕ → _) (total : ℤ)
+    → total ≡ cutOf (2 * c .args .edges) (at (c .args .tails .now)) (caps c) S → Limited 512000000 total
 small-cut c S total e = subst (Limited 512000000) (sym (e ∙ sym (cut-of (𝓜 c) (caps c) S))) (cut-small (𝓜 c) (caps c) (c .pre .3 .few-edges) (c .pre .2) S)
 
 bits-limited : {b : ℕ} {x : ℤ} → b < 2147483648 → Limited b x → Limited b (toZ w32 (ofZ w32 x))
@@ -190,14 +207,20 @@ above : (c : tie.After-next-value Inv-loop μ-loop) → top c .loop .found ≡ t
 above c e =
     let q = c .before in
     subst (λ v. lo (top c) <ℤ v) (sym (same-value c))
-    (above-low (lo (top c)) (hi (top c)) (c .next-value .result) (top c .loop .found) (in-order q) (q .before .finished .ensures .1 (q .if2 .left)) (c .next-value .ensures .2) e)
+    (above-low (lo (top c)) (hi (top c)) (c .next-value .result) (top c .loop .found) (in-order q)
+    (q .before .finished .ensures .1 (q .if2 .left)) (c .next-value .ensures .2) e)
 
 decide-requires : tie.Need-decide-requires Inv-loop μ-loop
 decide-requires c κs =
     let n = c .before .before in
     let l = top n in
-    let p = start l .pre in
-    (l .loop .inv .size-inside, omega (arith, p .1, l .loop .inv .size-flows), p .3, p .4, limited-more (omega arith) (bits-limited (omega arith) (value-small n)))
+    let p = start l .pre in (
+      l .loop .inv .size-inside,
+      omega (arith, p .1, l .loop .inv .size-flows),
+      p .3,
+      p .4,
+      limited-more (omega arith) (bits-limited (omega arith) (value-small n)),
+    )
 
 -- ── the value is carried ──
 abbrev asked : tie.After-decide Inv-loop μ-loop → tie.After-next-value Inv-loop μ-loop
@@ -210,11 +233,13 @@ abbrev inside' : tie.After-decide Inv-loop μ-loop → List ℕ
 inside' c = c .decide .last .1 .1 .1 .1 .1 .1 .1 .1 .1 .1 .1 .1 .0
 
 decided : (c : tie.After-decide Inv-loop μ-loop) {r : Bool} → c .decide .result ≡ r
-    → Decided (𝓜 (start (top (asked c)))) (start (top (asked c)) .args .outer) (caps (start (top (asked c)))) (src (start (top (asked c)))) (snk (start (top (asked c)))) (value (asked c))
+    → Decided (𝓜 (start (top (asked c)))) (start (top (asked c)) .args .outer) (caps (start (top (asked c))))
+    (src (start (top (asked c)))) (snk (start (top (asked c)))) (value (asked c))
     (top (asked c) .loop .flows) (flows' c) (inside' c) r
 decided c e =
     let b = start (top (asked c)) in
-    subst (Decided (𝓜 b) (b .args .outer) (caps b) (src b) (snk b) (value (asked c)) (top (asked c) .loop .flows) (flows' c) (inside' c)) e (c .decide .ensures .1)
+    subst (Decided (𝓜 b) (b .args .outer) (caps b) (src b) (snk b) (value (asked c)) (top (asked c) .loop .flows) (flows' c) (inside' c))
+    e (c .decide .ensures .1)
 
 loop-less : tie.Need-loop-less Inv-loop μ-loop
 loop-less c =
@@ -234,7 +259,9 @@ loop-again c =
       size-b = i .size-b;
       size-inside = k .decide .ensures .0;
       size-flows = filled-length _ _ (l .loop .flows) (flows' k) (d .2) (omega (arith, b .pre .1, i .size-flows)) ∙ i .size-flows;
-      bracket = carried (b .args .outer) (ground b) (b .args .flows .now) (l .loop .flows) (l .loop .a) (l .loop .b) (lo l) (hi l) (l .loop .found) (i .bracket) (value n) (flows' k) (inside' k) d;
+      bracket =
+          carried (b .args .outer) (ground b) (b .args .flows .now) (l .loop .flows) (l .loop .a)
+          (l .loop .b) (lo l) (hi l) (l .loop .found) (i .bracket) (value n) (flows' k) (inside' k) d;
     }
 
 -- ── it cannot be: the set moves a bound, or shows that there is nothing ──
@@ -269,9 +296,12 @@ refused : (c : tie.After-narrow-by Inv-loop μ-loop) → probed c .decide .resul
 refused c = c .before .before .before .before .if3 .left
 
 moved : (c : tie.After-narrow-by Inv-loop μ-loop) → c .narrow-by .result .none ≡ false
-    → Bracket (𝓜 (start (top (asked (probed c))))) (start (top (asked (probed c))) .args .outer) (caps (start (top (asked (probed c))))) (src (start (top (asked (probed c))))) (snk (start (top (asked (probed c)))))
-    (start (top (asked (probed c))) .args .flows .now) (top (asked (probed c)) .loop .flows) (a' c) (b' c) (c .narrow-by .result .low) (c .narrow-by .result .high) (top (asked (probed c)) .loop .found)
-    × (gap (c .narrow-by .result .low) (c .narrow-by .result .high) (top (asked (probed c)) .loop .found) < gap (lo (top (asked (probed c)))) (hi (top (asked (probed c)))) (top (asked (probed c)) .loop .found))
+    → Bracket (𝓜 (start (top (asked (probed c))))) (start (top (asked (probed c))) .args .outer)
+    (caps (start (top (asked (probed c))))) (src (start (top (asked (probed c))))) (snk (start (top (asked (probed c)))))
+    (start (top (asked (probed c))) .args .flows .now) (top (asked (probed c)) .loop .flows) (a' c) (b' c)
+    (c .narrow-by .result .low) (c .narrow-by .result .high) (top (asked (probed c)) .loop .found)
+    × (gap (c .narrow-by .result .low) (c .narrow-by .result .high) (top (asked (probed c)) .loop .found)
+    < gap (lo (top (asked (probed c)))) (hi (top (asked (probed c)))) (top (asked (probed c)) .loop .found))
 moved c e =
     let k = probed c in
     let n = asked k in
@@ -327,8 +357,11 @@ returns-2 : tie.Need-returns-2 Inv-loop μ-loop
 returns-2 c =
     let l = c .before .before .before .before in
     let b = start l in
-    let r = c .before .finished .ensures .0 (c .if2 .taken) in
-    (l .loop .inv .size-a, met (b .args .outer) (ground b) (b .args .flows .now) (l .loop .flows) (l .loop .a) (l .loop .b) (lo l) (hi l) (l .loop .found) (l .loop .inv .bracket) (r .0) (r .1))
+    let r = c .before .finished .ensures .0 (c .if2 .taken) in (
+      l .loop .inv .size-a,
+      met (b .args .outer) (ground b) (b .args .flows .now) (l .loop .flows) (l .loop .a)
+          (l .loop .b) (lo l) (hi l) (l .loop .found) (l .loop .inv .bracket) (r .0) (r .1),
+    )
 
 same-length-3 : tie.Need-same-length-3 Inv-loop μ-loop
 same-length-3 c = search needs
@@ -342,7 +375,9 @@ returns-3 c =
     let b = start l in
     let r = m .narrow-by .ensures .2 in
     let d = decided k (refused m) in
-    let h = nothing (b .args .outer) (ground b) (b .args .flows .now) (l .loop .flows) (l .loop .a) (l .loop .b) (lo l) (hi l) (l .loop .found) (l .loop .inv .bracket)
+    let h =
+    nothing (b .args .outer) (ground b) (b .args .flows .now) (l .loop .flows)
+    (l .loop .a) (l .loop .b) (lo l) (hi l) (l .loop .found) (l .loop .inv .bracket)
     (value n) (at-least n) (at-most n) (inside' k) (d .1) (a' m) (b' m) (m .narrow-by .result) (r .0) (r .1) (r .2) (c .if4 .taken) in
     (m .narrow-by .ensures .0, (d .0 ∙ h .0, h .1, h .2))
 

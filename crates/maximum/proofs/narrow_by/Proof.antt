@@ -9,12 +9,12 @@ use mir.Val.{toZ, ofZ}
 use types.Run.{OneOf}
 use denote.Enum.Declared.{tagOf}
 use borrow.Author.Needs.{needs}
-use Rattle.integers.specs.Limited.{Limited}
+use Rattle.integers.specs.inner.Limited.{Limited}
 use Rattle.signed.proofs.Laws.{number-of-bits}
 use Rattle.arrays.specs.At.{at, atℤ}
-use Rattle.cuts.specs.Cut.{cutOf}
-use Rattle.node_flags.specs.Flags.{Sided}
-use Rattle.arrays.specs.Flags.{flagged}
+use Rattle.cuts.specs.inner.Cut.{cutOf}
+use Rattle.node_flags.specs.inner.Flags.{Sided}
+use Rattle.arrays.specs.inner.Flags.{flagged}
 use Rattle.node_flags.specs.declared.Side.{Side}
 use Rattle.node_flags.specs.declared.Side.the-variants as side
 use Rattle.node_flags.proofs.Side as tags
@@ -34,7 +34,8 @@ third side.Beside g h = refl
 abbrev Total : tie.After-capacity → Type 0
 Total c =
     let s = c .before in
-    toZ w32 (ofZ w32 (c .capacity .result)) ≡ cutOf (s .args .darts) (at (s .args .tails .now)) (atℤ (s .args .capacities .now)) (flagged (s .args .inside .now))
+    toZ w32 (ofZ w32 (c .capacity .result))
+    ≡ cutOf (s .args .darts) (at (s .args .tails .now)) (atℤ (s .args .capacities .now)) (flagged (s .args .inside .now))
 
 total-is : (c : tie.After-capacity) → Total c
 total-is c = number-of-bits _ (record { sfits = c .capacity .ok }) ∙ c .capacity .ensures

@@ -37,7 +37,8 @@ minus-requires-2 : tie.Need-minus-requires-2
 minus-requires-2 c κs =
     let s = c .before .before .before in
     let h = s .pre in
-    subst (λ y. SFits w32 (toZ w32 (ofZ w32 (s .args .high)) -ℤ y)) (sym (half c)) (middle-fits (h .0) (h .1) (h .2) _ _ (between (c .before)) (c .halve .ensures))
+    subst (λ y. SFits w32 (toZ w32 (ofZ w32 (s .args .high)) -ℤ y)) (sym (half c))
+    (middle-fits (h .0) (h .1) (h .2) _ _ (between (c .before)) (c .halve .ensures))
 
 returns-2 : tie.Need-returns-2
 returns-2 c =

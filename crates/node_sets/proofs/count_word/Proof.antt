@@ -1,3 +1,4 @@
+-- A word has at most 64 ones.
 use mathlib.Core.Path.{refl}
 use native.Mathlib.Omega.{arith}
 use lib.Count.{ones-le}

@@ -1,3 +1,4 @@
+-- The flag of a node is read; past the last node it is no.
 use mathlib.Core.Path.{sym, _∙_}
 use Rattle.integers.proofs.Tests.{ltb-false}
 use Rattle.node_sets.proofs.Writing.{flag-inside, flag-outside}

@@ -1,3 +1,4 @@
+-- The or of a word that is filled below bit k with that bit is their sum.
 use Prim.Native.Nat.{ℕ}
 use mathlib.Core.Path.{ap, _∙_}
 use lib.Bits.{bitOr}

@@ -5,7 +5,7 @@ use mathlib.Core.Logic.{⊎-elim}
 use mathlib.Core.Bool.{Bool}
 use mathlib.Core.List.{List}
 use native.Mathlib.Omega.{arith}
-use Rattle.node_sets.specs.Words.{word, flag}
+use Rattle.node_sets.specs.inner.Words.{word, flag}
 use Rattle.node_sets.proofs.Bits.{word-below, word-with, word-without}
 use borrow.Author.Needs.{needs}
 use Rattle.node_sets.proofs.word_of.Statement.{statement}

@@ -50,7 +50,8 @@ loop-again c =
       o .inv .1,
       e,
       omega (arith, length-set (o .words) (o .j) w, o .inv .3),
-      writing-step (s .args .inside .now) (s .args .nodes) (s .args .words .now) (o .words) (o .j) w (o .inv .4) (omega (arith, e)) (s .pre .1) (c .word-of .ensures),
+      writing-step (s .args .inside .now) (s .args .nodes) (s .args .words .now) (o .words)
+          (o .j) w (o .inv .4) (omega (arith, e)) (s .pre .1) (c .word-of .ensures),
     )
 
 same-length : tie.Need-same-length Inv-loop μ-loop

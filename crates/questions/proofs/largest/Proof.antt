@@ -12,7 +12,7 @@ use Rattle.maps.specs.Map.{Map}
 use Rattle.flows.specs.ProvingSet.{wordsFor}
 use Rattle.arrays.specs.At.{atℤ}
 use Rattle.arrays.specs.Maps.{mapOf}
-use Rattle.maximum.specs.Maximum.{Maximized}
+use Rattle.maximum.specs.inner.Maximum.{Maximized}
 use Rattle.maximum.specs.declared.Maximum.{Maximum}
 use Rattle.questions.specs.Question.{endChecks, roomChecks}
 use Rattle.questions.specs.Largest.{searchChecks}

@@ -17,7 +17,7 @@ use Rattle.maps.specs.Map.{Map}
 use Rattle.flows.specs.ProvingSet.{wordsFor}
 use Rattle.arrays.specs.At.{atℤ}
 use Rattle.arrays.specs.Maps.{mapOf}
-use Rattle.solver.specs.Decision.{Decided}
+use Rattle.solver.specs.inner.Decision.{Decided}
 use Rattle.solver.proofs.Preparing.{same-value, small-value}
 use Rattle.questions.specs.Question.{endChecks, valueChecks, roomChecks}
 use Rattle.questions.specs.Solve.{questionChecks}

@@ -1,5 +1,5 @@
--- `records::check_bytes` meets its contract: the head, the edges in turn, then what is left over.
--- The invariant: the head's length and counts are known, and every edge before e has passed.
+-- Checks 1 to 8: the head, the edges in turn, then what is left over; each way out is a verdict of the whole list, by a law of `Bytes`.
+-- Invariant: the head's length and counts are known, and every edge before e has passed.
 use Prim.Native.Nat.{ℕ, _-_, _≤_, _<_}
 use mathlib.Core.Path.{_≡_, refl}
 use mathlib.Core.Logic.{inl}
@@ -14,11 +14,27 @@ use Rattle.records.proofs.check_bytes.Tie as tie
 
 abbrev Inv-loop : tie.InvT-loop
 Inv-loop s head nodes edges e₀ e =
-    (e ≤ edges) × (edges ≤ 512) × (head ≤ 256) × (head ≡ headLength s) × (nodes ≡ nodesOf s) × (edges ≡ edgesOf s) × NoneOf (headChecks s) × ((i : ℕ) → i < e → NoneOf (edgeRecordChecks s i))
+    (e ≤ edges)
+    × (edges ≤ 512)
+    × (head ≤ 256)
+    × (head ≡ headLength s)
+    × (nodes ≡ nodesOf s)
+    × (edges ≡ edgesOf s)
+    × NoneOf (headChecks s)
+    × ((i : ℕ) → i < e → NoneOf (edgeRecordChecks s i))
 
 abbrev μ-loop : tie.MeasureT-loop
 μ-loop s head nodes edges e₀ e = edges - e
 
+-- ── the head passed ──
+head-passed : (c : tie.After-enum-told Inv-loop μ-loop) → NoneOf (headChecks (c .before .before .before .before .args .s .now))
+head-passed c = rw (c .enum-told .given .1) at (c .before .before .check-head .ensures)
+
+-- ── the turn of the loop in which an edge is checked ──
+abbrev turn : tie.After-check-edge-record Inv-loop μ-loop → tie.At-loop Inv-loop μ-loop
+turn c = c .before .before
+
+-- ── the needs, in the order of the code ──
 check-head-requires : tie.Need-check-head-requires Inv-loop μ-loop
 check-head-requires c κs = search needs
 
@@ -31,24 +47,20 @@ returns c = refused-head _ _ _ (rw (c .before .whole .given .1) at (c .before .b
 enum-told : tie.Need-enum-told Inv-loop μ-loop
 enum-told c = search needs
 
--- the head passed
-passed : (c : tie.After-enum-told Inv-loop μ-loop) → NoneOf (headChecks (c .before .before .before .before .args .s .now))
-passed c = rw (c .enum-told .given .1) at (c .before .before .check-head .ensures)
-
 head-length-requires : tie.Need-head-length-requires Inv-loop μ-loop
-head-length-requires c κs = let h = head-whole _ (passed c) in omega arith
+head-length-requires c κs = let h = head-whole _ (head-passed c) in omega arith
 
 read-wide-requires : tie.Need-read-wide-requires Inv-loop μ-loop
-read-wide-requires c κs = let h = head-whole _ (passed (c .before)) in omega arith
+read-wide-requires c κs = let h = head-whole _ (head-passed (c .before)) in omega arith
 
 read-wide-requires-2 : tie.Need-read-wide-requires-2 Inv-loop μ-loop
-read-wide-requires-2 c κs = let h = head-whole _ (passed (c .before .before)) in omega arith
+read-wide-requires-2 c κs = let h = head-whole _ (head-passed (c .before .before)) in omega arith
 
 loop-holds : tie.Need-loop-holds Inv-loop μ-loop
 loop-holds c =
     let nodes = c .before in
     let head = nodes .before in
-    let h = passed (head .before) in (
+    let h = head-passed (head .before) in (
       omega arith,
       omega (arith, head-counts _ h .3),
       head .head-length .ensures .1,
@@ -67,8 +79,9 @@ enum-known-edge c = search needs
 
 returns-2 : tie.Need-returns-2 Inv-loop μ-loop
 returns-2 c =
-    let i = c .before .before .before .before .before .loop in
-    refused-edge _ (i .inv .6) (i .e) _ _ (omega arith) (i .inv .7) (rw (c .before .edge .given .1) at (c .before .before .before .check-edge-record .ensures))
+    let edge = c .before .before .before in
+    let i = turn edge .loop in
+    refused-edge _ (i .inv .6) (i .e) _ _ (omega arith) (i .inv .7) (rw (c .before .edge .given .1) at (edge .check-edge-record .ensures))
 
 enum-told-2 : tie.Need-enum-told-2 Inv-loop μ-loop
 enum-told-2 c = search needs
@@ -81,8 +94,10 @@ loop-less c = search needs
 
 loop-again : tie.Need-loop-again Inv-loop μ-loop
 loop-again c =
-    let i = c .before .before .before .before .loop in
-    (omega arith, i .inv .1, i .inv .2, i .inv .3, i .inv .4, i .inv .5, i .inv .6, below-more _ (i .e) (i .inv .7) (rw (c .enum-told2 .given .1) at (c .before .before .check-edge-record .ensures)))
+    let edge = c .before .before in
+    let i = turn edge .loop in
+    let passed = rw (c .enum-told2 .given .1) at (edge .check-edge-record .ensures) in
+    (omega arith, i .inv .1, i .inv .2, i .inv .3, i .inv .4, i .inv .5, i .inv .6, below-more _ (i .e) (i .inv .7) passed)
 
 edge-at-requires : tie.Need-edge-at-requires Inv-loop μ-loop
 edge-at-requires c κs = search needs

@@ -1,9 +1,7 @@
--- `check_edge_record` meets its contract: the record, and then its fields, as they stand in it.
+-- Checks 1, 2 and 4 to 7 of the record of an edge: the record is whole, at its place behind the head; then its fields are judged as they stand in it.
 use mathlib.Core.Path.{_≡_, _∙_, ap, subst}
-use mathlib.Core.List.{List}
-use Prim.Native.Nat.{ℕ, _+_, _≤_}
+use Prim.Native.Nat.{_+_, _≤_}
 use lib.ListN.{length}
-use Rattle.fields.specs.Fields.{u16At, i32At}
 use Rattle.refusals.specs.Order.{Judged}
 use Rattle.refusals.specs.declared.Verdict.{Verdict}
 use Rattle.records.specs.Record.{recordChecks}
@@ -12,11 +10,32 @@ use Rattle.signed.proofs.Laws.{number-of-bits}
 use Rattle.refusals.proofs.Order.{first-left, judged-right}
 use Rattle.records.specs.Sheet.{edgeAfter, edgeAt, edgeRecordChecks}
 use Rattle.records.proofs.Record.{edge-body}
-use Rattle.records.proofs.Fields.{edge-fields}
+use Rattle.records.proofs.EdgeRead.{edge-read}
 use borrow.Author.Needs.{needs}
 use Rattle.records.proofs.check_edge_record.Statement.{statement}
 use Rattle.records.proofs.check_edge_record.Tie as tie
 
+-- ── the record begins behind the sheet's head and the records before it ──
+abbrev begun : tie.After-check-record → tie.Start
+begun c = c .before .before .before
+
+place : (c : tie.After-check-record) → c .before .edge-at .result ≡ edgeAt (begun c .args .s .now) (begun c .args .e)
+place c = c .before .edge-at .ensures ∙ ap (λ n. edgeAfter n (begun c .args .e)) (begun c .pre .3)
+
+judged : (c : tie.After-check-record) (v : Verdict) → c .check-record .result ≡ v
+    → Judged (recordChecks (begun c .args .s .now) 2 (edgeAt (begun c .args .s .now) (begun c .args .e))) v
+judged c v e = subst (λ n. Judged (recordChecks (begun c .args .s .now) 2 n) v) (place c) (subst (Judged _) e (c .check-record .ensures))
+
+-- ── and is whole ──
+abbrev checked : tie.After-enum-told → tie.After-check-record
+checked c = c .before .before
+
+whole : (c : tie.After-enum-told) → checked c .before .edge-at .result + 17 ≤ length (begun (checked c) .args .s .now)
+whole c =
+    let k = checked c in
+    omega (arith, place k, edge-body _ (begun k .args .e) (judged k _ (c .enum-told .given .1)))
+
+-- ── the needs, in the order of the code ──
 edge-at-requires : tie.Need-edge-at-requires
 edge-at-requires c κs = search needs
 
@@ -26,31 +45,12 @@ check-record-requires c κs = search needs
 enum-known-whole : tie.Need-enum-known-whole
 enum-known-whole c = search needs
 
--- the record begins behind the sheet's head and the records before it
-abbrev sheet : tie.After-edge-at → List ℕ
-sheet c = c .before .before .args .s .now
-
-place : (c : tie.After-edge-at) → c .edge-at .result ≡ edgeAt (sheet c) (c .before .before .args .e)
-place c = c .edge-at .ensures ∙ ap (λ n. edgeAfter n (c .before .before .args .e)) (c .before .before .pre .3)
-
-judged : (c : tie.After-check-record) (v : Verdict) → c .check-record .result ≡ v → Judged (recordChecks (sheet (c .before)) 2 (edgeAt (sheet (c .before)) (c .before .before .before .args .e))) v
-judged c v e = subst (λ n. Judged (recordChecks (sheet (c .before)) 2 n) v) (place (c .before)) (subst (Judged _) e (c .check-record .ensures))
-
 returns : tie.Need-returns
 unfolding edgeRecordChecks
 returns c = first-left _ _ _ _ (judged (c .before .before .before) _ (c .before .whole .given .1))
 
 enum-told : tie.Need-enum-told
 enum-told c = search needs
-
--- and is whole
-whole : (c : tie.After-enum-told) → c .before .before .before .edge-at .result + 17 ≤ length (c .before .before .before .before .before .args .s .now)
-whole c =
-    omega (
-      arith,
-      place (c .before .before .before),
-      edge-body _ (c .before .before .before .before .before .args .e) (judged (c .before .before) _ (c .enum-told .given .1)),
-    )
 
 add-read-wide : tie.Need-add-read-wide
 add-read-wide c = search needs
@@ -96,29 +96,20 @@ unfolding edgeRecordChecks
 returns-2 c =
     let backward = c .before in
     let forward = backward .before in
-    let fourth = forward .before in
-    let third = fourth .before in
-    let second = third .before in
-    let first = second .before in
-    let told = first .before in
-    let start = told .before .before .before .before .before in
-    let s = start .args .s .now in
-    let here = place (told .before .before .before) in
-    judged-right _ _ (c .check-fields .result)
-    (judged (told .before .before) _ (told .enum-told .given .1))
-    (rw (edge-fields (start .args .s .now) (start .args .e) (omega arith))
-    (rw (
-      start .pre .4,
-      start .pre .5,
-      first .read-wide .ensures ∙ ap (λ n. u16At s (n + 1)) here,
-      second .read-wide2 .ensures ∙ ap (λ n. u16At s (n + 3)) here,
-      third .read-wide3 .ensures ∙ ap (λ n. u16At s (n + 5)) here,
-      fourth .read-wide4 .ensures ∙ ap (λ n. u16At s (n + 7)) here,
-      number-of-bits (forward .read-i32 .result) (record { sfits = forward .read-i32 .ok }),
-      number-of-bits (backward .read-i322 .result) (record { sfits = backward .read-i322 .ok }),
-      forward .read-i32 .ensures ∙ ap (λ n. i32At s (n + 9)) here,
-      backward .read-i322 .ensures ∙ ap (λ n. i32At s (n + 13)) here,
-    ) at (c .check-fields .ensures)))
+    let back = forward .before in
+    let rotation = back .before in
+    let head = rotation .before in
+    let tail = head .before in
+    let told = tail .before in
+    let k = checked told in
+    let s = begun k in
+    let v = c .check-fields .result in
+    let forward-is = number-of-bits (forward .read-i32 .result) (record { sfits = forward .read-i32 .ok }) ∙ forward .read-i32 .ensures in
+    let backward-is = number-of-bits (backward .read-i322 .result) (record { sfits = backward .read-i322 .ok }) ∙ backward .read-i322 .ensures in
+    judged-right _ _ v (judged k _ (told .enum-told .given .1))
+    (edge-read (s .args .s .now) (s .args .e) v (s .pre .1) (s .pre .4) (s .pre .5) (place k)
+    (tail .read-wide .ensures) (head .read-wide2 .ensures) (rotation .read-wide3 .ensures) (back .read-wide4 .ensures) forward-is backward-is
+    (c .check-fields .ensures))
 
 pub check-edge-record-spec : {M : Type 1} → statement M
 check-edge-record-spec =

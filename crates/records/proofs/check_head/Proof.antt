@@ -1,4 +1,4 @@
--- `records::check_head` meets its contract: the record, and then its numbers.
+-- Checks 1 to 3 and 24 of the head: the record is whole; then its numbers are judged as they stand in it.
 use native.Mathlib.Omega.{arith}
 use Rattle.refusals.specs.Order.{NoneOf}
 use Rattle.refusals.proofs.Order.{first-left, judged-right}
@@ -8,6 +8,11 @@ use borrow.Author.Needs.{needs}
 use Rattle.records.proofs.check_head.Statement.{statement}
 use Rattle.records.proofs.check_head.Tie as tie
 
+-- ── the head is whole, and of one of the two kinds ──
+whole : (c : tie.After-enum-told) → NoneOf (headRecordChecks (c .before .before .before .before .args .s .now))
+whole c = rw (c .enum-told .given .1) at (c .before .before .check-head-record .ensures)
+
+-- ── the needs, in the order of the code ──
 check-head-record-requires : tie.Need-check-head-record-requires
 check-head-record-requires c κs = search needs
 
@@ -20,10 +25,6 @@ returns c = first-left _ _ _ _ (rw (c .before .whole .given .1) at (c .before .b
 
 enum-told : tie.Need-enum-told
 enum-told c = search needs
-
--- the head is whole, and of one of the two kinds
-whole : (c : tie.After-enum-told) → NoneOf (headRecordChecks (c .before .before .before .before .args .s .now))
-whole c = rw (c .enum-told .given .1) at (c .before .before .check-head-record .ensures)
 
 read-wide-requires : tie.Need-read-wide-requires
 read-wide-requires c κs = omega (arith, head-counted _ (whole c))

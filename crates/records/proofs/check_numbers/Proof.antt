@@ -1,4 +1,4 @@
--- `check_numbers` meets its contract: the counts, and then the outer dart.
+-- Checks 3 and 24: a test for each count; then, where both are in range, one for the outer dart.
 use Prim.Native.Nat.{ℕ}
 use mathlib.Core.Path.{refl}
 use mathlib.Core.Logic.{_⊎_, inl, inr}
@@ -30,7 +30,9 @@ abbrev start : tie.Else2 → tie.Start
 start c = c .before .before .before .before
 
 in-range : (c : tie.Else2) → Outside 2 513 (start c .args .nodes) ⊎ Outside 1 512 (start c .args .edges) → ⊥
-in-range c = neither (said-no (c .before .before .before .outside .ensures) (c .before .before .if1 .left)) (said-no (c .before .outside2 .ensures) (c .if2 .left))
+in-range c =
+    let nodes = c .before .before in
+    neither (said-no (nodes .before .outside .ensures) (nodes .if1 .left)) (said-no (c .before .outside2 .ensures) (c .if2 .left))
 
 mul-if3 : tie.Need-mul-if3
 mul-if3 c = omega (arith, not-right (not-right (in-range c)))

@@ -69,15 +69,23 @@ mul-number-orbits c = search needs
 number-orbits-requires : tie.Need-number-orbits-requires
 number-orbits-requires c κs =
     let p = c .before .before .before .before .before .before .before .before .before .before .pre in
-    let not-9 = said-no (c .before .before .before .before .before .before .before .before .before .rotation-fault .ensures) (c .before .before .before .before .before .before .before .before .if1 .left) in
-    let not-10 = said-no (c .before .before .before .before .before .before .before .node-fault .ensures) (c .before .before .before .before .before .before .if2 .left) in
+    let not-9 =
+    said-no (c .before .before .before .before .before .before .before .before .before .rotation-fault .ensures)
+    (c .before .before .before .before .before .before .before .before .if1 .left) in
+    let not-10 =
+    said-no (c .before .before .before .before .before .before .before .node-fault .ensures)
+    (c .before .before .before .before .before .before .if2 .left) in
     (p .3, omega (arith, p .1), steps-permute (sound-of-checks (p .4) not-9 not-10) (c .before .before .fill-steps .ensures .1))
 
 add-if4 : tie.Need-add-if4
 add-if4 c =
     let p = c .before .before .before .before .before .before .before .before .before .before .before .pre in
-    let not-9 = said-no (c .before .before .before .before .before .before .before .before .before .before .rotation-fault .ensures) (c .before .before .before .before .before .before .before .before .before .if1 .left) in
-    let not-10 = said-no (c .before .before .before .before .before .before .before .before .node-fault .ensures) (c .before .before .before .before .before .before .before .if2 .left) in
+    let not-9 =
+    said-no (c .before .before .before .before .before .before .before .before .before .before .rotation-fault .ensures)
+    (c .before .before .before .before .before .before .before .before .before .if1 .left) in
+    let not-10 =
+    said-no (c .before .before .before .before .before .before .before .before .node-fault .ensures)
+    (c .before .before .before .before .before .before .before .if2 .left) in
     let a = c .before .before .before .before .before .before .before .before .before .before .before .args in
     let 𝓜 = mapOf (a .nodes) (a .edges) (a .tails .now) (a .rotations .now) in
     let σ = sound-of-checks (p .4) not-9 not-10 in
@@ -93,9 +101,15 @@ refused-requires-4 c κs = search needs
 returns-4 : tie.Need-returns-4
 returns-4 c =
     let p = c .before .before .before .before .before .before .before .before .before .before .before .before .before .pre in
-    let not-9 = said-no (c .before .before .before .before .before .before .before .before .before .before .before .before .rotation-fault .ensures) (c .before .before .before .before .before .before .before .before .before .before .before .if1 .left) in
-    let not-10 = said-no (c .before .before .before .before .before .before .before .before .before .before .node-fault .ensures) (c .before .before .before .before .before .before .before .before .before .if2 .left) in
-    let not-11 = said-no (c .before .before .before .before .before .before .before .before .disconnected .ensures) (c .before .before .before .before .before .before .before .if3 .left) in
+    let not-9 =
+    said-no (c .before .before .before .before .before .before .before .before .before .before .before .before .rotation-fault .ensures)
+    (c .before .before .before .before .before .before .before .before .before .before .before .if1 .left) in
+    let not-10 =
+    said-no (c .before .before .before .before .before .before .before .before .before .before .node-fault .ensures)
+    (c .before .before .before .before .before .before .before .before .before .if2 .left) in
+    let not-11 =
+    said-no (c .before .before .before .before .before .before .before .before .disconnected .ensures)
+    (c .before .before .before .before .before .before .before .if3 .left) in
     let a = c .before .before .before .before .before .before .before .before .before .before .before .before .before .args in
     let 𝓜 = mapOf (a .nodes) (a .edges) (a .tails .now) (a .rotations .now) in
     let σ = sound-of-checks (p .4) not-9 not-10 in
@@ -106,9 +120,15 @@ returns-4 c =
 returns-5 : tie.Need-returns-5
 returns-5 c =
     let p = c .before .before .before .before .before .before .before .before .before .before .before .before .pre in
-    let not-9 = said-no (c .before .before .before .before .before .before .before .before .before .before .before .rotation-fault .ensures) (c .before .before .before .before .before .before .before .before .before .before .if1 .left) in
-    let not-10 = said-no (c .before .before .before .before .before .before .before .before .before .node-fault .ensures) (c .before .before .before .before .before .before .before .before .if2 .left) in
-    let not-11 = said-no (c .before .before .before .before .before .before .before .disconnected .ensures) (c .before .before .before .before .before .before .if3 .left) in
+    let not-9 =
+    said-no (c .before .before .before .before .before .before .before .before .before .before .before .rotation-fault .ensures)
+    (c .before .before .before .before .before .before .before .before .before .before .if1 .left) in
+    let not-10 =
+    said-no (c .before .before .before .before .before .before .before .before .before .node-fault .ensures)
+    (c .before .before .before .before .before .before .before .before .if2 .left) in
+    let not-11 =
+    said-no (c .before .before .before .before .before .before .before .disconnected .ensures)
+    (c .before .before .before .before .before .before .if3 .left) in
     let a = c .before .before .before .before .before .before .before .before .before .before .before .before .args in
     let 𝓜 = mapOf (a .nodes) (a .edges) (a .tails .now) (a .rotations .now) in
     let σ = sound-of-checks (p .4) not-9 not-10 in

@@ -6,7 +6,7 @@ use native.Mathlib.Omega.{arith}
 use lib.ListN.{length, length-set}
 use borrow.Author.Needs.{needs}
 use Rattle.arrays.specs.At.{at}
-use Rattle.rotations.specs.Register.{Register}
+use Rattle.rotations.specs.inner.Register.{Register}
 use Rattle.rotations.proofs.Register.{register-none, register-same, register-new, clash}
 use Rattle.rotations.proofs.enter_all.Statement.{statement}
 use Rattle.rotations.proofs.enter_all.Tie as tie
@@ -82,8 +82,11 @@ returns c =
     let o = c .before .before .before .before .before .before .before .before .before .loop in
     let p = c .before .before .before .before .before .before .before .before .before .before .pre in
     let is-k = c .before .before .before .before .before .before .wide .ensures in
-    let old = c .before .before .wide3 .ensures ∙ ap (at (o .table)) is-k in
-    (o .inv .1, clash (o .inv .2) (omega arith) (λ e. c .before .if1 .left (old ∙ e)) (λ e. c .if2 .taken (old ∙ e ∙ ap (λ x. x + 1) (sym (c .before .before .before .before .wide2 .ensures)))))
+    let old = c .before .before .wide3 .ensures ∙ ap (at (o .table)) is-k in (
+      o .inv .1,
+      clash (o .inv .2) (omega arith) (λ e. c .before .if1 .left (old ∙ e))
+          (λ e. c .if2 .taken (old ∙ e ∙ ap (λ x. x + 1) (sym (c .before .before .before .before .wide2 .ensures)))),
+    )
 
 add-d : tie.Need-add-d Inv-loop μ-loop
 add-d c = omega (arith, c .before .before .before .before .before .before .before .before .before .pre .0)
@@ -101,7 +104,11 @@ loop-again c =
     let l : k < length (o .table) = omega (arith, p .3 (o .d) (omega arith), is-k, o .inv .1) in
     let entry = ap (λ x. x + 1) (c .before .before .before .wide2 .ensures) in
     ⊎-elim
-    (λ w. rw (w .2) (omega arith, length-set (o .table) k (w .1 .result) ∙ o .inv .1, register-new (o .table) k (w .1 .result) (o .inv .2) l is-k (w .1 .ensures ∙ entry) (sym old ∙ w .0 .taken)))
+    (λ w. rw (w .2) (
+      omega arith,
+      length-set (o .table) k (w .1 .result) ∙ o .inv .1,
+      register-new (o .table) k (w .1 .result) (o .inv .2) l is-k (w .1 .ensures ∙ entry) (sym old ∙ w .0 .taken),
+    ))
     (λ w. rw (w .2) (omega arith, o .inv .1, register-same (o .inv .2) (ap (at (o .table)) (sym is-k) ∙ sym old ∙ w .1 .left ∙ entry)))
     (c .if1 .came)
 

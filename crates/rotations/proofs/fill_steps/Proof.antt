@@ -33,7 +33,8 @@ mul-steps : tie.Need-mul-steps Inv-loop μ-loop
 mul-steps c = let o = c .before .before .loop in omega (arith, c .reverse .ensures .0, rev-in (c .before .before .before .args .edges) (o .d) (omega arith))
 
 element-copy-out-steps : tie.Need-element-copy-out-steps Inv-loop μ-loop
-element-copy-out-steps c = let o = c .before .before .loop in omega (arith, c .reverse .ensures .0, rev-in (c .before .before .before .args .edges) (o .d) (omega arith))
+element-copy-out-steps c =
+    let o = c .before .before .loop in omega (arith, c .reverse .ensures .0, rev-in (c .before .before .before .args .edges) (o .d) (omega arith))
 
 mul-steps-2 : tie.Need-mul-steps-2 Inv-loop μ-loop
 mul-steps-2 c = search needs

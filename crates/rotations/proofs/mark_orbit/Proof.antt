@@ -5,9 +5,9 @@ use native.Mathlib.Omega.{arith}
 use lib.ListN.{length, length-set}
 use borrow.Author.Needs.{needs}
 use Rattle.arrays.specs.At.{at}
-use Rattle.rotations.specs.Holding.{holding}
-use Rattle.rotations.specs.Marking.{Markable}
-use Rattle.traversal.specs.Mark.{unmarked}
+use Rattle.rotations.specs.inner.Holding.{holding}
+use Rattle.rotations.specs.inner.Marking.{Markable}
+use Rattle.traversal.specs.inner.Mark.{unmarked}
 use Rattle.rotations.proofs.Trail.{Walking, set-off, still-in, walk-on, walk-end, fewer}
 use Rattle.rotations.proofs.mark_orbit.Statement.{statement}
 use Rattle.rotations.proofs.mark_orbit.Tie as tie

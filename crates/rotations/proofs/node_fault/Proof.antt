@@ -33,7 +33,8 @@ enter-all-requires c κs =
 returns : tie.Need-returns
 returns c =
     let p = c .before .before .before .before .before .before .pre in
-    two-rounds (p .2) (rotation-permutes (p .2) (p .3)) (c .before .before .before .before .number-orbits .ensures .2) (rw (c .if1 .taken) at (c .before .enter-all .ensures .1))
+    two-rounds (p .2) (rotation-permutes (p .2) (p .3)) (c .before .before .before .before .number-orbits .ensures .2)
+    (rw (c .if1 .taken) at (c .before .enter-all .ensures .1))
 
 some-empty-requires : tie.Need-some-empty-requires
 some-empty-requires c κs = search needs

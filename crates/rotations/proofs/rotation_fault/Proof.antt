@@ -8,7 +8,7 @@ use borrow.Author.Count.{below-more}
 use borrow.Author.Needs.{needs}
 use Rattle.arrays.specs.At.{at}
 use Rattle.arrays.specs.Maps.{mapOf}
-use Rattle.rotations.specs.Register.{Register}
+use Rattle.rotations.specs.inner.Register.{Register}
 use Rattle.rotations.proofs.Holding.{zeros}
 use Rattle.rotations.proofs.Register.{register-none, register-new, rotation-twice, rotation-good}
 use Rattle.rotations.proofs.rotation_fault.Statement.{statement}
@@ -58,7 +58,11 @@ element-copy-out-if1-2 c = omega (arith, c .before .before .before .before .befo
 returns : tie.Need-returns Inv-loop μ-loop
 returns c =
     let o = c .before .before .before .before .before .before .loop in
-    inl (o .d, omega arith, λ e. c .if1 .taken (ap (at (c .before .before .before .before .before .before .before .args .tails .now)) (c .before .before .before .wide .ensures) ∙ e))
+    inl (
+      o .d,
+      omega arith,
+      λ e. c .if1 .taken (ap (at (c .before .before .before .before .before .before .before .args .tails .now)) (c .before .before .before .wide .ensures) ∙ e),
+    )
 
 mul-if2 : tie.Need-mul-if2 Inv-loop μ-loop
 mul-if2 c =
@@ -76,7 +80,8 @@ returns-2 : tie.Need-returns-2 Inv-loop μ-loop
 returns-2 c =
     let o = c .before .before .before .before .before .before .before .loop in
     let a = c .before .before .before .before .before .before .before .before .args in
-    rotation-twice (mapOf (a .nodes) (a .edges) (a .tails .now) (a .rotations .now)) (o .inv .2) (omega arith) (λ e. c .if2 .taken (ap (at (o .origin)) (c .before .before .before .before .wide .ensures) ∙ e))
+    rotation-twice (mapOf (a .nodes) (a .edges) (a .tails .now) (a .rotations .now)) (o .inv .2) (omega arith)
+    (λ e. c .if2 .taken (ap (at (o .origin)) (c .before .before .before .before .wide .ensures) ∙ e))
 
 add-narrow : tie.Need-add-narrow Inv-loop μ-loop
 add-narrow c = omega (arith, c .before .before .before .before .before .before .before .before .pre .0)
@@ -112,7 +117,8 @@ loop-again c =
       omega arith,
       length-set (o .origin) t (c .narrow .result) ∙ o .inv .1,
       register-new (o .origin) t (c .narrow .result) (o .inv .2) (omega (arith, o .inv .1)) is-t (c .narrow .ensures) (c .before .if2 .left),
-      below-more _ (o .d) (o .inv .3) (ap (at (c .before .before .before .before .before .before .before .before .before .args .tails .now)) (sym is-t) ∙ c .before .before .if1 .left),
+      below-more _ (o .d) (o .inv .3)
+          (ap (at (c .before .before .before .before .before .before .before .before .before .args .tails .now)) (sym is-t) ∙ c .before .before .if1 .left),
     )
 
 returns-3 : tie.Need-returns-3 Inv-loop μ-loop

@@ -6,7 +6,7 @@ use lib.ListN.{length-set, length, getD}
 use lib.Seq.{getD-set-same, getD-set-other}
 use lib.IntN.{pos}
 use borrow.Author.Needs.{needs}
-use Rattle.search.specs.Progress.{far}
+use Rattle.search.specs.inner.Progress.{far}
 use Rattle.search.proofs.Change.{filled-more}
 use Rattle.search.proofs.begin.Statement.{statement}
 use Rattle.search.proofs.begin.Tie as tie

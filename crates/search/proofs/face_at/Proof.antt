@@ -4,7 +4,7 @@ use Prim.Native.Nat.{_%_}
 use native.Mathlib.Omega.{arith}
 use borrow.Author.Tests.{eq-eqb, ne-eqb}
 use borrow.Author.Needs.{needs}
-use Rattle.search.specs.Progress.{place}
+use Rattle.search.specs.inner.Progress.{place}
 use Rattle.search.proofs.face_at.Statement.{statement}
 use Rattle.search.proofs.face_at.Tie as tie
 

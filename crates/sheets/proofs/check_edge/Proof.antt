@@ -115,7 +115,8 @@ start c = begun (tail-at (head-at (rotation-at (back-rotation-at c))))
 
 -- ── the capacities, whose bits are the numbers in the slice ──
 forward-is : (c : tie.After-forward)
-    → toZ w32 (ofZ w32 (getD (start c .args .capacities .now) (2 * start c .args .e) (pos 0))) ≡ getD (start c .args .capacities .now) (2 * start c .args .e) (pos 0)
+    → toZ w32 (ofZ w32 (getD (start c .args .capacities .now) (2 * start c .args .e) (pos 0)))
+    ≡ getD (start c .args .capacities .now) (2 * start c .args .e) (pos 0)
 forward-is c = number-of-bits _ (record { sfits = c .forward .given })
 
 backward-is : (c : tie.After-backward)
@@ -132,8 +133,10 @@ returns c =
     let rotation = rotation-at back in
     let head = head-at rotation in
     let tail = tail-at head in
-    edge-judged (drawn (begun tail)) (begun tail .args .e) (c .check-fields .result) (tail .wide .ensures) (head .wide2 .ensures) (rotation .wide3 .ensures) (back .wide4 .ensures)
-    (forward-is forward) (backward-is backward) (c .check-fields .ensures)
+    let s = begun tail in
+    edge-judged (drawn s) (s .args .e) (c .check-fields .result)
+    (tail .wide .ensures) (head .wide2 .ensures) (rotation .wide3 .ensures) (back .wide4 .ensures) (forward-is forward) (backward-is backward)
+    (c .check-fields .ensures)
 
 pub check-edge-spec : {M : Type 1} → statement M
 check-edge-spec =

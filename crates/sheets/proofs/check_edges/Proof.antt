@@ -11,7 +11,8 @@ use Rattle.sheets.proofs.check_edges.Statement.{statement}
 use Rattle.sheets.proofs.check_edges.Tie as tie
 
 abbrev Inv-loop : tie.InvT-loop
-Inv-loop nodes outer tails rotations capacities edges e₀ e = (e ≤ edges) × ((i : ℕ) → i < e → NoneOf (edgeChecks (slicesDrawing nodes outer tails rotations capacities) i))
+Inv-loop nodes outer tails rotations capacities edges e₀ e =
+    (e ≤ edges) × ((i : ℕ) → i < e → NoneOf (edgeChecks (slicesDrawing nodes outer tails rotations capacities) i))
 
 abbrev μ-loop : tie.MeasureT-loop
 μ-loop nodes outer tails rotations capacities edges e₀ e = edges - e

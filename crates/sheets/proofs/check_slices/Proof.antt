@@ -1,4 +1,5 @@
--- Checks 3, 24, 4 to 7 and 9 to 12: the numbers passed, then the edges, then the map is in arrays; each way out is a verdict of the whole list, by a law of `Writing`.
+-- Checks 3, 24, 4 to 7 and 9 to 12: the numbers passed, then the edges, then the map is in arrays; each way out is a verdict of the whole list, by a law of
+-- `Writing`.
 use mathlib.Core.Path.{_≡_, refl, sym, subst}
 use mathlib.Core.List.{List}
 use Prim.Native.Nat.{ℕ, _≤_}

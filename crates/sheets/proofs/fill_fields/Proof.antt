@@ -29,7 +29,8 @@ place : (c : tie.After-edge-at Inv-loop μ-loop) → c .edge-at .result ≡ edge
 place c = let o = c .before .before in c .edge-at .ensures ∙ ap (λ n. edgeAfter n (o .loop .d / 2)) (o .before .head-length .ensures .0)
 
 -- the field read is the dart's
-field-read : (c : tie.After-read-u16 Inv-loop μ-loop) → c .read-u16 .result ≡ field16 (begun (turn c) .args .s .now) (begun (turn c) .args .first) (turn c .loop .d)
+field-read : (c : tie.After-read-u16 Inv-loop μ-loop)
+    → c .read-u16 .result ≡ field16 (begun (turn c) .args .s .now) (begun (turn c) .args .first) (turn c .loop .d)
 field-read c =
     let a = begun (turn c) .args in
     c .read-u16 .ensures ∙ ap (λ n. u16At (a .s .now) (n + a .first + 2 * (turn c .loop .d % 2))) (place (c .before))

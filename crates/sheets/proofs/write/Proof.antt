@@ -28,7 +28,8 @@ drawn s = slicesDrawing (s .args .nodes) (s .args .outer) (s .args .tails .now) 
 uneven : (s : tie.Start)
     → (length (s .args .rotations .now) ≢ length (s .args .tails .now))
     ⊎ ((length (s .args .capacities .now) ≢ length (s .args .tails .now)) ⊎ (length (s .args .tails .now) % 2 ≢ 0))
-    → FirstOf (writeChecks (s .args .nodes) (s .args .outer) (s .args .tails .now) (s .args .rotations .now) (s .args .capacities .now) (s .args .out .now)) 16 0
+    → FirstOf (writeChecks (s .args .nodes) (s .args .outer) (s .args .tails .now) (s .args .rotations .now) (s .args .capacities .now)
+    (s .args .out .now)) 16 0
 uneven s = write-uneven (s .args .nodes) (s .args .outer) (s .args .tails .now) (s .args .rotations .now) (s .args .capacities .now) (s .args .out .now)
 
 abbrev begun : tie.Else3 → tie.Start

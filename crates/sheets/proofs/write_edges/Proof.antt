@@ -69,7 +69,9 @@ place c = let o = c .before .before in c .edge-at .ensures ∙ ap (λ n. edgeAft
 
 written : (c : tie.After-write-edge Inv-loop μ-loop) (nodes outer : ℕ)
     → c .write-edge .last .0 ≡ put (encodeLength (turn (c .before) .loop .e)) (record-of nodes outer (c .before)) (turn (c .before) .loop .out)
-written c nodes outer = put-there c nodes outer ∙ ap (λ n. put n (record-of nodes outer (c .before)) (turn (c .before) .loop .out)) (place (located (c .before)))
+written c nodes outer =
+    let a = c .before in
+    put-there c nodes outer ∙ ap (λ n. put n (record-of nodes outer a) (turn a .loop .out)) (place (located a))
 
 -- so the length is kept
 kept : (c : tie.After-write-edge Inv-loop μ-loop) → length (c .write-edge .last .0) ≡ length (turn (c .before) .loop .out)

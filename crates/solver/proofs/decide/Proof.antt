@@ -7,7 +7,7 @@ use lib.IntN.{ℤ}
 use borrow.Author.Needs.{needs}
 use Rattle.arrays.specs.At.{atℤ}
 use Rattle.arrays.specs.Maps.{mapOf}
-use Rattle.solver.specs.Search.{Lengthened}
+use Rattle.solver.specs.inner.Search.{Lengthened}
 use Rattle.solver.proofs.Preparing.{same-value, small-value, lengthened-for}
 use Rattle.solver.proofs.Deciding.{searchable, decided-can, ringed, decided-cannot}
 use Rattle.solver.proofs.decide.Statement.{statement}
@@ -40,7 +40,8 @@ abbrev row : tie.After-lengths-for → List ℤ
 row c = c .lengths-for .last .1 .1 .1 .1 .1 .1 .1 .1 .0
 
 known : (c : tie.After-lengths-for)
-    → Lengthened (mapOf (begun c .args .nodes) (begun c .args .edges) (begun c .args .tails .now) (begun c .args .rotations .now)) (begun c .args .source) (begun c .args .sink)
+    → Lengthened (mapOf (begun c .args .nodes) (begun c .args .edges) (begun c .args .tails .now) (begun c .args .rotations .now))
+    (begun c .args .source) (begun c .args .sink)
     (atℤ (begun c .args .capacities .now)) (begun c .args .value) (atℤ (row c))
 known c =
     let t = c .before .before in
@@ -98,7 +99,8 @@ cut-of-ring-requires c κs =
     let p = begun f .pre in (
       p .0,
       omega (arith, f .before .before .before .dart-at .ensures .0),
-      ringed (begun f .args .lefts .now) (p .2) (p .3) (row f) (known f) (faced s .wide .ensures) _ (w .wide2 .ensures) ((rw (o .outcome .given .1) at (s .settle .ensures)) .2),
+      ringed (begun f .args .lefts .now) (p .2) (p .3) (row f) (known f) (faced s .wide .ensures)
+          _ (w .wide2 .ensures) ((rw (o .outcome .given .1) at (s .settle .ensures)) .2),
     )
 
 same-length : tie.Need-same-length
@@ -113,7 +115,8 @@ returns c =
     let e = c .cut-of-ring .ensures in
     let inside' = c .cut-of-ring .last .1 .1 .1 .1 .1 .1 .1 .1 .1 .1 .0 in (
       e .0,
-      decided-cannot (begun f .args .lefts .now) (p .2) (p .3) (row f) (known f) (faced s .wide .ensures) _ _ inside' ((rw (o .outcome .given .1) at (s .settle .ensures)) .0) (e .1),
+      decided-cannot (begun f .args .lefts .now) (p .2) (p .3) (row f) (known f) (faced s .wide .ensures)
+          _ _ inside' ((rw (o .outcome .given .1) at (s .settle .ensures)) .0) (e .1),
     )
 
 enum-told : tie.Need-enum-told
@@ -127,8 +130,10 @@ returns-2 c =
     let s = c .before .before .before in
     let f = measured s in
     let p = begun f .pre in
-    let r = rw (c .enum-told .given .1) at (s .settle .ensures) in
-    (p .0, decided-can (begun f .args .lefts .now) (p .2) (p .3) (row f) (known f) (faced s .wide .ensures) (r .0) (r .1) _ _ (begun f .args .inside .now) (r .2))
+    let r = rw (c .enum-told .given .1) at (s .settle .ensures) in (
+      p .0,
+      decided-can (begun f .args .lefts .now) (p .2) (p .3) (row f) (known f) (faced s .wide .ensures) (r .0) (r .1) _ _ (begun f .args .inside .now) (r .2),
+    )
 
 pub decide-spec : {M : Type 1} → statement M
 decide-spec =

@@ -54,8 +54,10 @@ returns : tie.Need-returns Inv-loop μ-loop
 returns c =
     let o = c .before .loop in
     let a = c .before .before .args in
-    let all : o .i ≡ length (a .bytes .now) = omega arith in
-    (o .inv .2 ∙ ap (λ k. put (a .at) (take k (a .bytes .now)) (a .text .now)) all ∙ ap (λ s. put (a .at) s (a .text .now)) (take-length (a .bytes .now)), ap (λ k. a .at + k) all)
+    let all : o .i ≡ length (a .bytes .now) = omega arith in (
+      o .inv .2 ∙ ap (λ k. put (a .at) (take k (a .bytes .now)) (a .text .now)) all ∙ ap (λ s. put (a .at) s (a .text .now)) (take-length (a .bytes .now)),
+      ap (λ k. a .at + k) all,
+    )
 
 pub put-bytes-spec : {M : Type 1} → statement M
 put-bytes-spec =

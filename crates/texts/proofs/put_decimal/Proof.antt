@@ -56,7 +56,8 @@ loop-again c =
     let l = c .before .before in
     let a = l .before .before .before .args in
     let o = l .loop in
-    right-step (a .n) (a .at) (a .text .now) (l .before .before .before .pre) (o .m) (o .i) (o .text) (o .inv) (c .last-digit .result) (c .last-digit .ensures) (c .before .loop-test .taken)
+    right-step (a .n) (a .at) (a .text .now) (l .before .before .before .pre) (o .m) (o .i) (o .text)
+    (o .inv) (c .last-digit .result) (c .last-digit .ensures) (c .before .loop-test .taken)
 
 last-digit-requires-2 : tie.Need-last-digit-requires-2 Inv-loop μ-loop
 last-digit-requires-2 c κs = search needs
@@ -69,14 +70,16 @@ same-length c =
     let l = c .before .before in
     let a = l .before .before .before .args in
     let o = l .loop in
-    length-set (o .text) (o .i) (c .last-digit2 .result) ∙ right-length (a .n) (a .at) (a .text .now) (l .before .before .before .pre) (o .m) (o .i) (o .text) (o .inv)
+    length-set (o .text) (o .i) (c .last-digit2 .result)
+    ∙ right-length (a .n) (a .at) (a .text .now) (l .before .before .before .pre) (o .m) (o .i) (o .text) (o .inv)
 
 returns : tie.Need-returns Inv-loop μ-loop
 returns c =
     let l = c .before .before in
     let a = l .before .before .before .args in
     let o = l .loop in (
-      right-end (a .n) (a .at) (a .text .now) (l .before .before .before .pre) (o .m) (o .i) (o .text) (o .inv) (c .last-digit2 .result) (c .last-digit2 .ensures) (c .before .loop-test .left),
+      right-end (a .n) (a .at) (a .text .now) (l .before .before .before .pre) (o .m) (o .i) (o .text)
+          (o .inv) (c .last-digit2 .result) (c .last-digit2 .ensures) (c .before .loop-test .left),
       ap (λ k. a .at + k) (l .before .digit-count .ensures),
     )
 

@@ -32,7 +32,8 @@ without c =
     let b : ltZ (s .args .x) (pos 0) ≡ false = rw (number-of-bits (s .args .x) (s .fits .x)) at (c .if1 .left) in
     ap decimal (size (c .before)) ∙ sym (number-not-below (s .args .x) b)
 
-fits : (c : tie.Then1) → c .before .before .before .args .at + 1 + length (decimal (c .before .magnitude .result)) ≤ length (c .before .before .before .args .text .now)
+fits : (c : tie.Then1)
+    → c .before .before .before .args .at + 1 + length (decimal (c .before .magnitude .result)) ≤ length (c .before .before .before .args .text .now)
 fits c = omega (arith, ap length (with-minus c), c .before .before .before .pre)
 
 written : (c : tie.After-put-decimal)
@@ -40,7 +41,8 @@ written : (c : tie.After-put-decimal)
 written c =
     let t = c .before .before in
     let a = t .before .before .before .args in
-    let behind : c .put-decimal .last .0 ≡ put (a .at + 1) (decimal (t .before .magnitude .result)) (set (a .text .now) (a .at) 45) = c .put-decimal .ensures .0 in
+    let behind : c .put-decimal .last .0 ≡ put (a .at + 1) (decimal (t .before .magnitude .result)) (set (a .text .now) (a .at) 45) =
+    c .put-decimal .ensures .0 in
     behind
     ∙ put-behind (a .at) 45 (decimal (t .before .magnitude .result)) (a .text .now) (fits t)
     ∙ ap (λ s. put (a .at) s (a .text .now)) (with-minus t)

@@ -16,10 +16,10 @@ use Rattle.integers.proofs.Laws.{lt-of-test}
 use Rattle.signed.proofs.Laws.{number-of-bits}
 use Rattle.signed.proofs.Limits.{limited-fits}
 use Rattle.arrays.specs.At.{at, atℤ}
-use Rattle.arrays.specs.Flags.{flagged}
-use Rattle.arrays.specs.Sizes.{mostHeight}
-use Rattle.cuts.specs.Cut.{cutOf}
-use Rattle.thresholds.specs.Above.{above}
+use Rattle.arrays.specs.inner.Flags.{flagged}
+use Rattle.arrays.specs.inner.Sizes.{mostHeight}
+use Rattle.cuts.specs.inner.Cut.{cutOf}
+use Rattle.thresholds.specs.inner.Above.{above}
 use Rattle.thresholds.proofs.Choosing.{Trying, left-above, trying-start, trying-next, trying-step, trying-less, cut-same, not-false}
 use Rattle.thresholds.proofs.choose_set.Statement.{statement}
 use Rattle.thresholds.proofs.choose_set.Tie as tie
@@ -48,7 +48,8 @@ cut-flagged c =
 abbrev cut-here : tie.After-is-negative Inv-loop μ-loop → ℤ
 cut-here c =
     let s = c .before .before .before .before .before .before .before in
-    cutOf (s .args .darts) (at (s .args .tails .now)) (atℤ (s .args .lengths .now)) (above (atℤ (s .args .heights .now)) (toZ w32 (c .before .before .before .loop .threshold)))
+    cutOf (s .args .darts) (at (s .args .tails .now)) (atℤ (s .args .lengths .now))
+    (above (atℤ (s .args .heights .now)) (toZ w32 (c .before .before .before .loop .threshold)))
 
 -- the test is that of the cut of the flags, which is the cut at the threshold
 tested : (c : tie.After-is-negative Inv-loop μ-loop) → c .is-negative .result ≡ ltZ (cut-flagged c) (pos 0)
@@ -61,7 +62,8 @@ same-cut c = cut-same (c .before .before .before .before .before .before .before
 goes-on : (c : tie.Then1 Inv-loop μ-loop) → ltZ (cut-here (c .before)) (pos 0) ≡ false
 goes-on c = ap (λ z. ltZ z (pos 0)) (sym (same-cut (c .before))) ∙ sym (tested (c .before)) ∙ not-true _ (c .if1 .taken)
 
-next-is : (c : tie.After-plus Inv-loop μ-loop) → toZ w32 (ofZ w32 (c .plus .result)) ≡ toZ w32 (c .before .before .before .before .before .loop .threshold) +ℤ pos 1
+next-is : (c : tie.After-plus Inv-loop μ-loop)
+    → toZ w32 (ofZ w32 (c .plus .result)) ≡ toZ w32 (c .before .before .before .before .before .loop .threshold) +ℤ pos 1
 next-is c = number-of-bits _ (record { sfits = c .plus .ok }) ∙ c .plus .ensures
 
 lowest-requires : tie.Need-lowest-requires Inv-loop μ-loop
@@ -75,7 +77,8 @@ loop-holds c = (
   c .flag-above .ensures .0,
   c .flag-above .ensures .1,
   rw (number-of-bits _ (record { sfits = c .before .before .lowest .ok }))
-      (trying-start (c .before .before .before .pre .1) (c .before .before .lowest .result) (c .before .before .lowest .ensures .0) (c .before .before .lowest .ensures .1)),
+      (trying-start (c .before .before .before .pre .1) (c .before .before .lowest .result)
+      (c .before .before .lowest .ensures .0) (c .before .before .lowest .ensures .1)),
 )
 
 total-requires : tie.Need-total-requires Inv-loop μ-loop
@@ -90,17 +93,22 @@ plus-requires : tie.Need-plus-requires Inv-loop μ-loop
 plus-requires c κs = limited-fits mostHeight _ (omega arith) (trying-next (c .before .before .before .before .loop .inv .2) (goes-on c))
 
 flag-above-requires-2 : tie.Need-flag-above-requires-2 Inv-loop μ-loop
-flag-above-requires-2 c κs = (c .before .before .before .before .before .before .loop .inv .0, c .before .before .before .before .before .before .before .before .before .before .pre .1 .few-nodes)
+flag-above-requires-2 c κs = (
+  c .before .before .before .before .before .before .loop .inv .0,
+  c .before .before .before .before .before .before .before .before .before .before .pre .1 .few-nodes,
+)
 
 loop-less : tie.Need-loop-less Inv-loop μ-loop
 loop-less c =
-    rw (next-is (c .before .before)) (trying-less (c .before .before .before .before .before .before .before .loop .inv .2) (goes-on (c .before .before .before)))
+    rw (next-is (c .before .before))
+    (trying-less (c .before .before .before .before .before .before .before .loop .inv .2) (goes-on (c .before .before .before)))
 
 loop-again : tie.Need-loop-again Inv-loop μ-loop
 loop-again c = (
   c .flag-above2 .ensures .0,
   c .flag-above2 .ensures .1,
-  rw (next-is (c .before .before)) (trying-step (c .before .before .before .before .before .before .before .loop .inv .2) (goes-on (c .before .before .before))),
+  rw (next-is (c .before .before))
+      (trying-step (c .before .before .before .before .before .before .before .loop .inv .2) (goes-on (c .before .before .before))),
 )
 
 returns : tie.Need-returns Inv-loop μ-loop

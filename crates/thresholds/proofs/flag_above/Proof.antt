@@ -12,7 +12,7 @@ use borrow.Author.Count.{below-more}
 use borrow.Author.Needs.{needs}
 use Rattle.signed.proofs.Laws.{number-of-bits}
 use Rattle.arrays.specs.At.{at, atℤ}
-use Rattle.thresholds.specs.Above.{above}
+use Rattle.thresholds.specs.inner.Above.{above}
 use Rattle.thresholds.proofs.flag_above.Statement.{statement}
 use Rattle.thresholds.proofs.flag_above.Tie as tie
 
@@ -55,7 +55,8 @@ loop-again c =
       simp length-set (o .inv .1),
       below-more (λ u. eqb (at (set (o .inside) (o .v) r) u) 1 ≡ above height t u) (o .v)
           (λ u l. ap (λ x. eqb x 1) (getD-set-other (o .inside) (o .v) u r 0 (λ e. omega arith)) ∙ o .inv .2 u l)
-          (ap (λ x. eqb x 1) (getD-set-same (o .inside) (o .v) r 0 (omega arith)) ∙ c .flag .ensures ∙ ap (ltZ t) (number-of-bits _ (record { sfits = c .before .flag-arg .given }))),
+          (ap (λ x. eqb x 1) (getD-set-same (o .inside) (o .v) r 0 (omega arith)) ∙ c .flag .ensures
+          ∙ ap (ltZ t) (number-of-bits _ (record { sfits = c .before .flag-arg .given }))),
     )
 
 returns : tie.Need-returns Inv-loop μ-loop

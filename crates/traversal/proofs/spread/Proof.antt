@@ -91,8 +91,14 @@ add-requires c κs =
     let ξ = o .inv .2 in
     let d-in = ξ .inside (o .head) (w .before .before .loop-test .taken) in
     let d-below : w .wide .result < w .before .before .before .before .before .before .before .before .args .darts = omega (arith, w .wide .ensures) in
-    let t-below : c .before .before .wide2 .result < w .before .before .before .before .before .before .before .before .args .darts = omega (arith, c .before .before .wide2 .ensures, p .5 (w .wide .result) d-below) in
-    (o .inv .0, o .inv .1, omega (arith, t-below, p .2), omega (arith, d-below, p .2), λ z. omega (arith, room ξ (c .before .before .wide2 .result) t-below z, p .2))
+    let t-below : c .before .before .wide2 .result < w .before .before .before .before .before .before .before .before .args .darts =
+    omega (arith, c .before .before .wide2 .ensures, p .5 (w .wide .result) d-below) in (
+      o .inv .0,
+      o .inv .1,
+      omega (arith, t-below, p .2),
+      omega (arith, d-below, p .2),
+      λ z. omega (arith, room ξ (c .before .before .wide2 .result) t-below z, p .2),
+    )
 
 reverse-requires : tie.Need-reverse-requires Inv-loop μ-loop
 reverse-requires c κs =
@@ -111,14 +117,20 @@ add-requires-2 c κs =
     let ξ = o .inv .2 in
     let q = v .add .ensures in
     let d-below : w .wide .result < a .darts = omega (arith, w .wide .ensures, ξ .inside (o .head) (w .before .before .loop-test .taken)) in
-    let t-below : v .before .before .before .wide2 .result < a .darts = omega (arith, v .before .before .before .wide2 .ensures, p .5 (w .wide .result) d-below) in
+    let t-below : v .before .before .before .wide2 .result < a .darts =
+    omega (arith, v .before .before .before .wide2 .ensures, p .5 (w .wide .result) d-below) in
     let r-below : rev (w .wide .result) < 2 * (a .darts / 2) = rev-in (a .darts / 2) (w .wide .result) (omega (arith, d-below, p .3)) in
     let back-below : c .before .before .reverse .result < a .darts = omega (arith, c .before .before .reverse .ensures .0, r-below) in (
       q .0,
       q .1,
       omega (arith, back-below, p .2),
       omega (arith, d-below, p .2),
-      λ z. omega (arith, p .2, room-between ξ (w .before .before .loop-test .taken) (sym (w .wide .ensures)) (sym (v .before .before .before .wide2 .ensures)) t-below (q .2) (c .before .before .reverse .result) back-below z),
+      λ z. omega (
+        arith,
+        p .2,
+        room-between ξ (w .before .before .loop-test .taken) (sym (w .wide .ensures))
+            (sym (v .before .before .before .wide2 .ensures)) t-below (q .2) (c .before .before .reverse .result) back-below z,
+      ),
     )
 
 add-head : tie.Need-add-head Inv-loop μ-loop
@@ -147,12 +159,14 @@ loop-again c =
     let q2 = c .add2 .ensures in
     let back = c .before .before .before .reverse .ensures .0 in
     let d-below : w .wide .result < a .darts = omega (arith, w .wide .ensures, ξ .inside (o .head) (w .before .before .loop-test .taken)) in
-    let t-below : v .before .before .before .wide2 .result < a .darts = omega (arith, v .before .before .before .wide2 .ensures, p .5 (w .wide .result) d-below) in
+    let t-below : v .before .before .before .wide2 .result < a .darts =
+    omega (arith, v .before .before .before .wide2 .ensures, p .5 (w .wide .result) d-below) in
     let r-below : rev (w .wide .result) < 2 * (a .darts / 2) = rev-in (a .darts / 2) (w .wide .result) (omega (arith, d-below, p .3)) in
     let back-below : c .before .before .before .reverse .result < a .darts = omega (arith, back, r-below) in (
       q2 .0,
       q2 .1,
-      spreading-on ξ (w .before .before .loop-test .taken) (sym (w .wide .ensures)) (sym (v .before .before .before .wide2 .ensures)) (sym back) t-below back-below (q .2) (q2 .2),
+      spreading-on ξ (w .before .before .loop-test .taken) (sym (w .wide .ensures))
+          (sym (v .before .before .before .wide2 .ensures)) (sym back) t-below back-below (q .2) (q2 .2),
     )
 
 returns : tie.Need-returns Inv-loop μ-loop

@@ -8,7 +8,7 @@ use borrow.Author.Needs.{read-below}
 use borrow.Author.Count.{below-more}
 use borrow.Author.Needs.{needs}
 use Rattle.arrays.specs.At.{at}
-use Rattle.traversal.specs.Mark.{unmarked}
+use Rattle.traversal.specs.inner.Mark.{unmarked}
 use Rattle.traversal.proofs.unmark_all.Statement.{statement}
 use Rattle.traversal.proofs.unmark_all.Tie as tie
 
@@ -39,7 +39,8 @@ loop-again c =
     let label = c .before .loop .label in (
       omega arith,
       search needs,
-      below-more (λ d. at (set label i unmarked) d ≡ unmarked) i (λ d l. read-below _ label i d unmarked 0 unmarked l (c .before .loop .inv .2 d l)) (getD-set-same label i unmarked 0 (omega arith)),
+      below-more (λ d. at (set label i unmarked) d ≡ unmarked) i
+          (λ d l. read-below _ label i d unmarked 0 unmarked l (c .before .loop .inv .2 d l)) (getD-set-same label i unmarked 0 (omega arith)),
     )
 
 returns : tie.Need-returns Inv-loop μ-loop

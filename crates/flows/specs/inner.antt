@@ -1,0 +1,5 @@
+-- What loops and inner functions are proved with: no operation's contract and no printed statement rests on these.
+pub mod Sides
+pub mod Plane
+pub mod UnitFlow
+pub mod Lengths

@@ -1,0 +1,4 @@
+-- What loops and inner functions are proved with: no operation's contract and no printed statement rests on these.
+pub mod Ends
+pub mod Search
+pub mod Decision
