@@ -30,8 +30,8 @@ returns-3 : tie.Need-returns-3
 unfolding FirstOf headRecordChecks
 returns-3 c =
     let kind = c .before .before in
-    let short = omega (arith, c .before .head-length .ensures .0) in
-    inr (λ h. omega arith, inr (said-no (kind .before .no-head .ensures) (kind .if2 .left), inl (short, refl, refl)))
+    let long = c .before .head-length .ensures .0 in
+    inr (λ h. omega arith, inr (said-no (kind .before .no-head .ensures) (kind .if2 .left), inl (omega (arith, long), refl, refl)))
 
 returns-4 : tie.Need-returns-4
 unfolding NoneOf headRecordChecks
