@@ -38,7 +38,7 @@ module _ (s : List ℕ) (passed : NoneOf (headChecks s)) where
   pub head-counts : (2 ≤ nodesOf s) × (nodesOf s ≤ 513) × (1 ≤ edgesOf s) × (edgesOf s ≤ 512)
   head-counts = counts-range (nodesOf s) (edgesOf s) (outerOf s) head-range
 
-  pub head-outer : outerOf s < 2 * edgesOf s
+  head-outer : outerOf s < 2 * edgesOf s
   head-outer = outer-range (nodesOf s) (edgesOf s) (outerOf s) head-range
 
 -- ── an edge ──

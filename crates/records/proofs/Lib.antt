@@ -3,6 +3,7 @@ pub mod Record
 pub mod Head
 pub mod Fields
 pub mod Drawing
+pub mod KindOne
 pub mod Bytes
 pub mod ByteChecks
 pub mod Examples

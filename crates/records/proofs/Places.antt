@@ -13,16 +13,12 @@ use Rattle.fields.specs.Fields.{u16At, i32At, le16, leBits, le32}
 use Rattle.fields.proofs.Laws.{u16-of, i32-of}
 use Rattle.maps.specs.Drawing.{Drawing}
 use Rattle.records.specs.Sheet.{edgeAfter}
-use Rattle.records.specs.Encode.{encodeHead, plainHead, encodeEdge, encodeEdges, encode, encodeLength}
+use Rattle.records.specs.Encode.{encodeHead, encodeEdge, encodeEdges, encode, encodeLength}
 
 -- ── lengths ──
 pub head-length : (𝓓 : Drawing) → length (encodeHead 𝓓) ≡ 7
 unfolding encodeHead le16
 head-length 𝓓 = refl
-
-pub plain-length : (𝓓 : Drawing) → length (plainHead 𝓓) ≡ 5
-unfolding plainHead le16
-plain-length 𝓓 = refl
 
 pub edge-length : (𝓓 : Drawing) (e : ℕ) → length (encodeEdge 𝓓 e) ≡ 17
 unfolding encodeEdge le16 le32 leBits

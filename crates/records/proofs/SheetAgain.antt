@@ -1,5 +1,5 @@
--- A sheet that the checks on bytes accept is the bytes of the drawing read from it: with a head of kind 4 those that Write writes, with a head of kind 1 those
--- with such a head. What Write writes of a sheet of kind 1 has the kind 4, the same counts, dart 0, and the same edges (document 02, Job 6).
+-- A sheet with a head of kind 4 that the checks on bytes accept is the bytes that Write writes of the drawing read from it. What Write writes of a sheet of
+-- kind 1 has the kind 4, the same counts, dart 0, and the same edges (document 02, Job 6).
 use mathlib.Core.Path.{_≡_, refl, sym, _∙_, ap, ap₂}
 use mathlib.Core.List.{List, [], _∷_, _++_}
 use Prim.Native.Nat.{ℕ, zero, suc, _+_, _*_, _≤_, _<_}
@@ -11,7 +11,7 @@ use Rattle.refusals.specs.Order.{NoneOf}
 use Rattle.fields.specs.Fields.{u16At, i32At, le16, le32}
 use Rattle.fields.proofs.Laws.{u16-again, i32-again}
 use Rattle.records.specs.Sheet.{kindOf, headLength, nodesOf, edgesOf, outerOf, edgeAt, sheetDrawing, byteChecks}
-use Rattle.records.specs.Encode.{encodeHead, plainHead, encodeEdge, encodeEdges, encode, encodePlain}
+use Rattle.records.specs.Encode.{encodeHead, encodeEdge, encodeEdges, encode}
 use Rattle.records.proofs.Fields.{tail-even, tail-odd, rotation-even, rotation-odd, capacity-even, capacity-odd}
 use Rattle.records.proofs.Bytes.{bytes-length, bytes-kinds}
 use Rattle.records.proofs.Head.{head-long, kind-one-outer, kind-four-outer}
@@ -96,15 +96,6 @@ module _ (s : List ℕ) (bytes : (i : ℕ) → getD s i 0 < 256) (passed : NoneO
     edges-here : encodeEdges (sheetDrawing s) (edgesOf s) ≡ drop 5 s
     edges-here = all-again ∙ ap (λ n. drop n s) five
 
-    plain-head-again : plainHead (sheetDrawing s) ≡ take 5 s
-    unfolding plainHead
-    plain-head-again = ap (λ l. 1 ∷ l) counts-here ∙ sym (byte-then s bytes 0 1 4 1 one (omega arith) (omega (arith, size, five)))
-
-    pub plain-sheet : encodePlain (sheetDrawing s) ≡ s
-    unfolding encodePlain
-    plain-sheet = ap₂ (λ x y. x ++ y) plain-head-again edges-here ∙ take-append-drop 5 s
-
-    -- what Write writes of it
     pub kind-one-encoded : encode (sheetDrawing s) ≡ 4 ∷ (take 4 (drop 1 s) ++ (0 ∷ 0 ∷ drop 5 s))
     unfolding encode encodeHead le16
     kind-one-encoded =
