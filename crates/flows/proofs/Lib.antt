@@ -13,3 +13,4 @@ pub mod ValueBound
 pub mod Interval
 pub mod Parts
 pub mod Examples
+pub mod OuterFaceOfA
