@@ -112,8 +112,8 @@ uint8_t analyser_largest(const uint8_t *sheet, size_t sheet_length, uint16_t hea
 // and no other. Each comes with its highest settings; with the least comes a set that proves the next lower value impossible, with the largest one that proves
 // the next greater. Or none, where no value at all can be carried, with one set that proves that: it holds both ends or neither.
 // Where Largest finds a value this does too, and its largest value and settings are those of Largest; where Largest says none this does too.
-// Refusals: the sheet checks; 13; 14; 16 where low or high has less than one element for each channel, or below or above less than one word for each 64 nodes or
-// part of them.
+// Refusals: the sheet checks; 13; 14; 16 where low or high has less than one element for each channel, or below or above less than one word for each 64 nodes
+// or part of them.
 // Writes where there are values: a setting for each channel, of the least value in low and of the largest in high; the words of the set for the least value in
 // below, and of that for the largest in above; *least, *largest, and *found = 1. Where there is none: the words of the one set, in below and in above, and
 // *found = 0.

@@ -1,5 +1,5 @@
-// The header and the library, as a C program and as a C++ program: each operation on drawing A of document 01, and a refusal of each. tests/header compiles and runs it, and
-// compares what it prints.
+// The header and the library, as a C program and as a C++ program: each operation on drawing A of document 01, and a refusal of each; Least and largest on
+// drawing B too. tests/header compiles and runs it, and compares what it prints.
 #include "analyser.h"
 #include "analyser.h"
 #include <stdio.h>
