@@ -12,7 +12,7 @@ use Rattle.search.specs.Settled.{Settled}
 
 -- the two darts of one edge, of these lengths; the face 0 is left of the dart 0, the face 1 left of the dart 1
 abbrev pub edge : ℤ → ℤ → Dual
-edge forth back = dualOf (0 ∷ 1 ∷ []) (forth ∷ back ∷ []) 2 2 0
+edge forth back = dualOf (0 ∷ 1 ∷ []) (forth ∷ back ∷ []) 2 2 (0 ∷ [])
 
 -- what holds of 0 and of 1 holds of each number below 2
 two : (P : ℕ → Type 0) → P 0 → P 1 → (d : ℕ) → d < 2 → P d
@@ -20,12 +20,16 @@ two P p q zero l = p
 two P p q (suc zero) l = q
 two P p q (suc (suc d)) l = absurd (omega arith)
 
+one : (P : ℕ → Type 0) → P 0 → (m : ℕ) → m < 1 → P m
+one P p zero l = p
+one P p (suc m) l = absurd (omega arith)
+
 pub edge-sound : WellFormed (edge (pos 3) (negsuc 1))
 unfolding rev
 edge-sound = record {
   few-darts = omega arith;
   few-faces = omega arith;
-  root-in = omega arith;
+  root-in = one (λ m. edge (pos 3) (negsuc 1) .root m < 2) (omega arith);
   even = refl;
   left-in = two (λ d. edge (pos 3) (negsuc 1) .left d < 2) (omega arith) (omega arith);
   right-in = two (λ d. edge (pos 3) (negsuc 1) .right d < 2) (omega arith) (omega arith);
@@ -35,7 +39,13 @@ edge-sound = record {
 
 pub edge-joined : (forth back : ℤ) → Joined (edge forth back)
 unfolding rev
-edge-joined forth back B same = two (λ f. B f ≡ B 0) refl (sym (same 0 (omega arith)))
+edge-joined forth back = record {
+  part = λ f. 0;
+  part-in = λ f l. omega arith;
+  part-root = λ m l. omega arith;
+  part-kept = λ d l. refl;
+  closed = λ B same. two (λ f. B f ≡ B 0) refl (sym (same 0 (omega arith)));
+}
 
 -- 3 from face 1 to face 0 and −2 back: the levels 0 and −2 are settled
 pub levels : ℕ → ℤ
@@ -46,8 +56,8 @@ pub edge-settled : Settled (edge (pos 3) (negsuc 1)) levels
 unfolding rev levels
 edge-settled = record {
   still = two (λ d. lib.Signed._≤ℤ_ (levels (edge (pos 3) (negsuc 1) .left d)) (levels (edge (pos 3) (negsuc 1) .right d) +ℤ edge (pos 3) (negsuc 1) .length d)) (leZ-yes tt) (leZ-yes tt);
-  walk = two (λ f. Walk (edge (pos 3) (negsuc 1)) f (levels f)) here (onward 1 (omega arith) refl refl here);
-  rooted = refl;
+  walk = two (λ f. Walk (edge (pos 3) (negsuc 1)) f (levels f)) (here 0 (omega arith) refl) (onward 1 (omega arith) refl refl (here 0 (omega arith) refl));
+  rooted = one (λ m. levels (edge (pos 3) (negsuc 1) .root m) ≡ pos 0) refl;
   near = two (λ f. Prim.Native.Nat._≤_ (mag (levels f)) 2000000000000000000) (omega arith) (omega arith);
 }
 

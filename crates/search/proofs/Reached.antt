@@ -1,4 +1,4 @@
--- Where no face waits, every face is reached: the reached faces are a set that no dart leaves or enters, and the faces hang together.
+-- Where no face waits, every face is reached: the reached faces are a set that no dart leaves or enters, and the faces of a part hang together.
 use mathlib.Core.Path.{_≡_, refl, sym, _∙_, ap}
 use mathlib.Core.Logic.{_⊎_, inl, inr}
 use mathlib.Core.Bool.{Bool, true, false, not, true≢false, false≢true}
@@ -11,7 +11,8 @@ use Rattle.maps.proofs.Darts.{rev-rev, rev-in}
 use Rattle.search.specs.Dual.{Dual, WellFormed, Joined}
 use Rattle.search.specs.Walk.{Walk}
 use Rattle.search.specs.Settled.{Still, Settled}
-use Rattle.search.specs.Progress.{far, State, Quiet}
+use Rattle.search.specs.Level.{far}
+use Rattle.search.specs.Progress.{State, Quiet}
 use Rattle.search.proofs.Order.{mag-add, below-near}
 use Rattle.search.proofs.Highest.{root-zero}
 
@@ -63,7 +64,8 @@ module _ {N : Dual} (sound : WellFormed N) (joined : Joined N) {ρ : ℕ → ℤ
 
   all-set : (f : ℕ) → f < N .faces → ρ f ≡ far → ⊥
   all-set f l =
-      isSet-is (ρ f) (joined (λ f. isSet (ρ f)) same-set f l ∙ isSet-true (ρ (N .root)) (below-near (ρ (N .root)) (pos 0) (s .root-low) (omega arith)))
+      let m = joined .part f in
+      isSet-is (ρ f) (joined .closed (λ f. isSet (ρ f)) same-set f l ∙ isSet-true (ρ (N .root m)) (below-near (ρ (N .root m)) (pos 0) (s .root-low m (joined .part-in f l)) (omega arith)))
 
   still : Still N ρ
   still d l = q .quiet d l (λ a. a) (rests (N .right d) (sound .right-in d l)) (all-set (N .right d) (sound .right-in d l))
@@ -75,6 +77,6 @@ module _ {N : Dual} (sound : WellFormed N) (joined : Joined N) {ρ : ℕ → ℤ
   settled = record {
     still = still;
     walk = walks;
-    rooted = root-zero N ρ still (s .root-low) (walks (N .root) (sound .root-in));
+    rooted = λ m l. root-zero joined ρ still m l (s .root-low m l) (walks (N .root m) (sound .root-in m l));
     near = λ f l. omega (arith, s .reached f l (all-set f l) .0);
   }

@@ -4,4 +4,10 @@ pub mod Walk
 pub mod Settled
 pub mod Parents
 pub mod Answer
+pub mod Level
+pub mod Queue
+pub mod Moves
+pub mod Trace
+pub mod History
+pub mod BetweenLooks
 pub mod Progress
