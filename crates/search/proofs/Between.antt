@@ -109,7 +109,7 @@ module _ (G : Given) (roots : List ℕ) (sound : WellFormed (dual G roots)) (g :
       record {
         longer = omega (arith, longer, k .longer);
         places = λ m b c.
-          k .places m b (omega (arith, longer)) ∙ lower-kept sound g r d l refl v (a .0) (a .1) (a .2) n p m (omega arith) c;
+            k .places m b (omega (arith, longer)) ∙ lower-kept sound g r d l refl v (a .0) (a .1) (a .2) n p m (omega arith) c;
       }
 
   -- ── from one configuration to the next ──
@@ -121,7 +121,7 @@ module _ (G : Given) (roots : List ℕ) (sound : WellFormed (dual G roots)) (g :
       crosses-told (looked (front c) ∷ past) (begin-trying sound g r k l (front c) refl) q (told-look h (front c) (off-flag sound g r k l (front c) refl))
   step-told past r (turn l n) h = h
 
-  step-kept : {c d : Configuration} → PassingAt (dual G roots) c → Step G c d → (c .first ≤ d .first) 
+  step-kept : {c d : Configuration} → PassingAt (dual G roots) c → Step G c d → (c .first ≤ d .first)
       × Kept (d .first) (c .tables .last) (c .tables .queue) (d .tables .last) (d .tables .queue)
   step-kept {c} r (look next' l w q) =
       let more : c .first ≤ c .first + 1 = omega arith in
@@ -145,12 +145,13 @@ module _ (G : Given) (roots : List ℕ) (sound : WellFormed (dual G roots)) (g :
         λ i f w b. h .2 i f (omega (arith, h .0), omega (arith, w .1, k .1 .longer), k .1 .places i (omega (arith, h .0)) (w .1) ∙ w .2) b,
       )
 
-  between : {c : Configuration} {past : List Event} → PassingAt (dual G roots) c → Told (G .faces) (c .tables .waiting) past → BetweenLooks (dual G roots) c past
+  between : {c : Configuration} {past : List Event} → PassingAt (dual G roots) c → Told (G .faces) (c .tables .waiting) past
+      → BetweenLooks (dual G roots) c past
   between {c} {past} r h = record {
     once = λ i j f a b. same i j f a b (decLt i j) (decLt j i);
     only = λ d l can. lowers d l can (ℕ-discrete (at (c .tables .waiting) (dual G roots .right d)) 1);
     fell = λ f w. subst (λ x. FellSince x past) (w .1 .2)
-      (h .fallen (faceAt (c .tables .queue) (w .0)) (r .line .inside (w .0) (w .1 .0) (w .1 .1)) (r .line .flagged (w .0) (w .1 .0) (w .1 .1)));
+        (h .fallen (faceAt (c .tables .queue) (w .0)) (r .line .inside (w .0) (w .1 .0) (w .1 .1)) (r .line .flagged (w .0) (w .1 .0) (w .1 .1)));
     waits = λ f e. let w = h .flagged f e in place f (w .0) (w .1);
   }
     where

@@ -14,7 +14,8 @@ use Rattle.arrays.specs.At.{at, atℤ}
 use Rattle.arrays.specs.Maps.{rightOf}
 use Rattle.search.specs.Queue.{Pushed}
 use Rattle.search.specs.Moves.{Begun, Climb}
-use Rattle.search.specs.Trace.{Given, Tables, tablesOf, Configuration, configuration, front, Crosses, done, keep, lower, due, Unringed, Step, look, turn, Goes, stay, go, Ends, start, Searches}
+use Rattle.search.specs.Trace.{Given, Tables, tablesOf, Configuration, configuration, front, Crosses, done, keep, lower}
+use Rattle.search.specs.Trace.{due, Unringed, Step, look, turn, Goes, stay, go, Ends, start, Searches}
 use Rattle.search.specs.declared.Outcome.{Outcome}
 use Rattle.search.specs.declared.Outcome.the-variants as outcome
 use Rattle.search.specs.declared.Climbed.the-variants as climbed
@@ -47,7 +48,8 @@ crosses-one (keep l a p) (lower m b w n q) = absurd (lt-le-clash (b .2) (a .2))
 crosses-one (lower l a w m p) (done n) = absurd (omega arith)
 crosses-one (lower l a w m p) (keep n b q) = absurd (lt-le-clash (a .2) (b .2))
 crosses-one {G} {i} {e} {j} {t} {v = z} (lower {u = u} l a w m p) (lower {u = v} k b x n q) =
-    let r = pushed-one (t .waiting) (t .queue) (u .waiting) (u .queue) (v .waiting) (v .queue) (at (G .lefts) (at (G .order) j)) (t .last) (u .last) (v .last) w x in
+    let f = at (G .lefts) (at (G .order) j) in
+    let r = pushed-one (t .waiting) (t .queue) (u .waiting) (u .queue) (v .waiting) (v .queue) f (t .last) (u .last) (v .last) w x in
     let same = same-tables u v (a .0 ∙ sym (b .0)) (a .1 ∙ sym (b .1)) (r .0) (r .1) (m ∙ sym n) (r .2) in
     crosses-one p (subst (λ y. Crosses G i e (j + 1) y z) (sym same) q)
 

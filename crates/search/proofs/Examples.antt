@@ -9,6 +9,7 @@ use Rattle.maps.specs.Dart.{rev}
 use Rattle.search.specs.Dual.{Dual, dualOf, WellFormed, Joined}
 use Rattle.search.specs.Walk.{Walk, here, onward, stay, cross, total, Ring}
 use Rattle.search.specs.Settled.{Settled}
+use Rattle.search.proofs.OfMap.{one-root}
 
 -- the two darts of one edge, of these lengths; the face 0 is left of the dart 0, the face 1 left of the dart 1
 abbrev pub edge : ℤ → ℤ → Dual
@@ -20,16 +21,12 @@ two P p q zero l = p
 two P p q (suc zero) l = q
 two P p q (suc (suc d)) l = absurd (omega arith)
 
-one : (P : ℕ → Type 0) → P 0 → (m : ℕ) → m < 1 → P m
-one P p zero l = p
-one P p (suc m) l = absurd (omega arith)
-
 pub edge-sound : WellFormed (edge (pos 3) (negsuc 1))
 unfolding rev
 edge-sound = record {
   few-darts = omega arith;
   few-faces = omega arith;
-  root-in = one (λ m. edge (pos 3) (negsuc 1) .root m < 2) (omega arith);
+  root-in = one-root (λ m. edge (pos 3) (negsuc 1) .root m < 2) (omega arith);
   even = refl;
   left-in = two (λ d. edge (pos 3) (negsuc 1) .left d < 2) (omega arith) (omega arith);
   right-in = two (λ d. edge (pos 3) (negsuc 1) .right d < 2) (omega arith) (omega arith);
@@ -55,9 +52,10 @@ levels (suc f) = negsuc 1
 pub edge-settled : Settled (edge (pos 3) (negsuc 1)) levels
 unfolding rev levels
 edge-settled = record {
-  still = two (λ d. lib.Signed._≤ℤ_ (levels (edge (pos 3) (negsuc 1) .left d)) (levels (edge (pos 3) (negsuc 1) .right d) +ℤ edge (pos 3) (negsuc 1) .length d)) (leZ-yes tt) (leZ-yes tt);
+  still =
+      two (λ d. let N = edge (pos 3) (negsuc 1) in lib.Signed._≤ℤ_ (levels (N .left d)) (levels (N .right d) +ℤ N .length d)) (leZ-yes tt) (leZ-yes tt);
   walk = two (λ f. Walk (edge (pos 3) (negsuc 1)) f (levels f)) (here 0 (omega arith) refl) (onward 1 (omega arith) refl refl (here 0 (omega arith) refl));
-  rooted = one (λ m. levels (edge (pos 3) (negsuc 1) .root m) ≡ pos 0) refl;
+  rooted = one-root (λ m. levels (edge (pos 3) (negsuc 1) .root m) ≡ pos 0) refl;
   near = two (λ f. Prim.Native.Nat._≤_ (mag (levels f)) 2000000000000000000) (omega arith) (omega arith);
 }
 

@@ -47,10 +47,10 @@ module _ (G : Given) (g : InGroups G) where
           sound = h .sound;
           trying = try-keep (h .sound) g (h .trying) d l d-is (kept .2);
           back = λ u q.
-            h .back u
-            (keep l
-            (subst (λ x. Relaxed (G .lefts) (G .lengths) (now .potentials) (now .parents) (now .potentials) (now .parents) i x false) d-is
-            (refl, refl, kept .2)) q);
+              h .back u
+              (keep l
+              (subst (λ x. Relaxed (G .lefts) (G .lengths) (now .potentials) (now .parents) (now .potentials) (now .parents) i x false) d-is
+              (refl, refl, kept .2)) q);
         }
 
     pub look-lowers : (v : Tables) (f : ℕ) → f ≡ at (G .lefts) d
@@ -62,9 +62,9 @@ module _ (G : Given) (g : InGroups G) where
       sound = h .sound;
       trying = try-lower (h .sound) g (h .trying) d l d-is v (lowered .0) (lowered .1) (lowered .2) n pushed;
       back = λ u q.
-        h .back u
-        (lower l (subst (λ x. Relaxed (G .lefts) (G .lengths) (now .potentials) (now .parents) (v .potentials) (v .parents) i x true) d-is lowered)
-        (subst (λ x. Pushed (now .waiting) (now .queue) (v .waiting) (v .queue) x (now .last) (v .last)) (ap (at (G .lefts)) d-is) pushed) n q);
+          h .back u
+          (lower l (subst (λ x. Relaxed (G .lefts) (G .lengths) (now .potentials) (now .parents) (v .potentials) (v .parents) i x true) d-is lowered)
+          (subst (λ x. Pushed (now .waiting) (now .queue) (v .waiting) (v .queue) x (now .last) (v .last)) (ap (at (G .lefts)) d-is) pushed) n q);
     }
       where
         lowered : Relaxed (G .lefts) (G .lengths) (now .potentials) (now .parents) (v .potentials) (v .parents) i d true

@@ -14,9 +14,11 @@ use Rattle.search.proofs.Order.{le-of-eq, carry}
 -- potentials that no dart can lower are at most the length of any walk from a root
 pub below-walk : {N : Dual} (τ : ℕ → ℤ) → Still N τ → ((m : ℕ) → m < N .roots → τ (N .root m) ≤ℤ pos 0) → {f : ℕ} {z : ℤ} → Walk N f z → τ f ≤ℤ z
 below-walk τ still low (here m l e) = subst (λ f. τ f ≤ℤ pos 0) e (low m l)
-below-walk {N} τ still low (onward {f} {z} {w} d l e q r) = rw (← e, q) (carry (τ (N .left d)) (τ (N .right d)) z (N .length d) (still d l) (below-walk τ still low r))
+below-walk {N} τ still low (onward {f} {z} {w} d l e q r) =
+    rw (← e, q) (carry (τ (N .left d)) (τ (N .right d)) z (N .length d) (still d l) (below-walk τ still low r))
 
-pub highest : {N : Dual} {ρ : ℕ → ℤ} → Settled N ρ → (τ : ℕ → ℤ) → Still N τ → ((m : ℕ) → m < N .roots → τ (N .root m) ≡ pos 0) → (f : ℕ) → f < N .faces → τ f ≤ℤ ρ f
+pub highest : {N : Dual} {ρ : ℕ → ℤ} → Settled N ρ → (τ : ℕ → ℤ) → Still N τ → ((m : ℕ) → m < N .roots → τ (N .root m) ≡ pos 0) → (f : ℕ)
+    → f < N .faces → τ f ≤ℤ ρ f
 highest s τ still zero f l = below-walk τ still (λ m h. le-of-eq (zero m h)) (s .walk f l)
 
 -- a walk back to a root is not below zero: so the roots are at 0

@@ -123,7 +123,7 @@ line-take {faces} {waiting} {waiting'} {queue} {first} {last} h some x x-is c = 
   inside = λ i a b. h .inside i (omega arith) b;
   once = λ i j a m b. h .once i j (omega arith) m b;
   flagged = λ i a b.
-    c .off (faceAt queue i) (λ e. h .once first i (omega arith) (omega arith) b (sym x-is ∙ sym e)) ∙ h .flagged i (omega arith) b;
+      c .off (faceAt queue i) (λ e. h .once first i (omega arith) (omega arith) b (sym x-is ∙ sym e)) ∙ h .flagged i (omega arith) b;
   stands = λ g b w. stands' g b w (ℕ-discrete g x);
 }
   where

@@ -73,7 +73,8 @@ module _ {N : Dual} (sound : WellFormed N) {ρ : ℕ → ℤ} {parent waiting : 
   Holds : ℤ → ℤ → ℕ → ℕ → Type 0
   Holds x y a b = (x <ℤ y) ⊎ ((x ≤ℤ y) × (x ≡ y → a < b))
 
-  holds : (g : ℕ) → g < N .faces → parent' g < N .darts → Holds (ρ' (N .right (parent' g)) +ℤ N .length (parent' g)) (ρ' g) (fell' (N .right (parent' g))) (fell' g)
+  holds : (g : ℕ) → g < N .faces → parent' g < N .darts
+      → Holds (ρ' (N .right (parent' g)) +ℤ N .length (parent' g)) (ρ' g) (fell' (N .right (parent' g))) (fell' g)
   unfolding Holds
   holds g l p = by (ℕ-discrete g f)
     where
@@ -161,7 +162,8 @@ module _ {N : Dual} (sound : WellFormed N) {ρ : ℕ → ℤ} {parent waiting : 
   pub quiet-lower : (todo : ℕ → Type 0) → Quiet N ρ waiting todo → Quiet N ρ' waiting' (λ e. todo e × (e ≡ d → ⊥))
   quiet-lower todo q = record { quiet = λ e e-in not off h. by e e-in not off h (ℕ-discrete (N .right e) f) }
     where
-      by : (e : ℕ) → e < N .darts → (todo e × (e ≡ d → ⊥) → ⊥) → (waiting' (N .right e) ≡ 1 → ⊥) → (ρ' (N .right e) ≡ far → ⊥) → Dec (N .right e ≡ f) → ρ' (N .left e) ≤ℤ (ρ' (N .right e) +ℤ N .length e)
+      by : (e : ℕ) → e < N .darts → (todo e × (e ≡ d → ⊥) → ⊥) → (waiting' (N .right e) ≡ 1 → ⊥) → (ρ' (N .right e) ≡ far → ⊥) → Dec (N .right e ≡ f)
+          → ρ' (N .left e) ≤ℤ (ρ' (N .right e) +ℤ N .length e)
       by e e-in not off h (yes r) = absurd (off (c-waiting .at (N .right e) r))
       by e e-in not off h (no c) = rw (c-ρ .off (N .right e) c) (which (ℕ-discrete e d))
         where

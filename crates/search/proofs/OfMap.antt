@@ -2,7 +2,7 @@
 use mathlib.Core.Path.{_≡_, refl, sym, _∙_, ap}
 use mathlib.Core.Bool.{Bool}
 use mathlib.Core.List.{List}
-use Prim.Native.Nat.{ℕ, _≤_, _<_}
+use Prim.Native.Nat.{ℕ, zero, suc, _≤_, _<_}
 use native.Mathlib.Omega.{arith}
 use lib.ListN.{getD}
 use lib.IntN.{ℤ, pos, _+ℤ_}
@@ -23,8 +23,14 @@ use Rattle.search.specs.Dual.{Dual, dualOf, WellFormed, Joined, longest}
 use Rattle.search.specs.Walk.{Crossing, stay, cross, total, Ring}
 use Rattle.search.specs.OfMap.{OfMap}
 
+-- what holds of the first root holds of each where there is one
+pub one-root : (P : ℕ → Type 0) → P 0 → (m : ℕ) → m < 1 → P m
+one-root P p zero l = p
+one-root P p (suc m) l = absurd (omega arith)
+
 -- an array with the left faces is enough
-pub of-array : {𝓜 : Map} (lefts : List ℕ) (lengths : List ℤ) (roots : List ℕ) → ((d : ℕ) → d < darts 𝓜 → getD lefts d 0 ≡ left 𝓜 d) → OfMap (dualOf lefts lengths (darts 𝓜) (faces 𝓜) roots) 𝓜
+pub of-array : {𝓜 : Map} (lefts : List ℕ) (lengths : List ℤ) (roots : List ℕ) → ((d : ℕ) → d < darts 𝓜 → getD lefts d 0 ≡ left 𝓜 d)
+    → OfMap (dualOf lefts lengths (darts 𝓜) (faces 𝓜) roots) 𝓜
 of-array {𝓜} lefts lengths roots is = record { darts-are = refl; faces-are = refl; left-is = is; right-is = λ d l. is (rev d) (rev-in (𝓜 .edges) d l) }
 
 -- no more faces than darts
@@ -34,7 +40,8 @@ faces-few 𝓜 = sum-le-size (darts 𝓜) (λ d. bit (isLowest (darts 𝓜) (ste
 
 module _ {N : Dual} {𝓜 : Map} (of : OfMap N 𝓜) where
   -- ── sound ──
-  pub sound-of-map : check.Sound 𝓜 → darts 𝓜 ≤ 1024 → ((m : ℕ) → m < N .roots → N .root m < faces 𝓜) → ((d : ℕ) → d < darts 𝓜 → mag (N .length d) < longest) → WellFormed N
+  pub sound-of-map : check.Sound 𝓜 → darts 𝓜 ≤ 1024 → ((m : ℕ) → m < N .roots → N .root m < faces 𝓜)
+      → ((d : ℕ) → d < darts 𝓜 → mag (N .length d) < longest) → WellFormed N
   sound-of-map σ few root-in short = record {
     few-darts = omega (arith, of .darts-are);
     few-faces = omega (arith, of .faces-are, faces-few 𝓜);
@@ -47,7 +54,7 @@ module _ {N : Dual} {𝓜 : Map} (of : OfMap N 𝓜) where
   }
 
   -- ── joined: one part, and one root ──
-  module _ (σ : check.Sound 𝓜) {part : ℕ → ℕ} (κ : Components 𝓜 1 part) (one-root : N .roots ≡ 1) (root-in : N .root 0 < N .faces) where
+  module _ (σ : check.Sound 𝓜) {part : ℕ → ℕ} (κ : Components 𝓜 1 part) (single : N .roots ≡ 1) (root-in : N .root 0 < N .faces) where
     closed : (B : ℕ → Bool) → ((d : ℕ) → d < N .darts → B (N .left d) ≡ B (N .right d)) → (f : ℕ) → f < N .faces → B f ≡ B (N .root 0)
     closed B same f l = sym (ap B (of-f .2)) ∙ around ∙ ap B (of-root .2)
       where
@@ -69,7 +76,13 @@ module _ {N : Dual} {𝓜 : Map} (of : OfMap N 𝓜) where
             (one (of-f .0) (of-f .1) ∙ sym (one (of-root .0) (of-root .1)))
 
     pub joined-of-map : Joined N
-    joined-of-map = record { part = λ f. 0; part-in = λ f l. omega (arith, one-root); part-root = λ m l. omega (arith, one-root); part-kept = λ d l. refl; closed = closed }
+    joined-of-map = record {
+      part = λ f. 0;
+      part-in = λ f l. omega (arith, single);
+      part-root = λ m l. omega (arith, single);
+      part-kept = λ d l. refl;
+      closed = closed;
+    }
 
   -- ── rings ──
   -- darts crossed in turn, as a walk over faces of the same length

@@ -58,7 +58,9 @@ module _ {N : Dual} (sound : WellFormed N) {order starts ends : List ℕ} (g : G
     pub off-flag : Changed (at (t .waiting)) (at (set (t .waiting) i 0)) i 0
     off-flag = stored (t .waiting) i 0 0 (omega (arith, looked-in, r .size-waiting, sound .few-faces))
 
-    pub begin-trying : Trying N order starts ends (tablesOf (t .potentials) (t .parents) (set (t .waiting) i 0) (t .queue) (t .lowerings) (t .last)) first stop k i (at starts i)
+    pub begin-trying :
+        Trying N order starts ends (tablesOf (t .potentials) (t .parents) (set (t .waiting) i 0) (t .queue) (t .lowerings) (t .last))
+        first stop k i (at starts i)
     begin-trying = record {
       size-potentials = r .size-potentials;
       size-parents = r .size-parents;
@@ -241,7 +243,8 @@ module _ {N : Dual} (sound : WellFormed N) {order starts ends : List ℕ} (g : G
         old-places m a b =
             push-old (r .line) ordered (sound .few-faces) (u .waiting) (u .queue) (N .left d) try-left (w .0) new-flag new-place m (omega arith) b
 
-      pub try-lower : Pushed (t .waiting) (t .queue) (u .waiting) (u .queue) (N .left d) (t .last) (u .last) → Trying N order starts ends u first stop k i (j + 1)
+      pub try-lower : Pushed (t .waiting) (t .queue) (u .waiting) (u .queue) (N .left d) (t .last) (u .last)
+          → Trying N order starts ends u first stop k i (j + 1)
       try-lower (inl w) = waited w
       try-lower (inr w) = came w
 

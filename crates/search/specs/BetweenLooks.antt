@@ -1,5 +1,5 @@
--- What holds between looks. Document 02, Job 3: "between looks, no face waits twice and a dart can lower a level only from a face that waits"; "only faces whose
--- level fell since they were last looked at, first come first". Theorems: `between-looks` and `first-come` of `proofs/Between.antt`.
+-- What holds between looks. Document 02, Job 3: "between looks, no face waits twice and a dart can lower a level only from a face that waits"; "only faces
+-- whose level fell since they were last looked at, first come first". Theorems: `between-looks` and `first-come` of `proofs/Between.antt`.
 use mathlib.Core.Path.{_≡_}
 use mathlib.Core.List.{List}
 use Prim.Native.Nat.{ℕ, _≤_, _<_}

@@ -121,10 +121,7 @@ fn begin(
 fn due(faces: usize, round: usize, next: usize, lowerings: usize) -> bool
     ensures { λ r. ⌜ r ≡ dueNow faces round next lowerings ⌝ }
 {
-    if round == faces {
-        return true;
-    }
-    next <= lowerings
+    round == faces || next <= lowerings
 }
 
 // Looks at the face i, which stands at the first place of the queue: it waits no more, and the darts whose right face it is are crossed.
@@ -148,7 +145,7 @@ fn look(
     i: usize,
 ) -> Looked
     requires { ⌜ Looking (dualOf (now lefts) (now lengths) darts faces)
-            (tablesOf (now potentials) (now parents) (now waiting) (now queue) lowerings last) first stop round
+        (tablesOf (now potentials) (now parents) (now waiting) (now queue) lowerings last) first stop round
         × Grouped (rightOf (now lefts)) darts faces (now order) (now starts) (now ends)
         × (round < faces) × (first < stop) × (i ≡ faceAt (now queue) first) ⌝ }
     ensures { λ r. ⌜ LookAt (given (now (lefts .entry)) (now (lengths .entry)) (now (order .entry)) (now (starts .entry)) (now (ends .entry)) darts faces) i
@@ -197,11 +194,17 @@ pub fn search(
         × (length (now potentials) ≡ 1024) × (length (now parents) ≡ 1024) × (length (now waiting) ≡ 1024) × (length (now queue) ≡ 1024)
         × (roots ≤ 1024) ⌝ }
     ensures { λ r. ⌜ Answer (dualOf (now (lefts .entry)) (now (lengths .entry)) darts faces (take roots (now (queue .entry))))
-            (now (potentials .exit)) (now (parents .exit)) r
+        (now (potentials .exit)) (now (parents .exit)) r
         × Searches (given (now (lefts .entry)) (now (lengths .entry)) (now (order .entry)) (now (starts .entry)) (now (ends .entry)) darts faces)
-            (now (queue .entry)) roots (now (potentials .exit)) (now (parents .exit)) r ⌝ }
+        (now (queue .entry)) roots (now (potentials .exit)) (now (parents .exit)) r ⌝ }
 {
-    begin(&mut *potentials, &mut *parents, &mut *waiting, &*queue, roots);
+    begin(
+        &mut *potentials,
+        &mut *parents,
+        &mut *waiting,
+        &*queue,
+        roots,
+    );
     let mut lowerings: usize = 0;
     let mut next: usize = faces / 4;
     let mut round: usize = 0;

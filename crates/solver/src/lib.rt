@@ -1,7 +1,9 @@
-// The solver: decides whether a value can be carried from a source to a sink of a plane map held in arrays. It gives the highest flow, or the nodes of a proving set.
+// The solver: decides whether a value can be carried from a source to a sink of a plane map held in arrays. It gives the highest flow, or the nodes of a
+// proving set.
 //
 // Each step has its own arrays, and none is kept longer than the step: the walk over the darts is made anew for a ring, since memory is scarcer than time.
 ghost use mathlib.Core.Path.{_≡_};
+ghost use mathlib.Core.List.{[], _∷_};
 ghost use Prim.Native.Nat.{ℕ, _*_, _<_, _≤_};
 ghost use lib.ListN.{length};
 ghost use lib.IntN.{pos};
@@ -32,8 +34,12 @@ fn lengths_for(
     value: i32,
     lengths: &mut [i32; 1024],
 )
-    requires { ⌜ (length (now lengths) ≡ 1024) × (edges ≤ 512) × (start < 2 * edges) × (finish < 2 * edges) × Plane (mapOf nodes edges (now tails) (now rotations)) × ((d : ℕ) → d < 2 * edges → Limited mostCapacity (atℤ (now capacities) d)) × Limited mostValue value ⌝ }
-    ensures { λ _. ⌜ (length (now (lengths .exit)) ≡ 1024) × Lengthened (mapOf nodes edges (now (tails .entry)) (now (rotations .entry))) (at (now (tails .entry)) start) (at (now (tails .entry)) finish) (atℤ (now (capacities .entry))) value (atℤ (now (lengths .exit))) ⌝ }
+    requires { ⌜ (length (now lengths) ≡ 1024) × (edges ≤ 512) × (start < 2 * edges) × (finish < 2 * edges)
+        × Plane (mapOf nodes edges (now tails) (now rotations))
+        × ((d : ℕ) → d < 2 * edges → Limited mostCapacity (atℤ (now capacities) d)) × Limited mostValue value ⌝ }
+    ensures { λ _. ⌜ (length (now (lengths .exit)) ≡ 1024)
+        × Lengthened (mapOf nodes edges (now (tails .entry)) (now (rotations .entry))) (at (now (tails .entry)) start) (at (now (tails .entry)) finish)
+        (atℤ (now (capacities .entry))) value (atℤ (now (lengths .exit))) ⌝ }
 {
     let mut order = [0u16; 1024];
     let mut from = [0u16; 1024];
@@ -50,7 +56,8 @@ fn lengths_for(
     );
 }
 
-// Searches; where the potentials settle, writes the flows that they make. Where there is a ring, answers the dart that closes it, and the parents lead round it.
+// Searches; where the potentials settle, writes the flows that they make. Where there is a ring, answers the dart that closes it, and the parents lead round
+// it.
 fn settle(
     lefts: &[u16; 1024],
     capacities: &[i32; 1024],
@@ -61,8 +68,10 @@ fn settle(
     parents: &mut [u16; 1024],
     flows: &mut [i32],
 ) -> Outcome
-    requires { ⌜ (length (now parents) ≡ 1024) × (edges ≤ 512) × (edges ≤ length (now flows)) × Searchable (dualOf (now lefts) (now lengths) (2 * edges) faces root) edges (atℤ (now capacities)) ⌝ }
-    ensures { λ r. ⌜ Searched (dualOf (now (lefts .entry)) (now (lengths .entry)) (2 * edges) faces root) edges (atℤ (now (capacities .entry))) (now (flows .entry)) (now (flows .exit)) (at (now (parents .exit))) r ⌝ }
+    requires { ⌜ (length (now parents) ≡ 1024) × (edges ≤ 512) × (edges ≤ length (now flows))
+        × Searchable (dualOf (now lefts) (now lengths) (2 * edges) faces (root ∷ [])) edges (atℤ (now capacities)) ⌝ }
+    ensures { λ r. ⌜ Searched (dualOf (now (lefts .entry)) (now (lengths .entry)) (2 * edges) faces (root ∷ [])) edges (atℤ (now (capacities .entry)))
+        (now (flows .entry)) (now (flows .exit)) (at (now (parents .exit))) r ⌝ }
 {
     let mut order = [0u16; 1024];
     let mut starts = [0u16; 1024];
@@ -70,6 +79,8 @@ fn settle(
     grouping::group(lefts, 2 * edges, faces, &mut order, &mut starts, &mut ends);
     let mut potentials = [0i64; 1024];
     let mut waiting = [0u8; 1024];
+    let mut queue = [0u16; 1024];
+    queue[0] = root as u16;
     let outcome = search::search(
         lefts,
         lengths,
@@ -78,10 +89,11 @@ fn settle(
         &ends,
         2 * edges,
         faces,
-        root,
+        1,
         &mut potentials,
         &mut *parents,
         &mut waiting,
+        &mut queue,
     );
     if let Outcome::Ring(d) = outcome {
         return Outcome::Ring(d);
@@ -90,7 +102,8 @@ fn settle(
     Outcome::Settled
 }
 
-// Flags nodes whose cut of the lengths is below zero, from the ring that the parents lead round from the face y: its winding, heights of the nodes, a threshold.
+// Flags nodes whose cut of the lengths is below zero, from the ring that the parents lead round from the face y: its winding, heights of the nodes, a
+// threshold.
 fn cut_of_ring(
     tails: &[u16; 1024],
     rotations: &[u16; 1024],
@@ -104,8 +117,10 @@ fn cut_of_ring(
     y: usize,
     inside: &mut [u8; 1024],
 )
-    requires { ⌜ (length (now inside) ≡ 1024) × (0 < edges) × Ringed (mapOf nodes edges (now tails) (now rotations)) (dualOf (now lefts) (now lengths) (2 * edges) faces root) (at (now parents)) y ⌝ }
-    ensures { λ _. ⌜ (length (now (inside .exit)) ≡ 1024) × (cut (mapOf nodes edges (now (tails .entry)) (now (rotations .entry))) (atℤ (now (lengths .entry))) (flagged (now (inside .exit))) <ℤ pos 0) ⌝ }
+    requires { ⌜ (length (now inside) ≡ 1024) × (0 < edges)
+        × Ringed (mapOf nodes edges (now tails) (now rotations)) (dualOf (now lefts) (now lengths) (2 * edges) faces (root ∷ [])) (at (now parents)) y ⌝ }
+    ensures { λ _. ⌜ (length (now (inside .exit)) ≡ 1024)
+        × (cut (mapOf nodes edges (now (tails .entry)) (now (rotations .entry))) (atℤ (now (lengths .entry))) (flagged (now (inside .exit))) <ℤ pos 0) ⌝ }
 {
     let mut order = [0u16; 1024];
     let mut from = [0u16; 1024];
@@ -117,7 +132,8 @@ fn cut_of_ring(
     thresholds::choose_set(tails, lengths, &heights, nodes, 2 * edges, inside);
 }
 
-// Decides one value from a source to a sink, with the face of the outer dart at 0: true with the highest flow written, false with the nodes of a proving set flagged.
+// Decides one value from a source to a sink, with the face of the outer dart at 0: true with the highest flow written, false with the nodes of a proving set
+// flagged.
 pub fn decide<'a>(
     tails: &'a [u16; 1024],
     rotations: &'a [u16; 1024],
@@ -133,8 +149,12 @@ pub fn decide<'a>(
     flows: &mut [i32],
     inside: &mut [u8; 1024],
 ) -> bool
-    requires { ⌜ (length (now inside) ≡ 1024) × (edges ≤ length (now flows)) × Drawn (mapOf nodes edges (now tails) (now rotations)) (at (now lefts)) faces outer (atℤ (now capacities)) × Ends (mapOf nodes edges (now tails) (now rotations)) source sink × Limited mostValue value ⌝ }
-    ensures { λ r. ⌜ (length (now (inside .exit)) ≡ 1024) × Decided (mapOf nodes edges (now (tails .entry)) (now (rotations .entry))) outer (atℤ (now (capacities .entry))) source sink value (now (flows .entry)) (now (flows .exit)) (now (inside .exit)) r ⌝ }
+    requires { ⌜ (length (now inside) ≡ 1024) × (edges ≤ length (now flows))
+        × Drawn (mapOf nodes edges (now tails) (now rotations)) (at (now lefts)) faces outer (atℤ (now capacities))
+        × Ends (mapOf nodes edges (now tails) (now rotations)) source sink × Limited mostValue value ⌝ }
+    ensures { λ r. ⌜ (length (now (inside .exit)) ≡ 1024)
+        × Decided (mapOf nodes edges (now (tails .entry)) (now (rotations .entry))) outer (atℤ (now (capacities .entry)))
+        source sink value (now (flows .entry)) (now (flows .exit)) (now (inside .exit)) r ⌝ }
 {
     let start = traversal::dart_at(tails, 2 * edges, source);
     let finish = traversal::dart_at(tails, 2 * edges, sink);

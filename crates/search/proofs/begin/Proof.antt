@@ -74,7 +74,7 @@ loop2-holds c =
     let l = c .before .loop .inv in
     let all : 1024 ≤ c .before .loop .f = omega (arith, c .loop-test .left) in (
       begun-none (c .before .before .args .queue .now) (l .1) (l .2) (l .3)
-      (λ f h. l .4 f (omega arith)) (λ f h. l .5 f (omega arith)) (λ f h. l .6 f (omega arith)),
+          (λ f h. l .4 f (omega arith)) (λ f h. l .5 f (omega arith)) (λ f h. l .6 f (omega arith)),
       omega arith,
     )
 
@@ -121,7 +121,8 @@ all c = omega (arith, c .loop2-test .left, c .before .loop2 .inv .1)
 returns : tie.Need-returns Inv-loop μ-loop Inv-loop2 μ-loop2
 returns c =
     let l = c .before .loop2 in
-    subst (Begun (l .potentials) (c .before .before .before .loop .parents) (l .waiting) (c .before .before .before .before .args .queue .now)) (all c) (l .inv .0)
+    let s = c .before .before .before .before in
+    subst (Begun (l .potentials) (c .before .before .before .loop .parents) (l .waiting) (s .args .queue .now)) (all c) (l .inv .0)
 
 pub begin-spec : {M : Type 1} → statement M
 begin-spec =

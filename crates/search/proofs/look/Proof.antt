@@ -11,12 +11,14 @@ use Rattle.search.proofs.look.Statement.{statement}
 use Rattle.search.proofs.look.Tie as tie
 
 abbrev Inv-loop : tie.InvT-loop
-Inv-loop lefts lengths order starts ends darts faces potentials₀ parents₀ waiting₀ queue₀ lowerings first stop last round i j₀ e count₀ end₀ potentials parents waiting queue j count end =
+Inv-loop lefts lengths order starts ends darts faces potentials₀ parents₀ waiting₀ queue₀ lowerings first stop last round i
+    j₀ e count₀ end₀ potentials parents waiting queue j count end =
     Halfway (given lefts lengths order starts ends darts faces) (tablesOf potentials₀ parents₀ waiting₀ queue₀ count₀ end₀) first stop round i j₀ j
     (tablesOf potentials parents waiting queue count end)
 
 abbrev μ-loop : tie.MeasureT-loop
-μ-loop lefts lengths order starts ends darts faces potentials₀ parents₀ waiting₀ queue₀ lowerings first stop last round i j₀ e count₀ end₀ potentials parents waiting queue j count end =
+μ-loop lefts lengths order starts ends darts faces potentials₀ parents₀ waiting₀ queue₀ lowerings first stop last round i
+    j₀ e count₀ end₀ potentials parents waiting queue j count end =
     e - j
 
 -- ── what is given ──
@@ -54,7 +56,8 @@ wide-requires-2 c κs = search needs
 loop-holds : tie.Need-loop-holds Inv-loop μ-loop
 loop-holds c =
     let s = c .before .before .before .before in
-    look-begins (givenAt s) (s .pre .1) (s .pre .0) (s .pre .2) (s .pre .3) (s .args .i) (c .before .before .wide .result) (s .pre .4) (c .before .before .wide .ensures)
+    let w = c .before .before .wide in
+    look-begins (givenAt s) (s .pre .1) (s .pre .0) (s .pre .2) (s .pre .3) (s .args .i) (w .result) (s .pre .4) (w .ensures)
 
 -- ── in the loop ──
 abbrev base : tie.At-loop Inv-loop μ-loop → tie.Start Inv-loop μ-loop

@@ -40,7 +40,10 @@ element-copy-out-plus-wide-2 c = search needs
 plus-wide-requires : tie.Need-plus-wide-requires
 plus-wide-requires c κs =
     let a = c .before .before .before .before .args in
-    rw (toZ-ofZ w64 (atℤ (a .potentials .now) (a .i)) (record { sfits = c .before .plus-wide-arg .given }), toZ-ofZ w32 (atℤ (a .lengths .now) (a .d)) (record { sfits = c .plus-wide-arg2 .given }))
+    rw (
+      toZ-ofZ w64 (atℤ (a .potentials .now) (a .i)) (record { sfits = c .before .plus-wide-arg .given }),
+      toZ-ofZ w32 (atℤ (a .lengths .now) (a .d)) (record { sfits = c .plus-wide-arg2 .given }),
+    )
     (record { sfits = omega (arith, mag-add (atℤ (a .potentials .now) (a .i)) (atℤ (a .lengths .now) (a .d)), c .before .before .before .before .pre .5) })
 
 abbrev Place : Type 0
@@ -62,7 +65,8 @@ new-is c =
 old : (c : Place) → ℤ
 old c = let a = c .before .before .before .before .before .before .args in atℤ (a .potentials .now) (at (a .lefts .now) (a .d))
 
-old-is : (c : Place) → toZ w64 (ofZ w64 (atℤ (c .before .before .before .before .before .before .args .potentials .now) (c .before .before .before .before .wide .result))) ≡ old c
+old-is : (c : Place)
+    → let w = c .before .before .before .before in toZ w64 (ofZ w64 (atℤ (w .before .before .args .potentials .now) (w .wide .result))) ≡ old c
 unfolding old
 old-is c =
     let p = c .before .before .before .before .before .before .args .potentials .now in

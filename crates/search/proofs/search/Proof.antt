@@ -23,23 +23,27 @@ use Rattle.search.proofs.search.Statement.{statement}
 use Rattle.search.proofs.search.Tie as tie
 
 abbrev Inv-loop : tie.InvT-loop
-Inv-loop lefts lengths order starts ends darts faces roots potentials₀ parents₀ waiting₀ queue₀ lowerings₀ next₀ round first₀ last₀ stop potentials parents waiting queue lowerings next first last =
+Inv-loop lefts lengths order starts ends darts faces roots potentials₀ parents₀ waiting₀ queue₀ lowerings₀ next₀ round first₀ last₀
+    stop potentials parents waiting queue lowerings next first last =
     Goes (given lefts lengths order starts ends darts faces)
     (configuration (tablesOf potentials₀ parents₀ waiting₀ queue₀ lowerings₀ last₀) first₀ stop round next₀)
     (configuration (tablesOf potentials parents waiting queue lowerings last) first stop round next)
 
 abbrev μ-loop : tie.MeasureT-loop
-μ-loop lefts lengths order starts ends darts faces roots potentials₀ parents₀ waiting₀ queue₀ lowerings₀ next₀ round first₀ last₀ stop potentials parents waiting queue lowerings next first last =
+μ-loop lefts lengths order starts ends darts faces roots potentials₀ parents₀ waiting₀ queue₀ lowerings₀ next₀ round first₀ last₀
+    stop potentials parents waiting queue lowerings next first last =
     stop - first
 
 abbrev Inv-search : tie.InvT-search
-Inv-search lefts lengths order starts ends darts faces roots potentials₀ parents₀ waiting₀ queue₀ lowerings₀ next₀ round₀ first₀ last₀ potentials parents waiting queue lowerings next round first last =
+Inv-search lefts lengths order starts ends darts faces roots potentials₀ parents₀ waiting₀ queue₀ lowerings₀ next₀ round₀ first₀ last₀
+    potentials parents waiting queue lowerings next round first last =
     Goes (given lefts lengths order starts ends darts faces)
     (configuration (tablesOf potentials₀ parents₀ waiting₀ queue₀ lowerings₀ last₀) first₀ last₀ round₀ next₀)
     (configuration (tablesOf potentials parents waiting queue lowerings last) first last round next)
 
 abbrev μ-search : tie.MeasureT-search
-μ-search lefts lengths order starts ends darts faces roots potentials₀ parents₀ waiting₀ queue₀ lowerings₀ next₀ round₀ first₀ last₀ potentials parents waiting queue lowerings next round first last =
+μ-search lefts lengths order starts ends darts faces roots potentials₀ parents₀ waiting₀ queue₀ lowerings₀ next₀ round₀ first₀ last₀
+    potentials parents waiting queue lowerings next round first last =
     suc faces - round
 
 -- ── what is given, and how the search stands ──
@@ -146,7 +150,8 @@ abbrev top : Ringed → ℕ
 top c = c .before .y .given .0 .0
 
 above : (c : Ringed) → let l = looping (asked c) in
-    Climb (rightOf (givenAt (begun l) .lefts)) (givenAt (begun l) .darts) (givenAt (begun l) .faces) (now l .tables .parents) (front (now l)) (climbed.At (top c))
+    Climb (rightOf (givenAt (begun l) .lefts)) (givenAt (begun l) .darts) (givenAt (begun l) .faces) (now l .tables .parents) (front (now l))
+    (climbed.At (top c))
 above c =
     let a = asked c in
     let l = looping a in
