@@ -8,7 +8,7 @@ use lib.ListN.{length, set, take, length-set}
 use lib.Seq.{getD-take, length-take-le}
 use lib.IntN.{ℤ, pos}
 use Rattle.arrays.specs.At.{at, atℤ}
-use Rattle.search.specs.Dual.{Dual, WellFormed, Joined}
+use Rattle.search.specs.Dual.{WellFormed, Joined}
 use Rattle.search.specs.Level.{far}
 use Rattle.search.specs.Moves.{Begun}
 use Rattle.search.specs.Trace.{Given, dual, tablesOf}

@@ -1,30 +1,27 @@
--- Document 02, Job 3, of every run of the search: what holds between its looks, and first come, first looked at.
+-- Between the looks of a run: the flags tell who fell since it was last looked at, and who waits keeps its place.
 use mathlib.Core.Path.{_≡_, refl, sym, _∙_, ap, subst}
 use mathlib.Core.Logic.{_⊎_, inl, inr}
-use mathlib.Core.List.{List, [], _∷_}
+use mathlib.Core.List.{List, _∷_}
 use Prim.Native.Nat.{ℕ, zero, suc, _+_, _≤_, _<_}
 use native.Mathlib.Omega.{arith}
 use native.Mathlib.Decide.{ℕ-discrete, decLt}
-use lib.ListN.{length, take}
-use lib.IntN.{ℤ, _+ℤ_}
+use lib.IntN.{ℤ}
 use Rattle.integers.proofs.Laws.{lt-le-clash}
 use Rattle.integers.proofs.Pigeonhole.{seek}
 use Rattle.arrays.specs.At.{at, atℤ}
-use Rattle.search.specs.Dual.{Dual, WellFormed, Joined}
+use Rattle.search.specs.Dual.{WellFormed}
 use Rattle.search.specs.Level.{CanLower}
 use Rattle.search.specs.Queue.{faceAt}
 use Rattle.search.specs.Moves.{Begun}
-use Rattle.search.specs.Trace.{Given, dual, InGroups, Tables, Configuration, front, Crosses, done, keep, lower, Step, look, turn, Goes, stay, go, start}
+use Rattle.search.specs.Trace.{Given, dual, InGroups, Tables, Configuration, front, Crosses, done, keep, lower, Step, look, turn, Goes, stay, go}
 use Rattle.search.specs.History.{Event, fell, looked, crossed, stepped, history, firstLevels, FellSince, now, before-fall, before-look}
-use Rattle.search.specs.BetweenLooks.{WaitsAt, Waits, BetweenLooks, FirstCome}
-use Rattle.search.specs.Progress.{Passing}
+use Rattle.search.specs.Waiting.{WaitsAt, Waits}
 use Rattle.search.proofs.Change.{Changed}
 use Rattle.search.proofs.Trying.{Trying, off-flag, begin-trying, try-left, try-keep, try-lower, lower-flag, lower-longer, lower-kept}
-use Rattle.search.proofs.Beginning.{root-face, begun-passing}
-use Rattle.search.proofs.Run.{PassingAt, not-last, step-passing, goes-passing, goes-then}
+use Rattle.search.proofs.Run.{PassingAt, not-last, step-passing}
 
 -- ── the flags tell who fell since it was last looked at ──
-record Told (faces : ℕ) (waiting : List ℕ) (past : List Event) : Type 0 where
+pub record Told (faces : ℕ) (waiting : List ℕ) (past : List Event) : Type 0 where
   fallen : (f : ℕ) → f < faces → at waiting f ≡ 1 → FellSince f past
   flagged : (f : ℕ) → FellSince f past → (f < faces) × (at waiting f ≡ 1)
 
@@ -69,7 +66,7 @@ unfolding firstLevels
 fell-root queue (suc m) f (now e) = (m, omega arith, e)
 fell-root queue (suc m) f (before-fall h) = let r = fell-root queue m f h in (r .0, omega (arith, r .1), r .2)
 
-begun-told : {ρ : List ℤ} {parents waiting : List ℕ} (faces : ℕ) (queue : List ℕ) (roots : ℕ) → faces ≤ 1024 → ((m : ℕ) → m < roots → at queue m < faces)
+pub begun-told : {ρ : List ℤ} {parents waiting : List ℕ} (faces : ℕ) (queue : List ℕ) (roots : ℕ) → faces ≤ 1024 → ((m : ℕ) → m < roots → at queue m < faces)
     → Begun ρ parents waiting queue roots → Told faces waiting (firstLevels queue roots)
 begun-told {waiting = waiting} faces queue roots few inside b = record { fallen = λ f l h. by f l h (seek (at queue) f roots); flagged = flagged' }
   where
@@ -129,59 +126,64 @@ module _ (G : Given) (roots : List ℕ) (sound : WellFormed (dual G roots)) (g :
   step-kept {c} r (turn l n) = let same : c .first ≤ c .first = omega arith in (same, record { longer = omega arith; places = λ m a b. refl })
 
   -- ── along a run ──
-  goes-told : {c d : Configuration} (past : List Event) → PassingAt (dual G roots) c → (p : Goes G c d) → Told (G .faces) (c .tables .waiting) past
+  pub goes-told : {c d : Configuration} (past : List Event) → PassingAt (dual G roots) c → (p : Goes G c d) → Told (G .faces) (c .tables .waiting) past
       → Told (G .faces) (d .tables .waiting) (history p past)
   unfolding history
   goes-told past r stay h = h
   goes-told past r (go s p) h = goes-told (stepped s past) (step-passing G roots sound g r s) p (step-told past r s h)
 
-  goes-kept : {c d : Configuration} → PassingAt (dual G roots) c → Goes G c d → FirstCome c d
-  goes-kept r stay = (omega arith, omega arith, λ i f w b. w)
+  goes-kept : {c d : Configuration} → PassingAt (dual G roots) c → Goes G c d
+      → (c .first ≤ d .first) × Kept (d .first) (c .tables .last) (c .tables .queue) (d .tables .last) (d .tables .queue)
+  goes-kept r stay = (omega arith, record { longer = omega arith; places = λ m a b. refl })
   goes-kept {c} r (go {d = e} s p) =
       let k = step-kept r s in
       let h = goes-kept (step-passing G roots sound g r s) p in (
         omega (arith, k .0, h .0),
-        omega (arith, k .1 .longer, h .1),
-        λ i f w b. h .2 i f (omega (arith, h .0), omega (arith, w .1, k .1 .longer), k .1 .places i (omega (arith, h .0)) (w .1) ∙ w .2) b,
+        record {
+          longer = omega (arith, k .1 .longer, h .1 .longer);
+          places = λ m a b. h .1 .places m a (omega (arith, k .1 .longer)) ∙ k .1 .places m (omega (arith, h .0)) b;
+        },
       )
 
-  between : {c : Configuration} {past : List Event} → PassingAt (dual G roots) c → Told (G .faces) (c .tables .waiting) past
-      → BetweenLooks (dual G roots) c past
-  between {c} {past} r h = record {
-    once = λ i j f a b. same i j f a b (decLt i j) (decLt j i);
-    only = λ d l can. lowers d l can (ℕ-discrete (at (c .tables .waiting) (dual G roots .right d)) 1);
-    fell = λ f w. subst (λ x. FellSince x past) (w .1 .2)
-        (h .fallen (faceAt (c .tables .queue) (w .0)) (r .line .inside (w .0) (w .1 .0) (w .1 .1)) (r .line .flagged (w .0) (w .1 .0) (w .1 .1)));
-    waits = λ f e. let w = h .flagged f e in place f (w .0) (w .1);
-  }
-    where
-      same : (i j f : ℕ) → WaitsAt c i f → WaitsAt c j f → Dec (i < j) → Dec (j < i) → i ≡ j
-      same i j f a b (yes l) m = absurd (r .line .once i j (a .0) l (b .1) (a .2 ∙ sym (b .2)))
-      same i j f a b (no l) (yes m) = absurd (r .line .once j i (b .0) m (a .1) (b .2 ∙ sym (a .2)))
-      same i j f a b (no l) (no m) = omega (arith, l, m)
+  -- ── what is true between looks, in the words of the statements ──
+  module _ (c : Configuration) (r : PassingAt (dual G roots) c) where
+    pub once : (i j f : ℕ) → WaitsAt c i f → WaitsAt c j f → i ≡ j
+    once i j f a b = by (decLt i j) (decLt j i)
+      where
+        by : Dec (i < j) → Dec (j < i) → i ≡ j
+        by (yes l) m = absurd (r .line .once i j (a .0) l (b .1) (a .2 ∙ sym (b .2)))
+        by (no l) (yes m) = absurd (r .line .once j i (b .0) m (a .1) (b .2 ∙ sym (a .2)))
+        by (no l) (no m) = omega (arith, l, m)
 
-      place : (f : ℕ) → f < G .faces → at (c .tables .waiting) f ≡ 1 → Waits c f
-      place f l e = let s = r .line .stands f l e in (s .0, (s .1, s .2, s .3))
+    place : (f : ℕ) → f < G .faces → at (c .tables .waiting) f ≡ 1 → Waits c f
+    place f l e = let s = r .line .stands f l e in (s .0, (s .1, s .2, s .3))
 
-      lowers : (d : ℕ) → d < G .darts → CanLower (dual G roots) (atℤ (c .tables .potentials)) d
-          → Dec (at (c .tables .waiting) (dual G roots .right d) ≡ 1) → Waits c (dual G roots .right d)
-      lowers d l can (yes e) = place (dual G roots .right d) (sound .right-in d l) e
-      lowers d l can (no n) = absurd (lt-le-clash (can .1) (r .quiet .quiet d l (λ a. a) n (can .0)))
+    pub only-waiting : (d : ℕ) → d < G .darts → CanLower (dual G roots) (atℤ (c .tables .potentials)) d → Waits c (dual G roots .right d)
+    only-waiting d l can = by (ℕ-discrete (at (c .tables .waiting) (dual G roots .right d)) 1)
+      where
+        by : Dec (at (c .tables .waiting) (dual G roots .right d) ≡ 1) → Waits c (dual G roots .right d)
+        by (yes e) = place (dual G roots .right d) (sound .right-in d l) e
+        by (no n) = absurd (lt-le-clash (can .1) (r .quiet .quiet d l (λ a. a) n (can .0)))
 
--- ── the promises of Job 3, of a search from its beginning on ──
-module _ (G : Given) (queue : List ℕ) (roots : ℕ) (size : length queue ≡ 1024) (few : roots ≤ 1024)
-    (sound : WellFormed (dual G (take roots queue))) (joined : Joined (dual G (take roots queue))) (g : InGroups G)
-    {potentials : List ℤ} {parents waiting : List ℕ} (b : Begun potentials parents waiting queue roots) where
-  -- in every configuration that it passes
-  pub between-looks : {c : Configuration} (run : Goes G (start G potentials parents waiting queue roots) c)
-      → BetweenLooks (dual G (take roots queue)) c (history run (firstLevels queue roots))
-  between-looks run =
-      let r = begun-passing G queue roots size few sound joined b in
-      between G (take roots queue) sound g (goes-passing G (take roots queue) sound g r run)
-      (goes-told G (take roots queue) sound g (firstLevels queue roots) r run
-      (begun-told (G .faces) queue roots (sound .few-faces) (root-face G queue roots size few sound) b))
+    pub waits-fell : {past : List Event} → Told (G .faces) (c .tables .waiting) past → (f : ℕ) → Waits c f → FellSince f past
+    waits-fell {past} h f w =
+        let i = w .0 in
+        let l = w .1 in
+        subst (λ x. FellSince x past) (l .2)
+        (h .fallen (faceAt (c .tables .queue) i) (r .line .inside i (l .0) (l .1)) (r .line .flagged i (l .0) (l .1)))
 
-  -- from each of them on to each later one
-  pub first-come : {c d : Configuration} → Goes G (start G potentials parents waiting queue roots) c → Goes G c d → FirstCome c d
-  first-come run more =
-      goes-kept G (take roots queue) sound g (goes-passing G (take roots queue) sound g (begun-passing G queue roots size few sound joined b) run) more
+    pub fell-waits : {past : List Event} → Told (G .faces) (c .tables .waiting) past → (f : ℕ) → FellSince f past → Waits c f
+    fell-waits h f e = let w = h .flagged f e in place f (w .0) (w .1)
+
+    pub front-waits : c .first < c .stop → Waits c (front c)
+    front-waits l = (c .first, (omega arith, omega (arith, r .after), refl))
+
+    pub kept-place : {d : Configuration} → Goes G c d → (i f : ℕ) → WaitsAt c i f → d .first ≤ i → WaitsAt d i f
+    kept-place p i f w l = let k = goes-kept r p in (l, omega (arith, w .1, k .1 .longer), k .1 .places i l (w .1) ∙ w .2)
+
+    pub came-behind : {d : Configuration} → Goes G c d → (i f : ℕ) → WaitsAt d i f → WaitsAt c i f ⊎ (c .tables .last ≤ i)
+    came-behind {d} p i f w = by (decLt i (c .tables .last))
+      where
+        by : Dec (i < c .tables .last) → WaitsAt c i f ⊎ (c .tables .last ≤ i)
+        by (yes l) = let k = goes-kept r p in inl (omega (arith, k .0, w .0), l, sym (k .1 .places i (w .0) l) ∙ w .2)
+        by (no n) = inr (omega (arith, n))

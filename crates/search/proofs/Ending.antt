@@ -4,11 +4,7 @@ use mathlib.Core.List.{List}
 use Prim.Native.Nat.{ℕ, _≤_}
 use lib.ListN.{length, take}
 use lib.IntN.{ℤ}
-use Rattle.arrays.specs.At.{at, atℤ}
-use Rattle.search.specs.Dual.{Dual, WellFormed, Joined}
-use Rattle.search.specs.Walk.{Ring}
-use Rattle.search.specs.Settled.{Settled}
-use Rattle.search.specs.Parents.{ParentRing}
+use Rattle.search.specs.Dual.{WellFormed, Joined}
 use Rattle.search.specs.Answer.{Answer}
 use Rattle.search.specs.Trace.{Given, dual, InGroups, Configuration, Ends, Searches}
 use Rattle.search.specs.declared.Outcome.{Outcome}

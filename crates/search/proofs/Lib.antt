@@ -15,5 +15,6 @@ pub mod Run
 pub mod Ending
 pub mod Between
 pub mod Determined
+pub mod Statements
 pub mod OfMap
 pub mod Examples

@@ -9,5 +9,6 @@ pub mod Queue
 pub mod Moves
 pub mod Trace
 pub mod History
-pub mod BetweenLooks
+pub mod Waiting
+pub mod Statements
 pub mod Progress

@@ -5,28 +5,26 @@ use mathlib.Core.Bool.{true, false}
 use mathlib.Core.List.{List, [], _∷_, _++_}
 use Prim.Native.Nat.{ℕ, _+_, _*_, _≤_, _<_}
 use native.Mathlib.Omega.{arith}
-use lib.ListN.{length, drop}
-use lib.IntN.{ℤ, pos, negsuc, negℤ, _+ℤ_, _-ℤ_, _*ℤ_}
+use lib.ListN.{drop}
+use lib.IntN.{ℤ, pos, negsuc, _+ℤ_, _-ℤ_, _*ℤ_}
 use lib.Signed.{mag, _≤ℤ_, _<ℤ_}
 use Rattle.integers.specs.Limited.{Limited}
-use Rattle.integers.specs.Sum.{Integers, sumℤ, when}
-use Rattle.integers.proofs.Omega.{atoms₂, atoms₃, atoms₄, parts, equal, at-most, from-equal, from-at-most}
+use Rattle.integers.specs.Sum.{Integers, when}
+use Rattle.integers.proofs.Omega.{atoms₄, parts, equal, from-at-most}
 use Rattle.integers.proofs.Sums.{sum-ext}
 use Rattle.maps.specs.Dart.{rev}
 use Rattle.maps.specs.Map.{Map, darts}
 use Rattle.maps.specs.Face.{left, right, faces}
 use Rattle.maps.specs.Cut.{leaves, cut}
-use Rattle.maps.specs.Flow.{Antisymmetric}
 use Rattle.maps.proofs.Darts.{rev-in}
 use Rattle.maps.proofs.Faces.{left-in}
 use Rattle.flows.specs.ZeroFace.{ZeroFace}
 use Rattle.flows.specs.Highest.{Highest}
-use Rattle.flows.specs.ProvingSet.{Proves}
 use Rattle.flows.proofs.Plane.{one-part}
 use Rattle.flows.specs.UnitFlow.{UnitFlow}
 use Rattle.flows.specs.Lengths.{lengthFor, Feasible, edgeFlow}
 use Rattle.flows.proofs.HighestFlow.{top-is-highest}
-use Rattle.flows.proofs.Exact.{negative-proves, length-pairs}
+use Rattle.flows.proofs.Exact.{negative-proves}
 use Rattle.arrays.specs.At.{at, atℤ}
 use Rattle.arrays.proofs.Tabulate.{tabulate-ext}
 use Rattle.arrays.specs.Filled.{filled}
