@@ -11,7 +11,8 @@ use Rattle.arrays.specs.At.{at, atℤ}
 use Rattle.search.specs.Dual.{WellFormed, Joined}
 use Rattle.search.specs.Level.{far}
 use Rattle.search.specs.Moves.{Begun}
-use Rattle.search.specs.Trace.{Given, dual, tablesOf}
+use Rattle.search.specs.Given.{Given, dual}
+use Rattle.search.specs.Configuration.{tablesOf}
 use Rattle.search.specs.Progress.{Passing}
 use Rattle.search.proofs.Change.{Changed, stored}
 use Rattle.search.proofs.Rounds.{begin-rounds}

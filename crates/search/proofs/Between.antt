@@ -13,7 +13,10 @@ use Rattle.search.specs.Dual.{WellFormed}
 use Rattle.search.specs.Level.{CanLower}
 use Rattle.search.specs.Queue.{faceAt}
 use Rattle.search.specs.Moves.{Begun}
-use Rattle.search.specs.Trace.{Given, dual, InGroups, Tables, Configuration, front, Crosses, done, keep, lower, Step, look, turn, Goes, stay, go}
+use Rattle.search.specs.Given.{Given, dual, InGroups}
+use Rattle.search.specs.Configuration.{Tables, Configuration, front}
+use Rattle.search.specs.Look.{Crosses, done, keep, lower}
+use Rattle.search.specs.Trace.{Step, look, turn, Goes, stay, go}
 use Rattle.search.specs.History.{Event, fell, looked, crossed, stepped, history, firstLevels, FellSince, now, before-fall, before-look}
 use Rattle.search.specs.Waiting.{WaitsAt, Waits}
 use Rattle.search.proofs.Change.{Changed}

@@ -13,8 +13,11 @@ use Rattle.arrays.specs.At.{at, atℤ}
 use Rattle.arrays.specs.Maps.{rightOf}
 use Rattle.search.specs.Queue.{Pushed}
 use Rattle.search.specs.Moves.{Begun, Climb}
-use Rattle.search.specs.Trace.{Given, Tables, tablesOf, Configuration, configuration, front, Crosses, done, keep, lower}
-use Rattle.search.specs.Trace.{due, Unringed, Step, look, turn, Goes, stay, go, Ends, start, Searches}
+use Rattle.search.specs.Given.{Given}
+use Rattle.search.specs.Configuration.{Tables, tablesOf, Configuration, configuration, front}
+use Rattle.search.specs.Look.{Crosses, done, keep, lower}
+use Rattle.search.specs.Due.{due, Unringed}
+use Rattle.search.specs.Trace.{Step, look, turn, Goes, stay, go, Ends, start, Searches}
 use Rattle.search.specs.declared.Outcome.{Outcome}
 use Rattle.search.specs.declared.Outcome.the-variants as outcome
 use Rattle.search.specs.declared.Climbed.the-variants as climbed

@@ -6,7 +6,9 @@ use lib.ListN.{length, take}
 use lib.IntN.{ℤ}
 use Rattle.search.specs.Dual.{WellFormed, Joined}
 use Rattle.search.specs.Answer.{Answer}
-use Rattle.search.specs.Trace.{Given, dual, InGroups, Configuration, Ends, Searches}
+use Rattle.search.specs.Given.{Given, dual, InGroups}
+use Rattle.search.specs.Configuration.{Configuration}
+use Rattle.search.specs.Trace.{Ends, Searches}
 use Rattle.search.specs.declared.Outcome.{Outcome}
 use Rattle.search.specs.declared.Outcome.the-variants as outcome
 use Rattle.search.proofs.Rounds.{end-settled, end-ring}

@@ -9,6 +9,7 @@ use Rattle.maps.specs.Dart.{rev}
 use Rattle.search.specs.Dual.{Dual, dualOf, WellFormed, Joined}
 use Rattle.search.specs.Walk.{Walk, here, onward, stay, cross, total, Ring}
 use Rattle.search.specs.Settled.{Settled}
+use Rattle.search.specs.History.{fell, looked, FellSince, now, before-look}
 use Rattle.search.proofs.OfMap.{one-root}
 
 -- the two darts of one edge, of these lengths; the face 0 is left of the dart 0, the face 1 left of the dart 1
@@ -63,3 +64,10 @@ edge-settled = record {
 pub edge-ring : Ring (edge (pos 1) (negsuc 1)) 0
 unfolding rev total
 edge-ring = record { around = 1 ∷ 0 ∷ []; closed = cross 1 (omega arith) refl (cross 0 (omega arith) refl stay); negative = ltZ-yes tt }
+
+-- ── what it is to have fallen since ──
+looked-last : FellSince 1 (looked 1 ∷ fell 1 ∷ []) → ⊥
+looked-last (before-look c h) = c refl
+
+fell-again : FellSince 1 (looked 0 ∷ fell 1 ∷ looked 1 ∷ fell 1 ∷ [])
+fell-again = before-look {g = 0} (λ e. omega (arith, e)) (now {g = 1} refl)

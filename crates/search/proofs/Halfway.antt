@@ -9,7 +9,9 @@ use Rattle.arrays.specs.At.{at}
 use Rattle.search.specs.Dual.{WellFormed}
 use Rattle.search.specs.Queue.{faceAt, Pushed}
 use Rattle.search.specs.Moves.{Relaxed}
-use Rattle.search.specs.Trace.{Given, dual, InGroups, Tables, tablesOf, Crosses, done, keep, lower}
+use Rattle.search.specs.Given.{Given, dual, InGroups}
+use Rattle.search.specs.Configuration.{Tables, tablesOf}
+use Rattle.search.specs.Look.{Crosses, done, keep, lower}
 use Rattle.search.specs.Progress.{Looking}
 use Rattle.search.proofs.Trying.{Trying, begin-trying, try-keep, try-lower}
 

@@ -17,7 +17,7 @@ use Rattle.search.specs.Parents.{up, ParentRing}
 use Rattle.search.specs.Level.{far}
 use Rattle.search.specs.Queue.{faceAt, Stands}
 use Rattle.search.specs.Moves.{Begun}
-use Rattle.search.specs.Trace.{Tables, tablesOf}
+use Rattle.search.specs.Configuration.{Tables, tablesOf}
 use Rattle.search.specs.Progress.{Line, Passing}
 use Rattle.search.proofs.Line.{line-few}
 use Rattle.search.proofs.Turning.{turn, begin-state, begin-quiet}

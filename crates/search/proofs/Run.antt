@@ -10,8 +10,11 @@ use Rattle.arrays.specs.Maps.{rightOf}
 use Rattle.search.specs.Dual.{Dual, WellFormed}
 use Rattle.search.specs.Queue.{faceAt}
 use Rattle.search.specs.Moves.{Climb}
-use Rattle.search.specs.Trace.{Given, dual, InGroups, Tables, Configuration, configuration, front}
-use Rattle.search.specs.Trace.{Crosses, done, keep, lower, LookAt, due, Unringed, Step, look, turn, Goes, stay, go, Ends}
+use Rattle.search.specs.Given.{Given, dual, InGroups}
+use Rattle.search.specs.Configuration.{Tables, Configuration, configuration, front}
+use Rattle.search.specs.Look.{Crosses, done, keep, lower, LookAt}
+use Rattle.search.specs.Due.{due, Unringed}
+use Rattle.search.specs.Trace.{Step, look, turn, Goes, stay, go, Ends}
 use Rattle.search.specs.declared.Outcome.the-variants as outcome
 use Rattle.search.specs.declared.Climbed.{Climbed}
 use Rattle.search.specs.declared.Climbed.the-variants as climbed

@@ -2,7 +2,8 @@
 use mathlib.Core.List.{List}
 use Prim.Native.Nat.{ℕ}
 use lib.ListN.{take}
-use Rattle.search.specs.Trace.{Given, dual, Configuration, front}
+use Rattle.search.specs.Given.{Given, dual}
+use Rattle.search.specs.Configuration.{Configuration, front}
 use Rattle.search.specs.Statements.{ComesTo, past, WhereALevelFell}
 use Rattle.search.proofs.Beginning.{root-face, begun-passing}
 use Rattle.search.proofs.Run.{PassingAt, goes-passing}

@@ -12,7 +12,7 @@ use Rattle.grouping.specs.Grouped.{Grouped}
 use Rattle.search.specs.Dual.{Dual, WellFormed}
 use Rattle.search.specs.Level.{far}
 use Rattle.search.specs.Queue.{faceAt, Stands, Pushed}
-use Rattle.search.specs.Trace.{Tables, tablesOf}
+use Rattle.search.specs.Configuration.{Tables, tablesOf}
 use Rattle.search.specs.Progress.{State, Quiet, Line, Passing}
 use Rattle.search.proofs.Change.{Changed, stored, unchanged}
 use Rattle.search.proofs.Line.{line-push, line-take, push-old, push-stands}

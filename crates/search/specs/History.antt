@@ -4,7 +4,10 @@ use mathlib.Core.Path.{_≡_}
 use mathlib.Core.List.{List, [], _∷_}
 use Prim.Native.Nat.{ℕ, zero, suc}
 use Rattle.arrays.specs.At.{at}
-use Rattle.search.specs.Trace.{Given, Tables, Configuration, front, Crosses, done, keep, lower, Step, look, turn, Goes, stay, go}
+use Rattle.search.specs.Given.{Given}
+use Rattle.search.specs.Configuration.{Tables, Configuration, front}
+use Rattle.search.specs.Look.{Crosses, done, keep, lower}
+use Rattle.search.specs.Trace.{Step, look, turn, Goes, stay, go}
 
 pub data Event : Type 0 where
   fell : ℕ → Event

@@ -7,6 +7,10 @@ pub mod Answer
 pub mod Level
 pub mod Queue
 pub mod Moves
+pub mod Given
+pub mod Configuration
+pub mod Look
+pub mod Due
 pub mod Trace
 pub mod History
 pub mod Waiting

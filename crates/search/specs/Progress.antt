@@ -10,7 +10,7 @@ use Rattle.search.specs.Dual.{Dual, WellFormed, longest}
 use Rattle.search.specs.Walk.{Walk}
 use Rattle.search.specs.Level.{far}
 use Rattle.search.specs.Queue.{faceAt, Stands}
-use Rattle.search.specs.Trace.{Tables}
+use Rattle.search.specs.Configuration.{Tables}
 
 -- After n lowerings, in round k, with the faces in `passed` behind it. There are numbers for each face, which no array holds: how many lowerings
 -- there had been when it last fell, and the round that it is of, one more than the one in which it last fell.

@@ -11,7 +11,9 @@ use Rattle.arrays.specs.At.{atℤ}
 use Rattle.search.specs.Dual.{WellFormed, Joined}
 use Rattle.search.specs.Level.{CanLower}
 use Rattle.search.specs.Moves.{Begun}
-use Rattle.search.specs.Trace.{Given, dual, InGroups, Configuration, front, Goes, start, Searches}
+use Rattle.search.specs.Given.{Given, dual, InGroups}
+use Rattle.search.specs.Configuration.{Configuration, front}
+use Rattle.search.specs.Trace.{Goes, start, Searches}
 use Rattle.search.specs.History.{Event, history, firstLevels, FellSince}
 use Rattle.search.specs.Waiting.{WaitsAt, Waits}
 use Rattle.search.specs.declared.Outcome.{Outcome}

@@ -2,7 +2,7 @@
 use mathlib.Core.Path.{_≡_}
 use Prim.Native.Nat.{ℕ, _≤_, _<_}
 use Rattle.search.specs.Queue.{faceAt}
-use Rattle.search.specs.Trace.{Configuration}
+use Rattle.search.specs.Configuration.{Configuration}
 
 abbrev pub WaitsAt : Configuration → (i f : ℕ) → Type 0
 WaitsAt c i f = (c .first ≤ i) × (i < c .tables .last) × (faceAt (c .tables .queue) i ≡ f)

@@ -14,7 +14,11 @@ ghost use Rattle.search.specs.Dual.{dualOf, WellFormed, Joined};
 ghost use Rattle.search.specs.Answer.{Answer};
 ghost use Rattle.search.specs.Queue.{faceAt, Pushed};
 ghost use Rattle.search.specs.Moves.{Begun, Relaxed, Climb};
-ghost use Rattle.search.specs.Trace.{given, tablesOf, LookAt, dueNow, Searches};
+ghost use Rattle.search.specs.Given.{given};
+ghost use Rattle.search.specs.Configuration.{tablesOf};
+ghost use Rattle.search.specs.Look.{LookAt};
+ghost use Rattle.search.specs.Due.{dueNow};
+ghost use Rattle.search.specs.Trace.{Searches};
 ghost use Rattle.search.specs.Progress.{Looking};
 
 // Settled potentials, or the dart that closes a ring.

@@ -4,7 +4,8 @@ use Prim.Native.Nat.{_+_, _-_, _≤_, _<_}
 use native.Mathlib.Omega.{arith}
 use borrow.Author.Needs.{needs}
 use Rattle.arrays.specs.At.{at}
-use Rattle.search.specs.Trace.{Given, given, tablesOf}
+use Rattle.search.specs.Given.{Given, given}
+use Rattle.search.specs.Configuration.{tablesOf}
 use Rattle.search.proofs.Trying.{looked-in, try-in, try-left, try-near, try-few}
 use Rattle.search.proofs.Halfway.{Halfway, look-begins, look-keeps, look-lowers, look-ends}
 use Rattle.search.proofs.look.Statement.{statement}

@@ -11,7 +11,10 @@ use Rattle.arrays.specs.At.{at}
 use Rattle.arrays.specs.Maps.{rightOf}
 use Rattle.search.specs.Answer.{Answer}
 use Rattle.search.specs.Moves.{Climb}
-use Rattle.search.specs.Trace.{Given, given, dual, tablesOf, Configuration, configuration, front, due, Unringed, turn, Goes, stay, Ends, Searches}
+use Rattle.search.specs.Given.{Given, given, dual}
+use Rattle.search.specs.Configuration.{tablesOf, Configuration, configuration, front}
+use Rattle.search.specs.Due.{due, Unringed}
+use Rattle.search.specs.Trace.{turn, Goes, stay, Ends, Searches}
 use Rattle.search.specs.declared.Outcome.{Outcome}
 use Rattle.search.specs.declared.Outcome.the-variants as outcome
 use Rattle.search.specs.declared.Climbed.the-variants as climbed
