@@ -93,7 +93,7 @@ step-one (turn l n) (look m l' w q) = absurd (omega arith)
 step-one (turn l n) (turn l' n') = refl
 
 -- ── one end ──
-pub goes-one : {G : Given} {c d e : Configuration} (o p : Outcome) → Goes G c d → Ends G d o → Goes G c e → Ends G e p → (o ≡ p) × (d ≡ e)
+goes-one : {G : Given} {c d e : Configuration} (o p : Outcome) → Goes G c d → Ends G d o → Goes G c e → Ends G e p → (o ≡ p) × (d ≡ e)
 goes-one {G} {c} o p stay h stay k = (ends-one G c o p h k, refl)
 goes-one o p stay h (go s q) k = absurd (ends-stop o h s)
 goes-one o p (go s q) h stay k = absurd (ends-stop p k s)

@@ -59,7 +59,7 @@ module _ {faces : ℕ} {waiting queue : List ℕ} {first last : ℕ} (h : Line f
           by (no q) = h .once (first + i) (first + j) (omega arith) (omega arith) (omega arith) (sym i-old ∙ e ∙ c .off j q)
 
   -- where a face does not wait there is one less
-  pub line-room : (f : ℕ) → f < faces → (at waiting f ≡ 1 → ⊥) → last < first + faces
+  line-room : (f : ℕ) → f < faces → (at waiting f ≡ 1 → ⊥) → last < first + faces
   line-room f l off = room-with f l off (change row (last - first) f) (changed row (last - first) f)
 
   -- ── a face comes ──

@@ -48,7 +48,7 @@ module _ {N : Dual} (sound : WellFormed N) {ρ : ℕ → ℤ} {parent waiting : 
   v-set : v ≡ far → ⊥
   v-set = near-not-far v (omega (arith, v-near))
 
-  pub falls : (x : ℕ) → ρ' x ≤ℤ ρ x
+  falls : (x : ℕ) → ρ' x ≤ℤ ρ x
   falls x = by (ℕ-discrete x f)
     where
       by : Dec (x ≡ f) → ρ' x ≤ℤ ρ x

@@ -239,7 +239,11 @@ loop-again c =
     (looks (givenAt (begun l)) (now l) (a .due .result) (a .due .ensures) (a .before .wide .result) (a .before .wide .ensures)
     (j .if1 .next) _ (some a) (unringed j) (c .look .ensures))
 
--- ── the end of a round ──
+-- ── the end of a round: none waits, or another begins ──
+settled : (c : tie.Then2 Inv-loop μ-loop Inv-search μ-search)
+    → let l = c .before .before in Ends (givenAt (begun l)) (now l) outcome.Settled
+settled c = (c .before .loop-test .left, c .if2 .taken)
+
 add-round : tie.Need-add-round Inv-loop μ-loop Inv-search μ-search
 add-round c = let l = c .before .before in record { fits = omega (arith, passing l .k-in, begun l .pre .0 .few-faces) }
 
@@ -282,8 +286,7 @@ returns c =
 returns-2 : tie.Need-returns-2 Inv-loop μ-loop Inv-search μ-search
 returns-2 c =
     let l = c .before .before in
-    let e : Ends (givenAt (begun l)) (now l) outcome.Settled = (c .before .loop-test .left, c .if2 .taken) in
-    (answer l outcome.Settled e, searches l outcome.Settled e)
+    (answer l outcome.Settled (settled c), searches l outcome.Settled (settled c))
 
 pub search-spec : {M : Type 1} → statement M
 search-spec =
