@@ -28,7 +28,7 @@ static int32_t limits[ANALYSER_MAX_DARTS], settings[ANALYSER_MAX_CHANNELS], agai
 static int32_t least;
 static uint64_t set[ANALYSER_SET_WORDS], below[ANALYSER_SET_WORDS];
 static uint8_t answer, result;
-static uint16_t nodes, channels, size, place;
+static uint16_t nodes, channels, outer, size, place;
 static long number;
 
 static void solve(void) {
@@ -42,11 +42,12 @@ static void range(void) {
                                         ANALYSER_MAX_CHANNELS, set, ANALYSER_SET_WORDS, &answer, &least, &value, &place);
 }
 static void read_sheet(void) {
-    result = analyser_read(sheet, sheet_length, tails, ANALYSER_MAX_DARTS, turns, ANALYSER_MAX_DARTS, limits, ANALYSER_MAX_DARTS, &nodes, &channels, &place);
+    result = analyser_read(sheet, sheet_length, tails, ANALYSER_MAX_DARTS, turns, ANALYSER_MAX_DARTS, limits, ANALYSER_MAX_DARTS, &nodes, &channels, &outer,
+                           &place);
 }
 static void write_sheet(void) {
     size_t darts = 2 * (size_t)channels;
-    result = analyser_write(nodes, tails, darts, turns, darts, limits, darts, written, sizeof written, &length, &place);
+    result = analyser_write(nodes, outer, tails, darts, turns, darts, limits, darts, written, sizeof written, &length, &place);
 }
 static void mark(void) { result = analyser_mark(sheet, sheet_length, source, sink, settings, ANALYSER_MAX_CHANNELS, &value, &place); }
 static void levels_from_settings(void) {
@@ -66,7 +67,10 @@ static void tell_value(void) { number = value; }
 static void tell_channels(void) { number = channels; }
 static void tell_written(void) {
     number = (long)length;
-    answer = length == sheet_length && memcmp(written, sheet, length) == 0;
+    // of a head of kind 1 the same counts and channels come back, behind kind 4 and with dart 0
+    size_t head = sheet[0] == 4 ? 7 : 5, dart = written[5] | written[6] << 8;
+    answer = length == sheet_length + 7 - head && written[0] == 4 && memcmp(written + 1, sheet + 1, 4) == 0 && dart == outer &&
+             memcmp(written + 7, sheet + head, sheet_length - head) == 0;
 }
 static void tell_settings(void) { answer = memcmp(settings, again, (size_t)channels * sizeof settings[0]) == 0; }
 static void tell_nothing(void) {}

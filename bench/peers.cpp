@@ -46,7 +46,7 @@ char path[4096]; // of the sheet that is asked
 int32_t settings[ANALYSER_MAX_CHANNELS];
 uint64_t set[ANALYSER_SET_WORDS];
 uint8_t answer;
-uint16_t size, place;
+uint16_t size, outer, place;
 int32_t value;
 
 bool solve(const Sheet &s, int delivery) {
@@ -194,7 +194,8 @@ struct Question {
         s.bytes.resize(65536);
         s.bytes.resize(std::fread(s.bytes.data(), 1, s.bytes.size(), file));
         std::fclose(file);
-        if (analyser_read(s.bytes.data(), s.bytes.size(), s.tails, ANALYSER_MAX_DARTS, s.turns, ANALYSER_MAX_DARTS, s.limits, ANALYSER_MAX_DARTS, &s.nodes, &s.channels, &place) != 0)
+        if (analyser_read(s.bytes.data(), s.bytes.size(), s.tails, ANALYSER_MAX_DARTS, s.turns, ANALYSER_MAX_DARTS, s.limits, ANALYSER_MAX_DARTS, &s.nodes, &s.channels,
+                          &outer, &place) != 0)
             fail("Read refused");
         s.source = source;
         s.sink = sink;

@@ -19,8 +19,9 @@
 //
 // A SHEET is a head and then its channels in order, nothing after. Fields are little-endian; a limit is signed, in two's complement.
 //
-//     byte 0             1, the kind of a head
+//     byte 0             1 or 4, the kind of a head
 //     bytes 1-2, 3-4     number of nodes, number of channels
+//     bytes 5-6          kind 4 only: a dart on the outer face, the face left of it. Kind 1 is read as if it named dart 0, which lies on face 0
 //     then for each channel, 17 bytes:
 //     byte 0             2, the kind of a channel
 //     bytes 1-2, 3-4     tail, head
@@ -31,7 +32,9 @@
 // or ANALYSER_KEY_INPUT_BYTES + 1 for a question with its sheet. Bytes left over are refused with 8, and a buffer
 // of exactly the longest would hide them. What lies beyond that one byte changes no answer.
 //
-// THE SHEET CHECKS, in order. Head: 1 no first byte, 2, 1 body cut short, 3.
+// THE OUTER FACE is the one at level 0: of all right settings it says which are the highest, and it is what 20 looks at. Face numbers do not depend on it.
+//
+// THE SHEET CHECKS, in order. Head: 1 no first byte, 2, 1 body cut short, 3, 24.
 // For each channel in turn: 1 no byte, 2, 1 body cut short, 4, 5, 6, 7. Then 8. Then 9, 10, 11, 12.
 #ifndef ANALYSER_H
 #define ANALYSER_H
@@ -45,8 +48,8 @@
 #define ANALYSER_MAX_DARTS 1024 // tails, turns, limits
 #define ANALYSER_MAX_FACES 512 // levels
 #define ANALYSER_SET_WORDS 9
-#define ANALYSER_SHEET_BYTES 8709
-#define ANALYSER_KEY_INPUT_BYTES 8718
+#define ANALYSER_SHEET_BYTES 8711
+#define ANALYSER_KEY_INPUT_BYTES 8720
 #define ANALYSER_KEY_TEXT_BYTES 6671
 
 // The results. "Sheet": a sheet check, so given by every function that takes a sheet. *place is 0 unless said.
@@ -71,25 +74,26 @@ enum analyser_result {
     ANALYSER_OUTSIDE_LIMITS = 17, // a setting is outside its channel's limits; *place is the lowest such channel. Mark, both level functions
     ANALYSER_OFF_BALANCE = 18, // flow is lost or gained at a node; *place is the lowest such node. Mark, Levels from settings
     ANALYSER_LEVEL_OUT_OF_RANGE = 19, // a level is not -600000000 to 600000000. Settings from levels
-    ANALYSER_FACE_0_NOT_AT_0 = 20 // the level of face 0 is not 0. Settings from levels
+    ANALYSER_ZERO_FACE_NOT_AT_0 = 20, // the level of the outer face is not 0. Settings from levels
+    ANALYSER_OUTER_IS_NO_DART = 24 // the outer dart is no dart. Sheet; Write
 };
 
 #ifdef __cplusplus
 extern "C" {
 #endif
 
-// Read: both counts of a sheet and, one element to a dart, its tails, turns and limits.
+// Read: both counts of a sheet, its outer dart (0 of a head of kind 1) and, one element to a dart, its tails, turns and limits.
 // Refusals: the sheet checks; 16 where a slice has less than two elements for each channel.
-// Writes where there is an answer: 2 * *channels elements of each of the three slices, *nodes, *channels.
+// Writes where there is an answer: 2 * *channels elements of each of the three slices, *nodes, *channels, *outer.
 uint8_t analyser_read(const uint8_t *sheet, size_t sheet_length, uint16_t *tails, size_t tails_length, uint16_t *turns, size_t turns_length, int32_t *limits,
-                      size_t limits_length, uint16_t *nodes, uint16_t *channels, uint16_t *place);
+                      size_t limits_length, uint16_t *nodes, uint16_t *channels, uint16_t *outer, uint16_t *place);
 
-// Write: the sheet of a node count and three slices, one element to a dart, as Read gives them.
+// Write: the sheet of a node count, an outer dart and three slices, one element to a dart, as Read gives them. Its head is of kind 4.
 // Their lengths are all twice the number of channels: no element is left out.
-// Refusals: 16 where the three input lengths are not one even number; 3; 4, 5, 6, 7 for each channel in turn; 9, 10, 11, 12;
-// 16 where sheet is shorter than 5 + 17 for each channel.
+// Refusals: 16 where the three input lengths are not one even number; 3; 24; 4, 5, 6, 7 for each channel in turn; 9, 10, 11, 12;
+// 16 where sheet is shorter than 7 + 17 for each channel.
 // Writes where there is an answer: *length bytes of sheet, and *length.
-uint8_t analyser_write(uint16_t nodes, const uint16_t *tails, size_t tails_length, const uint16_t *turns, size_t turns_length,
+uint8_t analyser_write(uint16_t nodes, uint16_t outer, const uint16_t *tails, size_t tails_length, const uint16_t *turns, size_t turns_length,
                        const int32_t *limits, size_t limits_length, uint8_t *sheet, size_t sheet_length, size_t *length, uint16_t *place);
 
 // Solve: the highest settings that carry a delivery from headgate to outfall, or a set of nodes that proves that no settings do.
@@ -127,7 +131,7 @@ uint8_t analyser_least_and_largest(const uint8_t *sheet, size_t sheet_length, ui
 uint8_t analyser_mark(const uint8_t *sheet, size_t sheet_length, uint16_t headgate, uint16_t outfall, const int32_t *settings, size_t settings_length,
                       int32_t *value, uint16_t *place);
 
-// Levels from settings: the levels of the faces, face 0 at 0, of settings that balance at every node:
+// Levels from settings: the levels of the faces, the outer face at 0, of settings that balance at every node:
 // the setting of channel e is the level left of dart 2e less the level right of it.
 // Refusals: the sheet checks; 16 where settings has less than one element for each channel, or levels less than one for each face; 17; 18 at any node.
 // Writes where there is an answer: a level for each face.

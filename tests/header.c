@@ -20,10 +20,18 @@ static const uint8_t drawing_b[39] = {
     2, 0, 0, 2, 0, 0, 0, 3, 0, 3, 0, 0, 0, 255, 255, 255, 255, //
 };
 
+// Drawing A with dart 1 on the outer face, in a head of kind 4.
+static const uint8_t drawing_a_outer[58] = {
+    4, 2, 0, 3, 0, 1, 0, //
+    2, 0, 0, 1, 0, 2, 0, 5, 0, 5, 0, 0, 0, 0, 0, 0, 0, //
+    2, 0, 0, 1, 0, 4, 0, 1, 0, 3, 0, 0, 0, 0, 0, 0, 0, //
+    2, 0, 0, 1, 0, 0, 0, 3, 0, 4, 0, 0, 0, 0, 0, 0, 0, //
+};
+
 // What no operation gives: it shows what was left as it was.
 enum { UNTOUCHED = 99 };
 
-static uint16_t tails[ANALYSER_MAX_DARTS], turns[ANALYSER_MAX_DARTS], nodes, channels, size, place;
+static uint16_t tails[ANALYSER_MAX_DARTS], turns[ANALYSER_MAX_DARTS], nodes, channels, outer, size, place;
 static int32_t limits[ANALYSER_MAX_DARTS], settings[ANALYSER_MAX_CHANNELS], levels[ANALYSER_MAX_FACES], value;
 static uint8_t sheet[ANALYSER_SHEET_BYTES], all_five[ANALYSER_SHEET_BYTES], flag;
 static uint64_t set[ANALYSER_SET_WORDS];
@@ -33,7 +41,7 @@ static uint8_t input[9 + sizeof drawing_a], text[ANALYSER_KEY_TEXT_BYTES];
 static size_t length;
 
 static void untouched(void) {
-    nodes = channels = size = place = UNTOUCHED;
+    nodes = channels = outer = size = place = UNTOUCHED;
     value = least = largest = UNTOUCHED;
     flag = UNTOUCHED;
     length = UNTOUCHED;
@@ -71,14 +79,34 @@ int main(void) {
     int result;
 
     untouched();
-    result = analyser_read(drawing_a, sizeof drawing_a, tails, ANALYSER_MAX_DARTS, turns, ANALYSER_MAX_DARTS, limits, ANALYSER_MAX_DARTS, &nodes, &channels, &place);
-    printf("read %d: %d nodes, %d channels", result, nodes, channels);
+    result = analyser_read(drawing_a, sizeof drawing_a, tails, ANALYSER_MAX_DARTS, turns, ANALYSER_MAX_DARTS, limits, ANALYSER_MAX_DARTS, &nodes, &channels,
+                           &outer, &place);
+    printf("read %d: %d nodes, %d channels, outer dart %d", result, nodes, channels, outer);
     numbers("limits", limits, 6);
     ended();
 
     untouched();
-    result = analyser_write(2, tails, 6, turns, 6, limits, 6, sheet, sizeof sheet, &length, &place);
-    printf("write %d: %d bytes, %s", result, (int)length, memcmp(sheet, drawing_a, sizeof drawing_a) == 0 ? "the same" : "others");
+    result = analyser_write(2, 0, tails, 6, turns, 6, limits, 6, sheet, sizeof sheet, &length, &place);
+    printf("write %d: %d bytes, %s", result, (int)length, memcmp(sheet + 7, drawing_a + 5, sizeof drawing_a - 5) == 0 ? "the same channels" : "others");
+    printf(", kind %d, outer dart %d", sheet[0], sheet[5]);
+    ended();
+
+    // with dart 1 on the outer face, there and back
+    untouched();
+    result = analyser_read(drawing_a_outer, sizeof drawing_a_outer, tails, ANALYSER_MAX_DARTS, turns, ANALYSER_MAX_DARTS, limits, ANALYSER_MAX_DARTS, &nodes,
+                           &channels, &outer, &place);
+    printf("read %d: %d nodes, %d channels, outer dart %d", result, nodes, channels, outer);
+    ended();
+
+    untouched();
+    result = analyser_write(2, 1, tails, 6, turns, 6, limits, 6, sheet, sizeof sheet, &length, &place);
+    printf("write %d: %d bytes, %s", result, (int)length, memcmp(sheet, drawing_a_outer, sizeof drawing_a_outer) == 0 ? "the same" : "others");
+    ended();
+
+    untouched();
+    result = analyser_solve(sheet, sizeof drawing_a_outer, 0, 1, 6, settings, ANALYSER_MAX_CHANNELS, set, ANALYSER_SET_WORDS, &flag, &size, &place);
+    printf("solve 6, outer dart 1 %d: can %d", result, flag);
+    numbers("settings", settings, 4);
     ended();
 
     untouched();
@@ -113,19 +141,19 @@ int main(void) {
     // A with all limits 5
     for (int d = 0; d < 6; d++) limits[d] = 5;
     untouched();
-    result = analyser_write(2, tails, 6, turns, 6, limits, 6, all_five, sizeof all_five, &length, &place);
-    printf("write %d: %d bytes, %s", result, (int)length, memcmp(all_five, drawing_a, sizeof drawing_a) == 0 ? "the same" : "others");
+    result = analyser_write(2, 0, tails, 6, turns, 6, limits, 6, all_five, sizeof all_five, &length, &place);
+    printf("write %d: %d bytes, %s", result, (int)length, memcmp(all_five + 7, drawing_a + 5, sizeof drawing_a - 5) == 0 ? "the same" : "others");
     ended();
 
     untouched();
     set_three(2, 1, -3);
-    result = analyser_levels_from_settings(all_five, sizeof drawing_a, settings, ANALYSER_MAX_CHANNELS, levels, ANALYSER_MAX_FACES, &place);
+    result = analyser_levels_from_settings(all_five, sizeof drawing_a_outer, settings, ANALYSER_MAX_CHANNELS, levels, ANALYSER_MAX_FACES, &place);
     printf("levels from settings %d", result);
     numbers("levels", levels, 4);
     ended();
 
     set_three(UNTOUCHED, UNTOUCHED, UNTOUCHED);
-    result = analyser_settings_from_levels(all_five, sizeof drawing_a, levels, ANALYSER_MAX_FACES, settings, ANALYSER_MAX_CHANNELS, &place);
+    result = analyser_settings_from_levels(all_five, sizeof drawing_a_outer, levels, ANALYSER_MAX_FACES, settings, ANALYSER_MAX_CHANNELS, &place);
     printf("settings from levels %d", result);
     numbers("settings", settings, 4);
     ended();
@@ -141,12 +169,17 @@ int main(void) {
 
     // refusals: the number and the place, and nothing else
     untouched();
-    result = analyser_read(drawing_a, 0, tails, ANALYSER_MAX_DARTS, turns, ANALYSER_MAX_DARTS, limits, ANALYSER_MAX_DARTS, &nodes, &channels, &place);
-    printf("read %s: %d nodes, %d channels", result == ANALYSER_CUT_SHORT ? "cut short" : "?", nodes, channels);
+    result = analyser_read(drawing_a, 0, tails, ANALYSER_MAX_DARTS, turns, ANALYSER_MAX_DARTS, limits, ANALYSER_MAX_DARTS, &nodes, &channels, &outer, &place);
+    printf("read %s: %d nodes, %d channels, outer dart %d", result == ANALYSER_CUT_SHORT ? "cut short" : "?", nodes, channels, outer);
     ended();
 
     untouched();
-    result = analyser_write(2, tails, 6, turns, 5, limits, 6, sheet, sizeof sheet, &length, &place);
+    result = analyser_write(2, 6, tails, 6, turns, 6, limits, 6, sheet, sizeof sheet, &length, &place);
+    printf("write %s: %d bytes", result == ANALYSER_OUTER_IS_NO_DART ? "outer is no dart" : "?", (int)length);
+    ended();
+
+    untouched();
+    result = analyser_write(2, 0, tails, 6, turns, 5, limits, 6, sheet, sizeof sheet, &length, &place);
     printf("write %s: %d bytes", result == ANALYSER_SLICE_TOO_SHORT ? "slice too short" : "?", (int)length);
     ended();
 
@@ -175,14 +208,14 @@ int main(void) {
 
     untouched();
     set_three(2, 1, -2);
-    result = analyser_levels_from_settings(all_five, sizeof drawing_a, settings, ANALYSER_MAX_CHANNELS, levels, ANALYSER_MAX_FACES, &place);
+    result = analyser_levels_from_settings(all_five, sizeof drawing_a_outer, settings, ANALYSER_MAX_CHANNELS, levels, ANALYSER_MAX_FACES, &place);
     printf("levels from settings %s", result == ANALYSER_OFF_BALANCE ? "off balance" : "?");
     numbers("levels", levels, 1);
     ended();
 
     untouched();
-    result = analyser_settings_from_levels(all_five, sizeof drawing_a, levels, ANALYSER_MAX_FACES, settings, ANALYSER_MAX_CHANNELS, &place);
-    printf("settings from levels %s", result == ANALYSER_FACE_0_NOT_AT_0 ? "face 0 not at 0" : "?");
+    result = analyser_settings_from_levels(all_five, sizeof drawing_a_outer, levels, ANALYSER_MAX_FACES, settings, ANALYSER_MAX_CHANNELS, &place);
+    printf("settings from levels %s", result == ANALYSER_ZERO_FACE_NOT_AT_0 ? "zero face not at 0" : "?");
     numbers("settings", settings, 1);
     ended();
 

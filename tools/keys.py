@@ -10,12 +10,12 @@ ANY = 10 ** 10  # a bound for numbers of a key that are then compared with what 
 class Question(Drawing):
     def __init__(self, file):
         self.file, self.data = file, read(file)
-        question, nodes, edges = unpacked(file, self.data)
+        question, nodes, outer, edges = unpacked(file, self.data)
         if question is None:
             raise Refused(one_line(file), "it is a sheet without a question")
         source, sink, self.value = question
         tail, rotation, self.capacity = ([field for edge in edges for field in edge[first:first + 2]] for first in (0, 2, 4))
-        super().__init__(nodes, tail, rotation, source, sink)
+        super().__init__(nodes, tail, rotation, source, sink, outer)
 
     def least(self, edge):
         return -self.capacity[2 * edge + 1]
@@ -64,6 +64,8 @@ def refusal(question):
     """The number with which the unit refuses a question that could be unpacked, so that 1, 2 and 8 do not come; 0 if it accepts it."""
     if not (2 <= question.nodes <= 513 and 1 <= len(question.edges) <= 512):
         return 3
+    if question.outer is not None and question.outer >= len(question.tail):
+        return 24
     number = next((number for edge in question.edges if (number := edge_refusal(question, edge))), 0) or drawing_refusal(question)
     if number:
         return number
@@ -92,7 +94,7 @@ class Key:
     def check_refusal(self, question, where, words):
         """"refused" and its number, exactly where the unit refuses the question."""
         due = refusal(question)
-        said = numbers(where, "'refused'", [("number", 1, 20)], words)[0] if self.answer == "refused" else 0
+        said = numbers(where, "'refused'", [("number", 1, 24)], words)[0] if self.answer == "refused" else 0
         if said != due:
             raise Refused(where, f"no key of {one_line(question.file)}, which is " + (f"refused with {due}" if due else "accepted"))
 

@@ -33,10 +33,10 @@ def rounds(step):
 
 
 class Drawing:
-    """Nodes, and for each dart its tail and its turn; source and sink only say how it is to lie on the page."""
+    """Nodes, and for each dart its tail and its turn; source, sink and a dart on the outer face, or None, only say how it is to lie on the page."""
 
-    def __init__(self, nodes, tail, rotation, source, sink):
-        self.nodes, self.tail, self.rotation, self.source, self.sink = nodes, tail, rotation, source, sink
+    def __init__(self, nodes, tail, rotation, source, sink, outer=None):
+        self.nodes, self.tail, self.rotation, self.source, self.sink, self.outer = nodes, tail, rotation, source, sink, outer
         self.edges = range(len(tail) // 2)
 
     def faces(self):
@@ -44,7 +44,10 @@ class Drawing:
         return rounds([self.rotation[dart ^ 1] for dart in range(len(self.tail))])
 
     def outer_face(self):
-        """The longest of the faces with both source and sink, or of those with one of them, or of all."""
+        """The face of the outer dart, where the sheet names one; else the longest of the faces with both source and sink, or of those with one of them, or of
+        all."""
+        if self.outer is not None:
+            return next(face for face in self.faces() if self.outer in face)
         return max(self.faces(), key=lambda face: (len({self.source, self.sink} & {self.tail[dart] for dart in face}), len(face)))
 
     def route(self, dart):

@@ -8,6 +8,7 @@ The text, one line a record, fields parted by blanks (after # a line is a commen
 
     question SOURCE SINK VALUE        optional, at most once; without it the bytes are a sheet alone
     nodes NODES                       once
+    outer DART                        optional, at most once: a dart on the outer face, in a head of kind 4; without it the head is of kind 1
     TAIL HEAD TURN TURN FORWARD BACK  one line a channel, as document 01 writes them: the turns of its two darts, its two limits
 
 It checks no more than that each number fits its field, 0 to 65535, or 32 bits signed for a value and a limit: judging a sheet is the unit's work, and a wrong
@@ -44,6 +45,7 @@ class Record:
 
 
 HEAD = Record(1, "a head", ["nodes", "channels"])
+OUTER_HEAD = Record(4, "a head with an outer dart", ["nodes", "channels", "outer dart"])
 EDGE = Record(2, "a channel", ["tail", "head", "turn of its dart", "turn of the reverse"], ["forward limit", "back limit"])
 QUESTION = Record(3, "a question", ["source", "sink"], ["value"])
 
@@ -51,6 +53,7 @@ QUESTION = Record(3, "a question", ["source", "sink"], ["value"])
 LINES = {
     "question": ("a question", QUESTION.fields, 1),
     "nodes": ("'nodes'", HEAD.fields[:1], 1),
+    "outer": ("'outer'", OUTER_HEAD.fields[2:], 1),
     "channel": ("a channel", EDGE.fields, 65535),
 }
 
@@ -59,36 +62,40 @@ def pack(file, data):
     """The bytes that a text describes."""
     found = {word: [] for word in LINES}
     for line, words in lines(file, data):
-        word = words.pop(0) if words[0] in ("question", "nodes") else "channel"
+        word = words.pop(0) if words[0] in ("question", "nodes", "outer") else "channel"
         name, fields, most = LINES[word]
         if len(found[word]) == most:
             raise Refused(at(file, line), f"a second line '{word}'" if most == 1 else f"more than {most} channels")
         found[word].append(numbers(at(file, line), name, fields, words))
     if not found["nodes"]:
         raise Refused(one_line(file), "no line 'nodes NODES'")
-    head = HEAD.pack([*found["nodes"][0], len(found["channel"])])
+    counts = [*found["nodes"][0], len(found["channel"])]
+    head = OUTER_HEAD.pack([*counts, *found["outer"][0]]) if found["outer"] else HEAD.pack(counts)
     return b"".join([*map(QUESTION.pack, found["question"]), head, *map(EDGE.pack, found["channel"])])
 
 
 def unpacked(file, data):
-    """What bytes hold: the fields of the question, or None without one; the number of nodes; the fields of each channel."""
+    """What bytes hold: the fields of the question, or None without one; the number of nodes; the outer dart, or None in a head of kind 1; the fields of each
+    channel."""
     question, start = None, 0
     if data[:1] == bytes([QUESTION.kind]):
         question, start = QUESTION.unpack(file, data, 0), QUESTION.size
-    nodes, count = HEAD.unpack(file, data, start)
-    start += HEAD.size
+    record = OUTER_HEAD if data[start:start + 1] == bytes([OUTER_HEAD.kind]) else HEAD
+    nodes, count, *outer = record.unpack(file, data, start)
+    start += record.size
     edges = [EDGE.unpack(file, data, start + EDGE.size * edge) for edge in range(count)]
     left = len(data) - start - EDGE.size * count
     if left:
         raise Refused(one_line(file), f"bytes left over after the last channel: {left}")
-    return question, nodes, edges
+    return question, nodes, outer[0] if outer else None, edges
 
 
 def unpack(file, data):
     """The text of bytes."""
-    question, nodes, edges = unpacked(file, data)
+    question, nodes, outer, edges = unpacked(file, data)
     rows = [("question", *question)] if question else []
-    return "".join(" ".join(map(str, row)) + "\n" for row in [*rows, ("nodes", nodes), *edges])
+    rows += [("nodes", nodes)] if outer is None else [("nodes", nodes), ("outer", outer)]
+    return "".join(" ".join(map(str, row)) + "\n" for row in [*rows, *edges])
 
 
 def check(folder):

@@ -1,8 +1,8 @@
-//! The comparison: for each random drawing a list of calls, each held to what the judge, the flow solver and the face levels say of it. All memory that a call can reach
-//! is compared, so what must stay as it was is seen to.
+//! The comparison: for each random drawing a list of calls, each held to what the judge, the flow solver and the face levels say of it. All memory that a call
+//! can reach is compared, so what must stay as it was is seen to.
 use crate::chance::Chance;
 use crate::damage;
-use crate::drawing::{count, Drawing, EDGE, HEAD};
+use crate::drawing::{count, Drawing, EDGE, OUTER_HEAD};
 use crate::faults::Library;
 use crate::flow::{carry, net_flows, range};
 use crate::grow::{grow, Grown};
@@ -57,7 +57,10 @@ type Check<T = ()> = Result<T, Wrong>;
 /// Compares everything about the drawing of this number.
 pub fn compare_drawing(library: &Library, seed: u64, number: u64, tally: &mut Tally) -> Check {
     let mut chance = Chance::new(seed, number);
-    let grown = grow(&mut chance, number);
+    let mut grown = grow(&mut chance, number);
+    if chance.one_in(2) {
+        grown.drawing.outer = Some(chance.below(grown.drawing.darts()) as u16);
+    }
     *tally.drawings.entry(grown.name).or_default() += 1;
     let mut checker = Checker { library, tally, chance };
     checker.all_of(&grown).map_err(|Wrong(text)| Wrong(format!("seed {seed}, drawing {number} ({})\n{text}", grown.name)))
@@ -172,7 +175,7 @@ impl Checker<'_> {
                 lent.tails[..drawing.darts()].copy_from_slice(&drawing.tails);
                 lent.rotations[..drawing.darts()].copy_from_slice(&drawing.rotations);
                 lent.capacities[..drawing.darts()].copy_from_slice(&drawing.capacities);
-                (lent.nodes, lent.edges) = (drawing.nodes, drawing.edges() as u16);
+                (lent.nodes, lent.edges, lent.outer) = (drawing.nodes, drawing.edges() as u16, drawing.outer_dart() as u16);
             }
             Call::Write { .. } => {
                 let bytes = drawing.bytes();
@@ -214,7 +217,10 @@ impl Checker<'_> {
                 ];
             }
             Call::Mark { source, .. } => lent.value = net_flows(&drawing, &judge::wide(&lent.flows))[source as usize] as i32,
-            Call::LevelsFromSettings => store(&mut lent.levels, &levels_of(&drawing.faces(), &judge::wide(&before.flows))),
+            Call::LevelsFromSettings => {
+                let faces = drawing.faces();
+                store(&mut lent.levels, &levels_of(&faces, faces[drawing.outer_dart()], &judge::wide(&before.flows)));
+            }
             Call::SettingsFromLevels => store(&mut lent.flows, &flows_of(&drawing.faces(), &judge::wide(&before.levels))),
             Call::KeyText => {
                 let text = self.key_text(&before.sheet)?;
@@ -295,7 +301,7 @@ impl Checker<'_> {
     /// Write; seldom of slices of unequal or odd length.
     fn write(&mut self, drawing: &Drawing) -> Check {
         let short = self.chance.one_in(6);
-        let length = self.room(HEAD + EDGE * drawing.edges(), short);
+        let length = self.room(OUTER_HEAD + EDGE * drawing.edges(), short);
         let mut lent = Lent::new(self.chance.junk(length, |x| x as u8));
         lent.tails = drawing.tails.clone();
         lent.rotations = drawing.rotations.clone();
@@ -314,7 +320,8 @@ impl Checker<'_> {
                 lent.capacities.resize(change(lent.capacities.len()), 0);
             }
         }
-        self.compare(Call::Write { nodes: drawing.nodes }, &lent)?;
+        let outer = drawing.outer.unwrap_or(0);
+        self.compare(Call::Write { nodes: drawing.nodes, outer }, &lent)?;
         Ok(())
     }
 
@@ -414,7 +421,7 @@ impl Checker<'_> {
                 lent.levels = after.levels;
                 lent.flows = self.chance.junk(lent.flows.len(), |x| x as i32);
                 self.compare(Call::SettingsFromLevels, &lent)?;
-                self.spoil_levels(&mut lent.levels);
+                self.spoil_levels(faces[drawing.outer_dart()], &mut lent.levels);
                 self.compare(Call::SettingsFromLevels, &lent)?;
                 lent.flows.resize(drawing.edges(), 0);
                 fill(&mut lent.flows, &flows);
@@ -424,7 +431,7 @@ impl Checker<'_> {
         }
         let most = self.chance.pick(&[0, 1, 5, 500_000, 600_000_000]);
         let mut levels: Vec<i64> = (0..count(&faces)).map(|_| self.chance.between(-most, most)).collect();
-        levels[0] = 0;
+        levels[faces[drawing.outer_dart()]] = 0;
         let mut lent = self.lend(drawing.bytes(), drawing);
         fill(&mut lent.levels, &levels);
         let after = self.compare(Call::SettingsFromLevels, &lent)?;
@@ -434,11 +441,11 @@ impl Checker<'_> {
         Ok(())
     }
 
-    fn spoil_levels(&mut self, levels: &mut [i32]) {
+    fn spoil_levels(&mut self, outer: usize, levels: &mut [i32]) {
         for _ in 0..1 + self.chance.below(3) {
             if !levels.is_empty() {
-                let face = if self.chance.one_in(3) { 0 } else { self.chance.below(levels.len()) };
-                levels[face] = self.chance.pick(&[0, 1, -1, 600_000_000, -600_000_000, 600_000_001, -600_000_001, i32::MIN, i32::MAX]);
+                let face = if self.chance.one_in(3) { outer } else { self.chance.below(levels.len()) };
+                levels[face.min(levels.len() - 1)] = self.chance.pick(&[0, 1, -1, 600_000_000, -600_000_000, 600_000_001, -600_000_001, i32::MIN, i32::MAX]);
             }
         }
     }
@@ -537,7 +544,7 @@ fn differ(text: &mut String, got: &Lent, due: &Lent) {
         };
     }
     each!(slices: sheet flows set low below high above levels tails rotations capacities text;
-        answers: can found size value least largest nodes edges length place guards);
+        answers: can found size value least largest nodes edges outer length place guards);
 }
 
 /// The drawing and what was lent with it: as text that tools/sheet reads, else the bytes or slices.

@@ -1,6 +1,6 @@
 //! Damaged drawings and sheets, with several faults at once. Some are harmless: the judge says which.
 use crate::chance::Chance;
-use crate::drawing::{Drawing, EDGE, HEAD};
+use crate::drawing::{Drawing, EDGE};
 use crate::grow::{self, Plan};
 
 /// A drawing with up to four faults in its order, or in its counts, ends and capacities too.
@@ -9,7 +9,7 @@ pub fn drawing(chance: &mut Chance, whole: &Drawing) -> Drawing {
     if chance.one_in(4) {
         drawing = two_parts(chance, whole);
     }
-    let kinds = if chance.one_in(2) { 5 } else { 14 };
+    let kinds = if chance.one_in(2) { 5 } else { 15 };
     for _ in 0..chance.below(5) {
         match chance.below(kinds) {
             0..=2 => other_order(chance, &mut drawing),
@@ -22,6 +22,7 @@ pub fn drawing(chance: &mut Chance, whole: &Drawing) -> Drawing {
             9 => wrong_end(chance, &mut drawing),
             10 => wrong_rotation(chance, &mut drawing),
             11 => wrong_capacity(chance, &mut drawing),
+            12 => wrong_outer(chance, &mut drawing),
             _ => wrong_sum(chance, &mut drawing),
         }
     }
@@ -34,8 +35,8 @@ pub fn bytes(chance: &mut Chance, whole: &Drawing) -> Vec<u8> {
     let mut bytes = drawing.bytes();
     let changes = chance.pick(&[0, 0, 0, 1, 2]);
     for _ in 0..changes {
-        let edge = HEAD + EDGE * chance.below(drawing.edges() + 1);
-        match chance.below(9) {
+        let edge = drawing.head_length() + EDGE * chance.below(drawing.edges() + 1);
+        match chance.below(10) {
             0 => bytes.truncate(edge),
             1 => bytes.truncate(edge + chance.below(EDGE)),
             2 => {
@@ -43,10 +44,11 @@ pub fn bytes(chance: &mut Chance, whole: &Drawing) -> Vec<u8> {
                 bytes.truncate(length);
             }
             3 => change(&mut bytes, edge, chance.pick(&[0, 1, 3, 4, 255])),
-            4 => change(&mut bytes, 0, chance.pick(&[0, 2, 3, 4, 255])),
+            4 => change(&mut bytes, 0, chance.pick(&[0, 1, 2, 3, 4, 5, 255])),
             5 => bytes.extend_from_slice(&[2, 0, 0, 1, 0, 0, 0, 1, 0, 0, 0, 0, 0, 0, 0, 0, 0][..1 + chance.below(EDGE)]),
             6 => change(&mut bytes, 3, chance.below(256) as u8), // the count of edges
             7 => change(&mut bytes, 4, chance.pick(&[0, 1, 2, 3, 255])),
+            8 => bytes.truncate(chance.below(8)), // within the head
             _ => {
                 let at = chance.below(bytes.len() + 1);
                 change(&mut bytes, at, chance.below(256) as u8);
@@ -73,7 +75,14 @@ fn two_parts(chance: &mut Chance, whole: &Drawing) -> Drawing {
     let first = Plan { nodes: whole.nodes as usize, tails: wide(&whole.tails), rotations: wide(&whole.rotations) };
     let mut drawing = first.beside(&other).drawing();
     drawing.capacities[..whole.darts()].copy_from_slice(&whole.capacities);
+    drawing.outer = whole.outer;
     drawing
+}
+
+/// An outer dart that is none, or just is the last one; or none named.
+fn wrong_outer(chance: &mut Chance, drawing: &mut Drawing) {
+    let darts = drawing.darts() as u16;
+    drawing.outer = chance.pick(&[Some(darts), Some(darts.wrapping_sub(1)), Some(u16::MAX), Some(1024), None]);
 }
 
 fn some_dart(chance: &mut Chance, drawing: &Drawing) -> Option<usize> {

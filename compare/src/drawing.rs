@@ -1,4 +1,5 @@
-//! A drawing: nodes, the tail, rotation (the paper's "turn") and capacity ("limit") of each dart. It need not be right: damaged ones are drawings too.
+//! A drawing: nodes, the tail, rotation (the paper's "turn") and capacity ("limit") of each dart, and perhaps a dart on its outer face. It need not be right:
+//! damaged ones are drawings too.
 use std::fmt::Write;
 
 #[derive(Clone, Debug, Default, PartialEq)]
@@ -7,9 +8,13 @@ pub struct Drawing {
     pub tails: Vec<u16>,
     pub rotations: Vec<u16>,
     pub capacities: Vec<i32>,
+    /// The outer dart that a head of kind 4 names; a head of kind 1 names none.
+    pub outer: Option<u16>,
 }
 
+/// The bytes of a head of kind 1 and of kind 4, and of an edge.
 pub const HEAD: usize = 5;
+pub const OUTER_HEAD: usize = 7;
 pub const EDGE: usize = 17;
 
 impl Drawing {
@@ -19,6 +24,20 @@ impl Drawing {
 
     pub fn edges(&self) -> usize {
         self.tails.len() / 2
+    }
+
+    /// "A kind 1 head is still read, as outer dart 0."
+    pub fn outer_dart(&self) -> usize {
+        self.outer.unwrap_or(0) as usize
+    }
+
+    /// The bytes of its head.
+    pub fn head_length(&self) -> usize {
+        if self.outer.is_some() {
+            OUTER_HEAD
+        } else {
+            HEAD
+        }
     }
 
     pub fn tail(&self, dart: usize) -> usize {
@@ -49,9 +68,10 @@ impl Drawing {
     }
 
     pub fn bytes(&self) -> Vec<u8> {
-        let mut bytes = vec![1];
+        let mut bytes = vec![if self.outer.is_some() { 4 } else { 1 }];
         bytes.extend(self.nodes.to_le_bytes());
         bytes.extend((self.edges() as u16).to_le_bytes());
+        bytes.extend(self.outer.iter().flat_map(|outer| outer.to_le_bytes()));
         for edge in 0..self.edges() {
             let (there, back) = (2 * edge, 2 * edge + 1);
             bytes.push(2);
@@ -68,21 +88,29 @@ impl Drawing {
     pub fn of_bytes(bytes: &[u8]) -> Option<Drawing> {
         let short = |at: usize| u16::from_le_bytes([bytes[at], bytes[at + 1]]);
         let long = |at: usize| i32::from_le_bytes([bytes[at], bytes[at + 1], bytes[at + 2], bytes[at + 3]]);
-        if bytes.len() < HEAD || bytes[0] != 1 || bytes.len() != HEAD + EDGE * short(3) as usize {
+        let head = match bytes.first()? {
+            1 => HEAD,
+            4 => OUTER_HEAD,
+            _ => return None,
+        };
+        if bytes.len() < head || bytes.len() != head + EDGE * short(3) as usize {
             return None;
         }
-        let mut drawing = Drawing { nodes: short(1), ..Drawing::default() };
-        for at in (HEAD..bytes.len()).step_by(EDGE) {
+        let mut drawing = Drawing { nodes: short(1), outer: (head == OUTER_HEAD).then(|| short(5)), ..Drawing::default() };
+        for at in (head..bytes.len()).step_by(EDGE) {
             drawing.tails.extend([short(at + 1), short(at + 3)]);
             drawing.rotations.extend([short(at + 5), short(at + 7)]);
             drawing.capacities.extend([long(at + 9), long(at + 13)]);
         }
-        (HEAD..bytes.len()).step_by(EDGE).all(|at| bytes[at] == 2).then_some(drawing)
+        (head..bytes.len()).step_by(EDGE).all(|at| bytes[at] == 2).then_some(drawing)
     }
 
     /// As tools/sheet reads it.
     pub fn text(&self) -> String {
         let mut text = format!("nodes {}\n", self.nodes);
+        if let Some(outer) = self.outer {
+            writeln!(text, "outer {outer}").unwrap();
+        }
         for there in (0..self.darts()).step_by(2) {
             let back = there + 1;
             let (tails, rotations, capacities) = (&self.tails, &self.rotations, &self.capacities);

@@ -1,8 +1,8 @@
 //! Deliberate faults, put between the unit and the comparison: every call passes through here. They show that the comparison can fail, and each must be caught.
-use crate::drawing::{rounds, Drawing, EDGE, HEAD};
+use crate::drawing::{rounds, Drawing, EDGE};
 use crate::flow::{carry, range};
 use crate::judge;
-use crate::levels::{flows_of, highest, lowest};
+use crate::levels::{flows_of, highest, levels_of, lowest};
 use crate::unit::{self, Call, Lent};
 
 macro_rules! faults {
@@ -52,6 +52,9 @@ faults! {
     PlaceOfFields: "the place of 6 is its edge",
     PlaceOnAnswer: "an answer writes the place",
     LevelsTurned: "levels have the other sign",
+    LevelsAtFaceZero: "levels have face 0 at 0, whatever the outer dart is",
+    LevelsRight: "levels have the face right of the outer dart at 0",
+    HighestAtFaceZero: "the highest flow is taken with face 0 at level 0, whatever the outer dart is",
     FlowsTurned: "flows of levels have the other sign",
     TwelveForEleven: "flatness is looked at before connection",
     ElevenForTen: "connection is looked at before the rounds",
@@ -59,7 +62,11 @@ faults! {
     CutBeforeFields: "a sheet cut short is seen before the fields of its first edges",
     FourteenForThirteen: "equal ends are looked at before whether they are nodes",
     SixteenForFifteen: "room is looked at before the value's range",
-    TwentyForNineteen: "face 0 is looked at before the ranges of the levels",
+    TwentyForNineteen: "the outer face is looked at before the ranges of the levels",
+    TwentyAtFaceZero: "20 looks at face 0, whatever the outer dart is",
+    TwentyFourForThree: "the outer dart is looked at before the counts",
+    FourForTwentyFour: "the ends of the first edge are looked at before the outer dart",
+    KindFourAsTwo: "whatever is wrong with a sheet of kind 4 is told as a wrong kind",
     ExtraFlow: "an element past the flows is written",
     ExtraWord: "a word past the set is cleared",
     FlowsOnRefusal: "Settings from levels writes flows before it meets one that it refuses",
@@ -71,6 +78,9 @@ faults! {
     GuardWritten: "memory beside a slice is written",
     ReadShifted: "Read gives the rotations of the reverse darts",
     ReadCounts: "Read exchanges its counts",
+    ReadNoOuter: "Read gives dart 0 as the outer dart",
+    WriteKindOne: "Write writes kind 1 where the outer dart is dart 0",
+    WriteNoOuter: "Write writes dart 0 as the outer dart",
     LastByte: "Write's last byte is wrong",
     LengthOffByOne: "Write's length is one too small",
     KeyWithoutLastLineFeed: "the key's text lacks its last line feed",
@@ -128,9 +138,12 @@ fn answer(fault: Fault, call: &Call, drawing: &Drawing, before: &Lent, after: &m
             _ => {}
         },
         Call::LevelsFromSettings => {
-            let faces = drawing.edges() + 2 - drawing.nodes as usize;
-            if fault == Fault::LevelsTurned {
-                after.levels[..faces].iter_mut().for_each(|level| *level = -*level);
+            let (faces, flows) = (drawing.faces(), judge::wide(&before.flows));
+            match fault {
+                Fault::LevelsTurned => after.levels[..drawing.edges() + 2 - drawing.nodes as usize].iter_mut().for_each(|level| *level = -*level),
+                Fault::LevelsAtFaceZero => put(&mut after.levels, &levels_of(&faces, 0, &flows)),
+                Fault::LevelsRight => put(&mut after.levels, &levels_of(&faces, faces[drawing.outer_dart() ^ 1], &flows)),
+                _ => {}
             }
         }
         Call::SettingsFromLevels => match fault {
@@ -145,10 +158,13 @@ fn answer(fault: Fault, call: &Call, drawing: &Drawing, before: &Lent, after: &m
         Call::Read => match fault {
             Fault::ReadShifted => (0..drawing.darts()).for_each(|dart| after.rotations[dart] = drawing.rotations[dart ^ 1]),
             Fault::ReadCounts => (after.nodes, after.edges) = (after.edges, after.nodes),
+            Fault::ReadNoOuter => after.outer = 0,
             Fault::SheetWritten => *after.sheet.last_mut().unwrap() ^= 1,
             _ => {}
         },
         Call::Write { .. } => match fault {
+            Fault::WriteKindOne if drawing.outer_dart() == 0 => after.sheet[0] = 1,
+            Fault::WriteNoOuter => after.sheet[5..7].fill(0),
             Fault::LastByte => after.sheet[after.length - 1] ^= 1,
             Fault::LengthOffByOne => after.length -= 1,
             _ => {}
@@ -168,6 +184,7 @@ fn can(fault: Fault, (source, sink, value): (u16, u16, i32), drawing: &Drawing, 
         Fault::ZeroFlows => after.flows[..drawing.edges()].fill(0),
         Fault::CanUntouched => after.flows = before.flows.clone(),
         Fault::NotHighest => put(&mut after.flows, &other()),
+        Fault::HighestAtFaceZero => put(&mut after.flows, &highest(&Drawing { outer: None, ..drawing.clone() }, &drawing.faces(), &other())),
         Fault::Lowest => put(&mut after.flows, &lowest(drawing, &drawing.faces(), &other())),
         Fault::StepByTheDart => put(&mut after.flows, &highest(drawing, &rounds(&drawing.rotation()), &other())),
         Fault::ExtraFlow => after.flows[drawing.edges()..].fill(0),
@@ -283,7 +300,12 @@ fn key(fault: Fault, after: &mut Lent) {
 
 /// What a fault makes of a refusal: its number.
 fn refusal(fault: Fault, call: &Call, before: &Lent, after: &mut Lent, result: u8) -> u8 {
-    let sheet = if let Call::Write { .. } = call { &[][..] } else { &before.sheet };
+    let sheet = match call {
+        Call::Write { .. } | Call::KeyText => &[][..],
+        _ => &before.sheet,
+    };
+    let head = if sheet.first() == Some(&4) { 7 } else { 5 };
+    let short = |at: usize| u16::from_le_bytes([sheet[at], sheet[at + 1]]);
     match (fault, result) {
         (Fault::PlaceOffByOne, 17 | 18) => after.place += 1,
         (Fault::PlaceOfTheLast, 17) => after.place = last_outside(call, before).unwrap_or(after.place),
@@ -294,7 +316,7 @@ fn refusal(fault: Fault, call: &Call, before: &Lent, after: &mut Lent, result: u
         (Fault::TwelveForEleven, 11) if judge::records(sheet).is_ok_and(|drawing| !judge::flat(&drawing)) => return 12,
         (Fault::ElevenForTen, 10) if judge::records(sheet).is_ok_and(|drawing| !judge::connected(&drawing)) => return 11,
         (Fault::SevenForSix, 6) if sum_below_zero(sheet) => return 7,
-        (Fault::CutBeforeFields, 4..=7) if sheet.len() >= HEAD && sheet.len() < HEAD + EDGE * u16::from_le_bytes([sheet[3], sheet[4]]) as usize => return 1,
+        (Fault::CutBeforeFields, 4..=7) if sheet.len() < head + EDGE * u16::from_le_bytes([sheet[3], sheet[4]]) as usize => return 1,
         (Fault::FourteenForThirteen, 13) => match *call {
             Call::Solve { source, sink, .. } | Call::Largest { source, sink } | Call::LeastAndLargest { source, sink } | Call::Mark { source, sink }
                 if source == sink =>
@@ -304,7 +326,11 @@ fn refusal(fault: Fault, call: &Call, before: &Lent, after: &mut Lent, result: u
             _ => {}
         },
         (Fault::SixteenForFifteen, 15) if judge::records(sheet).is_ok_and(|drawing| before.flows.len() < drawing.edges()) => return 16,
-        (Fault::TwentyForNineteen, 19) if before.levels[0] != 0 => return 20,
+        (Fault::TwentyForNineteen, 19) if judge::records(sheet).is_ok_and(|drawing| before.levels[drawing.faces()[drawing.outer_dart()]] != 0) => return 20,
+        (Fault::TwentyAtFaceZero, 20) if before.levels[0] == 0 => return 0,
+        (Fault::TwentyFourForThree, 3) if head == 7 && !sheet.is_empty() && short(5) as usize >= 2 * short(3) as usize => return 24,
+        (Fault::FourForTwentyFour, 24) if sheet.len() >= head + 5 && short(head + 1).max(short(head + 3)) >= short(1) => return 4,
+        (Fault::KindFourAsTwo, _) if head == 7 => return 2,
         (Fault::ShortSetUnseen, 16) => {
             let mut longer = Lent { set: vec![0; 9], ..before.clone() };
             if let (Call::Solve { .. }, 0, 1) = (call, unit::call(call, &mut longer), longer.can) {
@@ -337,7 +363,8 @@ fn last_outside(call: &Call, before: &Lent) -> Option<u16> {
 /// Whether the first edge of a sheet with a capacity out of range has capacities that add to less than zero.
 fn sum_below_zero(sheet: &[u8]) -> bool {
     let number = |edge: &[u8], at: usize| i32::from_le_bytes(edge[at..at + 4].try_into().unwrap()) as i64;
-    let edges = sheet.get(HEAD..).unwrap_or_default().chunks_exact(EDGE).map(|edge| (number(edge, 9), number(edge, 13)));
+    let head = if sheet.first() == Some(&4) { 7 } else { 5 };
+    let edges = sheet.get(head..).unwrap_or_default().chunks_exact(EDGE).map(|edge| (number(edge, 9), number(edge, 13)));
     edges.into_iter().find(|(forward, back)| forward.abs().max(back.abs()) > 1_000_000).is_some_and(|(forward, back)| forward + back < 0)
 }
 
@@ -383,11 +410,11 @@ mod tests {
     fn no_fault_no_difference_and_every_answer_is_met() {
         let mut tally = Tally::default();
         run(None, &mut tally).unwrap_or_else(|wrong| panic!("{wrong}"));
-        let sheet: Vec<u8> = (1..=12).collect();
+        let sheet: Vec<u8> = (1..=12).chain([24]).collect();
         let with = |more: &[u8]| [&sheet[..], more].concat();
         let due: [(&str, Vec<u8>, &[&str]); 9] = [
             ("Read", with(&[16]), &["done"]),
-            ("Write", vec![3, 4, 5, 6, 7, 9, 10, 11, 12, 16], &["done"]),
+            ("Write", vec![3, 4, 5, 6, 7, 9, 10, 11, 12, 16, 24], &["done"]),
             ("Solve", with(&[13, 14, 15, 16]), &["can", "cannot"]),
             ("Largest", with(&[13, 14, 16]), &["value", "value below 0", "none"]),
             ("Least and largest", with(&[13, 14, 16]), &["values", "values above 0", "values below 0", "none"]),

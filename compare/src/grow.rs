@@ -114,7 +114,7 @@ impl Plan {
 
     pub fn drawing(&self) -> Drawing {
         let short = |numbers: &[usize]| numbers.iter().map(|&number| number as u16).collect();
-        Drawing { nodes: self.nodes as u16, tails: short(&self.tails), rotations: short(&self.rotations), capacities: vec![0; self.tails.len()] }
+        Drawing { nodes: self.nodes as u16, tails: short(&self.tails), rotations: short(&self.rotations), capacities: vec![0; self.tails.len()], outer: None }
     }
 }
 

@@ -1,5 +1,5 @@
-//! An independent judge of what is refused, written from document 01 in the plainest way: the checks of each operation in their order.
-use crate::drawing::{count, rounds, Drawing, EDGE, HEAD};
+//! An independent judge of what is refused, written from documents 01 and 02 in the plainest way: the checks of each operation in their order.
+use crate::drawing::{count, rounds, Drawing, EDGE, OUTER_HEAD};
 use crate::flow::{along, net_flows};
 use crate::unit::{Call, Lent};
 
@@ -31,7 +31,7 @@ pub const TEXT: usize = 6671;
 /// The drawing that a call is about, or the first of its refusals.
 pub fn accept(call: &Call, lent: &Lent) -> Result<Drawing, Refusal> {
     match *call {
-        Call::Write { nodes } => return write(nodes, lent),
+        Call::Write { nodes, outer } => return write(nodes, outer, lent),
         Call::KeyText => {
             refuse(16, lent.text.len() < TEXT)?;
             return Ok(Drawing::default());
@@ -72,7 +72,7 @@ pub fn accept(call: &Call, lent: &Lent) -> Result<Drawing, Refusal> {
             refuse(16, lent.flows.len() < drawing.edges() || lent.levels.len() < faces)?;
             let levels = wide(&lent.levels[..faces]);
             refuse(19, levels.iter().any(|level| level.abs() > 600_000_000))?;
-            refuse(20, levels[0] != 0)?;
+            refuse(20, levels[drawing.faces()[drawing.outer_dart()]] != 0)?;
             within(&drawing, &crate::levels::flows_of(&drawing.faces(), &levels))?;
         }
         Call::Write { .. } | Call::KeyText => unreachable!("judged above"),
@@ -109,23 +109,32 @@ fn signed(body: &[u8], at: usize) -> i32 {
 
 /// Checks 1 to 8.
 pub fn records(bytes: &[u8]) -> Result<Drawing, Refusal> {
-    let head = record(bytes, 0, 1, 4)?;
-    let (nodes, edges) = (unsigned(head, 0), unsigned(head, 2) as usize);
+    refuse(1, bytes.is_empty())?;
+    let named = bytes[0] == 4;
+    let head = record(bytes, 0, if named { 4 } else { 1 }, if named { 6 } else { 4 })?;
+    let (nodes, edges, outer) = (unsigned(head, 0), unsigned(head, 2) as usize, named.then(|| unsigned(head, 4)));
     counts(nodes, edges)?;
-    let mut drawing = Drawing { nodes, ..Drawing::default() };
+    outer_dart(edges, outer)?;
+    let mut drawing = Drawing { nodes, outer, ..Drawing::default() };
+    let first = 1 + head.len();
     for edge in 0..edges {
-        let body = record(bytes, HEAD + EDGE * edge, 2, 16)?;
+        let body = record(bytes, first + EDGE * edge, 2, 16)?;
         drawing.tails.extend([unsigned(body, 0), unsigned(body, 2)]);
         drawing.rotations.extend([unsigned(body, 4), unsigned(body, 6)]);
         drawing.capacities.extend([signed(body, 8), signed(body, 12)]);
         fields(&drawing, edge, edges)?;
     }
-    refuse(8, bytes.len() > HEAD + EDGE * edges)?;
+    refuse(8, bytes.len() > first + EDGE * edges)?;
     Ok(drawing)
 }
 
 fn counts(nodes: u16, edges: usize) -> Verdict {
     refuse(3, !(2..=513).contains(&nodes) || !(1..=512).contains(&edges))
+}
+
+/// Check 24, right after 3.
+fn outer_dart(edges: usize, outer: Option<u16>) -> Verdict {
+    refuse(24, outer.is_some_and(|outer| outer as usize >= 2 * edges))
 }
 
 /// Checks 4 to 7 of one edge.
@@ -183,16 +192,18 @@ pub fn flat(drawing: &Drawing) -> bool {
     drawing.nodes as usize + count(&drawing.faces()) == drawing.edges() + 2
 }
 
-fn write(nodes: u16, lent: &Lent) -> Result<Drawing, Refusal> {
+fn write(nodes: u16, outer: u16, lent: &Lent) -> Result<Drawing, Refusal> {
     let darts = lent.tails.len();
     refuse(16, lent.rotations.len() != darts || lent.capacities.len() != darts || darts % 2 != 0)?;
-    let drawing = Drawing { nodes, tails: lent.tails.clone(), rotations: lent.rotations.clone(), capacities: lent.capacities.clone() };
+    let outer = Some(outer);
+    let drawing = Drawing { nodes, tails: lent.tails.clone(), rotations: lent.rotations.clone(), capacities: lent.capacities.clone(), outer };
     counts(nodes, drawing.edges())?;
+    outer_dart(drawing.edges(), outer)?;
     for edge in 0..drawing.edges() {
         fields(&drawing, edge, drawing.edges())?;
     }
     rotation(&drawing)?;
-    refuse(16, lent.sheet.len() < HEAD + EDGE * drawing.edges())?;
+    refuse(16, lent.sheet.len() < OUTER_HEAD + EDGE * drawing.edges())?;
     Ok(drawing)
 }
 
@@ -268,6 +279,9 @@ mod tests {
         assert_eq!(number(&[1]), 1);
         assert_eq!(number(&[1, 2, 0, 88, 2]), 3); // 600 edges, and no byte of them
         assert_eq!(number(&paper::a_twisted().bytes()), 12);
+        assert_eq!([number(&[4]), number(&[4, 1, 0, 3, 0]), number(&[4, 1, 0, 3, 0, 6])], [1, 1, 1]); // 1 comes before 3
+        assert_eq!([number(&[4, 1, 0, 3, 0, 6, 0]), number(&[4, 2, 0, 3, 0, 6, 0]), number(&[4, 2, 0, 3, 0, 5, 0])], [3, 24, 1]);
+        assert_eq!([number(&[3]), number(&[5])], [2, 2]);
     }
 
     #[test]

@@ -4,7 +4,7 @@ use crate::unit::{self, Call, Lent};
 
 fn drawing(nodes: u16, edges: &[[i32; 6]]) -> Drawing {
     let two = |first: usize| edges.iter().flat_map(move |edge| [edge[first], edge[first + 1]]);
-    Drawing { nodes, tails: two(0).map(|x| x as u16).collect(), rotations: two(2).map(|x| x as u16).collect(), capacities: two(4).collect() }
+    Drawing { nodes, tails: two(0).map(|x| x as u16).collect(), rotations: two(2).map(|x| x as u16).collect(), capacities: two(4).collect(), outer: None }
 }
 
 pub fn a() -> Drawing {
@@ -16,6 +16,11 @@ pub fn a_with(capacities: &[(usize, i32)]) -> Drawing {
     let mut drawing = a();
     capacities.iter().for_each(|&(dart, capacity)| drawing.capacities[dart] = capacity);
     drawing
+}
+
+/// A with a dart on the outer face.
+pub fn a_outer(dart: u16) -> Drawing {
+    Drawing { outer: Some(dart), ..a() }
 }
 
 /// A with turns 1 -> 3 -> 5 -> 1 at node 1.
@@ -74,6 +79,20 @@ fn solve_on_a() {
     assert_eq!(solve(&a_twisted(), 6).0, 12);
 }
 
+/// Document 02, Job 6.
+#[test]
+fn outer_faces_of_a() {
+    can(&a_outer(0), 6, [0, 2, 4]);
+    can(&a_outer(1), 6, [5, 0, 1]);
+    can(&a_outer(2), 6, [5, 0, 1]);
+    can(&a_outer(3), 6, [3, 3, 0]);
+    can(&a_outer(5), 6, [0, 2, 4]);
+    cannot(&a_outer(3), 13, 1);
+    assert_eq!(solve(&a_outer(6), 6).0, 24);
+    let short = |length: usize| ask(a_outer(6).bytes()[..length].to_vec(), Call::Read, &[], &[]).0;
+    assert_eq!([short(1), short(5), short(6), short(7)], [1, 1, 1, 24]);
+}
+
 #[test]
 fn largest() {
     let (result, lent) = ask(a().bytes(), Call::Largest { source: 0, sink: 1 }, &[77; 3], &[]);
@@ -115,6 +134,11 @@ fn levels() {
     assert_eq!((result, lent.levels), (0, vec![0, -2, -3]));
     let (result, lent) = ask(sheet, Call::SettingsFromLevels, &[77; 3], &[0, -2, -3]);
     assert_eq!((result, lent.flows), (0, vec![2, 1, -3]));
+    let outer = Drawing { outer: Some(1), ..a_with(&[(0, 5), (1, 5), (2, 5), (3, 5), (4, 5), (5, 5)]) }.bytes();
+    let (result, lent) = ask(outer.clone(), Call::LevelsFromSettings, &[2, 1, -3], &[77; 3]);
+    assert_eq!((result, lent.levels), (0, vec![2, 0, -1]));
+    assert_eq!(ask(outer.clone(), Call::SettingsFromLevels, &[77; 3], &[0, -2, -3]).0, 20);
+    assert_eq!(ask(outer, Call::SettingsFromLevels, &[77; 3], &[2, 0, -1]).0, 0);
 }
 
 #[test]

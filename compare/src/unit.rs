@@ -4,7 +4,7 @@
 #[derive(Clone, Copy, Debug, PartialEq)]
 pub enum Call {
     Read,
-    Write { nodes: u16 },
+    Write { nodes: u16, outer: u16 },
     Solve { source: u16, sink: u16, value: i32 },
     Largest { source: u16, sink: u16 },
     LeastAndLargest { source: u16, sink: u16 },
@@ -55,6 +55,7 @@ pub struct Lent {
     pub largest: i32,
     pub nodes: u16,
     pub edges: u16,
+    pub outer: u16,
     pub length: usize,
     pub place: u16,
     /// Whether every guard element is as it was.
@@ -85,6 +86,7 @@ impl Lent {
             largest: -0x5a5a_5a5a,
             nodes: 0xbeef,
             edges: 0xbeef,
+            outer: 0xbeef,
             length: 0xdead_beef,
             place: 0xbeef,
             guards: true,
@@ -137,11 +139,13 @@ extern "C" {
         capacities_length: usize,
         nodes: *mut u16,
         edges: *mut u16,
+        outer: *mut u16,
         place: *mut u16,
     ) -> u8;
     #[rustfmt::skip]
     fn analyser_write(
         nodes: u16,
+        outer: u16,
         tails: *const u16,
         tails_length: usize,
         rotations: *const u16,
@@ -255,8 +259,8 @@ pub fn call(call: &Call, lent: &mut Lent) -> u8 {
     let result = unsafe {
         match *call {
             Call::Read => analyser_read(sheet.pointer(), sheet.length(), tails.pointer(), tails.length(), rotations.pointer(), rotations.length(),
-                capacities.pointer(), capacities.length(), &mut lent.nodes, &mut lent.edges, &mut lent.place),
-            Call::Write { nodes } => analyser_write(nodes, tails.pointer(), tails.length(), rotations.pointer(), rotations.length(),
+                capacities.pointer(), capacities.length(), &mut lent.nodes, &mut lent.edges, &mut lent.outer, &mut lent.place),
+            Call::Write { nodes, outer } => analyser_write(nodes, outer, tails.pointer(), tails.length(), rotations.pointer(), rotations.length(),
                 capacities.pointer(), capacities.length(), sheet.pointer(), sheet.length(), &mut lent.length, &mut lent.place),
             Call::Solve { source, sink, value } => analyser_solve(sheet.pointer(), sheet.length(), source, sink, value, flows.pointer(), flows.length(),
                 set.pointer(), set.length(), &mut lent.can, &mut lent.size, &mut lent.place),

@@ -11,8 +11,8 @@ use Rattle.flows.specs.Check.{withinChecks, balanceChecks}
 use Rattle.rotations.specs.MapChecks.{mapChecks}
 use Rattle.records.specs.Record.{recordChecks}
 use Rattle.maps.specs.Drawing.{Drawing}
-use Rattle.records.specs.Check.{countChecks, fieldChecks, edgeChecks}
-use Rattle.records.specs.Sheet.{headChecks, edgeRecordChecks, byteChecks, edgesOf}
+use Rattle.records.specs.Check.{numberChecks, fieldChecks, edgeChecks}
+use Rattle.records.specs.Sheet.{headRecordChecks, headChecks, edgeRecordChecks, byteChecks, edgesOf}
 use Rattle.sheets.specs.Open.{sheetChecks}
 use Rattle.sheets.specs.Read.{readChecks}
 use Rattle.sheets.specs.Write.{drawingChecks, writeChecks}
@@ -70,20 +70,27 @@ edge-numbered : (s : List ℕ) (e : ℕ) → Numbered (edgeRecordChecks s e)
 unfolding edgeRecordChecks
 edge-numbered s e = numbered-append (recordChecks s 2 _) _ (record-numbered s 2 _) (field-numbered _ e)
 
+head-numbered : (s : List ℕ) → Numbered (headChecks s)
+unfolding Numbered headChecks headRecordChecks numberChecks
+head-numbered s = (omega arith, (omega arith, (omega arith, (omega arith, (omega arith, tt)))))
+
 pub sheet-numbered : (s : List ℕ) → Numbered (sheetChecks s)
-unfolding Numbered sheetChecks byteChecks headChecks countChecks
+unfolding Numbered sheetChecks byteChecks
 sheet-numbered s =
     numbered-append (byteChecks s) _
     (numbered-append (headChecks s) _
-    (numbered-append (recordChecks s 1 0) _ (record-numbered s 1 0) (omega arith, tt))
+    (head-numbered s)
     (numbered-append (inTurn (edgesOf s) (edgeRecordChecks s)) _ (numbered-in-turn (edgesOf s) (edgeRecordChecks s) (edge-numbered s)) (omega arith, tt)))
     (map-numbered _)
 
 drawing-numbered : (𝓓 : Drawing) → Numbered (drawingChecks 𝓓)
-unfolding Numbered drawingChecks countChecks
+unfolding Numbered drawingChecks numberChecks
 drawing-numbered 𝓓 = (
   omega arith,
-  numbered-append (inTurn (𝓓 .map .edges) (edgeChecks 𝓓)) _ (numbered-in-turn (𝓓 .map .edges) (edgeChecks 𝓓) (field-numbered 𝓓)) (map-numbered _),
+  (
+    omega arith,
+    numbered-append (inTurn (𝓓 .map .edges) (edgeChecks 𝓓)) _ (numbered-in-turn (𝓓 .map .edges) (edgeChecks 𝓓) (field-numbered 𝓓)) (map-numbered _),
+  ),
 )
 
 within-numbered : (edges : ℕ) (c x : ℕ → ℤ) → Numbered (withinChecks edges c x)
@@ -98,10 +105,10 @@ pub read-numbered : (s tails rotations : List ℕ) (capacities : List ℤ) → N
 unfolding Numbered readChecks
 read-numbered s tails rotations capacities = numbered-append (sheetChecks s) _ (sheet-numbered s) (omega arith, tt)
 
-pub write-numbered : (nodes : ℕ) (tails rotations : List ℕ) (capacities : List ℤ) (sheet : List ℕ)
-    → Numbered (writeChecks nodes tails rotations capacities sheet)
+pub write-numbered : (nodes outer : ℕ) (tails rotations : List ℕ) (capacities : List ℤ) (sheet : List ℕ)
+    → Numbered (writeChecks nodes outer tails rotations capacities sheet)
 unfolding Numbered writeChecks
-write-numbered nodes tails rotations capacities sheet = (omega arith, numbered-append (drawingChecks _) _ (drawing-numbered _) (omega arith, tt))
+write-numbered nodes outer tails rotations capacities sheet = (omega arith, numbered-append (drawingChecks _) _ (drawing-numbered _) (omega arith, tt))
 
 pub solve-numbered : (s : List ℕ) (source sink : ℕ) (value : ℤ) (flows : List ℤ) (set : List ℕ) → Numbered (solveChecks s source sink value flows set)
 unfolding Numbered solveChecks questionChecks endChecks valueChecks roomChecks

@@ -67,11 +67,11 @@ module _ {cs : List Check} {result place place' : ℕ} {Same : Type 0} where
 
 -- ── and so of each ──
 module _ {place place' result : ℕ} where
-  pub write-says : {nodes : ℕ} {tails rotations sheet sheet' : List ℕ} {capacities : List ℤ} {length length' : ℕ}
-      → TellsWrite nodes tails rotations capacities sheet sheet' length length' place place' result
-      → Says (writeChecks nodes tails rotations capacities sheet) result place place' ((sheet' ≡ sheet) × (length' ≡ length))
+  pub write-says : {nodes outer : ℕ} {tails rotations sheet sheet' : List ℕ} {capacities : List ℤ} {length length' : ℕ}
+      → TellsWrite nodes outer tails rotations capacities sheet sheet' length length' place place' result
+      → Says (writeChecks nodes outer tails rotations capacities sheet) result place place' ((sheet' ≡ sheet) × (length' ≡ length))
   write-says (write.Bytes n, h, t) = says-answer (h .0) (t .0) (t .2)
-  write-says (write.Refused k p, h, t) = says-refusal k p (write-numbered _ _ _ _ _) (h .0) (t .0) (t .2) (h .1, t .1)
+  write-says (write.Refused k p, h, t) = says-refusal k p (write-numbered _ _ _ _ _ _) (h .0) (t .0) (t .2) (h .1, t .1)
 
   pub key-says : (input text : List ℕ) {text' : List ℕ} {length length' : ℕ} → TellsKey input text text' length length' place place' result
       → Says (keyRoomChecks text) result place place' ((text' ≡ text) × (length' ≡ length))
@@ -79,12 +79,12 @@ module _ {place place' result : ℕ} where
   key-says input text (key.Refused k p, h, t) = says-refusal k p (key-numbered text) (h .0) (t .0) (t .2) (h .1, t .1)
 
   module _ (s : List ℕ) where
-    pub read-says : {tails rotations tails' rotations' : List ℕ} {capacities capacities' : List ℤ} {nodes nodes' edges edges' : ℕ}
-        → TellsRead s tails rotations capacities tails' rotations' capacities' nodes nodes' edges edges' place place' result
+    pub read-says : {tails rotations tails' rotations' : List ℕ} {capacities capacities' : List ℤ} {nodes nodes' edges edges' outer outer' : ℕ}
+        → TellsRead s tails rotations capacities tails' rotations' capacities' nodes nodes' edges edges' outer outer' place place' result
         → Says (readChecks s tails rotations capacities) result place place'
-        ((tails' ≡ tails) × (rotations' ≡ rotations) × (capacities' ≡ capacities) × (nodes' ≡ nodes) × (edges' ≡ edges))
-    read-says (read.Counts n e, h, t) = says-answer (h .0) (t .0) (t .3)
-    read-says (read.Refused k p, h, t) = says-refusal k p (read-numbered s _ _ _) (h .0) (t .0) (t .3) (h .1, h .2, h .3, t .1, t .2)
+        ((tails' ≡ tails) × (rotations' ≡ rotations) × (capacities' ≡ capacities) × (nodes' ≡ nodes) × (edges' ≡ edges) × (outer' ≡ outer))
+    read-says (read.Counts n e o, h, t) = says-answer (h .0) (t .0) (t .4)
+    read-says (read.Refused k p, h, t) = says-refusal k p (read-numbered s _ _ _) (h .0) (t .0) (t .4) (h .1, h .2, h .3, t .1, t .2, t .3)
 
     pub solve-says : {source sink : ℕ} {value : ℤ} {flows flows' : List ℤ} {set set' : List ℕ} {can can' size size' : ℕ}
         → TellsSolve s source sink value flows flows' set set' can can' size size' place place' result

@@ -17,7 +17,7 @@ use ranges::RangeAnswer;
 use sheets::ReadAnswer;
 use sheets::WriteAnswer;
 
-// Read. The counts of nodes and edges, and the three slices, two elements to an edge.
+// Read. The counts of nodes and edges, the outer dart, and the three slices, two elements to an edge.
 #[no_mangle]
 pub extern "C" fn analyser_read(
     sheet: &[u8],
@@ -26,17 +26,19 @@ pub extern "C" fn analyser_read(
     capacities: &mut [i32],
     nodes: &mut u16,
     edges: &mut u16,
+    outer: &mut u16,
     place: &mut u16,
 ) -> u8
     ensures { λ r. ⌜ TellsRead (now (sheet .entry)) (now (tails .entry)) (now (rotations .entry)) (now (capacities .entry))
         (now (tails .exit)) (now (rotations .exit)) (now (capacities .exit)) (now (nodes .entry)) (now (nodes .exit))
-        (now (edges .entry)) (now (edges .exit)) (now (place .entry)) (now (place .exit)) r ⌝ }
+        (now (edges .entry)) (now (edges .exit)) (now (outer .entry)) (now (outer .exit)) (now (place .entry)) (now (place .exit)) r ⌝ }
 {
     let answer = sheets::read(sheet, tails, rotations, capacities);
     match answer {
-        ReadAnswer::Counts(n, e) => {
+        ReadAnswer::Counts(n, e, o) => {
             *nodes = n;
             *edges = e;
+            *outer = o;
             0
         }
         ReadAnswer::Refused(k, p) => {
@@ -50,6 +52,7 @@ pub extern "C" fn analyser_read(
 #[no_mangle]
 pub extern "C" fn analyser_write(
     nodes: u16,
+    outer: u16,
     tails: &[u16],
     rotations: &[u16],
     capacities: &[i32],
@@ -57,10 +60,10 @@ pub extern "C" fn analyser_write(
     length: &mut usize,
     place: &mut u16,
 ) -> u8
-    ensures { λ r. ⌜ TellsWrite nodes (now (tails .entry)) (now (rotations .entry)) (now (capacities .entry)) (now (sheet .entry))
+    ensures { λ r. ⌜ TellsWrite nodes outer (now (tails .entry)) (now (rotations .entry)) (now (capacities .entry)) (now (sheet .entry))
         (now (sheet .exit)) (now (length .entry)) (now (length .exit)) (now (place .entry)) (now (place .exit)) r ⌝ }
 {
-    let answer = sheets::write(nodes, tails, rotations, capacities, sheet);
+    let answer = sheets::write(nodes, outer, tails, rotations, capacities, sheet);
     match answer {
         WriteAnswer::Bytes(n) => {
             *length = n;

@@ -24,7 +24,7 @@ use Rattle.records.specs.Sheet.{nodesOf, edgesOf, capacityOf, outerOf, sheetMap
 use Rattle.records.proofs.Bytes.{bytes-range, bytes-capacities, bytes-pairs}
 use Rattle.records.proofs.Drawing.{capacity-inside}
 use Rattle.sheets.specs.Open.{sheetChecks}
-use Rattle.sheets.proofs.Accepted.{sheet-bytes, sheet-map, sheet-counts}
+use Rattle.sheets.proofs.Accepted.{sheet-bytes, sheet-map, sheet-counts, sheet-outer}
 
 module _ (s : List ℕ) (h : NoneOf (sheetChecks s)) where
   pub plane : Plane (sheetMap s)
@@ -37,8 +37,7 @@ module _ (s : List ℕ) (h : NoneOf (sheetChecks s)) where
   faces-at-most = let n = sheet-counts s h in faces-few plane (n .3) (n .0)
 
   pub outer-in : outerOf s < darts (sheetMap s)
-  unfolding outerOf
-  outer-in = let n = sheet-counts s h in omega arith
+  outer-in = sheet-outer s h
 
   pub capacity-small : (d : ℕ) → d < darts (sheetMap s) → Limited mostOnSheet (capacityOf s d)
   capacity-small d l = let r = capacity-inside (capacityOf s d) (bytes-capacities s (sheet-bytes s h) d l) in record { low = r .0; high = r .1 }

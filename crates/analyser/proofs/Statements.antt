@@ -9,13 +9,14 @@ use lib.IntN.{ℤ, pos, _-ℤ_}
 use Rattle.refusals.specs.Order.{NoneOf}
 use Rattle.refusals.proofs.Order.{none-append, first-none}
 use Rattle.maps.specs.Face.{faces, left, right}
-use Rattle.maps.proofs.Faces.{left-in, right-in}
+use Rattle.maps.proofs.Faces.{left-in, right-in, first-face}
 use Rattle.flows.specs.Check.{withinChecks}
 use Rattle.arrays.specs.At.{atℤ}
 use Rattle.arrays.proofs.FillLoops.{filled-front}
 use Rattle.balance.proofs.Within.{within-none}
 use Rattle.balance.proofs.Balance.{circulation-none, none-carries, carries-none}
 use Rattle.records.specs.Sheet.{nodesOf, edgesOf, capacityOf, outerOf, sheetMap, sheetDrawing}
+use Rattle.records.proofs.Head.{kind-one-outer}
 use Rattle.sheets.specs.Open.{sheetChecks}
 use Rattle.questions.specs.Question.{endChecks}
 use Rattle.questions.specs.Mark.{paperChecks}
@@ -28,7 +29,7 @@ use Rattle.levels.specs.declared.LevelAnswer.the-variants as level
 use Rattle.levels.proofs.Given.{balanced-none}
 use Rattle.analyser.specs.Mark.{markChecks, Marks}
 use Rattle.analyser.specs.LevelsOf.{levelsChecks, GivesLevels}
-use Rattle.analyser.specs.Statements.{Delivers, BalancedWithin, LevelsFor, SettingsAndLevels, PossibleAndImpossible}
+use Rattle.analyser.specs.Statements.{Delivers, BalancedWithin, LevelsFor, SettingsAndLevels, OuterFace, PossibleAndImpossible}
 use Rattle.analyser.proofs.Accepted.{mark-parts, levels-none}
 use Rattle.analyser.proofs.SheetPlane.{plane, outer-in}
 use Rattle.analyser.proofs.Asked.{excludes}
@@ -89,6 +90,13 @@ settings-and-levels = record {
   leveled-balanced = back.leveled-balanced;
   settings-again = λ s flows levels levels' given again again' answer room h. back.settings-again s flows levels levels' given again again' room answer h;
   levels-again = λ s levels flows flows' given again again' answer room h. back.levels-again s levels flows flows' given again again' room answer h;
+}
+
+pub outer-face : OuterFace
+outer-face = record {
+  kind-one-outer = λ s sheet one f.
+      let zero = ap (left (sheetMap s)) (kind-one-outer s one) ∙ first-face (plane s sheet .sound) in
+      ((λ z. z ∙ zero), (λ e. e ∙ sym zero));
 }
 
 pub possible-and-impossible : PossibleAndImpossible

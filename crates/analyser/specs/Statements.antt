@@ -1,8 +1,8 @@
--- What the course book prints of the operations on sheets (document 01, demands 2 and 3; document 02, Job 4), as records: a field
--- for each statement, with the printed words above it. Each is about every run of an operation: all that a field knows of a run
--- is its contract, `Solves`, `FindsLargest`, `FindsRange`, `Marks`, `GivesLevels` or `GivesSettings`. A sheet or a question is
--- accepted where no check of its list holds; an accepted sheet is flat and connected, because 11 and 12 are among its checks.
--- Settings are any function from edges to whole numbers, deliveries any whole number. The proofs are in proofs/Statements.antt.
+-- What the course book prints of the operations on sheets (document 01, demands 2 and 3; document 02, Jobs 4 and 6), as records: a field for each statement,
+-- with the printed words above it. Each is about every run of an operation: all that a field knows of a run is its contract, `Solves`, `FindsLargest`,
+-- `FindsRange`, `Marks`, `GivesLevels` or `GivesSettings`. A sheet or a question is accepted where no check of its list holds; an accepted sheet is flat and
+-- connected, because 11 and 12 are among its checks. Settings are any function from edges to whole numbers, deliveries any whole number. The proofs are in
+-- proofs/Statements.antt and proofs/Range.antt.
 use Prim.Native.Nat.{ℕ, _≤_, _<_}
 use mathlib.Core.Path.{_≡_}
 use mathlib.Core.Logic.{_↔_}
@@ -14,10 +14,11 @@ use lib.Signed.{_≤ℤ_}
 use Rattle.refusals.specs.Order.{NoneOf}
 use Rattle.maps.specs.Face.{faces}
 use Rattle.flows.specs.Settings.{Within, Balanced, Carries}
+use Rattle.flows.specs.ZeroFace.{ZeroFace}
 use Rattle.flows.specs.Levels.{Levels}
 use Rattle.flows.specs.ProvingSet.{Proves, member, size}
 use Rattle.arrays.specs.At.{atℤ}
-use Rattle.records.specs.Sheet.{nodesOf, edgesOf, capacityOf, outerOf, sheetMap}
+use Rattle.records.specs.Sheet.{kindOf, nodesOf, edgesOf, capacityOf, outerOf, sheetMap}
 use Rattle.sheets.specs.Open.{sheetChecks}
 use Rattle.questions.specs.Question.{endChecks, SetWritten}
 use Rattle.questions.specs.declared.SolveAnswer.{SolveAnswer}
@@ -92,6 +93,11 @@ pub record SettingsAndLevels : Type 0 where
   pub levels-again : (s : List ℕ) (levels flows flows' : List ℤ) → GivesSettings s levels flows flows' Done
       → (again again' : List ℤ) (answer : LevelAnswer) → faces (sheetMap s) ≤ length again → GivesLevels s flows' again again' answer
       → (answer ≡ Done) × ((f : ℕ) → f < faces (sheetMap s) → atℤ again' f ≡ atℤ levels f)
+
+-- ── document 02, Job 6: "A kind 1 head is still read, as outer dart 0." The highest answer, both level operations and refusal 20 know the outer dart by the
+-- face at level 0 alone, which is face 0 then, as document 01 has it ──
+pub record OuterFace : Type 0 where
+  pub kind-one-outer : (s : List ℕ) → NoneOf (sheetChecks s) → kindOf s ≡ 1 → (f : ℕ) → ZeroFace (sheetMap s) (outerOf s) f ↔ (f ≡ 0)
 
 -- ── 3. "For every accepted flat connected drawing and question: "cannot" exactly when no whole-number settings carry the delivery, with a set of nodes
 -- that proves it; the largest delivery is carried by the settings given, nothing greater can be, and its set proves the next one impossible; "none" exactly

@@ -12,10 +12,11 @@ use sheets::WriteAnswer;
 
 fn say_read(answer: ReadAnswer) {
     match answer {
-        ReadAnswer::Counts(nodes, edges) => {
+        ReadAnswer::Counts(nodes, edges, outer) => {
             say::say(b": counts");
             say::half(nodes);
             say::half(edges);
+            say::half(outer);
         }
         ReadAnswer::Refused(k, p) => say::refused(k, p),
     }
@@ -39,7 +40,9 @@ pub fn write(
     capacities: &mut [i32],
     out: &mut [u8],
 ) {
-    say_write(sheets::write(case::half(s, 2), tails, rotations, capacities, out));
+    let nodes = case::half(s, 2);
+    let outer = case::half(s, 4);
+    say_write(sheets::write(nodes, outer, tails, rotations, capacities, out));
 }
 
 fn say_solve(answer: SolveAnswer) {

@@ -57,7 +57,7 @@ fn write_text(text: &[u8]) -> bool {
 }
 
 fn main() {
-    let mut buffer = [0u8; 8719];
+    let mut buffer = [0u8; 8721];
     let n = match read_input(&mut buffer) {
         Input::Ended(n) => n,
         Input::Full(n) => n,

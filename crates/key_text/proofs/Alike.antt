@@ -3,9 +3,11 @@
 use Prim.Native.Nat.{ℕ, _+_, _*_, _≤_, _<_}
 use mathlib.Core.Path.{_≡_, refl, sym, _∙_, ap, ap₂, subst}
 use mathlib.Core.Logic.{_⊎_, inl, inr}
+use mathlib.Core.Bool.{cond}
 use mathlib.Core.List.{List, [], _∷_, _++_}
 use native.Mathlib.Omega.{arith}
-use native.Mathlib.Decide.{decLe}
+use native.Mathlib.Decide.{decLe, ℕ-discrete}
+use lib.Dec.{eqb}
 use lib.ListN.{length, getD, take, drop, length-drop}
 use lib.Seq.{length-take-le, getD-take, getD-drop}
 use mir.Syntax.{w32}
@@ -15,10 +17,12 @@ use Rattle.refusals.proofs.Order.{append-first, first-left, first-right}
 use Rattle.refusals.proofs.Same.{Same, same-refl, same-append, same-in-turn, none-same, first-same}
 use Rattle.fields.specs.Fields.{u16At, u32At, i32At}
 use Rattle.rotations.specs.MapChecks.{mapChecks}
-use Rattle.records.specs.Record.{bodyLength, recordChecks}
-use Rattle.records.specs.Check.{countChecks, edgeChecks}
-use Rattle.records.specs.Sheet.{nodesOf, edgesOf, edgeAt, sheetMap, sheetDrawing, headChecks, edgeRecordChecks, byteChecks}
-use Rattle.records.proofs.Bytes.{head-counts, bytes-counts, bytes-length}
+use Rattle.records.specs.Record.{recordLength, bodyLength, recordChecks}
+use Rattle.records.specs.Check.{numberChecks, edgeChecks}
+use Rattle.records.specs.Sheet.{kindOf, headLength, nodesOf, edgesOf, outerOf, edgeAfter, edgeAt, sheetMap, sheetDrawing}
+use Rattle.records.specs.Sheet.{headRecordChecks, headChecks, edgeRecordChecks, byteChecks}
+use Rattle.records.proofs.Head.{head-at-most, head-lengths}
+use Rattle.records.proofs.Bytes.{head-kinds, head-whole, head-counts, bytes-head, bytes-counts, bytes-length}
 use Rattle.records.proofs.Fields.{edge-fields}
 use Rattle.sheets.specs.Open.{sheetChecks}
 
@@ -83,23 +87,66 @@ module _ (n : ℕ) (s s' : List ℕ) (h : Alike n s s') where
         ),
       )
 
-  head-alike : 5 ≤ n → Same (headChecks s) (headChecks s')
+  -- the head: its kind says how long it is and whether it names an outer dart
+  kind-alike : 1 ≤ n → kindOf s ≡ kindOf s'
+  kind-alike l = h .byte 0 (omega arith)
+
+  length-alike : 1 ≤ n → headLength s ≡ headLength s'
+  unfolding headLength
+  length-alike l = ap recordLength (kind-alike l)
+
+  outer-alike : 7 ≤ n → outerOf s ≡ outerOf s'
+  unfolding outerOf
+  outer-alike l = ap₂ (λ k o. cond (eqb k 4) o 0) (kind-alike (omega arith)) (u16-alike n s s' h 5 (omega arith))
+
+  head-record-alike : 17 ≤ n → Same (headRecordChecks s) (headRecordChecks s')
+  unfolding Same headRecordChecks
+  head-record-alike l =
+      let more = h .longer in
+      let more' = h .longer' in
+      let same = kind-alike (omega arith) in (
+        refl,
+        refl,
+        (λ g. omega arith),
+        (λ g. omega arith),
+        (
+          refl,
+          refl,
+          (λ g. ((λ e. g .0 (same ∙ e)), (λ e. g .1 (same ∙ e)))),
+          (λ g. ((λ e. g .0 (sym same ∙ e)), (λ e. g .1 (sym same ∙ e)))),
+          (refl, refl, (λ g. omega (arith, head-at-most s)), (λ g. omega (arith, head-at-most s')), tt),
+        ),
+      )
+
+  head-alike : 17 ≤ n → Same (headChecks s) (headChecks s')
   unfolding headChecks
   head-alike l =
-      same-append (recordChecks s 1 0) (recordChecks s' 1 0) (countChecks (nodesOf s) (edgesOf s)) (countChecks (nodesOf s') (edgesOf s'))
-      (record-alike 1 0 l) (same-if _ _ (ap₂ countChecks (u16-alike n s s' h 1 (omega arith)) (u16-alike n s s' h 3 (omega arith))))
+      same-append (headRecordChecks s) (headRecordChecks s')
+      (numberChecks (nodesOf s) (edgesOf s) (outerOf s)) (numberChecks (nodesOf s') (edgesOf s') (outerOf s'))
+      (head-record-alike l)
+      (same-if _ _ (λ i. numberChecks (u16-alike n s s' h 1 (omega arith) i) (u16-alike n s s' h 3 (omega arith) i) (outer-alike (omega arith) i)))
 
-  module _ (within : edgeAt (edgesOf s) ≤ n) where
+  module _ (enough : 17 ≤ n) (within : edgeAt s (edgesOf s) ≤ n) where
+    begin-alike : headLength s ≡ headLength s'
+    begin-alike = length-alike (omega arith)
+
     nodes-alike : nodesOf s ≡ nodesOf s'
     nodes-alike = u16-alike n s s' h 1 (omega arith)
 
     edges-alike : edgesOf s ≡ edgesOf s'
     edges-alike = u16-alike n s s' h 3 (omega arith)
 
+    -- the fields of an edge, which stand behind the head in both
+    u16-in-edge : (e : ℕ) → e < edgesOf s → (k : ℕ) → k ≤ 15 → u16At s (edgeAt s e + k) ≡ u16At s' (edgeAt s' e + k)
+    u16-in-edge e l k m = u16-alike n s s' h (edgeAt s e + k) (omega arith) ∙ ap (λ b. u16At s' (edgeAfter b e + k)) begin-alike
+
+    i32-in-edge : (e : ℕ) → e < edgesOf s → (k : ℕ) → k ≤ 13 → i32At s (edgeAt s e + k) ≡ i32At s' (edgeAt s' e + k)
+    i32-in-edge e l k m = i32-alike n s s' h (edgeAt s e + k) (omega arith) ∙ ap (λ b. i32At s' (edgeAfter b e + k)) begin-alike
+
     drawn-alike : (e : ℕ) → e < edgesOf s → edgeChecks (sheetDrawing s) e ≡ edgeChecks (sheetDrawing s') e
     drawn-alike e l =
-        let u : (k : ℕ) → k ≤ 15 → u16At s (edgeAt e + k) ≡ u16At s' (edgeAt e + k) = λ k m. u16-alike n s s' h (edgeAt e + k) (omega arith) in
-        let i : (k : ℕ) → k ≤ 13 → i32At s (edgeAt e + k) ≡ i32At s' (edgeAt e + k) = λ k m. i32-alike n s s' h (edgeAt e + k) (omega arith) in
+        let u = u16-in-edge e l in
+        let i = i32-in-edge e l in
         edge-fields s e l
         ∙ (rw (nodes-alike, edges-alike, u 1 (omega arith), u 3 (omega arith), u 5 (omega arith), u 7 (omega arith), i 9 (omega arith), i 13 (omega arith)))
         ∙ sym (edge-fields s' e (omega (arith, edges-alike)))
@@ -107,8 +154,9 @@ module _ (n : ℕ) (s s' : List ℕ) (h : Alike n s s') where
     edge-alike : (e : ℕ) → e < edgesOf s → Same (edgeRecordChecks s e) (edgeRecordChecks s' e)
     unfolding edgeRecordChecks
     edge-alike e l =
-        same-append (recordChecks s 2 (edgeAt e)) (recordChecks s' 2 (edgeAt e)) (edgeChecks (sheetDrawing s) e) (edgeChecks (sheetDrawing s') e)
-        (record-alike 2 (edgeAt e) (omega arith)) (same-if _ _ (drawn-alike e l))
+        same-append (recordChecks s 2 (edgeAt s e)) (recordChecks s' 2 (edgeAt s' e)) (edgeChecks (sheetDrawing s) e) (edgeChecks (sheetDrawing s') e)
+        (subst (λ b. Same (recordChecks s 2 (edgeAt s e)) (recordChecks s' 2 (edgeAfter b e))) begin-alike (record-alike 2 (edgeAt s e) (omega arith)))
+        (same-if _ _ (drawn-alike e l))
 
     in-turn-alike : Same (inTurn (edgesOf s) (edgeRecordChecks s)) (inTurn (edgesOf s') (edgeRecordChecks s'))
     in-turn-alike =
@@ -116,18 +164,19 @@ module _ (n : ℕ) (s s' : List ℕ) (h : Alike n s s') where
         (same-in-turn (edgesOf s) (edgeRecordChecks s) (edgeRecordChecks s') edge-alike)
 
     -- both have bytes left over
-    left-alike : Same ((8 when edgeAt (edgesOf s) < length s) ∷ []) ((8 when edgeAt (edgesOf s') < length s') ∷ [])
+    left-alike : Same ((8 when edgeAt s (edgesOf s) < length s) ∷ []) ((8 when edgeAt s' (edgesOf s') < length s') ∷ [])
     unfolding Same
     left-alike =
         let more = h .longer in
         let more' = h .longer' in
         let same = edges-alike in
+        let begin = begin-alike in
         (refl, refl, (λ g. omega arith), (λ g. omega arith), tt)
 
     bytes-alike : Same (byteChecks s) (byteChecks s')
     unfolding byteChecks
     bytes-alike =
-        same-append (headChecks s) (headChecks s') _ _ (head-alike (omega arith))
+        same-append (headChecks s) (headChecks s') _ _ (head-alike enough)
         (same-append (inTurn (edgesOf s) (edgeRecordChecks s)) (inTurn (edgesOf s') (edgeRecordChecks s')) _ _ in-turn-alike left-alike)
 
 -- ── the first check that holds ──
@@ -147,21 +196,33 @@ first-after cs ds es fs k p same over h = go (append-first cs es k p h)
     go (inl g) = first-left ds fs k p (first-same cs ds k p same g)
     go (inr g) = first-right ds fs k p (none-same cs ds same (g .0)) (over (g .1))
 
--- a sheet that is accepted has at most 5 + 17 · 512 bytes
-pub longest-bytes : (s : List ℕ) → NoneOf (byteChecks s) → length s ≤ 8709
-longest-bytes s none = let most = bytes-counts s none .3 in omega (arith, bytes-length s none)
+-- a sheet that is accepted has at most 7 + 17 · 512 bytes
+pub longest-bytes : (s : List ℕ) → NoneOf (byteChecks s) → length s ≤ 8711
+longest-bytes s none = let most = bytes-counts s none .3 in omega (arith, bytes-length s none, head-whole s (bytes-head s none) .2)
 
--- both are too long, so a check on bytes holds: at the latest 3 if the head says more than 512 edges, else 8
-module _ (s s' : List ℕ) (h : Alike 8709 s s') where
+-- both are too long, so a check on bytes holds: 2 if the head is of another kind, 3 if it says more than 512 edges, at the latest 8
+module _ (s s' : List ℕ) (h : Alike 8711 s s') where
   first-bytes : (k p : ℕ) → FirstOf (byteChecks s) k p → FirstOf (byteChecks s') k p
   unfolding byteChecks
-  first-bytes k p f = go (decLe (edgesOf s) 512)
+  first-bytes k p f = go (ℕ-discrete (kindOf s) 1) (ℕ-discrete (kindOf s) 4) (decLe (edgesOf s) 512)
     where
-      go : Dec (edgesOf s ≤ 512) → FirstOf (byteChecks s') k p
-      go (yes l) = first-same (byteChecks s) (byteChecks s') k p (bytes-alike 8709 s s' h (omega arith)) f
-      go (no l) =
-          first-within (headChecks s) (headChecks s') _ _ k p (λ none. l (head-counts s none .3))
-          (first-same (headChecks s) (headChecks s') k p (head-alike 8709 s s' h (omega arith))) f
+      by-head : (NoneOf (headChecks s) → ⊥) → FirstOf (byteChecks s') k p
+      by-head some =
+          first-within (headChecks s) (headChecks s') _ _ k p some
+          (first-same (headChecks s) (headChecks s') k p (head-alike 8711 s s' h (omega arith))) f
+
+      by-all : headLength s ≤ 7 → edgesOf s ≤ 512 → FirstOf (byteChecks s') k p
+      by-all short few = first-same (byteChecks s) (byteChecks s') k p (bytes-alike 8711 s s' h (omega arith) (omega arith)) f
+
+      no-kind : (kindOf s ≡ 1 → ⊥) → (kindOf s ≡ 4 → ⊥) → (kindOf s ≡ 1) ⊎ (kindOf s ≡ 4) → ⊥
+      no-kind p q (inl e) = p e
+      no-kind p q (inr e) = q e
+
+      go : Dec (kindOf s ≡ 1) → Dec (kindOf s ≡ 4) → Dec (edgesOf s ≤ 512) → FirstOf (byteChecks s') k p
+      go one four (no l) = by-head (λ none. l (head-counts s none .3))
+      go (yes one) four (yes l) = by-all (head-lengths s (inl one) .1) l
+      go (no one) (yes four) (yes l) = by-all (head-lengths s (inr four) .1) l
+      go (no one) (no four) (yes l) = by-head (λ none. no-kind one four (head-kinds s none))
 
   pub first-sheet : (k p : ℕ) → FirstOf (sheetChecks s) k p → FirstOf (sheetChecks s') k p
   unfolding sheetChecks

@@ -12,7 +12,7 @@ use Rattle.maps.specs.Dart.{rev}
 use Rattle.maps.specs.Check.{InRange}
 use Rattle.maps.proofs.Darts.{by-edge, rev-even, rev-odd}
 use Rattle.maps.specs.Drawing.{Drawing}
-use Rattle.records.specs.Check.{CapacityOutside, countChecks, fieldChecks, edgeChecks}
+use Rattle.records.specs.Check.{CapacityOutside, numberChecks, fieldChecks, edgeChecks}
 
 -- neither of two
 pub not-left : {A B : Type 0} → (A ⊎ B → ⊥) → A → ⊥
@@ -35,11 +35,17 @@ capacity-inside c h = (not-less c (negsuc 999999) (not-left h), not-less (pos 10
 turned-round : (x y : ℤ) → pos 0 ≤ℤ (x +ℤ y) → pos 0 ≤ℤ (y +ℤ x)
 turned-round x y h = let a = atoms₂ x y in at-most (search parts) (omega (arith, from-at-most h (search parts)))
 
-pub counts-range : (nodes edges : ℕ) → NoneOf (countChecks nodes edges) → (2 ≤ nodes) × (nodes ≤ 513) × (1 ≤ edges) × (edges ≤ 512)
-unfolding NoneOf countChecks
-counts-range nodes edges passed =
-    let h = passed .0 in
-    (omega (arith, not-left (not-left h)), omega (arith, not-right (not-left h)), omega (arith, not-left (not-right h)), omega (arith, not-right (not-right h)))
+module _ (nodes edges outer : ℕ) (passed : NoneOf (numberChecks nodes edges outer)) where
+  pub counts-range : (2 ≤ nodes) × (nodes ≤ 513) × (1 ≤ edges) × (edges ≤ 512)
+  unfolding NoneOf numberChecks
+  counts-range =
+      let nodes-in = not-left (passed .0) in
+      let edges-in = not-right (passed .0) in
+      (omega (arith, not-left nodes-in), omega (arith, not-right nodes-in), omega (arith, not-left edges-in), omega (arith, not-right edges-in))
+
+  pub outer-range : outer < 2 * edges
+  unfolding NoneOf numberChecks
+  outer-range = omega (arith, passed .1 .0)
 
 module _ (𝓓 : Drawing) (passed : (e : ℕ) → e < 𝓓 .map .edges → NoneOf (edgeChecks 𝓓 e)) where
   pub drawing-range : InRange (𝓓 .map)

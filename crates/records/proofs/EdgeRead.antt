@@ -13,7 +13,7 @@ use Rattle.records.proofs.Fields.{edge-fields}
 pub edge-read : (s : List ℕ) (e : ℕ) (v : Verdict) {nodes edges place tail head rotation back : ℕ} {forward backward : ℤ} → e < edges
     → nodes ≡ nodesOf s
     → edges ≡ edgesOf s
-    → place ≡ edgeAt e
+    → place ≡ edgeAt s e
     → tail ≡ u16At s (place + 1)
     → head ≡ u16At s (place + 3)
     → rotation ≡ u16At s (place + 5)

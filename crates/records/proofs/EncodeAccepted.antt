@@ -1,5 +1,5 @@
--- The encoding of a drawing passes the checks on bytes where the drawing passes those on its numbers.
-use mathlib.Core.Path.{ap}
+-- The bytes of a drawing, with a head of either kind, pass the checks on bytes where the drawing passes those on its numbers.
+use mathlib.Core.Path.{_≡_, ap}
 use mathlib.Core.List.{List, [], _∷_, _++_}
 use Prim.Native.Nat.{ℕ, _<_}
 use native.Mathlib.Omega.{arith}
@@ -8,44 +8,59 @@ use Rattle.refusals.specs.Order.{Check, _when_, NoneOf, inTurn}
 use Rattle.refusals.proofs.Order.{none-append, none-in-turn}
 use Rattle.maps.specs.Drawing.{Drawing}
 use Rattle.records.specs.Record.{bodyLength, recordChecks}
-use Rattle.records.specs.Check.{countChecks, edgeChecks}
-use Rattle.records.specs.Sheet.{nodesOf, edgesOf, edgeAt, sheetDrawing, headChecks, edgeRecordChecks, byteChecks}
-use Rattle.records.specs.Encode.{encode}
-use Rattle.records.proofs.Places.{encode-length}
+use Rattle.records.specs.Check.{numberChecks, edgeChecks}
+use Rattle.records.specs.Sheet.{nodesOf, edgesOf, outerOf, edgeAt, sheetDrawing, headRecordChecks, headChecks, edgeRecordChecks, byteChecks}
+use Rattle.records.specs.Encode.{encodeHead, plainHead, encode, encodePlain}
+use Rattle.records.proofs.Places.{front-length}
 use Rattle.records.proofs.Record.{record-passes}
+use Rattle.records.proofs.Head.{head-passes}
 use Rattle.records.proofs.Encodable.{Encodable}
-use Rattle.records.proofs.Decode.{kind-of-head, kind-of-edge, same-edges, sheet-encode}
+use Rattle.records.proofs.Decode.{headed, HeadOf, outer-head, plain-head, kind-of-edge, sheet-headed}
 
-module _ (𝓓 : Drawing) where
-  head-record : NoneOf (recordChecks (encode 𝓓) 1 0)
-  head-record = record-passes (encode 𝓓) 1 0 (kind-of-head 𝓓) (omega (arith, encode-length 𝓓))
+module _ (𝓓 : Drawing) (fit : Encodable 𝓓) (h : List ℕ) (head : HeadOf 𝓓 h) where
+  abbrev bytes : List ℕ
+  bytes = headed h 𝓓
 
-  edge-record : (e : ℕ) → e < 𝓓 .map .edges → NoneOf (recordChecks (encode 𝓓) 2 (edgeAt e))
-  edge-record e h = record-passes (encode 𝓓) 2 (edgeAt e) (kind-of-edge 𝓓 e h) (omega (arith, encode-length 𝓓))
+  long : length bytes ≡ edgeAt bytes (𝓓 .map .edges)
+  long = omega (arith, front-length h 𝓓 (𝓓 .map .edges), head .size)
 
-  module _ (fit : Encodable 𝓓) where
-    head-accepted : NoneOf (countChecks (𝓓 .map .nodes) (𝓓 .map .edges)) → NoneOf (headChecks (encode 𝓓))
-    unfolding headChecks
-    head-accepted h =
-        none-append (recordChecks (encode 𝓓) 1 0) (countChecks (nodesOf (encode 𝓓)) (edgesOf (encode 𝓓)))
-        head-record (rw (ap (λ 𝓔. countChecks (𝓔 .map .nodes) (𝓔 .map .edges)) (sheet-encode 𝓓 fit)) h)
+  edge-record : (e : ℕ) → e < 𝓓 .map .edges → NoneOf (recordChecks bytes 2 (edgeAt bytes e))
+  edge-record e l = record-passes bytes 2 (edgeAt bytes e) (kind-of-edge 𝓓 h head e l) (omega (arith, long))
 
-    edge-accepted : ((e : ℕ) → e < 𝓓 .map .edges → NoneOf (edgeChecks 𝓓 e)) → (e : ℕ) → e < edgesOf (encode 𝓓) → NoneOf (edgeRecordChecks (encode 𝓓) e)
-    unfolding edgeRecordChecks
-    edge-accepted h e l =
-        let below : e < 𝓓 .map .edges = omega (arith, same-edges 𝓓 fit) in
-        none-append (recordChecks (encode 𝓓) 2 (edgeAt e)) (edgeChecks (sheetDrawing (encode 𝓓)) e)
-        (edge-record e below) (rw (sheet-encode 𝓓 fit) (h e below))
+  head-accepted : NoneOf (numberChecks (𝓓 .map .nodes) (𝓓 .map .edges) (𝓓 .outer)) → NoneOf (headChecks bytes)
+  unfolding headChecks
+  head-accepted g =
+      none-append (headRecordChecks bytes) (numberChecks (nodesOf bytes) (edgesOf bytes) (outerOf bytes))
+      (head-passes bytes (head .kind) (omega (arith, long)))
+      (rw (ap (λ 𝓔. numberChecks (𝓔 .map .nodes) (𝓔 .map .edges) (𝓔 .outer)) (sheet-headed 𝓓 fit h head)) g)
 
-    end-accepted : NoneOf ((8 when edgeAt (edgesOf (encode 𝓓)) < length (encode 𝓓)) ∷ [])
-    unfolding NoneOf
-    end-accepted = ((λ h. omega (arith, encode-length 𝓓, same-edges 𝓓 fit)), tt)
+  edge-accepted : ((e : ℕ) → e < 𝓓 .map .edges → NoneOf (edgeChecks 𝓓 e)) → (e : ℕ) → e < edgesOf bytes → NoneOf (edgeRecordChecks bytes e)
+  unfolding edgeRecordChecks
+  edge-accepted g e l =
+      let below : e < 𝓓 .map .edges = omega (arith, head .edges) in
+      none-append (recordChecks bytes 2 (edgeAt bytes e)) (edgeChecks (sheetDrawing bytes) e)
+      (edge-record e below) (rw (sheet-headed 𝓓 fit h head) (g e below))
 
-    pub encode-accepted : NoneOf (countChecks (𝓓 .map .nodes) (𝓓 .map .edges))
-        → ((e : ℕ) → e < 𝓓 .map .edges → NoneOf (edgeChecks 𝓓 e)) → NoneOf (byteChecks (encode 𝓓))
-    unfolding byteChecks
-    encode-accepted h g =
-        let end : List Check = (8 when edgeAt (edgesOf (encode 𝓓)) < length (encode 𝓓)) ∷ [] in
-        let turns = inTurn (edgesOf (encode 𝓓)) (edgeRecordChecks (encode 𝓓)) in
-        none-append (headChecks (encode 𝓓)) (turns ++ end) (head-accepted h)
-        (none-append turns end (none-in-turn (edgesOf (encode 𝓓)) (edgeRecordChecks (encode 𝓓)) (edge-accepted g)) end-accepted)
+  end-accepted : NoneOf ((8 when edgeAt bytes (edgesOf bytes) < length bytes) ∷ [])
+  unfolding NoneOf
+  end-accepted = ((λ l. omega (arith, long, head .edges)), tt)
+
+  headed-accepted : NoneOf (numberChecks (𝓓 .map .nodes) (𝓓 .map .edges) (𝓓 .outer))
+      → ((e : ℕ) → e < 𝓓 .map .edges → NoneOf (edgeChecks 𝓓 e)) → NoneOf (byteChecks bytes)
+  unfolding byteChecks
+  headed-accepted numbers edges =
+      let end : List Check = (8 when edgeAt bytes (edgesOf bytes) < length bytes) ∷ [] in
+      let turns = inTurn (edgesOf bytes) (edgeRecordChecks bytes) in
+      none-append (headChecks bytes) (turns ++ end) (head-accepted numbers)
+      (none-append turns end (none-in-turn (edgesOf bytes) (edgeRecordChecks bytes) (edge-accepted edges)) end-accepted)
+
+module _ (𝓓 : Drawing) (fit : Encodable 𝓓) where
+  pub encode-accepted : NoneOf (numberChecks (𝓓 .map .nodes) (𝓓 .map .edges) (𝓓 .outer))
+      → ((e : ℕ) → e < 𝓓 .map .edges → NoneOf (edgeChecks 𝓓 e)) → NoneOf (byteChecks (encode 𝓓))
+  unfolding encode
+  encode-accepted = headed-accepted 𝓓 fit (encodeHead 𝓓) (outer-head 𝓓 fit)
+
+  pub plain-accepted : 𝓓 .outer ≡ 0 → NoneOf (numberChecks (𝓓 .map .nodes) (𝓓 .map .edges) (𝓓 .outer))
+      → ((e : ℕ) → e < 𝓓 .map .edges → NoneOf (edgeChecks 𝓓 e)) → NoneOf (byteChecks (encodePlain 𝓓))
+  unfolding encodePlain
+  plain-accepted zero = headed-accepted 𝓓 fit (plainHead 𝓓) (plain-head 𝓓 fit zero)

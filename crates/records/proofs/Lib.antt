@@ -1,7 +1,9 @@
 -- Records and fields of a sheet: the byte checks, what they leave, and the round trip.
 pub mod Record
+pub mod Head
 pub mod Fields
 pub mod Drawing
+pub mod KindOne
 pub mod Bytes
 pub mod ByteChecks
 pub mod Examples

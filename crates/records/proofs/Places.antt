@@ -1,4 +1,4 @@
--- Where the encoding of a drawing has what: its length, its bytes, and the record of each edge at `edgeAt`.
+-- Where bytes that are a head and then the edges of a drawing have what: how long they are, and the record of each edge. The head may be of either kind.
 use mathlib.Core.Path.{_≡_, refl, sym, _∙_, ap}
 use mathlib.Core.List.{List, [], _∷_, _++_, append-assoc, append-nil}
 use Prim.Native.Nat.{ℕ, zero, suc, _+_, _*_, _≤_, _<_}
@@ -12,11 +12,11 @@ use mir.Val.{SFits}
 use Rattle.fields.specs.Fields.{u16At, i32At, le16, leBits, le32}
 use Rattle.fields.proofs.Laws.{u16-of, i32-of}
 use Rattle.maps.specs.Drawing.{Drawing}
-use Rattle.records.specs.Sheet.{edgeAt}
-use Rattle.records.specs.Encode.{encodeHead, encodeEdge, encodeEdges, encode}
+use Rattle.records.specs.Sheet.{edgeAfter}
+use Rattle.records.specs.Encode.{encodeHead, encodeEdge, encodeEdges, encode, encodeLength}
 
 -- ── lengths ──
-pub head-length : (𝓓 : Drawing) → length (encodeHead 𝓓) ≡ 5
+pub head-length : (𝓓 : Drawing) → length (encodeHead 𝓓) ≡ 7
 unfolding encodeHead le16
 head-length 𝓓 = refl
 
@@ -29,13 +29,13 @@ unfolding encodeEdges
 edges-length 𝓓 zero = refl
 edges-length 𝓓 (suc n) = length-append (encodeEdges 𝓓 n) (encodeEdge 𝓓 n) ∙ omega (arith, edges-length 𝓓 n, edge-length 𝓓 n)
 
--- the head and the first n edges, which stand before edge n
-pub front-length : (𝓓 : Drawing) (n : ℕ) → length (encodeHead 𝓓 ++ encodeEdges 𝓓 n) ≡ edgeAt n
-front-length 𝓓 n = length-append (encodeHead 𝓓) (encodeEdges 𝓓 n) ∙ omega (arith, head-length 𝓓, edges-length 𝓓 n)
+-- a head and the first n edges, which stand before edge n
+pub front-length : (h : List ℕ) (𝓓 : Drawing) (n : ℕ) → length (h ++ encodeEdges 𝓓 n) ≡ edgeAfter (length h) n
+front-length h 𝓓 n = length-append h (encodeEdges 𝓓 n) ∙ omega (arith, edges-length 𝓓 n)
 
-pub encode-length : (𝓓 : Drawing) → length (encode 𝓓) ≡ 5 + 17 * 𝓓 .map .edges
+pub encode-length : (𝓓 : Drawing) → length (encode 𝓓) ≡ encodeLength (𝓓 .map .edges)
 unfolding encode
-encode-length 𝓓 = front-length 𝓓 (𝓓 .map .edges)
+encode-length 𝓓 = omega (arith, front-length (encodeHead 𝓓) 𝓓 (𝓓 .map .edges), head-length 𝓓)
 
 -- ── bytes ──
 -- each number of the list is one byte; a record, so that a search can take the list apart
@@ -68,13 +68,13 @@ le32-bytes : (x : ℤ) → Bytes (le32 x)
 unfolding le32 leBits
 le32-bytes x = more-bytes (omega arith) (more-bytes (omega arith) (more-bytes (omega arith) (more-bytes (omega arith) none-bytes)))
 
-kind-1 : 1 < 256
-kind-1 = omega arith
+kind-4 : 4 < 256
+kind-4 = omega arith
 
 kind-2 : 2 < 256
 kind-2 = omega arith
 
-ruleset bytes = (more-bytes, append-bytes, le16-bytes, le32-bytes, kind-1, kind-2)
+ruleset bytes = (more-bytes, append-bytes, le16-bytes, le32-bytes, kind-2, kind-4)
 
 head-bytes : (𝓓 : Drawing) → Bytes (encodeHead 𝓓)
 unfolding encodeHead
@@ -101,28 +101,27 @@ pub record StandsAt (at : ℕ) (bs s : List ℕ) : Type 0 where
   pub is : s ≡ before ++ (bs ++ after)
   pub place : length before ≡ at
 
-edge-among : (𝓓 : Drawing) (e n : ℕ) → e < n → StandsAt (edgeAt e) (encodeEdge 𝓓 e) (encodeHead 𝓓 ++ encodeEdges 𝓓 n)
-unfolding encodeEdges
-edge-among 𝓓 e zero h = absurd (omega arith)
-edge-among 𝓓 e (suc n) h = go (ℕ-discrete e n) (edge-among 𝓓 e n)
-  where
-    go : Dec (e ≡ n)
-        → (e < n → StandsAt (edgeAt e) (encodeEdge 𝓓 e) (encodeHead 𝓓 ++ encodeEdges 𝓓 n))
-        → StandsAt (edgeAt e) (encodeEdge 𝓓 e) (encodeHead 𝓓 ++ (encodeEdges 𝓓 n ++ encodeEdge 𝓓 n))
-    go (yes p) ih =
-        record { before = encodeHead 𝓓 ++ encodeEdges 𝓓 n; after = []; is = rw p (simp (append-assoc, append-nil)); place = rw p (front-length 𝓓 n) }
-    go (no p) ih =
-        let r = ih (omega (arith, p)) in
-        record {
-          before = r .before;
-          after = r .after ++ encodeEdge 𝓓 n;
-          is = sym (append-assoc (encodeHead 𝓓) (encodeEdges 𝓓 n) (encodeEdge 𝓓 n)) ∙ ap (λ l. l ++ encodeEdge 𝓓 n) (r .is) ∙ simp append-assoc;
-          place = r .place;
-        }
+module _ (h : List ℕ) (𝓓 : Drawing) (e : ℕ) where
+  edge-among : (n : ℕ) → e < n → StandsAt (edgeAfter (length h) e) (encodeEdge 𝓓 e) (h ++ encodeEdges 𝓓 n)
+  unfolding encodeEdges
+  edge-among zero l = absurd (omega arith)
+  edge-among (suc n) l = go (ℕ-discrete e n) (edge-among n)
+    where
+      go : Dec (e ≡ n)
+          → (e < n → StandsAt (edgeAfter (length h) e) (encodeEdge 𝓓 e) (h ++ encodeEdges 𝓓 n))
+          → StandsAt (edgeAfter (length h) e) (encodeEdge 𝓓 e) (h ++ (encodeEdges 𝓓 n ++ encodeEdge 𝓓 n))
+      go (yes p) ih = record { before = h ++ encodeEdges 𝓓 n; after = []; is = rw p (simp (append-assoc, append-nil)); place = rw p (front-length h 𝓓 n) }
+      go (no p) ih =
+          let r = ih (omega (arith, p)) in
+          record {
+            before = r .before;
+            after = r .after ++ encodeEdge 𝓓 n;
+            is = sym (append-assoc h (encodeEdges 𝓓 n) (encodeEdge 𝓓 n)) ∙ ap (λ l. l ++ encodeEdge 𝓓 n) (r .is) ∙ simp append-assoc;
+            place = r .place;
+          }
 
-pub edge-stands : (𝓓 : Drawing) (e : ℕ) → e < 𝓓 .map .edges → StandsAt (edgeAt e) (encodeEdge 𝓓 e) (encode 𝓓)
-unfolding encode
-edge-stands 𝓓 e h = edge-among 𝓓 e (𝓓 .map .edges) h
+  pub edge-stands : e < 𝓓 .map .edges → StandsAt (edgeAfter (length h) e) (encodeEdge 𝓓 e) (h ++ encodeEdges 𝓓 (𝓓 .map .edges))
+  edge-stands l = edge-among (𝓓 .map .edges) l
 
 -- ── a part of a part, and the field that it is ──
 -- cs stands k into bs, and reaches to m

@@ -27,8 +27,5 @@ pub record-passes : (s : List ℕ) (kind at : ℕ) → getD s at 0 ≡ kind → 
 unfolding NoneOf recordChecks
 record-passes s kind at first whole = ((λ h. omega (arith, whole)), ((λ h. h first), ((λ h. omega (arith, whole)), tt)))
 
-pub head-body : (s : List ℕ) → NoneOf (recordChecks s 1 0) → 5 ≤ length s
-head-body s h = record-whole s 1 0 h
-
-pub edge-body : (s : List ℕ) (e : ℕ) → NoneOf (recordChecks s 2 (edgeAt e)) → edgeAt e + 17 ≤ length s
-edge-body s e h = omega (arith, record-whole s 2 (edgeAt e) h)
+pub edge-body : (s : List ℕ) (e : ℕ) → NoneOf (recordChecks s 2 (edgeAt s e)) → edgeAt s e + 17 ≤ length s
+edge-body s e h = omega (arith, record-whole s 2 (edgeAt s e) h)

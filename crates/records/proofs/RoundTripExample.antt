@@ -9,7 +9,7 @@ use Rattle.refusals.specs.Order.{NoneOf}
 use Rattle.refusals.proofs.Order.{neither}
 use Rattle.fields.specs.Fields.{le16, leBits, le32}
 use Rattle.maps.specs.Drawing.{Drawing}
-use Rattle.records.specs.Check.{countChecks, fieldChecks, edgeChecks}
+use Rattle.records.specs.Check.{numberChecks, fieldChecks, edgeChecks}
 use Rattle.records.specs.Sheet.{sheetDrawing, byteChecks}
 use Rattle.records.specs.Encode.{encodeHead, encodeEdge, encodeEdges, encode}
 use Rattle.records.proofs.Encodable.{Encodable, encodable-of-checks}
@@ -22,20 +22,20 @@ bridge =
     record {
       map = record { nodes = 2; edges = 1; tail = λ d. getD (0 ∷ 1 ∷ []) d 0; rotation = λ d. getD (0 ∷ 1 ∷ []) d 0 };
       capacity = λ d. getD (pos 5 ∷ negsuc 2 ∷ []) d (pos 0);
-      outer = 0;
+      outer = 1;
     }
 
--- the head, then the kind of an edge with its ends and turns, then its capacities
+-- the head, with dart 1 on the outer face, then the kind of an edge with its ends and turns, then its capacities
 abbrev bridgeSheet : List ℕ
-bridgeSheet = 1 ∷ 2 ∷ 0 ∷ 1 ∷ 0 ∷ 2 ∷ 0 ∷ 0 ∷ 1 ∷ 0 ∷ 0 ∷ 0 ∷ 1 ∷ 0 ∷ 5 ∷ 0 ∷ 0 ∷ 0 ∷ 253 ∷ 255 ∷ 255 ∷ 255 ∷ []
+bridgeSheet = 4 ∷ 2 ∷ 0 ∷ 1 ∷ 0 ∷ 1 ∷ 0 ∷ 2 ∷ 0 ∷ 0 ∷ 1 ∷ 0 ∷ 0 ∷ 0 ∷ 1 ∷ 0 ∷ 5 ∷ 0 ∷ 0 ∷ 0 ∷ 253 ∷ 255 ∷ 255 ∷ 255 ∷ []
 
 bridge-encoded : encode bridge ≡ bridgeSheet
 unfolding encode encodeHead encodeEdges encodeEdge le16 le32 leBits
 bridge-encoded = refl
 
-bridge-counts : NoneOf (countChecks 2 1)
-unfolding countChecks NoneOf
-bridge-counts = (neither (neither (λ l. omega arith) (λ l. omega arith)) (neither (λ l. omega arith) (λ l. omega arith)), tt)
+bridge-numbers : NoneOf (numberChecks 2 1 1)
+unfolding numberChecks NoneOf
+bridge-numbers = (neither (neither (λ l. omega arith) (λ l. omega arith)) (neither (λ l. omega arith) (λ l. omega arith)), ((λ l. omega arith), tt))
 
 bridge-edges : (e : ℕ) → e < 1 → NoneOf (edgeChecks bridge e)
 unfolding edgeChecks fieldChecks NoneOf
@@ -50,16 +50,15 @@ bridge-edges (suc e) h = absurd (omega arith)
 
 bridge-encodable : Encodable bridge
 bridge-encodable =
-    encodable-of-checks bridge bridge-counts bridge-edges
+    encodable-of-checks bridge bridge-numbers bridge-edges
     (record {
       tail-zero = λ d h. List·getD-eq-default (0 ∷ 1 ∷ []) 0 h;
       rotation-zero = λ d h. List·getD-eq-default (0 ∷ 1 ∷ []) 0 h;
       capacity-zero = λ d h. List·getD-eq-default (pos 5 ∷ negsuc 2 ∷ []) (pos 0) h;
-      outer-zero = refl;
     })
 
 bridge-accepted : NoneOf (byteChecks bridgeSheet)
-bridge-accepted = rw (← bridge-encoded) (encode-accepted bridge bridge-encodable bridge-counts bridge-edges)
+bridge-accepted = rw (← bridge-encoded) (encode-accepted bridge bridge-encodable bridge-numbers bridge-edges)
 
 bridge-read : sheetDrawing bridgeSheet ≡ bridge
 bridge-read = rw (← bridge-encoded) (sheet-encode bridge bridge-encodable)

@@ -1,6 +1,6 @@
--- The checks 3 to 7, on numbers, so that a sheet's bytes and the slices given to Write are judged by one definition. Document 01, "Operations": "3 a count out
--- of range", and for each channel "4 an end is no node; 5 a turn is no dart; 6 a limit out of range; 7 the two limits add to less than zero."
--- "Ranges: 2 to 513 nodes; 1 to 512 channels; limits −1,000,000 to 1,000,000".
+-- The checks 3, 24 and 4 to 7, on numbers, so that a sheet's bytes and the slices given to Write are judged by one definition. Document 01, "Operations": "3 a
+-- count out of range", and for each channel "4 an end is no node; 5 a turn is no dart; 6 a limit out of range; 7 the two limits add to less than zero."
+-- "Ranges: 2 to 513 nodes; 1 to 512 channels; limits −1,000,000 to 1,000,000". Document 02, Job 6: "24, right after 3, means that the outer dart is no dart."
 use Prim.Native.Nat.{ℕ, _+_, _*_, _≤_, _<_}
 use mathlib.Core.Logic.{_⊎_}
 use mathlib.Core.List.{List, [], _∷_}
@@ -18,9 +18,9 @@ Outside low high x = (x < low) ⊎ (high < x)
 abbrev pub CapacityOutside : ℤ → Type 0
 CapacityOutside c = (c <ℤ negsuc 999999) ⊎ (pos 1000000 <ℤ c)
 
--- 3
-unfoldable pub countChecks : ℕ → ℕ → List Check
-countChecks nodes edges = (3 when Outside 2 513 nodes ⊎ Outside 1 512 edges) ∷ []
+-- 3 and 24, on the numbers of a head: both counts, and the outer dart, which must be a dart of the drawing
+unfoldable pub numberChecks : (nodes edges outer : ℕ) → List Check
+numberChecks nodes edges outer = (3 when Outside 2 513 nodes ⊎ Outside 1 512 edges) ∷ (24 when 2 * edges ≤ outer) ∷ []
 
 -- 4 to 7 on the six fields of an edge's record, in their order there; a rotation must be a dart of the whole drawing
 unfoldable pub fieldChecks : ℕ → ℕ → (tail head rotation backRotation : ℕ) (forward backward : ℤ) → List Check

@@ -1,5 +1,5 @@
 -- Records. Document 01, "Records of a sheet": "A record is one byte of kind, then a body. A table fixes the body length of each kind: 1 has 4 bytes, 2 has
--- 16, 3 has 8." Kind 1 is the head of a sheet, 2 an edge ("channel"), 3 a question.
+-- 16, 3 has 8." Kind 1 is the head of a sheet, 2 an edge ("channel"), 3 a question. Document 02, Job 6: 4, a head that names the outer dart too, has 6.
 use Prim.Native.Nat.{ℕ, _+_, _≤_, _<_}
 use mathlib.Core.Logic.{_≢_}
 use mathlib.Core.Bool.{cond}
@@ -10,13 +10,13 @@ use Rattle.refusals.specs.Order.{Check, _when_}
 
 -- the table; 0 for a kind that there is not
 abbrev pub bodyLength : ℕ → ℕ
-bodyLength kind = cond (ltb kind 4) (getD (0 ∷ 4 ∷ 16 ∷ 8 ∷ []) kind 0) 0
+bodyLength kind = cond (ltb kind 5) (getD (0 ∷ 4 ∷ 16 ∷ 8 ∷ 6 ∷ []) kind 0) 0
 
 -- the byte of kind, and the body
 abbrev pub recordLength : ℕ → ℕ
 recordLength kind = 1 + bodyLength kind
 
--- a record of this kind is asked for at `at`: "1 no first byte; 2 kind not 1; 1 body cut short", and so for each kind
+-- a record of this kind is asked for at `at`: "1 no byte; 2 kind not 2; 1 body cut short", and so for a question; a head may have either of two kinds
 unfoldable pub recordChecks : List ℕ → ℕ → ℕ → List Check
 recordChecks s kind at =
     (1 when length s ≤ at)

@@ -1,6 +1,6 @@
 // Records of a sheet: the table of body lengths, and the checks 1 to 8 on bytes, in the order of document 01, "Operations".
 ghost use mathlib.Core.Path.{_≡_};
-ghost use mathlib.Core.Logic.{_⊎_};
+ghost use mathlib.Core.Logic.{_⊎_, _≢_};
 ghost use Prim.Native.Nat.{_+_, _*_, _<_, _≤_};
 ghost use lib.ListN.{length};
 ghost use lib.IntN.{pos, _+ℤ_};
@@ -8,12 +8,12 @@ ghost use lib.Signed.{_<ℤ_};
 ghost use Rattle.refusals.specs.Order.{Judged, Decides};
 ghost use Rattle.fields.specs.Fields.{u16At};
 ghost use Rattle.records.specs.Record.{bodyLength, recordLength, recordChecks};
-ghost use Rattle.records.specs.Check.{Outside, CapacityOutside, countChecks, fieldChecks};
-ghost use Rattle.records.specs.Sheet.{nodesOf, edgesOf, outerOf, edgeAt, headChecks, edgeRecordChecks, byteChecks};
+ghost use Rattle.records.specs.Check.{Outside, CapacityOutside, numberChecks, fieldChecks};
+ghost use Rattle.records.specs.Sheet.{nodesOf, edgesOf, outerOf, headLength, edgeAfter, headRecordChecks, headChecks, edgeRecordChecks, byteChecks};
 use refusals::Verdict;
 
-// The body length of each kind of record: kind 0 is none, 1 a head, 2 an edge, 3 a question.
-const BODY: [u8; 4] = [0, 4, 16, 8];
+// The body length of each kind of record: kind 0 is none, 1 a head, 2 an edge, 3 a question, 4 a head that names the outer dart.
+const BODY: [u8; 5] = [0, 4, 16, 8, 6];
 
 // At most 255, so what is added to it does not wrap.
 fn wide8(x: u8) -> usize
@@ -46,19 +46,12 @@ pub fn edges_of(s: &[u8]) -> usize
     read_wide(s, 3)
 }
 
-// The dart on the outer face that the head names: a head of kind 1 names none, and it is dart 0.
-pub fn outer_of(s: &[u8]) -> usize
-    ensures { λ r. ⌜ r ≡ outerOf (now (s .entry)) ⌝ }
-{
-    0
-}
-
 // Every reader of records takes a body's length from the table; 0 for a kind that there is not.
-fn body_length(kind: u8) -> u8
+pub fn body_length(kind: u8) -> u8
     ensures { λ r. ⌜ r ≡ bodyLength kind ⌝ }
 {
     let k = kind as usize;
-    if k < 4 { BODY[k] } else { 0 }
+    if k < 5 { BODY[k] } else { 0 }
 }
 
 // A record: the byte of kind, and the body.
@@ -68,12 +61,29 @@ pub fn record_length(kind: u8) -> usize
     1 + wide8(body_length(kind))
 }
 
-// Where the record of edge e begins; after the last one the sheet ends.
-pub fn edge_at(e: usize) -> usize
-    requires { ⌜ e ≤ 512 ⌝ }
-    ensures { λ r. ⌜ r ≡ edgeAt e ⌝ }
+// The head of a sheet is as long as its kind says.
+pub fn head_length(s: &[u8]) -> usize
+    requires { ⌜ 1 ≤ length (now s) ⌝ }
+    ensures { λ r. ⌜ (r ≡ headLength (now (s .entry))) × (r ≤ 256) ⌝ }
 {
-    record_length(1) + record_length(2) * e
+    let kind = s[0];
+    record_length(kind)
+}
+
+// The dart on the outer face that the head names after its counts: a head of kind 1 names none, and it is dart 0. Only a head of kind 4 is read there.
+pub fn outer_of(s: &[u8]) -> usize
+    requires { ⌜ headLength (now s) ≤ length (now s) ⌝ }
+    ensures { λ r. ⌜ r ≡ outerOf (now (s .entry)) ⌝ }
+{
+    if s[0] == 4 { read_wide(s, 5) } else { 0 }
+}
+
+// Where the record of edge e begins, after a head of so many bytes; after the last one the sheet ends.
+pub fn edge_at(head: usize, e: usize) -> usize
+    requires { ⌜ (head ≤ 256) × (e ≤ 512) ⌝ }
+    ensures { λ r. ⌜ r ≡ edgeAfter head e ⌝ }
+{
+    head + record_length(2) * e
 }
 
 // A record of this kind, whole, at `at`. Its kind is looked at before its length: a wrong kind is 2 even where the body is cut short.
@@ -107,9 +117,9 @@ fn outside(low: usize, high: usize, x: usize) -> bool
     false
 }
 
-// Check 3: 2 to 513 nodes, 1 to 512 edges.
-pub fn check_counts(nodes: usize, edges: usize) -> Verdict
-    ensures { λ r. ⌜ Judged (countChecks nodes edges) r ⌝ }
+// Checks 3 and 24: 2 to 513 nodes, 1 to 512 edges, then an outer dart that is a dart. Twice the edges is taken only once they are known to be few.
+pub fn check_numbers(nodes: usize, edges: usize, outer: usize) -> Verdict
+    ensures { λ r. ⌜ Judged (numberChecks nodes edges outer) r ⌝ }
 {
     if outside(2, 513, nodes) {
         return Verdict::Refused(3, 0);
@@ -117,20 +127,54 @@ pub fn check_counts(nodes: usize, edges: usize) -> Verdict
     if outside(1, 512, edges) {
         return Verdict::Refused(3, 0);
     }
+    if 2 * edges <= outer {
+        return Verdict::Refused(24, 0);
+    }
     Verdict::Passed
 }
 
-// The head of a sheet: a record of kind 1, then its two counts.
-fn check_head(s: &[u8]) -> Verdict
+// Neither kind of head.
+fn no_head(kind: u8) -> bool
+    ensures { λ r. ⌜ Decides ((kind ≢ 1) × (kind ≢ 4)) r ⌝ }
+{
+    if kind == 1 {
+        return false;
+    }
+    if kind == 4 {
+        return false;
+    }
+    true
+}
+
+// The record of a head, of either kind, whole. As for every record the kind is looked at before the length, which depends on it.
+fn check_head_record(s: &[u8]) -> Verdict
+    ensures { λ r. ⌜ Judged (headRecordChecks (now (s .entry))) r ⌝ }
+{
+    if s.len() == 0 {
+        return Verdict::Refused(1, 0);
+    }
+    if no_head(s[0]) {
+        return Verdict::Refused(2, 0);
+    }
+    if s.len() < head_length(s) {
+        return Verdict::Refused(1, 0);
+    }
+    Verdict::Passed
+}
+
+// The head of a sheet: its record, then its numbers. A body of 4 bytes and one of 6 have the counts at the same places; the outer dart is read only of a head
+// that is whole and names one.
+pub fn check_head(s: &[u8]) -> Verdict
     ensures { λ r. ⌜ Judged (headChecks (now (s .entry))) r ⌝ }
 {
-    let whole = check_record(s, 1, 0);
+    let whole = check_head_record(s);
     if let Verdict::Refused(k, p) = whole {
         return Verdict::Refused(k, p);
     }
     let nodes = read_wide(s, 1);
     let edges = read_wide(s, 3);
-    check_counts(nodes, edges)
+    let outer = outer_of(s);
+    check_numbers(nodes, edges, outer)
 }
 
 // One of the two numbers names nothing: there are only `count` things, from 0.
@@ -214,17 +258,17 @@ pub fn check_fields(
 }
 
 // The record of edge e, whole, and then its fields against the head's counts; it is read only once it is known to be whole.
-fn check_edge_record(s: &[u8], nodes: usize, edges: usize, e: usize) -> Verdict
-    requires { ⌜ (edges ≤ 512) × (e < edges) × (nodes ≡ nodesOf (now s)) × (edges ≡ edgesOf (now s)) ⌝ }
+pub fn check_edge_record(s: &[u8], head: usize, nodes: usize, edges: usize, e: usize) -> Verdict
+    requires { ⌜ (edges ≤ 512) × (e < edges) × (head ≤ 256) × (head ≡ headLength (now s)) × (nodes ≡ nodesOf (now s)) × (edges ≡ edgesOf (now s)) ⌝ }
     ensures { λ r. ⌜ Judged (edgeRecordChecks (now (s .entry)) e) r ⌝ }
 {
-    let at = edge_at(e);
+    let at = edge_at(head, e);
     let whole = check_record(s, 2, at);
     if let Verdict::Refused(k, p) = whole {
         return Verdict::Refused(k, p);
     }
     let tail = read_wide(s, at + 1);
-    let head = read_wide(s, at + 3);
+    let other = read_wide(s, at + 3);
     let rotation = read_wide(s, at + 5);
     let back_rotation = read_wide(s, at + 7);
     let forward = fields::read_i32(s, at + 9);
@@ -233,7 +277,7 @@ fn check_edge_record(s: &[u8], nodes: usize, edges: usize, e: usize) -> Verdict
         nodes,
         edges,
         tail,
-        head,
+        other,
         rotation,
         back_rotation,
         forward,
@@ -245,21 +289,22 @@ fn check_edge_record(s: &[u8], nodes: usize, edges: usize, e: usize) -> Verdict
 pub fn check_bytes(s: &[u8]) -> Verdict
     ensures { λ r. ⌜ Judged (byteChecks (now (s .entry))) r ⌝ }
 {
-    let head = check_head(s);
-    if let Verdict::Refused(k, p) = head {
+    let whole = check_head(s);
+    if let Verdict::Refused(k, p) = whole {
         return Verdict::Refused(k, p);
     }
+    let head = head_length(s);
     let nodes = read_wide(s, 1);
     let edges = read_wide(s, 3);
     let mut e: usize = 0;
     while e < edges {
-        let edge = check_edge_record(s, nodes, edges, e);
+        let edge = check_edge_record(s, head, nodes, edges, e);
         if let Verdict::Refused(k, p) = edge {
             return Verdict::Refused(k, p);
         }
         e += 1;
     }
-    if edge_at(edges) < s.len() {
+    if edge_at(head, edges) < s.len() {
         return Verdict::Refused(8, 0);
     }
     Verdict::Passed

@@ -19,8 +19,9 @@ use Rattle.arrays.specs.Filled.{filled}
 use Rattle.arrays.proofs.FillLoops.{filled-zeros}
 use Rattle.rotations.specs.MapChecks.{mapChecks, MapJudged}
 use Rattle.records.specs.Record.{recordLength}
-use Rattle.records.specs.Sheet.{nodesOf, edgesOf, outerOf, edgeAt, field16, field32, tailOf, rotationOf, capacityOf, sheetMap, sheetDrawing, byteChecks}
-use Rattle.records.proofs.Bytes.{bytes-length, bytes-counts}
+use Rattle.records.specs.Sheet.{headLength, nodesOf, edgesOf, outerOf, edgeAt, field16, field32}
+use Rattle.records.specs.Sheet.{tailOf, rotationOf, capacityOf, sheetMap, sheetDrawing, byteChecks}
+use Rattle.records.proofs.Bytes.{head-whole, bytes-head, bytes-length, bytes-counts}
 use Rattle.sheets.specs.declared.Opened.{Opened}
 use Rattle.sheets.specs.Open.{sheetChecks, Numbers, Opens}
 
@@ -53,11 +54,13 @@ drawings-are s nodes edges outer t r c n e o p q k = λ i. record { map = maps-a
 
 -- room for what the reading asks of a sheet whose bytes passed
 pub bytes-room : (s : List ℕ) → NoneOf (byteChecks s)
-    → (recordLength 1 ≤ length s) × (2 ≤ nodesOf s) × (nodesOf s ≤ 513) × (1 ≤ edgesOf s) × (edgesOf s ≤ 512) × (edgeAt (edgesOf s) ≤ length s)
+    → (recordLength 1 ≤ length s) × (2 ≤ nodesOf s) × (nodesOf s ≤ 513) × (1 ≤ edgesOf s) × (edgesOf s ≤ 512) × (edgeAt s (edgesOf s) ≤ length s)
+    × (headLength s ≤ length s)
 bytes-room s h =
     let n = bytes-counts s h in
     let l = bytes-length s h in
-    (omega arith, n .0, n .1, n .2, n .3, omega arith)
+    let w = head-whole s (bytes-head s h) in
+    (omega arith, n .0, n .1, n .2, n .3, omega arith, w .0)
 
 -- ── verdicts ──
 pub opens-refused : (s lefts : List ℕ) (o : Opened) (k p : ℕ) (v : Verdict) → v ≡ Refused k p → FirstOf (byteChecks s) k p → Opens s lefts o v

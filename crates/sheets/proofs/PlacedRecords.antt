@@ -3,12 +3,12 @@ use mathlib.Core.Path.{_≡_, refl, _∙_, ap}
 use mathlib.Core.List.{List, [], _∷_, _++_, append-assoc}
 use Prim.Native.Nat.{ℕ, _+_, _≤_}
 use native.Mathlib.Omega.{arith}
-use lib.ListN.{length, length-append}
+use lib.ListN.{length}
 use lib.IntN.{ℤ}
 use Rattle.fields.specs.Fields.{put, le16, le32}
 use Rattle.fields.proofs.Laws.{put-length, le16-length, le32-length}
 use Rattle.records.specs.Record.{recordLength}
-use Rattle.records.specs.Encode.{headBytes, edgeBytes}
+use Rattle.records.specs.Encode.{outerHeadBytes, edgeBytes}
 use Rattle.sheets.proofs.Placing.{Placed, placed-first, placed-next}
 
 -- ── one more field behind what stands at a place ──
@@ -20,20 +20,21 @@ pub placed-32 : {old : List ℕ} {at n : ℕ} {bs l next : List ℕ} → Placed 
     → Placed old at (bs ++ le32 v) (n + 4) next
 placed-32 p v e room = placed-next p _ 4 (le32 v) _ e refl (le32-length v) room
 
--- ── the head: its kind, the nodes, the edges ──
-pub head-placed : (old : List ℕ) {l₁ l₂ l₃ : List ℕ} (nodes edges : ℕ)
-    → recordLength 1 ≤ length old
-    → l₁ ≡ put 0 (1 ∷ []) old
+-- ── the head: its kind, the nodes, the edges, the outer dart ──
+pub head-placed : (old : List ℕ) {l₁ l₂ l₃ l₄ : List ℕ} (nodes edges outer : ℕ)
+    → recordLength 4 ≤ length old
+    → l₁ ≡ put 0 (4 ∷ []) old
     → l₂ ≡ put 1 (le16 nodes) l₁
     → l₃ ≡ put 3 (le16 edges) l₂
-    → l₃ ≡ put 0 (headBytes nodes edges) old
-head-placed old {l₁} {l₂} {l₃} nodes edges room e₁ e₂ e₃ = whole .bytes
+    → l₄ ≡ put 5 (le16 outer) l₃
+    → l₄ ≡ put 0 (outerHeadBytes nodes edges outer) old
+head-placed old {l₁} {l₂} {l₃} {l₄} nodes edges outer room e₁ e₂ e₃ e₄ = whole .bytes ∙ ap (λ bs. put 0 bs old) (simp append-assoc)
   where
-    counted : Placed old 0 ((1 ∷ []) ++ le16 nodes) 3 l₂
-    counted = placed-16 (placed-first e₁ refl) nodes e₂ (omega arith)
+    counted : Placed old 0 (((4 ∷ []) ++ le16 nodes) ++ le16 edges) 5 l₃
+    counted = placed-16 (placed-16 (placed-first e₁ refl) nodes e₂ (omega arith)) edges e₃ (omega arith)
 
-    whole : Placed old 0 (((1 ∷ []) ++ le16 nodes) ++ le16 edges) 5 l₃
-    whole = placed-16 counted edges e₃ (omega arith)
+    whole : Placed old 0 ((((4 ∷ []) ++ le16 nodes) ++ le16 edges) ++ le16 outer) 7 l₄
+    whole = placed-16 counted outer e₄ (omega arith)
 
 -- ── an edge: its kind, both tails, both rotations, both capacities ──
 pub edge-placed : (old : List ℕ) {l₁ l₂ l₃ l₄ l₅ l₆ l₇ : List ℕ} (place tail head rotation back : ℕ) (forward backward : ℤ)
@@ -59,6 +60,7 @@ edge-placed old {l₁} {l₂} {l₃} {l₄} {l₅} {l₆} {l₇} place tail head
     whole = placed-32 (placed-32 rotations forward e₆ (omega arith)) backward e₇ (omega arith)
 
 -- the head leaves the length as it was
-pub head-kept : (nodes edges : ℕ) (old l : List ℕ) → l ≡ put 0 (headBytes nodes edges) old → recordLength 1 ≤ length old → length l ≡ length old
-head-kept nodes edges old l h room =
-    ap length h ∙ put-length 0 (headBytes nodes edges) old (omega (arith, length-append (le16 nodes) (le16 edges), le16-length nodes, le16-length edges))
+pub head-kept : (nodes edges outer : ℕ) (old l : List ℕ) → l ≡ put 0 (outerHeadBytes nodes edges outer) old
+    → recordLength 4 ≤ length old → length l ≡ length old
+unfolding le16
+head-kept nodes edges outer old l h room = ap length h ∙ put-length 0 (outerHeadBytes nodes edges outer) old room

@@ -1,5 +1,6 @@
--- Read and Write undo each other, from their contracts alone. Document 01, "Operations": "Each of Read and Write undoes the other."
--- From accepted bytes to slices to the same bytes; from accepted slices to bytes, which the sheet checks accept, to the same slices.
+-- Read and Write undo each other, from their contracts alone. Document 01, "Operations": "Each of Read and Write undoes the other." From accepted bytes to
+-- slices to the same bytes where the head is of kind 4, and to the same drawing where it is of kind 1; from accepted slices to bytes, which the sheet checks
+-- accept, to the same slices.
 use mathlib.Core.Path.{_≡_, refl, sym, _∙_, ap, ap₂, subst, fun-ext}
 use mathlib.Core.Logic.{_⊎_, inl, inr}
 use mathlib.Core.List.{List, [], _∷_, _++_}
@@ -16,14 +17,15 @@ use Rattle.arrays.specs.At.{at, atℤ}
 use Rattle.arrays.specs.Maps.{mapOf}
 use Rattle.rotations.specs.MapChecks.{mapChecks}
 use Rattle.maps.specs.Drawing.{Drawing}
-use Rattle.records.specs.Check.{countChecks, edgeChecks}
-use Rattle.records.specs.Sheet.{nodesOf, edgesOf, edgeAt, tailOf, rotationOf, capacityOf, sheetMap, sheetDrawing, byteChecks}
-use Rattle.records.specs.Encode.{encode}
+use Rattle.records.specs.Check.{numberChecks, edgeChecks}
+use Rattle.records.specs.Sheet.{kindOf, nodesOf, edgesOf, outerOf, edgeAt, tailOf, rotationOf, capacityOf, sheetMap, sheetDrawing, byteChecks}
+use Rattle.records.specs.Encode.{encodeHead, encode, encodeLength}
 use Rattle.arrays.specs.Filled.{tabulate, filled}
 use Rattle.arrays.proofs.Tabulate.{length-tabulate, getD-tabulate, getD-past, tabulate-getD}
 use Rattle.records.proofs.Fields.{tail-past, rotation-past, capacity-past}
 use Rattle.records.proofs.Bytes.{bytes-length, bytes-head, head-range, bytes-drawn}
-use Rattle.records.proofs.SheetAgain.{encode-sheet}
+use Rattle.records.proofs.Head.{head-long}
+use Rattle.records.proofs.SheetAgain.{encode-sheet, kind-one-encoded}
 use Rattle.records.proofs.Encodable.{ZeroPast, Encodable, sheet-zero-past, encodable-of-checks}
 use Rattle.records.proofs.Places.{encode-length}
 use Rattle.records.proofs.Decode.{sheet-encode}
@@ -31,6 +33,7 @@ use Rattle.records.proofs.EncodeAccepted.{encode-accepted}
 use Rattle.sheets.specs.Open.{sheetChecks}
 use Rattle.sheets.specs.Read.{readChecks, Reads}
 use Rattle.sheets.specs.Write.{edgesIn, slicesDrawing, drawingChecks, writeChecks, Writes}
+use Rattle.sheets.specs.Statements.{asKindFour}
 use Rattle.sheets.specs.declared.ReadAnswer.{ReadAnswer}
 use Rattle.sheets.specs.declared.ReadAnswer.the-variants as read
 use Rattle.sheets.specs.declared.WriteAnswer.{WriteAnswer}
@@ -65,7 +68,7 @@ module _ (s : List ℕ) where
   half = omega (arith, length-tabulate m (tailOf s))
 
   -- the slices that Read fills describe the sheet's drawing
-  slices-are : slicesDrawing (nodesOf s) tails rotations capacities ≡ sheetDrawing s
+  slices-are : slicesDrawing (nodesOf s) (outerOf s) tails rotations capacities ≡ sheetDrawing s
   slices-are = λ i. record {
     map = record {
       nodes = nodesOf s;
@@ -74,7 +77,7 @@ module _ (s : List ℕ) where
       rotation = fun-ext (table-at 0 m (rotationOf s) (rotation-past s)) i;
     };
     capacity = fun-ext (table-at (pos 0) m (capacityOf s) (capacity-past s)) i;
-    outer = sym (sheet-zero-past s .outer-zero) i;
+    outer = outerOf s;
   }
 
   module _ (accepted : NoneOf (sheetChecks s)) where
@@ -84,36 +87,62 @@ module _ (s : List ℕ) where
     drawn : NoneOf (drawingChecks (sheetDrawing s))
     unfolding drawingChecks
     drawn =
-        none-append (countChecks (nodesOf s) (edgesOf s))
+        none-append (numberChecks (nodesOf s) (edgesOf s) (outerOf s))
         (inTurn (edgesOf s) (edgeChecks (sheetDrawing s)) ++ mapChecks (sheetMap s)) (head-range s (bytes-head s passed))
         (none-append (inTurn (edgesOf s) (edgeChecks (sheetDrawing s))) (mapChecks (sheetMap s))
         (none-in-turn (edgesOf s) (edgeChecks (sheetDrawing s)) (bytes-drawn s passed)) (sheet-map s accepted))
 
-    size : edgeAt (edgesIn tails) ≡ length s
-    size = ap edgeAt half ∙ sym (bytes-length s passed)
+    size : encodeLength (edgesIn tails) ≡ encodeLength (edgesOf s)
+    size = ap encodeLength half
 
-    -- Write, given what Read gave, writes the sheet again
-    pub write-undoes-read : ((i : ℕ) → getD s i 0 < 256) → (out out' : List ℕ) → length s ≤ length out
-        → (a : WriteAnswer) → Writes (nodesOf s) tails rotations capacities out out' a
-        → (a ≡ write.Bytes (length s)) × (out' ≡ s ++ drop (length s) out)
-    write-undoes-read bytes out out' room (write.Refused k p) h = absurd (first-none (writeChecks (nodesOf s) tails rotations capacities out) k p (h .0) whole)
+    -- Write, given what Read gave, writes the bytes of the sheet's drawing
+    written-again : (out out' : List ℕ) → encodeLength (edgesOf s) ≤ length out → (a : WriteAnswer)
+        → Writes (nodesOf s) (outerOf s) tails rotations capacities out out' a
+        → (a ≡ write.Bytes (encodeLength (edgesOf s))) × (out' ≡ encode (sheetDrawing s) ++ drop (encodeLength (edgesOf s)) out)
+    written-again out out' room (write.Refused k p) h =
+        absurd (first-none (writeChecks (nodesOf s) (outerOf s) tails rotations capacities out) k p (h .0) whole)
       where
-        whole : NoneOf (writeChecks (nodesOf s) tails rotations capacities out)
+        whole : NoneOf (writeChecks (nodesOf s) (outerOf s) tails rotations capacities out)
         whole =
-            write-whole (nodesOf s) tails rotations capacities out
+            write-whole (nodesOf s) (outerOf s) tails rotations capacities out
             (length-tabulate m (rotationOf s) ∙ sym (length-tabulate m (tailOf s)))
             (length-tabulate m (capacityOf s) ∙ sym (length-tabulate m (tailOf s)))
             (omega (arith, length-tabulate m (tailOf s)))
             (subst (λ 𝓓. NoneOf (drawingChecks 𝓓)) (sym slices-are) drawn)
             (omega (arith, size))
-    write-undoes-read bytes out out' room (write.Bytes n) h =
-        (ap write.Bytes (h .1 ∙ size), h .2 ∙ ap₂ (λ b k. b ++ drop k out) (ap encode slices-are ∙ encode-sheet s bytes passed) (h .1 ∙ size))
+    written-again out out' room (write.Bytes n) h =
+        (ap write.Bytes (h .1 ∙ size), h .2 ∙ ap₂ (λ b k. b ++ drop k out) (ap encode slices-are) (h .1 ∙ size))
+
+    -- those are the sheet, where its head is of kind 4
+    pub write-undoes-read : ((i : ℕ) → getD s i 0 < 256) → kindOf s ≡ 4 → (out out' : List ℕ) → length s ≤ length out → (a : WriteAnswer)
+        → Writes (nodesOf s) (outerOf s) tails rotations capacities out out' a
+        → (a ≡ write.Bytes (length s)) × (out' ≡ s ++ drop (length s) out)
+    write-undoes-read bytes four out out' room a h =
+        let long : encodeLength (edgesOf s) ≡ length s = omega (arith, bytes-length s passed, head-long s 4 four) in
+        let w = written-again out out' (omega arith) a h in
+        (w .0 ∙ ap write.Bytes long, w .1 ∙ ap₂ (λ b k. b ++ drop k out) (encode-sheet s bytes passed four) long)
+
+    -- and the sheet with a head of kind 4 that names dart 0, where it is of kind 1: the same drawing
+    fits-sheet : Encodable (sheetDrawing s)
+    fits-sheet = encodable-of-checks (sheetDrawing s) (head-range s (bytes-head s passed)) (bytes-drawn s passed) (sheet-zero-past s)
+
+    pub kind-one-again : ((i : ℕ) → getD s i 0 < 256) → kindOf s ≡ 1 → (out out' : List ℕ) → length s + 2 ≤ length out → (a : WriteAnswer)
+        → Writes (nodesOf s) (outerOf s) tails rotations capacities out out' a
+        → (a ≡ write.Bytes (length s + 2)) × (out' ≡ asKindFour s ++ drop (length s + 2) out) × (sheetDrawing (asKindFour s) ≡ sheetDrawing s)
+    kind-one-again bytes one out out' room a h =
+        let long : encodeLength (edgesOf s) ≡ length s + 2 = omega (arith, bytes-length s passed, head-long s 1 one) in
+        let w = written-again out out' (omega arith) a h in
+        let again = kind-one-encoded s bytes passed one in (
+          w .0 ∙ ap write.Bytes long,
+          w .1 ∙ ap₂ (λ b k. b ++ drop k out) again long,
+          subst (λ b. sheetDrawing b ≡ sheetDrawing s) again (sheet-encode (sheetDrawing s) fits-sheet),
+        )
 
 -- ── from slices to bytes to slices ──
-module _ (nodes : ℕ) (tails rotations : List ℕ) (capacities : List ℤ) (out : List ℕ)
-    (accepted : NoneOf (writeChecks nodes tails rotations capacities out)) where
+module _ (nodes outer : ℕ) (tails rotations : List ℕ) (capacities : List ℤ) (out : List ℕ)
+    (accepted : NoneOf (writeChecks nodes outer tails rotations capacities out)) where
   abbrev drawing : Drawing
-  drawing = slicesDrawing nodes tails rotations capacities
+  drawing = slicesDrawing nodes outer tails rotations capacities
 
   same-lengths : (length rotations ≡ length tails) × (length capacities ≡ length tails) × (length tails % 2 ≡ 0)
   unfolding writeChecks NoneOf
@@ -139,7 +168,6 @@ module _ (nodes : ℕ) (tails rotations : List ℕ) (capacities : List ℤ) (out
     tail-zero = λ d l. List·getD-eq-default tails 0 {n = d} (omega (arith, whole-length));
     rotation-zero = λ d l. List·getD-eq-default rotations 0 {n = d} (omega (arith, whole-length, same-lengths .0));
     capacity-zero = λ d l. List·getD-eq-default capacities (pos 0) {n = d} (omega (arith, whole-length, same-lengths .1));
-    outer-zero = refl;
   }
 
   fits : Encodable drawing
@@ -154,8 +182,13 @@ module _ (nodes : ℕ) (tails rotations : List ℕ) (capacities : List ℤ) (out
       (encode-accepted drawing fits (p .0) (p .1))
       (subst (λ 𝓓. NoneOf (mapChecks (𝓓 .map))) (sym (sheet-encode drawing fits)) (p .2))
 
+  -- of kind 4
+  pub written-kind : kindOf (encode drawing) ≡ 4
+  unfolding encode encodeHead
+  written-kind = refl
+
   -- and it stands at the front of the output
-  pub written-front : (out' : List ℕ) (n : ℕ) → Writes nodes tails rotations capacities out out' (write.Bytes n) → take n out' ≡ encode drawing
+  pub written-front : (out' : List ℕ) (n : ℕ) → Writes nodes outer tails rotations capacities out out' (write.Bytes n) → take n out' ≡ encode drawing
   written-front out' n h = ap (take n) (h .2) ∙ take-at (encode drawing) (drop n out) n (encode-length drawing ∙ sym (h .1))
 
   -- Read, given those bytes, fills the slices that Write was given
@@ -169,21 +202,24 @@ module _ (nodes : ℕ) (tails rotations : List ℕ) (capacities : List ℤ) (out
     table-again : {A : Type 0} (z : A) (n : ℕ) (l : List A) (f : ℕ → A) → f ≡ (λ d. getD l d z) → n ≡ length l → tabulate n f ≡ l
     table-again z n l f e h = ap₂ tabulate h e ∙ tabulate-getD (length l) l z refl
 
+    counts-are : {n n' e e' o o' : ℕ} → n ≡ n' → e ≡ e' → o ≡ o' → read.Counts n e o ≡ read.Counts n' e' o'
+    counts-are p q r = λ i. read.Counts (p i) (q i) (r i)
+
     pub read-undoes-write : (a : ReadAnswer) → Reads (encode drawing) t r c t' r' c' a
-        → (a ≡ read.Counts nodes (edgesIn tails))
+        → (a ≡ read.Counts nodes (edgesIn tails) outer)
         × (t' ≡ tails ++ drop (length tails) t) × (r' ≡ rotations ++ drop (length rotations) r) × (c' ≡ capacities ++ drop (length capacities) c)
     read-undoes-write (read.Refused k p) h = absurd (first-none (readChecks (encode drawing) t r c) k p (h .0) whole)
       where
         whole : NoneOf (readChecks (encode drawing) t r c)
         whole = read-whole (encode drawing) t r c written-accepted (omega (arith, same-edges)) (omega (arith, same-edges)) (omega (arith, same-edges))
-    read-undoes-write (read.Counts n e) h = (
-      ap₂ read.Counts (h .1 ∙ ap (λ 𝓓. 𝓓 .map .nodes) read-again) (h .2 ∙ ap (λ 𝓓. 𝓓 .map .edges) read-again),
-      h .3 ∙ ap₂ (λ x k. x ++ drop k t) (table-again 0 _ tails (tailOf (encode drawing)) (ap (λ 𝓓. 𝓓 .map .tail) read-again) same-edges) same-edges,
-      h .4
+    read-undoes-write (read.Counts n e o) h = (
+      counts-are (h .1 ∙ ap (λ 𝓓. 𝓓 .map .nodes) read-again) (h .2 ∙ ap (λ 𝓓. 𝓓 .map .edges) read-again) (h .3 ∙ ap (λ 𝓓. 𝓓 .outer) read-again),
+      h .4 ∙ ap₂ (λ x k. x ++ drop k t) (table-again 0 _ tails (tailOf (encode drawing)) (ap (λ 𝓓. 𝓓 .map .tail) read-again) same-edges) same-edges,
+      h .5
           ∙ ap₂ (λ x k. x ++ drop k r)
           (table-again 0 _ rotations (rotationOf (encode drawing)) (ap (λ 𝓓. 𝓓 .map .rotation) read-again) (same-edges ∙ sym (same-lengths .0)))
           (same-edges ∙ sym (same-lengths .0)),
-      h .5
+      h .6
           ∙ ap₂ (λ x k. x ++ drop k c)
           (table-again (pos 0) _ capacities (capacityOf (encode drawing)) (ap (λ 𝓓. 𝓓 .capacity) read-again) (same-edges ∙ sym (same-lengths .1)))
           (same-edges ∙ sym (same-lengths .1)),

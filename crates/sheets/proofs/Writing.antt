@@ -20,10 +20,9 @@ use Rattle.arrays.specs.At.{at, atℤ}
 use Rattle.arrays.specs.Maps.{mapOf}
 use Rattle.rotations.specs.MapChecks.{mapChecks, MapJudged}
 use Rattle.maps.specs.Drawing.{Drawing}
-use Rattle.records.specs.Check.{countChecks, edgeChecks}
+use Rattle.records.specs.Check.{numberChecks, edgeChecks}
 use Rattle.records.specs.Record.{recordLength}
-use Rattle.records.specs.Sheet.{edgeAt}
-use Rattle.records.specs.Encode.{headBytes, encodeHead, encodeEdge, encodeEdges, encode}
+use Rattle.records.specs.Encode.{outerHeadBytes, encodeHead, encodeEdge, encodeEdges, encode, encodeLength}
 use Rattle.records.proofs.Drawing.{counts-range, drawing-range}
 use Rattle.records.proofs.Places.{head-length, front-length, edge-length}
 use Rattle.sheets.specs.Write.{edgesIn, slicesDrawing, drawingChecks, writeChecks}
@@ -47,78 +46,78 @@ map-judged 𝓜 lefts count Passed h = h .0
 map-judged 𝓜 lefts count (Refused k p) h = h
 
 module _ (𝓓 : Drawing) where
-  abbrev counts : List Check
-  counts = countChecks (𝓓 .map .nodes) (𝓓 .map .edges)
+  abbrev numbers : List Check
+  numbers = numberChecks (𝓓 .map .nodes) (𝓓 .map .edges) (𝓓 .outer)
 
   abbrev turns : List Check
   turns = inTurn (𝓓 .map .edges) (edgeChecks 𝓓)
 
-  pub refused-counts : (k p : ℕ) → FirstOf counts k p → FirstOf (drawingChecks 𝓓) k p
+  pub refused-numbers : (k p : ℕ) → FirstOf numbers k p → FirstOf (drawingChecks 𝓓) k p
   unfolding drawingChecks
-  refused-counts k p h = first-left counts (turns ++ mapChecks (𝓓 .map)) k p h
+  refused-numbers k p h = first-left numbers (turns ++ mapChecks (𝓓 .map)) k p h
 
-  pub refused-edges : (k p : ℕ) → NoneOf counts → FirstOf turns k p → FirstOf (drawingChecks 𝓓) k p
+  pub refused-edges : (k p : ℕ) → NoneOf numbers → FirstOf turns k p → FirstOf (drawingChecks 𝓓) k p
   unfolding drawingChecks
-  refused-edges k p c h = first-right counts (turns ++ mapChecks (𝓓 .map)) k p c (first-left turns (mapChecks (𝓓 .map)) k p h)
+  refused-edges k p c h = first-right numbers (turns ++ mapChecks (𝓓 .map)) k p c (first-left turns (mapChecks (𝓓 .map)) k p h)
 
-  pub judged-map : (v : Verdict) → NoneOf counts → NoneOf turns → Judged (mapChecks (𝓓 .map)) v → Judged (drawingChecks 𝓓) v
+  pub judged-map : (v : Verdict) → NoneOf numbers → NoneOf turns → Judged (mapChecks (𝓓 .map)) v → Judged (drawingChecks 𝓓) v
   unfolding drawingChecks
-  judged-map v c e h = judged-right counts (turns ++ mapChecks (𝓓 .map)) v c (judged-right turns (mapChecks (𝓓 .map)) v e h)
+  judged-map v c e h = judged-right numbers (turns ++ mapChecks (𝓓 .map)) v c (judged-right turns (mapChecks (𝓓 .map)) v e h)
 
   pub turns-range : NoneOf turns → InRange (𝓓 .map)
   turns-range h = drawing-range 𝓓 (in-turn-none (𝓓 .map .edges) (edgeChecks 𝓓) h)
 
   -- what the whole list leaves
-  pub drawing-parts : NoneOf (drawingChecks 𝓓) → NoneOf counts × ((e : ℕ) → e < 𝓓 .map .edges → NoneOf (edgeChecks 𝓓 e)) × NoneOf (mapChecks (𝓓 .map))
+  pub drawing-parts : NoneOf (drawingChecks 𝓓) → NoneOf numbers × ((e : ℕ) → e < 𝓓 .map .edges → NoneOf (edgeChecks 𝓓 e)) × NoneOf (mapChecks (𝓓 .map))
   unfolding drawingChecks
   drawing-parts h =
-      let p = append-none counts (turns ++ mapChecks (𝓓 .map)) h in
+      let p = append-none numbers (turns ++ mapChecks (𝓓 .map)) h in
       let q = append-none turns (mapChecks (𝓓 .map)) (p .1) in
       (p .0, in-turn-none (𝓓 .map .edges) (edgeChecks 𝓓) (q .0), q .1)
 
 -- ── edges written one after another ──
 module _ (𝓓 : Drawing) (old : List ℕ) where
-  pub write-start : (l : List ℕ) → l ≡ encodeHead 𝓓 ++ drop (recordLength 1) old → l ≡ (encodeHead 𝓓 ++ encodeEdges 𝓓 0) ++ drop (edgeAt 0) old
+  pub write-start : (l : List ℕ) → l ≡ encodeHead 𝓓 ++ drop (recordLength 4) old → l ≡ (encodeHead 𝓓 ++ encodeEdges 𝓓 0) ++ drop (encodeLength 0) old
   unfolding encodeEdges
-  write-start l e = e ∙ ap (λ x. x ++ drop (recordLength 1) old) (sym (mathlib.Core.List.append-nil (encodeHead 𝓓)))
+  write-start l e = e ∙ ap (λ x. x ++ drop (recordLength 4) old) (sym (mathlib.Core.List.append-nil (encodeHead 𝓓)))
 
-  pub write-step : (e : ℕ) (l next : List ℕ) → l ≡ (encodeHead 𝓓 ++ encodeEdges 𝓓 e) ++ drop (edgeAt e) old → next ≡ put (edgeAt e) (encodeEdge 𝓓 e) l
-      → next ≡ (encodeHead 𝓓 ++ encodeEdges 𝓓 (e + 1)) ++ drop (edgeAt (e + 1)) old
+  pub write-step : (e : ℕ) (l next : List ℕ) → l ≡ (encodeHead 𝓓 ++ encodeEdges 𝓓 e) ++ drop (encodeLength e) old
+      → next ≡ put (encodeLength e) (encodeEdge 𝓓 e) l
+      → next ≡ (encodeHead 𝓓 ++ encodeEdges 𝓓 (e + 1)) ++ drop (encodeLength (e + 1)) old
   unfolding encodeEdges
   write-step e l next so-far h =
       h
-      ∙ put-after (edgeAt e) (encodeHead 𝓓 ++ encodeEdges 𝓓 e) (encodeEdge 𝓓 e) old l so-far (front-length 𝓓 e)
+      ∙ put-after (encodeLength e) (encodeHead 𝓓 ++ encodeEdges 𝓓 e) (encodeEdge 𝓓 e) old l so-far
+      (omega (arith, front-length (encodeHead 𝓓) 𝓓 e, head-length 𝓓))
       ∙ ap₂ (λ x k. x ++ drop k old)
       (append-assoc (encodeHead 𝓓) (encodeEdges 𝓓 e) (encodeEdge 𝓓 e) ∙ ap (λ n. encodeHead 𝓓 ++ encodeEdges 𝓓 n) (sym (add-one e))) ends
     where
-      ends : edgeAt e + length (encodeEdge 𝓓 e) ≡ edgeAt (e + 1)
+      ends : encodeLength e + length (encodeEdge 𝓓 e) ≡ encodeLength (e + 1)
       ends = omega (arith, edge-length 𝓓 e)
 
-  pub write-end : (e : ℕ) (l : List ℕ) → e ≡ 𝓓 .map .edges
-      → l ≡ (encodeHead 𝓓 ++ encodeEdges 𝓓 e) ++ drop (edgeAt e) old → l ≡ encode 𝓓 ++ drop (edgeAt (𝓓 .map .edges)) old
+  pub write-end : (e : ℕ) (l : List ℕ) → e ≡ 𝓓 .map .edges → l ≡ (encodeHead 𝓓 ++ encodeEdges 𝓓 e) ++ drop (encodeLength e) old
+      → l ≡ encode 𝓓 ++ drop (encodeLength (𝓓 .map .edges)) old
   unfolding encode
-  write-end e l h so-far = so-far ∙ ap (λ n. (encodeHead 𝓓 ++ encodeEdges 𝓓 n) ++ drop (edgeAt n) old) h
+  write-end e l h so-far = so-far ∙ ap (λ n. (encodeHead 𝓓 ++ encodeEdges 𝓓 n) ++ drop (encodeLength n) old) h
 
 -- the head, at the front of what was there
-pub head-written : (𝓓 : Drawing) (old l : List ℕ) (edges : ℕ) → edges ≡ 𝓓 .map .edges
-    → l ≡ put 0 (headBytes (𝓓 .map .nodes) edges) old → l ≡ encodeHead 𝓓 ++ drop (recordLength 1) old
+pub head-written : (𝓓 : Drawing) (old l : List ℕ) (edges : ℕ) → edges ≡ 𝓓 .map .edges → l ≡ put 0 (outerHeadBytes (𝓓 .map .nodes) edges (𝓓 .outer)) old
+    → l ≡ encodeHead 𝓓 ++ drop (recordLength 4) old
 unfolding put encodeHead le16
-head-written 𝓓 old l edges e h =
-    h ∙ ap (λ m. headBytes (𝓓 .map .nodes) m ++ drop (length (headBytes (𝓓 .map .nodes) m)) old) e
-    ∙ ap (λ k. headBytes (𝓓 .map .nodes) (𝓓 .map .edges) ++ drop k old) (head-length 𝓓)
+head-written 𝓓 old l edges e h = h ∙ ap (λ m. outerHeadBytes (𝓓 .map .nodes) m (𝓓 .outer) ++ drop (recordLength 4) old) e
 
 -- ── the ways out ──
-module _ (nodes : ℕ) (tails rotations : List ℕ) (capacities : List ℤ) (out : List ℕ) where
+module _ (nodes outer : ℕ) (tails rotations : List ℕ) (capacities : List ℤ) (out : List ℕ) where
   abbrev drawn : Drawing
-  drawn = slicesDrawing nodes tails rotations capacities
+  drawn = slicesDrawing nodes outer tails rotations capacities
 
   abbrev Uneven : Type 0
   Uneven = (length rotations ≢ length tails) ⊎ ((length capacities ≢ length tails) ⊎ (length tails % 2 ≢ 0))
 
   abbrev short : List Check
-  short = (16 when length out < edgeAt (edgesIn tails)) ∷ []
+  short = (16 when length out < encodeLength (edgesIn tails)) ∷ []
 
-  pub write-uneven : Uneven → FirstOf (writeChecks nodes tails rotations capacities out) 16 0
+  pub write-uneven : Uneven → FirstOf (writeChecks nodes outer tails rotations capacities out) 16 0
   unfolding writeChecks FirstOf
   write-uneven u = inl (u, refl, refl)
 
@@ -126,14 +125,15 @@ module _ (nodes : ℕ) (tails rotations : List ℕ) (capacities : List ℤ) (out
     even : Uneven → ⊥
     even = neither (λ h. h r) (neither (λ h. h c) (λ h. h t))
 
-    pub write-refused : (k p : ℕ) → FirstOf (drawingChecks drawn) k p → FirstOf (writeChecks nodes tails rotations capacities out) k p
+    pub write-refused : (k p : ℕ) → FirstOf (drawingChecks drawn) k p → FirstOf (writeChecks nodes outer tails rotations capacities out) k p
     unfolding writeChecks FirstOf
     write-refused k p h = inr (even, first-left (drawingChecks drawn) short k p h)
 
-    pub write-short : NoneOf (drawingChecks drawn) → length out < edgeAt (edgesIn tails) → FirstOf (writeChecks nodes tails rotations capacities out) 16 0
+    pub write-short : NoneOf (drawingChecks drawn) → length out < encodeLength (edgesIn tails)
+        → FirstOf (writeChecks nodes outer tails rotations capacities out) 16 0
     unfolding writeChecks FirstOf
     write-short h l = inr (even, first-right (drawingChecks drawn) short 16 0 h (inl (l, refl, refl)))
 
-    pub write-whole : NoneOf (drawingChecks drawn) → edgeAt (edgesIn tails) ≤ length out → NoneOf (writeChecks nodes tails rotations capacities out)
+    pub write-whole : NoneOf (drawingChecks drawn) → encodeLength (edgesIn tails) ≤ length out → NoneOf (writeChecks nodes outer tails rotations capacities out)
     unfolding writeChecks NoneOf
     write-whole h l = (even, none-append (drawingChecks drawn) short h ((λ s. omega arith), tt))

@@ -12,7 +12,7 @@ ghost use Rattle.arrays.specs.At.{at, atℤ};
 ghost use Rattle.records.specs.Record.{recordLength};
 ghost use Rattle.records.specs.Sheet.{edgesOf, edgeAt, field16, field32, tailOf, rotationOf, capacityOf, byteChecks};
 ghost use Rattle.records.specs.Check.{edgeChecks};
-ghost use Rattle.records.specs.Encode.{headBytes, edgeBytes, encodeHead, encode};
+ghost use Rattle.records.specs.Encode.{outerHeadBytes, edgeBytes, encodeHead, encode, encodeLength};
 ghost use Rattle.sheets.specs.Open.{Opens};
 ghost use Rattle.sheets.specs.Read.{Reads};
 ghost use Rattle.arrays.specs.Filled.{filled};
@@ -43,13 +43,14 @@ pub struct Opened {
 
 // A field of 16 bits of each dart, which stands `first` bytes into the record of its edge, into the first places of a slice.
 fn fill_fields(s: &[u8], first: usize, edges: usize, to: &mut [u16])
-    requires { ⌜ (first ≤ 13) × (edges ≤ 512) × (edgeAt edges ≤ length (now s)) × (2 * edges ≤ length (now to)) ⌝ }
+    requires { ⌜ (first ≤ 13) × (edges ≤ 512) × (edgeAt (now s) edges ≤ length (now s)) × (2 * edges ≤ length (now to)) ⌝ }
     ensures { λ _. ⌜ now (to .exit) ≡ filled (2 * edges) (field16 (now (s .entry)) first) (now (to .entry)) ⌝ }
 {
+    let head = records::head_length(s);
     let darts = 2 * edges;
     let mut d: usize = 0;
     while d < darts {
-        let at = records::edge_at(d / 2);
+        let at = records::edge_at(head, d / 2);
         to[d] = fields::read_u16(s, at + first + 2 * (d % 2));
         d += 1;
     }
@@ -57,13 +58,14 @@ fn fill_fields(s: &[u8], first: usize, edges: usize, to: &mut [u16])
 
 // The capacity of each dart, into the first places of a slice.
 fn fill_limits(s: &[u8], edges: usize, to: &mut [i32])
-    requires { ⌜ (edges ≤ 512) × (edgeAt edges ≤ length (now s)) × (2 * edges ≤ length (now to)) ⌝ }
+    requires { ⌜ (edges ≤ 512) × (edgeAt (now s) edges ≤ length (now s)) × (2 * edges ≤ length (now to)) ⌝ }
     ensures { λ _. ⌜ now (to .exit) ≡ filled (2 * edges) (field32 (now (s .entry)) 9) (now (to .entry)) ⌝ }
 {
+    let head = records::head_length(s);
     let darts = 2 * edges;
     let mut d: usize = 0;
     while d < darts {
-        let at = records::edge_at(d / 2);
+        let at = records::edge_at(head, d / 2);
         to[d] = fields::read_i32(s, at + 9 + 4 * (d % 2));
         d += 1;
     }
@@ -132,13 +134,13 @@ pub fn open(s: &[u8], lefts: &mut [u16; 1024]) -> Opened
     }
 }
 
-// What Read answers: both counts, or the number of a refusal and its place.
+// What Read answers: both counts and a dart on the outer face, or the number of a refusal and its place.
 pub enum ReadAnswer {
-    Counts(u16, u16),
+    Counts(u16, u16, u16),
     Refused(u8, u16),
 }
 
-// Read: a sheet's counts and, one element to a dart, its tails, rotations and capacities.
+// Read: a sheet's counts and outer dart and, one element to a dart, its tails, rotations and capacities.
 pub fn read(
     sheet: &[u8],
     tails: &mut [u16],
@@ -168,7 +170,11 @@ pub fn read(
     fill_fields(sheet, 1, edges, &mut *tails);
     fill_fields(sheet, 5, edges, &mut *rotations);
     fill_limits(sheet, edges, &mut *capacities);
-    ReadAnswer::Counts(arrays::narrow(opened.nodes), arrays::narrow(edges))
+    ReadAnswer::Counts(
+        arrays::narrow(opened.nodes),
+        arrays::narrow(edges),
+        arrays::narrow(opened.outer),
+    )
 }
 
 // The elements of a slice, into an array of zeros.
@@ -183,9 +189,10 @@ fn load(from: &[u16], to: &mut [u16; 1024])
     }
 }
 
-// Checks 4 to 7 of one edge of the slices.
+// Checks 4 to 7 of one edge of the slices. The outer dart is named by the contract only: it is part of its drawing.
 fn check_edge(
     nodes: usize,
+    outer: usize,
     tails: &[u16],
     rotations: &[u16],
     capacities: &[i32],
@@ -193,7 +200,7 @@ fn check_edge(
 ) -> Verdict
     requires { ⌜ (length (now rotations) ≡ length (now tails)) × (length (now capacities) ≡ length (now tails))
         × (length (now tails) ≤ 1024) × (e < edgesIn (now tails)) ⌝ }
-    ensures { λ r. ⌜ Judged (edgeChecks (slicesDrawing nodes (now (tails .entry)) (now (rotations .entry)) (now (capacities .entry))) e) r ⌝ }
+    ensures { λ r. ⌜ Judged (edgeChecks (slicesDrawing nodes outer (now (tails .entry)) (now (rotations .entry)) (now (capacities .entry))) e) r ⌝ }
 {
     let edges = tails.len() / 2;
     let tail = arrays::wide(tails[2 * e]);
@@ -215,15 +222,21 @@ fn check_edge(
 }
 
 // Checks 4 to 7, edge by edge.
-fn check_edges(nodes: usize, tails: &[u16], rotations: &[u16], capacities: &[i32]) -> Verdict
+fn check_edges(
+    nodes: usize,
+    outer: usize,
+    tails: &[u16],
+    rotations: &[u16],
+    capacities: &[i32],
+) -> Verdict
     requires { ⌜ (length (now rotations) ≡ length (now tails)) × (length (now capacities) ≡ length (now tails)) × (length (now tails) ≤ 1024) ⌝ }
-    ensures { λ r. ⌜ Judged
-        (inTurn (edgesIn (now (tails .entry))) (edgeChecks (slicesDrawing nodes (now (tails .entry)) (now (rotations .entry)) (now (capacities .entry))))) r ⌝ }
+    ensures { λ r. ⌜ Judged (inTurn (edgesIn (now (tails .entry)))
+        (edgeChecks (slicesDrawing nodes outer (now (tails .entry)) (now (rotations .entry)) (now (capacities .entry))))) r ⌝ }
 {
     let edges = tails.len() / 2;
     let mut e: usize = 0;
     while e < edges {
-        let edge = check_edge(nodes, tails, rotations, capacities, e);
+        let edge = check_edge(nodes, outer, tails, rotations, capacities, e);
         if let Verdict::Refused(k, p) = edge {
             return Verdict::Refused(k, p);
         }
@@ -232,17 +245,23 @@ fn check_edges(nodes: usize, tails: &[u16], rotations: &[u16], capacities: &[i32
     Verdict::Passed
 }
 
-// Checks 3 to 7 and 9 to 12 on slices of one even length.
-fn check_slices(nodes: usize, tails: &[u16], rotations: &[u16], capacities: &[i32]) -> Verdict
+// Checks 3, 24, 4 to 7 and 9 to 12 on slices of one even length.
+fn check_slices(
+    nodes: usize,
+    outer: usize,
+    tails: &[u16],
+    rotations: &[u16],
+    capacities: &[i32],
+) -> Verdict
     requires { ⌜ (length (now rotations) ≡ length (now tails)) × (length (now capacities) ≡ length (now tails)) × (length (now tails) % 2 ≡ 0) ⌝ }
-    ensures { λ r. ⌜ Judged (drawingChecks (slicesDrawing nodes (now (tails .entry)) (now (rotations .entry)) (now (capacities .entry)))) r ⌝ }
+    ensures { λ r. ⌜ Judged (drawingChecks (slicesDrawing nodes outer (now (tails .entry)) (now (rotations .entry)) (now (capacities .entry)))) r ⌝ }
 {
     let edges = tails.len() / 2;
-    let counts = records::check_counts(nodes, edges);
-    if let Verdict::Refused(k, p) = counts {
+    let numbers = records::check_numbers(nodes, edges, outer);
+    if let Verdict::Refused(k, p) = numbers {
         return Verdict::Refused(k, p);
     }
-    let fields = check_edges(nodes, tails, rotations, capacities);
+    let fields = check_edges(nodes, outer, tails, rotations, capacities);
     if let Verdict::Refused(k, p) = fields {
         return Verdict::Refused(k, p);
     }
@@ -256,14 +275,15 @@ fn check_slices(nodes: usize, tails: &[u16], rotations: &[u16], capacities: &[i3
     verdict
 }
 
-// The head of a sheet.
-fn write_head(out: &mut [u8], nodes: u16, edges: u16)
-    requires { ⌜ recordLength 1 ≤ length (now out) ⌝ }
-    ensures { λ _. ⌜ now (out .exit) ≡ put 0 (headBytes nodes edges) (now (out .entry)) ⌝ }
+// The head of a sheet, of kind 4.
+fn write_head(out: &mut [u8], nodes: u16, edges: u16, outer: u16)
+    requires { ⌜ recordLength 4 ≤ length (now out) ⌝ }
+    ensures { λ _. ⌜ now (out .exit) ≡ put 0 (outerHeadBytes nodes edges outer) (now (out .entry)) ⌝ }
 {
-    fields::write_u8(out, 0, 1);
+    fields::write_u8(out, 0, 4);
     fields::write_u16(out, 1, nodes);
     fields::write_u16(out, 3, edges);
+    fields::write_u16(out, 5, outer);
 }
 
 // The record of an edge.
@@ -292,17 +312,18 @@ fn write_edge(
 // The records of all edges, after the head.
 fn write_edges(out: &mut [u8], tails: &[u16], rotations: &[u16], capacities: &[i32])
     requires { ⌜ (length (now rotations) ≡ length (now tails)) × (length (now capacities) ≡ length (now tails))
-        × (length (now tails) ≤ 1024) × (edgeAt (edgesIn (now tails)) ≤ length (now out)) ⌝ }
-    ensures { λ _. ⌜ ((nodes : ℕ) (old : List ℕ)
-        → now (out .entry) ≡ encodeHead (slicesDrawing nodes (now (tails .entry)) (now (rotations .entry)) (now (capacities .entry)))
-        ++ drop (recordLength 1) old
-        → now (out .exit) ≡ encode (slicesDrawing nodes (now (tails .entry)) (now (rotations .entry)) (now (capacities .entry)))
-        ++ drop (edgeAt (edgesIn (now (tails .entry)))) old) ⌝ }
+        × (length (now tails) ≤ 1024) × (encodeLength (edgesIn (now tails)) ≤ length (now out)) ⌝ }
+    ensures { λ _. ⌜ ((nodes outer : ℕ) (old : List ℕ)
+        → now (out .entry) ≡ encodeHead (slicesDrawing nodes outer (now (tails .entry)) (now (rotations .entry)) (now (capacities .entry)))
+        ++ drop (recordLength 4) old
+        → now (out .exit) ≡ encode (slicesDrawing nodes outer (now (tails .entry)) (now (rotations .entry)) (now (capacities .entry)))
+        ++ drop (encodeLength (edgesIn (now (tails .entry)))) old) ⌝ }
 {
+    let head = records::record_length(4);
     let edges = tails.len() / 2;
     let mut e: usize = 0;
     while e < edges {
-        let place = records::edge_at(e);
+        let place = records::edge_at(head, e);
         write_edge(
             out,
             place,
@@ -323,15 +344,16 @@ pub enum WriteAnswer {
     Refused(u8, u16),
 }
 
-// Write: the bytes of the sheet that a node count and three slices, one element to a dart, describe.
+// Write: the bytes of the sheet that a node count, a dart on the outer face and three slices, one element to a dart, describe. Its head is of kind 4.
 pub fn write(
     nodes: u16,
+    outer: u16,
     tails: &[u16],
     rotations: &[u16],
     capacities: &[i32],
     out: &mut [u8],
 ) -> WriteAnswer
-    ensures { λ r. ⌜ Writes nodes (now (tails .entry)) (now (rotations .entry)) (now (capacities .entry)) (now (out .entry)) (now (out .exit)) r ⌝ }
+    ensures { λ r. ⌜ Writes nodes outer (now (tails .entry)) (now (rotations .entry)) (now (capacities .entry)) (now (out .entry)) (now (out .exit)) r ⌝ }
 {
     let length = tails.len();
     if rotations.len() != length {
@@ -343,16 +365,22 @@ pub fn write(
     if length % 2 != 0 {
         return WriteAnswer::Refused(16, 0);
     }
-    let drawing = check_slices(arrays::wide(nodes), tails, rotations, capacities);
+    let drawing = check_slices(
+        arrays::wide(nodes),
+        arrays::wide(outer),
+        tails,
+        rotations,
+        capacities,
+    );
     if let Verdict::Refused(k, p) = drawing {
         return WriteAnswer::Refused(k, p);
     }
     let edges = length / 2;
-    let end = records::edge_at(edges);
+    let end = records::edge_at(records::record_length(4), edges);
     if out.len() < end {
         return WriteAnswer::Refused(16, 0);
     }
-    write_head(out, nodes, arrays::narrow(edges));
+    write_head(out, nodes, arrays::narrow(edges), outer);
     write_edges(out, tails, rotations, capacities);
     WriteAnswer::Bytes(end)
 }

@@ -29,12 +29,12 @@ use Rattle.maps.proofs.Examples as maps
 use Rattle.rotations.specs.MapChecks.{mapChecks}
 use Rattle.rotations.proofs.Accepted.{no-rotation-fault, no-node-fault, passes}
 use Rattle.maps.specs.Drawing.{Drawing}
-use Rattle.records.specs.Check.{countChecks, fieldChecks, edgeChecks}
+use Rattle.records.specs.Check.{numberChecks, fieldChecks, edgeChecks}
 use Rattle.records.specs.Sheet.{sheetDrawing, sheetMap, byteChecks}
-use Rattle.records.specs.Encode.{encodeHead, encodeEdge, encodeEdges, encode}
+use Rattle.records.specs.Encode.{plainHead, encodeEdge, encodeEdges, encodePlain}
 use Rattle.records.proofs.Encodable.{ZeroPast, encodable-of-checks}
-use Rattle.records.proofs.Decode.{sheet-encode}
-use Rattle.records.proofs.EncodeAccepted.{encode-accepted}
+use Rattle.records.proofs.Decode.{sheet-encode-plain}
+use Rattle.records.proofs.EncodeAccepted.{plain-accepted}
 use Rattle.arrays.specs.At.{atℤ}
 use Rattle.sheets.specs.Open.{sheetChecks}
 use Rattle.starred.specs.Drawings.{A, leastTwo, allFive, twisted, B}
@@ -74,12 +74,13 @@ module _ (𝓓 : Drawing) (range : InRange (𝓓 .map)) (fair : Fair (𝓓 .map 
         ),
       )
 
-  known : (s : List ℕ) → encode 𝓓 ≡ s → NoneOf (countChecks (𝓓 .map .nodes) (𝓓 .map .edges)) → ZeroPast 𝓓 → Known s 𝓓
-  known s e counts past =
-      let fit = encodable-of-checks 𝓓 counts edge-passes past in
+  -- the sheets of document 01 have heads of kind 1, which name no outer dart: it is dart 0
+  known : (s : List ℕ) → encodePlain 𝓓 ≡ s → 𝓓 .outer ≡ 0 → NoneOf (numberChecks (𝓓 .map .nodes) (𝓓 .map .edges) (𝓓 .outer)) → ZeroPast 𝓓 → Known s 𝓓
+  known s e first numbers past =
+      let fit = encodable-of-checks 𝓓 numbers edge-passes past in
       record {
-        bytes = subst (λ (b : List ℕ). NoneOf (byteChecks b)) e (encode-accepted 𝓓 fit counts edge-passes);
-        drawing = subst (λ (b : List ℕ). sheetDrawing b ≡ 𝓓) e (sheet-encode 𝓓 fit);
+        bytes = subst (λ (b : List ℕ). NoneOf (byteChecks b)) e (plain-accepted 𝓓 fit first numbers edge-passes);
+        drawing = subst (λ (b : List ℕ). sheetDrawing b ≡ 𝓓) e (sheet-encode-plain 𝓓 fit first);
       }
 
 -- the checks 9 to 12 of the drawing's map are those of the sheet's
@@ -118,41 +119,40 @@ leastTwo-capacities = pos 5 ∷ pos 0 ∷ pos 3 ∷ negsuc 1 ∷ pos 4 ∷ pos 0
 abbrev pub allFive-capacities : List ℤ
 allFive-capacities = pos 5 ∷ pos 5 ∷ pos 5 ∷ pos 5 ∷ pos 5 ∷ pos 5 ∷ []
 
-two-three : NoneOf (countChecks 2 3)
-unfolding NoneOf countChecks
-two-three = (neither (neither (λ h. omega arith) (λ h. omega arith)) (neither (λ h. omega arith) (λ h. omega arith)), tt)
+two-three : NoneOf (numberChecks 2 3 0)
+unfolding NoneOf numberChecks
+two-three = (neither (neither (λ h. omega arith) (λ h. omega arith)) (neither (λ h. omega arith) (λ h. omega arith)), ((λ h. omega arith), tt))
 
-three-two : NoneOf (countChecks 3 2)
-unfolding NoneOf countChecks
-three-two = (neither (neither (λ h. omega arith) (λ h. omega arith)) (neither (λ h. omega arith) (λ h. omega arith)), tt)
+three-two : NoneOf (numberChecks 3 2 0)
+unfolding NoneOf numberChecks
+three-two = (neither (neither (λ h. omega arith) (λ h. omega arith)) (neither (λ h. omega arith) (λ h. omega arith)), ((λ h. omega arith), tt))
 
 A-checked : NoneOf (mapChecks maps.A)
 A-checked = passes maps.A-sound maps.A-connected maps.A-flat
 
 -- A's map with other capacities
 A-with : (s : List ℕ) (capacities : List ℤ) → length capacities ≡ 6
-    → encode (drawn maps.A capacities) ≡ s → Fair 3 (atℤ capacities) → Good s (drawn maps.A capacities)
+    → encodePlain (drawn maps.A capacities) ≡ s → Fair 3 (atℤ capacities) → Good s (drawn maps.A capacities)
 A-with s capacities six e fair =
     known-good
-    (known (drawn maps.A capacities) (maps.A-sound .range) fair s e two-three
+    (known (drawn maps.A capacities) (maps.A-sound .range) fair s e refl two-three
     (record {
       tail-zero = λ d h. List·getD-eq-default (0 ∷ 1 ∷ 0 ∷ 1 ∷ 0 ∷ 1 ∷ []) 0 h;
       rotation-zero = λ d h. List·getD-eq-default (2 ∷ 5 ∷ 4 ∷ 1 ∷ 0 ∷ 3 ∷ []) 0 h;
       capacity-zero = λ d h. List·getD-eq-default capacities (pos 0) (omega (arith, six));
-      outer-zero = refl;
     }))
     A-checked
 
 pub A-good : Good A (drawn maps.A A-capacities)
-unfolding A encode encodeHead encodeEdges encodeEdge le16 le32 leBits every
+unfolding A encodePlain plainHead encodeEdges encodeEdge le16 le32 leBits every
 A-good = A-with A A-capacities refl refl (fair-by-tests 3 (atℤ A-capacities) refl refl refl)
 
 pub leastTwo-good : Good leastTwo (drawn maps.A leastTwo-capacities)
-unfolding leastTwo encode encodeHead encodeEdges encodeEdge le16 le32 leBits every
+unfolding leastTwo encodePlain plainHead encodeEdges encodeEdge le16 le32 leBits every
 leastTwo-good = A-with leastTwo leastTwo-capacities refl refl (fair-by-tests 3 (atℤ leastTwo-capacities) refl refl refl)
 
 pub allFive-good : Good allFive (drawn maps.A allFive-capacities)
-unfolding allFive encode encodeHead encodeEdges encodeEdge le16 le32 leBits every
+unfolding allFive encodePlain plainHead encodeEdges encodeEdge le16 le32 leBits every
 allFive-good = A-with allFive allFive-capacities refl refl (fair-by-tests 3 (atℤ allFive-capacities) refl refl refl)
 
 -- sound and connected, but not flat: 12 is the first check that holds
@@ -165,15 +165,14 @@ twisted-checked =
     )
 
 pub twisted-bad : FirstOf (sheetChecks twisted) 12 0
-unfolding twisted encode encodeHead encodeEdges encodeEdge le16 le32 leBits every
+unfolding twisted encodePlain plainHead encodeEdges encodeEdge le16 le32 leBits every
 twisted-bad =
     known-bad
-    (known (drawn maps.twistedA A-capacities) (maps.twisted-sound .range) (fair-by-tests 3 (atℤ A-capacities) refl refl refl) twisted refl two-three
+    (known (drawn maps.twistedA A-capacities) (maps.twisted-sound .range) (fair-by-tests 3 (atℤ A-capacities) refl refl refl) twisted refl refl two-three
     (record {
       tail-zero = λ d h. List·getD-eq-default (0 ∷ 1 ∷ 0 ∷ 1 ∷ 0 ∷ 1 ∷ []) 0 h;
       rotation-zero = λ d h. List·getD-eq-default (2 ∷ 3 ∷ 4 ∷ 5 ∷ 0 ∷ 1 ∷ []) 0 h;
       capacity-zero = λ d h. List·getD-eq-default A-capacities (pos 0) h;
-      outer-zero = refl;
     }))
     12 0 twisted-checked
 
@@ -219,14 +218,13 @@ unfolding faces orbits isLowest lowest iter sum rev
 B-flat = refl
 
 pub B-good : Good B (drawn maps.B B-capacities)
-unfolding B encode encodeHead encodeEdges encodeEdge le16 le32 leBits every
+unfolding B encodePlain plainHead encodeEdges encodeEdge le16 le32 leBits every
 B-good =
     known-good
-    (known (drawn maps.B B-capacities) (B-sound .range) (fair-by-tests 2 (atℤ B-capacities) refl refl refl) B refl three-two
+    (known (drawn maps.B B-capacities) (B-sound .range) (fair-by-tests 2 (atℤ B-capacities) refl refl refl) B refl refl three-two
     (record {
       tail-zero = λ d h. List·getD-eq-default (0 ∷ 1 ∷ 0 ∷ 2 ∷ []) 0 h;
       rotation-zero = λ d h. List·getD-eq-default (2 ∷ 1 ∷ 0 ∷ 3 ∷ []) 0 h;
       capacity-zero = λ d h. List·getD-eq-default B-capacities (pos 0) h;
-      outer-zero = refl;
     }))
     (passes B-sound B-connected B-flat)

@@ -46,8 +46,11 @@ same-length-3 : tie.Need-same-length-3
 same-length-3 c = search needs
 
 returns : tie.Need-returns
-returns c =
-    (Counts _ _, found (c .before .before .before .before .before .before .before .before) (Counts _ _) (c .before .answer .given .1), (refl, refl, refl, refl))
+returns c = (
+  Counts _ _ _,
+  found (c .before .before .before .before .before .before .before .before) (Counts _ _ _) (c .before .answer .given .1),
+  (refl, refl, refl, refl, refl),
+)
 
 same-length-4 : tie.Need-same-length-4
 same-length-4 c = search needs
@@ -62,7 +65,7 @@ returns-2 : tie.Need-returns-2
 returns-2 c = (
   Refused _ _,
   found (c .before .before .before .before .before .before .before .before) (Refused _ _) (c .before .answer2 .given .1),
-  (refl, refl, refl, refl),
+  (refl, refl, refl, refl, refl),
 )
 
 pub analyser-read-spec : {M : Type 1} → statement M

@@ -13,10 +13,10 @@ abbrev start : tie.After-write → tie.Start
 start c = c .before .before .before .before .before
 
 abbrev sheet' : tie.After-write → List ℕ
-sheet' c = c .write .last .1 .1 .1 .1 .0
+sheet' c = c .write .last .1 .1 .1 .1 .1 .0
 
 found : (c : tie.After-write) (answer : WriteAnswer) → c .write .result ≡ answer
-    → Writes (start c .args .nodes) (start c .args .tails .now) (start c .args .rotations .now)
+    → Writes (start c .args .nodes) (start c .args .outer) (start c .args .tails .now) (start c .args .rotations .now)
     (start c .args .capacities .now) (start c .args .sheet .now) (sheet' c) answer
 found c answer e = rw e at (c .write .ensures)
 

@@ -1,23 +1,30 @@
 -- Checks 1 to 8: the head, the edges in turn, then what is left over; each way out is a verdict of the whole list, by a law of `Bytes`.
--- Invariant: the counts are the head's, and every edge before e has passed.
+-- Invariant: the head's length and counts are known, and every edge before e has passed.
 use Prim.Native.Nat.{ℕ, _-_, _≤_, _<_}
 use mathlib.Core.Path.{_≡_, refl}
 use mathlib.Core.Logic.{inl}
 use native.Mathlib.Omega.{arith}
 use borrow.Author.Count.{below-more}
 use Rattle.refusals.specs.Order.{NoneOf, FirstOf}
-use Rattle.records.specs.Sheet.{nodesOf, edgesOf, headChecks, edgeRecordChecks}
+use Rattle.records.specs.Sheet.{headLength, nodesOf, edgesOf, headChecks, edgeRecordChecks}
 use Rattle.records.proofs.Bytes.{head-whole, head-counts, refused-head, refused-edge, refused-left, all-passed}
 use borrow.Author.Needs.{needs}
 use Rattle.records.proofs.check_bytes.Statement.{statement}
 use Rattle.records.proofs.check_bytes.Tie as tie
 
 abbrev Inv-loop : tie.InvT-loop
-Inv-loop s nodes edges e₀ e =
-    (e ≤ edges) × (edges ≤ 512) × (nodes ≡ nodesOf s) × (edges ≡ edgesOf s) × NoneOf (headChecks s) × ((i : ℕ) → i < e → NoneOf (edgeRecordChecks s i))
+Inv-loop s head nodes edges e₀ e =
+    (e ≤ edges)
+    × (edges ≤ 512)
+    × (head ≤ 256)
+    × (head ≡ headLength s)
+    × (nodes ≡ nodesOf s)
+    × (edges ≡ edgesOf s)
+    × NoneOf (headChecks s)
+    × ((i : ℕ) → i < e → NoneOf (edgeRecordChecks s i))
 
 abbrev μ-loop : tie.MeasureT-loop
-μ-loop s nodes edges e₀ e = edges - e
+μ-loop s head nodes edges e₀ e = edges - e
 
 -- ── the head passed ──
 head-passed : (c : tie.After-enum-told Inv-loop μ-loop) → NoneOf (headChecks (c .before .before .before .before .args .s .now))
@@ -31,25 +38,38 @@ turn c = c .before .before
 check-head-requires : tie.Need-check-head-requires Inv-loop μ-loop
 check-head-requires c κs = search needs
 
-enum-known-head : tie.Need-enum-known-head Inv-loop μ-loop
-enum-known-head c = search needs
+enum-known-whole : tie.Need-enum-known-whole Inv-loop μ-loop
+enum-known-whole c = search needs
 
 returns : tie.Need-returns Inv-loop μ-loop
-returns c = refused-head _ _ _ (rw (c .before .head .given .1) at (c .before .before .before .check-head .ensures))
+returns c = refused-head _ _ _ (rw (c .before .whole .given .1) at (c .before .before .before .check-head .ensures))
 
 enum-told : tie.Need-enum-told Inv-loop μ-loop
 enum-told c = search needs
 
+head-length-requires : tie.Need-head-length-requires Inv-loop μ-loop
+head-length-requires c κs = let h = head-whole _ (head-passed c) in omega arith
+
 read-wide-requires : tie.Need-read-wide-requires Inv-loop μ-loop
-read-wide-requires c κs = omega (arith, head-whole _ (head-passed c))
+read-wide-requires c κs = let h = head-whole _ (head-passed (c .before)) in omega arith
 
 read-wide-requires-2 : tie.Need-read-wide-requires-2 Inv-loop μ-loop
-read-wide-requires-2 c κs = omega (arith, head-whole _ (head-passed (c .before)))
+read-wide-requires-2 c κs = let h = head-whole _ (head-passed (c .before .before)) in omega arith
 
 loop-holds : tie.Need-loop-holds Inv-loop μ-loop
 loop-holds c =
-    let h = head-passed (c .before .before) in
-    (omega arith, omega (arith, head-counts _ h .3), c .before .read-wide .ensures, c .read-wide2 .ensures, h, λ i l. absurd (omega arith))
+    let nodes = c .before in
+    let head = nodes .before in
+    let h = head-passed (head .before) in (
+      omega arith,
+      omega (arith, head-counts _ h .3),
+      head .head-length .ensures .1,
+      head .head-length .ensures .0,
+      nodes .read-wide .ensures,
+      c .read-wide2 .ensures,
+      h,
+      λ i l. absurd (omega arith),
+    )
 
 check-edge-record-requires : tie.Need-check-edge-record-requires Inv-loop μ-loop
 check-edge-record-requires c κs = search needs
@@ -61,7 +81,7 @@ returns-2 : tie.Need-returns-2 Inv-loop μ-loop
 returns-2 c =
     let edge = c .before .before .before in
     let i = turn edge .loop in
-    refused-edge _ (i .inv .4) (i .e) _ _ (omega arith) (i .inv .5) (rw (c .before .edge .given .1) at (edge .check-edge-record .ensures))
+    refused-edge _ (i .inv .6) (i .e) _ _ (omega arith) (i .inv .7) (rw (c .before .edge .given .1) at (edge .check-edge-record .ensures))
 
 enum-told-2 : tie.Need-enum-told-2 Inv-loop μ-loop
 enum-told-2 c = search needs
@@ -77,7 +97,7 @@ loop-again c =
     let edge = c .before .before in
     let i = turn edge .loop in
     let passed = rw (c .enum-told2 .given .1) at (edge .check-edge-record .ensures) in
-    (omega arith, i .inv .1, i .inv .2, i .inv .3, i .inv .4, below-more _ (i .e) (i .inv .5) passed)
+    (omega arith, i .inv .1, i .inv .2, i .inv .3, i .inv .4, i .inv .5, i .inv .6, below-more _ (i .e) (i .inv .7) passed)
 
 edge-at-requires : tie.Need-edge-at-requires Inv-loop μ-loop
 edge-at-requires c κs = search needs
@@ -86,13 +106,13 @@ returns-3 : tie.Need-returns-3 Inv-loop μ-loop
 unfolding FirstOf
 returns-3 c =
     let i = c .before .before .before .loop in
-    refused-left _ (i .inv .4) (λ k l. i .inv .5 k (omega arith)) (inl (omega (arith, c .before .edge-at .ensures, i .inv .3), refl, refl))
+    refused-left _ (i .inv .6) (λ k l. i .inv .7 k (omega arith)) (inl (omega (arith, c .before .edge-at .ensures, i .inv .3, i .inv .5), refl, refl))
 
 returns-4 : tie.Need-returns-4 Inv-loop μ-loop
 unfolding NoneOf
 returns-4 c =
     let i = c .before .before .before .loop in
-    all-passed _ (i .inv .4) (λ k l. i .inv .5 k (omega arith)) (λ l. omega (arith, c .before .edge-at .ensures, i .inv .3), tt)
+    all-passed _ (i .inv .6) (λ k l. i .inv .7 k (omega arith)) (λ l. omega (arith, c .before .edge-at .ensures, i .inv .3, i .inv .5), tt)
 
 pub check-bytes-spec : {M : Type 1} → statement M
 check-bytes-spec =
@@ -101,9 +121,10 @@ check-bytes-spec =
     Inv-loop
     μ-loop
     check-head-requires
-    enum-known-head
+    enum-known-whole
     returns
     enum-told
+    head-length-requires
     read-wide-requires
     read-wide-requires-2
     loop-holds

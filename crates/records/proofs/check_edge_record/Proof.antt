@@ -1,5 +1,5 @@
--- Checks 1, 2 and 4 to 7 of the record of an edge: the record is whole, at its place in the table; then its fields are judged as they stand in it.
-use mathlib.Core.Path.{_≡_, _∙_, subst}
+-- Checks 1, 2 and 4 to 7 of the record of an edge: the record is whole, at its place behind the head; then its fields are judged as they stand in it.
+use mathlib.Core.Path.{_≡_, _∙_, ap, subst}
 use Prim.Native.Nat.{_+_, _≤_}
 use lib.ListN.{length}
 use Rattle.refusals.specs.Order.{Judged}
@@ -8,21 +8,23 @@ use Rattle.records.specs.Record.{recordChecks}
 use native.Mathlib.Omega.{arith}
 use Rattle.signed.proofs.Laws.{number-of-bits}
 use Rattle.refusals.proofs.Order.{first-left, judged-right}
-use Rattle.records.specs.Sheet.{edgeAt, edgeRecordChecks}
+use Rattle.records.specs.Sheet.{edgeAfter, edgeAt, edgeRecordChecks}
 use Rattle.records.proofs.Record.{edge-body}
 use Rattle.records.proofs.EdgeRead.{edge-read}
 use borrow.Author.Needs.{needs}
 use Rattle.records.proofs.check_edge_record.Statement.{statement}
 use Rattle.records.proofs.check_edge_record.Tie as tie
 
--- ── the record begins where the table has it ──
+-- ── the record begins behind the sheet's head and the records before it ──
 abbrev begun : tie.After-check-record → tie.Start
 begun c = c .before .before .before
 
+place : (c : tie.After-check-record) → c .before .edge-at .result ≡ edgeAt (begun c .args .s .now) (begun c .args .e)
+place c = c .before .edge-at .ensures ∙ ap (λ n. edgeAfter n (begun c .args .e)) (begun c .pre .3)
+
 judged : (c : tie.After-check-record) (v : Verdict) → c .check-record .result ≡ v
-    → Judged (recordChecks (begun c .args .s .now) 2 (edgeAt (begun c .args .e))) v
-judged c v e =
-    subst (λ n. Judged (recordChecks (begun c .args .s .now) 2 n) v) (c .before .edge-at .ensures) (subst (Judged _) e (c .check-record .ensures))
+    → Judged (recordChecks (begun c .args .s .now) 2 (edgeAt (begun c .args .s .now) (begun c .args .e))) v
+judged c v e = subst (λ n. Judged (recordChecks (begun c .args .s .now) 2 n) v) (place c) (subst (Judged _) e (c .check-record .ensures))
 
 -- ── and is whole ──
 abbrev checked : tie.After-enum-told → tie.After-check-record
@@ -31,7 +33,7 @@ checked c = c .before .before
 whole : (c : tie.After-enum-told) → checked c .before .edge-at .result + 17 ≤ length (begun (checked c) .args .s .now)
 whole c =
     let k = checked c in
-    omega (arith, k .before .edge-at .ensures, edge-body _ (begun k .args .e) (judged k _ (c .enum-told .given .1)))
+    omega (arith, place k, edge-body _ (begun k .args .e) (judged k _ (c .enum-told .given .1)))
 
 -- ── the needs, in the order of the code ──
 edge-at-requires : tie.Need-edge-at-requires
@@ -105,7 +107,7 @@ returns-2 c =
     let forward-is = number-of-bits (forward .read-i32 .result) (record { sfits = forward .read-i32 .ok }) ∙ forward .read-i32 .ensures in
     let backward-is = number-of-bits (backward .read-i322 .result) (record { sfits = backward .read-i322 .ok }) ∙ backward .read-i322 .ensures in
     judged-right _ _ v (judged k _ (told .enum-told .given .1))
-    (edge-read (s .args .s .now) (s .args .e) v (s .pre .1) (s .pre .2) (s .pre .3) (k .before .edge-at .ensures)
+    (edge-read (s .args .s .now) (s .args .e) v (s .pre .1) (s .pre .4) (s .pre .5) (place k)
     (tail .read-wide .ensures) (head .read-wide2 .ensures) (rotation .read-wide3 .ensures) (back .read-wide4 .ensures) forward-is backward-is
     (c .check-fields .ensures))
 

@@ -1,5 +1,5 @@
--- `edge_at` meets its contract: both lengths are the table's.
-use mathlib.Core.Path.{ap₂}
+-- `edge_at` meets its contract: the length of an edge's record is the table's.
+use mathlib.Core.Path.{ap}
 use Prim.Native.Nat.{_+_, _*_}
 use native.Mathlib.Omega.{arith}
 use borrow.Author.Needs.{needs}
@@ -9,17 +9,14 @@ use Rattle.records.proofs.edge_at.Tie as tie
 record-length-requires : tie.Need-record-length-requires
 record-length-requires c κs = search needs
 
-record-length-requires-2 : tie.Need-record-length-requires-2
-record-length-requires-2 c κs = search needs
-
 mul-result : tie.Need-mul-result
-mul-result c = rw (c .record-length2 .ensures .0) (omega arith)
+mul-result c = rw (c .record-length .ensures .0) (omega arith)
 
 add-result : tie.Need-add-result
-add-result c = rw (c .before .record-length .ensures .0, c .record-length2 .ensures .0) (omega arith)
+add-result c = rw (c .record-length .ensures .0) (omega (arith, c .before .pre .0))
 
 returns : tie.Need-returns
-returns c = ap₂ (λ a b. a + b * c .before .before .args .e) (c .before .record-length .ensures .0) (c .record-length2 .ensures .0)
+returns c = let a = c .before .args in ap (λ n. a .head + n * a .e) (c .record-length .ensures .0)
 
 pub edge-at-spec : {M : Type 1} → statement M
-edge-at-spec = tie.close (tie.spec record-length-requires record-length-requires-2 mul-result add-result returns)
+edge-at-spec = tie.close (tie.spec record-length-requires mul-result add-result returns)

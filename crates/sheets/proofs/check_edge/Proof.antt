@@ -92,7 +92,7 @@ check-fields-requires : tie.Need-check-fields-requires
 check-fields-requires c κs = search needs
 
 abbrev drawn : tie.Start → Drawing
-drawn s = slicesDrawing (s .args .nodes) (s .args .tails .now) (s .args .rotations .now) (s .args .capacities .now)
+drawn s = slicesDrawing (s .args .nodes) (s .args .outer) (s .args .tails .now) (s .args .rotations .now) (s .args .capacities .now)
 
 -- ── the places, from the last field to the first ──
 abbrev back-rotation-at : tie.After-forward → tie.After-wide4

@@ -11,10 +11,11 @@ use Rattle.sheets.proofs.check_edges.Statement.{statement}
 use Rattle.sheets.proofs.check_edges.Tie as tie
 
 abbrev Inv-loop : tie.InvT-loop
-Inv-loop nodes tails rotations capacities edges e₀ e = (e ≤ edges) × ((i : ℕ) → i < e → NoneOf (edgeChecks (slicesDrawing nodes tails rotations capacities) i))
+Inv-loop nodes outer tails rotations capacities edges e₀ e =
+    (e ≤ edges) × ((i : ℕ) → i < e → NoneOf (edgeChecks (slicesDrawing nodes outer tails rotations capacities) i))
 
 abbrev μ-loop : tie.MeasureT-loop
-μ-loop nodes tails rotations capacities edges e₀ e = edges - e
+μ-loop nodes outer tails rotations capacities edges e₀ e = edges - e
 
 -- ── the turn of the loop in which an edge is checked ──
 abbrev turn : tie.After-check-edge Inv-loop μ-loop → tie.At-loop Inv-loop μ-loop

@@ -1,4 +1,5 @@
--- Checks 3 to 7 and 9 to 12: the counts passed, then the edges, then the map is in arrays; each way out is a verdict of the whole list, by a law of `Writing`.
+-- Checks 3, 24, 4 to 7 and 9 to 12: the numbers passed, then the edges, then the map is in arrays; each way out is a verdict of the whole list, by a law of
+-- `Writing`.
 use mathlib.Core.Path.{_≡_, refl, sym, subst}
 use mathlib.Core.List.{List}
 use Prim.Native.Nat.{ℕ, _≤_}
@@ -12,22 +13,22 @@ use Rattle.arrays.specs.At.{at}
 use Rattle.arrays.specs.Maps.{mapOf}
 use Rattle.arrays.proofs.FillLoops.{same-everywhere}
 use Rattle.rotations.specs.MapChecks.{MapJudged}
-use Rattle.records.specs.Check.{countChecks, edgeChecks}
+use Rattle.records.specs.Check.{numberChecks, edgeChecks}
 use Rattle.records.proofs.Drawing.{counts-range}
 use Rattle.sheets.specs.Write.{edgesIn, slicesDrawing}
-use Rattle.sheets.proofs.Writing.{loaded-map, map-judged, refused-counts, refused-edges, judged-map, turns-range}
+use Rattle.sheets.proofs.Writing.{loaded-map, map-judged, refused-numbers, refused-edges, judged-map, turns-range}
 use Rattle.sheets.proofs.check_slices.Statement.{statement}
 use Rattle.sheets.proofs.check_slices.Tie as tie
 
 abbrev drawn : tie.Start → Drawing
-drawn s = slicesDrawing (s .args .nodes) (s .args .tails .now) (s .args .rotations .now) (s .args .capacities .now)
+drawn s = slicesDrawing (s .args .nodes) (s .args .outer) (s .args .tails .now) (s .args .rotations .now) (s .args .capacities .now)
 
--- ── the counts passed ──
+-- ── the numbers passed ──
 abbrev begun : tie.After-enum-told → tie.Start
 begun c = c .before .before .before .before .before
 
-counts-passed : (c : tie.After-enum-told) → NoneOf (countChecks (begun c .args .nodes) (edgesIn (begun c .args .tails .now)))
-counts-passed c = rw (c .enum-told .given .1) at (c .before .before .check-counts .ensures)
+numbers-passed : (c : tie.After-enum-told) → NoneOf (numberChecks (begun c .args .nodes) (edgesIn (begun c .args .tails .now)) (begun c .args .outer))
+numbers-passed c = rw (c .enum-told .given .1) at (c .before .before .check-numbers .ensures)
 
 -- ── the edges passed ──
 abbrev counted : tie.After-enum-told2 → tie.After-enum-told
@@ -37,7 +38,7 @@ edges-passed : (c : tie.After-enum-told2) → NoneOf (inTurn (edgesIn (begun (co
 edges-passed c = rw (c .enum-told2 .given .1) at (c .before .before .check-edges .ensures)
 
 long : (c : tie.After-enum-told2) → length (begun (counted c) .args .tails .now) ≤ 1024
-long c = omega (arith, begun (counted c) .pre .2, counts-range _ _ (counts-passed (counted c)) .3)
+long c = omega (arith, begun (counted c) .pre .2, counts-range _ _ _ (numbers-passed (counted c)) .3)
 
 -- ── the arrays are loaded ──
 abbrev told : tie.After-load2 → tie.After-enum-told2
@@ -58,16 +59,16 @@ map-is c =
     loaded-map (a .nodes) _ (tails' c) (rotations' c) (a .tails .now) (a .rotations .now) (c .before .before .load .ensures .1) (c .load2 .ensures .1)
 
 -- ── the needs, in the order of the code ──
-check-counts-requires : tie.Need-check-counts-requires
-check-counts-requires c κs = search needs
+check-numbers-requires : tie.Need-check-numbers-requires
+check-numbers-requires c κs = search needs
 
-enum-known-counts : tie.Need-enum-known-counts
-enum-known-counts c = search needs
+enum-known-numbers : tie.Need-enum-known-numbers
+enum-known-numbers c = search needs
 
 returns : tie.Need-returns
 returns c =
-    let counts = c .before .before .before in
-    refused-counts (drawn (counts .before .before .before)) _ _ (rw (c .before .counts .given .1) at (counts .check-counts .ensures))
+    let numbers = c .before .before .before in
+    refused-numbers (drawn (numbers .before .before .before)) _ _ (rw (c .before .numbers .given .1) at (numbers .check-numbers .ensures))
 
 enum-told : tie.Need-enum-told
 enum-told c = search needs
@@ -75,7 +76,7 @@ enum-told c = search needs
 check-edges-requires : tie.Need-check-edges-requires
 check-edges-requires c κs =
     let p = begun c .pre in
-    (p .0, p .1, omega (arith, p .2, counts-range _ _ (counts-passed c) .3))
+    (p .0, p .1, omega (arith, p .2, counts-range _ _ _ (numbers-passed c) .3))
 
 enum-known-fields : tie.Need-enum-known-fields
 enum-known-fields c = search needs
@@ -83,7 +84,7 @@ enum-known-fields c = search needs
 returns-2 : tie.Need-returns-2
 returns-2 c =
     let t = c .before .before .before .before in
-    refused-edges (drawn (begun t)) _ _ (counts-passed t) (rw (c .before .fields .given .1) at (c .before .before .before .check-edges .ensures))
+    refused-edges (drawn (begun t)) _ _ (numbers-passed t) (rw (c .before .fields .given .1) at (c .before .before .before .check-edges .ensures))
 
 enum-told-2 : tie.Need-enum-told-2
 enum-told-2 c = search needs
@@ -98,7 +99,7 @@ check-map-requires : tie.Need-check-map-requires
 check-map-requires c κs =
     let l = c .before .before .before in
     let t = told l in
-    let n = counts-range _ _ (counts-passed (counted t)) in
+    let n = counts-range _ _ _ (numbers-passed (counted t)) in
     (omega (arith, n .2), n .3, omega (arith, n .1), refl, subst InRange (sym (map-is l)) (turns-range (drawn (start l)) (edges-passed t)))
 
 returns-3 : tie.Need-returns-3
@@ -108,15 +109,15 @@ returns-3 c =
     let m = c .check-map in
     let v = m .result .verdict in
     let lefts = m .last .1 .1 .1 .1 .0 in
-    judged-map (drawn (start l)) v (counts-passed (counted t)) (edges-passed t)
+    judged-map (drawn (start l)) v (numbers-passed (counted t)) (edges-passed t)
     (map-judged _ (at lefts) (m .result .faces) v (subst (λ 𝓜. MapJudged 𝓜 (at lefts) (m .result .faces) v) (map-is l) (m .ensures .1)))
 
 pub check-slices-spec : {M : Type 1} → statement M
 check-slices-spec =
     tie.close
     (tie.spec
-    check-counts-requires
-    enum-known-counts
+    check-numbers-requires
+    enum-known-numbers
     returns
     enum-told
     check-edges-requires

@@ -18,7 +18,8 @@ fill-fields-requires c κs =
     let s = c .before .before in
     let p = s .pre in
     let room = bytes-room (s .args .s .now) (p .0) in
-    (omega arith, omega (arith, p .1, room .4), subst (λ n. edgeAt n ≤ length (s .args .s .now)) (sym (p .1)) (room .5), omega (arith, p .1, p .2, room .4))
+    let whole = subst (λ n. edgeAt (s .args .s .now) n ≤ length (s .args .s .now)) (sym (p .1)) (room .5) in
+    (omega arith, omega (arith, p .1, room .4), whole, omega (arith, p .1, p .2, room .4))
 
 returns : tie.Need-returns
 returns c =

@@ -10,7 +10,7 @@ use borrow.Author.Needs.{needs}
 use Rattle.refusals.specs.Order.{NoneOf}
 use Rattle.records.specs.Sheet.{edgeAt}
 use Rattle.sheets.specs.Open.{sheetChecks, Numbers}
-use Rattle.sheets.proofs.Accepted.{sheet-bytes, sheet-counts}
+use Rattle.sheets.proofs.Accepted.{sheet-bytes, sheet-counts, sheet-outer}
 use Rattle.sheets.proofs.Opening.{bytes-room, opens-passed, opens-first}
 use Rattle.sheets.proofs.Reading.{read-refused, read-short, read-whole, tails-read, rotations-read, capacities-read}
 use Rattle.sheets.proofs.read.Statement.{statement}
@@ -26,17 +26,17 @@ sheet c = opened c .before .before .before .before .before .args .sheet .now
 accepted : (c : tie.After-enum-told) → NoneOf (sheetChecks (sheet c)) × Numbers (sheet c) (opened c .«open» .last .1 .0) (opened c .«open» .result)
 accepted c = let o = opened c .«open» in opens-passed (sheet c) _ (o .result) (c .enum-told .given .1) (o .ensures .1)
 
-few : (c : tie.After-enum-told) → (opened c .«open» .result .edges ≤ 512) × (opened c .«open» .result .nodes ≤ 513)
+few : (c : tie.After-enum-told) → (opened c .«open» .result .edges ≤ 512) × (opened c .«open» .result .nodes ≤ 513) × (opened c .«open» .result .outer ≤ 1023)
 few c =
     let a = accepted c in
     let n = sheet-counts (sheet c) (a .0) in
-    (omega (arith, a .1 .edges-are, n .3), omega (arith, a .1 .nodes-are, n .1))
+    (omega (arith, a .1 .edges-are, n .3), omega (arith, a .1 .nodes-are, n .1), omega (arith, a .1 .outer-is, sheet-outer (sheet c) (a .0), n .3))
 
-whole : (c : tie.After-enum-told) → edgeAt (opened c .«open» .result .edges) ≤ length (sheet c)
+whole : (c : tie.After-enum-told) → edgeAt (sheet c) (opened c .«open» .result .edges) ≤ length (sheet c)
 whole c =
     let a = accepted c in
     let room = bytes-room (sheet c) (sheet-bytes (sheet c) (a .0)) in
-    subst (λ n. edgeAt n ≤ length (sheet c)) (sym (a .1 .edges-are)) (room .5)
+    subst (λ n. edgeAt (sheet c) n ≤ length (sheet c)) (sym (a .1 .edges-are)) (room .5)
 
 -- ── there is room in all three slices ──
 abbrev told : tie.Else3 → tie.After-enum-told
@@ -97,6 +97,9 @@ narrow-requires c κs = omega (arith, few (told (filled-at (c .before))) .1)
 narrow-requires-2 : tie.Need-narrow-requires-2
 narrow-requires-2 c κs = omega (arith, few (told (filled-at (c .before .before))) .0)
 
+narrow-requires-3 : tie.Need-narrow-requires-3
+narrow-requires-3 c κs = omega (arith, few (told (filled-at (c .before .before .before))) .2)
+
 same-length : tie.Need-same-length
 same-length c = search needs
 
@@ -108,7 +111,7 @@ same-length-3 c = search needs
 
 returns-5 : tie.Need-returns-5
 returns-5 c =
-    let f = c .before .before .before in
+    let f = c .before .before .before .before in
     let rotations = rotations-filled f in
     let tails = tails-filled rotations in
     let r = filled-at f in
@@ -117,8 +120,9 @@ returns-5 c =
     let e = a .1 .edges-are in (
       read-whole (sheet t) _ _ _ (a .0)
           (omega (arith, e, r .before .before .if1 .left)) (omega (arith, e, r .before .if2 .left)) (omega (arith, e, r .if3 .left)),
-      c .before .narrow .ensures ∙ a .1 .nodes-are,
-      c .narrow2 .ensures ∙ e,
+      c .before .before .narrow .ensures ∙ a .1 .nodes-are,
+      c .before .narrow2 .ensures ∙ e,
+      c .narrow3 .ensures ∙ a .1 .outer-is,
       tails-read (sheet t) _ e _ _ (tails .fill-fields .ensures),
       rotations-read (sheet t) _ e _ _ (rotations .fill-fields2 .ensures),
       capacities-read (sheet t) _ e _ _ (f .fill-limits .ensures),
@@ -141,6 +145,7 @@ read-spec =
     fill-limits-requires
     narrow-requires
     narrow-requires-2
+    narrow-requires-3
     same-length
     same-length-2
     same-length-3

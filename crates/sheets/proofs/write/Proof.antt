@@ -12,8 +12,8 @@ use Rattle.refusals.specs.declared.Verdict.{Verdict}
 use Rattle.refusals.specs.declared.Verdict.the-variants.{Passed, Refused}
 use Rattle.maps.specs.Drawing.{Drawing}
 use Rattle.records.specs.Record.{recordLength}
-use Rattle.records.specs.Sheet.{edgeAt}
-use Rattle.records.specs.Encode.{encodeHead, encode}
+use Rattle.records.specs.Sheet.{edgeAfter}
+use Rattle.records.specs.Encode.{encodeHead, encode, encodeLength}
 use Rattle.records.proofs.Drawing.{counts-range}
 use Rattle.sheets.specs.Write.{edgesIn, slicesDrawing, drawingChecks, writeChecks}
 use Rattle.sheets.proofs.PlacedRecords.{head-kept}
@@ -22,14 +22,15 @@ use Rattle.sheets.proofs.write.Statement.{statement}
 use Rattle.sheets.proofs.write.Tie as tie
 
 abbrev drawn : tie.Start → Drawing
-drawn s = slicesDrawing (s .args .nodes) (s .args .tails .now) (s .args .rotations .now) (s .args .capacities .now)
+drawn s = slicesDrawing (s .args .nodes) (s .args .outer) (s .args .tails .now) (s .args .rotations .now) (s .args .capacities .now)
 
 -- ── the slices are of one even length, or not ──
 uneven : (s : tie.Start)
     → (length (s .args .rotations .now) ≢ length (s .args .tails .now))
     ⊎ ((length (s .args .capacities .now) ≢ length (s .args .tails .now)) ⊎ (length (s .args .tails .now) % 2 ≢ 0))
-    → FirstOf (writeChecks (s .args .nodes) (s .args .tails .now) (s .args .rotations .now) (s .args .capacities .now) (s .args .out .now)) 16 0
-uneven s = write-uneven (s .args .nodes) (s .args .tails .now) (s .args .rotations .now) (s .args .capacities .now) (s .args .out .now)
+    → FirstOf (writeChecks (s .args .nodes) (s .args .outer) (s .args .tails .now) (s .args .rotations .now) (s .args .capacities .now)
+    (s .args .out .now)) 16 0
+uneven s = write-uneven (s .args .nodes) (s .args .outer) (s .args .tails .now) (s .args .rotations .now) (s .args .capacities .now) (s .args .out .now)
 
 abbrev begun : tie.Else3 → tie.Start
 begun c = c .before .before .before .before .before .before
@@ -42,10 +43,10 @@ same-capacities c = c .before .if2 .left
 
 -- ── the checks on the drawing ──
 abbrev even : tie.After-check-slices → tie.Else3
-even c = c .before .before
+even c = c .before .before .before
 
 judged : (c : tie.After-check-slices) (v : Verdict) → c .check-slices .result ≡ v → Judged (drawingChecks (drawn (begun (even c)))) v
-judged c v e = rw (e, c .before .wide .ensures) at (c .check-slices .ensures)
+judged c v e = rw (e, c .before .before .wide .ensures, c .before .wide2 .ensures) at (c .check-slices .ensures)
 
 -- ── the drawing passed ──
 abbrev sliced : tie.After-enum-told → tie.Else3
@@ -58,14 +59,17 @@ passed : (c : tie.After-enum-told) → NoneOf (drawingChecks (drawn (base c)))
 passed c = judged (c .before .before) Passed (c .enum-told .given .1)
 
 few : (c : tie.After-enum-told) → edgesIn (base c .args .tails .now) ≤ 512
-few c = counts-range _ _ (drawing-parts (drawn (base c)) (passed c) .0) .3
+few c = counts-range _ _ _ (drawing-parts (drawn (base c)) (passed c) .0) .3
 
 -- ── there is room ──
 abbrev told : tie.Else4 → tie.After-enum-told
-told c = c .before .before
+told c = c .before .before .before
 
-long : (c : tie.Else4) → c .before .edge-at .result ≡ edgeAt (edgesIn (base (told c) .args .tails .now))
-long c = c .before .edge-at .ensures
+end : (c : tie.After-edge-at) → c .edge-at .result ≡ encodeLength (edgesIn (base (c .before .before) .args .tails .now))
+end c = c .edge-at .ensures ∙ ap (λ n. edgeAfter n (edgesIn (base (c .before .before) .args .tails .now))) (c .before .record-length .ensures .0)
+
+long : (c : tie.Else4) → c .before .edge-at .result ≡ encodeLength (edgesIn (base (told c) .args .tails .now))
+long c = end (c .before)
 
 -- ── the head is written ──
 abbrev roomy : tie.After-write-head → tie.Else4
@@ -77,9 +81,9 @@ start c = base (told (roomy c))
 head-length : (c : tie.After-write-head) → length (c .write-head .last .0) ≡ length (start c .args .out .now)
 head-length c =
     let a = start c .args in
-    head-kept (a .nodes) (c .before .narrow .result) (a .out .now) _ (c .write-head .ensures) (omega (arith, long (roomy c)))
+    head-kept (a .nodes) (c .before .narrow .result) (a .outer) (a .out .now) _ (c .write-head .ensures) (omega (arith, long (roomy c)))
 
-headed : (c : tie.After-write-head) → c .write-head .last .0 ≡ encodeHead (drawn (start c)) ++ drop (recordLength 1) (start c .args .out .now)
+headed : (c : tie.After-write-head) → c .write-head .last .0 ≡ encodeHead (drawn (start c)) ++ drop (recordLength 4) (start c .args .out .now)
 headed c =
     let n = c .before .narrow in
     head-written (drawn (start c)) (start c .args .out .now) _ (n .result) (n .ensures) (c .write-head .ensures)
@@ -97,8 +101,11 @@ returns-3 c = (uneven (c .before .before .before .before .before .before) (inr (
 wide-requires : tie.Need-wide-requires
 wide-requires c κs = search needs
 
+wide-requires-2 : tie.Need-wide-requires-2
+wide-requires-2 c κs = search needs
+
 check-slices-requires : tie.Need-check-slices-requires
-check-slices-requires c κs = let e = c .before in (same-rotations e, same-capacities e, e .if3 .left)
+check-slices-requires c κs = let e = c .before .before in (same-rotations e, same-capacities e, e .if3 .left)
 
 enum-known-drawing : tie.Need-enum-known-drawing
 enum-known-drawing c = search needs
@@ -108,7 +115,7 @@ returns-4 c =
     let j = c .before .before .before in
     let e = even j in
     let a = begun e .args in (
-      write-refused (a .nodes) (a .tails .now) (a .rotations .now) (a .capacities .now) (a .out .now)
+      write-refused (a .nodes) (a .outer) (a .tails .now) (a .rotations .now) (a .capacities .now) (a .out .now)
           (same-rotations e) (same-capacities e) (e .if3 .left) _ _ (judged j (Refused _ _) (c .before .drawing .given .1)),
       refl,
     )
@@ -116,16 +123,19 @@ returns-4 c =
 enum-told : tie.Need-enum-told
 enum-told c = search needs
 
+record-length-requires : tie.Need-record-length-requires
+record-length-requires c κs = search needs
+
 edge-at-requires : tie.Need-edge-at-requires
-edge-at-requires c κs = few c
+edge-at-requires c κs = (c .record-length .ensures .1, few (c .before))
 
 returns-5 : tie.Need-returns-5
 returns-5 c =
-    let t = c .before .before in
+    let t = c .before .before .before in
     let e = sliced t in
     let a = begun e .args in (
-      write-short (a .nodes) (a .tails .now) (a .rotations .now) (a .capacities .now) (a .out .now)
-          (same-rotations e) (same-capacities e) (e .if3 .left) (passed t) (omega (arith, c .before .edge-at .ensures)),
+      write-short (a .nodes) (a .outer) (a .tails .now) (a .rotations .now) (a .capacities .now) (a .out .now)
+          (same-rotations e) (same-capacities e) (e .if3 .left) (passed t) (omega (arith, end (c .before))),
       refl,
     )
 
@@ -154,10 +164,10 @@ returns-6 c =
     let s = start h in
     let a = s .args in
     let n = long (roomy h) in (
-      write-whole (a .nodes) (a .tails .now) (a .rotations .now) (a .capacities .now) (a .out .now)
+      write-whole (a .nodes) (a .outer) (a .tails .now) (a .rotations .now) (a .capacities .now) (a .out .now)
           (same-rotations e) (same-capacities e) (e .if3 .left) (passed t) (omega (arith, n)),
       n,
-      w .write-edges .ensures (a .nodes) (a .out .now) (headed h) ∙ ap (λ k. encode (drawn s) ++ drop k (a .out .now)) (sym n),
+      w .write-edges .ensures (a .nodes) (a .outer) (a .out .now) (headed h) ∙ ap (λ k. encode (drawn s) ++ drop k (a .out .now)) (sym n),
     )
 
 pub write-spec : {M : Type 1} → statement M
@@ -168,10 +178,12 @@ write-spec =
     returns-2
     returns-3
     wide-requires
+    wide-requires-2
     check-slices-requires
     enum-known-drawing
     returns-4
     enum-told
+    record-length-requires
     edge-at-requires
     returns-5
     narrow-requires

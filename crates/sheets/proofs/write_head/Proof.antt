@@ -1,4 +1,4 @@
--- The head of a sheet is written field by field: at three places a field stands behind the one before, and `head-placed` joins them into one piece.
+-- The head of a sheet is written field by field: at each place a field stands behind the one before, and `head-placed` joins them into one piece.
 use borrow.Author.Needs.{needs}
 use Rattle.sheets.proofs.PlacedRecords.{head-placed}
 use Rattle.sheets.proofs.write_head.Statement.{statement}
@@ -13,10 +13,16 @@ write-u16-requires c κs = search needs
 write-u16-requires-2 : tie.Need-write-u16-requires-2
 write-u16-requires-2 c κs = search needs
 
+write-u16-requires-3 : tie.Need-write-u16-requires-3
+write-u16-requires-3 c κs = search needs
+
 same-length : tie.Need-same-length
 same-length c = search needs
 
 -- ── the places, from the last field to the first ──
+abbrev edges-at : tie.After-write-u163 → tie.After-write-u162
+edges-at c = c .before .before .before .before
+
 abbrev nodes-at : tie.After-write-u162 → tie.After-write-u16
 nodes-at c = c .before .before .before .before
 
@@ -26,17 +32,18 @@ kind-at c = c .before .before .before .before
 abbrev begun : tie.After-write-u8 → tie.Start
 begun c = c .before .before .before
 
--- ── all three fields are one record ──
+-- ── all four fields are one record ──
 returns : tie.Need-returns
 returns c =
-    let edges = c .before .before in
+    let outer = c .before .before in
+    let edges = edges-at outer in
     let nodes = nodes-at edges in
     let kind = kind-at nodes in
     let s = begun kind in
-    let a = s .args in
-    head-placed (a .out .now) (a .nodes) (a .edges) (s .pre) (kind .write-u8 .ensures) (nodes .write-u16 .ensures) (edges .write-u162 .ensures)
+    head-placed (s .args .out .now) (s .args .nodes) (s .args .edges) (s .args .outer) (s .pre)
+    (kind .write-u8 .ensures) (nodes .write-u16 .ensures) (edges .write-u162 .ensures) (outer .write-u163 .ensures)
 
 pub write-head-spec : {M : Type 1} → statement M
 write-head-spec =
     tie.close
-    (tie.spec write-u8-requires write-u16-requires write-u16-requires-2 same-length returns)
+    (tie.spec write-u8-requires write-u16-requires write-u16-requires-2 write-u16-requires-3 same-length returns)
