@@ -2,6 +2,7 @@
 //
 //   solve SHEET SOURCE SINK VALUE      prints: result can size place
 //   largest SHEET SOURCE SINK 0        prints: result found value place
+//   range SHEET SOURCE SINK 0          Least and largest; prints: result found largest place
 //   read SHEET 0 0 0                   prints: result 255 channels place
 //   write SHEET 0 0 0                  on what Read gives; prints: result same length place
 //   mark SHEET SOURCE SINK VALUE       on what Solve gives; prints: result 255 value place
@@ -24,7 +25,8 @@ static uint16_t source, sink;
 static int32_t value;
 static uint16_t tails[ANALYSER_MAX_DARTS], turns[ANALYSER_MAX_DARTS];
 static int32_t limits[ANALYSER_MAX_DARTS], settings[ANALYSER_MAX_CHANNELS], again[ANALYSER_MAX_CHANNELS], levels[ANALYSER_MAX_FACES];
-static uint64_t set[ANALYSER_SET_WORDS];
+static int32_t least;
+static uint64_t set[ANALYSER_SET_WORDS], below[ANALYSER_SET_WORDS];
 static uint8_t answer, result;
 static uint16_t nodes, channels, outer, size, place;
 static long number;
@@ -34,6 +36,10 @@ static void solve(void) {
 }
 static void largest(void) {
     result = analyser_largest(sheet, sheet_length, source, sink, settings, ANALYSER_MAX_CHANNELS, set, ANALYSER_SET_WORDS, &answer, &value, &place);
+}
+static void range(void) {
+    result = analyser_least_and_largest(sheet, sheet_length, source, sink, again, ANALYSER_MAX_CHANNELS, below, ANALYSER_SET_WORDS, settings,
+                                        ANALYSER_MAX_CHANNELS, set, ANALYSER_SET_WORDS, &answer, &least, &value, &place);
 }
 static void read_sheet(void) {
     result = analyser_read(sheet, sheet_length, tails, ANALYSER_MAX_DARTS, turns, ANALYSER_MAX_DARTS, limits, ANALYSER_MAX_DARTS, &nodes, &channels, &outer,
@@ -82,6 +88,7 @@ static const struct operation {
 } operations[] = {
     {"solve", solve, {NULL, NULL, NULL}, tell_size},
     {"largest", largest, {NULL, NULL, NULL}, tell_value},
+    {"range", range, {NULL, NULL, NULL}, tell_value},
     {"read", read_sheet, {NULL, NULL, NULL}, tell_channels},
     {"write", write_sheet, {read_sheet, NULL, NULL}, tell_written},
     {"mark", mark, {solve, NULL, NULL}, tell_value},

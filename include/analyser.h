@@ -67,8 +67,8 @@ enum analyser_result {
     ANALYSER_NOT_ONE_ROUND = 10, // a node's darts do not form exactly one round, or it has none. Sheet; Write
     ANALYSER_NOT_CONNECTED = 11, // channels, followed either way, do not lead from every node to every other. Sheet; Write
     ANALYSER_NOT_FLAT = 12, // nodes - channels + faces is not 2. Sheet; Write
-    ANALYSER_NO_SUCH_NODE = 13, // headgate or outfall is no node. Solve, Largest, Mark
-    ANALYSER_ENDS_EQUAL = 14, // headgate and outfall are one node. Solve, Largest, Mark
+    ANALYSER_NO_SUCH_NODE = 13, // headgate or outfall is no node. Solve, Largest, Least and largest, Mark
+    ANALYSER_ENDS_EQUAL = 14, // headgate and outfall are one node. Solve, Largest, Least and largest, Mark
     ANALYSER_DELIVERY_OUT_OF_RANGE = 15, // the delivery is not -600000000 to 600000000. Solve
     ANALYSER_SLICE_TOO_SHORT = 16, // a lent slice is too short; in Write also inputs of unequal or odd length. Every function
     ANALYSER_OUTSIDE_LIMITS = 17, // a setting is outside its channel's limits; *place is the lowest such channel. Mark, both level functions
@@ -111,6 +111,19 @@ uint8_t analyser_solve(const uint8_t *sheet, size_t sheet_length, uint16_t headg
 // Where there is none: the words of the set, and *found = 0.
 uint8_t analyser_largest(const uint8_t *sheet, size_t sheet_length, uint16_t headgate, uint16_t outfall, int32_t *settings, size_t settings_length,
                          uint64_t *set, size_t set_length, uint8_t *found, int32_t *value, uint16_t *place);
+
+// Least and largest: the least and the largest value that can be carried from headgate to outfall. Every whole number from the one to the other can be carried,
+// and no other. Each comes with its highest settings; with the least comes a set that proves the next lower value impossible, with the largest one that proves
+// the next greater. Or none, where no value at all can be carried, with one set that proves that: it holds both ends or neither.
+// Where Largest finds a value this does too, and its largest value and settings are those of Largest; where Largest says none this does too.
+// Refusals: the sheet checks; 13; 14; 16 where low or high has less than one element for each channel, or below or above less than one word for each 64 nodes
+// or part of them.
+// Writes where there are values: a setting for each channel, of the least value in low and of the largest in high; the words of the set for the least value in
+// below, and of that for the largest in above; *least, *largest, and *found = 1. Where there is none: the words of the one set, in below and in above, and
+// *found = 0.
+uint8_t analyser_least_and_largest(const uint8_t *sheet, size_t sheet_length, uint16_t headgate, uint16_t outfall, int32_t *low, size_t low_length,
+                                   uint64_t *below, size_t below_length, int32_t *high, size_t high_length, uint64_t *above, size_t above_length,
+                                   uint8_t *found, int32_t *least, int32_t *largest, uint16_t *place);
 
 // Mark: the value that given settings carry from headgate to outfall.
 // Refusals: the sheet checks; 13; 14; 16 where settings has less than one element for each channel; 17; 18 at a node other than those two.

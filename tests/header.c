@@ -1,5 +1,5 @@
-// The header and the library, as a C program and as a C++ program: each operation on drawing A of document 01, and a refusal of each. tests/header compiles and
-// runs it, and compares what it prints.
+// The header and the library, as a C program and as a C++ program: each operation on drawing A of document 01, and a refusal of each; Least and largest on
+// drawing B too. tests/header compiles and runs it, and compares what it prints.
 #include "analyser.h"
 #include "analyser.h"
 #include <stdio.h>
@@ -13,7 +13,14 @@ static const uint8_t drawing_a[56] = {
     2, 0, 0, 1, 0, 0, 0, 3, 0, 4, 0, 0, 0, 0, 0, 0, 0, //
 };
 
-// The same with dart 1 on the outer face, in a head of kind 4.
+// Drawing B. Channels: 0 1 2 1 5 0; 0 2 0 3 3 -1. Nothing can be delivered from node 0 to node 1.
+static const uint8_t drawing_b[39] = {
+    1, 3, 0, 2, 0, //
+    2, 0, 0, 1, 0, 2, 0, 1, 0, 5, 0, 0, 0, 0, 0, 0, 0, //
+    2, 0, 0, 2, 0, 0, 0, 3, 0, 3, 0, 0, 0, 255, 255, 255, 255, //
+};
+
+// Drawing A with dart 1 on the outer face, in a head of kind 4.
 static const uint8_t drawing_a_outer[58] = {
     4, 2, 0, 3, 0, 1, 0, //
     2, 0, 0, 1, 0, 2, 0, 5, 0, 5, 0, 0, 0, 0, 0, 0, 0, //
@@ -28,17 +35,19 @@ static uint16_t tails[ANALYSER_MAX_DARTS], turns[ANALYSER_MAX_DARTS], nodes, cha
 static int32_t limits[ANALYSER_MAX_DARTS], settings[ANALYSER_MAX_CHANNELS], levels[ANALYSER_MAX_FACES], value;
 static uint8_t sheet[ANALYSER_SHEET_BYTES], all_five[ANALYSER_SHEET_BYTES], flag;
 static uint64_t set[ANALYSER_SET_WORDS];
+static int32_t low[ANALYSER_MAX_CHANNELS], high[ANALYSER_MAX_CHANNELS], least, largest;
+static uint64_t below[ANALYSER_SET_WORDS], above[ANALYSER_SET_WORDS];
 static uint8_t input[9 + sizeof drawing_a], text[ANALYSER_KEY_TEXT_BYTES];
 static size_t length;
 
 static void untouched(void) {
     nodes = channels = outer = size = place = UNTOUCHED;
-    value = UNTOUCHED;
+    value = least = largest = UNTOUCHED;
     flag = UNTOUCHED;
     length = UNTOUCHED;
-    for (int i = 0; i < ANALYSER_MAX_CHANNELS; i++) settings[i] = UNTOUCHED;
+    for (int i = 0; i < ANALYSER_MAX_CHANNELS; i++) settings[i] = low[i] = high[i] = UNTOUCHED;
     for (int i = 0; i < ANALYSER_MAX_FACES; i++) levels[i] = UNTOUCHED;
-    for (int i = 0; i < ANALYSER_SET_WORDS; i++) set[i] = UNTOUCHED;
+    for (int i = 0; i < ANALYSER_SET_WORDS; i++) set[i] = below[i] = above[i] = UNTOUCHED;
 }
 
 static void numbers(const char *name, const int32_t *from, int count) {
@@ -52,6 +61,18 @@ static void set_three(int32_t first, int32_t second, int32_t third) {
     settings[0] = first;
     settings[1] = second;
     settings[2] = third;
+}
+
+// Least and largest on a sheet, with slices of these lengths: all that it may write, and one element more of each slice than drawing A needs.
+static void least_and_largest(const char *name, const uint8_t *bytes, size_t bytes_length, uint16_t headgate, uint16_t outfall, const size_t lengths[4]) {
+    untouched();
+    int result = analyser_least_and_largest(bytes, bytes_length, headgate, outfall, low, lengths[0], below, lengths[1], high, lengths[2], above, lengths[3], &flag,
+                                            &least, &largest, &place);
+    printf("least and largest %s %d: found %d, least %d, below %d %d, largest %d, above %d %d", name, result, flag, (int)least, (int)below[0], (int)below[1],
+           (int)largest, (int)above[0], (int)above[1]);
+    numbers("low", low, 4);
+    numbers("high", high, 4);
+    ended();
 }
 
 int main(void) {
@@ -105,6 +126,11 @@ int main(void) {
     printf("largest %d: found %d, value %d, set %d", result, flag, (int)value, (int)set[0]);
     numbers("settings", settings, 4);
     ended();
+
+    static const size_t enough[4] = {ANALYSER_MAX_CHANNELS, ANALYSER_SET_WORDS, ANALYSER_MAX_CHANNELS, ANALYSER_SET_WORDS};
+    least_and_largest("A", drawing_a, sizeof drawing_a, 0, 1, enough);
+    least_and_largest("A back", drawing_a, sizeof drawing_a, 1, 0, enough);
+    least_and_largest("B", drawing_b, sizeof drawing_b, 0, 1, enough);
 
     untouched();
     set_three(0, 2, 4);
@@ -166,6 +192,13 @@ int main(void) {
     result = analyser_largest(drawing_a, sizeof drawing_a, 1, 1, settings, ANALYSER_MAX_CHANNELS, set, ANALYSER_SET_WORDS, &flag, &value, &place);
     printf("largest %s: found %d, value %d", result == ANALYSER_ENDS_EQUAL ? "ends equal" : "?", flag, (int)value);
     ended();
+
+    // its refusals, each beside the next in order: a sheet check with an end that is no node, that end twice, equal ends with slices too short, each slice
+    static const size_t short_slices[5][4] = {{2, 0, 2, 0}, {2, 1, 3, 1}, {3, 0, 3, 1}, {3, 1, 2, 1}, {3, 1, 3, 0}};
+    least_and_largest("cut short", drawing_a, sizeof drawing_a - 1, 2, 1, enough);
+    least_and_largest("no such node", drawing_a, sizeof drawing_a, 2, 2, enough);
+    least_and_largest("ends equal", drawing_a, sizeof drawing_a, 1, 1, short_slices[0]);
+    for (int i = 0; i < 5; i++) least_and_largest("slice too short", drawing_a, sizeof drawing_a, 0, 1, short_slices[i]);
 
     untouched();
     set_three(0, 2, 5);

@@ -29,6 +29,12 @@ impl Tally {
             (Call::Solve { .. }, 0) => ["cannot", "can"][after.can as usize],
             (Call::Largest { .. }, 0) if after.found == 1 && after.value < 0 => "value below 0",
             (Call::Largest { .. }, 0) => ["none", "value"][after.found as usize],
+            (Call::LeastAndLargest { .. }, 0) => match (after.found, after.least, after.largest) {
+                (0, ..) => "none",
+                (_, _, ..=-1) => "values below 0",
+                (_, 1.., _) => "values above 0",
+                _ => "values",
+            },
             (Call::Mark { .. }, 0) => "value",
             (Call::KeyText, 0) => match after.text[3] {
                 b' ' => "can",
@@ -80,19 +86,27 @@ pub fn key_of(library: &Library, input: &[u8], tally: &mut Tally) -> Check<Strin
     Ok(String::from_utf8_lossy(&after.text[..after.length]).into_owned())
 }
 
-/// What is due from a call. The set is any that proves what it is given for: for a value, or without one that nothing can be carried.
+/// What is due from a call. A set is any that proves what it is given for: for a value, or without one that nothing can be carried.
 struct Due {
     result: u8,
     lent: Lent,
-    proof: Option<Proof>,
+    proofs: Vec<Proof>,
 }
 
+/// A set, due in one slice or the same in two.
 struct Proof {
+    slices: &'static [Slice],
     drawing: Drawing,
     source: u16,
     sink: u16,
     value: Option<i64>,
 }
+
+/// A slice for a set.
+type Slice = fn(&mut Lent) -> &mut Vec<u64>;
+const SET: Slice = |lent| &mut lent.set;
+const BELOW: Slice = |lent| &mut lent.below;
+const ABOVE: Slice = |lent| &mut lent.above;
 
 struct Checker<'a> {
     library: &'a Library,
@@ -126,18 +140,18 @@ impl Checker<'_> {
         if result != due.result {
             writeln!(differences, "result: {result}, not {}", due.result).unwrap();
         }
-        if let Some(proof) = &due.proof {
-            let words = proof.drawing.words();
-            due.lent.set[..words].copy_from_slice(&after.set[..words]);
+        let mut objections = String::new();
+        for proof in &due.proofs {
+            let set = proof.slices[0](&mut after)[..proof.drawing.words()].to_vec();
+            proof.slices.iter().for_each(|slice| slice(&mut due.lent)[..set.len()].copy_from_slice(&set));
             if let Call::Solve { .. } = call {
-                due.lent.size = after.set[..words].iter().map(|word| word.count_ones() as u16).sum();
+                due.lent.size = set.iter().map(|word| word.count_ones() as u16).sum();
             }
+            let objection = judge::objection(&proof.drawing, &set, proof.source, proof.sink, proof.value);
+            objections.extend(objection.map(|text| text + "\n"));
         }
         differ(&mut differences, &after, &due.lent);
-        if let (true, Some(proof)) = (differences.is_empty(), &due.proof) {
-            let objection = judge::objection(&proof.drawing, &after.set[..proof.drawing.words()], proof.source, proof.sink, proof.value);
-            differences.extend(objection.map(|text| text + "\n"));
-        }
+        differences += &objections;
         if !differences.is_empty() {
             return Err(Wrong(format!("{call:?}\n{}{differences}", picture(&call, before))));
         }
@@ -146,7 +160,7 @@ impl Checker<'_> {
     }
 
     fn due(&mut self, call: &Call, before: &Lent) -> Check<Due> {
-        let mut due = Due { result: 0, lent: before.clone(), proof: None };
+        let mut due = Due { result: 0, lent: before.clone(), proofs: vec![] };
         let drawing = match judge::accept(call, before) {
             Ok(drawing) => drawing,
             Err(refusal) => {
@@ -173,7 +187,7 @@ impl Checker<'_> {
                 lent.can = flows.is_some() as u8;
                 match flows {
                     Some(flows) => store(&mut lent.flows, &highest(&drawing, &drawing.faces(), &flows)),
-                    None => due.proof = Some(Proof { drawing, source, sink, value: Some(value as i64) }),
+                    None => due.proofs = vec![Proof { slices: &[SET], drawing, source, sink, value: Some(value as i64) }],
                 }
             }
             Call::Largest { source, sink } => {
@@ -184,7 +198,23 @@ impl Checker<'_> {
                     store(&mut lent.flows, &highest(&drawing, &drawing.faces(), &flows));
                     lent.value = value as i32;
                 }
-                due.proof = Some(Proof { drawing, source, sink, value: largest.map(|value| value + 1) });
+                due.proofs = vec![Proof { slices: &[SET], drawing, source, sink, value: largest.map(|value| value + 1) }];
+            }
+            Call::LeastAndLargest { source, sink } => {
+                let values = range(&drawing, source as usize, sink as usize);
+                lent.found = values.is_some() as u8;
+                let Some((least, largest)) = values else {
+                    due.proofs = vec![Proof { slices: &[BELOW, ABOVE], drawing, source, sink, value: None }];
+                    return Ok(due);
+                };
+                let carried = |value: i64| carry(&drawing, source as usize, sink as usize, value).expect("the least and the largest can be carried");
+                store(&mut lent.low, &highest(&drawing, &drawing.faces(), &carried(least)));
+                store(&mut lent.high, &highest(&drawing, &drawing.faces(), &carried(largest)));
+                (lent.least, lent.largest) = (least as i32, largest as i32);
+                due.proofs = vec![
+                    Proof { slices: &[BELOW], drawing: drawing.clone(), source, sink, value: Some(least - 1) },
+                    Proof { slices: &[ABOVE], drawing, source, sink, value: Some(largest + 1) },
+                ];
             }
             Call::Mark { source, .. } => lent.value = net_flows(&drawing, &judge::wide(&lent.flows))[source as usize] as i32,
             Call::LevelsFromSettings => {
@@ -243,8 +273,14 @@ impl Checker<'_> {
         let mut lent = Lent::new(sheet);
         let lengths = [drawing.edges(), drawing.words(), count(&drawing.faces()), drawing.darts(), drawing.darts(), drawing.darts(), judge::TEXT];
         let [flows, set, levels, tails, rotations, capacities, text] = lengths.map(|needed| self.room(needed, short));
+        let [low, high] = [drawing.edges(); 2].map(|needed| self.room(needed, short));
+        let [below, above] = [drawing.words(); 2].map(|needed| self.room(needed, short));
         lent.flows = self.chance.junk(flows, |x| x as i32);
         lent.set = self.chance.junk(set, |x| x);
+        lent.low = self.chance.junk(low, |x| x as i32);
+        lent.below = self.chance.junk(below, |x| x);
+        lent.high = self.chance.junk(high, |x| x as i32);
+        lent.above = self.chance.junk(above, |x| x);
         lent.levels = self.chance.junk(levels, |x| x as i32);
         lent.tails = self.chance.junk(tails, |x| x as u16);
         lent.rotations = self.chance.junk(rotations, |x| x as u16);
@@ -289,11 +325,12 @@ impl Checker<'_> {
         Ok(())
     }
 
-    /// Largest, Solve of several values, and Mark of what they give.
+    /// Largest, Least and largest, Solve of several values, and Mark of what they give.
     fn questions(&mut self, drawing: &Drawing, source: usize, sink: usize) -> Check {
         let (from, to) = (source as u16, sink as u16);
         let lent = self.lend(drawing.bytes(), drawing);
         self.compare(Call::Largest { source: from, sink: to }, &lent)?;
+        self.least_and_largest(drawing, from, to)?;
         let (least, largest) = range(drawing, source, sink).unwrap_or((-3, 3));
         let mut values = vec![0, largest, largest + 1, -1, least, least - 1, 600_000_000, -600_000_000];
         values.extend([self.chance.between(least, largest), self.chance.between(least, largest), self.chance.between(-9, 9)]);
@@ -307,6 +344,32 @@ impl Checker<'_> {
                 self.marks(drawing, from, to, &after.flows)?;
             }
             self.key(call, &lent.sheet)?;
+        }
+        Ok(())
+    }
+
+    /// Least and largest, beside Largest; then with each of its four slices, alone, one element too short.
+    fn least_and_largest(&mut self, drawing: &Drawing, source: u16, sink: u16) -> Check {
+        let mut lent = self.lend(drawing.bytes(), drawing);
+        self.compare(Call::LeastAndLargest { source, sink }, &lent)?;
+        lent.flows.resize(drawing.edges(), 0);
+        lent.set.resize(drawing.words(), 0);
+        (lent.low, lent.high) = (lent.flows.clone(), lent.flows.clone());
+        (lent.below, lent.above) = (lent.set.clone(), lent.set.clone());
+        let both = self.compare(Call::LeastAndLargest { source, sink }, &lent)?;
+        let alone = self.compare(Call::Largest { source, sink }, &lent)?;
+        if (both.found, &both.high) != (alone.found, &alone.flows) || both.found == 1 && both.largest != alone.value {
+            return Err(Wrong(format!("Least and largest says {}, Largest {}\n{}", both.largest, alone.value, drawing.text())));
+        }
+        for which in 0..4 {
+            let mut short = lent.clone();
+            match which {
+                0 => short.low.truncate(drawing.edges() - 1),
+                1 => short.below.truncate(drawing.words() - 1),
+                2 => short.high.truncate(drawing.edges() - 1),
+                _ => short.above.truncate(drawing.words() - 1),
+            }
+            self.compare(Call::LeastAndLargest { source, sink }, &short)?;
         }
         Ok(())
     }
@@ -405,6 +468,7 @@ impl Checker<'_> {
             self.compare(Call::Solve { source, sink, value }, &lent)?;
             self.key(Call::Solve { source, sink, value }, &lent.sheet)?;
             self.compare(Call::Largest { source, sink }, &lent)?;
+            self.compare(Call::LeastAndLargest { source, sink }, &lent)?;
             self.compare(Call::Mark { source, sink }, &lent)?;
         }
         Ok(())
@@ -418,6 +482,7 @@ impl Checker<'_> {
             Call::Read,
             Call::Solve { source, sink, value },
             Call::Largest { source, sink },
+            Call::LeastAndLargest { source, sink },
             Call::Mark { source, sink },
             Call::LevelsFromSettings,
             Call::SettingsFromLevels,
@@ -478,7 +543,8 @@ fn differ(text: &mut String, got: &Lent, due: &Lent) {
             })*
         };
     }
-    each!(slices: sheet flows set levels tails rotations capacities text; answers: can found size value nodes edges outer length place guards);
+    each!(slices: sheet flows set low below high above levels tails rotations capacities text;
+        answers: can found size value least largest nodes edges outer length place guards);
 }
 
 /// The drawing and what was lent with it: as text that tools/sheet reads, else the bytes or slices.

@@ -39,6 +39,12 @@ faults! {
     NoneWithoutLooking: "Largest says none where there is a value",
     NoneIsZero: "Largest says 0 where there is none",
     NoneByOneSide: "the set of a none parts source from sink",
+    SetsExchanged: "Least and largest exchanges its two sets",
+    LeastBySourceSide: "the least is minus the outward total of the set above the largest",
+    LeastOneTooHigh: "the least is one too high, with the highest flow of that",
+    NoneByTwoSets: "the two sets of a none differ, though each proves it",
+    FlowsOnNone: "a none of Least and largest clears the flows of the least",
+    ShortAboveUnseen: "Least and largest does not look at the length of its last slice where there is none",
     MarkOffByOne: "Mark's value is one too great",
     MarkAtTheSink: "Mark's value is taken at the sink",
     PlaceOffByOne: "the place of 17 and 18 is one too great",
@@ -124,6 +130,8 @@ fn answer(fault: Fault, call: &Call, drawing: &Drawing, before: &Lent, after: &m
         Call::Solve { source, sink, value } => cannot(fault, (source, sink, value), drawing, before, after),
         Call::Largest { source, sink } if after.found == 1 => found(fault, (source, sink), drawing, before, after),
         Call::Largest { source, .. } => none(fault, source, drawing, after),
+        Call::LeastAndLargest { source, sink } if after.found == 1 => values(fault, (source, sink), drawing, after),
+        Call::LeastAndLargest { source, sink } => no_values(fault, (source, sink), drawing, after),
         Call::Mark { sink, .. } => match fault {
             Fault::MarkOffByOne => after.value += 1,
             Fault::MarkAtTheSink => after.value = crate::flow::net_flows(drawing, &judge::wide(&before.flows))[sink as usize] as i32,
@@ -246,6 +254,41 @@ fn none(fault: Fault, source: u16, drawing: &Drawing, after: &mut Lent) {
     }
 }
 
+fn values(fault: Fault, (source, sink): (u16, u16), drawing: &Drawing, after: &mut Lent) {
+    match fault {
+        Fault::SetsExchanged => {
+            let words = drawing.words();
+            after.below[..words].swap_with_slice(&mut after.above[..words]);
+        }
+        Fault::LeastBySourceSide => after.least = -outward(drawing, &after.above, false, i32::MIN),
+        Fault::LeastOneTooHigh if after.least < after.largest => {
+            after.least += 1;
+            let flows = carry(drawing, source as usize, sink as usize, after.least as i64).unwrap();
+            put(&mut after.low, &highest(drawing, &drawing.faces(), &flows));
+        }
+        _ => {}
+    }
+}
+
+fn no_values(fault: Fault, (source, sink): (u16, u16), drawing: &Drawing, after: &mut Lent) {
+    match fault {
+        Fault::NoneByTwoSets => {
+            let words = drawing.words();
+            let turned = |node: u16| {
+                let mut set = after.above[..words].to_vec();
+                set[node as usize / 64] ^= 1 << (node % 64);
+                set
+            };
+            let other = (0..drawing.nodes).map(turned).find(|set| judge::objection(drawing, set, source, sink, None).is_none());
+            if let Some(other) = other {
+                after.above[..words].copy_from_slice(&other);
+            }
+        }
+        Fault::FlowsOnNone => after.low.fill(0),
+        _ => {}
+    }
+}
+
 fn key(fault: Fault, after: &mut Lent) {
     match fault {
         Fault::KeyWithoutLastLineFeed => after.length -= 1,
@@ -275,7 +318,11 @@ fn refusal(fault: Fault, call: &Call, before: &Lent, after: &mut Lent, result: u
         (Fault::SevenForSix, 6) if sum_below_zero(sheet) => return 7,
         (Fault::CutBeforeFields, 4..=7) if sheet.len() >= head && sheet.len() < head + EDGE * u16::from_le_bytes([sheet[3], sheet[4]]) as usize => return 1,
         (Fault::FourteenForThirteen, 13) => match *call {
-            Call::Solve { source, sink, .. } | Call::Largest { source, sink } | Call::Mark { source, sink } if source == sink => return 14,
+            Call::Solve { source, sink, .. } | Call::Largest { source, sink } | Call::LeastAndLargest { source, sink } | Call::Mark { source, sink }
+                if source == sink =>
+            {
+                return 14
+            }
             _ => {}
         },
         (Fault::SixteenForFifteen, 15) if judge::records(sheet).is_ok_and(|drawing| before.flows.len() < drawing.edges()) => return 16,
@@ -288,6 +335,13 @@ fn refusal(fault: Fault, call: &Call, before: &Lent, after: &mut Lent, result: u
             let mut longer = Lent { set: vec![0; 9], ..before.clone() };
             if let (Call::Solve { .. }, 0, 1) = (call, unit::call(call, &mut longer), longer.can) {
                 *after = Lent { set: before.set.clone(), ..longer };
+                return 0;
+            }
+        }
+        (Fault::ShortAboveUnseen, 16) => {
+            let mut longer = Lent { above: vec![0; 9], ..before.clone() };
+            if let (Call::LeastAndLargest { .. }, 0, 0) = (call, unit::call(call, &mut longer), longer.found) {
+                *after = Lent { above: before.above.clone(), ..longer };
                 return 0;
             }
         }
@@ -358,11 +412,12 @@ mod tests {
         run(None, &mut tally).unwrap_or_else(|wrong| panic!("{wrong}"));
         let sheet: Vec<u8> = (1..=12).chain([24]).collect();
         let with = |more: &[u8]| [&sheet[..], more].concat();
-        let due: [(&str, Vec<u8>, &[&str]); 8] = [
+        let due: [(&str, Vec<u8>, &[&str]); 9] = [
             ("Read", with(&[16]), &["done"]),
             ("Write", vec![3, 4, 5, 6, 7, 9, 10, 11, 12, 16, 24], &["done"]),
             ("Solve", with(&[13, 14, 15, 16]), &["can", "cannot"]),
             ("Largest", with(&[13, 14, 16]), &["value", "value below 0", "none"]),
+            ("Least and largest", with(&[13, 14, 16]), &["values", "values above 0", "values below 0", "none"]),
             ("Mark", with(&[13, 14, 16, 17, 18]), &["value"]),
             ("Levels from settings", with(&[16, 17, 18]), &["done"]),
             ("Settings from levels", with(&[16, 17, 19, 20]), &["done"]),

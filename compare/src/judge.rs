@@ -53,6 +53,10 @@ pub fn accept(call: &Call, lent: &Lent) -> Result<Drawing, Refusal> {
             ends(&drawing, source, sink)?;
             refuse(16, lent.flows.len() < drawing.edges() || lent.set.len() < drawing.words())?;
         }
+        Call::LeastAndLargest { source, sink } => {
+            ends(&drawing, source, sink)?;
+            refuse(16, lent.low.len().min(lent.high.len()) < drawing.edges() || lent.below.len().min(lent.above.len()) < drawing.words())?;
+        }
         Call::Mark { source, sink } => {
             ends(&drawing, source, sink)?;
             refuse(16, lent.flows.len() < drawing.edges())?;

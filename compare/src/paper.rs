@@ -103,6 +103,30 @@ fn largest() {
     assert_eq!((result, lent.found, lent.flows, lent.set), (0, 0, vec![77; 3], vec![5]));
 }
 
+/// Document 02, Job 4: the least and the largest value, with a set below the one and above the other.
+#[test]
+fn least_and_largest() {
+    let ask = |drawing: Drawing, source: u16, sink: u16| {
+        let mut lent = Lent::new(drawing.bytes());
+        (lent.low, lent.below, lent.high, lent.above) = (vec![77; 3], vec![99], vec![88; 3], vec![66]);
+        assert_eq!(unit::call(&Call::LeastAndLargest { source, sink }, &mut lent), 0);
+        assert!(lent.guards);
+        lent
+    };
+    let values = |drawing: Drawing, source: u16, sink: u16| {
+        let lent = ask(drawing, source, sink);
+        assert_eq!(lent.found, 1);
+        (lent.least, lent.low, lent.below[0], lent.largest, lent.high, lent.above[0])
+    };
+    assert_eq!(values(a(), 0, 1), (0, vec![0, 0, 0], 2, 12, vec![5, 3, 4], 1));
+    assert_eq!(values(a_with(&[(3, -2)]), 0, 1), (2, vec![0, 2, 0], 2, 12, vec![5, 3, 4], 1));
+    assert_eq!(values(a_with(&[(3, -2)]), 1, 0), (-12, vec![5, 3, 4], 1, -2, vec![0, 2, 0], 2));
+    for (drawing, source, sink, set) in [(b(), 0, 1, 4), (two_bridges(), 2, 0, 5)] {
+        let lent = ask(drawing, source, sink);
+        assert_eq!((lent.found, lent.low, lent.below, lent.high, lent.above), (0, vec![77; 3], vec![set], vec![88; 3], vec![set]));
+    }
+}
+
 #[test]
 fn levels() {
     let sheet = a_with(&[(0, 5), (1, 5), (2, 5), (3, 5), (4, 5), (5, 5)]).bytes();

@@ -7,6 +7,7 @@ pub enum Call {
     Write { nodes: u16, outer: u16 },
     Solve { source: u16, sink: u16, value: i32 },
     Largest { source: u16, sink: u16 },
+    LeastAndLargest { source: u16, sink: u16 },
     Mark { source: u16, sink: u16 },
     LevelsFromSettings,
     SettingsFromLevels,
@@ -20,6 +21,7 @@ impl Call {
             Call::Write { .. } => "Write",
             Call::Solve { .. } => "Solve",
             Call::Largest { .. } => "Largest",
+            Call::LeastAndLargest { .. } => "Least and largest",
             Call::Mark { .. } => "Mark",
             Call::LevelsFromSettings => "Levels from settings",
             Call::SettingsFromLevels => "Settings from levels",
@@ -35,6 +37,11 @@ pub struct Lent {
     pub sheet: Vec<u8>,
     pub flows: Vec<i32>,
     pub set: Vec<u64>,
+    /// Of Least and largest: the flows of the least value and a set below it, the flows of the largest and a set above it.
+    pub low: Vec<i32>,
+    pub below: Vec<u64>,
+    pub high: Vec<i32>,
+    pub above: Vec<u64>,
     pub levels: Vec<i32>,
     pub tails: Vec<u16>,
     pub rotations: Vec<u16>,
@@ -44,6 +51,8 @@ pub struct Lent {
     pub found: u8,
     pub size: u16,
     pub value: i32,
+    pub least: i32,
+    pub largest: i32,
     pub nodes: u16,
     pub edges: u16,
     pub outer: u16,
@@ -60,6 +69,10 @@ impl Lent {
             sheet,
             flows: vec![],
             set: vec![],
+            low: vec![],
+            below: vec![],
+            high: vec![],
+            above: vec![],
             levels: vec![],
             tails: vec![],
             rotations: vec![],
@@ -69,6 +82,8 @@ impl Lent {
             found: 0xa5,
             size: 0xbeef,
             value: -0x5a5a_5a5a,
+            least: -0x5a5a_5a5a,
+            largest: -0x5a5a_5a5a,
             nodes: 0xbeef,
             edges: 0xbeef,
             outer: 0xbeef,
@@ -172,6 +187,25 @@ extern "C" {
         place: *mut u16,
     ) -> u8;
     #[rustfmt::skip]
+    fn analyser_least_and_largest(
+        sheet: *const u8,
+        sheet_length: usize,
+        source: u16,
+        sink: u16,
+        low: *mut i32,
+        low_length: usize,
+        below: *mut u64,
+        below_length: usize,
+        high: *mut i32,
+        high_length: usize,
+        above: *mut u64,
+        above_length: usize,
+        found: *mut u8,
+        least: *mut i32,
+        largest: *mut i32,
+        place: *mut u16,
+    ) -> u8;
+    #[rustfmt::skip]
     fn analyser_mark(
         sheet: *const u8,
         sheet_length: usize,
@@ -212,6 +246,10 @@ pub fn call(call: &Call, lent: &mut Lent) -> u8 {
     let mut sheet = Guarded::new(&lent.sheet, 0xa5);
     let mut flows = Guarded::new(&lent.flows, -0x5a5a_5a5a);
     let mut set = Guarded::new(&lent.set, 0xa5a5_a5a5_a5a5_a5a5);
+    let mut low = Guarded::new(&lent.low, -0x5a5a_5a5a);
+    let mut below = Guarded::new(&lent.below, 0xa5a5_a5a5_a5a5_a5a5);
+    let mut high = Guarded::new(&lent.high, -0x5a5a_5a5a);
+    let mut above = Guarded::new(&lent.above, 0xa5a5_a5a5_a5a5_a5a5);
     let mut levels = Guarded::new(&lent.levels, -0x5a5a_5a5a);
     let mut tails = Guarded::new(&lent.tails, 0xa5a5);
     let mut rotations = Guarded::new(&lent.rotations, 0xa5a5);
@@ -228,6 +266,9 @@ pub fn call(call: &Call, lent: &mut Lent) -> u8 {
                 set.pointer(), set.length(), &mut lent.can, &mut lent.size, &mut lent.place),
             Call::Largest { source, sink } => analyser_largest(sheet.pointer(), sheet.length(), source, sink, flows.pointer(), flows.length(),
                 set.pointer(), set.length(), &mut lent.found, &mut lent.value, &mut lent.place),
+            Call::LeastAndLargest { source, sink } => analyser_least_and_largest(sheet.pointer(), sheet.length(), source, sink,
+                low.pointer(), low.length(), below.pointer(), below.length(), high.pointer(), high.length(), above.pointer(), above.length(),
+                &mut lent.found, &mut lent.least, &mut lent.largest, &mut lent.place),
             Call::Mark { source, sink } => analyser_mark(sheet.pointer(), sheet.length(), source, sink, flows.pointer(), flows.length(), &mut lent.value,
                 &mut lent.place),
             Call::LevelsFromSettings => analyser_levels_from_settings(sheet.pointer(), sheet.length(), flows.pointer(), flows.length(),
@@ -240,6 +281,10 @@ pub fn call(call: &Call, lent: &mut Lent) -> u8 {
     lent.guards = sheet.give_back(&mut lent.sheet)
         & flows.give_back(&mut lent.flows)
         & set.give_back(&mut lent.set)
+        & low.give_back(&mut lent.low)
+        & below.give_back(&mut lent.below)
+        & high.give_back(&mut lent.high)
+        & above.give_back(&mut lent.above)
         & levels.give_back(&mut lent.levels)
         & tails.give_back(&mut lent.tails)
         & rotations.give_back(&mut lent.rotations)

@@ -25,6 +25,8 @@ use Rattle.levels.specs.LevelsOf.{balancedChecks}
 use Rattle.levels.specs.SettingsOf.{leveledChecks}
 use Rattle.analyser.specs.Solve.{solveChecks}
 use Rattle.analyser.specs.Largest.{largestChecks}
+use Rattle.ranges.specs.Range.{spanChecks}
+use Rattle.analyser.specs.Range.{rangeChecks}
 use Rattle.analyser.specs.Mark.{markChecks}
 use Rattle.analyser.specs.LevelsOf.{levelsChecks}
 use Rattle.analyser.specs.SettingsOf.{settingsChecks}
@@ -116,6 +118,12 @@ solve-numbered s source sink value flows set =
 pub largest-numbered : (s : List ℕ) (source sink : ℕ) (flows : List ℤ) (set : List ℕ) → Numbered (largestChecks s source sink flows set)
 unfolding Numbered largestChecks searchChecks endChecks roomChecks
 largest-numbered s source sink flows set = numbered-append (sheetChecks s) _ (sheet-numbered s) (omega arith, (omega arith, (omega arith, tt)))
+
+pub range-numbered : (s : List ℕ) (source sink : ℕ) (low : List ℤ) (below : List ℕ) (high : List ℤ) (above : List ℕ)
+    → Numbered (rangeChecks s source sink low below high above)
+unfolding Numbered rangeChecks spanChecks endChecks roomChecks
+range-numbered s source sink low below high above =
+    numbered-append (sheetChecks s) _ (sheet-numbered s) (omega arith, (omega arith, (omega arith, (omega arith, tt))))
 
 pub mark-numbered : (s : List ℕ) (source sink : ℕ) (flows : List ℤ) → Numbered (markChecks s source sink flows)
 unfolding Numbered markChecks paperChecks endChecks

@@ -13,11 +13,13 @@ use Rattle.sheets.specs.declared.ReadAnswer.the-variants as read
 use Rattle.sheets.specs.declared.WriteAnswer.the-variants as write
 use Rattle.analyser.specs.Solve.{solveChecks}
 use Rattle.analyser.specs.Largest.{largestChecks}
+use Rattle.analyser.specs.Range.{rangeChecks}
 use Rattle.analyser.specs.Mark.{markChecks}
 use Rattle.analyser.specs.LevelsOf.{levelsChecks}
 use Rattle.analyser.specs.SettingsOf.{settingsChecks}
 use Rattle.questions.specs.declared.SolveAnswer.the-variants as solve
 use Rattle.questions.specs.declared.LargestAnswer.the-variants as largest
+use Rattle.ranges.specs.declared.RangeAnswer.the-variants as range
 use Rattle.questions.specs.declared.MarkAnswer.the-variants as mark
 use Rattle.levels.specs.declared.LevelAnswer.the-variants as level
 use Rattle.key_text.specs.Key.{keyRoomChecks}
@@ -26,6 +28,7 @@ use Rattle.abi.specs.Read.{TellsRead}
 use Rattle.abi.specs.Write.{TellsWrite}
 use Rattle.abi.specs.Solve.{TellsSolve}
 use Rattle.abi.specs.Largest.{TellsLargest}
+use Rattle.abi.specs.Range.{TellsRange}
 use Rattle.abi.specs.Mark.{TellsMark}
 use Rattle.abi.specs.Levels.{TellsLevels, TellsSettings}
 use Rattle.abi.specs.Key.{TellsKey}
@@ -36,6 +39,7 @@ use Rattle.abi.proofs.Numbered.{
   write-numbered,
   solve-numbered,
   largest-numbered,
+  range-numbered,
   mark-numbered,
   levels-numbered,
   settings-numbered,
@@ -95,6 +99,16 @@ module _ {place place' result : ℕ} where
     largest-says (largest.Value v, h, t) = says-answer (h .0) (t .0) (t .3)
     largest-says (largest.None, h, t) = says-answer (h .0) (t .0) (t .3)
     largest-says (largest.Refused k p, h, t) = says-refusal k p (largest-numbered s _ _ _ _) (h .0) (t .0) (t .3) (h .1, h .2, t .1, t .2)
+
+    pub range-says : {source sink : ℕ} {low low' : List ℤ} {below below' : List ℕ} {high high' : List ℤ} {above above' : List ℕ}
+        {found found' : ℕ} {least least' largest largest' : ℤ}
+        → TellsRange s source sink low low' below below' high high' above above' found found' least least' largest largest' place place' result
+        → Says (rangeChecks s source sink low below high above) result place place'
+        ((low' ≡ low) × (below' ≡ below) × (high' ≡ high) × (above' ≡ above) × (found' ≡ found) × (least' ≡ least) × (largest' ≡ largest))
+    range-says (range.Values v w, h, t) = says-answer (h .0) (t .0) (t .4)
+    range-says (range.None, h, t) = says-answer (h .0) (t .0) (t .4)
+    range-says (range.Refused k p, h, t) =
+        says-refusal k p (range-numbered s _ _ _ _ _ _) (h .0) (t .0) (t .4) (h .1, h .2, h .3, h .4, t .1, t .2, t .3)
 
     pub mark-says : {source sink : ℕ} {flows : List ℤ} {value value' : ℤ}
         → TellsMark s source sink flows value value' place place' result → Says (markChecks s source sink flows) result place place' (value' ≡ value)

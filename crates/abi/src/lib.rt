@@ -4,6 +4,7 @@ ghost use Rattle.abi.specs.Read.{TellsRead};
 ghost use Rattle.abi.specs.Write.{TellsWrite};
 ghost use Rattle.abi.specs.Solve.{TellsSolve};
 ghost use Rattle.abi.specs.Largest.{TellsLargest};
+ghost use Rattle.abi.specs.Range.{TellsRange};
 ghost use Rattle.abi.specs.Mark.{TellsMark};
 ghost use Rattle.abi.specs.Levels.{TellsLevels, TellsSettings};
 ghost use Rattle.abi.specs.Key.{TellsKey};
@@ -12,6 +13,7 @@ use levels::LevelAnswer;
 use questions::LargestAnswer;
 use questions::MarkAnswer;
 use questions::SolveAnswer;
+use ranges::RangeAnswer;
 use sheets::ReadAnswer;
 use sheets::WriteAnswer;
 
@@ -135,6 +137,45 @@ pub extern "C" fn analyser_largest(
             0
         }
         LargestAnswer::Refused(k, p) => {
+            *place = p;
+            k
+        }
+    }
+}
+
+// The least and the largest value. There are values: found is 1, least and largest are they, low has the flows of the least and high those of the largest, with
+// a set in below for the value under the least and one in above for the value over the largest. None: found is 0, and the same set is in below and above.
+#[no_mangle]
+pub extern "C" fn analyser_least_and_largest(
+    sheet: &[u8],
+    source: u16,
+    sink: u16,
+    low: &mut [i32],
+    below: &mut [u64],
+    high: &mut [i32],
+    above: &mut [u64],
+    found: &mut u8,
+    least: &mut i32,
+    largest: &mut i32,
+    place: &mut u16,
+) -> u8
+    ensures { λ r. ⌜ TellsRange (now (sheet .entry)) source sink (now (low .entry)) (now (low .exit)) (now (below .entry)) (now (below .exit))
+        (now (high .entry)) (now (high .exit)) (now (above .entry)) (now (above .exit)) (now (found .entry)) (now (found .exit))
+        (now (least .entry)) (now (least .exit)) (now (largest .entry)) (now (largest .exit)) (now (place .entry)) (now (place .exit)) r ⌝ }
+{
+    let answer = analyser::least_and_largest(sheet, source, sink, low, below, high, above);
+    match answer {
+        RangeAnswer::Values(v, w) => {
+            *found = 1;
+            *least = v;
+            *largest = w;
+            0
+        }
+        RangeAnswer::None => {
+            *found = 0;
+            0
+        }
+        RangeAnswer::Refused(k, p) => {
             *place = p;
             k
         }

@@ -164,7 +164,7 @@ module _ (s : List ℕ) (source sink : ℕ) (flows flows' : List ℤ) (set set' 
   -- ── "none": the set given proves each delivery impossible, of every whole number ──
   module _ (h : FindsLargest s source sink flows flows' set set' None) where
     pub none-proves : (value : ℤ) → Proves (sheetMap s) (capacityOf s) source sink value (member (h .2 .0))
-    none-proves = beside-proves (sheetMap s) (capacityOf s) source sink (member (h .2 .0)) (h .2 .2) (h .2 .3)
+    none-proves = beside-proves (sheetMap s) (capacityOf s) source sink (member (h .2 .0)) (h .2 .2 .0) (h .2 .2 .1)
 
     pub none-delivered : (value : ℤ) (x : ℕ → ℤ) → Delivers s source sink value x → ⊥
     none-delivered value = excludes s (known .sheet) source sink (known .ends-two) value (member (h .2 .0)) (none-proves value)

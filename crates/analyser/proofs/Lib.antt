@@ -5,4 +5,5 @@ pub mod Accepted
 pub mod ThereAndBack
 pub mod Asked
 pub mod Demand3
+pub mod Range
 pub mod Statements

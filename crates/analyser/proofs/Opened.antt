@@ -27,12 +27,16 @@ use Rattle.questions.specs.declared.SolveAnswer.{SolveAnswer}
 use Rattle.questions.specs.declared.LargestAnswer.{LargestAnswer}
 use Rattle.questions.specs.declared.MarkAnswer.{MarkAnswer}
 use Rattle.questions.proofs.After.{solved-after, largest-after, marked-after}
+use Rattle.ranges.specs.Range.{spanChecks, RangeFound}
+use Rattle.ranges.specs.declared.RangeAnswer.{RangeAnswer}
+use Rattle.ranges.proofs.After.{range-after}
 use Rattle.levels.specs.LevelsOf.{balancedChecks, LevelsGiven}
 use Rattle.levels.specs.SettingsOf.{leveledChecks, SettingsGiven}
 use Rattle.levels.specs.declared.LevelAnswer.{LevelAnswer}
 use Rattle.levels.proofs.After.{levels-after, settings-after}
 use Rattle.analyser.specs.Solve.{solveChecks, Solves}
 use Rattle.analyser.specs.Largest.{largestChecks, FindsLargest}
+use Rattle.analyser.specs.Range.{rangeChecks, FindsRange}
 use Rattle.analyser.specs.Mark.{markChecks, Marks}
 use Rattle.analyser.specs.LevelsOf.{levelsChecks, GivesLevels}
 use Rattle.analyser.specs.SettingsOf.{settingsChecks, GivesSettings}
@@ -47,6 +51,11 @@ module _ (s : List ℕ) (k p : ℕ) (first : FirstOf (sheetChecks s) k p) where
   pub largest-refused : (source sink : ℕ) (flows : List ℤ) (set : List ℕ) → FirstOf (largestChecks s source sink flows set) k p
   unfolding largestChecks
   largest-refused source sink flows set = first-left (sheetChecks s) _ k p first
+
+  pub range-refused : (source sink : ℕ) (low : List ℤ) (below : List ℕ) (high : List ℤ) (above : List ℕ)
+      → FirstOf (rangeChecks s source sink low below high above) k p
+  unfolding rangeChecks
+  range-refused source sink low below high above = first-left (sheetChecks s) _ k p first
 
   pub mark-refused : (source sink : ℕ) (flows : List ℤ) → FirstOf (markChecks s source sink flows) k p
   unfolding markChecks
@@ -109,6 +118,16 @@ module _ (s : List ℕ) (o : Opened) (lefts tails rotations : List ℕ) (capacit
   largest-sheet source sink flows flows' set set' r h =
       largest-after (sheetChecks s) (open' .0) (sheetDrawing s) _ source sink flows flows' set set' r
       (subst (λ 𝓓. LargestFound 𝓓 (searchChecks (𝓓 .map .nodes) (𝓓 .map .edges) source sink flows set) source sink flows flows' set set' r) same h)
+
+  pub range-sheet : (source sink : ℕ) (low low' : List ℤ) (below below' : List ℕ) (high high' : List ℤ) (above above' : List ℕ) (r : RangeAnswer)
+      → RangeFound (drawingOf (o .nodes) (o .edges) (o .outer) tails rotations capacities)
+      (spanChecks (o .nodes) (o .edges) source sink low below high above) source sink low low' below below' high high' above above' r
+      → FindsRange s source sink low low' below below' high high' above above' r
+  unfolding rangeChecks
+  range-sheet source sink low low' below below' high high' above above' r h =
+      range-after (sheetChecks s) (open' .0) (sheetDrawing s) _ source sink low low' below below' high high' above above' r
+      (subst (λ 𝓓. RangeFound 𝓓 (spanChecks (𝓓 .map .nodes) (𝓓 .map .edges) source sink low below high above)
+      source sink low low' below below' high high' above above' r) same h)
 
   pub marked-sheet : (source sink : ℕ) (flows : List ℤ) (r : MarkAnswer)
       → Marked (drawingOf (o .nodes) (o .edges) (o .outer) tails rotations capacities)

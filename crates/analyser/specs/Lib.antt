@@ -3,4 +3,5 @@ pub mod LevelsOf
 pub mod SettingsOf
 pub mod Solve
 pub mod Largest
+pub mod Range
 pub mod Statements

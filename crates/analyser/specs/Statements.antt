@@ -1,15 +1,15 @@
--- What the course book prints of the operations on sheets (document 01, demands 2 and 3), as two records: a field for each statement, with the printed
--- words above it. Each is about every run of an operation: all that a field knows of a run is its contract, `Solves`, `FindsLargest`, `Marks`,
--- `GivesLevels` or `GivesSettings`. A sheet or a question is accepted where no check of its list holds; an accepted sheet is flat and connected, because 11
--- and 12 are among its checks. A third record speaks of the outer face (document 02, Job 6). Settings are any function from edges to whole numbers, deliveries
--- any whole number. The proofs are in proofs/Statements.antt.
+-- What the course book prints of the operations on sheets (document 01, demands 2 and 3; document 02, Jobs 4 and 6), as records: a field for each statement,
+-- with the printed words above it. Each is about every run of an operation: all that a field knows of a run is its contract, `Solves`, `FindsLargest`,
+-- `FindsRange`, `Marks`, `GivesLevels` or `GivesSettings`. A sheet or a question is accepted where no check of its list holds; an accepted sheet is flat and
+-- connected, because 11 and 12 are among its checks. Settings are any function from edges to whole numbers, deliveries any whole number. The proofs are in
+-- proofs/Statements.antt and proofs/Range.antt.
 use Prim.Native.Nat.{ℕ, _≤_, _<_}
 use mathlib.Core.Path.{_≡_}
 use mathlib.Core.Logic.{_↔_}
 use mathlib.Core.Bool.{Bool}
 use mathlib.Core.List.{List}
 use lib.ListN.{length}
-use lib.IntN.{ℤ, pos, _+ℤ_}
+use lib.IntN.{ℤ, pos, _+ℤ_, _-ℤ_}
 use lib.Signed.{_≤ℤ_}
 use Rattle.refusals.specs.Order.{NoneOf}
 use Rattle.maps.specs.Face.{faces}
@@ -27,10 +27,13 @@ use Rattle.questions.specs.declared.LargestAnswer.{LargestAnswer}
 use Rattle.questions.specs.declared.LargestAnswer.the-variants as largest
 use Rattle.questions.specs.declared.MarkAnswer.{MarkAnswer}
 use Rattle.questions.specs.declared.MarkAnswer.the-variants as mark
+use Rattle.ranges.specs.declared.RangeAnswer.{RangeAnswer}
+use Rattle.ranges.specs.declared.RangeAnswer.the-variants as range
 use Rattle.levels.specs.declared.LevelAnswer.{LevelAnswer}
 use Rattle.levels.specs.declared.LevelAnswer.the-variants.{Done}
 use Rattle.analyser.specs.Solve.{solveChecks, Solves}
 use Rattle.analyser.specs.Largest.{largestChecks, FindsLargest}
+use Rattle.analyser.specs.Range.{rangeChecks, FindsRange}
 use Rattle.analyser.specs.Mark.{Marks}
 use Rattle.analyser.specs.LevelsOf.{GivesLevels}
 use Rattle.analyser.specs.SettingsOf.{GivesSettings}
@@ -133,3 +136,49 @@ pub record PossibleAndImpossible : Type 0 where
   pub none-proves : (s : List ℕ) (source sink : ℕ) (flows flows' : List ℤ) (set set' : List ℕ)
       → FindsLargest s source sink flows flows' set set' largest.None
       → (words : List ℕ) × SetWritten (nodesOf s) words set set' × ((value : ℤ) → ProvesOf s source sink value (member words))
+
+-- ── Document 02, Job 4: "Report the least deliverable value beside the largest, with its highest settings and a set proving the next lower one impossible ..
+-- Show as well that each whole number between the two can be delivered, and none outside. Where Largest says none, this does too, with one set of that kind in
+-- both set slices". Of every run of `least_and_largest`, known by its contract `FindsRange` alone. ──
+pub record LeastAndLargest : Type 0 where
+  -- the settings given carry the least delivery
+  pub least-carries : (s : List ℕ) (source sink : ℕ) (low low' : List ℤ) (below below' : List ℕ) (high high' : List ℤ) (above above' : List ℕ) (v w : ℤ)
+      → FindsRange s source sink low low' below below' high high' above above' (range.Values v w) → Delivers s source sink v (atℤ low')
+  -- and the largest
+  pub largest-carries : (s : List ℕ) (source sink : ℕ) (low low' : List ℤ) (below below' : List ℕ) (high high' : List ℤ) (above above' : List ℕ) (v w : ℤ)
+      → FindsRange s source sink low low' below below' high high' above above' (range.Values v w) → Delivers s source sink w (atℤ high')
+  -- "a set proving the next lower one impossible"
+  pub next-lower-impossible : (s : List ℕ) (source sink : ℕ) (low low' : List ℤ) (below below' : List ℕ) (high high' : List ℤ) (above above' : List ℕ) (v w : ℤ)
+      → FindsRange s source sink low low' below below' high high' above above' (range.Values v w)
+      → (words : List ℕ) × SetWritten (nodesOf s) words below below' × ProvesOf s source sink (v -ℤ pos 1) (member words)
+  -- and one proving the next greater
+  pub next-greater-impossible : (s : List ℕ) (source sink : ℕ) (low low' : List ℤ)
+      (below below' : List ℕ) (high high' : List ℤ) (above above' : List ℕ) (v w : ℤ)
+      → FindsRange s source sink low low' below below' high high' above above' (range.Values v w)
+      → (words : List ℕ) × SetWritten (nodesOf s) words above above' × ProvesOf s source sink (w +ℤ pos 1) (member words)
+  -- "each whole number between the two can be delivered, and none outside": a delivery is possible exactly when it lies between them
+  pub between-exactly : (s : List ℕ) (source sink : ℕ) (low low' : List ℤ) (below below' : List ℕ) (high high' : List ℤ) (above above' : List ℕ) (v w : ℤ)
+      → FindsRange s source sink low low' below below' high high' above above' (range.Values v w)
+      → (value : ℤ) → Possible s source sink value ↔ ((v ≤ℤ value) × (value ≤ℤ w))
+  -- none exactly when nothing at all can be delivered
+  pub none-exactly : (s : List ℕ) (source sink : ℕ) (low low' : List ℤ) (below below' : List ℕ)
+      (high high' : List ℤ) (above above' : List ℕ) (answer : RangeAnswer)
+      → NoneOf (rangeChecks s source sink low below high above) → FindsRange s source sink low low' below below' high high' above above' answer
+      → (answer ≡ range.None) ↔ ((value : ℤ) → Impossible s source sink value)
+  -- "with one set of that kind in both set slices": the same words, and they prove each delivery impossible
+  pub none-proves : (s : List ℕ) (source sink : ℕ) (low low' : List ℤ) (below below' : List ℕ) (high high' : List ℤ) (above above' : List ℕ)
+      → FindsRange s source sink low low' below below' high high' above above' range.None
+      → (words : List ℕ) × SetWritten (nodesOf s) words below below' × SetWritten (nodesOf s) words above above'
+      × ((value : ℤ) → ProvesOf s source sink value (member words))
+  -- the largest here is Largest's, whatever slices it was lent
+  pub same-largest : (s : List ℕ) (source sink : ℕ) (low low' : List ℤ) (below below' : List ℕ) (high high' : List ℤ) (above above' : List ℕ) (v w : ℤ)
+      → FindsRange s source sink low low' below below' high high' above above' (range.Values v w)
+      → (flows flows' : List ℤ) (set set' : List ℕ) (answer : LargestAnswer)
+      → NoneOf (largestChecks s source sink flows set) → FindsLargest s source sink flows flows' set set' answer → answer ≡ largest.Value w
+  -- "Where Largest says none, this does too", and only there
+  pub same-none : (s : List ℕ) (source sink : ℕ) (low low' : List ℤ) (below below' : List ℕ)
+      (high high' : List ℤ) (above above' : List ℕ) (answer : RangeAnswer)
+      → NoneOf (rangeChecks s source sink low below high above) → FindsRange s source sink low low' below below' high high' above above' answer
+      → (flows flows' : List ℤ) (set set' : List ℕ) (other : LargestAnswer)
+      → NoneOf (largestChecks s source sink flows set) → FindsLargest s source sink flows flows' set set' other
+      → (other ≡ largest.None) ↔ (answer ≡ range.None)

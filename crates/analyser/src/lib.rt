@@ -1,7 +1,9 @@
-// The analyser's operations on sheets. Document 01, "Operations": Solve, Largest, Mark, Levels from settings, Settings from levels. Each makes the network
+// The analyser's operations on sheets. Document 01, "Operations": Solve, Largest, Mark, Levels from settings,
+// Settings from levels; document 02, Job 4: the least delivery beside the largest. Each makes the network
 // record once, in its own frame, fills it from the sheet, and lends its arrays to the operation on drawings.
 ghost use Rattle.analyser.specs.Solve.{Solves};
 ghost use Rattle.analyser.specs.Largest.{FindsLargest};
+ghost use Rattle.analyser.specs.Range.{FindsRange};
 ghost use Rattle.analyser.specs.Mark.{Marks};
 ghost use Rattle.analyser.specs.LevelsOf.{GivesLevels};
 ghost use Rattle.analyser.specs.SettingsOf.{GivesSettings};
@@ -9,6 +11,7 @@ use levels::LevelAnswer;
 use questions::LargestAnswer;
 use questions::MarkAnswer;
 use questions::SolveAnswer;
+use ranges::RangeAnswer;
 use refusals::Verdict;
 use sheets::Network;
 
@@ -117,6 +120,66 @@ pub fn largest(
         sink,
         flows,
         set,
+    )
+}
+
+// The least and the largest value that can be carried from source to sink: the highest flow of the least in `low`, a set that proves the next lower one
+// impossible in `below`, the highest flow of the largest in `high`, a set that proves the next greater one impossible in `above`; or one set, in `below` and
+// `above`, that proves that nothing can be carried, with `low` and `high` left as they were.
+pub fn least_and_largest(
+    sheet: &[u8],
+    source: u16,
+    sink: u16,
+    low: &mut [i32],
+    below: &mut [u64],
+    high: &mut [i32],
+    above: &mut [u64],
+) -> RangeAnswer
+    ensures { λ r. ⌜ FindsRange (now (sheet .entry)) source sink
+        (now (low .entry)) (now (low .exit)) (now (below .entry)) (now (below .exit))
+        (now (high .entry)) (now (high .exit)) (now (above .entry)) (now (above .exit)) r ⌝ }
+{
+    let mut network = Network {
+        nodes: 0,
+        edges: 0,
+        faces: 0,
+        outer: 0,
+        tails: [0u16; 1024],
+        rotations: [0u16; 1024],
+        capacities: [0i32; 1024],
+        lefts: [0u16; 1024],
+    };
+    let opened = sheets::open(sheet, &mut network.lefts);
+    let verdict = opened.verdict;
+    if let Verdict::Refused(k, p) = verdict {
+        return RangeAnswer::Refused(k, p);
+    }
+    network.nodes = opened.nodes;
+    network.edges = opened.edges;
+    network.faces = opened.faces;
+    network.outer = opened.outer;
+    sheets::fill_tails(sheet, opened.edges, &mut network.tails);
+    sheets::fill_rotations(sheet, opened.edges, &mut network.rotations);
+    sheets::fill_capacities(sheet, opened.edges, &mut network.capacities);
+    let nodes = network.nodes;
+    let edges = network.edges;
+    let faces = network.faces;
+    let outer = network.outer;
+    ranges::least_and_largest(
+        &network.tails,
+        &network.rotations,
+        &network.lefts,
+        &network.capacities,
+        nodes,
+        edges,
+        faces,
+        outer,
+        source,
+        sink,
+        low,
+        below,
+        high,
+        above,
     )
 }
 

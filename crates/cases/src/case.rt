@@ -1,7 +1,7 @@
 // A case in bytes, as `tools/cases` packs it: the operation at 0, in 16 bits; four numbers, two of 16 bits at 2 and 4, two of 32 with their sign at 6 and 10;
-// from 14 on, in 16 bits each, where part 0 starts and where each of sixteen parts ends, the next starting there; then the parts. Part 0 is the operation with
-// the case's name, 1 a sheet or other bytes, 2 to 7 the elements of the slices, 8 to 13 the names of those that are printed after the call, 14 the name of one
-// that the operation prints. What lies outside reads as zero or as nothing.
+// from 14 on, in 16 bits each, where part 0 starts and where each of seventeen parts ends, the next starting there; then the parts. Part 0 is the operation
+// with the case's name, 1 a sheet or other bytes, 2 to 8 the elements of the slices, 9 to 15 the names of those that are printed after the call, 16 the name of
+// one that the operation prints. What lies outside reads as zero or as nothing.
 ghost use Prim.Native.Nat.{_+_, _<_, _≤_};
 ghost use lib.ListN.{length};
 
@@ -51,7 +51,7 @@ fn count(s: &[u8], at: usize) -> usize
 
 // A part of a case; one that does not lie within it is empty.
 pub fn part(s: &[u8], k: usize) -> &[u8]
-    requires { ⌜ k < 16 ⌝ }
+    requires { ⌜ k < 17 ⌝ }
 {
     let start = count(s, 14 + 2 * k);
     let end = count(s, 16 + 2 * k);
@@ -70,10 +70,10 @@ pub fn length(s: &[u8], at: usize) -> usize
     ensures { λ r. ⌜ at + r ≤ length (now (s .entry)) ⌝ }
 {
     let left = s.len() - at;
-    if left < 48 {
+    if left < 50 {
         return 0;
     }
-    let n = count(s, at + 46);
+    let n = count(s, at + 48);
     if left < n {
         return 0;
     }
@@ -82,7 +82,7 @@ pub fn length(s: &[u8], at: usize) -> usize
 
 // The numbers of a part, put into the front of an array, which is lent on as far as they go.
 pub fn halves<'a>(s: &[u8], k: usize, to: &'a mut [u16]) -> &'a mut [u16]
-    requires { ⌜ k < 16 ⌝ }
+    requires { ⌜ k < 17 ⌝ }
 {
     let from = part(s, k);
     let n = from.len() / 2;
@@ -98,7 +98,7 @@ pub fn halves<'a>(s: &[u8], k: usize, to: &'a mut [u16]) -> &'a mut [u16]
 }
 
 pub fn words<'a>(s: &[u8], k: usize, to: &'a mut [i32]) -> &'a mut [i32]
-    requires { ⌜ k < 16 ⌝ }
+    requires { ⌜ k < 17 ⌝ }
 {
     let from = part(s, k);
     let n = from.len() / 4;
@@ -114,7 +114,7 @@ pub fn words<'a>(s: &[u8], k: usize, to: &'a mut [i32]) -> &'a mut [i32]
 }
 
 pub fn longs<'a>(s: &[u8], k: usize, to: &'a mut [u64]) -> &'a mut [u64]
-    requires { ⌜ k < 16 ⌝ }
+    requires { ⌜ k < 17 ⌝ }
 {
     let from = part(s, k);
     let n = from.len() / 8;
@@ -131,7 +131,7 @@ pub fn longs<'a>(s: &[u8], k: usize, to: &'a mut [u64]) -> &'a mut [u64]
 
 // A slice of bytes comes as its length and the one byte that it holds throughout.
 pub fn filled<'a>(s: &[u8], k: usize, to: &'a mut [u8]) -> &'a mut [u8]
-    requires { ⌜ k < 16 ⌝ }
+    requires { ⌜ k < 17 ⌝ }
 {
     let from = part(s, k);
     let n = count(from, 0);

@@ -13,6 +13,7 @@ fn run(
     first: &mut [i32],
     second: &mut [i32],
     set: &mut [u64],
+    second_set: &mut [u64],
     bytes: &mut [u8],
 ) {
     match case::half(s, 0) {
@@ -25,6 +26,7 @@ fn run(
         7 => operations::settings(s, first, second),
         8 => operations::key(s),
         9 => operations::write_key(s, bytes),
+        10 => operations::least_and_largest(s, first, second, set, second_set),
         _ => say::say(b": no such operation"),
     }
 }
@@ -37,21 +39,24 @@ fn show(
     first: &mut [i32],
     second: &mut [i32],
     set: &mut [u64],
+    second_set: &mut [u64],
     bytes: &mut [u8],
 ) {
-    run(s, tails, rotations, first, second, set, bytes);
-    say::halves(s, 8, tails);
-    say::halves(s, 9, rotations);
-    say::words(s, 10, first);
-    say::words(s, 11, second);
-    say::longs(s, 12, set);
-    say::bytes(s, 13, bytes);
+    run(s, tails, rotations, first, second, set, second_set, bytes);
+    say::halves(s, 9, tails);
+    say::halves(s, 10, rotations);
+    say::words(s, 11, first);
+    say::words(s, 12, second);
+    say::longs(s, 13, set);
+    say::longs(s, 14, second_set);
+    say::bytes(s, 15, bytes);
 }
 
 // The slices of a case, each as long as the case says.
 fn lend_more(s: &[u8], tails: &mut [u16], rotations: &mut [u16], first: &mut [i32]) {
     let mut second = [0i32; 4096];
     let mut set = [0u64; 4096];
+    let mut second_set = [0u64; 4096];
     let mut bytes = [0u8; 16384];
     show(
         s,
@@ -60,7 +65,8 @@ fn lend_more(s: &[u8], tails: &mut [u16], rotations: &mut [u16], first: &mut [i3
         first,
         case::words(s, 5, &mut second),
         case::longs(s, 6, &mut set),
-        case::filled(s, 7, &mut bytes),
+        case::longs(s, 7, &mut second_set),
+        case::filled(s, 8, &mut bytes),
     );
 }
 

@@ -6,6 +6,7 @@ use levels::LevelAnswer;
 use questions::LargestAnswer;
 use questions::MarkAnswer;
 use questions::SolveAnswer;
+use ranges::RangeAnswer;
 use sheets::ReadAnswer;
 use sheets::WriteAnswer;
 
@@ -79,6 +80,30 @@ pub fn largest(s: &[u8], flows: &mut [i32], set: &mut [u64]) {
     say_largest(analyser::largest(case::part(s, 1), source, sink, flows, set));
 }
 
+fn say_range(answer: RangeAnswer) {
+    match answer {
+        RangeAnswer::Values(v, w) => {
+            say::say(b": values");
+            say::signed(v);
+            say::signed(w);
+        }
+        RangeAnswer::None => say::say(b": none"),
+        RangeAnswer::Refused(k, p) => say::refused(k, p),
+    }
+}
+
+pub fn least_and_largest(
+    s: &[u8],
+    low: &mut [i32],
+    high: &mut [i32],
+    below: &mut [u64],
+    above: &mut [u64],
+) {
+    let source = case::half(s, 2);
+    let sink = case::half(s, 4);
+    say_range(analyser::least_and_largest(case::part(s, 1), source, sink, low, below, high, above));
+}
+
 fn say_mark(answer: MarkAnswer) {
     match answer {
         MarkAnswer::Value(x) => {
@@ -127,7 +152,7 @@ pub fn write_key(s: &[u8], text: &mut [u8]) {
         KeyAnswer::Bytes(n) => say::text(text, n),
         KeyAnswer::Refused(k, p) => {
             say::refused(k, p);
-            say::bytes(s, 14, text);
+            say::bytes(s, 16, text);
         }
     }
 }

@@ -45,7 +45,7 @@ pub fn refused(k: u8, p: u16) {
 
 // The name of a slice, and whether it has one.
 fn name(s: &[u8], k: usize) -> bool
-    requires { ⌜ k < 16 ⌝ }
+    requires { ⌜ k < 17 ⌝ }
 {
     let text = case::part(s, k);
     if text.len() == 0 {
@@ -57,7 +57,7 @@ fn name(s: &[u8], k: usize) -> bool
 }
 
 pub fn halves(s: &[u8], k: usize, values: &[u16])
-    requires { ⌜ k < 16 ⌝ }
+    requires { ⌜ k < 17 ⌝ }
 {
     if !name(s, k) {
         return;
@@ -70,7 +70,7 @@ pub fn halves(s: &[u8], k: usize, values: &[u16])
 }
 
 pub fn words(s: &[u8], k: usize, values: &[i32])
-    requires { ⌜ k < 16 ⌝ }
+    requires { ⌜ k < 17 ⌝ }
 {
     if !name(s, k) {
         return;
@@ -83,7 +83,7 @@ pub fn words(s: &[u8], k: usize, values: &[i32])
 }
 
 pub fn longs(s: &[u8], k: usize, values: &[u64])
-    requires { ⌜ k < 16 ⌝ }
+    requires { ⌜ k < 17 ⌝ }
 {
     if !name(s, k) {
         return;
@@ -129,7 +129,7 @@ fn runs(values: &[u8]) {
 }
 
 pub fn bytes(s: &[u8], k: usize, values: &[u8])
-    requires { ⌜ k < 16 ⌝ }
+    requires { ⌜ k < 17 ⌝ }
 {
     if !name(s, k) {
         return;

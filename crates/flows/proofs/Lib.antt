@@ -11,6 +11,8 @@ pub mod Limits
 pub mod LevelBound
 pub mod ValueBound
 pub mod Interval
+pub mod Swapped
+pub mod Between
 pub mod Parts
 pub mod Examples
 pub mod OuterFaceOfA

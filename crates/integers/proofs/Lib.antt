@@ -1,6 +1,7 @@
 -- Whole numbers by omega; sums, counting, injections.
 pub mod Omega
 pub mod Laws
+pub mod Rounding
 pub mod Tests
 pub mod Sums
 pub mod IntegerSums

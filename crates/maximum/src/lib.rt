@@ -34,7 +34,8 @@ pub enum Maximum {
     Nothing,
 }
 
-fn negate(x: i32) -> i32
+// The negative of a total of capacities.
+pub fn negate(x: i32) -> i32
     requires { ⌜ Limited 2048000000 x ⌝ }
     ensures { λ r. ⌜ r ≡ negℤ x ⌝ }
 {

@@ -9,7 +9,7 @@ use native.Mathlib.Decide.{ℕ-discrete}
 use native.Mathlib.Nat.{div-eq-of-lt}
 use lib.Dec.{eqb, ltb, nltb→le}
 use lib.ListN.{length, getD, take, drop, set, length-set, take-append-drop, List·getD-eq-default}
-use lib.Seq.{length-take-le, getD-take, getD-set-same, getD-set-other, drop-set-lt}
+use lib.Seq.{ext-getD, length-take-le, getD-take, getD-set-same, getD-set-other, drop-set-lt}
 use lib.Pow.{pow-pos}
 use Rattle.integers.specs.Sum.{Naturals, bit, count}
 use Rattle.integers.proofs.Sums.{sum-ext}
@@ -65,6 +65,7 @@ writing-end inside nodes before after s m = record {
         subst (λ (x : ℕ). x < 2 ^ 64) (sym (at i l)) (word-below (λ k. flag inside nodes (64 * i + k)) 64);
     unused = λ i h. past i h (either (ltb (i / 64) (wordsFor nodes)));
   };
+  words-are = at;
   members = λ v h. in-word v (omega arith) ∙ flag-inside inside nodes v h;
 }
   where
@@ -97,6 +98,14 @@ pub written-whole : (inside : List ℕ) (nodes : ℕ) (before after : List ℕ) 
     → after ≡ take (wordsFor nodes) after ++ drop (wordsFor nodes) before
 written-whole inside nodes before after r =
     sym (take-append-drop (wordsFor nodes) after) ∙ ap (λ (x : List ℕ). take (wordsFor nodes) after ++ x) (r .rest-kept)
+
+-- the same flags give the same words
+pub written-same : (inside : List ℕ) (nodes : ℕ) (before after before' after' : List ℕ)
+    → Written inside nodes before after → Written inside nodes before' after'
+    → take (wordsFor nodes) after ≡ take (wordsFor nodes) after'
+written-same inside nodes before after before' after' r r' =
+    ext-getD 0 (take (wordsFor nodes) after) (take (wordsFor nodes) after') (r .set-of .long ∙ sym (r' .set-of .long))
+    (λ i l. let m : i < wordsFor nodes = omega (arith, r .set-of .long) in r .words-are i m ∙ sym (r' .words-are i m))
 
 -- its size is the number of flagged nodes
 pub written-size : (inside : List ℕ) (nodes : ℕ) (before after : List ℕ) → Written inside nodes before after

@@ -6,15 +6,11 @@ use mathlib.Core.Path.{_≡_}
 use mathlib.Core.List.{List, _++_}
 use lib.ListN.{length}
 use lib.IntN.{ℤ, pos, _+ℤ_}
-use lib.Signed.{_<ℤ_}
 use Rattle.refusals.specs.Order.{Check, NoneOf, FirstOf}
 use Rattle.maps.specs.Map.{Map}
 use Rattle.maps.specs.Drawing.{Drawing}
-use Rattle.maps.specs.Cut.{cut}
-use Rattle.flows.specs.Highest.{Highest}
-use Rattle.flows.specs.ProvingSet.{Proves, member}
-use Rattle.arrays.specs.Filled.{filled}
 use Rattle.questions.specs.Question.{endChecks, roomChecks, SetWritten}
+use Rattle.questions.specs.Answered.{HighestWritten, ProofWritten, Blocks}
 use Rattle.questions.specs.declared.LargestAnswer.{LargestAnswer}
 use Rattle.questions.specs.declared.LargestAnswer.the-variants.{Value, None, Refused}
 
@@ -23,17 +19,15 @@ unfoldable pub searchChecks : (nodes edges source sink : ℕ) → List ℤ → L
 searchChecks nodes edges source sink flows set = endChecks nodes source sink ++ roomChecks nodes edges (length flows) (length set)
 
 -- What Largest answers, where `checks` are its refusals in order.
--- Value: the highest answer for it stands in the first places of the slice of settings, and a set that proves the next greater value impossible in front of the
--- other. That no greater value can be delivered follows. None: a set that holds both ends or neither, with its outward total below 0; the settings as they
--- were. Refused: both slices as they were.
+-- Value: the highest answer for it is written, and a set that proves the next greater value impossible. That no greater value can be delivered follows.
+-- None: a set that holds both ends or neither, with its outward total below 0; the settings as they were. Refused: both slices as they were.
 abbrev pub LargestFound : Drawing → List Check → (source sink : ℕ) → (flows flows' : List ℤ) (set set' : List ℕ) → LargestAnswer → Type 0
 LargestFound 𝓓 checks source sink flows flows' set set' (Value v) =
     NoneOf checks
-    × ((x : ℕ → ℤ) × Highest (𝓓 .map) (𝓓 .outer) (𝓓 .capacity) source sink v x × (flows' ≡ filled (𝓓 .map .edges) x flows))
-    × ((words : List ℕ) × SetWritten (𝓓 .map .nodes) words set set' × Proves (𝓓 .map) (𝓓 .capacity) source sink (v +ℤ pos 1) (member words))
+    × HighestWritten 𝓓 source sink v flows flows'
+    × ProofWritten 𝓓 source sink (v +ℤ pos 1) set set'
 LargestFound 𝓓 checks source sink flows flows' set set' None =
     NoneOf checks
     × (flows' ≡ flows)
-    × ((words : List ℕ) × SetWritten (𝓓 .map .nodes) words set set'
-    × (member words source ≡ member words sink) × (cut (𝓓 .map) (𝓓 .capacity) (member words) <ℤ pos 0))
+    × ((words : List ℕ) × SetWritten (𝓓 .map .nodes) words set set' × Blocks 𝓓 source sink words)
 LargestFound 𝓓 checks source sink flows flows' set set' (Refused k p) = FirstOf checks k p × (flows' ≡ flows) × (set' ≡ set)

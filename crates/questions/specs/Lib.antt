@@ -1,4 +1,5 @@
 pub mod Question
+pub mod Answered
 pub mod Solve
 pub mod Largest
 pub mod Mark

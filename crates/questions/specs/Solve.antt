@@ -9,10 +9,9 @@ use lib.IntN.{ℤ}
 use Rattle.refusals.specs.Order.{Check, NoneOf, FirstOf}
 use Rattle.maps.specs.Map.{Map}
 use Rattle.maps.specs.Drawing.{Drawing}
-use Rattle.flows.specs.Highest.{Highest}
 use Rattle.flows.specs.ProvingSet.{Proves, member, size}
-use Rattle.arrays.specs.Filled.{filled}
 use Rattle.questions.specs.Question.{endChecks, valueChecks, roomChecks, SetWritten}
+use Rattle.questions.specs.Answered.{HighestWritten}
 use Rattle.questions.specs.declared.SolveAnswer.{SolveAnswer}
 use Rattle.questions.specs.declared.SolveAnswer.the-variants.{Can, Cannot, Refused}
 
@@ -28,10 +27,11 @@ questionChecks nodes edges source sink value flows set =
 abbrev pub Solved : Drawing → List Check → (source sink : ℕ) → ℤ → (flows flows' : List ℤ) (set set' : List ℕ) → SolveAnswer → Type 0
 Solved 𝓓 checks source sink value flows flows' set set' Can =
     NoneOf checks
-    × ((x : ℕ → ℤ) × Highest (𝓓 .map) (𝓓 .outer) (𝓓 .capacity) source sink value x × (flows' ≡ filled (𝓓 .map .edges) x flows))
+    × HighestWritten 𝓓 source sink value flows flows'
     × (set' ≡ set)
 Solved 𝓓 checks source sink value flows flows' set set' (Cannot n) =
     NoneOf checks
-    × ((words : List ℕ) × SetWritten (𝓓 .map .nodes) words set set' × Proves (𝓓 .map) (𝓓 .capacity) source sink value (member words) × (n ≡ size words))
+    × ((words : List ℕ) × SetWritten (𝓓 .map .nodes) words set set' × Proves (𝓓 .map) (𝓓 .capacity) source sink value (member words)
+    × (n ≡ size words))
     × (flows' ≡ flows)
 Solved 𝓓 checks source sink value flows flows' set set' (Refused k p) = FirstOf checks k p × (flows' ≡ flows) × (set' ≡ set)

@@ -14,7 +14,7 @@ use maximum::Maximum;
 use refusals::Verdict;
 
 // Checks 13 and 14: source and sink are nodes, and two.
-fn check_ends(nodes: usize, source: usize, sink: usize) -> Verdict
+pub fn check_ends(nodes: usize, source: usize, sink: usize) -> Verdict
     ensures { λ r. ⌜ Judged (endChecks nodes source sink) r ⌝ }
 {
     if nodes <= source {
@@ -43,7 +43,7 @@ fn value_outside(value: i32) -> bool
 }
 
 // Check 16 of a question: room for the flows of the edges, and for the words of a set of nodes.
-fn check_room(nodes: usize, edges: usize, flows: usize, set: usize) -> Verdict
+pub fn check_room(nodes: usize, edges: usize, flows: usize, set: usize) -> Verdict
     requires { ⌜ nodes ≤ 1024 ⌝ }
     ensures { λ r. ⌜ Judged (roomChecks nodes edges flows set) r ⌝ }
 {

@@ -7,9 +7,10 @@ use native.Mathlib.Decide.{ℕ-discrete}
 use lib.IntN.{ℤ, _+ℤ_}
 use lib.Signed.{mag, _≤ℤ_, _<ℤ_}
 use Rattle.integers.proofs.Laws.{le-trans, le-of-lt}
-use Rattle.search.specs.inner.Dual.{Dual, WellFormed, longest}
+use Rattle.search.specs.Dual.{Dual, WellFormed, longest}
 use Rattle.search.specs.inner.Walk.{Walk, onward}
-use Rattle.search.specs.inner.Progress.{far, State, Quiet}
+use Rattle.search.specs.Level.{far}
+use Rattle.search.specs.inner.Progress.{State, Quiet}
 use Rattle.search.proofs.Order.{le-of-eq, lt-ne, fall, self-fall, mag-add, near-not-far}
 use Rattle.search.proofs.Change.{Changed, change, changed}
 
@@ -95,9 +96,10 @@ module _ {N : Dual} (sound : WellFormed N) {ρ : ℕ → ℤ} {parent waiting : 
           above (yes q) = inl (fall (ρ w) (ρ' w) (N .length (parent g)) (ρ g) (s .low g l p') (rw (c-ρ .at w q, q) v-less))
           above (no q) = inr (rw (c-ρ .off w q) (s .low g l p'), rw (c-ρ .off w q, c-fell .off w q) (s .later g l p'))
 
-  pub lower : State N ρ' parent' waiting' n' k passed
+  -- what is passed stays so, but for the face that falls, which may come to be
+  pub lower : (passed' : ℕ → Type 0) → ((g : ℕ) → g < N .faces → passed' g → (g ≡ f → ⊥) → passed g) → State N ρ' parent' waiting' n' k passed'
   unfolding Holds
-  lower = record {
+  lower passed' sub = record {
     fell = fell';
     round = round';
     fell-by = λ x. fell-by' x (ℕ-discrete x f);
@@ -109,7 +111,7 @@ module _ {N : Dual} (sound : WellFormed N) {ρ : ℕ → ℤ} {parent waiting : 
     orphan = λ g l p. orphan' g l p (ℕ-discrete g f);
     reached = λ g l h. reached' g l h (ℕ-discrete g f);
     waits = λ g l h. waits' g l h (ℕ-discrete g f);
-    root-low = le-trans (falls (N .root)) (s .root-low);
+    root-low = λ m l. le-trans (falls (N .root m)) (s .root-low m l);
   }
     where
       fell-by' : (x : ℕ) → Dec (x ≡ f) → fell' x ≤ n'
@@ -146,22 +148,22 @@ module _ {N : Dual} (sound : WellFormed N) {ρ : ℕ → ℤ} {parent waiting : 
       reached' g l h (yes e) = rw (c-ρ .at g e) (v-near, onward d d-in (sym e) v-is (u-reached .1))
       reached' g l h (no c) = rw (c-ρ .off g c) (let r = s .reached g l (rw (c-ρ .off g c) at h) in (omega (arith, r .0), r .1))
 
-      waits' : (g : ℕ) → g < N .faces → waiting' g ≡ 1 → Dec (g ≡ f) → (ρ' g ≡ far → ⊥) × (k ≤ round' g) × (passed g → suc k ≤ round' g)
+      waits' : (g : ℕ) → g < N .faces → waiting' g ≡ 1 → Dec (g ≡ f) → (ρ' g ≡ far → ⊥) × (k ≤ round' g) × (passed' g → suc k ≤ round' g)
       waits' g l h (yes e) = (λ q. v-set (sym (c-ρ .at g e) ∙ q), omega (arith, c-round .at g e), λ _. omega (arith, c-round .at g e))
       waits' g l h (no c) =
           let w = s .waits g l (sym (c-waiting .off g c) ∙ h) in
-          (λ q. w .0 (sym (c-ρ .off g c) ∙ q), omega (arith, w .1, c-round .off g c), λ b. omega (arith, w .2 b, c-round .off g c))
+          (λ q. w .0 (sym (c-ρ .off g c) ∙ q), omega (arith, w .1, c-round .off g c), λ b. omega (arith, w .2 (sub g l b c), c-round .off g c))
 
-  pub lower-taken : k ≤ lower .round (N .right d)
+  pub lower-taken : (passed' : ℕ → Type 0) (sub : (g : ℕ) → g < N .faces → passed' g → (g ≡ f → ⊥) → passed g) → k ≤ lower passed' sub .round (N .right d)
   unfolding lower
-  lower-taken = omega (arith, round-grows u, taken)
+  lower-taken passed' sub = omega (arith, round-grows u, taken)
 
   -- what is quiet stays so, and the dart d is quiet now
   pub quiet-lower : (todo : ℕ → Type 0) → Quiet N ρ waiting todo → Quiet N ρ' waiting' (λ e. todo e × (e ≡ d → ⊥))
   quiet-lower todo q = record { quiet = λ e e-in not off h. by e e-in not off h (ℕ-discrete (N .right e) f) }
     where
-      by : (e : ℕ) → e < N .darts → (todo e × (e ≡ d → ⊥) → ⊥) → (waiting' (N .right e) ≡ 1 → ⊥)
-          → (ρ' (N .right e) ≡ far → ⊥) → Dec (N .right e ≡ f) → ρ' (N .left e) ≤ℤ (ρ' (N .right e) +ℤ N .length e)
+      by : (e : ℕ) → e < N .darts → (todo e × (e ≡ d → ⊥) → ⊥) → (waiting' (N .right e) ≡ 1 → ⊥) → (ρ' (N .right e) ≡ far → ⊥) → Dec (N .right e ≡ f)
+          → ρ' (N .left e) ≤ℤ (ρ' (N .right e) +ℤ N .length e)
       by e e-in not off h (yes r) = absurd (off (c-waiting .at (N .right e) r))
       by e e-in not off h (no c) = rw (c-ρ .off (N .right e) c) (which (ℕ-discrete e d))
         where

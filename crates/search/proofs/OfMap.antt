@@ -1,7 +1,8 @@
 -- The dual of a map, for who calls the search on a drawing: it is sound, connectedness joins its faces, and a ring is a walk over faces of the map.
 use mathlib.Core.Path.{_≡_, refl, sym, _∙_, ap}
+use mathlib.Core.Bool.{Bool}
 use mathlib.Core.List.{List}
-use Prim.Native.Nat.{ℕ, _≤_, _<_}
+use Prim.Native.Nat.{ℕ, zero, suc, _≤_, _<_}
 use native.Mathlib.Omega.{arith}
 use lib.ListN.{getD}
 use lib.IntN.{ℤ, pos, _+ℤ_}
@@ -18,14 +19,19 @@ use Rattle.maps.specs.inner.FaceWalk.{FaceWalk}
 use Rattle.maps.specs.inner.FaceWalk as faceWalk
 use Rattle.maps.proofs.Darts.{rev-in}
 use Rattle.maps.proofs.Faces.{left-in, right-in, left-rotation, face-dart, same-in-part}
-use Rattle.search.specs.inner.Dual.{Dual, dualOf, WellFormed, Joined, longest}
+use Rattle.search.specs.Dual.{Dual, dualOf, WellFormed, Joined, longest}
 use Rattle.search.specs.inner.Walk.{Crossing, stay, cross, total, Ring}
 use Rattle.search.specs.inner.OfMap.{OfMap}
 
+-- what holds of the first root holds of each where there is one
+pub one-root : (P : ℕ → Type 0) → P 0 → (m : ℕ) → m < 1 → P m
+one-root P p zero l = p
+one-root P p (suc m) l = absurd (omega arith)
+
 -- an array with the left faces is enough
-pub of-array : {𝓜 : Map} (lefts : List ℕ) (lengths : List ℤ) (root : ℕ)
-    → ((d : ℕ) → d < darts 𝓜 → getD lefts d 0 ≡ left 𝓜 d) → OfMap (dualOf lefts lengths (darts 𝓜) (faces 𝓜) root) 𝓜
-of-array {𝓜} lefts lengths root is = record { darts-are = refl; faces-are = refl; left-is = is; right-is = λ d l. is (rev d) (rev-in (𝓜 .edges) d l) }
+pub of-array : {𝓜 : Map} (lefts : List ℕ) (lengths : List ℤ) (roots : List ℕ) → ((d : ℕ) → d < darts 𝓜 → getD lefts d 0 ≡ left 𝓜 d)
+    → OfMap (dualOf lefts lengths (darts 𝓜) (faces 𝓜) roots) 𝓜
+of-array {𝓜} lefts lengths roots is = record { darts-are = refl; faces-are = refl; left-is = is; right-is = λ d l. is (rev d) (rev-in (𝓜 .edges) d l) }
 
 -- no more faces than darts
 pub faces-few : (𝓜 : Map) → faces 𝓜 ≤ darts 𝓜
@@ -34,11 +40,12 @@ faces-few 𝓜 = sum-le-size (darts 𝓜) (λ d. bit (isLowest (darts 𝓜) (ste
 
 module _ {N : Dual} {𝓜 : Map} (of : OfMap N 𝓜) where
   -- ── sound ──
-  pub sound-of-map : check.Sound 𝓜 → darts 𝓜 ≤ 1024 → N .root < faces 𝓜 → ((d : ℕ) → d < darts 𝓜 → mag (N .length d) < longest) → WellFormed N
+  pub sound-of-map : check.Sound 𝓜 → darts 𝓜 ≤ 1024 → ((m : ℕ) → m < N .roots → N .root m < faces 𝓜)
+      → ((d : ℕ) → d < darts 𝓜 → mag (N .length d) < longest) → WellFormed N
   sound-of-map σ few root-in short = record {
     few-darts = omega (arith, of .darts-are);
     few-faces = omega (arith, of .faces-are, faces-few 𝓜);
-    root-in = omega (arith, of .faces-are);
+    root-in = λ m l. omega (arith, of .faces-are, root-in m l);
     left-in = λ d l. let m : d < darts 𝓜 = omega (arith, of .darts-are) in omega (arith, of .left-is d m, left-in σ d m, of .faces-are);
     right-in = λ d l. let m : d < darts 𝓜 = omega (arith, of .darts-are) in omega (arith, of .right-is d m, right-in σ d m, of .faces-are);
     short = λ d l. short d (omega (arith, of .darts-are));
@@ -46,10 +53,10 @@ module _ {N : Dual} {𝓜 : Map} (of : OfMap N 𝓜) where
     reversed = λ d l. let m : d < darts 𝓜 = omega (arith, of .darts-are) in of .right-is d m ∙ sym (of .left-is (rev d) (rev-in (𝓜 .edges) d m));
   }
 
-  -- ── joined ──
-  module _ (σ : check.Sound 𝓜) {part : ℕ → ℕ} (κ : Components 𝓜 1 part) (root-in : N .root < N .faces) where
-    pub joined-of-map : Joined N
-    joined-of-map B same f l = sym (ap B (of-f .2)) ∙ around ∙ ap B (of-root .2)
+  -- ── joined: one part, and one root ──
+  module _ (σ : check.Sound 𝓜) {part : ℕ → ℕ} (κ : Components 𝓜 1 part) (single : N .roots ≡ 1) (root-in : N .root 0 < N .faces) where
+    closed : (B : ℕ → Bool) → ((d : ℕ) → d < N .darts → B (N .left d) ≡ B (N .right d)) → (f : ℕ) → f < N .faces → B f ≡ B (N .root 0)
+    closed B same f l = sym (ap B (of-f .2)) ∙ around ∙ ap B (of-root .2)
       where
         across : (d : ℕ) → d < darts 𝓜 → B (right 𝓜 d) ≡ B (left 𝓜 d)
         across d m = sym (ap B (of .right-is d m)) ∙ sym (same d (omega (arith, of .darts-are))) ∙ ap B (of .left-is d m)
@@ -57,8 +64,8 @@ module _ {N : Dual} {𝓜 : Map} (of : OfMap N 𝓜) where
         of-f : (d : ℕ) × (d < darts 𝓜) × (left 𝓜 d ≡ f)
         of-f = face-dart σ f (omega (arith, of .faces-are))
 
-        of-root : (d : ℕ) × (d < darts 𝓜) × (left 𝓜 d ≡ N .root)
-        of-root = face-dart σ (N .root) (omega (arith, of .faces-are, root-in))
+        of-root : (d : ℕ) × (d < darts 𝓜) × (left 𝓜 d ≡ N .root 0)
+        of-root = face-dart σ (N .root 0) (omega (arith, of .faces-are, root-in))
 
         one : (d : ℕ) → d < darts 𝓜 → part (𝓜 .tail d) ≡ 0
         one d m = omega (arith, κ .below (𝓜 .tail d) (σ .range .tail-in d m))
@@ -67,6 +74,15 @@ module _ {N : Dual} {𝓜 : Map} (of : OfMap N 𝓜) where
         around =
             same-in-part σ κ (λ d. B (left 𝓜 d)) across (λ d m. ap B (left-rotation σ d m) ∙ across d m) (of-f .0) (of-root .0) (of-f .1) (of-root .1)
             (one (of-f .0) (of-f .1) ∙ sym (one (of-root .0) (of-root .1)))
+
+    pub joined-of-map : Joined N
+    joined-of-map = record {
+      part = λ f. 0;
+      part-in = λ f l. omega (arith, single);
+      part-root = λ m l. omega (arith, single);
+      part-kept = λ d l. refl;
+      closed = closed;
+    }
 
   -- ── rings ──
   -- darts crossed in turn, as a walk over faces of the same length

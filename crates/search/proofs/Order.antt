@@ -9,7 +9,7 @@ use lib.IntN.{ℤ, pos, negsuc, _+ℤ_, subℕ}
 use lib.Signed.{mag, ltZ, _≤ℤ_, _<ℤ_, ltZ-yes, ltZ-no}
 use Rattle.integers.proofs.Omega.{Parts, atoms₂, atoms₃, atoms₄, atoms₅, parts, equal, at-most, less, from-equal, from-at-most, from-less}
 use Rattle.integers.proofs.Laws.{lt-or-ge}
-use Rattle.search.specs.inner.Progress.{far}
+use Rattle.search.specs.Level.{far}
 
 pub le-of-eq : {x y : ℤ} → x ≡ y → x ≤ℤ y
 le-of-eq {x} {y} e = let a = atoms₂ x y in at-most (search parts) (omega (arith, from-equal e (search parts)))

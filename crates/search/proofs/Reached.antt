@@ -1,4 +1,4 @@
--- Where no face waits, every face is reached: the reached faces are a set that no dart leaves or enters, and the faces hang together.
+-- Where no face waits, every face is reached: the reached faces are a set that no dart leaves or enters, and the faces of a part hang together.
 use mathlib.Core.Path.{_≡_, refl, sym, _∙_, ap}
 use mathlib.Core.Logic.{_⊎_, inl, inr}
 use mathlib.Core.Bool.{Bool, true, false, not, true≢false, false≢true}
@@ -8,10 +8,11 @@ use lib.IntN.{ℤ, pos, _+ℤ_}
 use Rattle.integers.proofs.Tests.{either, eqb-true, eqZ, eqZ-eq}
 use Rattle.maps.specs.Dart.{rev}
 use Rattle.maps.proofs.Darts.{rev-rev, rev-in}
-use Rattle.search.specs.inner.Dual.{Dual, WellFormed, Joined}
+use Rattle.search.specs.Dual.{Dual, WellFormed, Joined}
 use Rattle.search.specs.inner.Walk.{Walk}
 use Rattle.search.specs.inner.Settled.{Still, Settled}
-use Rattle.search.specs.inner.Progress.{far, State, Quiet}
+use Rattle.search.specs.Level.{far}
+use Rattle.search.specs.inner.Progress.{State, Quiet}
 use Rattle.search.proofs.Order.{mag-add, below-near}
 use Rattle.search.proofs.Highest.{root-zero}
 
@@ -31,8 +32,8 @@ isSet-is : (z : ℤ) → isSet z ≡ true → z ≡ far → ⊥
 unfolding isSet eqZ
 isSet-is z h e = false≢true (sym (ap not (eqb-true 4611686018427387904 4611686018427387904 refl)) ∙ ap (λ w. not (eqZ w far)) (sym e) ∙ h)
 
-module _ {N : Dual} (sound : WellFormed N) (joined : Joined N) {ρ : ℕ → ℤ} {parent waiting : ℕ → ℕ}
-    {n k : ℕ} {passed : ℕ → Type 0} (s : State N ρ parent waiting n k passed)
+module _ {N : Dual} (sound : WellFormed N) (joined : Joined N)
+    {ρ : ℕ → ℤ} {parent waiting : ℕ → ℕ} {n k : ℕ} {passed : ℕ → Type 0} (s : State N ρ parent waiting n k passed)
     (q : Quiet N ρ waiting (λ d. ⊥)) (rests : (f : ℕ) → f < N .faces → waiting f ≡ 1 → ⊥) (few : n ≤ 2000000000) where
   -- what a dart leads to from a reached face is reached
   onward-set : (d : ℕ) → d < N .darts → (ρ (N .right d) ≡ far → ⊥) → ρ (N .left d) ≡ far → ⊥
@@ -57,15 +58,18 @@ module _ {N : Dual} (sound : WellFormed N) (joined : Joined N) {ρ : ℕ → ℤ
   same-set : (d : ℕ) → d < N .darts → isSet (ρ (N .left d)) ≡ isSet (ρ (N .right d))
   same-set d l = by (either (isSet (ρ (N .left d)))) (either (isSet (ρ (N .right d))))
     where
-      by : (isSet (ρ (N .left d)) ≡ true) ⊎ (isSet (ρ (N .left d)) ≡ false)
-          → (isSet (ρ (N .right d)) ≡ true) ⊎ (isSet (ρ (N .right d)) ≡ false) → isSet (ρ (N .left d)) ≡ isSet (ρ (N .right d))
+      by : (isSet (ρ (N .left d)) ≡ true) ⊎ (isSet (ρ (N .left d)) ≡ false) → (isSet (ρ (N .right d)) ≡ true) ⊎ (isSet (ρ (N .right d)) ≡ false)
+          → isSet (ρ (N .left d)) ≡ isSet (ρ (N .right d))
       by (inl a) b = a ∙ sym (isSet-true (ρ (N .right d)) (backward-set d l (isSet-is (ρ (N .left d)) a)))
       by (inr a) (inl b) = absurd (true≢false (sym (isSet-true (ρ (N .left d)) (onward-set d l (isSet-is (ρ (N .right d)) b))) ∙ a))
       by (inr a) (inr b) = a ∙ sym b
 
   all-set : (f : ℕ) → f < N .faces → ρ f ≡ far → ⊥
   all-set f l =
-      isSet-is (ρ f) (joined (λ f. isSet (ρ f)) same-set f l ∙ isSet-true (ρ (N .root)) (below-near (ρ (N .root)) (pos 0) (s .root-low) (omega arith)))
+      let m = joined .part f in
+      let low = s .root-low m (joined .part-in f l) in
+      isSet-is (ρ f)
+      (joined .closed (λ f. isSet (ρ f)) same-set f l ∙ isSet-true (ρ (N .root m)) (below-near (ρ (N .root m)) (pos 0) low (omega arith)))
 
   still : Still N ρ
   still d l = q .quiet d l (λ a. a) (rests (N .right d) (sound .right-in d l)) (all-set (N .right d) (sound .right-in d l))
@@ -77,6 +81,6 @@ module _ {N : Dual} (sound : WellFormed N) (joined : Joined N) {ρ : ℕ → ℤ
   settled = record {
     still = still;
     walk = walks;
-    rooted = root-zero N ρ still (s .root-low) (walks (N .root) (sound .root-in));
+    rooted = λ m l. root-zero joined ρ still m l (s .root-low m l) (walks (N .root m) (sound .root-in m l));
     near = λ f l. omega (arith, s .reached f l (all-set f l) .0);
   }

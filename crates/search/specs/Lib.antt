@@ -1,1 +1,14 @@
+pub mod Dual
+pub mod Parents
+pub mod Level
+pub mod Queue
+pub mod Moves
+pub mod Given
+pub mod Configuration
+pub mod Look
+pub mod Due
+pub mod Trace
+pub mod History
+pub mod Waiting
+pub mod Statements
 pub mod inner

@@ -1,8 +1,6 @@
 -- What loops and inner functions are proved with: no operation's contract and no printed statement rests on these.
-pub mod Dual
 pub mod OfMap
 pub mod Walk
 pub mod Settled
-pub mod Parents
 pub mod Answer
 pub mod Progress

@@ -1,18 +1,25 @@
-// The face search (Bellman and Ford, in rounds over the faces that wait): settled potentials, or a ring of faces whose lengths add to less than zero.
+// The face search (Bellman and Ford, with a queue): settled potentials, or a ring of faces whose lengths add to less than zero.
 //
-// A round passes the faces once, upwards in even rounds and downwards in odd ones, and takes up each face that waits: it crosses the darts right of
-// which the face lies, and each left face that falls waits in turn. There are at most as many rounds as faces, and each is linear in darts and faces.
+// A face whose potential fell waits in a queue until it is looked at. Its look crosses the darts right of which it lies, and each left face that falls comes to
+// wait, unless it does already: first come, first looked at. A round is the places that were taken at its beginning. There are at most as many rounds as
+// faces, and each is linear in darts and faces.
 ghost use mathlib.Core.Path.{_≡_};
-ghost use mathlib.Core.Bool.{false};
 ghost use Prim.Native.Nat.{ℕ, _+_, _<_, _≤_};
-ghost use lib.ListN.{length, getD};
-ghost use lib.IntN.{pos, _+ℤ_};
+ghost use lib.ListN.{length, take};
 ghost use lib.Signed.{mag};
-ghost use Rattle.grouping.specs.inner.Grouped.{Grouped};
+ghost use Rattle.grouping.specs.Grouped.{Grouped};
+ghost use Rattle.arrays.specs.At.{at, atℤ};
 ghost use Rattle.arrays.specs.Maps.{rightOf};
-ghost use Rattle.search.specs.inner.Dual.{dualOf, WellFormed, Joined};
+ghost use Rattle.search.specs.Dual.{dualOf, WellFormed, Joined};
 ghost use Rattle.search.specs.inner.Answer.{Answer};
-ghost use Rattle.search.specs.inner.Progress.{Relaxed, Climb, Begun, Passing, place};
+ghost use Rattle.search.specs.Queue.{faceAt, Pushed};
+ghost use Rattle.search.specs.Moves.{Begun, Relaxed, Climb};
+ghost use Rattle.search.specs.Given.{given};
+ghost use Rattle.search.specs.Configuration.{tablesOf};
+ghost use Rattle.search.specs.Look.{LookAt};
+ghost use Rattle.search.specs.Due.{dueNow};
+ghost use Rattle.search.specs.Trace.{Searches};
+ghost use Rattle.search.specs.inner.Progress.{Looking};
 
 // Settled potentials, or the dart that closes a ring.
 pub enum Outcome {
@@ -25,30 +32,47 @@ enum Climbed {
     At(usize),
 }
 
+// The lowerings so far, and the end of the queue.
+struct Looked {
+    lowerings: usize,
+    last: usize,
+}
+
 // Crosses the dart d from its right face i: lowers the potential of its left face if it can, and says whether.
 fn relax(
     lefts: &[u16; 1024],
     lengths: &[i32; 1024],
     potentials: &mut [i64; 1024],
     parents: &mut [u16; 1024],
-    waiting: &mut [u8; 1024],
     i: usize,
     d: usize,
 ) -> bool
-    requires { ⌜ (length (now potentials) ≡ 1024) × (length (now parents) ≡ 1024) × (length (now waiting) ≡ 1024) × (i < 1024) × (d < 1024)
-        × (getD (now lefts) d 0 < 1024) × (mag (getD (now potentials) i (pos 0)) + mag (getD (now lengths) d (pos 0)) + 1 < 9223372036854775808) ⌝ }
+    requires { ⌜ (length (now potentials) ≡ 1024) × (length (now parents) ≡ 1024) × (i < 1024) × (d < 1024) × (at (now lefts) d < 1024)
+        × (mag (atℤ (now potentials) i) + mag (atℤ (now lengths) d) + 1 < 9223372036854775808) ⌝ }
     ensures { λ r. ⌜ Relaxed (now (lefts .entry)) (now (lengths .entry)) (now (potentials .entry)) (now (parents .entry))
-        (now (waiting .entry)) (now (potentials .exit)) (now (parents .exit)) (now (waiting .exit)) i d r ⌝ }
+        (now (potentials .exit)) (now (parents .exit)) i d r ⌝ }
 {
     let f = arrays::wide(lefts[d]);
     let v = signed::plus_wide(potentials[i], lengths[d]);
     if v < potentials[f] {
         potentials[f] = v;
         parents[f] = d as u16;
-        waiting[f] = 1;
         return true;
     }
     false
+}
+
+// The face f comes to wait, unless it does already. Returns the end of the queue.
+fn push(waiting: &mut [u8; 1024], queue: &mut [u16; 1024], f: usize, last: usize) -> usize
+    requires { ⌜ (length (now waiting) ≡ 1024) × (length (now queue) ≡ 1024) × (f < 1024) × (last < 4294967296) ⌝ }
+    ensures { λ r. ⌜ Pushed (now (waiting .entry)) (now (queue .entry)) (now (waiting .exit)) (now (queue .exit)) f last r ⌝ }
+{
+    if waiting[f] == 1 {
+        return last;
+    }
+    waiting[f] = 1;
+    queue[last % 1024] = f as u16;
+    last + 1
 }
 
 // As many steps up from x as there are faces: they end on a ring, unless one lacks a parent.
@@ -73,53 +97,39 @@ fn climb(
     Climbed::At(y)
 }
 
-// At first the root's potential is 0 and the root waits; no other face is reached, and none has a parent.
+// At first the roots, which stand at the first places of the queue, are at 0 and wait; no other face has a level, and none has a parent.
 fn begin(
     potentials: &mut [i64; 1024],
     parents: &mut [u16; 1024],
     waiting: &mut [u8; 1024],
-    root: usize,
+    queue: &[u16; 1024],
+    roots: usize,
 )
-    requires { ⌜ (length (now potentials) ≡ 1024) × (length (now parents) ≡ 1024) × (length (now waiting) ≡ 1024) × (root < 1024) ⌝ }
-    ensures { λ _. ⌜ Begun (now (potentials .exit)) (now (parents .exit)) (now (waiting .exit)) root ⌝ }
+    requires { ⌜ (length (now potentials) ≡ 1024) × (length (now parents) ≡ 1024) × (length (now waiting) ≡ 1024) × (roots ≤ 1024)
+        × ((m : ℕ) → m < roots → at (now queue) m < 1024) ⌝ }
+    ensures { λ _. ⌜ Begun (now (potentials .exit)) (now (parents .exit)) (now (waiting .exit)) (now (queue .entry)) roots ⌝ }
 {
     for f in 0..1024usize {
         potentials[f] = 4611686018427387904;
         parents[f] = 1024;
         waiting[f] = 0;
     }
-    potentials[root] = 0;
-    waiting[root] = 1;
-}
-
-// The face at place a of round k.
-fn face_at(faces: usize, k: usize, a: usize) -> usize
-    requires { ⌜ a < faces ⌝ }
-    ensures { λ r. ⌜ (r ≡ place faces k a) × (r < faces) ⌝ }
-{
-    if k % 2 == 0 { a } else { faces - 1 - a }
-}
-
-// Whether to look for a ring: in the last round, where a face that waits is sure to be above one, and before that once `next` lowerings are made: as many
-// after the last look as there are faces, less what `earlier` takes off for the rounds between.
-fn due(faces: usize, k: usize, next: usize, count: usize) -> bool
-    ensures { λ r. ⌜ (r ≡ false → k ≡ faces → ⊥) ⌝ }
-{
-    if k == faces {
-        return true;
+    for m in 0..roots {
+        let f = arrays::wide(queue[m]);
+        potentials[f] = 0;
+        waiting[f] = 1;
     }
-    next <= count
 }
 
-// A round counts as an eighth of the faces towards the next look: where each round lowers little, a look comes after some eight rounds, though it might
-// take hundreds to make as many lowerings as there are faces.
-fn earlier(next: usize, faces: usize) -> usize {
-    let part = faces / 8;
-    if next < part { 0 } else { next - part }
+// Whether to look for a ring: in the last round, where a face that waits is sure to be above one, and before that once `next` lowerings are made.
+fn due(faces: usize, round: usize, next: usize, lowerings: usize) -> bool
+    ensures { λ r. ⌜ r ≡ dueNow faces round next lowerings ⌝ }
+{
+    round == faces || next <= lowerings
 }
 
-// Takes up the face i, which stands at place a of round k and waits: crosses the darts whose right face it is. Returns the lowerings so far.
-fn take_up(
+// Looks at the face i, which stands at the first place of the queue: it waits no more, and the darts whose right face it is are crossed.
+fn look(
     lefts: &[u16; 1024],
     lengths: &[i32; 1024],
     order: &[u16; 1024],
@@ -127,45 +137,47 @@ fn take_up(
     ends: &[u16; 1024],
     darts: usize,
     faces: usize,
-    root: usize,
     potentials: &mut [i64; 1024],
     parents: &mut [u16; 1024],
     waiting: &mut [u8; 1024],
+    queue: &mut [u16; 1024],
     lowerings: usize,
-    k: usize,
-    a: usize,
+    first: usize,
+    stop: usize,
+    last: usize,
+    round: usize,
     i: usize,
-) -> usize
-    requires { ⌜ WellFormed (dualOf (now lefts) (now lengths) darts faces root) × Grouped (rightOf (now lefts)) darts faces (now order) (now starts) (now ends)
-        × Passing (dualOf (now lefts) (now lengths) darts faces root) (now potentials) (now parents) (now waiting) lowerings k a × (k < faces) × (a < faces)
-        × (i ≡ place faces k a) × (getD (now waiting) i 0 ≡ 1) ⌝ }
-    ensures { λ r. ⌜ Passing (dualOf (now (lefts .entry)) (now (lengths .entry)) darts faces root)
-        (now (potentials .exit)) (now (parents .exit)) (now (waiting .exit)) r k (a + 1) ⌝ }
+) -> Looked
+    requires { ⌜ Looking (dualOf (now lefts) (now lengths) darts faces)
+        (tablesOf (now potentials) (now parents) (now waiting) (now queue) lowerings last) first stop round
+        × Grouped (rightOf (now lefts)) darts faces (now order) (now starts) (now ends)
+        × (round < faces) × (first < stop) × (i ≡ faceAt (now queue) first) ⌝ }
+    ensures { λ r. ⌜ LookAt (given (now (lefts .entry)) (now (lengths .entry)) (now (order .entry)) (now (starts .entry)) (now (ends .entry)) darts faces) i
+        (tablesOf (now (potentials .entry)) (now (parents .entry)) (now (waiting .entry)) (now (queue .entry)) lowerings last)
+        (tablesOf (now (potentials .exit)) (now (parents .exit)) (now (waiting .exit)) (now (queue .exit)) (r .lowerings) (r .last)) ⌝ }
 {
     waiting[i] = 0;
-    let s = arrays::wide(starts[i]);
+    let mut j = arrays::wide(starts[i]);
     let e = arrays::wide(ends[i]);
     let mut count = lowerings;
-    for j in s..e {
+    let mut end = last;
+    while j < e {
         let d = arrays::wide(order[j]);
-        if relax(
-            lefts,
-            lengths,
-            &mut *potentials,
-            &mut *parents,
-            &mut *waiting,
-            i,
-            d,
-        ) {
+        j += 1;
+        if relax(lefts, lengths, &mut *potentials, &mut *parents, i, d) {
             count += 1;
+            end = push(&mut *waiting, &mut *queue, arrays::wide(lefts[d]), end);
         }
     }
-    count
+    Looked {
+        lowerings: count,
+        last: end,
+    }
 }
 
-// The search from the face `root`. Where it is settled, `potentials` has the highest potentials that no dart can lower, with the root at 0; where it answers a
-// ring, its dart closes it: the face left of that dart is on the ring, the dart is that face's parent, and the parents lead round: to the face right of the
-// dart, then to the face right of that one's parent, and so on back.
+// The search from the roots, which stand at the first places of the queue. Where it is settled, `potentials` has the highest potentials that no dart can lower,
+// with the roots at 0; where it answers a ring, its dart closes it: the face left of that dart is on the ring, the dart is that face's parent, and the parents
+// lead round: to the face right of the dart, then to the face right of that one's parent, and so on back. How it goes, look by look, is `Searches`.
 pub fn search(
     lefts: &[u16; 1024],
     lengths: &[i32; 1024],
@@ -174,56 +186,71 @@ pub fn search(
     ends: &[u16; 1024],
     darts: usize,
     faces: usize,
-    root: usize,
+    roots: usize,
     potentials: &mut [i64; 1024],
     parents: &mut [u16; 1024],
     waiting: &mut [u8; 1024],
+    queue: &mut [u16; 1024],
 ) -> Outcome
-    requires { ⌜ WellFormed (dualOf (now lefts) (now lengths) darts faces root) × Joined (dualOf (now lefts) (now lengths) darts faces root)
-        × Grouped (rightOf (now lefts)) darts faces (now order) (now starts) (now ends) × (length (now potentials) ≡ 1024)
-        × (length (now parents) ≡ 1024) × (length (now waiting) ≡ 1024) ⌝ }
-    ensures { λ r. ⌜ Answer (dualOf (now (lefts .entry)) (now (lengths .entry)) darts faces root) (now (potentials .exit)) (now (parents .exit)) r ⌝ }
+    requires { ⌜ WellFormed (dualOf (now lefts) (now lengths) darts faces (take roots (now queue)))
+        × Joined (dualOf (now lefts) (now lengths) darts faces (take roots (now queue)))
+        × Grouped (rightOf (now lefts)) darts faces (now order) (now starts) (now ends)
+        × (length (now potentials) ≡ 1024) × (length (now parents) ≡ 1024) × (length (now waiting) ≡ 1024) × (length (now queue) ≡ 1024)
+        × (roots ≤ 1024) ⌝ }
+    ensures { λ r. ⌜ Answer (dualOf (now (lefts .entry)) (now (lengths .entry)) darts faces (take roots (now (queue .entry))))
+        (now (potentials .exit)) (now (parents .exit)) r
+        × Searches (given (now (lefts .entry)) (now (lengths .entry)) (now (order .entry)) (now (starts .entry)) (now (ends .entry)) darts faces)
+        (now (queue .entry)) roots (now (potentials .exit)) (now (parents .exit)) r ⌝ }
 {
-    begin(&mut *potentials, &mut *parents, &mut *waiting, root);
-    let mut count: usize = 0;
-    let mut next: usize = faces;
-    let mut k: usize = 0;
+    begin(
+        &mut *potentials,
+        &mut *parents,
+        &mut *waiting,
+        &*queue,
+        roots,
+    );
+    let mut lowerings: usize = 0;
+    let mut next: usize = faces / 4;
+    let mut round: usize = 0;
+    let mut first: usize = 0;
+    let mut last: usize = roots;
     let outcome = 'search: loop {
-        let mut any = false;
-        for a in 0..faces {
-            let i = face_at(faces, k, a);
-            if waiting[i] == 1 {
-                any = true;
-                if due(faces, k, next, count) {
-                    next = count + faces;
-                    if let Climbed::At(y) = climb(lefts, &*parents, darts, faces, i) {
-                        break 'search Outcome::Ring(arrays::wide(parents[y]));
-                    }
+        let stop = last;
+        while first < stop {
+            let i = arrays::wide(queue[first % 1024]);
+            if due(faces, round, next, lowerings) {
+                next = lowerings + faces / 4;
+                if let Climbed::At(y) = climb(lefts, &*parents, darts, faces, i) {
+                    break 'search Outcome::Ring(arrays::wide(parents[y]));
                 }
-                count = take_up(
-                    lefts,
-                    lengths,
-                    order,
-                    starts,
-                    ends,
-                    darts,
-                    faces,
-                    root,
-                    &mut *potentials,
-                    &mut *parents,
-                    &mut *waiting,
-                    count,
-                    k,
-                    a,
-                    i,
-                );
             }
+            let looked = look(
+                lefts,
+                lengths,
+                order,
+                starts,
+                ends,
+                darts,
+                faces,
+                &mut *potentials,
+                &mut *parents,
+                &mut *waiting,
+                &mut *queue,
+                lowerings,
+                first,
+                stop,
+                last,
+                round,
+                i,
+            );
+            lowerings = looked.lowerings;
+            last = looked.last;
+            first += 1;
         }
-        if !any {
+        if first == last {
             break 'search Outcome::Settled;
         }
-        next = earlier(next, faces);
-        k += 1;
+        round += 1;
     };
     outcome
 }

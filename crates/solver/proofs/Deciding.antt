@@ -1,39 +1,37 @@
--- One value decided, once its lengths are known: they are what the search and the ring's set ask for;
--- settled potentials are the highest flow, and a cut of the lengths below zero is a proving set.
+-- One value decided, once its lengths are known: they are what the search and the ring's set ask for; settled potentials are the highest flow, and a cut of
+-- the lengths below zero is a proving set.
 use mathlib.Core.Path.{_≡_, refl, sym, _∙_, ap, ap₂, subst}
 use mathlib.Core.Bool.{true, false}
-use mathlib.Core.List.{List, _++_}
+use mathlib.Core.List.{List, [], _∷_, _++_}
 use Prim.Native.Nat.{ℕ, _+_, _*_, _≤_, _<_}
 use native.Mathlib.Omega.{arith}
-use lib.ListN.{length, drop}
-use lib.IntN.{ℤ, pos, negsuc, negℤ, _+ℤ_, _-ℤ_, _*ℤ_}
+use lib.ListN.{drop}
+use lib.IntN.{ℤ, pos, negsuc, _+ℤ_, _-ℤ_, _*ℤ_}
 use lib.Signed.{mag, _≤ℤ_, _<ℤ_}
 use Rattle.integers.specs.inner.Limited.{Limited}
-use Rattle.integers.specs.Sum.{Integers, sumℤ, when}
-use Rattle.integers.proofs.Omega.{atoms₂, atoms₃, atoms₄, parts, equal, at-most, from-equal, from-at-most}
+use Rattle.integers.specs.Sum.{Integers, when}
+use Rattle.integers.proofs.Omega.{atoms₄, parts, equal, from-at-most}
 use Rattle.integers.proofs.Sums.{sum-ext}
 use Rattle.maps.specs.Dart.{rev}
 use Rattle.maps.specs.Map.{Map, darts}
 use Rattle.maps.specs.Face.{left, right, faces}
 use Rattle.maps.specs.Cut.{leaves, cut}
-use Rattle.maps.specs.Flow.{Antisymmetric}
 use Rattle.maps.proofs.Darts.{rev-in}
 use Rattle.maps.proofs.Faces.{left-in}
 use Rattle.flows.specs.ZeroFace.{ZeroFace}
 use Rattle.flows.specs.Highest.{Highest}
-use Rattle.flows.specs.ProvingSet.{Proves}
 use Rattle.flows.proofs.Plane.{one-part}
 use Rattle.flows.specs.inner.UnitFlow.{UnitFlow}
 use Rattle.flows.specs.inner.Lengths.{lengthFor, Feasible, edgeFlow}
 use Rattle.flows.proofs.HighestFlow.{top-is-highest}
-use Rattle.flows.proofs.Exact.{negative-proves, length-pairs}
+use Rattle.flows.proofs.Exact.{negative-proves}
 use Rattle.arrays.specs.At.{at, atℤ}
 use Rattle.arrays.proofs.Tabulate.{tabulate-ext}
 use Rattle.arrays.specs.Filled.{filled}
-use Rattle.search.specs.inner.Dual.{Dual, dualOf}
-use Rattle.search.specs.inner.Parents.{ParentRing}
+use Rattle.search.specs.Dual.{Dual, dualOf}
+use Rattle.search.specs.Parents.{ParentRing}
 use Rattle.search.specs.inner.Settled.{Settled}
-use Rattle.search.proofs.OfMap.{sound-of-map, joined-of-map}
+use Rattle.search.proofs.OfMap.{one-root, sound-of-map, joined-of-map}
 use Rattle.search.specs.inner.OfMap.{OfMap}
 use Rattle.search.proofs.Highest as settled
 use Rattle.edge_flows.specs.inner.Flow.{flowOf}
@@ -48,11 +46,11 @@ limited-mag : (b : ℕ) (x : ℤ) → Limited b x → mag x ≤ b
 limited-mag b (pos n) h = omega (arith, from-at-most (h .high) (search parts))
 limited-mag b (negsuc n) h = omega (arith, from-at-most (h .low) (search parts))
 
-module _ {𝓜 : Map} (lefts : List ℕ) {count outer : ℕ} {c : ℕ → ℤ}
-    (drawn : Drawn 𝓜 (at lefts) count outer c) {s t : ℕ} (two : Ends 𝓜 s t) {value : ℤ} (row : List ℤ)
+module _ {𝓜 : Map} (lefts : List ℕ) {count outer : ℕ} {c : ℕ → ℤ} (drawn : Drawn 𝓜 (at lefts) count outer c)
+    {s t : ℕ} (two : Ends 𝓜 s t) {value : ℤ} (row : List ℤ)
     (known : Lengthened 𝓜 s t c value (atℤ row)) {root : ℕ} (rooted : root ≡ at lefts outer) where
   abbrev N : Dual
-  N = dualOf lefts row (darts 𝓜) count root
+  N = dualOf lefts row (darts 𝓜) count (root ∷ [])
 
   abbrev π : ℕ → ℤ
   π = known .along
@@ -87,9 +85,9 @@ module _ {𝓜 : Map} (lefts : List ℕ) {count outer : ℕ} {c : ℕ → ℤ}
   pub searchable : Searchable N (𝓜 .edges) c
   searchable = record {
     sound =
-        sound-of-map of (drawn .plane .sound) (omega (arith, drawn .few-edges)) root-in
+        sound-of-map of (drawn .plane .sound) (omega (arith, drawn .few-edges)) (one-root (λ m. at (root ∷ []) m < faces 𝓜) root-in)
         (λ d l. omega (arith, limited-mag 602000000 (atℤ row d) (known .short d l)));
-    joined = joined-of-map of (drawn .plane .sound) (one-part (drawn .plane)) (omega (arith, root-in, drawn .counted));
+    joined = joined-of-map of (drawn .plane .sound) (one-part (drawn .plane)) refl (omega (arith, root-in, drawn .counted));
     darts-are = refl;
     small = drawn .small;
     sums = sums;
@@ -101,15 +99,15 @@ module _ {𝓜 : Map} (lefts : List ℕ) {count outer : ℕ} {c : ℕ → ℤ}
     feasible d l = rw (drawn .left-is d l, drawn .left-is (rev d) (rev-in (𝓜 .edges) d l), length-is d l) at (σ .still d l)
 
     top : (τ : ℕ → ℤ) → Feasible 𝓜 (lengthFor c π value) τ → ((f : ℕ) → ZeroFace 𝓜 outer f → τ f ≡ pos 0) → (f : ℕ) → f < faces 𝓜 → τ f ≤ℤ ρ f
-    top τ h zero f l = settled.highest σ τ still (zero root root-is) f (omega (arith, drawn .counted))
+    top τ h zero f l = settled.highest σ τ still (one-root (λ m. τ (at (root ∷ []) m) ≡ pos 0) (zero root root-is)) f (omega (arith, drawn .counted))
       where
         still : (d : ℕ) → d < darts 𝓜 → τ (at lefts d) ≤ℤ (τ (at lefts (rev d)) +ℤ atℤ row d)
         still d l = rw (drawn .left-is d l, drawn .left-is (rev d) (rev-in (𝓜 .edges) d l), length-is d l) (h d l)
 
     highest : Highest 𝓜 outer c s t value (edgeFlow 𝓜 π value ρ)
     highest =
-        top-is-highest (drawn .plane) (two .source-in) (two .sink-in) (two .two) unit c value
-        outer (drawn .outer-in) ρ feasible (λ f z. ap ρ (z ∙ sym root-is) ∙ σ .rooted) top
+        top-is-highest (drawn .plane) (two .source-in) (two .sink-in) (two .two) unit c value outer (drawn .outer-in) ρ feasible
+        (λ f z. ap ρ (z ∙ sym root-is) ∙ σ .rooted 0 (omega arith)) top
 
     flows-are : (e : ℕ) → e < 𝓜 .edges → flowOf (at lefts) c (atℤ row) ρ e ≡ edgeFlow 𝓜 π value ρ e
     flows-are e l =

@@ -1,8 +1,9 @@
-// The solver: decides whether a value can be carried from a source to a sink of a plane map held in arrays.
-// It gives the highest flow, or the nodes of a proving set.
+// The solver: decides whether a value can be carried from a source to a sink of a plane map held in arrays. It gives the highest flow, or the nodes of a
+// proving set.
 //
 // Each step has its own arrays, and none is kept longer than the step: the walk over the darts is made anew for a ring, since memory is scarcer than time.
 ghost use mathlib.Core.Path.{_≡_};
+ghost use mathlib.Core.List.{[], _∷_};
 ghost use Prim.Native.Nat.{ℕ, _*_, _<_, _≤_};
 ghost use lib.ListN.{length};
 ghost use lib.IntN.{pos};
@@ -11,7 +12,7 @@ ghost use Rattle.integers.specs.inner.Limited.{Limited};
 ghost use Rattle.maps.specs.Cut.{cut};
 ghost use Rattle.flows.specs.inner.Plane.{Plane};
 ghost use Rattle.arrays.specs.At.{at, atℤ};
-ghost use Rattle.search.specs.inner.Dual.{dualOf};
+ghost use Rattle.search.specs.Dual.{dualOf};
 ghost use Rattle.arrays.specs.inner.Drawn.{Drawn};
 ghost use Rattle.solver.specs.inner.Ends.{Ends};
 ghost use Rattle.arrays.specs.Maps.{mapOf};
@@ -37,8 +38,8 @@ fn lengths_for(
         × Plane (mapOf nodes edges (now tails) (now rotations))
         × ((d : ℕ) → d < 2 * edges → Limited mostCapacity (atℤ (now capacities) d)) × Limited mostValue value ⌝ }
     ensures { λ _. ⌜ (length (now (lengths .exit)) ≡ 1024)
-        × Lengthened (mapOf nodes edges (now (tails .entry)) (now (rotations .entry))) (at (now (tails .entry)) start)
-        (at (now (tails .entry)) finish) (atℤ (now (capacities .entry))) value (atℤ (now (lengths .exit))) ⌝ }
+        × Lengthened (mapOf nodes edges (now (tails .entry)) (now (rotations .entry))) (at (now (tails .entry)) start) (at (now (tails .entry)) finish)
+        (atℤ (now (capacities .entry))) value (atℤ (now (lengths .exit))) ⌝ }
 {
     let mut order = [0u16; 1024];
     let mut from = [0u16; 1024];
@@ -55,8 +56,8 @@ fn lengths_for(
     );
 }
 
-// Searches; where the potentials settle, writes the flows that they make.
-// Where there is a ring, answers the dart that closes it, and the parents lead round it.
+// Searches; where the potentials settle, writes the flows that they make. Where there is a ring, answers the dart that closes it, and the parents lead round
+// it.
 fn settle(
     lefts: &[u16; 1024],
     capacities: &[i32; 1024],
@@ -68,9 +69,9 @@ fn settle(
     flows: &mut [i32],
 ) -> Outcome
     requires { ⌜ (length (now parents) ≡ 1024) × (edges ≤ 512) × (edges ≤ length (now flows))
-        × Searchable (dualOf (now lefts) (now lengths) (2 * edges) faces root) edges (atℤ (now capacities)) ⌝ }
-    ensures { λ r. ⌜ Searched (dualOf (now (lefts .entry)) (now (lengths .entry)) (2 * edges) faces root) edges
-        (atℤ (now (capacities .entry))) (now (flows .entry)) (now (flows .exit)) (at (now (parents .exit))) r ⌝ }
+        × Searchable (dualOf (now lefts) (now lengths) (2 * edges) faces (root ∷ [])) edges (atℤ (now capacities)) ⌝ }
+    ensures { λ r. ⌜ Searched (dualOf (now (lefts .entry)) (now (lengths .entry)) (2 * edges) faces (root ∷ [])) edges (atℤ (now (capacities .entry)))
+        (now (flows .entry)) (now (flows .exit)) (at (now (parents .exit))) r ⌝ }
 {
     let mut order = [0u16; 1024];
     let mut starts = [0u16; 1024];
@@ -78,6 +79,8 @@ fn settle(
     grouping::group(lefts, 2 * edges, faces, &mut order, &mut starts, &mut ends);
     let mut potentials = [0i64; 1024];
     let mut waiting = [0u8; 1024];
+    let mut queue = [0u16; 1024];
+    queue[0] = root as u16;
     let outcome = search::search(
         lefts,
         lengths,
@@ -86,10 +89,11 @@ fn settle(
         &ends,
         2 * edges,
         faces,
-        root,
+        1,
         &mut potentials,
         &mut *parents,
         &mut waiting,
+        &mut queue,
     );
     if let Outcome::Ring(d) = outcome {
         return Outcome::Ring(d);
@@ -98,8 +102,8 @@ fn settle(
     Outcome::Settled
 }
 
-// Flags nodes whose cut of the lengths is below zero, from the ring that the parents lead round from the face y: its winding,
-// heights of the nodes, a threshold.
+// Flags nodes whose cut of the lengths is below zero, from the ring that the parents lead round from the face y: its winding, heights of the nodes, a
+// threshold.
 fn cut_of_ring(
     tails: &[u16; 1024],
     rotations: &[u16; 1024],
@@ -114,7 +118,7 @@ fn cut_of_ring(
     inside: &mut [u8; 1024],
 )
     requires { ⌜ (length (now inside) ≡ 1024) × (0 < edges)
-        × Ringed (mapOf nodes edges (now tails) (now rotations)) (dualOf (now lefts) (now lengths) (2 * edges) faces root) (at (now parents)) y ⌝ }
+        × Ringed (mapOf nodes edges (now tails) (now rotations)) (dualOf (now lefts) (now lengths) (2 * edges) faces (root ∷ [])) (at (now parents)) y ⌝ }
     ensures { λ _. ⌜ (length (now (inside .exit)) ≡ 1024)
         × (cut (mapOf nodes edges (now (tails .entry)) (now (rotations .entry))) (atℤ (now (lengths .entry))) (flagged (now (inside .exit))) <ℤ pos 0) ⌝ }
 {
@@ -128,8 +132,8 @@ fn cut_of_ring(
     thresholds::choose_set(tails, lengths, &heights, nodes, 2 * edges, inside);
 }
 
-// Decides one value from a source to a sink, with the face of the outer dart at 0: true with the highest flow written,
-// false with the nodes of a proving set flagged.
+// Decides one value from a source to a sink, with the face of the outer dart at 0: true with the highest flow written, false with the nodes of a proving set
+// flagged.
 pub fn decide<'a>(
     tails: &'a [u16; 1024],
     rotations: &'a [u16; 1024],

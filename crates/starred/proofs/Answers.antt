@@ -205,7 +205,7 @@ module _ {s : List ℕ} {𝓓 : Drawing} (good : Good s 𝓓) (source sink : ℕ
 
       go : (a : LargestAnswer) → FindsLargest s source sink flows flows' set set' a → (a ≡ None) × (flows' ≡ flows) × (set' ≡ front words set)
       go (Value v) h = absurd (excludes s (good .accepted) source sink (k .ends) v (member words) (k .proves v) (h .1 .0) (h .1 .1 .carries))
-      go None h = (refl, h .1, set-front (h .2 .1) (k .only (h .2 .0) (h .2 .1 .is-set) (h .2 .2) (h .2 .3)))
+      go None h = (refl, h .1, set-front (h .2 .1) (k .only (h .2 .0) (h .2 .1 .is-set) (h .2 .2 .0) (h .2 .2 .1)))
       go (largest.Refused j p) h = absurd (largest-answered s source sink flows flows' set set' (sought flows set (k .ends) room) j p h)
 
 -- ── Levels from settings ──

@@ -26,4 +26,5 @@ pub record Written (inside : List ℕ) (nodes : ℕ) (before after : List ℕ) :
   pub length-kept : length after ≡ length before
   pub rest-kept : drop (wordsFor nodes) after ≡ drop (wordsFor nodes) before
   pub set-of : SetOf nodes (take (wordsFor nodes) after)
+  pub words-are : (i : ℕ) → i < wordsFor nodes → getD (take (wordsFor nodes) after) i 0 ≡ setWord inside nodes i
   pub members : (v : ℕ) → v < nodes → member (take (wordsFor nodes) after) v ≡ eqb (getD inside v 0) 1

@@ -200,7 +200,7 @@ returns-4 c =
     let r = found m (c .enum-told3 .given .1) in
     let ends = two (asked (roomy m)) in
     let k = none-written (s .pre .0 .plane .sound .range) (capacityAt s) (w .write-set .ensures) (a .source) (a .sink) ends (r .1) (r .2) in
-    (none m, r .0, (take (wordsFor (a .nodes)) (set' w), set-written (w .write-set .ensures), k .0, k .1))
+    (none m, r .0, (take (wordsFor (a .nodes)) (set' w), set-written (w .write-set .ensures), k))
 
 pub largest-spec : {M : Type 1} → statement M
 largest-spec =

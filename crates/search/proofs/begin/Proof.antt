@@ -1,50 +1,61 @@
--- `search::begin` meets its contract: the elements before f are as at first; then the root's are stored.
-use mathlib.Core.Path.{_∙_, _≡_}
+-- `begin` meets its contract: the elements before f are as at first; then those of the roots before m are stored.
+use mathlib.Core.Path.{_≡_, subst}
 use Prim.Native.Nat.{ℕ, _≤_, _<_, _-_}
 use native.Mathlib.Omega.{arith}
-use lib.ListN.{length-set, length, getD}
-use lib.Seq.{getD-set-same, getD-set-other}
+use lib.ListN.{length, length-set}
 use lib.IntN.{pos}
 use borrow.Author.Needs.{needs}
-use Rattle.search.specs.inner.Progress.{far}
+use Rattle.arrays.specs.At.{at, atℤ}
+use Rattle.search.specs.Level.{far}
+use Rattle.search.specs.Moves.{Begun}
 use Rattle.search.proofs.Change.{filled-more}
+use Rattle.search.proofs.Beginning.{begun-none, begun-more}
 use Rattle.search.proofs.begin.Statement.{statement}
 use Rattle.search.proofs.begin.Tie as tie
 
 abbrev Inv-loop : tie.InvT-loop
-Inv-loop potentials₀ parents₀ waiting₀ root f₀ potentials parents waiting f =
+Inv-loop potentials₀ parents₀ waiting₀ queue roots f₀ potentials parents waiting f =
     (f ≤ 1024) × (length potentials ≡ 1024) × (length parents ≡ 1024) × (length waiting ≡ 1024)
-    × ((k : ℕ) → k < f → getD potentials k (pos 0) ≡ far) × ((k : ℕ) → k < f → getD parents k 0 ≡ 1024) × ((k : ℕ) → k < f → getD waiting k 0 ≡ 0)
+    × ((x : ℕ) → x < f → atℤ potentials x ≡ far) × ((x : ℕ) → x < f → at parents x ≡ 1024) × ((x : ℕ) → x < f → at waiting x ≡ 0)
 
 abbrev μ-loop : tie.MeasureT-loop
-μ-loop potentials₀ parents₀ waiting₀ root f₀ potentials parents waiting f =
+μ-loop potentials₀ parents₀ waiting₀ queue roots f₀ potentials parents waiting f =
     1024 - f
 
-loop-holds : tie.Need-loop-holds Inv-loop μ-loop
-loop-holds c = (omega arith, c .pre .0, c .pre .1, c .pre .2, λ k l. absurd (omega arith), λ k l. absurd (omega arith), λ k l. absurd (omega arith))
+abbrev Inv-loop2 : tie.InvT-loop2
+Inv-loop2 potentials₀ parents waiting₀ queue roots m₀ potentials waiting m =
+    Begun potentials parents waiting queue m × (m ≤ roots)
 
-mul-potentials : tie.Need-mul-potentials Inv-loop μ-loop
+abbrev μ-loop2 : tie.MeasureT-loop2
+μ-loop2 potentials₀ parents waiting₀ queue roots m₀ potentials waiting m =
+    roots - m
+
+-- ── the faces ──
+loop-holds : tie.Need-loop-holds Inv-loop μ-loop Inv-loop2 μ-loop2
+loop-holds c = (omega arith, c .pre .0, c .pre .1, c .pre .2, λ x l. absurd (omega arith), λ x l. absurd (omega arith), λ x l. absurd (omega arith))
+
+mul-potentials : tie.Need-mul-potentials Inv-loop μ-loop Inv-loop2 μ-loop2
 mul-potentials c = search needs
 
-element-set-of-potentials : tie.Need-element-set-of-potentials Inv-loop μ-loop
+element-set-of-potentials : tie.Need-element-set-of-potentials Inv-loop μ-loop Inv-loop2 μ-loop2
 element-set-of-potentials c = search needs
 
-mul-parents : tie.Need-mul-parents Inv-loop μ-loop
+mul-parents : tie.Need-mul-parents Inv-loop μ-loop Inv-loop2 μ-loop2
 mul-parents c = search needs
 
-element-write-parents : tie.Need-element-write-parents Inv-loop μ-loop
+element-write-parents : tie.Need-element-write-parents Inv-loop μ-loop Inv-loop2 μ-loop2
 element-write-parents c = search needs
 
-element-write-waiting : tie.Need-element-write-waiting Inv-loop μ-loop
+element-write-waiting : tie.Need-element-write-waiting Inv-loop μ-loop Inv-loop2 μ-loop2
 element-write-waiting c = search needs
 
-add-f : tie.Need-add-f Inv-loop μ-loop
+add-f : tie.Need-add-f Inv-loop μ-loop Inv-loop2 μ-loop2
 add-f c = search needs
 
-loop-less : tie.Need-loop-less Inv-loop μ-loop
+loop-less : tie.Need-loop-less Inv-loop μ-loop Inv-loop2 μ-loop2
 loop-less c = search needs
 
-loop-again : tie.Need-loop-again Inv-loop μ-loop
+loop-again : tie.Need-loop-again Inv-loop μ-loop Inv-loop2 μ-loop2
 loop-again c =
     let l = c .before .loop in
     let t = c .loop-test .taken in (
@@ -57,31 +68,61 @@ loop-again c =
       filled-more (l .waiting) (l .f) 0 0 (omega (arith, l .inv .3)) (l .inv .6),
     )
 
-mul-potentials-2 : tie.Need-mul-potentials-2 Inv-loop μ-loop
-mul-potentials-2 c = search needs
+-- ── the roots ──
+loop2-holds : tie.Need-loop2-holds Inv-loop μ-loop Inv-loop2 μ-loop2
+loop2-holds c =
+    let l = c .before .loop .inv in
+    let all : 1024 ≤ c .before .loop .f = omega (arith, c .loop-test .left) in (
+      begun-none (c .before .before .args .queue .now) (l .1) (l .2) (l .3)
+          (λ f h. l .4 f (omega arith)) (λ f h. l .5 f (omega arith)) (λ f h. l .6 f (omega arith)),
+      omega arith,
+    )
 
-element-set-of-potentials-2 : tie.Need-element-set-of-potentials-2 Inv-loop μ-loop
-element-set-of-potentials-2 c = search needs
+abbrev start : tie.After-wide Inv-loop μ-loop Inv-loop2 μ-loop2 → tie.Start Inv-loop μ-loop Inv-loop2 μ-loop2
+start c = c .before .before .before .before .before .before
 
-element-write-waiting-2 : tie.Need-element-write-waiting-2 Inv-loop μ-loop
-element-write-waiting-2 c = search needs
+root-in : (c : tie.After-wide Inv-loop μ-loop Inv-loop2 μ-loop2) → c .wide .result < 1024
+root-in c = omega (arith, c .wide .ensures, start c .pre .4 (c .before .before .before .loop2 .m) (c .before .before .loop2-test .taken))
 
-returns : tie.Need-returns Inv-loop μ-loop
+mul-wide : tie.Need-mul-wide Inv-loop μ-loop Inv-loop2 μ-loop2
+mul-wide c = record { fits = omega (arith, c .loop2-test .taken, c .before .before .before .before .pre .3) }
+
+element-copy-out-wide : tie.Need-element-copy-out-wide Inv-loop μ-loop Inv-loop2 μ-loop2
+element-copy-out-wide c = omega (arith, c .loop2-test .taken, c .before .before .before .before .pre .3)
+
+wide-requires : tie.Need-wide-requires Inv-loop μ-loop Inv-loop2 μ-loop2
+wide-requires c κs = search needs
+
+mul-potentials-2 : tie.Need-mul-potentials-2 Inv-loop μ-loop Inv-loop2 μ-loop2
+mul-potentials-2 c = record { fits = omega (arith, root-in c) }
+
+element-set-of-potentials-2 :
+    tie.Need-element-set-of-potentials-2 Inv-loop μ-loop Inv-loop2 μ-loop2
+element-set-of-potentials-2 c = omega (arith, root-in c)
+
+element-write-waiting-2 : tie.Need-element-write-waiting-2 Inv-loop μ-loop Inv-loop2 μ-loop2
+element-write-waiting-2 c = omega (arith, root-in c)
+
+add-m : tie.Need-add-m Inv-loop μ-loop Inv-loop2 μ-loop2
+add-m c = record { fits = omega (arith, c .before .before .loop2-test .taken, start c .pre .3) }
+
+loop2-less : tie.Need-loop2-less Inv-loop μ-loop Inv-loop2 μ-loop2
+loop2-less c = omega (arith, c .before .before .loop2-test .taken)
+
+loop2-again : tie.Need-loop2-again Inv-loop μ-loop Inv-loop2 μ-loop2
+loop2-again c = (
+  begun-more (start c .args .queue .now) (c .wide .result) (c .wide .ensures) (root-in c) (c .before .before .before .loop2 .inv .0),
+  omega (arith, c .before .before .loop2-test .taken),
+)
+
+all : (c : tie.After-loop2 Inv-loop μ-loop Inv-loop2 μ-loop2) → c .before .loop2 .m ≡ c .before .before .before .before .args .roots
+all c = omega (arith, c .loop2-test .left, c .before .loop2 .inv .1)
+
+returns : tie.Need-returns Inv-loop μ-loop Inv-loop2 μ-loop2
 returns c =
-    let l = c .before .loop in
-    let a = c .before .before .args in
-    let r = c .before .before .pre .3 in
-    let t = c .loop-test .left in
-    record {
-      size-ρ = simp length-set (l .inv .1);
-      size-parents = l .inv .2;
-      size-waiting = simp length-set (l .inv .3);
-      zero = getD-set-same (l .potentials) (a .root) (pos 0) (pos 0) (omega (arith, l .inv .1));
-      others = λ f b n. getD-set-other (l .potentials) (a .root) f (pos 0) (pos 0) n ∙ l .inv .4 f (omega arith);
-      none = λ f b. l .inv .5 f (omega arith);
-      waits = getD-set-same (l .waiting) (a .root) 1 0 (omega (arith, l .inv .3));
-      rests = λ f b n. getD-set-other (l .waiting) (a .root) f 1 0 n ∙ l .inv .6 f (omega arith);
-    }
+    let l = c .before .loop2 in
+    let s = c .before .before .before .before in
+    subst (Begun (l .potentials) (c .before .before .before .loop .parents) (l .waiting) (s .args .queue .now)) (all c) (l .inv .0)
 
 pub begin-spec : {M : Type 1} → statement M
 begin-spec =
@@ -89,6 +130,8 @@ begin-spec =
     (tie.spec
     Inv-loop
     μ-loop
+    Inv-loop2
+    μ-loop2
     loop-holds
     mul-potentials
     element-set-of-potentials
@@ -98,7 +141,14 @@ begin-spec =
     add-f
     loop-less
     loop-again
+    loop2-holds
+    mul-wide
+    element-copy-out-wide
+    wide-requires
     mul-potentials-2
     element-set-of-potentials-2
     element-write-waiting-2
+    add-m
+    loop2-less
+    loop2-again
     returns)

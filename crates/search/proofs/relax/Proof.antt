@@ -44,7 +44,7 @@ plus-wide-requires c κs =
       toZ-ofZ w64 (atℤ (a .potentials .now) (a .i)) (record { sfits = c .before .plus-wide-arg .given }),
       toZ-ofZ w32 (atℤ (a .lengths .now) (a .d)) (record { sfits = c .plus-wide-arg2 .given }),
     )
-    (record { sfits = omega (arith, mag-add (atℤ (a .potentials .now) (a .i)) (atℤ (a .lengths .now) (a .d)), c .before .before .before .before .pre .6) })
+    (record { sfits = omega (arith, mag-add (atℤ (a .potentials .now) (a .i)) (atℤ (a .lengths .now) (a .d)), c .before .before .before .before .pre .5) })
 
 abbrev Place : Type 0
 Place = lts.After-if12 (wide-reads.Asked, wide-reads.Learnt, plus-wide-reads.Asked, plus-wide-reads.Learnt) reads.Pre reads.Post
@@ -66,8 +66,7 @@ old : (c : Place) → ℤ
 old c = let a = c .before .before .before .before .before .before .args in atℤ (a .potentials .now) (at (a .lefts .now) (a .d))
 
 old-is : (c : Place)
-    → toZ w64 (ofZ w64 (atℤ (c .before .before .before .before .before .before .args .potentials .now) (c .before .before .before .before .wide .result)))
-    ≡ old c
+    → let w = c .before .before .before .before in toZ w64 (ofZ w64 (atℤ (w .before .before .args .potentials .now) (w .wide .result))) ≡ old c
 unfolding old
 old-is c =
     let p = c .before .before .before .before .before .before .args .potentials .now in
@@ -95,9 +94,6 @@ mul-parents c = search needs
 element-write-parents : tie.Need-element-write-parents
 element-write-parents c = search needs
 
-element-write-waiting : tie.Need-element-write-waiting
-element-write-waiting c = search needs
-
 returns : tie.Need-returns
 unfolding new old
 returns c =
@@ -105,13 +101,12 @@ returns c =
     let w = c .before .before .before .before .before .wide .ensures in (
       ap₂ (set (a .potentials .now)) w (new-is (c .before)),
       ap (λ f. set (a .parents .now) f (a .d)) w,
-      ap (λ f. set (a .waiting .now) f 1) w,
       test-yes _ _ _ _ (new-is (c .before)) (old-is (c .before)) (c .if1 .taken),
     )
 
 returns-2 : tie.Need-returns-2
 unfolding new old
-returns-2 c = (refl, refl, refl, test-no _ _ _ _ (new-is (c .before)) (old-is (c .before)) (c .if1 .left))
+returns-2 c = (refl, refl, test-no _ _ _ _ (new-is (c .before)) (old-is (c .before)) (c .if1 .left))
 
 pub relax-spec : {M : Type 1} → statement M
 relax-spec =
@@ -132,6 +127,5 @@ relax-spec =
     cast-parents
     mul-parents
     element-write-parents
-    element-write-waiting
     returns
     returns-2)

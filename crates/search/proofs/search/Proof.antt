@@ -1,218 +1,292 @@
--- `search::search` meets its contract. In a round: what is passed; between rounds: that nothing is. The rounds end because k goes up to the number of
--- faces at most: a face that waits in the last round is above a ring, so that round takes up no face.
+-- `search` meets its contract. Both loops keep that the search has come this far from where they began (`Goes`): what is true between looks, and the answer,
+-- follow from that. The rounds end because there are as many as faces at most: a face that waits in the last one is above a ring.
 use mathlib.Core.Logic.{⊎-elim}
-use mathlib.Core.Path.{_≡_}
-use Prim.Native.Nat.{suc, _-_, _<_}
+use mathlib.Core.Path.{_≡_, refl}
+use mathlib.Core.List.{List}
+use Prim.Native.Nat.{ℕ, suc, _-_, _<_}
 use native.Mathlib.Omega.{arith}
-use borrow.Author.Tests.{not-true, not-false}
+use lib.ListN.{take}
 use borrow.Author.Needs.{needs}
-use Rattle.search.specs.inner.Dual.{dualOf}
-use Rattle.search.specs.inner.Walk.{Ring}
-use Rattle.search.specs.inner.Parents.{ParentRing}
 use Rattle.arrays.specs.At.{at}
-use Rattle.search.specs.inner.Progress.{Passing}
-use Rattle.search.proofs.Loops.{
-  Scanning,
-  begin-rounds,
-  begin-scan,
-  next-round,
-  pass-by,
-  taken-up,
-  end-settled,
-  last-deep,
-  end-ring,
-  closing-dart,
-  same-scanning,
-}
+use Rattle.arrays.specs.Maps.{rightOf}
+use Rattle.search.specs.inner.Answer.{Answer}
+use Rattle.search.specs.Moves.{Climb}
+use Rattle.search.specs.Given.{Given, given, dual}
+use Rattle.search.specs.Configuration.{tablesOf, Configuration, configuration, front}
+use Rattle.search.specs.Due.{due, Unringed}
+use Rattle.search.specs.Trace.{turn, Goes, stay, Ends, Searches}
+use Rattle.search.specs.declared.Outcome.{Outcome}
+use Rattle.search.specs.declared.Outcome.the-variants as outcome
+use Rattle.search.specs.declared.Climbed.the-variants as climbed
+use Rattle.search.proofs.Rounds.{few-lowerings, last-low, first-in, ring-in}
+use Rattle.search.proofs.Beginning.{root-face, begun-passing}
+use Rattle.search.proofs.Run.{PassingAt, not-last, goes-passing, none-found, none-sought, one-found, ring-ends, looks, goes-then, goes-on}
+use Rattle.search.proofs.Ending.{answered}
 use Rattle.search.proofs.search.Statement.{statement}
 use Rattle.search.proofs.search.Tie as tie
 
 abbrev Inv-loop : tie.InvT-loop
-Inv-loop lefts lengths order starts ends darts faces root potentials₀ parents₀ waiting₀ count₀ next₀ k any₀ a₀ potentials parents waiting count next any a =
-    Scanning (dualOf lefts lengths darts faces root) potentials parents waiting count k a any
+Inv-loop lefts lengths order starts ends darts faces roots potentials₀ parents₀ waiting₀ queue₀ lowerings₀ next₀ round first₀ last₀
+    stop potentials parents waiting queue lowerings next first last =
+    Goes (given lefts lengths order starts ends darts faces)
+    (configuration (tablesOf potentials₀ parents₀ waiting₀ queue₀ lowerings₀ last₀) first₀ stop round next₀)
+    (configuration (tablesOf potentials parents waiting queue lowerings last) first stop round next)
 
 abbrev μ-loop : tie.MeasureT-loop
-μ-loop lefts lengths order starts ends darts faces root potentials₀ parents₀ waiting₀ count₀ next₀ k any₀ a₀ potentials parents waiting count next any a =
-    faces - a
+μ-loop lefts lengths order starts ends darts faces roots potentials₀ parents₀ waiting₀ queue₀ lowerings₀ next₀ round first₀ last₀
+    stop potentials parents waiting queue lowerings next first last =
+    stop - first
 
 abbrev Inv-search : tie.InvT-search
-Inv-search lefts lengths order starts ends darts faces root potentials₀ parents₀ waiting₀ count₀ next₀ k₀ potentials parents waiting count next k =
-    Passing (dualOf lefts lengths darts faces root) potentials parents waiting count k 0
+Inv-search lefts lengths order starts ends darts faces roots potentials₀ parents₀ waiting₀ queue₀ lowerings₀ next₀ round₀ first₀ last₀
+    potentials parents waiting queue lowerings next round first last =
+    Goes (given lefts lengths order starts ends darts faces)
+    (configuration (tablesOf potentials₀ parents₀ waiting₀ queue₀ lowerings₀ last₀) first₀ last₀ round₀ next₀)
+    (configuration (tablesOf potentials parents waiting queue lowerings last) first last round next)
 
 abbrev μ-search : tie.MeasureT-search
-μ-search lefts lengths order starts ends darts faces root potentials₀ parents₀ waiting₀ count₀ next₀ k₀ potentials parents waiting count next k =
-    suc faces - k
+μ-search lefts lengths order starts ends darts faces roots potentials₀ parents₀ waiting₀ queue₀ lowerings₀ next₀ round₀ first₀ last₀
+    potentials parents waiting queue lowerings next round first last =
+    suc faces - round
 
--- where the steps up end, they lead round
-on-ring : (c : tie.After-known-told Inv-loop μ-loop Inv-search μ-search)
-    → let N =
-    dualOf
-    (let b = c .before .before .before .before .before .before .before .before .before in
-    b .before .before .before .before .before .before .before .before .args .lefts .now)
-    (let b = c .before .before .before .before .before .before .before .before .before in
-    b .before .before .before .before .before .before .before .before .args .lengths .now)
-    (c .before .before .before .before .before .before .before .before .before .before .before .before .before .before .before .before .before .args .darts)
-    (c .before .before .before .before .before .before .before .before .before .before .before .before .before .before .before .before .before .args .faces)
-    (c .before .before .before .before .before .before .before .before .before .before .before .before .before .before .before .before .before .args .root) in
-    (c .before .y .given .0 .0 < N .faces)
-    × ParentRing N (at (c .before .before .before .before .before .before .before .before .before .before .before .loop .parents))
-    (c .before .y .given .0 .0)
-    × Ring N (c .before .y .given .0 .0)
-on-ring c =
-    let g = c .before .y .given in
-    let r = rw (g .1) at (c .before .before .before .climb .ensures) in
-    end-ring (c .before .before .before .before .before .before .before .before .before .before .before .before .before .before .before .before .before .pre .0)
-    (c .before .before .before .before .before .before .before .before .before .face-at .result) (g .0 .0)
-    (c .before .before .before .before .before .before .before .before .before .before .before .loop .inv .passing)
-    (c .before .before .before .before .before .before .before .before .before .face-at .ensures .1) (r .0) (r .1)
+-- ── what is given, and how the search stands ──
+abbrev Start : Type 0
+Start = tie.Start Inv-loop μ-loop Inv-search μ-search
+
+abbrev givenAt : Start → Given
+givenAt s =
+    given (s .args .lefts .now) (s .args .lengths .now) (s .args .order .now) (s .args .starts .now) (s .args .ends .now) (s .args .darts) (s .args .faces)
+
+abbrev rootsAt : Start → List ℕ
+rootsAt s = take (s .args .roots) (s .args .queue .now)
 
 begin-requires : tie.Need-begin-requires Inv-loop μ-loop Inv-search μ-search
-begin-requires c κs = let p = c .before .before .before .pre in (p .3, p .4, p .5, omega (arith, p .0 .root-in, p .0 .few-faces))
+begin-requires c κs =
+    let s = c .before .before .before .before in
+    let p = s .pre in
+    (p .3, p .4, p .5, p .7, λ m l. omega (arith, root-face (givenAt s) (s .args .queue .now) (s .args .roots) (p .6) (p .7) (p .0) m l, p .0 .few-faces))
 
 search-holds : tie.Need-search-holds Inv-loop μ-loop Inv-search μ-search
-search-holds c = begin-rounds (c .before .before .before .before .pre .0) (c .begin .ensures)
+search-holds c = stay
+
+-- ── at the beginning of a round ──
+abbrev At-search : Type 0
+At-search = tie.At-search Inv-loop μ-loop Inv-search μ-search
+
+abbrev base : At-search → Start
+base c = c .before .before .before .before .before .before
+
+abbrev roundAt : At-search → Configuration
+roundAt c =
+    configuration (tablesOf (c .search .potentials) (c .search .parents) (c .search .waiting) (c .search .queue) (c .search .lowerings) (c .search .last))
+    (c .search .first) (c .search .last) (c .search .round) (c .search .next)
+
+round-passing : (c : At-search) → PassingAt (dual (givenAt (base c)) (rootsAt (base c))) (roundAt c)
+round-passing c =
+    let s = base c in
+    let p = s .pre in
+    goes-passing (givenAt s) (rootsAt s) (p .0) (p .2)
+    (begun-passing (givenAt s) (s .args .queue .now) (s .args .roots) (p .6) (p .7) (p .0) (p .1) (c .before .begin .ensures)) (c .search .inv)
 
 loop-holds : tie.Need-loop-holds Inv-loop μ-loop Inv-search μ-search
-loop-holds c = begin-scan (c .before .before .before .before .before .pre .0) (c .search .inv)
+loop-holds c = stay
 
-face-at-requires : tie.Need-face-at-requires Inv-loop μ-loop Inv-search μ-search
-face-at-requires c κs = c .loop-test .taken
+-- ── between looks ──
+abbrev At-loop : Type 0
+At-loop = tie.At-loop Inv-loop μ-loop Inv-search μ-search
 
-element-copy-out-if1 : tie.Need-element-copy-out-if1 Inv-loop μ-loop Inv-search μ-search
-element-copy-out-if1 c = omega (arith, c .face-at .ensures .1, c .before .before .before .before .before .before .before .before .pre .0 .few-faces)
+abbrev begun : At-loop → Start
+begun c = base (c .before)
 
-due-requires : tie.Need-due-requires Inv-loop μ-loop Inv-search μ-search
-due-requires c κs = search needs
+abbrev now : At-loop → Configuration
+now c =
+    configuration (tablesOf (c .loop .potentials) (c .loop .parents) (c .loop .waiting) (c .loop .queue) (c .loop .lowerings) (c .loop .last))
+    (c .loop .first) (c .before .search .last) (c .before .search .round) (c .loop .next)
 
-add-next : tie.Need-add-next Inv-loop μ-loop Inv-search μ-search
-add-next c =
-    record {
-      fits =
-          omega (
-            arith,
-            c .before .before .before .before .before .before .loop .inv .passing .lowerings,
-            c .before .before .before .before .before .before .loop .inv .passing .k-in,
-            c .before .before .before .before .before .before .loop .inv .passing .a-in,
-            c .before .before .before .before .before .before .before .before .before .before .before .before .pre .0 .few-faces,
-          );
-    }
-
-climb-requires : tie.Need-climb-requires Inv-loop μ-loop Inv-search μ-search
-climb-requires c κs =
-    let p = c .before .before .before .before .before .before .before .before .before .before .before .before .before .pre .0 in
-    (p .few-darts, p .few-faces, c .before .before .before .before .before .face-at .ensures .1, p .right-in)
-
-enum-known-y : tie.Need-enum-known-y Inv-loop μ-loop Inv-search μ-search
-enum-known-y c = search needs
+passing : (c : At-loop) → PassingAt (dual (givenAt (begun c)) (rootsAt (begun c))) (now c)
+passing c = let s = begun c in goes-passing (givenAt s) (rootsAt s) (s .pre .0) (s .pre .2) (round-passing (c .before)) (c .loop .inv)
 
 mul-wide : tie.Need-mul-wide Inv-loop μ-loop Inv-search μ-search
-mul-wide c =
-    omega (
-      arith,
-      on-ring c .0,
-      (let b = c .before .before .before .before .before .before .before .before .before in
-          b .before .before .before .before .before .before .before .before .pre .0 .few-faces),
-    )
+mul-wide c = search needs
 
 element-copy-out-wide : tie.Need-element-copy-out-wide Inv-loop μ-loop Inv-search μ-search
-element-copy-out-wide c =
-    omega (
-      arith,
-      on-ring c .0,
-      (let b = c .before .before .before .before .before .before .before .before .before in
-          b .before .before .before .before .before .before .before .before .pre .0 .few-faces),
-    )
+element-copy-out-wide c = search needs
 
 wide-requires : tie.Need-wide-requires Inv-loop μ-loop Inv-search μ-search
 wide-requires c κs = search needs
 
+due-requires : tie.Need-due-requires Inv-loop μ-loop Inv-search μ-search
+due-requires c κs = search needs
+
+-- ── the face to be looked at ──
+abbrev After-due : Type 0
+After-due = tie.After-due Inv-loop μ-loop Inv-search μ-search
+
+abbrev looping : After-due → At-loop
+looping c = c .before .before .before .before
+
+some : (c : After-due) → now (looping c) .first < now (looping c) .stop
+some c = c .before .before .before .loop-test .taken
+
+face-in : (c : After-due) → c .before .wide .result < begun (looping c) .args .faces
+face-in c = omega (arith, c .before .wide .ensures, first-in (begun (looping c) .pre .0) (passing (looping c)) (some c))
+
+add-next : tie.Need-add-next Inv-loop μ-loop Inv-search μ-search
+add-next c =
+    let l = looping (c .before) in
+    record { fits = omega (arith, few-lowerings (begun l .pre .0) (passing l), begun l .pre .0 .few-faces) }
+
+climb-requires : tie.Need-climb-requires Inv-loop μ-loop Inv-search μ-search
+climb-requires c κs = let d = c .before .before in let p = begun (looping d) .pre .0 in (p .few-darts, p .few-faces, face-in d, p .right-in)
+
+enum-known-y : tie.Need-enum-known-y Inv-loop μ-loop Inv-search μ-search
+enum-known-y c = search needs
+
+-- ── there is a ring above it ──
+abbrev Ringed : Type 0
+Ringed = tie.After-known-told Inv-loop μ-loop Inv-search μ-search
+
+abbrev asked : Ringed → After-due
+asked c = c .before .before .before .before .before .before
+
+abbrev top : Ringed → ℕ
+top c = c .before .y .given .0 .0
+
+above : (c : Ringed) → let l = looping (asked c) in
+    Climb (rightOf (givenAt (begun l) .lefts)) (givenAt (begun l) .darts) (givenAt (begun l) .faces) (now l .tables .parents) (front (now l))
+    (climbed.At (top c))
+above c =
+    let a = asked c in
+    let l = looping a in
+    let k = c .before .before .before .climb in
+    one-found (givenAt (begun l)) (now l) (a .due .result) (a .due .ensures) (a .before .wide .result) (a .before .wide .ensures)
+    (top c) (k .result) (c .before .y .given .1) (k .ensures)
+
+top-in : (c : Ringed) → top c < begun (looping (asked c)) .args .faces
+top-in c =
+    let l = looping (asked c) in
+    ring-in (begun l .pre .0) (passing l) (some (asked c)) (top c) (above c .0) (above c .1)
+
+ended : (c : Ringed) (d : ℕ) → d ≡ at (now (looping (asked c)) .tables .parents) (top c)
+    → Ends (givenAt (begun (looping (asked c)))) (now (looping (asked c))) (outcome.Ring d)
+ended c d e =
+    let a = asked c in
+    let l = looping a in
+    ring-ends (givenAt (begun l)) (now l) (a .due .result) (a .due .ensures) (a .before .wide .result) (a .before .wide .ensures)
+    (c .before .before .before .before .before .if1 .taken) (some a) (top c) (above c) d e
+
+mul-wide-2 : tie.Need-mul-wide-2 Inv-loop μ-loop Inv-search μ-search
+mul-wide-2 c = record { fits = omega (arith, top-in c, begun (looping (asked c)) .pre .0 .few-faces) }
+
+element-copy-out-wide-2 : tie.Need-element-copy-out-wide-2 Inv-loop μ-loop Inv-search μ-search
+element-copy-out-wide-2 c = omega (arith, top-in c, begun (looping (asked c)) .pre .0 .few-faces)
+
+wide-requires-2 : tie.Need-wide-requires-2 Inv-loop μ-loop Inv-search μ-search
+wide-requires-2 c κs = search needs
+
 enum-told : tie.Need-enum-told Inv-loop μ-loop Inv-search μ-search
 enum-told c = search needs
 
-take-up-requires : tie.Need-take-up-requires Inv-loop μ-loop Inv-search μ-search
-take-up-requires c κs =
-    let p = c .before .before .before .before .before .before .before .before .before .before .before .before .before .before .before .pre in
-    let r = c .before .before .before .before .before .before .before .before .before .loop .inv .passing in
-    let i = c .before .before .before .before .before .before .before .face-at in
-    let w = c .before .before .before .before .before .if1 .taken in
-    let not-last : c .before .before .before .before .before .before .before .before .before .before .search .k
-    ≡ c .before .before .before .before .before .before .before .before .before .before .before .before .before .before .before .args .faces
-    → ⊥ =
-    ⊎-elim
-    (λ u e. let z = rw (u .4 .given .1) at (u .2 .ensures) in omega (arith, last-deep (p .0) (i .result) r e (i .ensures .1) w (z .0) (z .1), z .2))
-    (λ u e. c .before .before .before .before .due .ensures (u .0 .left) e)
-    (c .before .before .before .if2 .came) in
-    (p .0, p .2, r, omega (arith, not-last, r .k-in), c .before .before .before .before .before .before .before .before .loop-test .taken, i .ensures .0, w)
+-- ── there is none, or it was not looked for ──
+abbrev Joined : Type 0
+Joined = tie.Joined1 Inv-loop μ-loop Inv-search μ-search
 
-add-a : tie.Need-add-a Inv-loop μ-loop Inv-search μ-search
-add-a c =
-    record {
-      fits =
-          omega (
-            arith,
-            c .before .before .before .loop-test .taken,
-            c .before .before .before .before .before .before .before .before .before .before .pre .0 .few-faces,
-          );
-    }
+unringed : (c : Joined) → let l = looping (c .before) in Unringed (givenAt (begun l)) (now l) (c .if1 .next) (due (givenAt (begun l)) (now l))
+unringed c =
+    let a = c .before in
+    let l = looping a in
+    ⊎-elim
+    (λ u. none-found (givenAt (begun l)) (now l) (a .due .result) (a .due .ensures) (a .before .wide .result) (a .before .wide .ensures)
+    (c .if1 .next) (u .0 .taken) (u .2 .result) (u .4 .given .1) (u .2 .ensures) (u .5))
+    (λ u. none-sought (givenAt (begun l)) (now l) (a .due .result) (a .due .ensures) (a .before .wide .result) (a .before .wide .ensures)
+    (c .if1 .next) (u .0 .left) (u .1))
+    (c .if1 .came)
+
+look-requires : tie.Need-look-requires Inv-loop μ-loop Inv-search μ-search
+look-requires c κs =
+    let j = c .before .before .before .before in
+    let l = looping (j .before) in
+    let s = begun l in (
+      record { roots = rootsAt s; sound = s .pre .0; passing = passing l },
+      s .pre .2,
+      not-last (givenAt s) (rootsAt s) (s .pre .0) (s .pre .2) (now l) (j .if1 .next) (passing l) (some (j .before)) (unringed j),
+      some (j .before),
+      j .before .before .wide .ensures,
+    )
+
+-- ── it was looked at ──
+abbrev After-look : Type 0
+After-look = tie.After-look Inv-loop μ-loop Inv-search μ-search
+
+abbrev joined : After-look → Joined
+joined c = c .before .before .before .before .before
+
+add-first : tie.Need-add-first Inv-loop μ-loop Inv-search μ-search
+add-first c =
+    let a = joined c .before in
+    let l = looping a in
+    record { fits = omega (arith, some a, passing l .after, last-low (begun l .pre .0) (passing l)) }
 
 loop-less : tie.Need-loop-less Inv-loop μ-loop Inv-search μ-search
-loop-less c = omega (arith, c .before .before .before .loop-test .taken)
+loop-less c = omega (arith, some (joined c .before))
 
 loop-again : tie.Need-loop-again Inv-loop μ-loop Inv-search μ-search
 loop-again c =
-    let p = c .before .before .before .before .before .before .before .before .before .before .pre in
-    let r = c .before .before .before .before .loop .inv in
-    let i = c .before .before .face-at in
-    ⊎-elim
-    (λ u.
-    let not-last : c .before .before .before .before .before .search .k
-    ≡ c .before .before .before .before .before .before .before .before .before .before .args .faces
-    → ⊥ =
-    ⊎-elim
-    (λ v e. let z =
-    rw (v .4 .given .1) at (v .2 .ensures) in omega (arith, last-deep (p .0) (i .result) (r .passing) e (i .ensures .1) (u .0 .taken) (z .0) (z .1), z .2))
-    (λ v e. u .1 .ensures (v .0 .left) e)
-    (u .2 .came) in
-    same-scanning (p .0) (u .7) (u .8) (u .9) (u .10) (u .12)
-    (taken-up (p .0) (c .before .before .before .before .loop .a) (u .6 .ensures) (omega (arith, not-last, r .passing .k-in))))
-    (λ u. same-scanning (p .0) (u .1) (u .2) (u .3) (u .4) (u .6)
-    (pass-by (p .0) (i .result) r (c .before .before .before .loop-test .taken) (i .ensures .0) (u .0 .left)))
-    (c .if1 .came)
+    let j = joined c in
+    let a = j .before in
+    let l = looping a in
+    goes-on (l .loop .inv)
+    (looks (givenAt (begun l)) (now l) (a .due .result) (a .due .ensures) (a .before .wide .result) (a .before .wide .ensures)
+    (j .if1 .next) _ (some a) (unringed j) (c .look .ensures))
 
-earlier-requires : tie.Need-earlier-requires Inv-loop μ-loop Inv-search μ-search
-earlier-requires c κs = search needs
+-- ── the end of a round: none waits, or another begins ──
+settled : (c : tie.Then2 Inv-loop μ-loop Inv-search μ-search)
+    → let l = c .before .before in Ends (givenAt (begun l)) (now l) outcome.Settled
+settled c = (c .before .loop-test .left, c .if2 .taken)
 
-add-k : tie.Need-add-k Inv-loop μ-loop Inv-search μ-search
-add-k c =
-    record {
-      fits =
-          omega (
-            arith,
-            c .before .before .before .loop .inv .passing .k-in,
-            c .before .before .before .before .before .before .before .before .before .pre .0 .few-faces,
-          );
-    }
+add-round : tie.Need-add-round Inv-loop μ-loop Inv-search μ-search
+add-round c = let l = c .before .before in record { fits = omega (arith, passing l .k-in, begun l .pre .0 .few-faces) }
 
 search-less : tie.Need-search-less Inv-loop μ-loop Inv-search μ-search
-search-less c = omega (arith, c .before .before .before .loop .inv .passing .k-in)
+search-less c = omega (arith, passing (c .before .before) .k-in)
 
 search-again : tie.Need-search-again Inv-loop μ-loop Inv-search μ-search
 search-again c =
-    next-round (c .before .before .before .before .before .before .before .before .before .pre .0) (c .before .before .before .loop .inv)
-    (c .before .before .loop-test .left) (not-false (c .before .before .before .loop .any) (c .before .if3 .left))
+    let l = c .before .before in
+    goes-then (l .before .search .inv) (goes-on (l .loop .inv) (turn (c .before .loop-test .left) (c .if2 .left)))
+
+-- ── the ways out ──
+searches : (c : At-loop) (o : Outcome) → Ends (givenAt (begun c)) (now c) o
+    → Searches (givenAt (begun c)) (begun c .args .queue .now) (begun c .args .roots) (now c .tables .potentials) (now c .tables .parents) o
+searches c o e = record {
+  first-potentials = _;
+  first-parents = _;
+  first-waiting = _;
+  begun = c .before .before .begin .ensures;
+  end = now c;
+  run = goes-then (c .before .search .inv) (c .loop .inv);
+  ended = e;
+  potentials-are = refl;
+  parents-are = refl;
+}
+
+answer : (c : At-loop) (o : Outcome) → Ends (givenAt (begun c)) (now c) o
+    → Answer (dual (givenAt (begun c)) (rootsAt (begun c))) (now c .tables .potentials) (now c .tables .parents) o
+answer c o e =
+    let s = begun c in
+    answered (givenAt s) (s .args .queue .now) (s .args .roots) (s .pre .6) (s .pre .7) (s .pre .0) (s .pre .1) (s .pre .2) (searches c o e)
 
 returns : tie.Need-returns Inv-loop μ-loop Inv-search μ-search
 returns c =
     let k = c .before .before in
-    closing-dart
-    (k .before .before .before .before .before .before .before .before .before .before .before .before .before .before .before .before .before .pre .0)
-    (k .before .before .before .before .before .before .before .before .before .before .before .loop .parents) (c .wide .ensures) (on-ring k)
+    let l = looping (asked k) in
+    let e = ended k (c .wide2 .result) (c .wide2 .ensures) in
+    (answer l (outcome.Ring (c .wide2 .result)) e, searches l (outcome.Ring (c .wide2 .result)) e)
 
 returns-2 : tie.Need-returns-2 Inv-loop μ-loop Inv-search μ-search
 returns-2 c =
-    end-settled (c .before .before .before .before .before .before .before .before .pre .0)
-    (c .before .before .before .before .before .before .before .before .pre .1) (c .before .before .loop .inv)
-    (c .before .loop-test .left) (not-true (c .before .before .loop .any) (c .if3 .taken))
+    let l = c .before .before in
+    (answer l outcome.Settled (settled c), searches l outcome.Settled (settled c))
 
 pub search-spec : {M : Type 1} → statement M
 search-spec =
@@ -225,22 +299,22 @@ search-spec =
     begin-requires
     search-holds
     loop-holds
-    face-at-requires
-    element-copy-out-if1
+    mul-wide
+    element-copy-out-wide
+    wide-requires
     due-requires
     add-next
     climb-requires
     enum-known-y
-    mul-wide
-    element-copy-out-wide
-    wide-requires
+    mul-wide-2
+    element-copy-out-wide-2
+    wide-requires-2
     enum-told
-    take-up-requires
-    add-a
+    look-requires
+    add-first
     loop-less
     loop-again
-    earlier-requires
-    add-k
+    add-round
     search-less
     search-again
     returns

@@ -3,7 +3,7 @@ use mathlib.Core.Path.{_≡_}
 use Prim.Native.Nat.{ℕ, _<_}
 use Rattle.maps.specs.Map.{Map, darts}
 use Rattle.maps.specs.Face.{faces, left, right}
-use Rattle.search.specs.inner.Dual.{Dual}
+use Rattle.search.specs.Dual.{Dual}
 
 -- it has the darts and the faces of the map
 pub record OfMap (N : Dual) (𝓜 : Map) : Type 0 where

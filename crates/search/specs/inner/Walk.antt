@@ -1,14 +1,14 @@
--- Walks over faces, from the root and round in a ring. Document 01, "The highest answer": "a ring of faces whose lengths add to less than zero".
+-- Walks over faces, from a root and round in a ring. Document 01, "The highest answer": "a ring of faces whose lengths add to less than zero".
 use mathlib.Core.Path.{_≡_}
 use mathlib.Core.List.{List, [], _∷_}
 use Prim.Native.Nat.{ℕ, _<_}
 use lib.IntN.{ℤ, pos, _+ℤ_}
 use lib.Signed.{_<ℤ_}
-use Rattle.search.specs.inner.Dual.{Dual}
+use Rattle.search.specs.Dual.{Dual}
 
--- z is the total length of a walk over faces from the root to f
+-- z is the total length of a walk over faces from a root to f
 pub data Walk (N : Dual) : ℕ → ℤ → Type 0 where
-  here : Walk N (N .root) (pos 0)
+  here : {f : ℕ} (m : ℕ) → m < N .roots → N .root m ≡ f → Walk N f (pos 0)
   onward : {f : ℕ} {z w : ℤ} (d : ℕ) → d < N .darts → N .left d ≡ f → w ≡ z +ℤ N .length d → Walk N (N .right d) z → Walk N f w
 
 -- crossing the darts of a list in turn leads from f to g: in the direction of `FaceWalk`

@@ -1,4 +1,4 @@
--- The groups, the search's answer, and where it is settled the flows: what `fill_flows` requires is `flowing`.
+-- The groups, the search's answer, and where it is settled the flows: what `fill_flows` requires is `flowing`. The one root stands in the queue.
 use mathlib.Core.Path.{refl}
 use native.Mathlib.Omega.{arith}
 use borrow.Author.Needs.{needs}
@@ -15,21 +15,35 @@ group-requires c κs =
     let p = c .before .before .before .pre in
     (omega (arith, p .1), p .3 .sound .few-faces, p .3 .sound .right-in, refl, refl, refl, same-everywhere 1024 0)
 
+-- ── the darts are in groups ──
+abbrev base : tie.After-group → tie.Start
+base c = c .before .before .before .before
+
+cast-queue : tie.Need-cast-queue
+cast-queue c = let p = base c .pre .3 in omega (arith, p .sound .root-in 0 (omega arith), p .sound .few-faces)
+
+array-write-queue : tie.Need-array-write-queue
+array-write-queue c = search needs
+
 mul-search : tie.Need-mul-search
-mul-search c = omega (arith, c .before .before .before .before .before .before .before .pre .1)
+mul-search c = omega (arith, base (c .before .before .before) .pre .1)
 
 search-requires : tie.Need-search-requires
 search-requires c κs =
-    let g = c .before .before .before .before .before .before in
-    let p = g .before .before .before .before .pre in
-    (p .3 .sound, p .3 .joined, g .group .ensures .3, refl, p .0, refl)
+    let g = c .before .before .before .before .before .before .before in
+    let p = base g .pre in
+    (p .3 .sound, p .3 .joined, g .group .ensures .3, refl, p .0, refl, refl, omega arith)
+
+-- ── the search has answered ──
+abbrev grouped : tie.After-search → tie.After-group
+grouped c = c .before .before .before .before .before .before .before .before
 
 enum-known-outcome : tie.Need-enum-known-outcome
 enum-known-outcome c = search needs
 
 returns : tie.Need-returns
 returns c =
-    let a = rw (c .before .outcome .given .1) at (c .before .before .before .search .ensures) in
+    let a = rw (c .before .outcome .given .1) at (c .before .before .before .search .ensures .0) in
     ring-kept _ (a .0) (a .2)
 
 enum-told : tie.Need-enum-told
@@ -39,8 +53,8 @@ fill-flows-requires : tie.Need-fill-flows-requires
 fill-flows-requires c κs =
     let t = c .before .before in
     let s = t .before .before in
-    let p = s .before .before .before .before .before .before .before .before .before .before .before .pre in
-    (p .1, p .2, flowing (p .3) _ (rw (t .enum-told .given .1) at (s .search .ensures)))
+    let p = base (grouped s) .pre in
+    (p .1, p .2, flowing (p .3) _ (rw (t .enum-told .given .1) at (s .search .ensures .0)))
 
 same-length : tie.Need-same-length
 same-length c = search needs
@@ -48,7 +62,7 @@ same-length c = search needs
 returns-2 : tie.Need-returns-2
 returns-2 c =
     let t = c .before .before .before .before in
-    (_, (rw (t .enum-told .given .1) at (t .before .before .search .ensures)), c .before .fill-flows .ensures)
+    (_, (rw (t .enum-told .given .1) at (t .before .before .search .ensures .0)), c .before .fill-flows .ensures)
 
 pub settle-spec : {M : Type 1} → statement M
 settle-spec =
@@ -56,6 +70,8 @@ settle-spec =
     (tie.spec
     mul-group
     group-requires
+    cast-queue
+    array-write-queue
     mul-search
     search-requires
     enum-known-outcome

@@ -1,0 +1,42 @@
+-- "Work where a level fell", of every search: what is true between looks holds at its beginning, and each step keeps it.
+use mathlib.Core.List.{List}
+use Prim.Native.Nat.{ℕ}
+use lib.ListN.{take}
+use Rattle.search.specs.Given.{Given, dual}
+use Rattle.search.specs.Configuration.{Configuration, front}
+use Rattle.search.specs.Statements.{ComesTo, past, WhereALevelFell}
+use Rattle.search.proofs.Beginning.{root-face, begun-passing}
+use Rattle.search.proofs.Run.{PassingAt, goes-passing}
+use Rattle.search.proofs.Between.{Told, begun-told, goes-told, once, only-waiting, waits-fell, fell-waits, front-waits, kept-place, came-behind}
+use Rattle.search.proofs.Determined.{searches-one}
+
+module _ (G : Given) (queue : List ℕ) (roots : ℕ) (c : Configuration) (h : ComesTo G queue roots c) where
+  passing : PassingAt (dual G (take roots queue)) c
+  passing =
+      goes-passing G (take roots queue) (h .sound) (h .in-groups)
+      (begun-passing G queue roots (h .size) (h .few) (h .sound) (h .joined) (h .begun)) (h .run)
+
+  told : Told (G .faces) (c .tables .waiting) (past h)
+  told =
+      goes-told G (take roots queue) (h .sound) (h .in-groups) _
+      (begun-passing G queue roots (h .size) (h .few) (h .sound) (h .joined) (h .begun)) (h .run)
+      (begun-told (G .faces) queue roots (h .sound .few-faces) (root-face G queue roots (h .size) (h .few) (h .sound)) (h .begun))
+
+pub where-a-level-fell : WhereALevelFell
+where-a-level-fell = record {
+  taken-up-fell = λ G queue roots c h l.
+      let r = passing G queue roots c h in
+      waits-fell G (take roots queue) (h .sound) (h .in-groups) c r (told G queue roots c h) (front c)
+      (front-waits G (take roots queue) (h .sound) (h .in-groups) c r l);
+  keeps-place = λ G queue roots c d h p. kept-place G (take roots queue) (h .sound) (h .in-groups) c (passing G queue roots c h) p;
+  comes-behind = λ G queue roots c d h p. came-behind G (take roots queue) (h .sound) (h .in-groups) c (passing G queue roots c h) p;
+  waits-once = λ G queue roots c h. once G (take roots queue) (h .sound) (h .in-groups) c (passing G queue roots c h);
+  lowers-from-waiting = λ G queue roots c h. only-waiting G (take roots queue) (h .sound) (h .in-groups) c (passing G queue roots c h);
+  waits-exactly = λ G queue roots c h f.
+      let r = passing G queue roots c h in
+      let t = told G queue roots c h in (
+        waits-fell G (take roots queue) (h .sound) (h .in-groups) c r t f,
+        fell-waits G (take roots queue) (h .sound) (h .in-groups) c r t f,
+      );
+  one-end = λ G queue roots potentials potentials' parents parents' o o' a b. searches-one a b;
+}

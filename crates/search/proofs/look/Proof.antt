@@ -1,0 +1,201 @@
+-- `look` meets its contract: the darts of the face before place j are tried (`Halfway`), and each way through the loop is a law of that file.
+use mathlib.Core.Path.{refl}
+use Prim.Native.Nat.{_+_, _-_, _≤_, _<_}
+use native.Mathlib.Omega.{arith}
+use borrow.Author.Needs.{needs}
+use Rattle.arrays.specs.At.{at}
+use Rattle.search.specs.Given.{Given, given}
+use Rattle.search.specs.Configuration.{tablesOf}
+use Rattle.search.proofs.Trying.{looked-in, try-in, try-left, try-near, try-few}
+use Rattle.search.proofs.Halfway.{Halfway, look-begins, look-keeps, look-lowers, look-ends}
+use Rattle.search.proofs.look.Statement.{statement}
+use Rattle.search.proofs.look.Tie as tie
+
+abbrev Inv-loop : tie.InvT-loop
+Inv-loop lefts lengths order starts ends darts faces potentials₀ parents₀ waiting₀ queue₀ lowerings first stop last round i
+    j₀ e count₀ end₀ potentials parents waiting queue j count end =
+    Halfway (given lefts lengths order starts ends darts faces) (tablesOf potentials₀ parents₀ waiting₀ queue₀ count₀ end₀) first stop round i j₀ j
+    (tablesOf potentials parents waiting queue count end)
+
+abbrev μ-loop : tie.MeasureT-loop
+μ-loop lefts lengths order starts ends darts faces potentials₀ parents₀ waiting₀ queue₀ lowerings first stop last round i
+    j₀ e count₀ end₀ potentials parents waiting queue j count end =
+    e - j
+
+-- ── what is given ──
+abbrev givenAt : tie.Start Inv-loop μ-loop → Given
+givenAt s =
+    given (s .args .lefts .now) (s .args .lengths .now) (s .args .order .now) (s .args .starts .now) (s .args .ends .now) (s .args .darts) (s .args .faces)
+
+face-in : (s : tie.Start Inv-loop μ-loop) → s .args .i < s .args .faces
+face-in s = looked-in (s .pre .0 .sound) (s .pre .1) (s .pre .0 .passing) (s .pre .2) (s .pre .3) (s .args .i) (s .pre .4)
+
+face-small : (s : tie.Start Inv-loop μ-loop) → s .args .i < 1024
+face-small s = omega (arith, face-in s, s .pre .0 .sound .few-faces)
+
+element-write-waiting : tie.Need-element-write-waiting Inv-loop μ-loop
+element-write-waiting c = face-small c
+
+mul-wide : tie.Need-mul-wide Inv-loop μ-loop
+mul-wide c = record { fits = omega (arith, face-small c) }
+
+element-copy-out-wide : tie.Need-element-copy-out-wide Inv-loop μ-loop
+element-copy-out-wide c = face-small c
+
+wide-requires : tie.Need-wide-requires Inv-loop μ-loop
+wide-requires c κs = search needs
+
+mul-wide-2 : tie.Need-mul-wide-2 Inv-loop μ-loop
+mul-wide-2 c = record { fits = omega (arith, face-small (c .before .before)) }
+
+element-copy-out-wide-2 : tie.Need-element-copy-out-wide-2 Inv-loop μ-loop
+element-copy-out-wide-2 c = face-small (c .before .before)
+
+wide-requires-2 : tie.Need-wide-requires-2 Inv-loop μ-loop
+wide-requires-2 c κs = search needs
+
+loop-holds : tie.Need-loop-holds Inv-loop μ-loop
+loop-holds c =
+    let s = c .before .before .before .before in
+    let w = c .before .before .wide in
+    look-begins (givenAt s) (s .pre .1) (s .pre .0) (s .pre .2) (s .pre .3) (s .args .i) (w .result) (s .pre .4) (w .ensures)
+
+-- ── in the loop ──
+abbrev base : tie.At-loop Inv-loop μ-loop → tie.Start Inv-loop μ-loop
+base c = c .before .before .before .before .before
+
+ends-in : (c : tie.In-loop Inv-loop μ-loop) → c .before .loop .j < 1024
+ends-in c = omega (arith, c .loop-test .taken, c .before .before .wide2 .ensures, c .before .loop .inv .trying .end-in)
+
+mul-wide-3 : tie.Need-mul-wide-3 Inv-loop μ-loop
+mul-wide-3 c = record { fits = omega (arith, ends-in c) }
+
+element-copy-out-wide-3 : tie.Need-element-copy-out-wide-3 Inv-loop μ-loop
+element-copy-out-wide-3 c = ends-in c
+
+wide-requires-3 : tie.Need-wide-requires-3 Inv-loop μ-loop
+wide-requires-3 c κs = search needs
+
+add-j : tie.Need-add-j Inv-loop μ-loop
+add-j c = record { fits = omega (arith, ends-in (c .before .before)) }
+
+-- ── the dart at place j ──
+abbrev looping : tie.After-wide3 Inv-loop μ-loop → tie.At-loop Inv-loop μ-loop
+looping c = c .before .before .before
+
+more : (c : tie.After-wide3 Inv-loop μ-loop) → looping c .loop .j < at (base (looping c) .args .ends .now) (base (looping c) .args .i)
+more c = omega (arith, c .before .before .loop-test .taken, looping c .before .wide2 .ensures)
+
+dart-in : (c : tie.After-wide3 Inv-loop μ-loop) → c .wide3 .result < base (looping c) .args .darts
+dart-in c =
+    let h = looping c .loop .inv in
+    try-in (h .sound) (base (looping c) .pre .1) (h .trying) (c .wide3 .result) (more c) (c .wide3 .ensures)
+
+dart-small : (c : tie.After-wide3 Inv-loop μ-loop) → c .wide3 .result < 1024
+dart-small c = omega (arith, dart-in c, looping c .loop .inv .sound .few-darts)
+
+left-small : (c : tie.After-wide3 Inv-loop μ-loop) → at (base (looping c) .args .lefts .now) (c .wide3 .result) < 1024
+left-small c =
+    let h = looping c .loop .inv in
+    omega (arith, try-left (h .sound) (base (looping c) .pre .1) (h .trying) (c .wide3 .result) (more c) (c .wide3 .ensures), h .sound .few-faces)
+
+few : (c : tie.After-wide3 Inv-loop μ-loop) → looping c .loop .count + 1 ≤ 1073741824
+few c =
+    let h = looping c .loop .inv in
+    try-few (h .sound) (base (looping c) .pre .1) (h .trying) (c .wide3 .result) (more c) (c .wide3 .ensures)
+
+relax-requires : tie.Need-relax-requires Inv-loop μ-loop
+relax-requires c κs =
+    let d = c .before .before in
+    let h = looping d .loop .inv in (
+      h .trying .size-potentials,
+      h .trying .size-parents,
+      omega (arith, h .trying .i-in, h .sound .few-faces),
+      dart-small d,
+      left-small d,
+      try-near (h .sound) (base (looping d) .pre .1) (h .trying) (d .wide3 .result) (more d) (d .wide3 .ensures),
+    )
+
+-- ── it lowered ──
+abbrev dart : tie.After-relax Inv-loop μ-loop → tie.After-wide3 Inv-loop μ-loop
+dart c = c .before .before .before
+
+add-count : tie.Need-add-count Inv-loop μ-loop
+add-count c = record { fits = omega (arith, few (dart (c .before))) }
+
+mul-wide-4 : tie.Need-mul-wide-4 Inv-loop μ-loop
+mul-wide-4 c = record { fits = omega (arith, dart-small (dart (c .before .before .before))) }
+
+element-copy-out-wide-4 : tie.Need-element-copy-out-wide-4 Inv-loop μ-loop
+element-copy-out-wide-4 c = dart-small (dart (c .before .before .before))
+
+wide-requires-4 : tie.Need-wide-requires-4 Inv-loop μ-loop
+wide-requires-4 c κs = search needs
+
+-- the place after `relax`, seen from `push`
+abbrev relaxed : tie.After-wide4 Inv-loop μ-loop → tie.After-relax Inv-loop μ-loop
+relaxed c = c .before .before .before .before .before
+
+push-requires : tie.Need-push-requires Inv-loop μ-loop
+push-requires c κs =
+    let d = dart (relaxed c) in
+    let h = looping d .loop .inv in
+    (h .trying .size-waiting, h .trying .size-queue, omega (arith, c .wide4 .ensures, left-small d), omega (arith, h .trying .pushed, few d))
+
+loop-less : tie.Need-loop-less Inv-loop μ-loop
+loop-less c = omega (arith, dart (relaxed (c .before)) .before .before .loop-test .taken)
+
+loop-again : tie.Need-loop-again Inv-loop μ-loop
+loop-again c =
+    let r = relaxed (c .before) in
+    let d = dart r in
+    let s = base (looping d) in
+    look-lowers (givenAt s) (s .pre .1) (looping d .loop .inv) (d .wide3 .result) (more d) (d .wide3 .ensures) _ (c .before .wide4 .result)
+    (c .before .wide4 .ensures) (r .relax .result) (c .before .before .before .before .before .if1 .taken) (r .relax .ensures) (c .push .ensures) refl
+
+-- ── it could not ──
+loop-less-2 : tie.Need-loop-less-2 Inv-loop μ-loop
+loop-less-2 c = omega (arith, dart (c .before) .before .before .loop-test .taken)
+
+loop-again-2 : tie.Need-loop-again-2 Inv-loop μ-loop
+loop-again-2 c =
+    let d = dart (c .before) in
+    let s = base (looping d) in
+    let r = c .before .relax in
+    look-keeps (givenAt s) (s .pre .1) (looping d .loop .inv) (d .wide3 .result) (more d) (d .wide3 .ensures) _ _ (r .result) (c .if1 .left) (r .ensures)
+
+returns : tie.Need-returns Inv-loop μ-loop
+returns c =
+    let s = base (c .before) in
+    look-ends (givenAt s) (s .pre .1) (c .before .loop .inv) (omega (arith, c .loop-test .left, c .before .before .wide2 .ensures))
+    (c .before .before .before .before .wide .ensures)
+
+pub look-spec : {M : Type 1} → statement M
+look-spec =
+    tie.close
+    (tie.spec
+    Inv-loop
+    μ-loop
+    element-write-waiting
+    mul-wide
+    element-copy-out-wide
+    wide-requires
+    mul-wide-2
+    element-copy-out-wide-2
+    wide-requires-2
+    loop-holds
+    mul-wide-3
+    element-copy-out-wide-3
+    wide-requires-3
+    add-j
+    relax-requires
+    add-count
+    mul-wide-4
+    element-copy-out-wide-4
+    wide-requires-4
+    push-requires
+    loop-less
+    loop-again
+    loop-less-2
+    loop-again-2
+    returns)

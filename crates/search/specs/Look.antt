@@ -1,0 +1,28 @@
+-- A look at a face: it waits no more, the darts right of which it lies are crossed one after the other, and each face that falls comes to wait.
+use mathlib.Core.Path.{_≡_}
+use mathlib.Core.Bool.{true, false}
+use Prim.Native.Nat.{ℕ, _+_, _≤_, _<_}
+use lib.ListN.{set}
+use Rattle.arrays.specs.At.{at}
+use Rattle.search.specs.Queue.{Pushed}
+use Rattle.search.specs.Moves.{Relaxed}
+use Rattle.search.specs.Given.{Given}
+use Rattle.search.specs.Configuration.{Tables, tablesOf}
+
+-- the darts at places j, .., e − 1 of the order are crossed in turn from the face i: each lowers its left face, which comes to wait, or cannot
+pub data Crosses (G : Given) (i e : ℕ) : ℕ → Tables → Tables → Type 0 where
+  done : {j : ℕ} {t : Tables} → e ≤ j → Crosses G i e j t t
+  keep : {j : ℕ} {t v : Tables} → j < e
+      → Relaxed (G .lefts) (G .lengths) (t .potentials) (t .parents) (t .potentials) (t .parents) i (at (G .order) j) false
+      → Crosses G i e (j + 1) t v → Crosses G i e j t v
+  lower : {j : ℕ} {t u v : Tables} → j < e
+      → Relaxed (G .lefts) (G .lengths) (t .potentials) (t .parents) (u .potentials) (u .parents) i (at (G .order) j) true
+      → Pushed (t .waiting) (t .queue) (u .waiting) (u .queue) (at (G .lefts) (at (G .order) j)) (t .last) (u .last)
+      → u .lowerings ≡ t .lowerings + 1
+      → Crosses G i e (j + 1) u v → Crosses G i e j t v
+
+-- the look at the face i: it waits no more, and the darts right of which it lies are crossed
+abbrev pub LookAt : (G : Given) (i : ℕ) → Tables → Tables → Type 0
+LookAt G i t u =
+    Crosses G i (at (G .ends) i) (at (G .starts) i)
+    (tablesOf (t .potentials) (t .parents) (set (t .waiting) i 0) (t .queue) (t .lowerings) (t .last)) u
