@@ -44,8 +44,8 @@ fn distances(faces: usize, outer: usize, arcs: &[(usize, usize, i64)]) -> Vec<i6
 }
 
 /// The highest answer of the same value as a given flow y within the capacities. Another flow of that value is y and the balanced flow of some levels p, and
-/// keeps within the capacities if p(left d) <= p(right d) + capacity(d) - y(d) for every dart. The greatest such p are the distances of the faces from the outer
-/// one, with an arc from right(d) to left(d) of that length: all others are nowhere above them.
+/// keeps within the capacities if p(left d) <= p(right d) + capacity(d) - y(d) for every dart. The greatest such p are the distances of the faces from the
+/// outer one, with an arc from right(d) to left(d) of that length: all others are nowhere above them.
 pub fn highest(drawing: &Drawing, faces: &[usize], flows: &[i64]) -> Vec<i64> {
     let arcs: Vec<_> = (0..drawing.darts()).map(|dart| (faces[dart ^ 1], faces[dart], drawing.capacity(dart) - along(flows, dart))).collect();
     let risen = flows_of(faces, &distances(count(faces), faces[drawing.outer_dart()], &arcs));
