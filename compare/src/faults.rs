@@ -316,7 +316,7 @@ fn refusal(fault: Fault, call: &Call, before: &Lent, after: &mut Lent, result: u
         (Fault::TwelveForEleven, 11) if judge::records(sheet).is_ok_and(|drawing| !judge::flat(&drawing)) => return 12,
         (Fault::ElevenForTen, 10) if judge::records(sheet).is_ok_and(|drawing| !judge::connected(&drawing)) => return 11,
         (Fault::SevenForSix, 6) if sum_below_zero(sheet) => return 7,
-        (Fault::CutBeforeFields, 4..=7) if sheet.len() < head + EDGE * u16::from_le_bytes([sheet[3], sheet[4]]) as usize => return 1,
+        (Fault::CutBeforeFields, 4..=7) if sheet.len() >= head && sheet.len() < head + EDGE * u16::from_le_bytes([sheet[3], sheet[4]]) as usize => return 1,
         (Fault::FourteenForThirteen, 13) => match *call {
             Call::Solve { source, sink, .. } | Call::Largest { source, sink } | Call::LeastAndLargest { source, sink } | Call::Mark { source, sink }
                 if source == sink =>
@@ -328,7 +328,7 @@ fn refusal(fault: Fault, call: &Call, before: &Lent, after: &mut Lent, result: u
         (Fault::SixteenForFifteen, 15) if judge::records(sheet).is_ok_and(|drawing| before.flows.len() < drawing.edges()) => return 16,
         (Fault::TwentyForNineteen, 19) if judge::records(sheet).is_ok_and(|drawing| before.levels[drawing.faces()[drawing.outer_dart()]] != 0) => return 20,
         (Fault::TwentyAtFaceZero, 20) if before.levels[0] == 0 => return 0,
-        (Fault::TwentyFourForThree, 3) if head == 7 && !sheet.is_empty() && short(5) as usize >= 2 * short(3) as usize => return 24,
+        (Fault::TwentyFourForThree, 3) if head == 7 && short(5) as usize >= 2 * short(3) as usize => return 24,
         (Fault::FourForTwentyFour, 24) if sheet.len() >= head + 5 && short(head + 1).max(short(head + 3)) >= short(1) => return 4,
         (Fault::KindFourAsTwo, _) if head == 7 => return 2,
         (Fault::ShortSetUnseen, 16) => {

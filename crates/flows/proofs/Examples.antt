@@ -70,14 +70,6 @@ A-least-two-not-one : Proves A leastTwo 0 1 (pos 1) (member (2 ∷ []))
 unfolding leastTwo bound cut sum rev
 A-least-two-not-one = lt-of-test (negsuc 1) (negsuc 0) refl
 
--- with dart 1 on the outer face, which is then the face left of it, face 1, the levels of the same settings are all 2 higher (document 02, Job 6)
-pub A-outer-levels : Levels A 1 (settings (pos 2 ∷ pos 1 ∷ negsuc 2 ∷ [])) (settings (pos 2 ∷ pos 0 ∷ negsuc 0 ∷ []))
-unfolding settings onDarts faces left orbits orbitOf isLowest lowest iter sum rev every eqZ
-A-outer-levels = record {
-  differences = every-equalℤ 6 (onDarts (settings (pos 2 ∷ pos 1 ∷ negsuc 2 ∷ []))) (difference A (settings (pos 2 ∷ pos 0 ∷ negsuc 0 ∷ []))) refl;
-  rooted = λ f z. ap (settings (pos 2 ∷ pos 0 ∷ negsuc 0 ∷ [])) z;
-}
-
 -- "settings 2, 1, −3 have levels 0, −2, −3"
 A-levels : Levels A 0 (settings (pos 2 ∷ pos 1 ∷ negsuc 2 ∷ [])) (settings (pos 0 ∷ negsuc 1 ∷ negsuc 2 ∷ []))
 unfolding settings onDarts faces left orbits orbitOf isLowest lowest iter sum rev every eqZ

@@ -15,3 +15,4 @@ pub mod Swapped
 pub mod Between
 pub mod Parts
 pub mod Examples
+pub mod OuterFaceOfA
