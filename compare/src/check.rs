@@ -570,5 +570,8 @@ fn picture(call: &Call, before: &Lent) -> String {
         _ => {}
     }
     writeln!(text, "# lent: sheet {}, flows {}, set {}, levels {}", before.sheet.len(), before.flows.len(), before.set.len(), before.levels.len()).unwrap();
+    if let Call::LeastAndLargest { .. } = call {
+        writeln!(text, "# and low {}, below {}, high {}, above {}", before.low.len(), before.below.len(), before.high.len(), before.above.len()).unwrap();
+    }
     text
 }

@@ -18,7 +18,7 @@ use Rattle.maps.proofs.Rings.{winding, ring-threshold}
 use Rattle.flows.proofs.Exact.{ring-heights-exist}
 use Rattle.traversal.specs.inner.Spread.{Spread}
 use Rattle.traversal.proofs.Reach.{connected-full}
-use Rattle.search.specs.inner.Dual.{Dual}
+use Rattle.search.specs.Dual.{Dual}
 use Rattle.windings.specs.inner.Winding.{Round, Wound}
 use Rattle.windings.proofs.WindingOfRing.{round-of, ring-wound}
 use Rattle.heights.specs.inner.Heights as heights

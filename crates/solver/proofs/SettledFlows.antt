@@ -10,8 +10,8 @@ use Rattle.integers.proofs.Omega.{atoms₂, atoms₃, atoms₄, parts, at-most,
 use Rattle.integers.proofs.Limits.{limited-more, limited-both}
 use Rattle.maps.specs.Dart.{rev}
 use Rattle.maps.proofs.Darts.{rev-rev, rev-in}
-use Rattle.search.specs.inner.Dual.{Dual}
-use Rattle.search.specs.inner.Parents.{ParentRing}
+use Rattle.search.specs.Dual.{Dual}
+use Rattle.search.specs.Parents.{ParentRing}
 use Rattle.search.specs.inner.Settled.{Still, Settled}
 use Rattle.edge_flows.specs.inner.Flow.{flowOf, Flowing}
 use Rattle.arrays.specs.inner.Sizes.{mostPotential, mostCapacity}

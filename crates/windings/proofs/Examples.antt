@@ -7,7 +7,7 @@ use lib.IntN.{pos, negsuc}
 use Rattle.maps.specs.Dart.{rev}
 use Rattle.maps.specs.Orbit.{iter}
 use Rattle.arrays.specs.At.{at}
-use Rattle.search.specs.inner.Parents.{up, down}
+use Rattle.search.specs.Parents.{up, down}
 use Rattle.windings.specs.inner.Winding.{crossings}
 
 abbrev pub right : ℕ → ℕ

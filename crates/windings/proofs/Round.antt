@@ -17,7 +17,7 @@ use Rattle.maps.specs.Dart.{rev}
 use Rattle.maps.specs.Orbit.{iter}
 use Rattle.maps.proofs.Darts.{rev-in}
 use Rattle.flows.specs.inner.UnitFlow.{single}
-use Rattle.search.specs.inner.Parents.{up, down}
+use Rattle.search.specs.Parents.{up, down}
 use Rattle.windings.specs.inner.Winding.{crossings, Round, Wound}
 
 -- one crossing changes a winding by one at most

@@ -17,9 +17,9 @@ use Rattle.maps.specs.inner.FaceWalk as faceWalk
 use Rattle.maps.proofs.Darts.{eqb-rev}
 use Rattle.maps.proofs.Rings.{times, winding}
 use Rattle.flows.specs.inner.UnitFlow.{single}
-use Rattle.search.specs.inner.Dual.{Dual}
+use Rattle.search.specs.Dual.{Dual}
 use Rattle.search.specs.inner.Walk.{Crossing, stay, cross, total}
-use Rattle.search.specs.inner.Parents.{ParentRing}
+use Rattle.search.specs.Parents.{ParentRing}
 use Rattle.search.proofs.Chains.{ring-of}
 use Rattle.search.specs.inner.OfMap.{OfMap}
 use Rattle.windings.specs.inner.Winding.{crossings, Round, Wound}

@@ -9,8 +9,8 @@ use Rattle.integers.specs.inner.Limited.{Limited}
 use Rattle.maps.specs.Dart.{rev}
 use Rattle.maps.specs.Map.{Map, darts}
 use Rattle.arrays.specs.Filled.{filled}
-use Rattle.search.specs.inner.Dual.{Dual, WellFormed, Joined}
-use Rattle.search.specs.inner.Parents.{ParentRing}
+use Rattle.search.specs.Dual.{Dual, WellFormed, Joined}
+use Rattle.search.specs.Parents.{ParentRing}
 use Rattle.search.specs.inner.Settled.{Settled}
 use Rattle.search.specs.declared.Outcome.{Outcome}
 use Rattle.search.specs.declared.Outcome.the-variants as outcome

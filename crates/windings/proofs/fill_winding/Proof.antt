@@ -5,7 +5,7 @@ use lib.ListN.{length}
 use borrow.Author.Needs.{needs}
 use Rattle.arrays.specs.Maps.{rightOf}
 use Rattle.arrays.specs.At.{at, atℤ}
-use Rattle.search.specs.inner.Parents.{up}
+use Rattle.search.specs.Parents.{up}
 use Rattle.windings.proofs.Round.{rev-below, between, Walking, set-off, face-in, parent-in, few-yet, walk-on, walk-end, nearer}
 use Rattle.windings.proofs.fill_winding.Statement.{statement}
 use Rattle.windings.proofs.fill_winding.Tie as tie

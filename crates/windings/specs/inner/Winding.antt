@@ -7,7 +7,7 @@ use lib.IntN.{ℤ, pos, _+ℤ_}
 use Rattle.integers.specs.inner.Limited.{Limited}
 use Rattle.maps.specs.Orbit.{iter}
 use Rattle.flows.specs.inner.UnitFlow.{single}
-use Rattle.search.specs.inner.Parents.{up, down}
+use Rattle.search.specs.Parents.{up, down}
 
 -- forth minus back, of darts crossed in turn
 unfoldable pub crossings : List ℕ → ℕ → ℤ
