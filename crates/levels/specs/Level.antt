@@ -1,4 +1,5 @@
 -- What the refusals 19 and 20 refuse. Document 01, "Operations", Settings from levels: "19 a level beyond ±600,000,000, 20 face 0 not at 0".
+-- Document 02, Job 6: 20 looks at the outer face in its place; which faces those are is given.
 use Prim.Native.Nat.{ℕ, _<_}
 use mathlib.Core.Logic.{_⊎_, _≢_}
 use mathlib.Core.List.{List, [], _∷_}

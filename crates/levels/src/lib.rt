@@ -34,7 +34,8 @@ fn level_outside(x: i32) -> bool
     false
 }
 
-// Refusals 19 and 20: "19 a level beyond ±600,000,000, 20 face 0 not at 0". All faces are looked at for 19 before the face `zero` is for 20.
+// Refusals 19 and 20: "19 a level beyond ±600,000,000, 20 face 0 not at 0", since Job 6 the outer face, `zero`. All faces are looked at for 19 before it is
+// for 20.
 fn check_levels(levels: &[i32], faces: usize, zero: usize) -> Verdict
     requires { ⌜ (zero < faces) × (faces ≤ length (now levels)) ⌝ }
     ensures { λ r. ⌜ Judged (levelChecks faces (λ f. f ≡ zero) (atℤ (now (levels .entry)))) r ⌝ }
