@@ -219,7 +219,7 @@ impl Checker<'_> {
             Call::Mark { source, .. } => lent.value = net_flows(&drawing, &judge::wide(&lent.flows))[source as usize] as i32,
             Call::LevelsFromSettings => {
                 let faces = drawing.faces();
-                store(&mut lent.levels, &levels_of(&faces, faces[drawing.outer_dart()], &judge::wide(&before.flows)));
+                store(&mut lent.levels, &levels_of(&faces, &drawing.zero_faces(), &judge::wide(&before.flows)));
             }
             Call::SettingsFromLevels => store(&mut lent.flows, &flows_of(&drawing.faces(), &judge::wide(&before.levels))),
             Call::KeyText => {

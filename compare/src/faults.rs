@@ -56,8 +56,13 @@ faults! {
     LevelsRight: "levels have the face right of the outer dart at 0",
     HighestAtFaceZero: "the highest flow is taken with face 0 at level 0, whatever the outer dart is",
     FlowsTurned: "flows of levels have the other sign",
-    TwelveForEleven: "flatness is looked at before connection",
-    ElevenForTen: "connection is looked at before the rounds",
+    TwelveByTotal: "a sheet in several parts is flat if nodes - channels + faces is 2 in all",
+    ElevenForTen: "11 is told where a sheet in several parts has a node that is not one round",
+    TwelveInParts: "a sheet in several parts is refused with 12",
+    LevelsOfTheFirstPart: "levels have the highest face of a part that the outer dart is not in at 0",
+    HighestOfTheFirstPart: "the highest flow is taken with the highest face of each other part at 0",
+    CanApart: "Solve says can to every value where source and sink are in different parts, with flows of 0",
+    PartLeftOut: "Solve says can to 0 where a part that holds neither end cannot be met",
     SevenForSix: "the sum of two limits is looked at before their ranges",
     CutBeforeFields: "a sheet cut short is seen before the fields of its first edges",
     FourteenForThirteen: "equal ends are looked at before whether they are nodes",
@@ -141,8 +146,8 @@ fn answer(fault: Fault, call: &Call, drawing: &Drawing, before: &Lent, after: &m
             let (faces, flows) = (drawing.faces(), judge::wide(&before.flows));
             match fault {
                 Fault::LevelsTurned => after.levels[..drawing.edges() + 2 - drawing.nodes as usize].iter_mut().for_each(|level| *level = -*level),
-                Fault::LevelsAtFaceZero => put(&mut after.levels, &levels_of(&faces, 0, &flows)),
-                Fault::LevelsRight => put(&mut after.levels, &levels_of(&faces, faces[drawing.outer_dart() ^ 1], &flows)),
+                Fault::LevelsAtFaceZero => put(&mut after.levels, &levels_of(&faces, &with_face(drawing, 0, 0), &flows)),
+                Fault::LevelsRight => put(&mut after.levels, &levels_of(&faces, &with_face(drawing, drawing.outer_dart(), drawing.outer_dart() ^ 1), &flows)),
                 _ => {}
             }
         }
@@ -313,8 +318,8 @@ fn refusal(fault: Fault, call: &Call, before: &Lent, after: &mut Lent, result: u
         (Fault::FlowsOnRefusal, 17) if *call == Call::SettingsFromLevels => after.flows[..after.place as usize].fill(0),
         (Fault::LevelsOnRefusal, 18) if *call == Call::LevelsFromSettings => after.levels[0] = 0,
         (Fault::AnswerOnRefusal, _) if matches!(call, Call::Solve { .. }) => after.can = 0,
-        (Fault::TwelveForEleven, 11) if judge::records(sheet).is_ok_and(|drawing| !judge::flat(&drawing)) => return 12,
-        (Fault::ElevenForTen, 10) if judge::records(sheet).is_ok_and(|drawing| !judge::connected(&drawing)) => return 11,
+        (Fault::TwelveByTotal, 12) if judge::records(sheet).is_ok_and(|drawing| total_is_two(&drawing)) => return 0,
+        (Fault::ElevenForTen, 10) if judge::records(sheet).is_ok_and(|drawing| parts(&drawing) > 1) => return 11,
         (Fault::SevenForSix, 6) if sum_below_zero(sheet) => return 7,
         (Fault::CutBeforeFields, 4..=7) if sheet.len() >= head && sheet.len() < head + EDGE * u16::from_le_bytes([sheet[3], sheet[4]]) as usize => return 1,
         (Fault::FourteenForThirteen, 13) => match *call {
@@ -326,7 +331,7 @@ fn refusal(fault: Fault, call: &Call, before: &Lent, after: &mut Lent, result: u
             _ => {}
         },
         (Fault::SixteenForFifteen, 15) if judge::records(sheet).is_ok_and(|drawing| before.flows.len() < drawing.edges()) => return 16,
-        (Fault::TwentyForNineteen, 19) if judge::records(sheet).is_ok_and(|drawing| before.levels[drawing.faces()[drawing.outer_dart()]] != 0) => return 20,
+        (Fault::TwentyForNineteen, 19) if judge::records(sheet).is_ok_and(|drawing| drawing.zero_faces().iter().any(|&face| before.levels[face] != 0)) => return 20,
         (Fault::TwentyAtFaceZero, 20) if before.levels[0] == 0 => return 0,
         (Fault::TwentyFourForThree, 3) if head == 7 && short(5) as usize >= 2 * short(3) as usize => return 24,
         (Fault::FourForTwentyFour, 24) if sheet.len() >= head + 5 && short(head + 1).max(short(head + 3)) >= short(1) => return 4,

@@ -78,8 +78,7 @@ districts = record {
   has-zero-face = λ s sheet d l.
       let 𝓜 = sheetMap s in
       let κ = plane s sheet .flat .components in
-      let r = zero-dart (σ s sheet) κ (outerOf s) (outer-in s sheet) _ (κ .below (𝓜 .tail d) (σ s sheet .range .tail-in d l)) in
-      (
+      let r = zero-dart (σ s sheet) κ (outerOf s) (outer-in s sheet) _ (κ .below (𝓜 .tail d) (σ s sheet .range .tail-in d l)) in (
         r .0,
         r .1,
         κ .joined (𝓜 .tail d) (𝓜 .tail (r .0)) (σ s sheet .range .tail-in d l) (σ s sheet .range .tail-in (r .0) (r .1)) (sym (r .2)),
@@ -104,8 +103,7 @@ districts = record {
       zero s (a .sheet) source sink (a .ends-two) far v (atℤ flows') (possible-and-impossible .largest-carries s source sink v flows flows' set set' h);
   apart-range = λ s source sink low low' below below' high high' above above' v w far h.
       let a = range-accepted s source sink low low' below below' high high' above above' (h .0) in
-      let only = zero s (a .0) source sink (a .1) far in
-      (
+      let only = zero s (a .0) source sink (a .1) far in (
         only v (atℤ low') (least-and-largest .least-carries s source sink low low' below below' high high' above above' v w h),
         only w (atℤ high') (least-and-largest .largest-carries s source sink low low' below below' high high' above above' v w h),
       );

@@ -55,12 +55,14 @@ module _ {𝓜 : Map} (range : InRange 𝓜) {s t : ℕ} (s-in : s < 𝓜 .nodes
       go : (pos 0 <ℤ value) ⊎ (value ≤ℤ pos 0) → (value <ℤ pos 0) ⊎ (pos 0 ≤ℤ value) → value ≡ pos 0
       go (inl l) q =
           absurd (proves-excludes range s-in t-in s≢t c value (joinedTo 𝓜 s)
-          (part-of-source 𝓜 c (joinedTo 𝓜 s) (joined-whole s)
-          (eqb-true (node-label 𝓜 (𝓜 .edges) s) (node-label 𝓜 (𝓜 .edges) s) refl,
-          eqb-false (node-label 𝓜 (𝓜 .edges) s) (node-label 𝓜 (𝓜 .edges) t) (λ e. apart (walk-of-label s t e))) value l) x flow)
+          (part-of-source 𝓜 c (joinedTo 𝓜 s) (joined-whole s) (
+            eqb-true (node-label 𝓜 (𝓜 .edges) s) (node-label 𝓜 (𝓜 .edges) s) refl,
+            eqb-false (node-label 𝓜 (𝓜 .edges) s) (node-label 𝓜 (𝓜 .edges) t) (λ e. apart (walk-of-label s t e)),
+          ) value l) x flow)
       go (inr h) (inl l) =
           absurd (proves-excludes range s-in t-in s≢t c value (joinedTo 𝓜 t)
-          (part-of-sink 𝓜 c (joinedTo 𝓜 t) (joined-whole t)
-          (eqb-false (node-label 𝓜 (𝓜 .edges) t) (node-label 𝓜 (𝓜 .edges) s) (λ e. apart (walk-of-label s t (sym e))),
-          eqb-true (node-label 𝓜 (𝓜 .edges) t) (node-label 𝓜 (𝓜 .edges) t) refl) value l) x flow)
+          (part-of-sink 𝓜 c (joinedTo 𝓜 t) (joined-whole t) (
+            eqb-false (node-label 𝓜 (𝓜 .edges) t) (node-label 𝓜 (𝓜 .edges) s) (λ e. apart (walk-of-label s t (sym e))),
+            eqb-true (node-label 𝓜 (𝓜 .edges) t) (node-label 𝓜 (𝓜 .edges) t) refl,
+          ) value l) x flow)
       go (inr h) (inr g) = le-antisym h g

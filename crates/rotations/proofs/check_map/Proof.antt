@@ -43,8 +43,7 @@ refused-requires-2 c κs = search needs
 
 returns-2 : tie.Need-returns-2
 returns-2 c =
-    let e = c .before .before .before in
-    (
+    let e = c .before .before .before in (
       begun e .pre .3,
       rw (c .refused2 .ensures) (refused-10 (mapAt (begun e)) (not-9 e) (said-yes (c .before .before .node-fault .ensures) (c .before .if2 .taken))),
     )
