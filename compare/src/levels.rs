@@ -51,8 +51,13 @@ fn distances(faces: usize, zero: &[usize], arcs: &[(usize, usize, i64)]) -> Vec<
 /// keeps within the capacities if p(left d) <= p(right d) + capacity(d) - y(d) for every dart. The greatest such p are the distances of the faces from the one at 0
 /// in their part, with an arc from right(d) to left(d) of that length: all others are nowhere above them.
 pub fn highest(drawing: &Drawing, faces: &[usize], flows: &[i64]) -> Vec<i64> {
+    highest_from(drawing, faces, &drawing.zero_faces(), flows)
+}
+
+/// The same with these faces at 0, one of each part.
+pub fn highest_from(drawing: &Drawing, faces: &[usize], zero: &[usize], flows: &[i64]) -> Vec<i64> {
     let arcs: Vec<_> = (0..drawing.darts()).map(|dart| (faces[dart ^ 1], faces[dart], drawing.capacity(dart) - along(flows, dart))).collect();
-    let risen = flows_of(faces, &distances(count(faces), &drawing.zero_faces(), &arcs));
+    let risen = flows_of(faces, &distances(count(faces), zero, &arcs));
     flows.iter().zip(risen).map(|(flow, rise)| flow + rise).collect()
 }
 

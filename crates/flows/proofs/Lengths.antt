@@ -1,4 +1,5 @@
--- Lengths of darts for a value: the capacity less the value along what carries it. Potentials that no dart can lower, and flows of that value, are the same thing.
+-- Lengths of darts for a value: the capacity less the value along what carries it. Potentials that no dart can lower, and flows of that value, are the same
+-- thing.
 use mathlib.Core.Path.{_≡_, refl, sym, _∙_, ap, ap₂}
 use mathlib.Core.Logic.{_≢_}
 use mathlib.Core.Bool.{Bool, true, false}

@@ -179,7 +179,8 @@ part-faces {𝓜} p few f l =
     let σ = p .sound in
     let κ = p .flat .components in
     let c = facePart σ κ f in
-    let is-c : p .flat .part (𝓜 .tail (d .0)) ≡ facePart (p .sound) (p .flat .components) f = sym (facePart-left σ κ (d .0) (d .1)) ∙ ap (facePart σ κ) (d .2) in
+    let is-c : p .flat .part (𝓜 .tail (d .0)) ≡ facePart (p .sound) (p .flat .components) f = sym (facePart-left σ κ (d .0) (d .1)) ∙ ap (facePart σ κ)
+    (d .2) in
     omega (
       arith,
       part-at-most σ κ c,

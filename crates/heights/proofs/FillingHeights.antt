@@ -194,7 +194,8 @@ module _ {darts : ℕ} {tail order from : ℕ → ℕ} {winding : ℕ → ℤ} (
 
 -- one step of the machine: the height at `known` less the winding fits, and storing it at `next` passes one dart
 module _ {darts : ℕ} {tail order from : ℕ → ℕ} {winding : ℕ → ℤ} (ok : Fillable darts tail order from winding) (heights : List ℤ) {i d p known : ℕ}
-    (ξ : Filling darts tail order from winding (atℤ heights) i) (l : i < darts) (is-d : d ≡ order i) (is-p : p ≡ from d) (is-known : known ≡ tail p) (back : d ≡ rev p) where
+    (ξ : Filling darts tail order from winding (atℤ heights) i) (l : i < darts) (is-d : d ≡ order i) (is-p : p ≡ from d) (is-known : known ≡ tail p)
+    (back : d ≡ rev p) where
   other : p ≢ d
   other e = rev-apart p (sym back ∙ sym e)
 
@@ -243,7 +244,8 @@ pub filling-rooted : {darts : ℕ} {tail order from : ℕ → ℕ} {winding : �
 filling-rooted {tail = tail} {order = order} {from = from} ok heights {i} {d} {p} {base} ξ l is-d is-p own is-base long = (
   length-set heights base (pos 0) ∙ long,
   filling-begun ok ξ l (ap from (sym is-d) ∙ sym is-p ∙ own ∙ is-d)
-      (ap (atℤ (set heights base (pos 0))) (sym place) ∙ getD-set-same heights base (pos 0) (pos 0) (omega (arith, long, node-in ok (dart-in ok l is-d) is-base)))
+      (ap (atℤ (set heights base (pos 0))) (sym place) ∙ getD-set-same heights base (pos 0) (pos 0)
+      (omega (arith, long, node-in ok (dart-in ok l is-d) is-base)))
       (λ v n. getD-set-other heights base v (pos 0) (pos 0) (λ e. n (e ∙ place))),
 )
   where

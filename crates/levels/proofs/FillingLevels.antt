@@ -41,7 +41,8 @@ module _ {darts room : ℕ} {left order from : ℕ → ℕ} {flows : List ℤ} (
   pub face-in : {d f : ℕ} → d < darts → f ≡ left d → f < room
   face-in {d} {f} l e = omega (arith, ok .left-in d l)
 
-pub filling-start : {darts : ℕ} {left order from : ℕ → ℕ} {x level : ℕ → ℤ} → 0 < darts → from (order 0) ≡ order 0 → level (left (order 0)) ≡ pos 0 → Filling darts left order from x level 1
+pub filling-start : {darts : ℕ} {left order from : ℕ → ℕ} {x level : ℕ → ℤ} → 0 < darts → from (order 0) ≡ order 0 → level (left (order 0)) ≡ pos 0
+    → Filling darts left order from x level 1
 filling-start {darts} {left} {order} {from} {x} {level} some own z = record {
   begun = omega arith;
   ordered = omega arith;
@@ -188,7 +189,8 @@ module _ {darts room : ℕ} {left order from : ℕ → ℕ} {flows : List ℤ} (
       back = same-bits (fits-32 .1) (subst (Limited (i * mostOnSheet + mostOnSheet)) (sym is-result) new-limited)
 
 -- a dart that begins a tree has its face set to 0
-pub filling-rooted : {darts room : ℕ} {left order from : ℕ → ℕ} {flows : List ℤ} (ok : Fillable darts room left order from flows) (levels : List ℤ) {i d p across : ℕ}
+pub filling-rooted : {darts room : ℕ} {left order from : ℕ → ℕ} {flows : List ℤ} (ok : Fillable darts room left order from flows)
+    (levels : List ℤ) {i d p across : ℕ}
     → Filling darts left order from (atℤ flows) (atℤ levels) i → i < darts → d ≡ order i → p ≡ from d → p ≡ d → length levels ≡ room → across ≡ left d
     → Filling darts left order from (atℤ flows) (atℤ (set levels across (pos 0))) (i + 1)
 filling-rooted {left = left} {order = order} {from = from} ok levels {i} {d} {p} {across} ξ l is-d is-p own long is-across =

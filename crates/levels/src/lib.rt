@@ -34,8 +34,8 @@ fn level_outside(x: i32) -> bool
     false
 }
 
-// Refusals 19 and 20: "19 a level beyond ±600,000,000, 20 face 0 not at 0"; of the faces at 0 there is one to a part (document 02, Job 8), and they stand in the
-// first places of `roots`. All faces are looked at for 19 before these are for 20.
+// Refusals 19 and 20: "19 a level beyond ±600,000,000, 20 face 0 not at 0"; of the faces at 0 there is one to a part (document 02, Job 8), and they stand in
+// the first places of `roots`. All faces are looked at for 19 before these are for 20.
 fn check_levels(levels: &[i32], faces: usize, roots: &[u16; 1024], count: usize) -> Verdict
     requires { ⌜ (count ≤ 1024) × ((m : ℕ) → m < count → at (now roots) m < faces) × (faces ≤ length (now levels)) ⌝ }
     ensures { λ r. ⌜ Judged (levelChecks faces (OneOf (at (now (roots .entry))) count) (atℤ (now (levels .entry)))) r ⌝ }

@@ -48,7 +48,8 @@ lowest-face {𝓜} σ {k} {part} κ d least e l same =
     omega (
       arith,
       count-le (lowest (step 𝓜) (darts 𝓜) d) d (isLowest (darts 𝓜) (step 𝓜)) (lowest-below (step-permutes σ) d),
-      count-le d low (isLowest (darts 𝓜) (step 𝓜)) (least low low-in (sym (part-left σ κ e low l low-in (left-along σ e low l (lowest-orbit (step-permutes σ) e))) ∙ same)),
+      count-le d low (isLowest (darts 𝓜) (step 𝓜))
+          (least low low-in (sym (part-left σ κ e low l low-in (left-along σ e low l (lowest-orbit (step-permutes σ) e))) ∙ same)),
     )
   where
     low : ℕ

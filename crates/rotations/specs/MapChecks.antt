@@ -1,5 +1,6 @@
 -- The checks 9, 10 and 12 in the paper's order, and what a function that makes them leaves. Document 01, "Operations": "Then 9 a turn has another tail, or
--- two darts have one turn; 10 some node's darts do not form exactly one round, or it has none"; "12 not flat". Document 02, Job 8: "Refusal 11 no longer occurs."
+-- two darts have one turn; 10 some node's darts do not form exactly one round, or it has none"; "12 not flat". Document 02, Job 8: "Refusal 11 no longer
+-- occurs."
 use mathlib.Core.Path.{_≡_}
 use mathlib.Core.List.{List, [], _∷_}
 use Prim.Native.Nat.{ℕ, _<_}

@@ -145,8 +145,8 @@ fn node_fault<'a>(
     some_empty(&owner, nodes)
 }
 
-// How many parts the map has: the trees of a walk over all darts. From each dart met the walk goes to its rotation and to its reverse, and the rounds are nodes;
-// so it reads neither tails nor nodes, which only its contract names.
+// How many parts the map has: the trees of a walk over all darts. From each dart met the walk goes to its rotation and to its reverse, and the rounds are
+// nodes; so it reads neither tails nor nodes, which only its contract names.
 fn count_parts<'a>(
     tails: &'a [u16; 1024],
     rotations: &'a [u16; 1024],
@@ -191,8 +191,8 @@ fn refused(number: u8) -> Checked
     }
 }
 
-// The checks 9, 10 and 12 in order, of a map that the checks 3 to 5 left in range. Flatness in each part is a matter of the totals (document 02, Job 8): nodes −
-// channels + faces = 2 · parts. Where they pass, `lefts` holds the face at the left of each dart.
+// The checks 9, 10 and 12 in order, of a map that the checks 3 to 5 left in range. Flatness in each part is a matter of the totals (document 02, Job 8):
+// nodes − channels + faces = 2 · parts. Where they pass, `lefts` holds the face at the left of each dart.
 pub fn check_map<'a>(
     tails: &'a [u16; 1024],
     rotations: &'a [u16; 1024],

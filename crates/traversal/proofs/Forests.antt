@@ -1,4 +1,5 @@
--- What the walk over all darts says of a sound map: its trees are the parts of the map, and the faces left of their first darts are the faces at 0 (document 02,
+-- What the walk over all darts says of a sound map: its trees are the parts of the map, and the faces left of their first darts are the faces at 0 (document
+-- 02,
 -- Job 8).
 use mathlib.Core.Path.{_≡_, refl, sym, _∙_, ap, subst}
 use mathlib.Core.Logic.{_⊎_, inl, inr, _≢_}
@@ -115,7 +116,8 @@ module _ {𝓜 : Map} (σ : Sound 𝓜) {first : ℕ} {order from : ℕ → ℕ}
     below = λ v l. tree-walk v l .0;
     joined = λ v w lv lw e. walk-append (walk-back (tree-walk v lv .1)) (subst (λ t. Walk 𝓜 (at-start t) w) (sym e) (tree-walk w lw .1));
     agree = λ v w lv lw r.
-        one-tree (treeOf v) (treeOf w) (tree-walk v lv .0) (tree-walk w lw .0) (walk-append (tree-walk v lv .1) (walk-append r (walk-back (tree-walk w lw .1))));
+        one-tree (treeOf v) (treeOf w) (tree-walk v lv .0) (tree-walk w lw .0)
+        (walk-append (tree-walk v lv .1) (walk-append r (walk-back (tree-walk w lw .1))));
     used = λ t l. (at-start t, σ .range .tail-in (start t) (start-in t l), tree-of-start t l);
   }
 

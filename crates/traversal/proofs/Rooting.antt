@@ -79,7 +79,8 @@ trees-few {n} {trees = trees} 𝓕 =
     at-most-n n trees (𝓕 .planted .begins) (𝓕 .planted .begins-in) (λ t u l m e. begins-apart (𝓕 .planted) t u l m e)
 
 -- all places are passed
-pub rooting-end : {rotation : ℕ → ℕ} {first : ℕ} {order from : ℕ → ℕ} {n trees : ℕ} (𝓕 : Forest n rotation first order from trees) {left roots : ℕ → ℕ} {i count : ℕ}
+pub rooting-end : {rotation : ℕ → ℕ} {first : ℕ} {order from : ℕ → ℕ} {n trees : ℕ}
+    (𝓕 : Forest n rotation first order from trees) {left roots : ℕ → ℕ} {i count : ℕ}
     → n ≤ i → Rooting rotation first order from n trees (𝓕 .planted) left roots i count → RootsOf n rotation first left roots trees
 rooting-end {order = order} {from = from} 𝓕 over ξ = record {
   order = order;

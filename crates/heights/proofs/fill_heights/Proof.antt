@@ -9,7 +9,8 @@ use lib.Seq.{getD-set-same}
 use borrow.Author.Needs.{needs}
 use Rattle.maps.specs.Dart.{rev}
 use Rattle.arrays.specs.At.{at, atℤ}
-use Rattle.heights.proofs.FillingHeights.{Filling, dart-in, some-dart, first-own, origin-in, node-in, filling-start, filling-turned, filling-rooted, new-fits, filling-stored, filled}
+use Rattle.heights.proofs.FillingHeights.{Filling, dart-in, some-dart, first-own, origin-in, node-in}
+use Rattle.heights.proofs.FillingHeights.{filling-start, filling-turned, filling-rooted, new-fits, filling-stored, filled}
 use Rattle.heights.proofs.fill_heights.Statement.{statement}
 use Rattle.heights.proofs.fill_heights.Tie as tie
 
@@ -185,7 +186,8 @@ loop-again c =
     let f = origin k in
     let t = turn (met f) in
     let o = t .before .loop in
-    filling-stored (start t .pre .1) (o .heights) (o .inv .1) (t .loop-test .taken) (met f .wide3 .ensures) (f .wide4 .ensures) (k .wide5 .ensures) (turned-back k)
+    filling-stored (start t .pre .1) (o .heights) (o .inv .1) (t .loop-test .taken) (met f .wide3 .ensures) (f .wide4 .ensures) (k .wide5 .ensures)
+    (turned-back k)
     (o .inv .0) (both c .wide6 .ensures) (c .minus .ensures)
 
 -- ── d begins a tree: its node ──

@@ -9,7 +9,8 @@ use lib.Seq.{getD-set-same}
 use borrow.Author.Needs.{needs}
 use Rattle.arrays.specs.At.{at, atℤ}
 use Rattle.levels.specs.inner.Laying.{Kept}
-use Rattle.levels.proofs.FillingLevels.{Filling, dart-in, origin-in, face-in, filling-start, new-fits, kept-stored, filling-stored, filling-rooted, filled}
+use Rattle.levels.proofs.FillingLevels.{Filling, dart-in, origin-in, face-in, filling-start}
+use Rattle.levels.proofs.FillingLevels.{new-fits, kept-stored, filling-stored, filling-rooted, filled}
 use Rattle.levels.proofs.fill_levels.Statement.{statement}
 use Rattle.levels.proofs.fill_levels.Tie as tie
 

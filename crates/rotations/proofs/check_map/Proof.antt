@@ -105,7 +105,8 @@ returns-3 c =
     let e = passed n in (
       n .number-orbits .ensures .0,
       rw (c .refused3 .ensures)
-          (refused-12 (mapAt (begun (turned e))) (not-9 (turned e)) (not-10 e) (sound e) (parted n .count-parts .ensures .1 .1) (counted n) (c .before .if3 .taken)),
+          (refused-12 (mapAt (begun (turned e))) (not-9 (turned e)) (not-10 e) (sound e) (parted n .count-parts .ensures .1 .1) (counted n)
+          (c .before .if3 .taken)),
     )
 
 returns-4 : tie.Need-returns-4

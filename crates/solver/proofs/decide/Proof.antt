@@ -53,7 +53,8 @@ measured : (c : tie.After-cut-apart)
 measured c =
     let t = c .before .before .before in
     let d = t .before in
-    measured-for (mapAt (begun c)) (atℤ (begun c .args .capacities .now)) (atℤ (row c)) (flags c) (c .cut-apart .result) (d .dart-at .ensures .1) (t .dart-at2 .ensures .1) (same-value (begun c .pre .4)) (c .cut-apart .ensures .2)
+    measured-for (mapAt (begun c)) (atℤ (begun c .args .capacities .now)) (atℤ (row c)) (flags c) (c .cut-apart .result) (d .dart-at .ensures .1)
+    (t .dart-at2 .ensures .1) (same-value (begun c .pre .4)) (c .cut-apart .ensures .2)
 
 returns : tie.Need-returns
 returns c =

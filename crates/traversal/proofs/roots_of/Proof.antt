@@ -65,7 +65,8 @@ wide-requires-2 : tie.Need-wide-requires-2 Inv-loop μ-loop
 wide-requires-2 c κs = search needs
 
 -- it begins a tree, the next one
-own : (c : tie.Then1 Inv-loop μ-loop) → at (met-from (c .before .before .before .before .before)) (at (listed (c .before .before .before .before .before)) (c .before .before .before .before .loop .i))
+own : (c : tie.Then1 Inv-loop μ-loop) → at (met-from (c .before .before .before .before .before))
+    (at (listed (c .before .before .before .before .before)) (c .before .before .before .before .loop .i))
     ≡ at (listed (c .before .before .before .before .before)) (c .before .before .before .before .loop .i)
 own c =
     let f = c .before in
@@ -89,7 +90,13 @@ mul-roots-2 : tie.Need-mul-roots-2 Inv-loop μ-loop
 mul-roots-2 c = omega (arith, room (c .before), begun (c .before .before .before .before .before) .pre .1)
 
 element-write-roots : tie.Need-element-write-roots Inv-loop μ-loop
-element-write-roots c = omega (arith, room (c .before), begun (c .before .before .before .before .before) .pre .1, c .before .before .before .before .before .loop .inv .0)
+element-write-roots c = omega (
+  arith,
+  room (c .before),
+  begun
+      (c .before .before .before .before .before) .pre .1,
+  c .before .before .before .before .before .loop .inv .0,
+)
 
 add-count : tie.Need-add-count Inv-loop μ-loop
 add-count c = omega (arith, room (c .before), begun (c .before .before .before .before .before) .pre .1)
@@ -108,7 +115,8 @@ loop-again c =
       length-set (o .roots) (o .count) face ∙ o .inv .0,
       omega (arith, t .loop-test .taken),
       λ 𝓕. rooting-written (𝓕 .planted) (o .inv .2 𝓕) (t .loop-test .taken) (𝓕 .apart) (own b)
-          (getD-set-same (o .roots) (o .count) face 0 (omega (arith, room b, begun (t .before) .pre .1, o .inv .0)) ∙ ap (at (a .lefts .now)) (d .wide .ensures))
+          (getD-set-same (o .roots) (o .count) face 0 (omega (arith, room b, begun (t .before) .pre .1, o .inv .0)) ∙ ap (at (a .lefts .now))
+          (d .wide .ensures))
           (λ u h. getD-set-other (o .roots) (o .count) u face 0 h),
     )
 
