@@ -107,8 +107,8 @@ pub record OuterFace : Type 0 where
 -- different parts, and then only 0 can be delivered". Two nodes are in one part if a walk along channels joins them. ──
 pub record Districts : Type 0 where
   -- an accepted sheet is flat in each part, however its parts are numbered
-  pub flat-in-each : (s : List ℕ) → NoneOf (sheetChecks s) → (parts : ℕ) (part : ℕ → ℕ) → Components (sheetMap s) parts part → FlatInEach
-      (sheetMap s) parts part
+  pub flat-in-each : (s : List ℕ) → NoneOf (sheetChecks s) → (parts : ℕ) (part : ℕ → ℕ) → Components (sheetMap s) parts part
+      → FlatInEach (sheetMap s) parts part
   -- each part has a face at level 0, ..
   pub has-zero-face : (s : List ℕ) → NoneOf (sheetChecks s) → (d : ℕ) → d < darts (sheetMap s)
       → (e : ℕ) × (e < darts (sheetMap s)) × Walk (sheetMap s) (sheetMap s .tail d) (sheetMap s .tail e)

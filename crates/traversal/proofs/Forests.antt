@@ -1,6 +1,5 @@
--- What the walk over all darts says of a sound map: its trees are the parts of the map, and the faces left of their first darts are the faces at 0 (document
--- 02,
--- Job 8).
+-- What the walk over all darts says of a sound map: its trees are the parts of the map, and the faces left of their first darts are the faces at 0
+-- (document 02, Job 8).
 use mathlib.Core.Path.{_≡_, refl, sym, _∙_, ap, subst}
 use mathlib.Core.Logic.{_⊎_, inl, inr, _≢_}
 use mathlib.Core.Bool.{Bool, true}
