@@ -32,7 +32,8 @@
 // or ANALYSER_KEY_INPUT_BYTES + 1 for a question with its sheet. Bytes left over are refused with 8, and a buffer
 // of exactly the longest would hide them. What lies beyond that one byte changes no answer.
 //
-// THE OUTER FACE is the one at level 0: of all right settings it says which are the highest, and it is what 20 looks at. Face numbers do not depend on it.
+// THE OUTER FACE is at level 0, and so is the lowest-numbered face of each part that the outer dart does not lie in (a part is what channels, followed either
+// way, join). Of all right settings these faces say which are the highest, and they are what 20 looks at. Face numbers do not depend on the outer dart.
 //
 // THE SHEET CHECKS, in order. Head: 1 no first byte, 2, 1 body cut short, 3, 24.
 // For each channel in turn: 1 no byte, 2, 1 body cut short, 4, 5, 6, 7. Then 8. Then 9, 10, 11, 12.
@@ -46,7 +47,7 @@
 #define ANALYSER_MAX_NODES 513
 #define ANALYSER_MAX_CHANNELS 512 // settings
 #define ANALYSER_MAX_DARTS 1024 // tails, turns, limits
-#define ANALYSER_MAX_FACES 512 // levels
+#define ANALYSER_MAX_FACES 1024 // levels: 512 nodes with a loop each have 1024 faces
 #define ANALYSER_SET_WORDS 9
 #define ANALYSER_SHEET_BYTES 8711
 #define ANALYSER_KEY_INPUT_BYTES 8720
@@ -65,8 +66,7 @@ enum analyser_result {
     ANALYSER_BYTES_LEFT_OVER = 8, // bytes after the last channel. Sheet
     ANALYSER_TURN_MISPLACED = 9, // a turn has another tail than its dart, or two darts have one turn. Sheet; Write
     ANALYSER_NOT_ONE_ROUND = 10, // a node's darts do not form exactly one round, or it has none. Sheet; Write
-    ANALYSER_NOT_CONNECTED = 11, // channels, followed either way, do not lead from every node to every other. Sheet; Write
-    ANALYSER_NOT_FLAT = 12, // nodes - channels + faces is not 2. Sheet; Write
+    ANALYSER_NOT_FLAT = 12, // nodes - channels + faces is not 2 in some part: what channels, followed either way, join. Sheet; Write
     ANALYSER_NO_SUCH_NODE = 13, // headgate or outfall is no node. Solve, Largest, Least and largest, Mark
     ANALYSER_ENDS_EQUAL = 14, // headgate and outfall are one node. Solve, Largest, Least and largest, Mark
     ANALYSER_DELIVERY_OUT_OF_RANGE = 15, // the delivery is not -600000000 to 600000000. Solve
@@ -74,7 +74,7 @@ enum analyser_result {
     ANALYSER_OUTSIDE_LIMITS = 17, // a setting is outside its channel's limits; *place is the lowest such channel. Mark, both level functions
     ANALYSER_OFF_BALANCE = 18, // flow is lost or gained at a node; *place is the lowest such node. Mark, Levels from settings
     ANALYSER_LEVEL_OUT_OF_RANGE = 19, // a level is not -600000000 to 600000000. Settings from levels
-    ANALYSER_ZERO_FACE_NOT_AT_0 = 20, // the level of the outer face is not 0. Settings from levels
+    ANALYSER_ZERO_FACE_NOT_AT_0 = 20, // the level of the outer face, or of the lowest face of another part, is not 0. Settings from levels
     ANALYSER_OUTER_IS_NO_DART = 24 // the outer dart is no dart. Sheet; Write
 };
 
@@ -131,7 +131,7 @@ uint8_t analyser_least_and_largest(const uint8_t *sheet, size_t sheet_length, ui
 uint8_t analyser_mark(const uint8_t *sheet, size_t sheet_length, uint16_t headgate, uint16_t outfall, const int32_t *settings, size_t settings_length,
                       int32_t *value, uint16_t *place);
 
-// Levels from settings: the levels of the faces, the outer face at 0, of settings that balance at every node:
+// Levels from settings: the levels of the faces, the outer face at 0 and the lowest of each other part, of settings that balance at every node:
 // the setting of channel e is the level left of dart 2e less the level right of it.
 // Refusals: the sheet checks; 16 where settings has less than one element for each channel, or levels less than one for each face; 17; 18 at any node.
 // Writes where there is an answer: a level for each face.

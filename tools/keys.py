@@ -45,19 +45,18 @@ def edge_refusal(question, edge):
 
 
 def drawing_refusal(question):
-    """The checks 9 to 12."""
+    """The checks 9, 10 and 12, the last in each part."""
     tail, rotation, nodes = question.tail, question.rotation, set(range(question.nodes))
     if any(tail[turn] != tail[dart] for dart, turn in enumerate(rotation)) or len({*rotation}) < len(rotation):
         return 9
     if sorted(tail[one[0]] for one in rounds(rotation)) != sorted(nodes):
         return 10
-    reached, more = set(), {0}
-    while more:
-        reached |= more
-        more = {tail[dart ^ 1] for dart in range(len(tail)) if tail[dart] in more} - reached
-    if reached != nodes:
-        return 11
-    return 12 if question.nodes - len(question.edges) + len(question.faces()) != 2 else 0
+    for part in question.parts():
+        edges = [edge for edge in question.edges if tail[2 * edge] in part]
+        faces = [face for face in question.faces() if tail[face[0]] in part]
+        if len(part) - len(edges) + len(faces) != 2:
+            return 12
+    return 0
 
 
 def refusal(question):

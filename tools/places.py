@@ -43,12 +43,40 @@ class Drawing:
         """Rounds of the face step, the turn of the reverse. As turns are clockwise, a face lies to the left of its darts."""
         return rounds([self.rotation[dart ^ 1] for dart in range(len(self.tail))])
 
+    def parts(self):
+        """The sets of nodes that channels, followed either way, join, in order of their lowest nodes."""
+        found, left = [], set(range(self.nodes))
+        while left:
+            part, more = set(), {min(left)}
+            while more:
+                part |= more
+                more = {self.tail[dart ^ 1] for dart in range(len(self.tail)) if self.tail[dart] in more} - part
+            found.append(part)
+            left -= part
+        return found
+
+    def part(self, nodes):
+        """One part as a drawing of its own, with its nodes and edges in their order."""
+        nodes, edges = sorted(nodes), [edge for edge in self.edges if self.tail[2 * edge] in nodes]
+        darts = [2 * edge + side for edge in edges for side in (0, 1)]
+        dart, node = {old: new for new, old in enumerate(darts)}, {old: new for new, old in enumerate(nodes)}
+        tail, rotation = [node[self.tail[old]] for old in darts], [dart[self.rotation[old]] for old in darts]
+        return Drawing(len(nodes), tail, rotation, node.get(self.source), node.get(self.sink), dart.get(self.outer)), nodes, edges
+
     def outer_face(self):
         """The face of the outer dart, where the sheet names one; else the longest of the faces with both source and sink, or of those with one of them, or of
         all."""
         if self.outer is not None:
             return next(face for face in self.faces() if self.outer in face)
         return max(self.faces(), key=lambda face: (len({self.source, self.sink} & {self.tail[dart] for dart in face}), len(face)))
+
+    def outer_faces(self):
+        """The face that lies outside, of each part."""
+        found = []
+        for nodes in self.parts():
+            part, _, edges = self.part(nodes)
+            found.append([2 * edges[dart // 2] + dart % 2 for dart in part.outer_face()])
+        return found
 
     def route(self, dart):
         """The points of a dart: its tail, those on its way, its head."""
@@ -152,7 +180,24 @@ def middles(weights, pinned):
 
 
 def layout(drawing):
-    """The place of every point, and the size of the picture. Round by round the sides of large triangles get more weight and those of small ones less, until
+    """The place of every point, and the size of the picture: the parts side by side."""
+    place, width, height = {}, 0, 0
+    for nodes in drawing.parts():
+        part, nodes, edges = drawing.part(nodes)
+        own, across, down = part_layout(part)
+        shift = width and width - ASIDE
+        for new, old in enumerate(nodes):
+            place[old] = own[new][0] + shift, own[new][1]
+        for new, old in enumerate(edges):
+            for i in range(POINTS):
+                x, y = own[part.nodes + POINTS * new + i]
+                place[drawing.nodes + POINTS * old + i] = x + shift, y
+        width, height = shift + across, max(height, down)
+    return place, width, height
+
+
+def part_layout(drawing):
+    """The place of every point of one part, and the size of its picture. Round by round the sides of large triangles get more weight and those of small ones less, until
     no node moves much: so what lies deep inside, or in a loop, gets room too."""
     triangles, walk, pinned = triangulate(drawing)
     pinned, width, height = frame(drawing, walk, pinned)

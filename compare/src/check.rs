@@ -219,7 +219,7 @@ impl Checker<'_> {
             Call::Mark { source, .. } => lent.value = net_flows(&drawing, &judge::wide(&lent.flows))[source as usize] as i32,
             Call::LevelsFromSettings => {
                 let faces = drawing.faces();
-                store(&mut lent.levels, &levels_of(&faces, faces[drawing.outer_dart()], &judge::wide(&before.flows)));
+                store(&mut lent.levels, &levels_of(&faces, &drawing.zero_faces(), &judge::wide(&before.flows)));
             }
             Call::SettingsFromLevels => store(&mut lent.flows, &flows_of(&drawing.faces(), &judge::wide(&before.levels))),
             Call::KeyText => {
@@ -421,7 +421,8 @@ impl Checker<'_> {
                 lent.levels = after.levels;
                 lent.flows = self.chance.junk(lent.flows.len(), |x| x as i32);
                 self.compare(Call::SettingsFromLevels, &lent)?;
-                self.spoil_levels(faces[drawing.outer_dart()], &mut lent.levels);
+                let zero = self.chance.pick(&drawing.zero_faces());
+                self.spoil_levels(zero, &mut lent.levels);
                 self.compare(Call::SettingsFromLevels, &lent)?;
                 lent.flows.resize(drawing.edges(), 0);
                 fill(&mut lent.flows, &flows);
@@ -431,7 +432,9 @@ impl Checker<'_> {
         }
         let most = self.chance.pick(&[0, 1, 5, 500_000, 600_000_000]);
         let mut levels: Vec<i64> = (0..count(&faces)).map(|_| self.chance.between(-most, most)).collect();
-        levels[faces[drawing.outer_dart()]] = 0;
+        for face in drawing.zero_faces() {
+            levels[face] = 0;
+        }
         let mut lent = self.lend(drawing.bytes(), drawing);
         fill(&mut lent.levels, &levels);
         let after = self.compare(Call::SettingsFromLevels, &lent)?;

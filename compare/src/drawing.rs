@@ -67,6 +67,36 @@ impl Drawing {
         rounds(&(0..self.darts()).map(|dart| rotation[dart ^ 1]).collect::<Vec<_>>())
     }
 
+    /// The number of the part that each node lies in: parts are what channels, followed either way, join.
+    pub fn parts(&self) -> Vec<usize> {
+        let mut part: Vec<usize> = (0..self.nodes as usize).collect();
+        let mut changed = true;
+        while changed {
+            changed = false;
+            for dart in 0..self.darts() {
+                let (tail, head) = (self.tail(dart), self.head(dart));
+                if part[head] < part[tail] {
+                    part[tail] = part[head];
+                    changed = true;
+                }
+            }
+        }
+        part
+    }
+
+    /// The faces at level 0: that of the outer dart, and in each part that it does not lie in the lowest.
+    pub fn zero_faces(&self) -> Vec<usize> {
+        let (parts, faces, outer) = (self.parts(), self.faces(), self.outer_dart());
+        let part = |dart: usize| parts[self.tail(dart)];
+        let mut zero: Vec<Option<usize>> = vec![None; parts.len()];
+        for dart in 0..self.darts() {
+            let lowest = zero[part(dart)].get_or_insert(faces[dart]);
+            *lowest = faces[dart].min(*lowest);
+        }
+        zero[part(outer)] = Some(faces[outer]);
+        zero.into_iter().flatten().collect()
+    }
+
     pub fn bytes(&self) -> Vec<u8> {
         let mut bytes = vec![if self.outer.is_some() { 4 } else { 1 }];
         bytes.extend(self.nodes.to_le_bytes());

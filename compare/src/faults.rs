@@ -2,7 +2,7 @@
 use crate::drawing::{rounds, Drawing, EDGE};
 use crate::flow::{carry, range};
 use crate::judge;
-use crate::levels::{flows_of, highest, levels_of, lowest};
+use crate::levels::{flows_of, highest, highest_from, levels_of, lowest};
 use crate::unit::{self, Call, Lent};
 
 macro_rules! faults {
@@ -56,8 +56,12 @@ faults! {
     LevelsRight: "levels have the face right of the outer dart at 0",
     HighestAtFaceZero: "the highest flow is taken with face 0 at level 0, whatever the outer dart is",
     FlowsTurned: "flows of levels have the other sign",
-    TwelveForEleven: "flatness is looked at before connection",
-    ElevenForTen: "connection is looked at before the rounds",
+    TwelveByTotal: "a sheet in several parts is flat if nodes - channels + faces is 2 in all",
+    ElevenForTen: "11 is told where a sheet in several parts has a node that is not one round",
+    LevelsOfTheFirstPart: "levels have the highest face of a part that the outer dart is not in at 0",
+    HighestOfTheFirstPart: "the highest flow is taken with the highest face of each other part at 0",
+    CanApart: "Solve says can to every value where source and sink are in different parts, with flows of 0",
+    PartLeftOut: "Solve says can to 0 where a part that holds neither end cannot be met",
     SevenForSix: "the sum of two limits is looked at before their ranges",
     CutBeforeFields: "a sheet cut short is seen before the fields of its first edges",
     FourteenForThirteen: "equal ends are looked at before whether they are nodes",
@@ -140,9 +144,10 @@ fn answer(fault: Fault, call: &Call, drawing: &Drawing, before: &Lent, after: &m
         Call::LevelsFromSettings => {
             let (faces, flows) = (drawing.faces(), judge::wide(&before.flows));
             match fault {
-                Fault::LevelsTurned => after.levels[..drawing.edges() + 2 - drawing.nodes as usize].iter_mut().for_each(|level| *level = -*level),
-                Fault::LevelsAtFaceZero => put(&mut after.levels, &levels_of(&faces, 0, &flows)),
-                Fault::LevelsRight => put(&mut after.levels, &levels_of(&faces, faces[drawing.outer_dart() ^ 1], &flows)),
+                Fault::LevelsTurned => after.levels[..crate::drawing::count(&faces)].iter_mut().for_each(|level| *level = -*level),
+                Fault::LevelsAtFaceZero => put(&mut after.levels, &levels_of(&faces, &zero_with(drawing, 0), &flows)),
+                Fault::LevelsOfTheFirstPart => put(&mut after.levels, &levels_of(&faces, &highest_elsewhere(drawing), &flows)),
+                Fault::LevelsRight => put(&mut after.levels, &levels_of(&faces, &zero_with(drawing, drawing.outer_dart() ^ 1), &flows)),
                 _ => {}
             }
         }
@@ -186,7 +191,8 @@ fn can(fault: Fault, (source, sink, value): (u16, u16, i32), drawing: &Drawing, 
         Fault::NotHighest => put(&mut after.flows, &other()),
         Fault::HighestAtFaceZero => put(&mut after.flows, &highest(&Drawing { outer: None, ..drawing.clone() }, &drawing.faces(), &other())),
         Fault::Lowest => put(&mut after.flows, &lowest(drawing, &drawing.faces(), &other())),
-        Fault::StepByTheDart => put(&mut after.flows, &highest(drawing, &rounds(&drawing.rotation()), &other())),
+        Fault::StepByTheDart if parts(drawing) == 1 => put(&mut after.flows, &highest(drawing, &rounds(&drawing.rotation()), &other())),
+        Fault::HighestOfTheFirstPart => put(&mut after.flows, &highest_from(drawing, &drawing.faces(), &highest_elsewhere(drawing), &other())),
         Fault::ExtraFlow => after.flows[drawing.edges()..].fill(0),
         Fault::SetOnCan => after.set.fill(0),
         _ => {}
@@ -202,6 +208,14 @@ fn cannot(fault: Fault, (source, sink, value): (u16, u16, i32), drawing: &Drawin
                 put(&mut after.flows, &highest(drawing, &drawing.faces(), &flows));
                 (after.can, after.set, after.size) = (1, before.set.clone(), before.size);
             }
+        }
+        Fault::CanApart if { let parts = drawing.parts(); parts[source as usize] != parts[sink as usize] } => {
+            after.flows[..drawing.edges()].fill(0);
+            (after.can, after.set, after.size) = (1, before.set.clone(), before.size);
+        }
+        Fault::PartLeftOut if value == 0 && parts(drawing) > 1 => {
+            after.flows[..drawing.edges()].fill(0);
+            (after.can, after.set, after.size) = (1, before.set.clone(), before.size);
         }
         Fault::InventedSize => after.size += 1,
         Fault::SizeOfAllNodes => after.size = drawing.nodes,
@@ -289,6 +303,35 @@ fn no_values(fault: Fault, (source, sink): (u16, u16), drawing: &Drawing, after:
     }
 }
 
+/// How many parts a drawing has.
+fn parts(drawing: &Drawing) -> usize {
+    let mut parts = drawing.parts();
+    parts.sort();
+    parts.dedup();
+    parts.len()
+}
+
+fn total_is_two(drawing: &Drawing) -> bool {
+    drawing.nodes as usize + crate::drawing::count(&drawing.faces()) == drawing.edges() + 2
+}
+
+/// The faces at 0 if the outer dart were this one.
+fn zero_with(drawing: &Drawing, outer: usize) -> Vec<usize> {
+    Drawing { outer: Some(outer as u16), ..drawing.clone() }.zero_faces()
+}
+
+/// The faces at 0, but for the parts that the outer dart is not in their highest.
+fn highest_elsewhere(drawing: &Drawing) -> Vec<usize> {
+    let (parts, faces, outer) = (drawing.parts(), drawing.faces(), drawing.outer_dart());
+    let part = |dart: usize| parts[drawing.tail(dart)];
+    let mut zero: Vec<Option<usize>> = vec![None; parts.len()];
+    for dart in 0..drawing.darts() {
+        zero[part(dart)] = zero[part(dart)].max(Some(faces[dart]));
+    }
+    zero[part(outer)] = Some(faces[outer]);
+    zero.into_iter().flatten().collect()
+}
+
 fn key(fault: Fault, after: &mut Lent) {
     match fault {
         Fault::KeyWithoutLastLineFeed => after.length -= 1,
@@ -313,8 +356,8 @@ fn refusal(fault: Fault, call: &Call, before: &Lent, after: &mut Lent, result: u
         (Fault::FlowsOnRefusal, 17) if *call == Call::SettingsFromLevels => after.flows[..after.place as usize].fill(0),
         (Fault::LevelsOnRefusal, 18) if *call == Call::LevelsFromSettings => after.levels[0] = 0,
         (Fault::AnswerOnRefusal, _) if matches!(call, Call::Solve { .. }) => after.can = 0,
-        (Fault::TwelveForEleven, 11) if judge::records(sheet).is_ok_and(|drawing| !judge::flat(&drawing)) => return 12,
-        (Fault::ElevenForTen, 10) if judge::records(sheet).is_ok_and(|drawing| !judge::connected(&drawing)) => return 11,
+        (Fault::TwelveByTotal, 12) if judge::records(sheet).is_ok_and(|drawing| total_is_two(&drawing)) => return 0,
+        (Fault::ElevenForTen, 10) if judge::records(sheet).is_ok_and(|drawing| parts(&drawing) > 1) => return 11,
         (Fault::SevenForSix, 6) if sum_below_zero(sheet) => return 7,
         (Fault::CutBeforeFields, 4..=7) if sheet.len() >= head && sheet.len() < head + EDGE * u16::from_le_bytes([sheet[3], sheet[4]]) as usize => return 1,
         (Fault::FourteenForThirteen, 13) => match *call {
@@ -326,7 +369,7 @@ fn refusal(fault: Fault, call: &Call, before: &Lent, after: &mut Lent, result: u
             _ => {}
         },
         (Fault::SixteenForFifteen, 15) if judge::records(sheet).is_ok_and(|drawing| before.flows.len() < drawing.edges()) => return 16,
-        (Fault::TwentyForNineteen, 19) if judge::records(sheet).is_ok_and(|drawing| before.levels[drawing.faces()[drawing.outer_dart()]] != 0) => return 20,
+        (Fault::TwentyForNineteen, 19) if judge::records(sheet).is_ok_and(|drawing| drawing.zero_faces().iter().any(|&face| before.levels[face] != 0)) => return 20,
         (Fault::TwentyAtFaceZero, 20) if before.levels[0] == 0 => return 0,
         (Fault::TwentyFourForThree, 3) if head == 7 && short(5) as usize >= 2 * short(3) as usize => return 24,
         (Fault::FourForTwentyFour, 24) if sheet.len() >= head + 5 && short(head + 1).max(short(head + 3)) >= short(1) => return 4,

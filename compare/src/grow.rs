@@ -1,5 +1,5 @@
-//! Random drawings that are flat and connected by construction: shapes with a known round of darts at each node, grown on edge by edge. An edge hangs a new node into a
-//! face, or joins two corners of one face. Nodes, edges and directions are then shuffled, and capacities laid on.
+//! Random drawings that are flat by construction: shapes with a known round of darts at each node, grown on edge by edge. An edge hangs a new node into a face, or
+//! joins two corners of one face. Several such stand beside each other, as parts of one drawing; a part may be one node with loops. Nodes, edges and directions are then shuffled, and capacities laid on.
 use crate::chance::Chance;
 use crate::drawing::{count, Drawing};
 use crate::levels;
@@ -102,7 +102,7 @@ impl Plan {
         plan
     }
 
-    /// Beside another plan, unconnected: wanted only by damaged sheets.
+    /// Beside another plan, as another part.
     pub fn beside(&self, other: &Plan) -> Plan {
         let darts = self.tails.len();
         let mut plan = self.clone();
@@ -209,6 +209,27 @@ fn shape(chance: &mut Chance, edges: usize) -> (&'static str, Plan) {
     }
 }
 
+/// One node with loops, side by side.
+fn loops(edges: usize) -> Plan {
+    Plan::of_rounds(&[(0..2 * edges).collect()])
+}
+
+/// A plan and more parts beside it, as long as there is room for their edges and nodes.
+fn with_parts(chance: &mut Chance, mut plan: Plan, more: usize) -> Plan {
+    for _ in 0..more {
+        let room = (MOST_EDGES - plan.edges().min(MOST_EDGES)).min(513 - plan.nodes.min(513));
+        if room == 0 {
+            break;
+        }
+        let edges = 1 + chance.below(room.min(6));
+        let other = if chance.one_in(3) { loops(edges) } else { shape(chance, edges).1 };
+        if plan.nodes + other.nodes <= 513 && plan.edges() + other.edges() <= MOST_EDGES {
+            plan = if chance.one_in(2) { plan.beside(&other) } else { other.beside(&plan) };
+        }
+    }
+    plan
+}
+
 /// How many edges: few most of the time, sometimes all that there may be.
 fn size(chance: &mut Chance) -> usize {
     let most = chance.pick(&[3, 6, 6, 10, 10, 10, 20, 20, 60, 150, MOST_EDGES]);
@@ -239,12 +260,29 @@ pub fn grow(chance: &mut Chance, number: u64) -> Grown {
             plan.grow(chance, MOST_EDGES, 40, 20);
             plan
         }),
+        60 => ("loops alone", {
+            // 512 nodes with a loop each: 1,024 faces
+            let mut plan = loops(1);
+            while plan.nodes < MOST_EDGES {
+                let more = plan.clone();
+                plan = plan.beside(&more);
+            }
+            plan
+        }),
+        61 => ("many parts", {
+            let (_, plan) = shape(chance, 5);
+            with_parts(chance, plan, 200)
+        }),
         _ => {
             let edges = size(chance);
             let (name, mut plan) = shape(chance, edges);
             if chance.one_in(4) {
                 let more = (plan.edges() + chance.below(8)).min(MOST_EDGES);
                 plan.grow(chance, more, 30, 10);
+            }
+            if chance.one_in(3) {
+                let more = 1 + chance.below(3);
+                plan = with_parts(chance, plan, more);
             }
             (name, plan)
         }
@@ -317,7 +355,7 @@ fn some_flow(chance: &mut Chance, drawing: &Drawing, source: usize, sink: usize)
     flows
 }
 
-/// The darts of some path.
+/// The darts of some path; none where there is none.
 fn path_between(drawing: &Drawing, source: usize, sink: usize) -> Vec<usize> {
     let mut into = vec![None; drawing.nodes as usize];
     let mut out = vec![vec![]; drawing.nodes as usize];
@@ -337,7 +375,9 @@ fn path_between(drawing: &Drawing, source: usize, sink: usize) -> Vec<usize> {
     let mut path = vec![];
     let mut node = sink;
     while node != source {
-        let dart: usize = into[node].expect("a grown drawing is connected");
+        let Some(dart): Option<usize> = into[node] else {
+            return vec![]; // in another part
+        };
         path.push(dart);
         node = drawing.tail(dart);
     }
@@ -361,6 +401,6 @@ mod tests {
                 assert_eq!((grown.drawing.nodes, grown.drawing.edges()), (513, 512));
             }
         }
-        assert_eq!(names.len(), 13, "{names:?}");
+        assert_eq!(names.len(), 15, "{names:?}");
     }
 }

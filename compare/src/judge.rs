@@ -72,7 +72,7 @@ pub fn accept(call: &Call, lent: &Lent) -> Result<Drawing, Refusal> {
             refuse(16, lent.flows.len() < drawing.edges() || lent.levels.len() < faces)?;
             let levels = wide(&lent.levels[..faces]);
             refuse(19, levels.iter().any(|level| level.abs() > 600_000_000))?;
-            refuse(20, levels[drawing.faces()[drawing.outer_dart()]] != 0)?;
+            refuse(20, drawing.zero_faces().iter().any(|&face| levels[face] != 0))?;
             within(&drawing, &crate::levels::flows_of(&drawing.faces(), &levels))?;
         }
         Call::Write { .. } | Call::KeyText => unreachable!("judged above"),
@@ -146,14 +146,13 @@ fn fields(drawing: &Drawing, edge: usize, edges: usize) -> Verdict {
     refuse(7, drawing.capacity(darts[0]) + drawing.capacity(darts[1]) < 0)
 }
 
-/// Checks 9 to 12.
+/// Checks 9, 10 and 12.
 fn rotation(drawing: &Drawing) -> Verdict {
     let rotation = drawing.rotation();
     refuse(9, rotation.iter().enumerate().any(|(dart, &next)| drawing.tail(next) != drawing.tail(dart)))?;
     let mut met = vec![false; rotation.len()];
     refuse(9, rotation.iter().any(|&next| std::mem::replace(&mut met[next], true)))?;
     refuse(10, !one_round_each(drawing))?;
-    refuse(11, !connected(drawing))?;
     refuse(12, !flat(drawing))
 }
 
@@ -169,27 +168,24 @@ fn one_round_each(drawing: &Drawing) -> bool {
     round.iter().all(Option::is_some)
 }
 
-pub fn connected(drawing: &Drawing) -> bool {
-    let mut beside = vec![vec![]; drawing.nodes as usize];
-    for dart in 0..drawing.darts() {
-        beside[drawing.tail(dart)].push(drawing.head(dart));
+/// Nodes - channels + faces = 2 in each part, counted part by part.
+pub fn flat(drawing: &Drawing) -> bool {
+    let (parts, faces) = (drawing.parts(), drawing.faces());
+    let mut counted = vec![0i64; parts.len()];
+    for &part in &parts {
+        counted[part] += 1;
     }
-    let mut reached = vec![false; drawing.nodes as usize];
-    reached[0] = true;
-    let mut waiting = vec![0];
-    while let Some(node) = waiting.pop() {
-        for &next in &beside[node] {
-            if !reached[next] {
-                reached[next] = true;
-                waiting.push(next);
-            }
+    let mut seen = vec![false; count(&faces)];
+    for dart in 0..drawing.darts() {
+        let part = parts[drawing.tail(dart)];
+        if dart % 2 == 0 {
+            counted[part] -= 1;
+        }
+        if !std::mem::replace(&mut seen[faces[dart]], true) {
+            counted[part] += 1;
         }
     }
-    reached.iter().all(|&there| there)
-}
-
-pub fn flat(drawing: &Drawing) -> bool {
-    drawing.nodes as usize + count(&drawing.faces()) == drawing.edges() + 2
+    parts.iter().all(|&part| counted[part] == 2)
 }
 
 fn write(nodes: u16, outer: u16, lent: &Lent) -> Result<Drawing, Refusal> {

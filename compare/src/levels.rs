@@ -1,5 +1,5 @@
-//! Face levels, from document 01: "flow on d = level of left(d) - level of right(d), with face 0 at level 0", where document 02 has the outer face, and the
-//! highest answer by shortest distances of faces.
+//! Face levels, from document 01: "flow on d = level of left(d) - level of right(d), with face 0 at level 0", where document 02 has the outer face and a face of each
+//! other part, and the highest answer by shortest distances of faces.
 use crate::drawing::{count, Drawing};
 use crate::flow::along;
 
@@ -8,10 +8,12 @@ pub fn flows_of(faces: &[usize], levels: &[i64]) -> Vec<i64> {
     faces.chunks(2).map(|pair| levels[pair[0]] - levels[pair[1]]).collect()
 }
 
-/// The levels of balanced flows, carried from face to face over the darts between them, with this face at 0.
-pub fn levels_of(faces: &[usize], outer: usize, flows: &[i64]) -> Vec<i64> {
+/// The levels of balanced flows, carried from face to face over the darts between them, with these faces at 0, one of each part.
+pub fn levels_of(faces: &[usize], zero: &[usize], flows: &[i64]) -> Vec<i64> {
     let mut levels = vec![None; count(faces)];
-    levels[outer] = Some(0);
+    for &face in zero {
+        levels[face] = Some(0);
+    }
     let mut changed = true;
     while changed {
         changed = false;
@@ -23,13 +25,15 @@ pub fn levels_of(faces: &[usize], outer: usize, flows: &[i64]) -> Vec<i64> {
             }
         }
     }
-    levels.into_iter().map(|level| level.expect("the faces of a connected drawing are connected")).collect()
+    levels.into_iter().map(|level| level.expect("the faces of a part are joined")).collect()
 }
 
-/// The shortest distances from a face over arcs (from, to, length), none of them below zero (Bellman-Ford).
-fn distances(faces: usize, outer: usize, arcs: &[(usize, usize, i64)]) -> Vec<i64> {
+/// The shortest distances from the nearest of some faces over arcs (from, to, length), none of them below zero (Bellman-Ford).
+fn distances(faces: usize, zero: &[usize], arcs: &[(usize, usize, i64)]) -> Vec<i64> {
     let mut distances = vec![i64::MAX / 4; faces];
-    distances[outer] = 0;
+    for &face in zero {
+        distances[face] = 0;
+    }
     let mut changed = true;
     while changed {
         changed = false;
@@ -44,18 +48,23 @@ fn distances(faces: usize, outer: usize, arcs: &[(usize, usize, i64)]) -> Vec<i6
 }
 
 /// The highest answer of the same value as a given flow y within the capacities. Another flow of that value is y and the balanced flow of some levels p, and
-/// keeps within the capacities if p(left d) <= p(right d) + capacity(d) - y(d) for every dart. The greatest such p are the distances of the faces from the
-/// outer one, with an arc from right(d) to left(d) of that length: all others are nowhere above them.
+/// keeps within the capacities if p(left d) <= p(right d) + capacity(d) - y(d) for every dart. The greatest such p are the distances of the faces from the one at 0
+/// in their part, with an arc from right(d) to left(d) of that length: all others are nowhere above them.
 pub fn highest(drawing: &Drawing, faces: &[usize], flows: &[i64]) -> Vec<i64> {
+    highest_from(drawing, faces, &drawing.zero_faces(), flows)
+}
+
+/// The same with these faces at 0, one of each part.
+pub fn highest_from(drawing: &Drawing, faces: &[usize], zero: &[usize], flows: &[i64]) -> Vec<i64> {
     let arcs: Vec<_> = (0..drawing.darts()).map(|dart| (faces[dart ^ 1], faces[dart], drawing.capacity(dart) - along(flows, dart))).collect();
-    let risen = flows_of(faces, &distances(count(faces), faces[drawing.outer_dart()], &arcs));
+    let risen = flows_of(faces, &distances(count(faces), zero, &arcs));
     flows.iter().zip(risen).map(|(flow, rise)| flow + rise).collect()
 }
 
 /// The other way round: the answer from which all others rise. Wanted only as a deliberate fault.
 pub fn lowest(drawing: &Drawing, faces: &[usize], flows: &[i64]) -> Vec<i64> {
     let arcs: Vec<_> = (0..drawing.darts()).map(|dart| (faces[dart], faces[dart ^ 1], drawing.capacity(dart) - along(flows, dart))).collect();
-    let fallen = flows_of(faces, &distances(count(faces), faces[drawing.outer_dart()], &arcs));
+    let fallen = flows_of(faces, &distances(count(faces), &drawing.zero_faces(), &arcs));
     flows.iter().zip(fallen).map(|(flow, fall)| flow - fall).collect()
 }
 
@@ -84,8 +93,8 @@ mod tests {
     #[test]
     fn levels_of_a_are_those_of_the_paper() {
         let faces = paper::a().faces();
-        assert_eq!(levels_of(&faces, 0, &[2, 1, -3]), [0, -2, -3]);
-        assert_eq!(levels_of(&faces, 1, &[2, 1, -3]), [2, 0, -1]);
+        assert_eq!(levels_of(&faces, &[0], &[2, 1, -3]), [0, -2, -3]);
+        assert_eq!(levels_of(&faces, &[1], &[2, 1, -3]), [2, 0, -1]);
         assert_eq!(flows_of(&faces, &[0, -2, -3]), [2, 1, -3]);
     }
 }

@@ -1,7 +1,7 @@
--- Demand 3, of Solve and Largest: "For every accepted flat connected drawing and question: "cannot" exactly when no whole-number settings carry the delivery,
+-- Demand 3, of Solve and Largest: "For every accepted flat drawing and question: "cannot" exactly when no whole-number settings carry the delivery,
 -- with a set of nodes that proves it; the largest delivery is carried by the settings given, nothing greater can be, and its set proves the next one
 -- impossible; "none" exactly when nothing at all can be delivered, with a set that proves it." Everything here follows from the contracts, `Solves` and
--- `FindsLargest`, and from nothing else; a sheet that is accepted is flat and connected, because 11 and 12 are among its checks. Settings are any function from
+-- `FindsLargest`, and from nothing else; a sheet that is accepted is flat, because 12 is among its checks. Settings are any function from
 -- edges to whole numbers, deliveries any whole number: no bound is assumed of them.
 use mathlib.Core.Path.{_≡_, refl, sym, subst}
 use mathlib.Core.Logic.{_≢_, _⊎_, inl, inr}

@@ -7,3 +7,4 @@ pub mod Asked
 pub mod Demand3
 pub mod Range
 pub mod Statements
+pub mod Districts

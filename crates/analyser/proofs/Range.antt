@@ -23,6 +23,7 @@ use Rattle.arrays.proofs.FillLoops.{filled-front}
 use Rattle.records.specs.Sheet.{nodesOf, edgesOf, capacityOf, outerOf, sheetMap}
 use Rattle.sheets.specs.Open.{sheetChecks}
 use Rattle.questions.specs.Question.{endChecks, roomChecks, SetWritten}
+use Rattle.questions.specs.Question.{endChecks}
 use Rattle.questions.specs.declared.LargestAnswer.{LargestAnswer}
 use Rattle.questions.specs.declared.LargestAnswer.the-variants as largest
 use Rattle.questions.proofs.Asked.{ends-in, ends-differ}
@@ -56,6 +57,9 @@ module _ (s : List ℕ) (source sink : ℕ) (low low' : List ℤ) (below below' 
 
     differ : source ≢ sink
     differ = ends-differ (nodesOf s) source sink (span .ends-two)
+
+    pub range-accepted : NoneOf (sheetChecks s) × NoneOf (endChecks (nodesOf s) source sink)
+    range-accepted = (apart .0, span .ends-two)
 
     -- ── Largest is accepted there and back ──
     asked-there : NoneOf (largestChecks s source sink high above)

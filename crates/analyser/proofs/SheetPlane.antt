@@ -1,6 +1,7 @@
 -- An accepted sheet's drawing is plane, its outer dart is one of its darts, and its capacities are within their range;
 -- its circulations have levels, one set of them.
-use mathlib.Core.Path.{_≡_, refl, sym, _∙_, ap}
+use mathlib.Core.Path.{_≡_, refl, sym, _∙_, ap, subst}
+use mathlib.Core.Logic.{inl, inr}
 use mathlib.Core.List.{List}
 use Prim.Native.Nat.{ℕ, _+_, _*_, _≤_, _<_}
 use native.Mathlib.Omega.{arith}
@@ -11,11 +12,12 @@ use Rattle.integers.proofs.Limits.{limited-more}
 use Rattle.refusals.specs.Order.{NoneOf}
 use Rattle.maps.specs.Map.{Map, darts}
 use Rattle.maps.specs.Face.{faces, left}
+use Rattle.maps.proofs.Faces.{left-in}
 use Rattle.flows.specs.Settings.{onDarts, Balanced}
+use Rattle.flows.specs.ZeroFace.{ZeroFace}
 use Rattle.flows.specs.Levels.{Levels}
 use Rattle.flows.specs.inner.Plane.{Plane}
 use Rattle.flows.proofs.Plane.{potentials-at, potentials-one}
-use Rattle.flows.proofs.LevelBound.{faces-few}
 use Rattle.arrays.specs.At.{at}
 use Rattle.arrays.specs.inner.Sizes.{mostOnSheet}
 use Rattle.arrays.specs.inner.Drawn.{Drawn}
@@ -31,13 +33,15 @@ module _ (s : List ℕ) (h : NoneOf (sheetChecks s)) where
   plane =
       let a = accepted (bytes-range s (sheet-bytes s h)) (sheet-map s h) in
       let n = sheet-counts s h in
-      record { sound = a .0; connected = a .1; flat = a .2; some = omega arith }
-
-  pub faces-at-most : faces (sheetMap s) ≤ 512
-  faces-at-most = let n = sheet-counts s h in faces-few plane (n .3) (n .0)
+      record { sound = a .0; flat = a .1; some = omega arith }
 
   pub outer-in : outerOf s < darts (sheetMap s)
   outer-in = sheet-outer s h
+
+  -- a face at 0 is a face
+  pub zero-in : (f : ℕ) → ZeroFace (sheetMap s) (outerOf s) f → f < faces (sheetMap s)
+  zero-in f (inl e) = rw e (left-in (plane .sound) (outerOf s) outer-in)
+  zero-in f (inr r) = subst (λ g. g < faces (sheetMap s)) (r .holds) (left-in (plane .sound) (r .dart) (r .dart-in))
 
   pub capacity-small : (d : ℕ) → d < darts (sheetMap s) → Limited mostOnSheet (capacityOf s d)
   capacity-small d l = let r = capacity-inside (capacityOf s d) (bytes-capacities s (sheet-bytes s h) d l) in record { low = r .0; high = r .1 }

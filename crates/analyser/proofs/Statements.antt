@@ -1,6 +1,7 @@
 -- The statements of specs/Statements.antt, proved: those of possible and impossible by proofs/Demand3.antt, those of settings from levels and of there and
 -- back by proofs/ThereAndBack.antt; here what Mark accepts, and what becomes levels.
 use mathlib.Core.Path.{_≡_, refl, sym, _∙_, ap, ap₂, subst}
+use mathlib.Core.Logic.{_⊎_, inl, inr}
 use mathlib.Core.List.{List}
 use Prim.Native.Nat.{ℕ, _≤_, _<_}
 use native.Mathlib.Omega.{arith}
@@ -10,6 +11,7 @@ use Rattle.refusals.specs.Order.{NoneOf}
 use Rattle.refusals.proofs.Order.{none-append, first-none}
 use Rattle.maps.specs.Face.{faces, left, right}
 use Rattle.maps.proofs.Faces.{left-in, right-in, first-face}
+use Rattle.flows.specs.ZeroFace.{LowestElsewhere, ZeroFace}
 use Rattle.flows.specs.Check.{withinChecks}
 use Rattle.arrays.specs.At.{atℤ}
 use Rattle.arrays.proofs.FillLoops.{filled-front}
@@ -31,7 +33,7 @@ use Rattle.analyser.specs.Mark.{markChecks, Marks}
 use Rattle.analyser.specs.LevelsOf.{levelsChecks, GivesLevels}
 use Rattle.analyser.specs.Statements.{Delivers, BalancedWithin, LevelsFor, SettingsAndLevels, OuterFace, PossibleAndImpossible}
 use Rattle.analyser.proofs.Accepted.{mark-parts, levels-none}
-use Rattle.analyser.proofs.SheetPlane.{plane, outer-in}
+use Rattle.analyser.proofs.SheetPlane.{plane, zero-in}
 use Rattle.analyser.proofs.Asked.{excludes}
 use Rattle.analyser.proofs.Demand3 as demand
 use Rattle.analyser.proofs.ThereAndBack as back
@@ -68,7 +70,7 @@ module _ (s : List ℕ) (sheet : NoneOf (sheetChecks s)) where
         differences = λ d l.
             are .differences d l
             ∙ ap₂ _-ℤ_ (sym (same (left (sheetMap s) d) (left-in p d l))) (sym (same (right (sheetMap s) d) (right-in p d l)));
-        rooted = λ f z. same f (rw z (left-in p (outerOf s) (outer-in s sheet))) ∙ are .rooted f z;
+        rooted = λ f z. same f (zero-in s sheet f z) ∙ are .rooted f z;
       }
 
   balanced-leveled : (flows levels levels' : List ℤ) → edgesOf s ≤ length flows → faces (sheetMap s) ≤ length levels → BalancedWithin s (atℤ flows)
@@ -95,9 +97,20 @@ settings-and-levels = record {
 pub outer-face : OuterFace
 outer-face = record {
   kind-one-outer = λ s sheet one f.
-      let zero = ap (left (sheetMap s)) (kind-one-outer s one) ∙ first-face (plane s sheet .sound) in
-      ((λ z. z ∙ zero), (λ e. e ∙ sym zero));
+      let o = kind-one-outer s one in
+      let zero = ap (left (sheetMap s)) o ∙ first-face (plane s sheet .sound) in
+      (there s f o zero, back s f o zero);
 }
+  where
+    there : (s : List ℕ) (f : ℕ) → outerOf s ≡ 0 → left (sheetMap s) (outerOf s) ≡ 0
+        → ZeroFace (sheetMap s) (outerOf s) f → (f ≡ 0) ⊎ LowestElsewhere (sheetMap s) 0 f
+    there s f o zero (inl e) = inl (e ∙ zero)
+    there s f o zero (inr r) = inr (subst (λ d. LowestElsewhere (sheetMap s) d f) o r)
+
+    back : (s : List ℕ) (f : ℕ) → outerOf s ≡ 0 → left (sheetMap s) (outerOf s) ≡ 0
+        → (f ≡ 0) ⊎ LowestElsewhere (sheetMap s) 0 f → ZeroFace (sheetMap s) (outerOf s) f
+    back s f o zero (inl e) = inl (e ∙ sym zero)
+    back s f o zero (inr r) = inr (subst (λ d. LowestElsewhere (sheetMap s) d f) (sym o) r)
 
 pub possible-and-impossible : PossibleAndImpossible
 possible-and-impossible = record {

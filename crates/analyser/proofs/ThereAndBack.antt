@@ -33,6 +33,7 @@ use Rattle.arrays.proofs.Tabulate.{length-tabulate, getD-tabulate}
 use Rattle.records.specs.Sheet.{edgesOf, capacityOf, outerOf, sheetMap, sheetDrawing}
 use Rattle.arrays.specs.At.{atℤ}
 use Rattle.sheets.specs.Open.{sheetChecks}
+use Rattle.sheets.proofs.Accepted.{sheet-counts}
 use Rattle.arrays.proofs.FillLoops.{filled-length, filled-front}
 use Rattle.analyser.specs.LevelsOf.{levelsChecks, GivesLevels}
 use Rattle.levels.specs.Level.{LevelOutside, levelChecks}
@@ -45,7 +46,7 @@ use Rattle.levels.specs.declared.LevelAnswer.{LevelAnswer}
 use Rattle.levels.specs.declared.LevelAnswer.the-variants.{Done, Refused}
 use Rattle.analyser.specs.Statements.{BalancedWithin, LevelsFor}
 use Rattle.analyser.proofs.Accepted.{levels-none}
-use Rattle.analyser.proofs.SheetPlane.{plane, outer-in, faces-at-most, capacity-small, levels-unique}
+use Rattle.analyser.proofs.SheetPlane.{plane, outer-in, zero-in, capacity-small, levels-unique}
 
 -- the settings from levels have those levels
 fromLevels-darts : {𝓜 : Map} → Rattle.maps.specs.Check.Sound 𝓜 → (ρ : ℕ → ℤ) (d : ℕ) → d < darts 𝓜 → onDarts (fromLevels 𝓜 ρ) d ≡ difference 𝓜 ρ d
@@ -114,15 +115,15 @@ module _ (s : List ℕ) where
           rw (at-face f l) (neither (λ h. let x = atoms₁ (ρ f) in omega (arith, from-less h (search parts), from-at-most (small .low) (search parts)))
           (λ h. let x = atoms₁ (ρ f) in omega (arith, from-less h (search parts), from-at-most (small .high) (search parts))))
         where
-          small : Limited 511000000 (ρ f)
+          small : Limited 512000000 (ρ f)
           small =
-              levels-small (plane s sheet) (faces-at-most s sheet) (outerOf s) (outer-in s sheet)
+              levels-small (plane s sheet) (sheet-counts s sheet .3) (outerOf s) (outer-in s sheet)
               (capacityOf s) (atℤ flows) ρ (λ d m. capacity-small s sheet d m .high) within is f l
 
       whole : NoneOf (settingsChecks s levels' flows₀)
       whole =
           settings-whole levels' flows₀ sheet (leveled-whole (sheetDrawing s) levels' flows₀ room long inside
-          (λ f z. at-face f (rw z (left-in (plane s sheet .sound) (outerOf s) (outer-in s sheet))) ∙ is .rooted f z)
+          (λ f z. at-face f (zero-in s sheet f z) ∙ is .rooted f z)
           (within-none 𝓜 (capacityOf s) (fromLevels 𝓜 (atℤ levels'))
           (within-agrees 𝓜 (atℤ flows) (fromLevels 𝓜 (atℤ levels')) (λ e l. sym (same e l)) (capacityOf s) within)))
 

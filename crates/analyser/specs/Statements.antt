@@ -1,20 +1,23 @@
--- What the course book prints of the operations on sheets (document 01, demands 2 and 3; document 02, Jobs 4 and 6), as records: a field for each statement,
+-- What the course book prints of the operations on sheets (document 01, demands 2 and 3; document 02, Jobs 4, 6 and 8), as records: a field for each statement,
 -- with the printed words above it. Each is about every run of an operation: all that a field knows of a run is its contract, `Solves`, `FindsLargest`,
--- `FindsRange`, `Marks`, `GivesLevels` or `GivesSettings`. A sheet or a question is accepted where no check of its list holds; an accepted sheet is flat and
--- connected, because 11 and 12 are among its checks. Settings are any function from edges to whole numbers, deliveries any whole number. The proofs are in
--- proofs/Statements.antt and proofs/Range.antt.
+-- `FindsRange`, `Marks`, `GivesLevels` or `GivesSettings`. A sheet or a question is accepted where no check of its list holds; an accepted sheet is flat,
+-- because 12 is among its checks, in one part or several. Settings are any function from edges to whole numbers, deliveries any whole number. The proofs are
+-- in proofs/Statements.antt, proofs/Range.antt and proofs/Districts.antt.
 use Prim.Native.Nat.{ℕ, _≤_, _<_}
 use mathlib.Core.Path.{_≡_}
-use mathlib.Core.Logic.{_↔_}
-use mathlib.Core.Bool.{Bool}
+use mathlib.Core.Logic.{_⊎_, _↔_}
+use mathlib.Core.Bool.{Bool, true}
 use mathlib.Core.List.{List}
 use lib.ListN.{length}
 use lib.IntN.{ℤ, pos, _+ℤ_, _-ℤ_}
-use lib.Signed.{_≤ℤ_}
+use lib.Signed.{_≤ℤ_, _<ℤ_}
 use Rattle.refusals.specs.Order.{NoneOf}
-use Rattle.maps.specs.Face.{faces}
+use Rattle.maps.specs.Map.{darts}
+use Rattle.maps.specs.Face.{faces, left}
+use Rattle.maps.specs.Walk.{Walk, Components}
+use Rattle.maps.specs.Flat.{FlatInEach}
 use Rattle.flows.specs.Settings.{Within, Balanced, Carries}
-use Rattle.flows.specs.ZeroFace.{ZeroFace}
+use Rattle.flows.specs.ZeroFace.{LowestElsewhere, ZeroFace}
 use Rattle.flows.specs.Levels.{Levels}
 use Rattle.flows.specs.ProvingSet.{Proves, member, size}
 use Rattle.arrays.specs.At.{atℤ}
@@ -95,11 +98,44 @@ pub record SettingsAndLevels : Type 0 where
       → (answer ≡ Done) × ((f : ℕ) → f < faces (sheetMap s) → atℤ again' f ≡ atℤ levels f)
 
 -- ── document 02, Job 6: "A kind 1 head is still read, as outer dart 0." The highest answer, both level operations and refusal 20 know the outer dart by the
--- face at level 0 alone, which is face 0 then, as document 01 has it ──
+-- faces at level 0 alone: face 0 then, as document 01 has it, and in each part that dart 0 is not in the lowest face ──
 pub record OuterFace : Type 0 where
-  pub kind-one-outer : (s : List ℕ) → NoneOf (sheetChecks s) → kindOf s ≡ 1 → (f : ℕ) → ZeroFace (sheetMap s) (outerOf s) f ↔ (f ≡ 0)
+  pub kind-one-outer : (s : List ℕ) → NoneOf (sheetChecks s) → kindOf s ≡ 1
+      → (f : ℕ) → ZeroFace (sheetMap s) (outerOf s) f ↔ ((f ≡ 0) ⊎ LowestElsewhere (sheetMap s) 0 f)
 
--- ── 3. "For every accepted flat connected drawing and question: "cannot" exactly when no whole-number settings carry the delivery, with a set of nodes
+-- ── document 02, Job 8: "Flat now means that nodes − channels + faces = 2 in each part. Each part has one face at level 0 .. Headgate and outfall may lie in
+-- different parts, and then only 0 can be delivered". Two nodes are in one part if a walk along channels joins them. ──
+pub record Districts : Type 0 where
+  -- an accepted sheet is flat in each part, however its parts are numbered
+  pub flat-in-each : (s : List ℕ) → NoneOf (sheetChecks s) → (parts : ℕ) (part : ℕ → ℕ) → Components (sheetMap s) parts part
+      → FlatInEach (sheetMap s) parts part
+  -- each part has a face at level 0, ..
+  pub has-zero-face : (s : List ℕ) → NoneOf (sheetChecks s) → (d : ℕ) → d < darts (sheetMap s)
+      → (e : ℕ) × (e < darts (sheetMap s)) × Walk (sheetMap s) (sheetMap s .tail d) (sheetMap s .tail e)
+      × ZeroFace (sheetMap s) (outerOf s) (left (sheetMap s) e)
+  -- .. and no part has two
+  pub one-zero-face : (s : List ℕ) → NoneOf (sheetChecks s) → (d e : ℕ) → d < darts (sheetMap s) → e < darts (sheetMap s)
+      → Walk (sheetMap s) (sheetMap s .tail d) (sheetMap s .tail e)
+      → ZeroFace (sheetMap s) (outerOf s) (left (sheetMap s) d) → ZeroFace (sheetMap s) (outerOf s) (left (sheetMap s) e)
+      → left (sheetMap s) d ≡ left (sheetMap s) e
+  -- "then only 0 can be delivered"
+  pub apart-zero : (s : List ℕ) (source sink : ℕ) (value : ℤ) (x : ℕ → ℤ) → NoneOf (sheetChecks s) → NoneOf (endChecks (nodesOf s) source sink)
+      → (Walk (sheetMap s) source sink → ⊥) → Delivers s source sink value x → value ≡ pos 0
+  -- the headgate's part proves each delivery above 0 impossible, the outfall's part each below 0
+  pub headgate-part : (s : List ℕ) (source sink : ℕ) (value : ℤ) (S : ℕ → Bool) → NoneOf (sheetChecks s) → NoneOf (endChecks (nodesOf s) source sink)
+      → ((v : ℕ) → v < nodesOf s → (S v ≡ true) ↔ Walk (sheetMap s) source v) → (Walk (sheetMap s) source sink → ⊥)
+      → pos 0 <ℤ value → ProvesOf s source sink value S
+  pub outfall-part : (s : List ℕ) (source sink : ℕ) (value : ℤ) (S : ℕ → Bool) → NoneOf (sheetChecks s) → NoneOf (endChecks (nodesOf s) source sink)
+      → ((v : ℕ) → v < nodesOf s → (S v ≡ true) ↔ Walk (sheetMap s) sink v) → (Walk (sheetMap s) source sink → ⊥)
+      → value <ℤ pos 0 → ProvesOf s source sink value S
+  -- the largest delivery is 0 then, where there is one; and so is the least
+  pub apart-largest : (s : List ℕ) (source sink : ℕ) (v : ℤ) (flows flows' : List ℤ) (set set' : List ℕ) → (Walk (sheetMap s) source sink → ⊥)
+      → FindsLargest s source sink flows flows' set set' (largest.Value v) → v ≡ pos 0
+  pub apart-range : (s : List ℕ) (source sink : ℕ) (low low' : List ℤ) (below below' : List ℕ) (high high' : List ℤ) (above above' : List ℕ) (v w : ℤ)
+      → (Walk (sheetMap s) source sink → ⊥) → FindsRange s source sink low low' below below' high high' above above' (range.Values v w)
+      → (v ≡ pos 0) × (w ≡ pos 0)
+
+-- ── 3. "For every accepted flat drawing and question: "cannot" exactly when no whole-number settings carry the delivery, with a set of nodes
 -- that proves it; the largest delivery is carried by the settings given, nothing greater can be, and its set proves the next one impossible; "none" exactly
 -- when nothing at all can be delivered, with a set that proves it." ──
 pub record PossibleAndImpossible : Type 0 where

@@ -16,8 +16,10 @@ use Rattle.integers.proofs.Tests.{eqb-true, eqb-false}
 use Rattle.integers.proofs.Rounding.{floor, floor-step}
 use Rattle.maps.specs.Map.{Map, darts}
 use Rattle.maps.specs.Face.{left, right}
+use Rattle.maps.specs.Walk.{Walk}
 use Rattle.maps.specs.Flow.{net, Circulation}
 use Rattle.maps.specs.Potential.{Potentials}
+use Rattle.maps.proofs.Walks.{walk-decided}
 use Rattle.maps.proofs.Cuts.{sink-takes}
 use Rattle.flows.specs.Settings.{onDarts, Carries}
 use Rattle.flows.specs.inner.Plane.{Plane}
@@ -26,7 +28,8 @@ use Rattle.flows.specs.inner.UnitFlow.{UnitFlow, walkFlow}
 use Rattle.flows.specs.inner.Lengths.{lengthFor, Feasible, edgeFlow}
 use Rattle.flows.proofs.Nets.{net-sub, net-mul}
 use Rattle.flows.proofs.Plane.{potentials-at}
-use Rattle.flows.proofs.UnitFlow.{walk-unit}
+use Rattle.flows.proofs.UnitFlow.{walk-unit, unit-carries}
+use Rattle.flows.proofs.Apart.{apart-zero}
 use Rattle.flows.proofs.Lengths.{feasible-carries}
 
 module _ {𝓜 : Map} (p : Plane 𝓜) {s t : ℕ} (s-in : s < 𝓜 .nodes) (t-in : t < 𝓜 .nodes) (s≢t : s ≢ t) (c : ℕ → ℤ) where
@@ -125,10 +128,11 @@ distance x y h = (
   let a = atoms₂ x y in equal (search parts) (omega (arith, from-at-most h (atom x, atom y))),
 )
 
-pub between : {𝓜 : Map} → Plane 𝓜 → {s t : ℕ} → s < 𝓜 .nodes → t < 𝓜 .nodes → s ≢ t → (outer : ℕ) → outer < darts 𝓜
+-- where a walk joins them
+joined-between : {𝓜 : Map} → Plane 𝓜 → {s t : ℕ} → s < 𝓜 .nodes → t < 𝓜 .nodes → s ≢ t → (outer : ℕ) → outer < darts 𝓜
     → (c : ℕ → ℤ) (least value most : ℤ) → least ≤ℤ value → value ≤ℤ most
-    → (x y : ℕ → ℤ) → Carries 𝓜 c s t least x → Carries 𝓜 c s t most y → (z : ℕ → ℤ) × Carries 𝓜 c s t value z
-between {𝓜} p {s} {t} s-in t-in s≢t outer outer-in c least value most low high x y lower upper = go (A .0 + B .0) refl
+    → (x y : ℕ → ℤ) → Carries 𝓜 c s t least x → Carries 𝓜 c s t most y → Walk 𝓜 s t → (z : ℕ → ℤ) × Carries 𝓜 c s t value z
+joined-between {𝓜} p {s} {t} s-in t-in s≢t outer outer-in c least value most low high x y lower upper walk = go (A .0 + B .0) refl
   where
     A : (n : ℕ) × (most ≡ value +ℤ pos n)
     A = distance value most high
@@ -140,15 +144,15 @@ between {𝓜} p {s} {t} s-in t-in s≢t outer outer-in c least value most low h
     below = let a = atoms₂ least value in equal (search parts) (omega (arith, from-equal (B .1) (search parts)))
 
     π : ℕ → ℤ
-    π = walkFlow (p .connected s t s-in t-in)
+    π = walkFlow walk
 
-    unit : UnitFlow 𝓜 s t (walkFlow (p .connected s t s-in t-in))
-    unit = walk-unit (p .connected s t s-in t-in)
+    unit : UnitFlow 𝓜 s t (walkFlow walk)
+    unit = walk-unit walk
 
-    ρ : (ρ : ℕ → ℤ) × Feasible 𝓜 (lengthFor c (walkFlow (p .connected s t s-in t-in)) least) ρ
+    ρ : (ρ : ℕ → ℤ) × Feasible 𝓜 (lengthFor c (walkFlow walk) least) ρ
     ρ = feasible-of p s-in t-in s≢t c unit outer outer-in least x lower
 
-    τ : (τ : ℕ → ℤ) × Feasible 𝓜 (lengthFor c (walkFlow (p .connected s t s-in t-in)) most) τ
+    τ : (τ : ℕ → ℤ) × Feasible 𝓜 (lengthFor c (walkFlow walk) most) τ
     τ = feasible-of p s-in t-in s≢t c unit outer outer-in most y upper
 
     go : (k : ℕ) → A .0 + B .0 ≡ k → (z : ℕ → ℤ) × Carries 𝓜 c s t value z
@@ -161,7 +165,7 @@ between {𝓜} p {s} {t} s-in t-in s≢t outer outer-in c least value most low h
         same = B .1 ∙ ap (λ n. least +ℤ pos n) none ∙ (let a = atoms₁ least in equal (search parts) (omega arith))
     go (suc k) e = (
       edgeFlow 𝓜 π value σ,
-      feasible-carries (p .sound) unit c value s-in s≢t σ
+      feasible-carries (p .sound) c value (unit-carries unit value) s-in s≢t σ
           (mixed 𝓜 c π value (A .0) (B .0) (ρ .0) (τ .0)
           (subst (λ v. Feasible 𝓜 (lengthFor c π v) (ρ .0)) below (ρ .1))
           (subst (λ v. Feasible 𝓜 (lengthFor c π v) (τ .0)) (A .1) (τ .1)) k e),
@@ -169,3 +173,20 @@ between {𝓜} p {s} {t} s-in t-in s≢t outer outer-in c least value most low h
       where
         σ : ℕ → ℤ
         σ f = floor k (weighed (A .0) (B .0) (ρ .0) (τ .0) f)
+
+pub between : {𝓜 : Map} → Plane 𝓜 → {s t : ℕ} → s < 𝓜 .nodes → t < 𝓜 .nodes → s ≢ t → (outer : ℕ) → outer < darts 𝓜
+    → (c : ℕ → ℤ) (least value most : ℤ) → least ≤ℤ value → value ≤ℤ most
+    → (x y : ℕ → ℤ) → Carries 𝓜 c s t least x → Carries 𝓜 c s t most y → (z : ℕ → ℤ) × Carries 𝓜 c s t value z
+between {𝓜} p {s} {t} s-in t-in s≢t outer outer-in c least value most low high x y lower upper = by (walk-decided s t)
+  where
+    -- apart, all three are 0
+    same-value : least ≡ pos 0 → most ≡ pos 0 → value ≡ least
+    same-value e q =
+        let a = atoms₃ least value most in
+        equal (search parts) (omega
+        (arith, from-equal e (search parts), from-equal q (search parts), from-at-most low (search parts), from-at-most high (search parts)))
+
+    by : Dec (Walk 𝓜 s t) → (z : ℕ → ℤ) × Carries 𝓜 c s t value z
+    by (yes r) = joined-between p s-in t-in s≢t outer outer-in c least value most low high x y lower upper r
+    by (no h) =
+        (x, rw (same-value (apart-zero (p .sound .range) s-in t-in s≢t c h least x lower) (apart-zero (p .sound .range) s-in t-in s≢t c h most y upper)) lower)

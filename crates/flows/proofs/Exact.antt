@@ -26,9 +26,8 @@ use Rattle.maps.proofs.Rings.{winding, ring-heights, ring-threshold}
 use Rattle.flows.specs.Settings.{onDarts, Carries}
 use Rattle.flows.specs.ProvingSet.{bound, Proves}
 use Rattle.flows.proofs.Nets.{net-mul}
-use Rattle.flows.proofs.Plane.{one-part, flat-part}
 use Rattle.flows.specs.inner.Plane.{Plane}
-use Rattle.flows.specs.inner.UnitFlow.{UnitFlow}
+use Rattle.flows.specs.inner.UnitFlow.{Carrier}
 use Rattle.flows.specs.inner.Lengths.{lengthFor}
 
 -- the bound of a set is what a flow of the value sends out of it
@@ -47,16 +46,16 @@ module _ {𝓜 : Map} (range : InRange 𝓜) {s t : ℕ} (s-in : s < 𝓜 .nodes
   proves-excludes value S short x flow = lt-le-clash short (rw (bound-sent S s t value) (cut-bound range s-in t-in s≢t flow S))
 
   -- a cut of the lengths is the cut of the capacities less what the value sends
-  module _ {π : ℕ → ℤ} (unit : UnitFlow 𝓜 s t π) (value : ℤ) where
+  module _ {π : ℕ → ℤ} (value : ℤ) (carrier : Carrier 𝓜 s t value π) where
     sent-unit : (S : ℕ → Bool) → cut 𝓜 (λ d. value *ℤ π d) S ≡ sent S s t value
     sent-unit S = flow-sent range s-in t-in s≢t {c = λ d. value *ℤ π d} {value = value} {φ = λ d. value *ℤ π d} flow S
       where
         nets : (v : ℕ) → net 𝓜 (λ d. value *ℤ π d) v ≡ value *ℤ (when (eqb v s) (pos 1) -ℤ when (eqb v t) (pos 1))
-        nets v = net-mul 𝓜 v value π ∙ ap (λ x. value *ℤ x) (unit .nets v)
+        nets v = net-mul 𝓜 v value π ∙ carrier .nets v
 
         flow : Flow 𝓜 (λ d. value *ℤ π d) s t value (λ d. value *ℤ π d)
         flow = record {
-          antisymmetric = λ d l. ap (λ x. value *ℤ x) (unit .antisymmetric d l) ∙ (let a = atoms₂ value (π d) in equal (search parts) (omega arith));
+          antisymmetric = λ d l. ap (λ x. value *ℤ x) (carrier .antisymmetric d l) ∙ (let a = atoms₂ value (π d) in equal (search parts) (omega arith));
           within = λ d l. let a = atoms₂ value (π d) in at-most (search parts) (omega arith);
           balanced = λ v l p q.
               nets v
@@ -91,16 +90,16 @@ module _ {𝓜 : Map} (range : InRange 𝓜) {s t : ℕ} (s-in : s < 𝓜 .nodes
     pub length-pairs : ((d : ℕ) → d < darts 𝓜 → pos 0 ≤ℤ (c d +ℤ c (rev d))) → (d : ℕ)
         → d < darts 𝓜 → pos 0 ≤ℤ (lengthFor c π value d +ℤ lengthFor c π value (rev d))
     length-pairs h d l =
-        rw (unit .antisymmetric d l)
+        rw (carrier .antisymmetric d l)
         (let a = atoms₃ (c d) (c (rev d)) value in let b = atoms₁ (π d) in at-most (search parts) (omega (arith, from-at-most (h d l) (search parts))))
 
 -- for any heights of the winding of a negative ring, some threshold set proves the value impossible
 pub ring-proves : {𝓜 : Map} → Plane 𝓜 → {s t : ℕ} → s < 𝓜 .nodes → t < 𝓜 .nodes → s ≢ t → (c : ℕ → ℤ) → ((d : ℕ) → d < darts 𝓜 → pos 0 ≤ℤ (c d +ℤ c (rev d)))
-    → {π : ℕ → ℤ} (unit : UnitFlow 𝓜 s t π) (value : ℤ) {f : ℕ} (w : FaceWalk 𝓜 f f) → total (lengthFor c π value) w <ℤ pos 0
+    → {π : ℕ → ℤ} (value : ℤ) (carrier : Carrier 𝓜 s t value π) {f : ℕ} (w : FaceWalk 𝓜 f f) → total (lengthFor c π value) w <ℤ pos 0
     → (h : ℕ → ℤ) → Heights 𝓜 (winding w) h → (θ : ℤ) × (cut 𝓜 (lengthFor c π value) (above h θ) <ℤ pos 0) × Proves 𝓜 c s t value (above h θ)
-ring-proves p s-in t-in s≢t c pairs {π = π} unit value w short h heights =
-    let r = ring-threshold (p .sound) (lengthFor c π value) (length-pairs (p .sound .range) s-in t-in s≢t c unit value pairs) w short h heights in
-    (r .0, r .1, negative-proves (p .sound .range) s-in t-in s≢t c unit value (above h (r .0)) (r .1))
+ring-proves p s-in t-in s≢t c pairs {π = π} value carrier w short h heights =
+    let r = ring-threshold (p .sound) (lengthFor c π value) (length-pairs (p .sound .range) s-in t-in s≢t c value carrier pairs) w short h heights in
+    (r .0, r .1, negative-proves (p .sound .range) s-in t-in s≢t c value carrier (above h (r .0)) (r .1))
 
 pub ring-heights-exist : {𝓜 : Map} → Plane 𝓜 → {f : ℕ} (w : FaceWalk 𝓜 f f) → (h : ℕ → ℤ) × Heights 𝓜 (winding w) h
-ring-heights-exist p w = ring-heights (p .sound) (one-part p) (flat-part p) w
+ring-heights-exist p w = ring-heights (p .sound) (p .flat .components) (p .flat .in-each) w

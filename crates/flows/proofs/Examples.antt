@@ -21,12 +21,14 @@ use Rattle.maps.specs.Face.{faces, left}
 use Rattle.maps.specs.Flow.{net}
 use Rattle.maps.specs.Cut.{cut}
 use Rattle.maps.specs.Potential.{difference}
-use Rattle.maps.proofs.Examples.{A, B, A-capacity, B-capacity}
+use Rattle.maps.proofs.Examples.{A, A-sound, A-connected, B, A-capacity, B-capacity}
 use Rattle.flows.specs.Settings.{onDarts, Carries}
 use Rattle.flows.specs.Levels.{Levels}
 use Rattle.flows.specs.Highest.{Highest}
 use Rattle.flows.specs.ProvingSet.{bound, Proves, member, size}
+use Rattle.flows.specs.ZeroFace.{ZeroFace}
 use Rattle.flows.proofs.OnDarts.{onDarts-antisymmetric}
+use Rattle.flows.proofs.Plane.{zero-connected}
 
 unfoldable pub settings : List ℤ → ℕ → ℤ
 settings l e = getD l e (pos 0)
@@ -70,12 +72,16 @@ A-least-two-not-one : Proves A leastTwo 0 1 (pos 1) (member (2 ∷ []))
 unfolding leastTwo bound cut sum rev
 A-least-two-not-one = lt-of-test (negsuc 1) (negsuc 0) refl
 
+-- A has one part, so the outer dart's face is its only zero face
+A-zero : (outer : ℕ) → outer < 6 → (f : ℕ) → ZeroFace A outer f → f ≡ left A outer
+A-zero outer l = zero-connected A-sound A-connected outer l
+
 -- "settings 2, 1, −3 have levels 0, −2, −3"
 A-levels : Levels A 0 (settings (pos 2 ∷ pos 1 ∷ negsuc 2 ∷ [])) (settings (pos 0 ∷ negsuc 1 ∷ negsuc 2 ∷ []))
 unfolding settings onDarts faces left orbits orbitOf isLowest lowest iter sum rev every eqZ
 A-levels = record {
   differences = every-equalℤ 6 (onDarts (settings (pos 2 ∷ pos 1 ∷ negsuc 2 ∷ []))) (difference A (settings (pos 0 ∷ negsuc 1 ∷ negsuc 2 ∷ []))) refl;
-  rooted = λ f z. ap (settings (pos 0 ∷ negsuc 1 ∷ negsuc 2 ∷ [])) z;
+  rooted = λ f z. ap (settings (pos 0 ∷ negsuc 1 ∷ negsuc 2 ∷ [])) (A-zero 0 (omega arith) f z);
 }
 
 -- "B .. headgate 0, outfall 1: largest is none, set {2}": it holds neither end, so it proves every value impossible
@@ -173,7 +179,7 @@ levels-less x y same =
           (equal (search parts) (omega (arith, from-equal same (search parts))))
           (equal (search parts) (omega arith))
           (equal (search parts) (omega arith));
-      rooted = λ f z. ap (levelsLess x y) z;
+      rooted = λ f z. ap (levelsLess x y) (A-zero 0 (omega arith) f z);
     }
 
 pub A-highest : (c x : ℕ → ℤ) (value : ℤ) → Carries A c 0 1 value x

@@ -23,7 +23,7 @@ use Rattle.flows.proofs.OnDarts.{onDarts-antisymmetric, onDarts-sub, on
 use Rattle.flows.proofs.Nets.{net-ext, net-sub}
 use Rattle.flows.proofs.Plane.{potentials-at, potentials-one}
 use Rattle.flows.specs.inner.Plane.{Plane}
-use Rattle.flows.specs.inner.UnitFlow.{UnitFlow}
+use Rattle.flows.specs.inner.UnitFlow.{Carrier}
 use Rattle.flows.proofs.Lengths.{edgeFlow-darts, feasible-carries}
 use Rattle.flows.specs.inner.Lengths.{lengthFor, Feasible, made, edgeFlow}
 
@@ -82,7 +82,7 @@ module _ {𝓜 : Map} (p : Plane 𝓜) {s t : ℕ} (s-in : s < 𝓜 .nodes) (t-i
           ∙ ap₂ _-ℤ_ (zero-at (left 𝓜 d) (left-in (p .sound) d l)) (zero-at (right 𝓜 d) (right-in (p .sound) d l))
 
   -- ── potentials above all others make it ──
-  module _ {π : ℕ → ℤ} (unit : UnitFlow 𝓜 s t π) (c : ℕ → ℤ) (value : ℤ) (outer : ℕ) (outer-in : outer < darts 𝓜) where
+  module _ {π : ℕ → ℤ} (c : ℕ → ℤ) (value : ℤ) (carrier : Carrier 𝓜 s t value π) (outer : ℕ) (outer-in : outer < darts 𝓜) where
     pub top-is-highest : (ρ : ℕ → ℤ) → Feasible 𝓜 (lengthFor c π value) ρ → ((f : ℕ) → ZeroFace 𝓜 outer f → ρ f ≡ pos 0)
         → ((τ : ℕ → ℤ) → Feasible 𝓜 (lengthFor c π value) τ → ((f : ℕ) → ZeroFace 𝓜 outer f → τ f ≡ pos 0) → (f : ℕ) → f < faces 𝓜 → τ f ≤ℤ ρ f)
         → Highest 𝓜 outer c s t value (edgeFlow 𝓜 π value ρ)
@@ -92,7 +92,7 @@ module _ {𝓜 : Map} (p : Plane 𝓜) {s t : ℕ} (s-in : s < 𝓜 .nodes) (t-i
         x = edgeFlow 𝓜 π value ρ
 
         mine : Carries 𝓜 c s t value (edgeFlow 𝓜 π value ρ)
-        mine = feasible-carries (p .sound) unit c value s-in s≢t ρ feasible
+        mine = feasible-carries (p .sound) c value carrier s-in s≢t ρ feasible
 
         others : (y : ℕ → ℤ) → Carries 𝓜 c s t value y → (τ : ℕ → ℤ) × Levels 𝓜 outer (λ e. y e -ℤ x e) τ × ((f : ℕ) → f < faces 𝓜 → τ f ≤ℤ pos 0)
         others y other = (r .0, record { differences = r .1; rooted = r .2 }, below)
@@ -107,7 +107,7 @@ module _ {𝓜 : Map} (p : Plane 𝓜) {s t : ℕ} (s-in : s < 𝓜 .nodes) (t-i
             made-by : (d : ℕ) → d < darts 𝓜 → onDarts y d ≡ made 𝓜 π value raised d
             made-by d l =
                 step (onDarts y d) (onDarts x d) (ρ (left 𝓜 d)) (ρ (right 𝓜 d)) (value *ℤ π d) (r .0 (left 𝓜 d)) (r .0 (right 𝓜 d))
-                (sym (onDarts-sub y x d) ∙ r .1 d l) (edgeFlow-darts (p .sound) unit c value ρ d l)
+                (sym (onDarts-sub y x d) ∙ r .1 d l) (edgeFlow-darts (p .sound) c value carrier ρ d l)
               where
                 step : (yd xd a b m tl tr : ℤ) → yd -ℤ xd ≡ tl -ℤ tr → xd ≡ (a -ℤ b) +ℤ m → yd ≡ ((a +ℤ tl) -ℤ (b +ℤ tr)) +ℤ m
                 step yd xd a b m tl tr h g =

@@ -1,4 +1,5 @@
--- Lengths of darts for a value: the capacity less the value along a unit flow. Potentials that no dart can lower, and flows of that value, are the same thing.
+-- Lengths of darts for a value: the capacity less the value along what carries it. Potentials that no dart can lower, and flows of that value, are the same
+-- thing.
 use mathlib.Core.Path.{_≡_, refl, sym, _∙_, ap, ap₂}
 use mathlib.Core.Logic.{_≢_}
 use mathlib.Core.Bool.{Bool, true, false}
@@ -20,13 +21,13 @@ use Rattle.maps.proofs.Planar.{difference-circulation}
 use Rattle.flows.specs.Settings.{onDarts, Carries}
 use Rattle.flows.proofs.OnDarts.{onDarts-antisymmetric, onDarts-of}
 use Rattle.flows.proofs.Nets.{net-ext, net-add, net-mul}
-use Rattle.flows.specs.inner.UnitFlow.{UnitFlow}
+use Rattle.flows.specs.inner.UnitFlow.{Carrier}
 use Rattle.flows.specs.inner.Lengths.{lengthFor, Feasible, made, edgeFlow}
 
-module _ {𝓜 : Map} (σ : Sound 𝓜) {s t : ℕ} {π : ℕ → ℤ} (unit : UnitFlow 𝓜 s t π) (c : ℕ → ℤ) (value : ℤ) where
+module _ {𝓜 : Map} (σ : Sound 𝓜) {s t : ℕ} {π : ℕ → ℤ} (c : ℕ → ℤ) (value : ℤ) (carrier : Carrier 𝓜 s t value π) where
   made-antisymmetric : (ρ : ℕ → ℤ) → Antisymmetric 𝓜 (made 𝓜 π value ρ)
   made-antisymmetric ρ d l =
-      ap₂ (λ x y. x +ℤ value *ℤ y) (difference-circulation σ ρ .antisymmetric d l) (unit .antisymmetric d l)
+      ap₂ (λ x y. x +ℤ value *ℤ y) (difference-circulation σ ρ .antisymmetric d l) (carrier .antisymmetric d l)
       ∙ (let a = atoms₃ (difference 𝓜 ρ d) value (π d) in equal (search parts) (omega arith))
 
   pub edgeFlow-darts : (ρ : ℕ → ℤ) (d : ℕ) → d < darts 𝓜 → onDarts (edgeFlow 𝓜 π value ρ) d ≡ made 𝓜 π value ρ d
@@ -37,7 +38,7 @@ module _ {𝓜 : Map} (σ : Sound 𝓜) {s t : ℕ} {π : ℕ → ℤ} (unit : U
   edgeFlow-net ρ v l =
       net-ext 𝓜 v (onDarts (edgeFlow 𝓜 π value ρ)) (made 𝓜 π value ρ) (edgeFlow-darts ρ)
       ∙ net-add 𝓜 v (difference 𝓜 ρ) (λ d. value *ℤ π d)
-      ∙ ap₂ _+ℤ_ (difference-circulation σ ρ .balanced v l) (net-mul 𝓜 v value π ∙ ap (λ x. value *ℤ x) (unit .nets v))
+      ∙ ap₂ _+ℤ_ (difference-circulation σ ρ .balanced v l) (net-mul 𝓜 v value π ∙ carrier .nets v)
       ∙ (let a = atoms₃ value (when (eqb v s) (pos 1)) (when (eqb v t) (pos 1)) in equal (search parts) (omega arith))
 
   pub feasible-carries : s < 𝓜 .nodes → s ≢ t → (ρ : ℕ → ℤ) → Feasible 𝓜 (lengthFor c π value) ρ → Carries 𝓜 c s t value (edgeFlow 𝓜 π value ρ)

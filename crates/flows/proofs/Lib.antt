@@ -12,6 +12,7 @@ pub mod LevelBound
 pub mod ValueBound
 pub mod Interval
 pub mod Swapped
+pub mod Apart
 pub mod Between
 pub mod Parts
 pub mod Examples

@@ -17,7 +17,7 @@ use Rattle.maps.specs.Walk.{Walk, here, along}
 use Rattle.maps.specs.Flow.{Antisymmetric, net}
 use Rattle.maps.proofs.Darts.{rev-rev, rev-in, eqb-rev}
 use Rattle.flows.proofs.Nets.{net-ext, net-add}
-use Rattle.flows.specs.inner.UnitFlow.{UnitFlow, single, walkFlow}
+use Rattle.flows.specs.inner.UnitFlow.{UnitFlow, Carrier, single, walkFlow}
 
 pub single-antisymmetric : (d i : ℕ) → single d (rev i) ≡ negℤ (single d i)
 single-antisymmetric d i =
@@ -63,3 +63,17 @@ walk-net {𝓜} (along {v = v} {w = w} d l e r) u =
 
 pub walk-unit : {𝓜 : Map} {s t : ℕ} (r : Walk 𝓜 s t) → UnitFlow 𝓜 s t (walkFlow r)
 walk-unit r = record { antisymmetric = λ d l. walk-antisymmetric r d; nets = walk-net r }
+
+-- ── what carries a value ──
+pub unit-carries : {𝓜 : Map} {s t : ℕ} {π : ℕ → ℤ} → UnitFlow 𝓜 s t π → (value : ℤ) → Carrier 𝓜 s t value π
+unit-carries unit value = record { antisymmetric = unit .antisymmetric; nets = λ v. ap (λ x. value *ℤ x) (unit .nets v) }
+
+-- nothing is carried by anything
+pub none-carried : {𝓜 : Map} {π : ℕ → ℤ} → Antisymmetric 𝓜 π → (s t : ℕ) (value : ℤ) → value ≡ pos 0 → Carrier 𝓜 s t value π
+none-carried {𝓜} {π} anti s t value z = record {
+  antisymmetric = anti;
+  nets = λ v. rw z (nothing (net 𝓜 π v) (when (eqb v s) (pos 1) -ℤ when (eqb v t) (pos 1)));
+}
+  where
+    nothing : (x y : ℤ) → pos 0 *ℤ x ≡ pos 0 *ℤ y
+    nothing x y = let a = atoms₂ x y in equal (search parts) (omega arith)

@@ -1,5 +1,5 @@
 // Heights of the nodes, in one pass along the order in which a walk over the darts met them: a dart was met as the reverse of one whose node's height is known,
-// one difference away, or at the node of one met before.
+// one difference away, or at the node of one met before, or begins a tree.
 ghost use mathlib.Core.Path.{_≡_};
 ghost use lib.ListN.{length};
 ghost use lib.IntN.{_-ℤ_};
@@ -8,7 +8,7 @@ ghost use mir.Val.{SFits};
 ghost use Rattle.heights.specs.inner.Heights.{Fillable, Filled};
 ghost use Rattle.arrays.specs.At.{at, atℤ};
 
-// The node of the first dart in the order is at 0; the node at the end of a dart is lower by the dart's winding.
+// The node of the first dart of each tree is at 0; the node at the end of a dart is lower by the dart's winding.
 pub fn fill_heights(
     tails: &[u16; 1024],
     order: &[u16; 1024],
@@ -19,7 +19,7 @@ pub fn fill_heights(
 )
     requires { ⌜ (length (now heights) ≡ 1024) × Fillable darts (at (now tails)) (at (now order)) (at (now from)) (atℤ (now winding)) ⌝ }
     ensures { λ _. ⌜ (length (now (heights .exit)) ≡ 1024)
-        × Filled darts (at (now (tails .entry))) (at (now (order .entry)) 0) (atℤ (now (winding .entry))) (atℤ (now (heights .exit))) ⌝ }
+        × Filled darts (at (now (tails .entry))) (atℤ (now (winding .entry))) (atℤ (now (heights .exit))) ⌝ }
 {
     let start = arrays::wide(order[0]);
     let root = arrays::wide(tails[start]);
@@ -34,6 +34,9 @@ pub fn fill_heights(
             let known = arrays::wide(tails[p]);
             let next = arrays::wide(tails[d]);
             heights[next] = signed::minus(heights[known], winding[p]);
+        } else if p == d {
+            let base = arrays::wide(tails[d]);
+            heights[base] = 0;
         }
     }
 }

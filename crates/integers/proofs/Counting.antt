@@ -5,11 +5,11 @@ use mathlib.Core.Bool.{Bool, true, false, cond, not, _&&_}
 use Prim.Native.Nat.{ℕ, zero, suc, _+_, _*_, _-_, _≤_, _<_, min}
 use native.Mathlib.Omega.{arith}
 use native.Mathlib.Decide.{ℕ-discrete, decLe, decLt}
-use native.Mathlib.Nat.{add-mul, zero-mul, one-mul}
+use native.Mathlib.Nat.{add-zero, add-mul, zero-mul, one-mul}
 use lib.Dec.{eqb, ltb}
 use Rattle.integers.specs.Sum.{Naturals, sum, sumℕ, bit, count}
 use Rattle.integers.proofs.Tests.{either, ltb-true, ltb-false}
-use Rattle.integers.proofs.Sums.{sum-ext, sum-nil, sum-pick, sum-by-label}
+use Rattle.integers.proofs.Sums.{sum-more, sum-ext, sum-nil, sum-pick, sum-by-label}
 
 pub bit-le : (b : Bool) → bit b ≤ 1
 bit-le true = omega arith
@@ -36,6 +36,19 @@ pub sum-ones : (n : ℕ) → sumℕ n (λ i. 1) ≡ n
 unfolding sum
 sum-ones zero = refl
 sum-ones (suc n) = omega (arith, sum-ones n)
+
+-- no term of f is above g's, and the sum of g is not above f's: no term of g is above f's
+pub sum-squeezed : (n : ℕ) (f g : ℕ → ℕ) → ((i : ℕ) → i < n → f i ≤ g i) → sumℕ n g ≤ sumℕ n f → (i : ℕ) → i < n → g i ≤ f i
+unfolding sum
+sum-squeezed zero f g h s i l = absurd (omega arith)
+sum-squeezed (suc n) f g h s i l = go (ℕ-discrete i n) (sum-squeezed n f g (λ i l. h i (omega arith)))
+  where
+    rest : sumℕ n f ≤ sumℕ n g
+    rest = sum-le-sum n f g (λ i l. h i (omega arith))
+
+    go : Dec (i ≡ n) → (sumℕ n g ≤ sumℕ n f → (i : ℕ) → i < n → g i ≤ f i) → g i ≤ f i
+    go (yes e) r = rw e (omega (arith, rest))
+    go (no c) r = r (omega (arith, h n (omega arith))) i (omega arith)
 
 -- ── terms of at most 1 ──
 pub sum-le-size : (n : ℕ) (f : ℕ → ℕ) → ((i : ℕ) → i < n → f i ≤ 1) → sumℕ n f ≤ n
@@ -112,6 +125,17 @@ count-reach (suc n) f b l = go (decLt f (count n b)) (either (b n)) (count-reach
     go (yes h) e r = let q = r h in (q .0, omega (arith, q .1), q .2, q .3)
     go (no h) (inl e) r = (n, omega arith, e, omega (arith, ap bit e))
     go (no h) (inr e) r = absurd (omega (arith, ap bit e))
+
+-- those that pass b are numbered by the count up to them: a test of the numbers
+pub count-marked : (n : ℕ) (b g : ℕ → Bool) → count n (λ i. b i && g (count i b)) ≡ count (count n b) g
+unfolding sum
+count-marked zero b g = refl
+count-marked (suc n) b g = go (either (b n)) (count-marked n b g)
+  where
+    go : (b n ≡ true) ⊎ (b n ≡ false) → count n (λ i. b i && g (count i b)) ≡ count (count n b) g → count n (λ i. b i && g (count i b)) + bit
+        (b n && g (count n b)) ≡ count (count n b + bit (b n)) g
+    go (inl e) ih = rw e (ap (λ x. x + bit (g (count n b))) ih ∙ sym (sum-more Naturals (count n b) (λ i. bit (g i))))
+    go (inr e) ih = rw e (add-zero (count n (λ i. b i && g (count i b))) ∙ ih ∙ ap (λ m. count m g) (sym (add-zero (count n b))))
 
 -- the counts of each label add up to the whole count
 pub count-by-label : (n m : ℕ) (label : ℕ → ℕ) (b : ℕ → Bool) → ((i : ℕ) → i < n → label i < m)

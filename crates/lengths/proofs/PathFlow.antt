@@ -3,21 +3,16 @@ use mathlib.Core.Path.{_≡_, refl}
 use Prim.Native.Nat.{ℕ, _<_}
 use lib.IntN.{ℤ}
 use Rattle.maps.specs.Map.{Map, darts}
-use Rattle.maps.specs.Walk.{Connected}
 use Rattle.maps.specs.Check.{Sound}
 use Rattle.flows.proofs.UnitFlow.{walk-unit}
 use Rattle.flows.specs.inner.UnitFlow.{UnitFlow, walkFlow}
 use Rattle.flows.specs.inner.Lengths.{lengthFor}
 use Rattle.traversal.specs.inner.Spread.{Met, Spread}
-use Rattle.traversal.proofs.Reach.{connected-meets}
 use Rattle.lengths.specs.inner.Lengths.{Reached, Filled}
 
 module _ {𝓜 : Map} (σ : Sound 𝓜) {start : ℕ} {order from : ℕ → ℕ} {count : ℕ} (ξ : Spread (darts 𝓜) (𝓜 .rotation) start order from count) where
   pub reached-met : {finish : ℕ} → Met order count finish → Reached 𝓜 (darts 𝓜) start finish order from
   reached-met m = record { all-darts = refl; same-tail = σ .same-tail; count = count; spread = ξ; met = m }
-
-  pub reached-connected : Connected 𝓜 → (finish : ℕ) → finish < darts 𝓜 → Reached 𝓜 (darts 𝓜) start finish order from
-  reached-connected con finish l = reached-met (connected-meets σ ξ con finish l)
 
 pub filled-unit : {𝓜 : Map} {n start finish : ℕ} {order from : ℕ → ℕ} {capacity : ℕ → ℤ} {value : ℤ} {length : ℕ → ℤ} → Reached 𝓜 n start finish order from
     → Filled n start finish order from capacity value length

@@ -27,7 +27,7 @@ use Rattle.arrays.proofs.FillLoops.{filled-length}
 use Rattle.balance.specs.inner.SmallFlows.{SmallFlows}
 use Rattle.balance.proofs.Within.{none-forward, none-backward}
 use Rattle.balance.proofs.Balance.{none-circulation}
-use Rattle.levels.specs.inner.Laying.{Levelled, Levelable}
+use Rattle.levels.specs.inner.Laying.{LevelledFrom, Levelable}
 use Rattle.levels.proofs.LevelsOfMap.{map-fillable, levels-found}
 
 -- a slice that differs from an older one in its first n places only
@@ -73,16 +73,16 @@ module _ {𝓜 : Map} {left : ℕ → ℕ} {faces outer : ℕ} {capacity : ℕ �
       outer-in = p .outer-in;
       few = p .few-edges;
       rotation-in = p .plane .sound .range .rotation-in;
-      walked = λ ξ. map-fillable (p .left-is) (p .plane .sound) (p .plane .connected) (omega (arith, p .outer-in)) (p .few-edges) room-faces room-edges small ξ;
+      walked = λ 𝓕. map-fillable (p .left-is) (p .plane .sound) (omega (arith, p .outer-in)) (p .few-edges) room-faces room-edges small 𝓕;
     }
 
     -- what is written: the levels of the balanced settings, in the places of the faces and in no other
-    module _ (levels' : List ℤ) (written : Levelled (darts 𝓜) left outer (atℤ flows) levels levels') where
+    module _ (levels' : List ℤ) (written : LevelledFrom (darts 𝓜) (𝓜 .rotation) left outer (atℤ flows) levels levels') where
       pub found : NoneOf (balanceChecks 𝓜 NoNode (atℤ flows)) → Levels 𝓜 outer (atℤ flows) (atℤ levels')
-      found balanced = levels-found (p .left-is) (p .plane) (none-circulation 𝓜 (atℤ flows) balanced) (p .outer-in) (written .filled)
+      found balanced = levels-found (p .left-is) (p .plane) (none-circulation 𝓜 (atℤ flows) balanced) (written .forest) (written .levelled .filled)
 
       pub in-place : face.faces 𝓜 ≤ length levels → levels' ≡ filled (face.faces 𝓜) (atℤ levels') levels
-      in-place room = filled-itself (face.faces 𝓜) levels levels' room (written .as-long) (λ f past. written .kept f (other f past))
+      in-place room = filled-itself (face.faces 𝓜) levels levels' room (written .levelled .as-long) (λ f past. written .levelled .kept f (other f past))
         where
           other : (f : ℕ) → face.faces 𝓜 ≤ f → (d : ℕ) → d < darts 𝓜 → left d ≢ f
           other f past d l e = omega (arith, p .left-is d l, left-in (p .plane .sound) d l)

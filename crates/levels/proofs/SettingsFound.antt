@@ -20,21 +20,45 @@ use Rattle.arrays.specs.inner.Drawn.{Drawn}
 use Rattle.arrays.specs.Filled.{filled}
 use Rattle.arrays.proofs.Tabulate.{tabulate-ext}
 use Rattle.levels.specs.Level.{levelChecks}
-use Rattle.levels.specs.inner.Across.{across, HaveLevels}
+use Rattle.levels.specs.inner.Across.{across, HaveLevels, OneOf}
+use Rattle.traversal.specs.inner.Forest.{RootsOf}
+use Rattle.traversal.proofs.Forests.{start-in}
+use Rattle.traversal.proofs.Rooting.{roots-few, root-is, root-zero, zero-root}
 use Rattle.levels.specs.SettingsOf.{fromLevels}
 use Rattle.levels.proofs.Level.{all-levelled}
 
 module _ {𝓜 : Map} {left : ℕ → ℕ} {faces outer : ℕ} {capacity : ℕ → ℤ} (p : Drawn 𝓜 left faces outer capacity) where
-  -- ── the face of the outer dart ──
-  module _ {zero : ℕ} (is : zero ≡ left outer) where
-    zero-is : zero ≡ face.left 𝓜 outer
-    zero-is = is ∙ p .left-is outer (p .outer-in)
+  -- ── the faces at 0 ──
+  module _ {roots : ℕ → ℕ} {count : ℕ} (ρs : RootsOf (darts 𝓜) (𝓜 .rotation) outer left roots count) where
+    pub few-roots : count ≤ 1024
+    few-roots = omega (arith, roots-few ρs, p .few-edges)
 
-    pub zero-in : zero < faces
-    zero-in = omega (arith, zero-is, left-in (p .plane .sound) outer (p .outer-in), p .counted)
+    pub roots-in : (m : ℕ) → m < count → roots m < faces
+    roots-in m l =
+        omega (
+          arith,
+          root-is (p .plane .sound) (p .left-is) ρs m l,
+          left-in (p .plane .sound) (ρs .order (ρs .forest .planted .begins m)) (start-in (p .plane .sound) (ρs .forest) m l),
+          p .counted,
+        )
 
-    pub levels-judged : (ρ : ℕ → ℤ) (v : Verdict) → Judged (levelChecks faces (λ f. f ≡ zero) ρ) v → Judged (levelChecks (face.faces 𝓜) (ZeroFace 𝓜 outer) ρ) v
-    levels-judged ρ v j = subst (λ cs. Judged cs v) (ap₂ (λ n z. levelChecks n (λ f. f ≡ z) ρ) (p .counted) zero-is) j
+    pub levels-judged : (ρ : ℕ → ℤ) (v : Verdict) → Judged (levelChecks faces (OneOf roots count) ρ) v
+        → Judged (levelChecks (face.faces 𝓜) (ZeroFace 𝓜 outer) ρ) v
+    unfolding levelChecks Same
+    levels-judged ρ v j =
+        judged-same _ _ v (
+          refl,
+          refl,
+          (λ r. (r .0, omega (arith, r .1, p .counted), r .2)),
+          (λ r. (r .0, omega (arith, r .1, p .counted), r .2)),
+          (
+            refl,
+            refl,
+            (λ r. (r .0, subst (ZeroFace 𝓜 outer) (r .1 .2) (root-zero (p .plane .sound) (p .left-is) ρs (r .1 .0) (r .1 .1)), r .2)),
+            (λ r. (r .0, zero-root (p .plane .sound) (p .left-is) ρs (r .0) (r .1), r .2)),
+            tt,
+          ),
+        ) j
 
   -- ── every dart's face has a level ──
   face-in : (d : ℕ) → d < darts 𝓜 → left d < face.faces 𝓜

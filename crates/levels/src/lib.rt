@@ -1,10 +1,10 @@
 // Face potentials ("levels") both ways: the levels of given flows, laid along a walk over the darts, and the flows that given levels make.
 ghost use Prim.Native.Nat.{ℕ, _+_, _*_, _/_, _<_, _≤_};
-ghost use Rattle.levels.specs.inner.Across.{across, HasLevel, HaveLevels};
+ghost use Rattle.levels.specs.inner.Across.{across, HasLevel, HaveLevels, OneOf};
 ghost use Rattle.levels.specs.Level.{LevelOutside, levelChecks};
 ghost use Rattle.flows.specs.Check.{withinChecks};
 ghost use Rattle.flows.specs.Settings.{onDarts};
-ghost use Rattle.levels.specs.inner.Laying.{Fillable, Levelled, Levelable};
+ghost use Rattle.levels.specs.inner.Laying.{Fillable, Levelled, LevelledFrom, Levelable};
 ghost use Rattle.levels.specs.LevelsOf.{balancedChecks, LevelsGiven};
 ghost use Rattle.levels.specs.SettingsOf.{leveledChecks, SettingsGiven};
 ghost use Rattle.arrays.specs.At.{atℤ, at};
@@ -34,11 +34,11 @@ fn level_outside(x: i32) -> bool
     false
 }
 
-// Refusals 19 and 20: "19 a level beyond ±600,000,000, 20 face 0 not at 0", since Job 6 the outer face, `zero`. All faces are looked at for 19 before it is
-// for 20.
-fn check_levels(levels: &[i32], faces: usize, zero: usize) -> Verdict
-    requires { ⌜ (zero < faces) × (faces ≤ length (now levels)) ⌝ }
-    ensures { λ r. ⌜ Judged (levelChecks faces (λ f. f ≡ zero) (atℤ (now (levels .entry)))) r ⌝ }
+// Refusals 19 and 20: "19 a level beyond ±600,000,000, 20 face 0 not at 0"; of the faces at 0 there is one to a part (document 02, Job 8), and they stand in
+// the first places of `roots`. All faces are looked at for 19 before these are for 20.
+fn check_levels(levels: &[i32], faces: usize, roots: &[u16; 1024], count: usize) -> Verdict
+    requires { ⌜ (count ≤ 1024) × ((m : ℕ) → m < count → at (now roots) m < faces) × (faces ≤ length (now levels)) ⌝ }
+    ensures { λ r. ⌜ Judged (levelChecks faces (OneOf (at (now (roots .entry))) count) (atℤ (now (levels .entry)))) r ⌝ }
 {
     let mut f: usize = 0;
     while f < faces {
@@ -47,8 +47,13 @@ fn check_levels(levels: &[i32], faces: usize, zero: usize) -> Verdict
         }
         f += 1;
     }
-    if levels[zero] != 0 {
-        return Verdict::Refused(20, 0);
+    let mut m: usize = 0;
+    while m < count {
+        let z = arrays::wide(roots[m]);
+        if levels[z] != 0 {
+            return Verdict::Refused(20, 0);
+        }
+        m += 1;
     }
     Verdict::Passed
 }
@@ -108,8 +113,8 @@ fn dart_flow(flows: &[i32], d: usize) -> i32
     signed::minus(0, flows[d / 2])
 }
 
-// The level of each face that a dart below `darts` has at its left. The face of the first dart in the order is at 0; the level across a dart is less by
-// its flow.
+// The level of each face that a dart below `darts` has at its left. The face of the first dart of each tree is at 0; the level across a dart is less by its
+// flow.
 fn fill_levels(
     lefts: &[u16; 1024],
     order: &[u16; 1024],
@@ -119,7 +124,7 @@ fn fill_levels(
     levels: &mut [i32],
 )
     requires { ⌜ Fillable darts (length (now levels)) (at (now lefts)) (at (now order)) (at (now from)) (now flows) ⌝ }
-    ensures { λ _. ⌜ Levelled darts (at (now (lefts .entry))) (at (now (order .entry)) 0) (atℤ (now (flows .entry)))
+    ensures { λ _. ⌜ Levelled darts (at (now (lefts .entry))) (at (now (order .entry))) (at (now (from .entry))) (atℤ (now (flows .entry)))
         (now (levels .entry)) (now (levels .exit)) ⌝ }
 {
     let start = arrays::wide(order[0]);
@@ -128,17 +133,21 @@ fn fill_levels(
     let mut i: usize = 1;
     while i < darts {
         let d = arrays::wide(order[i]);
-        let p = arrays::wide(from[d]);
-        let known = arrays::wide(lefts[p]);
-        let across = arrays::wide(lefts[d]);
-        let flow = dart_flow(flows, p);
-        levels[across] = signed::minus(levels[known], flow);
         i += 1;
+        let p = arrays::wide(from[d]);
+        let across = arrays::wide(lefts[d]);
+        if p == d {
+            levels[across] = 0;
+        } else {
+            let known = arrays::wide(lefts[p]);
+            let flow = dart_flow(flows, p);
+            levels[across] = signed::minus(levels[known], flow);
+        }
     }
 }
 
-// The levels of the faces straight into a slice that has room for them, the face of the outer dart at 0. The order of the walk has its arrays here, so that
-// they can lie where the caller's earlier arrays were.
+// The levels of the faces straight into a slice that has room for them, the face of the outer dart at 0 and the lowest face of each other part. The order of
+// the walk has its arrays here, so that they can lie where the caller's earlier arrays were.
 fn write_levels<'a>(
     rotations: &'a [u16; 1024],
     lefts: &'a [u16; 1024],
@@ -148,11 +157,12 @@ fn write_levels<'a>(
     levels: &mut [i32],
 )
     requires { ⌜ Levelable edges outer (length (now levels)) (at (now rotations)) (at (now lefts)) (now flows) ⌝ }
-    ensures { λ _. ⌜ Levelled (2 * edges) (at (now (lefts .entry))) outer (atℤ (now (flows .entry))) (now (levels .entry)) (now (levels .exit)) ⌝ }
+    ensures { λ _. ⌜ LevelledFrom (2 * edges) (at (now (rotations .entry))) (at (now (lefts .entry))) outer (atℤ (now (flows .entry)))
+        (now (levels .entry)) (now (levels .exit)) ⌝ }
 {
     let mut order = [0u16; 1024];
     let mut from = [0u16; 1024];
-    traversal::spread(rotations, 2 * edges, outer, &mut order, &mut from);
+    traversal::spread_all(rotations, 2 * edges, outer, &mut order, &mut from);
     fill_levels(lefts, &order, &from, 2 * edges, flows, levels);
 }
 
@@ -200,8 +210,7 @@ pub fn levels_of<'a>(
     LevelAnswer::Done
 }
 
-// Settings from levels on a drawing that is open and sound. Flows are written only after every check. `tails`, `rotations` and
-// `nodes` are named by the contract only.
+// Settings from levels on a drawing that is open and sound. Flows are written only after every check. `tails` and `nodes` are named by the contract only.
 pub fn settings_of<'a>(
     tails: &'a [u16; 1024],
     rotations: &'a [u16; 1024],
@@ -226,8 +235,9 @@ pub fn settings_of<'a>(
     if levels.len() < faces {
         return LevelAnswer::Refused(16, 0);
     }
-    let zero = arrays::wide(lefts[outer]);
-    let judged = check_levels(levels, faces, zero);
+    let mut roots = [0u16; 1024];
+    let count = traversal::roots_of(rotations, lefts, 2 * edges, outer, &mut roots);
+    let judged = check_levels(levels, faces, &roots, count);
     if let Verdict::Refused(k, p) = judged {
         return LevelAnswer::Refused(k, p);
     }

@@ -1,5 +1,4 @@
--- From the checks to the facts: a map in range that 9, 10 and 11 do not refuse is sound and connected. The checks are refutations, so orbits and walks are
--- decided on the way.
+-- From the checks to the facts: a map in range that 9 and 10 do not refuse is sound. The checks are refutations, so orbits are decided on the way.
 use mathlib.Core.Path.{_≡_, refl, sym, _∙_, ap}
 use mathlib.Core.Logic.{_⊎_, inl, inr, _≢_}
 use Prim.Native.Nat.{ℕ, _≤_, _<_}
@@ -8,10 +7,8 @@ use native.Mathlib.Decide.{ℕ-discrete, decLt}
 use Rattle.integers.proofs.Pigeonhole.{seek}
 use Rattle.maps.specs.Orbit.{Orbit, Permutes}
 use Rattle.maps.specs.Map.{Map, darts}
-use Rattle.maps.specs.Walk.{Walk, Connected}
-use Rattle.maps.specs.Check.{InRange, RotationFault, NodeFault, Disconnected, Sound}
+use Rattle.maps.specs.Check.{InRange, RotationFault, NodeFault, Sound}
 use Rattle.maps.proofs.Orbits.{orbit-decided}
-use Rattle.maps.proofs.Walks.{walk-decided}
 
 -- 9 leaves a rotation that keeps tails and permutes the darts
 module _ {𝓜 : Map} (range : InRange 𝓜) (rotation-good : RotationFault 𝓜 → ⊥) where
@@ -51,11 +48,3 @@ module _ {𝓜 : Map} (range : InRange 𝓜) (rotation-good : RotationFault 𝓜
 
     pub sound-of-checks : Sound 𝓜
     sound-of-checks = record { range = range; same-tail = keeps-tail; injective = one-to-one; one-round = round; has-dart = dart-of }
-
--- 11
-pub connected-of-checks : {𝓜 : Map} → (Disconnected 𝓜 → ⊥) → Connected 𝓜
-connected-of-checks {𝓜} good v w lv lw = go (walk-decided {𝓜 = 𝓜} v w)
-  where
-    go : Dec (Walk 𝓜 v w) → Walk 𝓜 v w
-    go (yes r) = r
-    go (no h) = absurd (good (v, w, lv, lw, h))

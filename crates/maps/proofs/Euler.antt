@@ -13,24 +13,24 @@ use Rattle.maps.specs.Orbit.{isLowest, orbits}
 use Rattle.maps.specs.Map.{Map, darts}
 use Rattle.maps.specs.Face.{step, faces}
 use Rattle.maps.specs.Walk.{Components}
-use Rattle.maps.specs.Flat.{Flat, nodesIn, edgesIn, facesIn, FlatInEach}
+use Rattle.maps.specs.Flat.{nodesIn, edgesIn, facesIn, FlatInEach}
 use Rattle.maps.specs.Check.{InRange}
 
-sum-twos : (k : ℕ) → sumℕ k (λ c. 2) ≡ 2 * k
+pub sum-twos : (k : ℕ) → sumℕ k (λ c. 2) ≡ 2 * k
 unfolding sum
 sum-twos zero = refl
 sum-twos (suc k) = omega (arith, sum-twos k)
 
 module _ {𝓜 : Map} (range : InRange 𝓜) {k : ℕ} {part : ℕ → ℕ} (κ : Components 𝓜 k part) where
-  nodes-whole : sumℕ k (nodesIn 𝓜 part) ≡ 𝓜 .nodes
+  pub nodes-whole : sumℕ k (nodesIn 𝓜 part) ≡ 𝓜 .nodes
   nodes-whole = count-by-label (𝓜 .nodes) k part (λ v. true) (κ .below) ∙ sum-ones (𝓜 .nodes)
 
-  edges-whole : sumℕ k (edgesIn 𝓜 part) ≡ 𝓜 .edges
+  pub edges-whole : sumℕ k (edgesIn 𝓜 part) ≡ 𝓜 .edges
   edges-whole =
       count-by-label (𝓜 .edges) k (λ e. part (𝓜 .tail (2 * e))) (λ e. true) (λ e l. κ .below (𝓜 .tail (2 * e)) (range .tail-in (2 * e) (omega arith)))
       ∙ sum-ones (𝓜 .edges)
 
-  faces-whole : sumℕ k (facesIn 𝓜 part) ≡ faces 𝓜
+  pub faces-whole : sumℕ k (facesIn 𝓜 part) ≡ faces 𝓜
   unfolding faces orbits
   faces-whole = count-by-label (darts 𝓜) k (λ d. part (𝓜 .tail d)) (isLowest (darts 𝓜) (step 𝓜)) (λ d l. κ .below (𝓜 .tail d) (range .tail-in d l))
 
@@ -61,11 +61,11 @@ module _ (𝓜 : Map) where
   unfolding faces orbits
   whole-faces = in-all (darts 𝓜) (isLowest (darts 𝓜) (step 𝓜))
 
-  pub flat-in-one : Flat 𝓜 → FlatInEach 𝓜 1 (λ v. 0)
+  pub flat-in-one : 𝓜 .nodes + faces 𝓜 ≡ 𝓜 .edges + 2 → FlatInEach 𝓜 1 (λ v. 0)
   flat-in-one flat c l = rw none (ap₂ _+_ whole-nodes whole-faces ∙ flat ∙ ap (λ x. x + 2) (sym whole-edges))
     where
       none : c ≡ 0
       none = omega arith
 
-  pub flat-of-one : FlatInEach 𝓜 1 (λ v. 0) → Flat 𝓜
+  pub flat-of-one : FlatInEach 𝓜 1 (λ v. 0) → 𝓜 .nodes + faces 𝓜 ≡ 𝓜 .edges + 2
   flat-of-one flat = sym (ap₂ _+_ whole-nodes whole-faces) ∙ flat 0 (omega arith) ∙ ap (λ x. x + 2) whole-edges

@@ -19,7 +19,7 @@ use Rattle.maps.specs.Orbit.{iter, lowest, isLowest, orbits, orbitOf}
 use Rattle.maps.specs.Map.{Map, darts, head}
 use Rattle.maps.specs.Face.{faces, left, right}
 use Rattle.maps.specs.Walk.{Walk, here, along, Connected}
-use Rattle.maps.specs.Flat.{Flat, FlatInEach}
+use Rattle.maps.specs.Flat.{Flat}
 use Rattle.maps.specs.Check.{Sound, NotFlat}
 use Rattle.maps.specs.Flow.{net, Circulation, Flow}
 use Rattle.maps.specs.Potential.{difference, Potentials}
@@ -27,6 +27,7 @@ use Rattle.maps.specs.Cut.{cut}
 use Rattle.maps.proofs.Walks.{connected-components, walk-append, walk-back}
 use Rattle.maps.proofs.Euler.{flat-in-one}
 use Rattle.maps.proofs.Planar.{circulation-potentials}
+use Rattle.maps.proofs.Parts.{flat-connected, connected-total}
 
 -- two nodes and three edges from 0 to 1: the tails of the darts, and a rotation by its list
 abbrev threeEdges : List ℕ → Map
@@ -88,12 +89,15 @@ pub A-faces : (faces A ≡ 3) × (left A 0 ≡ 0) × (left A 5 ≡ 0) × (left A
 unfolding faces left orbits orbitOf isLowest lowest iter sum rev
 A-faces = (refl, refl, refl, refl, refl, refl, refl)
 
+pub A-total : A .nodes + faces A ≡ A .edges + 2
+A-total = ap (λ f. 2 + f) (A-faces .0)
+
 pub A-flat : Flat A
-A-flat = ap (λ f. 2 + f) (A-faces .0)
+A-flat = flat-connected (omega arith) A-connected A-total
 
 -- so the planar theorem speaks of A
 pub A-potentials : (φ : ℕ → ℤ) → Circulation A φ → (ρ : ℕ → ℤ) × Potentials A φ ρ
-A-potentials = circulation-potentials A-sound (connected-components (omega arith) A-connected) (flat-in-one A A-flat)
+A-potentials = circulation-potentials A-sound (connected-components (omega arith) A-connected) (flat-in-one A A-total)
 
 -- "A with all limits 5: settings 2, 1, −3 have levels 0, −2, −3"
 unfoldable pub balancedFlow : ℕ → ℤ
@@ -147,7 +151,7 @@ unfolding faces left orbits orbitOf isLowest lowest iter sum rev
 twisted-faces = refl
 
 pub twisted-not-flat : NotFlat twistedA
-twisted-not-flat flat = omega (arith, twisted-faces)
+twisted-not-flat flat = omega (arith, twisted-faces, connected-total (omega arith) twisted-connected twisted-sound flat)
 
 -- one round through the first two edges: balanced, but every dart has the one face on both sides
 unfoldable pub roundTrip : ℕ → ℤ

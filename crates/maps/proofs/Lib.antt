@@ -8,12 +8,16 @@ pub mod TreeCotree
 pub mod LabelSums
 pub mod Incidence
 pub mod Walks
+pub mod Components
 pub mod Checks
 pub mod Faces
+pub mod Lowest
 pub mod Euler
 pub mod Planar
+pub mod Parts
 pub mod Cuts
 pub mod Submodular
 pub mod LayerCake
 pub mod Rings
 pub mod Examples
+pub mod PartExamples

@@ -8,17 +8,19 @@ use native.Mathlib.Omega.{arith}
 use lib.Dec.{eqb}
 use lib.IntN.{ℤ, pos, negℤ, _-ℤ_, +ℤ-invr}
 use Rattle.integers.proofs.Omega.{atoms₂, atoms₃, atoms₄, parts, equal, from-equal}
+use Rattle.integers.specs.Sum.{Naturals, bit, count}
 use Rattle.integers.proofs.Laws.{equal-of-sub}
+use Rattle.integers.proofs.Sums.{sum-ext}
 use Rattle.maps.specs.Dart.{rev}
 use Rattle.maps.specs.Map.{Map, darts, head}
 use Rattle.maps.specs.Face.{step, faces, left, right}
 use Rattle.maps.specs.Walk.{Components}
-use Rattle.maps.specs.Flat.{FlatInEach}
+use Rattle.maps.specs.Flat.{nodesIn, edgesIn, FlatInEach}
 use Rattle.maps.specs.Check.{Sound}
 use Rattle.maps.specs.Flow.{Antisymmetric, net, Circulation}
 use Rattle.maps.specs.Potential.{difference, Potentials, Roots, RootedAtZero, around, Heights}
 use Rattle.maps.proofs.Darts.{rev-in}
-use Rattle.maps.proofs.Incidence.{Incidence, dual, difference-antisymmetric, difference-closed, planar}
+use Rattle.maps.proofs.Incidence.{Incidence, dual, difference-antisymmetric, difference-closed, planar, incidence-bound, incidence-part-bound}
 use Rattle.maps.proofs.Faces.{dartWith, dartWith-is, left-in, right-in, left-rotation, face-dart, same-in-part, part-head, part-left}
 use Rattle.maps.proofs.Euler.{euler}
 
@@ -34,10 +36,10 @@ difference-circulation {𝓜} σ ρ = record {
 
 module _ {𝓜 : Map} (σ : Sound 𝓜) {k : ℕ} {part : ℕ → ℕ} (κ : Components 𝓜 k part) where
   -- the component of a face: that of any of its darts
-  facePart : ℕ → ℕ
+  pub facePart : ℕ → ℕ
   facePart f = part (𝓜 .tail (dartWith (darts 𝓜) (left 𝓜) f))
 
-  facePart-left : (d : ℕ) → d < darts 𝓜 → facePart (left 𝓜 d) ≡ part (𝓜 .tail d)
+  pub facePart-left : (d : ℕ) → d < darts 𝓜 → facePart (left 𝓜 d) ≡ part (𝓜 .tail d)
   unfolding facePart
   facePart-left d l =
       let q = dartWith-is (darts 𝓜) (left 𝓜) (left 𝓜 d) (d, l, refl) in
@@ -94,8 +96,8 @@ module _ {𝓜 : Map} (σ : Sound 𝓜) {k : ℕ} {part : ℕ → ℕ} (κ : Com
   unfolding onFace
   on-face f l = dartWith-is (darts 𝓜) (left 𝓜) f (face-dart σ f l)
 
-  incidence : FlatInEach 𝓜 k part → Incidence (𝓜 .edges) (𝓜 .nodes) (faces 𝓜) k (𝓜 .rotation) (𝓜 .tail) (left 𝓜) (λ d. part (𝓜 .tail d)) onNode onFace
-  incidence flat = record {
+  incidence : Incidence (𝓜 .edges) (𝓜 .nodes) (faces 𝓜) k (𝓜 .rotation) (𝓜 .tail) (left 𝓜) (λ d. part (𝓜 .tail d)) onNode onFace
+  incidence = record {
     turn-in = σ .range .rotation-in;
     turn-injective = σ .injective;
     tail-in = σ .range .tail-in;
@@ -107,15 +109,32 @@ module _ {𝓜 : Map} (σ : Sound 𝓜) {k : ℕ} {part : ℕ → ℕ} (κ : Com
     onFace-in = λ f l. on-face f l .0;
     onFace-is = λ f l. on-face f l .1;
     part-in = λ d l. κ .below (𝓜 .tail d) (σ .range .tail-in d l);
+    part-rev = part-head σ κ;
+    part-tail = λ c d lc ld e. ap part e;
+    part-left = part-left σ κ;
     joined = λ Q hr ht d c ld lc e. same-in-part σ κ Q hr ht d c ld lc e;
-    euler = euler (σ .range) κ flat;
   }
+
+  -- nodes + faces are never more than edges + 2 · components
+  pub euler-at-most : 𝓜 .nodes + faces 𝓜 ≤ 𝓜 .edges + 2 * k
+  euler-at-most = incidence-bound incidence
+
+  -- nor in any component more than its edges + 2
+  pub part-at-most : (c : ℕ) → nodesIn 𝓜 part c + count (faces 𝓜) (λ f. eqb c (facePart f)) ≤ edgesIn 𝓜 part c + 2
+  unfolding onFace facePart
+  part-at-most c =
+      omega (
+        arith,
+        incidence-part-bound incidence c,
+        sum-ext Naturals (𝓜 .nodes) (λ v. bit (eqb c (part (𝓜 .tail (onNode v))))) (λ v. bit (eqb c (part v)))
+            (λ v l. ap (λ x. bit (eqb c (part x))) (on-node v l .1)),
+      )
 
   module _ (flat : FlatInEach 𝓜 k part) where
     -- every circulation has potentials
     pub circulation-potentials : (φ : ℕ → ℤ) → Circulation 𝓜 φ → (ρ : ℕ → ℤ) × Potentials 𝓜 φ ρ
     unfolding net
-    circulation-potentials φ c = planar (incidence flat) φ (c .antisymmetric) (c .balanced)
+    circulation-potentials φ c = planar incidence (euler (σ .range) κ flat) φ (c .antisymmetric) (c .balanced)
 
     -- and potentials with each component's root face at 0
     pub rooted-potentials : {root : ℕ → ℕ} → Roots 𝓜 k part root → (φ : ℕ → ℤ) → Circulation 𝓜 φ → (ρ : ℕ → ℤ) × Potentials 𝓜 φ ρ × RootedAtZero k root ρ
@@ -142,4 +161,4 @@ module _ {𝓜 : Map} (σ : Sound 𝓜) {k : ℕ} {part : ℕ → ℕ} (κ : Com
     -- the dual: antisymmetric and zero around every face, a is a difference of heights
     pub tension-heights : (a : ℕ → ℤ) → Antisymmetric 𝓜 a → ((f : ℕ) → f < faces 𝓜 → around 𝓜 a f ≡ pos 0) → (h : ℕ → ℤ) × Heights 𝓜 a h
     unfolding around
-    tension-heights a anti zero-around = planar (dual (incidence flat)) a anti zero-around
+    tension-heights a anti zero-around = planar (dual incidence) (omega (arith, euler (σ .range) κ flat)) a anti zero-around

@@ -13,14 +13,14 @@ use Rattle.maps.specs.Walk.{Walk, here, along, Connected, Components}
 use Rattle.maps.proofs.Darts.{rev-even, rev-odd, rev-rev, rev-in, by-edge}
 use Rattle.maps.proofs.Forest.{label, taken, label-zero, label-joined, label-kept, label-closed}
 
-all : ℕ → Bool
+pub all : ℕ → Bool
 all e = true
 
 -- the label of a node in the forest of all edges: two nodes are joined by a walk if and only if they have one label
-node-label : Map → ℕ → ℕ → ℕ
+unfoldable pub node-label : Map → ℕ → ℕ → ℕ
 node-label 𝓜 = label all (λ e. 𝓜 .tail (2 * e)) (λ e. 𝓜 .tail (2 * e + 1))
 
-label-across : (𝓜 : Map) (d : ℕ) → d < darts 𝓜 → node-label 𝓜 (𝓜 .edges) (𝓜 .tail d) ≡ node-label 𝓜 (𝓜 .edges) (head 𝓜 d)
+pub label-across : (𝓜 : Map) (d : ℕ) → d < darts 𝓜 → node-label 𝓜 (𝓜 .edges) (𝓜 .tail d) ≡ node-label 𝓜 (𝓜 .edges) (head 𝓜 d)
 unfolding node-label all
 label-across 𝓜 =
     by-edge (𝓜 .edges) (λ d. node-label 𝓜 (𝓜 .edges) (𝓜 .tail d) ≡ node-label 𝓜 (𝓜 .edges) (head 𝓜 d))
@@ -73,11 +73,14 @@ module _ {𝓜 : Map} where
               rw e (walk-append (rw (eqb-eq (L k v) (L k (a k)) e) at (ih v)) (walk-append (walk-back (ih (a k))) (walk-append (forth-over k h) (ih (b k)))))
           cs (inr e) = rw e (ih v)
 
+  pub walk-of-label : (v w : ℕ) → node-label 𝓜 (𝓜 .edges) v ≡ node-label 𝓜 (𝓜 .edges) w → Walk 𝓜 v w
+  walk-of-label v w e = walk-append (rw e at (to-label (𝓜 .edges) (omega arith) v)) (walk-back (to-label (𝓜 .edges) (omega arith) w))
+
   pub walk-decided : (v w : ℕ) → Dec (Walk 𝓜 v w)
   walk-decided v w = go (ℕ-discrete (node-label 𝓜 (𝓜 .edges) v) (node-label 𝓜 (𝓜 .edges) w))
     where
       go : Dec (node-label 𝓜 (𝓜 .edges) v ≡ node-label 𝓜 (𝓜 .edges) w) → Dec (Walk 𝓜 v w)
-      go (yes e) = yes (walk-append (rw e at (to-label (𝓜 .edges) (omega arith) v)) (walk-back (to-label (𝓜 .edges) (omega arith) w)))
+      go (yes e) = yes (walk-of-label v w e)
       go (no c) = no (λ r. c (walk-keeps (node-label 𝓜 (𝓜 .edges)) (label-across 𝓜) r))
 
 -- a connected map is one component

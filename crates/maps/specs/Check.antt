@@ -1,11 +1,10 @@
--- What the sheet checks 9 to 12 refuse. Document 01, "Operations": "Then 9 a turn has another tail, or two darts have one turn; 10 some node's darts do
--- not form exactly one round, or it has none; 11 not connected; 12 not flat."
+-- What the sheet checks 9, 10 and 12 refuse. Document 01, "Operations": "Then 9 a turn has another tail, or two darts have one turn; 10 some node's darts do
+-- not form exactly one round, or it has none"; "12 not flat". Document 02, Job 8: "Refusal 11 no longer occurs."
 use Prim.Native.Nat.{ℕ, _<_}
 use mathlib.Core.Path.{_≡_}
 use mathlib.Core.Logic.{_⊎_, _≢_}
 use Rattle.maps.specs.Orbit.{Orbit}
 use Rattle.maps.specs.Map.{Map, darts}
-use Rattle.maps.specs.Walk.{Walk}
 use Rattle.maps.specs.Flat.{Flat}
 
 -- what the checks 4 and 5 leave: every end is a node, every turn a dart
@@ -25,10 +24,6 @@ NodeFault 𝓜 =
     (v : ℕ) × (v < 𝓜 .nodes)
     × (((d : ℕ) → d < darts 𝓜 → 𝓜 .tail d ≢ v)
     ⊎ ((c : ℕ) × (d : ℕ) × (c < darts 𝓜) × (d < darts 𝓜) × (𝓜 .tail c ≡ v) × (𝓜 .tail d ≡ v) × (Orbit (𝓜 .rotation) c d → ⊥)))
-
--- 11
-abbrev pub Disconnected : Map → Type 0
-Disconnected 𝓜 = (v : ℕ) × (w : ℕ) × (v < 𝓜 .nodes) × (w < 𝓜 .nodes) × (Walk 𝓜 v w → ⊥)
 
 -- 12
 abbrev pub NotFlat : Map → Type 0

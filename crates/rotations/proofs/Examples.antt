@@ -8,13 +8,13 @@ use Rattle.refusals.specs.declared.Verdict.the-variants.{Passed, Refused}
 use Rattle.maps.specs.Map.{Map}
 use Rattle.maps.specs.Face.{faces, left}
 use Rattle.maps.specs.Check.{NodeFault}
-use Rattle.maps.proofs.Examples.{A, A-sound, A-connected, A-flat, twistedA, twisted-sound, twisted-connected, twisted-not-flat}
+use Rattle.maps.proofs.Examples.{A, A-sound, A-flat, twistedA, twisted-sound, twisted-not-flat}
 use Rattle.rotations.specs.MapChecks.{mapChecks, MapJudged}
 use Rattle.rotations.proofs.Accepted.{no-rotation-fault, no-node-fault, passes}
 
 -- drawing A
 A-passes : MapJudged A (left A) (faces A) Passed
-A-passes = (passes A-sound A-connected A-flat, (λ d l. refl), refl)
+A-passes = (passes A-sound A-flat, (λ d l. refl), refl)
 
 -- "A with turns 1→3→5→1 at node 1": one face only
 twisted-refused : Judged (mapChecks twistedA) (Refused 12 0)
@@ -22,10 +22,10 @@ unfolding FirstOf mapChecks
 twisted-refused =
     inr (
       no-rotation-fault twisted-sound,
-      inr (no-node-fault twisted-sound, inr ((λ r. r .4 (twisted-connected (r .0) (r .1) (r .2) (r .3))), inl (twisted-not-flat, refl, refl))),
+      inr (no-node-fault twisted-sound, inl (twisted-not-flat, refl, refl)),
     )
 
--- A with a node 2 that no dart leaves: not connected either, and refused 10
+-- A with a node 2 that no dart leaves: a part without channels, refused 10
 abbrev withBareNode : Map
 withBareNode = record { nodes = 3; edges = A .edges; tail = A .tail; rotation = A .rotation }
 

@@ -6,7 +6,8 @@ ghost use lib.ListN.{length};
 ghost use Rattle.refusals.specs.Order.{Decides};
 ghost use Rattle.maps.specs.Dart.{rev};
 ghost use Rattle.maps.specs.Orbit.{orbits, orbitOf, Permutes};
-ghost use Rattle.maps.specs.Check.{InRange, RotationFault, NodeFault, Disconnected, Sound};
+ghost use Rattle.maps.specs.Walk.{Components};
+ghost use Rattle.maps.specs.Check.{InRange, RotationFault, NodeFault, Sound};
 ghost use Rattle.arrays.specs.At.{at};
 ghost use Rattle.arrays.specs.Maps.{mapOf};
 ghost use Rattle.rotations.specs.inner.Marking.{Markable, Marked};
@@ -144,22 +145,21 @@ fn node_fault<'a>(
     some_empty(&owner, nodes)
 }
 
-// Check 11: "not connected". From dart 0 the walk goes to the rotation and to the reverse of every dart met. The rounds being nodes, all darts are met if and
-// only if every node is joined to the first; so it reads neither tails nor nodes, which only its contract names.
-fn disconnected<'a>(
+// How many parts the map has: the trees of a walk over all darts. From each dart met the walk goes to its rotation and to its reverse, and the rounds are
+// nodes; so it reads neither tails nor nodes, which only its contract names.
+fn count_parts<'a>(
     tails: &'a [u16; 1024],
     rotations: &'a [u16; 1024],
     nodes: usize,
     edges: usize,
-) -> bool
+) -> usize
     requires { ⌜ (0 < edges) × (edges ≤ 512) × Sound (mapOf nodes edges (now tails) (now rotations)) ⌝ }
-    ensures { λ r. ⌜ Decides (Disconnected (mapOf nodes edges (now (tails .entry)) (now (rotations .entry)))) r ⌝ }
+    ensures { λ r. ⌜ (r ≤ 2 * edges) × ((part : ℕ → ℕ) × Components (mapOf nodes edges (now (tails .entry)) (now (rotations .entry))) r part) ⌝ }
 {
     let darts = 2 * edges;
     let mut order = [0u16; 1024];
     let mut from = [0u16; 1024];
-    let met = traversal::spread(rotations, darts, 0, &mut order, &mut from);
-    met != darts
+    traversal::spread_all(rotations, darts, 0, &mut order, &mut from)
 }
 
 // "The face step of a dart is the turn of its reverse."
@@ -191,7 +191,8 @@ fn refused(number: u8) -> Checked
     }
 }
 
-// The checks 9 to 12 in order, of a map that the checks 3 to 5 left in range. Where they pass, `lefts` holds the face at the left of each dart.
+// The checks 9, 10 and 12 in order, of a map that the checks 3 to 5 left in range. Flatness in each part is a matter of the totals (document 02, Job 8):
+// nodes − channels + faces = 2 · parts. Where they pass, `lefts` holds the face at the left of each dart.
 pub fn check_map<'a>(
     tails: &'a [u16; 1024],
     rotations: &'a [u16; 1024],
@@ -209,13 +210,11 @@ pub fn check_map<'a>(
     if node_fault(tails, rotations, nodes, edges) {
         return refused(10);
     }
-    if disconnected(tails, rotations, nodes, edges) {
-        return refused(11);
-    }
+    let parts = count_parts(tails, rotations, nodes, edges);
     let mut steps = [0u16; 1024];
     fill_steps(rotations, edges, &mut steps);
     let count = number_orbits(&steps, 2 * edges, lefts);
-    if nodes + count != edges + 2 {
+    if nodes + count != edges + 2 * parts {
         return refused(12);
     }
     Checked {

@@ -1,4 +1,4 @@
--- The dual of a map, for who calls the search on a drawing: it is sound, connectedness joins its faces, and a ring is a walk over faces of the map.
+-- The dual of a map, for who calls the search on a drawing: it is sound, its faces are joined part by part, and a ring is a walk over faces of the map.
 use mathlib.Core.Path.{_≡_, refl, sym, _∙_, ap}
 use mathlib.Core.Bool.{Bool}
 use mathlib.Core.List.{List}
@@ -18,7 +18,8 @@ use Rattle.maps.specs.Check as check
 use Rattle.maps.specs.inner.FaceWalk.{FaceWalk}
 use Rattle.maps.specs.inner.FaceWalk as faceWalk
 use Rattle.maps.proofs.Darts.{rev-in}
-use Rattle.maps.proofs.Faces.{left-in, right-in, left-rotation, face-dart, same-in-part}
+use Rattle.maps.proofs.Faces.{left-in, right-in, left-rotation, face-dart, same-in-part, part-head}
+use Rattle.maps.proofs.Planar.{facePart, facePart-left}
 use Rattle.search.specs.Dual.{Dual, dualOf, WellFormed, Joined, longest}
 use Rattle.search.specs.inner.Walk.{Crossing, stay, cross, total, Ring}
 use Rattle.search.specs.inner.OfMap.{OfMap}
@@ -53,34 +54,40 @@ module _ {N : Dual} {𝓜 : Map} (of : OfMap N 𝓜) where
     reversed = λ d l. let m : d < darts 𝓜 = omega (arith, of .darts-are) in of .right-is d m ∙ sym (of .left-is (rev d) (rev-in (𝓜 .edges) d m));
   }
 
-  -- ── joined: one part, and one root ──
-  module _ (σ : check.Sound 𝓜) {part : ℕ → ℕ} (κ : Components 𝓜 1 part) (single : N .roots ≡ 1) (root-in : N .root 0 < N .faces) where
-    closed : (B : ℕ → Bool) → ((d : ℕ) → d < N .darts → B (N .left d) ≡ B (N .right d)) → (f : ℕ) → f < N .faces → B f ≡ B (N .root 0)
-    closed B same f l = sym (ap B (of-f .2)) ∙ around ∙ ap B (of-root .2)
+  -- ── joined: a root to each part ──
+  module _ (σ : check.Sound 𝓜) {k : ℕ} {part : ℕ → ℕ} (κ : Components 𝓜 k part) (rooted : N .roots ≡ k)
+      (root-of : (m : ℕ) → m < k → (d : ℕ) × (d < darts 𝓜) × (left 𝓜 d ≡ N .root m) × (part (𝓜 .tail d) ≡ m)) where
+    dart-of : (f : ℕ) → f < N .faces → (d : ℕ) × (d < darts 𝓜) × (left 𝓜 d ≡ f)
+    dart-of f l = face-dart σ f (omega (arith, of .faces-are))
+
+    part-of : (f d : ℕ) → d < darts 𝓜 → left 𝓜 d ≡ f → facePart σ κ f ≡ part (𝓜 .tail d)
+    part-of f d l e = ap (facePart σ κ) (sym e) ∙ facePart-left σ κ d l
+
+    below : (f : ℕ) → f < N .faces → facePart σ κ f < k
+    below f l = let d = dart-of f l in omega (arith, part-of f (d .0) (d .1) (d .2), κ .below (𝓜 .tail (d .0)) (σ .range .tail-in (d .0) (d .1)))
+
+    closed : (B : ℕ → Bool) → ((d : ℕ) → d < N .darts → B (N .left d) ≡ B (N .right d)) → (f : ℕ) → f < N .faces → B f ≡ B (N .root (facePart σ κ f))
+    closed B same f l =
+        let d = dart-of f l in
+        let r = root-of (facePart σ κ f) (below f l) in
+        sym (ap B (d .2))
+        ∙ same-in-part σ κ (λ d. B (left 𝓜 d)) across (λ d m. ap B (left-rotation σ d m) ∙ across d m) (d .0) (r .0) (d .1) (r .1)
+        (sym (part-of f (d .0) (d .1) (d .2)) ∙ sym (r .3))
+        ∙ ap B (r .2)
       where
         across : (d : ℕ) → d < darts 𝓜 → B (right 𝓜 d) ≡ B (left 𝓜 d)
         across d m = sym (ap B (of .right-is d m)) ∙ sym (same d (omega (arith, of .darts-are))) ∙ ap B (of .left-is d m)
 
-        of-f : (d : ℕ) × (d < darts 𝓜) × (left 𝓜 d ≡ f)
-        of-f = face-dart σ f (omega (arith, of .faces-are))
-
-        of-root : (d : ℕ) × (d < darts 𝓜) × (left 𝓜 d ≡ N .root 0)
-        of-root = face-dart σ (N .root 0) (omega (arith, of .faces-are, root-in))
-
-        one : (d : ℕ) → d < darts 𝓜 → part (𝓜 .tail d) ≡ 0
-        one d m = omega (arith, κ .below (𝓜 .tail d) (σ .range .tail-in d m))
-
-        around : B (left 𝓜 (of-f .0)) ≡ B (left 𝓜 (of-root .0))
-        around =
-            same-in-part σ κ (λ d. B (left 𝓜 d)) across (λ d m. ap B (left-rotation σ d m) ∙ across d m) (of-f .0) (of-root .0) (of-f .1) (of-root .1)
-            (one (of-f .0) (of-f .1) ∙ sym (one (of-root .0) (of-root .1)))
-
     pub joined-of-map : Joined N
     joined-of-map = record {
-      part = λ f. 0;
-      part-in = λ f l. omega (arith, single);
-      part-root = λ m l. omega (arith, single);
-      part-kept = λ d l. refl;
+      part = facePart σ κ;
+      part-in = λ f l. omega (arith, below f l, rooted);
+      part-root = λ m l. let r = root-of m (omega (arith, rooted)) in part-of (N .root m) (r .0) (r .1) (r .2) ∙ r .3;
+      part-kept = λ d l.
+          let m : d < darts 𝓜 = omega (arith, of .darts-are) in
+          part-of (N .left d) d m (sym (of .left-is d m))
+          ∙ sym (part-head σ κ d m)
+          ∙ sym (part-of (N .right d) (rev d) (rev-in (𝓜 .edges) d m) (sym (of .right-is d m)));
       closed = closed;
     }
 

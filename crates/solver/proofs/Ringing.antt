@@ -16,8 +16,7 @@ use Rattle.maps.specs.Potential.{Heights}
 use Rattle.maps.proofs.Darts.{rev-in}
 use Rattle.maps.proofs.Rings.{winding, ring-threshold}
 use Rattle.flows.proofs.Exact.{ring-heights-exist}
-use Rattle.traversal.specs.inner.Spread.{Spread}
-use Rattle.traversal.proofs.Reach.{connected-full}
+use Rattle.traversal.specs.inner.Forest.{Forest}
 use Rattle.search.specs.Dual.{Dual}
 use Rattle.windings.specs.inner.Winding.{Round, Wound}
 use Rattle.windings.proofs.WindingOfRing.{round-of, ring-wound}
@@ -37,34 +36,24 @@ module _ {𝓜 : Map} {N : Dual} {parent : ℕ → ℕ} {y : ℕ} (q : Ringed �
   pub ring-round : Round (N .right) parent (N .darts) y
   ring-round = round-of (q .few-faces) (q .ring)
 
-  module _ {order from : ℕ → ℕ} {start met : ℕ} (ξ : Spread (darts 𝓜) (𝓜 .rotation) start order from met)
+  module _ {order from : ℕ → ℕ} {first trees : ℕ} (𝓕 : Forest (darts 𝓜) (𝓜 .rotation) first order from trees)
       {wd : ℕ → ℤ} (wound : Wound (N .right) parent (N .darts) y wd) where
     pub heights-fillable : heights.Fillable (darts 𝓜) (𝓜 .tail) order from wd
     heights-fillable =
-        sound-fillable (q .plane .sound) (q .few-nodes) few-darts ξ (connected-full (q .plane .sound) ξ (q .plane .connected))
-        (λ d l. wound .limited d (omega (arith, q .of .darts-are)))
+        sound-fillable (q .plane .sound) 𝓕 (q .few-nodes) few-darts (λ d l. wound .limited d (omega (arith, q .of .darts-are)))
 
-    module _ {height : ℕ → ℤ} (filled : heights.Filled (darts 𝓜) (𝓜 .tail) (order 0) wd height) where
+    module _ {height : ℕ → ℤ} (filled : heights.Filled (darts 𝓜) (𝓜 .tail) wd height) where
       walk : (w : FaceWalk 𝓜 y y) × (total (N .length) w <ℤ pos 0) × ((d : ℕ) → d < N .darts → wd d ≡ winding w d)
       walk = ring-wound (q .of) (q .few-faces) (q .ring) wound
 
       -- the winding is the difference of the heights found
       found-heights : Heights 𝓜 (winding (walk .0)) height
       found-heights d l =
-          known d l
-          ∙ sym (ap₂ _-ℤ_ (at-node d l) (at-node (rev d) (rev-in (𝓜 .edges) d l)) ∙ shift (H (𝓜 .tail d)) (H (𝓜 .tail (rev d))) (H (𝓜 .tail (order 0))))
+          sym (walk .2 d (omega (arith, q .of .darts-are)))
+          ∙ filled .right (known .0) (λ d l. walk .2 d (omega (arith, q .of .darts-are)) ∙ known .1 d l) d l
         where
-          H : ℕ → ℤ
-          H = ring-heights-exist (q .plane) (walk .0) .0
-
-          known : Heights 𝓜 (winding (walk .0)) H
-          known = ring-heights-exist (q .plane) (walk .0) .1
-
-          at-node : (d : ℕ) → d < darts 𝓜 → height (𝓜 .tail d) ≡ H (𝓜 .tail d) -ℤ H (𝓜 .tail (order 0))
-          at-node = filled .right H (λ d l. walk .2 d (omega (arith, q .of .darts-are)) ∙ known d l)
-
-          shift : (a b z : ℤ) → (a -ℤ z) -ℤ (b -ℤ z) ≡ a -ℤ b
-          shift a b z = let k = atoms₃ a b z in equal (search parts) (omega arith)
+          known : (H : ℕ → ℤ) × Heights 𝓜 (winding (walk .0)) H
+          known = ring-heights-exist (q .plane) (walk .0)
 
       some-threshold : (θ : ℤ) × (cut 𝓜 (N .length) (above height θ) <ℤ pos 0)
       some-threshold = ring-threshold (q .plane .sound) (N .length) (q .pairs) (walk .0) (walk .1) height found-heights

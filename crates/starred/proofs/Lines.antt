@@ -20,6 +20,7 @@ use Rattle.flows.specs.Settings.{onDarts}
 use Rattle.flows.specs.ProvingSet.{bound, Proves, member, size}
 use Rattle.flows.proofs.OnDarts.{onDarts-antisymmetric}
 use Rattle.flows.proofs.Examples.{A-carries, A-highest}
+use Rattle.flows.proofs.Plane.{zero-connected}
 use Rattle.flows.proofs.Interval.{beside-proves}
 use Rattle.maps.specs.Drawing.{Drawing}
 use Rattle.arrays.specs.At.{atℤ}
@@ -177,6 +178,6 @@ module _ (capacities : List ℤ) (x₀ x₁ x₂ l₀ l₁ l₂ : ℤ) where
         levels =
             record {
               differences = every-equalℤ 6 (onDarts (flows more)) (difference maps.A heights) (differ more);
-              rooted = λ f z. ap heights (z ∙ maps.A-faces .1) ∙ rooted;
+              rooted = λ f z. ap heights (zero-connected maps.A-sound maps.A-connected 0 (omega arith) f z ∙ maps.A-faces .1) ∙ rooted;
             };
       }

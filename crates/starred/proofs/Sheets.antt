@@ -25,6 +25,7 @@ use Rattle.maps.specs.Walk.{Walk, here, along, Connected}
 use Rattle.maps.specs.Flat.{Flat}
 use Rattle.maps.specs.Check.{InRange, Sound}
 use Rattle.maps.proofs.Walks.{walk-append, walk-back}
+use Rattle.maps.proofs.Parts.{flat-connected}
 use Rattle.maps.proofs.Examples as maps
 use Rattle.rotations.specs.MapChecks.{mapChecks}
 use Rattle.rotations.proofs.Accepted.{no-rotation-fault, no-node-fault, passes}
@@ -128,7 +129,7 @@ unfolding NoneOf numberChecks
 three-two = (neither (neither (λ h. omega arith) (λ h. omega arith)) (neither (λ h. omega arith) (λ h. omega arith)), ((λ h. omega arith), tt))
 
 A-checked : NoneOf (mapChecks maps.A)
-A-checked = passes maps.A-sound maps.A-connected maps.A-flat
+A-checked = passes maps.A-sound maps.A-flat
 
 -- A's map with other capacities
 A-with : (s : List ℕ) (capacities : List ℤ) → length capacities ≡ 6
@@ -155,13 +156,13 @@ pub allFive-good : Good allFive (drawn maps.A allFive-capacities)
 unfolding allFive encodePlain plainHead encodeEdges encodeEdge le16 le32 leBits every
 allFive-good = A-with allFive allFive-capacities refl refl (fair-by-tests 3 (atℤ allFive-capacities) refl refl refl)
 
--- sound and connected, but not flat: 12 is the first check that holds
+-- sound, but not flat: 12 is the first check that holds
 twisted-checked : FirstOf (mapChecks maps.twistedA) 12 0
 unfolding FirstOf mapChecks
 twisted-checked =
     inr (
       no-rotation-fault maps.twisted-sound,
-      inr (no-node-fault maps.twisted-sound, inr ((λ r. r .4 (maps.twisted-connected (r .0) (r .1) (r .2) (r .3))), inl (maps.twisted-not-flat, refl, refl))),
+      inr (no-node-fault maps.twisted-sound, inl (maps.twisted-not-flat, refl, refl)),
     )
 
 pub twisted-bad : FirstOf (sheetChecks twisted) 12 0
@@ -213,9 +214,12 @@ B-connected v w lv lw = walk-append (from-zero v lv) (walk-back (from-zero w lw)
     from-zero (suc (suc zero)) l = along 3 (omega arith) refl here
     from-zero (suc (suc (suc v))) l = absurd (omega arith)
 
-B-flat : Flat maps.B
+B-total : maps.B .nodes + faces maps.B ≡ maps.B .edges + 2
 unfolding faces orbits isLowest lowest iter sum rev
-B-flat = refl
+B-total = refl
+
+B-flat : Flat maps.B
+B-flat = flat-connected (omega arith) B-connected B-total
 
 pub B-good : Good B (drawn maps.B B-capacities)
 unfolding B encodePlain plainHead encodeEdges encodeEdge le16 le32 leBits every
@@ -227,4 +231,4 @@ B-good =
       rotation-zero = λ d h. List·getD-eq-default (2 ∷ 1 ∷ 0 ∷ 3 ∷ []) 0 h;
       capacity-zero = λ d h. List·getD-eq-default B-capacities (pos 0) h;
     }))
-    (passes B-sound B-connected B-flat)
+    (passes B-sound B-flat)

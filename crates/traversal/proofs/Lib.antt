@@ -2,3 +2,6 @@
 pub mod Spreading
 pub mod Ahead
 pub mod Reach
+pub mod Forests
+pub mod Rooting
+pub mod Flagging

@@ -1,16 +1,19 @@
--- The walk of `spread` on its way: what listing one dart keeps, how it starts, and what is known when no listed dart waits.
+-- The walk over the darts on its way: what listing one dart keeps, how a tree begins, and what is known when no listed dart waits.
 use mathlib.Core.Path.{_≡_, refl, sym, _∙_, ap, subst}
 use mathlib.Core.Logic.{_⊎_, inl, inr, _≢_}
+use mathlib.Core.Bool.{cond}
 use Prim.Native.Nat.{ℕ, _+_, _/_, _%_, _≤_, _<_}
 use native.Mathlib.Omega.{arith}
 use native.Mathlib.Decide.{ℕ-discrete, decLt}
-use Rattle.integers.proofs.Tests.{eqb-eq}
+use lib.Dec.{eqb}
+use Rattle.integers.proofs.Tests.{eqb-eq, eqb-true, eqb-false}
 use Rattle.integers.proofs.Pigeonhole.{pigeonhole, Twice}
-use Rattle.integers.proofs.Injections.{onto}
+use Rattle.integers.proofs.Injections.{find, find-is, onto}
 use Rattle.maps.specs.Dart.{rev}
 use Rattle.maps.proofs.Darts.{rev-in}
 use Rattle.traversal.specs.inner.Mark.{unmarked}
 use Rattle.traversal.specs.inner.Spread.{Met, Follows, Spread, Added}
+use Rattle.traversal.specs.inner.Forest.{Reached, Trees, Forest, Growing, Plantable}
 
 -- ── listing one dart ──
 pub added-old : {d origin end : ℕ} {from order : ℕ → ℕ} → from d ≢ unmarked → Added d origin from from order order end end
@@ -41,18 +44,6 @@ added-new {d} {origin} {end} {from} {from'} {order} {order'} small z put keep la
     on y h (yes p) = inr (p, omega arith)
     on y h (no p) = inl (λ e. h (keep y p ∙ e))
 
--- ── on the way: the darts listed before `front` have both their neighbours listed ──
-pub record Spreading (darts : ℕ) (rotation : ℕ → ℕ) (start : ℕ) (order from : ℕ → ℕ) (front end : ℕ) : Type 0 where
-  pub some : 0 < end
-  pub ordered : front ≤ end
-  pub first : order 0 ≡ start
-  pub inside : (i : ℕ) → i < end → order i < darts
-  pub apart : (i j : ℕ) → i < end → j < end → order i ≡ order j → i ≡ j
-  pub met : (i : ℕ) → 0 < i → i < end → (j : ℕ) × (j < i) × (order j ≡ from (order i)) × Follows rotation (order i) (from (order i))
-  pub marked : (i : ℕ) → i < end → from (order i) ≢ unmarked
-  pub listed : (y : ℕ) → y < darts → from y ≢ unmarked → Met order end y
-  pub done : (i : ℕ) → i < front → (from (rotation (order i)) ≢ unmarked) × (from (rev (order i)) ≢ unmarked)
-
 -- numbers below n, no two equal, are at most n
 pub at-most-n : (n m : ℕ) (g : ℕ → ℕ) → ((i : ℕ) → i < m → g i < n) → ((i j : ℕ) → i < m → j < m → g i ≡ g j → i ≡ j) → m ≤ n
 at-most-n n m g inside apart = go (decLt n m)
@@ -70,7 +61,45 @@ all-met n m g inside apart e d l =
     let r = onto m g (λ i h. omega (arith, inside i h)) apart d (omega arith) in
     (r .0, r .1, sym (eqb-eq d (g (r .0)) (r .2)))
 
-module _ {darts : ℕ} {rotation : ℕ → ℕ} {start : ℕ} {order from : ℕ → ℕ} {front end : ℕ} (ξ : Spreading darts rotation start order from front end) where
+-- where a dart stands in the order
+abbrev pub place : (ℕ → ℕ) → ℕ → ℕ → ℕ
+place order count d = find count (λ i. eqb d (order i))
+
+pub place-is : (order : ℕ → ℕ) (count d : ℕ) → Met order count d → (place order count d < count) × (order (place order count d) ≡ d)
+place-is order count d r =
+    let q = find-is count (λ i. eqb d (order i)) (r .0) (r .1) (eqb-true d (order (r .0)) (sym (r .2))) in
+    (q .0, sym (eqb-eq d (order (place order count d)) (q .1)))
+
+-- no more numbers than places, where each has one
+pub at-least-n : (n m : ℕ) (g : ℕ → ℕ) → ((d : ℕ) → d < n → Met g m d) → n ≤ m
+at-least-n n m g every =
+    at-most-n m n (place g m) (λ d l. place-is g m d (every d l) .0)
+    (λ c d lc ld e. sym (place-is g m c (every c lc) .1) ∙ ap g e ∙ place-is g m d (every d ld) .1)
+
+-- ── on the way ──
+pub growing-none : {darts : ℕ} {rotation : ℕ → ℕ} {first : ℕ} {order from : ℕ → ℕ} → darts ≤ 1024 → ((y : ℕ) → y < 1024 → from y ≡ unmarked)
+    → Growing darts rotation first order from 0 0 0
+growing-none small none = record {
+  ordered = omega arith;
+  inside = λ i l. absurd (omega arith);
+  apart = λ i j l m e. absurd (omega arith);
+  marked = λ i l. absurd (omega arith);
+  listed = λ y l h. absurd (h (none y (omega arith)));
+  done = λ i l. absurd (omega arith);
+  planted = record {
+    begins = λ t. 0;
+    begins-in = λ t l. absurd (omega arith);
+    at-first = λ l. absurd (omega arith);
+    rising = λ t u l m. absurd (omega arith);
+    own = λ t l. absurd (omega arith);
+    met = λ i l. absurd (omega arith);
+    closed = λ t l. absurd (omega arith);
+    lowest = λ t z l. absurd (omega arith);
+  };
+}
+
+module _ {darts : ℕ} {rotation : ℕ → ℕ} {first : ℕ} {order from : ℕ → ℕ} {front end trees : ℕ}
+    (ξ : Growing darts rotation first order from front end trees) where
   pub few : end ≤ darts
   few = at-most-n darts end order (ξ .inside) (ξ .apart)
 
@@ -85,52 +114,65 @@ module _ {darts : ℕ} {rotation : ℕ → ℕ} {start : ℕ} {order from : ℕ 
       go (yes e) = absurd (full (all-met darts end order (ξ .inside) (ξ .apart) e d l))
       go (no e) = omega (arith, few, e)
 
-  -- when no dart waits
-  pub finished : end ≤ front → darts % 2 ≡ 0 → ((d : ℕ) → d < darts → rotation d < darts) → Spread darts rotation start order from end
-  finished over even stays = record {
-    some = ξ .some;
-    few = few;
-    first = ξ .first;
-    inside = ξ .inside;
-    apart = ξ .apart;
-    met = ξ .met;
-    closed = λ i l.
-        let r = ξ .done i (omega arith) in
-        (ξ .listed (rotation (order i)) (stays (order i) (ξ .inside i l)) (r .0), ξ .listed (rev (order i)) (back i l) (r .1));
-  }
+  -- each tree has a place of its own
+  pub trees-few : trees ≤ end
+  trees-few = at-most-n end trees (ξ .planted .begins) (ξ .planted .begins-in) (λ t u l m e. same t u l m e (decLt t u) (decLt u t))
     where
-      back : (i : ℕ) → i < end → rev (order i) < darts
-      back i l = omega (arith, rev-in (darts / 2) (order i) (omega (arith, ξ .inside i l)))
+      same : (t u : ℕ) → t < trees → u < trees → ξ .planted .begins t ≡ ξ .planted .begins u → Dec (t < u) → Dec (u < t) → t ≡ u
+      same t u l m e (yes p) q = absurd (omega (arith, ξ .planted .rising t u p m))
+      same t u l m e (no p) (yes q) = absurd (omega (arith, ξ .planted .rising u t q l))
+      same t u l m e (no p) (no q) = omega (arith, p, q)
 
--- the start: one dart is listed, and no other is marked
-pub spreading-start : {darts : ℕ} {rotation : ℕ → ℕ} {start : ℕ} {none order from : ℕ → ℕ}
-    → darts ≤ 1024 → start < darts → ((y : ℕ) → y < 1024 → none y ≡ unmarked)
-    → from start ≡ start → ((y : ℕ) → y ≢ start → from y ≡ none y) → order 0 ≡ start → Spreading darts rotation start order from 0 1
-spreading-start {darts} {rotation} {start} {none} {order} {from} small l z own rest head = record {
-  some = omega arith;
-  ordered = omega arith;
-  first = head;
-  inside = λ i m. let e : i ≡ 0 = omega arith in omega (arith, ap order e, head);
-  apart = λ i j m n e. omega arith;
-  met = λ i p m. absurd (omega arith);
-  marked = λ i m e. let q : i ≡ 0 = omega arith in omega (arith, e, ap (λ x. from (order x)) q, ap from head, own);
-  listed = λ y m h. (0, omega arith, head ∙ sym (only y m h (ℕ-discrete y start)));
-  done = λ i m. absurd (omega arith);
+-- when no dart waits, the neighbours of each listed dart are listed
+module _ {darts : ℕ} {rotation : ℕ → ℕ} {first : ℕ} {order from : ℕ → ℕ} {front end trees : ℕ} (ξ : Growing darts rotation first order from front end trees)
+    (over : end ≤ front) (even : darts % 2 ≡ 0) (stays : (d : ℕ) → d < darts → rotation d < darts) where
+  pub both-listed : (i : ℕ) → i < end → Met order end (rotation (order i)) × Met order end (rev (order i))
+  both-listed i l =
+      let r = ξ .done i (omega arith) in
+      (ξ .listed (rotation (order i)) (stays (order i) (ξ .inside i l)) (r .0), ξ .listed (rev (order i)) back (r .1))
+    where
+      back : rev (order i) < darts
+      back = omega (arith, rev-in (darts / 2) (order i) (omega (arith, ξ .inside i l)))
+
+-- one tree is the walk from its first dart
+pub finished : {darts : ℕ} {rotation : ℕ → ℕ} {first : ℕ} {order from : ℕ → ℕ} {end : ℕ} → Growing darts rotation first order from end end 1
+    → darts % 2 ≡ 0 → ((d : ℕ) → d < darts → rotation d < darts) → Spread darts rotation first order from end
+finished {darts} {rotation} {first} {order} {from} {end} ξ even stays = record {
+  some = omega (arith, ξ .planted .begins-in 0 (omega arith));
+  few = few ξ;
+  first = ξ .planted .at-first (omega arith) .1;
+  inside = ξ .inside;
+  apart = ξ .apart;
+  met = λ i z l. go i z (ξ .planted .met i l);
+  closed = both-listed ξ (omega arith) even stays;
+  marked = ξ .marked;
+  listed = ξ .listed;
 }
   where
-    only : (y : ℕ) → y < darts → from y ≢ unmarked → Dec (y ≡ start) → y ≡ start
-    only y m h (yes p) = p
-    only y m h (no p) = absurd (h (rest y p ∙ z y (omega arith)))
+    go : (i : ℕ) → 0 < i → ((t : ℕ) × (t < 1) × (ξ .planted .begins t ≡ i)) ⊎ Reached rotation order from i → Reached rotation order from i
+    go i z (inl (t, l, e)) = let q : t ≡ 0 = omega arith in absurd (omega (arith, e, ap (ξ .planted .begins) q, ξ .planted .at-first (omega arith) .0))
+    go i z (inr r) = r
+
+-- all darts are marked: the trees are a forest
+pub all-grown : {darts : ℕ} {rotation : ℕ → ℕ} {first : ℕ} {order from : ℕ → ℕ} {end trees : ℕ} → Growing darts rotation first order from end end trees
+    → 0 < trees → ((d : ℕ) → d < darts → from d ≢ unmarked) → Forest darts rotation first order from trees
+all-grown {darts} {rotation} {first} {order} {from} {end} {trees} ξ some every =
+    record { some = some; inside = ξ' .inside; apart = ξ' .apart; planted = ξ' .planted }
+  where
+    full : end ≡ darts
+    full = omega (arith, few ξ, at-least-n darts end order (λ d l. ξ .listed d l (every d l)))
+
+    ξ' : Growing darts rotation first order from darts darts trees
+    ξ' = subst (λ n. Growing darts rotation first order from n n trees) full ξ
 
 follows-same : (rotation : ℕ → ℕ) {d d' p p' : ℕ} → d' ≡ d → p' ≡ p → Follows rotation d p → Follows rotation d' p'
 follows-same rotation e q (inl r) = inl (e ∙ r ∙ sym (ap rev q))
 follows-same rotation e q (inr r) = inr (e ∙ r ∙ sym (ap rotation q))
 
--- a neighbour of the dart at the front is listed
-module _ {darts : ℕ} {rotation : ℕ → ℕ} {start d : ℕ} {order order' from from' : ℕ → ℕ} {front end end' : ℕ}
-    (ξ : Spreading darts rotation start order from front end) (l : front < end) (d-in : d < darts)
-    (near : Follows rotation d (order front)) (a : Added d (order front) from from' order order' end end') where
-  pub still : (y : ℕ) → from y ≢ unmarked → from' y ≢ unmarked
+-- ── a dart is listed ──
+module _ {darts : ℕ} {rotation : ℕ → ℕ} {first d origin : ℕ} {order order' from from' : ℕ → ℕ} {front end end' trees : ℕ}
+    (ξ : Growing darts rotation first order from front end trees) (d-in : d < darts) (a : Added d origin from from' order order' end end') where
+  still : (y : ℕ) → from y ≢ unmarked → from' y ≢ unmarked
   still y h e = h (sym (a .grew y h) ∙ e)
 
   -- the dart at a place of the longer order
@@ -157,17 +199,6 @@ module _ {darts : ℕ} {rotation : ℕ → ℕ} {start d : ℕ} {order order' fr
   apart' i j m n e (no p) (yes q) = absurd (no-clash j i q m p (sym e))
   apart' i j m n e (no p) (no q) = last i m p .0 ∙ sym (last j n q .0)
 
-  met' : (i : ℕ) → 0 < i → i < end' → Dec (i < end) → (j : ℕ) × (j < i) × (order' j ≡ from' (order' i)) × Follows rotation (order' i) (from' (order' i))
-  met' i z m (yes p) =
-      let r = ξ .met i z p in
-      (r .0, r .1, a .kept (r .0) (omega (arith, r .1)) ∙ r .2 ∙ sym (old-from i p), follows-same rotation (a .kept i p) (old-from i p) (r .3))
-  met' i z m (no p) =
-      let r = last i m p in
-      let w = a .new (r .1) in
-      let e : order' i ≡ d = ap order' (r .0) ∙ w .0 in
-      let o : from' (order' i) ≡ order front = ap from' e ∙ w .2 in
-      (front, omega (arith, r .0), a .kept front l ∙ sym o, follows-same rotation e o near)
-
   marked' : (i : ℕ) → i < end' → Dec (i < end) → from' (order' i) ≢ unmarked
   marked' i m (yes p) = λ e. ξ .marked i p (sym (old-from i p) ∙ e)
   marked' i m (no p) = let r = last i m p in λ e. a .has (sym (ap from' (ap order' (r .0) ∙ a .new (r .1) .0)) ∙ e)
@@ -179,46 +210,207 @@ module _ {darts : ℕ} {rotation : ℕ → ℕ} {start d : ℕ} {order order' fr
   done' : (i : ℕ) → i < front → (from' (rotation (order' i)) ≢ unmarked) × (from' (rev (order' i)) ≢ unmarked)
   done' i m =
       let r = ξ .done i m in
-      let e = a .kept i (omega arith) in (
+      let e = a .kept i (omega (arith, ξ .ordered)) in (
         λ q. still (rotation (order i)) (r .0) (sym (ap (λ x. from' (rotation x)) e) ∙ q),
         λ q. still (rev (order i)) (r .1) (sym (ap (λ x. from' (rev x)) e) ∙ q),
       )
 
-  pub spreading-added : Spreading darts rotation start order' from' front end'
-  spreading-added = record {
-    some = omega (arith, a .longer);
-    ordered = omega (arith, a .longer);
-    first = a .kept 0 (ξ .some) ∙ ξ .first;
-    inside = λ i m. inside' i m (decLt i end);
-    apart = λ i j m n e. apart' i j m n e (decLt i end) (decLt j end);
-    met = λ i z m. met' i z m (decLt i end);
-    marked = λ i m. marked' i m (decLt i end);
-    listed = λ y m h. listed' y m (a .only y h);
-    done = done';
+  -- what was met stays met, and from where
+  reached' : (i : ℕ) → i < end → Reached rotation order from i → Reached rotation order' from' i
+  reached' i p r =
+      (r .0, r .1, a .kept (r .0) (omega (arith, r .1)) ∙ r .2 ∙ sym (old-from i p), follows-same rotation (a .kept i p) (old-from i p) (r .3))
+
+  met-still : (n y : ℕ) → n ≤ end → Met order n y → Met order' n y
+  met-still n y l (i, m, e) = (i, m, a .kept i (omega arith) ∙ e)
+
+  closed' : (n i : ℕ) → n ≤ end → i < n → Met order n (rotation (order i)) × Met order n (rev (order i))
+      → Met order' n (rotation (order' i)) × Met order' n (rev (order' i))
+  closed' n i l m r =
+      let e = a .kept i (omega arith) in (
+        subst (λ x. Met order' n (rotation x)) (sym e) (met-still n (rotation (order i)) l (r .0)),
+        subst (λ x. Met order' n (rev x)) (sym e) (met-still n (rev (order i)) l (r .1)),
+      )
+
+  -- a neighbour of the dart at the front
+  module _ (l : front < end) (is-front : origin ≡ order front) (near : Follows rotation d (order front)) where
+    τ : Trees rotation first order from end trees
+    τ = ξ .planted
+
+    begins-at : (t : ℕ) → t < trees → order' (τ .begins t) ≡ order (τ .begins t)
+    begins-at t m = a .kept (τ .begins t) (τ .begins-in t m)
+
+    met' : (i : ℕ) → i < end' → Dec (i < end) → ((t : ℕ) × (t < trees) × (τ .begins t ≡ i)) ⊎ Reached rotation order' from' i
+    met' i m (yes p) = go (τ .met i p)
+      where
+        go : ((t : ℕ) × (t < trees) × (τ .begins t ≡ i)) ⊎ Reached rotation order from i
+            → ((t : ℕ) × (t < trees) × (τ .begins t ≡ i)) ⊎ Reached rotation order' from' i
+        go (inl r) = inl r
+        go (inr r) = inr (reached' i p r)
+    met' i m (no p) =
+        let r = last i m p in
+        let w = a .new (r .1) in
+        let e : order' i ≡ d = ap order' (r .0) ∙ w .0 in
+        let o : from' (order' i) ≡ order front = ap from' e ∙ w .2 ∙ is-front in
+        inr (front, omega (arith, r .0), a .kept front l ∙ sym o, follows-same rotation e o near)
+
+    pub growing-added : Growing darts rotation first order' from' front end' trees
+    growing-added = record {
+      ordered = omega (arith, a .longer);
+      inside = λ i m. inside' i m (decLt i end);
+      apart = λ i j m n e. apart' i j m n e (decLt i end) (decLt j end);
+      marked = λ i m. marked' i m (decLt i end);
+      listed = λ y m h. listed' y m (a .only y h);
+      done = done';
+      planted = record {
+        begins = τ .begins;
+        begins-in = λ t m. omega (arith, τ .begins-in t m, a .longer);
+        at-first = λ m. (τ .at-first m .0, a .kept 0 (omega arith) ∙ τ .at-first m .1);
+        rising = τ .rising;
+        own = λ t m. old-from (τ .begins t) (τ .begins-in t m) ∙ τ .own t m ∙ sym (begins-at t m);
+        met = λ i m. met' i m (decLt i end);
+        closed = λ t m i n. closed' (τ .begins t) i (omega (arith, τ .begins-in t m)) n (τ .closed t m i n);
+        lowest = λ t z m e n. met-still (τ .begins t) e (omega (arith, τ .begins-in t m)) (τ .lowest t z m e (omega (arith, n, begins-at t m)));
+      };
+    }
+
+-- ── a tree begins ──
+module _ {darts : ℕ} {rotation : ℕ → ℕ} {first d : ℕ} {order order' from from' : ℕ → ℕ} {end end' trees : ℕ}
+    (ξ : Growing darts rotation first order from end end trees) (even : darts % 2 ≡ 0) (stays : (d : ℕ) → d < darts → rotation d < darts)
+    (π : Plantable darts first from end trees d) (a : Added d d from from' order order' end end') where
+  σ : Trees rotation first order from end trees
+  σ = ξ .planted
+
+  grew : end < end'
+  grew = go (a .only d (a .has))
+    where
+      go : (from d ≢ unmarked) ⊎ ((d ≡ d) × (end < end')) → end < end'
+      go (inl h) = absurd (h (π .fresh))
+      go (inr r) = r .1
+
+  -- the places at which trees begin now: the new one at the end
+  starts : ℕ → ℕ
+  starts t = cond (eqb t trees) end (σ .begins t)
+
+  new-start : starts trees ≡ end
+  unfolding starts
+  new-start = rw (eqb-true trees trees refl)
+
+  old-start : (t : ℕ) → t < trees → starts t ≡ σ .begins t
+  unfolding starts σ
+  old-start t l = rw (eqb-false t trees (λ e. omega arith))
+
+  -- a tree is the new one or an old one
+  each : (P : ℕ → Type 0) → P trees → ((t : ℕ) → t < trees → P t) → (t : ℕ) → t < trees + 1 → P t
+  each P new old t l = go (ℕ-discrete t trees)
+    where
+      go : Dec (t ≡ trees) → P t
+      go (yes e) = subst P (sym e) new
+      go (no e) = old t (omega (arith, e))
+
+  new-dart : order' end ≡ d
+  new-dart = a .new grew .0
+
+  place-old : (t : ℕ) → t < trees → order' (starts t) ≡ order (σ .begins t)
+  place-old t l = ap order' (old-start t l) ∙ a .kept (σ .begins t) (σ .begins-in t l)
+
+  place-new : order' (starts trees) ≡ d
+  place-new = ap order' new-start ∙ new-dart
+
+  begins-in' : (t : ℕ) → t < trees + 1 → starts t < end'
+  begins-in' = each (λ t. starts t < end') (omega (arith, new-start, grew)) (λ t l. omega (arith, old-start t l, σ .begins-in t l, grew))
+
+  at-first' : (starts 0 ≡ 0) × (order' 0 ≡ first)
+  at-first' = go (π .next)
+    where
+      go : ((trees ≡ 0) × (end ≡ 0) × (d ≡ first)) ⊎ ((0 < trees) × ((e : ℕ) → e < d → from e ≢ unmarked)) → (starts 0 ≡ 0) × (order' 0 ≡ first)
+      go (inl r) = (ap starts (sym (r .0)) ∙ new-start ∙ r .1, ap order' (sym (r .1)) ∙ new-dart ∙ r .2)
+      go (inr r) =
+          let q = σ .at-first (r .0) in
+          let z : 0 < end = omega (arith, σ .begins-in 0 (r .0)) in
+          (old-start 0 (r .0) ∙ q .0, a .kept 0 z ∙ q .1)
+
+  rising' : (t u : ℕ) → t < u → u < trees + 1 → starts t < starts u
+  rising' t u l m =
+      each (λ u. t < u → starts t < starts u) (λ l. omega (arith, new-start, old-start t l, σ .begins-in t l))
+      (λ u m l. omega (arith, old-start u m, old-start t (omega arith), σ .rising t u l m)) u m l
+
+  own' : (t : ℕ) → t < trees + 1 → from' (order' (starts t)) ≡ order' (starts t)
+  own' =
+      each (λ t. from' (order' (starts t)) ≡ order' (starts t)) (ap from' place-new ∙ a .new grew .2 ∙ sym place-new)
+      (λ t l.
+      ap (λ x. from' (order' x)) (old-start t l) ∙ old-from ξ (π .inside) a (σ .begins t) (σ .begins-in t l) ∙ σ .own t l ∙ sym (place-old t l))
+
+  met-planted : (i : ℕ) → i < end' → Dec (i < end) → ((t : ℕ) × (t < trees + 1) × (starts t ≡ i)) ⊎ Reached rotation order' from' i
+  met-planted i m (yes p) = go (σ .met i p)
+    where
+      go : ((t : ℕ) × (t < trees) × (σ .begins t ≡ i)) ⊎ Reached rotation order from i
+          → ((t : ℕ) × (t < trees + 1) × (starts t ≡ i)) ⊎ Reached rotation order' from' i
+      go (inl (t, l, e)) = inl (t, omega arith, old-start t l ∙ e)
+      go (inr r) = inr (reached' ξ (π .inside) a i p r)
+  met-planted i m (no p) = inl (trees, omega arith, new-start ∙ sym (last ξ (π .inside) a i m p .0))
+
+  closed-planted : (t : ℕ) → t < trees + 1 → (i : ℕ) → i < starts t → Met order' (starts t) (rotation (order' i)) × Met order' (starts t) (rev (order' i))
+  closed-planted =
+      each (λ t. (i : ℕ) → i < starts t → Met order' (starts t) (rotation (order' i)) × Met order' (starts t) (rev (order' i)))
+      (λ i l. at end (sym new-start) i (omega (arith, new-start)) (λ m. both-listed ξ (omega arith) even stays i m) (omega arith))
+      (λ t m i l. at (σ .begins t) (sym (old-start t m)) i (omega (arith, old-start t m)) (λ n. σ .closed t m i n) (omega (arith, σ .begins-in t m)))
+    where
+      at : (n : ℕ) {s : ℕ} → n ≡ s → (i : ℕ) → i < n → (i < n → Met order n (rotation (order i)) × Met order n (rev (order i))) → n ≤ end
+          → Met order' s (rotation (order' i)) × Met order' s (rev (order' i))
+      at n e i l r m =
+          subst (λ s. Met order' s (rotation (order' i)) × Met order' s (rev (order' i))) e (closed' ξ (π .inside) a n i m l (r l))
+
+  lowest-planted : (t : ℕ) → 0 < t → t < trees + 1 → (e : ℕ) → e < order' (starts t) → Met order' (starts t) e
+  lowest-planted t z l =
+      each (λ t. 0 < t → (e : ℕ) → e < order' (starts t) → Met order' (starts t) e)
+      (λ z e m. subst (λ s. Met order' s e) (sym new-start) (new z e (omega (arith, m, place-new)) (π .next)))
+      (λ t l z e m.
+      subst (λ s. Met order' s e) (sym (old-start t l))
+      (met-still ξ (π .inside) a (σ .begins t) e (omega (arith, σ .begins-in t l)) (σ .lowest t z l e (omega (arith, m, place-old t l))))) t l z
+    where
+      new : 0 < trees → (e : ℕ) → e < d → ((trees ≡ 0) × (end ≡ 0) × (d ≡ first)) ⊎ ((0 < trees) × ((e : ℕ) → e < d → from e ≢ unmarked)) → Met order' end e
+      new z e m (inl r) = absurd (omega (arith, r .0))
+      new z e m (inr r) = met-still ξ (π .inside) a end e (omega arith) (ξ .listed e (omega (arith, m, π .inside)) (r .1 e m))
+
+  pub growing-planted : Growing darts rotation first order' from' end end' (trees + 1)
+  growing-planted = record {
+    ordered = omega (arith, grew);
+    inside = λ i m. inside' ξ (π .inside) a i m (decLt i end);
+    apart = λ i j m n e. apart' ξ (π .inside) a i j m n e (decLt i end) (decLt j end);
+    marked = λ i m. marked' ξ (π .inside) a i m (decLt i end);
+    listed = λ y m h. listed' ξ (π .inside) a y m (a .only y h);
+    done = done' ξ (π .inside) a;
+    planted = record {
+      begins = starts;
+      begins-in = begins-in';
+      at-first = λ m. at-first';
+      rising = rising';
+      own = own';
+      met = λ i m. met-planted i m (decLt i end);
+      closed = closed-planted;
+      lowest = lowest-planted;
+    };
   }
 
 -- once the rotation of the dart at the front is listed, a dart that was not met still has room
-pub room-between : {darts : ℕ} {rotation : ℕ → ℕ} {start p t : ℕ} {order order' from from' : ℕ → ℕ} {front end end' : ℕ}
-    → Spreading darts rotation start order from front end
+pub room-between : {darts : ℕ} {rotation : ℕ → ℕ} {first p t : ℕ} {order order' from from' : ℕ → ℕ} {front end end' trees : ℕ}
+    → Growing darts rotation first order from front end trees
     → front < end → order front ≡ p → rotation p ≡ t → t < darts
     → Added t p from from' order order' end end' → (d : ℕ) → d < darts → from' d ≡ unmarked → end' < darts
-room-between {rotation = rotation} {t = t} {order = order} {order' = order'} {from = from} {from' = from'} {end = end} {end' = end'} ξ l e et t-in a =
-    room (spreading-added ξ l t-in (inr (sym et ∙ ap rotation (sym e))) (subst (λ x. Added t x from from' order order' end end') (sym e) a))
+room-between {rotation = rotation} ξ l e et t-in a = room (growing-added ξ t-in a l (sym e) (inr (sym et ∙ ap rotation (sym e))))
 
 -- the dart at the front is passed, once both its neighbours are listed
-pub spreading-passed : {darts : ℕ} {rotation : ℕ → ℕ} {start : ℕ} {order from : ℕ → ℕ} {front end : ℕ}
-    → Spreading darts rotation start order from front end → front < end
-    → from (rotation (order front)) ≢ unmarked → from (rev (order front)) ≢ unmarked → Spreading darts rotation start order from (front + 1) end
-spreading-passed {darts} {rotation} {start} {order} {from} {front} {end} ξ l a b = record {
-  some = ξ .some;
+pub growing-passed : {darts : ℕ} {rotation : ℕ → ℕ} {first : ℕ} {order from : ℕ → ℕ} {front end trees : ℕ}
+    → Growing darts rotation first order from front end trees → front < end
+    → from (rotation (order front)) ≢ unmarked → from (rev (order front)) ≢ unmarked → Growing darts rotation first order from (front + 1) end trees
+growing-passed {darts} {rotation} {first} {order} {from} {front} {end} ξ l a b = record {
   ordered = omega arith;
-  first = ξ .first;
   inside = ξ .inside;
   apart = ξ .apart;
-  met = ξ .met;
   marked = ξ .marked;
   listed = ξ .listed;
   done = λ i m. both i m (ℕ-discrete i front);
+  planted = ξ .planted;
 }
   where
     both : (i : ℕ) → i < front + 1 → Dec (i ≡ front) → (from (rotation (order i)) ≢ unmarked) × (from (rev (order i)) ≢ unmarked)
@@ -226,24 +418,18 @@ spreading-passed {darts} {rotation} {start} {order} {from} {front} {end} ξ l a 
     both i m (no p) = ξ .done i (omega (arith, p))
 
 -- both neighbours of the dart at the front, one after the other
-pub spreading-on : {darts : ℕ} {rotation : ℕ → ℕ} {start p t back : ℕ} {order order₁ order₂ from from₁ from₂ : ℕ → ℕ} {front end end₁ end₂ : ℕ}
-    → Spreading darts rotation start order from front end
+pub growing-on : {darts : ℕ} {rotation : ℕ → ℕ} {first p t back : ℕ} {order order₁ order₂ from from₁ from₂ : ℕ → ℕ} {front end end₁ end₂ trees : ℕ}
+    → Growing darts rotation first order from front end trees
     → front < end → order front ≡ p → rotation p ≡ t → rev p ≡ back → t < darts → back < darts
     → Added t p from from₁ order order₁ end end₁ → Added back p from₁ from₂ order₁ order₂ end₁ end₂
-    → Spreading darts rotation start order₂ from₂ (front + 1) end₂
-spreading-on {darts} {rotation} {start} {p} {t} {back} {order} {order₁} {order₂} {from}
-    {from₁} {from₂} {front} {end} {end₁} {end₂} ξ l e et eb t-in back-in a b =
-    spreading-passed ξ₂ l₂ (λ q. still ξ₁ l₁ back-in near₁ b' t (a' .has) (sym (ap from₂ (ap rotation head₂ ∙ et)) ∙ q))
+    → Growing darts rotation first order₂ from₂ (front + 1) end₂ trees
+growing-on {darts} {rotation} {first} {p} {t} {back} {order} {order₁} {order₂} {from}
+    {from₁} {from₂} {front} {end} {end₁} {end₂} {trees} ξ l e et eb t-in back-in a b =
+    growing-passed ξ₂ l₂ (λ q. still ξ₁ back-in b t (a .has) (sym (ap from₂ (ap rotation head₂ ∙ et)) ∙ q))
     (λ q. b .has (sym (ap from₂ (ap rev head₂ ∙ eb)) ∙ q))
   where
-    a' : Added t (order front) from from₁ order order₁ end end₁
-    a' = subst (λ x. Added t x from from₁ order order₁ end end₁) (sym e) a
-
-    near : Follows rotation t (order front)
-    near = inr (sym et ∙ ap rotation (sym e))
-
-    ξ₁ : Spreading darts rotation start order₁ from₁ front end₁
-    ξ₁ = spreading-added ξ l t-in near a'
+    ξ₁ : Growing darts rotation first order₁ from₁ front end₁ trees
+    ξ₁ = growing-added ξ t-in a l (sym e) (inr (sym et ∙ ap rotation (sym e)))
 
     l₁ : front < end₁
     l₁ = omega (arith, a .longer)
@@ -251,17 +437,20 @@ spreading-on {darts} {rotation} {start} {p} {t} {back} {order} {order₁} {order
     head₁ : order₁ front ≡ p
     head₁ = a .kept front l ∙ e
 
-    b' : Added back (order₁ front) from₁ from₂ order₁ order₂ end₁ end₂
-    b' = subst (λ x. Added back x from₁ from₂ order₁ order₂ end₁ end₂) (sym head₁) b
-
-    near₁ : Follows rotation back (order₁ front)
-    near₁ = inl (sym eb ∙ ap rev (sym head₁))
-
-    ξ₂ : Spreading darts rotation start order₂ from₂ front end₂
-    ξ₂ = spreading-added ξ₁ l₁ back-in near₁ b'
+    ξ₂ : Growing darts rotation first order₂ from₂ front end₂ trees
+    ξ₂ = growing-added ξ₁ back-in b l₁ (sym head₁) (inl (sym eb ∙ ap rev (sym head₁)))
 
     l₂ : front < end₂
     l₂ = omega (arith, l₁, b .longer)
 
     head₂ : order₂ front ≡ p
     head₂ = b .kept front l₁ ∙ head₁
+
+-- a mark stays
+pub marks-stay : {t p q back : ℕ} {order order₁ order₂ from from₁ from₂ : ℕ → ℕ} {end end₁ end₂ : ℕ}
+    → Added t p from from₁ order order₁ end end₁ → Added back q from₁ from₂ order₁ order₂ end₁ end₂
+    → (y : ℕ) → from y ≢ unmarked → from₂ y ≢ unmarked
+marks-stay {from = from} {from₁ = from₁} {from₂ = from₂} a b y h e = first (λ q. h (sym (a .grew y h) ∙ q))
+  where
+    first : from₁ y ≢ unmarked → ⊥
+    first g = g (sym (b .grew y g) ∙ e)

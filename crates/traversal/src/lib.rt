@@ -1,12 +1,16 @@
 // A walk over the darts from a start dart: from each dart met it goes on to the rotation and to the reverse, first come first.
 // `order` lists the darts as they are met, and `from` holds the dart from which each was met first. The work grows as the number of darts.
+// Over a drawing in several parts such a walk goes part by part.
 ghost use mathlib.Core.Path.{_≡_};
-ghost use Prim.Native.Nat.{ℕ, _%_, _<_, _≤_};
+ghost use mathlib.Core.Logic.{_≢_};
+ghost use Prim.Native.Nat.{ℕ, _+_, _%_, _<_, _≤_};
 ghost use lib.ListN.{length};
 ghost use Rattle.maps.specs.Dart.{rev};
 ghost use Rattle.arrays.specs.At.{at};
 ghost use Rattle.traversal.specs.inner.Mark.{unmarked};
-ghost use Rattle.traversal.specs.inner.Spread.{Spread, Added};
+ghost use Rattle.refusals.specs.Order.{Decides};
+ghost use Rattle.traversal.specs.inner.Spread.{Spread, Added, FlagsMet};
+ghost use Rattle.traversal.specs.inner.Forest.{Forest, Growing, Plantable, RootsOf};
 
 // The mark of a place that has no number yet: for a dart, that it was not met. Numbers stay below 1,024.
 const UNMARKED: u16 = 65535;
@@ -52,6 +56,40 @@ fn add(
     end + 1
 }
 
+// Begins a tree at d: lists it, marked with its own number, and all darts that it leads to. Answers the new end. `first` and `trees`, the trees listed before,
+// are named by the contract only.
+fn grow(
+    rotations: &[u16; 1024],
+    darts: usize,
+    first: usize,
+    trees: usize,
+    order: &mut [u16; 1024],
+    from: &mut [u16; 1024],
+    listed: usize,
+    d: usize,
+) -> usize
+    requires { ⌜ (length (now order) ≡ 1024) × (length (now from) ≡ 1024) × (darts ≤ 1024)
+        × (darts % 2 ≡ 0) × ((d : ℕ) → d < darts → at (now rotations) d < darts)
+        × Growing darts (at (now rotations)) first (at (now order)) (at (now from)) listed listed trees
+        × Plantable darts first (at (now from)) listed trees d ⌝ }
+    ensures { λ r. ⌜ (length (now (order .exit)) ≡ 1024) × (length (now (from .exit)) ≡ 1024)
+        × Growing darts (at (now (rotations .entry))) first (at (now (order .exit))) (at (now (from .exit))) r r (trees + 1)
+        × (at (now (from .exit)) d ≢ unmarked)
+        × ((y : ℕ) → at (now (from .entry)) y ≢ unmarked → at (now (from .exit)) y ≢ unmarked) ⌝ }
+{
+    let mut head: usize = listed;
+    let mut end = add(order, from, listed, d, d);
+    while head < end {
+        let p = arrays::wide(order[head]);
+        let t = arrays::wide(rotations[p]);
+        end = add(order, from, end, t, p);
+        let back = arrays::reverse(p);
+        end = add(order, from, end, back, p);
+        head += 1;
+    }
+    end
+}
+
 // All darts that `start` leads to, each once, and how many they are.
 pub fn spread(
     rotations: &[u16; 1024],
@@ -66,17 +104,92 @@ pub fn spread(
         × Spread darts (at (now (rotations .entry))) start (at (now (order .exit))) (at (now (from .exit))) r ⌝ }
 {
     unmark_all(from);
-    from[start] = arrays::narrow(start);
-    order[0] = arrays::narrow(start);
-    let mut head: usize = 0;
-    let mut end: usize = 1;
-    while head < end {
-        let d = arrays::wide(order[head]);
-        let t = arrays::wide(rotations[d]);
-        end = add(order, from, end, t, d);
-        let back = arrays::reverse(d);
-        end = add(order, from, end, back, d);
-        head += 1;
+    grow(rotations, darts, start, 0, order, from, 0, start)
+}
+
+// All darts, tree by tree: those that `first` leads to, then those that the lowest dart not met leads to, and so on. Answers how many trees there are. The
+// first dart of a tree is marked with its own number, and no other dart is (document 02, Job 8: a tree for each part of the sheet).
+pub fn spread_all(
+    rotations: &[u16; 1024],
+    darts: usize,
+    first: usize,
+    order: &mut [u16; 1024],
+    from: &mut [u16; 1024],
+) -> usize
+    requires { ⌜ (length (now order) ≡ 1024) × (length (now from) ≡ 1024) × (darts ≤ 1024)
+        × (darts % 2 ≡ 0) × (first < darts) × ((d : ℕ) → d < darts → at (now rotations) d < darts) ⌝ }
+    ensures { λ r. ⌜ (length (now (order .exit)) ≡ 1024) × (length (now (from .exit)) ≡ 1024)
+        × Forest darts (at (now (rotations .entry))) first (at (now (order .exit))) (at (now (from .exit))) r ⌝ }
+{
+    unmark_all(from);
+    let mut end = grow(rotations, darts, first, 0, order, from, 0, first);
+    let mut trees: usize = 1;
+    let mut next: usize = 0;
+    while next < darts {
+        let d = next;
+        next += 1;
+        if from[d] == UNMARKED {
+            end = grow(rotations, darts, first, trees, order, from, end, d);
+            trees += 1;
+        }
     }
-    end
+    trees
+}
+
+// Whether a walk met the dart d.
+pub fn is_met(from: &[u16; 1024], d: usize) -> bool
+    requires { ⌜ d < 1024 ⌝ }
+    ensures { λ r. ⌜ Decides (at (now (from .entry)) d ≢ unmarked) r ⌝ }
+{
+    from[d] != UNMARKED
+}
+
+// Flags the nodes that a walk met a dart of, and no other.
+pub fn flag_met(tails: &[u16; 1024], from: &[u16; 1024], darts: usize, inside: &mut [u8; 1024])
+    requires { ⌜ (length (now inside) ≡ 1024) × (darts ≤ 1024) × ((d : ℕ) → d < darts → at (now tails) d < 1024) ⌝ }
+    ensures { λ _. ⌜ (length (now (inside .exit)) ≡ 1024) × FlagsMet darts (at (now (tails .entry))) (at (now (from .entry))) (at (now (inside .exit))) ⌝ }
+{
+    for v in 0..1024usize {
+        inside[v] = 0;
+    }
+    let mut next: usize = 0;
+    while next < darts {
+        let d = next;
+        next += 1;
+        if from[d] != UNMARKED {
+            let v = arrays::wide(tails[d]);
+            inside[v] = 1;
+        }
+    }
+}
+
+// The faces at level 0 (document 02, Job 8): the one left of `first`, and in each other part the one left of its lowest dart, into the first places of `roots`.
+// Answers how many they are.
+pub fn roots_of<'a>(
+    rotations: &'a [u16; 1024],
+    lefts: &'a [u16; 1024],
+    darts: usize,
+    first: usize,
+    roots: &mut [u16; 1024],
+) -> usize
+    requires { ⌜ (length (now roots) ≡ 1024) × (darts ≤ 1024)
+        × (darts % 2 ≡ 0) × (first < darts) × ((d : ℕ) → d < darts → at (now rotations) d < darts) ⌝ }
+    ensures { λ r. ⌜ (length (now (roots .exit)) ≡ 1024)
+        × RootsOf darts (at (now (rotations .entry))) first (at (now (lefts .entry))) (at (now (roots .exit))) r ⌝ }
+{
+    let mut order = [0u16; 1024];
+    let mut from = [0u16; 1024];
+    let trees = spread_all(rotations, darts, first, &mut order, &mut from);
+    let mut count: usize = 0;
+    let mut i: usize = 0;
+    while i < darts {
+        let d = arrays::wide(order[i]);
+        i += 1;
+        let p = arrays::wide(from[d]);
+        if p == d {
+            roots[count] = lefts[d];
+            count += 1;
+        }
+    }
+    trees
 }

@@ -7,14 +7,16 @@ use lib.IntN.{pos}
 use lib.ListN.{length, set, length-set}
 use lib.Seq.{getD-set-same}
 use borrow.Author.Needs.{needs}
+use Rattle.maps.specs.Dart.{rev}
 use Rattle.arrays.specs.At.{at, atℤ}
-use Rattle.heights.proofs.FillingHeights.{Filling, dart-in, origin-in, node-in, filling-start, filling-turned, new-fits, filling-stored, filled}
+use Rattle.heights.proofs.FillingHeights.{Filling, dart-in, some-dart, first-own, origin-in, node-in}
+use Rattle.heights.proofs.FillingHeights.{filling-start, filling-turned, filling-rooted, new-fits, filling-stored, filled}
 use Rattle.heights.proofs.fill_heights.Statement.{statement}
 use Rattle.heights.proofs.fill_heights.Tie as tie
 
 abbrev Inv-loop : tie.InvT-loop
 Inv-loop tails order from darts winding heights₀ start root i₀ heights i =
-    (length heights ≡ 1024) × Filling darts (at tails) (at order) (atℤ winding) (atℤ heights) i
+    (length heights ≡ 1024) × Filling darts (at tails) (at order) (at from) (atℤ winding) (atℤ heights) i
 
 abbrev μ-loop : tie.MeasureT-loop
 μ-loop tails order from darts winding heights₀ start root i₀ heights i = darts - i
@@ -24,7 +26,7 @@ abbrev begun : tie.After-wide Inv-loop μ-loop → tie.Start Inv-loop μ-loop
 begun c = c .before .before
 
 first-in : (c : tie.After-wide Inv-loop μ-loop) → c .wide .result < begun c .args .darts
-first-in c = let p = begun c .pre .1 in dart-in p (p .spread .some) (c .wide .ensures)
+first-in c = let p = begun c .pre .1 in dart-in p (some-dart p) (c .wide .ensures)
 
 abbrev rooted : tie.After-wide2 Inv-loop μ-loop → tie.After-wide Inv-loop μ-loop
 rooted c = c .before .before
@@ -52,11 +54,14 @@ met c = c .before .before
 origin-below : (c : tie.After-wide4 Inv-loop μ-loop) → c .wide4 .result < start (turn (met c)) .args .darts
 origin-below c =
     let t = turn (met c) in
-    origin-in (start t .pre .1) (t .before .loop .inv .1 .begun) (t .loop-test .taken) (met c .wide3 .ensures) (c .wide4 .ensures)
+    origin-in (start t .pre .1) (t .loop-test .taken) (met c .wide3 .ensures) (c .wide4 .ensures)
 
 -- ── d is the reverse of p: both nodes ──
 abbrev origin : tie.After-wide5 Inv-loop μ-loop → tie.After-wide4 Inv-loop μ-loop
 origin c = c .before .before .before .before
+
+turned-back : (c : tie.After-wide5 Inv-loop μ-loop) → (met (origin c) .wide3 .result) ≡ rev (origin c .wide4 .result)
+turned-back c = let branch = c .before .before in branch .if1 .taken ∙ branch .before .reverse .ensures .0
 
 known-in : (c : tie.After-wide5 Inv-loop μ-loop) → c .wide5 .result < 1024
 known-in c = let f = origin c in node-in (start (turn (met f)) .pre .1) (origin-below f) (c .wide5 .ensures)
@@ -101,7 +106,7 @@ loop-holds c =
     let same : at (a .tails .now) (at (a .order .now) 0) ≡ root = ap (at (a .tails .now)) (sym (w .wide .ensures)) ∙ sym (c .wide2 .ensures) in
     let zero = getD-set-same (a .heights .now) root (pos 0) (pos 0) (omega (arith, p .0, root-in c)) in (
       length-set (a .heights .now) root (pos 0) ∙ p .0,
-      filling-start (p .1 .spread .some) (ap (atℤ (set (a .heights .now) root (pos 0))) same ∙ zero),
+      filling-start (some-dart (p .1)) (p .1 .based) (first-own (p .1)) (ap (atℤ (set (a .heights .now) root (pos 0))) same ∙ zero),
     )
 
 mul-wide-2 : tie.Need-mul-wide-2 Inv-loop μ-loop
@@ -164,10 +169,10 @@ minus-requires c κs =
     let f = origin k in
     let t = turn (met f) in
     let o = t .before .loop in
-    new-fits (start t .pre .1) (o .heights) (o .inv .1) (t .loop-test .taken) (met f .wide3 .ensures) (f .wide4 .ensures) (k .wide5 .ensures)
+    new-fits (start t .pre .1) (o .heights) (o .inv .1) (t .loop-test .taken) (met f .wide3 .ensures) (f .wide4 .ensures) (k .wide5 .ensures) (turned-back k)
 
-mul-t44 : tie.Need-mul-t44 Inv-loop μ-loop
-mul-t44 c = omega (arith, next-in (both c))
+mul-t45 : tie.Need-mul-t45 Inv-loop μ-loop
+mul-t45 c = omega (arith, next-in (both c))
 
 element-set-from-heights : tie.Need-element-set-from-heights Inv-loop μ-loop
 element-set-from-heights c = next-in (both c)
@@ -181,22 +186,59 @@ loop-again c =
     let f = origin k in
     let t = turn (met f) in
     let o = t .before .loop in
-    let branch = k .before .before in
-    let back = branch .if1 .taken ∙ branch .before .reverse .ensures .0 in
     filling-stored (start t .pre .1) (o .heights) (o .inv .1) (t .loop-test .taken) (met f .wide3 .ensures) (f .wide4 .ensures) (k .wide5 .ensures)
-    (o .inv .0) back (both c .wide6 .ensures) (c .minus .ensures)
+    (turned-back k)
+    (o .inv .0) (both c .wide6 .ensures) (c .minus .ensures)
+
+-- ── d begins a tree: its node ──
+abbrev branched : tie.After-wide7 Inv-loop μ-loop → tie.Then2 Inv-loop μ-loop
+branched c = c .before .before
+
+base-in : (c : tie.After-wide7 Inv-loop μ-loop) → c .wide7 .result < 1024
+base-in c =
+    let d = met (branched c .before .before .before) in
+    node-in (start (turn d) .pre .1) (dart-below d) (c .wide7 .ensures)
+
+mul-wide-6 : tie.Need-mul-wide-6 Inv-loop μ-loop
+mul-wide-6 c = let d = met (c .before .before .before) in omega (arith, few (turn d), dart-below d)
+
+element-copy-out-wide-7 : tie.Need-element-copy-out-wide-7 Inv-loop μ-loop
+element-copy-out-wide-7 c = let d = met (c .before .before .before) in omega (arith, few (turn d), dart-below d)
+
+wide-requires-7 : tie.Need-wide-requires-7 Inv-loop μ-loop
+wide-requires-7 c κs = search needs
+
+mul-heights-2 : tie.Need-mul-heights-2 Inv-loop μ-loop
+mul-heights-2 c = omega (arith, base-in c)
+
+element-set-of-heights-2 : tie.Need-element-set-of-heights-2 Inv-loop μ-loop
+element-set-of-heights-2 c = base-in c
 
 loop-less-2 : tie.Need-loop-less-2 Inv-loop μ-loop
-loop-less-2 c = omega (arith, turn (met (c .before .before)) .loop-test .taken)
+loop-less-2 c = omega (arith, turn (met (branched c .before .before .before)) .loop-test .taken)
 
 loop-again-2 : tie.Need-loop-again-2 Inv-loop μ-loop
 loop-again-2 c =
-    let f = c .before .before in
+    let b = branched c in
+    let f = b .before .before .before in
+    let d = met f in
+    let t = turn d in
+    let o = t .before .loop in
+    filling-rooted (start t .pre .1) (o .heights) (o .inv .1) (t .loop-test .taken) (d .wide3 .ensures) (f .wide4 .ensures) (b .if2 .taken)
+    (c .wide7 .ensures) (o .inv .0)
+
+loop-less-3 : tie.Need-loop-less-3 Inv-loop μ-loop
+loop-less-3 c = omega (arith, turn (met (c .before .before .before)) .loop-test .taken)
+
+loop-again-3 : tie.Need-loop-again-3 Inv-loop μ-loop
+loop-again-3 c =
+    let f = c .before .before .before in
     let t = turn (met f) in
     let o = t .before .loop in
-    let back = c .before .reverse .ensures .0 in (
+    let back = c .before .before .reverse .ensures .0 in (
       o .inv .0,
-      filling-turned (start t .pre .1) (o .inv .1) (t .loop-test .taken) (met f .wide3 .ensures) (f .wide4 .ensures) (λ e. c .if1 .left (e ∙ sym back)),
+      filling-turned (start t .pre .1) (o .inv .1) (t .loop-test .taken) (met f .wide3 .ensures) (f .wide4 .ensures) (c .if2 .left)
+          (λ e. c .before .if1 .left (e ∙ sym back)),
     )
 
 returns : tie.Need-returns Inv-loop μ-loop
@@ -237,10 +279,17 @@ fill-heights-spec =
     mul-minus-2
     element-copy-out-minus-2
     minus-requires
-    mul-t44
+    mul-t45
     element-set-from-heights
     loop-less
     loop-again
+    mul-wide-6
+    element-copy-out-wide-7
+    wide-requires-7
+    mul-heights-2
+    element-set-of-heights-2
     loop-less-2
     loop-again-2
+    loop-less-3
+    loop-again-3
     returns)

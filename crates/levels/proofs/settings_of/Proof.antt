@@ -20,7 +20,7 @@ use Rattle.levels.specs.Level.{levelChecks}
 use Rattle.levels.specs.inner.Across.{HaveLevels}
 use Rattle.levels.specs.SettingsOf.{fromLevels}
 use Rattle.levels.proofs.Given.{leveled-short, leveled-levels, leveled-within, leveled-none}
-use Rattle.levels.proofs.SettingsFound.{zero-in, levels-judged, levels-ready, differences-within, differences-filled}
+use Rattle.levels.proofs.SettingsFound.{few-roots, roots-in, levels-judged, levels-ready, differences-within, differences-filled}
 use Rattle.levels.proofs.settings_of.Statement.{statement}
 use Rattle.levels.proofs.settings_of.Tie as tie
 
@@ -45,13 +45,16 @@ room-faces : (c : tie.Else2) → faces (drawing (given c) .map) ≤ length (leve
 room-faces c = omega (arith, c .if2 .left, given c .pre .counted)
 
 -- ── 19 and 20 did not refuse ──
+abbrev walked : tie.After-check-levels → tie.After-roots-of
+walked c = c .before .before
+
 abbrev roomy : tie.After-check-levels → tie.Else2
-roomy c = c .before .before .before
+roomy c = walked c .before .before
 
 judged : (c : tie.After-check-levels) (v : Verdict) → c .check-levels .result ≡ v
     → Judged (levelChecks (faces (drawing (given (roomy c)) .map)) (ZeroFace (drawing (given (roomy c)) .map) (given (roomy c) .args .outer))
     (atℤ (levelsOf (given (roomy c))))) v
-judged c v e = let s = given (roomy c) in levels-judged (s .pre) (c .before .wide .ensures) (atℤ (levelsOf s)) v (rw e at (c .check-levels .ensures))
+judged c v e = let s = given (roomy c) in levels-judged (s .pre) (walked c .roots-of .ensures .1) (atℤ (levelsOf s)) v (rw e at (c .check-levels .ensures))
 
 abbrev levelled : tie.After-enum-told → tie.Else2
 levelled c = roomy (c .before .before)
@@ -82,19 +85,20 @@ returns-2 c =
     let s = c .before .before in
     (leveled-short (drawing s) (levelsOf s) (flowsOf s) (inr (omega (arith, c .if2 .taken, s .pre .counted))), refl)
 
-mul-wide : tie.Need-mul-wide
-mul-wide c = let p = given c .pre in omega (arith, p .outer-in, p .few-edges)
+mul-roots-of : tie.Need-mul-roots-of
+mul-roots-of c = omega (arith, given c .pre .few-edges)
 
-element-copy-out-wide : tie.Need-element-copy-out-wide
-element-copy-out-wide c = let p = given c .pre in omega (arith, p .outer-in, p .few-edges)
-
-wide-requires : tie.Need-wide-requires
-wide-requires c κs = search needs
+roots-of-requires : tie.Need-roots-of-requires
+roots-of-requires c κs =
+    let p = given (c .before) .pre in
+    (refl, omega (arith, p .few-edges), omega arith, p .outer-in, p .plane .sound .range .rotation-in)
 
 check-levels-requires : tie.Need-check-levels-requires
 check-levels-requires c κs =
-    let r = c .before .before in
-    (zero-in (given r .pre) (c .wide .ensures), omega (arith, r .if2 .left))
+    let w = c .before in
+    let r = w .before .before in
+    let e = w .roots-of .ensures .1 in
+    (few-roots (given r .pre) e, roots-in (given r .pre) e, omega (arith, r .if2 .left))
 
 enum-known-judged : tie.Need-enum-known-judged
 enum-known-judged c = search needs
@@ -156,9 +160,8 @@ settings-of-spec =
     (tie.spec
     returns
     returns-2
-    mul-wide
-    element-copy-out-wide
-    wide-requires
+    mul-roots-of
+    roots-of-requires
     check-levels-requires
     enum-known-judged
     returns-3

@@ -1,6 +1,7 @@
 -- The flow that levels give an edge. Document 01, "Faces, settings, levels": "flow on d = level of left(d) − level of right(d)". The faces of the darts are any
 -- function here: that of a drawing's map, or an array.
 use Prim.Native.Nat.{ℕ, _*_, _<_}
+use mathlib.Core.Path.{_≡_}
 use mathlib.Core.List.{List}
 use lib.ListN.{length}
 use lib.IntN.{ℤ, _-ℤ_}
@@ -20,3 +21,7 @@ pub record HasLevel (left : ℕ → ℕ) (levels : List ℤ) (d : ℕ) : Type 0 
 -- so for every dart of the edges
 abbrev pub HaveLevels : ℕ → (ℕ → ℕ) → List ℤ → Type 0
 HaveLevels edges left levels = (d : ℕ) → d < 2 * edges → HasLevel left levels d
+
+-- f is one of the first `count` of the list
+abbrev pub OneOf : (ℕ → ℕ) → ℕ → ℕ → Type 0
+OneOf roots count f = (m : ℕ) × (m < count) × (roots m ≡ f)

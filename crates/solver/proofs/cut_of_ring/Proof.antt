@@ -8,11 +8,11 @@ use Rattle.solver.proofs.Ringing.{few-darts, ring-round, heights-fillab
 use Rattle.solver.proofs.cut_of_ring.Statement.{statement}
 use Rattle.solver.proofs.cut_of_ring.Tie as tie
 
-mul-spread : tie.Need-mul-spread
-mul-spread c = omega (arith, c .pre .2 .few-edges)
+mul-spread-all : tie.Need-mul-spread-all
+mul-spread-all c = omega (arith, c .pre .2 .few-edges)
 
-spread-requires : tie.Need-spread-requires
-spread-requires c κs =
+spread-all-requires : tie.Need-spread-all-requires
+spread-all-requires c κs =
     let p = c .before .before .pre in
     (refl, refl, few-darts (p .2), omega arith, omega (arith, p .1), p .2 .plane .sound .range .rotation-in)
 
@@ -29,7 +29,7 @@ fill-heights-requires : tie.Need-fill-heights-requires
 fill-heights-requires c κs =
     let w = c .before .before .before .before in
     let s = w .before .before in
-    (refl, heights-fillable (s .before .before .before .pre .2) (s .spread .ensures .2) (w .fill-winding .ensures .1))
+    (refl, heights-fillable (s .before .before .before .pre .2) (s .spread-all .ensures .2) (w .fill-winding .ensures .1))
 
 mul-choose-set : tie.Need-mul-choose-set
 mul-choose-set c = omega (arith, c .before .before .before .before .before .before .before .before .before .before .before .pre .2 .few-edges)
@@ -40,7 +40,7 @@ choose-set-requires c κs =
     let w = h .before .before .before .before .before in
     let s = w .before .before in
     let p = s .before .before .before .pre in
-    (p .0, choosable (p .2) (s .spread .ensures .2) (w .fill-winding .ensures .1) (h .fill-heights .ensures .1))
+    (p .0, choosable (p .2) (s .spread-all .ensures .2) (w .fill-winding .ensures .1) (h .fill-heights .ensures .1))
 
 returns : tie.Need-returns
 returns c =
@@ -52,8 +52,8 @@ pub cut-of-ring-spec : {M : Type 1} → statement M
 cut-of-ring-spec =
     tie.close
     (tie.spec
-    mul-spread
-    spread-requires
+    mul-spread-all
+    spread-all-requires
     mul-fill-winding
     fill-winding-requires
     mul-fill-heights

@@ -1,17 +1,22 @@
--- A question decided: darts at its ends, lengths, search, and both ways out, which are laws of `Deciding`.
-use mathlib.Core.Path.{refl}
+-- A question decided: darts at its ends, lengths, search, and the ways out, which are laws of `Deciding`.
+use mathlib.Core.Path.{_≡_, refl}
 use mathlib.Core.List.{List}
-use Prim.Native.Nat.{_<_}
+use Prim.Native.Nat.{ℕ, _*_, _<_}
 use native.Mathlib.Omega.{arith}
+use lib.ListN.{length}
 use lib.IntN.{ℤ}
 use borrow.Author.Needs.{needs}
-use Rattle.arrays.specs.At.{atℤ}
+use Rattle.maps.specs.Map.{Map}
+use Rattle.arrays.specs.At.{at, atℤ}
 use Rattle.arrays.specs.Maps.{mapOf}
-use Rattle.solver.specs.inner.Search.{Lengthened}
-use Rattle.solver.proofs.Preparing.{same-value, small-value, lengthened-for}
-use Rattle.solver.proofs.Deciding.{searchable, decided-can, ringed, decided-cannot}
+use Rattle.solver.specs.inner.Search.{Lengthened, Measured}
+use Rattle.solver.proofs.Preparing.{same-value, small-value, measured-for}
+use Rattle.solver.proofs.Deciding.{few-roots, searchable, decided-can, ringed, decided-cannot, decided-apart, measured-long}
 use Rattle.solver.proofs.decide.Statement.{statement}
 use Rattle.solver.proofs.decide.Tie as tie
+
+abbrev mapAt : tie.Start → Map
+mapAt s = mapOf (s .args .nodes) (s .args .edges) (s .args .tails .now) (s .args .rotations .now)
 
 mul-dart-at : tie.Need-mul-dart-at
 mul-dart-at c = omega (arith, c .pre .2 .few-edges)
@@ -25,97 +30,132 @@ mul-dart-at-2 c = omega (arith, c .before .pre .2 .few-edges)
 dart-at-requires-2 : tie.Need-dart-at-requires-2
 dart-at-requires-2 c κs = let p = c .before .pre in (omega (arith, p .2 .few-edges), p .2 .plane .sound .has-dart _ (p .3 .sink-in))
 
-lengths-for-requires : tie.Need-lengths-for-requires
-lengths-for-requires c κs =
-    let t = c .before in
-    let d = t .before in
-    let p = d .before .pre in
-    (refl, p .2 .few-edges, d .dart-at .ensures .0, t .dart-at2 .ensures .0, p .2 .plane, p .2 .small, small-value (p .4))
-
--- ── the lengths are known ──
-abbrev begun : tie.After-lengths-for → tie.Start
-begun c = c .before .before .before .before
-
-abbrev row : tie.After-lengths-for → List ℤ
-row c = c .lengths-for .last .1 .1 .1 .1 .1 .1 .1 .1 .0
-
-known : (c : tie.After-lengths-for)
-    → Lengthened (mapOf (begun c .args .nodes) (begun c .args .edges) (begun c .args .tails .now) (begun c .args .rotations .now))
-    (begun c .args .source) (begun c .args .sink)
-    (atℤ (begun c .args .capacities .now)) (begun c .args .value) (atℤ (row c))
-known c =
+cut-apart-requires : tie.Need-cut-apart-requires
+cut-apart-requires c κs =
     let t = c .before .before in
     let d = t .before in
-    lengthened-for (d .dart-at .ensures .1) (t .dart-at2 .ensures .1) (same-value (begun c .pre .4)) (c .lengths-for .ensures .1)
+    let p = d .before .pre in
+    (refl, p .0, p .2 .few-edges, p .2 .few-nodes, d .dart-at .ensures .0, t .dart-at2 .ensures .0, p .2 .plane, p .2 .small, small-value (p .4))
 
--- ── the root is the face of the outer dart ──
-mul-wide : tie.Need-mul-wide
-mul-wide c = omega (arith, begun c .pre .2 .outer-in, begun c .pre .2 .few-edges)
+-- ── the lengths are known, or the ends are apart ──
+abbrev begun : tie.After-cut-apart → tie.Start
+begun c = c .before .before .before .before .before
 
-element-copy-out-wide : tie.Need-element-copy-out-wide
-element-copy-out-wide c = omega (arith, begun c .pre .2 .outer-in, begun c .pre .2 .few-edges)
+abbrev row : tie.After-cut-apart → List ℤ
+row c = c .cut-apart .last .1 .1 .1 .1 .1 .1 .1 .1 .0
 
-wide-requires : tie.Need-wide-requires
-wide-requires c κs = search needs
+abbrev flags : tie.After-cut-apart → List ℕ
+flags c = c .cut-apart .last .1 .1 .1 .1 .1 .1 .1 .1 .1 .0
+
+measured : (c : tie.After-cut-apart)
+    → Measured (mapAt (begun c)) (begun c .args .source) (begun c .args .sink) (atℤ (begun c .args .capacities .now)) (begun c .args .value)
+    (atℤ (row c)) (flags c) (c .cut-apart .result)
+measured c =
+    let t = c .before .before .before in
+    let d = t .before in
+    measured-for (mapAt (begun c)) (atℤ (begun c .args .capacities .now)) (atℤ (row c)) (flags c) (c .cut-apart .result) (d .dart-at .ensures .1)
+    (t .dart-at2 .ensures .1) (same-value (begun c .pre .4)) (c .cut-apart .ensures .2)
+
+returns : tie.Need-returns
+returns c =
+    let l = c .before in
+    let s = begun l in (
+      l .cut-apart .ensures .1,
+      decided-apart (mapAt s) (s .args .outer) (atℤ (s .args .capacities .now)) (s .args .source) (s .args .sink) (s .args .value) (atℤ (row l))
+          (s .args .flows .now) (flags l) (c .if1 .taken) (measured l),
+    )
+
+known : (c : tie.Else1)
+    → Lengthened (mapAt (begun (c .before))) (begun (c .before) .args .source) (begun (c .before) .args .sink)
+    (atℤ (begun (c .before) .args .capacities .now)) (begun (c .before) .args .value) (atℤ (row (c .before)))
+known c =
+    let s = begun (c .before) in
+    measured-long (mapAt s) (s .args .source) (s .args .sink) (atℤ (s .args .capacities .now)) (s .args .value) (atℤ (row (c .before))) (flags (c .before))
+    (c .if1 .left) (measured (c .before))
+
+-- ── the roots are the faces at 0 ──
+mul-roots-of : tie.Need-mul-roots-of
+mul-roots-of c = omega (arith, begun (c .before) .pre .2 .few-edges)
+
+roots-of-requires : tie.Need-roots-of-requires
+roots-of-requires c κs =
+    let p = begun (c .before .before) .pre .2 in
+    (refl, omega (arith, p .few-edges), omega arith, p .outer-in, p .plane .sound .range .rotation-in)
+
+abbrev joined : tie.After-roots-of → tie.Else1
+joined c = c .before .before
+
+abbrev queued : tie.After-roots-of → List ℕ
+queued c = c .roots-of .last .1 .1 .1 .1 .0
 
 settle-requires : tie.Need-settle-requires
 settle-requires c κs =
-    let w = c .before .before .before in
-    let f = w .before .before in
-    let p = begun f .pre in
-    (refl, p .2 .few-edges, p .1, searchable (begun f .args .lefts .now) (p .2) (p .3) (row f) (known f) (w .wide .ensures))
+    let q = c .before .before .before .before in
+    let e = joined q in
+    let s = begun (e .before) in
+    let p = s .pre in
+    let o = q .roots-of .ensures in (
+      refl,
+      o .0,
+      few-roots (s .args .lefts .now) (p .2) (p .3) (row (e .before)) (known e) (queued q) (o .0) (o .1),
+      p .2 .few-edges,
+      p .1,
+      searchable (s .args .lefts .now) (p .2) (p .3) (row (e .before)) (known e) (queued q) (o .0) (o .1),
+    )
 
 enum-known-outcome : tie.Need-enum-known-outcome
 enum-known-outcome c = search needs
 
 -- ── a ring: the dart that closes it ──
-abbrev faced : tie.After-settle → tie.After-wide
-faced c = c .before .before .before .before
+abbrev rooted : tie.After-settle → tie.After-roots-of
+rooted c = c .before .before .before .before .before
 
-abbrev measured : tie.After-settle → tie.After-lengths-for
-measured c = faced c .before .before
+abbrev lengthened : tie.After-settle → tie.After-cut-apart
+lengthened c = joined (rooted c) .before
 
 closes : (c : tie.After-known-told) → c .before .outcome .given .0 .0 < 1024
 closes c =
     let s = c .before .before .before .before in
-    let p = begun (measured s) .pre in
+    let p = begun (lengthened s) .pre in
     omega (arith, (rw (c .before .outcome .given .1) at (s .settle .ensures)) .1, p .2 .few-edges)
 
-mul-wide-2 : tie.Need-mul-wide-2
-mul-wide-2 c = omega (arith, closes c)
+mul-wide : tie.Need-mul-wide
+mul-wide c = omega (arith, closes c)
 
-element-copy-out-wide-2 : tie.Need-element-copy-out-wide-2
-element-copy-out-wide-2 c = omega (arith, closes c)
+element-copy-out-wide : tie.Need-element-copy-out-wide
+element-copy-out-wide c = omega (arith, closes c)
 
-wide-requires-2 : tie.Need-wide-requires-2
-wide-requires-2 c κs = search needs
+wide-requires : tie.Need-wide-requires
+wide-requires c κs = search needs
 
 cut-of-ring-requires : tie.Need-cut-of-ring-requires
 cut-of-ring-requires c κs =
     let w = c .before .before .before in
     let o = w .before .before .before in
     let s = o .before .before .before in
-    let f = measured s in
+    let q = rooted s in
+    let f = lengthened s in
     let p = begun f .pre in (
-      p .0,
-      omega (arith, f .before .before .before .dart-at .ensures .0),
-      ringed (begun f .args .lefts .now) (p .2) (p .3) (row f) (known f) (faced s .wide .ensures)
-          _ (w .wide2 .ensures) ((rw (o .outcome .given .1) at (s .settle .ensures)) .2),
+      f .cut-apart .ensures .1,
+      omega (arith, f .before .before .before .before .dart-at .ensures .0),
+      ringed (begun f .args .lefts .now) (p .2) (p .3) (row f) (known (joined q)) (queued q) (q .roots-of .ensures .0) (q .roots-of .ensures .1)
+          _ (w .wide .ensures) ((rw (o .outcome .given .1) at (s .settle .ensures)) .2),
     )
 
 same-length : tie.Need-same-length
 same-length c = search needs
 
-returns : tie.Need-returns
-returns c =
+returns-2 : tie.Need-returns-2
+returns-2 c =
     let o = c .before .before .before .before .before .before .before in
     let s = o .before .before .before in
-    let f = measured s in
+    let q = rooted s in
+    let f = lengthened s in
     let p = begun f .pre in
     let e = c .cut-of-ring .ensures in
-    let inside' = c .cut-of-ring .last .1 .1 .1 .1 .1 .1 .1 .1 .1 .1 .0 in (
+    let inside' = c .cut-of-ring .last .1 .1 .1 .1 .1 .1 .1 .1 .1 .0 in (
       e .0,
-      decided-cannot (begun f .args .lefts .now) (p .2) (p .3) (row f) (known f) (faced s .wide .ensures)
+      decided-cannot (begun f .args .lefts .now) (p .2) (p .3) (row f) (known (joined q)) (queued q) (q .roots-of .ensures .0) (q .roots-of .ensures .1)
           _ _ inside' ((rw (o .outcome .given .1) at (s .settle .ensures)) .0) (e .1),
     )
 
@@ -125,14 +165,16 @@ enum-told c = search needs
 same-length-2 : tie.Need-same-length-2
 same-length-2 c = search needs
 
-returns-2 : tie.Need-returns-2
-returns-2 c =
+returns-3 : tie.Need-returns-3
+returns-3 c =
     let s = c .before .before .before in
-    let f = measured s in
+    let q = rooted s in
+    let f = lengthened s in
     let p = begun f .pre in
     let r = rw (c .enum-told .given .1) at (s .settle .ensures) in (
-      p .0,
-      decided-can (begun f .args .lefts .now) (p .2) (p .3) (row f) (known f) (faced s .wide .ensures) (r .0) (r .1) _ _ (begun f .args .inside .now) (r .2),
+      f .cut-apart .ensures .1,
+      decided-can (begun f .args .lefts .now) (p .2) (p .3) (row f) (known (joined q)) (queued q) (q .roots-of .ensures .0) (q .roots-of .ensures .1)
+          (r .0) (r .1) _ _ (flags f) (r .2),
     )
 
 pub decide-spec : {M : Type 1} → statement M
@@ -143,18 +185,18 @@ decide-spec =
     dart-at-requires
     mul-dart-at-2
     dart-at-requires-2
-    lengths-for-requires
+    cut-apart-requires
+    returns
+    mul-roots-of
+    roots-of-requires
+    settle-requires
+    enum-known-outcome
     mul-wide
     element-copy-out-wide
     wide-requires
-    settle-requires
-    enum-known-outcome
-    mul-wide-2
-    element-copy-out-wide-2
-    wide-requires-2
     cut-of-ring-requires
     same-length
-    returns
+    returns-2
     enum-told
     same-length-2
-    returns-2)
+    returns-3)

@@ -1,4 +1,4 @@
--- The groups, the search's answer, and where it is settled the flows: what `fill_flows` requires is `flowing`. The one root stands in the queue.
+-- The groups, the search's answer, and where it is settled the flows: what `fill_flows` requires is `flowing`. The roots stand in the queue.
 use mathlib.Core.Path.{refl}
 use native.Mathlib.Omega.{arith}
 use borrow.Author.Needs.{needs}
@@ -8,31 +8,25 @@ use Rattle.solver.proofs.settle.Statement.{statement}
 use Rattle.solver.proofs.settle.Tie as tie
 
 mul-group : tie.Need-mul-group
-mul-group c = omega (arith, c .pre .1)
+mul-group c = omega (arith, c .pre .3)
 
 group-requires : tie.Need-group-requires
 group-requires c κs =
     let p = c .before .before .before .pre in
-    (omega (arith, p .1), p .3 .sound .few-faces, p .3 .sound .right-in, refl, refl, refl, same-everywhere 1024 0)
+    (omega (arith, p .3), p .5 .sound .few-faces, p .5 .sound .right-in, refl, refl, refl, same-everywhere 1024 0)
 
 -- ── the darts are in groups ──
 abbrev base : tie.After-group → tie.Start
 base c = c .before .before .before .before
 
-cast-queue : tie.Need-cast-queue
-cast-queue c = let p = base c .pre .3 in omega (arith, p .sound .root-in 0 (omega arith), p .sound .few-faces)
-
-array-write-queue : tie.Need-array-write-queue
-array-write-queue c = search needs
-
 mul-search : tie.Need-mul-search
-mul-search c = omega (arith, base (c .before .before .before) .pre .1)
+mul-search c = omega (arith, base (c .before .before .before) .pre .3)
 
 search-requires : tie.Need-search-requires
 search-requires c κs =
     let g = c .before .before .before .before .before .before .before in
     let p = base g .pre in
-    (p .3 .sound, p .3 .joined, g .group .ensures .3, refl, p .0, refl, refl, omega arith)
+    (p .5 .sound, p .5 .joined, g .group .ensures .3, refl, p .0, refl, p .1, p .2)
 
 -- ── the search has answered ──
 abbrev grouped : tie.After-search → tie.After-group
@@ -54,7 +48,7 @@ fill-flows-requires c κs =
     let t = c .before .before in
     let s = t .before .before in
     let p = base (grouped s) .pre in
-    (p .1, p .2, flowing (p .3) _ (rw (t .enum-told .given .1) at (s .search .ensures .0)))
+    (p .3, p .4, flowing (p .5) _ (rw (t .enum-told .given .1) at (s .search .ensures .0)))
 
 same-length : tie.Need-same-length
 same-length c = search needs
@@ -70,8 +64,6 @@ settle-spec =
     (tie.spec
     mul-group
     group-requires
-    cast-queue
-    array-write-queue
     mul-search
     search-requires
     enum-known-outcome

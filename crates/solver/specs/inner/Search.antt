@@ -1,6 +1,7 @@
 -- The three steps of a decision: the lengths of the darts for a value, the search on the dual graph, which ends with flows or with a ring,
 -- and the set of nodes made from a ring.
 use mathlib.Core.Path.{_≡_}
+use mathlib.Core.Bool.{Bool, true, false}
 use mathlib.Core.List.{List}
 use Prim.Native.Nat.{ℕ, _*_, _≤_, _<_}
 use lib.IntN.{ℤ, pos, _+ℤ_}
@@ -16,15 +17,17 @@ use Rattle.search.specs.declared.Outcome.{Outcome}
 use Rattle.search.specs.declared.Outcome.the-variants as outcome
 use Rattle.search.specs.inner.OfMap.{OfMap}
 use Rattle.flows.specs.inner.Plane.{Plane}
-use Rattle.flows.specs.inner.UnitFlow.{UnitFlow}
+use Rattle.flows.specs.inner.UnitFlow.{Carrier}
 use Rattle.flows.specs.inner.Lengths.{lengthFor}
 use Rattle.edge_flows.specs.inner.Flow.{flowOf}
+use Rattle.flows.specs.ProvingSet.{Proves}
+use Rattle.arrays.specs.inner.Flags.{flagged}
 use Rattle.arrays.specs.inner.Sizes.{mostLength, mostCapacity}
 
--- the lengths of the darts for a value from s to t: the capacity, less the value along some unit flow
+-- the lengths of the darts for a value from s to t: the capacity, less the value along what carries it
 pub record Lengthened (𝓜 : Map) (s t : ℕ) (capacity : ℕ → ℤ) (value : ℤ) (length : ℕ → ℤ) : Type 0 where
   pub along : ℕ → ℤ
-  pub unit : UnitFlow 𝓜 s t along
+  pub carrier : Carrier 𝓜 s t value along
   pub is : (d : ℕ) → d < darts 𝓜 → length d ≡ lengthFor capacity along value d
   pub short : (d : ℕ) → d < darts 𝓜 → Limited mostLength (length d)
 
@@ -51,3 +54,9 @@ pub record Ringed (𝓜 : Map) (N : Dual) (parent : ℕ → ℕ) (y : ℕ) : Typ
   pub short : (d : ℕ) → d < darts 𝓜 → Limited mostLength (N .length d)
   pub pairs : (d : ℕ) → d < darts 𝓜 → pos 0 ≤ℤ (N .length d +ℤ N .length (rev d))
   pub ring : ParentRing N parent y
+
+-- true: nothing carries the value because source and sink are in different parts, and the flagged nodes prove it (document 02, Job 8); false: the lengths are
+-- known
+abbrev pub Measured : Map → (s t : ℕ) → (ℕ → ℤ) → ℤ → (length : ℕ → ℤ) → (inside : List ℕ) → Bool → Type 0
+Measured 𝓜 s t capacity value length inside true = Proves 𝓜 capacity s t value (flagged inside)
+Measured 𝓜 s t capacity value length inside false = Lengthened 𝓜 s t capacity value length

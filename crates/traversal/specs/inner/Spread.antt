@@ -13,7 +13,7 @@ Met order count d = (i : ℕ) × (i < count) × (order i ≡ d)
 abbrev pub Follows : (ℕ → ℕ) → ℕ → ℕ → Type 0
 Follows rotation d p = (d ≡ rev p) ⊎ (d ≡ rotation p)
 
--- `order` lists the darts that `start` leads to, each once; each but the first was met from a dart listed before it
+-- `order` lists the darts that `start` leads to, each once; each but the first was met from a dart listed before it. A dart is marked if it is listed.
 pub record Spread (darts : ℕ) (rotation : ℕ → ℕ) (start : ℕ) (order from : ℕ → ℕ) (count : ℕ) : Type 0 where
   pub some : 0 < count
   pub few : count ≤ darts
@@ -22,6 +22,8 @@ pub record Spread (darts : ℕ) (rotation : ℕ → ℕ) (start : ℕ) (order fr
   pub apart : (i j : ℕ) → i < count → j < count → order i ≡ order j → i ≡ j
   pub met : (i : ℕ) → 0 < i → i < count → (j : ℕ) × (j < i) × (order j ≡ from (order i)) × Follows rotation (order i) (from (order i))
   pub closed : (i : ℕ) → i < count → Met order count (rotation (order i)) × Met order count (rev (order i))
+  pub marked : (i : ℕ) → i < count → from (order i) ≢ unmarked
+  pub listed : (d : ℕ) → d < darts → from d ≢ unmarked → Met order count d
 
 -- d is marked now; if it was not before, it stands at the end of the order, as met from `origin`
 pub record Added (d origin : ℕ) (from from' order order' : ℕ → ℕ) (end end' : ℕ) : Type 0 where
@@ -32,3 +34,8 @@ pub record Added (d origin : ℕ) (from from' order order' : ℕ → ℕ) (end e
   pub only : (y : ℕ) → from' y ≢ unmarked → (from y ≢ unmarked) ⊎ ((y ≡ d) × (end < end'))
   pub kept : (i : ℕ) → i < end → order' i ≡ order i
   pub new : end < end' → (order' end ≡ d) × (from d ≡ unmarked) × (from' d ≡ origin)
+
+-- of the flags below 1,024, those of the nodes that marked darts leave are 1, and no others
+pub record FlagsMet (darts : ℕ) (tail from flag : ℕ → ℕ) : Type 0 where
+  pub set : (d : ℕ) → d < darts → from d ≢ unmarked → flag (tail d) ≡ 1
+  pub only : (v : ℕ) → v < 1024 → flag v ≡ 1 → (d : ℕ) × (d < darts) × (tail d ≡ v) × (from d ≢ unmarked)
