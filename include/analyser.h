@@ -36,7 +36,7 @@
 // way, join). Of all right settings these faces say which are the highest, and they are what 20 looks at. Face numbers do not depend on the outer dart.
 //
 // THE SHEET CHECKS, in order. Head: 1 no first byte, 2, 1 body cut short, 3, 24.
-// For each channel in turn: 1 no byte, 2, 1 body cut short, 4, 5, 6, 7. Then 8. Then 9, 10, 11, 12.
+// For each channel in turn: 1 no byte, 2, 1 body cut short, 4, 5, 6, 7. Then 8. Then 9, 10, 12.
 #ifndef ANALYSER_H
 #define ANALYSER_H
 
@@ -90,7 +90,7 @@ uint8_t analyser_read(const uint8_t *sheet, size_t sheet_length, uint16_t *tails
 
 // Write: the sheet of a node count, an outer dart and three slices, one element to a dart, as Read gives them. Its head is of kind 4.
 // Their lengths are all twice the number of channels: no element is left out.
-// Refusals: 16 where the three input lengths are not one even number; 3; 24; 4, 5, 6, 7 for each channel in turn; 9, 10, 11, 12;
+// Refusals: 16 where the three input lengths are not one even number; 3; 24; 4, 5, 6, 7 for each channel in turn; 9, 10, 12;
 // 16 where sheet is shorter than 7 + 17 for each channel.
 // Writes where there is an answer: *length bytes of sheet, and *length.
 uint8_t analyser_write(uint16_t nodes, uint16_t outer, const uint16_t *tails, size_t tails_length, const uint16_t *turns, size_t turns_length,
