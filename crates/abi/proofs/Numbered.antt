@@ -64,7 +64,7 @@ field-numbered 𝓓 e = (omega arith, (omega arith, (omega arith, (omega arith, 
 
 map-numbered : (𝓜 : Map) → Numbered (mapChecks 𝓜)
 unfolding Numbered mapChecks
-map-numbered 𝓜 = (omega arith, (omega arith, (omega arith, (omega arith, tt))))
+map-numbered 𝓜 = (omega arith, (omega arith, (omega arith, tt)))
 
 edge-numbered : (s : List ℕ) (e : ℕ) → Numbered (edgeRecordChecks s e)
 unfolding edgeRecordChecks
