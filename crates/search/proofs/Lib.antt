@@ -1,3 +1,4 @@
+-- The state of the search and its queue, runs look by look, and what is promised of them (Job 3).
 pub mod Order
 pub mod Change
 pub mod Circle
