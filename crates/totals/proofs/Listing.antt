@@ -1,10 +1,11 @@
 -- The values at the members of a set, listed in a slice: how many they are, one node more, and where a node's value stands.
 use mathlib.Core.Path.{_≡_, refl, sym, _∙_, ap, ap₂}
 use mathlib.Core.Bool.{Bool, true, false, cond}
-use mathlib.Core.List.{List, [], _∷_, _++_, append-assoc}
+use mathlib.Core.List.{List, [], _∷_, _++_, append-assoc, append-nil}
 use Prim.Native.Nat.{ℕ, zero, suc, _+_, _≤_, _<_}
 use native.Mathlib.Omega.{arith}
 use native.Mathlib.Decide.{ℕ-discrete}
+use native.Mathlib.Nat.{add-zero}
 use native.Mathlib.Numerals.{add-one}
 use lib.ListN.{length, getD, set, drop, length-append, length-drop, List·getD-append}
 use lib.Seq.{getD-at, drop-cons, set-at}
@@ -31,7 +32,7 @@ module _ {A : Type 0} where
   pub listed-out : (n : ℕ) (S : ℕ → Bool) (f : ℕ → A) → S n ≡ false → listed (n + 1) S f ≡ listed n S f
   unfolding listed
   listed-out n S f h =
-      ap (λ k. listed k S f) (add-one n) ∙ ap (λ x. listed n S f ++ cond x (f n ∷ []) []) h ∙ mathlib.Core.List.append-nil (listed n S f)
+      ap (λ k. listed k S f) (add-one n) ∙ ap (λ x. listed n S f ++ cond x (f n ∷ []) []) h ∙ append-nil (listed n S f)
 
   pub length-listed : (n : ℕ) (S : ℕ → Bool) (f : ℕ → A) → length (listed n S f) ≡ count n S
   unfolding listed sum
@@ -48,6 +49,16 @@ module _ {A : Type 0} where
   listed-ext (suc n) S T f g same h =
       ap₂ _++_ (listed-ext n S T f g (λ v l. same v (omega arith)) (λ v l. h v (omega arith)))
       (ap₂ (λ x y. cond x (y ∷ []) []) (same n (omega arith)) (h n (omega arith)))
+
+  -- an empty set lists nothing
+  pub listed-none : (n : ℕ) (S : ℕ → Bool) (f : ℕ → A) (old : List A) → ((v : ℕ) → v < n → S v ≡ false) → listed n S f ++ drop (count n S) old ≡ old
+  unfolding listed sum
+  listed-none zero S f old h = refl
+  listed-none (suc n) S f old h =
+      ap (λ k. listed (suc n) S f ++ drop k old) (ap (λ b. count n S + bit b) (h n (omega arith)) ∙ add-zero (count n S))
+      ∙ ap (λ b. (listed n S f ++ cond b (f n ∷ []) []) ++ drop (count n S) old) (h n (omega arith))
+      ∙ ap (λ xs. xs ++ drop (count n S) old) (append-nil (listed n S f))
+      ∙ listed-none n S f old (λ v l. h v (omega arith))
 
   -- the value at v stands behind those of the members below v
   pub listed-at : (n : ℕ) (S : ℕ → Bool) (f : ℕ → A) (z : A) (v : ℕ) → v < n → S v ≡ true → getD (listed n S f) (count v S) z ≡ f v

@@ -1,4 +1,4 @@
--- Mark: as Solve, with nothing to write.
+-- Totals: as Solve, with a set to read and the subtotals to write.
 use mathlib.Core.Path.{_≡_, refl}
 use mathlib.Core.List.{List}
 use Prim.Native.Nat.{ℕ}
@@ -23,16 +23,16 @@ enum-known-verdict c = search needs
 returns : tie.Need-returns
 returns c =
     let o = c .before .before .before in
-    let a = o .before .before .before .args in
-    mark-refused (a .sheet .now) _ _ (opens-first (a .sheet .now) _ (o .«open» .result) (c .before .verdict .given .1) (o .«open» .ensures .1))
-    (a .source) (a .sink) (a .flows .now)
+    let a = o .before .before .before .before .args in
+    let first = opens-first (a .sheet .now) _ (o .«open» .result) (c .before .verdict .given .1) (o .«open» .ensures .1) in
+    (totals-refused (a .sheet .now) _ _ first (a .set .now) (a .subtotals .now), refl)
 
 enum-told : tie.Need-enum-told
 enum-told c = search needs
 
 -- ── it is accepted ──
 abbrev begun : tie.After-enum-told → tie.Start
-begun c = c .before .before .before .before .before
+begun c = c .before .before .before .before .before .before
 
 abbrev sheet : tie.After-enum-told → List ℕ
 sheet c = begun c .args .sheet .now
@@ -60,29 +60,32 @@ fill-capacities-requires c κs =
 abbrev told : tie.After-fill-capacities → tie.After-enum-told
 told c = c .before .before .before .before .before .before
 
-mark-requires : tie.Need-mark-requires
-mark-requires c κs =
-    let f = c .before .before .before .before in
+totals-of-requires : tie.Need-totals-of-requires
+totals-of-requires c κs =
+    let f = c .before .before .before .before .before in
     let t = told f in
-    markable (sheet t) (t .before .before .«open» .result) (t .before .before .«open» .last .1 .0)
+    roundable (sheet t) (t .before .before .«open» .result) (t .before .before .«open» .last .1 .0)
     (f .before .before .before .before .fill-tails .last .1 .1 .0) (f .before .before .fill-rotations .last .1 .1 .0)
     (f .fill-capacities .last .1 .1 .0) (accepted t) (f .before .before .before .before .fill-tails .ensures .1)
     (f .before .before .fill-rotations .ensures .1) (f .fill-capacities .ensures .1)
+
+same-length : tie.Need-same-length
+same-length c = search needs
 
 returns-2 : tie.Need-returns-2
 returns-2 c =
-    let k = c in
-    let f = k .before .before .before .before .before in
+    let k = c .before in
+    let f = k .before .before .before .before .before .before in
     let t = told f in
     let a = begun t .args in
-    marked-sheet (sheet t) (t .before .before .«open» .result) (t .before .before .«open» .last .1 .0)
+    totals-sheet (sheet t) (t .before .before .«open» .result) (t .before .before .«open» .last .1 .0)
     (f .before .before .before .before .fill-tails .last .1 .1 .0) (f .before .before .fill-rotations .last .1 .1 .0)
     (f .fill-capacities .last .1 .1 .0) (accepted t) (f .before .before .before .before .fill-tails .ensures .1)
     (f .before .before .fill-rotations .ensures .1) (f .fill-capacities .ensures .1)
-    (a .source) (a .sink) (a .flows .now) (k .mark .result) (k .mark .ensures)
+    (a .set .now) (a .subtotals .now) _ (k .totals-of .result) (k .totals-of .ensures)
 
-pub mark-spec : {M : Type 1} → statement M
-mark-spec =
+pub totals-spec : {M : Type 1} → statement M
+totals-spec =
     tie.close
     (tie.spec
     open-requires
@@ -92,5 +95,6 @@ mark-spec =
     fill-tails-requires
     fill-rotations-requires
     fill-capacities-requires
-    mark-requires
+    totals-of-requires
+    same-length
     returns-2)
