@@ -1,4 +1,4 @@
--- The round of a node; what is added along it; subtotals listed, and their sum the cut; a dart of each node; the ways out of the operation; checks in front of it.
+-- The round of a node and what is added along it; subtotals listed and added up, their sum the cut; a dart of each node; the ways out; examples.
 pub mod Rounds
 pub mod Adding
 pub mod Cutting
@@ -6,3 +6,4 @@ pub mod Listing
 pub mod Starting
 pub mod Filling
 pub mod Giving
+pub mod Examples

@@ -1,5 +1,5 @@
--- Totals by node on a drawing. Document 02, Job 9: "Fill a slice with the subtotal of each node of a given set in rising order, one element for each node in the
--- set, and give the total. .. Set bits past the last node are passed over. After the sheet checks, 16 means either slice is too short."
+-- Totals by node on a drawing. Document 02, Job 9: "Fill a slice with the subtotal of each node of a given set in rising order, one element for each node in
+-- the set, and give the total. .. Set bits past the last node are passed over. After the sheet checks, 16 means either slice is too short."
 use Prim.Native.Nat.{ℕ, _<_}
 use mathlib.Core.Path.{_≡_}
 use mathlib.Core.Logic.{_⊎_}

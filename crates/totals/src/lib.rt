@@ -1,5 +1,5 @@
-// The outward total of a set of nodes, node by node, on a drawing that is open and sound, held in lent arrays. Document 02, Job 9: "The course book adds a set's
-// outward total node by node, along each node's round of turns". A turn is a rotation here, a limit a capacity.
+// The outward total of a set of nodes, node by node, on a drawing that is open and sound, held in lent arrays. Document 02, Job 9: "The course book adds a
+// set's outward total node by node, along each node's round of turns". A turn is a rotation here, a limit a capacity.
 ghost use mathlib.Core.Path.{_≡_};
 ghost use mathlib.Core.Bool.{not};
 ghost use Prim.Native.Nat.{ℕ, _*_, _/_, _<_, _≤_};

@@ -60,11 +60,13 @@ below c = dart-in (begun c .pre .2) _ _ (begun c .pre .5) (c .before .loop .inv)
 share-requires-2 : tie.Need-share-requires-2 Inv-loop μ-loop
 share-requires-2 c κs = let p = begun c .pre in (omega (arith, p .1, below c), head-word (p .2) (p .4) _ (below c))
 
+abbrev drawn : tie.In-loop Inv-loop μ-loop → Map
+drawn c = let a = begun c .args in mapOf (a .nodes) (a .edges) (a .tails .now) (a .rotations .now)
+
 -- what is added is what the dart adds
 share-is : (c : tie.After-share2 Inv-loop μ-loop)
     → toZ w32 (ofZ w32 (c .share2 .result))
-    ≡ outward (mapOf (begun (c .before) .args .nodes) (begun (c .before) .args .edges) (begun (c .before) .args .tails .now) (begun (c .before) .args .rotations .now))
-    (atℤ (begun (c .before) .args .capacities .now)) (member (begun (c .before) .args .set .now)) (c .before .before .loop .d)
+    ≡ outward (drawn (c .before)) (atℤ (begun (c .before) .args .capacities .now)) (member (begun (c .before) .args .set .now)) (c .before .before .loop .d)
 share-is c = number-of-bits _ (record { sfits = c .share2 .ok }) ∙ c .share2 .ensures
 
 plus-requires : tie.Need-plus-requires Inv-loop μ-loop
@@ -94,7 +96,8 @@ loop-again c =
     let s = c .before .before in
     let p = begun t .pre in
     turn-on (p .2) _ _ (p .5) (t .before .loop .inv) (t .loop-test .taken)
-    (number-of-bits _ (record { sfits = s .plus .ok }) ∙ s .plus .ensures ∙ ap (λ z. toZ w32 (t .before .loop .sum) +ℤ z) (share-is (s .before))) (c .wide2 .ensures)
+    (number-of-bits _ (record { sfits = s .plus .ok }) ∙ s .plus .ensures ∙ ap (λ z. toZ w32 (t .before .loop .sum) +ℤ z) (share-is (s .before)))
+    (c .wide2 .ensures)
 
 returns : tie.Need-returns Inv-loop μ-loop
 returns c =

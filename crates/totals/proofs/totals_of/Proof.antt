@@ -65,7 +65,8 @@ passed c = c .before .before .before .before .before
 
 sum-is : (c : tie.After-fill-subtotals)
     → toZ w64 (ofZ w64 (c .fill-subtotals .result))
-    ≡ total (mapOf (begun (passed c) .args .nodes) (begun (passed c) .args .edges) (begun (passed c) .args .tails .now) (begun (passed c) .args .rotations .now))
+    ≡ total
+    (mapOf (begun (passed c) .args .nodes) (begun (passed c) .args .edges) (begun (passed c) .args .tails .now) (begun (passed c) .args .rotations .now))
     (atℤ (begun (passed c) .args .capacities .now)) (member (begun (passed c) .args .set .now))
 sum-is c = toZ-ofZ w64 _ (record { sfits = c .fill-subtotals .ok }) ∙ c .fill-subtotals .ensures .1
 
