@@ -1,5 +1,5 @@
--- Worked examples, by computation. Drawing B of document 01: 0 to 1 with limits 5 and 0, 0 to 2 with 3 and -1. A path: 1 to 2 with 1 and -1, 0 to 1 with 2 and 4,
--- and a loop at node 1 with 7 and 9; of its nodes, 1 has the lowest dart, then 2, then 0.
+-- Worked examples, by computation. Drawing B of document 01: 0 to 1 with limits 5 and 0, 0 to 2 with 3 and -1. A path: 1 to 2 with 1 and -1, 0 to 1 with 2 and
+-- 4, and a loop at node 1 with 7 and 9; of its nodes, 1 has the lowest dart, then 2, then 0.
 use mathlib.Core.Path.{_≡_, refl}
 use mathlib.Core.List.{List, [], _∷_}
 use Prim.Native.Nat.{ℕ}
