@@ -8,6 +8,7 @@
 //   mark SHEET SOURCE SINK VALUE       on what Solve gives; prints: result 255 value place
 //   levels SHEET SOURCE SINK 0         on what Solve gives for 0; prints: result 255 0 place
 //   settings SHEET SOURCE SINK 0       on those levels; prints: result same 0 place
+//   totals SHEET 0 0 WHICH             Totals by node, of every second node (0) or of all and all bits past them (1); prints: result 255 total place
 //   key SHEET SOURCE SINK VALUE        only with -DKEY_TEXT; prints: result can length place
 //
 // "Same" is 1 where the bytes of the sheet, or the settings that Solve gave, came back. With the argument `stack` each call is made on a stack of its own, painted before,
@@ -25,7 +26,7 @@ static uint16_t source, sink;
 static int32_t value;
 static uint16_t tails[ANALYSER_MAX_DARTS], turns[ANALYSER_MAX_DARTS];
 static int32_t limits[ANALYSER_MAX_DARTS], settings[ANALYSER_MAX_CHANNELS], again[ANALYSER_MAX_CHANNELS], levels[ANALYSER_MAX_FACES];
-static int32_t least;
+static int32_t least, subtotals[ANALYSER_MAX_NODES], total;
 static uint64_t set[ANALYSER_SET_WORDS], below[ANALYSER_SET_WORDS];
 static uint8_t answer, result;
 static uint16_t nodes, channels, outer, size, place;
@@ -56,6 +57,10 @@ static void levels_from_settings(void) {
 static void settings_from_levels(void) {
     result = analyser_settings_from_levels(sheet, sheet_length, levels, ANALYSER_MAX_FACES, again, ANALYSER_MAX_CHANNELS, &place);
 }
+static void choose_nodes(void) {
+    for (int i = 0; i < ANALYSER_SET_WORDS; i++) set[i] = value ? UINT64_MAX : UINT64_MAX / 3;
+}
+static void totals(void) { result = analyser_totals(sheet, sheet_length, set, ANALYSER_SET_WORDS, subtotals, ANALYSER_MAX_NODES, &total, &place); }
 #ifdef KEY_TEXT
 static uint8_t input[9 + sizeof sheet], text[ANALYSER_KEY_TEXT_BYTES];
 static void key(void) { result = analyser_key_text(input, 9 + sheet_length, text, sizeof text, &length, &place); }
@@ -64,6 +69,7 @@ static void key(void) { result = analyser_key_text(input, 9 + sheet_length, text
 // What is told of an answer besides the result.
 static void tell_size(void) { number = size; }
 static void tell_value(void) { number = value; }
+static void tell_total(void) { number = total; }
 static void tell_channels(void) { number = channels; }
 static void tell_written(void) {
     number = (long)length;
@@ -94,6 +100,7 @@ static const struct operation {
     {"mark", mark, {solve, NULL, NULL}, tell_value},
     {"levels", levels_from_settings, {solve, NULL, NULL}, tell_nothing},
     {"settings", settings_from_levels, {read_sheet, solve, levels_from_settings}, tell_settings},
+    {"totals", totals, {choose_nodes, NULL, NULL}, tell_total},
 #ifdef KEY_TEXT
     {"key", key, {NULL, NULL, NULL}, tell_key},
 #endif

@@ -44,7 +44,7 @@
 #include <stdint.h>
 
 // The largest drawing, and the slices that are long enough for every answer.
-#define ANALYSER_MAX_NODES 513
+#define ANALYSER_MAX_NODES 513 // subtotals
 #define ANALYSER_MAX_CHANNELS 512 // settings
 #define ANALYSER_MAX_DARTS 1024 // tails, turns, limits
 #define ANALYSER_MAX_FACES 1024 // levels: 512 nodes with a loop each have 1024 faces
@@ -143,6 +143,16 @@ uint8_t analyser_levels_from_settings(const uint8_t *sheet, size_t sheet_length,
 // Writes where there is an answer: a setting for each channel.
 uint8_t analyser_settings_from_levels(const uint8_t *sheet, size_t sheet_length, const int32_t *levels, size_t levels_length,
                                       int32_t *settings, size_t settings_length, uint16_t *place);
+
+// Totals by node: the outward total of a set of nodes, and what each of its nodes has of it. A node's subtotal is the sum of the limits of its darts whose head
+// is outside the set; it and the total may be below zero. The total is the sum of the limits of all darts with tail in the set and head outside it: the set
+// proves a delivery impossible where that is less than the delivery (the set holds the headgate only), its negative (the outfall only), or 0 (both or neither).
+// Any set will do. Node i is bit i % 64 of word i / 64; bits past the last node are passed over.
+// Refusals: the sheet checks; 16 where set has less than one word for each 64 nodes or part of them, or subtotals less than one element for each node in the
+// set.
+// Writes where there is an answer: the subtotal of each node in the set, nodes rising, and *total.
+uint8_t analyser_totals(const uint8_t *sheet, size_t sheet_length, const uint64_t *set, size_t set_length, int32_t *subtotals, size_t subtotals_length,
+                        int32_t *total, uint16_t *place);
 
 // Key: the text of the answer key of a question and a sheet. The input is a question record, then the sheet: byte 0 is 3, the kind of a question; bytes 1-2 and
 // 3-4 are the headgate and the outfall, bytes 5-8 the delivery; the sheet is all that follows.

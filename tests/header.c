@@ -1,5 +1,5 @@
-// The header and the library, as a C program and as a C++ program: each operation on drawing A of document 01, and a refusal of each; Least and largest on
-// drawing B too. tests/header compiles and runs it, and compares what it prints.
+// The header and the library, as a C program and as a C++ program: each operation on drawing A of document 01, and a refusal of each; Least and largest and
+// Totals by node on drawing B too. tests/header compiles and runs it, and compares what it prints.
 #include "analyser.h"
 #include "analyser.h"
 #include <stdio.h>
@@ -37,16 +37,18 @@ static uint8_t sheet[ANALYSER_SHEET_BYTES], all_five[ANALYSER_SHEET_BYTES], flag
 static uint64_t set[ANALYSER_SET_WORDS];
 static int32_t low[ANALYSER_MAX_CHANNELS], high[ANALYSER_MAX_CHANNELS], least, largest;
 static uint64_t below[ANALYSER_SET_WORDS], above[ANALYSER_SET_WORDS];
+static int32_t subtotals[ANALYSER_MAX_NODES], total;
 static uint8_t input[9 + sizeof drawing_a], text[ANALYSER_KEY_TEXT_BYTES];
 static size_t length;
 
 static void untouched(void) {
     nodes = channels = outer = size = place = UNTOUCHED;
-    value = least = largest = UNTOUCHED;
+    value = least = largest = total = UNTOUCHED;
     flag = UNTOUCHED;
     length = UNTOUCHED;
     for (int i = 0; i < ANALYSER_MAX_CHANNELS; i++) settings[i] = low[i] = high[i] = UNTOUCHED;
     for (int i = 0; i < ANALYSER_MAX_FACES; i++) levels[i] = UNTOUCHED;
+    for (int i = 0; i < ANALYSER_MAX_NODES; i++) subtotals[i] = UNTOUCHED;
     for (int i = 0; i < ANALYSER_SET_WORDS; i++) set[i] = below[i] = above[i] = UNTOUCHED;
 }
 
@@ -72,6 +74,16 @@ static void least_and_largest(const char *name, const uint8_t *bytes, size_t byt
            (int)largest, (int)above[0], (int)above[1]);
     numbers("low", low, 4);
     numbers("high", high, 4);
+    ended();
+}
+
+// Totals by node of a sheet, of one word and with slices of these lengths; places past the subtotals of drawing B's three nodes too.
+static void totals(const char *name, const uint8_t *bytes, size_t bytes_length, uint64_t word, size_t set_length, size_t subtotals_length) {
+    untouched();
+    set[0] = word;
+    int result = analyser_totals(bytes, bytes_length, set, set_length, subtotals, subtotals_length, &total, &place);
+    printf("totals %s %d: total %d", name, result, (int)total);
+    numbers("subtotals", subtotals, 4);
     ended();
 }
 
@@ -131,6 +143,12 @@ int main(void) {
     least_and_largest("A", drawing_a, sizeof drawing_a, 0, 1, enough);
     least_and_largest("A back", drawing_a, sizeof drawing_a, 1, 0, enough);
     least_and_largest("B", drawing_b, sizeof drawing_b, 0, 1, enough);
+
+    totals("A 1", drawing_a, sizeof drawing_a, 1, ANALYSER_SET_WORDS, ANALYSER_MAX_NODES);
+    totals("A past the last node", drawing_a, sizeof drawing_a, ~(uint64_t)2, 1, 1);
+    totals("A none", drawing_a, sizeof drawing_a, 0, 1, 0);
+    totals("B 0 2", drawing_b, sizeof drawing_b, 5, ANALYSER_SET_WORDS, ANALYSER_MAX_NODES);
+    totals("B 1 2", drawing_b, sizeof drawing_b, 6, ANALYSER_SET_WORDS, ANALYSER_MAX_NODES);
 
     untouched();
     set_three(0, 2, 4);
@@ -199,6 +217,10 @@ int main(void) {
     least_and_largest("no such node", drawing_a, sizeof drawing_a, 2, 2, enough);
     least_and_largest("ends equal", drawing_a, sizeof drawing_a, 1, 1, short_slices[0]);
     for (int i = 0; i < 5; i++) least_and_largest("slice too short", drawing_a, sizeof drawing_a, 0, 1, short_slices[i]);
+
+    totals("cut short", drawing_a, sizeof drawing_a - 1, 1, 0, 0);
+    totals("slice too short", drawing_a, sizeof drawing_a, 1, 0, ANALYSER_MAX_NODES);
+    totals("slice too short", drawing_a, sizeof drawing_a, 3, ANALYSER_SET_WORDS, 1);
 
     untouched();
     set_three(0, 2, 5);

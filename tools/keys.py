@@ -27,6 +27,13 @@ class Question(Drawing):
         """The darts that lead out of a set of nodes."""
         return [dart for dart, tail in enumerate(self.tail) if tail in inside and self.tail[dart ^ 1] not in inside]
 
+    def subtotals(self, inside):
+        """What each node of a set has of its outward total, by node, nodes rising (document 02, Job 9): the limits of its darts that lead out of the set."""
+        at = dict.fromkeys(sorted(inside), 0)
+        for dart in self.leaving(inside):
+            at[self.tail[dart]] += self.capacity[dart]
+        return at
+
     def asked(self, inside):
         """How much the delivery would have to lead out of a set of nodes."""
         return self.value * ((self.source in inside) - (self.sink in inside))

@@ -36,6 +36,7 @@ impl Tally {
                 _ => "values",
             },
             (Call::Mark { .. }, 0) => "value",
+            (Call::Totals, 0) => ["total below 0", "total 0", "total"][(after.total.signum() + 1) as usize],
             (Call::KeyText, 0) => match after.text[3] {
                 b' ' => "can",
                 b'n' => "cannot",
@@ -124,6 +125,7 @@ impl Checker<'_> {
         let sink = (source + 1 + self.chance.below(nodes - 1)) % nodes;
         self.questions(drawing, source, sink)?;
         self.levels(drawing, source, sink)?;
+        self.totals(drawing, source, sink)?;
         self.wrong_questions(drawing)?;
         for _ in 0..3 {
             self.damaged(drawing)?;
@@ -222,6 +224,11 @@ impl Checker<'_> {
                 store(&mut lent.levels, &levels_of(&faces, &drawing.zero_faces(), &judge::wide(&before.flows)));
             }
             Call::SettingsFromLevels => store(&mut lent.flows, &flows_of(&drawing.faces(), &judge::wide(&before.levels))),
+            Call::Totals => {
+                let (subtotals, total) = judge::totals(&drawing, &before.set);
+                store(&mut lent.subtotals, &subtotals);
+                lent.total = total as i32;
+            }
             Call::KeyText => {
                 let text = self.key_text(&before.sheet)?;
                 due.lent.text[..text.len()].copy_from_slice(text.as_bytes());
@@ -282,6 +289,7 @@ impl Checker<'_> {
         lent.high = self.chance.junk(high, |x| x as i32);
         lent.above = self.chance.junk(above, |x| x);
         lent.levels = self.chance.junk(levels, |x| x as i32);
+        lent.subtotals = self.chance.junk(drawing.nodes as usize, |x| x as i32);
         lent.tails = self.chance.junk(tails, |x| x as u16);
         lent.rotations = self.chance.junk(rotations, |x| x as u16);
         lent.capacities = self.chance.junk(capacities, |x| x as i32);
@@ -444,6 +452,35 @@ impl Checker<'_> {
         Ok(())
     }
 
+    /// Totals by node: of no node, of all and of some, also of bits past the last node, and of the set that Largest gives; with as many places as the set needs,
+    /// with more, and with one too few.
+    fn totals(&mut self, drawing: &Drawing, source: usize, sink: usize) -> Check {
+        let mut lent = self.lend(drawing.bytes(), drawing);
+        lent.flows.resize(drawing.edges(), 0);
+        lent.set.resize(drawing.words(), 0);
+        let proving = self.compare(Call::Largest { source: source as u16, sink: sink as u16 }, &lent)?.set;
+        for which in 0..7 {
+            let mut lent = self.lend(drawing.bytes(), drawing);
+            let words = self.chance.junk(drawing.words(), |x| x);
+            lent.set = match which {
+                0 => vec![0; drawing.words()],
+                1 => vec![u64::MAX; drawing.words()],
+                2 => proving.clone(),
+                3 => words.iter().zip(self.chance.junk(drawing.words(), |x| x)).map(|(one, other)| one & other).collect(),
+                _ => words,
+            };
+            let needed = judge::members(drawing, &lent.set).len();
+            let short = self.chance.one_in(3);
+            let length = self.room(needed, short);
+            lent.subtotals = self.chance.junk(length, |x| x as i32);
+            if self.chance.one_in(6) {
+                lent.set.truncate(self.chance.below(drawing.words() + 1));
+            }
+            self.compare(Call::Totals, &lent)?;
+        }
+        Ok(())
+    }
+
     fn spoil_levels(&mut self, outer: usize, levels: &mut [i32]) {
         for _ in 0..1 + self.chance.below(3) {
             if !levels.is_empty() {
@@ -489,6 +526,7 @@ impl Checker<'_> {
             Call::Mark { source, sink },
             Call::LevelsFromSettings,
             Call::SettingsFromLevels,
+            Call::Totals,
         ];
         for call in calls {
             let lent = self.lend(bytes.clone(), whole);
@@ -546,8 +584,8 @@ fn differ(text: &mut String, got: &Lent, due: &Lent) {
             })*
         };
     }
-    each!(slices: sheet flows set low below high above levels tails rotations capacities text;
-        answers: can found size value least largest nodes edges outer length place guards);
+    each!(slices: sheet flows set low below high above levels subtotals tails rotations capacities text;
+        answers: can found size value least largest total nodes edges outer length place guards);
 }
 
 /// The drawing and what was lent with it: as text that tools/sheet reads, else the bytes or slices.
@@ -570,6 +608,7 @@ fn picture(call: &Call, before: &Lent) -> String {
     match call {
         Call::Mark { .. } | Call::LevelsFromSettings => writeln!(text, "# flows {:?}", before.flows).unwrap(),
         Call::SettingsFromLevels => writeln!(text, "# levels {:?}", before.levels).unwrap(),
+        Call::Totals => writeln!(text, "# set {:?}, {} places", before.set, before.subtotals.len()).unwrap(),
         _ => {}
     }
     writeln!(text, "# lent: sheet {}, flows {}, set {}, levels {}", before.sheet.len(), before.flows.len(), before.set.len(), before.levels.len()).unwrap();

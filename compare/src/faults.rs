@@ -87,6 +87,16 @@ faults! {
     WriteNoOuter: "Write writes dart 0 as the outer dart",
     LastByte: "Write's last byte is wrong",
     LengthOffByOne: "Write's length is one too small",
+    TotalsWithin: "Totals by node counts darts whose head is in the set",
+    TotalsWithoutFirst: "Totals by node leaves out the first dart of each round",
+    TotalsByRounds: "Totals by node gives its subtotals in the order of the rounds' lowest darts",
+    TotalsRising: "Totals by node gives its subtotals in rising order, not its nodes",
+    TotalsNegativeAsZero: "Totals by node counts limits below zero as zero",
+    TotalsOfTheNodes: "16 of Totals by node asks for as many places as there are nodes",
+    TotalsPastTheLast: "16 of Totals by node counts bits past the last node",
+    TotalsShortSet: "Totals by node takes a set slice too short as if zeros followed",
+    TotalsOnRefusal: "a refusal of Totals by node clears its first place",
+    TotalsPastTheNodes: "Totals by node clears the places past its subtotals",
     KeyWithoutLastLineFeed: "the key's text lacks its last line feed",
     KeyOtherNode: "the key's text ends with another number",
     KeyPastTheText: "the key writes past its text",
@@ -107,6 +117,10 @@ impl Library {
         if fault == Fault::RefusesAll {
             *lent = Lent { place: 0, ..before };
             return 1;
+        }
+        if result == 0 && *call == Call::Totals && asks_for_more(fault, &before) {
+            *lent = Lent { place: 0, ..before };
+            return 16;
         }
         if result != 0 {
             return refusal(fault, call, &before, lent, result);
@@ -174,6 +188,7 @@ fn answer(fault: Fault, call: &Call, drawing: &Drawing, before: &Lent, after: &m
             Fault::LengthOffByOne => after.length -= 1,
             _ => {}
         },
+        Call::Totals => totals(fault, drawing, after),
         Call::KeyText => {}
     }
 }
@@ -303,6 +318,41 @@ fn no_values(fault: Fault, (source, sink): (u16, u16), drawing: &Drawing, after:
     }
 }
 
+/// Subtotals with other darts counted, in another order, or more of the slice written.
+fn totals(fault: Fault, drawing: &Drawing, after: &mut Lent) {
+    let members = judge::members(drawing, &after.set);
+    let inside = |dart: usize| members.contains(&drawing.head(dart));
+    let first = |node: usize| (0..drawing.darts()).find(|&dart| drawing.tail(dart) == node);
+    let counts = |dart: usize| match fault {
+        Fault::TotalsWithin => true,
+        Fault::TotalsWithoutFirst => !inside(dart) && first(drawing.tail(dart)) != Some(dart),
+        _ => !inside(dart),
+    };
+    let least = if fault == Fault::TotalsNegativeAsZero { 0 } else { i32::MIN };
+    let subtotal = |node: usize| -> i32 {
+        (0..drawing.darts()).filter(|&dart| drawing.tail(dart) == node && counts(dart)).map(|dart| drawing.capacities[dart].max(least)).sum()
+    };
+    let mut nodes = members.clone();
+    match fault {
+        Fault::TotalsByRounds => nodes.sort_by_key(|&node| first(node)),
+        Fault::TotalsRising => nodes.sort_by_key(|&node| subtotal(node)),
+        Fault::TotalsPastTheNodes => after.subtotals[members.len()..].fill(0),
+        _ => {}
+    }
+    after.total = nodes.iter().map(|&node| subtotal(node)).sum();
+    after.subtotals.iter_mut().zip(&nodes).for_each(|(element, &node)| *element = subtotal(node));
+}
+
+/// Whether a fault refuses an answer of Totals by node with 16.
+fn asks_for_more(fault: Fault, before: &Lent) -> bool {
+    let Ok(drawing) = judge::records(&before.sheet) else { return false };
+    match fault {
+        Fault::TotalsOfTheNodes => before.subtotals.len() < drawing.nodes as usize,
+        Fault::TotalsPastTheLast => before.subtotals.len() < before.set[..drawing.words()].iter().map(|word| word.count_ones() as usize).sum(),
+        _ => false,
+    }
+}
+
 /// Whether two nodes are in different parts.
 fn apart(drawing: &Drawing, source: u16, sink: u16) -> bool {
     let parts = drawing.parts();
@@ -389,6 +439,15 @@ fn refusal(fault: Fault, call: &Call, before: &Lent, after: &mut Lent, result: u
                 return 0;
             }
         }
+        (Fault::TotalsOnRefusal, _) if *call == Call::Totals && !after.subtotals.is_empty() => after.subtotals[0] = 0,
+        (Fault::TotalsShortSet, 16) if *call == Call::Totals => {
+            let mut longer = before.clone();
+            longer.set.resize(9, 0);
+            if unit::call(call, &mut longer) == 0 {
+                *after = Lent { set: before.set.clone(), ..longer };
+                return 0;
+            }
+        }
         (Fault::ShortAboveUnseen, 16) => {
             let mut longer = Lent { above: vec![0; 9], ..before.clone() };
             if let (Call::LeastAndLargest { .. }, 0, 0) = (call, unit::call(call, &mut longer), longer.found) {
@@ -463,7 +522,7 @@ mod tests {
         run(None, &mut tally).unwrap_or_else(|wrong| panic!("{wrong}"));
         let sheet: Vec<u8> = (1..=10).chain([12, 24]).collect(); // 11 no longer occurs
         let with = |more: &[u8]| [&sheet[..], more].concat();
-        let due: [(&str, Vec<u8>, &[&str]); 9] = [
+        let due: [(&str, Vec<u8>, &[&str]); 10] = [
             ("Read", with(&[16]), &["done"]),
             ("Write", vec![3, 4, 5, 6, 7, 9, 10, 12, 16, 24], &["done"]),
             ("Solve", with(&[13, 14, 15, 16]), &["can", "cannot"]),
@@ -472,6 +531,7 @@ mod tests {
             ("Mark", with(&[13, 14, 16, 17, 18]), &["value"]),
             ("Levels from settings", with(&[16, 17, 18]), &["done"]),
             ("Settings from levels", with(&[16, 17, 19, 20]), &["done"]),
+            ("Totals by node", with(&[16]), &["total", "total 0", "total below 0"]),
             ("Key text", vec![16], &["can", "cannot", "refused in the text"]),
         ];
         for (name, refusals, answers) in due {

@@ -75,6 +75,7 @@ pub fn accept(call: &Call, lent: &Lent) -> Result<Drawing, Refusal> {
             refuse(20, drawing.zero_faces().iter().any(|&face| levels[face] != 0))?;
             within(&drawing, &crate::levels::flows_of(&drawing.faces(), &levels))?;
         }
+        Call::Totals => refuse(16, lent.set.len() < drawing.words() || lent.subtotals.len() < members(&drawing, &lent.set).len())?,
         Call::Write { .. } | Call::KeyText => unreachable!("judged above"),
     }
     Ok(drawing)
@@ -235,6 +236,31 @@ fn balanced(drawing: &Drawing, flows: &[i64], free: &[usize]) -> Verdict {
     refuse_at(18, (0..sums.len()).find(|&node| sums[node] != 0 && !free.contains(&node)))
 }
 
+/// The nodes of a set in words, rising. Bits past the last node are passed over.
+pub fn members(drawing: &Drawing, set: &[u64]) -> Vec<usize> {
+    (0..drawing.nodes as usize).filter(|node| set[node / 64] >> (node % 64) & 1 == 1).collect()
+}
+
+/// The outward total of a set of nodes, channel by channel, and what each of its nodes has of it, nodes rising.
+pub fn totals(drawing: &Drawing, set: &[u64]) -> (Vec<i64>, i64) {
+    let members = members(drawing, set);
+    let mut at = vec![0; drawing.nodes as usize];
+    let mut total = 0;
+    for edge in 0..drawing.edges() {
+        let ends = [drawing.tail(2 * edge), drawing.tail(2 * edge + 1)];
+        let [forth, back] = ends.map(|end| members.binary_search(&end).is_ok());
+        if forth && !back {
+            at[ends[0]] += drawing.capacity(2 * edge);
+            total += drawing.capacity(2 * edge);
+        }
+        if back && !forth {
+            at[ends[1]] += drawing.capacity(2 * edge + 1);
+            total += drawing.capacity(2 * edge + 1);
+        }
+    }
+    (members.iter().map(|&node| at[node]).collect(), total)
+}
+
 /// What keeps a set of nodes, in words, from proving that a value is impossible; without a value, that nothing can be carried.
 pub fn objection(drawing: &Drawing, set: &[u64], source: u16, sink: u16, value: Option<i64>) -> Option<String> {
     let holds = |node: usize| set[node / 64] >> (node % 64) & 1 == 1;
@@ -291,5 +317,15 @@ mod tests {
         assert_eq!(objection(&paper::b(), &[4], 0, 1, None), None);
         assert_eq!(objection(&paper::two_bridges(), &[5], 2, 0, None), None);
         assert!(objection(&paper::two_bridges(), &[4], 2, 0, None).is_some());
+    }
+
+    #[test]
+    fn totals_of_the_paper() {
+        assert_eq!(totals(&paper::a(), &[1]), (vec![12], 12));
+        assert_eq!(totals(&paper::a(), &[3]), (vec![0, 0], 0));
+        assert_eq!(totals(&paper::a(), &[!3]), (vec![], 0)); // bits past the last node
+        assert_eq!(totals(&paper::b(), &[4]), (vec![-1], -1));
+        assert_eq!(totals(&paper::b(), &[6]), (vec![0, -1], -1));
+        assert_eq!(totals(&paper::two_bridges(), &[5]), (vec![0, -1], -1));
     }
 }

@@ -127,6 +127,24 @@ fn least_and_largest() {
     }
 }
 
+/// Document 02, Job 9: the subtotals of a set's nodes, nodes rising, and the total.
+#[test]
+fn totals() {
+    let ask = |drawing: Drawing, set: u64| {
+        let mut lent = Lent::new(drawing.bytes());
+        (lent.set, lent.subtotals) = (vec![set, 99], vec![77; 4]);
+        assert_eq!(unit::call(&Call::Totals, &mut lent), 0);
+        assert!(lent.guards);
+        (lent.subtotals, lent.total, lent.set)
+    };
+    assert_eq!(ask(a(), 1), (vec![12, 77, 77, 77], 12, vec![1, 99]));
+    assert_eq!(ask(a(), 3), (vec![0, 0, 77, 77], 0, vec![3, 99]));
+    assert_eq!(ask(a(), !3), (vec![77; 4], 0, vec![!3, 99]));
+    assert_eq!(ask(a_with(&[(3, -2)]), 2), (vec![-2, 77, 77, 77], -2, vec![2, 99]));
+    assert_eq!(ask(b(), 6), (vec![0, -1, 77, 77], -1, vec![6, 99]));
+    assert_eq!(ask(two_bridges(), 5), (vec![0, -1, 77, 77], -1, vec![5, 99]));
+}
+
 #[test]
 fn levels() {
     let sheet = a_with(&[(0, 5), (1, 5), (2, 5), (3, 5), (4, 5), (5, 5)]).bytes();

@@ -11,6 +11,7 @@ pub enum Call {
     Mark { source: u16, sink: u16 },
     LevelsFromSettings,
     SettingsFromLevels,
+    Totals,
     KeyText,
 }
 
@@ -25,6 +26,7 @@ impl Call {
             Call::Mark { .. } => "Mark",
             Call::LevelsFromSettings => "Levels from settings",
             Call::SettingsFromLevels => "Settings from levels",
+            Call::Totals => "Totals by node",
             Call::KeyText => "Key text",
         }
     }
@@ -43,6 +45,8 @@ pub struct Lent {
     pub high: Vec<i32>,
     pub above: Vec<u64>,
     pub levels: Vec<i32>,
+    /// Of Totals by node, which reads `set`.
+    pub subtotals: Vec<i32>,
     pub tails: Vec<u16>,
     pub rotations: Vec<u16>,
     pub capacities: Vec<i32>,
@@ -53,6 +57,7 @@ pub struct Lent {
     pub value: i32,
     pub least: i32,
     pub largest: i32,
+    pub total: i32,
     pub nodes: u16,
     pub edges: u16,
     pub outer: u16,
@@ -74,6 +79,7 @@ impl Lent {
             high: vec![],
             above: vec![],
             levels: vec![],
+            subtotals: vec![],
             tails: vec![],
             rotations: vec![],
             capacities: vec![],
@@ -84,6 +90,7 @@ impl Lent {
             value: -0x5a5a_5a5a,
             least: -0x5a5a_5a5a,
             largest: -0x5a5a_5a5a,
+            total: -0x5a5a_5a5a,
             nodes: 0xbeef,
             edges: 0xbeef,
             outer: 0xbeef,
@@ -237,6 +244,17 @@ extern "C" {
         place: *mut u16,
     ) -> u8;
     #[rustfmt::skip]
+    fn analyser_totals(
+        sheet: *const u8,
+        sheet_length: usize,
+        set: *const u64,
+        set_length: usize,
+        subtotals: *mut i32,
+        subtotals_length: usize,
+        total: *mut i32,
+        place: *mut u16,
+    ) -> u8;
+    #[rustfmt::skip]
     fn analyser_key_text(input: *const u8, input_length: usize, text: *mut u8, text_length: usize, length: *mut usize, place: *mut u16) -> u8;
 }
 
@@ -251,6 +269,7 @@ pub fn call(call: &Call, lent: &mut Lent) -> u8 {
     let mut high = Guarded::new(&lent.high, -0x5a5a_5a5a);
     let mut above = Guarded::new(&lent.above, 0xa5a5_a5a5_a5a5_a5a5);
     let mut levels = Guarded::new(&lent.levels, -0x5a5a_5a5a);
+    let mut subtotals = Guarded::new(&lent.subtotals, -0x5a5a_5a5a);
     let mut tails = Guarded::new(&lent.tails, 0xa5a5);
     let mut rotations = Guarded::new(&lent.rotations, 0xa5a5);
     let mut capacities = Guarded::new(&lent.capacities, -0x5a5a_5a5a);
@@ -275,6 +294,8 @@ pub fn call(call: &Call, lent: &mut Lent) -> u8 {
                 levels.pointer(), levels.length(), &mut lent.place),
             Call::SettingsFromLevels => analyser_settings_from_levels(sheet.pointer(), sheet.length(), levels.pointer(), levels.length(),
                 flows.pointer(), flows.length(), &mut lent.place),
+            Call::Totals => analyser_totals(sheet.pointer(), sheet.length(), set.pointer(), set.length(), subtotals.pointer(), subtotals.length(),
+                &mut lent.total, &mut lent.place),
             Call::KeyText => analyser_key_text(sheet.pointer(), sheet.length(), text.pointer(), text.length(), &mut lent.length, &mut lent.place),
         }
     };
@@ -286,6 +307,7 @@ pub fn call(call: &Call, lent: &mut Lent) -> u8 {
         & high.give_back(&mut lent.high)
         & above.give_back(&mut lent.above)
         & levels.give_back(&mut lent.levels)
+        & subtotals.give_back(&mut lent.subtotals)
         & tails.give_back(&mut lent.tails)
         & rotations.give_back(&mut lent.rotations)
         & capacities.give_back(&mut lent.capacities)

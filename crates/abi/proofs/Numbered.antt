@@ -30,6 +30,8 @@ use Rattle.analyser.specs.Range.{rangeChecks}
 use Rattle.analyser.specs.Mark.{markChecks}
 use Rattle.analyser.specs.LevelsOf.{levelsChecks}
 use Rattle.analyser.specs.SettingsOf.{settingsChecks}
+use Rattle.totals.specs.Totals.{totalChecks}
+use Rattle.analyser.specs.Totals.{totalsChecks}
 use Rattle.key_text.specs.Key.{keyRoomChecks}
 
 -- ── lists of checks whose numbers are 1 or more ──
@@ -139,6 +141,10 @@ levels-numbered s flows levels =
 pub settings-numbered : (s : List ℕ) (levels flows : List ℤ) → Numbered (settingsChecks s levels flows)
 unfolding Numbered settingsChecks leveledChecks levelChecks
 settings-numbered s levels flows = numbered-append (sheetChecks s) _ (sheet-numbered s) (omega arith, (omega arith, (omega arith, within-numbered _ _ _)))
+
+pub totals-numbered : (s set : List ℕ) (out : List ℤ) → Numbered (totalsChecks s set out)
+unfolding Numbered totalsChecks totalChecks
+totals-numbered s set out = numbered-append (sheetChecks s) _ (sheet-numbered s) (omega arith, tt)
 
 pub key-numbered : (text : List ℕ) → Numbered (keyRoomChecks text)
 unfolding Numbered

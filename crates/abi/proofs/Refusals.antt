@@ -17,11 +17,13 @@ use Rattle.analyser.specs.Range.{rangeChecks}
 use Rattle.analyser.specs.Mark.{markChecks}
 use Rattle.analyser.specs.LevelsOf.{levelsChecks}
 use Rattle.analyser.specs.SettingsOf.{settingsChecks}
+use Rattle.analyser.specs.Totals.{totalsChecks}
 use Rattle.questions.specs.declared.SolveAnswer.the-variants as solve
 use Rattle.questions.specs.declared.LargestAnswer.the-variants as largest
 use Rattle.ranges.specs.declared.RangeAnswer.the-variants as range
 use Rattle.questions.specs.declared.MarkAnswer.the-variants as mark
 use Rattle.levels.specs.declared.LevelAnswer.the-variants as level
+use Rattle.totals.specs.declared.TotalsAnswer.the-variants as totals
 use Rattle.key_text.specs.Key.{keyRoomChecks}
 use Rattle.key_text.specs.declared.KeyAnswer.the-variants as key
 use Rattle.abi.specs.Read.{TellsRead}
@@ -31,6 +33,7 @@ use Rattle.abi.specs.Largest.{TellsLargest}
 use Rattle.abi.specs.Range.{TellsRange}
 use Rattle.abi.specs.Mark.{TellsMark}
 use Rattle.abi.specs.Levels.{TellsLevels, TellsSettings}
+use Rattle.abi.specs.Totals.{TellsTotals}
 use Rattle.abi.specs.Key.{TellsKey}
 use Rattle.abi.proofs.Numbered.{
   Numbered,
@@ -43,6 +46,7 @@ use Rattle.abi.proofs.Numbered.{
   mark-numbered,
   levels-numbered,
   settings-numbered,
+  totals-numbered,
   key-numbered,
 }
 
@@ -124,3 +128,8 @@ module _ {place place' result : ℕ} where
         → Says (settingsChecks s levels flows) result place place' (flows' ≡ flows)
     settings-says (level.Done, h, t) = says-answer (h .0) (t .0) (t .1)
     settings-says (level.Refused k p, h, t) = says-refusal k p (settings-numbered s _ _) (h .0) (t .0) (t .1) (h .1)
+
+    pub totals-says : {set : List ℕ} {out out' : List ℤ} {total total' : ℤ} → TellsTotals s set out out' total total' place place' result
+        → Says (totalsChecks s set out) result place place' ((out' ≡ out) × (total' ≡ total))
+    totals-says (totals.Total t, h, w) = says-answer (h .0) (w .0) (w .2)
+    totals-says (totals.Refused k p, h, w) = says-refusal k p (totals-numbered s _ _) (h .0) (w .0) (w .2) (h .1, w .1)

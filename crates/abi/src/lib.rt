@@ -7,6 +7,7 @@ ghost use Rattle.abi.specs.Largest.{TellsLargest};
 ghost use Rattle.abi.specs.Range.{TellsRange};
 ghost use Rattle.abi.specs.Mark.{TellsMark};
 ghost use Rattle.abi.specs.Levels.{TellsLevels, TellsSettings};
+ghost use Rattle.abi.specs.Totals.{TellsTotals};
 ghost use Rattle.abi.specs.Key.{TellsKey};
 use key_text::KeyAnswer;
 use levels::LevelAnswer;
@@ -16,6 +17,7 @@ use questions::SolveAnswer;
 use ranges::RangeAnswer;
 use sheets::ReadAnswer;
 use sheets::WriteAnswer;
+use totals::TotalsAnswer;
 
 // Read. The counts of nodes and edges, the outer dart, and the three slices, two elements to an edge.
 #[no_mangle]
@@ -244,6 +246,31 @@ pub extern "C" fn analyser_settings_from_levels(
     match answer {
         LevelAnswer::Done => 0,
         LevelAnswer::Refused(k, p) => {
+            *place = p;
+            k
+        }
+    }
+}
+
+// Totals by node. The subtotal of each node of the set, nodes rising, and in total their sum.
+#[no_mangle]
+pub extern "C" fn analyser_totals(
+    sheet: &[u8],
+    set: &[u64],
+    subtotals: &mut [i32],
+    total: &mut i32,
+    place: &mut u16,
+) -> u8
+    ensures { λ r. ⌜ TellsTotals (now (sheet .entry)) (now (set .entry)) (now (subtotals .entry)) (now (subtotals .exit))
+        (now (total .entry)) (now (total .exit)) (now (place .entry)) (now (place .exit)) r ⌝ }
+{
+    let answer = analyser::totals(sheet, set, subtotals);
+    match answer {
+        TotalsAnswer::Total(t) => {
+            *total = t;
+            0
+        }
+        TotalsAnswer::Refused(k, p) => {
             *place = p;
             k
         }

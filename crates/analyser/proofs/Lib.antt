@@ -8,3 +8,4 @@ pub mod Demand3
 pub mod Range
 pub mod Statements
 pub mod Districts
+pub mod ByNode

@@ -30,6 +30,10 @@ use Rattle.questions.proofs.After.{solved-after, largest-after, marked-after}
 use Rattle.ranges.specs.Range.{spanChecks, RangeFound}
 use Rattle.ranges.specs.declared.RangeAnswer.{RangeAnswer}
 use Rattle.ranges.proofs.After.{range-after}
+use Rattle.maps.specs.Check.{Sound}
+use Rattle.totals.specs.Totals.{totalChecks, TotalGiven}
+use Rattle.totals.specs.declared.TotalsAnswer.{TotalsAnswer}
+use Rattle.totals.proofs.Giving.{total-after}
 use Rattle.levels.specs.LevelsOf.{balancedChecks, LevelsGiven}
 use Rattle.levels.specs.SettingsOf.{leveledChecks, SettingsGiven}
 use Rattle.levels.specs.declared.LevelAnswer.{LevelAnswer}
@@ -40,6 +44,7 @@ use Rattle.analyser.specs.Range.{rangeChecks, FindsRange}
 use Rattle.analyser.specs.Mark.{markChecks, Marks}
 use Rattle.analyser.specs.LevelsOf.{levelsChecks, GivesLevels}
 use Rattle.analyser.specs.SettingsOf.{settingsChecks, GivesSettings}
+use Rattle.analyser.specs.Totals.{totalsChecks, GivesTotals}
 use Rattle.analyser.proofs.SheetPlane.{sheet-drawn, capacity-small}
 
 -- ── a refused sheet ──
@@ -68,6 +73,10 @@ module _ (s : List ℕ) (k p : ℕ) (first : FirstOf (sheetChecks s) k p) where
   pub settings-refused : (levels flows : List ℤ) → FirstOf (settingsChecks s levels flows) k p
   unfolding settingsChecks
   settings-refused levels flows = first-left (sheetChecks s) _ k p first
+
+  pub totals-refused : (set : List ℕ) (out : List ℤ) → FirstOf (totalsChecks s set out) k p
+  unfolding totalsChecks
+  totals-refused set out = first-left (sheetChecks s) _ k p first
 
 -- ── an accepted one ──
 module _ (s : List ℕ) (o : Opened) (lefts tails rotations : List ℕ) (capacities : List ℤ) (open' : NoneOf (sheetChecks s) × Numbers s lefts o)
@@ -155,3 +164,16 @@ module _ (s : List ℕ) (o : Opened) (lefts tails rotations : List ℕ) (capacit
   settings-sheet levels flows flows' r h =
       settings-after (sheetChecks s) (open' .0) (sheetDrawing s) _ levels flows flows' r
       (subst (λ 𝓓. SettingsGiven 𝓓 (leveledChecks 𝓓 levels flows) levels flows flows' r) same h)
+
+  -- what Totals asks
+  pub roundable : (o .nodes ≤ 1024) × (o .edges ≤ 512) × Sound (mapOf (o .nodes) (o .edges) tails rotations)
+      × ((d : ℕ) → d < 2 * o .edges → Limited mostOnSheet (atℤ capacities d))
+  roundable = (markable .0, markable .1, drawn .plane .sound, small)
+
+  pub totals-sheet : (set : List ℕ) (out out' : List ℤ) (r : TotalsAnswer)
+      → TotalGiven (mapOf (o .nodes) (o .edges) tails rotations) (atℤ capacities) (totalChecks (o .nodes) set out) set out out' r
+      → GivesTotals s set out out' r
+  unfolding totalsChecks
+  totals-sheet set out out' r h =
+      total-after (sheetChecks s) (open' .0) (sheetMap s) (capacityOf s) _ set out out' r
+      (subst (λ 𝓓. TotalGiven (𝓓 .map) (𝓓 .capacity) (totalChecks (𝓓 .map .nodes) set out) set out out' r) same h)

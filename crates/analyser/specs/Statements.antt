@@ -1,25 +1,27 @@
--- What the course book prints of the operations on sheets (document 01, demands 2 and 3; document 02, Jobs 4, 6 and 8), as records: a field for each statement,
--- with the printed words above it. Each is about every run of an operation: all that a field knows of a run is its contract, `Solves`, `FindsLargest`,
--- `FindsRange`, `Marks`, `GivesLevels` or `GivesSettings`. A sheet or a question is accepted where no check of its list holds; an accepted sheet is flat,
--- because 12 is among its checks, in one part or several. Settings are any function from edges to whole numbers, deliveries any whole number. The proofs are
--- in proofs/Statements.antt, proofs/Range.antt and proofs/Districts.antt.
-use Prim.Native.Nat.{ℕ, _≤_, _<_}
+-- What the course book prints of the operations on sheets (document 01, demands 2 and 3; document 02, Jobs 4, 6, 8 and 9), as records: a field for each
+-- statement, with the printed words above it. Each is about every run of an operation: all that a field knows of a run is its contract, `Solves`,
+-- `FindsLargest`, `FindsRange`, `Marks`, `GivesLevels`, `GivesSettings` or `GivesTotals`. A sheet or a question is accepted where no check of its list holds;
+-- an accepted sheet is flat, because 12 is among its checks, in one part or several. Settings are any function from edges to whole numbers, deliveries any
+-- whole number. The proofs are in proofs/Statements.antt, proofs/Range.antt, proofs/Districts.antt and proofs/ByNode.antt.
+use Prim.Native.Nat.{ℕ, _+_, _*_, _≤_, _<_}
 use mathlib.Core.Path.{_≡_}
 use mathlib.Core.Logic.{_⊎_, _↔_}
-use mathlib.Core.Bool.{Bool, true}
+use mathlib.Core.Bool.{Bool, true, false}
 use mathlib.Core.List.{List}
 use lib.ListN.{length}
 use lib.IntN.{ℤ, pos, _+ℤ_, _-ℤ_}
 use lib.Signed.{_≤ℤ_, _<ℤ_}
+use Rattle.integers.specs.Sum.{sumℤ, when, count}
 use Rattle.refusals.specs.Order.{NoneOf}
 use Rattle.maps.specs.Map.{darts}
 use Rattle.maps.specs.Face.{faces, left}
 use Rattle.maps.specs.Walk.{Walk, Components}
 use Rattle.maps.specs.Flat.{FlatInEach}
+use Rattle.maps.specs.Cut.{leaves, cut}
 use Rattle.flows.specs.Settings.{Within, Balanced, Carries}
 use Rattle.flows.specs.ZeroFace.{LowestElsewhere, ZeroFace}
 use Rattle.flows.specs.Levels.{Levels}
-use Rattle.flows.specs.ProvingSet.{Proves, member, size}
+use Rattle.flows.specs.ProvingSet.{bound, Proves, member, size}
 use Rattle.arrays.specs.At.{atℤ}
 use Rattle.records.specs.Sheet.{kindOf, nodesOf, edgesOf, capacityOf, outerOf, sheetMap}
 use Rattle.sheets.specs.Open.{sheetChecks}
@@ -32,6 +34,9 @@ use Rattle.questions.specs.declared.MarkAnswer.{MarkAnswer}
 use Rattle.questions.specs.declared.MarkAnswer.the-variants as mark
 use Rattle.ranges.specs.declared.RangeAnswer.{RangeAnswer}
 use Rattle.ranges.specs.declared.RangeAnswer.the-variants as range
+use Rattle.totals.specs.Subtotal.{subtotal}
+use Rattle.totals.specs.declared.TotalsAnswer.{TotalsAnswer}
+use Rattle.totals.specs.declared.TotalsAnswer.the-variants.{Total}
 use Rattle.levels.specs.declared.LevelAnswer.{LevelAnswer}
 use Rattle.levels.specs.declared.LevelAnswer.the-variants.{Done}
 use Rattle.analyser.specs.Solve.{solveChecks, Solves}
@@ -40,6 +45,7 @@ use Rattle.analyser.specs.Range.{rangeChecks, FindsRange}
 use Rattle.analyser.specs.Mark.{Marks}
 use Rattle.analyser.specs.LevelsOf.{GivesLevels}
 use Rattle.analyser.specs.SettingsOf.{GivesSettings}
+use Rattle.analyser.specs.Totals.{totalsChecks, GivesTotals}
 
 -- ── the words of the sentences, of a sheet's drawing ──
 -- the settings x keep every limit, balance at every node but source and sink, and carry the delivery
@@ -218,3 +224,33 @@ pub record LeastAndLargest : Type 0 where
       → (flows flows' : List ℤ) (set set' : List ℕ) (other : LargestAnswer)
       → NoneOf (largestChecks s source sink flows set) → FindsLargest s source sink flows flows' set set' other
       → (other ≡ largest.None) ↔ (answer ≡ range.None)
+
+-- ── Document 02, Job 9: "Fill a slice with the subtotal of each node of a given set in rising order, one element for each node in the set, and give the total.
+-- .. Set bits past the last node are passed over. .. It equals 01's sum, taken channel by channel, for every set of nodes, proving or not." Of every run of
+-- `totals`, known by its contract `GivesTotals` alone. ──
+pub record TotalsByNode : Type 0 where
+  -- document 01's sum, "of limits of darts with tail in it and head outside it"
+  pub totals-cut : (s set : List ℕ) (out out' : List ℤ) (t : ℤ) → GivesTotals s set out out' (Total t) → t ≡ cut (sheetMap s) (capacityOf s) (member set)
+  -- "taken channel by channel": each with what its two darts add
+  pub totals-by-channel : (s set : List ℕ) (out out' : List ℤ) (t : ℤ) → GivesTotals s set out out' (Total t)
+      → t ≡ sumℤ (edgesOf s) (λ e. when (leaves (sheetMap s) (member set) (2 * e)) (capacityOf s (2 * e))
+      +ℤ when (leaves (sheetMap s) (member set) (2 * e + 1)) (capacityOf s (2 * e + 1)))
+  -- "for every set of nodes": of any set S that the words agree with on the nodes
+  pub totals-any-set : (s set : List ℕ) (out out' : List ℤ) (t : ℤ) (S : ℕ → Bool) → ((v : ℕ) → v < nodesOf s → member set v ≡ S v)
+      → GivesTotals s set out out' (Total t) → t ≡ cut (sheetMap s) (capacityOf s) S
+  -- "proving or not": the total tells whether the set proves a delivery impossible
+  pub totals-prove : (s set : List ℕ) (out out' : List ℤ) (t : ℤ) (source sink : ℕ) (value : ℤ) → GivesTotals s set out out' (Total t)
+      → (t <ℤ bound (member set) source sink value) ↔ ProvesOf s source sink value (member set)
+  -- there is an answer wherever no check refuses
+  pub totals-given : (s set : List ℕ) (out out' : List ℤ) (answer : TotalsAnswer)
+      → NoneOf (totalsChecks s set out) → GivesTotals s set out out' answer → answer ≡ Total (cut (sheetMap s) (capacityOf s) (member set))
+  -- "in rising order, one element for each node in the set": a node's subtotal stands behind those of the nodes below it that are in the set
+  pub subtotal-placed : (s set : List ℕ) (out out' : List ℤ) (t : ℤ) → GivesTotals s set out out' (Total t)
+      → (v : ℕ) → v < nodesOf s → member set v ≡ true
+      → atℤ out' (count v (member set)) ≡ subtotal (sheetMap s) (capacityOf s) (member set) v
+  -- "Set bits past the last node are passed over": words that agree on the nodes give the same total and leave the same slice
+  pub past-last-node : (s set other : List ℕ) (out out' out'' : List ℤ) (t u : ℤ) → ((v : ℕ) → v < nodesOf s → member set v ≡ member other v)
+      → GivesTotals s set out out' (Total t) → GivesTotals s other out out'' (Total u) → (t ≡ u) × (out' ≡ out'')
+  -- a set with no node: the total is 0, and nothing is written
+  pub empty-set : (s set : List ℕ) (out out' : List ℤ) (t : ℤ) → ((v : ℕ) → v < nodesOf s → member set v ≡ false)
+      → GivesTotals s set out out' (Total t) → (t ≡ pos 0) × (out' ≡ out)

@@ -1,5 +1,5 @@
 // The analyser's operations on sheets. Document 01, "Operations": Solve, Largest, Mark, Levels from settings,
-// Settings from levels; document 02, Job 4: the least delivery beside the largest. Each makes the network
+// Settings from levels; document 02, Job 4: the least delivery beside the largest, and Job 9: totals by node. Each makes the network
 // record once, in its own frame, fills it from the sheet, and lends its arrays to the operation on drawings.
 ghost use Rattle.analyser.specs.Solve.{Solves};
 ghost use Rattle.analyser.specs.Largest.{FindsLargest};
@@ -7,6 +7,7 @@ ghost use Rattle.analyser.specs.Range.{FindsRange};
 ghost use Rattle.analyser.specs.Mark.{Marks};
 ghost use Rattle.analyser.specs.LevelsOf.{GivesLevels};
 ghost use Rattle.analyser.specs.SettingsOf.{GivesSettings};
+ghost use Rattle.analyser.specs.Totals.{GivesTotals};
 use levels::LevelAnswer;
 use questions::LargestAnswer;
 use questions::MarkAnswer;
@@ -14,6 +15,7 @@ use questions::SolveAnswer;
 use ranges::RangeAnswer;
 use refusals::Verdict;
 use sheets::Network;
+use totals::TotalsAnswer;
 
 // Solve: the highest flow of a value from source to sink, or a set of nodes that proves that there is none.
 // The flows are written if it can, the set if it cannot.
@@ -312,5 +314,45 @@ pub fn settings_from_levels(sheet: &[u8], levels: &[i32], flows: &mut [i32]) -> 
         outer,
         levels,
         flows,
+    )
+}
+
+// Totals by node: the outward total of a set of nodes, with the subtotal of each node of the set, nodes rising, in front of `subtotals`.
+// Nothing is written before the last check.
+pub fn totals(sheet: &[u8], set: &[u64], subtotals: &mut [i32]) -> TotalsAnswer
+    ensures { λ r. ⌜ GivesTotals (now (sheet .entry)) (now (set .entry)) (now (subtotals .entry)) (now (subtotals .exit)) r ⌝ }
+{
+    let mut network = Network {
+        nodes: 0,
+        edges: 0,
+        faces: 0,
+        outer: 0,
+        tails: [0u16; 1024],
+        rotations: [0u16; 1024],
+        capacities: [0i32; 1024],
+        lefts: [0u16; 1024],
+    };
+    let opened = sheets::open(sheet, &mut network.lefts);
+    let verdict = opened.verdict;
+    if let Verdict::Refused(k, p) = verdict {
+        return TotalsAnswer::Refused(k, p);
+    }
+    network.nodes = opened.nodes;
+    network.edges = opened.edges;
+    network.faces = opened.faces;
+    network.outer = opened.outer;
+    sheets::fill_tails(sheet, opened.edges, &mut network.tails);
+    sheets::fill_rotations(sheet, opened.edges, &mut network.rotations);
+    sheets::fill_capacities(sheet, opened.edges, &mut network.capacities);
+    let nodes = network.nodes;
+    let edges = network.edges;
+    totals::totals_of(
+        &network.tails,
+        &network.rotations,
+        &network.capacities,
+        nodes,
+        edges,
+        set,
+        subtotals,
     )
 }

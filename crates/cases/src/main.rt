@@ -27,6 +27,7 @@ fn run(
         8 => operations::key(s),
         9 => operations::write_key(s, bytes),
         10 => operations::least_and_largest(s, first, second, set, second_set),
+        19 => operations::totals(s, first, set),
         _ => say::say(b": no such operation"),
     }
 }
@@ -101,7 +102,7 @@ fn cases(input: &[u8]) {
 }
 
 fn main() {
-    let mut input = [0u8; 524288];
+    let mut input = [0u8; 1048576];
     let n = io::read_full(0, &mut input);
     cases(&input[..n]);
 }

@@ -9,6 +9,7 @@ use questions::SolveAnswer;
 use ranges::RangeAnswer;
 use sheets::ReadAnswer;
 use sheets::WriteAnswer;
+use totals::TotalsAnswer;
 
 fn say_read(answer: ReadAnswer) {
     match answer {
@@ -133,6 +134,20 @@ pub fn levels(s: &[u8], flows: &mut [i32], levels: &mut [i32]) {
 
 pub fn settings(s: &[u8], levels: &mut [i32], flows: &mut [i32]) {
     say_levels(analyser::settings_from_levels(case::part(s, 1), levels, flows));
+}
+
+fn say_totals(answer: TotalsAnswer) {
+    match answer {
+        TotalsAnswer::Total(x) => {
+            say::say(b": total");
+            say::signed(x);
+        }
+        TotalsAnswer::Refused(k, p) => say::refused(k, p),
+    }
+}
+
+pub fn totals(s: &[u8], subtotals: &mut [i32], set: &[u64]) {
+    say_totals(analyser::totals(case::part(s, 1), set, subtotals));
 }
 
 fn say_text(text: &[u8; 6671], n: usize) {

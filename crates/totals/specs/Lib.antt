@@ -1,0 +1,3 @@
+pub mod Subtotal
+pub mod Totals
+pub mod inner
