@@ -82,21 +82,21 @@ module _ (R C seed : ℕ) where
       )
 
 -- ── the counts ──
+pub few-edges : (R C : ℕ) → R ≤ 16 → C ≤ 16 → gridEdges R C ≤ 480
+few-edges R C r-high c-high =
+    let below : R - 1 ≤ 15 = omega arith in
+    omega (arith, mul-le-mul-right (C - 1) r-high, mul-le-mul-right C below)
+
 module _ (R C : ℕ) (r-low : 2 ≤ R) (r-high : R ≤ 16) (c-low : 2 ≤ C) (c-high : C ≤ 16) where
   -- 4 to 256 nodes, 4 to 480 edges
   pub few : (4 ≤ gridNodes R C) × (gridNodes R C ≤ 256) × (4 ≤ gridEdges R C) × (gridEdges R C ≤ 480)
-  few = (
-    omega (arith, mul-le-mul-right C r-low),
-    omega (arith, mul-le-mul-right C r-high),
-    omega (arith, mul-le-mul-right (C - 1) r-low, mul-le-mul-right C below-low),
-    omega (arith, mul-le-mul-right (C - 1) r-high, mul-le-mul-right C below-high),
-  )
-    where
-      below-low : 1 ≤ R - 1
-      below-low = omega arith
-
-      below-high : R - 1 ≤ 15
-      below-high = omega arith
+  few =
+      let below : 1 ≤ R - 1 = omega arith in (
+        omega (arith, mul-le-mul-right C r-low),
+        omega (arith, mul-le-mul-right C r-high),
+        omega (arith, mul-le-mul-right (C - 1) r-low, mul-le-mul-right C below),
+        few-edges R C r-high c-high,
+      )
 
   numbers-pass : NoneOf (numberChecks (gridNodes R C) (gridEdges R C) 0)
   unfolding NoneOf numberChecks

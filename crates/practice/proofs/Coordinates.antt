@@ -51,14 +51,14 @@ row-of w n i l = (div-lt-iff-lt-mul some .1 l, mod-lt i some)
         go (suc w) m = omega arith
 
 module _ (R C : ℕ) where
-  place-even : (e : ℕ) → placeOf R C (2 * e) ≡ beginning R C e
+  pub place-even : (e : ℕ) → placeOf R C (2 * e) ≡ beginning R C e
   unfolding placeOf
   place-even e = rw (eqb-true (2 * e % 2) 0 (omega arith)) (ap (beginning R C) half)
     where
       half : 2 * e / 2 ≡ e
       half = omega arith
 
-  place-odd : (e : ℕ) → placeOf R C (2 * e + 1) ≡ ending R C e
+  pub place-odd : (e : ℕ) → placeOf R C (2 * e + 1) ≡ ending R C e
   unfolding placeOf
   place-odd e = rw (eqb-false ((2 * e + 1) % 2) 0 (omega arith)) (ap (ending R C) half)
     where

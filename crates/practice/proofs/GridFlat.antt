@@ -162,8 +162,7 @@ module _ (R C : ℕ) where
       let q = row-of (C - 1) (R - 1) f (omega arith) in
       let n : f % (C - 1) + 1 < C = omega (arith, q .1) in
       let m : f / (C - 1) + 1 < R = omega (arith, q .0) in
-      let h : present R C (f / (C - 1)) (f % (C - 1)) south ≡ true = ltb-true (f / (C - 1) + 1) R m in
-      (
+      let h : present R C (f / (C - 1)) (f % (C - 1)) south ≡ true = ltb-true (f / (C - 1) + 1) R m in (
         dart-in R C (f / (C - 1)) (f % (C - 1)) (omega arith) (omega arith) south h,
         label-at (f / (C - 1)) (f % (C - 1)) (omega arith) (omega arith) south h
             ∙ rw (ltb-true (f % (C - 1) + 1) C n, h) (omega (arith, div-add-mod' f (C - 1))),

@@ -6,6 +6,7 @@ use Prim.Native.Nat.{ℕ, zero, suc}
 use lib.Dec.{eqb}
 use Rattle.integers.proofs.Tests.{and-both, implied, eqb-eq, eqb-true, not-true}
 use Rattle.practice.specs.Side.{Side, north, east, south, west, turn, next}
+use Rattle.practice.specs.inner.Numbered.{side}
 
 -- the sides that four tests say are present
 unfoldable pub having : Bool → Bool → Bool → Bool → Side → Bool
@@ -21,18 +22,12 @@ back east = north
 back south = east
 back west = south
 
--- ── sides by number, as the code has them ──
-unfoldable pub index : Side → ℕ
+-- ── sides told apart by their number ──
+unfoldable index : Side → ℕ
 index north = 0
 index east = 1
 index south = 2
 index west = 3
-
-unfoldable pub side : ℕ → Side
-side zero = north
-side (suc zero) = east
-side (suc (suc zero)) = south
-side (suc (suc (suc n))) = west
 
 side-index : (x : Side) → side (index x) ≡ x
 unfolding side index

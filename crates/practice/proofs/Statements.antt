@@ -13,7 +13,6 @@ use Rattle.maps.specs.Walk.{Connected}
 use Rattle.records.specs.Check.{Outside}
 use Rattle.records.specs.Sheet.{kindOf, sheetMap, sheetDrawing}
 use Rattle.records.specs.Encode.{plainHead, encodeEdges, encodePlain}
-use Rattle.records.proofs.Drawing.{not-left, not-right}
 use Rattle.records.proofs.Places.{front-length}
 use Rattle.sheets.specs.Open.{sheetChecks}
 use Rattle.practice.specs.Grid.{gridEdges, gridMap}
@@ -23,6 +22,7 @@ use Rattle.practice.specs.declared.PracticeAnswer.{PracticeAnswer}
 use Rattle.practice.specs.declared.PracticeAnswer.the-variants.{Bytes, Refused}
 use Rattle.practice.proofs.GridFlat.{grid-connected}
 use Rattle.practice.proofs.Accepted.{grid-read, grid-accepted}
+use Rattle.practice.proofs.Writing.{made-sizes}
 
 module _ (rows columns seed : ℕ) where
   abbrev sheet : List ℕ
@@ -37,12 +37,10 @@ module _ (rows columns seed : ℕ) where
   sheet-kind = refl
 
   -- what the checks leave
-  sizes : (out : List ℕ) → NoneOf (practiceChecks rows columns seed out) → (2 ≤ rows) × (rows ≤ 16) × (2 ≤ columns) × (columns ≤ 16)
+  sizes : (out : List ℕ) → NoneOf (practiceChecks rows columns seed out)
+      → (2 ≤ rows) × (rows ≤ 16) × (2 ≤ columns) × (columns ≤ 16) × (seed < 2147483648)
   unfolding NoneOf practiceChecks
-  sizes out h =
-      let r = not-left (h .0) in
-      let c = not-left (not-right (h .0)) in
-      (omega (arith, not-left r), omega (arith, not-right r), omega (arith, not-left c), omega (arith, not-right c))
+  sizes out h = made-sizes rows columns seed out (h .0)
 
   -- the sheet stands at the front of the output
   front : (out out' : List ℕ) (n : ℕ) → Practises rows columns seed out out' (Bytes n) → take n out' ≡ sheet

@@ -3,3 +3,4 @@ pub mod Grid
 pub mod Seed
 pub mod Practice
 pub mod Statements
+pub mod inner
