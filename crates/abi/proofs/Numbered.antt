@@ -31,6 +31,7 @@ use Rattle.analyser.specs.Mark.{markChecks}
 use Rattle.analyser.specs.LevelsOf.{levelsChecks}
 use Rattle.analyser.specs.SettingsOf.{settingsChecks}
 use Rattle.key_text.specs.Key.{keyRoomChecks}
+use Rattle.practice.specs.Practice.{practiceChecks}
 
 -- ── lists of checks whose numbers are 1 or more ──
 unfoldable pub Numbered : List Check → Type 0
@@ -143,3 +144,7 @@ settings-numbered s levels flows = numbered-append (sheetChecks s) _ (sheet-numb
 pub key-numbered : (text : List ℕ) → Numbered (keyRoomChecks text)
 unfolding Numbered
 key-numbered text = (omega arith, tt)
+
+pub practice-numbered : (rows columns seed : ℕ) (sheet : List ℕ) → Numbered (practiceChecks rows columns seed sheet)
+unfolding Numbered practiceChecks
+practice-numbered rows columns seed sheet = (omega arith, (omega arith, tt))
