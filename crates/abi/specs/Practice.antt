@@ -1,5 +1,5 @@
--- What a C program is told of a practice sheet (document 02, Job 5). The result is the number of the refusal, or 0; the number of bytes and the place are behind
--- pointers.
+-- What a C program is told of a practice sheet (document 02, Job 5). The result is the number of the refusal, or 0; the number of bytes and the place are
+-- behind pointers.
 use Prim.Native.Nat.{ℕ}
 use mathlib.Core.Path.{_≡_}
 use mathlib.Core.List.{List}

@@ -291,8 +291,8 @@ pub extern "C" fn analyser_practice_sheet(
 {
     let answer = practice::practice_sheet(rows, columns, seed, sheet);
     match answer {
-        PracticeAnswer::Bytes(n) => {
-            *length = n;
+        PracticeAnswer::Bytes(count) => {
+            *length = count;
             0
         }
         PracticeAnswer::Refused(k, p) => {

@@ -3,6 +3,7 @@ use super::case;
 use super::say;
 use key_text::KeyAnswer;
 use levels::LevelAnswer;
+use practice::PracticeAnswer;
 use questions::LargestAnswer;
 use questions::MarkAnswer;
 use questions::SolveAnswer;
@@ -133,6 +134,20 @@ pub fn levels(s: &[u8], flows: &mut [i32], levels: &mut [i32]) {
 
 pub fn settings(s: &[u8], levels: &mut [i32], flows: &mut [i32]) {
     say_levels(analyser::settings_from_levels(case::part(s, 1), levels, flows));
+}
+
+fn say_practice(answer: PracticeAnswer) {
+    match answer {
+        PracticeAnswer::Bytes(n) => say::count(b": bytes", n),
+        PracticeAnswer::Refused(k, p) => say::refused(k, p),
+    }
+}
+
+pub fn practice(s: &[u8], out: &mut [u8]) {
+    let rows = case::half(s, 2);
+    let columns = case::half(s, 4);
+    let seed = signed::to_bits(case::word(s, 6));
+    say_practice(practice::practice_sheet(rows, columns, seed, out));
 }
 
 fn say_text(text: &[u8; 6671], n: usize) {

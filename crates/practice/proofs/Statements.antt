@@ -4,7 +4,7 @@ use mathlib.Core.Logic.{_⊎_, inl, inr}
 use mathlib.Core.List.{List, _++_}
 use Prim.Native.Nat.{ℕ, _≤_, _<_}
 use native.Mathlib.Omega.{arith}
-use lib.ListN.{length, take, drop}
+use lib.ListN.{length, take, drop, length-append}
 use lib.Seq.{take-at}
 use Rattle.fields.specs.Fields.{le16}
 use Rattle.refusals.specs.Order.{NoneOf, FirstOf}
@@ -45,6 +45,13 @@ module _ (rows columns seed : ℕ) where
   -- the sheet stands at the front of the output
   front : (out out' : List ℕ) (n : ℕ) → Practises rows columns seed out out' (Bytes n) → take n out' ≡ sheet
   front out out' n h = ap (take n) (h .2) ∙ take-at sheet (drop n out) n (sheet-length ∙ sym (h .1))
+
+  -- its length is the number of bytes told, and the output holds as many
+  pub front-counted : (out out' : List ℕ) (n : ℕ) → Practises rows columns seed out out' (Bytes n) → (n ≤ length out') × (n ≡ length (take n out'))
+  front-counted out out' n h = (
+    omega (arith, ap length (h .2), length-append sheet (drop n out), sheet-length, h .1),
+    h .1 ∙ sym sheet-length ∙ ap length (sym (front out out' n h)),
+  )
 
   accepted : (out out' : List ℕ) (n : ℕ)
       → Practises rows columns seed out out' (Bytes n) → NoneOf (sheetChecks (take n out')) × (kindOf (take n out') ≡ 1)

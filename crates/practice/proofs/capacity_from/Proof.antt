@@ -25,7 +25,8 @@ of-bits-requires c κs = search needs
 returns : tie.Need-returns
 unfolding capacityFrom
 returns c =
-    ap (λ x. toZ w32 (ofZ w32 x)) (c .of-bits .ensures) ∙ small-number (c .before .args .state / 65536 % 100) (mod-lt (c .before .args .state / 65536) (omega arith))
+    let n = c .before .args .state / 65536 in
+    ap (λ x. toZ w32 (ofZ w32 x)) (c .of-bits .ensures) ∙ small-number (n % 100) (mod-lt n (omega arith))
 
 pub capacity-from-spec : {M : Type 1} → statement M
 capacity-from-spec = tie.close (tie.spec cast-of-bits of-bits-requires returns)

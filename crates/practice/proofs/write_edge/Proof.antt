@@ -51,7 +51,8 @@ rest c = southward c .args .e - c .before .times .result
 second : (c : tie.Else1) → southward c .args .rows * (southward c .args .columns - 1) ≤ southward c .args .e
 second c = omega (arith, c .if1 .left, c .before .times .ensures .0)
 
-in-column : (c : tie.Else1) → (rest c / southward c .args .columns + 1 < southward c .args .rows) × (rest c % southward c .args .columns < southward c .args .columns)
+in-column : (c : tie.Else1)
+    → (rest c / southward c .args .columns + 1 < southward c .args .rows) × (rest c % southward c .args .columns < southward c .args .columns)
 in-column c =
     let a = southward c .args in
     let q = row-of (a .columns) (a .rows - 1) (rest c) (omega (arith, southward c .pre .5, second c, c .before .times .ensures .0)) in

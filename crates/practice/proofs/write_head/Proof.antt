@@ -22,7 +22,8 @@ returns c =
     let nodes = edges .before .before .before .before in
     let kind = nodes .before .before .before .before in
     let s = kind .before .before .before in
-    head-placed (s .args .out .now) (s .args .nodes) (s .args .edges) (s .pre) (kind .write-u8 .ensures) (nodes .write-u16 .ensures) (edges .write-u162 .ensures)
+    head-placed (s .args .out .now) (s .args .nodes) (s .args .edges) (s .pre)
+    (kind .write-u8 .ensures) (nodes .write-u16 .ensures) (edges .write-u162 .ensures)
 
 pub write-head-spec : {M : Type 1} → statement M
 write-head-spec =
