@@ -9,6 +9,7 @@
 //   levels SHEET SOURCE SINK 0         on what Solve gives for 0; prints: result 255 0 place
 //   settings SHEET SOURCE SINK 0       on those levels; prints: result same 0 place
 //   key SHEET SOURCE SINK VALUE        only with -DKEY_TEXT; prints: result can length place
+//   practice SHEET ROWS COLUMNS SEED   the sheet is not looked at; prints: result accepted length place, accepted 1 where Read takes what was made
 //
 // "Same" is 1 where the bytes of the sheet, or the settings that Solve gave, came back. With the argument `stack` each call is made on a stack of its own, painted before,
 // and a fifth number is the bytes of stack that it took. Under callgrind with --toggle-collect=analyser_* each call is a part of the profile by itself, in the order asked.
@@ -56,6 +57,7 @@ static void levels_from_settings(void) {
 static void settings_from_levels(void) {
     result = analyser_settings_from_levels(sheet, sheet_length, levels, ANALYSER_MAX_FACES, again, ANALYSER_MAX_CHANNELS, &place);
 }
+static void practice(void) { result = analyser_practice_sheet(source, sink, (uint32_t)value, written, ANALYSER_PRACTICE_BYTES, &length, &place); }
 #ifdef KEY_TEXT
 static uint8_t input[9 + sizeof sheet], text[ANALYSER_KEY_TEXT_BYTES];
 static void key(void) { result = analyser_key_text(input, 9 + sheet_length, text, sizeof text, &length, &place); }
@@ -73,6 +75,11 @@ static void tell_written(void) {
              memcmp(written + 7, sheet + head, sheet_length - head) == 0;
 }
 static void tell_settings(void) { answer = memcmp(settings, again, (size_t)channels * sizeof settings[0]) == 0; }
+static void tell_practice(void) {
+    number = (long)length;
+    answer = analyser_read(written, length, tails, ANALYSER_MAX_DARTS, turns, ANALYSER_MAX_DARTS, limits, ANALYSER_MAX_DARTS, &nodes, &channels, &outer,
+                           &place) == 0;
+}
 static void tell_nothing(void) {}
 #ifdef KEY_TEXT
 static void tell_key(void) {
@@ -94,6 +101,7 @@ static const struct operation {
     {"mark", mark, {solve, NULL, NULL}, tell_value},
     {"levels", levels_from_settings, {solve, NULL, NULL}, tell_nothing},
     {"settings", settings_from_levels, {read_sheet, solve, levels_from_settings}, tell_settings},
+    {"practice", practice, {NULL, NULL, NULL}, tell_practice},
 #ifdef KEY_TEXT
     {"key", key, {NULL, NULL, NULL}, tell_key},
 #endif

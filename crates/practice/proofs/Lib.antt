@@ -8,3 +8,4 @@ pub mod GridFlat
 pub mod Accepted
 pub mod Writing
 pub mod Statements
+pub mod Examples
