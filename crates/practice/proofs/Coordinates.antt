@@ -11,7 +11,7 @@ use Rattle.integers.proofs.Tests.{eqb-true, eqb-false, ltb-true, ltb-false, ltb
 use Rattle.maps.specs.Dart.{rev}
 use Rattle.maps.proofs.Darts.{rev-even, rev-odd, by-edge}
 use Rattle.practice.specs.Side.{Side, north, east, south, west, turn, next}
-use Rattle.practice.specs.Grid.{Place, at, across, gridEdges, beginning, ending, placeOf, present, dartAt, nodeAt, rotationAt, gridTail, gridRotation}
+use Rattle.practice.specs.Grid.{Place, placed, across, gridEdges, beginning, ending, placeOf, present, dartAt, nodeAt, rotationAt, gridTail, gridRotation}
 use Rattle.practice.proofs.Sides.{having}
 
 pub one-less : (n : ℕ) → n + 1 - 1 ≡ n
@@ -67,22 +67,22 @@ module _ (R C : ℕ) where
 
   -- ── the edge east of row r and column c, and the one south of it ──
   module _ (r c : ℕ) where
-    pub begins-east : r < R → c < C - 1 → beginning R C (r * (C - 1) + c) ≡ at r c east
+    pub begins-east : r < R → c < C - 1 → beginning R C (r * (C - 1) + c) ≡ placed r c east
     unfolding beginning
     begins-east lr lc = rw (ltb-true (r * (C - 1) + c) (R * (C - 1)) (in-rows (C - 1) R r c lr lc), digits-div r lc, digits-mod r lc)
 
-    pub ends-west : r < R → c < C - 1 → ending R C (r * (C - 1) + c) ≡ at r (c + 1) west
+    pub ends-west : r < R → c < C - 1 → ending R C (r * (C - 1) + c) ≡ placed r (c + 1) west
     unfolding ending
     ends-west lr lc = rw (ltb-true (r * (C - 1) + c) (R * (C - 1)) (in-rows (C - 1) R r c lr lc), digits-div r lc, digits-mod r lc)
 
     rest : R * (C - 1) + (r * C + c) - R * (C - 1) ≡ r * C + c
     rest = omega arith
 
-    pub begins-south : c < C → beginning R C (across R C + (r * C + c)) ≡ at r c south
+    pub begins-south : c < C → beginning R C (across R C + (r * C + c)) ≡ placed r c south
     unfolding beginning
     begins-south lc = rw (ltb-false (R * (C - 1) + (r * C + c)) (R * (C - 1)) (omega arith), rest, digits-div r lc, digits-mod r lc)
 
-    pub ends-north : c < C → ending R C (across R C + (r * C + c)) ≡ at (r + 1) c north
+    pub ends-north : c < C → ending R C (across R C + (r * C + c)) ≡ placed (r + 1) c north
     unfolding ending
     ends-north lc = rw (ltb-false (R * (C - 1) + (r * C + c)) (R * (C - 1)) (omega arith), rest, digits-div r lc, digits-mod r lc)
 
@@ -98,18 +98,18 @@ module _ (R C : ℕ) where
 
   -- ── the dart that leaves a node on a side ──
   module _ (r c : ℕ) (r-in : r < R) (c-in : c < C) where
-    pub place-at : (s : Side) → present R C r c s ≡ true → placeOf R C (dartAt R C r c s) ≡ at r c s
+    pub place-at : (s : Side) → present R C r c s ≡ true → placeOf R C (dartAt R C r c s) ≡ placed r c s
     unfolding present dartAt
     place-at north h =
         let l : 0 < r = ltb-lt 0 r h in
-        place-odd (across R C + ((r - 1) * C + c)) ∙ ends-north (r - 1) c c-in ∙ ap (λ x. at x c north) (one-more r l)
+        place-odd (across R C + ((r - 1) * C + c)) ∙ ends-north (r - 1) c c-in ∙ ap (λ x. placed x c north) (one-more r l)
     place-at east h =
         let l : c + 1 < C = ltb-lt (c + 1) C h in
         place-even (r * (C - 1) + c) ∙ begins-east r c r-in (omega arith)
     place-at south h = place-even (across R C + (r * C + c)) ∙ begins-south r c c-in
     place-at west h =
         let l : 0 < c = ltb-lt 0 c h in
-        place-odd (r * (C - 1) + (c - 1)) ∙ ends-west r (c - 1) r-in (omega arith) ∙ ap (λ x. at r x west) (one-more c l)
+        place-odd (r * (C - 1) + (c - 1)) ∙ ends-west r (c - 1) r-in (omega arith) ∙ ap (λ x. placed r x west) (one-more c l)
 
     pub dart-in : (s : Side) → present R C r c s ≡ true → dartAt R C r c s < 2 * gridEdges R C
     unfolding present dartAt

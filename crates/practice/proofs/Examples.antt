@@ -38,17 +38,21 @@ unfolding plainHead le16
 two-by-two-head = refl
 
 pub two-by-two-0 : encodeEdge (gridDrawing 2 2 1) 0 ≡ 2 ∷ 0 ∷ 0 ∷ 1 ∷ 0 ∷ 4 ∷ 0 ∷ 6 ∷ 0 ∷ 38 ∷ 0 ∷ 0 ∷ 0 ∷ 0 ∷ 0 ∷ 0 ∷ 0 ∷ []
-unfolding encodeEdge le16 le32 leBits gridTail gridRotation gridCapacity placeOf beginning ending present dartAt next turn forwardOf capacityFrom stateAfter nextState
+unfolding encodeEdge le16 le32 leBits gridTail gridRotation gridCapacity placeOf beginning ending present dartAt next turn
+    forwardOf capacityFrom stateAfter nextState
 two-by-two-0 = refl
 
 pub two-by-two-1 : encodeEdge (gridDrawing 2 2 1) 1 ≡ 2 ∷ 2 ∷ 0 ∷ 3 ∷ 0 ∷ 5 ∷ 0 ∷ 7 ∷ 0 ∷ 58 ∷ 0 ∷ 0 ∷ 0 ∷ 0 ∷ 0 ∷ 0 ∷ 0 ∷ []
-unfolding encodeEdge le16 le32 leBits gridTail gridRotation gridCapacity placeOf beginning ending present dartAt next turn forwardOf capacityFrom stateAfter nextState
+unfolding encodeEdge le16 le32 leBits gridTail gridRotation gridCapacity placeOf beginning ending present dartAt next turn
+    forwardOf capacityFrom stateAfter nextState
 two-by-two-1 = refl
 
 pub two-by-two-2 : encodeEdge (gridDrawing 2 2 1) 2 ≡ 2 ∷ 0 ∷ 0 ∷ 2 ∷ 0 ∷ 0 ∷ 0 ∷ 2 ∷ 0 ∷ 13 ∷ 0 ∷ 0 ∷ 0 ∷ 0 ∷ 0 ∷ 0 ∷ 0 ∷ []
-unfolding encodeEdge le16 le32 leBits gridTail gridRotation gridCapacity placeOf beginning ending present dartAt next turn forwardOf capacityFrom stateAfter nextState
+unfolding encodeEdge le16 le32 leBits gridTail gridRotation gridCapacity placeOf beginning ending present dartAt next turn
+    forwardOf capacityFrom stateAfter nextState
 two-by-two-2 = refl
 
 pub two-by-two-3 : encodeEdge (gridDrawing 2 2 1) 3 ≡ 2 ∷ 1 ∷ 0 ∷ 3 ∷ 0 ∷ 1 ∷ 0 ∷ 3 ∷ 0 ∷ 15 ∷ 0 ∷ 0 ∷ 0 ∷ 0 ∷ 0 ∷ 0 ∷ 0 ∷ []
-unfolding encodeEdge le16 le32 leBits gridTail gridRotation gridCapacity placeOf beginning ending present dartAt next turn forwardOf capacityFrom stateAfter nextState
+unfolding encodeEdge le16 le32 leBits gridTail gridRotation gridCapacity placeOf beginning ending present dartAt next turn
+    forwardOf capacityFrom stateAfter nextState
 two-by-two-3 = refl

@@ -21,7 +21,7 @@ use Rattle.records.proofs.Drawing.{not-left, not-right}
 use Rattle.records.proofs.Places.{front-length, edge-length}
 use Rattle.sheets.proofs.Placing.{Placed, placed-first}
 use Rattle.sheets.proofs.PlacedRecords.{placed-16}
-use Rattle.practice.specs.Grid.{at, gridEdges, beginning, ending, placeOf, nodeAt, rotationAt, gridTail, gridRotation}
+use Rattle.practice.specs.Grid.{placed, gridEdges, beginning, ending, placeOf, nodeAt, rotationAt, gridTail, gridRotation}
 use Rattle.practice.specs.inner.Numbered.{side}
 use Rattle.practice.specs.Seed.{forwardOf}
 use Rattle.practice.specs.Practice.{gridCapacity, gridDrawing, practiceLength, practiceChecks}
@@ -78,19 +78,19 @@ module _ (𝓓 : Drawing) (old : List ℕ) where
 
 -- ── where an edge begins and ends, with the sides by number ──
 module _ (R C e : ℕ) where
-  pub begins-across : e < R * (C - 1) → beginning R C e ≡ at (e / (C - 1)) (e % (C - 1)) (side 1)
+  pub begins-across : e < R * (C - 1) → beginning R C e ≡ placed (e / (C - 1)) (e % (C - 1)) (side 1)
   unfolding beginning side
   begins-across l = rw (ltb-true e (R * (C - 1)) l)
 
-  pub ends-across : e < R * (C - 1) → ending R C e ≡ at (e / (C - 1)) (e % (C - 1) + 1) (side 3)
+  pub ends-across : e < R * (C - 1) → ending R C e ≡ placed (e / (C - 1)) (e % (C - 1) + 1) (side 3)
   unfolding ending side
   ends-across l = rw (ltb-true e (R * (C - 1)) l)
 
-  pub begins-down : R * (C - 1) ≤ e → beginning R C e ≡ at ((e - R * (C - 1)) / C) ((e - R * (C - 1)) % C) (side 2)
+  pub begins-down : R * (C - 1) ≤ e → beginning R C e ≡ placed ((e - R * (C - 1)) / C) ((e - R * (C - 1)) % C) (side 2)
   unfolding beginning side
   begins-down l = rw (ltb-false e (R * (C - 1)) l)
 
-  pub ends-down : R * (C - 1) ≤ e → ending R C e ≡ at ((e - R * (C - 1)) / C + 1) ((e - R * (C - 1)) % C) (side 0)
+  pub ends-down : R * (C - 1) ≤ e → ending R C e ≡ placed ((e - R * (C - 1)) / C + 1) ((e - R * (C - 1)) % C) (side 0)
   unfolding ending side
   ends-down l = rw (ltb-false e (R * (C - 1)) l)
 

@@ -12,8 +12,8 @@ pub record Place : Type 0 where
   pub column : ℕ
   pub side : Side
 
-abbrev pub at : ℕ → ℕ → Side → Place
-at r c s = record { row = r; column = c; side = s }
+abbrev pub placed : ℕ → ℕ → Side → Place
+placed r c s = record { row = r; column = c; side = s }
 
 module _ (rows columns : ℕ) where
   abbrev pub gridNodes : ℕ
@@ -26,12 +26,12 @@ module _ (rows columns : ℕ) where
   abbrev pub gridEdges : ℕ
   gridEdges = across + (rows - 1) * columns
 
-  -- where an edge begins, and where it ends: the second edges have a row of `columns` of them between each two rows of nodes
+  -- where an edge begins, and where it ends; of those that run down there is a row of `columns` between each two rows of nodes
   unfoldable pub beginning : ℕ → Place
-  beginning e = cond (ltb e across) (at (e / (columns - 1)) (e % (columns - 1)) east) (at ((e - across) / columns) ((e - across) % columns) south)
+  beginning e = cond (ltb e across) (placed (e / (columns - 1)) (e % (columns - 1)) east) (placed ((e - across) / columns) ((e - across) % columns) south)
 
   unfoldable pub ending : ℕ → Place
-  ending e = cond (ltb e across) (at (e / (columns - 1)) (e % (columns - 1) + 1) west) (at ((e - across) / columns + 1) ((e - across) % columns) north)
+  ending e = cond (ltb e across) (placed (e / (columns - 1)) (e % (columns - 1) + 1) west) (placed ((e - across) / columns + 1) ((e - across) % columns) north)
 
   -- where a dart leaves: dart 2e where its edge begins, dart 2e + 1 where it ends
   unfoldable pub placeOf : ℕ → Place

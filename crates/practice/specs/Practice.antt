@@ -19,7 +19,7 @@ use Rattle.practice.specs.Seed.{forwardOf}
 use Rattle.practice.specs.declared.PracticeAnswer.{PracticeAnswer}
 use Rattle.practice.specs.declared.PracticeAnswer.the-variants.{Bytes, Refused}
 
--- dart 2e has the capacity that the seed gives edge e, every other dart none, and so all that is past the darts
+-- dart 2e has the capacity that the seed gives edge e; every other dart has 0, and so has what is past the darts
 unfoldable pub gridCapacity : (rows columns seed : ℕ) → ℕ → ℤ
 gridCapacity rows columns seed d = cond (ltb d (2 * gridEdges rows columns) && eqb (d % 2) 0) (pos (forwardOf seed (d / 2))) (pos 0)
 

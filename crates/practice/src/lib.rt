@@ -13,7 +13,7 @@ ghost use Rattle.records.specs.Record.{recordLength};
 ghost use Rattle.records.specs.Check.{Outside};
 ghost use Rattle.records.specs.Encode.{headBytes, edgeBytes, plainHead, encodePlain};
 ghost use Rattle.practice.specs.Side.{next};
-ghost use Rattle.practice.specs.Grid.{at, across, gridEdges, beginning, ending, present, dartAt, nodeAt, rotationAt};
+ghost use Rattle.practice.specs.Grid.{placed, across, gridEdges, beginning, ending, present, dartAt, nodeAt, rotationAt};
 ghost use Rattle.practice.specs.Seed.{nextState, capacityFrom};
 ghost use Rattle.practice.specs.Practice.{gridDrawing, practiceLength, Practises};
 ghost use Rattle.practice.specs.inner.Numbered.{side};
@@ -100,7 +100,7 @@ fn next_side(rows: usize, columns: usize, r: usize, c: usize, s: usize) -> usize
 // The dart next clockwise to the one that leaves a node on a side.
 fn rotation_at(rows: usize, columns: usize, r: usize, c: usize, s: usize) -> u16
     requires { ⌜ (rows ≤ 16) × (columns ≤ 16) × (r < rows) × (c < columns) × (s < 4) × (present rows columns r c (side s) ≡ true) ⌝ }
-    ensures { λ d. ⌜ d ≡ rotationAt rows columns (at r c (side s)) ⌝ }
+    ensures { λ d. ⌜ d ≡ rotationAt rows columns (placed r c (side s)) ⌝ }
 {
     let t = next_side(rows, columns, r, c, s);
     let d = dart_at(rows, columns, r, c, t);
@@ -154,8 +154,8 @@ fn write_between(
     requires { ⌜ (place ≤ 100000) × (place + recordLength 2 ≤ length (now out)) × (rows ≤ 16) × (columns ≤ 16)
         × (r < rows) × (c < columns) × (s < 4) × (present rows columns r c (side s) ≡ true)
         × (row < rows) × (column < columns) × (t < 4) × (present rows columns row column (side t) ≡ true) ⌝ }
-    ensures { λ _. ⌜ now (out .exit) ≡ put place (edgeBytes (nodeAt rows columns (at r c (side s))) (nodeAt rows columns (at row column (side t)))
-        (rotationAt rows columns (at r c (side s))) (rotationAt rows columns (at row column (side t))) forward (pos 0)) (now (out .entry)) ⌝ }
+    ensures { λ _. ⌜ now (out .exit) ≡ put place (edgeBytes (nodeAt rows columns (placed r c (side s))) (nodeAt rows columns (placed row column (side t)))
+        (rotationAt rows columns (placed r c (side s))) (rotationAt rows columns (placed row column (side t))) forward (pos 0)) (now (out .entry)) ⌝ }
 {
     let tail = node_at(columns, r, c);
     let head = node_at(columns, row, column);

@@ -8,7 +8,7 @@ use Rattle.integers.proofs.Tests.{ltb-true}
 use Rattle.signed.proofs.Laws.{number-of-bits}
 use Rattle.fields.specs.Fields.{put}
 use Rattle.records.specs.Encode.{edgeBytes}
-use Rattle.practice.specs.Grid.{Place, at, present, nodeAt, rotationAt}
+use Rattle.practice.specs.Grid.{Place, placed, present, nodeAt, rotationAt}
 use Rattle.practice.specs.inner.Numbered.{side}
 use Rattle.practice.proofs.Coordinates.{row-of}
 use Rattle.practice.proofs.Writing.{begins-across, ends-across, begins-down, ends-down}
@@ -150,8 +150,8 @@ returns-2 c =
     let k = c .before .before .before .before .before .times .ensures .0 in
     w .write-between2 .ensures
     ∙ same-record (a .rows) (a .columns) (a .place) (a .out .now)
-    (ap (λ n. at ((a .e - n) / a .columns) ((a .e - n) % a .columns) (side 2)) k ∙ sym (begins-down (a .rows) (a .columns) (a .e) (second t)))
-    (ap (λ n. at ((a .e - n) / a .columns + 1) ((a .e - n) % a .columns) (side 0)) k ∙ sym (ends-down (a .rows) (a .columns) (a .e) (second t)))
+    (ap (λ n. placed ((a .e - n) / a .columns) ((a .e - n) % a .columns) (side 2)) k ∙ sym (begins-down (a .rows) (a .columns) (a .e) (second t)))
+    (ap (λ n. placed ((a .e - n) / a .columns + 1) ((a .e - n) % a .columns) (side 0)) k ∙ sym (ends-down (a .rows) (a .columns) (a .e) (second t)))
     (number-of-bits (a .forward) (s .fits .forward))
 
 pub write-edge-spec : {M : Type 1} → statement M
