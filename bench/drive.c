@@ -10,6 +10,7 @@
 //   settings SHEET SOURCE SINK 0       on those levels; prints: result same 0 place
 //   totals SHEET 0 0 WHICH             Totals by node, of every second node (0) or of all and all bits past them (1); prints: result 255 total place
 //   key SHEET SOURCE SINK VALUE        only with -DKEY_TEXT; prints: result can length place
+//   practice SHEET ROWS COLUMNS SEED   the sheet is not looked at; prints: result accepted length place, accepted 1 where Read takes what was made
 //
 // "Same" is 1 where the bytes of the sheet, or the settings that Solve gave, came back. With the argument `stack` each call is made on a stack of its own, painted before,
 // and a fifth number is the bytes of stack that it took. Under callgrind with --toggle-collect=analyser_* each call is a part of the profile by itself, in the order asked.
@@ -61,6 +62,7 @@ static void choose_nodes(void) {
     for (int i = 0; i < ANALYSER_SET_WORDS; i++) set[i] = value ? UINT64_MAX : UINT64_MAX / 3;
 }
 static void totals(void) { result = analyser_totals(sheet, sheet_length, set, ANALYSER_SET_WORDS, subtotals, ANALYSER_MAX_NODES, &total, &place); }
+static void practice(void) { result = analyser_practice_sheet(source, sink, (uint32_t)value, written, ANALYSER_PRACTICE_BYTES, &length, &place); }
 #ifdef KEY_TEXT
 static uint8_t input[9 + sizeof sheet], text[ANALYSER_KEY_TEXT_BYTES];
 static void key(void) { result = analyser_key_text(input, 9 + sheet_length, text, sizeof text, &length, &place); }
@@ -79,6 +81,11 @@ static void tell_written(void) {
              memcmp(written + 7, sheet + head, sheet_length - head) == 0;
 }
 static void tell_settings(void) { answer = memcmp(settings, again, (size_t)channels * sizeof settings[0]) == 0; }
+static void tell_practice(void) {
+    number = (long)length;
+    answer = analyser_read(written, length, tails, ANALYSER_MAX_DARTS, turns, ANALYSER_MAX_DARTS, limits, ANALYSER_MAX_DARTS, &nodes, &channels, &outer,
+                           &place) == 0;
+}
 static void tell_nothing(void) {}
 #ifdef KEY_TEXT
 static void tell_key(void) {
@@ -101,6 +108,7 @@ static const struct operation {
     {"levels", levels_from_settings, {solve, NULL, NULL}, tell_nothing},
     {"settings", settings_from_levels, {read_sheet, solve, levels_from_settings}, tell_settings},
     {"totals", totals, {choose_nodes, NULL, NULL}, tell_total},
+    {"practice", practice, {NULL, NULL, NULL}, tell_practice},
 #ifdef KEY_TEXT
     {"key", key, {NULL, NULL, NULL}, tell_key},
 #endif

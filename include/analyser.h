@@ -52,6 +52,7 @@
 #define ANALYSER_SHEET_BYTES 8711
 #define ANALYSER_KEY_INPUT_BYTES 8720
 #define ANALYSER_KEY_TEXT_BYTES 6671
+#define ANALYSER_PRACTICE_BYTES 8165 // 16 rows and 16 columns
 
 // The results. "Sheet": a sheet check, so given by every function that takes a sheet. *place is 0 unless said.
 enum analyser_result {
@@ -75,6 +76,7 @@ enum analyser_result {
     ANALYSER_OFF_BALANCE = 18, // flow is lost or gained at a node; *place is the lowest such node. Mark, Levels from settings
     ANALYSER_LEVEL_OUT_OF_RANGE = 19, // a level is not -600000000 to 600000000. Settings from levels
     ANALYSER_ZERO_FACE_NOT_AT_0 = 20, // the level of the outer face, or of the lowest face of another part, is not 0. Settings from levels
+    ANALYSER_PRACTICE_OUT_OF_RANGE = 23, // rows or columns not 2 to 16, or the seed not below 2147483648. Practice sheet
     ANALYSER_OUTER_IS_NO_DART = 24 // the outer dart is no dart. Sheet; Write
 };
 
@@ -160,6 +162,13 @@ uint8_t analyser_totals(const uint8_t *sheet, size_t sheet_length, const uint64_
 // answer here, with "refused" and its number as the text.
 // Writes where there is an answer: *length bytes of text, and *length. The text is ASCII, a line feed after each line, and does not end in a zero byte.
 uint8_t analyser_key_text(const uint8_t *input, size_t input_length, uint8_t *text, size_t text_length, size_t *length, uint16_t *place);
+
+// Practice sheet: a grid of nodes, numbered row by row, with limits from a seed. Channels run left to right in each row, row by row, then top to bottom, again
+// row by row. Clockwise at a node is north, east, south, west. From the seed on each channel in order takes the next state, (1103515245 * state + 12345) mod
+// 2147483648; its forward limit is state div 65536, mod 100, and its back limit 0. The head is of kind 1. Every sheet made passes the sheet checks.
+// Refusals: 23; 16 where sheet is shorter than 5 + 17 for each channel, of which there are rows * (columns - 1) + (rows - 1) * columns.
+// Writes where there is an answer: *length bytes of sheet, and *length.
+uint8_t analyser_practice_sheet(uint16_t rows, uint16_t columns, uint32_t seed, uint8_t *sheet, size_t sheet_length, size_t *length, uint16_t *place);
 
 #ifdef __cplusplus
 }

@@ -87,6 +87,17 @@ static void totals(const char *name, const uint8_t *bytes, size_t bytes_length, 
     ended();
 }
 
+// A practice sheet in an output of this length: the number of bytes, the first ones, each forward limit and the bytes behind the sheet.
+static void practice(const char *name, uint16_t rows, uint16_t columns, uint32_t seed, size_t room) {
+    untouched();
+    memset(sheet, UNTOUCHED, sizeof sheet);
+    int result = analyser_practice_sheet(rows, columns, seed, sheet, room, &length, &place);
+    printf("practice %s %d: %d bytes, head %d %d %d %d %d, limits", name, result, (int)length, sheet[0], sheet[1], sheet[2], sheet[3], sheet[4]);
+    for (int e = 0; e < 4; e++) printf(" %d", sheet[5 + 17 * e + 9]);
+    printf(", then %d", sheet[5 + 17 * 4]);
+    ended();
+}
+
 int main(void) {
     int result;
 
@@ -185,6 +196,10 @@ int main(void) {
     printf("key %d: %d bytes, place %d\n", result, (int)length, place);
     fwrite(text, 1, length, stdout);
 
+    practice("2 by 2 of 1", 2, 2, 1, 73);
+    practice("2 by 2 of 0", 2, 2, 0, sizeof sheet);
+    practice("16 by 16 of 2147483647", 16, 16, 2147483647, ANALYSER_PRACTICE_BYTES);
+
     // refusals: the number and the place, and nothing else
     untouched();
     result = analyser_read(drawing_a, 0, tails, ANALYSER_MAX_DARTS, turns, ANALYSER_MAX_DARTS, limits, ANALYSER_MAX_DARTS, &nodes, &channels, &outer, &place);
@@ -246,5 +261,11 @@ int main(void) {
     result = analyser_key_text(input, sizeof input, text, ANALYSER_KEY_TEXT_BYTES - 1, &length, &place);
     printf("key %s: %d bytes, text %d", result == ANALYSER_SLICE_TOO_SHORT ? "slice too short" : "?", (int)length, text[0]);
     ended();
+
+    practice("1 row, no room", 1, 2, 1, 0);
+    practice("17 columns", 2, 17, 1, sizeof sheet);
+    practice("a seed too large, no room", 2, 2, 2147483648u, 0);
+    practice("slice too short", 2, 2, 1, 72);
+    practice("slice too short", 16, 16, 1, ANALYSER_PRACTICE_BYTES - 1);
     return 0;
 }

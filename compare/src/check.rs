@@ -2,7 +2,7 @@
 //! can reach is compared, so what must stay as it was is seen to.
 use crate::chance::Chance;
 use crate::damage;
-use crate::drawing::{count, Drawing, EDGE, OUTER_HEAD};
+use crate::drawing::{count, Drawing, EDGE, HEAD, OUTER_HEAD};
 use crate::faults::Library;
 use crate::flow::{carry, net_flows, range};
 use crate::grow::{grow, Grown};
@@ -130,7 +130,7 @@ impl Checker<'_> {
         for _ in 0..3 {
             self.damaged(drawing)?;
         }
-        Ok(())
+        self.practice()
     }
 
     /// One call, and its answer if it is as it should be.
@@ -179,7 +179,7 @@ impl Checker<'_> {
                 lent.capacities[..drawing.darts()].copy_from_slice(&drawing.capacities);
                 (lent.nodes, lent.edges, lent.outer) = (drawing.nodes, drawing.edges() as u16, drawing.outer_dart() as u16);
             }
-            Call::Write { .. } => {
+            Call::Write { .. } | Call::PracticeSheet { .. } => {
                 let bytes = drawing.bytes();
                 lent.sheet[..bytes.len()].copy_from_slice(&bytes);
                 lent.length = bytes.len();
@@ -514,6 +514,33 @@ impl Checker<'_> {
         Ok(())
     }
 
+    /// A practice sheet, seldom of a size or a seed that is refused; what was made is read, and small ones are asked from corner to corner.
+    fn practice(&mut self) -> Check {
+        let wrong = self.chance.one_in(4);
+        let mut size = || match self.chance.below(if wrong { 3 } else { 1 }) {
+            0 => 2 + self.chance.below(15) as u16,
+            _ => self.chance.pick(&[0, 1, 2, 16, 17, 258, u16::MAX]),
+        };
+        let (rows, columns) = (size(), size());
+        let seed = match self.chance.below(if wrong { 3 } else { 2 }) {
+            0 => self.chance.pick(&[0, 1, 65_535, 65_536, (1 << 31) - 1]),
+            1 => self.chance.next() as u32 >> 1,
+            _ => self.chance.pick(&[(1 << 31) - 1, 1 << 31, (1 << 31) + 1, u32::MAX]),
+        };
+        let (high, wide) = (rows.clamp(1, 17) as usize, columns.clamp(1, 17) as usize);
+        let short = self.chance.one_in(4);
+        let length = self.room(HEAD + EDGE * (high * (wide - 1) + (high - 1) * wide), short);
+        let lent = Lent::new(self.chance.junk(length, |x| x as u8));
+        let after = self.compare(Call::PracticeSheet { rows, columns, seed }, &lent)?;
+        let Some(drawing) = after.sheet.get(..after.length).and_then(Drawing::of_bytes) else { return Ok(()) };
+        let lent = self.lend(drawing.bytes(), &drawing);
+        self.compare(Call::Read, &lent)?;
+        if drawing.edges() < 30 {
+            self.questions(&drawing, 0, drawing.nodes as usize - 1)?;
+        }
+        Ok(())
+    }
+
     /// A damaged sheet, to every operation, and damaged slices to Write.
     fn damaged(&mut self, whole: &Drawing) -> Check {
         let bytes = damage::bytes(&mut self.chance, whole);
@@ -602,6 +629,7 @@ fn picture(call: &Call, before: &Lent) -> String {
         writeln!(text, "# question {question:?}").unwrap();
     }
     match call {
+        Call::PracticeSheet { .. } => {}
         Call::Write { .. } => writeln!(text, "tails {:?}\nrotations {:?}\ncapacities {:?}", before.tails, before.rotations, before.capacities).unwrap(),
         _ => text += &Drawing::of_bytes(sheet).map_or_else(|| format!("# bytes {sheet:?}\n"), |drawing| drawing.text()),
     }

@@ -1,6 +1,7 @@
 //! Deliberate faults, put between the unit and the comparison: every call passes through here. They show that the comparison can fail, and each must be caught.
 use crate::drawing::{rounds, Drawing, EDGE};
 use crate::flow::{carry, range};
+use crate::grid::{self, Grid};
 use crate::judge;
 use crate::levels::{flows_of, highest, highest_from, levels_of, lowest};
 use crate::unit::{self, Call, Lent};
@@ -100,6 +101,13 @@ faults! {
     KeyWithoutLastLineFeed: "the key's text lacks its last line feed",
     KeyOtherNode: "the key's text ends with another number",
     KeyPastTheText: "the key writes past its text",
+    SeedAsFirstState: "the first channel of a practice sheet has the state that the seed is",
+    ColumnByColumn: "the channels that run down are numbered column by column",
+    SouthWestExchanged: "clockwise at a node is north, east, west, south",
+    LimitsAboveNinetyNine: "a practice sheet's limit is the state div 65,536, not taken mod 100",
+    PracticeKindFour: "a practice sheet has a head of kind 4",
+    SixteenForTwentyThree: "room for a practice sheet is looked at before its sizes and its seed",
+    PracticeOnRefusal: "a practice sheet's kind is written before its room is looked at",
 }
 
 /// The unit, with a fault or without.
@@ -127,6 +135,10 @@ impl Library {
         }
         if *call == Call::KeyText {
             key(fault, lent);
+        }
+        if let Call::PracticeSheet { rows, columns, seed } = *call {
+            practice(fault, rows, columns, seed, lent);
+            return 0;
         }
         let sheet = if let Call::Write { .. } = call { &lent.sheet } else { &before.sheet };
         if let Ok(drawing) = judge::records(sheet) {
@@ -189,7 +201,30 @@ fn answer(fault: Fault, call: &Call, drawing: &Drawing, before: &Lent, after: &m
             _ => {}
         },
         Call::Totals => totals(fault, drawing, after),
-        Call::KeyText => {}
+        Call::KeyText | Call::PracticeSheet { .. } => {}
+    }
+}
+
+/// What a fault makes of a practice sheet: the same with one thing made otherwise.
+fn practice(fault: Fault, rows: u16, columns: u16, seed: u32, after: &mut Lent) {
+    let mut grid = Grid::new(rows, columns);
+    if fault == Fault::ColumnByColumn {
+        grid.column_by_column();
+    }
+    let first = if fault == Fault::SeedAsFirstState { 0 } else { 1 };
+    let limit = |state: u128| if fault == Fault::LimitsAboveNinetyNine { (state >> 16) as i32 } else { grid::limit(state) };
+    let limits: Vec<i32> = grid::states(seed).skip(first).map(limit).take(grid.channels.len()).collect();
+    let exchanged = |(right, down): (i32, i32)| if right < 0 || down > 0 { -grid::clockwise((right, down)) + 100.0 } else { grid::clockwise((right, down)) };
+    let drawing = grid.drawing(&limits, if fault == Fault::SouthWestExchanged { exchanged } else { grid::clockwise });
+    let bytes = drawing.bytes();
+    match fault {
+        Fault::SeedAsFirstState | Fault::ColumnByColumn | Fault::LimitsAboveNinetyNine | Fault::SouthWestExchanged => {
+            after.sheet[..bytes.len()].copy_from_slice(&bytes)
+        }
+        Fault::PracticeKindFour => after.sheet[0] = 4,
+        Fault::PlaceOnAnswer => after.place = 0,
+        Fault::GuardWritten => after.guards = false,
+        _ => {}
     }
 }
 
@@ -400,7 +435,7 @@ fn key(fault: Fault, after: &mut Lent) {
 /// What a fault makes of a refusal: its number.
 fn refusal(fault: Fault, call: &Call, before: &Lent, after: &mut Lent, result: u8) -> u8 {
     let sheet = match call {
-        Call::Write { .. } | Call::KeyText => &[][..],
+        Call::Write { .. } | Call::KeyText | Call::PracticeSheet { .. } => &[][..],
         _ => &before.sheet,
     };
     let head = if sheet.first() == Some(&4) { 7 } else { 5 };
@@ -432,6 +467,8 @@ fn refusal(fault: Fault, call: &Call, before: &Lent, after: &mut Lent, result: u
         (Fault::TwentyFourForThree, 3) if head == 7 && short(5) as usize >= 2 * short(3) as usize => return 24,
         (Fault::FourForTwentyFour, 24) if sheet.len() >= head + 5 && short(head + 1).max(short(head + 3)) >= short(1) => return 4,
         (Fault::KindFourAsTwo, _) if head == 7 => return 2,
+        (Fault::SixteenForTwentyThree, 23) if before.sheet.len() < 73 => return 16,
+        (Fault::PracticeOnRefusal, 16) if matches!(call, Call::PracticeSheet { .. }) && !before.sheet.is_empty() => after.sheet[0] = 1,
         (Fault::ShortSetUnseen, 16) => {
             let mut longer = Lent { set: vec![0; 9], ..before.clone() };
             if let (Call::Solve { .. }, 0, 1) = (call, unit::call(call, &mut longer), longer.can) {
@@ -533,6 +570,7 @@ mod tests {
             ("Settings from levels", with(&[16, 17, 19, 20]), &["done"]),
             ("Totals by node", with(&[16]), &["total", "total 0", "total below 0"]),
             ("Key text", vec![16], &["can", "cannot", "refused in the text"]),
+            ("Practice sheet", vec![16, 23], &["done"]),
         ];
         for (name, refusals, answers) in due {
             let met: Vec<_> = tally.answers.keys().filter(|key| key.0 == name).map(|&(_, number, answer)| (number, answer)).collect();

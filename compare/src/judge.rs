@@ -1,6 +1,7 @@
 //! An independent judge of what is refused, written from documents 01 and 02 in the plainest way: the checks of each operation in their order.
-use crate::drawing::{count, rounds, Drawing, EDGE, OUTER_HEAD};
+use crate::drawing::{count, rounds, Drawing, EDGE, HEAD, OUTER_HEAD};
 use crate::flow::{along, net_flows};
+use crate::grid;
 use crate::unit::{Call, Lent};
 
 #[derive(Clone, Copy, Debug, PartialEq)]
@@ -32,6 +33,7 @@ pub const TEXT: usize = 6671;
 pub fn accept(call: &Call, lent: &Lent) -> Result<Drawing, Refusal> {
     match *call {
         Call::Write { nodes, outer } => return write(nodes, outer, lent),
+        Call::PracticeSheet { rows, columns, seed } => return practice(rows, columns, seed, lent),
         Call::KeyText => {
             refuse(16, lent.text.len() < TEXT)?;
             return Ok(Drawing::default());
@@ -76,7 +78,7 @@ pub fn accept(call: &Call, lent: &Lent) -> Result<Drawing, Refusal> {
             within(&drawing, &crate::levels::flows_of(&drawing.faces(), &levels))?;
         }
         Call::Totals => refuse(16, lent.set.len() < drawing.words() || lent.subtotals.len() < members(&drawing, &lent.set).len())?,
-        Call::Write { .. } | Call::KeyText => unreachable!("judged above"),
+        Call::Write { .. } | Call::KeyText | Call::PracticeSheet { .. } => unreachable!("judged above"),
     }
     Ok(drawing)
 }
@@ -201,6 +203,15 @@ fn write(nodes: u16, outer: u16, lent: &Lent) -> Result<Drawing, Refusal> {
     }
     rotation(&drawing)?;
     refuse(16, lent.sheet.len() < OUTER_HEAD + EDGE * drawing.edges())?;
+    Ok(drawing)
+}
+
+/// 23, then 16; the sheet itself is accepted.
+fn practice(rows: u16, columns: u16, seed: u32, lent: &Lent) -> Result<Drawing, Refusal> {
+    refuse(23, [rows, columns].iter().any(|count| !(2..=16).contains(count)) || seed >= 1 << 31)?;
+    let drawing = grid::practice(rows, columns, seed);
+    refuse(16, lent.sheet.len() < HEAD + EDGE * drawing.edges())?;
+    rotation(&drawing)?;
     Ok(drawing)
 }
 

@@ -12,6 +12,7 @@ mod damage;
 mod drawing;
 mod faults;
 mod flow;
+mod grid;
 mod grow;
 mod judge;
 mod levels;

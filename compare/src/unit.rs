@@ -13,6 +13,7 @@ pub enum Call {
     SettingsFromLevels,
     Totals,
     KeyText,
+    PracticeSheet { rows: u16, columns: u16, seed: u32 },
 }
 
 impl Call {
@@ -28,6 +29,7 @@ impl Call {
             Call::SettingsFromLevels => "Settings from levels",
             Call::Totals => "Totals by node",
             Call::KeyText => "Key text",
+            Call::PracticeSheet { .. } => "Practice sheet",
         }
     }
 }
@@ -35,7 +37,7 @@ impl Call {
 /// All memory that a call can reach: the slices, and the answers behind pointers. A call uses some of it, and must leave the rest.
 #[derive(Clone, Debug, PartialEq)]
 pub struct Lent {
-    /// The sheet given; Write's bytes; the input of the key.
+    /// The sheet given; Write's bytes, and those of a practice sheet; the input of the key.
     pub sheet: Vec<u8>,
     pub flows: Vec<i32>,
     pub set: Vec<u64>,
@@ -256,6 +258,8 @@ extern "C" {
     ) -> u8;
     #[rustfmt::skip]
     fn analyser_key_text(input: *const u8, input_length: usize, text: *mut u8, text_length: usize, length: *mut usize, place: *mut u16) -> u8;
+    #[rustfmt::skip]
+    fn analyser_practice_sheet(rows: u16, columns: u16, seed: u32, sheet: *mut u8, sheet_length: usize, length: *mut usize, place: *mut u16) -> u8;
 }
 
 /// Calls the unit. The result is the number of the refusal, or 0.
@@ -297,6 +301,8 @@ pub fn call(call: &Call, lent: &mut Lent) -> u8 {
             Call::Totals => analyser_totals(sheet.pointer(), sheet.length(), set.pointer(), set.length(), subtotals.pointer(), subtotals.length(),
                 &mut lent.total, &mut lent.place),
             Call::KeyText => analyser_key_text(sheet.pointer(), sheet.length(), text.pointer(), text.length(), &mut lent.length, &mut lent.place),
+            Call::PracticeSheet { rows, columns, seed } => analyser_practice_sheet(rows, columns, seed, sheet.pointer(), sheet.length(), &mut lent.length,
+                &mut lent.place),
         }
     };
     lent.guards = sheet.give_back(&mut lent.sheet)

@@ -33,6 +33,7 @@ use Rattle.analyser.specs.SettingsOf.{settingsChecks}
 use Rattle.totals.specs.Totals.{totalChecks}
 use Rattle.analyser.specs.Totals.{totalsChecks}
 use Rattle.key_text.specs.Key.{keyRoomChecks}
+use Rattle.practice.specs.Practice.{practiceChecks}
 
 -- ── lists of checks whose numbers are 1 or more ──
 unfoldable pub Numbered : List Check → Type 0
@@ -149,3 +150,7 @@ totals-numbered s set out = numbered-append (sheetChecks s) _ (sheet-numbered s)
 pub key-numbered : (text : List ℕ) → Numbered (keyRoomChecks text)
 unfolding Numbered
 key-numbered text = (omega arith, tt)
+
+pub practice-numbered : (rows columns seed : ℕ) (sheet : List ℕ) → Numbered (practiceChecks rows columns seed sheet)
+unfolding Numbered practiceChecks
+practice-numbered rows columns seed sheet = (omega arith, (omega arith, tt))

@@ -26,6 +26,8 @@ use Rattle.levels.specs.declared.LevelAnswer.the-variants as level
 use Rattle.totals.specs.declared.TotalsAnswer.the-variants as totals
 use Rattle.key_text.specs.Key.{keyRoomChecks}
 use Rattle.key_text.specs.declared.KeyAnswer.the-variants as key
+use Rattle.practice.specs.Practice.{practiceChecks}
+use Rattle.practice.specs.declared.PracticeAnswer.the-variants as practice
 use Rattle.abi.specs.Read.{TellsRead}
 use Rattle.abi.specs.Write.{TellsWrite}
 use Rattle.abi.specs.Solve.{TellsSolve}
@@ -35,6 +37,7 @@ use Rattle.abi.specs.Mark.{TellsMark}
 use Rattle.abi.specs.Levels.{TellsLevels, TellsSettings}
 use Rattle.abi.specs.Totals.{TellsTotals}
 use Rattle.abi.specs.Key.{TellsKey}
+use Rattle.abi.specs.Practice.{TellsPractice}
 use Rattle.abi.proofs.Numbered.{
   Numbered,
   first-numbered,
@@ -48,6 +51,7 @@ use Rattle.abi.proofs.Numbered.{
   settings-numbered,
   totals-numbered,
   key-numbered,
+  practice-numbered,
 }
 
 -- ── what a result says, of any operation with these checks; Same: everything else behind a pointer is as it was ──
@@ -81,6 +85,12 @@ module _ {place place' result : ℕ} where
       → Says (keyRoomChecks text) result place place' ((text' ≡ text) × (length' ≡ length))
   key-says input text (key.Bytes n, h, t) = says-answer (h .0) (t .0) (t .2)
   key-says input text (key.Refused k p, h, t) = says-refusal k p (key-numbered text) (h .0) (t .0) (t .2) (h .1, t .1)
+
+  pub practice-says : {rows columns seed : ℕ} {sheet sheet' : List ℕ} {length length' : ℕ}
+      → TellsPractice rows columns seed sheet sheet' length length' place place' result
+      → Says (practiceChecks rows columns seed sheet) result place place' ((sheet' ≡ sheet) × (length' ≡ length))
+  practice-says (practice.Bytes n, h, t) = says-answer (h .0) (t .0) (t .2)
+  practice-says (practice.Refused k p, h, t) = says-refusal k p (practice-numbered _ _ _ _) (h .0) (t .0) (t .2) (h .1, t .1)
 
   module _ (s : List ℕ) where
     pub read-says : {tails rotations tails' rotations' : List ℕ} {capacities capacities' : List ℤ} {nodes nodes' edges edges' outer outer' : ℕ}

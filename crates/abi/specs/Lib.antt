@@ -7,3 +7,4 @@ pub mod Totals
 pub mod Mark
 pub mod Levels
 pub mod Key
+pub mod Practice

@@ -9,8 +9,10 @@ ghost use Rattle.abi.specs.Mark.{TellsMark};
 ghost use Rattle.abi.specs.Levels.{TellsLevels, TellsSettings};
 ghost use Rattle.abi.specs.Totals.{TellsTotals};
 ghost use Rattle.abi.specs.Key.{TellsKey};
+ghost use Rattle.abi.specs.Practice.{TellsPractice};
 use key_text::KeyAnswer;
 use levels::LevelAnswer;
+use practice::PracticeAnswer;
 use questions::LargestAnswer;
 use questions::MarkAnswer;
 use questions::SolveAnswer;
@@ -295,6 +297,32 @@ pub extern "C" fn analyser_key_text(
             0
         }
         KeyAnswer::Refused(k, p) => {
+            *place = p;
+            k
+        }
+    }
+}
+
+// A practice sheet. The bytes of the sheet, and in length their number.
+#[no_mangle]
+pub extern "C" fn analyser_practice_sheet(
+    rows: u16,
+    columns: u16,
+    seed: u32,
+    sheet: &mut [u8],
+    length: &mut usize,
+    place: &mut u16,
+) -> u8
+    ensures { λ r. ⌜ TellsPractice rows columns seed (now (sheet .entry)) (now (sheet .exit)) (now (length .entry)) (now (length .exit))
+        (now (place .entry)) (now (place .exit)) r ⌝ }
+{
+    let answer = practice::practice_sheet(rows, columns, seed, sheet);
+    match answer {
+        PracticeAnswer::Bytes(count) => {
+            *length = count;
+            0
+        }
+        PracticeAnswer::Refused(k, p) => {
             *place = p;
             k
         }

@@ -28,6 +28,7 @@ fn run(
         9 => operations::write_key(s, bytes),
         10 => operations::least_and_largest(s, first, second, set, second_set),
         19 => operations::totals(s, first, set),
+        15 => operations::practice(s, bytes),
         _ => say::say(b": no such operation"),
     }
 }

@@ -3,6 +3,7 @@ use super::case;
 use super::say;
 use key_text::KeyAnswer;
 use levels::LevelAnswer;
+use practice::PracticeAnswer;
 use questions::LargestAnswer;
 use questions::MarkAnswer;
 use questions::SolveAnswer;
@@ -148,6 +149,20 @@ fn say_totals(answer: TotalsAnswer) {
 
 pub fn totals(s: &[u8], subtotals: &mut [i32], set: &[u64]) {
     say_totals(analyser::totals(case::part(s, 1), set, subtotals));
+}
+
+fn say_practice(answer: PracticeAnswer) {
+    match answer {
+        PracticeAnswer::Bytes(n) => say::count(b": bytes", n),
+        PracticeAnswer::Refused(k, p) => say::refused(k, p),
+    }
+}
+
+pub fn practice(s: &[u8], out: &mut [u8]) {
+    let rows = case::half(s, 2);
+    let columns = case::half(s, 4);
+    let seed = signed::to_bits(case::word(s, 6));
+    say_practice(practice::practice_sheet(rows, columns, seed, out));
 }
 
 fn say_text(text: &[u8; 6671], n: usize) {

@@ -1,0 +1,53 @@
+-- Each arm of the match has what the operation ensures of its answer, and tells it.
+use mathlib.Core.Path.{_≡_, refl}
+use mathlib.Core.List.{List}
+use Prim.Native.Nat.{ℕ}
+use borrow.Author.Needs.{needs}
+use Rattle.practice.specs.Practice.{Practises}
+use Rattle.practice.specs.declared.PracticeAnswer.{PracticeAnswer}
+use Rattle.practice.specs.declared.PracticeAnswer.the-variants.{Bytes, Refused}
+use Rattle.abi.proofs.analyser_practice_sheet.Statement.{statement}
+use Rattle.abi.proofs.analyser_practice_sheet.Tie as tie
+
+abbrev start : tie.After-practice-sheet → tie.Start
+start c = c .before .before .before
+
+abbrev sheet' : tie.After-practice-sheet → List ℕ
+sheet' c = c .practice-sheet .last .1 .1 .1 .0
+
+found : (c : tie.After-practice-sheet) (answer : PracticeAnswer) → c .practice-sheet .result ≡ answer
+    → Practises (start c .args .rows) (start c .args .columns) (start c .args .seed) (start c .args .sheet .now) (sheet' c) answer
+found c answer e = rw e at (c .practice-sheet .ensures)
+
+practice-sheet-requires : tie.Need-practice-sheet-requires
+practice-sheet-requires c κs = search needs
+
+enum-known-answer : tie.Need-enum-known-answer
+enum-known-answer c = search needs
+
+enum-known-answer-2 : tie.Need-enum-known-answer-2
+enum-known-answer-2 c = search needs
+
+same-length : tie.Need-same-length
+same-length c = search needs
+
+returns : tie.Need-returns
+returns c = (Bytes _, found (c .before .before .before .before .before) (Bytes _) (c .before .answer .given .1), (refl, refl, refl))
+
+same-length-2 : tie.Need-same-length-2
+same-length-2 c = search needs
+
+returns-2 : tie.Need-returns-2
+returns-2 c = (Refused _ _, found (c .before .before .before .before .before) (Refused _ _) (c .before .answer2 .given .1), (refl, refl, refl))
+
+pub analyser-practice-sheet-spec : {M : Type 1} → statement M
+analyser-practice-sheet-spec =
+    tie.close
+    (tie.spec
+    practice-sheet-requires
+    enum-known-answer
+    enum-known-answer-2
+    same-length
+    returns
+    same-length-2
+    returns-2)
