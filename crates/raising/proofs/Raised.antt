@@ -1,6 +1,6 @@
 -- A drawing with the forward capacity of one edge replaced: its capacities grow with it, so what is carried stays carried; it is drawn as the drawing was; and
 -- an array whose place of that dart is stored holds its capacities.
-use mathlib.Core.Path.{_≡_, refl, _∙_, fun-ext}
+use mathlib.Core.Path.{_≡_, refl, sym, _∙_, ap, fun-ext}
 use mathlib.Core.Logic.{_≢_}
 use mathlib.Core.Bool.{Bool, true, false, cond}
 use mathlib.Core.List.{List}
@@ -41,6 +41,14 @@ raised-least c e {v} l d = by (eqb d (2 * e)) (λ q. rw (eqb-eq d (2 * e) q) l)
     by : (b : Bool) → (b ≡ true → c d ≤ℤ v) → c d ≤ℤ cond b v (c d)
     by true h = h refl
     by false h = le-same (c d)
+
+-- with the present one they are the drawing's
+pub raised-present : (c : ℕ → ℤ) (e : ℕ) → raised c e (c (2 * e)) ≡ c
+raised-present c e = fun-ext (λ d. by d (eqb d (2 * e)) (λ q. ap c (sym (eqb-eq d (2 * e) q))))
+  where
+    by : (d : ℕ) (b : Bool) → (b ≡ true → c (2 * e) ≡ c d) → cond b (c (2 * e)) (c d) ≡ c d
+    by d true h = h refl
+    by d false h = refl
 
 -- a greater limit admits at least as much
 pub raised-more : {𝓜 : Map} (c : ℕ → ℤ) (e : ℕ) {s t : ℕ} {value v w : ℤ} → v ≤ℤ w → (x : ℕ → ℤ)
