@@ -1,5 +1,5 @@
 // The header and the library, as a C program and as a C++ program: each operation on drawing A of document 01, and a refusal of each; Least and largest on
-// drawing B too. tests/header compiles and runs it, and compares what it prints.
+// drawing B too, and Raise limit with each refusal beside the next. tests/header compiles and runs it, and compares what it prints.
 #include "analyser.h"
 #include "analyser.h"
 #include <stdio.h>
@@ -75,6 +75,17 @@ static void least_and_largest(const char *name, const uint8_t *bytes, size_t byt
     ended();
 }
 
+// Raise limit on drawing A with slices of these lengths: all that it may write, and one element more of each slice than drawing A needs.
+static void raise_limit(const char *name, size_t bytes_length, uint16_t headgate, uint16_t outfall, int32_t delivery, uint16_t channel, size_t settings_length,
+                        size_t set_length) {
+    untouched();
+    int result = analyser_raise_limit(drawing_a, bytes_length, headgate, outfall, delivery, channel, settings, settings_length, set, set_length, &flag, &value,
+                                      &place);
+    printf("raise limit %s %d: found %d, limit %d, set %d %d", name, result, flag, (int)value, (int)set[0], (int)set[1]);
+    numbers("settings", settings, 4);
+    ended();
+}
+
 int main(void) {
     int result;
 
@@ -131,6 +142,11 @@ int main(void) {
     least_and_largest("A", drawing_a, sizeof drawing_a, 0, 1, enough);
     least_and_largest("A back", drawing_a, sizeof drawing_a, 1, 0, enough);
     least_and_largest("B", drawing_b, sizeof drawing_b, 0, 1, enough);
+
+    raise_limit("13 by channel 0", sizeof drawing_a, 0, 1, 13, 0, ANALYSER_MAX_CHANNELS, ANALYSER_SET_WORDS);
+    raise_limit("6 by channel 0", sizeof drawing_a, 0, 1, 6, 0, 3, 1);
+    raise_limit("1000007 by channel 0", sizeof drawing_a, 0, 1, 1000007, 0, 3, 1);
+    raise_limit("1000008 by channel 0", sizeof drawing_a, 0, 1, 1000008, 0, 3, 1);
 
     untouched();
     set_three(0, 2, 4);
@@ -199,6 +215,14 @@ int main(void) {
     least_and_largest("no such node", drawing_a, sizeof drawing_a, 2, 2, enough);
     least_and_largest("ends equal", drawing_a, sizeof drawing_a, 1, 1, short_slices[0]);
     for (int i = 0; i < 5; i++) least_and_largest("slice too short", drawing_a, sizeof drawing_a, 0, 1, short_slices[i]);
+
+    raise_limit("cut short", sizeof drawing_a - 1, 2, 2, 13, 0, 3, 1);
+    raise_limit("no such node", sizeof drawing_a, 2, 2, 13, 0, 3, 1);
+    raise_limit("ends equal", sizeof drawing_a, 1, 1, 600000001, 0, 3, 1);
+    raise_limit("delivery out of range", sizeof drawing_a, 0, 1, 600000001, 3, 3, 1);
+    raise_limit("no such channel", sizeof drawing_a, 0, 1, 13, 3, 2, 0);
+    raise_limit("slice too short", sizeof drawing_a, 0, 1, 13, 0, 2, 1);
+    raise_limit("slice too short", sizeof drawing_a, 0, 1, 13, 0, 3, 0);
 
     untouched();
     set_three(0, 2, 5);

@@ -27,6 +27,7 @@ fn run(
         8 => operations::key(s),
         9 => operations::write_key(s, bytes),
         10 => operations::least_and_largest(s, first, second, set, second_set),
+        11 => operations::raise_limit(s, first, set),
         _ => say::say(b": no such operation"),
     }
 }
