@@ -15,7 +15,7 @@
 // THE CALLER'S DUTIES, which nothing checks. A slice is a pointer and its length in elements. Each pointer is not null, also where the length is 0, is aligned
 // for its type, and points to as many initialised elements as the length says (one, for a pointer with no length), at most PTRDIFF_MAX bytes. Nothing that is
 // lent as not const may overlap anything else that is lent to the same call, and until the call returns no other thread writes what is lent, nor reads what is
-// lent as not const. The stack has room for the call (40 KiB is enough: docs/PERFORMANCE.md).
+// lent as not const. The stack has room for the call (44 KiB is enough: docs/PERFORMANCE.md).
 //
 // A SHEET is a head and then its channels in order, nothing after. Fields are little-endian; a limit is signed, in two's complement.
 //
@@ -128,8 +128,9 @@ uint8_t analyser_least_and_largest(const uint8_t *sheet, size_t sheet_length, ui
 
 // Raise limit: the smallest forward limit of the channel, from its present one to 1000000, with which the delivery can be carried from headgate to outfall, and
 // the highest settings with that limit; every other limit, its back limit too, is as the sheet says. The present limit is the least answer, also where it is
-// below zero and where a smaller one would do. With each limit from the present one to below the answer the delivery cannot be carried; with each greater one it
-// can. Or none, where it cannot be carried with 1000000 either, with a set of nodes that proves that for this limit, not for the sheet's. The sheet is only read.
+// below zero and where a smaller one would do. With each limit from the present one to below the answer the delivery cannot be carried; with each greater one
+// it can. Or none, where it cannot be carried with 1000000 either, with a set of nodes that proves that for this limit, not for the sheet's. The sheet is only
+// read.
 // Refusals: the sheet checks; 13; 14; 15; 25; 16 as in Solve.
 // Writes where there is a limit: a setting for each channel, *limit, and *found = 1. Where there is none: the words of the set, and *found = 0.
 uint8_t analyser_raise_limit(const uint8_t *sheet, size_t sheet_length, uint16_t headgate, uint16_t outfall, int32_t delivery, uint16_t channel,

@@ -35,9 +35,10 @@ module _ (s : List ℕ) (source sink : ℕ) (value : ℤ) (edge : ℕ) where
 
   present-same : (x : ℕ → ℤ) → DeliversWith s source sink value edge (capacityOf s (2 * edge)) x ↔ Delivers s source sink value x
   present-same x =
-      let e = raised-present (capacityOf s) edge in
-      (subst (λ c. Carries (sheetMap s) c source sink value x) e,
-      subst (λ c. Carries (sheetMap s) c source sink value x) (sym e))
+      let e = raised-present (capacityOf s) edge in (
+        subst (λ c. Carries (sheetMap s) c source sink value x) e,
+        subst (λ c. Carries (sheetMap s) c source sink value x) (sym e),
+      )
 
   module _ (flows flows' : List ℤ) (set set' : List ℕ) where
     abbrev Answers : RaiseAnswer → Type 0

@@ -185,8 +185,8 @@ pub fn least_and_largest(
     )
 }
 
-// What the forward limit of an edge must be raised to: the smallest, from its present one to 1,000,000, with which the value can be carried from source to sink,
-// and the highest flow under it; or a set of nodes that proves that it cannot be with 1,000,000. The flows are written if there is one, the set if there is none.
+// What the forward limit of an edge must be raised to: the smallest, from its present one to 1,000,000, with which the value can be carried from source to
+// sink, and the highest flow under it; or a set of nodes that proves that it cannot be with 1,000,000. The flows are written if there is one, the set if not.
 pub fn raise_limit(
     sheet: &[u8],
     source: u16,

@@ -45,7 +45,9 @@ module _ {low high : ℤ} (ordered : low <ℤ high) (small-low : Limited 1000001
     half-limited =
         let a = atoms₄ low high apart half in
         record {
-          low = at-most (search parts) (omega (arith, from-equal is-apart (search parts), from-at-most (halves .1) (search parts), from-less ordered (search parts)));
+          low =
+              at-most (search parts) (omega
+              (arith, from-equal is-apart (search parts), from-at-most (halves .1) (search parts), from-less ordered (search parts)));
           high =
               at-most (search parts) (omega (
                 arith,

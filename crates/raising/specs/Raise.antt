@@ -1,6 +1,6 @@
--- What the forward capacity of an edge must be raised to, on a drawing. Document 02, Job 7: "Give the smallest forward limit, from its present one to 1,000,000,
--- with which the delivery has settings, and the highest settings under it, the set slice untouched; or none, when even 1,000,000 fails, with a set proving it
--- for that limit, the settings slice untouched. .. Solve's order holds, with 25, the channel does not exist, placed after 15."
+-- What the forward capacity of an edge must be raised to, on a drawing. Document 02, Job 7: "Give the smallest forward limit, from its present one to
+-- 1,000,000, with which the delivery has settings, and the highest settings under it, the set slice untouched; or none, when even 1,000,000 fails, with a set
+-- proving it for that limit, the settings slice untouched. .. Solve's order holds, with 25, the channel does not exist, placed after 15."
 use Prim.Native.Nat.{ℕ, _*_, _≤_}
 use mathlib.Core.Path.{_≡_}
 use mathlib.Core.List.{List, [], _∷_, _++_}

@@ -102,7 +102,8 @@ returns-2 c =
     let a = begun t .args in
     raise-sheet (sheet t) (t .before .before .«open» .result) (lefts' f) (tails' f) (rotations' f) (capacities' f) (accepted t)
     (f .before .before .before .before .fill-tails .ensures .1) (f .before .before .fill-rotations .ensures .1) (f .fill-capacities .ensures .1)
-    (a .source) (a .sink) (number-of-bits _ (begun t .fits .value)) (a .edge) (a .flows .now) _ (a .set .now) _ (k .raise-limit .result) (k .raise-limit .ensures)
+    (a .source) (a .sink) (number-of-bits _ (begun t .fits .value)) (a .edge) (a .flows .now) _ (a .set .now) _
+    (k .raise-limit .result) (k .raise-limit .ensures)
 
 pub raise-limit-spec : {M : Type 1} → statement M
 raise-limit-spec =

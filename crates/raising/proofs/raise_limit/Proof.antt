@@ -50,7 +50,8 @@ abbrev begun : tie.After-check-ends → tie.Start
 begun c = c .before .before .before .before .before
 
 ends-judged : (c : tie.After-check-ends) (v : Verdict) → c .check-ends .result ≡ v → Judged (endsAt (begun c)) v
-ends-judged c v e = ends-as (c .before .before .before .wide .ensures) (c .before .before .wide2 .ensures) (begun c .args .nodes) v (rw e at (c .check-ends .ensures))
+ends-judged c v e =
+    ends-as (c .before .before .before .wide .ensures) (c .before .before .wide2 .ensures) (begun c .args .nodes) v (rw e at (c .check-ends .ensures))
 
 abbrev checked : tie.After-enum-told → tie.After-check-ends
 checked c = c .before .before
@@ -133,8 +134,11 @@ returns-2 c =
     let e = c .before .before in
     let s = begun (checked e) in
     let a = s .args in
-    let out = rw (number-of-bits _ (s .fits .value)) at (said-yes (c .before .value-outside .ensures) (c .if1 .taken)) in
-    (raise-value (a .nodes) (a .edges) (a .source) (a .sink) (a .value) (a .edge) (a .flows .now) (a .set .now) (two e) 15 0 (inl (out, refl, refl)), refl, refl)
+    let out = rw (number-of-bits _ (s .fits .value)) at (said-yes (c .before .value-outside .ensures) (c .if1 .taken)) in (
+      raise-value (a .nodes) (a .edges) (a .source) (a .sink) (a .value) (a .edge) (a .flows .now) (a .set .now) (two e) 15 0 (inl (out, refl, refl)),
+      refl,
+      refl,
+    )
 
 returns-3 : tie.Need-returns-3
 unfolding FirstOf edgeChecks
