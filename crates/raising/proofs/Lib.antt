@@ -1,4 +1,5 @@
 -- A drawing with one forward capacity replaced; the bounds between probes and how many are left; the ways out of the operation; checks in front of it.
+pub mod Examples
 pub mod Raised
 pub mod Stepping
 pub mod Halvings
