@@ -3,6 +3,7 @@
 //   solve SHEET SOURCE SINK VALUE      prints: result can size place
 //   largest SHEET SOURCE SINK 0        prints: result found value place
 //   range SHEET SOURCE SINK 0          Least and largest; prints: result found largest place
+//   raise SHEET SOURCE SINK VALUE      Raise limit of a channel that leaves the set that Solve gives for the value, or of channel 0; prints: result found limit place
 //   read SHEET 0 0 0                   prints: result 255 channels place
 //   write SHEET 0 0 0                  on what Read gives; prints: result same length place
 //   mark SHEET SOURCE SINK VALUE       on what Solve gives; prints: result 255 value place
@@ -30,7 +31,7 @@ static int32_t limits[ANALYSER_MAX_DARTS], settings[ANALYSER_MAX_CHANNELS], agai
 static int32_t least, subtotals[ANALYSER_MAX_NODES], total;
 static uint64_t set[ANALYSER_SET_WORDS], below[ANALYSER_SET_WORDS];
 static uint8_t answer, result;
-static uint16_t nodes, channels, outer, size, place;
+static uint16_t nodes, channels, outer, size, place, channel;
 static long number;
 
 static void solve(void) {
@@ -43,6 +44,10 @@ static void range(void) {
     result = analyser_least_and_largest(sheet, sheet_length, source, sink, again, ANALYSER_MAX_CHANNELS, below, ANALYSER_SET_WORDS, settings,
                                         ANALYSER_MAX_CHANNELS, set, ANALYSER_SET_WORDS, &answer, &least, &value, &place);
 }
+static void raise_limit(void) {
+    result = analyser_raise_limit(sheet, sheet_length, source, sink, value, channel, settings, ANALYSER_MAX_CHANNELS, set, ANALYSER_SET_WORDS, &answer, &least,
+                                  &place);
+}
 static void read_sheet(void) {
     result = analyser_read(sheet, sheet_length, tails, ANALYSER_MAX_DARTS, turns, ANALYSER_MAX_DARTS, limits, ANALYSER_MAX_DARTS, &nodes, &channels, &outer,
                            &place);
@@ -50,6 +55,13 @@ static void read_sheet(void) {
 static void write_sheet(void) {
     size_t darts = 2 * (size_t)channels;
     result = analyser_write(nodes, outer, tails, darts, turns, darts, limits, darts, written, sizeof written, &length, &place);
+}
+// The first channel from a node of the set to one outside, of what Read and Solve gave: where there is a set, raising it may help.
+static int in_set(uint16_t node) { return set[node / 64] >> (node % 64) & 1; }
+static void choose(void) {
+    channel = 0;
+    while (channel < channels && !(answer == 0 && in_set(tails[2 * channel]) && !in_set(tails[2 * channel + 1]))) channel++;
+    if (channel == channels) channel = 0;
 }
 static void mark(void) { result = analyser_mark(sheet, sheet_length, source, sink, settings, ANALYSER_MAX_CHANNELS, &value, &place); }
 static void levels_from_settings(void) {
@@ -72,6 +84,7 @@ static void key(void) { result = analyser_key_text(input, 9 + sheet_length, text
 static void tell_size(void) { number = size; }
 static void tell_value(void) { number = value; }
 static void tell_total(void) { number = total; }
+static void tell_limit(void) { number = least; }
 static void tell_channels(void) { number = channels; }
 static void tell_written(void) {
     number = (long)length;
@@ -102,6 +115,7 @@ static const struct operation {
     {"solve", solve, {NULL, NULL, NULL}, tell_size},
     {"largest", largest, {NULL, NULL, NULL}, tell_value},
     {"range", range, {NULL, NULL, NULL}, tell_value},
+    {"raise", raise_limit, {read_sheet, solve, choose}, tell_limit},
     {"read", read_sheet, {NULL, NULL, NULL}, tell_channels},
     {"write", write_sheet, {read_sheet, NULL, NULL}, tell_written},
     {"mark", mark, {solve, NULL, NULL}, tell_value},

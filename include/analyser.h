@@ -15,7 +15,7 @@
 // THE CALLER'S DUTIES, which nothing checks. A slice is a pointer and its length in elements. Each pointer is not null, also where the length is 0, is aligned
 // for its type, and points to as many initialised elements as the length says (one, for a pointer with no length), at most PTRDIFF_MAX bytes. Nothing that is
 // lent as not const may overlap anything else that is lent to the same call, and until the call returns no other thread writes what is lent, nor reads what is
-// lent as not const. The stack has room for the call (40 KiB is enough: docs/PERFORMANCE.md).
+// lent as not const. The stack has room for the call (44 KiB is enough: docs/PERFORMANCE.md).
 //
 // A SHEET is a head and then its channels in order, nothing after. Fields are little-endian; a limit is signed, in two's complement.
 //
@@ -68,16 +68,17 @@ enum analyser_result {
     ANALYSER_TURN_MISPLACED = 9, // a turn has another tail than its dart, or two darts have one turn. Sheet; Write
     ANALYSER_NOT_ONE_ROUND = 10, // a node's darts do not form exactly one round, or it has none. Sheet; Write
     ANALYSER_NOT_FLAT = 12, // nodes - channels + faces is not 2 in some part: what channels, followed either way, join. Sheet; Write
-    ANALYSER_NO_SUCH_NODE = 13, // headgate or outfall is no node. Solve, Largest, Least and largest, Mark
-    ANALYSER_ENDS_EQUAL = 14, // headgate and outfall are one node. Solve, Largest, Least and largest, Mark
-    ANALYSER_DELIVERY_OUT_OF_RANGE = 15, // the delivery is not -600000000 to 600000000. Solve
+    ANALYSER_NO_SUCH_NODE = 13, // headgate or outfall is no node. Solve, Largest, Least and largest, Raise limit, Mark
+    ANALYSER_ENDS_EQUAL = 14, // headgate and outfall are one node. Solve, Largest, Least and largest, Raise limit, Mark
+    ANALYSER_DELIVERY_OUT_OF_RANGE = 15, // the delivery is not -600000000 to 600000000. Solve, Raise limit
     ANALYSER_SLICE_TOO_SHORT = 16, // a lent slice is too short; in Write also inputs of unequal or odd length. Every function
     ANALYSER_OUTSIDE_LIMITS = 17, // a setting is outside its channel's limits; *place is the lowest such channel. Mark, both level functions
     ANALYSER_OFF_BALANCE = 18, // flow is lost or gained at a node; *place is the lowest such node. Mark, Levels from settings
     ANALYSER_LEVEL_OUT_OF_RANGE = 19, // a level is not -600000000 to 600000000. Settings from levels
     ANALYSER_ZERO_FACE_NOT_AT_0 = 20, // the level of the outer face, or of the lowest face of another part, is not 0. Settings from levels
     ANALYSER_PRACTICE_OUT_OF_RANGE = 23, // rows or columns not 2 to 16, or the seed not below 2147483648. Practice sheet
-    ANALYSER_OUTER_IS_NO_DART = 24 // the outer dart is no dart. Sheet; Write
+    ANALYSER_OUTER_IS_NO_DART = 24, // the outer dart is no dart. Sheet; Write
+    ANALYSER_NO_SUCH_CHANNEL = 25 // there is no such channel. Raise limit
 };
 
 #ifdef __cplusplus
@@ -126,6 +127,16 @@ uint8_t analyser_largest(const uint8_t *sheet, size_t sheet_length, uint16_t hea
 uint8_t analyser_least_and_largest(const uint8_t *sheet, size_t sheet_length, uint16_t headgate, uint16_t outfall, int32_t *low, size_t low_length,
                                    uint64_t *below, size_t below_length, int32_t *high, size_t high_length, uint64_t *above, size_t above_length,
                                    uint8_t *found, int32_t *least, int32_t *largest, uint16_t *place);
+
+// Raise limit: the smallest forward limit of the channel, from its present one to 1000000, with which the delivery can be carried from headgate to outfall, and
+// the highest settings with that limit; every other limit, its back limit too, is as the sheet says. The present limit is the least answer, also where it is
+// below zero and where a smaller one would do. With each limit from the present one to below the answer the delivery cannot be carried; with each greater one
+// it can. Or none, where it cannot be carried with 1000000 either, with a set of nodes that proves that for this limit, not for the sheet's. The sheet is only
+// read.
+// Refusals: the sheet checks; 13; 14; 15; 25; 16 as in Solve.
+// Writes where there is a limit: a setting for each channel, *limit, and *found = 1. Where there is none: the words of the set, and *found = 0.
+uint8_t analyser_raise_limit(const uint8_t *sheet, size_t sheet_length, uint16_t headgate, uint16_t outfall, int32_t delivery, uint16_t channel,
+                             int32_t *settings, size_t settings_length, uint64_t *set, size_t set_length, uint8_t *found, int32_t *limit, uint16_t *place);
 
 // Mark: the value that given settings carry from headgate to outfall.
 // Refusals: the sheet checks; 13; 14; 16 where settings has less than one element for each channel; 17; 18 at a node other than those two.

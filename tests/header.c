@@ -1,5 +1,5 @@
 // The header and the library, as a C program and as a C++ program: each operation on drawing A of document 01, and a refusal of each; Least and largest and
-// Totals by node on drawing B too. tests/header compiles and runs it, and compares what it prints.
+// Totals by node on drawing B too, and Raise limit with each refusal beside the next. tests/header compiles and runs it, and compares what it prints.
 #include "analyser.h"
 #include "analyser.h"
 #include <stdio.h>
@@ -98,6 +98,17 @@ static void practice(const char *name, uint16_t rows, uint16_t columns, uint32_t
     ended();
 }
 
+// Raise limit on drawing A with slices of these lengths: all that it may write, and one element more of each slice than drawing A needs.
+static void raise_limit(const char *name, size_t bytes_length, uint16_t headgate, uint16_t outfall, int32_t delivery, uint16_t channel, size_t settings_length,
+                        size_t set_length) {
+    untouched();
+    int result = analyser_raise_limit(drawing_a, bytes_length, headgate, outfall, delivery, channel, settings, settings_length, set, set_length, &flag, &value,
+                                      &place);
+    printf("raise limit %s %d: found %d, limit %d, set %d %d", name, result, flag, (int)value, (int)set[0], (int)set[1]);
+    numbers("settings", settings, 4);
+    ended();
+}
+
 int main(void) {
     int result;
 
@@ -160,6 +171,11 @@ int main(void) {
     totals("A none", drawing_a, sizeof drawing_a, 0, 1, 0);
     totals("B 0 2", drawing_b, sizeof drawing_b, 5, ANALYSER_SET_WORDS, ANALYSER_MAX_NODES);
     totals("B 1 2", drawing_b, sizeof drawing_b, 6, ANALYSER_SET_WORDS, ANALYSER_MAX_NODES);
+
+    raise_limit("13 by channel 0", sizeof drawing_a, 0, 1, 13, 0, ANALYSER_MAX_CHANNELS, ANALYSER_SET_WORDS);
+    raise_limit("6 by channel 0", sizeof drawing_a, 0, 1, 6, 0, 3, 1);
+    raise_limit("1000007 by channel 0", sizeof drawing_a, 0, 1, 1000007, 0, 3, 1);
+    raise_limit("1000008 by channel 0", sizeof drawing_a, 0, 1, 1000008, 0, 3, 1);
 
     untouched();
     set_three(0, 2, 4);
@@ -236,6 +252,14 @@ int main(void) {
     totals("cut short", drawing_a, sizeof drawing_a - 1, 1, 0, 0);
     totals("slice too short", drawing_a, sizeof drawing_a, 1, 0, ANALYSER_MAX_NODES);
     totals("slice too short", drawing_a, sizeof drawing_a, 3, ANALYSER_SET_WORDS, 1);
+
+    raise_limit("cut short", sizeof drawing_a - 1, 2, 2, 13, 0, 3, 1);
+    raise_limit("no such node", sizeof drawing_a, 2, 2, 13, 0, 3, 1);
+    raise_limit("ends equal", sizeof drawing_a, 1, 1, 600000001, 0, 3, 1);
+    raise_limit("delivery out of range", sizeof drawing_a, 0, 1, 600000001, 3, 3, 1);
+    raise_limit("no such channel", sizeof drawing_a, 0, 1, 13, 3, 2, 0);
+    raise_limit("slice too short", sizeof drawing_a, 0, 1, 13, 0, 2, 1);
+    raise_limit("slice too short", sizeof drawing_a, 0, 1, 13, 0, 3, 0);
 
     untouched();
     set_three(0, 2, 5);

@@ -4,7 +4,7 @@ use crate::chance::Chance;
 use crate::damage;
 use crate::drawing::{count, Drawing, EDGE, HEAD, OUTER_HEAD};
 use crate::faults::Library;
-use crate::flow::{carry, net_flows, range};
+use crate::flow::{carry, least_limit, net_flows, range, MOST_LIMIT};
 use crate::grow::{grow, Grown};
 use crate::judge;
 use crate::levels::{flows_of, highest, levels_of};
@@ -35,6 +35,8 @@ impl Tally {
                 (_, 1.., _) => "values above 0",
                 _ => "values",
             },
+            (Call::RaiseLimit { .. }, 0) if after.found == 1 && after.value < 0 => "limit below 0",
+            (Call::RaiseLimit { .. }, 0) => ["none", "limit"][after.found as usize],
             (Call::Mark { .. }, 0) => "value",
             (Call::Totals, 0) => ["total below 0", "total 0", "total"][(after.total.signum() + 1) as usize],
             (Call::KeyText, 0) => match after.text[3] {
@@ -218,6 +220,18 @@ impl Checker<'_> {
                     Proof { slices: &[ABOVE], drawing, source, sink, value: Some(largest + 1) },
                 ];
             }
+            Call::RaiseLimit { source, sink, value, edge } => {
+                let limit = least_limit(&drawing, source as usize, sink as usize, value as i64, edge as usize);
+                let raised = drawing.with_limit(edge as usize, limit.unwrap_or(MOST_LIMIT));
+                lent.found = limit.is_some() as u8;
+                if let Some(limit) = limit {
+                    let flows = carry(&raised, source as usize, sink as usize, value as i64).expect("the value can be carried with that limit");
+                    store(&mut lent.flows, &highest(&raised, &raised.faces(), &flows));
+                    lent.value = limit as i32;
+                } else {
+                    due.proofs = vec![Proof { slices: &[SET], drawing: raised, source, sink, value: Some(value as i64) }];
+                }
+            }
             Call::Mark { source, .. } => lent.value = net_flows(&drawing, &judge::wide(&lent.flows))[source as usize] as i32,
             Call::LevelsFromSettings => {
                 let faces = drawing.faces();
@@ -340,6 +354,7 @@ impl Checker<'_> {
         self.compare(Call::Largest { source: from, sink: to }, &lent)?;
         self.least_and_largest(drawing, from, to)?;
         let (least, largest) = range(drawing, source, sink).unwrap_or((-3, 3));
+        self.raise_limit(drawing, from, to, (least, largest))?;
         let mut values = vec![0, largest, largest + 1, -1, least, least - 1, 600_000_000, -600_000_000];
         values.extend([self.chance.between(least, largest), self.chance.between(least, largest), self.chance.between(-9, 9)]);
         let order = self.chance.shuffled(values.len());
@@ -378,6 +393,32 @@ impl Checker<'_> {
                 _ => short.above.truncate(drawing.words() - 1),
             }
             self.compare(Call::LeastAndLargest { source, sink }, &short)?;
+        }
+        Ok(())
+    }
+
+    /// Raise limit, of channels and values that are carried or not; then beside Solve on the sheet with the limit given, and with the one before it.
+    fn raise_limit(&mut self, drawing: &Drawing, source: u16, sink: u16, (least, largest): (i64, i64)) -> Check {
+        let more = self.chance.between(1, 40);
+        let within = self.chance.between(least, largest);
+        for value in [largest + 1, largest + more, within, least - 1, largest + 999_990 + more] {
+            let (value, edge) = (value as i32, self.chance.below(drawing.edges()));
+            let lent = self.lend(drawing.bytes(), drawing);
+            let after = self.compare(Call::RaiseLimit { source, sink, value, edge: edge as u16 }, &lent)?;
+            if after.found != 1 {
+                continue;
+            }
+            let mut lent = Lent::new(drawing.with_limit(edge, after.value as i64).bytes());
+            (lent.flows, lent.set) = (vec![0; drawing.edges()], vec![0; drawing.words()]);
+            let solved = self.compare(Call::Solve { source, sink, value }, &lent)?;
+            let mut serves = solved.can == 1 && solved.flows == after.flows[..drawing.edges()];
+            if (after.value as i64) > drawing.capacity(2 * edge) {
+                lent.sheet = drawing.with_limit(edge, after.value as i64 - 1).bytes();
+                serves &= self.compare(Call::Solve { source, sink, value }, &lent)?.can == 0;
+            }
+            if !serves {
+                return Err(Wrong(format!("Raise limit says {} of channel {edge} for {value}, Solve otherwise\n{}", after.value, drawing.text())));
+            }
         }
         Ok(())
     }
@@ -495,6 +536,11 @@ impl Checker<'_> {
         self.chance.pick(&[0, 0, node, node, node, drawing.nodes.wrapping_sub(1), drawing.nodes, u16::MAX])
     }
 
+    fn some_edge(&mut self, drawing: &Drawing) -> u16 {
+        let edge = self.chance.below(drawing.edges().max(1)) as u16;
+        self.chance.pick(&[0, edge, edge, drawing.edges().wrapping_sub(1) as u16, drawing.edges() as u16, drawing.edges() as u16, u16::MAX])
+    }
+
     fn some_value(&mut self) -> i32 {
         let some = self.chance.between(-9, 9) as i32;
         self.chance.pick(&[some, some, some, 600_000_000, 600_000_001, -600_000_001, i32::MIN, i32::MAX])
@@ -509,6 +555,8 @@ impl Checker<'_> {
             self.key(Call::Solve { source, sink, value }, &lent.sheet)?;
             self.compare(Call::Largest { source, sink }, &lent)?;
             self.compare(Call::LeastAndLargest { source, sink }, &lent)?;
+            let edge = self.some_edge(drawing);
+            self.compare(Call::RaiseLimit { source, sink, value, edge }, &lent)?;
             self.compare(Call::Mark { source, sink }, &lent)?;
         }
         Ok(())
@@ -544,12 +592,13 @@ impl Checker<'_> {
     /// A damaged sheet, to every operation, and damaged slices to Write.
     fn damaged(&mut self, whole: &Drawing) -> Check {
         let bytes = damage::bytes(&mut self.chance, whole);
-        let (source, sink, value) = (self.some_end(whole), self.some_end(whole), self.some_value());
+        let (source, sink, value, edge) = (self.some_end(whole), self.some_end(whole), self.some_value(), self.some_edge(whole));
         let calls = [
             Call::Read,
             Call::Solve { source, sink, value },
             Call::Largest { source, sink },
             Call::LeastAndLargest { source, sink },
+            Call::RaiseLimit { source, sink, value, edge },
             Call::Mark { source, sink },
             Call::LevelsFromSettings,
             Call::SettingsFromLevels,
@@ -624,6 +673,9 @@ fn picture(call: &Call, before: &Lent) -> String {
     };
     if let Call::Solve { source, sink, value } = call {
         writeln!(text, "question {source} {sink} {value}").unwrap();
+    }
+    if let Call::RaiseLimit { source, sink, value, edge } = call {
+        writeln!(text, "# channel {edge}\nquestion {source} {sink} {value}").unwrap();
     }
     if let Call::KeyText = call {
         writeln!(text, "# question {question:?}").unwrap();

@@ -52,6 +52,13 @@ impl Drawing {
         self.capacities[dart] as i64
     }
 
+    /// The same with this forward capacity of an edge.
+    pub fn with_limit(&self, edge: usize, limit: i64) -> Drawing {
+        let mut other = self.clone();
+        other.capacities[2 * edge] = limit as i32;
+        other
+    }
+
     /// The 64-bit words that a set of its nodes needs.
     pub fn words(&self) -> usize {
         (self.nodes as usize).div_ceil(64)

@@ -1,6 +1,6 @@
 //! Deliberate faults, put between the unit and the comparison: every call passes through here. They show that the comparison can fail, and each must be caught.
 use crate::drawing::{rounds, Drawing, EDGE};
-use crate::flow::{carry, range};
+use crate::flow::{carry, least_on, range, MOST_LIMIT};
 use crate::grid::{self, Grid};
 use crate::judge;
 use crate::levels::{flows_of, highest, highest_from, levels_of, lowest};
@@ -46,6 +46,16 @@ faults! {
     NoneByTwoSets: "the two sets of a none differ, though each proves it",
     FlowsOnNone: "a none of Least and largest clears the flows of the least",
     ShortAboveUnseen: "Least and largest does not look at the length of its last slice where there is none",
+    RaiseFromZero: "Raise limit begins at 0 where the present limit is below it",
+    RaiseBelowPresent: "Raise limit gives a smaller limit than the present one where that would do",
+    RaiseOneMore: "Raise limit gives a limit one too great, with its highest flow",
+    RaiseOtherFlows: "Raise limit gives the flows of another limit that serves",
+    RaiseBack: "Raise limit raises the back limit too",
+    RaiseSetOfTheSheet: "the set of Raise limit's none is judged with the sheet's limit",
+    RaiseFlowsOnNone: "a none of Raise limit clears the flows",
+    RaiseSetOnLimit: "Raise limit clears the set where there is a limit",
+    SixteenForTwentyFive: "room is looked at before the channel",
+    TwentyFiveForFifteen: "the channel is looked at before the value's range",
     MarkOffByOne: "Mark's value is one too great",
     MarkAtTheSink: "Mark's value is taken at the sink",
     PlaceOffByOne: "the place of 17 and 18 is one too great",
@@ -162,6 +172,8 @@ fn answer(fault: Fault, call: &Call, drawing: &Drawing, before: &Lent, after: &m
         Call::Largest { source, .. } => none(fault, source, drawing, after),
         Call::LeastAndLargest { source, sink } if after.found == 1 => values(fault, (source, sink), drawing, after),
         Call::LeastAndLargest { source, sink } => no_values(fault, (source, sink), drawing, after),
+        Call::RaiseLimit { source, sink, value, edge } if after.found == 1 => raised(fault, (source, sink, value), edge as usize, drawing, after),
+        Call::RaiseLimit { source, sink, value, edge } => not_raised(fault, (source, sink, value), edge as usize, drawing, before, after),
         Call::Mark { sink, .. } => match fault {
             Fault::MarkOffByOne => after.value += 1,
             Fault::MarkAtTheSink => after.value = crate::flow::net_flows(drawing, &judge::wide(&before.flows))[sink as usize] as i32,
@@ -388,6 +400,65 @@ fn asks_for_more(fault: Fault, before: &Lent) -> bool {
     }
 }
 
+/// Puts the highest flow of the value, where it is carried.
+fn carried(drawing: &Drawing, (source, sink, value): (u16, u16, i32), after: &mut Lent) {
+    if let Some(flows) = carry(drawing, source as usize, sink as usize, value as i64) {
+        put(&mut after.flows, &highest(drawing, &drawing.faces(), &flows));
+    }
+}
+
+fn raised(fault: Fault, question: (u16, u16, i32), edge: usize, drawing: &Drawing, after: &mut Lent) {
+    let (limit, present) = (after.value as i64, drawing.capacity(2 * edge));
+    let (source, sink, value) = question;
+    match fault {
+        Fault::RaiseFromZero if limit < 0 => {
+            after.value = 0;
+            carried(&drawing.with_limit(edge, 0), question, after);
+        }
+        Fault::RaiseBelowPresent => {
+            let least = least_on(drawing, source as usize, sink as usize, value as i64, edge).unwrap();
+            if least < present {
+                after.value = least as i32;
+                carried(&drawing.with_limit(edge, least), question, after);
+            }
+        }
+        Fault::RaiseOneMore if limit < MOST_LIMIT => {
+            after.value += 1;
+            carried(&drawing.with_limit(edge, limit + 1), question, after);
+        }
+        Fault::RaiseOtherFlows if limit < MOST_LIMIT => carried(&drawing.with_limit(edge, limit + 1), question, after),
+        Fault::RaiseBack if limit > present => {
+            let mut both = drawing.with_limit(edge, limit);
+            both.capacities[2 * edge + 1] = both.capacities[2 * edge + 1].saturating_add((limit - present) as i32).min(MOST_LIMIT as i32);
+            carried(&both, question, after);
+        }
+        Fault::RaiseSetOnLimit => after.set.fill(0),
+        _ => {}
+    }
+}
+
+fn not_raised(fault: Fault, question: (u16, u16, i32), edge: usize, drawing: &Drawing, before: &Lent, after: &mut Lent) {
+    let (source, sink, value) = question;
+    match fault {
+        Fault::RaiseBack => {
+            let mut both = drawing.with_limit(edge, MOST_LIMIT);
+            both.capacities[2 * edge + 1] = MOST_LIMIT as i32;
+            if carry(&both, source as usize, sink as usize, value as i64).is_some() {
+                (after.found, after.value, after.set) = (1, MOST_LIMIT as i32, before.set.clone());
+                carried(&both, question, after);
+            }
+        }
+        Fault::RaiseSetOfTheSheet => {
+            let mut sheet = before.clone();
+            if unit::call(&Call::Solve { source, sink, value }, &mut sheet) == 0 {
+                after.set = sheet.set;
+            }
+        }
+        Fault::RaiseFlowsOnNone => after.flows.fill(0),
+        _ => {}
+    }
+}
+
 /// Whether two nodes are in different parts.
 fn apart(drawing: &Drawing, source: u16, sink: u16) -> bool {
     let parts = drawing.parts();
@@ -452,11 +523,20 @@ fn refusal(fault: Fault, call: &Call, before: &Lent, after: &mut Lent, result: u
         (Fault::SevenForSix, 6) if sum_below_zero(sheet) => return 7,
         (Fault::CutBeforeFields, 4..=7) if sheet.len() >= head && sheet.len() < head + EDGE * u16::from_le_bytes([sheet[3], sheet[4]]) as usize => return 1,
         (Fault::FourteenForThirteen, 13) => match *call {
-            Call::Solve { source, sink, .. } | Call::Largest { source, sink } | Call::LeastAndLargest { source, sink } | Call::Mark { source, sink }
+            Call::Solve { source, sink, .. }
+            | Call::Largest { source, sink }
+            | Call::LeastAndLargest { source, sink }
+            | Call::RaiseLimit { source, sink, .. }
+            | Call::Mark { source, sink }
                 if source == sink =>
             {
                 return 14
             }
+            _ => {}
+        },
+        (Fault::SixteenForTwentyFive, 25) if judge::records(sheet).is_ok_and(|drawing| before.flows.len() < drawing.edges()) => return 16,
+        (Fault::TwentyFiveForFifteen, 15) => match *call {
+            Call::RaiseLimit { edge, .. } if judge::records(sheet).is_ok_and(|drawing| edge as usize >= drawing.edges()) => return 25,
             _ => {}
         },
         (Fault::SixteenForFifteen, 15) if judge::records(sheet).is_ok_and(|drawing| before.flows.len() < drawing.edges()) => return 16,
@@ -565,6 +645,7 @@ mod tests {
             ("Solve", with(&[13, 14, 15, 16]), &["can", "cannot"]),
             ("Largest", with(&[13, 14, 16]), &["value", "value below 0", "none"]),
             ("Least and largest", with(&[13, 14, 16]), &["values", "values above 0", "values below 0", "none"]),
+            ("Raise limit", with(&[13, 14, 15, 16, 25]), &["limit", "limit below 0", "none"]),
             ("Mark", with(&[13, 14, 16, 17, 18]), &["value"]),
             ("Levels from settings", with(&[16, 17, 18]), &["done"]),
             ("Settings from levels", with(&[16, 17, 19, 20]), &["done"]),

@@ -136,6 +136,36 @@ pub fn range(drawing: &Drawing, source: usize, sink: usize) -> Option<(i64, i64)
     Some((value - less, value + arcs.augment(source, sink)))
 }
 
+/// The most that a forward capacity of a sheet is.
+pub const MOST_LIMIT: i64 = 1_000_000;
+
+/// The least flow on an edge with which the value is carried, if that is at most 1,000,000: of a flow with that as its forward capacity, less what the other edges
+/// can take over from it.
+pub fn least_on(drawing: &Drawing, source: usize, sink: usize, value: i64, edge: usize) -> Option<i64> {
+    let nodes = drawing.nodes as usize;
+    let (tail, head, least) = (drawing.tail(2 * edge), drawing.head(2 * edge), -drawing.capacity(2 * edge + 1));
+    let mut net = vec![0; nodes];
+    net[source] += value;
+    net[sink] -= value;
+    let (mut arcs, needed) = shifted(&drawing.with_limit(edge, MOST_LIMIT), net, None);
+    if arcs.augment(nodes, nodes + 1) < needed {
+        return None;
+    }
+    if tail == head {
+        return Some(least); // what runs round a loop is carried nowhere
+    }
+    let flow = least + arcs.room[2 * edge + 1];
+    for arc in (drawing.darts()..arcs.room.len()).chain([2 * edge, 2 * edge + 1]) {
+        arcs.room[arc] = 0; // neither the super source and sink nor the edge itself take part from here
+    }
+    Some(least.max(flow - arcs.augment(tail, head)))
+}
+
+/// The least forward capacity of an edge, from its present one to 1,000,000, with which the value is carried.
+pub fn least_limit(drawing: &Drawing, source: usize, sink: usize, value: i64, edge: usize) -> Option<i64> {
+    least_on(drawing, source, sink, value, edge).map(|flow| flow.max(drawing.capacity(2 * edge)))
+}
+
 /// For each node the sum over darts with that tail.
 pub fn net_flows(drawing: &Drawing, flows: &[i64]) -> Vec<i64> {
     let mut sums = vec![0; drawing.nodes as usize];
@@ -178,6 +208,16 @@ mod tests {
         assert_eq!(range(&drawing, 0, 1), Some((2, 12)));
         assert_eq!(carry(&drawing, 0, 1, 2), Some(vec![0, 2, 0]));
         assert_eq!(carry(&drawing, 0, 1, 1), None);
+    }
+
+    #[test]
+    fn a_is_raised_by_what_is_missing() {
+        assert_eq!(least_limit(&paper::a(), 0, 1, 13, 0), Some(6));
+        assert_eq!(least_limit(&paper::a(), 0, 1, 13, 1), Some(4));
+        assert_eq!((least_limit(&paper::a(), 0, 1, 6, 0), least_on(&paper::a(), 0, 1, 6, 0)), (Some(5), Some(0)));
+        assert_eq!(least_limit(&paper::a(), 0, 1, 1_000_007, 0), Some(1_000_000));
+        assert_eq!(least_limit(&paper::a(), 0, 1, 1_000_008, 0), None);
+        assert_eq!(least_limit(&paper::a_with(&[(0, -2), (1, 5)]), 0, 1, 6, 0), Some(-1));
     }
 
     #[test]

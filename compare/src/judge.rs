@@ -59,6 +59,11 @@ pub fn accept(call: &Call, lent: &Lent) -> Result<Drawing, Refusal> {
             ends(&drawing, source, sink)?;
             refuse(16, lent.low.len().min(lent.high.len()) < drawing.edges() || lent.below.len().min(lent.above.len()) < drawing.words())?;
         }
+        Call::RaiseLimit { source, sink, value, edge } => {
+            question(&drawing, source, sink, value)?;
+            refuse(25, edge as usize >= drawing.edges())?;
+            refuse(16, lent.flows.len() < drawing.edges() || lent.set.len() < drawing.words())?;
+        }
         Call::Mark { source, sink } => {
             ends(&drawing, source, sink)?;
             refuse(16, lent.flows.len() < drawing.edges())?;

@@ -145,6 +145,23 @@ fn totals() {
     assert_eq!(ask(two_bridges(), 5), (vec![0, -1, 77, 77], -1, vec![5, 99]));
 }
 
+/// Document 02, Job 7: the smallest forward limit from the present one, with its highest settings; or none, with a set for 1,000,000.
+#[test]
+fn raise_limit() {
+    let ask = |drawing: Drawing, source: u16, sink: u16, value: i32, edge: u16| {
+        let mut lent = Lent::new(drawing.bytes());
+        (lent.flows, lent.set, lent.value) = (vec![77; 3], vec![99], 55);
+        assert_eq!(unit::call(&Call::RaiseLimit { source, sink, value, edge }, &mut lent), 0);
+        assert!(lent.guards);
+        (lent.found, lent.value, lent.flows, lent.set[0])
+    };
+    assert_eq!(ask(a(), 0, 1, 13, 0), (1, 6, vec![6, 3, 4], 99));
+    assert_eq!(ask(a(), 0, 1, 6, 0), (1, 5, vec![0, 2, 4], 99));
+    assert_eq!(ask(a_with(&[(0, -2), (1, 5)]), 0, 1, 6, 0), (1, -1, vec![-1, 3, 4], 99));
+    assert_eq!(ask(a(), 0, 1, 1_000_008, 0), (0, 55, vec![77; 3], 1));
+    assert_eq!(ask(b(), 0, 1, 3, 0), (0, 55, vec![77; 3], 4));
+}
+
 #[test]
 fn levels() {
     let sheet = a_with(&[(0, 5), (1, 5), (2, 5), (3, 5), (4, 5), (5, 5)]).bytes();

@@ -8,6 +8,7 @@ pub enum Call {
     Solve { source: u16, sink: u16, value: i32 },
     Largest { source: u16, sink: u16 },
     LeastAndLargest { source: u16, sink: u16 },
+    RaiseLimit { source: u16, sink: u16, value: i32, edge: u16 },
     Mark { source: u16, sink: u16 },
     LevelsFromSettings,
     SettingsFromLevels,
@@ -24,6 +25,7 @@ impl Call {
             Call::Solve { .. } => "Solve",
             Call::Largest { .. } => "Largest",
             Call::LeastAndLargest { .. } => "Least and largest",
+            Call::RaiseLimit { .. } => "Raise limit",
             Call::Mark { .. } => "Mark",
             Call::LevelsFromSettings => "Levels from settings",
             Call::SettingsFromLevels => "Settings from levels",
@@ -215,6 +217,22 @@ extern "C" {
         place: *mut u16,
     ) -> u8;
     #[rustfmt::skip]
+    fn analyser_raise_limit(
+        sheet: *const u8,
+        sheet_length: usize,
+        source: u16,
+        sink: u16,
+        value: i32,
+        edge: u16,
+        flows: *mut i32,
+        flows_length: usize,
+        set: *mut u64,
+        set_length: usize,
+        found: *mut u8,
+        limit: *mut i32,
+        place: *mut u16,
+    ) -> u8;
+    #[rustfmt::skip]
     fn analyser_mark(
         sheet: *const u8,
         sheet_length: usize,
@@ -292,6 +310,8 @@ pub fn call(call: &Call, lent: &mut Lent) -> u8 {
             Call::LeastAndLargest { source, sink } => analyser_least_and_largest(sheet.pointer(), sheet.length(), source, sink,
                 low.pointer(), low.length(), below.pointer(), below.length(), high.pointer(), high.length(), above.pointer(), above.length(),
                 &mut lent.found, &mut lent.least, &mut lent.largest, &mut lent.place),
+            Call::RaiseLimit { source, sink, value, edge } => analyser_raise_limit(sheet.pointer(), sheet.length(), source, sink, value, edge,
+                flows.pointer(), flows.length(), set.pointer(), set.length(), &mut lent.found, &mut lent.value, &mut lent.place),
             Call::Mark { source, sink } => analyser_mark(sheet.pointer(), sheet.length(), source, sink, flows.pointer(), flows.length(), &mut lent.value,
                 &mut lent.place),
             Call::LevelsFromSettings => analyser_levels_from_settings(sheet.pointer(), sheet.length(), flows.pointer(), flows.length(),

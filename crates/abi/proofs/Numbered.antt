@@ -26,7 +26,10 @@ use Rattle.levels.specs.SettingsOf.{leveledChecks}
 use Rattle.analyser.specs.Solve.{solveChecks}
 use Rattle.analyser.specs.Largest.{largestChecks}
 use Rattle.ranges.specs.Range.{spanChecks}
+use Rattle.raising.specs.Raise.{limitChecks}
+use Rattle.raising.specs.Raise as raise
 use Rattle.analyser.specs.Range.{rangeChecks}
+use Rattle.analyser.specs.Raise.{raiseChecks}
 use Rattle.analyser.specs.Mark.{markChecks}
 use Rattle.analyser.specs.LevelsOf.{levelsChecks}
 use Rattle.analyser.specs.SettingsOf.{settingsChecks}
@@ -127,6 +130,12 @@ pub range-numbered : (s : List ℕ) (source sink : ℕ) (low : List ℤ) (below 
 unfolding Numbered rangeChecks spanChecks endChecks roomChecks
 range-numbered s source sink low below high above =
     numbered-append (sheetChecks s) _ (sheet-numbered s) (omega arith, (omega arith, (omega arith, (omega arith, tt))))
+
+pub raise-numbered : (s : List ℕ) (source sink : ℕ) (value : ℤ) (edge : ℕ) (flows : List ℤ) (set : List ℕ)
+    → Numbered (raiseChecks s source sink value edge flows set)
+unfolding Numbered raiseChecks limitChecks endChecks valueChecks raise.edgeChecks roomChecks
+raise-numbered s source sink value edge flows set =
+    numbered-append (sheetChecks s) _ (sheet-numbered s) (omega arith, (omega arith, (omega arith, (omega arith, (omega arith, tt)))))
 
 pub mark-numbered : (s : List ℕ) (source sink : ℕ) (flows : List ℤ) → Numbered (markChecks s source sink flows)
 unfolding Numbered markChecks paperChecks endChecks

@@ -14,6 +14,7 @@ use Rattle.sheets.specs.declared.WriteAnswer.the-variants as write
 use Rattle.analyser.specs.Solve.{solveChecks}
 use Rattle.analyser.specs.Largest.{largestChecks}
 use Rattle.analyser.specs.Range.{rangeChecks}
+use Rattle.analyser.specs.Raise.{raiseChecks}
 use Rattle.analyser.specs.Mark.{markChecks}
 use Rattle.analyser.specs.LevelsOf.{levelsChecks}
 use Rattle.analyser.specs.SettingsOf.{settingsChecks}
@@ -21,6 +22,7 @@ use Rattle.analyser.specs.Totals.{totalsChecks}
 use Rattle.questions.specs.declared.SolveAnswer.the-variants as solve
 use Rattle.questions.specs.declared.LargestAnswer.the-variants as largest
 use Rattle.ranges.specs.declared.RangeAnswer.the-variants as range
+use Rattle.raising.specs.declared.RaiseAnswer.the-variants as raise
 use Rattle.questions.specs.declared.MarkAnswer.the-variants as mark
 use Rattle.levels.specs.declared.LevelAnswer.the-variants as level
 use Rattle.totals.specs.declared.TotalsAnswer.the-variants as totals
@@ -33,6 +35,7 @@ use Rattle.abi.specs.Write.{TellsWrite}
 use Rattle.abi.specs.Solve.{TellsSolve}
 use Rattle.abi.specs.Largest.{TellsLargest}
 use Rattle.abi.specs.Range.{TellsRange}
+use Rattle.abi.specs.Raise.{TellsRaise}
 use Rattle.abi.specs.Mark.{TellsMark}
 use Rattle.abi.specs.Levels.{TellsLevels, TellsSettings}
 use Rattle.abi.specs.Totals.{TellsTotals}
@@ -46,6 +49,7 @@ use Rattle.abi.proofs.Numbered.{
   solve-numbered,
   largest-numbered,
   range-numbered,
+  raise-numbered,
   mark-numbered,
   levels-numbered,
   settings-numbered,
@@ -123,6 +127,13 @@ module _ {place place' result : ℕ} where
     range-says (range.None, h, t) = says-answer (h .0) (t .0) (t .4)
     range-says (range.Refused k p, h, t) =
         says-refusal k p (range-numbered s _ _ _ _ _ _) (h .0) (t .0) (t .4) (h .1, h .2, h .3, h .4, t .1, t .2, t .3)
+
+    pub raise-says : {source sink : ℕ} {value : ℤ} {edge : ℕ} {flows flows' : List ℤ} {set set' : List ℕ} {found found' : ℕ} {limit limit' : ℤ}
+        → TellsRaise s source sink value edge flows flows' set set' found found' limit limit' place place' result
+        → Says (raiseChecks s source sink value edge flows set) result place place' ((flows' ≡ flows) × (set' ≡ set) × (found' ≡ found) × (limit' ≡ limit))
+    raise-says (raise.Limit v, h, t) = says-answer (h .0) (t .0) (t .3)
+    raise-says (raise.None, h, t) = says-answer (h .0) (t .0) (t .3)
+    raise-says (raise.Refused k p, h, t) = says-refusal k p (raise-numbered s _ _ _ _ _ _) (h .0) (t .0) (t .3) (h .1, h .2, t .1, t .2)
 
     pub mark-says : {source sink : ℕ} {flows : List ℤ} {value value' : ℤ}
         → TellsMark s source sink flows value value' place place' result → Says (markChecks s source sink flows) result place place' (value' ≡ value)

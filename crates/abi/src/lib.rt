@@ -5,6 +5,7 @@ ghost use Rattle.abi.specs.Write.{TellsWrite};
 ghost use Rattle.abi.specs.Solve.{TellsSolve};
 ghost use Rattle.abi.specs.Largest.{TellsLargest};
 ghost use Rattle.abi.specs.Range.{TellsRange};
+ghost use Rattle.abi.specs.Raise.{TellsRaise};
 ghost use Rattle.abi.specs.Mark.{TellsMark};
 ghost use Rattle.abi.specs.Levels.{TellsLevels, TellsSettings};
 ghost use Rattle.abi.specs.Totals.{TellsTotals};
@@ -16,6 +17,7 @@ use practice::PracticeAnswer;
 use questions::LargestAnswer;
 use questions::MarkAnswer;
 use questions::SolveAnswer;
+use raising::RaiseAnswer;
 use ranges::RangeAnswer;
 use sheets::ReadAnswer;
 use sheets::WriteAnswer;
@@ -180,6 +182,42 @@ pub extern "C" fn analyser_least_and_largest(
             0
         }
         RangeAnswer::Refused(k, p) => {
+            *place = p;
+            k
+        }
+    }
+}
+
+// What the forward limit of an edge must be raised to. There is one: found is 1, limit is it, and the flows are written. None: found is 0, and the set is
+// written.
+#[no_mangle]
+pub extern "C" fn analyser_raise_limit(
+    sheet: &[u8],
+    source: u16,
+    sink: u16,
+    value: i32,
+    edge: u16,
+    flows: &mut [i32],
+    set: &mut [u64],
+    found: &mut u8,
+    limit: &mut i32,
+    place: &mut u16,
+) -> u8
+    ensures { λ r. ⌜ TellsRaise (now (sheet .entry)) source sink value edge (now (flows .entry)) (now (flows .exit)) (now (set .entry)) (now (set .exit))
+        (now (found .entry)) (now (found .exit)) (now (limit .entry)) (now (limit .exit)) (now (place .entry)) (now (place .exit)) r ⌝ }
+{
+    let answer = analyser::raise_limit(sheet, source, sink, value, edge, flows, set);
+    match answer {
+        RaiseAnswer::Limit(v) => {
+            *found = 1;
+            *limit = v;
+            0
+        }
+        RaiseAnswer::None => {
+            *found = 0;
+            0
+        }
+        RaiseAnswer::Refused(k, p) => {
             *place = p;
             k
         }

@@ -6,6 +6,7 @@ pub mod ThereAndBack
 pub mod Asked
 pub mod Demand3
 pub mod Range
+pub mod Raise
 pub mod Statements
 pub mod Districts
 pub mod ByNode

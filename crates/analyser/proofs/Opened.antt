@@ -34,6 +34,9 @@ use Rattle.maps.specs.Check.{Sound}
 use Rattle.totals.specs.Totals.{totalChecks, TotalGiven}
 use Rattle.totals.specs.declared.TotalsAnswer.{TotalsAnswer}
 use Rattle.totals.proofs.Giving.{total-after}
+use Rattle.raising.specs.Raise.{limitChecks, RaiseFound}
+use Rattle.raising.specs.declared.RaiseAnswer.{RaiseAnswer}
+use Rattle.raising.proofs.After.{raise-after}
 use Rattle.levels.specs.LevelsOf.{balancedChecks, LevelsGiven}
 use Rattle.levels.specs.SettingsOf.{leveledChecks, SettingsGiven}
 use Rattle.levels.specs.declared.LevelAnswer.{LevelAnswer}
@@ -41,6 +44,7 @@ use Rattle.levels.proofs.After.{levels-after, settings-after}
 use Rattle.analyser.specs.Solve.{solveChecks, Solves}
 use Rattle.analyser.specs.Largest.{largestChecks, FindsLargest}
 use Rattle.analyser.specs.Range.{rangeChecks, FindsRange}
+use Rattle.analyser.specs.Raise.{raiseChecks, RaisesLimit}
 use Rattle.analyser.specs.Mark.{markChecks, Marks}
 use Rattle.analyser.specs.LevelsOf.{levelsChecks, GivesLevels}
 use Rattle.analyser.specs.SettingsOf.{settingsChecks, GivesSettings}
@@ -61,6 +65,10 @@ module _ (s : List ℕ) (k p : ℕ) (first : FirstOf (sheetChecks s) k p) where
       → FirstOf (rangeChecks s source sink low below high above) k p
   unfolding rangeChecks
   range-refused source sink low below high above = first-left (sheetChecks s) _ k p first
+
+  pub raise-refused : (source sink : ℕ) (value : ℤ) (edge : ℕ) (flows : List ℤ) (set : List ℕ) → FirstOf (raiseChecks s source sink value edge flows set) k p
+  unfolding raiseChecks
+  raise-refused source sink value edge flows set = first-left (sheetChecks s) _ k p first
 
   pub mark-refused : (source sink : ℕ) (flows : List ℤ) → FirstOf (markChecks s source sink flows) k p
   unfolding markChecks
@@ -137,6 +145,17 @@ module _ (s : List ℕ) (o : Opened) (lefts tails rotations : List ℕ) (capacit
       range-after (sheetChecks s) (open' .0) (sheetDrawing s) _ source sink low low' below below' high high' above above' r
       (subst (λ 𝓓. RangeFound 𝓓 (spanChecks (𝓓 .map .nodes) (𝓓 .map .edges) source sink low below high above)
       source sink low low' below below' high high' above above' r) same h)
+
+  pub raise-sheet : (source sink : ℕ) {v value : ℤ} → v ≡ value → (edge : ℕ) (flows flows' : List ℤ) (set set' : List ℕ) (r : RaiseAnswer)
+      → RaiseFound (drawingOf (o .nodes) (o .edges) (o .outer) tails rotations capacities)
+      (limitChecks (o .nodes) (o .edges) source sink v edge flows set) source sink v edge flows flows' set set' r
+      → RaisesLimit s source sink value edge flows flows' set set' r
+  unfolding raiseChecks
+  raise-sheet source sink {value = value} e edge flows flows' set set' r h =
+      raise-after (sheetChecks s) (open' .0) (sheetDrawing s) _ source sink value edge flows flows' set set' r
+      (subst (λ 𝓓. RaiseFound 𝓓 (limitChecks (𝓓 .map .nodes) (𝓓 .map .edges) source sink value edge flows set)
+      source sink value edge flows flows' set set' r) same
+      (subst (λ w. RaiseFound held (limitChecks (o .nodes) (o .edges) source sink w edge flows set) source sink w edge flows flows' set set' r) e h))
 
   pub marked-sheet : (source sink : ℕ) (flows : List ℤ) (r : MarkAnswer)
       → Marked (drawingOf (o .nodes) (o .edges) (o .outer) tails rotations capacities)

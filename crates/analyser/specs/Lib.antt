@@ -5,4 +5,5 @@ pub mod Solve
 pub mod Largest
 pub mod Range
 pub mod Totals
+pub mod Raise
 pub mod Statements

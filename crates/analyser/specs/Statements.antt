@@ -1,8 +1,10 @@
--- What the course book prints of the operations on sheets (document 01, demands 2 and 3; document 02, Jobs 4, 6, 8 and 9), as records: a field for each
+-- What the course book prints of the operations on sheets (document 01, demands 2 and 3; document 02, Jobs 4, 6, 7, 8 and 9), as records: a field for each
 -- statement, with the printed words above it. Each is about every run of an operation: all that a field knows of a run is its contract, `Solves`,
--- `FindsLargest`, `FindsRange`, `Marks`, `GivesLevels`, `GivesSettings` or `GivesTotals`. A sheet or a question is accepted where no check of its list holds;
--- an accepted sheet is flat, because 12 is among its checks, in one part or several. Settings are any function from edges to whole numbers, deliveries any
--- whole number. The proofs are in proofs/Statements.antt, proofs/Range.antt, proofs/Districts.antt and proofs/ByNode.antt.
+-- `FindsLargest`, `FindsRange`, `RaisesLimit`, `Marks`, `GivesLevels`, `GivesSettings` or `GivesTotals`. A sheet or a question is accepted where no check of its
+-- list holds; an accepted sheet is flat, because 12 is among its checks, in one part or several. Settings are any function from edges to whole numbers,
+-- deliveries any whole number. The proofs are in proofs/Statements.antt, proofs/Range.antt, proofs/Raise.antt, proofs/Districts.antt and proofs/ByNode.antt.
+use 12 is among its checks, in one part or several. Settings are any function from edges to whole numbers, deliveries any
+-- whole number. The proofs are in proofs/Statements.antt, proofs/Range.antt, proofs/Raise.antt, proofs/Districts.antt and proofs/ByNode.antt.
 use Prim.Native.Nat.{ℕ, _+_, _*_, _≤_, _<_}
 use mathlib.Core.Path.{_≡_}
 use mathlib.Core.Logic.{_⊎_, _↔_}
@@ -19,6 +21,7 @@ use Rattle.maps.specs.Walk.{Walk, Components}
 use Rattle.maps.specs.Flat.{FlatInEach}
 use Rattle.maps.specs.Cut.{leaves, cut}
 use Rattle.flows.specs.Settings.{Within, Balanced, Carries}
+use Rattle.flows.specs.Highest.{Highest}
 use Rattle.flows.specs.ZeroFace.{LowestElsewhere, ZeroFace}
 use Rattle.flows.specs.Levels.{Levels}
 use Rattle.flows.specs.ProvingSet.{bound, Proves, member, size}
@@ -37,11 +40,15 @@ use Rattle.ranges.specs.declared.RangeAnswer.the-variants as range
 use Rattle.totals.specs.Subtotal.{subtotal}
 use Rattle.totals.specs.declared.TotalsAnswer.{TotalsAnswer}
 use Rattle.totals.specs.declared.TotalsAnswer.the-variants.{Total}
+use Rattle.raising.specs.Raised.{raised}
+use Rattle.raising.specs.declared.RaiseAnswer.{RaiseAnswer}
+use Rattle.raising.specs.declared.RaiseAnswer.the-variants as raise
 use Rattle.levels.specs.declared.LevelAnswer.{LevelAnswer}
 use Rattle.levels.specs.declared.LevelAnswer.the-variants.{Done}
 use Rattle.analyser.specs.Solve.{solveChecks, Solves}
 use Rattle.analyser.specs.Largest.{largestChecks, FindsLargest}
 use Rattle.analyser.specs.Range.{rangeChecks, FindsRange}
+use Rattle.analyser.specs.Raise.{raiseChecks, RaisesLimit}
 use Rattle.analyser.specs.Mark.{Marks}
 use Rattle.analyser.specs.LevelsOf.{GivesLevels}
 use Rattle.analyser.specs.SettingsOf.{GivesSettings}
@@ -254,3 +261,47 @@ pub record TotalsByNode : Type 0 where
   -- a set with no node: the total is 0, and nothing is written
   pub empty-set : (s set : List ℕ) (out out' : List ℤ) (t : ℤ) → ((v : ℕ) → v < nodesOf s → member set v ≡ false)
       → GivesTotals s set out out' (Total t) → (t ≡ pos 0) × (out' ≡ out)
+
+-- ── Document 02, Job 7: "Give the smallest forward limit, from its present one to 1,000,000, with which the delivery has settings, and the highest settings
+-- under it .. or none, when even 1,000,000 fails, with a set proving it for that limit". Of every run of `raise_limit`, known by its contract `RaisesLimit`. ──
+-- the settings x keep every limit with this forward limit of the edge, balance at every node but source and sink, and carry the delivery
+abbrev pub DeliversWith : List ℕ → (source sink : ℕ) → ℤ → (edge : ℕ) → (limit : ℤ) → (ℕ → ℤ) → Type 0
+DeliversWith s source sink value edge limit x = Carries (sheetMap s) (raised (capacityOf s) edge limit) source sink value x
+
+abbrev pub PossibleWith : List ℕ → (source sink : ℕ) → ℤ → (edge : ℕ) → (limit : ℤ) → Type 0
+PossibleWith s source sink value edge limit = (x : ℕ → ℤ) × DeliversWith s source sink value edge limit x
+
+pub record RaisedLimit : Type 0 where
+  -- a greater limit admits at least as much: the settings that carry a delivery carry it still
+  pub greater-admits : (s : List ℕ) (source sink : ℕ) (value : ℤ) (edge : ℕ) (v w : ℤ) (x : ℕ → ℤ)
+      → v ≤ℤ w → DeliversWith s source sink value edge v x → DeliversWith s source sink value edge w x
+  -- with the present limit nothing is changed
+  pub present-same : (s : List ℕ) (source sink : ℕ) (value : ℤ) (edge : ℕ) (x : ℕ → ℤ)
+      → DeliversWith s source sink value edge (capacityOf s (2 * edge)) x ↔ Delivers s source sink value x
+  -- "from its present one to 1,000,000"
+  pub limit-in-range : (s : List ℕ) (source sink : ℕ) (value : ℤ) (edge : ℕ) (flows flows' : List ℤ) (set set' : List ℕ) (v : ℤ)
+      → RaisesLimit s source sink value edge flows flows' set set' (raise.Limit v) → (capacityOf s (2 * edge) ≤ℤ v) × (v ≤ℤ pos 1000000)
+  -- "with which the delivery has settings": those given carry it, ..
+  pub limit-carries : (s : List ℕ) (source sink : ℕ) (value : ℤ) (edge : ℕ) (flows flows' : List ℤ) (set set' : List ℕ) (v : ℤ)
+      → RaisesLimit s source sink value edge flows flows' set set' (raise.Limit v) → DeliversWith s source sink value edge v (atℤ flows')
+  -- .. and are "the highest settings under it"
+  pub limit-highest : (s : List ℕ) (source sink : ℕ) (value : ℤ) (edge : ℕ) (flows flows' : List ℤ) (set set' : List ℕ) (v : ℤ)
+      → RaisesLimit s source sink value edge flows flows' set set' (raise.Limit v)
+      → Highest (sheetMap s) (outerOf s) (raised (capacityOf s) edge v) source sink value (atℤ flows')
+  -- "the smallest": with a limit from the present one on the delivery is possible exactly when the limit is at least the one given
+  pub limit-exactly : (s : List ℕ) (source sink : ℕ) (value : ℤ) (edge : ℕ) (flows flows' : List ℤ) (set set' : List ℕ) (v : ℤ)
+      → RaisesLimit s source sink value edge flows flows' set set' (raise.Limit v)
+      → (w : ℤ) → capacityOf s (2 * edge) ≤ℤ w → PossibleWith s source sink value edge w ↔ (v ≤ℤ w)
+  -- the present limit is the answer exactly when the delivery is possible as the sheet is
+  pub present-exactly : (s : List ℕ) (source sink : ℕ) (value : ℤ) (edge : ℕ) (flows flows' : List ℤ) (set set' : List ℕ) (answer : RaiseAnswer)
+      → NoneOf (raiseChecks s source sink value edge flows set) → RaisesLimit s source sink value edge flows flows' set set' answer
+      → (answer ≡ raise.Limit (capacityOf s (2 * edge))) ↔ Possible s source sink value
+  -- "none, when even 1,000,000 fails", and only then
+  pub none-exactly : (s : List ℕ) (source sink : ℕ) (value : ℤ) (edge : ℕ) (flows flows' : List ℤ) (set set' : List ℕ) (answer : RaiseAnswer)
+      → NoneOf (raiseChecks s source sink value edge flows set) → RaisesLimit s source sink value edge flows flows' set set' answer
+      → (answer ≡ raise.None) ↔ (PossibleWith s source sink value edge (pos 1000000) → ⊥)
+  -- "with a set proving it for that limit"
+  pub none-proves : (s : List ℕ) (source sink : ℕ) (value : ℤ) (edge : ℕ) (flows flows' : List ℤ) (set set' : List ℕ)
+      → RaisesLimit s source sink value edge flows flows' set set' raise.None
+      → (words : List ℕ) × SetWritten (nodesOf s) words set set'
+      × Proves (sheetMap s) (raised (capacityOf s) edge (pos 1000000)) source sink value (member words)

@@ -1,9 +1,10 @@
-// The analyser's operations on sheets. Document 01, "Operations": Solve, Largest, Mark, Levels from settings,
-// Settings from levels; document 02, Job 4: the least delivery beside the largest, and Job 9: totals by node. Each makes the network
-// record once, in its own frame, fills it from the sheet, and lends its arrays to the operation on drawings.
+// The analyser's operations on sheets. Document 01, "Operations": Solve, Largest, Mark, Levels from settings, Settings from levels. Document 02: the least
+// delivery beside the largest (Job 4), what a forward limit must be raised to (Job 7), totals by node (Job 9). Each makes the network record once, in its own
+// frame, fills it from the sheet, and lends its arrays to the operation on drawings.
 ghost use Rattle.analyser.specs.Solve.{Solves};
 ghost use Rattle.analyser.specs.Largest.{FindsLargest};
 ghost use Rattle.analyser.specs.Range.{FindsRange};
+ghost use Rattle.analyser.specs.Raise.{RaisesLimit};
 ghost use Rattle.analyser.specs.Mark.{Marks};
 ghost use Rattle.analyser.specs.LevelsOf.{GivesLevels};
 ghost use Rattle.analyser.specs.SettingsOf.{GivesSettings};
@@ -12,6 +13,7 @@ use levels::LevelAnswer;
 use questions::LargestAnswer;
 use questions::MarkAnswer;
 use questions::SolveAnswer;
+use raising::RaiseAnswer;
 use ranges::RangeAnswer;
 use refusals::Verdict;
 use sheets::Network;
@@ -182,6 +184,63 @@ pub fn least_and_largest(
         below,
         high,
         above,
+    )
+}
+
+// What the forward limit of an edge must be raised to: the smallest, from its present one to 1,000,000, with which the value can be carried from source to
+// sink, and the highest flow under it; or a set of nodes that proves that it cannot be with 1,000,000. The flows are written if there is one, the set if not.
+pub fn raise_limit(
+    sheet: &[u8],
+    source: u16,
+    sink: u16,
+    value: i32,
+    edge: u16,
+    flows: &mut [i32],
+    set: &mut [u64],
+) -> RaiseAnswer
+    ensures { λ r. ⌜ RaisesLimit (now (sheet .entry)) source sink value edge (now (flows .entry)) (now (flows .exit)) (now (set .entry)) (now (set .exit)) r ⌝ }
+{
+    let mut network = Network {
+        nodes: 0,
+        edges: 0,
+        faces: 0,
+        outer: 0,
+        tails: [0u16; 1024],
+        rotations: [0u16; 1024],
+        capacities: [0i32; 1024],
+        lefts: [0u16; 1024],
+    };
+    let opened = sheets::open(sheet, &mut network.lefts);
+    let verdict = opened.verdict;
+    if let Verdict::Refused(k, p) = verdict {
+        return RaiseAnswer::Refused(k, p);
+    }
+    network.nodes = opened.nodes;
+    network.edges = opened.edges;
+    network.faces = opened.faces;
+    network.outer = opened.outer;
+    sheets::fill_tails(sheet, opened.edges, &mut network.tails);
+    sheets::fill_rotations(sheet, opened.edges, &mut network.rotations);
+    sheets::fill_capacities(sheet, opened.edges, &mut network.capacities);
+    let nodes = network.nodes;
+    let edges = network.edges;
+    let faces = network.faces;
+    let outer = network.outer;
+    raising::raise_limit(
+        &network.tails,
+        &network.rotations,
+        &network.lefts,
+        &network.capacities,
+        nodes,
+        edges,
+        faces,
+        outer,
+        source,
+        sink,
+        value,
+        edge,
+        flows,
+        set,
     )
 }
 

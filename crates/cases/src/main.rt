@@ -29,6 +29,7 @@ fn run(
         10 => operations::least_and_largest(s, first, second, set, second_set),
         19 => operations::totals(s, first, set),
         15 => operations::practice(s, bytes),
+        11 => operations::raise_limit(s, first, set),
         _ => say::say(b": no such operation"),
     }
 }

@@ -7,6 +7,7 @@ use practice::PracticeAnswer;
 use questions::LargestAnswer;
 use questions::MarkAnswer;
 use questions::SolveAnswer;
+use raising::RaiseAnswer;
 use ranges::RangeAnswer;
 use sheets::ReadAnswer;
 use sheets::WriteAnswer;
@@ -104,6 +105,25 @@ pub fn least_and_largest(
     let source = case::half(s, 2);
     let sink = case::half(s, 4);
     say_range(analyser::least_and_largest(case::part(s, 1), source, sink, low, below, high, above));
+}
+
+fn say_raise(answer: RaiseAnswer) {
+    match answer {
+        RaiseAnswer::Limit(v) => {
+            say::say(b": limit");
+            say::signed(v);
+        }
+        RaiseAnswer::None => say::say(b": none"),
+        RaiseAnswer::Refused(k, p) => say::refused(k, p),
+    }
+}
+
+pub fn raise_limit(s: &[u8], flows: &mut [i32], set: &mut [u64]) {
+    let source = case::half(s, 2);
+    let sink = case::half(s, 4);
+    let value = case::word(s, 6);
+    let edge = case::half(s, 10);
+    say_raise(analyser::raise_limit(case::part(s, 1), source, sink, value, edge, flows, set));
 }
 
 fn say_mark(answer: MarkAnswer) {

@@ -72,6 +72,9 @@ above-low low high value found l apart h e = by (lt-or-ge low high)
 drop-tabulate : (n : ℕ) (f : ℕ → ℤ) (rest : List ℤ) → drop n (tabulate n f ++ rest) ≡ rest
 drop-tabulate n f rest = ap (λ k. drop k (tabulate n f ++ rest)) (sym (length-tabulate n f)) ∙ drop-append-seam (tabulate n f) rest
 
+pub filled-again : (n : ℕ) (f g : ℕ → ℤ) (before flows : List ℤ) → flows ≡ filled n g before → filled n f flows ≡ filled n f before
+filled-again n f g before flows e = ap (λ l. tabulate n f ++ l) (ap (drop n) e ∙ drop-tabulate n g (drop n before))
+
 -- the ground of a question: a plane map with the capacities of a sheet, and two ends
 pub record Ground (𝓜 : Map) (c : ℕ → ℤ) (s t : ℕ) : Type 0 where
   pub plane : Plane 𝓜
@@ -145,7 +148,7 @@ module _ {𝓜 : Map} (outer : ℕ) {c : ℕ → ℤ} {s t : ℕ} (ground : Grou
     carried value flows' inside d = record { ceiling = b .ceiling; floor = (d .0, d .1, d .2 ∙ again found (b .floor)) }
       where
         again : (f : Bool) → Floor 𝓜 outer c s t before flows (flagged B) low f → filled (𝓜 .edges) (d .0) flows ≡ filled (𝓜 .edges) (d .0) before
-        again true h = ap (λ l. tabulate (𝓜 .edges) (d .0) ++ l) (ap (drop (𝓜 .edges)) (h .2) ∙ drop-tabulate (𝓜 .edges) (h .0) (drop (𝓜 .edges) before))
+        again true h = filled-again (𝓜 .edges) (d .0) (h .0) before flows (h .2)
         again false h = ap (filled (𝓜 .edges) (d .0)) (h .0)
 
     -- ── a proving set at the source, at the sink, beside both ──

@@ -1,18 +1,13 @@
--- The small steps of the probing, over numbers that the machine holds as bits: a negative, a half, the value to probe, and whether the bounds have met.
+-- The small steps of the probing, over numbers that the machine holds as bits: a negative, a half, and the value to probe.
 use mathlib.Core.Path.{_≡_, sym, _∙_, ap, ap₂, subst}
-use mathlib.Core.Bool.{true, false}
-use Prim.Native.Nat.{ℕ, _/_}
 use native.Mathlib.Omega.{arith}
-use lib.Dec.{eqb}
-use lib.IntN.{ℤ, pos, negsuc, negℤ, _-ℤ_}
+use lib.IntN.{ℤ, pos, negℤ, _+ℤ_, _-ℤ_}
 use lib.Signed.{_≤ℤ_, _<ℤ_}
 use mir.Syntax.{w32}
 use mir.Val.{toZ, ofZ, SFits}
-use mir.ValLaws.{toZ-pos}
 use Rattle.integers.specs.inner.Limited.{Limited}
-use Rattle.integers.proofs.Omega.{atoms₁, atoms₃, atoms₄, parts, equal, at-most, less, from-equal, from-at-most, from-less}
+use Rattle.integers.proofs.Omega.{atoms₁, atoms₂, atoms₃, atoms₄, parts, equal, at-most, less, from-equal, from-at-most, from-less}
 use Rattle.integers.proofs.Limits.{limited-neg, limited-minus}
-use Rattle.integers.proofs.Tests.{eqb-eq, eqb-ne}
 use Rattle.signed.proofs.Laws.{number-of-bits}
 use Rattle.signed.proofs.Limits.{limited-fits, same-bits}
 
@@ -26,13 +21,15 @@ negative-is {x} f = ap (λ y. pos 0 -ℤ y) (number-of-bits x f) ∙ zero-less x
 pub negative-fits : {x : ℤ} → SFits w32 x → Limited 2048000000 x → SFits w32 (pos 0 -ℤ toZ w32 (ofZ w32 x))
 negative-fits {x} f h = subst (SFits w32) (sym (negative-is f)) (limited-fits 2048000000 (negℤ x) (omega arith) (limited-neg h))
 
--- ── half of a number that is not below zero: its bits are the number itself ──
-pub halved : (x r : ℤ) (n : ℕ) → SFits w32 x → pos 0 ≤ℤ x → n ≡ ofZ w32 x → r ≡ toZ w32 (n / 2) → (pos 0 ≤ℤ r) × (r ≤ℤ x) × (pos 0 <ℤ x → r <ℤ x)
-halved (pos m) r n f h is-n is-r =
-    let is-half : r ≡ pos (m / 2) = is-r ∙ ap (λ k. toZ w32 (k / 2)) is-n ∙ toZ-pos w32 (m / 2) (omega (arith, f .sfits)) in
-    rw is-half
-    (at-most (search parts) (omega arith), at-most (search parts) (omega arith), λ l. less (search parts) (omega (arith, from-less l (search parts))))
-halved (negsuc m) r n f h is-n is-r = absurd (h .le)
+-- ── half of a number that is not below zero ──
+pub half-of : {x half : ℤ} → pos 0 ≤ℤ x → ((half +ℤ half) ≤ℤ x) × (x ≤ℤ ((half +ℤ half) +ℤ pos 1))
+    → (pos 0 ≤ℤ half) × (half ≤ℤ x) × (pos 0 <ℤ x → half <ℤ x)
+half-of {x} {half} h r =
+    let a = atoms₂ x half in (
+      at-most (search parts) (omega (arith, from-at-most h (search parts), from-at-most (r .1) (search parts))),
+      at-most (search parts) (omega (arith, from-at-most h (search parts), from-at-most (r .0) (search parts), from-at-most (r .1) (search parts))),
+      λ l. less (search parts) (omega (arith, from-less l (search parts), from-at-most (r .0) (search parts), from-at-most (r .1) (search parts))),
+    )
 
 -- ── the value to probe ──
 module _ {low high : ℤ} (ordered : low ≤ℤ high) (small-low : Limited 600000000 low) (small-high : Limited 600000000 high) where
@@ -94,11 +91,3 @@ module _ {low high : ℤ} (ordered : low ≤ℤ high) (small-low : Limited 60000
                   (arith, from-equal is-between (search parts), from-at-most (halves .1) (search parts), from-at-most (small-low .low) (search parts)));
               high = at-most (search parts) (omega (arith, from-at-most (halves .0) (search parts), from-at-most (small-high .high) (search parts)));
             }
-
--- ── the bounds have met where their bits are one ──
-module _ {low high : ℤ} (f : SFits w32 low) (g : SFits w32 high) where
-  pub met-of-test : eqb (ofZ w32 low) (ofZ w32 high) ≡ true → low ≡ high
-  met-of-test e = sym (number-of-bits low f) ∙ ap (toZ w32) (eqb-eq (ofZ w32 low) (ofZ w32 high) e) ∙ number-of-bits high g
-
-  pub apart-of-test : eqb (ofZ w32 low) (ofZ w32 high) ≡ false → low ≡ high → ⊥
-  apart-of-test e q = eqb-ne (ofZ w32 low) (ofZ w32 high) e (ap (ofZ w32) q)

@@ -48,14 +48,6 @@ fn is_less(x: i32, y: i32) -> bool
     x < y
 }
 
-// Half of a number that is not below zero, rounded down.
-fn halve(x: i32) -> i32
-    requires { ⌜ pos 0 ≤ℤ x ⌝ }
-    ensures { λ r. ⌜ (pos 0 ≤ℤ r) × (r ≤ℤ x) × (pos 0 <ℤ x → r <ℤ x) ⌝ }
-{
-    signed::of_bits(signed::to_bits(x) / 2)
-}
-
 // The value to probe: the high bound or the middle in turn. The high bound, carried, is the answer at once; the middle halves what is left.
 fn next_value(low: i32, high: i32, top: bool) -> i32
     requires { ⌜ (low ≤ℤ high) × Limited 600000000 low × Limited 600000000 high ⌝ }
@@ -64,7 +56,7 @@ fn next_value(low: i32, high: i32, top: bool) -> i32
     if top {
         return high;
     }
-    signed::minus(high, halve(signed::minus(high, low)))
+    signed::minus(high, signed::halve(signed::minus(high, low)))
 }
 
 // Whether the bounds have met at a value that is carried.

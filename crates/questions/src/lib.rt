@@ -29,8 +29,8 @@ pub fn check_ends(nodes: usize, source: usize, sink: usize) -> Verdict
     Verdict::Passed
 }
 
-// Whether a value is not from -600,000,000 to 600,000,000.
-fn value_outside(value: i32) -> bool
+// Check 15: whether a value is not from -600,000,000 to 600,000,000.
+pub fn value_outside(value: i32) -> bool
     ensures { λ r. ⌜ Decides (ValueOutside value) r ⌝ }
 {
     if value < -600000000 {

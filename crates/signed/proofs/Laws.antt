@@ -1,15 +1,18 @@
--- Laws of signed machine numbers: 32 bits and back, sums and differences of two i32 fit 64 bits, and the bits of a number below 0 turned over.
-use mathlib.Core.Path.{_≡_, refl, ap, _∙_}
+-- Laws of signed machine numbers: 32 bits and back, sums and differences of two i32 fit 64 bits, the bits of a number below 0 turned over, and half of one
+-- that is not below 0.
+use mathlib.Core.Path.{_≡_, refl, sym, ap, _∙_}
 use mathlib.Core.Bool.{Bool, true, false, cond}
-use Prim.Native.Nat.{ℕ, zero, suc, _+_, _-_, _≤_, _<_}
+use Prim.Native.Nat.{ℕ, zero, suc, _+_, _-_, _/_, _≤_, _<_}
 use native.Mathlib.Omega.{arith}
 use lib.IntN.{ℤ, pos, negsuc, _+ℤ_, _-ℤ_, negℤ, subℕ, natAbs}
-use lib.Signed.{mag, ltZ, nonNeg}
-use lib.Dec.{T, ltb}
+use lib.Signed.{mag, ltZ, nonNeg, _≤ℤ_}
+use lib.Dec.{T, eqb, ltb}
 use borrow.Author.Tests.{ltb-true}
 use mir.Syntax.{w32, w64}
 use mir.Val.{SFits, toZ, ofZ}
 use mir.ValLaws.{toZ-pos, toZ-ofZ, toZ-fits, ofZ-toZ, ofZ-fits}
+use Rattle.integers.proofs.Omega.{parts, at-most}
+use Rattle.integers.proofs.Tests.{eqb-eq, eqb-ne}
 
 -- ── 32 bits and back ──
 pub number-of-bits : (x : ℤ) → SFits w32 x → toZ w32 (ofZ w32 x) ≡ x
@@ -24,6 +27,14 @@ bits-below x f = ofZ-fits w32 x f .fits
 
 pub number-fits : (n : ℕ) → n < 4294967296 → SFits w32 (toZ w32 n)
 number-fits n h = toZ-fits w32 n (record { fits = h })
+
+-- ── numbers are one where their bits are ──
+module _ {x y : ℤ} (f : SFits w32 x) (g : SFits w32 y) where
+  pub same-of-test : eqb (ofZ w32 x) (ofZ w32 y) ≡ true → x ≡ y
+  same-of-test e = sym (number-of-bits x f) ∙ ap (toZ w32) (eqb-eq (ofZ w32 x) (ofZ w32 y) e) ∙ number-of-bits y g
+
+  pub apart-of-test : eqb (ofZ w32 x) (ofZ w32 y) ≡ false → x ≡ y → ⊥
+  apart-of-test e q = eqb-ne (ofZ w32 x) (ofZ w32 y) e (ap (ofZ w32) q)
 
 -- ── what fits 32 bits, at 64 ──
 pub fits-wider : {x : ℤ} → SFits w32 x → SFits w64 x
@@ -66,3 +77,10 @@ turned-over (negsuc k) f h = toZ-pos w32 (4294967295 - (4294967296 - suc k)) (om
 pub not-below : (x : ℤ) → ltZ x (pos 0) ≡ false → T (nonNeg x) × (natAbs x ≡ ofZ w32 x)
 not-below (pos n) h = (tt, refl)
 not-below (negsuc k) h = let z : _≡_ {A = ℕ} 0 1 = cc in absurd (omega arith)
+
+-- ── half of a number that is not below 0: its bits are the number itself ──
+pub halved : (x r : ℤ) (n : ℕ) → SFits w32 x → pos 0 ≤ℤ x → n ≡ ofZ w32 x → r ≡ toZ w32 (n / 2) → ((r +ℤ r) ≤ℤ x) × (x ≤ℤ ((r +ℤ r) +ℤ pos 1))
+halved (pos m) r n f h is-n is-r =
+    let is-half : r ≡ pos (m / 2) = is-r ∙ ap (λ k. toZ w32 (k / 2)) is-n ∙ toZ-pos w32 (m / 2) (omega (arith, f .sfits)) in
+    rw is-half (at-most (search parts) (omega arith), at-most (search parts) (omega arith))
+halved (negsuc m) r n f h is-n is-r = absurd (h .le)

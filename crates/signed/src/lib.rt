@@ -1,7 +1,8 @@
 // Signed machine arithmetic, one step to a function, with contracts in ℤ: sums and differences of two i32,
-// at 32 bits where they fit and exact at 64, and an i32 made of its bits.
+// at 32 bits where they fit and exact at 64, an i32 made of its bits, and half of one.
 ghost use mathlib.Core.Path.{_≡_};
-ghost use lib.IntN.{_+ℤ_, _-ℤ_};
+ghost use lib.IntN.{pos, _+ℤ_, _-ℤ_};
+ghost use lib.Signed.{_≤ℤ_};
 ghost use mir.Syntax.{w32, w64};
 ghost use mir.Val.{toZ, ofZ, SFits};
 
@@ -94,4 +95,12 @@ pub fn to_bits(x: i32) -> u32
     } else {
         x as u32
     }
+}
+
+// Half of a number that is not below zero, rounded down.
+pub fn halve(x: i32) -> i32
+    requires { ⌜ pos 0 ≤ℤ x ⌝ }
+    ensures { λ r. ⌜ ((r +ℤ r) ≤ℤ x) × (x ≤ℤ ((r +ℤ r) +ℤ pos 1)) ⌝ }
+{
+    of_bits(to_bits(x) / 2)
 }

@@ -1,10 +1,11 @@
 -- `maximum::next_value` meets its contract: the high bound, or the high bound less half of what lies between the bounds.
 use mathlib.Core.Path.{_≡_, sym, _∙_, ap₂, subst}
-use lib.IntN.{_-ℤ_}
+use lib.IntN.{pos, _-ℤ_}
+use lib.Signed.{_≤ℤ_, _<ℤ_}
 use mir.Syntax.{w32}
 use mir.Val.{toZ, ofZ, SFits}
 use Rattle.signed.proofs.Laws.{number-of-bits}
-use Rattle.maximum.proofs.Stepping.{between-is, between-fits, between-positive, at-top, at-middle, middle-fits}
+use Rattle.maximum.proofs.Stepping.{half-of, between-is, between-fits, between-positive, at-top, at-middle, middle-fits}
 use Rattle.maximum.proofs.next_value.Statement.{statement}
 use Rattle.maximum.proofs.next_value.Tie as tie
 
@@ -17,6 +18,13 @@ between c =
 -- the half, read back from its bits
 half : (c : tie.After-halve) → toZ w32 (ofZ w32 (c .halve .result)) ≡ c .halve .result
 half c = number-of-bits _ (record { sfits = c .halve .ok })
+
+halves : (c : tie.After-halve)
+    → (pos 0 ≤ℤ c .halve .result) × (c .halve .result ≤ℤ toZ w32 (ofZ w32 (c .before .minus .result)))
+    × (pos 0 <ℤ toZ w32 (ofZ w32 (c .before .minus .result)) → c .halve .result <ℤ toZ w32 (ofZ w32 (c .before .minus .result)))
+halves c =
+    let h = c .before .before .before .pre in
+    half-of (between-positive (h .0) (h .1) (h .2) _ (between (c .before))) (c .halve .ensures)
 
 returns : tie.Need-returns
 returns c =
@@ -38,13 +46,13 @@ minus-requires-2 c κs =
     let s = c .before .before .before in
     let h = s .pre in
     subst (λ y. SFits w32 (toZ w32 (ofZ w32 (s .args .high)) -ℤ y)) (sym (half c))
-    (middle-fits (h .0) (h .1) (h .2) _ _ (between (c .before)) (c .halve .ensures))
+    (middle-fits (h .0) (h .1) (h .2) _ _ (between (c .before)) (halves c))
 
 returns-2 : tie.Need-returns-2
 returns-2 c =
     let s = c .before .before .before .before in
     let h = s .pre in
-    at-middle (h .0) (h .1) (h .2) _ _ (between (c .before .before)) (c .before .halve .ensures) _
+    at-middle (h .0) (h .1) (h .2) _ _ (between (c .before .before)) (halves (c .before)) _
     (number-of-bits _ (record { sfits = c .minus2 .ok }) ∙ c .minus2 .ensures ∙ ap₂ (λ x y. x -ℤ y) (number-of-bits _ (s .fits .high)) (half (c .before)))
 
 pub next-value-spec : {M : Type 1} → statement M

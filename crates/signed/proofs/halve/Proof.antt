@@ -1,12 +1,11 @@
--- `maximum::halve` meets its contract: the bits of a number that is not below zero are the number itself.
+-- `signed::halve` meets its contract: the bits of a number that is not below zero are the number itself.
 use mathlib.Core.Path.{_∙_, ap}
 use borrow.Author.Needs.{needs}
 use mir.Syntax.{w32}
 use mir.Val.{ofZ}
-use Rattle.signed.proofs.Laws.{number-of-bits}
-use Rattle.maximum.proofs.Stepping.{halved}
-use Rattle.maximum.proofs.halve.Statement.{statement}
-use Rattle.maximum.proofs.halve.Tie as tie
+use Rattle.signed.proofs.Laws.{number-of-bits, halved}
+use Rattle.signed.proofs.halve.Statement.{statement}
+use Rattle.signed.proofs.halve.Tie as tie
 
 to-bits-requires : tie.Need-to-bits-requires
 to-bits-requires c κs = search needs
