@@ -1,6 +1,6 @@
 -- Pieces of text placed one after another make one piece; the room that each asks, and lines added one by one.
 use mathlib.Core.Path.{_≡_, refl, sym, ap, ap₂, subst, _∙_}
-use mathlib.Core.List.{List, [], _∷_, _++_}
+use mathlib.Core.List.{List, [], _++_}
 use Prim.Native.Nat.{ℕ, zero, suc, _+_, _*_, _<_, _≤_}
 use native.Mathlib.Omega.{arith}
 use native.Mathlib.Nat.{add-zero, mul-suc}
@@ -8,15 +8,13 @@ use native.Mathlib.Numerals.{add-one}
 use lib.ListN.{length, take, drop, length-append}
 use Rattle.fields.specs.Fields.{put}
 use Rattle.fields.proofs.Laws.{put-length}
+use Rattle.texts.specs.Lines.{lines}
 use Rattle.texts.specs.inner.Placed.{Placed}
 use Rattle.texts.proofs.Pieces.{put-append, put-none}
-use mathlib.Core.Bool.{Bool, true, false, cond}
-use lib.IntN.{ℤ}
-use Rattle.integers.specs.inner.Limited.{Limited}
-use Rattle.flows.specs.ProvingSet.{member}
-use Rattle.texts.specs.Decimal.{decimal, number}
-use Rattle.texts.proofs.Length.{decimal-length, number-length}
-use Rattle.key_text.specs.Text.{lines, edgeLine, canLine, canText, nodeLine, cannotLine, cannotText, refusedText}
+
+-- placed is what it is the text of, under either name
+pub placed-as : {A : Type 0} (text : A → List ℕ) {x y : A} (at end : ℕ) (l m : List ℕ) → x ≡ y → Placed at (text x) l m end → Placed at (text y) l m end
+placed-as text at end l m e p = subst (λ z. Placed at (text z) l m end) e p
 
 -- nothing yet
 pub placed-none : (at : ℕ) (l : List ℕ) → Placed at [] l l at
@@ -78,70 +76,6 @@ lines-length most (suc n) line h =
     let len = length-append (lines n line) (line n) in
     let all : most * suc n ≡ most * n + most = mul-suc most n in
     omega (arith, so-far, last, len, all)
-
--- ── how long lines are ──
--- three digits, a blank, a sign and seven digits, a line feed
-pub edge-line-length : (e : ℕ) (flow : ℤ) → e < 1000 → Limited 1000000 flow → length (edgeLine e flow) ≤ 13
-unfolding edgeLine
-edge-line-length e flow h l =
-    let first = decimal-length 2 e (omega arith) in
-    let second = number-length 6 1000000 flow (omega arith) l in
-    let a = length-append (decimal e) (32 ∷ (number flow ++ (10 ∷ []))) in
-    let b = length-append (number flow) (10 ∷ []) in
-    omega (arith, first, second, a, b)
-
-pub node-line-length : (words : List ℕ) (v : ℕ) → v < 1000 → length (nodeLine words v) ≤ 4
-unfolding nodeLine
-node-line-length words v h = by (member words v)
-  where
-    by : (b : Bool) → length (cond b (decimal v ++ (10 ∷ [])) []) ≤ 4
-    by true = let first = decimal-length 2 v (omega arith) in let a = length-append (decimal v) (10 ∷ []) in omega (arith, first, a)
-    by false = omega arith
-
--- "can ", a sign and nine digits, a line feed
-pub can-line-length : (value : ℤ) → Limited 600000000 value → length (canLine value) ≤ 15
-unfolding canLine
-can-line-length value l =
-    let n = number-length 8 600000000 value (omega arith) l in
-    let a = length-append (number value) (10 ∷ []) in
-    omega (arith, n, a)
-
--- "cannot ", a sign and nine digits, a blank, five digits, a line feed
-pub cannot-line-length : (value : ℤ) (size : ℕ) → size < 65536 → Limited 600000000 value → length (cannotLine value size) ≤ 24
-unfolding cannotLine
-cannot-line-length value size h l =
-    let n = number-length 8 600000000 value (omega arith) l in
-    let m = decimal-length 4 size (omega arith) in
-    let a = length-append (number value) (32 ∷ (decimal size ++ (10 ∷ []))) in
-    let b = length-append (decimal size) (10 ∷ []) in
-    omega (arith, n, m, a, b)
-
--- ── how long keys are ──
-pub can-text-length : (value : ℤ) (edges : ℕ) (x : ℕ → ℤ) → Limited 600000000 value → edges ≤ 512
-    → ((e : ℕ) → e < edges → Limited 1000000 (x e)) → length (canText value edges x) ≤ 15 + 13 * edges
-unfolding canText
-can-text-length value edges x l few limited =
-    let line : ℕ → List ℕ = λ e. edgeLine e (x e) in
-    let all = lines-length 13 edges line (λ i h. edge-line-length i (x i) (omega arith) (limited i h)) in
-    let first = can-line-length value l in
-    let n = length-append (canLine value) (lines edges line) in
-    omega (arith, all, first, n)
-
-pub cannot-text-length : (value : ℤ) (size nodes : ℕ) (words : List ℕ) → size < 65536
-    → Limited 600000000 value → nodes ≤ 513 → length (cannotText value size nodes words) ≤ 24 + 4 * nodes
-unfolding cannotText
-cannot-text-length value size nodes words h l few =
-    let all = lines-length 4 nodes (nodeLine words) (λ i g. node-line-length words i (omega arith)) in
-    let first = cannot-line-length value size h l in
-    let n = length-append (cannotLine value size) (lines nodes (nodeLine words)) in
-    omega (arith, all, first, n)
-
-pub refused-text-length : (k : ℕ) → k < 256 → length (refusedText k) ≤ 12
-unfolding refusedText
-refused-text-length k h =
-    let n = decimal-length 2 k (omega arith) in
-    let a = length-append (decimal k) (10 ∷ []) in
-    omega (arith, n, a)
 
 -- lines that agree make one text
 pub lines-agree : (n : ℕ) (f g : ℕ → List ℕ) → ((i : ℕ) → i < n → f i ≡ g i) → lines n f ≡ lines n g
