@@ -1,0 +1,9 @@
+-- The DIMACS text: arcs and settings, the text read back, its greatest flow.
+pub mod Arcs
+pub mod Settling
+pub mod Largest
+pub mod Parting
+pub mod ReadBack
+pub mod Greatest
+pub mod Length
+pub mod Examples

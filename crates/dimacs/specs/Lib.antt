@@ -1,0 +1,5 @@
+pub mod Problem
+pub mod Reading
+pub mod Text
+pub mod Drawn
+pub mod Write

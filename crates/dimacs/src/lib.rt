@@ -1,0 +1,5 @@
+// The DIMACS maximum flow text.
+pub enum DimacsAnswer {
+    Bytes(usize),
+    Refused(u8, u16),
+}
