@@ -6,4 +6,6 @@ pub mod Parting
 pub mod ReadBack
 pub mod Greatest
 pub mod Length
+pub mod Joined
+pub mod Writing
 pub mod Examples

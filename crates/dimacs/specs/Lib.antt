@@ -3,3 +3,4 @@ pub mod Reading
 pub mod Text
 pub mod Drawn
 pub mod Write
+pub mod inner

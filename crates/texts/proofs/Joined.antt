@@ -1,5 +1,6 @@
 -- Pieces of text placed one after another make one piece; the room that each asks, and lines added one by one.
 use mathlib.Core.Path.{_≡_, refl, sym, ap, ap₂, subst, _∙_}
+use mathlib.Core.Logic.{⊎-elim}
 use mathlib.Core.List.{List, [], _++_}
 use Prim.Native.Nat.{ℕ, zero, suc, _+_, _*_, _<_, _≤_}
 use native.Mathlib.Omega.{arith}
@@ -10,6 +11,7 @@ use Rattle.fields.specs.Fields.{put}
 use Rattle.fields.proofs.Laws.{put-length}
 use Rattle.texts.specs.Lines.{lines}
 use Rattle.texts.specs.inner.Placed.{Placed}
+use Rattle.texts.proofs.Digits.{below-or-not}
 use Rattle.texts.proofs.Pieces.{put-append, put-none}
 
 -- placed is what it is the text of, under either name
@@ -76,6 +78,21 @@ lines-length most (suc n) line h =
     let len = length-append (lines n line) (line n) in
     let all : most * suc n ≡ most * n + most = mul-suc most n in
     omega (arith, so-far, last, len, all)
+
+-- how long the lines are with one more, and with others behind them
+pub lines-next : (n : ℕ) (line : ℕ → List ℕ) → length (lines (n + 1) line) ≡ length (lines n line) + length (line n)
+unfolding lines
+lines-next n line = ap (λ k. length (lines k line)) (add-one n) ∙ length-append (lines n line) (line n)
+
+pub lines-within : (n d : ℕ) (line : ℕ → List ℕ) → d ≤ n → length (lines d line) ≤ length (lines n line)
+lines-within zero d line h = let e : d ≡ 0 = omega arith in omega (arith, ap (λ k. length (lines k line)) e)
+lines-within (suc n) d line h = ⊎-elim (λ l. omega (arith, lines-within n d line (omega arith), more)) same (below-or-not d (suc n))
+  where
+    more : length (lines (suc n) line) ≡ length (lines n line) + length (line n)
+    more = ap (λ k. length (lines k line)) (sym (add-one n)) ∙ lines-next n line
+
+    same : suc n ≤ d → length (lines d line) ≤ length (lines (suc n) line)
+    same l = let e : d ≡ suc n = omega arith in omega (arith, ap (λ k. length (lines k line)) e)
 
 -- lines that agree make one text
 pub lines-agree : (n : ℕ) (f g : ℕ → List ℕ) → ((i : ℕ) → i < n → f i ≡ g i) → lines n f ≡ lines n g
