@@ -34,12 +34,16 @@ use Rattle.levels.specs.LevelsOf.{balancedChecks, LevelsGiven}
 use Rattle.levels.specs.SettingsOf.{leveledChecks, SettingsGiven}
 use Rattle.levels.specs.declared.LevelAnswer.{LevelAnswer}
 use Rattle.levels.proofs.After.{levels-after, settings-after}
+use Rattle.dimacs.specs.Write.{textChecks, TextWritten}
+use Rattle.dimacs.specs.declared.DimacsAnswer.{DimacsAnswer}
+use Rattle.dimacs.proofs.Writing.{text-after}
 use Rattle.analyser.specs.Solve.{solveChecks, Solves}
 use Rattle.analyser.specs.Largest.{largestChecks, FindsLargest}
 use Rattle.analyser.specs.Range.{rangeChecks, FindsRange}
 use Rattle.analyser.specs.Mark.{markChecks, Marks}
 use Rattle.analyser.specs.LevelsOf.{levelsChecks, GivesLevels}
 use Rattle.analyser.specs.SettingsOf.{settingsChecks, GivesSettings}
+use Rattle.analyser.specs.Dimacs.{dimacsChecks, WritesDimacs}
 use Rattle.analyser.proofs.SheetPlane.{sheet-drawn, capacity-small}
 
 -- ── a refused sheet ──
@@ -68,6 +72,10 @@ module _ (s : List ℕ) (k p : ℕ) (first : FirstOf (sheetChecks s) k p) where
   pub settings-refused : (levels flows : List ℤ) → FirstOf (settingsChecks s levels flows) k p
   unfolding settingsChecks
   settings-refused levels flows = first-left (sheetChecks s) _ k p first
+
+  pub dimacs-refused : (source sink : ℕ) (out : List ℕ) → FirstOf (dimacsChecks s source sink out) k p
+  unfolding dimacsChecks
+  dimacs-refused source sink out = first-left (sheetChecks s) _ k p first
 
 -- ── an accepted one ──
 module _ (s : List ℕ) (o : Opened) (lefts tails rotations : List ℕ) (capacities : List ℤ) (open' : NoneOf (sheetChecks s) × Numbers s lefts o)
@@ -155,3 +163,16 @@ module _ (s : List ℕ) (o : Opened) (lefts tails rotations : List ℕ) (capacit
   settings-sheet levels flows flows' r h =
       settings-after (sheetChecks s) (open' .0) (sheetDrawing s) _ levels flows flows' r
       (subst (λ 𝓓. SettingsGiven 𝓓 (leveledChecks 𝓓 levels flows) levels flows flows' r) same h)
+
+  -- what the text asks, which is less still
+  pub counts-small : (o .nodes ≤ 1024) × (o .edges ≤ 512)
+  counts-small = (markable .0, markable .1)
+
+  pub dimacs-sheet : (source sink : ℕ) (out out' : List ℕ) (r : DimacsAnswer)
+      → TextWritten (drawingOf (o .nodes) (o .edges) (o .outer) tails rotations capacities)
+      (textChecks (drawingOf (o .nodes) (o .edges) (o .outer) tails rotations capacities) source sink out) source sink out out' r
+      → WritesDimacs s source sink out out' r
+  unfolding dimacsChecks
+  dimacs-sheet source sink out out' r h =
+      text-after (sheetChecks s) (open' .0) (sheetDrawing s) _ source sink out out' r
+      (subst (λ 𝓓. TextWritten 𝓓 (textChecks 𝓓 source sink out) source sink out out' r) same h)

@@ -2,16 +2,16 @@
 -- knows no drawing. All is said of any map and of any capacities that are not below zero: the map need be neither flat nor connected.
 use mathlib.Core.Path.{_≡_, sym, _∙_, subst}
 use mathlib.Core.Logic.{_⊎_, inl, inr, _≢_}
-use mathlib.Core.Bool.{Bool, true, false}
-use Prim.Native.Nat.{ℕ, _+_, _<_}
+use mathlib.Core.Bool.{Bool}
+use Prim.Native.Nat.{ℕ, _<_}
 use native.Mathlib.Omega.{arith}
 use lib.IntN.{ℤ, pos, _+ℤ_, _*ℤ_}
-use lib.Signed.{_≤ℤ_, _<ℤ_, ≤ℤ-refl}
+use lib.Signed.{_≤ℤ_, _<ℤ_}
 use Rattle.integers.specs.Sum.{Integers, when}
 use Rattle.integers.proofs.Omega.{atoms₁, atoms₂, parts, at-most, from-less}
-use Rattle.integers.proofs.Laws.{le-trans, le-antisym, lt-le-clash, lt-or-ge, mul-le}
+use Rattle.integers.proofs.Laws.{le-trans, le-antisym, lt-or-ge, mul-le}
 use Rattle.integers.proofs.Sums.{sum-ext}
-use Rattle.integers.proofs.IntegerSums.{negative-term, sum-mul, when-mul}
+use Rattle.integers.proofs.IntegerSums.{sum-mul, when-mul}
 use Rattle.maps.specs.Map.{Map, darts}
 use Rattle.maps.specs.Check.{InRange}
 use Rattle.maps.specs.Cut.{leaves, cut}
@@ -25,7 +25,7 @@ use Rattle.dimacs.specs.Reading.{problemOf}
 use Rattle.dimacs.specs.Text.{dimacsText}
 use Rattle.dimacs.specs.Drawn.{drawnProblem}
 use Rattle.dimacs.proofs.Settling.{NotBelowZero, settingsOf, parts-carry}
-use Rattle.dimacs.proofs.Largest.{LargestCarried, greatest-of-largest, largest-of-greatest, zero-carries}
+use Rattle.dimacs.proofs.Largest.{LargestCarried, greatest-of-largest, largest-of-greatest}
 use Rattle.dimacs.proofs.ReadBack.{reads-back}
 
 -- a problem has one greatest value at most
@@ -40,20 +40,6 @@ module _ (𝓜 : Map) (c : ℕ → ℤ) (s t : ℕ) (good : NotBelowZero 𝓜 c)
     λ h. subst (λ P. Greatest P v) (sym (reads-back 𝓜 c s t)) (greatest-of-largest 𝓜 c s t good v h),
     λ h. largest-of-greatest 𝓜 c s t good v (subst (λ P. Greatest P v) (reads-back 𝓜 c s t) h),
   )
-
-  -- 0 can be carried, so nothing is refuted outright: no set of nodes has an outward total below 0
-  pub largest-from-zero : (v : ℤ) → LargestCarried 𝓜 c s t v → pos 0 ≤ℤ v
-  largest-from-zero v h = h .1 (pos 0) (λ e. pos 0) (zero-carries 𝓜 c s t good)
-
-  pub never-none : (S : ℕ → Bool) → cut 𝓜 c S <ℤ pos 0 → ⊥
-  unfolding cut
-  never-none S h =
-      let r = negative-term (darts 𝓜) (λ d. when (leaves 𝓜 S d) (c d)) h in
-      lt-le-clash (r .2) (term (leaves 𝓜 S (r .0)) (c (r .0)) (good (r .0) (r .1)))
-    where
-      term : (b : Bool) (x : ℤ) → pos 0 ≤ℤ x → pos 0 ≤ℤ when b x
-      term true x g = g
-      term false x g = ≤ℤ-refl (pos 0)
 
   -- what Largest gives, settings that carry v and a set that proves v + 1 impossible, is enough
   module _ (range : InRange 𝓜) (s-in : s < 𝓜 .nodes) (t-in : t < 𝓜 .nodes) (s≢t : s ≢ t)

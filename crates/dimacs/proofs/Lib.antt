@@ -5,6 +5,7 @@ pub mod Largest
 pub mod Parting
 pub mod ReadBack
 pub mod Greatest
+pub mod Posed
 pub mod Length
 pub mod Joined
 pub mod Writing
