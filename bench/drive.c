@@ -8,6 +8,7 @@
 //   mark SHEET SOURCE SINK VALUE       on what Solve gives; prints: result 255 value place
 //   levels SHEET SOURCE SINK 0         on what Solve gives for 0; prints: result 255 0 place
 //   settings SHEET SOURCE SINK 0       on those levels; prints: result same 0 place
+//   dimacs SHEET SOURCE SINK 0         the DIMACS text; prints: result 255 length place
 //   key SHEET SOURCE SINK VALUE        only with -DKEY_TEXT; prints: result can length place
 //
 // "Same" is 1 where the bytes of the sheet, or the settings that Solve gave, came back. With the argument `stack` each call is made on a stack of its own, painted before,
@@ -56,6 +57,8 @@ static void levels_from_settings(void) {
 static void settings_from_levels(void) {
     result = analyser_settings_from_levels(sheet, sheet_length, levels, ANALYSER_MAX_FACES, again, ANALYSER_MAX_CHANNELS, &place);
 }
+static uint8_t dimacs[ANALYSER_DIMACS_BYTES];
+static void write_dimacs(void) { result = analyser_write_dimacs(sheet, sheet_length, source, sink, dimacs, sizeof dimacs, &length, &place); }
 #ifdef KEY_TEXT
 static uint8_t input[9 + sizeof sheet], text[ANALYSER_KEY_TEXT_BYTES];
 static void key(void) { result = analyser_key_text(input, 9 + sheet_length, text, sizeof text, &length, &place); }
@@ -74,6 +77,7 @@ static void tell_written(void) {
 }
 static void tell_settings(void) { answer = memcmp(settings, again, (size_t)channels * sizeof settings[0]) == 0; }
 static void tell_nothing(void) {}
+static void tell_length(void) { number = (long)length; }
 #ifdef KEY_TEXT
 static void tell_key(void) {
     number = (long)length;
@@ -94,6 +98,7 @@ static const struct operation {
     {"mark", mark, {solve, NULL, NULL}, tell_value},
     {"levels", levels_from_settings, {solve, NULL, NULL}, tell_nothing},
     {"settings", settings_from_levels, {read_sheet, solve, levels_from_settings}, tell_settings},
+    {"dimacs", write_dimacs, {NULL, NULL, NULL}, tell_length},
 #ifdef KEY_TEXT
     {"key", key, {NULL, NULL, NULL}, tell_key},
 #endif

@@ -1,5 +1,5 @@
-// The header and the library, as a C program and as a C++ program: each operation on drawing A of document 01, and a refusal of each; Least and largest on
-// drawing B too. tests/header compiles and runs it, and compares what it prints.
+// The header and the library, as a C program and as a C++ program: each operation on drawing A of document 01, and a refusal of each; Least and largest and
+// the DIMACS text on drawing B too. tests/header compiles and runs it, and compares what it prints.
 #include "analyser.h"
 #include "analyser.h"
 #include <stdio.h>
@@ -37,7 +37,7 @@ static uint8_t sheet[ANALYSER_SHEET_BYTES], all_five[ANALYSER_SHEET_BYTES], flag
 static uint64_t set[ANALYSER_SET_WORDS];
 static int32_t low[ANALYSER_MAX_CHANNELS], high[ANALYSER_MAX_CHANNELS], least, largest;
 static uint64_t below[ANALYSER_SET_WORDS], above[ANALYSER_SET_WORDS];
-static uint8_t input[9 + sizeof drawing_a], text[ANALYSER_KEY_TEXT_BYTES];
+static uint8_t input[9 + sizeof drawing_a], text[ANALYSER_KEY_TEXT_BYTES], dimacs[ANALYSER_DIMACS_BYTES];
 static size_t length;
 
 static void untouched(void) {
@@ -73,6 +73,17 @@ static void least_and_largest(const char *name, const uint8_t *bytes, size_t byt
     numbers("low", low, 4);
     numbers("high", high, 4);
     ended();
+}
+
+static void write_dimacs(const char *name, const uint8_t *bytes, size_t bytes_length, uint16_t headgate, uint16_t outfall, size_t room) {
+    untouched();
+    memset(dimacs, '#', sizeof dimacs);
+    int result = analyser_write_dimacs(bytes, bytes_length, headgate, outfall, dimacs, room, &length, &place);
+    printf("dimacs %s %d: %d bytes, ", name, result, (int)length);
+    if (result == 0) printf("then %c", dimacs[length]);
+    else printf("text %c", dimacs[0]);
+    ended();
+    if (result == 0) fwrite(dimacs, 1, length, stdout);
 }
 
 int main(void) {
@@ -167,6 +178,9 @@ int main(void) {
     printf("key %d: %d bytes, place %d\n", result, (int)length, place);
     fwrite(text, 1, length, stdout);
 
+    write_dimacs("A", drawing_a, sizeof drawing_a, 0, 1, sizeof dimacs);
+    write_dimacs("A back, just enough", drawing_a, sizeof drawing_a, 1, 0, 70);
+
     // refusals: the number and the place, and nothing else
     untouched();
     result = analyser_read(drawing_a, 0, tails, ANALYSER_MAX_DARTS, turns, ANALYSER_MAX_DARTS, limits, ANALYSER_MAX_DARTS, &nodes, &channels, &outer, &place);
@@ -224,5 +238,12 @@ int main(void) {
     result = analyser_key_text(input, sizeof input, text, ANALYSER_KEY_TEXT_BYTES - 1, &length, &place);
     printf("key %s: %d bytes, text %d", result == ANALYSER_SLICE_TOO_SHORT ? "slice too short" : "?", (int)length, text[0]);
     ended();
+
+    // its refusals, each beside the next in order: a sheet check with an end that is no node, that end twice, equal ends and a least flow with a slice too short
+    write_dimacs("cut short", drawing_a, sizeof drawing_a - 1, 2, 1, 0);
+    write_dimacs("no such node", drawing_b, sizeof drawing_b, 3, 3, 0);
+    write_dimacs("ends equal", drawing_b, sizeof drawing_b, 1, 1, 0);
+    write_dimacs("least flow", drawing_b, sizeof drawing_b, 0, 1, 0);
+    write_dimacs("slice too short", drawing_a, sizeof drawing_a, 0, 1, 69);
     return 0;
 }

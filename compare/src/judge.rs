@@ -75,6 +75,11 @@ pub fn accept(call: &Call, lent: &Lent) -> Result<Drawing, Refusal> {
             refuse(20, drawing.zero_faces().iter().any(|&face| levels[face] != 0))?;
             within(&drawing, &crate::levels::flows_of(&drawing.faces(), &levels))?;
         }
+        Call::WriteDimacs { source, sink } => {
+            ends(&drawing, source, sink)?;
+            refuse(22, drawing.capacities.iter().any(|&capacity| capacity < 0))?;
+            refuse(16, lent.text.len() < crate::dimacs::text(&drawing, source, sink).len())?;
+        }
         Call::Write { .. } | Call::KeyText => unreachable!("judged above"),
     }
     Ok(drawing)

@@ -12,6 +12,7 @@ pub enum Call {
     LevelsFromSettings,
     SettingsFromLevels,
     KeyText,
+    WriteDimacs { source: u16, sink: u16 },
 }
 
 impl Call {
@@ -26,6 +27,7 @@ impl Call {
             Call::LevelsFromSettings => "Levels from settings",
             Call::SettingsFromLevels => "Settings from levels",
             Call::KeyText => "Key text",
+            Call::WriteDimacs { .. } => "DIMACS text",
         }
     }
 }
@@ -238,6 +240,17 @@ extern "C" {
     ) -> u8;
     #[rustfmt::skip]
     fn analyser_key_text(input: *const u8, input_length: usize, text: *mut u8, text_length: usize, length: *mut usize, place: *mut u16) -> u8;
+    #[rustfmt::skip]
+    fn analyser_write_dimacs(
+        sheet: *const u8,
+        sheet_length: usize,
+        source: u16,
+        sink: u16,
+        text: *mut u8,
+        text_length: usize,
+        length: *mut usize,
+        place: *mut u16,
+    ) -> u8;
 }
 
 /// Calls the unit. The result is the number of the refusal, or 0.
@@ -276,6 +289,8 @@ pub fn call(call: &Call, lent: &mut Lent) -> u8 {
             Call::SettingsFromLevels => analyser_settings_from_levels(sheet.pointer(), sheet.length(), levels.pointer(), levels.length(),
                 flows.pointer(), flows.length(), &mut lent.place),
             Call::KeyText => analyser_key_text(sheet.pointer(), sheet.length(), text.pointer(), text.length(), &mut lent.length, &mut lent.place),
+            Call::WriteDimacs { source, sink } => analyser_write_dimacs(sheet.pointer(), sheet.length(), source, sink, text.pointer(), text.length(),
+                &mut lent.length, &mut lent.place),
         }
     };
     lent.guards = sheet.give_back(&mut lent.sheet)

@@ -31,6 +31,8 @@ use Rattle.analyser.specs.Mark.{markChecks}
 use Rattle.analyser.specs.LevelsOf.{levelsChecks}
 use Rattle.analyser.specs.SettingsOf.{settingsChecks}
 use Rattle.key_text.specs.Key.{keyRoomChecks}
+use Rattle.dimacs.specs.Write.{textChecks}
+use Rattle.analyser.specs.Dimacs.{dimacsChecks}
 
 -- ── lists of checks whose numbers are 1 or more ──
 unfoldable pub Numbered : List Check → Type 0
@@ -143,3 +145,8 @@ settings-numbered s levels flows = numbered-append (sheetChecks s) _ (sheet-numb
 pub key-numbered : (text : List ℕ) → Numbered (keyRoomChecks text)
 unfolding Numbered
 key-numbered text = (omega arith, tt)
+
+pub dimacs-numbered : (s : List ℕ) (source sink : ℕ) (text : List ℕ) → Numbered (dimacsChecks s source sink text)
+unfolding Numbered dimacsChecks textChecks endChecks
+dimacs-numbered s source sink text =
+    numbered-append (sheetChecks s) _ (sheet-numbered s) (omega arith, (omega arith, (omega arith, (omega arith, tt))))

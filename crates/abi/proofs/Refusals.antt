@@ -24,6 +24,8 @@ use Rattle.questions.specs.declared.MarkAnswer.the-variants as mark
 use Rattle.levels.specs.declared.LevelAnswer.the-variants as level
 use Rattle.key_text.specs.Key.{keyRoomChecks}
 use Rattle.key_text.specs.declared.KeyAnswer.the-variants as key
+use Rattle.analyser.specs.Dimacs.{dimacsChecks}
+use Rattle.dimacs.specs.declared.DimacsAnswer.the-variants as dimacs
 use Rattle.abi.specs.Read.{TellsRead}
 use Rattle.abi.specs.Write.{TellsWrite}
 use Rattle.abi.specs.Solve.{TellsSolve}
@@ -32,6 +34,7 @@ use Rattle.abi.specs.Range.{TellsRange}
 use Rattle.abi.specs.Mark.{TellsMark}
 use Rattle.abi.specs.Levels.{TellsLevels, TellsSettings}
 use Rattle.abi.specs.Key.{TellsKey}
+use Rattle.abi.specs.Dimacs.{TellsDimacs}
 use Rattle.abi.proofs.Numbered.{
   Numbered,
   first-numbered,
@@ -44,6 +47,7 @@ use Rattle.abi.proofs.Numbered.{
   levels-numbered,
   settings-numbered,
   key-numbered,
+  dimacs-numbered,
 }
 
 -- ── what a result says, of any operation with these checks; Same: everything else behind a pointer is as it was ──
@@ -124,3 +128,9 @@ module _ {place place' result : ℕ} where
         → Says (settingsChecks s levels flows) result place place' (flows' ≡ flows)
     settings-says (level.Done, h, t) = says-answer (h .0) (t .0) (t .1)
     settings-says (level.Refused k p, h, t) = says-refusal k p (settings-numbered s _ _) (h .0) (t .0) (t .1) (h .1)
+
+    pub dimacs-says : {source sink : ℕ} {text text' : List ℕ} {length length' : ℕ}
+        → TellsDimacs s source sink text text' length length' place place' result
+        → Says (dimacsChecks s source sink text) result place place' ((text' ≡ text) × (length' ≡ length))
+    dimacs-says (dimacs.Bytes n, h, t) = says-answer (h .0) (t .0) (t .2)
+    dimacs-says (dimacs.Refused k p, h, t) = says-refusal k p (dimacs-numbered s _ _ _) (h .0) (t .0) (t .2) (h .1, t .1)

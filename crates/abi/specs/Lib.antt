@@ -6,3 +6,4 @@ pub mod Range
 pub mod Mark
 pub mod Levels
 pub mod Key
+pub mod Dimacs

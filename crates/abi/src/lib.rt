@@ -8,6 +8,8 @@ ghost use Rattle.abi.specs.Range.{TellsRange};
 ghost use Rattle.abi.specs.Mark.{TellsMark};
 ghost use Rattle.abi.specs.Levels.{TellsLevels, TellsSettings};
 ghost use Rattle.abi.specs.Key.{TellsKey};
+ghost use Rattle.abi.specs.Dimacs.{TellsDimacs};
+use dimacs::DimacsAnswer;
 use key_text::KeyAnswer;
 use levels::LevelAnswer;
 use questions::LargestAnswer;
@@ -268,6 +270,32 @@ pub extern "C" fn analyser_key_text(
             0
         }
         KeyAnswer::Refused(k, p) => {
+            *place = p;
+            k
+        }
+    }
+}
+
+// The DIMACS text. The bytes of the text, and in length their number.
+#[no_mangle]
+pub extern "C" fn analyser_write_dimacs(
+    sheet: &[u8],
+    source: u16,
+    sink: u16,
+    text: &mut [u8],
+    length: &mut usize,
+    place: &mut u16,
+) -> u8
+    ensures { λ r. ⌜ TellsDimacs (now (sheet .entry)) source sink (now (text .entry)) (now (text .exit))
+        (now (length .entry)) (now (length .exit)) (now (place .entry)) (now (place .exit)) r ⌝ }
+{
+    let answer = analyser::write_dimacs(sheet, source, sink, text);
+    match answer {
+        DimacsAnswer::Bytes(n) => {
+            *length = n;
+            0
+        }
+        DimacsAnswer::Refused(k, p) => {
             *place = p;
             k
         }

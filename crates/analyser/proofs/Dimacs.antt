@@ -1,6 +1,6 @@
--- The DIMACS text (document 02, Job 2), from the contract `WritesDimacs` alone: the bytes written are the text, which reads back as the drawing's problem, whose
--- greatest flow is the largest value that settings carry; and that is what Largest reports. Where no limit is below zero, settings of zero carry 0, so Largest
--- is never none.
+-- The DIMACS text (document 02, Job 2), from the contract `WritesDimacs` alone: the bytes written are the text, which reads back as the drawing's problem,
+-- whose greatest flow is the largest value that settings carry; and that is what Largest reports. Where no limit is below zero, settings of zero carry 0, so
+-- Largest is never none.
 use mathlib.Core.Path.{_≡_, refl, sym, _∙_, ap, subst}
 use mathlib.Core.Logic.{_≢_}
 use mathlib.Core.List.{List}
@@ -91,8 +91,7 @@ module _ (s : List ℕ) (source sink : ℕ) (out out' : List ℕ) (n : ℕ) (w :
     pub value-greatest : (v : ℤ) → Found (largest.Value v) → Greatest (problemOf (take n out')) v
     value-greatest v h =
         subst (λ t. Greatest (problemOf t) v) (sym bytes)
-        (greatest.greatest-is-largest (sheetMap s) (capacityOf s) source sink good v .0
-        (
+        (greatest.greatest-is-largest (sheetMap s) (capacityOf s) source sink good v .0 (
           (atℤ flows', demand.largest-carries s source sink flows flows' set set' (h .0) v h),
           demand.nothing-greater s source sink flows flows' set set' (h .0) v h,
         ))

@@ -27,6 +27,7 @@ fn run(
         8 => operations::key(s),
         9 => operations::write_key(s, bytes),
         10 => operations::least_and_largest(s, first, second, set, second_set),
+        12 => operations::write_dimacs(s, bytes),
         _ => say::say(b": no such operation"),
     }
 }

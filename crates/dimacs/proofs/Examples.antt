@@ -1,5 +1,5 @@
--- Drawing A of document 01 as a text, by computation, and its greatest flow; and a text that no drawing wrote, with a comment, the lines in another order and no last
--- line feed, read by the same definition.
+-- Drawing A of document 01 as a text, by computation, and its greatest flow; and a text that no drawing wrote, with a comment, spaces in a row, lines in
+-- another order and no last line feed, read by the same definition.
 use mathlib.Core.Path.{_≡_, refl}
 use mathlib.Core.List.{List, [], _∷_}
 use Prim.Native.Nat.{ℕ}
@@ -47,11 +47,11 @@ A-greatest =
     (greatest-of-set A A-capacity 0 1 A-good (A-sound .range) (omega arith) (omega arith) (λ e. absurd (omega (arith, e)))
     (pos 12) (settings (pos 5 ∷ pos 3 ∷ pos 4 ∷ [])) A-twelve (member (1 ∷ [])) (A-thirteen .0))
 
--- "c by hand", "p max 3 2", "a 1 2 7", "n 1 s", "n 3 t", "a 2 3 40"
+-- "c by hand", "p max  3 2", "a 1 2 7", "n 1 s", "n 3 t", "a 2 3 40"
 abbrev pub handBytes : List ℕ
 handBytes =
     99 ∷ 32 ∷ 98 ∷ 121 ∷ 32 ∷ 104 ∷ 97 ∷ 110 ∷ 100 ∷ 10 ∷
-    112 ∷ 32 ∷ 109 ∷ 97 ∷ 120 ∷ 32 ∷ 51 ∷ 32 ∷ 50 ∷ 10 ∷
+    112 ∷ 32 ∷ 109 ∷ 97 ∷ 120 ∷ 32 ∷ 32 ∷ 51 ∷ 32 ∷ 50 ∷ 10 ∷
     97 ∷ 32 ∷ 49 ∷ 32 ∷ 50 ∷ 32 ∷ 55 ∷ 10 ∷
     110 ∷ 32 ∷ 49 ∷ 32 ∷ 115 ∷ 10 ∷
     110 ∷ 32 ∷ 51 ∷ 32 ∷ 116 ∷ 10 ∷

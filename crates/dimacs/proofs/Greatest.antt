@@ -1,5 +1,5 @@
--- Document 02, Job 2: "For every drawing written, the greatest flow of the text by the DIMACS definition is what Largest reports." The text is read by `problemOf`, which
--- knows no drawing. All is said of any map and of any capacities that are not below zero: the map need be neither flat nor connected.
+-- Document 02, Job 2: "the greatest flow of the text by the DIMACS definition", read by `problemOf`, which knows no drawing, is the largest value that
+-- settings carry. All is said of any map and of any capacities that are not below zero: the map need be neither flat nor connected.
 use mathlib.Core.Path.{_≡_, sym, _∙_, subst}
 use mathlib.Core.Logic.{_⊎_, inl, inr, _≢_}
 use mathlib.Core.Bool.{Bool}
@@ -52,7 +52,11 @@ module _ (𝓜 : Map) (c : ℕ → ℤ) (s t : ℕ) (good : NotBelowZero 𝓜 c)
         below = let a = atoms₁ v in at-most (search parts) (omega arith)
 
         go : AtSource s t S ⊎ (AtSink s t S ⊎ Beside s t S) → AtSource s t S × (cut 𝓜 c S ≤ℤ v)
-        go (inl side) = (side, let a = atoms₂ v (cut 𝓜 c S) in at-most (search parts) (omega (arith, from-less (source-short 𝓜 c s t S side (v +ℤ pos 1) proves) (search parts))))
+        go (inl side) = (
+          side,
+          let a = atoms₂ v (cut 𝓜 c S) in
+              at-most (search parts) (omega (arith, from-less (source-short 𝓜 c s t S side (v +ℤ pos 1) proves) (search parts))),
+        )
         go (inr (inl side)) = absurd (proves-excludes range s-in t-in s≢t c v S (sink-proves-less 𝓜 c s t S side (v +ℤ pos 1) v below proves) x h)
         go (inr (inr side)) = absurd (proves-excludes range s-in t-in s≢t c v S (beside-proves-all 𝓜 c s t S side (v +ℤ pos 1) proves v) x h)
 
@@ -69,13 +73,15 @@ module _ (𝓜 : Map) (c : ℕ → ℤ) (s t : ℕ) (good : NotBelowZero 𝓜 c)
       where
         scaled : cut 𝓜 (λ d. pos n *ℤ c d) S ≡ pos n *ℤ cut 𝓜 c S
         scaled =
-            sum-ext Integers (darts 𝓜) (λ d. when (leaves 𝓜 S d) (pos n *ℤ c d)) (λ d. pos n *ℤ when (leaves 𝓜 S d) (c d)) (λ d l. when-mul (leaves 𝓜 S d) (pos n) (c d))
+            sum-ext Integers (darts 𝓜) (λ d. when (leaves 𝓜 S d) (pos n *ℤ c d)) (λ d. pos n *ℤ when (leaves 𝓜 S d) (c d))
+            (λ d l. when-mul (leaves 𝓜 S d) (pos n) (c d))
             ∙ sum-mul (darts 𝓜) (pos n) (λ d. when (leaves 𝓜 S d) (c d))
 
         bounded : NoneGreaterInParts n (drawnProblem 𝓜 c s t) v
         bounded f g =
             le-trans
-            (source-limits range s-in t-in s≢t (λ d. pos n *ℤ c d) S (tight .0) (flowValue (drawnProblem 𝓜 c s t) f) (settingsOf f) (parts-carry 𝓜 c s t good n f g))
+            (source-limits range s-in t-in s≢t (λ d. pos n *ℤ c d) S (tight .0) (flowValue (drawnProblem 𝓜 c s t) f) (settingsOf f)
+            (parts-carry 𝓜 c s t good n f g))
             (rw scaled (mul-le n (tight .1)))
 
 -- what 22 leaves

@@ -1,5 +1,4 @@
--- The greatest flow of a drawing's problem is the largest value that settings carry. Settings of zero carry 0 where no capacity is below zero, so nothing
--- proves that nothing can be carried.
+-- The greatest flow of a drawing's problem is the largest value that settings carry; and settings of zero carry 0, where no capacity is below zero.
 use mathlib.Core.Path.{_≡_, refl, _∙_, ap, subst}
 use mathlib.Core.Bool.{Bool, true, false, cond}
 use Prim.Native.Nat.{ℕ, _%_}

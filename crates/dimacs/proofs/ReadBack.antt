@@ -82,18 +82,26 @@ module _ (v letter : ℕ) (rest : List ℕ) (no-feed : free 10 (letter ∷ []) �
 
 pub reads-source : (v : ℕ) (rest : List ℕ) → problemOf (nodeLine v 115 ++ rest) ≡ withSource (v + 1) (problemOf rest)
 unfolding free
-reads-source v rest = node-line v 115 rest refl refl ∙ told-source (decimal (v + 1)) [] [] (problemOf rest) ∙ ap (λ a. withSource a (problemOf rest)) (decimal-read (v + 1))
+reads-source v rest =
+    node-line v 115 rest refl refl
+    ∙ told-source (decimal (v + 1)) [] [] (problemOf rest)
+    ∙ ap (λ a. withSource a (problemOf rest)) (decimal-read (v + 1))
 
 pub reads-sink : (v : ℕ) (rest : List ℕ) → problemOf (nodeLine v 116 ++ rest) ≡ withSink (v + 1) (problemOf rest)
 unfolding free
-reads-sink v rest = node-line v 116 rest refl refl ∙ told-sink (decimal (v + 1)) [] [] (problemOf rest) ∙ ap (λ a. withSink a (problemOf rest)) (decimal-read (v + 1))
+reads-sink v rest =
+    node-line v 116 rest refl refl
+    ∙ told-sink (decimal (v + 1)) [] [] (problemOf rest)
+    ∙ ap (λ a. withSink a (problemOf rest)) (decimal-read (v + 1))
 
 pub reads-arc : (v w : ℕ) (c : ℤ) (rest : List ℕ)
     → problemOf (arcLine v w c ++ rest) ≡ withArc (v + 1) (w + 1) (natural c) (problemOf rest)
 unfolding arcLine free
 reads-arc v w c rest =
     ap (λ r. problemOf ((97 ∷ 32 ∷ r) ++ rest)) line
-    ∙ line-first body rest (free-append 10 (decimal (v + 1)) (32 ∷ ends) (number-free (v + 1)) (free-append 10 (decimal (w + 1)) (32 ∷ decimal (natural c)) (number-free (w + 1)) (number-free (natural c))))
+    ∙ line-first body rest
+    (free-append 10 (decimal (v + 1)) (32 ∷ ends) (number-free (v + 1))
+    (free-append 10 (decimal (w + 1)) (32 ∷ decimal (natural c)) (number-free (w + 1)) (number-free (natural c))))
     ∙ ap (λ fs. told fs (problemOf rest)) fields
     ∙ told-arc (decimal (v + 1)) (decimal (w + 1)) (decimal (natural c)) (problemOf rest)
     ∙ ap₂ (λ a b. withArc a b (numeral (decimal (natural c))) (problemOf rest)) (decimal-read (v + 1)) (decimal-read (w + 1))
@@ -113,7 +121,8 @@ reads-arc v w c rest =
     fields : fieldsOf body ≡ (97 ∷ []) ∷ decimal (v + 1) ∷ decimal (w + 1) ∷ decimal (natural c) ∷ []
     fields =
         field-more (97 ∷ []) (decimal (v + 1) ++ (32 ∷ ends)) (omega arith) refl
-        ∙ ap (λ r. (97 ∷ []) ∷ r) (number-more (v + 1) ends ∙ ap (λ r. decimal (v + 1) ∷ r) (number-more (w + 1) (decimal (natural c)) ∙ ap (λ r. decimal (w + 1) ∷ r) (number-last (natural c))))
+        ∙ ap (λ r. (97 ∷ []) ∷ r) (number-more (v + 1) ends)
+        ∙ ap (λ r. (97 ∷ []) ∷ decimal (v + 1) ∷ r) (number-more (w + 1) (decimal (natural c)) ∙ ap (λ r. decimal (w + 1) ∷ r) (number-last (natural c)))
 
 -- ── the arc lines in a row ──
 withArcs : List Arc → Problem → Problem

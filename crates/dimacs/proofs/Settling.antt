@@ -1,5 +1,5 @@
--- From flows of the arcs to settings and back. Both arcs of an edge may carry: the setting is their difference. Of a setting, the arc that it runs along carries
--- all and the other nothing; since no capacity is below zero, both keep to theirs.
+-- From flows of the arcs to settings and back. Both arcs of an edge may carry: the setting is their difference. Of a setting, the arc that it runs along
+-- carries all and the other nothing; since no capacity is below zero, both keep to theirs.
 use mathlib.Core.Path.{_≡_, refl, sym, _∙_, ap}
 use mathlib.Core.Logic.{_≢_}
 use Prim.Native.Nat.{ℕ, zero, suc, _+_, _*_, _≤_, _<_}

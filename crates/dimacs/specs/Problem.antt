@@ -1,5 +1,5 @@
--- The maximum flow problem of the DIMACS challenge, and its greatest flow. It is of no drawing: nodes are numbered from 1, and the arcs, each one way, stand in
--- a list. A flow f is a number for each arc: f i for the arc at place i of the list.
+-- The maximum flow problem of the DIMACS challenge, and its greatest flow. It is of no drawing: nodes are numbered from 1, and the arcs, each one way, stand
+-- in a list. A flow f is a number for each arc: f i for the arc at place i of the list.
 use Prim.Native.Nat.{ℕ, _*_, _≤_, _<_}
 use mathlib.Core.Path.{_≡_}
 use mathlib.Core.Logic.{_≢_}

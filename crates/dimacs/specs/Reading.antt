@@ -1,6 +1,6 @@
--- What any text means by the DIMACS form. Lines are parted by line feeds (10), the fields of a line by one or more spaces (32). The line "p max NODES ARCS" gives
--- the counts, "n NODE s" the source, "n NODE t" the sink, and each line "a FROM TO CAPACITY" an arc, in the order of the lines. Any other line, such as a
--- comment or one with another number of fields, says nothing.
+-- What any text means by the DIMACS form. Lines are parted by line feeds (10), the fields of a line by one or more spaces (32). The line "p max NODES ARCS"
+-- gives the counts, "n NODE s" the source, "n NODE t" the sink, and each line "a FROM TO CAPACITY" an arc, in the order of the lines. Any other line, such as
+-- a comment or one with another number of fields, says nothing.
 use Prim.Native.Nat.{ℕ}
 use mathlib.Core.Bool.{Bool, true, false, cond, _&&_}
 use mathlib.Core.List.{List, [], _∷_}

@@ -1,5 +1,6 @@
--- The text of a drawing. Document 02, Job 2: "problem line, the two node lines with the headgate as source first, then two arc lines per channel, forward first.
--- Nodes count from 1. .. Fields are parted by one space and each line ends in one line feed." The forward arc of edge e is dart 2e, the back arc dart 2e + 1.
+-- The text of a drawing. Document 02, Job 2: "problem line, the two node lines with the headgate as source first, then two arc lines per channel, forward
+-- first. Nodes count from 1. .. Fields are parted by one space and each line ends in one line feed." The forward arc of edge e is dart 2e, the back arc dart
+-- 2e + 1.
 use Prim.Native.Nat.{ℕ, _+_}
 use mathlib.Core.List.{List, [], _∷_, _++_}
 use lib.IntN.{ℤ, pos, negsuc}

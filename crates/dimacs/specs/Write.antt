@@ -1,5 +1,5 @@
--- Writing a drawing as text. Document 02, Job 2: "The order is that of Largest, with 22 for a limit below zero put after 14; 16 here means only a short output."
--- "Like Write, give the number of bytes".
+-- Writing a drawing as text. Document 02, Job 2: "The order is that of Largest, with 22 for a limit below zero put after 14; 16 here means only a short
+-- output." "Like Write, give the number of bytes".
 use Prim.Native.Nat.{ℕ, _<_}
 use mathlib.Core.Path.{_≡_}
 use mathlib.Core.List.{List, [], _∷_, _++_}

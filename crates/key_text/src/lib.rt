@@ -37,7 +37,7 @@ fn short(n: u16) -> u32
 }
 
 // "refused" and the number of the refusal.
-fn put_refused(text: &mut [u8], k: u8) -> usize
+pub fn put_refused(text: &mut [u8], k: u8) -> usize
     requires { ⌜ 12 ≤ length (now text) ⌝ }
     ensures { λ r. ⌜ Placed 0 (refusedText k) (now (text .entry)) (now (text .exit)) r ⌝ }
 {

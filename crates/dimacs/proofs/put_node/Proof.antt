@@ -18,7 +18,8 @@ room s = omega (arith, s .pre, length-append (decimal (s .args .v + 1)) (s .args
 abbrev start : tie.After-put-bytes → tie.Start
 start c = c .before .before .before .before .before
 
-word-room : (c : tie.After-put-bytes) → c .put-bytes .result + (long (start c .args .v + 1) + length (start c .args .role .now)) ≤ length (c .put-bytes .last .0)
+word-room : (c : tie.After-put-bytes)
+    → c .put-bytes .result + (long (start c .args .v + 1) + length (start c .args .role .now)) ≤ length (c .put-bytes .last .0)
 word-room c = placed-room 2 _ _ _ _ _ _ (c .put-bytes .ensures) (omega arith) (room (start c))
 
 -- ── the needs, in the order of the code ──

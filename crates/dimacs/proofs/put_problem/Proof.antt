@@ -20,7 +20,8 @@ room s = omega (arith, s .pre .2, problem-length (s .args .nodes) (s .args .arcs
 abbrev start : tie.After-put-bytes → tie.Start
 start c = c .before .before .before .before
 
-word-room : (c : tie.After-put-bytes) → c .put-bytes .result + (long (start c .args .nodes) + 1 + (long (start c .args .arcs) + 1)) ≤ length (c .put-bytes .last .0)
+word-room : (c : tie.After-put-bytes)
+    → c .put-bytes .result + (long (start c .args .nodes) + 1 + (long (start c .args .arcs) + 1)) ≤ length (c .put-bytes .last .0)
 word-room c = placed-room 6 _ 0 _ _ _ _ (c .put-bytes .ensures) (omega arith) (omega (arith, room (start c)))
 
 -- ── the number of nodes ──

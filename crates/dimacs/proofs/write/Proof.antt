@@ -80,8 +80,10 @@ some-negative-requires c κs = omega (arith, base c .pre .1)
 returns-2 : tie.Need-returns-2
 returns-2 c =
     let t = c .before .before in
-    let s = base t in
-    (text-negative (drawing s) (s .args .source) (s .args .sink) (s .args .out .now) (two t) (said-yes (c .before .some-negative .ensures) (c .if1 .taken)), refl)
+    let s = base t in (
+      text-negative (drawing s) (s .args .source) (s .args .sink) (s .args .out .now) (two t) (said-yes (c .before .some-negative .ensures) (c .if1 .taken)),
+      refl,
+    )
 
 text-length-requires : tie.Need-text-length-requires
 text-length-requires c κs = base (c .before .before) .pre

@@ -3,8 +3,8 @@ use Prim.Native.Nat.{ℕ, _≤_}
 use mathlib.Core.Path.{_≡_}
 use mathlib.Core.List.{List}
 use lib.ListN.{length}
-use Rattle.key.specs.declared.Input.{Input}
-use Rattle.key.specs.declared.Input.the-variants.{Ended, Full, Failed}
+use Rattle.streams.specs.declared.Input.{Input}
+use Rattle.streams.specs.declared.Input.the-variants.{Ended, Full, Failed}
 
 -- the bytes of an input that ended stand in the buffer; more can follow only where the buffer is full
 abbrev pub Filled : List ℕ → Input → Type 0
