@@ -10,6 +10,7 @@ use borrow.Author.Needs.{needs}
 use Rattle.streams.specs.inner.Input.{Filled}
 use Rattle.streams.specs.declared.Input.{Input}
 use Rattle.streams.specs.declared.Input.the-variants.{Ended, Full}
+use Rattle.to_dimacs.proofs.Exporting.{within}
 use Rattle.to_dimacs.proofs.main.Statement.{statement}
 use Rattle.to_dimacs.proofs.main.Tie as tie
 
@@ -62,10 +63,10 @@ put-text-requires : tie.Need-put-text-requires
 put-text-requires c κs = search needs
 
 array-share-prefix-text : tie.Need-array-share-prefix-text
-array-share-prefix-text c = c .put-text .ensures
+array-share-prefix-text c = within _ _ _ _ (c .put-text .ensures)
 
 slice-aggregate-write-text : tie.Need-slice-aggregate-write-text
-slice-aggregate-write-text c = sym (length-take-le _ _ (c .before .put-text .ensures))
+slice-aggregate-write-text c = sym (length-take-le _ _ (within _ _ _ _ (c .before .put-text .ensures)))
 
 write-text-requires : tie.Need-write-text-requires
 write-text-requires c κs = search needs

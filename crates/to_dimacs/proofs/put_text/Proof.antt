@@ -1,40 +1,18 @@
--- What stands in front of the text is no longer than the text: of a refusal at most 12 bytes, of an answer what the operation says.
-use mathlib.Core.Path.{_≡_, ap}
-use mathlib.Core.List.{List, _++_}
-use Prim.Native.Nat.{ℕ, _≤_}
+-- The question is looked at first; where it is whole, the text is that of its ends on the rest of the bytes. Each way out is a law of `Exporting`.
+use mathlib.Core.Path.{_≡_, sym}
+use Prim.Native.Nat.{_≤_}
 use native.Mathlib.Omega.{arith}
-use lib.ListN.{length, drop, length-append}
+use lib.ListN.{length}
 use borrow.Author.Needs.{needs}
 use Rattle.refusals.specs.Order.{NoneOf, Judged}
 use Rattle.refusals.specs.declared.Verdict.{Verdict}
-use Rattle.refusals.specs.declared.Verdict.the-variants.{Passed}
+use Rattle.refusals.specs.declared.Verdict.the-variants.{Passed, Refused}
 use Rattle.records.specs.Record.{recordChecks}
-use Rattle.texts.specs.inner.Placed.{Placed}
-use Rattle.texts.proofs.Joined.{placed-length}
-use Rattle.records.specs.Sheet.{sheetDrawing}
-use Rattle.dimacs.specs.Write.{textOf}
-use Rattle.dimacs.specs.declared.DimacsAnswer.{DimacsAnswer}
-use Rattle.dimacs.specs.declared.DimacsAnswer.the-variants.{Bytes}
-use Rattle.analyser.specs.Dimacs.{WritesDimacs}
-use Rattle.key_text.specs.Text.{refusedText}
-use Rattle.key_text.proofs.Length.{refused-text-length}
+use Rattle.key_text.proofs.Pieces.{rest}
 use Rattle.key_text.proofs.Answering.{question-whole}
+use Rattle.to_dimacs.proofs.Exporting.{question-refused, text-written, text-refused}
 use Rattle.to_dimacs.proofs.put_text.Statement.{statement}
 use Rattle.to_dimacs.proofs.put_text.Tie as tie
-
--- ── what was placed lies within ──
-refusal-within : (k end : ℕ) (old new : List ℕ) → k ≤ 255 → Placed 0 (refusedText k) old new end → 12 ≤ length old → end ≤ length new
-refusal-within k end old new small p room =
-    let short = refused-text-length k (omega arith) in
-    let same = placed-length 0 end (refusedText k) old new p (omega (arith, p .1)) in
-    omega (arith, p .1, same)
-
-text-within : (s : List ℕ) (source sink : ℕ) (out out' : List ℕ) (n : ℕ) (r : DimacsAnswer) → WritesDimacs s source sink out out' r → r ≡ Bytes n
-    → n ≤ length out'
-text-within s source sink out out' n r w e = front (rw e at w)
-  where
-    front : WritesDimacs s source sink out out' (Bytes n) → n ≤ length out'
-    front h = omega (arith, ap length (h .2), length-append (textOf (sheetDrawing s) source sink) (drop n out), h .1)
 
 -- ── the question is whole ──
 abbrev begin : tie.After-check-record → tie.Start
@@ -43,8 +21,11 @@ begin c = c .before .before
 judged : (c : tie.After-check-record) (v : Verdict) → c .check-record .result ≡ v → Judged (recordChecks (begin c .args .input .now) 3 0) v
 judged c v e = rw e at (c .check-record .ensures)
 
+passed : (c : tie.After-enum-told) → NoneOf (recordChecks (begin (c .before .before) .args .input .now) 3 0)
+passed c = judged (c .before .before) Passed (c .enum-told .given .1)
+
 whole : (c : tie.After-enum-told) → 9 ≤ length (begin (c .before .before) .args .input .now)
-whole c = question-whole (begin (c .before .before) .args .input .now) (judged (c .before .before) Passed (c .enum-told .given .1))
+whole c = question-whole (begin (c .before .before) .args .input .now) (passed c)
 
 -- ── the needs, in the order of the code ──
 check-record-requires : tie.Need-check-record-requires
@@ -57,7 +38,11 @@ put-refused-requires : tie.Need-put-refused-requires
 put-refused-requires c κs = search needs
 
 returns : tie.Need-returns
-returns c = refusal-within _ _ _ _ (omega (arith, c .before .before .known-told .given .0 .1)) (c .put-refused .ensures) (search needs)
+returns c =
+    let w = c .before .before .before in
+    let k = w .before .before in
+    let s = begin k in
+    question-refused (s .args .input .now) (s .args .text .now) _ _ _ _ (judged k (Refused _ _) (w .whole .given .1)) (c .put-refused .ensures)
 
 enum-told : tie.Need-enum-told
 enum-told c = search needs
@@ -96,10 +81,26 @@ returns-2 : tie.Need-returns-2
 returns-2 c =
     let a = c .before in
     let w = a .before .before in
-    text-within _ _ _ _ _ _ (w .write-dimacs .result) (w .write-dimacs .ensures) (a .answer .given .1)
+    let r = w .before .before .before in
+    let sink = r .before in
+    let source = sink .before in
+    let t = source .before in
+    let s = begin (t .before .before) in
+    text-written (s .args .input .now) (s .args .text .now) (passed t) _ _ _ (sym (rest (s .args .input .now) _ (r .record-length .ensures .0)))
+    (source .read-u16 .ensures) (sink .read-u162 .ensures) _ _ (w .write-dimacs .result) (a .answer .given .1) (w .write-dimacs .ensures)
 
 returns-3 : tie.Need-returns-3
-returns-3 c = refusal-within _ _ _ _ (omega (arith, c .before .before .known-told3 .given .0 .1)) (c .put-refused2 .ensures) (search needs)
+returns-3 c =
+    let a = c .before .before .before in
+    let w = a .before .before in
+    let r = w .before .before .before in
+    let sink = r .before in
+    let source = sink .before in
+    let t = source .before in
+    let s = begin (t .before .before) in
+    text-refused (s .args .input .now) (s .args .text .now) (passed t) _ _ _ (sym (rest (s .args .input .now) _ (r .record-length .ensures .0)))
+    (source .read-u16 .ensures) (sink .read-u162 .ensures) _ _ _ _ _ (w .write-dimacs .result) (a .answer2 .given .1) (w .write-dimacs .ensures)
+    (c .put-refused2 .ensures)
 
 pub put-text-spec : {M : Type 1} → statement M
 put-text-spec =
