@@ -10,6 +10,7 @@
 //   levels SHEET SOURCE SINK 0         on what Solve gives for 0; prints: result 255 0 place
 //   settings SHEET SOURCE SINK 0       on those levels; prints: result same 0 place
 //   totals SHEET 0 0 WHICH             Totals by node, of every second node (0) or of all and all bits past them (1); prints: result 255 total place
+//   dimacs SHEET SOURCE SINK 0         the DIMACS text; prints: result 255 length place
 //   key SHEET SOURCE SINK VALUE        only with -DKEY_TEXT; prints: result can length place
 //   practice SHEET ROWS COLUMNS SEED   the sheet is not looked at; prints: result accepted length place, accepted 1 where Read takes what was made
 //
@@ -75,6 +76,8 @@ static void choose_nodes(void) {
 }
 static void totals(void) { result = analyser_totals(sheet, sheet_length, set, ANALYSER_SET_WORDS, subtotals, ANALYSER_MAX_NODES, &total, &place); }
 static void practice(void) { result = analyser_practice_sheet(source, sink, (uint32_t)value, written, ANALYSER_PRACTICE_BYTES, &length, &place); }
+static uint8_t dimacs[ANALYSER_DIMACS_BYTES];
+static void write_dimacs(void) { result = analyser_write_dimacs(sheet, sheet_length, source, sink, dimacs, sizeof dimacs, &length, &place); }
 #ifdef KEY_TEXT
 static uint8_t input[9 + sizeof sheet], text[ANALYSER_KEY_TEXT_BYTES];
 static void key(void) { result = analyser_key_text(input, 9 + sheet_length, text, sizeof text, &length, &place); }
@@ -100,6 +103,7 @@ static void tell_practice(void) {
                            &place) == 0;
 }
 static void tell_nothing(void) {}
+static void tell_length(void) { number = (long)length; }
 #ifdef KEY_TEXT
 static void tell_key(void) {
     number = (long)length;
@@ -123,6 +127,7 @@ static const struct operation {
     {"settings", settings_from_levels, {read_sheet, solve, levels_from_settings}, tell_settings},
     {"totals", totals, {choose_nodes, NULL, NULL}, tell_total},
     {"practice", practice, {NULL, NULL, NULL}, tell_practice},
+    {"dimacs", write_dimacs, {NULL, NULL, NULL}, tell_length},
 #ifdef KEY_TEXT
     {"key", key, {NULL, NULL, NULL}, tell_key},
 #endif

@@ -53,6 +53,7 @@
 #define ANALYSER_KEY_INPUT_BYTES 8720
 #define ANALYSER_KEY_TEXT_BYTES 6671
 #define ANALYSER_PRACTICE_BYTES 8165 // 16 rows and 16 columns
+#define ANALYSER_DIMACS_BYTES 18463
 
 // The results. "Sheet": a sheet check, so given by every function that takes a sheet. *place is 0 unless said.
 enum analyser_result {
@@ -68,14 +69,15 @@ enum analyser_result {
     ANALYSER_TURN_MISPLACED = 9, // a turn has another tail than its dart, or two darts have one turn. Sheet; Write
     ANALYSER_NOT_ONE_ROUND = 10, // a node's darts do not form exactly one round, or it has none. Sheet; Write
     ANALYSER_NOT_FLAT = 12, // nodes - channels + faces is not 2 in some part: what channels, followed either way, join. Sheet; Write
-    ANALYSER_NO_SUCH_NODE = 13, // headgate or outfall is no node. Solve, Largest, Least and largest, Raise limit, Mark
-    ANALYSER_ENDS_EQUAL = 14, // headgate and outfall are one node. Solve, Largest, Least and largest, Raise limit, Mark
+    ANALYSER_NO_SUCH_NODE = 13, // headgate or outfall is no node. Solve, Largest, Least and largest, Raise limit, Mark, DIMACS text
+    ANALYSER_ENDS_EQUAL = 14, // headgate and outfall are one node. Solve, Largest, Least and largest, Raise limit, Mark, DIMACS text
     ANALYSER_DELIVERY_OUT_OF_RANGE = 15, // the delivery is not -600000000 to 600000000. Solve, Raise limit
     ANALYSER_SLICE_TOO_SHORT = 16, // a lent slice is too short; in Write also inputs of unequal or odd length. Every function
     ANALYSER_OUTSIDE_LIMITS = 17, // a setting is outside its channel's limits; *place is the lowest such channel. Mark, both level functions
     ANALYSER_OFF_BALANCE = 18, // flow is lost or gained at a node; *place is the lowest such node. Mark, Levels from settings
     ANALYSER_LEVEL_OUT_OF_RANGE = 19, // a level is not -600000000 to 600000000. Settings from levels
     ANALYSER_ZERO_FACE_NOT_AT_0 = 20, // the level of the outer face, or of the lowest face of another part, is not 0. Settings from levels
+    ANALYSER_LEAST_FLOW = 22, // a limit, forward or back, is below zero: the text cannot hold a least flow. DIMACS text
     ANALYSER_PRACTICE_OUT_OF_RANGE = 23, // rows or columns not 2 to 16, or the seed not below 2147483648. Practice sheet
     ANALYSER_OUTER_IS_NO_DART = 24, // the outer dart is no dart. Sheet; Write
     ANALYSER_NO_SUCH_CHANNEL = 25 // there is no such channel. Raise limit
@@ -180,6 +182,15 @@ uint8_t analyser_key_text(const uint8_t *input, size_t input_length, uint8_t *te
 // Refusals: 23; 16 where sheet is shorter than 5 + 17 for each channel, of which there are rows * (columns - 1) + (rows - 1) * columns.
 // Writes where there is an answer: *length bytes of sheet, and *length.
 uint8_t analyser_practice_sheet(uint16_t rows, uint16_t columns, uint32_t seed, uint8_t *sheet, size_t sheet_length, size_t *length, uint16_t *place);
+
+// DIMACS text: the drawing as a maximum flow problem from headgate to outfall, in the text form of the DIMACS challenge. "p max NODES ARCS", "n NODE s" for the
+// headgate and "n NODE t" for the outfall, then for each channel its forward and its back arc, "a FROM TO LIMIT". Nodes count from 1; arcs of limit 0 and arcs
+// from a node to itself are written too. One space between fields, one line feed after each line, nothing else. The problem's greatest flow is what Largest
+// gives for these ends.
+// Refusals: the sheet checks; 13; 14; 22; 16 where text_length is less than this text has bytes, which is ANALYSER_DIMACS_BYTES at most.
+// Writes where there is an answer: *length bytes of text, and *length. The text does not end in a zero byte.
+uint8_t analyser_write_dimacs(const uint8_t *sheet, size_t sheet_length, uint16_t headgate, uint16_t outfall, uint8_t *text, size_t text_length,
+                              size_t *length, uint16_t *place);
 
 #ifdef __cplusplus
 }

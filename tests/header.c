@@ -1,5 +1,6 @@
-// The header and the library, as a C program and as a C++ program: each operation on drawing A of document 01, and a refusal of each; Least and largest and
-// Totals by node on drawing B too, and Raise limit with each refusal beside the next. tests/header compiles and runs it, and compares what it prints.
+// The header and the library, as a C program and as a C++ program: each operation on drawing A of document 01, and a refusal of each; Least and largest,
+// Totals by node and the DIMACS text on drawing B too, and Raise limit with each refusal beside the next. tests/header compiles and runs it, and compares what
+// it prints.
 #include "analyser.h"
 #include "analyser.h"
 #include <stdio.h>
@@ -38,7 +39,7 @@ static uint64_t set[ANALYSER_SET_WORDS];
 static int32_t low[ANALYSER_MAX_CHANNELS], high[ANALYSER_MAX_CHANNELS], least, largest;
 static uint64_t below[ANALYSER_SET_WORDS], above[ANALYSER_SET_WORDS];
 static int32_t subtotals[ANALYSER_MAX_NODES], total;
-static uint8_t input[9 + sizeof drawing_a], text[ANALYSER_KEY_TEXT_BYTES];
+static uint8_t input[9 + sizeof drawing_a], text[ANALYSER_KEY_TEXT_BYTES], dimacs[ANALYSER_DIMACS_BYTES];
 static size_t length;
 
 static void untouched(void) {
@@ -107,6 +108,17 @@ static void raise_limit(const char *name, size_t bytes_length, uint16_t headgate
     printf("raise limit %s %d: found %d, limit %d, set %d %d", name, result, flag, (int)value, (int)set[0], (int)set[1]);
     numbers("settings", settings, 4);
     ended();
+}
+
+static void write_dimacs(const char *name, const uint8_t *bytes, size_t bytes_length, uint16_t headgate, uint16_t outfall, size_t room) {
+    untouched();
+    memset(dimacs, '#', sizeof dimacs);
+    int result = analyser_write_dimacs(bytes, bytes_length, headgate, outfall, dimacs, room, &length, &place);
+    printf("dimacs %s %d: %d bytes, ", name, result, (int)length);
+    if (result == 0) printf("then %c", dimacs[length]);
+    else printf("text %c", dimacs[0]);
+    ended();
+    if (result == 0) fwrite(dimacs, 1, length, stdout);
 }
 
 int main(void) {
@@ -216,6 +228,9 @@ int main(void) {
     practice("2 by 2 of 0", 2, 2, 0, sizeof sheet);
     practice("16 by 16 of 2147483647", 16, 16, 2147483647, ANALYSER_PRACTICE_BYTES);
 
+    write_dimacs("A", drawing_a, sizeof drawing_a, 0, 1, sizeof dimacs);
+    write_dimacs("A back, just enough", drawing_a, sizeof drawing_a, 1, 0, 70);
+
     // refusals: the number and the place, and nothing else
     untouched();
     result = analyser_read(drawing_a, 0, tails, ANALYSER_MAX_DARTS, turns, ANALYSER_MAX_DARTS, limits, ANALYSER_MAX_DARTS, &nodes, &channels, &outer, &place);
@@ -291,5 +306,12 @@ int main(void) {
     practice("a seed too large, no room", 2, 2, 2147483648u, 0);
     practice("slice too short", 2, 2, 1, 72);
     practice("slice too short", 16, 16, 1, ANALYSER_PRACTICE_BYTES - 1);
+
+    // its refusals, each beside the next in order: a sheet check with an end that is no node, that end twice, equal ends and a least flow with a slice too short
+    write_dimacs("cut short", drawing_a, sizeof drawing_a - 1, 2, 1, 0);
+    write_dimacs("no such node", drawing_b, sizeof drawing_b, 3, 3, 0);
+    write_dimacs("ends equal", drawing_b, sizeof drawing_b, 1, 1, 0);
+    write_dimacs("least flow", drawing_b, sizeof drawing_b, 0, 1, 0);
+    write_dimacs("slice too short", drawing_a, sizeof drawing_a, 0, 1, 69);
     return 0;
 }

@@ -2,6 +2,7 @@
 //! can reach is compared, so what must stay as it was is seen to.
 use crate::chance::Chance;
 use crate::damage;
+use crate::dimacs;
 use crate::drawing::{count, Drawing, EDGE, HEAD, OUTER_HEAD};
 use crate::faults::Library;
 use crate::flow::{carry, least_limit, net_flows, range, MOST_LIMIT};
@@ -243,6 +244,11 @@ impl Checker<'_> {
                 store(&mut lent.subtotals, &subtotals);
                 lent.total = total as i32;
             }
+            Call::WriteDimacs { source, sink } => {
+                let text = dimacs::text(&drawing, source, sink);
+                lent.text[..text.len()].copy_from_slice(text.as_bytes());
+                lent.length = text.len();
+            }
             Call::KeyText => {
                 let text = self.key_text(&before.sheet)?;
                 due.lent.text[..text.len()].copy_from_slice(text.as_bytes());
@@ -353,6 +359,7 @@ impl Checker<'_> {
         let lent = self.lend(drawing.bytes(), drawing);
         self.compare(Call::Largest { source: from, sink: to }, &lent)?;
         self.least_and_largest(drawing, from, to)?;
+        self.dimacs(drawing, from, to)?;
         let (least, largest) = range(drawing, source, sink).unwrap_or((-3, 3));
         self.raise_limit(drawing, from, to, (least, largest))?;
         let mut values = vec![0, largest, largest + 1, -1, least, least - 1, 600_000_000, -600_000_000];
@@ -418,6 +425,31 @@ impl Checker<'_> {
             }
             if !serves {
                 return Err(Wrong(format!("Raise limit says {} of channel {edge} for {value}, Solve otherwise\n{}", after.value, drawing.text())));
+            }
+        }
+        Ok(())
+    }
+
+    /// The DIMACS text of the drawing, which may have least flows, and of the drawing without them: in as much room as it needs, in more, and in a byte less.
+    /// What is written is read back and solved by itself; its greatest flow is the largest value.
+    fn dimacs(&mut self, drawing: &Drawing, source: u16, sink: u16) -> Check {
+        let free = Drawing { capacities: drawing.capacities.iter().map(|&capacity| capacity.max(0)).collect(), ..drawing.clone() };
+        let needed = dimacs::text(&free, source, sink).len();
+        for drawing in [drawing, &free] {
+            for length in [needed, needed + 1 + self.chance.below(9), needed - 1, self.chance.below(needed)] {
+                let mut lent = Lent::new(drawing.bytes());
+                lent.text = self.chance.junk(length, |x| x as u8);
+                let after = self.compare(Call::WriteDimacs { source, sink }, &lent)?;
+                if after.length == lent.length {
+                    continue; // refused
+                }
+                let text = String::from_utf8_lossy(&after.text[..after.length]);
+                let told = |what: String| Wrong(format!("the text of {source} to {sink}: {what}\n{}", drawing.text()));
+                let greatest = dimacs::Problem::read(&text).map_err(&told)?.greatest();
+                let largest = range(drawing, source as usize, sink as usize).map(|(_, largest)| largest);
+                if largest != Some(greatest) {
+                    return Err(told(format!("its greatest flow is {greatest}, the largest {largest:?}")));
+                }
             }
         }
         Ok(())
@@ -558,6 +590,7 @@ impl Checker<'_> {
             let edge = self.some_edge(drawing);
             self.compare(Call::RaiseLimit { source, sink, value, edge }, &lent)?;
             self.compare(Call::Mark { source, sink }, &lent)?;
+            self.compare(Call::WriteDimacs { source, sink }, &lent)?;
         }
         Ok(())
     }
@@ -603,6 +636,7 @@ impl Checker<'_> {
             Call::LevelsFromSettings,
             Call::SettingsFromLevels,
             Call::Totals,
+            Call::WriteDimacs { source, sink },
         ];
         for call in calls {
             let lent = self.lend(bytes.clone(), whole);
@@ -692,6 +726,9 @@ fn picture(call: &Call, before: &Lent) -> String {
         _ => {}
     }
     writeln!(text, "# lent: sheet {}, flows {}, set {}, levels {}", before.sheet.len(), before.flows.len(), before.set.len(), before.levels.len()).unwrap();
+    if let Call::WriteDimacs { .. } = call {
+        writeln!(text, "# and text {}", before.text.len()).unwrap();
+    }
     if let Call::LeastAndLargest { .. } = call {
         writeln!(text, "# and low {}, below {}, high {}, above {}", before.low.len(), before.below.len(), before.high.len(), before.above.len()).unwrap();
     }

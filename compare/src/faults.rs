@@ -118,6 +118,21 @@ faults! {
     PracticeKindFour: "a practice sheet has a head of kind 4",
     SixteenForTwentyThree: "room for a practice sheet is looked at before its sizes and its seed",
     PracticeOnRefusal: "a practice sheet's kind is written before its room is looked at",
+    DimacsFromZero: "the DIMACS text counts nodes from 0",
+    DimacsBackAsForward: "a back arc of the DIMACS text has the forward limit",
+    DimacsBackFirst: "the DIMACS text has the back arc of each channel first",
+    DimacsSinkFirst: "the DIMACS text names the sink before the source",
+    DimacsEndsExchanged: "the DIMACS text has the sink as source and the source as sink",
+    DimacsNoZeroArcs: "the DIMACS text leaves out arcs of capacity 0",
+    DimacsNoLoops: "the DIMACS text leaves out arcs from a node to itself",
+    DimacsSpaceAtTheEnd: "a line of the DIMACS text ends in a space",
+    DimacsLengthOffByOne: "the DIMACS text's length is one too small",
+    DimacsPastTheText: "the DIMACS text writes past its end",
+    DimacsLeastAsZero: "a least flow is written as 0",
+    DimacsOneBackUnseen: "22 looks at forward limits only",
+    DimacsPartOnShort: "a short output is refused after it was filled",
+    TwentyTwoForFourteen: "least flows are looked at before whether the ends are equal",
+    SixteenForTwentyTwo: "room is looked at before least flows",
 }
 
 /// The unit, with a fault or without.
@@ -213,6 +228,7 @@ fn answer(fault: Fault, call: &Call, drawing: &Drawing, before: &Lent, after: &m
             _ => {}
         },
         Call::Totals => totals(fault, drawing, after),
+        Call::WriteDimacs { source, sink } => dimacs(fault, (source, sink), drawing, before, after),
         Call::KeyText | Call::PracticeSheet { .. } => {}
     }
 }
@@ -494,6 +510,82 @@ fn highest_elsewhere(drawing: &Drawing) -> Vec<usize> {
     zero.into_iter().flatten().collect()
 }
 
+fn dimacs(fault: Fault, (source, sink): (u16, u16), drawing: &Drawing, before: &Lent, after: &mut Lent) {
+    let mut other = drawing.clone();
+    let text = match fault {
+        Fault::DimacsFromZero => {
+            let less = |word: &str| (word.parse::<i64>().unwrap() - 1).to_string();
+            let line = |line: &str| match line.split(' ').collect::<Vec<_>>()[..] {
+                ["n", v, which] => format!("n {} {which}\n", less(v)),
+                ["a", v, w, capacity] => format!("a {} {} {capacity}\n", less(v), less(w)),
+                _ => format!("{line}\n"),
+            };
+            crate::dimacs::text(drawing, source, sink).lines().map(line).collect()
+        }
+        Fault::DimacsBackAsForward => {
+            (0..other.edges()).for_each(|edge| other.capacities[2 * edge + 1] = other.capacities[2 * edge]);
+            crate::dimacs::text(&other, source, sink)
+        }
+        Fault::DimacsBackFirst => {
+            (0..other.edges()).for_each(|edge| {
+                other.capacities.swap(2 * edge, 2 * edge + 1);
+                other.tails.swap(2 * edge, 2 * edge + 1);
+            });
+            crate::dimacs::text(&other, source, sink)
+        }
+        Fault::DimacsSinkFirst => {
+            let mut lines: Vec<String> = crate::dimacs::text(drawing, source, sink).lines().map(|line| format!("{line}\n")).collect();
+            lines.swap(1, 2);
+            lines.concat()
+        }
+        Fault::DimacsEndsExchanged => crate::dimacs::text(drawing, sink, source),
+        Fault::DimacsNoZeroArcs => kept(drawing, source, sink, |words| words[3] != "0"),
+        Fault::DimacsNoLoops => kept(drawing, source, sink, |words| words[1] != words[2]),
+        Fault::DimacsSpaceAtTheEnd => crate::dimacs::text(drawing, source, sink).replacen('\n', " \n", 1),
+        Fault::DimacsLengthOffByOne => {
+            after.length -= 1;
+            return;
+        }
+        Fault::DimacsPastTheText => {
+            after.text[after.length..].fill(0);
+            return;
+        }
+        _ => return,
+    };
+    after.text = before.text.clone();
+    after.text.iter_mut().zip(text.bytes()).for_each(|(byte, new)| *byte = new);
+    after.length = text.len();
+}
+
+/// The text without some of its arcs.
+fn kept(drawing: &Drawing, source: u16, sink: u16, keep: fn(&[&str]) -> bool) -> String {
+    let text = crate::dimacs::text(drawing, source, sink);
+    let keeps = |line: &&str| !line.starts_with('a') || keep(&line.split(' ').collect::<Vec<_>>());
+    text.lines().filter(keeps).map(|line| format!("{line}\n")).collect()
+}
+
+fn is_dimacs(call: &Call) -> bool {
+    matches!(call, Call::WriteDimacs { .. })
+}
+
+/// Whether a sheet has a limit below zero; with a step of 2 only forward limits are looked at.
+fn least_flow(sheet: &[u8], step: usize) -> bool {
+    judge::records(sheet).is_ok_and(|drawing| drawing.capacities.iter().step_by(step.max(1)).any(|&capacity| capacity < 0))
+}
+
+/// The text of a drawing that was refused for its least flows, with 0 in their place, if there is room.
+fn written_anyway(call: &Call, before: &Lent, after: &mut Lent, result: u8) -> u8 {
+    let (Call::WriteDimacs { source, sink }, Ok(drawing)) = (*call, judge::records(&before.sheet)) else { return result };
+    let free = Drawing { capacities: drawing.capacities.iter().map(|&capacity| capacity.max(0)).collect(), ..drawing };
+    let text = crate::dimacs::text(&free, source, sink);
+    if before.text.len() < text.len() {
+        return result;
+    }
+    after.text[..text.len()].copy_from_slice(text.as_bytes());
+    (after.length, after.place) = (text.len(), before.place);
+    0
+}
+
 fn key(fault: Fault, after: &mut Lent) {
     match fault {
         Fault::KeyWithoutLastLineFeed => after.length -= 1,
@@ -528,6 +620,7 @@ fn refusal(fault: Fault, call: &Call, before: &Lent, after: &mut Lent, result: u
             | Call::LeastAndLargest { source, sink }
             | Call::RaiseLimit { source, sink, .. }
             | Call::Mark { source, sink }
+            | Call::WriteDimacs { source, sink }
                 if source == sink =>
             {
                 return 14
@@ -565,6 +658,11 @@ fn refusal(fault: Fault, call: &Call, before: &Lent, after: &mut Lent, result: u
                 return 0;
             }
         }
+        (Fault::TwentyTwoForFourteen, 14) if is_dimacs(call) && least_flow(sheet, 0) => return 22,
+        (Fault::SixteenForTwentyTwo, 22) if before.text.len() < 38 => return 16,
+        (Fault::DimacsPartOnShort, 16) if is_dimacs(call) => after.text.fill(b'p'),
+        (Fault::DimacsLeastAsZero, 22) => return written_anyway(call, before, after, result),
+        (Fault::DimacsOneBackUnseen, 22) if !least_flow(sheet, 2) => return written_anyway(call, before, after, result),
         (Fault::ShortAboveUnseen, 16) => {
             let mut longer = Lent { above: vec![0; 9], ..before.clone() };
             if let (Call::LeastAndLargest { .. }, 0, 0) = (call, unit::call(call, &mut longer), longer.found) {
@@ -652,6 +750,7 @@ mod tests {
             ("Totals by node", with(&[16]), &["total", "total 0", "total below 0"]),
             ("Key text", vec![16], &["can", "cannot", "refused in the text"]),
             ("Practice sheet", vec![16, 23], &["done"]),
+            ("DIMACS text", with(&[13, 14, 16, 22]), &["done"]),
         ];
         for (name, refusals, answers) in due {
             let met: Vec<_> = tally.answers.keys().filter(|key| key.0 == name).map(|&(_, number, answer)| (number, answer)).collect();

@@ -83,6 +83,11 @@ pub fn accept(call: &Call, lent: &Lent) -> Result<Drawing, Refusal> {
             within(&drawing, &crate::levels::flows_of(&drawing.faces(), &levels))?;
         }
         Call::Totals => refuse(16, lent.set.len() < drawing.words() || lent.subtotals.len() < members(&drawing, &lent.set).len())?,
+        Call::WriteDimacs { source, sink } => {
+            ends(&drawing, source, sink)?;
+            refuse(22, drawing.capacities.iter().any(|&capacity| capacity < 0))?;
+            refuse(16, lent.text.len() < crate::dimacs::text(&drawing, source, sink).len())?;
+        }
         Call::Write { .. } | Call::KeyText | Call::PracticeSheet { .. } => unreachable!("judged above"),
     }
     Ok(drawing)

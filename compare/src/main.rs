@@ -9,6 +9,7 @@
 mod chance;
 mod check;
 mod damage;
+mod dimacs;
 mod drawing;
 mod faults;
 mod flow;

@@ -15,6 +15,7 @@ pub enum Call {
     Totals,
     KeyText,
     PracticeSheet { rows: u16, columns: u16, seed: u32 },
+    WriteDimacs { source: u16, sink: u16 },
 }
 
 impl Call {
@@ -32,6 +33,7 @@ impl Call {
             Call::Totals => "Totals by node",
             Call::KeyText => "Key text",
             Call::PracticeSheet { .. } => "Practice sheet",
+            Call::WriteDimacs { .. } => "DIMACS text",
         }
     }
 }
@@ -278,6 +280,17 @@ extern "C" {
     fn analyser_key_text(input: *const u8, input_length: usize, text: *mut u8, text_length: usize, length: *mut usize, place: *mut u16) -> u8;
     #[rustfmt::skip]
     fn analyser_practice_sheet(rows: u16, columns: u16, seed: u32, sheet: *mut u8, sheet_length: usize, length: *mut usize, place: *mut u16) -> u8;
+    #[rustfmt::skip]
+    fn analyser_write_dimacs(
+        sheet: *const u8,
+        sheet_length: usize,
+        source: u16,
+        sink: u16,
+        text: *mut u8,
+        text_length: usize,
+        length: *mut usize,
+        place: *mut u16,
+    ) -> u8;
 }
 
 /// Calls the unit. The result is the number of the refusal, or 0.
@@ -323,6 +336,8 @@ pub fn call(call: &Call, lent: &mut Lent) -> u8 {
             Call::KeyText => analyser_key_text(sheet.pointer(), sheet.length(), text.pointer(), text.length(), &mut lent.length, &mut lent.place),
             Call::PracticeSheet { rows, columns, seed } => analyser_practice_sheet(rows, columns, seed, sheet.pointer(), sheet.length(), &mut lent.length,
                 &mut lent.place),
+            Call::WriteDimacs { source, sink } => analyser_write_dimacs(sheet.pointer(), sheet.length(), source, sink, text.pointer(), text.length(),
+                &mut lent.length, &mut lent.place),
         }
     };
     lent.guards = sheet.give_back(&mut lent.sheet)

@@ -37,6 +37,8 @@ use Rattle.totals.specs.Totals.{totalChecks}
 use Rattle.analyser.specs.Totals.{totalsChecks}
 use Rattle.key_text.specs.Key.{keyRoomChecks}
 use Rattle.practice.specs.Practice.{practiceChecks}
+use Rattle.dimacs.specs.Write.{textChecks}
+use Rattle.analyser.specs.Dimacs.{dimacsChecks}
 
 -- ── lists of checks whose numbers are 1 or more ──
 unfoldable pub Numbered : List Check → Type 0
@@ -163,3 +165,8 @@ key-numbered text = (omega arith, tt)
 pub practice-numbered : (rows columns seed : ℕ) (sheet : List ℕ) → Numbered (practiceChecks rows columns seed sheet)
 unfolding Numbered practiceChecks
 practice-numbered rows columns seed sheet = (omega arith, (omega arith, tt))
+
+pub dimacs-numbered : (s : List ℕ) (source sink : ℕ) (text : List ℕ) → Numbered (dimacsChecks s source sink text)
+unfolding Numbered dimacsChecks textChecks endChecks
+dimacs-numbered s source sink text =
+    numbered-append (sheetChecks s) _ (sheet-numbered s) (omega arith, (omega arith, (omega arith, (omega arith, tt))))

@@ -30,6 +30,8 @@ use Rattle.key_text.specs.Key.{keyRoomChecks}
 use Rattle.key_text.specs.declared.KeyAnswer.the-variants as key
 use Rattle.practice.specs.Practice.{practiceChecks}
 use Rattle.practice.specs.declared.PracticeAnswer.the-variants as practice
+use Rattle.analyser.specs.Dimacs.{dimacsChecks}
+use Rattle.dimacs.specs.declared.DimacsAnswer.the-variants as dimacs
 use Rattle.abi.specs.Read.{TellsRead}
 use Rattle.abi.specs.Write.{TellsWrite}
 use Rattle.abi.specs.Solve.{TellsSolve}
@@ -41,6 +43,7 @@ use Rattle.abi.specs.Levels.{TellsLevels, TellsSettings}
 use Rattle.abi.specs.Totals.{TellsTotals}
 use Rattle.abi.specs.Key.{TellsKey}
 use Rattle.abi.specs.Practice.{TellsPractice}
+use Rattle.abi.specs.Dimacs.{TellsDimacs}
 use Rattle.abi.proofs.Numbered.{
   Numbered,
   first-numbered,
@@ -56,6 +59,7 @@ use Rattle.abi.proofs.Numbered.{
   totals-numbered,
   key-numbered,
   practice-numbered,
+  dimacs-numbered,
 }
 
 -- ── what a result says, of any operation with these checks; Same: everything else behind a pointer is as it was ──
@@ -154,3 +158,9 @@ module _ {place place' result : ℕ} where
         → Says (totalsChecks s set out) result place place' ((out' ≡ out) × (total' ≡ total))
     totals-says (totals.Total t, h, w) = says-answer (h .0) (w .0) (w .2)
     totals-says (totals.Refused k p, h, w) = says-refusal k p (totals-numbered s _ _) (h .0) (w .0) (w .2) (h .1, w .1)
+
+    pub dimacs-says : {source sink : ℕ} {text text' : List ℕ} {length length' : ℕ}
+        → TellsDimacs s source sink text text' length length' place place' result
+        → Says (dimacsChecks s source sink text) result place place' ((text' ≡ text) × (length' ≡ length))
+    dimacs-says (dimacs.Bytes n, h, t) = says-answer (h .0) (t .0) (t .2)
+    dimacs-says (dimacs.Refused k p, h, t) = says-refusal k p (dimacs-numbered s _ _ _) (h .0) (t .0) (t .2) (h .1, t .1)

@@ -9,3 +9,4 @@ pub mod Mark
 pub mod Levels
 pub mod Key
 pub mod Practice
+pub mod Dimacs

@@ -11,6 +11,8 @@ ghost use Rattle.abi.specs.Levels.{TellsLevels, TellsSettings};
 ghost use Rattle.abi.specs.Totals.{TellsTotals};
 ghost use Rattle.abi.specs.Key.{TellsKey};
 ghost use Rattle.abi.specs.Practice.{TellsPractice};
+ghost use Rattle.abi.specs.Dimacs.{TellsDimacs};
+use dimacs::DimacsAnswer;
 use key_text::KeyAnswer;
 use levels::LevelAnswer;
 use practice::PracticeAnswer;
@@ -361,6 +363,32 @@ pub extern "C" fn analyser_practice_sheet(
             0
         }
         PracticeAnswer::Refused(k, p) => {
+            *place = p;
+            k
+        }
+    }
+}
+
+// The DIMACS text. The bytes of the text, and in length their number.
+#[no_mangle]
+pub extern "C" fn analyser_write_dimacs(
+    sheet: &[u8],
+    source: u16,
+    sink: u16,
+    text: &mut [u8],
+    length: &mut usize,
+    place: &mut u16,
+) -> u8
+    ensures { λ r. ⌜ TellsDimacs (now (sheet .entry)) source sink (now (text .entry)) (now (text .exit))
+        (now (length .entry)) (now (length .exit)) (now (place .entry)) (now (place .exit)) r ⌝ }
+{
+    let answer = analyser::write_dimacs(sheet, source, sink, text);
+    match answer {
+        DimacsAnswer::Bytes(n) => {
+            *length = n;
+            0
+        }
+        DimacsAnswer::Refused(k, p) => {
             *place = p;
             k
         }

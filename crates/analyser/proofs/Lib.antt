@@ -7,6 +7,7 @@ pub mod Asked
 pub mod Demand3
 pub mod Range
 pub mod Raise
+pub mod Dimacs
 pub mod Statements
 pub mod Districts
 pub mod ByNode

@@ -41,6 +41,9 @@ use Rattle.levels.specs.LevelsOf.{balancedChecks, LevelsGiven}
 use Rattle.levels.specs.SettingsOf.{leveledChecks, SettingsGiven}
 use Rattle.levels.specs.declared.LevelAnswer.{LevelAnswer}
 use Rattle.levels.proofs.After.{levels-after, settings-after}
+use Rattle.dimacs.specs.Write.{textChecks, TextWritten}
+use Rattle.dimacs.specs.declared.DimacsAnswer.{DimacsAnswer}
+use Rattle.dimacs.proofs.Writing.{text-after}
 use Rattle.analyser.specs.Solve.{solveChecks, Solves}
 use Rattle.analyser.specs.Largest.{largestChecks, FindsLargest}
 use Rattle.analyser.specs.Range.{rangeChecks, FindsRange}
@@ -49,6 +52,7 @@ use Rattle.analyser.specs.Mark.{markChecks, Marks}
 use Rattle.analyser.specs.LevelsOf.{levelsChecks, GivesLevels}
 use Rattle.analyser.specs.SettingsOf.{settingsChecks, GivesSettings}
 use Rattle.analyser.specs.Totals.{totalsChecks, GivesTotals}
+use Rattle.analyser.specs.Dimacs.{dimacsChecks, WritesDimacs}
 use Rattle.analyser.proofs.SheetPlane.{sheet-drawn, capacity-small}
 
 -- ── a refused sheet ──
@@ -85,6 +89,10 @@ module _ (s : List ℕ) (k p : ℕ) (first : FirstOf (sheetChecks s) k p) where
   pub totals-refused : (set : List ℕ) (out : List ℤ) → FirstOf (totalsChecks s set out) k p
   unfolding totalsChecks
   totals-refused set out = first-left (sheetChecks s) _ k p first
+
+  pub dimacs-refused : (source sink : ℕ) (out : List ℕ) → FirstOf (dimacsChecks s source sink out) k p
+  unfolding dimacsChecks
+  dimacs-refused source sink out = first-left (sheetChecks s) _ k p first
 
 -- ── an accepted one ──
 module _ (s : List ℕ) (o : Opened) (lefts tails rotations : List ℕ) (capacities : List ℤ) (open' : NoneOf (sheetChecks s) × Numbers s lefts o)
@@ -196,3 +204,16 @@ module _ (s : List ℕ) (o : Opened) (lefts tails rotations : List ℕ) (capacit
   totals-sheet set out out' r h =
       total-after (sheetChecks s) (open' .0) (sheetMap s) (capacityOf s) _ set out out' r
       (subst (λ 𝓓. TotalGiven (𝓓 .map) (𝓓 .capacity) (totalChecks (𝓓 .map .nodes) set out) set out out' r) same h)
+
+  -- what the text asks, which is less still
+  pub counts-small : (o .nodes ≤ 1024) × (o .edges ≤ 512)
+  counts-small = (markable .0, markable .1)
+
+  pub dimacs-sheet : (source sink : ℕ) (out out' : List ℕ) (r : DimacsAnswer)
+      → TextWritten (drawingOf (o .nodes) (o .edges) (o .outer) tails rotations capacities)
+      (textChecks (drawingOf (o .nodes) (o .edges) (o .outer) tails rotations capacities) source sink out) source sink out out' r
+      → WritesDimacs s source sink out out' r
+  unfolding dimacsChecks
+  dimacs-sheet source sink out out' r h =
+      text-after (sheetChecks s) (open' .0) (sheetDrawing s) _ source sink out out' r
+      (subst (λ 𝓓. TextWritten 𝓓 (textChecks 𝓓 source sink out) source sink out out' r) same h)

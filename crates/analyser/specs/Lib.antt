@@ -6,4 +6,5 @@ pub mod Largest
 pub mod Range
 pub mod Totals
 pub mod Raise
+pub mod Dimacs
 pub mod Statements

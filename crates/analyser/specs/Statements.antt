@@ -1,16 +1,14 @@
--- What the course book prints of the operations on sheets (document 01, demands 2 and 3; document 02, Jobs 4, 6, 7, 8 and 9), as records: a field for each
+-- What the course book prints of the operations on sheets (document 01, demands 2 and 3; document 02, Jobs 2, 4 and 6 to 9), as records: a field for each
 -- statement, with the printed words above it. Each is about every run of an operation: all that a field knows of a run is its contract, `Solves`,
--- `FindsLargest`, `FindsRange`, `RaisesLimit`, `Marks`, `GivesLevels`, `GivesSettings` or `GivesTotals`. A sheet or a question is accepted where no check of its
--- list holds; an accepted sheet is flat, because 12 is among its checks, in one part or several. Settings are any function from edges to whole numbers,
--- deliveries any whole number. The proofs are in proofs/Statements.antt, proofs/Range.antt, proofs/Raise.antt, proofs/Districts.antt and proofs/ByNode.antt.
-use 12 is among its checks, in one part or several. Settings are any function from edges to whole numbers, deliveries any
--- whole number. The proofs are in proofs/Statements.antt, proofs/Range.antt, proofs/Raise.antt, proofs/Districts.antt and proofs/ByNode.antt.
+-- `FindsLargest`, `FindsRange`, `RaisesLimit`, `Marks`, `GivesLevels`, `GivesSettings`, `GivesTotals` or `WritesDimacs`. A sheet or a question is accepted
+-- where no check of its list holds; an accepted sheet is flat, because 12 is among its checks, in one part or several. Settings are any function from edges to
+-- whole numbers, deliveries any whole number. The proofs are in proofs/Statements.antt, Range.antt, Raise.antt, Districts.antt, ByNode.antt and Dimacs.antt.
 use Prim.Native.Nat.{ℕ, _+_, _*_, _≤_, _<_}
 use mathlib.Core.Path.{_≡_}
 use mathlib.Core.Logic.{_⊎_, _↔_}
 use mathlib.Core.Bool.{Bool, true, false}
 use mathlib.Core.List.{List}
-use lib.ListN.{length}
+use lib.ListN.{length, take}
 use lib.IntN.{ℤ, pos, _+ℤ_, _-ℤ_}
 use lib.Signed.{_≤ℤ_, _<ℤ_}
 use Rattle.integers.specs.Sum.{sumℤ, when, count}
@@ -45,6 +43,10 @@ use Rattle.raising.specs.declared.RaiseAnswer.{RaiseAnswer}
 use Rattle.raising.specs.declared.RaiseAnswer.the-variants as raise
 use Rattle.levels.specs.declared.LevelAnswer.{LevelAnswer}
 use Rattle.levels.specs.declared.LevelAnswer.the-variants.{Done}
+use Rattle.dimacs.specs.Problem.{WellPosed, Greatest, NoneGreaterInParts}
+use Rattle.dimacs.specs.Reading.{problemOf}
+use Rattle.dimacs.specs.Drawn.{drawnProblem}
+use Rattle.dimacs.specs.declared.DimacsAnswer.the-variants.{Bytes}
 use Rattle.analyser.specs.Solve.{solveChecks, Solves}
 use Rattle.analyser.specs.Largest.{largestChecks, FindsLargest}
 use Rattle.analyser.specs.Range.{rangeChecks, FindsRange}
@@ -53,6 +55,7 @@ use Rattle.analyser.specs.Mark.{Marks}
 use Rattle.analyser.specs.LevelsOf.{GivesLevels}
 use Rattle.analyser.specs.SettingsOf.{GivesSettings}
 use Rattle.analyser.specs.Totals.{totalsChecks, GivesTotals}
+use Rattle.analyser.specs.Dimacs.{WritesDimacs}
 
 -- ── the words of the sentences, of a sheet's drawing ──
 -- the settings x keep every limit, balance at every node but source and sink, and carry the delivery
@@ -305,3 +308,32 @@ pub record RaisedLimit : Type 0 where
       → RaisesLimit s source sink value edge flows flows' set set' raise.None
       → (words : List ℕ) × SetWritten (nodesOf s) words set set'
       × Proves (sheetMap s) (raised (capacityOf s) edge (pos 1000000)) source sink value (member words)
+
+-- ── Document 02, Job 2: "For every drawing written, the greatest flow of the text by the DIMACS definition is what Largest reports." Of every run of
+-- `write_dimacs` that gave a number of bytes, known by its contract `WritesDimacs` alone. What the bytes mean is `problemOf`, which knows no drawing. ──
+pub record DimacsTexts : Type 0 where
+  -- the bytes written are read back as the drawing's problem
+  pub reads-back : (s : List ℕ) (source sink : ℕ) (out out' : List ℕ) (n : ℕ)
+      → WritesDimacs s source sink out out' (Bytes n) → problemOf (take n out') ≡ drawnProblem (sheetMap s) (capacityOf s) source sink
+  -- as many arcs as announced, no node that is none, source and sink two
+  pub well-posed : (s : List ℕ) (source sink : ℕ) (out out' : List ℕ) (n : ℕ)
+      → WritesDimacs s source sink out out' (Bytes n) → WellPosed (problemOf (take n out'))
+  -- "the greatest flow of the text by the DIMACS definition is what Largest reports", in whatever slices
+  pub greatest-is-largest : (s : List ℕ) (source sink : ℕ) (out out' : List ℕ) (n : ℕ)
+      → WritesDimacs s source sink out out' (Bytes n)
+      → (flows flows' : List ℤ) (set set' : List ℕ) (answer : LargestAnswer)
+      → NoneOf (largestChecks s source sink flows set) → FindsLargest s source sink flows flows' set set' answer
+      → (v : ℤ) → Greatest (problemOf (take n out')) v ↔ (answer ≡ largest.Value v)
+  -- and it does report one: never none
+  pub never-none : (s : List ℕ) (source sink : ℕ) (out out' : List ℕ) (n : ℕ)
+      → WritesDimacs s source sink out out' (Bytes n)
+      → (flows flows' : List ℤ) (set set' : List ℕ) (answer : LargestAnswer)
+      → NoneOf (largestChecks s source sink flows set) → FindsLargest s source sink flows flows' set set' answer
+      → (v : ℤ) × (answer ≡ largest.Value v)
+  -- nor has a flow of the text in k-th parts a greater value
+  pub none-greater-in-parts : (s : List ℕ) (source sink : ℕ) (out out' : List ℕ) (n : ℕ)
+      → WritesDimacs s source sink out out' (Bytes n)
+      → (flows flows' : List ℤ) (set set' : List ℕ) (v : ℤ) → FindsLargest s source sink flows flows' set set' (largest.Value v)
+      → (k : ℕ) → NoneGreaterInParts k (problemOf (take n out')) v
+  -- room for every text
+  pub longest : (s : List ℕ) (source sink : ℕ) (out out' : List ℕ) (n : ℕ) → WritesDimacs s source sink out out' (Bytes n) → n ≤ 18463

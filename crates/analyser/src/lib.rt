@@ -1,6 +1,6 @@
 // The analyser's operations on sheets. Document 01, "Operations": Solve, Largest, Mark, Levels from settings, Settings from levels. Document 02: the least
-// delivery beside the largest (Job 4), what a forward limit must be raised to (Job 7), totals by node (Job 9). Each makes the network record once, in its own
-// frame, fills it from the sheet, and lends its arrays to the operation on drawings.
+// delivery beside the largest (Job 4), what a forward limit must be raised to (Job 7), totals by node (Job 9), DIMACS text (Job 2). Each makes the network
+// record once, in its own frame, fills it from the sheet, and lends its arrays to the operation on drawings.
 ghost use Rattle.analyser.specs.Solve.{Solves};
 ghost use Rattle.analyser.specs.Largest.{FindsLargest};
 ghost use Rattle.analyser.specs.Range.{FindsRange};
@@ -9,6 +9,8 @@ ghost use Rattle.analyser.specs.Mark.{Marks};
 ghost use Rattle.analyser.specs.LevelsOf.{GivesLevels};
 ghost use Rattle.analyser.specs.SettingsOf.{GivesSettings};
 ghost use Rattle.analyser.specs.Totals.{GivesTotals};
+ghost use Rattle.analyser.specs.Dimacs.{WritesDimacs};
+use dimacs::DimacsAnswer;
 use levels::LevelAnswer;
 use questions::LargestAnswer;
 use questions::MarkAnswer;
@@ -413,5 +415,48 @@ pub fn totals(sheet: &[u8], set: &[u64], subtotals: &mut [i32]) -> TotalsAnswer
         edges,
         set,
         subtotals,
+    )
+}
+
+// The sheet as a DIMACS maximum flow problem from source to sink, written in front of the output; the number of its bytes.
+// Nothing is written before the last check.
+pub fn write_dimacs(sheet: &[u8], source: u16, sink: u16, out: &mut [u8]) -> DimacsAnswer
+    ensures { λ r. ⌜ WritesDimacs (now (sheet .entry)) source sink (now (out .entry)) (now (out .exit)) r ⌝ }
+{
+    let mut network = Network {
+        nodes: 0,
+        edges: 0,
+        faces: 0,
+        outer: 0,
+        tails: [0u16; 1024],
+        rotations: [0u16; 1024],
+        capacities: [0i32; 1024],
+        lefts: [0u16; 1024],
+    };
+    let opened = sheets::open(sheet, &mut network.lefts);
+    let verdict = opened.verdict;
+    if let Verdict::Refused(k, p) = verdict {
+        return DimacsAnswer::Refused(k, p);
+    }
+    network.nodes = opened.nodes;
+    network.edges = opened.edges;
+    network.faces = opened.faces;
+    network.outer = opened.outer;
+    sheets::fill_tails(sheet, opened.edges, &mut network.tails);
+    sheets::fill_rotations(sheet, opened.edges, &mut network.rotations);
+    sheets::fill_capacities(sheet, opened.edges, &mut network.capacities);
+    let nodes = network.nodes;
+    let edges = network.edges;
+    let outer = network.outer;
+    dimacs::write(
+        &network.tails,
+        &network.rotations,
+        &network.capacities,
+        nodes,
+        edges,
+        outer,
+        source,
+        sink,
+        out,
     )
 }

@@ -30,6 +30,7 @@ fn run(
         19 => operations::totals(s, first, set),
         15 => operations::practice(s, bytes),
         11 => operations::raise_limit(s, first, set),
+        12 => operations::write_dimacs(s, bytes),
         _ => say::say(b": no such operation"),
     }
 }

@@ -1,6 +1,7 @@
 // The operations on a case: each makes the call and prints the answer.
 use super::case;
 use super::say;
+use dimacs::DimacsAnswer;
 use key_text::KeyAnswer;
 use levels::LevelAnswer;
 use practice::PracticeAnswer;
@@ -201,6 +202,19 @@ pub fn write_key(s: &[u8], text: &mut [u8]) {
     match answer {
         KeyAnswer::Bytes(n) => say::text(text, n),
         KeyAnswer::Refused(k, p) => {
+            say::refused(k, p);
+            say::bytes(s, 16, text);
+        }
+    }
+}
+
+pub fn write_dimacs(s: &[u8], text: &mut [u8]) {
+    let source = case::half(s, 2);
+    let sink = case::half(s, 4);
+    let answer = analyser::write_dimacs(case::part(s, 1), source, sink, text);
+    match answer {
+        DimacsAnswer::Bytes(n) => say::text(text, n),
+        DimacsAnswer::Refused(k, p) => {
             say::refused(k, p);
             say::bytes(s, 16, text);
         }

@@ -1,64 +1,11 @@
 // The program key: standard input to standard output (document 01, "The program key"). It reads a question and a sheet into a buffer one byte longer than the
 // longest that can be accepted, so that a byte left over is seen (`key_text::key_of_input` asks for it). A read or write that fails is told on standard error,
 // since a program of this kit has no exit status.
-ghost use Rattle.key.specs.inner.Input.{Filled};
-
-// The input ended after so many bytes, or filled the buffer; or a read failed, and errno says why.
-enum Input {
-    Ended(usize),
-    Full(usize),
-    Failed,
-}
-
-// Whether a call that gave this answer failed only because a signal came before it moved a byte: it is made again.
-fn interrupted(answer: isize) -> bool {
-    answer < 0 && os::errno() == libc::EINTR
-}
-
-// Reads straight into what is left of the buffer, until the input ends or the buffer is full. A proved loop has to end, so interrupted calls are counted down,
-// from a number that no run uses up. Any other failure is one, that of a non-blocking input with nothing to read yet (EAGAIN) too: half an input has no key.
-fn read_input(buffer: &mut [u8]) -> Input
-    ensures { λ r. ⌜ Filled (now (buffer .exit)) r ⌝ }
-{
-    let mut at: usize = 0;
-    let mut again = u64::MAX;
-    while at < buffer.len() {
-        let got = libc::read(libc::STDIN_FILENO, &mut buffer[at..]);
-        let n = io::count(got, &buffer[at..]);
-        if n > 0 {
-            at += n;
-        } else if got == 0 {
-            return Input::Ended(at);
-        } else if again > 0 && interrupted(got) {
-            again -= 1;
-        } else {
-            return Input::Failed;
-        }
-    }
-    Input::Full(at)
-}
-
-// Writes all of the text, or answers false at the first call that fails or takes nothing; what was written before it stays. Interrupted calls as above.
-fn write_text(text: &[u8]) -> bool {
-    let mut at: usize = 0;
-    let mut again = u64::MAX;
-    while at < text.len() {
-        let put = libc::write(libc::STDOUT_FILENO, &text[at..]);
-        let n = io::count(put, &text[at..]);
-        if n > 0 {
-            at += n;
-        } else if again > 0 && interrupted(put) {
-            again -= 1;
-        } else {
-            return false;
-        }
-    }
-    true
-}
+use streams::Input;
 
 fn main() {
     let mut buffer = [0u8; 8721];
-    let n = match read_input(&mut buffer) {
+    let n = match streams::read_input(&mut buffer) {
         Input::Ended(n) => n,
         Input::Full(n) => n,
         Input::Failed => {
@@ -68,7 +15,7 @@ fn main() {
     };
     let mut text = [0u8; 6671];
     let m = key_text::key_of_input(&buffer, n, &mut text);
-    if !write_text(&text[..m]) {
+    if !streams::write_text(&text[..m]) {
         os::fail(b"key: standard output");
     }
 }

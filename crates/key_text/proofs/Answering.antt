@@ -32,10 +32,12 @@ use Rattle.analyser.proofs.SheetPlane.{capacity-small}
 use Rattle.analyser.proofs.Demand3.{can-highest}
 use Rattle.texts.specs.Decimal.{decimal}
 use Rattle.texts.specs.inner.Placed.{Placed}
+use Rattle.texts.specs.Lines.{lines}
+use Rattle.texts.proofs.Joined.{placed-front, lines-agree}
 use Rattle.key_text.specs.Question.{sourceOf, sinkOf, valueOf, sheetOf, keyChecks}
-use Rattle.key_text.specs.Text.{lines, nodeLine, canText, cannotLine, cannotText, refusedText}
+use Rattle.key_text.specs.Text.{nodeLine, canText, cannotLine, cannotText, refusedText}
 use Rattle.key_text.specs.Key.{Key, can, cannot, refused, Prints, textRoom}
-use Rattle.key_text.proofs.Joined.{placed-front, lines-agree, can-text-length, cannot-text-length, refused-text-length}
+use Rattle.key_text.proofs.Length.{can-text-length, cannot-text-length, refused-text-length}
 
 -- a text that stands at the front is printed
 pub printed : (b t text text' : List ℕ) (n : ℕ) → Key b t → Placed 0 t text text' n → length t ≤ length text → Prints b text text' n

@@ -19,10 +19,10 @@ use Rattle.analyser.proofs.Accepted.{Accepted, accepted}
 use Rattle.analyser.proofs.Asked.{one-highest}
 use Rattle.analyser.specs.Statements.{Delivers}
 use Rattle.analyser.proofs.Demand3.{set-excludes}
+use Rattle.texts.proofs.Joined.{lines-agree}
 use Rattle.key_text.specs.Question.{sourceOf, sinkOf, valueOf, sheetOf, keyChecks}
 use Rattle.key_text.specs.Text.{canWord, cannotWord, refusedWord, edgeLine, canLine, canText, cannotLine, cannotText, refusedText}
 use Rattle.key_text.specs.Key.{Key, can, cannot, refused}
-use Rattle.key_text.proofs.Joined.{lines-agree}
 use Rattle.key_text.proofs.Answering.{key-solve}
 
 -- ── the text's first word ──

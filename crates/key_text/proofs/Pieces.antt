@@ -1,5 +1,5 @@
--- Pieces of text: one whose number has another name, the line of a node by what the test said, and the bytes behind the record of a question.
-use mathlib.Core.Path.{_≡_, sym, ap, subst, _∙_}
+-- Pieces of text: the line of a node by what the test said, and the bytes behind the record of a question.
+use mathlib.Core.Path.{_≡_, sym, ap, _∙_}
 use mathlib.Core.Bool.{true, false, cond}
 use mathlib.Core.List.{List, [], _∷_, _++_}
 use Prim.Native.Nat.{ℕ, _-_}
@@ -8,12 +8,7 @@ use lib.Seq.{take-length}
 use Rattle.flows.specs.ProvingSet.{member}
 use Rattle.records.specs.Record.{recordLength}
 use Rattle.texts.specs.Decimal.{decimal}
-use Rattle.texts.specs.inner.Placed.{Placed}
 use Rattle.key_text.specs.Text.{nodeLine}
-
--- placed is what it is the text of, under either name
-pub placed-as : {A : Type 0} (text : A → List ℕ) {x y : A} (at end : ℕ) (l m : List ℕ) → x ≡ y → Placed at (text x) l m end → Placed at (text y) l m end
-placed-as text at end l m e p = subst (λ z. Placed at (text z) l m end) e p
 
 -- what the test said decides the line of a node
 pub in-set : (words : List ℕ) (v : ℕ) → member words v ≡ true → decimal v ++ (10 ∷ []) ≡ nodeLine words v

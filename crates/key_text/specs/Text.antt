@@ -1,11 +1,12 @@
 -- The words and lines of the key. Document 01, "The program key": "It prints "can" and delivery, then each channel and its setting; or "cannot", delivery and
 -- size, then each node of the set, rising; or "refused" and the number." One space (32) between fields, one line feed (10) after every line, the last one too.
-use Prim.Native.Nat.{ℕ, zero, suc}
+use Prim.Native.Nat.{ℕ}
 use mathlib.Core.Bool.{cond}
 use mathlib.Core.List.{List, [], _∷_, _++_}
 use lib.IntN.{ℤ}
 use Rattle.flows.specs.ProvingSet.{member}
 use Rattle.texts.specs.Decimal.{decimal, number}
+use Rattle.texts.specs.Lines.{lines}
 
 -- the bytes of "can ", "cannot " and "refused "
 abbrev pub canWord : List ℕ
@@ -16,11 +17,6 @@ cannotWord = 99 ∷ 97 ∷ 110 ∷ 110 ∷ 111 ∷ 116 ∷ 32 ∷ []
 
 abbrev pub refusedWord : List ℕ
 refusedWord = 114 ∷ 101 ∷ 102 ∷ 117 ∷ 115 ∷ 101 ∷ 100 ∷ 32 ∷ []
-
--- the lines of 0, .., n - 1, one after another
-unfoldable pub lines : ℕ → (ℕ → List ℕ) → List ℕ
-lines zero line = []
-lines (suc n) line = lines n line ++ line n
 
 -- an edge ("channel") and its flow ("setting")
 unfoldable pub edgeLine : ℕ → ℤ → List ℕ

@@ -8,8 +8,9 @@ ghost use Rattle.refusals.specs.Order.{NoneOf};
 ghost use Rattle.records.specs.Record.{recordChecks};
 ghost use Rattle.arrays.specs.At.{atℤ};
 ghost use Rattle.texts.specs.inner.Placed.{Placed};
+ghost use Rattle.texts.specs.Lines.{lines};
 ghost use Rattle.key_text.specs.Question.{sourceOf, sinkOf, valueOf, sheetOf};
-ghost use Rattle.key_text.specs.Text.{lines, edgeLine, canLine, canText, nodeLine, cannotLine, cannotText, refusedText};
+ghost use Rattle.key_text.specs.Text.{edgeLine, canLine, canText, nodeLine, cannotLine, cannotText, refusedText};
 ghost use Rattle.key_text.specs.Key.{Prints, textRoom, Writes};
 ghost use Rattle.key_text.specs.Input.{inputRoom, Begins};
 use questions::SolveAnswer;
@@ -36,7 +37,7 @@ fn short(n: u16) -> u32
 }
 
 // "refused" and the number of the refusal.
-fn put_refused(text: &mut [u8], k: u8) -> usize
+pub fn put_refused(text: &mut [u8], k: u8) -> usize
     requires { ⌜ 12 ≤ length (now text) ⌝ }
     ensures { λ r. ⌜ Placed 0 (refusedText k) (now (text .entry)) (now (text .exit)) r ⌝ }
 {

@@ -17,10 +17,10 @@ use Rattle.arrays.specs.At.{atℤ}
 use Rattle.sheets.specs.Open.{sheetChecks}
 use Rattle.questions.specs.Question.{endChecks, valueChecks}
 use Rattle.analyser.proofs.Asked.{excludes, one-highest}
+use Rattle.texts.proofs.Joined.{lines-agree}
 use Rattle.key_text.specs.Question.{sourceOf, sinkOf, valueOf, sheetOf, keyChecks}
 use Rattle.key_text.specs.Text.{canLine, edgeLine, canText, cannotText, refusedText}
 use Rattle.key_text.specs.Key.{Key, can, cannot, refused}
-use Rattle.key_text.proofs.Joined.{lines-agree}
 use Rattle.starred.specs.Drawings.{question}
 use Rattle.starred.specs.Table.{KeyPrints}
 use Rattle.starred.proofs.Sheets.{Good}

@@ -19,7 +19,8 @@ use Rattle.flows.specs.Settings.{onDarts}
 use Rattle.flows.specs.ProvingSet.{bound, size}
 use Rattle.texts.specs.Decimal.{digits, decimal, number}
 use Rattle.arrays.specs.At.{atℤ}
-use Rattle.key_text.specs.Text.{lines, edgeLine, nodeLine, canLine, canText, cannotLine, cannotText, refusedText}
+use Rattle.texts.specs.Lines.{lines}
+use Rattle.key_text.specs.Text.{edgeLine, nodeLine, canLine, canText, cannotLine, cannotText, refusedText}
 use Rattle.starred.specs.Drawings.{A, twisted, question}
 use Rattle.starred.specs.Texts.{canSix, cannotThirteen, refusedTwelve}
 use Rattle.starred.specs.Table.{Starred}

@@ -9,32 +9,25 @@ use lib.ListN.{length, getD, List·getD-append}
 use lib.Seq.{getD-at}
 use lib.IntN.{ℤ, pos, negsuc}
 use Rattle.texts.specs.Decimal.{digit, decimal, number}
+use Rattle.texts.specs.Numeral.{numeralOn, numeral}
 use Rattle.texts.proofs.Digits.{below-or-not, decimal-one, decimal-more, by-digits}
 use Rattle.texts.proofs.Length.{length-one, length-more, decimal-positive}
 
 -- ── the number, from its digits ──
--- each byte is a digit more on the right of what was read before it
-unfoldable pub readOn : ℕ → List ℕ → ℕ
-readOn n [] = n
-readOn n (b ∷ bs) = readOn (n * 10 + (b - 48)) bs
-
-unfoldable pub valueOf : List ℕ → ℕ
-valueOf bs = readOn 0 bs
-
-read-append : (n : ℕ) (xs ys : List ℕ) → readOn n (xs ++ ys) ≡ readOn (readOn n xs) ys
-unfolding readOn
+read-append : (n : ℕ) (xs ys : List ℕ) → numeralOn n (xs ++ ys) ≡ numeralOn (numeralOn n xs) ys
+unfolding numeralOn
 read-append n [] ys = refl
 read-append n (x ∷ xs) ys = read-append (n * 10 + (x - 48)) xs ys
 
-pub decimal-read : (n : ℕ) → valueOf (decimal n) ≡ n
-unfolding valueOf readOn
-decimal-read = by-digits (λ n. valueOf (decimal n) ≡ n) one more
+pub decimal-read : (n : ℕ) → numeral (decimal n) ≡ n
+unfolding numeral numeralOn
+decimal-read = by-digits (λ n. numeral (decimal n) ≡ n) one more
   where
-    one : (n : ℕ) → n < 10 → valueOf (decimal n) ≡ n
-    one n h = ap valueOf (decimal-one n h) ∙ omega arith
+    one : (n : ℕ) → n < 10 → numeral (decimal n) ≡ n
+    one n h = ap numeral (decimal-one n h) ∙ omega arith
 
-    more : (n : ℕ) → 10 ≤ n → valueOf (decimal (n / 10)) ≡ n / 10 → valueOf (decimal n) ≡ n
-    more n h before = ap valueOf (decimal-more n h) ∙ read-append 0 (decimal (n / 10)) (digit (n % 10) ∷ []) ∙ omega (arith, before)
+    more : (n : ℕ) → 10 ≤ n → numeral (decimal (n / 10)) ≡ n / 10 → numeral (decimal n) ≡ n
+    more n h before = ap numeral (decimal-more n h) ∙ read-append 0 (decimal (n / 10)) (digit (n % 10) ∷ []) ∙ omega (arith, before)
 
 -- ── its bytes ──
 -- one of the bytes 48, .., 57
@@ -80,7 +73,7 @@ no-leading-zero = by-digits (λ n. getD (decimal n) 0 0 ≡ 48 → n ≡ 0) one 
 
 -- ── no two numbers are written alike ──
 pub decimal-injective : (m n : ℕ) → decimal m ≡ decimal n → m ≡ n
-decimal-injective m n e = sym (decimal-read m) ∙ ap valueOf e ∙ decimal-read n
+decimal-injective m n e = sym (decimal-read m) ∙ ap numeral e ∙ decimal-read n
 
 -- no digit is the minus sign
 no-minus : (n : ℕ) (bs : List ℕ) → decimal n ≡ 45 ∷ bs → ⊥

@@ -28,7 +28,7 @@ fn last_digit(n: u32) -> u8
 }
 
 // How many digits a number has.
-fn digit_count(n: u32) -> usize
+pub fn digit_count(n: u32) -> usize
     ensures { λ r. ⌜ r ≡ length (decimal n) ⌝ }
 {
     let mut left = n;

@@ -9,9 +9,9 @@ use lib.Seq.{take-at, take-all, length-take-le}
 use borrow.Author.Needs.{needs}
 use Rattle.key_text.specs.Input.{Begins}
 use Rattle.key_text.specs.Key.{Prints}
-use Rattle.key.specs.inner.Input.{Filled}
-use Rattle.key.specs.declared.Input.{Input}
-use Rattle.key.specs.declared.Input.the-variants.{Ended, Full}
+use Rattle.streams.specs.inner.Input.{Filled}
+use Rattle.streams.specs.declared.Input.{Input}
+use Rattle.streams.specs.declared.Input.the-variants.{Ended, Full}
 use Rattle.key.proofs.main.Statement.{statement}
 use Rattle.key.proofs.main.Tie as tie
 

@@ -9,9 +9,9 @@ use Rattle.integers.specs.inner.Limited.{Limited}
 use Rattle.signed.proofs.Laws.{number-of-bits}
 use Rattle.arrays.specs.At.{atℤ}
 use Rattle.texts.specs.inner.Placed.{Placed}
+use Rattle.texts.proofs.Joined.{placed-room, placed-then, lines-length, placed-as}
 use Rattle.key_text.specs.Text.{edgeLine, canLine, canText}
-use Rattle.key_text.proofs.Joined.{placed-room, placed-then, can-line-length, edge-line-length, lines-length}
-use Rattle.key_text.proofs.Pieces.{placed-as}
+use Rattle.key_text.proofs.Length.{can-line-length, edge-line-length}
 use Rattle.key_text.proofs.put_can.Statement.{statement}
 use Rattle.key_text.proofs.put_can.Tie as tie
 

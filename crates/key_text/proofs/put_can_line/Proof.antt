@@ -8,9 +8,8 @@ use Rattle.signed.proofs.Laws.{number-of-bits}
 use Rattle.texts.specs.Decimal.{number}
 use Rattle.texts.specs.inner.Placed.{Placed}
 use Rattle.texts.proofs.Length.{number-length}
+use Rattle.texts.proofs.Joined.{placed-room, three-placed, placed-as}
 use Rattle.key_text.specs.Text.{canWord, canLine}
-use Rattle.key_text.proofs.Joined.{placed-room, three-placed}
-use Rattle.key_text.proofs.Pieces.{placed-as}
 use Rattle.key_text.proofs.put_can_line.Statement.{statement}
 use Rattle.key_text.proofs.put_can_line.Tie as tie
 

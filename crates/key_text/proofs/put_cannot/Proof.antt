@@ -7,9 +7,9 @@ use borrow.Author.Needs.{needs}
 use Rattle.integers.specs.inner.Limited.{Limited}
 use Rattle.signed.proofs.Laws.{number-of-bits}
 use Rattle.texts.specs.inner.Placed.{Placed}
+use Rattle.texts.proofs.Joined.{placed-room, placed-then, lines-length, placed-as}
 use Rattle.key_text.specs.Text.{nodeLine, cannotLine, cannotText}
-use Rattle.key_text.proofs.Joined.{placed-room, placed-then, cannot-line-length, node-line-length, lines-length}
-use Rattle.key_text.proofs.Pieces.{placed-as}
+use Rattle.key_text.proofs.Length.{cannot-line-length, node-line-length}
 use Rattle.key_text.proofs.put_cannot.Statement.{statement}
 use Rattle.key_text.proofs.put_cannot.Tie as tie
 

@@ -13,9 +13,10 @@ use mir.Val.{toZ, ofZ}
 use Rattle.signed.proofs.Laws.{number-of-bits}
 use Rattle.arrays.specs.At.{atℤ}
 use Rattle.texts.specs.inner.Placed.{Placed}
-use Rattle.key_text.specs.Text.{lines, edgeLine}
-use Rattle.key_text.proofs.Joined.{placed-none, placed-length, lines-more, lines-length, edge-line-length}
-use Rattle.key_text.proofs.Pieces.{placed-as}
+use Rattle.texts.specs.Lines.{lines}
+use Rattle.texts.proofs.Joined.{placed-none, placed-length, lines-more, lines-length, placed-as}
+use Rattle.key_text.specs.Text.{edgeLine}
+use Rattle.key_text.proofs.Length.{edge-line-length}
 use Rattle.key_text.proofs.put_edges.Statement.{statement}
 use Rattle.key_text.proofs.put_edges.Tie as tie
 

@@ -9,7 +9,7 @@ use Rattle.refusals.specs.Order.{NoneOf, Judged}
 use Rattle.refusals.specs.declared.Verdict.{Verdict}
 use Rattle.refusals.specs.declared.Verdict.the-variants.{Passed, Refused}
 use Rattle.records.specs.Record.{recordChecks}
-use Rattle.key_text.proofs.Joined.{refused-text-length}
+use Rattle.key_text.proofs.Length.{refused-text-length}
 use Rattle.key_text.proofs.Pieces.{rest}
 use Rattle.key_text.proofs.Answering.{question-whole, question-refused}
 use Rattle.key_text.proofs.put_key.Statement.{statement}

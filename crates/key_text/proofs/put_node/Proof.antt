@@ -7,8 +7,8 @@ use borrow.Author.Needs.{needs}
 use Rattle.texts.specs.Decimal.{decimal}
 use Rattle.texts.specs.inner.Placed.{Placed}
 use Rattle.texts.proofs.Length.{decimal-length}
-use Rattle.key_text.proofs.Joined.{placed-none, placed-room, placed-then}
-use Rattle.key_text.proofs.Pieces.{placed-as, in-set, not-in-set}
+use Rattle.texts.proofs.Joined.{placed-none, placed-room, placed-then, placed-as}
+use Rattle.key_text.proofs.Pieces.{in-set, not-in-set}
 use Rattle.key_text.proofs.put_node.Statement.{statement}
 use Rattle.key_text.proofs.put_node.Tie as tie
 

@@ -6,9 +6,10 @@ use native.Mathlib.Nat.{le-antisymm}
 use lib.ListN.{length}
 use borrow.Author.Needs.{needs}
 use Rattle.texts.specs.inner.Placed.{Placed}
-use Rattle.key_text.specs.Text.{lines, nodeLine}
-use Rattle.key_text.proofs.Joined.{placed-none, placed-length, lines-more, lines-length, node-line-length}
-use Rattle.key_text.proofs.Pieces.{placed-as}
+use Rattle.texts.specs.Lines.{lines}
+use Rattle.texts.proofs.Joined.{placed-none, placed-length, lines-more, lines-length, placed-as}
+use Rattle.key_text.specs.Text.{nodeLine}
+use Rattle.key_text.proofs.Length.{node-line-length}
 use Rattle.key_text.proofs.put_nodes.Statement.{statement}
 use Rattle.key_text.proofs.put_nodes.Tie as tie
 

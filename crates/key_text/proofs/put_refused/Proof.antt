@@ -7,9 +7,8 @@ use borrow.Author.Needs.{needs}
 use Rattle.texts.specs.Decimal.{decimal}
 use Rattle.texts.specs.inner.Placed.{Placed}
 use Rattle.texts.proofs.Length.{decimal-length}
+use Rattle.texts.proofs.Joined.{placed-room, three-placed, placed-as}
 use Rattle.key_text.specs.Text.{refusedWord, refusedText}
-use Rattle.key_text.proofs.Joined.{placed-room, three-placed}
-use Rattle.key_text.proofs.Pieces.{placed-as}
 use Rattle.key_text.proofs.put_refused.Statement.{statement}
 use Rattle.key_text.proofs.put_refused.Tie as tie
 

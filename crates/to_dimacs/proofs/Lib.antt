@@ -1,0 +1,2 @@
+-- The program's text.
+pub mod Exporting
