@@ -6,5 +6,6 @@ pub mod ThereAndBack
 pub mod Asked
 pub mod Demand3
 pub mod Range
+pub mod Lines
 pub mod Statements
 pub mod Districts

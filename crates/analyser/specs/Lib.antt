@@ -4,4 +4,5 @@ pub mod SettingsOf
 pub mod Solve
 pub mod Largest
 pub mod Range
+pub mod Page
 pub mod Statements

@@ -41,7 +41,7 @@ module _ (edges words : ℕ) (alone : ℕ → Alone) (flows₀ : List ℤ) (sets
     flows-behind = (refl, refl);
     sets-behind = (refl, refl);
     no-more = λ j l. ap (λ (a : Answered). a .answer) (same-everywhere 64 none j);
-    places = refl
+    places = refl;
   }
 
   -- question i, which got a part of each buffer, ys and zs in their places now
@@ -91,7 +91,7 @@ module _ (edges words : ℕ) (alone : ℕ → Alone) (flows₀ : List ℤ) (sets
       sets-behind = same-then ((i + 1) * words) sets₀ sets sets' (same-from-next words i sets₀ sets (so-far .sets-behind))
           (same-behind words i sets zs sets-room zs-long);
       no-more = λ j l. others j (λ e. omega arith) ∙ so-far .no-more j (omega arith);
-      places = length-set answers i (record { answer = answer }) ∙ so-far .places
+      places = length-set answers i (record { answer = answer }) ∙ so-far .places;
     }
       where
         lines : (j : ℕ) → j < i + 1 → Dec (j ≡ i)

@@ -2,7 +2,8 @@
 use mathlib.Core.Path.{_≡_, refl, sym, ap, subst, _∙_}
 use mathlib.Core.Logic.{inl, inr}
 use mathlib.Core.List.{List}
-use Prim.Native.Nat.{ℕ, zero, suc, _≤_, _<_, _/_, _+_, _*_}
+use Prim.Native.Nat.{ℕ, zero, suc, _≤_, _<_, _/_, _+_, _*_, min}
+use native.Mathlib.Numerals.{add-one}
 use native.Mathlib.Omega.{arith}
 use native.Mathlib.Decide.{ℕ-discrete}
 use lib.ListN.{length, set, getD, length-set, length-replicate}
@@ -13,7 +14,7 @@ use Rattle.flows.specs.ProvingSet.{wordsFor}
 use Rattle.arrays.proofs.FillLoops.{same-everywhere}
 use Rattle.pages.specs.Question.{questionAt}
 use Rattle.pages.specs.Page.{Alone, listChecks, Paged}
-use Rattle.pages.specs.inner.Listed.{gathered, emptyList, refusedPage}
+use Rattle.pages.specs.inner.Listed.{emptyList, listedAt, gathered, listOf, refusedPage}
 use Rattle.pages.specs.declared.Question.{Question}
 use Rattle.pages.specs.declared.Listed.{Listed}
 use Rattle.pages.specs.declared.Page.{Page}
@@ -24,9 +25,9 @@ pub words-few : (nodes : ℕ) → nodes ≤ 1024 → wordsFor nodes ≤ 16
 words-few nodes h = omega arith
 
 -- ── refused, and not refused ──
-pub page-refused : (checks : List Check) (edges words n : ℕ) (alone : ℕ → Alone) (flows : List ℤ) (sets : List ℕ) (k p : ℕ) (page : Page)
+pub refused-so : (checks : List Check) (edges words n : ℕ) (alone : ℕ → Alone) (flows : List ℤ) (sets : List ℕ) (k p : ℕ) (page : Page)
     → FirstOf checks k p → page ≡ refusedPage k p → Paged checks edges words n alone flows flows sets sets page
-page-refused checks edges words n alone flows sets k p page first e =
+refused-so checks edges words n alone flows sets k p page first e =
     subst (λ page. Paged checks edges words n alone flows flows sets sets page) (sym e)
     ((first, refl, refl, refl), λ i l. ap (λ (a : Answered). a .answer) (same-everywhere 64 none i))
 
@@ -40,23 +41,41 @@ list-accepted nodes edges n flows sets h =
     (omega arith, omega arith, omega arith)
 
 -- ── gathered ──
-module _ (qs : List Question) (list : Listed) where
-  gathered-length : (n : ℕ) → length (gathered qs n list .questions) ≡ length (list .questions)
+module _ (question : ℕ → Question) (list : Listed) where
+  gathered-length : (n : ℕ) → length (gathered question n list .questions) ≡ length (list .questions)
   unfolding gathered
   gathered-length zero = refl
-  gathered-length (suc n) = length-set (gathered qs n list .questions) n (questionAt qs n) ∙ gathered-length n
+  gathered-length (suc n) = length-set (gathered question n list .questions) n (question n) ∙ gathered-length n
 
-  pub gathered-count : (n : ℕ) → gathered qs n list .count ≡ list .count
+  gathered-count : (n : ℕ) → gathered question n list .count ≡ list .count
   unfolding gathered
   gathered-count zero = refl
   gathered-count (suc n) = gathered-count n
 
-  pub gathered-are : (n i : ℕ) → n ≤ length (list .questions) → i < n → questionAt (gathered qs n list .questions) i ≡ questionAt qs i
+  gathered-are : (n i : ℕ) → n ≤ length (list .questions) → i < n → questionAt (gathered question n list .questions) i ≡ question i
   unfolding gathered
   gathered-are zero i room l = absurd (omega arith)
   gathered-are (suc n) i room l = go (ℕ-discrete i n) (λ below. gathered-are n i (omega arith) below)
     where
-      go : Dec (i ≡ n) → (i < n → questionAt (gathered qs n list .questions) i ≡ questionAt qs i)
-          → questionAt (set (gathered qs n list .questions) n (questionAt qs n)) i ≡ questionAt qs i
-      go (yes e) before = rw e (getD-set-same (gathered qs n list .questions) n (questionAt qs n) _ (omega (arith, gathered-length n)))
-      go (no e) before = getD-set-other (gathered qs n list .questions) n i (questionAt qs n) _ e ∙ before (omega (arith, e))
+      go : Dec (i ≡ n) → (i < n → questionAt (gathered question n list .questions) i ≡ question i)
+          → questionAt (set (gathered question n list .questions) n (question n)) i ≡ question i
+      go (yes e) before = rw e (getD-set-same (gathered question n list .questions) n (question n) _ (omega (arith, gathered-length n)))
+      go (no e) before = getD-set-other (gathered question n list .questions) n i (question n) _ e ∙ before (omega (arith, e))
+
+pub list-count : (n : ℕ) (question : ℕ → Question) → listOf n question .count ≡ n
+list-count n question = gathered-count question (emptyList n) (min n 64)
+
+-- where there are at most 64, each is in the list
+pub list-questions : (n : ℕ) (question : ℕ → Question) → n ≤ 64 → (i : ℕ) → i < n → questionAt (listOf n question .questions) i ≡ question i
+list-questions n question few i l = gathered-are question (emptyList n) (min n 64) i (omega arith) (omega arith)
+
+-- no question yet, and one more
+pub gathered-start : (question : ℕ → Question) (list : Listed) → list ≡ gathered question 0 list
+unfolding gathered
+gathered-start question list = refl
+
+pub gathered-next : (question : ℕ → Question) (list before next : Listed) (i : ℕ) (q : Question) → before ≡ gathered question i list → q ≡ question i
+    → next ≡ listedAt before i q → next ≡ gathered question (i + 1) list
+unfolding gathered
+gathered-next question list before next i q e f g =
+    g ∙ ap (λ (b : Listed). listedAt b i q) e ∙ ap (listedAt (gathered question i list) i) f ∙ ap (λ k. gathered question k list) (sym (add-one i))

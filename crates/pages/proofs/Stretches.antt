@@ -57,10 +57,10 @@ module _ {A : Type 0} (size i : ℕ) (l ys : List A) (room : i * size + size ≤
   same-behind = (
     simp (length-append, length-take, length-drop) (omega arith),
     subst (λ k. drop k put ≡ drop k l) (sym (next-start size i))
-    (sym (drop-drop size (i * size) put)
-    ∙ ap (drop size) from-start
-    ∙ drop-at ys (drop size (drop (i * size) l)) size long
-    ∙ drop-drop size (i * size) l),
+        (sym (drop-drop size (i * size) put)
+        ∙ ap (drop size) from-start
+        ∙ drop-at ys (drop size (drop (i * size) l)) size long
+        ∙ drop-drop size (i * size) l),
   )
 
 -- behind stretch i nothing changed, so nothing behind the next one did

@@ -1,6 +1,6 @@
 // Lists of up to 64 questions on a drawing that is open and sound, held in lent arrays. Document 02, Job 1. Each question gets a stretch of one buffer for its
 // settings and a stretch of another for its set, and is answered as Solve answers it alone.
-ghost use Prim.Native.Nat.{ℕ, _*_, _<_, _≤_};
+ghost use Prim.Native.Nat.{ℕ, _*_, _<_, _≤_, min};
 ghost use mathlib.Core.Path.{_≡_};
 ghost use lib.ListN.{length};
 ghost use Rattle.refusals.specs.Order.{Judged};
@@ -8,9 +8,9 @@ ghost use Rattle.flows.specs.ProvingSet.{wordsFor};
 ghost use Rattle.arrays.specs.At.{at, atℤ};
 ghost use Rattle.arrays.specs.inner.Drawn.{Drawn};
 ghost use Rattle.arrays.specs.Maps.{mapOf, drawingOf};
-ghost use Rattle.pages.specs.Question.{questionAt};
+ghost use Rattle.pages.specs.Question.{questionAt, questionIn};
 ghost use Rattle.pages.specs.Page.{listChecks, Paged};
-ghost use Rattle.pages.specs.inner.Listed.{emptyList, listedAt, gathered, solvedAlone, refusedPage};
+ghost use Rattle.pages.specs.inner.Listed.{emptyList, listedAt, gathered, listOf, solvedAlone, refusedPage};
 use questions::SolveAnswer;
 use refusals::Verdict;
 
@@ -56,7 +56,7 @@ pub fn empty_list(n: usize) -> Listed
 
 // As many of n as a list holds.
 pub fn held(n: usize) -> usize
-    ensures { λ r. ⌜ (r ≤ n) × (r ≤ 64) × (n ≤ 64 → r ≡ n) ⌝ }
+    ensures { λ r. ⌜ r ≡ min n 64 ⌝ }
 {
     if n <= 64 { n } else { 64 }
 }
@@ -74,12 +74,41 @@ pub fn with_question(list: Listed, i: usize, q: Question) -> Listed
 // The first n questions of a lent slice, in the list.
 pub fn gather(questions: &[Question], n: usize, list: Listed) -> Listed
     requires { ⌜ (n ≤ length (now questions)) × (n ≤ 64) ⌝ }
-    ensures { λ r. ⌜ r ≡ gathered (now (questions .entry)) n list ⌝ }
+    ensures { λ r. ⌜ r ≡ gathered (questionAt (now (questions .entry))) n list ⌝ }
 {
     let mut next = list;
     let mut i: usize = 0;
     while i < n {
         let q = questions[i];
+        next = with_question(next, i, q);
+        i += 1;
+    }
+    next
+}
+
+// The questions of a lent slice: how many there are, and the first 64 of them.
+pub fn list_of(questions: &[Question]) -> Listed
+    ensures { λ r. ⌜ r ≡ listOf (length (now (questions .entry))) (questionAt (now (questions .entry))) ⌝ }
+{
+    let n = questions.len();
+    let empty = empty_list(n);
+    let few = held(n);
+    gather(questions, few, empty)
+}
+
+// A list of questions whose sources, sinks and values have an array each. Places from the number of questions on are not read.
+pub fn list_from(count: usize, sources: &[u16; 64], sinks: &[u16; 64], values: &[i32; 64]) -> Listed
+    ensures { λ r. ⌜ r ≡ listOf count (questionIn (now (sources .entry)) (now (sinks .entry)) (now (values .entry))) ⌝ }
+{
+    let few = held(count);
+    let mut next = empty_list(count);
+    let mut i: usize = 0;
+    while i < few {
+        let q = Question {
+            source: sources[i],
+            sink: sinks[i],
+            value: values[i],
+        };
         next = with_question(next, i, q);
         i += 1;
     }
@@ -122,8 +151,19 @@ fn ask<'a>(
         (now (flows .entry)) (now (flows .exit)) (now (set .entry)) (now (set .exit)) r ⌝ }
 {
     questions::solve(
-        tails, rotations, lefts, capacities, nodes, edges, faces, outer, q.source, q.sink, q.value,
-        flows, set,
+        tails,
+        rotations,
+        lefts,
+        capacities,
+        nodes,
+        edges,
+        faces,
+        outer,
+        q.source,
+        q.sink,
+        q.value,
+        flows,
+        set,
     )
 }
 
@@ -144,7 +184,8 @@ fn answer_all<'a>(
     requires { ⌜ Drawn (mapOf nodes edges (now tails) (now rotations)) (at (now lefts)) faces outer (atℤ (now capacities))
         × (list .count ≤ 64) × (list .count * edges ≤ length (now flows)) × (list .count * wordsFor nodes ≤ length (now sets)) ⌝ }
     ensures { λ r. ⌜ Paged (listChecks nodes edges (list .count) (now (flows .entry)) (now (sets .entry))) edges (wordsFor nodes) (list .count)
-        (λ i. solvedAlone (drawingOf nodes edges outer (now (tails .entry)) (now (rotations .entry)) (now (capacities .entry))) (questionAt (list .questions) i))
+        (λ i. solvedAlone (drawingOf nodes edges outer (now (tails .entry)) (now (rotations .entry)) (now (capacities .entry)))
+        (questionAt (list .questions) i))
         (now (flows .entry)) (now (flows .exit)) (now (sets .entry)) (now (sets .exit)) r ⌝ }
 {
     let count = list.count;
@@ -161,7 +202,15 @@ fn answer_all<'a>(
         let to = from + words;
         let q = list.questions[i];
         let answer = ask(
-            tails, rotations, lefts, capacities, nodes, edges, faces, outer, q,
+            tails,
+            rotations,
+            lefts,
+            capacities,
+            nodes,
+            edges,
+            faces,
+            outer,
+            q,
             &mut flows[start..end],
             &mut sets[from..to],
         );
@@ -205,7 +254,8 @@ pub fn answer_list<'a>(
 ) -> Page
     requires { ⌜ Drawn (mapOf nodes edges (now tails) (now rotations)) (at (now lefts)) faces outer (atℤ (now capacities)) ⌝ }
     ensures { λ r. ⌜ Paged (listChecks nodes edges (list .count) (now (flows .entry)) (now (sets .entry))) edges (wordsFor nodes) (list .count)
-        (λ i. solvedAlone (drawingOf nodes edges outer (now (tails .entry)) (now (rotations .entry)) (now (capacities .entry))) (questionAt (list .questions) i))
+        (λ i. solvedAlone (drawingOf nodes edges outer (now (tails .entry)) (now (rotations .entry)) (now (capacities .entry)))
+        (questionAt (list .questions) i))
         (now (flows .entry)) (now (flows .exit)) (now (sets .entry)) (now (sets .exit)) r ⌝ }
 {
     let verdict = check_list(nodes, edges, list.count, &*flows, &*sets);
@@ -213,6 +263,16 @@ pub fn answer_list<'a>(
         return refused_page(k, p);
     }
     answer_all(
-        tails, rotations, lefts, capacities, nodes, edges, faces, outer, list, flows, sets,
+        tails,
+        rotations,
+        lefts,
+        capacities,
+        nodes,
+        edges,
+        faces,
+        outer,
+        list,
+        flows,
+        sets,
     )
 }

@@ -114,13 +114,16 @@ loop-again c =
     let t = k .before .before .before .before in
     let l = t .before .loop in
     let e = begun t .args .edges in
-    let w = t .before .before .words-for .result in
-    (omega arith, refl, l .inv .2,
-    halfway-turn e w _ _ _ (l .i) (l .flows) (l .sets) (l .answers) (l .inv .3)
-    (flows-room t) (sets-room t) (omega (arith, t .loop-test .taken, begun t .pre .1))
-    (l .i * e + e - l .i * e) (l .i * w + w - l .i * w) (omega arith) (omega arith)
-    (k .ask .last .1 .1 .1 .1 .1 .1 .1 .1 .1 .0) (k .ask .last .1 .1 .1 .1 .1 .1 .1 .1 .1 .1 .0) (k .ask .result)
-    (c .before .before .flows .given .0) (c .before .sets .given .0) (k .ask .ensures))
+    let w = t .before .before .words-for .result in (
+      omega arith,
+      refl,
+      l .inv .2,
+      halfway-turn e w _ _ _ (l .i) (l .flows) (l .sets) (l .answers) (l .inv .3)
+          (flows-room t) (sets-room t) (omega (arith, t .loop-test .taken, begun t .pre .1))
+          (l .i * e + e - l .i * e) (l .i * w + w - l .i * w) (omega arith) (omega arith)
+          (k .ask .last .1 .1 .1 .1 .1 .1 .1 .1 .1 .0) (k .ask .last .1 .1 .1 .1 .1 .1 .1 .1 .1 .1 .0) (k .ask .result)
+          (c .before .before .flows .given .0) (c .before .sets .given .0) (k .ask .ensures),
+    )
 
 same-length : tie.Need-same-length Inv-loop μ-loop
 same-length c = c .before .loop .inv .3 .flows-behind .0

@@ -2,7 +2,7 @@
 use mathlib.Core.Path.{_≡_, refl}
 use Prim.Native.Nat.{ℕ}
 use borrow.Author.Needs.{needs}
-use Rattle.pages.proofs.Listing.{page-refused, list-accepted}
+use Rattle.pages.proofs.Listing.{refused-so, list-accepted}
 use Rattle.pages.proofs.answer_list.Statement.{statement}
 use Rattle.pages.proofs.answer_list.Tie as tie
 
@@ -25,7 +25,7 @@ returns : tie.Need-returns
 returns c =
     let k = c .before .before .before .before in
     let a = k .before .before .before .before .args in
-    page-refused _ (a .edges) _ _ _ (a .flows .now) (a .sets .now) _ _ (c .refused-page .result)
+    refused-so _ (a .edges) _ _ _ (a .flows .now) (a .sets .now) _ _ (c .refused-page .result)
     (rw (c .before .before .verdict .given .1) at (k .check-list .ensures)) (c .refused-page .ensures)
 
 enum-told : tie.Need-enum-told
@@ -36,7 +36,7 @@ answer-all-requires c κs =
     let k = c .before .before .before .before in
     let s = k .before .before .before .before in
     let h = list-accepted (s .args .nodes) (s .args .edges) (s .args .list .count) (s .args .flows .now) (s .args .sets .now)
-          (rw (c .before .before .enum-told .given .1) at (k .check-list .ensures)) in
+    (rw (c .before .before .enum-told .given .1) at (k .check-list .ensures)) in
     (s .pre, h .0, h .1, h .2)
 
 same-length-3 : tie.Need-same-length-3

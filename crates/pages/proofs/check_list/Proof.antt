@@ -8,7 +8,6 @@ use native.Mathlib.Nat.{mul-le-mul}
 use borrow.Author.Needs.{needs}
 use Rattle.refusals.specs.Order.{FirstOf, NoneOf}
 use Rattle.refusals.proofs.Order.{neither}
-use Rattle.flows.specs.ProvingSet.{wordsFor}
 use Rattle.pages.specs.Page.{listChecks}
 use Rattle.pages.proofs.Listing.{words-few}
 use Rattle.pages.proofs.check_list.Statement.{statement}
@@ -39,16 +38,16 @@ mul-if3 c =
 returns-3 : tie.Need-returns-3
 unfolding listChecks FirstOf
 returns-3 c =
-    let w = c .before .words-for .ensures in
-    inr (λ h. omega arith, inl (inr (subst (λ k. length (c .before .before .before .before .before .args .sets .now) < c .before .before .before .before .before .args .n * k) w (c .if3 .taken)), refl, refl))
+    let a = c .before .before .before .before .before .args in
+    let short = subst (λ k. length (a .sets .now) < a .n * k) (c .before .words-for .ensures) (c .if3 .taken) in
+    inr (λ h. omega arith, inl (inr short, refl, refl))
 
 returns-4 : tie.Need-returns-4
 unfolding listChecks NoneOf
 returns-4 c =
-    let w = c .before .words-for .ensures in
-    let f : length (c .before .before .before .before .before .args .flows .now) < c .before .before .before .before .before .args .n * c .before .before .before .before .before .args .edges → ⊥ = λ l. omega arith in
-    let g : length (c .before .before .before .before .before .args .sets .now) < c .before .before .before .before .before .args .n * wordsFor (c .before .before .before .before .before .args .nodes) → ⊥ =
-          subst (λ k. length (c .before .before .before .before .before .args .sets .now) < c .before .before .before .before .before .args .n * k → ⊥) w (λ l. omega (arith, c .if3 .left)) in
+    let a = c .before .before .before .before .before .args in
+    let f : length (a .flows .now) < a .n * a .edges → ⊥ = λ l. omega arith in
+    let g = subst (λ k. length (a .sets .now) < a .n * k → ⊥) (c .before .words-for .ensures) (λ l. omega (arith, c .if3 .left)) in
     (λ l. omega arith, (neither f g, tt))
 
 pub check-list-spec : {M : Type 1} → statement M

@@ -1,12 +1,11 @@
 -- Questions copied from a lent slice into a list of at most 64, one by one.
-use Prim.Native.Nat.{ℕ, zero, suc}
-use mathlib.Core.List.{List}
+use Prim.Native.Nat.{ℕ, zero, suc, min}
 use lib.ListN.{set, replicate}
 use Rattle.refusals.specs.declared.Verdict.the-variants as verdict
 use Rattle.maps.specs.Drawing.{Drawing}
 use Rattle.questions.specs.Solve.{questionChecks, Solved}
 use Rattle.questions.specs.declared.SolveAnswer.the-variants.{Refused}
-use Rattle.pages.specs.Question.{blank, questionAt}
+use Rattle.pages.specs.Question.{blank}
 use Rattle.pages.specs.Page.{Alone}
 use Rattle.pages.specs.declared.Question.{Question}
 use Rattle.pages.specs.declared.Listed.{Listed}
@@ -21,9 +20,13 @@ abbrev pub listedAt : Listed → ℕ → Question → Listed
 listedAt list i q = record { count = list .count; questions = set (list .questions) i q }
 
 -- the first n questions, in the first n places of the list
-unfoldable pub gathered : List Question → ℕ → Listed → Listed
-gathered qs zero list = list
-gathered qs (suc n) list = listedAt (gathered qs n list) n (questionAt qs n)
+unfoldable pub gathered : (ℕ → Question) → ℕ → Listed → Listed
+gathered question zero list = list
+gathered question (suc n) list = listedAt (gathered question n list) n (question n)
+
+-- a list of n questions: the first 64 of them, and that they are n
+abbrev pub listOf : ℕ → (ℕ → Question) → Listed
+listOf n question = gathered question (min n 64) (emptyList n)
 
 -- Solve's contract on a drawing, of question q and the slices lent for it
 abbrev pub solvedAlone : Drawing → Question → Alone
