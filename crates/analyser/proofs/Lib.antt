@@ -7,5 +7,6 @@ pub mod Asked
 pub mod Demand3
 pub mod Range
 pub mod Lines
+pub mod ByThePage
 pub mod Statements
 pub mod Districts

@@ -1,6 +1,6 @@
--- `page` meets its contract: a walk of its MIR, by hand, since it is lent a slice of structs. Of `list_of` and of `page_of` the proof knows the contracts alone.
--- Both are called at the lifetimes that the function was lent its slices at; both buffers are given up for good (`gave-slice`), and what `page_of` says of what
--- they hold at last is said of them here.
+-- `page` meets its contract: a walk of its MIR, by hand, since it is lent a slice of structs. Of `list_of` and of `page_of` the proof knows the contracts
+-- alone. Both are called at the lifetimes that the function was lent its slices at; both buffers are given up for good (`gave-slice`), and what `page_of`
+-- says of what they hold at last is said of them here.
 use mathlib.Core.Path.{_≡_, refl}
 use Prim.Native.Nat.{ℕ, _<_, _^_}
 use mathlib.Core.List.{List, [], _∷_}
@@ -18,10 +18,61 @@ use ghost.Atoms.{Atoms, sem}
 use contract.Lifetimes.{Lfts}
 use contract.Monad.{Fun, fact}
 use contract.Running.{givenOf, tables, tablesOf}
-use types.Kit.{Given, Item, ‵, raw, _⊛_, ⋆, some, later, _$_, _∵_, !, qed, by, move, keep, use1, use2, drop, split, join, pick, rewrite, fsplit, fjoin, feqL,
-    suffices, frame, await, done}
-use types.Run.{look, init, forget, stop, hop, fld, from, load, addr, and-then, no-more, assigns, land, returns, enter, alloc1, alloc0, params1, pass1, pass0,
-    free1, free0}
+use types.Kit.{
+  Given,
+  Item,
+  ‵,
+  raw,
+  _⊛_,
+  ⋆,
+  some,
+  later,
+  _$_,
+  _∵_,
+  !,
+  qed,
+  by,
+  move,
+  keep,
+  use1,
+  use2,
+  drop,
+  split,
+  join,
+  pick,
+  rewrite,
+  fsplit,
+  fjoin,
+  feqL,
+  suffices,
+  frame,
+  await,
+  done,
+}
+use types.Run.{
+  look,
+  init,
+  forget,
+  stop,
+  hop,
+  fld,
+  from,
+  load,
+  addr,
+  and-then,
+  no-more,
+  assigns,
+  land,
+  returns,
+  enter,
+  alloc1,
+  alloc0,
+  params1,
+  pass1,
+  pass0,
+  free1,
+  free0,
+}
 use types.Part.{agg, whole, sub, look-in}
 use sound.WpLaws.{FmC, fmOf, WpFn-mono}
 use denote.RattleType.{RattleType, owns}
@@ -77,8 +128,10 @@ RP = TP.the-row
 abbrev stayed : Stays (page.ended .signature .params) (page.ended .kept)
 stayed = (
   stay-none-slice (0 ∷ []) tt (plain (λ _. u8)) yes,
-  (stay-none-slice (1 ∷ []) tt (plain (λ _. TQ.the-row)) yes,
-  (gave-slice (2 ∷ []) tt (plain (λ _. i32)), (gave-slice (3 ∷ []) tt (plain (λ _. u64)), tt))),
+  (
+    stay-none-slice (1 ∷ []) tt (plain (λ _. TQ.the-row)) yes,
+    (gave-slice (2 ∷ []) tt (plain (λ _. i32)), (gave-slice (3 ∷ []) tt (plain (λ _. u64)), tt)),
+  ),
 )
 
 -- the contracts that the proof cites
@@ -259,8 +312,13 @@ module _ {M : Type 1} (𝓤 : URA M) (H : Heap 𝓤) (A : Atoms 𝓤) (W : Given
   page-walks : Walks 𝓤 H A page.ended stayed (WpFn 𝓤 H (𝓣 .C) (𝓣 .Λ) code.function) (page.clauses 𝓤 H A mem run)
   page-walks = walked 𝓤 H A page.ended stayed (page.clauses 𝓤 H A mem run) (WpFn 𝓤 H (𝓣 .C) (𝓣 .Λ) code.function)
       (λ κs. (slice-vals, (slice-vals, (slice-vals, (slice-vals, tt)))))
-      (λ κs. (shr-slice-tells (named 0) (κs .0) u8, (shr-slice-tells (named 1) (κs .1 .0) TQ.the-row,
-      (mut-slice-tells (named 2) (κs .1 .1 .0) i32, (mut-slice-tells (named 3) (κs .1 .1 .1 .0) u64, tt)))))
+      (λ κs. (
+        shr-slice-tells (named 0) (κs .0) u8,
+        (
+          shr-slice-tells (named 1) (κs .1 .0) TQ.the-row,
+          (mut-slice-tells (named 2) (κs .1 .1 .0) i32, (mut-slice-tells (named 3) (κs .1 .1 .1 .0) u64, tt)),
+        ),
+      ))
       (λ κs qs bounds a g are. via 𝓤 _ (fst∗ 𝓤 _ (emp 𝓤))
       (walk 𝓤 H A W mem run (κs .0) (κs .1 .0) (κs .1 .1 .0) (κs .1 .1 .1 .0) (qs .0) (qs .1 .0) (qs .1 .1 .0) (qs .1 .1 .1 .0)
       (a .0) (a .1 .0) (a .1 .1 .0) (a .1 .1 .1 .0) (𝓣 .C) (𝓣 .Λ) (fmOf 𝓤 H (W .laws) 𝓣) known-list known-page
@@ -269,8 +327,10 @@ module _ {M : Type 1} (𝓤 : URA M) (H : Heap 𝓤) (A : Atoms 𝓤) (W : Given
   page-meets : Meets 𝓤 H A page.signature (WpFn 𝓤 H (𝓣 .C) (𝓣 .Λ) code.function) (page.spec 𝓤 H A mem run)
   page-meets = walk-meets 𝓤 H A page.ended stayed W (
     goes-none-slice 𝓤 H A W 4 (0 ∷ []) tt (plain (λ _. u8)) yes,
-    (goes-none-slice 𝓤 H A W 4 (1 ∷ []) tt (plain (λ _. TQ.the-row)) yes,
-    (goes-gave-slice 𝓤 H A W 4 2 tt (plain (λ _. i32)), (goes-gave-slice 𝓤 H A W 4 3 tt (plain (λ _. u64)), tt))),
+    (
+      goes-none-slice 𝓤 H A W 4 (1 ∷ []) tt (plain (λ _. TQ.the-row)) yes,
+      (goes-gave-slice 𝓤 H A W 4 2 tt (plain (λ _. i32)), (goes-gave-slice 𝓤 H A W 4 3 tt (plain (λ _. u64)), tt)),
+    ),
   ) (page.clauses 𝓤 H A mem run) (WpFn 𝓤 H (𝓣 .C) (𝓣 .Λ) code.function) (WpFn-mono 𝓤 H (W .laws) 𝓣 code.function) page-walks
 
 pub page-spec : {M : Type 1} → stated.statement M
