@@ -75,6 +75,25 @@ static void least_and_largest(const char *name, const uint8_t *bytes, size_t byt
     ended();
 }
 
+// A page on drawing A, of so many of these questions, with slices of these lengths: 6 can, 13 cannot, no such node, ends equal, out of range.
+static void page(const char *name, const uint8_t *bytes, size_t bytes_length, size_t count, size_t settings_length, size_t sets_length) {
+    static const uint16_t headgates[ANALYSER_PAGE_QUESTIONS] = {0, 0, 2, 1, 0}, outfalls[ANALYSER_PAGE_QUESTIONS] = {1, 1, 1, 1, 1};
+    static const int32_t deliveries[ANALYSER_PAGE_QUESTIONS] = {6, 13, 6, 6, 600000001};
+    static uint8_t answers[ANALYSER_PAGE_QUESTIONS];
+    static uint16_t sizes[ANALYSER_PAGE_QUESTIONS];
+    untouched();
+    for (int i = 0; i < ANALYSER_PAGE_QUESTIONS; i++) answers[i] = sizes[i] = UNTOUCHED;
+    int result = analyser_page(bytes, bytes_length, count, headgates, outfalls, deliveries, settings, settings_length, set, sets_length, answers, sizes, &place);
+    printf("page %s %d: answers", name, result);
+    for (int i = 0; i < 6; i++) printf(" %d", answers[i]);
+    printf(", sizes");
+    for (int i = 0; i < 6; i++) printf(" %d", sizes[i]);
+    numbers("settings", settings, 16);
+    printf(", sets");
+    for (int i = 0; i < 6; i++) printf(" %d", (int)set[i]);
+    ended();
+}
+
 int main(void) {
     int result;
 
@@ -131,6 +150,9 @@ int main(void) {
     least_and_largest("A", drawing_a, sizeof drawing_a, 0, 1, enough);
     least_and_largest("A back", drawing_a, sizeof drawing_a, 1, 0, enough);
     least_and_largest("B", drawing_b, sizeof drawing_b, 0, 1, enough);
+
+    page("of five", drawing_a, sizeof drawing_a, 5, 15, 5);
+    page("of none", drawing_a, sizeof drawing_a, 0, 0, 0);
 
     untouched();
     set_three(0, 2, 4);
@@ -199,6 +221,12 @@ int main(void) {
     least_and_largest("no such node", drawing_a, sizeof drawing_a, 2, 2, enough);
     least_and_largest("ends equal", drawing_a, sizeof drawing_a, 1, 1, short_slices[0]);
     for (int i = 0; i < 5; i++) least_and_largest("slice too short", drawing_a, sizeof drawing_a, 0, 1, short_slices[i]);
+
+    // a page's refusals, each beside the next: a sheet check with too many questions, too many with too little room, each slice too short
+    page("cut short", drawing_a, sizeof drawing_a - 1, 65, 15, 5);
+    page("too many", drawing_a, sizeof drawing_a, 65, 15, 5);
+    page("slice too short", drawing_a, sizeof drawing_a, 5, 14, 5);
+    page("slice too short", drawing_a, sizeof drawing_a, 5, 15, 4);
 
     untouched();
     set_three(0, 2, 5);

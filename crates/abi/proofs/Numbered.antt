@@ -27,6 +27,8 @@ use Rattle.analyser.specs.Solve.{solveChecks}
 use Rattle.analyser.specs.Largest.{largestChecks}
 use Rattle.ranges.specs.Range.{spanChecks}
 use Rattle.analyser.specs.Range.{rangeChecks}
+use Rattle.pages.specs.Page.{listChecks}
+use Rattle.analyser.specs.Page.{pageChecks}
 use Rattle.analyser.specs.Mark.{markChecks}
 use Rattle.analyser.specs.LevelsOf.{levelsChecks}
 use Rattle.analyser.specs.SettingsOf.{settingsChecks}
@@ -124,6 +126,10 @@ pub range-numbered : (s : List ℕ) (source sink : ℕ) (low : List ℤ) (below 
 unfolding Numbered rangeChecks spanChecks endChecks roomChecks
 range-numbered s source sink low below high above =
     numbered-append (sheetChecks s) _ (sheet-numbered s) (omega arith, (omega arith, (omega arith, (omega arith, tt))))
+
+pub page-numbered : (s : List ℕ) (n : ℕ) (flows : List ℤ) (sets : List ℕ) → Numbered (pageChecks s n flows sets)
+unfolding Numbered pageChecks listChecks
+page-numbered s n flows sets = numbered-append (sheetChecks s) _ (sheet-numbered s) (omega arith, (omega arith, tt))
 
 pub mark-numbered : (s : List ℕ) (source sink : ℕ) (flows : List ℤ) → Numbered (markChecks s source sink flows)
 unfolding Numbered markChecks paperChecks endChecks

@@ -3,6 +3,7 @@ pub mod Write
 pub mod Solve
 pub mod Largest
 pub mod Range
+pub mod Page
 pub mod Mark
 pub mod Levels
 pub mod Key
