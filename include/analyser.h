@@ -49,6 +49,7 @@
 #define ANALYSER_MAX_DARTS 1024 // tails, turns, limits
 #define ANALYSER_MAX_FACES 1024 // levels: 512 nodes with a loop each have 1024 faces
 #define ANALYSER_SET_WORDS 9
+#define ANALYSER_PAGE_QUESTIONS 64 // the five arrays of a page
 #define ANALYSER_SHEET_BYTES 8711
 #define ANALYSER_KEY_INPUT_BYTES 8720
 #define ANALYSER_KEY_TEXT_BYTES 6671
@@ -77,6 +78,7 @@ enum analyser_result {
     ANALYSER_OFF_BALANCE = 18, // flow is lost or gained at a node; *place is the lowest such node. Mark, Levels from settings
     ANALYSER_LEVEL_OUT_OF_RANGE = 19, // a level is not -600000000 to 600000000. Settings from levels
     ANALYSER_ZERO_FACE_NOT_AT_0 = 20, // the level of the outer face, or of the lowest face of another part, is not 0. Settings from levels
+    ANALYSER_TOO_MANY_QUESTIONS = 21, // more than 64 questions. Page
     ANALYSER_LEAST_FLOW = 22, // a limit, forward or back, is below zero: the text cannot hold a least flow. DIMACS text
     ANALYSER_PRACTICE_OUT_OF_RANGE = 23, // rows or columns not 2 to 16, or the seed not below 2147483648. Practice sheet
     ANALYSER_OUTER_IS_NO_DART = 24, // the outer dart is no dart. Sheet; Write
@@ -139,6 +141,17 @@ uint8_t analyser_least_and_largest(const uint8_t *sheet, size_t sheet_length, ui
 // Writes where there is a limit: a setting for each channel, *limit, and *found = 1. Where there is none: the words of the set, and *found = 0.
 uint8_t analyser_raise_limit(const uint8_t *sheet, size_t sheet_length, uint16_t headgate, uint16_t outfall, int32_t delivery, uint16_t channel,
                              int32_t *settings, size_t settings_length, uint64_t *set, size_t set_length, uint8_t *found, int32_t *limit, uint16_t *place);
+
+// A page: up to 64 questions on one sheet, which is read and checked once. Question i, from 0, has headgates[i], outfalls[i] and deliveries[i]; its settings
+// are written from i * channels on, its set from i * words on, words being one for each 64 nodes or part of them. Each question is answered as analyser_solve
+// answers it alone, and its two stretches hold what that would leave there. The five arrays have 64 elements each, of which the first count are used.
+// Refusals of the page: the sheet checks; 21; 16 where settings has less than count * channels elements, or sets less than count * words.
+// A question that is refused, by 13, 14 or 15, is an answer: it leaves both its stretches. An empty page, count 0, needs no room.
+// Writes where there are answers: of each question answers[i] = 1 and its settings if it can, answers[i] = 0, sizes[i] = the number of nodes in its set and
+// its set if it cannot, answers[i] = the number of its refusal, 13 to 15; sizes[i] = 0 unless it cannot. Nothing is written from answers[count], sizes[count]
+// and the ends of the last stretches on.
+uint8_t analyser_page(const uint8_t *sheet, size_t sheet_length, size_t count, const uint16_t *headgates, const uint16_t *outfalls, const int32_t *deliveries,
+                      int32_t *settings, size_t settings_length, uint64_t *sets, size_t sets_length, uint8_t *answers, uint16_t *sizes, uint16_t *place);
 
 // Mark: the value that given settings carry from headgate to outfall.
 // Refusals: the sheet checks; 13; 14; 16 where settings has less than one element for each channel; 17; 18 at a node other than those two.

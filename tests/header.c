@@ -121,6 +121,25 @@ static void write_dimacs(const char *name, const uint8_t *bytes, size_t bytes_le
     if (result == 0) fwrite(dimacs, 1, length, stdout);
 }
 
+// A page on drawing A, of so many of these questions, with slices of these lengths: 6 can, 13 cannot, no such node, ends equal, out of range.
+static void page(const char *name, const uint8_t *bytes, size_t bytes_length, size_t count, size_t settings_length, size_t sets_length) {
+    static const uint16_t headgates[ANALYSER_PAGE_QUESTIONS] = {0, 0, 2, 1, 0}, outfalls[ANALYSER_PAGE_QUESTIONS] = {1, 1, 1, 1, 1};
+    static const int32_t deliveries[ANALYSER_PAGE_QUESTIONS] = {6, 13, 6, 6, 600000001};
+    static uint8_t answers[ANALYSER_PAGE_QUESTIONS];
+    static uint16_t sizes[ANALYSER_PAGE_QUESTIONS];
+    untouched();
+    for (int i = 0; i < ANALYSER_PAGE_QUESTIONS; i++) answers[i] = sizes[i] = UNTOUCHED;
+    int result = analyser_page(bytes, bytes_length, count, headgates, outfalls, deliveries, settings, settings_length, set, sets_length, answers, sizes, &place);
+    printf("page %s %d: answers", name, result);
+    for (int i = 0; i < 6; i++) printf(" %d", answers[i]);
+    printf(", sizes");
+    for (int i = 0; i < 6; i++) printf(" %d", sizes[i]);
+    numbers("settings", settings, 16);
+    printf(", sets");
+    for (int i = 0; i < 6; i++) printf(" %d", (int)set[i]);
+    ended();
+}
+
 int main(void) {
     int result;
 
@@ -188,6 +207,9 @@ int main(void) {
     raise_limit("6 by channel 0", sizeof drawing_a, 0, 1, 6, 0, 3, 1);
     raise_limit("1000007 by channel 0", sizeof drawing_a, 0, 1, 1000007, 0, 3, 1);
     raise_limit("1000008 by channel 0", sizeof drawing_a, 0, 1, 1000008, 0, 3, 1);
+
+    page("of five", drawing_a, sizeof drawing_a, 5, 15, 5);
+    page("of none", drawing_a, sizeof drawing_a, 0, 0, 0);
 
     untouched();
     set_three(0, 2, 4);
@@ -275,6 +297,12 @@ int main(void) {
     raise_limit("no such channel", sizeof drawing_a, 0, 1, 13, 3, 2, 0);
     raise_limit("slice too short", sizeof drawing_a, 0, 1, 13, 0, 2, 1);
     raise_limit("slice too short", sizeof drawing_a, 0, 1, 13, 0, 3, 0);
+
+    // a page's refusals, each beside the next: a sheet check with too many questions, too many with too little room, each slice too short
+    page("cut short", drawing_a, sizeof drawing_a - 1, 65, 15, 5);
+    page("too many", drawing_a, sizeof drawing_a, 65, 15, 5);
+    page("slice too short", drawing_a, sizeof drawing_a, 5, 14, 5);
+    page("slice too short", drawing_a, sizeof drawing_a, 5, 15, 4);
 
     untouched();
     set_three(0, 2, 5);

@@ -30,6 +30,8 @@ use Rattle.raising.specs.Raise.{limitChecks}
 use Rattle.raising.specs.Raise as raise
 use Rattle.analyser.specs.Range.{rangeChecks}
 use Rattle.analyser.specs.Raise.{raiseChecks}
+use Rattle.pages.specs.Page.{listChecks}
+use Rattle.analyser.specs.Page.{pageChecks}
 use Rattle.analyser.specs.Mark.{markChecks}
 use Rattle.analyser.specs.LevelsOf.{levelsChecks}
 use Rattle.analyser.specs.SettingsOf.{settingsChecks}
@@ -138,6 +140,10 @@ pub raise-numbered : (s : List ℕ) (source sink : ℕ) (value : ℤ) (edge : �
 unfolding Numbered raiseChecks limitChecks endChecks valueChecks raise.edgeChecks roomChecks
 raise-numbered s source sink value edge flows set =
     numbered-append (sheetChecks s) _ (sheet-numbered s) (omega arith, (omega arith, (omega arith, (omega arith, (omega arith, tt)))))
+
+pub page-numbered : (s : List ℕ) (n : ℕ) (flows : List ℤ) (sets : List ℕ) → Numbered (pageChecks s n flows sets)
+unfolding Numbered pageChecks listChecks
+page-numbered s n flows sets = numbered-append (sheetChecks s) _ (sheet-numbered s) (omega arith, (omega arith, tt))
 
 pub mark-numbered : (s : List ℕ) (source sink : ℕ) (flows : List ℤ) → Numbered (markChecks s source sink flows)
 unfolding Numbered markChecks paperChecks endChecks

@@ -6,7 +6,13 @@ use mathlib.Core.List.{List}
 use native.Mathlib.Omega.{arith}
 use lib.IntN.{ℤ}
 use Rattle.refusals.specs.Order.{Check, NoneOf, FirstOf}
+use Rattle.refusals.specs.declared.Verdict.{Verdict}
+use Rattle.refusals.specs.declared.Verdict.the-variants as verdict
 use Rattle.refusals.proofs.Order.{first-none}
+use Rattle.flows.specs.ProvingSet.{wordsFor}
+use Rattle.records.specs.Sheet.{nodesOf, edgesOf}
+use Rattle.pages.specs.Question.{questionIn}
+use Rattle.pages.specs.Page.{answerAt, PageAs}
 use Rattle.sheets.specs.Read.{readChecks}
 use Rattle.sheets.specs.Write.{writeChecks}
 use Rattle.sheets.specs.declared.ReadAnswer.the-variants as read
@@ -15,6 +21,7 @@ use Rattle.analyser.specs.Solve.{solveChecks}
 use Rattle.analyser.specs.Largest.{largestChecks}
 use Rattle.analyser.specs.Range.{rangeChecks}
 use Rattle.analyser.specs.Raise.{raiseChecks}
+use Rattle.analyser.specs.Page.{pageChecks, solvesAlone}
 use Rattle.analyser.specs.Mark.{markChecks}
 use Rattle.analyser.specs.LevelsOf.{levelsChecks}
 use Rattle.analyser.specs.SettingsOf.{settingsChecks}
@@ -38,6 +45,7 @@ use Rattle.abi.specs.Solve.{TellsSolve}
 use Rattle.abi.specs.Largest.{TellsLargest}
 use Rattle.abi.specs.Range.{TellsRange}
 use Rattle.abi.specs.Raise.{TellsRaise}
+use Rattle.abi.specs.Page.{PageTold, TellsPage}
 use Rattle.abi.specs.Mark.{TellsMark}
 use Rattle.abi.specs.Levels.{TellsLevels, TellsSettings}
 use Rattle.abi.specs.Totals.{TellsTotals}
@@ -53,6 +61,7 @@ use Rattle.abi.proofs.Numbered.{
   largest-numbered,
   range-numbered,
   raise-numbered,
+  page-numbered,
   mark-numbered,
   levels-numbered,
   settings-numbered,
@@ -138,6 +147,20 @@ module _ {place place' result : ℕ} where
     raise-says (raise.Limit v, h, t) = says-answer (h .0) (t .0) (t .3)
     raise-says (raise.None, h, t) = says-answer (h .0) (t .0) (t .3)
     raise-says (raise.Refused k p, h, t) = says-refusal k p (raise-numbered s _ _ _ _ _ _) (h .0) (t .0) (t .3) (h .1, h .2, t .1, t .2)
+
+    pub page-says : (count : ℕ) (sources sinks : List ℕ) (values : List ℤ) {flows flows' : List ℤ} {sets sets' answers answers' sizes sizes' : List ℕ}
+        → TellsPage s count sources sinks values flows flows' sets sets' answers answers' sizes sizes' place place' result
+        → Says (pageChecks s count flows sets) result place place' ((flows' ≡ flows) × (sets' ≡ sets) × (answers' ≡ answers) × (sizes' ≡ sizes))
+    page-says count sources sinks values {flows} {flows'} {sets} {sets'} {answers} {answers'} {sizes} {sizes'} (page, h, t) =
+        go (page .verdict) (h .0) t
+      where
+        go : (v : Verdict)
+            → PageAs (pageChecks s count flows sets) (edgesOf s) (wordsFor (nodesOf s)) count (λ i. solvesAlone s (questionIn sources sinks values i))
+            flows flows' sets sets' v (page .count) (answerAt page)
+            → PageTold v count (answerAt page) answers answers' sizes sizes' place place' result
+            → Says (pageChecks s count flows sets) result place place' ((flows' ≡ flows) × (sets' ≡ sets) × (answers' ≡ answers) × (sizes' ≡ sizes))
+        go verdict.Passed h t = says-answer (h .0) (t .0) (t .3)
+        go (verdict.Refused k p) h t = says-refusal k p (page-numbered s _ _ _) (h .0) (t .0) (t .3) (h .2, h .3, t .1, t .2)
 
     pub mark-says : {source sink : ℕ} {flows : List ℤ} {value value' : ℤ}
         → TellsMark s source sink flows value value' place place' result → Says (markChecks s source sink flows) result place place' (value' ≡ value)

@@ -5,6 +5,7 @@ pub mod Largest
 pub mod Range
 pub mod Totals
 pub mod Raise
+pub mod Page
 pub mod Mark
 pub mod Levels
 pub mod Key

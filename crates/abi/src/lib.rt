@@ -6,6 +6,7 @@ ghost use Rattle.abi.specs.Solve.{TellsSolve};
 ghost use Rattle.abi.specs.Largest.{TellsLargest};
 ghost use Rattle.abi.specs.Range.{TellsRange};
 ghost use Rattle.abi.specs.Raise.{TellsRaise};
+ghost use Rattle.abi.specs.Page.{TellsPage};
 ghost use Rattle.abi.specs.Mark.{TellsMark};
 ghost use Rattle.abi.specs.Levels.{TellsLevels, TellsSettings};
 ghost use Rattle.abi.specs.Totals.{TellsTotals};
@@ -21,6 +22,7 @@ use questions::MarkAnswer;
 use questions::SolveAnswer;
 use raising::RaiseAnswer;
 use ranges::RangeAnswer;
+use refusals::Verdict;
 use sheets::ReadAnswer;
 use sheets::WriteAnswer;
 use totals::TotalsAnswer;
@@ -224,6 +226,38 @@ pub extern "C" fn analyser_raise_limit(
             k
         }
     }
+}
+
+// A page: question i is sources[i], sinks[i], values[i], its flows are written from i times the edges on, its set from i times the words on. Of question i
+// answers[i] is 1 if it can, 0 if it cannot, else the number of its refusal, 13 to 15, and sizes[i] the number of nodes in its set, or 0. The arrays have 64
+// places, of which the first `count` count.
+#[no_mangle]
+pub extern "C" fn analyser_page(
+    sheet: &[u8],
+    count: usize,
+    sources: &[u16; 64],
+    sinks: &[u16; 64],
+    values: &[i32; 64],
+    flows: &mut [i32],
+    sets: &mut [u64],
+    answers: &mut [u8; 64],
+    sizes: &mut [u16; 64],
+    place: &mut u16,
+) -> u8
+    ensures { λ r. ⌜ TellsPage (now (sheet .entry)) count (now (sources .entry)) (now (sinks .entry)) (now (values .entry))
+        (now (flows .entry)) (now (flows .exit)) (now (sets .entry)) (now (sets .exit)) (now (answers .entry)) (now (answers .exit))
+        (now (sizes .entry)) (now (sizes .exit)) (now (place .entry)) (now (place .exit)) r ⌝ }
+{
+    let list = pages::list_from(count, sources, sinks, values);
+    let page = analyser::page_of(sheet, list, flows, sets);
+    let verdict = page.verdict;
+    if let Verdict::Refused(k, p) = verdict {
+        *place = p;
+        return k;
+    }
+    answer_arrays::tell_numbers(page, answers);
+    answer_arrays::tell_sizes(page, sizes);
+    0
 }
 
 // Mark. The value of given flows.

@@ -8,6 +8,8 @@ pub mod Demand3
 pub mod Range
 pub mod Raise
 pub mod Dimacs
+pub mod Lines
+pub mod ByThePage
 pub mod Statements
 pub mod Districts
 pub mod ByNode

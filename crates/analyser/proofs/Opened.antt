@@ -7,7 +7,7 @@ use native.Mathlib.Omega.{arith}
 use lib.IntN.{ℤ}
 use Rattle.integers.specs.inner.Limited.{Limited}
 use Rattle.refusals.specs.Order.{Check, NoneOf, FirstOf}
-use Rattle.refusals.proofs.Order.{first-left}
+use Rattle.refusals.proofs.Order.{first-left, none-append, first-right}
 use Rattle.maps.specs.Map.{Map, darts}
 use Rattle.maps.specs.Drawing.{Drawing}
 use Rattle.arrays.specs.At.{at, atℤ}
@@ -37,6 +37,12 @@ use Rattle.totals.proofs.Giving.{total-after}
 use Rattle.raising.specs.Raise.{limitChecks, RaiseFound}
 use Rattle.raising.specs.declared.RaiseAnswer.{RaiseAnswer}
 use Rattle.raising.proofs.After.{raise-after}
+use Rattle.flows.specs.ProvingSet.{wordsFor}
+use Rattle.pages.specs.Page.{listChecks, Paged}
+use Rattle.pages.specs.inner.Listed.{solvedAlone}
+use Rattle.pages.specs.declared.Question.{Question}
+use Rattle.pages.specs.declared.Page.{Page}
+use Rattle.pages.proofs.After.{page-lines}
 use Rattle.levels.specs.LevelsOf.{balancedChecks, LevelsGiven}
 use Rattle.levels.specs.SettingsOf.{leveledChecks, SettingsGiven}
 use Rattle.levels.specs.declared.LevelAnswer.{LevelAnswer}
@@ -48,6 +54,7 @@ use Rattle.analyser.specs.Solve.{solveChecks, Solves}
 use Rattle.analyser.specs.Largest.{largestChecks, FindsLargest}
 use Rattle.analyser.specs.Range.{rangeChecks, FindsRange}
 use Rattle.analyser.specs.Raise.{raiseChecks, RaisesLimit}
+use Rattle.analyser.specs.Page.{pageChecks, solvesAlone, AnswersPage}
 use Rattle.analyser.specs.Mark.{markChecks, Marks}
 use Rattle.analyser.specs.LevelsOf.{levelsChecks, GivesLevels}
 use Rattle.analyser.specs.SettingsOf.{settingsChecks, GivesSettings}
@@ -73,6 +80,10 @@ module _ (s : List ℕ) (k p : ℕ) (first : FirstOf (sheetChecks s) k p) where
   pub raise-refused : (source sink : ℕ) (value : ℤ) (edge : ℕ) (flows : List ℤ) (set : List ℕ) → FirstOf (raiseChecks s source sink value edge flows set) k p
   unfolding raiseChecks
   raise-refused source sink value edge flows set = first-left (sheetChecks s) _ k p first
+
+  pub page-refused : (n : ℕ) (flows : List ℤ) (sets : List ℕ) → FirstOf (pageChecks s n flows sets) k p
+  unfolding pageChecks
+  page-refused n flows sets = first-left (sheetChecks s) _ k p first
 
   pub mark-refused : (source sink : ℕ) (flows : List ℤ) → FirstOf (markChecks s source sink flows) k p
   unfolding markChecks
@@ -164,6 +175,21 @@ module _ (s : List ℕ) (o : Opened) (lefts tails rotations : List ℕ) (capacit
       (subst (λ 𝓓. RaiseFound 𝓓 (limitChecks (𝓓 .map .nodes) (𝓓 .map .edges) source sink value edge flows set)
       source sink value edge flows flows' set set' r) same
       (subst (λ w. RaiseFound held (limitChecks (o .nodes) (o .edges) source sink w edge flows set) source sink w edge flows flows' set set' r) e h))
+
+  pub page-sheet : (n : ℕ) (question : ℕ → Question) (flows flows' : List ℤ) (sets sets' : List ℕ) (r : Page)
+      → Paged (listChecks (o .nodes) (o .edges) n flows sets) (o .edges) (wordsFor (o .nodes)) n
+      (λ i. solvedAlone (drawingOf (o .nodes) (o .edges) (o .outer) tails rotations capacities) (question i)) flows flows' sets sets' r
+      → AnswersPage s n question flows flows' sets sets' r
+  unfolding pageChecks solveChecks
+  page-sheet n question flows flows' sets sets' r h =
+      let 𝓓 = sheetDrawing s in
+      page-lines (listChecks (nodesOf s) (edgesOf s) n flows sets) (pageChecks s n flows sets) (edgesOf s) (wordsFor (nodesOf s)) n
+      (λ i. solvedAlone 𝓓 (question i)) (λ i. solvesAlone s (question i))
+      (none-append (sheetChecks s) _ (open' .0)) (λ k p. first-right (sheetChecks s) _ k p (open' .0))
+      (λ passed i l f f' t t' a line. solved-after (sheetChecks s) (open' .0) 𝓓 _ _ _ _ f f' t t' a line)
+      flows flows' sets sets' r
+      (subst (λ 𝓓. Paged (listChecks (𝓓 .map .nodes) (𝓓 .map .edges) n flows sets) (𝓓 .map .edges) (wordsFor (𝓓 .map .nodes)) n
+      (λ i. solvedAlone 𝓓 (question i)) flows flows' sets sets' r) same h)
 
   pub marked-sheet : (source sink : ℕ) (flows : List ℤ) (r : MarkAnswer)
       → Marked (drawingOf (o .nodes) (o .edges) (o .outer) tails rotations capacities)

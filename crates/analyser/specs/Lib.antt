@@ -7,4 +7,5 @@ pub mod Range
 pub mod Totals
 pub mod Raise
 pub mod Dimacs
+pub mod Page
 pub mod Statements

@@ -1,8 +1,9 @@
--- What the course book prints of the operations on sheets (document 01, demands 2 and 3; document 02, Jobs 2, 4 and 6 to 9), as records: a field for each
+-- What the course book prints of the operations on sheets (document 01, demands 2 and 3; document 02, Jobs 1, 2, 4 and 6 to 9), as records: a field for each
 -- statement, with the printed words above it. Each is about every run of an operation: all that a field knows of a run is its contract, `Solves`,
--- `FindsLargest`, `FindsRange`, `RaisesLimit`, `Marks`, `GivesLevels`, `GivesSettings`, `GivesTotals` or `WritesDimacs`. A sheet or a question is accepted
--- where no check of its list holds; an accepted sheet is flat, because 12 is among its checks, in one part or several. Settings are any function from edges to
--- whole numbers, deliveries any whole number. The proofs are in proofs/Statements.antt, Range.antt, Raise.antt, Districts.antt, ByNode.antt and Dimacs.antt.
+-- `FindsLargest`, `FindsRange`, `RaisesLimit`, `AnswersPage`, `Marks`, `GivesLevels`, `GivesSettings`, `GivesTotals` or `WritesDimacs`. A sheet or a question is
+-- accepted where no check of its list holds; an accepted sheet is flat, because 12 is among its checks, in one part or several. Settings are any function from
+-- edges to whole numbers, deliveries any whole number. The proofs are in proofs/Statements.antt, Range.antt, Raise.antt, ByThePage.antt, Districts.antt,
+-- ByNode.antt and Dimacs.antt.
 use Prim.Native.Nat.{ℕ, _+_, _*_, _≤_, _<_}
 use mathlib.Core.Path.{_≡_}
 use mathlib.Core.Logic.{_⊎_, _↔_}
@@ -13,6 +14,7 @@ use lib.IntN.{ℤ, pos, _+ℤ_, _-ℤ_}
 use lib.Signed.{_≤ℤ_, _<ℤ_}
 use Rattle.integers.specs.Sum.{sumℤ, when, count}
 use Rattle.refusals.specs.Order.{NoneOf}
+use Rattle.refusals.specs.declared.Verdict.the-variants.{Passed}
 use Rattle.maps.specs.Map.{darts}
 use Rattle.maps.specs.Face.{faces, left}
 use Rattle.maps.specs.Walk.{Walk, Components}
@@ -22,13 +24,13 @@ use Rattle.flows.specs.Settings.{Within, Balanced, Carries}
 use Rattle.flows.specs.Highest.{Highest}
 use Rattle.flows.specs.ZeroFace.{LowestElsewhere, ZeroFace}
 use Rattle.flows.specs.Levels.{Levels}
-use Rattle.flows.specs.ProvingSet.{bound, Proves, member, size}
+use Rattle.flows.specs.ProvingSet.{bound, Proves, wordsFor, member, size}
 use Rattle.arrays.specs.At.{atℤ}
 use Rattle.records.specs.Sheet.{kindOf, nodesOf, edgesOf, capacityOf, outerOf, sheetMap}
 use Rattle.sheets.specs.Open.{sheetChecks}
 use Rattle.questions.specs.Question.{endChecks, SetWritten}
 use Rattle.questions.specs.declared.SolveAnswer.{SolveAnswer}
-use Rattle.questions.specs.declared.SolveAnswer.the-variants.{Can, Cannot}
+use Rattle.questions.specs.declared.SolveAnswer.the-variants.{Can, Cannot, Refused}
 use Rattle.questions.specs.declared.LargestAnswer.{LargestAnswer}
 use Rattle.questions.specs.declared.LargestAnswer.the-variants as largest
 use Rattle.questions.specs.declared.MarkAnswer.{MarkAnswer}
@@ -41,6 +43,10 @@ use Rattle.totals.specs.declared.TotalsAnswer.the-variants.{Total}
 use Rattle.raising.specs.Raised.{raised}
 use Rattle.raising.specs.declared.RaiseAnswer.{RaiseAnswer}
 use Rattle.raising.specs.declared.RaiseAnswer.the-variants as raise
+use Rattle.pages.specs.Stretch.{stretch}
+use Rattle.pages.specs.Page.{answerAt}
+use Rattle.pages.specs.declared.Question.{Question}
+use Rattle.pages.specs.declared.Page.{Page}
 use Rattle.levels.specs.declared.LevelAnswer.{LevelAnswer}
 use Rattle.levels.specs.declared.LevelAnswer.the-variants.{Done}
 use Rattle.dimacs.specs.Problem.{WellPosed, Greatest, NoneGreaterInParts}
@@ -51,6 +57,7 @@ use Rattle.analyser.specs.Solve.{solveChecks, Solves}
 use Rattle.analyser.specs.Largest.{largestChecks, FindsLargest}
 use Rattle.analyser.specs.Range.{rangeChecks, FindsRange}
 use Rattle.analyser.specs.Raise.{raiseChecks, RaisesLimit}
+use Rattle.analyser.specs.Page.{AnswersPage}
 use Rattle.analyser.specs.Mark.{Marks}
 use Rattle.analyser.specs.LevelsOf.{GivesLevels}
 use Rattle.analyser.specs.SettingsOf.{GivesSettings}
@@ -337,3 +344,34 @@ pub record DimacsTexts : Type 0 where
       → (k : ℕ) → NoneGreaterInParts k (problemOf (take n out')) v
   -- room for every text
   pub longest : (s : List ℕ) (source sink : ℕ) (out out' : List ℕ) (n : ℕ) → WritesDimacs s source sink out out' (Bytes n) → n ≤ 18463
+
+-- ── Document 02, Job 1: "Each answer, question refusals 13 to 15 included, is the one Solve gives alone, and its stretches hold what Solve would leave there.
+-- Answers come in the list's order, and an empty list gives none." Of every run of `page` and `page_of`, known by their contract `AnswersPage` alone:
+-- n questions, of which `question i` is number i. ──
+pub record ByThePage : Type 0 where
+  -- what holds of answer i and its stretches is what Solve promises where these stretches are lent to it
+  pub line-solves : (s : List ℕ) (n : ℕ) (question : ℕ → Question) (flows flows' : List ℤ) (sets sets' : List ℕ) (page : Page)
+      → AnswersPage s n question flows flows' sets sets' page → page .verdict ≡ Passed → (i : ℕ) → i < n
+      → Solves s (question i .source) (question i .sink) (question i .value) (stretch (edgesOf s) i flows) (stretch (edgesOf s) i flows')
+      (stretch (wordsFor (nodesOf s)) i sets) (stretch (wordsFor (nodesOf s)) i sets') (answerAt page i)
+  -- a question is refused by 13, 14 or 15 alone, and its stretches are then as they were
+  pub line-refused : (s : List ℕ) (n : ℕ) (question : ℕ → Question) (flows flows' : List ℤ) (sets sets' : List ℕ) (page : Page)
+      → AnswersPage s n question flows flows' sets sets' page → page .verdict ≡ Passed → (i : ℕ) → i < n
+      → (k p : ℕ) → answerAt page i ≡ Refused k p
+      → ((k ≡ 13) ⊎ ((k ≡ 14) ⊎ (k ≡ 15))) × (stretch (edgesOf s) i flows' ≡ stretch (edgesOf s) i flows)
+      × (stretch (wordsFor (nodesOf s)) i sets' ≡ stretch (wordsFor (nodesOf s)) i sets)
+  -- "the one Solve gives alone": a run of Solve that has room in slices of its own says can where the page does, and refuses where the page does, with the
+  -- same number and place; so it says cannot where the page does
+  pub same-can : (s : List ℕ) (n : ℕ) (question : ℕ → Question) (flows flows' : List ℤ) (sets sets' : List ℕ) (page : Page)
+      → AnswersPage s n question flows flows' sets sets' page → page .verdict ≡ Passed → (i : ℕ) → i < n
+      → (own own' : List ℤ) (set set' : List ℕ) (answer : SolveAnswer) → edgesOf s ≤ length own → wordsFor (nodesOf s) ≤ length set
+      → Solves s (question i .source) (question i .sink) (question i .value) own own' set set' answer → (answerAt page i ≡ Can) ↔ (answer ≡ Can)
+  pub same-refused : (s : List ℕ) (n : ℕ) (question : ℕ → Question) (flows flows' : List ℤ) (sets sets' : List ℕ) (page : Page)
+      → AnswersPage s n question flows flows' sets sets' page → page .verdict ≡ Passed → (i : ℕ) → i < n
+      → (own own' : List ℤ) (set set' : List ℕ) (answer : SolveAnswer) → edgesOf s ≤ length own → wordsFor (nodesOf s) ≤ length set
+      → Solves s (question i .source) (question i .sink) (question i .value) own own' set set' answer
+      → (k p : ℕ) → (answerAt page i ≡ Refused k p) ↔ (answer ≡ Refused k p)
+  -- "an empty list gives none", and needs no room: on an accepted sheet, whatever the buffers
+  pub empty-none : (s : List ℕ) (question : ℕ → Question) (flows flows' : List ℤ) (sets sets' : List ℕ) (page : Page) → NoneOf (sheetChecks s)
+      → AnswersPage s 0 question flows flows' sets sets' page
+      → (page .verdict ≡ Passed) × (page .count ≡ 0) × (flows' ≡ flows) × (sets' ≡ sets)

@@ -1,10 +1,13 @@
 // The analyser's operations on sheets. Document 01, "Operations": Solve, Largest, Mark, Levels from settings, Settings from levels. Document 02: the least
 // delivery beside the largest (Job 4), what a forward limit must be raised to (Job 7), totals by node (Job 9), DIMACS text (Job 2). Each makes the network
 // record once, in its own frame, fills it from the sheet, and lends its arrays to the operation on drawings.
+ghost use lib.ListN.{length};
 ghost use Rattle.analyser.specs.Solve.{Solves};
 ghost use Rattle.analyser.specs.Largest.{FindsLargest};
 ghost use Rattle.analyser.specs.Range.{FindsRange};
 ghost use Rattle.analyser.specs.Raise.{RaisesLimit};
+ghost use Rattle.analyser.specs.Page.{AnswersPage};
+ghost use Rattle.pages.specs.Question.{questionAt};
 ghost use Rattle.analyser.specs.Mark.{Marks};
 ghost use Rattle.analyser.specs.LevelsOf.{GivesLevels};
 ghost use Rattle.analyser.specs.SettingsOf.{GivesSettings};
@@ -12,6 +15,9 @@ ghost use Rattle.analyser.specs.Totals.{GivesTotals};
 ghost use Rattle.analyser.specs.Dimacs.{WritesDimacs};
 use dimacs::DimacsAnswer;
 use levels::LevelAnswer;
+use pages::Listed;
+use pages::Page;
+use pages::Question;
 use questions::LargestAnswer;
 use questions::MarkAnswer;
 use questions::SolveAnswer;
@@ -244,6 +250,61 @@ pub fn raise_limit(
         flows,
         set,
     )
+}
+
+// A list of questions on one sheet, which is opened once: each is answered as Solve answers it alone, with its own stretch of each buffer.
+pub fn page_of(sheet: &[u8], list: Listed, flows: &mut [i32], sets: &mut [u64]) -> Page
+    ensures { λ r. ⌜ AnswersPage (now (sheet .entry)) (list .count) (questionAt (list .questions))
+        (now (flows .entry)) (now (flows .exit)) (now (sets .entry)) (now (sets .exit)) r ⌝ }
+{
+    let mut network = Network {
+        nodes: 0,
+        edges: 0,
+        faces: 0,
+        outer: 0,
+        tails: [0u16; 1024],
+        rotations: [0u16; 1024],
+        capacities: [0i32; 1024],
+        lefts: [0u16; 1024],
+    };
+    let opened = sheets::open(sheet, &mut network.lefts);
+    let verdict = opened.verdict;
+    if let Verdict::Refused(k, p) = verdict {
+        return pages::refused_page(k, p);
+    }
+    network.nodes = opened.nodes;
+    network.edges = opened.edges;
+    network.faces = opened.faces;
+    network.outer = opened.outer;
+    sheets::fill_tails(sheet, opened.edges, &mut network.tails);
+    sheets::fill_rotations(sheet, opened.edges, &mut network.rotations);
+    sheets::fill_capacities(sheet, opened.edges, &mut network.capacities);
+    let nodes = network.nodes;
+    let edges = network.edges;
+    let faces = network.faces;
+    let outer = network.outer;
+    pages::answer_list(
+        &network.tails,
+        &network.rotations,
+        &network.lefts,
+        &network.capacities,
+        nodes,
+        edges,
+        faces,
+        outer,
+        list,
+        flows,
+        sets,
+    )
+}
+
+// Questions by the page: a lent slice of questions on one sheet, the settings of question i from i times the edges on, its set from i times the words on.
+pub fn page(sheet: &[u8], questions: &[Question], flows: &mut [i32], sets: &mut [u64]) -> Page
+    ensures { λ r. ⌜ AnswersPage (now (sheet .entry)) (length (now (questions .entry))) (questionAt (now (questions .entry)))
+        (now (flows .entry)) (now (flows .exit)) (now (sets .entry)) (now (sets .exit)) r ⌝ }
+{
+    let list = pages::list_of(questions);
+    page_of(sheet, list, flows, sets)
 }
 
 // Mark: the value that given flows of the edges carry, if they carry any.

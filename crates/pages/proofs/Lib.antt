@@ -1,0 +1,4 @@
+pub mod Stretches
+pub mod Answering
+pub mod Listing
+pub mod After

@@ -1,0 +1,4 @@
+pub mod Stretch
+pub mod Question
+pub mod Page
+pub mod inner
