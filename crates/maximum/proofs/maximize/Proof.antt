@@ -49,11 +49,13 @@ use Rattle.maximum.proofs.maximize.Statement.{statement}
 use Rattle.maximum.proofs.maximize.Tie as tie
 
 abbrev Inv-loop : tie.InvT-loop
-Inv-loop tails rotations lefts capacities nodes edges faces outer source sink flows₀ a₀ b₀ inside₀ high₀ low₀ found₀ top₀ flows a b inside high low found top =
-    Probing (mapOf nodes edges tails rotations) outer (atℤ capacities) source sink flows₀ flows a b inside (toZ w32 low) (toZ w32 high) found
+Inv-loop tails rotations lefts capacities order from grouped starts ends nodes edges faces trees outer source sink flows₀ a₀ b₀ inside₀ parents₀ high₀ low₀ found₀ middle₀
+    flows a b inside parents high low found middle =
+    Probing (mapOf nodes edges tails rotations) outer (atℤ capacities) source sink flows₀ flows a b inside parents (toZ w32 low) (toZ w32 high) found
 
 abbrev μ-loop : tie.MeasureT-loop
-μ-loop tails rotations lefts capacities nodes edges faces outer source sink flows₀ a₀ b₀ inside₀ high₀ low₀ found₀ top₀ flows a b inside high low found top =
+μ-loop tails rotations lefts capacities order from grouped starts ends nodes edges faces trees outer source sink flows₀ a₀ b₀ inside₀ parents₀ high₀ low₀ found₀ middle₀
+    flows a b inside parents high low found middle =
     gap (toZ w32 low) (toZ w32 high) found
 
 -- ── what the function is given ──
@@ -134,6 +136,7 @@ loop-holds c =
       size-a = f1 .flag-one .ensures .0;
       size-b = f2 .flag-one2 .ensures .0;
       size-inside = refl;
+      size-parents = refl;
       size-flows = refl;
       bracket =
           begins (b .args .outer) (ground b) (b .args .flows .now) A B _ _
@@ -220,6 +223,8 @@ decide-requires c κs =
       p .3,
       p .4,
       limited-more (omega arith) (bits-limited (omega arith) (value-small n)),
+      l .loop .inv .size-parents,
+      p .5,
     )
 
 -- ── the value is carried ──
