@@ -163,6 +163,35 @@ pub fn flag_met(tails: &[u16; 1024], from: &[u16; 1024], darts: usize, inside: &
     }
 }
 
+// The faces left of the first darts of the trees of a walk over all darts, into the first places of `roots`: those at level 0 (document 02, Job 8). The search
+// for them ends at the last tree, at once where there is one tree only. `rotations` and `first` are named by the contract only.
+pub fn first_faces<'a>(
+    rotations: &'a [u16; 1024],
+    lefts: &'a [u16; 1024],
+    order: &'a [u16; 1024],
+    from: &'a [u16; 1024],
+    darts: usize,
+    first: usize,
+    trees: usize,
+    roots: &mut [u16; 1024],
+)
+    requires { ⌜ (length (now roots) ≡ 1024) × (darts ≤ 1024) × Forest darts (at (now rotations)) first (at (now order)) (at (now from)) trees ⌝ }
+    ensures { λ _. ⌜ (length (now (roots .exit)) ≡ 1024)
+        × RootsOf darts (at (now (rotations .entry))) first (at (now (lefts .entry))) (at (now (roots .exit))) trees ⌝ }
+{
+    let mut count: usize = 0;
+    let mut i: usize = 0;
+    while count < trees {
+        let d = arrays::wide(order[i]);
+        i += 1;
+        let p = arrays::wide(from[d]);
+        if p == d {
+            roots[count] = lefts[d];
+            count += 1;
+        }
+    }
+}
+
 // The faces at level 0 (document 02, Job 8): the one left of `first`, and in each other part the one left of its lowest dart, into the first places of `roots`.
 // Answers how many they are.
 pub fn roots_of<'a>(
@@ -180,16 +209,6 @@ pub fn roots_of<'a>(
     let mut order = [0u16; 1024];
     let mut from = [0u16; 1024];
     let trees = spread_all(rotations, darts, first, &mut order, &mut from);
-    let mut count: usize = 0;
-    let mut i: usize = 0;
-    while i < darts {
-        let d = arrays::wide(order[i]);
-        i += 1;
-        let p = arrays::wide(from[d]);
-        if p == d {
-            roots[count] = lefts[d];
-            count += 1;
-        }
-    }
+    first_faces(rotations, lefts, &order, &from, darts, first, trees, roots);
     trees
 }
