@@ -14,6 +14,7 @@ ghost use Rattle.node_flags.specs.inner.Flags.{Sided};
 ghost use Rattle.arrays.specs.inner.Flags.{flagged};
 ghost use Rattle.node_flags.specs.declared.Side.{Side};
 ghost use Rattle.arrays.specs.inner.Drawn.{Drawn};
+ghost use Rattle.grouping.specs.inner.Walked.{Walked};
 ghost use Rattle.solver.specs.inner.Ends.{Ends};
 ghost use Rattle.arrays.specs.Maps.{mapOf};
 ghost use Rattle.maximum.specs.inner.Bracket.{Bracket};
@@ -153,9 +154,15 @@ pub fn maximize<'a>(
     rotations: &'a [u16; 1024],
     lefts: &'a [u16; 1024],
     capacities: &'a [i32; 1024],
+    order: &'a [u16; 1024],
+    from: &'a [u16; 1024],
+    grouped: &'a [u16; 1024],
+    starts: &'a [u16; 1024],
+    ends: &'a [u16; 1024],
     nodes: usize,
     edges: usize,
     faces: usize,
+    trees: usize,
     outer: usize,
     source: usize,
     sink: usize,
@@ -164,13 +171,15 @@ pub fn maximize<'a>(
 ) -> Maximum
     requires { ⌜ (length (now a) ≡ 1024) × (edges ≤ length (now flows)) × ((d : ℕ) → d < 2 * edges → Limited 1000000 (atℤ (now capacities) d))
         × Drawn (mapOf nodes edges (now tails) (now rotations)) (at (now lefts)) faces outer (atℤ (now capacities))
-        × Ends (mapOf nodes edges (now tails) (now rotations)) source sink ⌝ }
+        × Ends (mapOf nodes edges (now tails) (now rotations)) source sink
+        × Walked (2 * edges) faces outer trees (at (now rotations)) (now lefts) (now order) (now from) (now grouped) (now starts) (now ends) ⌝ }
     ensures { λ r. ⌜ (length (now (a .exit)) ≡ 1024)
         × Maximized (mapOf nodes edges (now (tails .entry)) (now (rotations .entry))) outer
         (atℤ (now (capacities .entry))) source sink (now (flows .entry)) (now (flows .exit)) (now (a .exit)) r ⌝ }
 {
     let mut b = [0u8; 1024];
     let mut inside = [0u8; 1024];
+    let mut parents = [0u16; 1024];
     node_flags::flag_one(source, &mut *a);
     node_flags::flag_one(sink, &mut b);
     let mut high = cuts::capacity(tails, capacities, &*a, 2 * edges);
@@ -192,13 +201,20 @@ pub fn maximize<'a>(
             rotations,
             lefts,
             capacities,
+            order,
+            from,
+            grouped,
+            starts,
+            ends,
             nodes,
             edges,
             faces,
+            trees,
             outer,
             source,
             sink,
             value,
+            &mut parents,
             &mut *flows,
             &mut inside,
         ) {

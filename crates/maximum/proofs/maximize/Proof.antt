@@ -49,11 +49,14 @@ use Rattle.maximum.proofs.maximize.Statement.{statement}
 use Rattle.maximum.proofs.maximize.Tie as tie
 
 abbrev Inv-loop : tie.InvT-loop
-Inv-loop tails rotations lefts capacities nodes edges faces outer source sink flows₀ a₀ b₀ inside₀ high₀ low₀ found₀ top₀ flows a b inside high low found top =
-    Probing (mapOf nodes edges tails rotations) outer (atℤ capacities) source sink flows₀ flows a b inside (toZ w32 low) (toZ w32 high) found
+Inv-loop tails rotations lefts capacities order from grouped starts ends nodes edges faces trees outer source sink flows₀ a₀ b₀ inside₀ parents₀ high₀ low₀
+    found₀ top₀ flows a b inside parents high low found top =
+    (length parents ≡ 1024)
+    × Probing (mapOf nodes edges tails rotations) outer (atℤ capacities) source sink flows₀ flows a b inside (toZ w32 low) (toZ w32 high) found
 
 abbrev μ-loop : tie.MeasureT-loop
-μ-loop tails rotations lefts capacities nodes edges faces outer source sink flows₀ a₀ b₀ inside₀ high₀ low₀ found₀ top₀ flows a b inside high low found top =
+μ-loop tails rotations lefts capacities order from grouped starts ends nodes edges faces trees outer source sink flows₀ a₀ b₀ inside₀ parents₀ high₀ low₀
+    found₀ top₀ flows a b inside parents high low found top =
     gap (toZ w32 low) (toZ w32 high) found
 
 -- ── what the function is given ──
@@ -129,18 +132,20 @@ loop-holds c =
     let A = f1 .flag-one .last .1 .0 in
     let B = f2 .flag-one2 .last .1 .0 in
     let o = k .before .before .capacity in
-    let is-low = c .negate .ensures ∙ ap negℤ (same-bits (omega arith) (second-small k)) in
-    record {
-      size-a = f1 .flag-one .ensures .0;
-      size-b = f2 .flag-one2 .ensures .0;
-      size-inside = refl;
-      size-flows = refl;
-      bracket =
-          begins (b .args .outer) (ground b) (b .args .flows .now) A B _ _
-          (f1 .flag-one .ensures .1) (f2 .flag-one2 .ensures .1)
-          (same-bits (omega arith) (small-cut b (flagged A) (o .result) (o .ensures)) ∙ o .ensures)
-          (same-bits (omega arith) (subst (Limited 512000000) (sym is-low) (limited-neg (second-small k))) ∙ is-low ∙ ap negℤ (k .capacity2 .ensures));
-    }
+    let is-low = c .negate .ensures ∙ ap negℤ (same-bits (omega arith) (second-small k)) in (
+      refl,
+      record {
+        size-a = f1 .flag-one .ensures .0;
+        size-b = f2 .flag-one2 .ensures .0;
+        size-inside = refl;
+        size-flows = refl;
+        bracket =
+            begins (b .args .outer) (ground b) (b .args .flows .now) A B _ _
+            (f1 .flag-one .ensures .1) (f2 .flag-one2 .ensures .1)
+            (same-bits (omega arith) (small-cut b (flagged A) (o .result) (o .ensures)) ∙ o .ensures)
+            (same-bits (omega arith) (subst (Limited 512000000) (sym is-low) (limited-neg (second-small k))) ∙ is-low ∙ ap negℤ (k .capacity2 .ensures));
+      },
+    )
 
 -- ── in the loop ──
 abbrev start : tie.At-loop Inv-loop μ-loop → tie.Start Inv-loop μ-loop
@@ -162,17 +167,17 @@ join-requires : tie.Need-join-requires Inv-loop μ-loop
 join-requires c κs =
     let l = c .before .before .before .before in
     let b = start l in
-    (l .loop .inv .size-a, omega (arith, b .pre .3 .few-edges), omega arith, tails-in b, caps-in b)
+    (l .loop .inv .1 .size-a, omega (arith, b .pre .3 .few-edges), omega arith, tails-in b, caps-in b)
 
 finished-requires : tie.Need-finished-requires Inv-loop μ-loop
 finished-requires c κs = search needs
 
 -- the bounds are small
 lo-small : (c : tie.At-loop Inv-loop μ-loop) → Limited 512000000 (lo c)
-lo-small c = low-small (start c .args .outer) (ground (start c)) _ _ (flagged (c .loop .b)) (lo c) (c .loop .found) (c .loop .inv .bracket .floor)
+lo-small c = low-small (start c .args .outer) (ground (start c)) _ _ (flagged (c .loop .b)) (lo c) (c .loop .found) (c .loop .inv .1 .bracket .floor)
 
 hi-small : (c : tie.At-loop Inv-loop μ-loop) → Limited 512000000 (hi c)
-hi-small c = high-small (start c .args .outer) (ground (start c)) (c .loop .inv .bracket .ceiling)
+hi-small c = high-small (start c .args .outer) (ground (start c)) (c .loop .inv .1 .bracket .ceiling)
 
 -- and in order, where they have not passed each other
 abbrev looping : tie.Else2 Inv-loop μ-loop → tie.At-loop Inv-loop μ-loop
@@ -212,25 +217,27 @@ above c e =
 
 decide-requires : tie.Need-decide-requires Inv-loop μ-loop
 decide-requires c κs =
-    let n = c .before .before in
+    let n = c .before .before .before in
     let l = top n in
     let p = start l .pre in (
-      l .loop .inv .size-inside,
-      omega (arith, p .1, l .loop .inv .size-flows),
+      l .loop .inv .1 .size-inside,
+      omega (arith, p .1, l .loop .inv .1 .size-flows),
       p .3,
       p .4,
       limited-more (omega arith) (bits-limited (omega arith) (value-small n)),
+      l .loop .inv .0,
+      p .5,
     )
 
 -- ── the value is carried ──
 abbrev asked : tie.After-decide Inv-loop μ-loop → tie.After-next-value Inv-loop μ-loop
-asked c = c .before .before .before
+asked c = c .before .before .before .before
 
 abbrev flows' : tie.After-decide Inv-loop μ-loop → List ℤ
-flows' c = c .decide .last .1 .1 .1 .1 .1 .1 .1 .1 .1 .1 .1 .0
+flows' c = c .decide .last .1 .1 .1 .1 .1 .1 .1 .1 .1 .1 .1 .1 .1 .1 .1 .1 .1 .1 .0
 
 abbrev inside' : tie.After-decide Inv-loop μ-loop → List ℕ
-inside' c = c .decide .last .1 .1 .1 .1 .1 .1 .1 .1 .1 .1 .1 .1 .0
+inside' c = c .decide .last .1 .1 .1 .1 .1 .1 .1 .1 .1 .1 .1 .1 .1 .1 .1 .1 .1 .1 .1 .0
 
 decided : (c : tie.After-decide Inv-loop μ-loop) {r : Bool} → c .decide .result ≡ r
     → Decided (𝓜 (start (top (asked c)))) (start (top (asked c)) .args .outer) (caps (start (top (asked c))))
@@ -252,17 +259,19 @@ loop-again c =
     let n = asked k in
     let l = top n in
     let b = start l in
-    let i = l .loop .inv in
-    let d = decided k (c .if3 .taken) in
-    record {
-      size-a = i .size-a;
-      size-b = i .size-b;
-      size-inside = k .decide .ensures .0;
-      size-flows = filled-length _ _ (l .loop .flows) (flows' k) (d .2) (omega (arith, b .pre .1, i .size-flows)) ∙ i .size-flows;
-      bracket =
-          carried (b .args .outer) (ground b) (b .args .flows .now) (l .loop .flows) (l .loop .a)
-          (l .loop .b) (lo l) (hi l) (l .loop .found) (i .bracket) (value n) (flows' k) (inside' k) d;
-    }
+    let i = l .loop .inv .1 in
+    let d = decided k (c .if3 .taken) in (
+      k .decide .ensures .2,
+      record {
+        size-a = i .size-a;
+        size-b = i .size-b;
+        size-inside = k .decide .ensures .0;
+        size-flows = filled-length _ _ (l .loop .flows) (flows' k) (d .2) (omega (arith, b .pre .1, i .size-flows)) ∙ i .size-flows;
+        bracket =
+            carried (b .args .outer) (ground b) (b .args .flows .now) (l .loop .flows) (l .loop .a)
+            (l .loop .b) (lo l) (hi l) (l .loop .found) (i .bracket) (value n) (flows' k) (inside' k) d;
+      },
+    )
 
 -- ── it cannot be: the set moves a bound, or shows that there is nothing ──
 mul-narrow-by : tie.Need-mul-narrow-by Inv-loop μ-loop
@@ -273,8 +282,8 @@ narrow-by-requires c κs =
     let k = c .before .before .before .before .before in
     let l = top (asked k) in
     let b = start l in (
-      l .loop .inv .size-a,
-      l .loop .inv .size-b,
+      l .loop .inv .1 .size-a,
+      l .loop .inv .1 .size-b,
       omega (arith, b .pre .4 .source-in, b .pre .3 .few-nodes),
       omega (arith, b .pre .4 .sink-in, b .pre .3 .few-nodes),
       omega (arith, b .pre .3 .few-edges),
@@ -309,7 +318,7 @@ moved c e =
     let b = start l in
     let r = c .narrow-by .ensures .2 in
     let d = decided k (refused c) in
-    narrowed (b .args .outer) (ground b) (b .args .flows .now) (l .loop .flows) (l .loop .a) (l .loop .b) (lo l) (hi l) (l .loop .found) (l .loop .inv .bracket)
+    narrowed (b .args .outer) (ground b) (b .args .flows .now) (l .loop .flows) (l .loop .a) (l .loop .b) (lo l) (hi l) (l .loop .found) (l .loop .inv .1 .bracket)
     (value n) (at-least n) (at-most n) (inside' k) (d .1) (a' c) (b' c) (c .narrow-by .result) (r .0) (r .1) (r .2) e
 
 loop-less-2 : tie.Need-loop-less-2 Inv-loop μ-loop
@@ -327,14 +336,16 @@ loop-again-2 c =
     let l = top (asked k) in
     let b = start l in
     let d = decided k (refused m) in
-    let r = moved m (c .before .before .if4 .left) in
-    record {
-      size-a = m .narrow-by .ensures .0;
-      size-b = m .narrow-by .ensures .1;
-      size-inside = k .decide .ensures .0;
-      size-flows = ap length (d .0) ∙ l .loop .inv .size-flows;
-      bracket = same-bracket (d .0) (bits-bracket (b .args .outer) (ground b) _ _ (a' m) (b' m) _ _ (l .loop .found) (r .0));
-    }
+    let r = moved m (c .before .before .if4 .left) in (
+      k .decide .ensures .2,
+      record {
+        size-a = m .narrow-by .ensures .0;
+        size-b = m .narrow-by .ensures .1;
+        size-inside = k .decide .ensures .0;
+        size-flows = ap length (d .0) ∙ l .loop .inv .1 .size-flows;
+        bracket = same-bracket (d .0) (bits-bracket (b .args .outer) (ground b) _ _ (a' m) (b' m) _ _ (l .loop .found) (r .0));
+      },
+    )
 
 -- ── the ways out ──
 same-length : tie.Need-same-length Inv-loop μ-loop
@@ -346,7 +357,7 @@ returns c =
     let l = t .before .before in
     let b = start l in (
       c .join .ensures .0,
-      passed (b .args .outer) (ground b) (b .args .flows .now) (l .loop .flows) (l .loop .a) (l .loop .b) (lo l) (hi l) (l .loop .found) (l .loop .inv .bracket)
+      passed (b .args .outer) (ground b) (b .args .flows .now) (l .loop .flows) (l .loop .a) (l .loop .b) (lo l) (hi l) (l .loop .found) (l .loop .inv .1 .bracket)
           (lt-of-test _ _ (sym (t .before .is-less .ensures) ∙ t .if1 .taken)) (c .join .last .1 .1 .1 .0) (c .join .ensures .1),
     )
 
@@ -358,13 +369,13 @@ returns-2 c =
     let l = c .before .before .before .before in
     let b = start l in
     let r = c .before .finished .ensures .0 (c .if2 .taken) in (
-      l .loop .inv .size-a,
+      l .loop .inv .1 .size-a,
       met (b .args .outer) (ground b) (b .args .flows .now) (l .loop .flows) (l .loop .a)
-          (l .loop .b) (lo l) (hi l) (l .loop .found) (l .loop .inv .bracket) (r .0) (r .1),
+          (l .loop .b) (lo l) (hi l) (l .loop .found) (l .loop .inv .1 .bracket) (r .0) (r .1),
     )
 
 same-length-3 : tie.Need-same-length-3 Inv-loop μ-loop
-same-length-3 c = search needs
+same-length-3 c = let k = probed (c .before) in ap length (decided k (refused (c .before)) .0) ∙ top (asked k) .loop .inv .1 .size-flows
 
 returns-3 : tie.Need-returns-3 Inv-loop μ-loop
 returns-3 c =
@@ -377,7 +388,7 @@ returns-3 c =
     let d = decided k (refused m) in
     let h =
     nothing (b .args .outer) (ground b) (b .args .flows .now) (l .loop .flows)
-    (l .loop .a) (l .loop .b) (lo l) (hi l) (l .loop .found) (l .loop .inv .bracket)
+    (l .loop .a) (l .loop .b) (lo l) (hi l) (l .loop .found) (l .loop .inv .1 .bracket)
     (value n) (at-least n) (at-most n) (inside' k) (d .1) (a' m) (b' m) (m .narrow-by .result) (r .0) (r .1) (r .2) (c .if4 .taken) in
     (m .narrow-by .ensures .0, (d .0 ∙ h .0, h .1, h .2))
 
