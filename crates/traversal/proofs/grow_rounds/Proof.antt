@@ -145,17 +145,17 @@ loop-again c =
       q .1,
       q .2,
       λ h.
-        let g = q .3 h in
-        let front = l .loop .head in
-        let m : front < c .add-round2 .result = omega (arith, i .loop-test .taken, g .4) in
-        let same = g .3 front (i .loop-test .taken) in
-        let at-front = v .reverse .ensures .0 ∙ ap rev (w .wide .ensures ∙ sym same) in (
-          growing-turned (g .0) (g .1) m at-front (g .2),
-          g .1,
-          g .5 _ (old .2),
-          (λ y k. g .5 y (old .3 y k)),
-          old .4,
-        ),
+          let g = q .3 h in
+          let front = l .loop .head in
+          let m : front < c .add-round2 .result = omega (arith, i .loop-test .taken, g .4) in
+          let same = g .3 front (i .loop-test .taken) in
+          let at-front = v .reverse .ensures .0 ∙ ap rev (w .wide .ensures ∙ sym same) in (
+            growing-turned (g .0) (g .1) m at-front (g .2),
+            g .1,
+            g .5 _ (old .2),
+            (λ y k. g .5 y (old .3 y k)),
+            old .4,
+          ),
     )
 
 loop-less-2 : tie.Need-loop-less-2 Inv-loop μ-loop
@@ -193,13 +193,13 @@ returns c =
       o .inv .1,
       o .inv .2,
       λ h.
-        let g = o .inv .3 h in
-        let e : o .end ≡ o .head = omega (arith, c .loop-test .left, g .0 .ordered) in (
-          subst (λ n. Growing (a .darts) (at (a .rotations .now)) (a .first) (at (o .order)) (at (o .from)) n (o .end) (a .trees + 1)) (sym e) (g .0),
-          g .1,
-          g .2,
-          λ y m. g .3 y (l .before .add-round .ensures .3 (g .4) .5 y m),
-        ),
+          let g = o .inv .3 h in
+          let e : o .end ≡ o .head = omega (arith, c .loop-test .left, g .0 .ordered) in (
+            subst (λ n. Growing (a .darts) (at (a .rotations .now)) (a .first) (at (o .order)) (at (o .from)) n (o .end) (a .trees + 1)) (sym e) (g .0),
+            g .1,
+            g .2,
+            λ y m. g .3 y (l .before .add-round .ensures .3 (g .4) .5 y m),
+          ),
     )
 
 pub grow-rounds-spec : {M : Type 1} → statement M
