@@ -48,8 +48,8 @@ returns-3 c =
       e .0,
       e .1,
       λ h.
-        let g = e .3 h in
-        (rounds-sound (p .5) (g .1) (g .2) (said-no (c .before .some-empty .ensures) (c .if2 .left)), g .0),
+          let g = e .3 h in
+          (rounds-sound (p .5) (g .1) (g .2) (said-no (c .before .some-empty .ensures) (c .if2 .left)), g .0),
     )
 
 pub walk-nodes-spec : {M : Type 1} → statement M
