@@ -155,8 +155,8 @@ fn node_fault<'a>(
 
 // Faces: rounds of the face step. "The face step of a dart is the turn of its reverse."
 
-// Gives every dart of the face of `start` this number, and lays their reverses, whose right face it is, from place `begin` of `grouped` on. Answers the place
-// after them.
+// Gives every dart of the face of `start` this number, and lays their reverses, whose right face it is, into the places of `grouped` before `end`, from the last
+// to the first. Answers the place of the last one laid.
 fn mark_face(
     rotations: &[u16; 1024],
     edges: usize,
@@ -164,33 +164,34 @@ fn mark_face(
     number: u16,
     lefts: &mut [u16; 1024],
     grouped: &mut [u16; 1024],
-    begin: usize,
+    end: usize,
 ) -> usize
     requires { ⌜ (length (now lefts) ≡ 1024) × (length (now grouped) ≡ 1024)
         × Markable (2 * edges) (stepOf (now rotations)) (at (now lefts)) start number
-        × (begin + holding unmarked (2 * edges) (at (now lefts)) ≡ 2 * edges) ⌝ }
+        × (end ≡ holding unmarked (2 * edges) (at (now lefts))) × (end ≤ 2 * edges) ⌝ }
     ensures { λ r. ⌜ (length (now (lefts .exit)) ≡ 1024) × (length (now (grouped .exit)) ≡ 1024)
         × Marked (2 * edges) (stepOf (now (rotations .entry))) (at (now (lefts .entry))) (at (now (lefts .exit))) start number
-        × Laid (2 * edges) (stepOf (now (rotations .entry))) (at (now (grouped .entry))) (at (now (grouped .exit))) start begin r
-        × (r + holding unmarked (2 * edges) (at (now (lefts .exit))) ≡ 2 * edges) ⌝ }
+        × Laid (2 * edges) (stepOf (now (rotations .entry))) (at (now (grouped .entry))) (at (now (grouped .exit))) start r end
+        × (r ≡ holding unmarked (2 * edges) (at (now (lefts .exit)))) ⌝ }
 {
     let mut x = start;
-    let mut end = begin;
+    let mut begin = end;
     loop {
         lefts[x] = number;
         let back = arrays::reverse(x);
-        grouped[end] = narrow(back);
-        end += 1;
+        begin -= 1;
+        grouped[begin] = narrow(back);
         x = wide(rotations[back]);
         if x == start {
             break;
         }
     }
-    end
+    begin
 }
 
 // Numbers the faces from 0 in order of their lowest darts, and says how many they are. The darts of a face are met together: so they are grouped by the face
-// right of them at once.
+// right of them at once, the groups from the last place down. The search crosses a face's darts in the order of its group: against the face's round it has been
+// seen to settle sooner than along it.
 fn number_faces(
     rotations: &[u16; 1024],
     edges: usize,
@@ -210,15 +211,15 @@ fn number_faces(
     let darts = 2 * edges;
     traversal::unmark_all(lefts);
     let mut f: usize = 0;
-    let mut laid: usize = 0;
+    let mut free = darts;
     let mut next: usize = 0;
     while next < darts {
         let d = next;
         next += 1;
         if lefts[d] == UNMARKED {
-            starts[f] = narrow(laid);
-            laid = mark_face(rotations, edges, d, narrow(f), lefts, grouped, laid);
-            ends[f] = narrow(laid);
+            ends[f] = narrow(free);
+            free = mark_face(rotations, edges, d, narrow(f), lefts, grouped, free);
+            starts[f] = narrow(free);
             f += 1;
         }
     }

@@ -1,4 +1,4 @@
--- Invariant: the faces whose lowest dart is below `next` have their numbers and their groups, f is the next number, and the groups fill the first places.
+-- Invariant: the faces whose lowest dart is below `next` have their numbers and their groups, f is the next number, and the groups fill the places from `free` on.
 use mathlib.Core.Path.{_≡_, sym, _∙_, subst}
 use Prim.Native.Nat.{ℕ, _+_, _*_, _-_, _≤_, _<_}
 use native.Mathlib.Omega.{arith}
@@ -17,18 +17,18 @@ use Rattle.rotations.proofs.number_faces.Statement.{statement}
 use Rattle.rotations.proofs.number_faces.Tie as tie
 
 abbrev Inv-loop : tie.InvT-loop
-Inv-loop rotations edges lefts₀ grouped₀ starts₀ ends₀ darts f₀ laid₀ next₀ lefts grouped starts ends f laid next =
+Inv-loop rotations edges lefts₀ grouped₀ starts₀ ends₀ darts f₀ free₀ next₀ lefts grouped starts ends f free next =
     (length lefts ≡ 1024) × (length grouped ≡ 1024) × (length starts ≡ 1024) × (length ends ≡ 1024)
-    × Numbering (2 * edges) (stepOf rotations) (at lefts) next f × Grouping edges (at lefts) (at grouped) (at starts) (at ends) f laid
-    × (laid + holding unmarked (2 * edges) (at lefts) ≡ 2 * edges)
+    × Numbering (2 * edges) (stepOf rotations) (at lefts) next f × Grouping edges (at lefts) (at grouped) (at starts) (at ends) f free
+    × (free ≡ holding unmarked (2 * edges) (at lefts))
 
 abbrev μ-loop : tie.MeasureT-loop
-μ-loop rotations edges lefts₀ grouped₀ starts₀ ends₀ darts f₀ laid₀ next₀ lefts grouped starts ends f laid next = 2 * edges - next
+μ-loop rotations edges lefts₀ grouped₀ starts₀ ends₀ darts f₀ free₀ next₀ lefts grouped starts ends f free next = 2 * edges - next
 
 few : (c : tie.Start Inv-loop μ-loop) → 2 * c .args .edges ≤ 1024
 few c = omega (arith, c .pre .0)
 
-none-yet : (n : ℕ) (g : ℕ → ℕ) → ((y : ℕ) → y < n → g y ≡ unmarked) → 0 + holding unmarked n g ≡ n
+none-yet : (n : ℕ) (g : ℕ → ℕ) → ((y : ℕ) → y < n → g y ≡ unmarked) → n ≡ holding unmarked n g
 none-yet n g h = omega (arith, holding-all unmarked n g h)
 
 mul-darts : tie.Need-mul-darts Inv-loop μ-loop
@@ -75,13 +75,13 @@ number-below c =
     omega (arith, few s, used-few (few s) (s .pre .5) (t .before .loop .inv .4), t .loop-test .taken)
 
 narrow-requires : tie.Need-narrow-requires Inv-loop μ-loop
-narrow-requires c κs = let t = turn c in omega (arith, few (begun t), t .before .loop .inv .6)
+narrow-requires c κs = let t = turn c in omega (arith, few (begun t), t .before .loop .inv .5 .room)
 
-mul-starts : tie.Need-mul-starts Inv-loop μ-loop
-mul-starts c = omega (arith, number-below (c .before))
+mul-ends : tie.Need-mul-ends Inv-loop μ-loop
+mul-ends c = omega (arith, number-below (c .before))
 
-element-write-starts : tie.Need-element-write-starts Inv-loop μ-loop
-element-write-starts c = omega (arith, number-below (c .before), turn (c .before) .before .loop .inv .2)
+element-write-ends : tie.Need-element-write-ends Inv-loop μ-loop
+element-write-ends c = omega (arith, number-below (c .before), turn (c .before) .before .loop .inv .3)
 
 narrow-requires-2 : tie.Need-narrow-requires-2 Inv-loop μ-loop
 narrow-requires-2 c κs = omega (arith, number-below (c .before))
@@ -105,6 +105,7 @@ mark-face-requires c κs =
       o .inv .1,
       subst (Markable (2 * a .edges) (stepOf (a .rotations .now)) (at (o .lefts)) (o .next)) (sym (n .narrow2 .ensures)) (face b),
       o .inv .6,
+      o .inv .5 .room,
     )
 
 -- ── the face is numbered ──
@@ -112,18 +113,18 @@ abbrev numbered : tie.After-mark-face Inv-loop μ-loop → tie.After-narrow2 Inv
 numbered c = c .before .before .before
 
 laid-below : (c : tie.After-mark-face Inv-loop μ-loop) → c .mark-face .result ≤ 1024
-laid-below c = omega (arith, c .mark-face .ensures .4, few (begun (turn (free (numbered c)))))
+laid-below c = omega (arith, c .mark-face .ensures .3 .some, few (begun (turn (free (numbered c)))), turn (free (numbered c)) .before .loop .inv .5 .room)
 
 narrow-requires-3 : tie.Need-narrow-requires-3 Inv-loop μ-loop
 narrow-requires-3 c κs = omega (arith, laid-below c)
 
-mul-ends : tie.Need-mul-ends Inv-loop μ-loop
-mul-ends c = omega (arith, number-below (free (numbered (c .before))))
+mul-starts : tie.Need-mul-starts Inv-loop μ-loop
+mul-starts c = omega (arith, number-below (free (numbered (c .before))))
 
-element-write-ends : tie.Need-element-write-ends Inv-loop μ-loop
-element-write-ends c =
+element-write-starts : tie.Need-element-write-starts Inv-loop μ-loop
+element-write-starts c =
     let b = free (numbered (c .before)) in
-    omega (arith, number-below b, turn b .before .loop .inv .3)
+    omega (arith, number-below b, turn b .before .loop .inv .2)
 
 add-f : tie.Need-add-f Inv-loop μ-loop
 add-f c = omega (arith, number-below (free (numbered (c .before))))
@@ -148,14 +149,14 @@ loop-again c =
     let marked = subst (Marked (2 * a .edges) (stepOf (a .rotations .now)) (at (o .lefts)) after (o .next)) (n .narrow2 .ensures) (e .2) in (
       e .0,
       e .1,
-      length-set (o .starts) (o .f) (first .result) ∙ i .2,
-      length-set (o .ends) (o .f) (last .result) ∙ i .3,
+      length-set (o .starts) (o .f) (last .result) ∙ i .2,
+      length-set (o .ends) (o .f) (first .result) ∙ i .3,
       mark (few s) (s .pre .5) (i .4) (t .loop-test .taken) (b .if1 .taken) marked,
       grouping-on (i .5) (face b) marked (e .3)
-          (getD-set-same (o .starts) (o .f) (first .result) 0 (omega (arith, number-below b, i .2)) ∙ first .ensures)
-          (λ g h. getD-set-other (o .starts) (o .f) g (first .result) 0 h)
-          (getD-set-same (o .ends) (o .f) (last .result) 0 (omega (arith, number-below b, i .3)) ∙ last .ensures)
-          (λ g h. getD-set-other (o .ends) (o .f) g (last .result) 0 h),
+          (getD-set-same (o .starts) (o .f) (last .result) 0 (omega (arith, number-below b, i .2)) ∙ last .ensures)
+          (λ g h. getD-set-other (o .starts) (o .f) g (last .result) 0 h)
+          (getD-set-same (o .ends) (o .f) (first .result) 0 (omega (arith, number-below b, i .3)) ∙ first .ensures)
+          (λ g h. getD-set-other (o .ends) (o .f) g (first .result) 0 h),
       e .4,
     )
 
@@ -182,7 +183,7 @@ returns c =
       i .3,
       done .0,
       done .1,
-      grouping-end (o .lefts) (o .grouped) (o .starts) (o .ends) (i .5) (omega (arith, i .6))
+      grouping-end (o .lefts) (o .grouped) (o .starts) (o .ends) (i .5)
           (λ y l e. omega (arith, done .1 y l, number-small (few s) π y l, e)),
     )
 
@@ -199,13 +200,13 @@ number-faces-spec =
     mul-if1
     element-copy-out-if1
     narrow-requires
-    mul-starts
-    element-write-starts
+    mul-ends
+    element-write-ends
     narrow-requires-2
     mark-face-requires
     narrow-requires-3
-    mul-ends
-    element-write-ends
+    mul-starts
+    element-write-starts
     add-f
     loop-less
     loop-again

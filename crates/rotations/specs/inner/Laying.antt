@@ -10,9 +10,9 @@ use Rattle.arrays.specs.At.{at}
 abbrev pub stepOf : List ℕ → ℕ → ℕ
 stepOf rotations d = at rotations (rev d)
 
--- the places begin, .., end - 1 hold the reverses of the orbit of `start`, and no others; the places before them are as before
+-- the places begin, .., end - 1 hold the reverses of the orbit of `start`, and no others; the places behind them are as before
 pub record Laid (n : ℕ) (next before after : ℕ → ℕ) (start begin end : ℕ) : Type 0 where
   pub some : begin < end
-  pub kept : (i : ℕ) → i < begin → after i ≡ before i
+  pub kept : (i : ℕ) → end ≤ i → after i ≡ before i
   pub has : (y : ℕ) → Orbit next start y → (j : ℕ) × (begin ≤ j) × (j < end) × (after j ≡ rev y)
   pub holds : (j : ℕ) → begin ≤ j → j < end → (after j < n) × Orbit next start (rev (after j))
