@@ -195,7 +195,8 @@ fn join(
     node_flags::copy_flags(&joined, a);
 }
 
-// The high bound, lowered by a set that is proposed from flows of a value and the search's parents beside them.
+// The high bound, lowered by a set that is proposed from flows of the low one and the search's parents beside them. It is called from two places, so that the
+// compiler makes a function of it: its arrays then lie beside those of a decision on the stack, and not above them.
 fn propose<'a>(
     tails: &'a [u16; 1024],
     rotations: &'a [u16; 1024],
@@ -205,6 +206,7 @@ fn propose<'a>(
     edges: usize,
     source: usize,
     sink: usize,
+    low: i32,
     high: i32,
     flows: &[i32],
     parents: &mut [u16; 1024],
@@ -218,6 +220,9 @@ fn propose<'a>(
         × Lowers source sink (cutOf (2 * edges) (at (now (tails .entry))) (atℤ (now (capacities .entry))) (flagged (now (inside .exit))))
         high r (now (inside .exit)) (now (a .entry)) (now (a .exit)) ⌝ }
 {
+    if finished(low, high, true) {
+        return high;
+    }
     let finish = traversal::dart_at(tails, 2 * edges, sink);
     pivots::propose(
         tails,
@@ -318,6 +323,24 @@ pub fn maximize<'a>(
                     edges,
                     source,
                     sink,
+                    low,
+                    high,
+                    &*flows,
+                    &mut parents,
+                    &mut inside,
+                    &mut *a,
+                );
+            } else {
+                high = propose(
+                    tails,
+                    rotations,
+                    lefts,
+                    capacities,
+                    nodes,
+                    edges,
+                    source,
+                    sink,
+                    low,
                     high,
                     &*flows,
                     &mut parents,

@@ -27,6 +27,7 @@ use Rattle.arrays.specs.Maps.{mapOf}
 use Rattle.solver.specs.inner.Decision.{Decided}
 use Rattle.maximum.specs.inner.Bracket.{Bracket}
 use Rattle.maximum.specs.inner.Maximum.{Maximized}
+use Rattle.maximum.specs.inner.Narrowing.{Lowers}
 use Rattle.maximum.proofs.Gap.{gap, gap-carried, gap-narrower}
 use Rattle.maximum.proofs.Bracketing.{
   Ground,
@@ -276,17 +277,34 @@ less-to-go c =
     let n = asked (probe c) in
     gap-carried (lo (top n)) (hi (top n)) (value n) (at-least n) (at-most n) (top n .loop .found) (above n)
 
--- ── the first one: a set is proposed ──
-propose-requires : tie.Need-propose-requires Inv-loop μ-loop
-propose-requires c κs =
-    let t = c .before .before .before .before .before in
-    let k = probe t in
+-- ── a set is proposed ──
+Ready : tie.Then3 Inv-loop μ-loop → Type 0
+Ready c =
+    let k = probe c in
+    let l = top (asked k) in
+    let a = start l .args in
+    (length (k .decide .last .1 .1 .1 .1 .1 .1 .1 .1 .1 .1 .1 .1 .1 .1 .1 .1 .1 .0) ≡ 1024)
+    × (length (inside' k) ≡ 1024)
+    × (length (l .loop .a) ≡ 1024)
+    × (a .edges ≤ length (flows' k))
+    × (a .nodes ≤ 1024)
+    × (a .edges ≤ 512)
+    × (a .source < 1024)
+    × (a .sink < 1024)
+    × ((d : ℕ) × (d < 2 * a .edges) × (at (a .tails .now) d ≡ a .sink))
+    × ((d : ℕ) → d < 2 * a .edges → at (a .tails .now) d < 1024)
+    × ((d : ℕ) → d < 2 * a .edges → Limited 2000000 (caps (start l) d))
+
+ready : (c : tie.Then3 Inv-loop μ-loop) → Ready c
+unfolding Ready
+ready c =
+    let k = probe c in
     let l = top (asked k) in
     let b = start l in (
       k .decide .ensures .2,
       k .decide .ensures .0,
       l .loop .inv .size-a,
-      omega (arith, same-room t, b .pre .1),
+      omega (arith, same-room c, b .pre .1),
       b .pre .3 .few-nodes,
       b .pre .3 .few-edges,
       omega (arith, b .pre .4 .source-in, b .pre .3 .few-nodes),
@@ -296,37 +314,49 @@ propose-requires c κs =
       caps-in b,
     )
 
+propose-requires : tie.Need-propose-requires Inv-loop μ-loop
+unfolding Ready
+propose-requires c κs = ready (c .before .before .before .before .before)
+
+propose-requires-2 : tie.Need-propose-requires-2 Inv-loop μ-loop
+unfolding Ready
+propose-requires-2 c κs = ready (c .before .before .before .before .before)
+
+-- whatever was proposed: the new high bound, and the set for it
+module _ (t : tie.Then3 Inv-loop μ-loop) (inside'' a'' : List ℕ) (high : ℤ)
+    (falls : Lowers (src (start (top (asked (probe t))))) (snk (start (top (asked (probe t)))))
+    (cutOf (2 * start (top (asked (probe t))) .args .edges) (at (start (top (asked (probe t))) .args .tails .now))
+    (caps (start (top (asked (probe t))))) (flagged inside'')) (hi (top (asked (probe t)))) high inside'' (top (asked (probe t)) .loop .a) a'') where
+  proposed : Bracket (𝓜 (start (top (asked (probe t))))) (start (top (asked (probe t))) .args .outer) (caps (start (top (asked (probe t)))))
+      (src (start (top (asked (probe t))))) (snk (start (top (asked (probe t))))) (start (top (asked (probe t))) .args .flows .now) (flows' (probe t))
+      a'' (top (asked (probe t)) .loop .b) (value (asked (probe t))) high true
+      × (high ≤ℤ hi (top (asked (probe t))))
+  proposed =
+      let l = top (asked (probe t)) in
+      let b = start l in
+      lowered (b .args .outer) (ground b) (b .args .flows .now) (flows' (probe t)) (l .loop .a) (l .loop .b) (value (asked (probe t))) (hi l) true (raised t)
+      inside'' a'' high falls
+
+  new-high : toZ w32 (ofZ w32 high) ≡ high
+  new-high =
+      let b = start (top (asked (probe t))) in
+      same-bits (omega arith) (high-small (b .args .outer) (ground b) (proposed .0 .ceiling))
+
+  still-less : gap (value (asked (probe t))) (toZ w32 (ofZ w32 high)) true
+      < gap (lo (top (asked (probe t)))) (hi (top (asked (probe t)))) (top (asked (probe t)) .loop .found)
+  still-less = rw new-high (omega (arith, gap-narrower (value (asked (probe t))) true (proposed .1), less-to-go t))
+
+  kept : Bracket (𝓜 (start (top (asked (probe t))))) (start (top (asked (probe t))) .args .outer) (caps (start (top (asked (probe t)))))
+      (src (start (top (asked (probe t))))) (snk (start (top (asked (probe t))))) (start (top (asked (probe t))) .args .flows .now) (flows' (probe t))
+      a'' (top (asked (probe t)) .loop .b) (value (asked (probe t))) (toZ w32 (ofZ w32 high)) true
+  kept = rw new-high (proposed .0)
+
+-- ── the first value found ──
 abbrev first-found : tie.After-propose Inv-loop μ-loop → tie.Then3 Inv-loop μ-loop
 first-found c = c .before .before .before .before .before .before
 
-abbrev inside'' : tie.After-propose Inv-loop μ-loop → List ℕ
-inside'' c = c .propose .last .1 .1 .1 .1 .1 .1 .1 .1 .1 .1 .1 .0
-
-abbrev a'' : tie.After-propose Inv-loop μ-loop → List ℕ
-a'' c = c .propose .last .1 .1 .1 .1 .1 .1 .1 .1 .1 .1 .1 .1 .0
-
-proposed : (c : tie.After-propose Inv-loop μ-loop)
-    → Bracket (𝓜 (start (top (asked (probe (first-found c)))))) (start (top (asked (probe (first-found c)))) .args .outer)
-    (caps (start (top (asked (probe (first-found c)))))) (src (start (top (asked (probe (first-found c)))))) (snk (start (top (asked (probe (first-found c))))))
-    (start (top (asked (probe (first-found c)))) .args .flows .now) (flows' (probe (first-found c)))
-    (a'' c) (top (asked (probe (first-found c))) .loop .b) (value (asked (probe (first-found c)))) (c .propose .result) true
-    × (c .propose .result ≤ℤ hi (top (asked (probe (first-found c)))))
-proposed c =
-    let t = first-found c in
-    let l = top (asked (probe t)) in
-    let b = start l in
-    lowered (b .args .outer) (ground b) (b .args .flows .now) (flows' (probe t)) (l .loop .a) (l .loop .b) (value (asked (probe t))) (hi l) true (raised t)
-    (inside'' c) (a'' c) (c .propose .result) (c .propose .ensures .3)
-
-new-high : (c : tie.After-propose Inv-loop μ-loop) → toZ w32 (ofZ w32 (c .propose .result)) ≡ c .propose .result
-new-high c =
-    let b = start (top (asked (probe (first-found c)))) in
-    same-bits (omega arith) (high-small (b .args .outer) (ground b) (proposed c .0 .ceiling))
-
 loop-less : tie.Need-loop-less Inv-loop μ-loop
-loop-less c =
-    let t = first-found c in
-    rw (new-high c) (omega (arith, gap-narrower (value (asked (probe t))) true (proposed c .1), less-to-go t))
+loop-less c = still-less (first-found c) _ _ (c .propose .result) (c .propose .ensures .3)
 
 loop-again : tie.Need-loop-again Inv-loop μ-loop
 loop-again c =
@@ -338,7 +368,7 @@ loop-again c =
       size-inside = e .1;
       size-parents = e .0;
       size-flows = same-room t;
-      bracket = rw (new-high c) (proposed c .0);
+      bracket = kept t _ _ (c .propose .result) (e .3);
     }
 
 -- ── a later one ──
@@ -346,24 +376,28 @@ was-found : (found : Bool) → not found ≡ false → found ≡ true
 was-found true e = refl
 was-found false e = absurd (true≢false e)
 
+abbrev later : tie.After-propose2 Inv-loop μ-loop → tie.Else4 Inv-loop μ-loop
+later c = c .before .before .before .before .before
+
 loop-less-2 : tie.Need-loop-less-2 Inv-loop μ-loop
 loop-less-2 c =
-    let n = asked (probe (c .before)) in
-    let e = was-found (top n .loop .found) (c .if4 .left) in
-    rw e (subst (λ f. gap (value n) (hi (top n)) true < gap (lo (top n)) (hi (top n)) f) e (less-to-go (c .before)))
+    let t = later c .before in
+    let n = asked (probe t) in
+    let e = was-found (top n .loop .found) (later c .if4 .left) in
+    rw e (subst (λ f. gap (value n) (toZ w32 (ofZ w32 (c .propose2 .result))) true < gap (lo (top n)) (hi (top n)) f) e
+    (still-less t _ _ (c .propose2 .result) (c .propose2 .ensures .3)))
 
 loop-again-2 : tie.Need-loop-again-2 Inv-loop μ-loop
 loop-again-2 c =
-    let t = c .before in
-    let k = probe t in
-    let i = top (asked k) .loop .inv in
+    let t = later c .before in
+    let e = c .propose2 .ensures in
     record {
-      size-a = i .size-a;
-      size-b = i .size-b;
-      size-inside = k .decide .ensures .0;
-      size-parents = k .decide .ensures .2;
+      size-a = e .2;
+      size-b = top (asked (probe t)) .loop .inv .size-b;
+      size-inside = e .1;
+      size-parents = e .0;
       size-flows = same-room t;
-      bracket = rw (was-found (top (asked k) .loop .found) (c .if4 .left)) (raised t);
+      bracket = rw (was-found (top (asked (probe t)) .loop .found) (later c .if4 .left)) (kept t _ _ (c .propose2 .result) (e .3));
     }
 
 -- ── it cannot be: the set moves a bound, or shows that there is nothing ──
@@ -507,6 +541,7 @@ maximize-spec =
     propose-requires
     loop-less
     loop-again
+    propose-requires-2
     loop-less-2
     loop-again-2
     mul-narrow-by

@@ -1,13 +1,21 @@
 -- `maximum::propose` meets its contract: whatever is proposed, its cut is added up.
-use mathlib.Core.Path.{_≡_, sym, subst}
+use mathlib.Core.Path.{_≡_, refl, sym, subst}
 use mathlib.Core.List.{List}
 use Prim.Native.Nat.{ℕ}
 use lib.IntN.{ℤ}
 use borrow.Author.Needs.{needs}
 use Rattle.signed.proofs.Laws.{number-of-bits}
-use Rattle.maximum.specs.inner.Narrowing.{Lowers}
+use Rattle.maximum.specs.inner.Narrowing.{Lowers, stays}
 use Rattle.maximum.proofs.propose.Statement.{statement}
 use Rattle.maximum.proofs.propose.Tie as tie
+
+finished-requires : tie.Need-finished-requires
+finished-requires c κs = search needs
+
+returns : tie.Need-returns
+returns c =
+    let s = c .before .before in
+    (s .pre .0, s .pre .1, s .pre .2, stays (number-of-bits _ (s .fits .high)) refl)
 
 mul-dart-at : tie.Need-mul-dart-at
 mul-dart-at c = search needs
@@ -30,10 +38,10 @@ same-bounds : {s t : ℕ} {total high high₁ low low₁ : ℤ} {inside A A' : L
 same-bounds {s} {t} {total} {high} {high₁} {low} {low₁} {inside} {A} {A'} e f h =
     subst (λ x. Lowers s t total x low₁ inside A A') e (subst (λ y. Lowers s t total high y inside A A') f h)
 
-returns : tie.Need-returns
-returns c =
+returns-2 : tie.Need-returns-2
+returns-2 c =
     let e = c .lower .ensures in
-    let s = c .before .before .before .before .before .before .before in (
+    let s = c .before .before .before .before .before .before .before .before .before in (
       search needs,
       search needs,
       e .0,
@@ -41,4 +49,4 @@ returns c =
     )
 
 pub propose-spec : {M : Type 1} → statement M
-propose-spec = tie.close (tie.spec mul-dart-at dart-at-requires propose-requires mul-lower lower-requires returns)
+propose-spec = tie.close (tie.spec finished-requires returns mul-dart-at dart-at-requires propose-requires mul-lower lower-requires returns-2)
