@@ -71,19 +71,19 @@ fn nearest_zero(low: i32, high: i32) -> i32
     0
 }
 
-// The value to probe. Once one is found: the high bound, which is the answer if it is carried, or the middle, which halves what is left. Until then: the value
-// nearest to zero, which is the likeliest to be carried, or the middle.
+// The value to probe. Until one is found: the value nearest to zero, which is the likeliest to be carried. Then the high bound, which is the answer if it is
+// carried, or the middle, which halves what is left.
 fn next_value(low: i32, high: i32, middle: bool, found: bool) -> i32
     requires { ⌜ (low ≤ℤ high) × Limited 600000000 low × Limited 600000000 high ⌝ }
     ensures { λ r. ⌜ (low ≤ℤ r) × (r ≤ℤ high) × (found ≡ true → low <ℤ high → low <ℤ r) ⌝ }
 {
+    if !found {
+        return nearest_zero(low, high);
+    }
     if middle {
         return signed::minus(high, halve(signed::minus(high, low)));
     }
-    if found {
-        return high;
-    }
-    nearest_zero(low, high)
+    high
 }
 
 // Whether the bounds have met at a value that is carried.
@@ -171,28 +171,28 @@ fn lower(
     high
 }
 
-// Where no value is left between the cuts of a and b, the union or the intersection has a cut below zero: it is kept in a.
+// Where no value is left between the cuts of a and b, the union or the intersection has a cut below zero: it is kept in a. `joined` is lent to make it in.
 fn join(
     tails: &[u16; 1024],
     capacities: &[i32; 1024],
     darts: usize,
     a: &mut [u8; 1024],
     b: &[u8; 1024],
+    joined: &mut [u8; 1024],
 )
     requires { ⌜ (length (now a) ≡ 1024) × (darts ≤ 1024) × (darts % 2 ≡ 0) × ((d : ℕ) → d < darts → at (now tails) d < 1024)
-        × ((d : ℕ) → d < darts → Limited 2000000 (atℤ (now capacities) d)) ⌝ }
+        × ((d : ℕ) → d < darts → Limited 2000000 (atℤ (now capacities) d)) × (length (now joined) ≡ 1024) ⌝ }
     ensures { λ _. ⌜ (length (now (a .exit)) ≡ 1024)
         × Joins darts (at (now (tails .entry))) (atℤ (now (capacities .entry))) (now (a .entry)) (now (a .exit)) (now (b .entry)) ⌝ }
 {
-    let mut joined = [0u8; 1024];
-    node_flags::unite(&*a, b, &mut joined);
-    let total = cuts::capacity(tails, capacities, &joined, darts);
+    node_flags::unite(&*a, b, &mut *joined);
+    let total = cuts::capacity(tails, capacities, &*joined, darts);
     if is_less(total, 0) {
-        node_flags::copy_flags(&joined, a);
+        node_flags::copy_flags(&*joined, a);
         return;
     }
-    node_flags::intersect(&*a, b, &mut joined);
-    node_flags::copy_flags(&joined, a);
+    node_flags::intersect(&*a, b, &mut *joined);
+    node_flags::copy_flags(&*joined, a);
 }
 
 // The high bound, lowered by a set that is proposed from flows of the low one and the search's parents beside them. It is called from two places, so that the
@@ -281,7 +281,7 @@ pub fn maximize<'a>(
     let mut middle = false;
     let outcome = loop {
         if is_less(high, low) {
-            join(tails, capacities, 2 * edges, &mut *a, &b);
+            join(tails, capacities, 2 * edges, &mut *a, &b, &mut inside);
             break Maximum::Nothing;
         }
         if finished(low, high, found) {

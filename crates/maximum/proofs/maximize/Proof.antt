@@ -165,9 +165,9 @@ mul-join c = omega (arith, start (c .before .before) .pre .3 .few-edges)
 
 join-requires : tie.Need-join-requires Inv-loop μ-loop
 join-requires c κs =
-    let l = c .before .before .before .before in
+    let l = c .before .before .before .before .before in
     let b = start l in
-    (l .loop .inv .size-a, omega (arith, b .pre .3 .few-edges), omega arith, tails-in b, caps-in b)
+    (l .loop .inv .size-a, omega (arith, b .pre .3 .few-edges), omega arith, tails-in b, caps-in b, l .loop .inv .size-inside)
 
 finished-requires : tie.Need-finished-requires Inv-loop μ-loop
 finished-requires c κs = search needs
@@ -479,7 +479,7 @@ same-length c = search needs
 
 returns : tie.Need-returns Inv-loop μ-loop
 returns c =
-    let t = c .before .before .before in
+    let t = c .before .before .before .before in
     let l = t .before .before in
     let b = start l in (
       c .join .ensures .0,
