@@ -318,7 +318,8 @@ moved c e =
     let b = start l in
     let r = c .narrow-by .ensures .2 in
     let d = decided k (refused c) in
-    narrowed (b .args .outer) (ground b) (b .args .flows .now) (l .loop .flows) (l .loop .a) (l .loop .b) (lo l) (hi l) (l .loop .found) (l .loop .inv .1 .bracket)
+    narrowed (b .args .outer) (ground b) (b .args .flows .now) (l .loop .flows) (l .loop .a) (l .loop .b) (lo l) (hi l) (l .loop .found)
+    (l .loop .inv .1 .bracket)
     (value n) (at-least n) (at-most n) (inside' k) (d .1) (a' c) (b' c) (c .narrow-by .result) (r .0) (r .1) (r .2) e
 
 loop-less-2 : tie.Need-loop-less-2 Inv-loop μ-loop
@@ -357,7 +358,8 @@ returns c =
     let l = t .before .before in
     let b = start l in (
       c .join .ensures .0,
-      passed (b .args .outer) (ground b) (b .args .flows .now) (l .loop .flows) (l .loop .a) (l .loop .b) (lo l) (hi l) (l .loop .found) (l .loop .inv .1 .bracket)
+      passed (b .args .outer) (ground b) (b .args .flows .now) (l .loop .flows) (l .loop .a) (l .loop .b) (lo l) (hi l) (l .loop .found)
+          (l .loop .inv .1 .bracket)
           (lt-of-test _ _ (sym (t .before .is-less .ensures) ∙ t .if1 .taken)) (c .join .last .1 .1 .1 .0) (c .join .ensures .1),
     )
 
