@@ -14,9 +14,11 @@ use Rattle.arrays.specs.At.{at, atℤ}
 use Rattle.arrays.specs.Maps.{mapOf, drawingOf}
 use Rattle.arrays.specs.inner.Sizes.{mostOnSheet}
 use Rattle.arrays.specs.inner.Drawn.{Drawn}
+use Rattle.grouping.specs.inner.Walked.{Walked}
 use Rattle.records.specs.Sheet.{nodesOf, edgesOf, outerOf, tailOf, rotationOf, capacityOf, sheetMap, sheetDrawing}
 use Rattle.records.proofs.Bytes.{bytes-range}
 use Rattle.sheets.specs.Open.{sheetChecks, Numbers}
+use Rattle.sheets.specs.inner.Prepared.{Prepared}
 use Rattle.sheets.specs.declared.Opened.{Opened}
 use Rattle.sheets.proofs.Accepted.{sheet-bytes, sheet-counts}
 use Rattle.sheets.proofs.Opening.{drawings-are}
@@ -155,3 +157,12 @@ module _ (s : List ℕ) (o : Opened) (lefts tails rotations : List ℕ) (capacit
   settings-sheet levels flows flows' r h =
       settings-after (sheetChecks s) (open' .0) (sheetDrawing s) _ levels flows flows' r
       (subst (λ 𝓓. SettingsGiven 𝓓 (leveledChecks 𝓓 levels flows) levels flows flows' r) same h)
+
+-- ── the walk and the groups, in terms of what an operation lends ──
+pub walked-arrays : (s : List ℕ) (o : Opened) (tails rotations lefts order from grouped starts ends : List ℕ)
+    → Numbers s lefts o → Prepared s o tails rotations lefts order from grouped starts ends
+    → Walked (2 * o .edges) (o .faces) (o .outer) (o .parts) (at rotations) lefts order from grouped starts ends
+walked-arrays s o tails rotations lefts order from grouped starts ends n p =
+    subst (λ e. Walked (2 * e) (o .faces) (o .outer) (o .parts) (at rotations) lefts order from grouped starts ends) (sym (n .edges-are))
+    (subst (λ d. Walked (2 * edgesOf s) (o .faces) d (o .parts) (at rotations) lefts order from grouped starts ends) (sym (n .outer-is))
+    (subst (λ f. Walked (2 * edgesOf s) (o .faces) (outerOf s) (o .parts) f lefts order from grouped starts ends) (sym (p .rotations-are)) (p .walked)))
