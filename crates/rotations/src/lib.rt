@@ -242,8 +242,8 @@ fn refused(number: u8) -> Checked
     }
 }
 
-// Check 12, of a map that is sound. Flatness in each part is a matter of the totals (document 02, Job 8): nodes − channels + faces = 2 · parts. `tails` is named
-// by the contract only.
+// Check 12, of a map that is sound. Flatness in each part is a matter of the totals (document 02, Job 8): nodes − channels + faces = 2 · parts. `tails` is
+// named by the contract only.
 fn check_flat<'a>(
     tails: &'a [u16; 1024],
     rotations: &'a [u16; 1024],
@@ -347,8 +347,8 @@ fn check_in_turn<'a>(
     )
 }
 
-// The checks 9, 10 and 12 in order, of a map that the checks 3 to 5 left in range, and a dart to walk from. One walk over the darts decides at once that neither
-// 9 nor 10 holds. Where all pass, `lefts` holds the face at the left of each dart, and the other arrays the walk and the darts in groups.
+// The checks 9, 10 and 12 in order, of a map that the checks 3 to 5 left in range. One walk over the darts, from `outer` on, decides at once that neither 9 nor
+// 10 holds. Where all pass, `lefts` holds the face at the left of each dart, and the other arrays the walk and the darts in groups.
 pub fn check_map<'a>(
     tails: &'a [u16; 1024],
     rotations: &'a [u16; 1024],

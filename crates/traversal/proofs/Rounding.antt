@@ -128,7 +128,8 @@ module _ {darts : ℕ} {tail rotation : ℕ → ℕ} where
       leaves = ρ .leaves;
     }
       where
-        turns' : (y : ℕ) → (y ≡ p) ⊎ ((from (rotation y) ≢ unmarked) × (tail (rotation y) ≡ tail y)) → (from (rotation y) ≢ unmarked) × (tail (rotation y) ≡ tail y)
+        turns' : (y : ℕ) → (y ≡ p) ⊎ ((from (rotation y) ≢ unmarked) × (tail (rotation y) ≡ tail y))
+            → (from (rotation y) ≢ unmarked) × (tail (rotation y) ≡ tail y)
         turns' y (inl e) =
             let q : rotation y ≡ d = ap rotation e ∙ back in
             (λ z. ρ .begun (sym (ap from q) ∙ z), ap tail q ∙ sym (ρ .same) ∙ ap tail (sym e))

@@ -45,7 +45,8 @@ added-new {d} {origin} {end} {from} {from'} {order} {order'} small z put keep la
     on y h (no p) = inl (λ e. h (keep y p ∙ e))
 
 -- a dart that was not met makes the order longer
-pub added-grew : {d origin end end' : ℕ} {from from' order order' : ℕ → ℕ} → Added d origin from from' order order' end end' → from d ≡ unmarked → end' ≡ end + 1
+pub added-grew : {d origin end end' : ℕ} {from from' order order' : ℕ → ℕ} → Added d origin from from' order order' end end'
+    → from d ≡ unmarked → end' ≡ end + 1
 added-grew {d} {end = end} {end' = end'} {from = from} a z = go (a .only d (a .has))
   where
     go : (from d ≢ unmarked) ⊎ ((d ≡ d) × (end < end')) → end' ≡ end + 1

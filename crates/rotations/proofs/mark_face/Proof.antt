@@ -95,7 +95,8 @@ one-more c =
     let o = over c .loop in
     let n = laid c .narrow in
     laying-on (o .inv .3 .2) (at (set (o .grouped) (o .end) (n .result))) (o .inv .3 .1 .trail .here)
-    (getD-set-same (o .grouped) (o .end) (n .result) 0 (omega (arith, some (over c), o .inv .2 .few, o .inv .1)) ∙ n .ensures ∙ laid c .before .reverse .ensures .0)
+    (getD-set-same (o .grouped) (o .end) (n .result) 0 (omega (arith, some (over c), o .inv .2 .few, o .inv .1))
+    ∙ n .ensures ∙ laid c .before .reverse .ensures .0)
     (λ i h. getD-set-other (o .grouped) (o .end) i (n .result) 0 h)
 
 counted : (c : tie.After-wide Inv-loop μ-loop) → let o = over c .loop in let a = over c .before .args in

@@ -144,7 +144,8 @@ loop-again c =
     let e = m .mark-face .ensures in
     let first = n .before .narrow in
     let last = c .narrow3 in
-    let marked = subst (Marked (2 * a .edges) (stepOf (a .rotations .now)) (at (o .lefts)) (at (m .mark-face .last .1 .1 .1 .1 .0)) (o .next)) (n .narrow2 .ensures) (e .2) in (
+    let after = at (m .mark-face .last .1 .1 .1 .1 .0) in
+    let marked = subst (Marked (2 * a .edges) (stepOf (a .rotations .now)) (at (o .lefts)) after (o .next)) (n .narrow2 .ensures) (e .2) in (
       e .0,
       e .1,
       length-set (o .starts) (o .f) (first .result) ∙ i .2,

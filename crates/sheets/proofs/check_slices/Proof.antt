@@ -100,7 +100,8 @@ check-map-requires c κs =
     let l = c .before .before .before .before .before .before .before .before in
     let t = told l in
     let n = counts-range _ _ _ (numbers-passed (counted t)) in
-    (n .3, omega (arith, n .1), outer-range _ _ _ (numbers-passed (counted t)), refl, refl, refl, refl, refl, refl, subst InRange (sym (map-is l)) (turns-range (drawn (start l)) (edges-passed t)))
+    let range = subst InRange (sym (map-is l)) (turns-range (drawn (start l)) (edges-passed t)) in
+    (n .3, omega (arith, n .1), outer-range _ _ _ (numbers-passed (counted t)), refl, refl, refl, refl, refl, refl, range)
 
 returns-3 : tie.Need-returns-3
 returns-3 c =
