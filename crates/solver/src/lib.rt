@@ -25,28 +25,31 @@ ghost use Rattle.solver.specs.inner.Decision.{Decided};
 ghost use Rattle.arrays.specs.inner.Flags.{flagged};
 use search::Outcome;
 
-// Flags the nodes of the part that the dart d is in.
+// Flags the nodes of the part that the dart d is in. `met` and `marks` are where the walk over it stands, which no one needs afterwards.
 fn flag_part(
     tails: &[u16; 1024],
     rotations: &[u16; 1024],
     nodes: usize,
     edges: usize,
     d: usize,
+    met: &mut [u16; 1024],
+    marks: &mut [u16; 1024],
     inside: &mut [u8; 1024],
 )
-    requires { ⌜ (length (now inside) ≡ 1024) × (edges ≤ 512) × (nodes ≤ 1024) × (d < 2 * edges) × Sound (mapOf nodes edges (now tails) (now rotations)) ⌝ }
+    requires { ⌜ (length (now inside) ≡ 1024) × (edges ≤ 512) × (nodes ≤ 1024) × (d < 2 * edges) × Sound (mapOf nodes edges (now tails) (now rotations))
+        × (length (now met) ≡ 1024) × (length (now marks) ≡ 1024) ⌝ }
     ensures { λ _. ⌜ (length (now (inside .exit)) ≡ 1024)
-        × PartFlagged (mapOf nodes edges (now (tails .entry)) (now (rotations .entry))) d (flagged (now (inside .exit))) ⌝ }
+        × PartFlagged (mapOf nodes edges (now (tails .entry)) (now (rotations .entry))) d (flagged (now (inside .exit)))
+        × (length (now (met .exit)) ≡ 1024) × (length (now (marks .exit)) ≡ 1024) ⌝ }
 {
-    let mut order = [0u16; 1024];
-    let mut from = [0u16; 1024];
-    traversal::spread(rotations, 2 * edges, d, &mut order, &mut from);
-    traversal::flag_met(tails, &from, 2 * edges, inside);
+    traversal::spread(rotations, 2 * edges, d, met, marks);
+    traversal::flag_met(tails, &*marks, 2 * edges, inside);
 }
 
 // The lengths of the darts for a value, along the path through the trees of the walk from `start`, a dart at the source, to `finish`, a dart at the sink. Where
 // the two are in different trees, source and sink are in different parts (document 02, Job 8): a value of 0 leaves the capacities as lengths; any other is
-// impossible. Answers whether it is, with the source's part flagged for a value above 0, the sink's part for one below.
+// impossible. Answers whether it is, with the source's part flagged for a value above 0, the sink's part for one below; that part is walked over in `met` and
+// `marks`, which the search uses later.
 fn cut_apart(
     tails: &[u16; 1024],
     rotations: &[u16; 1024],
@@ -59,12 +62,16 @@ fn cut_apart(
     finish: usize,
     value: i32,
     lengths: &mut [i32; 1024],
+    met: &mut [u16; 1024],
+    marks: &mut [u16; 1024],
     inside: &mut [u8; 1024],
 ) -> bool
     requires { ⌜ (length (now lengths) ≡ 1024) × (length (now inside) ≡ 1024) × (edges ≤ 512) × (nodes ≤ 1024) × (start < 2 * edges) × (finish < 2 * edges)
         × Treed (mapOf nodes edges (now tails) (now rotations)) (2 * edges) (at (now order)) (at (now from))
-        × ((d : ℕ) → d < 2 * edges → Limited mostCapacity (atℤ (now capacities) d)) × Limited mostValue value ⌝ }
+        × ((d : ℕ) → d < 2 * edges → Limited mostCapacity (atℤ (now capacities) d)) × Limited mostValue value
+        × (length (now met) ≡ 1024) × (length (now marks) ≡ 1024) ⌝ }
     ensures { λ r. ⌜ (length (now (lengths .exit)) ≡ 1024) × (length (now (inside .exit)) ≡ 1024)
+        × (length (now (met .exit)) ≡ 1024) × (length (now (marks .exit)) ≡ 1024)
         × Measured (mapOf nodes edges (now (tails .entry)) (now (rotations .entry))) (at (now (tails .entry)) start) (at (now (tails .entry)) finish)
         (atℤ (now (capacities .entry))) value (atℤ (now (lengths .exit))) (now (inside .exit)) r ⌝ }
 {
@@ -81,11 +88,11 @@ fn cut_apart(
         return false;
     }
     if value > 0 {
-        flag_part(tails, rotations, nodes, edges, start, inside);
+        flag_part(tails, rotations, nodes, edges, start, met, marks, inside);
         return true;
     }
     if value < 0 {
-        flag_part(tails, rotations, nodes, edges, finish, inside);
+        flag_part(tails, rotations, nodes, edges, finish, met, marks, inside);
         return true;
     }
     false
@@ -203,6 +210,7 @@ pub fn decide<'a>(
     let start = traversal::dart_at(tails, 2 * edges, source);
     let finish = traversal::dart_at(tails, 2 * edges, sink);
     let mut lengths = [0i32; 1024];
+    let mut queue = [0u16; 1024];
     if cut_apart(
         tails,
         rotations,
@@ -215,11 +223,12 @@ pub fn decide<'a>(
         finish,
         value,
         &mut lengths,
+        &mut queue,
+        &mut *parents,
         &mut *inside,
     ) {
         return false;
     }
-    let mut queue = [0u16; 1024];
     traversal::first_faces(
         rotations,
         lefts,

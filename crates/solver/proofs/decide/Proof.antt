@@ -34,7 +34,7 @@ dart-at-requires-2 c κs = let p = c .before .pre in (omega (arith, p .2 .few-ed
 
 cut-apart-requires : tie.Need-cut-apart-requires
 cut-apart-requires c κs =
-    let t = c .before .before in
+    let t = c .before .before .before .before in
     let d = t .before in
     let p = d .before .pre in (
       refl,
@@ -46,26 +46,28 @@ cut-apart-requires c κs =
       treed-of (p .2 .plane .sound) (p .6 .forest),
       p .2 .small,
       small-value (p .4),
+      refl,
+      p .5,
     )
 
 -- ── the lengths are known, or the ends are apart ──
 abbrev begun : tie.After-cut-apart → tie.Start
-begun c = c .before .before .before .before .before
+begun c = c .before .before .before .before .before .before .before
 
 abbrev row : tie.After-cut-apart → List ℤ
 row c = c .cut-apart .last .1 .1 .1 .1 .1 .1 .1 .1 .1 .1 .0
 
 abbrev flags : tie.After-cut-apart → List ℕ
-flags c = c .cut-apart .last .1 .1 .1 .1 .1 .1 .1 .1 .1 .1 .1 .0
+flags c = c .cut-apart .last .1 .1 .1 .1 .1 .1 .1 .1 .1 .1 .1 .1 .1 .0
 
 measured : (c : tie.After-cut-apart)
     → Measured (mapAt (begun c)) (begun c .args .source) (begun c .args .sink) (atℤ (begun c .args .capacities .now)) (begun c .args .value)
     (atℤ (row c)) (flags c) (c .cut-apart .result)
 measured c =
-    let t = c .before .before .before in
+    let t = c .before .before .before .before .before in
     let d = t .before in
     measured-for (mapAt (begun c)) (atℤ (begun c .args .capacities .now)) (atℤ (row c)) (flags c) (c .cut-apart .result) (d .dart-at .ensures .1)
-    (t .dart-at2 .ensures .1) (same-value (begun c .pre .4)) (c .cut-apart .ensures .2)
+    (t .dart-at2 .ensures .1) (same-value (begun c .pre .4)) (c .cut-apart .ensures .4)
 
 returns : tie.Need-returns
 returns c =
@@ -74,7 +76,7 @@ returns c =
       l .cut-apart .ensures .1,
       decided-apart (mapAt s) (s .args .outer) (atℤ (s .args .capacities .now)) (s .args .source) (s .args .sink) (s .args .value) (atℤ (row l))
           (s .args .flows .now) (flags l) (c .if1 .taken) (measured l),
-      s .pre .5,
+      l .cut-apart .ensures .3,
     )
 
 known : (c : tie.Else1)
@@ -91,8 +93,9 @@ mul-first-faces c = omega (arith, begun (c .before) .pre .2 .few-edges)
 
 first-faces-requires : tie.Need-first-faces-requires
 first-faces-requires c κs =
-    let p = begun (c .before .before) .pre in
-    (refl, omega (arith, p .2 .few-edges), p .6 .forest)
+    let w = c .before .before in
+    let p = begun w .pre in
+    (w .cut-apart .ensures .2, omega (arith, p .2 .few-edges), p .6 .forest)
 
 abbrev joined : tie.After-first-faces → tie.Else1
 joined c = c .before .before
@@ -107,7 +110,7 @@ settle-requires c κs =
     let s = begun (e .before) in
     let p = s .pre in
     let o = q .first-faces .ensures in (
-      p .5,
+      e .before .cut-apart .ensures .3,
       o .0,
       few-roots (s .args .lefts .now) (p .2) (p .3) (row (e .before)) (known e) (queued q) (o .0) (o .1),
       p .2 .few-edges,
