@@ -14,6 +14,7 @@ use Rattle.arrays.specs.At.{at, atℤ}
 use Rattle.arrays.specs.Maps.{mapOf, drawingOf}
 use Rattle.arrays.specs.inner.Sizes.{mostOnSheet}
 use Rattle.arrays.specs.inner.Drawn.{Drawn}
+use Rattle.grouping.specs.inner.Walked.{Walked}
 use Rattle.records.specs.Sheet.{nodesOf, edgesOf, outerOf, tailOf, rotationOf, capacityOf, sheetMap, sheetDrawing}
 use Rattle.records.proofs.Bytes.{bytes-range}
 use Rattle.sheets.specs.Open.{sheetChecks, Numbers}
@@ -124,6 +125,15 @@ module _ (s : List ℕ) (o : Opened) (lefts tails rotations : List ℕ) (capacit
 
   pub small : (d : ℕ) → d < 2 * o .edges → Limited mostOnSheet (atℤ capacities d)
   small = subst (λ 𝓓. (d : ℕ) → d < darts (𝓓 .map) → Limited mostOnSheet (𝓓 .capacity d)) (sym same) (capacity-small s (open' .0))
+
+  -- the walk and the groups that decisions are lent
+  pub walked : (order from grouped starts ends : List ℕ)
+      → Walked (2 * edgesOf s) (o .faces) (outerOf s) (o .parts) (rotationOf s) lefts order from grouped starts ends
+      → Walked (2 * o .edges) (o .faces) (o .outer) (o .parts) (at rotations) lefts order from grouped starts ends
+  walked order from grouped starts ends h =
+      subst (λ n. Walked (2 * n) (o .faces) (o .outer) (o .parts) (at rotations) lefts order from grouped starts ends) (sym (open' .1 .edges-are))
+      (subst (λ d. Walked (2 * edgesOf s) (o .faces) d (o .parts) (at rotations) lefts order from grouped starts ends) (sym (open' .1 .outer-is))
+      (subst (λ r. Walked (2 * edgesOf s) (o .faces) (outerOf s) (o .parts) r lefts order from grouped starts ends) (sym rotations-are) h))
 
   -- what Mark asks, which is less
   pub markable : (o .nodes ≤ 1024) × (o .edges ≤ 512) × ((d : ℕ) → d < 2 * o .edges → at tails d < o .nodes)

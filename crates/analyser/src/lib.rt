@@ -1,6 +1,7 @@
 // The analyser's operations on sheets. Document 01, "Operations": Solve, Largest, Mark, Levels from settings, Settings from levels. Document 02: the least
-// delivery beside the largest (Job 4), what a forward limit must be raised to (Job 7), totals by node (Job 9), DIMACS text (Job 2). Each makes the network
-// record once, in its own frame, fills it from the sheet, and lends its arrays to the operation on drawings.
+// delivery beside the largest (Job 4), what a forward limit must be raised to (Job 7), totals by node (Job 9), DIMACS text (Job 2), questions by the page
+// (Job 1). Each fills the arrays of a drawing once, in its own frame, from the sheet, and lends them to the operation on drawings; those that decide are lent
+// the walk over the darts and their groups too, which opening makes.
 ghost use lib.ListN.{length};
 ghost use Rattle.analyser.specs.Solve.{Solves};
 ghost use Rattle.analyser.specs.Largest.{FindsLargest};
@@ -39,41 +40,46 @@ pub fn solve(
 ) -> SolveAnswer
     ensures { λ r. ⌜ Solves (now (sheet .entry)) source sink value (now (flows .entry)) (now (flows .exit)) (now (set .entry)) (now (set .exit)) r ⌝ }
 {
-    let mut network = Network {
-        nodes: 0,
-        edges: 0,
-        faces: 0,
-        outer: 0,
-        tails: [0u16; 1024],
-        rotations: [0u16; 1024],
-        capacities: [0i32; 1024],
-        lefts: [0u16; 1024],
-    };
-    let opened = sheets::open(sheet, &mut network.lefts);
+    let mut tails = [0u16; 1024];
+    let mut rotations = [0u16; 1024];
+    let mut lefts = [0u16; 1024];
+    let mut order = [0u16; 1024];
+    let mut from = [0u16; 1024];
+    let mut grouped = [0u16; 1024];
+    let mut starts = [0u16; 1024];
+    let mut ends = [0u16; 1024];
+    let opened = sheets::open_walked(
+        sheet,
+        &mut tails,
+        &mut rotations,
+        &mut lefts,
+        &mut order,
+        &mut from,
+        &mut grouped,
+        &mut starts,
+        &mut ends,
+    );
     let verdict = opened.verdict;
     if let Verdict::Refused(k, p) = verdict {
         return SolveAnswer::Refused(k, p);
     }
-    network.nodes = opened.nodes;
-    network.edges = opened.edges;
-    network.faces = opened.faces;
-    network.outer = opened.outer;
-    sheets::fill_tails(sheet, opened.edges, &mut network.tails);
-    sheets::fill_rotations(sheet, opened.edges, &mut network.rotations);
-    sheets::fill_capacities(sheet, opened.edges, &mut network.capacities);
-    let nodes = network.nodes;
-    let edges = network.edges;
-    let faces = network.faces;
-    let outer = network.outer;
+    let mut capacities = [0i32; 1024];
+    sheets::fill_capacities(sheet, opened.edges, &mut capacities);
     questions::solve(
-        &network.tails,
-        &network.rotations,
-        &network.lefts,
-        &network.capacities,
-        nodes,
-        edges,
-        faces,
-        outer,
+        &tails,
+        &rotations,
+        &lefts,
+        &capacities,
+        &order,
+        &from,
+        &grouped,
+        &starts,
+        &ends,
+        opened.nodes,
+        opened.edges,
+        opened.faces,
+        opened.parts,
+        opened.outer,
         source,
         sink,
         value,
@@ -93,41 +99,46 @@ pub fn largest(
 ) -> LargestAnswer
     ensures { λ r. ⌜ FindsLargest (now (sheet .entry)) source sink (now (flows .entry)) (now (flows .exit)) (now (set .entry)) (now (set .exit)) r ⌝ }
 {
-    let mut network = Network {
-        nodes: 0,
-        edges: 0,
-        faces: 0,
-        outer: 0,
-        tails: [0u16; 1024],
-        rotations: [0u16; 1024],
-        capacities: [0i32; 1024],
-        lefts: [0u16; 1024],
-    };
-    let opened = sheets::open(sheet, &mut network.lefts);
+    let mut tails = [0u16; 1024];
+    let mut rotations = [0u16; 1024];
+    let mut lefts = [0u16; 1024];
+    let mut order = [0u16; 1024];
+    let mut from = [0u16; 1024];
+    let mut grouped = [0u16; 1024];
+    let mut starts = [0u16; 1024];
+    let mut ends = [0u16; 1024];
+    let opened = sheets::open_walked(
+        sheet,
+        &mut tails,
+        &mut rotations,
+        &mut lefts,
+        &mut order,
+        &mut from,
+        &mut grouped,
+        &mut starts,
+        &mut ends,
+    );
     let verdict = opened.verdict;
     if let Verdict::Refused(k, p) = verdict {
         return LargestAnswer::Refused(k, p);
     }
-    network.nodes = opened.nodes;
-    network.edges = opened.edges;
-    network.faces = opened.faces;
-    network.outer = opened.outer;
-    sheets::fill_tails(sheet, opened.edges, &mut network.tails);
-    sheets::fill_rotations(sheet, opened.edges, &mut network.rotations);
-    sheets::fill_capacities(sheet, opened.edges, &mut network.capacities);
-    let nodes = network.nodes;
-    let edges = network.edges;
-    let faces = network.faces;
-    let outer = network.outer;
+    let mut capacities = [0i32; 1024];
+    sheets::fill_capacities(sheet, opened.edges, &mut capacities);
     questions::largest(
-        &network.tails,
-        &network.rotations,
-        &network.lefts,
-        &network.capacities,
-        nodes,
-        edges,
-        faces,
-        outer,
+        &tails,
+        &rotations,
+        &lefts,
+        &capacities,
+        &order,
+        &from,
+        &grouped,
+        &starts,
+        &ends,
+        opened.nodes,
+        opened.edges,
+        opened.faces,
+        opened.parts,
+        opened.outer,
         source,
         sink,
         flows,
@@ -151,41 +162,46 @@ pub fn least_and_largest(
         (now (low .entry)) (now (low .exit)) (now (below .entry)) (now (below .exit))
         (now (high .entry)) (now (high .exit)) (now (above .entry)) (now (above .exit)) r ⌝ }
 {
-    let mut network = Network {
-        nodes: 0,
-        edges: 0,
-        faces: 0,
-        outer: 0,
-        tails: [0u16; 1024],
-        rotations: [0u16; 1024],
-        capacities: [0i32; 1024],
-        lefts: [0u16; 1024],
-    };
-    let opened = sheets::open(sheet, &mut network.lefts);
+    let mut tails = [0u16; 1024];
+    let mut rotations = [0u16; 1024];
+    let mut lefts = [0u16; 1024];
+    let mut order = [0u16; 1024];
+    let mut from = [0u16; 1024];
+    let mut grouped = [0u16; 1024];
+    let mut starts = [0u16; 1024];
+    let mut ends = [0u16; 1024];
+    let opened = sheets::open_walked(
+        sheet,
+        &mut tails,
+        &mut rotations,
+        &mut lefts,
+        &mut order,
+        &mut from,
+        &mut grouped,
+        &mut starts,
+        &mut ends,
+    );
     let verdict = opened.verdict;
     if let Verdict::Refused(k, p) = verdict {
         return RangeAnswer::Refused(k, p);
     }
-    network.nodes = opened.nodes;
-    network.edges = opened.edges;
-    network.faces = opened.faces;
-    network.outer = opened.outer;
-    sheets::fill_tails(sheet, opened.edges, &mut network.tails);
-    sheets::fill_rotations(sheet, opened.edges, &mut network.rotations);
-    sheets::fill_capacities(sheet, opened.edges, &mut network.capacities);
-    let nodes = network.nodes;
-    let edges = network.edges;
-    let faces = network.faces;
-    let outer = network.outer;
+    let mut capacities = [0i32; 1024];
+    sheets::fill_capacities(sheet, opened.edges, &mut capacities);
     ranges::least_and_largest(
-        &network.tails,
-        &network.rotations,
-        &network.lefts,
-        &network.capacities,
-        nodes,
-        edges,
-        faces,
-        outer,
+        &tails,
+        &rotations,
+        &lefts,
+        &capacities,
+        &order,
+        &from,
+        &grouped,
+        &starts,
+        &ends,
+        opened.nodes,
+        opened.edges,
+        opened.faces,
+        opened.parts,
+        opened.outer,
         source,
         sink,
         low,

@@ -1,15 +1,18 @@
 -- A worked example: one edge from node 0 to node 1, of capacities 5 forth and 3 back.
 -- The value 7 goes along dart 0, so the lengths are 5 − 7 = −2 and 3 + 7 = 10.
 use mathlib.Core.Path.{_≡_, refl}
+use mathlib.Core.Bool.{true, true≢false}
 use mathlib.Core.List.{[], _∷_}
 use Prim.Native.Nat.{ℕ, zero, suc, _<_}
 use native.Mathlib.Omega.{arith}
-use lib.IntN.{pos, negsuc, negℤ}
+use lib.IntN.{pos, negsuc, negℤ, _+ℤ_}
 use Rattle.integers.proofs.Tests.{every, every-at-most}
 use Rattle.maps.specs.Dart.{rev}
-use Rattle.maps.specs.Walk.{here, along}
-use Rattle.flows.specs.inner.UnitFlow.{walkFlow}
-use Rattle.lengths.specs.inner.Lengths.{Filled}
+use Rattle.maps.specs.Map.{Map}
+use Rattle.maps.specs.Walk.{Walk, here, along}
+use Rattle.flows.specs.inner.UnitFlow.{single, walkFlow}
+use Rattle.flows.proofs.UnitFlow.{walk-unit}
+use Rattle.lengths.specs.inner.Lengths.{Treed, Filled}
 use Rattle.arrays.specs.At.{at, atℤ}
 use Rattle.arrays.specs.inner.Sizes.{mostLength}
 
@@ -19,13 +22,20 @@ two P p q zero l = p
 two P p q (suc zero) l = q
 two P p q (suc (suc d)) l = absurd (omega arith)
 
--- the walk from the node of dart 0 to the node of dart 1 is dart 0, in every map of one edge
-pub one-edge : Filled 2 0 1 (at (0 ∷ 1 ∷ [])) (at (0 ∷ 0 ∷ [])) (atℤ (pos 5 ∷ pos 3 ∷ [])) (pos 7) (atℤ (negsuc 1 ∷ pos 10 ∷ []))
+-- the way from the node of dart 0, the first of the tree, to the node of dart 1 is dart 0, in every map of one edge
+pub one-edge : Filled 2 0 1 (at (0 ∷ 1 ∷ [])) (at (0 ∷ 0 ∷ [])) (atℤ (pos 5 ∷ pos 3 ∷ [])) (pos 7) (atℤ (negsuc 1 ∷ pos 10 ∷ [])) true
 unfolding walkFlow rev every
 one-edge = record {
-  along = λ 𝓜 ρ. (along 0 (omega (arith, ρ .all-darts)) refl here, two _ refl refl);
+  flow = λ d. single 0 d +ℤ pos 0;
+  lengths = two _ refl refl;
   limited = λ d l. record {
     low = every-at-most 2 (λ d. negℤ (pos mostLength)) (atℤ (negsuc 1 ∷ pos 10 ∷ [])) refl d l;
     high = every-at-most 2 (atℤ (negsuc 1 ∷ pos 10 ∷ [])) (λ d. pos mostLength) refl d l;
   };
+  against = λ 𝓜 ρ. walk-unit (over 𝓜 ρ) .antisymmetric;
+  unit = λ e 𝓜 ρ. walk-unit (over 𝓜 ρ);
+  apart = λ e. absurd (true≢false e);
 }
+  where
+    over : (𝓜 : Map) → Treed 𝓜 2 (at (0 ∷ 1 ∷ [])) (at (0 ∷ 0 ∷ [])) → Walk 𝓜 (𝓜 .tail 0) (𝓜 .tail 1)
+    over 𝓜 ρ = along 0 (omega (arith, ρ .all-darts)) refl here

@@ -1,7 +1,8 @@
--- The path from source to sink followed back, and the lengths that it gives.
+-- Trees climbed from both ends of a question, and the lengths that this gives.
 pub mod Limits
 pub mod Place
 pub mod Carrying
-pub mod Backing
+pub mod Climbing
+pub mod Filling
 pub mod PathFlow
 pub mod Examples

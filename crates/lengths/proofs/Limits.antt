@@ -1,4 +1,4 @@
--- A capacity less a value along a dart once at most: how great it is, and that its machine step fits.
+-- A capacity less a value along a dart once at most: how great it is, and that the machine's steps on the way to it fit.
 use mathlib.Core.Path.{_≡_, refl, sym, _∙_, ap, ap₂, subst}
 use mathlib.Core.Logic.{_⊎_, inl, inr}
 use mathlib.Core.Bool.{Bool, true, false}
@@ -12,7 +12,7 @@ use Rattle.signed.proofs.Limits.{limited-fits, same-bits}
 use Rattle.integers.specs.Sum.{when}
 use Rattle.integers.proofs.Omega.{atoms₂, parts, equal}
 use Rattle.integers.specs.inner.Limited.{Limited}
-use Rattle.arrays.specs.inner.Sizes.{mostCapacity, mostValue, mostLength}
+use Rattle.arrays.specs.inner.Sizes.{mostValue, mostLength}
 
 -- ── along a dart, against it, or not at all ──
 abbrev pub Unit : ℤ → Type 0
@@ -41,8 +41,8 @@ limited-unit {a} {b} {c} {value} f u h g = go u
     go (inr (inl e)) = subst (Limited (a + b)) (sym (ap (λ z. c -ℤ value *ℤ z) e ∙ once)) (limited-minus h g)
     go (inr (inr e)) = subst (Limited (a + b)) (sym (ap (λ z. c -ℤ value *ℤ z) e ∙ back)) (limited-plus h g)
 
--- ── one step of the machine, on a capacity and a value ──
-module _ {x y : ℤ} (h : Limited mostCapacity x) (g : Limited mostValue y) where
+-- ── one step of the machine, on a length and a value ──
+module _ {x y : ℤ} (h : Limited mostLength x) (g : Limited mostValue y) where
   pub minus-read : toZ w32 (ofZ w32 x) -ℤ toZ w32 (ofZ w32 y) ≡ x -ℤ y
   minus-read = ap₂ (λ a b. a -ℤ b) (same-bits (omega arith) h) (same-bits (omega arith) g)
 
@@ -50,7 +50,7 @@ module _ {x y : ℤ} (h : Limited mostCapacity x) (g : Limited mostValue y) wher
   plus-read = ap₂ (λ a b. a +ℤ b) (same-bits (omega arith) h) (same-bits (omega arith) g)
 
   pub minus-fits : SFits w32 (toZ w32 (ofZ w32 x) -ℤ toZ w32 (ofZ w32 y))
-  minus-fits = subst (SFits w32) (sym minus-read) (limited-fits mostLength (x -ℤ y) (omega arith) (limited-minus h g))
+  minus-fits = subst (SFits w32) (sym minus-read) (limited-fits (mostLength + mostValue) (x -ℤ y) (omega arith) (limited-minus h g))
 
   pub plus-fits : SFits w32 (toZ w32 (ofZ w32 x) +ℤ toZ w32 (ofZ w32 y))
-  plus-fits = subst (SFits w32) (sym plus-read) (limited-fits mostLength (x +ℤ y) (omega arith) (limited-plus h g))
+  plus-fits = subst (SFits w32) (sym plus-read) (limited-fits (mostLength + mostValue) (x +ℤ y) (omega arith) (limited-plus h g))

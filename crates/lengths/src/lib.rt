@@ -1,5 +1,5 @@
-// The length of each dart for a value: its capacity, less the value along the path that a walk over the darts found from one dart to another. The path is
-// followed back from its end, from each dart to the one that it was met from.
+// The length of each dart for a value: its capacity, less the value along a path from one dart to another through the trees of a walk over all darts. From both
+// ends the tree is climbed to its first dart, from each dart to the one that it was met from; what both climbs cross is cancelled.
 ghost use mathlib.Core.Path.{_≡_};
 ghost use mathlib.Core.Logic.{_≢_};
 ghost use Prim.Native.Nat.{ℕ, _<_, _≤_};
@@ -9,10 +9,10 @@ ghost use lib.IntN.{pos, _+ℤ_, _-ℤ_, _*ℤ_};
 ghost use mir.Syntax.{w32};
 ghost use mir.Val.{SFits};
 ghost use Rattle.integers.specs.Sum.{when};
-ghost use Rattle.lengths.specs.inner.Lengths.{Fillable, Filled};
+ghost use Rattle.lengths.specs.inner.Lengths.{Climbable, Climbed, Fillable, Filled};
 ghost use Rattle.arrays.specs.At.{at, atℤ};
 ghost use Rattle.integers.specs.inner.Limited.{Limited};
-ghost use Rattle.arrays.specs.inner.Sizes.{mostCapacity, mostValue};
+ghost use Rattle.arrays.specs.inner.Sizes.{mostLength, mostValue};
 
 fn copy_capacities(capacities: &[i32; 1024], darts: usize, lengths: &mut [i32; 1024])
     requires { ⌜ (length (now lengths) ≡ 1024) × (darts ≤ 1024) ⌝ }
@@ -27,8 +27,8 @@ fn copy_capacities(capacities: &[i32; 1024], darts: usize, lengths: &mut [i32; 1
 
 // Takes the value over one edge: its dart p, which the path goes along, gets shorter by the value, and the other dart x gets longer by it.
 fn carry(lengths: &mut [i32; 1024], p: usize, x: usize, value: i32)
-    requires { ⌜ (length (now lengths) ≡ 1024) × (p < 1024) × (x < 1024) × (x ≢ p) × Limited mostCapacity (atℤ (now lengths) p)
-        × Limited mostCapacity (atℤ (now lengths) x) × Limited mostValue value ⌝ }
+    requires { ⌜ (length (now lengths) ≡ 1024) × (p < 1024) × (x < 1024) × (x ≢ p) × Limited mostLength (atℤ (now lengths) p)
+        × Limited mostLength (atℤ (now lengths) x) × Limited mostValue value ⌝ }
     ensures { λ _. ⌜ (length (now (lengths .exit)) ≡ 1024)
         × ((d : ℕ) → atℤ (now (lengths .exit)) d ≡ atℤ (now (lengths .entry)) d -ℤ value *ℤ (when (eqb d p) (pos 1) -ℤ when (eqb d x) (pos 1))) ⌝ }
 {
@@ -36,7 +36,36 @@ fn carry(lengths: &mut [i32; 1024], p: usize, x: usize, value: i32)
     lengths[x] = signed::plus(lengths[x], value);
 }
 
-// `order` is named by the contract only: a dart's place in it falls with every step back, so the path ends.
+// Takes the value along the way to x from the first dart of its tree, going up it, and answers that dart: the one marked with its own number. `order` and
+// `darts` are named by the contract only: a dart's place in the order falls with every step, so the climb ends.
+fn climb(
+    order: &[u16; 1024],
+    from: &[u16; 1024],
+    darts: usize,
+    x: usize,
+    value: i32,
+    lengths: &mut [i32; 1024],
+) -> usize
+    requires { ⌜ (length (now lengths) ≡ 1024) × Climbable darts x (at (now order)) (at (now from)) (atℤ (now lengths)) value ⌝ }
+    ensures { λ r. ⌜ (length (now (lengths .exit)) ≡ 1024)
+        × Climbed darts x (at (now (order .entry))) (at (now (from .entry))) value (atℤ (now (lengths .entry))) (atℤ (now (lengths .exit))) r ⌝ }
+{
+    let mut y: usize = x;
+    let mut p = arrays::wide(from[x]);
+    while p != y {
+        let child = y;
+        y = p;
+        p = arrays::wide(from[y]);
+        let back = arrays::reverse(y);
+        if child == back {
+            carry(lengths, y, child, value);
+        }
+    }
+    y
+}
+
+// The lengths for a value from `start` to `finish`: up from `start` to the first dart of its tree and down to `finish`. Answers whether both are in one tree;
+// where they are not, the lengths are of use for the value 0 only.
 pub fn fill_lengths(
     capacities: &[i32; 1024],
     order: &[u16; 1024],
@@ -46,19 +75,14 @@ pub fn fill_lengths(
     finish: usize,
     value: i32,
     lengths: &mut [i32; 1024],
-)
+) -> bool
     requires { ⌜ (length (now lengths) ≡ 1024) × Fillable darts start finish (at (now order)) (at (now from)) (atℤ (now capacities)) value ⌝ }
-    ensures { λ _. ⌜ (length (now (lengths .exit)) ≡ 1024)
-        × Filled darts start finish (at (now (order .entry))) (at (now (from .entry))) (atℤ (now (capacities .entry))) value (atℤ (now (lengths .exit))) ⌝ }
+    ensures { λ r. ⌜ (length (now (lengths .exit)) ≡ 1024)
+        × Filled darts start finish (at (now (order .entry))) (at (now (from .entry))) (atℤ (now (capacities .entry))) value (atℤ (now (lengths .exit))) r ⌝ }
 {
     copy_capacities(capacities, darts, lengths);
-    let mut x: usize = finish;
-    while x != start {
-        let p = arrays::wide(from[x]);
-        let back = arrays::reverse(p);
-        if x == back {
-            carry(lengths, p, x, value);
-        }
-        x = p;
-    }
+    let down = climb(order, from, darts, finish, value, lengths);
+    let against = signed::minus(0, value);
+    let up = climb(order, from, darts, start, against, lengths);
+    up == down
 }

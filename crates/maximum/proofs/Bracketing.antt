@@ -14,8 +14,8 @@ use mir.Syntax.{w32}
 use mir.Val.{toZ, ofZ}
 use Rattle.integers.specs.inner.Limited.{Limited}
 use Rattle.integers.specs.Sum.{bit}
-use Rattle.integers.proofs.Omega.{atoms₂, atoms₄, parts, less, from-equal, from-less}
-use Rattle.integers.proofs.Laws.{lt-le-clash, le-trans, le-antisym, lt-or-ge}
+use Rattle.integers.proofs.Omega.{atoms₂, atoms₄, parts, at-most, less, from-equal, from-less}
+use Rattle.integers.proofs.Laws.{lt-le-clash, le-trans, le-antisym, le-of-lt, lt-or-ge}
 use Rattle.integers.proofs.Limits.{limited-neg}
 use Rattle.integers.proofs.Tests.{eqb-true, eqb-false}
 use Rattle.signed.proofs.Limits.{same-bits}
@@ -51,7 +51,7 @@ use Rattle.node_flags.specs.declared.Side.the-variants as side
 use Rattle.solver.specs.inner.Ends.{Ends}
 use Rattle.solver.specs.inner.Decision.{Decided}
 use Rattle.maximum.specs.inner.Bracket.{Ceiling, Floor, Bracket}
-use Rattle.maximum.specs.inner.Narrowing.{SameFlags, Narrows, Joins}
+use Rattle.maximum.specs.inner.Narrowing.{SameFlags, Narrows, Lowers, stays, falls, Joins}
 use Rattle.maximum.specs.inner.Maximum.{Maximized}
 use Rattle.maximum.specs.declared.Narrowed.{Narrowed}
 use Rattle.maximum.specs.declared.Maximum.the-variants as maximum
@@ -67,6 +67,9 @@ above-low low high value found l apart h e = by (lt-or-ge low high)
     by : (low <ℤ high) ⊎ (high ≤ℤ low) → low <ℤ value
     by (inl k) = h k
     by (inr k) = absurd (apart e (le-antisym l k))
+
+le-of-equal : {x y : ℤ} → x ≡ y → x ≤ℤ y
+le-of-equal {x} {y} e = let a = atoms₂ x y in at-most (search parts) (omega (arith, from-equal e (search parts)))
 
 -- filled twice is filled once
 drop-tabulate : (n : ℕ) (f : ℕ → ℤ) (rest : List ℤ) → drop n (tabulate n f ++ rest) ≡ rest
@@ -85,10 +88,11 @@ pub record Ground (𝓜 : Map) (c : ℕ → ℤ) (s t : ℕ) : Type 0 where
   pub two : Ends 𝓜 s t
 
 -- what the loop keeps: the sizes of its arrays, and the bounds
-pub record Probing (𝓜 : Map) (outer : ℕ) (c : ℕ → ℤ) (s t : ℕ) (before flows : List ℤ) (A B inside : List ℕ) (low high : ℤ) (found : Bool) : Type 0 where
+pub record Probing (𝓜 : Map) (outer : ℕ) (c : ℕ → ℤ) (s t : ℕ) (before flows : List ℤ) (A B inside parents : List ℕ) (low high : ℤ) (found : Bool) : Type 0 where
   pub size-a : length A ≡ 1024
   pub size-b : length B ≡ 1024
   pub size-inside : length inside ≡ 1024
+  pub size-parents : length parents ≡ 1024
   pub size-flows : length flows ≡ length before
   pub bracket : Bracket 𝓜 outer c s t before flows A B low high found
 
@@ -150,6 +154,25 @@ module _ {𝓜 : Map} (outer : ℕ) {c : ℕ → ℤ} {s t : ℕ} (ground : Grou
         again : (f : Bool) → Floor 𝓜 outer c s t before flows (flagged B) low f → filled (𝓜 .edges) (d .0) flows ≡ filled (𝓜 .edges) (d .0) before
         again true h = filled-again (𝓜 .edges) (d .0) (h .0) before flows (h .2)
         again false h = ap (filled (𝓜 .edges) (d .0)) (h .0)
+
+    -- ── a set that was proposed ──
+    pub lowered : (inside A' : List ℕ) (high' : ℤ) → Lowers s t (cutOf (darts 𝓜) (𝓜 .tail) c (flagged inside)) high high' inside A A'
+        → Bracket 𝓜 outer c s t before flows A' B low high' found × (high' ≤ℤ high)
+    lowered inside A' high' (stays e a) = (
+      subst (λ h. Bracket 𝓜 outer c s t before flows A' B low h found) (sym e)
+          (subst (λ l. Bracket 𝓜 outer c s t before flows l B low high found) (sym a) b),
+      le-of-equal e,
+    )
+    lowered inside A' high' (falls side e l same) = (
+      record {
+        ceiling = record {
+          side = (same s s-in ∙ side .0, same t t-in ∙ side .1);
+          is-cut = e ∙ sym (cut-of 𝓜 c (flagged inside)) ∙ sym (same-cut A' inside same);
+        };
+        floor = b .floor;
+      },
+      le-of-lt l,
+    )
 
     -- ── a proving set at the source, at the sink, beside both ──
     module _ (value : ℤ) (at-least : low ≤ℤ value) (inside : List ℕ) (proves : Proves 𝓜 c s t value (flagged inside)) where

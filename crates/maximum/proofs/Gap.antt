@@ -66,3 +66,16 @@ module _ (low high value : ℤ) (at-least : low ≤ℤ value) (at-most : value �
         from-at-most at-least (search parts),
         from-at-most at-most (search parts),
       )
+
+-- a high bound that is lowered leaves no more to go
+pub gap-narrower : (low : ℤ) {high high' : ℤ} (found : Bool) → high' ≤ℤ high → gap low high' found ≤ gap low high found
+gap-narrower low {high} {high'} found l =
+    let x = atom low in
+    let y = atom high in
+    let z = atom high' in
+    omega (
+      arith,
+      positive-is (added (added y (negated x)) (literal 1)),
+      positive-is (added (added z (negated x)) (literal 1)),
+      from-at-most l (search parts),
+    )

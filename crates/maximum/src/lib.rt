@@ -14,10 +14,11 @@ ghost use Rattle.node_flags.specs.inner.Flags.{Sided};
 ghost use Rattle.arrays.specs.inner.Flags.{flagged};
 ghost use Rattle.node_flags.specs.declared.Side.{Side};
 ghost use Rattle.arrays.specs.inner.Drawn.{Drawn};
+ghost use Rattle.grouping.specs.inner.Walked.{Walked};
 ghost use Rattle.solver.specs.inner.Ends.{Ends};
 ghost use Rattle.arrays.specs.Maps.{mapOf};
 ghost use Rattle.maximum.specs.inner.Bracket.{Bracket};
-ghost use Rattle.maximum.specs.inner.Narrowing.{Narrows, Joins};
+ghost use Rattle.maximum.specs.inner.Narrowing.{Narrows, Lowers, Joins};
 ghost use Rattle.maximum.specs.inner.Maximum.{Maximized};
 use node_flags::Side;
 
@@ -48,15 +49,33 @@ fn is_less(x: i32, y: i32) -> bool
     x < y
 }
 
-// The value to probe: the high bound or the middle in turn. The high bound, carried, is the answer at once; the middle halves what is left.
-fn next_value(low: i32, high: i32, top: bool) -> i32
-    requires { ⌜ (low ≤ℤ high) × Limited 600000000 low × Limited 600000000 high ⌝ }
-    ensures { λ r. ⌜ (low ≤ℤ r) × (r ≤ℤ high) × (low <ℤ high → low <ℤ r) ⌝ }
+// The value nearest to zero between the bounds.
+fn nearest_zero(low: i32, high: i32) -> i32
+    requires { ⌜ low ≤ℤ high ⌝ }
+    ensures { λ r. ⌜ (low ≤ℤ r) × (r ≤ℤ high) ⌝ }
 {
-    if top {
+    if is_less(0, low) {
+        return low;
+    }
+    if is_less(high, 0) {
         return high;
     }
-    signed::minus(high, signed::halve(signed::minus(high, low)))
+    0
+}
+
+// The value to probe. Until one is found: the value nearest to zero, which is the likeliest to be carried. Then the high bound, which is the answer if it is
+// carried, or the middle, which halves what is left.
+fn next_value(low: i32, high: i32, middle: bool, found: bool) -> i32
+    requires { ⌜ (low ≤ℤ high) × Limited 600000000 low × Limited 600000000 high ⌝ }
+    ensures { λ r. ⌜ (low ≤ℤ r) × (r ≤ℤ high) × (found ≡ true → low <ℤ high → low <ℤ r) ⌝ }
+{
+    if !found {
+        return nearest_zero(low, high);
+    }
+    if middle {
+        return signed::minus(high, signed::halve(signed::minus(high, low)));
+    }
+    high
 }
 
 // Whether the bounds have met at a value that is carried.
@@ -115,28 +134,103 @@ fn narrow_by(
     }
 }
 
-// Where no value is left between the cuts of a and b, the union or the intersection has a cut below zero: it is kept in a.
+// The high bound, lowered to the cut of the flagged nodes where they lie at the source and it is less: then they are kept in a.
+fn lower(
+    tails: &[u16; 1024],
+    capacities: &[i32; 1024],
+    inside: &[u8; 1024],
+    darts: usize,
+    source: usize,
+    sink: usize,
+    high: i32,
+    a: &mut [u8; 1024],
+) -> i32
+    requires { ⌜ (length (now a) ≡ 1024) × (source < 1024) × (sink < 1024) × (darts ≤ 1024) × (darts % 2 ≡ 0)
+        × ((d : ℕ) → d < darts → at (now tails) d < 1024) × ((d : ℕ) → d < darts → Limited 2000000 (atℤ (now capacities) d)) ⌝ }
+    ensures { λ r. ⌜ (length (now (a .exit)) ≡ 1024)
+        × Lowers source sink (cutOf darts (at (now (tails .entry))) (atℤ (now (capacities .entry))) (flagged (now (inside .entry))))
+        high r (now (inside .entry)) (now (a .entry)) (now (a .exit)) ⌝ }
+{
+    let total = cuts::capacity(tails, capacities, inside, darts);
+    if is_less(total, high) {
+        let side = node_flags::side_of(inside, source, sink);
+        if let Side::Source = side {
+            node_flags::copy_flags(inside, a);
+            return total;
+        }
+        return high;
+    }
+    high
+}
+
+// Where no value is left between the cuts of a and b, the union or the intersection has a cut below zero: it is kept in a. `joined` is lent to make it in.
 fn join(
     tails: &[u16; 1024],
     capacities: &[i32; 1024],
     darts: usize,
     a: &mut [u8; 1024],
     b: &[u8; 1024],
+    joined: &mut [u8; 1024],
 )
     requires { ⌜ (length (now a) ≡ 1024) × (darts ≤ 1024) × (darts % 2 ≡ 0) × ((d : ℕ) → d < darts → at (now tails) d < 1024)
-        × ((d : ℕ) → d < darts → Limited 2000000 (atℤ (now capacities) d)) ⌝ }
+        × ((d : ℕ) → d < darts → Limited 2000000 (atℤ (now capacities) d)) × (length (now joined) ≡ 1024) ⌝ }
     ensures { λ _. ⌜ (length (now (a .exit)) ≡ 1024)
         × Joins darts (at (now (tails .entry))) (atℤ (now (capacities .entry))) (now (a .entry)) (now (a .exit)) (now (b .entry)) ⌝ }
 {
-    let mut joined = [0u8; 1024];
-    node_flags::unite(&*a, b, &mut joined);
-    let total = cuts::capacity(tails, capacities, &joined, darts);
+    node_flags::unite(&*a, b, &mut *joined);
+    let total = cuts::capacity(tails, capacities, &*joined, darts);
     if is_less(total, 0) {
-        node_flags::copy_flags(&joined, a);
+        node_flags::copy_flags(&*joined, a);
         return;
     }
-    node_flags::intersect(&*a, b, &mut joined);
-    node_flags::copy_flags(&joined, a);
+    node_flags::intersect(&*a, b, &mut *joined);
+    node_flags::copy_flags(&*joined, a);
+}
+
+// The high bound, lowered by a set that is proposed from flows of the low one and the search's parents beside them. It is called from two places, so that the
+// compiler makes a function of it: its arrays then lie beside those of a decision on the stack, and not above them.
+fn propose<'a>(
+    tails: &'a [u16; 1024],
+    rotations: &'a [u16; 1024],
+    lefts: &'a [u16; 1024],
+    capacities: &'a [i32; 1024],
+    nodes: usize,
+    edges: usize,
+    source: usize,
+    sink: usize,
+    low: i32,
+    high: i32,
+    flows: &[i32],
+    parents: &mut [u16; 1024],
+    inside: &mut [u8; 1024],
+    a: &mut [u8; 1024],
+) -> i32
+    requires { ⌜ (length (now parents) ≡ 1024) × (length (now inside) ≡ 1024) × (length (now a) ≡ 1024) × (edges ≤ length (now flows))
+        × (nodes ≤ 1024) × (edges ≤ 512) × (source < 1024) × (sink < 1024) × ((d : ℕ) × (d < 2 * edges) × (at (now tails) d ≡ sink))
+        × ((d : ℕ) → d < 2 * edges → at (now tails) d < 1024) × ((d : ℕ) → d < 2 * edges → Limited 2000000 (atℤ (now capacities) d)) ⌝ }
+    ensures { λ r. ⌜ (length (now (parents .exit)) ≡ 1024) × (length (now (inside .exit)) ≡ 1024) × (length (now (a .exit)) ≡ 1024)
+        × Lowers source sink (cutOf (2 * edges) (at (now (tails .entry))) (atℤ (now (capacities .entry))) (flagged (now (inside .exit))))
+        high r (now (inside .exit)) (now (a .entry)) (now (a .exit)) ⌝ }
+{
+    if finished(low, high, true) {
+        return high;
+    }
+    let finish = traversal::dart_at(tails, 2 * edges, sink);
+    pivots::propose(
+        tails,
+        rotations,
+        lefts,
+        capacities,
+        nodes,
+        edges,
+        source,
+        sink,
+        finish,
+        flows,
+        parents,
+        &mut *inside,
+    );
+    lower(tails, capacities, &*inside, 2 * edges, source, sink, high, a)
 }
 
 // Probes values between the bounds until they meet or pass each other. The set that bounds the answer, or shows that there is none, is left in a.
@@ -145,9 +239,15 @@ pub fn maximize<'a>(
     rotations: &'a [u16; 1024],
     lefts: &'a [u16; 1024],
     capacities: &'a [i32; 1024],
+    order: &'a [u16; 1024],
+    from: &'a [u16; 1024],
+    grouped: &'a [u16; 1024],
+    starts: &'a [u16; 1024],
+    ends: &'a [u16; 1024],
     nodes: usize,
     edges: usize,
     faces: usize,
+    trees: usize,
     outer: usize,
     source: usize,
     sink: usize,
@@ -156,47 +256,92 @@ pub fn maximize<'a>(
 ) -> Maximum
     requires { ⌜ (length (now a) ≡ 1024) × (edges ≤ length (now flows)) × ((d : ℕ) → d < 2 * edges → Limited 1000000 (atℤ (now capacities) d))
         × Drawn (mapOf nodes edges (now tails) (now rotations)) (at (now lefts)) faces outer (atℤ (now capacities))
-        × Ends (mapOf nodes edges (now tails) (now rotations)) source sink ⌝ }
+        × Ends (mapOf nodes edges (now tails) (now rotations)) source sink
+        × Walked (2 * edges) faces outer trees (at (now rotations)) (now lefts) (now order) (now from) (now grouped) (now starts) (now ends) ⌝ }
     ensures { λ r. ⌜ (length (now (a .exit)) ≡ 1024)
         × Maximized (mapOf nodes edges (now (tails .entry)) (now (rotations .entry))) outer
         (atℤ (now (capacities .entry))) source sink (now (flows .entry)) (now (flows .exit)) (now (a .exit)) r ⌝ }
 {
     let mut b = [0u8; 1024];
     let mut inside = [0u8; 1024];
+    let mut parents = [0u16; 1024];
     node_flags::flag_one(source, &mut *a);
     node_flags::flag_one(sink, &mut b);
     let mut high = cuts::capacity(tails, capacities, &*a, 2 * edges);
     let mut low = negate(cuts::capacity(tails, capacities, &b, 2 * edges));
     let mut found = false;
-    let mut top = true;
+    let mut middle = false;
     let outcome = loop {
         if is_less(high, low) {
-            join(tails, capacities, 2 * edges, &mut *a, &b);
+            join(tails, capacities, 2 * edges, &mut *a, &b, &mut inside);
             break Maximum::Nothing;
         }
         if finished(low, high, found) {
             break Maximum::Value(high);
         }
-        let value = next_value(low, high, top);
-        top = !top;
+        let value = next_value(low, high, middle, found);
         if solver::decide(
             tails,
             rotations,
             lefts,
             capacities,
+            order,
+            from,
+            grouped,
+            starts,
+            ends,
             nodes,
             edges,
             faces,
+            trees,
             outer,
             source,
             sink,
             value,
+            &mut parents,
             &mut *flows,
             &mut inside,
         ) {
             low = value;
-            found = true;
+            middle = false;
+            if !found {
+                found = true;
+                high = propose(
+                    tails,
+                    rotations,
+                    lefts,
+                    capacities,
+                    nodes,
+                    edges,
+                    source,
+                    sink,
+                    low,
+                    high,
+                    &*flows,
+                    &mut parents,
+                    &mut inside,
+                    &mut *a,
+                );
+            } else {
+                high = propose(
+                    tails,
+                    rotations,
+                    lefts,
+                    capacities,
+                    nodes,
+                    edges,
+                    source,
+                    sink,
+                    low,
+                    high,
+                    &*flows,
+                    &mut parents,
+                    &mut inside,
+                    &mut *a,
+                );
+            }
         } else {
+            middle = !middle;
             let n = narrow_by(
                 tails,
                 capacities,

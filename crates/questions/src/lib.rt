@@ -2,6 +2,7 @@
 ghost use Prim.Native.Nat.{ℕ, _*_, _<_, _≤_};
 ghost use Rattle.integers.specs.inner.Limited.{Limited};
 ghost use Rattle.refusals.specs.Order.{Decides, Judged};
+ghost use Rattle.grouping.specs.inner.Walked.{Walked};
 ghost use Rattle.arrays.specs.At.{at, atℤ};
 ghost use Rattle.arrays.specs.inner.Drawn.{Drawn};
 ghost use Rattle.arrays.specs.Maps.{mapOf, drawingOf};
@@ -70,9 +71,15 @@ pub fn solve<'a>(
     rotations: &'a [u16; 1024],
     lefts: &'a [u16; 1024],
     capacities: &'a [i32; 1024],
+    order: &'a [u16; 1024],
+    from: &'a [u16; 1024],
+    grouped: &'a [u16; 1024],
+    starts: &'a [u16; 1024],
+    ends: &'a [u16; 1024],
     nodes: usize,
     edges: usize,
     faces: usize,
+    trees: usize,
     outer: usize,
     source: u16,
     sink: u16,
@@ -80,15 +87,16 @@ pub fn solve<'a>(
     flows: &mut [i32],
     set: &mut [u64],
 ) -> SolveAnswer
-    requires { ⌜ Drawn (mapOf nodes edges (now tails) (now rotations)) (at (now lefts)) faces outer (atℤ (now capacities)) ⌝ }
+    requires { ⌜ Drawn (mapOf nodes edges (now tails) (now rotations)) (at (now lefts)) faces outer (atℤ (now capacities))
+        × Walked (2 * edges) faces outer trees (at (now rotations)) (now lefts) (now order) (now from) (now grouped) (now starts) (now ends) ⌝ }
     ensures { λ r. ⌜ Solved (drawingOf nodes edges outer (now (tails .entry)) (now (rotations .entry)) (now (capacities .entry)))
         (questionChecks nodes edges source sink value (now (flows .entry)) (now (set .entry)))
         source sink value (now (flows .entry)) (now (flows .exit)) (now (set .entry)) (now (set .exit)) r ⌝ }
 {
     let s = arrays::wide(source);
     let t = arrays::wide(sink);
-    let ends = check_ends(nodes, s, t);
-    if let Verdict::Refused(k, p) = ends {
+    let named = check_ends(nodes, s, t);
+    if let Verdict::Refused(k, p) = named {
         return SolveAnswer::Refused(k, p);
     }
     if value_outside(value) {
@@ -99,18 +107,26 @@ pub fn solve<'a>(
         return SolveAnswer::Refused(k, p);
     }
     let mut inside = [0u8; 1024];
+    let mut parents = [0u16; 1024];
     if solver::decide(
         tails,
         rotations,
         lefts,
         capacities,
+        order,
+        from,
+        grouped,
+        starts,
+        ends,
         nodes,
         edges,
         faces,
+        trees,
         outer,
         s,
         t,
         value,
+        &mut parents,
         flows,
         &mut inside,
     ) {
@@ -135,9 +151,15 @@ pub fn largest<'a>(
     rotations: &'a [u16; 1024],
     lefts: &'a [u16; 1024],
     capacities: &'a [i32; 1024],
+    order: &'a [u16; 1024],
+    from: &'a [u16; 1024],
+    grouped: &'a [u16; 1024],
+    starts: &'a [u16; 1024],
+    ends: &'a [u16; 1024],
     nodes: usize,
     edges: usize,
     faces: usize,
+    trees: usize,
     outer: usize,
     source: u16,
     sink: u16,
@@ -145,15 +167,16 @@ pub fn largest<'a>(
     set: &mut [u64],
 ) -> LargestAnswer
     requires { ⌜ Drawn (mapOf nodes edges (now tails) (now rotations)) (at (now lefts)) faces outer (atℤ (now capacities))
-        × ((d : ℕ) → d < 2 * edges → Limited mostOnSheet (atℤ (now capacities) d)) ⌝ }
+        × ((d : ℕ) → d < 2 * edges → Limited mostOnSheet (atℤ (now capacities) d))
+        × Walked (2 * edges) faces outer trees (at (now rotations)) (now lefts) (now order) (now from) (now grouped) (now starts) (now ends) ⌝ }
     ensures { λ r. ⌜ LargestFound (drawingOf nodes edges outer (now (tails .entry)) (now (rotations .entry)) (now (capacities .entry)))
         (searchChecks nodes edges source sink (now (flows .entry)) (now (set .entry)))
         source sink (now (flows .entry)) (now (flows .exit)) (now (set .entry)) (now (set .exit)) r ⌝ }
 {
     let s = arrays::wide(source);
     let t = arrays::wide(sink);
-    let ends = check_ends(nodes, s, t);
-    if let Verdict::Refused(k, p) = ends {
+    let named = check_ends(nodes, s, t);
+    if let Verdict::Refused(k, p) = named {
         return LargestAnswer::Refused(k, p);
     }
     let room = check_room(nodes, edges, flows.len(), set.len());
@@ -166,9 +189,15 @@ pub fn largest<'a>(
         rotations,
         lefts,
         capacities,
+        order,
+        from,
+        grouped,
+        starts,
+        ends,
         nodes,
         edges,
         faces,
+        trees,
         outer,
         s,
         t,

@@ -2,6 +2,7 @@
 // carries its negative from sink to source: the least value is the negative of the largest with the ends exchanged, with the same flows and the same sets.
 ghost use Prim.Native.Nat.{ℕ, _*_, _<_};
 ghost use Rattle.integers.specs.inner.Limited.{Limited};
+ghost use Rattle.grouping.specs.inner.Walked.{Walked};
 ghost use Rattle.arrays.specs.At.{at, atℤ};
 ghost use Rattle.arrays.specs.inner.Drawn.{Drawn};
 ghost use Rattle.arrays.specs.Maps.{mapOf, drawingOf};
@@ -25,9 +26,15 @@ pub fn least_and_largest<'a>(
     rotations: &'a [u16; 1024],
     lefts: &'a [u16; 1024],
     capacities: &'a [i32; 1024],
+    order: &'a [u16; 1024],
+    from: &'a [u16; 1024],
+    grouped: &'a [u16; 1024],
+    starts: &'a [u16; 1024],
+    ends: &'a [u16; 1024],
     nodes: usize,
     edges: usize,
     faces: usize,
+    trees: usize,
     outer: usize,
     source: u16,
     sink: u16,
@@ -37,7 +44,8 @@ pub fn least_and_largest<'a>(
     above: &mut [u64],
 ) -> RangeAnswer
     requires { ⌜ Drawn (mapOf nodes edges (now tails) (now rotations)) (at (now lefts)) faces outer (atℤ (now capacities))
-        × ((d : ℕ) → d < 2 * edges → Limited mostOnSheet (atℤ (now capacities) d)) ⌝ }
+        × ((d : ℕ) → d < 2 * edges → Limited mostOnSheet (atℤ (now capacities) d))
+        × Walked (2 * edges) faces outer trees (at (now rotations)) (now lefts) (now order) (now from) (now grouped) (now starts) (now ends) ⌝ }
     ensures { λ r. ⌜ RangeFound (drawingOf nodes edges outer (now (tails .entry)) (now (rotations .entry)) (now (capacities .entry)))
         (spanChecks nodes edges source sink (now (low .entry)) (now (below .entry)) (now (high .entry)) (now (above .entry)))
         source sink (now (low .entry)) (now (low .exit)) (now (below .entry)) (now (below .exit))
@@ -45,8 +53,8 @@ pub fn least_and_largest<'a>(
 {
     let s = arrays::wide(source);
     let t = arrays::wide(sink);
-    let ends = questions::check_ends(nodes, s, t);
-    if let Verdict::Refused(k, p) = ends {
+    let named = questions::check_ends(nodes, s, t);
+    if let Verdict::Refused(k, p) = named {
         return RangeAnswer::Refused(k, p);
     }
     let low_room = questions::check_room(nodes, edges, low.len(), below.len());
@@ -63,9 +71,15 @@ pub fn least_and_largest<'a>(
         rotations,
         lefts,
         capacities,
+        order,
+        from,
+        grouped,
+        starts,
+        ends,
         nodes,
         edges,
         faces,
+        trees,
         outer,
         s,
         t,
@@ -82,9 +96,15 @@ pub fn least_and_largest<'a>(
         rotations,
         lefts,
         capacities,
+        order,
+        from,
+        grouped,
+        starts,
+        ends,
         nodes,
         edges,
         faces,
+        trees,
         outer,
         t,
         s,

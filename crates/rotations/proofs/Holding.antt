@@ -31,6 +31,11 @@ holding-same x zero g h e = holding-zero x h ∙ sym (holding-zero x g)
 holding-same x (suc n) g h e =
     holding-suc x n h ∙ rw (e n (omega arith), holding-same x n g h (λ y l. e y (omega arith))) (sym (holding-suc x n g))
 
+-- every place holds x
+pub holding-all : (x n : ℕ) (g : ℕ → ℕ) → ((y : ℕ) → y < n → g y ≡ x) → holding x n g ≡ n
+holding-all x zero g h = holding-zero x g
+holding-all x (suc n) g h = omega (arith, last-holds x n g (h n (omega arith)), holding-all x n g (λ y l. h y (omega arith)))
+
 -- one place stops holding x, and the others stay
 pub holding-less : (x n : ℕ) (g h : ℕ → ℕ) (z : ℕ) → z < n → g z ≡ x → h z ≢ x → ((y : ℕ) → y ≢ z → h y ≡ g y) → holding x n h + 1 ≡ holding x n g
 holding-less x zero g h z l a b e = absurd (omega arith)

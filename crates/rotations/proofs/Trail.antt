@@ -2,7 +2,7 @@
 use mathlib.Core.Path.{_≡_, refl, sym, _∙_, ap}
 use mathlib.Core.Logic.{_≢_}
 use mathlib.Core.List.{List}
-use Prim.Native.Nat.{ℕ, zero, suc, _-_, _≤_, _<_}
+use Prim.Native.Nat.{ℕ, zero, suc, _+_, _-_, _≤_, _<_}
 use native.Mathlib.Omega.{arith}
 use native.Mathlib.Decide.{ℕ-discrete}
 use lib.ListN.{length, set}
@@ -26,7 +26,7 @@ round-between {next = next} π s (suc i) (suc k) l h e =
     (π .apart (iter next i s) (iter next k s) (iter-in π i s l) (iter-in π k s l) (sym (iter-suc next i s) ∙ e ∙ iter-suc next k s))
 
 -- once round, the places come again
-wrap : (next : ℕ → ℕ) (s k : ℕ) → iter next (suc k) s ≡ s → (i : ℕ) → (m : ℕ) × (m < suc k) × (iter next i s ≡ iter next m s)
+pub wrap : (next : ℕ → ℕ) (s k : ℕ) → iter next (suc k) s ≡ s → (i : ℕ) → (m : ℕ) × (m < suc k) × (iter next i s ≡ iter next m s)
 wrap next s k e zero = (0, omega arith, refl)
 wrap next s k e (suc i) = go (wrap next s k e i)
   where
@@ -99,8 +99,8 @@ module _ {n : ℕ} {next before after : ℕ → ℕ} {start number k x : ℕ}
         on' y o = let r = wrap next start k (trail-on .here ∙ h) (o .0) in ap after' (sym (o .1) ∙ r .2) ∙ trail-on .on (r .0) (r .1)
 
     -- the measure of the loop
-    less : holding unmarked n after' < holding unmarked n after
-    less = omega (arith, holding-less unmarked n after after' x still-in fresh (λ e. omega (arith, put, e, μ .small)) kept)
+    less : holding unmarked n after' + 1 ≡ holding unmarked n after
+    less = holding-less unmarked n after after' x still-in fresh (λ e. omega (arith, put, e, μ .small)) kept
 
 -- the same of an array of labels
 module _ {n : ℕ} {next before : ℕ → ℕ} {start number k x : ℕ} (label : List ℕ) (long : length label ≡ 1024)
@@ -117,5 +117,9 @@ module _ {n : ℕ} {next before : ℕ → ℕ} {start number k x : ℕ} (label :
   pub walk-end : next x ≡ start → Marked n next before (at (set label x number)) start number
   walk-end = at-end μ w (at (set label x number)) put kept
 
-  pub fewer : holding unmarked n (at (set label x number)) < holding unmarked n (at label)
+  pub fewer : holding unmarked n (at (set label x number)) + 1 ≡ holding unmarked n (at label)
   fewer = less μ w (at (set label x number)) put kept
+
+  -- the walk is once round
+  pub walk-round : next x ≡ start → iter next (suc k) start ≡ start
+  walk-round h = trail-on μ w (at (set label x number)) put kept .here ∙ h

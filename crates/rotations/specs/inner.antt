@@ -2,3 +2,5 @@
 pub mod Holding
 pub mod Marking
 pub mod Register
+pub mod Laying
+pub mod Passing

@@ -1,6 +1,7 @@
 // The sheet checks 9 to 12 on a map given by two arrays: the tail of each dart, and its rotation (the paper's "turn").
 // Each is decided in work that grows as the number of darts, and check 12 leaves the faces numbered in order of their lowest darts.
 ghost use mathlib.Core.Path.{_≡_};
+ghost use mathlib.Core.Logic.{_≢_};
 ghost use Prim.Native.Nat.{ℕ, _+_, _*_, _<_, _≤_};
 ghost use lib.ListN.{length};
 ghost use Rattle.refusals.specs.Order.{Decides};
@@ -9,9 +10,16 @@ ghost use Rattle.maps.specs.Orbit.{orbits, orbitOf, Permutes};
 ghost use Rattle.maps.specs.Walk.{Components};
 ghost use Rattle.maps.specs.Check.{InRange, RotationFault, NodeFault, Sound};
 ghost use Rattle.arrays.specs.At.{at};
-ghost use Rattle.arrays.specs.Maps.{mapOf};
+ghost use Rattle.arrays.specs.Maps.{mapOf, rightOf};
+ghost use Rattle.traversal.specs.inner.Mark.{unmarked};
+ghost use Rattle.traversal.specs.inner.Forest.{Forest};
+ghost use Rattle.grouping.specs.Grouped.{Grouped};
+ghost use Rattle.grouping.specs.inner.Walked.{Walked};
+ghost use Rattle.rotations.specs.inner.Holding.{holding};
 ghost use Rattle.rotations.specs.inner.Marking.{Markable, Marked};
+ghost use Rattle.rotations.specs.inner.Laying.{stepOf, Laid};
 ghost use Rattle.rotations.specs.inner.Register.{Entered};
+ghost use Rattle.rotations.specs.inner.Passing.{IfPassed};
 ghost use Rattle.rotations.specs.MapChecks.{MapJudged};
 use arrays::narrow;
 use arrays::wide;
@@ -145,41 +153,84 @@ fn node_fault<'a>(
     some_empty(&owner, nodes)
 }
 
-// How many parts the map has: the trees of a walk over all darts. From each dart met the walk goes to its rotation and to its reverse, and the rounds are
-// nodes; so it reads neither tails nor nodes, which only its contract names.
-fn count_parts<'a>(
-    tails: &'a [u16; 1024],
-    rotations: &'a [u16; 1024],
-    nodes: usize,
+// Faces: rounds of the face step. "The face step of a dart is the turn of its reverse."
+
+// Gives every dart of the face of `start` this number, and lays their reverses, whose right face it is, into the places of `grouped` before `end`, from the last
+// to the first. Answers the place of the last one laid.
+fn mark_face(
+    rotations: &[u16; 1024],
     edges: usize,
+    start: usize,
+    number: u16,
+    lefts: &mut [u16; 1024],
+    grouped: &mut [u16; 1024],
+    end: usize,
 ) -> usize
-    requires { ⌜ (0 < edges) × (edges ≤ 512) × Sound (mapOf nodes edges (now tails) (now rotations)) ⌝ }
-    ensures { λ r. ⌜ (r ≤ 2 * edges) × ((part : ℕ → ℕ) × Components (mapOf nodes edges (now (tails .entry)) (now (rotations .entry))) r part) ⌝ }
+    requires { ⌜ (length (now lefts) ≡ 1024) × (length (now grouped) ≡ 1024)
+        × Markable (2 * edges) (stepOf (now rotations)) (at (now lefts)) start number
+        × (end ≡ holding unmarked (2 * edges) (at (now lefts))) × (end ≤ 2 * edges) ⌝ }
+    ensures { λ r. ⌜ (length (now (lefts .exit)) ≡ 1024) × (length (now (grouped .exit)) ≡ 1024)
+        × Marked (2 * edges) (stepOf (now (rotations .entry))) (at (now (lefts .entry))) (at (now (lefts .exit))) start number
+        × Laid (2 * edges) (stepOf (now (rotations .entry))) (at (now (grouped .entry))) (at (now (grouped .exit))) start r end
+        × (r ≡ holding unmarked (2 * edges) (at (now (lefts .exit)))) ⌝ }
 {
-    let darts = 2 * edges;
-    let mut order = [0u16; 1024];
-    let mut from = [0u16; 1024];
-    traversal::spread_all(rotations, darts, 0, &mut order, &mut from)
-}
-
-// "The face step of a dart is the turn of its reverse."
-fn fill_steps(rotations: &[u16; 1024], edges: usize, steps: &mut [u16; 1024])
-    requires { ⌜ (length (now steps) ≡ 1024) × (edges ≤ 512) ⌝ }
-    ensures { λ _. ⌜ (length (now (steps .exit)) ≡ 1024) × ((d : ℕ) → d < 2 * edges → at (now (steps .exit)) d ≡ at (now (rotations .entry)) (rev d)) ⌝ }
-{
-    let darts = 2 * edges;
-    let mut d: usize = 0;
-    while d < darts {
-        let r = arrays::reverse(d);
-        steps[d] = rotations[r];
-        d += 1;
+    let mut x = start;
+    let mut begin = end;
+    loop {
+        lefts[x] = number;
+        let back = arrays::reverse(x);
+        begin -= 1;
+        grouped[begin] = narrow(back);
+        x = wide(rotations[back]);
+        if x == start {
+            break;
+        }
     }
+    begin
 }
 
-// What the checks found, and how many faces there are where they passed.
+// Numbers the faces from 0 in order of their lowest darts, and says how many they are. The darts of a face are met together: so they are grouped by the face
+// right of them at once, the groups from the last place down. The search crosses a face's darts in the order of its group: against the face's round it has been
+// seen to settle sooner than along it.
+fn number_faces(
+    rotations: &[u16; 1024],
+    edges: usize,
+    lefts: &mut [u16; 1024],
+    grouped: &mut [u16; 1024],
+    starts: &mut [u16; 1024],
+    ends: &mut [u16; 1024],
+) -> usize
+    requires { ⌜ (edges ≤ 512) × (length (now lefts) ≡ 1024) × (length (now grouped) ≡ 1024) × (length (now starts) ≡ 1024) × (length (now ends) ≡ 1024)
+        × Permutes (2 * edges) (stepOf (now rotations)) ⌝ }
+    ensures { λ r. ⌜ (length (now (lefts .exit)) ≡ 1024) × (length (now (grouped .exit)) ≡ 1024)
+        × (length (now (starts .exit)) ≡ 1024) × (length (now (ends .exit)) ≡ 1024)
+        × (r ≡ orbits (2 * edges) (stepOf (now (rotations .entry))))
+        × ((d : ℕ) → d < 2 * edges → at (now (lefts .exit)) d ≡ orbitOf (2 * edges) (stepOf (now (rotations .entry))) d)
+        × Grouped (rightOf (now (lefts .exit))) (2 * edges) r (now (grouped .exit)) (now (starts .exit)) (now (ends .exit)) ⌝ }
+{
+    let darts = 2 * edges;
+    traversal::unmark_all(lefts);
+    let mut f: usize = 0;
+    let mut free = darts;
+    let mut next: usize = 0;
+    while next < darts {
+        let d = next;
+        next += 1;
+        if lefts[d] == UNMARKED {
+            ends[f] = narrow(free);
+            free = mark_face(rotations, edges, d, narrow(f), lefts, grouped, free);
+            starts[f] = narrow(free);
+            f += 1;
+        }
+    }
+    f
+}
+
+// What the checks found and, where they passed, how many faces and parts there are.
 pub struct Checked {
     pub verdict: Verdict,
     pub faces: usize,
+    pub parts: usize,
 }
 
 fn refused(number: u8) -> Checked
@@ -188,21 +239,94 @@ fn refused(number: u8) -> Checked
     Checked {
         verdict: refusals::refused(number),
         faces: 0,
+        parts: 0,
     }
 }
 
-// The checks 9, 10 and 12 in order, of a map that the checks 3 to 5 left in range. Flatness in each part is a matter of the totals (document 02, Job 8):
-// nodes − channels + faces = 2 · parts. Where they pass, `lefts` holds the face at the left of each dart.
-pub fn check_map<'a>(
+// Check 12, of a map that is sound. Flatness in each part is a matter of the totals (document 02, Job 8): nodes − channels + faces = 2 · parts. `tails` is
+// named by the contract only.
+fn check_flat<'a>(
     tails: &'a [u16; 1024],
     rotations: &'a [u16; 1024],
     nodes: usize,
     edges: usize,
+    parts: usize,
     lefts: &mut [u16; 1024],
+    grouped: &mut [u16; 1024],
+    starts: &mut [u16; 1024],
+    ends: &mut [u16; 1024],
 ) -> Checked
-    requires { ⌜ (0 < edges) × (edges ≤ 512) × (nodes ≤ 1024) × (length (now lefts) ≡ 1024) × InRange (mapOf nodes edges (now tails) (now rotations)) ⌝ }
-    ensures { λ r. ⌜ (length (now (lefts .exit)) ≡ 1024)
-        × MapJudged (mapOf nodes edges (now (tails .entry)) (now (rotations .entry))) (at (now (lefts .exit))) (r .faces) (r .verdict) ⌝ }
+    requires { ⌜ (edges ≤ 512) × (nodes ≤ 1024) × (length (now lefts) ≡ 1024) × (length (now grouped) ≡ 1024)
+        × (length (now starts) ≡ 1024) × (length (now ends) ≡ 1024) × Sound (mapOf nodes edges (now tails) (now rotations))
+        × (parts ≤ 2 * edges) × ((part : ℕ → ℕ) × Components (mapOf nodes edges (now tails) (now rotations)) parts part) ⌝ }
+    ensures { λ r. ⌜ (length (now (lefts .exit)) ≡ 1024) × (length (now (grouped .exit)) ≡ 1024)
+        × (length (now (starts .exit)) ≡ 1024) × (length (now (ends .exit)) ≡ 1024)
+        × MapJudged (mapOf nodes edges (now (tails .entry)) (now (rotations .entry))) (at (now (lefts .exit))) (r .faces) (r .verdict)
+        × IfPassed (r .verdict) ((r .parts ≡ parts)
+        × Grouped (rightOf (now (lefts .exit))) (2 * edges) (r .faces) (now (grouped .exit)) (now (starts .exit)) (now (ends .exit))) ⌝ }
+{
+    let faces = number_faces(rotations, edges, lefts, grouped, starts, ends);
+    if nodes + faces != edges + 2 * parts {
+        return refused(12);
+    }
+    Checked {
+        verdict: Verdict::Passed,
+        faces: faces,
+        parts: parts,
+    }
+}
+
+// Walks over all darts from `outer` on, part by part, and answers how many parts there are; 0 where the darts of some node are not one round, or it has none:
+// then 9 or 10 holds, and which of them is not told.
+fn walk_nodes<'a>(
+    tails: &'a [u16; 1024],
+    rotations: &'a [u16; 1024],
+    nodes: usize,
+    edges: usize,
+    outer: usize,
+    order: &mut [u16; 1024],
+    from: &mut [u16; 1024],
+) -> usize
+    requires { ⌜ (edges ≤ 512) × (nodes ≤ 1024) × (outer < 2 * edges) × (length (now order) ≡ 1024) × (length (now from) ≡ 1024)
+        × InRange (mapOf nodes edges (now tails) (now rotations)) ⌝ }
+    ensures { λ r. ⌜ (length (now (order .exit)) ≡ 1024) × (length (now (from .exit)) ≡ 1024)
+        × (r ≢ 0 → Sound (mapOf nodes edges (now (tails .entry)) (now (rotations .entry)))
+        × Forest (2 * edges) (at (now (rotations .entry))) outer (at (now (order .exit))) (at (now (from .exit))) r) ⌝ }
+{
+    let darts = 2 * edges;
+    let mut owner = [0u16; 1024];
+    let trees = traversal::spread_rounds(tails, rotations, darts, outer, order, from, &mut owner);
+    if trees == 0 {
+        return 0;
+    }
+    if some_empty(&owner, nodes) {
+        return 0;
+    }
+    trees
+}
+
+// The checks 9, 10 and 12 one by one, for the number of the first that holds.
+fn check_in_turn<'a>(
+    tails: &'a [u16; 1024],
+    rotations: &'a [u16; 1024],
+    nodes: usize,
+    edges: usize,
+    outer: usize,
+    lefts: &mut [u16; 1024],
+    order: &mut [u16; 1024],
+    from: &mut [u16; 1024],
+    grouped: &mut [u16; 1024],
+    starts: &mut [u16; 1024],
+    ends: &mut [u16; 1024],
+) -> Checked
+    requires { ⌜ (edges ≤ 512) × (nodes ≤ 1024) × (outer < 2 * edges) × (length (now lefts) ≡ 1024) × (length (now order) ≡ 1024)
+        × (length (now from) ≡ 1024) × (length (now grouped) ≡ 1024) × (length (now starts) ≡ 1024) × (length (now ends) ≡ 1024)
+        × InRange (mapOf nodes edges (now tails) (now rotations)) ⌝ }
+    ensures { λ r. ⌜ (length (now (lefts .exit)) ≡ 1024) × (length (now (order .exit)) ≡ 1024) × (length (now (from .exit)) ≡ 1024)
+        × (length (now (grouped .exit)) ≡ 1024) × (length (now (starts .exit)) ≡ 1024) × (length (now (ends .exit)) ≡ 1024)
+        × MapJudged (mapOf nodes edges (now (tails .entry)) (now (rotations .entry))) (at (now (lefts .exit))) (r .faces) (r .verdict)
+        × IfPassed (r .verdict) (Walked (2 * edges) (r .faces) outer (r .parts) (at (now (rotations .entry))) (now (lefts .exit))
+        (now (order .exit)) (now (from .exit)) (now (grouped .exit)) (now (starts .exit)) (now (ends .exit))) ⌝ }
 {
     if rotation_fault(tails, rotations, nodes, edges) {
         return refused(9);
@@ -210,15 +334,69 @@ pub fn check_map<'a>(
     if node_fault(tails, rotations, nodes, edges) {
         return refused(10);
     }
-    let parts = count_parts(tails, rotations, nodes, edges);
-    let mut steps = [0u16; 1024];
-    fill_steps(rotations, edges, &mut steps);
-    let count = number_orbits(&steps, 2 * edges, lefts);
-    if nodes + count != edges + 2 * parts {
-        return refused(12);
+    let parts = traversal::spread_all(rotations, 2 * edges, outer, order, from);
+    check_flat(
+        tails,
+        rotations,
+        nodes,
+        edges,
+        parts,
+        lefts,
+        grouped,
+        starts,
+        ends,
+    )
+}
+
+// The checks 9, 10 and 12 in order, of a map that the checks 3 to 5 left in range. One walk over the darts, from `outer` on, decides at once that neither 9 nor
+// 10 holds. Where all pass, `lefts` holds the face at the left of each dart, and the other arrays the walk and the darts in groups.
+pub fn check_map<'a>(
+    tails: &'a [u16; 1024],
+    rotations: &'a [u16; 1024],
+    nodes: usize,
+    edges: usize,
+    outer: usize,
+    lefts: &mut [u16; 1024],
+    order: &mut [u16; 1024],
+    from: &mut [u16; 1024],
+    grouped: &mut [u16; 1024],
+    starts: &mut [u16; 1024],
+    ends: &mut [u16; 1024],
+) -> Checked
+    requires { ⌜ (edges ≤ 512) × (nodes ≤ 1024) × (outer < 2 * edges) × (length (now lefts) ≡ 1024) × (length (now order) ≡ 1024)
+        × (length (now from) ≡ 1024) × (length (now grouped) ≡ 1024) × (length (now starts) ≡ 1024) × (length (now ends) ≡ 1024)
+        × InRange (mapOf nodes edges (now tails) (now rotations)) ⌝ }
+    ensures { λ r. ⌜ (length (now (lefts .exit)) ≡ 1024) × (length (now (order .exit)) ≡ 1024) × (length (now (from .exit)) ≡ 1024)
+        × (length (now (grouped .exit)) ≡ 1024) × (length (now (starts .exit)) ≡ 1024) × (length (now (ends .exit)) ≡ 1024)
+        × MapJudged (mapOf nodes edges (now (tails .entry)) (now (rotations .entry))) (at (now (lefts .exit))) (r .faces) (r .verdict)
+        × IfPassed (r .verdict) (Walked (2 * edges) (r .faces) outer (r .parts) (at (now (rotations .entry))) (now (lefts .exit))
+        (now (order .exit)) (now (from .exit)) (now (grouped .exit)) (now (starts .exit)) (now (ends .exit))) ⌝ }
+{
+    let parts = walk_nodes(tails, rotations, nodes, edges, outer, order, from);
+    if parts == 0 {
+        return check_in_turn(
+            tails,
+            rotations,
+            nodes,
+            edges,
+            outer,
+            lefts,
+            order,
+            from,
+            grouped,
+            starts,
+            ends,
+        );
     }
-    Checked {
-        verdict: Verdict::Passed,
-        faces: count,
-    }
+    check_flat(
+        tails,
+        rotations,
+        nodes,
+        edges,
+        parts,
+        lefts,
+        grouped,
+        starts,
+        ends,
+    )
 }

@@ -30,3 +30,9 @@ module _ (G : Given) (queue : List ℕ) (roots : ℕ) (size : length queue ≡ 1
       (subst (λ p. Answer (dual G (take roots queue)) (s .end .tables .potentials) p o) (s .parents-are)
       (end-answer G (take roots queue) sound joined (s .end)
       (goes-passing G (take roots queue) sound g (begun-passing G queue roots size few sound joined (s .begun)) (s .run)) o (s .ended)))
+
+  -- the parents are still an array of 1,024
+  pub parents-sized : {potentials : List ℤ} {parents : List ℕ} {o : Outcome} → Searches G queue roots potentials parents o → length parents ≡ 1024
+  parents-sized s =
+      subst (λ p. length p ≡ 1024) (s .parents-are)
+      (goes-passing G (take roots queue) sound g (begun-passing G queue roots size few sound joined (s .begun)) (s .run) .size-parents)

@@ -23,7 +23,10 @@ use Rattle.records.specs.Sheet.{headLength, nodesOf, edgesOf, outerOf, edgeAt, 
 use Rattle.records.specs.Sheet.{tailOf, rotationOf, capacityOf, sheetMap, sheetDrawing, byteChecks}
 use Rattle.records.proofs.Bytes.{head-whole, bytes-head, bytes-length, bytes-counts}
 use Rattle.sheets.specs.declared.Opened.{Opened}
+use Rattle.rotations.specs.inner.Passing.{IfPassed}
+use Rattle.grouping.specs.inner.Walked.{Walked}
 use Rattle.sheets.specs.Open.{sheetChecks, Numbers, Opens}
+use Rattle.sheets.specs.inner.Prepared.{Prepared}
 
 module _ (s : List ℕ) (edges : ℕ) (are : edges ≡ edgesOf s) where
   all : 2 * edges ≡ 2 * edgesOf s
@@ -80,3 +83,22 @@ opens-passed s lefts o e h = subst (Opens s lefts o) e h
 
 pub opens-first : (s lefts : List ℕ) (o : Opened) {k p : ℕ} {v : Verdict} → v ≡ Refused k p → Opens s lefts o v → FirstOf (sheetChecks s) k p
 opens-first s lefts o e h = subst (Opens s lefts o) e h
+
+-- the walk over the arrays is one over the sheet's rotations
+pub prepared-if : (s : List ℕ) (o : Opened) (v : Verdict) (edges outer : ℕ) (tails rotations lefts order from grouped starts ends : List ℕ)
+    → edges ≡ edgesOf s → outer ≡ outerOf s → at tails ≡ tailOf s → at rotations ≡ rotationOf s
+    → IfPassed v (Walked (2 * edges) (o .faces) outer (o .parts) (at rotations) lefts order from grouped starts ends)
+    → IfPassed v (Prepared s o tails rotations lefts order from grouped starts ends)
+prepared-if s o Passed edges outer tails rotations lefts order from grouped starts ends e u t r w = record {
+  tails-are = t;
+  rotations-are = r;
+  walked =
+      subst (λ n. Walked (2 * n) (o .faces) (outerOf s) (o .parts) (rotationOf s) lefts order from grouped starts ends) e
+      (subst (λ d. Walked (2 * edges) (o .faces) d (o .parts) (rotationOf s) lefts order from grouped starts ends) u
+      (subst (λ f. Walked (2 * edges) (o .faces) outer (o .parts) f lefts order from grouped starts ends) r w));
+}
+prepared-if s o (Refused k p) edges outer tails rotations lefts order from grouped starts ends e u t r w = tt
+
+-- what was prepared, where the verdict that was looked at is that it passed
+pub if-passed : {v : Verdict} {P : Type 0} → v ≡ Passed → IfPassed v P → P
+if-passed {P = P} e h = subst (λ v. IfPassed v P) e h

@@ -13,7 +13,9 @@ ghost use Rattle.records.specs.Record.{recordLength};
 ghost use Rattle.records.specs.Sheet.{edgesOf, edgeAt, field16, field32, tailOf, rotationOf, capacityOf, byteChecks};
 ghost use Rattle.records.specs.Check.{edgeChecks};
 ghost use Rattle.records.specs.Encode.{outerHeadBytes, edgeBytes, encodeHead, encode, encodeLength};
+ghost use Rattle.rotations.specs.inner.Passing.{IfPassed};
 ghost use Rattle.sheets.specs.Open.{Opens};
+ghost use Rattle.sheets.specs.inner.Prepared.{Prepared};
 ghost use Rattle.sheets.specs.Read.{Reads};
 ghost use Rattle.arrays.specs.Filled.{filled};
 ghost use Rattle.sheets.specs.Write.{edgesIn, slicesDrawing, drawingChecks, Writes};
@@ -32,12 +34,13 @@ pub struct Network {
     pub lefts: [u16; 1024],
 }
 
-// The verdict of the sheet checks; where they passed, the numbers of the sheet's drawing.
+// The verdict of the sheet checks; where they passed, the numbers of the sheet's drawing, and how many parts it has.
 pub struct Opened {
     pub verdict: Verdict,
     pub nodes: usize,
     pub edges: usize,
     pub faces: usize,
+    pub parts: usize,
     pub outer: usize,
 }
 
@@ -103,15 +106,33 @@ fn refused(number: u8, place: u16) -> Opened
         nodes: 0,
         edges: 0,
         faces: 0,
+        parts: 0,
         outer: 0,
     }
 }
 
-// The sheet checks on any bytes. Of a sheet that passes them it gives the numbers, and the left face of each dart. Tails and rotations are read into arrays of
-// its own, since no two fields of a caller's record can be lent beside one that is written.
-pub fn open(s: &[u8], lefts: &mut [u16; 1024]) -> Opened
-    requires { ⌜ length (now lefts) ≡ 1024 ⌝ }
-    ensures { λ r. ⌜ (length (now (lefts .exit)) ≡ 1024) × Opens (now (s .entry)) (now (lefts .exit)) r (r .verdict) ⌝ }
+// The sheet checks on any bytes. Of a sheet that passes them it gives the numbers, the tail, the rotation and the left face of each dart, and what decisions
+// need: a walk over all darts from the outer dart on, and the darts in groups by their right faces. `tails` and `rotations` are all zeros before.
+pub fn open_walked(
+    s: &[u8],
+    tails: &mut [u16; 1024],
+    rotations: &mut [u16; 1024],
+    lefts: &mut [u16; 1024],
+    order: &mut [u16; 1024],
+    from: &mut [u16; 1024],
+    grouped: &mut [u16; 1024],
+    starts: &mut [u16; 1024],
+    ends: &mut [u16; 1024],
+) -> Opened
+    requires { ⌜ (length (now tails) ≡ 1024) × ((d : ℕ) → at (now tails) d ≡ 0) × (length (now rotations) ≡ 1024) × ((d : ℕ) → at (now rotations) d ≡ 0)
+        × (length (now lefts) ≡ 1024) × (length (now order) ≡ 1024) × (length (now from) ≡ 1024)
+        × (length (now grouped) ≡ 1024) × (length (now starts) ≡ 1024) × (length (now ends) ≡ 1024) ⌝ }
+    ensures { λ r. ⌜ (length (now (tails .exit)) ≡ 1024) × (length (now (rotations .exit)) ≡ 1024)
+        × (length (now (lefts .exit)) ≡ 1024) × (length (now (order .exit)) ≡ 1024) × (length (now (from .exit)) ≡ 1024)
+        × (length (now (grouped .exit)) ≡ 1024) × (length (now (starts .exit)) ≡ 1024) × (length (now (ends .exit)) ≡ 1024)
+        × Opens (now (s .entry)) (now (lefts .exit)) r (r .verdict)
+        × IfPassed (r .verdict) (Prepared (now (s .entry)) r (now (tails .exit)) (now (rotations .exit)) (now (lefts .exit))
+        (now (order .exit)) (now (from .exit)) (now (grouped .exit)) (now (starts .exit)) (now (ends .exit))) ⌝ }
 {
     let bytes = records::check_bytes(s);
     if let Verdict::Refused(k, p) = bytes {
@@ -119,19 +140,56 @@ pub fn open(s: &[u8], lefts: &mut [u16; 1024]) -> Opened
     }
     let nodes = records::nodes_of(s);
     let edges = records::edges_of(s);
-    let mut tails = [0u16; 1024];
-    let mut rotations = [0u16; 1024];
-    fill_tails(s, edges, &mut tails);
-    fill_rotations(s, edges, &mut rotations);
-    let checked = rotations::check_map(&tails, &rotations, nodes, edges, lefts);
+    let outer = records::outer_of(s);
+    fill_tails(s, edges, tails);
+    fill_rotations(s, edges, rotations);
+    let checked = rotations::check_map(
+        &*tails,
+        &*rotations,
+        nodes,
+        edges,
+        outer,
+        lefts,
+        order,
+        from,
+        grouped,
+        starts,
+        ends,
+    );
     let verdict = checked.verdict;
     Opened {
         verdict: verdict,
         nodes: nodes,
         edges: edges,
         faces: checked.faces,
-        outer: records::outer_of(s),
+        parts: checked.parts,
+        outer: outer,
     }
+}
+
+// The same for who needs the numbers and the left faces only.
+pub fn open(s: &[u8], lefts: &mut [u16; 1024]) -> Opened
+    requires { ⌜ length (now lefts) ≡ 1024 ⌝ }
+    ensures { λ r. ⌜ (length (now (lefts .exit)) ≡ 1024) × Opens (now (s .entry)) (now (lefts .exit)) r (r .verdict) ⌝ }
+{
+    let mut tails = [0u16; 1024];
+    let mut rotations = [0u16; 1024];
+    let mut order = [0u16; 1024];
+    let mut from = [0u16; 1024];
+    let mut grouped = [0u16; 1024];
+    let mut starts = [0u16; 1024];
+    let mut ends = [0u16; 1024];
+    open_walked(
+        s,
+        &mut tails,
+        &mut rotations,
+        lefts,
+        &mut order,
+        &mut from,
+        &mut grouped,
+        &mut starts,
+        &mut ends,
+    )
 }
 
 // What Read answers: both counts and a dart on the outer face, or the number of a refusal and its place.
@@ -268,9 +326,26 @@ fn check_slices(
     let mut all_tails = [0u16; 1024];
     let mut all_rotations = [0u16; 1024];
     let mut lefts = [0u16; 1024];
+    let mut order = [0u16; 1024];
+    let mut from = [0u16; 1024];
+    let mut grouped = [0u16; 1024];
+    let mut starts = [0u16; 1024];
+    let mut ends = [0u16; 1024];
     load(tails, &mut all_tails);
     load(rotations, &mut all_rotations);
-    let checked = rotations::check_map(&all_tails, &all_rotations, nodes, edges, &mut lefts);
+    let checked = rotations::check_map(
+        &all_tails,
+        &all_rotations,
+        nodes,
+        edges,
+        outer,
+        &mut lefts,
+        &mut order,
+        &mut from,
+        &mut grouped,
+        &mut starts,
+        &mut ends,
+    );
     let verdict = checked.verdict;
     verdict
 }

@@ -13,14 +13,21 @@ use Rattle.maps.proofs.Darts.{rev-rev, rev-in}
 use Rattle.search.specs.Dual.{Dual}
 use Rattle.search.specs.Parents.{ParentRing}
 use Rattle.search.specs.inner.Settled.{Still, Settled}
+use Rattle.search.specs.declared.Outcome.{Outcome}
+use Rattle.search.specs.declared.Outcome.the-variants as outcome
 use Rattle.edge_flows.specs.inner.Flow.{flowOf, Flowing}
 use Rattle.arrays.specs.inner.Sizes.{mostPotential, mostCapacity}
-use Rattle.solver.specs.inner.Search.{Searchable}
+use Rattle.solver.specs.inner.Search.{Searchable, Searched}
 
 -- of a ring, all that is said is that no flow was written and that the parents lead round it
 pub ring-kept : {N : Dual} {parent : ℕ → ℕ} {d : ℕ} (flows : List ℤ) → d < N .darts
     → ParentRing N parent (N .left d) → (flows ≡ flows) × (d < N .darts) × ParentRing N parent (N .left d)
 ring-kept flows l r = (refl, l, r)
+
+-- the outcome is known to be a ring
+pub searched-ring : (N : Dual) (edges : ℕ) (capacity : ℕ → ℤ) (flows flows' : List ℤ) (parent : ℕ → ℕ) (o : Outcome) {d : ℕ} → o ≡ outcome.Ring d
+    → Searched N edges capacity flows flows' parent o → (flows' ≡ flows) × (d < N .darts) × ParentRing N parent (N .left d)
+searched-ring N edges capacity flows flows' parent o e h = rw e at h
 
 mag-limited : (b : ℕ) (x : ℤ) → mag x ≤ b → Limited (b + 1) x
 mag-limited b (pos n) h = record { low = at-most (search parts) (omega arith); high = at-most (search parts) (omega arith) }

@@ -86,6 +86,25 @@ module _ {𝓜 : Map} (σ : Sound 𝓜) {first : ℕ} {order from : ℕ → ℕ}
       go (no h) (yes q) = absurd (apart-less u t q l (walk-back w))
       go (no h) (no q) = omega (arith, h, q)
 
+  -- a dart marked with its own number begins a tree, and no two such darts are in one part
+  own-start : (d : ℕ) → d < darts 𝓜 → from d ≡ d → (t : ℕ) × (t < trees) × (order (τ .begins t) ≡ d)
+  own-start d l own = go (listed-at d l)
+    where
+      go : Met order (darts 𝓜) d → (t : ℕ) × (t < trees) × (order (τ .begins t) ≡ d)
+      go (i, m, e) = by (τ .met i m)
+        where
+          by : ((t : ℕ) × (t < trees) × (τ .begins t ≡ i)) ⊎ Reached (𝓜 .rotation) order from i → (t : ℕ) × (t < trees) × (order (τ .begins t) ≡ d)
+          by (inl (t, h, b)) = (t, h, ap order b ∙ e)
+          by (inr r) = absurd (omega (arith, r .1, 𝓕 .apart (r .0) i (omega (arith, r .1)) m (r .2 ∙ ap from e ∙ own ∙ sym e)))
+
+  pub own-one : (d e : ℕ) → d < darts 𝓜 → e < darts 𝓜 → from d ≡ d → from e ≡ e → Walk 𝓜 (𝓜 .tail d) (𝓜 .tail e) → d ≡ e
+  own-one d e l m p q w =
+      let t = own-start d l p in
+      let u = own-start e m q in
+      let v : Walk 𝓜 (𝓜 .tail d) (at-start (u .0)) = subst (λ x. Walk 𝓜 (𝓜 .tail d) (𝓜 .tail x)) (sym (u .2)) w in
+      let z : Walk 𝓜 (at-start (t .0)) (at-start (u .0)) = subst (λ x. Walk 𝓜 (𝓜 .tail x) (at-start (u .0))) (sym (t .2)) v in
+      sym (t .2) ∙ ap start (one-tree (t .0) (u .0) (t .1) (u .1) z) ∙ u .2
+
   -- ── the tree of a node ──
   same-label : ℕ → ℕ → Bool
   same-label v t = eqb (node-label 𝓜 (𝓜 .edges) (at-start t)) (node-label 𝓜 (𝓜 .edges) v)

@@ -5,3 +5,4 @@ pub mod Reach
 pub mod Forests
 pub mod Rooting
 pub mod Flagging
+pub mod Rounding

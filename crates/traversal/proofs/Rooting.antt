@@ -78,16 +78,21 @@ pub trees-few : {n : ℕ} {rotation : ℕ → ℕ} {first : ℕ} {order from : �
 trees-few {n} {trees = trees} 𝓕 =
     at-most-n n trees (𝓕 .planted .begins) (𝓕 .planted .begins-in) (λ t u l m e. begins-apart (𝓕 .planted) t u l m e)
 
--- all places are passed
+-- where a tree is not yet found, its place is still ahead
+pub rooting-ahead : {rotation : ℕ → ℕ} {first : ℕ} {order from : ℕ → ℕ} {n trees : ℕ} (τ : Trees rotation first order from n trees)
+    {left roots : ℕ → ℕ} {i count : ℕ} → Rooting rotation first order from n trees τ left roots i count → count < trees → i < n
+rooting-ahead {n = n} τ {i = i} {count = count} ξ l = go (decLt (τ .begins count) i)
+  where
+    go : Dec (τ .begins count < i) → i < n
+    go (yes p) = absurd (omega (arith, ξ .counted count l p))
+    go (no p) = omega (arith, p, τ .begins-in count l)
+
+-- all trees are found
 pub rooting-end : {rotation : ℕ → ℕ} {first : ℕ} {order from : ℕ → ℕ} {n trees : ℕ}
     (𝓕 : Forest n rotation first order from trees) {left roots : ℕ → ℕ} {i count : ℕ}
-    → n ≤ i → Rooting rotation first order from n trees (𝓕 .planted) left roots i count → RootsOf n rotation first left roots trees
-rooting-end {order = order} {from = from} 𝓕 over ξ = record {
-  order = order;
-  from = from;
-  forest = 𝓕;
-  are = λ t l. ξ .written t (ξ .counted t l (omega (arith, 𝓕 .planted .begins-in t l))) .2;
-}
+    → trees ≤ count → Rooting rotation first order from n trees (𝓕 .planted) left roots i count → RootsOf n rotation first left roots trees
+rooting-end {order = order} {from = from} 𝓕 over ξ =
+    record { order = order; from = from; forest = 𝓕; are = λ t l. ξ .written t (omega arith) .2 }
 
 -- ── of a map ──
 pub roots-few : {n : ℕ} {rotation : ℕ → ℕ} {first : ℕ} {left roots : ℕ → ℕ} {trees : ℕ} → RootsOf n rotation first left roots trees → trees ≤ n

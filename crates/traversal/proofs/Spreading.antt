@@ -44,6 +44,15 @@ added-new {d} {origin} {end} {from} {from'} {order} {order'} small z put keep la
     on y h (yes p) = inr (p, omega arith)
     on y h (no p) = inl (λ e. h (keep y p ∙ e))
 
+-- a dart that was not met makes the order longer
+pub added-grew : {d origin end end' : ℕ} {from from' order order' : ℕ → ℕ} → Added d origin from from' order order' end end'
+    → from d ≡ unmarked → end' ≡ end + 1
+added-grew {d} {end = end} {end' = end'} {from = from} a z = go (a .only d (a .has))
+  where
+    go : (from d ≢ unmarked) ⊎ ((d ≡ d) × (end < end')) → end' ≡ end + 1
+    go (inl h) = absurd (h z)
+    go (inr r) = omega (arith, r .1, a .by-one)
+
 -- numbers below n, no two equal, are at most n
 pub at-most-n : (n m : ℕ) (g : ℕ → ℕ) → ((i : ℕ) → i < m → g i < n) → ((i j : ℕ) → i < m → j < m → g i ≡ g j → i ≡ j) → m ≤ n
 at-most-n n m g inside apart = go (decLt n m)
@@ -113,6 +122,18 @@ module _ {darts : ℕ} {rotation : ℕ → ℕ} {first : ℕ} {order from : ℕ 
       go : Dec (end ≡ darts) → end < darts
       go (yes e) = absurd (full (all-met darts end order (ξ .inside) (ξ .apart) e d l))
       go (no e) = omega (arith, few, e)
+
+  -- a full order: every dart is marked
+  pub all-marked : darts ≤ end → (d : ℕ) → d < darts → from d ≢ unmarked
+  all-marked h d l z = omega (arith, room d l z)
+
+  -- an order that is not full: the darts below `next` being marked, there are darts from `next` on
+  pub some-left : {next : ℕ} → end < darts → ((d : ℕ) → d < next → from d ≢ unmarked) → next < darts
+  some-left {next} l below = go (decLt next darts)
+    where
+      go : Dec (next < darts) → next < darts
+      go (yes h) = h
+      go (no h) = absurd (omega (arith, at-least-n darts end order (λ d m. ξ .listed d m (below d (omega (arith, h))))))
 
   -- each tree has a place of its own
   pub trees-few : trees ≤ end
@@ -231,8 +252,8 @@ module _ {darts : ℕ} {rotation : ℕ → ℕ} {first d origin : ℕ} {order or
         subst (λ x. Met order' n (rev x)) (sym e) (met-still n (rev (order i)) l (r .1)),
       )
 
-  -- a neighbour of the dart at the front
-  module _ (l : front < end) (is-front : origin ≡ order front) (near : Follows rotation d (order front)) where
+  -- a neighbour of the dart at place j
+  module _ {j : ℕ} (l : j < end) (is-there : origin ≡ order j) (near : Follows rotation d (order j)) where
     τ : Trees rotation first order from end trees
     τ = ξ .planted
 
@@ -250,12 +271,12 @@ module _ {darts : ℕ} {rotation : ℕ → ℕ} {first d origin : ℕ} {order or
         let r = last i m p in
         let w = a .new (r .1) in
         let e : order' i ≡ d = ap order' (r .0) ∙ w .0 in
-        let o : from' (order' i) ≡ order front = ap from' e ∙ w .2 ∙ is-front in
-        inr (front, omega (arith, r .0), a .kept front l ∙ sym o, follows-same rotation e o near)
+        let o : from' (order' i) ≡ order j = ap from' e ∙ w .2 ∙ is-there in
+        inr (j, omega (arith, r .0), a .kept j l ∙ sym o, follows-same rotation e o near)
 
     pub growing-added : Growing darts rotation first order' from' front end' trees
     growing-added = record {
-      ordered = omega (arith, a .longer);
+      ordered = omega (arith, a .longer, ξ .ordered);
       inside = λ i m. inside' i m (decLt i end);
       apart = λ i j m n e. apart' i j m n e (decLt i end) (decLt j end);
       marked = λ i m. marked' i m (decLt i end);
@@ -281,11 +302,7 @@ module _ {darts : ℕ} {rotation : ℕ → ℕ} {first d : ℕ} {order order' fr
   σ = ξ .planted
 
   grew : end < end'
-  grew = go (a .only d (a .has))
-    where
-      go : (from d ≢ unmarked) ⊎ ((d ≡ d) × (end < end')) → end < end'
-      go (inl h) = absurd (h (π .fresh))
-      go (inr r) = r .1
+  grew = omega (arith, added-grew a (π .fresh))
 
   -- the places at which trees begin now: the new one at the end
   starts : ℕ → ℕ

@@ -2,3 +2,4 @@
 pub mod Mark
 pub mod Spread
 pub mod Forest
+pub mod Rounds

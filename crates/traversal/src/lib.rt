@@ -11,6 +11,7 @@ ghost use Rattle.traversal.specs.inner.Mark.{unmarked};
 ghost use Rattle.refusals.specs.Order.{Decides};
 ghost use Rattle.traversal.specs.inner.Spread.{Spread, Added, FlagsMet};
 ghost use Rattle.traversal.specs.inner.Forest.{Forest, Growing, Plantable, RootsOf};
+ghost use Rattle.traversal.specs.inner.Rounds.{Rounds, Joinable};
 
 // The mark of a place that has no number yet: for a dart, that it was not met. Numbers stay below 1,024.
 const UNMARKED: u16 = 65535;
@@ -136,6 +137,183 @@ pub fn spread_all(
     trees
 }
 
+// Lists the round of d: d as met from `origin`, each other dart as met from the one before it. Answers the new end, or 0 where d's node has a round already, or
+// the walk round d meets another tail or a dart that was met. `first`, `trees` and `front`, the place of `origin`, are named by the contract only.
+fn add_round<'a>(
+    tails: &'a [u16; 1024],
+    rotations: &'a [u16; 1024],
+    darts: usize,
+    first: usize,
+    trees: usize,
+    front: usize,
+    order: &mut [u16; 1024],
+    from: &mut [u16; 1024],
+    owner: &mut [u16; 1024],
+    end: usize,
+    d: usize,
+    origin: usize,
+) -> usize
+    requires { ⌜ (length (now order) ≡ 1024) × (length (now from) ≡ 1024) × (length (now owner) ≡ 1024) × (darts ≤ 1024)
+        × ((d : ℕ) → d < darts → at (now rotations) d < darts) × ((d : ℕ) → d < darts → at (now tails) d < 1024)
+        × (d < darts) × (origin < 1024) × (end < 1024) × (at (now from) d ≡ unmarked)
+        × Joinable darts (at (now rotations)) first (at (now order)) (at (now from)) front end (trees + 1) d origin
+        × Rounds darts (at (now tails)) (at (now rotations)) (at (now from)) (at (now owner)) ⌝ }
+    ensures { λ r. ⌜ (length (now (order .exit)) ≡ 1024) × (length (now (from .exit)) ≡ 1024) × (length (now (owner .exit)) ≡ 1024)
+        × (r ≢ 0 → Growing darts (at (now (rotations .entry))) first (at (now (order .exit))) (at (now (from .exit))) front r (trees + 1)
+        × Rounds darts (at (now (tails .entry))) (at (now (rotations .entry))) (at (now (from .exit))) (at (now (owner .exit)))
+        × (at (now (from .exit)) d ≢ unmarked)
+        × ((i : ℕ) → i < end → at (now (order .exit)) i ≡ at (now (order .entry)) i) × (end < r)
+        × ((y : ℕ) → at (now (from .entry)) y ≢ unmarked → at (now (from .exit)) y ≢ unmarked)) ⌝ }
+{
+    let v = arrays::wide(tails[d]);
+    if owner[v] != 0 {
+        return 0;
+    }
+    owner[v] = arrays::narrow(d + 1);
+    let mut last = d;
+    let mut next = arrays::wide(rotations[d]);
+    let mut listed = add(order, from, end, d, origin);
+    while next != d {
+        if from[next] != UNMARKED {
+            return 0;
+        }
+        if arrays::wide(tails[next]) != v {
+            return 0;
+        }
+        listed = add(order, from, listed, next, last);
+        last = next;
+        next = arrays::wide(rotations[next]);
+    }
+    listed
+}
+
+// Begins a tree at d, round by round: from each dart met it goes on to the round of its reverse. Answers the new end, or 0 where a round was not one. `first`
+// and `trees`, the trees listed before, are named by the contract only.
+fn grow_rounds<'a>(
+    tails: &'a [u16; 1024],
+    rotations: &'a [u16; 1024],
+    darts: usize,
+    first: usize,
+    trees: usize,
+    order: &mut [u16; 1024],
+    from: &mut [u16; 1024],
+    owner: &mut [u16; 1024],
+    listed: usize,
+    d: usize,
+) -> usize
+    requires { ⌜ (length (now order) ≡ 1024) × (length (now from) ≡ 1024) × (length (now owner) ≡ 1024) × (darts ≤ 1024) × (darts % 2 ≡ 0)
+        × ((d : ℕ) → d < darts → at (now rotations) d < darts) × ((d : ℕ) → d < darts → at (now tails) d < 1024)
+        × Growing darts (at (now rotations)) first (at (now order)) (at (now from)) listed listed trees
+        × Plantable darts first (at (now from)) listed trees d
+        × Rounds darts (at (now tails)) (at (now rotations)) (at (now from)) (at (now owner)) ⌝ }
+    ensures { λ r. ⌜ (length (now (order .exit)) ≡ 1024) × (length (now (from .exit)) ≡ 1024) × (length (now (owner .exit)) ≡ 1024)
+        × (r ≢ 0 → Growing darts (at (now (rotations .entry))) first (at (now (order .exit))) (at (now (from .exit))) r r (trees + 1)
+        × Rounds darts (at (now (tails .entry))) (at (now (rotations .entry))) (at (now (from .exit))) (at (now (owner .exit)))
+        × (at (now (from .exit)) d ≢ unmarked)
+        × ((y : ℕ) → at (now (from .entry)) y ≢ unmarked → at (now (from .exit)) y ≢ unmarked)) ⌝ }
+{
+    let mut head: usize = listed;
+    let mut end = add_round(
+        tails,
+        rotations,
+        darts,
+        first,
+        trees,
+        listed,
+        order,
+        from,
+        owner,
+        listed,
+        d,
+        d,
+    );
+    while head < end {
+        let front = head;
+        let p = arrays::wide(order[front]);
+        let back = arrays::reverse(p);
+        head += 1;
+        if from[back] == UNMARKED {
+            end = add_round(
+                tails,
+                rotations,
+                darts,
+                first,
+                trees,
+                front,
+                order,
+                from,
+                owner,
+                end,
+                back,
+                p,
+            );
+        }
+    }
+    end
+}
+
+// All darts, tree by tree as in `spread_all`, if the darts that leave a node are one round of the rotation, and how many trees there are; 0 if they are not.
+// `owner`, all zeros before, has 1 more than a dart of each node that some dart leaves.
+pub fn spread_rounds<'a>(
+    tails: &'a [u16; 1024],
+    rotations: &'a [u16; 1024],
+    darts: usize,
+    first: usize,
+    order: &mut [u16; 1024],
+    from: &mut [u16; 1024],
+    owner: &mut [u16; 1024],
+) -> usize
+    requires { ⌜ (length (now order) ≡ 1024) × (length (now from) ≡ 1024) × (length (now owner) ≡ 1024) × (darts ≤ 1024) × (darts % 2 ≡ 0)
+        × ((d : ℕ) → d < darts → at (now rotations) d < darts) × ((d : ℕ) → d < darts → at (now tails) d < 1024)
+        × (first < darts) × ((v : ℕ) → at (now owner) v ≡ 0) ⌝ }
+    ensures { λ r. ⌜ (length (now (order .exit)) ≡ 1024) × (length (now (from .exit)) ≡ 1024) × (length (now (owner .exit)) ≡ 1024)
+        × (r ≢ 0 → Forest darts (at (now (rotations .entry))) first (at (now (order .exit))) (at (now (from .exit))) r
+        × Rounds darts (at (now (tails .entry))) (at (now (rotations .entry))) (at (now (from .exit))) (at (now (owner .exit)))
+        × ((d : ℕ) → d < darts → at (now (from .exit)) d ≢ unmarked)) ⌝ }
+{
+    unmark_all(from);
+    let mut end = grow_rounds(
+        tails,
+        rotations,
+        darts,
+        first,
+        0,
+        order,
+        from,
+        owner,
+        0,
+        first,
+    );
+    if end == 0 {
+        return 0;
+    }
+    let mut trees: usize = 1;
+    let mut next: usize = 0;
+    while end < darts {
+        let d = next;
+        next += 1;
+        if from[d] == UNMARKED {
+            end = grow_rounds(
+                tails,
+                rotations,
+                darts,
+                first,
+                trees,
+                order,
+                from,
+                owner,
+                end,
+                d,
+            );
+            if end == 0 {
+                return 0;
+            }
+            trees += 1;
+        }
+    }
+    trees
+}
+
 // Whether a walk met the dart d.
 pub fn is_met(from: &[u16; 1024], d: usize) -> bool
     requires { ⌜ d < 1024 ⌝ }
@@ -163,6 +341,35 @@ pub fn flag_met(tails: &[u16; 1024], from: &[u16; 1024], darts: usize, inside: &
     }
 }
 
+// The faces left of the first darts of the trees of a walk over all darts, into the first places of `roots`: those at level 0 (document 02, Job 8). The search
+// for them ends at the last tree, at once where there is one tree only. `rotations` and `first` are named by the contract only.
+pub fn first_faces<'a>(
+    rotations: &'a [u16; 1024],
+    lefts: &'a [u16; 1024],
+    order: &'a [u16; 1024],
+    from: &'a [u16; 1024],
+    darts: usize,
+    first: usize,
+    trees: usize,
+    roots: &mut [u16; 1024],
+)
+    requires { ⌜ (length (now roots) ≡ 1024) × (darts ≤ 1024) × Forest darts (at (now rotations)) first (at (now order)) (at (now from)) trees ⌝ }
+    ensures { λ _. ⌜ (length (now (roots .exit)) ≡ 1024)
+        × RootsOf darts (at (now (rotations .entry))) first (at (now (lefts .entry))) (at (now (roots .exit))) trees ⌝ }
+{
+    let mut count: usize = 0;
+    let mut i: usize = 0;
+    while count < trees {
+        let d = arrays::wide(order[i]);
+        i += 1;
+        let p = arrays::wide(from[d]);
+        if p == d {
+            roots[count] = lefts[d];
+            count += 1;
+        }
+    }
+}
+
 // The faces at level 0 (document 02, Job 8): the one left of `first`, and in each other part the one left of its lowest dart, into the first places of `roots`.
 // Answers how many they are.
 pub fn roots_of<'a>(
@@ -180,16 +387,6 @@ pub fn roots_of<'a>(
     let mut order = [0u16; 1024];
     let mut from = [0u16; 1024];
     let trees = spread_all(rotations, darts, first, &mut order, &mut from);
-    let mut count: usize = 0;
-    let mut i: usize = 0;
-    while i < darts {
-        let d = arrays::wide(order[i]);
-        i += 1;
-        let p = arrays::wide(from[d]);
-        if p == d {
-            roots[count] = lefts[d];
-            count += 1;
-        }
-    }
+    first_faces(rotations, lefts, &order, &from, darts, first, trees, roots);
     trees
 }

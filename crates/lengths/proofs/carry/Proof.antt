@@ -9,7 +9,7 @@ use borrow.Author.Needs.{needs}
 use Rattle.signed.proofs.Laws.{number-of-bits}
 use Rattle.arrays.specs.At.{atℤ}
 use Rattle.integers.specs.inner.Limited.{Limited}
-use Rattle.arrays.specs.inner.Sizes.{mostCapacity}
+use Rattle.arrays.specs.inner.Sizes.{mostLength}
 use Rattle.lengths.proofs.Limits.{minus-read, plus-read, minus-fits, plus-fits}
 use Rattle.lengths.proofs.Carrying.{carried}
 use Rattle.lengths.proofs.carry.Statement.{statement}
@@ -42,7 +42,7 @@ plus-requires c κs =
     let s = c .before .before .before in
     let a = toZ w32 (ofZ w32 (c .before .minus .result)) in
     let same = getD-set-other (s .args .lengths .now) (s .args .p) (s .args .x) a (pos 0) (s .pre .3) in
-    plus-fits (subst (Limited mostCapacity) (sym same) (s .pre .5)) (s .pre .6)
+    plus-fits (subst (Limited mostLength) (sym same) (s .pre .5)) (s .pre .6)
 
 mul-t6 : tie.Need-mul-t6
 mul-t6 c = search needs
@@ -65,7 +65,7 @@ returns c =
     let is-a : a ≡ atℤ l p -ℤ value = number-of-bits _ (record { sfits = less .ok }) ∙ less .ensures ∙ minus-read (h .4) (h .6) in
     let is-b : b ≡ atℤ l x +ℤ value =
     number-of-bits _ (record { sfits = c .plus .ok }) ∙ c .plus .ensures
-    ∙ plus-read (subst (Limited mostCapacity) (sym same) (h .5)) (h .6) ∙ ap (λ y. y +ℤ value) same in
+    ∙ plus-read (subst (Limited mostLength) (sym same) (h .5)) (h .6) ∙ ap (λ y. y +ℤ value) same in
     carried l p x value a b (h .0) (h .1) (h .2) (h .3) is-a is-b
 
 pub carry-spec : {M : Type 1} → statement M

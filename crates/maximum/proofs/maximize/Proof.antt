@@ -1,6 +1,6 @@
 -- Probing between two bounds meets its contract: the loop keeps `Probing`, each probe makes the gap smaller, and its three ways out are laws of `Bracketing`.
 use mathlib.Core.Path.{_≡_, refl, sym, _∙_, ap, subst}
-use mathlib.Core.Bool.{Bool, true, false}
+use mathlib.Core.Bool.{Bool, true, false, not, true≢false}
 use mathlib.Core.List.{List}
 use Prim.Native.Nat.{ℕ, _*_, _≤_, _<_}
 use native.Mathlib.Omega.{arith}
@@ -27,7 +27,8 @@ use Rattle.arrays.specs.Maps.{mapOf}
 use Rattle.solver.specs.inner.Decision.{Decided}
 use Rattle.maximum.specs.inner.Bracket.{Bracket}
 use Rattle.maximum.specs.inner.Maximum.{Maximized}
-use Rattle.maximum.proofs.Gap.{gap, gap-carried}
+use Rattle.maximum.specs.inner.Narrowing.{Lowers}
+use Rattle.maximum.proofs.Gap.{gap, gap-carried, gap-narrower}
 use Rattle.maximum.proofs.Bracketing.{
   Ground,
   Probing,
@@ -37,6 +38,7 @@ use Rattle.maximum.proofs.Bracketing.{
   between-limited,
   above-low,
   carried,
+  lowered,
   nothing,
   narrowed,
   met,
@@ -49,11 +51,13 @@ use Rattle.maximum.proofs.maximize.Statement.{statement}
 use Rattle.maximum.proofs.maximize.Tie as tie
 
 abbrev Inv-loop : tie.InvT-loop
-Inv-loop tails rotations lefts capacities nodes edges faces outer source sink flows₀ a₀ b₀ inside₀ high₀ low₀ found₀ top₀ flows a b inside high low found top =
-    Probing (mapOf nodes edges tails rotations) outer (atℤ capacities) source sink flows₀ flows a b inside (toZ w32 low) (toZ w32 high) found
+Inv-loop tails rotations lefts capacities order from grouped starts ends nodes edges faces trees outer source sink flows₀ a₀ b₀ inside₀ parents₀ high₀ low₀ found₀ middle₀
+    flows a b inside parents high low found middle =
+    Probing (mapOf nodes edges tails rotations) outer (atℤ capacities) source sink flows₀ flows a b inside parents (toZ w32 low) (toZ w32 high) found
 
 abbrev μ-loop : tie.MeasureT-loop
-μ-loop tails rotations lefts capacities nodes edges faces outer source sink flows₀ a₀ b₀ inside₀ high₀ low₀ found₀ top₀ flows a b inside high low found top =
+μ-loop tails rotations lefts capacities order from grouped starts ends nodes edges faces trees outer source sink flows₀ a₀ b₀ inside₀ parents₀ high₀ low₀ found₀ middle₀
+    flows a b inside parents high low found middle =
     gap (toZ w32 low) (toZ w32 high) found
 
 -- ── what the function is given ──
@@ -134,6 +138,7 @@ loop-holds c =
       size-a = f1 .flag-one .ensures .0;
       size-b = f2 .flag-one2 .ensures .0;
       size-inside = refl;
+      size-parents = refl;
       size-flows = refl;
       bracket =
           begins (b .args .outer) (ground b) (b .args .flows .now) A B _ _
@@ -160,9 +165,9 @@ mul-join c = omega (arith, start (c .before .before) .pre .3 .few-edges)
 
 join-requires : tie.Need-join-requires Inv-loop μ-loop
 join-requires c κs =
-    let l = c .before .before .before .before in
+    let l = c .before .before .before .before .before in
     let b = start l in
-    (l .loop .inv .size-a, omega (arith, b .pre .3 .few-edges), omega arith, tails-in b, caps-in b)
+    (l .loop .inv .size-a, omega (arith, b .pre .3 .few-edges), omega arith, tails-in b, caps-in b, l .loop .inv .size-inside)
 
 finished-requires : tie.Need-finished-requires Inv-loop μ-loop
 finished-requires c κs = search needs
@@ -208,11 +213,11 @@ above c e =
     let q = c .before in
     subst (λ v. lo (top c) <ℤ v) (sym (same-value c))
     (above-low (lo (top c)) (hi (top c)) (c .next-value .result) (top c .loop .found) (in-order q)
-    (q .before .finished .ensures .1 (q .if2 .left)) (c .next-value .ensures .2) e)
+    (q .before .finished .ensures .1 (q .if2 .left)) (c .next-value .ensures .2 e) e)
 
 decide-requires : tie.Need-decide-requires Inv-loop μ-loop
 decide-requires c κs =
-    let n = c .before .before in
+    let n = c .before .before .before in
     let l = top n in
     let p = start l .pre in (
       l .loop .inv .size-inside,
@@ -220,17 +225,19 @@ decide-requires c κs =
       p .3,
       p .4,
       limited-more (omega arith) (bits-limited (omega arith) (value-small n)),
+      l .loop .inv .size-parents,
+      p .5,
     )
 
 -- ── the value is carried ──
 abbrev asked : tie.After-decide Inv-loop μ-loop → tie.After-next-value Inv-loop μ-loop
-asked c = c .before .before .before
+asked c = c .before .before .before .before
 
 abbrev flows' : tie.After-decide Inv-loop μ-loop → List ℤ
-flows' c = c .decide .last .1 .1 .1 .1 .1 .1 .1 .1 .1 .1 .1 .0
+flows' c = c .decide .last .1 .1 .1 .1 .1 .1 .1 .1 .1 .1 .1 .1 .1 .1 .1 .1 .1 .1 .0
 
 abbrev inside' : tie.After-decide Inv-loop μ-loop → List ℕ
-inside' c = c .decide .last .1 .1 .1 .1 .1 .1 .1 .1 .1 .1 .1 .1 .0
+inside' c = c .decide .last .1 .1 .1 .1 .1 .1 .1 .1 .1 .1 .1 .1 .1 .1 .1 .1 .1 .1 .1 .0
 
 decided : (c : tie.After-decide Inv-loop μ-loop) {r : Bool} → c .decide .result ≡ r
     → Decided (𝓜 (start (top (asked c)))) (start (top (asked c)) .args .outer) (caps (start (top (asked c))))
@@ -241,27 +248,156 @@ decided c e =
     subst (Decided (𝓜 b) (b .args .outer) (caps b) (src b) (snk b) (value (asked c)) (top (asked c) .loop .flows) (flows' c) (inside' c))
     e (c .decide .ensures .1)
 
-loop-less : tie.Need-loop-less Inv-loop μ-loop
-loop-less c =
-    let n = asked (c .before .before) in
-    gap-carried (lo (top n)) (hi (top n)) (value n) (at-least n) (at-most n) (top n .loop .found) (above n)
+abbrev probe : tie.Then3 Inv-loop μ-loop → tie.After-decide Inv-loop μ-loop
+probe c = c .before .before
 
-loop-again : tie.Need-loop-again Inv-loop μ-loop
-loop-again c =
-    let k = c .before .before in
+same-room : (c : tie.Then3 Inv-loop μ-loop) → length (flows' (probe c)) ≡ length (start (top (asked (probe c))) .args .flows .now)
+same-room c =
+    let k = probe c in
+    let l = top (asked k) in
+    filled-length _ _ (l .loop .flows) (flows' k) (decided k (c .if3 .taken) .2) (omega (arith, start l .pre .1, l .loop .inv .size-flows))
+    ∙ l .loop .inv .size-flows
+
+raised : (c : tie.Then3 Inv-loop μ-loop)
+    → Bracket (𝓜 (start (top (asked (probe c))))) (start (top (asked (probe c))) .args .outer) (caps (start (top (asked (probe c)))))
+    (src (start (top (asked (probe c))))) (snk (start (top (asked (probe c))))) (start (top (asked (probe c))) .args .flows .now) (flows' (probe c))
+    (top (asked (probe c)) .loop .a) (top (asked (probe c)) .loop .b) (value (asked (probe c))) (hi (top (asked (probe c)))) true
+raised c =
+    let k = probe c in
     let n = asked k in
     let l = top n in
     let b = start l in
-    let i = l .loop .inv in
-    let d = decided k (c .if3 .taken) in
+    carried (b .args .outer) (ground b) (b .args .flows .now) (l .loop .flows) (l .loop .a)
+    (l .loop .b) (lo l) (hi l) (l .loop .found) (l .loop .inv .bracket) (value n) (flows' k) (inside' k) (decided k (c .if3 .taken))
+
+less-to-go : (c : tie.Then3 Inv-loop μ-loop)
+    → gap (value (asked (probe c))) (hi (top (asked (probe c)))) true
+    < gap (lo (top (asked (probe c)))) (hi (top (asked (probe c)))) (top (asked (probe c)) .loop .found)
+less-to-go c =
+    let n = asked (probe c) in
+    gap-carried (lo (top n)) (hi (top n)) (value n) (at-least n) (at-most n) (top n .loop .found) (above n)
+
+-- ── a set is proposed ──
+Ready : tie.Then3 Inv-loop μ-loop → Type 0
+Ready c =
+    let k = probe c in
+    let l = top (asked k) in
+    let a = start l .args in
+    (length (k .decide .last .1 .1 .1 .1 .1 .1 .1 .1 .1 .1 .1 .1 .1 .1 .1 .1 .1 .0) ≡ 1024)
+    × (length (inside' k) ≡ 1024)
+    × (length (l .loop .a) ≡ 1024)
+    × (a .edges ≤ length (flows' k))
+    × (a .nodes ≤ 1024)
+    × (a .edges ≤ 512)
+    × (a .source < 1024)
+    × (a .sink < 1024)
+    × ((d : ℕ) × (d < 2 * a .edges) × (at (a .tails .now) d ≡ a .sink))
+    × ((d : ℕ) → d < 2 * a .edges → at (a .tails .now) d < 1024)
+    × ((d : ℕ) → d < 2 * a .edges → Limited 2000000 (caps (start l) d))
+
+ready : (c : tie.Then3 Inv-loop μ-loop) → Ready c
+unfolding Ready
+ready c =
+    let k = probe c in
+    let l = top (asked k) in
+    let b = start l in (
+      k .decide .ensures .2,
+      k .decide .ensures .0,
+      l .loop .inv .size-a,
+      omega (arith, same-room c, b .pre .1),
+      b .pre .3 .few-nodes,
+      b .pre .3 .few-edges,
+      omega (arith, b .pre .4 .source-in, b .pre .3 .few-nodes),
+      omega (arith, b .pre .4 .sink-in, b .pre .3 .few-nodes),
+      b .pre .3 .plane .sound .has-dart _ (b .pre .4 .sink-in),
+      tails-in b,
+      caps-in b,
+    )
+
+propose-requires : tie.Need-propose-requires Inv-loop μ-loop
+unfolding Ready
+propose-requires c κs = ready (c .before .before .before .before .before)
+
+propose-requires-2 : tie.Need-propose-requires-2 Inv-loop μ-loop
+unfolding Ready
+propose-requires-2 c κs = ready (c .before .before .before .before .before)
+
+-- whatever was proposed: the new high bound, and the set for it
+module _ (t : tie.Then3 Inv-loop μ-loop) (inside'' a'' : List ℕ) (high : ℤ)
+    (falls : Lowers (src (start (top (asked (probe t))))) (snk (start (top (asked (probe t)))))
+    (cutOf (2 * start (top (asked (probe t))) .args .edges) (at (start (top (asked (probe t))) .args .tails .now))
+    (caps (start (top (asked (probe t))))) (flagged inside'')) (hi (top (asked (probe t)))) high inside'' (top (asked (probe t)) .loop .a) a'') where
+  proposed : Bracket (𝓜 (start (top (asked (probe t))))) (start (top (asked (probe t))) .args .outer) (caps (start (top (asked (probe t)))))
+      (src (start (top (asked (probe t))))) (snk (start (top (asked (probe t))))) (start (top (asked (probe t))) .args .flows .now) (flows' (probe t))
+      a'' (top (asked (probe t)) .loop .b) (value (asked (probe t))) high true
+      × (high ≤ℤ hi (top (asked (probe t))))
+  proposed =
+      let l = top (asked (probe t)) in
+      let b = start l in
+      lowered (b .args .outer) (ground b) (b .args .flows .now) (flows' (probe t)) (l .loop .a) (l .loop .b) (value (asked (probe t))) (hi l) true (raised t)
+      inside'' a'' high falls
+
+  new-high : toZ w32 (ofZ w32 high) ≡ high
+  new-high =
+      let b = start (top (asked (probe t))) in
+      same-bits (omega arith) (high-small (b .args .outer) (ground b) (proposed .0 .ceiling))
+
+  still-less : gap (value (asked (probe t))) (toZ w32 (ofZ w32 high)) true
+      < gap (lo (top (asked (probe t)))) (hi (top (asked (probe t)))) (top (asked (probe t)) .loop .found)
+  still-less = rw new-high (omega (arith, gap-narrower (value (asked (probe t))) true (proposed .1), less-to-go t))
+
+  kept : Bracket (𝓜 (start (top (asked (probe t))))) (start (top (asked (probe t))) .args .outer) (caps (start (top (asked (probe t)))))
+      (src (start (top (asked (probe t))))) (snk (start (top (asked (probe t))))) (start (top (asked (probe t))) .args .flows .now) (flows' (probe t))
+      a'' (top (asked (probe t)) .loop .b) (value (asked (probe t))) (toZ w32 (ofZ w32 high)) true
+  kept = rw new-high (proposed .0)
+
+-- ── the first value found ──
+abbrev first-found : tie.After-propose Inv-loop μ-loop → tie.Then3 Inv-loop μ-loop
+first-found c = c .before .before .before .before .before .before
+
+loop-less : tie.Need-loop-less Inv-loop μ-loop
+loop-less c = still-less (first-found c) _ _ (c .propose .result) (c .propose .ensures .3)
+
+loop-again : tie.Need-loop-again Inv-loop μ-loop
+loop-again c =
+    let t = first-found c in
+    let e = c .propose .ensures in
     record {
-      size-a = i .size-a;
-      size-b = i .size-b;
-      size-inside = k .decide .ensures .0;
-      size-flows = filled-length _ _ (l .loop .flows) (flows' k) (d .2) (omega (arith, b .pre .1, i .size-flows)) ∙ i .size-flows;
-      bracket =
-          carried (b .args .outer) (ground b) (b .args .flows .now) (l .loop .flows) (l .loop .a)
-          (l .loop .b) (lo l) (hi l) (l .loop .found) (i .bracket) (value n) (flows' k) (inside' k) d;
+      size-a = e .2;
+      size-b = top (asked (probe t)) .loop .inv .size-b;
+      size-inside = e .1;
+      size-parents = e .0;
+      size-flows = same-room t;
+      bracket = kept t _ _ (c .propose .result) (e .3);
+    }
+
+-- ── a later one ──
+was-found : (found : Bool) → not found ≡ false → found ≡ true
+was-found true e = refl
+was-found false e = absurd (true≢false e)
+
+abbrev later : tie.After-propose2 Inv-loop μ-loop → tie.Else4 Inv-loop μ-loop
+later c = c .before .before .before .before .before
+
+loop-less-2 : tie.Need-loop-less-2 Inv-loop μ-loop
+loop-less-2 c =
+    let t = later c .before in
+    let n = asked (probe t) in
+    let e = was-found (top n .loop .found) (later c .if4 .left) in
+    rw e (subst (λ f. gap (value n) (toZ w32 (ofZ w32 (c .propose2 .result))) true < gap (lo (top n)) (hi (top n)) f) e
+    (still-less t _ _ (c .propose2 .result) (c .propose2 .ensures .3)))
+
+loop-again-2 : tie.Need-loop-again-2 Inv-loop μ-loop
+loop-again-2 c =
+    let t = later c .before in
+    let e = c .propose2 .ensures in
+    record {
+      size-a = e .2;
+      size-b = top (asked (probe t)) .loop .inv .size-b;
+      size-inside = e .1;
+      size-parents = e .0;
+      size-flows = same-room t;
+      bracket = rw (was-found (top (asked (probe t)) .loop .found) (later c .if4 .left)) (kept t _ _ (c .propose2 .result) (e .3));
     }
 
 -- ── it cannot be: the set moves a bound, or shows that there is nothing ──
@@ -312,26 +448,27 @@ moved c e =
     narrowed (b .args .outer) (ground b) (b .args .flows .now) (l .loop .flows) (l .loop .a) (l .loop .b) (lo l) (hi l) (l .loop .found) (l .loop .inv .bracket)
     (value n) (at-least n) (at-most n) (inside' k) (d .1) (a' c) (b' c) (c .narrow-by .result) (r .0) (r .1) (r .2) e
 
-loop-less-2 : tie.Need-loop-less-2 Inv-loop μ-loop
-loop-less-2 c =
+loop-less-3 : tie.Need-loop-less-3 Inv-loop μ-loop
+loop-less-3 c =
     let m = c .before .before .before in
     let l = top (asked (probed m)) in
     let b = start l in
-    let r = moved m (c .before .before .if4 .left) in
+    let r = moved m (c .before .before .if5 .left) in
     bits-gap (b .args .outer) (ground b) _ _ (a' m) (b' m) _ _ (l .loop .found) (r .0) _ (r .1)
 
-loop-again-2 : tie.Need-loop-again-2 Inv-loop μ-loop
-loop-again-2 c =
+loop-again-3 : tie.Need-loop-again-3 Inv-loop μ-loop
+loop-again-3 c =
     let m = c .before .before .before in
     let k = probed m in
     let l = top (asked k) in
     let b = start l in
     let d = decided k (refused m) in
-    let r = moved m (c .before .before .if4 .left) in
+    let r = moved m (c .before .before .if5 .left) in
     record {
       size-a = m .narrow-by .ensures .0;
       size-b = m .narrow-by .ensures .1;
       size-inside = k .decide .ensures .0;
+      size-parents = k .decide .ensures .2;
       size-flows = ap length (d .0) ∙ l .loop .inv .size-flows;
       bracket = same-bracket (d .0) (bits-bracket (b .args .outer) (ground b) _ _ (a' m) (b' m) _ _ (l .loop .found) (r .0));
     }
@@ -342,7 +479,7 @@ same-length c = search needs
 
 returns : tie.Need-returns Inv-loop μ-loop
 returns c =
-    let t = c .before .before .before in
+    let t = c .before .before .before .before in
     let l = t .before .before in
     let b = start l in (
       c .join .ensures .0,
@@ -378,7 +515,7 @@ returns-3 c =
     let h =
     nothing (b .args .outer) (ground b) (b .args .flows .now) (l .loop .flows)
     (l .loop .a) (l .loop .b) (lo l) (hi l) (l .loop .found) (l .loop .inv .bracket)
-    (value n) (at-least n) (at-most n) (inside' k) (d .1) (a' m) (b' m) (m .narrow-by .result) (r .0) (r .1) (r .2) (c .if4 .taken) in
+    (value n) (at-least n) (at-most n) (inside' k) (d .1) (a' m) (b' m) (m .narrow-by .result) (r .0) (r .1) (r .2) (c .if5 .taken) in
     (m .narrow-by .ensures .0, (d .0 ∙ h .0, h .1, h .2))
 
 pub maximize-spec : {M : Type 1} → statement M
@@ -401,12 +538,16 @@ maximize-spec =
     finished-requires
     next-value-requires
     decide-requires
+    propose-requires
     loop-less
     loop-again
-    mul-narrow-by
-    narrow-by-requires
+    propose-requires-2
     loop-less-2
     loop-again-2
+    mul-narrow-by
+    narrow-by-requires
+    loop-less-3
+    loop-again-3
     same-length
     returns
     same-length-2

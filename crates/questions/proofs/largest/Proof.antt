@@ -75,14 +75,14 @@ wide-requires-2 c κs = search needs
 check-ends-requires : tie.Need-check-ends-requires
 check-ends-requires c κs = search needs
 
-enum-known-ends : tie.Need-enum-known-ends
-enum-known-ends c = search needs
+enum-known-named : tie.Need-enum-known-named
+enum-known-named c = search needs
 
 returns : tie.Need-returns
 returns c =
     let e = c .before .before .before in
     let a = begun e .args in
-    let j = ends-judged e (Refused _ _) (c .before .ends .given .1) in
+    let j = ends-judged e (Refused _ _) (c .before .named .given .1) in
     (largest-ends (a .nodes) (a .edges) (a .source) (a .sink) (a .flows .now) (a .set .now) _ _ j, refl, refl)
 
 enum-told : tie.Need-enum-told
@@ -115,6 +115,7 @@ maximize-requires c κs =
       base e .pre .1,
       base e .pre .0,
       ends-for (w .before .wide .ensures) (w .wide2 .ensures) (mapAt (base e)) (two e),
+      base e .pre .2,
     )
 
 -- ── what was found ──
@@ -125,10 +126,10 @@ abbrev start : tie.After-maximize → tie.Start
 start c = base (asked (roomy c))
 
 abbrev flows' : tie.After-maximize → List ℤ
-flows' c = c .maximize .last .1 .1 .1 .1 .1 .1 .1 .1 .1 .1 .0
+flows' c = c .maximize .last .1 .1 .1 .1 .1 .1 .1 .1 .1 .1 .1 .1 .1 .1 .1 .1 .0
 
 abbrev inside' : tie.After-maximize → List ℕ
-inside' c = c .maximize .last .1 .1 .1 .1 .1 .1 .1 .1 .1 .1 .1 .0
+inside' c = c .maximize .last .1 .1 .1 .1 .1 .1 .1 .1 .1 .1 .1 .1 .1 .1 .1 .1 .1 .0
 
 found : (c : tie.After-maximize) {answer : Maximum} → c .maximize .result ≡ answer
     → Maximized (mapAt (start c)) (start c .args .outer) (capacityAt (start c)) (start c .args .source) (start c .args .sink)
@@ -209,7 +210,7 @@ largest-spec =
     wide-requires
     wide-requires-2
     check-ends-requires
-    enum-known-ends
+    enum-known-named
     returns
     enum-told
     check-room-requires

@@ -87,14 +87,14 @@ wide-requires-2 c κs = search needs
 check-ends-requires : tie.Need-check-ends-requires
 check-ends-requires c κs = search needs
 
-enum-known-ends : tie.Need-enum-known-ends
-enum-known-ends c = search needs
+enum-known-named : tie.Need-enum-known-named
+enum-known-named c = search needs
 
 returns : tie.Need-returns
 returns c =
     let e = c .before .before .before in
     let a = begun e .args in
-    let j = ends-judged e (Refused _ _) (c .before .ends .given .1) in
+    let j = ends-judged e (Refused _ _) (c .before .named .given .1) in
     (solve-ends (a .nodes) (a .edges) (a .source) (a .sink) (a .value) (a .flows .now) (a .set .now) _ _ j, refl, refl)
 
 enum-told : tie.Need-enum-told
@@ -113,7 +113,7 @@ returns-2 c =
     (solve-value (a .nodes) (a .edges) (a .source) (a .sink) (a .value) (a .flows .now) (a .set .now) (two e) 15 0 (inl (out, refl, refl)), refl, refl)
 
 check-room-requires : tie.Need-check-room-requires
-check-room-requires c κs = base c .pre .few-nodes
+check-room-requires c κs = base c .pre .0 .few-nodes
 
 enum-known-room : tie.Need-enum-known-room
 enum-known-room c = search needs
@@ -131,28 +131,30 @@ enum-told-2 c = search needs
 
 decide-requires : tie.Need-decide-requires
 decide-requires c κs =
-    let m = c .before .before in
+    let m = c .before .before .before in
     let e = asked m in
     let w = checked (ended e) .before in (
       refl,
       room-flows _ _ _ _ (room m) .0,
-      base e .pre,
+      base e .pre .0,
       ends-for (w .before .wide .ensures) (w .wide2 .ensures) (mapAt (base e)) (two (ended e)),
       small-value (value-limited _ (inside e)),
+      refl,
+      base e .pre .1,
     )
 
 -- ── what was decided ──
 abbrev roomy : tie.After-decide → tie.After-enum-told2
-roomy c = c .before .before .before
+roomy c = c .before .before .before .before
 
 abbrev start : tie.After-decide → tie.Start
 start c = base (asked (roomy c))
 
 abbrev flows' : tie.After-decide → List ℤ
-flows' c = c .decide .last .1 .1 .1 .1 .1 .1 .1 .1 .1 .1 .1 .0
+flows' c = c .decide .last .1 .1 .1 .1 .1 .1 .1 .1 .1 .1 .1 .1 .1 .1 .1 .1 .1 .1 .0
 
 abbrev inside' : tie.After-decide → List ℕ
-inside' c = c .decide .last .1 .1 .1 .1 .1 .1 .1 .1 .1 .1 .1 .1 .0
+inside' c = c .decide .last .1 .1 .1 .1 .1 .1 .1 .1 .1 .1 .1 .1 .1 .1 .1 .1 .1 .1 .1 .0
 
 decided : (c : tie.After-decide) {answer : Bool} → c .decide .result ≡ answer
     → Decided (mapAt (start c)) (start c .args .outer) (capacityAt (start c)) (start c .args .source) (start c .args .sink) (start c .args .value)
@@ -184,18 +186,18 @@ words-in : (c : tie.After-decide) → wordsFor (start c .args .nodes) ≤ length
 words-in c = room-flows _ _ _ _ (room (roomy c)) .1
 
 write-set-requires : tie.Need-write-set-requires
-write-set-requires c κs = let d = decision c in (start d .pre .few-nodes, words-in d)
+write-set-requires c κs = let d = decision c in (start d .pre .0 .few-nodes, words-in d)
 
 count-set-requires : tie.Need-count-set-requires
 count-set-requires c κs =
     let w = c .before .before .before in
     let d = decision (w .before) in
-    (start d .pre .few-nodes, omega (arith, words-in d, w .write-set .ensures .length-kept))
+    (start d .pre .0 .few-nodes, omega (arith, words-in d, w .write-set .ensures .length-kept))
 
 narrow-requires : tie.Need-narrow-requires
 narrow-requires c κs =
     let w = c .before .before .before .before in
-    size-small (w .write-set .ensures) (start (decision (w .before)) .pre .few-nodes) _ (c .count-set .ensures)
+    size-small (w .write-set .ensures) (start (decision (w .before)) .pre .0 .few-nodes) _ (c .count-set .ensures)
 
 same-length-2 : tie.Need-same-length-2
 same-length-2 c = search needs
@@ -219,7 +221,7 @@ returns-5 c =
       (
         take (wordsFor (a .nodes)) (set' w),
         set-written (w .write-set .ensures),
-        proves-written (s .pre .plane .sound .range) (capacityAt s) (w .write-set .ensures) (a .source) (a .sink) ends (a .value) (r .1),
+        proves-written (s .pre .0 .plane .sound .range) (capacityAt s) (w .write-set .ensures) (a .source) (a .sink) ends (a .value) (r .1),
         c .narrow .ensures ∙ n .count-set .ensures,
       ),
       r .0,
@@ -232,7 +234,7 @@ solve-spec =
     wide-requires
     wide-requires-2
     check-ends-requires
-    enum-known-ends
+    enum-known-named
     returns
     enum-told
     value-outside-requires

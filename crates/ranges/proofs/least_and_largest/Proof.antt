@@ -107,14 +107,14 @@ wide-requires-2 c κs = search needs
 check-ends-requires : tie.Need-check-ends-requires
 check-ends-requires c κs = search needs
 
-enum-known-ends : tie.Need-enum-known-ends
-enum-known-ends c = search needs
+enum-known-named : tie.Need-enum-known-named
+enum-known-named c = search needs
 
 returns : tie.Need-returns
 returns c =
     let e = c .before .before .before in
     let a = begun e .args in
-    let j = ends-judged e (Refused _ _) (c .before .ends .given .1) in
+    let j = ends-judged e (Refused _ _) (c .before .named .given .1) in
     (range-ends (a .nodes) (a .edges) (a .source) (a .sink) (a .low .now) (a .below .now) (a .high .now) (a .above .now) _ _ j, refl, refl, refl, refl)
 
 enum-told : tie.Need-enum-told
@@ -173,13 +173,14 @@ maximize-requires c κs =
       s .pre .1,
       s .pre .0,
       ends-for (w .before .wide .ensures) (w .wide2 .ensures) (mapAt s) (two (asked (half m))),
+      s .pre .2,
     )
 
 abbrev high' : tie.After-maximize → List ℤ
-high' c = c .maximize .last .1 .1 .1 .1 .1 .1 .1 .1 .1 .1 .0
+high' c = c .maximize .last .1 .1 .1 .1 .1 .1 .1 .1 .1 .1 .1 .1 .1 .1 .1 .1 .0
 
 abbrev inside' : tie.After-maximize → List ℕ
-inside' c = c .maximize .last .1 .1 .1 .1 .1 .1 .1 .1 .1 .1 .1 .0
+inside' c = c .maximize .last .1 .1 .1 .1 .1 .1 .1 .1 .1 .1 .1 .1 .1 .1 .1 .1 .1 .0
 
 there : (c : tie.After-maximize) {answer : Maximum} → c .maximize .result ≡ answer
     → Maximized (mapAt (start (passed c))) (start (passed c) .args .outer) (capacityAt (start (passed c))) (start (passed c) .args .source)
@@ -259,6 +260,7 @@ maximize-requires-2 c κs =
       s .pre .1,
       s .pre .0,
       ends-for (w .wide2 .ensures) (w .before .wide .ensures) (mapAt s) (ends-exchanged _ _ _ (two (asked (half m)))),
+      s .pre .2,
     )
 
 abbrev first : tie.After-maximize2 → tie.After-write-set
@@ -268,10 +270,10 @@ abbrev origin : tie.After-maximize2 → tie.After-enum-told3
 origin c = passed (found (first c))
 
 abbrev low' : tie.After-maximize2 → List ℤ
-low' c = c .maximize2 .last .1 .1 .1 .1 .1 .1 .1 .1 .1 .1 .0
+low' c = c .maximize2 .last .1 .1 .1 .1 .1 .1 .1 .1 .1 .1 .1 .1 .1 .1 .1 .1 .0
 
 abbrev inside2' : tie.After-maximize2 → List ℕ
-inside2' c = c .maximize2 .last .1 .1 .1 .1 .1 .1 .1 .1 .1 .1 .1 .0
+inside2' c = c .maximize2 .last .1 .1 .1 .1 .1 .1 .1 .1 .1 .1 .1 .1 .1 .1 .1 .1 .1 .0
 
 back : (c : tie.After-maximize2) {answer : Maximum} → c .maximize2 .result ≡ answer
     → Maximized (mapAt (start (origin c))) (start (origin c) .args .outer) (capacityAt (start (origin c))) (start (origin c) .args .sink)
@@ -393,7 +395,7 @@ least-and-largest-spec =
     wide-requires
     wide-requires-2
     check-ends-requires
-    enum-known-ends
+    enum-known-named
     returns
     enum-told
     check-room-requires

@@ -41,7 +41,7 @@ loop-less : tie.Need-loop-less Inv-loop μ-loop
 loop-less c =
     let o = c .before .before .before .loop in
     let i = o .inv in
-    fewer (o .label) (i .0) (i .1) (i .2 .1)
+    omega (arith, fewer (o .label) (i .0) (i .1) (i .2 .1))
 
 loop-again : tie.Need-loop-again Inv-loop μ-loop
 loop-again c =

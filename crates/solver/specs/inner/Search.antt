@@ -8,7 +8,8 @@ use lib.IntN.{ℤ, pos, _+ℤ_}
 use lib.Signed.{_≤ℤ_}
 use Rattle.integers.specs.inner.Limited.{Limited}
 use Rattle.maps.specs.Dart.{rev}
-use Rattle.maps.specs.Map.{Map, darts}
+use Rattle.maps.specs.Map.{Map, darts, head}
+use Rattle.maps.specs.Walk.{Walk}
 use Rattle.arrays.specs.Filled.{filled}
 use Rattle.search.specs.Dual.{Dual, WellFormed, Joined}
 use Rattle.search.specs.Parents.{ParentRing}
@@ -30,6 +31,12 @@ pub record Lengthened (𝓜 : Map) (s t : ℕ) (capacity : ℕ → ℤ) (value :
   pub carrier : Carrier 𝓜 s t value along
   pub is : (d : ℕ) → d < darts 𝓜 → length d ≡ lengthFor capacity along value d
   pub short : (d : ℕ) → d < darts 𝓜 → Limited mostLength (length d)
+
+-- the nodes of the part that the dart d is in are in S, and those of no other part: whole parts, the one of d, and no node that no walk leads to from there
+pub record PartFlagged (𝓜 : Map) (d : ℕ) (S : ℕ → Bool) : Type 0 where
+  pub whole : (e : ℕ) → e < darts 𝓜 → S (𝓜 .tail e) ≡ S (head 𝓜 e)
+  pub holds : S (𝓜 .tail d) ≡ true
+  pub others : (e : ℕ) → e < darts 𝓜 → (Walk 𝓜 (𝓜 .tail d) (𝓜 .tail e) → ⊥) → S (𝓜 .tail e) ≡ false
 
 -- what is searched: lengths of the two darts of an edge add up as their capacities do, so that settled potentials make flows within the capacities
 pub record Searchable (N : Dual) (edges : ℕ) (capacity : ℕ → ℤ) : Type 0 where

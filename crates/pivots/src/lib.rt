@@ -1,0 +1,388 @@
+// A proposal for Largest: a set of nodes around the source whose cut may well be the least. It begins with flows of some value and with the parents that the
+// search left, which are a tree of the faces; the edges that they do not cross are a tree of the nodes. The value is raised along that tree as far as it goes,
+// and where a dart is full the two trees exchange an edge, until the full darts are a cut.
+//
+// Nothing is promised of the set but that it is found: who takes it adds up its cut. So numbers are read within their range by remainders, every walk counts
+// its steps, and sums wrap: no step rests on what an array holds.
+ghost use mathlib.Core.Path.{_≡_};
+ghost use Prim.Native.Nat.{_<_, _≤_};
+ghost use lib.ListN.{length};
+
+// The mark of a node that the tree has not reached.
+const UNMARKED: u16 = 65535;
+
+// As many pivots as are made: more have not been seen to help.
+const PIVOTS: usize = 1024;
+
+// A dart, a node or a face by its number.
+fn place(x: u16) -> usize
+    ensures { λ r. ⌜ r < 1024 ⌝ }
+{
+    arrays::wide(x) % 1024
+}
+
+fn number(x: usize) -> u16
+    requires { ⌜ x < 1024 ⌝ }
+{
+    arrays::narrow(x)
+}
+
+// The node that the dart d leads to.
+fn head(tails: &[u16; 1024], d: usize) -> usize
+    requires { ⌜ d < 1024 ⌝ }
+    ensures { λ r. ⌜ r < 1024 ⌝ }
+{
+    let back = arrays::reverse(d);
+    place(tails[back])
+}
+
+// What more each dart can carry beside the flows.
+fn fill_slacks(capacities: &[i32; 1024], edges: usize, flows: &[i32], slacks: &mut [u32; 1024])
+    requires { ⌜ (length (now slacks) ≡ 1024) × (edges ≤ 512) × (edges ≤ length (now flows)) ⌝ }
+    ensures { λ _. ⌜ length (now (slacks .exit)) ≡ 1024 ⌝ }
+{
+    for e in 0..edges {
+        let flow = signed::to_bits(flows[e]);
+        slacks[2 * e] = std::num::wrapping_sub_u32(signed::to_bits(capacities[2 * e]), flow);
+        slacks[2 * e + 1] = std::num::wrapping_add_u32(signed::to_bits(capacities[2 * e + 1]), flow);
+    }
+}
+
+// Whether the tree of the faces crosses the edge of d.
+fn is_crossed<'a>(lefts: &'a [u16; 1024], parents: &'a [u16; 1024], d: usize) -> bool
+    requires { ⌜ d < 1024 ⌝ }
+{
+    let back = arrays::reverse(d);
+    let left = place(lefts[d]);
+    let right = place(lefts[back]);
+    if arrays::wide(parents[left]) == d {
+        return true;
+    }
+    arrays::wide(parents[right]) == back
+}
+
+// Takes the node that d leads to into the tree, unless it has it or d is crossed, and lists it. Answers the new end of the list.
+fn take_in<'a>(
+    tails: &[u16; 1024],
+    lefts: &'a [u16; 1024],
+    parents: &'a [u16; 1024],
+    d: usize,
+    to: &mut [u16; 1024],
+    list: &mut [u16; 1024],
+    end: usize,
+) -> usize
+    requires { ⌜ (length (now to) ≡ 1024) × (length (now list) ≡ 1024) × (d < 1024) × (end ≤ 1024) ⌝ }
+    ensures { λ r. ⌜ (length (now (to .exit)) ≡ 1024) × (length (now (list .exit)) ≡ 1024) × (r ≤ 1024) ⌝ }
+{
+    let v = head(tails, d);
+    if to[v] != UNMARKED {
+        return end;
+    }
+    if is_crossed(lefts, parents, d) {
+        return end;
+    }
+    if 1024 <= end {
+        return end;
+    }
+    let back = arrays::reverse(d);
+    to[v] = number(back);
+    list[end] = number(v);
+    end + 1
+}
+
+// Takes the nodes at the other ends of the round of `start` into the tree. Answers the new end of the list.
+fn take_round<'a>(
+    tails: &[u16; 1024],
+    rotations: &[u16; 1024],
+    lefts: &'a [u16; 1024],
+    parents: &'a [u16; 1024],
+    start: usize,
+    to: &mut [u16; 1024],
+    list: &mut [u16; 1024],
+    end: usize,
+) -> usize
+    requires { ⌜ (length (now to) ≡ 1024) × (length (now list) ≡ 1024) × (start < 1024) × (end ≤ 1024) ⌝ }
+    ensures { λ r. ⌜ (length (now (to .exit)) ≡ 1024) × (length (now (list .exit)) ≡ 1024) × (r ≤ 1024) ⌝ }
+{
+    let mut d = start;
+    let mut last = end;
+    for i in 0..1024usize {
+        last = take_in(tails, lefts, parents, d, &mut *to, &mut *list, last);
+        d = place(rotations[d]);
+        if d == start {
+            return last;
+        }
+    }
+    last
+}
+
+// The tree of the nodes: from each that it has a dart leads on towards the sink, which the dart `finish` leaves.
+fn grow<'a>(
+    tails: &[u16; 1024],
+    rotations: &[u16; 1024],
+    lefts: &'a [u16; 1024],
+    parents: &'a [u16; 1024],
+    sink: usize,
+    finish: usize,
+    to: &mut [u16; 1024],
+)
+    requires { ⌜ (length (now to) ≡ 1024) × (sink < 1024) × (finish < 1024) ⌝ }
+    ensures { λ _. ⌜ length (now (to .exit)) ≡ 1024 ⌝ }
+{
+    traversal::unmark_all(to);
+    to[sink] = number(finish);
+    let mut list = [0u16; 1024];
+    list[0] = number(sink);
+    let mut next: usize = 0;
+    let mut end: usize = 1;
+    while next < end {
+        let v = place(list[next]);
+        let start = place(to[v]);
+        next += 1;
+        end = take_round(tails, rotations, lefts, parents, start, &mut *to, &mut list, end);
+    }
+}
+
+// Of two darts the one of the less slack.
+fn tighter(slacks: &[u32; 1024], d: usize, e: usize) -> usize
+    requires { ⌜ (d < 1024) × (e < 1024) ⌝ }
+    ensures { λ r. ⌜ r < 1024 ⌝ }
+{
+    if slacks[d] < slacks[e] { d } else { e }
+}
+
+// The dart of the least slack on the way from the source to the sink.
+fn tightest(
+    tails: &[u16; 1024],
+    to: &[u16; 1024],
+    slacks: &[u32; 1024],
+    source: usize,
+    sink: usize,
+) -> usize
+    requires { ⌜ source < 1024 ⌝ }
+    ensures { λ r. ⌜ r < 1024 ⌝ }
+{
+    let mut v = source;
+    let mut best = place(to[source]);
+    for i in 0..1024usize {
+        if v == sink {
+            return best;
+        }
+        let d = place(to[v]);
+        best = tighter(slacks, d, best);
+        v = head(tails, d);
+    }
+    best
+}
+
+// Carries so much more along the way from the source to the sink.
+fn carry(
+    tails: &[u16; 1024],
+    to: &[u16; 1024],
+    source: usize,
+    sink: usize,
+    by: u32,
+    slacks: &mut [u32; 1024],
+)
+    requires { ⌜ (length (now slacks) ≡ 1024) × (source < 1024) ⌝ }
+    ensures { λ _. ⌜ length (now (slacks .exit)) ≡ 1024 ⌝ }
+{
+    let mut v = source;
+    for i in 0..1024usize {
+        if v == sink {
+            return;
+        }
+        let d = place(to[v]);
+        let back = arrays::reverse(d);
+        slacks[d] = std::num::wrapping_sub_u32(slacks[d], by);
+        slacks[back] = std::num::wrapping_add_u32(slacks[back], by);
+        v = place(tails[back]);
+    }
+}
+
+// Whether the way from v to the sink passes u.
+fn passes(tails: &[u16; 1024], to: &[u16; 1024], sink: usize, u: usize, v: usize) -> bool
+    requires { ⌜ v < 1024 ⌝ }
+{
+    let mut w = v;
+    for i in 0..1024usize {
+        if w == u {
+            return true;
+        }
+        if w == sink {
+            return false;
+        }
+        w = head(tails, place(to[w]));
+    }
+    false
+}
+
+// From v to x the way is turned round: v goes on by the dart `by`, and each node of the way by the reverse of the dart that led to it.
+fn turn_round(tails: &[u16; 1024], v: usize, by: usize, x: usize, to: &mut [u16; 1024])
+    requires { ⌜ (length (now to) ≡ 1024) × (v < 1024) × (by < 1024) ⌝ }
+    ensures { λ _. ⌜ length (now (to .exit)) ≡ 1024 ⌝ }
+{
+    let mut w = v;
+    let mut d = by;
+    for i in 0..1024usize {
+        let next = place(to[w]);
+        to[w] = number(d);
+        if w == x {
+            return;
+        }
+        d = arrays::reverse(next);
+        w = place(tails[d]);
+    }
+}
+
+// One pivot: the value is raised until a dart of the way is full; the face left of that dart now hangs from it, and the edge from which it hung takes the dart's
+// place in the tree of the nodes. Answers whether there is such an edge; where there is none, the nodes whose way passes `x`, where the dart begins, are the set.
+fn pivot(
+    tails: &[u16; 1024],
+    lefts: &[u16; 1024],
+    sink: usize,
+    d: usize,
+    to: &mut [u16; 1024],
+    parents: &mut [u16; 1024],
+) -> bool
+    requires { ⌜ (length (now to) ≡ 1024) × (length (now parents) ≡ 1024) × (d < 1024) ⌝ }
+    ensures { λ _. ⌜ (length (now (to .exit)) ≡ 1024) × (length (now (parents .exit)) ≡ 1024) ⌝ }
+{
+    let x = place(tails[d]);
+    let f = place(lefts[d]);
+    let old = arrays::wide(parents[f]);
+    if 1024 <= old {
+        return false;
+    }
+    let p = place(tails[old]);
+    let back = arrays::reverse(old);
+    let q = place(tails[back]);
+    let beyond = passes(tails, &*to, sink, x, p);
+    if beyond == passes(tails, &*to, sink, x, q) {
+        return false;
+    }
+    parents[f] = number(d);
+    if beyond {
+        turn_round(tails, p, old, x, to);
+        return true;
+    }
+    turn_round(tails, q, back, x, to);
+    true
+}
+
+// The flag of the first node on the way from v that has one.
+fn flag_ahead(tails: &[u16; 1024], to: &[u16; 1024], inside: &[u8; 1024], v: usize) -> u8
+    requires { ⌜ v < 1024 ⌝ }
+{
+    let mut w = v;
+    for i in 0..1024usize {
+        if inside[w] != 2 {
+            return inside[w];
+        }
+        w = head(tails, place(to[w]));
+    }
+    0
+}
+
+// Gives this flag to each node on the way from v up to the first that has one.
+fn flag_way(tails: &[u16; 1024], to: &[u16; 1024], v: usize, flag: u8, inside: &mut [u8; 1024])
+    requires { ⌜ (length (now inside) ≡ 1024) × (v < 1024) ⌝ }
+    ensures { λ _. ⌜ length (now (inside .exit)) ≡ 1024 ⌝ }
+{
+    let mut w = v;
+    for i in 0..1024usize {
+        if inside[w] != 2 {
+            return;
+        }
+        inside[w] = flag;
+        w = head(tails, place(to[w]));
+    }
+}
+
+// No node has a flag yet.
+fn unflag_all(inside: &mut [u8; 1024])
+    requires { ⌜ length (now inside) ≡ 1024 ⌝ }
+    ensures { λ _. ⌜ length (now (inside .exit)) ≡ 1024 ⌝ }
+{
+    for v in 0..1024usize {
+        inside[v] = 2;
+    }
+}
+
+// Flags the nodes whose way to the sink passes x.
+fn flag_beyond(
+    tails: &[u16; 1024],
+    to: &[u16; 1024],
+    nodes: usize,
+    sink: usize,
+    x: usize,
+    inside: &mut [u8; 1024],
+)
+    requires { ⌜ (length (now inside) ≡ 1024) × (nodes ≤ 1024) × (sink < 1024) × (x < 1024) ⌝ }
+    ensures { λ _. ⌜ length (now (inside .exit)) ≡ 1024 ⌝ }
+{
+    unflag_all(&mut *inside);
+    inside[sink] = 0;
+    inside[x] = 1;
+    for v in 0..nodes {
+        let flag = flag_ahead(tails, to, &*inside, v);
+        flag_way(tails, to, v, flag, &mut *inside);
+    }
+}
+
+// Raises the value by pivots until the full darts are a cut. Answers the node where the last full dart begins.
+fn raise(
+    tails: &[u16; 1024],
+    lefts: &[u16; 1024],
+    source: usize,
+    sink: usize,
+    to: &mut [u16; 1024],
+    parents: &mut [u16; 1024],
+    slacks: &mut [u32; 1024],
+) -> usize
+    requires { ⌜ (length (now to) ≡ 1024) × (length (now parents) ≡ 1024) × (length (now slacks) ≡ 1024) × (source < 1024) ⌝ }
+    ensures { λ r. ⌜ (length (now (to .exit)) ≡ 1024) × (length (now (parents .exit)) ≡ 1024) × (r < 1024) ⌝ }
+{
+    let mut d = tightest(tails, &*to, &*slacks, source, sink);
+    for i in 0..PIVOTS {
+        let by = slacks[d];
+        carry(tails, &*to, source, sink, by, &mut *slacks);
+        if !pivot(tails, lefts, sink, d, &mut *to, &mut *parents) {
+            return place(tails[d]);
+        }
+        d = tightest(tails, &*to, &*slacks, source, sink);
+    }
+    place(tails[d])
+}
+
+// Flags the nodes of a set, from flows that carry some value, and the parents that the search left beside them. The source, where the tree of the nodes does not
+// reach it, is left out of the set. The parents are changed.
+pub fn propose(
+    tails: &[u16; 1024],
+    rotations: &[u16; 1024],
+    lefts: &[u16; 1024],
+    capacities: &[i32; 1024],
+    nodes: usize,
+    edges: usize,
+    source: usize,
+    sink: usize,
+    finish: usize,
+    flows: &[i32],
+    parents: &mut [u16; 1024],
+    inside: &mut [u8; 1024],
+)
+    requires { ⌜ (length (now parents) ≡ 1024) × (length (now inside) ≡ 1024) × (nodes ≤ 1024) × (edges ≤ 512) × (edges ≤ length (now flows))
+        × (source < 1024) × (sink < 1024) × (finish < 1024) ⌝ }
+    ensures { λ _. ⌜ (length (now (parents .exit)) ≡ 1024) × (length (now (inside .exit)) ≡ 1024) ⌝ }
+{
+    let mut to = [0u16; 1024];
+    grow(tails, rotations, lefts, &*parents, sink, finish, &mut to);
+    inside[source] = 0;
+    if to[source] == UNMARKED {
+        return;
+    }
+    let mut slacks = [0u32; 1024];
+    fill_slacks(capacities, edges, flows, &mut slacks);
+    let x = raise(tails, lefts, source, sink, &mut to, &mut *parents, &mut slacks);
+    flag_beyond(tails, &to, nodes, sink, x, inside);
+}

@@ -1,0 +1,121 @@
+-- The faces numbered so far, with their darts in groups: what numbering one face more keeps, and what is known when every dart has its number.
+use mathlib.Core.Path.{_≡_, refl, sym, _∙_, ap}
+use mathlib.Core.Logic.{_≢_}
+use mathlib.Core.List.{List}
+use Prim.Native.Nat.{ℕ, _+_, _*_, _≤_, _<_}
+use native.Mathlib.Omega.{arith}
+use native.Mathlib.Decide.{ℕ-discrete, decLt}
+use Rattle.maps.specs.Dart.{rev}
+use Rattle.maps.specs.Orbit.{Orbit}
+use Rattle.maps.proofs.Darts.{rev-in, rev-rev}
+use Rattle.maps.proofs.Orbits.{orbit-decided}
+use Rattle.arrays.specs.At.{at}
+use Rattle.arrays.specs.Maps.{rightOf}
+use Rattle.grouping.specs.Grouped.{Grouped}
+use Rattle.traversal.specs.inner.Mark.{unmarked}
+use Rattle.rotations.specs.inner.Marking.{Markable, Marked}
+use Rattle.rotations.specs.inner.Laying.{Laid}
+
+-- f faces have their numbers and their groups, which fill the places from `low` on
+pub record Grouping (edges : ℕ) (label grouped starts ends : ℕ → ℕ) (f low : ℕ) : Type 0 where
+  pub stands : (y : ℕ) → y < 2 * edges → label y ≢ unmarked → (label y < f) × ((j : ℕ) × (starts (label y) ≤ j) × (j < ends (label y)) × (grouped j ≡ rev y))
+  pub ordered : (g : ℕ) → g < f → (low ≤ starts g) × (starts g ≤ ends g) × (ends g ≤ 2 * edges)
+  pub room : low ≤ 2 * edges
+  pub holds : (g j : ℕ) → g < f → starts g ≤ j → j < ends g → (grouped j < 2 * edges) × (label (rev (grouped j)) ≡ g)
+
+pub grouping-none : {edges : ℕ} {label grouped starts ends : ℕ → ℕ} → 2 * edges ≤ 1024 → ((y : ℕ) → y < 1024 → label y ≡ unmarked)
+    → Grouping edges label grouped starts ends 0 (2 * edges)
+grouping-none few none = record {
+  stands = λ y l h. absurd (h (none y (omega arith)));
+  ordered = λ g l. absurd (omega arith);
+  room = omega arith;
+  holds = λ g j l. absurd (omega arith);
+}
+
+-- the face of d is numbered f, and its group is laid before the others
+module _ {edges : ℕ} {next label label' grouped grouped' starts starts' ends ends' : ℕ → ℕ} {d f low low' : ℕ}
+    (γ : Grouping edges label grouped starts ends f low) (μ : Markable (2 * edges) next label d f) (m : Marked (2 * edges) next label label' d f)
+    (laid : Laid (2 * edges) next grouped grouped' d low' low) (begins : starts' f ≡ low') (starts-kept : (g : ℕ) → g ≢ f → starts' g ≡ starts g)
+    (stops : ends' f ≡ low) (ends-kept : (g : ℕ) → g ≢ f → ends' g ≡ ends g) where
+  stands' : (y : ℕ) → y < 2 * edges → label' y ≢ unmarked → Dec (Orbit next d y)
+      → (label' y < f + 1) × ((j : ℕ) × (starts' (label' y) ≤ j) × (j < ends' (label' y)) × (grouped' j ≡ rev y))
+  stands' y l h (yes o) =
+      let e = m .on y o in
+      let r = laid .has y o in
+      let s = ap starts' e ∙ begins in
+      let t = ap ends' e ∙ stops in
+      (omega (arith, e), (r .0, omega (arith, s, r .1), omega (arith, t, r .2), r .3))
+  stands' y l h (no far) =
+      let e = m .off y l far in
+      let r = γ .stands y l (λ q. h (e ∙ q)) in
+      let s = ap starts' e ∙ starts-kept (label y) (λ q. omega (arith, q, r .0)) in
+      let t = ap ends' e ∙ ends-kept (label y) (λ q. omega (arith, q, r .0)) in
+      let k = γ .ordered (label y) (r .0) in (
+        omega (arith, e, r .0),
+        (r .1 .0, omega (arith, s, r .1 .1), omega (arith, t, r .1 .2), laid .kept (r .1 .0) (omega (arith, r .1 .1, k .0)) ∙ r .1 .3),
+      )
+
+  ordered' : (g : ℕ) → g < f + 1 → Dec (g ≡ f) → (low' ≤ starts' g) × (starts' g ≤ ends' g) × (ends' g ≤ 2 * edges)
+  ordered' g l (yes p) =
+      let s = ap starts' p ∙ begins in
+      let t = ap ends' p ∙ stops in
+      (omega (arith, s), omega (arith, s, t, laid .some), omega (arith, t, γ .room))
+  ordered' g l (no p) =
+      let k = γ .ordered g (omega (arith, p)) in
+      let s = starts-kept g p in
+      let t = ends-kept g p in
+      (omega (arith, k .0, s, laid .some), omega (arith, k .1, s, t), omega (arith, k .2, t))
+
+  holds' : (g j : ℕ) → g < f + 1 → starts' g ≤ j → j < ends' g → Dec (g ≡ f) → (grouped' j < 2 * edges) × (label' (rev (grouped' j)) ≡ g)
+  holds' g j l a b (yes p) =
+      let s = ap starts' p ∙ begins in
+      let t = ap ends' p ∙ stops in
+      let r = laid .holds j (omega (arith, s, a)) (omega (arith, t, b)) in
+      (r .0, m .on (rev (grouped' j)) (r .1) ∙ sym p)
+  holds' g j l a b (no p) =
+      let l' : g < f = omega (arith, p) in
+      let b' : j < ends g = omega (arith, b, ends-kept g p) in
+      let r = γ .holds g j l' (omega (arith, a, starts-kept g p)) b' in
+      let same = laid .kept j (omega (arith, a, starts-kept g p, γ .ordered g l' .0)) in
+      let inside : rev (grouped j) < 2 * edges = rev-in edges (grouped j) (r .0) in (
+        omega (arith, same, r .0),
+        ap (λ x. label' (rev x)) same ∙ old (rev (grouped j)) inside (r .1) l' (orbit-decided (μ .permutes) d (rev (grouped j)) (μ .inside)),
+      )
+    where
+      -- a dart of another face is not in the orbit of d, none of which had a number
+      old : (y : ℕ) → y < 2 * edges → label y ≡ g → g < f → Dec (Orbit next d y) → label' y ≡ g
+      old y l e less (yes o) = absurd (omega (arith, μ .free y o, e, less, μ .small))
+      old y l e less (no far) = m .off y l far ∙ e
+
+  pub grouping-on : Grouping edges label' grouped' starts' ends' (f + 1) low'
+  grouping-on = record {
+    stands = λ y l h. stands' y l h (orbit-decided (μ .permutes) d y (μ .inside));
+    ordered = λ g l. ordered' g l (ℕ-discrete g f);
+    room = omega (arith, laid .some, γ .room);
+    holds = λ g j l a b. holds' g j l a b (ℕ-discrete g f);
+  }
+
+-- every dart has its number
+module _ {edges : ℕ} (lefts grouped starts ends : List ℕ) {f low : ℕ} (γ : Grouping edges (at lefts) (at grouped) (at starts) (at ends) f low)
+    (every : (y : ℕ) → y < 2 * edges → at lefts y ≢ unmarked) where
+  spot : (d : ℕ) → Dec (d < 2 * edges) → ℕ
+  spot d (yes l) = γ .stands (rev d) (rev-in edges d l) (every (rev d) (rev-in edges d l)) .1 .0
+  spot d (no l) = 0
+
+  spot-is : (d : ℕ) (q : Dec (d < 2 * edges)) → d < 2 * edges
+      → (at grouped (spot d q) ≡ d) × (at starts (rightOf lefts d) ≤ spot d q) × (spot d q < at ends (rightOf lefts d))
+  unfolding spot
+  spot-is d (yes l) m = let r = γ .stands (rev d) (rev-in edges d l) (every (rev d) (rev-in edges d l)) .1 in (r .3 ∙ rev-rev d, r .1, r .2)
+  spot-is d (no l) m = absurd (l m)
+
+  pub grouping-end : Grouped (rightOf lefts) (2 * edges) f grouped starts ends
+  grouping-end = record {
+    place = λ d. spot d (decLt d (2 * edges));
+    stands = λ d l. spot-is d (decLt d (2 * edges)) l .0;
+    from-start = λ d l. spot-is d (decLt d (2 * edges)) l .1;
+    before-end = λ d l. spot-is d (decLt d (2 * edges)) l .2;
+    ordered = λ g l. γ .ordered g l .1;
+    ends-in = λ g l. γ .ordered g l .2;
+    dart = λ g j l a b. γ .holds g j l a b .0;
+    right-is = λ g j l a b. γ .holds g j l a b .1;
+  }

@@ -1,0 +1,20 @@
+-- What a walk that passed leaves: its trees are the parts, and with the groups it is what decisions need.
+use mathlib.Core.Path.{_≡_, sym, subst}
+use mathlib.Core.List.{List}
+use Prim.Native.Nat.{ℕ}
+use Rattle.refusals.specs.declared.Verdict.{Verdict}
+use Rattle.refusals.specs.declared.Verdict.the-variants.{Passed, Refused}
+use Rattle.arrays.specs.At.{at}
+use Rattle.arrays.specs.Maps.{rightOf}
+use Rattle.traversal.specs.inner.Forest.{Forest}
+use Rattle.grouping.specs.Grouped.{Grouped}
+use Rattle.grouping.specs.inner.Walked.{Walked}
+use Rattle.rotations.specs.inner.Passing.{IfPassed}
+
+module _ {darts outer parts : ℕ} {rotation : ℕ → ℕ} (order from : List ℕ) (𝓕 : Forest darts rotation outer (at order) (at from) parts) where
+  pub walked-if : (v : Verdict) (faces trees : ℕ) (lefts grouped starts ends : List ℕ)
+      → IfPassed v ((trees ≡ parts) × Grouped (rightOf lefts) darts faces grouped starts ends)
+      → IfPassed v (Walked darts faces outer trees rotation lefts order from grouped starts ends)
+  walked-if Passed faces trees lefts grouped starts ends h =
+      record { forest = subst (Forest darts rotation outer (at order) (at from)) (sym (h .0)) 𝓕; groups = h .1 }
+  walked-if (Refused k p) faces trees lefts grouped starts ends h = tt

@@ -1,0 +1,215 @@
+-- Invariant: the faces whose lowest dart is below `next` have their numbers and their groups, f is the next number, and the groups fill the places from `free` on.
+use mathlib.Core.Path.{_≡_, sym, _∙_, subst}
+use Prim.Native.Nat.{ℕ, _+_, _*_, _-_, _≤_, _<_}
+use native.Mathlib.Omega.{arith}
+use lib.ListN.{length, set, length-set}
+use lib.Seq.{getD-set-same, getD-set-other}
+use borrow.Author.Needs.{needs}
+use Rattle.arrays.specs.At.{at}
+use Rattle.rotations.specs.inner.Holding.{holding}
+use Rattle.rotations.specs.inner.Marking.{Markable, Marked}
+use Rattle.rotations.specs.inner.Laying.{stepOf}
+use Rattle.traversal.specs.inner.Mark.{unmarked}
+use Rattle.rotations.proofs.Holding.{holding-all}
+use Rattle.rotations.proofs.Numbering.{Numbering, numbering-start, numbering-end, number-small, used-few, pass, markable, mark}
+use Rattle.rotations.proofs.Grouping.{Grouping, grouping-none, grouping-on, grouping-end}
+use Rattle.rotations.proofs.number_faces.Statement.{statement}
+use Rattle.rotations.proofs.number_faces.Tie as tie
+
+abbrev Inv-loop : tie.InvT-loop
+Inv-loop rotations edges lefts₀ grouped₀ starts₀ ends₀ darts f₀ free₀ next₀ lefts grouped starts ends f free next =
+    (length lefts ≡ 1024) × (length grouped ≡ 1024) × (length starts ≡ 1024) × (length ends ≡ 1024)
+    × Numbering (2 * edges) (stepOf rotations) (at lefts) next f × Grouping edges (at lefts) (at grouped) (at starts) (at ends) f free
+    × (free ≡ holding unmarked (2 * edges) (at lefts))
+
+abbrev μ-loop : tie.MeasureT-loop
+μ-loop rotations edges lefts₀ grouped₀ starts₀ ends₀ darts f₀ free₀ next₀ lefts grouped starts ends f free next = 2 * edges - next
+
+few : (c : tie.Start Inv-loop μ-loop) → 2 * c .args .edges ≤ 1024
+few c = omega (arith, c .pre .0)
+
+none-yet : (n : ℕ) (g : ℕ → ℕ) → ((y : ℕ) → y < n → g y ≡ unmarked) → n ≡ holding unmarked n g
+none-yet n g h = omega (arith, holding-all unmarked n g h)
+
+mul-darts : tie.Need-mul-darts Inv-loop μ-loop
+mul-darts c = search needs
+
+unmark-all-requires : tie.Need-unmark-all-requires Inv-loop μ-loop
+unmark-all-requires c κs = c .before .pre .1
+
+loop-holds : tie.Need-loop-holds Inv-loop μ-loop
+loop-holds c =
+    let s = c .before .before in
+    let p = s .pre in
+    let e = c .unmark-all .ensures in (
+      e .0,
+      p .2,
+      p .3,
+      p .4,
+      numbering-start (few s) (p .5) (e .1),
+      grouping-none (few s) (e .1),
+      none-yet _ _ (λ y l. e .1 y (omega (arith, few s))),
+    )
+
+-- ── in the loop ──
+abbrev begun : tie.In-loop Inv-loop μ-loop → tie.Start Inv-loop μ-loop
+begun c = c .before .before .before .before
+
+add-next : tie.Need-add-next Inv-loop μ-loop
+add-next c = omega (arith, few (begun c), c .loop-test .taken)
+
+mul-if1 : tie.Need-mul-if1 Inv-loop μ-loop
+mul-if1 c = omega (arith, few (begun c), c .loop-test .taken)
+
+element-copy-out-if1 : tie.Need-element-copy-out-if1 Inv-loop μ-loop
+element-copy-out-if1 c = omega (arith, few (begun c), c .loop-test .taken, c .before .loop .inv .0)
+
+abbrev turn : tie.Then1 Inv-loop μ-loop → tie.In-loop Inv-loop μ-loop
+turn c = c .before .before
+
+-- the next number fits the arrays
+number-below : (c : tie.Then1 Inv-loop μ-loop) → turn c .before .loop .f < 1024
+number-below c =
+    let t = turn c in
+    let s = begun t in
+    omega (arith, few s, used-few (few s) (s .pre .5) (t .before .loop .inv .4), t .loop-test .taken)
+
+narrow-requires : tie.Need-narrow-requires Inv-loop μ-loop
+narrow-requires c κs = let t = turn c in omega (arith, few (begun t), t .before .loop .inv .5 .room)
+
+mul-ends : tie.Need-mul-ends Inv-loop μ-loop
+mul-ends c = omega (arith, number-below (c .before))
+
+element-write-ends : tie.Need-element-write-ends Inv-loop μ-loop
+element-write-ends c = omega (arith, number-below (c .before), turn (c .before) .before .loop .inv .3)
+
+narrow-requires-2 : tie.Need-narrow-requires-2 Inv-loop μ-loop
+narrow-requires-2 c κs = omega (arith, number-below (c .before))
+
+-- the face may be numbered
+abbrev free : tie.After-narrow2 Inv-loop μ-loop → tie.Then1 Inv-loop μ-loop
+free c = c .before .before
+
+face : (c : tie.Then1 Inv-loop μ-loop) → let t = turn c in let o = t .before .loop in
+    Markable (2 * begun t .args .edges) (stepOf (begun t .args .rotations .now)) (at (o .lefts)) (o .next) (o .f)
+face c = let t = turn c in let s = begun t in markable (few s) (s .pre .5) (t .before .loop .inv .4) (t .loop-test .taken) (c .if1 .taken)
+
+mark-face-requires : tie.Need-mark-face-requires Inv-loop μ-loop
+mark-face-requires c κs =
+    let n = c .before .before in
+    let b = free n in
+    let t = turn b in
+    let o = t .before .loop in
+    let a = begun t .args in (
+      o .inv .0,
+      o .inv .1,
+      subst (Markable (2 * a .edges) (stepOf (a .rotations .now)) (at (o .lefts)) (o .next)) (sym (n .narrow2 .ensures)) (face b),
+      o .inv .6,
+      o .inv .5 .room,
+    )
+
+-- ── the face is numbered ──
+abbrev numbered : tie.After-mark-face Inv-loop μ-loop → tie.After-narrow2 Inv-loop μ-loop
+numbered c = c .before .before .before
+
+laid-below : (c : tie.After-mark-face Inv-loop μ-loop) → c .mark-face .result ≤ 1024
+laid-below c = omega (arith, c .mark-face .ensures .3 .some, few (begun (turn (free (numbered c)))), turn (free (numbered c)) .before .loop .inv .5 .room)
+
+narrow-requires-3 : tie.Need-narrow-requires-3 Inv-loop μ-loop
+narrow-requires-3 c κs = omega (arith, laid-below c)
+
+mul-starts : tie.Need-mul-starts Inv-loop μ-loop
+mul-starts c = omega (arith, number-below (free (numbered (c .before))))
+
+element-write-starts : tie.Need-element-write-starts Inv-loop μ-loop
+element-write-starts c =
+    let b = free (numbered (c .before)) in
+    omega (arith, number-below b, turn b .before .loop .inv .2)
+
+add-f : tie.Need-add-f Inv-loop μ-loop
+add-f c = omega (arith, number-below (free (numbered (c .before))))
+
+loop-less : tie.Need-loop-less Inv-loop μ-loop
+loop-less c = omega (arith, turn (free (numbered (c .before))) .loop-test .taken)
+
+loop-again : tie.Need-loop-again Inv-loop μ-loop
+loop-again c =
+    let m = c .before in
+    let n = numbered m in
+    let b = free n in
+    let t = turn b in
+    let s = begun t in
+    let a = s .args in
+    let o = t .before .loop in
+    let i = o .inv in
+    let e = m .mark-face .ensures in
+    let first = n .before .narrow in
+    let last = c .narrow3 in
+    let after = at (m .mark-face .last .1 .1 .1 .1 .0) in
+    let marked = subst (Marked (2 * a .edges) (stepOf (a .rotations .now)) (at (o .lefts)) after (o .next)) (n .narrow2 .ensures) (e .2) in (
+      e .0,
+      e .1,
+      length-set (o .starts) (o .f) (last .result) ∙ i .2,
+      length-set (o .ends) (o .f) (first .result) ∙ i .3,
+      mark (few s) (s .pre .5) (i .4) (t .loop-test .taken) (b .if1 .taken) marked,
+      grouping-on (i .5) (face b) marked (e .3)
+          (getD-set-same (o .starts) (o .f) (last .result) 0 (omega (arith, number-below b, i .2)) ∙ last .ensures)
+          (λ g h. getD-set-other (o .starts) (o .f) g (last .result) 0 h)
+          (getD-set-same (o .ends) (o .f) (first .result) 0 (omega (arith, number-below b, i .3)) ∙ first .ensures)
+          (λ g h. getD-set-other (o .ends) (o .f) g (first .result) 0 h),
+      e .4,
+    )
+
+loop-less-2 : tie.Need-loop-less-2 Inv-loop μ-loop
+loop-less-2 c = omega (arith, c .before .before .loop-test .taken)
+
+loop-again-2 : tie.Need-loop-again-2 Inv-loop μ-loop
+loop-again-2 c =
+    let t = c .before .before in
+    let s = begun t in
+    let i = t .before .loop .inv in
+    (i .0, i .1, i .2, i .3, pass (few s) (s .pre .5) (i .4) (t .loop-test .taken) (c .if1 .left), i .5, i .6)
+
+returns : tie.Need-returns Inv-loop μ-loop
+returns c =
+    let s = c .before .before .before .before in
+    let o = c .before .loop in
+    let i = o .inv in
+    let π = s .pre .5 in
+    let done = numbering-end (few s) π (i .4) (omega (arith, i .4 .upto, c .loop-test .left)) in (
+      i .0,
+      i .1,
+      i .2,
+      i .3,
+      done .0,
+      done .1,
+      grouping-end (o .lefts) (o .grouped) (o .starts) (o .ends) (i .5)
+          (λ y l e. omega (arith, done .1 y l, number-small (few s) π y l, e)),
+    )
+
+pub number-faces-spec : {M : Type 1} → statement M
+number-faces-spec =
+    tie.close
+    (tie.spec
+    Inv-loop
+    μ-loop
+    mul-darts
+    unmark-all-requires
+    loop-holds
+    add-next
+    mul-if1
+    element-copy-out-if1
+    narrow-requires
+    mul-ends
+    element-write-ends
+    narrow-requires-2
+    mark-face-requires
+    narrow-requires-3
+    mul-starts
+    element-write-starts
+    add-f
+    loop-less
+    loop-again
+    loop-less-2
+    loop-again-2
+    returns)

@@ -1,0 +1,56 @@
+-- The walk lists whole rounds, one to a node; and no node is without one.
+use mathlib.Core.Path.{refl}
+use Prim.Native.Nat.{ℕ}
+use native.Mathlib.Omega.{arith}
+use lib.ListN.{length-replicate}
+use borrow.Author.Needs.{needs}
+use Rattle.refusals.proofs.Order.{said-no}
+use Rattle.rotations.proofs.Holding.{zeros}
+use Rattle.rotations.proofs.Whole.{rounds-sound}
+use Rattle.rotations.proofs.walk_nodes.Statement.{statement}
+use Rattle.rotations.proofs.walk_nodes.Tie as tie
+
+mul-darts : tie.Need-mul-darts
+mul-darts c = search needs
+
+spread-rounds-requires : tie.Need-spread-rounds-requires
+spread-rounds-requires c κs =
+    let p = c .before .before .before .pre in (
+      p .3,
+      p .4,
+      length-replicate {A = ℕ} 1024 0,
+      omega (arith, p .0),
+      omega arith,
+      p .5 .rotation-in,
+      (λ d l. omega (arith, p .1, p .5 .tail-in d l)),
+      p .2,
+      zeros,
+    )
+
+returns : tie.Need-returns
+returns c =
+    let e = c .before .spread-rounds .ensures in
+    (e .0, e .1, λ h. absurd (h refl))
+
+some-empty-requires : tie.Need-some-empty-requires
+some-empty-requires c κs = search needs
+
+returns-2 : tie.Need-returns-2
+returns-2 c =
+    let e = c .before .before .before .before .spread-rounds .ensures in
+    (e .0, e .1, λ h. absurd (h refl))
+
+returns-3 : tie.Need-returns-3
+returns-3 c =
+    let s = c .before .before .before .before in
+    let p = s .before .before .before .before .pre in
+    let e = s .spread-rounds .ensures in (
+      e .0,
+      e .1,
+      λ h.
+          let g = e .3 h in
+          (rounds-sound (p .5) (g .1) (g .2) (said-no (c .before .some-empty .ensures) (c .if2 .left)), g .0),
+    )
+
+pub walk-nodes-spec : {M : Type 1} → statement M
+walk-nodes-spec = tie.close (tie.spec mul-darts spread-rounds-requires returns some-empty-requires returns-2 returns-3)
