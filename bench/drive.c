@@ -3,6 +3,8 @@
 //   solve SHEET SOURCE SINK VALUE      prints: result can size place
 //   largest SHEET SOURCE SINK 0        prints: result found value place
 //   range SHEET SOURCE SINK 0          Least and largest; prints: result found largest place
+//   least SHEET SOURCE SINK 0          the same call; prints: result found least place
+//   open SHEET 0 0 0                   Solve of a source that is no node, which is refused when the sheet is opened; prints: 13 255 0 0
 //   read SHEET 0 0 0                   prints: result 255 channels place
 //   write SHEET 0 0 0                  on what Read gives; prints: result same length place
 //   mark SHEET SOURCE SINK VALUE       on what Solve gives; prints: result 255 value place
@@ -41,6 +43,9 @@ static void range(void) {
     result = analyser_least_and_largest(sheet, sheet_length, source, sink, again, ANALYSER_MAX_CHANNELS, below, ANALYSER_SET_WORDS, settings,
                                         ANALYSER_MAX_CHANNELS, set, ANALYSER_SET_WORDS, &answer, &least, &value, &place);
 }
+static void open_sheet(void) {
+    result = analyser_solve(sheet, sheet_length, 65535, sink, 0, settings, ANALYSER_MAX_CHANNELS, set, ANALYSER_SET_WORDS, &answer, &size, &place);
+}
 static void read_sheet(void) {
     result = analyser_read(sheet, sheet_length, tails, ANALYSER_MAX_DARTS, turns, ANALYSER_MAX_DARTS, limits, ANALYSER_MAX_DARTS, &nodes, &channels, &outer,
                            &place);
@@ -64,6 +69,7 @@ static void key(void) { result = analyser_key_text(input, 9 + sheet_length, text
 // What is told of an answer besides the result.
 static void tell_size(void) { number = size; }
 static void tell_value(void) { number = value; }
+static void tell_least(void) { number = least; }
 static void tell_channels(void) { number = channels; }
 static void tell_written(void) {
     number = (long)length;
@@ -89,6 +95,8 @@ static const struct operation {
     {"solve", solve, {NULL, NULL, NULL}, tell_size},
     {"largest", largest, {NULL, NULL, NULL}, tell_value},
     {"range", range, {NULL, NULL, NULL}, tell_value},
+    {"least", range, {NULL, NULL, NULL}, tell_least},
+    {"open", open_sheet, {NULL, NULL, NULL}, tell_nothing},
     {"read", read_sheet, {NULL, NULL, NULL}, tell_channels},
     {"write", write_sheet, {read_sheet, NULL, NULL}, tell_written},
     {"mark", mark, {solve, NULL, NULL}, tell_value},
@@ -157,7 +165,7 @@ int main(int count, char **words) {
         if (painted) {
             whole = depth(o->call);
         } else {
-            CALLGRIND_DUMP_STATS_AT("before");
+            CALLGRIND_ZERO_STATS;
             o->call();
             CALLGRIND_DUMP_STATS_AT("call");
         }
