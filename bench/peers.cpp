@@ -23,8 +23,8 @@
 
 namespace {
 
-constexpr int rounds = 15;
-constexpr double least_round = 4000; // microseconds
+constexpr int rounds = 9;
+constexpr double least_round = 1500; // microseconds
 constexpr int most_value = 600000000;
 
 struct Sheet {
