@@ -418,8 +418,8 @@ pub extern "C" fn analyser_write_dimacs(
 {
     let answer = analyser::write_dimacs(sheet, source, sink, text);
     match answer {
-        DimacsAnswer::Bytes(n) => {
-            *length = n;
+        DimacsAnswer::Bytes(bytes) => {
+            *length = bytes;
             0
         }
         DimacsAnswer::Refused(k, p) => {

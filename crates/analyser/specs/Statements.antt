@@ -1,8 +1,8 @@
 -- What the course book prints of the operations on sheets (document 01, demands 2 and 3; document 02, Jobs 1, 2, 4 and 6 to 9), as records: a field for each
 -- statement, with the printed words above it. Each is about every run of an operation: all that a field knows of a run is its contract, `Solves`,
--- `FindsLargest`, `FindsRange`, `RaisesLimit`, `AnswersPage`, `Marks`, `GivesLevels`, `GivesSettings`, `GivesTotals` or `WritesDimacs`. A sheet or a question is
--- accepted where no check of its list holds; an accepted sheet is flat, because 12 is among its checks, in one part or several. Settings are any function from
--- edges to whole numbers, deliveries any whole number. The proofs are in proofs/Statements.antt, Range.antt, Raise.antt, ByThePage.antt, Districts.antt,
+-- `FindsLargest`, `FindsRange`, `RaisesLimit`, `AnswersPage`, `Marks`, `GivesLevels`, `GivesSettings`, `GivesTotals` or `WritesDimacs`. A sheet or a question
+-- is accepted where no check of its list holds; an accepted sheet is flat, because 12 is among its checks, in one part or several. Settings are any function
+-- from edges to whole numbers, deliveries any whole number. The proofs are in proofs/Statements.antt, Range.antt, Raise.antt, ByThePage.antt, Districts.antt,
 -- ByNode.antt and Dimacs.antt.
 use Prim.Native.Nat.{ℕ, _+_, _*_, _≤_, _<_}
 use mathlib.Core.Path.{_≡_}

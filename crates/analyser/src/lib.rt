@@ -224,41 +224,46 @@ pub fn raise_limit(
 ) -> RaiseAnswer
     ensures { λ r. ⌜ RaisesLimit (now (sheet .entry)) source sink value edge (now (flows .entry)) (now (flows .exit)) (now (set .entry)) (now (set .exit)) r ⌝ }
 {
-    let mut network = Network {
-        nodes: 0,
-        edges: 0,
-        faces: 0,
-        outer: 0,
-        tails: [0u16; 1024],
-        rotations: [0u16; 1024],
-        capacities: [0i32; 1024],
-        lefts: [0u16; 1024],
-    };
-    let opened = sheets::open(sheet, &mut network.lefts);
+    let mut tails = [0u16; 1024];
+    let mut rotations = [0u16; 1024];
+    let mut lefts = [0u16; 1024];
+    let mut order = [0u16; 1024];
+    let mut from = [0u16; 1024];
+    let mut grouped = [0u16; 1024];
+    let mut starts = [0u16; 1024];
+    let mut ends = [0u16; 1024];
+    let opened = sheets::open_walked(
+        sheet,
+        &mut tails,
+        &mut rotations,
+        &mut lefts,
+        &mut order,
+        &mut from,
+        &mut grouped,
+        &mut starts,
+        &mut ends,
+    );
     let verdict = opened.verdict;
     if let Verdict::Refused(k, p) = verdict {
         return RaiseAnswer::Refused(k, p);
     }
-    network.nodes = opened.nodes;
-    network.edges = opened.edges;
-    network.faces = opened.faces;
-    network.outer = opened.outer;
-    sheets::fill_tails(sheet, opened.edges, &mut network.tails);
-    sheets::fill_rotations(sheet, opened.edges, &mut network.rotations);
-    sheets::fill_capacities(sheet, opened.edges, &mut network.capacities);
-    let nodes = network.nodes;
-    let edges = network.edges;
-    let faces = network.faces;
-    let outer = network.outer;
+    let mut capacities = [0i32; 1024];
+    sheets::fill_capacities(sheet, opened.edges, &mut capacities);
     raising::raise_limit(
-        &network.tails,
-        &network.rotations,
-        &network.lefts,
-        &network.capacities,
-        nodes,
-        edges,
-        faces,
-        outer,
+        &tails,
+        &rotations,
+        &lefts,
+        &mut capacities,
+        &order,
+        &from,
+        &grouped,
+        &starts,
+        &ends,
+        opened.nodes,
+        opened.edges,
+        opened.faces,
+        opened.parts,
+        opened.outer,
         source,
         sink,
         value,
@@ -273,41 +278,46 @@ pub fn page_of(sheet: &[u8], list: Listed, flows: &mut [i32], sets: &mut [u64]) 
     ensures { λ r. ⌜ AnswersPage (now (sheet .entry)) (list .count) (questionAt (list .questions))
         (now (flows .entry)) (now (flows .exit)) (now (sets .entry)) (now (sets .exit)) r ⌝ }
 {
-    let mut network = Network {
-        nodes: 0,
-        edges: 0,
-        faces: 0,
-        outer: 0,
-        tails: [0u16; 1024],
-        rotations: [0u16; 1024],
-        capacities: [0i32; 1024],
-        lefts: [0u16; 1024],
-    };
-    let opened = sheets::open(sheet, &mut network.lefts);
+    let mut tails = [0u16; 1024];
+    let mut rotations = [0u16; 1024];
+    let mut lefts = [0u16; 1024];
+    let mut order = [0u16; 1024];
+    let mut from = [0u16; 1024];
+    let mut grouped = [0u16; 1024];
+    let mut starts = [0u16; 1024];
+    let mut ends = [0u16; 1024];
+    let opened = sheets::open_walked(
+        sheet,
+        &mut tails,
+        &mut rotations,
+        &mut lefts,
+        &mut order,
+        &mut from,
+        &mut grouped,
+        &mut starts,
+        &mut ends,
+    );
     let verdict = opened.verdict;
     if let Verdict::Refused(k, p) = verdict {
         return pages::refused_page(k, p);
     }
-    network.nodes = opened.nodes;
-    network.edges = opened.edges;
-    network.faces = opened.faces;
-    network.outer = opened.outer;
-    sheets::fill_tails(sheet, opened.edges, &mut network.tails);
-    sheets::fill_rotations(sheet, opened.edges, &mut network.rotations);
-    sheets::fill_capacities(sheet, opened.edges, &mut network.capacities);
-    let nodes = network.nodes;
-    let edges = network.edges;
-    let faces = network.faces;
-    let outer = network.outer;
+    let mut capacities = [0i32; 1024];
+    sheets::fill_capacities(sheet, opened.edges, &mut capacities);
     pages::answer_list(
-        &network.tails,
-        &network.rotations,
-        &network.lefts,
-        &network.capacities,
-        nodes,
-        edges,
-        faces,
-        outer,
+        &tails,
+        &rotations,
+        &lefts,
+        &capacities,
+        &order,
+        &from,
+        &grouped,
+        &starts,
+        &ends,
+        opened.nodes,
+        opened.edges,
+        opened.faces,
+        opened.parts,
+        opened.outer,
         list,
         flows,
         sets,

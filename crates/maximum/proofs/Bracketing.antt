@@ -88,7 +88,8 @@ pub record Ground (𝓜 : Map) (c : ℕ → ℤ) (s t : ℕ) : Type 0 where
   pub two : Ends 𝓜 s t
 
 -- what the loop keeps: the sizes of its arrays, and the bounds
-pub record Probing (𝓜 : Map) (outer : ℕ) (c : ℕ → ℤ) (s t : ℕ) (before flows : List ℤ) (A B inside parents : List ℕ) (low high : ℤ) (found : Bool) : Type 0 where
+pub record Probing (𝓜 : Map) (outer : ℕ) (c : ℕ → ℤ) (s t : ℕ) (before flows : List ℤ) (A B inside parents : List ℕ)
+    (low high : ℤ) (found : Bool) : Type 0 where
   pub size-a : length A ≡ 1024
   pub size-b : length B ≡ 1024
   pub size-inside : length inside ≡ 1024

@@ -230,7 +230,16 @@ fn propose<'a>(
         parents,
         &mut *inside,
     );
-    lower(tails, capacities, &*inside, 2 * edges, source, sink, high, a)
+    lower(
+        tails,
+        capacities,
+        &*inside,
+        2 * edges,
+        source,
+        sink,
+        high,
+        a,
+    )
 }
 
 // Probes values between the bounds until they meet or pass each other. The set that bounds the answer, or shows that there is none, is left in a.

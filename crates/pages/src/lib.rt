@@ -5,6 +5,7 @@ ghost use mathlib.Core.Path.{_≡_};
 ghost use lib.ListN.{length};
 ghost use Rattle.refusals.specs.Order.{Judged};
 ghost use Rattle.flows.specs.ProvingSet.{wordsFor};
+ghost use Rattle.grouping.specs.inner.Walked.{Walked};
 ghost use Rattle.arrays.specs.At.{at, atℤ};
 ghost use Rattle.arrays.specs.inner.Drawn.{Drawn};
 ghost use Rattle.arrays.specs.Maps.{mapOf, drawingOf};
@@ -138,15 +139,22 @@ fn ask<'a>(
     rotations: &'a [u16; 1024],
     lefts: &'a [u16; 1024],
     capacities: &'a [i32; 1024],
+    order: &'a [u16; 1024],
+    from: &'a [u16; 1024],
+    grouped: &'a [u16; 1024],
+    starts: &'a [u16; 1024],
+    ends: &'a [u16; 1024],
     nodes: usize,
     edges: usize,
     faces: usize,
+    trees: usize,
     outer: usize,
     q: Question,
     flows: &mut [i32],
     set: &mut [u64],
 ) -> SolveAnswer
-    requires { ⌜ Drawn (mapOf nodes edges (now tails) (now rotations)) (at (now lefts)) faces outer (atℤ (now capacities)) ⌝ }
+    requires { ⌜ Drawn (mapOf nodes edges (now tails) (now rotations)) (at (now lefts)) faces outer (atℤ (now capacities))
+        × Walked (2 * edges) faces outer trees (at (now rotations)) (now lefts) (now order) (now from) (now grouped) (now starts) (now ends) ⌝ }
     ensures { λ r. ⌜ solvedAlone (drawingOf nodes edges outer (now (tails .entry)) (now (rotations .entry)) (now (capacities .entry))) q
         (now (flows .entry)) (now (flows .exit)) (now (set .entry)) (now (set .exit)) r ⌝ }
 {
@@ -155,9 +163,15 @@ fn ask<'a>(
         rotations,
         lefts,
         capacities,
+        order,
+        from,
+        grouped,
+        starts,
+        ends,
         nodes,
         edges,
         faces,
+        trees,
         outer,
         q.source,
         q.sink,
@@ -173,15 +187,22 @@ fn answer_all<'a>(
     rotations: &'a [u16; 1024],
     lefts: &'a [u16; 1024],
     capacities: &'a [i32; 1024],
+    order: &'a [u16; 1024],
+    from: &'a [u16; 1024],
+    grouped: &'a [u16; 1024],
+    starts: &'a [u16; 1024],
+    ends: &'a [u16; 1024],
     nodes: usize,
     edges: usize,
     faces: usize,
+    trees: usize,
     outer: usize,
     list: Listed,
     flows: &mut [i32],
     sets: &mut [u64],
 ) -> Page
     requires { ⌜ Drawn (mapOf nodes edges (now tails) (now rotations)) (at (now lefts)) faces outer (atℤ (now capacities))
+        × Walked (2 * edges) faces outer trees (at (now rotations)) (now lefts) (now order) (now from) (now grouped) (now starts) (now ends)
         × (list .count ≤ 64) × (list .count * edges ≤ length (now flows)) × (list .count * wordsFor nodes ≤ length (now sets)) ⌝ }
     ensures { λ r. ⌜ Paged (listChecks nodes edges (list .count) (now (flows .entry)) (now (sets .entry))) edges (wordsFor nodes) (list .count)
         (λ i. solvedAlone (drawingOf nodes edges outer (now (tails .entry)) (now (rotations .entry)) (now (capacities .entry)))
@@ -198,21 +219,27 @@ fn answer_all<'a>(
     while i < count {
         let start = i * edges;
         let end = start + edges;
-        let from = i * words;
-        let to = from + words;
+        let word = i * words;
+        let past = word + words;
         let q = list.questions[i];
         let answer = ask(
             tails,
             rotations,
             lefts,
             capacities,
+            order,
+            from,
+            grouped,
+            starts,
+            ends,
             nodes,
             edges,
             faces,
+            trees,
             outer,
             q,
             &mut flows[start..end],
-            &mut sets[from..to],
+            &mut sets[word..past],
         );
         answers[i] = Answered { answer: answer };
         i += 1;
@@ -244,15 +271,22 @@ pub fn answer_list<'a>(
     rotations: &'a [u16; 1024],
     lefts: &'a [u16; 1024],
     capacities: &'a [i32; 1024],
+    order: &'a [u16; 1024],
+    from: &'a [u16; 1024],
+    grouped: &'a [u16; 1024],
+    starts: &'a [u16; 1024],
+    ends: &'a [u16; 1024],
     nodes: usize,
     edges: usize,
     faces: usize,
+    trees: usize,
     outer: usize,
     list: Listed,
     flows: &mut [i32],
     sets: &mut [u64],
 ) -> Page
-    requires { ⌜ Drawn (mapOf nodes edges (now tails) (now rotations)) (at (now lefts)) faces outer (atℤ (now capacities)) ⌝ }
+    requires { ⌜ Drawn (mapOf nodes edges (now tails) (now rotations)) (at (now lefts)) faces outer (atℤ (now capacities))
+        × Walked (2 * edges) faces outer trees (at (now rotations)) (now lefts) (now order) (now from) (now grouped) (now starts) (now ends) ⌝ }
     ensures { λ r. ⌜ Paged (listChecks nodes edges (list .count) (now (flows .entry)) (now (sets .entry))) edges (wordsFor nodes) (list .count)
         (λ i. solvedAlone (drawingOf nodes edges outer (now (tails .entry)) (now (rotations .entry)) (now (capacities .entry)))
         (questionAt (list .questions) i))
@@ -267,9 +301,15 @@ pub fn answer_list<'a>(
         rotations,
         lefts,
         capacities,
+        order,
+        from,
+        grouped,
+        starts,
+        ends,
         nodes,
         edges,
         faces,
+        trees,
         outer,
         list,
         flows,

@@ -44,7 +44,10 @@ fn fill_slacks(capacities: &[i32; 1024], edges: usize, flows: &[i32], slacks: &m
     for e in 0..edges {
         let flow = signed::to_bits(flows[e]);
         slacks[2 * e] = std::num::wrapping_sub_u32(signed::to_bits(capacities[2 * e]), flow);
-        slacks[2 * e + 1] = std::num::wrapping_add_u32(signed::to_bits(capacities[2 * e + 1]), flow);
+        slacks[2 * e + 1] = std::num::wrapping_add_u32(
+            signed::to_bits(capacities[2 * e + 1]),
+            flow,
+        );
     }
 }
 
@@ -139,7 +142,16 @@ fn grow<'a>(
         let v = place(list[next]);
         let start = place(to[v]);
         next += 1;
-        end = take_round(tails, rotations, lefts, parents, start, &mut *to, &mut list, end);
+        end = take_round(
+            tails,
+            rotations,
+            lefts,
+            parents,
+            start,
+            &mut *to,
+            &mut list,
+            end,
+        );
     }
 }
 
@@ -235,8 +247,8 @@ fn turn_round(tails: &[u16; 1024], v: usize, by: usize, x: usize, to: &mut [u16;
     }
 }
 
-// One pivot: the value is raised until a dart of the way is full; the face left of that dart now hangs from it, and the edge from which it hung takes the dart's
-// place in the tree of the nodes. Answers whether there is such an edge; where there is none, the nodes whose way passes `x`, where the dart begins, are the set.
+// One pivot on the dart d, which is full: the face left of it now hangs from it, and the edge from which that hung takes the dart's place in the tree of the
+// nodes. Answers whether there is such an edge; where there is none, the nodes whose way passes the node where d begins are the set.
 fn pivot(
     tails: &[u16; 1024],
     lefts: &[u16; 1024],
@@ -355,8 +367,8 @@ fn raise(
     place(tails[d])
 }
 
-// Flags the nodes of a set, from flows that carry some value, and the parents that the search left beside them. The source, where the tree of the nodes does not
-// reach it, is left out of the set. The parents are changed.
+// Flags the nodes of a set, from flows that carry some value, and the parents that the search left beside them. Where the tree of the nodes does not reach the
+// source, that is left out of the set. The parents are changed.
 pub fn propose(
     tails: &[u16; 1024],
     rotations: &[u16; 1024],
@@ -383,6 +395,14 @@ pub fn propose(
     }
     let mut slacks = [0u32; 1024];
     fill_slacks(capacities, edges, flows, &mut slacks);
-    let x = raise(tails, lefts, source, sink, &mut to, &mut *parents, &mut slacks);
+    let x = raise(
+        tails,
+        lefts,
+        source,
+        sink,
+        &mut to,
+        &mut *parents,
+        &mut slacks,
+    );
     flag_beyond(tails, &to, nodes, sink, x, inside);
 }

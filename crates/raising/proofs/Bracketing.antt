@@ -29,10 +29,11 @@ use Rattle.raising.specs.declared.Found.the-variants.{At, Nowhere}
 use Rattle.raising.proofs.Raised.{Elsewhere, le-same, raised-more}
 
 -- what the loop keeps: the sizes of its arrays, the capacities of all other darts, and the bounds
-pub record Probing (𝓓 : Drawing) (s t : ℕ) (value : ℤ) (edge : ℕ) (old now : List ℤ) (before flows : List ℤ) (inside : List ℕ) (low high : ℤ)
-    (found : Bool) : Type 0 where
+pub record Probing (𝓓 : Drawing) (s t : ℕ) (value : ℤ) (edge : ℕ) (old now : List ℤ) (before flows : List ℤ) (inside parents : List ℕ)
+    (low high : ℤ) (found : Bool) : Type 0 where
   pub size-capacities : length now ≡ 1024
   pub size-inside : length inside ≡ 1024
+  pub size-parents : length parents ≡ 1024
   pub size-flows : length flows ≡ length before
   pub elsewhere : Elsewhere edge now old
   pub bracket : Bracket 𝓓 s t value edge before flows low high found

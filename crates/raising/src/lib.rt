@@ -8,6 +8,7 @@ ghost use lib.IntN.{pos, _+ℤ_, _-ℤ_};
 ghost use lib.Signed.{_≤ℤ_, _<ℤ_};
 ghost use Rattle.integers.specs.inner.Limited.{Limited};
 ghost use Rattle.refusals.specs.Order.{Decides};
+ghost use Rattle.grouping.specs.inner.Walked.{Walked};
 ghost use Rattle.arrays.specs.At.{at, atℤ};
 ghost use Rattle.arrays.specs.inner.Drawn.{Drawn};
 ghost use Rattle.arrays.specs.Maps.{mapOf, drawingOf};
@@ -67,9 +68,15 @@ fn find_limit<'a>(
     rotations: &'a [u16; 1024],
     lefts: &'a [u16; 1024],
     capacities: &mut [i32; 1024],
+    order: &'a [u16; 1024],
+    from: &'a [u16; 1024],
+    grouped: &'a [u16; 1024],
+    starts: &'a [u16; 1024],
+    ends: &'a [u16; 1024],
     nodes: usize,
     edges: usize,
     faces: usize,
+    trees: usize,
     outer: usize,
     source: usize,
     sink: usize,
@@ -81,7 +88,8 @@ fn find_limit<'a>(
     requires { ⌜ (length (now capacities) ≡ 1024) × (length (now inside) ≡ 1024) × (edges ≤ length (now flows)) × (edge < edges)
         × Drawn (mapOf nodes edges (now tails) (now rotations)) (at (now lefts)) faces outer (atℤ (now capacities))
         × Ends (mapOf nodes edges (now tails) (now rotations)) source sink × Limited mostValue value
-        × Limited mostOnSheet (atℤ (now capacities) (2 * edge)) ⌝ }
+        × Limited mostOnSheet (atℤ (now capacities) (2 * edge))
+        × Walked (2 * edges) faces outer trees (at (now rotations)) (now lefts) (now order) (now from) (now grouped) (now starts) (now ends) ⌝ }
     ensures { λ r. ⌜ (length (now (inside .exit)) ≡ 1024)
         × Sought (drawingOf nodes edges outer (now (tails .entry)) (now (rotations .entry)) (now (capacities .entry))) source sink value edge
         (now (flows .entry)) (now (flows .exit)) (now (inside .exit)) r ⌝ }
@@ -90,6 +98,7 @@ fn find_limit<'a>(
     let mut high = capacities[dart];
     let mut low = signed::minus(high, 1);
     let mut found = false;
+    let mut parents = [0u16; 1024];
     let outcome = loop {
         if is_least(low, high, found) {
             break Found::At(high);
@@ -101,13 +110,20 @@ fn find_limit<'a>(
             rotations,
             lefts,
             &*capacities,
+            order,
+            from,
+            grouped,
+            starts,
+            ends,
             nodes,
             edges,
             faces,
+            trees,
             outer,
             source,
             sink,
             value,
+            &mut parents,
             &mut *flows,
             &mut *inside,
         ) {
@@ -132,10 +148,16 @@ pub fn raise_limit<'a>(
     tails: &'a [u16; 1024],
     rotations: &'a [u16; 1024],
     lefts: &'a [u16; 1024],
-    capacities: &'a [i32; 1024],
+    capacities: &mut [i32; 1024],
+    order: &'a [u16; 1024],
+    from: &'a [u16; 1024],
+    grouped: &'a [u16; 1024],
+    starts: &'a [u16; 1024],
+    ends: &'a [u16; 1024],
     nodes: usize,
     edges: usize,
     faces: usize,
+    trees: usize,
     outer: usize,
     source: u16,
     sink: u16,
@@ -146,7 +168,8 @@ pub fn raise_limit<'a>(
 ) -> RaiseAnswer
     requires { ⌜ (length (now capacities) ≡ 1024)
         × Drawn (mapOf nodes edges (now tails) (now rotations)) (at (now lefts)) faces outer (atℤ (now capacities))
-        × ((d : ℕ) → d < 2 * edges → Limited mostOnSheet (atℤ (now capacities) d)) ⌝ }
+        × ((d : ℕ) → d < 2 * edges → Limited mostOnSheet (atℤ (now capacities) d))
+        × Walked (2 * edges) faces outer trees (at (now rotations)) (now lefts) (now order) (now from) (now grouped) (now starts) (now ends) ⌝ }
     ensures { λ r. ⌜ RaiseFound (drawingOf nodes edges outer (now (tails .entry)) (now (rotations .entry)) (now (capacities .entry)))
         (limitChecks nodes edges source sink value edge (now (flows .entry)) (now (set .entry)))
         source sink value edge (now (flows .entry)) (now (flows .exit)) (now (set .entry)) (now (set .exit)) r ⌝ }
@@ -154,8 +177,8 @@ pub fn raise_limit<'a>(
     let s = arrays::wide(source);
     let t = arrays::wide(sink);
     let e = arrays::wide(edge);
-    let ends = questions::check_ends(nodes, s, t);
-    if let Verdict::Refused(k, p) = ends {
+    let named = questions::check_ends(nodes, s, t);
+    if let Verdict::Refused(k, p) = named {
         return RaiseAnswer::Refused(k, p);
     }
     if questions::value_outside(value) {
@@ -168,16 +191,21 @@ pub fn raise_limit<'a>(
     if let Verdict::Refused(k, p) = room {
         return RaiseAnswer::Refused(k, p);
     }
-    let mut raised = *capacities;
     let mut inside = [0u8; 1024];
     let least = find_limit(
         tails,
         rotations,
         lefts,
-        &mut raised,
+        capacities,
+        order,
+        from,
+        grouped,
+        starts,
+        ends,
         nodes,
         edges,
         faces,
+        trees,
         outer,
         s,
         t,

@@ -49,9 +49,12 @@ laying-end edges {next} {before} {after} {start} {end} {k} {begin} π inside rou
     has' : (y : ℕ) → Orbit next start y → (j : ℕ) × (begin ≤ j) × (j < end) × (after j ≡ rev y)
     has' y o =
         let r = wrap next start k round (o .0) in
-        let c = λ₁ .counted in
-        (end - suc (r .0), omega (arith, r .1, c), omega (arith, r .1, c),
-        λ₁ .lays (r .0) (end - suc (r .0)) (r .1) (omega (arith, r .1, c)) ∙ ap rev (sym (r .2) ∙ o .1))
+        let c = λ₁ .counted in (
+          end - suc (r .0),
+          omega (arith, r .1, c),
+          omega (arith, r .1, c),
+          λ₁ .lays (r .0) (end - suc (r .0)) (r .1) (omega (arith, r .1, c)) ∙ ap rev (sym (r .2) ∙ o .1),
+        )
 
     holds' : (j i : ℕ) → j + suc i ≡ end → i < suc k → (after j < 2 * edges) × Orbit next start (rev (after j))
     holds' j i e l =

@@ -155,8 +155,8 @@ fn node_fault<'a>(
 
 // Faces: rounds of the face step. "The face step of a dart is the turn of its reverse."
 
-// Gives every dart of the face of `start` this number, and lays their reverses, whose right face it is, into the places of `grouped` before `end`, from the last
-// to the first. Answers the place of the last one laid.
+// Gives every dart of the face of `start` this number, and lays their reverses, whose right face it is, into the places of `grouped` before `end`, the last
+// place first. Answers the place of the last one laid.
 fn mark_face(
     rotations: &[u16; 1024],
     edges: usize,

@@ -51,13 +51,13 @@ use Rattle.maximum.proofs.maximize.Statement.{statement}
 use Rattle.maximum.proofs.maximize.Tie as tie
 
 abbrev Inv-loop : tie.InvT-loop
-Inv-loop tails rotations lefts capacities order from grouped starts ends nodes edges faces trees outer source sink flows₀ a₀ b₀ inside₀ parents₀ high₀ low₀ found₀ middle₀
-    flows a b inside parents high low found middle =
+Inv-loop tails rotations lefts capacities order from grouped starts ends nodes edges faces trees outer source sink flows₀ a₀ b₀ inside₀ parents₀ high₀ low₀
+    found₀ middle₀ flows a b inside parents high low found middle =
     Probing (mapOf nodes edges tails rotations) outer (atℤ capacities) source sink flows₀ flows a b inside parents (toZ w32 low) (toZ w32 high) found
 
 abbrev μ-loop : tie.MeasureT-loop
-μ-loop tails rotations lefts capacities order from grouped starts ends nodes edges faces trees outer source sink flows₀ a₀ b₀ inside₀ parents₀ high₀ low₀ found₀ middle₀
-    flows a b inside parents high low found middle =
+μ-loop tails rotations lefts capacities order from grouped starts ends nodes edges faces trees outer source sink flows₀ a₀ b₀ inside₀ parents₀ high₀ low₀
+    found₀ middle₀ flows a b inside parents high low found middle =
     gap (toZ w32 low) (toZ w32 high) found
 
 -- ── what the function is given ──

@@ -37,7 +37,7 @@ answer-all-requires c κs =
     let s = k .before .before .before .before in
     let h = list-accepted (s .args .nodes) (s .args .edges) (s .args .list .count) (s .args .flows .now) (s .args .sets .now)
     (rw (c .before .before .enum-told .given .1) at (k .check-list .ensures)) in
-    (s .pre, h .0, h .1, h .2)
+    (s .pre .0, s .pre .1, h .0, h .1, h .2)
 
 same-length-3 : tie.Need-same-length-3
 same-length-3 c = search needs

@@ -53,14 +53,14 @@ not-false true e = refl
 not-false false e = absurd (true≢false e)
 
 abbrev Inv-loop : tie.InvT-loop
-Inv-loop tails rotations lefts capacities₀ nodes edges faces outer source sink value edge flows₀ inside₀ dart high₀ low₀ found₀
-    capacities flows inside high low found =
-    Probing (drawingOf nodes edges outer tails rotations capacities₀) source sink (toZ w32 value) edge capacities₀ capacities flows₀ flows inside
-    (toZ w32 low) (toZ w32 high) found
+Inv-loop tails rotations lefts capacities₀ order from grouped starts ends nodes edges faces trees outer source sink value edge flows₀ inside₀
+    dart high₀ low₀ found₀ parents₀ capacities flows inside high low found parents =
+    Probing (drawingOf nodes edges outer tails rotations capacities₀) source sink (toZ w32 value) edge capacities₀ capacities flows₀ flows
+    inside parents (toZ w32 low) (toZ w32 high) found
 
 abbrev μ-loop : tie.MeasureT-loop
-μ-loop tails rotations lefts capacities₀ nodes edges faces outer source sink value edge flows₀ inside₀ dart high₀ low₀ found₀
-    capacities flows inside high low found =
+μ-loop tails rotations lefts capacities₀ order from grouped starts ends nodes edges faces trees outer source sink value edge flows₀ inside₀
+    dart high₀ low₀ found₀ parents₀ capacities flows inside high low found parents =
     decisionsLeft (toZ w32 low) (toZ w32 high) found
 
 -- ── what the function is given ──
@@ -96,6 +96,7 @@ loop-holds c =
     record {
       size-capacities = b .pre .0;
       size-inside = b .pre .1;
+      size-parents = refl;
       size-flows = refl;
       elsewhere = λ d n. refl;
       bracket =
@@ -168,7 +169,7 @@ raised-is c =
 
 decide-requires : tie.Need-decide-requires Inv-loop μ-loop
 decide-requires c κs =
-    let n = c .before .before .before in
+    let n = c .before .before .before .before in
     let l = top n in
     let b = start l in
     let a = b .args in
@@ -181,17 +182,19 @@ decide-requires c κs =
           (bracket l) (limit n) (between n .0)) (under n) (p .4)),
       p .5,
       small-value (p .6),
+      l .loop .inv .size-parents,
+      p .8,
     )
 
 -- ── what was decided of it ──
 abbrev asked : tie.After-decide Inv-loop μ-loop → tie.After-next-limit Inv-loop μ-loop
-asked c = c .before .before .before .before
+asked c = c .before .before .before .before .before
 
 abbrev flows' : tie.After-decide Inv-loop μ-loop → List ℤ
-flows' c = c .decide .last .1 .1 .1 .1 .1 .1 .1 .1 .1 .1 .1 .0
+flows' c = c .decide .last .1 .1 .1 .1 .1 .1 .1 .1 .1 .1 .1 .1 .1 .1 .1 .1 .1 .1 .0
 
 abbrev inside' : tie.After-decide Inv-loop μ-loop → List ℕ
-inside' c = c .decide .last .1 .1 .1 .1 .1 .1 .1 .1 .1 .1 .1 .1 .0
+inside' c = c .decide .last .1 .1 .1 .1 .1 .1 .1 .1 .1 .1 .1 .1 .1 .1 .1 .1 .1 .1 .1 .0
 
 abbrev origin : tie.After-decide Inv-loop μ-loop → tie.Start Inv-loop μ-loop
 origin c = start (top (asked c))
@@ -233,6 +236,7 @@ loop-again c =
     record {
       size-capacities = size-now n;
       size-inside = k .decide .ensures .0;
+      size-parents = k .decide .ensures .2;
       size-flows = filled-length _ _ (l .loop .flows) (flows' k) (d .2) (omega (arith, b .pre .2, l .loop .inv .size-flows)) ∙ l .loop .inv .size-flows;
       elsewhere = elsewhere-now n;
       bracket =
@@ -275,6 +279,7 @@ loop-again-2 c =
     record {
       size-capacities = size-now n;
       size-inside = k .decide .ensures .0;
+      size-parents = k .decide .ensures .2;
       size-flows = ap length (d .0) ∙ l .loop .inv .size-flows;
       elsewhere = elsewhere-now n;
       bracket =
@@ -304,6 +309,7 @@ loop-again-3 c =
     record {
       size-capacities = size-now n;
       size-inside = k .decide .ensures .0;
+      size-parents = k .decide .ensures .2;
       size-flows = ap length (d .0) ∙ l .loop .inv .size-flows;
       elsewhere = elsewhere-now n;
       bracket =

@@ -112,14 +112,14 @@ wide-requires-3 c κs = search needs
 check-ends-requires : tie.Need-check-ends-requires
 check-ends-requires c κs = search needs
 
-enum-known-ends : tie.Need-enum-known-ends
-enum-known-ends c = search needs
+enum-known-named : tie.Need-enum-known-named
+enum-known-named c = search needs
 
 returns : tie.Need-returns
 returns c =
     let e = c .before .before .before in
     let a = begun e .args in
-    let j = ends-judged e (Refused _ _) (c .before .ends .given .1) in
+    let j = ends-judged e (Refused _ _) (c .before .named .given .1) in
     (raise-ends (a .nodes) (a .edges) (a .source) (a .sink) (a .value) (a .edge) (a .flows .now) (a .set .now) _ _ j, refl, refl)
 
 enum-told : tie.Need-enum-told
@@ -175,7 +175,7 @@ enum-told-2 c = search needs
 
 -- ── what was found ──
 abbrev roomy : tie.After-inside → tie.After-enum-told2
-roomy c = c .before .before .before .before
+roomy c = c .before .before .before
 
 edge-at : (c : tie.After-enum-told2) → start c .args .edge < start c .args .edges
 edge-at c = edge-in _ _ (is-edge (asked c))
@@ -196,16 +196,17 @@ find-limit-requires c κs =
       ends-for (w .before .before .wide .ensures) (w .before .wide2 .ensures) (drawing s .map) (two (ended (asked m .before))),
       small-value (value-limited _ (inside (asked m .before))),
       rw (w .wide3 .ensures) (present m),
+      s .pre .3,
     )
 
 abbrev known : tie.After-find-limit → tie.After-enum-told2
 known c = roomy (c .before)
 
 abbrev flows' : tie.After-find-limit → List ℤ
-flows' c = c .find-limit .last .1 .1 .1 .1 .1 .1 .1 .1 .1 .1 .1 .1 .0
+flows' c = c .find-limit .last .1 .1 .1 .1 .1 .1 .1 .1 .1 .1 .1 .1 .1 .1 .1 .1 .1 .1 .0
 
 abbrev inside' : tie.After-find-limit → List ℕ
-inside' c = c .find-limit .last .1 .1 .1 .1 .1 .1 .1 .1 .1 .1 .1 .1 .1 .0
+inside' c = c .find-limit .last .1 .1 .1 .1 .1 .1 .1 .1 .1 .1 .1 .1 .1 .1 .1 .1 .1 .1 .1 .0
 
 sought : (c : tie.After-find-limit) {answer : Found} → c .find-limit .result ≡ answer
     → Sought (drawing (start (known c))) (start (known c) .args .source) (start (known c) .args .sink) (start (known c) .args .value)
@@ -280,7 +281,7 @@ raise-limit-spec =
     wide-requires-2
     wide-requires-3
     check-ends-requires
-    enum-known-ends
+    enum-known-named
     returns
     enum-told
     value-outside-requires
