@@ -9,7 +9,7 @@ use crate::flow::{carry, least_limit, net_flows, range, MOST_LIMIT};
 use crate::grow::{grow, Grown};
 use crate::judge;
 use crate::levels::{flows_of, highest, levels_of};
-use crate::unit::{Call, Lent};
+use crate::unit::{Call, Lent, PAGE};
 use std::collections::BTreeMap;
 use std::fmt::Write;
 
@@ -45,6 +45,10 @@ impl Tally {
                 b'n' => "cannot",
                 _ => "refused in the text",
             },
+            (Call::Page { count: 0 }, 0) => "empty",
+            (Call::Page { count: PAGE }, 0) => "of 64",
+            (Call::Page { count }, 0) if [0, 1, 13, 14, 15].iter().all(|answer| after.answers[..*count].contains(answer)) => "with every answer",
+            (Call::Page { .. }, 0) => "with some answers",
             (_, 0) => "done",
             _ => "refused",
         };
@@ -100,6 +104,8 @@ struct Due {
 /// A set, due in one slice or the same in two.
 struct Proof {
     slices: &'static [Slice],
+    /// How many sets stand before it in the slice: of a page, its question.
+    before: usize,
     drawing: Drawing,
     source: u16,
     sink: u16,
@@ -133,7 +139,8 @@ impl Checker<'_> {
         for _ in 0..3 {
             self.damaged(drawing)?;
         }
-        self.practice()
+        self.practice()?;
+        self.pages(drawing, grown.source, grown.sink)
     }
 
     /// One call, and its answer if it is as it should be.
@@ -147,10 +154,15 @@ impl Checker<'_> {
         }
         let mut objections = String::new();
         for proof in &due.proofs {
-            let set = proof.slices[0](&mut after)[..proof.drawing.words()].to_vec();
-            proof.slices.iter().for_each(|slice| slice(&mut due.lent)[..set.len()].copy_from_slice(&set));
-            if let Call::Solve { .. } = call {
-                due.lent.size = set.iter().map(|word| word.count_ones() as u16).sum();
+            let words = proof.drawing.words();
+            let place = proof.before * words..(proof.before + 1) * words;
+            let set = proof.slices[0](&mut after)[place.clone()].to_vec();
+            proof.slices.iter().for_each(|slice| slice(&mut due.lent)[place.clone()].copy_from_slice(&set));
+            let size = set.iter().map(|word| word.count_ones() as u16).sum();
+            match call {
+                Call::Solve { .. } => due.lent.size = size,
+                Call::Page { .. } => due.lent.sizes[proof.before] = size,
+                _ => {}
             }
             let objection = judge::objection(&proof.drawing, &set, proof.source, proof.sink, proof.value);
             objections.extend(objection.map(|text| text + "\n"));
@@ -188,11 +200,25 @@ impl Checker<'_> {
                 lent.length = bytes.len();
             }
             Call::Solve { source, sink, value } => {
-                let flows = carry(&drawing, source as usize, sink as usize, value as i64);
+                let flows = solved(&drawing, source, sink, value);
                 lent.can = flows.is_some() as u8;
                 match flows {
-                    Some(flows) => store(&mut lent.flows, &highest(&drawing, &drawing.faces(), &flows)),
-                    None => due.proofs = vec![Proof { slices: &[SET], drawing, source, sink, value: Some(value as i64) }],
+                    Some(flows) => store(&mut lent.flows, &flows),
+                    None => due.proofs = vec![Proof { slices: &[SET], before: 0, drawing, source, sink, value: Some(value as i64) }],
+                }
+            }
+            Call::Page { count } => {
+                for i in 0..count {
+                    let (source, sink, value) = (before.sources[i], before.sinks[i], before.values[i]);
+                    (lent.answers[i], lent.sizes[i]) = (0, 0);
+                    if let Err(refusal) = judge::question(&drawing, source, sink, value) {
+                        lent.answers[i] = refusal.number;
+                    } else if let Some(flows) = solved(&drawing, source, sink, value) {
+                        lent.answers[i] = 1;
+                        store(&mut lent.flows[i * drawing.edges()..], &flows);
+                    } else {
+                        due.proofs.push(Proof { slices: &[SET], before: i, drawing: drawing.clone(), source, sink, value: Some(value as i64) });
+                    }
                 }
             }
             Call::Largest { source, sink } => {
@@ -203,13 +229,13 @@ impl Checker<'_> {
                     store(&mut lent.flows, &highest(&drawing, &drawing.faces(), &flows));
                     lent.value = value as i32;
                 }
-                due.proofs = vec![Proof { slices: &[SET], drawing, source, sink, value: largest.map(|value| value + 1) }];
+                due.proofs = vec![Proof { slices: &[SET], before: 0, drawing, source, sink, value: largest.map(|value| value + 1) }];
             }
             Call::LeastAndLargest { source, sink } => {
                 let values = range(&drawing, source as usize, sink as usize);
                 lent.found = values.is_some() as u8;
                 let Some((least, largest)) = values else {
-                    due.proofs = vec![Proof { slices: &[BELOW, ABOVE], drawing, source, sink, value: None }];
+                    due.proofs = vec![Proof { slices: &[BELOW, ABOVE], before: 0, drawing, source, sink, value: None }];
                     return Ok(due);
                 };
                 let carried = |value: i64| carry(&drawing, source as usize, sink as usize, value).expect("the least and the largest can be carried");
@@ -217,8 +243,8 @@ impl Checker<'_> {
                 store(&mut lent.high, &highest(&drawing, &drawing.faces(), &carried(largest)));
                 (lent.least, lent.largest) = (least as i32, largest as i32);
                 due.proofs = vec![
-                    Proof { slices: &[BELOW], drawing: drawing.clone(), source, sink, value: Some(least - 1) },
-                    Proof { slices: &[ABOVE], drawing, source, sink, value: Some(largest + 1) },
+                    Proof { slices: &[BELOW], before: 0, drawing: drawing.clone(), source, sink, value: Some(least - 1) },
+                    Proof { slices: &[ABOVE], before: 0, drawing, source, sink, value: Some(largest + 1) },
                 ];
             }
             Call::RaiseLimit { source, sink, value, edge } => {
@@ -230,7 +256,7 @@ impl Checker<'_> {
                     store(&mut lent.flows, &highest(&raised, &raised.faces(), &flows));
                     lent.value = limit as i32;
                 } else {
-                    due.proofs = vec![Proof { slices: &[SET], drawing: raised, source, sink, value: Some(value as i64) }];
+                    due.proofs = vec![Proof { slices: &[SET], before: 0, drawing: raised, source, sink, value: Some(value as i64) }];
                 }
             }
             Call::Mark { source, .. } => lent.value = net_flows(&drawing, &judge::wide(&lent.flows))[source as usize] as i32,
@@ -622,6 +648,36 @@ impl Checker<'_> {
         Ok(())
     }
 
+    /// Pages: one of questions between two nodes and of wrong ones, and one whose number of questions, room or sheet may be refused.
+    fn pages(&mut self, drawing: &Drawing, source: usize, sink: usize) -> Check {
+        let (least, largest) = range(drawing, source, sink).unwrap_or((-3, 3));
+        let most = if drawing.edges() > 60 { 3 } else { 12 };
+        let of_64 = drawing.edges() < 8 && self.chance.one_in(4);
+        let count = if of_64 { PAGE } else { self.chance.below(most + 1) };
+        let many = self.chance.pick(&[PAGE + 1, PAGE + 1, 2 * PAGE, usize::MAX]);
+        for (count, damaged) in [(count, false), (self.chance.below(3), false), (many, false), (0, true), (2, true), (many, true)] {
+            let bytes = if damaged { damage::bytes(&mut self.chance, drawing) } else { drawing.bytes() };
+            let mut lent = Lent::new(bytes);
+            for _ in 0..PAGE {
+                let within = self.chance.between(least, largest);
+                let wrong = self.chance.one_in(3);
+                let (from, to) = if wrong { (self.some_end(drawing), self.some_end(drawing)) } else { (source as u16, sink as u16) };
+                lent.sources.push(from);
+                lent.sinks.push(to);
+                lent.values.push(self.chance.pick(&[within, within, largest, largest + 1, least, least - 1, 0, 600_000_001]) as i32);
+            }
+            lent.answers = self.chance.junk(PAGE, |x| x as u8);
+            lent.sizes = self.chance.junk(PAGE, |x| x as u16);
+            let short = self.chance.one_in(3);
+            let needed = count.min(PAGE + 1);
+            let (flows, set) = (self.room(needed * drawing.edges(), short), self.room(needed * drawing.words(), short));
+            lent.flows = self.chance.junk(flows, |x| x as i32);
+            lent.set = self.chance.junk(set, |x| x);
+            self.compare(Call::Page { count }, &lent)?;
+        }
+        Ok(())
+    }
+
     /// A damaged sheet, to every operation, and damaged slices to Write.
     fn damaged(&mut self, whole: &Drawing) -> Check {
         let bytes = damage::bytes(&mut self.chance, whole);
@@ -669,6 +725,12 @@ impl Checker<'_> {
     }
 }
 
+/// The highest flow of a value, where it can be carried.
+fn solved(drawing: &Drawing, source: u16, sink: u16, value: i32) -> Option<Vec<i64>> {
+    let flows = carry(drawing, source as usize, sink as usize, value as i64)?;
+    Some(highest(drawing, &drawing.faces(), &flows))
+}
+
 /// Puts numbers into the first elements of a slice that has room for them.
 fn store(slice: &mut [i32], numbers: &[i64]) {
     assert!(numbers.len() <= slice.len());
@@ -694,7 +756,7 @@ fn differ(text: &mut String, got: &Lent, due: &Lent) {
             })*
         };
     }
-    each!(slices: sheet flows set low below high above levels subtotals tails rotations capacities text;
+    each!(slices: sheet flows set low below high above levels subtotals tails rotations capacities text sources sinks values answers sizes;
         answers: can found size value least largest total nodes edges outer length place guards);
 }
 
@@ -723,6 +785,11 @@ fn picture(call: &Call, before: &Lent) -> String {
         Call::Mark { .. } | Call::LevelsFromSettings => writeln!(text, "# flows {:?}", before.flows).unwrap(),
         Call::SettingsFromLevels => writeln!(text, "# levels {:?}", before.levels).unwrap(),
         Call::Totals => writeln!(text, "# set {:?}, {} places", before.set, before.subtotals.len()).unwrap(),
+        Call::Page { count } => {
+            for i in 0..(*count).min(PAGE) {
+                writeln!(text, "# question {i}: {} {} {}", before.sources[i], before.sinks[i], before.values[i]).unwrap();
+            }
+        }
         _ => {}
     }
     writeln!(text, "# lent: sheet {}, flows {}, set {}, levels {}", before.sheet.len(), before.flows.len(), before.set.len(), before.levels.len()).unwrap();

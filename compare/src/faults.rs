@@ -4,7 +4,7 @@ use crate::flow::{carry, least_on, range, MOST_LIMIT};
 use crate::grid::{self, Grid};
 use crate::judge;
 use crate::levels::{flows_of, highest, highest_from, levels_of, lowest};
-use crate::unit::{self, Call, Lent};
+use crate::unit::{self, Call, Lent, PAGE};
 
 macro_rules! faults {
     ($($name:ident: $says:literal,)*) => {
@@ -133,6 +133,26 @@ faults! {
     DimacsPartOnShort: "a short output is refused after it was filled",
     TwentyTwoForFourteen: "least flows are looked at before whether the ends are equal",
     SixteenForTwentyTwo: "room is looked at before least flows",
+    PageSetsByChannels: "question i of a page has its set from i times the channels on",
+    PageStretchLonger: "each stretch of a page's flows has an element more than there are channels",
+    PageRefusedWithoutStretch: "a refused question of a page has no stretch, and the next has the one it would have",
+    PageReversed: "a page's answers come in reverse",
+    PageRefusedCleared: "a refused question of a page clears its stretches",
+    PageCannotCleared: "a question of a page that cannot clears its stretch of flows",
+    PagePastTheLast: "a page clears what lies past its last stretches",
+    PageAnswersPastTheLast: "a page writes an answer past its last question",
+    PageSizesLeft: "a page leaves the size of a question that can",
+    PageFirstEnds: "every question of a page has the ends of the first",
+    PageByOneRefusal: "a page is refused where one of its questions is",
+    PageOfNoneNeedsRoom: "an empty page asks for the room of one question",
+    PageOfNoneUnchecked: "an empty page is answered without a look at the sheet",
+    PageOfSixtyThree: "64 questions are one too many",
+    PageOfManyCut: "of more than 64 questions the first 64 are answered",
+    PageRoomOfTheAnswered: "16 of a page asks for no room behind the last question that is not refused",
+    PageShortSetsUnseen: "a page does not look at the length of its sets where every question can",
+    PageOnRefusal: "a page that is refused writes the first answer",
+    SixteenForTwentyOne: "room for a page is looked at before the number of its questions",
+    TwentyOneForTheSheet: "the number of questions is looked at before the sheet",
 }
 
 /// The unit, with a fault or without.
@@ -151,9 +171,9 @@ impl Library {
             *lent = Lent { place: 0, ..before };
             return 1;
         }
-        if result == 0 && *call == Call::Totals && asks_for_more(fault, &before) {
+        if let (0, Some(number)) = (result, refuses(fault, call, &before, lent)) {
             *lent = Lent { place: 0, ..before };
-            return 16;
+            return number;
         }
         if result != 0 {
             return refusal(fault, call, &before, lent, result);
@@ -229,6 +249,7 @@ fn answer(fault: Fault, call: &Call, drawing: &Drawing, before: &Lent, after: &m
         },
         Call::Totals => totals(fault, drawing, after),
         Call::WriteDimacs { source, sink } => dimacs(fault, (source, sink), drawing, before, after),
+        Call::Page { count } => page(fault, count, drawing, before, after),
         Call::KeyText | Call::PracticeSheet { .. } => {}
     }
 }
@@ -404,6 +425,85 @@ fn totals(fault: Fault, drawing: &Drawing, after: &mut Lent) {
     }
     after.total = nodes.iter().map(|&node| subtotal(node)).sum();
     after.subtotals.iter_mut().zip(&nodes).for_each(|(element, &node)| *element = subtotal(node));
+}
+
+/// What a fault makes of a page's answers.
+fn page(fault: Fault, count: usize, drawing: &Drawing, before: &Lent, after: &mut Lent) {
+    let (edges, words) = (drawing.edges(), drawing.words());
+    let refused = |i: usize| judge::question(drawing, before.sources[i], before.sinks[i], before.values[i]).is_err();
+    let answered = |i: usize| (0..i).filter(|&i| !refused(i)).count();
+    match fault {
+        Fault::PageSetsByChannels => laid(drawing, count, before, after, |i| (i * edges, i * edges)),
+        Fault::PageStretchLonger => laid(drawing, count, before, after, |i| (i * (edges + 1), i * words)),
+        Fault::PageRefusedWithoutStretch => laid(drawing, count, before, after, |i| (answered(i) * edges, answered(i) * words)),
+        Fault::PageReversed => {
+            after.answers[..count].reverse();
+            after.sizes[..count].reverse();
+        }
+        Fault::PageRefusedCleared => {
+            for i in (0..count).filter(|&i| refused(i)) {
+                after.flows[i * edges..][..edges].fill(0);
+                after.set[i * words..][..words].fill(0);
+            }
+        }
+        Fault::PageCannotCleared => (0..count).filter(|&i| after.answers[i] == 0).for_each(|i| after.flows[i * edges..][..edges].fill(0)),
+        Fault::PagePastTheLast => {
+            after.flows[count * edges..].fill(0);
+            after.set[count * words..].fill(0);
+        }
+        Fault::PageAnswersPastTheLast if count < PAGE => after.answers[count] = 0,
+        Fault::PageSizesLeft => (0..count).filter(|&i| after.answers[i] == 1).for_each(|i| after.sizes[i] = before.sizes[i]),
+        Fault::PageFirstEnds => {
+            let mut other = Lent { sources: vec![before.sources[0]; PAGE], sinks: vec![before.sinks[0]; PAGE], ..before.clone() };
+            unit::call(&Call::Page { count }, &mut other);
+            *after = Lent { sources: before.sources.clone(), sinks: before.sinks.clone(), ..other };
+        }
+        _ => {}
+    }
+}
+
+/// A page's flows and sets with each stretch from another place on, as far as there is room.
+fn laid(drawing: &Drawing, count: usize, before: &Lent, after: &mut Lent, place: impl Fn(usize) -> (usize, usize)) {
+    let (edges, words) = (drawing.edges(), drawing.words());
+    let given = Lent { flows: before.flows.clone(), set: before.set.clone(), ..after.clone() };
+    let due = std::mem::replace(after, given);
+    for i in 0..count {
+        let (flows, set) = place(i);
+        match due.answers[i] {
+            1 => after.flows.iter_mut().skip(flows).zip(&due.flows[i * edges..][..edges]).for_each(|(element, flow)| *element = *flow),
+            0 => after.set.iter_mut().skip(set).zip(&due.set[i * words..][..words]).for_each(|(element, word)| *element = *word),
+            _ => {}
+        }
+    }
+}
+
+/// The page that a fault answers where it should be refused, in room that is long enough, cut to the room that there is.
+fn paged_anyway(count: usize, before: &Lent, after: &mut Lent, when: impl Fn(&Drawing, &Lent) -> bool) -> bool {
+    let Ok(drawing) = judge::sheet(&before.sheet) else { return false };
+    let mut longer = before.clone();
+    longer.flows.resize(before.flows.len().max(count * drawing.edges()), 0);
+    longer.set.resize(before.set.len().max(count * drawing.words()), 0);
+    if unit::call(&Call::Page { count }, &mut longer) != 0 || !when(&drawing, &longer) {
+        return false;
+    }
+    longer.flows.truncate(before.flows.len());
+    longer.set.truncate(before.set.len());
+    *after = longer;
+    true
+}
+
+/// The number with which a fault refuses what is answered.
+fn refuses(fault: Fault, call: &Call, before: &Lent, after: &Lent) -> Option<u8> {
+    match *call {
+        Call::Totals if asks_for_more(fault, before) => Some(16),
+        Call::Page { count } => match fault {
+            Fault::PageByOneRefusal => after.answers[..count].iter().copied().find(|&answer| answer > 1),
+            Fault::PageOfNoneNeedsRoom if count == 0 && (before.flows.is_empty() || before.set.is_empty()) => Some(16),
+            Fault::PageOfSixtyThree if count == PAGE => Some(21),
+            _ => None,
+        },
+        _ => None,
+    }
 }
 
 /// Whether a fault refuses an answer of Totals by node with 16.
@@ -649,6 +749,38 @@ fn refusal(fault: Fault, call: &Call, before: &Lent, after: &mut Lent, result: u
                 return 0;
             }
         }
+        (Fault::PageOfNoneUnchecked, _) if *call == (Call::Page { count: 0 }) => {
+            after.place = before.place;
+            return 0;
+        }
+        (Fault::PageOnRefusal, _) if matches!(call, Call::Page { .. }) => after.answers[0] = 0,
+        (Fault::SixteenForTwentyOne, 21) if judge::records(sheet).is_ok_and(|drawing| before.flows.len() < (PAGE + 1) * drawing.edges()) => return 16,
+        (Fault::TwentyOneForTheSheet, _) => match *call {
+            Call::Page { count } if count > PAGE => return 21,
+            _ => {}
+        },
+        (Fault::PageOfManyCut, 21) if paged_anyway(PAGE, before, after, |_, _| true) => return 0,
+        (Fault::PageRoomOfTheAnswered, 16) => match *call {
+            Call::Page { count }
+                if paged_anyway(count, before, after, |drawing, page| {
+                    let used = (0..count).filter(|&i| page.answers[i] < 2).last().map_or(0, |last| last + 1);
+                    used * drawing.edges() <= before.flows.len() && used * drawing.words() <= before.set.len()
+                }) =>
+            {
+                return 0
+            }
+            _ => {}
+        },
+        (Fault::PageShortSetsUnseen, 16) => match *call {
+            Call::Page { count }
+                if paged_anyway(count, before, after, |drawing, page| {
+                    page.answers[..count].iter().all(|&answer| answer == 1) && count * drawing.edges() <= before.flows.len()
+                }) =>
+            {
+                return 0
+            }
+            _ => {}
+        },
         (Fault::TotalsOnRefusal, _) if *call == Call::Totals && !after.subtotals.is_empty() => after.subtotals[0] = 0,
         (Fault::TotalsShortSet, 16) if *call == Call::Totals => {
             let mut longer = before.clone();
@@ -737,7 +869,7 @@ mod tests {
         run(None, &mut tally).unwrap_or_else(|wrong| panic!("{wrong}"));
         let sheet: Vec<u8> = (1..=10).chain([12, 24]).collect(); // 11 no longer occurs
         let with = |more: &[u8]| [&sheet[..], more].concat();
-        let due: [(&str, Vec<u8>, &[&str]); 10] = [
+        let due: [(&str, Vec<u8>, &[&str]); 14] = [
             ("Read", with(&[16]), &["done"]),
             ("Write", vec![3, 4, 5, 6, 7, 9, 10, 12, 16, 24], &["done"]),
             ("Solve", with(&[13, 14, 15, 16]), &["can", "cannot"]),
@@ -751,6 +883,7 @@ mod tests {
             ("Key text", vec![16], &["can", "cannot", "refused in the text"]),
             ("Practice sheet", vec![16, 23], &["done"]),
             ("DIMACS text", with(&[13, 14, 16, 22]), &["done"]),
+            ("Page", with(&[16, 21]), &["empty", "of 64", "with every answer", "with some answers"]),
         ];
         for (name, refusals, answers) in due {
             let met: Vec<_> = tally.answers.keys().filter(|key| key.0 == name).map(|&(_, number, answer)| (number, answer)).collect();

@@ -2,7 +2,7 @@
 use crate::drawing::{count, rounds, Drawing, EDGE, HEAD, OUTER_HEAD};
 use crate::flow::{along, net_flows};
 use crate::grid;
-use crate::unit::{Call, Lent};
+use crate::unit::{Call, Lent, PAGE};
 
 #[derive(Clone, Copy, Debug, PartialEq)]
 pub struct Refusal {
@@ -87,6 +87,10 @@ pub fn accept(call: &Call, lent: &Lent) -> Result<Drawing, Refusal> {
             ends(&drawing, source, sink)?;
             refuse(22, drawing.capacities.iter().any(|&capacity| capacity < 0))?;
             refuse(16, lent.text.len() < crate::dimacs::text(&drawing, source, sink).len())?;
+        }
+        Call::Page { count } => {
+            refuse(21, count > PAGE)?;
+            refuse(16, lent.flows.len() < count * drawing.edges() || lent.set.len() < count * drawing.words())?;
         }
         Call::Write { .. } | Call::KeyText | Call::PracticeSheet { .. } => unreachable!("judged above"),
     }

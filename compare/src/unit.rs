@@ -16,6 +16,7 @@ pub enum Call {
     KeyText,
     PracticeSheet { rows: u16, columns: u16, seed: u32 },
     WriteDimacs { source: u16, sink: u16 },
+    Page { count: usize },
 }
 
 impl Call {
@@ -34,9 +35,13 @@ impl Call {
             Call::KeyText => "Key text",
             Call::PracticeSheet { .. } => "Practice sheet",
             Call::WriteDimacs { .. } => "DIMACS text",
+            Call::Page { .. } => "Page",
         }
     }
 }
+
+/// The elements of each array of a page.
+pub const PAGE: usize = 64;
 
 /// All memory that a call can reach: the slices, and the answers behind pointers. A call uses some of it, and must leave the rest.
 #[derive(Clone, Debug, PartialEq)]
@@ -57,6 +62,12 @@ pub struct Lent {
     pub rotations: Vec<u16>,
     pub capacities: Vec<i32>,
     pub text: Vec<u8>,
+    /// Of a page, whose stretches are in `flows` and `set`: its questions and their answers, 64 elements each.
+    pub sources: Vec<u16>,
+    pub sinks: Vec<u16>,
+    pub values: Vec<i32>,
+    pub answers: Vec<u8>,
+    pub sizes: Vec<u16>,
     pub can: u8,
     pub found: u8,
     pub size: u16,
@@ -90,6 +101,11 @@ impl Lent {
             rotations: vec![],
             capacities: vec![],
             text: vec![],
+            sources: vec![],
+            sinks: vec![],
+            values: vec![],
+            answers: vec![],
+            sizes: vec![],
             can: 0xa5,
             found: 0xa5,
             size: 0xbeef,
@@ -291,6 +307,22 @@ extern "C" {
         length: *mut usize,
         place: *mut u16,
     ) -> u8;
+    #[rustfmt::skip]
+    fn analyser_page(
+        sheet: *const u8,
+        sheet_length: usize,
+        count: usize,
+        sources: *const u16,
+        sinks: *const u16,
+        values: *const i32,
+        flows: *mut i32,
+        flows_length: usize,
+        sets: *mut u64,
+        sets_length: usize,
+        answers: *mut u8,
+        sizes: *mut u16,
+        place: *mut u16,
+    ) -> u8;
 }
 
 /// Calls the unit. The result is the number of the refusal, or 0.
@@ -309,6 +341,11 @@ pub fn call(call: &Call, lent: &mut Lent) -> u8 {
     let mut rotations = Guarded::new(&lent.rotations, 0xa5a5);
     let mut capacities = Guarded::new(&lent.capacities, -0x5a5a_5a5a);
     let mut text = Guarded::new(&lent.text, 0xa5);
+    let mut sources = Guarded::new(&lent.sources, 0xa5a5);
+    let mut sinks = Guarded::new(&lent.sinks, 0xa5a5);
+    let mut values = Guarded::new(&lent.values, -0x5a5a_5a5a);
+    let mut answers = Guarded::new(&lent.answers, 0xa5);
+    let mut sizes = Guarded::new(&lent.sizes, 0xa5a5);
     // Each pointer is to as many elements as its length says, and no two slices overlap.
     let result = unsafe {
         match *call {
@@ -338,6 +375,12 @@ pub fn call(call: &Call, lent: &mut Lent) -> u8 {
                 &mut lent.place),
             Call::WriteDimacs { source, sink } => analyser_write_dimacs(sheet.pointer(), sheet.length(), source, sink, text.pointer(), text.length(),
                 &mut lent.length, &mut lent.place),
+            Call::Page { count } => {
+                let arrays = [sources.length(), sinks.length(), values.length(), answers.length(), sizes.length()];
+                assert_eq!(arrays, [PAGE; 5], "a page has arrays of 64");
+                analyser_page(sheet.pointer(), sheet.length(), count, sources.pointer(), sinks.pointer(), values.pointer(), flows.pointer(), flows.length(),
+                    set.pointer(), set.length(), answers.pointer(), sizes.pointer(), &mut lent.place)
+            }
         }
     };
     lent.guards = sheet.give_back(&mut lent.sheet)
@@ -352,7 +395,12 @@ pub fn call(call: &Call, lent: &mut Lent) -> u8 {
         & tails.give_back(&mut lent.tails)
         & rotations.give_back(&mut lent.rotations)
         & capacities.give_back(&mut lent.capacities)
-        & text.give_back(&mut lent.text);
+        & text.give_back(&mut lent.text)
+        & sources.give_back(&mut lent.sources)
+        & sinks.give_back(&mut lent.sinks)
+        & values.give_back(&mut lent.values)
+        & answers.give_back(&mut lent.answers)
+        & sizes.give_back(&mut lent.sizes);
     result
 }
 

@@ -1,15 +1,20 @@
 // The operations on a case: each makes the call and prints the answer.
+ghost use Prim.Native.Nat.{_<_};
 use super::case;
 use super::say;
 use dimacs::DimacsAnswer;
 use key_text::KeyAnswer;
 use levels::LevelAnswer;
+use pages::Listed;
+use pages::Page;
+use pages::Question;
 use practice::PracticeAnswer;
 use questions::LargestAnswer;
 use questions::MarkAnswer;
 use questions::SolveAnswer;
 use raising::RaiseAnswer;
 use ranges::RangeAnswer;
+use refusals::Verdict;
 use sheets::ReadAnswer;
 use sheets::WriteAnswer;
 use totals::TotalsAnswer;
@@ -65,6 +70,71 @@ pub fn solve(s: &[u8], flows: &mut [i32], set: &mut [u64]) {
     let sink = case::half(s, 4);
     let value = case::word(s, 6);
     say_solve(analyser::solve(case::part(s, 1), source, sink, value, flows, set));
+}
+
+// The question at a place of three slices, put into the list where all have it.
+fn with_next(list: Listed, i: usize, sources: &[u16], sinks: &[u16], values: &[i32]) -> Listed
+    requires { ⌜ i < 64 ⌝ }
+{
+    if i < sources.len() {
+        if i < sinks.len() {
+            if i < values.len() {
+                let q = Question {
+                    source: sources[i],
+                    sink: sinks[i],
+                    value: values[i],
+                };
+                return pages::with_question(list, i, q);
+            }
+        }
+    }
+    list
+}
+
+// As many questions as there are sources: the first 64 of them.
+fn list_of(sources: &[u16], sinks: &[u16], values: &[i32]) -> Listed {
+    let mut next = pages::empty_list(sources.len());
+    let mut i: usize = 0;
+    while i < 64 {
+        next = with_next(next, i, sources, sinks, values);
+        i += 1;
+    }
+    next
+}
+
+fn say_answers(page: Page) {
+    let mut i: usize = 0;
+    while i < 64 {
+        if page.count <= i {
+            return;
+        }
+        let answered = page.answers[i];
+        let answer = answered.answer;
+        say_solve(answer);
+        i += 1;
+    }
+}
+
+fn say_page(page: Page) {
+    let verdict = page.verdict;
+    if let Verdict::Refused(k, p) = verdict {
+        say::refused(k, p);
+        return;
+    }
+    say::say(b": answers");
+    say_answers(page);
+}
+
+pub fn page(
+    s: &[u8],
+    sources: &[u16],
+    sinks: &[u16],
+    values: &[i32],
+    flows: &mut [i32],
+    sets: &mut [u64],
+) {
+    let list = list_of(sources, sinks, values);
+    say_page(analyser::page_of(case::part(s, 1), list, flows, sets));
 }
 
 fn say_largest(answer: LargestAnswer) {
