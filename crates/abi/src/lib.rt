@@ -418,8 +418,8 @@ pub extern "C" fn analyser_write_dimacs(
 {
     let answer = analyser::write_dimacs(sheet, source, sink, text);
     match answer {
-        DimacsAnswer::Bytes(bytes) => {
-            *length = bytes;
+        DimacsAnswer::Bytes(printed) => {
+            *length = printed;
             0
         }
         DimacsAnswer::Refused(k, p) => {

@@ -17,13 +17,16 @@ use Rattle.pages.proofs.answer_all.Statement.{statement}
 use Rattle.pages.proofs.answer_all.Tie as tie
 
 abbrev Inv-loop : tie.InvT-loop
-Inv-loop tails rotations lefts capacities order from grouped starts ends nodes edges faces trees outer flows₀ sets₀ list count words answers₀ i₀ flows sets answers i =
+Inv-loop tails rotations lefts capacities order from grouped starts ends nodes edges faces trees outer flows₀ sets₀
+    list count words answers₀ i₀ flows sets answers i =
     (i ≤ count) × (count ≡ list .count) × (words ≡ wordsFor nodes)
     × Halfway edges words (λ j. solvedAlone (drawingOf nodes edges outer tails rotations capacities) (questionAt (list .questions) j))
     flows₀ sets₀ i flows sets answers
 
 abbrev μ-loop : tie.MeasureT-loop
-μ-loop tails rotations lefts capacities order from grouped starts ends nodes edges faces trees outer flows₀ sets₀ list count words answers₀ i₀ flows sets answers i = count - i
+μ-loop tails rotations lefts capacities order from grouped starts ends nodes edges faces trees outer flows₀ sets₀
+    list count words answers₀ i₀ flows sets answers i =
+    count - i
 
 -- ── where the stretches of question i end ──
 abbrev begun : tie.In-loop Inv-loop μ-loop → tie.Start Inv-loop μ-loop

@@ -24,7 +24,8 @@ returns c =
     let g = k .before .struct-told .given in
     subst (λ v. Solved (drawingOf (a .nodes) (a .edges) (a .outer) (a .tails .now) (a .rotations .now) (a .capacities .now))
     (questionChecks (a .nodes) (a .edges) (a .q .source) (a .q .sink) v (a .flows .now) (a .set .now)) (a .q .source) (a .q .sink) v
-    (a .flows .now) (k .solve .last .1 .1 .1 .1 .1 .1 .1 .1 .1 .1 .1 .1 .1 .1 .1 .1 .1 .0) (a .set .now) (k .solve .last .1 .1 .1 .1 .1 .1 .1 .1 .1 .1 .1 .1 .1 .1 .1 .1 .1 .1 .0)
+    (a .flows .now) (k .solve .last .1 .1 .1 .1 .1 .1 .1 .1 .1 .1 .1 .1 .1 .1 .1 .1 .1 .0)
+    (a .set .now) (k .solve .last .1 .1 .1 .1 .1 .1 .1 .1 .1 .1 .1 .1 .1 .1 .1 .1 .1 .1 .0)
     (k .solve .result)) (number-of-bits (a .q .value) (record { sfits = g .1 .1 .0 .1 })) (k .solve .ensures)
 
 pub ask-spec : {M : Type 1} → statement M
