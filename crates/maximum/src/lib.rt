@@ -63,19 +63,27 @@ fn nearest_zero(low: i32, high: i32) -> i32
     0
 }
 
-// The value to probe. Until one is found: the value nearest to zero, which is the likeliest to be carried. Then the high bound, which is the answer if it is
-// carried, or the middle, which halves what is left.
+// The value to probe: the middle, which halves what is left; else, once one is found, the high bound, which is the answer if it is carried, and before that the
+// value nearest to zero, which is the likeliest to be carried.
 fn next_value(low: i32, high: i32, middle: bool, found: bool) -> i32
     requires { ⌜ (low ≤ℤ high) × Limited 600000000 low × Limited 600000000 high ⌝ }
     ensures { λ r. ⌜ (low ≤ℤ r) × (r ≤ℤ high) × (found ≡ true → low <ℤ high → low <ℤ r) ⌝ }
 {
-    if !found {
-        return nearest_zero(low, high);
-    }
     if middle {
         return signed::minus(high, signed::halve(signed::minus(high, low)));
     }
-    high
+    if found {
+        return high;
+    }
+    nearest_zero(low, high)
+}
+
+// Whether the middle is probed after a value that cannot be carried: in turn with the high bound once one is found, and until then always.
+fn middle_next(middle: bool, found: bool) -> bool {
+    if found {
+        return !middle;
+    }
+    true
 }
 
 // Whether the bounds have met at a value that is carried.
@@ -350,7 +358,6 @@ pub fn maximize<'a>(
                 );
             }
         } else {
-            middle = !middle;
             let n = narrow_by(
                 tails,
                 capacities,
@@ -368,6 +375,7 @@ pub fn maximize<'a>(
             }
             low = n.low;
             high = n.high;
+            middle = middle_next(middle, found);
         }
     };
     outcome

@@ -3,7 +3,7 @@
 //
 // The walk over the darts and the groups of darts by faces were made when the drawing was opened. All other arrays belong to a step, and none is kept longer.
 ghost use mathlib.Core.Path.{_≡_};
-ghost use mathlib.Core.List.{[]};
+ghost use mathlib.Core.List.{List, []};
 ghost use Prim.Native.Nat.{ℕ, _*_, _<_, _≤_};
 ghost use lib.ListN.{length, take};
 ghost use lib.IntN.{pos};
@@ -15,6 +15,7 @@ ghost use Rattle.grouping.specs.Grouped.{Grouped};
 ghost use Rattle.grouping.specs.inner.Walked.{Walked};
 ghost use Rattle.lengths.specs.inner.Lengths.{Treed};
 ghost use Rattle.arrays.specs.At.{at, atℤ};
+ghost use Rattle.traversal.specs.inner.Forest.{Forest, RootsOf};
 ghost use Rattle.search.specs.Dual.{dualOf};
 ghost use Rattle.arrays.specs.inner.Drawn.{Drawn};
 ghost use Rattle.solver.specs.inner.Ends.{Ends};
@@ -25,31 +26,28 @@ ghost use Rattle.solver.specs.inner.Decision.{Decided};
 ghost use Rattle.arrays.specs.inner.Flags.{flagged};
 use search::Outcome;
 
-// Flags the nodes of the part that the dart d is in. `met` and `marks` are where the walk over it stands, which no one needs afterwards.
+// Flags the nodes of the part that the dart d is in.
 fn flag_part(
     tails: &[u16; 1024],
     rotations: &[u16; 1024],
     nodes: usize,
     edges: usize,
     d: usize,
-    met: &mut [u16; 1024],
-    marks: &mut [u16; 1024],
     inside: &mut [u8; 1024],
 )
-    requires { ⌜ (length (now inside) ≡ 1024) × (edges ≤ 512) × (nodes ≤ 1024) × (d < 2 * edges) × Sound (mapOf nodes edges (now tails) (now rotations))
-        × (length (now met) ≡ 1024) × (length (now marks) ≡ 1024) ⌝ }
+    requires { ⌜ (length (now inside) ≡ 1024) × (edges ≤ 512) × (nodes ≤ 1024) × (d < 2 * edges) × Sound (mapOf nodes edges (now tails) (now rotations)) ⌝ }
     ensures { λ _. ⌜ (length (now (inside .exit)) ≡ 1024)
-        × PartFlagged (mapOf nodes edges (now (tails .entry)) (now (rotations .entry))) d (flagged (now (inside .exit)))
-        × (length (now (met .exit)) ≡ 1024) × (length (now (marks .exit)) ≡ 1024) ⌝ }
+        × PartFlagged (mapOf nodes edges (now (tails .entry)) (now (rotations .entry))) d (flagged (now (inside .exit))) ⌝ }
 {
-    traversal::spread(rotations, 2 * edges, d, met, marks);
-    traversal::flag_met(tails, &*marks, 2 * edges, inside);
+    let mut order = [0u16; 1024];
+    let mut from = [0u16; 1024];
+    traversal::spread(rotations, 2 * edges, d, &mut order, &mut from);
+    traversal::flag_met(tails, &from, 2 * edges, inside);
 }
 
 // The lengths of the darts for a value, along the path through the trees of the walk from `start`, a dart at the source, to `finish`, a dart at the sink. Where
 // the two are in different trees, source and sink are in different parts (document 02, Job 8): a value of 0 leaves the capacities as lengths; any other is
-// impossible. Answers whether it is, with the source's part flagged for a value above 0, the sink's part for one below; that part is walked over in `met` and
-// `marks`, which the search uses later.
+// impossible. Answers whether it is, with the source's part flagged for a value above 0, the sink's part for one below.
 fn cut_apart(
     tails: &[u16; 1024],
     rotations: &[u16; 1024],
@@ -62,16 +60,12 @@ fn cut_apart(
     finish: usize,
     value: i32,
     lengths: &mut [i32; 1024],
-    met: &mut [u16; 1024],
-    marks: &mut [u16; 1024],
     inside: &mut [u8; 1024],
 ) -> bool
     requires { ⌜ (length (now lengths) ≡ 1024) × (length (now inside) ≡ 1024) × (edges ≤ 512) × (nodes ≤ 1024) × (start < 2 * edges) × (finish < 2 * edges)
         × Treed (mapOf nodes edges (now tails) (now rotations)) (2 * edges) (at (now order)) (at (now from))
-        × ((d : ℕ) → d < 2 * edges → Limited mostCapacity (atℤ (now capacities) d)) × Limited mostValue value
-        × (length (now met) ≡ 1024) × (length (now marks) ≡ 1024) ⌝ }
+        × ((d : ℕ) → d < 2 * edges → Limited mostCapacity (atℤ (now capacities) d)) × Limited mostValue value ⌝ }
     ensures { λ r. ⌜ (length (now (lengths .exit)) ≡ 1024) × (length (now (inside .exit)) ≡ 1024)
-        × (length (now (met .exit)) ≡ 1024) × (length (now (marks .exit)) ≡ 1024)
         × Measured (mapOf nodes edges (now (tails .entry)) (now (rotations .entry))) (at (now (tails .entry)) start) (at (now (tails .entry)) finish)
         (atℤ (now (capacities .entry))) value (atℤ (now (lengths .exit))) (now (inside .exit)) r ⌝ }
 {
@@ -88,11 +82,11 @@ fn cut_apart(
         return false;
     }
     if value > 0 {
-        flag_part(tails, rotations, nodes, edges, start, met, marks, inside);
+        flag_part(tails, rotations, nodes, edges, start, inside);
         return true;
     }
     if value < 0 {
-        flag_part(tails, rotations, nodes, edges, finish, met, marks, inside);
+        flag_part(tails, rotations, nodes, edges, finish, inside);
         return true;
     }
     false
@@ -143,6 +137,62 @@ fn settle(
     }
     edge_flows::fill_flows(lefts, capacities, lengths, &potentials, edges, flows);
     Outcome::Settled
+}
+
+// Searches from the faces at 0, which are read off the walk; likewise. The queue with these faces is kept here, so that the steps behind the search may lie
+// over it on the stack.
+fn settle_all<'a>(
+    rotations: &'a [u16; 1024],
+    lefts: &'a [u16; 1024],
+    capacities: &'a [i32; 1024],
+    lengths: &'a [i32; 1024],
+    order: &'a [u16; 1024],
+    from: &'a [u16; 1024],
+    grouped: &'a [u16; 1024],
+    starts: &'a [u16; 1024],
+    ends: &'a [u16; 1024],
+    edges: usize,
+    faces: usize,
+    trees: usize,
+    outer: usize,
+    parents: &mut [u16; 1024],
+    flows: &mut [i32],
+) -> Outcome
+    requires { ⌜ (length (now parents) ≡ 1024) × (trees ≤ 1024) × (edges ≤ 512) × (edges ≤ length (now flows))
+        × Forest (2 * edges) (at (now rotations)) outer (at (now order)) (at (now from)) trees
+        × Grouped (rightOf (now lefts)) (2 * edges) faces (now grouped) (now starts) (now ends)
+        × ((queue : List ℕ) → length queue ≡ 1024 → RootsOf (2 * edges) (at (now rotations)) outer (at (now lefts)) (at queue) trees
+        → Searchable (dualOf (now lefts) (now lengths) (2 * edges) faces (take trees queue)) edges (atℤ (now capacities))) ⌝ }
+    ensures { λ r. ⌜ (length (now (parents .exit)) ≡ 1024)
+        × ((queue : List ℕ) × (length queue ≡ 1024) × RootsOf (2 * edges) (at (now (rotations .entry))) outer (at (now (lefts .entry))) (at queue) trees
+        × Searched (dualOf (now (lefts .entry)) (now (lengths .entry)) (2 * edges) faces (take trees queue)) edges (atℤ (now (capacities .entry)))
+        (now (flows .entry)) (now (flows .exit)) (at (now (parents .exit))) r) ⌝ }
+{
+    let mut queue = [0u16; 1024];
+    traversal::first_faces(
+        rotations,
+        lefts,
+        order,
+        from,
+        2 * edges,
+        outer,
+        trees,
+        &mut queue,
+    );
+    settle(
+        lefts,
+        capacities,
+        lengths,
+        grouped,
+        starts,
+        ends,
+        edges,
+        faces,
+        trees,
+        parents,
+        &mut queue,
+        flows,
+    )
 }
 
 // Flags nodes whose cut of the lengths is below zero, from the ring that the parents lead round from the face y: its winding, heights of the nodes, a
@@ -210,7 +260,6 @@ pub fn decide<'a>(
     let start = traversal::dart_at(tails, 2 * edges, source);
     let finish = traversal::dart_at(tails, 2 * edges, sink);
     let mut lengths = [0i32; 1024];
-    let mut queue = [0u16; 1024];
     if cut_apart(
         tails,
         rotations,
@@ -223,34 +272,25 @@ pub fn decide<'a>(
         finish,
         value,
         &mut lengths,
-        &mut queue,
-        &mut *parents,
         &mut *inside,
     ) {
         return false;
     }
-    traversal::first_faces(
+    let outcome = settle_all(
         rotations,
-        lefts,
-        order,
-        from,
-        2 * edges,
-        outer,
-        trees,
-        &mut queue,
-    );
-    let outcome = settle(
         lefts,
         capacities,
         &lengths,
+        order,
+        from,
         grouped,
         starts,
         ends,
         edges,
         faces,
         trees,
+        outer,
         &mut *parents,
-        &mut queue,
         flows,
     );
     if let Outcome::Ring(d) = outcome {

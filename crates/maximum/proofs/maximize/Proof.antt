@@ -448,22 +448,25 @@ moved c e =
     narrowed (b .args .outer) (ground b) (b .args .flows .now) (l .loop .flows) (l .loop .a) (l .loop .b) (lo l) (hi l) (l .loop .found) (l .loop .inv .bracket)
     (value n) (at-least n) (at-most n) (inside' k) (d .1) (a' c) (b' c) (c .narrow-by .result) (r .0) (r .1) (r .2) e
 
+middle-next-requires : tie.Need-middle-next-requires Inv-loop μ-loop
+middle-next-requires c κs = search needs
+
 loop-less-3 : tie.Need-loop-less-3 Inv-loop μ-loop
 loop-less-3 c =
-    let m = c .before .before .before in
+    let m = c .before .before .before .before in
     let l = top (asked (probed m)) in
     let b = start l in
-    let r = moved m (c .before .before .if5 .left) in
+    let r = moved m (c .before .before .before .if5 .left) in
     bits-gap (b .args .outer) (ground b) _ _ (a' m) (b' m) _ _ (l .loop .found) (r .0) _ (r .1)
 
 loop-again-3 : tie.Need-loop-again-3 Inv-loop μ-loop
 loop-again-3 c =
-    let m = c .before .before .before in
+    let m = c .before .before .before .before in
     let k = probed m in
     let l = top (asked k) in
     let b = start l in
     let d = decided k (refused m) in
-    let r = moved m (c .before .before .if5 .left) in
+    let r = moved m (c .before .before .before .if5 .left) in
     record {
       size-a = m .narrow-by .ensures .0;
       size-b = m .narrow-by .ensures .1;
@@ -546,6 +549,7 @@ maximize-spec =
     loop-again-2
     mul-narrow-by
     narrow-by-requires
+    middle-next-requires
     loop-less-3
     loop-again-3
     same-length

@@ -26,17 +26,17 @@ returns c =
     let w = c .before in
     let p = begun w .pre in
     let e = w .fill-lengths .ensures in
-    (e .0, p .1, p .9, p .10, lengthened (p .2) (p .6) (same-value (p .8)) (e .1) (c .if1 .taken))
+    (e .0, p .1, lengthened (p .2) (p .6) (same-value (p .8)) (e .1) (c .if1 .taken))
 
 -- ── in two: above 0 ──
 flag-part-requires : tie.Need-flag-part-requires
 flag-part-requires c κs =
-    let p = begun (c .before .before .before .before .before) .pre in
-    (p .1, p .2, p .3, p .4, p .6 .sound, p .9, p .10)
+    let p = begun (c .before .before .before) .pre in
+    (p .1, p .2, p .3, p .4, p .6 .sound)
 
 returns-2 : tie.Need-returns-2
 returns-2 c =
-    let t = c .before .before .before .before in
+    let t = c .before .before in
     let o = t .before in
     let w = o .before in
     let s = begun w in
@@ -45,21 +45,19 @@ returns-2 c =
     let e = c .flag-part .ensures in (
       f .0,
       e .0,
-      e .2,
-      e .3,
-      source-part (p .2) (p .6) (same-value (p .8)) (f .1) (flagged (c .flag-part .last .1 .1 .1 .1 .1 .1 .1 .0)) (o .if1 .left) (p .5) (e .1)
+      source-part (p .2) (p .6) (same-value (p .8)) (f .1) (flagged (c .flag-part .last .1 .1 .1 .1 .1 .0)) (o .if1 .left) (p .5) (e .1)
           (lt-of-test _ _ (rw (number-of-bits _ (s .fits .value)) at (t .if2 .taken))),
     )
 
 -- ── below 0 ──
 flag-part-requires-2 : tie.Need-flag-part-requires-2
 flag-part-requires-2 c κs =
-    let p = begun (c .before .before .before .before .before .before) .pre in
-    (p .1, p .2, p .3, p .5, p .6 .sound, p .9, p .10)
+    let p = begun (c .before .before .before .before) .pre in
+    (p .1, p .2, p .3, p .5, p .6 .sound)
 
 returns-3 : tie.Need-returns-3
 returns-3 c =
-    let t = c .before .before .before .before in
+    let t = c .before .before in
     let o = t .before .before in
     let w = o .before in
     let s = begun w in
@@ -68,9 +66,7 @@ returns-3 c =
     let e = c .flag-part2 .ensures in (
       f .0,
       e .0,
-      e .2,
-      e .3,
-      sink-part (p .2) (p .6) (same-value (p .8)) (f .1) (flagged (c .flag-part2 .last .1 .1 .1 .1 .1 .1 .1 .0)) (o .if1 .left) (p .4) (e .1)
+      sink-part (p .2) (p .6) (same-value (p .8)) (f .1) (flagged (c .flag-part2 .last .1 .1 .1 .1 .1 .0)) (o .if1 .left) (p .4) (e .1)
           (lt-of-test _ _ (rw (number-of-bits _ (s .fits .value)) at (t .if3 .taken))),
     )
 
@@ -83,7 +79,7 @@ returns-4 c =
     let e = w .fill-lengths .ensures in
     let high : s .args .value ≤ℤ pos 0 = ge-of-test _ _ (rw (number-of-bits _ (s .fits .value)) at (c .before .if2 .left)) in
     let low : pos 0 ≤ℤ s .args .value = ge-of-test _ _ (rw (number-of-bits _ (s .fits .value)) at (c .if3 .left)) in
-    (e .0, p .1, p .9, p .10, lengthened-none (p .2) (p .6) (same-value (p .8)) (e .1) (le-antisym high low))
+    (e .0, p .1, lengthened-none (p .2) (p .6) (same-value (p .8)) (e .1) (le-antisym high low))
 
 pub cut-apart-spec : {M : Type 1} → statement M
 cut-apart-spec =

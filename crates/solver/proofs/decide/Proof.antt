@@ -13,7 +13,8 @@ use Rattle.lengths.proofs.PathFlow.{treed-of}
 use Rattle.solver.specs.inner.Search.{Lengthened, Measured}
 use Rattle.solver.proofs.Preparing.{same-value, small-value, measured-for}
 use Rattle.solver.proofs.SettledFlows.{searched-ring}
-use Rattle.solver.proofs.Deciding.{few-roots, searchable, decided-can, ringed, decided-cannot, decided-apart, measured-long}
+use Rattle.solver.proofs.Deciding.{searchable, decided-can, ringed, decided-cannot, decided-apart, measured-long}
+use Rattle.traversal.proofs.Rooting.{trees-few}
 use Rattle.solver.proofs.decide.Statement.{statement}
 use Rattle.solver.proofs.decide.Tie as tie
 
@@ -34,7 +35,7 @@ dart-at-requires-2 c κs = let p = c .before .pre in (omega (arith, p .2 .few-ed
 
 cut-apart-requires : tie.Need-cut-apart-requires
 cut-apart-requires c κs =
-    let t = c .before .before .before .before in
+    let t = c .before .before in
     let d = t .before in
     let p = d .before .pre in (
       refl,
@@ -46,28 +47,26 @@ cut-apart-requires c κs =
       treed-of (p .2 .plane .sound) (p .6 .forest),
       p .2 .small,
       small-value (p .4),
-      refl,
-      p .5,
     )
 
 -- ── the lengths are known, or the ends are apart ──
 abbrev begun : tie.After-cut-apart → tie.Start
-begun c = c .before .before .before .before .before .before .before
+begun c = c .before .before .before .before .before
 
 abbrev row : tie.After-cut-apart → List ℤ
 row c = c .cut-apart .last .1 .1 .1 .1 .1 .1 .1 .1 .1 .1 .0
 
 abbrev flags : tie.After-cut-apart → List ℕ
-flags c = c .cut-apart .last .1 .1 .1 .1 .1 .1 .1 .1 .1 .1 .1 .1 .1 .0
+flags c = c .cut-apart .last .1 .1 .1 .1 .1 .1 .1 .1 .1 .1 .1 .0
 
 measured : (c : tie.After-cut-apart)
     → Measured (mapAt (begun c)) (begun c .args .source) (begun c .args .sink) (atℤ (begun c .args .capacities .now)) (begun c .args .value)
     (atℤ (row c)) (flags c) (c .cut-apart .result)
 measured c =
-    let t = c .before .before .before .before .before in
+    let t = c .before .before .before in
     let d = t .before in
     measured-for (mapAt (begun c)) (atℤ (begun c .args .capacities .now)) (atℤ (row c)) (flags c) (c .cut-apart .result) (d .dart-at .ensures .1)
-    (t .dart-at2 .ensures .1) (same-value (begun c .pre .4)) (c .cut-apart .ensures .4)
+    (t .dart-at2 .ensures .1) (same-value (begun c .pre .4)) (c .cut-apart .ensures .2)
 
 returns : tie.Need-returns
 returns c =
@@ -76,7 +75,7 @@ returns c =
       l .cut-apart .ensures .1,
       decided-apart (mapAt s) (s .args .outer) (atℤ (s .args .capacities .now)) (s .args .source) (s .args .sink) (s .args .value) (atℤ (row l))
           (s .args .flows .now) (flags l) (c .if1 .taken) (measured l),
-      l .cut-apart .ensures .3,
+      s .pre .5,
     )
 
 known : (c : tie.Else1)
@@ -87,53 +86,36 @@ known c =
     measured-long (mapAt s) (s .args .source) (s .args .sink) (atℤ (s .args .capacities .now)) (s .args .value) (atℤ (row (c .before))) (flags (c .before))
     (c .if1 .left) (measured (c .before))
 
--- ── the roots are the faces at 0 ──
-mul-first-faces : tie.Need-mul-first-faces
-mul-first-faces c = omega (arith, begun (c .before) .pre .2 .few-edges)
-
-first-faces-requires : tie.Need-first-faces-requires
-first-faces-requires c κs =
-    let w = c .before .before in
-    let p = begun w .pre in
-    (w .cut-apart .ensures .2, omega (arith, p .2 .few-edges), p .6 .forest)
-
-abbrev joined : tie.After-first-faces → tie.Else1
-joined c = c .before .before
-
-abbrev queued : tie.After-first-faces → List ℕ
-queued c = c .first-faces .last .1 .1 .1 .1 .1 .1 .1 .0
-
-settle-requires : tie.Need-settle-requires
-settle-requires c κs =
-    let q = c .before .before .before .before in
-    let e = joined q in
+-- ── the search from the faces at 0 ──
+settle-all-requires : tie.Need-settle-all-requires
+settle-all-requires c κs =
+    let e = c .before .before .before in
     let s = begun (e .before) in
-    let p = s .pre in
-    let o = q .first-faces .ensures in (
-      e .before .cut-apart .ensures .3,
-      o .0,
-      few-roots (s .args .lefts .now) (p .2) (p .3) (row (e .before)) (known e) (queued q) (o .0) (o .1),
+    let p = s .pre in (
+      p .5,
+      omega (arith, trees-few (p .6 .forest), p .2 .few-edges),
       p .2 .few-edges,
       p .1,
-      searchable (s .args .lefts .now) (p .2) (p .3) (row (e .before)) (known e) (queued q) (o .0) (o .1),
+      p .6 .forest,
       p .6 .groups,
+      λ queue long roots. searchable (s .args .lefts .now) (p .2) (p .3) (row (e .before)) (known e) queue long roots,
     )
 
 enum-known-outcome : tie.Need-enum-known-outcome
 enum-known-outcome c = search needs
 
 -- ── a ring: the dart that closes it ──
-abbrev rooted : tie.After-settle → tie.After-first-faces
-rooted c = c .before .before .before .before .before
+abbrev joined : tie.After-settle-all → tie.Else1
+joined c = c .before .before .before .before
 
-abbrev lengthened : tie.After-settle → tie.After-cut-apart
-lengthened c = joined (rooted c) .before
+abbrev lengthened : tie.After-settle-all → tie.After-cut-apart
+lengthened c = joined c .before
 
 closes : (c : tie.After-known-told) → c .before .outcome .given .0 .0 < 1024
 closes c =
     let s = c .before .before .before .before in
     let p = begun (lengthened s) .pre in
-    omega (arith, searched-ring _ _ _ _ _ _ _ (c .before .outcome .given .1) (s .settle .ensures .1) .1, p .2 .few-edges)
+    omega (arith, searched-ring _ _ _ _ _ _ _ (c .before .outcome .given .1) (s .settle-all .ensures .1 .3) .1, p .2 .few-edges)
 
 mul-wide : tie.Need-mul-wide
 mul-wide c = omega (arith, closes c)
@@ -147,7 +129,7 @@ wide-requires c κs = search needs
 abbrev ringed-at : tie.After-wide → tie.After-outcome
 ringed-at c = c .before .before .before
 
-abbrev settled : tie.After-outcome → tie.After-settle
+abbrev settled : tie.After-outcome → tie.After-settle-all
 settled c = c .before .before .before
 
 cut-of-ring-requires : tie.Need-cut-of-ring-requires
@@ -155,13 +137,13 @@ cut-of-ring-requires c κs =
     let w = c .before .before .before in
     let o = ringed-at w in
     let s = settled o in
-    let q = rooted s in
+    let q = s .settle-all .ensures .1 in
     let f = lengthened s in
     let p = begun f .pre in (
       f .cut-apart .ensures .1,
       treed-of (p .2 .plane .sound) (p .6 .forest),
-      ringed (begun f .args .lefts .now) (p .2) (p .3) (row f) (known (joined q)) (queued q) (q .first-faces .ensures .0) (q .first-faces .ensures .1)
-          _ (w .wide .ensures) (searched-ring _ _ _ _ _ _ _ (o .outcome .given .1) (s .settle .ensures .1) .2),
+      ringed (begun f .args .lefts .now) (p .2) (p .3) (row f) (known (joined s)) (q .0) (q .1) (q .2)
+          _ (w .wide .ensures) (searched-ring _ _ _ _ _ _ _ (o .outcome .given .1) (s .settle-all .ensures .1 .3) .2),
     )
 
 same-length : tie.Need-same-length
@@ -171,15 +153,15 @@ returns-2 : tie.Need-returns-2
 returns-2 c =
     let o = ringed-at (c .before .before .before .before) in
     let s = settled o in
-    let q = rooted s in
+    let q = s .settle-all .ensures .1 in
     let f = lengthened s in
     let p = begun f .pre in
     let e = c .cut-of-ring .ensures in
     let inside' = c .cut-of-ring .last .1 .1 .1 .1 .1 .1 .1 .1 .1 .1 .1 .0 in (
       e .0,
-      decided-cannot (begun f .args .lefts .now) (p .2) (p .3) (row f) (known (joined q)) (queued q) (q .first-faces .ensures .0) (q .first-faces .ensures .1)
-          _ _ inside' (searched-ring _ _ _ _ _ _ _ (o .outcome .given .1) (s .settle .ensures .1) .0) (e .1),
-      s .settle .ensures .0,
+      decided-cannot (begun f .args .lefts .now) (p .2) (p .3) (row f) (known (joined s)) (q .0) (q .1) (q .2)
+          _ _ inside' (searched-ring _ _ _ _ _ _ _ (o .outcome .given .1) (s .settle-all .ensures .1 .3) .0) (e .1),
+      s .settle-all .ensures .0,
     )
 
 enum-told : tie.Need-enum-told
@@ -191,14 +173,14 @@ same-length-2 c = search needs
 returns-3 : tie.Need-returns-3
 returns-3 c =
     let s = c .before .before .before in
-    let q = rooted s in
+    let q = s .settle-all .ensures .1 in
     let f = lengthened s in
     let p = begun f .pre in
-    let r = rw (c .enum-told .given .1) at (s .settle .ensures .1) in (
+    let r = rw (c .enum-told .given .1) at (s .settle-all .ensures .1 .3) in (
       f .cut-apart .ensures .1,
-      decided-can (begun f .args .lefts .now) (p .2) (p .3) (row f) (known (joined q)) (queued q) (q .first-faces .ensures .0) (q .first-faces .ensures .1)
+      decided-can (begun f .args .lefts .now) (p .2) (p .3) (row f) (known (joined s)) (q .0) (q .1) (q .2)
           (r .0) (r .1) _ _ (flags f) (r .2),
-      s .settle .ensures .0,
+      s .settle-all .ensures .0,
     )
 
 pub decide-spec : {M : Type 1} → statement M
@@ -211,9 +193,7 @@ decide-spec =
     dart-at-requires-2
     cut-apart-requires
     returns
-    mul-first-faces
-    first-faces-requires
-    settle-requires
+    settle-all-requires
     enum-known-outcome
     mul-wide
     element-copy-out-wide

@@ -1,0 +1,34 @@
+-- The faces at 0 stand in the queue, and the search is asked with them.
+use mathlib.Core.Path.{_≡_, refl}
+use native.Mathlib.Omega.{arith}
+use borrow.Author.Needs.{needs}
+use Rattle.solver.proofs.settle_all.Statement.{statement}
+use Rattle.solver.proofs.settle_all.Tie as tie
+
+mul-first-faces : tie.Need-mul-first-faces
+mul-first-faces c = search needs
+
+first-faces-requires : tie.Need-first-faces-requires
+first-faces-requires c κs =
+    let p = c .before .pre in
+    (refl, omega (arith, p .2), p .4)
+
+settle-requires : tie.Need-settle-requires
+settle-requires c κs =
+    let f = c .before .before .before in
+    let p = f .before .before .pre in
+    let o = f .first-faces .ensures in
+    (p .0, o .0, p .1, p .2, p .3, p .6 _ (o .0) (o .1), p .5)
+
+same-length : tie.Need-same-length
+same-length c = search needs
+
+returns : tie.Need-returns
+returns c =
+    let f = c .before .before .before .before .before in
+    let o = f .first-faces .ensures in
+    let e = c .before .settle .ensures in
+    (e .0, (_, o .0, o .1, e .1))
+
+pub settle-all-spec : {M : Type 1} → statement M
+settle-all-spec = tie.close (tie.spec mul-first-faces first-faces-requires settle-requires same-length returns)
