@@ -497,7 +497,7 @@ fn refuses(fault: Fault, call: &Call, before: &Lent, after: &Lent) -> Option<u8>
     match *call {
         Call::Totals if asks_for_more(fault, before) => Some(16),
         Call::Page { count } => match fault {
-            Fault::PageByOneRefusal => after.answers[..count].iter().copied().find(|&answer| answer > 1),
+            Fault::PageByOneRefusal => after.answers.iter().take(count).copied().find(|&answer| answer > 1),
             Fault::PageOfNoneNeedsRoom if count == 0 && (before.flows.is_empty() || before.set.is_empty()) => Some(16),
             Fault::PageOfSixtyThree if count == PAGE => Some(21),
             _ => None,
