@@ -94,6 +94,29 @@ pub fn key_of(library: &Library, input: &[u8], tally: &mut Tally) -> Check<Strin
     Ok(String::from_utf8_lossy(&after.text[..after.length]).into_owned())
 }
 
+/// The answers to a page of these questions, compared, each in words: its settings or the nodes of its set behind "can" and "cannot".
+pub fn page_of(library: &Library, sheet: &[u8], questions: &[(u16, u16, i32)], tally: &mut Tally) -> Check<Vec<String>> {
+    let drawing = Drawing::of_bytes(sheet).ok_or_else(|| Wrong("no sheet\n".to_string()))?;
+    let (edges, words, count) = (drawing.edges(), drawing.words(), questions.len());
+    let mut lent = Lent::new(sheet.to_vec());
+    lent.sources = questions.iter().map(|question| question.0).collect();
+    lent.sinks = questions.iter().map(|question| question.1).collect();
+    lent.values = questions.iter().map(|question| question.2).collect();
+    lent.sources.resize(PAGE, 0);
+    lent.sinks.resize(PAGE, 0);
+    lent.values.resize(PAGE, 0);
+    (lent.answers, lent.sizes) = (vec![0; PAGE], vec![0; PAGE]);
+    (lent.flows, lent.set) = (vec![0; count * edges], vec![0; count * words]);
+    let after = Checker { library, tally, chance: Chance::new(0, 0) }.compare(Call::Page { count }, &lent)?;
+    let listed = |numbers: Vec<String>| numbers.join(" ");
+    let told = |i: usize| match after.answers[i] {
+        1 => format!("can {}", listed(after.flows[i * edges..][..edges].iter().map(i32::to_string).collect())),
+        0 => format!("cannot {}", listed(judge::members(&drawing, &after.set[i * words..]).iter().map(usize::to_string).collect())),
+        number => format!("refused {number}"),
+    };
+    Ok((0..count).map(told).collect())
+}
+
 /// What is due from a call. A set is any that proves what it is given for: for a value, or without one that nothing can be carried.
 struct Due {
     result: u8,

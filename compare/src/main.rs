@@ -3,7 +3,7 @@
 //!     compare [--seed N] [--count N | --seconds N] [--from N] [--sheets FOLDER] [--questions FOLDER [--program PATH]] [--fault NAME]
 //!
 //! --sheets compares the sheets of a folder first: its file cases.txt has a line for each, with its name, counts, ends and largest value (see bench/sheets).
-//! --questions runs the program key on the files *.question of a folder, and compares what it prints.
+//! --questions runs the program key on the files *.question of a folder, and compares what it prints; files *.page are pages, with their answers.
 //! The same seed and count give the same run. A drawing is made from the seed and its number alone: --from N begins with that number. --fault shows how a
 //! deliberate fault is caught (any other word lists them). It ends with 'N compared, 0 wrong' and status 0, or with the drawing and the difference and status 1.
 mod chance;
@@ -26,7 +26,7 @@ use check::{compare_drawing, compare_sheet, Tally, Wrong};
 use drawing::Drawing;
 use faults::{Fault, Library};
 use grow::Grown;
-use program::compare_program;
+use program::{compare_pages, compare_program};
 use std::process::ExitCode;
 use std::time::{Duration, Instant};
 
@@ -84,6 +84,9 @@ fn main() -> ExitCode {
     let mut kept = switches.sheets.iter().try_for_each(|folder| stored(&library, folder, &mut tally));
     if kept.is_ok() {
         kept = switches.questions.iter().try_for_each(|folder| compare_program(&library, &switches.program, folder, &mut tally));
+    }
+    if kept.is_ok() {
+        kept = switches.questions.iter().try_for_each(|folder| compare_pages(&library, folder, &mut tally));
     }
     if let Err(wrong) = kept {
         println!("{}{} compared, 1 wrong", wrong.0, tally.compared() + 1);

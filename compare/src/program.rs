@@ -1,6 +1,6 @@
 //! The program key as it runs: its standard input comes in pieces, as from a pipe, and may go on past the sheet. What it prints is held to the key's text, which is
 //! compared with this program's own.
-use crate::check::{key_of, Tally, Wrong};
+use crate::check::{key_of, page_of, Tally, Wrong};
 use crate::faults::Library;
 use std::io::{ErrorKind, Read, Write};
 use std::process::{Command, Stdio};
@@ -30,6 +30,33 @@ pub fn compare_program(library: &Library, program: &str, folder: &str, tally: &m
                     let text = String::from_utf8_lossy(&got);
                     return Err(told(format!("{} with {} bytes, {piece} at a time: the program prints\n{text}and not\n{due}", path.display(), input.len())));
                 }
+            }
+        }
+    }
+    Ok(())
+}
+
+/// Every *.page of a folder: the name of a question whose sheet it is about, and questions with their answers.
+pub fn compare_pages(library: &Library, folder: &str, tally: &mut Tally) -> Result<(), Wrong> {
+    let told = |what: String| Wrong(format!("{folder}: {what}\n"));
+    let entries = std::fs::read_dir(folder).map_err(|error| told(error.to_string()))?;
+    for path in entries.filter_map(|entry| Some(entry.ok()?.path())).filter(|path| path.extension().is_some_and(|extension| extension == "page")) {
+        let text = std::fs::read_to_string(&path).map_err(|error| told(error.to_string()))?;
+        let mut lines = text.lines();
+        let name = lines.next().and_then(|line| line.strip_prefix("sheet ")).ok_or_else(|| told(format!("{}: no sheet", path.display())))?;
+        let input = std::fs::read(format!("{folder}/{name}.question")).map_err(|error| told(format!("{name}: {error}")))?;
+        let lines: Vec<&str> = lines.collect();
+        let question = |line: &&str| -> Option<(u16, u16, i32)> {
+            let numbers: Vec<&str> = line.strip_prefix("question ")?.split_once(':')?.0.split(' ').collect();
+            let [source, sink, value] = numbers[..] else { return None };
+            Some((source.parse().ok()?, sink.parse().ok()?, value.parse().ok()?))
+        };
+        let questions: Vec<_> = lines.iter().map(question).collect::<Option<_>>().ok_or_else(|| told(format!("{}: no question", path.display())))?;
+        let answers = page_of(library, &input[9..], &questions, tally)?;
+        for ((line, (source, sink, value)), answer) in lines.iter().zip(questions).zip(answers) {
+            let due = format!("question {source} {sink} {value}: {answer}");
+            if *line != due {
+                return Err(told(format!("{}: {line}, but the page says\n{due}", path.display())));
             }
         }
     }
