@@ -1,7 +1,7 @@
 // The analyser's operations on sheets. Document 01, "Operations": Solve, Largest, Mark, Levels from settings, Settings from levels. Document 02: the least
 // delivery beside the largest (Job 4), what a forward limit must be raised to (Job 7), totals by node (Job 9), DIMACS text (Job 2), questions by the page
-// (Job 1). Each makes the network record once, in its own frame, fills it from the sheet, and lends its arrays to the operation on drawings; those that
-// decide are lent the walk over the darts and their groups too, which opening makes.
+// (Job 1). Each fills the arrays of a drawing once, in its own frame, from the sheet, and lends them to the operation on drawings; those that decide are lent
+// the walk over the darts and their groups too, which opening makes.
 ghost use lib.ListN.{length};
 ghost use Rattle.analyser.specs.Solve.{Solves};
 ghost use Rattle.analyser.specs.Largest.{FindsLargest};
@@ -40,24 +40,19 @@ pub fn solve(
 ) -> SolveAnswer
     ensures { λ r. ⌜ Solves (now (sheet .entry)) source sink value (now (flows .entry)) (now (flows .exit)) (now (set .entry)) (now (set .exit)) r ⌝ }
 {
-    let mut network = Network {
-        nodes: 0,
-        edges: 0,
-        faces: 0,
-        outer: 0,
-        tails: [0u16; 1024],
-        rotations: [0u16; 1024],
-        capacities: [0i32; 1024],
-        lefts: [0u16; 1024],
-    };
+    let mut tails = [0u16; 1024];
+    let mut rotations = [0u16; 1024];
+    let mut lefts = [0u16; 1024];
     let mut order = [0u16; 1024];
     let mut from = [0u16; 1024];
     let mut grouped = [0u16; 1024];
     let mut starts = [0u16; 1024];
     let mut ends = [0u16; 1024];
-    let opened = sheets::open_kept(
+    let opened = sheets::open_walked(
         sheet,
-        &mut network.lefts,
+        &mut tails,
+        &mut rotations,
+        &mut lefts,
         &mut order,
         &mut from,
         &mut grouped,
@@ -68,32 +63,23 @@ pub fn solve(
     if let Verdict::Refused(k, p) = verdict {
         return SolveAnswer::Refused(k, p);
     }
-    network.nodes = opened.nodes;
-    network.edges = opened.edges;
-    network.faces = opened.faces;
-    network.outer = opened.outer;
-    sheets::fill_tails(sheet, opened.edges, &mut network.tails);
-    sheets::fill_rotations(sheet, opened.edges, &mut network.rotations);
-    sheets::fill_capacities(sheet, opened.edges, &mut network.capacities);
-    let nodes = network.nodes;
-    let edges = network.edges;
-    let faces = network.faces;
-    let outer = network.outer;
+    let mut capacities = [0i32; 1024];
+    sheets::fill_capacities(sheet, opened.edges, &mut capacities);
     questions::solve(
-        &network.tails,
-        &network.rotations,
-        &network.lefts,
-        &network.capacities,
+        &tails,
+        &rotations,
+        &lefts,
+        &capacities,
         &order,
         &from,
         &grouped,
         &starts,
         &ends,
-        nodes,
-        edges,
-        faces,
+        opened.nodes,
+        opened.edges,
+        opened.faces,
         opened.parts,
-        outer,
+        opened.outer,
         source,
         sink,
         value,
@@ -113,24 +99,19 @@ pub fn largest(
 ) -> LargestAnswer
     ensures { λ r. ⌜ FindsLargest (now (sheet .entry)) source sink (now (flows .entry)) (now (flows .exit)) (now (set .entry)) (now (set .exit)) r ⌝ }
 {
-    let mut network = Network {
-        nodes: 0,
-        edges: 0,
-        faces: 0,
-        outer: 0,
-        tails: [0u16; 1024],
-        rotations: [0u16; 1024],
-        capacities: [0i32; 1024],
-        lefts: [0u16; 1024],
-    };
+    let mut tails = [0u16; 1024];
+    let mut rotations = [0u16; 1024];
+    let mut lefts = [0u16; 1024];
     let mut order = [0u16; 1024];
     let mut from = [0u16; 1024];
     let mut grouped = [0u16; 1024];
     let mut starts = [0u16; 1024];
     let mut ends = [0u16; 1024];
-    let opened = sheets::open_kept(
+    let opened = sheets::open_walked(
         sheet,
-        &mut network.lefts,
+        &mut tails,
+        &mut rotations,
+        &mut lefts,
         &mut order,
         &mut from,
         &mut grouped,
@@ -141,32 +122,23 @@ pub fn largest(
     if let Verdict::Refused(k, p) = verdict {
         return LargestAnswer::Refused(k, p);
     }
-    network.nodes = opened.nodes;
-    network.edges = opened.edges;
-    network.faces = opened.faces;
-    network.outer = opened.outer;
-    sheets::fill_tails(sheet, opened.edges, &mut network.tails);
-    sheets::fill_rotations(sheet, opened.edges, &mut network.rotations);
-    sheets::fill_capacities(sheet, opened.edges, &mut network.capacities);
-    let nodes = network.nodes;
-    let edges = network.edges;
-    let faces = network.faces;
-    let outer = network.outer;
+    let mut capacities = [0i32; 1024];
+    sheets::fill_capacities(sheet, opened.edges, &mut capacities);
     questions::largest(
-        &network.tails,
-        &network.rotations,
-        &network.lefts,
-        &network.capacities,
+        &tails,
+        &rotations,
+        &lefts,
+        &capacities,
         &order,
         &from,
         &grouped,
         &starts,
         &ends,
-        nodes,
-        edges,
-        faces,
+        opened.nodes,
+        opened.edges,
+        opened.faces,
         opened.parts,
-        outer,
+        opened.outer,
         source,
         sink,
         flows,
@@ -190,24 +162,19 @@ pub fn least_and_largest(
         (now (low .entry)) (now (low .exit)) (now (below .entry)) (now (below .exit))
         (now (high .entry)) (now (high .exit)) (now (above .entry)) (now (above .exit)) r ⌝ }
 {
-    let mut network = Network {
-        nodes: 0,
-        edges: 0,
-        faces: 0,
-        outer: 0,
-        tails: [0u16; 1024],
-        rotations: [0u16; 1024],
-        capacities: [0i32; 1024],
-        lefts: [0u16; 1024],
-    };
+    let mut tails = [0u16; 1024];
+    let mut rotations = [0u16; 1024];
+    let mut lefts = [0u16; 1024];
     let mut order = [0u16; 1024];
     let mut from = [0u16; 1024];
     let mut grouped = [0u16; 1024];
     let mut starts = [0u16; 1024];
     let mut ends = [0u16; 1024];
-    let opened = sheets::open_kept(
+    let opened = sheets::open_walked(
         sheet,
-        &mut network.lefts,
+        &mut tails,
+        &mut rotations,
+        &mut lefts,
         &mut order,
         &mut from,
         &mut grouped,
@@ -218,32 +185,23 @@ pub fn least_and_largest(
     if let Verdict::Refused(k, p) = verdict {
         return RangeAnswer::Refused(k, p);
     }
-    network.nodes = opened.nodes;
-    network.edges = opened.edges;
-    network.faces = opened.faces;
-    network.outer = opened.outer;
-    sheets::fill_tails(sheet, opened.edges, &mut network.tails);
-    sheets::fill_rotations(sheet, opened.edges, &mut network.rotations);
-    sheets::fill_capacities(sheet, opened.edges, &mut network.capacities);
-    let nodes = network.nodes;
-    let edges = network.edges;
-    let faces = network.faces;
-    let outer = network.outer;
+    let mut capacities = [0i32; 1024];
+    sheets::fill_capacities(sheet, opened.edges, &mut capacities);
     ranges::least_and_largest(
-        &network.tails,
-        &network.rotations,
-        &network.lefts,
-        &network.capacities,
+        &tails,
+        &rotations,
+        &lefts,
+        &capacities,
         &order,
         &from,
         &grouped,
         &starts,
         &ends,
-        nodes,
-        edges,
-        faces,
+        opened.nodes,
+        opened.edges,
+        opened.faces,
         opened.parts,
-        outer,
+        opened.outer,
         source,
         sink,
         low,
@@ -255,7 +213,6 @@ pub fn least_and_largest(
 
 // What the forward limit of an edge must be raised to: the smallest, from its present one to 1,000,000, with which the value can be carried from source to
 // sink, and the highest flow under it; or a set of nodes that proves that it cannot be with 1,000,000. The flows are written if there is one, the set if not.
-// It alone holds plain arrays: its capacities are changed while the others are read, and no field of a record can be lent for that beside others.
 pub fn raise_limit(
     sheet: &[u8],
     source: u16,
@@ -321,24 +278,19 @@ pub fn page_of(sheet: &[u8], list: Listed, flows: &mut [i32], sets: &mut [u64]) 
     ensures { λ r. ⌜ AnswersPage (now (sheet .entry)) (list .count) (questionAt (list .questions))
         (now (flows .entry)) (now (flows .exit)) (now (sets .entry)) (now (sets .exit)) r ⌝ }
 {
-    let mut network = Network {
-        nodes: 0,
-        edges: 0,
-        faces: 0,
-        outer: 0,
-        tails: [0u16; 1024],
-        rotations: [0u16; 1024],
-        capacities: [0i32; 1024],
-        lefts: [0u16; 1024],
-    };
+    let mut tails = [0u16; 1024];
+    let mut rotations = [0u16; 1024];
+    let mut lefts = [0u16; 1024];
     let mut order = [0u16; 1024];
     let mut from = [0u16; 1024];
     let mut grouped = [0u16; 1024];
     let mut starts = [0u16; 1024];
     let mut ends = [0u16; 1024];
-    let opened = sheets::open_kept(
+    let opened = sheets::open_walked(
         sheet,
-        &mut network.lefts,
+        &mut tails,
+        &mut rotations,
+        &mut lefts,
         &mut order,
         &mut from,
         &mut grouped,
@@ -349,32 +301,23 @@ pub fn page_of(sheet: &[u8], list: Listed, flows: &mut [i32], sets: &mut [u64]) 
     if let Verdict::Refused(k, p) = verdict {
         return pages::refused_page(k, p);
     }
-    network.nodes = opened.nodes;
-    network.edges = opened.edges;
-    network.faces = opened.faces;
-    network.outer = opened.outer;
-    sheets::fill_tails(sheet, opened.edges, &mut network.tails);
-    sheets::fill_rotations(sheet, opened.edges, &mut network.rotations);
-    sheets::fill_capacities(sheet, opened.edges, &mut network.capacities);
-    let nodes = network.nodes;
-    let edges = network.edges;
-    let faces = network.faces;
-    let outer = network.outer;
+    let mut capacities = [0i32; 1024];
+    sheets::fill_capacities(sheet, opened.edges, &mut capacities);
     pages::answer_list(
-        &network.tails,
-        &network.rotations,
-        &network.lefts,
-        &network.capacities,
+        &tails,
+        &rotations,
+        &lefts,
+        &capacities,
         &order,
         &from,
         &grouped,
         &starts,
         &ends,
-        nodes,
-        edges,
-        faces,
+        opened.nodes,
+        opened.edges,
+        opened.faces,
         opened.parts,
-        outer,
+        opened.outer,
         list,
         flows,
         sets,
