@@ -99,13 +99,6 @@ prepared-if s o Passed edges outer tails rotations lefts order from grouped star
 }
 prepared-if s o (Refused k p) edges outer tails rotations lefts order from grouped starts ends e u t r w = tt
 
--- the walk alone
-pub kept-if : (s : List ℕ) (o : Opened) (v : Verdict) (tails rotations lefts order from grouped starts ends : List ℕ)
-    → IfPassed v (Prepared s o tails rotations lefts order from grouped starts ends)
-    → IfPassed v (Walked (2 * edgesOf s) (o .faces) (outerOf s) (o .parts) (rotationOf s) lefts order from grouped starts ends)
-kept-if s o Passed tails rotations lefts order from grouped starts ends h = h .walked
-kept-if s o (Refused k p) tails rotations lefts order from grouped starts ends h = tt
-
 -- what was prepared, where the verdict that was looked at is that it passed
 pub if-passed : {v : Verdict} {P : Type 0} → v ≡ Passed → IfPassed v P → P
 if-passed {P = P} e h = subst (λ v. IfPassed v P) e h

@@ -10,10 +10,9 @@ ghost use Rattle.refusals.specs.Order.{NoneOf, Judged, inTurn};
 ghost use Rattle.fields.specs.Fields.{put};
 ghost use Rattle.arrays.specs.At.{at, atℤ};
 ghost use Rattle.records.specs.Record.{recordLength};
-ghost use Rattle.records.specs.Sheet.{edgesOf, outerOf, edgeAt, field16, field32, tailOf, rotationOf, capacityOf, byteChecks};
+ghost use Rattle.records.specs.Sheet.{edgesOf, edgeAt, field16, field32, tailOf, rotationOf, capacityOf, byteChecks};
 ghost use Rattle.records.specs.Check.{edgeChecks};
 ghost use Rattle.records.specs.Encode.{outerHeadBytes, edgeBytes, encodeHead, encode, encodeLength};
-ghost use Rattle.grouping.specs.inner.Walked.{Walked};
 ghost use Rattle.rotations.specs.inner.Passing.{IfPassed};
 ghost use Rattle.sheets.specs.Open.{Opens};
 ghost use Rattle.sheets.specs.inner.Prepared.{Prepared};
@@ -166,39 +165,6 @@ pub fn open_walked(
         parts: checked.parts,
         outer: outer,
     }
-}
-
-// The same for who reads tails and rotations into the network record afterwards: no two fields of a record can be lent to be written at once.
-pub fn open_kept(
-    s: &[u8],
-    lefts: &mut [u16; 1024],
-    order: &mut [u16; 1024],
-    from: &mut [u16; 1024],
-    grouped: &mut [u16; 1024],
-    starts: &mut [u16; 1024],
-    ends: &mut [u16; 1024],
-) -> Opened
-    requires { ⌜ (length (now lefts) ≡ 1024) × (length (now order) ≡ 1024) × (length (now from) ≡ 1024)
-        × (length (now grouped) ≡ 1024) × (length (now starts) ≡ 1024) × (length (now ends) ≡ 1024) ⌝ }
-    ensures { λ r. ⌜ (length (now (lefts .exit)) ≡ 1024) × (length (now (order .exit)) ≡ 1024) × (length (now (from .exit)) ≡ 1024)
-        × (length (now (grouped .exit)) ≡ 1024) × (length (now (starts .exit)) ≡ 1024) × (length (now (ends .exit)) ≡ 1024)
-        × Opens (now (s .entry)) (now (lefts .exit)) r (r .verdict)
-        × IfPassed (r .verdict) (Walked (2 * edgesOf (now (s .entry))) (r .faces) (outerOf (now (s .entry))) (r .parts) (rotationOf (now (s .entry)))
-        (now (lefts .exit)) (now (order .exit)) (now (from .exit)) (now (grouped .exit)) (now (starts .exit)) (now (ends .exit))) ⌝ }
-{
-    let mut tails = [0u16; 1024];
-    let mut rotations = [0u16; 1024];
-    open_walked(
-        s,
-        &mut tails,
-        &mut rotations,
-        lefts,
-        order,
-        from,
-        grouped,
-        starts,
-        ends,
-    )
 }
 
 // The same for who needs the numbers and the left faces only.
