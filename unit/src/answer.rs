@@ -50,11 +50,16 @@ pub fn number(number: impl Into<i64>) -> Json {
     Json::Number(number.into())
 }
 
+/// The kind of a head that names an outer dart.
+const NAMES_OUTER: u8 = 4;
+
 /// A picture: a drawing with settings on its channels, a set with the subtotals of its nodes, levels on its faces, or some of these.
 pub struct View {
     title: String,
     caption: String,
     drawing: Drawing,
+    /// The outer dart, where the sheet names one; else the picture may choose.
+    outer: Option<u16>,
     ends: Option<Ends>,
     settings: Option<Vec<i32>>,
     set: Option<(Vec<u16>, Vec<i32>)>,
@@ -62,8 +67,10 @@ pub struct View {
 }
 
 impl View {
-    pub fn new(title: String, caption: String, drawing: Drawing, ends: Option<Ends>) -> View {
-        View { title, caption, drawing, ends, settings: None, set: None, levels: None }
+    pub fn new(title: String, caption: String, sheet: &[u8], ends: Option<Ends>) -> Result<View, Refusal> {
+        let drawing = library::read(sheet)?;
+        let outer = Some(drawing.outer).filter(|_| sheet[0] == NAMES_OUTER);
+        Ok(View { title, caption, drawing, outer, ends, settings: None, set: None, levels: None })
     }
 
     pub fn settings(mut self, settings: &[i32]) -> View {
@@ -79,19 +86,20 @@ impl View {
     /// A set and what Totals by node says of it.
     pub fn set(mut self, sheet: &[u8], set: &[u64]) -> Result<View, Refusal> {
         let (subtotals, _) = library::totals(sheet, set)?;
-        let nodes = library::nodes_of(set).into_iter().filter(|&node| node < self.drawing.nodes).collect();
+        // Nodes rise, so bits past the last node, which have no subtotal, come last.
+        let nodes = library::nodes_of(set).into_iter().take(subtotals.len()).collect();
         self.set = Some((nodes, subtotals));
         Ok(self)
     }
 
     pub fn json(&self) -> Json {
-        let Drawing { nodes, outer, tails, turns, limits, .. } = &self.drawing;
+        let Drawing { nodes, tails, turns, limits, .. } = &self.drawing;
         let list = |numbers: Option<&Vec<i32>>| numbers.map_or(Json::Null, |numbers| Json::numbers(numbers));
         Json::Object(vec![
             ("title", self.title.as_str().into()),
             ("caption", self.caption.as_str().into()),
             ("nodes", number(*nodes)),
-            ("outer", number(*outer)),
+            ("outer", self.outer.into()),
             ("tails", Json::numbers(tails)),
             ("turns", Json::numbers(turns)),
             ("limits", Json::numbers(limits)),

@@ -40,9 +40,9 @@ fn against(sheet: &[u8], set: &[u64], ends: Ends, delivery: i32) -> Result<Strin
     })
 }
 
-fn plain(drawing: &Drawing, ends: Option<Ends>) -> View {
-    let caption = format!("{} nodes, {} channels, outer dart {}", drawing.nodes, drawing.channels, drawing.outer);
-    View::new("drawing".to_string(), caption, drawing.clone(), ends)
+fn plain(sheet: &[u8], ends: Option<Ends>) -> Result<View, Refusal> {
+    let Drawing { nodes, channels, outer, .. } = library::read(sheet)?;
+    View::new("drawing".to_string(), format!("{nodes} nodes, {channels} channels, outer dart {outer}"), sheet, ends)
 }
 
 pub fn read(words: &Words) -> Outcome {
@@ -60,7 +60,7 @@ pub fn read(words: &Words) -> Outcome {
             ("turns", Json::numbers(turns)),
             ("limits", Json::numbers(limits)),
         ],
-        views: vec![plain(&drawing, sheet.question.as_ref().map(ends_of))],
+        views: vec![plain(&sheet.bytes, sheet.question.as_ref().map(ends_of))?],
         ..Answer::default()
     })
 }
@@ -73,23 +73,22 @@ pub fn write(words: &Words) -> Outcome {
 }
 
 fn sheet_answer(text: String, bytes: Vec<u8>) -> Result<Answer, Refusal> {
-    let drawing = library::read(&bytes)?;
     Ok(Answer {
         text,
         json: vec![("answer", "sheet".into()), ("length", number(bytes.len() as u16)), ("bytes", Json::numbers(&bytes))],
-        views: vec![plain(&drawing, None)],
+        views: vec![plain(&bytes, None)?],
         bytes: Some(bytes),
         ..Answer::default()
     })
 }
 
 fn can_view(sheet: &[u8], ends: Ends, title: String, value: i32, settings: &[i32]) -> Result<View, Refusal> {
-    Ok(View::new(title, delivers(ends, value), library::read(sheet)?, Some(ends)).settings(settings))
+    Ok(View::new(title, delivers(ends, value), sheet, Some(ends))?.settings(settings))
 }
 
 fn cannot_view(sheet: &[u8], ends: Ends, title: String, delivery: i32, set: &[u64]) -> Result<View, Refusal> {
     let caption = against(sheet, set, ends, delivery)?;
-    View::new(title, caption, library::read(sheet)?, Some(ends)).set(sheet, set)
+    View::new(title, caption, sheet, Some(ends))?.set(sheet, set)
 }
 
 /// The picture of Solve's answer.
@@ -178,11 +177,10 @@ pub fn range(words: &Words) -> Outcome {
 }
 
 /// The sheet with another forward limit on a channel, for the picture.
-fn with_limit(drawing: &Drawing, channel: u16, limit: i32) -> Result<Vec<u8>, Refusal> {
-    let Drawing { nodes, outer, tails, turns, limits, .. } = drawing;
-    let mut limits = limits.clone();
-    limits[2 * channel as usize] = limit;
-    library::write(*nodes, *outer, tails, turns, &limits)
+fn with_limit(sheet: &[u8], channel: u16, limit: i32) -> Vec<u8> {
+    let head = if sheet[0] == 4 { 7 } else { 5 };
+    let at = head + 17 * channel as usize + 9;
+    [&sheet[..at], &limit.to_le_bytes(), &sheet[at + 4..]].concat()
 }
 
 pub fn raise(words: &Words) -> Outcome {
@@ -190,10 +188,9 @@ pub fn raise(words: &Words) -> Outcome {
     let channel = words.number(words.given.len() - 1, &short("channel"))? as u16;
     let (ends, delivery) = (ends_of(&question), question.delivery);
     let found = library::raise_limit(&sheet.bytes, ends, delivery, channel)?;
-    let drawing = library::read(&sheet.bytes)?;
     let (text, json, view) = match found {
         Found::Some(raised) => {
-            let changed = with_limit(&drawing, channel, raised.limit)?;
+            let changed = with_limit(&sheet.bytes, channel, raised.limit);
             (
                 format!("limit {}\n{}", raised.limit, listed(&raised.settings)),
                 vec![("answer", "limit".into()), ("limit", number(raised.limit)), ("settings", Json::numbers(&raised.settings))],
@@ -201,7 +198,7 @@ pub fn raise(words: &Words) -> Outcome {
             )
         }
         Found::None(set) => {
-            let changed = with_limit(&drawing, channel, 1_000_000)?;
+            let changed = with_limit(&sheet.bytes, channel, 1_000_000);
             (
                 format!("none\n{}", set_line(&set)),
                 vec![("answer", "none".into()), ("set", set_json(&set))],
@@ -262,7 +259,7 @@ pub fn mark(words: &Words) -> Outcome {
 
 fn leveled_view(sheet: &[u8], title: &str, settings: &[i32], levels: &[i32]) -> Result<View, Refusal> {
     let caption = "the setting of a channel is the level left of it less the level right of it".to_string();
-    Ok(View::new(title.to_string(), caption, library::read(sheet)?, None).settings(settings).levels(levels))
+    Ok(View::new(title.to_string(), caption, sheet, None)?.settings(settings).levels(levels))
 }
 
 pub fn levels(words: &Words) -> Outcome {
@@ -293,14 +290,13 @@ pub fn totals(words: &Words) -> Outcome {
     let sheet = words.sheet()?;
     let set = lists::set(words.last())?;
     let (subtotals, total) = library::totals(&sheet.bytes, &set)?;
-    let drawing = library::read(&sheet.bytes)?;
-    let nodes: Vec<u16> = nodes_of(&set).into_iter().filter(|&node| node < drawing.nodes).collect();
+    let nodes: Vec<u16> = nodes_of(&set).into_iter().take(subtotals.len()).collect();
     let lines: String = nodes.iter().zip(&subtotals).map(|(node, subtotal)| format!("{node} {subtotal}\n")).collect();
     let caption = format!("the outward total of a set of {} nodes", nodes.len());
     Ok(Answer {
         text: format!("{lines}total {total}\n"),
         json: vec![("answer", "totals".into()), ("nodes", Json::numbers(&nodes)), ("subtotals", Json::numbers(&subtotals)), ("total", number(total))],
-        views: vec![View::new(format!("total {total}"), caption, drawing, sheet.question.as_ref().map(ends_of)).set(&sheet.bytes, &set)?],
+        views: vec![View::new(format!("total {total}"), caption, &sheet.bytes, sheet.question.as_ref().map(ends_of))?.set(&sheet.bytes, &set)?],
         ..Answer::default()
     })
 }
@@ -343,7 +339,7 @@ pub fn dimacs(words: &Words) -> Outcome {
         json: vec![("answer", "dimacs".into()), ("text", text.as_str().into())],
         bytes: Some(text.clone().into_bytes()),
         text,
-        views: vec![plain(&library::read(&sheet.bytes)?, Some(ends))],
+        views: vec![plain(&sheet.bytes, Some(ends))?],
         ..Answer::default()
     })
 }
