@@ -131,13 +131,15 @@ def levels(drawing, place, width):
             yield text(x, y + 4, number(level), 14, LEVEL, weight="bold")
 
 
-def legend(shown, height):
+def legend(shown, leveled, height):
     """What the marks mean, in two lines at the foot."""
     x, items = 24, [(FLOW, 5, "carries water"), (FULL, 5, "carries it at a limit"), (GREY, 1.6, "carries none")]
     words = (f"arrowhead: the way the water runs (hollow: none runs, from tail to head); "
              f"\u201c{MINUS}3 of {MINUS}8..4\u201d: 3 from head to tail, allowed {MINUS}8 to 4")
     if shown.flows and shown.inside:
         items += [(BAND, 14, "a set, each node with its subtotal")]
+    if leveled:
+        items += [(LEVEL, 5, "the level of a face")]
     if not shown.flows:
         items = [(BAND, 14, "the set, each node with its subtotal"), (CUT, 3.5, "leaves or enters it, with the most that it lets out")] if shown.inside else []
         items += [(GREY, 1.6, "other channels" if shown.inside else "a channel")]
@@ -166,7 +168,7 @@ def draw(drawing, shown, title, caption):
         out += levels(drawing, place, width)
     if drawing.source is not None:
         out += [name(drawing, place, drawing.source, "headgate", SOURCE), name(drawing, place, drawing.sink, "outfall", SINK)]
-    return [*out, *legend(shown, height)], width, height
+    return [*out, *legend(shown, drawing.levels is not None, height)], width, height
 
 
 def svg(marks, width, height):

@@ -127,8 +127,12 @@ fn none(sheet: &[u8], ends: Ends, set: &[u64]) -> Outcome {
     })
 }
 
+/// The settings, and the set that proves that the next value cannot be: what it lets out, or takes in, is the value itself.
 fn extreme_view(sheet: &[u8], ends: Ends, name: &str, found: &library::Extreme) -> Result<View, Refusal> {
-    can_view(sheet, ends, format!("{name} {}", found.value), found.value, &found.settings)?.set(sheet, &found.set)
+    let (_, total) = library::totals(sheet, &found.set)?;
+    let proof = if name == "least" { format!("takes in at least {}", -(total as i64)) } else { format!("lets out at most {total}") };
+    let caption = format!("{}, and the set {proof}", delivers(ends, found.value));
+    View::new(format!("{name} {}", found.value), caption, sheet, Some(ends))?.settings(&found.settings).set(sheet, &found.set)
 }
 
 fn extreme_text(name: &str, found: &library::Extreme) -> String {
