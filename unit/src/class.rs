@@ -74,9 +74,9 @@ mod tests {
     fn papers_have_settings_a_claim_and_a_set() {
         let text = "paper Ada L.\nsettings 0 2 4\nclaim 12\nset 0 64\npaper\nset\nclaim none\nsettings 1 -1 0\n";
         let papers = parse(&file(text), 3).unwrap();
-        let told: Vec<(&str, &[i32], Option<i32>, u64, u64)> =
-            papers.iter().map(|paper| (paper.name.as_str(), paper.settings.as_slice(), paper.claim, paper.set[0], paper.set[1])).collect();
-        assert_eq!(told, [("Ada L.", &[0, 2, 4][..], Some(12), 1, 1), ("", &[1, -1, 0], None, 0, 0)]);
+        let told =
+            |name: &str, settings: &[i32], claim, nodes: &[u16]| Paper { name: name.to_string(), settings: settings.to_vec(), claim, set: words_of(nodes) };
+        assert_eq!(papers, [told("Ada L.", &[0, 2, 4], Some(12), &[0, 64]), told("", &[1, -1, 0], None, &[])]);
         assert_eq!(parse(&file("# nobody came\n"), 3), Ok(vec![]));
     }
 

@@ -1,8 +1,8 @@
 //! Every operation of the unit as a command: `tools/unit --help`. Nothing is decided here: the proved library answers, and this shows it.
 mod answer;
-#[cfg_attr(not(test), allow(dead_code, reason = "its operation is not in the library yet: the row of the table comes with it"))]
+#[allow(dead_code, reason = "its operation is not in the library yet: the row of the table comes with it")]
 mod capture;
-#[cfg_attr(not(test), allow(dead_code, reason = "as capture"))]
+#[allow(dead_code, reason = "as capture")]
 mod class;
 mod commands;
 mod json;
@@ -11,7 +11,7 @@ mod lists;
 mod picture;
 mod progress;
 mod refusals;
-#[cfg_attr(not(test), allow(dead_code, reason = "as capture"))]
+#[allow(dead_code, reason = "as capture")]
 mod session;
 mod sheets;
 mod table;
