@@ -25,6 +25,8 @@ impl Question {
 
 /// What a file holds: the bytes of a sheet, right or wrong, and the question that stands before it, if one does.
 pub struct Sheet {
+    /// The file, as a fault names it.
+    pub name: String,
     pub question: Option<Question>,
     pub bytes: Vec<u8>,
 }
@@ -35,20 +37,20 @@ impl Sheet {
     pub fn read(name: &str) -> Parsed<Sheet> {
         let file = File::read(name)?;
         if !file.is_text() {
-            return Ok(Sheet::from_bytes(&file.data));
+            return Ok(Sheet::from_bytes(file.name, &file.data));
         }
         let text = SheetText::parse(&file)?;
-        Ok(Sheet { question: text.question, bytes: text.bytes() })
+        Ok(Sheet { name: file.name, question: text.question, bytes: text.bytes() })
     }
 
-    fn from_bytes(data: &[u8]) -> Sheet {
+    fn from_bytes(name: String, data: &[u8]) -> Sheet {
         if data.first() != Some(&3) || data.len() < QUESTION_BYTES {
-            return Sheet { question: None, bytes: data.to_vec() };
+            return Sheet { name, question: None, bytes: data.to_vec() };
         }
         let half = |at: usize| u16::from_le_bytes([data[at], data[at + 1]]);
         let delivery = i32::from_le_bytes([data[5], data[6], data[7], data[8]]);
         let question = Question { headgate: half(1), outfall: half(3), delivery };
-        Sheet { question: Some(question), bytes: data[QUESTION_BYTES..].to_vec() }
+        Sheet { name, question: Some(question), bytes: data[QUESTION_BYTES..].to_vec() }
     }
 }
 
@@ -164,7 +166,7 @@ mod tests {
         let mut bytes = text.question.unwrap().record();
         bytes.extend(text.bytes());
         assert_eq!(bytes[..16], [3, 0, 0, 1, 0, 6, 0, 0, 0, 1, 2, 0, 3, 0, 2, 0]);
-        let sheet = Sheet::from_bytes(&bytes);
+        let sheet = Sheet::from_bytes(String::new(), &bytes);
         assert_eq!((sheet.question, sheet.bytes), (text.question, text.bytes()));
     }
 

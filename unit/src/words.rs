@@ -81,7 +81,7 @@ impl Words {
         let given = self.given.len() - 1 - behind;
         let question = match (given, sheet.question) {
             (0, Some(question)) => question,
-            (0, None) => return fault(&self.given[0], "it has no question: give one behind the sheet"),
+            (0, None) => return fault(&sheet.name, "it has no question: give one behind the sheet"),
             _ => Question {
                 headgate: self.number(1, &short("headgate"))? as u16,
                 outfall: self.number(2, &short("outfall"))? as u16,
