@@ -7,7 +7,7 @@ use crate::sheets::{hex, text_of, Question, SheetText};
 use crate::text::{short, unsigned, File};
 use crate::words::Words;
 
-fn ends_of(question: &Question) -> Ends {
+pub fn ends_of(question: &Question) -> Ends {
     (question.headgate, question.outfall)
 }
 
@@ -20,7 +20,7 @@ fn set_line(set: &[u64]) -> String {
     nodes_of(set).iter().fold("set".to_string(), |line, node| format!("{line} {node}")) + "\n"
 }
 
-fn set_json(set: &[u64]) -> Json {
+pub fn set_json(set: &[u64]) -> Json {
     Json::numbers(&nodes_of(set))
 }
 
@@ -118,7 +118,7 @@ pub fn solve(words: &Words) -> Outcome {
 }
 
 /// No value at all: the set holds both ends or neither, so any delivery shows it.
-fn none(sheet: &[u8], ends: Ends, set: &[u64]) -> Outcome {
+pub fn none(sheet: &[u8], ends: Ends, set: &[u64]) -> Outcome {
     Ok(Answer {
         text: format!("none\n{}", set_line(set)),
         json: vec![("answer", "none".into()), ("set", set_json(set))],
@@ -128,14 +128,14 @@ fn none(sheet: &[u8], ends: Ends, set: &[u64]) -> Outcome {
 }
 
 /// The settings, and the set that proves that the next value cannot be: what it lets out, or takes in, is the value itself.
-fn extreme_view(sheet: &[u8], ends: Ends, name: &str, found: &library::Extreme) -> Result<View, Refusal> {
+pub fn extreme_view(sheet: &[u8], ends: Ends, name: &str, found: &library::Extreme) -> Result<View, Refusal> {
     let (_, total) = library::totals(sheet, &found.set)?;
     let proof = if name == "least" { format!("takes in at least {}", -(total as i64)) } else { format!("lets out at most {total}") };
     let caption = format!("{}, and the set {proof}", delivers(ends, found.value));
     View::new(format!("{name} {}", found.value), caption, sheet, Some(ends))?.settings(&found.settings).set(sheet, &found.set)
 }
 
-fn extreme_text(name: &str, found: &library::Extreme) -> String {
+pub fn extreme_text(name: &str, found: &library::Extreme) -> String {
     format!("{name} {}\n{}{}", found.value, listed(&found.settings), set_line(&found.set))
 }
 
@@ -181,7 +181,7 @@ pub fn range(words: &Words) -> Outcome {
 }
 
 /// The sheet with another forward limit on a channel, for the picture.
-fn with_limit(sheet: &[u8], channel: u16, limit: i32) -> Vec<u8> {
+pub fn with_limit(sheet: &[u8], channel: u16, limit: i32) -> Vec<u8> {
     let head = if sheet[0] == 4 { 7 } else { 5 };
     let at = head + 17 * channel as usize + 9;
     [&sheet[..at], &limit.to_le_bytes(), &sheet[at + 4..]].concat()
@@ -244,7 +244,7 @@ pub fn page(words: &Words) -> Outcome {
     Ok(answer)
 }
 
-fn spaced<T: ToString>(word: &str, numbers: &[T]) -> String {
+pub fn spaced<T: ToString>(word: &str, numbers: &[T]) -> String {
     numbers.iter().fold(word.to_string(), |line, number| line + " " + &number.to_string())
 }
 

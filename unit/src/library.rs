@@ -1,4 +1,4 @@
-//! The proved library (include/analyser.h), one safe function to an operation. Each lends as much room as the largest drawing needs, so that 16 is said only of
+//! The proved library (include/analyser.h), one safe function to an operation; those of a module of their own stand there. Each lends as much room as the largest drawing needs, so that 16 is said only of
 //! what a caller gave. What was not written is told by a number that no answer has.
 #[derive(Clone, Copy, Debug, PartialEq)]
 pub struct Refusal {
@@ -18,8 +18,8 @@ const SHEET_BYTES: usize = 8711;
 const KEY_TEXT_BYTES: usize = 6671;
 const DIMACS_BYTES: usize = 18463;
 
-/// No setting, level or subtotal is this low.
-const UNWRITTEN: i32 = i32::MIN;
+/// No setting, level, limit or subtotal is this low.
+pub const UNWRITTEN: i32 = i32::MIN;
 
 #[derive(Clone, Debug)]
 pub struct Drawing {
@@ -97,7 +97,7 @@ extern "C" {
 }
 
 /// A call by its place pointer: the answer that it left, or its refusal.
-fn told(call: impl FnOnce(&mut u16) -> u8) -> Told<()> {
+pub fn told(call: impl FnOnce(&mut u16) -> u8) -> Told<()> {
     let mut place = 0;
     match call(&mut place) {
         0 => Ok(()),
@@ -105,12 +105,12 @@ fn told(call: impl FnOnce(&mut u16) -> u8) -> Told<()> {
     }
 }
 
-fn settings_room() -> Vec<i32> {
+pub fn settings_room() -> Vec<i32> {
     vec![UNWRITTEN; MAX_CHANNELS]
 }
 
 /// The numbers in front that were written.
-fn written(mut room: Vec<i32>) -> Vec<i32> {
+pub fn written(mut room: Vec<i32>) -> Vec<i32> {
     room.truncate(room.iter().position(|&number| number == UNWRITTEN).unwrap_or(room.len()));
     room
 }
@@ -270,4 +270,54 @@ fn ascii(mut text: Vec<u8>, length: usize) -> String {
 /// The nodes of a set, rising.
 pub fn nodes_of(set: &[u64]) -> Vec<u16> {
     (0..64 * set.len()).filter(|node| set[node / 64] >> (node % 64) & 1 == 1).map(|node| node as u16).collect()
+}
+
+#[cfg(test)]
+mod tests {
+    /// `name(type name, ..)` of every function in a text, between its name and the closing bracket, as pairs of a type in Rust's words and a name.
+    fn prototypes(text: &str, start: &str, pair: fn(&str) -> (String, String)) -> Vec<(String, Vec<(String, String)>)> {
+        let function = |part: &str| {
+            let (name, rest) = part.split_once('(')?;
+            let inside = rest.split(')').next()?;
+            Some((name.to_string(), inside.split(',').map(|one| pair(&one.split_whitespace().collect::<Vec<_>>().join(" "))).collect()))
+        };
+        text.split(start).skip(1).filter_map(function).collect()
+    }
+
+    fn from_rust(parameter: &str) -> (String, String) {
+        let (name, kind) = parameter.split_once(": ").unwrap_or((parameter, ""));
+        (kind.to_string(), name.to_string())
+    }
+
+    fn from_c(parameter: &str) -> (String, String) {
+        let pointer = parameter.contains('*');
+        let plain = parameter.replace('*', " ").replace("const ", "");
+        let words: Vec<&str> = plain.split_whitespace().collect();
+        let (kind, name) = (words[0], words[1..].join(" "));
+        let kind = if kind == "size_t" { "usize".to_string() } else { kind.replace("uint", "u").replace("int", "i").replace("_t", "") };
+        let how = if !pointer {
+            ""
+        } else if parameter.starts_with("const") {
+            "*const "
+        } else {
+            "*mut "
+        };
+        (format!("{how}{kind}"), name)
+    }
+
+    /// Every function that is declared here or in a module of its own is declared as in the header.
+    #[test]
+    fn declarations_are_those_of_the_header() {
+        let header = prototypes(include_str!("../../include/analyser.h"), "\nuint8_t analyser_", from_c);
+        let mut found = 0;
+        for text in [include_str!("library.rs"), include_str!("capture.rs"), include_str!("class.rs"), include_str!("session.rs")] {
+            for (name, parameters) in prototypes(text, "    fn analyser_", from_rust) {
+                if let Some((_, due)) = header.iter().find(|(other, _)| *other == name) {
+                    assert_eq!(&parameters, due, "{name}");
+                    found += 1;
+                }
+            }
+        }
+        assert_eq!(found, header.len(), "of the functions of the header");
+    }
 }

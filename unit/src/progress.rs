@@ -1,11 +1,28 @@
-//! A line on a terminal while a call of the library takes long.
+//! A line on a terminal while the library takes long: what is going on, how far it is where that is known, and for how long.
 use std::io::{IsTerminal, Write};
+use std::sync::atomic::{AtomicUsize, Ordering};
 use std::sync::mpsc::{channel, RecvTimeoutError};
 use std::time::{Duration, Instant};
 
 const STEP: Duration = Duration::from_millis(500);
+static DONE: AtomicUsize = AtomicUsize::new(0);
+static TOTAL: AtomicUsize = AtomicUsize::new(0);
 
-/// Runs `work`; where standard error is a terminal and it takes longer than a step, says there what is going on and for how long.
+/// Where work has parts: so many of so many are done.
+#[allow(dead_code, reason = "the first command whose work has parts is capture")]
+pub fn step(done: usize, total: usize) {
+    DONE.store(done, Ordering::Relaxed);
+    TOTAL.store(total, Ordering::Relaxed);
+}
+
+fn line(what: &str, seconds: f32) -> String {
+    match TOTAL.load(Ordering::Relaxed) {
+        0 => format!("{what}: {seconds:.1} s"),
+        total => format!("{what}: {} of {total}, {seconds:.1} s", DONE.load(Ordering::Relaxed)),
+    }
+}
+
+/// Runs `work`; where standard error is a terminal and it takes longer than a step, tells of it there.
 pub fn during<T>(what: &str, work: impl FnOnce() -> T) -> T {
     if !std::io::stderr().is_terminal() {
         return work();
@@ -17,7 +34,7 @@ pub fn during<T>(what: &str, work: impl FnOnce() -> T) -> T {
         let mut said = false;
         while ended.recv_timeout(STEP) == Err(RecvTimeoutError::Timeout) {
             said = true;
-            eprint!("\r{what}: {:.1} s ", start.elapsed().as_secs_f32());
+            eprint!("\r{} ", line(&what, start.elapsed().as_secs_f32()));
             let _ = std::io::stderr().flush();
         }
         if said {

@@ -255,6 +255,50 @@ pub const COMMANDS: &[Command] = &[
                    refused 22 place 0: some limit, forward or back, is below 0\n",
         run: commands::dimacs,
     },
+    #[cfg(feature = "capture")]
+    Command {
+        name: "capture",
+        operation: "Limits from a capture",
+        words: "SHEET [HEADGATE OUTFALL] CAPTURE WINDOW RECORD",
+        counts: &[4, 6],
+        says: "The forward limits after a record of a capture: of a channel seen in the last WINDOW records the least that they have,\n\
+               of another the sheet's; and Largest on them. RECORD counts from 0; 'all' gives the largest delivery after each.\n\
+               CAPTURE has a line 'TICK CHANNEL LIMIT' for each record, or the recorder's bytes.",
+        json: "answer largest, limits, largest, settings, set; or answer none, limits, set; of all: answer records, records",
+        examples: "$ printf '10 0 2\\n11 1 9\\n12 0 4\\n' | tools/unit capture samples/a-6.txt - 2 2\n\
+                   limits 4 9 4\n\
+                   largest 17\n\
+                   0 4\n\
+                   1 9\n\
+                   2 4\n\
+                   set 0\n\
+                   $ printf '10 0 2\\n11 1 9\\n12 0 4\\n' | tools/unit capture samples/a-6.txt - 2 all\n\
+                   record 0: largest 9\n\
+                   record 1: largest 15\n\
+                   record 2: largest 17\n",
+        run: crate::capture::command,
+    },
+    #[cfg(feature = "class")]
+    Command {
+        name: "class",
+        operation: "The exam desk",
+        words: "SHEET [HEADGATE OUTFALL DELIVERY] PAPERS",
+        counts: &[2, 5],
+        says: "The points of each paper of a class and their sum, least and greatest: 4 if its settings carry the delivery, 3 if its claim is\n\
+               the largest delivery, 3 if its set proves the next one impossible. A paper begins with a line 'paper NAME' and has the lines\n\
+               'settings ..', one for each channel, 'claim NUMBER' or 'claim none', and 'set NODE ..'.",
+        json: "answer class, names, points (both by paper), papers, sum, least, greatest, mean (sum and number); null where there is none",
+        examples:
+            "$ printf 'paper Ada\\nsettings 5 1 0\\nclaim 12\\nset 0\\npaper Ben\\nsettings 5 0 0\\nclaim 12\\nset\\n' | tools/unit class samples/a-6.txt -\n\
+                   paper Ada: 10\n\
+                   paper Ben: 3\n\
+                   papers 2\n\
+                   sum 13\n\
+                   least 3\n\
+                   greatest 10\n\
+                   mean 13/2\n",
+        run: crate::class::command,
+    },
 ];
 
 const HEAD: &str = "\
