@@ -1,5 +1,5 @@
-"""The marks of a picture (SVG): channels as curves with arrowheads and numbers, nodes, a set as a band, levels on faces, and what the marks mean. A drawing here has
-limits (keys.py: Limited); `shown` has `flows`, one to a channel or none at all, `inside`, the nodes of a set, and its `subtotals` by node."""
+"""The marks of a picture (SVG): channels as curves with arrowheads and numbers, nodes, a set as a band, levels on faces, and what the marks mean. A drawing here
+has limits (keys.py: Limited); `shown` has `flows`, one to a channel or none at all, `inside`, the nodes of a set, and its `subtotals` by node."""
 import math
 
 from places import along, between, checked_curves, layout

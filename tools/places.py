@@ -202,8 +202,8 @@ def layout(drawing):
 
 
 def part_layout(drawing):
-    """The place of every point of one part, and the size of its picture. Round by round the sides of large triangles get more weight and those of small ones less, until
-    no node moves much: so what lies deep inside, or in a loop, gets room too."""
+    """The place of every point of one part and, under "faces", of the middle of each inner face, and the size of its picture. Round by round the sides of large
+    triangles get more weight and those of small ones less, until no node moves much: so what lies deep inside, or in a loop, gets room too."""
     triangles, walk, pinned, centres = triangulate(drawing)
     pinned, width, height = frame(drawing, walk, pinned)
     sides = [[(min(p, q), max(p, q)), (min(q, r), max(q, r)), (min(r, p), max(r, p))] for p, q, r in triangles]

@@ -1,5 +1,5 @@
-//! The proved library (include/analyser.h), one safe function to an operation; those of a module of their own stand there. Each lends as much room as the largest drawing needs, so that 16 is said only of
-//! what a caller gave. What was not written is told by a number that no answer has.
+//! The proved library (include/analyser.h), one safe function to an operation; those of a module of their own stand there. Each lends as much room as the
+//! largest drawing needs, so that 16 is said only of what a caller gave. What was not written is told by a number that no answer has.
 #[derive(Clone, Copy, Debug, PartialEq)]
 pub struct Refusal {
     pub number: u8,

@@ -316,7 +316,7 @@ unless another is given. A file may be '-', standard input. Nodes, channels, dar
     --help           this; behind a command, more about it with examples
 
 A refusal is told with its number, its place, and the manual's sentence for it. Exit status: 0 an answer, 1 a refusal, 2 bad use, such as a file that cannot
-be read: then one line on standard error says what is wrong, FILE:LINE: .. for a text.
+be read: then one line on standard error says what is wrong, FILE:LINE: .. for a text. docs/BENCH.md shows an exam day with these commands.
 ";
 
 pub fn help(command: Option<&Command>) -> String {
