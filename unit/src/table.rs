@@ -278,6 +278,26 @@ pub const COMMANDS: &[Command] = &[
                    record 2: largest 17\n",
         run: crate::capture::command,
     },
+    #[cfg(feature = "session")]
+    Command {
+        name: "session",
+        operation: "A session",
+        words: "SHEET CALLS",
+        counts: &[2],
+        says: "A session on a sheet, call by call: CALLS has a line 'ask HEADGATE OUTFALL DELIVERY' or 'commit' for each. Ask gives Solve's answer\n\
+               on the limits still left and keeps it as the offer; commit lets the offer in. At the end the limits left, CHANNEL FORWARD BACK.",
+        json: "answer session, calls (each with call and what solve, done or a refusal has), left (one to a dart)",
+        examples: "$ printf 'ask 0 1 6\\ncommit\\nask 0 1 7\\ncommit\\n' | tools/unit session samples/a-6.txt -\n\
+                   ask 0 1 6: can 0 2 4\n\
+                   commit: done\n\
+                   ask 0 1 7: cannot 0\n\
+                   commit: refused 28 place 0: the session has no offer\n\
+                   left\n\
+                   0 5 0\n\
+                   1 1 2\n\
+                   2 0 4\n",
+        run: crate::session::command,
+    },
     #[cfg(feature = "class")]
     Command {
         name: "class",
