@@ -35,18 +35,18 @@ fn parse(file: &File) -> Parsed<Vec<u8>> {
 
 #[rustfmt::skip]
 extern "C" {
-    fn analyser_largest_after(sheet: *const u8, sheet_length: usize, capture: *const u8, capture_length: usize, window: u16, record: u64, headgate: u16,
+    fn analyser_largest_after(sheet: *const u8, sheet_length: usize, capture: *const u8, capture_length: usize, window: u16, named: u64, headgate: u16,
                               outfall: u16, limits: *mut i32, limits_length: usize, settings: *mut i32, settings_length: usize, set: *mut u64,
                               set_length: usize, found: *mut u8, value: *mut i32, place: *mut u16) -> u8;
 }
 
 /// The forward limits after a record, and Largest on them.
 #[rustfmt::skip]
-fn largest_after(sheet: &[u8], capture: &[u8], window: u16, record: u64, ends: Ends) -> Told<(Vec<i32>, Found<Extreme>)> {
+fn largest_after(sheet: &[u8], capture: &[u8], window: u16, named: u64, ends: Ends) -> Told<(Vec<i32>, Found<Extreme>)> {
     let (mut limits, mut settings, mut set) = (settings_room(), settings_room(), vec![0; SET_WORDS]);
     let (mut found, mut value) = (0, 0);
     told(|place| unsafe {
-        analyser_largest_after(sheet.as_ptr(), sheet.len(), capture.as_ptr(), capture.len(), window, record, ends.0, ends.1,
+        analyser_largest_after(sheet.as_ptr(), sheet.len(), capture.as_ptr(), capture.len(), window, named, ends.0, ends.1,
             limits.as_mut_ptr(), limits.len(), settings.as_mut_ptr(), settings.len(), set.as_mut_ptr(), set.len(), &mut found, &mut value, place)
     })?;
     let found = if found == 1 { Found::Some(Extreme { value, settings: written(settings), set }) } else { Found::None(set) };
