@@ -255,7 +255,7 @@ pub const COMMANDS: &[Command] = &[
                    refused 22 place 0: some limit, forward or back, is below 0\n",
         run: commands::dimacs,
     },
-    #[cfg(feature = "capture")]
+    #[cfg(has_capture)]
     Command {
         name: "capture",
         operation: "Largest after",
@@ -278,7 +278,7 @@ pub const COMMANDS: &[Command] = &[
                    record 2: largest 17\n",
         run: crate::capture::command,
     },
-    #[cfg(feature = "session")]
+    #[cfg(has_session)]
     Command {
         name: "session",
         operation: "A session",
@@ -298,7 +298,7 @@ pub const COMMANDS: &[Command] = &[
                    2 0 4\n",
         run: crate::session::command,
     },
-    #[cfg(feature = "class")]
+    #[cfg(has_class)]
     Command {
         name: "class",
         operation: "The exam desk",
