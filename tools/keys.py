@@ -7,15 +7,9 @@ from sheet import unpacked
 ANY = 10 ** 10  # a bound for numbers of a key that are then compared with what is due
 
 
-class Question(Drawing):
-    def __init__(self, file):
-        self.file, self.data = file, read(file)
-        question, nodes, outer, edges = unpacked(file, self.data)
-        if question is None:
-            raise Refused(one_line(file), "it is a sheet without a question")
-        source, sink, self.value = question
-        tail, rotation, self.capacity = ([field for edge in edges for field in edge[first:first + 2]] for first in (0, 2, 4))
-        super().__init__(nodes, tail, rotation, source, sink, outer)
+class Limited(Drawing):
+    """A drawing with the limits of its darts and, where they are to be shown, the levels of its faces."""
+    capacity = levels = None
 
     def least(self, edge):
         return -self.capacity[2 * edge + 1]
@@ -26,6 +20,17 @@ class Question(Drawing):
     def leaving(self, inside):
         """The darts that lead out of a set of nodes."""
         return [dart for dart, tail in enumerate(self.tail) if tail in inside and self.tail[dart ^ 1] not in inside]
+
+
+class Question(Limited):
+    def __init__(self, file):
+        self.file, self.data = file, read(file)
+        question, nodes, outer, edges = unpacked(file, self.data)
+        if question is None:
+            raise Refused(one_line(file), "it is a sheet without a question")
+        source, sink, self.value = question
+        tail, rotation, self.capacity = ([field for edge in edges for field in edge[first:first + 2]] for first in (0, 2, 4))
+        super().__init__(nodes, tail, rotation, source, sink, outer)
 
     def subtotals(self, inside):
         """What each node of a set has of its outward total, by node, nodes rising (document 02, Job 9): the limits of its darts that lead out of the set."""

@@ -97,8 +97,9 @@ def twice_area(p, q, r):
 
 
 def triangulate(drawing):
-    """The triangles of all faces, the outer walk, and the points to pin round the frame: those of that walk if each comes once, else those of its ring."""
-    outer, triangles, count = drawing.outer_face(), [], drawing.nodes + POINTS * len(drawing.edges)
+    """The triangles of all faces, the outer walk, the points to pin round the frame (those of that walk if each comes once, else those of its ring), and the
+    centre of each other face by its lowest dart."""
+    outer, triangles, centres, count = drawing.outer_face(), [], {}, drawing.nodes + POINTS * len(drawing.edges)
     for face in drawing.faces():
         walk = drawing.walk(face)
         if face == outer and len(set(walk)) == len(walk):
@@ -110,7 +111,9 @@ def triangulate(drawing):
             triangles += [(p, q, i), (q, j, i)] + ([] if face == outer else [(i, j, centre)])
         if face == outer:
             pinned = list(ring)
-    return triangles, drawing.walk(outer), pinned
+        else:
+            centres[face[0]] = centre
+    return triangles, drawing.walk(outer), pinned, centres
 
 
 def rectangle(t, width, height):
@@ -180,7 +183,7 @@ def middles(weights, pinned):
 
 
 def layout(drawing):
-    """The place of every point, and the size of the picture: the parts side by side."""
+    """The place of every point and of the middle of each inner face, named by its lowest dart, and the size of the picture: the parts side by side."""
     place, width, height = {}, 0, 0
     for nodes in drawing.parts():
         part, nodes, edges = drawing.part(nodes)
@@ -192,14 +195,16 @@ def layout(drawing):
             for i in range(POINTS):
                 x, y = own[part.nodes + POINTS * new + i]
                 place[drawing.nodes + POINTS * old + i] = x + shift, y
+        for dart, (x, y) in own["faces"].items():
+            place["face", 2 * edges[dart // 2] + dart % 2] = x + shift, y
         width, height = shift + across, max(height, down)
     return place, width, height
 
 
 def part_layout(drawing):
-    """The place of every point of one part, and the size of its picture. Round by round the sides of large triangles get more weight and those of small ones less, until
-    no node moves much: so what lies deep inside, or in a loop, gets room too."""
-    triangles, walk, pinned = triangulate(drawing)
+    """The place of every point of one part and, under "faces", of the middle of each inner face, and the size of its picture. Round by round the sides of large
+    triangles get more weight and those of small ones less, until no node moves much: so what lies deep inside, or in a loop, gets room too."""
+    triangles, walk, pinned, centres = triangulate(drawing)
     pinned, width, height = frame(drawing, walk, pinned)
     sides = [[(min(p, q), max(p, q)), (min(q, r), max(q, r)), (min(r, p), max(r, p))] for p, q, r in triangles]
     weights = {side: 1.0 for three in sides for side in three}
@@ -214,7 +219,7 @@ def part_layout(drawing):
         before, place = place, middles(weights, pinned)
         if max(math.dist(place[node], before[node]) for node in range(drawing.nodes)) < 0.5:
             break
-    return place, width, height
+    return {**place, "faces": {dart: place[centre] for dart, centre in centres.items()}}, width, height
 
 
 def curve(points, bent):

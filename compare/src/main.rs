@@ -20,6 +20,7 @@ mod levels;
 #[cfg(test)]
 mod paper;
 mod program;
+mod progress;
 mod unit;
 
 use check::{compare_drawing, compare_sheet, Tally, Wrong};
@@ -27,6 +28,7 @@ use drawing::Drawing;
 use faults::{Fault, Library};
 use grow::Grown;
 use program::{compare_pages, compare_program};
+use progress::Progress;
 use std::process::ExitCode;
 use std::time::{Duration, Instant};
 
@@ -98,13 +100,17 @@ fn main() -> ExitCode {
         Some(seconds) => start.elapsed() < Duration::from_secs(seconds),
         None => number - switches.first < switches.count,
     };
+    let mut progress = Progress::new();
     while goes_on(number) {
+        progress.tell(number - switches.first, tally.compared());
         if let Err(wrong) = compare_drawing(&library, switches.seed, number, &mut tally) {
+            progress.end();
             println!("{}{} compared, 1 wrong", wrong.0, tally.compared() + 1);
             return ExitCode::FAILURE;
         }
         number += 1;
     }
+    progress.end();
     print_counts(&tally);
     if switches.seconds.is_some() {
         let drawings = number - switches.first;

@@ -1,0 +1,64 @@
+//! Links the static library that `rt staticlib abi` writes, and holds the declarations of its functions to include/analyser.h. The command of a module of its
+//! own is built where the header has the module's functions: `cfg(has_capture)` and so on.
+use std::path::Path;
+
+/// The modules that declare functions. The first is always there.
+const MODULES: [&str; 4] = ["library", "capture", "class", "session"];
+
+fn main() {
+    let top = Path::new(env!("CARGO_MANIFEST_DIR"));
+    link(&top.join("../target/staticlib"));
+    let header = prototypes(&read(&top.join("../include/analyser.h")), "\nuint8_t analyser_", from_c);
+    for module in MODULES {
+        let own = prototypes(&read(&top.join(format!("src/{module}.rs"))), "    fn analyser_", from_rust);
+        let due: Vec<&Prototype> = own.iter().filter_map(|(name, _)| header.iter().find(|(other, _)| other == name)).collect();
+        assert!(due.len() == own.len() || due.is_empty() && module != MODULES[0], "src/{module}.rs: include/analyser.h has {} of its functions", due.len());
+        println!("cargo:rustc-check-cfg=cfg(has_{module})");
+        if !due.is_empty() {
+            println!("cargo:rustc-cfg=has_{module}");
+            assert_eq!(own.iter().collect::<Vec<_>>(), due, "src/{module}.rs declares otherwise than include/analyser.h");
+        }
+    }
+}
+
+fn link(folder: &Path) {
+    let library = folder.join("libabi.a");
+    println!("cargo:rerun-if-changed={}", library.display());
+    println!("cargo:rustc-link-search=native={}", folder.display());
+    println!("cargo:rustc-link-lib=static=abi");
+    assert!(library.exists(), "{}: run `rt staticlib abi` first", library.display());
+}
+
+fn read(file: &Path) -> String {
+    println!("cargo:rerun-if-changed={}", file.display());
+    std::fs::read_to_string(file).unwrap_or_else(|error| panic!("{}: {error}", file.display()))
+}
+
+/// A function's name and its parameters, each with its type in Rust's words.
+type Prototype = (String, Vec<(String, String)>);
+
+fn prototypes(text: &str, start: &str, parameter: fn(&str) -> (String, String)) -> Vec<Prototype> {
+    let function = |part: &str| {
+        let (name, rest) = part.split_once('(')?;
+        let inside = rest.split(')').next()?;
+        Some((name.to_string(), inside.split(',').map(|one| parameter(&one.split_whitespace().collect::<Vec<_>>().join(" "))).collect()))
+    };
+    text.split(start).skip(1).filter_map(function).collect()
+}
+
+fn from_rust(parameter: &str) -> (String, String) {
+    let (name, kind) = parameter.split_once(": ").unwrap_or((parameter, ""));
+    (name.to_string(), kind.to_string())
+}
+
+fn from_c(parameter: &str) -> (String, String) {
+    let plain = parameter.replace('*', " ").replace("const ", "");
+    let (kind, name) = plain.trim().split_once(' ').unwrap_or((&plain, ""));
+    let kind = if kind == "size_t" { "usize".to_string() } else { kind.replace("uint", "u").replace("int", "i").replace("_t", "") };
+    let pointer = match (parameter.contains('*'), parameter.starts_with("const ")) {
+        (false, _) => "",
+        (true, true) => "*const ",
+        (true, false) => "*mut ",
+    };
+    (name.trim().to_string(), format!("{pointer}{kind}"))
+}

@@ -1,0 +1,114 @@
+//! What a command gives: the library's answer as text, as JSON, as bytes and as pictures; or why there is none.
+use crate::json::Json;
+use crate::library::{self, Drawing, Ends, Refusal};
+use crate::refusals;
+use crate::text::Fault;
+
+#[derive(Default)]
+pub struct Answer {
+    pub text: String,
+    pub json: Vec<(&'static str, Json)>,
+    pub views: Vec<View>,
+    /// What `--out` writes, where the answer is a file of its own.
+    pub bytes: Option<Vec<u8>>,
+    /// Whether the text is the key of a refusal.
+    pub refused: bool,
+}
+
+pub enum Failure {
+    Fault(Fault),
+    Refusal(Refusal),
+}
+
+impl From<Fault> for Failure {
+    fn from(fault: Fault) -> Failure {
+        Failure::Fault(fault)
+    }
+}
+
+impl From<Refusal> for Failure {
+    fn from(refusal: Refusal) -> Failure {
+        Failure::Refusal(refusal)
+    }
+}
+
+pub type Outcome = Result<Answer, Failure>;
+
+/// Number, place and the manual's sentence, on one line.
+pub fn refusal_text(refusal: Refusal) -> String {
+    let row = refusals::row_of(refusal.number);
+    let of = if row.place == "0" { String::new() } else { format!(" ({})", row.place) };
+    format!("refused {} place {}{of}: {}\n", refusal.number, refusal.place, row.sentence)
+}
+
+pub fn refusal_json(refusal: Refusal) -> Vec<(&'static str, Json)> {
+    let sentence = refusals::row_of(refusal.number).sentence;
+    vec![("answer", "refused".into()), ("refused", number(refusal.number)), ("place", number(refusal.place)), ("sentence", sentence.into())]
+}
+
+pub fn number(number: impl Into<i64>) -> Json {
+    Json::Number(number.into())
+}
+
+/// The kind of a head that names an outer dart.
+const NAMES_OUTER: u8 = 4;
+
+/// A picture: a drawing with settings on its channels, a set with the subtotals of its nodes, levels on its faces, or some of these.
+pub struct View {
+    title: String,
+    caption: String,
+    drawing: Drawing,
+    /// The outer dart, where the sheet names one; else the picture may choose.
+    outer: Option<u16>,
+    ends: Option<Ends>,
+    settings: Option<Vec<i32>>,
+    set: Option<(Vec<u16>, Vec<i32>)>,
+    levels: Option<Vec<i32>>,
+}
+
+impl View {
+    pub fn new(title: String, caption: String, sheet: &[u8], ends: Option<Ends>) -> Result<View, Refusal> {
+        let drawing = library::read(sheet)?;
+        let outer = Some(drawing.outer).filter(|_| sheet[0] == NAMES_OUTER);
+        Ok(View { title, caption, drawing, outer, ends, settings: None, set: None, levels: None })
+    }
+
+    pub fn settings(mut self, settings: &[i32]) -> View {
+        self.settings = Some(settings.to_vec());
+        self
+    }
+
+    pub fn levels(mut self, levels: &[i32]) -> View {
+        self.levels = Some(levels.to_vec());
+        self
+    }
+
+    /// A set and what Totals by node says of it.
+    pub fn set(mut self, sheet: &[u8], set: &[u64]) -> Result<View, Refusal> {
+        let (subtotals, _) = library::totals(sheet, set)?;
+        // Nodes rise, so bits past the last node, which have no subtotal, come last.
+        let nodes = library::nodes_of(set).into_iter().take(subtotals.len()).collect();
+        self.set = Some((nodes, subtotals));
+        Ok(self)
+    }
+
+    pub fn json(&self) -> Json {
+        let Drawing { nodes, tails, turns, limits, .. } = &self.drawing;
+        let list = |numbers: Option<&Vec<i32>>| numbers.map_or(Json::Null, |numbers| Json::numbers(numbers));
+        Json::Object(vec![
+            ("title", self.title.as_str().into()),
+            ("caption", self.caption.as_str().into()),
+            ("nodes", number(*nodes)),
+            ("outer", self.outer.into()),
+            ("tails", Json::numbers(tails)),
+            ("turns", Json::numbers(turns)),
+            ("limits", Json::numbers(limits)),
+            ("headgate", self.ends.map(|ends| ends.0).into()),
+            ("outfall", self.ends.map(|ends| ends.1).into()),
+            ("settings", list(self.settings.as_ref())),
+            ("set", self.set.as_ref().map_or(Json::Null, |(nodes, _)| Json::numbers(nodes))),
+            ("subtotals", list(self.set.as_ref().map(|(_, subtotals)| subtotals))),
+            ("levels", list(self.levels.as_ref())),
+        ])
+    }
+}

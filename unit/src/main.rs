@@ -1,0 +1,88 @@
+//! Every operation of the unit as a command: `tools/unit --help`. Nothing is decided here: the proved library answers, and this shows it.
+mod answer;
+#[cfg_attr(not(has_capture), allow(dead_code, reason = "the row of the table comes with its operation in the library"))]
+mod capture;
+#[cfg_attr(not(has_class), allow(dead_code, reason = "as capture"))]
+mod class;
+mod commands;
+mod json;
+mod library;
+mod lists;
+mod picture;
+mod progress;
+mod refusals;
+#[cfg_attr(not(has_session), allow(dead_code, reason = "as capture"))]
+mod session;
+mod sheets;
+mod table;
+mod text;
+mod words;
+
+use crate::answer::{Answer, Failure};
+use crate::json::Json;
+use crate::text::{fault, system, Fault, Parsed};
+use crate::words::{Wanted, Words};
+use std::io::Write;
+use std::process::ExitCode;
+
+const REFUSED: u8 = 1;
+const BAD_USE: u8 = 2;
+
+fn main() -> ExitCode {
+    let arguments: Vec<String> = std::env::args_os().skip(1).map(|word| word.to_string_lossy().into_owned()).collect();
+    match words::parse(arguments).and_then(done) {
+        Ok(status) => ExitCode::from(status),
+        Err(Fault(what)) => {
+            // Where nobody hears it the status still tells.
+            let _ = writeln!(std::io::stderr(), "tools/unit: {what}");
+            ExitCode::from(BAD_USE)
+        }
+    }
+}
+
+fn done(wanted: Wanted) -> Parsed<u8> {
+    let words = match wanted {
+        Wanted::Help(command) => return say(&table::help(command)).map(|_| 0),
+        Wanted::Run(words) => words,
+    };
+    match progress::during(words.command.operation, || (words.command.run)(&words)) {
+        Ok(answer) => answered(&words, answer),
+        Err(Failure::Fault(fault)) => Err(fault),
+        Err(Failure::Refusal(refusal)) => {
+            let text = if words.json { line(&words, answer::refusal_json(refusal)) } else { answer::refusal_text(refusal) };
+            say(&text).map(|_| REFUSED)
+        }
+    }
+}
+
+/// The file and the picture first, so that nothing is said where one of them cannot be made.
+fn answered(words: &Words, answer: Answer) -> Parsed<u8> {
+    if let Some(file) = &words.picture {
+        if answer.views.is_empty() {
+            return fault(words.command.name, "there is nothing to see, so no picture");
+        }
+        let drawn = progress::during("drawing", || picture::draw(&answer.views))?;
+        keep(file, &drawn)?;
+    }
+    let status = if answer.refused { REFUSED } else { 0 };
+    let text = if words.json { line(words, answer.json) } else { answer.text };
+    match (&words.out, answer.bytes) {
+        (None, _) => say(&text).map(|_| status),
+        (Some(file), Some(bytes)) => keep(file, &bytes).map(|_| status),
+        (Some(_), None) => fault(words.command.name, "it has no --out"),
+    }
+}
+
+fn line(words: &Words, mut fields: Vec<(&'static str, Json)>) -> String {
+    fields.insert(0, ("operation", words.command.operation.into()));
+    format!("{}\n", Json::Object(fields))
+}
+
+fn keep(file: &str, bytes: &[u8]) -> Parsed<()> {
+    std::fs::write(file, bytes).or_else(|error| fault(file, system(&error)))
+}
+
+fn say(text: &str) -> Parsed<()> {
+    let mut out = std::io::stdout();
+    out.write_all(text.as_bytes()).and_then(|_| out.flush()).or_else(|error| fault("standard output", system(&error)))
+}

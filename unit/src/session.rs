@@ -1,0 +1,169 @@
+//! A session on a sheet (document 02, Jobs 11 and 12), one call a line: `ask HEADGATE OUTFALL DELIVERY`, `commit`, `clear`. Before ask and commit may stand
+//! the party, as in `1 ask 0 6 5`; without it they are of party 0.
+use crate::answer::{number, refusal_json, refusal_text, Answer, Outcome};
+use crate::commands::{ends_of, set_json, spaced};
+use crate::json::Json;
+use crate::library::{self, nodes_of, settings_room, told, written, Solved, Told, SET_WORDS};
+use crate::progress;
+use crate::sheets::{Question, QUESTION};
+use crate::text::{fault, short, Field, File, Parsed};
+use crate::words::Words;
+
+#[derive(Clone, Copy, Debug, PartialEq)]
+pub enum Call {
+    Ask { party: u16, question: Question },
+    Commit { party: u16 },
+    Clear,
+}
+
+const PARTY: Field = short("party");
+
+pub fn read(name: &str) -> Parsed<Vec<Call>> {
+    parse(&File::read(name)?)
+}
+
+fn parse(file: &File) -> Parsed<Vec<Call>> {
+    let mut calls = vec![];
+    for line in &file.lines()? {
+        let named = line.words[0].as_bytes()[0].is_ascii_digit();
+        let party = if named { line.number(&PARTY, 0)? as u16 } else { 0 };
+        let at = named as usize;
+        calls.push(match line.words.get(at).copied() {
+            Some("ask") => Call::Ask { party, question: Question::from(&line.numbers("'ask'", at + 1, &QUESTION)?) },
+            Some("commit") if line.words.len() == at + 1 => Call::Commit { party },
+            Some("clear") if line.words == ["clear"] => Call::Clear,
+            _ => return line.fault("no line '[PARTY] ask HEADGATE OUTFALL DELIVERY', '[PARTY] commit' or 'clear'"),
+        });
+    }
+    Ok(calls)
+}
+
+#[rustfmt::skip]
+extern "C" {
+    fn analyser_session_start(sheet: *const u8, sheet_length: usize, nodes: *mut u16, channels: *mut u16, outer: *mut u16, offered: *mut u8,
+                              tails: *mut u16, turns: *mut u16, left: *mut i32, offer: *const i32, place: *mut u16) -> u8;
+    fn analyser_session_ask(nodes: u16, channels: u16, outer: u16, offered: *mut u8, tails: *const u16, turns: *const u16, left: *const i32,
+                            offer: *mut i32, headgate: u16, outfall: u16, delivery: i32, settings: *mut i32, settings_length: usize, set: *mut u64,
+                            set_length: usize, can: *mut u8, size: *mut u16, place: *mut u16) -> u8;
+    fn analyser_session_commit(nodes: u16, channels: u16, outer: u16, offered: *mut u8, tails: *const u16, turns: *const u16, left: *mut i32,
+                               offer: *const i32, place: *mut u16) -> u8;
+}
+
+const DARTS: usize = 1024;
+const CHANNELS: usize = 512;
+
+/// The library's session: its fields are handed on and never changed here.
+struct Session {
+    nodes: u16,
+    channels: u16,
+    outer: u16,
+    offered: u8,
+    tails: [u16; DARTS],
+    turns: [u16; DARTS],
+    left: [i32; DARTS],
+    offer: [i32; CHANNELS],
+}
+
+#[rustfmt::skip]
+impl Session {
+    fn start(sheet: &[u8]) -> Told<Session> {
+        let mut new = Session {
+            nodes: 0, channels: 0, outer: 0, offered: 0, tails: [0; DARTS], turns: [0; DARTS], left: [0; DARTS], offer: [0; CHANNELS],
+        };
+        told(|place| unsafe {
+            analyser_session_start(sheet.as_ptr(), sheet.len(), &mut new.nodes, &mut new.channels, &mut new.outer, &mut new.offered,
+                new.tails.as_mut_ptr(), new.turns.as_mut_ptr(), new.left.as_mut_ptr(), new.offer.as_ptr(), place)
+        })?;
+        Ok(new)
+    }
+
+    fn ask(&mut self, question: &Question) -> Told<Solved> {
+        let (mut settings, mut set) = (settings_room(), vec![0; SET_WORDS]);
+        let (mut can, mut size) = (0, 0);
+        let (headgate, outfall) = ends_of(question);
+        told(|place| unsafe {
+            analyser_session_ask(self.nodes, self.channels, self.outer, &mut self.offered, self.tails.as_ptr(), self.turns.as_ptr(), self.left.as_ptr(),
+                self.offer.as_mut_ptr(), headgate, outfall, question.delivery, settings.as_mut_ptr(), settings.len(), set.as_mut_ptr(), set.len(),
+                &mut can, &mut size, place)
+        })?;
+        Ok(if can == 1 { Solved::Can(written(settings)) } else { Solved::Cannot { set, size } })
+    }
+
+    fn commit(&mut self) -> Told<()> {
+        told(|place| unsafe {
+            analyser_session_commit(self.nodes, self.channels, self.outer, &mut self.offered, self.tails.as_ptr(), self.turns.as_ptr(),
+                self.left.as_mut_ptr(), self.offer.as_ptr(), place)
+        })
+    }
+}
+
+/// What a call is called, what it says, and its fields.
+type Said = (String, String, Vec<(&'static str, Json)>);
+
+fn said(session: &mut Session, call: &Call) -> Parsed<Said> {
+    let refused = |refusal| (refusal_text(refusal).trim_end().to_string(), refusal_json(refusal));
+    let (name, (text, json)) = match call {
+        Call::Ask { party: 0, question } => {
+            let Question { headgate, outfall, delivery } = question;
+            let told = match session.ask(question) {
+                Ok(Solved::Can(settings)) => (spaced("can", &settings), vec![("answer", "can".into()), ("settings", Json::numbers(&settings))]),
+                Ok(Solved::Cannot { set, size }) => {
+                    (spaced("cannot", &nodes_of(&set)), vec![("answer", "cannot".into()), ("set", set_json(&set)), ("size", number(size))])
+                }
+                Err(refusal) => refused(refusal),
+            };
+            (format!("ask {headgate} {outfall} {delivery}"), told)
+        }
+        Call::Commit { party: 0 } => ("commit".to_string(), session.commit().map_or_else(refused, |_| ("done".to_string(), vec![("answer", "done".into())]))),
+        _ => return fault("session", "the library has no second party and no clear"),
+    };
+    Ok((name, text, json))
+}
+
+/// A refused start is the refusal of the whole; a call that is refused is told with the others.
+pub fn command(words: &Words) -> Outcome {
+    let sheet = words.sheet()?;
+    let calls = read(words.last())?;
+    let mut session = Session::start(&sheet.bytes)?;
+    let channels = library::read(&sheet.bytes)?.channels as usize;
+    let (mut text, mut list) = (String::new(), vec![]);
+    for (at, call) in calls.iter().enumerate() {
+        progress::step(at, calls.len());
+        let (name, line, mut json) = said(&mut session, call)?;
+        text += &format!("{name}: {line}\n");
+        json.insert(0, ("call", name.as_str().into()));
+        list.push(Json::Object(json));
+    }
+    let left = &session.left[..2 * channels];
+    let lines: String = left.chunks(2).enumerate().map(|(channel, pair)| format!("{channel} {} {}\n", pair[0], pair[1])).collect();
+    Ok(Answer {
+        text: format!("{text}left\n{lines}"),
+        json: vec![("answer", "session".into()), ("calls", Json::List(list)), ("left", Json::numbers(left))],
+        ..Answer::default()
+    })
+}
+
+#[cfg(test)]
+mod tests {
+    use super::*;
+    use crate::text::{file, Fault};
+
+    #[test]
+    fn a_call_is_of_party_0_unless_said() {
+        let question = Question { headgate: 0, outfall: 6, delivery: -5 };
+        let calls = parse(&file("ask 0 6 -5\n1 ask 0 6 -5\ncommit\n7 commit\nclear\n"));
+        assert_eq!(
+            calls,
+            Ok(vec![Call::Ask { party: 0, question }, Call::Ask { party: 1, question }, Call::Commit { party: 0 }, Call::Commit { party: 7 }, Call::Clear])
+        );
+    }
+
+    #[test]
+    fn other_lines_are_named() {
+        let form = "no line '[PARTY] ask HEADGATE OUTFALL DELIVERY', '[PARTY] commit' or 'clear'";
+        for text in ["1 clear", "commit 1", "1", "start", "-1 commit"] {
+            assert_eq!(parse(&file(text)), Err(Fault(format!("f:1: {form}"))), "{text}");
+        }
+        assert_eq!(parse(&file("ask 0 6\n")), Err(Fault("f:1: 'ask' has 3 numbers (headgate, outfall, delivery), here are 2".to_string())));
+    }
+}
