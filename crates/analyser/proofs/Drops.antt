@@ -85,7 +85,8 @@ module _ (s : List ℕ) (source sink : ℕ) (flows flows' : List ℤ) (set set' 
   none-in-drops : FindsLargest s source sink flows flows' set set' largest.None → (value : ℤ) → NotEvenInDrops s source sink value
   none-in-drops h value =
       let a = sought s source sink flows set (h .0) in
-      set-in-drops s (a .sheet) source sink (a .ends-two) (capacityOf s) value (member (h .2 .0)) (demand.none-proves s source sink flows flows' set set' (h .0) h value)
+      set-in-drops s (a .sheet) source sink (a .ends-two) (capacityOf s) value (member (h .2 .0))
+      (demand.none-proves s source sink flows flows' set set' (h .0) h value)
 
 -- ── all ──
 pub in-drops : InDrops

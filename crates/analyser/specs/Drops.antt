@@ -1,6 +1,6 @@
 -- Document 02, Job 13: "Candidates argue that a half litre here and there would do it. Show that where the unit says "cannot", no settings in n-th parts of a
--- litre a minute carry that delivery either, for each whole n from 1 up". A field for each statement, of every run by its contract alone, as in Statements.antt;
--- of the key's text and of a session the same is said in their own crates. The proofs are in proofs/Drops.antt.
+-- litre a minute carry that delivery either, for each whole n from 1 up". A field for each statement, of every run by its contract alone, as in Statements; of
+-- the key's text and of a session the same is said in their own crates. The proofs are in proofs/Drops.antt.
 use Prim.Native.Nat.{ℕ, _<_}
 use mathlib.Core.Path.{_≡_}
 use mathlib.Core.Logic.{_↔_}
