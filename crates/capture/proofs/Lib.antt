@@ -1,0 +1,7 @@
+-- What the reader finds; records checked in turn; the window taken; the checks that stand last; limits taken in phases; Largest on them.
+pub mod Reading
+pub mod Checking
+pub mod Taking
+pub mod Lasting
+pub mod Limits
+pub mod Finding
