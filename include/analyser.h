@@ -145,11 +145,12 @@ uint8_t analyser_raise_limit(const uint8_t *sheet, size_t sheet_length, uint16_t
                              int32_t *settings, size_t settings_length, uint64_t *set, size_t set_length, uint8_t *found, int32_t *limit, uint16_t *place);
 
 // Largest after: the forward limits that a capture leaves after a named record, and Largest on them. A capture is the recorder's bytes, of any length, read
-// where they stand: records of 11 bytes, of kind 5, each with a tick (32 bits, unsigned), a channel (16) and a forward limit (32, signed). The limit of a channel
-// is the least among its records in the last window records up to record named, counted from 0; the sheet's where there is none. Back limits are the sheet's.
-// Refusals: the sheet checks; 26 where window is not 1 to 256 or named is not below capture_length / 11; of every record of the capture in turn, those after the
-// named one too, 2 where its kind is not 5, 1 where it is cut short, 25, 27; 6 and 7 of each channel in turn, on the limits found; 13; 14; 16 where limits or
-// settings has less than one element for each channel, or set less than one word for each 64 nodes or part of them.
+// where they stand: records of 11 bytes, of kind 5, each with a tick (32 bits, unsigned), a channel (16) and a forward limit (32, signed). The limit of a
+// channel is the least among its records in the last window records up to record named, counted from 0; the sheet's where there is none. Back limits are the
+// sheet's.
+// Refusals: the sheet checks; 26 where window is not 1 to 256 or named is not below capture_length / 11; of every record of the capture in turn, those after
+// the named one too, 2 where its kind is not 5, 1 where it is cut short, 25, 27; 6 and 7 of each channel in turn, on the limits found; 13; 14; 16 where limits
+// or settings has less than one element for each channel, or set less than one word for each 64 nodes or part of them.
 // Writes where there is a value: a limit and a setting for each channel, the words of the set, *value, and *found = 1.
 // Where there is none: a limit for each channel, the words of the set, and *found = 0.
 uint8_t analyser_largest_after(const uint8_t *sheet, size_t sheet_length, const uint8_t *capture, size_t capture_length, uint16_t window, uint64_t named,

@@ -81,7 +81,8 @@ limits-of-capture = record {
       on.excludes (drawing s b w n) (plane s (sheet s b w n source sink limits flows set a)) source sink (two s b w n source sink limits flows set a)
       value S p (q .0) (q .1);
   none-exactly = λ s b w n source sink limits limits' flows flows' set set' answer a h.
-      let e = on.none-exactly (drawing s b w n) (plane s (sheet s b w n source sink limits flows set a)) source sink (two s b w n source sink limits flows set a)
+      let e = on.none-exactly (drawing s b w n) (plane s (sheet s b w n source sink limits flows set a)) source sink
+      (two s b w n source sink limits flows set a)
       (afterChecks s b w n source sink limits flows set) flows flows' set set' a answer (h .1) in
       ((λ q value p. e .0 q value (p .0) (p .1)), (λ nothing. e .1 (λ value x d. nothing value (x, d))));
   none-proves = λ s b w n source sink limits limits' flows flows' set set' h.

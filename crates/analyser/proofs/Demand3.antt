@@ -112,7 +112,8 @@ module _ (s : List ℕ) (source sink : ℕ) (flows flows' : List ℤ) (set set' 
   module _ (v : ℤ) (h : FindsLargest s source sink flows flows' set set' (Value v)) where
     pub largest-highest : Highest (sheetMap s) (outerOf s) (capacityOf s) source sink v (atℤ flows')
     largest-highest =
-        on.largest-highest (sheetDrawing s) (plane s (known .sheet)) source sink (known .ends-two) (largestChecks s source sink flows set) flows flows' set set' v h
+        on.largest-highest (sheetDrawing s) (plane s (known .sheet)) source sink (known .ends-two)
+        (largestChecks s source sink flows set) flows flows' set set' v h
 
     pub largest-carries : Delivers s source sink v (atℤ flows')
     largest-carries = largest-highest .carries
@@ -127,7 +128,8 @@ module _ (s : List ℕ) (source sink : ℕ) (flows flows' : List ℤ) (set set' 
     -- ── nothing greater can be delivered ──
     pub nothing-greater : (w : ℤ) (x : ℕ → ℤ) → Delivers s source sink w x → w ≤ℤ v
     nothing-greater =
-        on.nothing-greater (sheetDrawing s) (plane s (known .sheet)) source sink (known .ends-two) (largestChecks s source sink flows set) flows flows' set set' v h
+        on.nothing-greater (sheetDrawing s) (plane s (known .sheet)) source sink (known .ends-two)
+        (largestChecks s source sink flows set) flows flows' set set' v h
 
     -- it lies within ±512,000,000
     pub largest-small : Limited 512000000 v
@@ -143,7 +145,8 @@ module _ (s : List ℕ) (source sink : ℕ) (flows flows' : List ℤ) (set set' 
 
     pub none-delivered : (value : ℤ) (x : ℕ → ℤ) → Delivers s source sink value x → ⊥
     none-delivered =
-        on.none-delivered (sheetDrawing s) (plane s (known .sheet)) source sink (known .ends-two) (largestChecks s source sink flows set) flows flows' set set' h
+        on.none-delivered (sheetDrawing s) (plane s (known .sheet)) source sink (known .ends-two)
+        (largestChecks s source sink flows set) flows flows' set set' h
 
   -- ── exactly when ──
   module _ (answer : LargestAnswer) (found : FindsLargest s source sink flows flows' set set' answer) where

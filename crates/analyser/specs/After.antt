@@ -1,4 +1,5 @@
--- Limits from a capture. Document 02, Job 10: "Give these forward limits after a named record, one per channel in a slice of their own .., and Largest on them":
+-- Limits from a capture. Document 02, Job 10: "Give these forward limits after a named record, one per channel in a slice of their own .., and Largest on
+-- them":
 -- on the sheet's drawing. After the sheet checks 26, every record of the capture, 6 and 7 on the limits found, then 13, 14 and 16.
 use Prim.Native.Nat.{ℕ}
 use mathlib.Core.List.{List, _++_}

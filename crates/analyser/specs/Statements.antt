@@ -1,6 +1,7 @@
 -- What the course book prints of the operations on sheets (document 01, demands 2 and 3; document 02, Jobs 1, 2, 4 and 6 to 10), as records: a field for each
 -- statement, with the printed words above it. Each is about every run of an operation: all that a field knows of a run is its contract, `Solves`,
--- `FindsLargest`, `FindsRange`, `RaisesLimit`, `FindsAfter`, `AnswersPage`, `Marks`, `GivesLevels`, `GivesSettings`, `GivesTotals` or `WritesDimacs`. A sheet or a question
+-- `FindsLargest`, `FindsRange`, `RaisesLimit`, `FindsAfter`, `AnswersPage`, `Marks`, `GivesLevels`, `GivesSettings`, `GivesTotals` or `WritesDimacs`. A sheet
+-- or a question
 -- is accepted where no check of its list holds; an accepted sheet is flat, because 12 is among its checks, in one part or several. Settings are any function
 -- from edges to whole numbers, deliveries any whole number. The proofs are in proofs/Statements.antt, Range.antt, Raise.antt, Captured.antt, ByThePage.antt,
 -- Districts.antt, ByNode.antt and Dimacs.antt.
@@ -321,7 +322,8 @@ pub record RaisedLimit : Type 0 where
 
 -- ── Document 02, Job 10: "After each record, a channel seen in the last W records has the least forward limit among them; an unseen one has the sheet's. ..
 -- Give these forward limits after a named record, one per channel in a slice of their own .., and Largest on them; the limits are written where Largest is none
--- as well." Of every run of `largest_after` on a sheet s and a capture b, with the window w and the named record n, known by its contract `FindsAfter` alone. ──
+-- as well." Of every run of `largest_after` on a sheet s and a capture b, with the window w and the named record n, known by its contract `FindsAfter` alone.
+-- ──
 -- record i is one of the last w up to record n
 abbrev pub InWindow : (w n i : ℕ) → Type 0
 InWindow w n i = (i ≤ n) × (n < i + w)

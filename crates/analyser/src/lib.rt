@@ -1,7 +1,7 @@
 // The analyser's operations on sheets. Document 01, "Operations": Solve, Largest, Mark, Levels from settings, Settings from levels. Document 02: the least
-// delivery beside the largest (Job 4), what a forward limit must be raised to (Job 7), totals by node (Job 9), limits from a capture (Job 10), DIMACS text
-// (Job 2), questions by the page (Job 1). Each fills the arrays of a drawing once, in its own frame, from the sheet, and lends them to the operation on drawings; those that decide are lent
-// the walk over the darts and their groups too, which opening makes.
+// delivery beside the largest (Job 4), what a forward limit must be raised to (Job 7), totals by node (Job 9), limits from a capture (Job 10), DIMACS text (Job
+// 2), questions by the page (Job 1). Each fills the arrays of a drawing once, in its own frame, from the sheet, and lends them to the operation on drawings;
+// those that decide are lent the walk over the darts and their groups too, which opening makes.
 ghost use lib.ListN.{length};
 ghost use Rattle.analyser.specs.Solve.{Solves};
 ghost use Rattle.analyser.specs.Largest.{FindsLargest};

@@ -57,7 +57,8 @@ LimitsGiven edges forward limits limits' None = limits' ≡ filled edges forward
 LimitsGiven edges forward limits limits' (Refused k p) = limits' ≡ limits
 
 -- What is answered, where `checks` are the refusals in order: the limits after record n, and Largest on the drawing that has them.
-abbrev pub FoundAfter : Drawing → List Check → List ℕ → (w n source sink : ℕ) → (limits limits' flows flows' : List ℤ) (set set' : List ℕ) → LargestAnswer → Type 0
+abbrev pub FoundAfter : Drawing → List Check → List ℕ → (w n source sink : ℕ) → (limits limits' flows flows' : List ℤ) (set set' : List ℕ) → LargestAnswer
+    → Type 0
 FoundAfter 𝓓 checks b w n source sink limits limits' flows flows' set set' answer =
     LimitsGiven (𝓓 .map .edges) (forwardOf (𝓓 .capacity) b w n) limits limits' answer
     × LargestFound (foundDrawing 𝓓 b w n) checks source sink flows flows' set set' answer

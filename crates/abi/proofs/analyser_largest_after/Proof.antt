@@ -24,7 +24,8 @@ abbrev set' : tie.After-largest-after → List ℕ
 set' c = c .largest-after .last .1 .1 .1 .1 .1 .1 .1 .1 .0
 
 found : (c : tie.After-largest-after) (answer : LargestAnswer) → c .largest-after .result ≡ answer
-    → FindsAfter (start c .args .sheet .now) (start c .args .capture .now) (start c .args .window) (start c .args .named) (start c .args .source) (start c .args .sink)
+    → FindsAfter (start c .args .sheet .now) (start c .args .capture .now) (start c .args .window) (start c .args .named) (start c .args .source)
+    (start c .args .sink)
     (start c .args .limits .now) (limits' c) (start c .args .flows .now) (flows' c) (start c .args .set .now) (set' c) answer
 found c answer e = rw e at (c .largest-after .ensures)
 

@@ -28,7 +28,8 @@ next c =
     let w = c .before .before in
     let e = w .before .before in
     let k = e .before .before in
-    passing-step (turn k .loop .inv) (omega arith) _ _ _ (sym (k .entry-of .ensures) ∙ e .entry .given .1) (omega (arith, w .wide .ensures, c .before .if1 .left))
+    passing-step (turn k .loop .inv) (omega arith) _ _ _ (sym (k .entry-of .ensures)
+    ∙ e .entry .given .1) (omega (arith, w .wide .ensures, c .before .if1 .left))
     (c .if2 .left)
 
 -- ── the needs, in the order of the code ──

@@ -25,7 +25,8 @@ abbrev turn : tie.After-check-capacities Inv-loop μ-loop → tie.At-loop Inv-lo
 turn k = k .before .before .before .before
 
 judged : (k : tie.After-check-capacities Inv-loop μ-loop)
-    → Judged (capacityChecks (atℤ (turn k .before .args .capacities .now) (2 * turn k .loop .e)) (atℤ (turn k .before .args .capacities .now) (2 * turn k .loop .e + 1)))
+    → Judged (capacityChecks (atℤ (turn k .before .args .capacities .now) (2 * turn k .loop .e)) (atℤ (turn k .before .args .capacities .now)
+    (2 * turn k .loop .e + 1)))
     (k .check-capacities .result)
 judged k =
     rw (

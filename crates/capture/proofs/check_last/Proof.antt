@@ -29,7 +29,8 @@ check-room-requires c κs = search needs
 returns-3 : tie.Need-returns-3
 returns-3 c =
     let e = c .before .before in
-    room-judged _ _ _ _ _ _ _ (rw (e .enum-told .given .1) at (e .before .before .check-ends .ensures)) (omega arith) (c .check-room .result) (c .check-room .ensures)
+    room-judged _ _ _ _ _ _ _ (rw (e .enum-told .given .1) at (e .before .before .check-ends .ensures)) (omega arith) (c .check-room .result)
+    (c .check-room .ensures)
 
 pub check-last-spec : {M : Type 1} → statement M
 check-last-spec =

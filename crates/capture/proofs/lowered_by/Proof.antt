@@ -16,7 +16,8 @@ returns-2 c =
 returns-3 : tie.Need-returns-3
 returns-3 c =
     let f = c .before .before .fits in
-    number-of-bits _ (f .present) ∙ lowered-kept _ _ _ (c .before .if1 .left) (rw (number-of-bits _ (f .limit), number-of-bits _ (f .present)) at (c .if2 .left))
+    number-of-bits _ (f .present) ∙ lowered-kept _ _ _ (c .before .if1 .left) (rw (number-of-bits _ (f .limit), number-of-bits _ (f .present)) at
+    (c .if2 .left))
 
 pub lowered-by-spec : {M : Type 1} → statement M
 lowered-by-spec = tie.close (tie.spec returns returns-2 returns-3)

@@ -41,7 +41,8 @@ returns c =
       ap (set (start .args .capacities .now) (2 * start .args .edge))
           (number-of-bits _ (record { sfits = c .lowered-by .ok }) ∙ c .lowered-by .ensures
           ∙ ap₂ (lowered (at (start .args .seen .now) (start .args .edge)))
-          (number-of-bits (atℤ (start .args .capacities .now) (2 * start .args .edge)) (record { sfits = present .present .given })) (number-of-bits _ (start .fits .limit))),
+          (number-of-bits (atℤ (start .args .capacities .now) (2 * start .args .edge)) (record { sfits = present .present .given })) (number-of-bits _
+          (start .fits .limit))),
     )
 
 pub take-limit-spec : {M : Type 1} → statement M

@@ -18,7 +18,8 @@ start c = c .before .before .before .before
 ranged : (c : tie.After-enum-told) → NoneOf (windowChecks (start c .args .capture .now) (start c .args .window) (start c .args .named))
 ranged c = rw (c .enum-told .given .1) at (c .before .before .check-window .ensures)
 
-inside : (c : tie.After-enum-told) → (1 ≤ start c .args .window) × (start c .args .window ≤ 256) × (11 * (start c .args .named + 1) ≤ length (start c .args .capture .now))
+inside : (c : tie.After-enum-told)
+    → (1 ≤ start c .args .window) × (start c .args .window ≤ 256) × (11 * (start c .args .named + 1) ≤ length (start c .args .capture .now))
 inside c = window-inside (start c .args .capture .now) (start c .args .window) (start c .args .named) (ranged c)
 
 -- ── the capture is whole ──
@@ -53,8 +54,11 @@ enum-known-whole c = search needs
 returns-2 : tie.Need-returns-2
 returns-2 c =
     let k = c .before .before .before in
-    let s = start (k .before) in
-    (s .pre .0, records-refused _ _ (atℤ (s .args .capacities .now)) _ _ _ (ranged (k .before)) _ _ (rw (c .before .whole .given .1) at (k .check-capture .ensures)))
+    let s = start (k .before) in (
+      s .pre .0,
+      records-refused _ _ (atℤ (s .args .capacities .now)) _ _ _ (ranged (k .before)) _ _ (rw (c .before .whole .given .1) at
+          (k .check-capture .ensures)),
+    )
 
 enum-told-2 : tie.Need-enum-told-2
 enum-told-2 c = search needs

@@ -51,7 +51,8 @@ passed k = turn k .loop .inv .3 (number k) (omega arith)
 -- so it is found whole, and nothing else is
 whole : (k : tie.After-entry-of Inv-loop μ-loop)
     → k .entry-of .result
-    ≡ Full (tickOf (begin k .args .capture .now) (number k)) (channelOf (begin k .args .capture .now) (number k)) (limitOf (begin k .args .capture .now) (number k))
+    ≡ Full (tickOf (begin k .args .capture .now) (number k)) (channelOf (begin k .args .capture .now) (number k)) (limitOf (begin k .args .capture .now)
+    (number k))
 whole k = k .entry-of .ensures ∙ passed-full (begin k .args .edges) (begin k .args .capture .now) (number k) (passed k)
 
 not-full : (r : Entry) (t e : ℕ) (x : ℤ) → OneOf (0 ∷ 1 ∷ []) (tagOf tags.the-type r) → r ≡ Full t e x → ⊥
