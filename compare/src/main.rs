@@ -6,6 +6,7 @@
 //! --questions runs the program key on the files *.question of a folder, and compares what it prints; files *.page are pages, with their answers.
 //! The same seed and count give the same run. A drawing is made from the seed and its number alone: --from N begins with that number. --fault shows how a
 //! deliberate fault is caught (any other word lists them). It ends with 'N compared, 0 wrong' and status 0, or with the drawing and the difference and status 1.
+mod capture;
 mod chance;
 mod check;
 mod damage;
@@ -99,7 +100,8 @@ fn main() -> ExitCode {
         None => number - switches.first < switches.count,
     };
     while goes_on(number) {
-        if let Err(wrong) = compare_drawing(&library, switches.seed, number, &mut tally) {
+        let compared = compare_drawing(&library, switches.seed, number, &mut tally);
+        if let Err(wrong) = compared.and_then(|()| capture::compare(None, switches.seed, number, &mut tally)) {
             println!("{}{} compared, 1 wrong", wrong.0, tally.compared() + 1);
             return ExitCode::FAILURE;
         }
