@@ -26,8 +26,8 @@ pub enum CaptureFault {
     LimitsOnRefusal,
 }
 
-#[cfg(test)]
-const FAULTS: [CaptureFault; 10] = {
+/// All of them, by name: `--fault NAME` shows how one is caught.
+pub const FAULTS: [CaptureFault; 10] = {
     use CaptureFault::*;
     [Latest, WindowLonger, WindowShorter, AfterUnchecked, EqualTicks, SheetKept, AnyFound, EndsFirst, LimitsOfNone, LimitsOnRefusal]
 };

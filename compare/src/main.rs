@@ -23,6 +23,7 @@ mod paper;
 mod program;
 mod unit;
 
+use capture::CaptureFault;
 use check::{compare_drawing, compare_sheet, Tally, Wrong};
 use drawing::Drawing;
 use faults::{Fault, Library};
@@ -40,13 +41,23 @@ struct Switches {
     questions: Option<String>,
     program: String,
     fault: Option<Fault>,
+    capture_fault: Option<CaptureFault>,
 }
 
 const USAGE: &str = "compare [--seed N] [--count N | --seconds N] [--from N] [--sheets FOLDER] [--questions FOLDER [--program PATH]] [--fault NAME]";
 
 fn switches() -> Result<Switches, String> {
-    let mut switches =
-        Switches { seed: 1, first: 0, count: 1000, seconds: None, sheets: None, questions: None, program: "target/bin/key".to_string(), fault: None };
+    let mut switches = Switches {
+        seed: 1,
+        first: 0,
+        count: 1000,
+        seconds: None,
+        sheets: None,
+        questions: None,
+        program: "target/bin/key".to_string(),
+        fault: None,
+        capture_fault: None,
+    };
     let words: Vec<String> = std::env::args().skip(1).collect();
     for pair in words.chunks(2) {
         let [name, value] = pair else { return Err(USAGE.to_string()) };
@@ -59,7 +70,10 @@ fn switches() -> Result<Switches, String> {
             "--questions" => switches.questions = Some(value.clone()),
             "--program" => switches.program = value.clone(),
             "--sheets" => switches.sheets = Some(value.clone()),
-            "--fault" => switches.fault = Some(fault(value)?),
+            "--fault" => match capture::FAULTS.into_iter().find(|fault| format!("{fault:?}") == *value) {
+                Some(fault) => switches.capture_fault = Some(fault),
+                None => switches.fault = Some(fault(value)?),
+            },
             _ => return Err(USAGE.to_string()),
         }
     }
@@ -101,7 +115,7 @@ fn main() -> ExitCode {
     };
     while goes_on(number) {
         let compared = compare_drawing(&library, switches.seed, number, &mut tally);
-        if let Err(wrong) = compared.and_then(|()| capture::compare(None, switches.seed, number, &mut tally)) {
+        if let Err(wrong) = compared.and_then(|()| capture::compare(switches.capture_fault, switches.seed, number, &mut tally)) {
             println!("{}{} compared, 1 wrong", wrong.0, tally.compared() + 1);
             return ExitCode::FAILURE;
         }
