@@ -59,13 +59,13 @@
 // The results. "Sheet": a sheet check, so given by every function that takes a sheet. *place is 0 unless said.
 enum analyser_result {
     ANALYSER_ANSWERED = 0, // there is an answer, and *place is as it was
-    ANALYSER_CUT_SHORT = 1, // a record has no first byte, or its body is cut short. Sheet
-    ANALYSER_WRONG_KIND = 2, // a record is not of the kind that is due. Sheet
+    ANALYSER_CUT_SHORT = 1, // a record has no first byte, or its body is cut short. Sheet; Largest after
+    ANALYSER_WRONG_KIND = 2, // a record is not of the kind that is due. Sheet; Largest after
     ANALYSER_COUNT_OUT_OF_RANGE = 3, // nodes not 2 to 513, or channels not 1 to 512. Sheet; Write
     ANALYSER_END_IS_NO_NODE = 4, // a channel's tail or head is no node. Sheet; Write
     ANALYSER_TURN_IS_NO_DART = 5, // a turn is no dart. Sheet; Write
-    ANALYSER_LIMIT_OUT_OF_RANGE = 6, // a limit not -1000000 to 1000000. Sheet; Write
-    ANALYSER_LIMITS_BELOW_ZERO = 7, // a channel's two limits add to less than zero. Sheet; Write
+    ANALYSER_LIMIT_OUT_OF_RANGE = 6, // a limit not -1000000 to 1000000. Sheet; Write; Largest after
+    ANALYSER_LIMITS_BELOW_ZERO = 7, // a channel's two limits add to less than zero. Sheet; Write; Largest after
     ANALYSER_BYTES_LEFT_OVER = 8, // bytes after the last channel. Sheet
     ANALYSER_TURN_MISPLACED = 9, // a turn has another tail than its dart, or two darts have one turn. Sheet; Write
     ANALYSER_NOT_ONE_ROUND = 10, // a node's darts do not form exactly one round, or it has none. Sheet; Write
@@ -82,7 +82,9 @@ enum analyser_result {
     ANALYSER_LEAST_FLOW = 22, // a limit, forward or back, is below zero: the text cannot hold a least flow. DIMACS text
     ANALYSER_PRACTICE_OUT_OF_RANGE = 23, // rows or columns not 2 to 16, or the seed not below 2147483648. Practice sheet
     ANALYSER_OUTER_IS_NO_DART = 24, // the outer dart is no dart. Sheet; Write
-    ANALYSER_NO_SUCH_CHANNEL = 25 // there is no such channel. Raise limit
+    ANALYSER_NO_SUCH_CHANNEL = 25, // there is no such channel. Raise limit; of a record of the capture, Largest after
+    ANALYSER_WINDOW_OUT_OF_RANGE = 26, // the window is not 1 to 256, or the named record is none of the capture's whole records. Largest after
+    ANALYSER_TICK_GOES_BACK = 27 // a record of the capture has a lower tick than the one before. Largest after
 };
 
 #ifdef __cplusplus
@@ -141,6 +143,19 @@ uint8_t analyser_least_and_largest(const uint8_t *sheet, size_t sheet_length, ui
 // Writes where there is a limit: a setting for each channel, *limit, and *found = 1. Where there is none: the words of the set, and *found = 0.
 uint8_t analyser_raise_limit(const uint8_t *sheet, size_t sheet_length, uint16_t headgate, uint16_t outfall, int32_t delivery, uint16_t channel,
                              int32_t *settings, size_t settings_length, uint64_t *set, size_t set_length, uint8_t *found, int32_t *limit, uint16_t *place);
+
+// Largest after: the forward limits that a capture leaves after a named record, and Largest on them. A capture is the recorder's bytes, of any length, read
+// where they stand: records of 11 bytes, of kind 5, each with a tick (32 bits, unsigned), a channel (16) and a forward limit (32, signed). The limit of a
+// channel is the least among its records in the last window records up to record named, counted from 0; the sheet's where there is none. Back limits are the
+// sheet's.
+// Refusals: the sheet checks; 26 where window is not 1 to 256 or named is not below capture_length / 11; of every record of the capture in turn, those after
+// the named one too, 2 where its kind is not 5, 1 where it is cut short, 25, 27; 6 and 7 of each channel in turn, on the limits found; 13; 14; 16 where limits
+// or settings has less than one element for each channel, or set less than one word for each 64 nodes or part of them.
+// Writes where there is a value: a limit and a setting for each channel, the words of the set, *value, and *found = 1.
+// Where there is none: a limit for each channel, the words of the set, and *found = 0.
+uint8_t analyser_largest_after(const uint8_t *sheet, size_t sheet_length, const uint8_t *capture, size_t capture_length, uint16_t window, uint64_t named,
+                               uint16_t headgate, uint16_t outfall, int32_t *limits, size_t limits_length, int32_t *settings, size_t settings_length,
+                               uint64_t *set, size_t set_length, uint8_t *found, int32_t *value, uint16_t *place);
 
 // A page: up to 64 questions on one sheet, which is read and checked once. Question i, from 0, has headgates[i], outfalls[i] and deliveries[i]; its settings
 // are written from i * channels on, its set from i * words on, words being one for each 64 nodes or part of them. Each question is answered as analyser_solve

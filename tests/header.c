@@ -110,6 +110,21 @@ static void raise_limit(const char *name, size_t bytes_length, uint16_t headgate
     ended();
 }
 
+// Largest after on drawing A with the first bytes of three records, and slices of these lengths: all that it may write, and one element more of each slice than
+// drawing A needs. The limits stand in low.
+static const uint8_t capture[] = {5, 1, 0, 0, 0, 0, 0, 3, 0, 0, 0, 5, 1, 0, 0, 0, 1, 0, 2, 0, 0, 0, 5, 5, 0, 0, 0, 0, 0, 2, 0, 0, 0};
+
+static void largest_after(const char *name, size_t bytes_length, size_t capture_length, uint16_t window, uint64_t named, uint16_t headgate, uint16_t outfall,
+                          size_t limits_length, size_t settings_length, size_t set_length) {
+    untouched();
+    int result = analyser_largest_after(drawing_a, bytes_length, capture, capture_length, window, named, headgate, outfall, low, limits_length, settings,
+                                        settings_length, set, set_length, &flag, &value, &place);
+    printf("largest after %s %d: found %d, value %d, set %d %d", name, result, flag, (int)value, (int)set[0], (int)set[1]);
+    numbers("limits", low, 4);
+    numbers("settings", settings, 4);
+    ended();
+}
+
 static void write_dimacs(const char *name, const uint8_t *bytes, size_t bytes_length, uint16_t headgate, uint16_t outfall, size_t room) {
     untouched();
     memset(dimacs, '#', sizeof dimacs);
@@ -208,6 +223,9 @@ int main(void) {
     raise_limit("1000007 by channel 0", sizeof drawing_a, 0, 1, 1000007, 0, 3, 1);
     raise_limit("1000008 by channel 0", sizeof drawing_a, 0, 1, 1000008, 0, 3, 1);
 
+    largest_after("record 1, two", sizeof drawing_a, sizeof capture, 2, 1, 0, 1, ANALYSER_MAX_CHANNELS, ANALYSER_MAX_CHANNELS, ANALYSER_SET_WORDS);
+    largest_after("record 2, all", sizeof drawing_a, sizeof capture, 256, 2, 0, 1, 3, 3, 1);
+
     page("of five", drawing_a, sizeof drawing_a, 5, 15, 5);
     page("of none", drawing_a, sizeof drawing_a, 0, 0, 0);
 
@@ -297,6 +315,19 @@ int main(void) {
     raise_limit("no such channel", sizeof drawing_a, 0, 1, 13, 3, 2, 0);
     raise_limit("slice too short", sizeof drawing_a, 0, 1, 13, 0, 2, 1);
     raise_limit("slice too short", sizeof drawing_a, 0, 1, 13, 0, 3, 0);
+
+    // of a capture, each beside the next; a body cut short is told by its length
+    largest_after("cut short", sizeof drawing_a - 1, sizeof capture, 0, 1, 2, 2, 3, 3, 1);
+    largest_after("window out of range", sizeof drawing_a, sizeof capture, 0, 1, 2, 2, 3, 3, 1);
+    largest_after("window out of range", sizeof drawing_a, sizeof capture, 257, 1, 2, 2, 3, 3, 1);
+    largest_after("named too far", sizeof drawing_a, sizeof capture, 2, (uint64_t)1 << 32, 2, 2, 3, 3, 1);
+    largest_after("named too far", sizeof drawing_a, sizeof capture, 2, UINT64_MAX, 2, 2, 3, 3, 1);
+    largest_after("record cut short", sizeof drawing_a, sizeof capture - 1, 2, 1, 2, 2, 3, 3, 1);
+    largest_after("no such node", sizeof drawing_a, sizeof capture, 2, 1, 2, 2, 2, 3, 1);
+    largest_after("ends equal", sizeof drawing_a, sizeof capture, 2, 1, 1, 1, 2, 3, 1);
+    largest_after("slice too short", sizeof drawing_a, sizeof capture, 2, 1, 0, 1, 2, 3, 1);
+    largest_after("slice too short", sizeof drawing_a, sizeof capture, 2, 1, 0, 1, 3, 2, 1);
+    largest_after("slice too short", sizeof drawing_a, sizeof capture, 2, 1, 0, 1, 3, 3, 0);
 
     // a page's refusals, each beside the next: a sheet check with too many questions, too many with too little room, each slice too short
     page("cut short", drawing_a, sizeof drawing_a - 1, 65, 15, 5);

@@ -12,7 +12,7 @@ use Rattle.rotations.specs.MapChecks.{mapChecks}
 use Rattle.records.specs.Record.{recordChecks}
 use Rattle.maps.specs.Drawing.{Drawing}
 use Rattle.records.specs.Check.{numberChecks, fieldChecks, edgeChecks}
-use Rattle.records.specs.Sheet.{headRecordChecks, headChecks, edgeRecordChecks, byteChecks, edgesOf}
+use Rattle.records.specs.Sheet.{headRecordChecks, headChecks, edgeRecordChecks, byteChecks, edgesOf, capacityOf}
 use Rattle.sheets.specs.Open.{sheetChecks}
 use Rattle.sheets.specs.Read.{readChecks}
 use Rattle.sheets.specs.Write.{drawingChecks, writeChecks}
@@ -30,6 +30,9 @@ use Rattle.raising.specs.Raise.{limitChecks}
 use Rattle.raising.specs.Raise as raise
 use Rattle.analyser.specs.Range.{rangeChecks}
 use Rattle.analyser.specs.Raise.{raiseChecks}
+use Rattle.capture.specs.Entry.{begun, entryChecks}
+use Rattle.capture.specs.Capture.{windowChecks, recordsChecks, limitsChecks, takingChecks, lastChecks, captureChecks}
+use Rattle.analyser.specs.After.{afterChecks}
 use Rattle.pages.specs.Page.{listChecks}
 use Rattle.analyser.specs.Page.{pageChecks}
 use Rattle.analyser.specs.Mark.{markChecks}
@@ -134,6 +137,28 @@ pub range-numbered : (s : List ℕ) (source sink : ℕ) (low : List ℤ) (below 
 unfolding Numbered rangeChecks spanChecks endChecks roomChecks
 range-numbered s source sink low below high above =
     numbered-append (sheetChecks s) _ (sheet-numbered s) (omega arith, (omega arith, (omega arith, (omega arith, tt))))
+
+-- of a capture: 26, its records in turn, 6 and 7 in turn, then 13, 14 and 16
+entry-numbered : (edges : ℕ) (b : List ℕ) (i : ℕ) → Numbered (entryChecks edges b i)
+unfolding Numbered entryChecks
+entry-numbered edges b i = (omega arith, (omega arith, (omega arith, (omega arith, tt))))
+
+taking-numbered : (edges : ℕ) (c : ℕ → ℤ) (b : List ℕ) (w n : ℕ) → Numbered (takingChecks edges c b w n)
+unfolding Numbered takingChecks windowChecks recordsChecks limitsChecks
+taking-numbered edges c b w n = (
+  omega arith,
+  numbered-append (recordsChecks edges b) _
+      (numbered-in-turn (begun b) (entryChecks edges b) (entry-numbered edges b))
+      (numbered-in-turn edges _ (λ e. (omega arith, (omega arith, tt)))),
+)
+
+pub after-numbered : (s b : List ℕ) (w n source sink : ℕ) (limits flows : List ℤ) (set : List ℕ)
+    → Numbered (afterChecks s b w n source sink limits flows set)
+unfolding Numbered afterChecks captureChecks lastChecks endChecks
+after-numbered s b w n source sink limits flows set =
+    numbered-append (sheetChecks s) _ (sheet-numbered s)
+    (numbered-append (takingChecks (edgesOf s) (capacityOf s) b w n) _ (taking-numbered (edgesOf s) (capacityOf s) b w n)
+    (omega arith, (omega arith, (omega arith, tt))))
 
 pub raise-numbered : (s : List ℕ) (source sink : ℕ) (value : ℤ) (edge : ℕ) (flows : List ℤ) (set : List ℕ)
     → Numbered (raiseChecks s source sink value edge flows set)

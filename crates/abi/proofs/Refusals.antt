@@ -21,6 +21,7 @@ use Rattle.analyser.specs.Solve.{solveChecks}
 use Rattle.analyser.specs.Largest.{largestChecks}
 use Rattle.analyser.specs.Range.{rangeChecks}
 use Rattle.analyser.specs.Raise.{raiseChecks}
+use Rattle.analyser.specs.After.{afterChecks}
 use Rattle.analyser.specs.Page.{pageChecks, solvesAlone}
 use Rattle.analyser.specs.Mark.{markChecks}
 use Rattle.analyser.specs.LevelsOf.{levelsChecks}
@@ -45,6 +46,7 @@ use Rattle.abi.specs.Solve.{TellsSolve}
 use Rattle.abi.specs.Largest.{TellsLargest}
 use Rattle.abi.specs.Range.{TellsRange}
 use Rattle.abi.specs.Raise.{TellsRaise}
+use Rattle.abi.specs.After.{TellsAfter}
 use Rattle.abi.specs.Page.{PageTold, TellsPage}
 use Rattle.abi.specs.Mark.{TellsMark}
 use Rattle.abi.specs.Levels.{TellsLevels, TellsSettings}
@@ -59,6 +61,7 @@ use Rattle.abi.proofs.Numbered.{
   write-numbered,
   solve-numbered,
   largest-numbered,
+  after-numbered,
   range-numbered,
   raise-numbered,
   page-numbered,
@@ -147,6 +150,15 @@ module _ {place place' result : ℕ} where
     raise-says (raise.Limit v, h, t) = says-answer (h .0) (t .0) (t .3)
     raise-says (raise.None, h, t) = says-answer (h .0) (t .0) (t .3)
     raise-says (raise.Refused k p, h, t) = says-refusal k p (raise-numbered s _ _ _ _ _ _) (h .0) (t .0) (t .3) (h .1, h .2, t .1, t .2)
+
+    pub after-says : (b : List ℕ) (w n : ℕ) {source sink : ℕ} {limits limits' flows flows' : List ℤ} {set set' : List ℕ} {found found' : ℕ} {value value' : ℤ}
+        → TellsAfter s b w n source sink limits limits' flows flows' set set' found found' value value' place place' result
+        → Says (afterChecks s b w n source sink limits flows set) result place place'
+        ((limits' ≡ limits) × (flows' ≡ flows) × (set' ≡ set) × (found' ≡ found) × (value' ≡ value))
+    after-says b w n (largest.Value v, h, t) = says-answer (h .1 .0) (t .0) (t .3)
+    after-says b w n (largest.None, h, t) = says-answer (h .1 .0) (t .0) (t .3)
+    after-says b w n (largest.Refused k p, h, t) =
+        says-refusal k p (after-numbered s b w n _ _ _ _ _) (h .1 .0) (t .0) (t .3) (h .0, h .1 .1, h .1 .2, t .1, t .2)
 
     pub page-says : (count : ℕ) (sources sinks : List ℕ) (values : List ℤ) {flows flows' : List ℤ} {sets sets' answers answers' sizes sizes' : List ℕ}
         → TellsPage s count sources sinks values flows flows' sets sets' answers answers' sizes sizes' place place' result

@@ -5,6 +5,7 @@ pub mod Largest
 pub mod Range
 pub mod Totals
 pub mod Raise
+pub mod After
 pub mod Page
 pub mod Mark
 pub mod Levels

@@ -6,6 +6,7 @@ ghost use Rattle.abi.specs.Solve.{TellsSolve};
 ghost use Rattle.abi.specs.Largest.{TellsLargest};
 ghost use Rattle.abi.specs.Range.{TellsRange};
 ghost use Rattle.abi.specs.Raise.{TellsRaise};
+ghost use Rattle.abi.specs.After.{TellsAfter};
 ghost use Rattle.abi.specs.Page.{TellsPage};
 ghost use Rattle.abi.specs.Mark.{TellsMark};
 ghost use Rattle.abi.specs.Levels.{TellsLevels, TellsSettings};
@@ -222,6 +223,55 @@ pub extern "C" fn analyser_raise_limit(
             0
         }
         RaiseAnswer::Refused(k, p) => {
+            *place = p;
+            k
+        }
+    }
+}
+
+// Limits from a capture. The limits after the named record are written, and Largest on them: there is a value: found is 1, value is the largest, and its flows
+// are written. None: found is 0. The limits and the set are written in both cases.
+#[no_mangle]
+pub extern "C" fn analyser_largest_after(
+    sheet: &[u8],
+    capture: &[u8],
+    window: u16,
+    named: u64,
+    source: u16,
+    sink: u16,
+    limits: &mut [i32],
+    flows: &mut [i32],
+    set: &mut [u64],
+    found: &mut u8,
+    value: &mut i32,
+    place: &mut u16,
+) -> u8
+    ensures { λ r. ⌜ TellsAfter (now (sheet .entry)) (now (capture .entry)) window named source sink
+        (now (limits .entry)) (now (limits .exit)) (now (flows .entry)) (now (flows .exit)) (now (set .entry)) (now (set .exit))
+        (now (found .entry)) (now (found .exit)) (now (value .entry)) (now (value .exit)) (now (place .entry)) (now (place .exit)) r ⌝ }
+{
+    let answer = analyser::largest_after(
+        sheet,
+        capture,
+        window,
+        named,
+        source,
+        sink,
+        limits,
+        flows,
+        set,
+    );
+    match answer {
+        LargestAnswer::Value(v) => {
+            *found = 1;
+            *value = v;
+            0
+        }
+        LargestAnswer::None => {
+            *found = 0;
+            0
+        }
+        LargestAnswer::Refused(k, p) => {
             *place = p;
             k
         }

@@ -154,6 +154,25 @@ pub fn largest(s: &[u8], flows: &mut [i32], set: &mut [u64]) {
     say_largest(analyser::largest(case::part(s, 1), source, sink, flows, set));
 }
 
+// The capture's bytes stand where other operations have their tails.
+pub fn largest_after(s: &[u8], limits: &mut [i32], flows: &mut [i32], set: &mut [u64]) {
+    let source = case::half(s, 2);
+    let sink = case::half(s, 4);
+    let window = case::half(s, 6);
+    let named = case::natural(s, 10);
+    say_largest(analyser::largest_after(
+        case::part(s, 1),
+        case::part(s, 2),
+        window,
+        named,
+        source,
+        sink,
+        limits,
+        flows,
+        set,
+    ));
+}
+
 fn say_range(answer: RangeAnswer) {
     match answer {
         RangeAnswer::Values(v, w) => {
