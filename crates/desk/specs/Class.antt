@@ -43,8 +43,8 @@ pub record Figures (n : ℕ) (points : ℕ → ℕ) (number sum least greatest :
   pub greatest-reached : (q : ℕ) × (q < n) × (points q ≡ greatest)
   pub greatest-above : (q : ℕ) → q < n → points q ≤ greatest
 
--- What a class of claims comes to. Empty: no paper, and no figures. Marked: the points of paper q at place q of the slice lent for them, which is left as it was
--- behind the last, and the figures of those. Refused: the slice as it was.
+-- What a class of claims comes to. Empty: no paper, and no figures. Marked: the points of paper q at place q of the slice lent for them, which is left as it
+-- was behind the last, and the figures of those. Refused: the slice as it was.
 abbrev pub Examines : List ℕ → (source sink : ℕ) → ℤ → (claims : List ℤ) (kinds : List ℕ) (settings : List ℤ) (sets : List ℕ) → (points points' : List ℕ)
     → Class → Type 0
 Examines s source sink value claims kinds settings sets points points' Empty =

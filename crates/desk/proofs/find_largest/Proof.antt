@@ -51,7 +51,8 @@ returns : tie.Need-returns
 returns c =
     let l = c .before .before .before .before .before in
     let s = start l in
-    subst (λ v. IsLargest (s .args .sheet .now) (s .args .source) (s .args .sink) (Value v)) (sym (number-of-bits _ (record { sfits = c .known-told .given .0 .1 })))
+    subst (λ v. IsLargest (s .args .sheet .now) (s .args .source) (s .args .sink) (Value v))
+    (sym (number-of-bits _ (record { sfits = c .known-told .given .0 .1 })))
     (value-largest _ _ _ (s .pre) _ (flows' l) (set' l) (found l (largest.Value _) (c .before .answer .given .1)))
 
 returns-2 : tie.Need-returns-2

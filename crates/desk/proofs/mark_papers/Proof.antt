@@ -51,7 +51,8 @@ sets-small : (c : tie.In-loop Inv-loop μ-loop) → c .before .loop .q * words-a
 sets-small c = small-end _ _ _ (c .loop-test .taken) (begun c .pre .3) (omega (arith, c .before .loop .inv .3))
 
 settings-room : (c : tie.In-loop Inv-loop μ-loop) → c .before .loop .q * begun c .args .edges + begun c .args .edges ≤ length (begun c .args .settings .now)
-settings-room c = omega (arith, ends-before (begun c .args .edges) (c .before .loop .q) (length (begun c .args .claims .now)) (c .loop-test .taken), begun c .pre .5)
+settings-room c =
+    omega (arith, ends-before (begun c .args .edges) (c .before .loop .q) (length (begun c .args .claims .now)) (c .loop-test .taken), begun c .pre .5)
 
 sets-room : (c : tie.In-loop Inv-loop μ-loop) → c .before .loop .q * words-at c + words-at c ≤ length (begun c .args .sets .now)
 sets-room c =

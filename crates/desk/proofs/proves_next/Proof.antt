@@ -15,7 +15,8 @@ returns : tie.Need-returns
 returns c =
     let s = c .before .before .before in
     let a = s .args in
-    next-both (a .total) (a .v) (a .from) (a .into) (c .less .result) (c .before .before .if1 .taken) (c .before .if2 .taken) (c .less .ensures ∙ ap (λ x. ltZ x (pos 0)) (number-of-bits _ (s .fits .total)))
+    next-both (a .total) (a .v) (a .from) (a .into) (c .less .result) (c .before .before .if1 .taken) (c .before .if2 .taken)
+    (c .less .ensures ∙ ap (λ x. ltZ x (pos 0)) (number-of-bits _ (s .fits .total)))
 
 less-requires-2 : tie.Need-less-requires-2
 less-requires-2 c κs = search needs
