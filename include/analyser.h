@@ -208,16 +208,16 @@ uint8_t analyser_practice_sheet(uint16_t rows, uint16_t columns, uint32_t seed, 
 uint8_t analyser_write_dimacs(const uint8_t *sheet, size_t sheet_length, uint16_t headgate, uint16_t outfall, uint8_t *text, size_t text_length,
                               size_t *length, uint16_t *place);
 
-// Examine, the exam desk: the points of a class of up to 1000 papers on one sheet, headgate, outfall and delivery, and the class's figures. Paper q, from 0, has
-// its settings from q * channels on, its set from q * words on, words being one for each 64 nodes or part of them, and its claimed largest delivery in claims[q];
-// where kinds[q] is ANALYSER_CLAIMS_NONE it claims none, and claims[q] is not read. It earns 4 points if its settings carry the delivery (Mark gives it), 3 if
-// the claim is the largest, 3 if the set proves the delivery next above the largest impossible; where the largest is none, 6 for a claim of none with a set that
-// holds both or neither of headgate and outfall and has an outward total below 0, together, else none of the 6. Bits past the last node are passed over. There
-// are as many papers as claims_length says. A wrong paper is marked, never refused. The largest is found once.
+// Examine, the exam desk: the points of a class of up to 1000 papers on one sheet, headgate, outfall and delivery, and the class's figures. Paper q, from 0,
+// has its settings from q * channels on, its set from q * words on, words being one for each 64 nodes or part of them, and its claimed largest delivery in
+// claims[q]; where kinds[q] is ANALYSER_CLAIMS_NONE it claims none, and claims[q] is not read. It earns 4 points if its settings carry the delivery (Mark gives
+// it), 3 if the claim is the largest, 3 if the set proves the delivery next above the largest impossible; where the largest is none, 6 for a claim of none with
+// a set that holds both or neither of headgate and outfall and has an outward total below 0, together, else none of the 6. Bits past the last node are passed
+// over. There are as many papers as claims_length says. A wrong paper is marked, never refused. The largest is found once.
 // Refusals: the sheet checks; 13; 14; 15; 32; 16 where kinds or points has less than claims_length elements, settings less than claims_length * channels, or
 // sets less than claims_length * words.
-// Writes where there is an answer: the points of paper q in points[q], the number of papers in *number, the sum of their points in *sum, and if there is a paper
-// the least in *least and the greatest in *greatest. The mean is *sum over *number; an empty class, *number = 0, has none, and no least and no greatest.
+// Writes where there is an answer: the points of paper q in points[q], the number of papers in *number, the sum of their points in *sum, and if there is a
+// paper the least in *least and the greatest in *greatest. The mean is *sum over *number; an empty class, *number = 0, has none, and no least and no greatest.
 uint8_t analyser_examine(const uint8_t *sheet, size_t sheet_length, uint16_t headgate, uint16_t outfall, int32_t delivery, const int32_t *claims,
                          size_t claims_length, const uint8_t *kinds, size_t kinds_length, const int32_t *settings, size_t settings_length, const uint64_t *sets,
                          size_t sets_length, uint8_t *points, size_t points_length, uint16_t *number, uint16_t *sum, uint8_t *least, uint8_t *greatest,
