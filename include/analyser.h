@@ -50,6 +50,8 @@
 #define ANALYSER_MAX_FACES 1024 // levels: 512 nodes with a loop each have 1024 faces
 #define ANALYSER_SET_WORDS 9
 #define ANALYSER_PAGE_QUESTIONS 64 // the five arrays of a page
+#define ANALYSER_CLASS_PAPERS 1000 // claims, kinds and points of a class; settings and sets have a stretch for each paper
+#define ANALYSER_CLAIMS_NONE 1 // a kind: the paper claims that nothing can be delivered
 #define ANALYSER_SHEET_BYTES 8711
 #define ANALYSER_KEY_INPUT_BYTES 8720
 #define ANALYSER_KEY_TEXT_BYTES 6671
@@ -70,9 +72,9 @@ enum analyser_result {
     ANALYSER_TURN_MISPLACED = 9, // a turn has another tail than its dart, or two darts have one turn. Sheet; Write
     ANALYSER_NOT_ONE_ROUND = 10, // a node's darts do not form exactly one round, or it has none. Sheet; Write
     ANALYSER_NOT_FLAT = 12, // nodes - channels + faces is not 2 in some part: what channels, followed either way, join. Sheet; Write
-    ANALYSER_NO_SUCH_NODE = 13, // headgate or outfall is no node. Solve, Largest, Least and largest, Raise limit, Mark, DIMACS text
-    ANALYSER_ENDS_EQUAL = 14, // headgate and outfall are one node. Solve, Largest, Least and largest, Raise limit, Mark, DIMACS text
-    ANALYSER_DELIVERY_OUT_OF_RANGE = 15, // the delivery is not -600000000 to 600000000. Solve, Raise limit
+    ANALYSER_NO_SUCH_NODE = 13, // headgate or outfall is no node. Solve, Largest, Least and largest, Raise limit, Mark, DIMACS text, Largest after, Examine
+    ANALYSER_ENDS_EQUAL = 14, // headgate and outfall are one node. Solve, Largest, Least and largest, Raise limit, Mark, DIMACS text, Largest after, Examine
+    ANALYSER_DELIVERY_OUT_OF_RANGE = 15, // the delivery is not -600000000 to 600000000. Solve, Raise limit, Examine
     ANALYSER_SLICE_TOO_SHORT = 16, // a lent slice is too short; in Write also inputs of unequal or odd length. Every function
     ANALYSER_OUTSIDE_LIMITS = 17, // a setting is outside its channel's limits; *place is the lowest such channel. Mark, both level functions
     ANALYSER_OFF_BALANCE = 18, // flow is lost or gained at a node; *place is the lowest such node. Mark, Levels from settings
@@ -84,7 +86,8 @@ enum analyser_result {
     ANALYSER_OUTER_IS_NO_DART = 24, // the outer dart is no dart. Sheet; Write
     ANALYSER_NO_SUCH_CHANNEL = 25, // there is no such channel. Raise limit; of a record of the capture, Largest after
     ANALYSER_WINDOW_OUT_OF_RANGE = 26, // the window is not 1 to 256, or the named record is none of the capture's whole records. Largest after
-    ANALYSER_TICK_GOES_BACK = 27 // a record of the capture has a lower tick than the one before. Largest after
+    ANALYSER_TICK_GOES_BACK = 27, // a record of the capture has a lower tick than the one before. Largest after
+    ANALYSER_TOO_MANY_PAPERS = 32 // more than 1000 papers. Examine
 };
 
 #ifdef __cplusplus
@@ -219,6 +222,21 @@ uint8_t analyser_practice_sheet(uint16_t rows, uint16_t columns, uint32_t seed, 
 // Writes where there is an answer: *length bytes of text, and *length. The text does not end in a zero byte.
 uint8_t analyser_write_dimacs(const uint8_t *sheet, size_t sheet_length, uint16_t headgate, uint16_t outfall, uint8_t *text, size_t text_length,
                               size_t *length, uint16_t *place);
+
+// Examine, the exam desk: the points of a class of up to 1000 papers on one sheet, headgate, outfall and delivery, and the class's figures. Paper q, from 0,
+// has its settings from q * channels on, its set from q * words on, words being one for each 64 nodes or part of them, and its claimed largest delivery in
+// claims[q]; where kinds[q] is ANALYSER_CLAIMS_NONE it claims none, and claims[q] is not read. It earns 4 points if its settings carry the delivery (Mark gives
+// it), 3 if the claim is the largest, 3 if the set proves the delivery next above the largest impossible; where the largest is none, 6 for a claim of none with
+// a set that holds both or neither of headgate and outfall and has an outward total below 0, together, else none of the 6. Bits past the last node are passed
+// over. There are as many papers as claims_length says. A wrong paper is marked, never refused. The largest is found once.
+// Refusals: the sheet checks; 13; 14; 15; 32; 16 where kinds or points has less than claims_length elements, settings less than claims_length * channels, or
+// sets less than claims_length * words.
+// Writes where there is an answer: the points of paper q in points[q], the number of papers in *number, the sum of their points in *sum, and if there is a
+// paper the least in *least and the greatest in *greatest. The mean is *sum over *number; an empty class, *number = 0, has none, and no least and no greatest.
+uint8_t analyser_examine(const uint8_t *sheet, size_t sheet_length, uint16_t headgate, uint16_t outfall, int32_t delivery, const int32_t *claims,
+                         size_t claims_length, const uint8_t *kinds, size_t kinds_length, const int32_t *settings, size_t settings_length, const uint64_t *sets,
+                         size_t sets_length, uint8_t *points, size_t points_length, uint16_t *number, uint16_t *sum, uint8_t *least, uint8_t *greatest,
+                         uint16_t *place);
 
 #ifdef __cplusplus
 }

@@ -29,6 +29,7 @@ use Rattle.ranges.specs.Range.{spanChecks}
 use Rattle.raising.specs.Raise.{limitChecks}
 use Rattle.raising.specs.Raise as raise
 use Rattle.analyser.specs.Range.{rangeChecks}
+use Rattle.desk.specs.Class.{classChecks, examineChecks}
 use Rattle.analyser.specs.Raise.{raiseChecks}
 use Rattle.capture.specs.Entry.{begun, entryChecks}
 use Rattle.capture.specs.Capture.{windowChecks, recordsChecks, limitsChecks, takingChecks, lastChecks, captureChecks}
@@ -188,6 +189,12 @@ settings-numbered s levels flows = numbered-append (sheetChecks s) _ (sheet-numb
 pub totals-numbered : (s set : List ℕ) (out : List ℤ) → Numbered (totalsChecks s set out)
 unfolding Numbered totalsChecks totalChecks
 totals-numbered s set out = numbered-append (sheetChecks s) _ (sheet-numbered s) (omega arith, tt)
+
+pub examine-numbered : (s : List ℕ) (source sink : ℕ) (value : ℤ) (n kinds settings sets points : ℕ)
+    → Numbered (examineChecks s source sink value n kinds settings sets points)
+unfolding Numbered examineChecks classChecks endChecks valueChecks
+examine-numbered s source sink value n kinds settings sets points =
+    numbered-append (sheetChecks s) _ (sheet-numbered s) (omega arith, (omega arith, (omega arith, (omega arith, (omega arith, tt)))))
 
 pub key-numbered : (text : List ℕ) → Numbered (keyRoomChecks text)
 unfolding Numbered

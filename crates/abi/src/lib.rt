@@ -11,9 +11,11 @@ ghost use Rattle.abi.specs.Page.{TellsPage};
 ghost use Rattle.abi.specs.Mark.{TellsMark};
 ghost use Rattle.abi.specs.Levels.{TellsLevels, TellsSettings};
 ghost use Rattle.abi.specs.Totals.{TellsTotals};
+ghost use Rattle.abi.specs.Examine.{TellsExamine};
 ghost use Rattle.abi.specs.Key.{TellsKey};
 ghost use Rattle.abi.specs.Practice.{TellsPractice};
 ghost use Rattle.abi.specs.Dimacs.{TellsDimacs};
+use desk::Class;
 use dimacs::DimacsAnswer;
 use key_text::KeyAnswer;
 use levels::LevelAnswer;
@@ -473,6 +475,59 @@ pub extern "C" fn analyser_write_dimacs(
             0
         }
         DimacsAnswer::Refused(k, p) => {
+            *place = p;
+            k
+        }
+    }
+}
+
+// The exam desk. The points of each paper, paper q at place q, and the class's figures; an empty class has no least and no greatest.
+#[no_mangle]
+pub extern "C" fn analyser_examine(
+    sheet: &[u8],
+    source: u16,
+    sink: u16,
+    value: i32,
+    claims: &[i32],
+    kinds: &[u8],
+    settings: &[i32],
+    sets: &[u64],
+    points: &mut [u8],
+    number: &mut u16,
+    sum: &mut u16,
+    least: &mut u8,
+    greatest: &mut u8,
+    place: &mut u16,
+) -> u8
+    ensures { λ r. ⌜ TellsExamine (now (sheet .entry)) source sink value (now (claims .entry)) (now (kinds .entry)) (now (settings .entry))
+        (now (sets .entry)) (now (points .entry)) (now (points .exit)) (now (number .entry)) (now (number .exit)) (now (sum .entry)) (now (sum .exit))
+        (now (least .entry)) (now (least .exit)) (now (greatest .entry)) (now (greatest .exit)) (now (place .entry)) (now (place .exit)) r ⌝ }
+{
+    let class = desk::examine(
+        sheet,
+        source,
+        sink,
+        value,
+        claims,
+        kinds,
+        settings,
+        sets,
+        points,
+    );
+    match class {
+        Class::Empty => {
+            *number = 0;
+            *sum = 0;
+            0
+        }
+        Class::Marked(n, s, l, g) => {
+            *number = n;
+            *sum = s;
+            *least = l;
+            *greatest = g;
+            0
+        }
+        Class::Refused(k, p) => {
             *place = p;
             k
         }
