@@ -121,21 +121,25 @@ module _ {𝓜 : Map} (outer : ℕ) {c : ℕ → ℤ} {s t : ℕ} (ground : Grou
       limit d l = ground .small d l .high
   low-small before flows B low false h = subst (Limited 512000000) (sym (h .2)) (limited-neg (cut-small 𝓜 c (ground .few-edges) (ground .small) B))
 
-  -- ── how it begins: the source alone, the sink alone ──
-  pub begins : (before : List ℤ) (A B : List ℕ) (low high : ℤ) → ((u : ℕ) → u < 1024 → flagged A u ≡ eqb u s) → ((u : ℕ) → u < 1024 → flagged B u ≡ eqb u t)
-      → high ≡ cutOf (darts 𝓜) (𝓜 .tail) c (flagged A) → low ≡ negℤ (cutOf (darts 𝓜) (𝓜 .tail) c (flagged B))
-      → Bracket 𝓜 outer c s t before before A B low high false
-  begins before A B low high one-a one-b is-high is-low = record {
-    ceiling = record {
-      side = (one-a s s-in ∙ eqb-true s s refl, one-a t t-in ∙ eqb-false t s (λ e. ground .two .two (sym e)));
-      is-cut = is-high ∙ sym (cut-of 𝓜 c (flagged A));
-    };
-    floor = (
-      refl,
-      (one-b s s-in ∙ eqb-false s t (ground .two .two), one-b t t-in ∙ eqb-true t t refl),
-      is-low ∙ ap negℤ (sym (cut-of 𝓜 c (flagged B))),
-    );
+  -- ── how it begins: a set at the source, and a value that is known or the sink alone ──
+  pub begins : (before : List ℤ) (A B : List ℕ) (low high : ℤ) (known : Bool) → AtSource s t (flagged A) → ((u : ℕ) → u < 1024 → flagged B u ≡ eqb u t)
+      → high ≡ cutOf (darts 𝓜) (𝓜 .tail) c (flagged A) → (known ≡ false → low ≡ negℤ (cutOf (darts 𝓜) (𝓜 .tail) c (flagged B)))
+      → (known ≡ true → (x : ℕ → ℤ) × Highest 𝓜 outer c s t low x × (before ≡ filled (𝓜 .edges) x before))
+      → Bracket 𝓜 outer c s t before before A B low high known
+  begins before A B low high known side one-b is-high is-low carried = record {
+    ceiling = record { side = side; is-cut = is-high ∙ sym (cut-of 𝓜 c (flagged A)) };
+    floor = by known is-low carried;
   }
+    where
+      by : (k : Bool) → (k ≡ false → low ≡ negℤ (cutOf (darts 𝓜) (𝓜 .tail) c (flagged B)))
+          → (k ≡ true → (x : ℕ → ℤ) × Highest 𝓜 outer c s t low x × (before ≡ filled (𝓜 .edges) x before))
+          → Floor 𝓜 outer c s t before before (flagged B) low k
+      by true f g = g refl
+      by false f g = (
+        refl,
+        (one-b s s-in ∙ eqb-false s t (ground .two .two), one-b t t-in ∙ eqb-true t t refl),
+        f refl ∙ ap negℤ (sym (cut-of 𝓜 c (flagged B))),
+      )
 
   module _ (before flows : List ℤ) (A B : List ℕ) (low high : ℤ) (found : Bool) (b : Bracket 𝓜 outer c s t before flows A B low high found) where
     -- what is carried lies between the bounds

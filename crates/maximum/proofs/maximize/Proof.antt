@@ -6,22 +6,21 @@ use Prim.Native.Nat.{ℕ, _*_, _≤_, _<_}
 use native.Mathlib.Omega.{arith}
 use lib.Dec.{eqb}
 use lib.ListN.{length}
-use lib.IntN.{ℤ, negℤ}
+use lib.IntN.{ℤ}
 use lib.Signed.{_≤ℤ_, _<ℤ_}
 use mir.Syntax.{w32}
 use mir.Val.{toZ, ofZ}
 use borrow.Author.Needs.{needs}
 use Rattle.integers.specs.inner.Limited.{Limited}
 use Rattle.integers.proofs.Laws.{ge-of-test, lt-of-test}
-use Rattle.integers.proofs.Limits.{limited-more, limited-neg}
+use Rattle.integers.proofs.Limits.{limited-more}
 use Rattle.signed.proofs.Laws.{number-of-bits}
 use Rattle.signed.proofs.Limits.{same-bits}
 use Rattle.maps.specs.Map.{Map}
-use Rattle.flows.proofs.ValueBound.{cut-small}
+use Rattle.flows.specs.Highest.{Highest}
 use Rattle.arrays.specs.At.{at, atℤ}
 use Rattle.arrays.proofs.FillLoops.{filled-length}
 use Rattle.cuts.specs.inner.Cut.{cutOf}
-use Rattle.cuts.proofs.CutOfMap.{cut-of}
 use Rattle.arrays.specs.inner.Flags.{flagged}
 use Rattle.arrays.specs.Maps.{mapOf}
 use Rattle.solver.specs.inner.Decision.{Decided}
@@ -51,13 +50,13 @@ use Rattle.maximum.proofs.maximize.Statement.{statement}
 use Rattle.maximum.proofs.maximize.Tie as tie
 
 abbrev Inv-loop : tie.InvT-loop
-Inv-loop tails rotations lefts capacities order from grouped starts ends nodes edges faces trees outer source sink flows₀ a₀ b₀ inside₀ parents₀ high₀ low₀
-    found₀ middle₀ flows a b inside parents high low found middle =
+Inv-loop tails rotations lefts capacities order from grouped starts ends nodes edges faces trees outer source sink known carried flows₀ parents₀ a₀ b₀ inside₀
+    first₀ low₀ bound high₀ found₀ middle₀ flows parents a b inside first low high found middle =
     Probing (mapOf nodes edges tails rotations) outer (atℤ capacities) source sink flows₀ flows a b inside parents (toZ w32 low) (toZ w32 high) found
 
 abbrev μ-loop : tie.MeasureT-loop
-μ-loop tails rotations lefts capacities order from grouped starts ends nodes edges faces trees outer source sink flows₀ a₀ b₀ inside₀ parents₀ high₀ low₀
-    found₀ middle₀ flows a b inside parents high low found middle =
+μ-loop tails rotations lefts capacities order from grouped starts ends nodes edges faces trees outer source sink known carried flows₀ parents₀ a₀ b₀ inside₀
+    first₀ low₀ bound high₀ found₀ middle₀ flows parents a b inside first low high found middle =
     gap (toZ w32 low) (toZ w32 high) found
 
 -- ── what the function is given ──
@@ -85,71 +84,114 @@ caps-in : (c : tie.Start Inv-loop μ-loop) (d : ℕ) → d < 2 * c .args .edges 
 caps-in c d l = limited-more (omega arith) (c .pre .2 d l)
 
 -- ── before the loop ──
+begin-requires : tie.Need-begin-requires Inv-loop μ-loop
+begin-requires c κs =
+    let p = c .before .pre in (
+      p .0,
+      p .3 .few-edges,
+      omega (arith, p .4 .source-in, p .3 .few-nodes),
+      omega (arith, p .4 .sink-in, p .3 .few-nodes),
+      p .4 .two,
+      p .3 .plane .sound .has-dart _ (p .4 .source-in),
+    )
+
 flag-one-requires : tie.Need-flag-one-requires Inv-loop μ-loop
-flag-one-requires c κs = let p = c .before .pre in (p .0, omega (arith, p .4 .source-in, p .3 .few-nodes))
+flag-one-requires c κs = let p = c .before .before .before .pre in (refl, omega (arith, p .4 .sink-in, p .3 .few-nodes))
 
-flag-one-requires-2 : tie.Need-flag-one-requires-2 Inv-loop μ-loop
-flag-one-requires-2 c κs = let p = c .before .before .before .pre in (refl, omega (arith, p .4 .sink-in, p .3 .few-nodes))
+mul-low-bound : tie.Need-mul-low-bound Inv-loop μ-loop
+mul-low-bound c = omega (arith, c .before .before .before .before .before .pre .3 .few-edges)
 
-mul-capacity : tie.Need-mul-capacity Inv-loop μ-loop
-mul-capacity c = omega (arith, c .before .before .before .before .before .pre .3 .few-edges)
-
-capacity-requires : tie.Need-capacity-requires Inv-loop μ-loop
-capacity-requires c κs =
+low-bound-requires : tie.Need-low-bound-requires Inv-loop μ-loop
+low-bound-requires c κs =
     let b = c .before .before .before .before .before in
     (omega (arith, b .pre .3 .few-edges), omega arith, tails-in b, caps-in b)
 
-mul-capacity-2 : tie.Need-mul-capacity-2 Inv-loop μ-loop
-mul-capacity-2 c = omega (arith, c .before .before .before .before .before .before .before .pre .3 .few-edges)
+mul-capacity : tie.Need-mul-capacity Inv-loop μ-loop
+mul-capacity c = omega (arith, c .before .before .before .before .before .before .before .pre .3 .few-edges)
 
-capacity-requires-2 : tie.Need-capacity-requires-2 Inv-loop μ-loop
-capacity-requires-2 c κs =
+capacity-requires : tie.Need-capacity-requires Inv-loop μ-loop
+capacity-requires c κs =
     let b = c .before .before .before .before .before .before .before in
     (omega (arith, b .pre .3 .few-edges), omega arith, tails-in b, caps-in b)
 
--- the cut of a set, of the map
-small-cut : (c : tie.Start Inv-loop μ-loop) (S : ℕ → _) (total : ℤ)
-    → total ≡ cutOf (2 * c .args .edges) (at (c .args .tails .now)) (caps c) S → Limited 512000000 total
-small-cut c S total e = subst (Limited 512000000) (sym (e ∙ sym (cut-of (𝓜 c) (caps c) S))) (cut-small (𝓜 c) (caps c) (c .pre .3 .few-edges) (c .pre .2) S)
+unlikely-requires : tie.Need-unlikely-requires Inv-loop μ-loop
+unlikely-requires c κs = search needs
+
+propose-requires : tie.Need-propose-requires Inv-loop μ-loop
+propose-requires c κs =
+    let g = c .before .before .before .before .before .before .before .before .before .before .before in
+    let b = g .before .before in (
+      b .pre .6,
+      refl,
+      g .begin .ensures .0,
+      b .pre .1,
+      b .pre .3 .few-nodes,
+      b .pre .3 .few-edges,
+      omega (arith, b .pre .4 .source-in, b .pre .3 .few-nodes),
+      omega (arith, b .pre .4 .sink-in, b .pre .3 .few-nodes),
+      b .pre .3 .plane .sound .has-dart _ (b .pre .4 .sink-in),
+      tails-in b,
+      caps-in b,
+    )
 
 bits-limited : {b : ℕ} {x : ℤ} → b < 2147483648 → Limited b x → Limited b (toZ w32 (ofZ w32 x))
 bits-limited {b} l h = subst (Limited b) (sym (same-bits l h)) h
 
-abbrev first : tie.After-capacity2 Inv-loop μ-loop → tie.Start Inv-loop μ-loop
-first c = c .before .before .before .before .before .before .before .before
+-- the bounds to begin with
+abbrev measured : tie.After-propose Inv-loop μ-loop → tie.After-capacity Inv-loop μ-loop
+measured c = c .before .before .before .before .before .before
 
-second-small : (c : tie.After-capacity2 Inv-loop μ-loop) → Limited 512000000 (c .capacity2 .result)
-second-small c = small-cut (first c) (flagged (c .before .before .before .before .flag-one2 .last .1 .0)) (c .capacity2 .result) (c .capacity2 .ensures)
+abbrev bounded : tie.After-capacity Inv-loop μ-loop → tie.After-low-bound Inv-loop μ-loop
+bounded c = c .before .before
 
-negate-requires : tie.Need-negate-requires Inv-loop μ-loop
-negate-requires c κs = limited-more (omega arith) (bits-limited (omega arith) (second-small c))
+abbrev begun : tie.After-capacity Inv-loop μ-loop → tie.After-begin Inv-loop μ-loop
+begun c = bounded c .before .before .before .before
+
+abbrev given : tie.After-capacity Inv-loop μ-loop → tie.Start Inv-loop μ-loop
+given c = begun c .before .before
+
+abbrev A : tie.After-capacity Inv-loop μ-loop → List ℕ
+A c = begun c .begin .last .1 .1 .1 .1 .1 .1 .0
+
+abbrev B : tie.After-capacity Inv-loop μ-loop → List ℕ
+B c = bounded c .before .before .flag-one .last .1 .0
+
+bounds : (c : tie.After-capacity Inv-loop μ-loop)
+    → Bracket (𝓜 (given c)) (given c .args .outer) (caps (given c)) (src (given c)) (snk (given c)) (given c .args .flows .now) (given c .args .flows .now)
+    (A c) (B c) (toZ w32 (ofZ w32 (bounded c .low-bound .result))) (toZ w32 (ofZ w32 (c .capacity .result))) (given c .args .known)
+bounds c =
+    let b = given c in
+    let l = bounded c in
+    let low = number-of-bits _ (record { sfits = l .low-bound .ok }) in
+    begins (b .args .outer) (ground b) (b .args .flows .now) (A c) (B c) _ _ (b .args .known) (begun c .begin .ensures .1)
+    (l .before .before .flag-one .ensures .1)
+    (number-of-bits _ (record { sfits = c .capacity .ok }) ∙ c .capacity .ensures)
+    (λ e. low ∙ l .low-bound .ensures .1 e)
+    (λ e. let r = b .pre .7 e in (
+      r .0,
+      subst (λ v. Highest (𝓜 b) (b .args .outer) (caps b) (src b) (snk b) v (r .0))
+          (sym (low ∙ l .low-bound .ensures .0 e ∙ number-of-bits _ (b .fits .carried))) (r .1),
+      r .2,
+    ))
 
 loop-holds : tie.Need-loop-holds Inv-loop μ-loop
 loop-holds c =
-    let k = c .before in
-    let b = first k in
-    let f2 = k .before .before .before .before in
-    let f1 = f2 .before .before in
-    let A = f1 .flag-one .last .1 .0 in
-    let B = f2 .flag-one2 .last .1 .0 in
-    let o = k .before .before .capacity in
-    let is-low = c .negate .ensures ∙ ap negℤ (same-bits (omega arith) (second-small k)) in
+    let m = measured c in
+    let b = given m in
+    let r = lowered (b .args .outer) (ground b) (b .args .flows .now) (b .args .flows .now) (A m) (B m) _ _ (b .args .known) (bounds m)
+    _ _ (c .propose .result) (c .propose .ensures .3) in
     record {
-      size-a = f1 .flag-one .ensures .0;
-      size-b = f2 .flag-one2 .ensures .0;
-      size-inside = refl;
-      size-parents = refl;
+      size-a = c .propose .ensures .2;
+      size-b = bounded m .before .before .flag-one .ensures .0;
+      size-inside = c .propose .ensures .1;
+      size-parents = c .propose .ensures .0;
       size-flows = refl;
-      bracket =
-          begins (b .args .outer) (ground b) (b .args .flows .now) A B _ _
-          (f1 .flag-one .ensures .1) (f2 .flag-one2 .ensures .1)
-          (same-bits (omega arith) (small-cut b (flagged A) (o .result) (o .ensures)) ∙ o .ensures)
-          (same-bits (omega arith) (subst (Limited 512000000) (sym is-low) (limited-neg (second-small k))) ∙ is-low ∙ ap negℤ (k .capacity2 .ensures));
+      bracket = rw (same-bits (omega arith) (high-small (b .args .outer) (ground b) (r .0 .ceiling))) (r .0);
     }
 
 -- ── in the loop ──
 abbrev start : tie.At-loop Inv-loop μ-loop → tie.Start Inv-loop μ-loop
-start c = c .before .before .before .before .before .before .before .before .before .before
+start c = given (measured (c .before))
 
 abbrev lo : tie.At-loop Inv-loop μ-loop → ℤ
 lo c = toZ w32 (c .loop .low)
@@ -186,12 +228,17 @@ looping c = c .before .before .before .before
 in-order : (c : tie.Else2 Inv-loop μ-loop) → lo (looping c) ≤ℤ hi (looping c)
 in-order c = let e = c .before .before in ge-of-test _ _ (sym (e .before .is-less .ensures) ∙ e .if1 .left)
 
+at-top-requires : tie.Need-at-top-requires Inv-loop μ-loop
+at-top-requires c κs = search needs
+
 next-value-requires : tie.Need-next-value-requires Inv-loop μ-loop
-next-value-requires c κs = (in-order c, limited-more (omega arith) (lo-small (looping c)), limited-more (omega arith) (hi-small (looping c)))
+next-value-requires c κs =
+    let q = c .before in
+    (in-order q, limited-more (omega arith) (lo-small (looping q)), limited-more (omega arith) (hi-small (looping q)))
 
 -- ── the value probed, as the number of its bits ──
 abbrev top : tie.After-next-value Inv-loop μ-loop → tie.At-loop Inv-loop μ-loop
-top c = looping (c .before)
+top c = looping (c .before .before)
 
 abbrev value : tie.After-next-value Inv-loop μ-loop → ℤ
 value c = toZ w32 (ofZ w32 (c .next-value .result))
@@ -210,10 +257,10 @@ at-most c = subst (λ v. v ≤ℤ hi (top c)) (sym (same-value c)) (c .next-valu
 
 above : (c : tie.After-next-value Inv-loop μ-loop) → top c .loop .found ≡ true → lo (top c) <ℤ value c
 above c e =
-    let q = c .before in
+    let q = c .before .before in
     subst (λ v. lo (top c) <ℤ v) (sym (same-value c))
     (above-low (lo (top c)) (hi (top c)) (c .next-value .result) (top c .loop .found) (in-order q)
-    (q .before .finished .ensures .1 (q .if2 .left)) (c .next-value .ensures .2 e) e)
+    (q .before .finished .ensures .1 (q .if2 .left)) (c .next-value .ensures .2 (c .before .at-top .ensures e)) e)
 
 decide-requires : tie.Need-decide-requires Inv-loop μ-loop
 decide-requires c κs =
@@ -314,13 +361,13 @@ ready c =
       caps-in b,
     )
 
-propose-requires : tie.Need-propose-requires Inv-loop μ-loop
-unfolding Ready
-propose-requires c κs = ready (c .before .before .before .before .before)
-
 propose-requires-2 : tie.Need-propose-requires-2 Inv-loop μ-loop
 unfolding Ready
 propose-requires-2 c κs = ready (c .before .before .before .before .before)
+
+propose-requires-3 : tie.Need-propose-requires-3 Inv-loop μ-loop
+unfolding Ready
+propose-requires-3 c κs = ready (c .before .before .before .before .before)
 
 -- whatever was proposed: the new high bound, and the set for it
 module _ (t : tie.Then3 Inv-loop μ-loop) (inside'' a'' : List ℕ) (high : ℤ)
@@ -352,44 +399,15 @@ module _ (t : tie.Then3 Inv-loop μ-loop) (inside'' a'' : List ℕ) (high : ℤ)
   kept = rw new-high (proposed .0)
 
 -- ── the first value found ──
-abbrev first-found : tie.After-propose Inv-loop μ-loop → tie.Then3 Inv-loop μ-loop
+abbrev first-found : tie.After-propose2 Inv-loop μ-loop → tie.Then3 Inv-loop μ-loop
 first-found c = c .before .before .before .before .before .before
 
 loop-less : tie.Need-loop-less Inv-loop μ-loop
-loop-less c = still-less (first-found c) _ _ (c .propose .result) (c .propose .ensures .3)
+loop-less c = still-less (first-found c) _ _ (c .propose2 .result) (c .propose2 .ensures .3)
 
 loop-again : tie.Need-loop-again Inv-loop μ-loop
 loop-again c =
     let t = first-found c in
-    let e = c .propose .ensures in
-    record {
-      size-a = e .2;
-      size-b = top (asked (probe t)) .loop .inv .size-b;
-      size-inside = e .1;
-      size-parents = e .0;
-      size-flows = same-room t;
-      bracket = kept t _ _ (c .propose .result) (e .3);
-    }
-
--- ── a later one ──
-was-found : (found : Bool) → not found ≡ false → found ≡ true
-was-found true e = refl
-was-found false e = absurd (true≢false e)
-
-abbrev later : tie.After-propose2 Inv-loop μ-loop → tie.Else4 Inv-loop μ-loop
-later c = c .before .before .before .before .before
-
-loop-less-2 : tie.Need-loop-less-2 Inv-loop μ-loop
-loop-less-2 c =
-    let t = later c .before in
-    let n = asked (probe t) in
-    let e = was-found (top n .loop .found) (later c .if4 .left) in
-    rw e (subst (λ f. gap (value n) (toZ w32 (ofZ w32 (c .propose2 .result))) true < gap (lo (top n)) (hi (top n)) f) e
-    (still-less t _ _ (c .propose2 .result) (c .propose2 .ensures .3)))
-
-loop-again-2 : tie.Need-loop-again-2 Inv-loop μ-loop
-loop-again-2 c =
-    let t = later c .before in
     let e = c .propose2 .ensures in
     record {
       size-a = e .2;
@@ -397,7 +415,36 @@ loop-again-2 c =
       size-inside = e .1;
       size-parents = e .0;
       size-flows = same-room t;
-      bracket = rw (was-found (top (asked (probe t)) .loop .found) (later c .if4 .left)) (kept t _ _ (c .propose2 .result) (e .3));
+      bracket = kept t _ _ (c .propose2 .result) (e .3);
+    }
+
+-- ── a later one ──
+was-found : (found : Bool) → not found ≡ false → found ≡ true
+was-found true e = refl
+was-found false e = absurd (true≢false e)
+
+abbrev later : tie.After-propose3 Inv-loop μ-loop → tie.Else4 Inv-loop μ-loop
+later c = c .before .before .before .before .before
+
+loop-less-2 : tie.Need-loop-less-2 Inv-loop μ-loop
+loop-less-2 c =
+    let t = later c .before in
+    let n = asked (probe t) in
+    let e = was-found (top n .loop .found) (later c .if4 .left) in
+    rw e (subst (λ f. gap (value n) (toZ w32 (ofZ w32 (c .propose3 .result))) true < gap (lo (top n)) (hi (top n)) f) e
+    (still-less t _ _ (c .propose3 .result) (c .propose3 .ensures .3)))
+
+loop-again-2 : tie.Need-loop-again-2 Inv-loop μ-loop
+loop-again-2 c =
+    let t = later c .before in
+    let e = c .propose3 .ensures in
+    record {
+      size-a = e .2;
+      size-b = top (asked (probe t)) .loop .inv .size-b;
+      size-inside = e .1;
+      size-parents = e .0;
+      size-flows = same-room t;
+      bracket = rw (was-found (top (asked (probe t)) .loop .found) (later c .if4 .left)) (kept t _ _ (c .propose3 .result) (e .3));
     }
 
 -- ── it cannot be: the set moves a bound, or shows that there is nothing ──
@@ -486,6 +533,7 @@ returns c =
     let l = t .before .before in
     let b = start l in (
       c .join .ensures .0,
+      l .loop .inv .size-parents,
       passed (b .args .outer) (ground b) (b .args .flows .now) (l .loop .flows) (l .loop .a) (l .loop .b) (lo l) (hi l) (l .loop .found) (l .loop .inv .bracket)
           (lt-of-test _ _ (sym (t .before .is-less .ensures) ∙ t .if1 .taken)) (c .join .last .1 .1 .1 .0) (c .join .ensures .1),
     )
@@ -499,12 +547,15 @@ returns-2 c =
     let b = start l in
     let r = c .before .finished .ensures .0 (c .if2 .taken) in (
       l .loop .inv .size-a,
+      l .loop .inv .size-parents,
       met (b .args .outer) (ground b) (b .args .flows .now) (l .loop .flows) (l .loop .a)
           (l .loop .b) (lo l) (hi l) (l .loop .found) (l .loop .inv .bracket) (r .0) (r .1),
     )
 
 same-length-3 : tie.Need-same-length-3 Inv-loop μ-loop
-same-length-3 c = search needs
+same-length-3 c =
+    let k = probed (c .before) in
+    ap length (decided k (refused (c .before)) .0) ∙ top (asked k) .loop .inv .size-flows
 
 returns-3 : tie.Need-returns-3 Inv-loop μ-loop
 returns-3 c =
@@ -519,7 +570,7 @@ returns-3 c =
     nothing (b .args .outer) (ground b) (b .args .flows .now) (l .loop .flows)
     (l .loop .a) (l .loop .b) (lo l) (hi l) (l .loop .found) (l .loop .inv .bracket)
     (value n) (at-least n) (at-most n) (inside' k) (d .1) (a' m) (b' m) (m .narrow-by .result) (r .0) (r .1) (r .2) (c .if5 .taken) in
-    (m .narrow-by .ensures .0, (d .0 ∙ h .0, h .1, h .2))
+    (m .narrow-by .ensures .0, k .decide .ensures .2, (d .0 ∙ h .0, h .1, h .2))
 
 pub maximize-spec : {M : Type 1} → statement M
 maximize-spec =
@@ -527,24 +578,26 @@ maximize-spec =
     (tie.spec
     Inv-loop
     μ-loop
+    begin-requires
     flag-one-requires
-    flag-one-requires-2
+    mul-low-bound
+    low-bound-requires
     mul-capacity
     capacity-requires
-    mul-capacity-2
-    capacity-requires-2
-    negate-requires
+    unlikely-requires
+    propose-requires
     loop-holds
     is-less-requires
     mul-join
     join-requires
     finished-requires
+    at-top-requires
     next-value-requires
     decide-requires
-    propose-requires
+    propose-requires-2
     loop-less
     loop-again
-    propose-requires-2
+    propose-requires-3
     loop-less-2
     loop-again-2
     mul-narrow-by
