@@ -3,6 +3,7 @@
 // between them, the union or the intersection of the two sets shows it.
 ghost use mathlib.Core.Path.{_≡_};
 ghost use mathlib.Core.Bool.{true, false};
+ghost use mathlib.Core.List.{List};
 ghost use Prim.Native.Nat.{ℕ, _*_, _%_, _<_, _≤_};
 ghost use lib.ListN.{length};
 ghost use lib.IntN.{ℤ, pos, negℤ};
@@ -325,7 +326,7 @@ fn unlikely(known: bool, likely: bool) -> bool {
 
 // Probes values between the bounds until they meet or pass each other. The set that bounds the answer, or shows that there is none, is left in a. Where a value
 // that is carried is known, its highest flow stands in the slice, and the parents of its search may serve to propose the first set.
-pub fn maximize<'a>(
+pub fn maximize_from<'a>(
     tails: &'a [u16; 1024],
     rotations: &'a [u16; 1024],
     lefts: &'a [u16; 1024],
@@ -479,4 +480,132 @@ pub fn maximize<'a>(
         }
     };
     outcome
+}
+
+// The same with nothing known, and parents of its own.
+pub fn maximize<'a>(
+    tails: &'a [u16; 1024],
+    rotations: &'a [u16; 1024],
+    lefts: &'a [u16; 1024],
+    capacities: &'a [i32; 1024],
+    order: &'a [u16; 1024],
+    from: &'a [u16; 1024],
+    grouped: &'a [u16; 1024],
+    starts: &'a [u16; 1024],
+    ends: &'a [u16; 1024],
+    nodes: usize,
+    edges: usize,
+    faces: usize,
+    trees: usize,
+    outer: usize,
+    source: usize,
+    sink: usize,
+    flows: &mut [i32],
+    a: &mut [u8; 1024],
+) -> Maximum
+    requires { ⌜ (length (now a) ≡ 1024) × (edges ≤ length (now flows)) × ((d : ℕ) → d < 2 * edges → Limited 1000000 (atℤ (now capacities) d))
+        × Drawn (mapOf nodes edges (now tails) (now rotations)) (at (now lefts)) faces outer (atℤ (now capacities))
+        × Ends (mapOf nodes edges (now tails) (now rotations)) source sink
+        × Walked (2 * edges) faces outer trees (at (now rotations)) (now lefts) (now order) (now from) (now grouped) (now starts) (now ends) ⌝ }
+    ensures { λ r. ⌜ (length (now (a .exit)) ≡ 1024)
+        × Maximized (mapOf nodes edges (now (tails .entry)) (now (rotations .entry))) outer
+        (atℤ (now (capacities .entry))) source sink (now (flows .entry)) (now (flows .exit)) (now (a .exit)) r ⌝ }
+{
+    let mut parents = [0u16; 1024];
+    maximize_from(
+        tails,
+        rotations,
+        lefts,
+        capacities,
+        order,
+        from,
+        grouped,
+        starts,
+        ends,
+        nodes,
+        edges,
+        faces,
+        trees,
+        outer,
+        source,
+        sink,
+        false,
+        0,
+        flows,
+        &mut parents,
+        a,
+    )
+}
+
+// Copies the flows of the edges; the rest of the slice stays as it was.
+fn copy_flows(from: &[i32], edges: usize, to: &mut [i32])
+    requires { ⌜ (edges ≤ length (now from)) × (edges ≤ length (now to)) × ((e : ℕ) → e < edges → Limited 1000000 (atℤ (now from) e)) ⌝ }
+    ensures { λ _. ⌜ now (to .exit) ≡ filled edges (atℤ (now (from .entry))) (now (to .entry)) ⌝ }
+{
+    let mut e: usize = 0;
+    while e < edges {
+        to[e] = from[e];
+        e += 1;
+    }
+}
+
+// The same where a value is known that is carried: its highest flow stands in `known`, and the parents are those that its search left.
+pub fn maximize_on<'a>(
+    tails: &'a [u16; 1024],
+    rotations: &'a [u16; 1024],
+    lefts: &'a [u16; 1024],
+    capacities: &'a [i32; 1024],
+    order: &'a [u16; 1024],
+    from: &'a [u16; 1024],
+    grouped: &'a [u16; 1024],
+    starts: &'a [u16; 1024],
+    ends: &'a [u16; 1024],
+    nodes: usize,
+    edges: usize,
+    faces: usize,
+    trees: usize,
+    outer: usize,
+    source: usize,
+    sink: usize,
+    carried: i32,
+    known: &[i32],
+    flows: &mut [i32],
+    parents: &mut [u16; 1024],
+    a: &mut [u8; 1024],
+) -> Maximum
+    requires { ⌜ (length (now a) ≡ 1024) × (edges ≤ length (now flows)) × ((d : ℕ) → d < 2 * edges → Limited 1000000 (atℤ (now capacities) d))
+        × Drawn (mapOf nodes edges (now tails) (now rotations)) (at (now lefts)) faces outer (atℤ (now capacities))
+        × Ends (mapOf nodes edges (now tails) (now rotations)) source sink
+        × Walked (2 * edges) faces outer trees (at (now rotations)) (now lefts) (now order) (now from) (now grouped) (now starts) (now ends)
+        × (length (now parents) ≡ 1024)
+        × ((x : ℕ → ℤ) × (old : List ℤ) × Highest (mapOf nodes edges (now tails) (now rotations)) outer (atℤ (now capacities)) source sink carried x
+        × (now known ≡ filled edges x old) × (edges ≤ length old)) ⌝ }
+    ensures { λ r. ⌜ (length (now (a .exit)) ≡ 1024)
+        × Maximized (mapOf nodes edges (now (tails .entry)) (now (rotations .entry))) outer
+        (atℤ (now (capacities .entry))) source sink (now (flows .entry)) (now (flows .exit)) (now (a .exit)) r ⌝ }
+{
+    copy_flows(known, edges, &mut *flows);
+    maximize_from(
+        tails,
+        rotations,
+        lefts,
+        capacities,
+        order,
+        from,
+        grouped,
+        starts,
+        ends,
+        nodes,
+        edges,
+        faces,
+        trees,
+        outer,
+        source,
+        sink,
+        true,
+        carried,
+        flows,
+        parents,
+        a,
+    )
 }
