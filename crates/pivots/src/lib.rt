@@ -423,21 +423,22 @@ fn flag_none(inside: &mut [u8; 1024])
     }
 }
 
-// Lists the node v, to which the reverse of `back` leads, unless it is listed. Answers the new end of the list.
+// Lists the node v, to which the reverse of `back` leads, unless it is listed. Answers the new end of the list. There is room for 512: 512 edges join no more
+// than 513 nodes, of which the sink is not listed.
 fn list_ahead(
     back: usize,
     v: usize,
     inside: &mut [u8; 1024],
-    list: &mut [u16; 1024],
+    list: &mut [u16; 512],
     end: usize,
 ) -> usize
-    requires { ⌜ (length (now inside) ≡ 1024) × (length (now list) ≡ 1024) × (back < 1024) × (v < 1024) × (end ≤ 1024) ⌝ }
-    ensures { λ r. ⌜ (length (now (inside .exit)) ≡ 1024) × (length (now (list .exit)) ≡ 1024) × (r ≤ 1024) ⌝ }
+    requires { ⌜ (length (now inside) ≡ 1024) × (length (now list) ≡ 512) × (back < 1024) × (v < 1024) × (end ≤ 512) ⌝ }
+    ensures { λ r. ⌜ (length (now (inside .exit)) ≡ 1024) × (length (now (list .exit)) ≡ 512) × (r ≤ 512) ⌝ }
 {
     if inside[v] != 0 {
         return end;
     }
-    if 1024 <= end {
+    if 512 <= end {
         return end;
     }
     inside[v] = 2;
@@ -452,12 +453,12 @@ fn cross(
     v: usize,
     d: usize,
     inside: &mut [u8; 1024],
-    list: &mut [u16; 1024],
+    list: &mut [u16; 512],
     total: u32,
     end: usize,
 ) -> Grown
-    requires { ⌜ (length (now inside) ≡ 1024) × (length (now list) ≡ 1024) × (d < 1024) × (end ≤ 1024) ⌝ }
-    ensures { λ r. ⌜ (length (now (inside .exit)) ≡ 1024) × (length (now (list .exit)) ≡ 1024) × (r .end ≤ 1024) ⌝ }
+    requires { ⌜ (length (now inside) ≡ 1024) × (length (now list) ≡ 512) × (d < 1024) × (end ≤ 512) ⌝ }
+    ensures { λ r. ⌜ (length (now (inside .exit)) ≡ 1024) × (length (now (list .exit)) ≡ 512) × (r .end ≤ 512) ⌝ }
 {
     let back = arrays::reverse(d);
     let u = place(tails[back]);
@@ -486,12 +487,12 @@ fn take_node(
     capacities: &[i32; 1024],
     start: usize,
     inside: &mut [u8; 1024],
-    list: &mut [u16; 1024],
+    list: &mut [u16; 512],
     total: u32,
     end: usize,
 ) -> Grown
-    requires { ⌜ (length (now inside) ≡ 1024) × (length (now list) ≡ 1024) × (start < 1024) × (end ≤ 1024) ⌝ }
-    ensures { λ r. ⌜ (length (now (inside .exit)) ≡ 1024) × (length (now (list .exit)) ≡ 1024) × (r .end ≤ 1024) ⌝ }
+    requires { ⌜ (length (now inside) ≡ 1024) × (length (now list) ≡ 512) × (start < 1024) × (end ≤ 512) ⌝ }
+    ensures { λ r. ⌜ (length (now (inside .exit)) ≡ 1024) × (length (now (list .exit)) ≡ 512) × (r .end ≤ 512) ⌝ }
 {
     let v = place(tails[start]);
     inside[v] = 1;
@@ -519,12 +520,12 @@ fn take_node(
 // Takes the flags of the listed nodes from this place on away.
 fn leave_out(
     tails: &[u16; 1024],
-    list: &[u16; 1024],
+    list: &[u16; 512],
     from: usize,
     end: usize,
     inside: &mut [u8; 1024],
 )
-    requires { ⌜ (length (now inside) ≡ 1024) × (end ≤ 1024) ⌝ }
+    requires { ⌜ (length (now inside) ≡ 1024) × (end ≤ 512) ⌝ }
     ensures { λ _. ⌜ length (now (inside .exit)) ≡ 1024 ⌝ }
 {
     for i in from..end {
@@ -567,7 +568,7 @@ pub fn spread(
 {
     flag_none(&mut *inside);
     inside[sink] = 2;
-    let mut list = [0u16; 1024];
+    let mut list = [0u16; 512];
     list[0] = number(start);
     let mut next: usize = 0;
     let mut end: usize = 1;

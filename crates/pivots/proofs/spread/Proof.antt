@@ -9,10 +9,10 @@ use Rattle.pivots.proofs.spread.Tie as tie
 
 abbrev Inv-loop : tie.InvT-loop
 Inv-loop tails rotations capacities sink start inside₀ list₀ next₀ end₀ total₀ best₀ inside list next end total best =
-    (next ≤ 1024) × (end ≤ 1024) × (length inside ≡ 1024) × (length list ≡ 1024)
+    (next ≤ 512) × (end ≤ 512) × (length inside ≡ 1024) × (length list ≡ 512)
 
 abbrev μ-loop : tie.MeasureT-loop
-μ-loop tails rotations capacities sink start inside₀ list₀ next₀ end₀ total₀ best₀ inside list next end total best = 1024 - next
+μ-loop tails rotations capacities sink start inside₀ list₀ next₀ end₀ total₀ best₀ inside list next end total best = 512 - next
 
 flag-none-requires : tie.Need-flag-none-requires Inv-loop μ-loop
 flag-none-requires c κs = search needs

@@ -9,7 +9,7 @@ use Rattle.pivots.proofs.take_node.Tie as tie
 
 abbrev Inv-loop : tie.InvT-loop
 Inv-loop tails rotations capacities start inside₀ list₀ total end v d₀ sum₀ last₀ i₀ inside list d sum last i =
-    (i ≤ 1024) × (d < 1024) × (last ≤ 1024) × (length inside ≡ 1024) × (length list ≡ 1024)
+    (i ≤ 1024) × (d < 1024) × (last ≤ 512) × (length inside ≡ 1024) × (length list ≡ 512)
 
 abbrev μ-loop : tie.MeasureT-loop
 μ-loop tails rotations capacities start inside₀ list₀ total end v d₀ sum₀ last₀ i₀ inside list d sum last i = 1024 - i
