@@ -1,0 +1,7 @@
+-- Sessions: what is fit, each call's ways out, and what is kept from call to call.
+pub mod Zeros
+pub mod Pairs
+pub mod Fitting
+pub mod Asking
+pub mod Lowering
+pub mod Committing
