@@ -5,3 +5,7 @@ pub mod Fitting
 pub mod Asking
 pub mod Lowering
 pub mod Committing
+pub mod Totals
+pub mod Account
+pub mod Onward
+pub mod Statements

@@ -4,3 +4,4 @@ pub mod Start
 pub mod Ask
 pub mod Commit
 pub mod Reached
+pub mod Statements

@@ -245,10 +245,26 @@ pub fn start(
     offer: &[i32; 512],
 ) -> Verdict
     ensures { λ r. ⌜ Starts (now (sheet .entry))
-        (record { nodes = now (nodes .entry); edges = now (edges .entry); outer = now (outer .entry); offered = now (offered .entry);
-        tails = now (tails .entry); rotations = now (rotations .entry); left = now (left .entry); offer = now (offer .entry) })
-        (record { nodes = now (nodes .exit); edges = now (edges .exit); outer = now (outer .exit); offered = now (offered .exit);
-        tails = now (tails .exit); rotations = now (rotations .exit); left = now (left .exit); offer = now (offer .entry) }) r ⌝ }
+        (record {
+          nodes = now (nodes .entry);
+          edges = now (edges .entry);
+          outer = now (outer .entry);
+          offered = now (offered .entry);
+          tails = now (tails .entry);
+          rotations = now (rotations .entry);
+          left = now (left .entry);
+          offer = now (offer .entry);
+        })
+        (record {
+          nodes = now (nodes .exit);
+          edges = now (edges .exit);
+          outer = now (outer .exit);
+          offered = now (offered .exit);
+          tails = now (tails .exit);
+          rotations = now (rotations .exit);
+          left = now (left .exit);
+          offer = now (offer .entry);
+        }) r ⌝ }
 {
     let mut lefts = [0u16; 1024];
     let opened = sheets::open(sheet, &mut lefts);
@@ -289,11 +305,27 @@ pub fn ask<'a>(
     set: &mut [u64],
 ) -> SolveAnswer
     ensures { λ r. ⌜ Asks
-        (record { nodes = nodes; edges = edges; outer = outer; offered = now (offered .entry);
-        tails = now (tails .entry); rotations = now (rotations .entry); left = now (left .entry); offer = now (offer .entry) })
+        (record {
+          nodes = nodes;
+          edges = edges;
+          outer = outer;
+          offered = now (offered .entry);
+          tails = now (tails .entry);
+          rotations = now (rotations .entry);
+          left = now (left .entry);
+          offer = now (offer .entry);
+        })
         source sink value (now (flows .entry)) (now (flows .exit)) (now (set .entry)) (now (set .exit))
-        (record { nodes = nodes; edges = edges; outer = outer; offered = now (offered .exit);
-        tails = now (tails .entry); rotations = now (rotations .entry); left = now (left .entry); offer = now (offer .exit) }) r ⌝ }
+        (record {
+          nodes = nodes;
+          edges = edges;
+          outer = outer;
+          offered = now (offered .exit);
+          tails = now (tails .entry);
+          rotations = now (rotations .entry);
+          left = now (left .entry);
+          offer = now (offer .exit);
+        }) r ⌝ }
 {
     let answer = answer_left(
         nodes,
@@ -353,10 +385,26 @@ pub fn commit<'a>(
     offer: &[i32; 512],
 ) -> Verdict
     ensures { λ r. ⌜ Commits
-        (record { nodes = nodes; edges = edges; outer = outer; offered = now (offered .entry);
-        tails = now (tails .entry); rotations = now (rotations .entry); left = now (left .entry); offer = now (offer .entry) })
-        (record { nodes = nodes; edges = edges; outer = outer; offered = now (offered .exit);
-        tails = now (tails .entry); rotations = now (rotations .entry); left = now (left .exit); offer = now (offer .entry) }) r ⌝ }
+        (record {
+          nodes = nodes;
+          edges = edges;
+          outer = outer;
+          offered = now (offered .entry);
+          tails = now (tails .entry);
+          rotations = now (rotations .entry);
+          left = now (left .entry);
+          offer = now (offer .entry);
+        })
+        (record {
+          nodes = nodes;
+          edges = edges;
+          outer = outer;
+          offered = now (offered .exit);
+          tails = now (tails .entry);
+          rotations = now (rotations .entry);
+          left = now (left .exit);
+          offer = now (offer .entry);
+        }) r ⌝ }
 {
     let m = wide(edges);
     if *offered != 1 {

@@ -49,7 +49,7 @@ same c =
     drawings-same (c .before .before .before .wide .ensures) (c .before .before .wide2 .ensures) (c .before .wide3 .ensures) (a .tails .now) (a .rotations .now) (a .left .now)
 
 returns : tie.Need-returns
-returns c = 
+returns c =
     let b = c .before in
     (unfit-answered (held b) (given b) (same b) (λ f. said-no (b .in-bounds .ensures) (unless-taken (b .in-bounds .result) (c .if1 .taken)) (f .bounds)) _ _ _ _ _, refl, refl)
 
@@ -61,7 +61,7 @@ abbrev within : tie.After-check-map → tie.Else1
 within c = c .before .before .before .before .before .before .before
 
 check-map-requires : tie.Need-check-map-requires
-check-map-requires c κs = 
+check-map-requires c κs =
     let b = bounded (c .before .before .before .before .before .before) in
     (b .few-edges, b .few-nodes, b .outer-in, refl, refl, refl, refl, refl, refl, b .range)
 
@@ -69,7 +69,7 @@ enum-known-verdict : tie.Need-enum-known-verdict
 enum-known-verdict c = search needs
 
 returns-2 : tie.Need-returns-2
-returns-2 c = 
+returns-2 c =
     let m = c .before .before .before in
     let b = within (m) .before in
     (unfit-answered (held b) (given b) (same b) (map-refused (held b) _ _ _ _ (c .before .verdict .given .1) (m .check-map .ensures .6)) _ _ _ _ _, refl, refl)
@@ -91,7 +91,7 @@ fit : (c : tie.After-enum-told) → Fit (held (within (c .before .before) .befor
 fit c = record { bounds = bounded (within (c .before .before)); passes = passed c .0 }
 
 solve-requires : tie.Need-solve-requires
-solve-requires c κs = 
+solve-requires c κs =
     let t = c .before .before .before .before .before .before .before .before in
     let m = t .before .before in
     let p = passed t in
@@ -104,7 +104,7 @@ same-length-2 : tie.Need-same-length-2
 same-length-2 c = search needs
 
 returns-3 : tie.Need-returns-3
-returns-3 c = 
+returns-3 c =
     let k = c .before .before .before in
     let t = k .before .before .before .before .before .before .before .before .before in
     let b = within (t .before .before) .before in

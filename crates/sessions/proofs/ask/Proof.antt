@@ -58,15 +58,14 @@ can c =
     (s .args .set .now) (k .answer-left .last .1 .1 .1 .1 .1 .1 .1 .1 .1 .1 .0) (c .enum-told .given .1) (k .answer-left .ensures)
 
 keep-requires : tie.Need-keep-requires
-keep-requires c κs = 
+keep-requires c κs =
     let t = c .before .before .before in
     let k = answer (t .before .before) in
     let s = begun k in
     let S = session s in
     let h = can t in
     let few = asked-few (sessionDrawing S) _ _ _ _ _ (h .0) in
-    let room = asked-room (sessionDrawing S) _ _ _ _ _ (h .0) in
-    (
+    let room = asked-room (sessionDrawing S) _ _ _ _ _ (h .0) in (
       omega (arith, c .before .wide .ensures, filled-length _ _ _ _ (h .1 .2) room, room),
       omega (arith, c .before .wide .ensures, few, c .keep-arg2 .given .0 .1),
     )
@@ -84,7 +83,7 @@ same-length-2 : tie.Need-same-length-2
 same-length-2 c = search needs
 
 returns : tie.Need-returns
-returns c = 
+returns c =
     let t = c .before .before .before .before in
     let S = session (begun (answer (t .before .before))) in
     (can t, kept-offer S (answer (t .before .before) .answer-left .last .1 .1 .1 .1 .1 .1 .1 .1 .1 .0) _ (c .before .before .wide .ensures) (c .keep .ensures))
@@ -96,7 +95,7 @@ same-length-4 : tie.Need-same-length-4
 same-length-4 c = search needs
 
 returns-2 : tie.Need-returns-2
-returns-2 c = 
+returns-2 c =
     let k = answer (c .before .before .before) in
     let s = begun k in
     (told-as (session s) _ _ (number-of-bits _ (s .fits .value)) _ _ _ _ (c .before .answer .given .1) (k .answer-left .ensures), refl)
@@ -108,7 +107,7 @@ same-length-6 : tie.Need-same-length-6
 same-length-6 c = search needs
 
 returns-3 : tie.Need-returns-3
-returns-3 c = 
+returns-3 c =
     let k = answer (c .before .before .before) in
     let s = begun k in
     (told-as (session s) _ _ (number-of-bits _ (s .fits .value)) _ _ _ _ (c .before .answer2 .given .1) (k .answer-left .ensures), refl)

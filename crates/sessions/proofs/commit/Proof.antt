@@ -46,20 +46,20 @@ tested : (c : tie.Then2)
 tested c = said-yes (c .before .lowerable .ensures) (c .if2 .taken)
 
 lower-requires : tie.Need-lower-requires
-lower-requires c κs = 
+lower-requires c κs =
     let h = tested (c .before) in
     let s = start (c .before .before) in
     (c .lower-arg .given .0 .1, h .0, tested-fits _ (s .args .left .now) (s .args .offer .now) h)
 
 returns-2 : tie.Need-returns-2
-returns-2 c = 
+returns-2 c =
     let t = c .before .before in
     let s = start (t .before) in
     let e = width (t .before) in
     (can-commit (session s) (offering (t .before)) (tested-lowerable (session s) e (tested t)), left-after (session s) _ (lowered-session (session s) e _ (c .lower .ensures .1)))
 
 returns-3 : tie.Need-returns-3
-returns-3 c = 
+returns-3 c =
     let s = start (c .before) in
     (not-lowerable (session s) (λ h. said-no (c .before .lowerable .ensures) (c .if2 .left) (lowerable-tested (session s) (width (c .before)) h)), refl)
 

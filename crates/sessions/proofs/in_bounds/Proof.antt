@@ -25,7 +25,7 @@ limits-fit-requires : tie.Need-limits-fit-requires
 limits-fit-requires c κs = search needs
 
 returns-4 : tie.Need-returns-4
-returns-4 c = 
+returns-4 c =
     let r = c .before .before in
     decides-by (c .limits-fit .result)
     (λ h. record {

@@ -40,7 +40,7 @@ loop-less : tie.Need-loop-less Inv-loop μ-loop
 loop-less c = search needs
 
 loop-again : tie.Need-loop-again Inv-loop μ-loop
-loop-again c = 
+loop-again c =
     let o = c .before .before .loop in
     (omega arith, copy-step _ (o .e) _ _ _ (o .inv .1) (omega (arith, c .before .before .before .pre .1)) (number-of-bits _ (record { sfits = c .offer .given })))
 
@@ -48,7 +48,7 @@ same-length : tie.Need-same-length Inv-loop μ-loop
 same-length c = filled-length _ _ _ _ (c .before .loop .inv .1) (omega (arith, c .before .before .pre .1))
 
 returns : tie.Need-returns Inv-loop μ-loop
-returns c = 
+returns c =
     let o = c .before .loop in
     let a = c .before .before .args in
     let all : o .e ≡ a .edges = omega arith in

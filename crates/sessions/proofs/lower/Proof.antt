@@ -55,7 +55,7 @@ flow-is : (c : tie.After-lowered-by-arg2 Inv-loop μ-loop)
 flow-is c = number-of-bits _ (record { sfits = c .lowered-by-arg2 .given })
 
 lowered-by-requires : tie.Need-lowered-by-requires Inv-loop μ-loop
-lowered-by-requires c κs = 
+lowered-by-requires c κs =
     let s = c .before .before .before .before in
     let o = c .before .before .before .loop in
     rw (limit-is (c .before), flow-is c) (subst (SFits w32) (sym (own-flow (atℤ (s .args .left .now) (o .d)) (atℤ (s .args .offer .now)) (o .d))) (s .pre .2 (o .d) (omega arith)))
@@ -64,7 +64,7 @@ mul-t16 : tie.Need-mul-t16 Inv-loop μ-loop
 mul-t16 c = search needs
 
 slice-set-from-left : tie.Need-slice-set-from-left Inv-loop μ-loop
-slice-set-from-left c = 
+slice-set-from-left c =
     let s = c .before .before .before .before .before in
     omega (arith, filled-length _ _ _ _ (c .before .before .before .before .loop .inv .2) (omega (arith, s .pre .0, s .pre .1)), s .pre .0, s .pre .1)
 
@@ -75,10 +75,9 @@ loop-less : tie.Need-loop-less Inv-loop μ-loop
 loop-less c = search needs
 
 loop-again : tie.Need-loop-again Inv-loop μ-loop
-loop-again c = 
+loop-again c =
     let s = c .before .before .before .before .before in
-    let o = c .before .before .before .before .loop in
-    (
+    let o = c .before .before .before .before .loop in (
       omega arith,
       o .inv .1,
       copy-step _ (o .d) _ _ _ (o .inv .2) (omega (arith, s .pre .0, s .pre .1))
@@ -89,7 +88,7 @@ same-length : tie.Need-same-length Inv-loop μ-loop
 same-length c = let s = c .before .before in filled-length _ _ _ _ (c .before .loop .inv .2) (omega (arith, s .pre .0, s .pre .1))
 
 returns : tie.Need-returns Inv-loop μ-loop
-returns c = 
+returns c =
     let s = c .before .before in
     let o = c .before .loop in
     let all : o .d ≡ 2 * s .args .edges = omega (arith, o .inv .0, o .inv .1, c .loop-test .left) in

@@ -20,7 +20,7 @@ enum-known-within : tie.Need-enum-known-within
 enum-known-within c = search needs
 
 returns-2 : tie.Need-returns-2
-returns-2 c = 
+returns-2 c =
     let w = c .before .before .before in
     λ h. first-none _ _ _ (rw (c .before .within .given .1) at (w .check-within .ensures)) (h .2)
 
@@ -28,7 +28,7 @@ enum-told : tie.Need-enum-told
 enum-told c = search needs
 
 returns-3 : tie.Need-returns-3
-returns-3 c = 
+returns-3 c =
     let w = c .before .before in
     let l = w .before .before in
     (omega (arith, l .before .if1 .left), said-yes (l .limits-fit .ensures) (w .before .if2 .taken), rw (c .enum-told .given .1) at (w .check-within .ensures))

@@ -18,7 +18,7 @@ enum-known-verdict : tie.Need-enum-known-verdict
 enum-known-verdict c = search needs
 
 returns : tie.Need-returns
-returns c = 
+returns c =
     let o = c .before .before .before in
     (opens-first (o .before .before .before .args .sheet .now) _ (o .«open» .result) (c .before .verdict .given .1) (o .«open» .ensures .1), refl)
 
@@ -58,31 +58,30 @@ erase-limits-requires : tie.Need-erase-limits-requires
 erase-limits-requires c κs = c .erase-limits-arg .given .0 .1
 
 fill-tails-requires : tie.Need-fill-tails-requires
-fill-tails-requires c κs = 
+fill-tails-requires c κs =
     let a = told (c .before .before .before .before .before .before .before) in
     let e = c .before .before .before .before .before in
     (sheet-bytes _ (a .0), a .1 .edges-are, e .erase .ensures .0, e .erase .ensures .1)
 
 fill-rotations-requires : tie.Need-fill-rotations-requires
-fill-rotations-requires c κs = 
+fill-rotations-requires c κs =
     let t = c .before .before in
     let a = told (t .before .before .before .before .before .before .before) in
     let e = t .before .before .before in
     (sheet-bytes _ (a .0), a .1 .edges-are, e .erase2 .ensures .0, e .erase2 .ensures .1)
 
 fill-capacities-requires : tie.Need-fill-capacities-requires
-fill-capacities-requires c κs = 
+fill-capacities-requires c κs =
     let t = c .before .before .before .before in
     let a = told (t .before .before .before .before .before .before .before) in
     let e = t .before in
     (sheet-bytes _ (a .0), a .1 .edges-are, e .erase-limits .ensures .0, e .erase-limits .ensures .1)
 
 returns-2 : tie.Need-returns-2
-returns-2 c = 
+returns-2 c =
     let f = c .before .before .before .before in
     let n = f .before .before .before .before .before .before .before .before in
-    let a = told n in
-    (
+    let a = told n in (
       a .0,
       record {
         nodes-are = n .before .before .narrow .ensures ∙ a .1 .nodes-are;
