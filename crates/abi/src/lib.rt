@@ -13,6 +13,7 @@ ghost use Rattle.abi.specs.Totals.{TellsTotals};
 ghost use Rattle.abi.specs.Key.{TellsKey};
 ghost use Rattle.abi.specs.Practice.{TellsPractice};
 ghost use Rattle.abi.specs.Dimacs.{TellsDimacs};
+ghost use Rattle.abi.specs.Sessions.{TellsStart, TellsAsk, TellsCommit};
 use dimacs::DimacsAnswer;
 use key_text::KeyAnswer;
 use levels::LevelAnswer;
@@ -423,6 +424,185 @@ pub extern "C" fn analyser_write_dimacs(
             0
         }
         DimacsAnswer::Refused(k, p) => {
+            *place = p;
+            k
+        }
+    }
+}
+
+// Start of a session. The fields of the session are lent one by one; the offer's array is named by the contract only.
+#[no_mangle]
+pub extern "C" fn analyser_session_start(
+    sheet: &[u8],
+    nodes: &mut u16,
+    edges: &mut u16,
+    outer: &mut u16,
+    offered: &mut u8,
+    tails: &mut [u16; 1024],
+    rotations: &mut [u16; 1024],
+    left: &mut [i32; 1024],
+    offer: &[i32; 512],
+    place: &mut u16,
+) -> u8
+    ensures { λ r. ⌜ TellsStart (now (sheet .entry))
+        (record {
+          nodes = now (nodes .entry);
+          edges = now (edges .entry);
+          outer = now (outer .entry);
+          offered = now (offered .entry);
+          tails = now (tails .entry);
+          rotations = now (rotations .entry);
+          left = now (left .entry);
+          offer = now (offer .entry);
+        })
+        (record {
+          nodes = now (nodes .exit);
+          edges = now (edges .exit);
+          outer = now (outer .exit);
+          offered = now (offered .exit);
+          tails = now (tails .exit);
+          rotations = now (rotations .exit);
+          left = now (left .exit);
+          offer = now (offer .entry);
+        })
+        (now (place .entry)) (now (place .exit)) r ⌝ }
+{
+    let answer = sessions::start(
+        sheet,
+        nodes,
+        edges,
+        outer,
+        offered,
+        tails,
+        rotations,
+        left,
+        offer,
+    );
+    match answer {
+        Verdict::Passed => 0,
+        Verdict::Refused(k, p) => {
+            *place = p;
+            k
+        }
+    }
+}
+
+// Ask. It can: can is 1, the flows are written and kept as the offer. It cannot: can is 0, the set is written, size is its number of nodes, no offer is kept.
+#[no_mangle]
+pub extern "C" fn analyser_session_ask<'a>(
+    nodes: u16,
+    edges: u16,
+    outer: u16,
+    offered: &mut u8,
+    tails: &'a [u16; 1024],
+    rotations: &'a [u16; 1024],
+    left: &'a [i32; 1024],
+    offer: &mut [i32; 512],
+    source: u16,
+    sink: u16,
+    value: i32,
+    flows: &mut [i32],
+    set: &mut [u64],
+    can: &mut u8,
+    size: &mut u16,
+    place: &mut u16,
+) -> u8
+    ensures { λ r. ⌜ TellsAsk
+        (record {
+          nodes = nodes;
+          edges = edges;
+          outer = outer;
+          offered = now (offered .entry);
+          tails = now (tails .entry);
+          rotations = now (rotations .entry);
+          left = now (left .entry);
+          offer = now (offer .entry);
+        })
+        source sink value (now (flows .entry)) (now (flows .exit)) (now (set .entry)) (now (set .exit))
+        (record {
+          nodes = nodes;
+          edges = edges;
+          outer = outer;
+          offered = now (offered .exit);
+          tails = now (tails .entry);
+          rotations = now (rotations .entry);
+          left = now (left .entry);
+          offer = now (offer .exit);
+        })
+        (now (can .entry)) (now (can .exit)) (now (size .entry)) (now (size .exit)) (now (place .entry)) (now (place .exit)) r ⌝ }
+{
+    let answer = sessions::ask(
+        nodes,
+        edges,
+        outer,
+        offered,
+        tails,
+        rotations,
+        left,
+        offer,
+        source,
+        sink,
+        value,
+        flows,
+        set,
+    );
+    match answer {
+        SolveAnswer::Can => {
+            *can = 1;
+            0
+        }
+        SolveAnswer::Cannot(n) => {
+            *can = 0;
+            *size = n;
+            0
+        }
+        SolveAnswer::Refused(k, p) => {
+            *place = p;
+            k
+        }
+    }
+}
+
+// Commit.
+#[no_mangle]
+pub extern "C" fn analyser_session_commit<'a>(
+    nodes: u16,
+    edges: u16,
+    outer: u16,
+    offered: &mut u8,
+    tails: &'a [u16; 1024],
+    rotations: &'a [u16; 1024],
+    left: &mut [i32; 1024],
+    offer: &[i32; 512],
+    place: &mut u16,
+) -> u8
+    ensures { λ r. ⌜ TellsCommit
+        (record {
+          nodes = nodes;
+          edges = edges;
+          outer = outer;
+          offered = now (offered .entry);
+          tails = now (tails .entry);
+          rotations = now (rotations .entry);
+          left = now (left .entry);
+          offer = now (offer .entry);
+        })
+        (record {
+          nodes = nodes;
+          edges = edges;
+          outer = outer;
+          offered = now (offered .exit);
+          tails = now (tails .entry);
+          rotations = now (rotations .entry);
+          left = now (left .exit);
+          offer = now (offer .entry);
+        })
+        (now (place .entry)) (now (place .exit)) r ⌝ }
+{
+    let answer = sessions::commit(nodes, edges, outer, offered, tails, rotations, left, offer);
+    match answer {
+        Verdict::Passed => 0,
+        Verdict::Refused(k, p) => {
             *place = p;
             k
         }
