@@ -7,7 +7,8 @@
 // the next dart clockwise with the same tail; a setting is the flow on dart 2e. Nodes, channels, darts and faces are numbered
 // from 0, faces in order of their lowest dart: there are channels + 2 - nodes of them. A level is the potential of a face.
 //
-// ANSWERS. Every function takes any input, keeps no state but in a session that the caller owns, and ends. The result is 0 (ANALYSER_ANSWERED) where there is an answer, else the number of the first
+// ANSWERS. Every function takes any input, keeps no state but in a session that the caller owns, and ends. The result is 0 (ANALYSER_ANSWERED) where there
+// is an answer, else the number of the first
 // refusal in the order given at the function. An answer comes through the pointers and leaves *place as it was; a refusal writes *place and nothing else: a
 // channel for 17, a node for 18, the lowest one at fault, and 0 for every other number. What a function is said to write it writes in the first elements of the
 // slice; the rest is left as it was. All this is proved, for every input, where the caller keeps the duties below.
@@ -234,7 +235,8 @@ static inline uint8_t analyser_start(struct analyser_session *session, const uin
                                   session->turns, session->left, session->offer, place);
 }
 
-// Ask: Solve's answer on the limits left, which is exact for them. "Can" becomes the session's offer, a copy of the settings written; "cannot" clears the offer;
+// Ask: Solve's answer on the limits left, which is exact for them. "Can" becomes the session's offer, a copy of the settings written; "cannot" clears the
+// offer;
 // a refusal keeps the older one.
 // Refusals: 13, 14, 15, 16 as in Solve; the session is then as it was.
 // Writes: as Solve.
@@ -244,7 +246,8 @@ static inline uint8_t analyser_ask(struct analyser_session *session, uint16_t he
                                 session->offer, headgate, outfall, delivery, settings, settings_length, set, set_length, can, size, place);
 }
 
-// Commit: lets the offer in. Each dart's limit left is lowered by the dart's own flow, so that its reverse's rises by the same, and the offer is cleared. At every
+// Commit: lets the offer in. Each dart's limit left is lowered by the dart's own flow, so that its reverse's rises by the same, and the offer is cleared. At
+// every
 // moment, what is left of a dart's limit and its flows in all commits since the start add up to the sheet's limit.
 // Refusals: 28; the session is then as it was.
 static inline uint8_t analyser_commit(struct analyser_session *session, uint16_t *place) {

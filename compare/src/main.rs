@@ -20,6 +20,7 @@ mod levels;
 #[cfg(test)]
 mod paper;
 mod program;
+mod sessions;
 mod unit;
 
 use check::{compare_drawing, compare_sheet, Tally, Wrong};

@@ -32,6 +32,7 @@ fn run(
         11 => operations::raise_limit(s, first, set),
         12 => operations::write_dimacs(s, bytes),
         21 => operations::page(s, tails, rotations, first, second, set),
+        31 => operations::session(s, tails, rotations, first, second, set),
         _ => say::say(b": no such operation"),
     }
 }

@@ -290,3 +290,267 @@ pub fn write_dimacs(s: &[u8], text: &mut [u8]) {
         }
     }
 }
+
+fn say_verdict(answer: Verdict) {
+    match answer {
+        Verdict::Passed => say::say(b": done"),
+        Verdict::Refused(k, p) => say::refused(k, p),
+    }
+}
+
+// The limits left of a session, two to an edge.
+fn say_left(edges: u16, left: &[i32]) {
+    say::say(b": left");
+    let m = arrays::wide(edges);
+    let mut d: usize = 0;
+    while d < left.len() {
+        if d / 2 < m {
+            say::signed(left[d]);
+        }
+        d += 1;
+    }
+}
+
+// A question of a session.
+fn ask(
+    source: u16,
+    sink: u16,
+    value: i32,
+    nodes: u16,
+    edges: u16,
+    outer: u16,
+    offered: &mut u8,
+    tails: &[u16; 1024],
+    rotations: &[u16; 1024],
+    left: &mut [i32; 1024],
+    offer: &mut [i32; 512],
+    flows: &mut [i32],
+    set: &mut [u64],
+) {
+    say_solve(sessions::ask(
+        nodes,
+        edges,
+        outer,
+        offered,
+        tails,
+        rotations,
+        &*left,
+        offer,
+        source,
+        sink,
+        value,
+        flows,
+        set,
+    ));
+}
+
+// The call at a place of the three slices, if all have it: a source of 65535 is a commit, any other asks.
+fn call_at(
+    i: usize,
+    sources: &[u16],
+    sinks: &[u16],
+    values: &[i32],
+    nodes: u16,
+    edges: u16,
+    outer: u16,
+    offered: &mut u8,
+    tails: &[u16; 1024],
+    rotations: &[u16; 1024],
+    left: &mut [i32; 1024],
+    offer: &mut [i32; 512],
+    flows: &mut [i32],
+    set: &mut [u64],
+) {
+    if i < sources.len() {
+        let source = sources[i];
+        if source == 65535 {
+            say_verdict(sessions::commit(
+                nodes,
+                edges,
+                outer,
+                offered,
+                tails,
+                rotations,
+                left,
+                &*offer,
+            ));
+        } else if i < sinks.len() {
+            if i < values.len() {
+                ask(
+                    source,
+                    sinks[i],
+                    values[i],
+                    nodes,
+                    edges,
+                    outer,
+                    offered,
+                    tails,
+                    rotations,
+                    left,
+                    offer,
+                    flows,
+                    set,
+                );
+            }
+        }
+    }
+}
+
+fn calls(
+    sources: &[u16],
+    sinks: &[u16],
+    values: &[i32],
+    nodes: u16,
+    edges: u16,
+    outer: u16,
+    offered: &mut u8,
+    tails: &[u16; 1024],
+    rotations: &[u16; 1024],
+    left: &mut [i32; 1024],
+    offer: &mut [i32; 512],
+    flows: &mut [i32],
+    set: &mut [u64],
+) {
+    call_at(
+        0,
+        sources,
+        sinks,
+        values,
+        nodes,
+        edges,
+        outer,
+        offered,
+        tails,
+        rotations,
+        left,
+        offer,
+        flows,
+        set,
+    );
+    call_at(
+        1,
+        sources,
+        sinks,
+        values,
+        nodes,
+        edges,
+        outer,
+        offered,
+        tails,
+        rotations,
+        left,
+        offer,
+        flows,
+        set,
+    );
+    call_at(
+        2,
+        sources,
+        sinks,
+        values,
+        nodes,
+        edges,
+        outer,
+        offered,
+        tails,
+        rotations,
+        left,
+        offer,
+        flows,
+        set,
+    );
+    call_at(
+        3,
+        sources,
+        sinks,
+        values,
+        nodes,
+        edges,
+        outer,
+        offered,
+        tails,
+        rotations,
+        left,
+        offer,
+        flows,
+        set,
+    );
+    call_at(
+        4,
+        sources,
+        sinks,
+        values,
+        nodes,
+        edges,
+        outer,
+        offered,
+        tails,
+        rotations,
+        left,
+        offer,
+        flows,
+        set,
+    );
+    call_at(
+        5,
+        sources,
+        sinks,
+        values,
+        nodes,
+        edges,
+        outer,
+        offered,
+        tails,
+        rotations,
+        left,
+        offer,
+        flows,
+        set,
+    );
+    say_left(edges, &*left);
+}
+
+// A session: a start, then a call for each source, six at most; then the limits left.
+pub fn session(
+    s: &[u8],
+    sources: &[u16],
+    sinks: &[u16],
+    values: &[i32],
+    flows: &mut [i32],
+    set: &mut [u64],
+) {
+    let mut nodes: u16 = 0;
+    let mut edges: u16 = 0;
+    let mut outer: u16 = 0;
+    let mut offered: u8 = 0;
+    let mut tails = [0u16; 1024];
+    let mut rotations = [0u16; 1024];
+    let mut left = [0i32; 1024];
+    let mut offer = [0i32; 512];
+    say_verdict(sessions::start(
+        case::part(s, 1),
+        &mut nodes,
+        &mut edges,
+        &mut outer,
+        &mut offered,
+        &mut tails,
+        &mut rotations,
+        &mut left,
+        &offer,
+    ));
+    calls(
+        sources,
+        sinks,
+        values,
+        nodes,
+        edges,
+        outer,
+        &mut offered,
+        &tails,
+        &rotations,
+        &mut left,
+        &mut offer,
+        flows,
+        set,
+    );
+}

@@ -43,7 +43,8 @@ module _ (𝓓 : Drawing) (source sink : ℕ) (value : ℤ) (flows : List ℤ) (
   pub fit-same : Fit 𝓓 → Same (askChecks 𝓓 source sink value flows set) (questionChecks (𝓓 .map .nodes) (𝓓 .map .edges) source sink value flows set)
   unfolding Same askChecks questionChecks endChecks
   fit-same fit =
-      (refl, refl, there, back, (refl, refl, (λ h. h), (λ h. h), same-refl (valueChecks value ++ roomChecks (𝓓 .map .nodes) (𝓓 .map .edges) (length flows) (length set))))
+      (refl, refl, there, back, (refl, refl, (λ h. h), (λ h. h), same-refl
+      (valueChecks value ++ roomChecks (𝓓 .map .nodes) (𝓓 .map .edges) (length flows) (length set))))
     where
       there : (𝓓 .map .nodes ≤ source) ⊎ ((𝓓 .map .nodes ≤ sink) ⊎ (Fit 𝓓 → ⊥)) → (𝓓 .map .nodes ≤ source) ⊎ (𝓓 .map .nodes ≤ sink)
       there (inl h) = inl h
@@ -106,7 +107,8 @@ module _ (𝓓 : Drawing) (source sink : ℕ) (value : ℤ) (flows : List ℤ) (
   asked-room = let h : length flows < 𝓓 .map .edges → ⊥ = λ l. asked .1 .1 .1 .0 (inl l) in omega (arith, h)
 
 -- ── the session after the answer ──
-module _ (S : Session) (source sink : ℕ) {v value : ℤ} (q : v ≡ value) (flows flows' : List ℤ) (set set' : List ℕ) {answer r : SolveAnswer} (e : answer ≡ r) where
+module _ (S : Session) (source sink : ℕ) {v value : ℤ} (q : v ≡ value) (flows flows' : List ℤ) (set set' : List ℕ) {answer r : SolveAnswer} (e : answer ≡ r)
+where
   pub told-as : Solved (sessionDrawing S) (askChecks (sessionDrawing S) source sink v flows set) source sink v flows flows' set set' answer
       → Solved (sessionDrawing S) (askChecks (sessionDrawing S) source sink value flows set) source sink value flows flows' set set' r
   told-as h =

@@ -40,7 +40,8 @@ module _ (edges : ℕ) (c : ℕ → ℤ) (fits : LimitsFit edges c) where
 
   pub limits-paired : (d : ℕ) → d < 2 * edges → pos 0 ≤ℤ (c d +ℤ c (rev d))
   limits-paired =
-      by-edge edges (λ d. pos 0 ≤ℤ (c d +ℤ c (rev d))) (λ e l. rw (rev-even e) (fits e l .2)) (λ e l. rw (rev-odd e) (swapped (c (2 * e)) (c (2 * e + 1)) (fits e l .2)))
+      by-edge edges (λ d. pos 0 ≤ℤ (c d +ℤ c (rev d))) (λ e l. rw (rev-even e) (fits e l .2))
+      (λ e l. rw (rev-odd e) (swapped (c (2 * e)) (c (2 * e + 1)) (fits e l .2)))
 
 module _ (𝓓 : Drawing) (fit : Fit 𝓓) where
   pub fit-plane : Plane (𝓓 .map)

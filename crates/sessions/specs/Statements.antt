@@ -1,5 +1,7 @@
--- What document 02, Job 11, says of sessions, as a record: a field for each statement, its words above it. Each is about every run of Start, Ask and Commit: all
--- that a field knows of a run is its contract, `Starts`, `Asks` or `Commits`. `Reached s S fs`: S was begun by an accepted start on the sheet s and passed on only
+-- What document 02, Job 11, says of sessions, as a record: a field for each statement, its words above it. Each is about every run of Start, Ask and Commit:
+-- all
+-- that a field knows of a run is its contract, `Starts`, `Asks` or `Commits`. `Reached s S fs`: S was begun by an accepted start on the sheet s and passed
+-- on only
 -- through these calls, and fs are the flows of the commits since. Where a field has no `Reached`, S is any value. The proofs are in proofs/Statements.antt.
 use Prim.Native.Nat.{ℕ, _*_, _<_}
 use mathlib.Core.Path.{_≡_}

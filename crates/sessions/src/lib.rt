@@ -231,7 +231,8 @@ fn lower(left: &mut [i32], offer: &[i32; 512], edges: usize)
     }
 }
 
-// Start: the sheet's drawing with all of its limits left, and no offer. Where the sheet is refused, a session of no nodes and no edges, with no offer; the arrays
+// Start: the sheet's drawing with all of its limits left, and no offer. Where the sheet is refused, a session of no nodes and no edges, with no offer; the
+// arrays
 // are then as they were. The offer's array is named by the contract only.
 pub fn start(
     sheet: &[u8],
@@ -373,7 +374,8 @@ fn lowerable(left: &[i32; 1024], offer: &[i32], edges: usize) -> bool
     false
 }
 
-// Commit: takes the offer and lowers the limits left by it. Refused, 28, where there is none. The counts and the arrays of the drawing are named by the contract only.
+// Commit: takes the offer and lowers the limits left by it. Refused, 28, where there is none. The counts and the arrays of the drawing are named by the
+// contract only.
 pub fn commit<'a>(
     nodes: u16,
     edges: u16,

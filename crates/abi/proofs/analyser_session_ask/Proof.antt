@@ -55,7 +55,8 @@ asked : (c : tie.After-ask) (answer : SolveAnswer) → c .ask .result ≡ answer
     (begun c .args .flows .now) (flows' c) (begun c .args .set .now) (set' c) (left' c) answer
 asked c answer e =
     let a = begun c .args in
-    subst (λ v. Asks (came c) (a .source) (a .sink) v (a .flows .now) (flows' c) (a .set .now) (set' c) (left' c) answer) (number-of-bits _ (begun c .fits .value))
+    subst (λ v. Asks (came c) (a .source) (a .sink) v (a .flows .now) (flows' c) (a .set .now) (set' c) (left' c) answer)
+    (number-of-bits _ (begun c .fits .value))
     (subst (Asks (came c) (a .source) (a .sink) _ (a .flows .now) (flows' c) (a .set .now) (set' c) (left' c)) e (c .ask .ensures))
 
 ask-requires : tie.Need-ask-requires

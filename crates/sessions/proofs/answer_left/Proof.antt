@@ -38,7 +38,8 @@ begun c = c .before .before .before .before .before
 abbrev held : tie.After-in-bounds → Drawing
 held c =
     let a = begun c .args in
-    drawingOf (c .before .before .before .wide .result) (c .before .before .wide2 .result) (c .before .wide3 .result) (a .tails .now) (a .rotations .now) (a .left .now)
+    drawingOf (c .before .before .before .wide .result) (c .before .before .wide2 .result) (c .before .wide3 .result) (a .tails .now) (a .rotations .now)
+    (a .left .now)
 
 abbrev given : tie.After-in-bounds → Drawing
 given c = let a = begun c .args in drawingOf (a .nodes) (a .edges) (a .outer) (a .tails .now) (a .rotations .now) (a .left .now)
@@ -46,12 +47,14 @@ given c = let a = begun c .args in drawingOf (a .nodes) (a .edges) (a .outer) (a
 same : (c : tie.After-in-bounds) → held c ≡ given c
 same c =
     let a = begun c .args in
-    drawings-same (c .before .before .before .wide .ensures) (c .before .before .wide2 .ensures) (c .before .wide3 .ensures) (a .tails .now) (a .rotations .now) (a .left .now)
+    drawings-same (c .before .before .before .wide .ensures) (c .before .before .wide2 .ensures) (c .before .wide3 .ensures) (a .tails .now)
+    (a .rotations .now) (a .left .now)
 
 returns : tie.Need-returns
 returns c =
     let b = c .before in
-    (unfit-answered (held b) (given b) (same b) (λ f. said-no (b .in-bounds .ensures) (unless-taken (b .in-bounds .result) (c .if1 .taken)) (f .bounds)) _ _ _ _ _, refl, refl)
+    (unfit-answered (held b) (given b) (same b) (λ f. said-no (b .in-bounds .ensures) (unless-taken (b .in-bounds .result) (c .if1 .taken)) (f .bounds)) _ _
+    _ _ _, refl, refl)
 
 -- ── in bounds ──
 bounded : (c : tie.Else1) → InBounds (held (c .before))
@@ -85,7 +88,8 @@ passed : (c : tie.After-enum-told)
     × (c .before .before .check-map .result .faces ≡ faces (held (within (c .before .before) .before) .map))
 passed c =
     let m = c .before .before in
-    map-passed (held (within m .before)) (at (m .check-map .last .1 .1 .1 .1 .1 .0)) (m .check-map .result .faces) (c .enum-told .given .1) (m .check-map .ensures .6)
+    map-passed (held (within m .before)) (at (m .check-map .last .1 .1 .1 .1 .1 .0)) (m .check-map .result .faces) (c .enum-told .given .1)
+    (m .check-map .ensures .6)
 
 fit : (c : tie.After-enum-told) → Fit (held (within (c .before .before) .before))
 fit c = record { bounds = bounded (within (c .before .before)); passes = passed c .0 }
@@ -109,7 +113,8 @@ returns-3 c =
     let t = k .before .before .before .before .before .before .before .before .before in
     let b = within (t .before .before) .before in
     let s = begun b in
-    answered (held b) (given b) (same b) (fit t) (s .args .source) (s .args .sink) (number-of-bits _ (s .fits .value)) _ _ _ _ (k .solve .result) (k .solve .ensures)
+    answered (held b) (given b) (same b) (fit t) (s .args .source) (s .args .sink) (number-of-bits _ (s .fits .value)) _ _ _ _ (k .solve .result)
+    (k .solve .ensures)
 
 pub answer-left-spec : {M : Type 1} → statement M
 answer-left-spec =

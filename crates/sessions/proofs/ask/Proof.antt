@@ -54,7 +54,8 @@ can : (c : tie.After-enum-told)
 can c =
     let k = answer (c .before .before) in
     let s = begun k in
-    told-as (session s) (s .args .source) (s .args .sink) (number-of-bits _ (s .fits .value)) (s .args .flows .now) (k .answer-left .last .1 .1 .1 .1 .1 .1 .1 .1 .1 .0)
+    told-as (session s) (s .args .source) (s .args .sink) (number-of-bits _ (s .fits .value)) (s .args .flows .now)
+    (k .answer-left .last .1 .1 .1 .1 .1 .1 .1 .1 .1 .0)
     (s .args .set .now) (k .answer-left .last .1 .1 .1 .1 .1 .1 .1 .1 .1 .1 .0) (c .enum-told .given .1) (k .answer-left .ensures)
 
 keep-requires : tie.Need-keep-requires

@@ -3,7 +3,17 @@ use mathlib.Core.Path.{_≡_, refl, ap}
 use native.Mathlib.Omega.{arith}
 use Rattle.refusals.proofs.Order.{said-yes, said-no}
 use Rattle.sessions.specs.Session.{Session}
-use Rattle.sessions.proofs.Committing.{Tested, tested-lowerable, lowerable-tested, lowered-session, tested-fits, none-offered, not-lowerable, can-commit, left-after}
+use Rattle.sessions.proofs.Committing.{
+  Tested,
+  tested-lowerable,
+  lowerable-tested,
+  lowered-session,
+  tested-fits,
+  none-offered,
+  not-lowerable,
+  can-commit,
+  left-after,
+}
 use borrow.Author.Needs.{needs}
 use Rattle.sessions.proofs.commit.Statement.{statement}
 use Rattle.sessions.proofs.commit.Tie as tie
@@ -56,7 +66,8 @@ returns-2 c =
     let t = c .before .before in
     let s = start (t .before) in
     let e = width (t .before) in
-    (can-commit (session s) (offering (t .before)) (tested-lowerable (session s) e (tested t)), left-after (session s) _ (lowered-session (session s) e _ (c .lower .ensures .1)))
+    (can-commit (session s) (offering (t .before)) (tested-lowerable (session s) e (tested t)), left-after (session s) _
+    (lowered-session (session s) e _ (c .lower .ensures .1)))
 
 returns-3 : tie.Need-returns-3
 returns-3 c =

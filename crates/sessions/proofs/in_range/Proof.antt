@@ -9,7 +9,8 @@ use Rattle.sessions.proofs.in_range.Statement.{statement}
 use Rattle.sessions.proofs.in_range.Tie as tie
 
 abbrev Inv-loop : tie.InvT-loop
-Inv-loop tails rotations nodes edges darts d₀ d = (d ≤ darts) × (darts ≡ 2 * edges) × (edges ≤ 512) × ((k : ℕ) → k < d → (at tails k < nodes) × (at rotations k < 2 * edges))
+Inv-loop tails rotations nodes edges darts d₀ d =
+    (d ≤ darts) × (darts ≡ 2 * edges) × (edges ≤ 512) × ((k : ℕ) → k < d → (at tails k < nodes) × (at rotations k < 2 * edges))
 
 abbrev μ-loop : tie.MeasureT-loop
 μ-loop tails rotations nodes edges darts d₀ d = darts - d
@@ -42,7 +43,9 @@ wide-requires-2 : tie.Need-wide-requires-2 Inv-loop μ-loop
 wide-requires-2 c κs = search needs
 
 returns-2 : tie.Need-returns-2 Inv-loop μ-loop
-returns-2 c = λ h. omega (arith, h .rotation-in (c .before .before .before .before .before .before .before .loop .d) (omega arith), c .if2 .taken, c .before .wide2 .ensures)
+returns-2 c =
+    λ h. omega (arith, h .rotation-in (c .before .before .before .before .before .before .before .loop .d) (omega arith), c .if2 .taken, c .before .wide2
+    .ensures)
 
 add-d : tie.Need-add-d Inv-loop μ-loop
 add-d c = search needs
@@ -57,7 +60,8 @@ loop-again c =
       o .inv .1,
       o .inv .2,
       below-more _ (o .d) (o .inv .3)
-          (omega (arith, c .before .before .before .if1 .left, c .before .before .before .before .wide .ensures), omega (arith, c .if2 .left, c .before .wide2 .ensures, o .inv .1)),
+          (omega (arith, c .before .before .before .if1 .left, c .before .before .before .before .wide .ensures), omega
+          (arith, c .if2 .left, c .before .wide2 .ensures, o .inv .1)),
     )
 
 returns-3 : tie.Need-returns-3 Inv-loop μ-loop

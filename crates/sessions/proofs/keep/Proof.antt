@@ -31,7 +31,8 @@ mul-t9 : tie.Need-mul-t9 Inv-loop μ-loop
 mul-t9 c = search needs
 
 slice-set-from-offer : tie.Need-slice-set-from-offer Inv-loop μ-loop
-slice-set-from-offer c = omega (arith, filled-length _ _ _ _ (c .before .before .loop .inv .1) (omega (arith, c .before .before .before .pre .1)), c .before .before .before .pre .1)
+slice-set-from-offer c =
+    omega (arith, filled-length _ _ _ _ (c .before .before .loop .inv .1) (omega (arith, c .before .before .before .pre .1)), c .before .before .before .pre .1)
 
 add-e : tie.Need-add-e Inv-loop μ-loop
 add-e c = search needs
@@ -42,7 +43,8 @@ loop-less c = search needs
 loop-again : tie.Need-loop-again Inv-loop μ-loop
 loop-again c =
     let o = c .before .before .loop in
-    (omega arith, copy-step _ (o .e) _ _ _ (o .inv .1) (omega (arith, c .before .before .before .pre .1)) (number-of-bits _ (record { sfits = c .offer .given })))
+    (omega arith, copy-step _ (o .e) _ _ _ (o .inv .1) (omega (arith, c .before .before .before .pre .1))
+    (number-of-bits _ (record { sfits = c .offer .given })))
 
 same-length : tie.Need-same-length Inv-loop μ-loop
 same-length c = filled-length _ _ _ _ (c .before .loop .inv .1) (omega (arith, c .before .before .pre .1))

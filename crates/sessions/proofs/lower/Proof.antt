@@ -33,7 +33,8 @@ mul-lowered-by : tie.Need-mul-lowered-by Inv-loop μ-loop
 mul-lowered-by c = search needs
 
 slice-copy-out-lowered-by : tie.Need-slice-copy-out-lowered-by Inv-loop μ-loop
-slice-copy-out-lowered-by c = let s = c .before .before in omega (arith, filled-length _ _ _ _ (c .before .loop .inv .2) (omega (arith, s .pre .0, s .pre .1)), s .pre .0, s .pre .1)
+slice-copy-out-lowered-by c =
+    let s = c .before .before in omega (arith, filled-length _ _ _ _ (c .before .loop .inv .2) (omega (arith, s .pre .0, s .pre .1)), s .pre .0, s .pre .1)
 
 mul-lowered-by-2 : tie.Need-mul-lowered-by-2 Inv-loop μ-loop
 mul-lowered-by-2 c = search needs
@@ -43,11 +44,13 @@ element-copy-out-lowered-by c = search needs
 
 -- the limit that is read is the one at entry, and the flow is its edge's
 limit-is : (c : tie.After-lowered-by-arg Inv-loop μ-loop)
-    → toZ w32 (ofZ w32 (atℤ (c .before .before .loop .left) (c .before .before .loop .d))) ≡ atℤ (c .before .before .before .args .left .now) (c .before .before .loop .d)
+    → toZ w32 (ofZ w32 (atℤ (c .before .before .loop .left) (c .before .before .loop .d))) ≡ atℤ (c .before .before .before .args .left .now)
+    (c .before .before .loop .d)
 limit-is c =
     let o = c .before .before .loop in
     let s = c .before .before .before in
-    number-of-bits _ (record { sfits = c .lowered-by-arg .given }) ∙ not-yet (o .d) _ (s .args .left .now) (o .left) (o .inv .2) (omega (arith, s .pre .0, s .pre .1))
+    number-of-bits _ (record { sfits = c .lowered-by-arg .given }) ∙ not-yet (o .d) _ (s .args .left .now) (o .left) (o .inv .2)
+    (omega (arith, s .pre .0, s .pre .1))
 
 flow-is : (c : tie.After-lowered-by-arg2 Inv-loop μ-loop)
     → toZ w32 (ofZ w32 (atℤ (c .before .before .before .before .args .offer .now) (c .before .before .before .loop .d / 2)))
@@ -58,7 +61,8 @@ lowered-by-requires : tie.Need-lowered-by-requires Inv-loop μ-loop
 lowered-by-requires c κs =
     let s = c .before .before .before .before in
     let o = c .before .before .before .loop in
-    rw (limit-is (c .before), flow-is c) (subst (SFits w32) (sym (own-flow (atℤ (s .args .left .now) (o .d)) (atℤ (s .args .offer .now)) (o .d))) (s .pre .2 (o .d) (omega arith)))
+    rw (limit-is (c .before), flow-is c) (subst (SFits w32) (sym (own-flow (atℤ (s .args .left .now) (o .d)) (atℤ (s .args .offer .now)) (o .d)))
+    (s .pre .2 (o .d) (omega arith)))
 
 mul-t16 : tie.Need-mul-t16 Inv-loop μ-loop
 mul-t16 c = search needs
@@ -81,7 +85,8 @@ loop-again c =
       omega arith,
       o .inv .1,
       copy-step _ (o .d) _ _ _ (o .inv .2) (omega (arith, s .pre .0, s .pre .1))
-          (number-of-bits _ (record { sfits = c .lowered-by .ok }) ∙ (rw (limit-is (c .before .before), flow-is (c .before)) at (c .lowered-by .ensures)) ∙ own-flow (atℤ (s .args .left .now) (o .d)) (atℤ (s .args .offer .now)) (o .d)),
+          (number-of-bits _ (record { sfits = c .lowered-by .ok }) ∙ (rw (limit-is (c .before .before), flow-is (c .before)) at (c .lowered-by .ensures)) ∙
+          own-flow (atℤ (s .args .left .now) (o .d)) (atℤ (s .args .offer .now)) (o .d)),
     )
 
 same-length : tie.Need-same-length Inv-loop μ-loop
@@ -92,7 +97,8 @@ returns c =
     let s = c .before .before in
     let o = c .before .loop in
     let all : o .d ≡ 2 * s .args .edges = omega (arith, o .inv .0, o .inv .1, c .loop-test .left) in
-    let whole = o .inv .2 ∙ ap (λ k. tabulate k (λ j. atℤ (s .args .left .now) j -ℤ onDarts (atℤ (s .args .offer .now)) j) ++ drop k (s .args .left .now)) all in
+    let whole = o .inv .2 ∙ ap (λ k. tabulate k (λ j. atℤ (s .args .left .now) j -ℤ onDarts (atℤ (s .args .offer .now)) j) ++ drop k (s .args .left .now))
+    all in
     (filled-length _ _ _ _ whole (omega (arith, s .pre .0, s .pre .1)) ∙ s .pre .0, whole)
 
 pub lower-spec : {M : Type 1} → statement M

@@ -11,7 +11,8 @@ use Rattle.sessions.proofs.lowered_by.Tie as tie
 minus-requires : tie.Need-minus-requires
 minus-requires c κs =
     let s = c .before in
-    rw (number-of-bits _ (s .fits .limit), number-of-bits _ (s .fits .flow)) (subst (SFits w32) (forth (s .args .limit) (s .args .flow) (s .args .dart) (c .if1 .taken)) (s .pre))
+    rw (number-of-bits _ (s .fits .limit), number-of-bits _ (s .fits .flow))
+    (subst (SFits w32) (forth (s .args .limit) (s .args .flow) (s .args .dart) (c .if1 .taken)) (s .pre))
 
 returns : tie.Need-returns
 returns c =
@@ -22,7 +23,8 @@ returns c =
 plus-requires : tie.Need-plus-requires
 plus-requires c κs =
     let s = c .before in
-    rw (number-of-bits _ (s .fits .limit), number-of-bits _ (s .fits .flow)) (subst (SFits w32) (back (s .args .limit) (s .args .flow) (s .args .dart) (c .if1 .left)) (s .pre))
+    rw (number-of-bits _ (s .fits .limit), number-of-bits _ (s .fits .flow))
+    (subst (SFits w32) (back (s .args .limit) (s .args .flow) (s .args .dart) (c .if1 .left)) (s .pre))
 
 returns-2 : tie.Need-returns-2
 returns-2 c =
