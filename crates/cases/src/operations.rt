@@ -299,11 +299,11 @@ fn say_verdict(answer: Verdict) {
 }
 
 // The limits left of a session, two to an edge.
-fn say_left(edges: u16, left: &[i32]) {
+fn say_left(edges: u16, left: &[i32; 1024]) {
     say::say(b": left");
     let m = arrays::wide(edges);
     let mut d: usize = 0;
-    while d < left.len() {
+    while d < 1024 {
         if d / 2 < m {
             say::signed(left[d]);
         }
@@ -311,206 +311,7 @@ fn say_left(edges: u16, left: &[i32]) {
     }
 }
 
-// A question of a session.
-fn ask(
-    source: u16,
-    sink: u16,
-    value: i32,
-    nodes: u16,
-    edges: u16,
-    outer: u16,
-    offered: &mut u8,
-    tails: &[u16; 1024],
-    rotations: &[u16; 1024],
-    left: &mut [i32; 1024],
-    offer: &mut [i32; 512],
-    flows: &mut [i32],
-    set: &mut [u64],
-) {
-    say_solve(sessions::ask(
-        nodes,
-        edges,
-        outer,
-        offered,
-        tails,
-        rotations,
-        &*left,
-        offer,
-        source,
-        sink,
-        value,
-        flows,
-        set,
-    ));
-}
-
-// The call at a place of the three slices, if all have it: a source of 65535 is a commit, any other asks.
-fn call_at(
-    i: usize,
-    sources: &[u16],
-    sinks: &[u16],
-    values: &[i32],
-    nodes: u16,
-    edges: u16,
-    outer: u16,
-    offered: &mut u8,
-    tails: &[u16; 1024],
-    rotations: &[u16; 1024],
-    left: &mut [i32; 1024],
-    offer: &mut [i32; 512],
-    flows: &mut [i32],
-    set: &mut [u64],
-) {
-    if i < sources.len() {
-        let source = sources[i];
-        if source == 65535 {
-            say_verdict(sessions::commit(
-                nodes,
-                edges,
-                outer,
-                offered,
-                tails,
-                rotations,
-                left,
-                &*offer,
-            ));
-        } else if i < sinks.len() {
-            if i < values.len() {
-                ask(
-                    source,
-                    sinks[i],
-                    values[i],
-                    nodes,
-                    edges,
-                    outer,
-                    offered,
-                    tails,
-                    rotations,
-                    left,
-                    offer,
-                    flows,
-                    set,
-                );
-            }
-        }
-    }
-}
-
-fn calls(
-    sources: &[u16],
-    sinks: &[u16],
-    values: &[i32],
-    nodes: u16,
-    edges: u16,
-    outer: u16,
-    offered: &mut u8,
-    tails: &[u16; 1024],
-    rotations: &[u16; 1024],
-    left: &mut [i32; 1024],
-    offer: &mut [i32; 512],
-    flows: &mut [i32],
-    set: &mut [u64],
-) {
-    call_at(
-        0,
-        sources,
-        sinks,
-        values,
-        nodes,
-        edges,
-        outer,
-        offered,
-        tails,
-        rotations,
-        left,
-        offer,
-        flows,
-        set,
-    );
-    call_at(
-        1,
-        sources,
-        sinks,
-        values,
-        nodes,
-        edges,
-        outer,
-        offered,
-        tails,
-        rotations,
-        left,
-        offer,
-        flows,
-        set,
-    );
-    call_at(
-        2,
-        sources,
-        sinks,
-        values,
-        nodes,
-        edges,
-        outer,
-        offered,
-        tails,
-        rotations,
-        left,
-        offer,
-        flows,
-        set,
-    );
-    call_at(
-        3,
-        sources,
-        sinks,
-        values,
-        nodes,
-        edges,
-        outer,
-        offered,
-        tails,
-        rotations,
-        left,
-        offer,
-        flows,
-        set,
-    );
-    call_at(
-        4,
-        sources,
-        sinks,
-        values,
-        nodes,
-        edges,
-        outer,
-        offered,
-        tails,
-        rotations,
-        left,
-        offer,
-        flows,
-        set,
-    );
-    call_at(
-        5,
-        sources,
-        sinks,
-        values,
-        nodes,
-        edges,
-        outer,
-        offered,
-        tails,
-        rotations,
-        left,
-        offer,
-        flows,
-        set,
-    );
-    say_left(edges, &*left);
-}
-
-// A session: a start, then a call for each source, six at most; then the limits left.
+// A session: a start, then a call for each source. 65535 is a commit, any other source asks.
 pub fn session(
     s: &[u8],
     sources: &[u16],
@@ -538,19 +339,39 @@ pub fn session(
         &mut left,
         &offer,
     ));
-    calls(
-        sources,
-        sinks,
-        values,
-        nodes,
-        edges,
-        outer,
-        &mut offered,
-        &tails,
-        &rotations,
-        &mut left,
-        &mut offer,
-        flows,
-        set,
-    );
+    let mut i: usize = 0;
+    while i < sources.len() {
+        if sources[i] == 65535 {
+            say_verdict(sessions::commit(
+                nodes,
+                edges,
+                outer,
+                &mut offered,
+                &tails,
+                &rotations,
+                &mut left,
+                &offer,
+            ));
+        } else if i < sinks.len() {
+            if i < values.len() {
+                say_solve(sessions::ask(
+                    nodes,
+                    edges,
+                    outer,
+                    &mut offered,
+                    &tails,
+                    &rotations,
+                    &left,
+                    &mut offer,
+                    sources[i],
+                    sinks[i],
+                    values[i],
+                    flows,
+                    set,
+                ));
+            }
+        }
+        i += 1;
+    }
+    say_left(edges, &left);
 }

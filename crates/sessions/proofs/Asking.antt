@@ -42,9 +42,20 @@ module _ (𝓓 : Drawing) (source sink : ℕ) (value : ℤ) (flows : List ℤ) (
   -- on a fit drawing the list is that of a question
   pub fit-same : Fit 𝓓 → Same (askChecks 𝓓 source sink value flows set) (questionChecks (𝓓 .map .nodes) (𝓓 .map .edges) source sink value flows set)
   unfolding Same askChecks questionChecks endChecks
-  fit-same fit =
-      (refl, refl, there, back, (refl, refl, (λ h. h), (λ h. h), same-refl
-      (valueChecks value ++ roomChecks (𝓓 .map .nodes) (𝓓 .map .edges) (length flows) (length set))))
+  fit-same fit = (
+    refl,
+    refl,
+    there,
+    back,
+    (
+      refl,
+      refl,
+      (λ h. h),
+      (λ h. h),
+      same-refl
+          (valueChecks value ++ roomChecks (𝓓 .map .nodes) (𝓓 .map .edges) (length flows) (length set)),
+    ),
+  )
     where
       there : (𝓓 .map .nodes ≤ source) ⊎ ((𝓓 .map .nodes ≤ sink) ⊎ (Fit 𝓓 → ⊥)) → (𝓓 .map .nodes ≤ source) ⊎ (𝓓 .map .nodes ≤ sink)
       there (inl h) = inl h
@@ -108,12 +119,12 @@ module _ (𝓓 : Drawing) (source sink : ℕ) (value : ℤ) (flows : List ℤ) (
 
 -- ── the session after the answer ──
 module _ (S : Session) (source sink : ℕ) {v value : ℤ} (q : v ≡ value) (flows flows' : List ℤ) (set set' : List ℕ) {answer r : SolveAnswer} (e : answer ≡ r)
-where
-  pub told-as : Solved (sessionDrawing S) (askChecks (sessionDrawing S) source sink v flows set) source sink v flows flows' set set' answer
-      → Solved (sessionDrawing S) (askChecks (sessionDrawing S) source sink value flows set) source sink value flows flows' set set' r
-  told-as h =
-      subst (λ w. Solved (sessionDrawing S) (askChecks (sessionDrawing S) source sink w flows set) source sink w flows flows' set set' r) q
-      (subst (λ a. Solved (sessionDrawing S) (askChecks (sessionDrawing S) source sink v flows set) source sink v flows flows' set set' a) e h)
+  where
+    pub told-as : Solved (sessionDrawing S) (askChecks (sessionDrawing S) source sink v flows set) source sink v flows flows' set set' answer
+        → Solved (sessionDrawing S) (askChecks (sessionDrawing S) source sink value flows set) source sink value flows flows' set set' r
+    told-as h =
+        subst (λ w. Solved (sessionDrawing S) (askChecks (sessionDrawing S) source sink w flows set) source sink w flows flows' set set' r) q
+        (subst (λ a. Solved (sessionDrawing S) (askChecks (sessionDrawing S) source sink v flows set) source sink v flows flows' set set' a) e h)
 
 pub kept-offer : (S : Session) (flows' xs : List ℤ) {m : ℕ} → m ≡ S .edges → xs ≡ filled m (atℤ flows') (S .offer) → offering S xs ≡ afterAsk S flows' Can
 kept-offer S flows' xs e h = ap (offering S) (h ∙ ap (λ k. filled k (atℤ flows') (S .offer)) e)

@@ -68,7 +68,7 @@ module _ (s : List ℕ) (S : Session) (fs : List (List ℤ)) (r : Reached s S fs
       source sink value flows flows' set set' answer (a .0))
 
   highest : (S' : Session) → Asks S source sink value flows flows' set set' S' Can → Highest (sheetMap s) (outerOf s) (atℤ (S .left)) source sink value
-  (atℤ flows')
+      (atℤ flows')
   highest S' a =
       let h = answered S' Can a in
       let x = h .1 .0 in

@@ -52,9 +52,12 @@ same c =
 
 returns : tie.Need-returns
 returns c =
-    let b = c .before in
-    (unfit-answered (held b) (given b) (same b) (λ f. said-no (b .in-bounds .ensures) (unless-taken (b .in-bounds .result) (c .if1 .taken)) (f .bounds)) _ _
-    _ _ _, refl, refl)
+    let b = c .before in (
+      unfit-answered (held b) (given b) (same b) (λ f. said-no (b .in-bounds .ensures) (unless-taken (b .in-bounds .result) (c .if1 .taken)) (f .bounds)) _ _
+          _ _ _,
+      refl,
+      refl,
+    )
 
 -- ── in bounds ──
 bounded : (c : tie.Else1) → InBounds (held (c .before))

@@ -65,9 +65,11 @@ returns-2 : tie.Need-returns-2
 returns-2 c =
     let t = c .before .before in
     let s = start (t .before) in
-    let e = width (t .before) in
-    (can-commit (session s) (offering (t .before)) (tested-lowerable (session s) e (tested t)), left-after (session s) _
-    (lowered-session (session s) e _ (c .lower .ensures .1)))
+    let e = width (t .before) in (
+      can-commit (session s) (offering (t .before)) (tested-lowerable (session s) e (tested t)),
+      left-after (session s) _
+          (lowered-session (session s) e _ (c .lower .ensures .1)),
+    )
 
 returns-3 : tie.Need-returns-3
 returns-3 c =

@@ -44,8 +44,13 @@ wide-requires-2 c κs = search needs
 
 returns-2 : tie.Need-returns-2 Inv-loop μ-loop
 returns-2 c =
-    λ h. omega (arith, h .rotation-in (c .before .before .before .before .before .before .before .loop .d) (omega arith), c .if2 .taken, c .before .wide2
-    .ensures)
+    λ h. omega (
+      arith,
+      h .rotation-in (c .before .before .before .before .before .before .before .loop .d) (omega arith),
+      c .if2 .taken,
+      c .before .wide2
+          .ensures,
+    )
 
 add-d : tie.Need-add-d Inv-loop μ-loop
 add-d c = search needs
@@ -59,9 +64,11 @@ loop-again c =
       omega arith,
       o .inv .1,
       o .inv .2,
-      below-more _ (o .d) (o .inv .3)
-          (omega (arith, c .before .before .before .if1 .left, c .before .before .before .before .wide .ensures), omega
-          (arith, c .if2 .left, c .before .wide2 .ensures, o .inv .1)),
+      below-more _ (o .d) (o .inv .3) (
+        omega (arith, c .before .before .before .if1 .left, c .before .before .before .before .wide .ensures),
+        omega
+            (arith, c .if2 .left, c .before .wide2 .ensures, o .inv .1),
+      ),
     )
 
 returns-3 : tie.Need-returns-3 Inv-loop μ-loop

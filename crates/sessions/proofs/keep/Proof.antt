@@ -42,9 +42,11 @@ loop-less c = search needs
 
 loop-again : tie.Need-loop-again Inv-loop μ-loop
 loop-again c =
-    let o = c .before .before .loop in
-    (omega arith, copy-step _ (o .e) _ _ _ (o .inv .1) (omega (arith, c .before .before .before .pre .1))
-    (number-of-bits _ (record { sfits = c .offer .given })))
+    let o = c .before .before .loop in (
+      omega arith,
+      copy-step _ (o .e) _ _ _ (o .inv .1) (omega (arith, c .before .before .before .pre .1))
+          (number-of-bits _ (record { sfits = c .offer .given })),
+    )
 
 same-length : tie.Need-same-length Inv-loop μ-loop
 same-length c = filled-length _ _ _ _ (c .before .loop .inv .1) (omega (arith, c .before .before .pre .1))

@@ -1,15 +1,14 @@
--- The place rises to the end of the slice.
+-- The place rises to the end of the array.
 use Prim.Native.Nat.{_≤_, _-_}
-use lib.ListN.{length}
 use borrow.Author.Needs.{needs}
 use Rattle.cases.proofs.operations.say_left.Statement.{statement}
 use Rattle.cases.proofs.operations.say_left.Tie as tie
 
 abbrev Inv-loop : tie.InvT-loop
-Inv-loop edges left m d₀ d = d ≤ length left
+Inv-loop edges left m d₀ d = d ≤ 1024
 
 abbrev μ-loop : tie.MeasureT-loop
-μ-loop edges left m d₀ d = length left - d
+μ-loop edges left m d₀ d = 1024 - d
 
 slice-aggregate-say : tie.Need-slice-aggregate-say Inv-loop μ-loop
 slice-aggregate-say c = search needs
@@ -26,8 +25,8 @@ loop-holds c = search needs
 mul-signed : tie.Need-mul-signed Inv-loop μ-loop
 mul-signed c = search needs
 
-shared-slice-copy-out-signed : tie.Need-shared-slice-copy-out-signed Inv-loop μ-loop
-shared-slice-copy-out-signed c = search needs
+element-copy-out-signed : tie.Need-element-copy-out-signed Inv-loop μ-loop
+element-copy-out-signed c = search needs
 
 signed-requires : tie.Need-signed-requires Inv-loop μ-loop
 signed-requires c κs = search needs
@@ -55,7 +54,7 @@ say-left-spec =
     wide-requires
     loop-holds
     mul-signed
-    shared-slice-copy-out-signed
+    element-copy-out-signed
     signed-requires
     add-d
     loop-less
