@@ -13,6 +13,7 @@ ghost use Rattle.abi.specs.Totals.{TellsTotals};
 ghost use Rattle.abi.specs.Key.{TellsKey};
 ghost use Rattle.abi.specs.Practice.{TellsPractice};
 ghost use Rattle.abi.specs.Dimacs.{TellsDimacs};
+ghost use Rattle.sessions.specs.Session.{sessionOf};
 ghost use Rattle.abi.specs.Sessions.{TellsStart, TellsAsk, TellsCommit};
 use dimacs::DimacsAnswer;
 use key_text::KeyAnswer;
@@ -445,26 +446,10 @@ pub extern "C" fn analyser_session_start(
     place: &mut u16,
 ) -> u8
     ensures { λ r. ⌜ TellsStart (now (sheet .entry))
-        (record {
-          nodes = now (nodes .entry);
-          edges = now (edges .entry);
-          outer = now (outer .entry);
-          offered = now (offered .entry);
-          tails = now (tails .entry);
-          rotations = now (rotations .entry);
-          left = now (left .entry);
-          offer = now (offer .entry);
-        })
-        (record {
-          nodes = now (nodes .exit);
-          edges = now (edges .exit);
-          outer = now (outer .exit);
-          offered = now (offered .exit);
-          tails = now (tails .exit);
-          rotations = now (rotations .exit);
-          left = now (left .exit);
-          offer = now (offer .entry);
-        })
+        (sessionOf (now (nodes .entry)) (now (edges .entry)) (now (outer .entry)) (now (offered .entry))
+        (now (tails .entry)) (now (rotations .entry)) (now (left .entry)) (now (offer .entry)))
+        (sessionOf (now (nodes .exit)) (now (edges .exit)) (now (outer .exit)) (now (offered .exit))
+        (now (tails .exit)) (now (rotations .exit)) (now (left .exit)) (now (offer .entry)))
         (now (place .entry)) (now (place .exit)) r ⌝ }
 {
     let answer = sessions::start(
@@ -508,27 +493,11 @@ pub extern "C" fn analyser_session_ask<'a>(
     place: &mut u16,
 ) -> u8
     ensures { λ r. ⌜ TellsAsk
-        (record {
-          nodes = nodes;
-          edges = edges;
-          outer = outer;
-          offered = now (offered .entry);
-          tails = now (tails .entry);
-          rotations = now (rotations .entry);
-          left = now (left .entry);
-          offer = now (offer .entry);
-        })
+        (sessionOf nodes edges outer (now (offered .entry))
+        (now (tails .entry)) (now (rotations .entry)) (now (left .entry)) (now (offer .entry)))
         source sink value (now (flows .entry)) (now (flows .exit)) (now (set .entry)) (now (set .exit))
-        (record {
-          nodes = nodes;
-          edges = edges;
-          outer = outer;
-          offered = now (offered .exit);
-          tails = now (tails .entry);
-          rotations = now (rotations .entry);
-          left = now (left .entry);
-          offer = now (offer .exit);
-        })
+        (sessionOf nodes edges outer (now (offered .exit))
+        (now (tails .entry)) (now (rotations .entry)) (now (left .entry)) (now (offer .exit)))
         (now (can .entry)) (now (can .exit)) (now (size .entry)) (now (size .exit)) (now (place .entry)) (now (place .exit)) r ⌝ }
 {
     let answer = sessions::ask(
@@ -577,26 +546,10 @@ pub extern "C" fn analyser_session_commit<'a>(
     place: &mut u16,
 ) -> u8
     ensures { λ r. ⌜ TellsCommit
-        (record {
-          nodes = nodes;
-          edges = edges;
-          outer = outer;
-          offered = now (offered .entry);
-          tails = now (tails .entry);
-          rotations = now (rotations .entry);
-          left = now (left .entry);
-          offer = now (offer .entry);
-        })
-        (record {
-          nodes = nodes;
-          edges = edges;
-          outer = outer;
-          offered = now (offered .exit);
-          tails = now (tails .entry);
-          rotations = now (rotations .entry);
-          left = now (left .exit);
-          offer = now (offer .entry);
-        })
+        (sessionOf nodes edges outer (now (offered .entry))
+        (now (tails .entry)) (now (rotations .entry)) (now (left .entry)) (now (offer .entry)))
+        (sessionOf nodes edges outer (now (offered .exit))
+        (now (tails .entry)) (now (rotations .entry)) (now (left .exit)) (now (offer .entry)))
         (now (place .entry)) (now (place .exit)) r ⌝ }
 {
     let answer = sessions::commit(nodes, edges, outer, offered, tails, rotations, left, offer);

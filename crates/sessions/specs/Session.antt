@@ -19,6 +19,19 @@ pub record Session : Type 0 where
   pub left : List ℤ
   pub offer : List ℤ
 
+-- a session of its fields, as contracts name it
+abbrev pub sessionOf : (nodes edges outer offered : ℕ) (tails rotations : List ℕ) (left offer : List ℤ) → Session
+sessionOf nodes edges outer offered tails rotations left offer = record {
+  nodes = nodes;
+  edges = edges;
+  outer = outer;
+  offered = offered;
+  tails = tails;
+  rotations = rotations;
+  left = left;
+  offer = offer;
+}
+
 -- the map, and the drawing whose limits are those left
 abbrev pub sessionMap : Session → Map
 sessionMap S = mapOf (S .nodes) (S .edges) (S .tails) (S .rotations)

@@ -16,7 +16,7 @@ ghost use Rattle.arrays.specs.At.{at, atℤ};
 ghost use Rattle.arrays.specs.Maps.{mapOf, drawingOf};
 ghost use Rattle.arrays.specs.Filled.{filled};
 ghost use Rattle.questions.specs.Solve.{Solved};
-ghost use Rattle.sessions.specs.Session.{Session};
+ghost use Rattle.sessions.specs.Session.{sessionOf};
 ghost use Rattle.sessions.specs.Fit.{PairFits, LimitsFit, InBounds};
 ghost use Rattle.sessions.specs.Start.{Starts};
 ghost use Rattle.sessions.specs.Ask.{askChecks, Asks};
@@ -246,26 +246,10 @@ pub fn start(
     offer: &[i32; 512],
 ) -> Verdict
     ensures { λ r. ⌜ Starts (now (sheet .entry))
-        (record {
-          nodes = now (nodes .entry);
-          edges = now (edges .entry);
-          outer = now (outer .entry);
-          offered = now (offered .entry);
-          tails = now (tails .entry);
-          rotations = now (rotations .entry);
-          left = now (left .entry);
-          offer = now (offer .entry);
-        })
-        (record {
-          nodes = now (nodes .exit);
-          edges = now (edges .exit);
-          outer = now (outer .exit);
-          offered = now (offered .exit);
-          tails = now (tails .exit);
-          rotations = now (rotations .exit);
-          left = now (left .exit);
-          offer = now (offer .entry);
-        }) r ⌝ }
+        (sessionOf (now (nodes .entry)) (now (edges .entry)) (now (outer .entry)) (now (offered .entry))
+        (now (tails .entry)) (now (rotations .entry)) (now (left .entry)) (now (offer .entry)))
+        (sessionOf (now (nodes .exit)) (now (edges .exit)) (now (outer .exit)) (now (offered .exit))
+        (now (tails .exit)) (now (rotations .exit)) (now (left .exit)) (now (offer .entry))) r ⌝ }
 {
     let mut lefts = [0u16; 1024];
     let opened = sheets::open(sheet, &mut lefts);
@@ -306,27 +290,11 @@ pub fn ask<'a>(
     set: &mut [u64],
 ) -> SolveAnswer
     ensures { λ r. ⌜ Asks
-        (record {
-          nodes = nodes;
-          edges = edges;
-          outer = outer;
-          offered = now (offered .entry);
-          tails = now (tails .entry);
-          rotations = now (rotations .entry);
-          left = now (left .entry);
-          offer = now (offer .entry);
-        })
+        (sessionOf nodes edges outer (now (offered .entry))
+        (now (tails .entry)) (now (rotations .entry)) (now (left .entry)) (now (offer .entry)))
         source sink value (now (flows .entry)) (now (flows .exit)) (now (set .entry)) (now (set .exit))
-        (record {
-          nodes = nodes;
-          edges = edges;
-          outer = outer;
-          offered = now (offered .exit);
-          tails = now (tails .entry);
-          rotations = now (rotations .entry);
-          left = now (left .entry);
-          offer = now (offer .exit);
-        }) r ⌝ }
+        (sessionOf nodes edges outer (now (offered .exit))
+        (now (tails .entry)) (now (rotations .entry)) (now (left .entry)) (now (offer .exit))) r ⌝ }
 {
     let answer = answer_left(
         nodes,
@@ -387,26 +355,10 @@ pub fn commit<'a>(
     offer: &[i32; 512],
 ) -> Verdict
     ensures { λ r. ⌜ Commits
-        (record {
-          nodes = nodes;
-          edges = edges;
-          outer = outer;
-          offered = now (offered .entry);
-          tails = now (tails .entry);
-          rotations = now (rotations .entry);
-          left = now (left .entry);
-          offer = now (offer .entry);
-        })
-        (record {
-          nodes = nodes;
-          edges = edges;
-          outer = outer;
-          offered = now (offered .exit);
-          tails = now (tails .entry);
-          rotations = now (rotations .entry);
-          left = now (left .exit);
-          offer = now (offer .entry);
-        }) r ⌝ }
+        (sessionOf nodes edges outer (now (offered .entry))
+        (now (tails .entry)) (now (rotations .entry)) (now (left .entry)) (now (offer .entry)))
+        (sessionOf nodes edges outer (now (offered .exit))
+        (now (tails .entry)) (now (rotations .entry)) (now (left .exit)) (now (offer .entry))) r ⌝ }
 {
     let m = wide(edges);
     if *offered != 1 {
