@@ -9,6 +9,7 @@ use crate::flow::{carry, least_limit, net_flows, range, MOST_LIMIT};
 use crate::grow::{grow, Grown};
 use crate::judge;
 use crate::levels::{flows_of, highest, levels_of};
+use crate::sessions::Player;
 use crate::unit::{Call, Lent, PAGE};
 use std::collections::BTreeMap;
 use std::fmt::Write;
@@ -163,7 +164,18 @@ impl Checker<'_> {
             self.damaged(drawing)?;
         }
         self.practice()?;
-        self.pages(drawing, grown.source, grown.sink)
+        self.pages(drawing, grown.source, grown.sink)?;
+        self.session(drawing, grown.source, grown.sink)
+    }
+
+    /// A sequence of calls of a session.
+    fn session(&mut self, drawing: &Drawing, source: usize, sink: usize) -> Check {
+        let mut player = Player { library: self.library, chance: &mut self.chance, met: vec![] };
+        let played = player.play(drawing, source, sink);
+        for key in std::mem::take(&mut player.met) {
+            *self.tally.answers.entry(key).or_default() += 1;
+        }
+        played.map_err(|text| Wrong(format!("{}# a session from {source} to {sink}\n{text}", drawing.text())))
     }
 
     /// One call, and its answer if it is as it should be.

@@ -153,6 +153,18 @@ faults! {
     PageOnRefusal: "a page that is refused writes the first answer",
     SixteenForTwentyOne: "room for a page is looked at before the number of its questions",
     TwentyOneForTheSheet: "the number of questions is looked at before the sheet",
+    BothDartsLowered: "a commit lowers both darts of an edge",
+    LoweredTwice: "a commit lowers a forward limit twice",
+    CommitKeepsOffer: "a commit keeps the offer",
+    RefusedCommitClears: "a refused commit clears a limit",
+    CannotKeepsOffer: "a cannot keeps the older offer",
+    RefusalClearsOffer: "a refused question clears the offer",
+    FirstOfferKept: "a second can leaves the first offer",
+    OfferOfTheCaller: "a commit takes the offer from the slice that the caller lent for the settings",
+    RefusedStartKeeps: "a refused start leaves the old session",
+    StartKeepsOffer: "a start keeps the offer of the older session",
+    StartDartZero: "a session has dart 0 on the outer face",
+    ForeignEmptied: "a value that is no session is emptied when it is refused",
 }
 
 /// The unit, with a fault or without.
@@ -869,7 +881,7 @@ mod tests {
         run(None, &mut tally).unwrap_or_else(|wrong| panic!("{wrong}"));
         let sheet: Vec<u8> = (1..=10).chain([12, 24]).collect(); // 11 no longer occurs
         let with = |more: &[u8]| [&sheet[..], more].concat();
-        let due: [(&str, Vec<u8>, &[&str]); 14] = [
+        let due: [(&str, Vec<u8>, &[&str]); 17] = [
             ("Read", with(&[16]), &["done"]),
             ("Write", vec![3, 4, 5, 6, 7, 9, 10, 12, 16, 24], &["done"]),
             ("Solve", with(&[13, 14, 15, 16]), &["can", "cannot"]),
@@ -884,6 +896,9 @@ mod tests {
             ("Practice sheet", vec![16, 23], &["done"]),
             ("DIMACS text", with(&[13, 14, 16, 22]), &["done"]),
             ("Page", with(&[16, 21]), &["empty", "of 64", "with every answer", "with some answers"]),
+            ("Start", sheet.clone(), &["done"]),
+            ("Ask", vec![13, 14, 15, 16], &["can", "cannot"]),
+            ("Commit", vec![28], &["done"]),
         ];
         for (name, refusals, answers) in due {
             let met: Vec<_> = tally.answers.keys().filter(|key| key.0 == name).map(|&(_, number, answer)| (number, answer)).collect();

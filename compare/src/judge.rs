@@ -10,7 +10,7 @@ pub struct Refusal {
     pub place: u16,
 }
 
-type Verdict = Result<(), Refusal>;
+pub type Verdict = Result<(), Refusal>;
 
 fn refuse(number: u8, holds: bool) -> Verdict {
     if holds {
@@ -161,6 +161,11 @@ fn fields(drawing: &Drawing, edge: usize, edges: usize) -> Verdict {
     refuse(5, darts.iter().any(|&dart| drawing.rotations[dart] as usize >= 2 * edges))?;
     refuse(6, darts.iter().any(|&dart| drawing.capacity(dart).abs() > 1_000_000))?;
     refuse(7, drawing.capacity(darts[0]) + drawing.capacity(darts[1]) < 0)
+}
+
+/// Checks 9, 10 and 12, of a drawing whose tails and turns are in range.
+pub fn turns(drawing: &Drawing) -> Verdict {
+    rotation(drawing)
 }
 
 /// Checks 9, 10 and 12.
