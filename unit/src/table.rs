@@ -258,7 +258,7 @@ pub const COMMANDS: &[Command] = &[
     #[cfg(has_capture)]
     Command {
         name: "capture",
-        operation: "Largest after",
+        operation: "Limits from a capture",
         words: "SHEET [HEADGATE OUTFALL] CAPTURE WINDOW RECORD",
         counts: &[4, 6],
         says: "The forward limits after a record of a capture: of a channel seen in the last WINDOW records the least that they have,\n\
