@@ -68,8 +68,8 @@ pub const COMMANDS: &[Command] = &[
                    cannot 13\n\
                    set 0\n\
                    size 1\n\
-                   $ tools/unit solve samples/a-6.txt 0 2 6\n\
-                   refused 13 place 0: headgate or outfall is the node count or more\n\
+                   $ tools/unit solve samples/a-6.txt 1 1 6\n\
+                   refused 14 place 0: headgate and outfall are equal\n\
                    $ tools/unit solve samples/a-6.txt --json\n\
                    {\"operation\": \"Solve\", \"answer\": \"can\", \"delivery\": 6, \"settings\": [0, 2, 4]}\n",
         run: commands::solve,
