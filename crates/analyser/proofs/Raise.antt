@@ -18,6 +18,7 @@ use Rattle.arrays.specs.At.{atℤ}
 use Rattle.arrays.proofs.FillLoops.{filled-front}
 use Rattle.records.specs.Sheet.{nodesOf, edgesOf, capacityOf, outerOf, sheetMap}
 use Rattle.sheets.specs.Open.{sheetChecks}
+use Rattle.questions.specs.Question.{endChecks}
 use Rattle.questions.proofs.Asked.{ends-in, ends-differ}
 use Rattle.raising.specs.Raised.{raised}
 use Rattle.raising.specs.Raise.{limitChecks}
@@ -69,6 +70,9 @@ module _ (s : List ℕ) (source sink : ℕ) (value : ℤ) (edge : ℕ) where
 
       known : Weighed (nodesOf s) (edgesOf s) source sink value edge flows set
       known = weighed (nodesOf s) (edgesOf s) source sink value edge flows set (apart .1)
+
+      pub raise-accepted : NoneOf (sheetChecks s) × NoneOf (endChecks (nodesOf s) source sink)
+      raise-accepted = (apart .0, known .ends-two)
 
       -- the present limit is one of a sheet
       present-most : capacityOf s (2 * edge) ≤ℤ pos 1000000

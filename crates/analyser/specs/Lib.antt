@@ -9,3 +9,4 @@ pub mod Raise
 pub mod Dimacs
 pub mod Page
 pub mod Statements
+pub mod Drops

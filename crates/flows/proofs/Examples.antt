@@ -8,7 +8,7 @@ use native.Mathlib.Omega.{arith}
 use lib.Dec.{eqb}
 use lib.ListN.{getD}
 use lib.Count.{ones, onesIn}
-use lib.IntN.{ℤ, pos, negsuc, negℤ, _+ℤ_, _-ℤ_}
+use lib.IntN.{ℤ, pos, negsuc, negℤ, _+ℤ_, _-ℤ_, _*ℤ_}
 use lib.Signed.{_≤ℤ_, _<ℤ_, leZ, ltZ}
 use Rattle.integers.specs.Sum.{sum}
 use Rattle.integers.proofs.Omega.{atoms₁, atoms₂, atoms₃, atoms₅, parts, equal, at-most, from-equal, from-at-most}
@@ -23,6 +23,7 @@ use Rattle.maps.specs.Cut.{cut}
 use Rattle.maps.specs.Potential.{difference}
 use Rattle.maps.proofs.Examples.{A, A-sound, A-connected, B, A-capacity, B-capacity}
 use Rattle.flows.specs.Settings.{onDarts, Carries}
+use Rattle.flows.specs.Parts.{CarriesInParts}
 use Rattle.flows.specs.Levels.{Levels}
 use Rattle.flows.specs.Highest.{Highest}
 use Rattle.flows.specs.ProvingSet.{bound, Proves, member, size}
@@ -50,6 +51,19 @@ A-six = A-carries A-capacity (settings (pos 0 ∷ pos 2 ∷ pos 4 ∷ [])) (pos 
 pub A-twelve : Carries A A-capacity 0 1 (pos 12) (settings (pos 5 ∷ pos 3 ∷ pos 4 ∷ []))
 unfolding settings A-capacity onDarts net sum every
 A-twelve = A-carries A-capacity (settings (pos 5 ∷ pos 3 ∷ pos 4 ∷ [])) (pos 12) refl refl
+
+-- in halves: 10, 6 and 8 of them are 12 again; and half a litre on the first edge, 2 on the second, 3 and a half on the third are 6
+pub A-twelve-in-halves : CarriesInParts 2 A A-capacity 0 1 (pos 12) (settings (pos 10 ∷ pos 6 ∷ pos 8 ∷ []))
+unfolding settings A-capacity onDarts net sum every
+A-twelve-in-halves = (omega arith, A-carries (λ d. pos 2 *ℤ A-capacity d) (settings (pos 10 ∷ pos 6 ∷ pos 8 ∷ [])) (pos 24) refl refl)
+
+pub A-six-in-halves : CarriesInParts 2 A A-capacity 0 1 (pos 6) (settings (pos 1 ∷ pos 4 ∷ pos 7 ∷ []))
+unfolding settings A-capacity onDarts net sum every
+A-six-in-halves = (omega arith, A-carries (λ d. pos 2 *ℤ A-capacity d) (settings (pos 1 ∷ pos 4 ∷ pos 7 ∷ [])) (pos 12) refl refl)
+
+-- there are no parts of which none make a litre: else 13, which A cannot carry, would be carried by nothing at all
+pub A-no-parts-of-zero : CarriesInParts 0 A A-capacity 0 1 (pos 13) (settings []) → ⊥
+A-no-parts-of-zero h = omega (arith, h .0)
 
 -- "13: cannot, set {0}, size 1", "−1: cannot, set {1}"; the set {0} is bit 0 of the first word, {1} is bit 1
 pub A-thirteen : Proves A A-capacity 0 1 (pos 13) (member (1 ∷ [])) × (size (1 ∷ []) ≡ 1)

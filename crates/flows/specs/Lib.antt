@@ -1,5 +1,6 @@
 pub mod ZeroFace
 pub mod Settings
+pub mod Parts
 pub mod Levels
 pub mod Highest
 pub mod ProvingSet

@@ -18,7 +18,9 @@ use Rattle.analyser.specs.Solve.{solveChecks}
 use Rattle.analyser.proofs.Accepted.{Accepted, accepted}
 use Rattle.analyser.proofs.Asked.{one-highest}
 use Rattle.analyser.specs.Statements.{Delivers}
+use Rattle.analyser.specs.Drops.{NotEvenInDrops}
 use Rattle.analyser.proofs.Demand3.{set-excludes}
+use Rattle.analyser.proofs.Drops.{set-in-drops}
 use Rattle.texts.proofs.Joined.{lines-agree}
 use Rattle.key_text.specs.Question.{sourceOf, sinkOf, valueOf, sheetOf, keyChecks}
 use Rattle.key_text.specs.Text.{canWord, cannotWord, refusedWord, edgeLine, canLine, canText, cannotLine, cannotText, refusedText}
@@ -102,6 +104,13 @@ module _ (b : List ℕ) (asked : NoneOf (keyChecks b)) where
   cannot-exactly t (can none x h e) = ((λ c. absurd (can-cannot t (says-can _ _ _ t e) c)), (λ no. absurd (no x (h .carries))))
   cannot-exactly t (cannot none words k p e) = ((λ c. excluded words p), (λ no. says-cannot _ _ _ _ t e))
   cannot-exactly t (refused k p f e) = absurd (first-none (keyChecks b) k p f asked)
+
+  -- ── and where it says "cannot", none do in n-th parts either (document 02, Job 13) ──
+  pub cannot-in-drops : (t : List ℕ) → Key b t → Says cannotWord t → NotEvenInDrops s (sourceOf b) (sinkOf b) (valueOf b)
+  cannot-in-drops t (can none x h e) c = absurd (can-cannot t (says-can _ _ _ t e) c)
+  cannot-in-drops t (cannot none words k p e) c =
+      set-in-drops s (known .sheet) (sourceOf b) (sinkOf b) (known .ends-two) (capacityOf s) (valueOf b) (member words) p
+  cannot-in-drops t (refused k p f e) c = absurd (first-none (keyChecks b) k p f asked)
 
   -- ── what stands under "can": each edge with its flow in the highest answer, of which there is one ──
   pub can-prints : (t : List ℕ) → Key b t → Says canWord t
