@@ -56,6 +56,36 @@ static void page(void) {
     result = analyser_page(sheet, sheet_length, QUESTIONS, headgates, outfalls, deliveries, page_settings, PAGE_SETTINGS, page_sets, PAGE_WORDS, page_answers,
                            sizes, &place);
 }
+#if __STDC_HOSTED__
+// A class of the size that `value` says, each paper with the settings and the set that Largest gives, and its claim: read_sheet and largest_class come before.
+static int32_t class_claims[ANALYSER_CLASS_PAPERS], class_settings[ANALYSER_CLASS_PAPERS * ANALYSER_MAX_CHANNELS];
+static uint64_t class_sets[ANALYSER_CLASS_PAPERS * ANALYSER_SET_WORDS];
+static uint8_t class_kinds[ANALYSER_CLASS_PAPERS], class_points[ANALYSER_CLASS_PAPERS], least_points, greatest_points;
+static uint16_t papers, class_number, class_sum;
+static void largest_class(void) {
+    papers = (uint16_t)value;
+    largest();
+}
+static void fill_class(void) {
+    uint32_t words = (nodes + 63u) / 64;
+    for (uint32_t q = 0; q < papers; q++) {
+        class_claims[q] = value;
+        class_kinds[q] = answer == 0 ? ANALYSER_CLAIMS_NONE : 0;
+        for (uint32_t e = 0; e < channels; e++) class_settings[q * channels + e] = settings[e];
+        for (uint32_t j = 0; j < words; j++) class_sets[q * words + j] = set[j];
+    }
+}
+static void examine(void) {
+    result = analyser_examine(sheet, sheet_length, source, sink, value, class_claims, papers, class_kinds, papers, class_settings,
+                              ANALYSER_CLASS_PAPERS * ANALYSER_MAX_CHANNELS, class_sets, ANALYSER_CLASS_PAPERS * ANALYSER_SET_WORDS, class_points,
+                              ANALYSER_CLASS_PAPERS, &class_number, &class_sum, &least_points, &greatest_points, &place);
+}
+// The sum of the points, and the least of them.
+static void tell_class(void) {
+    number = class_sum;
+    answer = least_points;
+}
+#endif
 static void open_sheet(void) {
     result = analyser_solve(sheet, sheet_length, 65535, sink, 0, settings, ANALYSER_MAX_CHANNELS, set, ANALYSER_SET_WORDS, &answer, &size, &place);
 }
@@ -141,6 +171,9 @@ static const struct operation {
     {"least", range, {NULL, NULL, NULL}, tell_least},
     {"raise", raise_limit, {read_sheet, solve, choose}, tell_least},
     {"page", page, {fill_page, NULL, NULL}, tell_page},
+#if __STDC_HOSTED__
+    {"examine", examine, {read_sheet, largest_class, fill_class}, tell_class},
+#endif
     {"open", open_sheet, {NULL, NULL, NULL}, tell_nothing},
     {"read", read_sheet, {NULL, NULL, NULL}, tell_channels},
     {"write", write_sheet, {read_sheet, NULL, NULL}, tell_written},

@@ -6,6 +6,7 @@
 //   least SHEET SOURCE SINK 0          the same call; prints: result found least place
 //   raise SHEET SOURCE SINK VALUE      Raise limit of a channel that leaves the set that Solve gives, or of channel 0; prints: result found limit place
 //   page SHEET SOURCE SINK VALUE       20 questions, at the value and the next greater in turn; prints: result same cans place
+//   examine SHEET SOURCE SINK PAPERS   a class of so many papers, 1000 at most, each of them Largest's own answer; prints: result least sum place
 //   open SHEET 0 0 0                   Solve of a source that is no node, which is refused when the sheet is opened; prints: 13 255 0 0
 //   read SHEET 0 0 0                   prints: result 255 channels place
 //   write SHEET 0 0 0                  on what Read gives; prints: result same length place

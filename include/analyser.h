@@ -50,6 +50,8 @@
 #define ANALYSER_MAX_FACES 1024 // levels: 512 nodes with a loop each have 1024 faces
 #define ANALYSER_SET_WORDS 9
 #define ANALYSER_PAGE_QUESTIONS 64 // the five arrays of a page
+#define ANALYSER_CLASS_PAPERS 1000 // claims, kinds and points of a class; settings and sets have a stretch for each paper
+#define ANALYSER_CLAIMS_NONE 1 // a kind: the paper claims that nothing can be delivered
 #define ANALYSER_SHEET_BYTES 8711
 #define ANALYSER_KEY_INPUT_BYTES 8720
 #define ANALYSER_KEY_TEXT_BYTES 6671
@@ -59,20 +61,20 @@
 // The results. "Sheet": a sheet check, so given by every function that takes a sheet. *place is 0 unless said.
 enum analyser_result {
     ANALYSER_ANSWERED = 0, // there is an answer, and *place is as it was
-    ANALYSER_CUT_SHORT = 1, // a record has no first byte, or its body is cut short. Sheet
-    ANALYSER_WRONG_KIND = 2, // a record is not of the kind that is due. Sheet
+    ANALYSER_CUT_SHORT = 1, // a record has no first byte, or its body is cut short. Sheet; Largest after
+    ANALYSER_WRONG_KIND = 2, // a record is not of the kind that is due. Sheet; Largest after
     ANALYSER_COUNT_OUT_OF_RANGE = 3, // nodes not 2 to 513, or channels not 1 to 512. Sheet; Write
     ANALYSER_END_IS_NO_NODE = 4, // a channel's tail or head is no node. Sheet; Write
     ANALYSER_TURN_IS_NO_DART = 5, // a turn is no dart. Sheet; Write
-    ANALYSER_LIMIT_OUT_OF_RANGE = 6, // a limit not -1000000 to 1000000. Sheet; Write
-    ANALYSER_LIMITS_BELOW_ZERO = 7, // a channel's two limits add to less than zero. Sheet; Write
+    ANALYSER_LIMIT_OUT_OF_RANGE = 6, // a limit not -1000000 to 1000000. Sheet; Write; Largest after
+    ANALYSER_LIMITS_BELOW_ZERO = 7, // a channel's two limits add to less than zero. Sheet; Write; Largest after
     ANALYSER_BYTES_LEFT_OVER = 8, // bytes after the last channel. Sheet
     ANALYSER_TURN_MISPLACED = 9, // a turn has another tail than its dart, or two darts have one turn. Sheet; Write
     ANALYSER_NOT_ONE_ROUND = 10, // a node's darts do not form exactly one round, or it has none. Sheet; Write
     ANALYSER_NOT_FLAT = 12, // nodes - channels + faces is not 2 in some part: what channels, followed either way, join. Sheet; Write
-    ANALYSER_NO_SUCH_NODE = 13, // headgate or outfall is no node. Solve, Largest, Least and largest, Raise limit, Mark, DIMACS text
-    ANALYSER_ENDS_EQUAL = 14, // headgate and outfall are one node. Solve, Largest, Least and largest, Raise limit, Mark, DIMACS text
-    ANALYSER_DELIVERY_OUT_OF_RANGE = 15, // the delivery is not -600000000 to 600000000. Solve, Raise limit
+    ANALYSER_NO_SUCH_NODE = 13, // headgate or outfall is no node. Solve, Largest, Least and largest, Raise limit, Mark, DIMACS text, Largest after, Examine
+    ANALYSER_ENDS_EQUAL = 14, // headgate and outfall are one node. Solve, Largest, Least and largest, Raise limit, Mark, DIMACS text, Largest after, Examine
+    ANALYSER_DELIVERY_OUT_OF_RANGE = 15, // the delivery is not -600000000 to 600000000. Solve, Raise limit, Examine
     ANALYSER_SLICE_TOO_SHORT = 16, // a lent slice is too short; in Write also inputs of unequal or odd length. Every function
     ANALYSER_OUTSIDE_LIMITS = 17, // a setting is outside its channel's limits; *place is the lowest such channel. Mark, both level functions
     ANALYSER_OFF_BALANCE = 18, // flow is lost or gained at a node; *place is the lowest such node. Mark, Levels from settings
@@ -82,7 +84,10 @@ enum analyser_result {
     ANALYSER_LEAST_FLOW = 22, // a limit, forward or back, is below zero: the text cannot hold a least flow. DIMACS text
     ANALYSER_PRACTICE_OUT_OF_RANGE = 23, // rows or columns not 2 to 16, or the seed not below 2147483648. Practice sheet
     ANALYSER_OUTER_IS_NO_DART = 24, // the outer dart is no dart. Sheet; Write
-    ANALYSER_NO_SUCH_CHANNEL = 25 // there is no such channel. Raise limit
+    ANALYSER_NO_SUCH_CHANNEL = 25, // there is no such channel. Raise limit; of a record of the capture, Largest after
+    ANALYSER_WINDOW_OUT_OF_RANGE = 26, // the window is not 1 to 256, or the named record is none of the capture's whole records. Largest after
+    ANALYSER_TICK_GOES_BACK = 27, // a record of the capture has a lower tick than the one before. Largest after
+    ANALYSER_TOO_MANY_PAPERS = 32 // more than 1000 papers. Examine
 };
 
 #ifdef __cplusplus
@@ -141,6 +146,19 @@ uint8_t analyser_least_and_largest(const uint8_t *sheet, size_t sheet_length, ui
 // Writes where there is a limit: a setting for each channel, *limit, and *found = 1. Where there is none: the words of the set, and *found = 0.
 uint8_t analyser_raise_limit(const uint8_t *sheet, size_t sheet_length, uint16_t headgate, uint16_t outfall, int32_t delivery, uint16_t channel,
                              int32_t *settings, size_t settings_length, uint64_t *set, size_t set_length, uint8_t *found, int32_t *limit, uint16_t *place);
+
+// Largest after: the forward limits that a capture leaves after a named record, and Largest on them. A capture is the recorder's bytes, of any length, read
+// where they stand: records of 11 bytes, of kind 5, each with a tick (32 bits, unsigned), a channel (16) and a forward limit (32, signed). The limit of a
+// channel is the least among its records in the last window records up to record named, counted from 0; the sheet's where there is none. Back limits are the
+// sheet's.
+// Refusals: the sheet checks; 26 where window is not 1 to 256 or named is not below capture_length / 11; of every record of the capture in turn, those after
+// the named one too, 2 where its kind is not 5, 1 where it is cut short, 25, 27; 6 and 7 of each channel in turn, on the limits found; 13; 14; 16 where limits
+// or settings has less than one element for each channel, or set less than one word for each 64 nodes or part of them.
+// Writes where there is a value: a limit and a setting for each channel, the words of the set, *value, and *found = 1.
+// Where there is none: a limit for each channel, the words of the set, and *found = 0.
+uint8_t analyser_largest_after(const uint8_t *sheet, size_t sheet_length, const uint8_t *capture, size_t capture_length, uint16_t window, uint64_t named,
+                               uint16_t headgate, uint16_t outfall, int32_t *limits, size_t limits_length, int32_t *settings, size_t settings_length,
+                               uint64_t *set, size_t set_length, uint8_t *found, int32_t *value, uint16_t *place);
 
 // A page: up to 64 questions on one sheet, which is read and checked once. Question i, from 0, has headgates[i], outfalls[i] and deliveries[i]; its settings
 // are written from i * channels on, its set from i * words on, words being one for each 64 nodes or part of them. Each question is answered as analyser_solve
@@ -204,6 +222,21 @@ uint8_t analyser_practice_sheet(uint16_t rows, uint16_t columns, uint32_t seed, 
 // Writes where there is an answer: *length bytes of text, and *length. The text does not end in a zero byte.
 uint8_t analyser_write_dimacs(const uint8_t *sheet, size_t sheet_length, uint16_t headgate, uint16_t outfall, uint8_t *text, size_t text_length,
                               size_t *length, uint16_t *place);
+
+// Examine, the exam desk: the points of a class of up to 1000 papers on one sheet, headgate, outfall and delivery, and the class's figures. Paper q, from 0,
+// has its settings from q * channels on, its set from q * words on, words being one for each 64 nodes or part of them, and its claimed largest delivery in
+// claims[q]; where kinds[q] is ANALYSER_CLAIMS_NONE it claims none, and claims[q] is not read. It earns 4 points if its settings carry the delivery (Mark gives
+// it), 3 if the claim is the largest, 3 if the set proves the delivery next above the largest impossible; where the largest is none, 6 for a claim of none with
+// a set that holds both or neither of headgate and outfall and has an outward total below 0, together, else none of the 6. Bits past the last node are passed
+// over. There are as many papers as claims_length says. A wrong paper is marked, never refused. The largest is found once.
+// Refusals: the sheet checks; 13; 14; 15; 32; 16 where kinds or points has less than claims_length elements, settings less than claims_length * channels, or
+// sets less than claims_length * words.
+// Writes where there is an answer: the points of paper q in points[q], the number of papers in *number, the sum of their points in *sum, and if there is a
+// paper the least in *least and the greatest in *greatest. The mean is *sum over *number; an empty class, *number = 0, has none, and no least and no greatest.
+uint8_t analyser_examine(const uint8_t *sheet, size_t sheet_length, uint16_t headgate, uint16_t outfall, int32_t delivery, const int32_t *claims,
+                         size_t claims_length, const uint8_t *kinds, size_t kinds_length, const int32_t *settings, size_t settings_length, const uint64_t *sets,
+                         size_t sets_length, uint8_t *points, size_t points_length, uint16_t *number, uint16_t *sum, uint8_t *least, uint8_t *greatest,
+                         uint16_t *place);
 
 #ifdef __cplusplus
 }

@@ -1,5 +1,5 @@
 // The header and the library, as a C program and as a C++ program: each operation on drawing A of document 01, and a refusal of each; Least and largest,
-// Totals by node and the DIMACS text on drawing B too, and Raise limit with each refusal beside the next. tests/header compiles and runs it, and compares what
+// Totals by node and the DIMACS text on drawing B too, and Raise limit and Examine with each refusal beside the next. tests/header compiles and runs it, and compares what
 // it prints.
 #include "analyser.h"
 #include "analyser.h"
@@ -110,6 +110,21 @@ static void raise_limit(const char *name, size_t bytes_length, uint16_t headgate
     ended();
 }
 
+// Largest after on drawing A with the first bytes of three records, and slices of these lengths: all that it may write, and one element more of each slice than
+// drawing A needs. The limits stand in low.
+static const uint8_t capture[] = {5, 1, 0, 0, 0, 0, 0, 3, 0, 0, 0, 5, 1, 0, 0, 0, 1, 0, 2, 0, 0, 0, 5, 5, 0, 0, 0, 0, 0, 2, 0, 0, 0};
+
+static void largest_after(const char *name, size_t bytes_length, size_t capture_length, uint16_t window, uint64_t named, uint16_t headgate, uint16_t outfall,
+                          size_t limits_length, size_t settings_length, size_t set_length) {
+    untouched();
+    int result = analyser_largest_after(drawing_a, bytes_length, capture, capture_length, window, named, headgate, outfall, low, limits_length, settings,
+                                        settings_length, set, set_length, &flag, &value, &place);
+    printf("largest after %s %d: found %d, value %d, set %d %d", name, result, flag, (int)value, (int)set[0], (int)set[1]);
+    numbers("limits", low, 4);
+    numbers("settings", settings, 4);
+    ended();
+}
+
 static void write_dimacs(const char *name, const uint8_t *bytes, size_t bytes_length, uint16_t headgate, uint16_t outfall, size_t room) {
     untouched();
     memset(dimacs, '#', sizeof dimacs);
@@ -140,8 +155,28 @@ static void page(const char *name, const uint8_t *bytes, size_t bytes_length, si
     ended();
 }
 
+// A class on a drawing with slices of these lengths: the first papers are those of drawing A or drawing B, in two channels or three to a paper.
+static void examine(const char *name, const uint8_t *bytes, size_t bytes_length, uint16_t headgate, uint16_t outfall, int32_t delivery, const int32_t *given,
+                    const uint64_t *sets, const size_t lengths[5]) {
+    static const int32_t claims[ANALYSER_CLASS_PAPERS + 1] = {12, 12, 12, 13};
+    static const uint8_t kinds[4] = {0, 0, ANALYSER_CLAIMS_NONE, 0}, none[4] = {ANALYSER_CLAIMS_NONE, ANALYSER_CLAIMS_NONE, 0, 0};
+    uint8_t points[5] = {UNTOUCHED, UNTOUCHED, UNTOUCHED, UNTOUCHED, UNTOUCHED}, low_points = UNTOUCHED, high_points = UNTOUCHED;
+    uint16_t number = UNTOUCHED, sum = UNTOUCHED;
+    untouched();
+    int result = analyser_examine(bytes, bytes_length, headgate, outfall, delivery, claims, lengths[0], bytes == drawing_b ? none : kinds, lengths[1], given,
+                                  lengths[2], sets, lengths[3], points, lengths[4], &number, &sum, &low_points, &high_points, &place);
+    printf("examine %s %d: points %d %d %d %d %d, number %d, sum %d, least %d, greatest %d", name, result, points[0], points[1], points[2], points[3], points[4],
+           number, sum, low_points, high_points);
+    ended();
+}
+
 int main(void) {
     int result;
+    // the settings and sets of four papers on drawing A, and of three on drawing B
+    static const int32_t of_a[12] = {0, 2, 4, 5, 3, 4, 0, 2, 4, 0, 2, 5}, of_b[6] = {0, 0, 0, 0, 0, 0};
+    static const uint64_t sets_a[4] = {1, 2, ~(uint64_t)2, 3}, sets_b[3] = {4, 1, 4};
+    static const size_t four[5] = {4, 4, 12, 4, 4}, three[5] = {3, 3, 6, 3, 3}, no_papers[5] = {0, 0, 0, 0, 0}, too_many[5] = {1001, 4, 12, 4, 4};
+    static const size_t too_short[4][5] = {{4, 3, 12, 4, 4}, {4, 4, 11, 4, 4}, {4, 4, 12, 3, 4}, {4, 4, 12, 4, 3}};
 
     untouched();
     result = analyser_read(drawing_a, sizeof drawing_a, tails, ANALYSER_MAX_DARTS, turns, ANALYSER_MAX_DARTS, limits, ANALYSER_MAX_DARTS, &nodes, &channels,
@@ -207,6 +242,13 @@ int main(void) {
     raise_limit("6 by channel 0", sizeof drawing_a, 0, 1, 6, 0, 3, 1);
     raise_limit("1000007 by channel 0", sizeof drawing_a, 0, 1, 1000007, 0, 3, 1);
     raise_limit("1000008 by channel 0", sizeof drawing_a, 0, 1, 1000008, 0, 3, 1);
+
+    largest_after("record 1, two", sizeof drawing_a, sizeof capture, 2, 1, 0, 1, ANALYSER_MAX_CHANNELS, ANALYSER_MAX_CHANNELS, ANALYSER_SET_WORDS);
+    largest_after("record 2, all", sizeof drawing_a, sizeof capture, 256, 2, 0, 1, 3, 3, 1);
+
+    examine("A 6", drawing_a, sizeof drawing_a, 0, 1, 6, of_a, sets_a, four);
+    examine("B 0", drawing_b, sizeof drawing_b, 0, 1, 0, of_b, sets_b, three);
+    examine("A none", drawing_a, sizeof drawing_a, 0, 1, 6, of_a, sets_a, no_papers);
 
     page("of five", drawing_a, sizeof drawing_a, 5, 15, 5);
     page("of none", drawing_a, sizeof drawing_a, 0, 0, 0);
@@ -297,6 +339,26 @@ int main(void) {
     raise_limit("no such channel", sizeof drawing_a, 0, 1, 13, 3, 2, 0);
     raise_limit("slice too short", sizeof drawing_a, 0, 1, 13, 0, 2, 1);
     raise_limit("slice too short", sizeof drawing_a, 0, 1, 13, 0, 3, 0);
+
+    // of a capture, each beside the next; a body cut short is told by its length
+    largest_after("cut short", sizeof drawing_a - 1, sizeof capture, 0, 1, 2, 2, 3, 3, 1);
+    largest_after("window out of range", sizeof drawing_a, sizeof capture, 0, 1, 2, 2, 3, 3, 1);
+    largest_after("window out of range", sizeof drawing_a, sizeof capture, 257, 1, 2, 2, 3, 3, 1);
+    largest_after("named too far", sizeof drawing_a, sizeof capture, 2, (uint64_t)1 << 32, 2, 2, 3, 3, 1);
+    largest_after("named too far", sizeof drawing_a, sizeof capture, 2, UINT64_MAX, 2, 2, 3, 3, 1);
+    largest_after("record cut short", sizeof drawing_a, sizeof capture - 1, 2, 1, 2, 2, 3, 3, 1);
+    largest_after("no such node", sizeof drawing_a, sizeof capture, 2, 1, 2, 2, 2, 3, 1);
+    largest_after("ends equal", sizeof drawing_a, sizeof capture, 2, 1, 1, 1, 2, 3, 1);
+    largest_after("slice too short", sizeof drawing_a, sizeof capture, 2, 1, 0, 1, 2, 3, 1);
+    largest_after("slice too short", sizeof drawing_a, sizeof capture, 2, 1, 0, 1, 3, 2, 1);
+    largest_after("slice too short", sizeof drawing_a, sizeof capture, 2, 1, 0, 1, 3, 3, 0);
+
+    examine("cut short", drawing_a, sizeof drawing_a - 1, 2, 2, 6, of_a, sets_a, four);
+    examine("no such node", drawing_a, sizeof drawing_a, 2, 2, 6, of_a, sets_a, four);
+    examine("ends equal", drawing_a, sizeof drawing_a, 1, 1, 600000001, of_a, sets_a, four);
+    examine("delivery out of range", drawing_a, sizeof drawing_a, 0, 1, 600000001, of_a, sets_a, too_many);
+    examine("too many", drawing_a, sizeof drawing_a, 0, 1, 6, of_a, sets_a, too_many);
+    for (int i = 0; i < 4; i++) examine("slice too short", drawing_a, sizeof drawing_a, 0, 1, 6, of_a, sets_a, too_short[i]);
 
     // a page's refusals, each beside the next: a sheet check with too many questions, too many with too little room, each slice too short
     page("cut short", drawing_a, sizeof drawing_a - 1, 65, 15, 5);

@@ -6,6 +6,7 @@
 //! --questions runs the program key on the files *.question of a folder, and compares what it prints; files *.page are pages, with their answers.
 //! The same seed and count give the same run. A drawing is made from the seed and its number alone: --from N begins with that number. --fault shows how a
 //! deliberate fault is caught (any other word lists them). It ends with 'N compared, 0 wrong' and status 0, or with the drawing and the difference and status 1.
+mod capture;
 mod chance;
 mod check;
 mod damage;
@@ -23,6 +24,7 @@ mod program;
 mod progress;
 mod unit;
 
+use capture::CaptureFault;
 use check::{compare_drawing, compare_sheet, Tally, Wrong};
 use drawing::Drawing;
 use faults::{Fault, Library};
@@ -41,13 +43,23 @@ struct Switches {
     questions: Option<String>,
     program: String,
     fault: Option<Fault>,
+    capture_fault: Option<CaptureFault>,
 }
 
 const USAGE: &str = "compare [--seed N] [--count N | --seconds N] [--from N] [--sheets FOLDER] [--questions FOLDER [--program PATH]] [--fault NAME]";
 
 fn switches() -> Result<Switches, String> {
-    let mut switches =
-        Switches { seed: 1, first: 0, count: 1000, seconds: None, sheets: None, questions: None, program: "target/bin/key".to_string(), fault: None };
+    let mut switches = Switches {
+        seed: 1,
+        first: 0,
+        count: 1000,
+        seconds: None,
+        sheets: None,
+        questions: None,
+        program: "target/bin/key".to_string(),
+        fault: None,
+        capture_fault: None,
+    };
     let words: Vec<String> = std::env::args().skip(1).collect();
     for pair in words.chunks(2) {
         let [name, value] = pair else { return Err(USAGE.to_string()) };
@@ -60,7 +72,10 @@ fn switches() -> Result<Switches, String> {
             "--questions" => switches.questions = Some(value.clone()),
             "--program" => switches.program = value.clone(),
             "--sheets" => switches.sheets = Some(value.clone()),
-            "--fault" => switches.fault = Some(fault(value)?),
+            "--fault" => match capture::FAULTS.into_iter().find(|fault| format!("{fault:?}") == *value) {
+                Some(fault) => switches.capture_fault = Some(fault),
+                None => switches.fault = Some(fault(value)?),
+            },
             _ => return Err(USAGE.to_string()),
         }
     }
@@ -103,7 +118,8 @@ fn main() -> ExitCode {
     let mut progress = Progress::new();
     while goes_on(number) {
         progress.tell(number - switches.first, tally.compared());
-        if let Err(wrong) = compare_drawing(&library, switches.seed, number, &mut tally) {
+        let compared = compare_drawing(&library, switches.seed, number, &mut tally);
+        if let Err(wrong) = compared.and_then(|()| capture::compare(switches.capture_fault, switches.seed, number, &mut tally)) {
             progress.end();
             println!("{}{} compared, 1 wrong", wrong.0, tally.compared() + 1);
             return ExitCode::FAILURE;

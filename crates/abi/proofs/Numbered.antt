@@ -12,7 +12,7 @@ use Rattle.rotations.specs.MapChecks.{mapChecks}
 use Rattle.records.specs.Record.{recordChecks}
 use Rattle.maps.specs.Drawing.{Drawing}
 use Rattle.records.specs.Check.{numberChecks, fieldChecks, edgeChecks}
-use Rattle.records.specs.Sheet.{headRecordChecks, headChecks, edgeRecordChecks, byteChecks, edgesOf}
+use Rattle.records.specs.Sheet.{headRecordChecks, headChecks, edgeRecordChecks, byteChecks, edgesOf, capacityOf}
 use Rattle.sheets.specs.Open.{sheetChecks}
 use Rattle.sheets.specs.Read.{readChecks}
 use Rattle.sheets.specs.Write.{drawingChecks, writeChecks}
@@ -29,7 +29,11 @@ use Rattle.ranges.specs.Range.{spanChecks}
 use Rattle.raising.specs.Raise.{limitChecks}
 use Rattle.raising.specs.Raise as raise
 use Rattle.analyser.specs.Range.{rangeChecks}
+use Rattle.desk.specs.Class.{classChecks, examineChecks}
 use Rattle.analyser.specs.Raise.{raiseChecks}
+use Rattle.capture.specs.Entry.{begun, entryChecks}
+use Rattle.capture.specs.Capture.{windowChecks, recordsChecks, limitsChecks, takingChecks, lastChecks, captureChecks}
+use Rattle.analyser.specs.After.{afterChecks}
 use Rattle.pages.specs.Page.{listChecks}
 use Rattle.analyser.specs.Page.{pageChecks}
 use Rattle.analyser.specs.Mark.{markChecks}
@@ -135,6 +139,28 @@ unfolding Numbered rangeChecks spanChecks endChecks roomChecks
 range-numbered s source sink low below high above =
     numbered-append (sheetChecks s) _ (sheet-numbered s) (omega arith, (omega arith, (omega arith, (omega arith, tt))))
 
+-- of a capture: 26, its records in turn, 6 and 7 in turn, then 13, 14 and 16
+entry-numbered : (edges : ℕ) (b : List ℕ) (i : ℕ) → Numbered (entryChecks edges b i)
+unfolding Numbered entryChecks
+entry-numbered edges b i = (omega arith, (omega arith, (omega arith, (omega arith, tt))))
+
+taking-numbered : (edges : ℕ) (c : ℕ → ℤ) (b : List ℕ) (w n : ℕ) → Numbered (takingChecks edges c b w n)
+unfolding Numbered takingChecks windowChecks recordsChecks limitsChecks
+taking-numbered edges c b w n = (
+  omega arith,
+  numbered-append (recordsChecks edges b) _
+      (numbered-in-turn (begun b) (entryChecks edges b) (entry-numbered edges b))
+      (numbered-in-turn edges _ (λ e. (omega arith, (omega arith, tt)))),
+)
+
+pub after-numbered : (s b : List ℕ) (w n source sink : ℕ) (limits flows : List ℤ) (set : List ℕ)
+    → Numbered (afterChecks s b w n source sink limits flows set)
+unfolding Numbered afterChecks captureChecks lastChecks endChecks
+after-numbered s b w n source sink limits flows set =
+    numbered-append (sheetChecks s) _ (sheet-numbered s)
+    (numbered-append (takingChecks (edgesOf s) (capacityOf s) b w n) _ (taking-numbered (edgesOf s) (capacityOf s) b w n)
+    (omega arith, (omega arith, (omega arith, tt))))
+
 pub raise-numbered : (s : List ℕ) (source sink : ℕ) (value : ℤ) (edge : ℕ) (flows : List ℤ) (set : List ℕ)
     → Numbered (raiseChecks s source sink value edge flows set)
 unfolding Numbered raiseChecks limitChecks endChecks valueChecks raise.edgeChecks roomChecks
@@ -163,6 +189,12 @@ settings-numbered s levels flows = numbered-append (sheetChecks s) _ (sheet-numb
 pub totals-numbered : (s set : List ℕ) (out : List ℤ) → Numbered (totalsChecks s set out)
 unfolding Numbered totalsChecks totalChecks
 totals-numbered s set out = numbered-append (sheetChecks s) _ (sheet-numbered s) (omega arith, tt)
+
+pub examine-numbered : (s : List ℕ) (source sink : ℕ) (value : ℤ) (n kinds settings sets points : ℕ)
+    → Numbered (examineChecks s source sink value n kinds settings sets points)
+unfolding Numbered examineChecks classChecks endChecks valueChecks
+examine-numbered s source sink value n kinds settings sets points =
+    numbered-append (sheetChecks s) _ (sheet-numbered s) (omega arith, (omega arith, (omega arith, (omega arith, (omega arith, tt)))))
 
 pub key-numbered : (text : List ℕ) → Numbered (keyRoomChecks text)
 unfolding Numbered

@@ -4,6 +4,7 @@ use mathlib.Core.Path.{_≡_}
 use mathlib.Core.Logic.{_≢_}
 use mathlib.Core.List.{List}
 use native.Mathlib.Omega.{arith}
+use lib.ListN.{length}
 use lib.IntN.{ℤ}
 use Rattle.refusals.specs.Order.{Check, NoneOf, FirstOf}
 use Rattle.refusals.specs.declared.Verdict.{Verdict}
@@ -21,6 +22,9 @@ use Rattle.analyser.specs.Solve.{solveChecks}
 use Rattle.analyser.specs.Largest.{largestChecks}
 use Rattle.analyser.specs.Range.{rangeChecks}
 use Rattle.analyser.specs.Raise.{raiseChecks}
+use Rattle.analyser.specs.After.{afterChecks}
+use Rattle.desk.specs.Class.{examineChecks}
+use Rattle.desk.specs.declared.Class.the-variants as class
 use Rattle.analyser.specs.Page.{pageChecks, solvesAlone}
 use Rattle.analyser.specs.Mark.{markChecks}
 use Rattle.analyser.specs.LevelsOf.{levelsChecks}
@@ -45,10 +49,12 @@ use Rattle.abi.specs.Solve.{TellsSolve}
 use Rattle.abi.specs.Largest.{TellsLargest}
 use Rattle.abi.specs.Range.{TellsRange}
 use Rattle.abi.specs.Raise.{TellsRaise}
+use Rattle.abi.specs.After.{TellsAfter}
 use Rattle.abi.specs.Page.{PageTold, TellsPage}
 use Rattle.abi.specs.Mark.{TellsMark}
 use Rattle.abi.specs.Levels.{TellsLevels, TellsSettings}
 use Rattle.abi.specs.Totals.{TellsTotals}
+use Rattle.abi.specs.Examine.{TellsExamine}
 use Rattle.abi.specs.Key.{TellsKey}
 use Rattle.abi.specs.Practice.{TellsPractice}
 use Rattle.abi.specs.Dimacs.{TellsDimacs}
@@ -59,6 +65,7 @@ use Rattle.abi.proofs.Numbered.{
   write-numbered,
   solve-numbered,
   largest-numbered,
+  after-numbered,
   range-numbered,
   raise-numbered,
   page-numbered,
@@ -66,6 +73,7 @@ use Rattle.abi.proofs.Numbered.{
   levels-numbered,
   settings-numbered,
   totals-numbered,
+  examine-numbered,
   key-numbered,
   practice-numbered,
   dimacs-numbered,
@@ -147,6 +155,26 @@ module _ {place place' result : ℕ} where
     raise-says (raise.Limit v, h, t) = says-answer (h .0) (t .0) (t .3)
     raise-says (raise.None, h, t) = says-answer (h .0) (t .0) (t .3)
     raise-says (raise.Refused k p, h, t) = says-refusal k p (raise-numbered s _ _ _ _ _ _) (h .0) (t .0) (t .3) (h .1, h .2, t .1, t .2)
+
+    pub after-says : (b : List ℕ) (w n : ℕ) {source sink : ℕ} {limits limits' flows flows' : List ℤ} {set set' : List ℕ} {found found' : ℕ} {value value' : ℤ}
+        → TellsAfter s b w n source sink limits limits' flows flows' set set' found found' value value' place place' result
+        → Says (afterChecks s b w n source sink limits flows set) result place place'
+        ((limits' ≡ limits) × (flows' ≡ flows) × (set' ≡ set) × (found' ≡ found) × (value' ≡ value))
+    after-says b w n (largest.Value v, h, t) = says-answer (h .1 .0) (t .0) (t .3)
+    after-says b w n (largest.None, h, t) = says-answer (h .1 .0) (t .0) (t .3)
+    after-says b w n (largest.Refused k p, h, t) =
+        says-refusal k p (after-numbered s b w n _ _ _ _ _) (h .1 .0) (t .0) (t .3) (h .0, h .1 .1, h .1 .2, t .1, t .2)
+
+    pub examine-says : {source sink : ℕ} {value : ℤ} {claims : List ℤ} {kinds : List ℕ} {settings : List ℤ} {sets points points' : List ℕ}
+        {number number' sum sum' least least' greatest greatest' : ℕ}
+        → TellsExamine s source sink value claims kinds settings sets points points' number number' sum sum' least least' greatest greatest' place place' result
+        → Says (examineChecks s source sink value (length claims) (length kinds) (length settings) (length sets) (length points)) result place place'
+        ((points' ≡ points) × (number' ≡ number) × (sum' ≡ sum) × (least' ≡ least) × (greatest' ≡ greatest))
+    examine-says (class.Empty, h, t) = says-answer (h .0) (t .result-told) (t .place-told)
+    examine-says (class.Marked n m l g, h, t) = says-answer (h .0) (t .result-told) (t .place-told)
+    examine-says (class.Refused k p, h, t) =
+        says-refusal k p (examine-numbered s _ _ _ _ _ _ _ _) (h .0) (t .result-told) (t .place-told)
+        (h .1, t .number-told, t .sum-told, t .least-told, t .greatest-told)
 
     pub page-says : (count : ℕ) (sources sinks : List ℕ) (values : List ℤ) {flows flows' : List ℤ} {sets sets' answers answers' sizes sizes' : List ℕ}
         → TellsPage s count sources sinks values flows flows' sets sets' answers answers' sizes sizes' place place' result

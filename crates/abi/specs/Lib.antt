@@ -4,7 +4,9 @@ pub mod Solve
 pub mod Largest
 pub mod Range
 pub mod Totals
+pub mod Examine
 pub mod Raise
+pub mod After
 pub mod Page
 pub mod Mark
 pub mod Levels

@@ -6,13 +6,16 @@ ghost use Rattle.abi.specs.Solve.{TellsSolve};
 ghost use Rattle.abi.specs.Largest.{TellsLargest};
 ghost use Rattle.abi.specs.Range.{TellsRange};
 ghost use Rattle.abi.specs.Raise.{TellsRaise};
+ghost use Rattle.abi.specs.After.{TellsAfter};
 ghost use Rattle.abi.specs.Page.{TellsPage};
 ghost use Rattle.abi.specs.Mark.{TellsMark};
 ghost use Rattle.abi.specs.Levels.{TellsLevels, TellsSettings};
 ghost use Rattle.abi.specs.Totals.{TellsTotals};
+ghost use Rattle.abi.specs.Examine.{TellsExamine};
 ghost use Rattle.abi.specs.Key.{TellsKey};
 ghost use Rattle.abi.specs.Practice.{TellsPractice};
 ghost use Rattle.abi.specs.Dimacs.{TellsDimacs};
+use desk::Class;
 use dimacs::DimacsAnswer;
 use key_text::KeyAnswer;
 use levels::LevelAnswer;
@@ -228,6 +231,55 @@ pub extern "C" fn analyser_raise_limit(
     }
 }
 
+// Limits from a capture. The limits after the named record are written, and Largest on them: there is a value: found is 1, value is the largest, and its flows
+// are written. None: found is 0. The limits and the set are written in both cases.
+#[no_mangle]
+pub extern "C" fn analyser_largest_after(
+    sheet: &[u8],
+    capture: &[u8],
+    window: u16,
+    named: u64,
+    source: u16,
+    sink: u16,
+    limits: &mut [i32],
+    flows: &mut [i32],
+    set: &mut [u64],
+    found: &mut u8,
+    value: &mut i32,
+    place: &mut u16,
+) -> u8
+    ensures { λ r. ⌜ TellsAfter (now (sheet .entry)) (now (capture .entry)) window named source sink
+        (now (limits .entry)) (now (limits .exit)) (now (flows .entry)) (now (flows .exit)) (now (set .entry)) (now (set .exit))
+        (now (found .entry)) (now (found .exit)) (now (value .entry)) (now (value .exit)) (now (place .entry)) (now (place .exit)) r ⌝ }
+{
+    let answer = analyser::largest_after(
+        sheet,
+        capture,
+        window,
+        named,
+        source,
+        sink,
+        limits,
+        flows,
+        set,
+    );
+    match answer {
+        LargestAnswer::Value(v) => {
+            *found = 1;
+            *value = v;
+            0
+        }
+        LargestAnswer::None => {
+            *found = 0;
+            0
+        }
+        LargestAnswer::Refused(k, p) => {
+            *place = p;
+            k
+        }
+    }
+}
+
 // A page: question i is sources[i], sinks[i], values[i], its flows are written from i times the edges on, its set from i times the words on. Of question i
 // answers[i] is 1 if it can, 0 if it cannot, else the number of its refusal, 13 to 15, and sizes[i] the number of nodes in its set, or 0. The arrays have 64
 // places, of which the first `count` count.
@@ -423,6 +475,59 @@ pub extern "C" fn analyser_write_dimacs(
             0
         }
         DimacsAnswer::Refused(k, p) => {
+            *place = p;
+            k
+        }
+    }
+}
+
+// The exam desk. The points of each paper, paper q at place q, and the class's figures; an empty class has no least and no greatest.
+#[no_mangle]
+pub extern "C" fn analyser_examine(
+    sheet: &[u8],
+    source: u16,
+    sink: u16,
+    value: i32,
+    claims: &[i32],
+    kinds: &[u8],
+    settings: &[i32],
+    sets: &[u64],
+    points: &mut [u8],
+    number: &mut u16,
+    sum: &mut u16,
+    least: &mut u8,
+    greatest: &mut u8,
+    place: &mut u16,
+) -> u8
+    ensures { λ r. ⌜ TellsExamine (now (sheet .entry)) source sink value (now (claims .entry)) (now (kinds .entry)) (now (settings .entry))
+        (now (sets .entry)) (now (points .entry)) (now (points .exit)) (now (number .entry)) (now (number .exit)) (now (sum .entry)) (now (sum .exit))
+        (now (least .entry)) (now (least .exit)) (now (greatest .entry)) (now (greatest .exit)) (now (place .entry)) (now (place .exit)) r ⌝ }
+{
+    let class = desk::examine(
+        sheet,
+        source,
+        sink,
+        value,
+        claims,
+        kinds,
+        settings,
+        sets,
+        points,
+    );
+    match class {
+        Class::Empty => {
+            *number = 0;
+            *sum = 0;
+            0
+        }
+        Class::Marked(n, s, l, g) => {
+            *number = n;
+            *sum = s;
+            *least = l;
+            *greatest = g;
+            0
+        }
+        Class::Refused(k, p) => {
             *place = p;
             k
         }

@@ -4,25 +4,20 @@
 -- `FindsLargest`, and from nothing else; a sheet that is accepted is flat, because 12 is among its checks. Settings are any function from
 -- edges to whole numbers, deliveries any whole number: no bound is assumed of them.
 use mathlib.Core.Path.{_≡_, refl, sym, subst}
-use mathlib.Core.Logic.{_≢_, _⊎_, inl, inr}
+use mathlib.Core.Logic.{_≢_}
 use mathlib.Core.List.{List}
 use Prim.Native.Nat.{ℕ, _<_}
-use native.Mathlib.Omega.{arith}
 use lib.IntN.{ℤ, pos, _+ℤ_}
 use lib.Signed.{_≤ℤ_}
 use Rattle.integers.specs.inner.Limited.{Limited}
-use Rattle.integers.proofs.Omega.{atoms₁, atoms₃, parts, at-most, from-at-most, from-less}
 use Rattle.refusals.specs.Order.{NoneOf}
 use Rattle.refusals.proofs.Order.{first-none}
 use Rattle.flows.specs.Settings.{Carries}
 use Rattle.flows.specs.Highest.{Highest}
 use Rattle.flows.specs.ProvingSet.{Proves, member, size}
 use Rattle.flows.proofs.Agreement.{highest-agrees}
-use Rattle.flows.proofs.Interval.{which, source-limits, source-short, sink-proves-less, beside-proves, beside-proves-all}
-use Rattle.flows.specs.inner.Sides.{AtSource, AtSink, Beside}
 use Rattle.flows.proofs.ValueBound.{value-small}
-use Rattle.maps.specs.Cut.{cut}
-use Rattle.records.specs.Sheet.{nodesOf, edgesOf, capacityOf, outerOf, sheetMap}
+use Rattle.records.specs.Sheet.{nodesOf, edgesOf, capacityOf, outerOf, sheetMap, sheetDrawing}
 use Rattle.arrays.specs.At.{atℤ}
 use Rattle.questions.specs.Question.{SetWritten}
 use Rattle.analyser.specs.Solve.{solveChecks, Solves}
@@ -39,6 +34,7 @@ use Rattle.arrays.proofs.FillLoops.{filled-front}
 use Rattle.sheets.proofs.Accepted.{sheet-counts}
 use Rattle.analyser.proofs.Accepted.{accepted, Sought, sought}
 use Rattle.analyser.proofs.Asked.{excludes, one-highest}
+use Rattle.analyser.proofs.OnDrawing as on
 
 -- a proving set excludes every settings, whoever gives it
 pub set-excludes : (s : List ℕ) (source sink : ℕ) (value : ℤ) (flows : List ℤ) (set : List ℕ) → NoneOf (solveChecks s source sink value flows set)
@@ -98,7 +94,7 @@ module _ (s : List ℕ) (source sink : ℕ) (value : ℤ) (flows flows' : List �
         by (Cannot n) h none = (n, refl)
         by (Refused k p) h none = absurd (never-refused k p h)
 
--- ── Largest ──
+-- ── Largest, by what holds on any plane drawing ──
 module _ (s : List ℕ) (source sink : ℕ) (flows flows' : List ℤ) (set set' : List ℕ) (asked : NoneOf (largestChecks s source sink flows set)) where
   known : Sought s source sink flows set
   known = sought s source sink flows set asked
@@ -116,8 +112,8 @@ module _ (s : List ℕ) (source sink : ℕ) (flows flows' : List ℤ) (set set' 
   module _ (v : ℤ) (h : FindsLargest s source sink flows flows' set set' (Value v)) where
     pub largest-highest : Highest (sheetMap s) (outerOf s) (capacityOf s) source sink v (atℤ flows')
     largest-highest =
-        let x = h .1 .0 in
-        highest-agrees (sheetMap s) x (atℤ flows') (λ i l. sym (filled-front (pos 0) (edgesOf s) x flows flows' (h .1 .2) i l)) (h .1 .1)
+        on.largest-highest (sheetDrawing s) (plane s (known .sheet)) source sink (known .ends-two)
+        (largestChecks s source sink flows set) flows flows' set set' v h
 
     pub largest-carries : Delivers s source sink v (atℤ flows')
     largest-carries = largest-highest .carries
@@ -129,31 +125,11 @@ module _ (s : List ℕ) (source sink : ℕ) (flows flows' : List ℤ) (set set' 
     pub next-impossible : (words : List ℕ) × SetWritten (nodesOf s) words set set' × Proves (sheetMap s) (capacityOf s) source sink (v +ℤ pos 1) (member words)
     next-impossible = h .2
 
-    -- ── nothing greater can be delivered: the set holds the source only, since it would exclude v as well if it held the sink only, or both or neither ──
+    -- ── nothing greater can be delivered ──
     pub nothing-greater : (w : ℤ) (x : ℕ → ℤ) → Delivers s source sink w x → w ≤ℤ v
-    nothing-greater w x d = go (which source sink (member (h .2 .0)))
-      where
-        proves : Proves (sheetMap s) (capacityOf s) source sink (v +ℤ pos 1) (member (h .2 .0))
-        proves = h .2 .2
-
-        go : AtSource source sink (member (h .2 .0)) ⊎ (AtSink source sink (member (h .2 .0)) ⊎ Beside source sink (member (h .2 .0))) → w ≤ℤ v
-        go (inl side) =
-            let k = atoms₃ w v (cut (sheetMap s) (capacityOf s) (member (h .2 .0))) in
-            at-most (search parts) (omega (
-              arith,
-              from-at-most (source-limits (plane s (known .sheet) .sound .range) (ends .0) (ends .1) apart (capacityOf s) (member (h .2 .0)) side w x d)
-                  (search parts),
-              from-less (source-short (sheetMap s) (capacityOf s) source sink (member (h .2 .0)) side (v +ℤ pos 1) proves) (search parts),
-            ))
-        go (inr (inl side)) =
-            absurd (excludes s (known .sheet) source sink (known .ends-two) v (member (h .2 .0))
-            (sink-proves-less (sheetMap s) (capacityOf s) source sink (member (h .2 .0)) side (v +ℤ pos 1) v below proves) (atℤ flows') largest-carries)
-          where
-            below : v ≤ℤ (v +ℤ pos 1)
-            below = let k = atoms₁ v in at-most (search parts) (omega arith)
-        go (inr (inr side)) =
-            absurd (excludes s (known .sheet) source sink (known .ends-two) v (member (h .2 .0))
-            (beside-proves-all (sheetMap s) (capacityOf s) source sink (member (h .2 .0)) side (v +ℤ pos 1) proves v) (atℤ flows') largest-carries)
+    nothing-greater =
+        on.nothing-greater (sheetDrawing s) (plane s (known .sheet)) source sink (known .ends-two)
+        (largestChecks s source sink flows set) flows flows' set set' v h
 
     -- it lies within ±512,000,000
     pub largest-small : Limited 512000000 v
@@ -164,30 +140,25 @@ module _ (s : List ℕ) (source sink : ℕ) (flows flows' : List ℤ) (set set' 
   -- ── "none": the set given proves each delivery impossible, of every whole number ──
   module _ (h : FindsLargest s source sink flows flows' set set' None) where
     pub none-proves : (value : ℤ) → Proves (sheetMap s) (capacityOf s) source sink value (member (h .2 .0))
-    none-proves = beside-proves (sheetMap s) (capacityOf s) source sink (member (h .2 .0)) (h .2 .2 .0) (h .2 .2 .1)
+    none-proves =
+        on.none-proves (sheetDrawing s) (plane s (known .sheet)) source sink (known .ends-two) (largestChecks s source sink flows set) flows flows' set set' h
 
     pub none-delivered : (value : ℤ) (x : ℕ → ℤ) → Delivers s source sink value x → ⊥
-    none-delivered value = excludes s (known .sheet) source sink (known .ends-two) value (member (h .2 .0)) (none-proves value)
+    none-delivered =
+        on.none-delivered (sheetDrawing s) (plane s (known .sheet)) source sink (known .ends-two)
+        (largestChecks s source sink flows set) flows flows' set set' h
 
   -- ── exactly when ──
   module _ (answer : LargestAnswer) (found : FindsLargest s source sink flows flows' set set' answer) where
     pub none-exactly : (answer ≡ None → (value : ℤ) (x : ℕ → ℤ) → Delivers s source sink value x → ⊥)
         × (((value : ℤ) (x : ℕ → ℤ) → Delivers s source sink value x → ⊥) → answer ≡ None)
-    none-exactly = ((λ q. none-delivered (subst (FindsLargest s source sink flows flows' set set') q found)), (λ nothing. by answer found nothing))
-      where
-        by : (r : LargestAnswer) → FindsLargest s source sink flows flows' set set' r
-            → ((value : ℤ) (x : ℕ → ℤ) → Delivers s source sink value x → ⊥) → r ≡ None
-        by (Value v) h nothing = absurd (nothing v (atℤ flows') (largest-carries v h))
-        by None h nothing = refl
-        by (largest.Refused k p) h nothing = absurd (largest-answered k p h)
+    none-exactly =
+        on.none-exactly (sheetDrawing s) (plane s (known .sheet)) source sink (known .ends-two) (largestChecks s source sink flows set) flows flows' set set'
+        asked answer found
 
     -- a value is given exactly when something can be delivered
     pub value-exactly : ((v : ℤ) → answer ≡ Value v → Delivers s source sink v (atℤ flows'))
         × ((value : ℤ) (x : ℕ → ℤ) → Delivers s source sink value x → (v : ℤ) × (answer ≡ Value v))
-    value-exactly = ((λ v q. largest-carries v (subst (FindsLargest s source sink flows flows' set set') q found)), (λ value x d. by answer found value x d))
-      where
-        by : (r : LargestAnswer) → FindsLargest s source sink flows flows' set set' r
-            → (value : ℤ) (x : ℕ → ℤ) → Delivers s source sink value x → (v : ℤ) × (r ≡ Value v)
-        by (Value v) h value x d = (v, refl)
-        by None h value x d = absurd (none-delivered h value x d)
-        by (largest.Refused k p) h value x d = absurd (largest-answered k p h)
+    value-exactly =
+        on.value-exactly (sheetDrawing s) (plane s (known .sheet)) source sink (known .ends-two) (largestChecks s source sink flows set) flows flows' set set'
+        asked answer found

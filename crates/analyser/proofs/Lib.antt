@@ -4,6 +4,7 @@ pub mod Opened
 pub mod Accepted
 pub mod ThereAndBack
 pub mod Asked
+pub mod OnDrawing
 pub mod Demand3
 pub mod Range
 pub mod Raise
@@ -14,3 +15,4 @@ pub mod Statements
 pub mod Districts
 pub mod ByNode
 pub mod Drops
+pub mod Captured

@@ -38,6 +38,8 @@ use Rattle.totals.proofs.Giving.{total-after}
 use Rattle.raising.specs.Raise.{limitChecks, RaiseFound}
 use Rattle.raising.specs.declared.RaiseAnswer.{RaiseAnswer}
 use Rattle.raising.proofs.After.{raise-after}
+use Rattle.capture.specs.Capture.{captureChecks, FoundAfter}
+use Rattle.capture.proofs.Finding.{after-after}
 use Rattle.flows.specs.ProvingSet.{wordsFor}
 use Rattle.pages.specs.Page.{listChecks, Paged}
 use Rattle.pages.specs.inner.Listed.{solvedAlone}
@@ -55,6 +57,7 @@ use Rattle.analyser.specs.Solve.{solveChecks, Solves}
 use Rattle.analyser.specs.Largest.{largestChecks, FindsLargest}
 use Rattle.analyser.specs.Range.{rangeChecks, FindsRange}
 use Rattle.analyser.specs.Raise.{raiseChecks, RaisesLimit}
+use Rattle.analyser.specs.After.{afterChecks, FindsAfter}
 use Rattle.analyser.specs.Page.{pageChecks, solvesAlone, AnswersPage}
 use Rattle.analyser.specs.Mark.{markChecks, Marks}
 use Rattle.analyser.specs.LevelsOf.{levelsChecks, GivesLevels}
@@ -81,6 +84,10 @@ module _ (s : List ℕ) (k p : ℕ) (first : FirstOf (sheetChecks s) k p) where
   pub raise-refused : (source sink : ℕ) (value : ℤ) (edge : ℕ) (flows : List ℤ) (set : List ℕ) → FirstOf (raiseChecks s source sink value edge flows set) k p
   unfolding raiseChecks
   raise-refused source sink value edge flows set = first-left (sheetChecks s) _ k p first
+
+  pub after-refused : (b : List ℕ) (w n source sink : ℕ) (limits flows : List ℤ) (set : List ℕ) → FirstOf (afterChecks s b w n source sink limits flows set) k p
+  unfolding afterChecks
+  after-refused b w n source sink limits flows set = first-left (sheetChecks s) _ k p first
 
   pub page-refused : (n : ℕ) (flows : List ℤ) (sets : List ℕ) → FirstOf (pageChecks s n flows sets) k p
   unfolding pageChecks
@@ -185,6 +192,16 @@ module _ (s : List ℕ) (o : Opened) (lefts tails rotations : List ℕ) (capacit
       (subst (λ 𝓓. RaiseFound 𝓓 (limitChecks (𝓓 .map .nodes) (𝓓 .map .edges) source sink value edge flows set)
       source sink value edge flows flows' set set' r) same
       (subst (λ w. RaiseFound held (limitChecks (o .nodes) (o .edges) source sink w edge flows set) source sink w edge flows flows' set set' r) e h))
+
+  pub after-sheet : (b : List ℕ) (w n source sink : ℕ) (limits limits' flows flows' : List ℤ) (set set' : List ℕ) (r : LargestAnswer)
+      → FoundAfter (drawingOf (o .nodes) (o .edges) (o .outer) tails rotations capacities)
+      (captureChecks (drawingOf (o .nodes) (o .edges) (o .outer) tails rotations capacities) b w n source sink limits flows set)
+      b w n source sink limits limits' flows flows' set set' r
+      → FindsAfter s b w n source sink limits limits' flows flows' set set' r
+  unfolding afterChecks
+  after-sheet b w n source sink limits limits' flows flows' set set' r h =
+      after-after (sheetChecks s) (open' .0) (sheetDrawing s) _ b w n source sink limits limits' flows flows' set set' r
+      (subst (λ 𝓓. FoundAfter 𝓓 (captureChecks 𝓓 b w n source sink limits flows set) b w n source sink limits limits' flows flows' set set' r) same h)
 
   pub page-sheet : (n : ℕ) (question : ℕ → Question) (flows flows' : List ℤ) (sets sets' : List ℕ) (r : Page)
       → Paged (listChecks (o .nodes) (o .edges) n flows sets) (o .edges) (wordsFor (o .nodes)) n

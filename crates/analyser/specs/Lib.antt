@@ -6,6 +6,7 @@ pub mod Largest
 pub mod Range
 pub mod Totals
 pub mod Raise
+pub mod After
 pub mod Dimacs
 pub mod Page
 pub mod Statements

@@ -1,9 +1,10 @@
--- What the course book prints of the operations on sheets (document 01, demands 2 and 3; document 02, Jobs 1, 2, 4 and 6 to 9), as records: a field for each
+-- What the course book prints of the operations on sheets (document 01, demands 2 and 3; document 02, Jobs 1, 2, 4 and 6 to 10), as records: a field for each
 -- statement, with the printed words above it. Each is about every run of an operation: all that a field knows of a run is its contract, `Solves`,
--- `FindsLargest`, `FindsRange`, `RaisesLimit`, `AnswersPage`, `Marks`, `GivesLevels`, `GivesSettings`, `GivesTotals` or `WritesDimacs`. A sheet or a question
+-- `FindsLargest`, `FindsRange`, `RaisesLimit`, `FindsAfter`, `AnswersPage`, `Marks`, `GivesLevels`, `GivesSettings`, `GivesTotals` or `WritesDimacs`. A sheet
+-- or a question
 -- is accepted where no check of its list holds; an accepted sheet is flat, because 12 is among its checks, in one part or several. Settings are any function
--- from edges to whole numbers, deliveries any whole number. The proofs are in proofs/Statements.antt, Range.antt, Raise.antt, ByThePage.antt, Districts.antt,
--- ByNode.antt and Dimacs.antt.
+-- from edges to whole numbers, deliveries any whole number. The proofs are in proofs/Statements.antt, Range.antt, Raise.antt, Captured.antt, ByThePage.antt,
+-- Districts.antt, ByNode.antt and Dimacs.antt.
 use Prim.Native.Nat.{ℕ, _+_, _*_, _≤_, _<_}
 use mathlib.Core.Path.{_≡_}
 use mathlib.Core.Logic.{_⊎_, _↔_}
@@ -43,6 +44,8 @@ use Rattle.totals.specs.declared.TotalsAnswer.the-variants.{Total}
 use Rattle.raising.specs.Raised.{raised}
 use Rattle.raising.specs.declared.RaiseAnswer.{RaiseAnswer}
 use Rattle.raising.specs.declared.RaiseAnswer.the-variants as raise
+use Rattle.capture.specs.Entry.{channelOf, limitOf}
+use Rattle.capture.specs.Window.{forwardOf, found}
 use Rattle.pages.specs.Stretch.{stretch}
 use Rattle.pages.specs.Page.{answerAt}
 use Rattle.pages.specs.declared.Question.{Question}
@@ -57,6 +60,7 @@ use Rattle.analyser.specs.Solve.{solveChecks, Solves}
 use Rattle.analyser.specs.Largest.{largestChecks, FindsLargest}
 use Rattle.analyser.specs.Range.{rangeChecks, FindsRange}
 use Rattle.analyser.specs.Raise.{raiseChecks, RaisesLimit}
+use Rattle.analyser.specs.After.{afterChecks, FindsAfter}
 use Rattle.analyser.specs.Page.{AnswersPage}
 use Rattle.analyser.specs.Mark.{Marks}
 use Rattle.analyser.specs.LevelsOf.{GivesLevels}
@@ -315,6 +319,65 @@ pub record RaisedLimit : Type 0 where
       → RaisesLimit s source sink value edge flows flows' set set' raise.None
       → (words : List ℕ) × SetWritten (nodesOf s) words set set'
       × Proves (sheetMap s) (raised (capacityOf s) edge (pos 1000000)) source sink value (member words)
+
+-- ── Document 02, Job 10: "After each record, a channel seen in the last W records has the least forward limit among them; an unseen one has the sheet's. ..
+-- Give these forward limits after a named record, one per channel in a slice of their own .., and Largest on them; the limits are written where Largest is none
+-- as well." Of every run of `largest_after` on a sheet s and a capture b, with the window w and the named record n, known by its contract `FindsAfter` alone.
+-- ──
+-- record i is one of the last w up to record n
+abbrev pub InWindow : (w n i : ℕ) → Type 0
+InWindow w n i = (i ≤ n) × (n < i + w)
+
+-- the settings x carry the delivery within the limits found: the forward ones of the capture, the sheet's back limits
+abbrev pub DeliversAfter : List ℕ → List ℕ → (w n source sink : ℕ) → ℤ → (ℕ → ℤ) → Type 0
+DeliversAfter s b w n source sink value x = Carries (sheetMap s) (found (capacityOf s) b w n) source sink value x
+
+abbrev pub PossibleAfter : List ℕ → List ℕ → (w n source sink : ℕ) → ℤ → Type 0
+PossibleAfter s b w n source sink value = (x : ℕ → ℤ) × DeliversAfter s b w n source sink value x
+
+pub record LimitsOfCapture : Type 0 where
+  -- "a channel seen in the last W records has the least forward limit among them": that of some record of the channel in the window, and none there has less;
+  -- "an unseen one has the sheet's"
+  pub window-least : (s b : List ℕ) (w n e : ℕ)
+      → ((i : ℕ) × InWindow w n i × (channelOf b i ≡ e) × (forwardOf (capacityOf s) b w n e ≡ limitOf b i)
+      × ((j : ℕ) → InWindow w n j → channelOf b j ≡ e → forwardOf (capacityOf s) b w n e ≤ℤ limitOf b j))
+      ⊎ (((i : ℕ) → InWindow w n i → channelOf b i ≡ e → ⊥) × (forwardOf (capacityOf s) b w n e ≡ capacityOf s (2 * e)))
+  -- they stand on the forward darts, the sheet's back limits on the others
+  pub found-forward : (s b : List ℕ) (w n e : ℕ) → found (capacityOf s) b w n (2 * e) ≡ forwardOf (capacityOf s) b w n e
+  pub found-backward : (s b : List ℕ) (w n e : ℕ) → found (capacityOf s) b w n (2 * e + 1) ≡ capacityOf s (2 * e + 1)
+  -- "one per channel in a slice of their own", for a value ..
+  pub limits-given : (s b : List ℕ) (w n source sink : ℕ) (limits limits' flows flows' : List ℤ) (set set' : List ℕ) (v : ℤ)
+      → FindsAfter s b w n source sink limits limits' flows flows' set set' (largest.Value v)
+      → (e : ℕ) → e < edgesOf s → atℤ limits' e ≡ forwardOf (capacityOf s) b w n e
+  -- .. and "the limits are written where Largest is none as well"
+  pub limits-given-none : (s b : List ℕ) (w n source sink : ℕ) (limits limits' flows flows' : List ℤ) (set set' : List ℕ)
+      → FindsAfter s b w n source sink limits limits' flows flows' set set' largest.None
+      → (e : ℕ) → e < edgesOf s → atℤ limits' e ≡ forwardOf (capacityOf s) b w n e
+  -- demand 3 for the limits found: "the largest delivery is carried by the settings given"
+  pub largest-carries : (s b : List ℕ) (w n source sink : ℕ) (limits limits' flows flows' : List ℤ) (set set' : List ℕ) (v : ℤ)
+      → FindsAfter s b w n source sink limits limits' flows flows' set set' (largest.Value v) → DeliversAfter s b w n source sink v (atℤ flows')
+  -- "nothing greater can be"
+  pub nothing-greater : (s b : List ℕ) (w n source sink : ℕ) (limits limits' flows flows' : List ℤ) (set set' : List ℕ) (v : ℤ)
+      → FindsAfter s b w n source sink limits limits' flows flows' set set' (largest.Value v)
+      → (value : ℤ) → PossibleAfter s b w n source sink value → value ≤ℤ v
+  -- "and its set proves the next one impossible"
+  pub next-impossible : (s b : List ℕ) (w n source sink : ℕ) (limits limits' flows flows' : List ℤ) (set set' : List ℕ) (v : ℤ)
+      → FindsAfter s b w n source sink limits limits' flows flows' set set' (largest.Value v)
+      → (words : List ℕ) × SetWritten (nodesOf s) words set set'
+      × Proves (sheetMap s) (found (capacityOf s) b w n) source sink (v +ℤ pos 1) (member words)
+  -- what proving is worth: no settings carry what a set proves impossible
+  pub set-excludes : (s b : List ℕ) (w n source sink : ℕ) (limits flows : List ℤ) (set : List ℕ)
+      → NoneOf (afterChecks s b w n source sink limits flows set)
+      → (value : ℤ) (S : ℕ → Bool) → Proves (sheetMap s) (found (capacityOf s) b w n) source sink value S → PossibleAfter s b w n source sink value → ⊥
+  -- ""none" exactly when nothing at all can be delivered"
+  pub none-exactly : (s b : List ℕ) (w n source sink : ℕ) (limits limits' flows flows' : List ℤ) (set set' : List ℕ) (answer : LargestAnswer)
+      → NoneOf (afterChecks s b w n source sink limits flows set) → FindsAfter s b w n source sink limits limits' flows flows' set set' answer
+      → (answer ≡ largest.None) ↔ ((value : ℤ) → PossibleAfter s b w n source sink value → ⊥)
+  -- "with a set that proves it": one set, for every delivery
+  pub none-proves : (s b : List ℕ) (w n source sink : ℕ) (limits limits' flows flows' : List ℤ) (set set' : List ℕ)
+      → FindsAfter s b w n source sink limits limits' flows flows' set set' largest.None
+      → (words : List ℕ) × SetWritten (nodesOf s) words set set'
+      × ((value : ℤ) → Proves (sheetMap s) (found (capacityOf s) b w n) source sink value (member words))
 
 -- ── Document 02, Job 2: "For every drawing written, the greatest flow of the text by the DIMACS definition is what Largest reports." Of every run of
 -- `write_dimacs` that gave a number of bytes, known by its contract `WritesDimacs` alone. What the bytes mean is `problemOf`, which knows no drawing. ──

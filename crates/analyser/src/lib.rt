@@ -1,12 +1,13 @@
 // The analyser's operations on sheets. Document 01, "Operations": Solve, Largest, Mark, Levels from settings, Settings from levels. Document 02: the least
-// delivery beside the largest (Job 4), what a forward limit must be raised to (Job 7), totals by node (Job 9), DIMACS text (Job 2), questions by the page
-// (Job 1). Each fills the arrays of a drawing once, in its own frame, from the sheet, and lends them to the operation on drawings; those that decide are lent
-// the walk over the darts and their groups too, which opening makes.
+// delivery beside the largest (Job 4), what a forward limit must be raised to (Job 7), totals by node (Job 9), limits from a capture (Job 10), DIMACS text (Job
+// 2), questions by the page (Job 1). Each fills the arrays of a drawing once, in its own frame, from the sheet, and lends them to the operation on drawings;
+// those that decide are lent the walk over the darts and their groups too, which opening makes.
 ghost use lib.ListN.{length};
 ghost use Rattle.analyser.specs.Solve.{Solves};
 ghost use Rattle.analyser.specs.Largest.{FindsLargest};
 ghost use Rattle.analyser.specs.Range.{FindsRange};
 ghost use Rattle.analyser.specs.Raise.{RaisesLimit};
+ghost use Rattle.analyser.specs.After.{FindsAfter};
 ghost use Rattle.analyser.specs.Page.{AnswersPage};
 ghost use Rattle.pages.specs.Question.{questionAt};
 ghost use Rattle.analyser.specs.Mark.{Marks};
@@ -268,6 +269,73 @@ pub fn raise_limit(
         sink,
         value,
         edge,
+        flows,
+        set,
+    )
+}
+
+// Limits from a capture: the forward limits after a named record, the least of the window's records for each edge and the sheet's where there is none, in a
+// slice of their own; and Largest on them. The capture is read where it stands. The limits are written where nothing can be carried as well.
+pub fn largest_after(
+    sheet: &[u8],
+    capture: &[u8],
+    window: u16,
+    named: u64,
+    source: u16,
+    sink: u16,
+    limits: &mut [i32],
+    flows: &mut [i32],
+    set: &mut [u64],
+) -> LargestAnswer
+    ensures { λ r. ⌜ FindsAfter (now (sheet .entry)) (now (capture .entry)) window named source sink
+        (now (limits .entry)) (now (limits .exit)) (now (flows .entry)) (now (flows .exit)) (now (set .entry)) (now (set .exit)) r ⌝ }
+{
+    let mut tails = [0u16; 1024];
+    let mut rotations = [0u16; 1024];
+    let mut lefts = [0u16; 1024];
+    let mut order = [0u16; 1024];
+    let mut from = [0u16; 1024];
+    let mut grouped = [0u16; 1024];
+    let mut starts = [0u16; 1024];
+    let mut ends = [0u16; 1024];
+    let opened = sheets::open_walked(
+        sheet,
+        &mut tails,
+        &mut rotations,
+        &mut lefts,
+        &mut order,
+        &mut from,
+        &mut grouped,
+        &mut starts,
+        &mut ends,
+    );
+    let verdict = opened.verdict;
+    if let Verdict::Refused(k, p) = verdict {
+        return LargestAnswer::Refused(k, p);
+    }
+    let mut capacities = [0i32; 1024];
+    sheets::fill_capacities(sheet, opened.edges, &mut capacities);
+    capture::largest_after(
+        &tails,
+        &rotations,
+        &lefts,
+        &mut capacities,
+        &order,
+        &from,
+        &grouped,
+        &starts,
+        &ends,
+        opened.nodes,
+        opened.edges,
+        opened.faces,
+        opened.parts,
+        opened.outer,
+        capture,
+        window,
+        named,
+        source,
+        sink,
+        limits,
         flows,
         set,
     )

@@ -33,6 +33,11 @@ pub fn word(s: &[u8], at: usize) -> i32 {
     fields::read_i32(s, at)
 }
 
+// The number of 32 bits at a place, without a sign.
+pub fn natural(s: &[u8], at: usize) -> u64 {
+    wide_bits(signed::to_bits(word(s, at)))
+}
+
 // The number of 64 bits at a place.
 fn long(s: &[u8], at: usize) -> u64
     requires { ⌜ at + 4 < 18446744073709551616 ⌝ }

@@ -30,7 +30,9 @@ fn run(
         19 => operations::totals(s, first, set),
         15 => operations::practice(s, bytes),
         11 => operations::raise_limit(s, first, set),
+        25 => operations::largest_after(s, first, second, set),
         12 => operations::write_dimacs(s, bytes),
+        41 => operations::examine(s, first, second, set, bytes),
         21 => operations::page(s, tails, rotations, first, second, set),
         _ => say::say(b": no such operation"),
     }

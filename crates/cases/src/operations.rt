@@ -2,6 +2,7 @@
 ghost use Prim.Native.Nat.{_<_};
 use super::case;
 use super::say;
+use desk::Class;
 use dimacs::DimacsAnswer;
 use key_text::KeyAnswer;
 use levels::LevelAnswer;
@@ -154,6 +155,25 @@ pub fn largest(s: &[u8], flows: &mut [i32], set: &mut [u64]) {
     say_largest(analyser::largest(case::part(s, 1), source, sink, flows, set));
 }
 
+// The capture's bytes stand where other operations have their tails.
+pub fn largest_after(s: &[u8], limits: &mut [i32], flows: &mut [i32], set: &mut [u64]) {
+    let source = case::half(s, 2);
+    let sink = case::half(s, 4);
+    let window = case::half(s, 6);
+    let named = case::natural(s, 10);
+    say_largest(analyser::largest_after(
+        case::part(s, 1),
+        case::part(s, 2),
+        window,
+        named,
+        source,
+        sink,
+        limits,
+        flows,
+        set,
+    ));
+}
+
 fn say_range(answer: RangeAnswer) {
     match answer {
         RangeAnswer::Values(v, w) => {
@@ -289,4 +309,36 @@ pub fn write_dimacs(s: &[u8], text: &mut [u8]) {
             say::bytes(s, 16, text);
         }
     }
+}
+
+fn say_class(class: Class) {
+    match class {
+        Class::Empty => say::say(b": empty"),
+        Class::Marked(number, sum, least, greatest) => {
+            say::say(b": class");
+            say::half(number);
+            say::half(sum);
+            say::half(least as u16);
+            say::half(greatest as u16);
+        }
+        Class::Refused(k, p) => say::refused(k, p),
+    }
+}
+
+// The kinds of the claims are the bytes of part 2.
+pub fn examine(s: &[u8], claims: &[i32], settings: &[i32], sets: &[u64], points: &mut [u8]) {
+    let source = case::half(s, 2);
+    let sink = case::half(s, 4);
+    let value = case::word(s, 6);
+    say_class(desk::examine(
+        case::part(s, 1),
+        source,
+        sink,
+        value,
+        claims,
+        case::part(s, 2),
+        settings,
+        sets,
+        points,
+    ));
 }

@@ -1,4 +1,5 @@
--- Fields of a record ("Fields are little-endian, 16 bits unsigned or 32 bits signed"): what stands at a place of the bytes, the bytes of a value,
+-- Fields of a record ("Fields are little-endian, 16 bits unsigned or 32 bits signed"; of a tick, document 02, Job 10, 32 bits unsigned): what stands at a
+-- place of the bytes, the bytes of a value,
 -- and bytes put at a place. Who reads has checked the length, so the 0 past the end decides nothing.
 use Prim.Native.Nat.{ℕ, _+_, _*_, _/_, _%_}
 use mathlib.Core.List.{List, [], _∷_, _++_}

@@ -1,4 +1,5 @@
-// Fields of records, read from and written into bytes. The paper: "Fields are little-endian, 16 bits unsigned or 32 bits signed."
+// Fields of records, read from and written into bytes. The paper: "Fields are little-endian, 16 bits unsigned or 32 bits signed." Document 02, Job 10: a tick
+// has 32 bits, unsigned.
 ghost use mathlib.Core.Path.{_≡_};
 ghost use mathlib.Core.List.{[], _∷_};
 ghost use Prim.Native.Nat.{_+_, _<_, _≤_};
@@ -27,8 +28,8 @@ pub fn read_u16(s: &[u8], at: usize) -> u16
     low + high * 256
 }
 
-// The 32 bits at `at`.
-fn read_u32(s: &[u8], at: usize) -> u32
+// The 32 bits at `at`, as a number from 0.
+pub fn read_u32(s: &[u8], at: usize) -> u32
     requires { ⌜ at + 3 < length (now s) ⌝ }
     ensures { λ r. ⌜ r ≡ u32At (now (s .entry)) at ⌝ }
 {

@@ -3,7 +3,7 @@ use mathlib.Core.Path.{_≡_, refl, sym, _∙_, ap, subst}
 use mathlib.Core.Logic.{_≢_, _⊎_, inl, inr}
 use mathlib.Core.Bool.{Bool, true, false}
 use mathlib.Core.List.{List, _++_}
-use Prim.Native.Nat.{ℕ, _≤_, _<_}
+use Prim.Native.Nat.{ℕ, _*_, _≤_, _<_}
 use native.Mathlib.Omega.{arith}
 use lib.Dec.{eqb}
 use lib.ListN.{length, drop}
@@ -17,7 +17,7 @@ use Rattle.integers.specs.Sum.{bit}
 use Rattle.integers.proofs.Omega.{atoms₂, atoms₄, parts, at-most, less, from-equal, from-less}
 use Rattle.integers.proofs.Laws.{lt-le-clash, le-trans, le-antisym, le-of-lt, lt-or-ge}
 use Rattle.integers.proofs.Limits.{limited-neg}
-use Rattle.integers.proofs.Tests.{eqb-true, eqb-false}
+use Rattle.integers.proofs.Tests.{eqb-true, eqb-false, ltb-true}
 use Rattle.signed.proofs.Limits.{same-bits}
 use Rattle.maps.specs.Dart.{rev}
 use Rattle.maps.specs.Map.{Map, darts}
@@ -32,6 +32,7 @@ use Rattle.flows.proofs.Interval.{
   sink-short,
   sink-proves-less,
   beside-short,
+  beside-proves,
   beside-proves-all,
   source-limits,
   union-both,
@@ -40,8 +41,12 @@ use Rattle.flows.proofs.Interval.{
 }
 use Rattle.flows.specs.inner.Sides.{AtSource, AtSink, Beside}
 use Rattle.flows.proofs.ValueBound.{value-small, cut-small}
+use Rattle.flows.proofs.Limits.{settings-limited}
+use Rattle.flows.proofs.OnDarts.{onDarts-even}
 use Rattle.arrays.specs.Filled.{tabulate, filled}
-use Rattle.arrays.proofs.Tabulate.{length-tabulate}
+use Rattle.arrays.specs.At.{atℤ}
+use Rattle.arrays.proofs.Tabulate.{length-tabulate, tabulate-ext}
+use Rattle.arrays.proofs.FillLoops.{filled-at}
 use Rattle.cuts.specs.inner.Cut.{cutOf}
 use Rattle.cuts.proofs.CutOfMap.{cut-of}
 use Rattle.node_flags.specs.inner.Flags.{Sided}
@@ -54,6 +59,7 @@ use Rattle.maximum.specs.inner.Bracket.{Ceiling, Floor, Bracket}
 use Rattle.maximum.specs.inner.Narrowing.{SameFlags, Narrows, Lowers, stays, falls, Joins}
 use Rattle.maximum.specs.inner.Maximum.{Maximized}
 use Rattle.maximum.specs.declared.Narrowed.{Narrowed}
+use Rattle.maximum.specs.declared.Maximum.{Maximum}
 use Rattle.maximum.specs.declared.Maximum.the-variants as maximum
 use Rattle.maximum.proofs.Gap.{gap, gap-lowered, gap-raised}
 
@@ -77,6 +83,14 @@ drop-tabulate n f rest = ap (λ k. drop k (tabulate n f ++ rest)) (sym (length-t
 
 pub filled-again : (n : ℕ) (f g : ℕ → ℤ) (before flows : List ℤ) → flows ≡ filled n g before → filled n f flows ≡ filled n f before
 filled-again n f g before flows e = ap (λ l. tabulate n f ++ l) (ap (drop n) e ∙ drop-tabulate n g (drop n before))
+
+-- ── a slice that was filled, read and copied ──
+module _ (n : ℕ) (x : ℕ → ℤ) (old known : List ℤ) (is-filled : known ≡ filled n x old) (room : n ≤ length old) where
+  pub read-back : (d : ℕ) → d < n → atℤ known d ≡ x d
+  read-back d l = ap (λ k. atℤ k d) is-filled ∙ filled-at n x old (pos 0) room d ∙ (rw (ltb-true d n l))
+
+  pub copied : (before after : List ℤ) → after ≡ filled n (atℤ known) before → after ≡ filled n x before
+  copied before after h = h ∙ ap (λ l. l ++ drop n before) (tabulate-ext n (atℤ known) x read-back)
 
 -- the ground of a question: a plane map with the capacities of a sheet, and two ends
 pub record Ground (𝓜 : Map) (c : ℕ → ℤ) (s t : ℕ) : Type 0 where
@@ -121,21 +135,40 @@ module _ {𝓜 : Map} (outer : ℕ) {c : ℕ → ℤ} {s t : ℕ} (ground : Grou
       limit d l = ground .small d l .high
   low-small before flows B low false h = subst (Limited 512000000) (sym (h .2)) (limited-neg (cut-small 𝓜 c (ground .few-edges) (ground .small) B))
 
-  -- ── how it begins: the source alone, the sink alone ──
-  pub begins : (before : List ℤ) (A B : List ℕ) (low high : ℤ) → ((u : ℕ) → u < 1024 → flagged A u ≡ eqb u s) → ((u : ℕ) → u < 1024 → flagged B u ≡ eqb u t)
-      → high ≡ cutOf (darts 𝓜) (𝓜 .tail) c (flagged A) → low ≡ negℤ (cutOf (darts 𝓜) (𝓜 .tail) c (flagged B))
-      → Bracket 𝓜 outer c s t before before A B low high false
-  begins before A B low high one-a one-b is-high is-low = record {
-    ceiling = record {
-      side = (one-a s s-in ∙ eqb-true s s refl, one-a t t-in ∙ eqb-false t s (λ e. ground .two .two (sym e)));
-      is-cut = is-high ∙ sym (cut-of 𝓜 c (flagged A));
-    };
-    floor = (
-      refl,
-      (one-b s s-in ∙ eqb-false s t (ground .two .two), one-b t t-in ∙ eqb-true t t refl),
-      is-low ∙ ap negℤ (sym (cut-of 𝓜 c (flagged B))),
-    );
+  -- ── how it begins: a set at the source, and a value that is known or the sink alone ──
+  pub begins : (before : List ℤ) (A B : List ℕ) (low high : ℤ) (known : Bool) → AtSource s t (flagged A) → ((u : ℕ) → u < 1024 → flagged B u ≡ eqb u t)
+      → high ≡ cutOf (darts 𝓜) (𝓜 .tail) c (flagged A) → (known ≡ false → low ≡ negℤ (cutOf (darts 𝓜) (𝓜 .tail) c (flagged B)))
+      → (known ≡ true → (x : ℕ → ℤ) × Highest 𝓜 outer c s t low x × (before ≡ filled (𝓜 .edges) x before))
+      → Bracket 𝓜 outer c s t before before A B low high known
+  begins before A B low high known side one-b is-high is-low carried = record {
+    ceiling = record { side = side; is-cut = is-high ∙ sym (cut-of 𝓜 c (flagged A)) };
+    floor = by known is-low carried;
   }
+    where
+      by : (k : Bool) → (k ≡ false → low ≡ negℤ (cutOf (darts 𝓜) (𝓜 .tail) c (flagged B)))
+          → (k ≡ true → (x : ℕ → ℤ) × Highest 𝓜 outer c s t low x × (before ≡ filled (𝓜 .edges) x before))
+          → Floor 𝓜 outer c s t before before (flagged B) low k
+      by true f g = g refl
+      by false f g = (
+        refl,
+        (one-b s s-in ∙ eqb-false s t (ground .two .two), one-b t t-in ∙ eqb-true t t refl),
+        f refl ∙ ap negℤ (sym (cut-of 𝓜 c (flagged B))),
+      )
+
+  -- the flow of an edge is no more than a sheet's capacity
+  pub flow-small : (value : ℤ) (x : ℕ → ℤ) → Highest 𝓜 outer c s t value x → (e : ℕ) → e < 𝓜 .edges → Limited 1000000 (x e)
+  flow-small value x h e l =
+      subst (Limited 1000000) (onDarts-even x e)
+      (settings-limited 𝓜 1000000 c x (λ d m. ground .small d m .high) (h .carries .within) (2 * e) (omega arith))
+
+  -- ── what began with a flow in the slice, told of the slice before that ──
+  pub told-before : (before since flows : List ℤ) (A : List ℕ) (value : ℤ) (x : ℕ → ℤ) → Highest 𝓜 outer c s t value x → since ≡ filled (𝓜 .edges) x before
+      → (r : Maximum) → Maximized 𝓜 outer c s t since flows A r → Maximized 𝓜 outer c s t before flows A r
+  told-before before since flows A value x h e (maximum.Value v) r =
+      ((r .0 .0, r .0 .1, r .0 .2 ∙ filled-again (𝓜 .edges) (r .0 .0) x before since e), r .1, r .2)
+  told-before before since flows A value x h e maximum.Nothing r =
+      absurd (proves-excludes (ground .plane .sound .range) (ground .two .source-in) (ground .two .sink-in) (ground .two .two) c value (flagged A)
+      (beside-proves 𝓜 c s t (flagged A) (r .1) (r .2) value) x (h .carries))
 
   module _ (before flows : List ℤ) (A B : List ℕ) (low high : ℤ) (found : Bool) (b : Bracket 𝓜 outer c s t before flows A B low high found) where
     -- what is carried lies between the bounds

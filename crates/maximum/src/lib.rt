@@ -3,11 +3,15 @@
 // between them, the union or the intersection of the two sets shows it.
 ghost use mathlib.Core.Path.{_≡_};
 ghost use mathlib.Core.Bool.{true, false};
+ghost use mathlib.Core.List.{List};
 ghost use Prim.Native.Nat.{ℕ, _*_, _%_, _<_, _≤_};
 ghost use lib.ListN.{length};
-ghost use lib.IntN.{pos, negℤ};
+ghost use lib.IntN.{ℤ, pos, negℤ};
 ghost use lib.Signed.{_≤ℤ_, _<ℤ_, ltZ};
 ghost use Rattle.integers.specs.inner.Limited.{Limited};
+ghost use Rattle.flows.specs.Highest.{Highest};
+ghost use Rattle.flows.specs.inner.Sides.{AtSource};
+ghost use Rattle.arrays.specs.Filled.{filled};
 ghost use Rattle.arrays.specs.At.{at, atℤ};
 ghost use Rattle.cuts.specs.inner.Cut.{cutOf};
 ghost use Rattle.node_flags.specs.inner.Flags.{Sided};
@@ -78,8 +82,22 @@ fn next_value(low: i32, high: i32, middle: bool, found: bool) -> i32
     nearest_zero(low, high)
 }
 
-// Whether the middle is probed after a value that cannot be carried: in turn with the high bound once one is found, and until then always.
-fn middle_next(middle: bool, found: bool) -> bool {
+// Whether the high bound is probed where the middle is not: once a value is found, and first of all where it is likely to be the answer.
+fn at_top(found: bool, first: bool) -> bool
+    ensures { λ r. ⌜ (found ≡ true → r ≡ true) ⌝ }
+{
+    if found {
+        return true;
+    }
+    first
+}
+
+// Whether the middle is probed after a value that cannot be carried: in turn with the high bound once one is found, and until then always. Where it was the
+// first value, and none is found, the one nearest to zero is next.
+fn middle_next(middle: bool, found: bool, first: bool) -> bool {
+    if first {
+        return found;
+    }
     if found {
         return !middle;
     }
@@ -94,6 +112,50 @@ fn finished(low: i32, high: i32, found: bool) -> bool
         return low == high;
     }
     false
+}
+
+// Flags a set around the source to begin with, and answers whether its cut is likely to be the answer.
+fn begin(
+    tails: &[u16; 1024],
+    rotations: &[u16; 1024],
+    capacities: &[i32; 1024],
+    edges: usize,
+    source: usize,
+    sink: usize,
+    a: &mut [u8; 1024],
+) -> bool
+    requires { ⌜ (length (now a) ≡ 1024) × (edges ≤ 512) × (source < 1024) × (sink < 1024) × (source ≡ sink → ⊥)
+        × ((d : ℕ) × (d < 2 * edges) × (at (now tails) d ≡ source)) ⌝ }
+    ensures { λ _. ⌜ (length (now (a .exit)) ≡ 1024) × AtSource source sink (flagged (now (a .exit))) ⌝ }
+{
+    let start = traversal::dart_at(tails, 2 * edges, source);
+    let likely = pivots::spread(tails, rotations, capacities, sink, start, &mut *a);
+    let side = node_flags::side_of(&*a, source, sink);
+    if let Side::Source = side {
+        return likely;
+    }
+    node_flags::flag_one(source, a);
+    false
+}
+
+// The low bound to begin with: the value that is carried, where one is known; else the negative of the cut of the flagged nodes.
+fn low_bound(
+    tails: &[u16; 1024],
+    capacities: &[i32; 1024],
+    b: &[u8; 1024],
+    darts: usize,
+    known: bool,
+    value: i32,
+) -> i32
+    requires { ⌜ (darts ≤ 1024) × (darts % 2 ≡ 0) × ((d : ℕ) → d < darts → at (now tails) d < 1024)
+        × ((d : ℕ) → d < darts → Limited 2000000 (atℤ (now capacities) d)) ⌝ }
+    ensures { λ r. ⌜ (known ≡ true → r ≡ value)
+        × (known ≡ false → r ≡ negℤ (cutOf darts (at (now (tails .entry))) (atℤ (now (capacities .entry))) (flagged (now (b .entry))))) ⌝ }
+{
+    if known {
+        return value;
+    }
+    negate(cuts::capacity(tails, capacities, b, darts))
 }
 
 // What the flagged nodes, which prove a value impossible, do to the bounds. A set at the source is kept in a, one at the sink in b, and one beside both in a.
@@ -195,8 +257,8 @@ fn join(
     node_flags::copy_flags(&*joined, a);
 }
 
-// The high bound, lowered by a set that is proposed from flows of the low one and the search's parents beside them. It is called from two places, so that the
-// compiler makes a function of it: its arrays then lie beside those of a decision on the stack, and not above them.
+// The high bound, where it is wanted lowered by a set that is proposed from flows of the low one and the search's parents beside them. It is called from three
+// places, so that the compiler makes a function of it: its arrays then lie beside those of a decision on the stack, and not above them.
 fn propose<'a>(
     tails: &'a [u16; 1024],
     rotations: &'a [u16; 1024],
@@ -208,6 +270,7 @@ fn propose<'a>(
     sink: usize,
     low: i32,
     high: i32,
+    wanted: bool,
     flows: &[i32],
     parents: &mut [u16; 1024],
     inside: &mut [u8; 1024],
@@ -220,6 +283,9 @@ fn propose<'a>(
         × Lowers source sink (cutOf (2 * edges) (at (now (tails .entry))) (atℤ (now (capacities .entry))) (flagged (now (inside .exit))))
         high r (now (inside .exit)) (now (a .entry)) (now (a .exit)) ⌝ }
 {
+    if !wanted {
+        return high;
+    }
     if finished(low, high, true) {
         return high;
     }
@@ -250,7 +316,173 @@ fn propose<'a>(
     )
 }
 
-// Probes values between the bounds until they meet or pass each other. The set that bounds the answer, or shows that there is none, is left in a.
+// Whether a first set is proposed from a value that is known: unless the set to begin with is likely to do.
+fn unlikely(known: bool, likely: bool) -> bool {
+    if likely {
+        return false;
+    }
+    known
+}
+
+// Probes values between the bounds until they meet or pass each other. The set that bounds the answer, or shows that there is none, is left in a. Where a value
+// that is carried is known, its highest flow stands in the slice, and the parents of its search may serve to propose the first set.
+pub fn maximize_from<'a>(
+    tails: &'a [u16; 1024],
+    rotations: &'a [u16; 1024],
+    lefts: &'a [u16; 1024],
+    capacities: &'a [i32; 1024],
+    order: &'a [u16; 1024],
+    from: &'a [u16; 1024],
+    grouped: &'a [u16; 1024],
+    starts: &'a [u16; 1024],
+    ends: &'a [u16; 1024],
+    nodes: usize,
+    edges: usize,
+    faces: usize,
+    trees: usize,
+    outer: usize,
+    source: usize,
+    sink: usize,
+    known: bool,
+    carried: i32,
+    flows: &mut [i32],
+    parents: &mut [u16; 1024],
+    a: &mut [u8; 1024],
+) -> Maximum
+    requires { ⌜ (length (now a) ≡ 1024) × (edges ≤ length (now flows)) × ((d : ℕ) → d < 2 * edges → Limited 1000000 (atℤ (now capacities) d))
+        × Drawn (mapOf nodes edges (now tails) (now rotations)) (at (now lefts)) faces outer (atℤ (now capacities))
+        × Ends (mapOf nodes edges (now tails) (now rotations)) source sink
+        × Walked (2 * edges) faces outer trees (at (now rotations)) (now lefts) (now order) (now from) (now grouped) (now starts) (now ends)
+        × (length (now parents) ≡ 1024)
+        × (known ≡ true → (x : ℕ → ℤ) × Highest (mapOf nodes edges (now tails) (now rotations)) outer (atℤ (now capacities)) source sink carried x
+        × (now flows ≡ filled edges x (now flows))) ⌝ }
+    ensures { λ r. ⌜ (length (now (a .exit)) ≡ 1024) × (length (now (parents .exit)) ≡ 1024)
+        × Maximized (mapOf nodes edges (now (tails .entry)) (now (rotations .entry))) outer
+        (atℤ (now (capacities .entry))) source sink (now (flows .entry)) (now (flows .exit)) (now (a .exit)) r ⌝ }
+{
+    let mut b = [0u8; 1024];
+    let mut inside = [0u8; 1024];
+    let mut first = begin(tails, rotations, capacities, edges, source, sink, &mut *a);
+    node_flags::flag_one(sink, &mut b);
+    let mut low = low_bound(tails, capacities, &b, 2 * edges, known, carried);
+    let bound = cuts::capacity(tails, capacities, &*a, 2 * edges);
+    let mut high = propose(
+        tails,
+        rotations,
+        lefts,
+        capacities,
+        nodes,
+        edges,
+        source,
+        sink,
+        low,
+        bound,
+        unlikely(known, first),
+        &*flows,
+        &mut *parents,
+        &mut inside,
+        &mut *a,
+    );
+    let mut found = known;
+    let mut middle = false;
+    let outcome = loop {
+        if is_less(high, low) {
+            join(tails, capacities, 2 * edges, &mut *a, &b, &mut inside);
+            break Maximum::Nothing;
+        }
+        if finished(low, high, found) {
+            break Maximum::Value(high);
+        }
+        let value = next_value(low, high, middle, at_top(found, first));
+        if solver::decide(
+            tails,
+            rotations,
+            lefts,
+            capacities,
+            order,
+            from,
+            grouped,
+            starts,
+            ends,
+            nodes,
+            edges,
+            faces,
+            trees,
+            outer,
+            source,
+            sink,
+            value,
+            &mut *parents,
+            &mut *flows,
+            &mut inside,
+        ) {
+            low = value;
+            middle = false;
+            first = false;
+            if !found {
+                found = true;
+                high = propose(
+                    tails,
+                    rotations,
+                    lefts,
+                    capacities,
+                    nodes,
+                    edges,
+                    source,
+                    sink,
+                    low,
+                    high,
+                    true,
+                    &*flows,
+                    &mut *parents,
+                    &mut inside,
+                    &mut *a,
+                );
+            } else {
+                high = propose(
+                    tails,
+                    rotations,
+                    lefts,
+                    capacities,
+                    nodes,
+                    edges,
+                    source,
+                    sink,
+                    low,
+                    high,
+                    true,
+                    &*flows,
+                    &mut *parents,
+                    &mut inside,
+                    &mut *a,
+                );
+            }
+        } else {
+            let n = narrow_by(
+                tails,
+                capacities,
+                &inside,
+                2 * edges,
+                source,
+                sink,
+                low,
+                high,
+                &mut *a,
+                &mut b,
+            );
+            if n.none {
+                break Maximum::Nothing;
+            }
+            low = n.low;
+            high = n.high;
+            middle = middle_next(middle, found, first);
+            first = false;
+        }
+    };
+    outcome
+}
+
+// The same with nothing known, and parents of its own.
 pub fn maximize<'a>(
     tails: &'a [u16; 1024],
     rotations: &'a [u16; 1024],
@@ -279,104 +511,101 @@ pub fn maximize<'a>(
         × Maximized (mapOf nodes edges (now (tails .entry)) (now (rotations .entry))) outer
         (atℤ (now (capacities .entry))) source sink (now (flows .entry)) (now (flows .exit)) (now (a .exit)) r ⌝ }
 {
-    let mut b = [0u8; 1024];
-    let mut inside = [0u8; 1024];
     let mut parents = [0u16; 1024];
-    node_flags::flag_one(source, &mut *a);
-    node_flags::flag_one(sink, &mut b);
-    let mut high = cuts::capacity(tails, capacities, &*a, 2 * edges);
-    let mut low = negate(cuts::capacity(tails, capacities, &b, 2 * edges));
-    let mut found = false;
-    let mut middle = false;
-    let outcome = loop {
-        if is_less(high, low) {
-            join(tails, capacities, 2 * edges, &mut *a, &b, &mut inside);
-            break Maximum::Nothing;
-        }
-        if finished(low, high, found) {
-            break Maximum::Value(high);
-        }
-        let value = next_value(low, high, middle, found);
-        if solver::decide(
-            tails,
-            rotations,
-            lefts,
-            capacities,
-            order,
-            from,
-            grouped,
-            starts,
-            ends,
-            nodes,
-            edges,
-            faces,
-            trees,
-            outer,
-            source,
-            sink,
-            value,
-            &mut parents,
-            &mut *flows,
-            &mut inside,
-        ) {
-            low = value;
-            middle = false;
-            if !found {
-                found = true;
-                high = propose(
-                    tails,
-                    rotations,
-                    lefts,
-                    capacities,
-                    nodes,
-                    edges,
-                    source,
-                    sink,
-                    low,
-                    high,
-                    &*flows,
-                    &mut parents,
-                    &mut inside,
-                    &mut *a,
-                );
-            } else {
-                high = propose(
-                    tails,
-                    rotations,
-                    lefts,
-                    capacities,
-                    nodes,
-                    edges,
-                    source,
-                    sink,
-                    low,
-                    high,
-                    &*flows,
-                    &mut parents,
-                    &mut inside,
-                    &mut *a,
-                );
-            }
-        } else {
-            let n = narrow_by(
-                tails,
-                capacities,
-                &inside,
-                2 * edges,
-                source,
-                sink,
-                low,
-                high,
-                &mut *a,
-                &mut b,
-            );
-            if n.none {
-                break Maximum::Nothing;
-            }
-            low = n.low;
-            high = n.high;
-            middle = middle_next(middle, found);
-        }
-    };
-    outcome
+    maximize_from(
+        tails,
+        rotations,
+        lefts,
+        capacities,
+        order,
+        from,
+        grouped,
+        starts,
+        ends,
+        nodes,
+        edges,
+        faces,
+        trees,
+        outer,
+        source,
+        sink,
+        false,
+        0,
+        flows,
+        &mut parents,
+        a,
+    )
+}
+
+// Copies the flows of the edges; the rest of the slice stays as it was.
+fn copy_flows(from: &[i32], edges: usize, to: &mut [i32])
+    requires { ⌜ (edges ≤ length (now from)) × (edges ≤ length (now to)) × ((e : ℕ) → e < edges → Limited 1000000 (atℤ (now from) e)) ⌝ }
+    ensures { λ _. ⌜ now (to .exit) ≡ filled edges (atℤ (now (from .entry))) (now (to .entry)) ⌝ }
+{
+    let mut e: usize = 0;
+    while e < edges {
+        to[e] = from[e];
+        e += 1;
+    }
+}
+
+// The same where a value is known that is carried: its highest flow stands in `known`, and the parents are those that its search left.
+pub fn maximize_on<'a>(
+    tails: &'a [u16; 1024],
+    rotations: &'a [u16; 1024],
+    lefts: &'a [u16; 1024],
+    capacities: &'a [i32; 1024],
+    order: &'a [u16; 1024],
+    from: &'a [u16; 1024],
+    grouped: &'a [u16; 1024],
+    starts: &'a [u16; 1024],
+    ends: &'a [u16; 1024],
+    nodes: usize,
+    edges: usize,
+    faces: usize,
+    trees: usize,
+    outer: usize,
+    source: usize,
+    sink: usize,
+    carried: i32,
+    known: &[i32],
+    flows: &mut [i32],
+    parents: &mut [u16; 1024],
+    a: &mut [u8; 1024],
+) -> Maximum
+    requires { ⌜ (length (now a) ≡ 1024) × (edges ≤ length (now flows)) × ((d : ℕ) → d < 2 * edges → Limited 1000000 (atℤ (now capacities) d))
+        × Drawn (mapOf nodes edges (now tails) (now rotations)) (at (now lefts)) faces outer (atℤ (now capacities))
+        × Ends (mapOf nodes edges (now tails) (now rotations)) source sink
+        × Walked (2 * edges) faces outer trees (at (now rotations)) (now lefts) (now order) (now from) (now grouped) (now starts) (now ends)
+        × (length (now parents) ≡ 1024)
+        × ((x : ℕ → ℤ) × (old : List ℤ) × Highest (mapOf nodes edges (now tails) (now rotations)) outer (atℤ (now capacities)) source sink carried x
+        × (now known ≡ filled edges x old) × (edges ≤ length old)) ⌝ }
+    ensures { λ r. ⌜ (length (now (a .exit)) ≡ 1024)
+        × Maximized (mapOf nodes edges (now (tails .entry)) (now (rotations .entry))) outer
+        (atℤ (now (capacities .entry))) source sink (now (flows .entry)) (now (flows .exit)) (now (a .exit)) r ⌝ }
+{
+    copy_flows(known, edges, &mut *flows);
+    maximize_from(
+        tails,
+        rotations,
+        lefts,
+        capacities,
+        order,
+        from,
+        grouped,
+        starts,
+        ends,
+        nodes,
+        edges,
+        faces,
+        trees,
+        outer,
+        source,
+        sink,
+        true,
+        carried,
+        flows,
+        parents,
+        a,
+    )
 }

@@ -406,3 +406,199 @@ pub fn propose(
     );
     flag_beyond(tails, &to, nodes, sink, x, inside);
 }
+
+// How far a set has spread: its cut, shifted by 2^31 so that a negative one is less, and where the list of its nodes and of those ahead ends.
+struct Grown {
+    total: u32,
+    end: usize,
+}
+
+// Flags no node.
+fn flag_none(inside: &mut [u8; 1024])
+    requires { ⌜ length (now inside) ≡ 1024 ⌝ }
+    ensures { λ _. ⌜ length (now (inside .exit)) ≡ 1024 ⌝ }
+{
+    for v in 0..1024usize {
+        inside[v] = 0;
+    }
+}
+
+// Lists the node v, to which the reverse of `back` leads, unless it is listed. Answers the new end of the list. There is room for 512: 512 edges join no more
+// than 513 nodes, of which the sink is not listed.
+fn list_ahead(
+    back: usize,
+    v: usize,
+    inside: &mut [u8; 1024],
+    list: &mut [u16; 512],
+    end: usize,
+) -> usize
+    requires { ⌜ (length (now inside) ≡ 1024) × (length (now list) ≡ 512) × (back < 1024) × (v < 1024) × (end ≤ 512) ⌝ }
+    ensures { λ r. ⌜ (length (now (inside .exit)) ≡ 1024) × (length (now (list .exit)) ≡ 512) × (r ≤ 512) ⌝ }
+{
+    if inside[v] != 0 {
+        return end;
+    }
+    if 512 <= end {
+        return end;
+    }
+    inside[v] = 2;
+    list[end] = number(back);
+    end + 1
+}
+
+// One dart d at a node v that joins the set: what it can carry to a node outside is added, what comes from a node inside no longer leaves.
+fn cross(
+    tails: &[u16; 1024],
+    capacities: &[i32; 1024],
+    v: usize,
+    d: usize,
+    inside: &mut [u8; 1024],
+    list: &mut [u16; 512],
+    total: u32,
+    end: usize,
+) -> Grown
+    requires { ⌜ (length (now inside) ≡ 1024) × (length (now list) ≡ 512) × (d < 1024) × (end ≤ 512) ⌝ }
+    ensures { λ r. ⌜ (length (now (inside .exit)) ≡ 1024) × (length (now (list .exit)) ≡ 512) × (r .end ≤ 512) ⌝ }
+{
+    let back = arrays::reverse(d);
+    let u = place(tails[back]);
+    if inside[u] != 1 {
+        return Grown {
+            total: std::num::wrapping_add_u32(total, signed::to_bits(capacities[d])),
+            end: list_ahead(back, u, inside, list, end),
+        };
+    }
+    if u == v {
+        return Grown {
+            total: total,
+            end: end,
+        };
+    }
+    Grown {
+        total: std::num::wrapping_sub_u32(total, signed::to_bits(capacities[back])),
+        end: end,
+    }
+}
+
+// Takes the node where `start` begins into the set, and lists the nodes ahead of it.
+fn take_node(
+    tails: &[u16; 1024],
+    rotations: &[u16; 1024],
+    capacities: &[i32; 1024],
+    start: usize,
+    inside: &mut [u8; 1024],
+    list: &mut [u16; 512],
+    total: u32,
+    end: usize,
+) -> Grown
+    requires { ⌜ (length (now inside) ≡ 1024) × (length (now list) ≡ 512) × (start < 1024) × (end ≤ 512) ⌝ }
+    ensures { λ r. ⌜ (length (now (inside .exit)) ≡ 1024) × (length (now (list .exit)) ≡ 512) × (r .end ≤ 512) ⌝ }
+{
+    let v = place(tails[start]);
+    inside[v] = 1;
+    let mut d = start;
+    let mut sum = total;
+    let mut last = end;
+    for i in 0..1024usize {
+        let grown = cross(tails, capacities, v, d, &mut *inside, &mut *list, sum, last);
+        sum = grown.total;
+        last = grown.end;
+        d = place(rotations[d]);
+        if d == start {
+            return Grown {
+                total: sum,
+                end: last,
+            };
+        }
+    }
+    Grown {
+        total: sum,
+        end: last,
+    }
+}
+
+// Takes the flags of the listed nodes from this place on away.
+fn leave_out(
+    tails: &[u16; 1024],
+    list: &[u16; 512],
+    from: usize,
+    end: usize,
+    inside: &mut [u8; 1024],
+)
+    requires { ⌜ (length (now inside) ≡ 1024) × (end ≤ 512) ⌝ }
+    ensures { λ _. ⌜ length (now (inside .exit)) ≡ 1024 ⌝ }
+{
+    for i in from..end {
+        inside[place(tails[place(list[i])])] = 0;
+    }
+}
+
+// The least cut so far: its total, how many of the listed nodes are in its set, and whether no cut is likely to be less.
+struct Best {
+    total: u32,
+    size: usize,
+    likely: bool,
+}
+
+fn better(best: Best, total: u32, size: usize, end: usize) -> Best
+    requires { ⌜ size ≤ 1024 ⌝ }
+{
+    if total < best.total {
+        return Best {
+            total: total,
+            size: size,
+            likely: end < size + 2,
+        };
+    }
+    best
+}
+
+// Flags the nodes of the least cut among the sets that spread from the source, nearest nodes first, up to all but the sink; `start` is a dart at the source.
+// Answers whether it is likely that no cut is less: the set is the source alone, or at most one node is next ahead of it.
+pub fn spread(
+    tails: &[u16; 1024],
+    rotations: &[u16; 1024],
+    capacities: &[i32; 1024],
+    sink: usize,
+    start: usize,
+    inside: &mut [u8; 1024],
+) -> bool
+    requires { ⌜ (length (now inside) ≡ 1024) × (sink < 1024) × (start < 1024) ⌝ }
+    ensures { λ _. ⌜ length (now (inside .exit)) ≡ 1024 ⌝ }
+{
+    flag_none(&mut *inside);
+    inside[sink] = 2;
+    let mut list = [0u16; 512];
+    list[0] = number(start);
+    let mut next: usize = 0;
+    let mut end: usize = 1;
+    let mut total: u32 = 2147483648;
+    let mut best = Best {
+        total: 4294967295,
+        size: 0,
+        likely: true,
+    };
+    while next < end {
+        let s = place(list[next]);
+        next += 1;
+        let grown = take_node(
+            tails,
+            rotations,
+            capacities,
+            s,
+            &mut *inside,
+            &mut list,
+            total,
+            end,
+        );
+        total = grown.total;
+        end = grown.end;
+        best = better(best, total, next, end);
+    }
+    leave_out(tails, &list, best.size, end, &mut *inside);
+    inside[sink] = 0;
+    if best.size < 2 {
+        return true;
+    }
+    best.likely
+}

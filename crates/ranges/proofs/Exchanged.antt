@@ -69,6 +69,13 @@ module _ {𝓜 : Map} (range : InRange 𝓜) (c : ℕ → ℤ) (source sink : �
       let n = ends-in (𝓜 .nodes) source sink two in
       subst (λ w. Highest 𝓜 outer c source sink w x) (sym e) (highest-back range (n .1) (n .0) (λ q. ends-differ (𝓜 .nodes) source sink two (sym q)) h)
 
+  -- and what carries the largest value there is known to carry its negative back
+  pub known-back : {a b : ℕ} → a ≡ sink → b ≡ source → (outer : ℕ) {v known : ℤ} {x : ℕ → ℤ} → known ≡ negℤ v
+      → Highest 𝓜 outer c source sink v x → Highest 𝓜 outer c a b known x
+  known-back {a} {b} p q outer {v} {x = x} e h =
+      let n = ends-in (𝓜 .nodes) source sink two in
+      subst (λ w. Highest 𝓜 outer c a b w x) (sym e) (rw (p, q) (highest-back range (n .0) (n .1) (ends-differ (𝓜 .nodes) source sink two) h))
+
   -- and a set that proves the next greater value back impossible proves the next lower one there so
   pub next-lower : (v : ℤ) {least : ℤ} (S : ℕ → Bool) → least ≡ negℤ v → Proves 𝓜 c sink source (v +ℤ pos 1) S → Proves 𝓜 c source sink (least -ℤ pos 1) S
   next-lower v S e p =

@@ -1,5 +1,6 @@
 // The least and the largest value on a drawing that is open and sound, held in lent arrays. Document 02, Job 4. What carries a value from source to sink
-// carries its negative from sink to source: the least value is the negative of the largest with the ends exchanged, with the same flows and the same sets.
+// carries its negative from sink to source: the least value is the negative of the largest with the ends exchanged, with the same flows and the same sets. So
+// the way back begins with what the way there found.
 ghost use Prim.Native.Nat.{ℕ, _*_, _<_};
 ghost use Rattle.integers.specs.inner.Limited.{Limited};
 ghost use Rattle.grouping.specs.inner.Walked.{Walked};
@@ -66,7 +67,8 @@ pub fn least_and_largest<'a>(
         return RangeAnswer::Refused(k, p);
     }
     let mut inside = [0u8; 1024];
-    let most = maximum::maximize(
+    let mut parents = [0u16; 1024];
+    let most = maximum::maximize_from(
         tails,
         rotations,
         lefts,
@@ -83,7 +85,10 @@ pub fn least_and_largest<'a>(
         outer,
         s,
         t,
-        high,
+        false,
+        0,
+        &mut *high,
+        &mut parents,
         &mut inside,
     );
     node_sets::write_set(&inside, nodes, above);
@@ -91,7 +96,8 @@ pub fn least_and_largest<'a>(
         node_sets::write_set(&inside, nodes, below);
         return RangeAnswer::None;
     };
-    let back = maximum::maximize(
+    let carried = maximum::negate(largest);
+    let back = maximum::maximize_on(
         tails,
         rotations,
         lefts,
@@ -108,7 +114,10 @@ pub fn least_and_largest<'a>(
         outer,
         t,
         s,
+        carried,
+        &*high,
         low,
+        &mut parents,
         &mut inside,
     );
     node_sets::write_set(&inside, nodes, below);

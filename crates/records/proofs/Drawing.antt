@@ -12,7 +12,7 @@ use Rattle.maps.specs.Dart.{rev}
 use Rattle.maps.specs.Check.{InRange}
 use Rattle.maps.proofs.Darts.{by-edge, rev-even, rev-odd}
 use Rattle.maps.specs.Drawing.{Drawing}
-use Rattle.records.specs.Check.{CapacityOutside, numberChecks, fieldChecks, edgeChecks}
+use Rattle.records.specs.Check.{CapacityOutside, numberChecks, capacityChecks, fieldChecks, edgeChecks}
 
 -- neither of two
 pub not-left : {A B : Type 0} → (A ⊎ B → ⊥) → A → ⊥
@@ -47,6 +47,23 @@ module _ (nodes edges outer : ℕ) (passed : NoneOf (numberChecks nodes edges ou
   unfolding NoneOf numberChecks
   outer-range = omega (arith, passed .1 .0)
 
+-- ── capacities that pass the checks 6 and 7, edge by edge ──
+module _ (edges : ℕ) (c : ℕ → ℤ) (passed : (e : ℕ) → e < edges → NoneOf (capacityChecks (c (2 * e)) (c (2 * e + 1)))) where
+  pub capacities-range : (d : ℕ) → d < 2 * edges → CapacityOutside (c d) → ⊥
+  unfolding NoneOf
+  capacities-range = by-edge edges (λ d. CapacityOutside (c d) → ⊥) (λ e l. not-left (passed e l .0)) (λ e l. not-right (passed e l .0))
+
+  pub capacities-pair : (e : ℕ) → e < edges → pos 0 ≤ℤ (c (2 * e) +ℤ c (2 * e + 1))
+  unfolding NoneOf
+  capacities-pair e l = not-less _ _ (passed e l .1 .0)
+
+  pub capacities-pairs : (d : ℕ) → d < 2 * edges → pos 0 ≤ℤ (c d +ℤ c (rev d))
+  capacities-pairs =
+      by-edge edges (λ d. pos 0 ≤ℤ (c d +ℤ c (rev d)))
+      (λ e l. rw (rev-even e) (capacities-pair e l))
+      (λ e l. rw (rev-odd e) (turned-round (c (2 * e)) (c (2 * e + 1)) (capacities-pair e l)))
+
+-- ── the edges of a drawing ──
 module _ (𝓓 : Drawing) (passed : (e : ℕ) → e < 𝓓 .map .edges → NoneOf (edgeChecks 𝓓 e)) where
   pub drawing-range : InRange (𝓓 .map)
   unfolding NoneOf edgeChecks fieldChecks
@@ -60,17 +77,15 @@ module _ (𝓓 : Drawing) (passed : (e : ℕ) → e < 𝓓 .map .edges → NoneO
             (λ e l. omega (arith, not-left (passed e l .1 .0))) (λ e l. omega (arith, not-right (passed e l .1 .0)));
       }
 
-  pub drawing-capacities : (d : ℕ) → d < 2 * 𝓓 .map .edges → CapacityOutside (𝓓 .capacity d) → ⊥
+  six-seven : (e : ℕ) → e < 𝓓 .map .edges → NoneOf (capacityChecks (𝓓 .capacity (2 * e)) (𝓓 .capacity (2 * e + 1)))
   unfolding NoneOf edgeChecks fieldChecks
-  drawing-capacities =
-      by-edge (𝓓 .map .edges) (λ d. CapacityOutside (𝓓 .capacity d) → ⊥) (λ e l. not-left (passed e l .1 .1 .0)) (λ e l. not-right (passed e l .1 .1 .0))
+  six-seven e l = passed e l .1 .1
+
+  pub drawing-capacities : (d : ℕ) → d < 2 * 𝓓 .map .edges → CapacityOutside (𝓓 .capacity d) → ⊥
+  drawing-capacities = capacities-range (𝓓 .map .edges) (𝓓 .capacity) six-seven
 
   pub edge-pair : (e : ℕ) → e < 𝓓 .map .edges → pos 0 ≤ℤ (𝓓 .capacity (2 * e) +ℤ 𝓓 .capacity (2 * e + 1))
-  unfolding NoneOf edgeChecks fieldChecks
-  edge-pair e l = not-less _ _ (passed e l .1 .1 .1 .0)
+  edge-pair = capacities-pair (𝓓 .map .edges) (𝓓 .capacity) six-seven
 
   pub drawing-pairs : (d : ℕ) → d < 2 * 𝓓 .map .edges → pos 0 ≤ℤ (𝓓 .capacity d +ℤ 𝓓 .capacity (rev d))
-  drawing-pairs =
-      by-edge (𝓓 .map .edges) (λ d. pos 0 ≤ℤ (𝓓 .capacity d +ℤ 𝓓 .capacity (rev d)))
-      (λ e l. rw (rev-even e) (edge-pair e l))
-      (λ e l. rw (rev-odd e) (turned-round (𝓓 .capacity (2 * e)) (𝓓 .capacity (2 * e + 1)) (edge-pair e l)))
+  drawing-pairs = capacities-pairs (𝓓 .map .edges) (𝓓 .capacity) six-seven

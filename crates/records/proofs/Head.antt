@@ -42,21 +42,22 @@ unfolding headLength
 head-some s = omega arith
 
 -- no record is longer than an edge's
-body-below : (k : ℕ) → k < 5 → bodyLength k ≤ 16
+body-below : (k : ℕ) → k < 6 → bodyLength k ≤ 16
 body-below zero l = omega arith
 body-below (suc zero) l = omega arith
 body-below (suc (suc zero)) l = omega arith
 body-below (suc (suc (suc zero))) l = omega arith
 body-below (suc (suc (suc (suc zero)))) l = omega arith
-body-below (suc (suc (suc (suc (suc k))))) l = absurd (omega arith)
+body-below (suc (suc (suc (suc (suc zero))))) l = omega arith
+body-below (suc (suc (suc (suc (suc (suc k)))))) l = absurd (omega arith)
 
 pub head-at-most : (s : List ℕ) → headLength s ≤ 17
 unfolding headLength
-head-at-most s = go (decLt (kindOf s) 5)
+head-at-most s = go (decLt (kindOf s) 6)
   where
-    go : Dec (kindOf s < 5) → recordLength (kindOf s) ≤ 17
+    go : Dec (kindOf s < 6) → recordLength (kindOf s) ≤ 17
     go (yes l) = omega (arith, body-below (kindOf s) l)
-    go (no l) = rw (ltb-false (kindOf s) 5 (omega (arith, l))) (omega arith)
+    go (no l) = rw (ltb-false (kindOf s) 6 (omega (arith, l))) (omega arith)
 
 pub head-lengths : (s : List ℕ) → (kindOf s ≡ 1) ⊎ (kindOf s ≡ 4) → (5 ≤ headLength s) × (headLength s ≤ 7)
 head-lengths s (inl is) = let l = head-long s 1 is in (omega arith, omega arith)

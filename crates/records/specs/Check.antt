@@ -22,14 +22,19 @@ CapacityOutside c = (c <ℤ negsuc 999999) ⊎ (pos 1000000 <ℤ c)
 unfoldable pub numberChecks : (nodes edges outer : ℕ) → List Check
 numberChecks nodes edges outer = (3 when Outside 2 513 nodes ⊎ Outside 1 512 edges) ∷ (24 when 2 * edges ≤ outer) ∷ []
 
+-- 6 and 7, on the two capacities of an edge
+abbrev pub capacityChecks : (forward backward : ℤ) → List Check
+capacityChecks forward backward =
+    (6 when CapacityOutside forward ⊎ CapacityOutside backward)
+    ∷ (7 when (forward +ℤ backward) <ℤ pos 0)
+    ∷ []
+
 -- 4 to 7 on the six fields of an edge's record, in their order there; a rotation must be a dart of the whole drawing
 unfoldable pub fieldChecks : ℕ → ℕ → (tail head rotation backRotation : ℕ) (forward backward : ℤ) → List Check
 fieldChecks nodes edges tail head rotation backRotation forward backward =
     (4 when (nodes ≤ tail) ⊎ (nodes ≤ head))
     ∷ (5 when (2 * edges ≤ rotation) ⊎ (2 * edges ≤ backRotation))
-    ∷ (6 when CapacityOutside forward ⊎ CapacityOutside backward)
-    ∷ (7 when (forward +ℤ backward) <ℤ pos 0)
-    ∷ []
+    ∷ capacityChecks forward backward
 
 -- 4 to 7 on the edge e of a drawing
 unfoldable pub edgeChecks : Drawing → ℕ → List Check

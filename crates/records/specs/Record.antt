@@ -1,5 +1,6 @@
 -- Records. Document 01, "Records of a sheet": "A record is one byte of kind, then a body. A table fixes the body length of each kind: 1 has 4 bytes, 2 has
 -- 16, 3 has 8." Kind 1 is the head of a sheet, 2 an edge ("channel"), 3 a question. Document 02, Job 6: 4, a head that names the outer dart too, has 6.
+-- Job 10: 5, an entry of a capture, has 10.
 use Prim.Native.Nat.{ℕ, _+_, _≤_, _<_}
 use mathlib.Core.Logic.{_≢_}
 use mathlib.Core.Bool.{cond}
@@ -10,7 +11,7 @@ use Rattle.refusals.specs.Order.{Check, _when_}
 
 -- the table; 0 for a kind that there is not
 abbrev pub bodyLength : ℕ → ℕ
-bodyLength kind = cond (ltb kind 5) (getD (0 ∷ 4 ∷ 16 ∷ 8 ∷ 6 ∷ []) kind 0) 0
+bodyLength kind = cond (ltb kind 6) (getD (0 ∷ 4 ∷ 16 ∷ 8 ∷ 6 ∷ 10 ∷ []) kind 0) 0
 
 -- the byte of kind, and the body
 abbrev pub recordLength : ℕ → ℕ

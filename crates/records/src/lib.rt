@@ -8,12 +8,12 @@ ghost use lib.Signed.{_<ℤ_};
 ghost use Rattle.refusals.specs.Order.{Judged, Decides};
 ghost use Rattle.fields.specs.Fields.{u16At};
 ghost use Rattle.records.specs.Record.{bodyLength, recordLength, recordChecks};
-ghost use Rattle.records.specs.Check.{Outside, CapacityOutside, numberChecks, fieldChecks};
+ghost use Rattle.records.specs.Check.{Outside, CapacityOutside, numberChecks, capacityChecks, fieldChecks};
 ghost use Rattle.records.specs.Sheet.{nodesOf, edgesOf, outerOf, headLength, edgeAfter, headRecordChecks, headChecks, edgeRecordChecks, byteChecks};
 use refusals::Verdict;
 
-// The body length of each kind of record: kind 0 is none, 1 a head, 2 an edge, 3 a question, 4 a head that names the outer dart.
-const BODY: [u8; 5] = [0, 4, 16, 8, 6];
+// The body length of each kind of record: kind 0 is none, 1 a head, 2 an edge, 3 a question, 4 a head that names the outer dart, 5 an entry of a capture.
+const BODY: [u8; 6] = [0, 4, 16, 8, 6, 10];
 
 // At most 255, so what is added to it does not wrap.
 fn wide8(x: u8) -> usize
@@ -51,7 +51,7 @@ pub fn body_length(kind: u8) -> u8
     ensures { λ r. ⌜ r ≡ bodyLength kind ⌝ }
 {
     let k = kind as usize;
-    if k < 5 { BODY[k] } else { 0 }
+    if k < 6 { BODY[k] } else { 0 }
 }
 
 // A record: the byte of kind, and the body.
@@ -224,8 +224,22 @@ fn below_zero(x: i32, y: i32) -> bool
     false
 }
 
-// Checks 4 to 7 on the six fields of an edge. The first that holds is named: a capacity out of range is 6 even where the two add to less than zero. A
-// rotation must be a dart of this drawing, so it is compared with twice its edges.
+// Checks 6 and 7 on the two capacities of an edge. The first that holds is named: a capacity out of range is 6 even where the two add to less than zero.
+pub fn check_capacities(forward: i32, backward: i32) -> Verdict
+    ensures { λ r. ⌜ Judged (capacityChecks forward backward) r ⌝ }
+{
+    let beyond = capacities_outside(forward, backward);
+    let negative = below_zero(forward, backward);
+    if beyond {
+        return Verdict::Refused(6, 0);
+    }
+    if negative {
+        return Verdict::Refused(7, 0);
+    }
+    Verdict::Passed
+}
+
+// Checks 4 to 7 on the six fields of an edge. The first that holds is named. A rotation must be a dart of this drawing, so it is compared with twice its edges.
 pub fn check_fields(
     nodes: usize,
     edges: usize,
@@ -240,21 +254,13 @@ pub fn check_fields(
     ensures { λ r. ⌜ Judged (fieldChecks nodes edges tail head rotation «back_rotation» forward backward) r ⌝ }
 {
     let darts = 2 * edges;
-    let beyond = capacities_outside(forward, backward);
-    let negative = below_zero(forward, backward);
     if names_none(nodes, tail, head) {
         return Verdict::Refused(4, 0);
     }
     if names_none(darts, rotation, back_rotation) {
         return Verdict::Refused(5, 0);
     }
-    if beyond {
-        return Verdict::Refused(6, 0);
-    }
-    if negative {
-        return Verdict::Refused(7, 0);
-    }
-    Verdict::Passed
+    check_capacities(forward, backward)
 }
 
 // The record of edge e, whole, and then its fields against the head's counts; it is read only once it is known to be whole.

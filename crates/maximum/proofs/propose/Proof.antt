@@ -9,12 +9,17 @@ use Rattle.maximum.specs.inner.Narrowing.{Lowers, stays}
 use Rattle.maximum.proofs.propose.Statement.{statement}
 use Rattle.maximum.proofs.propose.Tie as tie
 
+returns : tie.Need-returns
+returns c =
+    let s = c .before in
+    (s .pre .0, s .pre .1, s .pre .2, stays (number-of-bits _ (s .fits .high)) refl)
+
 finished-requires : tie.Need-finished-requires
 finished-requires c κs = search needs
 
-returns : tie.Need-returns
-returns c =
-    let s = c .before .before in
+returns-2 : tie.Need-returns-2
+returns-2 c =
+    let s = c .before .before .before in
     (s .pre .0, s .pre .1, s .pre .2, stays (number-of-bits _ (s .fits .high)) refl)
 
 mul-dart-at : tie.Need-mul-dart-at
@@ -38,10 +43,10 @@ same-bounds : {s t : ℕ} {total high high₁ low low₁ : ℤ} {inside A A' : L
 same-bounds {s} {t} {total} {high} {high₁} {low} {low₁} {inside} {A} {A'} e f h =
     subst (λ x. Lowers s t total x low₁ inside A A') e (subst (λ y. Lowers s t total high y inside A A') f h)
 
-returns-2 : tie.Need-returns-2
-returns-2 c =
+returns-3 : tie.Need-returns-3
+returns-3 c =
     let e = c .lower .ensures in
-    let s = c .before .before .before .before .before .before .before .before .before in (
+    let s = c .before .before .before .before .before .before .before .before .before .before in (
       search needs,
       search needs,
       e .0,
@@ -49,4 +54,4 @@ returns-2 c =
     )
 
 pub propose-spec : {M : Type 1} → statement M
-propose-spec = tie.close (tie.spec finished-requires returns mul-dart-at dart-at-requires propose-requires mul-lower lower-requires returns-2)
+propose-spec = tie.close (tie.spec returns finished-requires returns-2 mul-dart-at dart-at-requires propose-requires mul-lower lower-requires returns-3)

@@ -1,6 +1,7 @@
 -- The least and the largest value: the facts at three places, each gained by a check that did not refuse; then what was found there and back, and every way out
 -- by a law of `Ranging`, `Exchanged` or of `questions`.
 use mathlib.Core.Path.{_≡_, refl, sym, _∙_}
+use mathlib.Core.Bool.{true≢false}
 use mathlib.Core.List.{List}
 use Prim.Native.Nat.{ℕ}
 use lib.ListN.{length, take}
@@ -22,7 +23,7 @@ use Rattle.questions.proofs.Sets.{set-written, next-proved, none-written}
 use Rattle.questions.proofs.Solving.{ends-as, ends-for}
 use Rattle.questions.proofs.Finding.{told-value, highest-as, maximized-as}
 use Rattle.ranges.specs.Range.{spanChecks}
-use Rattle.ranges.proofs.Exchanged.{ends-exchanged, negatable, told-least, least-highest, next-lower, never-nothing, also-written}
+use Rattle.ranges.proofs.Exchanged.{ends-exchanged, negatable, told-least, least-highest, known-back, next-lower, never-nothing, also-written}
 use Rattle.ranges.proofs.Ranging.{range-ends, range-lower, range-upper, range-none}
 use Rattle.ranges.proofs.least_and_largest.Statement.{statement}
 use Rattle.ranges.proofs.least_and_largest.Tie as tie
@@ -160,12 +161,12 @@ enum-told-3 : tie.Need-enum-told-3
 enum-told-3 c = search needs
 
 -- ── there ──
-abbrev passed : tie.After-maximize → tie.After-enum-told3
-passed c = c .before .before .before
+abbrev passed : tie.After-maximize-from → tie.After-enum-told3
+passed c = c .before .before .before .before
 
-maximize-requires : tie.Need-maximize-requires
-maximize-requires c κs =
-    let m = c .before .before in
+maximize-from-requires : tie.Need-maximize-from-requires
+maximize-from-requires c κs =
+    let m = c .before .before .before in
     let s = start m in
     let w = widened m in (
       refl,
@@ -174,22 +175,24 @@ maximize-requires c κs =
       s .pre .0,
       ends-for (w .before .wide .ensures) (w .wide2 .ensures) (mapAt s) (two (asked (half m))),
       s .pre .2,
+      refl,
+      λ e. absurd (true≢false (sym e)),
     )
 
-abbrev high' : tie.After-maximize → List ℤ
-high' c = c .maximize .last .1 .1 .1 .1 .1 .1 .1 .1 .1 .1 .1 .1 .1 .1 .1 .1 .0
+abbrev high' : tie.After-maximize-from → List ℤ
+high' c = c .maximize-from .last .1 .1 .1 .1 .1 .1 .1 .1 .1 .1 .1 .1 .1 .1 .1 .1 .1 .1 .0
 
-abbrev inside' : tie.After-maximize → List ℕ
-inside' c = c .maximize .last .1 .1 .1 .1 .1 .1 .1 .1 .1 .1 .1 .1 .1 .1 .1 .1 .1 .0
+abbrev inside' : tie.After-maximize-from → List ℕ
+inside' c = c .maximize-from .last .1 .1 .1 .1 .1 .1 .1 .1 .1 .1 .1 .1 .1 .1 .1 .1 .1 .1 .1 .1 .0
 
-there : (c : tie.After-maximize) {answer : Maximum} → c .maximize .result ≡ answer
+there : (c : tie.After-maximize-from) {answer : Maximum} → c .maximize-from .result ≡ answer
     → Maximized (mapAt (start (passed c))) (start (passed c) .args .outer) (capacityAt (start (passed c))) (start (passed c) .args .source)
     (start (passed c) .args .sink) (start (passed c) .args .high .now) (high' c) (inside' c) answer
 there c same =
     let s = start (passed c) in
     let w = widened (passed c) in
     maximized-as (w .before .wide .ensures) (w .wide2 .ensures) (mapAt s) (s .args .outer) (capacityAt s)
-    (s .args .high .now) (high' c) (inside' c) same (c .maximize .ensures .1)
+    (s .args .high .now) (high' c) (inside' c) same (c .maximize-from .ensures .2)
 
 write-set-requires : tie.Need-write-set-requires
 write-set-requires c κs = let m = passed (c .before .before .before) in (start m .pre .0 .few-nodes, room-flows _ _ _ _ (upper m) .1)
@@ -197,7 +200,7 @@ write-set-requires c κs = let m = passed (c .before .before .before) in (start 
 enum-known-most : tie.Need-enum-known-most
 enum-known-most c = search needs
 
-abbrev found : tie.After-write-set → tie.After-maximize
+abbrev found : tie.After-write-set → tie.After-maximize-from
 found c = c .before .before .before .before
 
 abbrev above' : tie.After-write-set → List ℕ
@@ -250,56 +253,77 @@ returns-4 c =
 abbrev given : tie.After-known-told4 → tie.After-write-set
 given c = c .before .before .before .before .before
 
-maximize-requires-2 : tie.Need-maximize-requires-2
-maximize-requires-2 c κs =
-    let m = passed (found (given (c .before .before))) in
-    let s = start m in
-    let w = widened m in (
-      found (given (c .before .before)) .maximize .ensures .0,
-      room-flows _ _ _ _ (lower (half m)) .0,
-      s .pre .1,
-      s .pre .0,
-      ends-for (w .wide2 .ensures) (w .before .wide .ensures) (mapAt s) (ends-exchanged _ _ _ (two (asked (half m)))),
-      s .pre .2,
-    )
-
-abbrev first : tie.After-maximize2 → tie.After-write-set
-first c = given (c .before .before .before)
-
-abbrev origin : tie.After-maximize2 → tie.After-enum-told3
-origin c = passed (found (first c))
-
-abbrev low' : tie.After-maximize2 → List ℤ
-low' c = c .maximize2 .last .1 .1 .1 .1 .1 .1 .1 .1 .1 .1 .1 .1 .1 .1 .1 .1 .0
-
-abbrev inside2' : tie.After-maximize2 → List ℕ
-inside2' c = c .maximize2 .last .1 .1 .1 .1 .1 .1 .1 .1 .1 .1 .1 .1 .1 .1 .1 .1 .1 .0
-
-back : (c : tie.After-maximize2) {answer : Maximum} → c .maximize2 .result ≡ answer
-    → Maximized (mapAt (start (origin c))) (start (origin c) .args .outer) (capacityAt (start (origin c))) (start (origin c) .args .sink)
-    (start (origin c) .args .source) (start (origin c) .args .low .now) (low' c) (inside2' c) answer
-back c same =
-    let s = start (origin c) in
-    let w = widened (origin c) in
-    maximized-as (w .wide2 .ensures) (w .before .wide .ensures) (mapAt s) (s .args .outer) (capacityAt s)
-    (s .args .low .now) (low' c) (inside2' c) same (c .maximize2 .ensures .1)
-
-write-set-requires-3 : tie.Need-write-set-requires-3
-write-set-requires-3 c κs = let m = origin (c .before .before .before) in (start m .pre .0 .few-nodes, room-flows _ _ _ _ (lower (half m)) .1)
-
--- the set of the least value written
-abbrev returned : tie.After-write-set3 → tie.After-maximize2
-returned c = c .before .before .before .before
-
-abbrev below' : tie.After-write-set3 → List ℕ
-below' c = c .write-set3 .last .1 .1 .0
-
 -- the largest value, which stands since the way there
 value-there : (c : tie.After-known-told4)
     → Maximized (mapAt (start (passed (found (given c))))) (start (passed (found (given c))) .args .outer) (capacityAt (start (passed (found (given c)))))
     (start (passed (found (given c))) .args .source) (start (passed (found (given c))) .args .sink)
     (start (passed (found (given c))) .args .high .now) (high' (found (given c))) (inside' (found (given c))) (Value (c .before .most .given .0 .0))
 value-there c = there (found (given c)) (c .before .most .given .1)
+
+negate-requires : tie.Need-negate-requires
+negate-requires c κs =
+    let m = found (given c) in
+    let s = start (passed m) in
+    negatable (mapAt s) (capacityAt s) (s .pre .0 .few-edges) (s .pre .1) (inside' m) (value-there c .2)
+
+maximize-on-requires : tie.Need-maximize-on-requires
+maximize-on-requires c κs =
+    let n = c .before .before .before .before in
+    let k = n .before in
+    let f = found (given k) in
+    let m = passed f in
+    let s = start m in
+    let w = widened m in
+    let h = value-there k in
+    let ends = two (asked (half m)) in
+    let back = told-least (mapAt s) (capacityAt s) (s .pre .0 .few-edges) (s .pre .1) (inside' f) (h .2) (n .negate .result) (n .negate .ensures) in (
+      f .maximize-from .ensures .0,
+      room-flows _ _ _ _ (lower (half m)) .0,
+      s .pre .1,
+      s .pre .0,
+      ends-for (w .wide2 .ensures) (w .before .wide .ensures) (mapAt s) (ends-exchanged _ _ _ ends),
+      s .pre .2,
+      f .maximize-from .ensures .1,
+      (
+        h .0 .0,
+        s .args .high .now,
+        known-back (s .pre .0 .plane .sound .range) (capacityAt s) (s .args .source) (s .args .sink) ends (w .wide2 .ensures) (w .before .wide .ensures)
+            (s .args .outer) back (h .0 .1),
+        h .0 .2,
+        room-flows _ _ _ _ (upper m) .0,
+      ),
+    )
+
+abbrev first : tie.After-maximize-on → tie.After-write-set
+first c = given (c .before .before .before .before .before .before)
+
+abbrev origin : tie.After-maximize-on → tie.After-enum-told3
+origin c = passed (found (first c))
+
+abbrev low' : tie.After-maximize-on → List ℤ
+low' c = c .maximize-on .last .1 .1 .1 .1 .1 .1 .1 .1 .1 .1 .1 .1 .1 .1 .1 .1 .1 .1 .0
+
+abbrev inside2' : tie.After-maximize-on → List ℕ
+inside2' c = c .maximize-on .last .1 .1 .1 .1 .1 .1 .1 .1 .1 .1 .1 .1 .1 .1 .1 .1 .1 .1 .1 .1 .0
+
+back : (c : tie.After-maximize-on) {answer : Maximum} → c .maximize-on .result ≡ answer
+    → Maximized (mapAt (start (origin c))) (start (origin c) .args .outer) (capacityAt (start (origin c))) (start (origin c) .args .sink)
+    (start (origin c) .args .source) (start (origin c) .args .low .now) (low' c) (inside2' c) answer
+back c same =
+    let s = start (origin c) in
+    let w = widened (origin c) in
+    maximized-as (w .wide2 .ensures) (w .before .wide .ensures) (mapAt s) (s .args .outer) (capacityAt s)
+    (s .args .low .now) (low' c) (inside2' c) same (c .maximize-on .ensures .1)
+
+write-set-requires-3 : tie.Need-write-set-requires-3
+write-set-requires-3 c κs = let m = origin (c .before .before .before) in (start m .pre .0 .few-nodes, room-flows _ _ _ _ (lower (half m)) .1)
+
+-- the set of the least value written
+abbrev returned : tie.After-write-set3 → tie.After-maximize-on
+returned c = c .before .before .before .before
+
+abbrev below' : tie.After-write-set3 → List ℕ
+below' c = c .write-set3 .last .1 .1 .0
 
 enum-known-back : tie.Need-enum-known-back
 enum-known-back c = search needs
@@ -314,8 +338,8 @@ value-back : (c : tie.After-known-told5)
     (start (origin (returned (least c))) .args .low .now) (low' (returned (least c))) (inside2' (returned (least c))) (Value (c .before .back .given .0 .0))
 value-back c = back (returned (least c)) (c .before .back .given .1)
 
-negate-requires : tie.Need-negate-requires
-negate-requires c κs =
+negate-requires-2 : tie.Need-negate-requires-2
+negate-requires-2 c κs =
     let m = returned (least c) in
     let s = start (origin m) in
     negatable (mapAt s) (capacityAt s) (s .pre .0 .few-edges) (s .pre .1) (inside2' m) (value-back c .2)
@@ -342,10 +366,10 @@ returns-5 c =
     let a = s .args in
     let range = s .pre .0 .plane .sound .range in
     let ends = two (asked (half (origin m))) in
-    let h = value-there (m .before .before .before) in
+    let h = value-there (m .before .before .before .before .before .before) in
     let v = told-value (mapAt s) (capacityAt s) (s .pre .0 .few-edges) (s .pre .1) _ (inside' (found f)) (h .2) in
     let l = value-back q in
-    let n = told-least (mapAt s) (capacityAt s) (s .pre .0 .few-edges) (s .pre .1) (inside2' m) (l .2) (c .negate .result) (c .negate .ensures) in (
+    let n = told-least (mapAt s) (capacityAt s) (s .pre .0 .few-edges) (s .pre .1) (inside2' m) (l .2) (c .negate2 .result) (c .negate2 .ensures) in (
       none (origin m),
       (l .0 .0, least-highest range (capacityAt s) (a .source) (a .sink) ends (a .outer) n (l .0 .1), l .0 .2),
       (
@@ -383,7 +407,7 @@ returns-6 c =
     let m = returned (c .before .before .before .before) in
     let s = start (origin m) in
     let a = s .args in
-    let h = value-there (m .before .before .before) in
+    let h = value-there (m .before .before .before .before .before .before) in
     let r = back m (c .enum-told5 .given .1) in
     absurd (never-nothing (s .pre .0 .plane .sound .range) (capacityAt s) (a .source) (a .sink) (two (asked (half (origin m)))) _ (r .1) (r .2)
     _ (h .0 .0) (h .0 .1 .carries))
@@ -406,7 +430,7 @@ least-and-largest-spec =
     enum-known-high-room
     returns-3
     enum-told-3
-    maximize-requires
+    maximize-from-requires
     write-set-requires
     enum-known-most
     enum-told-4
@@ -415,10 +439,11 @@ least-and-largest-spec =
     same-length-2
     same-length-3
     returns-4
-    maximize-requires-2
+    negate-requires
+    maximize-on-requires
     write-set-requires-3
     enum-known-back
-    negate-requires
+    negate-requires-2
     same-length-4
     same-length-5
     same-length-6

@@ -1,0 +1,121 @@
+-- Limits from a capture: as Largest. The capacities are lent to be changed, and nothing is asked of them afterwards.
+use mathlib.Core.Path.{_≡_, refl}
+use mathlib.Core.List.{List}
+use Prim.Native.Nat.{ℕ}
+use lib.IntN.{pos}
+use borrow.Author.Needs.{needs}
+use Rattle.refusals.specs.Order.{NoneOf}
+use Rattle.arrays.proofs.FillLoops.{same-everywhere}
+use Rattle.sheets.specs.Open.{sheetChecks, Numbers}
+use Rattle.sheets.specs.inner.Prepared.{Prepared}
+use Rattle.sheets.proofs.Accepted.{sheet-bytes}
+use Rattle.sheets.proofs.Opening.{opens-passed, opens-first, if-passed}
+use Rattle.analyser.proofs.Opened.{drawn, walked, after-refused, after-sheet}
+use Rattle.analyser.proofs.largest_after.Statement.{statement}
+use Rattle.analyser.proofs.largest_after.Tie as tie
+
+open-walked-requires : tie.Need-open-walked-requires
+open-walked-requires c κs = (refl, same-everywhere 1024 0, refl, same-everywhere 1024 0, refl, refl, refl, refl, refl, refl)
+
+enum-known-verdict : tie.Need-enum-known-verdict
+enum-known-verdict c = search needs
+
+-- ── the sheet is refused ──
+returns : tie.Need-returns
+returns c =
+    let o = c .before .before .before in
+    let a = o .before .before .before .before .before .before .before .before .before .before .before .before .args in
+    let first = opens-first (a .sheet .now) _ (o .open-walked .result) (c .before .verdict .given .1) (o .open-walked .ensures .8) in (
+      refl,
+      (
+        after-refused (a .sheet .now) _ _ first (a .capture .now) (a .window) (a .named) (a .source) (a .sink) (a .limits .now) (a .flows .now) (a .set .now),
+        refl,
+        refl,
+      ),
+    )
+
+enum-told : tie.Need-enum-told
+enum-told c = search needs
+
+-- ── it is accepted ──
+abbrev opened : tie.After-enum-told → tie.After-open-walked
+opened c = c .before .before
+
+abbrev begun : tie.After-enum-told → tie.Start
+begun c = opened c .before .before .before .before .before .before .before .before .before .before .before .before
+
+abbrev sheet : tie.After-enum-told → List ℕ
+sheet c = begun c .args .sheet .now
+
+abbrev tails : tie.After-enum-told → List ℕ
+tails c = opened c .open-walked .last .1 .0
+
+abbrev rotations : tie.After-enum-told → List ℕ
+rotations c = opened c .open-walked .last .1 .1 .0
+
+abbrev lefts : tie.After-enum-told → List ℕ
+lefts c = opened c .open-walked .last .1 .1 .1 .0
+
+accepted : (c : tie.After-enum-told) → NoneOf (sheetChecks (sheet c)) × Numbers (sheet c) (lefts c) (opened c .open-walked .result)
+accepted c = opens-passed (sheet c) _ (opened c .open-walked .result) (c .enum-told .given .1) (opened c .open-walked .ensures .8)
+
+prepared : (c : tie.After-enum-told)
+    → Prepared (sheet c) (opened c .open-walked .result) (tails c) (rotations c) (lefts c) (opened c .open-walked .last .1 .1 .1 .1 .0)
+    (opened c .open-walked .last .1 .1 .1 .1 .1 .0) (opened c .open-walked .last .1 .1 .1 .1 .1 .1 .0)
+    (opened c .open-walked .last .1 .1 .1 .1 .1 .1 .1 .0) (opened c .open-walked .last .1 .1 .1 .1 .1 .1 .1 .1 .0)
+prepared c = if-passed (c .enum-told .given .1) (opened c .open-walked .ensures .9)
+
+fill-capacities-requires : tie.Need-fill-capacities-requires
+fill-capacities-requires c κs =
+    let a = accepted (c .before) in
+    (sheet-bytes _ (a .0), a .1 .edges-are, refl, same-everywhere 1024 (pos 0))
+
+-- ── the arrays hold it ──
+abbrev told : tie.After-fill-capacities → tie.After-enum-told
+told c = c .before .before
+
+largest-after-requires : tie.Need-largest-after-requires
+largest-after-requires c κs =
+    let f = c .before .before .before .before .before .before .before .before .before .before .before .before in
+    let t = told f in (
+      f .fill-capacities .ensures .0,
+      drawn (sheet t) (opened t .open-walked .result) (lefts t) (tails t) (rotations t) (f .fill-capacities .last .1 .1 .0) (accepted t)
+          (prepared t .tails-are) (prepared t .rotations-are) (f .fill-capacities .ensures .1),
+      walked (sheet t) (opened t .open-walked .result) (lefts t) (tails t) (rotations t) (f .fill-capacities .last .1 .1 .0) (accepted t)
+          (prepared t .tails-are) (prepared t .rotations-are) (f .fill-capacities .ensures .1) _ _ _ _ _ (prepared t .walked),
+    )
+
+same-length : tie.Need-same-length
+same-length c = search needs
+
+same-length-2 : tie.Need-same-length-2
+same-length-2 c = search needs
+
+same-length-3 : tie.Need-same-length-3
+same-length-3 c = search needs
+
+returns-2 : tie.Need-returns-2
+returns-2 c =
+    let k = c .before .before .before .before in
+    let f = k .before .before .before .before .before .before .before .before .before .before .before .before .before in
+    let t = told f in
+    let a = begun t .args in
+    after-sheet (sheet t) (opened t .open-walked .result) (lefts t) (tails t) (rotations t) (f .fill-capacities .last .1 .1 .0) (accepted t)
+    (prepared t .tails-are) (prepared t .rotations-are) (f .fill-capacities .ensures .1)
+    (a .capture .now) (a .window) (a .named) (a .source) (a .sink) (a .limits .now) _ (a .flows .now) _ (a .set .now) _
+    (k .largest-after .result) (k .largest-after .ensures)
+
+pub largest-after-spec : {M : Type 1} → statement M
+largest-after-spec =
+    tie.close
+    (tie.spec
+    open-walked-requires
+    enum-known-verdict
+    returns
+    enum-told
+    fill-capacities-requires
+    largest-after-requires
+    same-length
+    same-length-2
+    same-length-3
+    returns-2)

@@ -1,0 +1,212 @@
+-- Largest on the limits found: the limits taken, the checks that stand last, the limits written, then the question on the drawing that has them.
+use mathlib.Core.Path.{_≡_, refl, sym, subst, fun-ext}
+use mathlib.Core.List.{List}
+use Prim.Native.Nat.{ℕ, _*_, _<_}
+use lib.IntN.{ℤ}
+use borrow.Author.Needs.{needs}
+use Rattle.integers.specs.inner.Limited.{Limited}
+use Rattle.refusals.specs.Order.{NoneOf, Judged}
+use Rattle.refusals.specs.declared.Verdict.{Verdict}
+use Rattle.refusals.specs.declared.Verdict.the-variants.{Passed, Refused}
+use Rattle.maps.specs.Drawing.{Drawing}
+use Rattle.arrays.specs.At.{at, atℤ}
+use Rattle.arrays.specs.Maps.{mapOf, drawingOf}
+use Rattle.arrays.specs.inner.Drawn.{Drawn}
+use Rattle.arrays.specs.inner.Sizes.{mostOnSheet}
+use Rattle.capture.specs.Window.{found}
+use Rattle.capture.specs.Capture.{lastChecks}
+use Rattle.capture.specs.inner.Taken.{LimitsTaken}
+use Rattle.capture.proofs.Lasting.{last-search}
+use Rattle.capture.proofs.Finding.{taken-widened, last-widened, found-limited, found-drawn, taking-refused, last-refused, largest-given}
+use Rattle.capture.proofs.largest_after.Statement.{statement}
+use Rattle.capture.proofs.largest_after.Tie as tie
+
+-- ── the limits are taken ──
+abbrev begun : tie.After-take-limits → tie.Start
+begun c = c .before .before .before .before .before .before
+
+abbrev drawing : tie.Start → Drawing
+drawing s = drawingOf (s .args .nodes) (s .args .edges) (s .args .outer) (s .args .tails .now) (s .args .rotations .now) (s .args .capacities .now)
+
+abbrev capacities' : tie.After-take-limits → List ℤ
+capacities' c = c .take-limits .last .1 .1 .1 .1 .0
+
+taken-as : (c : tie.After-take-limits) (v : Verdict) → c .take-limits .result ≡ v
+    → LimitsTaken (begun c .args .edges) (atℤ (begun c .args .capacities .now)) (atℤ (capacities' c)) (begun c .args .capture .now)
+    (begun c .args .window) (begun c .args .named) v
+taken-as c v e =
+    taken-widened (begun c .args .edges) (atℤ (begun c .args .capacities .now)) (atℤ (capacities' c)) (begun c .args .capture .now)
+    (c .before .before .before .wide .ensures) (c .before .before .wide64 .ensures) e (c .take-limits .ensures .1)
+
+-- ── they passed ──
+abbrev limited : tie.After-enum-told → tie.After-take-limits
+limited c = c .before .before
+
+abbrev start : tie.After-enum-told → tie.Start
+start c = begun (limited c)
+
+taken : (c : tie.After-enum-told)
+    → LimitsTaken (start c .args .edges) (atℤ (start c .args .capacities .now)) (atℤ (capacities' (limited c))) (start c .args .capture .now)
+    (start c .args .window) (start c .args .named) Passed
+taken c = taken-as (limited c) Passed (c .enum-told .given .1)
+
+-- ── the last checks ──
+abbrev told : tie.After-check-last → tie.After-enum-told
+told c = c .before .before .before .before .before .before
+
+last-as : (c : tie.After-check-last) (v : Verdict) → c .check-last .result ≡ v →
+    let a = start (told c) .args in
+    Judged (lastChecks (a .nodes) (a .edges) (a .source) (a .sink) (a .limits .now) (a .flows .now) (a .set .now)) v
+last-as c v e =
+    let a = start (told c) .args in
+    let w = c .before .before .before .before in
+    last-widened (a .nodes) (a .edges) (a .limits .now) (a .flows .now) (a .set .now) (w .before .wide2 .ensures) (w .wide3 .ensures) e (c .check-last .ensures)
+
+-- ── all passed ──
+abbrev checked : tie.After-enum-told2 → tie.After-enum-told
+checked c = told (c .before .before)
+
+last : (c : tie.After-enum-told2) →
+    let a = start (checked c) .args in
+    NoneOf (lastChecks (a .nodes) (a .edges) (a .source) (a .sink) (a .limits .now) (a .flows .now) (a .set .now))
+last c = last-as (c .before .before) Passed (c .enum-told2 .given .1)
+
+-- the capacities are those found
+are : (c : tie.After-enum-told2) →
+    let a = start (checked c) .args in
+    atℤ (capacities' (limited (checked c))) ≡ found (atℤ (a .capacities .now)) (a .capture .now) (a .window) (a .named)
+are c = fun-ext (taken (checked c) .1)
+
+-- ── the needs, in the order of the code ──
+wide-requires : tie.Need-wide-requires
+wide-requires c κs = search needs
+
+wide64-requires : tie.Need-wide64-requires
+wide64-requires c κs = search needs
+
+take-limits-requires : tie.Need-take-limits-requires
+take-limits-requires c κs = let p = c .before .before .before .before .before .pre in (p .0, p .1 .few-edges)
+
+enum-known-taken : tie.Need-enum-known-taken
+enum-known-taken c = search needs
+
+returns : tie.Need-returns
+returns c =
+    let k = c .before .before .before in
+    let a = begun k .args in (
+      refl,
+      (
+        taking-refused (drawing (begun k)) (a .capture .now) (a .window) (a .named) (a .source) (a .sink) (a .limits .now) (a .flows .now) (a .set .now) _ _
+            (taken-as k (Refused _ _) (c .before .taken .given .1)),
+        refl,
+        refl,
+      ),
+    )
+
+enum-told : tie.Need-enum-told
+enum-told c = search needs
+
+wide-requires-2 : tie.Need-wide-requires-2
+wide-requires-2 c κs = search needs
+
+wide-requires-3 : tie.Need-wide-requires-3
+wide-requires-3 c κs = search needs
+
+check-last-requires : tie.Need-check-last-requires
+check-last-requires c κs = start (c .before .before .before .before .before) .pre .1 .few-nodes
+
+enum-known-last : tie.Need-enum-known-last
+enum-known-last c = search needs
+
+same-length : tie.Need-same-length
+same-length c = search needs
+
+same-length-2 : tie.Need-same-length-2
+same-length-2 c = search needs
+
+same-length-3 : tie.Need-same-length-3
+same-length-3 c = search needs
+
+returns-2 : tie.Need-returns-2
+returns-2 c =
+    let k = c .before .before .before in
+    let t = told k in
+    let a = start t .args in (
+      refl,
+      (
+        last-refused (drawing (start t)) (a .capture .now) (a .window) (a .named) (a .source) (a .sink) (a .limits .now) (a .flows .now) (a .set .now)
+            (taken t .0) _ _ (last-as k (Refused _ _) (c .before .last .given .1)),
+        refl,
+        refl,
+      ),
+    )
+
+enum-told-2 : tie.Need-enum-told-2
+enum-told-2 c = search needs
+
+write-limits-requires : tie.Need-write-limits-requires
+write-limits-requires c κs =
+    let t = c .before .before in
+    let s = start (checked t) in
+    let a = s .args in
+    (s .pre .1 .few-edges, last-search (a .nodes) (a .edges) (a .source) (a .sink) (a .limits .now) (a .flows .now) (a .set .now) (last t) .1)
+
+largest-requires : tie.Need-largest-requires
+largest-requires c κs =
+    let t = c .before .before .before .before .before .before .before in
+    let s = start (checked t) in
+    let a = s .args in
+    let 𝓜 = mapOf (a .nodes) (a .edges) (a .tails .now) (a .rotations .now) in
+    let passed = taken (checked t) .0 in (
+      subst (Drawn 𝓜 (at (a .lefts .now)) (a .faces) (a .outer)) (sym (are t))
+          (found-drawn 𝓜 (atℤ (a .capacities .now)) (a .capture .now) (a .window) (a .named) passed (at (a .lefts .now)) (a .faces) (a .outer) (s .pre .1)),
+      subst (λ f. (d : ℕ) → d < 2 * a .edges → Limited mostOnSheet (f d)) (sym (are t))
+          (found-limited 𝓜 (atℤ (a .capacities .now)) (a .capture .now) (a .window) (a .named) passed),
+      s .pre .2,
+    )
+
+same-length-4 : tie.Need-same-length-4
+same-length-4 c = search needs
+
+same-length-5 : tie.Need-same-length-5
+same-length-5 c = search needs
+
+same-length-6 : tie.Need-same-length-6
+same-length-6 c = search needs
+
+returns-3 : tie.Need-returns-3
+returns-3 c =
+    let k = c .before .before .before in
+    let w = k .before .before .before .before .before in
+    let t = w .before .before .before in
+    let s = start (checked t) in
+    let a = s .args in
+    largest-given (drawing s) (a .capture .now) (a .window) (a .named) (a .source) (a .sink) (a .limits .now) (a .flows .now) (a .set .now)
+    (taken (checked t) .0) (atℤ (capacities' (limited (checked t)))) (taken (checked t) .1) (last t) _ _ _ (k .largest .result)
+    (w .write-limits .ensures) (k .largest .ensures)
+
+pub largest-after-spec : {M : Type 1} → statement M
+largest-after-spec =
+    tie.close
+    (tie.spec
+    wide-requires
+    wide64-requires
+    take-limits-requires
+    enum-known-taken
+    returns
+    enum-told
+    wide-requires-2
+    wide-requires-3
+    check-last-requires
+    enum-known-last
+    same-length
+    same-length-2
+    same-length-3
+    returns-2
+    enum-told-2
+    write-limits-requires
+    largest-requires
+    same-length-4
+    same-length-5
+    same-length-6
+    returns-3)

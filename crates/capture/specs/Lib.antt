@@ -1,0 +1,4 @@
+pub mod Entry
+pub mod Window
+pub mod Capture
+pub mod inner

@@ -1,0 +1,343 @@
+// Limits from a capture: the recorder's bytes, read forward record by record, and Largest on a drawing with the forward limits found. Document 02, Job 10. The
+// capture is never copied, whatever its length: what is kept of it is the tick of the record before, and for each edge the least limit of the window.
+ghost use mathlib.Core.Path.{_≡_};
+ghost use Prim.Native.Nat.{ℕ, _+_, _-_, _*_, _<_, _≤_};
+ghost use lib.ListN.{length, set};
+ghost use lib.IntN.{pos};
+ghost use Rattle.integers.specs.inner.Limited.{Limited};
+ghost use Rattle.refusals.specs.Order.{Judged, NoneOf, Decides};
+ghost use Rattle.grouping.specs.inner.Walked.{Walked};
+ghost use Rattle.arrays.specs.At.{at, atℤ};
+ghost use Rattle.arrays.specs.Filled.{filled};
+ghost use Rattle.arrays.specs.inner.Drawn.{Drawn};
+ghost use Rattle.arrays.specs.Maps.{mapOf, drawingOf};
+ghost use Rattle.arrays.specs.inner.Sizes.{mostOnSheet};
+ghost use Rattle.capture.specs.Entry.{begun, entryChecks};
+ghost use Rattle.capture.specs.Window.{lesser, laid, found};
+ghost use Rattle.capture.specs.Capture.{windowChecks, recordsChecks, limitsChecks, lastChecks, captureChecks, FoundAfter};
+ghost use Rattle.capture.specs.inner.Read.{entryAt};
+ghost use Rattle.capture.specs.inner.Taken.{lowered, LimitsTaken};
+use questions::LargestAnswer;
+use refusals::Verdict;
+
+// The capture and a place in it.
+pub struct Reader<'a> {
+    pub capture: &'a [u8],
+    pub at: usize,
+}
+
+// What stands at a place: no record of kind 5, one that is cut short, or a whole one with its tick, its edge and its limit.
+pub enum Entry {
+    Wrong,
+    Cut,
+    Full(u32, u16, i32),
+}
+
+// The record at a place, on slice and number. What is left is compared with a record's length, so that no sum can wrap.
+pub fn entry_at(capture: &[u8], at: usize) -> Entry
+    ensures { λ r. ⌜ r ≡ entryAt (now (capture .entry)) at ⌝ }
+{
+    if capture.len() <= at {
+        return Entry::Wrong;
+    }
+    if capture[at] != 5 {
+        return Entry::Wrong;
+    }
+    if capture.len() - at < records::record_length(5) {
+        return Entry::Cut;
+    }
+    let tick = fields::read_u32(capture, at + 1);
+    let edge = fields::read_u16(capture, at + 5);
+    let limit = fields::read_i32(capture, at + 7);
+    Entry::Full(tick, edge, limit)
+}
+
+// A reader at a place.
+pub fn reader_at<'a>(capture: &'a [u8], at: usize) -> Reader<'a>
+    ensures { λ r. ⌜ (r .capture ≡ capture .entry) × (r .at ≡ at) ⌝ }
+{
+    Reader { capture, at }
+}
+
+// The record that a reader stands at.
+pub fn record<'a>(reader: Reader<'a>) -> Entry
+    ensures { λ r. ⌜ r ≡ entryAt (now (reader .entry .capture)) (reader .entry .at) ⌝ }
+{
+    entry_at(reader.capture, reader.at)
+}
+
+// The same for whoever has a plain slice: every loop reads through this.
+pub fn entry_of(capture: &[u8], at: usize) -> Entry
+    ensures { λ r. ⌜ r ≡ entryAt (now (capture .entry)) at ⌝ }
+{
+    record(reader_at(capture, at))
+}
+
+// The same number, widened.
+fn wide64(x: u64) -> usize
+    ensures { λ r. ⌜ r ≡ x ⌝ }
+{
+    x as usize
+}
+
+// Check 26: a window of 1 to 256 records, and a named record that is one of the whole ones.
+fn check_window(capture: &[u8], window: usize, named: usize) -> Verdict
+    ensures { λ r. ⌜ Judged (windowChecks (now (capture .entry)) window named) r ⌝ }
+{
+    if window < 1 {
+        return Verdict::Refused(26, 0);
+    }
+    if window > 256 {
+        return Verdict::Refused(26, 0);
+    }
+    if capture.len() / 11 <= named {
+        return Verdict::Refused(26, 0);
+    }
+    Verdict::Passed
+}
+
+// Every record of the capture in turn, to the end: 2, 1, 25 and 27. What is kept is the tick of the record before.
+fn check_capture(capture: &[u8], edges: usize) -> Verdict
+    ensures { λ r. ⌜ Judged (recordsChecks edges (now (capture .entry))) r ⌝ }
+{
+    let mut at: usize = 0;
+    let mut last: u32 = 0;
+    while at < capture.len() {
+        let entry = entry_of(capture, at);
+        match entry {
+            Entry::Wrong => {
+                return Verdict::Refused(2, 0);
+            }
+            Entry::Cut => {
+                return Verdict::Refused(1, 0);
+            }
+            Entry::Full(tick, edge, _) => {
+                if edges <= arrays::wide(edge) {
+                    return Verdict::Refused(25, 0);
+                }
+                if tick < last {
+                    return Verdict::Refused(27, 0);
+                }
+                last = tick;
+                at += 11;
+            }
+        }
+    }
+    Verdict::Passed
+}
+
+// The capacity of an edge's forward dart once a record of it is taken: the first one's limit, then the lesser of the two.
+fn lowered_by(mark: u8, present: i32, limit: i32) -> i32
+    ensures { λ r. ⌜ r ≡ lowered mark present limit ⌝ }
+{
+    if mark == 0 {
+        return limit;
+    }
+    if limit < present { limit } else { present }
+}
+
+// One record of the window is taken: its edge is marked, and the capacity of its forward dart is the least so far.
+fn take_limit(seen: &mut [u8; 512], capacities: &mut [i32; 1024], edge: usize, limit: i32)
+    requires { ⌜ (length (now seen) ≡ 512) × (length (now capacities) ≡ 1024) × (edge < 512) ⌝ }
+    ensures { λ _. ⌜ (now (seen .exit) ≡ set (now (seen .entry)) edge 1)
+        × (now (capacities .exit) ≡ set (now (capacities .entry)) (2 * edge)
+        (lowered (at (now (seen .entry)) edge) (atℤ (now (capacities .entry)) (2 * edge)) limit)) ⌝ }
+{
+    let dart = 2 * edge;
+    let mark = seen[edge];
+    let present = capacities[dart];
+    let least = lowered_by(mark, present, limit);
+    seen[edge] = 1;
+    capacities[dart] = least;
+}
+
+// The records of the window, at most 256, taken into the capacities: first sight of an edge stores its limit, a later one takes the less.
+fn take_window(
+    capture: &[u8],
+    first: usize,
+    count: usize,
+    edges: usize,
+    capacities: &mut [i32; 1024],
+)
+    requires { ⌜ (length (now capacities) ≡ 1024) × (edges ≤ 512) × (11 * (first + count) ≤ length (now capture))
+        × ((i : ℕ) → i < first + count → NoneOf (entryChecks edges (now capture) i)) ⌝ }
+    ensures { λ _. ⌜ (length (now (capacities .exit)) ≡ 1024)
+        × ((d : ℕ) → atℤ (now (capacities .exit)) d ≡ laid (atℤ (now (capacities .entry))) (now (capture .entry)) first count d) ⌝ }
+{
+    let mut seen = [0u8; 512];
+    let mut i: usize = 0;
+    while i < count {
+        let entry = entry_of(capture, 11 * (first + i));
+        i += 1;
+        if let Entry::Full(_, edge, limit) = entry {
+            take_limit(&mut seen, &mut *capacities, arrays::wide(edge), limit);
+        }
+    }
+}
+
+// Checks 6 and 7 on the limits found, channel by channel.
+fn check_found(capacities: &[i32; 1024], edges: usize) -> Verdict
+    requires { ⌜ edges ≤ 512 ⌝ }
+    ensures { λ r. ⌜ Judged (limitsChecks edges (atℤ (now (capacities .entry)))) r ⌝ }
+{
+    let mut e: usize = 0;
+    while e < edges {
+        let channel = records::check_capacities(capacities[2 * e], capacities[2 * e + 1]);
+        if let Verdict::Refused(k, p) = channel {
+            return Verdict::Refused(k, p);
+        }
+        e += 1;
+    }
+    Verdict::Passed
+}
+
+// Checks 13, 14 and 16, which stand last; 16 covers all three slices.
+fn check_last(
+    nodes: usize,
+    edges: usize,
+    source: usize,
+    sink: usize,
+    limits: &[i32],
+    flows: &[i32],
+    set: &[u64],
+) -> Verdict
+    requires { ⌜ nodes ≤ 1024 ⌝ }
+    ensures { λ r. ⌜ Judged (lastChecks nodes edges source sink (now (limits .entry)) (now (flows .entry)) (now (set .entry))) r ⌝ }
+{
+    let named = questions::check_ends(nodes, source, sink);
+    if let Verdict::Refused(k, p) = named {
+        return Verdict::Refused(k, p);
+    }
+    if limits.len() < edges {
+        return Verdict::Refused(16, 0);
+    }
+    questions::check_room(nodes, edges, flows.len(), set.len())
+}
+
+// The forward limits found, one for each edge, in the first places of their slice.
+fn write_limits(capacities: &[i32; 1024], edges: usize, limits: &mut [i32])
+    requires { ⌜ (edges ≤ 512) × (edges ≤ length (now limits)) ⌝ }
+    ensures { λ _. ⌜ now (limits .exit) ≡ filled edges (λ e. atℤ (now (capacities .entry)) (2 * e)) (now (limits .entry)) ⌝ }
+{
+    let mut e: usize = 0;
+    while e < edges {
+        limits[e] = capacities[2 * e];
+        e += 1;
+    }
+}
+
+// Where a window of so many records begins that ends before `end`: at 0 where fewer stand before it.
+fn window_start(end: usize, window: usize) -> usize
+    ensures { λ r. ⌜ r ≡ end - window ⌝ }
+{
+    if end < window {
+        return 0;
+    }
+    end - window
+}
+
+// The limits after the named record, in place of the forward capacities: 26, every record of the capture, the window taken, then 6 and 7 on what is found.
+fn take_limits(
+    capture: &[u8],
+    window: usize,
+    named: usize,
+    edges: usize,
+    capacities: &mut [i32; 1024],
+) -> Verdict
+    requires { ⌜ (length (now capacities) ≡ 1024) × (edges ≤ 512) ⌝ }
+    ensures { λ r. ⌜ (length (now (capacities .exit)) ≡ 1024)
+        × LimitsTaken edges (atℤ (now (capacities .entry))) (atℤ (now (capacities .exit))) (now (capture .entry)) window named r ⌝ }
+{
+    let ranged = check_window(capture, window, named);
+    if let Verdict::Refused(k, p) = ranged {
+        return Verdict::Refused(k, p);
+    }
+    let whole = check_capture(capture, edges);
+    if let Verdict::Refused(k, p) = whole {
+        return Verdict::Refused(k, p);
+    }
+    let end = named + 1;
+    let first = window_start(end, window);
+    take_window(capture, first, end - first, edges, &mut *capacities);
+    check_found(&*capacities, edges)
+}
+
+// Largest on a drawing with the forward limits that a capture leaves after a named record. The capacities become those found; the limits are written for each
+// answer but a refusal, and a refusal leaves all three slices.
+pub fn largest_after<'a>(
+    tails: &'a [u16; 1024],
+    rotations: &'a [u16; 1024],
+    lefts: &'a [u16; 1024],
+    capacities: &mut [i32; 1024],
+    order: &'a [u16; 1024],
+    from: &'a [u16; 1024],
+    grouped: &'a [u16; 1024],
+    starts: &'a [u16; 1024],
+    ends: &'a [u16; 1024],
+    nodes: usize,
+    edges: usize,
+    faces: usize,
+    trees: usize,
+    outer: usize,
+    capture: &[u8],
+    window: u16,
+    named: u64,
+    source: u16,
+    sink: u16,
+    limits: &mut [i32],
+    flows: &mut [i32],
+    set: &mut [u64],
+) -> LargestAnswer
+    requires { ⌜ (length (now capacities) ≡ 1024)
+        × Drawn (mapOf nodes edges (now tails) (now rotations)) (at (now lefts)) faces outer (atℤ (now capacities))
+        × Walked (2 * edges) faces outer trees (at (now rotations)) (now lefts) (now order) (now from) (now grouped) (now starts) (now ends) ⌝ }
+    ensures { λ r. ⌜ FoundAfter (drawingOf nodes edges outer (now (tails .entry)) (now (rotations .entry)) (now (capacities .entry)))
+        (captureChecks (drawingOf nodes edges outer (now (tails .entry)) (now (rotations .entry)) (now (capacities .entry)))
+        (now (capture .entry)) window named source sink (now (limits .entry)) (now (flows .entry)) (now (set .entry)))
+        (now (capture .entry)) window named source sink
+        (now (limits .entry)) (now (limits .exit)) (now (flows .entry)) (now (flows .exit)) (now (set .entry)) (now (set .exit)) r ⌝ }
+{
+    let taken = take_limits(
+        capture,
+        arrays::wide(window),
+        wide64(named),
+        edges,
+        &mut *capacities,
+    );
+    if let Verdict::Refused(k, p) = taken {
+        return LargestAnswer::Refused(k, p);
+    }
+    let last = check_last(
+        nodes,
+        edges,
+        arrays::wide(source),
+        arrays::wide(sink),
+        &*limits,
+        &*flows,
+        &*set,
+    );
+    if let Verdict::Refused(k, p) = last {
+        return LargestAnswer::Refused(k, p);
+    }
+    write_limits(&*capacities, edges, limits);
+    questions::largest(
+        tails,
+        rotations,
+        lefts,
+        &*capacities,
+        order,
+        from,
+        grouped,
+        starts,
+        ends,
+        nodes,
+        edges,
+        faces,
+        trees,
+        outer,
+        source,
+        sink,
+        flows,
+        set,
+    )
+}

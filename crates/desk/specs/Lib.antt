@@ -1,0 +1,4 @@
+pub mod Paper
+pub mod Class
+pub mod Statements
+pub mod inner

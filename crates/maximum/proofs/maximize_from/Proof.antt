@@ -1,0 +1,613 @@
+-- Probing between two bounds meets its contract: the loop keeps `Probing`, each probe makes the gap smaller, and its three ways out are laws of `Bracketing`.
+use mathlib.Core.Path.{_≡_, refl, sym, _∙_, ap, subst}
+use mathlib.Core.Bool.{Bool, true, false, not, true≢false}
+use mathlib.Core.List.{List}
+use Prim.Native.Nat.{ℕ, _*_, _≤_, _<_}
+use native.Mathlib.Omega.{arith}
+use lib.Dec.{eqb}
+use lib.ListN.{length}
+use lib.IntN.{ℤ}
+use lib.Signed.{_≤ℤ_, _<ℤ_}
+use mir.Syntax.{w32}
+use mir.Val.{toZ, ofZ}
+use borrow.Author.Needs.{needs}
+use Rattle.integers.specs.inner.Limited.{Limited}
+use Rattle.integers.proofs.Laws.{ge-of-test, lt-of-test}
+use Rattle.integers.proofs.Limits.{limited-more}
+use Rattle.signed.proofs.Laws.{number-of-bits}
+use Rattle.signed.proofs.Limits.{same-bits}
+use Rattle.maps.specs.Map.{Map}
+use Rattle.flows.specs.Highest.{Highest}
+use Rattle.arrays.specs.At.{at, atℤ}
+use Rattle.arrays.proofs.FillLoops.{filled-length}
+use Rattle.cuts.specs.inner.Cut.{cutOf}
+use Rattle.arrays.specs.inner.Flags.{flagged}
+use Rattle.arrays.specs.Maps.{mapOf}
+use Rattle.solver.specs.inner.Decision.{Decided}
+use Rattle.maximum.specs.inner.Bracket.{Bracket}
+use Rattle.maximum.specs.inner.Maximum.{Maximized}
+use Rattle.maximum.specs.inner.Narrowing.{Lowers}
+use Rattle.maximum.proofs.Gap.{gap, gap-carried, gap-narrower}
+use Rattle.maximum.proofs.Bracketing.{
+  Ground,
+  Probing,
+  high-small,
+  low-small,
+  begins,
+  between-limited,
+  above-low,
+  carried,
+  lowered,
+  nothing,
+  narrowed,
+  met,
+  passed,
+  bits-bracket,
+  bits-gap,
+  same-bracket,
+}
+use Rattle.maximum.proofs.maximize_from.Statement.{statement}
+use Rattle.maximum.proofs.maximize_from.Tie as tie
+
+abbrev Inv-loop : tie.InvT-loop
+Inv-loop tails rotations lefts capacities order from grouped starts ends nodes edges faces trees outer source sink known carried flows₀ parents₀ a₀ b₀ inside₀
+    first₀ low₀ bound high₀ found₀ middle₀ flows parents a b inside first low high found middle =
+    Probing (mapOf nodes edges tails rotations) outer (atℤ capacities) source sink flows₀ flows a b inside parents (toZ w32 low) (toZ w32 high) found
+
+abbrev μ-loop : tie.MeasureT-loop
+μ-loop tails rotations lefts capacities order from grouped starts ends nodes edges faces trees outer source sink known carried flows₀ parents₀ a₀ b₀ inside₀
+    first₀ low₀ bound high₀ found₀ middle₀ flows parents a b inside first low high found middle =
+    gap (toZ w32 low) (toZ w32 high) found
+
+-- ── what the function is given ──
+abbrev 𝓜 : tie.Start Inv-loop μ-loop → Map
+𝓜 c = mapOf (c .args .nodes) (c .args .edges) (c .args .tails .now) (c .args .rotations .now)
+
+abbrev caps : tie.Start Inv-loop μ-loop → ℕ → ℤ
+caps c = atℤ (c .args .capacities .now)
+
+abbrev src : tie.Start Inv-loop μ-loop → ℕ
+src c = c .args .source
+
+abbrev snk : tie.Start Inv-loop μ-loop → ℕ
+snk c = c .args .sink
+
+ground : (c : tie.Start Inv-loop μ-loop) → Ground (𝓜 c) (caps c) (src c) (snk c)
+ground c =
+    let p = c .pre in
+    record { plane = p .3 .plane; few-nodes = p .3 .few-nodes; few-edges = p .3 .few-edges; small = p .2; pairs = p .3 .pairs; two = p .4 }
+
+tails-in : (c : tie.Start Inv-loop μ-loop) (d : ℕ) → d < 2 * c .args .edges → at (c .args .tails .now) d < 1024
+tails-in c d l = omega (arith, c .pre .3 .few-nodes, c .pre .3 .plane .sound .range .tail-in d l)
+
+caps-in : (c : tie.Start Inv-loop μ-loop) (d : ℕ) → d < 2 * c .args .edges → Limited 2000000 (caps c d)
+caps-in c d l = limited-more (omega arith) (c .pre .2 d l)
+
+-- ── before the loop ──
+begin-requires : tie.Need-begin-requires Inv-loop μ-loop
+begin-requires c κs =
+    let p = c .before .pre in (
+      p .0,
+      p .3 .few-edges,
+      omega (arith, p .4 .source-in, p .3 .few-nodes),
+      omega (arith, p .4 .sink-in, p .3 .few-nodes),
+      p .4 .two,
+      p .3 .plane .sound .has-dart _ (p .4 .source-in),
+    )
+
+flag-one-requires : tie.Need-flag-one-requires Inv-loop μ-loop
+flag-one-requires c κs = let p = c .before .before .before .pre in (refl, omega (arith, p .4 .sink-in, p .3 .few-nodes))
+
+mul-low-bound : tie.Need-mul-low-bound Inv-loop μ-loop
+mul-low-bound c = omega (arith, c .before .before .before .before .before .pre .3 .few-edges)
+
+low-bound-requires : tie.Need-low-bound-requires Inv-loop μ-loop
+low-bound-requires c κs =
+    let b = c .before .before .before .before .before in
+    (omega (arith, b .pre .3 .few-edges), omega arith, tails-in b, caps-in b)
+
+mul-capacity : tie.Need-mul-capacity Inv-loop μ-loop
+mul-capacity c = omega (arith, c .before .before .before .before .before .before .before .pre .3 .few-edges)
+
+capacity-requires : tie.Need-capacity-requires Inv-loop μ-loop
+capacity-requires c κs =
+    let b = c .before .before .before .before .before .before .before in
+    (omega (arith, b .pre .3 .few-edges), omega arith, tails-in b, caps-in b)
+
+unlikely-requires : tie.Need-unlikely-requires Inv-loop μ-loop
+unlikely-requires c κs = search needs
+
+propose-requires : tie.Need-propose-requires Inv-loop μ-loop
+propose-requires c κs =
+    let g = c .before .before .before .before .before .before .before .before .before .before .before in
+    let b = g .before .before in (
+      b .pre .6,
+      refl,
+      g .begin .ensures .0,
+      b .pre .1,
+      b .pre .3 .few-nodes,
+      b .pre .3 .few-edges,
+      omega (arith, b .pre .4 .source-in, b .pre .3 .few-nodes),
+      omega (arith, b .pre .4 .sink-in, b .pre .3 .few-nodes),
+      b .pre .3 .plane .sound .has-dart _ (b .pre .4 .sink-in),
+      tails-in b,
+      caps-in b,
+    )
+
+bits-limited : {b : ℕ} {x : ℤ} → b < 2147483648 → Limited b x → Limited b (toZ w32 (ofZ w32 x))
+bits-limited {b} l h = subst (Limited b) (sym (same-bits l h)) h
+
+-- the bounds to begin with
+abbrev measured : tie.After-propose Inv-loop μ-loop → tie.After-capacity Inv-loop μ-loop
+measured c = c .before .before .before .before .before .before
+
+abbrev bounded : tie.After-capacity Inv-loop μ-loop → tie.After-low-bound Inv-loop μ-loop
+bounded c = c .before .before
+
+abbrev begun : tie.After-capacity Inv-loop μ-loop → tie.After-begin Inv-loop μ-loop
+begun c = bounded c .before .before .before .before
+
+abbrev given : tie.After-capacity Inv-loop μ-loop → tie.Start Inv-loop μ-loop
+given c = begun c .before .before
+
+abbrev A : tie.After-capacity Inv-loop μ-loop → List ℕ
+A c = begun c .begin .last .1 .1 .1 .1 .1 .1 .0
+
+abbrev B : tie.After-capacity Inv-loop μ-loop → List ℕ
+B c = bounded c .before .before .flag-one .last .1 .0
+
+bounds : (c : tie.After-capacity Inv-loop μ-loop)
+    → Bracket (𝓜 (given c)) (given c .args .outer) (caps (given c)) (src (given c)) (snk (given c)) (given c .args .flows .now) (given c .args .flows .now)
+    (A c) (B c) (toZ w32 (ofZ w32 (bounded c .low-bound .result))) (toZ w32 (ofZ w32 (c .capacity .result))) (given c .args .known)
+bounds c =
+    let b = given c in
+    let l = bounded c in
+    let low = number-of-bits _ (record { sfits = l .low-bound .ok }) in
+    begins (b .args .outer) (ground b) (b .args .flows .now) (A c) (B c) _ _ (b .args .known) (begun c .begin .ensures .1)
+    (l .before .before .flag-one .ensures .1)
+    (number-of-bits _ (record { sfits = c .capacity .ok }) ∙ c .capacity .ensures)
+    (λ e. low ∙ l .low-bound .ensures .1 e)
+    (λ e. let r = b .pre .7 e in (
+      r .0,
+      subst (λ v. Highest (𝓜 b) (b .args .outer) (caps b) (src b) (snk b) v (r .0))
+          (sym (low ∙ l .low-bound .ensures .0 e ∙ number-of-bits _ (b .fits .carried))) (r .1),
+      r .2,
+    ))
+
+loop-holds : tie.Need-loop-holds Inv-loop μ-loop
+loop-holds c =
+    let m = measured c in
+    let b = given m in
+    let r = lowered (b .args .outer) (ground b) (b .args .flows .now) (b .args .flows .now) (A m) (B m) _ _ (b .args .known) (bounds m)
+    _ _ (c .propose .result) (c .propose .ensures .3) in
+    record {
+      size-a = c .propose .ensures .2;
+      size-b = bounded m .before .before .flag-one .ensures .0;
+      size-inside = c .propose .ensures .1;
+      size-parents = c .propose .ensures .0;
+      size-flows = refl;
+      bracket = rw (same-bits (omega arith) (high-small (b .args .outer) (ground b) (r .0 .ceiling))) (r .0);
+    }
+
+-- ── in the loop ──
+abbrev start : tie.At-loop Inv-loop μ-loop → tie.Start Inv-loop μ-loop
+start c = given (measured (c .before))
+
+abbrev lo : tie.At-loop Inv-loop μ-loop → ℤ
+lo c = toZ w32 (c .loop .low)
+
+abbrev hi : tie.At-loop Inv-loop μ-loop → ℤ
+hi c = toZ w32 (c .loop .high)
+
+is-less-requires : tie.Need-is-less-requires Inv-loop μ-loop
+is-less-requires c κs = search needs
+
+mul-join : tie.Need-mul-join Inv-loop μ-loop
+mul-join c = omega (arith, start (c .before .before) .pre .3 .few-edges)
+
+join-requires : tie.Need-join-requires Inv-loop μ-loop
+join-requires c κs =
+    let l = c .before .before .before .before .before in
+    let b = start l in
+    (l .loop .inv .size-a, omega (arith, b .pre .3 .few-edges), omega arith, tails-in b, caps-in b, l .loop .inv .size-inside)
+
+finished-requires : tie.Need-finished-requires Inv-loop μ-loop
+finished-requires c κs = search needs
+
+-- the bounds are small
+lo-small : (c : tie.At-loop Inv-loop μ-loop) → Limited 512000000 (lo c)
+lo-small c = low-small (start c .args .outer) (ground (start c)) _ _ (flagged (c .loop .b)) (lo c) (c .loop .found) (c .loop .inv .bracket .floor)
+
+hi-small : (c : tie.At-loop Inv-loop μ-loop) → Limited 512000000 (hi c)
+hi-small c = high-small (start c .args .outer) (ground (start c)) (c .loop .inv .bracket .ceiling)
+
+-- and in order, where they have not passed each other
+abbrev looping : tie.Else2 Inv-loop μ-loop → tie.At-loop Inv-loop μ-loop
+looping c = c .before .before .before .before
+
+in-order : (c : tie.Else2 Inv-loop μ-loop) → lo (looping c) ≤ℤ hi (looping c)
+in-order c = let e = c .before .before in ge-of-test _ _ (sym (e .before .is-less .ensures) ∙ e .if1 .left)
+
+at-top-requires : tie.Need-at-top-requires Inv-loop μ-loop
+at-top-requires c κs = search needs
+
+next-value-requires : tie.Need-next-value-requires Inv-loop μ-loop
+next-value-requires c κs =
+    let q = c .before in
+    (in-order q, limited-more (omega arith) (lo-small (looping q)), limited-more (omega arith) (hi-small (looping q)))
+
+-- ── the value probed, as the number of its bits ──
+abbrev top : tie.After-next-value Inv-loop μ-loop → tie.At-loop Inv-loop μ-loop
+top c = looping (c .before .before)
+
+abbrev value : tie.After-next-value Inv-loop μ-loop → ℤ
+value c = toZ w32 (ofZ w32 (c .next-value .result))
+
+value-small : (c : tie.After-next-value Inv-loop μ-loop) → Limited 512000000 (c .next-value .result)
+value-small c = let e = c .next-value .ensures in between-limited 512000000 _ _ _ (e .0) (e .1) (lo-small (top c)) (hi-small (top c))
+
+same-value : (c : tie.After-next-value Inv-loop μ-loop) → value c ≡ c .next-value .result
+same-value c = same-bits (omega arith) (value-small c)
+
+at-least : (c : tie.After-next-value Inv-loop μ-loop) → lo (top c) ≤ℤ value c
+at-least c = subst (λ v. lo (top c) ≤ℤ v) (sym (same-value c)) (c .next-value .ensures .0)
+
+at-most : (c : tie.After-next-value Inv-loop μ-loop) → value c ≤ℤ hi (top c)
+at-most c = subst (λ v. v ≤ℤ hi (top c)) (sym (same-value c)) (c .next-value .ensures .1)
+
+above : (c : tie.After-next-value Inv-loop μ-loop) → top c .loop .found ≡ true → lo (top c) <ℤ value c
+above c e =
+    let q = c .before .before in
+    subst (λ v. lo (top c) <ℤ v) (sym (same-value c))
+    (above-low (lo (top c)) (hi (top c)) (c .next-value .result) (top c .loop .found) (in-order q)
+    (q .before .finished .ensures .1 (q .if2 .left)) (c .next-value .ensures .2 (c .before .at-top .ensures e)) e)
+
+decide-requires : tie.Need-decide-requires Inv-loop μ-loop
+decide-requires c κs =
+    let n = c .before .before .before in
+    let l = top n in
+    let p = start l .pre in (
+      l .loop .inv .size-inside,
+      omega (arith, p .1, l .loop .inv .size-flows),
+      p .3,
+      p .4,
+      limited-more (omega arith) (bits-limited (omega arith) (value-small n)),
+      l .loop .inv .size-parents,
+      p .5,
+    )
+
+-- ── the value is carried ──
+abbrev asked : tie.After-decide Inv-loop μ-loop → tie.After-next-value Inv-loop μ-loop
+asked c = c .before .before .before .before
+
+abbrev flows' : tie.After-decide Inv-loop μ-loop → List ℤ
+flows' c = c .decide .last .1 .1 .1 .1 .1 .1 .1 .1 .1 .1 .1 .1 .1 .1 .1 .1 .1 .1 .0
+
+abbrev inside' : tie.After-decide Inv-loop μ-loop → List ℕ
+inside' c = c .decide .last .1 .1 .1 .1 .1 .1 .1 .1 .1 .1 .1 .1 .1 .1 .1 .1 .1 .1 .1 .0
+
+decided : (c : tie.After-decide Inv-loop μ-loop) {r : Bool} → c .decide .result ≡ r
+    → Decided (𝓜 (start (top (asked c)))) (start (top (asked c)) .args .outer) (caps (start (top (asked c))))
+    (src (start (top (asked c)))) (snk (start (top (asked c)))) (value (asked c))
+    (top (asked c) .loop .flows) (flows' c) (inside' c) r
+decided c e =
+    let b = start (top (asked c)) in
+    subst (Decided (𝓜 b) (b .args .outer) (caps b) (src b) (snk b) (value (asked c)) (top (asked c) .loop .flows) (flows' c) (inside' c))
+    e (c .decide .ensures .1)
+
+abbrev probe : tie.Then3 Inv-loop μ-loop → tie.After-decide Inv-loop μ-loop
+probe c = c .before .before
+
+same-room : (c : tie.Then3 Inv-loop μ-loop) → length (flows' (probe c)) ≡ length (start (top (asked (probe c))) .args .flows .now)
+same-room c =
+    let k = probe c in
+    let l = top (asked k) in
+    filled-length _ _ (l .loop .flows) (flows' k) (decided k (c .if3 .taken) .2) (omega (arith, start l .pre .1, l .loop .inv .size-flows))
+    ∙ l .loop .inv .size-flows
+
+raised : (c : tie.Then3 Inv-loop μ-loop)
+    → Bracket (𝓜 (start (top (asked (probe c))))) (start (top (asked (probe c))) .args .outer) (caps (start (top (asked (probe c)))))
+    (src (start (top (asked (probe c))))) (snk (start (top (asked (probe c))))) (start (top (asked (probe c))) .args .flows .now) (flows' (probe c))
+    (top (asked (probe c)) .loop .a) (top (asked (probe c)) .loop .b) (value (asked (probe c))) (hi (top (asked (probe c)))) true
+raised c =
+    let k = probe c in
+    let n = asked k in
+    let l = top n in
+    let b = start l in
+    carried (b .args .outer) (ground b) (b .args .flows .now) (l .loop .flows) (l .loop .a)
+    (l .loop .b) (lo l) (hi l) (l .loop .found) (l .loop .inv .bracket) (value n) (flows' k) (inside' k) (decided k (c .if3 .taken))
+
+less-to-go : (c : tie.Then3 Inv-loop μ-loop)
+    → gap (value (asked (probe c))) (hi (top (asked (probe c)))) true
+    < gap (lo (top (asked (probe c)))) (hi (top (asked (probe c)))) (top (asked (probe c)) .loop .found)
+less-to-go c =
+    let n = asked (probe c) in
+    gap-carried (lo (top n)) (hi (top n)) (value n) (at-least n) (at-most n) (top n .loop .found) (above n)
+
+-- ── a set is proposed ──
+Ready : tie.Then3 Inv-loop μ-loop → Type 0
+Ready c =
+    let k = probe c in
+    let l = top (asked k) in
+    let a = start l .args in
+    (length (k .decide .last .1 .1 .1 .1 .1 .1 .1 .1 .1 .1 .1 .1 .1 .1 .1 .1 .1 .0) ≡ 1024)
+    × (length (inside' k) ≡ 1024)
+    × (length (l .loop .a) ≡ 1024)
+    × (a .edges ≤ length (flows' k))
+    × (a .nodes ≤ 1024)
+    × (a .edges ≤ 512)
+    × (a .source < 1024)
+    × (a .sink < 1024)
+    × ((d : ℕ) × (d < 2 * a .edges) × (at (a .tails .now) d ≡ a .sink))
+    × ((d : ℕ) → d < 2 * a .edges → at (a .tails .now) d < 1024)
+    × ((d : ℕ) → d < 2 * a .edges → Limited 2000000 (caps (start l) d))
+
+ready : (c : tie.Then3 Inv-loop μ-loop) → Ready c
+unfolding Ready
+ready c =
+    let k = probe c in
+    let l = top (asked k) in
+    let b = start l in (
+      k .decide .ensures .2,
+      k .decide .ensures .0,
+      l .loop .inv .size-a,
+      omega (arith, same-room c, b .pre .1),
+      b .pre .3 .few-nodes,
+      b .pre .3 .few-edges,
+      omega (arith, b .pre .4 .source-in, b .pre .3 .few-nodes),
+      omega (arith, b .pre .4 .sink-in, b .pre .3 .few-nodes),
+      b .pre .3 .plane .sound .has-dart _ (b .pre .4 .sink-in),
+      tails-in b,
+      caps-in b,
+    )
+
+propose-requires-2 : tie.Need-propose-requires-2 Inv-loop μ-loop
+unfolding Ready
+propose-requires-2 c κs = ready (c .before .before .before .before .before)
+
+propose-requires-3 : tie.Need-propose-requires-3 Inv-loop μ-loop
+unfolding Ready
+propose-requires-3 c κs = ready (c .before .before .before .before .before)
+
+-- whatever was proposed: the new high bound, and the set for it
+module _ (t : tie.Then3 Inv-loop μ-loop) (inside'' a'' : List ℕ) (high : ℤ)
+    (falls : Lowers (src (start (top (asked (probe t))))) (snk (start (top (asked (probe t)))))
+    (cutOf (2 * start (top (asked (probe t))) .args .edges) (at (start (top (asked (probe t))) .args .tails .now))
+    (caps (start (top (asked (probe t))))) (flagged inside'')) (hi (top (asked (probe t)))) high inside'' (top (asked (probe t)) .loop .a) a'') where
+  proposed : Bracket (𝓜 (start (top (asked (probe t))))) (start (top (asked (probe t))) .args .outer) (caps (start (top (asked (probe t)))))
+      (src (start (top (asked (probe t))))) (snk (start (top (asked (probe t))))) (start (top (asked (probe t))) .args .flows .now) (flows' (probe t))
+      a'' (top (asked (probe t)) .loop .b) (value (asked (probe t))) high true
+      × (high ≤ℤ hi (top (asked (probe t))))
+  proposed =
+      let l = top (asked (probe t)) in
+      let b = start l in
+      lowered (b .args .outer) (ground b) (b .args .flows .now) (flows' (probe t)) (l .loop .a) (l .loop .b) (value (asked (probe t))) (hi l) true (raised t)
+      inside'' a'' high falls
+
+  new-high : toZ w32 (ofZ w32 high) ≡ high
+  new-high =
+      let b = start (top (asked (probe t))) in
+      same-bits (omega arith) (high-small (b .args .outer) (ground b) (proposed .0 .ceiling))
+
+  still-less : gap (value (asked (probe t))) (toZ w32 (ofZ w32 high)) true
+      < gap (lo (top (asked (probe t)))) (hi (top (asked (probe t)))) (top (asked (probe t)) .loop .found)
+  still-less = rw new-high (omega (arith, gap-narrower (value (asked (probe t))) true (proposed .1), less-to-go t))
+
+  kept : Bracket (𝓜 (start (top (asked (probe t))))) (start (top (asked (probe t))) .args .outer) (caps (start (top (asked (probe t)))))
+      (src (start (top (asked (probe t))))) (snk (start (top (asked (probe t))))) (start (top (asked (probe t))) .args .flows .now) (flows' (probe t))
+      a'' (top (asked (probe t)) .loop .b) (value (asked (probe t))) (toZ w32 (ofZ w32 high)) true
+  kept = rw new-high (proposed .0)
+
+-- ── the first value found ──
+abbrev first-found : tie.After-propose2 Inv-loop μ-loop → tie.Then3 Inv-loop μ-loop
+first-found c = c .before .before .before .before .before .before
+
+loop-less : tie.Need-loop-less Inv-loop μ-loop
+loop-less c = still-less (first-found c) _ _ (c .propose2 .result) (c .propose2 .ensures .3)
+
+loop-again : tie.Need-loop-again Inv-loop μ-loop
+loop-again c =
+    let t = first-found c in
+    let e = c .propose2 .ensures in
+    record {
+      size-a = e .2;
+      size-b = top (asked (probe t)) .loop .inv .size-b;
+      size-inside = e .1;
+      size-parents = e .0;
+      size-flows = same-room t;
+      bracket = kept t _ _ (c .propose2 .result) (e .3);
+    }
+
+-- ── a later one ──
+was-found : (found : Bool) → not found ≡ false → found ≡ true
+was-found true e = refl
+was-found false e = absurd (true≢false e)
+
+abbrev later : tie.After-propose3 Inv-loop μ-loop → tie.Else4 Inv-loop μ-loop
+later c = c .before .before .before .before .before
+
+loop-less-2 : tie.Need-loop-less-2 Inv-loop μ-loop
+loop-less-2 c =
+    let t = later c .before in
+    let n = asked (probe t) in
+    let e = was-found (top n .loop .found) (later c .if4 .left) in
+    rw e (subst (λ f. gap (value n) (toZ w32 (ofZ w32 (c .propose3 .result))) true < gap (lo (top n)) (hi (top n)) f) e
+    (still-less t _ _ (c .propose3 .result) (c .propose3 .ensures .3)))
+
+loop-again-2 : tie.Need-loop-again-2 Inv-loop μ-loop
+loop-again-2 c =
+    let t = later c .before in
+    let e = c .propose3 .ensures in
+    record {
+      size-a = e .2;
+      size-b = top (asked (probe t)) .loop .inv .size-b;
+      size-inside = e .1;
+      size-parents = e .0;
+      size-flows = same-room t;
+      bracket = rw (was-found (top (asked (probe t)) .loop .found) (later c .if4 .left)) (kept t _ _ (c .propose3 .result) (e .3));
+    }
+
+-- ── it cannot be: the set moves a bound, or shows that there is nothing ──
+mul-narrow-by : tie.Need-mul-narrow-by Inv-loop μ-loop
+mul-narrow-by c = omega (arith, start (top (asked (c .before .before .before))) .pre .3 .few-edges)
+
+narrow-by-requires : tie.Need-narrow-by-requires Inv-loop μ-loop
+narrow-by-requires c κs =
+    let k = c .before .before .before .before .before in
+    let l = top (asked k) in
+    let b = start l in (
+      l .loop .inv .size-a,
+      l .loop .inv .size-b,
+      omega (arith, b .pre .4 .source-in, b .pre .3 .few-nodes),
+      omega (arith, b .pre .4 .sink-in, b .pre .3 .few-nodes),
+      omega (arith, b .pre .3 .few-edges),
+      omega arith,
+      tails-in b,
+      caps-in b,
+    )
+
+abbrev probed : tie.After-narrow-by Inv-loop μ-loop → tie.After-decide Inv-loop μ-loop
+probed c = c .before .before .before .before .before .before
+
+abbrev a' : tie.After-narrow-by Inv-loop μ-loop → List ℕ
+a' c = c .narrow-by .last .1 .1 .1 .1 .1 .1 .1 .1 .0
+
+abbrev b' : tie.After-narrow-by Inv-loop μ-loop → List ℕ
+b' c = c .narrow-by .last .1 .1 .1 .1 .1 .1 .1 .1 .1 .0
+
+refused : (c : tie.After-narrow-by Inv-loop μ-loop) → probed c .decide .result ≡ false
+refused c = c .before .before .before .before .if3 .left
+
+moved : (c : tie.After-narrow-by Inv-loop μ-loop) → c .narrow-by .result .none ≡ false
+    → Bracket (𝓜 (start (top (asked (probed c))))) (start (top (asked (probed c))) .args .outer)
+    (caps (start (top (asked (probed c))))) (src (start (top (asked (probed c))))) (snk (start (top (asked (probed c)))))
+    (start (top (asked (probed c))) .args .flows .now) (top (asked (probed c)) .loop .flows) (a' c) (b' c)
+    (c .narrow-by .result .low) (c .narrow-by .result .high) (top (asked (probed c)) .loop .found)
+    × (gap (c .narrow-by .result .low) (c .narrow-by .result .high) (top (asked (probed c)) .loop .found)
+    < gap (lo (top (asked (probed c)))) (hi (top (asked (probed c)))) (top (asked (probed c)) .loop .found))
+moved c e =
+    let k = probed c in
+    let n = asked k in
+    let l = top n in
+    let b = start l in
+    let r = c .narrow-by .ensures .2 in
+    let d = decided k (refused c) in
+    narrowed (b .args .outer) (ground b) (b .args .flows .now) (l .loop .flows) (l .loop .a) (l .loop .b) (lo l) (hi l) (l .loop .found) (l .loop .inv .bracket)
+    (value n) (at-least n) (at-most n) (inside' k) (d .1) (a' c) (b' c) (c .narrow-by .result) (r .0) (r .1) (r .2) e
+
+middle-next-requires : tie.Need-middle-next-requires Inv-loop μ-loop
+middle-next-requires c κs = search needs
+
+loop-less-3 : tie.Need-loop-less-3 Inv-loop μ-loop
+loop-less-3 c =
+    let m = c .before .before .before .before in
+    let l = top (asked (probed m)) in
+    let b = start l in
+    let r = moved m (c .before .before .before .if5 .left) in
+    bits-gap (b .args .outer) (ground b) _ _ (a' m) (b' m) _ _ (l .loop .found) (r .0) _ (r .1)
+
+loop-again-3 : tie.Need-loop-again-3 Inv-loop μ-loop
+loop-again-3 c =
+    let m = c .before .before .before .before in
+    let k = probed m in
+    let l = top (asked k) in
+    let b = start l in
+    let d = decided k (refused m) in
+    let r = moved m (c .before .before .before .if5 .left) in
+    record {
+      size-a = m .narrow-by .ensures .0;
+      size-b = m .narrow-by .ensures .1;
+      size-inside = k .decide .ensures .0;
+      size-parents = k .decide .ensures .2;
+      size-flows = ap length (d .0) ∙ l .loop .inv .size-flows;
+      bracket = same-bracket (d .0) (bits-bracket (b .args .outer) (ground b) _ _ (a' m) (b' m) _ _ (l .loop .found) (r .0));
+    }
+
+-- ── the ways out ──
+same-length : tie.Need-same-length Inv-loop μ-loop
+same-length c = search needs
+
+returns : tie.Need-returns Inv-loop μ-loop
+returns c =
+    let t = c .before .before .before .before in
+    let l = t .before .before in
+    let b = start l in (
+      c .join .ensures .0,
+      l .loop .inv .size-parents,
+      passed (b .args .outer) (ground b) (b .args .flows .now) (l .loop .flows) (l .loop .a) (l .loop .b) (lo l) (hi l) (l .loop .found) (l .loop .inv .bracket)
+          (lt-of-test _ _ (sym (t .before .is-less .ensures) ∙ t .if1 .taken)) (c .join .last .1 .1 .1 .0) (c .join .ensures .1),
+    )
+
+same-length-2 : tie.Need-same-length-2 Inv-loop μ-loop
+same-length-2 c = search needs
+
+returns-2 : tie.Need-returns-2 Inv-loop μ-loop
+returns-2 c =
+    let l = c .before .before .before .before in
+    let b = start l in
+    let r = c .before .finished .ensures .0 (c .if2 .taken) in (
+      l .loop .inv .size-a,
+      l .loop .inv .size-parents,
+      met (b .args .outer) (ground b) (b .args .flows .now) (l .loop .flows) (l .loop .a)
+          (l .loop .b) (lo l) (hi l) (l .loop .found) (l .loop .inv .bracket) (r .0) (r .1),
+    )
+
+same-length-3 : tie.Need-same-length-3 Inv-loop μ-loop
+same-length-3 c =
+    let k = probed (c .before) in
+    ap length (decided k (refused (c .before)) .0) ∙ top (asked k) .loop .inv .size-flows
+
+returns-3 : tie.Need-returns-3 Inv-loop μ-loop
+returns-3 c =
+    let m = c .before in
+    let k = probed m in
+    let n = asked k in
+    let l = top n in
+    let b = start l in
+    let r = m .narrow-by .ensures .2 in
+    let d = decided k (refused m) in
+    let h =
+    nothing (b .args .outer) (ground b) (b .args .flows .now) (l .loop .flows)
+    (l .loop .a) (l .loop .b) (lo l) (hi l) (l .loop .found) (l .loop .inv .bracket)
+    (value n) (at-least n) (at-most n) (inside' k) (d .1) (a' m) (b' m) (m .narrow-by .result) (r .0) (r .1) (r .2) (c .if5 .taken) in
+    (m .narrow-by .ensures .0, k .decide .ensures .2, (d .0 ∙ h .0, h .1, h .2))
+
+pub maximize-from-spec : {M : Type 1} → statement M
+maximize-from-spec =
+    tie.close
+    (tie.spec
+    Inv-loop
+    μ-loop
+    begin-requires
+    flag-one-requires
+    mul-low-bound
+    low-bound-requires
+    mul-capacity
+    capacity-requires
+    unlikely-requires
+    propose-requires
+    loop-holds
+    is-less-requires
+    mul-join
+    join-requires
+    finished-requires
+    at-top-requires
+    next-value-requires
+    decide-requires
+    propose-requires-2
+    loop-less
+    loop-again
+    propose-requires-3
+    loop-less-2
+    loop-again-2
+    mul-narrow-by
+    narrow-by-requires
+    middle-next-requires
+    loop-less-3
+    loop-again-3
+    same-length
+    returns
+    same-length-2
+    returns-2
+    same-length-3
+    returns-3)
