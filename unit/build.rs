@@ -16,7 +16,9 @@ fn main() {
         println!("cargo:rustc-check-cfg=cfg(has_{module})");
         if !due.is_empty() {
             println!("cargo:rustc-cfg=has_{module}");
-            assert_eq!(own.iter().collect::<Vec<_>>(), due, "src/{module}.rs declares otherwise than include/analyser.h");
+            for (own, due) in own.iter().zip(due) {
+                assert_eq!(own, due, "src/{module}.rs declares otherwise than include/analyser.h");
+            }
         }
     }
 }

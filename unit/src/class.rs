@@ -74,7 +74,7 @@ fn nodes_of(line: &Line) -> Parsed<Vec<u16>> {
 extern "C" {
     fn analyser_examine(sheet: *const u8, sheet_length: usize, headgate: u16, outfall: u16, delivery: i32, claims: *const i32, claims_length: usize,
                         kinds: *const u8, kinds_length: usize, settings: *const i32, settings_length: usize, sets: *const u64, sets_length: usize,
-                        points: *mut u8, points_length: usize, papers: *mut u16, sum: *mut u16, least: *mut u8, greatest: *mut u8,
+                        points: *mut u8, points_length: usize, number: *mut u16, sum: *mut u16, least: *mut u8, greatest: *mut u8,
                         place: *mut u16) -> u8;
 }
 

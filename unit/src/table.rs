@@ -68,8 +68,8 @@ pub const COMMANDS: &[Command] = &[
                    cannot 13\n\
                    set 0\n\
                    size 1\n\
-                   $ tools/unit solve samples/a-6.txt 0 2 6\n\
-                   refused 13 place 0: headgate or outfall is the node count or more\n\
+                   $ tools/unit solve samples/a-6.txt 1 1 6\n\
+                   refused 14 place 0: headgate and outfall are equal\n\
                    $ tools/unit solve samples/a-6.txt --json\n\
                    {\"operation\": \"Solve\", \"answer\": \"can\", \"delivery\": 6, \"settings\": [0, 2, 4]}\n",
         run: commands::solve,
@@ -258,7 +258,7 @@ pub const COMMANDS: &[Command] = &[
     #[cfg(has_capture)]
     Command {
         name: "capture",
-        operation: "Largest after",
+        operation: "Limits from a capture",
         words: "SHEET [HEADGATE OUTFALL] CAPTURE WINDOW RECORD",
         counts: &[4, 6],
         says: "The forward limits after a record of a capture: of a channel seen in the last WINDOW records the least that they have,\n\
