@@ -9,3 +9,4 @@ pub mod Totals
 pub mod Account
 pub mod Onward
 pub mod Statements
+pub mod Drops

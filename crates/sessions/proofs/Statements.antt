@@ -58,7 +58,7 @@ module _ (s : List ℕ) (S : Session) (fs : List (List ℤ)) (r : Reached s S fs
   abbrev checks : List Rattle.refusals.specs.Order.Check
   checks = questionChecks (nodesOf s) (edgesOf s) source sink value flows set
 
-  answered : (S' : Session) (answer : SolveAnswer) → Asks S source sink value flows flows' set set' S' answer
+  pub answered : (S' : Session) (answer : SolveAnswer) → Asks S source sink value flows flows' set set' S' answer
       → Solved (record { map = sheetMap s; capacity = atℤ (S .left); outer = outerOf s }) (questionChecks (nodesOf s) (edgesOf s) source sink value flows set)
       source sink value flows flows' set set' answer
   answered S' answer a =

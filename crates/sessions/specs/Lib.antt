@@ -5,3 +5,4 @@ pub mod Ask
 pub mod Commit
 pub mod Reached
 pub mod Statements
+pub mod Drops
