@@ -13,3 +13,4 @@ pub mod ByThePage
 pub mod Statements
 pub mod Districts
 pub mod ByNode
+pub mod OneAnswer

@@ -8,4 +8,6 @@ pub mod Totals
 pub mod Raise
 pub mod Dimacs
 pub mod Page
+pub mod inner
+pub mod OneAnswer
 pub mod Statements
