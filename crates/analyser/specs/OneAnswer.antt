@@ -1,6 +1,6 @@
--- Two answers to one question are one, as a record: a field for each statement, with the papers' words above it. All that a field knows of a run is the contract
--- of the operation: `Solves` or `AnswersPage`, and `SetNamed` or `PageNamed`, which says of which search the set comes and need not be read: that it decides the
--- set is what the fields say. The proofs are in proofs/OneAnswer.antt.
+-- Two answers to one question are one, as a record: a field for each statement, with the papers' words above it. All that a field knows of a run is the
+-- contract of the operation: `Solves` or `AnswersPage`, and `SetNamed` or `PageNamed`, which says of which search the set comes and need not be read: that it
+-- decides the set is what the fields say. The proofs are in proofs/OneAnswer.antt.
 use Prim.Native.Nat.{ℕ, _≤_, _<_}
 use mathlib.Core.Path.{_≡_}
 use mathlib.Core.List.{List}
@@ -37,6 +37,7 @@ pub record OneAnswer : Type 0 where
   pub same-line : (s : List ℕ) (n : ℕ) (question : ℕ → Question) (flows flows' : List ℤ) (sets sets' : List ℕ) (page : Page)
       → AnswersPage s n question flows flows' sets sets' page → PageNamed s n question sets' page → page .verdict ≡ Passed → (i : ℕ) → i < n
       → (own' : List ℤ) (set' : List ℕ) (answer : SolveAnswer)
-      → Solves s (question i .source) (question i .sink) (question i .value) (stretch (edgesOf s) i flows) own' (stretch (wordsFor (nodesOf s)) i sets) set' answer
+      → Solves s (question i .source) (question i .sink) (question i .value) (stretch (edgesOf s) i flows) own'
+      (stretch (wordsFor (nodesOf s)) i sets) set' answer
       → SetNamed (sheetDrawing s) (question i .source) (question i .sink) (question i .value) set' answer
       → (answerAt page i ≡ answer) × (stretch (edgesOf s) i flows' ≡ own') × (stretch (wordsFor (nodesOf s)) i sets' ≡ set')

@@ -32,7 +32,8 @@ use Rattle.search.proofs.Run.{PassingAt, step-passing}
 use Rattle.search.proofs.Determined.{searches-one}
 
 -- ── one dart ──
-module _ (lefts lefts' : List ℕ) (lengths lengths' : List ℤ) (d d' : ℕ) (same : d ≡ d') (e : at lefts d ≡ at lefts' d') (g : atℤ lengths d ≡ atℤ lengths' d') where
+module _ (lefts lefts' : List ℕ) (lengths lengths' : List ℤ) (d d' : ℕ) (same : d ≡ d')
+    (e : at lefts d ≡ at lefts' d') (g : atℤ lengths d ≡ atℤ lengths' d') where
   relaxed-alike : (ρ ρ' : List ℤ) (parents parents' : List ℕ) (i : ℕ) (b : Bool)
       → Relaxed lefts lengths ρ parents ρ' parents' i d b → Relaxed lefts' lengths' ρ parents ρ' parents' i d' b
   relaxed-alike ρ ρ' parents parents' i true a = (

@@ -239,8 +239,8 @@ fn cut_of_ring(
 }
 
 // Decides one value from a source to a sink, with the face of the outer dart at 0 and the lowest face of each other part: true with the highest flow written,
-// false with the nodes of a proving set flagged, which follows from the drawing and the question (`Named`). The walk over the darts and their groups by faces are those of the open drawing. `parents` is where the search
-// keeps its trees; a caller may read them, but nothing is promised of them.
+// false with the nodes of a proving set flagged, which follows from the drawing and the question (`Named`). The walk over the darts and
+// their groups by faces are those of the open drawing. `parents` is where the search keeps its trees; a caller may read them, but nothing is promised of them.
 pub fn decide<'a>(
     tails: &'a [u16; 1024],
     rotations: &'a [u16; 1024],

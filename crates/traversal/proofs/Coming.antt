@@ -133,7 +133,6 @@ module _ {darts : ℕ} {rotation : ℕ → ℕ} {first : ℕ} {order from order'
     (apart : (i j : ℕ) → i < darts → j < darts → order i ≡ order j → i ≡ j)
     (apart' : (i j : ℕ) → i < darts → j < darts → order' i ≡ order' j → i ≡ j)
     (c : FirstCome rotation first order from darts) (c' : FirstCome rotation first order' from' darts) where
-
   -- the same dart at place i, met from the same one
   abbrev Same : ℕ → Type 0
   Same i = (order i ≡ order' i) × (from (order i) ≡ from' (order' i))

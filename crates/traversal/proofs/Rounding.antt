@@ -86,8 +86,8 @@ module _ {darts : ℕ} {tail rotation : ℕ → ℕ} where
 
   module _ {d p : ℕ} {from owner : ℕ → ℕ} (ρ : Rounding darts tail rotation from owner d p) where
     -- the rotation of p is listed: it leaves the same node
-    pub rounding-on : {x end end' : ℕ} {from' order order' : ℕ → ℕ} → Added x p from from' order order' end end' → from x ≡ unmarked → x ≡ rotation p → x < darts
-        → tail x ≡ tail d → Rounding darts tail rotation from' owner d x
+    pub rounding-on : {x end end' : ℕ} {from' order order' : ℕ → ℕ} → Added x p from from' order order' end end' → from x ≡ unmarked → x ≡ rotation p
+        → x < darts → tail x ≡ tail d → Rounding darts tail rotation from' owner d x
     rounding-on {x} {end} {end'} {from'} a fresh is l leave = record {
       first-in = ρ .first-in;
       inside = l;

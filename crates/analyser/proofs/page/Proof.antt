@@ -308,9 +308,11 @@ module _ {M : Type 1} (𝓤 : URA M) (H : Heap 𝓤) (A : Atoms 𝓤) (W : Given
         move ! (28 ∷ 29 ∷ []) $ free1 ! $ move ! (26 ∷ 27 ∷ []) $ free1 ! $ move ! (24 ∷ 25 ∷ []) $ free1 ! $ move ! (22 ∷ 23 ∷ []) $ free1 ! $
         move ! (20 ∷ 21 ∷ []) $ free1 ! $ move ! (18 ∷ 19 ∷ []) $ free1 ! $ move ! (16 ∷ 17 ∷ []) $ free1 ! $ move ! (14 ∷ 15 ∷ []) $ free1 ! $
         move ! (12 ∷ 13 ∷ []) $ free1 ! $ move ! (10 ∷ 11 ∷ []) $ free1 ! $ free0 ! $ keep ! (0 ∷ 1 ∷ 2 ∷ 4 ∷ 7 ∷ 8 ∷ 9 ∷ []) $
-        by ! (exits p w (zs .1 .1 .0) (zs .1 .1 .1 .0)
-        (page-listed (x₀ .now) n (questionAt (x₁ .now)) list refl (x₂ .now) (zs .1 .1 .0) (x₃ .now) (zs .1 .1 .1 .0) p (f .0),
-        page-named-listed (x₀ .now) n (questionAt (x₁ .now)) list refl (x₂ .now) (zs .1 .1 .0) (x₃ .now) (zs .1 .1 .1 .0) p (f .0) (f .1)) lf ls))))))))))))))))))))))
+        by ! (exits p w (zs .1 .1 .0) (zs .1 .1 .1 .0) (
+          page-listed (x₀ .now) n (questionAt (x₁ .now)) list refl (x₂ .now) (zs .1 .1 .0) (x₃ .now) (zs .1 .1 .1 .0) p (f .0),
+          page-named-listed (x₀ .now) n (questionAt (x₁ .now)) list refl (x₂ .now) (zs .1 .1 .0) (x₃ .now) (zs .1 .1 .1 .0) p
+              (f .0) (f .1),
+        ) lf ls))))))))))))))))))))))
 
 module _ {M : Type 1} (𝓤 : URA M) (H : Heap 𝓤) (A : Atoms 𝓤) (W : Given 𝓤 H A) (mem : Memory → SProp 𝓤) (run : Routine → Fun 𝓤) (𝓣 : Tables 𝓤 H)
     (known-list : Triple 𝓤 (𝓣 .C #pages·list-of) (ListOf 𝓤 H A mem run)) (known-page : Triple 𝓤 (𝓣 .C #analyser·page-of) (PageOf 𝓤 H A mem run)) where

@@ -32,11 +32,11 @@ returns : tie.Need-returns
 returns c =
     let o = c .before .before .before .before in
     let a = o .before .before .before .before .before .before .before .before .before .before .before .args in (
-    refused-so _ _ _ _ _ (a .flows .now) (a .sets .now) _ _ (c .refused-page .result)
-    (page-refused (a .sheet .now) _ _
-    (opens-first (a .sheet .now) _ (o .open-walked .result) (c .before .before .verdict .given .1) (o .open-walked .ensures .8))
-    (a .list .count) (a .flows .now) (a .sets .now)) (c .refused-page .ensures),
-    λ e. absurd (not-passed (sym (ap (λ (p : Page). p .verdict) (c .refused-page .ensures)) ∙ e)),
+      refused-so _ _ _ _ _ (a .flows .now) (a .sets .now) _ _ (c .refused-page .result)
+          (page-refused (a .sheet .now) _ _
+          (opens-first (a .sheet .now) _ (o .open-walked .result) (c .before .before .verdict .given .1) (o .open-walked .ensures .8))
+          (a .list .count) (a .flows .now) (a .sets .now)) (c .refused-page .ensures),
+      λ e. absurd (not-passed (sym (ap (λ (p : Page). p .verdict) (c .refused-page .ensures)) ∙ e)),
     )
 
 enum-told : tie.Need-enum-told
@@ -101,12 +101,12 @@ returns-2 c =
     let f = k .before .before .before .before .before .before .before .before .before .before .before .before in
     let t = told f in
     let a = begun t .args in (
-    page-sheet (sheet t) (opened t .open-walked .result) (lefts t) (tails t) (rotations t) (f .fill-capacities .last .1 .1 .0) (accepted t)
-    (prepared t .tails-are) (prepared t .rotations-are) (f .fill-capacities .ensures .1)
-    (a .list .count) (questionAt (a .list .questions)) (a .flows .now) _ (a .sets .now) _ (k .answer-list .result) (k .answer-list .ensures),
-    page-named (sheet t) (opened t .open-walked .result) (lefts t) (tails t) (rotations t) (f .fill-capacities .last .1 .1 .0) (accepted t)
-    (prepared t .tails-are) (prepared t .rotations-are) (f .fill-capacities .ensures .1)
-    (a .list .count) (questionAt (a .list .questions)) (a .flows .now) _ (a .sets .now) _ (k .answer-list .result) (k .answer-list .ensures),
+      page-sheet (sheet t) (opened t .open-walked .result) (lefts t) (tails t) (rotations t) (f .fill-capacities .last .1 .1 .0) (accepted t)
+          (prepared t .tails-are) (prepared t .rotations-are) (f .fill-capacities .ensures .1)
+          (a .list .count) (questionAt (a .list .questions)) (a .flows .now) _ (a .sets .now) _ (k .answer-list .result) (k .answer-list .ensures),
+      page-named (sheet t) (opened t .open-walked .result) (lefts t) (tails t) (rotations t) (f .fill-capacities .last .1 .1 .0) (accepted t)
+          (prepared t .tails-are) (prepared t .rotations-are) (f .fill-capacities .ensures .1)
+          (a .list .count) (questionAt (a .list .questions)) (a .flows .now) _ (a .sets .now) _ (k .answer-list .result) (k .answer-list .ensures),
     )
 
 pub page-of-spec : {M : Type 1} → statement M

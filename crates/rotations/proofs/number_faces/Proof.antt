@@ -153,10 +153,10 @@ loop-again c =
     let marked = subst (Marked (2 * a .edges) (stepOf (a .rotations .now)) (at (o .lefts)) after (o .next)) (n .narrow2 .ensures) (e .2) in
     let begins = getD-set-same (o .starts) (o .f) (last .result) 0 (omega (arith, number-below b, i .2)) ∙ last .ensures in
     let starts-kept : (g : ℕ) → g ≢ o .f → at (set (o .starts) (o .f) (last .result)) g ≡ at (o .starts) g =
-        λ g h. getD-set-other (o .starts) (o .f) g (last .result) 0 h in
+    λ g h. getD-set-other (o .starts) (o .f) g (last .result) 0 h in
     let stops = getD-set-same (o .ends) (o .f) (first .result) 0 (omega (arith, number-below b, i .3)) ∙ first .ensures in
     let ends-kept : (g : ℕ) → g ≢ o .f → at (set (o .ends) (o .f) (first .result)) g ≡ at (o .ends) g =
-        λ g h. getD-set-other (o .ends) (o .f) g (first .result) 0 h in (
+    λ g h. getD-set-other (o .ends) (o .f) g (first .result) 0 h in (
       e .0,
       e .1,
       length-set (o .starts) (o .f) (last .result) ∙ i .2,

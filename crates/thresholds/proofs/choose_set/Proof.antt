@@ -20,7 +20,8 @@ use Rattle.arrays.specs.inner.Flags.{flagged}
 use Rattle.arrays.specs.inner.Sizes.{mostHeight}
 use Rattle.cuts.specs.inner.Cut.{cutOf}
 use Rattle.thresholds.specs.inner.Above.{above}
-use Rattle.thresholds.proofs.Choosing.{Trying, left-above, trying-start, trying-next, trying-step, trying-less, cut-same, not-false, Tried, tried-start, tried-step, tried-serves}
+use Rattle.thresholds.proofs.Choosing.{Trying, left-above, trying-start, trying-next, trying-step, trying-less, cut-same, not-false}
+use Rattle.thresholds.proofs.Choosing.{Tried, tried-start, tried-step, tried-serves}
 use Rattle.thresholds.proofs.choose_set.Statement.{statement}
 use Rattle.thresholds.proofs.choose_set.Tie as tie
 use Rattle.thresholds.proofs.choose_set.Reads as reads

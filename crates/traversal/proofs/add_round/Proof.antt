@@ -231,7 +231,8 @@ loop-again c =
     let leave = sym (j .before .wide3 .ensures) ∙ j .if3 .left ∙ w .wide .ensures in (
       q .0,
       q .1,
-      growing-added (i .2) (next-below l) (q .2) (omega (arith, i .5 .1)) (sym (i .5 .2)) (inr (i .4 ∙ ap (at (start l .args .rotations .now)) (sym (i .5 .2)))),
+      growing-added (i .2) (next-below l) (q .2) (omega (arith, i .5 .1)) (sym (i .5 .2))
+          (inr (i .4 ∙ ap (at (start l .args .rotations .now)) (sym (i .5 .2)))),
       rounding-on (i .3) (q .2) (f .if2 .left) (i .4) (next-below l) leave,
       c .wide4 .ensures,
       (l .loop .listed, omega (arith, q .2 .by-one), q .2 .new (omega arith) .0),

@@ -38,7 +38,7 @@ loop-again : tie.Need-loop-again Inv-loop μ-loop
 loop-again c =
     let o = c .before .before .before .loop in
     let other : at (c .before .before .before .before .args .tails .now) (o .d) ≢ c .before .before .before .before .args .v =
-        λ p. c .if1 .taken (c .before .wide .ensures ∙ p) in
+    λ p. c .if1 .taken (c .before .wide .ensures ∙ p) in
     (ahead-step (o .inv .0) other, below-more _ (o .d) (o .inv .1) other)
 
 returns : tie.Need-returns Inv-loop μ-loop
