@@ -16,3 +16,4 @@ pub mod Districts
 pub mod ByNode
 pub mod Drops
 pub mod Captured
+pub mod OneAnswer

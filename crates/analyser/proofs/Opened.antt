@@ -22,6 +22,7 @@ use Rattle.sheets.specs.declared.Opened.{Opened}
 use Rattle.sheets.proofs.Accepted.{sheet-bytes, sheet-counts}
 use Rattle.sheets.proofs.Opening.{drawings-are}
 use Rattle.questions.specs.Solve.{questionChecks, Solved}
+use Rattle.questions.specs.inner.Named.{SetNamed}
 use Rattle.questions.specs.Largest.{searchChecks, LargestFound}
 use Rattle.questions.specs.Mark.{paperChecks, Marked}
 use Rattle.questions.specs.declared.SolveAnswer.{SolveAnswer}
@@ -45,7 +46,7 @@ use Rattle.pages.specs.Page.{listChecks, Paged}
 use Rattle.pages.specs.inner.Listed.{solvedAlone}
 use Rattle.pages.specs.declared.Question.{Question}
 use Rattle.pages.specs.declared.Page.{Page}
-use Rattle.pages.proofs.After.{page-lines}
+use Rattle.pages.proofs.After.{page-lines, lines-of}
 use Rattle.levels.specs.LevelsOf.{balancedChecks, LevelsGiven}
 use Rattle.levels.specs.SettingsOf.{leveledChecks, SettingsGiven}
 use Rattle.levels.specs.declared.LevelAnswer.{LevelAnswer}
@@ -59,6 +60,7 @@ use Rattle.analyser.specs.Range.{rangeChecks, FindsRange}
 use Rattle.analyser.specs.Raise.{raiseChecks, RaisesLimit}
 use Rattle.analyser.specs.After.{afterChecks, FindsAfter}
 use Rattle.analyser.specs.Page.{pageChecks, solvesAlone, AnswersPage}
+use Rattle.analyser.specs.inner.Named.{PageNamed}
 use Rattle.analyser.specs.Mark.{markChecks, Marks}
 use Rattle.analyser.specs.LevelsOf.{levelsChecks, GivesLevels}
 use Rattle.analyser.specs.SettingsOf.{settingsChecks, GivesSettings}
@@ -163,6 +165,13 @@ module _ (s : List ℕ) (o : Opened) (lefts tails rotations : List ℕ) (capacit
       (subst (λ 𝓓. Solved 𝓓 (questionChecks (𝓓 .map .nodes) (𝓓 .map .edges) source sink value flows set) source sink value flows flows' set set' r) same
       (subst (λ w. Solved held (questionChecks (o .nodes) (o .edges) source sink w flows set) source sink w flows flows' set set' r) e h))
 
+  -- and its set is the one that the search names
+  pub named-sheet : (source sink : ℕ) {v value : ℤ} → v ≡ value → (set' : List ℕ) (r : SolveAnswer)
+      → SetNamed (drawingOf (o .nodes) (o .edges) (o .outer) tails rotations capacities) source sink v set' r
+      → SetNamed (sheetDrawing s) source sink value set' r
+  named-sheet source sink {value = value} e set' r h =
+      subst (λ 𝓓. SetNamed 𝓓 source sink value set' r) same (subst (λ w. SetNamed held source sink w set' r) e h)
+
   pub largest-sheet : (source sink : ℕ) (flows flows' : List ℤ) (set set' : List ℕ) (r : LargestAnswer)
       → LargestFound (drawingOf (o .nodes) (o .edges) (o .outer) tails rotations capacities)
       (searchChecks (o .nodes) (o .edges) source sink flows set) source sink flows flows' set set' r
@@ -213,10 +222,20 @@ module _ (s : List ℕ) (o : Opened) (lefts tails rotations : List ℕ) (capacit
       page-lines (listChecks (nodesOf s) (edgesOf s) n flows sets) (pageChecks s n flows sets) (edgesOf s) (wordsFor (nodesOf s)) n
       (λ i. solvedAlone 𝓓 (question i)) (λ i. solvesAlone s (question i))
       (none-append (sheetChecks s) _ (open' .0)) (λ k p. first-right (sheetChecks s) _ k p (open' .0))
-      (λ passed i l f f' t t' a line. solved-after (sheetChecks s) (open' .0) 𝓓 _ _ _ _ f f' t t' a line)
+      (λ passed i l f f' t t' a line. solved-after (sheetChecks s) (open' .0) 𝓓 _ _ _ _ f f' t t' a (line .0))
       flows flows' sets sets' r
       (subst (λ 𝓓. Paged (listChecks (𝓓 .map .nodes) (𝓓 .map .edges) n flows sets) (𝓓 .map .edges) (wordsFor (𝓓 .map .nodes)) n
       (λ i. solvedAlone 𝓓 (question i)) flows flows' sets sets' r) same h)
+
+  pub page-named : (n : ℕ) (question : ℕ → Question) (flows flows' : List ℤ) (sets sets' : List ℕ) (r : Page)
+      → Paged (listChecks (o .nodes) (o .edges) n flows sets) (o .edges) (wordsFor (o .nodes)) n
+      (λ i. solvedAlone (drawingOf (o .nodes) (o .edges) (o .outer) tails rotations capacities) (question i)) flows flows' sets sets' r
+      → PageNamed s n question sets' r
+  page-named n question flows flows' sets sets' r h passed i l =
+      let p = subst (λ 𝓓. Paged (listChecks (𝓓 .map .nodes) (𝓓 .map .edges) n flows sets) (𝓓 .map .edges) (wordsFor (𝓓 .map .nodes)) n
+      (λ i. solvedAlone 𝓓 (question i)) flows flows' sets sets' r) same h in
+      lines-of (listChecks (nodesOf s) (edgesOf s) n flows sets) (edgesOf s) (wordsFor (nodesOf s)) n (λ i. solvedAlone (sheetDrawing s) (question i))
+      flows flows' sets sets' r p passed i l .1
 
   pub marked-sheet : (source sink : ℕ) (flows : List ℤ) (r : MarkAnswer)
       → Marked (drawingOf (o .nodes) (o .edges) (o .outer) tails rotations capacities)

@@ -9,5 +9,7 @@ pub mod Raise
 pub mod After
 pub mod Dimacs
 pub mod Page
+pub mod inner
+pub mod OneAnswer
 pub mod Statements
 pub mod Drops

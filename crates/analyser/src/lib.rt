@@ -3,6 +3,9 @@
 // 2), questions by the page (Job 1). Each fills the arrays of a drawing once, in its own frame, from the sheet, and lends them to the operation on drawings;
 // those that decide are lent the walk over the darts and their groups too, which opening makes.
 ghost use lib.ListN.{length};
+ghost use Rattle.records.specs.Sheet.{sheetDrawing};
+ghost use Rattle.questions.specs.inner.Named.{SetNamed};
+ghost use Rattle.analyser.specs.inner.Named.{PageNamed};
 ghost use Rattle.analyser.specs.Solve.{Solves};
 ghost use Rattle.analyser.specs.Largest.{FindsLargest};
 ghost use Rattle.analyser.specs.Range.{FindsRange};
@@ -39,7 +42,8 @@ pub fn solve(
     flows: &mut [i32],
     set: &mut [u64],
 ) -> SolveAnswer
-    ensures { λ r. ⌜ Solves (now (sheet .entry)) source sink value (now (flows .entry)) (now (flows .exit)) (now (set .entry)) (now (set .exit)) r ⌝ }
+    ensures { λ r. ⌜ Solves (now (sheet .entry)) source sink value (now (flows .entry)) (now (flows .exit)) (now (set .entry)) (now (set .exit)) r
+        × SetNamed (sheetDrawing (now (sheet .entry))) source sink value (now (set .exit)) r ⌝ }
 {
     let mut tails = [0u16; 1024];
     let mut rotations = [0u16; 1024];
@@ -344,7 +348,8 @@ pub fn largest_after(
 // A list of questions on one sheet, which is opened once: each is answered as Solve answers it alone, with its own stretch of each buffer.
 pub fn page_of(sheet: &[u8], list: Listed, flows: &mut [i32], sets: &mut [u64]) -> Page
     ensures { λ r. ⌜ AnswersPage (now (sheet .entry)) (list .count) (questionAt (list .questions))
-        (now (flows .entry)) (now (flows .exit)) (now (sets .entry)) (now (sets .exit)) r ⌝ }
+        (now (flows .entry)) (now (flows .exit)) (now (sets .entry)) (now (sets .exit)) r
+        × PageNamed (now (sheet .entry)) (list .count) (questionAt (list .questions)) (now (sets .exit)) r ⌝ }
 {
     let mut tails = [0u16; 1024];
     let mut rotations = [0u16; 1024];
@@ -395,7 +400,8 @@ pub fn page_of(sheet: &[u8], list: Listed, flows: &mut [i32], sets: &mut [u64]) 
 // Questions by the page: a lent slice of questions on one sheet, the settings of question i from i times the edges on, its set from i times the words on.
 pub fn page(sheet: &[u8], questions: &[Question], flows: &mut [i32], sets: &mut [u64]) -> Page
     ensures { λ r. ⌜ AnswersPage (now (sheet .entry)) (length (now (questions .entry))) (questionAt (now (questions .entry)))
-        (now (flows .entry)) (now (flows .exit)) (now (sets .entry)) (now (sets .exit)) r ⌝ }
+        (now (flows .entry)) (now (flows .exit)) (now (sets .entry)) (now (sets .exit)) r
+        × PageNamed (now (sheet .entry)) (length (now (questions .entry))) (questionAt (now (questions .entry))) (now (sets .exit)) r ⌝ }
 {
     let list = pages::list_of(questions);
     page_of(sheet, list, flows, sets)

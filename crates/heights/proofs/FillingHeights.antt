@@ -16,7 +16,7 @@ use Rattle.maps.proofs.Darts.{rev-apart}
 use Rattle.traversal.specs.inner.Spread.{Follows}
 use Rattle.traversal.specs.inner.Forest.{Reached}
 use Rattle.traversal.proofs.Spreading.{all-met}
-use Rattle.heights.specs.inner.Heights.{Based, Fillable, HeightsOf, Filled}
+use Rattle.heights.specs.inner.Heights.{Based, Fillable, HeightsOf, Filled, Rooted}
 use Rattle.arrays.specs.At.{at, atℤ}
 use Rattle.integers.specs.inner.Limited.{Limited}
 use Rattle.arrays.specs.inner.Sizes.{mostWinding, mostHeight}
@@ -103,6 +103,13 @@ module _ {darts : ℕ} {tail order from : ℕ → ℕ} {winding : ℕ → ℤ} (
 
         shift : (a b z : ℤ) → (a -ℤ z) -ℤ (b -ℤ z) ≡ a -ℤ b
         shift a b z = let k = atoms₃ a b z in equal (search parts) (omega arith)
+
+    pub filled-rooted : darts ≤ i → Rooted darts tail order from winding height
+    filled-rooted over = record {
+      zero = λ H h j l own.
+          ξ .right H h j (omega (arith, l, over))
+          ∙ ap (λ v. H (tail (order j)) -ℤ H v) (ξ .on .at-start j l own) ∙ +ℤ-invr (H (tail (order j)));
+    }
 
     -- one dart more: its node has a height that is right and not too large, and no other node's height changes
     passed : {height' : ℕ → ℤ} {value : ℤ} → i < darts → Limited ((i + 1) * mostWinding) value

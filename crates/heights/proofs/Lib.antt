@@ -2,3 +2,4 @@
 pub mod FillingHeights
 pub mod HeightsOfMap
 pub mod Examples
+pub mod OneHeight

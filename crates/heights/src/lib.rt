@@ -5,7 +5,7 @@ ghost use lib.ListN.{length};
 ghost use lib.IntN.{_-ℤ_};
 ghost use mir.Syntax.{w32};
 ghost use mir.Val.{SFits};
-ghost use Rattle.heights.specs.inner.Heights.{Fillable, Filled};
+ghost use Rattle.heights.specs.inner.Heights.{Fillable, Filled, Rooted};
 ghost use Rattle.arrays.specs.At.{at, atℤ};
 
 // The node of the first dart of each tree is at 0; the node at the end of a dart is lower by the dart's winding.
@@ -19,7 +19,9 @@ pub fn fill_heights(
 )
     requires { ⌜ (length (now heights) ≡ 1024) × Fillable darts (at (now tails)) (at (now order)) (at (now from)) (atℤ (now winding)) ⌝ }
     ensures { λ _. ⌜ (length (now (heights .exit)) ≡ 1024)
-        × Filled darts (at (now (tails .entry))) (atℤ (now (winding .entry))) (atℤ (now (heights .exit))) ⌝ }
+        × Filled darts (at (now (tails .entry))) (atℤ (now (winding .entry))) (atℤ (now (heights .exit)))
+        × Rooted darts (at (now (tails .entry))) (at (now (order .entry))) (at (now (from .entry)))
+        (atℤ (now (winding .entry))) (atℤ (now (heights .exit))) ⌝ }
 {
     let start = arrays::wide(order[0]);
     let root = arrays::wide(tails[start]);

@@ -2,9 +2,10 @@
 -- twice, because the places of the darts fall: of an edge used, one dart stands after the dart reached.
 use mathlib.Core.Path.{_≡_, refl, sym, _∙_, ap, ap₂, subst}
 use mathlib.Core.Logic.{_⊎_, inl, inr, _≢_}
-use Prim.Native.Nat.{ℕ, _≤_, _<_}
+use Prim.Native.Nat.{ℕ, zero, suc, _≤_, _<_}
 use native.Mathlib.Omega.{arith}
 use native.Mathlib.Decide.{ℕ-discrete}
+use borrow.Author.Count.{below-more}
 use lib.Dec.{eqb}
 use lib.IntN.{ℤ, pos, negsuc, _+ℤ_, _-ℤ_, _*ℤ_}
 use mir.Syntax.{w32}
@@ -15,11 +16,13 @@ use Rattle.integers.proofs.Tests.{eqb-true, eqb-false}
 use Rattle.maps.specs.Dart.{rev}
 use Rattle.maps.specs.Map.{Map, darts}
 use Rattle.maps.specs.Walk.{Walk, here, along}
+use Rattle.maps.specs.Orbit.{iter}
 use Rattle.maps.proofs.Darts.{rev-rev, rev-apart}
+use Rattle.maps.proofs.Orbits.{iter-zero, iter-suc}
 use Rattle.flows.specs.inner.UnitFlow.{single, walkFlow}
 use Rattle.traversal.specs.inner.Spread.{Follows}
 use Rattle.traversal.proofs.Spreading.{place}
-use Rattle.lengths.specs.inner.Lengths.{Treed, Once, Climbable, Climbed}
+use Rattle.lengths.specs.inner.Lengths.{Treed, Once, Top, taken, Climbable, Climbed}
 use Rattle.integers.specs.inner.Limited.{Limited}
 use Rattle.arrays.specs.inner.Sizes.{mostValue, mostLength}
 use Rattle.signed.proofs.Limits.{same-bits}
@@ -37,6 +40,27 @@ pub record Climbing (n x : ℕ) (order from : ℕ → ℕ) (value : ℤ) (length
   pub unused : (d : ℕ) → place order n d ≤ place order n y → place order n (rev d) ≤ place order n y → flow d ≡ pos 0
   pub lengths : (d : ℕ) → d < n → length d ≡ length₀ d -ℤ value *ℤ flow d
   pub walk : (𝓜 : Map) → Treed 𝓜 n order from → (r : Walk 𝓜 (𝓜 .tail y) (𝓜 .tail x)) × ((d : ℕ) → walkFlow r d ≡ flow d)
+  pub steps : ℕ
+  pub here : iter from steps x ≡ y
+  pub onward : (k : ℕ) → k < steps → from (iter from k x) ≢ iter from k x
+  pub flow-is : (d : ℕ) → flow d ≡ taken from steps x d
+
+-- ── what a step takes ──
+taken-none : (from : ℕ → ℕ) (x d : ℕ) → pos 0 ≡ taken from 0 x d
+unfolding taken
+taken-none from x d = refl
+
+taken-turned : (from : ℕ → ℕ) (k x d : ℕ) → iter from k x ≢ rev (iter from (suc k) x) → taken from k x d ≡ taken from (suc k) x d
+unfolding taken
+taken-turned from k x d h = rw (eqb-false (iter from k x) (rev (iter from (suc k) x)) h) (sym (nothing (taken from k x d)))
+  where
+    nothing : (f : ℤ) → pos 0 +ℤ f ≡ f
+    nothing f = let t = atoms₁ f in equal (search parts) (omega arith)
+
+taken-over : (from : ℕ → ℕ) (k x d : ℕ) → iter from k x ≡ rev (iter from (suc k) x)
+    → single (iter from (suc k) x) d +ℤ taken from k x d ≡ taken from (suc k) x d
+unfolding taken
+taken-over from k x d h = rw (eqb-true (iter from k x) (rev (iter from (suc k) x)) h) refl
 
 -- over one dart, and on
 over-dart : {𝓜 : Map} {flow : ℕ → ℤ} {w : ℕ} (p : ℕ) → p < darts 𝓜 → Carrying 𝓜 flow (𝓜 .tail (rev p)) w → Carrying 𝓜 (λ d. single p d +ℤ flow d) (𝓜 .tail p) w
@@ -60,17 +84,41 @@ module _ {n x : ℕ} {order from : ℕ → ℕ} {value : ℤ} {length₀ : ℕ �
     unused = λ d h g. refl;
     lengths = λ d l. sym (less-nothing (length₀ d) value);
     walk = λ 𝓜 ρ. stay 𝓜 (𝓜 .tail x);
+    steps = 0;
+    here = iter-zero from x;
+    onward = λ k l. absurd (omega (arith, l));
+    flow-is = taken-none from x;
   }
 
   module _ {length : ℕ → ℤ} {y : ℕ} (ξ : Climbing n x order from value length₀ length y) where
     -- at the first dart of the tree
     pub climbing-end : {p : ℕ} → p ≡ from y → p ≡ y → Climbed n x order from value length₀ length y
-    climbing-end is-p e = record { top-in = ξ .below; own = sym is-p ∙ e; flow = ξ .flow; once = ξ .once; lengths = ξ .lengths; along = ξ .walk }
+    climbing-end is-p e = record {
+      top-in = ξ .below;
+      own = sym is-p ∙ e;
+      flow = ξ .flow;
+      once = ξ .once;
+      lengths = ξ .lengths;
+      along = ξ .walk;
+      steps = ξ .steps;
+      stops = record { own = ap from (ξ .here) ∙ sym is-p ∙ e ∙ sym (ξ .here); onward = ξ .onward };
+      top-is = sym (ξ .here);
+      flow-is = ξ .flow-is;
+    }
 
     -- one step up, to the dart p that y was met from
     module _ {p : ℕ} (is-p : p ≡ from y) (other : p ≢ y) where
       pub origin-in : p < n
       origin-in = met-before (ok .treed) y p (ξ .below) is-p other .0
+
+      -- p is one step further up
+      up : iter from (suc (ξ .steps)) x ≡ p
+      up = iter-suc from (ξ .steps) x ∙ ap from (ξ .here) ∙ sym is-p
+
+      onwards : (k : ℕ) → k < suc (ξ .steps) → from (iter from k x) ≢ iter from k x
+      onwards k l =
+          below-more (λ k. from (iter from k x) ≢ iter from k x) (ξ .steps) (ξ .onward)
+          (λ e. other (is-p ∙ ap from (sym (ξ .here)) ∙ e ∙ ξ .here)) k (omega (arith, l))
 
       pub nearer : place order n p < place order n y
       nearer = met-before (ok .treed) y p (ξ .below) is-p other .1
@@ -85,6 +133,10 @@ module _ {n x : ℕ} {order from : ℕ → ℕ} {value : ℤ} {length₀ : ℕ �
         lengths = ξ .lengths;
         walk = λ 𝓜 ρ.
             subst (λ v. Carrying 𝓜 (ξ .flow) v (𝓜 .tail x)) (one-node 𝓜 ρ (met-before ρ y p (ξ .below) is-p other .2)) (ξ .walk 𝓜 ρ);
+        steps = suc (ξ .steps);
+        here = up;
+        onward = onwards;
+        flow-is = λ d. ξ .flow-is d ∙ taken-turned from (ξ .steps) x d (λ e. turned (sym (ξ .here) ∙ e ∙ ap rev up));
       }
         where
           one-node : (𝓜 : Map) → Treed 𝓜 n order from → Follows (𝓜 .rotation) y p → 𝓜 .tail y ≡ 𝓜 .tail p
@@ -127,6 +179,12 @@ module _ {n x : ℕ} {order from : ℕ → ℕ} {value : ℤ} {length₀ : ℕ �
           walk = λ 𝓜 ρ.
               over-dart p (omega (arith, origin-in, ρ .all-darts))
               (subst (λ c. Carrying 𝓜 (ξ .flow) (𝓜 .tail c) (𝓜 .tail x)) is-y (ξ .walk 𝓜 ρ));
+          steps = suc (ξ .steps);
+          here = up;
+          onward = onwards;
+          flow-is = λ d.
+              ap₂ (λ q f. single q d +ℤ f) (sym up) (ξ .flow-is d)
+              ∙ taken-over from (ξ .steps) x d (ξ .here ∙ is-y ∙ ap rev (sym up));
         }
           where
             regroup : (c v f s : ℤ) → (c -ℤ v *ℤ f) -ℤ v *ℤ s ≡ c -ℤ v *ℤ (s +ℤ f)

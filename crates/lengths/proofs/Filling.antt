@@ -138,6 +138,7 @@ module _ {n start finish : ℕ} {order from : ℕ → ℕ} {capacity : ℕ → �
               (walk-append to-start (walk-append w (walk-back to-finish))))
 
         pub both-filled : Filled n start finish order from capacity value length (eqb up down)
+        unfolding flow
         both-filled = record {
           flow = flow;
           lengths = left-over;
@@ -145,6 +146,14 @@ module _ {n start finish : ℕ} {order from : ℕ → ℕ} {capacity : ℕ → �
           against = turned-over;
           unit = λ e 𝓜 ρ. unit-flow 𝓜 ρ (eqb-eq up down e);
           apart = λ e 𝓜 ρ. far-apart 𝓜 ρ (eqb-ne up down e);
+          way = record {
+            up = β .steps;
+            down = α .steps;
+            up-top = β .stops;
+            down-top = α .stops;
+            lengths = λ d l. left-over d l ∙ ap₂ (λ f g. capacity d -ℤ value *ℤ (f -ℤ g)) (α .flow-is d) (β .flow-is d);
+            joined-is = ap₂ eqb (β .top-is) (α .top-is);
+          };
         }
 
 -- the machine holds the value as its bits, from which it is read back

@@ -6,3 +6,4 @@ pub mod Climbing
 pub mod Filling
 pub mod PathFlow
 pub mod Examples
+pub mod OneWay

@@ -3,3 +3,4 @@ pub mod Bits
 pub mod Size
 pub mod Writing
 pub mod Examples
+pub mod SameWords

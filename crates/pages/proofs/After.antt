@@ -1,4 +1,5 @@
 -- A page's contract carried over: to checks that refuse alike, and to another account of each question alone.
+use mathlib.Core.Path.{_≡_, subst}
 use mathlib.Core.List.{List}
 use Prim.Native.Nat.{ℕ, _<_}
 use lib.IntN.{ℤ}
@@ -6,7 +7,8 @@ use Rattle.refusals.specs.Order.{Check, NoneOf, FirstOf}
 use Rattle.refusals.specs.declared.Verdict.{Verdict}
 use Rattle.refusals.specs.declared.Verdict.the-variants.{Passed, Refused}
 use Rattle.questions.specs.declared.SolveAnswer.{SolveAnswer}
-use Rattle.pages.specs.Page.{Alone, PageAs, Paged}
+use Rattle.pages.specs.Stretch.{stretch}
+use Rattle.pages.specs.Page.{Alone, PageAs, Paged, answerAt}
 use Rattle.pages.specs.declared.Page.{Page}
 
 module _ (checks checks' : List Check) (edges words n : ℕ) (alone alone' : ℕ → Alone)
@@ -22,3 +24,10 @@ module _ (checks checks' : List Check) (edges words n : ℕ) (alone alone' : ℕ
   pub page-lines : (page : Page) → Paged checks edges words n alone flows flows' sets sets' page
       → Paged checks' edges words n alone' flows flows' sets sets' page
   page-lines page h = (as-lines (page .verdict) (page .count) _ (h .0), h .1)
+
+-- of a page that passed, what each question comes to
+pub lines-of : (checks : List Check) (edges words n : ℕ) (alone : ℕ → Alone) (flows flows' : List ℤ) (sets sets' : List ℕ) (page : Page)
+    → Paged checks edges words n alone flows flows' sets sets' page → page .verdict ≡ Passed → (i : ℕ) → i < n
+    → alone i (stretch edges i flows) (stretch edges i flows') (stretch words i sets) (stretch words i sets') (answerAt page i)
+lines-of checks edges words n alone flows flows' sets sets' page h passed =
+    subst (λ v. PageAs checks edges words n alone flows flows' sets sets' v (page .count) (answerAt page)) passed (h .0) .2

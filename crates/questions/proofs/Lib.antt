@@ -5,3 +5,4 @@ pub mod Solving
 pub mod Finding
 pub mod Marking
 pub mod After
+pub mod OneAnswer

@@ -11,6 +11,7 @@ use Rattle.refusals.proofs.Order.{none-append, first-left, first-right}
 use Rattle.maps.specs.Map.{Map}
 use Rattle.solver.specs.inner.Ends.{Ends}
 use Rattle.solver.specs.inner.Decision.{Decided}
+use Rattle.solver.specs.inner.Named.{Named}
 use Rattle.solver.proofs.Preparing.{decided-for}
 use Rattle.questions.specs.Question.{endChecks, valueChecks, roomChecks}
 use Rattle.questions.specs.Solve.{questionChecks}
@@ -62,3 +63,9 @@ module _ {a b source sink : ℕ} (p : a ≡ source) (q : b ≡ sink) where
       → Decided 𝓜 outer c a b v flows flows' inside r → Decided 𝓜 outer c source sink value flows flows' inside answer
   decided-as 𝓜 outer c {value = value} e flows flows' inside {r} same d =
       subst (Decided 𝓜 outer c source sink value flows flows' inside) same (decided-for 𝓜 outer c p q e flows flows' inside r d)
+
+  -- and the set that it named
+  pub named-as : (𝓜 : Map) (outer : ℕ) (c : ℕ → ℤ) {v value : ℤ} → v ≡ value → (S : ℕ → Bool)
+      → Named 𝓜 outer c a b v S → Named 𝓜 outer c source sink value S
+  named-as 𝓜 outer c {v} {value} e S h =
+      subst (λ w. Named 𝓜 outer c source sink w S) e (subst (λ t. Named 𝓜 outer c source t v S) q (subst (λ s. Named 𝓜 outer c s b v S) p h))

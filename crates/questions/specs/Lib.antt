@@ -3,3 +3,4 @@ pub mod Answered
 pub mod Solve
 pub mod Largest
 pub mod Mark
+pub mod inner

@@ -9,6 +9,7 @@ ghost use Rattle.arrays.specs.Maps.{mapOf, drawingOf};
 ghost use Rattle.arrays.specs.inner.Sizes.{mostOnSheet};
 ghost use Rattle.questions.specs.Question.{endChecks, ValueOutside, roomChecks};
 ghost use Rattle.questions.specs.Solve.{questionChecks, Solved};
+ghost use Rattle.questions.specs.inner.Named.{SetNamed};
 ghost use Rattle.questions.specs.Largest.{searchChecks, LargestFound};
 ghost use Rattle.questions.specs.Mark.{paperChecks, Marked};
 use maximum::Maximum;
@@ -91,7 +92,9 @@ pub fn solve<'a>(
         × Walked (2 * edges) faces outer trees (at (now rotations)) (now lefts) (now order) (now from) (now grouped) (now starts) (now ends) ⌝ }
     ensures { λ r. ⌜ Solved (drawingOf nodes edges outer (now (tails .entry)) (now (rotations .entry)) (now (capacities .entry)))
         (questionChecks nodes edges source sink value (now (flows .entry)) (now (set .entry)))
-        source sink value (now (flows .entry)) (now (flows .exit)) (now (set .entry)) (now (set .exit)) r ⌝ }
+        source sink value (now (flows .entry)) (now (flows .exit)) (now (set .entry)) (now (set .exit)) r
+        × SetNamed (drawingOf nodes edges outer (now (tails .entry)) (now (rotations .entry)) (now (capacities .entry)))
+        source sink value (now (set .exit)) r ⌝ }
 {
     let s = arrays::wide(source);
     let t = arrays::wide(sink);

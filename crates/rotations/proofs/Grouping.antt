@@ -1,17 +1,18 @@
 -- The faces numbered so far, with their darts in groups: what numbering one face more keeps, and what is known when every dart has its number.
-use mathlib.Core.Path.{_≡_, refl, sym, _∙_, ap}
+use mathlib.Core.Path.{_≡_, refl, sym, _∙_, ap, subst}
 use mathlib.Core.Logic.{_≢_}
 use mathlib.Core.List.{List}
 use Prim.Native.Nat.{ℕ, _+_, _*_, _≤_, _<_}
 use native.Mathlib.Omega.{arith}
 use native.Mathlib.Decide.{ℕ-discrete, decLt}
 use Rattle.maps.specs.Dart.{rev}
-use Rattle.maps.specs.Orbit.{Orbit}
+use Rattle.maps.specs.Orbit.{Orbit, iter, lowest, orbitOf}
 use Rattle.maps.proofs.Darts.{rev-in, rev-rev}
 use Rattle.maps.proofs.Orbits.{orbit-decided}
 use Rattle.arrays.specs.At.{at}
 use Rattle.arrays.specs.Maps.{rightOf}
 use Rattle.grouping.specs.Grouped.{Grouped}
+use Rattle.grouping.specs.inner.InRounds.{Rounded, InRounds}
 use Rattle.traversal.specs.inner.Mark.{unmarked}
 use Rattle.rotations.specs.inner.Marking.{Markable, Marked}
 use Rattle.rotations.specs.inner.Laying.{Laid}
@@ -118,4 +119,100 @@ module _ {edges : ℕ} (lefts grouped starts ends : List ℕ) {f low : ℕ} (γ 
     ends-in = λ g l. γ .ordered g l .2;
     dart = λ g j l a b. γ .holds g j l a b .0;
     right-is = λ g j l a b. γ .holds g j l a b .1;
+  }
+
+-- ── the groups in rounds ──
+-- the same on the way: f groups, the last of which begins at `low`
+pub record Rounding (darts : ℕ) (step : ℕ → ℕ) (grouped starts ends : ℕ → ℕ) (f low : ℕ) : Type 0 where
+  pub so-far : InRounds darts step f grouped starts ends
+  pub low-first : f ≡ 0 → low ≡ darts
+  pub low-next : (g : ℕ) → f ≡ g + 1 → low ≡ starts g
+  pub low-most : (g : ℕ) → g < f → low ≤ starts g
+
+pub rounding-none : {darts : ℕ} {step grouped starts ends : ℕ → ℕ} → Rounding darts step grouped starts ends 0 darts
+rounding-none = record {
+  so-far = record {
+    head = λ f. 0;
+    head-in = λ f l. absurd (omega (arith, l));
+    lowest-is = λ f l. absurd (omega (arith, l));
+    numbered = λ f l. absurd (omega (arith, l));
+    ends-first = λ l. absurd (omega (arith, l));
+    ends-next = λ f l. absurd (omega (arith, l));
+    rounded = λ f l. absurd (omega (arith, l));
+  };
+  low-first = λ e. refl;
+  low-next = λ g e. absurd (omega (arith, e));
+  low-most = λ g l. absurd (omega (arith, l));
+}
+
+-- the face of d is laid before the others
+module _ {darts : ℕ} {step grouped grouped' starts starts' ends ends' : ℕ → ℕ} {d f low low' : ℕ}
+    (γ : Rounding darts step grouped starts ends f low) (inside : d < darts) (first : lowest step darts d ≡ d) (number : orbitOf darts step d ≡ f)
+    (round : Rounded step grouped' d low' low) (kept : (i : ℕ) → low ≤ i → grouped' i ≡ grouped i)
+    (begins : starts' f ≡ low') (starts-kept : (g : ℕ) → g ≢ f → starts' g ≡ starts g)
+    (stops : ends' f ≡ low) (ends-kept : (g : ℕ) → g ≢ f → ends' g ≡ ends g) where
+  pick : (g : ℕ) → Dec (g ≡ f) → ℕ
+  pick g (yes p) = d
+  pick g (no p) = γ .so-far .head g
+
+  module _ (g : ℕ) (l : g < f + 1) where
+    head-in' : (q : Dec (g ≡ f)) → pick g q < darts
+    unfolding pick
+    head-in' (yes p) = inside
+    head-in' (no p) = γ .so-far .head-in g (omega (arith, l, p))
+
+    lowest-is' : (q : Dec (g ≡ f)) → lowest step darts (pick g q) ≡ pick g q
+    unfolding pick
+    lowest-is' (yes p) = first
+    lowest-is' (no p) = γ .so-far .lowest-is g (omega (arith, l, p))
+
+    numbered' : (q : Dec (g ≡ f)) → orbitOf darts step (pick g q) ≡ g
+    unfolding pick
+    numbered' (yes p) = number ∙ sym p
+    numbered' (no p) = γ .so-far .numbered g (omega (arith, l, p))
+
+    rounded' : (q : Dec (g ≡ f)) → Rounded step grouped' (pick g q) (starts' g) (ends' g)
+    unfolding pick
+    rounded' (yes p) =
+        subst (λ b. Rounded step grouped' d b (ends' g)) (sym begins ∙ ap starts' (sym p))
+        (subst (λ e. Rounded step grouped' d low' e) (sym stops ∙ ap ends' (sym p)) round)
+    rounded' (no p) =
+        let less : g < f = omega (arith, l, p) in
+        let r = γ .so-far .rounded g less in
+        let low-is = γ .low-most g less in
+        subst (λ b. Rounded step grouped' (γ .so-far .head g) b (ends' g)) (sym (starts-kept g p))
+        (subst (λ e. Rounded step grouped' (γ .so-far .head g) (starts g) e) (sym (ends-kept g p))
+        (record {
+          some = r .some;
+          lays = λ i j a e. kept j (omega (arith, a, low-is)) ∙ r .lays i j a e;
+          closes = r .closes;
+          opens = r .opens;
+        }))
+
+  ends-first' : (q : Dec (f ≡ 0)) → ends' 0 ≡ darts
+  ends-first' (yes p) = ap ends' (sym p) ∙ stops ∙ γ .low-first p
+  ends-first' (no p) = ends-kept 0 (λ e. p (sym e)) ∙ γ .so-far .ends-first (omega (arith, p))
+
+  ends-next' : (g : ℕ) → g + 1 < f + 1 → Dec (g + 1 ≡ f) → ends' (g + 1) ≡ starts' g
+  ends-next' g l (yes p) = ap ends' p ∙ stops ∙ γ .low-next g (sym p) ∙ sym (starts-kept g (λ e. omega (arith, e, p)))
+  ends-next' g l (no p) = ends-kept (g + 1) p ∙ γ .so-far .ends-next g (omega (arith, l, p)) ∙ sym (starts-kept g (λ e. omega (arith, e, l)))
+
+  most' : (g : ℕ) → g < f + 1 → Dec (g ≡ f) → low' ≤ starts' g
+  most' g l (yes p) = omega (arith, ap starts' p, begins)
+  most' g l (no p) = omega (arith, γ .low-most g (omega (arith, l, p)), starts-kept g p, round .some)
+
+  pub rounding-on : Rounding darts step grouped' starts' ends' (f + 1) low'
+  rounding-on = record {
+    so-far = record {
+      head = λ g. pick g (ℕ-discrete g f);
+      head-in = λ g l. head-in' g l (ℕ-discrete g f);
+      lowest-is = λ g l. lowest-is' g l (ℕ-discrete g f);
+      numbered = λ g l. numbered' g l (ℕ-discrete g f);
+      ends-first = λ l. ends-first' (ℕ-discrete f 0);
+      ends-next = λ g l. ends-next' g l (ℕ-discrete (g + 1) f);
+      rounded = λ g l. rounded' g l (ℕ-discrete g f);
+    };
+    low-first = λ e. absurd (omega (arith, e));
+    low-next = λ g e. let n : f ≡ g = omega (arith, e) in sym begins ∙ ap starts' n;
+    low-most = λ g l. most' g l (ℕ-discrete g f);
   }

@@ -8,6 +8,7 @@ use Rattle.maps.specs.Dart.{rev}
 use Rattle.maps.specs.Orbit.{iter, Orbit, Permutes}
 use Rattle.maps.proofs.Darts.{rev-in, rev-rev}
 use Rattle.maps.proofs.Orbits.{iter-in}
+use Rattle.grouping.specs.inner.InRounds.{Rounded}
 use Rattle.rotations.specs.inner.Laying.{Laid}
 use Rattle.rotations.proofs.Trail.{wrap}
 
@@ -60,3 +61,13 @@ laying-end edges {next} {before} {after} {start} {end} {k} {begin} π inside rou
     holds' j i e l =
         let is = λ₁ .lays i j l e in
         (omega (arith, is, rev-in edges (iter next i start) (iter-in π i start inside)), (i, sym (rev-rev (iter next i start)) ∙ ap rev (sym is)))
+
+-- the same, place by place
+pub laying-rounded : {next before after : ℕ → ℕ} {start end k begin : ℕ} → Laying next before after start end (suc k) begin
+    → iter next (suc k) start ≡ start → ((i : ℕ) → 0 < i → i ≤ k → iter next i start ≢ start) → Rounded next after start begin end
+laying-rounded {next} {start = start} {end} {k} {begin} λ₁ round away = record {
+  some = omega (arith, λ₁ .counted);
+  lays = λ i j a e. λ₁ .lays i j (omega (arith, a, e, λ₁ .counted)) e;
+  closes = λ i e. let n : i ≡ suc k = omega (arith, e, λ₁ .counted) in ap (λ m. iter next m start) n ∙ round;
+  opens = λ i a l. away i a (omega (arith, l, λ₁ .counted));
+}

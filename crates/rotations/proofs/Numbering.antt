@@ -72,12 +72,16 @@ module _ {n : ℕ} {next : ℕ → ℕ} (few : n ≤ 1024) (π : Permutes n next
 
       -- d has none: it is the lowest of its orbit, and no place of the orbit has a number
       module _ (h : label d ≡ unmarked) where
-        is-lowest : lowest next n d ≡ d
+        pub is-lowest : lowest next n d ≡ d
         is-lowest = go (decLt (lowest next n d) d)
           where
             go : Dec (lowest next n d < d) → lowest next n d ≡ d
             go (yes p) = absurd (omega (arith, ν .done d l p, number-small d l, h))
             go (no p) = omega (arith, p, lowest-below π d)
+
+        pub number-is : orbitOf n next d ≡ f
+        unfolding orbitOf
+        number-is = ap (λ m. count m (isLowest n next)) is-lowest ∙ sym (ν .used)
 
         lowest-here : (y : ℕ) → Orbit next d y → lowest next n y ≡ d
         lowest-here y o = sym (lowest-same π d y l o) ∙ is-lowest

@@ -7,14 +7,24 @@ use Rattle.refusals.specs.declared.Verdict.the-variants.{Passed, Refused}
 use Rattle.arrays.specs.At.{at}
 use Rattle.arrays.specs.Maps.{rightOf}
 use Rattle.traversal.specs.inner.Forest.{Forest}
+use Rattle.traversal.specs.inner.FirstCome.{FirstCome}
 use Rattle.grouping.specs.Grouped.{Grouped}
+use Rattle.grouping.specs.inner.InRounds.{InRounds}
 use Rattle.grouping.specs.inner.Walked.{Walked}
+use Rattle.rotations.specs.inner.Laying.{stepOf}
 use Rattle.rotations.specs.inner.Passing.{IfPassed}
 
-module _ {darts outer parts : ℕ} {rotation : ℕ → ℕ} (order from : List ℕ) (𝓕 : Forest darts rotation outer (at order) (at from) parts) where
+module _ {darts outer parts : ℕ} (rotations order from : List ℕ) (𝓕 : Forest darts (at rotations) outer (at order) (at from) parts)
+    (came : FirstCome (at rotations) outer (at order) (at from) darts) where
   pub walked-if : (v : Verdict) (faces trees : ℕ) (lefts grouped starts ends : List ℕ)
-      → IfPassed v ((trees ≡ parts) × Grouped (rightOf lefts) darts faces grouped starts ends)
-      → IfPassed v (Walked darts faces outer trees rotation lefts order from grouped starts ends)
+      → IfPassed v ((trees ≡ parts) × Grouped (rightOf lefts) darts faces grouped starts ends
+      × InRounds darts (stepOf rotations) faces (at grouped) (at starts) (at ends))
+      → IfPassed v (Walked darts faces outer trees (at rotations) lefts order from grouped starts ends)
   walked-if Passed faces trees lefts grouped starts ends h =
-      record { forest = subst (Forest darts rotation outer (at order) (at from)) (sym (h .0)) 𝓕; groups = h .1 }
+      record {
+        forest = subst (Forest darts (at rotations) outer (at order) (at from)) (sym (h .0)) 𝓕;
+        groups = h .1;
+        first-come = came;
+        in-rounds = h .2;
+      }
   walked-if (Refused k p) faces trees lefts grouped starts ends h = tt

@@ -10,6 +10,7 @@ use Rattle.maps.proofs.Orbits.{orbit-sym, orbit-trans}
 use Rattle.traversal.specs.inner.Mark.{unmarked}
 use Rattle.traversal.specs.inner.Spread.{Met}
 use Rattle.traversal.specs.inner.Rounds.{Rounds}
+use Rattle.traversal.specs.inner.FirstCome.{Unround, astray, merged, parted}
 use Rattle.traversal.proofs.Spreading.{all-met, place, place-is}
 
 -- a step that leads to every place leads to no place twice: where it came from is one to one, and so onto
@@ -29,7 +30,7 @@ onto-apart n f every c d lc ld e =
 module _ {𝓜 : Map} (range : InRange 𝓜) {from owner : ℕ → ℕ} (ρ : Rounds (darts 𝓜) (𝓜 .tail) (𝓜 .rotation) from owner)
     (every : (d : ℕ) → d < darts 𝓜 → from d ≢ unmarked) where
   permutes : Permutes (darts 𝓜) (𝓜 .rotation)
-  permutes = record { stays = range .rotation-in; apart = onto-apart (darts 𝓜) (𝓜 .rotation) (λ y l. ρ .came y l (every y l)) }
+  permutes = record { stays = range .rotation-in; apart = onto-apart (darts 𝓜) (𝓜 .rotation) (λ y l. let r = ρ .came y l (every y l) in (r .0, r .1, r .2)) }
 
   one : (c d : ℕ) → c < darts 𝓜 → d < darts 𝓜 → 𝓜 .tail c ≡ 𝓜 .tail d → Orbit (𝓜 .rotation) c d
   one c d lc ld e =
@@ -44,5 +45,19 @@ module _ {𝓜 : Map} (range : InRange 𝓜) {from owner : ℕ → ℕ} (ρ : Ro
     same-tail = λ d l. ρ .turns d l (every d l) .1;
     injective = permutes .apart;
     one-round = one;
-    has-dart = λ v l. ρ .leaves v (λ z. none (v, l, z));
+    has-dart = λ v l. let r = ρ .leaves v (λ z. none (v, l, z)) in (r .0, r .1, r .2);
   }
+
+-- ── where it failed the map is not sound ──
+pub unround-unsound : {𝓜 : Map} → Sound 𝓜 → Unround (darts 𝓜) (𝓜 .tail) (𝓜 .rotation) → ⊥
+unround-unsound σ (astray x l h) = h (σ .same-tail x l)
+unround-unsound σ (merged x y l m h e) = h (σ .injective x y l m e)
+unround-unsound σ (parted x y l m e h) = h (σ .one-round x y l m e)
+
+-- all darts are listed, and a node has none
+pub empty-unsound : {𝓜 : Map} {from owner : ℕ → ℕ} → Sound 𝓜 → Rounds (darts 𝓜) (𝓜 .tail) (𝓜 .rotation) from owner
+    → ((d : ℕ) → d < darts 𝓜 → from d ≢ unmarked) → ((v : ℕ) × (v < 𝓜 .nodes) × (owner v ≡ 0)) → ⊥
+empty-unsound {owner = owner} σ ρ every e =
+    let d = σ .has-dart (e .0) (e .1) in
+    let h = ρ .held (d .0) (d .1) (every (d .0) (d .1)) in
+    omega (arith, h .2, ap owner (d .2), e .2)

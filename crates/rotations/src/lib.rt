@@ -13,7 +13,9 @@ ghost use Rattle.arrays.specs.At.{at};
 ghost use Rattle.arrays.specs.Maps.{mapOf, rightOf};
 ghost use Rattle.traversal.specs.inner.Mark.{unmarked};
 ghost use Rattle.traversal.specs.inner.Forest.{Forest};
+ghost use Rattle.traversal.specs.inner.FirstCome.{FirstCome};
 ghost use Rattle.grouping.specs.Grouped.{Grouped};
+ghost use Rattle.grouping.specs.inner.InRounds.{Rounded, InRounds};
 ghost use Rattle.grouping.specs.inner.Walked.{Walked};
 ghost use Rattle.rotations.specs.inner.Holding.{holding};
 ghost use Rattle.rotations.specs.inner.Marking.{Markable, Marked};
@@ -172,7 +174,8 @@ fn mark_face(
     ensures { λ r. ⌜ (length (now (lefts .exit)) ≡ 1024) × (length (now (grouped .exit)) ≡ 1024)
         × Marked (2 * edges) (stepOf (now (rotations .entry))) (at (now (lefts .entry))) (at (now (lefts .exit))) start number
         × Laid (2 * edges) (stepOf (now (rotations .entry))) (at (now (grouped .entry))) (at (now (grouped .exit))) start r end
-        × (r ≡ holding unmarked (2 * edges) (at (now (lefts .exit)))) ⌝ }
+        × (r ≡ holding unmarked (2 * edges) (at (now (lefts .exit))))
+        × Rounded (stepOf (now (rotations .entry))) (at (now (grouped .exit))) start r end ⌝ }
 {
     let mut x = start;
     let mut begin = end;
@@ -206,7 +209,8 @@ fn number_faces(
         × (length (now (starts .exit)) ≡ 1024) × (length (now (ends .exit)) ≡ 1024)
         × (r ≡ orbits (2 * edges) (stepOf (now (rotations .entry))))
         × ((d : ℕ) → d < 2 * edges → at (now (lefts .exit)) d ≡ orbitOf (2 * edges) (stepOf (now (rotations .entry))) d)
-        × Grouped (rightOf (now (lefts .exit))) (2 * edges) r (now (grouped .exit)) (now (starts .exit)) (now (ends .exit)) ⌝ }
+        × Grouped (rightOf (now (lefts .exit))) (2 * edges) r (now (grouped .exit)) (now (starts .exit)) (now (ends .exit))
+        × InRounds (2 * edges) (stepOf (now (rotations .entry))) r (at (now (grouped .exit))) (at (now (starts .exit))) (at (now (ends .exit))) ⌝ }
 {
     let darts = 2 * edges;
     traversal::unmark_all(lefts);
@@ -263,7 +267,9 @@ fn check_flat<'a>(
         × (length (now (starts .exit)) ≡ 1024) × (length (now (ends .exit)) ≡ 1024)
         × MapJudged (mapOf nodes edges (now (tails .entry)) (now (rotations .entry))) (at (now (lefts .exit))) (r .faces) (r .verdict)
         × IfPassed (r .verdict) ((r .parts ≡ parts)
-        × Grouped (rightOf (now (lefts .exit))) (2 * edges) (r .faces) (now (grouped .exit)) (now (starts .exit)) (now (ends .exit))) ⌝ }
+        × Grouped (rightOf (now (lefts .exit))) (2 * edges) (r .faces) (now (grouped .exit)) (now (starts .exit)) (now (ends .exit))
+        × InRounds (2 * edges) (stepOf (now (rotations .entry))) (r .faces)
+        (at (now (grouped .exit))) (at (now (starts .exit))) (at (now (ends .exit)))) ⌝ }
 {
     let faces = number_faces(rotations, edges, lefts, grouped, starts, ends);
     if nodes + faces != edges + 2 * parts {
@@ -291,7 +297,9 @@ fn walk_nodes<'a>(
         × InRange (mapOf nodes edges (now tails) (now rotations)) ⌝ }
     ensures { λ r. ⌜ (length (now (order .exit)) ≡ 1024) × (length (now (from .exit)) ≡ 1024)
         × (r ≢ 0 → Sound (mapOf nodes edges (now (tails .entry)) (now (rotations .entry)))
-        × Forest (2 * edges) (at (now (rotations .entry))) outer (at (now (order .exit))) (at (now (from .exit))) r) ⌝ }
+        × Forest (2 * edges) (at (now (rotations .entry))) outer (at (now (order .exit))) (at (now (from .exit))) r
+        × FirstCome (at (now (rotations .entry))) outer (at (now (order .exit))) (at (now (from .exit))) (2 * edges))
+        × (r ≡ 0 → Sound (mapOf nodes edges (now (tails .entry)) (now (rotations .entry))) → ⊥) ⌝ }
 {
     let darts = 2 * edges;
     let mut owner = [0u16; 1024];
@@ -305,7 +313,7 @@ fn walk_nodes<'a>(
     trees
 }
 
-// The checks 9, 10 and 12 one by one, for the number of the first that holds.
+// The checks 9, 10 and 12 one by one, for the number of the first that holds, of a map that is not sound.
 fn check_in_turn<'a>(
     tails: &'a [u16; 1024],
     rotations: &'a [u16; 1024],
@@ -321,7 +329,7 @@ fn check_in_turn<'a>(
 ) -> Checked
     requires { ⌜ (edges ≤ 512) × (nodes ≤ 1024) × (outer < 2 * edges) × (length (now lefts) ≡ 1024) × (length (now order) ≡ 1024)
         × (length (now from) ≡ 1024) × (length (now grouped) ≡ 1024) × (length (now starts) ≡ 1024) × (length (now ends) ≡ 1024)
-        × InRange (mapOf nodes edges (now tails) (now rotations)) ⌝ }
+        × InRange (mapOf nodes edges (now tails) (now rotations)) × (Sound (mapOf nodes edges (now tails) (now rotations)) → ⊥) ⌝ }
     ensures { λ r. ⌜ (length (now (lefts .exit)) ≡ 1024) × (length (now (order .exit)) ≡ 1024) × (length (now (from .exit)) ≡ 1024)
         × (length (now (grouped .exit)) ≡ 1024) × (length (now (starts .exit)) ≡ 1024) × (length (now (ends .exit)) ≡ 1024)
         × MapJudged (mapOf nodes edges (now (tails .entry)) (now (rotations .entry))) (at (now (lefts .exit))) (r .faces) (r .verdict)

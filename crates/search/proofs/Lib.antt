@@ -16,6 +16,7 @@ pub mod Run
 pub mod Ending
 pub mod Between
 pub mod Determined
+pub mod Alike
 pub mod Statements
 pub mod OfMap
 pub mod Examples

@@ -3,3 +3,5 @@ pub mod SettledFlows
 pub mod Ringing
 pub mod Preparing
 pub mod Deciding
+pub mod Naming
+pub mod OneSet

@@ -1,6 +1,7 @@
 -- From a ring of parents to a set of nodes: its winding is that of a walk over faces of length below zero, so the heights of the nodes are heights of that
 -- winding, and some threshold has a cut below zero.
 use mathlib.Core.Path.{_≡_, refl, sym, _∙_, ap, ap₂, subst}
+use mathlib.Core.Bool.{Bool}
 use mathlib.Core.List.{List}
 use Prim.Native.Nat.{ℕ, _+_, _*_, _%_, _≤_, _<_}
 use native.Mathlib.Omega.{arith}
@@ -24,10 +25,11 @@ use Rattle.heights.specs.inner.Heights as heights
 use Rattle.heights.proofs.HeightsOfMap.{sound-fillable}
 use Rattle.cuts.specs.inner.Cut.{cutOf}
 use Rattle.thresholds.specs.inner.Above.{above}
-use Rattle.thresholds.specs.inner.Choice.{Choosable}
+use Rattle.thresholds.specs.inner.Choice.{Choosable, FirstServes}
 use Rattle.arrays.specs.inner.Sizes.{mostHeight}
 use Rattle.cuts.proofs.CutOfMap.{cut-of}
 use Rattle.solver.specs.inner.Search.{Ringed}
+use Rattle.solver.specs.inner.Named.{MadeOfRing}
 
 module _ {𝓜 : Map} {N : Dual} {parent : ℕ → ℕ} {y : ℕ} (q : Ringed 𝓜 N parent y) where
   pub few-darts : darts 𝓜 ≤ 1024
@@ -45,6 +47,24 @@ module _ {𝓜 : Map} {N : Dual} {parent : ℕ → ℕ} {y : ℕ} (q : Ringed �
     module _ {height : ℕ → ℤ} (filled : heights.Filled (darts 𝓜) (𝓜 .tail) wd height) where
       walk : (w : FaceWalk 𝓜 y y) × (total (N .length) w <ℤ pos 0) × ((d : ℕ) → d < N .darts → wd d ≡ winding w d)
       walk = ring-wound (q .of) (q .few-faces) (q .ring) wound
+
+      -- there are heights of the winding, so those found are such, with the first node of each tree at 0
+      known-heights : (H : ℕ → ℤ) × heights.HeightsOf (darts 𝓜) (𝓜 .tail) wd H
+      known-heights =
+          let known = ring-heights-exist (q .plane) (walk .0) in
+          (known .0, λ d l. walk .2 d (omega (arith, q .of .darts-are)) ∙ known .1 d l)
+
+      pub made-of-ring : N .darts ≡ darts 𝓜 → {S : ℕ → Bool} → heights.Rooted (darts 𝓜) (𝓜 .tail) order from wd height
+          → FirstServes (𝓜 .nodes) (darts 𝓜) (𝓜 .tail) (N .length) height S → MadeOfRing 𝓜 (N .right) (N .length) order from parent y S
+      made-of-ring e rooted serves = record {
+        round = subst (λ n. Round (N .right) parent n y) e ring-round;
+        winding = wd;
+        wound = subst (λ n. Wound (N .right) parent n y wd) e wound;
+        height = height;
+        heights = filled .right (known-heights .0) (known-heights .1);
+        rooted = rooted .zero (known-heights .0) (known-heights .1);
+        serves = serves;
+      }
 
       -- the winding is the difference of the heights found
       found-heights : Heights 𝓜 (winding (walk .0)) height

@@ -2,3 +2,4 @@
 pub mod Ends
 pub mod Search
 pub mod Decision
+pub mod Named

@@ -3,10 +3,11 @@
 //
 // The walk over the darts and the groups of darts by faces were made when the drawing was opened. All other arrays belong to a step, and none is kept longer.
 ghost use mathlib.Core.Path.{_≡_};
+ghost use mathlib.Core.Bool.{false};
 ghost use mathlib.Core.List.{List, []};
 ghost use Prim.Native.Nat.{ℕ, _*_, _<_, _≤_};
 ghost use lib.ListN.{length, take};
-ghost use lib.IntN.{pos};
+ghost use lib.IntN.{ℤ, pos};
 ghost use lib.Signed.{_<ℤ_};
 ghost use Rattle.integers.specs.inner.Limited.{Limited};
 ghost use Rattle.maps.specs.Check.{Sound};
@@ -15,14 +16,17 @@ ghost use Rattle.grouping.specs.Grouped.{Grouped};
 ghost use Rattle.grouping.specs.inner.Walked.{Walked};
 ghost use Rattle.lengths.specs.inner.Lengths.{Treed};
 ghost use Rattle.arrays.specs.At.{at, atℤ};
-ghost use Rattle.traversal.specs.inner.Forest.{Forest, RootsOf};
+ghost use Rattle.traversal.specs.inner.Forest.{Forest, RootsOf, RootsHere};
 ghost use Rattle.search.specs.Dual.{dualOf};
+ghost use Rattle.search.specs.Given.{given};
+ghost use Rattle.search.specs.Trace.{Searches};
 ghost use Rattle.arrays.specs.inner.Drawn.{Drawn};
 ghost use Rattle.solver.specs.inner.Ends.{Ends};
 ghost use Rattle.arrays.specs.Maps.{mapOf, rightOf};
 ghost use Rattle.arrays.specs.inner.Sizes.{mostCapacity, mostValue};
 ghost use Rattle.solver.specs.inner.Search.{PartFlagged, Measured, Searchable, Searched, Ringed};
 ghost use Rattle.solver.specs.inner.Decision.{Decided};
+ghost use Rattle.solver.specs.inner.Named.{MeasuredBy, MadeOfRing, Named};
 ghost use Rattle.arrays.specs.inner.Flags.{flagged};
 use search::Outcome;
 
@@ -67,7 +71,9 @@ fn cut_apart(
         × ((d : ℕ) → d < 2 * edges → Limited mostCapacity (atℤ (now capacities) d)) × Limited mostValue value ⌝ }
     ensures { λ r. ⌜ (length (now (lengths .exit)) ≡ 1024) × (length (now (inside .exit)) ≡ 1024)
         × Measured (mapOf nodes edges (now (tails .entry)) (now (rotations .entry))) (at (now (tails .entry)) start) (at (now (tails .entry)) finish)
-        (atℤ (now (capacities .entry))) value (atℤ (now (lengths .exit))) (now (inside .exit)) r ⌝ }
+        (atℤ (now (capacities .entry))) value (atℤ (now (lengths .exit))) (now (inside .exit)) r
+        × MeasuredBy (mapOf nodes edges (now (tails .entry)) (now (rotations .entry))) start finish (at (now (from .entry)))
+        (atℤ (now (capacities .entry))) value (atℤ (now (lengths .exit))) (flagged (now (inside .exit))) r ⌝ }
 {
     if lengths::fill_lengths(
         capacities,
@@ -114,7 +120,9 @@ fn settle(
     ensures { λ r. ⌜ (length (now (parents .exit)) ≡ 1024)
         × Searched (dualOf (now (lefts .entry)) (now (lengths .entry)) (2 * edges) faces (take roots (now (queue .entry)))) edges
         (atℤ (now (capacities .entry)))
-        (now (flows .entry)) (now (flows .exit)) (at (now (parents .exit))) r ⌝ }
+        (now (flows .entry)) (now (flows .exit)) (at (now (parents .exit))) r
+        × ((ρ : List ℤ) × Searches (given (now (lefts .entry)) (now (lengths .entry)) (now (grouped .entry)) (now (starts .entry)) (now (ends .entry))
+        (2 * edges) faces) (now (queue .entry)) roots ρ (now (parents .exit)) r) ⌝ }
 {
     let mut potentials = [0i64; 1024];
     let mut waiting = [0u8; 1024];
@@ -166,7 +174,11 @@ fn settle_all<'a>(
     ensures { λ r. ⌜ (length (now (parents .exit)) ≡ 1024)
         × ((queue : List ℕ) × (length queue ≡ 1024) × RootsOf (2 * edges) (at (now (rotations .entry))) outer (at (now (lefts .entry))) (at queue) trees
         × Searched (dualOf (now (lefts .entry)) (now (lengths .entry)) (2 * edges) faces (take trees queue)) edges (atℤ (now (capacities .entry)))
-        (now (flows .entry)) (now (flows .exit)) (at (now (parents .exit))) r) ⌝ }
+        (now (flows .entry)) (now (flows .exit)) (at (now (parents .exit))) r
+        × RootsHere (2 * edges) (at (now (rotations .entry))) outer (at (now (lefts .entry))) (at (now (order .entry))) (at (now (from .entry)))
+        (λ i. 0) (at queue) trees
+        × ((ρ : List ℤ) × Searches (given (now (lefts .entry)) (now (lengths .entry)) (now (grouped .entry)) (now (starts .entry)) (now (ends .entry))
+        (2 * edges) faces) queue trees ρ (now (parents .exit)) r)) ⌝ }
 {
     let mut queue = [0u16; 1024];
     traversal::first_faces(
@@ -215,7 +227,9 @@ fn cut_of_ring(
         × Treed (mapOf nodes edges (now tails) (now rotations)) (2 * edges) (at (now order)) (at (now from))
         × Ringed (mapOf nodes edges (now tails) (now rotations)) (dualOf (now lefts) (now lengths) (2 * edges) faces []) (at (now parents)) y ⌝ }
     ensures { λ _. ⌜ (length (now (inside .exit)) ≡ 1024)
-        × (cut (mapOf nodes edges (now (tails .entry)) (now (rotations .entry))) (atℤ (now (lengths .entry))) (flagged (now (inside .exit))) <ℤ pos 0) ⌝ }
+        × (cut (mapOf nodes edges (now (tails .entry)) (now (rotations .entry))) (atℤ (now (lengths .entry))) (flagged (now (inside .exit))) <ℤ pos 0)
+        × MadeOfRing (mapOf nodes edges (now (tails .entry)) (now (rotations .entry))) (rightOf (now (lefts .entry))) (atℤ (now (lengths .entry)))
+        (at (now (order .entry))) (at (now (from .entry))) (at (now (parents .entry))) y (flagged (now (inside .exit))) ⌝ }
 {
     let mut winding = [0i32; 1024];
     windings::fill_winding(lefts, parents, 2 * edges, y, &mut winding);
@@ -225,8 +239,8 @@ fn cut_of_ring(
 }
 
 // Decides one value from a source to a sink, with the face of the outer dart at 0 and the lowest face of each other part: true with the highest flow written,
-// false with the nodes of a proving set flagged. The walk over the darts and their groups by faces are those of the open drawing. `parents` is where the search
-// keeps its trees; a caller may read them, but nothing is promised of them.
+// false with the nodes of a proving set flagged, which follows from the drawing and the question (`Named`). The walk over the darts and
+// their groups by faces are those of the open drawing. `parents` is where the search keeps its trees; a caller may read them, but nothing is promised of them.
 pub fn decide<'a>(
     tails: &'a [u16; 1024],
     rotations: &'a [u16; 1024],
@@ -255,7 +269,9 @@ pub fn decide<'a>(
         × Walked (2 * edges) faces outer trees (at (now rotations)) (now lefts) (now order) (now from) (now grouped) (now starts) (now ends) ⌝ }
     ensures { λ r. ⌜ (length (now (inside .exit)) ≡ 1024)
         × Decided (mapOf nodes edges (now (tails .entry)) (now (rotations .entry))) outer (atℤ (now (capacities .entry)))
-        source sink value (now (flows .entry)) (now (flows .exit)) (now (inside .exit)) r × (length (now (parents .exit)) ≡ 1024) ⌝ }
+        source sink value (now (flows .entry)) (now (flows .exit)) (now (inside .exit)) r × (length (now (parents .exit)) ≡ 1024)
+        × (r ≡ false → Named (mapOf nodes edges (now (tails .entry)) (now (rotations .entry))) outer (atℤ (now (capacities .entry)))
+        source sink value (flagged (now (inside .exit)))) ⌝ }
 {
     let start = traversal::dart_at(tails, 2 * edges, source);
     let finish = traversal::dart_at(tails, 2 * edges, sink);

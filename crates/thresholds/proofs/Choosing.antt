@@ -16,7 +16,7 @@ use Rattle.integers.proofs.Tests.{of-T, either}
 use Rattle.maps.specs.Dart.{rev}
 use Rattle.cuts.specs.inner.Cut.{cutOf}
 use Rattle.thresholds.specs.inner.Above.{above}
-use Rattle.thresholds.specs.inner.Choice.{Choosable}
+use Rattle.thresholds.specs.inner.Choice.{Choosable, FirstServes}
 use Rattle.arrays.specs.inner.Sizes.{mostHeight}
 use Rattle.cuts.proofs.Adding.{reverse-in}
 
@@ -51,6 +51,48 @@ pub record Trying (darts : ℕ) (tail : ℕ → ℕ) (length height : ℕ → �
   pub low : negℤ (pos mostHeight) ≤ℤ t
   pub below : t ≤ℤ serves
   pub high : serves ≤ℤ pos mostHeight
+
+-- and none of those tried before, from the lowest height on, serves
+pub record Tried (nodes darts : ℕ) (tail : ℕ → ℕ) (length height : ℕ → ℤ) (t : ℤ) : Type 0 where
+  pub lowest : ℤ
+  pub least : (v : ℕ) → v < nodes → lowest ≤ℤ height v
+  pub reached : (v : ℕ) × (v < nodes) × (lowest ≡ height v)
+  pub from-lowest : lowest ≤ℤ t
+  pub none-lower : (u : ℤ) → lowest ≤ℤ u → u <ℤ t → cutOf darts tail length (above height u) <ℤ pos 0 → ⊥
+
+pub tried-start : {nodes darts : ℕ} {tail : ℕ → ℕ} {length height : ℕ → ℤ} (t : ℤ) → ((v : ℕ) → v < nodes → t ≤ℤ height v)
+    → (v : ℕ) × (v < nodes) × (t ≡ height v) → Tried nodes darts tail length height t
+tried-start t lowest has = record { lowest = t; least = lowest; reached = has; from-lowest = ≤ℤ-refl t; none-lower = λ u a b h. lt-le-clash b a }
+
+pub tried-step : {nodes darts : ℕ} {tail : ℕ → ℕ} {length height : ℕ → ℤ} {t : ℤ} → Tried nodes darts tail length height t
+    → ltZ (cutOf darts tail length (above height t)) (pos 0) ≡ false → Tried nodes darts tail length height (t +ℤ pos 1)
+tried-step {nodes} {darts} {tail} {length} {height} {t} now fails = record {
+  lowest = now .lowest;
+  least = now .least;
+  reached = now .reached;
+  from-lowest = let a = atoms₂ t (now .lowest) in at-most (search parts) (omega (arith, from-at-most (now .from-lowest) (search parts)));
+  none-lower = λ u a b h. lower u a b h (lt-or-ge u t);
+}
+  where
+    lower : (u : ℤ) → now .lowest ≤ℤ u → u <ℤ (t +ℤ pos 1) → cutOf darts tail length (above height u) <ℤ pos 0 → (u <ℤ t) ⊎ (t ≤ℤ u) → ⊥
+    lower u a b h (inl l) = now .none-lower u a l h
+    lower u a b h (inr l) =
+        let below : u ≤ℤ t = (let k = atoms₂ t u in at-most (search parts) (omega (arith, from-less b (search parts)))) in
+        lt-le-clash (rw (le-antisym below l) at h) (ge-of-test _ _ fails)
+
+pub tried-serves : {nodes darts : ℕ} {tail : ℕ → ℕ} {length height : ℕ → ℤ} {t : ℤ} {S : ℕ → Bool} → Tried nodes darts tail length height t
+    → cutOf darts tail length (above height t) <ℤ pos 0 → ((v : ℕ) → v < nodes → S v ≡ above height t v)
+    → FirstServes nodes darts tail length height S
+tried-serves {t = t} now serves flags = record {
+  lowest = now .lowest;
+  least = now .least;
+  reached = now .reached;
+  threshold = t;
+  from-lowest = now .from-lowest;
+  none-lower = now .none-lower;
+  serves = serves;
+  flags = flags;
+}
 
 -- the thresholds from t up to the greatest height
 unfoldable pub left-above : ℤ → ℕ

@@ -3,3 +3,4 @@ pub mod Above
 pub mod Lowering
 pub mod Choosing
 pub mod Examples
+pub mod OneThreshold

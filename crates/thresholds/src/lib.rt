@@ -13,7 +13,7 @@ ghost use Rattle.maps.specs.Dart.{rev};
 ghost use Rattle.arrays.specs.At.{at, atℤ};
 ghost use Rattle.cuts.specs.inner.Cut.{leavesOf, cutOf};
 ghost use Rattle.thresholds.specs.inner.Above.{above};
-ghost use Rattle.thresholds.specs.inner.Choice.{Choosable};
+ghost use Rattle.thresholds.specs.inner.Choice.{Choosable, FirstServes};
 ghost use Rattle.arrays.specs.inner.Sizes.{mostLength, mostHeight};
 
 fn is_above(x: i32, threshold: i32) -> bool
@@ -75,7 +75,9 @@ pub fn choose_set(
 )
     requires { ⌜ (length (now inside) ≡ 1024) × Choosable nodes darts (at (now tails)) (atℤ (now lengths)) (atℤ (now heights)) ⌝ }
     ensures { λ _. ⌜ (length (now (inside .exit)) ≡ 1024)
-        × (cutOf darts (at (now (tails .entry))) (atℤ (now (lengths .entry))) (λ v. eqb (at (now (inside .exit)) v) 1) <ℤ pos 0) ⌝ }
+        × (cutOf darts (at (now (tails .entry))) (atℤ (now (lengths .entry))) (λ v. eqb (at (now (inside .exit)) v) 1) <ℤ pos 0)
+        × FirstServes nodes darts (at (now (tails .entry))) (atℤ (now (lengths .entry))) (atℤ (now (heights .entry)))
+        (λ v. eqb (at (now (inside .exit)) v) 1) ⌝ }
 {
     let mut threshold = lowest(heights, nodes);
     flag_above(heights, nodes, threshold, &mut *inside);

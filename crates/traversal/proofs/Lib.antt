@@ -6,3 +6,4 @@ pub mod Forests
 pub mod Rooting
 pub mod Flagging
 pub mod Rounding
+pub mod Coming

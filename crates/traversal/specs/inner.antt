@@ -3,3 +3,4 @@ pub mod Mark
 pub mod Spread
 pub mod Forest
 pub mod Rounds
+pub mod FirstCome

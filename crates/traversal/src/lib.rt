@@ -10,8 +10,9 @@ ghost use Rattle.arrays.specs.At.{at};
 ghost use Rattle.traversal.specs.inner.Mark.{unmarked};
 ghost use Rattle.refusals.specs.Order.{Decides};
 ghost use Rattle.traversal.specs.inner.Spread.{Spread, Added, FlagsMet};
-ghost use Rattle.traversal.specs.inner.Forest.{Forest, Growing, Plantable, RootsOf};
+ghost use Rattle.traversal.specs.inner.Forest.{Forest, Growing, Plantable, RootsOf, RootsHere};
 ghost use Rattle.traversal.specs.inner.Rounds.{Rounds, Joinable};
+ghost use Rattle.traversal.specs.inner.FirstCome.{FirstCome, RoundedOff, Comes, Unround};
 
 // The mark of a place that has no number yet: for a dart, that it was not met. Numbers stay below 1,024.
 const UNMARKED: u16 = 65535;
@@ -25,10 +26,10 @@ pub fn unmark_all(label: &mut [u16; 1024])
     }
 }
 
-// The first dart that leaves the node v; that it leaves v is all that the contract tells.
+// The first dart that leaves the node v.
 pub fn dart_at(tails: &[u16; 1024], darts: usize, v: usize) -> usize
     requires { ⌜ (darts ≤ 1024) × ((d : ℕ) × (d < darts) × (at (now tails) d ≡ v)) ⌝ }
-    ensures { λ r. ⌜ (r < darts) × (at (now (tails .entry)) r ≡ v) ⌝ }
+    ensures { λ r. ⌜ (r < darts) × (at (now (tails .entry)) r ≡ v) × ((e : ℕ) → e < r → at (now (tails .entry)) e ≢ v) ⌝ }
 {
     let mut d: usize = 0;
     while arrays::wide(tails[d]) != v {
@@ -157,13 +158,18 @@ fn add_round<'a>(
         × ((d : ℕ) → d < darts → at (now rotations) d < darts) × ((d : ℕ) → d < darts → at (now tails) d < 1024)
         × (d < darts) × (origin < 1024) × (end < 1024) × (at (now from) d ≡ unmarked)
         × Joinable darts (at (now rotations)) first (at (now order)) (at (now from)) front end (trees + 1) d origin
-        × Rounds darts (at (now tails)) (at (now rotations)) (at (now from)) (at (now owner)) ⌝ }
+        × Rounds darts (at (now tails)) (at (now rotations)) (at (now from)) (at (now owner))
+        × FirstCome (at (now rotations)) first (at (now order)) (at (now from)) end × ((i : ℕ) → i < end → at (now from) (at (now order) i) ≢ unmarked)
+        × Comes (at (now rotations)) first (at (now order)) (at (now from)) end d origin ⌝ }
     ensures { λ r. ⌜ (length (now (order .exit)) ≡ 1024) × (length (now (from .exit)) ≡ 1024) × (length (now (owner .exit)) ≡ 1024)
         × (r ≢ 0 → Growing darts (at (now (rotations .entry))) first (at (now (order .exit))) (at (now (from .exit))) front r (trees + 1)
         × Rounds darts (at (now (tails .entry))) (at (now (rotations .entry))) (at (now (from .exit))) (at (now (owner .exit)))
         × (at (now (from .exit)) d ≢ unmarked)
         × ((i : ℕ) → i < end → at (now (order .exit)) i ≡ at (now (order .entry)) i) × (end < r)
-        × ((y : ℕ) → at (now (from .entry)) y ≢ unmarked → at (now (from .exit)) y ≢ unmarked)) ⌝ }
+        × ((y : ℕ) → at (now (from .entry)) y ≢ unmarked → at (now (from .exit)) y ≢ unmarked)
+        × FirstCome (at (now (rotations .entry))) first (at (now (order .exit))) (at (now (from .exit))) r
+        × RoundedOff (at (now (rotations .entry))) (at (now (order .exit))) r)
+        × (r ≡ 0 → Unround darts (at (now (tails .entry))) (at (now (rotations .entry)))) ⌝ }
 {
     let v = arrays::wide(tails[d]);
     if owner[v] != 0 {
@@ -205,12 +211,16 @@ fn grow_rounds<'a>(
         × ((d : ℕ) → d < darts → at (now rotations) d < darts) × ((d : ℕ) → d < darts → at (now tails) d < 1024)
         × Growing darts (at (now rotations)) first (at (now order)) (at (now from)) listed listed trees
         × Plantable darts first (at (now from)) listed trees d
-        × Rounds darts (at (now tails)) (at (now rotations)) (at (now from)) (at (now owner)) ⌝ }
+        × Rounds darts (at (now tails)) (at (now rotations)) (at (now from)) (at (now owner))
+        × FirstCome (at (now rotations)) first (at (now order)) (at (now from)) listed × RoundedOff (at (now rotations)) (at (now order)) listed ⌝ }
     ensures { λ r. ⌜ (length (now (order .exit)) ≡ 1024) × (length (now (from .exit)) ≡ 1024) × (length (now (owner .exit)) ≡ 1024)
         × (r ≢ 0 → Growing darts (at (now (rotations .entry))) first (at (now (order .exit))) (at (now (from .exit))) r r (trees + 1)
         × Rounds darts (at (now (tails .entry))) (at (now (rotations .entry))) (at (now (from .exit))) (at (now (owner .exit)))
         × (at (now (from .exit)) d ≢ unmarked)
-        × ((y : ℕ) → at (now (from .entry)) y ≢ unmarked → at (now (from .exit)) y ≢ unmarked)) ⌝ }
+        × ((y : ℕ) → at (now (from .entry)) y ≢ unmarked → at (now (from .exit)) y ≢ unmarked)
+        × FirstCome (at (now (rotations .entry))) first (at (now (order .exit))) (at (now (from .exit))) r
+        × RoundedOff (at (now (rotations .entry))) (at (now (order .exit))) r)
+        × (r ≡ 0 → Unround darts (at (now (tails .entry))) (at (now (rotations .entry)))) ⌝ }
 {
     let mut head: usize = listed;
     let mut end = add_round(
@@ -269,7 +279,9 @@ pub fn spread_rounds<'a>(
     ensures { λ r. ⌜ (length (now (order .exit)) ≡ 1024) × (length (now (from .exit)) ≡ 1024) × (length (now (owner .exit)) ≡ 1024)
         × (r ≢ 0 → Forest darts (at (now (rotations .entry))) first (at (now (order .exit))) (at (now (from .exit))) r
         × Rounds darts (at (now (tails .entry))) (at (now (rotations .entry))) (at (now (from .exit))) (at (now (owner .exit)))
-        × ((d : ℕ) → d < darts → at (now (from .exit)) d ≢ unmarked)) ⌝ }
+        × ((d : ℕ) → d < darts → at (now (from .exit)) d ≢ unmarked)
+        × FirstCome (at (now (rotations .entry))) first (at (now (order .exit))) (at (now (from .exit))) darts)
+        × (r ≡ 0 → Unround darts (at (now (tails .entry))) (at (now (rotations .entry)))) ⌝ }
 {
     unmark_all(from);
     let mut end = grow_rounds(
@@ -355,7 +367,9 @@ pub fn first_faces<'a>(
 )
     requires { ⌜ (length (now roots) ≡ 1024) × (darts ≤ 1024) × Forest darts (at (now rotations)) first (at (now order)) (at (now from)) trees ⌝ }
     ensures { λ _. ⌜ (length (now (roots .exit)) ≡ 1024)
-        × RootsOf darts (at (now (rotations .entry))) first (at (now (lefts .entry))) (at (now (roots .exit))) trees ⌝ }
+        × RootsOf darts (at (now (rotations .entry))) first (at (now (lefts .entry))) (at (now (roots .exit))) trees
+        × RootsHere darts (at (now (rotations .entry))) first (at (now (lefts .entry))) (at (now (order .entry))) (at (now (from .entry)))
+        (at (now (roots .entry))) (at (now (roots .exit))) trees ⌝ }
 {
     let mut count: usize = 0;
     let mut i: usize = 0;

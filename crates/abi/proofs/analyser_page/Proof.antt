@@ -28,7 +28,7 @@ listed c =
     page-listed (begun c .args .sheet .now) (begun c .args .count)
     (questionIn (begun c .args .sources .now) (begun c .args .sinks .now) (begun c .args .values .now))
     (c .before .before .before .list-from .result) (c .before .before .before .list-from .ensures) (begun c .args .flows .now) (flows' c)
-    (begun c .args .sets .now) (sets' c) (c .page-of .result) (c .page-of .ensures)
+    (begun c .args .sets .now) (sets' c) (c .page-of .result) (c .page-of .ensures .0)
 
 list-from-requires : tie.Need-list-from-requires
 list-from-requires c κs = search needs

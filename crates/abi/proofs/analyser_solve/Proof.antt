@@ -24,7 +24,7 @@ set' c = c .solve .last .1 .1 .1 .1 .1 .0
 solved : (c : tie.After-solve) (answer : SolveAnswer) → c .solve .result ≡ answer
     → Solves (start c .args .sheet .now) (start c .args .source) (start c .args .sink) (start c .args .value)
     (start c .args .flows .now) (flows' c) (start c .args .set .now) (set' c) answer
-solved c answer e = rw (number-of-bits _ (start c .fits .value), e) at (c .solve .ensures)
+solved c answer e = rw (number-of-bits _ (start c .fits .value), e) at (c .solve .ensures .0)
 
 solve-requires : tie.Need-solve-requires
 solve-requires c κs = search needs

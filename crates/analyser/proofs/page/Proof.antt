@@ -106,7 +106,8 @@ use Rattle.pages.proofs.list_of.Symbol as list-of-def
 use Rattle.pages.proofs.list_of.Symbol.{name as #pages·list-of}
 use Rattle.pages.proofs.list_of.Met as list-of-thm
 use Rattle.analyser.specs.Page.{AnswersPage}
-use Rattle.analyser.proofs.Lines.{page-listed}
+use Rattle.analyser.specs.inner.Named.{PageNamed}
+use Rattle.analyser.proofs.Lines.{page-listed, page-named-listed}
 use Rattle.analyser.proofs.page_of as page-of
 use Rattle.analyser.proofs.page_of.Symbol as page-of-def
 use Rattle.analyser.proofs.page_of.Symbol.{name as #analyser·page-of}
@@ -238,6 +239,7 @@ module _ {M : Type 1} (𝓤 : URA M) (H : Heap 𝓤) (A : Atoms 𝓤) (W : Given
   Left r w fs ss = ‵ (RP .own r (w ∷ [])) ∷ Others ∷ ‵ (finally u64 (x₃ .name) ss) ∷ ‵ (finally i32 (x₂ .name) fs) ∷ Token₁ ∷ ‵ O₀ ∷ ‵ O₁ ∷ []
 
   exits : (r : Page) (w : Val) (fs : List ℤ) (ss : List ℕ) → AnswersPage (x₀ .now) n (questionAt (x₁ .now)) (x₂ .now) fs (x₃ .now) ss r
+      × PageNamed (x₀ .now) n (questionAt (x₁ .now)) ss r
       → length fs ≡ length (x₂ .now) → length ss ≡ length (x₃ .now) → ent 𝓤 (⋆ 𝓤 H A (Left r w fs ss)) (Post w)
   exits r w fs ss e lf ls =
       qed W (Left r w fs ss) ∵ move ! (1 ∷ []) $ split ! $ move ! (5 ∷ []) $ split ! $ move ! (1 ∷ []) $ drop ! $
@@ -290,10 +292,12 @@ module _ {M : Type 1} (𝓤 : URA M) (H : Heap 𝓤) (A : Atoms 𝓤) (W : Given
         ⊛ raw (ensured 𝓤 H A page-of.ended (page-of.clauses 𝓤 H A mem run) κs′ a′ tt p)))) (id⊢ 𝓤 _) $ await ! tt $ pick ! (λ p.
         split ! $ move ! (1 ∷ []) $
         use1 W (some (λ (zs : Unit {0} × (Unit {0} × (List ℤ × (List ℕ × Unit {0})))). ‵ (lasts page-of.ended κs′ a′ zs)
-        ⊛ raw (fact 𝓤 (AnswersPage (x₀ .now) (list .count) (questionAt (list .questions)) (x₂ .now) (zs .1 .1 .0) (x₃ .now) (zs .1 .1 .1 .0) p)))) (id⊢ 𝓤 _) $
+        ⊛ raw (fact 𝓤 (AnswersPage (x₀ .now) (list .count) (questionAt (list .questions)) (x₂ .now) (zs .1 .1 .0) (x₃ .now) (zs .1 .1 .1 .0) p
+        × PageNamed (x₀ .now) (list .count) (questionAt (list .questions)) (zs .1 .1 .1 .0) p)))) (id⊢ 𝓤 _) $
         pick ! (λ zs.
         split ! $ move ! (1 ∷ []) $
-        heard ! (AnswersPage (x₀ .now) (list .count) (questionAt (list .questions)) (x₂ .now) (zs .1 .1 .0) (x₃ .now) (zs .1 .1 .1 .0) p) (λ f.
+        heard ! (AnswersPage (x₀ .now) (list .count) (questionAt (list .questions)) (x₂ .now) (zs .1 .1 .0) (x₃ .now) (zs .1 .1 .1 .0) p
+        × PageNamed (x₀ .now) (list .count) (questionAt (list .questions)) (zs .1 .1 .1 .0) p) (λ f.
         fsplit ! $ move ! (1 ∷ []) $ fsplit ! $ move ! (1 ∷ []) $ fsplit ! $ fsplit ! $ move ! (1 ∷ []) $ feqL ! (λ lf.
         move ! (1 ∷ []) $ fsplit ! $ fsplit ! $ move ! (1 ∷ []) $ feqL ! (λ ls.
         -- [sets' last list; true; flows' last list; true; true; the tokens and the page; token 1; what sheet and questions own; _9; …; .. room for _0; …]
@@ -304,8 +308,11 @@ module _ {M : Type 1} (𝓤 : URA M) (H : Heap 𝓤) (A : Atoms 𝓤) (W : Given
         move ! (28 ∷ 29 ∷ []) $ free1 ! $ move ! (26 ∷ 27 ∷ []) $ free1 ! $ move ! (24 ∷ 25 ∷ []) $ free1 ! $ move ! (22 ∷ 23 ∷ []) $ free1 ! $
         move ! (20 ∷ 21 ∷ []) $ free1 ! $ move ! (18 ∷ 19 ∷ []) $ free1 ! $ move ! (16 ∷ 17 ∷ []) $ free1 ! $ move ! (14 ∷ 15 ∷ []) $ free1 ! $
         move ! (12 ∷ 13 ∷ []) $ free1 ! $ move ! (10 ∷ 11 ∷ []) $ free1 ! $ free0 ! $ keep ! (0 ∷ 1 ∷ 2 ∷ 4 ∷ 7 ∷ 8 ∷ 9 ∷ []) $
-        by ! (exits p w (zs .1 .1 .0) (zs .1 .1 .1 .0)
-        (page-listed (x₀ .now) n (questionAt (x₁ .now)) list refl (x₂ .now) (zs .1 .1 .0) (x₃ .now) (zs .1 .1 .1 .0) p f) lf ls))))))))))))))))))))))
+        by ! (exits p w (zs .1 .1 .0) (zs .1 .1 .1 .0) (
+          page-listed (x₀ .now) n (questionAt (x₁ .now)) list refl (x₂ .now) (zs .1 .1 .0) (x₃ .now) (zs .1 .1 .1 .0) p (f .0),
+          page-named-listed (x₀ .now) n (questionAt (x₁ .now)) list refl (x₂ .now) (zs .1 .1 .0) (x₃ .now) (zs .1 .1 .1 .0) p
+              (f .0) (f .1),
+        ) lf ls))))))))))))))))))))))
 
 module _ {M : Type 1} (𝓤 : URA M) (H : Heap 𝓤) (A : Atoms 𝓤) (W : Given 𝓤 H A) (mem : Memory → SProp 𝓤) (run : Routine → Fun 𝓤) (𝓣 : Tables 𝓤 H)
     (known-list : Triple 𝓤 (𝓣 .C #pages·list-of) (ListOf 𝓤 H A mem run)) (known-page : Triple 𝓤 (𝓣 .C #analyser·page-of) (PageOf 𝓤 H A mem run)) where

@@ -1,5 +1,5 @@
 -- A list of questions on one sheet: as Solve.
-use mathlib.Core.Path.{_≡_, refl}
+use mathlib.Core.Path.{_≡_, refl, sym, _∙_, ap}
 use mathlib.Core.List.{List}
 use Prim.Native.Nat.{ℕ}
 use lib.IntN.{pos}
@@ -11,8 +11,10 @@ use Rattle.sheets.specs.inner.Prepared.{Prepared}
 use Rattle.sheets.proofs.Accepted.{sheet-bytes}
 use Rattle.sheets.proofs.Opening.{opens-passed, opens-first, if-passed}
 use Rattle.pages.specs.Question.{questionAt}
+use Rattle.pages.specs.declared.Page.{Page}
 use Rattle.pages.proofs.Listing.{refused-so}
-use Rattle.analyser.proofs.Opened.{drawn, walked, page-refused, page-sheet}
+use Rattle.analyser.proofs.Opened.{drawn, walked, page-refused, page-sheet, page-named}
+use Rattle.analyser.proofs.Lines.{not-passed}
 use Rattle.analyser.proofs.page_of.Statement.{statement}
 use Rattle.analyser.proofs.page_of.Tie as tie
 
@@ -29,11 +31,13 @@ refused-page-requires c κs = search needs
 returns : tie.Need-returns
 returns c =
     let o = c .before .before .before .before in
-    let a = o .before .before .before .before .before .before .before .before .before .before .before .args in
-    refused-so _ _ _ _ _ (a .flows .now) (a .sets .now) _ _ (c .refused-page .result)
-    (page-refused (a .sheet .now) _ _
-    (opens-first (a .sheet .now) _ (o .open-walked .result) (c .before .before .verdict .given .1) (o .open-walked .ensures .8))
-    (a .list .count) (a .flows .now) (a .sets .now)) (c .refused-page .ensures)
+    let a = o .before .before .before .before .before .before .before .before .before .before .before .args in (
+      refused-so _ _ _ _ _ (a .flows .now) (a .sets .now) _ _ (c .refused-page .result)
+          (page-refused (a .sheet .now) _ _
+          (opens-first (a .sheet .now) _ (o .open-walked .result) (c .before .before .verdict .given .1) (o .open-walked .ensures .8))
+          (a .list .count) (a .flows .now) (a .sets .now)) (c .refused-page .ensures),
+      λ e. absurd (not-passed (sym (ap (λ (p : Page). p .verdict) (c .refused-page .ensures)) ∙ e)),
+    )
 
 enum-told : tie.Need-enum-told
 enum-told c = search needs
@@ -96,10 +100,14 @@ returns-2 c =
     let k = c .before .before .before in
     let f = k .before .before .before .before .before .before .before .before .before .before .before .before in
     let t = told f in
-    let a = begun t .args in
-    page-sheet (sheet t) (opened t .open-walked .result) (lefts t) (tails t) (rotations t) (f .fill-capacities .last .1 .1 .0) (accepted t)
-    (prepared t .tails-are) (prepared t .rotations-are) (f .fill-capacities .ensures .1)
-    (a .list .count) (questionAt (a .list .questions)) (a .flows .now) _ (a .sets .now) _ (k .answer-list .result) (k .answer-list .ensures)
+    let a = begun t .args in (
+      page-sheet (sheet t) (opened t .open-walked .result) (lefts t) (tails t) (rotations t) (f .fill-capacities .last .1 .1 .0) (accepted t)
+          (prepared t .tails-are) (prepared t .rotations-are) (f .fill-capacities .ensures .1)
+          (a .list .count) (questionAt (a .list .questions)) (a .flows .now) _ (a .sets .now) _ (k .answer-list .result) (k .answer-list .ensures),
+      page-named (sheet t) (opened t .open-walked .result) (lefts t) (tails t) (rotations t) (f .fill-capacities .last .1 .1 .0) (accepted t)
+          (prepared t .tails-are) (prepared t .rotations-are) (f .fill-capacities .ensures .1)
+          (a .list .count) (questionAt (a .list .questions)) (a .flows .now) _ (a .sets .now) _ (k .answer-list .result) (k .answer-list .ensures),
+    )
 
 pub page-of-spec : {M : Type 1} → statement M
 page-of-spec =

@@ -11,7 +11,7 @@ use Rattle.sheets.specs.Open.{sheetChecks, Numbers}
 use Rattle.sheets.specs.inner.Prepared.{Prepared}
 use Rattle.sheets.proofs.Accepted.{sheet-bytes}
 use Rattle.sheets.proofs.Opening.{opens-passed, opens-first, if-passed}
-use Rattle.analyser.proofs.Opened.{drawn, walked, solve-refused, solved-sheet}
+use Rattle.analyser.proofs.Opened.{drawn, walked, solve-refused, solved-sheet, named-sheet}
 use Rattle.analyser.proofs.solve.Statement.{statement}
 use Rattle.analyser.proofs.solve.Tie as tie
 
@@ -26,10 +26,13 @@ returns : tie.Need-returns
 returns c =
     let o = c .before .before .before in
     let a = o .before .before .before .before .before .before .before .before .before .before .before .args in (
-      solve-refused (a .sheet .now) _ _ (opens-first (a .sheet .now) _ (o .open-walked .result) (c .before .verdict .given .1) (o .open-walked .ensures .8))
-          (a .source) (a .sink) (a .value) (a .flows .now) (a .set .now),
-      refl,
-      refl,
+      (
+        solve-refused (a .sheet .now) _ _ (opens-first (a .sheet .now) _ (o .open-walked .result) (c .before .verdict .given .1) (o .open-walked .ensures .8))
+            (a .source) (a .sink) (a .value) (a .flows .now) (a .set .now),
+        refl,
+        refl,
+      ),
+      tt,
     )
 
 enum-told : tie.Need-enum-told
@@ -93,10 +96,14 @@ returns-2 c =
     let k = c .before .before .before in
     let f = k .before .before .before .before .before .before .before .before .before .before .before .before in
     let t = told f in
-    let a = begun t .args in
-    solved-sheet (sheet t) (opened t .open-walked .result) (lefts t) (tails t) (rotations t) (f .fill-capacities .last .1 .1 .0) (accepted t)
-    (prepared t .tails-are) (prepared t .rotations-are) (f .fill-capacities .ensures .1)
-    (a .source) (a .sink) (number-of-bits _ (begun t .fits .value)) (a .flows .now) _ (a .set .now) _ (k .solve .result) (k .solve .ensures)
+    let a = begun t .args in (
+      solved-sheet (sheet t) (opened t .open-walked .result) (lefts t) (tails t) (rotations t) (f .fill-capacities .last .1 .1 .0) (accepted t)
+          (prepared t .tails-are) (prepared t .rotations-are) (f .fill-capacities .ensures .1)
+          (a .source) (a .sink) (number-of-bits _ (begun t .fits .value)) (a .flows .now) _ (a .set .now) _ (k .solve .result) (k .solve .ensures .0),
+      named-sheet (sheet t) (opened t .open-walked .result) (lefts t) (tails t) (rotations t) (f .fill-capacities .last .1 .1 .0) (accepted t)
+          (prepared t .tails-are) (prepared t .rotations-are) (f .fill-capacities .ensures .1)
+          (a .source) (a .sink) (number-of-bits _ (begun t .fits .value)) _ (k .solve .result) (k .solve .ensures .1),
+    )
 
 pub solve-spec : {M : Type 1} → statement M
 solve-spec =

@@ -10,7 +10,7 @@ use borrow.Author.Needs.{needs}
 use Rattle.maps.specs.Dart.{rev}
 use Rattle.arrays.specs.At.{at, atℤ}
 use Rattle.heights.proofs.FillingHeights.{Filling, dart-in, some-dart, first-own, origin-in, node-in}
-use Rattle.heights.proofs.FillingHeights.{filling-start, filling-turned, filling-rooted, new-fits, filling-stored, filled}
+use Rattle.heights.proofs.FillingHeights.{filling-start, filling-turned, filling-rooted, new-fits, filling-stored, filled, filled-rooted}
 use Rattle.heights.proofs.fill_heights.Statement.{statement}
 use Rattle.heights.proofs.fill_heights.Tie as tie
 
@@ -244,7 +244,8 @@ loop-again-3 c =
 returns : tie.Need-returns Inv-loop μ-loop
 returns c =
     let o = c .before in
-    (o .loop .inv .0, filled (begun (rooted (o .before)) .pre .1) (o .loop .inv .1) (c .loop-test .left))
+    let ok = begun (rooted (o .before)) .pre .1 in
+    (o .loop .inv .0, filled ok (o .loop .inv .1) (c .loop-test .left), filled-rooted ok (o .loop .inv .1) (c .loop-test .left))
 
 pub fill-heights-spec : {M : Type 1} → statement M
 fill-heights-spec =

@@ -36,3 +36,7 @@ HeightsOf darts tail winding height = (d : ℕ) → d < darts → winding d ≡ 
 pub record Filled (darts : ℕ) (tail : ℕ → ℕ) (winding height : ℕ → ℤ) : Type 0 where
   pub right : (H : ℕ → ℤ) → HeightsOf darts tail winding H → HeightsOf darts tail winding height
   pub limited : (d : ℕ) → d < darts → Limited mostHeight (height (tail d))
+
+-- and the node of the first dart of each tree is at 0
+pub record Rooted (darts : ℕ) (tail order from : ℕ → ℕ) (winding height : ℕ → ℤ) : Type 0 where
+  pub zero : (H : ℕ → ℤ) → HeightsOf darts tail winding H → (i : ℕ) → i < darts → from (order i) ≡ order i → height (tail (order i)) ≡ pos 0

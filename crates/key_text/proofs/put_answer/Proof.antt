@@ -50,7 +50,7 @@ value-is c = number-of-bits _ (start c .fits .value)
 
 solved : (c : tie.After-solve) (answer : SolveAnswer) → c .solve .result ≡ answer
     → Solves (start c .args .sheet .now) (start c .args .source) (start c .args .sink) (start c .args .value) noFlows (flows' c) noSet (set' c) answer
-solved c answer e = rw (number-of-bits _ (start c .fits .value), e) at (c .solve .ensures)
+solved c answer e = rw (number-of-bits _ (start c .fits .value), e) at (c .solve .ensures .0)
 
 -- of whichever bytes the sheet and the question were read
 module _ (c : tie.After-solve) (b : List ℕ) (question : NoneOf (recordChecks b 3 0)) (sheet : sheetOf b ≡ start c .args .sheet .now)

@@ -4,6 +4,7 @@ use lib.ListN.{set, replicate}
 use Rattle.refusals.specs.declared.Verdict.the-variants as verdict
 use Rattle.maps.specs.Drawing.{Drawing}
 use Rattle.questions.specs.Solve.{questionChecks, Solved}
+use Rattle.questions.specs.inner.Named.{SetNamed}
 use Rattle.questions.specs.declared.SolveAnswer.the-variants.{Refused}
 use Rattle.pages.specs.Question.{blank}
 use Rattle.pages.specs.Page.{Alone}
@@ -28,11 +29,12 @@ gathered question (suc n) list = listedAt (gathered question n list) n (question
 abbrev pub listOf : ℕ → (ℕ → Question) → Listed
 listOf n question = gathered question (min n 64) (emptyList n)
 
--- Solve's contract on a drawing, of question q and the slices lent for it
+-- Solve's contract on a drawing, of question q and the slices lent for it: what is answered, and that its set is the one that the search names
 abbrev pub solvedAlone : Drawing → Question → Alone
 solvedAlone 𝓓 q flows flows' set set' answer =
     Solved 𝓓 (questionChecks (𝓓 .map .nodes) (𝓓 .map .edges) (q .source) (q .sink) (q .value) flows set)
     (q .source) (q .sink) (q .value) flows flows' set set' answer
+    × SetNamed 𝓓 (q .source) (q .sink) (q .value) set' answer
 
 -- a page without answers
 abbrev pub refusedPage : (number place : ℕ) → Page

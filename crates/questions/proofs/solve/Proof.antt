@@ -1,6 +1,6 @@
 -- Solve meets its contract: the facts at three places, each gained by a check that did not refuse; then every way out is a law of `Solving` or `Sets`.
 use mathlib.Core.Path.{_≡_, refl, _∙_}
-use mathlib.Core.Bool.{Bool}
+use mathlib.Core.Bool.{Bool, false}
 use mathlib.Core.Logic.{inl}
 use mathlib.Core.List.{List}
 use Prim.Native.Nat.{ℕ, _≤_}
@@ -17,13 +17,15 @@ use Rattle.maps.specs.Map.{Map}
 use Rattle.flows.specs.ProvingSet.{wordsFor}
 use Rattle.arrays.specs.At.{atℤ}
 use Rattle.arrays.specs.Maps.{mapOf}
+use Rattle.arrays.specs.inner.Flags.{flagged}
 use Rattle.solver.specs.inner.Decision.{Decided}
+use Rattle.solver.specs.inner.Named.{Named}
 use Rattle.solver.proofs.Preparing.{same-value, small-value}
 use Rattle.questions.specs.Question.{endChecks, valueChecks, roomChecks}
 use Rattle.questions.specs.Solve.{questionChecks}
 use Rattle.questions.proofs.Asked.{value-limited, room-flows}
 use Rattle.questions.proofs.Sets.{set-written, size-small, proves-written}
-use Rattle.questions.proofs.Solving.{solve-ends, solve-value, solve-room, solve-none, ends-as, ends-for, decided-as}
+use Rattle.questions.proofs.Solving.{solve-ends, solve-value, solve-room, solve-none, ends-as, ends-for, decided-as, named-as}
 use Rattle.questions.proofs.solve.Statement.{statement}
 use Rattle.questions.proofs.solve.Tie as tie
 
@@ -95,7 +97,7 @@ returns c =
     let e = c .before .before .before in
     let a = begun e .args in
     let j = ends-judged e (Refused _ _) (c .before .named .given .1) in
-    (solve-ends (a .nodes) (a .edges) (a .source) (a .sink) (a .value) (a .flows .now) (a .set .now) _ _ j, refl, refl)
+    ((solve-ends (a .nodes) (a .edges) (a .source) (a .sink) (a .value) (a .flows .now) (a .set .now) _ _ j, refl, refl), tt)
 
 enum-told : tie.Need-enum-told
 enum-told c = search needs
@@ -110,7 +112,8 @@ returns-2 c =
     let s = begun (checked e) in
     let a = s .args in
     let out = rw (number-of-bits _ (s .fits .value)) at (said-yes (c .before .value-outside .ensures) (c .if1 .taken)) in
-    (solve-value (a .nodes) (a .edges) (a .source) (a .sink) (a .value) (a .flows .now) (a .set .now) (two e) 15 0 (inl (out, refl, refl)), refl, refl)
+    let first = solve-value (a .nodes) (a .edges) (a .source) (a .sink) (a .value) (a .flows .now) (a .set .now) (two e) 15 0 (inl (out, refl, refl)) in
+    ((first, refl, refl), tt)
 
 check-room-requires : tie.Need-check-room-requires
 check-room-requires c κs = base c .pre .0 .few-nodes
@@ -124,7 +127,7 @@ returns-3 c =
     let e = r .before in
     let a = base e .args in
     let j = room-judged r (Refused _ _) (c .before .room .given .1) in
-    (solve-room (a .nodes) (a .edges) (a .source) (a .sink) (a .value) (a .flows .now) (a .set .now) (two (ended e)) (inside e) _ _ j, refl, refl)
+    ((solve-room (a .nodes) (a .edges) (a .source) (a .sink) (a .value) (a .flows .now) (a .set .now) (two (ended e)) (inside e) _ _ j, refl, refl), tt)
 
 enum-told-2 : tie.Need-enum-told-2
 enum-told-2 c = search needs
@@ -166,6 +169,17 @@ decided c same =
     decided-as (w .before .wide .ensures) (w .wide2 .ensures) (mapAt s) (s .args .outer) (capacityAt s) (same-value (value-limited _ (inside e)))
     (s .args .flows .now) (flows' c) (inside' c) same (c .decide .ensures .1)
 
+-- the set is the one that the search names
+named : (c : tie.After-decide) → c .decide .result ≡ false
+    → Named (mapAt (start c)) (start c .args .outer) (capacityAt (start c)) (start c .args .source) (start c .args .sink) (start c .args .value)
+    (flagged (inside' c))
+named c e =
+    let q = asked (roomy c) in
+    let s = start c in
+    let w = checked (ended q) .before in
+    named-as (w .before .wide .ensures) (w .wide2 .ensures) (mapAt s) (s .args .outer) (capacityAt s) (same-value (value-limited _ (inside q)))
+    (flagged (inside' c)) (c .decide .ensures .3 e)
+
 none : (c : tie.After-decide) → NoneOf (checksAt (start c))
 none c =
     let e = asked (roomy c) in
@@ -176,7 +190,7 @@ same-length : tie.Need-same-length
 same-length c = search needs
 
 returns-4 : tie.Need-returns-4
-returns-4 c = let d = c .before .before in (none d, decided d (c .if2 .taken), refl)
+returns-4 c = let d = c .before .before in ((none d, decided d (c .if2 .taken), refl), tt)
 
 -- ── it cannot: the set is written ──
 abbrev decision : tie.After-write-set-arg → tie.After-decide
@@ -217,14 +231,21 @@ returns-5 c =
     let a = s .args in
     let r = decided d (w .before .before .before .if2 .left) in
     let ends = two (ended (asked (roomy d))) in (
-      none d,
       (
-        take (wordsFor (a .nodes)) (set' w),
-        set-written (w .write-set .ensures),
-        proves-written (s .pre .0 .plane .sound .range) (capacityAt s) (w .write-set .ensures) (a .source) (a .sink) ends (a .value) (r .1),
-        c .narrow .ensures ∙ n .count-set .ensures,
+        none d,
+        (
+          take (wordsFor (a .nodes)) (set' w),
+          set-written (w .write-set .ensures),
+          proves-written (s .pre .0 .plane .sound .range) (capacityAt s) (w .write-set .ensures) (a .source) (a .sink) ends (a .value) (r .1),
+          c .narrow .ensures ∙ n .count-set .ensures,
+        ),
+        r .0,
       ),
-      r .0,
+      record {
+        inside = flagged (inside' d);
+        named = named d (w .before .before .before .if2 .left);
+        holds = w .write-set .ensures .members;
+      },
     )
 
 pub solve-spec : {M : Type 1} → statement M

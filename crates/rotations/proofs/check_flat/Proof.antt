@@ -64,7 +64,7 @@ returns-2 c =
         lefts-are (mapAt s) (e .5),
         counted n,
       ),
-      (refl, e .6),
+      (refl, e .6, e .7),
     )
 
 pub check-flat-spec : {M : Type 1} → statement M

@@ -9,7 +9,6 @@ use Rattle.arrays.specs.Maps.{mapOf}
 use Rattle.traversal.proofs.Forests.{treeOf, trees-components}
 use Rattle.traversal.proofs.Rooting.{trees-few}
 use Rattle.rotations.proofs.Order.{refused-9, refused-10}
-use Rattle.rotations.proofs.Walking.{walked-if}
 use Rattle.rotations.proofs.check_in_turn.Statement.{statement}
 use Rattle.rotations.proofs.check_in_turn.Tie as tie
 
@@ -82,9 +81,7 @@ check-flat-requires c κs =
 returns-3 : tie.Need-returns-3
 returns-3 c =
     let w = c .before .before .before .before .before in
-    let walk = w .spread-all .ensures in
-    let flat = c .check-flat .ensures in
-    (flat .0, walk .0, walk .1, flat .1, flat .2, flat .3, flat .4, walked-if _ _ (walk .2) (c .check-flat .result .verdict) _ _ _ _ _ _ (flat .5))
+    absurd (begun (turned (passed w)) .pre .10 (sound (passed w)))
 
 pub check-in-turn-spec : {M : Type 1} → statement M
 check-in-turn-spec =

@@ -18,7 +18,7 @@ check-in-turn-requires c κs =
     let w = c .before .before .before .before .before .before .before in
     let p = begun w .pre in
     let e = w .walk-nodes .ensures in
-    (p .0, p .1, p .2, p .3, e .0, e .1, p .6, p .7, p .8, p .9)
+    (p .0, p .1, p .2, p .3, e .0, e .1, p .6, p .7, p .8, p .9, e .3 (c .before .before .before .before .before .before .if1 .taken))
 
 returns : tie.Need-returns
 returns c = c .check-in-turn .ensures
@@ -35,6 +35,7 @@ returns-2 : tie.Need-returns-2
 returns-2 c =
     let d = c .before .before .before .before .before in
     let walk = d .before .walk-nodes .ensures in
+    let found = walk .2 (d .if1 .left) in
     let flat = c .check-flat .ensures in (
       flat .0,
       walk .0,
@@ -43,7 +44,7 @@ returns-2 c =
       flat .2,
       flat .3,
       flat .4,
-      walked-if _ _ (walk .2 (d .if1 .left) .1) (c .check-flat .result .verdict) _ _ _ _ _ _ (flat .5),
+      walked-if (begun (d .before) .args .rotations .now) _ _ (found .1) (found .2) (c .check-flat .result .verdict) _ _ _ _ _ _ (flat .5),
     )
 
 pub check-map-spec : {M : Type 1} → statement M

@@ -12,7 +12,7 @@ use Rattle.rotations.specs.inner.Marking.{Markable}
 use Rattle.rotations.specs.inner.Laying.{stepOf}
 use Rattle.traversal.specs.inner.Mark.{unmarked}
 use Rattle.rotations.proofs.Trail.{Walking, set-off, still-in, walk-on, walk-end, walk-round, fewer}
-use Rattle.rotations.proofs.Laying.{Laying, laying-none, laying-on, laying-end}
+use Rattle.rotations.proofs.Laying.{Laying, laying-none, laying-on, laying-end, laying-rounded}
 use Rattle.rotations.proofs.mark_face.Statement.{statement}
 use Rattle.rotations.proofs.mark_face.Tie as tie
 
@@ -132,12 +132,14 @@ returns c =
     let w = c .before in
     let o = over w .loop in
     let i = o .inv in
-    let back = sym (stepped w) ∙ c .if1 .taken in (
+    let back = sym (stepped w) ∙ c .if1 .taken in
+    let round = walk-round (o .lefts) (i .0) (i .2) (i .3 .1) back in (
       long w,
       long-grouped w,
       walk-end (o .lefts) (i .0) (i .2) (i .3 .1) back,
-      laying-end (over w .before .args .edges) (i .2 .permutes) (i .2 .inside) (walk-round (o .lefts) (i .0) (i .2) (i .3 .1) back) (one-more w),
+      laying-end (over w .before .args .edges) (i .2 .permutes) (i .2 .inside) round (one-more w),
       counted w,
+      laying-rounded (one-more w) round (i .3 .1 .away),
     )
 
 pub mark-face-spec : {M : Type 1} → statement M

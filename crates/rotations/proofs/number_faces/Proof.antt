@@ -1,6 +1,7 @@
 -- Invariant: the faces whose lowest dart is below `next` have their numbers and their groups, f is the next number, and the groups fill the places
 -- from `free` on.
 use mathlib.Core.Path.{_≡_, sym, _∙_, subst}
+use mathlib.Core.Logic.{_≢_}
 use Prim.Native.Nat.{ℕ, _+_, _*_, _-_, _≤_, _<_}
 use native.Mathlib.Omega.{arith}
 use lib.ListN.{length, set, length-set}
@@ -12,8 +13,8 @@ use Rattle.rotations.specs.inner.Marking.{Markable, Marked}
 use Rattle.rotations.specs.inner.Laying.{stepOf}
 use Rattle.traversal.specs.inner.Mark.{unmarked}
 use Rattle.rotations.proofs.Holding.{holding-all}
-use Rattle.rotations.proofs.Numbering.{Numbering, numbering-start, numbering-end, number-small, used-few, pass, markable, mark}
-use Rattle.rotations.proofs.Grouping.{Grouping, grouping-none, grouping-on, grouping-end}
+use Rattle.rotations.proofs.Numbering.{Numbering, numbering-start, numbering-end, number-small, used-few, pass, markable, mark, is-lowest, number-is}
+use Rattle.rotations.proofs.Grouping.{Grouping, grouping-none, grouping-on, grouping-end, Rounding, rounding-none, rounding-on}
 use Rattle.rotations.proofs.number_faces.Statement.{statement}
 use Rattle.rotations.proofs.number_faces.Tie as tie
 
@@ -22,6 +23,7 @@ Inv-loop rotations edges lefts₀ grouped₀ starts₀ ends₀ darts f₀ free�
     (length lefts ≡ 1024) × (length grouped ≡ 1024) × (length starts ≡ 1024) × (length ends ≡ 1024)
     × Numbering (2 * edges) (stepOf rotations) (at lefts) next f × Grouping edges (at lefts) (at grouped) (at starts) (at ends) f free
     × (free ≡ holding unmarked (2 * edges) (at lefts))
+    × Rounding (2 * edges) (stepOf rotations) (at grouped) (at starts) (at ends) f free
 
 abbrev μ-loop : tie.MeasureT-loop
 μ-loop rotations edges lefts₀ grouped₀ starts₀ ends₀ darts f₀ free₀ next₀ lefts grouped starts ends f free next = 2 * edges - next
@@ -50,6 +52,7 @@ loop-holds c =
       numbering-start (few s) (p .5) (e .1),
       grouping-none (few s) (e .1),
       none-yet _ _ (λ y l. e .1 y (omega (arith, few s))),
+      rounding-none,
     )
 
 -- ── in the loop ──
@@ -147,18 +150,22 @@ loop-again c =
     let first = n .before .narrow in
     let last = c .narrow3 in
     let after = at (m .mark-face .last .1 .1 .1 .1 .0) in
-    let marked = subst (Marked (2 * a .edges) (stepOf (a .rotations .now)) (at (o .lefts)) after (o .next)) (n .narrow2 .ensures) (e .2) in (
+    let marked = subst (Marked (2 * a .edges) (stepOf (a .rotations .now)) (at (o .lefts)) after (o .next)) (n .narrow2 .ensures) (e .2) in
+    let begins = getD-set-same (o .starts) (o .f) (last .result) 0 (omega (arith, number-below b, i .2)) ∙ last .ensures in
+    let starts-kept : (g : ℕ) → g ≢ o .f → at (set (o .starts) (o .f) (last .result)) g ≡ at (o .starts) g =
+    λ g h. getD-set-other (o .starts) (o .f) g (last .result) 0 h in
+    let stops = getD-set-same (o .ends) (o .f) (first .result) 0 (omega (arith, number-below b, i .3)) ∙ first .ensures in
+    let ends-kept : (g : ℕ) → g ≢ o .f → at (set (o .ends) (o .f) (first .result)) g ≡ at (o .ends) g =
+    λ g h. getD-set-other (o .ends) (o .f) g (first .result) 0 h in (
       e .0,
       e .1,
       length-set (o .starts) (o .f) (last .result) ∙ i .2,
       length-set (o .ends) (o .f) (first .result) ∙ i .3,
       mark (few s) (s .pre .5) (i .4) (t .loop-test .taken) (b .if1 .taken) marked,
-      grouping-on (i .5) (face b) marked (e .3)
-          (getD-set-same (o .starts) (o .f) (last .result) 0 (omega (arith, number-below b, i .2)) ∙ last .ensures)
-          (λ g h. getD-set-other (o .starts) (o .f) g (last .result) 0 h)
-          (getD-set-same (o .ends) (o .f) (first .result) 0 (omega (arith, number-below b, i .3)) ∙ first .ensures)
-          (λ g h. getD-set-other (o .ends) (o .f) g (first .result) 0 h),
+      grouping-on (i .5) (face b) marked (e .3) begins starts-kept stops ends-kept,
       e .4,
+      rounding-on (i .7) (t .loop-test .taken) (is-lowest (few s) (s .pre .5) (i .4) (t .loop-test .taken) (b .if1 .taken))
+          (number-is (few s) (s .pre .5) (i .4) (t .loop-test .taken) (b .if1 .taken)) (e .5) (e .3 .kept) begins starts-kept stops ends-kept,
     )
 
 loop-less-2 : tie.Need-loop-less-2 Inv-loop μ-loop
@@ -169,7 +176,7 @@ loop-again-2 c =
     let t = c .before .before in
     let s = begun t in
     let i = t .before .loop .inv in
-    (i .0, i .1, i .2, i .3, pass (few s) (s .pre .5) (i .4) (t .loop-test .taken) (c .if1 .left), i .5, i .6)
+    (i .0, i .1, i .2, i .3, pass (few s) (s .pre .5) (i .4) (t .loop-test .taken) (c .if1 .left), i .5, i .6, i .7)
 
 returns : tie.Need-returns Inv-loop μ-loop
 returns c =
@@ -186,6 +193,7 @@ returns c =
       done .1,
       grouping-end (o .lefts) (o .grouped) (o .starts) (o .ends) (i .5)
           (λ y l e. omega (arith, done .1 y l, number-small (few s) π y l, e)),
+      i .7 .so-far,
     )
 
 pub number-faces-spec : {M : Type 1} → statement M

@@ -4,9 +4,9 @@ use Prim.Native.Nat.{ℕ}
 use native.Mathlib.Omega.{arith}
 use lib.ListN.{length-replicate}
 use borrow.Author.Needs.{needs}
-use Rattle.refusals.proofs.Order.{said-no}
+use Rattle.refusals.proofs.Order.{said-yes, said-no}
 use Rattle.rotations.proofs.Holding.{zeros}
-use Rattle.rotations.proofs.Whole.{rounds-sound}
+use Rattle.rotations.proofs.Whole.{rounds-sound, unround-unsound, empty-unsound}
 use Rattle.rotations.proofs.walk_nodes.Statement.{statement}
 use Rattle.rotations.proofs.walk_nodes.Tie as tie
 
@@ -30,15 +30,17 @@ spread-rounds-requires c κs =
 returns : tie.Need-returns
 returns c =
     let e = c .before .spread-rounds .ensures in
-    (e .0, e .1, λ h. absurd (h refl))
+    (e .0, e .1, (λ h. absurd (h refl)), λ z σ. unround-unsound σ (e .4 (c .if1 .taken)))
 
 some-empty-requires : tie.Need-some-empty-requires
 some-empty-requires c κs = search needs
 
 returns-2 : tie.Need-returns-2
 returns-2 c =
-    let e = c .before .before .before .before .spread-rounds .ensures in
-    (e .0, e .1, λ h. absurd (h refl))
+    let s = c .before .before .before .before in
+    let e = s .spread-rounds .ensures in
+    let g = e .3 (c .before .before .before .if1 .left) in
+    (e .0, e .1, (λ h. absurd (h refl)), λ z σ. empty-unsound σ (g .1) (g .2) (said-yes (c .before .some-empty .ensures) (c .if2 .taken)))
 
 returns-3 : tie.Need-returns-3
 returns-3 c =
@@ -47,9 +49,10 @@ returns-3 c =
     let e = s .spread-rounds .ensures in (
       e .0,
       e .1,
-      λ h.
+      (λ h.
           let g = e .3 h in
-          (rounds-sound (p .5) (g .1) (g .2) (said-no (c .before .some-empty .ensures) (c .if2 .left)), g .0),
+          (rounds-sound (p .5) (g .1) (g .2) (said-no (c .before .some-empty .ensures) (c .if2 .left)), g .0, g .3)),
+      λ z. absurd (c .before .before .before .if1 .left z),
     )
 
 pub walk-nodes-spec : {M : Type 1} → statement M

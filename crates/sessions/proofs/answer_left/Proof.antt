@@ -117,7 +117,7 @@ returns-3 c =
     let b = within (t .before .before) .before in
     let s = begun b in
     answered (held b) (given b) (same b) (fit t) (s .args .source) (s .args .sink) (number-of-bits _ (s .fits .value)) _ _ _ _ (k .solve .result)
-    (k .solve .ensures)
+    (k .solve .ensures .0)
 
 pub answer-left-spec : {M : Type 1} → statement M
 answer-left-spec =

@@ -3,7 +3,7 @@ use mathlib.Core.Path.{refl}
 use native.Mathlib.Omega.{arith}
 use lib.IntN.{pos}
 use Rattle.arrays.proofs.FillLoops.{same-everywhere}
-use Rattle.solver.proofs.Ringing.{few-darts, ring-round, heights-fillable, choosable, chosen}
+use Rattle.solver.proofs.Ringing.{few-darts, ring-round, heights-fillable, choosable, chosen, made-of-ring}
 use Rattle.solver.proofs.cut_of_ring.Statement.{statement}
 use Rattle.solver.proofs.cut_of_ring.Tie as tie
 
@@ -41,7 +41,11 @@ choose-set-requires c κs =
 returns : tie.Need-returns
 returns c =
     let e = c .choose-set .ensures in
-    (e .0, chosen (begun (wound (c .before .before .before)) .pre .2) _ (e .1))
+    let h = c .before .before .before in
+    let w = wound h in
+    let p = begun w .pre in
+    let f = h .fill-heights .ensures in
+    (e .0, chosen (p .2) _ (e .1), made-of-ring (p .2) (p .1 .forest) (w .fill-winding .ensures .1) (f .1) refl (f .2) (e .2))
 
 pub cut-of-ring-spec : {M : Type 1} → statement M
 cut-of-ring-spec =

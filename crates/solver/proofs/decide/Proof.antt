@@ -1,5 +1,6 @@
 -- A question decided: darts at its ends, lengths, search, and the ways out, which are laws of `Deciding`.
-use mathlib.Core.Path.{_≡_, refl}
+use mathlib.Core.Path.{_≡_, refl, sym, subst}
+use mathlib.Core.Bool.{Bool, true, false, true≢false}
 use mathlib.Core.List.{List}
 use Prim.Native.Nat.{ℕ, _*_, _<_}
 use native.Mathlib.Omega.{arith}
@@ -8,13 +9,16 @@ use lib.IntN.{ℤ}
 use borrow.Author.Needs.{needs}
 use Rattle.maps.specs.Map.{Map}
 use Rattle.arrays.specs.At.{at, atℤ}
-use Rattle.arrays.specs.Maps.{mapOf}
+use Rattle.arrays.specs.Maps.{mapOf, rightOf}
+use Rattle.arrays.specs.inner.Flags.{flagged}
 use Rattle.lengths.proofs.PathFlow.{treed-of}
 use Rattle.solver.specs.inner.Search.{Lengthened, Measured}
 use Rattle.solver.proofs.Preparing.{same-value, small-value, measured-for}
 use Rattle.solver.proofs.SettledFlows.{searched-ring}
 use Rattle.solver.proofs.Deciding.{searchable, decided-can, ringed, decided-cannot, decided-apart, measured-long}
 use Rattle.traversal.proofs.Rooting.{trees-few}
+use Rattle.solver.specs.inner.Named.{MeasuredBy, MadeOfRing, Named}
+use Rattle.solver.proofs.Naming.{measured-by-for, measured-other, searches-known, named-of}
 use Rattle.solver.proofs.decide.Statement.{statement}
 use Rattle.solver.proofs.decide.Tie as tie
 
@@ -68,6 +72,26 @@ measured c =
     measured-for (mapAt (begun c)) (atℤ (begun c .args .capacities .now)) (atℤ (row c)) (flags c) (c .cut-apart .result) (d .dart-at .ensures .1)
     (t .dart-at2 .ensures .1) (same-value (begun c .pre .4)) (c .cut-apart .ensures .2)
 
+-- how the lengths came about, and the set where the ends are apart
+measured-how : (c : tie.After-cut-apart) (b : Bool) → c .cut-apart .result ≡ b
+    → MeasuredBy (mapAt (begun c)) (c .before .before .before .before .dart-at .result) (c .before .before .before .dart-at2 .result)
+    (at (begun c .args .from .now)) (atℤ (begun c .args .capacities .now)) (begun c .args .value) (atℤ (row c)) (flagged (flags c)) b
+measured-how c b e =
+    subst (MeasuredBy (mapAt (begun c)) (c .before .before .before .before .dart-at .result) (c .before .before .before .dart-at2 .result)
+    (at (begun c .args .from .now)) (atℤ (begun c .args .capacities .now)) (begun c .args .value) (atℤ (row c)) (flagged (flags c))) e
+    (measured-by-for (mapAt (begun c)) (at (begun c .args .from .now)) (atℤ (begun c .args .capacities .now)) (atℤ (row c)) (flagged (flags c))
+    (c .cut-apart .result) (same-value (begun c .pre .4)) (c .cut-apart .ensures .3))
+
+named-apart : (c : tie.After-cut-apart) → c .cut-apart .result ≡ true
+    → Named (mapAt (begun c)) (begun c .args .outer) (atℤ (begun c .args .capacities .now)) (begun c .args .source) (begun c .args .sink)
+    (begun c .args .value) (flagged (flags c))
+named-apart c e =
+    let s = begun c in
+    let t = c .before .before .before in
+    let d = t .before in
+    named-of (s .args .lefts .now) (s .args .order .now) (s .args .from .now) (s .args .grouped .now) (s .args .starts .now) (s .args .ends .now)
+    (s .pre .2) (s .pre .6) (d .dart-at .ensures) (t .dart-at2 .ensures) (row c) true (measured-how c true e) tt
+
 returns : tie.Need-returns
 returns c =
     let l = c .before in
@@ -76,6 +100,7 @@ returns c =
       decided-apart (mapAt s) (s .args .outer) (atℤ (s .args .capacities .now)) (s .args .source) (s .args .sink) (s .args .value) (atℤ (row l))
           (s .args .flows .now) (flags l) (c .if1 .taken) (measured l),
       s .pre .5,
+      λ e. named-apart l (c .if1 .taken),
     )
 
 known : (c : tie.Else1)
@@ -146,6 +171,39 @@ cut-of-ring-requires c κs =
           _ (w .wide .ensures) (searched-ring _ _ _ _ _ _ _ (o .outcome .given .1) (s .settle-all .ensures .1 .3) .2),
     )
 
+-- the set made from the ring
+named-ring : (c : tie.After-wide) (inside' : List ℕ) → let o = ringed-at c in let f = lengthened (settled o) in let s = begun f in
+    MadeOfRing (mapAt s) (rightOf (s .args .lefts .now)) (atℤ (row f)) (at (s .args .order .now)) (at (s .args .from .now))
+    (at (settled o .settle-all .last .1 .1 .1 .1 .1 .1 .1 .1 .1 .1 .1 .1 .1 .0)) (c .wide .result) (flagged inside')
+    → Named (mapAt s) (s .args .outer) (atℤ (s .args .capacities .now)) (s .args .source) (s .args .sink) (s .args .value) (flagged inside')
+named-ring c inside' made =
+    let o = ringed-at c in
+    let a = settled o in
+    let j = joined a in
+    let f = lengthened a in
+    let s = begun f in
+    let p = s .pre in
+    let t = f .before .before .before in
+    let d = t .before in
+    let q = a .settle-all .ensures .1 in
+    let ok = searchable (s .args .lefts .now) (p .2) (p .3) (row f) (known j) (q .0) (q .1) (q .2) in
+    named-of (s .args .lefts .now) (s .args .order .now) (s .args .from .now) (s .args .grouped .now) (s .args .starts .now) (s .args .ends .now)
+    (p .2) (p .6) (d .dart-at .ensures) (t .dart-at2 .ensures) (row f) false (measured-other (measured-how f false (j .if1 .left)))
+    (record {
+      queue = q .0;
+      size = q .1;
+      few = omega (arith, trees-few (p .6 .forest), p .2 .few-edges);
+      roots = q .4;
+      sound = ok .sound;
+      joined = ok .joined;
+      potentials = q .5 .0;
+      parents = _;
+      closing = _;
+      closing-in = searched-ring _ _ _ _ _ _ _ (o .outcome .given .1) (q .3) .1;
+      searched = searches-known (o .outcome .given .1) (q .5 .1);
+      made = rw (← c .wide .ensures) made;
+    })
+
 same-length : tie.Need-same-length
 same-length c = search needs
 
@@ -162,6 +220,7 @@ returns-2 c =
       decided-cannot (begun f .args .lefts .now) (p .2) (p .3) (row f) (known (joined s)) (q .0) (q .1) (q .2)
           _ _ inside' (searched-ring _ _ _ _ _ _ _ (o .outcome .given .1) (s .settle-all .ensures .1 .3) .0) (e .1),
       s .settle-all .ensures .0,
+      λ z. named-ring (c .before .before .before .before) inside' (e .2),
     )
 
 enum-told : tie.Need-enum-told
@@ -181,6 +240,7 @@ returns-3 c =
       decided-can (begun f .args .lefts .now) (p .2) (p .3) (row f) (known (joined s)) (q .0) (q .1) (q .2)
           (r .0) (r .1) _ _ (flags f) (r .2),
       s .settle-all .ensures .0,
+      λ z. absurd (true≢false z),
     )
 
 pub decide-spec : {M : Type 1} → statement M

@@ -5,6 +5,7 @@ use lib.ListN.{length}
 use borrow.Author.Needs.{needs}
 use Rattle.search.proofs.Ending.{parents-sized}
 use Rattle.solver.proofs.SettledFlows.{ring-kept, flowing}
+use Rattle.solver.proofs.Naming.{searches-known}
 use Rattle.solver.proofs.settle.Statement.{statement}
 use Rattle.solver.proofs.settle.Tie as tie
 
@@ -28,7 +29,11 @@ returns c =
     let s = c .before .before .before in
     let p = begun s .pre in
     let a = rw (c .before .outcome .given .1) at (s .search .ensures .0) in
-    (parents-sized _ _ _ (p .1) (p .2) (p .5 .sound) (p .5 .joined) (p .6) (s .search .ensures .1), ring-kept _ (a .0) (a .2))
+    let went = s .search .ensures .1 in (
+      parents-sized _ _ _ (p .1) (p .2) (p .5 .sound) (p .5 .joined) (p .6) went,
+      ring-kept _ (a .0) (a .2),
+      (_, searches-known (c .before .outcome .given .1) went),
+    )
 
 enum-told : tie.Need-enum-told
 enum-told c = search needs
@@ -50,6 +55,7 @@ returns-2 c =
     let p = begun s .pre in (
       parents-sized _ _ _ (p .1) (p .2) (p .5 .sound) (p .5 .joined) (p .6) (s .search .ensures .1),
       (_, (rw (t .enum-told .given .1) at (s .search .ensures .0)), c .before .fill-flows .ensures),
+      (_, searches-known (t .enum-told .given .1) (s .search .ensures .1)),
     )
 
 pub settle-spec : {M : Type 1} → statement M

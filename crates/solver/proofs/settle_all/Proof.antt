@@ -1,7 +1,8 @@
 -- The faces at 0 stand in the queue, and the search is asked with them.
-use mathlib.Core.Path.{_≡_, refl}
+use mathlib.Core.Path.{_≡_, refl, _∙_}
 use native.Mathlib.Omega.{arith}
 use borrow.Author.Needs.{needs}
+use Rattle.arrays.proofs.FillLoops.{same-everywhere}
 use Rattle.solver.proofs.settle_all.Statement.{statement}
 use Rattle.solver.proofs.settle_all.Tie as tie
 
@@ -28,7 +29,7 @@ returns c =
     let f = c .before .before .before .before .before in
     let o = f .first-faces .ensures in
     let e = c .before .settle .ensures in
-    (e .0, (_, o .0, o .1, e .1))
+    (e .0, (_, o .0, o .1, e .1, record { are = o .2 .are; kept = λ i l. o .2 .kept i l ∙ same-everywhere 1024 0 i }, e .2))
 
 pub settle-all-spec : {M : Type 1} → statement M
 settle-all-spec = tie.close (tie.spec mul-first-faces first-faces-requires settle-requires same-length returns)

@@ -1,12 +1,12 @@
 -- Invariant: the threshold is at or below one whose cut is below zero, and the flags are those of the nodes above it.
-use mathlib.Core.Path.{sym, _∙_, ap, _≡_}
+use mathlib.Core.Path.{sym, _∙_, ap, _≡_, subst}
 use mathlib.Core.Bool.{false}
 use Prim.Native.Nat.{ℕ, _<_}
 use native.Mathlib.Omega.{arith}
 use lib.Dec.{eqb}
 use lib.ListN.{length}
 use lib.IntN.{ℤ, pos, _+ℤ_}
-use lib.Signed.{ltZ}
+use lib.Signed.{_<ℤ_, ltZ}
 use mir.ValLaws.{toZ-ofZ}
 use mir.Syntax.{w32, w64}
 use mir.Val.{toZ, ofZ}
@@ -21,6 +21,7 @@ use Rattle.arrays.specs.inner.Sizes.{mostHeight}
 use Rattle.cuts.specs.inner.Cut.{cutOf}
 use Rattle.thresholds.specs.inner.Above.{above}
 use Rattle.thresholds.proofs.Choosing.{Trying, left-above, trying-start, trying-next, trying-step, trying-less, cut-same, not-false}
+use Rattle.thresholds.proofs.Choosing.{Tried, tried-start, tried-step, tried-serves}
 use Rattle.thresholds.proofs.choose_set.Statement.{statement}
 use Rattle.thresholds.proofs.choose_set.Tie as tie
 use Rattle.thresholds.proofs.choose_set.Reads as reads
@@ -36,6 +37,7 @@ Inv-loop tails lengths heights nodes darts inside₀ threshold₀ inside thresho
     (length inside ≡ 1024)
     × ((v : ℕ) → v < nodes → flagged inside v ≡ above (atℤ heights) (toZ w32 threshold) v)
     × Trying darts (at tails) (atℤ lengths) (atℤ heights) (toZ w32 threshold)
+    × Tried nodes darts (at tails) (atℤ lengths) (atℤ heights) (toZ w32 threshold)
 
 abbrev μ-loop : tie.MeasureT-loop
 μ-loop tails lengths heights nodes darts inside₀ threshold₀ inside threshold = left-above (toZ w32 threshold)
@@ -79,6 +81,8 @@ loop-holds c = (
   rw (number-of-bits _ (record { sfits = c .before .before .lowest .ok }))
       (trying-start (c .before .before .before .pre .1) (c .before .before .lowest .result)
       (c .before .before .lowest .ensures .0) (c .before .before .lowest .ensures .1)),
+  rw (number-of-bits _ (record { sfits = c .before .before .lowest .ok }))
+      (tried-start (c .before .before .lowest .result) (c .before .before .lowest .ensures .0) (c .before .before .lowest .ensures .1)),
 )
 
 total-requires : tie.Need-total-requires Inv-loop μ-loop
@@ -109,12 +113,15 @@ loop-again c = (
   c .flag-above2 .ensures .1,
   rw (next-is (c .before .before))
       (trying-step (c .before .before .before .before .before .before .before .loop .inv .2) (goes-on (c .before .before .before))),
+  rw (next-is (c .before .before))
+      (tried-step (c .before .before .before .before .before .before .before .loop .inv .3) (goes-on (c .before .before .before))),
 )
 
 returns : tie.Need-returns Inv-loop μ-loop
 returns c =
     let o = c .before .before .before .before .loop in
-    (o .inv .0, lt-of-test _ _ (sym (tested (c .before)) ∙ not-false _ (c .if1 .left)))
+    let negative = lt-of-test _ _ (sym (tested (c .before)) ∙ not-false _ (c .if1 .left)) in
+    (o .inv .0, negative, tried-serves (o .inv .3) (subst (λ z. z <ℤ pos 0) (same-cut (c .before)) negative) (o .inv .1))
 
 pub choose-set-spec : {M : Type 1} → statement M
 choose-set-spec =

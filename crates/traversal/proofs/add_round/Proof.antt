@@ -9,8 +9,10 @@ use borrow.Author.Needs.{needs}
 use Rattle.arrays.specs.At.{at}
 use Rattle.traversal.specs.inner.Mark.{unmarked}
 use Rattle.traversal.specs.inner.Forest.{Growing}
+use Rattle.traversal.specs.inner.FirstCome.{FirstCome}
 use Rattle.traversal.proofs.Spreading.{few, room, added-grew, growing-added}
-use Rattle.traversal.proofs.Rounding.{Rounding, stay, rounding-start, rounding-on, rounding-end}
+use Rattle.traversal.proofs.Rounding.{Rounding, stay, rounding-start, rounding-on, rounding-end, rounding-merged, rounding-astray}
+use Rattle.traversal.proofs.Coming.{first-come-added, comes-turned, parted-owned}
 use Rattle.traversal.proofs.add_round.Statement.{statement}
 use Rattle.traversal.proofs.add_round.Tie as tie
 
@@ -19,8 +21,9 @@ Inv-loop tails rotations darts first trees front order₀ from₀ owner end d or
     (length order ≡ 1024) × (length from ≡ 1024)
     × Growing darts (at rotations) first (at order) (at from) front listed (trees + 1)
     × Rounding darts (at tails) (at rotations) (at from) (at owner) d last
-    × (next ≡ at rotations last) × ((j : ℕ) × (j < listed) × (at order j ≡ last)) × (end < listed)
+    × (next ≡ at rotations last) × ((j : ℕ) × (listed ≡ j + 1) × (at order j ≡ last)) × (end < listed)
     × ((i : ℕ) → i < end → at order i ≡ at order₀ i) × ((y : ℕ) → at from₀ y ≢ unmarked → at from y ≢ unmarked)
+    × FirstCome (at rotations) first (at order) (at from) listed
 
 abbrev μ-loop : tie.MeasureT-loop
 μ-loop tails rotations darts first trees front order₀ from₀ owner end d origin v last₀ next₀ listed₀ order from last next listed = darts - listed
@@ -61,7 +64,16 @@ element-copy-out-if1 : tie.Need-element-copy-out-if1 Inv-loop μ-loop
 element-copy-out-if1 c = omega (arith, node-below c)
 
 returns : tie.Need-returns Inv-loop μ-loop
-returns c = let p = begun (c .before .before) .pre in (p .0, p .1, p .2, λ h. absurd (h refl))
+returns c =
+    let w = c .before .before in
+    let p = begun w .pre in
+    let owner = begun w .args .owner .now in (
+      p .0,
+      p .1,
+      p .2,
+      (λ h. absurd (h refl)),
+      λ z. parted-owned (p .11) (p .4) (p .6) (p .9) (λ e. c .if1 .taken (ap (at owner) (w .wide .ensures) ∙ e)),
+    )
 
 add-narrow : tie.Need-add-narrow Inv-loop μ-loop
 add-narrow c = let p = begun (named c) .pre in omega (arith, p .3, p .6)
@@ -105,14 +117,15 @@ loop-holds c =
       e .0,
       e .1,
       p .10 _ _ _ (e .2),
-      rounding-start (p .11) (p .6) (e .2) (ap (at owner) (sym is-v) ∙ f .if1 .left)
+      rounding-start (p .11) (p .6) (e .2) (p .9) (ap (at owner) (sym is-v) ∙ f .if1 .left)
           (ap (at (set owner v (n .result))) (sym is-v) ∙ getD-set-same owner v (n .result) 0 (omega (arith, p .2, node-below w)) ∙ n .ensures)
           (λ u h. getD-set-other owner v u (n .result) 0 (λ q. h (q ∙ is-v))),
       t .wide2 .ensures,
-      (a .end, omega arith, e .2 .new (omega arith) .0),
+      (a .end, omega (arith, e .2 .by-one), e .2 .new (omega arith) .0),
       omega arith,
       (λ i l. refl),
-      λ y h. h,
+      (λ y h. h),
+      first-come-added (e .2) (p .13) (p .12) (p .14 _ _ _ (e .2)),
     )
 
 -- ── in the loop ──
@@ -139,7 +152,13 @@ element-copy-out-if2 c = omega (arith, next-below (c .before), start (c .before)
 returns-2 : tie.Need-returns-2 Inv-loop μ-loop
 returns-2 c =
     let l = c .before .before .before in
-    (l .loop .inv .0, l .loop .inv .1, owner-long l, λ h. absurd (h refl))
+    let i = l .loop .inv in (
+      i .0,
+      i .1,
+      owner-long l,
+      (λ h. absurd (h refl)),
+      λ z. rounding-merged (i .3) (i .4) (next-below l) (c .if2 .taken) (c .before .before .loop-test .taken),
+    )
 
 abbrev at-loop : tie.Else2 Inv-loop μ-loop → tie.At-loop Inv-loop μ-loop
 at-loop c = c .before .before .before
@@ -156,7 +175,13 @@ wide-requires-3 c κs = search needs
 returns-3 : tie.Need-returns-3 Inv-loop μ-loop
 returns-3 c =
     let l = at-loop (c .before .before .before) in
-    (l .loop .inv .0, l .loop .inv .1, owner-long l, λ h. absurd (h refl))
+    let i = l .loop .inv in (
+      i .0,
+      i .1,
+      owner-long l,
+      (λ h. absurd (h refl)),
+      λ z. rounding-astray (i .3) (i .4) (λ e. c .if3 .taken (c .before .wide3 .ensures ∙ e ∙ sym (before-loop l .wide .ensures))),
+    )
 
 -- the dart is new, and leaves the node
 abbrev fresh : tie.Else3 Inv-loop μ-loop → tie.Else2 Inv-loop μ-loop
@@ -206,14 +231,23 @@ loop-again c =
     let leave = sym (j .before .wide3 .ensures) ∙ j .if3 .left ∙ w .wide .ensures in (
       q .0,
       q .1,
-      growing-added (i .2) (next-below l) (q .2) (i .5 .1) (sym (i .5 .2)) (inr (i .4 ∙ ap (at (start l .args .rotations .now)) (sym (i .5 .2)))),
-      rounding-on (i .3) (q .2) (i .4) (next-below l) leave,
+      growing-added (i .2) (next-below l) (q .2) (omega (arith, i .5 .1)) (sym (i .5 .2))
+          (inr (i .4 ∙ ap (at (start l .args .rotations .now)) (sym (i .5 .2)))),
+      rounding-on (i .3) (q .2) (f .if2 .left) (i .4) (next-below l) leave,
       c .wide4 .ensures,
-      (l .loop .listed, omega arith, q .2 .new (omega arith) .0),
+      (l .loop .listed, omega (arith, q .2 .by-one), q .2 .new (omega arith) .0),
       omega (arith, i .6),
       (λ k m. q .2 .kept k (omega (arith, i .6)) ∙ i .7 k m),
-      λ y h. stay (q .2) y (i .8 y h),
+      (λ y h. stay (q .2) y (i .8 y h)),
+      first-come-added (q .2) (i .2 .marked) (i .9) (comes-turned (q .2) (f .if2 .left) (i .5 .1) (i .5 .2) (i .4)),
     )
+
+-- the dart listed last leads back to the first
+back : (l : tie.At-loop Inv-loop μ-loop) → l .loop .next ≡ start l .args .d
+    → (k : ℕ) → l .loop .listed ≡ k + 1 → start l .args .d ≡ at (start l .args .rotations .now) (at (l .loop .order) k)
+back l e k n =
+    let i = l .loop .inv in
+    sym e ∙ i .4 ∙ ap (at (start l .args .rotations .now)) (sym (i .5 .2) ∙ ap (at (l .loop .order)) (omega (arith, n, i .5 .1)))
 
 returns-4 : tie.Need-returns-4 Inv-loop μ-loop
 returns-4 c =
@@ -229,8 +263,11 @@ returns-4 c =
         i .3 .begun,
         (λ k m. i .7 k m ∙ e .kept k m),
         i .6,
-        λ y m. i .8 y (stay e y m),
+        (λ y m. i .8 y (stay e y m)),
+        i .9,
+        λ k n. let m = i .2 .listed _ (start l .pre .6) (i .3 .begun) in (m .0, m .1, m .2 ∙ back l (c .loop-test .left) k n),
       ),
+      λ z. absurd (omega (arith, z, i .6)),
     )
 
 pub add-round-spec : {M : Type 1} → statement M

@@ -1,6 +1,6 @@
 -- Invariant: the first faces of the trees that begin before place i are written, in order (`Rooting`). The measure is how many places are left.
-use mathlib.Core.Path.{_≡_, sym, _∙_, ap}
-use Prim.Native.Nat.{_-_, _≤_, _<_}
+use mathlib.Core.Path.{_≡_, refl, sym, _∙_, ap}
+use Prim.Native.Nat.{ℕ, _-_, _≤_, _<_}
 use native.Mathlib.Omega.{arith}
 use lib.ListN.{length, length-set}
 use lib.Seq.{getD-set-same, getD-set-other}
@@ -16,6 +16,7 @@ Inv-loop rotations lefts order from darts first trees roots₀ count₀ i₀ roo
     (length roots ≡ 1024)
     × ((𝓕 : Forest darts (at rotations) first (at order) (at from) trees)
     → Rooting (at rotations) first (at order) (at from) darts trees (𝓕 .planted) (at lefts) (at roots) i count)
+    × ((u : ℕ) → count ≤ u → at roots u ≡ at roots₀ u)
 
 abbrev μ-loop : tie.MeasureT-loop
 μ-loop rotations lefts order from darts first trees roots₀ count₀ i₀ roots count i = darts - i
@@ -32,7 +33,7 @@ place-in : (c : tie.In-loop Inv-loop μ-loop) → c .before .loop .i < begun (c 
 place-in c = let 𝓕 = treed (c .before) in rooting-ahead (𝓕 .planted) (c .before .loop .inv .1 𝓕) (c .loop-test .taken)
 
 loop-holds : tie.Need-loop-holds Inv-loop μ-loop
-loop-holds c = (c .pre .0, λ 𝓕. rooting-start (𝓕 .planted))
+loop-holds c = (c .pre .0, (λ 𝓕. rooting-start (𝓕 .planted)), λ u l. refl)
 
 mul-wide : tie.Need-mul-wide Inv-loop μ-loop
 mul-wide c = omega (arith, begun (c .before) .pre .1, place-in c)
@@ -112,9 +113,10 @@ loop-again c =
     let a = begun (t .before) .args in
     let face = at (a .lefts .now) (d .wide .result) in (
       length-set (o .roots) (o .count) face ∙ o .inv .0,
-      λ 𝓕. rooting-written (𝓕 .planted) (o .inv .1 𝓕) (place-in t) (𝓕 .apart) (own b)
+      (λ 𝓕. rooting-written (𝓕 .planted) (o .inv .1 𝓕) (place-in t) (𝓕 .apart) (own b)
           (getD-set-same (o .roots) (o .count) face 0 (omega (arith, room b, few t, o .inv .0)) ∙ ap (at (a .lefts .now)) (d .wide .ensures))
-          (λ u h. getD-set-other (o .roots) (o .count) u face 0 h),
+          (λ u h. getD-set-other (o .roots) (o .count) u face 0 h)),
+      λ u h. getD-set-other (o .roots) (o .count) u face 0 (λ e. omega (arith, e, h)) ∙ o .inv .2 u (omega (arith, h)),
     )
 
 loop-less-2 : tie.Need-loop-less-2 Inv-loop μ-loop
@@ -127,15 +129,24 @@ loop-again-2 c =
     let t = turn d in
     let o = t .before .loop in (
       o .inv .0,
-      λ 𝓕. rooting-passed (𝓕 .planted) (o .inv .1 𝓕) (place-in t)
-          (λ e. c .if1 .left (f .wide2 .ensures ∙ ap (at (begun (t .before) .args .from .now)) (d .wide .ensures) ∙ e ∙ sym (d .wide .ensures))),
+      (λ 𝓕. rooting-passed (𝓕 .planted) (o .inv .1 𝓕) (place-in t)
+          (λ e. c .if1 .left (f .wide2 .ensures ∙ ap (at (begun (t .before) .args .from .now)) (d .wide .ensures) ∙ e ∙ sym (d .wide .ensures)))),
+      o .inv .2,
     )
 
 returns : tie.Need-returns Inv-loop μ-loop
 returns c =
     let o = c .before .loop in
     let 𝓕 = treed (c .before) in
-    (o .inv .0, rooting-end 𝓕 (omega (arith, c .loop-test .left)) (o .inv .1 𝓕))
+    let all : begun (c .before) .args .trees ≤ o .count = omega (arith, c .loop-test .left) in
+    let no-more : begun (c .before) .args .trees < o .count → ⊥ = λ l. omega (arith, o .inv .1 𝓕 .written _ l .0) in (
+      o .inv .0,
+      rooting-end 𝓕 all (o .inv .1 𝓕),
+      record {
+        are = λ 𝓖 t l. o .inv .1 𝓖 .written t (omega (arith, l, all)) .2;
+        kept = λ i l. o .inv .2 i (omega (arith, l, no-more));
+      },
+    )
 
 pub first-faces-spec : {M : Type 1} → statement M
 first-faces-spec =

@@ -11,8 +11,10 @@ use Rattle.arrays.specs.At.{at}
 use Rattle.traversal.specs.inner.Mark.{unmarked}
 use Rattle.traversal.specs.inner.Forest.{Growing}
 use Rattle.traversal.specs.inner.Rounds.{Rounds}
+use Rattle.traversal.specs.inner.FirstCome.{FirstCome, RoundedOff, Unround}
 use Rattle.traversal.proofs.Spreading.{few, room, growing-planted, growing-added}
 use Rattle.traversal.proofs.Rounding.{growing-turned}
+use Rattle.traversal.proofs.Coming.{back-in, comes-planted, comes-crossed}
 use Rattle.traversal.proofs.grow_rounds.Statement.{statement}
 use Rattle.traversal.proofs.grow_rounds.Tie as tie
 
@@ -21,7 +23,9 @@ Inv-loop tails rotations darts first trees order₀ from₀ owner₀ listed d he
     (length order ≡ 1024) × (length from ≡ 1024) × (length owner ≡ 1024)
     × (end ≢ 0 → Growing darts (at rotations) first (at order) (at from) head end (trees + 1)
     × Rounds darts (at tails) (at rotations) (at from) (at owner)
-    × (at from d ≢ unmarked) × ((y : ℕ) → at from₀ y ≢ unmarked → at from y ≢ unmarked) × (end₀ ≢ 0))
+    × (at from d ≢ unmarked) × ((y : ℕ) → at from₀ y ≢ unmarked → at from y ≢ unmarked) × (end₀ ≢ 0)
+    × FirstCome (at rotations) first (at order) (at from) end × RoundedOff (at rotations) (at order) end)
+    × (end ≡ 0 → Unround darts (at tails) (at rotations))
 
 abbrev μ-loop : tie.MeasureT-loop
 μ-loop tails rotations darts first trees order₀ from₀ owner₀ listed d head₀ end₀ order from owner head end = darts - head
@@ -41,12 +45,15 @@ add-round-requires c κs =
       p .8 .fresh,
       (λ o f e a. growing-planted (p .7) (p .4) (p .5) (p .8) a),
       p .9,
+      p .10,
+      p .7 .marked,
+      comes-planted (p .7) (p .8) (back-in (p .4)) (p .11),
     )
 
 loop-holds : tie.Need-loop-holds Inv-loop μ-loop
 loop-holds c =
     let e = c .add-round .ensures in
-    (e .0, e .1, e .2, λ h. let g = e .3 h in (g .0, g .1, g .2, (λ y m. m), h))
+    (e .0, e .1, e .2, (λ h. let g = e .3 h in (g .0, g .1, g .2, (λ y m. m), h, g .6, g .7)), e .4)
 
 -- ── in the loop ──
 abbrev begun : tie.At-loop Inv-loop μ-loop → tie.Start Inv-loop μ-loop
@@ -110,7 +117,7 @@ add-round-requires-2 c κs =
     let l = i .before in
     let p = begun l .pre in
     let z = t .if1 .taken in
-    let rounds = l .loop .inv .3 (going i) .1 in (
+    let old = l .loop .inv .3 (going i) in (
       l .loop .inv .0,
       l .loop .inv .1,
       l .loop .inv .2,
@@ -122,7 +129,10 @@ add-round-requires-2 c κs =
       omega (arith, room (grown i) (v .reverse .result) (back-below v) z, p .3),
       z,
       (λ o f e a. growing-added (grown i) (back-below v) a (i .loop-test .taken) (w .wide .ensures) (inl (v .reverse .ensures .0 ∙ ap rev (w .wide .ensures)))),
-      rounds,
+      old .1,
+      old .5,
+      old .0 .marked,
+      comes-crossed (old .0) (back-in (p .4)) (old .6) (i .loop-test .taken) (v .reverse .ensures .0 ∙ ap rev (w .wide .ensures)) (w .wide .ensures) z,
     )
 
 abbrev then : tie.After-add-round2 Inv-loop μ-loop → tie.Then1 Inv-loop μ-loop
@@ -144,7 +154,7 @@ loop-again c =
       q .0,
       q .1,
       q .2,
-      λ h.
+      (λ h.
           let g = q .3 h in
           let front = l .loop .head in
           let m : front < c .add-round2 .result = omega (arith, i .loop-test .taken, g .4) in
@@ -155,7 +165,10 @@ loop-again c =
             g .5 _ (old .2),
             (λ y k. g .5 y (old .3 y k)),
             old .4,
-          ),
+            g .6,
+            g .7,
+          )),
+      q .4,
     )
 
 loop-less-2 : tie.Need-loop-less-2 Inv-loop μ-loop
@@ -175,13 +188,16 @@ loop-again-2 c =
       l .loop .inv .0,
       l .loop .inv .1,
       l .loop .inv .2,
-      λ h. (
+      (λ h. (
         growing-turned (old .0) (old .1) m at-front (c .if1 .left),
         old .1,
         old .2,
         old .3,
         old .4,
-      ),
+        old .5,
+        old .6,
+      )),
+      l .loop .inv .4,
     )
 
 returns : tie.Need-returns Inv-loop μ-loop
@@ -192,14 +208,17 @@ returns c =
       o .inv .0,
       o .inv .1,
       o .inv .2,
-      λ h.
+      (λ h.
           let g = o .inv .3 h in
           let e : o .end ≡ o .head = omega (arith, c .loop-test .left, g .0 .ordered) in (
             subst (λ n. Growing (a .darts) (at (a .rotations .now)) (a .first) (at (o .order)) (at (o .from)) n (o .end) (a .trees + 1)) (sym e) (g .0),
             g .1,
             g .2,
-            λ y m. g .3 y (l .before .add-round .ensures .3 (g .4) .5 y m),
-          ),
+            (λ y m. g .3 y (l .before .add-round .ensures .3 (g .4) .5 y m)),
+            g .5,
+            g .6,
+          )),
+      o .inv .4,
     )
 
 pub grow-rounds-spec : {M : Type 1} → statement M

@@ -13,7 +13,7 @@ first-faces-requires c κs =
     (p .0, p .1, w .spread-all .ensures .2)
 
 returns : tie.Need-returns
-returns c = c .first-faces .ensures
+returns c = let e = c .first-faces .ensures in (e .0, e .1)
 
 pub roots-of-spec : {M : Type 1} → statement M
 roots-of-spec = tie.close (tie.spec spread-all-requires first-faces-requires returns)

@@ -11,8 +11,10 @@ use Rattle.arrays.specs.At.{at}
 use Rattle.traversal.specs.inner.Mark.{unmarked}
 use Rattle.traversal.specs.inner.Forest.{Growing}
 use Rattle.traversal.specs.inner.Rounds.{Rounds}
+use Rattle.traversal.specs.inner.FirstCome.{FirstCome, RoundedOff}
 use Rattle.traversal.proofs.Spreading.{few, trees-few, growing-none, some-left, all-marked, all-grown}
 use Rattle.traversal.proofs.Rounding.{rounds-none}
+use Rattle.traversal.proofs.Coming.{none-came}
 use Rattle.traversal.proofs.spread_rounds.Statement.{statement}
 use Rattle.traversal.proofs.spread_rounds.Tie as tie
 
@@ -21,6 +23,7 @@ Inv-loop tails rotations darts first order₀ from₀ owner₀ end₀ trees₀ n
     (length order ≡ 1024) × (length from ≡ 1024) × (length owner ≡ 1024) × (0 < trees)
     × Growing darts (at rotations) first (at order) (at from) end end trees
     × Rounds darts (at tails) (at rotations) (at from) (at owner) × ((e : ℕ) → e < next → at from e ≢ unmarked)
+    × FirstCome (at rotations) first (at order) (at from) end × RoundedOff (at rotations) (at order) end
 
 abbrev μ-loop : tie.MeasureT-loop
 μ-loop tails rotations darts first order₀ from₀ owner₀ end₀ trees₀ next₀ order from owner end trees next = darts - next
@@ -43,18 +46,20 @@ grow-rounds-requires c κs =
       growing-none (p .3) (e .1),
       record { inside = p .7; fresh = e .1 _ (omega (arith, p .3, p .7)); next = inl (refl, refl, refl) },
       rounds-none (p .3) (e .1) (p .8),
+      none-came,
+      λ h z. absurd (omega (arith, z)),
     )
 
 returns : tie.Need-returns Inv-loop μ-loop
 returns c =
     let e = c .before .grow-rounds .ensures in
-    (e .0, e .1, e .2, λ h. absurd (h refl))
+    (e .0, e .1, e .2, (λ h. absurd (h refl)), λ z. e .4 (c .if1 .taken))
 
 loop-holds : tie.Need-loop-holds Inv-loop μ-loop
 loop-holds c =
     let e = c .before .grow-rounds .ensures in
     let g = e .3 (c .if1 .left) in
-    (e .0, e .1, e .2, omega arith, g .0, g .1, λ e l. absurd (omega arith))
+    (e .0, e .1, e .2, omega arith, g .0, g .1, (λ e l. absurd (omega arith)), g .4, g .5)
 
 -- ── in the loop ──
 abbrev begun : tie.At-loop Inv-loop μ-loop → tie.Start Inv-loop μ-loop
@@ -88,12 +93,14 @@ grow-rounds-requires-2 c κs =
       i .4,
       record { inside = dart-below t; fresh = b .if2 .taken; next = inr (i .3, i .6) },
       i .5,
+      i .7,
+      i .8,
     )
 
 returns-2 : tie.Need-returns-2 Inv-loop μ-loop
 returns-2 c =
     let e = c .before .grow-rounds2 .ensures in
-    (e .0, e .1, e .2, λ h. absurd (h refl))
+    (e .0, e .1, e .2, (λ h. absurd (h refl)), λ z. e .4 (c .if3 .taken))
 
 abbrev turn : tie.Else3 Inv-loop μ-loop → tie.In-loop Inv-loop μ-loop
 turn c = c .before .before .before .before .before .before .before
@@ -111,7 +118,7 @@ loop-again c =
     let o = turn c .before .loop in
     let e = c .before .grow-rounds2 .ensures in
     let g = e .3 (c .if3 .left) in
-    (e .0, e .1, e .2, omega arith, g .0, g .1, below-more _ (o .next) (λ y l. g .3 y (o .inv .6 y l)) (g .2))
+    (e .0, e .1, e .2, omega arith, g .0, g .1, below-more _ (o .next) (λ y l. g .3 y (o .inv .6 y l)) (g .2), g .4, g .5)
 
 loop-less-2 : tie.Need-loop-less-2 Inv-loop μ-loop
 loop-less-2 c = omega (arith, dart-below (c .before .before))
@@ -120,13 +127,19 @@ loop-again-2 : tie.Need-loop-again-2 Inv-loop μ-loop
 loop-again-2 c =
     let o = c .before .before .before .loop in
     let i = o .inv in
-    (i .0, i .1, i .2, i .3, i .4, i .5, below-more _ (o .next) (i .6) (c .if2 .left))
+    (i .0, i .1, i .2, i .3, i .4, i .5, below-more _ (o .next) (i .6) (c .if2 .left), i .7, i .8)
 
 returns-3 : tie.Need-returns-3 Inv-loop μ-loop
 returns-3 c =
     let i = c .before .loop .inv in
     let every = all-marked (i .4) (omega (arith, c .loop-test .left)) in
-    (i .0, i .1, i .2, λ h. (all-grown (i .4) (i .3) every, i .5, every))
+    let came = i .7 .came in (
+      i .0,
+      i .1,
+      i .2,
+      (λ h. (all-grown (i .4) (i .3) every, i .5, every, record { came = λ k l. came k (omega (arith, l, c .loop-test .left)) })),
+      λ z. absurd (omega (arith, z, i .3)),
+    )
 
 pub spread-rounds-spec : {M : Type 1} → statement M
 spread-rounds-spec =

@@ -52,3 +52,8 @@ pub record RootsOf (darts : ℕ) (rotation : ℕ → ℕ) (first : ℕ) (left ro
   pub from : ℕ → ℕ
   pub forest : Forest darts rotation first order from trees
   pub are : (t : ℕ) → t < trees → roots t ≡ left (order (forest .planted .begins t))
+
+-- the same of this order: its trees' first darts, and no place behind is written
+pub record RootsHere (darts : ℕ) (rotation : ℕ → ℕ) (first : ℕ) (left order from before after : ℕ → ℕ) (trees : ℕ) : Type 0 where
+  pub are : (𝓕 : Forest darts rotation first order from trees) → (t : ℕ) → t < trees → after t ≡ left (order (𝓕 .planted .begins t))
+  pub kept : (i : ℕ) → trees ≤ i → after i ≡ before i

@@ -12,8 +12,8 @@ use Rattle.traversal.specs.inner.Forest.{Growing}
 pub record Rounds (darts : ℕ) (tail rotation from owner : ℕ → ℕ) : Type 0 where
   pub held : (y : ℕ) → y < darts → from y ≢ unmarked → (l : ℕ) × (l < darts) × (owner (tail y) ≡ l + 1) × Orbit rotation l y
   pub turns : (y : ℕ) → y < darts → from y ≢ unmarked → (from (rotation y) ≢ unmarked) × (tail (rotation y) ≡ tail y)
-  pub came : (y : ℕ) → y < darts → from y ≢ unmarked → (x : ℕ) × (x < darts) × (rotation x ≡ y)
-  pub leaves : (v : ℕ) → owner v ≢ 0 → (d : ℕ) × (d < darts) × (tail d ≡ v)
+  pub came : (y : ℕ) → y < darts → from y ≢ unmarked → (x : ℕ) × (x < darts) × (rotation x ≡ y) × (from x ≢ unmarked)
+  pub leaves : (v : ℕ) → owner v ≢ 0 → (d : ℕ) × (d < darts) × (tail d ≡ v) × (from d ≢ unmarked)
 
 -- d may be listed next, as met from `origin`: the walk is then as it should be
 abbrev pub Joinable : ℕ → (ℕ → ℕ) → (first : ℕ) → (order from : ℕ → ℕ) → (front end trees d origin : ℕ) → Type 0

@@ -1,0 +1,2 @@
+-- What loops and inner functions are proved with, and relations of which only that they have one end is of use: nothing here needs to be believed.
+pub mod Named
