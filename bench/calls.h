@@ -86,6 +86,22 @@ static void tell_class(void) {
     answer = least_points;
 }
 #endif
+// A session, and what it is set back to before a commit, which is called more than once.
+static struct analyser_session session, shown;
+static void start(void) {
+    result = analyser_session_start(sheet, sheet_length, &session.nodes, &session.channels, &session.outer, &session.offered, session.tails, session.turns,
+                                    session.left, session.offer, &place);
+}
+static void ask_left(void) {
+    result = analyser_session_ask(session.nodes, session.channels, session.outer, &session.offered, session.tails, session.turns, session.left, session.offer,
+                                  source, sink, value, settings, ANALYSER_MAX_CHANNELS, set, ANALYSER_SET_WORDS, &answer, &size, &place);
+}
+static void show(void) { shown = session; }
+static void commit(void) {
+    session = shown;
+    result = analyser_session_commit(session.nodes, session.channels, session.outer, &session.offered, session.tails, session.turns, session.left,
+                                     session.offer, &place);
+}
 static void open_sheet(void) {
     result = analyser_solve(sheet, sheet_length, 65535, sink, 0, settings, ANALYSER_MAX_CHANNELS, set, ANALYSER_SET_WORDS, &answer, &size, &place);
 }
@@ -152,6 +168,13 @@ static void tell_page(void) {
     }
     answer = (uint8_t)same;
 }
+// Whether what is left and what was let in add up to the limits that Read gives.
+static void tell_commit(void) {
+    int same = session.offered == 0;
+    read_sheet();
+    for (int d = 0; d < 2 * channels; d++) same = same && session.left[d] + (d % 2 ? -settings[d / 2] : settings[d / 2]) == limits[d];
+    answer = (uint8_t)same;
+}
 static void tell_nothing(void) {}
 #ifdef KEY_TEXT
 static void tell_key(void) {
@@ -174,6 +197,9 @@ static const struct operation {
 #if __STDC_HOSTED__
     {"examine", examine, {read_sheet, largest_class, fill_class}, tell_class},
 #endif
+    {"start", start, {NULL, NULL, NULL}, tell_nothing},
+    {"ask", ask_left, {start, NULL, NULL}, tell_size},
+    {"commit", commit, {start, ask_left, show}, tell_commit},
     {"open", open_sheet, {NULL, NULL, NULL}, tell_nothing},
     {"read", read_sheet, {NULL, NULL, NULL}, tell_channels},
     {"write", write_sheet, {read_sheet, NULL, NULL}, tell_written},

@@ -7,10 +7,10 @@
 // the next dart clockwise with the same tail; a setting is the flow on dart 2e. Nodes, channels, darts and faces are numbered
 // from 0, faces in order of their lowest dart: there are channels + 2 - nodes of them. A level is the potential of a face.
 //
-// ANSWERS. Every function takes any input, has no state, and ends. The result is 0 (ANALYSER_ANSWERED) where there is an answer, else the number of the first
-// refusal in the order given at the function. An answer comes through the pointers and leaves *place as it was; a refusal writes *place and nothing else: a
-// channel for 17, a node for 18, the lowest one at fault, and 0 for every other number. What a function is said to write it writes in the first elements of the
-// slice; the rest is left as it was. All this is proved, for every input, where the caller keeps the duties below.
+// ANSWERS. Every function takes any input, keeps no state but in a session that the caller owns, and ends. The result is 0 (ANALYSER_ANSWERED) where there is
+// an answer, else the number of the first refusal in the order given at the function. An answer comes through the pointers and leaves *place as it was; a
+// refusal writes *place and nothing else: a channel for 17, a node for 18, the lowest one at fault, and 0 for every other number. What a function is said to
+// write it writes in the first elements of the slice; the rest is left as it was. All this is proved, for every input, where the caller keeps the duties below.
 //
 // THE CALLER'S DUTIES, which nothing checks. A slice is a pointer and its length in elements. Each pointer is not null, also where the length is 0, is aligned
 // for its type, and points to as many initialised elements as the length says (one, for a pointer with no length), at most PTRDIFF_MAX bytes. Nothing that is
@@ -72,9 +72,9 @@ enum analyser_result {
     ANALYSER_TURN_MISPLACED = 9, // a turn has another tail than its dart, or two darts have one turn. Sheet; Write
     ANALYSER_NOT_ONE_ROUND = 10, // a node's darts do not form exactly one round, or it has none. Sheet; Write
     ANALYSER_NOT_FLAT = 12, // nodes - channels + faces is not 2 in some part: what channels, followed either way, join. Sheet; Write
-    ANALYSER_NO_SUCH_NODE = 13, // headgate or outfall is no node. Solve, Largest, Least and largest, Raise limit, Mark, DIMACS text, Largest after, Examine
-    ANALYSER_ENDS_EQUAL = 14, // headgate and outfall are one node. Solve, Largest, Least and largest, Raise limit, Mark, DIMACS text, Largest after, Examine
-    ANALYSER_DELIVERY_OUT_OF_RANGE = 15, // the delivery is not -600000000 to 600000000. Solve, Raise limit, Examine
+    ANALYSER_NO_SUCH_NODE = 13, // headgate or outfall is no node. Solve, all three Largest, Raise limit, Mark, DIMACS text, Examine, Ask
+    ANALYSER_ENDS_EQUAL = 14, // headgate and outfall are one node. Solve, all three Largest, Raise limit, Mark, DIMACS text, Examine, Ask
+    ANALYSER_DELIVERY_OUT_OF_RANGE = 15, // the delivery is not -600000000 to 600000000. Solve, Raise limit, Examine, Ask
     ANALYSER_SLICE_TOO_SHORT = 16, // a lent slice is too short; in Write also inputs of unequal or odd length. Every function
     ANALYSER_OUTSIDE_LIMITS = 17, // a setting is outside its channel's limits; *place is the lowest such channel. Mark, both level functions
     ANALYSER_OFF_BALANCE = 18, // flow is lost or gained at a node; *place is the lowest such node. Mark, Levels from settings
@@ -87,6 +87,7 @@ enum analyser_result {
     ANALYSER_NO_SUCH_CHANNEL = 25, // there is no such channel. Raise limit; of a record of the capture, Largest after
     ANALYSER_WINDOW_OUT_OF_RANGE = 26, // the window is not 1 to 256, or the named record is none of the capture's whole records. Largest after
     ANALYSER_TICK_GOES_BACK = 27, // a record of the capture has a lower tick than the one before. Largest after
+    ANALYSER_NO_OFFER = 28, // the session has no offer. Commit
     ANALYSER_TOO_MANY_PAPERS = 32 // more than 1000 papers. Examine
 };
 
@@ -237,6 +238,52 @@ uint8_t analyser_examine(const uint8_t *sheet, size_t sheet_length, uint16_t hea
                          size_t claims_length, const uint8_t *kinds, size_t kinds_length, const int32_t *settings, size_t settings_length, const uint64_t *sets,
                          size_t sets_length, uint8_t *points, size_t points_length, uint16_t *number, uint16_t *sum, uint8_t *least, uint8_t *greatest,
                          uint16_t *place);
+
+// A SESSION on a sheet: deliveries are first shown and then let in (Start, Ask, Commit). It is the caller's: it may lie anywhere, be copied, and be given up
+// at any time. Its fields are for the three functions below; who changes one has a value that no start gave, and on it every function still ends, and a refusal
+// still changes nothing: a question on what is no drawing with limits is refused 13, an offer that the limits left do not allow 28.
+// The struct must be initialised before Start too, in whatever way (= {0} will do).
+struct analyser_session {
+    uint16_t nodes, channels, outer; // all 0 after a refused start
+    uint8_t offered; // 1: there is an offer
+    uint16_t tails[ANALYSER_MAX_DARTS], turns[ANALYSER_MAX_DARTS];
+    int32_t left[ANALYSER_MAX_DARTS]; // what is left of each dart's limit: from -1000000 to 2000000
+    int32_t offer[ANALYSER_MAX_CHANNELS]; // a setting for each channel
+};
+
+// The same functions with the fields of the session one by one; the three inline functions behind them pass these on.
+uint8_t analyser_session_start(const uint8_t *sheet, size_t sheet_length, uint16_t *nodes, uint16_t *channels, uint16_t *outer, uint8_t *offered,
+                               uint16_t *tails, uint16_t *turns, int32_t *left, const int32_t *offer, uint16_t *place);
+uint8_t analyser_session_ask(uint16_t nodes, uint16_t channels, uint16_t outer, uint8_t *offered, const uint16_t *tails, const uint16_t *turns,
+                             const int32_t *left, int32_t *offer, uint16_t headgate, uint16_t outfall, int32_t delivery, int32_t *settings,
+                             size_t settings_length, uint64_t *set, size_t set_length, uint8_t *can, uint16_t *size, uint16_t *place);
+uint8_t analyser_session_commit(uint16_t nodes, uint16_t channels, uint16_t outer, uint8_t *offered, const uint16_t *tails, const uint16_t *turns,
+                                int32_t *left, const int32_t *offer, uint16_t *place);
+
+// Start: a session on the sheet, with all of its limits left and no offer.
+// Refusals: the sheet checks. Then the session has no nodes and no channels, every question on it is refused 13, and there is no offer.
+static inline uint8_t analyser_start(struct analyser_session *session, const uint8_t *sheet, size_t sheet_length, uint16_t *place) {
+    return analyser_session_start(sheet, sheet_length, &session->nodes, &session->channels, &session->outer, &session->offered, session->tails,
+                                  session->turns, session->left, session->offer, place);
+}
+
+// Ask: Solve's answer on the limits left, which is exact for them. "Can" becomes the session's offer, a copy of the settings written; "cannot" clears the
+// offer; a refusal keeps the older one.
+// Refusals: 13, 14, 15, 16 as in Solve; the session is then as it was.
+// Writes: as Solve.
+static inline uint8_t analyser_ask(struct analyser_session *session, uint16_t headgate, uint16_t outfall, int32_t delivery, int32_t *settings,
+                                   size_t settings_length, uint64_t *set, size_t set_length, uint8_t *can, uint16_t *size, uint16_t *place) {
+    return analyser_session_ask(session->nodes, session->channels, session->outer, &session->offered, session->tails, session->turns, session->left,
+                                session->offer, headgate, outfall, delivery, settings, settings_length, set, set_length, can, size, place);
+}
+
+// Commit: lets the offer in. Each dart's limit left is lowered by the dart's own flow, so that its reverse's rises by the same, and the offer is cleared. At
+// every moment, what is left of a dart's limit and its flows in all commits since the start add up to the sheet's limit.
+// Refusals: 28; the session is then as it was.
+static inline uint8_t analyser_commit(struct analyser_session *session, uint16_t *place) {
+    return analyser_session_commit(session->nodes, session->channels, session->outer, &session->offered, session->tails, session->turns, session->left,
+                                   session->offer, place);
+}
 
 #ifdef __cplusplus
 }

@@ -170,6 +170,38 @@ static void examine(const char *name, const uint8_t *bytes, size_t bytes_length,
     ended();
 }
 
+static struct analyser_session session;
+
+static void show_session(void) {
+    printf(", session %d %d %d offered %d", session.nodes, session.channels, session.outer, session.offered);
+    numbers("left", session.left, 6);
+    ended();
+}
+
+static void start(const char *name, const uint8_t *bytes, size_t bytes_length) {
+    untouched();
+    int result = analyser_start(&session, bytes, bytes_length, &place);
+    printf("start %s %d", name, result);
+    show_session();
+}
+
+// The settings written are spoilt behind the call: the offer is the session's.
+static void ask(const char *name, uint16_t headgate, uint16_t outfall, int32_t delivery, size_t settings_length, size_t set_length) {
+    untouched();
+    int result = analyser_ask(&session, headgate, outfall, delivery, settings, settings_length, set, set_length, &flag, &size, &place);
+    printf("ask %s %d: can %d, size %d, set %d", name, result, flag, size, (int)set[0]);
+    numbers("settings", settings, 4);
+    show_session();
+    set_three(7, 7, 7);
+}
+
+static void commit(const char *name) {
+    untouched();
+    int result = analyser_commit(&session, &place);
+    printf("commit %s %d", name, result);
+    show_session();
+}
+
 int main(void) {
     int result;
     // the settings and sets of four papers on drawing A, and of three on drawing B
@@ -403,5 +435,34 @@ int main(void) {
     write_dimacs("ends equal", drawing_b, sizeof drawing_b, 1, 1, 0);
     write_dimacs("least flow", drawing_b, sizeof drawing_b, 0, 1, 0);
     write_dimacs("slice too short", drawing_a, sizeof drawing_a, 0, 1, 69);
+
+    // a session: shown, let in; each refusal of Ask beside the next, and the offer older than them kept
+    start("A", drawing_a, sizeof drawing_a);
+    commit("with no offer");
+    ask("6", 0, 1, 6, ANALYSER_MAX_CHANNELS, ANALYSER_SET_WORDS);
+    ask("no such node", 2, 2, 6, 3, 1);
+    ask("ends equal", 1, 1, 600000001, 3, 1);
+    ask("delivery out of range", 0, 1, 600000001, 2, 0);
+    ask("slice too short", 0, 1, 6, 2, 1);
+    ask("slice too short", 0, 1, 6, 3, 0);
+    commit("of 6");
+    commit("again");
+    ask("7", 0, 1, 7, ANALYSER_MAX_CHANNELS, ANALYSER_SET_WORDS);
+    ask("6", 0, 1, 6, ANALYSER_MAX_CHANNELS, ANALYSER_SET_WORDS);
+    ask("7", 0, 1, 7, 3, 1);
+    commit("after cannot");
+    ask("back", 1, 0, 6, 3, 1);
+    commit("of 6 back");
+    start("cut short", drawing_a, sizeof drawing_a - 1);
+    ask("where no start was", 0, 1, 6, 3, 1);
+    commit("where no start was");
+
+    // values that no start gave: a turn that is no dart, an offer beyond the limits left
+    start("A", drawing_a, sizeof drawing_a);
+    ask("6", 0, 1, 6, 3, 1);
+    session.turns[5] = 6;
+    ask("of no drawing", 0, 1, 6, 3, 1);
+    session.offer[1] = INT32_MIN;
+    commit("beyond the limits");
     return 0;
 }

@@ -9,6 +9,7 @@ use crate::flow::{carry, least_limit, net_flows, range, MOST_LIMIT};
 use crate::grow::{grow, Grown};
 use crate::judge;
 use crate::levels::{flows_of, highest, levels_of};
+use crate::sessions::Player;
 use crate::unit::{Call, Lent, PAGE};
 use std::collections::BTreeMap;
 use std::fmt::Write;
@@ -49,6 +50,9 @@ impl Tally {
             (Call::Page { count: PAGE }, 0) => "of 64",
             (Call::Page { count }, 0) if [0, 1, 13, 14, 15].iter().all(|answer| after.answers[..*count].contains(answer)) => "with every answer",
             (Call::Page { .. }, 0) => "with some answers",
+            (Call::Examine { .. }, 0) if after.number == 0 => "empty",
+            (Call::Examine { .. }, 0) if after.number == 1000 => "of 1000",
+            (Call::Examine { .. }, 0) => "class",
             (_, 0) => "done",
             _ => "refused",
         };
@@ -163,7 +167,19 @@ impl Checker<'_> {
             self.damaged(drawing)?;
         }
         self.practice()?;
-        self.pages(drawing, grown.source, grown.sink)
+        self.classes(drawing, grown.source, grown.sink)?;
+        self.pages(drawing, grown.source, grown.sink)?;
+        self.session(drawing, grown.source, grown.sink)
+    }
+
+    /// A sequence of calls of a session.
+    fn session(&mut self, drawing: &Drawing, source: usize, sink: usize) -> Check {
+        let mut player = Player { library: self.library, chance: &mut self.chance, met: vec![] };
+        let played = player.play(drawing, source, sink);
+        for key in std::mem::take(&mut player.met) {
+            *self.tally.answers.entry(key).or_default() += 1;
+        }
+        played.map_err(|text| Wrong(format!("{}# a session from {source} to {sink}\n{text}", drawing.text())))
     }
 
     /// One call, and its answer if it is as it should be.
@@ -292,6 +308,16 @@ impl Checker<'_> {
                 let (subtotals, total) = judge::totals(&drawing, &before.set);
                 store(&mut lent.subtotals, &subtotals);
                 lent.total = total as i32;
+            }
+            Call::Examine { source, sink, value } => {
+                let largest = range(&drawing, source as usize, sink as usize).map(|(_, largest)| largest);
+                let papers = before.claims.len();
+                let points: Vec<u8> = (0..papers).map(|q| judge::paper(&drawing, before, (source, sink, value), largest, q, 0).points(largest)).collect();
+                lent.points[..papers].copy_from_slice(&points);
+                (lent.number, lent.sum) = (papers as u16, points.iter().map(|&one| one as u16).sum());
+                if let (Some(&least), Some(&greatest)) = (points.iter().min(), points.iter().max()) {
+                    (lent.least_points, lent.greatest_points) = (least, greatest);
+                }
             }
             Call::WriteDimacs { source, sink } => {
                 let text = dimacs::text(&drawing, source, sink);
@@ -603,6 +629,64 @@ impl Checker<'_> {
         Ok(())
     }
 
+    /// Classes of papers: each has Largest's value and set and the settings of the delivery asked, or something else in their place; also with ends, deliveries
+    /// and slices that are refused, and now and then of 1,000 papers or more.
+    fn classes(&mut self, drawing: &Drawing, source: usize, sink: usize) -> Check {
+        let mut lent = self.lend(drawing.bytes(), drawing);
+        lent.flows.resize(drawing.edges(), 0);
+        lent.set.resize(drawing.words(), 0);
+        lent.flows.truncate(drawing.edges());
+        lent.set.truncate(drawing.words());
+        let right = self.compare(Call::Largest { source: source as u16, sink: sink as u16 }, &lent)?;
+        for which in 0..4 {
+            let many = which == 0 && self.chance.one_in(60);
+            let papers = if many { self.chance.pick(&[1000, 1001]) } else { self.chance.below(5) };
+            let largest = if right.found == 1 { right.value } else { 0 };
+            let value = if self.chance.one_in(4) { self.some_value() } else { largest };
+            let mut lent = self.lend(drawing.bytes(), drawing);
+            (lent.flows, lent.set) = (vec![], vec![]);
+            for _ in 0..papers {
+                lent.claims.push(largest.wrapping_add(self.chance.pick(&[0, 0, 0, 1, -1])));
+                lent.kinds.push(self.chance.pick(&[1 - right.found, 1 - right.found, 0, 1, 2]));
+                let mut flows = right.flows.clone();
+                if self.chance.one_in(3) {
+                    let edge = self.chance.below(flows.len());
+                    flows[edge] = flows[edge].wrapping_add(self.chance.pick(&[1, -1, i32::MAX, i32::MIN]));
+                }
+                lent.flows.extend(flows);
+                let mut set = right.set.clone();
+                match self.chance.below(6) {
+                    0 => set.iter_mut().for_each(|word| *word = !*word),
+                    1 => set = self.chance.junk(drawing.words(), |x| x),
+                    2 if drawing.nodes % 64 != 0 => *set.last_mut().unwrap() |= u64::MAX << (drawing.nodes % 64),
+                    3 => {
+                        let node = self.chance.below(drawing.nodes as usize);
+                        set[node / 64] ^= 1 << (node % 64);
+                    }
+                    _ => {}
+                }
+                lent.set.extend(set);
+            }
+            lent.points = self.chance.junk(papers + which, |x| x as u8);
+            if papers == 1001 && self.chance.one_in(2) {
+                lent.points.truncate(9);
+            }
+            match self.chance.below(24) {
+                0 => lent.kinds.truncate(papers.saturating_sub(1)),
+                1 => lent.flows.truncate((papers * drawing.edges()).saturating_sub(1)),
+                2 => lent.set.truncate((papers * drawing.words()).saturating_sub(1)),
+                3 => lent.points.truncate(papers.saturating_sub(1)),
+                _ => {}
+            }
+            let (mut from, mut into) = (source as u16, sink as u16);
+            if self.chance.one_in(6) {
+                (from, into) = (self.some_end(drawing), self.some_end(drawing));
+            }
+            self.compare(Call::Examine { source: from, sink: into, value }, &lent)?;
+        }
+        Ok(())
+    }
+
     fn spoil_levels(&mut self, outer: usize, levels: &mut [i32]) {
         for _ in 0..1 + self.chance.below(3) {
             if !levels.is_empty() {
@@ -716,6 +800,7 @@ impl Checker<'_> {
             Call::SettingsFromLevels,
             Call::Totals,
             Call::WriteDimacs { source, sink },
+            Call::Examine { source, sink, value },
         ];
         for call in calls {
             let lent = self.lend(bytes.clone(), whole);
@@ -779,8 +864,8 @@ fn differ(text: &mut String, got: &Lent, due: &Lent) {
             })*
         };
     }
-    each!(slices: sheet flows set low below high above levels subtotals tails rotations capacities text sources sinks values answers sizes;
-        answers: can found size value least largest total nodes edges outer length place guards);
+    each!(slices: sheet flows set low below high above levels subtotals tails rotations capacities text sources sinks values answers sizes
+        claims kinds points; answers: can found size value least largest total nodes edges outer length place number sum least_points greatest_points guards);
 }
 
 /// The drawing and what was lent with it: as text that tools/sheet reads, else the bytes or slices.
@@ -808,6 +893,16 @@ fn picture(call: &Call, before: &Lent) -> String {
         Call::Mark { .. } | Call::LevelsFromSettings => writeln!(text, "# flows {:?}", before.flows).unwrap(),
         Call::SettingsFromLevels => writeln!(text, "# levels {:?}", before.levels).unwrap(),
         Call::Totals => writeln!(text, "# set {:?}, {} places", before.set, before.subtotals.len()).unwrap(),
+        Call::Examine { source, sink, value } => writeln!(
+            text,
+            "# {value} from {source} to {sink}\n# claims {:?}\n# kinds {:?}\n# settings {:?}\n# sets {:?}\n# {} places",
+            before.claims,
+            before.kinds,
+            before.flows,
+            before.set,
+            before.points.len()
+        )
+        .unwrap(),
         Call::Page { count } => {
             for i in 0..(*count).min(PAGE) {
                 writeln!(text, "# question {i}: {} {} {}", before.sources[i], before.sinks[i], before.values[i]).unwrap();

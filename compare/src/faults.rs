@@ -153,6 +153,29 @@ faults! {
     PageOnRefusal: "a page that is refused writes the first answer",
     SixteenForTwentyOne: "room for a page is looked at before the number of its questions",
     TwentyOneForTheSheet: "the number of questions is looked at before the sheet",
+    BothDartsLowered: "a commit lowers both darts of an edge",
+    LoweredTwice: "a commit lowers a forward limit twice",
+    CommitKeepsOffer: "a commit keeps the offer",
+    RefusedCommitClears: "a refused commit clears a limit",
+    CannotKeepsOffer: "a cannot keeps the older offer",
+    RefusalClearsOffer: "a refused question clears the offer",
+    FirstOfferKept: "a second can leaves the first offer",
+    OfferOfTheCaller: "a commit takes the offer from the slice that the caller lent for the settings",
+    RefusedStartKeeps: "a refused start leaves the old session",
+    StartKeepsOffer: "a start keeps the offer of the older session",
+    StartDartZero: "a session has dart 0 on the outer face",
+    ForeignEmptied: "a value that is no session is emptied when it is refused",
+    ExamineSetOneTooGreat: "a set whose outward total is one too great earns its 3 points",
+    ExamineThreeAndThree: "where the largest is none, claim and set earn 3 each",
+    ExamineNoneClosesTheSet: "a paper that claims none earns nothing for its set",
+    ExaminePaperBefore: "a paper has the settings of the paper before",
+    ExaminePastTheLast: "a set with bits past the last node earns nothing",
+    ExamineKindTwo: "every kind but 0 claims none",
+    ExamineDivided: "the sum of a class is divided by its number",
+    ExamineLeastOfNone: "an empty class has the least 0",
+    ExamineWrongRefused: "a class is refused with 17 where a paper's settings are outside their limits",
+    ExaminePastThePapers: "the places behind the last paper's points are cleared",
+    SixteenForThirtyTwo: "room for a class is looked at before the number of its papers",
 }
 
 /// The unit, with a fault or without.
@@ -250,7 +273,42 @@ fn answer(fault: Fault, call: &Call, drawing: &Drawing, before: &Lent, after: &m
         Call::Totals => totals(fault, drawing, after),
         Call::WriteDimacs { source, sink } => dimacs(fault, (source, sink), drawing, before, after),
         Call::Page { count } => page(fault, count, drawing, before, after),
+        Call::Examine { source, sink, value } => examine(fault, (source, sink, value), drawing, before, after),
         Call::KeyText | Call::PracticeSheet { .. } => {}
+    }
+}
+
+/// What a fault makes of a class: the points are given otherwise, and the figures follow from them, or the figures alone are.
+fn examine(fault: Fault, asked: (u16, u16, i32), drawing: &Drawing, before: &Lent, after: &mut Lent) {
+    let papers = before.claims.len();
+    let largest = range(drawing, asked.0 as usize, asked.1 as usize).map(|(_, largest)| largest);
+    let past = |q: usize| drawing.nodes % 64 != 0 && before.set[(q + 1) * drawing.words() - 1] >> (drawing.nodes % 64) != 0;
+    let points = |q: usize| {
+        let right = judge::paper(drawing, before, asked, largest, q, (fault == Fault::ExamineSetOneTooGreat) as i64);
+        let earned = right.points(largest);
+        match fault {
+            Fault::ExamineThreeAndThree if largest.is_none() => 4 * right.settings as u8 + 3 * (right.claim as u8 + right.set as u8),
+            Fault::ExamineNoneClosesTheSet if largest.is_some() && before.kinds[q] == 1 => 4 * right.settings as u8,
+            Fault::ExaminePaperBefore if q > 0 => {
+                let other = judge::paper(drawing, before, asked, largest, q - 1, 0);
+                judge::Right { settings: other.settings, ..right }.points(largest)
+            }
+            Fault::ExaminePastTheLast if past(q) => judge::Right { set: false, ..right }.points(largest),
+            Fault::ExamineKindTwo if before.kinds[q] == 2 => judge::Right { claim: largest.is_none(), ..right }.points(largest),
+            _ => earned,
+        }
+    };
+    let all: Vec<u8> = (0..papers).map(points).collect();
+    after.points[..papers].copy_from_slice(&all);
+    after.sum = all.iter().map(|&one| one as u16).sum();
+    if let (Some(&least), Some(&greatest)) = (all.iter().min(), all.iter().max()) {
+        (after.least_points, after.greatest_points) = (least, greatest);
+    }
+    match fault {
+        Fault::ExamineDivided if papers > 0 => after.sum /= papers as u16,
+        Fault::ExamineLeastOfNone if papers == 0 => after.least_points = 0,
+        Fault::ExaminePastThePapers => after.points[papers..].fill(0),
+        _ => {}
     }
 }
 
@@ -496,6 +554,12 @@ fn paged_anyway(count: usize, before: &Lent, after: &mut Lent, when: impl Fn(&Dr
 fn refuses(fault: Fault, call: &Call, before: &Lent, after: &Lent) -> Option<u8> {
     match *call {
         Call::Totals if asks_for_more(fault, before) => Some(16),
+        Call::Examine { .. } if fault == Fault::ExamineWrongRefused => {
+            let drawing = judge::records(&before.sheet).ok()?;
+            let outside = |edge: usize, flow: i32| flow > drawing.capacities[2 * edge] || -(flow as i64) > drawing.capacity(2 * edge + 1);
+            let used = &before.flows[..before.claims.len() * drawing.edges()];
+            used.iter().enumerate().any(|(at, &flow)| outside(at % drawing.edges(), flow)).then_some(17)
+        }
         Call::Page { count } => match fault {
             Fault::PageByOneRefusal => after.answers.iter().take(count).copied().find(|&answer| answer > 1),
             Fault::PageOfNoneNeedsRoom if count == 0 && (before.flows.is_empty() || before.set.is_empty()) => Some(16),
@@ -781,6 +845,7 @@ fn refusal(fault: Fault, call: &Call, before: &Lent, after: &mut Lent, result: u
             }
             _ => {}
         },
+        (Fault::SixteenForThirtyTwo, 32) if before.kinds.len().min(before.points.len()) < before.claims.len() => return 16,
         (Fault::TotalsOnRefusal, _) if *call == Call::Totals && !after.subtotals.is_empty() => after.subtotals[0] = 0,
         (Fault::TotalsShortSet, 16) if *call == Call::Totals => {
             let mut longer = before.clone();
@@ -869,7 +934,7 @@ mod tests {
         run(None, &mut tally).unwrap_or_else(|wrong| panic!("{wrong}"));
         let sheet: Vec<u8> = (1..=10).chain([12, 24]).collect(); // 11 no longer occurs
         let with = |more: &[u8]| [&sheet[..], more].concat();
-        let due: [(&str, Vec<u8>, &[&str]); 14] = [
+        let due: [(&str, Vec<u8>, &[&str]); 18] = [
             ("Read", with(&[16]), &["done"]),
             ("Write", vec![3, 4, 5, 6, 7, 9, 10, 12, 16, 24], &["done"]),
             ("Solve", with(&[13, 14, 15, 16]), &["can", "cannot"]),
@@ -883,7 +948,11 @@ mod tests {
             ("Key text", vec![16], &["can", "cannot", "refused in the text"]),
             ("Practice sheet", vec![16, 23], &["done"]),
             ("DIMACS text", with(&[13, 14, 16, 22]), &["done"]),
+            ("Examine", with(&[13, 14, 15, 16, 32]), &["class", "empty", "of 1000"]),
             ("Page", with(&[16, 21]), &["empty", "of 64", "with every answer", "with some answers"]),
+            ("Start", sheet.clone(), &["done"]),
+            ("Ask", vec![13, 14, 15, 16], &["can", "cannot"]),
+            ("Commit", vec![28], &["done"]),
         ];
         for (name, refusals, answers) in due {
             let met: Vec<_> = tally.answers.keys().filter(|key| key.0 == name).map(|&(_, number, answer)| (number, answer)).collect();

@@ -10,7 +10,7 @@ pub struct Refusal {
     pub place: u16,
 }
 
-type Verdict = Result<(), Refusal>;
+pub type Verdict = Result<(), Refusal>;
 
 fn refuse(number: u8, holds: bool) -> Verdict {
     if holds {
@@ -88,6 +88,13 @@ pub fn accept(call: &Call, lent: &Lent) -> Result<Drawing, Refusal> {
             refuse(22, drawing.capacities.iter().any(|&capacity| capacity < 0))?;
             refuse(16, lent.text.len() < crate::dimacs::text(&drawing, source, sink).len())?;
         }
+        Call::Examine { source, sink, value } => {
+            question(&drawing, source, sink, value)?;
+            let papers = lent.claims.len();
+            refuse(32, papers > 1000)?;
+            let short = lent.flows.len() < papers * drawing.edges() || lent.set.len() < papers * drawing.words();
+            refuse(16, short || lent.kinds.len().min(lent.points.len()) < papers)?;
+        }
         Call::Page { count } => {
             refuse(21, count > PAGE)?;
             refuse(16, lent.flows.len() < count * drawing.edges() || lent.set.len() < count * drawing.words())?;
@@ -161,6 +168,11 @@ fn fields(drawing: &Drawing, edge: usize, edges: usize) -> Verdict {
     refuse(5, darts.iter().any(|&dart| drawing.rotations[dart] as usize >= 2 * edges))?;
     refuse(6, darts.iter().any(|&dart| drawing.capacity(dart).abs() > 1_000_000))?;
     refuse(7, drawing.capacity(darts[0]) + drawing.capacity(darts[1]) < 0)
+}
+
+/// Checks 9, 10 and 12, of a drawing whose tails and turns are in range.
+pub fn turns(drawing: &Drawing) -> Verdict {
+    rotation(drawing)
 }
 
 /// Checks 9, 10 and 12.
@@ -284,6 +296,42 @@ pub fn totals(drawing: &Drawing, set: &[u64]) -> (Vec<i64>, i64) {
         }
     }
     (members.iter().map(|&node| at[node]).collect(), total)
+}
+
+/// What is right in a paper: the settings for the value asked, the claim, and the set.
+#[derive(Clone, Copy, Debug, PartialEq)]
+pub struct Right {
+    pub settings: bool,
+    pub claim: bool,
+    pub set: bool,
+}
+
+impl Right {
+    /// Document 02, Job 14: 4, 3 and 3; where the largest is none, 6 for claim and set together.
+    pub fn points(&self, largest: Option<i64>) -> u8 {
+        let rest = match largest {
+            Some(_) => 3 * (self.claim as u8 + self.set as u8),
+            None => 6 * (self.claim && self.set) as u8,
+        };
+        4 * self.settings as u8 + rest
+    }
+}
+
+/// Looks at paper q of a class: its set is added up channel by channel, and `slack` is 0.
+pub fn paper(drawing: &Drawing, lent: &Lent, (source, sink, value): (u16, u16, i32), largest: Option<i64>, q: usize, slack: i64) -> Right {
+    let flows = wide(&lent.flows[q * drawing.edges()..][..drawing.edges()]);
+    let set = &lent.set[q * drawing.words()..][..drawing.words()];
+    let right = within(drawing, &flows).is_ok() && balanced(drawing, &flows, &[source as usize, sink as usize]).is_ok();
+    let (_, total) = totals(drawing, set);
+    let holds = |node: u16| set[node as usize / 64] >> (node % 64) & 1 == 1;
+    let bound = match (largest, holds(source), holds(sink)) {
+        (Some(most), true, false) => most + 1,
+        (Some(most), false, true) => -(most + 1),
+        (None, from, into) if from != into => i64::MIN / 2,
+        _ => 0,
+    };
+    let claim = if lent.kinds[q] == 1 { None } else { Some(lent.claims[q] as i64) };
+    Right { settings: right && net_flows(drawing, &flows)[source as usize] == value as i64, claim: claim == largest, set: total < bound + slack }
 }
 
 /// What keeps a set of nodes, in words, from proving that a value is impossible; without a value, that nothing can be carried.

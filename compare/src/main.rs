@@ -22,6 +22,7 @@ mod levels;
 mod paper;
 mod program;
 mod progress;
+mod sessions;
 mod unit;
 
 use capture::CaptureFault;

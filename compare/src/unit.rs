@@ -17,6 +17,7 @@ pub enum Call {
     PracticeSheet { rows: u16, columns: u16, seed: u32 },
     WriteDimacs { source: u16, sink: u16 },
     Page { count: usize },
+    Examine { source: u16, sink: u16, value: i32 },
 }
 
 impl Call {
@@ -36,6 +37,7 @@ impl Call {
             Call::PracticeSheet { .. } => "Practice sheet",
             Call::WriteDimacs { .. } => "DIMACS text",
             Call::Page { .. } => "Page",
+            Call::Examine { .. } => "Examine",
         }
     }
 }
@@ -68,6 +70,10 @@ pub struct Lent {
     pub values: Vec<i32>,
     pub answers: Vec<u8>,
     pub sizes: Vec<u16>,
+    /// Of a class of papers, whose stretches are in `flows` and `set`: claims, their kinds, and the points.
+    pub claims: Vec<i32>,
+    pub kinds: Vec<u8>,
+    pub points: Vec<u8>,
     pub can: u8,
     pub found: u8,
     pub size: u16,
@@ -80,6 +86,11 @@ pub struct Lent {
     pub outer: u16,
     pub length: usize,
     pub place: u16,
+    /// The figures of a class.
+    pub number: u16,
+    pub sum: u16,
+    pub least_points: u8,
+    pub greatest_points: u8,
     /// Whether every guard element is as it was.
     pub guards: bool,
 }
@@ -106,6 +117,9 @@ impl Lent {
             values: vec![],
             answers: vec![],
             sizes: vec![],
+            claims: vec![],
+            kinds: vec![],
+            points: vec![],
             can: 0xa5,
             found: 0xa5,
             size: 0xbeef,
@@ -118,6 +132,10 @@ impl Lent {
             outer: 0xbeef,
             length: 0xdead_beef,
             place: 0xbeef,
+            number: 0xbeef,
+            sum: 0xbeef,
+            least_points: 0xa5,
+            greatest_points: 0xa5,
             guards: true,
         }
     }
@@ -323,6 +341,29 @@ extern "C" {
         sizes: *mut u16,
         place: *mut u16,
     ) -> u8;
+    #[rustfmt::skip]
+    fn analyser_examine(
+        sheet: *const u8,
+        sheet_length: usize,
+        source: u16,
+        sink: u16,
+        value: i32,
+        claims: *const i32,
+        claims_length: usize,
+        kinds: *const u8,
+        kinds_length: usize,
+        settings: *const i32,
+        settings_length: usize,
+        sets: *const u64,
+        sets_length: usize,
+        points: *mut u8,
+        points_length: usize,
+        number: *mut u16,
+        sum: *mut u16,
+        least: *mut u8,
+        greatest: *mut u8,
+        place: *mut u16,
+    ) -> u8;
 }
 
 /// Calls the unit. The result is the number of the refusal, or 0.
@@ -346,6 +387,9 @@ pub fn call(call: &Call, lent: &mut Lent) -> u8 {
     let mut values = Guarded::new(&lent.values, -0x5a5a_5a5a);
     let mut answers = Guarded::new(&lent.answers, 0xa5);
     let mut sizes = Guarded::new(&lent.sizes, 0xa5a5);
+    let mut claims = Guarded::new(&lent.claims, -0x5a5a_5a5a);
+    let mut kinds = Guarded::new(&lent.kinds, 0xa5);
+    let mut points = Guarded::new(&lent.points, 0xa5);
     // Each pointer is to as many elements as its length says, and no two slices overlap.
     let result = unsafe {
         match *call {
@@ -375,6 +419,9 @@ pub fn call(call: &Call, lent: &mut Lent) -> u8 {
                 &mut lent.place),
             Call::WriteDimacs { source, sink } => analyser_write_dimacs(sheet.pointer(), sheet.length(), source, sink, text.pointer(), text.length(),
                 &mut lent.length, &mut lent.place),
+            Call::Examine { source, sink, value } => analyser_examine(sheet.pointer(), sheet.length(), source, sink, value, claims.pointer(), claims.length(),
+                kinds.pointer(), kinds.length(), flows.pointer(), flows.length(), set.pointer(), set.length(), points.pointer(), points.length(),
+                &mut lent.number, &mut lent.sum, &mut lent.least_points, &mut lent.greatest_points, &mut lent.place),
             Call::Page { count } => {
                 let arrays = [sources.length(), sinks.length(), values.length(), answers.length(), sizes.length()];
                 assert_eq!(arrays, [PAGE; 5], "a page has arrays of 64");
@@ -400,7 +447,10 @@ pub fn call(call: &Call, lent: &mut Lent) -> u8 {
         & sinks.give_back(&mut lent.sinks)
         & values.give_back(&mut lent.values)
         & answers.give_back(&mut lent.answers)
-        & sizes.give_back(&mut lent.sizes);
+        & sizes.give_back(&mut lent.sizes)
+        & claims.give_back(&mut lent.claims)
+        & kinds.give_back(&mut lent.kinds)
+        & points.give_back(&mut lent.points);
     result
 }
 

@@ -45,6 +45,9 @@ use Rattle.key_text.specs.Key.{keyRoomChecks}
 use Rattle.practice.specs.Practice.{practiceChecks}
 use Rattle.dimacs.specs.Write.{textChecks}
 use Rattle.analyser.specs.Dimacs.{dimacsChecks}
+use Rattle.sessions.specs.Session.{Session}
+use Rattle.sessions.specs.Ask.{askChecks}
+use Rattle.sessions.specs.Commit.{commitChecks}
 
 -- ── lists of checks whose numbers are 1 or more ──
 unfoldable pub Numbered : List Check → Type 0
@@ -208,3 +211,11 @@ pub dimacs-numbered : (s : List ℕ) (source sink : ℕ) (text : List ℕ) → N
 unfolding Numbered dimacsChecks textChecks endChecks
 dimacs-numbered s source sink text =
     numbered-append (sheetChecks s) _ (sheet-numbered s) (omega arith, (omega arith, (omega arith, (omega arith, tt))))
+
+pub ask-numbered : (𝓓 : Drawing) (source sink : ℕ) (value : ℤ) (flows : List ℤ) (set : List ℕ) → Numbered (askChecks 𝓓 source sink value flows set)
+unfolding Numbered askChecks valueChecks roomChecks
+ask-numbered 𝓓 source sink value flows set = (omega arith, (omega arith, (omega arith, (omega arith, tt))))
+
+pub commit-numbered : (S : Session) → Numbered (commitChecks S)
+unfolding Numbered commitChecks
+commit-numbered S = (omega arith, tt)

@@ -15,6 +15,7 @@ use Rattle.records.specs.Sheet.{nodesOf, edgesOf}
 use Rattle.pages.specs.Question.{questionIn}
 use Rattle.pages.specs.Page.{answerAt, PageAs}
 use Rattle.sheets.specs.Read.{readChecks}
+use Rattle.sheets.specs.Open.{sheetChecks}
 use Rattle.sheets.specs.Write.{writeChecks}
 use Rattle.sheets.specs.declared.ReadAnswer.the-variants as read
 use Rattle.sheets.specs.declared.WriteAnswer.the-variants as write
@@ -42,6 +43,10 @@ use Rattle.key_text.specs.declared.KeyAnswer.the-variants as key
 use Rattle.practice.specs.Practice.{practiceChecks}
 use Rattle.practice.specs.declared.PracticeAnswer.the-variants as practice
 use Rattle.analyser.specs.Dimacs.{dimacsChecks}
+use Rattle.sessions.specs.Session.{Session, sessionDrawing}
+use Rattle.sessions.specs.Start.{emptied}
+use Rattle.sessions.specs.Ask.{askChecks}
+use Rattle.sessions.specs.Commit.{commitChecks}
 use Rattle.dimacs.specs.declared.DimacsAnswer.the-variants as dimacs
 use Rattle.abi.specs.Read.{TellsRead}
 use Rattle.abi.specs.Write.{TellsWrite}
@@ -58,6 +63,7 @@ use Rattle.abi.specs.Examine.{TellsExamine}
 use Rattle.abi.specs.Key.{TellsKey}
 use Rattle.abi.specs.Practice.{TellsPractice}
 use Rattle.abi.specs.Dimacs.{TellsDimacs}
+use Rattle.abi.specs.Sessions.{TellsStart, TellsAsk, TellsCommit}
 use Rattle.abi.proofs.Numbered.{
   Numbered,
   first-numbered,
@@ -77,6 +83,9 @@ use Rattle.abi.proofs.Numbered.{
   key-numbered,
   practice-numbered,
   dimacs-numbered,
+  sheet-numbered,
+  ask-numbered,
+  commit-numbered,
 }
 
 -- ── what a result says, of any operation with these checks; Same: everything else behind a pointer is as it was ──
@@ -215,3 +224,22 @@ module _ {place place' result : ℕ} where
         → Says (dimacsChecks s source sink text) result place place' ((text' ≡ text) × (length' ≡ length))
     dimacs-says (dimacs.Bytes n, h, t) = says-answer (h .0) (t .0) (t .2)
     dimacs-says (dimacs.Refused k p, h, t) = says-refusal k p (dimacs-numbered s _ _ _) (h .0) (t .0) (t .2) (h .1, t .1)
+
+    -- a refused start leaves the session of no nodes
+    pub start-says : (S S' : Session) → TellsStart s S S' place place' result → Says (sheetChecks s) result place place' (S' ≡ emptied S)
+    start-says S S' (verdict.Passed, h, t) = says-answer (h .0) (t .0) (t .1)
+    start-says S S' (verdict.Refused k p, h, t) = says-refusal k p (sheet-numbered s) (h .0) (t .0) (t .1) (h .1)
+
+  -- ── a session, whatever value it is ──
+  pub ask-says : (S S' : Session) {source sink : ℕ} {value : ℤ} {flows flows' : List ℤ} {set set' : List ℕ} {can can' size size' : ℕ}
+      → TellsAsk S source sink value flows flows' set set' S' can can' size size' place place' result
+      → Says (askChecks (sessionDrawing S) source sink value flows set) result place place'
+      ((S' ≡ S) × (flows' ≡ flows) × (set' ≡ set) × (can' ≡ can) × (size' ≡ size))
+  ask-says S S' (solve.Can, h, t) = says-answer (h .0 .0) (t .0) (t .3)
+  ask-says S S' (solve.Cannot n, h, t) = says-answer (h .0 .0) (t .0) (t .3)
+  ask-says S S' (solve.Refused k p, h, t) =
+      says-refusal k p (ask-numbered (sessionDrawing S) _ _ _ _ _) (h .0 .0) (t .0) (t .3) (h .1, h .0 .1, h .0 .2, t .1, t .2)
+
+  pub commit-says : (S S' : Session) → TellsCommit S S' place place' result → Says (commitChecks S) result place place' (S' ≡ S)
+  commit-says S S' (verdict.Passed, h, t) = says-answer (h .0) (t .0) (t .1)
+  commit-says S S' (verdict.Refused k p, h, t) = says-refusal k p (commit-numbered S) (h .0) (t .0) (t .1) (h .1)

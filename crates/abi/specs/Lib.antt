@@ -13,3 +13,4 @@ pub mod Levels
 pub mod Key
 pub mod Practice
 pub mod Dimacs
+pub mod Sessions

@@ -34,6 +34,7 @@ fn run(
         12 => operations::write_dimacs(s, bytes),
         41 => operations::examine(s, first, second, set, bytes),
         21 => operations::page(s, tails, rotations, first, second, set),
+        31 => operations::session(s, tails, rotations, first, second, set),
         _ => say::say(b": no such operation"),
     }
 }

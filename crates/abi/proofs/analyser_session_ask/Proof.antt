@@ -1,0 +1,117 @@
+-- Each arm of the match has what Ask ensures of its answer, and tells it.
+use mathlib.Core.Path.{_≡_, refl, subst}
+use mathlib.Core.List.{List}
+use Prim.Native.Nat.{ℕ}
+use lib.IntN.{ℤ}
+use borrow.Author.Needs.{needs}
+use Rattle.signed.proofs.Laws.{number-of-bits}
+use Rattle.questions.specs.declared.SolveAnswer.{SolveAnswer}
+use Rattle.questions.specs.declared.SolveAnswer.the-variants.{Can, Cannot, Refused}
+use Rattle.sessions.specs.Session.{Session}
+use Rattle.sessions.specs.Ask.{Asks}
+use Rattle.abi.proofs.analyser_session_ask.Statement.{statement}
+use Rattle.abi.proofs.analyser_session_ask.Tie as tie
+
+abbrev begun : tie.After-ask → tie.Start
+begun c = c .before .before .before .before .before .before
+
+abbrev came : tie.After-ask → Session
+came c =
+    let s = begun c in
+    record {
+      nodes = s .args .nodes;
+      edges = s .args .edges;
+      outer = s .args .outer;
+      offered = s .args .offered .now;
+      tails = s .args .tails .now;
+      rotations = s .args .rotations .now;
+      left = s .args .left .now;
+      offer = s .args .offer .now;
+    }
+
+abbrev left' : tie.After-ask → Session
+left' c =
+    let s = begun c in
+    record {
+      nodes = s .args .nodes;
+      edges = s .args .edges;
+      outer = s .args .outer;
+      offered = c .ask .last .1 .1 .1 .0;
+      tails = s .args .tails .now;
+      rotations = s .args .rotations .now;
+      left = s .args .left .now;
+      offer = c .ask .last .1 .1 .1 .1 .1 .1 .1 .0;
+    }
+
+abbrev flows' : tie.After-ask → List ℤ
+flows' c = c .ask .last .1 .1 .1 .1 .1 .1 .1 .1 .1 .1 .1 .0
+
+abbrev set' : tie.After-ask → List ℕ
+set' c = c .ask .last .1 .1 .1 .1 .1 .1 .1 .1 .1 .1 .1 .1 .0
+
+-- the value that Ask is given is the one that came in
+asked : (c : tie.After-ask) (answer : SolveAnswer) → c .ask .result ≡ answer
+    → Asks (came c) (begun c .args .source) (begun c .args .sink) (begun c .args .value)
+    (begun c .args .flows .now) (flows' c) (begun c .args .set .now) (set' c) (left' c) answer
+asked c answer e =
+    let a = begun c .args in
+    subst (λ v. Asks (came c) (a .source) (a .sink) v (a .flows .now) (flows' c) (a .set .now) (set' c) (left' c) answer)
+    (number-of-bits _ (begun c .fits .value))
+    (subst (Asks (came c) (a .source) (a .sink) _ (a .flows .now) (flows' c) (a .set .now) (set' c) (left' c)) e (c .ask .ensures))
+
+ask-requires : tie.Need-ask-requires
+ask-requires c κs = search needs
+
+enum-told : tie.Need-enum-told
+enum-told c = search needs
+
+enum-known-answer : tie.Need-enum-known-answer
+enum-known-answer c = search needs
+
+enum-known-answer-2 : tie.Need-enum-known-answer-2
+enum-known-answer-2 c = search needs
+
+same-length : tie.Need-same-length
+same-length c = search needs
+
+same-length-2 : tie.Need-same-length-2
+same-length-2 c = search needs
+
+same-length-3 : tie.Need-same-length-3
+same-length-3 c = search needs
+
+same-length-4 : tie.Need-same-length-4
+same-length-4 c = search needs
+
+same-length-5 : tie.Need-same-length-5
+same-length-5 c = search needs
+
+same-length-6 : tie.Need-same-length-6
+same-length-6 c = search needs
+
+returns : tie.Need-returns
+returns c = (Can, asked (c .before .before .before .before .before) Can (c .enum-told .given .1), (refl, refl, refl, refl))
+
+returns-2 : tie.Need-returns-2
+returns-2 c = (Cannot _, asked (c .before .before .before .before .before .before) (Cannot _) (c .before .answer .given .1), (refl, refl, refl, refl))
+
+returns-3 : tie.Need-returns-3
+returns-3 c = (Refused _ _, asked (c .before .before .before .before .before .before) (Refused _ _) (c .before .answer2 .given .1), (refl, refl, refl, refl))
+
+pub analyser-session-ask-spec : {M : Type 1} → statement M
+analyser-session-ask-spec =
+    tie.close
+    (tie.spec
+    ask-requires
+    enum-told
+    enum-known-answer
+    enum-known-answer-2
+    same-length
+    same-length-2
+    returns
+    same-length-3
+    same-length-4
+    returns-2
+    same-length-5
+    same-length-6
+    returns-3)

@@ -1,0 +1,59 @@
+-- Each arm of the match has what Start ensures of its answer, and tells it.
+use mathlib.Core.Path.{_≡_, refl, subst}
+use borrow.Author.Needs.{needs}
+use Rattle.refusals.specs.declared.Verdict.{Verdict}
+use Rattle.refusals.specs.declared.Verdict.the-variants.{Passed, Refused}
+use Rattle.sessions.specs.Session.{Session}
+use Rattle.sessions.specs.Start.{Starts}
+use Rattle.abi.proofs.analyser_session_start.Statement.{statement}
+use Rattle.abi.proofs.analyser_session_start.Tie as tie
+
+abbrev begun : tie.After-start → tie.Start
+begun c = c .before .before .before .before .before .before .before .before .before
+
+abbrev came : tie.After-start → Session
+came c =
+    let s = begun c in
+    record {
+      nodes = s .args .nodes .now;
+      edges = s .args .edges .now;
+      outer = s .args .outer .now;
+      offered = s .args .offered .now;
+      tails = s .args .tails .now;
+      rotations = s .args .rotations .now;
+      left = s .args .left .now;
+      offer = s .args .offer .now;
+    }
+
+abbrev left' : tie.After-start → Session
+left' c = record {
+  nodes = c .start .last .1 .0;
+  edges = c .start .last .1 .1 .0;
+  outer = c .start .last .1 .1 .1 .0;
+  offered = c .start .last .1 .1 .1 .1 .0;
+  tails = c .start .last .1 .1 .1 .1 .1 .0;
+  rotations = c .start .last .1 .1 .1 .1 .1 .1 .0;
+  left = c .start .last .1 .1 .1 .1 .1 .1 .1 .0;
+  offer = begun c .args .offer .now;
+}
+
+started : (c : tie.After-start) (answer : Verdict) → c .start .result ≡ answer → Starts (begun c .args .sheet .now) (came c) (left' c) answer
+started c answer e = subst (Starts (begun c .args .sheet .now) (came c) (left' c)) e (c .start .ensures)
+
+start-requires : tie.Need-start-requires
+start-requires c κs = search needs
+
+enum-told : tie.Need-enum-told
+enum-told c = search needs
+
+enum-known-answer : tie.Need-enum-known-answer
+enum-known-answer c = search needs
+
+returns : tie.Need-returns
+returns c = (Passed, started (c .before .before) Passed (c .enum-told .given .1), (refl, refl))
+
+returns-2 : tie.Need-returns-2
+returns-2 c = (Refused _ _, started (c .before .before .before) (Refused _ _) (c .before .answer .given .1), (refl, refl))
+
+pub analyser-session-start-spec : {M : Type 1} → statement M
+analyser-session-start-spec = tie.close (tie.spec start-requires enum-told enum-known-answer returns returns-2)

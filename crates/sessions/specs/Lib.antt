@@ -1,0 +1,7 @@
+pub mod Session
+pub mod Fit
+pub mod Start
+pub mod Ask
+pub mod Commit
+pub mod Reached
+pub mod Statements
