@@ -345,7 +345,7 @@ be read: then one line on standard error says what is wrong, FILE:LINE: .. for a
 pub fn help(command: Option<&Command>) -> String {
     match command {
         None => {
-            let row = |command: &Command| format!("    {:<53}{}\n", format!("{} {}", command.name, command.words), command.operation);
+            let row = |command: &Command| format!("    {:<57}{}\n", format!("{} {}", command.name, command.words), command.operation);
             let rows: String = COMMANDS.iter().map(row).collect();
             format!("{HEAD}\n{rows}\n{FOOT}")
         }
