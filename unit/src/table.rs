@@ -255,7 +255,6 @@ pub const COMMANDS: &[Command] = &[
                    refused 22 place 0: some limit, forward or back, is below 0\n",
         run: commands::dimacs,
     },
-    #[cfg(has_capture)]
     Command {
         name: "capture",
         operation: "Limits from a capture",
@@ -278,7 +277,6 @@ pub const COMMANDS: &[Command] = &[
                    record 2: largest 17\n",
         run: crate::capture::command,
     },
-    #[cfg(has_session)]
     Command {
         name: "session",
         operation: "A session",
@@ -298,7 +296,6 @@ pub const COMMANDS: &[Command] = &[
                    2 0 4\n",
         run: crate::session::command,
     },
-    #[cfg(has_class)]
     Command {
         name: "class",
         operation: "Examine, the exam desk",
