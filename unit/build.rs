@@ -1,8 +1,7 @@
-//! Links the static library that `rt staticlib abi` writes, and holds the declarations of its functions to include/analyser.h. The command of a module of its
-//! own is built where the header has the module's functions: `cfg(has_capture)` and so on.
+//! Links the static library that `rt staticlib abi` writes, and holds the declarations of its functions to include/analyser.h.
 use std::path::Path;
 
-/// The modules that declare functions. The first is always there.
+/// The modules that declare functions of the library.
 const MODULES: [&str; 4] = ["library", "capture", "class", "session"];
 
 fn main() {
@@ -10,15 +9,9 @@ fn main() {
     link(&top.join("../target/staticlib"));
     let header = prototypes(&read(&top.join("../include/analyser.h")), "\nuint8_t analyser_", from_c);
     for module in MODULES {
-        let own = prototypes(&read(&top.join(format!("src/{module}.rs"))), "    fn analyser_", from_rust);
-        let due: Vec<&Prototype> = own.iter().filter_map(|(name, _)| header.iter().find(|(other, _)| other == name)).collect();
-        assert!(due.len() == own.len() || due.is_empty() && module != MODULES[0], "src/{module}.rs: include/analyser.h has {} of its functions", due.len());
-        println!("cargo:rustc-check-cfg=cfg(has_{module})");
-        if !due.is_empty() {
-            println!("cargo:rustc-cfg=has_{module}");
-            for (own, due) in own.iter().zip(due) {
-                assert_eq!(own, due, "src/{module}.rs declares otherwise than include/analyser.h");
-            }
+        for own in prototypes(&read(&top.join(format!("src/{module}.rs"))), "    fn analyser_", from_rust) {
+            let due = header.iter().find(|(name, _)| *name == own.0);
+            assert_eq!(Some(&own), due, "src/{module}.rs declares otherwise than include/analyser.h");
         }
     }
 }

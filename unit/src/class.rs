@@ -1,5 +1,5 @@
-//! A class of papers (document 02, Job 14). A paper begins with a line `paper`, with or without a name behind it, and has three lines in any order: `settings`
-//! and one number for each channel, `claim` and a number or `none`, `set` and the nodes of a set, which may be none.
+//! A class of papers (document 02, Job 14), one to a line: `NAME: SETTING .. | CLAIM | NODE ..`, with a setting for each channel; the claim is a number or `none`;
+//! the set may have no node. Its points.
 use crate::answer::{number, Answer, Outcome};
 use crate::commands::ends_of;
 use crate::json::Json;
@@ -27,47 +27,25 @@ pub fn read(name: &str, channels: usize) -> Parsed<Vec<Paper>> {
 }
 
 fn parse(file: &File, channels: usize) -> Parsed<Vec<Paper>> {
-    let lines = file.lines()?;
-    let starts: Vec<usize> = (0..lines.len()).filter(|&at| lines[at].words[0] == "paper").collect();
-    if let Some(line) = lines.first().filter(|line| line.words[0] != "paper") {
-        return line.fault("no line 'paper' before it");
-    }
-    let ends = starts.iter().skip(1).copied().chain([lines.len()]);
-    starts.iter().zip(ends).map(|(&start, end)| paper(&lines[start], &lines[start + 1..end], channels)).collect()
+    file.lines()?.iter().map(|line| paper(line, channels)).collect()
 }
 
-fn paper(head: &Line, lines: &[Line], channels: usize) -> Parsed<Paper> {
-    let (mut settings, mut claim, mut set) = (None, None, None);
-    for line in lines {
-        match line.words[0] {
-            "settings" if settings.is_none() => settings = Some(settings_of(line, channels)?),
-            "claim" if claim.is_none() => claim = Some(claim_of(line)?),
-            "set" if set.is_none() => set = Some(nodes_of(line)?),
-            _ => return line.fault("no line 'settings ..', 'claim ..' or 'set ..', or a second one of this paper"),
-        }
+fn paper(line: &Line, channels: usize) -> Parsed<Paper> {
+    let text = line.words.join(" ");
+    let (name, rest) = text.split_once(':').unwrap_or(("", ""));
+    let parts: Vec<Vec<&str>> = rest.split('|').map(|part| part.split_whitespace().collect()).collect();
+    let ([settings, claim, nodes], false) = (&parts[..], name.trim().is_empty()) else { return line.fault("not 'NAME: SETTING .. | CLAIM | NODE ..'") };
+    if settings.len() != channels {
+        return line.fault(format!("here are {} settings, and the sheet has {channels} channels", settings.len()));
     }
-    let (Some(settings), Some(claim), Some(set)) = (settings, claim, set) else {
-        return head.fault("this paper has not all of 'settings ..', 'claim ..' and 'set ..'");
+    let claim = match claim[..] {
+        ["none"] => None,
+        [word] => Some(line.parsed(&CLAIM, word)? as i32),
+        _ => return line.fault("a claim is a number or 'none'"),
     };
-    Ok(Paper { name: head.words[1..].join(" "), settings, claim, set: words_of(&set) })
-}
-
-fn settings_of(line: &Line, channels: usize) -> Parsed<Vec<i32>> {
-    if line.words.len() != channels + 1 {
-        return line.fault(format!("here are {} settings, and the sheet has {channels} channels", line.words.len() - 1));
-    }
-    (1..line.words.len()).map(|at| Ok(line.number(&SETTING, at)? as i32)).collect()
-}
-
-fn claim_of(line: &Line) -> Parsed<Option<i32>> {
-    if line.words[1..] == ["none"] {
-        return Ok(None);
-    }
-    Ok(Some(line.numbers("'claim'", 1, &[CLAIM])?[0] as i32))
-}
-
-fn nodes_of(line: &Line) -> Parsed<Vec<u16>> {
-    (1..line.words.len()).map(|at| Ok(line.number(&NODE, at)? as u16)).collect()
+    let settings = settings.iter().map(|word| Ok(line.parsed(&SETTING, word)? as i32)).collect::<Parsed<Vec<i32>>>()?;
+    let nodes = nodes.iter().map(|word| Ok(line.parsed(&NODE, word)? as u16)).collect::<Parsed<Vec<u16>>>()?;
+    Ok(Paper { name: name.trim().to_string(), settings, claim, set: words_of(&nodes) })
 }
 
 #[rustfmt::skip]
@@ -109,7 +87,7 @@ pub fn command(words: &Words) -> Outcome {
     let drawing = library::read(&sheet.bytes)?;
     let papers = read(words.last(), drawing.channels as usize)?;
     let class = examine(&sheet.bytes, ends_of(&question), question.delivery, &papers, (drawing.nodes as usize).div_ceil(64))?;
-    let names: Vec<String> = papers.iter().enumerate().map(|(at, paper)| if paper.name.is_empty() { at.to_string() } else { paper.name.clone() }).collect();
+    let names: Vec<String> = papers.into_iter().map(|paper| paper.name).collect();
     let lines: String = names.iter().zip(&class.points).map(|(name, points)| format!("paper {name}: {points}\n")).collect();
     let Class { points, papers, sum, least, greatest } = class;
     let figures = if papers == 0 { String::new() } else { format!("least {least}\ngreatest {greatest}\nmean {sum}/{papers}\n") };
@@ -136,23 +114,25 @@ mod tests {
     use crate::text::{file, Fault};
 
     #[test]
-    fn papers_have_settings_a_claim_and_a_set() {
-        let text = "paper Ada L.\nsettings 0 2 4\nclaim 12\nset 0 64\npaper\nset\nclaim none\nsettings 1 -1 0\n";
-        let papers = parse(&file(text), 3).unwrap();
+    fn a_paper_is_a_line() {
+        let papers = parse(&file("# A\nAda L.: 0 2 4 | 12 | 0 64\n\nBen:1 -1 0|none|\n"), 3).unwrap();
         let told =
             |name: &str, settings: &[i32], claim, nodes: &[u16]| Paper { name: name.to_string(), settings: settings.to_vec(), claim, set: words_of(nodes) };
-        assert_eq!(papers, [told("Ada L.", &[0, 2, 4], Some(12), &[0, 64]), told("", &[1, -1, 0], None, &[])]);
+        assert_eq!(papers, [told("Ada L.", &[0, 2, 4], Some(12), &[0, 64]), told("Ben", &[1, -1, 0], None, &[])]);
         assert_eq!(parse(&file("# nobody came\n"), 3), Ok(vec![]));
     }
 
     #[test]
-    fn what_is_missing_is_named() {
+    fn what_is_wrong_is_named() {
         for (text, what) in [
-            ("claim 1\n", "f:1: no line 'paper' before it"),
-            ("paper\nsettings 1 2\n", "f:2: here are 2 settings, and the sheet has 3 channels"),
-            ("paper x\nclaim 1\nset\n", "f:1: this paper has not all of 'settings ..', 'claim ..' and 'set ..'"),
-            ("paper\nclaim 1\nclaim 2\n", "f:3: no line 'settings ..', 'claim ..' or 'set ..', or a second one of this paper"),
-            ("paper\nclaim\n", "f:2: 'claim' has 1 numbers (claim), here are 0"),
+            ("0 2 4 | 12 | 0\n", "f:1: not 'NAME: SETTING .. | CLAIM | NODE ..'"),
+            (": 0 2 4 | 12 | 0\n", "f:1: not 'NAME: SETTING .. | CLAIM | NODE ..'"),
+            ("Ada: 0 2 4 | 12\n", "f:1: not 'NAME: SETTING .. | CLAIM | NODE ..'"),
+            ("#\nAda: 0 2 | 12 | 0\n", "f:2: here are 2 settings, and the sheet has 3 channels"),
+            ("Ada: 0 2 4 | | 0\n", "f:1: a claim is a number or 'none'"),
+            ("Ada: 0 2 4 | some | 0\n", "f:1: claim: 'some' is no number from -2147483648 to 2147483647"),
+            ("Ada: 0 2 x | 1 | 0\n", "f:1: setting: 'x' is no number from -2147483648 to 2147483647"),
+            ("Ada: 0 2 4 | 1 | -1\n", "f:1: node: '-1' is no number from 0 to 65535"),
         ] {
             assert_eq!(parse(&file(text), 3), Err(Fault(what.to_string())), "{text}");
         }

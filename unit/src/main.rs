@@ -1,8 +1,6 @@
 //! Every operation of the unit as a command: `tools/unit --help`. Nothing is decided here: the proved library answers, and this shows it.
 mod answer;
-#[cfg_attr(not(has_capture), allow(dead_code, reason = "the row of the table comes with its operation in the library"))]
 mod capture;
-#[cfg_attr(not(has_class), allow(dead_code, reason = "as capture"))]
 mod class;
 mod commands;
 mod json;
@@ -11,7 +9,6 @@ mod lists;
 mod picture;
 mod progress;
 mod refusals;
-#[cfg_attr(not(has_session), allow(dead_code, reason = "as capture"))]
 mod session;
 mod sheets;
 mod table;

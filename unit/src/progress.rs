@@ -9,7 +9,6 @@ static DONE: AtomicUsize = AtomicUsize::new(0);
 static TOTAL: AtomicUsize = AtomicUsize::new(0);
 
 /// Where work has parts: so many of so many are done.
-#[allow(dead_code, reason = "the first command whose work has parts is capture")]
 pub fn step(done: usize, total: usize) {
     DONE.store(done, Ordering::Relaxed);
     TOTAL.store(total, Ordering::Relaxed);

@@ -255,7 +255,6 @@ pub const COMMANDS: &[Command] = &[
                    refused 22 place 0: some limit, forward or back, is below 0\n",
         run: commands::dimacs,
     },
-    #[cfg(has_capture)]
     Command {
         name: "capture",
         operation: "Limits from a capture",
@@ -278,7 +277,6 @@ pub const COMMANDS: &[Command] = &[
                    record 2: largest 17\n",
         run: crate::capture::command,
     },
-    #[cfg(has_session)]
     Command {
         name: "session",
         operation: "A session",
@@ -298,25 +296,27 @@ pub const COMMANDS: &[Command] = &[
                    2 0 4\n",
         run: crate::session::command,
     },
-    #[cfg(has_class)]
     Command {
         name: "class",
-        operation: "The exam desk",
-        words: "SHEET [HEADGATE OUTFALL DELIVERY] PAPERS",
+        operation: "Examine, the exam desk",
+        words: "SHEET [HEADGATE OUTFALL DELIVERY] CLASS",
         counts: &[2, 5],
         says: "The points of each paper of a class and their sum, least and greatest: 4 if its settings carry the delivery, 3 if its claim is\n\
-               the largest delivery, 3 if its set proves the next one impossible. A paper begins with a line 'paper NAME' and has the lines\n\
-               'settings ..', one for each channel, 'claim NUMBER' or 'claim none', and 'set NODE ..'.",
+               the largest delivery, 3 if its set proves the next one impossible. CLASS has a line for each paper,\n\
+               'NAME: SETTING .. | CLAIM | NODE ..': a setting for each channel, a number or 'none', the nodes of its set.",
         json: "answer class, names, points (both by paper), papers, sum, least, greatest, mean (sum and number); null where there is none",
-        examples:
-            "$ printf 'paper Ada\\nsettings 5 1 0\\nclaim 12\\nset 0\\npaper Ben\\nsettings 5 0 0\\nclaim 12\\nset\\n' | tools/unit class samples/a-6.txt -\n\
-                   paper Ada: 10\n\
-                   paper Ben: 3\n\
-                   papers 2\n\
-                   sum 13\n\
+        examples: "$ tools/unit class samples/a-6.txt samples/a-6.class\n\
+                   paper all right: 10\n\
+                   paper settings of 12: 6\n\
+                   paper other settings of 6: 7\n\
+                   paper above a limit: 3\n\
+                   paper claims none: 7\n\
+                   paper proves nothing: 7\n\
+                   papers 6\n\
+                   sum 40\n\
                    least 3\n\
                    greatest 10\n\
-                   mean 13/2\n",
+                   mean 40/6\n",
         run: crate::class::command,
     },
 ];
@@ -342,7 +342,7 @@ be read: then one line on standard error says what is wrong, FILE:LINE: .. for a
 pub fn help(command: Option<&Command>) -> String {
     match command {
         None => {
-            let row = |command: &Command| format!("    {:<53}{}\n", format!("{} {}", command.name, command.words), command.operation);
+            let row = |command: &Command| format!("    {:<57}{}\n", format!("{} {}", command.name, command.words), command.operation);
             let rows: String = COMMANDS.iter().map(row).collect();
             format!("{HEAD}\n{rows}\n{FOOT}")
         }

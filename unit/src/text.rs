@@ -91,7 +91,12 @@ impl Line<'_> {
     }
 
     pub fn number(&self, field: &Field, at: usize) -> Parsed<i64> {
-        field.number(&self.place, self.words[at])
+        self.parsed(field, self.words[at])
+    }
+
+    /// A word of the line, or a part of one.
+    pub fn parsed(&self, field: &Field, word: &str) -> Parsed<i64> {
+        field.number(&self.place, word)
     }
 }
 
