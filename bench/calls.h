@@ -33,6 +33,23 @@ static void solve(void) {
 static void largest(void) {
     result = analyser_largest(sheet, sheet_length, source, sink, settings, ANALYSER_MAX_CHANNELS, set, ANALYSER_SET_WORDS, &answer, &value, &place);
 }
+// A capture of 256 records, channel by channel and round again, each with the forward limit that the sheet has: Largest on what is found is Largest of the sheet.
+enum { RECORDS = 256 };
+static uint8_t capture[11 * RECORDS];
+static void fill_capture(void) {
+    for (uint32_t i = 0; i < RECORDS; i++) {
+        const uint16_t e = (uint16_t)(i % channels);
+        const uint32_t limit = (uint32_t)limits[2 * e], fields[3] = {i, e, limit};
+        const int at[3] = {1, 5, 7}, wide[3] = {4, 2, 4};
+        capture[11 * i] = 5;
+        for (int f = 0; f < 3; f++)
+            for (int b = 0; b < wide[f]; b++) capture[11 * i + at[f] + b] = (uint8_t)(fields[f] >> (8 * b));
+    }
+}
+static void largest_after(void) {
+    result = analyser_largest_after(sheet, sheet_length, capture, sizeof capture, RECORDS, RECORDS - 1, source, sink, again, ANALYSER_MAX_CHANNELS, settings,
+                                    ANALYSER_MAX_CHANNELS, set, ANALYSER_SET_WORDS, &answer, &value, &place);
+}
 static void range(void) {
     result = analyser_least_and_largest(sheet, sheet_length, source, sink, again, ANALYSER_MAX_CHANNELS, below, ANALYSER_SET_WORDS, settings,
                                         ANALYSER_MAX_CHANNELS, set, ANALYSER_SET_WORDS, &answer, &least, &value, &place);
@@ -191,6 +208,7 @@ static const struct operation {
     {"solve", solve, {NULL, NULL, NULL}, tell_size},
     {"largest", largest, {NULL, NULL, NULL}, tell_value},
     {"range", range, {NULL, NULL, NULL}, tell_value},
+    {"after", largest_after, {read_sheet, fill_capture, NULL}, tell_value},
     {"least", range, {NULL, NULL, NULL}, tell_least},
     {"raise", raise_limit, {read_sheet, solve, choose}, tell_least},
     {"page", page, {fill_page, NULL, NULL}, tell_page},

@@ -3,6 +3,7 @@
 //   solve SHEET SOURCE SINK VALUE      prints: result can size place
 //   largest SHEET SOURCE SINK 0        prints: result found value place
 //   range SHEET SOURCE SINK 0          Least and largest; prints: result found largest place
+//   after SHEET SOURCE SINK 0          Largest after a capture of 256 records that say what the sheet says; prints: result found value place
 //   least SHEET SOURCE SINK 0          the same call; prints: result found least place
 //   raise SHEET SOURCE SINK VALUE      Raise limit of a channel that leaves the set that Solve gives, or of channel 0; prints: result found limit place
 //   page SHEET SOURCE SINK VALUE       20 questions, at the value and the next greater in turn; prints: result same cans place
