@@ -363,6 +363,21 @@ fn say_left(edges: u16, left: &[i32; 1024]) {
     }
 }
 
+// An element of a slice, 0 past its end.
+fn half_at(from: &[u16], i: usize) -> u16 {
+    if i < from.len() {
+        return from[i];
+    }
+    0
+}
+
+fn word_at(from: &[i32], i: usize) -> i32 {
+    if i < from.len() {
+        return from[i];
+    }
+    0
+}
+
 // A session: a start, then a call for each source. 65535 is a commit, any other source asks.
 pub fn session(
     s: &[u8],
@@ -391,8 +406,10 @@ pub fn session(
         &mut left,
         &offer,
     ));
-    let mut i: usize = 0;
-    while i < sources.len() {
+    let mut next: usize = 0;
+    while next < sources.len() {
+        let i = next;
+        next += 1;
         if sources[i] == 65535 {
             say_verdict(sessions::commit(
                 nodes,
@@ -404,26 +421,23 @@ pub fn session(
                 &mut left,
                 &offer,
             ));
-        } else if i < sinks.len() {
-            if i < values.len() {
-                say_solve(sessions::ask(
-                    nodes,
-                    edges,
-                    outer,
-                    &mut offered,
-                    &tails,
-                    &rotations,
-                    &left,
-                    &mut offer,
-                    sources[i],
-                    sinks[i],
-                    values[i],
-                    flows,
-                    set,
-                ));
-            }
+        } else {
+            say_solve(sessions::ask(
+                nodes,
+                edges,
+                outer,
+                &mut offered,
+                &tails,
+                &rotations,
+                &left,
+                &mut offer,
+                sources[i],
+                half_at(sinks, i),
+                word_at(values, i),
+                flows,
+                set,
+            ));
         }
-        i += 1;
     }
     say_left(edges, &left);
 }
