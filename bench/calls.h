@@ -33,7 +33,8 @@ static void solve(void) {
 static void largest(void) {
     result = analyser_largest(sheet, sheet_length, source, sink, settings, ANALYSER_MAX_CHANNELS, set, ANALYSER_SET_WORDS, &answer, &value, &place);
 }
-// A capture of 256 records, channel by channel and round again, each with the forward limit that the sheet has: Largest on what is found is Largest of the sheet.
+// A capture of 256 records, channel by channel and round again, each with the forward limit that the sheet has: Largest on what is found is Largest of the
+// sheet.
 enum { RECORDS = 256 };
 static uint8_t capture[11 * RECORDS];
 static void fill_capture(void) {

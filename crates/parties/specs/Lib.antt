@@ -1,0 +1,4 @@
+pub mod Shared
+pub mod Calls
+pub mod Seen
+pub mod Statements
