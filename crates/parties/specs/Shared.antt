@@ -2,12 +2,12 @@
 -- may commit once until the session is cleared; clearing restores the sheet's limits and removes both offers."
 use Prim.Native.Nat.{ℕ, _*_}
 use mathlib.Core.Bool.{cond}
-use mathlib.Core.List.{List}
+use mathlib.Core.List.{List, []}
 use lib.Dec.{eqb}
 use lib.IntN.{ℤ, _-ℤ_}
 use Rattle.maps.specs.Drawing.{Drawing}
 use Rattle.flows.specs.Settings.{onDarts}
-use Rattle.arrays.specs.At.{atℤ}
+use Rattle.arrays.specs.At.{at, atℤ}
 use Rattle.arrays.specs.Maps.{drawingOf}
 use Rattle.arrays.specs.Filled.{tabulate, filled}
 use Rattle.sessions.specs.Session.{Session, sessionOf}
@@ -36,6 +36,20 @@ pub record Shared : Type 0 where
   pub left : List ℤ
   pub standing : ℕ → ℕ
   pub offer : ℕ → List ℤ
+
+-- the session in the caller's memory: a byte of standing for each party, and an array for each party's offer
+abbrev pub sharedOf : (nodes edges outer : ℕ) (tails rotations : List ℕ) (limits left : List ℤ) (standing : List ℕ) (first second : List ℤ) → Shared
+sharedOf nodes edges outer tails rotations limits left standing first second = record {
+  nodes = nodes;
+  edges = edges;
+  outer = outer;
+  tails = tails;
+  rotations = rotations;
+  limits = limits;
+  left = left;
+  standing = at standing;
+  offer = λ q. cond (eqb q 0) first (cond (eqb q 1) second []);
+}
 
 abbrev pub sharedDrawing : Shared → Drawing
 sharedDrawing S = drawingOf (S .nodes) (S .edges) (S .outer) (S .tails) (S .rotations) (S .left)
