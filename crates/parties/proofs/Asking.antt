@@ -1,16 +1,15 @@
 -- Ask of a party: two checks in front of those of a session's question, and the session after the answer by its case.
 use Prim.Native.Nat.{ℕ, _≤_, _<_}
 use mathlib.Core.Path.{_≡_, refl, sym, _∙_, ap, ap₂, subst, fun-ext}
-use mathlib.Core.Logic.{_⊎_, _≢_, inl, inr}
+use mathlib.Core.Logic.{_≢_, inl, inr}
 use mathlib.Core.Bool.{Bool, true, false, cond}
 use mathlib.Core.List.{List, []}
-use native.Mathlib.Omega.{arith}
 use native.Mathlib.Decide.{ℕ-discrete}
 use lib.Dec.{eqb}
 use lib.ListN.{length, set}
 use lib.Seq.{getD-set-same, getD-set-other}
 use lib.IntN.{ℤ}
-use Rattle.integers.proofs.Tests.{eqb-true, eqb-false, eqb-eq}
+use Rattle.integers.proofs.Tests.{eqb-true, eqb-false}
 use Rattle.refusals.specs.Order.{NoneOf, FirstOf}
 use Rattle.arrays.specs.At.{at, atℤ}
 use Rattle.arrays.specs.Filled.{filled}
@@ -20,7 +19,7 @@ use Rattle.questions.specs.declared.SolveAnswer.{SolveAnswer}
 use Rattle.questions.specs.declared.SolveAnswer.the-variants.{Can, Cannot, Refused}
 use Rattle.sessions.specs.Fit.{OnFit}
 use Rattle.sessions.specs.Ask as ask
-use Rattle.parties.specs.Shared.{idle, offered, committed, Shared, sharedOf, offersOf, sharedDrawing, put}
+use Rattle.parties.specs.Shared.{idle, offered, committed, Shared, offersOf, sharedDrawing, put}
 use Rattle.parties.specs.Calls.{askChecks, afterAsk, Asks}
 
 -- a value put at one place of a function

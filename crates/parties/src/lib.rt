@@ -2,7 +2,7 @@
 // memory that the caller owns: a session's counts and arrays, with the sheet's limits, a byte for each party that says where it stands, and an offer for each.
 ghost use mathlib.Core.Path.{_≡_};
 ghost use mathlib.Core.Bool.{cond};
-ghost use Prim.Native.Nat.{ℕ, _<_, _≤_};
+ghost use Prim.Native.Nat.{_<_, _≤_};
 ghost use lib.Dec.{eqb};
 ghost use lib.ListN.{length};
 ghost use Rattle.arrays.specs.At.{at, atℤ};

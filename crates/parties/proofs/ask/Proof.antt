@@ -1,6 +1,6 @@
 -- A party that is none, or has committed, is refused; else the answer on the limits left is told, and the session after it is by its case.
 use Prim.Native.Nat.{_≤_}
-use mathlib.Core.Path.{_≡_, refl, sym, _∙_, ap}
+use mathlib.Core.Path.{refl, sym, _∙_, ap}
 use mathlib.Core.Logic.{_≢_}
 use native.Mathlib.Omega.{arith}
 use Rattle.signed.proofs.Laws.{number-of-bits}
