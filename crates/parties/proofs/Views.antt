@@ -22,11 +22,11 @@ use Rattle.questions.specs.inner.Named.{SetNamed}
 use Rattle.questions.specs.declared.SolveAnswer.{SolveAnswer}
 use Rattle.questions.specs.declared.SolveAnswer.the-variants.{Can, Cannot, Refused}
 use Rattle.questions.proofs.OneAnswer.{solved-one}
-use Rattle.sessions.specs.Fit.{Fit}
+use Rattle.sessions.specs.Fit.{Fit, OnFit}
 use Rattle.sessions.specs.Ask as ask
 use Rattle.sessions.proofs.Fitting.{fit-plane}
 use Rattle.parties.specs.Shared.{idle, offered, committed, staled, Shared, sharedDrawing, put, loweredBy, flowsOf, letIn, cleared}
-use Rattle.parties.specs.Calls.{askChecks, commitChecks, afterAsk, OnFit, Asks, Commits}
+use Rattle.parties.specs.Calls.{askChecks, commitChecks, afterAsk, Asks, Commits}
 
 pub record View : Type 0 where
   pub nodes : ℕ

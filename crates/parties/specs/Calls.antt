@@ -15,7 +15,7 @@ use Rattle.questions.specs.Solve.{Solved}
 use Rattle.questions.specs.inner.Named.{SetNamed}
 use Rattle.questions.specs.declared.SolveAnswer.{SolveAnswer}
 use Rattle.questions.specs.declared.SolveAnswer.the-variants.{Can, Cannot, Refused}
-use Rattle.sessions.specs.Fit.{Fit, Lowerable}
+use Rattle.sessions.specs.Fit.{Lowerable, OnFit}
 use Rattle.sessions.specs.Ask as ask
 use Rattle.parties.specs.Shared.{idle, offered, stale, committed, Shared, sharedDrawing, alone, put, letIn}
 
@@ -36,12 +36,6 @@ abbrev pub afterAsk : Shared → ℕ → List ℤ → SolveAnswer → Shared
 afterAsk S p flows' Can = put S p offered (filled (S .edges) (atℤ flows') (S .offer p))
 afterAsk S p flows' (Cannot n) = put S p idle (S .offer p)
 afterAsk S p flows' (Refused k q) = S
-
--- what was not refused was asked of a fit drawing
-abbrev pub OnFit : Drawing → SolveAnswer → Type 0
-OnFit 𝓓 Can = Fit 𝓓
-OnFit 𝓓 (Cannot n) = Fit 𝓓
-OnFit 𝓓 (Refused k p) = Unit
 
 -- Ask: Solve's answer on the limits left, the set the one that the search names; then the session after it
 pub record Asks (S : Shared) (p source sink : ℕ) (value : ℤ) (flows flows' : List ℤ) (set set' : List ℕ) (S' : Shared) (r : SolveAnswer) : Type 0 where

@@ -37,6 +37,10 @@ pub record Shared : Type 0 where
   pub standing : ℕ → ℕ
   pub offer : ℕ → List ℤ
 
+-- the offers of the parties 0 and 1
+abbrev pub offersOf : (first second : List ℤ) → ℕ → List ℤ
+offersOf first second q = cond (eqb q 0) first (cond (eqb q 1) second [])
+
 -- the session in the caller's memory: a byte of standing for each party, and an array for each party's offer
 abbrev pub sharedOf : (nodes edges outer : ℕ) (tails rotations : List ℕ) (limits left : List ℤ) (standing : List ℕ) (first second : List ℤ) → Shared
 sharedOf nodes edges outer tails rotations limits left standing first second = record {
@@ -48,7 +52,7 @@ sharedOf nodes edges outer tails rotations limits left standing first second = r
   limits = limits;
   left = left;
   standing = at standing;
-  offer = λ q. cond (eqb q 0) first (cond (eqb q 1) second []);
+  offer = offersOf first second;
 }
 
 abbrev pub sharedDrawing : Shared → Drawing

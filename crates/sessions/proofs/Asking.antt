@@ -22,10 +22,11 @@ use Rattle.arrays.specs.Maps.{drawingOf}
 use Rattle.rotations.specs.MapChecks.{mapChecks, MapJudged}
 use Rattle.questions.specs.Question.{endChecks, valueChecks, roomChecks}
 use Rattle.questions.specs.Solve.{questionChecks, Solved}
+use Rattle.questions.specs.inner.Named.{SetNamed}
 use Rattle.questions.specs.declared.SolveAnswer.{SolveAnswer}
 use Rattle.questions.specs.declared.SolveAnswer.the-variants.{Can, Cannot, Refused}
 use Rattle.sessions.specs.Session.{Session, sessionDrawing, offering}
-use Rattle.sessions.specs.Fit.{Fit}
+use Rattle.sessions.specs.Fit.{Fit, OnFit}
 use Rattle.sessions.specs.Ask.{askChecks, afterAsk}
 
 module _ (𝓓 : Drawing) (source sink : ℕ) (value : ℤ) (flows : List ℤ) (set : List ℕ) where
@@ -90,6 +91,17 @@ answered 𝓓 𝓔 e fit source sink {v} {value} q flows flows' set set' r h =
     subst (λ w. Solved 𝓔 (askChecks 𝓔 source sink w flows set) source sink w flows flows' set set' r) q
     (subst (λ 𝓕. Solved 𝓕 (askChecks 𝓕 source sink v flows set) source sink v flows flows' set set' r) e
     (solved-same 𝓓 _ _ (same-sym _ _ (fit-same 𝓓 source sink v flows set fit)) source sink v flows flows' set set' r h))
+
+-- the set that the search names, said of the session's drawing; and that this is fit
+pub named-answered : (𝓓 𝓔 : Drawing) → 𝓓 ≡ 𝓔 → (source sink : ℕ) {v value : ℤ} → v ≡ value → (set' : List ℕ) (r : SolveAnswer)
+    → SetNamed 𝓓 source sink v set' r → SetNamed 𝓔 source sink value set' r
+named-answered 𝓓 𝓔 e source sink {v} q set' r h =
+    subst (λ w. SetNamed 𝓔 source sink w set' r) q (subst (λ 𝓕. SetNamed 𝓕 source sink v set' r) e h)
+
+pub fit-answered : (𝓓 𝓔 : Drawing) → 𝓓 ≡ 𝓔 → Fit 𝓓 → (r : SolveAnswer) → OnFit 𝓔 r
+fit-answered 𝓓 𝓔 e fit Can = subst Fit e fit
+fit-answered 𝓓 𝓔 e fit (Cannot n) = subst Fit e fit
+fit-answered 𝓓 𝓔 e fit (Refused k p) = tt
 
 pub unfit-answered : (𝓓 𝓔 : Drawing) → 𝓓 ≡ 𝓔 → (Fit 𝓓 → ⊥) → (source sink : ℕ) (value : ℤ) (flows : List ℤ) (set : List ℕ)
     → FirstOf (askChecks 𝓔 source sink value flows set) 13 0

@@ -10,6 +10,8 @@ use Rattle.maps.specs.Check.{InRange}
 use Rattle.flows.specs.Settings.{Within}
 use Rattle.arrays.specs.At.{atℤ}
 use Rattle.rotations.specs.MapChecks.{mapChecks}
+use Rattle.questions.specs.declared.SolveAnswer.{SolveAnswer}
+use Rattle.questions.specs.declared.SolveAnswer.the-variants.{Can, Cannot, Refused}
 use Rattle.sessions.specs.Session.{Session, sessionMap}
 
 -- an edge's two limits left: "Limits left may reach 2,000,000", and they do not add to less than zero
@@ -31,6 +33,12 @@ pub record InBounds (𝓓 : Drawing) : Type 0 where
 pub record Fit (𝓓 : Drawing) : Type 0 where
   pub bounds : InBounds 𝓓
   pub passes : NoneOf (mapChecks (𝓓 .map))
+
+-- what was not refused was asked of a fit drawing
+abbrev pub OnFit : Drawing → SolveAnswer → Type 0
+OnFit 𝓓 Can = Fit 𝓓
+OnFit 𝓓 (Cannot n) = Fit 𝓓
+OnFit 𝓓 (Refused k p) = Unit
 
 -- the limits left can be lowered by the offer: it keeps within them
 pub record Lowerable (S : Session) : Type 0 where

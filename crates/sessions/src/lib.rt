@@ -16,8 +16,9 @@ ghost use Rattle.arrays.specs.At.{at, atℤ};
 ghost use Rattle.arrays.specs.Maps.{mapOf, drawingOf};
 ghost use Rattle.arrays.specs.Filled.{filled};
 ghost use Rattle.questions.specs.Solve.{Solved};
+ghost use Rattle.questions.specs.inner.Named.{SetNamed};
 ghost use Rattle.sessions.specs.Session.{sessionOf};
-ghost use Rattle.sessions.specs.Fit.{PairFits, LimitsFit, InBounds};
+ghost use Rattle.sessions.specs.Fit.{PairFits, LimitsFit, InBounds, OnFit};
 ghost use Rattle.sessions.specs.Start.{Starts};
 ghost use Rattle.sessions.specs.Ask.{askChecks, Asks};
 ghost use Rattle.sessions.specs.Commit.{Commits};
@@ -123,7 +124,7 @@ fn in_bounds<'a>(
 }
 
 // Solve's answer on the limits left. A value that is no session is answered 13.
-fn answer_left<'a>(
+pub fn answer_left<'a>(
     nodes: u16,
     edges: u16,
     outer: u16,
@@ -139,7 +140,9 @@ fn answer_left<'a>(
     ensures { λ r. ⌜ Solved (drawingOf nodes edges outer (now (tails .entry)) (now (rotations .entry)) (now (left .entry)))
         (askChecks (drawingOf nodes edges outer (now (tails .entry)) (now (rotations .entry)) (now (left .entry))) source sink value
         (now (flows .entry)) (now (set .entry)))
-        source sink value (now (flows .entry)) (now (flows .exit)) (now (set .entry)) (now (set .exit)) r ⌝ }
+        source sink value (now (flows .entry)) (now (flows .exit)) (now (set .entry)) (now (set .exit)) r
+        × SetNamed (drawingOf nodes edges outer (now (tails .entry)) (now (rotations .entry)) (now (left .entry))) source sink value (now (set .exit)) r
+        × OnFit (drawingOf nodes edges outer (now (tails .entry)) (now (rotations .entry)) (now (left .entry))) r ⌝ }
 {
     let n = wide(nodes);
     let m = wide(edges);
@@ -194,7 +197,7 @@ fn answer_left<'a>(
 }
 
 // The first elements of a slice of flows, into the offer.
-fn keep(flows: &[i32], edges: usize, offer: &mut [i32])
+pub fn keep(flows: &[i32], edges: usize, offer: &mut [i32])
     requires { ⌜ (edges ≤ length (now flows)) × (edges ≤ length (now offer)) ⌝ }
     ensures { λ _. ⌜ now (offer .exit) ≡ filled edges (atℤ (now (flows .entry))) (now (offer .entry)) ⌝ }
 {

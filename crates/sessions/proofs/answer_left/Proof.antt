@@ -14,7 +14,17 @@ use Rattle.rotations.specs.MapChecks.{mapChecks}
 use Rattle.sheets.proofs.Opening.{if-passed}
 use Rattle.sessions.specs.Fit.{InBounds, Fit}
 use Rattle.sessions.proofs.Fitting.{fit-drawn}
-use Rattle.sessions.proofs.Asking.{drawings-same, answered, unfit-answered, map-refused, map-passed, unless-taken, unless-left}
+use Rattle.sessions.proofs.Asking.{
+  drawings-same,
+  answered,
+  named-answered,
+  fit-answered,
+  unfit-answered,
+  map-refused,
+  map-passed,
+  unless-taken,
+  unless-left,
+}
 use borrow.Author.Needs.{needs}
 use Rattle.sessions.proofs.answer_left.Statement.{statement}
 use Rattle.sessions.proofs.answer_left.Tie as tie
@@ -53,10 +63,14 @@ same c =
 returns : tie.Need-returns
 returns c =
     let b = c .before in (
-      unfit-answered (held b) (given b) (same b) (λ f. said-no (b .in-bounds .ensures) (unless-taken (b .in-bounds .result) (c .if1 .taken)) (f .bounds)) _ _
-          _ _ _,
-      refl,
-      refl,
+      (
+        unfit-answered (held b) (given b) (same b) (λ f. said-no (b .in-bounds .ensures) (unless-taken (b .in-bounds .result) (c .if1 .taken)) (f .bounds)) _ _
+            _ _ _,
+        refl,
+        refl,
+      ),
+      tt,
+      tt,
     )
 
 -- ── in bounds ──
@@ -78,7 +92,8 @@ returns-2 : tie.Need-returns-2
 returns-2 c =
     let m = c .before .before .before in
     let b = within (m) .before in
-    (unfit-answered (held b) (given b) (same b) (map-refused (held b) _ _ _ _ (c .before .verdict .given .1) (m .check-map .ensures .6)) _ _ _ _ _, refl, refl)
+    let r = map-refused (held b) _ _ _ _ (c .before .verdict .given .1) (m .check-map .ensures .6) in
+    ((unfit-answered (held b) (given b) (same b) r _ _ _ _ _, refl, refl), tt, tt)
 
 enum-told : tie.Need-enum-told
 enum-told c = search needs
@@ -116,8 +131,11 @@ returns-3 c =
     let t = k .before .before .before .before .before .before .before .before .before in
     let b = within (t .before .before) .before in
     let s = begun b in
-    answered (held b) (given b) (same b) (fit t) (s .args .source) (s .args .sink) (number-of-bits _ (s .fits .value)) _ _ _ _ (k .solve .result)
-    (k .solve .ensures .0)
+    let q = number-of-bits _ (s .fits .value) in (
+      answered (held b) (given b) (same b) (fit t) (s .args .source) (s .args .sink) q _ _ _ _ (k .solve .result) (k .solve .ensures .0),
+      named-answered (held b) (given b) (same b) (s .args .source) (s .args .sink) q _ (k .solve .result) (k .solve .ensures .1),
+      fit-answered (held b) (given b) (same b) (fit t) (k .solve .result),
+    )
 
 pub answer-left-spec : {M : Type 1} → statement M
 answer-left-spec =

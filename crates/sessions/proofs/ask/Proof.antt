@@ -56,7 +56,7 @@ can c =
     let s = begun k in
     told-as (session s) (s .args .source) (s .args .sink) (number-of-bits _ (s .fits .value)) (s .args .flows .now)
     (k .answer-left .last .1 .1 .1 .1 .1 .1 .1 .1 .1 .0)
-    (s .args .set .now) (k .answer-left .last .1 .1 .1 .1 .1 .1 .1 .1 .1 .1 .0) (c .enum-told .given .1) (k .answer-left .ensures)
+    (s .args .set .now) (k .answer-left .last .1 .1 .1 .1 .1 .1 .1 .1 .1 .1 .0) (c .enum-told .given .1) (k .answer-left .ensures .0)
 
 keep-requires : tie.Need-keep-requires
 keep-requires c κs =
@@ -99,7 +99,7 @@ returns-2 : tie.Need-returns-2
 returns-2 c =
     let k = answer (c .before .before .before) in
     let s = begun k in
-    (told-as (session s) _ _ (number-of-bits _ (s .fits .value)) _ _ _ _ (c .before .answer .given .1) (k .answer-left .ensures), refl)
+    (told-as (session s) _ _ (number-of-bits _ (s .fits .value)) _ _ _ _ (c .before .answer .given .1) (k .answer-left .ensures .0), refl)
 
 same-length-5 : tie.Need-same-length-5
 same-length-5 c = search needs
@@ -111,7 +111,7 @@ returns-3 : tie.Need-returns-3
 returns-3 c =
     let k = answer (c .before .before .before) in
     let s = begun k in
-    (told-as (session s) _ _ (number-of-bits _ (s .fits .value)) _ _ _ _ (c .before .answer2 .given .1) (k .answer-left .ensures), refl)
+    (told-as (session s) _ _ (number-of-bits _ (s .fits .value)) _ _ _ _ (c .before .answer2 .given .1) (k .answer-left .ensures .0), refl)
 
 pub ask-spec : {M : Type 1} → statement M
 ask-spec =
