@@ -80,7 +80,8 @@ pub after-commit : (S : Shared) (p : ℕ) (left' : List ℤ) (standing' : ℕ �
     → ((q : ℕ) → standing' q ≡ cond (eqb q p) committed (staled (S .standing q))) → at-standing S left' standing' ≡ letIn S p
 after-commit S p left' standing' h g = ap₂ (at-standing S) h (fun-ext g)
 
-pub after-clear : (S : Shared) (left' : List ℤ) (standing' : ℕ → ℕ) → left' ≡ S .limits → ((q : ℕ) → standing' q ≡ 0) → at-standing S left' standing' ≡ cleared S
+pub after-clear : (S : Shared) (left' : List ℤ) (standing' : ℕ → ℕ) → left' ≡ S .limits → ((q : ℕ) → standing' q ≡ 0)
+    → at-standing S left' standing' ≡ cleared S
 after-clear S left' standing' h g = ap₂ (at-standing S) h (fun-ext g)
 
 -- ── the two parties' places ──
