@@ -2,3 +2,4 @@ pub mod Shared
 pub mod Calls
 pub mod Seen
 pub mod Statements
+pub mod inner

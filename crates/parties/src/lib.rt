@@ -1,16 +1,19 @@
-// Two parties on one session (document 02, Job 12): what each call promises, that a party's answers follow from what it sees, and Ask. A shared session lies in
-// memory that the caller owns: a session's counts and arrays, with the sheet's limits, a byte for each party that says where it stands, and an offer for each.
+// Two parties on one session (document 02, Job 12): Ask, Commit and Clear, and that a party's answers follow from what it sees. A shared session lies in memory
+// that the caller owns: a session's counts and arrays, with the sheet's limits, a byte for each party that says where it stands, and an offer for each. Every
+// call takes any value as one.
 ghost use mathlib.Core.Path.{_≡_};
 ghost use mathlib.Core.Bool.{cond};
-ghost use Prim.Native.Nat.{_<_, _≤_};
+ghost use Prim.Native.Nat.{ℕ, _<_, _≤_};
 ghost use lib.Dec.{eqb};
 ghost use lib.ListN.{length};
 ghost use Rattle.arrays.specs.At.{at, atℤ};
 ghost use Rattle.arrays.specs.Filled.{filled};
-ghost use Rattle.parties.specs.Shared.{offersOf, sharedOf};
-ghost use Rattle.parties.specs.Calls.{Asks};
+ghost use Rattle.parties.specs.Shared.{committed, staled, offersOf, sharedOf, cleared};
+ghost use Rattle.parties.specs.Calls.{Asks, Commits};
+ghost use Rattle.parties.specs.inner.Taken.{Taken};
 use arrays::wide;
 use questions::SolveAnswer;
+use refusals::Verdict;
 
 // Where a party stands from now on.
 fn stand(standing: &mut [u8], party: usize, place: u8)
@@ -93,4 +96,141 @@ pub fn ask<'a>(
         }
         SolveAnswer::Refused(k, q) => SolveAnswer::Refused(k, q),
     }
+}
+
+// Lowers the limits left by the offer, where they can be: answers whether.
+fn take(edges: u16, left: &mut [i32; 1024], offer: &[i32; 512]) -> bool
+    ensures { λ r. ⌜ Taken edges (now (left .entry)) (now (offer .entry)) (now (left .exit)) r ⌝ }
+{
+    let m = wide(edges);
+    if sessions::lowerable(&*left, offer, m) {
+        sessions::lower(left, offer, m);
+        return true;
+    }
+    false
+}
+
+// The same by a party's offer: the first array is party 0's.
+fn take_of(
+    party: u16,
+    edges: u16,
+    left: &mut [i32; 1024],
+    first: &[i32; 512],
+    second: &[i32; 512],
+) -> bool
+    ensures { λ r. ⌜ Taken edges (now (left .entry)) (cond (eqb party 0) (now (first .entry)) (now (second .entry))) (now (left .exit)) r ⌝ }
+{
+    if party == 0 {
+        return take(edges, left, first);
+    }
+    take(edges, left, second)
+}
+
+// Where a party stands after another's commit: an offer is stale then, all else is as it was.
+fn staled_by(stands: u8) -> u8
+    ensures { λ r. ⌜ r ≡ staled stands ⌝ }
+{
+    if stands == 1 {
+        return 2;
+    }
+    stands
+}
+
+// Where both stand after a party's commit.
+fn stand_committed(party: u16, standing: &mut [u8])
+    requires { ⌜ (party < 2) × (length (now standing) ≡ 2) ⌝ }
+    ensures { λ _. ⌜ (length (now (standing .exit)) ≡ 2)
+        × ((q : ℕ) → at (now (standing .exit)) q ≡ cond (eqb q party) committed (staled (at (now (standing .entry)) q))) ⌝ }
+{
+    if party == 0 {
+        standing[0] = 3;
+        standing[1] = staled_by(standing[1]);
+    } else {
+        standing[0] = staled_by(standing[0]);
+        standing[1] = 3;
+    }
+}
+
+// Commit: takes the party's offer and lowers the limits left by it; the other's offer is stale from then on. The count of nodes, the outer dart, the arrays of
+// the drawing and the sheet's limits are named by the contract only.
+pub fn commit<'a>(
+    party: u16,
+    nodes: u16,
+    edges: u16,
+    outer: u16,
+    tails: &'a [u16; 1024],
+    rotations: &'a [u16; 1024],
+    limits: &[i32; 1024],
+    left: &mut [i32; 1024],
+    standing: &mut [u8; 2],
+    first: &[i32; 512],
+    second: &[i32; 512],
+) -> Verdict
+    ensures { λ r. ⌜ Commits
+        (sharedOf nodes edges outer (now (tails .entry)) (now (rotations .entry)) (now (limits .entry)) (now (left .entry))
+        (now (standing .entry)) (now (first .entry)) (now (second .entry)))
+        party
+        (sharedOf nodes edges outer (now (tails .entry)) (now (rotations .entry)) (now (limits .entry)) (now (left .exit))
+        (now (standing .exit)) (now (first .entry)) (now (second .entry))) r ⌝ }
+{
+    if party >= 2 {
+        return Verdict::Refused(29, 0);
+    }
+    let stands = standing[wide(party)];
+    if stands == 3 {
+        return Verdict::Refused(30, 0);
+    }
+    if stands == 2 {
+        return Verdict::Refused(31, 0);
+    }
+    if stands != 1 {
+        return Verdict::Refused(28, 0);
+    }
+    if take_of(party, edges, left, first, second) {
+        stand_committed(party, standing);
+        return Verdict::Passed;
+    }
+    Verdict::Refused(31, 0)
+}
+
+// All limits of the sheet are left.
+fn restore(limits: &[i32], left: &mut [i32])
+    requires { ⌜ (length (now limits) ≡ 1024) × (length (now left) ≡ 1024) ⌝ }
+    ensures { λ _. ⌜ now (left .exit) ≡ now (limits .entry) ⌝ }
+{
+    for d in 0..1024usize {
+        left[d] = limits[d];
+    }
+}
+
+// Neither party has an offer or has committed.
+fn stand_idle(standing: &mut [u8])
+    requires { ⌜ length (now standing) ≡ 2 ⌝ }
+    ensures { λ _. ⌜ (length (now (standing .exit)) ≡ 2) × ((q : ℕ) → at (now (standing .exit)) q ≡ 0) ⌝ }
+{
+    standing[0] = 0;
+    standing[1] = 0;
+}
+
+// Clear: the sheet's limits are left again, and neither party has an offer or has committed. Never refused. The counts, the outer dart, the arrays of the
+// drawing and those of the offers are named by the contract only.
+pub fn clear<'a>(
+    nodes: u16,
+    edges: u16,
+    outer: u16,
+    tails: &'a [u16; 1024],
+    rotations: &'a [u16; 1024],
+    limits: &[i32; 1024],
+    left: &mut [i32; 1024],
+    standing: &mut [u8; 2],
+    first: &[i32; 512],
+    second: &[i32; 512],
+)
+    ensures { λ _. ⌜ sharedOf nodes edges outer (now (tails .entry)) (now (rotations .entry)) (now (limits .entry)) (now (left .exit))
+        (now (standing .exit)) (now (first .entry)) (now (second .entry))
+        ≡ cleared (sharedOf nodes edges outer (now (tails .entry)) (now (rotations .entry)) (now (limits .entry)) (now (left .entry))
+        (now (standing .entry)) (now (first .entry)) (now (second .entry))) ⌝ }
+{
+    restore(limits, left);
+    stand_idle(standing);
 }

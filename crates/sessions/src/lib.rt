@@ -220,7 +220,7 @@ fn lowered_by(limit: i32, flow: i32, dart: usize) -> i32
 }
 
 // Lowers each dart's limit left once, by its own flow.
-fn lower(left: &mut [i32], offer: &[i32; 512], edges: usize)
+pub fn lower(left: &mut [i32], offer: &[i32; 512], edges: usize)
     requires { ⌜ (length (now left) ≡ 1024) × (edges ≤ 512)
         × ((d : ℕ) → d < 2 * edges → SFits w32 (atℤ (now left) d -ℤ onDarts (atℤ (now offer)) d)) ⌝ }
     ensures { λ _. ⌜ (length (now (left .exit)) ≡ 1024)
@@ -327,7 +327,7 @@ pub fn ask<'a>(
 }
 
 // Whether the limits left can be lowered by the offer: it keeps within them.
-fn lowerable(left: &[i32; 1024], offer: &[i32], edges: usize) -> bool
+pub fn lowerable(left: &[i32; 1024], offer: &[i32], edges: usize) -> bool
     requires { ⌜ 512 ≤ length (now offer) ⌝ }
     ensures { λ r. ⌜ Decides ((edges ≤ 512) × LimitsFit edges (atℤ (now (left .entry)))
         × NoneOf (withinChecks edges (atℤ (now (left .entry))) (atℤ (now (offer .entry))))) r ⌝ }
