@@ -1,7 +1,7 @@
 //! A capture of the recorder (document 02, Job 10): as its bytes, or as text with a line `TICK CHANNEL LIMIT` for each record. The limits after a record, and
 //! Largest on them.
 use crate::answer::{number, refusal_json, Answer, Outcome};
-use crate::commands::{ends_of, extreme_text, extreme_view, none, set_json, spaced};
+use crate::commands::{ends_of, largest_of, none, spaced};
 use crate::json::Json;
 use crate::library::{settings_room, told, written, Ends, Extreme, Found, Refusal, Told, SET_WORDS};
 use crate::progress;
@@ -78,17 +78,7 @@ fn one(sheet: &[u8], ends: Ends, limits: &[i32], found: Found<Extreme>) -> Outco
     let told = ("limits", Json::numbers(limits));
     let mut answer = match found {
         Found::None(set) => none(sheet, ends, &set)?,
-        Found::Some(found) => Answer {
-            text: extreme_text("largest", &found),
-            json: vec![
-                ("answer", "largest".into()),
-                ("largest", number(found.value)),
-                ("settings", Json::numbers(&found.settings)),
-                ("set", set_json(&found.set)),
-            ],
-            views: vec![extreme_view(sheet, ends, "largest", &found)?],
-            ..Answer::default()
-        },
+        Found::Some(found) => largest_of(sheet, ends, &found)?,
     };
     answer.text = format!("{}\n{}", spaced("limits", limits), answer.text);
     answer.json.insert(1, told);

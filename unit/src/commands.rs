@@ -139,22 +139,27 @@ pub fn extreme_text(name: &str, found: &library::Extreme) -> String {
     format!("{name} {}\n{}{}", found.value, listed(&found.settings), set_line(&found.set))
 }
 
+/// What Largest found, of the sheet or of the limits from a capture.
+pub fn largest_of(sheet: &[u8], ends: Ends, found: &library::Extreme) -> Outcome {
+    Ok(Answer {
+        text: extreme_text("largest", found),
+        json: vec![
+            ("answer", "largest".into()),
+            ("largest", number(found.value)),
+            ("settings", Json::numbers(&found.settings)),
+            ("set", set_json(&found.set)),
+        ],
+        views: vec![extreme_view(sheet, ends, "largest", found)?],
+        ..Answer::default()
+    })
+}
+
 pub fn largest(words: &Words) -> Outcome {
     let (sheet, question) = words.question(0)?;
     let ends = ends_of(&question);
     match library::largest(&sheet.bytes, ends)? {
         Found::None(set) => none(&sheet.bytes, ends, &set),
-        Found::Some(found) => Ok(Answer {
-            text: extreme_text("largest", &found),
-            json: vec![
-                ("answer", "largest".into()),
-                ("largest", number(found.value)),
-                ("settings", Json::numbers(&found.settings)),
-                ("set", set_json(&found.set)),
-            ],
-            views: vec![extreme_view(&sheet.bytes, ends, "largest", &found)?],
-            ..Answer::default()
-        }),
+        Found::Some(found) => largest_of(&sheet.bytes, ends, &found),
     }
 }
 
