@@ -99,7 +99,8 @@ module _ (s : List ℕ) (many : ℕ) (question : ℕ → Question) (flows flows'
       (stretch (wordsFor (nodesOf s)) i sets) (stretch (wordsFor (nodesOf s)) i sets') (answerAt page i)) asked
       (as-passed .2 i below, named passed i below)
 
-  line-roomy : (k p : ℕ) → FirstOf (roomChecks (nodesOf s) (edgesOf s) (length (stretch (edgesOf s) i flows)) (length (stretch (wordsFor (nodesOf s)) i sets))) k p
+  line-roomy : (k p : ℕ)
+      → FirstOf (roomChecks (nodesOf s) (edgesOf s) (length (stretch (edgesOf s) i flows)) (length (stretch (wordsFor (nodesOf s)) i sets))) k p
       → answerAt page i ≢ Refused k p
   line-roomy k p first e = first-none _ k p first (stretch-room (as-passed .0))
 
