@@ -1,8 +1,8 @@
 -- The place rises to the end of the array.
 use Prim.Native.Nat.{_≤_, _-_}
 use borrow.Author.Needs.{needs}
-use Rattle.cases.proofs.operations.say_left.Statement.{statement}
-use Rattle.cases.proofs.operations.say_left.Tie as tie
+use Rattle.cases.proofs.session.say_left.Statement.{statement}
+use Rattle.cases.proofs.session.say_left.Tie as tie
 
 abbrev Inv-loop : tie.InvT-loop
 Inv-loop edges left m d₀ d = d ≤ 1024
