@@ -18,10 +18,12 @@ mod grid;
 mod grow;
 mod judge;
 mod levels;
+mod pairs;
 #[cfg(test)]
 mod paper;
 mod program;
 mod progress;
+mod session_faults;
 mod sessions;
 mod unit;
 
