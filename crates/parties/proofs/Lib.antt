@@ -1,4 +1,5 @@
--- Two parties: Commit and Clear; a call of a party is answered by what it sees, in one way, so two runs that show it the same give it the same.
+-- Two parties: Start, Ask, Commit and Clear; a call of a party is answered by what it sees, in one way, so two runs that show it the same give it the same.
+pub mod Zeros
 pub mod Views
 pub mod Isolation
 pub mod Asking

@@ -1,4 +1,5 @@
 pub mod Shared
+pub mod Start
 pub mod Calls
 pub mod Seen
 pub mod Statements
