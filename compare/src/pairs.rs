@@ -63,6 +63,9 @@ impl Player<'_> {
     }
 
     fn event(&mut self, watched: u16, table: &Table) -> Event {
+        if table.model.has_committed(watched) && self.chance.one_in(3) {
+            return Event::Clear; // it could not ask before one
+        }
         let of = match self.chance.below(10) {
             0 => return Event::Clear,
             1..=3 => match self.deliverable(1 - watched, table) {
