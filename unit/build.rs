@@ -7,7 +7,8 @@ const MODULES: [&str; 4] = ["library", "capture", "class", "session"];
 fn main() {
     let top = Path::new(env!("CARGO_MANIFEST_DIR"));
     link(&top.join("../target/staticlib"));
-    let header = prototypes(&read(&top.join("../include/analyser.h")), "\nuint8_t analyser_", from_c);
+    let text = read(&top.join("../include/analyser.h"));
+    let header: Vec<Prototype> = ["\nuint8_t analyser_", "\nvoid analyser_"].iter().flat_map(|start| prototypes(&text, start, from_c)).collect();
     for module in MODULES {
         for own in prototypes(&read(&top.join(format!("src/{module}.rs"))), "    fn analyser_", from_rust) {
             let due = header.iter().find(|(name, _)| *name == own.0);
