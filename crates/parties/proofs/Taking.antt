@@ -25,7 +25,7 @@ use Rattle.parties.specs.Calls.{commitChecks}
 use Rattle.parties.specs.inner.Taken.{Tested, Taken}
 
 -- the flows of the edges alone lower as the whole array does
-edge-flow : (edges : ℕ) (xs : List ℤ) (d : ℕ) → d < 2 * edges → onDarts (atℤ xs) d ≡ onDarts (atℤ (tabulate edges (atℤ xs))) d
+pub edge-flow : (edges : ℕ) (xs : List ℤ) (d : ℕ) → d < 2 * edges → onDarts (atℤ xs) d ≡ onDarts (atℤ (tabulate edges (atℤ xs))) d
 unfolding onDarts
 edge-flow edges xs d l = ap (λ x. cond (eqb (d % 2) 0) x (negℤ x)) (sym (getD-tabulate edges (d / 2) (atℤ xs) _ (omega arith)))
 
