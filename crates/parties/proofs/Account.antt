@@ -2,7 +2,6 @@
 -- add up to the sheet's limit; an offer that is not stale keeps within the limits left; once something is let in no limit left is below zero.
 use Prim.Native.Nat.{ℕ, _+_, _*_, _<_}
 use mathlib.Core.Path.{_≡_, refl, sym, _∙_, ap, subst}
-use mathlib.Core.Logic.{_≢_}
 use mathlib.Core.Bool.{Bool, true, false, cond}
 use mathlib.Core.List.{List, [], _∷_}
 use native.Mathlib.Omega.{arith}
@@ -15,7 +14,7 @@ use Rattle.integers.proofs.Omega.{atoms₁, atoms₂, atoms₃, atoms₄, atoms
 use Rattle.integers.proofs.Tests.{eqb-true, eqb-false}
 use Rattle.refusals.specs.Order.{NoneOf}
 use Rattle.maps.specs.Dart.{rev}
-use Rattle.maps.specs.Map.{Map, darts}
+use Rattle.maps.specs.Map.{Map}
 use Rattle.maps.specs.Drawing.{Drawing}
 use Rattle.maps.proofs.Darts.{rev-in, rev-even}
 use Rattle.flows.specs.Settings.{onDarts, Within}
@@ -23,7 +22,7 @@ use Rattle.flows.proofs.Agreement.{within-agrees}
 use Rattle.arrays.specs.At.{at, atℤ}
 use Rattle.arrays.specs.Filled.{filled}
 use Rattle.arrays.proofs.FillLoops.{filled-front}
-use Rattle.records.specs.Sheet.{nodesOf, edgesOf, outerOf, capacityOf, sheetMap}
+use Rattle.records.specs.Sheet.{edgesOf, outerOf, capacityOf, sheetMap}
 use Rattle.records.proofs.Bytes.{bytes-range, bytes-pairs}
 use Rattle.sheets.specs.Open.{sheetChecks}
 use Rattle.sheets.proofs.Accepted.{sheet-bytes, sheet-map, sheet-counts, sheet-outer}
@@ -32,7 +31,7 @@ use Rattle.questions.specs.declared.SolveAnswer.{SolveAnswer}
 use Rattle.questions.specs.declared.SolveAnswer.the-variants.{Can, Cannot, Refused}
 use Rattle.analyser.proofs.SheetPlane.{capacity-small}
 use Rattle.sessions.specs.Fit.{PairFits, InBounds, Fit, Lowerable}
-use Rattle.parties.specs.Shared.{idle, offered, stale, committed, Shared, sharedDrawing, alone, put, staled, flowsOf, loweredBy, letIn, cleared}
+use Rattle.parties.specs.Shared.{idle, offered, stale, committed, Shared, sharedDrawing, put, staled, flowsOf, loweredBy, letIn, cleared}
 use Rattle.parties.specs.Start.{Started}
 use Rattle.parties.specs.Calls.{Asks}
 use Rattle.parties.specs.Reached.{total}
@@ -254,7 +253,7 @@ module _ {s : List ℕ} {S : Shared} {fs : List (List ℤ)} (k : Kept s S fs) wh
       })
 
   -- an offer that is not stale can be let in
-  pub kept-lowerable : (p : ℕ) → S .standing p ≡ offered → Lowerable (alone S p)
+  pub kept-lowerable : (p : ℕ) → S .standing p ≡ offered → Lowerable (S .edges) (atℤ (S .left)) (atℤ (S .offer p))
   kept-lowerable p e = record {
     few-edges = kept-fit .bounds .few-edges;
     limits = kept-fit .bounds .limits;

@@ -3,9 +3,8 @@ use Prim.Native.Nat.{ℕ, zero, suc, _≤_, _<_}
 use mathlib.Core.Path.{_≡_, refl, sym, _∙_, ap, ap₂, subst}
 use mathlib.Core.Logic.{_≢_, _↔_, inl, inr}
 use mathlib.Core.Bool.{cond}
-use mathlib.Core.List.{List, [], _∷_, _++_}
+use mathlib.Core.List.{List, _∷_}
 use native.Mathlib.Omega.{arith}
-use native.Mathlib.Decide.{decLt}
 use lib.Dec.{eqb}
 use lib.IntN.{ℤ}
 use Rattle.refusals.specs.Order.{Check, _when_, NoneOf, FirstOf, Judged}
@@ -19,10 +18,11 @@ use Rattle.questions.specs.Question.{valueChecks, roomChecks}
 use Rattle.questions.specs.Solve.{questionChecks, Solved}
 use Rattle.questions.specs.declared.SolveAnswer.{SolveAnswer}
 use Rattle.questions.specs.declared.SolveAnswer.the-variants.{Can, Cannot, Refused}
+use Rattle.arrays.specs.At.{atℤ}
 use Rattle.sessions.specs.Fit.{Fit, Lowerable}
 use Rattle.sessions.specs.Ask as ask
 use Rattle.sessions.proofs.Asking.{fit-same}
-use Rattle.parties.specs.Shared.{idle, offered, stale, committed, Shared, sharedDrawing, alone}
+use Rattle.parties.specs.Shared.{idle, offered, stale, committed, Shared, sharedDrawing}
 use Rattle.parties.specs.Calls.{askChecks, commitChecks, Asks, Commits}
 use Rattle.parties.proofs.Taking.{no-party, has-committed, no-offer, stale-offer, lets-in}
 
@@ -148,7 +148,8 @@ place-spoken (suc (suc (suc zero))) l = refl
 place-spoken (suc (suc (suc (suc a)))) l = absurd (omega (arith, l))
 
 -- of a party that there is, whose offer can be let in if it is not stale
-module _ (S : Shared) (p : ℕ) (known : p < 2) (fits : S .standing p ≡ offered → Lowerable (alone S p)) (stood : S .standing p ≤ committed) where
+module _ (S : Shared) (p : ℕ) (known : p < 2) (fits : S .standing p ≡ offered → Lowerable (S .edges) (atℤ (S .left)) (atℤ (S .offer p)))
+    (stood : S .standing p ≤ committed) where
   there-is : 2 ≤ p → ⊥
   there-is l = absurd (omega (arith, known, l))
 

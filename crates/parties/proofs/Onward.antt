@@ -1,7 +1,7 @@
 -- What holds at the start and is kept by every call holds at every moment.
 use Prim.Native.Nat.{ℕ, _≤_, _<_}
-use mathlib.Core.Path.{_≡_, refl, sym, _∙_, ap, subst}
-use mathlib.Core.Logic.{_⊎_, _≢_, inl, inr}
+use mathlib.Core.Path.{_≡_, refl, sym, subst}
+use mathlib.Core.Logic.{_≢_, inl}
 use mathlib.Core.List.{List, [], _∷_, _++_}
 use native.Mathlib.Omega.{arith}
 use native.Mathlib.Decide.{ℕ-discrete}
@@ -11,7 +11,7 @@ use Rattle.refusals.specs.declared.Verdict.the-variants as verdict
 use Rattle.questions.specs.declared.SolveAnswer.{SolveAnswer}
 use Rattle.questions.specs.declared.SolveAnswer.the-variants.{Can, Cannot, Refused}
 use Rattle.sessions.specs.Ask as ask
-use Rattle.parties.specs.Shared.{idle, offered, stale, committed, Shared, sharedDrawing, flowsOf, cleared}
+use Rattle.parties.specs.Shared.{idle, offered, committed, Shared, sharedDrawing, flowsOf, cleared}
 use Rattle.parties.specs.Calls.{askChecks, commitChecks, Asks}
 use Rattle.parties.specs.Seen.{Event, clears, Step, ask-step, commit-step, clear-step, Run, end, next}
 use Rattle.parties.specs.Reached.{booked, since, Reached, Barred}

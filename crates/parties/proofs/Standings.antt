@@ -1,7 +1,7 @@
 -- Where the parties stand: at one of four places, and since the last clear as many have committed as flows were let in.
 use Prim.Native.Nat.{ℕ, zero, suc, _+_, _≤_, _<_}
 use mathlib.Core.Path.{_≡_, refl, sym, _∙_, ap, ap₂, subst}
-use mathlib.Core.Logic.{_≢_, _⊎_, inl, inr}
+use mathlib.Core.Logic.{_≢_}
 use mathlib.Core.Bool.{Bool, true, false, cond}
 use mathlib.Core.List.{List, [], _∷_}
 use native.Mathlib.Omega.{arith}
@@ -10,9 +10,7 @@ use lib.Dec.{eqb}
 use lib.IntN.{ℤ}
 use lib.ListN.{length}
 use Rattle.integers.proofs.Tests.{eqb-true, eqb-false}
-use Rattle.refusals.specs.Order.{NoneOf}
-use Rattle.parties.specs.Shared.{idle, offered, stale, committed, Shared, put, staled, letIn, cleared}
-use Rattle.parties.specs.Calls.{commitChecks}
+use Rattle.parties.specs.Shared.{idle, offered, stale, committed, Shared, put, staled, letIn}
 
 -- 1 where a party has committed
 abbrev has : ℕ → ℕ

@@ -9,7 +9,7 @@ use native.Mathlib.Decide.{ℕ-discrete}
 use lib.Dec.{eqb}
 use lib.IntN.{ℤ, pos, _+ℤ_, _-ℤ_}
 use Rattle.integers.proofs.Omega.{atoms₂, parts, equal}
-use Rattle.refusals.specs.Order.{Check, _when_, NoneOf, FirstOf}
+use Rattle.refusals.specs.Order.{_when_, NoneOf}
 use Rattle.refusals.specs.declared.Verdict.{Verdict}
 use Rattle.refusals.specs.declared.Verdict.the-variants as verdict
 use Rattle.refusals.proofs.Order.{first-none}
@@ -17,9 +17,9 @@ use Rattle.maps.specs.Dart.{rev}
 use Rattle.maps.specs.Map.{Map}
 use Rattle.maps.specs.Drawing.{Drawing}
 use Rattle.maps.proofs.Darts.{rev-in}
-use Rattle.flows.specs.Settings.{onDarts, Carries}
+use Rattle.flows.specs.Settings.{onDarts}
 use Rattle.flows.specs.Highest.{Highest}
-use Rattle.flows.specs.ProvingSet.{Proves, member}
+use Rattle.flows.specs.ProvingSet.{member}
 use Rattle.flows.proofs.Exact.{proves-excludes}
 use Rattle.flows.proofs.Agreement.{highest-agrees}
 use Rattle.flows.proofs.OnDarts.{onDarts-antisymmetric}
@@ -37,10 +37,10 @@ use Rattle.sheets.specs.Open.{sheetChecks}
 use Rattle.analyser.specs.Solve.{solveChecks, Solves}
 use Rattle.analyser.proofs.SheetPlane.{plane}
 use Rattle.sessions.proofs.Asking.{solved-same}
-use Rattle.parties.specs.Shared.{idle, offered, stale, committed, Shared, sharedDrawing, put, staled, flowsOf, letIn, cleared}
+use Rattle.parties.specs.Shared.{idle, offered, stale, committed, Shared, sharedDrawing, put, staled, flowsOf}
 use Rattle.parties.specs.Calls.{afterAsk, Asks, Commits}
 use Rattle.parties.specs.Seen.{Event, clears, Step, ask-step, commit-step, clear-step}
-use Rattle.parties.specs.Reached.{Reached, Barred}
+use Rattle.parties.specs.Reached.{Reached}
 use Rattle.parties.specs.Statements.{DeliversLeft, MayAsk, Sessions, OthersKept, AnyValue}
 use Rattle.parties.proofs.Views.{own, other}
 use Rattle.parties.proofs.Taking.{edge-flow, has-committed, no-offer, staled-other}
