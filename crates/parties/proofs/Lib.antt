@@ -4,3 +4,10 @@ pub mod Views
 pub mod Isolation
 pub mod Asking
 pub mod Taking
+pub mod Totals
+pub mod Account
+pub mod Standings
+pub mod Onward
+pub mod Answers
+pub mod Statements
+pub mod Drops

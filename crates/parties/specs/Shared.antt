@@ -10,7 +10,6 @@ use Rattle.flows.specs.Settings.{onDarts}
 use Rattle.arrays.specs.At.{at, atℤ}
 use Rattle.arrays.specs.Maps.{drawingOf}
 use Rattle.arrays.specs.Filled.{tabulate, filled}
-use Rattle.sessions.specs.Session.{Session, sessionOf}
 
 -- where a party stands: no offer, an offer, an offer that another's commit made stale, or it has committed. Any other number is as no offer
 abbrev pub idle : ℕ
@@ -57,10 +56,6 @@ sharedOf nodes edges outer tails rotations limits left standing first second = r
 
 abbrev pub sharedDrawing : Shared → Drawing
 sharedDrawing S = drawingOf (S .nodes) (S .edges) (S .outer) (S .tails) (S .rotations) (S .left)
-
--- as party p has it by itself
-abbrev pub alone : Shared → ℕ → Session
-alone S p = sessionOf (S .nodes) (S .edges) (S .outer) (S .standing p) (S .tails) (S .rotations) (S .left) (S .offer p)
 
 -- party p stands there, with this offer; all else as it was
 abbrev pub put : Shared → ℕ → ℕ → List ℤ → Shared
