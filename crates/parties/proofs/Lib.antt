@@ -4,6 +4,7 @@ pub mod Views
 pub mod Isolation
 pub mod Asking
 pub mod Taking
+pub mod Examples
 pub mod Totals
 pub mod Account
 pub mod Standings
