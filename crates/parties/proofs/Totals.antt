@@ -10,7 +10,7 @@ use Rattle.maps.specs.Map.{Map, darts}
 use Rattle.flows.specs.Settings.{onDarts}
 use Rattle.flows.proofs.OnDarts.{onDarts-antisymmetric}
 use Rattle.arrays.specs.At.{atℤ}
-use Rattle.sessions.specs.Reached.{total}
+use Rattle.parties.specs.Reached.{total}
 
 pub total-antisymmetric : (𝓜 : Map) (fs : List (List ℤ)) (d : ℕ) → d < darts 𝓜 → total fs (rev d) ≡ negℤ (total fs d)
 unfolding total

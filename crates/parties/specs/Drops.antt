@@ -7,10 +7,10 @@ use Rattle.flows.specs.Parts.{ExcludedInParts}
 use Rattle.arrays.specs.At.{atℤ}
 use Rattle.records.specs.Sheet.{sheetMap}
 use Rattle.questions.specs.declared.SolveAnswer.the-variants.{Cannot}
-use Rattle.sessions.specs.Session.{Session}
-use Rattle.sessions.specs.Ask.{Asks}
-use Rattle.sessions.specs.Reached.{Reached}
+use Rattle.parties.specs.Shared.{Shared}
+use Rattle.parties.specs.Calls.{Asks}
+use Rattle.parties.specs.Reached.{Reached}
 
 pub record InDropsLeft : Type 0 where
-  pub ask-in-drops : (s : List ℕ) (S S' : Session) (fs : List (List ℤ)) (source sink : ℕ) (value : ℤ) (flows flows' : List ℤ) (set set' : List ℕ) (n : ℕ)
-      → Reached s S fs → Asks S source sink value flows flows' set set' S' (Cannot n) → ExcludedInParts (sheetMap s) (atℤ (S .left)) source sink value
+  pub ask-in-drops : (s : List ℕ) (S S' : Shared) (fs : List (List ℤ)) (p source sink : ℕ) (value : ℤ) (flows flows' : List ℤ) (set set' : List ℕ) (n : ℕ)
+      → Reached s S fs → Asks S p source sink value flows flows' set set' S' (Cannot n) → ExcludedInParts (sheetMap s) (atℤ (S .left)) source sink value
