@@ -1,7 +1,5 @@
 -- A refused sheet leaves a session of no nodes; of an accepted one the arrays are filled, and all of its limits are left.
-use mathlib.Core.Path.{_≡_, refl, _∙_}
-use mathlib.Core.List.{List}
-use Prim.Native.Nat.{ℕ}
+use mathlib.Core.Path.{_∙_}
 use native.Mathlib.Omega.{arith}
 use Rattle.refusals.specs.Order.{NoneOf}
 use Rattle.sheets.specs.Open.{sheetChecks, Numbers}
