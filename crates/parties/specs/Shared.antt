@@ -1,5 +1,6 @@
--- A session that two parties share. Document 02, Job 12: "Two parties, 0 and 1, share one session, its limits and its faces. Each has an offer of its own and
--- may commit once until the session is cleared; clearing restores the sheet's limits and removes both offers."
+-- A session that two parties share. Document 02, Job 11: "On the table a delivery is first shown and then let in. A session starts from a sheet."; Job 12: "Two
+-- parties, 0 and 1, share one session, its limits and its faces. Each has an offer of its own and may commit once until the session is cleared; clearing
+-- restores the sheet's limits and removes both offers." It lies in memory that the caller owns and lends to each call: any value can be handed in as one.
 use Prim.Native.Nat.{ℕ, _*_}
 use mathlib.Core.Bool.{cond}
 use mathlib.Core.List.{List, []}

@@ -56,7 +56,7 @@ pub record Sessions : Type 0 where
       → (d : ℕ) → d < 2 * edgesOf s → pos 0 ≤ℤ atℤ (S .left) d
   -- "clearing restores the sheet's limits and removes both offers" (of any value: `clear-removes`)
   pub clear-restores : (s : List ℕ) (S : Shared) (fs : List (List ℤ)) → Reached s S fs → Reached s (cleared S) [] × (atℤ (cleared S .left) ≡ capacityOf s)
-  -- "may commit once until the session is cleared": since the last clear there are as many flows let in as parties that have committed, two at most
+  -- "Each .. may commit once until the session is cleared": since the last clear two flows at most were let in; before the first nobody has committed
   pub once-each : (s : List ℕ) (S : Shared) (fs : List (List ℤ)) → Reached s S fs → length fs ≤ 2
   pub none-yet : (s : List ℕ) (S : Shared) (p : ℕ) → Reached s S [] → p < 2 → S .standing p ≢ committed
   -- ── "Ask gives Solve's answer on the limits still left": before the first commit, of the session or since a clear, it is Solve's on the sheet, .. ──
