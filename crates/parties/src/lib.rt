@@ -41,8 +41,8 @@ fn restore(limits: &[i32], left: &mut [i32])
     requires { ⌜ (length (now limits) ≡ 1024) × (length (now left) ≡ 1024) ⌝ }
     ensures { λ _. ⌜ now (left .exit) ≡ now (limits .entry) ⌝ }
 {
-    for d in 0..1024usize {
-        left[d] = limits[d];
+    for dart in 0..1024usize {
+        left[dart] = limits[dart];
     }
 }
 
