@@ -1,6 +1,6 @@
 // The header and the library, as a C program and as a C++ program: each operation on drawing A of document 01, and a refusal of each; Least and largest,
-// Totals by node and the DIMACS text on drawing B too, and Raise limit and Examine with each refusal beside the next. tests/header compiles and runs it, and compares what
-// it prints.
+// Totals by node and the DIMACS text on drawing B too, and Raise limit, Examine and a session of two parties with each refusal beside the next. tests/header
+// compiles and runs it, and compares what it prints.
 #include "analyser.h"
 #include "analyser.h"
 #include <stdio.h>
