@@ -74,11 +74,12 @@ static void page(void) {
     result = analyser_page(sheet, sheet_length, QUESTIONS, headgates, outfalls, deliveries, page_settings, PAGE_SETTINGS, page_sets, PAGE_WORDS, page_answers,
                            sizes, &place);
 }
-#if __STDC_HOSTED__
 // A class of the size that `value` says, each paper with the settings and the set that Largest gives, and its claim: read_sheet and largest_class come before.
-static int32_t class_claims[ANALYSER_CLASS_PAPERS], class_settings[ANALYSER_CLASS_PAPERS * ANALYSER_MAX_CHANNELS];
-static uint64_t class_sets[ANALYSER_CLASS_PAPERS * ANALYSER_SET_WORDS];
-static uint8_t class_kinds[ANALYSER_CLASS_PAPERS], class_points[ANALYSER_CLASS_PAPERS], least_points, greatest_points;
+enum { FEW = 4, PAPERS = __STDC_HOSTED__ ? ANALYSER_CLASS_PAPERS : FEW }; // a controller holds few
+enum { CLASS_SETTINGS = PAPERS * ANALYSER_MAX_CHANNELS, CLASS_WORDS = PAPERS * ANALYSER_SET_WORDS };
+static int32_t class_claims[PAPERS], class_settings[CLASS_SETTINGS];
+static uint64_t class_sets[CLASS_WORDS];
+static uint8_t class_kinds[PAPERS], class_points[PAPERS], least_points, greatest_points;
 static uint16_t papers, class_number, class_sum;
 static void largest_class(void) {
     papers = (uint16_t)value;
@@ -94,16 +95,14 @@ static void fill_class(void) {
     }
 }
 static void examine(void) {
-    result = analyser_examine(sheet, sheet_length, source, sink, value, class_claims, papers, class_kinds, papers, class_settings,
-                              ANALYSER_CLASS_PAPERS * ANALYSER_MAX_CHANNELS, class_sets, ANALYSER_CLASS_PAPERS * ANALYSER_SET_WORDS, class_points,
-                              ANALYSER_CLASS_PAPERS, &class_number, &class_sum, &least_points, &greatest_points, &place);
+    result = analyser_examine(sheet, sheet_length, source, sink, value, class_claims, papers, class_kinds, papers, class_settings, CLASS_SETTINGS, class_sets,
+                              CLASS_WORDS, class_points, PAPERS, &class_number, &class_sum, &least_points, &greatest_points, &place);
 }
 // The sum of the points, and the least of them.
 static void tell_class(void) {
     number = class_sum;
     answer = least_points;
 }
-#endif
 // A session of two parties, of which party 1 asks and commits; and what it is set back to before a commit, which is called more than once.
 static struct analyser_session session, shown;
 static void start_session(void) {
@@ -229,9 +228,7 @@ static const struct operation {
     {"least", range, {NULL, NULL, NULL}, tell_least},
     {"raise", raise_limit, {read_sheet, solve, choose}, tell_least},
     {"page", page, {fill_page, NULL, NULL}, tell_page},
-#if __STDC_HOSTED__
     {"examine", examine, {read_sheet, largest_class, fill_class}, tell_class},
-#endif
     {"start", start_session, {NULL, NULL, NULL}, tell_nothing},
     {"ask", ask_left, {start_session, NULL, NULL}, tell_size},
     {"commit", commit, {start_session, ask_left, show}, tell_commit},

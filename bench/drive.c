@@ -29,38 +29,15 @@
 // asked.
 
 #include "calls.h"
+#include "painted.h"
 #include <stdio.h>
 #include <stdlib.h>
-#include <ucontext.h>
 #include <valgrind/callgrind.h>
 
 // What the driver itself uses is found by a call that uses no stack but its return address.
 __attribute__((noinline)) static uint8_t nothing(void) { return 0; }
 static uint8_t (*volatile none)(void) = nothing;
 static void idle(void) { result = none(); }
-
-static _Alignas(64) uint8_t stack[1 << 18];
-static ucontext_t here, there;
-
-// The lowest byte of the stack that differs from the paint after `what` ran on it, as the distance from its top.
-static size_t depth_in(void (*what)(void), uint8_t paint) {
-    memset(stack, paint, sizeof stack);
-    getcontext(&there);
-    there.uc_stack.ss_sp = stack;
-    there.uc_stack.ss_size = sizeof stack;
-    there.uc_link = &here;
-    makecontext(&there, what, 0);
-    swapcontext(&here, &there);
-    size_t i = 0;
-    while (i < sizeof stack && stack[i] == paint) i++;
-    return sizeof stack - i;
-}
-
-// A byte may be written with the paint's own value, so there are two paints.
-static size_t depth(void (*what)(void)) {
-    size_t a = depth_in(what, 0xa5), b = depth_in(what, 0x5a);
-    return a < b ? b : a;
-}
 
 int main(int count, char **words) {
     int painted = count > 1 && strcmp(words[1], "stack") == 0;
