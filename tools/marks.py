@@ -1,8 +1,8 @@
 """The marks of a picture (SVG): channels as curves with arrowheads and numbers, nodes, a set as a band, levels on faces, and what the marks mean. A drawing here
-has limits (keys.py: Limited); `shown` has `flows`, one to a channel or none at all, `inside`, the nodes of a set, and its `subtotals` by node."""
+has limits (keys.py: Limited); `shown` has `flows`, one to a channel or none at all, `inside`, the nodes of a set, and its `subtotals` by node or none at all."""
 import math
 
-from places import along, between, checked_curves, layout
+from places import along, between, placed
 
 RADIUS = 14
 INK, GREY, FLOW, FULL, CUT, BAND, INSIDE, SOURCE, SINK = "#222", "#999", "#2b7bba", "#e08214", "#c51b1b", "#ffe3a3", "#ffc94d", "#1a7f37", "#6f42c1"
@@ -63,10 +63,10 @@ def style(drawing, shown, edge):
     return colour, 1.6 + 5 * abs(flow) / max(1, *map(abs, shown.flows)), number(flow), f"{SPACE}of{SPACE}{span}"
 
 
-def node_mark(drawing, place, node, subtotals):
-    """A node's circle and its number; of a node in the set also its subtotal, below the number: what it has of the outward total."""
-    (x, y), ring = place[node], {drawing.source: SOURCE, drawing.sink: SINK}.get(node, INK)
-    fill, thick = INSIDE if node in subtotals else "#fff", 1.4 if ring == INK else 4
+def node_mark(drawing, place, node, shown):
+    """A node's circle and its number; of a node in the set also its subtotal, below the number, if there are any: what it has of the outward total."""
+    (x, y), ring, subtotals = place[node], {drawing.source: SOURCE, drawing.sink: SINK}.get(node, INK), shown.subtotals
+    fill, thick = INSIDE if node in shown.inside else "#fff", 1.4 if ring == INK else 4
     yield f'<circle cx="{x:.2f}" cy="{y:.2f}" r="{RADIUS}" fill="{fill}" stroke="{ring}" stroke-width="{thick}"/>'
     yield f'<text x="{x:.1f}" y="{y + (0.5 if node in subtotals else 4.5):.1f}" font-size="12" text-anchor="middle">{node}</text>'
     if node in subtotals:
@@ -136,12 +136,13 @@ def legend(shown, leveled, height):
     x, items = 24, [(FLOW, 5, "carries water"), (FULL, 5, "carries it at a limit"), (GREY, 1.6, "carries none")]
     words = (f"arrowhead: the way the water runs (hollow: none runs, from tail to head); "
              f"\u201c{MINUS}3 of {MINUS}8..4\u201d: 3 from head to tail, allowed {MINUS}8 to 4")
+    subtotals = ", each node with its subtotal" if shown.subtotals else ""
     if shown.flows and shown.inside:
-        items += [(BAND, 14, "a set, each node with its subtotal")]
+        items += [(BAND, 14, f"a set{subtotals}")]
     if leveled:
         items += [(LEVEL, 5, "the level of a face")]
     if not shown.flows:
-        items = [(BAND, 14, "the set, each node with its subtotal"), (CUT, 3.5, "leaves or enters it, with the most that it lets out")] if shown.inside else []
+        items = [(BAND, 14, f"the set{subtotals}"), (CUT, 3.5, "leaves or enters it, with the most that it lets out")] if shown.inside else []
         items += [(GREY, 1.6, "other channels" if shown.inside else "a channel")]
         words = f"\u201c{MINUS}3..8\u201d: allowed settings, at most 8 from tail to head, as the arrowhead points, and 3 back; \u201c2..8\u201d: at least 2"
     for colour, width, meaning in items:
@@ -151,18 +152,23 @@ def legend(shown, leveled, height):
     yield text(24, height - 16, words, anchor="start")
 
 
+def fitting(words, width):
+    """A caption up to the edge of its picture: what is too long, as a large set node by node, ends behind a word."""
+    most = int((width - 48) / 7)
+    return words if len(words) <= most else words[:most - 1].rsplit(" ", 1)[0] + " \u2026"
+
+
 def draw(drawing, shown, title, caption):
     """The marks of one picture, and its size."""
-    place, width, height = layout(drawing)
-    curves = checked_curves(drawing, place)
+    place, width, height, curves = placed(drawing)
     styles = [style(drawing, shown, edge) for edge in drawing.edges]
     out = [f'<rect width="{width}" height="{height}" fill="#fff"/>',
-           text(24, 32, title, 20, anchor="start", weight="bold"), text(24, 52, caption, 13, anchor="start")]
+           text(24, 32, title, 20, anchor="start", weight="bold"), text(24, 52, fitting(caption, width), 13, anchor="start")]
     out += outer_face(drawing, curves, width, height)
     out += band(drawing, shown, place, curves)
     out += [arrow(pieces, colour, thick, way(shown, edge)) for edge, (pieces, (colour, thick, *_)) in enumerate(zip(curves, styles))]
     for node in range(drawing.nodes):
-        out += node_mark(drawing, place, node, shown.subtotals)
+        out += node_mark(drawing, place, node, shown)
     out += [label(pieces, *kind) for pieces, kind in zip(curves, styles)]
     if drawing.levels is not None:
         out += levels(drawing, place, width)

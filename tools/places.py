@@ -13,6 +13,7 @@ from collections import defaultdict
 POINTS = 3  # on the way of a channel: a loop needs two, and the middle one is near the label
 ROUNDS = 40  # of making room, at most
 ASIDE, ABOVE, BELOW = 96, 100, 88  # the margins of a page
+KNOWN = {}  # what `placed` has made
 
 
 class NoPicture(Exception):
@@ -279,3 +280,12 @@ def checked_curves(drawing, place):
         raise NoPicture(f"{len(found)} channels would cross, the lowest are {', '.join(map(str, sorted(found)[:3]))}")
     check_turns(drawing, curves)
     return curves
+
+
+def placed(drawing):
+    """The places and the size of a drawing, and its checked curves: made once for all questions from the same source to the same sink, as a session has many."""
+    look = drawing.nodes, tuple(drawing.tail), tuple(drawing.rotation), drawing.source, drawing.sink, drawing.outer
+    if look not in KNOWN:
+        place, width, height = layout(drawing)
+        KNOWN[look] = place, width, height, checked_curves(drawing, place)
+    return KNOWN[look]

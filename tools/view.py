@@ -1,7 +1,8 @@
 """Draws what tools/unit shows: reads its JSON from standard input, a list of views, and writes one picture (SVG) with the views one below the other.
 
 A view has "title" and "caption", the drawing ("nodes", "outer" or null, "tails", "turns", "limits", one to a dart), "headgate" and "outfall" or null, and what
-the library said of it, each perhaps null: "settings" by channel, "set" (nodes) with its "subtotals", "levels" by face. Nothing is computed here but places.
+the library said of it, each perhaps null: "settings" by channel, "set" (nodes), its "subtotals" (null also beside a set, where the library has none: on limits
+left by a session), "levels" by face. Nothing is computed here but places.
 """
 import html
 import json

@@ -53,7 +53,7 @@ pub fn number(number: impl Into<i64>) -> Json {
 /// The kind of a head that names an outer dart.
 const NAMES_OUTER: u8 = 4;
 
-/// A picture: a drawing with settings on its channels, a set with the subtotals of its nodes, levels on its faces, or some of these.
+/// A picture: a drawing with settings on its channels, a set with or without the subtotals of its nodes, levels on its faces, or some of these.
 pub struct View {
     title: String,
     caption: String,
@@ -62,7 +62,8 @@ pub struct View {
     outer: Option<u16>,
     ends: Option<Ends>,
     settings: Option<Vec<i32>>,
-    set: Option<(Vec<u16>, Vec<i32>)>,
+    set: Option<Vec<u16>>,
+    subtotals: Option<Vec<i32>>,
     levels: Option<Vec<i32>>,
 }
 
@@ -70,7 +71,13 @@ impl View {
     pub fn new(title: String, caption: String, sheet: &[u8], ends: Option<Ends>) -> Result<View, Refusal> {
         let drawing = library::read(sheet)?;
         let outer = Some(drawing.outer).filter(|_| sheet[0] == NAMES_OUTER);
-        Ok(View { title, caption, drawing, outer, ends, settings: None, set: None, levels: None })
+        Ok(View { title, caption, drawing, outer, ends, settings: None, set: None, subtotals: None, levels: None })
+    }
+
+    /// Other limits than the sheet's, one to a dart.
+    pub fn limits(mut self, limits: &[i32]) -> View {
+        self.drawing.limits = limits.to_vec();
+        self
     }
 
     pub fn settings(mut self, settings: &[i32]) -> View {
@@ -87,9 +94,15 @@ impl View {
     pub fn set(mut self, sheet: &[u8], set: &[u64]) -> Result<View, Refusal> {
         let (subtotals, _) = library::totals(sheet, set)?;
         // Nodes rise, so bits past the last node, which have no subtotal, come last.
-        let nodes = library::nodes_of(set).into_iter().take(subtotals.len()).collect();
-        self.set = Some((nodes, subtotals));
+        self.set = Some(library::nodes_of(set).into_iter().take(subtotals.len()).collect());
+        self.subtotals = Some(subtotals);
         Ok(self)
+    }
+
+    /// A set on limits that are no sheet's, of which Totals by node says nothing.
+    pub fn bare_set(mut self, set: &[u64]) -> View {
+        self.set = Some(library::nodes_of(set));
+        self
     }
 
     pub fn json(&self) -> Json {
@@ -106,8 +119,8 @@ impl View {
             ("headgate", self.ends.map(|ends| ends.0).into()),
             ("outfall", self.ends.map(|ends| ends.1).into()),
             ("settings", list(self.settings.as_ref())),
-            ("set", self.set.as_ref().map_or(Json::Null, |(nodes, _)| Json::numbers(nodes))),
-            ("subtotals", list(self.set.as_ref().map(|(_, subtotals)| subtotals))),
+            ("set", self.set.as_ref().map_or(Json::Null, |nodes| Json::numbers(nodes))),
+            ("subtotals", list(self.subtotals.as_ref())),
             ("levels", list(self.levels.as_ref())),
         ])
     }

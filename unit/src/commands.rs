@@ -24,7 +24,7 @@ pub fn set_json(set: &[u64]) -> Json {
     Json::numbers(&nodes_of(set))
 }
 
-fn delivers(ends: Ends, value: i32) -> String {
+pub fn delivers(ends: Ends, value: i32) -> String {
     format!("node {} delivers {value} to node {}", ends.0, ends.1)
 }
 

@@ -23,6 +23,7 @@ fn line(what: &str, seconds: f32) -> String {
 
 /// Runs `work`; where standard error is a terminal and it takes longer than a step, tells of it there.
 pub fn during<T>(what: &str, work: impl FnOnce() -> T) -> T {
+    step(0, 0); // the parts of other work before it are not its own
     if !std::io::stderr().is_terminal() {
         return work();
     }

@@ -1,7 +1,7 @@
 //! A session on a sheet that two parties share (document 02, Jobs 11 and 12), one call a line: `ask HEADGATE OUTFALL DELIVERY`, `commit`, `clear`. Before ask
 //! and commit may stand the party, as in `1 ask 0 6 5`; without it they are of party 0.
-use crate::answer::{number, refusal_json, refusal_text, Answer, Outcome};
-use crate::commands::{ends_of, set_json, spaced};
+use crate::answer::{number, refusal_json, refusal_text, Answer, Outcome, View};
+use crate::commands::{delivers, ends_of, set_json, spaced};
 use crate::json::Json;
 use crate::library::{nodes_of, settings_room, told, written, Refusal, Solved, Told, SET_WORDS};
 use crate::progress;
@@ -98,6 +98,11 @@ impl Session {
         Ok(if can == 1 { Solved::Can(written(settings)) } else { Solved::Cannot { set, size } })
     }
 
+    /// The limits left, one to a dart.
+    fn left(&self) -> &[i32] {
+        &self.left[..2 * self.channels as usize]
+    }
+
     fn commit(&mut self, party: u16) -> Told<()> {
         told(|place| unsafe {
             analyser_session_commit(party, self.nodes, self.channels, self.outer, self.tails.as_ptr(), self.turns.as_ptr(), self.limits.as_ptr(),
@@ -113,32 +118,48 @@ impl Session {
     }
 }
 
-/// What a call says, as text and in fields.
-type Said = (String, Vec<(&'static str, Json)>);
-
-fn refused(refusal: Refusal) -> Said {
-    (refusal_text(refusal).trim_end().to_string(), refusal_json(refusal))
+/// What the library told a call.
+enum Reply {
+    Answered(Question, Solved),
+    Done,
+    Refused(Refusal),
 }
 
-fn done() -> Said {
-    ("done".to_string(), vec![("answer", "done".into())])
-}
-
-fn said(session: &mut Session, call: &Call) -> Said {
-    match call {
-        Call::Ask { party, question } => match session.ask(*party, question) {
-            Ok(Solved::Can(settings)) => (spaced("can", &settings), vec![("answer", "can".into()), ("settings", Json::numbers(&settings))]),
-            Ok(Solved::Cannot { set, size }) => {
-                (spaced("cannot", &nodes_of(&set)), vec![("answer", "cannot".into()), ("set", set_json(&set)), ("size", number(size))])
-            }
-            Err(refusal) => refused(refusal),
-        },
-        Call::Commit { party } => session.commit(*party).map_or_else(refused, |()| done()),
+fn reply(session: &mut Session, call: &Call) -> Reply {
+    let told = match call {
+        Call::Ask { party, question } => session.ask(*party, question).map(|solved| Reply::Answered(*question, solved)),
+        Call::Commit { party } => session.commit(*party).map(|()| Reply::Done),
         Call::Clear => {
             session.clear();
-            done()
+            Ok(Reply::Done)
         }
+    };
+    told.unwrap_or_else(Reply::Refused)
+}
+
+/// A reply as text and in fields.
+fn said(reply: &Reply) -> (String, Vec<(&'static str, Json)>) {
+    match reply {
+        Reply::Answered(_, Solved::Can(settings)) => (spaced("can", settings), vec![("answer", "can".into()), ("settings", Json::numbers(settings))]),
+        Reply::Answered(_, Solved::Cannot { set, size }) => {
+            (spaced("cannot", &nodes_of(set)), vec![("answer", "cannot".into()), ("set", set_json(set)), ("size", number(*size))])
+        }
+        Reply::Done => ("done".to_string(), vec![("answer", "done".into())]),
+        Reply::Refused(refusal) => (refusal_text(*refusal).trim_end().to_string(), refusal_json(*refusal)),
     }
+}
+
+/// The picture of an answered question: the sheet's drawing with the limits left, which Ask leaves as they are.
+fn view(sheet: &[u8], left: &[i32], call: &str, question: &Question, solved: &Solved) -> Told<View> {
+    let (ends, delivery) = (ends_of(question), question.delivery);
+    let drawn = |word: &str, caption: String| Ok(View::new(format!("{call}: {word} {delivery}"), caption, sheet, Some(ends))?.limits(left));
+    Ok(match solved {
+        Solved::Can(settings) => drawn("can", format!("on the limits left {}", delivers(ends, delivery)))?.settings(settings),
+        Solved::Cannot { set, size } => {
+            let proof = format!("on the limits left a set of size {size} proves it:");
+            drawn("cannot", spaced(&proof, &nodes_of(set)))?.bare_set(set)
+        }
+    })
 }
 
 /// Whose call it is, and what it is called.
@@ -155,17 +176,22 @@ pub fn command(words: &Words) -> Outcome {
     let sheet = words.sheet()?;
     let calls = read(words.last())?;
     let mut session = Session::start(&sheet.bytes)?;
-    let (mut text, mut list) = (String::new(), vec![]);
+    let (mut text, mut list, mut views) = (String::new(), vec![], vec![]);
     for (at, call) in calls.iter().enumerate() {
         progress::step(at, calls.len());
         let (party, name) = named(call);
-        let (line, mut json) = said(&mut session, call);
-        let whose = party.map_or(String::new(), |party| format!("{party} "));
-        text += &format!("{whose}{name}: {line}\n");
+        let whole = party.map_or(String::new(), |party| format!("{party} ")) + &name;
+        let reply = reply(&mut session, call);
+        // A session may be long, so that views are made only where they are wanted.
+        if let (Some(_), Reply::Answered(question, solved)) = (&words.picture, &reply) {
+            views.push(view(&sheet.bytes, session.left(), &whole, question, solved)?);
+        }
+        let (line, mut json) = said(&reply);
+        text += &format!("{whole}: {line}\n");
         json.splice(0..0, [("party", party.into()), ("call", name.as_str().into())]);
         list.push(Json::Object(json));
     }
-    let left = &session.left[..2 * session.channels as usize];
+    let left = session.left();
     let lines: String = left.chunks(2).enumerate().map(|(channel, pair)| format!("{channel} {} {}\n", pair[0], pair[1])).collect();
     let standing = session.standing.map(|standing| STANDINGS[standing as usize]);
     let parties: String = standing.iter().enumerate().map(|(party, (words, _))| format!("party {party} {words}\n")).collect();
@@ -177,6 +203,7 @@ pub fn command(words: &Words) -> Outcome {
             ("parties", Json::List(standing.iter().map(|(_, word)| Json::from(*word)).collect())),
             ("left", Json::numbers(left)),
         ],
+        views,
         ..Answer::default()
     })
 }

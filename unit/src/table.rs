@@ -285,7 +285,8 @@ pub const COMMANDS: &[Command] = &[
         says: "A session on a sheet that two parties share, 0 and 1, call by call: CALLS has a line '[PARTY] ask HEADGATE OUTFALL DELIVERY',\n\
                '[PARTY] commit' or 'clear' for each; without a party it is 0. Ask gives Solve's answer on the limits still left and keeps it as\n\
                the party's offer; commit lets that in, once until the next clear, and makes the other's offer stale; clear restores the sheet's\n\
-               limits and removes both offers. At the end where each party stands, and the limits left, CHANNEL FORWARD BACK.",
+               limits and removes both offers. At the end where each party stands, and the limits left, CHANNEL FORWARD BACK.\n\
+               With --picture each answered question, call by call, on the limits left at that moment.",
         json: "answer session, calls (each with party, null of clear, call and what solve, done or a refusal has),\n\
                parties (where each stands: none, offer, stale, committed), left (one to a dart)",
         examples: "$ printf 'ask 0 1 6\\n1 ask 0 1 7\\ncommit\\n1 commit\\n1 ask 0 1 7\\n1 commit\\n' | tools/unit session samples/a-6.txt -\n\
@@ -300,7 +301,11 @@ pub const COMMANDS: &[Command] = &[
                    left\n\
                    0 5 0\n\
                    1 1 2\n\
-                   2 0 4\n",
+                   2 0 4\n\
+                   $ tools/unit session samples/a-6.txt samples/a-6.session --picture /dev/stderr 2>&1 > /dev/null | grep -o '. ask[^<]*'\n\
+                   0 ask 0 1 6: can 6\n\
+                   1 ask 0 1 7: cannot 7\n\
+                   1 ask 0 1 6: can 6\n",
         run: crate::session::command,
     },
     Command {
@@ -338,7 +343,7 @@ unless another is given. A file may be '-', standard input. Nodes, channels, dar
 
     --json           the answer as one line of JSON: \"operation\", \"answer\", and the fields that 'tools/unit COMMAND --help' names;
                      a refusal has \"answer\": \"refused\", \"refused\": its number, \"place\" and \"sentence\"
-    --picture FILE   a picture (SVG) of the answer as well; several answers stand one below the other
+    --picture FILE   a picture (SVG) of the answer as well; several answers, as of a page or a session, stand one below the other
     --out FILE       of write, practice and dimacs: the bytes of the answer into a file, and nothing on standard output
     --help           this; behind a command, more about it with examples
 
