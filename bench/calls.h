@@ -74,11 +74,12 @@ static void page(void) {
     result = analyser_page(sheet, sheet_length, QUESTIONS, headgates, outfalls, deliveries, page_settings, PAGE_SETTINGS, page_sets, PAGE_WORDS, page_answers,
                            sizes, &place);
 }
-#if __STDC_HOSTED__
 // A class of the size that `value` says, each paper with the settings and the set that Largest gives, and its claim: read_sheet and largest_class come before.
-static int32_t class_claims[ANALYSER_CLASS_PAPERS], class_settings[ANALYSER_CLASS_PAPERS * ANALYSER_MAX_CHANNELS];
-static uint64_t class_sets[ANALYSER_CLASS_PAPERS * ANALYSER_SET_WORDS];
-static uint8_t class_kinds[ANALYSER_CLASS_PAPERS], class_points[ANALYSER_CLASS_PAPERS], least_points, greatest_points;
+enum { FEW = 4, PAPERS = __STDC_HOSTED__ ? ANALYSER_CLASS_PAPERS : FEW }; // a controller holds few
+enum { CLASS_SETTINGS = PAPERS * ANALYSER_MAX_CHANNELS, CLASS_WORDS = PAPERS * ANALYSER_SET_WORDS };
+static int32_t class_claims[PAPERS], class_settings[CLASS_SETTINGS];
+static uint64_t class_sets[CLASS_WORDS];
+static uint8_t class_kinds[PAPERS], class_points[PAPERS], least_points, greatest_points;
 static uint16_t papers, class_number, class_sum;
 static void largest_class(void) {
     papers = (uint16_t)value;
@@ -94,31 +95,40 @@ static void fill_class(void) {
     }
 }
 static void examine(void) {
-    result = analyser_examine(sheet, sheet_length, source, sink, value, class_claims, papers, class_kinds, papers, class_settings,
-                              ANALYSER_CLASS_PAPERS * ANALYSER_MAX_CHANNELS, class_sets, ANALYSER_CLASS_PAPERS * ANALYSER_SET_WORDS, class_points,
-                              ANALYSER_CLASS_PAPERS, &class_number, &class_sum, &least_points, &greatest_points, &place);
+    result = analyser_examine(sheet, sheet_length, source, sink, value, class_claims, papers, class_kinds, papers, class_settings, CLASS_SETTINGS, class_sets,
+                              CLASS_WORDS, class_points, PAPERS, &class_number, &class_sum, &least_points, &greatest_points, &place);
 }
 // The sum of the points, and the least of them.
 static void tell_class(void) {
     number = class_sum;
     answer = least_points;
 }
-#endif
-// A session, and what it is set back to before a commit, which is called more than once.
+// A session of two parties, of which party 1 asks and commits; and what it is set back to before a commit, which is called more than once.
 static struct analyser_session session, shown;
-static void start(void) {
-    result = analyser_session_start(sheet, sheet_length, &session.nodes, &session.channels, &session.outer, &session.offered, session.tails, session.turns,
-                                    session.left, session.offer, &place);
+static void start_session(void) {
+    result = analyser_session_start(sheet, sheet_length, &session.nodes, &session.channels, &session.outer, session.tails, session.turns, session.limits,
+                                    session.left, session.standing, session.offers[0], session.offers[1], &place);
 }
 static void ask_left(void) {
-    result = analyser_session_ask(session.nodes, session.channels, session.outer, &session.offered, session.tails, session.turns, session.left, session.offer,
-                                  source, sink, value, settings, ANALYSER_MAX_CHANNELS, set, ANALYSER_SET_WORDS, &answer, &size, &place);
+    result = analyser_session_ask(1, session.nodes, session.channels, session.outer, session.tails, session.turns, session.limits, session.left,
+                                  session.standing, session.offers[0], session.offers[1], source, sink, value, settings, ANALYSER_MAX_CHANNELS, set,
+                                  ANALYSER_SET_WORDS, &answer, &size, &place);
 }
 static void show(void) { shown = session; }
 static void commit(void) {
     session = shown;
-    result = analyser_session_commit(session.nodes, session.channels, session.outer, &session.offered, session.tails, session.turns, session.left,
-                                     session.offer, &place);
+    result = analyser_session_commit(1, session.nodes, session.channels, session.outer, session.tails, session.turns, session.limits, session.left,
+                                     session.standing, session.offers[0], session.offers[1], &place);
+}
+static void clear(void) {
+    analyser_session_clear(session.nodes, session.channels, session.outer, session.tails, session.turns, session.limits, session.left, session.standing,
+                           session.offers[0], session.offers[1]);
+    result = 0;
+}
+static void commit_one(void) {
+    ask_left();
+    show();
+    commit();
 }
 static void open_sheet(void) {
     result = analyser_solve(sheet, sheet_length, 65535, sink, 0, settings, ANALYSER_MAX_CHANNELS, set, ANALYSER_SET_WORDS, &answer, &size, &place);
@@ -188,10 +198,15 @@ static void tell_page(void) {
 }
 // Whether what is left and what was let in add up to the limits that Read gives.
 static void tell_commit(void) {
-    int same = session.offered == 0;
+    int same = session.standing[0] == 0 && session.standing[1] == 3;
     read_sheet();
     for (int d = 0; d < 2 * channels; d++) same = same && session.left[d] + (d % 2 ? -settings[d / 2] : settings[d / 2]) == limits[d];
     answer = (uint8_t)same;
+}
+// Whether the limits left are those that Read gives.
+static void tell_clear(void) {
+    read_sheet();
+    answer = session.standing[0] == 0 && session.standing[1] == 0 && memcmp(session.left, limits, 2 * (uint32_t)channels * sizeof limits[0]) == 0;
 }
 static void tell_nothing(void) {}
 #ifdef KEY_TEXT
@@ -213,12 +228,11 @@ static const struct operation {
     {"least", range, {NULL, NULL, NULL}, tell_least},
     {"raise", raise_limit, {read_sheet, solve, choose}, tell_least},
     {"page", page, {fill_page, NULL, NULL}, tell_page},
-#if __STDC_HOSTED__
     {"examine", examine, {read_sheet, largest_class, fill_class}, tell_class},
-#endif
-    {"start", start, {NULL, NULL, NULL}, tell_nothing},
-    {"ask", ask_left, {start, NULL, NULL}, tell_size},
-    {"commit", commit, {start, ask_left, show}, tell_commit},
+    {"start", start_session, {NULL, NULL, NULL}, tell_nothing},
+    {"ask", ask_left, {start_session, NULL, NULL}, tell_size},
+    {"commit", commit, {start_session, ask_left, show}, tell_commit},
+    {"clear", clear, {start_session, commit_one, NULL}, tell_clear},
     {"open", open_sheet, {NULL, NULL, NULL}, tell_nothing},
     {"read", read_sheet, {NULL, NULL, NULL}, tell_channels},
     {"write", write_sheet, {read_sheet, NULL, NULL}, tell_written},

@@ -4,10 +4,9 @@
 //
 // Record i has tick i, a channel that goes round by 7, and that channel's limit of the sheet less 1 where it may be: so every record passes.
 #include "../include/analyser.h"
+#include "painted.h"
 #include <stdio.h>
 #include <stdlib.h>
-#include <string.h>
-#include <ucontext.h>
 
 static uint8_t sheet[ANALYSER_SHEET_BYTES + 1], *capture;
 static size_t sheet_length, records;
@@ -15,26 +14,10 @@ static uint16_t tails[ANALYSER_MAX_DARTS], turns[ANALYSER_MAX_DARTS], nodes, cha
 static int32_t capacities[ANALYSER_MAX_DARTS], limits[ANALYSER_MAX_CHANNELS], settings[ANALYSER_MAX_CHANNELS], value;
 static uint64_t set[ANALYSER_SET_WORDS];
 static uint8_t found, result;
-static _Alignas(64) uint8_t stack[1 << 18];
-static ucontext_t here, there;
 
 static void call(void) {
     result = analyser_largest_after(sheet, sheet_length, capture, 11 * records, window, records - 1, source, sink, limits, ANALYSER_MAX_CHANNELS, settings,
                                     ANALYSER_MAX_CHANNELS, set, ANALYSER_SET_WORDS, &found, &value, &place);
-}
-
-// The lowest byte of the stack that differs from the paint after the call ran on it, as the distance from its top.
-static size_t depth(uint8_t paint) {
-    memset(stack, paint, sizeof stack);
-    getcontext(&there);
-    there.uc_stack.ss_sp = stack;
-    there.uc_stack.ss_size = sizeof stack;
-    there.uc_link = &here;
-    makecontext(&there, call, 0);
-    swapcontext(&here, &there);
-    size_t i = 0;
-    while (i < sizeof stack && stack[i] == paint) i++;
-    return sizeof stack - i;
 }
 
 int main(int count, char **words) {
@@ -56,11 +39,11 @@ int main(int count, char **words) {
         for (int k = 0; k < 4; k++) r[1 + k] = (uint8_t)(i >> 8 * k), r[7 + k] = (uint8_t)((uint32_t)limit >> 8 * k);
         r[5] = (uint8_t)e, r[6] = (uint8_t)(e >> 8);
     }
-    size_t a = 0, b = 0;
-    if (count > 6) a = depth(0xa5), b = depth(0x5a);
+    size_t bytes = 0;
+    if (count > 6) bytes = depth(call);
     else call();
     printf("%d %d %d %d", result, found, value, place);
-    if (count > 6) printf(" %zu", a < b ? b : a);
+    if (count > 6) printf(" %zu", bytes);
     printf("\n");
     free(capture);
     return 0;

@@ -9,8 +9,9 @@
 //   page SHEET SOURCE SINK VALUE       20 questions, at the value and the next greater in turn; prints: result same cans place
 //   examine SHEET SOURCE SINK PAPERS   a class of so many papers, 1000 at most, each of them Largest's own answer; prints: result least sum place
 //   start SHEET 0 0 0                  Start of a session; prints: result 255 0 place
-//   ask SHEET SOURCE SINK VALUE        Ask on that session; prints: result can size place
+//   ask SHEET SOURCE SINK VALUE        Ask of party 1 on that session; prints: result can size place
 //   commit SHEET SOURCE SINK VALUE     Commit behind that; prints: result same 0 place
+//   clear SHEET SOURCE SINK VALUE      Clear behind that, which has no result of its own; prints: 0 same 0 place
 //   open SHEET 0 0 0                   Solve of a source that is no node, which is refused when the sheet is opened; prints: 13 255 0 0
 //   read SHEET 0 0 0                   prints: result 255 channels place
 //   write SHEET 0 0 0                  on what Read gives; prints: result same length place
@@ -23,42 +24,20 @@
 //   key SHEET SOURCE SINK VALUE        only with -DKEY_TEXT; prints: result can length place
 //
 // "Same" is 1 where the bytes of the sheet, or the settings that Solve gave, came back; of a page, where each answer is that of Solve; of a commit, where the
-// account is right. With the argument `stack` each call is made on a stack of its own, painted before, and a fifth number is the bytes of stack that it took.
-// Under callgrind with --toggle-collect=analyser_* each call is a part of the profile by itself, in the order asked.
+// account is right; of a clear, where the sheet's limits are left. With the argument `stack` each call is made on a stack of its own, painted before, and a
+// fifth number is the bytes of stack that it took. Under callgrind with --toggle-collect=analyser_* each call is a part of the profile by itself, in the order
+// asked.
 
 #include "calls.h"
+#include "painted.h"
 #include <stdio.h>
 #include <stdlib.h>
-#include <ucontext.h>
 #include <valgrind/callgrind.h>
 
 // What the driver itself uses is found by a call that uses no stack but its return address.
 __attribute__((noinline)) static uint8_t nothing(void) { return 0; }
 static uint8_t (*volatile none)(void) = nothing;
 static void idle(void) { result = none(); }
-
-static _Alignas(64) uint8_t stack[1 << 18];
-static ucontext_t here, there;
-
-// The lowest byte of the stack that differs from the paint after `what` ran on it, as the distance from its top.
-static size_t depth_in(void (*what)(void), uint8_t paint) {
-    memset(stack, paint, sizeof stack);
-    getcontext(&there);
-    there.uc_stack.ss_sp = stack;
-    there.uc_stack.ss_size = sizeof stack;
-    there.uc_link = &here;
-    makecontext(&there, what, 0);
-    swapcontext(&here, &there);
-    size_t i = 0;
-    while (i < sizeof stack && stack[i] == paint) i++;
-    return sizeof stack - i;
-}
-
-// A byte may be written with the paint's own value, so there are two paints.
-static size_t depth(void (*what)(void)) {
-    size_t a = depth_in(what, 0xa5), b = depth_in(what, 0x5a);
-    return a < b ? b : a;
-}
 
 int main(int count, char **words) {
     int painted = count > 1 && strcmp(words[1], "stack") == 0;

@@ -2,12 +2,10 @@
 // a stack of its own that was painted before. When main has returned it prints to standard error: the bytes of stack from main's return address down to the lowest byte that
 // changed, what it calls included; and the bytes of the C library's start-up, from the stack's beginning down to the call of main.
 #define _GNU_SOURCE
+#include "painted.h"
 #include <dlfcn.h>
 #include <stdio.h>
-#include <stdint.h>
 #include <stdlib.h>
-#include <string.h>
-#include <ucontext.h>
 
 typedef int main_function(int, char **, char **);
 extern void *__libc_stack_end; // where the stack was when the program was entered
@@ -15,9 +13,6 @@ extern void *__libc_stack_end; // where the stack was when the program was enter
 static main_function *program;
 static int count, status;
 static char **words, **environment;
-
-static _Alignas(64) uint8_t stack[1 << 18];
-static ucontext_t here, there;
 
 // What the library itself uses is found by a main that uses no stack but its return address.
 __attribute__((noinline)) static int nothing(int c, char **w, char **e) {
@@ -27,18 +22,9 @@ __attribute__((noinline)) static int nothing(int c, char **w, char **e) {
 static main_function *volatile called;
 static void call(void) { status = called(count, words, environment); }
 
-static size_t depth(main_function *what, uint8_t paint) {
+static size_t depth_of(main_function *what, uint8_t paint) {
     called = what;
-    memset(stack, paint, sizeof stack);
-    getcontext(&there);
-    there.uc_stack.ss_sp = stack;
-    there.uc_stack.ss_size = sizeof stack;
-    there.uc_link = &here;
-    makecontext(&there, call, 0);
-    swapcontext(&here, &there);
-    size_t i = 0;
-    while (i < sizeof stack && stack[i] == paint) i++;
-    return sizeof stack - i;
+    return depth_in(call, paint);
 }
 
 // The program's input can be read once only, so there is one paint to a run; which one is asked by the environment.
@@ -49,7 +35,7 @@ static int painted_main(int c, char **w, char **e) {
     count = c;
     words = w;
     environment = e;
-    size_t idle = depth(nothing, paint), whole = depth(program, paint);
+    size_t idle = depth_of(nothing, paint), whole = depth_of(program, paint);
     fprintf(stderr, "%zu %zu\n", whole - idle + sizeof(void *), above);
     return status;
 }

@@ -10,12 +10,13 @@
 // ANSWERS. Every function takes any input, keeps no state but in a session that the caller owns, and ends. The result is 0 (ANALYSER_ANSWERED) where there is
 // an answer, else the number of the first refusal in the order given at the function. An answer comes through the pointers and leaves *place as it was; a
 // refusal writes *place and nothing else: a channel for 17, a node for 18, the lowest one at fault, and 0 for every other number. What a function is said to
-// write it writes in the first elements of the slice; the rest is left as it was. All this is proved, for every input, where the caller keeps the duties below.
+// write it writes in the first elements of the slice; the rest is left as it was. Two calls of a session differ: Clear, which nothing refuses, has no result,
+// and a refused Start writes the session too. All this is proved, for every input, where the caller keeps the duties below.
 //
 // THE CALLER'S DUTIES, which nothing checks. A slice is a pointer and its length in elements. Each pointer is not null, also where the length is 0, is aligned
 // for its type, and points to as many initialised elements as the length says (one, for a pointer with no length), at most PTRDIFF_MAX bytes. Nothing that is
 // lent as not const may overlap anything else that is lent to the same call, and until the call returns no other thread writes what is lent, nor reads what is
-// lent as not const. The stack has room for the call (44 KiB is enough, for Examine 53: docs/PERFORMANCE.md).
+// lent as not const. The stack has room for the call (44 KiB is enough, for Examine 47: docs/PERFORMANCE.md).
 //
 // A SHEET is a head and then its channels in order, nothing after. Fields are little-endian; a limit is signed, in two's complement.
 //
@@ -87,7 +88,10 @@ enum analyser_result {
     ANALYSER_NO_SUCH_CHANNEL = 25, // there is no such channel. Raise limit; of a record of the capture, Largest after
     ANALYSER_WINDOW_OUT_OF_RANGE = 26, // the window is not 1 to 256, or the named record is none of the capture's whole records. Largest after
     ANALYSER_TICK_GOES_BACK = 27, // a record of the capture has a lower tick than the one before. Largest after
-    ANALYSER_NO_OFFER = 28, // the session has no offer. Commit
+    ANALYSER_NO_OFFER = 28, // the party has no offer. Commit
+    ANALYSER_NO_PARTY = 29, // there is no such party: a party is 0 or 1. Ask, Commit
+    ANALYSER_COMMITTED = 30, // the party has committed since the start or the last clear. Ask, Commit
+    ANALYSER_STALE_OFFER = 31, // the other party's commit made the offer stale. Commit
     ANALYSER_TOO_MANY_PAPERS = 32 // more than 1000 papers. Examine
 };
 
@@ -239,50 +243,69 @@ uint8_t analyser_examine(const uint8_t *sheet, size_t sheet_length, uint16_t hea
                          size_t sets_length, uint8_t *points, size_t points_length, uint16_t *number, uint16_t *sum, uint8_t *least, uint8_t *greatest,
                          uint16_t *place);
 
-// A SESSION on a sheet: deliveries are first shown and then let in (Start, Ask, Commit). It is the caller's: it may lie anywhere, be copied, and be given up
-// at any time. Its fields are for the three functions below; who changes one has a value that no start gave, and on it every function still ends, and a refusal
-// still changes nothing: a question on what is no drawing with limits is refused 13, an offer that the limits left do not allow 28.
+// A SESSION on a sheet, which two parties share, 0 and 1 (Start, Ask, Commit, Clear): deliveries are first shown and then let in. Both parties have the same
+// limits left and the same faces. Each has an offer of its own and may commit once until the session is cleared; a commit by one makes the other's offer stale.
+// What a party is told follows from its own calls, from the other's accepted commits with their flows and from the clears, in their order: the other's asks and
+// refused commits change nothing in it, neither verdict nor settings nor set.
+// The session is the caller's: it may lie anywhere, be copied, and be given up at any time. Its fields are for the functions below; who changes one has a value
+// that no start gave, and on it every function still ends, and a refusal still changes nothing: a question on what is no drawing with limits is refused 13, an
+// offer that the limits left do not allow 31, and a party that stands at another number than 0 to 3 has no offer.
 // The struct must be initialised before Start too, in whatever way (= {0} will do).
 struct analyser_session {
     uint16_t nodes, channels, outer; // all 0 after a refused start
-    uint8_t offered; // 1: there is an offer
+    uint8_t standing[2]; // of party 0 and of party 1: 0 no offer, 1 an offer, 2 a stale offer, 3 has committed
     uint16_t tails[ANALYSER_MAX_DARTS], turns[ANALYSER_MAX_DARTS];
+    int32_t limits[ANALYSER_MAX_DARTS]; // the sheet's
     int32_t left[ANALYSER_MAX_DARTS]; // what is left of each dart's limit: from -1000000 to 2000000
-    int32_t offer[ANALYSER_MAX_CHANNELS]; // a setting for each channel
+    int32_t offers[2][ANALYSER_MAX_CHANNELS]; // of each party, a setting for each channel
 };
 
-// The same functions with the fields of the session one by one; the three inline functions behind them pass these on.
-uint8_t analyser_session_start(const uint8_t *sheet, size_t sheet_length, uint16_t *nodes, uint16_t *channels, uint16_t *outer, uint8_t *offered,
-                               uint16_t *tails, uint16_t *turns, int32_t *left, const int32_t *offer, uint16_t *place);
-uint8_t analyser_session_ask(uint16_t nodes, uint16_t channels, uint16_t outer, uint8_t *offered, const uint16_t *tails, const uint16_t *turns,
-                             const int32_t *left, int32_t *offer, uint16_t headgate, uint16_t outfall, int32_t delivery, int32_t *settings,
-                             size_t settings_length, uint64_t *set, size_t set_length, uint8_t *can, uint16_t *size, uint16_t *place);
-uint8_t analyser_session_commit(uint16_t nodes, uint16_t channels, uint16_t outer, uint8_t *offered, const uint16_t *tails, const uint16_t *turns,
-                                int32_t *left, const int32_t *offer, uint16_t *place);
+// The same functions with the fields of the session one by one, the two offers as first and second; the four inline functions behind them pass these on.
+uint8_t analyser_session_start(const uint8_t *sheet, size_t sheet_length, uint16_t *nodes, uint16_t *channels, uint16_t *outer, uint16_t *tails,
+                               uint16_t *turns, int32_t *limits, int32_t *left, uint8_t *standing, const int32_t *first, const int32_t *second,
+                               uint16_t *place);
+uint8_t analyser_session_ask(uint16_t party, uint16_t nodes, uint16_t channels, uint16_t outer, const uint16_t *tails, const uint16_t *turns,
+                             const int32_t *limits, const int32_t *left, uint8_t *standing, int32_t *first, int32_t *second, uint16_t headgate,
+                             uint16_t outfall, int32_t delivery, int32_t *settings, size_t settings_length, uint64_t *set, size_t set_length, uint8_t *can,
+                             uint16_t *size, uint16_t *place);
+uint8_t analyser_session_commit(uint16_t party, uint16_t nodes, uint16_t channels, uint16_t outer, const uint16_t *tails, const uint16_t *turns,
+                                const int32_t *limits, int32_t *left, uint8_t *standing, const int32_t *first, const int32_t *second, uint16_t *place);
+void analyser_session_clear(uint16_t nodes, uint16_t channels, uint16_t outer, const uint16_t *tails, const uint16_t *turns, const int32_t *limits,
+                            int32_t *left, uint8_t *standing, const int32_t *first, const int32_t *second);
 
-// Start: a session on the sheet, with all of its limits left and no offer.
-// Refusals: the sheet checks. Then the session has no nodes and no channels, every question on it is refused 13, and there is no offer.
+// Start: a session on the sheet, with all of its limits left; neither party has an offer or has committed.
+// Refusals: the sheet checks. Then the session has no nodes and no channels, every question of a party on it is refused 13, and there is no offer.
 static inline uint8_t analyser_start(struct analyser_session *session, const uint8_t *sheet, size_t sheet_length, uint16_t *place) {
-    return analyser_session_start(sheet, sheet_length, &session->nodes, &session->channels, &session->outer, &session->offered, session->tails,
-                                  session->turns, session->left, session->offer, place);
+    return analyser_session_start(sheet, sheet_length, &session->nodes, &session->channels, &session->outer, session->tails, session->turns, session->limits,
+                                  session->left, session->standing, session->offers[0], session->offers[1], place);
 }
 
-// Ask: Solve's answer on the limits left, which is exact for them. "Can" becomes the session's offer, a copy of the settings written; "cannot" clears the
-// offer; a refusal keeps the older one.
-// Refusals: 13, 14, 15, 16 as in Solve; the session is then as it was.
+// Ask: to a party, Solve's answer on the limits left, which is exact for them. "Can" becomes the party's offer, a copy of the settings written, in place of the
+// one that it had, stale or not; "cannot" removes the party's offer, a stale one too; a refusal keeps it, and a stale one stale. Nothing of the other party's
+// is read or moved. A party that has committed can ask no more until the session is cleared.
+// Refusals: 29; 30; 13, 14, 15, 16 as in Solve; the session is then as it was.
 // Writes: as Solve.
-static inline uint8_t analyser_ask(struct analyser_session *session, uint16_t headgate, uint16_t outfall, int32_t delivery, int32_t *settings,
+static inline uint8_t analyser_ask(struct analyser_session *session, uint16_t party, uint16_t headgate, uint16_t outfall, int32_t delivery, int32_t *settings,
                                    size_t settings_length, uint64_t *set, size_t set_length, uint8_t *can, uint16_t *size, uint16_t *place) {
-    return analyser_session_ask(session->nodes, session->channels, session->outer, &session->offered, session->tails, session->turns, session->left,
-                                session->offer, headgate, outfall, delivery, settings, settings_length, set, set_length, can, size, place);
+    return analyser_session_ask(party, session->nodes, session->channels, session->outer, session->tails, session->turns, session->limits, session->left,
+                                session->standing, session->offers[0], session->offers[1], headgate, outfall, delivery, settings, settings_length, set,
+                                set_length, can, size, place);
 }
 
-// Commit: lets the offer in. Each dart's limit left is lowered by the dart's own flow, so that its reverse's rises by the same, and the offer is cleared. At
-// every moment, what is left of a dart's limit and its flows in all commits since the start add up to the sheet's limit.
-// Refusals: 28; the session is then as it was.
-static inline uint8_t analyser_commit(struct analyser_session *session, uint16_t *place) {
-    return analyser_session_commit(session->nodes, session->channels, session->outer, &session->offered, session->tails, session->turns, session->left,
-                                   session->offer, place);
+// Commit: lets the party's offer in. Each dart's limit left is lowered by the dart's own flow, so that its reverse's rises by the same. The party has committed
+// then, and the other's offer, if it has one, is stale from then on, also where all flows are 0; where it has none its Commit is refused 28, not 31. At every
+// moment, what is left of a dart's limit and its flows in both parties' commits since the start or the last clear add up to the sheet's limit.
+// Refusals: 29; 30; 28; 31; the session is then as it was: a stale offer stays, and is refused again.
+static inline uint8_t analyser_commit(struct analyser_session *session, uint16_t party, uint16_t *place) {
+    return analyser_session_commit(party, session->nodes, session->channels, session->outer, session->tails, session->turns, session->limits, session->left,
+                                   session->standing, session->offers[0], session->offers[1], place);
+}
+
+// Clear: all of the sheet's limits are left again, both offers are removed, and both parties may commit again. It is no party's call and is never refused, also
+// after a refused start; the session of no nodes stays one.
+static inline void analyser_clear(struct analyser_session *session) {
+    analyser_session_clear(session->nodes, session->channels, session->outer, session->tails, session->turns, session->limits, session->left,
+                           session->standing, session->offers[0], session->offers[1]);
 }
 
 #ifdef __cplusplus

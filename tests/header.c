@@ -1,6 +1,6 @@
 // The header and the library, as a C program and as a C++ program: each operation on drawing A of document 01, and a refusal of each; Least and largest,
-// Totals by node and the DIMACS text on drawing B too, and Raise limit and Examine with each refusal beside the next. tests/header compiles and runs it, and compares what
-// it prints.
+// Totals by node and the DIMACS text on drawing B too, and Raise limit, Examine and a session of two parties with each refusal beside the next. tests/header
+// compiles and runs it, and compares what it prints.
 #include "analyser.h"
 #include "analyser.h"
 #include <stdio.h>
@@ -170,35 +170,58 @@ static void examine(const char *name, const uint8_t *bytes, size_t bytes_length,
     ended();
 }
 
-static struct analyser_session session;
+// A session between guards. Its offers are UNTOUCHED until a "can" is kept.
+static struct {
+    uint64_t before[8];
+    struct analyser_session session;
+    uint64_t behind[8];
+} kept;
+static struct analyser_session *const session = &kept.session;
+
+static void guard(void) {
+    for (int i = 0; i < 8; i++) kept.before[i] = kept.behind[i] = UNTOUCHED;
+    for (int p = 0; p < 2; p++)
+        for (int i = 0; i < ANALYSER_MAX_CHANNELS; i++) session->offers[p][i] = UNTOUCHED;
+}
 
 static void show_session(void) {
-    printf(", session %d %d %d offered %d", session.nodes, session.channels, session.outer, session.offered);
-    numbers("left", session.left, 6);
+    for (int i = 0; i < 8; i++)
+        if (kept.before[i] != UNTOUCHED || kept.behind[i] != UNTOUCHED) printf(", a guard is spoilt");
+    printf(", session %d %d %d, standing %d %d", session->nodes, session->channels, session->outer, session->standing[0], session->standing[1]);
+    numbers("left", session->left, 6);
+    numbers("first", session->offers[0], 4);
+    numbers("second", session->offers[1], 4);
     ended();
 }
 
 static void start(const char *name, const uint8_t *bytes, size_t bytes_length) {
     untouched();
-    int result = analyser_start(&session, bytes, bytes_length, &place);
+    int result = analyser_start(session, bytes, bytes_length, &place);
     printf("start %s %d", name, result);
     show_session();
 }
 
 // The settings written are spoilt behind the call: the offer is the session's.
-static void ask(const char *name, uint16_t headgate, uint16_t outfall, int32_t delivery, size_t settings_length, size_t set_length) {
+static void ask(const char *name, uint16_t party, uint16_t headgate, uint16_t outfall, int32_t delivery, size_t settings_length, size_t set_length) {
     untouched();
-    int result = analyser_ask(&session, headgate, outfall, delivery, settings, settings_length, set, set_length, &flag, &size, &place);
-    printf("ask %s %d: can %d, size %d, set %d", name, result, flag, size, (int)set[0]);
+    int result = analyser_ask(session, party, headgate, outfall, delivery, settings, settings_length, set, set_length, &flag, &size, &place);
+    printf("ask of %d, %s %d: can %d, size %d, set %d", party, name, result, flag, size, (int)set[0]);
     numbers("settings", settings, 4);
     show_session();
     set_three(7, 7, 7);
 }
 
-static void commit(const char *name) {
+static void commit(const char *name, uint16_t party) {
     untouched();
-    int result = analyser_commit(&session, &place);
-    printf("commit %s %d", name, result);
+    int result = analyser_commit(session, party, &place);
+    printf("commit of %d, %s %d", party, name, result);
+    show_session();
+}
+
+static void clear(const char *name) {
+    untouched();
+    analyser_clear(session);
+    printf("clear %s", name);
     show_session();
 }
 
@@ -437,32 +460,54 @@ int main(void) {
     write_dimacs("slice too short", drawing_a, sizeof drawing_a, 0, 1, 69);
 
     // a session: shown, let in; each refusal of Ask beside the next, and the offer older than them kept
+    guard();
     start("A", drawing_a, sizeof drawing_a);
-    commit("with no offer");
-    ask("6", 0, 1, 6, ANALYSER_MAX_CHANNELS, ANALYSER_SET_WORDS);
-    ask("no such node", 2, 2, 6, 3, 1);
-    ask("ends equal", 1, 1, 600000001, 3, 1);
-    ask("delivery out of range", 0, 1, 600000001, 2, 0);
-    ask("slice too short", 0, 1, 6, 2, 1);
-    ask("slice too short", 0, 1, 6, 3, 0);
-    commit("of 6");
-    commit("again");
-    ask("7", 0, 1, 7, ANALYSER_MAX_CHANNELS, ANALYSER_SET_WORDS);
-    ask("6", 0, 1, 6, ANALYSER_MAX_CHANNELS, ANALYSER_SET_WORDS);
-    ask("7", 0, 1, 7, 3, 1);
-    commit("after cannot");
-    ask("back", 1, 0, 6, 3, 1);
-    commit("of 6 back");
+    commit("with no offer", 0);
+    ask("6", 0, 0, 1, 6, ANALYSER_MAX_CHANNELS, ANALYSER_SET_WORDS);
+    ask("no such node", 0, 2, 2, 6, 3, 1);
+    ask("ends equal", 0, 1, 1, 600000001, 3, 1);
+    ask("delivery out of range", 0, 0, 1, 600000001, 2, 0);
+    ask("slice too short", 0, 0, 1, 6, 2, 1);
+    ask("slice too short", 0, 0, 1, 6, 3, 0);
+    // the other party beside it: no such party, already committed, a stale offer; a refusal keeps that, "cannot" removes it
+    ask("5", 1, 0, 1, 5, 3, 1);
+    ask("no such party, no such node", 2, 2, 1, 6, 3, 1);
+    commit("no such party", 65535);
+    commit("6", 0);
+    commit("again", 0);
+    ask("committed, no such node", 0, 2, 1, 6, 3, 1);
+    ask("committed, slice too short", 0, 0, 1, 6, 2, 1);
+    commit("stale", 1);
+    ask("ends equal", 1, 1, 1, 6, 3, 1);
+    commit("stale still", 1);
+    ask("7", 1, 0, 1, 7, ANALYSER_MAX_CHANNELS, ANALYSER_SET_WORDS);
+    commit("after cannot", 1);
+    ask("6", 1, 0, 1, 6, ANALYSER_MAX_CHANNELS, ANALYSER_SET_WORDS);
+    commit("6", 1);
+    commit("both have committed", 1);
+    clear("after both");
+    ask("12", 0, 0, 1, 12, 3, 1);
+    commit("12", 0);
+    ask("12 back", 1, 1, 0, 12, 3, 1);
+    commit("12 back", 1);
     start("cut short", drawing_a, sizeof drawing_a - 1);
-    ask("where no start was", 0, 1, 6, 3, 1);
-    commit("where no start was");
+    ask("where no start was", 0, 0, 1, 6, 3, 1);
+    commit("where no start was", 1);
+    clear("where no start was");
 
-    // values that no start gave: a turn that is no dart, an offer beyond the limits left
+    // values that no start gave: a turn that is no dart, an offer beyond the limits left, a party that stands nowhere, limits that are none
     start("A", drawing_a, sizeof drawing_a);
-    ask("6", 0, 1, 6, 3, 1);
-    session.turns[5] = 6;
-    ask("of no drawing", 0, 1, 6, 3, 1);
-    session.offer[1] = INT32_MIN;
-    commit("beyond the limits");
+    ask("6", 0, 0, 1, 6, 3, 1);
+    session->turns[5] = 6;
+    ask("of no drawing", 0, 0, 1, 6, 3, 1);
+    session->offers[0][1] = INT32_MIN;
+    commit("beyond the limits", 0);
+    session->standing[1] = 7;
+    commit("stands nowhere", 1);
+    session->turns[5] = 3;
+    ask("6", 1, 0, 1, 6, 3, 1);
+    session->limits[1] = INT32_MIN;
+    clear("to limits that are none");
+    ask("on limits that are none", 0, 0, 1, 6, 3, 1);
     return 0;
 }

@@ -7,10 +7,12 @@ const MODULES: [&str; 4] = ["library", "capture", "class", "session"];
 fn main() {
     let top = Path::new(env!("CARGO_MANIFEST_DIR"));
     link(&top.join("../target/staticlib"));
-    let header = prototypes(&read(&top.join("../include/analyser.h")), "\nuint8_t analyser_", from_c);
+    let text = read(&top.join("../include/analyser.h"));
+    let mut header = prototypes(&text, "\nuint8_t analyser_", from_c, |_| true);
+    header.extend(prototypes(&text, "\nvoid analyser_", from_c, |_| false));
     for module in MODULES {
-        for own in prototypes(&read(&top.join(format!("src/{module}.rs"))), "    fn analyser_", from_rust) {
-            let due = header.iter().find(|(name, _)| *name == own.0);
+        for own in prototypes(&read(&top.join(format!("src/{module}.rs"))), "    fn analyser_", from_rust, |behind| behind.starts_with(" -> u8;")) {
+            let due = header.iter().find(|(name, ..)| *name == own.0);
             assert_eq!(Some(&own), due, "src/{module}.rs declares otherwise than include/analyser.h");
         }
     }
@@ -29,14 +31,15 @@ fn read(file: &Path) -> String {
     std::fs::read_to_string(file).unwrap_or_else(|error| panic!("{}: {error}", file.display()))
 }
 
-/// A function's name and its parameters, each with its type in Rust's words.
-type Prototype = (String, Vec<(String, String)>);
+/// A function's name, its parameters, each with its type in Rust's words, and whether it has a result.
+type Prototype = (String, Vec<(String, String)>, bool);
 
-fn prototypes(text: &str, start: &str, parameter: fn(&str) -> (String, String)) -> Vec<Prototype> {
+fn prototypes(text: &str, start: &str, parameter: fn(&str) -> (String, String), results: fn(&str) -> bool) -> Vec<Prototype> {
     let function = |part: &str| {
         let (name, rest) = part.split_once('(')?;
-        let inside = rest.split(')').next()?;
-        Some((name.to_string(), inside.split(',').map(|one| parameter(&one.split_whitespace().collect::<Vec<_>>().join(" "))).collect()))
+        let (inside, behind) = rest.split_once(')')?;
+        let parameters = inside.split(',').map(|one| parameter(&one.split_whitespace().collect::<Vec<_>>().join(" "))).collect();
+        Some((name.to_string(), parameters, results(behind)))
     };
     text.split(start).skip(1).filter_map(function).collect()
 }

@@ -172,10 +172,14 @@ impl Checker<'_> {
         self.session(drawing, grown.source, grown.sink)
     }
 
-    /// A sequence of calls of a session.
+    /// A sequence of calls of a session, and two runs that one party cannot tell apart; now and then on limits of zero, where every commit is of flows of zero.
     fn session(&mut self, drawing: &Drawing, source: usize, sink: usize) -> Check {
-        let mut player = Player { library: self.library, chance: &mut self.chance, met: vec![] };
-        let played = player.play(drawing, source, sink);
+        let mut drawing = drawing.clone();
+        if self.chance.one_in(12) {
+            drawing.capacities.fill(0);
+        }
+        let mut player = Player::new(self.library, &mut self.chance, source, sink);
+        let played = player.play(&drawing).and_then(|()| player.pair(&drawing));
         for key in std::mem::take(&mut player.met) {
             *self.tally.answers.entry(key).or_default() += 1;
         }

@@ -162,9 +162,38 @@ faults! {
     FirstOfferKept: "a second can leaves the first offer",
     OfferOfTheCaller: "a commit takes the offer from the slice that the caller lent for the settings",
     RefusedStartKeeps: "a refused start leaves the old session",
-    StartKeepsOffer: "a start keeps the offer of the older session",
+    StartKeepsOffer: "a start leaves the parties where they stood in the older session",
     StartDartZero: "a session has dart 0 on the outer face",
     ForeignEmptied: "a value that is no session is emptied when it is refused",
+    SetByTheOthersQuestion: "once the other party has asked, another set that proves the same is named",
+    OthersOfferHeld: "a question is answered with the other party's offer taken off the limits left",
+    OthersLastAnswer: "the question that the other party asked last gets the answer that it got then",
+    AskMakesStale: "a can makes the other party's offer stale",
+    RefusedCommitMakesStale: "a refused commit makes the other party's offer stale",
+    OtherNotMadeStale: "a commit leaves the other party's offer as it is",
+    StillCommitNotStale: "a commit of flows of zero leaves the other party's offer as it is",
+    StaleWithoutOffer: "a commit makes stale also where the other party has no offer",
+    StaleFreshened: "a refused question makes a stale offer fresh",
+    StaleRemoved: "a refused commit removes the stale offer",
+    CommittedMayAsk: "a party that has committed may ask",
+    CommitTakesTheOthers: "a commit takes the other party's offer",
+    AskKeepsIntoTheOthers: "a can is kept as the other party's offer",
+    AccountOfOne: "a commit lowers the sheet's limits, not what the other party's commit left of them",
+    LimitsLowered: "a commit lowers the sheet's limits with those left",
+    ClearKeepsOffer: "a clear keeps offers",
+    ClearKeepsStale: "a clear keeps stale offers",
+    ClearKeepsCommitted: "a clear does not let a party commit again",
+    ClearKeepsLeft: "a clear keeps the limits left",
+    ClearForwardOnly: "a clear restores forward limits only",
+    ClearPassesEmpty: "a clear passes over a session of no nodes",
+    PartyTwoIsZero: "a party's lowest bit is taken for it",
+    ThirtyForTwentyNine: "whether a party has committed is looked at before whether there is such a party",
+    ThirteenForTwentyNine: "the ends are looked at before the party",
+    ThirteenForThirty: "the ends are looked at before whether the party has committed",
+    TwentyEightForTwentyNine: "a commit of no party is one without an offer",
+    TwentyEightForThirty: "a second commit is told as one without an offer",
+    TwentyEightForThirtyOne: "a stale offer is told as none",
+    ThirtyOneForTwentyEight: "where the other party has committed, no offer is told as a stale one",
     ExamineSetOneTooGreat: "a set whose outward total is one too great earns its 3 points",
     ExamineThreeAndThree: "where the largest is none, claim and set earn 3 each",
     ExamineNoneClosesTheSet: "a paper that claims none earns nothing for its set",
@@ -912,6 +941,7 @@ fn put(slice: &mut [i32], numbers: &[i64]) {
 mod tests {
     use super::*;
     use crate::check::{compare_drawing, Tally};
+    use crate::pairs;
 
     const SEED: u64 = 11;
     const DRAWINGS: u64 = 600;
@@ -934,7 +964,7 @@ mod tests {
         run(None, &mut tally).unwrap_or_else(|wrong| panic!("{wrong}"));
         let sheet: Vec<u8> = (1..=10).chain([12, 24]).collect(); // 11 no longer occurs
         let with = |more: &[u8]| [&sheet[..], more].concat();
-        let due: [(&str, Vec<u8>, &[&str]); 18] = [
+        let due: [(&str, Vec<u8>, &[&str]); 20] = [
             ("Read", with(&[16]), &["done"]),
             ("Write", vec![3, 4, 5, 6, 7, 9, 10, 12, 16, 24], &["done"]),
             ("Solve", with(&[13, 14, 15, 16]), &["can", "cannot"]),
@@ -951,8 +981,10 @@ mod tests {
             ("Examine", with(&[13, 14, 15, 16, 32]), &["class", "empty", "of 1000"]),
             ("Page", with(&[16, 21]), &["empty", "of 64", "with every answer", "with some answers"]),
             ("Start", sheet.clone(), &["done"]),
-            ("Ask", vec![13, 14, 15, 16], &["can", "cannot"]),
-            ("Commit", vec![28], &["done"]),
+            ("Ask", vec![13, 14, 15, 16, 29, 30], &["can", "cannot"]),
+            ("Commit", vec![28, 29, 30, 31], &["done"]),
+            ("Clear", vec![], &["done"]),
+            (pairs::NAME, vec![], &["with a set of several nodes", "with other answers", "with refusals at most"]),
         ];
         for (name, refusals, answers) in due {
             let met: Vec<_> = tally.answers.keys().filter(|key| key.0 == name).map(|&(_, number, answer)| (number, answer)).collect();

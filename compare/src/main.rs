@@ -1,4 +1,5 @@
-//! Compares the analyser's C interface with an independent flow solver, on random flat drawings and damaged sheets.
+//! Compares the analyser's C interface with an independent flow solver, on random flat drawings and damaged sheets, and plays sessions of two parties on them:
+//! against a model that keeps lists, and in pairs of runs that a party must not be able to tell apart.
 //!
 //!     compare [--seed N] [--count N | --seconds N] [--from N] [--sheets FOLDER] [--questions FOLDER [--program PATH]] [--fault NAME]
 //!
@@ -18,10 +19,12 @@ mod grid;
 mod grow;
 mod judge;
 mod levels;
+mod pairs;
 #[cfg(test)]
 mod paper;
 mod program;
 mod progress;
+mod session_faults;
 mod sessions;
 mod unit;
 

@@ -142,7 +142,7 @@ impl Lent {
 }
 
 /// A slice with guard elements before and after it.
-struct Guarded<T> {
+pub struct Guarded<T> {
     all: Vec<T>,
     guard: T,
 }
@@ -150,23 +150,23 @@ struct Guarded<T> {
 const GUARDS: usize = 16;
 
 impl<T: Copy + PartialEq> Guarded<T> {
-    fn new(lent: &[T], guard: T) -> Self {
+    pub fn new(lent: &[T], guard: T) -> Self {
         let mut all = vec![guard; GUARDS];
         all.extend_from_slice(lent);
         all.extend([guard; GUARDS]);
         Guarded { all, guard }
     }
 
-    fn length(&self) -> usize {
+    pub fn length(&self) -> usize {
         self.all.len() - 2 * GUARDS
     }
 
-    fn pointer(&mut self) -> *mut T {
+    pub fn pointer(&mut self) -> *mut T {
         self.all[GUARDS..].as_mut_ptr()
     }
 
     /// Gives the slice back, and says whether the guards are whole.
-    fn give_back(&self, lent: &mut [T]) -> bool {
+    pub fn give_back(&self, lent: &mut [T]) -> bool {
         let end = GUARDS + self.length();
         lent.copy_from_slice(&self.all[GUARDS..end]);
         self.all[..GUARDS].iter().chain(&self.all[end..]).all(|&element| element == self.guard)

@@ -1,12 +1,12 @@
-//! A session on a sheet (document 02, Jobs 11 and 12), one call a line: `ask HEADGATE OUTFALL DELIVERY`, `commit`, `clear`. Before ask and commit may stand
-//! the party, as in `1 ask 0 6 5`; without it they are of party 0.
+//! A session on a sheet that two parties share (document 02, Jobs 11 and 12), one call a line: `ask HEADGATE OUTFALL DELIVERY`, `commit`, `clear`. Before ask
+//! and commit may stand the party, as in `1 ask 0 6 5`; without it they are of party 0.
 use crate::answer::{number, refusal_json, refusal_text, Answer, Outcome};
 use crate::commands::{ends_of, set_json, spaced};
 use crate::json::Json;
-use crate::library::{self, nodes_of, settings_room, told, written, Solved, Told, SET_WORDS};
+use crate::library::{nodes_of, settings_room, told, written, Refusal, Solved, Told, SET_WORDS};
 use crate::progress;
 use crate::sheets::{Question, QUESTION};
-use crate::text::{fault, short, Field, File, Parsed};
+use crate::text::{short, Field, File, Parsed};
 use crate::words::Words;
 
 #[derive(Clone, Copy, Debug, PartialEq)]
@@ -40,13 +40,15 @@ fn parse(file: &File) -> Parsed<Vec<Call>> {
 
 #[rustfmt::skip]
 extern "C" {
-    fn analyser_session_start(sheet: *const u8, sheet_length: usize, nodes: *mut u16, channels: *mut u16, outer: *mut u16, offered: *mut u8,
-                              tails: *mut u16, turns: *mut u16, left: *mut i32, offer: *const i32, place: *mut u16) -> u8;
-    fn analyser_session_ask(nodes: u16, channels: u16, outer: u16, offered: *mut u8, tails: *const u16, turns: *const u16, left: *const i32,
-                            offer: *mut i32, headgate: u16, outfall: u16, delivery: i32, settings: *mut i32, settings_length: usize, set: *mut u64,
-                            set_length: usize, can: *mut u8, size: *mut u16, place: *mut u16) -> u8;
-    fn analyser_session_commit(nodes: u16, channels: u16, outer: u16, offered: *mut u8, tails: *const u16, turns: *const u16, left: *mut i32,
-                               offer: *const i32, place: *mut u16) -> u8;
+    fn analyser_session_start(sheet: *const u8, sheet_length: usize, nodes: *mut u16, channels: *mut u16, outer: *mut u16, tails: *mut u16, turns: *mut u16,
+                              limits: *mut i32, left: *mut i32, standing: *mut u8, first: *const i32, second: *const i32, place: *mut u16) -> u8;
+    fn analyser_session_ask(party: u16, nodes: u16, channels: u16, outer: u16, tails: *const u16, turns: *const u16, limits: *const i32, left: *const i32,
+                            standing: *mut u8, first: *mut i32, second: *mut i32, headgate: u16, outfall: u16, delivery: i32, settings: *mut i32,
+                            settings_length: usize, set: *mut u64, set_length: usize, can: *mut u8, size: *mut u16, place: *mut u16) -> u8;
+    fn analyser_session_commit(party: u16, nodes: u16, channels: u16, outer: u16, tails: *const u16, turns: *const u16, limits: *const i32, left: *mut i32,
+                               standing: *mut u8, first: *const i32, second: *const i32, place: *mut u16) -> u8;
+    fn analyser_session_clear(nodes: u16, channels: u16, outer: u16, tails: *const u16, turns: *const u16, limits: *const i32, left: *mut i32,
+                              standing: *mut u8, first: *const i32, second: *const i32);
 }
 
 const DARTS: usize = 1024;
@@ -57,67 +59,95 @@ struct Session {
     nodes: u16,
     channels: u16,
     outer: u16,
-    offered: u8,
+    standing: [u8; 2],
     tails: [u16; DARTS],
     turns: [u16; DARTS],
+    limits: [i32; DARTS],
     left: [i32; DARTS],
-    offer: [i32; CHANNELS],
+    first: [i32; CHANNELS],
+    second: [i32; CHANNELS],
 }
+
+/// Where a party stands, by its number, in words for the text and for the JSON.
+const STANDINGS: [(&str, &str); 4] = [("has no offer", "none"), ("has an offer", "offer"), ("has a stale offer", "stale"), ("has committed", "committed")];
 
 #[rustfmt::skip]
 impl Session {
     fn start(sheet: &[u8]) -> Told<Session> {
         let mut new = Session {
-            nodes: 0, channels: 0, outer: 0, offered: 0, tails: [0; DARTS], turns: [0; DARTS], left: [0; DARTS], offer: [0; CHANNELS],
+            nodes: 0, channels: 0, outer: 0, standing: [0; 2], tails: [0; DARTS], turns: [0; DARTS], limits: [0; DARTS], left: [0; DARTS],
+            first: [0; CHANNELS], second: [0; CHANNELS],
         };
         told(|place| unsafe {
-            analyser_session_start(sheet.as_ptr(), sheet.len(), &mut new.nodes, &mut new.channels, &mut new.outer, &mut new.offered,
-                new.tails.as_mut_ptr(), new.turns.as_mut_ptr(), new.left.as_mut_ptr(), new.offer.as_ptr(), place)
+            analyser_session_start(sheet.as_ptr(), sheet.len(), &mut new.nodes, &mut new.channels, &mut new.outer, new.tails.as_mut_ptr(),
+                new.turns.as_mut_ptr(), new.limits.as_mut_ptr(), new.left.as_mut_ptr(), new.standing.as_mut_ptr(), new.first.as_ptr(),
+                new.second.as_ptr(), place)
         })?;
         Ok(new)
     }
 
-    fn ask(&mut self, question: &Question) -> Told<Solved> {
+    fn ask(&mut self, party: u16, question: &Question) -> Told<Solved> {
         let (mut settings, mut set) = (settings_room(), vec![0; SET_WORDS]);
         let (mut can, mut size) = (0, 0);
         let (headgate, outfall) = ends_of(question);
         told(|place| unsafe {
-            analyser_session_ask(self.nodes, self.channels, self.outer, &mut self.offered, self.tails.as_ptr(), self.turns.as_ptr(), self.left.as_ptr(),
-                self.offer.as_mut_ptr(), headgate, outfall, question.delivery, settings.as_mut_ptr(), settings.len(), set.as_mut_ptr(), set.len(),
-                &mut can, &mut size, place)
+            analyser_session_ask(party, self.nodes, self.channels, self.outer, self.tails.as_ptr(), self.turns.as_ptr(), self.limits.as_ptr(),
+                self.left.as_ptr(), self.standing.as_mut_ptr(), self.first.as_mut_ptr(), self.second.as_mut_ptr(), headgate, outfall, question.delivery,
+                settings.as_mut_ptr(), settings.len(), set.as_mut_ptr(), set.len(), &mut can, &mut size, place)
         })?;
         Ok(if can == 1 { Solved::Can(written(settings)) } else { Solved::Cannot { set, size } })
     }
 
-    fn commit(&mut self) -> Told<()> {
+    fn commit(&mut self, party: u16) -> Told<()> {
         told(|place| unsafe {
-            analyser_session_commit(self.nodes, self.channels, self.outer, &mut self.offered, self.tails.as_ptr(), self.turns.as_ptr(),
-                self.left.as_mut_ptr(), self.offer.as_ptr(), place)
+            analyser_session_commit(party, self.nodes, self.channels, self.outer, self.tails.as_ptr(), self.turns.as_ptr(), self.limits.as_ptr(),
+                self.left.as_mut_ptr(), self.standing.as_mut_ptr(), self.first.as_ptr(), self.second.as_ptr(), place)
         })
+    }
+
+    fn clear(&mut self) {
+        unsafe {
+            analyser_session_clear(self.nodes, self.channels, self.outer, self.tails.as_ptr(), self.turns.as_ptr(), self.limits.as_ptr(),
+                self.left.as_mut_ptr(), self.standing.as_mut_ptr(), self.first.as_ptr(), self.second.as_ptr())
+        }
     }
 }
 
-/// What a call is called, what it says, and its fields.
-type Said = (String, String, Vec<(&'static str, Json)>);
+/// What a call says, as text and in fields.
+type Said = (String, Vec<(&'static str, Json)>);
 
-fn said(session: &mut Session, call: &Call) -> Parsed<Said> {
-    let refused = |refusal| (refusal_text(refusal).trim_end().to_string(), refusal_json(refusal));
-    let (name, (text, json)) = match call {
-        Call::Ask { party: 0, question } => {
-            let Question { headgate, outfall, delivery } = question;
-            let told = match session.ask(question) {
-                Ok(Solved::Can(settings)) => (spaced("can", &settings), vec![("answer", "can".into()), ("settings", Json::numbers(&settings))]),
-                Ok(Solved::Cannot { set, size }) => {
-                    (spaced("cannot", &nodes_of(&set)), vec![("answer", "cannot".into()), ("set", set_json(&set)), ("size", number(size))])
-                }
-                Err(refusal) => refused(refusal),
-            };
-            (format!("ask {headgate} {outfall} {delivery}"), told)
+fn refused(refusal: Refusal) -> Said {
+    (refusal_text(refusal).trim_end().to_string(), refusal_json(refusal))
+}
+
+fn done() -> Said {
+    ("done".to_string(), vec![("answer", "done".into())])
+}
+
+fn said(session: &mut Session, call: &Call) -> Said {
+    match call {
+        Call::Ask { party, question } => match session.ask(*party, question) {
+            Ok(Solved::Can(settings)) => (spaced("can", &settings), vec![("answer", "can".into()), ("settings", Json::numbers(&settings))]),
+            Ok(Solved::Cannot { set, size }) => {
+                (spaced("cannot", &nodes_of(&set)), vec![("answer", "cannot".into()), ("set", set_json(&set)), ("size", number(size))])
+            }
+            Err(refusal) => refused(refusal),
+        },
+        Call::Commit { party } => session.commit(*party).map_or_else(refused, |()| done()),
+        Call::Clear => {
+            session.clear();
+            done()
         }
-        Call::Commit { party: 0 } => ("commit".to_string(), session.commit().map_or_else(refused, |_| ("done".to_string(), vec![("answer", "done".into())]))),
-        _ => return fault("session", "the library has no second party and no clear"),
-    };
-    Ok((name, text, json))
+    }
+}
+
+/// Whose call it is, and what it is called.
+fn named(call: &Call) -> (Option<u16>, String) {
+    match call {
+        Call::Ask { party, question: Question { headgate, outfall, delivery } } => (Some(*party), format!("ask {headgate} {outfall} {delivery}")),
+        Call::Commit { party } => (Some(*party), "commit".to_string()),
+        Call::Clear => (None, "clear".to_string()),
+    }
 }
 
 /// A refused start is the refusal of the whole; a call that is refused is told with the others.
@@ -125,20 +155,28 @@ pub fn command(words: &Words) -> Outcome {
     let sheet = words.sheet()?;
     let calls = read(words.last())?;
     let mut session = Session::start(&sheet.bytes)?;
-    let channels = library::read(&sheet.bytes)?.channels as usize;
     let (mut text, mut list) = (String::new(), vec![]);
     for (at, call) in calls.iter().enumerate() {
         progress::step(at, calls.len());
-        let (name, line, mut json) = said(&mut session, call)?;
-        text += &format!("{name}: {line}\n");
-        json.insert(0, ("call", name.as_str().into()));
+        let (party, name) = named(call);
+        let (line, mut json) = said(&mut session, call);
+        let whose = party.map_or(String::new(), |party| format!("{party} "));
+        text += &format!("{whose}{name}: {line}\n");
+        json.splice(0..0, [("party", party.into()), ("call", name.as_str().into())]);
         list.push(Json::Object(json));
     }
-    let left = &session.left[..2 * channels];
+    let left = &session.left[..2 * session.channels as usize];
     let lines: String = left.chunks(2).enumerate().map(|(channel, pair)| format!("{channel} {} {}\n", pair[0], pair[1])).collect();
+    let standing = session.standing.map(|standing| STANDINGS[standing as usize]);
+    let parties: String = standing.iter().enumerate().map(|(party, (words, _))| format!("party {party} {words}\n")).collect();
     Ok(Answer {
-        text: format!("{text}left\n{lines}"),
-        json: vec![("answer", "session".into()), ("calls", Json::List(list)), ("left", Json::numbers(left))],
+        text: format!("{text}{parties}left\n{lines}"),
+        json: vec![
+            ("answer", "session".into()),
+            ("calls", Json::List(list)),
+            ("parties", Json::List(standing.iter().map(|(_, word)| Json::from(*word)).collect())),
+            ("left", Json::numbers(left)),
+        ],
         ..Answer::default()
     })
 }

@@ -282,14 +282,21 @@ pub const COMMANDS: &[Command] = &[
         operation: "A session",
         words: "SHEET CALLS",
         counts: &[2],
-        says: "A session on a sheet, call by call: CALLS has a line 'ask HEADGATE OUTFALL DELIVERY' or 'commit' for each. Ask gives Solve's answer\n\
-               on the limits still left and keeps it as the offer; commit lets the offer in. At the end the limits left, CHANNEL FORWARD BACK.",
-        json: "answer session, calls (each with call and what solve, done or a refusal has), left (one to a dart)",
-        examples: "$ printf 'ask 0 1 6\\ncommit\\nask 0 1 7\\ncommit\\n' | tools/unit session samples/a-6.txt -\n\
-                   ask 0 1 6: can 0 2 4\n\
-                   commit: done\n\
-                   ask 0 1 7: cannot 0\n\
-                   commit: refused 28 place 0: the session has no offer\n\
+        says: "A session on a sheet that two parties share, 0 and 1, call by call: CALLS has a line '[PARTY] ask HEADGATE OUTFALL DELIVERY',\n\
+               '[PARTY] commit' or 'clear' for each; without a party it is 0. Ask gives Solve's answer on the limits still left and keeps it as\n\
+               the party's offer; commit lets that in, once until the next clear, and makes the other's offer stale; clear restores the sheet's\n\
+               limits and removes both offers. At the end where each party stands, and the limits left, CHANNEL FORWARD BACK.",
+        json: "answer session, calls (each with party, null of clear, call and what solve, done or a refusal has),\n\
+               parties (where each stands: none, offer, stale, committed), left (one to a dart)",
+        examples: "$ printf 'ask 0 1 6\\n1 ask 0 1 7\\ncommit\\n1 commit\\n1 ask 0 1 7\\n1 commit\\n' | tools/unit session samples/a-6.txt -\n\
+                   0 ask 0 1 6: can 0 2 4\n\
+                   1 ask 0 1 7: can 0 3 4\n\
+                   0 commit: done\n\
+                   1 commit: refused 31 place 0: the other party's commit made the offer stale\n\
+                   1 ask 0 1 7: cannot 0\n\
+                   1 commit: refused 28 place 0: the party has no offer\n\
+                   party 0 has committed\n\
+                   party 1 has no offer\n\
                    left\n\
                    0 5 0\n\
                    1 1 2\n\

@@ -45,9 +45,9 @@ use Rattle.key_text.specs.Key.{keyRoomChecks}
 use Rattle.practice.specs.Practice.{practiceChecks}
 use Rattle.dimacs.specs.Write.{textChecks}
 use Rattle.analyser.specs.Dimacs.{dimacsChecks}
-use Rattle.sessions.specs.Session.{Session}
-use Rattle.sessions.specs.Ask.{askChecks}
-use Rattle.sessions.specs.Commit.{commitChecks}
+use Rattle.sessions.specs.Ask as left
+use Rattle.parties.specs.Shared.{Shared}
+use Rattle.parties.specs.Calls.{askChecks, commitChecks}
 
 -- ── lists of checks whose numbers are 1 or more ──
 unfoldable pub Numbered : List Check → Type 0
@@ -212,10 +212,11 @@ unfolding Numbered dimacsChecks textChecks endChecks
 dimacs-numbered s source sink text =
     numbered-append (sheetChecks s) _ (sheet-numbered s) (omega arith, (omega arith, (omega arith, (omega arith, tt))))
 
-pub ask-numbered : (𝓓 : Drawing) (source sink : ℕ) (value : ℤ) (flows : List ℤ) (set : List ℕ) → Numbered (askChecks 𝓓 source sink value flows set)
-unfolding Numbered askChecks valueChecks roomChecks
-ask-numbered 𝓓 source sink value flows set = (omega arith, (omega arith, (omega arith, (omega arith, tt))))
+pub ask-numbered : (𝓓 : Drawing) (standing party source sink : ℕ) (value : ℤ) (flows : List ℤ) (set : List ℕ)
+    → Numbered (askChecks 𝓓 standing party source sink value flows set)
+unfolding Numbered askChecks left.askChecks valueChecks roomChecks
+ask-numbered 𝓓 standing party source sink value flows set = (omega arith, (omega arith, (omega arith, (omega arith, (omega arith, (omega arith, tt))))))
 
-pub commit-numbered : (S : Session) → Numbered (commitChecks S)
+pub commit-numbered : (S : Shared) (p : ℕ) → Numbered (commitChecks S p)
 unfolding Numbered commitChecks
-commit-numbered S = (omega arith, tt)
+commit-numbered S p = (omega arith, (omega arith, (omega arith, (omega arith, tt))))

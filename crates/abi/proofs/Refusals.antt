@@ -43,10 +43,9 @@ use Rattle.key_text.specs.declared.KeyAnswer.the-variants as key
 use Rattle.practice.specs.Practice.{practiceChecks}
 use Rattle.practice.specs.declared.PracticeAnswer.the-variants as practice
 use Rattle.analyser.specs.Dimacs.{dimacsChecks}
-use Rattle.sessions.specs.Session.{Session, sessionDrawing}
-use Rattle.sessions.specs.Start.{emptied}
-use Rattle.sessions.specs.Ask.{askChecks}
-use Rattle.sessions.specs.Commit.{commitChecks}
+use Rattle.parties.specs.Shared.{Shared, sharedDrawing}
+use Rattle.parties.specs.Start.{emptied}
+use Rattle.parties.specs.Calls.{askChecks, commitChecks}
 use Rattle.dimacs.specs.declared.DimacsAnswer.the-variants as dimacs
 use Rattle.abi.specs.Read.{TellsRead}
 use Rattle.abi.specs.Write.{TellsWrite}
@@ -226,20 +225,20 @@ module _ {place place' result : ℕ} where
     dimacs-says (dimacs.Refused k p, h, t) = says-refusal k p (dimacs-numbered s _ _ _) (h .0) (t .0) (t .2) (h .1, t .1)
 
     -- a refused start leaves the session of no nodes
-    pub start-says : (S S' : Session) → TellsStart s S S' place place' result → Says (sheetChecks s) result place place' (S' ≡ emptied S)
+    pub start-says : (S S' : Shared) → TellsStart s S S' place place' result → Says (sheetChecks s) result place place' (S' ≡ emptied S)
     start-says S S' (verdict.Passed, h, t) = says-answer (h .0) (t .0) (t .1)
     start-says S S' (verdict.Refused k p, h, t) = says-refusal k p (sheet-numbered s) (h .0) (t .0) (t .1) (h .1)
 
-  -- ── a session, whatever value it is ──
-  pub ask-says : (S S' : Session) {source sink : ℕ} {value : ℤ} {flows flows' : List ℤ} {set set' : List ℕ} {can can' size size' : ℕ}
-      → TellsAsk S source sink value flows flows' set set' S' can can' size size' place place' result
-      → Says (askChecks (sessionDrawing S) source sink value flows set) result place place'
+  -- ── a session, whatever value it is, and any number as a party ──
+  pub ask-says : (S S' : Shared) (q : ℕ) {source sink : ℕ} {value : ℤ} {flows flows' : List ℤ} {set set' : List ℕ} {can can' size size' : ℕ}
+      → TellsAsk S q source sink value flows flows' set set' S' can can' size size' place place' result
+      → Says (askChecks (sharedDrawing S) (S .standing q) q source sink value flows set) result place place'
       ((S' ≡ S) × (flows' ≡ flows) × (set' ≡ set) × (can' ≡ can) × (size' ≡ size))
-  ask-says S S' (solve.Can, h, t) = says-answer (h .0 .0) (t .0) (t .3)
-  ask-says S S' (solve.Cannot n, h, t) = says-answer (h .0 .0) (t .0) (t .3)
-  ask-says S S' (solve.Refused k p, h, t) =
-      says-refusal k p (ask-numbered (sessionDrawing S) _ _ _ _ _) (h .0 .0) (t .0) (t .3) (h .1, h .0 .1, h .0 .2, t .1, t .2)
+  ask-says S S' q (solve.Can, h, t) = says-answer (h .solved .0) (t .0) (t .3)
+  ask-says S S' q (solve.Cannot n, h, t) = says-answer (h .solved .0) (t .0) (t .3)
+  ask-says S S' q (solve.Refused k p, h, t) =
+      says-refusal k p (ask-numbered (sharedDrawing S) _ q _ _ _ _ _) (h .solved .0) (t .0) (t .3) (h .after, h .solved .1, h .solved .2, t .1, t .2)
 
-  pub commit-says : (S S' : Session) → TellsCommit S S' place place' result → Says (commitChecks S) result place place' (S' ≡ S)
-  commit-says S S' (verdict.Passed, h, t) = says-answer (h .0) (t .0) (t .1)
-  commit-says S S' (verdict.Refused k p, h, t) = says-refusal k p (commit-numbered S) (h .0) (t .0) (t .1) (h .1)
+  pub commit-says : (S S' : Shared) (q : ℕ) → TellsCommit S q S' place place' result → Says (commitChecks S q) result place place' (S' ≡ S)
+  commit-says S S' q (verdict.Passed, h, t) = says-answer (h .0) (t .0) (t .1)
+  commit-says S S' q (verdict.Refused k p, h, t) = says-refusal k p (commit-numbered S q) (h .0) (t .0) (t .1) (h .1)

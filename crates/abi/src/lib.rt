@@ -1,5 +1,6 @@
 // The C interface: each operation of the analyser under a plain name. A slice is passed as a pointer and a length. The result is the number of
 // the refusal, or 0. Answers and the place of a refusal come through pointers: a refusal writes the place alone, and an answer leaves it as it was.
+ghost use mathlib.Core.Path.{_≡_};
 ghost use Rattle.abi.specs.Read.{TellsRead};
 ghost use Rattle.abi.specs.Write.{TellsWrite};
 ghost use Rattle.abi.specs.Solve.{TellsSolve};
@@ -16,7 +17,7 @@ ghost use Rattle.abi.specs.Key.{TellsKey};
 ghost use Rattle.abi.specs.Practice.{TellsPractice};
 ghost use Rattle.abi.specs.Dimacs.{TellsDimacs};
 use desk::Class;
-ghost use Rattle.sessions.specs.Session.{sessionOf};
+ghost use Rattle.parties.specs.Shared.{sharedOf, cleared};
 ghost use Rattle.abi.specs.Sessions.{TellsStart, TellsAsk, TellsCommit};
 use dimacs::DimacsAnswer;
 use key_text::KeyAnswer;
@@ -536,37 +537,41 @@ pub extern "C" fn analyser_examine(
     }
 }
 
-// Start of a session. The fields of the session are lent one by one; the offer's array is named by the contract only.
+// Start of a session of two parties. The fields of the session are lent one by one; the arrays of the offers are named by the contract only.
 #[no_mangle]
 pub extern "C" fn analyser_session_start(
     sheet: &[u8],
     nodes: &mut u16,
     edges: &mut u16,
     outer: &mut u16,
-    offered: &mut u8,
     tails: &mut [u16; 1024],
     rotations: &mut [u16; 1024],
+    limits: &mut [i32; 1024],
     left: &mut [i32; 1024],
-    offer: &[i32; 512],
+    standing: &mut [u8; 2],
+    first: &[i32; 512],
+    second: &[i32; 512],
     place: &mut u16,
 ) -> u8
     ensures { λ r. ⌜ TellsStart (now (sheet .entry))
-        (sessionOf (now (nodes .entry)) (now (edges .entry)) (now (outer .entry)) (now (offered .entry))
-        (now (tails .entry)) (now (rotations .entry)) (now (left .entry)) (now (offer .entry)))
-        (sessionOf (now (nodes .exit)) (now (edges .exit)) (now (outer .exit)) (now (offered .exit))
-        (now (tails .exit)) (now (rotations .exit)) (now (left .exit)) (now (offer .entry)))
+        (sharedOf (now (nodes .entry)) (now (edges .entry)) (now (outer .entry)) (now (tails .entry)) (now (rotations .entry)) (now (limits .entry))
+        (now (left .entry)) (now (standing .entry)) (now (first .entry)) (now (second .entry)))
+        (sharedOf (now (nodes .exit)) (now (edges .exit)) (now (outer .exit)) (now (tails .exit)) (now (rotations .exit)) (now (limits .exit))
+        (now (left .exit)) (now (standing .exit)) (now (first .entry)) (now (second .entry)))
         (now (place .entry)) (now (place .exit)) r ⌝ }
 {
-    let answer = sessions::start(
+    let answer = parties::start(
         sheet,
         nodes,
         edges,
         outer,
-        offered,
         tails,
         rotations,
+        limits,
         left,
-        offer,
+        standing,
+        first,
+        second,
     );
     match answer {
         Verdict::Passed => 0,
@@ -577,17 +582,21 @@ pub extern "C" fn analyser_session_start(
     }
 }
 
-// Ask. It can: can is 1, the flows are written and kept as the offer. It cannot: can is 0, the set is written, size is its number of nodes, no offer is kept.
+// Ask. It can: can is 1, the flows are written and kept as the party's offer. It cannot: can is 0, the set is written, size is its number of nodes, the party
+// has no offer.
 #[no_mangle]
 pub extern "C" fn analyser_session_ask<'a>(
+    party: u16,
     nodes: u16,
     edges: u16,
     outer: u16,
-    offered: &mut u8,
     tails: &'a [u16; 1024],
     rotations: &'a [u16; 1024],
+    limits: &[i32; 1024],
     left: &'a [i32; 1024],
-    offer: &mut [i32; 512],
+    standing: &mut [u8; 2],
+    first: &mut [i32; 512],
+    second: &mut [i32; 512],
     source: u16,
     sink: u16,
     value: i32,
@@ -598,22 +607,25 @@ pub extern "C" fn analyser_session_ask<'a>(
     place: &mut u16,
 ) -> u8
     ensures { λ r. ⌜ TellsAsk
-        (sessionOf nodes edges outer (now (offered .entry))
-        (now (tails .entry)) (now (rotations .entry)) (now (left .entry)) (now (offer .entry)))
-        source sink value (now (flows .entry)) (now (flows .exit)) (now (set .entry)) (now (set .exit))
-        (sessionOf nodes edges outer (now (offered .exit))
-        (now (tails .entry)) (now (rotations .entry)) (now (left .entry)) (now (offer .exit)))
+        (sharedOf nodes edges outer (now (tails .entry)) (now (rotations .entry)) (now (limits .entry)) (now (left .entry))
+        (now (standing .entry)) (now (first .entry)) (now (second .entry)))
+        party source sink value (now (flows .entry)) (now (flows .exit)) (now (set .entry)) (now (set .exit))
+        (sharedOf nodes edges outer (now (tails .entry)) (now (rotations .entry)) (now (limits .entry)) (now (left .entry))
+        (now (standing .exit)) (now (first .exit)) (now (second .exit)))
         (now (can .entry)) (now (can .exit)) (now (size .entry)) (now (size .exit)) (now (place .entry)) (now (place .exit)) r ⌝ }
 {
-    let answer = sessions::ask(
+    let answer = parties::ask(
+        party,
         nodes,
         edges,
         outer,
-        offered,
         tails,
         rotations,
+        limits,
         left,
-        offer,
+        standing,
+        first,
+        second,
         source,
         sink,
         value,
@@ -640,24 +652,40 @@ pub extern "C" fn analyser_session_ask<'a>(
 // Commit.
 #[no_mangle]
 pub extern "C" fn analyser_session_commit<'a>(
+    party: u16,
     nodes: u16,
     edges: u16,
     outer: u16,
-    offered: &mut u8,
     tails: &'a [u16; 1024],
     rotations: &'a [u16; 1024],
+    limits: &[i32; 1024],
     left: &mut [i32; 1024],
-    offer: &[i32; 512],
+    standing: &mut [u8; 2],
+    first: &[i32; 512],
+    second: &[i32; 512],
     place: &mut u16,
 ) -> u8
     ensures { λ r. ⌜ TellsCommit
-        (sessionOf nodes edges outer (now (offered .entry))
-        (now (tails .entry)) (now (rotations .entry)) (now (left .entry)) (now (offer .entry)))
-        (sessionOf nodes edges outer (now (offered .exit))
-        (now (tails .entry)) (now (rotations .entry)) (now (left .exit)) (now (offer .entry)))
+        (sharedOf nodes edges outer (now (tails .entry)) (now (rotations .entry)) (now (limits .entry)) (now (left .entry))
+        (now (standing .entry)) (now (first .entry)) (now (second .entry)))
+        party
+        (sharedOf nodes edges outer (now (tails .entry)) (now (rotations .entry)) (now (limits .entry)) (now (left .exit))
+        (now (standing .exit)) (now (first .entry)) (now (second .entry)))
         (now (place .entry)) (now (place .exit)) r ⌝ }
 {
-    let answer = sessions::commit(nodes, edges, outer, offered, tails, rotations, left, offer);
+    let answer = parties::commit(
+        party,
+        nodes,
+        edges,
+        outer,
+        tails,
+        rotations,
+        limits,
+        left,
+        standing,
+        first,
+        second,
+    );
     match answer {
         Verdict::Passed => 0,
         Verdict::Refused(k, p) => {
@@ -665,4 +693,37 @@ pub extern "C" fn analyser_session_commit<'a>(
             k
         }
     }
+}
+
+// Clear: nothing refuses it, and it has no result.
+#[no_mangle]
+pub extern "C" fn analyser_session_clear<'a>(
+    nodes: u16,
+    edges: u16,
+    outer: u16,
+    tails: &'a [u16; 1024],
+    rotations: &'a [u16; 1024],
+    limits: &[i32; 1024],
+    left: &mut [i32; 1024],
+    standing: &mut [u8; 2],
+    first: &[i32; 512],
+    second: &[i32; 512],
+)
+    ensures { λ _. ⌜ sharedOf nodes edges outer (now (tails .entry)) (now (rotations .entry)) (now (limits .entry)) (now (left .exit))
+        (now (standing .exit)) (now (first .entry)) (now (second .entry))
+        ≡ cleared (sharedOf nodes edges outer (now (tails .entry)) (now (rotations .entry)) (now (limits .entry)) (now (left .entry))
+        (now (standing .entry)) (now (first .entry)) (now (second .entry))) ⌝ }
+{
+    parties::clear(
+        nodes,
+        edges,
+        outer,
+        tails,
+        rotations,
+        limits,
+        left,
+        standing,
+        first,
+        second,
+    );
 }

@@ -4,6 +4,7 @@
 mod case;
 mod operations;
 mod say;
+mod session;
 
 // The operation of a case on the slices that it is lent. A new one is an arm here, a function in `operations` and a row in `tools/cases`.
 fn run(
@@ -34,7 +35,7 @@ fn run(
         12 => operations::write_dimacs(s, bytes),
         41 => operations::examine(s, first, second, set, bytes),
         21 => operations::page(s, tails, rotations, first, second, set),
-        31 => operations::session(s, tails, rotations, first, second, set),
+        31 => session::session(s, first, set),
         _ => say::say(b": no such operation"),
     }
 }

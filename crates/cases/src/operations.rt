@@ -55,7 +55,7 @@ pub fn write(
     say_write(sheets::write(nodes, outer, tails, rotations, capacities, out));
 }
 
-fn say_solve(answer: SolveAnswer) {
+pub fn say_solve(answer: SolveAnswer) {
     match answer {
         SolveAnswer::Can => say::say(b": can"),
         SolveAnswer::Cannot(n) => {
@@ -341,103 +341,4 @@ pub fn examine(s: &[u8], claims: &[i32], settings: &[i32], sets: &[u64], points:
         sets,
         points,
     ));
-}
-
-fn say_verdict(answer: Verdict) {
-    match answer {
-        Verdict::Passed => say::say(b": done"),
-        Verdict::Refused(k, p) => say::refused(k, p),
-    }
-}
-
-// The limits left of a session, two to an edge.
-fn say_left(edges: u16, left: &[i32; 1024]) {
-    say::say(b": left");
-    let m = arrays::wide(edges);
-    let mut d: usize = 0;
-    while d < 1024 {
-        if d / 2 < m {
-            say::signed(left[d]);
-        }
-        d += 1;
-    }
-}
-
-// An element of a slice, 0 past its end.
-fn half_at(from: &[u16], i: usize) -> u16 {
-    if i < from.len() {
-        return from[i];
-    }
-    0
-}
-
-fn word_at(from: &[i32], i: usize) -> i32 {
-    if i < from.len() {
-        return from[i];
-    }
-    0
-}
-
-// A session: a start, then a call for each source. 65535 is a commit, any other source asks.
-pub fn session(
-    s: &[u8],
-    sources: &[u16],
-    sinks: &[u16],
-    values: &[i32],
-    flows: &mut [i32],
-    set: &mut [u64],
-) {
-    let mut nodes: u16 = 0;
-    let mut edges: u16 = 0;
-    let mut outer: u16 = 0;
-    let mut offered: u8 = 0;
-    let mut tails = [0u16; 1024];
-    let mut rotations = [0u16; 1024];
-    let mut left = [0i32; 1024];
-    let mut offer = [0i32; 512];
-    say_verdict(sessions::start(
-        case::part(s, 1),
-        &mut nodes,
-        &mut edges,
-        &mut outer,
-        &mut offered,
-        &mut tails,
-        &mut rotations,
-        &mut left,
-        &offer,
-    ));
-    let mut next: usize = 0;
-    while next < sources.len() {
-        let i = next;
-        next += 1;
-        if sources[i] == 65535 {
-            say_verdict(sessions::commit(
-                nodes,
-                edges,
-                outer,
-                &mut offered,
-                &tails,
-                &rotations,
-                &mut left,
-                &offer,
-            ));
-        } else {
-            say_solve(sessions::ask(
-                nodes,
-                edges,
-                outer,
-                &mut offered,
-                &tails,
-                &rotations,
-                &left,
-                &mut offer,
-                sources[i],
-                half_at(sinks, i),
-                word_at(values, i),
-                flows,
-                set,
-            ));
-        }
-    }
-    say_left(edges, &left);
 }

@@ -18,12 +18,11 @@ use Rattle.refusals.proofs.Order.{none-append, append-none, first-left, first-r
 use Rattle.maps.specs.Cut.{cut}
 use Rattle.flows.specs.ProvingSet.{bound, wordsFor, member}
 use Rattle.arrays.specs.At.{atℤ}
-use Rattle.records.specs.Check.{numberChecks}
-use Rattle.records.specs.Sheet.{nodesOf, edgesOf, outerOf, capacityOf, sheetMap, headRecordChecks, headChecks, byteChecks}
+use Rattle.records.specs.Record.{recordLength}
+use Rattle.records.specs.Sheet.{nodesOf, edgesOf, capacityOf, sheetMap}
 use Rattle.sheets.specs.Open.{sheetChecks}
-use Rattle.sheets.specs.Read.{readChecks, Reads}
-use Rattle.sheets.specs.declared.ReadAnswer.{ReadAnswer}
-use Rattle.sheets.specs.declared.ReadAnswer.the-variants.{Counts, Refused}
+use Rattle.sheets.proofs.Accepted.{sheet-bytes}
+use Rattle.sheets.proofs.Opening.{bytes-room}
 use Rattle.questions.specs.Question.{endChecks, valueChecks, roomChecks}
 use Rattle.questions.specs.Largest.{searchChecks}
 use Rattle.questions.specs.declared.LargestAnswer.{LargestAnswer}
@@ -43,65 +42,20 @@ use Rattle.desk.specs.Paper.{Paper, nodesIn, Earns, IsLargest, LastSix, 
 use Rattle.desk.specs.Class.{classChecks, examineChecks, Examines}
 use Rattle.desk.specs.declared.Class.{Class}
 use Rattle.desk.specs.inner.Judged.{ProvesBy, NoneBy, LastSixBy}
-use Rattle.desk.specs.inner.Counted.{Counted, Asked}
+use Rattle.desk.specs.inner.Asked.{Asked}
 use Rattle.desk.specs.declared.Delivery.{Delivery}
 use Rattle.desk.specs.declared.Delivery.the-variants.{Value, None}
 use Rattle.desk.proofs.Judging.{earns-by, earns-at-most, judged-at-most}
 
--- ── counts: what check 3 leaves ──
-bytes-accepted : (s : List ℕ) → NoneOf (sheetChecks s) → NoneOf (byteChecks s)
-unfolding sheetChecks
-bytes-accepted s none = append-none (byteChecks s) _ none .0
-
-head-accepted : (s : List ℕ) → NoneOf (byteChecks s) → NoneOf (headChecks s)
-unfolding byteChecks
-head-accepted s none = append-none (headChecks s) _ none .0
-
-numbers-accepted : (s : List ℕ) → NoneOf (headChecks s) → NoneOf (numberChecks (nodesOf s) (edgesOf s) (outerOf s))
-unfolding headChecks
-numbers-accepted s none = append-none (headRecordChecks s) _ none .1
-
-in-range : (nodes edges outer : ℕ) → NoneOf (numberChecks nodes edges outer) → (nodes ≤ 513) × (edges ≤ 512)
-unfolding numberChecks NoneOf
-in-range nodes edges outer none =
-    let few : 513 < nodes → ⊥ = λ l. none .0 (inl (inr l)) in
-    let short : 512 < edges → ⊥ = λ l. none .0 (inr (inr l)) in
-    (omega arith, omega arith)
-
+-- ── the head of an accepted sheet ──
 pub counts-fit : (s : List ℕ) → NoneOf (sheetChecks s) → (nodesOf s ≤ 513) × (edgesOf s ≤ 512)
-counts-fit s none = in-range _ _ _ (numbers-accepted s (head-accepted s (bytes-accepted s none)))
+counts-fit s none = let room = bytes-room s (sheet-bytes s none) in (room .2, room .4)
+
+pub head-there : (s : List ℕ) → NoneOf (sheetChecks s) → recordLength 1 ≤ length s
+head-there s none = bytes-room s (sheet-bytes s none) .0
 
 pub few-words : (nodes : ℕ) → nodes ≤ 513 → wordsFor nodes ≤ 9
 few-words nodes l = omega arith
-
--- ── Read into arrays of 1,024 ──
-abbrev nothing : List ℕ
-nothing = replicate 1024 0
-
-abbrev nothingℤ : List ℤ
-nothingℤ = replicate 1024 (pos 0)
-
-pub read-counts : (s : List ℕ) (tails' rotations' : List ℕ) (capacities' : List ℤ) (answer : ReadAnswer)
-    → Reads s nothing nothing nothingℤ tails' rotations' capacities' answer → Counted s answer
-unfolding readChecks FirstOf
-read-counts s tails' rotations' capacities' (Counts nodes edges outer) h = (append-none (sheetChecks s) _ (h .0) .0, h .1, h .2)
-read-counts s tails' rotations' capacities' (Refused k p) h = go (append-first (sheetChecks s) _ k p (h .0))
-  where
-    long : NoneOf (sheetChecks s) → (n : ℕ) → n ≡ 1024 → n < 2 * edgesOf s → ⊥
-    long none n e l = omega (arith, counts-fit s none .1)
-
-    short : NoneOf (sheetChecks s)
-        → (length nothing < 2 * edgesOf s) ⊎ ((length nothing < 2 * edgesOf s) ⊎ (length nothingℤ < 2 * edgesOf s)) → ⊥
-    short none = neither (long none _ (length-replicate {A = ℕ} 1024 0))
-        (neither (long none _ (length-replicate {A = ℕ} 1024 0)) (long none _ (length-replicate 1024 (pos 0))))
-
-    go : FirstOf (sheetChecks s) k p
-        ⊎ (NoneOf (sheetChecks s) × FirstOf ((16 when ((length nothing < 2 * edgesOf s)
-        ⊎ ((length nothing < 2 * edgesOf s) ⊎ (length nothingℤ < 2 * edgesOf s)))) ∷ []) k p)
-        → FirstOf (sheetChecks s) k p
-    go (inl f) = f
-    go (inr (none, inl f)) = absurd (short none (f .0))
-    go (inr (none, inr f)) = absurd (f .1)
 
 -- ── Largest into arrays of 512 and 9 ──
 abbrev noFlows : List ℤ
@@ -189,6 +143,21 @@ module _ (s set : List ℕ) (accepted : NoneOf (sheetChecks s)) (long : wordsFor
 
   pub total-never-refused : (out' : List ℤ) (k p : ℕ) → GivesTotals s set noTotals out' (totals.Refused k p) → ⊥
   total-never-refused out' k p h = first-none (totalsChecks s set noTotals) k p (h .0) total-room
+
+-- the sheet checks, from what Totals by node says with room for any set
+pub totals-accepted : (s set : List ℕ) (out' : List ℤ) (t : ℤ) → GivesTotals s set noTotals out' (totals.Total t) → NoneOf (sheetChecks s)
+unfolding totalsChecks
+totals-accepted s set out' t h = append-none (sheetChecks s) _ (h .0) .0
+
+pub totals-refused : (s set : List ℕ) (out' : List ℤ) (k p : ℕ) → 9 ≤ length set → GivesTotals s set noTotals out' (totals.Refused k p)
+    → FirstOf (sheetChecks s) k p
+unfolding totalsChecks
+totals-refused s set out' k p long h = go (append-first (sheetChecks s) (totalChecks (nodesOf s) set noTotals) k p (h .0))
+  where
+    go : FirstOf (sheetChecks s) k p ⊎ (NoneOf (sheetChecks s) × FirstOf (totalChecks (nodesOf s) set noTotals) k p) → FirstOf (sheetChecks s) k p
+    go (inl f) = f
+    go (inr (none, f)) =
+        absurd (total-never-refused s set none (omega (arith, few-words (nodesOf s) (counts-fit s none .0))) out' k p h)
 
 -- ── claim and set, from the numbers to the drawing ──
 bound-by : (S : ℕ → Bool) (source sink : ℕ) (value : ℤ) (from into : Bool) → S source ≡ from → S sink ≡ into

@@ -1,5 +1,5 @@
 // The exam desk: papers of a class marked against one drawing, source, sink and value. Document 02, Job 14. It stands above the analyser and calls what the
-// unit offers, Read, Largest, Mark and Totals by node, of which it knows the contracts and the printed statements alone.
+// unit offers, Largest, Mark and Totals by node, of which it knows the contracts and the printed statements alone.
 ghost use mathlib.Core.Path.{_≡_};
 ghost use Prim.Native.Nat.{ℕ, _+_, _*_, _/_, _<_, _≤_};
 ghost use mathlib.Core.List.{_++_};
@@ -19,11 +19,10 @@ ghost use Rattle.analyser.specs.Statements.{Delivers};
 ghost use Rattle.desk.specs.Paper.{claimOf, nodesIn, paperOf, Earns, IsLargest, LastSix, Points};
 ghost use Rattle.desk.specs.Class.{classChecks, Examines};
 ghost use Rattle.desk.specs.inner.Judged.{IsValue, IsNone, ProvesBy, NoneBy, ValuePoints, NonePoints, LastSixBy};
-ghost use Rattle.desk.specs.inner.Counted.{Counted, Asked};
+ghost use Rattle.desk.specs.inner.Asked.{Asked};
 use questions::LargestAnswer;
 use questions::MarkAnswer;
 use refusals::Verdict;
-use sheets::ReadAnswer;
 use totals::TotalsAnswer;
 
 // A delivery, or that there is none: what is the largest, and what a paper claims.
@@ -190,14 +189,18 @@ fn last_six(largest: Delivery, claim: Delivery, total: i32, from: bool, into: bo
     }
 }
 
-// The counts of a sheet, by Read into arrays that every sheet fits in, which end here.
-fn count(sheet: &[u8]) -> ReadAnswer
-    ensures { λ r. ⌜ Counted (now (sheet .entry)) r ⌝ }
+// The sheet checks, by Totals by node of no node: with room for any set it refuses nothing else. Read would give the counts too, but the arrays that it is
+// lent, 8 KiB, would lie in the frame that calls Largest.
+fn check_sheet(sheet: &[u8]) -> Verdict
+    ensures { λ r. ⌜ Judged (sheetChecks (now (sheet .entry))) r ⌝ }
 {
-    let mut tails = [0u16; 1024];
-    let mut rotations = [0u16; 1024];
-    let mut capacities = [0i32; 1024];
-    sheets::read(sheet, &mut tails, &mut rotations, &mut capacities)
+    let set = [0u64; 9];
+    let mut subtotals = [0i32; 513];
+    let answer = analyser::totals(sheet, &set, &mut subtotals);
+    match answer {
+        TotalsAnswer::Total(t) => Verdict::Passed,
+        TotalsAnswer::Refused(k, p) => Verdict::Refused(k, p),
+    }
 }
 
 // The largest value, by Largest into arrays that every answer fits in, which end here.
@@ -494,21 +497,23 @@ pub fn examine(
     ensures { λ r. ⌜ Examines (now (sheet .entry)) source sink value (now (claims .entry)) (now (kinds .entry)) (now (settings .entry)) (now (sets .entry))
         (now (points .entry)) (now (points .exit)) r ⌝ }
 {
-    let counted = count(sheet);
-    match counted {
-        ReadAnswer::Counts(nodes, edges, outer) => examine_counted(
-            sheet,
-            wide(nodes),
-            wide(edges),
-            source,
-            sink,
-            value,
-            claims,
-            kinds,
-            settings,
-            sets,
-            points,
-        ),
-        ReadAnswer::Refused(k, p) => Class::Refused(k, p),
+    let checked = check_sheet(sheet);
+    if let Verdict::Refused(k, p) = checked {
+        return Class::Refused(k, p);
     }
+    let nodes = records::nodes_of(sheet);
+    let edges = records::edges_of(sheet);
+    examine_counted(
+        sheet,
+        nodes,
+        edges,
+        source,
+        sink,
+        value,
+        claims,
+        kinds,
+        settings,
+        sets,
+        points,
+    )
 }

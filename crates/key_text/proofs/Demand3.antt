@@ -31,7 +31,7 @@ use Rattle.key_text.proofs.Answering.{key-solve}
 abbrev pub Says : List ℕ → List ℕ → Type 0
 Says word t = (rest : List ℕ) × (t ≡ word ++ rest)
 
-says-can : (value : ℤ) (edges : ℕ) (x : ℕ → ℤ) (t : List ℕ) → t ≡ canText value edges x → Says canWord t
+pub says-can : (value : ℤ) (edges : ℕ) (x : ℕ → ℤ) (t : List ℕ) → t ≡ canText value edges x → Says canWord t
 unfolding canText canLine
 says-can value edges x t e = (_, e)
 

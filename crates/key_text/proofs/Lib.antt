@@ -6,3 +6,4 @@ pub mod Answering
 pub mod Demand3
 pub mod Pieces
 pub mod Begun
+pub mod OneKey

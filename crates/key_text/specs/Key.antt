@@ -1,5 +1,5 @@
 -- What the program key prints for the bytes that it is given (document 01, "The program key").
--- The text follows from the bytes, save the proving set and what the text says of it.
+-- By `Key` the text follows from the bytes, save the proving set and what the text says of it; that every run prints the same all the same is `OneKey`.
 use Prim.Native.Nat.{ℕ, _≤_, _<_}
 use mathlib.Core.Path.{_≡_}
 use mathlib.Core.List.{List, [], _∷_, _++_}

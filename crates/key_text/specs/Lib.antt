@@ -2,3 +2,5 @@ pub mod Question
 pub mod Text
 pub mod Key
 pub mod Input
+pub mod inner
+pub mod OneKey

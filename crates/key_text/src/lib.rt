@@ -13,6 +13,7 @@ ghost use Rattle.key_text.specs.Question.{sourceOf, sinkOf, valueOf, she
 ghost use Rattle.key_text.specs.Text.{edgeLine, canLine, canText, nodeLine, cannotLine, cannotText, refusedText};
 ghost use Rattle.key_text.specs.Key.{Prints, textRoom, Writes};
 ghost use Rattle.key_text.specs.Input.{inputRoom, Begins};
+ghost use Rattle.key_text.specs.inner.Named.{KeyNamed, WriteNamed};
 use questions::SolveAnswer;
 use refusals::Verdict;
 
@@ -142,7 +143,7 @@ fn put_cannot(text: &mut [u8], value: i32, size: u16, nodes: usize, set: &[u64; 
 fn put_answer(sheet: &[u8], source: u16, sink: u16, value: i32, text: &mut [u8]) -> usize
     requires { ⌜ textRoom ≤ length (now text) ⌝ }
     ensures { λ r. ⌜ ((b : List ℕ) → NoneOf (recordChecks b 3 0) → sheetOf b ≡ now (sheet .entry) → sourceOf b ≡ source → sinkOf b ≡ sink → valueOf b ≡ value
-        → Prints b (now (text .entry)) (now (text .exit)) r) ⌝ }
+        → Prints b (now (text .entry)) (now (text .exit)) r × KeyNamed b (now (text .exit)) r) ⌝ }
 {
     let mut flows = [0i32; 512];
     let mut set = [0u64; 9];
@@ -157,7 +158,7 @@ fn put_answer(sheet: &[u8], source: u16, sink: u16, value: i32, text: &mut [u8])
 // The key of the bytes that were read: a question, then a sheet. The question's own refusals, 1 and 2, come first.
 fn put_key(input: &[u8], text: &mut [u8]) -> usize
     requires { ⌜ textRoom ≤ length (now text) ⌝ }
-    ensures { λ r. ⌜ Prints (now (input .entry)) (now (text .entry)) (now (text .exit)) r ⌝ }
+    ensures { λ r. ⌜ Prints (now (input .entry)) (now (text .entry)) (now (text .exit)) r × KeyNamed (now (input .entry)) (now (text .exit)) r ⌝ }
 {
     let whole = records::check_record(input, 3, 0);
     if let Verdict::Refused(k, p) = whole {
@@ -172,7 +173,7 @@ fn put_key(input: &[u8], text: &mut [u8]) -> usize
 
 // The key in an array that is long enough for every key: this is what the program prints.
 pub fn key_text(input: &[u8], text: &mut [u8; 6671]) -> usize
-    ensures { λ r. ⌜ Prints (now (input .entry)) (now (text .entry)) (now (text .exit)) r ⌝ }
+    ensures { λ r. ⌜ Prints (now (input .entry)) (now (text .entry)) (now (text .exit)) r × KeyNamed (now (input .entry)) (now (text .exit)) r ⌝ }
 {
     put_key(input, text)
 }
@@ -181,7 +182,8 @@ pub fn key_text(input: &[u8], text: &mut [u8; 6671]) -> usize
 // left unread decides nothing, since the buffer is longer than every input that can be accepted; a shorter one would not see a byte left over.
 pub fn key_of_input(buffer: &[u8], n: usize, text: &mut [u8; 6671]) -> usize
     requires { ⌜ (inputRoom ≤ length (now buffer)) × (n ≤ length (now buffer)) ⌝ }
-    ensures { λ r. ⌜ ((whole : List ℕ) → Begins (now (buffer .entry)) n whole → Prints whole (now (text .entry)) (now (text .exit)) r) ⌝ }
+    ensures { λ r. ⌜ ((whole : List ℕ) → Begins (now (buffer .entry)) n whole
+        → Prints whole (now (text .entry)) (now (text .exit)) r × KeyNamed whole (now (text .exit)) r) ⌝ }
 {
     key_text(&buffer[0..n], text)
 }
@@ -194,7 +196,7 @@ pub enum KeyAnswer {
 
 // The key in a slice of any length: 16 where that is shorter than some key.
 pub fn write_key(input: &[u8], text: &mut [u8]) -> KeyAnswer
-    ensures { λ r. ⌜ Writes (now (input .entry)) (now (text .entry)) (now (text .exit)) r ⌝ }
+    ensures { λ r. ⌜ Writes (now (input .entry)) (now (text .entry)) (now (text .exit)) r × WriteNamed (now (input .entry)) (now (text .exit)) r ⌝ }
 {
     if text.len() < 6671 {
         return KeyAnswer::Refused(16, 0);

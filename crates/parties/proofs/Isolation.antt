@@ -43,7 +43,7 @@ use Rattle.parties.specs.Seen.{
   end,
   next,
 }
-use Rattle.parties.proofs.Views.{View, view, turned, ask-one, commit-one}
+use Rattle.parties.proofs.Views.{View, view, turned, other, ask-one, commit-one}
 
 -- ── a run as q sees it ──
 data Next (q : ℕ) : View → Seen → List Gift → View → Type 0 where
@@ -77,9 +77,6 @@ Does : ℕ → Shared → Event → Shared → Type 0
 Does q S e T =
     ((seen q e ≡ []) × (gift q e ≡ []) × (view q T ≡ view q S))
     ⊎ ((z : Seen) × (gs : List Gift) × (seen q e ≡ z ∷ []) × (gift q e ≡ gs) × Next q (view q S) z gs (view q T))
-
-other : {A : Type 0} (q p : ℕ) (a b : A) → p ≢ q → cond (eqb q p) a b ≡ b
-other q p a b h = ap (λ t. cond t a b) (eqb-false q p (λ e. h (sym e)))
 
 beside : (q p : ℕ) (S : Shared) (a : ℕ) (xs : List ℤ) → p ≢ q → view q (put S p a xs) ≡ view q S
 beside q p S a xs h = ap₂ (turned (view q S) (S .left)) (other q p a (S .standing q) h) (other q p xs (S .offer q) h)

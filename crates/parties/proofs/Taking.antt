@@ -1,4 +1,4 @@
--- Commit and Clear: the ways out, and the session after it.
+-- Start, Commit and Clear: the ways out, and the session after it.
 use Prim.Native.Nat.{ℕ, zero, suc, _*_, _/_, _%_, _≤_, _<_}
 use mathlib.Core.Path.{_≡_, refl, sym, _∙_, ap, ap₂, subst, fun-ext}
 use mathlib.Core.Logic.{_≢_, inl, inr}
@@ -18,13 +18,13 @@ use Rattle.arrays.specs.Filled.{tabulate, filled}
 use Rattle.arrays.proofs.Tabulate.{getD-tabulate}
 use Rattle.arrays.proofs.FillLoops.{filled-below, filled-length, filled-front}
 use Rattle.sessions.specs.Fit.{Lowerable}
-use Rattle.sessions.proofs.Committing.{tested-lowerable, lowerable-tested}
-use Rattle.parties.specs.Shared.{offered, stale, committed, staled, Shared, alone, loweredBy, letIn, cleared}
+use Rattle.parties.specs.Shared.{offered, stale, committed, staled, Shared, loweredBy, letIn, cleared}
+use Rattle.parties.specs.Start.{emptied}
 use Rattle.parties.specs.Calls.{commitChecks}
-use Rattle.parties.specs.inner.Taken.{Tested, Taken}
+use Rattle.parties.specs.inner.Taken.{Taken}
 
 -- the flows of the edges alone lower as the whole array does
-edge-flow : (edges : ℕ) (xs : List ℤ) (d : ℕ) → d < 2 * edges → onDarts (atℤ xs) d ≡ onDarts (atℤ (tabulate edges (atℤ xs))) d
+pub edge-flow : (edges : ℕ) (xs : List ℤ) (d : ℕ) → d < 2 * edges → onDarts (atℤ xs) d ≡ onDarts (atℤ (tabulate edges (atℤ xs))) d
 unfolding onDarts
 edge-flow edges xs d l = ap (λ x. cond (eqb (d % 2) 0) x (negℤ x)) (sym (getD-tabulate edges (d / 2) (atℤ xs) _ (omega arith)))
 
@@ -54,11 +54,11 @@ module _ (S : Shared) (p : ℕ) where
     stale-offer c s = inr (known, inr (c, inr (λ h. h .1 s, inl (inl s, refl, refl))))
 
     module _ (o : S .standing p ≡ offered) where
-      pub too-much : (Lowerable (alone S p) → ⊥) → FirstOf (commitChecks S p) 31 0
+      pub too-much : (Lowerable (S .edges) (atℤ (S .left)) (atℤ (S .offer p)) → ⊥) → FirstOf (commitChecks S p) 31 0
       unfolding FirstOf commitChecks
       too-much h = inr (known, inr (λ c. absurd (omega (arith, o, c)), inr (λ g. g .0 o, inl (inr h, refl, refl))))
 
-      pub lets-in : Lowerable (alone S p) → NoneOf (commitChecks S p)
+      pub lets-in : Lowerable (S .edges) (atℤ (S .left)) (atℤ (S .offer p)) → NoneOf (commitChecks S p)
       unfolding NoneOf commitChecks
       lets-in h = (known, (λ c. absurd (omega (arith, o, c)), (λ g. g .0 o, (neither (λ s. absurd (omega (arith, o, s))) (λ g. g h), tt))))
 
@@ -84,6 +84,10 @@ pub after-clear : (S : Shared) (left' : List ℤ) (standing' : ℕ → ℕ) → 
     → at-standing S left' standing' ≡ cleared S
 after-clear S left' standing' h g = ap₂ (at-standing S) h (fun-ext g)
 
+-- a start that was refused
+pub after-refusal : (S : Shared) (standing' : ℕ → ℕ) → ((q : ℕ) → standing' q ≡ 0) → at-standing (emptied S) (S .left) standing' ≡ emptied S
+after-refusal S standing' g = ap (at-standing (emptied S) (S .left)) (fun-ext g)
+
 -- ── the two parties' places ──
 -- an equation at both, and 0 past them
 pub both : (xs : List ℕ) (f : ℕ → ℕ) → length xs ≡ 2 → at xs 0 ≡ f 0 → at xs 1 ≡ f 1 → ((q : ℕ) → 2 ≤ q → f q ≡ 0) → (q : ℕ) → at xs q ≡ f q
@@ -102,19 +106,20 @@ pub taken-as : {edges : ℕ} {left offer offer' left' : List ℤ} {b : Bool} →
 taken-as {edges} {left} {offer} {offer'} {left'} {b} h e = subst (λ xs. Taken edges left xs left' b) e h
 
 pub taken-yes : {edges : ℕ} {left offer left' : List ℤ} {b : Bool} → Taken edges left offer left' b → b ≡ true
-    → Tested edges left offer × (left' ≡ loweredBy edges left (tabulate edges (atℤ offer)))
+    → Lowerable edges (atℤ left) (atℤ offer) × (left' ≡ loweredBy edges left (tabulate edges (atℤ offer)))
 taken-yes {edges} {left} {offer} h e =
     (said-yes (h .tested) e, h .after ∙ ap (λ t. cond t (loweredBy edges left (tabulate edges (atℤ offer))) left) e)
 
-pub taken-no : {edges : ℕ} {left offer left' : List ℤ} {b : Bool} → Taken edges left offer left' b → b ≡ false → (Tested edges left offer → ⊥) × (left' ≡ left)
+pub taken-no : {edges : ℕ} {left offer left' : List ℤ} {b : Bool} → Taken edges left offer left' b → b ≡ false
+    → (Lowerable edges (atℤ left) (atℤ offer) → ⊥) × (left' ≡ left)
 taken-no {edges} {left} {offer} h e = (said-no (h .tested) e, h .after ∙ ap (λ t. cond t (loweredBy edges left (tabulate edges (atℤ offer))) left) e)
 
 module _ (S : Shared) (p : ℕ) (xs : List ℤ) (e : xs ≡ S .offer p) where
-  pub taken-lowerable : Tested (S .edges) (S .left) xs → Lowerable (alone S p)
-  taken-lowerable h = tested-lowerable (alone S p) refl (subst (Tested (S .edges) (S .left)) e h)
+  pub offer-lowerable : Lowerable (S .edges) (atℤ (S .left)) (atℤ xs) → Lowerable (S .edges) (atℤ (S .left)) (atℤ (S .offer p))
+  offer-lowerable h = subst (λ ys. Lowerable (S .edges) (atℤ (S .left)) (atℤ ys)) e h
 
-  pub lowerable-taken : Lowerable (alone S p) → Tested (S .edges) (S .left) xs
-  lowerable-taken h = subst (Tested (S .edges) (S .left)) (sym e) (lowerable-tested (alone S p) refl h)
+  pub lowerable-offer : Lowerable (S .edges) (atℤ (S .left)) (atℤ (S .offer p)) → Lowerable (S .edges) (atℤ (S .left)) (atℤ xs)
+  lowerable-offer h = subst (λ ys. Lowerable (S .edges) (atℤ (S .left)) (atℤ ys)) (sym e) h
 
   pub lowered-offer : (left' : List ℤ) → left' ≡ loweredBy (S .edges) (S .left) (tabulate (S .edges) (atℤ xs))
       → left' ≡ loweredBy (S .edges) (S .left) (tabulate (S .edges) (atℤ (S .offer p)))

@@ -8,7 +8,7 @@ use mathlib.Core.List.{List}
 use native.Mathlib.Omega.{arith}
 use lib.Dec.{eqb}
 use lib.IntN.{ℤ}
-use Rattle.integers.proofs.Tests.{eqb-true}
+use Rattle.integers.proofs.Tests.{eqb-true, eqb-false}
 use Rattle.refusals.specs.Order.{Check, NoneOf, FirstOf, Judged}
 use Rattle.refusals.specs.declared.Verdict.{Verdict}
 use Rattle.refusals.specs.declared.Verdict.the-variants as verdict
@@ -124,6 +124,9 @@ module _ (v : View) (q source sink : ℕ) (value : ℤ) (flows : List ℤ) (set 
 -- ── the view after it ──
 pub own : {A : Type 0} (q : ℕ) (a b : A) → cond (eqb q q) a b ≡ a
 own q a b = ap (λ t. cond t a b) (eqb-true q q refl)
+
+pub other : {A : Type 0} (q p : ℕ) (a b : A) → p ≢ q → cond (eqb q p) a b ≡ b
+other q p a b h = ap (λ t. cond t a b) (eqb-false q p (λ e. h (sym e)))
 
 afterView : View → List ℤ → SolveAnswer → View
 afterView v flows' Can = turned v (v .left) offered (filled (v .edges) (atℤ flows') (v .offer))

@@ -17,7 +17,7 @@ use Rattle.questions.specs.declared.SolveAnswer.{SolveAnswer}
 use Rattle.questions.specs.declared.SolveAnswer.the-variants.{Can, Cannot, Refused}
 use Rattle.sessions.specs.Fit.{Lowerable, OnFit}
 use Rattle.sessions.specs.Ask as ask
-use Rattle.parties.specs.Shared.{idle, offered, stale, committed, Shared, sharedDrawing, alone, put, letIn}
+use Rattle.parties.specs.Shared.{idle, offered, stale, committed, Shared, sharedDrawing, put, letIn}
 
 unfoldable pub askChecks : Drawing → (standing : ℕ) → (party source sink : ℕ) → ℤ → List ℤ → List ℕ → List Check
 askChecks 𝓓 standing party source sink value flows set =
@@ -29,7 +29,7 @@ commitChecks S p =
     (29 when 2 ≤ p)
     ∷ (30 when S .standing p ≡ committed)
     ∷ (28 when (S .standing p ≢ offered) × (S .standing p ≢ stale))
-    ∷ (31 when (S .standing p ≡ stale) ⊎ (Lowerable (alone S p) → ⊥))
+    ∷ (31 when (S .standing p ≡ stale) ⊎ (Lowerable (S .edges) (atℤ (S .left)) (atℤ (S .offer p)) → ⊥))
     ∷ []
 
 abbrev pub afterAsk : Shared → ℕ → List ℤ → SolveAnswer → Shared

@@ -1,5 +1,6 @@
--- A session that two parties share. Document 02, Job 12: "Two parties, 0 and 1, share one session, its limits and its faces. Each has an offer of its own and
--- may commit once until the session is cleared; clearing restores the sheet's limits and removes both offers."
+-- A session that two parties share. Document 02, Job 11: "On the table a delivery is first shown and then let in. A session starts from a sheet."; Job 12: "Two
+-- parties, 0 and 1, share one session, its limits and its faces. Each has an offer of its own and may commit once until the session is cleared; clearing
+-- restores the sheet's limits and removes both offers." It lies in memory that the caller owns and lends to each call: any value can be handed in as one.
 use Prim.Native.Nat.{ℕ, _*_}
 use mathlib.Core.Bool.{cond}
 use mathlib.Core.List.{List, []}
@@ -10,7 +11,6 @@ use Rattle.flows.specs.Settings.{onDarts}
 use Rattle.arrays.specs.At.{at, atℤ}
 use Rattle.arrays.specs.Maps.{drawingOf}
 use Rattle.arrays.specs.Filled.{tabulate, filled}
-use Rattle.sessions.specs.Session.{Session, sessionOf}
 
 -- where a party stands: no offer, an offer, an offer that another's commit made stale, or it has committed. Any other number is as no offer
 abbrev pub idle : ℕ
@@ -57,10 +57,6 @@ sharedOf nodes edges outer tails rotations limits left standing first second = r
 
 abbrev pub sharedDrawing : Shared → Drawing
 sharedDrawing S = drawingOf (S .nodes) (S .edges) (S .outer) (S .tails) (S .rotations) (S .left)
-
--- as party p has it by itself
-abbrev pub alone : Shared → ℕ → Session
-alone S p = sessionOf (S .nodes) (S .edges) (S .outer) (S .standing p) (S .tails) (S .rotations) (S .left) (S .offer p)
 
 -- party p stands there, with this offer; all else as it was
 abbrev pub put : Shared → ℕ → ℕ → List ℤ → Shared

@@ -1,19 +1,103 @@
-// Two parties on one session (document 02, Job 12): Ask, Commit and Clear, and that a party's answers follow from what it sees. A shared session lies in memory
-// that the caller owns: a session's counts and arrays, with the sheet's limits, a byte for each party that says where it stands, and an offer for each. Every
-// call takes any value as one.
+// Sessions that two parties share (document 02, Jobs 11 and 12): Start, Ask, Commit and Clear, and that a party's answers follow from what it sees. A session
+// lies in memory that the caller owns: counts, outer dart, the arrays of the drawing, the sheet's limits and those left, a byte for each party that says where
+// it stands, and an offer for each. Every call takes any value as one.
 ghost use mathlib.Core.Path.{_≡_};
 ghost use mathlib.Core.Bool.{cond};
 ghost use Prim.Native.Nat.{ℕ, _<_, _≤_};
 ghost use lib.Dec.{eqb};
 ghost use lib.ListN.{length};
+ghost use lib.IntN.{pos};
 ghost use Rattle.arrays.specs.At.{at, atℤ};
 ghost use Rattle.arrays.specs.Filled.{filled};
 ghost use Rattle.parties.specs.Shared.{committed, staled, offersOf, sharedOf, cleared};
+ghost use Rattle.parties.specs.Start.{Starts};
 ghost use Rattle.parties.specs.Calls.{Asks, Commits};
 ghost use Rattle.parties.specs.inner.Taken.{Taken};
 use arrays::wide;
 use questions::SolveAnswer;
 use refusals::Verdict;
+
+// Zeros everywhere.
+fn erase(to: &mut [u16])
+    requires { ⌜ length (now to) ≡ 1024 ⌝ }
+    ensures { λ _. ⌜ (length (now (to .exit)) ≡ 1024) × ((d : ℕ) → at (now (to .exit)) d ≡ 0) ⌝ }
+{
+    for d in 0..1024usize {
+        to[d] = 0;
+    }
+}
+
+fn erase_limits(to: &mut [i32])
+    requires { ⌜ length (now to) ≡ 1024 ⌝ }
+    ensures { λ _. ⌜ (length (now (to .exit)) ≡ 1024) × ((d : ℕ) → atℤ (now (to .exit)) d ≡ pos 0) ⌝ }
+{
+    for d in 0..1024usize {
+        to[d] = 0;
+    }
+}
+
+// All limits of the sheet are left.
+fn restore(limits: &[i32], left: &mut [i32])
+    requires { ⌜ (length (now limits) ≡ 1024) × (length (now left) ≡ 1024) ⌝ }
+    ensures { λ _. ⌜ now (left .exit) ≡ now (limits .entry) ⌝ }
+{
+    for dart in 0..1024usize {
+        left[dart] = limits[dart];
+    }
+}
+
+// Neither party has an offer or has committed.
+fn stand_idle(standing: &mut [u8])
+    requires { ⌜ length (now standing) ≡ 2 ⌝ }
+    ensures { λ _. ⌜ (length (now (standing .exit)) ≡ 2) × ((q : ℕ) → at (now (standing .exit)) q ≡ 0) ⌝ }
+{
+    standing[0] = 0;
+    standing[1] = 0;
+}
+
+// Start: the sheet's drawing, its limits, all of them left, and no offer. Where the sheet is refused, a session of no nodes and no edges, with no offer; the
+// other arrays are then as they were. The arrays of the offers are named by the contract only.
+pub fn start(
+    sheet: &[u8],
+    nodes: &mut u16,
+    edges: &mut u16,
+    outer: &mut u16,
+    tails: &mut [u16; 1024],
+    rotations: &mut [u16; 1024],
+    limits: &mut [i32; 1024],
+    left: &mut [i32; 1024],
+    standing: &mut [u8; 2],
+    first: &[i32; 512],
+    second: &[i32; 512],
+) -> Verdict
+    ensures { λ r. ⌜ Starts (now (sheet .entry))
+        (sharedOf (now (nodes .entry)) (now (edges .entry)) (now (outer .entry)) (now (tails .entry)) (now (rotations .entry)) (now (limits .entry))
+        (now (left .entry)) (now (standing .entry)) (now (first .entry)) (now (second .entry)))
+        (sharedOf (now (nodes .exit)) (now (edges .exit)) (now (outer .exit)) (now (tails .exit)) (now (rotations .exit)) (now (limits .exit))
+        (now (left .exit)) (now (standing .exit)) (now (first .entry)) (now (second .entry))) r ⌝ }
+{
+    let mut lefts = [0u16; 1024];
+    let opened = sheets::open(sheet, &mut lefts);
+    let verdict = opened.verdict;
+    stand_idle(standing);
+    if let Verdict::Refused(k, p) = verdict {
+        *nodes = 0;
+        *edges = 0;
+        *outer = 0;
+        return Verdict::Refused(k, p);
+    }
+    *nodes = arrays::narrow(opened.nodes);
+    *edges = arrays::narrow(opened.edges);
+    *outer = arrays::narrow(opened.outer);
+    erase(tails);
+    erase(rotations);
+    erase_limits(limits);
+    sheets::fill_tails(sheet, opened.edges, tails);
+    sheets::fill_rotations(sheet, opened.edges, rotations);
+    sheets::fill_capacities(sheet, opened.edges, limits);
+    restore(&*limits, left);
+    Verdict::Passed
+}
 
 // Where a party stands from now on.
 fn stand(standing: &mut [u8], party: usize, place: u8)
@@ -191,25 +275,6 @@ pub fn commit<'a>(
         return Verdict::Passed;
     }
     Verdict::Refused(31, 0)
-}
-
-// All limits of the sheet are left.
-fn restore(limits: &[i32], left: &mut [i32])
-    requires { ⌜ (length (now limits) ≡ 1024) × (length (now left) ≡ 1024) ⌝ }
-    ensures { λ _. ⌜ now (left .exit) ≡ now (limits .entry) ⌝ }
-{
-    for d in 0..1024usize {
-        left[d] = limits[d];
-    }
-}
-
-// Neither party has an offer or has committed.
-fn stand_idle(standing: &mut [u8])
-    requires { ⌜ length (now standing) ≡ 2 ⌝ }
-    ensures { λ _. ⌜ (length (now (standing .exit)) ≡ 2) × ((q : ℕ) → at (now (standing .exit)) q ≡ 0) ⌝ }
-{
-    standing[0] = 0;
-    standing[1] = 0;
 }
 
 // Clear: the sheet's limits are left again, and neither party has an offer or has committed. Never refused. The counts, the outer dart, the arrays of the

@@ -2,7 +2,7 @@
 use mathlib.Core.Path.{_≡_, refl, sym, _∙_, ap, subst}
 use mathlib.Core.Logic.{_⊎_, inl, inr}
 use mathlib.Core.Bool.{Bool, true, false, not}
-use mathlib.Core.List.{List, [], _∷_, _++_}
+use mathlib.Core.List.{List, _++_}
 use Prim.Native.Nat.{ℕ, _≤_, _<_}
 use native.Mathlib.Omega.{arith}
 use native.Mathlib.Decide.{decLt}
@@ -16,8 +16,6 @@ use Rattle.refusals.proofs.Same.{Same, same-refl, same-sym, none-same, first-sa
 use Rattle.maps.specs.Map.{Map, darts}
 use Rattle.maps.specs.Face.{faces, left}
 use Rattle.maps.specs.Drawing.{Drawing}
-use Rattle.arrays.specs.At.{atℤ}
-use Rattle.arrays.specs.Filled.{filled}
 use Rattle.arrays.specs.Maps.{drawingOf}
 use Rattle.rotations.specs.MapChecks.{mapChecks, MapJudged}
 use Rattle.questions.specs.Question.{endChecks, valueChecks, roomChecks}
@@ -25,9 +23,8 @@ use Rattle.questions.specs.Solve.{questionChecks, Solved}
 use Rattle.questions.specs.inner.Named.{SetNamed}
 use Rattle.questions.specs.declared.SolveAnswer.{SolveAnswer}
 use Rattle.questions.specs.declared.SolveAnswer.the-variants.{Can, Cannot, Refused}
-use Rattle.sessions.specs.Session.{Session, sessionDrawing, offering}
 use Rattle.sessions.specs.Fit.{Fit, OnFit}
-use Rattle.sessions.specs.Ask.{askChecks, afterAsk}
+use Rattle.sessions.specs.Ask.{askChecks}
 
 module _ (𝓓 : Drawing) (source sink : ℕ) (value : ℤ) (flows : List ℤ) (set : List ℕ) where
   abbrev asked : List Check
@@ -128,18 +125,6 @@ module _ (𝓓 : Drawing) (source sink : ℕ) (value : ℤ) (flows : List ℤ) (
   pub asked-room : 𝓓 .map .edges ≤ length flows
   unfolding NoneOf askChecks valueChecks roomChecks
   asked-room = let h : length flows < 𝓓 .map .edges → ⊥ = λ l. asked .1 .1 .1 .0 (inl l) in omega (arith, h)
-
--- ── the session after the answer ──
-module _ (S : Session) (source sink : ℕ) {v value : ℤ} (q : v ≡ value) (flows flows' : List ℤ) (set set' : List ℕ) {answer r : SolveAnswer} (e : answer ≡ r)
-  where
-    pub told-as : Solved (sessionDrawing S) (askChecks (sessionDrawing S) source sink v flows set) source sink v flows flows' set set' answer
-        → Solved (sessionDrawing S) (askChecks (sessionDrawing S) source sink value flows set) source sink value flows flows' set set' r
-    told-as h =
-        subst (λ w. Solved (sessionDrawing S) (askChecks (sessionDrawing S) source sink w flows set) source sink w flows flows' set set' r) q
-        (subst (λ a. Solved (sessionDrawing S) (askChecks (sessionDrawing S) source sink v flows set) source sink v flows flows' set set' a) e h)
-
-pub kept-offer : (S : Session) (flows' xs : List ℤ) {m : ℕ} → m ≡ S .edges → xs ≡ filled m (atℤ flows') (S .offer) → offering S xs ≡ afterAsk S flows' Can
-kept-offer S flows' xs e h = ap (offering S) (h ∙ ap (λ k. filled k (atℤ flows') (S .offer)) e)
 
 -- a test that is turned over
 pub unless-taken : (b : Bool) → not b ≡ true → b ≡ false

@@ -1,12 +1,5 @@
--- Sessions: what is fit, each call's ways out, and what is kept from call to call.
-pub mod Zeros
+-- The limits left in a session: what is fit, a question's ways out, and limits lowered by an offer.
 pub mod Pairs
 pub mod Fitting
 pub mod Asking
 pub mod Lowering
-pub mod Committing
-pub mod Totals
-pub mod Account
-pub mod Onward
-pub mod Statements
-pub mod Drops

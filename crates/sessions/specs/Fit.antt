@@ -7,12 +7,10 @@ use Rattle.refusals.specs.Order.{NoneOf}
 use Rattle.maps.specs.Map.{Map, darts}
 use Rattle.maps.specs.Drawing.{Drawing}
 use Rattle.maps.specs.Check.{InRange}
-use Rattle.flows.specs.Settings.{Within}
-use Rattle.arrays.specs.At.{atℤ}
+use Rattle.flows.specs.Settings.{onDarts}
 use Rattle.rotations.specs.MapChecks.{mapChecks}
 use Rattle.questions.specs.declared.SolveAnswer.{SolveAnswer}
 use Rattle.questions.specs.declared.SolveAnswer.the-variants.{Can, Cannot, Refused}
-use Rattle.sessions.specs.Session.{Session, sessionMap}
 
 -- an edge's two limits left: "Limits left may reach 2,000,000", and they do not add to less than zero
 abbrev pub PairFits : ℤ → ℤ → Type 0
@@ -40,8 +38,8 @@ OnFit 𝓓 Can = Fit 𝓓
 OnFit 𝓓 (Cannot n) = Fit 𝓓
 OnFit 𝓓 (Refused k p) = Unit
 
--- the limits left can be lowered by the offer: it keeps within them
-pub record Lowerable (S : Session) : Type 0 where
-  pub few-edges : S .edges ≤ 512
-  pub limits : LimitsFit (S .edges) (atℤ (S .left))
-  pub within : Within (sessionMap S) (atℤ (S .left)) (atℤ (S .offer))
+-- the limits left of so many edges can be lowered by an offer: it keeps within them
+pub record Lowerable (edges : ℕ) (left offer : ℕ → ℤ) : Type 0 where
+  pub few-edges : edges ≤ 512
+  pub limits : LimitsFit edges left
+  pub within : (d : ℕ) → d < 2 * edges → onDarts offer d ≤ℤ left d

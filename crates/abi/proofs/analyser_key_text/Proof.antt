@@ -17,7 +17,7 @@ text' c = c .write-key .last .1 .0
 
 found : (c : tie.After-write-key) (answer : KeyAnswer) → c .write-key .result ≡ answer
     → Writes (start c .args .input .now) (start c .args .text .now) (text' c) answer
-found c answer e = rw e at (c .write-key .ensures)
+found c answer e = rw e at (c .write-key .ensures .0)
 
 write-key-requires : tie.Need-write-key-requires
 write-key-requires c κs = search needs

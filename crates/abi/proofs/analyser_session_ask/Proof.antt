@@ -7,57 +7,43 @@ use borrow.Author.Needs.{needs}
 use Rattle.signed.proofs.Laws.{number-of-bits}
 use Rattle.questions.specs.declared.SolveAnswer.{SolveAnswer}
 use Rattle.questions.specs.declared.SolveAnswer.the-variants.{Can, Cannot, Refused}
-use Rattle.sessions.specs.Session.{Session}
-use Rattle.sessions.specs.Ask.{Asks}
+use Rattle.parties.specs.Shared.{Shared, sharedOf}
+use Rattle.parties.specs.Calls.{Asks}
 use Rattle.abi.proofs.analyser_session_ask.Statement.{statement}
 use Rattle.abi.proofs.analyser_session_ask.Tie as tie
 
 abbrev begun : tie.After-ask → tie.Start
-begun c = c .before .before .before .before .before .before
+begun c = c .before .before .before .before .before .before .before
 
-abbrev came : tie.After-ask → Session
+abbrev came : tie.After-ask → Shared
 came c =
-    let s = begun c in
-    record {
-      nodes = s .args .nodes;
-      edges = s .args .edges;
-      outer = s .args .outer;
-      offered = s .args .offered .now;
-      tails = s .args .tails .now;
-      rotations = s .args .rotations .now;
-      left = s .args .left .now;
-      offer = s .args .offer .now;
-    }
+    let a = begun c .args in
+    sharedOf (a .nodes) (a .edges) (a .outer) (a .tails .now) (a .rotations .now) (a .limits .now) (a .left .now) (a .standing .now) (a .first .now)
+    (a .second .now)
 
-abbrev left' : tie.After-ask → Session
+abbrev left' : tie.After-ask → Shared
 left' c =
-    let s = begun c in
-    record {
-      nodes = s .args .nodes;
-      edges = s .args .edges;
-      outer = s .args .outer;
-      offered = c .ask .last .1 .1 .1 .0;
-      tails = s .args .tails .now;
-      rotations = s .args .rotations .now;
-      left = s .args .left .now;
-      offer = c .ask .last .1 .1 .1 .1 .1 .1 .1 .0;
-    }
+    let a = begun c .args in
+    sharedOf (a .nodes) (a .edges) (a .outer) (a .tails .now) (a .rotations .now) (a .limits .now) (a .left .now)
+    (c .ask .last .1 .1 .1 .1 .1 .1 .1 .1 .0)
+    (c .ask .last .1 .1 .1 .1 .1 .1 .1 .1 .1 .0)
+    (c .ask .last .1 .1 .1 .1 .1 .1 .1 .1 .1 .1 .0)
 
 abbrev flows' : tie.After-ask → List ℤ
-flows' c = c .ask .last .1 .1 .1 .1 .1 .1 .1 .1 .1 .1 .1 .0
+flows' c = c .ask .last .1 .1 .1 .1 .1 .1 .1 .1 .1 .1 .1 .1 .1 .1 .0
 
 abbrev set' : tie.After-ask → List ℕ
-set' c = c .ask .last .1 .1 .1 .1 .1 .1 .1 .1 .1 .1 .1 .1 .0
+set' c = c .ask .last .1 .1 .1 .1 .1 .1 .1 .1 .1 .1 .1 .1 .1 .1 .1 .0
 
 -- the value that Ask is given is the one that came in
 asked : (c : tie.After-ask) (answer : SolveAnswer) → c .ask .result ≡ answer
-    → Asks (came c) (begun c .args .source) (begun c .args .sink) (begun c .args .value)
+    → Asks (came c) (begun c .args .party) (begun c .args .source) (begun c .args .sink) (begun c .args .value)
     (begun c .args .flows .now) (flows' c) (begun c .args .set .now) (set' c) (left' c) answer
 asked c answer e =
     let a = begun c .args in
-    subst (λ v. Asks (came c) (a .source) (a .sink) v (a .flows .now) (flows' c) (a .set .now) (set' c) (left' c) answer)
+    subst (λ v. Asks (came c) (a .party) (a .source) (a .sink) v (a .flows .now) (flows' c) (a .set .now) (set' c) (left' c) answer)
     (number-of-bits _ (begun c .fits .value))
-    (subst (Asks (came c) (a .source) (a .sink) _ (a .flows .now) (flows' c) (a .set .now) (set' c) (left' c)) e (c .ask .ensures))
+    (subst (Asks (came c) (a .party) (a .source) (a .sink) _ (a .flows .now) (flows' c) (a .set .now) (set' c) (left' c)) e (c .ask .ensures))
 
 ask-requires : tie.Need-ask-requires
 ask-requires c κs = search needs

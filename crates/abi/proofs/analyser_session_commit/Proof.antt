@@ -3,44 +3,28 @@ use mathlib.Core.Path.{_≡_, refl, subst}
 use borrow.Author.Needs.{needs}
 use Rattle.refusals.specs.declared.Verdict.{Verdict}
 use Rattle.refusals.specs.declared.Verdict.the-variants.{Passed, Refused}
-use Rattle.sessions.specs.Session.{Session}
-use Rattle.sessions.specs.Commit.{Commits}
+use Rattle.parties.specs.Shared.{Shared, sharedOf}
+use Rattle.parties.specs.Calls.{Commits}
 use Rattle.abi.proofs.analyser_session_commit.Statement.{statement}
 use Rattle.abi.proofs.analyser_session_commit.Tie as tie
 
 abbrev begun : tie.After-commit → tie.Start
 begun c = c .before .before .before
 
-abbrev came : tie.After-commit → Session
+abbrev came : tie.After-commit → Shared
 came c =
-    let s = begun c in
-    record {
-      nodes = s .args .nodes;
-      edges = s .args .edges;
-      outer = s .args .outer;
-      offered = s .args .offered .now;
-      tails = s .args .tails .now;
-      rotations = s .args .rotations .now;
-      left = s .args .left .now;
-      offer = s .args .offer .now;
-    }
+    let a = begun c .args in
+    sharedOf (a .nodes) (a .edges) (a .outer) (a .tails .now) (a .rotations .now) (a .limits .now) (a .left .now) (a .standing .now) (a .first .now)
+    (a .second .now)
 
-abbrev left' : tie.After-commit → Session
+abbrev left' : tie.After-commit → Shared
 left' c =
-    let s = begun c in
-    record {
-      nodes = s .args .nodes;
-      edges = s .args .edges;
-      outer = s .args .outer;
-      offered = c .commit .last .1 .1 .1 .0;
-      tails = s .args .tails .now;
-      rotations = s .args .rotations .now;
-      left = c .commit .last .1 .1 .1 .1 .1 .1 .0;
-      offer = s .args .offer .now;
-    }
+    let a = begun c .args in
+    sharedOf (a .nodes) (a .edges) (a .outer) (a .tails .now) (a .rotations .now) (a .limits .now) (c .commit .last .1 .1 .1 .1 .1 .1 .1 .0)
+    (c .commit .last .1 .1 .1 .1 .1 .1 .1 .1 .0) (a .first .now) (a .second .now)
 
-committed : (c : tie.After-commit) (answer : Verdict) → c .commit .result ≡ answer → Commits (came c) (left' c) answer
-committed c answer e = subst (Commits (came c) (left' c)) e (c .commit .ensures)
+committed : (c : tie.After-commit) (answer : Verdict) → c .commit .result ≡ answer → Commits (came c) (begun c .args .party) (left' c) answer
+committed c answer e = subst (Commits (came c) (begun c .args .party) (left' c)) e (c .commit .ensures)
 
 commit-requires : tie.Need-commit-requires
 commit-requires c κs = search needs

@@ -3,39 +3,33 @@ use mathlib.Core.Path.{_≡_, refl, subst}
 use borrow.Author.Needs.{needs}
 use Rattle.refusals.specs.declared.Verdict.{Verdict}
 use Rattle.refusals.specs.declared.Verdict.the-variants.{Passed, Refused}
-use Rattle.sessions.specs.Session.{Session}
-use Rattle.sessions.specs.Start.{Starts}
+use Rattle.parties.specs.Shared.{Shared, sharedOf}
+use Rattle.parties.specs.Start.{Starts}
 use Rattle.abi.proofs.analyser_session_start.Statement.{statement}
 use Rattle.abi.proofs.analyser_session_start.Tie as tie
 
 abbrev begun : tie.After-start → tie.Start
-begun c = c .before .before .before .before .before .before .before .before .before
+begun c = c .before .before .before .before .before .before .before .before .before .before
 
-abbrev came : tie.After-start → Session
+abbrev came : tie.After-start → Shared
 came c =
-    let s = begun c in
-    record {
-      nodes = s .args .nodes .now;
-      edges = s .args .edges .now;
-      outer = s .args .outer .now;
-      offered = s .args .offered .now;
-      tails = s .args .tails .now;
-      rotations = s .args .rotations .now;
-      left = s .args .left .now;
-      offer = s .args .offer .now;
-    }
+    let a = begun c .args in
+    sharedOf (a .nodes .now) (a .edges .now) (a .outer .now) (a .tails .now) (a .rotations .now) (a .limits .now) (a .left .now) (a .standing .now)
+    (a .first .now) (a .second .now)
 
-abbrev left' : tie.After-start → Session
-left' c = record {
-  nodes = c .start .last .1 .0;
-  edges = c .start .last .1 .1 .0;
-  outer = c .start .last .1 .1 .1 .0;
-  offered = c .start .last .1 .1 .1 .1 .0;
-  tails = c .start .last .1 .1 .1 .1 .1 .0;
-  rotations = c .start .last .1 .1 .1 .1 .1 .1 .0;
-  left = c .start .last .1 .1 .1 .1 .1 .1 .1 .0;
-  offer = begun c .args .offer .now;
-}
+abbrev left' : tie.After-start → Shared
+left' c =
+    sharedOf
+    (c .start .last .1 .0)
+    (c .start .last .1 .1 .0)
+    (c .start .last .1 .1 .1 .0)
+    (c .start .last .1 .1 .1 .1 .0)
+    (c .start .last .1 .1 .1 .1 .1 .0)
+    (c .start .last .1 .1 .1 .1 .1 .1 .0)
+    (c .start .last .1 .1 .1 .1 .1 .1 .1 .0)
+    (c .start .last .1 .1 .1 .1 .1 .1 .1 .1 .0)
+    (begun c .args .first .now)
+    (begun c .args .second .now)
 
 started : (c : tie.After-start) (answer : Verdict) → c .start .result ≡ answer → Starts (begun c .args .sheet .now) (came c) (left' c) answer
 started c answer e = subst (Starts (begun c .args .sheet .now) (came c) (left' c)) e (c .start .ensures)

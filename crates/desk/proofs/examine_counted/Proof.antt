@@ -15,7 +15,7 @@ use Rattle.records.specs.Sheet.{nodesOf, edgesOf}
 use Rattle.questions.specs.Question.{endChecks, valueChecks}
 use Rattle.desk.specs.Paper.{paperOf, Points}
 use Rattle.desk.specs.Class.{classChecks}
-use Rattle.desk.specs.inner.Counted.{Asked}
+use Rattle.desk.specs.inner.Asked.{Asked}
 use Rattle.desk.proofs.Asking.{counts-fit, question-refused, class-refused, class-accepted, asked-of, class-room, question-as, class-as}
 use Rattle.desk.proofs.examine_counted.Statement.{statement}
 use Rattle.desk.proofs.examine_counted.Tie as tie

@@ -43,7 +43,7 @@ text c = c .key-of-input .last .1 .1 .0
 
 front : (c : tie.After-key-of-input) → (t : List ℕ) × (length t ≡ c .key-of-input .result) × (text c ≡ t ++ drop (c .key-of-input .result) (replicate 6671 0))
 front c =
-    let k = c .key-of-input .ensures _ (bytes-begin _ _ (there (c .before .before .before))) in
+    let k = c .key-of-input .ensures _ (bytes-begin _ _ (there (c .before .before .before))) .0 in
     (k .0, k .2, k .4)
 
 slice-aggregate-read-input : tie.Need-slice-aggregate-read-input

@@ -13,11 +13,11 @@ use Rattle.integers.specs.inner.Limited.{Limited}
 use Rattle.refusals.specs.Order.{NoneOf}
 use Rattle.records.specs.Record.{recordChecks}
 use Rattle.records.specs.Sheet.{nodesOf, edgesOf}
-use Rattle.analyser.specs.Solve.{Solves}
 use Rattle.questions.specs.declared.SolveAnswer.{SolveAnswer}
 use Rattle.questions.specs.declared.SolveAnswer.the-variants.{Can, Cannot, Refused}
 use Rattle.key_text.specs.Question.{sourceOf, sinkOf, valueOf, sheetOf}
-use Rattle.key_text.proofs.Answering.{of-bytes, head-there, few-nodes, few-edges, value-fits, flows-fit, can-printed, cannot-printed, refused-printed}
+use Rattle.key_text.proofs.Answering.{Answered, of-bytes, head-there, few-nodes, few-edges, value-fits, flows-fit}
+use Rattle.key_text.proofs.Answering.{can-printed, cannot-printed, refused-printed}
 use Rattle.key_text.proofs.put_answer.Statement.{statement}
 use Rattle.key_text.proofs.put_answer.Tie as tie
 
@@ -49,14 +49,14 @@ value-is : (c : tie.After-solve) → toZ w32 (ofZ w32 (start c .args .value)) �
 value-is c = number-of-bits _ (start c .fits .value)
 
 solved : (c : tie.After-solve) (answer : SolveAnswer) → c .solve .result ≡ answer
-    → Solves (start c .args .sheet .now) (start c .args .source) (start c .args .sink) (start c .args .value) noFlows (flows' c) noSet (set' c) answer
-solved c answer e = rw (number-of-bits _ (start c .fits .value), e) at (c .solve .ensures .0)
+    → Answered (start c .args .sheet .now) (start c .args .source) (start c .args .sink) (start c .args .value) noFlows (flows' c) noSet (set' c) answer
+solved c answer e = rw (number-of-bits _ (start c .fits .value), e) at (c .solve .ensures)
 
 -- of whichever bytes the sheet and the question were read
 module _ (c : tie.After-solve) (b : List ℕ) (question : NoneOf (recordChecks b 3 0)) (sheet : sheetOf b ≡ start c .args .sheet .now)
     (source : sourceOf b ≡ start c .args .source) (sink : sinkOf b ≡ start c .args .sink) (value : valueOf b ≡ start c .args .value) where
   solved-of : (answer : SolveAnswer) → c .solve .result ≡ answer
-      → Solves (sheetOf b) (sourceOf b) (sinkOf b) (valueOf b) noFlows (flows' c) noSet (set' c) answer
+      → Answered (sheetOf b) (sourceOf b) (sinkOf b) (valueOf b) noFlows (flows' c) noSet (set' c) answer
   solved-of answer e = of-bytes (sym sheet) (sym source) (sym sink) (sym value) noFlows (flows' c) noSet (set' c) answer (solved c answer e)
 
 -- ── the places: where each answer is told, and where its numbers are read ──
@@ -92,13 +92,13 @@ edges-of-requires : tie.Need-edges-of-requires
 edges-of-requires c κs =
     let t = c .before in
     let a = can t in
-    head-there _ _ _ _ _ (flows' a) _ (set' a) (solved a Can (t .enum-told .given .1) .0)
+    head-there _ _ _ _ _ (flows' a) _ (set' a) (solved a Can (t .enum-told .given .1) .0 .0)
 
 put-can-requires : tie.Need-put-can-requires
 put-can-requires c κs =
     let t = can-told (c .before) in
     let a = can t in
-    let h = solved a Can (t .enum-told .given .1) in
+    let h = solved a Can (t .enum-told .given .1) .0 in
     let few = few-edges _ _ _ _ _ (flows' a) _ (set' a) (h .0) in
     let e = c .before .edges-of .ensures in (
       omega (arith, few, e, start a .pre),
@@ -132,13 +132,13 @@ nodes-of-requires : tie.Need-nodes-of-requires
 nodes-of-requires c κs =
     let t = c .before .before in
     let a = cannot t in
-    head-there _ _ _ _ _ (flows' a) _ (set' a) (solved a (Cannot _) (t .answer .given .1) .0)
+    head-there _ _ _ _ _ (flows' a) _ (set' a) (solved a (Cannot _) (t .answer .given .1) .0 .0)
 
 put-cannot-requires : tie.Need-put-cannot-requires
 put-cannot-requires c κs =
     let t = cannot-told (c .before) in
     let a = cannot t in
-    let h = solved a (Cannot _) (t .answer .given .1) in
+    let h = solved a (Cannot _) (t .answer .given .1) .0 in
     let few = few-nodes _ _ _ _ _ (flows' a) _ (set' a) (h .0) in
     let e = c .before .nodes-of .ensures in (
       omega (arith, few, e, start a .pre),

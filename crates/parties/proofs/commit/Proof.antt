@@ -16,8 +16,8 @@ use Rattle.parties.proofs.Taking.{
   own-offer,
   taken-yes,
   taken-no,
-  taken-lowerable,
-  lowerable-taken,
+  offer-lowerable,
+  lowerable-offer,
   lowered-offer,
   left-alone,
 }
@@ -85,7 +85,7 @@ returns-5 c =
     let a = start t .args in
     let h = taken-yes (k .take-of .ensures) (c .before .before .if5 .taken) in
     let e = own-offer (a .party) (a .first .now) (a .second .now) (known t) in (
-      lets-in S (a .party) (known t) (sym (stood t) ∙ k .before .before .if4 .left) (taken-lowerable S (a .party) _ e (h .0)),
+      lets-in S (a .party) (known t) (sym (stood t) ∙ k .before .before .if4 .left) (offer-lowerable S (a .party) _ e (h .0)),
       after-commit S (a .party) _ _ (lowered-offer S (a .party) _ e _ (h .1)) (c .stand-committed .ensures .1),
     )
 
@@ -97,7 +97,7 @@ returns-6 c =
     let a = start t .args in
     let h = taken-no (k .take-of .ensures) (c .if5 .left) in
     let e = own-offer (a .party) (a .first .now) (a .second .now) (known t) in (
-      too-much S (a .party) (known t) (sym (stood t) ∙ k .before .before .if4 .left) (λ l. h .0 (lowerable-taken S (a .party) _ e l)),
+      too-much S (a .party) (known t) (sym (stood t) ∙ k .before .before .if4 .left) (λ l. h .0 (lowerable-offer S (a .party) _ e l)),
       left-alone S _ (h .1),
     )
 

@@ -1,4 +1,4 @@
--- Invariant: the first d places hold the sheet's limits, and the others are as they were.
+-- Invariant: the places below dart hold the sheet's limits, and the others are as they were.
 use mathlib.Core.Path.{_≡_, _∙_, ap}
 use mathlib.Core.List.{_++_}
 use Prim.Native.Nat.{_≤_, _-_}
@@ -14,10 +14,10 @@ use Rattle.parties.proofs.restore.Statement.{statement}
 use Rattle.parties.proofs.restore.Tie as tie
 
 abbrev Inv-loop : tie.InvT-loop
-Inv-loop limits left₀ d₀ left d = (d ≤ 1024) × (left ≡ tabulate d (atℤ limits) ++ drop d left₀)
+Inv-loop limits left₀ dart₀ left dart = (dart ≤ 1024) × (left ≡ tabulate dart (atℤ limits) ++ drop dart left₀)
 
 abbrev μ-loop : tie.MeasureT-loop
-μ-loop limits left₀ d₀ left d = 1024 - d
+μ-loop limits left₀ dart₀ left dart = 1024 - dart
 
 loop-holds : tie.Need-loop-holds Inv-loop μ-loop
 loop-holds c = (omega arith, copy-start _ _)
@@ -36,8 +36,8 @@ slice-set-from-left c =
     let s = c .before .before .before in
     omega (arith, filled-length _ _ _ _ (c .before .before .loop .inv .1) (omega (arith, s .pre .1)), s .pre .1)
 
-add-d : tie.Need-add-d Inv-loop μ-loop
-add-d c = search needs
+add-dart : tie.Need-add-dart Inv-loop μ-loop
+add-dart c = search needs
 
 loop-less : tie.Need-loop-less Inv-loop μ-loop
 loop-less c = search needs
@@ -46,7 +46,7 @@ loop-again : tie.Need-loop-again Inv-loop μ-loop
 loop-again c =
     let o = c .before .before .loop in (
       omega arith,
-      copy-step _ (o .d) _ _ _ (o .inv .1) (omega (arith, c .before .before .before .pre .1)) (number-of-bits _ (record { sfits = c .left .given })),
+      copy-step _ (o .dart) _ _ _ (o .inv .1) (omega (arith, c .before .before .before .pre .1)) (number-of-bits _ (record { sfits = c .left .given })),
     )
 
 same-length : tie.Need-same-length Inv-loop μ-loop
@@ -57,7 +57,7 @@ returns c =
     let o = c .before .loop in
     let s = c .before .before in
     let a = s .args in
-    let all : o .d ≡ 1024 = omega arith in
+    let all : o .dart ≡ 1024 = omega arith in
     copied-whole 1024 (a .limits .now) (a .left .now) (o .left) (s .pre .0) (s .pre .1)
     (o .inv .1 ∙ ap (λ k. tabulate k (atℤ (a .limits .now)) ++ drop k (a .left .now)) all)
 
@@ -72,7 +72,7 @@ restore-spec =
     shared-slice-copy-out-left
     mul-t8
     slice-set-from-left
-    add-d
+    add-dart
     loop-less
     loop-again
     same-length

@@ -1,14 +1,13 @@
 -- Each test in turn.
-use mathlib.Core.Path.{refl}
 use native.Mathlib.Omega.{arith}
 use Rattle.refusals.proofs.Order.{said-yes, said-no, first-none}
-use Rattle.refusals.specs.Order.{Judged}
 use borrow.Author.Needs.{needs}
+use Rattle.sessions.proofs.Lowering.{tested-lowerable, lowerable-none}
 use Rattle.sessions.proofs.lowerable.Statement.{statement}
 use Rattle.sessions.proofs.lowerable.Tie as tie
 
 returns : tie.Need-returns
-returns c = search needs
+returns c = λ h. omega (arith, h .few-edges, c .if1 .taken)
 
 limits-fit-requires : tie.Need-limits-fit-requires
 limits-fit-requires c κs = search needs
@@ -22,7 +21,7 @@ enum-known-within c = search needs
 returns-2 : tie.Need-returns-2
 returns-2 c =
     let w = c .before .before .before in
-    λ h. first-none _ _ _ (rw (c .before .within .given .1) at (w .check-within .ensures)) (h .2)
+    λ h. first-none _ _ _ (rw (c .before .within .given .1) at (w .check-within .ensures)) (lowerable-none _ _ _ h)
 
 enum-told : tie.Need-enum-told
 enum-told c = search needs
@@ -31,10 +30,11 @@ returns-3 : tie.Need-returns-3
 returns-3 c =
     let w = c .before .before in
     let l = w .before .before in
-    (omega (arith, l .before .if1 .left), said-yes (l .limits-fit .ensures) (w .before .if2 .taken), rw (c .enum-told .given .1) at (w .check-within .ensures))
+    tested-lowerable _ _ _ (omega (arith, l .before .if1 .left)) (said-yes (l .limits-fit .ensures) (w .before .if2 .taken))
+    (rw (c .enum-told .given .1) at (w .check-within .ensures))
 
 returns-4 : tie.Need-returns-4
-returns-4 c = λ h. said-no (c .before .limits-fit .ensures) (c .if2 .left) (h .1)
+returns-4 c = λ h. said-no (c .before .limits-fit .ensures) (c .if2 .left) (h .limits)
 
 pub lowerable-spec : {M : Type 1} → statement M
 lowerable-spec =

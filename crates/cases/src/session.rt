@@ -1,0 +1,173 @@
+// A session of two parties: a start on the sheet of part 1, then the calls of part 2 in turn. A call has 12 bytes: its kind, party, source and sink, 16 bits
+// each, and its value in 32. Kind 0 asks, 1 commits, any other clears.
+use super::case;
+use super::operations;
+use super::say;
+use refusals::Verdict;
+
+fn say_verdict(answer: Verdict) {
+    match answer {
+        Verdict::Passed => say::say(b": done"),
+        Verdict::Refused(k, p) => say::refused(k, p),
+    }
+}
+
+// The limits left, two to an edge.
+fn say_left(edges: u16, left: &[i32; 1024]) {
+    say::say(b": left");
+    let m = arrays::wide(edges);
+    let mut d: usize = 0;
+    while d < 1024 {
+        if d / 2 < m {
+            say::signed(left[d]);
+        }
+        d += 1;
+    }
+}
+
+fn ask<'a>(
+    c: &[u8],
+    nodes: u16,
+    edges: u16,
+    outer: u16,
+    tails: &'a [u16; 1024],
+    rotations: &'a [u16; 1024],
+    limits: &[i32; 1024],
+    left: &'a [i32; 1024],
+    standing: &mut [u8; 2],
+    first: &mut [i32; 512],
+    second: &mut [i32; 512],
+    flows: &mut [i32],
+    set: &mut [u64],
+) {
+    operations::say_solve(parties::ask(
+        case::half(c, 2),
+        nodes,
+        edges,
+        outer,
+        tails,
+        rotations,
+        limits,
+        left,
+        standing,
+        first,
+        second,
+        case::half(c, 4),
+        case::half(c, 6),
+        case::word(c, 8),
+        flows,
+        set,
+    ));
+}
+
+// The call that the bytes begin with.
+fn call<'a>(
+    c: &[u8],
+    nodes: u16,
+    edges: u16,
+    outer: u16,
+    tails: &'a [u16; 1024],
+    rotations: &'a [u16; 1024],
+    limits: &[i32; 1024],
+    left: &mut [i32; 1024],
+    standing: &mut [u8; 2],
+    first: &mut [i32; 512],
+    second: &mut [i32; 512],
+    flows: &mut [i32],
+    set: &mut [u64],
+) {
+    let kind = case::half(c, 0);
+    if kind == 0 {
+        ask(
+            c,
+            nodes,
+            edges,
+            outer,
+            tails,
+            rotations,
+            limits,
+            &*left,
+            standing,
+            first,
+            second,
+            flows,
+            set,
+        );
+    } else if kind == 1 {
+        let party = case::half(c, 2);
+        say_verdict(parties::commit(
+            party,
+            nodes,
+            edges,
+            outer,
+            tails,
+            rotations,
+            limits,
+            left,
+            standing,
+            first,
+            second,
+        ));
+    } else {
+        parties::clear(
+            nodes,
+            edges,
+            outer,
+            tails,
+            rotations,
+            limits,
+            left,
+            standing,
+            first,
+            second,
+        );
+        say::say(b": cleared");
+    }
+}
+
+pub fn session(s: &[u8], flows: &mut [i32], set: &mut [u64]) {
+    let mut nodes: u16 = 0;
+    let mut edges: u16 = 0;
+    let mut outer: u16 = 0;
+    let mut tails = [0u16; 1024];
+    let mut rotations = [0u16; 1024];
+    let mut limits = [0i32; 1024];
+    let mut left = [0i32; 1024];
+    let mut standing = [0u8; 2];
+    let mut first = [0i32; 512];
+    let mut second = [0i32; 512];
+    say_verdict(parties::start(
+        case::part(s, 1),
+        &mut nodes,
+        &mut edges,
+        &mut outer,
+        &mut tails,
+        &mut rotations,
+        &mut limits,
+        &mut left,
+        &mut standing,
+        &first,
+        &second,
+    ));
+    let calls = case::part(s, 2);
+    let mut at: usize = 0;
+    while calls.len() - at >= 12 {
+        call(
+            &calls[at..],
+            nodes,
+            edges,
+            outer,
+            &tails,
+            &rotations,
+            &limits,
+            &mut left,
+            &mut standing,
+            &mut first,
+            &mut second,
+            flows,
+            set,
+        );
+        at += 12;
+    }
+    say_left(edges, &left);
+}

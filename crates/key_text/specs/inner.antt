@@ -1,0 +1,2 @@
+-- Relations of which only that they have one end is of use: nothing here needs to be believed.
+pub mod Named
