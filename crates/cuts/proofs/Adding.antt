@@ -1,8 +1,10 @@
 -- The cut added up edge by edge: nothing at first, one edge more, and every sum within 64 bits.
-use mathlib.Core.Path.{_≡_, sym, _∙_, ap, ap₂}
+use mathlib.Core.Path.{_≡_, refl, sym, _∙_, ap, ap₂, subst}
+use mathlib.Core.Logic.{_≢_}
 use mathlib.Core.Bool.{Bool, true, false, not, _&&_, false≢true}
 use Prim.Native.Nat.{ℕ, _+_, _*_, _/_, _%_, _≤_, _<_}
 use native.Mathlib.Omega.{arith}
+use lib.Dec.{eqb}
 use lib.IntN.{ℤ, pos, _+ℤ_}
 use mir.Syntax.{w32, w64}
 use mir.Val.{SFits}
@@ -11,6 +13,7 @@ use Rattle.integers.specs.inner.Limited.{Limited}
 use Rattle.integers.proofs.Omega.{atoms₁, atoms₃, parts, equal}
 use Rattle.integers.proofs.Sums.{sum-zero, sum-more}
 use Rattle.integers.proofs.Limits.{limited-more, limited-when, limited-sum}
+use Rattle.integers.proofs.Tests.{eqb-true, eqb-false}
 use Rattle.signed.proofs.Limits.{limited-fits, limited-fits64}
 use Rattle.maps.specs.Dart.{rev}
 use Rattle.maps.proofs.Darts.{rev-in, rev-even, rev-odd}
@@ -80,6 +83,24 @@ second-leaves false false x y e = absurd (false≢true e)
 
 neither-leaves : (a b : Bool) (x y : ℤ) → (a && not b) ≡ false → (b && not a) ≡ false → pos 0 ≡ when (a && not b) x +ℤ when (b && not a) y
 neither-leaves a b x y e f = rw (e, f)
+
+-- the marks of the two ends, tested in turn: are they one, is the first 1, is the second
+alike : (b : Bool) → (b && not b) ≡ false
+alike true = refl
+alike false = refl
+
+pub one-mark : (x y : ℕ) → x ≡ y → ((eqb x 1 && not (eqb y 1)) ≡ false) × ((eqb y 1 && not (eqb x 1)) ≡ false)
+one-mark x y q =
+    (subst (λ z. (eqb x 1 && not (eqb z 1)) ≡ false) q (alike (eqb x 1)), subst (λ z. (eqb z 1 && not (eqb x 1)) ≡ false) q (alike (eqb x 1)))
+
+pub first-marked : (x y : ℕ) → x ≢ y → x ≡ 1 → (eqb x 1 && not (eqb y 1)) ≡ true
+first-marked x y n t = rw (eqb-true x 1 t, eqb-false y 1 (λ q. n (t ∙ sym q)))
+
+pub second-marked : (x y : ℕ) → x ≢ 1 → y ≡ 1 → (eqb y 1 && not (eqb x 1)) ≡ true
+second-marked x y n t = rw (eqb-true y 1 t, eqb-false x 1 n)
+
+pub none-marked : (x y : ℕ) → x ≢ 1 → y ≢ 1 → ((eqb x 1 && not (eqb y 1)) ≡ false) × ((eqb y 1 && not (eqb x 1)) ≡ false)
+none-marked x y n m = (rw (eqb-false x 1 n), rw (eqb-false y 1 m))
 
 module _ (e : ℕ) (tail : ℕ → ℕ) (length : ℕ → ℤ) (S : ℕ → Bool) (a b : Bool) (tail-is : a ≡ S (tail (2 * e))) (head-is : b ≡ S (tail (2 * e + 1))) where
   abbrev Share : ℤ → Type 0

@@ -62,10 +62,13 @@ fn edge_share(tails: &[u16; 1024], lengths: &[i32; 1024], inside: &[u8; 1024], e
     let head = arrays::wide(tails[2 * e + 1]);
     let at_tail = inside[tail];
     let at_head = inside[head];
-    if leaves(at_tail, at_head) {
+    if at_tail == at_head {
+        return 0;
+    }
+    if at_tail == 1 {
         return lengths[2 * e];
     }
-    if leaves(at_head, at_tail) {
+    if at_head == 1 {
         return lengths[2 * e + 1];
     }
     0

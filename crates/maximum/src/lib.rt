@@ -261,11 +261,11 @@ fn join(
 // places, so that the compiler makes a function of it: its arrays then lie beside those of a decision on the stack, and not above them.
 fn propose<'a>(
     tails: &'a [u16; 1024],
-    rotations: &'a [u16; 1024],
     lefts: &'a [u16; 1024],
     capacities: &'a [i32; 1024],
     nodes: usize,
     edges: usize,
+    faces: usize,
     source: usize,
     sink: usize,
     low: i32,
@@ -277,7 +277,7 @@ fn propose<'a>(
     a: &mut [u8; 1024],
 ) -> i32
     requires { ⌜ (length (now parents) ≡ 1024) × (length (now inside) ≡ 1024) × (length (now a) ≡ 1024) × (edges ≤ length (now flows))
-        × (nodes ≤ 1024) × (edges ≤ 512) × (source < 1024) × (sink < 1024) × ((d : ℕ) × (d < 2 * edges) × (at (now tails) d ≡ sink))
+        × (nodes ≤ 1024) × (edges ≤ 512) × (source < 1024) × (sink < 1024)
         × ((d : ℕ) → d < 2 * edges → at (now tails) d < 1024) × ((d : ℕ) → d < 2 * edges → Limited 2000000 (atℤ (now capacities) d)) ⌝ }
     ensures { λ r. ⌜ (length (now (parents .exit)) ≡ 1024) × (length (now (inside .exit)) ≡ 1024) × (length (now (a .exit)) ≡ 1024)
         × Lowers source sink (cutOf (2 * edges) (at (now (tails .entry))) (atℤ (now (capacities .entry))) (flagged (now (inside .exit))))
@@ -289,17 +289,15 @@ fn propose<'a>(
     if finished(low, high, true) {
         return high;
     }
-    let finish = traversal::dart_at(tails, 2 * edges, sink);
     pivots::propose(
         tails,
-        rotations,
         lefts,
         capacities,
         nodes,
         edges,
+        faces,
         source,
         sink,
-        finish,
         flows,
         parents,
         &mut *inside,
@@ -368,11 +366,11 @@ pub fn maximize_from<'a>(
     let bound = cuts::capacity(tails, capacities, &*a, 2 * edges);
     let mut high = propose(
         tails,
-        rotations,
         lefts,
         capacities,
         nodes,
         edges,
+        faces,
         source,
         sink,
         low,
@@ -423,11 +421,11 @@ pub fn maximize_from<'a>(
                 found = true;
                 high = propose(
                     tails,
-                    rotations,
                     lefts,
                     capacities,
                     nodes,
                     edges,
+                    faces,
                     source,
                     sink,
                     low,
@@ -441,11 +439,11 @@ pub fn maximize_from<'a>(
             } else {
                 high = propose(
                     tails,
-                    rotations,
                     lefts,
                     capacities,
                     nodes,
                     edges,
+                    faces,
                     source,
                     sink,
                     low,

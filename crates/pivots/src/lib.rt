@@ -5,10 +5,10 @@
 // Nothing is promised of the set but that it is found: who takes it adds up its cut. So numbers are read within their range by remainders, every walk counts
 // its steps, and sums wrap: no step rests on what an array holds.
 ghost use mathlib.Core.Path.{_≡_};
-ghost use Prim.Native.Nat.{_<_, _≤_};
+ghost use Prim.Native.Nat.{_+_, _<_, _≤_};
 ghost use lib.ListN.{length};
 
-// The mark of a node that the tree has not reached.
+// The mark of a node from which a dart leads on.
 const UNMARKED: u16 = 65535;
 
 // As many pivots as are made: more have not been seen to help.
@@ -51,108 +51,115 @@ fn fill_slacks(capacities: &[i32; 1024], edges: usize, flows: &[i32], slacks: &m
     }
 }
 
-// Whether the tree of the faces crosses the edge of d.
-fn is_crossed<'a>(lefts: &'a [u16; 1024], parents: &'a [u16; 1024], d: usize) -> bool
-    requires { ⌜ d < 1024 ⌝ }
+// Marks the edges that the tree of the faces crosses. A face without a parent has the mark 1,024, whose half is no edge.
+fn mark_crossed(parents: &[u16; 1024], faces: usize, crossed: &mut [u8; 1024])
+    requires { ⌜ length (now crossed) ≡ 1024 ⌝ }
+    ensures { λ _. ⌜ length (now (crossed .exit)) ≡ 1024 ⌝ }
 {
-    let back = arrays::reverse(d);
-    let left = place(lefts[d]);
-    let right = place(lefts[back]);
-    if arrays::wide(parents[left]) == d {
-        return true;
+    for f in 0..faces {
+        crossed[place(parents[f % 1024] / 2)] = 1;
     }
-    arrays::wide(parents[right]) == back
 }
 
-// Takes the node that d leads to into the tree, unless it has it or d is crossed, and lists it. Answers the new end of the list.
-fn take_in<'a>(
-    tails: &[u16; 1024],
-    lefts: &'a [u16; 1024],
-    parents: &'a [u16; 1024],
-    d: usize,
-    to: &mut [u16; 1024],
-    list: &mut [u16; 1024],
-    end: usize,
-) -> usize
-    requires { ⌜ (length (now to) ≡ 1024) × (length (now list) ≡ 1024) × (d < 1024) × (end ≤ 1024) ⌝ }
-    ensures { λ r. ⌜ (length (now (to .exit)) ≡ 1024) × (length (now (list .exit)) ≡ 1024) × (r ≤ 1024) ⌝ }
+// Lays the dart d at its node: how many lie there, and all of them by exclusive or.
+fn lay(tails: &[u16; 1024], d: usize, to: &mut [u16; 1024], counts: &mut [u16; 1024])
+    requires { ⌜ (length (now to) ≡ 1024) × (length (now counts) ≡ 1024) × (d < 1024) ⌝ }
+    ensures { λ _. ⌜ (length (now (to .exit)) ≡ 1024) × (length (now (counts .exit)) ≡ 1024) ⌝ }
 {
-    let v = head(tails, d);
-    if to[v] != UNMARKED {
-        return end;
-    }
-    if is_crossed(lefts, parents, d) {
-        return end;
-    }
-    if 1024 <= end {
-        return end;
-    }
-    let back = arrays::reverse(d);
-    to[v] = number(back);
-    list[end] = number(v);
-    end + 1
+    let v = place(tails[d]);
+    to[v] = to[v] ^ number(d);
+    counts[v] = std::num::wrapping_add_u16(counts[v], 1);
 }
 
-// Takes the nodes at the other ends of the round of `start` into the tree. Answers the new end of the list.
-fn take_round<'a>(
+// Lays both darts of each edge that is not crossed.
+fn lay_all(
     tails: &[u16; 1024],
-    rotations: &[u16; 1024],
-    lefts: &'a [u16; 1024],
-    parents: &'a [u16; 1024],
-    start: usize,
+    crossed: &[u8; 1024],
+    edges: usize,
     to: &mut [u16; 1024],
-    list: &mut [u16; 1024],
-    end: usize,
-) -> usize
-    requires { ⌜ (length (now to) ≡ 1024) × (length (now list) ≡ 1024) × (start < 1024) × (end ≤ 1024) ⌝ }
-    ensures { λ r. ⌜ (length (now (to .exit)) ≡ 1024) × (length (now (list .exit)) ≡ 1024) × (r ≤ 1024) ⌝ }
+    counts: &mut [u16; 1024],
+)
+    requires { ⌜ (length (now to) ≡ 1024) × (length (now counts) ≡ 1024) × (edges ≤ 512) ⌝ }
+    ensures { λ _. ⌜ (length (now (to .exit)) ≡ 1024) × (length (now (counts .exit)) ≡ 1024) ⌝ }
 {
-    let mut d = start;
-    let mut last = end;
-    for i in 0..1024usize {
-        last = take_in(tails, lefts, parents, d, &mut *to, &mut *list, last);
-        d = place(rotations[d]);
-        if d == start {
-            return last;
+    let mut next: usize = 0;
+    while next < edges {
+        let e = next;
+        next += 1;
+        if crossed[e] == 0 {
+            lay(tails, 2 * e, &mut *to, &mut *counts);
+            lay(tails, 2 * e + 1, &mut *to, &mut *counts);
         }
     }
-    last
 }
 
-// The tree of the nodes: from each that it has a dart leads on towards the sink, which the dart `finish` leaves.
-fn grow<'a>(
+// The node w, which has one dart left, goes on by it. That dart's reverse is taken from the next node, which is the answer.
+fn go_on(tails: &[u16; 1024], w: usize, to: &mut [u16; 1024], counts: &mut [u16; 1024]) -> usize
+    requires { ⌜ (length (now to) ≡ 1024) × (length (now counts) ≡ 1024) × (w < 1024) ⌝ }
+    ensures { λ r. ⌜ (length (now (to .exit)) ≡ 1024) × (length (now (counts .exit)) ≡ 1024) × (r < 1024) ⌝ }
+{
+    counts[w] = UNMARKED;
+    let back = arrays::reverse(place(to[w]));
+    let v = place(tails[back]);
+    to[v] = to[v] ^ number(back);
+    counts[v] = std::num::wrapping_sub_u16(counts[v], 1);
+    v
+}
+
+// Strips the node v, if it has one dart left, then the next node, if that has one left now, and so on.
+fn strip(tails: &[u16; 1024], v: usize, to: &mut [u16; 1024], counts: &mut [u16; 1024])
+    requires { ⌜ (length (now to) ≡ 1024) × (length (now counts) ≡ 1024) × (v < 1024) ⌝ }
+    ensures { λ _. ⌜ (length (now (to .exit)) ≡ 1024) × (length (now (counts .exit)) ≡ 1024) ⌝ }
+{
+    let mut w = v;
+    for i in 0..1024usize {
+        if counts[w] != 1 {
+            return;
+        }
+        w = go_on(tails, w, &mut *to, &mut *counts);
+    }
+}
+
+// Whether the way from v goes on from node to node up to the sink.
+fn leads(tails: &[u16; 1024], to: &[u16; 1024], counts: &[u16; 1024], v: usize, sink: usize) -> bool
+    requires { ⌜ v < 1024 ⌝ }
+{
+    let mut w = v;
+    for i in 0..1024usize {
+        if w == sink {
+            return true;
+        }
+        if counts[w] != UNMARKED {
+            return false;
+        }
+        w = head(tails, place(to[w]));
+    }
+    false
+}
+
+// The tree of the nodes, which are stripped off it leaf by leaf: from each that it has a dart leads on towards the sink. Answers whether it has the source.
+fn grow(
     tails: &[u16; 1024],
-    rotations: &[u16; 1024],
-    lefts: &'a [u16; 1024],
-    parents: &'a [u16; 1024],
+    parents: &[u16; 1024],
+    nodes: usize,
+    edges: usize,
+    faces: usize,
+    source: usize,
     sink: usize,
-    finish: usize,
     to: &mut [u16; 1024],
-)
-    requires { ⌜ (length (now to) ≡ 1024) × (sink < 1024) × (finish < 1024) ⌝ }
+) -> bool
+    requires { ⌜ (length (now to) ≡ 1024) × (nodes ≤ 1024) × (edges ≤ 512) × (source < 1024) × (sink < 1024) ⌝ }
     ensures { λ _. ⌜ length (now (to .exit)) ≡ 1024 ⌝ }
 {
-    traversal::unmark_all(to);
-    to[sink] = number(finish);
-    let mut list = [0u16; 1024];
-    list[0] = number(sink);
-    let mut next: usize = 0;
-    let mut end: usize = 1;
-    while next < end {
-        let v = place(list[next]);
-        let start = place(to[v]);
-        next += 1;
-        end = take_round(
-            tails,
-            rotations,
-            lefts,
-            parents,
-            start,
-            &mut *to,
-            &mut list,
-            end,
-        );
+    let mut crossed = [0u8; 1024];
+    mark_crossed(parents, faces, &mut crossed);
+    let mut counts = [0u16; 1024];
+    counts[sink] = 2;
+    lay_all(tails, &crossed, edges, &mut *to, &mut counts);
+    for v in 0..nodes {
+        strip(tails, v, &mut *to, &mut counts);
     }
+    leads(tails, &*to, &counts, source, sink)
 }
 
 // Of two darts the one of the less slack.
@@ -336,9 +343,14 @@ fn flag_beyond(
     unflag_all(&mut *inside);
     inside[sink] = 0;
     inside[x] = 1;
-    for v in 0..nodes {
-        let flag = flag_ahead(tails, to, &*inside, v);
-        flag_way(tails, to, v, flag, &mut *inside);
+    let mut next: usize = 0;
+    while next < nodes {
+        let v = next;
+        next += 1;
+        if inside[v] == 2 {
+            let flag = flag_ahead(tails, to, &*inside, v);
+            flag_way(tails, to, v, flag, &mut *inside);
+        }
     }
 }
 
@@ -371,26 +383,24 @@ fn raise(
 // source, that is left out of the set. The parents are changed.
 pub fn propose(
     tails: &[u16; 1024],
-    rotations: &[u16; 1024],
     lefts: &[u16; 1024],
     capacities: &[i32; 1024],
     nodes: usize,
     edges: usize,
+    faces: usize,
     source: usize,
     sink: usize,
-    finish: usize,
     flows: &[i32],
     parents: &mut [u16; 1024],
     inside: &mut [u8; 1024],
 )
     requires { ⌜ (length (now parents) ≡ 1024) × (length (now inside) ≡ 1024) × (nodes ≤ 1024) × (edges ≤ 512) × (edges ≤ length (now flows))
-        × (source < 1024) × (sink < 1024) × (finish < 1024) ⌝ }
+        × (source < 1024) × (sink < 1024) ⌝ }
     ensures { λ _. ⌜ (length (now (parents .exit)) ≡ 1024) × (length (now (inside .exit)) ≡ 1024) ⌝ }
 {
     let mut to = [0u16; 1024];
-    grow(tails, rotations, lefts, &*parents, sink, finish, &mut to);
     inside[source] = 0;
-    if to[source] == UNMARKED {
+    if !grow(tails, &*parents, nodes, edges, faces, source, sink, &mut to) {
         return;
     }
     let mut slacks = [0u32; 1024];
@@ -432,33 +442,29 @@ fn list_ahead(
     list: &mut [u16; 512],
     end: usize,
 ) -> usize
-    requires { ⌜ (length (now inside) ≡ 1024) × (length (now list) ≡ 512) × (back < 1024) × (v < 1024) × (end ≤ 512) ⌝ }
-    ensures { λ r. ⌜ (length (now (inside .exit)) ≡ 1024) × (length (now (list .exit)) ≡ 512) × (r ≤ 512) ⌝ }
+    requires { ⌜ (length (now inside) ≡ 1024) × (length (now list) ≡ 512) × (back < 1024) × (v < 1024) × (end ≤ 1024) ⌝ }
+    ensures { λ r. ⌜ (length (now (inside .exit)) ≡ 1024) × (length (now (list .exit)) ≡ 512) × (r ≤ end + 1) ⌝ }
 {
     if inside[v] != 0 {
         return end;
     }
-    if 512 <= end {
-        return end;
-    }
     inside[v] = 2;
-    list[end] = number(back);
+    list[end % 512] = number(back);
     end + 1
 }
 
-// One dart d at a node v that joins the set: what it can carry to a node outside is added, what comes from a node inside no longer leaves.
+// One dart d at a node that joins the set: what it can carry to a node outside is added, what comes from a node inside no longer leaves.
 fn cross(
     tails: &[u16; 1024],
     capacities: &[i32; 1024],
-    v: usize,
     d: usize,
     inside: &mut [u8; 1024],
     list: &mut [u16; 512],
     total: u32,
     end: usize,
 ) -> Grown
-    requires { ⌜ (length (now inside) ≡ 1024) × (length (now list) ≡ 512) × (d < 1024) × (end ≤ 512) ⌝ }
-    ensures { λ r. ⌜ (length (now (inside .exit)) ≡ 1024) × (length (now (list .exit)) ≡ 512) × (r .end ≤ 512) ⌝ }
+    requires { ⌜ (length (now inside) ≡ 1024) × (length (now list) ≡ 512) × (d < 1024) × (end ≤ 1024) ⌝ }
+    ensures { λ r. ⌜ (length (now (inside .exit)) ≡ 1024) × (length (now (list .exit)) ≡ 512) × (r .end ≤ end + 1) ⌝ }
 {
     let back = arrays::reverse(d);
     let u = place(tails[back]);
@@ -468,7 +474,7 @@ fn cross(
             end: list_ahead(back, u, inside, list, end),
         };
     }
-    if u == v {
+    if u == place(tails[d]) {
         return Grown {
             total: total,
             end: end,
@@ -480,43 +486,6 @@ fn cross(
     }
 }
 
-// Takes the node where `start` begins into the set, and lists the nodes ahead of it.
-fn take_node(
-    tails: &[u16; 1024],
-    rotations: &[u16; 1024],
-    capacities: &[i32; 1024],
-    start: usize,
-    inside: &mut [u8; 1024],
-    list: &mut [u16; 512],
-    total: u32,
-    end: usize,
-) -> Grown
-    requires { ⌜ (length (now inside) ≡ 1024) × (length (now list) ≡ 512) × (start < 1024) × (end ≤ 512) ⌝ }
-    ensures { λ r. ⌜ (length (now (inside .exit)) ≡ 1024) × (length (now (list .exit)) ≡ 512) × (r .end ≤ 512) ⌝ }
-{
-    let v = place(tails[start]);
-    inside[v] = 1;
-    let mut d = start;
-    let mut sum = total;
-    let mut last = end;
-    for i in 0..1024usize {
-        let grown = cross(tails, capacities, v, d, &mut *inside, &mut *list, sum, last);
-        sum = grown.total;
-        last = grown.end;
-        d = place(rotations[d]);
-        if d == start {
-            return Grown {
-                total: sum,
-                end: last,
-            };
-        }
-    }
-    Grown {
-        total: sum,
-        end: last,
-    }
-}
-
 // Takes the flags of the listed nodes from this place on away.
 fn leave_out(
     tails: &[u16; 1024],
@@ -525,32 +494,95 @@ fn leave_out(
     end: usize,
     inside: &mut [u8; 1024],
 )
-    requires { ⌜ (length (now inside) ≡ 1024) × (end ≤ 512) ⌝ }
+    requires { ⌜ length (now inside) ≡ 1024 ⌝ }
     ensures { λ _. ⌜ length (now (inside .exit)) ≡ 1024 ⌝ }
 {
     for i in from..end {
-        inside[place(tails[place(list[i])])] = 0;
+        inside[place(tails[place(list[i % 512])])] = 0;
     }
 }
 
-// The least cut so far: its total, how many of the listed nodes are in its set, and whether no cut is likely to be less.
+// The least cut so far: its total, how many of the listed nodes are in its set, and how many were listed then.
 struct Best {
     total: u32,
     size: usize,
-    likely: bool,
+    listed: usize,
 }
 
-fn better(best: Best, total: u32, size: usize, end: usize) -> Best
-    requires { ⌜ size ≤ 1024 ⌝ }
-{
+// Where the list ended, with the least cut.
+struct Found {
+    best: Best,
+    end: usize,
+}
+
+fn better(best: Best, total: u32, size: usize, end: usize) -> Best {
     if total < best.total {
         return Best {
             total: total,
             size: size,
-            likely: end < size + 2,
+            listed: end,
         };
     }
     best
+}
+
+// Takes the listed node at this place into the set. Answers the dart that it is listed by.
+fn take(tails: &[u16; 1024], list: &[u16; 512], next: usize, inside: &mut [u8; 1024]) -> usize
+    requires { ⌜ length (now inside) ≡ 1024 ⌝ }
+    ensures { λ r. ⌜ (length (now (inside .exit)) ≡ 1024) × (r < 1024) ⌝ }
+{
+    let start = place(list[next % 512]);
+    inside[place(tails[start])] = 1;
+    start
+}
+
+// Spreads a set from the node of `first`, node by node as they are listed: dart by dart round each, then to the next.
+fn spread_all(
+    tails: &[u16; 1024],
+    rotations: &[u16; 1024],
+    capacities: &[i32; 1024],
+    first: usize,
+    inside: &mut [u8; 1024],
+    list: &mut [u16; 512],
+) -> Found
+    requires { ⌜ (length (now inside) ≡ 1024) × (length (now list) ≡ 512) × (first < 1024) ⌝ }
+    ensures { λ _. ⌜ (length (now (inside .exit)) ≡ 1024) × (length (now (list .exit)) ≡ 512) ⌝ }
+{
+    list[0] = number(first);
+    let mut start = take(tails, &*list, 0, &mut *inside);
+    let mut d = start;
+    let mut next: usize = 1;
+    let mut end: usize = 1;
+    let mut total: u32 = 2147483648;
+    let mut best = Best {
+        total: 4294967295,
+        size: 0,
+        listed: 0,
+    };
+    let mut steps: usize = 0;
+    while steps < 1024 {
+        steps += 1;
+        let grown = cross(tails, capacities, d, &mut *inside, &mut *list, total, end);
+        total = grown.total;
+        end = grown.end;
+        d = place(rotations[d]);
+        if d == start {
+            best = better(best, total, next, end);
+            if end <= next {
+                return Found {
+                    best: best,
+                    end: end,
+                };
+            }
+            start = take(tails, &*list, next, &mut *inside);
+            next += 1;
+            d = start;
+        }
+    }
+    Found {
+        best: best,
+        end: end,
+    }
 }
 
 // Flags the nodes of the least cut among the sets that spread from the source, nearest nodes first, up to all but the sink; `start` is a dart at the source.
@@ -569,36 +601,12 @@ pub fn spread(
     flag_none(&mut *inside);
     inside[sink] = 2;
     let mut list = [0u16; 512];
-    list[0] = number(start);
-    let mut next: usize = 0;
-    let mut end: usize = 1;
-    let mut total: u32 = 2147483648;
-    let mut best = Best {
-        total: 4294967295,
-        size: 0,
-        likely: true,
-    };
-    while next < end {
-        let s = place(list[next]);
-        next += 1;
-        let grown = take_node(
-            tails,
-            rotations,
-            capacities,
-            s,
-            &mut *inside,
-            &mut list,
-            total,
-            end,
-        );
-        total = grown.total;
-        end = grown.end;
-        best = better(best, total, next, end);
-    }
-    leave_out(tails, &list, best.size, end, &mut *inside);
+    let spread = spread_all(tails, rotations, capacities, start, &mut *inside, &mut list);
+    leave_out(tails, &list, spread.best.size, spread.end, &mut *inside);
     inside[sink] = 0;
-    if best.size < 2 {
+    let size = spread.best.size;
+    if size < 2 {
         return true;
     }
-    best.likely
+    std::num::wrapping_sub_usize(spread.best.listed, size) < 2
 }

@@ -124,7 +124,8 @@ fn settle(
         × ((ρ : List ℤ) × Searches (given (now (lefts .entry)) (now (lengths .entry)) (now (grouped .entry)) (now (starts .entry)) (now (ends .entry))
         (2 * edges) faces) (now (queue .entry)) roots ρ (now (parents .exit)) r) ⌝ }
 {
-    let mut potentials = [0i64; 1024];
+    // What the search begins with anyway. Zeros would be filled in by the C library byte by byte, which the count of instructions shows.
+    let mut potentials = [4611686018427387904i64; 1024];
     let mut waiting = [0u8; 1024];
     let outcome = search::search(
         lefts,

@@ -129,7 +129,6 @@ propose-requires c κs =
       b .pre .3 .few-edges,
       omega (arith, b .pre .4 .source-in, b .pre .3 .few-nodes),
       omega (arith, b .pre .4 .sink-in, b .pre .3 .few-nodes),
-      b .pre .3 .plane .sound .has-dart _ (b .pre .4 .sink-in),
       tails-in b,
       caps-in b,
     )
@@ -338,7 +337,6 @@ Ready c =
     × (a .edges ≤ 512)
     × (a .source < 1024)
     × (a .sink < 1024)
-    × ((d : ℕ) × (d < 2 * a .edges) × (at (a .tails .now) d ≡ a .sink))
     × ((d : ℕ) → d < 2 * a .edges → at (a .tails .now) d < 1024)
     × ((d : ℕ) → d < 2 * a .edges → Limited 2000000 (caps (start l) d))
 
@@ -356,7 +354,6 @@ ready c =
       b .pre .3 .few-edges,
       omega (arith, b .pre .4 .source-in, b .pre .3 .few-nodes),
       omega (arith, b .pre .4 .sink-in, b .pre .3 .few-nodes),
-      b .pre .3 .plane .sound .has-dart _ (b .pre .4 .sink-in),
       tails-in b,
       caps-in b,
     )

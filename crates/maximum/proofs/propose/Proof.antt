@@ -22,12 +22,6 @@ returns-2 c =
     let s = c .before .before .before in
     (s .pre .0, s .pre .1, s .pre .2, stays (number-of-bits _ (s .fits .high)) refl)
 
-mul-dart-at : tie.Need-mul-dart-at
-mul-dart-at c = search needs
-
-dart-at-requires : tie.Need-dart-at-requires
-dart-at-requires c κs = search needs
-
 propose-requires : tie.Need-propose-requires
 propose-requires c κs = search needs
 
@@ -46,7 +40,7 @@ same-bounds {s} {t} {total} {high} {high₁} {low} {low₁} {inside} {A} {A'} e 
 returns-3 : tie.Need-returns-3
 returns-3 c =
     let e = c .lower .ensures in
-    let s = c .before .before .before .before .before .before .before .before .before .before in (
+    let s = c .before .before .before .before .before .before .before .before .before in (
       search needs,
       search needs,
       e .0,
@@ -54,4 +48,4 @@ returns-3 c =
     )
 
 pub propose-spec : {M : Type 1} → statement M
-propose-spec = tie.close (tie.spec returns finished-requires returns-2 mul-dart-at dart-at-requires propose-requires mul-lower lower-requires returns-3)
+propose-spec = tie.close (tie.spec returns finished-requires returns-2 propose-requires mul-lower lower-requires returns-3)

@@ -8,11 +8,11 @@ use Rattle.pivots.proofs.flag_beyond.Statement.{statement}
 use Rattle.pivots.proofs.flag_beyond.Tie as tie
 
 abbrev Inv-loop : tie.InvT-loop
-Inv-loop tails to nodes sink x inside₀ v₀ inside v =
-    (v ≤ nodes) × (length inside ≡ 1024)
+Inv-loop tails to nodes sink x inside₀ next₀ inside next =
+    (next ≤ nodes) × (length inside ≡ 1024)
 
 abbrev μ-loop : tie.MeasureT-loop
-μ-loop tails to nodes sink x inside₀ v₀ inside v = nodes - v
+μ-loop tails to nodes sink x inside₀ next₀ inside next = nodes - next
 
 unflag-all-requires : tie.Need-unflag-all-requires Inv-loop μ-loop
 unflag-all-requires c κs = search needs
@@ -26,20 +26,29 @@ element-write-inside-2 c = search needs
 loop-holds : tie.Need-loop-holds Inv-loop μ-loop
 loop-holds c = search needs
 
+add-next : tie.Need-add-next Inv-loop μ-loop
+add-next c = search needs
+
+element-copy-out-if1 : tie.Need-element-copy-out-if1 Inv-loop μ-loop
+element-copy-out-if1 c = search needs
+
 flag-ahead-requires : tie.Need-flag-ahead-requires Inv-loop μ-loop
 flag-ahead-requires c κs = search needs
 
 flag-way-requires : tie.Need-flag-way-requires Inv-loop μ-loop
 flag-way-requires c κs = search needs
 
-add-v : tie.Need-add-v Inv-loop μ-loop
-add-v c = search needs
-
 loop-less : tie.Need-loop-less Inv-loop μ-loop
 loop-less c = search needs
 
 loop-again : tie.Need-loop-again Inv-loop μ-loop
 loop-again c = search needs
+
+loop-less-2 : tie.Need-loop-less-2 Inv-loop μ-loop
+loop-less-2 c = search needs
+
+loop-again-2 : tie.Need-loop-again-2 Inv-loop μ-loop
+loop-again-2 c = search needs
 
 returns : tie.Need-returns Inv-loop μ-loop
 returns c = search needs
@@ -54,9 +63,12 @@ flag-beyond-spec =
     element-write-inside
     element-write-inside-2
     loop-holds
+    add-next
+    element-copy-out-if1
     flag-ahead-requires
     flag-way-requires
-    add-v
     loop-less
     loop-again
+    loop-less-2
+    loop-again-2
     returns)
