@@ -1,56 +1,13 @@
 // Cuts over arrays: the sum of numbers of the darts that leave a set of flagged nodes.
 ghost use mathlib.Core.Path.{_≡_};
-ghost use mathlib.Core.Bool.{not, _&&_};
 ghost use Prim.Native.Nat.{ℕ, _+_, _*_, _<_, _≤_, _%_};
-ghost use lib.Dec.{eqb};
 ghost use lib.IntN.{_+ℤ_};
 ghost use Rattle.integers.specs.Sum.{when};
 ghost use Rattle.integers.specs.inner.Limited.{Limited};
-ghost use Rattle.maps.specs.Dart.{rev};
 ghost use Rattle.arrays.specs.At.{at, atℤ};
 ghost use Rattle.arrays.specs.inner.Flags.{flagged};
 ghost use Rattle.arrays.specs.inner.Sizes.{mostCapacity, mostLength};
 ghost use Rattle.cuts.specs.inner.Cut.{leavesOf, cutOf};
-
-// Whether a dart leaves the set, from the flags of its tail and of its head.
-fn leaves(tail: u8, head: u8) -> bool
-    ensures { λ r. ⌜ r ≡ (eqb tail 1 && not (eqb head 1)) ⌝ }
-{
-    if tail == 1 {
-        return head != 1;
-    }
-    false
-}
-
-// What the dart d adds to the cut of the flagged nodes.
-fn share(tails: &[u16; 1024], lengths: &[i32; 1024], inside: &[u8; 1024], d: usize) -> i32
-    requires { ⌜ (d < 1024) × (at (now tails) d < 1024) × (at (now tails) (rev d) < 1024) ⌝ }
-    ensures { λ r. ⌜ r ≡ when (leavesOf (at (now (tails .entry))) (flagged (now (inside .entry))) d) (atℤ (now (lengths .entry)) d) ⌝ }
-{
-    let tail = arrays::wide(tails[d]);
-    let back = arrays::reverse(d);
-    let head = arrays::wide(tails[back]);
-    let at_tail = inside[tail];
-    let at_head = inside[head];
-    if leaves(at_tail, at_head) {
-        lengths[d]
-    } else {
-        0
-    }
-}
-
-// The sum over the darts that leave the flagged nodes.
-pub fn total(tails: &[u16; 1024], lengths: &[i32; 1024], inside: &[u8; 1024], darts: usize) -> i64
-    requires { ⌜ (darts ≤ 1024) × (darts % 2 ≡ 0) × ((d : ℕ) → d < darts → at (now tails) d < 1024)
-        × ((d : ℕ) → d < darts → Limited mostLength (atℤ (now lengths) d)) ⌝ }
-    ensures { λ r. ⌜ r ≡ cutOf darts (at (now (tails .entry))) (atℤ (now (lengths .entry))) (flagged (now (inside .entry))) ⌝ }
-{
-    let mut sum: i64 = 0;
-    for d in 0..darts {
-        sum = signed::plus64(sum, signed::widen(share(tails, lengths, inside, d)));
-    }
-    sum
-}
 
 // What the two darts of the edge e add to the cut of the flagged nodes: at most one of them leaves.
 fn edge_share(tails: &[u16; 1024], lengths: &[i32; 1024], inside: &[u8; 1024], e: usize) -> i32
@@ -74,13 +31,8 @@ fn edge_share(tails: &[u16; 1024], lengths: &[i32; 1024], inside: &[u8; 1024], e
     0
 }
 
-// The same sum, edge by edge: half the steps. `total` stays dart by dart, since it is compiled into a decision, whose search is then some 5 in 100 faster.
-fn total_by_edges(
-    tails: &[u16; 1024],
-    lengths: &[i32; 1024],
-    inside: &[u8; 1024],
-    darts: usize,
-) -> i64
+// The sum over the darts that leave the flagged nodes, edge by edge.
+pub fn total(tails: &[u16; 1024], lengths: &[i32; 1024], inside: &[u8; 1024], darts: usize) -> i64
     requires { ⌜ (darts ≤ 1024) × (darts % 2 ≡ 0) × ((d : ℕ) → d < darts → at (now tails) d < 1024)
         × ((d : ℕ) → d < darts → Limited mostLength (atℤ (now lengths) d)) ⌝ }
     ensures { λ r. ⌜ r ≡ cutOf darts (at (now (tails .entry))) (atℤ (now (lengths .entry))) (flagged (now (inside .entry))) ⌝ }
@@ -103,5 +55,5 @@ pub fn capacity(
         × ((d : ℕ) → d < darts → Limited mostCapacity (atℤ (now capacities) d)) ⌝ }
     ensures { λ r. ⌜ r ≡ cutOf darts (at (now (tails .entry))) (atℤ (now (capacities .entry))) (flagged (now (inside .entry))) ⌝ }
 {
-    signed::narrow(total_by_edges(tails, capacities, inside, darts))
+    signed::narrow(total(tails, capacities, inside, darts))
 }
