@@ -8,6 +8,7 @@ use lib.Dec.{eqb}
 use lib.ListN.{replicate, length-replicate, getD-replicate, List·getD-eq-default}
 use Rattle.integers.specs.Sum.{sum, bit}
 use Rattle.integers.proofs.Tests.{eqb-true, eqb-false}
+use Rattle.integers.proofs.Counting.{count-lt}
 use Rattle.arrays.specs.At.{at}
 use Rattle.rotations.specs.inner.Holding.{holding}
 
@@ -35,6 +36,15 @@ holding-same x (suc n) g h e =
 pub holding-all : (x n : ℕ) (g : ℕ → ℕ) → ((y : ℕ) → y < n → g y ≡ x) → holding x n g ≡ n
 holding-all x zero g h = holding-zero x g
 holding-all x (suc n) g h = omega (arith, last-holds x n g (h n (omega arith)), holding-all x n g (λ y l. h y (omega arith)))
+
+-- none does, and what that says of each
+pub holding-none : (x n : ℕ) (g : ℕ → ℕ) → ((y : ℕ) → y < n → g y ≢ x) → holding x n g ≡ 0
+holding-none x zero g h = holding-zero x g
+holding-none x (suc n) g h = last-not x n g (h n (omega arith)) ∙ holding-none x n g (λ y l. h y (omega arith))
+
+pub none-holds : (x n : ℕ) (g : ℕ → ℕ) → holding x n g ≡ 0 → (y : ℕ) → y < n → g y ≢ x
+unfolding holding
+none-holds x n g z y l e = omega (arith, z, count-lt y n (λ i. eqb (g i) x) l (eqb-true (g y) x e))
 
 -- one place stops holding x, and the others stay
 pub holding-less : (x n : ℕ) (g h : ℕ → ℕ) (z : ℕ) → z < n → g z ≡ x → h z ≢ x → ((y : ℕ) → y ≢ z → h y ≡ g y) → holding x n h + 1 ≡ holding x n g

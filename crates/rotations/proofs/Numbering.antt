@@ -1,8 +1,8 @@
 -- Orbits numbered in order of their lowest members, by meeting each at its lowest: what is known when the places below d have been passed.
-use mathlib.Core.Path.{_≡_, refl, sym, _∙_, ap}
+use mathlib.Core.Path.{_≡_, refl, sym, _∙_, ap, subst}
 use mathlib.Core.Logic.{_≢_}
 use mathlib.Core.Bool.{Bool}
-use Prim.Native.Nat.{ℕ, suc, _+_, _≤_, _<_}
+use Prim.Native.Nat.{ℕ, zero, suc, _+_, _≤_, _<_}
 use native.Mathlib.Omega.{arith}
 use native.Mathlib.Decide.{ℕ-discrete, decLt}
 use Rattle.integers.specs.Sum.{sum, count, bit}
@@ -119,3 +119,9 @@ module _ {n : ℕ} {next : ℕ → ℕ} (few : n ≤ 1024) (π : Permutes n next
               rest' : (y : ℕ) → y < n → d + 1 ≤ lowest next n y → Dec (Orbit next d y) → after y ≡ unmarked
               rest' y m k (yes o) = absurd (omega (arith, lowest-here y o))
               rest' y m k (no far) = μ .off y m far ∙ ν .rest y m (omega arith)
+
+  -- where every place has a number, those from d on are passed
+  pub pass-all : {label : ℕ → ℕ} {f : ℕ} (k d : ℕ) → Numbering n next label d f → d + k ≡ n → ((y : ℕ) → y < n → label y ≢ unmarked)
+      → Numbering n next label n f
+  pass-all {label} {f} zero d ν e h = let q : d ≡ n = omega (arith, e) in subst (λ m. Numbering n next label m f) q ν
+  pass-all (suc k) d ν e h = pass-all k (d + 1) (pass ν (omega (arith, e)) (h d (omega (arith, e)))) (omega (arith, e)) h

@@ -193,8 +193,8 @@ fn mark_face(
 }
 
 // Numbers the faces from 0 in order of their lowest darts, and says how many they are. The darts of a face are met together: so they are grouped by the face
-// right of them at once, the groups from the last place down. The search crosses a face's darts in the order of its group: against the face's round it has been
-// seen to settle sooner than along it.
+// right of them at once, the groups from the last place down, and no dart is looked at behind the last face's lowest. The search crosses a face's darts in the
+// order of its group: against the face's round it has been seen to settle sooner than along it.
 fn number_faces(
     rotations: &[u16; 1024],
     edges: usize,
@@ -217,7 +217,7 @@ fn number_faces(
     let mut f: usize = 0;
     let mut free = darts;
     let mut next: usize = 0;
-    while next < darts {
+    while 0 < free {
         let d = next;
         next += 1;
         if lefts[d] == UNMARKED {

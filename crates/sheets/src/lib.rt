@@ -59,18 +59,20 @@ fn fill_fields(s: &[u8], first: usize, edges: usize, to: &mut [u16])
     }
 }
 
-// The capacity of each dart, into the first places of a slice.
+// The capacity of each dart, into the first places of a slice. Both of an edge are read before they are written: so the compiler makes one move of them.
 fn fill_limits(s: &[u8], edges: usize, to: &mut [i32])
     requires { ⌜ (edges ≤ 512) × (edgeAt (now s) edges ≤ length (now s)) × (2 * edges ≤ length (now to)) ⌝ }
     ensures { λ _. ⌜ now (to .exit) ≡ filled (2 * edges) (field32 (now (s .entry)) 9) (now (to .entry)) ⌝ }
 {
     let head = records::head_length(s);
-    let darts = 2 * edges;
-    let mut d: usize = 0;
-    while d < darts {
-        let at = records::edge_at(head, d / 2);
-        to[d] = fields::read_i32(s, at + 9 + 4 * (d % 2));
-        d += 1;
+    let mut e: usize = 0;
+    while e < edges {
+        let at = records::edge_at(head, e);
+        let forward = fields::read_i32(s, at + 9);
+        let backward = fields::read_i32(s, at + 13);
+        to[2 * e] = forward;
+        to[2 * e + 1] = backward;
+        e += 1;
     }
 }
 

@@ -1,9 +1,10 @@
 -- Invariant: the faces whose lowest dart is below `next` have their numbers and their groups, f is the next number, and the groups fill the places
--- from `free` on.
-use mathlib.Core.Path.{_≡_, sym, _∙_, subst}
+-- from `free` on: as many darts have no number yet, so that the loop stops at the last face.
+use mathlib.Core.Path.{_≡_, refl, sym, _∙_, subst}
 use mathlib.Core.Logic.{_≢_}
 use Prim.Native.Nat.{ℕ, _+_, _*_, _-_, _≤_, _<_}
 use native.Mathlib.Omega.{arith}
+use native.Mathlib.Decide.{decLt}
 use lib.ListN.{length, set, length-set}
 use lib.Seq.{getD-set-same, getD-set-other}
 use borrow.Author.Needs.{needs}
@@ -12,8 +13,9 @@ use Rattle.rotations.specs.inner.Holding.{holding}
 use Rattle.rotations.specs.inner.Marking.{Markable, Marked}
 use Rattle.rotations.specs.inner.Laying.{stepOf}
 use Rattle.traversal.specs.inner.Mark.{unmarked}
-use Rattle.rotations.proofs.Holding.{holding-all}
-use Rattle.rotations.proofs.Numbering.{Numbering, numbering-start, numbering-end, number-small, used-few, pass, markable, mark, is-lowest, number-is}
+use Rattle.rotations.proofs.Holding.{holding-all, holding-none, none-holds}
+use Rattle.rotations.proofs.Numbering.{Numbering, numbering-start, numbering-end, number-small, used-few, pass, pass-all}
+use Rattle.rotations.proofs.Numbering.{markable, mark, is-lowest, number-is}
 use Rattle.rotations.proofs.Grouping.{Grouping, grouping-none, grouping-on, grouping-end, Rounding, rounding-none, rounding-on}
 use Rattle.rotations.proofs.number_faces.Statement.{statement}
 use Rattle.rotations.proofs.number_faces.Tie as tie
@@ -59,14 +61,29 @@ loop-holds c =
 abbrev begun : tie.In-loop Inv-loop μ-loop → tie.Start Inv-loop μ-loop
 begun c = c .before .before .before .before
 
+-- some dart has no number, so there is a next one
+next-in : (c : tie.In-loop Inv-loop μ-loop) → c .before .loop .next < 2 * begun c .args .edges
+next-in c = go (decLt (c .before .loop .next) (2 * begun c .args .edges))
+  where
+    none : 2 * begun c .args .edges ≤ c .before .loop .next → holding unmarked (2 * begun c .args .edges) (at (c .before .loop .lefts)) ≡ 0
+    none m =
+        let s = begun c in
+        let i = c .before .loop .inv in
+        let done = numbering-end (few s) (s .pre .5) (i .4) (omega (arith, i .4 .upto, m)) in
+        holding-none unmarked _ _ (λ y l e. omega (arith, done .1 y l, number-small (few s) (s .pre .5) y l, e))
+
+    go : Dec (c .before .loop .next < 2 * begun c .args .edges) → c .before .loop .next < 2 * begun c .args .edges
+    go (yes l) = l
+    go (no l) = absurd (omega (arith, c .loop-test .taken, c .before .loop .inv .6, none (omega (arith, l))))
+
 add-next : tie.Need-add-next Inv-loop μ-loop
-add-next c = omega (arith, few (begun c), c .loop-test .taken)
+add-next c = omega (arith, few (begun c), next-in c)
 
 mul-if1 : tie.Need-mul-if1 Inv-loop μ-loop
-mul-if1 c = omega (arith, few (begun c), c .loop-test .taken)
+mul-if1 c = omega (arith, few (begun c), next-in c)
 
 element-copy-out-if1 : tie.Need-element-copy-out-if1 Inv-loop μ-loop
-element-copy-out-if1 c = omega (arith, few (begun c), c .loop-test .taken, c .before .loop .inv .0)
+element-copy-out-if1 c = omega (arith, few (begun c), next-in c, c .before .loop .inv .0)
 
 abbrev turn : tie.Then1 Inv-loop μ-loop → tie.In-loop Inv-loop μ-loop
 turn c = c .before .before
@@ -76,7 +93,7 @@ number-below : (c : tie.Then1 Inv-loop μ-loop) → turn c .before .loop .f < 10
 number-below c =
     let t = turn c in
     let s = begun t in
-    omega (arith, few s, used-few (few s) (s .pre .5) (t .before .loop .inv .4), t .loop-test .taken)
+    omega (arith, few s, used-few (few s) (s .pre .5) (t .before .loop .inv .4), next-in t)
 
 narrow-requires : tie.Need-narrow-requires Inv-loop μ-loop
 narrow-requires c κs = let t = turn c in omega (arith, few (begun t), t .before .loop .inv .5 .room)
@@ -96,7 +113,7 @@ free c = c .before .before
 
 face : (c : tie.Then1 Inv-loop μ-loop) → let t = turn c in let o = t .before .loop in
     Markable (2 * begun t .args .edges) (stepOf (begun t .args .rotations .now)) (at (o .lefts)) (o .next) (o .f)
-face c = let t = turn c in let s = begun t in markable (few s) (s .pre .5) (t .before .loop .inv .4) (t .loop-test .taken) (c .if1 .taken)
+face c = let t = turn c in let s = begun t in markable (few s) (s .pre .5) (t .before .loop .inv .4) (next-in t) (c .if1 .taken)
 
 mark-face-requires : tie.Need-mark-face-requires Inv-loop μ-loop
 mark-face-requires c κs =
@@ -134,7 +151,7 @@ add-f : tie.Need-add-f Inv-loop μ-loop
 add-f c = omega (arith, number-below (free (numbered (c .before))))
 
 loop-less : tie.Need-loop-less Inv-loop μ-loop
-loop-less c = omega (arith, turn (free (numbered (c .before))) .loop-test .taken)
+loop-less c = omega (arith, next-in (turn (free (numbered (c .before)))))
 
 loop-again : tie.Need-loop-again Inv-loop μ-loop
 loop-again c =
@@ -161,22 +178,22 @@ loop-again c =
       e .1,
       length-set (o .starts) (o .f) (last .result) ∙ i .2,
       length-set (o .ends) (o .f) (first .result) ∙ i .3,
-      mark (few s) (s .pre .5) (i .4) (t .loop-test .taken) (b .if1 .taken) marked,
+      mark (few s) (s .pre .5) (i .4) (next-in t) (b .if1 .taken) marked,
       grouping-on (i .5) (face b) marked (e .3) begins starts-kept stops ends-kept,
       e .4,
-      rounding-on (i .7) (t .loop-test .taken) (is-lowest (few s) (s .pre .5) (i .4) (t .loop-test .taken) (b .if1 .taken))
-          (number-is (few s) (s .pre .5) (i .4) (t .loop-test .taken) (b .if1 .taken)) (e .5) (e .3 .kept) begins starts-kept stops ends-kept,
+      rounding-on (i .7) (next-in t) (is-lowest (few s) (s .pre .5) (i .4) (next-in t) (b .if1 .taken))
+          (number-is (few s) (s .pre .5) (i .4) (next-in t) (b .if1 .taken)) (e .5) (e .3 .kept) begins starts-kept stops ends-kept,
     )
 
 loop-less-2 : tie.Need-loop-less-2 Inv-loop μ-loop
-loop-less-2 c = omega (arith, c .before .before .loop-test .taken)
+loop-less-2 c = omega (arith, next-in (c .before .before))
 
 loop-again-2 : tie.Need-loop-again-2 Inv-loop μ-loop
 loop-again-2 c =
     let t = c .before .before in
     let s = begun t in
     let i = t .before .loop .inv in
-    (i .0, i .1, i .2, i .3, pass (few s) (s .pre .5) (i .4) (t .loop-test .taken) (c .if1 .left), i .5, i .6, i .7)
+    (i .0, i .1, i .2, i .3, pass (few s) (s .pre .5) (i .4) (next-in t) (c .if1 .left), i .5, i .6, i .7)
 
 returns : tie.Need-returns Inv-loop μ-loop
 returns c =
@@ -184,7 +201,9 @@ returns c =
     let o = c .before .loop in
     let i = o .inv in
     let π = s .pre .5 in
-    let done = numbering-end (few s) π (i .4) (omega (arith, i .4 .upto, c .loop-test .left)) in (
+    let n = 2 * s .args .edges in
+    let all = none-holds unmarked n (at (o .lefts)) (omega (arith, i .6, c .loop-test .left)) in
+    let done = numbering-end (few s) π (pass-all (few s) π (n - o .next) (o .next) (i .4) (omega (arith, i .4 .upto)) all) refl in (
       i .0,
       i .1,
       i .2,

@@ -1,8 +1,9 @@
--- The capacity of each dart. Invariant: the places below d have their capacities, the others are as they were.
-use Prim.Native.Nat.{_≤_, _-_, _+_, _*_, _/_, _%_}
+-- The capacities of each edge's darts. Invariant: the places of the edges below e have their capacities, the others are as they were.
+use Prim.Native.Nat.{_≤_, _<_, _-_, _+_, _*_}
 use mathlib.Core.Path.{_≡_, _∙_, ap}
 use native.Mathlib.Omega.{arith}
 use borrow.Author.Needs.{needs}
+use lib.ListN.{length, length-set}
 use mir.Syntax.{w32}
 use mir.Val.{toZ, ofZ}
 use Rattle.signed.proofs.Laws.{number-of-bits}
@@ -15,35 +16,43 @@ use Rattle.sheets.proofs.fill_limits.Statement.{statement}
 use Rattle.sheets.proofs.fill_limits.Tie as tie
 
 abbrev Inv-loop : tie.InvT-loop
-Inv-loop s edges to₀ head darts d₀ to d = (d ≤ darts) × (to ≡ filled d (field32 s 9) to₀)
+Inv-loop s edges to₀ head e₀ to e = (e ≤ edges) × (to ≡ filled (2 * e) (field32 s 9) to₀)
 
 abbrev μ-loop : tie.MeasureT-loop
-μ-loop s edges to₀ head darts d₀ to d = darts - d
+μ-loop s edges to₀ head e₀ to e = edges - e
 
--- ── the turn of the loop in which a capacity is read, and the start ──
+-- ── the turn of the loop in which capacities are read, and the start ──
 abbrev begun : tie.At-loop Inv-loop μ-loop → tie.Start Inv-loop μ-loop
 begun c = c .before .before .before
 
-abbrev turn : tie.After-read-i32 Inv-loop μ-loop → tie.At-loop Inv-loop μ-loop
-turn c = c .before .before .before
+abbrev first : tie.After-read-i32 Inv-loop μ-loop → tie.At-loop Inv-loop μ-loop
+first c = c .before .before .before
 
--- the record of the dart's edge begins behind the sheet's head
-place : (c : tie.After-edge-at Inv-loop μ-loop) → c .edge-at .result ≡ edgeAt (begun (c .before .before) .args .s .now) (c .before .before .loop .d / 2)
-place c = let o = c .before .before in c .edge-at .ensures ∙ ap (λ n. edgeAfter n (o .loop .d / 2)) (o .before .head-length .ensures .0)
+abbrev turn : tie.After-read-i322 Inv-loop μ-loop → tie.At-loop Inv-loop μ-loop
+turn c = first (c .before)
 
--- the capacity read is the dart's
-capacity-read : (c : tie.After-read-i32 Inv-loop μ-loop) → toZ w32 (ofZ w32 (c .read-i32 .result)) ≡ field32 (begun (turn c) .args .s .now) 9 (turn c .loop .d)
-capacity-read c =
+-- the record of the edge begins behind the sheet's head
+place : (c : tie.After-edge-at Inv-loop μ-loop) → c .edge-at .result ≡ edgeAt (begun (c .before .before) .args .s .now) (c .before .before .loop .e)
+place c = let o = c .before .before in c .edge-at .ensures ∙ ap (λ n. edgeAfter n (o .loop .e)) (o .before .head-length .ensures .0)
+
+-- the capacities read are the darts'
+forward-read : (c : tie.After-read-i32 Inv-loop μ-loop)
+    → toZ w32 (ofZ w32 (c .read-i32 .result)) ≡ field32 (begun (first c) .args .s .now) 9 (2 * first c .loop .e)
+forward-read c =
     number-of-bits (c .read-i32 .result) (record { sfits = c .read-i32 .ok })
     ∙ c .read-i32 .ensures
-    ∙ ap (λ n. i32At (begun (turn c) .args .s .now) (n + 9 + 4 * (turn c .loop .d % 2))) (place (c .before))
+    ∙ ap (i32At (begun (first c) .args .s .now)) (omega (arith, place (c .before)))
+
+backward-read : (c : tie.After-read-i322 Inv-loop μ-loop)
+    → toZ w32 (ofZ w32 (c .read-i322 .result)) ≡ field32 (begun (turn c) .args .s .now) 9 (2 * turn c .loop .e + 1)
+backward-read c =
+    number-of-bits (c .read-i322 .result) (record { sfits = c .read-i322 .ok })
+    ∙ c .read-i322 .ensures
+    ∙ ap (i32At (begun (turn c) .args .s .now)) (omega (arith, place (c .before .before)))
 
 -- ── the needs, in the order of the code ──
 head-length-requires : tie.Need-head-length-requires Inv-loop μ-loop
 head-length-requires c κs = let s = c .before in omega (arith, s .pre .1, head-some (s .args .s .now))
-
-mul-darts : tie.Need-mul-darts Inv-loop μ-loop
-mul-darts c = search needs
 
 loop-holds : tie.Need-loop-holds Inv-loop μ-loop
 loop-holds c = (omega arith, copy-start _ _)
@@ -54,29 +63,51 @@ edge-at-requires c κs = search needs
 add-read-i32 : tie.Need-add-read-i32 Inv-loop μ-loop
 add-read-i32 c = omega (arith, place c, begun (c .before .before) .pre .1)
 
-mul-read-i32 : tie.Need-mul-read-i32 Inv-loop μ-loop
-mul-read-i32 c = search needs
-
-add-read-i32-2 : tie.Need-add-read-i32-2 Inv-loop μ-loop
-add-read-i32-2 c = omega (arith, place c, begun (c .before .before) .pre .1)
-
 read-i32-requires : tie.Need-read-i32-requires Inv-loop μ-loop
 read-i32-requires c κs = omega (arith, place c, begun (c .before .before) .pre .1)
 
-mul-t14 : tie.Need-mul-t14 Inv-loop μ-loop
-mul-t14 c = search needs
+add-read-i32-2 : tie.Need-add-read-i32-2 Inv-loop μ-loop
+add-read-i32-2 c = omega (arith, place (c .before), begun (first c) .pre .1)
 
-slice-set-from-to : tie.Need-slice-set-from-to Inv-loop μ-loop
-slice-set-from-to c = omega (arith, filled-length _ _ _ _ (turn c .loop .inv .1) (omega arith))
+read-i32-requires-2 : tie.Need-read-i32-requires-2 Inv-loop μ-loop
+read-i32-requires-2 c κs = omega (arith, place (c .before), begun (first c) .pre .1)
 
-add-d : tie.Need-add-d Inv-loop μ-loop
-add-d c = search needs
+mul-forward : tie.Need-mul-forward Inv-loop μ-loop
+mul-forward c = search needs
+
+mul-forward-2 : tie.Need-mul-forward-2 Inv-loop μ-loop
+mul-forward-2 c = search needs
+
+slice-set-from-forward : tie.Need-slice-set-from-forward Inv-loop μ-loop
+slice-set-from-forward c = omega (arith, filled-length _ _ _ _ (turn c .loop .inv .1) (omega arith))
+
+mul-backward : tie.Need-mul-backward Inv-loop μ-loop
+mul-backward c = search needs
+
+add-backward : tie.Need-add-backward Inv-loop μ-loop
+add-backward c = search needs
+
+mul-backward-2 : tie.Need-mul-backward-2 Inv-loop μ-loop
+mul-backward-2 c = search needs
+
+slice-set-from-backward : tie.Need-slice-set-from-backward Inv-loop μ-loop
+slice-set-from-backward c = simp length-set (omega (arith, filled-length _ _ _ _ (turn c .loop .inv .1) (omega arith)))
+
+add-e : tie.Need-add-e Inv-loop μ-loop
+add-e c = search needs
 
 loop-less : tie.Need-loop-less Inv-loop μ-loop
 loop-less c = search needs
 
 loop-again : tie.Need-loop-again Inv-loop μ-loop
-loop-again c = let o = turn c .loop in (omega arith, copy-step _ (o .d) _ _ _ (o .inv .1) (omega arith) (capacity-read c))
+loop-again c =
+    let o = turn c .loop in
+    let a = begun (turn c) .args in
+    let both : 2 * o .e + 1 + 1 ≡ 2 * (o .e + 1) = omega arith in (
+      omega arith,
+      copy-step _ (2 * o .e + 1) _ _ _ (copy-step _ (2 * o .e) _ _ _ (o .inv .1) (omega arith) (forward-read (c .before))) (omega arith) (backward-read c)
+          ∙ ap (λ k. filled k (field32 (a .s .now) 9) (a .to .now)) both,
+    )
 
 same-length : tie.Need-same-length Inv-loop μ-loop
 same-length c = filled-length _ _ _ _ (c .before .loop .inv .1) (omega arith)
@@ -85,7 +116,7 @@ returns : tie.Need-returns Inv-loop μ-loop
 returns c =
     let o = c .before in
     let a = begun o .args in
-    let all : o .loop .d ≡ 2 * a .edges = omega arith in
+    let all : 2 * o .loop .e ≡ 2 * a .edges = omega arith in
     o .loop .inv .1 ∙ ap (λ k. filled k (field32 (a .s .now) 9) (a .to .now)) all
 
 pub fill-limits-spec : {M : Type 1} → statement M
@@ -95,16 +126,20 @@ fill-limits-spec =
     Inv-loop
     μ-loop
     head-length-requires
-    mul-darts
     loop-holds
     edge-at-requires
     add-read-i32
-    mul-read-i32
-    add-read-i32-2
     read-i32-requires
-    mul-t14
-    slice-set-from-to
-    add-d
+    add-read-i32-2
+    read-i32-requires-2
+    mul-forward
+    mul-forward-2
+    slice-set-from-forward
+    mul-backward
+    add-backward
+    mul-backward-2
+    slice-set-from-backward
+    add-e
     loop-less
     loop-again
     same-length
