@@ -14,7 +14,7 @@ use mir.Syntax.{w32}
 use mir.Val.{toZ, ofZ}
 use Rattle.integers.specs.inner.Limited.{Limited}
 use Rattle.integers.specs.Sum.{bit}
-use Rattle.integers.proofs.Omega.{atoms₂, atoms₄, parts, at-most, less, from-equal, from-less}
+use Rattle.integers.proofs.Omega.{atoms₂, atoms₄, parts, at-most, less, from-equal, from-at-most, from-less}
 use Rattle.integers.proofs.Laws.{lt-le-clash, le-trans, le-antisym, le-of-lt, lt-or-ge}
 use Rattle.integers.proofs.Limits.{limited-neg}
 use Rattle.integers.proofs.Tests.{eqb-true, eqb-false, ltb-true}
@@ -133,11 +133,20 @@ module _ {𝓜 : Map} (outer : ℕ) {c : ℕ → ℤ} {s t : ℕ} (ground : Grou
     where
       limit : (d : ℕ) → d < darts 𝓜 → c d ≤ℤ pos 1000000
       limit d l = ground .small d l .high
-  low-small before flows B low false h = subst (Limited 512000000) (sym (h .2)) (limited-neg (cut-small 𝓜 c (ground .few-edges) (ground .small) B))
+  low-small before flows B low false h = h .3
+
+  -- what a low bound may be before any is found: the least that a cut's negative can be, or the negative of B's cut
+  low-at-most : (B : ℕ → Bool) (low : ℤ) → (low ≡ negℤ (pos 512000000)) ⊎ (low ≡ negℤ (cut 𝓜 c B)) → (low ≤ℤ negℤ (cut 𝓜 c B)) × Limited 512000000 low
+  low-at-most B low (inl e) =
+      rw e (
+        limited-neg (cut-small 𝓜 c (ground .few-edges) (ground .small) B) .low,
+        record { low = at-most (search parts) (omega arith); high = at-most (search parts) (omega arith) },
+      )
+  low-at-most B low (inr e) = (le-of-equal e, subst (Limited 512000000) (sym e) (limited-neg (cut-small 𝓜 c (ground .few-edges) (ground .small) B)))
 
   -- ── how it begins: a set at the source, and a value that is known or the sink alone ──
   pub begins : (before : List ℤ) (A B : List ℕ) (low high : ℤ) (known : Bool) → AtSource s t (flagged A) → ((u : ℕ) → u < 1024 → flagged B u ≡ eqb u t)
-      → high ≡ cutOf (darts 𝓜) (𝓜 .tail) c (flagged A) → (known ≡ false → low ≡ negℤ (cutOf (darts 𝓜) (𝓜 .tail) c (flagged B)))
+      → high ≡ cutOf (darts 𝓜) (𝓜 .tail) c (flagged A) → (known ≡ false → (low ≡ negℤ (pos 512000000)) ⊎ (low ≡ negℤ (cutOf (darts 𝓜) (𝓜 .tail) c (flagged B))))
       → (known ≡ true → (x : ℕ → ℤ) × Highest 𝓜 outer c s t low x × (before ≡ filled (𝓜 .edges) x before))
       → Bracket 𝓜 outer c s t before before A B low high known
   begins before A B low high known side one-b is-high is-low carried = record {
@@ -145,15 +154,19 @@ module _ {𝓜 : Map} (outer : ℕ) {c : ℕ → ℤ} {s t : ℕ} (ground : Grou
     floor = by known is-low carried;
   }
     where
-      by : (k : Bool) → (k ≡ false → low ≡ negℤ (cutOf (darts 𝓜) (𝓜 .tail) c (flagged B)))
+      by : (k : Bool) → (k ≡ false → (low ≡ negℤ (pos 512000000)) ⊎ (low ≡ negℤ (cutOf (darts 𝓜) (𝓜 .tail) c (flagged B))))
           → (k ≡ true → (x : ℕ → ℤ) × Highest 𝓜 outer c s t low x × (before ≡ filled (𝓜 .edges) x before))
           → Floor 𝓜 outer c s t before before (flagged B) low k
       by true f g = g refl
       by false f g = (
         refl,
         (one-b s s-in ∙ eqb-false s t (ground .two .two), one-b t t-in ∙ eqb-true t t refl),
-        f refl ∙ ap negℤ (sym (cut-of 𝓜 c (flagged B))),
+        is-low' .0,
+        is-low' .1,
       )
+        where
+          is-low' : (low ≤ℤ negℤ (cut 𝓜 c (flagged B))) × Limited 512000000 low
+          is-low' = low-at-most (flagged B) low (subst (λ x. (low ≡ negℤ (pos 512000000)) ⊎ (low ≡ negℤ x)) (sym (cut-of 𝓜 c (flagged B))) (f refl))
 
   -- the flow of an edge is no more than a sheet's capacity
   pub flow-small : (value : ℤ) (x : ℕ → ℤ) → Highest 𝓜 outer c s t value x → (e : ℕ) → e < 𝓜 .edges → Limited 1000000 (x e)
@@ -231,6 +244,9 @@ module _ {𝓜 : Map} (outer : ℕ) {c : ℕ → ℤ} {s t : ℕ} (ground : Grou
           is-cut : total ≡ negℤ (cut 𝓜 c (flagged inside))
           is-cut = e ∙ ap negℤ (sym (cut-of 𝓜 c (flagged inside)))
 
+          lies : (total ≤ℤ negℤ (cut 𝓜 c (flagged B'))) × Limited 512000000 total
+          lies = low-at-most (flagged B') total (inr (is-cut ∙ ap negℤ (sym (same-cut B' inside same))))
+
           go : (f : Bool) → found ≡ f → Floor 𝓜 outer c s t before flows (flagged B) low f
               → (found ≡ false) × Bracket 𝓜 outer c s t before flows A B' total high found × (value <ℤ total)
           go true q h = absurd (excluded (flagged inside) (sink-proves-less 𝓜 c s t (flagged inside) side value low at-least proves) q)
@@ -239,7 +255,7 @@ module _ {𝓜 : Map} (outer : ℕ) {c : ℕ → ℤ} {s t : ℕ} (ground : Grou
             record {
               ceiling = b .ceiling;
               floor = subst (Floor 𝓜 outer c s t before flows (flagged B') total) (sym q)
-                  (h .0, (same s s-in ∙ side .0, same t t-in ∙ side .1), is-cut ∙ ap negℤ (sym (same-cut B' inside same)));
+                  (h .0, (same s s-in ∙ side .0, same t t-in ∙ side .1), lies .0, lies .1);
             },
             rw is-cut (sink-short 𝓜 c s t (flagged inside) side value proves),
           )
@@ -271,7 +287,7 @@ module _ {𝓜 : Map} (outer : ℕ) {c : ℕ → ℤ} {s t : ℕ} (ground : Grou
             none-between =
                 let a = atoms₄ (cut 𝓜 c (flagged A)) (cut 𝓜 c (flagged B)) low high in
                 less (search parts) (omega
-                (arith, from-less l (search parts), from-equal (b .ceiling .is-cut) (search parts), from-equal (h .2) (search parts)))
+                (arith, from-less l (search parts), from-equal (b .ceiling .is-cut) (search parts), from-at-most (h .2) (search parts)))
 
             agree : (S : ℕ → Bool) → ((u : ℕ) → u < 1024 → flagged A' u ≡ S u) → cut 𝓜 c (flagged A') ≡ cut 𝓜 c S
             agree S same = cut-agrees (ground .plane .sound .range) (flagged A') S (λ v m. same v (omega (arith, ground .few-nodes))) c

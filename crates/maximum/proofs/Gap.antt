@@ -79,3 +79,15 @@ gap-narrower low {high} {high'} found l =
       positive-is (added (added z (negated x)) (literal 1)),
       from-at-most l (search parts),
     )
+
+-- a low bound that is raised to the high one leaves no more to go
+pub gap-closed : {low high : ℤ} → low <ℤ high → gap high high true ≤ gap low high true
+gap-closed {low} {high} l =
+    let x = atom low in
+    let y = atom high in
+    omega (
+      arith,
+      positive-is (added (added y (negated x)) (literal 1)),
+      positive-is (added (added y (negated y)) (literal 1)),
+      from-less l (search parts),
+    )

@@ -3,6 +3,7 @@
 // between them, the union or the intersection of the two sets shows it.
 ghost use mathlib.Core.Path.{_≡_};
 ghost use mathlib.Core.Bool.{true, false};
+ghost use mathlib.Core.Logic.{_⊎_};
 ghost use mathlib.Core.List.{List};
 ghost use Prim.Native.Nat.{ℕ, _*_, _%_, _<_, _≤_};
 ghost use lib.ListN.{length};
@@ -19,11 +20,17 @@ ghost use Rattle.arrays.specs.inner.Flags.{flagged};
 ghost use Rattle.node_flags.specs.declared.Side.{Side};
 ghost use Rattle.arrays.specs.inner.Drawn.{Drawn};
 ghost use Rattle.grouping.specs.inner.Walked.{Walked};
+ghost use Rattle.traversal.specs.inner.Forest.{Forest};
 ghost use Rattle.solver.specs.inner.Ends.{Ends};
+ghost use Rattle.solver.specs.inner.Decision.{Decided};
+ghost use Rattle.flows.specs.ProvingSet.{bound};
+ghost use Rattle.arrays.specs.inner.Sizes.{mostValue};
 ghost use Rattle.arrays.specs.Maps.{mapOf};
 ghost use Rattle.maximum.specs.inner.Bracket.{Bracket};
 ghost use Rattle.maximum.specs.inner.Narrowing.{Narrows, Lowers, Joins};
+ghost use Rattle.maximum.specs.inner.Raising.{Raises};
 ghost use Rattle.maximum.specs.inner.Maximum.{Maximized};
+use feasibility::Lead;
 use node_flags::Side;
 
 // The two bounds after a proving set, or that it shows that there is nothing between any.
@@ -138,22 +145,31 @@ fn begin(
     false
 }
 
-// The low bound to begin with: the value that is carried, where one is known; else the negative of the cut of the flagged nodes.
+// The least that the negative of a cut can be: 512 edges at most, of a capacity of at most 1,000,000.
+const LOWEST: i32 = -512000000;
+
+// The low bound to begin with: the value that is carried, where one is known; else the negative of the cut of the flagged nodes. Where the high bound is likely
+// to be the answer it is probed first, and any low bound does.
 fn low_bound(
     tails: &[u16; 1024],
     capacities: &[i32; 1024],
     b: &[u8; 1024],
     darts: usize,
     known: bool,
+    likely: bool,
     value: i32,
 ) -> i32
     requires { ⌜ (darts ≤ 1024) × (darts % 2 ≡ 0) × ((d : ℕ) → d < darts → at (now tails) d < 1024)
         × ((d : ℕ) → d < darts → Limited 2000000 (atℤ (now capacities) d)) ⌝ }
     ensures { λ r. ⌜ (known ≡ true → r ≡ value)
-        × (known ≡ false → r ≡ negℤ (cutOf darts (at (now (tails .entry))) (atℤ (now (capacities .entry))) (flagged (now (b .entry))))) ⌝ }
+        × (known ≡ false → (r ≡ negℤ (pos 512000000))
+        ⊎ (r ≡ negℤ (cutOf darts (at (now (tails .entry))) (atℤ (now (capacities .entry))) (flagged (now (b .entry)))))) ⌝ }
 {
     if known {
         return value;
+    }
+    if likely {
+        return LOWEST;
     }
     negate(cuts::capacity(tails, capacities, b, darts))
 }
@@ -315,11 +331,504 @@ fn propose<'a>(
 }
 
 // Whether a first set is proposed from a value that is known: unless the set to begin with is likely to do.
-fn unlikely(known: bool, likely: bool) -> bool {
+fn unlikely(known: bool, likely: bool) -> bool
+    ensures { λ r. ⌜ (r ≡ true → known ≡ true) ⌝ }
+{
     if likely {
         return false;
     }
     known
+}
+
+// The low bound, where it is wanted raised to the high one: that is confirmed along the parents which a proposal left, and its highest flow written. It is
+// called from three places too.
+fn raise<'a>(
+    tails: &'a [u16; 1024],
+    rotations: &'a [u16; 1024],
+    lefts: &'a [u16; 1024],
+    capacities: &'a [i32; 1024],
+    order: &'a [u16; 1024],
+    from: &'a [u16; 1024],
+    nodes: usize,
+    edges: usize,
+    faces: usize,
+    trees: usize,
+    outer: usize,
+    source: usize,
+    sink: usize,
+    low: i32,
+    high: i32,
+    wanted: bool,
+    parents: &[u16; 1024],
+    flows: &mut [i32],
+) -> i32
+    requires { ⌜ (edges ≤ length (now flows))
+        × Drawn (mapOf nodes edges (now tails) (now rotations)) (at (now lefts)) faces outer (atℤ (now capacities))
+        × Ends (mapOf nodes edges (now tails) (now rotations)) source sink × Limited 600000000 high
+        × Forest (2 * edges) (at (now rotations)) outer (at (now order)) (at (now from)) trees ⌝ }
+    ensures { λ r. ⌜ Raises (mapOf nodes edges (now (tails .entry)) (now (rotations .entry))) outer (atℤ (now (capacities .entry)))
+        source sink low high r wanted (now (flows .entry)) (now (flows .exit)) ⌝ }
+{
+    if !wanted {
+        return low;
+    }
+    if !is_less(low, high) {
+        return low;
+    }
+    if solver::confirm(
+        tails,
+        rotations,
+        lefts,
+        capacities,
+        order,
+        from,
+        nodes,
+        edges,
+        faces,
+        trees,
+        outer,
+        source,
+        sink,
+        high,
+        parents,
+        flows,
+    ) {
+        return high;
+    }
+    low
+}
+
+// The value to decide next, and what was proposed for it: nothing (0), a tree of the faces in the parents (1), or a set that is flagged (2).
+struct Choice {
+    value: i32,
+    lead: u8,
+}
+
+// The proposed value, if it lies between the bounds, and above the low one once that is found; else the other.
+fn within(low: i32, high: i32, found: bool, value: i32, other: i32, lead: u8) -> Choice
+    requires { ⌜ (low ≤ℤ other) × (other ≤ℤ high) × (found ≡ true → low <ℤ high → low <ℤ other) ⌝ }
+    ensures { λ r. ⌜ (low ≤ℤ r .value) × (r .value ≤ℤ high) × (found ≡ true → low <ℤ high → low <ℤ r .value) ⌝ }
+{
+    let chosen = Choice {
+        value: value,
+        lead: lead,
+    };
+    let plain = Choice {
+        value: other,
+        lead: 0,
+    };
+    if is_less(high, value) {
+        return plain;
+    }
+    if is_less(low, value) {
+        return chosen;
+    }
+    if found {
+        return plain;
+    }
+    if is_less(value, low) {
+        return plain;
+    }
+    chosen
+}
+
+// What is proposed between the bounds: once a value is found, from the high bound down, and before that from the value nearest to zero.
+fn seek<'a>(
+    tails: &'a [u16; 1024],
+    rotations: &'a [u16; 1024],
+    lefts: &'a [u16; 1024],
+    capacities: &'a [i32; 1024],
+    from: &'a [u16; 1024],
+    grouped: &'a [u16; 1024],
+    starts: &'a [u16; 1024],
+    ends: &'a [u16; 1024],
+    edges: usize,
+    faces: usize,
+    outer: usize,
+    source: usize,
+    sink: usize,
+    low: i32,
+    high: i32,
+    found: bool,
+    parents: &mut [u16; 1024],
+    inside: &mut [u8; 1024],
+) -> Lead
+    requires { ⌜ (length (now parents) ≡ 1024) × (length (now inside) ≡ 1024) × (edges ≤ 512) × (faces ≤ 1024) × (outer < 1024)
+        × (low ≤ℤ high) × Limited 600000000 low
+        × ((d : ℕ) × (d < 2 * edges) × (at (now tails) d ≡ source)) × ((d : ℕ) × (d < 2 * edges) × (at (now tails) d ≡ sink)) ⌝ }
+    ensures { λ _. ⌜ (length (now (parents .exit)) ≡ 1024) × (length (now (inside .exit)) ≡ 1024) ⌝ }
+{
+    let start = traversal::dart_at(tails, 2 * edges, source);
+    let finish = traversal::dart_at(tails, 2 * edges, sink);
+    if found {
+        return feasibility::seek(
+            tails,
+            rotations,
+            lefts,
+            capacities,
+            from,
+            grouped,
+            starts,
+            ends,
+            faces,
+            outer,
+            start,
+            finish,
+            high,
+            signed::plus(low, 1),
+            high,
+            parents,
+            inside,
+        );
+    }
+    feasibility::seek(
+        tails,
+        rotations,
+        lefts,
+        capacities,
+        from,
+        grouped,
+        starts,
+        ends,
+        faces,
+        outer,
+        start,
+        finish,
+        nearest_zero(low, high),
+        low,
+        high,
+        parents,
+        inside,
+    )
+}
+
+// The value to decide next: where that is wanted, one that is proposed.
+fn choose<'a>(
+    tails: &'a [u16; 1024],
+    rotations: &'a [u16; 1024],
+    lefts: &'a [u16; 1024],
+    capacities: &'a [i32; 1024],
+    from: &'a [u16; 1024],
+    grouped: &'a [u16; 1024],
+    starts: &'a [u16; 1024],
+    ends: &'a [u16; 1024],
+    edges: usize,
+    faces: usize,
+    outer: usize,
+    source: usize,
+    sink: usize,
+    low: i32,
+    high: i32,
+    middle: bool,
+    found: bool,
+    first: bool,
+    wanted: bool,
+    parents: &mut [u16; 1024],
+    inside: &mut [u8; 1024],
+) -> Choice
+    requires { ⌜ (length (now parents) ≡ 1024) × (length (now inside) ≡ 1024) × (edges ≤ 512) × (faces ≤ 1024) × (outer < 1024)
+        × (low ≤ℤ high) × Limited 600000000 low × Limited 600000000 high
+        × ((d : ℕ) × (d < 2 * edges) × (at (now tails) d ≡ source)) × ((d : ℕ) × (d < 2 * edges) × (at (now tails) d ≡ sink)) ⌝ }
+    ensures { λ r. ⌜ (length (now (parents .exit)) ≡ 1024) × (length (now (inside .exit)) ≡ 1024)
+        × (low ≤ℤ r .value) × (r .value ≤ℤ high) × (found ≡ true → low <ℤ high → low <ℤ r .value) ⌝ }
+{
+    let value = next_value(low, high, middle, at_top(found, first));
+    if !wanted {
+        return Choice {
+            value: value,
+            lead: 0,
+        };
+    }
+    let lead = seek(
+        tails,
+        rotations,
+        lefts,
+        capacities,
+        from,
+        grouped,
+        starts,
+        ends,
+        edges,
+        faces,
+        outer,
+        source,
+        sink,
+        low,
+        high,
+        found,
+        parents,
+        inside,
+    );
+    match lead {
+        Lead::Settled(v) => within(low, high, found, v, value, 1),
+        Lead::Ring(v) => within(low, high, found, v, value, 2),
+        Lead::Lost => Choice {
+            value: value,
+            lead: 0,
+        },
+    }
+}
+
+// Whether the flagged nodes prove the value impossible.
+fn proves(
+    tails: &[u16; 1024],
+    capacities: &[i32; 1024],
+    inside: &[u8; 1024],
+    darts: usize,
+    source: usize,
+    sink: usize,
+    value: i32,
+) -> bool
+    requires { ⌜ (source < 1024) × (sink < 1024) × (darts ≤ 1024) × (darts % 2 ≡ 0) × ((d : ℕ) → d < darts → at (now tails) d < 1024)
+        × ((d : ℕ) → d < darts → Limited 2000000 (atℤ (now capacities) d)) × Limited 2048000000 value ⌝ }
+    ensures { λ r. ⌜ (r ≡ true → cutOf darts (at (now (tails .entry))) (atℤ (now (capacities .entry))) (flagged (now (inside .entry)))
+        <ℤ bound (flagged (now (inside .entry))) source sink value) ⌝ }
+{
+    let total = cuts::capacity(tails, capacities, inside, darts);
+    let side = node_flags::side_of(inside, source, sink);
+    match side {
+        Side::Source => is_less(total, value),
+        Side::Sink => is_less(total, negate(value)),
+        Side::Beside => is_less(total, 0),
+    }
+}
+
+// Decides a value by a tree that is proposed for it, if that shows that it is carried, else by a search.
+fn judge_by_tree<'a>(
+    tails: &'a [u16; 1024],
+    rotations: &'a [u16; 1024],
+    lefts: &'a [u16; 1024],
+    capacities: &'a [i32; 1024],
+    order: &'a [u16; 1024],
+    from: &'a [u16; 1024],
+    grouped: &'a [u16; 1024],
+    starts: &'a [u16; 1024],
+    ends: &'a [u16; 1024],
+    nodes: usize,
+    edges: usize,
+    faces: usize,
+    trees: usize,
+    outer: usize,
+    source: usize,
+    sink: usize,
+    value: i32,
+    parents: &mut [u16; 1024],
+    flows: &mut [i32],
+    inside: &mut [u8; 1024],
+) -> bool
+    requires { ⌜ (length (now inside) ≡ 1024) × (edges ≤ length (now flows))
+        × Drawn (mapOf nodes edges (now tails) (now rotations)) (at (now lefts)) faces outer (atℤ (now capacities))
+        × Ends (mapOf nodes edges (now tails) (now rotations)) source sink × Limited mostValue value × (length (now parents) ≡ 1024)
+        × Walked (2 * edges) faces outer trees (at (now rotations)) (now lefts) (now order) (now from) (now grouped) (now starts) (now ends) ⌝ }
+    ensures { λ r. ⌜ (length (now (inside .exit)) ≡ 1024)
+        × Decided (mapOf nodes edges (now (tails .entry)) (now (rotations .entry))) outer (atℤ (now (capacities .entry)))
+        source sink value (now (flows .entry)) (now (flows .exit)) (now (inside .exit)) r × (length (now (parents .exit)) ≡ 1024) ⌝ }
+{
+    let shown = solver::confirm(
+        tails,
+        rotations,
+        lefts,
+        capacities,
+        order,
+        from,
+        nodes,
+        edges,
+        faces,
+        trees,
+        outer,
+        source,
+        sink,
+        value,
+        &*parents,
+        &mut *flows,
+    );
+    if shown {
+        return true;
+    }
+    solver::decide(
+        tails,
+        rotations,
+        lefts,
+        capacities,
+        order,
+        from,
+        grouped,
+        starts,
+        ends,
+        nodes,
+        edges,
+        faces,
+        trees,
+        outer,
+        source,
+        sink,
+        value,
+        parents,
+        flows,
+        inside,
+    )
+}
+
+// Decides a value by a set that is proposed for it, if that proves it impossible, else by a search.
+fn judge_by_set<'a>(
+    tails: &'a [u16; 1024],
+    rotations: &'a [u16; 1024],
+    lefts: &'a [u16; 1024],
+    capacities: &'a [i32; 1024],
+    order: &'a [u16; 1024],
+    from: &'a [u16; 1024],
+    grouped: &'a [u16; 1024],
+    starts: &'a [u16; 1024],
+    ends: &'a [u16; 1024],
+    nodes: usize,
+    edges: usize,
+    faces: usize,
+    trees: usize,
+    outer: usize,
+    source: usize,
+    sink: usize,
+    value: i32,
+    parents: &mut [u16; 1024],
+    flows: &mut [i32],
+    inside: &mut [u8; 1024],
+) -> bool
+    requires { ⌜ (length (now inside) ≡ 1024) × (edges ≤ length (now flows))
+        × Drawn (mapOf nodes edges (now tails) (now rotations)) (at (now lefts)) faces outer (atℤ (now capacities))
+        × Ends (mapOf nodes edges (now tails) (now rotations)) source sink × Limited mostValue value × (length (now parents) ≡ 1024)
+        × Walked (2 * edges) faces outer trees (at (now rotations)) (now lefts) (now order) (now from) (now grouped) (now starts) (now ends) ⌝ }
+    ensures { λ r. ⌜ (length (now (inside .exit)) ≡ 1024)
+        × Decided (mapOf nodes edges (now (tails .entry)) (now (rotations .entry))) outer (atℤ (now (capacities .entry)))
+        source sink value (now (flows .entry)) (now (flows .exit)) (now (inside .exit)) r × (length (now (parents .exit)) ≡ 1024) ⌝ }
+{
+    if proves(tails, capacities, &*inside, 2 * edges, source, sink, value) {
+        return false;
+    }
+    solver::decide(
+        tails,
+        rotations,
+        lefts,
+        capacities,
+        order,
+        from,
+        grouped,
+        starts,
+        ends,
+        nodes,
+        edges,
+        faces,
+        trees,
+        outer,
+        source,
+        sink,
+        value,
+        parents,
+        flows,
+        inside,
+    )
+}
+
+// Decides a value: by what was proposed for it, if anything was.
+fn judge<'a>(
+    tails: &'a [u16; 1024],
+    rotations: &'a [u16; 1024],
+    lefts: &'a [u16; 1024],
+    capacities: &'a [i32; 1024],
+    order: &'a [u16; 1024],
+    from: &'a [u16; 1024],
+    grouped: &'a [u16; 1024],
+    starts: &'a [u16; 1024],
+    ends: &'a [u16; 1024],
+    nodes: usize,
+    edges: usize,
+    faces: usize,
+    trees: usize,
+    outer: usize,
+    source: usize,
+    sink: usize,
+    value: i32,
+    lead: u8,
+    parents: &mut [u16; 1024],
+    flows: &mut [i32],
+    inside: &mut [u8; 1024],
+) -> bool
+    requires { ⌜ (length (now inside) ≡ 1024) × (edges ≤ length (now flows))
+        × Drawn (mapOf nodes edges (now tails) (now rotations)) (at (now lefts)) faces outer (atℤ (now capacities))
+        × Ends (mapOf nodes edges (now tails) (now rotations)) source sink × Limited mostValue value × (length (now parents) ≡ 1024)
+        × Walked (2 * edges) faces outer trees (at (now rotations)) (now lefts) (now order) (now from) (now grouped) (now starts) (now ends) ⌝ }
+    ensures { λ r. ⌜ (length (now (inside .exit)) ≡ 1024)
+        × Decided (mapOf nodes edges (now (tails .entry)) (now (rotations .entry))) outer (atℤ (now (capacities .entry)))
+        source sink value (now (flows .entry)) (now (flows .exit)) (now (inside .exit)) r × (length (now (parents .exit)) ≡ 1024) ⌝ }
+{
+    if lead == 1 {
+        return judge_by_tree(
+            tails,
+            rotations,
+            lefts,
+            capacities,
+            order,
+            from,
+            grouped,
+            starts,
+            ends,
+            nodes,
+            edges,
+            faces,
+            trees,
+            outer,
+            source,
+            sink,
+            value,
+            parents,
+            flows,
+            inside,
+        );
+    }
+    if lead == 2 {
+        return judge_by_set(
+            tails,
+            rotations,
+            lefts,
+            capacities,
+            order,
+            from,
+            grouped,
+            starts,
+            ends,
+            nodes,
+            edges,
+            faces,
+            trees,
+            outer,
+            source,
+            sink,
+            value,
+            parents,
+            flows,
+            inside,
+        );
+    }
+    solver::decide(
+        tails,
+        rotations,
+        lefts,
+        capacities,
+        order,
+        from,
+        grouped,
+        starts,
+        ends,
+        nodes,
+        edges,
+        faces,
+        trees,
+        outer,
+        source,
+        sink,
+        value,
+        parents,
+        flows,
+        inside,
+    )
 }
 
 // Probes values between the bounds until they meet or pass each other. The set that bounds the answer, or shows that there is none, is left in a. Where a value
@@ -362,8 +871,9 @@ pub fn maximize_from<'a>(
     let mut inside = [0u8; 1024];
     let mut first = begin(tails, rotations, capacities, edges, source, sink, &mut *a);
     node_flags::flag_one(sink, &mut b);
-    let mut low = low_bound(tails, capacities, &b, 2 * edges, known, carried);
+    let mut low = low_bound(tails, capacities, &b, 2 * edges, known, first, carried);
     let bound = cuts::capacity(tails, capacities, &*a, 2 * edges);
+    let wanted = unlikely(known, first);
     let mut high = propose(
         tails,
         lefts,
@@ -375,14 +885,35 @@ pub fn maximize_from<'a>(
         sink,
         low,
         bound,
-        unlikely(known, first),
+        wanted,
         &*flows,
         &mut *parents,
         &mut inside,
         &mut *a,
     );
+    low = raise(
+        tails,
+        rotations,
+        lefts,
+        capacities,
+        order,
+        from,
+        nodes,
+        edges,
+        faces,
+        trees,
+        outer,
+        source,
+        sink,
+        low,
+        high,
+        wanted,
+        &*parents,
+        &mut *flows,
+    );
     let mut found = known;
     let mut middle = false;
+    let mut seeking = wanted;
     let outcome = loop {
         if is_less(high, low) {
             join(tails, capacities, 2 * edges, &mut *a, &b, &mut inside);
@@ -391,8 +922,32 @@ pub fn maximize_from<'a>(
         if finished(low, high, found) {
             break Maximum::Value(high);
         }
-        let value = next_value(low, high, middle, at_top(found, first));
-        if solver::decide(
+        let choice = choose(
+            tails,
+            rotations,
+            lefts,
+            capacities,
+            from,
+            grouped,
+            starts,
+            ends,
+            edges,
+            faces,
+            outer,
+            source,
+            sink,
+            low,
+            high,
+            middle,
+            found,
+            first,
+            seeking,
+            &mut *parents,
+            &mut inside,
+        );
+        let value = choice.value;
+        seeking = true;
+        if judge(
             tails,
             rotations,
             lefts,
@@ -410,6 +965,7 @@ pub fn maximize_from<'a>(
             source,
             sink,
             value,
+            choice.lead,
             &mut *parents,
             &mut *flows,
             &mut inside,
@@ -436,6 +992,26 @@ pub fn maximize_from<'a>(
                     &mut inside,
                     &mut *a,
                 );
+                low = raise(
+                    tails,
+                    rotations,
+                    lefts,
+                    capacities,
+                    order,
+                    from,
+                    nodes,
+                    edges,
+                    faces,
+                    trees,
+                    outer,
+                    source,
+                    sink,
+                    low,
+                    high,
+                    true,
+                    &*parents,
+                    &mut *flows,
+                );
             } else {
                 high = propose(
                     tails,
@@ -453,6 +1029,26 @@ pub fn maximize_from<'a>(
                     &mut *parents,
                     &mut inside,
                     &mut *a,
+                );
+                low = raise(
+                    tails,
+                    rotations,
+                    lefts,
+                    capacities,
+                    order,
+                    from,
+                    nodes,
+                    edges,
+                    faces,
+                    trees,
+                    outer,
+                    source,
+                    sink,
+                    low,
+                    high,
+                    true,
+                    &*parents,
+                    &mut *flows,
                 );
             }
         } else {

@@ -15,20 +15,20 @@ const UNMARKED: u16 = 65535;
 const PIVOTS: usize = 1024;
 
 // A dart, a node or a face by its number.
-fn place(x: u16) -> usize
+pub fn place(x: u16) -> usize
     ensures { λ r. ⌜ r < 1024 ⌝ }
 {
     arrays::wide(x) % 1024
 }
 
-fn number(x: usize) -> u16
+pub fn number(x: usize) -> u16
     requires { ⌜ x < 1024 ⌝ }
 {
     arrays::narrow(x)
 }
 
 // The node that the dart d leads to.
-fn head(tails: &[u16; 1024], d: usize) -> usize
+pub fn head(tails: &[u16; 1024], d: usize) -> usize
     requires { ⌜ d < 1024 ⌝ }
     ensures { λ r. ⌜ r < 1024 ⌝ }
 {
@@ -424,7 +424,7 @@ struct Grown {
 }
 
 // Flags no node.
-fn flag_none(inside: &mut [u8; 1024])
+pub fn flag_none(inside: &mut [u8; 1024])
     requires { ⌜ length (now inside) ≡ 1024 ⌝ }
     ensures { λ _. ⌜ length (now (inside .exit)) ≡ 1024 ⌝ }
 {

@@ -5,6 +5,7 @@ pub mod Circle
 pub mod Line
 pub mod Lowering
 pub mod Turning
+pub mod Upward
 pub mod Chains
 pub mod Reached
 pub mod Highest

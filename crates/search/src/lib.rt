@@ -4,7 +4,7 @@
 // wait, unless it does already: first come, first looked at. A round is the places that were taken at its beginning. There are at most as many rounds as
 // faces, and each is linear in darts and faces.
 ghost use mathlib.Core.Path.{_≡_};
-ghost use Prim.Native.Nat.{ℕ, _+_, _<_, _≤_};
+ghost use Prim.Native.Nat.{ℕ, _+_, _%_, _<_, _≤_};
 ghost use lib.ListN.{length, take};
 ghost use lib.Signed.{mag};
 ghost use Rattle.grouping.specs.Grouped.{Grouped};
@@ -20,6 +20,8 @@ ghost use Rattle.search.specs.Look.{LookAt};
 ghost use Rattle.search.specs.Due.{dueNow};
 ghost use Rattle.search.specs.Trace.{Searches};
 ghost use Rattle.search.specs.inner.Progress.{Looking};
+ghost use Rattle.search.specs.inner.Upward.{GoneUp};
+ghost use Rattle.search.specs.Level.{far};
 
 // Settled potentials, or the dart that closes a ring.
 pub enum Outcome {
@@ -30,6 +32,13 @@ pub enum Outcome {
 enum Climbed {
     Ended,
     At(usize),
+}
+
+// A face, how many steps up led to it, and whether it lacks a parent.
+struct Gone {
+    face: usize,
+    steps: usize,
+    ended: bool,
 }
 
 // The lowerings so far, and the end of the queue.
@@ -75,7 +84,70 @@ fn push(waiting: &mut [u8; 1024], queue: &mut [u16; 1024], f: usize, last: usize
     last + 1
 }
 
-// As many steps up from x as there are faces: they end on a ring, unless one lacks a parent.
+// Some steps up from x, as many as are asked for at most: fewer where a face lacks a parent, or x comes again. They go by twos, which an even ring does not
+// notice and an odd one is gone round twice for. `faces` is named by the contract only.
+fn go_up(
+    lefts: &[u16; 1024],
+    parents: &[u16; 1024],
+    darts: usize,
+    faces: usize,
+    x: usize,
+    most: usize,
+) -> Gone
+    requires { ⌜ (darts ≤ 1024) × (faces ≤ 1024) × (x < faces) × ((d : ℕ) → d < darts → rightOf (now lefts) d < faces)
+        × (0 < most) × (most ≤ 1024) × (most % 2 ≡ 0) ⌝ }
+    ensures { λ r. ⌜ GoneUp (rightOf (now (lefts .entry))) darts faces (now (parents .entry)) x most (r .face) (r .steps) (r .ended) ⌝ }
+{
+    let mut y = x;
+    let mut a: usize = 0;
+    while a < most {
+        let p = arrays::wide(parents[y]);
+        if darts <= p {
+            return Gone {
+                face: y,
+                steps: a,
+                ended: true,
+            };
+        }
+        let z = arrays::right(lefts, p);
+        let q = arrays::wide(parents[z]);
+        if darts <= q {
+            return Gone {
+                face: z,
+                steps: a + 1,
+                ended: true,
+            };
+        }
+        y = arrays::right(lefts, q);
+        a += 2;
+        if y == x {
+            return Gone {
+                face: y,
+                steps: a,
+                ended: false,
+            };
+        }
+    }
+    Gone {
+        face: y,
+        steps: a,
+        ended: false,
+    }
+}
+
+// How many steps to go at once, by twos: as many as have been gone, and some more, but no more than are left.
+fn stretch(gone: usize, left: usize) -> usize
+    requires { ⌜ (gone ≤ 1024) × (1 < left) ⌝ }
+    ensures { λ r. ⌜ (0 < r) × (r ≤ left) × (r % 2 ≡ 0) ⌝ }
+{
+    if gone + 16 < left {
+        return 2 * (gone / 2) + 16;
+    }
+    2 * (left / 2)
+}
+
+// As many steps up from x as there are faces: they end on a ring, unless one lacks a parent. Where a face comes again the steps go round, and as many as lead
+// round are left out: a ring that x is near costs some of its own length, and not a step for each face.
 fn climb(
     lefts: &[u16; 1024],
     parents: &[u16; 1024],
@@ -87,17 +159,32 @@ fn climb(
     ensures { λ r. ⌜ Climb (rightOf (now (lefts .entry))) darts faces (now (parents .entry)) x r ⌝ }
 {
     let mut y = x;
-    for a in 0..faces {
-        let p = arrays::wide(parents[y]);
-        if darts <= p {
+    let mut left = faces;
+    while 1 < left {
+        let most = stretch(faces - left, left);
+        let gone = go_up(lefts, parents, darts, faces, y, most);
+        if gone.ended {
             return Climbed::Ended;
         }
-        y = arrays::right(lefts, p);
+        if gone.face == y {
+            left = left % gone.steps;
+        } else {
+            left -= gone.steps;
+        }
+        y = gone.face;
     }
-    Climbed::At(y)
+    if left == 0 {
+        return Climbed::At(y);
+    }
+    let p = arrays::wide(parents[y]);
+    if darts <= p {
+        return Climbed::Ended;
+    }
+    Climbed::At(arrays::right(lefts, p))
 }
 
-// At first the roots, which stand at the first places of the queue, are at 0 and wait; no other face has a level, and none has a parent.
+// At first the roots, which stand at the first places of the queue, are at 0 and wait; no other face has a level, and none has a parent. Potentials and flags
+// come as new arrays are made, without levels and at rest: to fill them once more would cost as much as some looks.
 fn begin(
     potentials: &mut [i64; 1024],
     parents: &mut [u16; 1024],
@@ -106,13 +193,12 @@ fn begin(
     roots: usize,
 )
     requires { ⌜ (length (now potentials) ≡ 1024) × (length (now parents) ≡ 1024) × (length (now waiting) ≡ 1024) × (roots ≤ 1024)
-        × ((m : ℕ) → m < roots → at (now queue) m < 1024) ⌝ }
+        × ((m : ℕ) → m < roots → at (now queue) m < 1024)
+        × ((f : ℕ) → f < 1024 → atℤ (now potentials) f ≡ far) × ((f : ℕ) → f < 1024 → at (now waiting) f ≡ 0) ⌝ }
     ensures { λ _. ⌜ Begun (now (potentials .exit)) (now (parents .exit)) (now (waiting .exit)) (now (queue .entry)) roots ⌝ }
 {
     for f in 0..1024usize {
-        potentials[f] = 4611686018427387904;
         parents[f] = 1024;
-        waiting[f] = 0;
     }
     for m in 0..roots {
         let f = arrays::wide(queue[m]);
@@ -177,7 +263,8 @@ fn look(
 
 // The search from the roots, which stand at the first places of the queue. Where it is settled, `potentials` has the highest potentials that no dart can lower,
 // with the roots at 0; where it answers a ring, its dart closes it: the face left of that dart is on the ring, the dart is that face's parent, and the parents
-// lead round: to the face right of the dart, then to the face right of that one's parent, and so on back. How it goes, look by look, is `Searches`.
+// lead round: to the face right of the dart, then to the face right of that one's parent, and so on back. How it goes, look by look, is `Searches`. No face has
+// a level before, and none waits.
 pub fn search(
     lefts: &[u16; 1024],
     lengths: &[i32; 1024],
@@ -196,7 +283,7 @@ pub fn search(
         × Joined (dualOf (now lefts) (now lengths) darts faces (take roots (now queue)))
         × Grouped (rightOf (now lefts)) darts faces (now order) (now starts) (now ends)
         × (length (now potentials) ≡ 1024) × (length (now parents) ≡ 1024) × (length (now waiting) ≡ 1024) × (length (now queue) ≡ 1024)
-        × (roots ≤ 1024) ⌝ }
+        × (roots ≤ 1024) × ((f : ℕ) → f < 1024 → atℤ (now potentials) f ≡ far) × ((f : ℕ) → f < 1024 → at (now waiting) f ≡ 0) ⌝ }
     ensures { λ r. ⌜ Answer (dualOf (now (lefts .entry)) (now (lengths .entry)) darts faces (take roots (now (queue .entry))))
         (now (potentials .exit)) (now (parents .exit)) r
         × Searches (given (now (lefts .entry)) (now (lengths .entry)) (now (order .entry)) (now (starts .entry)) (now (ends .entry)) darts faces)

@@ -1,12 +1,13 @@
 -- Probing between two bounds meets its contract: the loop keeps `Probing`, each probe makes the gap smaller, and its three ways out are laws of `Bracketing`.
 use mathlib.Core.Path.{_≡_, refl, sym, _∙_, ap, subst}
-use mathlib.Core.Bool.{Bool, true, false, not, true≢false}
+use mathlib.Core.Bool.{Bool, true, false}
+use mathlib.Core.Logic.{_⊎_}
 use mathlib.Core.List.{List}
 use Prim.Native.Nat.{ℕ, _*_, _≤_, _<_}
 use native.Mathlib.Omega.{arith}
 use lib.Dec.{eqb}
 use lib.ListN.{length}
-use lib.IntN.{ℤ}
+use lib.IntN.{ℤ, pos, negℤ}
 use lib.Signed.{_≤ℤ_, _<ℤ_}
 use mir.Syntax.{w32}
 use mir.Val.{toZ, ofZ}
@@ -16,7 +17,7 @@ use Rattle.integers.proofs.Laws.{ge-of-test, lt-of-test}
 use Rattle.integers.proofs.Limits.{limited-more}
 use Rattle.signed.proofs.Laws.{number-of-bits}
 use Rattle.signed.proofs.Limits.{same-bits}
-use Rattle.maps.specs.Map.{Map}
+use Rattle.maps.specs.Map.{Map, darts}
 use Rattle.flows.specs.Highest.{Highest}
 use Rattle.arrays.specs.At.{at, atℤ}
 use Rattle.arrays.proofs.FillLoops.{filled-length}
@@ -24,9 +25,14 @@ use Rattle.cuts.specs.inner.Cut.{cutOf}
 use Rattle.arrays.specs.inner.Flags.{flagged}
 use Rattle.arrays.specs.Maps.{mapOf}
 use Rattle.solver.specs.inner.Decision.{Decided}
+use Rattle.solver.proofs.Preparing.{faces-most}
 use Rattle.maximum.specs.inner.Bracket.{Bracket}
 use Rattle.maximum.specs.inner.Maximum.{Maximized}
 use Rattle.maximum.specs.inner.Narrowing.{Lowers}
+use Rattle.maximum.specs.inner.Raising.{Raises}
+use Rattle.maximum.specs.declared.Maximum.{Maximum}
+use Rattle.maximum.specs.declared.Maximum.the-variants as maximum
+use Rattle.maximum.proofs.Raising.{is-so, raised-bracket, raised-gap, raised-length, raised-anew, raised-told}
 use Rattle.maximum.proofs.Gap.{gap, gap-carried, gap-narrower}
 use Rattle.maximum.proofs.Bracketing.{
   Ground,
@@ -51,12 +57,12 @@ use Rattle.maximum.proofs.maximize_from.Tie as tie
 
 abbrev Inv-loop : tie.InvT-loop
 Inv-loop tails rotations lefts capacities order from grouped starts ends nodes edges faces trees outer source sink known carried flows₀ parents₀ a₀ b₀ inside₀
-    first₀ low₀ bound high₀ found₀ middle₀ flows parents a b inside first low high found middle =
+    first₀ low₀ bound wanted high₀ found₀ middle₀ seeking₀ flows parents a b inside first low high found middle seeking =
     Probing (mapOf nodes edges tails rotations) outer (atℤ capacities) source sink flows₀ flows a b inside parents (toZ w32 low) (toZ w32 high) found
 
 abbrev μ-loop : tie.MeasureT-loop
 μ-loop tails rotations lefts capacities order from grouped starts ends nodes edges faces trees outer source sink known carried flows₀ parents₀ a₀ b₀ inside₀
-    first₀ low₀ bound high₀ found₀ middle₀ flows parents a b inside first low high found middle =
+    first₀ low₀ bound wanted high₀ found₀ middle₀ seeking₀ flows parents a b inside first low high found middle seeking =
     gap (toZ w32 low) (toZ w32 high) found
 
 -- ── what the function is given ──
@@ -165,7 +171,8 @@ bounds c =
     begins (b .args .outer) (ground b) (b .args .flows .now) (A c) (B c) _ _ (b .args .known) (begun c .begin .ensures .1)
     (l .before .before .flag-one .ensures .1)
     (number-of-bits _ (record { sfits = c .capacity .ok }) ∙ c .capacity .ensures)
-    (λ e. low ∙ l .low-bound .ensures .1 e)
+    (λ e. subst (λ v. (v ≡ negℤ (pos 512000000)) ⊎ (v ≡ negℤ (cutOf (darts (𝓜 b)) (𝓜 b .tail) (caps b) (flagged (B c))))) (sym low)
+    (l .low-bound .ensures .1 e))
     (λ e. let r = b .pre .7 e in (
       r .0,
       subst (λ v. Highest (𝓜 b) (b .args .outer) (caps b) (src b) (snk b) v (r .0))
@@ -173,24 +180,96 @@ bounds c =
       r .2,
     ))
 
-loop-holds : tie.Need-loop-holds Inv-loop μ-loop
-loop-holds c =
+-- after the first proposal
+abbrev A' : tie.After-propose Inv-loop μ-loop → List ℕ
+A' c = c .propose .last .1 .1 .1 .1 .1 .1 .1 .1 .1 .1 .1 .1 .1 .1 .0
+
+first-lowered : (c : tie.After-propose Inv-loop μ-loop)
+    → let m = measured c in let b = given m in
+    Bracket (𝓜 b) (b .args .outer) (caps b) (src b) (snk b) (b .args .flows .now) (b .args .flows .now)
+    (A' c) (B m) (toZ w32 (ofZ w32 (bounded m .low-bound .result))) (c .propose .result) (b .args .known)
+first-lowered c =
     let m = measured c in
     let b = given m in
-    let r = lowered (b .args .outer) (ground b) (b .args .flows .now) (b .args .flows .now) (A m) (B m) _ _ (b .args .known) (bounds m)
-    _ _ (c .propose .result) (c .propose .ensures .3) in
+    lowered (b .args .outer) (ground b) (b .args .flows .now) (b .args .flows .now) (A m) (B m) _ _ (b .args .known) (bounds m)
+    _ _ (c .propose .result) (c .propose .ensures .3) .0
+
+first-small : (c : tie.After-propose Inv-loop μ-loop) → Limited 512000000 (c .propose .result)
+first-small c = let b = given (measured c) in high-small (b .args .outer) (ground b) (first-lowered c .ceiling)
+
+raise-requires : tie.Need-raise-requires Inv-loop μ-loop
+raise-requires c κs =
+    let p = c .before .before in
+    let b = given (measured p) in
+    (b .pre .1, b .pre .3, b .pre .4, limited-more (omega arith) (bits-limited (omega arith) (first-small p)), b .pre .5 .forest)
+
+-- and after the first raise
+abbrev first-proposed : tie.After-raise Inv-loop μ-loop → tie.After-propose Inv-loop μ-loop
+first-proposed c = c .before .before .before
+
+-- the slice that the loop begins with
+abbrev flows₁ : tie.After-raise Inv-loop μ-loop → List ℤ
+flows₁ c = c .raise .last .1 .1 .1 .1 .1 .1 .1 .1 .1 .1 .1 .1 .1 .1 .1 .1 .1 .0
+
+abbrev doubted : tie.After-propose Inv-loop μ-loop → tie.After-unlikely Inv-loop μ-loop
+doubted c = c .before .before .before .before .before
+
+first-bracket : (c : tie.After-propose Inv-loop μ-loop)
+    → let m = measured c in let b = given m in
+    Bracket (𝓜 b) (b .args .outer) (caps b) (src b) (snk b) (b .args .flows .now) (b .args .flows .now)
+    (A' c) (B m) (toZ w32 (ofZ w32 (bounded m .low-bound .result))) (toZ w32 (ofZ w32 (c .propose .result))) (b .args .known)
+first-bracket c = rw (same-bits (omega arith) (first-small c)) (first-lowered c)
+
+first-length : (c : tie.After-raise Inv-loop μ-loop) → length (flows₁ c) ≡ length (given (measured (first-proposed c)) .args .flows .now)
+first-length c =
+    let p = first-proposed c in
+    let m = measured p in
+    let b = given m in
+    raised-length (b .args .outer) (ground b) (b .args .flows .now) (b .args .flows .now) (flows₁ c) (A' p) (B m)
+    (toZ w32 (ofZ w32 (bounded m .low-bound .result))) (toZ w32 (ofZ w32 (p .propose .result))) (c .raise .result)
+    (b .args .known) (doubted p .unlikely .result) (b .pre .1) (first-bracket p) (doubted p .unlikely .ensures) (c .raise .ensures)
+
+-- what is found from there on, told of the slice that was lent
+told : (c : tie.After-raise Inv-loop μ-loop) (flows : List ℤ) (a : List ℕ) (r : Maximum)
+    → let b = given (measured (first-proposed c)) in
+    Maximized (𝓜 b) (b .args .outer) (caps b) (src b) (snk b) (flows₁ c) flows a r
+    → Maximized (𝓜 b) (b .args .outer) (caps b) (src b) (snk b) (b .args .flows .now) flows a r
+told c flows a r h =
+    let p = first-proposed c in
+    let m = measured p in
+    let b = given m in
+    raised-told (b .args .outer) (ground b) (b .args .flows .now) (flows₁ c) (A' p) (B m)
+    (toZ w32 (ofZ w32 (bounded m .low-bound .result))) (toZ w32 (ofZ w32 (p .propose .result))) (c .raise .result)
+    (b .args .known) (doubted p .unlikely .result) (b .pre .1) (first-bracket p) (doubted p .unlikely .ensures) (c .raise .ensures) flows a r h
+
+loop-holds : tie.Need-loop-holds Inv-loop μ-loop
+loop-holds c =
+    let k = c .before in
+    let p = first-proposed k in
+    let m = measured p in
+    let b = given m in
     record {
-      size-a = c .propose .ensures .2;
+      size-a = p .propose .ensures .2;
       size-b = bounded m .before .before .flag-one .ensures .0;
-      size-inside = c .propose .ensures .1;
-      size-parents = c .propose .ensures .0;
+      size-inside = p .propose .ensures .1;
+      size-parents = p .propose .ensures .0;
       size-flows = refl;
-      bracket = rw (same-bits (omega arith) (high-small (b .args .outer) (ground b) (r .0 .ceiling))) (r .0);
+      bracket =
+          rw (number-of-bits (k .raise .result) (record { sfits = k .raise .ok }))
+          (raised-anew (b .args .outer) (ground b) (b .args .flows .now) (flows₁ k) (A' p) (B m)
+          (toZ w32 (ofZ w32 (bounded m .low-bound .result))) (toZ w32 (ofZ w32 (p .propose .result))) (k .raise .result)
+          (b .args .known) (doubted p .unlikely .result) (b .pre .1) (first-bracket p) (doubted p .unlikely .ensures) (k .raise .ensures));
     }
 
 -- ── in the loop ──
 abbrev start : tie.At-loop Inv-loop μ-loop → tie.Start Inv-loop μ-loop
-start c = given (measured (c .before))
+start c = given (measured (first-proposed (c .before .before)))
+
+abbrev entered : tie.At-loop Inv-loop μ-loop → List ℤ
+entered c = flows₁ (c .before .before)
+
+entry-room : (c : tie.At-loop Inv-loop μ-loop) → start c .args .edges ≤ length (entered c)
+entry-room c = omega (arith, first-length (c .before .before), start c .pre .1)
 
 abbrev lo : tie.At-loop Inv-loop μ-loop → ℤ
 lo c = toZ w32 (c .loop .low)
@@ -227,93 +306,102 @@ looping c = c .before .before .before .before
 in-order : (c : tie.Else2 Inv-loop μ-loop) → lo (looping c) ≤ℤ hi (looping c)
 in-order c = let e = c .before .before in ge-of-test _ _ (sym (e .before .is-less .ensures) ∙ e .if1 .left)
 
-at-top-requires : tie.Need-at-top-requires Inv-loop μ-loop
-at-top-requires c κs = search needs
-
-next-value-requires : tie.Need-next-value-requires Inv-loop μ-loop
-next-value-requires c κs =
-    let q = c .before in
-    (in-order q, limited-more (omega arith) (lo-small (looping q)), limited-more (omega arith) (hi-small (looping q)))
+choose-requires : tie.Need-choose-requires Inv-loop μ-loop
+choose-requires c κs =
+    let q = c .before .before in
+    let l = looping q in
+    let p = start l .pre in (
+      l .loop .inv .size-parents,
+      l .loop .inv .size-inside,
+      p .3 .few-edges,
+      omega (arith, p .3 .counted, faces-most (p .3)),
+      omega (arith, p .3 .outer-in, p .3 .few-edges),
+      in-order q,
+      limited-more (omega arith) (lo-small l),
+      limited-more (omega arith) (hi-small l),
+      p .3 .plane .sound .has-dart _ (p .4 .source-in),
+      p .3 .plane .sound .has-dart _ (p .4 .sink-in),
+    )
 
 -- ── the value probed, as the number of its bits ──
-abbrev top : tie.After-next-value Inv-loop μ-loop → tie.At-loop Inv-loop μ-loop
-top c = looping (c .before .before)
+abbrev top : tie.After-choose Inv-loop μ-loop → tie.At-loop Inv-loop μ-loop
+top c = looping (c .before .before .before)
 
-abbrev value : tie.After-next-value Inv-loop μ-loop → ℤ
-value c = toZ w32 (ofZ w32 (c .next-value .result))
+abbrev value : tie.After-choose Inv-loop μ-loop → ℤ
+value c = toZ w32 (ofZ w32 (c .choose .result .value))
 
-value-small : (c : tie.After-next-value Inv-loop μ-loop) → Limited 512000000 (c .next-value .result)
-value-small c = let e = c .next-value .ensures in between-limited 512000000 _ _ _ (e .0) (e .1) (lo-small (top c)) (hi-small (top c))
+value-small : (c : tie.After-choose Inv-loop μ-loop) → Limited 512000000 (c .choose .result .value)
+value-small c = let e = c .choose .ensures in between-limited 512000000 _ _ _ (e .2) (e .3) (lo-small (top c)) (hi-small (top c))
 
-same-value : (c : tie.After-next-value Inv-loop μ-loop) → value c ≡ c .next-value .result
+same-value : (c : tie.After-choose Inv-loop μ-loop) → value c ≡ c .choose .result .value
 same-value c = same-bits (omega arith) (value-small c)
 
-at-least : (c : tie.After-next-value Inv-loop μ-loop) → lo (top c) ≤ℤ value c
-at-least c = subst (λ v. lo (top c) ≤ℤ v) (sym (same-value c)) (c .next-value .ensures .0)
+at-least : (c : tie.After-choose Inv-loop μ-loop) → lo (top c) ≤ℤ value c
+at-least c = subst (λ v. lo (top c) ≤ℤ v) (sym (same-value c)) (c .choose .ensures .2)
 
-at-most : (c : tie.After-next-value Inv-loop μ-loop) → value c ≤ℤ hi (top c)
-at-most c = subst (λ v. v ≤ℤ hi (top c)) (sym (same-value c)) (c .next-value .ensures .1)
+at-most : (c : tie.After-choose Inv-loop μ-loop) → value c ≤ℤ hi (top c)
+at-most c = subst (λ v. v ≤ℤ hi (top c)) (sym (same-value c)) (c .choose .ensures .3)
 
-above : (c : tie.After-next-value Inv-loop μ-loop) → top c .loop .found ≡ true → lo (top c) <ℤ value c
+above : (c : tie.After-choose Inv-loop μ-loop) → top c .loop .found ≡ true → lo (top c) <ℤ value c
 above c e =
-    let q = c .before .before in
+    let q = c .before .before .before in
     subst (λ v. lo (top c) <ℤ v) (sym (same-value c))
-    (above-low (lo (top c)) (hi (top c)) (c .next-value .result) (top c .loop .found) (in-order q)
-    (q .before .finished .ensures .1 (q .if2 .left)) (c .next-value .ensures .2 (c .before .at-top .ensures e)) e)
+    (above-low (lo (top c)) (hi (top c)) (c .choose .result .value) (top c .loop .found) (in-order q)
+    (q .before .finished .ensures .1 (q .if2 .left)) (c .choose .ensures .4 e) e)
 
-decide-requires : tie.Need-decide-requires Inv-loop μ-loop
-decide-requires c κs =
-    let n = c .before .before .before in
+judge-requires : tie.Need-judge-requires Inv-loop μ-loop
+judge-requires c κs =
+    let n = c .before .before .before .before in
     let l = top n in
     let p = start l .pre in (
-      l .loop .inv .size-inside,
-      omega (arith, p .1, l .loop .inv .size-flows),
+      n .choose .ensures .1,
+      omega (arith, entry-room l, l .loop .inv .size-flows),
       p .3,
       p .4,
       limited-more (omega arith) (bits-limited (omega arith) (value-small n)),
-      l .loop .inv .size-parents,
+      n .choose .ensures .0,
       p .5,
     )
 
 -- ── the value is carried ──
-abbrev asked : tie.After-decide Inv-loop μ-loop → tie.After-next-value Inv-loop μ-loop
-asked c = c .before .before .before .before
+abbrev asked : tie.After-judge Inv-loop μ-loop → tie.After-choose Inv-loop μ-loop
+asked c = c .before .before .before .before .before
 
-abbrev flows' : tie.After-decide Inv-loop μ-loop → List ℤ
-flows' c = c .decide .last .1 .1 .1 .1 .1 .1 .1 .1 .1 .1 .1 .1 .1 .1 .1 .1 .1 .1 .0
+abbrev flows' : tie.After-judge Inv-loop μ-loop → List ℤ
+flows' c = c .judge .last .1 .1 .1 .1 .1 .1 .1 .1 .1 .1 .1 .1 .1 .1 .1 .1 .1 .1 .1 .0
 
-abbrev inside' : tie.After-decide Inv-loop μ-loop → List ℕ
-inside' c = c .decide .last .1 .1 .1 .1 .1 .1 .1 .1 .1 .1 .1 .1 .1 .1 .1 .1 .1 .1 .1 .0
+abbrev inside' : tie.After-judge Inv-loop μ-loop → List ℕ
+inside' c = c .judge .last .1 .1 .1 .1 .1 .1 .1 .1 .1 .1 .1 .1 .1 .1 .1 .1 .1 .1 .1 .1 .0
 
-decided : (c : tie.After-decide Inv-loop μ-loop) {r : Bool} → c .decide .result ≡ r
+decided : (c : tie.After-judge Inv-loop μ-loop) {r : Bool} → c .judge .result ≡ r
     → Decided (𝓜 (start (top (asked c)))) (start (top (asked c)) .args .outer) (caps (start (top (asked c))))
     (src (start (top (asked c)))) (snk (start (top (asked c)))) (value (asked c))
     (top (asked c) .loop .flows) (flows' c) (inside' c) r
 decided c e =
     let b = start (top (asked c)) in
     subst (Decided (𝓜 b) (b .args .outer) (caps b) (src b) (snk b) (value (asked c)) (top (asked c) .loop .flows) (flows' c) (inside' c))
-    e (c .decide .ensures .1)
+    e (c .judge .ensures .1)
 
-abbrev probe : tie.Then3 Inv-loop μ-loop → tie.After-decide Inv-loop μ-loop
+abbrev probe : tie.Then3 Inv-loop μ-loop → tie.After-judge Inv-loop μ-loop
 probe c = c .before .before
 
-same-room : (c : tie.Then3 Inv-loop μ-loop) → length (flows' (probe c)) ≡ length (start (top (asked (probe c))) .args .flows .now)
+same-room : (c : tie.Then3 Inv-loop μ-loop) → length (flows' (probe c)) ≡ length (entered (top (asked (probe c))))
 same-room c =
     let k = probe c in
     let l = top (asked k) in
-    filled-length _ _ (l .loop .flows) (flows' k) (decided k (c .if3 .taken) .2) (omega (arith, start l .pre .1, l .loop .inv .size-flows))
+    filled-length _ _ (l .loop .flows) (flows' k) (decided k (c .if3 .taken) .2) (omega (arith, entry-room l, l .loop .inv .size-flows))
     ∙ l .loop .inv .size-flows
 
 raised : (c : tie.Then3 Inv-loop μ-loop)
     → Bracket (𝓜 (start (top (asked (probe c))))) (start (top (asked (probe c))) .args .outer) (caps (start (top (asked (probe c)))))
-    (src (start (top (asked (probe c))))) (snk (start (top (asked (probe c))))) (start (top (asked (probe c))) .args .flows .now) (flows' (probe c))
+    (src (start (top (asked (probe c))))) (snk (start (top (asked (probe c))))) (entered (top (asked (probe c)))) (flows' (probe c))
     (top (asked (probe c)) .loop .a) (top (asked (probe c)) .loop .b) (value (asked (probe c))) (hi (top (asked (probe c)))) true
 raised c =
     let k = probe c in
     let n = asked k in
     let l = top n in
     let b = start l in
-    carried (b .args .outer) (ground b) (b .args .flows .now) (l .loop .flows) (l .loop .a)
+    carried (b .args .outer) (ground b) (entered l) (l .loop .flows) (l .loop .a)
     (l .loop .b) (lo l) (hi l) (l .loop .found) (l .loop .inv .bracket) (value n) (flows' k) (inside' k) (decided k (c .if3 .taken))
 
 less-to-go : (c : tie.Then3 Inv-loop μ-loop)
@@ -329,7 +417,7 @@ Ready c =
     let k = probe c in
     let l = top (asked k) in
     let a = start l .args in
-    (length (k .decide .last .1 .1 .1 .1 .1 .1 .1 .1 .1 .1 .1 .1 .1 .1 .1 .1 .1 .0) ≡ 1024)
+    (length (k .judge .last .1 .1 .1 .1 .1 .1 .1 .1 .1 .1 .1 .1 .1 .1 .1 .1 .1 .1 .0) ≡ 1024)
     × (length (inside' k) ≡ 1024)
     × (length (l .loop .a) ≡ 1024)
     × (a .edges ≤ length (flows' k))
@@ -346,10 +434,10 @@ ready c =
     let k = probe c in
     let l = top (asked k) in
     let b = start l in (
-      k .decide .ensures .2,
-      k .decide .ensures .0,
+      k .judge .ensures .2,
+      k .judge .ensures .0,
       l .loop .inv .size-a,
-      omega (arith, same-room c, b .pre .1),
+      omega (arith, same-room c, entry-room l),
       b .pre .3 .few-nodes,
       b .pre .3 .few-edges,
       omega (arith, b .pre .4 .source-in, b .pre .3 .few-nodes),
@@ -372,13 +460,13 @@ module _ (t : tie.Then3 Inv-loop μ-loop) (inside'' a'' : List ℕ) (high : ℤ)
     (cutOf (2 * start (top (asked (probe t))) .args .edges) (at (start (top (asked (probe t))) .args .tails .now))
     (caps (start (top (asked (probe t))))) (flagged inside'')) (hi (top (asked (probe t)))) high inside'' (top (asked (probe t)) .loop .a) a'') where
   proposed : Bracket (𝓜 (start (top (asked (probe t))))) (start (top (asked (probe t))) .args .outer) (caps (start (top (asked (probe t)))))
-      (src (start (top (asked (probe t))))) (snk (start (top (asked (probe t))))) (start (top (asked (probe t))) .args .flows .now) (flows' (probe t))
+      (src (start (top (asked (probe t))))) (snk (start (top (asked (probe t))))) (entered (top (asked (probe t)))) (flows' (probe t))
       a'' (top (asked (probe t)) .loop .b) (value (asked (probe t))) high true
       × (high ≤ℤ hi (top (asked (probe t))))
   proposed =
       let l = top (asked (probe t)) in
       let b = start l in
-      lowered (b .args .outer) (ground b) (b .args .flows .now) (flows' (probe t)) (l .loop .a) (l .loop .b) (value (asked (probe t))) (hi l) true (raised t)
+      lowered (b .args .outer) (ground b) (entered l) (flows' (probe t)) (l .loop .a) (l .loop .b) (value (asked (probe t))) (hi l) true (raised t)
       inside'' a'' high falls
 
   new-high : toZ w32 (ofZ w32 high) ≡ high
@@ -391,57 +479,131 @@ module _ (t : tie.Then3 Inv-loop μ-loop) (inside'' a'' : List ℕ) (high : ℤ)
   still-less = rw new-high (omega (arith, gap-narrower (value (asked (probe t))) true (proposed .1), less-to-go t))
 
   kept : Bracket (𝓜 (start (top (asked (probe t))))) (start (top (asked (probe t))) .args .outer) (caps (start (top (asked (probe t)))))
-      (src (start (top (asked (probe t))))) (snk (start (top (asked (probe t))))) (start (top (asked (probe t))) .args .flows .now) (flows' (probe t))
+      (src (start (top (asked (probe t))))) (snk (start (top (asked (probe t))))) (entered (top (asked (probe t)))) (flows' (probe t))
       a'' (top (asked (probe t)) .loop .b) (value (asked (probe t))) (toZ w32 (ofZ w32 high)) true
   kept = rw new-high (proposed .0)
+
+  small-high : Limited 600000000 (toZ w32 (ofZ w32 high))
+  small-high =
+      let b = start (top (asked (probe t))) in
+      limited-more (omega arith) (bits-limited (omega arith) (high-small (b .args .outer) (ground b) (proposed .0 .ceiling)))
+
+  -- whatever was confirmed: the new low bound, and the flow for it
+  module _ (flows'' : List ℤ) (low : ℤ) (rises : Raises (𝓜 (start (top (asked (probe t))))) (start (top (asked (probe t))) .args .outer)
+      (caps (start (top (asked (probe t))))) (src (start (top (asked (probe t))))) (snk (start (top (asked (probe t)))))
+      (value (asked (probe t))) (toZ w32 (ofZ w32 high)) low true (flows' (probe t)) flows'') where
+    room : start (top (asked (probe t))) .args .edges ≤ length (flows' (probe t))
+    room = omega (arith, same-room t, entry-room (top (asked (probe t))))
+
+    risen : Bracket (𝓜 (start (top (asked (probe t))))) (start (top (asked (probe t))) .args .outer) (caps (start (top (asked (probe t)))))
+        (src (start (top (asked (probe t))))) (snk (start (top (asked (probe t))))) (entered (top (asked (probe t)))) flows''
+        a'' (top (asked (probe t)) .loop .b) low (toZ w32 (ofZ w32 high)) true
+    risen =
+        let l = top (asked (probe t)) in
+        let b = start l in
+        raised-bracket (b .args .outer) (ground b) (entered l) (flows' (probe t)) flows'' a'' (l .loop .b) (value (asked (probe t)))
+        (toZ w32 (ofZ w32 high)) low true true room kept (λ e. e) rises
+
+    risen-less : gap low (toZ w32 (ofZ w32 high)) true
+        < gap (lo (top (asked (probe t)))) (hi (top (asked (probe t)))) (top (asked (probe t)) .loop .found)
+    risen-less =
+        let l = top (asked (probe t)) in
+        let b = start l in
+        omega (
+          arith,
+          still-less,
+          raised-gap (b .args .outer) (ground b) (entered l) (flows' (probe t)) flows'' a'' (l .loop .b)
+              (value (asked (probe t))) (toZ w32 (ofZ w32 high)) low true true room kept (λ e. e) rises,
+        )
+
+    risen-room : length flows'' ≡ length (entered (top (asked (probe t))))
+    risen-room =
+        let l = top (asked (probe t)) in
+        let b = start l in
+        raised-length (b .args .outer) (ground b) (entered l) (flows' (probe t)) flows'' a'' (l .loop .b) (value (asked (probe t)))
+        (toZ w32 (ofZ w32 high)) low true true room kept (λ e. e) rises
+        ∙ same-room t
 
 -- ── the first value found ──
 abbrev first-found : tie.After-propose2 Inv-loop μ-loop → tie.Then3 Inv-loop μ-loop
 first-found c = c .before .before .before .before .before .before
 
+raise-requires-2 : tie.Need-raise-requires-2 Inv-loop μ-loop
+raise-requires-2 c κs =
+    let p = c .before .before in
+    let t = first-found p in
+    let b = start (top (asked (probe t))) in
+    let l = top (asked (probe t)) in
+    (omega (arith, same-room t, entry-room l), b .pre .3, b .pre .4, small-high t _ _ (p .propose2 .result) (p .propose2 .ensures .3), b .pre .5 .forest)
+
+abbrev first-raised : tie.After-raise2 Inv-loop μ-loop → tie.After-propose2 Inv-loop μ-loop
+first-raised c = c .before .before .before
+
 loop-less : tie.Need-loop-less Inv-loop μ-loop
-loop-less c = still-less (first-found c) _ _ (c .propose2 .result) (c .propose2 .ensures .3)
+loop-less c =
+    let k = c .before in
+    let p = first-raised k in
+    rw (number-of-bits (k .raise2 .result) (record { sfits = k .raise2 .ok }))
+    (risen-less (first-found p) _ _ (p .propose2 .result) (p .propose2 .ensures .3) _ (k .raise2 .result) (k .raise2 .ensures))
 
 loop-again : tie.Need-loop-again Inv-loop μ-loop
 loop-again c =
-    let t = first-found c in
-    let e = c .propose2 .ensures in
+    let k = c .before in
+    let p = first-raised k in
+    let t = first-found p in
+    let e = p .propose2 .ensures in
     record {
       size-a = e .2;
       size-b = top (asked (probe t)) .loop .inv .size-b;
       size-inside = e .1;
       size-parents = e .0;
-      size-flows = same-room t;
-      bracket = kept t _ _ (c .propose2 .result) (e .3);
+      size-flows = risen-room t _ _ (p .propose2 .result) (e .3) _ (k .raise2 .result) (k .raise2 .ensures);
+      bracket =
+          rw (number-of-bits (k .raise2 .result) (record { sfits = k .raise2 .ok }))
+          (risen t _ _ (p .propose2 .result) (e .3) _ (k .raise2 .result) (k .raise2 .ensures));
     }
 
 -- ── a later one ──
-was-found : (found : Bool) → not found ≡ false → found ≡ true
-was-found true e = refl
-was-found false e = absurd (true≢false e)
-
 abbrev later : tie.After-propose3 Inv-loop μ-loop → tie.Else4 Inv-loop μ-loop
 later c = c .before .before .before .before .before
 
+raise-requires-3 : tie.Need-raise-requires-3 Inv-loop μ-loop
+raise-requires-3 c κs =
+    let p = c .before .before in
+    let t = later p .before in
+    let b = start (top (asked (probe t))) in
+    let l = top (asked (probe t)) in
+    (omega (arith, same-room t, entry-room l), b .pre .3, b .pre .4, small-high t _ _ (p .propose3 .result) (p .propose3 .ensures .3), b .pre .5 .forest)
+
+abbrev later-raised : tie.After-raise3 Inv-loop μ-loop → tie.After-propose3 Inv-loop μ-loop
+later-raised c = c .before .before .before
+
 loop-less-2 : tie.Need-loop-less-2 Inv-loop μ-loop
 loop-less-2 c =
-    let t = later c .before in
+    let k = c .before in
+    let p = later-raised k in
+    let t = later p .before in
     let n = asked (probe t) in
-    let e = was-found (top n .loop .found) (later c .if4 .left) in
-    rw e (subst (λ f. gap (value n) (toZ w32 (ofZ w32 (c .propose3 .result))) true < gap (lo (top n)) (hi (top n)) f) e
-    (still-less t _ _ (c .propose3 .result) (c .propose3 .ensures .3)))
+    let e = is-so (top n .loop .found) (later p .if4 .left) in
+    rw (e, number-of-bits (k .raise3 .result) (record { sfits = k .raise3 .ok }))
+    (subst (λ f. gap (k .raise3 .result) (toZ w32 (ofZ w32 (p .propose3 .result))) true < gap (lo (top n)) (hi (top n)) f) e
+    (risen-less t _ _ (p .propose3 .result) (p .propose3 .ensures .3) _ (k .raise3 .result) (k .raise3 .ensures)))
 
 loop-again-2 : tie.Need-loop-again-2 Inv-loop μ-loop
 loop-again-2 c =
-    let t = later c .before in
-    let e = c .propose3 .ensures in
+    let k = c .before in
+    let p = later-raised k in
+    let t = later p .before in
+    let e = p .propose3 .ensures in
     record {
       size-a = e .2;
       size-b = top (asked (probe t)) .loop .inv .size-b;
       size-inside = e .1;
       size-parents = e .0;
-      size-flows = same-room t;
-      bracket = rw (was-found (top (asked (probe t)) .loop .found) (later c .if4 .left)) (kept t _ _ (c .propose3 .result) (e .3));
+      size-flows = risen-room t _ _ (p .propose3 .result) (e .3) _ (k .raise3 .result) (k .raise3 .ensures);
+      bracket =
+          rw (is-so (top (asked (probe t)) .loop .found) (later p .if4 .left), number-of-bits (k .raise3 .result) (record { sfits = k .raise3 .ok }))
+          (risen t _ _ (p .propose3 .result) (e .3) _ (k .raise3 .result) (k .raise3 .ensures));
     }
 
 -- ── it cannot be: the set moves a bound, or shows that there is nothing ──
@@ -463,7 +625,7 @@ narrow-by-requires c κs =
       caps-in b,
     )
 
-abbrev probed : tie.After-narrow-by Inv-loop μ-loop → tie.After-decide Inv-loop μ-loop
+abbrev probed : tie.After-narrow-by Inv-loop μ-loop → tie.After-judge Inv-loop μ-loop
 probed c = c .before .before .before .before .before .before
 
 abbrev a' : tie.After-narrow-by Inv-loop μ-loop → List ℕ
@@ -472,13 +634,13 @@ a' c = c .narrow-by .last .1 .1 .1 .1 .1 .1 .1 .1 .0
 abbrev b' : tie.After-narrow-by Inv-loop μ-loop → List ℕ
 b' c = c .narrow-by .last .1 .1 .1 .1 .1 .1 .1 .1 .1 .0
 
-refused : (c : tie.After-narrow-by Inv-loop μ-loop) → probed c .decide .result ≡ false
+refused : (c : tie.After-narrow-by Inv-loop μ-loop) → probed c .judge .result ≡ false
 refused c = c .before .before .before .before .if3 .left
 
 moved : (c : tie.After-narrow-by Inv-loop μ-loop) → c .narrow-by .result .none ≡ false
     → Bracket (𝓜 (start (top (asked (probed c))))) (start (top (asked (probed c))) .args .outer)
     (caps (start (top (asked (probed c))))) (src (start (top (asked (probed c))))) (snk (start (top (asked (probed c)))))
-    (start (top (asked (probed c))) .args .flows .now) (top (asked (probed c)) .loop .flows) (a' c) (b' c)
+    (entered (top (asked (probed c)))) (top (asked (probed c)) .loop .flows) (a' c) (b' c)
     (c .narrow-by .result .low) (c .narrow-by .result .high) (top (asked (probed c)) .loop .found)
     × (gap (c .narrow-by .result .low) (c .narrow-by .result .high) (top (asked (probed c)) .loop .found)
     < gap (lo (top (asked (probed c)))) (hi (top (asked (probed c)))) (top (asked (probed c)) .loop .found))
@@ -489,7 +651,7 @@ moved c e =
     let b = start l in
     let r = c .narrow-by .ensures .2 in
     let d = decided k (refused c) in
-    narrowed (b .args .outer) (ground b) (b .args .flows .now) (l .loop .flows) (l .loop .a) (l .loop .b) (lo l) (hi l) (l .loop .found) (l .loop .inv .bracket)
+    narrowed (b .args .outer) (ground b) (entered l) (l .loop .flows) (l .loop .a) (l .loop .b) (lo l) (hi l) (l .loop .found) (l .loop .inv .bracket)
     (value n) (at-least n) (at-most n) (inside' k) (d .1) (a' c) (b' c) (c .narrow-by .result) (r .0) (r .1) (r .2) e
 
 middle-next-requires : tie.Need-middle-next-requires Inv-loop μ-loop
@@ -514,15 +676,17 @@ loop-again-3 c =
     record {
       size-a = m .narrow-by .ensures .0;
       size-b = m .narrow-by .ensures .1;
-      size-inside = k .decide .ensures .0;
-      size-parents = k .decide .ensures .2;
+      size-inside = k .judge .ensures .0;
+      size-parents = k .judge .ensures .2;
       size-flows = ap length (d .0) ∙ l .loop .inv .size-flows;
       bracket = same-bracket (d .0) (bits-bracket (b .args .outer) (ground b) _ _ (a' m) (b' m) _ _ (l .loop .found) (r .0));
     }
 
 -- ── the ways out ──
 same-length : tie.Need-same-length Inv-loop μ-loop
-same-length c = search needs
+same-length c =
+    let l = c .before .before .before .before .before .before in
+    l .loop .inv .size-flows ∙ first-length (l .before .before)
 
 returns : tie.Need-returns Inv-loop μ-loop
 returns c =
@@ -531,12 +695,15 @@ returns c =
     let b = start l in (
       c .join .ensures .0,
       l .loop .inv .size-parents,
-      passed (b .args .outer) (ground b) (b .args .flows .now) (l .loop .flows) (l .loop .a) (l .loop .b) (lo l) (hi l) (l .loop .found) (l .loop .inv .bracket)
-          (lt-of-test _ _ (sym (t .before .is-less .ensures) ∙ t .if1 .taken)) (c .join .last .1 .1 .1 .0) (c .join .ensures .1),
+      told (l .before .before) (l .loop .flows) (c .join .last .1 .1 .1 .0) maximum.Nothing
+          (passed (b .args .outer) (ground b) (entered l) (l .loop .flows) (l .loop .a) (l .loop .b) (lo l) (hi l) (l .loop .found) (l .loop .inv .bracket)
+          (lt-of-test _ _ (sym (t .before .is-less .ensures) ∙ t .if1 .taken)) (c .join .last .1 .1 .1 .0) (c .join .ensures .1)),
     )
 
 same-length-2 : tie.Need-same-length-2 Inv-loop μ-loop
-same-length-2 c = search needs
+same-length-2 c =
+    let l = c .before .before .before .before in
+    l .loop .inv .size-flows ∙ first-length (l .before .before)
 
 returns-2 : tie.Need-returns-2 Inv-loop μ-loop
 returns-2 c =
@@ -545,14 +712,15 @@ returns-2 c =
     let r = c .before .finished .ensures .0 (c .if2 .taken) in (
       l .loop .inv .size-a,
       l .loop .inv .size-parents,
-      met (b .args .outer) (ground b) (b .args .flows .now) (l .loop .flows) (l .loop .a)
-          (l .loop .b) (lo l) (hi l) (l .loop .found) (l .loop .inv .bracket) (r .0) (r .1),
+      told (l .before .before) (l .loop .flows) (l .loop .a) (maximum.Value (hi l))
+          (met (b .args .outer) (ground b) (entered l) (l .loop .flows) (l .loop .a)
+          (l .loop .b) (lo l) (hi l) (l .loop .found) (l .loop .inv .bracket) (r .0) (r .1)),
     )
 
 same-length-3 : tie.Need-same-length-3 Inv-loop μ-loop
 same-length-3 c =
     let k = probed (c .before) in
-    ap length (decided k (refused (c .before)) .0) ∙ top (asked k) .loop .inv .size-flows
+    ap length (decided k (refused (c .before)) .0) ∙ top (asked k) .loop .inv .size-flows ∙ first-length (top (asked k) .before .before)
 
 returns-3 : tie.Need-returns-3 Inv-loop μ-loop
 returns-3 c =
@@ -564,10 +732,10 @@ returns-3 c =
     let r = m .narrow-by .ensures .2 in
     let d = decided k (refused m) in
     let h =
-    nothing (b .args .outer) (ground b) (b .args .flows .now) (l .loop .flows)
+    nothing (b .args .outer) (ground b) (entered l) (l .loop .flows)
     (l .loop .a) (l .loop .b) (lo l) (hi l) (l .loop .found) (l .loop .inv .bracket)
     (value n) (at-least n) (at-most n) (inside' k) (d .1) (a' m) (b' m) (m .narrow-by .result) (r .0) (r .1) (r .2) (c .if5 .taken) in
-    (m .narrow-by .ensures .0, k .decide .ensures .2, (d .0 ∙ h .0, h .1, h .2))
+    (m .narrow-by .ensures .0, k .judge .ensures .2, told (l .before .before) (flows' k) (a' m) maximum.Nothing (d .0 ∙ h .0, h .1, h .2))
 
 pub maximize-from-spec : {M : Type 1} → statement M
 maximize-from-spec =
@@ -583,18 +751,20 @@ maximize-from-spec =
     capacity-requires
     unlikely-requires
     propose-requires
+    raise-requires
     loop-holds
     is-less-requires
     mul-join
     join-requires
     finished-requires
-    at-top-requires
-    next-value-requires
-    decide-requires
+    choose-requires
+    judge-requires
     propose-requires-2
+    raise-requires-2
     loop-less
     loop-again
     propose-requires-3
+    raise-requires-3
     loop-less-2
     loop-again-2
     mul-narrow-by

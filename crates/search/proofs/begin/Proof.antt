@@ -1,12 +1,10 @@
--- `begin` meets its contract: the elements before f are as at first; then those of the roots before m are stored.
+-- `begin` meets its contract: the faces before f have no parents; then the levels of the roots before m are stored.
 use mathlib.Core.Path.{_≡_, subst}
 use Prim.Native.Nat.{ℕ, _≤_, _<_, _-_}
 use native.Mathlib.Omega.{arith}
 use lib.ListN.{length, length-set}
-use lib.IntN.{pos}
 use borrow.Author.Needs.{needs}
-use Rattle.arrays.specs.At.{at, atℤ}
-use Rattle.search.specs.Level.{far}
+use Rattle.arrays.specs.At.{at}
 use Rattle.search.specs.Moves.{Begun}
 use Rattle.search.proofs.Change.{filled-more}
 use Rattle.search.proofs.Beginning.{begun-none, begun-more}
@@ -14,12 +12,11 @@ use Rattle.search.proofs.begin.Statement.{statement}
 use Rattle.search.proofs.begin.Tie as tie
 
 abbrev Inv-loop : tie.InvT-loop
-Inv-loop potentials₀ parents₀ waiting₀ queue roots f₀ potentials parents waiting f =
-    (f ≤ 1024) × (length potentials ≡ 1024) × (length parents ≡ 1024) × (length waiting ≡ 1024)
-    × ((x : ℕ) → x < f → atℤ potentials x ≡ far) × ((x : ℕ) → x < f → at parents x ≡ 1024) × ((x : ℕ) → x < f → at waiting x ≡ 0)
+Inv-loop potentials parents₀ waiting queue roots f₀ parents f =
+    (f ≤ 1024) × (length parents ≡ 1024) × ((x : ℕ) → x < f → at parents x ≡ 1024)
 
 abbrev μ-loop : tie.MeasureT-loop
-μ-loop potentials₀ parents₀ waiting₀ queue roots f₀ potentials parents waiting f =
+μ-loop potentials parents₀ waiting queue roots f₀ parents f =
     1024 - f
 
 abbrev Inv-loop2 : tie.InvT-loop2
@@ -32,22 +29,13 @@ abbrev μ-loop2 : tie.MeasureT-loop2
 
 -- ── the faces ──
 loop-holds : tie.Need-loop-holds Inv-loop μ-loop Inv-loop2 μ-loop2
-loop-holds c = (omega arith, c .pre .0, c .pre .1, c .pre .2, λ x l. absurd (omega arith), λ x l. absurd (omega arith), λ x l. absurd (omega arith))
-
-mul-potentials : tie.Need-mul-potentials Inv-loop μ-loop Inv-loop2 μ-loop2
-mul-potentials c = search needs
-
-element-set-of-potentials : tie.Need-element-set-of-potentials Inv-loop μ-loop Inv-loop2 μ-loop2
-element-set-of-potentials c = search needs
+loop-holds c = (omega arith, c .pre .1, λ x l. absurd (omega arith))
 
 mul-parents : tie.Need-mul-parents Inv-loop μ-loop Inv-loop2 μ-loop2
 mul-parents c = search needs
 
 element-write-parents : tie.Need-element-write-parents Inv-loop μ-loop Inv-loop2 μ-loop2
 element-write-parents c = search needs
-
-element-write-waiting : tie.Need-element-write-waiting Inv-loop μ-loop Inv-loop2 μ-loop2
-element-write-waiting c = search needs
 
 add-f : tie.Need-add-f Inv-loop μ-loop Inv-loop2 μ-loop2
 add-f c = search needs
@@ -58,25 +46,16 @@ loop-less c = search needs
 loop-again : tie.Need-loop-again Inv-loop μ-loop Inv-loop2 μ-loop2
 loop-again c =
     let l = c .before .loop in
-    let t = c .loop-test .taken in (
-      omega arith,
-      simp length-set (l .inv .1),
-      simp length-set (l .inv .2),
-      simp length-set (l .inv .3),
-      filled-more (l .potentials) (l .f) far (pos 0) (omega (arith, l .inv .1)) (l .inv .4),
-      filled-more (l .parents) (l .f) 1024 0 (omega (arith, l .inv .2)) (l .inv .5),
-      filled-more (l .waiting) (l .f) 0 0 (omega (arith, l .inv .3)) (l .inv .6),
-    )
+    let t = c .loop-test .taken in
+    (omega arith, simp length-set (l .inv .1), filled-more (l .parents) (l .f) 1024 0 (omega (arith, l .inv .1)) (l .inv .2))
 
 -- ── the roots ──
 loop2-holds : tie.Need-loop2-holds Inv-loop μ-loop Inv-loop2 μ-loop2
 loop2-holds c =
     let l = c .before .loop .inv in
-    let all : 1024 ≤ c .before .loop .f = omega (arith, c .loop-test .left) in (
-      begun-none (c .before .before .args .queue .now) (l .1) (l .2) (l .3)
-          (λ f h. l .4 f (omega arith)) (λ f h. l .5 f (omega arith)) (λ f h. l .6 f (omega arith)),
-      omega arith,
-    )
+    let p = c .before .before .pre in
+    let all : 1024 ≤ c .before .loop .f = omega (arith, c .loop-test .left) in
+    (begun-none (c .before .before .args .queue .now) (p .0) (l .1) (p .2) (p .5) (λ f h. l .2 f (omega arith)) (p .6), omega arith)
 
 abbrev start : tie.After-wide Inv-loop μ-loop Inv-loop2 μ-loop2 → tie.Start Inv-loop μ-loop Inv-loop2 μ-loop2
 start c = c .before .before .before .before .before .before
@@ -93,15 +72,15 @@ element-copy-out-wide c = omega (arith, c .loop2-test .taken, c .before .before 
 wide-requires : tie.Need-wide-requires Inv-loop μ-loop Inv-loop2 μ-loop2
 wide-requires c κs = search needs
 
-mul-potentials-2 : tie.Need-mul-potentials-2 Inv-loop μ-loop Inv-loop2 μ-loop2
-mul-potentials-2 c = record { fits = omega (arith, root-in c) }
+mul-potentials : tie.Need-mul-potentials Inv-loop μ-loop Inv-loop2 μ-loop2
+mul-potentials c = record { fits = omega (arith, root-in c) }
 
-element-set-of-potentials-2 :
-    tie.Need-element-set-of-potentials-2 Inv-loop μ-loop Inv-loop2 μ-loop2
-element-set-of-potentials-2 c = omega (arith, root-in c)
+element-set-of-potentials :
+    tie.Need-element-set-of-potentials Inv-loop μ-loop Inv-loop2 μ-loop2
+element-set-of-potentials c = omega (arith, root-in c)
 
-element-write-waiting-2 : tie.Need-element-write-waiting-2 Inv-loop μ-loop Inv-loop2 μ-loop2
-element-write-waiting-2 c = omega (arith, root-in c)
+element-write-waiting : tie.Need-element-write-waiting Inv-loop μ-loop Inv-loop2 μ-loop2
+element-write-waiting c = omega (arith, root-in c)
 
 add-m : tie.Need-add-m Inv-loop μ-loop Inv-loop2 μ-loop2
 add-m c = record { fits = omega (arith, c .before .before .loop2-test .taken, start c .pre .3) }
@@ -133,11 +112,8 @@ begin-spec =
     Inv-loop2
     μ-loop2
     loop-holds
-    mul-potentials
-    element-set-of-potentials
     mul-parents
     element-write-parents
-    element-write-waiting
     add-f
     loop-less
     loop-again
@@ -145,9 +121,9 @@ begin-spec =
     mul-wide
     element-copy-out-wide
     wide-requires
-    mul-potentials-2
-    element-set-of-potentials-2
-    element-write-waiting-2
+    mul-potentials
+    element-set-of-potentials
+    element-write-waiting
     add-m
     loop2-less
     loop2-again

@@ -64,7 +64,9 @@ begin-requires : tie.Need-begin-requires Inv-loop μ-loop Inv-search μ-search
 begin-requires c κs =
     let s = c .before .before .before .before in
     let p = s .pre in
-    (p .3, p .4, p .5, p .7, λ m l. omega (arith, root-face (givenAt s) (s .args .queue .now) (s .args .roots) (p .6) (p .7) (p .0) m l, p .0 .few-faces))
+    let roots-in : (m : ℕ) → m < s .args .roots → at (s .args .queue .now) m < 1024 =
+    λ m l. omega (arith, root-face (givenAt s) (s .args .queue .now) (s .args .roots) (p .6) (p .7) (p .0) m l, p .0 .few-faces) in
+    (p .3, p .4, p .5, p .7, roots-in, p .8, p .9)
 
 search-holds : tie.Need-search-holds Inv-loop μ-loop Inv-search μ-search
 search-holds c = stay

@@ -1,8 +1,10 @@
 -- The search's answer, and where it is settled the flows: what `fill_flows` requires is `flowing`. The roots stand in the queue.
 use native.Mathlib.Omega.{arith}
 use mathlib.Core.Path.{_≡_, refl}
-use lib.ListN.{length}
+use lib.ListN.{length, getD-replicate}
+use lib.IntN.{pos}
 use borrow.Author.Needs.{needs}
+use Rattle.search.specs.Level.{far}
 use Rattle.search.proofs.Ending.{parents-sized}
 use Rattle.solver.proofs.SettledFlows.{ring-kept, flowing}
 use Rattle.solver.proofs.Naming.{searches-known}
@@ -15,7 +17,7 @@ mul-search c = search needs
 search-requires : tie.Need-search-requires
 search-requires c κs =
     let p = c .before .before .before .before .pre in
-    (p .5 .sound, p .5 .joined, p .6, refl, p .0, refl, p .1, p .2)
+    (p .5 .sound, p .5 .joined, p .6, refl, p .0, refl, p .1, p .2, λ f l. getD-replicate 1024 f far (pos 0) l, λ f l. getD-replicate 1024 f 0 0 l)
 
 -- ── the search has answered ──
 abbrev begun : tie.After-search → tie.Start

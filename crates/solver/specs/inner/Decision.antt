@@ -12,7 +12,16 @@ use Rattle.flows.specs.ProvingSet.{Proves}
 use Rattle.arrays.specs.Filled.{filled}
 use Rattle.arrays.specs.inner.Flags.{flagged}
 
--- true: the highest flow of the value stands in the first places of the slice. false: the slice is as it was, and the flagged nodes prove the value impossible.
+-- the highest flow of the value stands in the first places of the slice
+abbrev pub Carried : Map → (outer : ℕ) → (ℕ → ℤ) → (source sink : ℕ) → ℤ → (flows flows' : List ℤ) → Type 0
+Carried 𝓜 outer c s t value flows flows' = (x : ℕ → ℤ) × Highest 𝓜 outer c s t value x × (flows' ≡ filled (𝓜 .edges) x flows)
+
+-- true: it does. false: the slice is as it was, and the flagged nodes prove the value impossible.
 abbrev pub Decided : Map → (outer : ℕ) → (ℕ → ℤ) → (source sink : ℕ) → ℤ → (flows flows' : List ℤ) → (inside' : List ℕ) → Bool → Type 0
-Decided 𝓜 outer c s t value flows flows' inside' true = (x : ℕ → ℤ) × Highest 𝓜 outer c s t value x × (flows' ≡ filled (𝓜 .edges) x flows)
+Decided 𝓜 outer c s t value flows flows' inside' true = Carried 𝓜 outer c s t value flows flows'
 Decided 𝓜 outer c s t value flows flows' inside' false = (flows' ≡ flows) × Proves 𝓜 c s t value (flagged inside')
+
+-- true: it does. false: the slice is as it was, and nothing is said of the value.
+abbrev pub Confirmed : Map → (outer : ℕ) → (ℕ → ℤ) → (source sink : ℕ) → ℤ → (flows flows' : List ℤ) → Bool → Type 0
+Confirmed 𝓜 outer c s t value flows flows' true = Carried 𝓜 outer c s t value flows flows'
+Confirmed 𝓜 outer c s t value flows flows' false = flows' ≡ flows
