@@ -8,7 +8,7 @@ use native.Mathlib.Decide.{ℕ-discrete}
 use lib.IntN.{ℤ, pos, _-ℤ_, +ℤ-invr}
 use lib.ListN.{length, set, length-set}
 use lib.Seq.{getD-set-same, getD-set-other}
-use mir.Syntax.{w32}
+use mir.Syntax.{w16, w32}
 use mir.Val.{toZ, ofZ, SFits}
 use Rattle.integers.proofs.Omega.{atoms₃, parts, equal}
 use Rattle.maps.specs.Dart.{rev}
@@ -21,7 +21,7 @@ use Rattle.arrays.specs.At.{at, atℤ}
 use Rattle.integers.specs.inner.Limited.{Limited}
 use Rattle.arrays.specs.inner.Sizes.{mostWinding, mostHeight}
 use Rattle.integers.proofs.Limits.{limited-minus, limited-more, limited-zero}
-use Rattle.signed.proofs.Limits.{limited-fits, same-bits}
+use Rattle.signed.proofs.Limits.{limited-fits, same-bits, same-bits16}
 
 pub record Filling (darts : ℕ) (tail order from : ℕ → ℕ) (winding height : ℕ → ℤ) (i : ℕ) : Type 0 where
   pub begun : 0 < i
@@ -216,10 +216,10 @@ module _ {darts : ℕ} {tail order from : ℕ → ℕ} {winding : ℕ → ℤ} (
   fits-32 = (omega (arith, ok .few), omega (arith, ok .few))
 
   abbrev read : ℤ
-  read = toZ w32 (ofZ w32 (atℤ heights known)) -ℤ toZ w32 (ofZ w32 (winding p))
+  read = toZ w32 (ofZ w32 (atℤ heights known)) -ℤ toZ w16 (ofZ w16 (winding p))
 
   read-is : read ≡ atℤ heights known -ℤ winding p
-  read-is = ap₂ (λ a b. a -ℤ b) (same-bits (fits-32 .0) read-limited) (same-bits (omega arith) small-p)
+  read-is = ap₂ (λ a b. a -ℤ b) (same-bits (fits-32 .0) read-limited) (same-bits16 (omega arith) small-p)
 
   new-limited : Limited (i * mostWinding + mostWinding) read
   new-limited = subst (Limited (i * mostWinding + mostWinding)) (sym read-is) (limited-minus read-limited small-p)

@@ -14,7 +14,7 @@ pub fn fill_heights(
     order: &[u16; 1024],
     from: &[u16; 1024],
     darts: usize,
-    winding: &[i32; 1024],
+    winding: &[i16; 1024],
     heights: &mut [i32; 1024],
 )
     requires { ⌜ (length (now heights) ≡ 1024) × Fillable darts (at (now tails)) (at (now order)) (at (now from)) (atℤ (now winding)) ⌝ }
@@ -35,7 +35,7 @@ pub fn fill_heights(
         if d == back {
             let known = arrays::wide(tails[p]);
             let next = arrays::wide(tails[d]);
-            heights[next] = signed::minus(heights[known], winding[p]);
+            heights[next] = signed::minus_small(heights[known], winding[p]);
         } else if p == d {
             let base = arrays::wide(tails[d]);
             heights[base] = 0;

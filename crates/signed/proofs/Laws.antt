@@ -8,7 +8,7 @@ use lib.IntN.{ℤ, pos, negsuc, _+ℤ_, _-ℤ_, negℤ, subℕ, natAbs}
 use lib.Signed.{mag, ltZ, nonNeg, _≤ℤ_}
 use lib.Dec.{T, eqb, ltb}
 use borrow.Author.Tests.{ltb-true}
-use mir.Syntax.{w32, w64}
+use mir.Syntax.{w16, w32, w64}
 use mir.Val.{SFits, toZ, ofZ}
 use mir.ValLaws.{toZ-pos, toZ-ofZ, toZ-fits, ofZ-toZ, ofZ-fits}
 use Rattle.integers.proofs.Omega.{parts, at-most}
@@ -43,6 +43,13 @@ fits-wider f = record { sfits = omega (arith, f .sfits) }
 -- a signed local holds bits: a number of 32 bits, taken to 64, is itself
 pub widened : (x : ℤ) → SFits w32 x → toZ w64 (ofZ w64 (toZ w32 (ofZ w32 x))) ≡ x
 widened x f = ap (λ v. toZ w64 (ofZ w64 v)) (number-of-bits x f) ∙ toZ-ofZ w64 x (fits-wider f)
+
+-- the same of 16 bits, at 32
+pub fits-wide : {x : ℤ} → SFits w16 x → SFits w32 x
+fits-wide f = record { sfits = omega (arith, f .sfits) }
+
+pub small-widened : (x : ℤ) → SFits w16 x → toZ w32 (ofZ w32 (toZ w16 (ofZ w16 x))) ≡ x
+small-widened x f = ap (λ v. toZ w32 (ofZ w32 v)) (toZ-ofZ w16 x f) ∙ number-of-bits x (fits-wide f)
 
 mag-either : (t : Bool) (a b m : ℕ) → a ≤ m → b ≤ m → mag (cond t (negsuc a) (pos b)) ≤ m
 mag-either true a b m p q = p

@@ -3,7 +3,7 @@ use mathlib.Core.Path.{_≡_}
 use Prim.Native.Nat.{ℕ, _<_}
 use native.Mathlib.Omega.{arith}
 use lib.IntN.{ℤ, pos, negsuc}
-use mir.Syntax.{w32, w64}
+use mir.Syntax.{w16, w32, w64}
 use mir.Val.{toZ, ofZ, SFits}
 use mir.ValLaws.{toZ-ofZ}
 use Rattle.integers.specs.inner.Limited.{Limited}
@@ -25,3 +25,11 @@ limited-fits64 b (negsuc n) l h = record { sfits = omega (arith, from-at-most (h
 
 pub same-bits64 : {b : ℕ} {x : ℤ} → b < 9223372036854775808 → Limited b x → toZ w64 (ofZ w64 x) ≡ x
 same-bits64 {b} {x} l h = toZ-ofZ w64 x (limited-fits64 b x l h)
+
+-- and at 16
+pub limited-fits16 : (b : ℕ) (x : ℤ) → b < 32768 → Limited b x → SFits w16 x
+limited-fits16 b (pos n) l h = record { sfits = omega (arith, from-at-most (h .high) (search parts)) }
+limited-fits16 b (negsuc n) l h = record { sfits = omega (arith, from-at-most (h .low) (search parts)) }
+
+pub same-bits16 : {b : ℕ} {x : ℤ} → b < 32768 → Limited b x → toZ w16 (ofZ w16 x) ≡ x
+same-bits16 {b} {x} l h = toZ-ofZ w16 x (limited-fits16 b x l h)

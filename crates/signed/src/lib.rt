@@ -1,9 +1,9 @@
 // Signed machine arithmetic, one step to a function, with contracts in ℤ: sums and differences of two i32,
-// at 32 bits where they fit and exact at 64, an i32 made of its bits, and half of one.
+// at 32 bits where they fit and exact at 64, of two i16, an i32 made of its bits, and half of one.
 ghost use mathlib.Core.Path.{_≡_};
 ghost use lib.IntN.{pos, _+ℤ_, _-ℤ_};
 ghost use lib.Signed.{_≤ℤ_};
-ghost use mir.Syntax.{w32, w64};
+ghost use mir.Syntax.{w16, w32, w64};
 ghost use mir.Val.{toZ, ofZ, SFits};
 
 // The same number at 64 bits.
@@ -35,6 +35,30 @@ pub fn minus(a: i32, b: i32) -> i32
     ensures { λ r. ⌜ r ≡ a -ℤ b ⌝ }
 {
     a - b
+}
+
+// A sum at 16 bits, where it fits them.
+pub fn plus16(a: i16, b: i16) -> i16
+    requires { ⌜ SFits w16 (a +ℤ b) ⌝ }
+    ensures { λ r. ⌜ r ≡ a +ℤ b ⌝ }
+{
+    a + b
+}
+
+// A difference at 16 bits, where it fits them.
+pub fn minus16(a: i16, b: i16) -> i16
+    requires { ⌜ SFits w16 (a -ℤ b) ⌝ }
+    ensures { λ r. ⌜ r ≡ a -ℤ b ⌝ }
+{
+    a - b
+}
+
+// A difference of a number at 32 bits and one at 16, where it fits 32.
+pub fn minus_small(x: i32, y: i16) -> i32
+    requires { ⌜ SFits w32 (x -ℤ y) ⌝ }
+    ensures { λ r. ⌜ r ≡ x -ℤ y ⌝ }
+{
+    x - y as i32
 }
 
 // A sum at 64 bits, where it fits them.

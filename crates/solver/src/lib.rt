@@ -232,7 +232,7 @@ fn cut_of_ring(
         × MadeOfRing (mapOf nodes edges (now (tails .entry)) (now (rotations .entry))) (rightOf (now (lefts .entry))) (atℤ (now (lengths .entry)))
         (at (now (order .entry))) (at (now (from .entry))) (at (now (parents .entry))) y (flagged (now (inside .exit))) ⌝ }
 {
-    let mut winding = [0i32; 1024];
+    let mut winding = [0i16; 1024];
     windings::fill_winding(lefts, parents, 2 * edges, y, &mut winding);
     let mut heights = [0i32; 1024];
     heights::fill_heights(tails, order, from, 2 * edges, &winding, &mut heights);

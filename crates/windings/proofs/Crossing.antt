@@ -8,13 +8,13 @@ use lib.Dec.{eqb}
 use lib.IntN.{ℤ, pos, _+ℤ_, _-ℤ_}
 use lib.ListN.{length, set, length-set}
 use lib.Seq.{getD-set-same, getD-set-other}
-use mir.Syntax.{w32}
+use mir.Syntax.{w16}
 use mir.Val.{toZ, ofZ, SFits}
 use Rattle.integers.specs.inner.Limited.{Limited}
 use Rattle.integers.proofs.Limits.{limited-plus, limited-minus}
 use Rattle.integers.proofs.Omega.{atoms₁, parts, equal, at-most}
 use Rattle.integers.proofs.Tests.{eqb-true, eqb-false}
-use Rattle.signed.proofs.Limits.{limited-fits, same-bits}
+use Rattle.signed.proofs.Limits.{limited-fits16, same-bits16}
 use Rattle.maps.specs.Dart.{rev}
 use Rattle.maps.proofs.Darts.{rev-apart}
 use Rattle.flows.specs.inner.UnitFlow.{single}
@@ -25,17 +25,17 @@ limited-one = record { low = at-most (search parts) (omega arith); high = at-mos
 
 -- one step of the machine, on a winding so far
 module _ {x : ℤ} (h : Limited 1024 x) where
-  pub plus-read : toZ w32 (ofZ w32 x) +ℤ pos 1 ≡ x +ℤ pos 1
-  plus-read = ap (λ a. a +ℤ pos 1) (same-bits (omega arith) h)
+  pub plus-read : toZ w16 (ofZ w16 x) +ℤ pos 1 ≡ x +ℤ pos 1
+  plus-read = ap (λ a. a +ℤ pos 1) (same-bits16 (omega arith) h)
 
-  pub minus-read : toZ w32 (ofZ w32 x) -ℤ pos 1 ≡ x -ℤ pos 1
-  minus-read = ap (λ a. a -ℤ pos 1) (same-bits (omega arith) h)
+  pub minus-read : toZ w16 (ofZ w16 x) -ℤ pos 1 ≡ x -ℤ pos 1
+  minus-read = ap (λ a. a -ℤ pos 1) (same-bits16 (omega arith) h)
 
-  pub plus-fits : SFits w32 (toZ w32 (ofZ w32 x) +ℤ pos 1)
-  plus-fits = subst (SFits w32) (sym plus-read) (limited-fits 1025 (x +ℤ pos 1) (omega arith) (limited-plus h limited-one))
+  pub plus-fits : SFits w16 (toZ w16 (ofZ w16 x) +ℤ pos 1)
+  plus-fits = subst (SFits w16) (sym plus-read) (limited-fits16 1025 (x +ℤ pos 1) (omega arith) (limited-plus h limited-one))
 
-  pub minus-fits : SFits w32 (toZ w32 (ofZ w32 x) -ℤ pos 1)
-  minus-fits = subst (SFits w32) (sym minus-read) (limited-fits 1025 (x -ℤ pos 1) (omega arith) (limited-minus h limited-one))
+  pub minus-fits : SFits w16 (toZ w16 (ofZ w16 x) -ℤ pos 1)
+  minus-fits = subst (SFits w16) (sym minus-read) (limited-fits16 1025 (x -ℤ pos 1) (omega arith) (limited-minus h limited-one))
 
 pub crossed-once : (l : List ℤ) (p x : ℕ) (a b : ℤ) → length l ≡ 1024 → p < 1024 → x < 1024 → x ≡ rev p → a ≡ atℤ l p +ℤ pos 1 → b ≡ atℤ l x -ℤ pos 1
     → (length (set (set l p a) x b) ≡ 1024) × ((d : ℕ) → atℤ (set (set l p a) x b) d ≡ single p d +ℤ atℤ l d)

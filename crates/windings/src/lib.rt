@@ -11,13 +11,13 @@ ghost use Rattle.arrays.specs.At.{at, atℤ};
 ghost use Rattle.windings.specs.inner.Winding.{Round, Wound};
 
 // Crosses the dart p once: one more for p, one less for its reverse.
-fn cross(p: usize, winding: &mut [i32; 1024])
+fn cross(p: usize, winding: &mut [i16; 1024])
     requires { ⌜ (length (now winding) ≡ 1024) × (p < 1024) × Limited 1024 (atℤ (now winding) p) × Limited 1024 (atℤ (now winding) (rev p)) ⌝ }
     ensures { λ _. ⌜ (length (now (winding .exit)) ≡ 1024) × ((d : ℕ) → atℤ (now (winding .exit)) d ≡ single p d +ℤ atℤ (now (winding .entry)) d) ⌝ }
 {
     let back = arrays::reverse(p);
-    winding[p] = signed::plus(winding[p], 1);
-    winding[back] = signed::minus(winding[back], 1);
+    winding[p] = signed::plus16(winding[p], 1);
+    winding[back] = signed::minus16(winding[back], 1);
 }
 
 // Follows the parents from the face y round to y again. `winding` is all zeros before: no dart is crossed yet.
@@ -26,7 +26,7 @@ pub fn fill_winding(
     parents: &[u16; 1024],
     darts: usize,
     y: usize,
-    winding: &mut [i32; 1024],
+    winding: &mut [i16; 1024],
 )
     requires { ⌜ (length (now winding) ≡ 1024) × (darts ≤ 1024) × (darts % 2 ≡ 0)
         × Round (rightOf (now lefts)) (at (now parents)) darts y × ((d : ℕ) → atℤ (now winding) d ≡ pos 0) ⌝ }

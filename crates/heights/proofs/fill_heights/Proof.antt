@@ -72,7 +72,7 @@ knows c = c .before .before
 next-in : (c : tie.After-wide6 Inv-loop μ-loop) → c .wide6 .result < 1024
 next-in c = let d = met (origin (knows c)) in node-in (start (turn d) .pre .1) (dart-below d) (c .wide6 .ensures)
 
-abbrev both : tie.After-minus Inv-loop μ-loop → tie.After-wide6 Inv-loop μ-loop
+abbrev both : tie.After-minus-small Inv-loop μ-loop → tie.After-wide6 Inv-loop μ-loop
 both c = c .before .before .before
 
 -- ── the needs, in the order of the code ──
@@ -151,20 +151,20 @@ element-copy-out-wide-6 c = let d = met (origin c) in omega (arith, few (turn d)
 wide-requires-6 : tie.Need-wide-requires-6 Inv-loop μ-loop
 wide-requires-6 c κs = search needs
 
-mul-minus : tie.Need-mul-minus Inv-loop μ-loop
-mul-minus c = omega (arith, known-in (knows c))
+mul-minus-small : tie.Need-mul-minus-small Inv-loop μ-loop
+mul-minus-small c = omega (arith, known-in (knows c))
 
-element-copy-out-minus : tie.Need-element-copy-out-minus Inv-loop μ-loop
-element-copy-out-minus c = known-in (knows c)
+element-copy-out-minus-small : tie.Need-element-copy-out-minus-small Inv-loop μ-loop
+element-copy-out-minus-small c = known-in (knows c)
 
-mul-minus-2 : tie.Need-mul-minus-2 Inv-loop μ-loop
-mul-minus-2 c = let f = origin (knows (c .before)) in omega (arith, few (turn (met f)), origin-below f)
+mul-minus-small-2 : tie.Need-mul-minus-small-2 Inv-loop μ-loop
+mul-minus-small-2 c = let f = origin (knows (c .before)) in omega (arith, few (turn (met f)), origin-below f)
 
-element-copy-out-minus-2 : tie.Need-element-copy-out-minus-2 Inv-loop μ-loop
-element-copy-out-minus-2 c = let f = origin (knows (c .before)) in omega (arith, few (turn (met f)), origin-below f)
+element-copy-out-minus-small-2 : tie.Need-element-copy-out-minus-small-2 Inv-loop μ-loop
+element-copy-out-minus-small-2 c = let f = origin (knows (c .before)) in omega (arith, few (turn (met f)), origin-below f)
 
-minus-requires : tie.Need-minus-requires Inv-loop μ-loop
-minus-requires c κs =
+minus-small-requires : tie.Need-minus-small-requires Inv-loop μ-loop
+minus-small-requires c κs =
     let k = knows (c .before .before) in
     let f = origin k in
     let t = turn (met f) in
@@ -188,7 +188,7 @@ loop-again c =
     let o = t .before .loop in
     filling-stored (start t .pre .1) (o .heights) (o .inv .1) (t .loop-test .taken) (met f .wide3 .ensures) (f .wide4 .ensures) (k .wide5 .ensures)
     (turned-back k)
-    (o .inv .0) (both c .wide6 .ensures) (c .minus .ensures)
+    (o .inv .0) (both c .wide6 .ensures) (c .minus-small .ensures)
 
 -- ── d begins a tree: its node ──
 abbrev branched : tie.After-wide7 Inv-loop μ-loop → tie.Then2 Inv-loop μ-loop
@@ -275,11 +275,11 @@ fill-heights-spec =
     mul-wide-5
     element-copy-out-wide-6
     wide-requires-6
-    mul-minus
-    element-copy-out-minus
-    mul-minus-2
-    element-copy-out-minus-2
-    minus-requires
+    mul-minus-small
+    element-copy-out-minus-small
+    mul-minus-small-2
+    element-copy-out-minus-small-2
+    minus-small-requires
     mul-t45
     element-set-from-heights
     loop-less

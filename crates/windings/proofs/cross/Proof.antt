@@ -3,11 +3,11 @@ use mathlib.Core.Path.{_≡_, sym, _∙_, ap, subst}
 use lib.IntN.{pos, _+ℤ_, _-ℤ_}
 use lib.ListN.{set}
 use lib.Seq.{getD-set-other}
-use mir.Syntax.{w32}
+use mir.Syntax.{w16}
 use mir.Val.{toZ, ofZ}
+use mir.ValLaws.{toZ-ofZ}
 use borrow.Author.Needs.{needs}
 use Rattle.integers.specs.inner.Limited.{Limited}
-use Rattle.signed.proofs.Laws.{number-of-bits}
 use Rattle.arrays.specs.At.{atℤ}
 use Rattle.maps.proofs.Darts.{rev-apart}
 use Rattle.windings.proofs.Crossing.{plus-read, minus-read, plus-fits, minus-fits, crossed-once}
@@ -17,14 +17,14 @@ use Rattle.windings.proofs.cross.Tie as tie
 reverse-requires : tie.Need-reverse-requires
 reverse-requires c κs = search needs
 
-mul-plus : tie.Need-mul-plus
-mul-plus c = search needs
+mul-plus16 : tie.Need-mul-plus16
+mul-plus16 c = search needs
 
-element-copy-out-plus : tie.Need-element-copy-out-plus
-element-copy-out-plus c = search needs
+element-copy-out-plus16 : tie.Need-element-copy-out-plus16
+element-copy-out-plus16 c = search needs
 
-plus-requires : tie.Need-plus-requires
-plus-requires c κs = plus-fits (c .before .before .pre .2)
+plus16-requires : tie.Need-plus16-requires
+plus16-requires c κs = plus-fits (c .before .before .pre .2)
 
 mul-winding : tie.Need-mul-winding
 mul-winding c = search needs
@@ -32,19 +32,19 @@ mul-winding c = search needs
 element-set-from-winding : tie.Need-element-set-from-winding
 element-set-from-winding c = search needs
 
-mul-minus : tie.Need-mul-minus
-mul-minus c = search needs
+mul-minus16 : tie.Need-mul-minus16
+mul-minus16 c = search needs
 
-element-copy-out-minus : tie.Need-element-copy-out-minus
-element-copy-out-minus c = search needs
+element-copy-out-minus16 : tie.Need-element-copy-out-minus16
+element-copy-out-minus16 c = search needs
 
 -- the first store left the winding of the reverse as it was
-minus-requires : tie.Need-minus-requires
-minus-requires c κs =
+minus16-requires : tie.Need-minus16-requires
+minus16-requires c κs =
     let s = c .before .before .before .before in
     let o = c .before .before .before .reverse in
     let l = s .args .winding .now in
-    let a = toZ w32 (ofZ w32 (c .before .plus .result)) in
+    let a = toZ w16 (ofZ w16 (c .before .plus16 .result)) in
     let same = getD-set-other l (s .args .p) (o .result) a (pos 0) (λ q. rev-apart (s .args .p) (sym (o .ensures .0) ∙ q)) in
     minus-fits (subst (Limited 1024) (sym (same ∙ ap (atℤ l) (o .ensures .0))) (s .pre .3))
 
@@ -62,13 +62,13 @@ returns c =
     let p = s .args .p in
     let x = o .result in
     let h = s .pre in
-    let more = c .before .before .plus in
-    let a = toZ w32 (ofZ w32 (more .result)) in
-    let b = toZ w32 (ofZ w32 (c .minus .result)) in
+    let more = c .before .before .plus16 in
+    let a = toZ w16 (ofZ w16 (more .result)) in
+    let b = toZ w16 (ofZ w16 (c .minus16 .result)) in
     let same : atℤ (set l p a) x ≡ atℤ l x = getD-set-other l p x a (pos 0) (λ q. rev-apart p (sym (o .ensures .0) ∙ q)) in
     let h-x : Limited 1024 (atℤ (set l p a) x) = subst (Limited 1024) (sym (same ∙ ap (atℤ l) (o .ensures .0))) (h .3) in
-    let is-a : a ≡ atℤ l p +ℤ pos 1 = number-of-bits _ (record { sfits = more .ok }) ∙ more .ensures ∙ plus-read (h .2) in
-    let is-b : b ≡ atℤ l x -ℤ pos 1 = number-of-bits _ (record { sfits = c .minus .ok }) ∙ c .minus .ensures ∙ minus-read h-x ∙ ap (λ y. y -ℤ pos 1) same in
+    let is-a : a ≡ atℤ l p +ℤ pos 1 = toZ-ofZ w16 _ (record { sfits = more .ok }) ∙ more .ensures ∙ plus-read (h .2) in
+    let is-b : b ≡ atℤ l x -ℤ pos 1 = toZ-ofZ w16 _ (record { sfits = c .minus16 .ok }) ∙ c .minus16 .ensures ∙ minus-read h-x ∙ ap (λ y. y -ℤ pos 1) same in
     crossed-once l p x a b (h .0) (h .1) (o .ensures .1) (o .ensures .0) is-a is-b
 
 pub cross-spec : {M : Type 1} → statement M
@@ -76,14 +76,14 @@ cross-spec =
     tie.close
     (tie.spec
     reverse-requires
-    mul-plus
-    element-copy-out-plus
-    plus-requires
+    mul-plus16
+    element-copy-out-plus16
+    plus16-requires
     mul-winding
     element-set-from-winding
-    mul-minus
-    element-copy-out-minus
-    minus-requires
+    mul-minus16
+    element-copy-out-minus16
+    minus16-requires
     mul-t5
     element-set-from-winding-2
     returns)
