@@ -831,9 +831,10 @@ fn judge<'a>(
     )
 }
 
-// Probes values between the bounds until they meet or pass each other. The set that bounds the answer, or shows that there is none, is left in a. Where a value
-// that is carried is known, its highest flow stands in the slice, and the parents of its search may serve to propose the first set.
-pub fn maximize_from<'a>(
+// Probes values between the bounds until they meet or pass each other, from a set around the source in a, whose cut may be likely to be the answer. The set
+// that bounds the answer, or shows that there is none, is left in a. Where a value that is carried is known, its highest flow stands in the slice, and the
+// parents of its search may serve to propose another set.
+fn close_in<'a>(
     tails: &'a [u16; 1024],
     rotations: &'a [u16; 1024],
     lefts: &'a [u16; 1024],
@@ -852,6 +853,7 @@ pub fn maximize_from<'a>(
     sink: usize,
     known: bool,
     carried: i32,
+    likely: bool,
     flows: &mut [i32],
     parents: &mut [u16; 1024],
     a: &mut [u8; 1024],
@@ -862,14 +864,14 @@ pub fn maximize_from<'a>(
         × Walked (2 * edges) faces outer trees (at (now rotations)) (now lefts) (now order) (now from) (now grouped) (now starts) (now ends)
         × (length (now parents) ≡ 1024)
         × (known ≡ true → (x : ℕ → ℤ) × Highest (mapOf nodes edges (now tails) (now rotations)) outer (atℤ (now capacities)) source sink carried x
-        × (now flows ≡ filled edges x (now flows))) ⌝ }
+        × (now flows ≡ filled edges x (now flows))) × AtSource source sink (flagged (now a)) ⌝ }
     ensures { λ r. ⌜ (length (now (a .exit)) ≡ 1024) × (length (now (parents .exit)) ≡ 1024)
         × Maximized (mapOf nodes edges (now (tails .entry)) (now (rotations .entry))) outer
         (atℤ (now (capacities .entry))) source sink (now (flows .entry)) (now (flows .exit)) (now (a .exit)) r ⌝ }
 {
     let mut b = [0u8; 1024];
     let mut inside = [0u8; 1024];
-    let mut first = begin(tails, rotations, capacities, edges, source, sink, &mut *a);
+    let mut first = likely;
     node_flags::flag_one(sink, &mut b);
     let mut low = low_bound(tails, capacities, &b, 2 * edges, known, first, carried);
     let bound = cuts::capacity(tails, capacities, &*a, 2 * edges);
@@ -1074,6 +1076,69 @@ pub fn maximize_from<'a>(
         }
     };
     outcome
+}
+
+// The largest value, from the set that is first proposed. Where a value that is carried is known, its highest flow stands in the slice, and the parents of its
+// search may serve to propose another set. What the first set is listed in ends before the bounds close in: two arrays of that lie over it on the stack.
+pub fn maximize_from<'a>(
+    tails: &'a [u16; 1024],
+    rotations: &'a [u16; 1024],
+    lefts: &'a [u16; 1024],
+    capacities: &'a [i32; 1024],
+    order: &'a [u16; 1024],
+    from: &'a [u16; 1024],
+    grouped: &'a [u16; 1024],
+    starts: &'a [u16; 1024],
+    ends: &'a [u16; 1024],
+    nodes: usize,
+    edges: usize,
+    faces: usize,
+    trees: usize,
+    outer: usize,
+    source: usize,
+    sink: usize,
+    known: bool,
+    carried: i32,
+    flows: &mut [i32],
+    parents: &mut [u16; 1024],
+    a: &mut [u8; 1024],
+) -> Maximum
+    requires { ⌜ (length (now a) ≡ 1024) × (edges ≤ length (now flows)) × ((d : ℕ) → d < 2 * edges → Limited 1000000 (atℤ (now capacities) d))
+        × Drawn (mapOf nodes edges (now tails) (now rotations)) (at (now lefts)) faces outer (atℤ (now capacities))
+        × Ends (mapOf nodes edges (now tails) (now rotations)) source sink
+        × Walked (2 * edges) faces outer trees (at (now rotations)) (now lefts) (now order) (now from) (now grouped) (now starts) (now ends)
+        × (length (now parents) ≡ 1024)
+        × (known ≡ true → (x : ℕ → ℤ) × Highest (mapOf nodes edges (now tails) (now rotations)) outer (atℤ (now capacities)) source sink carried x
+        × (now flows ≡ filled edges x (now flows))) ⌝ }
+    ensures { λ r. ⌜ (length (now (a .exit)) ≡ 1024) × (length (now (parents .exit)) ≡ 1024)
+        × Maximized (mapOf nodes edges (now (tails .entry)) (now (rotations .entry))) outer
+        (atℤ (now (capacities .entry))) source sink (now (flows .entry)) (now (flows .exit)) (now (a .exit)) r ⌝ }
+{
+    let likely = begin(tails, rotations, capacities, edges, source, sink, &mut *a);
+    close_in(
+        tails,
+        rotations,
+        lefts,
+        capacities,
+        order,
+        from,
+        grouped,
+        starts,
+        ends,
+        nodes,
+        edges,
+        faces,
+        trees,
+        outer,
+        source,
+        sink,
+        known,
+        carried,
+        likely,
+        flows,
+        parents,
+        a,
+    )
 }
 
 // The same with nothing known, and parents of its own.
