@@ -25,6 +25,7 @@ close-in-requires c κs =
     let g = c .before .before .before in
     let s = g .before .before in
     let a = s .args in
+    let 𝓜 = mapOf (a .nodes) (a .edges) (a .tails .now) (a .rotations .now) in
     let p = s .pre in
     let e = g .begin .ensures in (
       e .0,
@@ -36,7 +37,7 @@ close-in-requires c κs =
       p .6,
       λ so. let k = p .7 so in (
         k .0,
-        subst (λ v. Highest (mapOf (a .nodes) (a .edges) (a .tails .now) (a .rotations .now)) (a .outer) (atℤ (a .capacities .now)) (a .source) (a .sink) v (k .0))
+        subst (λ v. Highest 𝓜 (a .outer) (atℤ (a .capacities .now)) (a .source) (a .sink) v (k .0))
             (sym (number-of-bits _ (s .fits .carried))) (k .1),
         k .2,
       ),
