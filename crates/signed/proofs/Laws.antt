@@ -1,15 +1,15 @@
--- Laws of signed machine numbers: 32 bits and back, sums and differences of two i32 fit 64 bits, the bits of a number below 0 turned over, and half of one
--- that is not below 0.
+-- Laws of signed machine numbers: 32 bits and back, some bits at more, sums and differences of two i32 fit 64 bits, the bits of a number below 0 turned over,
+-- and half of one that is not below 0.
 use mathlib.Core.Path.{_≡_, refl, sym, ap, _∙_}
 use mathlib.Core.Bool.{Bool, true, false, cond}
-use Prim.Native.Nat.{ℕ, zero, suc, _+_, _-_, _/_, _≤_, _<_}
+use Prim.Native.Nat.{ℕ, zero, suc, _+_, _-_, _/_, _^_, _≤_, _<_}
 use native.Mathlib.Omega.{arith}
 use lib.IntN.{ℤ, pos, negsuc, _+ℤ_, _-ℤ_, negℤ, subℕ, natAbs}
 use lib.Signed.{mag, ltZ, nonNeg, _≤ℤ_}
 use lib.Dec.{T, eqb, ltb}
 use borrow.Author.Tests.{ltb-true}
-use mir.Syntax.{w16, w32, w64}
-use mir.Val.{SFits, toZ, ofZ}
+use mir.Syntax.{Width, w16, w32, w64}
+use mir.Val.{SFits, toZ, ofZ, hbits}
 use mir.ValLaws.{toZ-pos, toZ-ofZ, toZ-fits, ofZ-toZ, ofZ-fits}
 use Rattle.integers.proofs.Omega.{parts, at-most}
 use Rattle.integers.proofs.Tests.{eqb-eq, eqb-ne}
@@ -36,20 +36,27 @@ module _ {x y : ℤ} (f : SFits w32 x) (g : SFits w32 y) where
   pub apart-of-test : eqb (ofZ w32 x) (ofZ w32 y) ≡ false → x ≡ y → ⊥
   apart-of-test e q = eqb-ne (ofZ w32 x) (ofZ w32 y) e (ap (ofZ w32) q)
 
--- ── what fits 32 bits, at 64 ──
+-- ── what fits some bits, at more ──
+pub fits-more : (v w : Width) {x : ℤ} → 2 ^ hbits v ≤ 2 ^ hbits w → SFits v x → SFits w x
+fits-more v w l f = record { sfits = omega (arith, l, f .sfits) }
+
+-- a signed local holds bits: a number of some bits, taken to more, is itself
+pub same-at-more : (v w : Width) → 2 ^ hbits v ≤ 2 ^ hbits w → (x : ℤ) → SFits v x → toZ w (ofZ w (toZ v (ofZ v x))) ≡ x
+same-at-more v w l x f = ap (λ y. toZ w (ofZ w y)) (toZ-ofZ v x f) ∙ toZ-ofZ w x (fits-more v w l f)
+
+-- 32 bits at 64
 pub fits-wider : {x : ℤ} → SFits w32 x → SFits w64 x
-fits-wider f = record { sfits = omega (arith, f .sfits) }
+fits-wider f = fits-more w32 w64 (omega arith) f
 
--- a signed local holds bits: a number of 32 bits, taken to 64, is itself
 pub widened : (x : ℤ) → SFits w32 x → toZ w64 (ofZ w64 (toZ w32 (ofZ w32 x))) ≡ x
-widened x f = ap (λ v. toZ w64 (ofZ w64 v)) (number-of-bits x f) ∙ toZ-ofZ w64 x (fits-wider f)
+widened = same-at-more w32 w64 (omega arith)
 
--- the same of 16 bits, at 32
+-- 16 bits at 32
 pub fits-wide : {x : ℤ} → SFits w16 x → SFits w32 x
-fits-wide f = record { sfits = omega (arith, f .sfits) }
+fits-wide f = fits-more w16 w32 (omega arith) f
 
 pub small-widened : (x : ℤ) → SFits w16 x → toZ w32 (ofZ w32 (toZ w16 (ofZ w16 x))) ≡ x
-small-widened x f = ap (λ v. toZ w32 (ofZ w32 v)) (toZ-ofZ w16 x f) ∙ number-of-bits x (fits-wide f)
+small-widened = same-at-more w16 w32 (omega arith)
 
 mag-either : (t : Bool) (a b m : ℕ) → a ≤ m → b ≤ m → mag (cond t (negsuc a) (pos b)) ≤ m
 mag-either true a b m p q = p
