@@ -23,6 +23,7 @@ pub fn place(x: u16) -> usize
 
 pub fn number(x: usize) -> u16
     requires { ⌜ x < 1024 ⌝ }
+    ensures { λ r. ⌜ r ≡ x ⌝ }
 {
     arrays::narrow(x)
 }
