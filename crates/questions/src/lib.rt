@@ -110,7 +110,7 @@ pub fn solve<'a>(
         return SolveAnswer::Refused(k, p);
     }
     let mut inside = [0u8; 1024];
-    let mut parents = [0u16; 1024];
+    let mut parents = [1024u16; 1024];
     if solver::decide(
         tails,
         rotations,

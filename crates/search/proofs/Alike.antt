@@ -1,34 +1,39 @@
 -- What is given to a search matters on its darts and faces only: on arrays that agree there the same search goes. So two such searches have one end.
 use mathlib.Core.Path.{_≡_, refl, sym, _∙_, ap, ap₂, subst}
 use mathlib.Core.Logic.{_⊎_, inl, inr}
-use mathlib.Core.Bool.{Bool, true, false}
+use mathlib.Core.Bool.{Bool, true, false, cond, _&&_}
 use mathlib.Core.List.{List}
 use Prim.Native.Nat.{ℕ, zero, suc, _+_, _≤_, _<_}
 use native.Mathlib.Omega.{arith}
 use native.Mathlib.Decide.{decLt}
-use borrow.Author.Count.{below-more}
+use lib.Dec.{eqb, ltb}
 use lib.ListN.{length, take, set}
 use lib.IntN.{ℤ, _+ℤ_}
 use lib.Signed.{_≤ℤ_, _<ℤ_}
-use Rattle.maps.specs.Dart.{rev}
+use Rattle.integers.proofs.Tests.{ltb-false}
 use Rattle.maps.specs.Orbit.{iter}
 use Rattle.maps.proofs.Orbits.{iter-zero, iter-suc}
 use Rattle.arrays.specs.At.{at, atℤ}
 use Rattle.arrays.specs.Maps.{rightOf}
-use Rattle.search.specs.Dual.{WellFormed, Joined}
+use Rattle.search.specs.Dual.{dualOf, WellFormed, Joined}
 use Rattle.search.specs.Parents.{up}
+use Rattle.search.specs.Level.{HasLevel, far}
 use Rattle.search.specs.Queue.{Pushed}
-use Rattle.search.specs.Moves.{Relaxed, Climb}
+use Rattle.search.specs.Moves.{sensible, parentFrom, Begun, Relaxed}
 use Rattle.search.specs.Given.{Given, given, dual, InGroups}
 use Rattle.search.specs.Configuration.{Tables, Configuration, front}
 use Rattle.search.specs.Look.{Crosses, done, keep, lower, LookAt}
-use Rattle.search.specs.Due.{due, Unringed}
-use Rattle.search.specs.Trace.{Step, look, turn, Goes, stay, go, Ends, start, Searches}
+use Rattle.search.specs.Straightening.{marked, Ascent, Follows, leaves, keeps, falls, Descends, down, upwardOf, Closes, Straightens, end, ring, next}
+use Rattle.search.specs.Straightening as straightening
+use Rattle.search.specs.Trace.{Step, look, straighten, Goes, stay, go, Ends, Searches}
 use Rattle.search.specs.declared.Outcome.{Outcome}
 use Rattle.search.specs.declared.Outcome.the-variants as outcome
-use Rattle.search.specs.declared.Climbed.the-variants as climbed
-use Rattle.search.proofs.Beginning.{begun-passing}
-use Rattle.search.proofs.Run.{PassingAt, step-passing}
+use Rattle.search.specs.declared.Straightened.{Straightened}
+use Rattle.search.specs.inner.Progress.{Descending}
+use Rattle.search.proofs.Descent.{p-in, follow-on}
+use Rattle.search.proofs.Sweeping.{Swept, swept-none, begins, swept-more}
+use Rattle.search.proofs.Run.{PassingAt, bound-wide, bound-few, step-passing, goes-passing}
+use Rattle.search.proofs.Ending.{start-passing}
 use Rattle.search.proofs.Determined.{searches-one}
 
 -- ── one dart ──
@@ -47,45 +52,38 @@ module _ (lefts lefts' : List ℕ) (lengths lengths' : List ℤ) (d d' : ℕ) (s
     subst (λ f. atℤ ρ f ≤ℤ (atℤ ρ i +ℤ atℤ lengths' d')) e (subst (λ z. atℤ ρ (at lefts d) ≤ℤ (atℤ ρ i +ℤ z)) g (a .2)),
   )
 
--- ── steps up the parents ──
-module _ (right right' : ℕ → ℕ) (darts : ℕ) (same : (d : ℕ) → d < darts → right d ≡ right' d) (parents : List ℕ) (x : ℕ) where
-  steps-alike : (k : ℕ) → ((a : ℕ) → a < k → at parents (iter (up right (at parents)) a x) < darts)
-      → iter (up right (at parents)) k x ≡ iter (up right' (at parents)) k x
-  steps-alike zero h = iter-zero (up right (at parents)) x ∙ sym (iter-zero (up right' (at parents)) x)
+-- ── an ascent ──
+module _ (right right' : ℕ → ℕ) (darts : ℕ) (same : (d : ℕ) → d < darts → right d ≡ right' d) (parents marks : List ℕ) (f : ℕ) where
+  steps-alike : (k : ℕ) → ((a : ℕ) → a < k → at parents (iter (up right (at parents)) a f) < darts)
+      → iter (up right (at parents)) k f ≡ iter (up right' (at parents)) k f
+  steps-alike zero h = iter-zero (up right (at parents)) f ∙ sym (iter-zero (up right' (at parents)) f)
   steps-alike (suc k) h =
-      iter-suc (up right (at parents)) k x
-      ∙ same (at parents (iter (up right (at parents)) k x)) (h k (omega arith))
+      iter-suc (up right (at parents)) k f
+      ∙ same (at parents (iter (up right (at parents)) k f)) (h k (omega arith))
       ∙ ap (λ y. right' (at parents y)) (steps-alike k (λ a l. h a (omega (arith, l))))
-      ∙ sym (iter-suc (up right' (at parents)) k x)
+      ∙ sym (iter-suc (up right' (at parents)) k f)
 
-  -- the first step that lacks a parent lacks it in both
-  abbrev Has : ℕ → Type 0
-  Has a = at parents (iter (up right (at parents)) a x) < darts
+  module _ {count : ℕ} (a : Ascent (up right (at parents)) darts parents marks f count) where
+    faces-alike : (k : ℕ) → k ≤ count → iter (up right (at parents)) k f ≡ iter (up right' (at parents)) k f
+    faces-alike k l = steps-alike k (λ j m. a .onward j (omega arith) .0)
 
-  scan : (n : ℕ) → ((a : ℕ) → a < n → Has a) ⊎ ((b : ℕ) × (b < n) × (Has b → ⊥) × ((a : ℕ) → a < b → Has a))
-  scan zero = inl (λ a l. absurd (omega (arith, l)))
-  scan (suc n) = by (scan n) (decLt (at parents (iter (up right (at parents)) n x)) darts)
-    where
-      by : ((a : ℕ) → a < n → Has a) ⊎ ((b : ℕ) × (b < n) × (Has b → ⊥) × ((a : ℕ) → a < b → Has a)) → Dec (Has n)
-          → ((a : ℕ) → a < suc n → Has a) ⊎ ((b : ℕ) × (b < suc n) × (Has b → ⊥) × ((a : ℕ) → a < b → Has a))
-      by (inr r) q = inr (r .0, omega (arith, r .1), r .2, r .3)
-      by (inl h) (yes l) = inl (λ a m. below-more Has n h l a (omega (arith, m)))
-      by (inl h) (no q) = inr (n, omega arith, q, h)
+    marks-alike : (k : ℕ) → k ≤ count → marked (up right (at parents)) f k marks ≡ marked (up right' (at parents)) f k marks
+    unfolding marked
+    marks-alike zero l = refl
+    marks-alike (suc k) l = ap₂ (λ m y. set m y (f + 1)) (marks-alike k (omega arith)) (faces-alike k (omega arith))
 
-  ended-alike : (faces : ℕ) → Climb right darts faces parents x climbed.Ended → Climb right' darts faces parents x climbed.Ended
-  ended-alike faces h = by (scan faces)
-    where
-      by : ((a : ℕ) → a < faces → Has a) ⊎ ((b : ℕ) × (b < faces) × (Has b → ⊥) × ((a : ℕ) → a < b → Has a)) → Climb right' darts faces parents x climbed.Ended
-      by (inl every) = absurd (omega (arith, every (h .0) (h .1), h .2))
-      by (inr r) =
-          let lack : at parents (iter (up right (at parents)) (r .0) x) < darts → ⊥ = r .2 in
-          (r .0, r .1, omega (arith, lack, ap (at parents) (steps-alike (r .0) (r .3))))
+    mark-alike : (k : ℕ) → k ≤ count → at (marked (up right (at parents)) f k marks) (iter (up right (at parents)) k f)
+        ≡ at (marked (up right' (at parents)) f k marks) (iter (up right' (at parents)) k f)
+    mark-alike k l = ap₂ at (marks-alike k l) (faces-alike k l)
 
-  at-alike : (faces y : ℕ) → Climb right darts faces parents x (climbed.At y) → Climb right' darts faces parents x (climbed.At y)
-  at-alike faces y h = (
-    h .0 ∙ steps-alike faces (h .1),
-    λ a l. omega (arith, h .1 a l, ap (at parents) (steps-alike a (λ b m. h .1 b (omega (arith, m, l))))),
-  )
+    ascent-alike : Ascent (up right' (at parents)) darts parents marks f count
+    ascent-alike = record {
+      onward = λ k l.
+          let o = a .onward k l in
+          (subst (λ y. at parents y < darts) (faces-alike k (omega arith)) (o .0), sym (mark-alike k (omega arith)) ∙ o .1);
+      stops = λ l e.
+          a .stops (subst (λ y. at parents y < darts) (sym (faces-alike count (omega arith))) l) (mark-alike count (omega arith) ∙ e);
+    }
 
 -- ── a run ──
 -- two arrays of each kind that agree as far as they matter
@@ -105,6 +103,90 @@ module _ {darts faces : ℕ} {lefts lefts' : List ℕ} {lengths lengths' : List 
   abbrev G' : Given
   G' = given lefts' lengths' order' starts' ends' darts faces
 
+  -- ── the beginning ──
+  sensible-alike : (f p : ℕ) → sensible lefts darts f p ≡ sensible lefts' darts f p
+  sensible-alike f p = by (decLt p darts)
+    where
+      by : Dec (p < darts) → (ltb p darts && eqb (at lefts p) f) ≡ (ltb p darts && eqb (at lefts' p) f)
+      by (yes l) = ap (λ x. ltb p darts && eqb x f) (α .same-lefts p l)
+      by (no n) = rw (ltb-false p darts (omega (arith, n)))
+
+  begun-alike : {proposal : List ℕ} {ρ : List ℤ} {parents waiting queue : List ℕ} {roots : ℕ} → Begun lefts darts faces proposal ρ parents waiting queue roots
+      → Begun lefts' darts faces proposal ρ parents waiting queue roots
+  begun-alike {proposal} b = record {
+    size-potentials = b .size-potentials;
+    size-parents = b .size-parents;
+    size-waiting = b .size-waiting;
+    zero = b .zero;
+    others = b .others;
+    none = b .none;
+    proposed = λ f l n. b .proposed f l n ∙ ap (λ t. cond t (at proposal f) 1024) (sensible-alike f (at proposal f));
+    beyond = b .beyond;
+    waits = b .waits;
+    rests = b .rests;
+  }
+
+  -- ── a straightening ──
+  follows-alike : {y y' : ℕ} {t u : Tables} → y ≡ y' → at (t .parents) y < darts → Follows lefts lengths y t u → Follows lefts' lengths' y' t u
+  follows-alike {y} {y'} {t} {u} e l w = subst (λ x. Follows lefts' lengths' x t u) e (by w)
+    where
+      across : rightOf lefts (at (t .parents) y) ≡ rightOf lefts' (at (t .parents) y)
+      across = α .same-rights (at (t .parents) y) l
+
+      has : HasLevel (atℤ (t .potentials)) (rightOf lefts (at (t .parents) y)) → HasLevel (atℤ (t .potentials)) (rightOf lefts' (at (t .parents) y))
+      has h q = h (ap (atℤ (t .potentials)) across ∙ q)
+
+      there : (v : Tables) (c : Bool)
+          → Relaxed lefts lengths (t .potentials) (t .parents) (v .potentials) (v .parents) (rightOf lefts (at (t .parents) y)) (at (t .parents) y) c
+          → Relaxed lefts' lengths' (t .potentials) (t .parents) (v .potentials) (v .parents) (rightOf lefts' (at (t .parents) y)) (at (t .parents) y) c
+      there v c r =
+          subst (λ x. Relaxed lefts' lengths' (t .potentials) (t .parents) (v .potentials) (v .parents) x (at (t .parents) y) c) across
+          (relaxed-alike lefts lefts' lengths lengths' (at (t .parents) y) (at (t .parents) y) refl (α .same-lefts (at (t .parents) y) l)
+          (α .same-lengths (at (t .parents) y) l) (t .potentials) (v .potentials) (t .parents) (v .parents) (rightOf lefts (at (t .parents) y)) c r)
+
+      by : {v : Tables} → Follows lefts lengths y t v → Follows lefts' lengths' y t v
+      by (leaves q) = leaves (ap (atℤ (t .potentials)) (sym across) ∙ q)
+      by (keeps h r) = keeps (has h) (there t false r)
+      by {v} (falls h r p) = falls (has h) (there v true r) p
+
+  module _ (roots : List ℕ) (sound : WellFormed (dualOf lefts lengths darts faces roots)) {first b : ℕ} (wide : 1024 ≤ b) (thin : b < 1600000) where
+    descends-alike : {g g' : ℕ → ℕ} {f k deep rest : ℕ} {t u : Tables} → Descending (dualOf lefts lengths darts faces roots) t first b g f k deep rest
+        → ((j : ℕ) → j < k → iter g j f ≡ iter g' j f) → Descends lefts lengths g f k t u → Descends lefts' lengths' g' f k t u
+    descends-alike h same straightening.done = straightening.done
+    descends-alike h same (down {k = k} w q) =
+        down (follows-alike (same k (omega arith)) (p-in lefts lengths darts faces roots sound wide thin h) w)
+        (descends-alike (follow-on lefts lengths darts faces roots sound wide thin h w) (λ j l. same j (omega (arith, l))) q)
+
+    straightens-alike : {f deep : ℕ} {marks : List ℕ} {t u : Tables} {r : Straightened} → Swept lefts lengths darts faces roots sound t first b f marks deep
+        → Straightens lefts lengths darts faces f marks t u r → Straightens lefts' lengths' darts faces f marks t u r
+    straightens-alike s (end l e) = end l e
+    straightens-alike {f} {marks = marks} {t} s (ring count l a c e) =
+        let right = rightOf lefts in
+        let right' = rightOf lefts' in
+        let to : iter (upwardOf lefts t) count f ≡ iter (upwardOf lefts' t) count f =
+        faces-alike right right' darts (α .same-rights) (t .parents) marks f a count (omega arith) in
+        ring count l (ascent-alike right right' darts (α .same-rights) (t .parents) marks f a) (
+          sym (mark-alike right right' darts (α .same-rights) (t .parents) marks f a count (omega arith)) ∙ c .0,
+          λ q. c .1 (ap (atℤ (t .potentials)) to ∙ q),
+        )
+        (e ∙ ap (at (t .parents)) to)
+    straightens-alike {f} {marks = marks} {t} {u = v} {r} s (next {u = u} count l a c q w) =
+        let right = rightOf lefts in
+        let right' = rightOf lefts' in
+        let to : iter (upwardOf lefts t) count f ≡ iter (upwardOf lefts' t) count f =
+        faces-alike right right' darts (α .same-rights) (t .parents) marks f a count (omega arith) in
+        next count l (ascent-alike right right' darts (α .same-rights) (t .parents) marks f a)
+        (λ h. c (
+          mark-alike right right' darts (α .same-rights) (t .parents) marks f a count (omega arith) ∙ h .0,
+          λ z. h .1 (ap (atℤ (t .potentials)) (sym to) ∙ z),
+        ))
+        (descends-alike (begins lefts lengths darts faces roots sound s l a c)
+        (λ j m. faces-alike right right' darts (α .same-rights) (t .parents) marks f a j (omega arith)) q)
+        (subst (λ m. Straightens lefts' lengths' darts faces (f + 1) m u v r)
+        (marks-alike right right' darts (α .same-rights) (t .parents) marks f a count (omega arith))
+        (straightens-alike (swept-more lefts lengths darts faces roots sound s l a c wide thin q) w))
+
+  -- ── looks ──
   module _ (γ : InGroups G) where
     crosses-alike : (i j : ℕ) {t u : Tables} → i < faces → at starts i ≤ j → Crosses G i (at ends i) j t u → Crosses G' i (at ends i) j t u
     crosses-alike i j l m (done k) = done k
@@ -114,63 +196,61 @@ module _ {darts faces : ℕ} {lefts lefts' : List ℕ} {lengths lengths' : List 
         keep k (relaxed-alike lefts lefts' lengths lengths' (at order j) (at order' j) e (α .same-lefts (at order j) b ∙ ap (at lefts') e)
         (α .same-lengths (at order j) b ∙ ap (atℤ lengths') e) (t .potentials) (t .potentials) (t .parents) (t .parents) i false a)
         (crosses-alike i (j + 1) l (omega (arith, m)) q)
-    crosses-alike i j {t} l m (lower {u = v} k a p n q) =
+    crosses-alike i j {t} l m (lower {u = v} k a p q) =
         let e = α .same-order i j l m k in
         let b = γ .dart i j l m k in
         let f = α .same-lefts (at order j) b ∙ ap (at lefts') e in
         lower k (relaxed-alike lefts lefts' lengths lengths' (at order j) (at order' j) e f
         (α .same-lengths (at order j) b ∙ ap (atℤ lengths') e) (t .potentials) (v .potentials) (t .parents) (v .parents) i true a)
-        (subst (λ x. Pushed (t .waiting) (t .queue) (v .waiting) (v .queue) x (t .last) (v .last)) f p) n
+        (subst (λ x. Pushed (t .waiting) (t .queue) (v .waiting) (v .queue) x (t .last) (v .last)) f p)
         (crosses-alike i (j + 1) l (omega (arith, m)) q)
 
     look-alike : (i : ℕ) (t u : Tables) → i < faces → LookAt G i t u → LookAt G' i t u
     look-alike i t u l q =
         rw (sym (α .same-starts i l)) (rw (sym (α .same-ends i l)) (crosses-alike i (at starts i) l (omega arith) q))
 
-    unringed-alike : (c : Configuration) (next' : ℕ) (b : Bool) → Unringed G c next' b → Unringed G' c next' b
-    unringed-alike c next' true w =
-        (ended-alike (rightOf lefts) (rightOf lefts') darts (α .same-rights) (c .tables .parents) (front c) faces (w .0), w .1)
-    unringed-alike c next' false w = w
-
     module _ (roots : List ℕ) (sound : WellFormed (dual G roots)) where
+      -- the straightening that begins at c
+      whole-alike : (c : Configuration) {u : Tables} {r : Straightened} → PassingAt (dual G roots) c
+          → Straightens lefts lengths darts faces 0 straightening.unmarked (c .tables) u r
+          → Straightens lefts' lengths' darts faces 0 straightening.unmarked (c .tables) u r
+      whole-alike c r w =
+          straightens-alike roots sound (bound-wide faces (c .left)) (bound-few faces (c .left) (sound .few-faces))
+          (swept-none lefts lengths darts faces roots sound (r .passing)) w
+
       step-alike : {c d : Configuration} → PassingAt (dual G roots) c → Step G c d → Step G' c d
-      step-alike {c} r (look {u = u} next' l w q) =
-          look next' l (unringed-alike c next' (due G c) w)
-          (look-alike (front c) (c .tables) u (r .line .inside (c .first) (omega arith) (omega (arith, l, r .after))) q)
-      step-alike r (turn l n) = turn l n
+      step-alike {c} r (look {u = u} l m q) =
+          look l m (look-alike (front c) (c .tables) u (r .passing .line .inside (c .first) (omega arith) m) q)
+      step-alike {c} r (straighten l w) = straighten l (whole-alike c r w)
 
       goes-alike : {c d : Configuration} → PassingAt (dual G roots) c → Goes G c d → Goes G' c d
       goes-alike r stay = stay
       goes-alike r (go s p) = go (step-alike r s) (goes-alike (step-passing G roots sound γ r s) p)
 
-    ends-alike : (c : Configuration) (o : Outcome) → Ends G c o → Ends G' c o
-    ends-alike c outcome.Settled h = h
-    ends-alike c (outcome.Ring d) h = (
-      h .0,
-      h .1,
-      (
-        h .2 .0,
-        at-alike (rightOf lefts) (rightOf lefts') darts (α .same-rights) (c .tables .parents) (front c) faces (h .2 .0) (h .2 .1),
-        h .2 .2,
-      ),
-    )
+      ends-alike : (c : Configuration) → PassingAt (dual G roots) c → (u : Tables) (o : Outcome) → Ends G c u o → Ends G' c u o
+      ends-alike c r u outcome.Settled h = h
+      ends-alike c r u (outcome.Ring d) h = (h .0, whole-alike c r (h .1))
 
     module _ (queue : List ℕ) (roots : ℕ) (size : length queue ≡ 1024) (few : roots ≤ 1024)
         (sound : WellFormed (dual G (take roots queue))) (joined : Joined (dual G (take roots queue))) where
-      pub searches-alike : {ρ : List ℤ} {parents : List ℕ} {o : Outcome} → Searches G queue roots ρ parents o → Searches G' queue roots ρ parents o
-      searches-alike {o = o} s = record {
-        first-potentials = s .first-potentials;
-        first-parents = s .first-parents;
-        first-waiting = s .first-waiting;
-        begun = s .begun;
-        end = s .end;
-        run = goes-alike (take roots queue) sound (begun-passing G queue roots size few sound joined (s .begun)) (s .run);
-        ended = ends-alike (s .end) o (s .ended);
-        potentials-are = s .potentials-are;
-        parents-are = s .parents-are;
-      }
+      pub searches-alike : {proposal : List ℕ} {ρ : List ℤ} {parents : List ℕ} {o : Outcome} → Searches G queue roots proposal ρ parents o
+          → Searches G' queue roots proposal ρ parents o
+      searches-alike {o = o} s =
+          let r = start-passing G queue roots size few sound joined γ (s .begun) in
+          record {
+            first-potentials = s .first-potentials;
+            first-parents = s .first-parents;
+            first-waiting = s .first-waiting;
+            begun = begun-alike (s .begun);
+            end = s .end;
+            run = goes-alike (take roots queue) sound r (s .run);
+            left = s .left;
+            ended = ends-alike (take roots queue) sound (s .end) (goes-passing G (take roots queue) sound γ r (s .run)) (s .left) o (s .ended);
+            potentials-are = s .potentials-are;
+            parents-are = s .parents-are;
+          }
 
       -- the same answer, and the same parents
-      pub alike-one : {ρ ρ' : List ℤ} {parents parents' : List ℕ} {o p : Outcome} → Searches G queue roots ρ parents o
-          → Searches G' queue roots ρ' parents' p → (o ≡ p) × (parents ≡ parents')
+      pub alike-one : {proposal : List ℕ} {ρ ρ' : List ℤ} {parents parents' : List ℕ} {o p : Outcome} → Searches G queue roots proposal ρ parents o
+          → Searches G' queue roots proposal ρ' parents' p → (o ≡ p) × (parents ≡ parents')
       alike-one s t = let r = searches-one (searches-alike s) t in (r .0, r .2)

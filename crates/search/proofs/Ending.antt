@@ -1,38 +1,65 @@
 -- What a search answers follows from how it goes: settled potentials, or a ring.
-use mathlib.Core.Path.{_≡_, subst}
+use mathlib.Core.Path.{_≡_, _∙_, ap, subst}
 use mathlib.Core.List.{List}
 use Prim.Native.Nat.{ℕ, _≤_}
+use native.Mathlib.Omega.{arith}
 use lib.ListN.{length, take}
 use lib.IntN.{ℤ}
+use Rattle.arrays.specs.At.{atℤ}
 use Rattle.search.specs.Dual.{WellFormed, Joined}
+use Rattle.search.specs.inner.Settled.{Settled}
 use Rattle.search.specs.inner.Answer.{Answer}
+use Rattle.search.specs.Moves.{Begun}
 use Rattle.search.specs.Given.{Given, dual, InGroups}
-use Rattle.search.specs.Configuration.{Configuration}
-use Rattle.search.specs.Trace.{Ends, Searches}
+use Rattle.search.specs.Configuration.{Tables, Configuration}
+use Rattle.search.specs.Trace.{start, Ends, Searches}
 use Rattle.search.specs.declared.Outcome.{Outcome}
 use Rattle.search.specs.declared.Outcome.the-variants as outcome
-use Rattle.search.proofs.Rounds.{end-settled, end-ring}
+use Rattle.search.proofs.Reached.{settled}
 use Rattle.search.proofs.Beginning.{begun-passing}
-use Rattle.search.proofs.Run.{PassingAt, goes-passing}
+use Rattle.search.proofs.Sweeping.{swept-none, swept-ring, swept-size}
+use Rattle.search.proofs.Run.{PassingAt, bound, bound-wide, bound-few, goes-passing}
 
-module _ (G : Given) (roots : List ℕ) (sound : WellFormed (dual G roots)) (joined : Joined (dual G roots)) where
-  pub end-answer : (c : Configuration) → PassingAt (dual G roots) c → (o : Outcome) → Ends G c o
-      → Answer (dual G roots) (c .tables .potentials) (c .tables .parents) o
-  end-answer c r outcome.Settled h = end-settled sound r joined (h .1)
-  end-answer c r (outcome.Ring d) h = end-ring sound r (h .0) (h .2 .0) (h .2 .1 .0) (h .2 .1 .1) d (h .2 .2)
+module _ (G : Given) (roots : List ℕ) (sound : WellFormed (dual G roots)) where
+  module _ (c : Configuration) (r : PassingAt (dual G roots) c) where
+    end-settled : Joined (dual G roots) → c .first ≡ c .tables .last → Settled (dual G roots) (atℤ (c .tables .potentials))
+    end-settled joined e =
+        settled sound joined (r .passing .state) (r .passing .quiet)
+        (λ f l h. let s = r .passing .line .stands f l h in omega (arith, s .1, s .2)) (bound-few (G .faces) (c .left) (sound .few-faces))
+
+    pub end-answer : Joined (dual G roots) → (u : Tables) (o : Outcome) → Ends G c u o → Answer (dual G roots) (u .potentials) (u .parents) o
+    end-answer joined u outcome.Settled h = rw (h .2) (end-settled joined (h .1))
+    end-answer joined u (outcome.Ring d) h =
+        swept-ring (G .lefts) (G .lengths) (G .darts) (G .faces) roots sound (bound-wide (G .faces) (c .left))
+        (bound-few (G .faces) (c .left) (sound .few-faces))
+        (swept-none (G .lefts) (G .lengths) (G .darts) (G .faces) roots sound (r .passing)) (h .1)
+
+    pub end-sized : (u : Tables) (o : Outcome) → Ends G c u o → length (u .parents) ≡ 1024
+    end-sized u outcome.Settled h = ap (λ t. length (t .parents)) (h .2) ∙ r .passing .size-parents
+    end-sized u (outcome.Ring d) h =
+        swept-size (G .lefts) (G .lengths) (G .darts) (G .faces) roots sound (bound-wide (G .faces) (c .left))
+        (bound-few (G .faces) (c .left) (sound .few-faces))
+        (swept-none (G .lefts) (G .lengths) (G .darts) (G .faces) roots sound (r .passing)) (h .1)
 
 module _ (G : Given) (queue : List ℕ) (roots : ℕ) (size : length queue ≡ 1024) (few : roots ≤ 1024)
     (sound : WellFormed (dual G (take roots queue))) (joined : Joined (dual G (take roots queue))) (g : InGroups G) where
-  pub answered : {potentials : List ℤ} {parents : List ℕ} {o : Outcome} → Searches G queue roots potentials parents o
-      → Answer (dual G (take roots queue)) potentials parents o
-  answered {potentials} {parents} {o} s =
-      subst (λ ρ. Answer (dual G (take roots queue)) ρ parents o) (s .potentials-are)
-      (subst (λ p. Answer (dual G (take roots queue)) (s .end .tables .potentials) p o) (s .parents-are)
-      (end-answer G (take roots queue) sound joined (s .end)
-      (goes-passing G (take roots queue) sound g (begun-passing G queue roots size few sound joined (s .begun)) (s .run)) o (s .ended)))
+  -- the beginning
+  pub start-passing : {proposal : List ℕ} {ρ : List ℤ} {parents waiting : List ℕ}
+      → Begun (G .lefts) (G .darts) (G .faces) proposal ρ parents waiting queue roots
+      → PassingAt (dual G (take roots queue)) (start ρ parents waiting queue roots)
+  start-passing b = record { in-period = omega arith; passing = begun-passing G queue roots size few sound joined b (bound (G .faces) 0) }
 
-  -- the parents are still an array of 1,024
-  pub parents-sized : {potentials : List ℤ} {parents : List ℕ} {o : Outcome} → Searches G queue roots potentials parents o → length parents ≡ 1024
-  parents-sized s =
-      subst (λ p. length p ≡ 1024) (s .parents-are)
-      (goes-passing G (take roots queue) sound g (begun-passing G queue roots size few sound joined (s .begun)) (s .run) .size-parents)
+  module _ {proposal : List ℕ} {potentials : List ℤ} {parents : List ℕ} {o : Outcome} (s : Searches G queue roots proposal potentials parents o) where
+    at-end : PassingAt (dual G (take roots queue)) (s .end)
+    at-end = goes-passing G (take roots queue) sound g (start-passing (s .begun)) (s .run)
+
+    pub answered : Answer (dual G (take roots queue)) potentials parents o
+    answered =
+        subst (λ ρ. Answer (dual G (take roots queue)) ρ parents o) (s .potentials-are)
+        (subst (λ p. Answer (dual G (take roots queue)) (s .left .potentials) p o) (s .parents-are)
+        (end-answer G (take roots queue) sound (s .end) at-end joined (s .left) o (s .ended)))
+
+    -- the parents are still an array of 1,024
+    pub parents-sized : length parents ≡ 1024
+    parents-sized =
+        subst (λ p. length p ≡ 1024) (s .parents-are) (end-sized G (take roots queue) sound (s .end) at-end (s .left) o (s .ended))

@@ -64,15 +64,15 @@ mag-add (pos a) (negsuc b) = omega (arith, mag-sub a (suc b))
 mag-add (negsuc a) (pos b) = omega (arith, mag-sub b (suc a))
 mag-add (negsuc a) (negsuc b) = omega arith
 
-pub near-not-far : (z : ℤ) → mag z < 4611686018427387904 → z ≡ far → ⊥
+pub near-not-far : (z : ℤ) → mag z < 2000000000000000 → z ≡ far → ⊥
 near-not-far z h e = omega (arith, ap mag e)
 
 -- what is at most a near number is not far
-le-near : (y : ℤ) → far ≤ℤ y → mag y < 4611686018427387904 → ⊥
+le-near : (y : ℤ) → far ≤ℤ y → mag y < 2000000000000000 → ⊥
 le-near (pos b) h l = let a : Parts far × Parts (pos b) = search parts in omega (arith, from-at-most h a)
 le-near (negsuc b) h l = let a : Parts far × Parts (negsuc b) = search parts in omega (arith, from-at-most h a)
 
-pub below-near : (x y : ℤ) → x ≤ℤ y → mag y < 4611686018427387904 → x ≡ far → ⊥
+pub below-near : (x y : ℤ) → x ≤ℤ y → mag y < 2000000000000000 → x ≡ far → ⊥
 below-near x y h l e = le-near y (rw e at h) l
 
 -- ── tests of two numbers that are known under other names ──

@@ -30,11 +30,11 @@ isSet-true z h = by (either (eqZ z far))
 
 isSet-is : (z : ℤ) → isSet z ≡ true → z ≡ far → ⊥
 unfolding isSet eqZ
-isSet-is z h e = false≢true (sym (ap not (eqb-true 4611686018427387904 4611686018427387904 refl)) ∙ ap (λ w. not (eqZ w far)) (sym e) ∙ h)
+isSet-is z h e = false≢true (sym (ap not (eqb-true 2000000000000000 2000000000000000 refl)) ∙ ap (λ w. not (eqZ w far)) (sym e) ∙ h)
 
 module _ {N : Dual} (sound : WellFormed N) (joined : Joined N)
-    {ρ : ℕ → ℤ} {parent waiting : ℕ → ℕ} {n k : ℕ} {passed : ℕ → Type 0} (s : State N ρ parent waiting n k passed)
-    (q : Quiet N ρ waiting (λ d. ⊥)) (rests : (f : ℕ) → f < N .faces → waiting f ≡ 1 → ⊥) (few : n ≤ 2000000000) where
+    {ρ : ℕ → ℤ} {parent waiting : ℕ → ℕ} {b : ℕ} (s : State N ρ parent waiting b)
+    (q : Quiet N ρ waiting (λ d. ⊥)) (rests : (f : ℕ) → f < N .faces → waiting f ≡ 1 → ⊥) (few : b < 1600000) where
   -- what a dart leads to from a reached face is reached
   onward-set : (d : ℕ) → d < N .darts → (ρ (N .right d) ≡ far → ⊥) → ρ (N .left d) ≡ far → ⊥
   onward-set d l h =

@@ -5,8 +5,9 @@ use lib.ListN.{take}
 use Rattle.search.specs.Given.{Given, dual}
 use Rattle.search.specs.Configuration.{Configuration, front}
 use Rattle.search.specs.Statements.{ComesTo, past, WhereALevelFell}
-use Rattle.search.proofs.Beginning.{root-face, begun-passing}
+use Rattle.search.proofs.Beginning.{root-face}
 use Rattle.search.proofs.Run.{PassingAt, goes-passing}
+use Rattle.search.proofs.Ending.{start-passing}
 use Rattle.search.proofs.Between.{Told, begun-told, goes-told, once, only-waiting, waits-fell, fell-waits, front-waits, kept-place, came-behind}
 use Rattle.search.proofs.Determined.{searches-one}
 
@@ -14,13 +15,13 @@ module _ (G : Given) (queue : List ℕ) (roots : ℕ) (c : Configuration) (h : C
   passing : PassingAt (dual G (take roots queue)) c
   passing =
       goes-passing G (take roots queue) (h .sound) (h .in-groups)
-      (begun-passing G queue roots (h .size) (h .few) (h .sound) (h .joined) (h .begun)) (h .run)
+      (start-passing G queue roots (h .size) (h .few) (h .sound) (h .joined) (h .in-groups) (h .begun)) (h .run)
 
   told : Told (G .faces) (c .tables .waiting) (past h)
   told =
       goes-told G (take roots queue) (h .sound) (h .in-groups) _
-      (begun-passing G queue roots (h .size) (h .few) (h .sound) (h .joined) (h .begun)) (h .run)
-      (begun-told (G .faces) queue roots (h .sound .few-faces) (root-face G queue roots (h .size) (h .few) (h .sound)) (h .begun))
+      (start-passing G queue roots (h .size) (h .few) (h .sound) (h .joined) (h .in-groups) (h .begun)) (h .run)
+      (begun-told queue roots (h .sound .few-faces) (root-face G queue roots (h .size) (h .few) (h .sound)) (h .begun))
 
 pub where-a-level-fell : WhereALevelFell
 where-a-level-fell = record {
@@ -38,5 +39,5 @@ where-a-level-fell = record {
         waits-fell G (take roots queue) (h .sound) (h .in-groups) c r t f,
         fell-waits G (take roots queue) (h .sound) (h .in-groups) c r t f,
       );
-  one-end = λ G queue roots potentials potentials' parents parents' o o' a b. searches-one a b;
+  one-end = λ G queue roots proposal potentials potentials' parents parents' o o' a b. searches-one a b;
 }

@@ -8,7 +8,7 @@ use Rattle.search.specs.Dual.{Dual}
 
 -- what stands in the place of a level where no walk from a root has come yet: more than any level
 abbrev pub far : ℤ
-far = pos 4611686018427387904
+far = pos 2000000000000000
 
 abbrev pub HasLevel : (ℕ → ℤ) → ℕ → Type 0
 HasLevel ρ f = ρ f ≡ far → ⊥

@@ -6,7 +6,7 @@ pub mod Moves
 pub mod Given
 pub mod Configuration
 pub mod Look
-pub mod Due
+pub mod Straightening
 pub mod Trace
 pub mod History
 pub mod Waiting

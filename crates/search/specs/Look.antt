@@ -18,11 +18,12 @@ pub data Crosses (G : Given) (i e : ℕ) : ℕ → Tables → Tables → Type 0 
   lower : {j : ℕ} {t u v : Tables} → j < e
       → Relaxed (G .lefts) (G .lengths) (t .potentials) (t .parents) (u .potentials) (u .parents) i (at (G .order) j) true
       → Pushed (t .waiting) (t .queue) (u .waiting) (u .queue) (at (G .lefts) (at (G .order) j)) (t .last) (u .last)
-      → u .lowerings ≡ t .lowerings + 1
       → Crosses G i e (j + 1) u v → Crosses G i e j t v
+
+-- the face i waits no more
+abbrev pub takenUp : (i : ℕ) → Tables → Tables
+takenUp i t = tablesOf (t .potentials) (t .parents) (set (t .waiting) i 0) (t .queue) (t .last)
 
 -- the look at the face i: it waits no more, and the darts right of which it lies are crossed
 abbrev pub LookAt : (G : Given) (i : ℕ) → Tables → Tables → Type 0
-LookAt G i t u =
-    Crosses G i (at (G .ends) i) (at (G .starts) i)
-    (tablesOf (t .potentials) (t .parents) (set (t .waiting) i 0) (t .queue) (t .lowerings) (t .last)) u
+LookAt G i t u = Crosses G i (at (G .ends) i) (at (G .starts) i) (takenUp i t) u

@@ -18,18 +18,19 @@ use Rattle.search.specs.History.{Event, history, firstLevels, FellSince}
 use Rattle.search.specs.Waiting.{WaitsAt, Waits}
 use Rattle.search.specs.declared.Outcome.{Outcome}
 
--- a search from the faces at the first places of `queue` has come to c, between two looks
+-- a search from the faces at the first places of `queue`, with some parents proposed, has come to c, between two looks
 pub record ComesTo (G : Given) (queue : List ℕ) (roots : ℕ) (c : Configuration) : Type 0 where
   pub sound : WellFormed (dual G (take roots queue))
   pub joined : Joined (dual G (take roots queue))
   pub in-groups : InGroups G
   pub size : length queue ≡ 1024
   pub few : roots ≤ 1024
+  pub proposal : List ℕ
   pub potentials : List ℤ
   pub parents : List ℕ
   pub waiting : List ℕ
-  pub begun : Begun potentials parents waiting queue roots
-  pub run : Goes G (start G potentials parents waiting queue roots) c
+  pub begun : Begun (G .lefts) (G .darts) (G .faces) proposal potentials parents waiting queue roots
+  pub run : Goes G (start potentials parents waiting queue roots) c
 
 -- what happened until then, the latest first
 abbrev pub past : {G : Given} {queue : List ℕ} {roots : ℕ} {c : Configuration} → ComesTo G queue roots c → List Event
@@ -38,7 +39,7 @@ past {queue = queue} {roots = roots} h = history (h .run) (firstLevels queue roo
 pub record WhereALevelFell : Type 0 where
   -- "take up only faces whose level fell since they were last looked at": of the face that is looked at next
   pub taken-up-fell : (G : Given) (queue : List ℕ) (roots : ℕ) (c : Configuration) (h : ComesTo G queue roots c)
-      → c .first < c .stop → FellSince (front c) (past h)
+      → c .first < c .tables .last → FellSince (front c) (past h)
   -- "first come first": who waits at c keeps his place until the looks have come to it, and looks go place by place; ..
   pub keeps-place : (G : Given) (queue : List ℕ) (roots : ℕ) (c d : Configuration) → ComesTo G queue roots c → Goes G c d
       → (i f : ℕ) → WaitsAt c i f → d .first ≤ i → WaitsAt d i f
@@ -55,6 +56,6 @@ pub record WhereALevelFell : Type 0 where
   pub waits-exactly : (G : Given) (queue : List ℕ) (roots : ℕ) (c : Configuration) (h : ComesTo G queue roots c)
       → (f : ℕ) → Waits c f ↔ FellSince f (past h)
   -- what the search leaves follows from what it is given
-  pub one-end : (G : Given) (queue : List ℕ) (roots : ℕ) (potentials potentials' : List ℤ) (parents parents' : List ℕ) (o o' : Outcome)
-      → Searches G queue roots potentials parents o → Searches G queue roots potentials' parents' o'
+  pub one-end : (G : Given) (queue : List ℕ) (roots : ℕ) (proposal : List ℕ) (potentials potentials' : List ℤ) (parents parents' : List ℕ) (o o' : Outcome)
+      → Searches G queue roots proposal potentials parents o → Searches G queue roots proposal potentials' parents' o'
       → (o ≡ o') × (potentials ≡ potentials') × (parents ≡ parents')

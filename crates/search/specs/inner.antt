@@ -4,4 +4,4 @@ pub mod Walk
 pub mod Settled
 pub mod Answer
 pub mod Progress
-pub mod Upward
+pub mod Ascending

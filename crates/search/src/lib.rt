@@ -1,27 +1,38 @@
-// The face search (Bellman and Ford, with a queue): settled potentials, or a ring of faces whose lengths add to less than zero.
+// The face search (Bellman and Ford's shortest paths, with a queue of the faces whose potential fell): settled potentials, or a ring of faces whose lengths add
+// to less than zero.
 //
 // A face whose potential fell waits in a queue until it is looked at. Its look crosses the darts right of which it lies, and each left face that falls comes to
-// wait, unless it does already: first come, first looked at. A round is the places that were taken at its beginning. There are at most as many rounds as
-// faces, and each is linear in darts and faces.
+// wait, unless it does already: first come, first looked at. Each face has a parent, the dart over which it last fell. After each 3/2 as many looks as there are
+// faces the levels are straightened: every face falls to the length of its own walk of parents, so that a fall near a root reaches all faces below it at once.
+// Where the parents lead round, they are the ring. The first levels are laid by the same pass, along parents that may be proposed: a tree of an earlier search
+// costs one look at each face where it is still right, and else the search corrects it.
+//
+// It takes at most as many rounds of the queue as there are faces, each linear in darts and faces; on drawings some three looks at each face are usual. Moore
+// 1959 (the queue); Cherkassky and Goldberg 1999 (parents that lead round, levels that are updated along them).
 ghost use mathlib.Core.Path.{_≡_};
-ghost use Prim.Native.Nat.{ℕ, _+_, _%_, _<_, _≤_};
+ghost use mathlib.Core.Bool.{true, false};
+ghost use Prim.Native.Nat.{ℕ, _+_, _<_, _≤_};
 ghost use lib.ListN.{length, take};
 ghost use lib.Signed.{mag};
 ghost use Rattle.grouping.specs.Grouped.{Grouped};
 ghost use Rattle.arrays.specs.At.{at, atℤ};
 ghost use Rattle.arrays.specs.Maps.{rightOf};
 ghost use Rattle.search.specs.Dual.{dualOf, WellFormed, Joined};
+ghost use Rattle.search.specs.Parents.{up};
 ghost use Rattle.search.specs.inner.Answer.{Answer};
-ghost use Rattle.search.specs.Queue.{faceAt, Pushed};
-ghost use Rattle.search.specs.Moves.{Begun, Relaxed, Climb};
+ghost use Rattle.search.specs.Queue.{Pushed};
+ghost use Rattle.search.specs.Moves.{sensible, parentFrom, Begun, Relaxed};
 ghost use Rattle.search.specs.Given.{given};
 ghost use Rattle.search.specs.Configuration.{tablesOf};
 ghost use Rattle.search.specs.Look.{LookAt};
-ghost use Rattle.search.specs.Due.{dueNow};
+ghost use Rattle.search.specs.Straightening.{unmarked, Follows, Descends, Closes, Straightens};
 ghost use Rattle.search.specs.Trace.{Searches};
-ghost use Rattle.search.specs.inner.Progress.{Looking};
-ghost use Rattle.search.specs.inner.Upward.{GoneUp};
+ghost use Rattle.search.specs.inner.Progress.{Looking, Lowering, Straightening};
+ghost use Rattle.search.specs.inner.Ascending.{Ascended};
 ghost use Rattle.search.specs.Level.{far};
+
+// What stands in the place of a level where a face has none yet.
+const FAR: i64 = 2000000000000000;
 
 // Settled potentials, or the dart that closes a ring.
 pub enum Outcome {
@@ -29,22 +40,16 @@ pub enum Outcome {
     Ring(usize),
 }
 
-enum Climbed {
-    Ended,
-    At(usize),
+// No parents lead round, and the end of the queue; or the dart that closes a ring.
+enum Straightened {
+    Straight(usize),
+    Ring(usize),
 }
 
-// A face, how many steps up led to it, and whether it lacks a parent.
-struct Gone {
-    face: usize,
-    steps: usize,
-    ended: bool,
-}
-
-// The lowerings so far, and the end of the queue.
-struct Looked {
-    lowerings: usize,
-    last: usize,
+// How many faces an ascent went through, and the face that it came to.
+struct Risen {
+    count: usize,
+    top: usize,
 }
 
 // Crosses the dart d from its right face i: lowers the potential of its left face if it can, and says whether.
@@ -73,7 +78,7 @@ fn relax(
 
 // The face f comes to wait, unless it does already. Returns the end of the queue.
 fn push(waiting: &mut [u8; 1024], queue: &mut [u16; 1024], f: usize, last: usize) -> usize
-    requires { ⌜ (length (now waiting) ≡ 1024) × (length (now queue) ≡ 1024) × (f < 1024) × (last < 4294967296) ⌝ }
+    requires { ⌜ (length (now waiting) ≡ 1024) × (length (now queue) ≡ 1024) × (f < 1024) × (last ≤ 4000000000000000000) ⌝ }
     ensures { λ r. ⌜ Pushed (now (waiting .entry)) (now (queue .entry)) (now (waiting .exit)) (now (queue .exit)) f last r ⌝ }
 {
     if waiting[f] == 1 {
@@ -84,108 +89,35 @@ fn push(waiting: &mut [u8; 1024], queue: &mut [u16; 1024], f: usize, last: usize
     last + 1
 }
 
-// Some steps up from x, as many as are asked for at most: fewer where a face lacks a parent, or x comes again. They go by twos, which an even ring does not
-// notice and an odd one is gone round twice for. `faces` is named by the contract only.
-fn go_up(
-    lefts: &[u16; 1024],
-    parents: &[u16; 1024],
-    darts: usize,
-    faces: usize,
-    x: usize,
-    most: usize,
-) -> Gone
-    requires { ⌜ (darts ≤ 1024) × (faces ≤ 1024) × (x < faces) × ((d : ℕ) → d < darts → rightOf (now lefts) d < faces)
-        × (0 < most) × (most ≤ 1024) × (most % 2 ≡ 0) ⌝ }
-    ensures { λ r. ⌜ GoneUp (rightOf (now (lefts .entry))) darts faces (now (parents .entry)) x most (r .face) (r .steps) (r .ended) ⌝ }
+// Whether p can be the parent of the face f: a dart with f on its left.
+fn is_sensible(lefts: &[u16; 1024], darts: usize, f: usize, p: usize) -> bool
+    requires { ⌜ darts ≤ 1024 ⌝ }
+    ensures { λ r. ⌜ r ≡ sensible (now (lefts .entry)) darts f p ⌝ }
 {
-    let mut y = x;
-    let mut a: usize = 0;
-    while a < most {
-        let p = arrays::wide(parents[y]);
-        if darts <= p {
-            return Gone {
-                face: y,
-                steps: a,
-                ended: true,
-            };
+    p < darts && arrays::wide(lefts[p]) == f
+}
+
+// Of the proposed parents those stay that can be parents.
+fn take_parents(lefts: &[u16; 1024], darts: usize, faces: usize, parents: &mut [u16; 1024])
+    requires { ⌜ (length (now parents) ≡ 1024) × (darts ≤ 1024) × (faces ≤ 1024) ⌝ }
+    ensures { λ _. ⌜ (length (now (parents .exit)) ≡ 1024)
+        × ((f : ℕ) → f < faces → at (now (parents .exit)) f ≡ parentFrom (now (lefts .entry)) darts (now (parents .entry)) f)
+        × ((f : ℕ) → faces ≤ f → at (now (parents .exit)) f ≡ at (now (parents .entry)) f) ⌝ }
+{
+    for f in 0..faces {
+        let p = arrays::wide(parents[f]);
+        if !is_sensible(lefts, darts, f, p) {
+            parents[f] = 1024;
         }
-        let z = arrays::right(lefts, p);
-        let q = arrays::wide(parents[z]);
-        if darts <= q {
-            return Gone {
-                face: z,
-                steps: a + 1,
-                ended: true,
-            };
-        }
-        y = arrays::right(lefts, q);
-        a += 2;
-        if y == x {
-            return Gone {
-                face: y,
-                steps: a,
-                ended: false,
-            };
-        }
-    }
-    Gone {
-        face: y,
-        steps: a,
-        ended: false,
     }
 }
 
-// How many steps to go at once, by twos: as many as have been gone, and some more, but no more than are left.
-fn stretch(gone: usize, left: usize) -> usize
-    requires { ⌜ (gone ≤ 1024) × (1 < left) ⌝ }
-    ensures { λ r. ⌜ (0 < r) × (r ≤ left) × (r % 2 ≡ 0) ⌝ }
-{
-    if gone + 16 < left {
-        return 2 * (gone / 2) + 16;
-    }
-    2 * (left / 2)
-}
-
-// As many steps up from x as there are faces: they end on a ring, unless one lacks a parent. Where a face comes again the steps go round, and as many as lead
-// round are left out: a ring that x is near costs some of its own length, and not a step for each face.
-fn climb(
-    lefts: &[u16; 1024],
-    parents: &[u16; 1024],
-    darts: usize,
-    faces: usize,
-    x: usize,
-) -> Climbed
-    requires { ⌜ (darts ≤ 1024) × (faces ≤ 1024) × (x < faces) × ((d : ℕ) → d < darts → rightOf (now lefts) d < faces) ⌝ }
-    ensures { λ r. ⌜ Climb (rightOf (now (lefts .entry))) darts faces (now (parents .entry)) x r ⌝ }
-{
-    let mut y = x;
-    let mut left = faces;
-    while 1 < left {
-        let most = stretch(faces - left, left);
-        let gone = go_up(lefts, parents, darts, faces, y, most);
-        if gone.ended {
-            return Climbed::Ended;
-        }
-        if gone.face == y {
-            left = left % gone.steps;
-        } else {
-            left -= gone.steps;
-        }
-        y = gone.face;
-    }
-    if left == 0 {
-        return Climbed::At(y);
-    }
-    let p = arrays::wide(parents[y]);
-    if darts <= p {
-        return Climbed::Ended;
-    }
-    Climbed::At(arrays::right(lefts, p))
-}
-
-// At first the roots, which stand at the first places of the queue, are at 0 and wait; no other face has a level, and none has a parent. Potentials and flags
-// come as new arrays are made, without levels and at rest: to fill them once more would cost as much as some looks.
+// At first the roots, which stand at the first places of the queue, are at 0 and wait, without a parent; no other face has a level. Potentials and flags come as
+// new arrays are made, without levels and at rest: to fill them once more would cost as much as some looks.
 fn begin(
+    lefts: &[u16; 1024],
+    darts: usize,
+    faces: usize,
     potentials: &mut [i64; 1024],
     parents: &mut [u16; 1024],
     waiting: &mut [u8; 1024],
@@ -193,28 +125,199 @@ fn begin(
     roots: usize,
 )
     requires { ⌜ (length (now potentials) ≡ 1024) × (length (now parents) ≡ 1024) × (length (now waiting) ≡ 1024) × (roots ≤ 1024)
-        × ((m : ℕ) → m < roots → at (now queue) m < 1024)
+        × ((m : ℕ) → m < roots → at (now queue) m < 1024) × (darts ≤ 1024) × (faces ≤ 1024)
         × ((f : ℕ) → f < 1024 → atℤ (now potentials) f ≡ far) × ((f : ℕ) → f < 1024 → at (now waiting) f ≡ 0) ⌝ }
-    ensures { λ _. ⌜ Begun (now (potentials .exit)) (now (parents .exit)) (now (waiting .exit)) (now (queue .entry)) roots ⌝ }
+    ensures { λ _. ⌜ Begun (now (lefts .entry)) darts faces (now (parents .entry)) (now (potentials .exit)) (now (parents .exit)) (now (waiting .exit))
+        (now (queue .entry)) roots ⌝ }
 {
-    for f in 0..1024usize {
-        parents[f] = 1024;
-    }
+    take_parents(lefts, darts, faces, &mut *parents);
     for m in 0..roots {
         let f = arrays::wide(queue[m]);
         potentials[f] = 0;
+        parents[f] = 1024;
         waiting[f] = 1;
     }
 }
 
-// Whether to look for a ring: in the last round, where a face that waits is sure to be above one, and before that once `next` lowerings are made.
-fn due(faces: usize, round: usize, next: usize, lowerings: usize) -> bool
-    ensures { λ r. ⌜ r ≡ dueNow faces round next lowerings ⌝ }
+// Goes up from the face f over parents, through faces that have one and are not marked; marks each with f + 1 and notes it.
+fn ascend(
+    lefts: &[u16; 1024],
+    parents: &[u16; 1024],
+    darts: usize,
+    faces: usize,
+    f: usize,
+    marks: &mut [u16; 1024],
+    noted: &mut [u16; 1024],
+) -> Risen
+    requires { ⌜ (length (now marks) ≡ 1024) × (length (now noted) ≡ 1024) × (darts ≤ 1024) × (faces ≤ 1024) × (f < faces)
+        × ((d : ℕ) → d < darts → rightOf (now lefts) d < faces) ⌝ }
+    ensures { λ r. ⌜ Ascended (up (rightOf (now (lefts .entry))) (at (now (parents .entry)))) darts faces (now (parents .entry)) f
+        (now (marks .entry)) (now (marks .exit)) (now (noted .exit)) (r .count) (r .top) ⌝ }
 {
-    round == faces || next <= lowerings
+    let mut y = f;
+    let mut count: usize = 0;
+    loop {
+        let p = arrays::wide(parents[y]);
+        if darts <= p {
+            return Risen {
+                count: count,
+                top: y,
+            };
+        }
+        if marks[y] != 0 {
+            return Risen {
+                count: count,
+                top: y,
+            };
+        }
+        marks[y] = (f + 1) as u16;
+        noted[count] = y as u16;
+        count += 1;
+        y = arrays::right(lefts, p);
+    }
 }
 
-// Looks at the face i, which stands at the first place of the queue: it waits no more, and the darts whose right face it is are crossed.
+// Whether the face f has no level.
+fn is_far(potentials: &[i64; 1024], f: usize) -> bool
+    requires { ⌜ f < 1024 ⌝ }
+    ensures { λ r. ⌜ (r ≡ true → atℤ (now (potentials .entry)) f ≡ far) × (r ≡ false → atℤ (now (potentials .entry)) f ≡ far → ⊥) ⌝ }
+{
+    potentials[f] == FAR
+}
+
+// The face y follows its parent: it falls to the level across it plus its length, or is there already. Where the face across has no level, y is left without a
+// parent. Returns the end of the queue.
+fn follow(
+    lefts: &[u16; 1024],
+    lengths: &[i32; 1024],
+    potentials: &mut [i64; 1024],
+    parents: &mut [u16; 1024],
+    waiting: &mut [u8; 1024],
+    queue: &mut [u16; 1024],
+    y: usize,
+    last: usize,
+) -> usize
+    requires { ⌜ (length (now potentials) ≡ 1024) × (length (now parents) ≡ 1024) × (length (now waiting) ≡ 1024) × (length (now queue) ≡ 1024)
+        × (y < 1024) × (at (now parents) y < 1024) × (at (now lefts) (at (now parents) y) < 1024) × (rightOf (now lefts) (at (now parents) y) < 1024)
+        × (last ≤ 4000000000000000000)
+        × ((atℤ (now potentials) (rightOf (now lefts) (at (now parents) y)) ≡ far → ⊥)
+        → mag (atℤ (now potentials) (rightOf (now lefts) (at (now parents) y))) + mag (atℤ (now lengths) (at (now parents) y)) + 1 < 9223372036854775808) ⌝ }
+    ensures { λ r. ⌜ Follows (now (lefts .entry)) (now (lengths .entry)) y
+        (tablesOf (now (potentials .entry)) (now (parents .entry)) (now (waiting .entry)) (now (queue .entry)) last)
+        (tablesOf (now (potentials .exit)) (now (parents .exit)) (now (waiting .exit)) (now (queue .exit)) r) ⌝ }
+{
+    let p = arrays::wide(parents[y]);
+    let w = arrays::right(lefts, p);
+    if is_far(&*potentials, w) {
+        parents[y] = 1024;
+        return last;
+    }
+    if relax(lefts, lengths, &mut *potentials, &mut *parents, w, p) {
+        return push(&mut *waiting, &mut *queue, y, last);
+    }
+    last
+}
+
+// The noted faces follow their parents, the last one first. Returns the end of the queue.
+fn descend(
+    lefts: &[u16; 1024],
+    lengths: &[i32; 1024],
+    darts: usize,
+    faces: usize,
+    noted: &[u16; 1024],
+    count: usize,
+    potentials: &mut [i64; 1024],
+    parents: &mut [u16; 1024],
+    waiting: &mut [u8; 1024],
+    queue: &mut [u16; 1024],
+    last: usize,
+) -> usize
+    requires { ⌜ Lowering (dualOf (now lefts) (now lengths) darts faces)
+        (tablesOf (now potentials) (now parents) (now waiting) (now queue) last) (now noted) count ⌝ }
+    ensures { λ r. ⌜ Descends (now (lefts .entry)) (now (lengths .entry)) (up (rightOf (now (lefts .entry))) (at (now (parents .entry)))) (at (now (noted .entry)) 0)
+        count (tablesOf (now (potentials .entry)) (now (parents .entry)) (now (waiting .entry)) (now (queue .entry)) last)
+        (tablesOf (now (potentials .exit)) (now (parents .exit)) (now (waiting .exit)) (now (queue .exit)) r) ⌝ }
+{
+    let mut k = count;
+    let mut end = last;
+    while 0 < k {
+        k -= 1;
+        let y = arrays::wide(noted[k]);
+        end = follow(
+            lefts,
+            lengths,
+            &mut *potentials,
+            &mut *parents,
+            &mut *waiting,
+            &mut *queue,
+            y,
+            end,
+        );
+    }
+    end
+}
+
+// Whether the ascent from f has come round: to the face y, which has a level and was met in this very ascent.
+fn is_round(potentials: &[i64; 1024], marks: &[u16; 1024], f: usize, y: usize) -> bool
+    requires { ⌜ (y < 1024) × (f < 1024) ⌝ }
+    ensures { λ r. ⌜ (r ≡ true → (at (now (marks .entry)) y ≡ f + 1) × (atℤ (now (potentials .entry)) y ≡ far → ⊥))
+        × (r ≡ false → at (now (marks .entry)) y ≡ f + 1 → (atℤ (now (potentials .entry)) y ≡ far → ⊥) → ⊥) ⌝ }
+{
+    if arrays::wide(marks[y]) == f + 1 {
+        return !is_far(potentials, y);
+    }
+    false
+}
+
+// Every face falls to the length of its own walk of parents, and comes to wait if it fell; or there is a ring of parents. Before the first look it lays the first
+// levels: then only roots have one, and a face whose parents do not lead to a root is left without a parent.
+fn straighten(
+    lefts: &[u16; 1024],
+    lengths: &[i32; 1024],
+    darts: usize,
+    faces: usize,
+    potentials: &mut [i64; 1024],
+    parents: &mut [u16; 1024],
+    waiting: &mut [u8; 1024],
+    queue: &mut [u16; 1024],
+    last: usize,
+) -> Straightened
+    requires { ⌜ Straightening (dualOf (now lefts) (now lengths) darts faces)
+        (tablesOf (now potentials) (now parents) (now waiting) (now queue) last) ⌝ }
+    ensures { λ r. ⌜ ((end : ℕ) × Straightens (now (lefts .entry)) (now (lengths .entry)) darts faces 0 unmarked
+        (tablesOf (now (potentials .entry)) (now (parents .entry)) (now (waiting .entry)) (now (queue .entry)) last)
+        (tablesOf (now (potentials .exit)) (now (parents .exit)) (now (waiting .exit)) (now (queue .exit)) end) r) ⌝ }
+{
+    let mut marks = [0u16; 1024];
+    let mut noted = [0u16; 1024];
+    let mut end = last;
+    for f in 0..faces {
+        let risen = ascend(lefts, &*parents, darts, faces, f, &mut marks, &mut noted);
+        let top = risen.top;
+        if is_round(&*potentials, &marks, f, top) {
+            return Straightened::Ring(arrays::wide(parents[top]));
+        }
+        if 0 < risen.count {
+            end = descend(
+                lefts,
+                lengths,
+                darts,
+                faces,
+                &noted,
+                risen.count,
+                &mut *potentials,
+                &mut *parents,
+                &mut *waiting,
+                &mut *queue,
+                end,
+            );
+        }
+    }
+    Straightened::Straight(end)
+}
+
+// Looks at the face i, which stands at the first place of the queue: it waits no more, and the darts whose right face it is are crossed. Returns the end of the
+// queue.
 fn look(
     lefts: &[u16; 1024],
     lengths: &[i32; 1024],
@@ -227,44 +330,35 @@ fn look(
     parents: &mut [u16; 1024],
     waiting: &mut [u8; 1024],
     queue: &mut [u16; 1024],
-    lowerings: usize,
-    first: usize,
-    stop: usize,
     last: usize,
-    round: usize,
     i: usize,
-) -> Looked
+) -> usize
     requires { ⌜ Looking (dualOf (now lefts) (now lengths) darts faces)
-        (tablesOf (now potentials) (now parents) (now waiting) (now queue) lowerings last) first stop round
-        × Grouped (rightOf (now lefts)) darts faces (now order) (now starts) (now ends)
-        × (round < faces) × (first < stop) × (i ≡ faceAt (now queue) first) ⌝ }
+        (tablesOf (now potentials) (now parents) (now waiting) (now queue) last) i
+        × Grouped (rightOf (now lefts)) darts faces (now order) (now starts) (now ends) ⌝ }
     ensures { λ r. ⌜ LookAt (given (now (lefts .entry)) (now (lengths .entry)) (now (order .entry)) (now (starts .entry)) (now (ends .entry)) darts faces) i
-        (tablesOf (now (potentials .entry)) (now (parents .entry)) (now (waiting .entry)) (now (queue .entry)) lowerings last)
-        (tablesOf (now (potentials .exit)) (now (parents .exit)) (now (waiting .exit)) (now (queue .exit)) (r .lowerings) (r .last)) ⌝ }
+        (tablesOf (now (potentials .entry)) (now (parents .entry)) (now (waiting .entry)) (now (queue .entry)) last)
+        (tablesOf (now (potentials .exit)) (now (parents .exit)) (now (waiting .exit)) (now (queue .exit)) r) ⌝ }
 {
     waiting[i] = 0;
     let mut j = arrays::wide(starts[i]);
     let e = arrays::wide(ends[i]);
-    let mut count = lowerings;
     let mut end = last;
     while j < e {
         let d = arrays::wide(order[j]);
         j += 1;
         if relax(lefts, lengths, &mut *potentials, &mut *parents, i, d) {
-            count += 1;
             end = push(&mut *waiting, &mut *queue, arrays::wide(lefts[d]), end);
         }
     }
-    Looked {
-        lowerings: count,
-        last: end,
-    }
+    end
 }
 
-// The search from the roots, which stand at the first places of the queue. Where it is settled, `potentials` has the highest potentials that no dart can lower,
-// with the roots at 0; where it answers a ring, its dart closes it: the face left of that dart is on the ring, the dart is that face's parent, and the parents
-// lead round: to the face right of the dart, then to the face right of that one's parent, and so on back. How it goes, look by look, is `Searches`. No face has
-// a level before, and none waits.
+// The search from the roots, which stand at the first places of the queue, and from the parents that stand in `parents`: any array, of which each element that is
+// no dart with its face on the left counts as none. Where it is settled, `potentials` has the highest potentials that no dart can lower, with the roots at 0;
+// where it answers a ring, its dart closes it: the face left of that dart is on the ring, the dart is that face's parent, and the parents lead round: to the face
+// right of the dart, then to the face right of that one's parent, and so on back. How it goes, look by look, is `Searches`. No face has a level before, and none
+// waits.
 pub fn search(
     lefts: &[u16; 1024],
     lengths: &[i32; 1024],
@@ -287,31 +381,47 @@ pub fn search(
     ensures { λ r. ⌜ Answer (dualOf (now (lefts .entry)) (now (lengths .entry)) darts faces (take roots (now (queue .entry))))
         (now (potentials .exit)) (now (parents .exit)) r
         × Searches (given (now (lefts .entry)) (now (lengths .entry)) (now (order .entry)) (now (starts .entry)) (now (ends .entry)) darts faces)
-        (now (queue .entry)) roots (now (potentials .exit)) (now (parents .exit)) r ⌝ }
+        (now (queue .entry)) roots (now (parents .entry)) (now (potentials .exit)) (now (parents .exit)) r ⌝ }
 {
     begin(
+        lefts,
+        darts,
+        faces,
         &mut *potentials,
         &mut *parents,
         &mut *waiting,
         &*queue,
         roots,
     );
-    let mut lowerings: usize = 0;
-    let mut next: usize = faces / 4;
-    let mut round: usize = 0;
     let mut first: usize = 0;
     let mut last: usize = roots;
     let outcome = 'search: loop {
-        let stop = last;
-        while first < stop {
-            let i = arrays::wide(queue[first % 1024]);
-            if due(faces, round, next, lowerings) {
-                next = lowerings + faces / 4;
-                if let Climbed::At(y) = climb(lefts, &*parents, darts, faces, i) {
-                    break 'search Outcome::Ring(arrays::wide(parents[y]));
-                }
+        let pass = straighten(
+            lefts,
+            lengths,
+            darts,
+            faces,
+            &mut *potentials,
+            &mut *parents,
+            &mut *waiting,
+            &mut *queue,
+            last,
+        );
+        match pass {
+            Straightened::Ring(d) => {
+                break 'search Outcome::Ring(d);
             }
-            let looked = look(
+            Straightened::Straight(end) => {
+                last = end;
+            }
+        }
+        let mut left = faces + faces / 2 + 1;
+        while 0 < left {
+            if first == last {
+                break 'search Outcome::Settled;
+            }
+            let i = arrays::wide(queue[first % 1024]);
+            last = look(
                 lefts,
                 lengths,
                 order,
@@ -323,21 +433,12 @@ pub fn search(
                 &mut *parents,
                 &mut *waiting,
                 &mut *queue,
-                lowerings,
-                first,
-                stop,
                 last,
-                round,
                 i,
             );
-            lowerings = looked.lowerings;
-            last = looked.last;
             first += 1;
+            left -= 1;
         }
-        if first == last {
-            break 'search Outcome::Settled;
-        }
-        round += 1;
     };
     outcome
 }

@@ -28,8 +28,8 @@ pub measured-by-for : (𝓜 : Map) {start finish : ℕ} (from : ℕ → ℕ) (c 
 measured-by-for 𝓜 from c length S b e h = rw (← e) h
 
 -- of a known outcome
-pub searches-known : {G : Given} {queue : List ℕ} {roots : ℕ} {ρ : List ℤ} {parents : List ℕ} {o p : Outcome} → o ≡ p
-    → Searches G queue roots ρ parents o → Searches G queue roots ρ parents p
+pub searches-known : {G : Given} {queue : List ℕ} {roots : ℕ} {proposal : List ℕ} {ρ : List ℤ} {parents : List ℕ} {o p : Outcome} → o ≡ p
+    → Searches G queue roots proposal ρ parents o → Searches G queue roots proposal ρ parents p
 searches-known e h = rw (← e) h
 
 -- where the ends are not apart, the flags tell nothing
@@ -43,9 +43,9 @@ pub named-of : {𝓜 : Map} {outer count trees : ℕ} {c : ℕ → ℤ} (lefts o
     → {s t start finish : ℕ} {value : ℤ}
     → (start < darts 𝓜) × (𝓜 .tail start ≡ s) × ((e : ℕ) → e < start → 𝓜 .tail e ≢ s)
     → (finish < darts 𝓜) × (𝓜 .tail finish ≡ t) × ((e : ℕ) → e < finish → 𝓜 .tail e ≢ t)
-    → {S : ℕ → Bool} (lengths : List ℤ) (apart : Bool) → MeasuredBy 𝓜 start finish (at from) c value (atℤ lengths) S apart
-    → NamedBy 𝓜 outer count trees lefts order from grouped starts ends lengths S apart → Named 𝓜 outer c s t value S
-named-of {𝓜} {outer} {count} {trees} lefts order from grouped starts ends drawn walked {s} {t} {start} {finish} a b lengths apart m n = record {
+    → (proposal : List ℕ) {S : ℕ → Bool} (lengths : List ℤ) (apart : Bool) → MeasuredBy 𝓜 start finish (at from) c value (atℤ lengths) S apart
+    → NamedBy 𝓜 outer count trees lefts order from grouped starts ends lengths proposal S apart → Named 𝓜 outer c s t value proposal S
+named-of {𝓜} {outer} {count} {trees} lefts order from grouped starts ends drawn walked {s} {t} {start} {finish} a b proposal lengths apart m n = record {
   sound = drawn .plane .sound;
   lefts = lefts;
   order = order;

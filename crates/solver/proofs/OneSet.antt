@@ -167,8 +167,8 @@ module _ {𝓜 : Map} (σ : Sound 𝓜) {outer count trees : ℕ} {lefts order f
       same-order = grouping.same-grouped (step-permutes σ) (walked .in-rounds) (walked' .in-rounds);
     }
 
-    module _ {S S' : ℕ → Bool} (α : RingNamed 𝓜 outer count trees lefts order from grouped starts ends lengths S)
-        (β : RingNamed 𝓜 outer count trees lefts' order' from' grouped' starts' ends' lengths' S') where
+    module _ {proposal : List ℕ} {S S' : ℕ → Bool} (α : RingNamed 𝓜 outer count trees lefts order from grouped starts ends lengths proposal S)
+        (β : RingNamed 𝓜 outer count trees lefts' order' from' grouped' starts' ends' lengths' proposal S') where
       queues : α .queue ≡ β .queue
       queues = ext-getD 0 (α .queue) (β .queue) (α .size ∙ sym (β .size)) (λ t l. by t (decLt t trees))
         where
@@ -186,7 +186,7 @@ module _ {𝓜 : Map} (σ : Sound 𝓜) {outer count trees : ℕ} {lefts order f
       ended : (outcome.Ring (α .closing) ≡ outcome.Ring (β .closing)) × (α .parents ≡ β .parents)
       ended =
           alike-one alike (walked .groups) (α .queue) trees (α .size) (α .few) (α .sound) (α .joined) (α .searched)
-          (subst (λ q. Searches (given lefts' lengths' grouped' starts' ends' (darts 𝓜) count) q trees (β .potentials) (β .parents) (outcome.Ring (β .closing)))
+          (subst (λ q. Searches (given lefts' lengths' grouped' starts' ends' (darts 𝓜) count) q trees proposal (β .potentials) (β .parents) (outcome.Ring (β .closing)))
           (sym queues) (β .searched))
 
       ring-one : (v : ℕ) → v < 𝓜 .nodes → S v ≡ S' v
@@ -197,8 +197,8 @@ module _ {𝓜 : Map} (σ : Sound 𝓜) {outer count trees : ℕ} {lefts order f
           (subst (λ p. MadeOfRing 𝓜 (rightOf lefts') (atℤ lengths') (at order') (at from') (at p) (at lefts' (β .closing)) S') (sym (ended .1)) (β .made)))
 
 -- ── the whole ──
-module _ {𝓜 : Map} {outer : ℕ} {c : ℕ → ℤ} {s t : ℕ} {value : ℤ} {S S' : ℕ → Bool}
-    (α : Named 𝓜 outer c s t value S) (β : Named 𝓜 outer c s t value S') where
+module _ {𝓜 : Map} {outer : ℕ} {c : ℕ → ℤ} {s t : ℕ} {value : ℤ} {proposal : List ℕ} {S S' : ℕ → Bool}
+    (α : Named 𝓜 outer c s t value proposal S) (β : Named 𝓜 outer c s t value proposal S') where
   same-orders : (i : ℕ) → i < darts 𝓜 → at (α .order) i ≡ at (β .order) i
   same-orders =
       same-order (α .walked .forest .apart) (β .walked .forest .apart) (α .walked .first-come) (β .walked .first-come)
@@ -255,13 +255,13 @@ module _ {𝓜 : Map} {outer : ℕ} {c : ℕ → ℤ} {s t : ℕ} {value : ℤ} 
 
   abbrev Ring' : (count trees : ℕ) → Type 0
   Ring' count trees =
-      RingNamed 𝓜 outer count trees (β .lefts) (β .order) (β .from) (β .grouped) (β .starts) (β .ends) (β .lengths) S'
+      RingNamed 𝓜 outer count trees (β .lefts) (β .order) (β .from) (β .grouped) (β .starts) (β .ends) (β .lengths) proposal S'
 
   abbrev Walked' : (count trees : ℕ) → Type 0
   Walked' count trees =
       Walked (darts 𝓜) count outer trees (𝓜 .rotation) (β .lefts) (β .order) (β .from) (β .grouped) (β .starts) (β .ends)
 
-  by-ring : RingNamed 𝓜 outer (α .count) (α .trees) (α .lefts) (α .order) (α .from) (α .grouped) (α .starts) (α .ends) (α .lengths) S
+  by-ring : RingNamed 𝓜 outer (α .count) (α .trees) (α .lefts) (α .order) (α .from) (α .grouped) (α .starts) (α .ends) (α .lengths) proposal S
       → Ring' (β .count) (β .trees) → (v : ℕ) → v < 𝓜 .nodes → S v ≡ S' v
   by-ring r r' =
       ring-one (α .sound) (α .left-is) (β .left-is) (α .walked) (there Walked' (β .walked)) (α .lengths) (β .lengths) row-one r (there Ring' r')
@@ -297,9 +297,9 @@ module _ {𝓜 : Map} {outer : ℕ} {c : ℕ → ℤ} {s t : ℕ} {value : ℤ} 
   clash e f h (inr z) = some-value h z
 
   by-ways : (a b : Bool) → ApartBy 𝓜 (α .start) (α .finish) value (α .measured .joined) S a
-      → NamedBy 𝓜 outer (α .count) (α .trees) (α .lefts) (α .order) (α .from) (α .grouped) (α .starts) (α .ends) (α .lengths) S a
+      → NamedBy 𝓜 outer (α .count) (α .trees) (α .lefts) (α .order) (α .from) (α .grouped) (α .starts) (α .ends) (α .lengths) proposal S a
       → ApartBy 𝓜 (β .start) (β .finish) value (β .measured .joined) S' b
-      → NamedBy 𝓜 outer (β .count) (β .trees) (β .lefts) (β .order) (β .from) (β .grouped) (β .starts) (β .ends) (β .lengths) S' b
+      → NamedBy 𝓜 outer (β .count) (β .trees) (β .lefts) (β .order) (β .from) (β .grouped) (β .starts) (β .ends) (β .lengths) proposal S' b
       → (v : ℕ) → v < 𝓜 .nodes → S v ≡ S' v
   by-ways true true w r w' r' = by-parts (w .1) (w' .1)
   by-ways false false w r w' r' = by-ring r r'

@@ -98,8 +98,8 @@ fn cut_apart(
     false
 }
 
-// Searches from the roots, which stand at the first places of the queue; where the potentials settle, writes the flows that they make. Where there is a ring,
-// answers the dart that closes it, and the parents lead round it.
+// Searches from the roots, which stand at the first places of the queue, and from the parents as they stand; where the potentials settle, writes the flows that
+// they make. Where there is a ring, answers the dart that closes it, and the parents lead round it.
 fn settle(
     lefts: &[u16; 1024],
     capacities: &[i32; 1024],
@@ -122,10 +122,10 @@ fn settle(
         (atℤ (now (capacities .entry)))
         (now (flows .entry)) (now (flows .exit)) (at (now (parents .exit))) r
         × ((ρ : List ℤ) × Searches (given (now (lefts .entry)) (now (lengths .entry)) (now (grouped .entry)) (now (starts .entry)) (now (ends .entry))
-        (2 * edges) faces) (now (queue .entry)) roots ρ (now (parents .exit)) r) ⌝ }
+        (2 * edges) faces) (now (queue .entry)) roots (now (parents .entry)) ρ (now (parents .exit)) r) ⌝ }
 {
     // What the search begins with: no face has a level, and none waits.
-    let mut potentials = [4611686018427387904i64; 1024];
+    let mut potentials = [2000000000000000i64; 1024];
     let mut waiting = [0u8; 1024];
     let outcome = search::search(
         lefts,
@@ -179,7 +179,7 @@ fn settle_all<'a>(
         × RootsHere (2 * edges) (at (now (rotations .entry))) outer (at (now (lefts .entry))) (at (now (order .entry))) (at (now (from .entry)))
         (λ i. 0) (at queue) trees
         × ((ρ : List ℤ) × Searches (given (now (lefts .entry)) (now (lengths .entry)) (now (grouped .entry)) (now (starts .entry)) (now (ends .entry))
-        (2 * edges) faces) queue trees ρ (now (parents .exit)) r)) ⌝ }
+        (2 * edges) faces) queue trees (now (parents .entry)) ρ (now (parents .exit)) r)) ⌝ }
 {
     let mut queue = [0u16; 1024];
     traversal::first_faces(
@@ -240,8 +240,9 @@ fn cut_of_ring(
 }
 
 // Decides one value from a source to a sink, with the face of the outer dart at 0 and the lowest face of each other part: true with the highest flow written,
-// false with the nodes of a proving set flagged, which follows from the drawing and the question (`Named`). The walk over the darts and
-// their groups by faces are those of the open drawing. `parents` is where the search keeps its trees; a caller may read them, but nothing is promised of them.
+// false with the nodes of a proving set flagged, which follows from the drawing, the question and the parents proposed (`Named`). The walk over the darts and their
+// groups by faces are those of the open drawing. The search begins from `parents` as they stand, any array, and leaves its own there: a later decision on the
+// same drawing may begin from those. 1024 everywhere proposes none.
 pub fn decide<'a>(
     tails: &'a [u16; 1024],
     rotations: &'a [u16; 1024],
@@ -272,7 +273,7 @@ pub fn decide<'a>(
         × Decided (mapOf nodes edges (now (tails .entry)) (now (rotations .entry))) outer (atℤ (now (capacities .entry)))
         source sink value (now (flows .entry)) (now (flows .exit)) (now (inside .exit)) r × (length (now (parents .exit)) ≡ 1024)
         × (r ≡ false → Named (mapOf nodes edges (now (tails .entry)) (now (rotations .entry))) outer (atℤ (now (capacities .entry)))
-        source sink value (flagged (now (inside .exit)))) ⌝ }
+        source sink value (now (parents .entry)) (flagged (now (inside .exit)))) ⌝ }
 {
     let start = traversal::dart_at(tails, 2 * edges, source);
     let finish = traversal::dart_at(tails, 2 * edges, sink);
@@ -366,7 +367,7 @@ fn retrace<'a>(
         trees,
         &mut queue,
     );
-    let mut levels = [4611686018427387904i64; 1024];
+    let mut levels = [2000000000000000i64; 1024];
     if face_trees::lay_levels(
         lefts,
         lengths,

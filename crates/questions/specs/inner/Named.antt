@@ -8,14 +8,14 @@ use lib.ListN.{take}
 use lib.IntN.{ℤ}
 use Rattle.maps.specs.Drawing.{Drawing}
 use Rattle.flows.specs.ProvingSet.{wordsFor, member}
-use Rattle.solver.specs.inner.Named.{Named}
+use Rattle.solver.specs.inner.Named.{noParents, Named}
 use Rattle.questions.specs.declared.SolveAnswer.{SolveAnswer}
 use Rattle.questions.specs.declared.SolveAnswer.the-variants.{Can, Cannot, Refused}
 
 -- the words hold the nodes that the search names for the value from source to sink
 pub record NamedSet (𝓓 : Drawing) (source sink : ℕ) (value : ℤ) (words : List ℕ) : Type 0 where
   pub inside : ℕ → Bool
-  pub named : Named (𝓓 .map) (𝓓 .outer) (𝓓 .capacity) source sink value inside
+  pub named : Named (𝓓 .map) (𝓓 .outer) (𝓓 .capacity) source sink value noParents inside
   pub holds : (v : ℕ) → v < 𝓓 .map .nodes → member words v ≡ inside v
 
 -- where the answer is "cannot", the words in front of the slice

@@ -6,21 +6,18 @@ use borrow.Author.Needs.{needs}
 use Rattle.arrays.specs.At.{at}
 use Rattle.search.specs.Given.{Given, given}
 use Rattle.search.specs.Configuration.{tablesOf}
-use Rattle.search.proofs.Trying.{looked-in, try-in, try-left, try-near, try-few}
+use Rattle.search.proofs.Trying.{looked-in, try-in, try-left, try-near}
 use Rattle.search.proofs.Halfway.{Halfway, look-begins, look-keeps, look-lowers, look-ends}
 use Rattle.search.proofs.look.Statement.{statement}
 use Rattle.search.proofs.look.Tie as tie
 
 abbrev Inv-loop : tie.InvT-loop
-Inv-loop lefts lengths order starts ends darts faces potentials₀ parents₀ waiting₀ queue₀ lowerings first stop last round i
-    j₀ e count₀ end₀ potentials parents waiting queue j count end =
-    Halfway (given lefts lengths order starts ends darts faces) (tablesOf potentials₀ parents₀ waiting₀ queue₀ count₀ end₀) first stop round i j₀ j
-    (tablesOf potentials parents waiting queue count end)
+Inv-loop lefts lengths order starts ends darts faces potentials₀ parents₀ waiting₀ queue₀ last i j₀ e end₀ potentials parents waiting queue j end =
+    Halfway (given lefts lengths order starts ends darts faces) (tablesOf potentials₀ parents₀ waiting₀ queue₀ end₀) i j₀ j
+    (tablesOf potentials parents waiting queue end)
 
 abbrev μ-loop : tie.MeasureT-loop
-μ-loop lefts lengths order starts ends darts faces potentials₀ parents₀ waiting₀ queue₀ lowerings first stop last round i
-    j₀ e count₀ end₀ potentials parents waiting queue j count end =
-    e - j
+μ-loop lefts lengths order starts ends darts faces potentials₀ parents₀ waiting₀ queue₀ last i j₀ e end₀ potentials parents waiting queue j end = e - j
 
 -- ── what is given ──
 abbrev givenAt : tie.Start Inv-loop μ-loop → Given
@@ -28,7 +25,7 @@ givenAt s =
     given (s .args .lefts .now) (s .args .lengths .now) (s .args .order .now) (s .args .starts .now) (s .args .ends .now) (s .args .darts) (s .args .faces)
 
 face-in : (s : tie.Start Inv-loop μ-loop) → s .args .i < s .args .faces
-face-in s = looked-in (s .pre .0 .sound) (s .pre .1) (s .pre .0 .passing) (s .pre .2) (s .pre .3) (s .args .i) (s .pre .4)
+face-in s = let h = s .pre .0 in looked-in (h .sound) (s .pre .1) (h .passing) (h .few) (h .some) (s .args .i) (h .front-is)
 
 face-small : (s : tie.Start Inv-loop μ-loop) → s .args .i < 1024
 face-small s = omega (arith, face-in s, s .pre .0 .sound .few-faces)
@@ -58,7 +55,7 @@ loop-holds : tie.Need-loop-holds Inv-loop μ-loop
 loop-holds c =
     let s = c .before .before .before .before in
     let w = c .before .before .wide in
-    look-begins (givenAt s) (s .pre .1) (s .pre .0) (s .pre .2) (s .pre .3) (s .args .i) (w .result) (s .pre .4) (w .ensures)
+    look-begins (givenAt s) (s .pre .1) (s .args .i) (w .result) (s .pre .0) (w .ensures)
 
 -- ── in the loop ──
 abbrev base : tie.At-loop Inv-loop μ-loop → tie.Start Inv-loop μ-loop
@@ -99,17 +96,12 @@ left-small c =
     let h = looping c .loop .inv in
     omega (arith, try-left (h .sound) (base (looping c) .pre .1) (h .trying) (c .wide3 .result) (more c) (c .wide3 .ensures), h .sound .few-faces)
 
-few : (c : tie.After-wide3 Inv-loop μ-loop) → looping c .loop .count + 1 ≤ 1073741824
-few c =
-    let h = looping c .loop .inv in
-    try-few (h .sound) (base (looping c) .pre .1) (h .trying) (c .wide3 .result) (more c) (c .wide3 .ensures)
-
 relax-requires : tie.Need-relax-requires Inv-loop μ-loop
 relax-requires c κs =
     let d = c .before .before in
     let h = looping d .loop .inv in (
-      h .trying .size-potentials,
-      h .trying .size-parents,
+      h .trying .stage .size-potentials,
+      h .trying .stage .size-parents,
       omega (arith, h .trying .i-in, h .sound .few-faces),
       dart-small d,
       left-small d,
@@ -119,9 +111,6 @@ relax-requires c κs =
 -- ── it lowered ──
 abbrev dart : tie.After-relax Inv-loop μ-loop → tie.After-wide3 Inv-loop μ-loop
 dart c = c .before .before .before
-
-add-count : tie.Need-add-count Inv-loop μ-loop
-add-count c = record { fits = omega (arith, few (dart (c .before))) }
 
 mul-wide-4 : tie.Need-mul-wide-4 Inv-loop μ-loop
 mul-wide-4 c = record { fits = omega (arith, dart-small (dart (c .before .before .before))) }
@@ -140,7 +129,7 @@ push-requires : tie.Need-push-requires Inv-loop μ-loop
 push-requires c κs =
     let d = dart (relaxed c) in
     let h = looping d .loop .inv in
-    (h .trying .size-waiting, h .trying .size-queue, omega (arith, c .wide4 .ensures, left-small d), omega (arith, h .trying .pushed, few d))
+    (h .trying .stage .size-waiting, h .trying .stage .size-queue, omega (arith, c .wide4 .ensures, left-small d), omega (arith, h .trying .stage .spent))
 
 loop-less : tie.Need-loop-less Inv-loop μ-loop
 loop-less c = omega (arith, dart (relaxed (c .before)) .before .before .loop-test .taken)
@@ -151,7 +140,7 @@ loop-again c =
     let d = dart r in
     let s = base (looping d) in
     look-lowers (givenAt s) (s .pre .1) (looping d .loop .inv) (d .wide3 .result) (more d) (d .wide3 .ensures) _ (c .before .wide4 .result)
-    (c .before .wide4 .ensures) (r .relax .result) (c .before .before .before .before .before .if1 .taken) (r .relax .ensures) (c .push .ensures) refl
+    (c .before .wide4 .ensures) (r .relax .result) (c .before .before .before .before .before .if1 .taken) (r .relax .ensures) (c .push .ensures)
 
 -- ── it could not ──
 loop-less-2 : tie.Need-loop-less-2 Inv-loop μ-loop
@@ -189,7 +178,6 @@ look-spec =
     wide-requires-3
     add-j
     relax-requires
-    add-count
     mul-wide-4
     element-copy-out-wide-4
     wide-requires-4

@@ -84,13 +84,13 @@ measured-how c b e =
 
 named-apart : (c : tie.After-cut-apart) → c .cut-apart .result ≡ true
     → Named (mapAt (begun c)) (begun c .args .outer) (atℤ (begun c .args .capacities .now)) (begun c .args .source) (begun c .args .sink)
-    (begun c .args .value) (flagged (flags c))
+    (begun c .args .value) (begun c .args .parents .now) (flagged (flags c))
 named-apart c e =
     let s = begun c in
     let t = c .before .before .before in
     let d = t .before in
     named-of (s .args .lefts .now) (s .args .order .now) (s .args .from .now) (s .args .grouped .now) (s .args .starts .now) (s .args .ends .now)
-    (s .pre .2) (s .pre .6) (d .dart-at .ensures) (t .dart-at2 .ensures) (row c) true (measured-how c true e) tt
+    (s .pre .2) (s .pre .6) (d .dart-at .ensures) (t .dart-at2 .ensures) (s .args .parents .now) (row c) true (measured-how c true e) tt
 
 returns : tie.Need-returns
 returns c =
@@ -175,7 +175,8 @@ cut-of-ring-requires c κs =
 named-ring : (c : tie.After-wide) (inside' : List ℕ) → let o = ringed-at c in let f = lengthened (settled o) in let s = begun f in
     MadeOfRing (mapAt s) (rightOf (s .args .lefts .now)) (atℤ (row f)) (at (s .args .order .now)) (at (s .args .from .now))
     (at (settled o .settle-all .last .1 .1 .1 .1 .1 .1 .1 .1 .1 .1 .1 .1 .1 .0)) (c .wide .result) (flagged inside')
-    → Named (mapAt s) (s .args .outer) (atℤ (s .args .capacities .now)) (s .args .source) (s .args .sink) (s .args .value) (flagged inside')
+    → Named (mapAt s) (s .args .outer) (atℤ (s .args .capacities .now)) (s .args .source) (s .args .sink) (s .args .value)
+    (s .args .parents .now) (flagged inside')
 named-ring c inside' made =
     let o = ringed-at c in
     let a = settled o in
@@ -188,7 +189,7 @@ named-ring c inside' made =
     let q = a .settle-all .ensures .1 in
     let ok = searchable (s .args .lefts .now) (p .2) (p .3) (row f) (known j) (q .0) (q .1) (q .2) in
     named-of (s .args .lefts .now) (s .args .order .now) (s .args .from .now) (s .args .grouped .now) (s .args .starts .now) (s .args .ends .now)
-    (p .2) (p .6) (d .dart-at .ensures) (t .dart-at2 .ensures) (row f) false (measured-other (measured-how f false (j .if1 .left)))
+    (p .2) (p .6) (d .dart-at .ensures) (t .dart-at2 .ensures) (s .args .parents .now) (row f) false (measured-other (measured-how f false (j .if1 .left)))
     (record {
       queue = q .0;
       size = q .1;

@@ -1,5 +1,5 @@
--- Which set of nodes a decision names: how it comes about, step by step, from the drawing, the capacities and the question. Document 02, Job 12: what a party
--- is answered follows from what it sees. That the set follows is `named-one` (proofs/OneSet.antt): the relation has one end, and nothing else is asked of it,
+-- Which set of nodes a decision names: how it comes about, step by step, from the drawing, the capacities, the question and the parents that are proposed to its
+-- search. Document 02, Job 12: what a party is answered follows from what it sees. That the set follows is `named-one` (proofs/OneSet.antt): the relation has one end, and nothing else is asked of it,
 -- so that nobody need believe it.
 use mathlib.Core.Path.{_≡_}
 use mathlib.Core.Logic.{_⊎_, _≢_}
@@ -55,7 +55,8 @@ pub record MadeOfRing (𝓜 : Map) (right : ℕ → ℕ) (length : ℕ → ℤ) 
   pub serves : FirstServes (𝓜 .nodes) (darts 𝓜) (𝓜 .tail) length height S
 
 -- the search from the faces at 0, which ends with the ring that the dart `closing` closes, and the set made from it
-pub record RingNamed (𝓜 : Map) (outer count trees : ℕ) (lefts order from grouped starts ends : List ℕ) (lengths : List ℤ) (S : ℕ → Bool) : Type 0 where
+pub record RingNamed (𝓜 : Map) (outer count trees : ℕ) (lefts order from grouped starts ends : List ℕ) (lengths : List ℤ) (proposal : List ℕ)
+    (S : ℕ → Bool) : Type 0 where
   pub queue : List ℕ
   pub size : list.length queue ≡ 1024
   pub few : trees ≤ 1024
@@ -66,17 +67,23 @@ pub record RingNamed (𝓜 : Map) (outer count trees : ℕ) (lefts order from gr
   pub parents : List ℕ
   pub closing : ℕ
   pub closing-in : closing < darts 𝓜
-  pub searched : Searches (given lefts lengths grouped starts ends (darts 𝓜) count) queue trees potentials parents (outcome.Ring closing)
+  pub searched : Searches (given lefts lengths grouped starts ends (darts 𝓜) count) queue trees proposal potentials parents (outcome.Ring closing)
   pub made : MadeOfRing 𝓜 (rightOf lefts) (atℤ lengths) (at order) (at from) (at parents) (at lefts closing) S
 
 -- true: by the parts of source and sink; false: by a ring
-abbrev pub NamedBy : Map → (outer count trees : ℕ) → (lefts order from grouped starts ends : List ℕ) (lengths : List ℤ) → (S : ℕ → Bool) → Bool → Type 0
-NamedBy 𝓜 outer count trees lefts order from grouped starts ends lengths S true = Unit
-NamedBy 𝓜 outer count trees lefts order from grouped starts ends lengths S false =
-    RingNamed 𝓜 outer count trees lefts order from grouped starts ends lengths S
+abbrev pub NamedBy : Map → (outer count trees : ℕ) → (lefts order from grouped starts ends : List ℕ) (lengths : List ℤ) (proposal : List ℕ) → (S : ℕ → Bool) → Bool
+    → Type 0
+NamedBy 𝓜 outer count trees lefts order from grouped starts ends lengths proposal S true = Unit
+NamedBy 𝓜 outer count trees lefts order from grouped starts ends lengths proposal S false =
+    RingNamed 𝓜 outer count trees lefts order from grouped starts ends lengths proposal S
 
--- The set S is named for the value from s to t, of the drawing with this outer dart and these capacities. The arrays are those that opening leaves.
-pub record Named (𝓜 : Map) (outer : ℕ) (c : ℕ → ℤ) (s t : ℕ) (value : ℤ) (S : ℕ → Bool) : Type 0 where
+-- no parents are proposed: each is 1024, which is no dart
+abbrev pub noParents : List ℕ
+noParents = list.replicate 1024 1024
+
+-- The set S is named for the value from s to t, of the drawing with this outer dart and these capacities, where these parents are proposed. The arrays are those
+-- that opening leaves.
+pub record Named (𝓜 : Map) (outer : ℕ) (c : ℕ → ℤ) (s t : ℕ) (value : ℤ) (proposal : List ℕ) (S : ℕ → Bool) : Type 0 where
   pub sound : Sound 𝓜
   pub lefts : List ℕ
   pub order : List ℕ
@@ -96,4 +103,4 @@ pub record Named (𝓜 : Map) (outer : ℕ) (c : ℕ → ℤ) (s t : ℕ) (value
   pub lengths : List ℤ
   pub apart : Bool
   pub measured : MeasuredBy 𝓜 start finish (at from) c value (atℤ lengths) S apart
-  pub by : NamedBy 𝓜 outer count trees lefts order from grouped starts ends lengths S apart
+  pub by : NamedBy 𝓜 outer count trees lefts order from grouped starts ends lengths proposal S apart

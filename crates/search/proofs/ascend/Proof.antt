@@ -1,0 +1,96 @@
+-- `ascend` meets its contract (`Rising`): it ends because each face that it goes through was not marked.
+use mathlib.Core.Path.{_≡_, sym, _∙_}
+use Prim.Native.Nat.{ℕ, _<_}
+use native.Mathlib.Omega.{arith}
+use borrow.Author.Needs.{needs}
+use Rattle.arrays.specs.At.{at}
+use Rattle.arrays.specs.Maps.{rightOf}
+use Rattle.search.proofs.Heights.{fresh}
+use Rattle.search.proofs.Rising.{Rising, rising-first, rising-room, rising-less, rising-more, rising-stops}
+use Rattle.search.proofs.ascend.Statement.{statement}
+use Rattle.search.proofs.ascend.Tie as tie
+
+abbrev Inv-loop : tie.InvT-loop
+Inv-loop lefts parents darts faces f marks₀ noted₀ y₀ count₀ marks noted y count =
+    Rising (rightOf lefts) darts faces parents f marks₀ marks noted y count
+
+abbrev μ-loop : tie.MeasureT-loop
+μ-loop lefts parents darts faces f marks₀ noted₀ y₀ count₀ marks noted y count = fresh faces marks
+
+loop-holds : tie.Need-loop-holds Inv-loop μ-loop
+loop-holds c = let p = c .pre in rising-first _ _ _ _ _ _ _ (p .0) (p .1) (p .4)
+
+abbrev At-loop : Type 0
+At-loop = tie.At-loop Inv-loop μ-loop
+
+small : (c : At-loop) → c .loop .y < 1024
+small c = omega (arith, c .loop .inv .y-in, c .before .pre .3)
+
+-- ── it stops ──
+returns : tie.Need-returns Inv-loop μ-loop
+returns c =
+    let k = c .before in
+    let l = k .before .before in
+    rising-stops _ _ _ _ _ (l .before .pre .3) (l .loop .inv) (λ h e. omega (arith, c .if1 .taken, k .wide .ensures))
+
+abbrev at-mark : tie.After-if22 Inv-loop μ-loop → At-loop
+at-mark c = c .before .before .before .before
+
+returns-2 : tie.Need-returns-2 Inv-loop μ-loop
+returns-2 c = let l = at-mark (c .before) in rising-stops _ _ _ _ _ (l .before .pre .3) (l .loop .inv) (λ h e. c .if2 .taken e)
+
+-- ── it goes on ──
+abbrev Onward : Type 0
+Onward = tie.Else2 Inv-loop μ-loop
+
+abbrev there : Onward → At-loop
+there c = at-mark (c .before)
+
+new : (c : Onward) → at (there c .loop .marks) (there c .loop .y) ≡ 0
+new c = c .if2 .left
+
+dart-in : (c : Onward) → c .before .before .before .wide .result < there c .before .args .darts
+dart-in c = omega (arith, c .before .before .if1 .left)
+
+f-small : (c : Onward) → there c .before .args .f < 1024
+f-small c = let p = there c .before .pre in omega (arith, p .3, p .4)
+
+room : (c : Onward) → there c .loop .count < 1024
+room c = let l = there c in rising-room _ _ _ _ _ (l .before .pre .3) (l .loop .inv) (new c)
+
+loop-less : tie.Need-loop-less Inv-loop μ-loop
+loop-less c = let l = there (c .before) in rising-less _ _ _ _ _ (l .before .pre .3) (l .loop .inv) (new (c .before))
+
+loop-again : tie.Need-loop-again Inv-loop μ-loop
+loop-again c =
+    let k = c .before in
+    let w = k .before .before .before .wide in
+    let l = there k in
+    rising-more _ _ _ _ _ (l .before .pre .3) (l .loop .inv) (w .result) (c .right .result) (w .ensures) (dart-in k) (new k) (c .right .ensures)
+    (omega (arith, c .right .ensures, l .before .pre .5 (w .result) (dart-in k)))
+
+pub ascend-spec : {M : Type 1} → statement M
+ascend-spec =
+    tie.close
+    (tie.spec
+    Inv-loop
+    μ-loop
+    loop-holds
+    (λ c. record { fits = omega (arith, small c) })
+    (λ c. small c)
+    (λ c κs. search needs)
+    returns
+    (λ c. record { fits = omega (arith, small (c .before .before .before)) })
+    (λ c. small (c .before .before .before))
+    returns-2
+    (λ c. record { fits = omega (arith, f-small c) })
+    (λ c. record { fits = omega (arith, f-small c) })
+    (λ c. record { fits = omega (arith, small (there c)) })
+    (λ c. small (there c))
+    (λ c. record { fits = omega (arith, small (there c)) })
+    (λ c. record { fits = omega (arith, room c) })
+    (λ c. room c)
+    (λ c. record { fits = omega (arith, room c) })
+    (λ c κs. omega (arith, dart-in c, there c .before .pre .2))
+    loop-less
+    loop-again)

@@ -1,0 +1,105 @@
+-- `straighten` meets its contract (`Pass`).
+use mathlib.Core.Path.{_≡_, refl, sym, _∙_, ap}
+use mathlib.Core.Logic.{⊎-elim}
+use Prim.Native.Nat.{_-_, _≤_, _<_}
+use native.Mathlib.Omega.{arith}
+use borrow.Author.Needs.{needs}
+use Rattle.search.specs.Configuration.{tablesOf}
+use Rattle.search.proofs.Passes.{Pass, pass-first, pass-last, pass-ring, pass-down, pass-met, pass-none}
+use Rattle.search.proofs.straighten.Statement.{statement}
+use Rattle.search.proofs.straighten.Tie as tie
+
+abbrev Inv-loop : tie.InvT-loop
+Inv-loop lefts lengths darts faces potentials₀ parents₀ waiting₀ queue₀ last marks₀ noted₀ end₀ f₀ potentials parents waiting queue marks noted end f =
+    Pass lefts lengths darts faces (tablesOf potentials₀ parents₀ waiting₀ queue₀ last) f marks noted (tablesOf potentials parents waiting queue end)
+
+abbrev μ-loop : tie.MeasureT-loop
+μ-loop lefts lengths darts faces potentials₀ parents₀ waiting₀ queue₀ last marks₀ noted₀ end₀ f₀ potentials parents waiting queue marks noted end f =
+    faces - f
+
+loop-holds : tie.Need-loop-holds Inv-loop μ-loop
+loop-holds c = pass-first _ refl (c .pre)
+
+abbrev Turn : Type 0
+Turn = tie.In-loop Inv-loop μ-loop
+
+f-small : (c : Turn) → c .before .loop .f < 1024
+f-small c = omega (arith, c .loop-test .taken, c .before .loop .inv .sound .few-faces)
+
+ascend-requires : tie.Need-ascend-requires Inv-loop μ-loop
+ascend-requires c κs =
+    let n = c .before .before .before in
+    let i = n .before .loop .inv in
+    (i .swept .size, i .size-noted, i .sound .few-darts, i .sound .few-faces, n .loop-test .taken, i .sound .right-in)
+
+-- ── the ascent has come to a face ──
+abbrev Up : Type 0
+Up = tie.After-ascend Inv-loop μ-loop
+
+abbrev turn : Up → Turn
+turn c = c .before .before .before .before
+
+top-small : (c : Up) → c .ascend .result .top < 1024
+top-small c = omega (arith, c .ascend .ensures .top-in, turn c .before .loop .inv .sound .few-faces)
+
+is-round-requires : tie.Need-is-round-requires Inv-loop μ-loop
+is-round-requires c κs = let u = c .before .before in (top-small u, f-small (turn u))
+
+returns : tie.Need-returns Inv-loop μ-loop
+returns c =
+    let t = c .before .before in
+    let r = t .before .is-round .ensures .0 (t .if1 .taken) in
+    let u = t .before .before .before .before in
+    let n = turn u in
+    (_, pass-ring (n .before .loop .inv) (n .loop-test .taken) (u .ascend .ensures) (r .0) (r .1) (c .wide .result) (c .wide .ensures))
+
+-- ── it has not come round ──
+abbrev Open : Type 0
+Open = tie.After-struct-known Inv-loop μ-loop
+
+abbrev risen : Open → Up
+risen c = c .before .before .before .before .before
+
+descend-requires : tie.Need-descend-requires Inv-loop μ-loop
+descend-requires c κs =
+    let t = c .before .before .before .before .before in
+    let o = t .before in
+    let u = risen o in
+    let n = turn u in
+    pass-down (n .before .loop .inv) (n .loop-test .taken) (u .ascend .ensures) (o .before .before .is-round .ensures .1 (o .before .if1 .left)) (t .if2 .taken)
+
+loop-again : tie.Need-loop-again Inv-loop μ-loop
+loop-again c =
+    let o = c .before in
+    let u = risen o in
+    let n = turn u in
+    let i = n .before .loop .inv in
+    let away = o .before .before .is-round .ensures .1 (o .before .if1 .left) in
+    ⊎-elim
+    (λ d.
+    rw (d .7, d .8, d .9, d .10, d .11)
+    (pass-met i (n .loop-test .taken) (u .ascend .ensures) away (d .0 .taken) (d .6 .ensures)))
+    (λ d. rw (d .1, d .2, d .3, d .4, d .5) (pass-none i (n .loop-test .taken) (u .ascend .ensures) away (omega (arith, d .0 .left))))
+    (c .if2 .came)
+
+returns-2 : tie.Need-returns-2 Inv-loop μ-loop
+returns-2 c = (_, pass-last _ (c .before .loop .inv) (omega (arith, c .loop-test .left)) refl)
+
+pub straighten-spec : {M : Type 1} → statement M
+straighten-spec =
+    tie.close
+    (tie.spec
+    Inv-loop
+    μ-loop
+    loop-holds
+    ascend-requires
+    is-round-requires
+    (λ c. record { fits = omega (arith, top-small (c .before .before .before .before)) })
+    (λ c. top-small (c .before .before .before .before))
+    (λ c κs. search needs)
+    returns
+    descend-requires
+    (λ c. record { fits = omega (arith, f-small (turn (risen (c .before)))) })
+    (λ c. omega (arith, turn (risen (c .before)) .loop-test .taken))
+    loop-again
+    returns-2)
