@@ -9,8 +9,8 @@
 // be carried has a proving set, which moves a bound or shows that there is nothing. Bounds that meet are the answer; where they pass each other, the union or
 // the intersection of their two sets shows that there is nothing.
 //
-// Cost: one decision where the first bound is the answer, two or three where the pivots find it. The middle of the bounds is probed at least every other time,
-// so some 60 decisions do for any capacities; what a decision costs is said in `search`.
+// Cost: one decision where the first bound is probed and is the answer, two or three where the pivots find it. After the first two probes the middle of the
+// bounds is probed at least every other time, so some 60 decisions do for any capacities. What a decision costs is said in `search`.
 ghost use mathlib.Core.Path.{_≡_};
 ghost use mathlib.Core.Bool.{true, false};
 ghost use mathlib.Core.Logic.{_⊎_};
