@@ -14,7 +14,7 @@ use mir.Syntax.{w32}
 use mir.Val.{toZ, ofZ}
 use Rattle.integers.specs.inner.Limited.{Limited}
 use Rattle.integers.specs.Sum.{bit}
-use Rattle.integers.proofs.Omega.{atoms₂, atoms₄, parts, at-most, less, from-equal, from-at-most, from-less}
+use Rattle.integers.proofs.Omega.{atoms₂, atoms₃, atoms₄, parts, at-most, less, from-equal, from-at-most, from-less}
 use Rattle.integers.proofs.Laws.{lt-le-clash, le-trans, le-antisym, le-of-lt, lt-or-ge}
 use Rattle.integers.proofs.Limits.{limited-neg}
 use Rattle.integers.proofs.Tests.{eqb-true, eqb-false, ltb-true}
@@ -46,7 +46,7 @@ use Rattle.flows.proofs.OnDarts.{onDarts-even}
 use Rattle.arrays.specs.Filled.{tabulate, filled}
 use Rattle.arrays.specs.At.{atℤ}
 use Rattle.arrays.proofs.Tabulate.{length-tabulate, tabulate-ext}
-use Rattle.arrays.proofs.FillLoops.{filled-at}
+use Rattle.arrays.proofs.FillLoops.{filled-at, filled-length}
 use Rattle.cuts.specs.inner.Cut.{cutOf}
 use Rattle.cuts.proofs.CutOfMap.{cut-of}
 use Rattle.node_flags.specs.inner.Flags.{Sided}
@@ -55,13 +55,12 @@ use Rattle.node_flags.specs.declared.Side.{Side}
 use Rattle.node_flags.specs.declared.Side.the-variants as side
 use Rattle.solver.specs.inner.Ends.{Ends}
 use Rattle.solver.specs.inner.Decision.{Decided}
-use Rattle.maximum.specs.inner.Bracket.{Ceiling, Floor, Bracket}
+use Rattle.maximum.specs.inner.Bracket.{Ceiling, Floor, Bracket, Closer}
 use Rattle.maximum.specs.inner.Narrowing.{SameFlags, Narrows, Lowers, stays, falls, Joins}
 use Rattle.maximum.specs.inner.Maximum.{Maximized}
 use Rattle.maximum.specs.declared.Narrowed.{Narrowed}
 use Rattle.maximum.specs.declared.Maximum.{Maximum}
 use Rattle.maximum.specs.declared.Maximum.the-variants as maximum
-use Rattle.maximum.proofs.Gap.{gap, gap-lowered, gap-raised}
 
 -- ── numbers between the bounds ──
 pub between-limited : (n : ℕ) (low value high : ℤ) → low ≤ℤ value → value ≤ℤ high → Limited n low → Limited n high → Limited n value
@@ -76,6 +75,12 @@ above-low low high value found l apart h e = by (lt-or-ge low high)
 
 le-of-equal : {x y : ℤ} → x ≡ y → x ≤ℤ y
 le-of-equal {x} {y} e = let a = atoms₂ x y in at-most (search parts) (omega (arith, from-equal e (search parts)))
+
+lt-le : {x y z : ℤ} → x <ℤ y → y ≤ℤ z → x <ℤ z
+lt-le {x} {y} {z} l k = let a = atoms₃ x y z in less (search parts) (omega (arith, from-less l (search parts), from-at-most k (search parts)))
+
+le-lt : {x y z : ℤ} → x ≤ℤ y → y <ℤ z → x <ℤ z
+le-lt {x} {y} {z} k l = let a = atoms₃ x y z in less (search parts) (omega (arith, from-less l (search parts), from-at-most k (search parts)))
 
 -- filled twice is filled once
 drop-tabulate : (n : ℕ) (f : ℕ → ℤ) (rest : List ℤ) → drop n (tabulate n f ++ rest) ≡ rest
@@ -108,7 +113,6 @@ pub record Probing (𝓜 : Map) (outer : ℕ) (c : ℕ → ℤ) (s t : ℕ) (bef
   pub size-b : length B ≡ 1024
   pub size-inside : length inside ≡ 1024
   pub size-parents : length parents ≡ 1024
-  pub size-flows : length flows ≡ length before
   pub bracket : Bracket 𝓜 outer c s t before flows A B low high found
 
 module _ {𝓜 : Map} (outer : ℕ) {c : ℕ → ℤ} {s t : ℕ} (ground : Ground 𝓜 c s t) where
@@ -144,29 +148,30 @@ module _ {𝓜 : Map} (outer : ℕ) {c : ℕ → ℤ} {s t : ℕ} (ground : Grou
       )
   low-at-most B low (inr e) = (le-of-equal e, subst (Limited 512000000) (sym e) (limited-neg (cut-small 𝓜 c (ground .few-edges) (ground .small) B)))
 
-  -- ── how it begins: a set at the source, and a value that is known or the sink alone ──
-  pub begins : (before : List ℤ) (A B : List ℕ) (low high : ℤ) (known : Bool) → AtSource s t (flagged A) → ((u : ℕ) → u < 1024 → flagged B u ≡ eqb u t)
-      → high ≡ cutOf (darts 𝓜) (𝓜 .tail) c (flagged A) → (known ≡ false → (low ≡ negℤ (pos 512000000)) ⊎ (low ≡ negℤ (cutOf (darts 𝓜) (𝓜 .tail) c (flagged B))))
-      → (known ≡ true → (x : ℕ → ℤ) × Highest 𝓜 outer c s t low x × (before ≡ filled (𝓜 .edges) x before))
-      → Bracket 𝓜 outer c s t before before A B low high known
-  begins before A B low high known side one-b is-high is-low carried = record {
-    ceiling = record { side = side; is-cut = is-high ∙ sym (cut-of 𝓜 c (flagged A)) };
-    floor = by known is-low carried;
+  -- ── how it begins: a set at the source, and the sink alone or a value that is known ──
+  ceiling-of : (A : List ℕ) (high : ℤ) → AtSource s t (flagged A) → high ≡ cutOf (darts 𝓜) (𝓜 .tail) c (flagged A) → Ceiling 𝓜 c s t (flagged A) high
+  ceiling-of A high side is-high = record { side = side; is-cut = is-high ∙ sym (cut-of 𝓜 c (flagged A)) }
+
+  pub begins : (before : List ℤ) (A B : List ℕ) (low high : ℤ) → AtSource s t (flagged A) → ((u : ℕ) → u < 1024 → flagged B u ≡ eqb u t)
+      → high ≡ cutOf (darts 𝓜) (𝓜 .tail) c (flagged A) → (low ≡ negℤ (pos 512000000)) ⊎ (low ≡ negℤ (cutOf (darts 𝓜) (𝓜 .tail) c (flagged B)))
+      → Bracket 𝓜 outer c s t before before A B low high false
+  begins before A B low high side one-b is-high is-low = record {
+    ceiling = ceiling-of A high side is-high;
+    floor = (
+      refl,
+      (one-b s s-in ∙ eqb-false s t (ground .two .two), one-b t t-in ∙ eqb-true t t refl),
+      small .0,
+      small .1,
+    );
   }
     where
-      by : (k : Bool) → (k ≡ false → (low ≡ negℤ (pos 512000000)) ⊎ (low ≡ negℤ (cutOf (darts 𝓜) (𝓜 .tail) c (flagged B))))
-          → (k ≡ true → (x : ℕ → ℤ) × Highest 𝓜 outer c s t low x × (before ≡ filled (𝓜 .edges) x before))
-          → Floor 𝓜 outer c s t before before (flagged B) low k
-      by true f g = g refl
-      by false f g = (
-        refl,
-        (one-b s s-in ∙ eqb-false s t (ground .two .two), one-b t t-in ∙ eqb-true t t refl),
-        is-low' .0,
-        is-low' .1,
-      )
-        where
-          is-low' : (low ≤ℤ negℤ (cut 𝓜 c (flagged B))) × Limited 512000000 low
-          is-low' = low-at-most (flagged B) low (subst (λ x. (low ≡ negℤ (pos 512000000)) ⊎ (low ≡ negℤ x)) (sym (cut-of 𝓜 c (flagged B))) (f refl))
+      small : (low ≤ℤ negℤ (cut 𝓜 c (flagged B))) × Limited 512000000 low
+      small = low-at-most (flagged B) low (subst (λ x. (low ≡ negℤ (pos 512000000)) ⊎ (low ≡ negℤ x)) (sym (cut-of 𝓜 c (flagged B))) is-low)
+
+  pub begins-on : (before flows : List ℤ) (A B : List ℕ) (low high : ℤ) (x : ℕ → ℤ) → AtSource s t (flagged A)
+      → high ≡ cutOf (darts 𝓜) (𝓜 .tail) c (flagged A) → Highest 𝓜 outer c s t low x → flows ≡ filled (𝓜 .edges) x before
+      → Bracket 𝓜 outer c s t before flows A B low high true
+  begins-on before flows A B low high x side is-high h e = record { ceiling = ceiling-of A high side is-high; floor = (x, h, e) }
 
   -- the flow of an edge is no more than a sheet's capacity
   pub flow-small : (value : ℤ) (x : ℕ → ℤ) → Highest 𝓜 outer c s t value x → (e : ℕ) → e < 𝓜 .edges → Limited 1000000 (x e)
@@ -174,14 +179,48 @@ module _ {𝓜 : Map} (outer : ℕ) {c : ℕ → ℤ} {s t : ℕ} (ground : Grou
       subst (Limited 1000000) (onDarts-even x e)
       (settings-limited 𝓜 1000000 c x (λ d m. ground .small d m .high) (h .carries .within) (2 * e) (omega arith))
 
-  -- ── what began with a flow in the slice, told of the slice before that ──
-  pub told-before : (before since flows : List ℤ) (A : List ℕ) (value : ℤ) (x : ℕ → ℤ) → Highest 𝓜 outer c s t value x → since ≡ filled (𝓜 .edges) x before
-      → (r : Maximum) → Maximized 𝓜 outer c s t since flows A r → Maximized 𝓜 outer c s t before flows A r
-  told-before before since flows A value x h e (maximum.Value v) r =
-      ((r .0 .0, r .0 .1, r .0 .2 ∙ filled-again (𝓜 .edges) (r .0 .0) x before since e), r .1, r .2)
-  told-before before since flows A value x h e maximum.Nothing r =
-      absurd (proves-excludes (ground .plane .sound .range) (ground .two .source-in) (ground .two .sink-in) (ground .two .two) c value (flagged A)
-      (beside-proves 𝓜 c s t (flagged A) (r .1) (r .2) value) x (h .carries))
+  -- ── the bounds after a probe of a value between them are closer ──
+  module _ (low high value : ℤ) (found : Bool) (at-least : low ≤ℤ value) (at-most : value ≤ℤ high) where
+    pub narrowed-closer : (inside : List ℕ) → Proves 𝓜 c s t value (flagged inside) → (A A' B B' : List ℕ) (n : Narrowed) (side : Side)
+        → Sided s t (flagged inside) side → Narrows (cutOf (darts 𝓜) (𝓜 .tail) c (flagged inside)) low high inside A A' B B' n side → n .none ≡ false
+        → Closer low high found (n .low) (n .high) found
+    narrowed-closer inside proves A A' B B' n side.Source h r e = record {
+      rises = le-of-equal (sym (r .1));
+      falls = le-of-lt below;
+      still = λ k. k;
+      less = inr (inl below);
+    }
+      where
+        below : n .high <ℤ high
+        below =
+            lt-le (rw (r .2, ← cut-of 𝓜 c (flagged inside)) (source-short 𝓜 c s t (flagged inside) h value proves)) at-most
+    narrowed-closer inside proves A A' B B' n side.Sink h r e = record {
+      rises = le-of-lt above;
+      falls = le-of-equal (r .2);
+      still = λ k. k;
+      less = inl above;
+    }
+      where
+        above : low <ℤ n .low
+        above = le-lt at-least (rw (r .1, ← cut-of 𝓜 c (flagged inside)) (sink-short 𝓜 c s t (flagged inside) h value proves))
+    narrowed-closer inside proves A A' B B' n side.Beside h r e = absurd (omega (arith, ap bit (sym e ∙ r .0)))
+
+    pub carried-closer : (high' : ℤ) → high' ≤ℤ high → (found ≡ true → low <ℤ value) → Closer low high found value high' true
+    carried-closer high' l above = record { rises = at-least; falls = l; still = λ _. refl; less = by found above }
+      where
+        by : (f : Bool) → (f ≡ true → low <ℤ value) → (low <ℤ value) ⊎ ((high' <ℤ high) ⊎ ((f ≡ false) × (true ≡ true)))
+        by true h = inl (h refl)
+        by false h = inr (inr (refl, refl))
+
+  -- ── what is found from these bounds on, told of the slice before they were ──
+  pub told-before : (before since : List ℤ) (A B : List ℕ) (low high : ℤ) (found : Bool) → Bracket 𝓜 outer c s t before since A B low high found
+      → (flows : List ℤ) (A' : List ℕ) (r : Maximum) → Maximized 𝓜 outer c s t since flows A' r → Maximized 𝓜 outer c s t before flows A' r
+  told-before before since A B low high true b flows A' (maximum.Value v) r =
+      ((r .0 .0, r .0 .1, r .0 .2 ∙ filled-again (𝓜 .edges) (r .0 .0) (b .floor .0) before since (b .floor .2)), r .1, r .2)
+  told-before before since A B low high true b flows A' maximum.Nothing r =
+      absurd (proves-excludes (ground .plane .sound .range) (ground .two .source-in) (ground .two .sink-in) (ground .two .two) c low (flagged A')
+      (beside-proves 𝓜 c s t (flagged A') (r .1) (r .2) low) (b .floor .0) (b .floor .1 .carries))
+  told-before before since A B low high false b flows A' r h = subst (λ l. Maximized 𝓜 outer c s t l flows A' r) (b .floor .0) h
 
   module _ (before flows : List ℤ) (A B : List ℕ) (low high : ℤ) (found : Bool) (b : Bracket 𝓜 outer c s t before flows A B low high found) where
     -- what is carried lies between the bounds
@@ -317,17 +356,9 @@ module _ {𝓜 : Map} (outer : ℕ) {c : ℕ → ℤ} {s t : ℕ} (ground : Grou
       nothing side.Beside h r e = beside value at-least inside proves h A' (r .1)
 
       pub narrowed : (side : Side) → Sided s t (flagged inside) side → Narrows total low high inside A A' B B' n side → n .none ≡ false
-          → Bracket 𝓜 outer c s t before flows A' B' (n .low) (n .high) found × (gap (n .low) (n .high) found < gap low high found)
-      narrowed side.Source h r e =
-          let k = at-source value at-least inside proves h A' (r .3) (n .high) (r .2) in (
-            rw (r .1, r .4) (k .0),
-            rw (r .1) (gap-lowered low high value at-least at-most found (n .high) (k .1)),
-          )
-      narrowed side.Sink h r e =
-          let k = at-sink value at-least inside proves h B' (r .4) (n .low) (r .1) in (
-            rw (r .2, r .3) (k .1),
-            rw (r .2) (subst (λ f. gap (n .low) high f < gap low high f) (sym (k .0)) (gap-raised low high value at-least at-most (n .low) (k .2))),
-          )
+          → Bracket 𝓜 outer c s t before flows A' B' (n .low) (n .high) found
+      narrowed side.Source h r e = rw (r .1, r .4) (at-source value at-least inside proves h A' (r .3) (n .high) (r .2) .0)
+      narrowed side.Sink h r e = rw (r .2, r .3) (at-sink value at-least inside proves h B' (r .4) (n .low) (r .1) .1)
       narrowed side.Beside h r e = absurd (omega (arith, ap bit (sym e ∙ r .0)))
 
 -- ── bounds that are passed on come as the numbers of their bits ──
@@ -344,11 +375,38 @@ module _ {𝓜 : Map} (outer : ℕ) {c : ℕ → ℤ} {s t : ℕ} (ground : Grou
       subst (λ l. Bracket 𝓜 outer c s t before flows A B l (toZ w32 (ofZ w32 high)) found) (sym same-low)
       (subst (λ h. Bracket 𝓜 outer c s t before flows A B low h found) (sym same-high) b)
 
-  pub bits-gap : (g : ℕ) → gap low high found < g → gap (toZ w32 (ofZ w32 low)) (toZ w32 (ofZ w32 high)) found < g
-  bits-gap g h = subst (λ l. gap l (toZ w32 (ofZ w32 high)) found < g) (sym same-low) (subst (λ k. gap low k found < g) (sym same-high) h)
+  pub bits-closer : {low₀ high₀ : ℤ} {found₀ : Bool} → Closer low₀ high₀ found₀ low high found
+      → Closer low₀ high₀ found₀ (toZ w32 (ofZ w32 low)) (toZ w32 (ofZ w32 high)) found
+  bits-closer {low₀} {high₀} {found₀} h =
+      subst (λ l. Closer low₀ high₀ found₀ l (toZ w32 (ofZ w32 high)) found) (sym same-low)
+      (subst (λ k. Closer low₀ high₀ found₀ low k found) (sym same-high) h)
 
 -- a probe that cannot leaves the slice
 pub same-bracket : {𝓜 : Map} {outer : ℕ} {c : ℕ → ℤ} {s t : ℕ} {before flows flows' : List ℤ} {A B : List ℕ} {low high : ℤ} {found : Bool} → flows' ≡ flows
     → Bracket 𝓜 outer c s t before flows A B low high found → Bracket 𝓜 outer c s t before flows' A B low high found
 same-bracket {𝓜} {outer} {c} {s} {t} {before} {A = A} {B = B} {low = low} {high = high} {found = found} e b =
     subst (λ f. Bracket 𝓜 outer c s t before f A B low high found) (sym e) b
+
+pub nothing-here : (𝓜 : Map) (outer : ℕ) (c : ℕ → ℤ) (s t : ℕ) (before flows flows' : List ℤ) (A : List ℕ) → flows' ≡ flows
+    → Maximized 𝓜 outer c s t before flows A maximum.Nothing → Maximized 𝓜 outer c s t before flows' A maximum.Nothing
+nothing-here 𝓜 outer c s t before flows flows' A e h = (e ∙ h .0, h .1, h .2)
+
+-- the slice is as long as it was
+pub bracket-length : {𝓜 : Map} {outer : ℕ} {c : ℕ → ℤ} {s t : ℕ} {before flows : List ℤ} {A B : List ℕ} {low high : ℤ} (found : Bool)
+    → 𝓜 .edges ≤ length before → Bracket 𝓜 outer c s t before flows A B low high found → length flows ≡ length before
+bracket-length {𝓜} {before = before} {flows = flows} true room b = filled-length (𝓜 .edges) (b .floor .0) before flows (b .floor .2) room
+bracket-length false room b = ap length (b .floor .0)
+
+pub maximized-length : (𝓜 : Map) (outer : ℕ) (c : ℕ → ℤ) (s t : ℕ) (before flows : List ℤ) (A : List ℕ) (r : Maximum) → 𝓜 .edges ≤ length before
+    → Maximized 𝓜 outer c s t before flows A r → length flows ≡ length before
+maximized-length 𝓜 outer c s t before flows A (maximum.Value v) room h = filled-length (𝓜 .edges) (h .0 .0) before flows (h .0 .2) room
+maximized-length 𝓜 outer c s t before flows A maximum.Nothing room h = ap length (h .0)
+
+-- the same bounds, with the slice as it is for the slice before
+pub anew : {𝓜 : Map} {outer : ℕ} {c : ℕ → ℤ} {s t : ℕ} {before flows : List ℤ} {A B : List ℕ} {low high : ℤ} (found : Bool)
+    → Bracket 𝓜 outer c s t before flows A B low high found → Bracket 𝓜 outer c s t flows flows A B low high found
+anew {𝓜} {before = before} {flows = flows} true b = record {
+  ceiling = b .ceiling;
+  floor = (b .floor .0, b .floor .1, b .floor .2 ∙ sym (filled-again (𝓜 .edges) (b .floor .0) (b .floor .0) before flows (b .floor .2)));
+}
+anew false b = record { ceiling = b .ceiling; floor = (refl, b .floor .1, b .floor .2, b .floor .3) }

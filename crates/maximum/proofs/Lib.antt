@@ -3,5 +3,3 @@ pub mod Gap
 pub mod Stepping
 pub mod Joining
 pub mod Bracketing
-pub mod Raising
-pub mod Judging

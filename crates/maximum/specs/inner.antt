@@ -2,4 +2,4 @@
 pub mod Bracket
 pub mod Narrowing
 pub mod Maximum
-pub mod Raising
+pub mod Probing

@@ -1,6 +1,16 @@
-// The largest value that can be carried: values are probed between two bounds. A set around the source bounds them above by its cut, a set around the sink
-// below by the negative of its cut; a probe carries its value, or its proving set moves a bound or shows that there is nothing. Where the bounds leave no value
-// between them, the union or the intersection of the two sets shows it.
+// The largest value that can be carried from a source to a sink, with its highest flow and a set around the source whose cut it is: no greater value can be
+// carried (the maximum flow is the minimum cut: Ford and Fulkerson 1956). Or that no value can be, with a set beside both ends whose cut is below zero.
+//
+// Two bounds close in on the value: above, the cut of a set around the source; below, a value that is carried, or the negative of the cut of a set around the
+// sink. The first set spreads from the source, node by node, and the least cut on its way is taken (`pivots::spread`). Each probe decides one value by the
+// search over the faces (`solver::decide`; a flow of a plane map is a shortest path problem of its dual: Hassin 1981, Miller and Naor 1995), which begins from
+// the tree of the faces as the step before left it. A value that is carried is the low bound, and pivots lower the high one: as the value grows, the trees of
+// the faces and of the nodes exchange an edge wherever a dart is full, until the full darts are a cut (`pivots::propose`; Erickson 2010). A value that cannot
+// be carried has a proving set, which moves a bound or shows that there is nothing. Bounds that meet are the answer; where they pass each other, the union or
+// the intersection of their two sets shows that there is nothing.
+//
+// Cost: one decision where the first bound is probed and is the answer, two or three where the pivots find it. After the first two probes the middle of the
+// bounds is probed at least every other time, so some 60 decisions do for any capacities. What a decision costs is said in `search`.
 ghost use mathlib.Core.Path.{_≡_};
 ghost use mathlib.Core.Bool.{true, false};
 ghost use mathlib.Core.Logic.{_⊎_};
@@ -20,18 +30,30 @@ ghost use Rattle.arrays.specs.inner.Flags.{flagged};
 ghost use Rattle.node_flags.specs.declared.Side.{Side};
 ghost use Rattle.arrays.specs.inner.Drawn.{Drawn};
 ghost use Rattle.grouping.specs.inner.Walked.{Walked};
-ghost use Rattle.traversal.specs.inner.Forest.{Forest};
 ghost use Rattle.solver.specs.inner.Ends.{Ends};
-ghost use Rattle.solver.specs.inner.Decision.{Decided};
-ghost use Rattle.flows.specs.ProvingSet.{bound};
-ghost use Rattle.arrays.specs.inner.Sizes.{mostValue};
 ghost use Rattle.arrays.specs.Maps.{mapOf};
-ghost use Rattle.maximum.specs.inner.Bracket.{Bracket};
+ghost use Rattle.maximum.specs.inner.Bracket.{Bracket, Closer};
 ghost use Rattle.maximum.specs.inner.Narrowing.{Narrows, Lowers, Joins};
-ghost use Rattle.maximum.specs.inner.Raising.{Raises};
 ghost use Rattle.maximum.specs.inner.Maximum.{Maximized};
-use feasibility::Lead;
+ghost use Rattle.maximum.specs.inner.Probing.{Probes};
 use node_flags::Side;
+
+// Which value is probed next: the high bound, the one nearest to zero, or the middle of the two bounds.
+enum Next {
+    High,
+    Zero,
+    Middle,
+}
+
+// What is known between two probes: the two bounds, whether the low one is found, which means that it is carried, and which value is probed next. Or that
+// nothing at all can be carried.
+struct Bounds {
+    low: i32,
+    high: i32,
+    found: bool,
+    next: Next,
+    none: bool,
+}
 
 // The two bounds after a proving set, or that it shows that there is nothing between any.
 struct Narrowed {
@@ -74,41 +96,45 @@ fn nearest_zero(low: i32, high: i32) -> i32
     0
 }
 
-// The value to probe: the middle, which halves what is left; else, once one is found, the high bound, which is the answer if it is carried, and before that the
-// value nearest to zero, which is the likeliest to be carried.
-fn next_value(low: i32, high: i32, middle: bool, found: bool) -> i32
+// The middle of the two bounds, rounded up.
+fn middle(low: i32, high: i32) -> i32
+    requires { ⌜ (low ≤ℤ high) × Limited 600000000 low × Limited 600000000 high ⌝ }
+    ensures { λ r. ⌜ (low ≤ℤ r) × (r ≤ℤ high) × (low <ℤ high → low <ℤ r) ⌝ }
+{
+    signed::minus(high, signed::halve(signed::minus(high, low)))
+}
+
+// The value to probe next. The high bound is the answer if it is carried; the value nearest to zero is the likeliest to be carried, and no use once one is
+// found; the middle halves what is left.
+fn next_value(low: i32, high: i32, found: bool, next: Next) -> i32
     requires { ⌜ (low ≤ℤ high) × Limited 600000000 low × Limited 600000000 high ⌝ }
     ensures { λ r. ⌜ (low ≤ℤ r) × (r ≤ℤ high) × (found ≡ true → low <ℤ high → low <ℤ r) ⌝ }
 {
-    if middle {
-        return signed::minus(high, signed::halve(signed::minus(high, low)));
+    if let Next::Middle = next {
+        return middle(low, high);
     }
     if found {
         return high;
     }
-    nearest_zero(low, high)
+    if let Next::Zero = next {
+        return nearest_zero(low, high);
+    }
+    high
 }
 
-// Whether the high bound is probed where the middle is not: once a value is found, and first of all where it is likely to be the answer.
-fn at_top(found: bool, first: bool) -> bool
-    ensures { λ r. ⌜ (found ≡ true → r ≡ true) ⌝ }
-{
-    if found {
-        return true;
-    }
-    first
-}
-
-// Whether the middle is probed after a value that cannot be carried: in turn with the high bound once one is found, and until then always. Where it was the
-// first value, and none is found, the one nearest to zero is next.
-fn middle_next(middle: bool, found: bool, first: bool) -> bool {
-    if first {
-        return found;
+// What is probed after a value that cannot be carried: once one is found, the middle and the high bound in turn; before that the value nearest to zero, where
+// it was not probed yet, and then the middle.
+fn next_after(next: Next, found: bool) -> Next {
+    if let Next::High = next {
+        if found {
+            return Next::Middle;
+        }
+        return Next::Zero;
     }
     if found {
-        return !middle;
+        return Next::High;
     }
-    true
+    Next::Middle
 }
 
 // Whether the bounds have met at a value that is carried.
@@ -148,30 +174,40 @@ fn begin(
 // The least that the negative of a cut can be: 512 edges at most, of a capacity of at most 1,000,000.
 const LOWEST: i32 = -512000000;
 
-// The low bound to begin with: the value that is carried, where one is known; else the negative of the cut of the flagged nodes. Where the high bound is likely
-// to be the answer it is probed first, and any low bound does.
-fn low_bound(
+// The bounds to begin with, where no value is known: the cut of the set a around the source, and the negative of the cut of the set b around the sink. Where
+// the high bound is likely to be the answer it is probed first, and any low bound does.
+fn first_bounds(
     tails: &[u16; 1024],
     capacities: &[i32; 1024],
-    b: &[u8; 1024],
     darts: usize,
-    known: bool,
     likely: bool,
-    value: i32,
-) -> i32
+    a: &[u8; 1024],
+    b: &[u8; 1024],
+) -> Bounds
     requires { ⌜ (darts ≤ 1024) × (darts % 2 ≡ 0) × ((d : ℕ) → d < darts → at (now tails) d < 1024)
         × ((d : ℕ) → d < darts → Limited 2000000 (atℤ (now capacities) d)) ⌝ }
-    ensures { λ r. ⌜ (known ≡ true → r ≡ value)
-        × (known ≡ false → (r ≡ negℤ (pos 512000000))
-        ⊎ (r ≡ negℤ (cutOf darts (at (now (tails .entry))) (atℤ (now (capacities .entry))) (flagged (now (b .entry)))))) ⌝ }
+    ensures { λ r. ⌜ (r .found ≡ false)
+        × (r .high ≡ cutOf darts (at (now (tails .entry))) (atℤ (now (capacities .entry))) (flagged (now (a .entry))))
+        × ((r .low ≡ negℤ (pos 512000000))
+        ⊎ (r .low ≡ negℤ (cutOf darts (at (now (tails .entry))) (atℤ (now (capacities .entry))) (flagged (now (b .entry)))))) ⌝ }
 {
-    if known {
-        return value;
-    }
+    let high = cuts::capacity(tails, capacities, a, darts);
     if likely {
-        return LOWEST;
+        return Bounds {
+            low: LOWEST,
+            high: high,
+            found: false,
+            next: Next::High,
+            none: false,
+        };
     }
-    negate(cuts::capacity(tails, capacities, b, darts))
+    Bounds {
+        low: negate(cuts::capacity(tails, capacities, b, darts)),
+        high: high,
+        found: false,
+        next: Next::Zero,
+        none: false,
+    }
 }
 
 // What the flagged nodes, which prove a value impossible, do to the bounds. A set at the source is kept in a, one at the sink in b, and one beside both in a.
@@ -273,8 +309,9 @@ fn join(
     node_flags::copy_flags(&*joined, a);
 }
 
-// The high bound, where it is wanted lowered by a set that is proposed from flows of the low one and the search's parents beside them. It is called from three
-// places, so that the compiler makes a function of it: its arrays then lie beside those of a decision on the stack, and not above them.
+// The high bound, lowered by a set that the pivots propose from the flows of the low one and from the tree of the faces that its search left; they leave
+// their own tree there. It is called from two places, so that the compiler makes a function of it: its arrays then lie beside those of a decision on the stack,
+// and not above them.
 fn propose<'a>(
     tails: &'a [u16; 1024],
     lefts: &'a [u16; 1024],
@@ -286,7 +323,6 @@ fn propose<'a>(
     sink: usize,
     low: i32,
     high: i32,
-    wanted: bool,
     flows: &[i32],
     parents: &mut [u16; 1024],
     inside: &mut [u8; 1024],
@@ -299,9 +335,6 @@ fn propose<'a>(
         × Lowers source sink (cutOf (2 * edges) (at (now (tails .entry))) (atℤ (now (capacities .entry))) (flagged (now (inside .exit))))
         high r (now (inside .exit)) (now (a .entry)) (now (a .exit)) ⌝ }
 {
-    if !wanted {
-        return high;
-    }
     if finished(low, high, true) {
         return high;
     }
@@ -330,25 +363,18 @@ fn propose<'a>(
     )
 }
 
-// Whether a first set is proposed from a value that is known: unless the set to begin with is likely to do.
-fn unlikely(known: bool, likely: bool) -> bool
-    ensures { λ r. ⌜ (r ≡ true → known ≡ true) ⌝ }
-{
-    if likely {
-        return false;
-    }
-    known
-}
-
-// The low bound, where it is wanted raised to the high one: that is confirmed along the parents which a proposal left, and its highest flow written. It is
-// called from three places too.
-fn raise<'a>(
+// Probes the next value: decides it by the search, from the tree of the faces as it stands. If it is carried it is the low bound, and the pivots may lower the
+// high one. If not, its proving set moves a bound or shows that there is nothing.
+fn probe<'a>(
     tails: &'a [u16; 1024],
     rotations: &'a [u16; 1024],
     lefts: &'a [u16; 1024],
     capacities: &'a [i32; 1024],
     order: &'a [u16; 1024],
     from: &'a [u16; 1024],
+    grouped: &'a [u16; 1024],
+    starts: &'a [u16; 1024],
+    ends: &'a [u16; 1024],
     nodes: usize,
     edges: usize,
     faces: usize,
@@ -356,32 +382,42 @@ fn raise<'a>(
     outer: usize,
     source: usize,
     sink: usize,
-    low: i32,
-    high: i32,
-    wanted: bool,
-    parents: &[u16; 1024],
+    bounds: Bounds,
     flows: &mut [i32],
-) -> i32
-    requires { ⌜ (edges ≤ length (now flows))
+    parents: &mut [u16; 1024],
+    inside: &mut [u8; 1024],
+    a: &mut [u8; 1024],
+    b: &mut [u8; 1024],
+) -> Bounds
+    requires { ⌜ (length (now parents) ≡ 1024) × (length (now inside) ≡ 1024) × (length (now a) ≡ 1024) × (length (now b) ≡ 1024)
+        × (edges ≤ length (now flows)) × ((d : ℕ) → d < 2 * edges → Limited 1000000 (atℤ (now capacities) d))
         × Drawn (mapOf nodes edges (now tails) (now rotations)) (at (now lefts)) faces outer (atℤ (now capacities))
-        × Ends (mapOf nodes edges (now tails) (now rotations)) source sink × Limited 600000000 high
-        × Forest (2 * edges) (at (now rotations)) outer (at (now order)) (at (now from)) trees ⌝ }
-    ensures { λ r. ⌜ Raises (mapOf nodes edges (now (tails .entry)) (now (rotations .entry))) outer (atℤ (now (capacities .entry)))
-        source sink low high r wanted (now (flows .entry)) (now (flows .exit)) ⌝ }
+        × Ends (mapOf nodes edges (now tails) (now rotations)) source sink
+        × Walked (2 * edges) faces outer trees (at (now rotations)) (now lefts) (now order) (now from) (now grouped) (now starts) (now ends)
+        × (bounds .low ≤ℤ bounds .high) × (bounds .found ≡ true → bounds .low <ℤ bounds .high)
+        × ((before : List ℤ) × Bracket (mapOf nodes edges (now tails) (now rotations)) outer (atℤ (now capacities)) source sink
+        before (now flows) (now a) (now b) (bounds .low) (bounds .high) (bounds .found)) ⌝ }
+    ensures { λ r. ⌜ (length (now (parents .exit)) ≡ 1024) × (length (now (inside .exit)) ≡ 1024) × (length (now (a .exit)) ≡ 1024)
+        × (length (now (b .exit)) ≡ 1024)
+        × (r .none ≡ false → Closer (bounds .low) (bounds .high) (bounds .found) (r .low) (r .high) (r .found))
+        × Probes (mapOf nodes edges (now (tails .entry)) (now (rotations .entry))) outer (atℤ (now (capacities .entry))) source sink
+        (now (flows .entry)) (now (flows .exit)) (now (a .entry)) (now (a .exit)) (now (b .entry)) (now (b .exit)) bounds r ⌝ }
 {
-    if !wanted {
-        return low;
-    }
-    if !is_less(low, high) {
-        return low;
-    }
-    if solver::confirm(
+    let low = bounds.low;
+    let high = bounds.high;
+    let found = bounds.found;
+    let next = bounds.next;
+    let value = next_value(low, high, found, next);
+    if solver::decide(
         tails,
         rotations,
         lefts,
         capacities,
         order,
         from,
+        grouped,
+        starts,
+        ends,
         nodes,
         edges,
         faces,
@@ -389,451 +425,56 @@ fn raise<'a>(
         outer,
         source,
         sink,
-        high,
-        parents,
-        flows,
+        value,
+        &mut *parents,
+        &mut *flows,
+        &mut *inside,
     ) {
-        return high;
-    }
-    low
-}
-
-// The value to decide next, and what was proposed for it: nothing (0), a tree of the faces in the parents (1), or a set that is flagged (2).
-struct Choice {
-    value: i32,
-    lead: u8,
-}
-
-// The proposed value, if it lies between the bounds, and above the low one once that is found; else the other.
-fn within(low: i32, high: i32, found: bool, value: i32, other: i32, lead: u8) -> Choice
-    requires { ⌜ (low ≤ℤ other) × (other ≤ℤ high) × (found ≡ true → low <ℤ high → low <ℤ other) ⌝ }
-    ensures { λ r. ⌜ (low ≤ℤ r .value) × (r .value ≤ℤ high) × (found ≡ true → low <ℤ high → low <ℤ r .value) ⌝ }
-{
-    let chosen = Choice {
-        value: value,
-        lead: lead,
-    };
-    let plain = Choice {
-        value: other,
-        lead: 0,
-    };
-    if is_less(high, value) {
-        return plain;
-    }
-    if is_less(low, value) {
-        return chosen;
-    }
-    if found {
-        return plain;
-    }
-    if is_less(value, low) {
-        return plain;
-    }
-    chosen
-}
-
-// What is proposed between the bounds: once a value is found, from the high bound down, and before that from the value nearest to zero.
-fn seek<'a>(
-    tails: &'a [u16; 1024],
-    rotations: &'a [u16; 1024],
-    lefts: &'a [u16; 1024],
-    capacities: &'a [i32; 1024],
-    from: &'a [u16; 1024],
-    grouped: &'a [u16; 1024],
-    starts: &'a [u16; 1024],
-    ends: &'a [u16; 1024],
-    edges: usize,
-    faces: usize,
-    outer: usize,
-    source: usize,
-    sink: usize,
-    low: i32,
-    high: i32,
-    found: bool,
-    parents: &mut [u16; 1024],
-    inside: &mut [u8; 1024],
-) -> Lead
-    requires { ⌜ (length (now parents) ≡ 1024) × (length (now inside) ≡ 1024) × (edges ≤ 512) × (faces ≤ 1024) × (outer < 1024)
-        × (low ≤ℤ high) × Limited 600000000 low
-        × ((d : ℕ) × (d < 2 * edges) × (at (now tails) d ≡ source)) × ((d : ℕ) × (d < 2 * edges) × (at (now tails) d ≡ sink)) ⌝ }
-    ensures { λ _. ⌜ (length (now (parents .exit)) ≡ 1024) × (length (now (inside .exit)) ≡ 1024) ⌝ }
-{
-    let start = traversal::dart_at(tails, 2 * edges, source);
-    let finish = traversal::dart_at(tails, 2 * edges, sink);
-    if found {
-        return feasibility::seek(
-            tails,
-            rotations,
-            lefts,
-            capacities,
-            from,
-            grouped,
-            starts,
-            ends,
-            faces,
-            outer,
-            start,
-            finish,
-            high,
-            signed::plus(low, 1),
-            high,
-            parents,
-            inside,
-        );
-    }
-    feasibility::seek(
-        tails,
-        rotations,
-        lefts,
-        capacities,
-        from,
-        grouped,
-        starts,
-        ends,
-        faces,
-        outer,
-        start,
-        finish,
-        nearest_zero(low, high),
-        low,
-        high,
-        parents,
-        inside,
-    )
-}
-
-// The value to decide next: where that is wanted, one that is proposed.
-fn choose<'a>(
-    tails: &'a [u16; 1024],
-    rotations: &'a [u16; 1024],
-    lefts: &'a [u16; 1024],
-    capacities: &'a [i32; 1024],
-    from: &'a [u16; 1024],
-    grouped: &'a [u16; 1024],
-    starts: &'a [u16; 1024],
-    ends: &'a [u16; 1024],
-    edges: usize,
-    faces: usize,
-    outer: usize,
-    source: usize,
-    sink: usize,
-    low: i32,
-    high: i32,
-    middle: bool,
-    found: bool,
-    first: bool,
-    wanted: bool,
-    parents: &mut [u16; 1024],
-    inside: &mut [u8; 1024],
-) -> Choice
-    requires { ⌜ (length (now parents) ≡ 1024) × (length (now inside) ≡ 1024) × (edges ≤ 512) × (faces ≤ 1024) × (outer < 1024)
-        × (low ≤ℤ high) × Limited 600000000 low × Limited 600000000 high
-        × ((d : ℕ) × (d < 2 * edges) × (at (now tails) d ≡ source)) × ((d : ℕ) × (d < 2 * edges) × (at (now tails) d ≡ sink)) ⌝ }
-    ensures { λ r. ⌜ (length (now (parents .exit)) ≡ 1024) × (length (now (inside .exit)) ≡ 1024)
-        × (low ≤ℤ r .value) × (r .value ≤ℤ high) × (found ≡ true → low <ℤ high → low <ℤ r .value) ⌝ }
-{
-    let value = next_value(low, high, middle, at_top(found, first));
-    if !wanted {
-        return Choice {
-            value: value,
-            lead: 0,
+        return Bounds {
+            low: value,
+            high: propose(
+                tails,
+                lefts,
+                capacities,
+                nodes,
+                edges,
+                faces,
+                source,
+                sink,
+                value,
+                high,
+                &*flows,
+                parents,
+                inside,
+                a,
+            ),
+            found: true,
+            next: Next::High,
+            none: false,
         };
     }
-    let lead = seek(
+    let n = narrow_by(
         tails,
-        rotations,
-        lefts,
         capacities,
-        from,
-        grouped,
-        starts,
-        ends,
-        edges,
-        faces,
-        outer,
+        &*inside,
+        2 * edges,
         source,
         sink,
         low,
         high,
-        found,
-        parents,
-        inside,
+        a,
+        b,
     );
-    match lead {
-        Lead::Settled(v) => within(low, high, found, v, value, 1),
-        Lead::Ring(v) => within(low, high, found, v, value, 2),
-        Lead::Lost => Choice {
-            value: value,
-            lead: 0,
-        },
+    Bounds {
+        low: n.low,
+        high: n.high,
+        found: found,
+        next: next_after(next, found),
+        none: n.none,
     }
 }
 
-// Whether the flagged nodes prove the value impossible.
-fn proves(
-    tails: &[u16; 1024],
-    capacities: &[i32; 1024],
-    inside: &[u8; 1024],
-    darts: usize,
-    source: usize,
-    sink: usize,
-    value: i32,
-) -> bool
-    requires { ⌜ (source < 1024) × (sink < 1024) × (darts ≤ 1024) × (darts % 2 ≡ 0) × ((d : ℕ) → d < darts → at (now tails) d < 1024)
-        × ((d : ℕ) → d < darts → Limited 2000000 (atℤ (now capacities) d)) × Limited 2048000000 value ⌝ }
-    ensures { λ r. ⌜ (r ≡ true → cutOf darts (at (now (tails .entry))) (atℤ (now (capacities .entry))) (flagged (now (inside .entry)))
-        <ℤ bound (flagged (now (inside .entry))) source sink value) ⌝ }
-{
-    let total = cuts::capacity(tails, capacities, inside, darts);
-    let side = node_flags::side_of(inside, source, sink);
-    match side {
-        Side::Source => is_less(total, value),
-        Side::Sink => is_less(total, negate(value)),
-        Side::Beside => is_less(total, 0),
-    }
-}
-
-// Decides a value by a tree that is proposed for it, if that shows that it is carried, else by a search.
-fn judge_by_tree<'a>(
-    tails: &'a [u16; 1024],
-    rotations: &'a [u16; 1024],
-    lefts: &'a [u16; 1024],
-    capacities: &'a [i32; 1024],
-    order: &'a [u16; 1024],
-    from: &'a [u16; 1024],
-    grouped: &'a [u16; 1024],
-    starts: &'a [u16; 1024],
-    ends: &'a [u16; 1024],
-    nodes: usize,
-    edges: usize,
-    faces: usize,
-    trees: usize,
-    outer: usize,
-    source: usize,
-    sink: usize,
-    value: i32,
-    parents: &mut [u16; 1024],
-    flows: &mut [i32],
-    inside: &mut [u8; 1024],
-) -> bool
-    requires { ⌜ (length (now inside) ≡ 1024) × (edges ≤ length (now flows))
-        × Drawn (mapOf nodes edges (now tails) (now rotations)) (at (now lefts)) faces outer (atℤ (now capacities))
-        × Ends (mapOf nodes edges (now tails) (now rotations)) source sink × Limited mostValue value × (length (now parents) ≡ 1024)
-        × Walked (2 * edges) faces outer trees (at (now rotations)) (now lefts) (now order) (now from) (now grouped) (now starts) (now ends) ⌝ }
-    ensures { λ r. ⌜ (length (now (inside .exit)) ≡ 1024)
-        × Decided (mapOf nodes edges (now (tails .entry)) (now (rotations .entry))) outer (atℤ (now (capacities .entry)))
-        source sink value (now (flows .entry)) (now (flows .exit)) (now (inside .exit)) r × (length (now (parents .exit)) ≡ 1024) ⌝ }
-{
-    let shown = solver::confirm(
-        tails,
-        rotations,
-        lefts,
-        capacities,
-        order,
-        from,
-        nodes,
-        edges,
-        faces,
-        trees,
-        outer,
-        source,
-        sink,
-        value,
-        &*parents,
-        &mut *flows,
-    );
-    if shown {
-        return true;
-    }
-    solver::decide(
-        tails,
-        rotations,
-        lefts,
-        capacities,
-        order,
-        from,
-        grouped,
-        starts,
-        ends,
-        nodes,
-        edges,
-        faces,
-        trees,
-        outer,
-        source,
-        sink,
-        value,
-        parents,
-        flows,
-        inside,
-    )
-}
-
-// Decides a value by a set that is proposed for it, if that proves it impossible, else by a search.
-fn judge_by_set<'a>(
-    tails: &'a [u16; 1024],
-    rotations: &'a [u16; 1024],
-    lefts: &'a [u16; 1024],
-    capacities: &'a [i32; 1024],
-    order: &'a [u16; 1024],
-    from: &'a [u16; 1024],
-    grouped: &'a [u16; 1024],
-    starts: &'a [u16; 1024],
-    ends: &'a [u16; 1024],
-    nodes: usize,
-    edges: usize,
-    faces: usize,
-    trees: usize,
-    outer: usize,
-    source: usize,
-    sink: usize,
-    value: i32,
-    parents: &mut [u16; 1024],
-    flows: &mut [i32],
-    inside: &mut [u8; 1024],
-) -> bool
-    requires { ⌜ (length (now inside) ≡ 1024) × (edges ≤ length (now flows))
-        × Drawn (mapOf nodes edges (now tails) (now rotations)) (at (now lefts)) faces outer (atℤ (now capacities))
-        × Ends (mapOf nodes edges (now tails) (now rotations)) source sink × Limited mostValue value × (length (now parents) ≡ 1024)
-        × Walked (2 * edges) faces outer trees (at (now rotations)) (now lefts) (now order) (now from) (now grouped) (now starts) (now ends) ⌝ }
-    ensures { λ r. ⌜ (length (now (inside .exit)) ≡ 1024)
-        × Decided (mapOf nodes edges (now (tails .entry)) (now (rotations .entry))) outer (atℤ (now (capacities .entry)))
-        source sink value (now (flows .entry)) (now (flows .exit)) (now (inside .exit)) r × (length (now (parents .exit)) ≡ 1024) ⌝ }
-{
-    if proves(tails, capacities, &*inside, 2 * edges, source, sink, value) {
-        return false;
-    }
-    solver::decide(
-        tails,
-        rotations,
-        lefts,
-        capacities,
-        order,
-        from,
-        grouped,
-        starts,
-        ends,
-        nodes,
-        edges,
-        faces,
-        trees,
-        outer,
-        source,
-        sink,
-        value,
-        parents,
-        flows,
-        inside,
-    )
-}
-
-// Decides a value: by what was proposed for it, if anything was.
-fn judge<'a>(
-    tails: &'a [u16; 1024],
-    rotations: &'a [u16; 1024],
-    lefts: &'a [u16; 1024],
-    capacities: &'a [i32; 1024],
-    order: &'a [u16; 1024],
-    from: &'a [u16; 1024],
-    grouped: &'a [u16; 1024],
-    starts: &'a [u16; 1024],
-    ends: &'a [u16; 1024],
-    nodes: usize,
-    edges: usize,
-    faces: usize,
-    trees: usize,
-    outer: usize,
-    source: usize,
-    sink: usize,
-    value: i32,
-    lead: u8,
-    parents: &mut [u16; 1024],
-    flows: &mut [i32],
-    inside: &mut [u8; 1024],
-) -> bool
-    requires { ⌜ (length (now inside) ≡ 1024) × (edges ≤ length (now flows))
-        × Drawn (mapOf nodes edges (now tails) (now rotations)) (at (now lefts)) faces outer (atℤ (now capacities))
-        × Ends (mapOf nodes edges (now tails) (now rotations)) source sink × Limited mostValue value × (length (now parents) ≡ 1024)
-        × Walked (2 * edges) faces outer trees (at (now rotations)) (now lefts) (now order) (now from) (now grouped) (now starts) (now ends) ⌝ }
-    ensures { λ r. ⌜ (length (now (inside .exit)) ≡ 1024)
-        × Decided (mapOf nodes edges (now (tails .entry)) (now (rotations .entry))) outer (atℤ (now (capacities .entry)))
-        source sink value (now (flows .entry)) (now (flows .exit)) (now (inside .exit)) r × (length (now (parents .exit)) ≡ 1024) ⌝ }
-{
-    if lead == 1 {
-        return judge_by_tree(
-            tails,
-            rotations,
-            lefts,
-            capacities,
-            order,
-            from,
-            grouped,
-            starts,
-            ends,
-            nodes,
-            edges,
-            faces,
-            trees,
-            outer,
-            source,
-            sink,
-            value,
-            parents,
-            flows,
-            inside,
-        );
-    }
-    if lead == 2 {
-        return judge_by_set(
-            tails,
-            rotations,
-            lefts,
-            capacities,
-            order,
-            from,
-            grouped,
-            starts,
-            ends,
-            nodes,
-            edges,
-            faces,
-            trees,
-            outer,
-            source,
-            sink,
-            value,
-            parents,
-            flows,
-            inside,
-        );
-    }
-    solver::decide(
-        tails,
-        rotations,
-        lefts,
-        capacities,
-        order,
-        from,
-        grouped,
-        starts,
-        ends,
-        nodes,
-        edges,
-        faces,
-        trees,
-        outer,
-        source,
-        sink,
-        value,
-        parents,
-        flows,
-        inside,
-    )
-}
-
-// Probes values between the bounds until they meet or pass each other, from a set around the source in a, whose cut may be likely to be the answer. The set
-// that bounds the answer, or shows that there is none, is left in a. Where a value that is carried is known, its highest flow stands in the slice, and the
-// parents of its search may serve to propose another set.
+// Probes values until the bounds meet or pass each other. The set that bounds the answer, or shows that there is none, is left in a.
 fn close_in<'a>(
     tails: &'a [u16; 1024],
     rotations: &'a [u16; 1024],
@@ -851,105 +492,36 @@ fn close_in<'a>(
     outer: usize,
     source: usize,
     sink: usize,
-    known: bool,
-    carried: i32,
-    likely: bool,
+    begun: Bounds,
     flows: &mut [i32],
     parents: &mut [u16; 1024],
+    inside: &mut [u8; 1024],
     a: &mut [u8; 1024],
+    b: &mut [u8; 1024],
 ) -> Maximum
-    requires { ⌜ (length (now a) ≡ 1024) × (edges ≤ length (now flows)) × ((d : ℕ) → d < 2 * edges → Limited 1000000 (atℤ (now capacities) d))
+    requires { ⌜ (length (now parents) ≡ 1024) × (length (now inside) ≡ 1024) × (length (now a) ≡ 1024) × (length (now b) ≡ 1024)
+        × (edges ≤ length (now flows)) × ((d : ℕ) → d < 2 * edges → Limited 1000000 (atℤ (now capacities) d))
         × Drawn (mapOf nodes edges (now tails) (now rotations)) (at (now lefts)) faces outer (atℤ (now capacities))
         × Ends (mapOf nodes edges (now tails) (now rotations)) source sink
         × Walked (2 * edges) faces outer trees (at (now rotations)) (now lefts) (now order) (now from) (now grouped) (now starts) (now ends)
-        × (length (now parents) ≡ 1024)
-        × (known ≡ true → (x : ℕ → ℤ) × Highest (mapOf nodes edges (now tails) (now rotations)) outer (atℤ (now capacities)) source sink carried x
-        × (now flows ≡ filled edges x (now flows))) × AtSource source sink (flagged (now a)) ⌝ }
-    ensures { λ r. ⌜ (length (now (a .exit)) ≡ 1024) × (length (now (parents .exit)) ≡ 1024)
+        × Bracket (mapOf nodes edges (now tails) (now rotations)) outer (atℤ (now capacities)) source sink (now flows) (now flows) (now a) (now b)
+        (begun .low) (begun .high) (begun .found) ⌝ }
+    ensures { λ r. ⌜ (length (now (parents .exit)) ≡ 1024) × (length (now (a .exit)) ≡ 1024)
         × Maximized (mapOf nodes edges (now (tails .entry)) (now (rotations .entry))) outer
         (atℤ (now (capacities .entry))) source sink (now (flows .entry)) (now (flows .exit)) (now (a .exit)) r ⌝ }
 {
-    let mut b = [0u8; 1024];
-    let mut inside = [0u8; 1024];
-    let mut first = likely;
-    node_flags::flag_one(sink, &mut b);
-    let mut low = low_bound(tails, capacities, &b, 2 * edges, known, first, carried);
-    let bound = cuts::capacity(tails, capacities, &*a, 2 * edges);
-    let wanted = unlikely(known, first);
-    let mut high = propose(
-        tails,
-        lefts,
-        capacities,
-        nodes,
-        edges,
-        faces,
-        source,
-        sink,
-        low,
-        bound,
-        wanted,
-        &*flows,
-        &mut *parents,
-        &mut inside,
-        &mut *a,
-    );
-    low = raise(
-        tails,
-        rotations,
-        lefts,
-        capacities,
-        order,
-        from,
-        nodes,
-        edges,
-        faces,
-        trees,
-        outer,
-        source,
-        sink,
-        low,
-        high,
-        wanted,
-        &*parents,
-        &mut *flows,
-    );
-    let mut found = known;
-    let mut middle = false;
-    let mut seeking = wanted;
-    let outcome = loop {
+    let mut bounds = begun;
+    loop {
+        let low = bounds.low;
+        let high = bounds.high;
         if is_less(high, low) {
-            join(tails, capacities, 2 * edges, &mut *a, &b, &mut inside);
-            break Maximum::Nothing;
+            join(tails, capacities, 2 * edges, a, &*b, inside);
+            return Maximum::Nothing;
         }
-        if finished(low, high, found) {
-            break Maximum::Value(high);
+        if finished(low, high, bounds.found) {
+            return Maximum::Value(high);
         }
-        let choice = choose(
-            tails,
-            rotations,
-            lefts,
-            capacities,
-            from,
-            grouped,
-            starts,
-            ends,
-            edges,
-            faces,
-            outer,
-            source,
-            sink,
-            low,
-            high,
-            middle,
-            found,
-            first,
-            seeking,
-            &mut *parents,
-            &mut inside,
-        );
-        let value = choice.value;
-        seeking = true;
-        if judge(
+        bounds = probe(
             tails,
             rotations,
             lefts,
@@ -966,120 +538,20 @@ fn close_in<'a>(
             outer,
             source,
             sink,
-            value,
-            choice.lead,
-            &mut *parents,
+            bounds,
             &mut *flows,
-            &mut inside,
-        ) {
-            low = value;
-            middle = false;
-            first = false;
-            if !found {
-                found = true;
-                high = propose(
-                    tails,
-                    lefts,
-                    capacities,
-                    nodes,
-                    edges,
-                    faces,
-                    source,
-                    sink,
-                    low,
-                    high,
-                    true,
-                    &*flows,
-                    &mut *parents,
-                    &mut inside,
-                    &mut *a,
-                );
-                low = raise(
-                    tails,
-                    rotations,
-                    lefts,
-                    capacities,
-                    order,
-                    from,
-                    nodes,
-                    edges,
-                    faces,
-                    trees,
-                    outer,
-                    source,
-                    sink,
-                    low,
-                    high,
-                    true,
-                    &*parents,
-                    &mut *flows,
-                );
-            } else {
-                high = propose(
-                    tails,
-                    lefts,
-                    capacities,
-                    nodes,
-                    edges,
-                    faces,
-                    source,
-                    sink,
-                    low,
-                    high,
-                    true,
-                    &*flows,
-                    &mut *parents,
-                    &mut inside,
-                    &mut *a,
-                );
-                low = raise(
-                    tails,
-                    rotations,
-                    lefts,
-                    capacities,
-                    order,
-                    from,
-                    nodes,
-                    edges,
-                    faces,
-                    trees,
-                    outer,
-                    source,
-                    sink,
-                    low,
-                    high,
-                    true,
-                    &*parents,
-                    &mut *flows,
-                );
-            }
-        } else {
-            let n = narrow_by(
-                tails,
-                capacities,
-                &inside,
-                2 * edges,
-                source,
-                sink,
-                low,
-                high,
-                &mut *a,
-                &mut b,
-            );
-            if n.none {
-                break Maximum::Nothing;
-            }
-            low = n.low;
-            high = n.high;
-            middle = middle_next(middle, found, first);
-            first = false;
+            &mut *parents,
+            &mut *inside,
+            &mut *a,
+            &mut *b,
+        );
+        if bounds.none {
+            return Maximum::Nothing;
         }
-    };
-    outcome
+    }
 }
 
-// The largest value, from the set that is first proposed. Where a value that is carried is known, its highest flow stands in the slice, and the parents of its
-// search may serve to propose another set. What the first set is listed in ends before the bounds close in: two arrays of that lie over it on the stack.
+// The largest value, where none is known. The parents are the tree of the faces that the first decision begins from.
 pub fn maximize_from<'a>(
     tails: &'a [u16; 1024],
     rotations: &'a [u16; 1024],
@@ -1097,8 +569,6 @@ pub fn maximize_from<'a>(
     outer: usize,
     source: usize,
     sink: usize,
-    known: bool,
-    carried: i32,
     flows: &mut [i32],
     parents: &mut [u16; 1024],
     a: &mut [u8; 1024],
@@ -1107,14 +577,16 @@ pub fn maximize_from<'a>(
         × Drawn (mapOf nodes edges (now tails) (now rotations)) (at (now lefts)) faces outer (atℤ (now capacities))
         × Ends (mapOf nodes edges (now tails) (now rotations)) source sink
         × Walked (2 * edges) faces outer trees (at (now rotations)) (now lefts) (now order) (now from) (now grouped) (now starts) (now ends)
-        × (length (now parents) ≡ 1024)
-        × (known ≡ true → (x : ℕ → ℤ) × Highest (mapOf nodes edges (now tails) (now rotations)) outer (atℤ (now capacities)) source sink carried x
-        × (now flows ≡ filled edges x (now flows))) ⌝ }
+        × (length (now parents) ≡ 1024) ⌝ }
     ensures { λ r. ⌜ (length (now (a .exit)) ≡ 1024) × (length (now (parents .exit)) ≡ 1024)
         × Maximized (mapOf nodes edges (now (tails .entry)) (now (rotations .entry))) outer
         (atℤ (now (capacities .entry))) source sink (now (flows .entry)) (now (flows .exit)) (now (a .exit)) r ⌝ }
 {
     let likely = begin(tails, rotations, capacities, edges, source, sink, &mut *a);
+    let mut b = [0u8; 1024];
+    let mut inside = [0u8; 1024];
+    node_flags::flag_one(sink, &mut b);
+    let bounds = first_bounds(tails, capacities, 2 * edges, likely, &*a, &b);
     close_in(
         tails,
         rotations,
@@ -1132,16 +604,16 @@ pub fn maximize_from<'a>(
         outer,
         source,
         sink,
-        known,
-        carried,
-        likely,
+        bounds,
         flows,
         parents,
+        &mut inside,
         a,
+        &mut b,
     )
 }
 
-// The same with nothing known, and parents of its own.
+// The same with parents of its own: the first decision begins from no tree.
 pub fn maximize<'a>(
     tails: &'a [u16; 1024],
     rotations: &'a [u16; 1024],
@@ -1170,7 +642,7 @@ pub fn maximize<'a>(
         × Maximized (mapOf nodes edges (now (tails .entry)) (now (rotations .entry))) outer
         (atℤ (now (capacities .entry))) source sink (now (flows .entry)) (now (flows .exit)) (now (a .exit)) r ⌝ }
 {
-    let mut parents = [0u16; 1024];
+    let mut parents = [1024u16; 1024];
     maximize_from(
         tails,
         rotations,
@@ -1188,8 +660,6 @@ pub fn maximize<'a>(
         outer,
         source,
         sink,
-        false,
-        0,
         flows,
         &mut parents,
         a,
@@ -1208,7 +678,78 @@ fn copy_flows(from: &[i32], edges: usize, to: &mut [i32])
     }
 }
 
-// The same where a value is known that is carried: its highest flow stands in `known`, and the parents are those that its search left.
+// Where a value is known and the first high bound is likely to be the answer, that bound is probed: from no tree, since the parents are kept for the pivots
+// beside the flow of the value that is known.
+fn try_likely<'a>(
+    tails: &'a [u16; 1024],
+    rotations: &'a [u16; 1024],
+    lefts: &'a [u16; 1024],
+    capacities: &'a [i32; 1024],
+    order: &'a [u16; 1024],
+    from: &'a [u16; 1024],
+    grouped: &'a [u16; 1024],
+    starts: &'a [u16; 1024],
+    ends: &'a [u16; 1024],
+    nodes: usize,
+    edges: usize,
+    faces: usize,
+    trees: usize,
+    outer: usize,
+    source: usize,
+    sink: usize,
+    likely: bool,
+    bounds: Bounds,
+    flows: &mut [i32],
+    inside: &mut [u8; 1024],
+    a: &mut [u8; 1024],
+    b: &mut [u8; 1024],
+) -> Bounds
+    requires { ⌜ (length (now inside) ≡ 1024) × (length (now a) ≡ 1024) × (length (now b) ≡ 1024)
+        × (edges ≤ length (now flows)) × ((d : ℕ) → d < 2 * edges → Limited 1000000 (atℤ (now capacities) d))
+        × Drawn (mapOf nodes edges (now tails) (now rotations)) (at (now lefts)) faces outer (atℤ (now capacities))
+        × Ends (mapOf nodes edges (now tails) (now rotations)) source sink
+        × Walked (2 * edges) faces outer trees (at (now rotations)) (now lefts) (now order) (now from) (now grouped) (now starts) (now ends)
+        × (bounds .none ≡ false)
+        × ((before : List ℤ) × Bracket (mapOf nodes edges (now tails) (now rotations)) outer (atℤ (now capacities)) source sink
+        before (now flows) (now a) (now b) (bounds .low) (bounds .high) (bounds .found)) ⌝ }
+    ensures { λ r. ⌜ (length (now (inside .exit)) ≡ 1024) × (length (now (a .exit)) ≡ 1024) × (length (now (b .exit)) ≡ 1024)
+        × Probes (mapOf nodes edges (now (tails .entry)) (now (rotations .entry))) outer (atℤ (now (capacities .entry))) source sink
+        (now (flows .entry)) (now (flows .exit)) (now (a .entry)) (now (a .exit)) (now (b .entry)) (now (b .exit)) bounds r ⌝ }
+{
+    if !likely {
+        return bounds;
+    }
+    if is_less(bounds.low, bounds.high) {
+        let mut parents = [1024u16; 1024];
+        return probe(
+            tails,
+            rotations,
+            lefts,
+            capacities,
+            order,
+            from,
+            grouped,
+            starts,
+            ends,
+            nodes,
+            edges,
+            faces,
+            trees,
+            outer,
+            source,
+            sink,
+            bounds,
+            flows,
+            &mut parents,
+            inside,
+            a,
+            b,
+        );
+    }
+    bounds
+}
+
+// The largest value where one is known that is carried: its highest flow stands in `known`, and the parents are those that its search left.
 pub fn maximize_on<'a>(
     tails: &'a [u16; 1024],
     rotations: &'a [u16; 1024],
@@ -1244,7 +785,17 @@ pub fn maximize_on<'a>(
         (atℤ (now (capacities .entry))) source sink (now (flows .entry)) (now (flows .exit)) (now (a .exit)) r ⌝ }
 {
     copy_flows(known, edges, &mut *flows);
-    maximize_from(
+    let likely = begin(tails, rotations, capacities, edges, source, sink, &mut *a);
+    let mut b = [0u8; 1024];
+    let mut inside = [0u8; 1024];
+    let given = Bounds {
+        low: carried,
+        high: cuts::capacity(tails, capacities, &*a, 2 * edges),
+        found: true,
+        next: Next::High,
+        none: false,
+    };
+    let tried = try_likely(
         tails,
         rotations,
         lefts,
@@ -1261,10 +812,61 @@ pub fn maximize_on<'a>(
         outer,
         source,
         sink,
-        true,
-        carried,
+        likely,
+        given,
+        &mut *flows,
+        &mut inside,
+        &mut *a,
+        &mut b,
+    );
+    if tried.none {
+        return Maximum::Nothing;
+    }
+    let high = propose(
+        tails,
+        lefts,
+        capacities,
+        nodes,
+        edges,
+        faces,
+        source,
+        sink,
+        tried.low,
+        tried.high,
+        &*flows,
+        &mut *parents,
+        &mut inside,
+        &mut *a,
+    );
+    let bounds = Bounds {
+        low: tried.low,
+        high: high,
+        found: tried.found,
+        next: Next::High,
+        none: false,
+    };
+    close_in(
+        tails,
+        rotations,
+        lefts,
+        capacities,
+        order,
+        from,
+        grouped,
+        starts,
+        ends,
+        nodes,
+        edges,
+        faces,
+        trees,
+        outer,
+        source,
+        sink,
+        bounds,
         flows,
         parents,
+        &mut inside,
         a,
+        &mut b,
     )
 }

@@ -15,13 +15,13 @@ const UNMARKED: u16 = 65535;
 const PIVOTS: usize = 1024;
 
 // A dart, a node or a face by its number.
-pub fn place(x: u16) -> usize
+fn place(x: u16) -> usize
     ensures { λ r. ⌜ r < 1024 ⌝ }
 {
     arrays::wide(x) % 1024
 }
 
-pub fn number(x: usize) -> u16
+fn number(x: usize) -> u16
     requires { ⌜ x < 1024 ⌝ }
     ensures { λ r. ⌜ r ≡ x ⌝ }
 {
@@ -29,7 +29,7 @@ pub fn number(x: usize) -> u16
 }
 
 // The node that the dart d leads to.
-pub fn head(tails: &[u16; 1024], d: usize) -> usize
+fn head(tails: &[u16; 1024], d: usize) -> usize
     requires { ⌜ d < 1024 ⌝ }
     ensures { λ r. ⌜ r < 1024 ⌝ }
 {
@@ -425,7 +425,7 @@ struct Grown {
 }
 
 // Flags no node.
-pub fn flag_none(inside: &mut [u8; 1024])
+fn flag_none(inside: &mut [u8; 1024])
     requires { ⌜ length (now inside) ≡ 1024 ⌝ }
     ensures { λ _. ⌜ length (now (inside .exit)) ≡ 1024 ⌝ }
 {

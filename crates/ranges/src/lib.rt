@@ -67,7 +67,7 @@ pub fn least_and_largest<'a>(
         return RangeAnswer::Refused(k, p);
     }
     let mut inside = [0u8; 1024];
-    let mut parents = [0u16; 1024];
+    let mut parents = [1024u16; 1024];
     let most = maximum::maximize_from(
         tails,
         rotations,
@@ -85,8 +85,6 @@ pub fn least_and_largest<'a>(
         outer,
         s,
         t,
-        false,
-        0,
         &mut *high,
         &mut parents,
         &mut inside,

@@ -7,10 +7,11 @@ use Prim.Native.Nat.{ℕ, _+_, _*_, _≤_, _<_}
 use native.Mathlib.Omega.{arith}
 use lib.ListN.{length, take, drop}
 use lib.Seq.{length-take-le, getD-take}
-use lib.IntN.{ℤ, pos, _+ℤ_, _-ℤ_, _*ℤ_}
-use lib.Signed.{_≤ℤ_, _<ℤ_}
+use lib.IntN.{ℤ, pos, negsuc, _+ℤ_, _-ℤ_, _*ℤ_}
+use lib.Signed.{_≤ℤ_, _<ℤ_, mag}
 use Rattle.integers.specs.Sum.{Integers, when}
-use Rattle.integers.proofs.Omega.{atoms₄, parts, equal}
+use Rattle.integers.specs.inner.Limited.{Limited}
+use Rattle.integers.proofs.Omega.{atoms₄, parts, equal, from-at-most}
 use Rattle.integers.proofs.Sums.{sum-ext}
 use Rattle.maps.specs.Dart.{rev}
 use Rattle.maps.specs.Map.{Map, darts}
@@ -37,7 +38,6 @@ use Rattle.traversal.proofs.Forests.{start-in, trees-components, tree-of-start}
 use Rattle.traversal.proofs.Rooting.{roots-few, root-is, root-zero, zero-root}
 use Rattle.search.specs.inner.OfMap.{OfMap}
 use Rattle.search.proofs.Highest as settled
-use Rattle.face_trees.proofs.Laws.{limited-mag}
 use Rattle.edge_flows.specs.inner.Flow.{flowOf}
 use Rattle.arrays.specs.inner.Drawn.{Drawn}
 use Rattle.solver.specs.inner.Ends.{Ends}
@@ -45,6 +45,11 @@ use Rattle.solver.specs.inner.Search.{Lengthened, Measured, Searchable, 
 use Rattle.solver.specs.inner.Decision.{Decided}
 use Rattle.arrays.specs.inner.Flags.{flagged}
 use Rattle.solver.proofs.Preparing.{faces-most}
+
+-- a limited number's magnitude
+limited-mag : (b : ℕ) (x : ℤ) → Limited b x → mag x ≤ b
+limited-mag b (pos n) h = omega (arith, from-at-most (h .high) (search parts))
+limited-mag b (negsuc n) h = omega (arith, from-at-most (h .low) (search parts))
 
 module _ {𝓜 : Map} (lefts : List ℕ) {count outer : ℕ} {c : ℕ → ℤ} (drawn : Drawn 𝓜 (at lefts) count outer c)
     {s t : ℕ} (two : Ends 𝓜 s t) {value : ℤ} (row : List ℤ)

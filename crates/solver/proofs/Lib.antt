@@ -3,6 +3,5 @@ pub mod SettledFlows
 pub mod Ringing
 pub mod Preparing
 pub mod Deciding
-pub mod Confirming
 pub mod Naming
 pub mod OneSet

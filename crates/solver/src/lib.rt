@@ -24,8 +24,8 @@ ghost use Rattle.arrays.specs.inner.Drawn.{Drawn};
 ghost use Rattle.solver.specs.inner.Ends.{Ends};
 ghost use Rattle.arrays.specs.Maps.{mapOf, rightOf};
 ghost use Rattle.arrays.specs.inner.Sizes.{mostCapacity, mostValue};
-ghost use Rattle.solver.specs.inner.Search.{PartFlagged, Measured, Searchable, Searched, Retraced, Ringed};
-ghost use Rattle.solver.specs.inner.Decision.{Decided, Confirmed};
+ghost use Rattle.solver.specs.inner.Search.{PartFlagged, Measured, Searchable, Searched, Ringed};
+ghost use Rattle.solver.specs.inner.Decision.{Decided};
 ghost use Rattle.solver.specs.inner.Named.{MeasuredBy, MadeOfRing, Named};
 ghost use Rattle.arrays.specs.inner.Flags.{flagged};
 use search::Outcome;
@@ -330,114 +330,4 @@ pub fn decide<'a>(
         return false;
     }
     true
-}
-
-// Lays levels along the parents from the faces at 0, which are read off the walk, and looks whether they are settled: where they are, writes the flows that
-// they make, as the search would.
-fn retrace<'a>(
-    rotations: &'a [u16; 1024],
-    lefts: &'a [u16; 1024],
-    capacities: &'a [i32; 1024],
-    lengths: &'a [i32; 1024],
-    order: &'a [u16; 1024],
-    from: &'a [u16; 1024],
-    edges: usize,
-    faces: usize,
-    trees: usize,
-    outer: usize,
-    parents: &[u16; 1024],
-    flows: &mut [i32],
-) -> bool
-    requires { ⌜ (trees ≤ 1024) × (edges ≤ 512) × (edges ≤ length (now flows))
-        × Forest (2 * edges) (at (now rotations)) outer (at (now order)) (at (now from)) trees
-        × ((queue : List ℕ) → length queue ≡ 1024 → RootsOf (2 * edges) (at (now rotations)) outer (at (now lefts)) (at queue) trees
-        → Searchable (dualOf (now lefts) (now lengths) (2 * edges) faces (take trees queue)) edges (atℤ (now capacities))) ⌝ }
-    ensures { λ r. ⌜ Retraced (λ queue. dualOf (now (lefts .entry)) (now (lengths .entry)) (2 * edges) faces (take trees queue))
-        (λ queue. RootsOf (2 * edges) (at (now (rotations .entry))) outer (at (now (lefts .entry))) (at queue) trees)
-        edges (atℤ (now (capacities .entry))) (now (flows .entry)) (now (flows .exit)) r ⌝ }
-{
-    let mut queue = [0u16; 1024];
-    traversal::first_faces(
-        rotations,
-        lefts,
-        order,
-        from,
-        2 * edges,
-        outer,
-        trees,
-        &mut queue,
-    );
-    let mut levels = [2000000000000000i64; 1024];
-    if face_trees::lay_levels(
-        lefts,
-        lengths,
-        parents,
-        2 * edges,
-        faces,
-        trees,
-        &mut levels,
-        &mut queue,
-    ) {
-        edge_flows::fill_flows(lefts, capacities, lengths, &levels, edges, flows);
-        return true;
-    }
-    false
-}
-
-// Confirms a value by parents that are proposed, without a search: true with the highest flow of the value written, as `decide` writes it; false, with the
-// slice as it was, where the parents do not show it, whether the value can be carried or not. `nodes` is named by the contract only.
-pub fn confirm<'a>(
-    tails: &'a [u16; 1024],
-    rotations: &'a [u16; 1024],
-    lefts: &'a [u16; 1024],
-    capacities: &'a [i32; 1024],
-    order: &'a [u16; 1024],
-    from: &'a [u16; 1024],
-    nodes: usize,
-    edges: usize,
-    faces: usize,
-    trees: usize,
-    outer: usize,
-    source: usize,
-    sink: usize,
-    value: i32,
-    parents: &[u16; 1024],
-    flows: &mut [i32],
-) -> bool
-    requires { ⌜ (edges ≤ length (now flows))
-        × Drawn (mapOf nodes edges (now tails) (now rotations)) (at (now lefts)) faces outer (atℤ (now capacities))
-        × Ends (mapOf nodes edges (now tails) (now rotations)) source sink × Limited mostValue value
-        × Forest (2 * edges) (at (now rotations)) outer (at (now order)) (at (now from)) trees ⌝ }
-    ensures { λ r. ⌜ Confirmed (mapOf nodes edges (now (tails .entry)) (now (rotations .entry))) outer (atℤ (now (capacities .entry)))
-        source sink value (now (flows .entry)) (now (flows .exit)) r ⌝ }
-{
-    let start = traversal::dart_at(tails, 2 * edges, source);
-    let finish = traversal::dart_at(tails, 2 * edges, sink);
-    let mut lengths = [0i32; 1024];
-    if lengths::fill_lengths(
-        capacities,
-        order,
-        from,
-        2 * edges,
-        start,
-        finish,
-        value,
-        &mut lengths,
-    ) {
-        return retrace(
-            rotations,
-            lefts,
-            capacities,
-            &lengths,
-            order,
-            from,
-            edges,
-            faces,
-            trees,
-            outer,
-            parents,
-            flows,
-        );
-    }
-    false
 }

@@ -1,6 +1,5 @@
--- `maximum::maximize` meets its contract: nothing is known to begin with.
-use mathlib.Core.Path.{refl, sym}
-use mathlib.Core.Bool.{true≢false}
+-- `maximum::maximize` meets its contract: the first decision begins from no tree.
+use mathlib.Core.Path.{refl}
 use borrow.Author.Needs.{needs}
 use Rattle.maximum.proofs.maximize.Statement.{statement}
 use Rattle.maximum.proofs.maximize.Tie as tie
@@ -8,7 +7,7 @@ use Rattle.maximum.proofs.maximize.Tie as tie
 maximize-from-requires : tie.Need-maximize-from-requires
 maximize-from-requires c κs =
     let p = c .before .before .before .pre in
-    (p .0, p .1, p .2, p .3, p .4, p .5, refl, λ e. absurd (true≢false (sym e)))
+    (p .0, p .1, p .2, p .3, p .4, p .5, refl)
 
 same-length : tie.Need-same-length
 same-length c = search needs

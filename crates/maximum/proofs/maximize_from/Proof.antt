@@ -1,13 +1,30 @@
 -- `maximum::maximize_from` meets its contract: the first set lies at the source, and the bounds close in from there.
-use mathlib.Core.Path.{sym, subst}
+use mathlib.Core.Path.{_≡_, refl, sym, subst}
+use mathlib.Core.List.{List}
+use Prim.Native.Nat.{ℕ, _*_, _<_}
 use native.Mathlib.Omega.{arith}
+use lib.IntN.{ℤ}
 use borrow.Author.Needs.{needs}
-use Rattle.signed.proofs.Laws.{number-of-bits}
-use Rattle.flows.specs.Highest.{Highest}
-use Rattle.arrays.specs.At.{atℤ}
+use Rattle.integers.specs.inner.Limited.{Limited}
+use Rattle.integers.proofs.Limits.{limited-more}
+use Rattle.maps.specs.Map.{Map}
+use Rattle.arrays.specs.At.{at, atℤ}
 use Rattle.arrays.specs.Maps.{mapOf}
+use Rattle.maximum.specs.inner.Bracket.{Bracket}
+use Rattle.maximum.proofs.Bracketing.{Ground, begins}
 use Rattle.maximum.proofs.maximize_from.Statement.{statement}
 use Rattle.maximum.proofs.maximize_from.Tie as tie
+
+abbrev 𝓜 : tie.Start → Map
+𝓜 c = mapOf (c .args .nodes) (c .args .edges) (c .args .tails .now) (c .args .rotations .now)
+
+abbrev caps : tie.Start → ℕ → ℤ
+caps c = atℤ (c .args .capacities .now)
+
+ground : (c : tie.Start) → Ground (𝓜 c) (caps c) (c .args .source) (c .args .sink)
+ground c =
+    let p = c .pre in
+    record { plane = p .3 .plane; few-nodes = p .3 .few-nodes; few-edges = p .3 .few-edges; small = p .2; pairs = p .3 .pairs; two = p .4 }
 
 begin-requires : tie.Need-begin-requires
 begin-requires c κs =
@@ -20,35 +37,79 @@ begin-requires c κs =
       p .3 .plane .sound .has-dart _ (p .4 .source-in),
     )
 
+flag-one-requires : tie.Need-flag-one-requires
+flag-one-requires c κs = let p = c .before .before .before .pre in (refl, omega (arith, p .4 .sink-in, p .3 .few-nodes))
+
+mul-first-bounds : tie.Need-mul-first-bounds
+mul-first-bounds c = omega (arith, c .before .before .before .before .pre .3 .few-edges)
+
+abbrev given : tie.After-flag-one → tie.Start
+given c = c .before .before .before .before
+
+tails-in : (c : tie.Start) (d : ℕ) → d < 2 * c .args .edges → at (c .args .tails .now) d < 1024
+tails-in c d l = omega (arith, c .pre .3 .few-nodes, c .pre .3 .plane .sound .range .tail-in d l)
+
+caps-in : (c : tie.Start) (d : ℕ) → d < 2 * c .args .edges → Limited 2000000 (caps c d)
+caps-in c d l = limited-more (omega arith) (c .pre .2 d l)
+
+first-bounds-requires : tie.Need-first-bounds-requires
+first-bounds-requires c κs =
+    let s = given (c .before .before) in
+    (omega (arith, s .pre .3 .few-edges), omega arith, tails-in s, caps-in s)
+
+-- the bounds to begin with
+abbrev flagged-sink : tie.After-first-bounds → tie.After-flag-one
+flagged-sink c = c .before .before .before
+
+abbrev first-set : tie.After-first-bounds → tie.After-begin
+first-set c = flagged-sink c .before .before
+
+bounds : (c : tie.After-first-bounds)
+    → let s = given (flagged-sink c) in
+    Bracket (𝓜 s) (s .args .outer) (caps s) (s .args .source) (s .args .sink) (s .args .flows .now) (s .args .flows .now)
+    (first-set c .begin .last .1 .1 .1 .1 .1 .1 .0) (flagged-sink c .flag-one .last .1 .0)
+    (c .first-bounds .result .low) (c .first-bounds .result .high) (c .first-bounds .result .found)
+bounds c =
+    let s = given (flagged-sink c) in
+    let A = first-set c .begin .last .1 .1 .1 .1 .1 .1 .0 in
+    let B = flagged-sink c .flag-one .last .1 .0 in
+    let r = c .first-bounds .result in
+    let e = c .first-bounds .ensures in
+    subst (Bracket (𝓜 s) (s .args .outer) (caps s) (s .args .source) (s .args .sink) (s .args .flows .now) (s .args .flows .now) A B (r .low) (r .high))
+    (sym (e .0))
+    (begins (s .args .outer) (ground s) (s .args .flows .now) A B (r .low) (r .high) (first-set c .begin .ensures .1) (flagged-sink c .flag-one .ensures .1)
+    (e .1) (e .2))
+
 close-in-requires : tie.Need-close-in-requires
 close-in-requires c κs =
-    let g = c .before .before .before in
-    let s = g .before .before in
-    let a = s .args in
-    let 𝓜 = mapOf (a .nodes) (a .edges) (a .tails .now) (a .rotations .now) in
-    let p = s .pre in
-    let e = g .begin .ensures in (
-      e .0,
+    let m = c .before .before .before .before .before in
+    let p = given (flagged-sink m) .pre in (
+      p .6,
+      refl,
+      first-set m .begin .ensures .0,
+      flagged-sink m .flag-one .ensures .0,
       p .1,
       p .2,
       p .3,
       p .4,
       p .5,
-      p .6,
-      λ so. let k = p .7 so in (
-        k .0,
-        subst (λ v. Highest 𝓜 (a .outer) (atℤ (a .capacities .now)) (a .source) (a .sink) v (k .0))
-            (sym (number-of-bits _ (s .fits .carried))) (k .1),
-        k .2,
-      ),
-      e .1,
+      bounds m,
     )
 
 same-length : tie.Need-same-length
 same-length c = search needs
 
 returns : tie.Need-returns
-returns c = search needs
+returns c = let e = c .before .close-in .ensures in (e .1, e .0, e .2)
 
 pub maximize-from-spec : {M : Type 1} → statement M
-maximize-from-spec = tie.close (tie.spec begin-requires close-in-requires same-length returns)
+maximize-from-spec =
+    tie.close
+    (tie.spec
+    begin-requires
+    flag-one-requires
+    mul-first-bounds
+    first-bounds-requires
+    close-in-requires
+    same-length
+    returns)

@@ -1,20 +1,40 @@
--- `maximum::maximize_on` meets its contract: the flow that is known is copied, and what is found from there is told of the slice as it was before.
-use mathlib.Core.Path.{_≡_, refl, sym, _∙_, subst}
+-- `maximum::maximize_on` meets its contract: the flow that is known is copied, the high bound may be tried and lowered, and what is found from there is told of
+-- the slice as it was before.
+use mathlib.Core.Path.{_≡_, refl, sym, _∙_, ap, subst}
+use mathlib.Core.Bool.{true}
 use mathlib.Core.List.{List}
-use Prim.Native.Nat.{ℕ, _≤_}
+use Prim.Native.Nat.{ℕ, _*_, _≤_, _<_}
 use native.Mathlib.Omega.{arith}
 use lib.ListN.{length}
 use lib.IntN.{ℤ}
+use mir.Syntax.{w32}
+use mir.Val.{toZ, ofZ}
 use borrow.Author.Needs.{needs}
 use Rattle.integers.specs.inner.Limited.{Limited}
+use Rattle.integers.proofs.Limits.{limited-more}
 use Rattle.signed.proofs.Laws.{number-of-bits}
+use Rattle.signed.proofs.Limits.{same-bits}
 use Rattle.maps.specs.Map.{Map}
 use Rattle.flows.specs.Highest.{Highest}
-use Rattle.arrays.specs.At.{atℤ}
+use Rattle.arrays.specs.At.{at, atℤ}
 use Rattle.arrays.specs.Filled.{filled}
 use Rattle.arrays.specs.Maps.{mapOf}
 use Rattle.arrays.proofs.FillLoops.{filled-length}
-use Rattle.maximum.proofs.Bracketing.{Ground, filled-again, read-back, copied, flow-small, told-before}
+use Rattle.maximum.specs.inner.Bracket.{Bracket}
+use Rattle.maximum.proofs.Bracketing.{
+  Ground,
+  read-back,
+  copied,
+  flow-small,
+  high-small,
+  begins-on,
+  lowered,
+  bits-bracket,
+  bracket-length,
+  maximized-length,
+  anew,
+  told-before,
+}
 use Rattle.maximum.proofs.maximize_on.Statement.{statement}
 use Rattle.maximum.proofs.maximize_on.Tie as tie
 
@@ -54,42 +74,225 @@ is-since c =
     let k = s .pre .7 in
     copied (s .args .edges) (k .0) (k .1) (s .args .known .now) (k .3) (k .4) (s .args .flows .now) (since c) (c .copy-flows .ensures)
 
-maximize-from-requires : tie.Need-maximize-from-requires
-maximize-from-requires c κs =
-    let m = c .before .before .before .before in
-    let s = given m in
-    let p = s .pre in
-    let k = p .7 in
-    let e = is-since m in (
+same-room : (c : tie.After-copy-flows) → length (since c) ≡ length (given c .args .flows .now)
+same-room c =
+    let s = given c in
+    filled-length (s .args .edges) (s .pre .7 .0) (s .args .flows .now) (since c) (is-since c) (s .pre .1)
+
+tails-in : (c : tie.Start) (d : ℕ) → d < 2 * c .args .edges → at (c .args .tails .now) d < 1024
+tails-in c d l = omega (arith, c .pre .3 .few-nodes, c .pre .3 .plane .sound .range .tail-in d l)
+
+caps-in : (c : tie.Start) (d : ℕ) → d < 2 * c .args .edges → Limited 2000000 (caps c d)
+caps-in c d l = limited-more (omega arith) (c .pre .2 d l)
+
+begin-requires : tie.Need-begin-requires
+begin-requires c κs =
+    let p = given (c .before .before) .pre in (
       p .0,
-      omega (arith, filled-length (s .args .edges) (k .0) (s .args .flows .now) (since m) e (p .1), p .1),
+      p .3 .few-edges,
+      omega (arith, p .4 .source-in, p .3 .few-nodes),
+      omega (arith, p .4 .sink-in, p .3 .few-nodes),
+      p .4 .two,
+      p .3 .plane .sound .has-dart _ (p .4 .source-in),
+    )
+
+abbrev copy : tie.After-begin → tie.After-copy-flows
+copy c = c .before .before .before
+
+abbrev base : tie.After-begin → tie.Start
+base c = given (copy c)
+
+mul-capacity : tie.Need-mul-capacity
+mul-capacity c = omega (arith, base (c .before) .pre .3 .few-edges)
+
+capacity-requires : tie.Need-capacity-requires
+capacity-requires c κs =
+    let s = base (c .before) in
+    (omega (arith, s .pre .3 .few-edges), omega arith, tails-in s, caps-in s)
+
+-- ── the bounds to begin with ──
+abbrev first-set : tie.After-capacity → tie.After-begin
+first-set c = c .before .before
+
+abbrev start : tie.After-capacity → tie.Start
+start c = base (first-set c)
+
+abbrev a₀ : tie.After-capacity → List ℕ
+a₀ c = first-set c .begin .last .1 .1 .1 .1 .1 .1 .0
+
+bounds : (c : tie.After-capacity) (B : List ℕ)
+    → Bracket (𝓜 (start c)) (start c .args .outer) (caps (start c)) (start c .args .source) (start c .args .sink) (start c .args .flows .now)
+    (since (copy (first-set c))) (a₀ c) B (toZ w32 (ofZ w32 (start c .args .carried))) (toZ w32 (ofZ w32 (c .capacity .result))) true
+bounds c B =
+    let s = start c in
+    let k = s .pre .7 in
+    begins-on (s .args .outer) (ground s) (s .args .flows .now) (since (copy (first-set c))) (a₀ c) B _ _ (k .0) (first-set c .begin .ensures .1)
+    (number-of-bits _ (record { sfits = c .capacity .ok }) ∙ c .capacity .ensures)
+    (subst (λ v. Highest (𝓜 s) (s .args .outer) (caps s) (s .args .source) (s .args .sink) v (k .0)) (sym (number-of-bits _ (s .fits .carried))) (k .2))
+    (is-since (copy (first-set c)))
+
+try-likely-requires : tie.Need-try-likely-requires
+try-likely-requires c κs =
+    let q = c .before .before .before .before in
+    let s = start q in
+    let p = s .pre in (
+      refl,
+      first-set q .begin .ensures .0,
+      refl,
+      omega (arith, same-room (copy (first-set q)), p .1),
       p .2,
       p .3,
       p .4,
       p .5,
-      p .6,
-      λ _. (
-        k .0,
-        subst (λ v. Highest (𝓜 s) (s .args .outer) (caps s) (s .args .source) (s .args .sink) v (k .0)) (sym (number-of-bits _ (s .fits .carried))) (k .2),
-        e ∙ sym (filled-again (s .args .edges) (k .0) (k .0) (s .args .flows .now) (since m) e),
-      ),
+      refl,
+      (s .args .flows .now, bounds q _),
     )
 
+-- ── the high bound was tried ──
+abbrev measured : tie.After-try-likely → tie.After-capacity
+measured c = c .before .before .before .before .before
+
+abbrev origin : tie.After-try-likely → tie.Start
+origin c = start (measured c)
+
+abbrev flows₁ : tie.After-try-likely → List ℤ
+flows₁ c = c .try-likely .last .1 .1 .1 .1 .1 .1 .1 .1 .1 .1 .1 .1 .1 .1 .1 .1 .1 .1 .0
+
+abbrev a₁ : tie.After-try-likely → List ℕ
+a₁ c = c .try-likely .last .1 .1 .1 .1 .1 .1 .1 .1 .1 .1 .1 .1 .1 .1 .1 .1 .1 .1 .1 .1 .0
+
+abbrev b₁ : tie.After-try-likely → List ℕ
+b₁ c = c .try-likely .last .1 .1 .1 .1 .1 .1 .1 .1 .1 .1 .1 .1 .1 .1 .1 .1 .1 .1 .1 .1 .1 .0
+
 same-length : tie.Need-same-length
-same-length c = search needs
+same-length c =
+    let t = c .before .before in
+    let s = origin t in
+    ap length (t .try-likely .ensures .3 (s .args .flows .now) (bounds (measured t) _) .0 (c .if1 .taken) .0)
 
 returns : tie.Need-returns
 returns c =
-    let m = c .before .before .before .before .before .before in
-    let s = given m in
-    let k = s .pre .7 in
-    let o = c .before .maximize-from in
-    let flows' = o .last .1 .1 .1 .1 .1 .1 .1 .1 .1 .1 .1 .1 .1 .1 .1 .1 .1 .1 .0 in
-    let A = o .last .1 .1 .1 .1 .1 .1 .1 .1 .1 .1 .1 .1 .1 .1 .1 .1 .1 .1 .1 .1 .0 in (
-      o .ensures .0,
-      told-before (s .args .outer) (ground s) (s .args .flows .now) (since m) flows' A (s .args .carried) (k .0) (k .2) (is-since m) (o .result)
-          (o .ensures .2),
+    let t = c .before .before in
+    let e = t .try-likely .ensures in
+    (e .1, e .3 (origin t .args .flows .now) (bounds (measured t) _) .0 (c .if1 .taken))
+
+abbrev tried : tie.Else1 → tie.After-try-likely
+tried c = c .before .before
+
+-- the bounds then, as the numbers of their bits
+still : (c : tie.Else1)
+    → let s = origin (tried c) in let r = tried c .try-likely .result in
+    Bracket (𝓜 s) (s .args .outer) (caps s) (s .args .source) (s .args .sink) (s .args .flows .now) (flows₁ (tried c)) (a₁ (tried c)) (b₁ (tried c))
+    (toZ w32 (ofZ w32 (r .low))) (toZ w32 (ofZ w32 (r .high))) (r .found)
+still c =
+    let t = tried c in
+    let s = origin t in
+    bits-bracket (s .args .outer) (ground s) (s .args .flows .now) (flows₁ t) (a₁ t) (b₁ t) _ _ (t .try-likely .result .found)
+    (t .try-likely .ensures .3 (s .args .flows .now) (bounds (measured t) _) .1 (c .if1 .left))
+
+room : (c : tie.Else1) → origin (tried c) .args .edges ≤ length (flows₁ (tried c))
+room c =
+    let s = origin (tried c) in
+    omega (arith, bracket-length (tried c .try-likely .result .found) (s .pre .1) (still c), s .pre .1)
+
+propose-requires : tie.Need-propose-requires
+propose-requires c κs =
+    let l = c .before .before .before .before .before .before in
+    let t = tried l in
+    let s = origin t in
+    let p = s .pre in (
+      p .6,
+      t .try-likely .ensures .0,
+      t .try-likely .ensures .1,
+      room l,
+      p .3 .few-nodes,
+      p .3 .few-edges,
+      omega (arith, p .4 .source-in, p .3 .few-nodes),
+      omega (arith, p .4 .sink-in, p .3 .few-nodes),
+      tails-in s,
+      caps-in s,
+    )
+
+-- ── and lowered by the pivots ──
+abbrev left : tie.After-propose → tie.Else1
+left c = c .before .before .before .before .before .before .before
+
+abbrev a₂ : tie.After-propose → List ℕ
+a₂ c = c .propose .last .1 .1 .1 .1 .1 .1 .1 .1 .1 .1 .1 .1 .1 .0
+
+begun : (c : tie.After-propose)
+    → let t = tried (left c) in let s = origin t in let r = t .try-likely .result in
+    Bracket (𝓜 s) (s .args .outer) (caps s) (s .args .source) (s .args .sink) (s .args .flows .now) (flows₁ t) (a₂ c) (b₁ t)
+    (toZ w32 (ofZ w32 (r .low))) (toZ w32 (ofZ w32 (c .propose .result))) (r .found)
+begun c =
+    let t = tried (left c) in
+    let s = origin t in
+    let f = t .try-likely .result .found in
+    let l = lowered (s .args .outer) (ground s) (s .args .flows .now) (flows₁ t) (a₁ t) (b₁ t) _ _ f (still (left c)) _ (a₂ c) (c .propose .result)
+    (c .propose .ensures .3) .0 in
+    rw (same-bits (omega arith) (high-small (s .args .outer) (ground s) (l .ceiling))) l
+
+close-in-requires : tie.Need-close-in-requires
+close-in-requires c κs =
+    let w = c .before .before .before .before .before .before in
+    let t = tried (left w) in
+    let p = origin t .pre in
+    let e = w .propose .ensures in (
+      e .0,
+      e .1,
+      e .2,
+      t .try-likely .ensures .2,
+      room (left w),
+      p .2,
+      p .3,
+      p .4,
+      p .5,
+      anew (t .try-likely .result .found) (begun w),
+    )
+
+-- ── what is found from there, told of the slice that was lent ──
+abbrev proposed : tie.After-close-in → tie.After-propose
+proposed c = c .before .before .before .before .before .before .before
+
+abbrev flows₂ : tie.After-close-in → List ℤ
+flows₂ c = c .close-in .last .1 .1 .1 .1 .1 .1 .1 .1 .1 .1 .1 .1 .1 .1 .1 .1 .1 .0
+
+abbrev a₃ : tie.After-close-in → List ℕ
+a₃ c = c .close-in .last .1 .1 .1 .1 .1 .1 .1 .1 .1 .1 .1 .1 .1 .1 .1 .1 .1 .1 .1 .1 .0
+
+same-length-2 : tie.Need-same-length-2
+same-length-2 c =
+    let z = c .before in
+    let l = left (proposed z) in
+    let t = tried l in
+    let s = origin t in
+    maximized-length (𝓜 s) (s .args .outer) (caps s) (s .args .source) (s .args .sink) (flows₁ t) (flows₂ z) (a₃ z) (z .close-in .result) (room l)
+    (z .close-in .ensures .2)
+    ∙ bracket-length (t .try-likely .result .found) (s .pre .1) (still l)
+
+returns-2 : tie.Need-returns-2
+returns-2 c =
+    let z = c .before in
+    let w = proposed z in
+    let t = tried (left w) in
+    let s = origin t in (
+      z .close-in .ensures .1,
+      told-before (s .args .outer) (ground s) (s .args .flows .now) (flows₁ t) (a₂ w) (b₁ t) _ _ (t .try-likely .result .found) (begun w) (flows₂ z) (a₃ z)
+          (z .close-in .result) (z .close-in .ensures .2),
     )
 
 pub maximize-on-spec : {M : Type 1} → statement M
-maximize-on-spec = tie.close (tie.spec copy-flows-requires maximize-from-requires same-length returns)
+maximize-on-spec =
+    tie.close
+    (tie.spec
+    copy-flows-requires
+    begin-requires
+    mul-capacity
+    capacity-requires
+    try-likely-requires
+    same-length
+    returns
+    propose-requires
+    close-in-requires
+    same-length-2
+    returns-2)

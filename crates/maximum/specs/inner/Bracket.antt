@@ -2,10 +2,11 @@
 -- contracts below the operation cite this file.
 use mathlib.Core.Path.{_≡_}
 use mathlib.Core.Bool.{Bool, true, false}
+use mathlib.Core.Logic.{_⊎_}
 use mathlib.Core.List.{List}
 use Prim.Native.Nat.{ℕ}
 use lib.IntN.{ℤ, negℤ}
-use lib.Signed.{_≤ℤ_}
+use lib.Signed.{_≤ℤ_, _<ℤ_}
 use Rattle.integers.specs.inner.Limited.{Limited}
 use Rattle.maps.specs.Map.{Map}
 use Rattle.maps.specs.Cut.{cut}
@@ -28,3 +29,10 @@ Floor 𝓜 outer c s t before flows B low false = (flows ≡ before) × AtSink s
 pub record Bracket (𝓜 : Map) (outer : ℕ) (c : ℕ → ℤ) (s t : ℕ) (before flows : List ℤ) (A B : List ℕ) (low high : ℤ) (found : Bool) : Type 0 where
   pub ceiling : Ceiling 𝓜 c s t (flagged A) high
   pub floor : Floor 𝓜 outer c s t before flows (flagged B) low found
+
+-- the bounds after a probe lie within those before it: there is less between them, or a value is found for the first time
+pub record Closer (low high : ℤ) (found : Bool) (low' high' : ℤ) (found' : Bool) : Type 0 where
+  pub rises : low ≤ℤ low'
+  pub falls : high' ≤ℤ high
+  pub still : found ≡ true → found' ≡ true
+  pub less : (low <ℤ low') ⊎ ((high' <ℤ high) ⊎ ((found ≡ false) × (found' ≡ true)))

@@ -1,7 +1,6 @@
 -- The least and the largest value: the facts at three places, each gained by a check that did not refuse; then what was found there and back, and every way out
 -- by a law of `Ranging`, `Exchanged` or of `questions`.
 use mathlib.Core.Path.{_≡_, refl, sym, _∙_}
-use mathlib.Core.Bool.{true≢false}
 use mathlib.Core.List.{List}
 use Prim.Native.Nat.{ℕ}
 use lib.ListN.{length, take}
@@ -176,14 +175,13 @@ maximize-from-requires c κs =
       ends-for (w .before .wide .ensures) (w .wide2 .ensures) (mapAt s) (two (asked (half m))),
       s .pre .2,
       refl,
-      λ e. absurd (true≢false (sym e)),
     )
 
 abbrev high' : tie.After-maximize-from → List ℤ
-high' c = c .maximize-from .last .1 .1 .1 .1 .1 .1 .1 .1 .1 .1 .1 .1 .1 .1 .1 .1 .1 .1 .0
+high' c = c .maximize-from .last .1 .1 .1 .1 .1 .1 .1 .1 .1 .1 .1 .1 .1 .1 .1 .1 .0
 
 abbrev inside' : tie.After-maximize-from → List ℕ
-inside' c = c .maximize-from .last .1 .1 .1 .1 .1 .1 .1 .1 .1 .1 .1 .1 .1 .1 .1 .1 .1 .1 .1 .1 .0
+inside' c = c .maximize-from .last .1 .1 .1 .1 .1 .1 .1 .1 .1 .1 .1 .1 .1 .1 .1 .1 .1 .1 .0
 
 there : (c : tie.After-maximize-from) {answer : Maximum} → c .maximize-from .result ≡ answer
     → Maximized (mapAt (start (passed c))) (start (passed c) .args .outer) (capacityAt (start (passed c))) (start (passed c) .args .source)

@@ -20,8 +20,3 @@ Carried 𝓜 outer c s t value flows flows' = (x : ℕ → ℤ) × Highest 𝓜 
 abbrev pub Decided : Map → (outer : ℕ) → (ℕ → ℤ) → (source sink : ℕ) → ℤ → (flows flows' : List ℤ) → (inside' : List ℕ) → Bool → Type 0
 Decided 𝓜 outer c s t value flows flows' inside' true = Carried 𝓜 outer c s t value flows flows'
 Decided 𝓜 outer c s t value flows flows' inside' false = (flows' ≡ flows) × Proves 𝓜 c s t value (flagged inside')
-
--- true: it does. false: the slice is as it was, and nothing is said of the value.
-abbrev pub Confirmed : Map → (outer : ℕ) → (ℕ → ℤ) → (source sink : ℕ) → ℤ → (flows flows' : List ℤ) → Bool → Type 0
-Confirmed 𝓜 outer c s t value flows flows' true = Carried 𝓜 outer c s t value flows flows'
-Confirmed 𝓜 outer c s t value flows flows' false = flows' ≡ flows

@@ -4,7 +4,6 @@ use mathlib.Core.Path.{_≡_}
 use mathlib.Core.Bool.{Bool, true, false}
 use mathlib.Core.List.{List}
 use Prim.Native.Nat.{ℕ, _*_, _≤_, _<_}
-use lib.ListN.{length}
 use lib.IntN.{ℤ, pos, _+ℤ_}
 use lib.Signed.{_≤ℤ_}
 use Rattle.integers.specs.inner.Limited.{Limited}
@@ -51,13 +50,6 @@ abbrev pub Searched : Dual → (edges : ℕ) → (ℕ → ℤ) → (flows flows'
 Searched N edges capacity flows flows' parent outcome.Settled =
     (ρ : ℕ → ℤ) × Settled N ρ × (flows' ≡ filled edges (flowOf (N .left) capacity (N .length) ρ) flows)
 Searched N edges capacity flows flows' parent (outcome.Ring d) = (flows' ≡ flows) × (d < N .darts) × ParentRing N parent (N .left d)
-
--- levels along proposed parents: true, they are settled from roots that stand in some queue, and their flows are written; false, the slice is as it was
-abbrev pub Retraced : (dual : List ℕ → Dual) → (Roots : List ℕ → Type 0) → (edges : ℕ) → (ℕ → ℤ) → (flows flows' : List ℤ) → Bool → Type 0
-Retraced dual Roots edges capacity flows flows' true =
-    (queue : List ℕ) × (length queue ≡ 1024) × Roots queue × (ρ : ℕ → ℤ) × Settled (dual queue) ρ
-    × (flows' ≡ filled edges (flowOf (dual queue .left) capacity (dual queue .length) ρ) flows)
-Retraced dual Roots edges capacity flows flows' false = flows' ≡ flows
 
 -- a ring of parents on the dual of a plane map
 pub record Ringed (𝓜 : Map) (N : Dual) (parent : ℕ → ℕ) (y : ℕ) : Type 0 where

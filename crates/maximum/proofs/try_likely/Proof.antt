@@ -1,0 +1,75 @@
+-- `maximum::try_likely` meets its contract: the bounds stay as they are, or the high one is probed.
+use mathlib.Core.Path.{_≡_, refl, sym, _∙_, subst}
+use mathlib.Core.Bool.{Bool, true, false, true≢false}
+use mathlib.Core.List.{List}
+use Prim.Native.Nat.{ℕ}
+use native.Mathlib.Omega.{arith}
+use lib.IntN.{ℤ}
+use lib.Signed.{_≤ℤ_, _<ℤ_}
+use mir.Syntax.{w32}
+use mir.Val.{toZ, ofZ}
+use borrow.Author.Needs.{needs}
+use Rattle.integers.proofs.Laws.{le-of-lt, lt-of-test}
+use Rattle.signed.proofs.Limits.{same-bits}
+use Rattle.maps.specs.Map.{Map}
+use Rattle.arrays.specs.At.{at, atℤ}
+use Rattle.arrays.specs.inner.Flags.{flagged}
+use Rattle.arrays.specs.Maps.{mapOf}
+use Rattle.maximum.proofs.Bracketing.{Ground, high-small, low-small}
+use Rattle.maximum.proofs.try_likely.Statement.{statement}
+use Rattle.maximum.proofs.try_likely.Tie as tie
+
+abbrev 𝓜 : tie.Start → Map
+𝓜 c = mapOf (c .args .nodes) (c .args .edges) (c .args .tails .now) (c .args .rotations .now)
+
+abbrev caps : tie.Start → ℕ → ℤ
+caps c = atℤ (c .args .capacities .now)
+
+ground : (c : tie.Start) → Ground (𝓜 c) (caps c) (c .args .source) (c .args .sink)
+ground c =
+    let p = c .pre in
+    record { plane = p .5 .plane; few-nodes = p .5 .few-nodes; few-edges = p .5 .few-edges; small = p .4; pairs = p .5 .pairs; two = p .6 }
+
+same-lo : (c : tie.Start) → toZ w32 (ofZ w32 (c .args .bounds .low)) ≡ c .args .bounds .low
+same-lo c =
+    let b = c .pre .9 in
+    same-bits (omega arith) (low-small (c .args .outer) (ground c) (b .0) (c .args .flows .now) (flagged (c .args .b .now))
+    (c .args .bounds .low) (c .args .bounds .found) (b .1 .floor))
+
+same-hi : (c : tie.Start) → toZ w32 (ofZ w32 (c .args .bounds .high)) ≡ c .args .bounds .high
+same-hi c = same-bits (omega arith) (high-small (c .args .outer) (ground c) (c .pre .9 .1 .ceiling))
+
+-- nothing is tried: the bounds are as they were
+returns : tie.Need-returns
+returns c =
+    let p = c .before .pre in
+    (p .0, p .1, p .2, λ before h. (λ none. absurd (true≢false (sym none ∙ p .8)), λ _. h))
+
+is-less-requires : tie.Need-is-less-requires
+is-less-requires c κs = search needs
+
+below : (c : tie.Then2) → c .before .before .before .before .before .args .bounds .low <ℤ c .before .before .before .before .before .args .bounds .high
+below c =
+    let s = c .before .before .before .before .before in
+    subst (λ h. s .args .bounds .low <ℤ h) (same-hi s)
+    (subst (λ l. l <ℤ toZ w32 (ofZ w32 (s .args .bounds .high))) (same-lo s) (lt-of-test _ _ (sym (c .before .is-less .ensures) ∙ c .if2 .taken)))
+
+probe-requires : tie.Need-probe-requires
+probe-requires c κs =
+    let t = c .before .before .before .before .before in
+    let p = t .before .before .before .before .before .pre in
+    (refl, p .0, p .1, p .2, p .3, p .4, p .5, p .6, p .7, le-of-lt (below t), λ _. below t, p .9)
+
+same-length : tie.Need-same-length
+same-length c = search needs
+
+returns-2 : tie.Need-returns-2
+returns-2 c = search needs
+
+returns-3 : tie.Need-returns-3
+returns-3 c =
+    let p = c .before .before .before .before .before .pre in
+    (p .0, p .1, p .2, λ before h. (λ none. absurd (true≢false (sym none ∙ p .8)), λ _. h))
+
+pub try-likely-spec : {M : Type 1} → statement M
+try-likely-spec = tie.close (tie.spec returns is-less-requires probe-requires same-length returns-2 returns-3)
