@@ -65,7 +65,8 @@ module _ {a b source sink : ℕ} (p : a ≡ source) (q : b ≡ sink) where
       subst (Decided 𝓜 outer c source sink value flows flows' inside) same (decided-for 𝓜 outer c p q e flows flows' inside r d)
 
   -- and the set that it named
-  pub named-as : (𝓜 : Map) (outer : ℕ) (c : ℕ → ℤ) {v value : ℤ} → v ≡ value → (S : ℕ → Bool)
-      → Named 𝓜 outer c a b v S → Named 𝓜 outer c source sink value S
-  named-as 𝓜 outer c {v} {value} e S h =
-      subst (λ w. Named 𝓜 outer c source sink w S) e (subst (λ t. Named 𝓜 outer c source t v S) q (subst (λ s. Named 𝓜 outer c s b v S) p h))
+  pub named-as : (𝓜 : Map) (outer : ℕ) (c : ℕ → ℤ) {v value : ℤ} → v ≡ value → (proposal : List ℕ) (S : ℕ → Bool)
+      → Named 𝓜 outer c a b v proposal S → Named 𝓜 outer c source sink value proposal S
+  named-as 𝓜 outer c {v} {value} e proposal S h =
+      subst (λ w. Named 𝓜 outer c source sink w proposal S) e
+      (subst (λ t. Named 𝓜 outer c source t v proposal S) q (subst (λ s. Named 𝓜 outer c s b v proposal S) p h))

@@ -19,7 +19,7 @@ use Rattle.arrays.specs.At.{atℤ}
 use Rattle.arrays.specs.Maps.{mapOf}
 use Rattle.arrays.specs.inner.Flags.{flagged}
 use Rattle.solver.specs.inner.Decision.{Decided}
-use Rattle.solver.specs.inner.Named.{Named}
+use Rattle.solver.specs.inner.Named.{noParents, Named}
 use Rattle.solver.proofs.Preparing.{same-value, small-value}
 use Rattle.questions.specs.Question.{endChecks, valueChecks, roomChecks}
 use Rattle.questions.specs.Solve.{questionChecks}
@@ -172,13 +172,13 @@ decided c same =
 -- the set is the one that the search names
 named : (c : tie.After-decide) → c .decide .result ≡ false
     → Named (mapAt (start c)) (start c .args .outer) (capacityAt (start c)) (start c .args .source) (start c .args .sink) (start c .args .value)
-    (flagged (inside' c))
+    noParents (flagged (inside' c))
 named c e =
     let q = asked (roomy c) in
     let s = start c in
     let w = checked (ended q) .before in
     named-as (w .before .wide .ensures) (w .wide2 .ensures) (mapAt s) (s .args .outer) (capacityAt s) (same-value (value-limited _ (inside q)))
-    (flagged (inside' c)) (c .decide .ensures .3 e)
+    noParents (flagged (inside' c)) (c .decide .ensures .3 e)
 
 none : (c : tie.After-decide) → NoneOf (checksAt (start c))
 none c =
