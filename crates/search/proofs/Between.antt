@@ -15,16 +15,16 @@ use Rattle.search.specs.Level.{CanLower}
 use Rattle.search.specs.Queue.{faceAt}
 use Rattle.search.specs.Moves.{Begun}
 use Rattle.search.specs.Given.{Given, dual, InGroups}
-use Rattle.search.specs.Configuration.{Tables, Configuration, front}
+use Rattle.search.specs.Configuration.{Tables, Configuration, configuration, front}
 use Rattle.search.specs.Look.{Crosses, done, keep, lower}
-use Rattle.search.specs.Straightening.{Follows, leaves, keeps, falls, Descends, down, upwardOf, Straightens, end, ring, next}
+use Rattle.search.specs.Straightening.{Follows, leaves, keeps, falls, Descends, down, upwardOf, Straightens, end, ring, next, Sinks, sink, Within, before, under-way, later}
 use Rattle.search.specs.Straightening as straightening
 use Rattle.search.specs.Trace.{Step, look, straighten, Goes, stay, go}
 use Rattle.search.specs.History.{Event, fell, looked, crossed, followed, descended, straight, stepped, history, firstLevels}
 use Rattle.search.specs.History.{FellSince, now, before-fall, before-look}
 use Rattle.search.specs.Waiting.{WaitsAt, Waits}
 use Rattle.search.specs.declared.Straightened.{Straightened}
-use Rattle.search.specs.inner.Progress.{Descending, heights}
+use Rattle.search.specs.inner.Progress.{Passing, Descending, heights}
 use Rattle.search.proofs.Change.{Changed}
 use Rattle.search.proofs.Stages.{Fell}
 use Rattle.search.proofs.Trying.{Trying, off-flag, try-left, try-keep, try-lower, try-fell}
@@ -163,6 +163,22 @@ module _ (lefts : List ℕ) (lengths : List ℤ) (darts faces : ℕ) (roots : Li
       kept-then (omega arith) (descends-kept (begins lefts lengths darts faces roots sound s l a c) q)
       (straightens-kept (swept-more lefts lengths darts faces roots sound s l a c wide thin q) w)
 
+  -- at each moment of it
+  sinks-passing : {g : ℕ → ℕ} {f k deep rest : ℕ} {t u : Tables} → Descending (dualOf lefts lengths darts faces roots) t first b g f k deep rest
+      → Sinks lefts lengths g f k t u → Passing (dualOf lefts lengths darts faces roots) u first b × Kept faces first t u
+  sinks-passing h straightening.stay = (h .passing, kept-all)
+  sinks-passing h (sink s q) =
+      let r = sinks-passing (follow-on lefts lengths darts faces roots sound wide thin h s) q in
+      (r .0, kept-then (omega arith) (follows-kept h s) (r .1))
+
+  within-passing : {f deep : ℕ} {marks : List ℕ} {t u : Tables} → Swept lefts lengths darts faces roots sound t first b f marks deep
+      → Within lefts lengths darts faces f marks t u → Passing (dualOf lefts lengths darts faces roots) u first b × Kept faces first t u
+  within-passing s before = (s .passing, kept-all)
+  within-passing s (under-way count l a c q) = sinks-passing (begins lefts lengths darts faces roots sound s l a c) q
+  within-passing s (later count l a c q w) =
+      let r = within-passing (swept-more lefts lengths darts faces roots sound s l a c wide thin q) w in
+      (r .0, kept-then (omega arith) (descends-kept (begins lefts lengths darts faces roots sound s l a c) q) (r .1))
+
 module _ (G : Given) (roots : List ℕ) (sound : WellFormed (dual G roots)) (g : InGroups G) where
   -- ── within a look ──
   crosses-told : {first b i j : ℕ} {t u : Tables} (past : List Event) → Trying (dual G roots) (G .order) (G .starts) (G .ends) t first b i j
@@ -188,6 +204,18 @@ module _ (G : Given) (roots : List ℕ) (sound : WellFormed (dual G roots)) (g :
   swept-at : (c : Configuration) (r : PassingAt (dual G roots) c)
       → Swept (G .lefts) (G .lengths) (G .darts) (G .faces) roots sound (c .tables) (c .first) (bound (G .faces) (c .left)) 0 straightening.unmarked 0
   swept-at c r = swept-none (G .lefts) (G .lengths) (G .darts) (G .faces) roots sound (r .passing)
+
+  -- within a straightening that begins at c
+  pub within-at : (c : Configuration) → PassingAt (dual G roots) c → c .left ≡ 0 → (u : Tables)
+      → Within (G .lefts) (G .lengths) (G .darts) (G .faces) 0 straightening.unmarked (c .tables) u
+      → PassingAt (dual G roots) (configuration u (c .first) 0) × Kept (G .faces) (c .first) (c .tables) u
+  within-at c r none u w =
+      let p =
+      within-passing (G .lefts) (G .lengths) (G .darts) (G .faces) roots sound (bound-wide (G .faces) (c .left))
+      (bound-few (G .faces) (c .left) (sound .few-faces)) (swept-at c r) w in (
+        record { in-period = omega arith; passing = subst (λ n. Passing (dual G roots) u (c .first) (bound (G .faces) n)) none (p .0) },
+        p .1,
+      )
 
   step-told : {c d : Configuration} (past : List Event) → PassingAt (dual G roots) c → (s : Step G c d) → Told (G .faces) (c .tables .waiting) past
       → Told (G .faces) (d .tables .waiting) (stepped s past)

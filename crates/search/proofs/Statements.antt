@@ -1,14 +1,17 @@
 -- "Work where a level fell", of every search: what is true between looks holds at its beginning, and each step keeps it.
+use mathlib.Core.Path.{_≡_, _∙_}
 use mathlib.Core.List.{List}
 use Prim.Native.Nat.{ℕ}
+use native.Mathlib.Omega.{arith}
 use lib.ListN.{take}
 use Rattle.search.specs.Given.{Given, dual}
-use Rattle.search.specs.Configuration.{Configuration, front}
+use Rattle.search.specs.Configuration.{Tables, Configuration, configuration, front}
+use Rattle.search.specs.Straightening.{unmarked, Within}
 use Rattle.search.specs.Statements.{ComesTo, past, WhereALevelFell}
 use Rattle.search.proofs.Beginning.{root-face}
 use Rattle.search.proofs.Run.{PassingAt, goes-passing}
 use Rattle.search.proofs.Ending.{start-passing}
-use Rattle.search.proofs.Between.{Told, begun-told, goes-told, once, only-waiting, waits-fell, fell-waits, front-waits, kept-place, came-behind}
+use Rattle.search.proofs.Between.{Told, Kept, within-at, begun-told, goes-told, once, only-waiting, waits-fell, fell-waits, front-waits, kept-place, came-behind}
 use Rattle.search.proofs.Determined.{searches-one}
 
 module _ (G : Given) (queue : List ℕ) (roots : ℕ) (c : Configuration) (h : ComesTo G queue roots c) where
@@ -22,6 +25,10 @@ module _ (G : Given) (queue : List ℕ) (roots : ℕ) (c : Configuration) (h : C
       goes-told G (take roots queue) (h .sound) (h .in-groups) _
       (start-passing G queue roots (h .size) (h .few) (h .sound) (h .joined) (h .in-groups) (h .begun)) (h .run)
       (begun-told queue roots (h .sound .few-faces) (root-face G queue roots (h .size) (h .few) (h .sound)) (h .begun))
+
+  amid : c .left ≡ 0 → (u : Tables) → Within (G .lefts) (G .lengths) (G .darts) (G .faces) 0 unmarked (c .tables) u
+      → PassingAt (dual G (take roots queue)) (configuration u (c .first) 0) × Kept (G .faces) (c .first) (c .tables) u
+  amid none u w = within-at G (take roots queue) (h .sound) (h .in-groups) c passing none u w
 
 pub where-a-level-fell : WhereALevelFell
 where-a-level-fell = record {
@@ -39,5 +46,11 @@ where-a-level-fell = record {
         waits-fell G (take roots queue) (h .sound) (h .in-groups) c r t f,
         fell-waits G (take roots queue) (h .sound) (h .in-groups) c r t f,
       );
+  straightening-once = λ G queue roots c h none u w.
+      once G (take roots queue) (h .sound) (h .in-groups) _ (amid G queue roots c h none u w .0);
+  straightening-lowers = λ G queue roots c h none u w.
+      only-waiting G (take roots queue) (h .sound) (h .in-groups) _ (amid G queue roots c h none u w .0);
+  straightening-keeps = λ G queue roots c h none u w i f l.
+      let k = amid G queue roots c h none u w .1 in (l .0, omega (arith, k .longer, l .1), k .places i (l .0) (l .1) ∙ l .2);
   one-end = λ G queue roots proposal potentials potentials' parents parents' o o' a b. searches-one a b;
 }

@@ -12,7 +12,8 @@ use Rattle.search.specs.Dual.{WellFormed, Joined}
 use Rattle.search.specs.Level.{CanLower}
 use Rattle.search.specs.Moves.{Begun}
 use Rattle.search.specs.Given.{Given, dual, InGroups}
-use Rattle.search.specs.Configuration.{Configuration, front}
+use Rattle.search.specs.Configuration.{Tables, Configuration, configuration, front}
+use Rattle.search.specs.Straightening.{unmarked, Within}
 use Rattle.search.specs.Trace.{Goes, start, Searches}
 use Rattle.search.specs.History.{Event, history, firstLevels, FellSince}
 use Rattle.search.specs.Waiting.{WaitsAt, Waits}
@@ -55,6 +56,18 @@ pub record WhereALevelFell : Type 0 where
   -- a face waits exactly when it fell since it was last looked at; "a first level counts as a fall" (`firstLevels`)
   pub waits-exactly : (G : Given) (queue : List ℕ) (roots : ℕ) (c : Configuration) (h : ComesTo G queue roots c)
       → (f : ℕ) → Waits c f ↔ FellSince f (past h)
+  -- Within a straightening too, which is between two looks: at each of its moments u, first levels being laid or levels falling, no face waits twice, a dart can
+  -- lower a level only from a face that waits, and who waited when it began waits where it stood.
+  pub straightening-once : (G : Given) (queue : List ℕ) (roots : ℕ) (c : Configuration) → ComesTo G queue roots c → c .left ≡ 0
+      → (u : Tables) → Within (G .lefts) (G .lengths) (G .darts) (G .faces) 0 unmarked (c .tables) u
+      → (i j f : ℕ) → WaitsAt (configuration u (c .first) 0) i f → WaitsAt (configuration u (c .first) 0) j f → i ≡ j
+  pub straightening-lowers : (G : Given) (queue : List ℕ) (roots : ℕ) (c : Configuration) → ComesTo G queue roots c → c .left ≡ 0
+      → (u : Tables) → Within (G .lefts) (G .lengths) (G .darts) (G .faces) 0 unmarked (c .tables) u
+      → (d : ℕ) → d < G .darts → CanLower (dual G (take roots queue)) (atℤ (u .potentials)) d
+      → Waits (configuration u (c .first) 0) (dual G (take roots queue) .right d)
+  pub straightening-keeps : (G : Given) (queue : List ℕ) (roots : ℕ) (c : Configuration) → ComesTo G queue roots c → c .left ≡ 0
+      → (u : Tables) → Within (G .lefts) (G .lengths) (G .darts) (G .faces) 0 unmarked (c .tables) u
+      → (i f : ℕ) → WaitsAt c i f → WaitsAt (configuration u (c .first) 0) i f
   -- what the search leaves follows from what it is given
   pub one-end : (G : Given) (queue : List ℕ) (roots : ℕ) (proposal : List ℕ) (potentials potentials' : List ℤ) (parents parents' : List ℕ) (o o' : Outcome)
       → Searches G queue roots proposal potentials parents o → Searches G queue roots proposal potentials' parents' o'

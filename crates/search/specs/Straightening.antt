@@ -72,3 +72,20 @@ pub data Straightens (lefts : List ℕ) (lengths : List ℤ) (darts faces : ℕ)
       → (Closes f (iter (upwardOf lefts t) count f) (marked (upwardOf lefts t) f count marks) t → ⊥)
       → Descends lefts lengths (upwardOf lefts t) f count t u
       → Straightens lefts lengths darts faces (f + 1) (marked (upwardOf lefts t) f count marks) u v r → Straightens lefts lengths darts faces f marks t v r
+
+-- ── its moments ──
+-- some of the first k faces of the ascent from f have followed their parents, the last of them first
+pub data Sinks (lefts : List ℕ) (lengths : List ℤ) (upward : ℕ → ℕ) (f : ℕ) : ℕ → Tables → Tables → Type 0 where
+  stay : {k : ℕ} {t : Tables} → Sinks lefts lengths upward f k t t
+  sink : {k : ℕ} {t u v : Tables} → Follows lefts lengths (iter upward k f) t u → Sinks lefts lengths upward f k u v → Sinks lefts lengths upward f (suc k) t v
+
+-- the straightening of the faces from f on comes from the arrays t to the arrays u: before it, on some way down, or later
+pub data Within (lefts : List ℕ) (lengths : List ℤ) (darts faces : ℕ) : (f : ℕ) → List ℕ → Tables → Tables → Type 0 where
+  before : {f : ℕ} {marks : List ℕ} {t : Tables} → Within lefts lengths darts faces f marks t t
+  under-way : {f : ℕ} {marks : List ℕ} {t u : Tables} (count : ℕ) → f < faces → Ascent (upwardOf lefts t) darts (t .parents) marks f count
+      → (Closes f (iter (upwardOf lefts t) count f) (marked (upwardOf lefts t) f count marks) t → ⊥)
+      → Sinks lefts lengths (upwardOf lefts t) f count t u → Within lefts lengths darts faces f marks t u
+  later : {f : ℕ} {marks : List ℕ} {t u v : Tables} (count : ℕ) → f < faces → Ascent (upwardOf lefts t) darts (t .parents) marks f count
+      → (Closes f (iter (upwardOf lefts t) count f) (marked (upwardOf lefts t) f count marks) t → ⊥)
+      → Descends lefts lengths (upwardOf lefts t) f count t u
+      → Within lefts lengths darts faces (f + 1) (marked (upwardOf lefts t) f count marks) u v → Within lefts lengths darts faces f marks t v
