@@ -17,7 +17,8 @@ use Rattle.search.specs.Moves.{Begun}
 use Rattle.search.specs.Given.{Given, dual, InGroups}
 use Rattle.search.specs.Configuration.{Tables, Configuration, configuration, front}
 use Rattle.search.specs.Look.{Crosses, done, keep, lower}
-use Rattle.search.specs.Straightening.{Follows, leaves, keeps, falls, Descends, down, upwardOf, Straightens, end, ring, next, Sinks, sink, Within, before, under-way, later}
+use Rattle.search.specs.Straightening.{Follows, leaves, keeps, falls, Descends, down, Straightens, end, ring, next}
+use Rattle.search.specs.Straightening.{Sinks, sink, Within, before, under-way, later}
 use Rattle.search.specs.Straightening as straightening
 use Rattle.search.specs.Trace.{Step, look, straighten, Goes, stay, go}
 use Rattle.search.specs.History.{Event, fell, looked, crossed, followed, descended, straight, stepped, history, firstLevels}

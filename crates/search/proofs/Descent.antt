@@ -29,7 +29,8 @@ module _ (lefts : List ℕ) (lengths : List ℤ) (darts faces : ℕ) (roots : Li
   abbrev N : Dual
   N = dualOf lefts lengths darts faces roots
 
-  module _ {t : Tables} {first b : ℕ} (wide : 1024 ≤ b) (thin : b < 1600000) {g : ℕ → ℕ} {f k deep rest : ℕ} (h : Descending N t first b g f (suc k) deep rest) where
+  module _ {t : Tables} {first b : ℕ} (wide : 1024 ≤ b) (thin : b < 1600000) {g : ℕ → ℕ} {f k deep rest : ℕ}
+      (h : Descending N t first b g f (suc k) deep rest) where
     -- the face that follows, its parent, and the face across that
     abbrev y : ℕ
     y = iter g k f

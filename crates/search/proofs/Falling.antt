@@ -52,11 +52,11 @@ module _ {lefts : List ℕ} {lengths : List ℤ} {darts faces : ℕ} {start : Ta
   falling-last {now} h e = h .back now (subst (λ k. Descends lefts lengths (upwardOf lefts start) (at noted 0) k now now) (sym e) done)
 
   module _ {now : Tables} {k : ℕ} (h : Falling lefts lengths darts faces start noted count k now) (some : 0 < k) (y : ℕ) (y-is : y ≡ at noted (k - 1)) where
-    below : Descending (dualOf lefts lengths darts faces (h .roots)) now (h .first) (h .bound) (upwardOf lefts start) (at noted 0) (suc (k - 1)) (h .deep) (h .rest)
-    below =
-        let e : k ≡ suc (k - 1) = omega arith in
-        subst (λ m. Descending (dualOf lefts lengths darts faces (h .roots)) now (h .first) (h .bound) (upwardOf lefts start) (at noted 0) m (h .deep) (h .rest)) e
-        (h .descending)
+    abbrev Below : ℕ → Type 0
+    Below m = Descending (dualOf lefts lengths darts faces (h .roots)) now (h .first) (h .bound) (upwardOf lefts start) (at noted 0) m (h .deep) (h .rest)
+
+    below : Below (suc (k - 1))
+    below = let e : k ≡ suc (k - 1) = omega arith in subst Below e (h .descending)
 
     there : y ≡ iter (upwardOf lefts start) (k - 1) (at noted 0)
     there = y-is ∙ h .noted-are (k - 1) (omega (arith, h .upto))
@@ -77,7 +77,9 @@ module _ {lefts : List ℕ} {lengths : List ℤ} {darts faces : ℕ} {start : Ta
     pub right-near : HasLevel (atℤ (now .potentials)) (rightOf lefts (at (now .parents) y))
         → mag (atℤ (now .potentials) (rightOf lefts (at (now .parents) y))) ≤ 1024 * longest
     right-near =
-        rw there (λ has. omega (arith, w-near lefts lengths darts faces (h .roots) (h .sound) (h .wide) (h .few) below has, h .descending .room, h .sound .few-faces))
+        rw there
+        (λ has.
+        omega (arith, w-near lefts lengths darts faces (h .roots) (h .sound) (h .wide) (h .few) below has, h .descending .room, h .sound .few-faces))
 
     pub length-near : mag (atℤ lengths (at (now .parents) y)) < longest
     length-near = h .sound .short (at (now .parents) y) dart-in

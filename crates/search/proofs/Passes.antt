@@ -30,7 +30,8 @@ pub record Pass (lefts : List ℕ) (lengths : List ℤ) (darts faces : ℕ) (sta
   pub upto : f ≤ faces
   pub size-noted : length noted ≡ 1024
   pub swept : Swept lefts lengths darts faces roots sound now first bound f marks deep
-  pub back : (u : Tables) (r : Straightened) → Straightens lefts lengths darts faces f marks now u r → Straightens lefts lengths darts faces 0 unmarked start u r
+  pub back : (u : Tables) (r : Straightened) → Straightens lefts lengths darts faces f marks now u r
+      → Straightens lefts lengths darts faces 0 unmarked start u r
 
 module _ {lefts : List ℕ} {lengths : List ℤ} {darts faces : ℕ} {start : Tables} where
   pub pass-first : (noted : List ℕ) → length noted ≡ 1024 → Straightening (dualOf lefts lengths darts faces) start
@@ -49,7 +50,8 @@ module _ {lefts : List ℕ} {lengths : List ℤ} {darts faces : ℕ} {start : Ta
     back = λ u r q. q;
   }
 
-  pub pass-last : {f : ℕ} {marks noted : List ℕ} {now : Tables} (last : ℕ) → Pass lefts lengths darts faces start f marks noted now → faces ≤ f → last ≡ now .last
+  pub pass-last : {f : ℕ} {marks noted : List ℕ} {now : Tables} (last : ℕ) → Pass lefts lengths darts faces start f marks noted now → faces ≤ f
+      → last ≡ now .last
       → Straightens lefts lengths darts faces 0 unmarked start now (straightened.Straight last)
   pass-last last h l e = h .back _ (straightened.Straight last) (end l e)
 
@@ -119,7 +121,8 @@ module _ {lefts : List ℕ} {lengths : List ℤ} {darts faces : ℕ} {start : Ta
         back = λ v r w. h .back v r (next count f-in (a .ascent) open' q (rw (a .marks-are) at w));
       }
 
-      pub pass-met : 0 < count → {u : Tables} → Descends lefts lengths g (at noted' 0) count now u → Pass lefts lengths darts faces start (f + 1) marks' noted' u
+      pub pass-met : 0 < count → {u : Tables} → Descends lefts lengths g (at noted' 0) count now u
+          → Pass lefts lengths darts faces start (f + 1) marks' noted' u
       pass-met l {u} q = pass-next (subst (λ x. Descends lefts lengths g x count now u) (sym (from l)) q)
 
       pub pass-none : count ≡ 0 → Pass lefts lengths darts faces start (f + 1) marks' noted' now

@@ -11,7 +11,8 @@ use Rattle.search.specs.Statements.{ComesTo, past, WhereALevelFell}
 use Rattle.search.proofs.Beginning.{root-face}
 use Rattle.search.proofs.Run.{PassingAt, goes-passing}
 use Rattle.search.proofs.Ending.{start-passing}
-use Rattle.search.proofs.Between.{Told, Kept, within-at, begun-told, goes-told, once, only-waiting, waits-fell, fell-waits, front-waits, kept-place, came-behind}
+use Rattle.search.proofs.Between.{Told, Kept, within-at, begun-told, goes-told, once, only-waiting}
+use Rattle.search.proofs.Between.{waits-fell, fell-waits, front-waits, kept-place, came-behind}
 use Rattle.search.proofs.Determined.{searches-one}
 
 module _ (G : Given) (queue : List ℕ) (roots : ℕ) (c : Configuration) (h : ComesTo G queue roots c) where

@@ -21,7 +21,8 @@ module _ {lefts : List ℕ} {darts : ℕ} {proposal : List ℕ} {f : ℕ} {paren
   test-is : sensible lefts darts f p ≡ sensible lefts darts f (at proposal f)
   test-is = ap (sensible lefts darts f) (p-is ∙ t .rest f (omega arith))
 
-  pub taking-keep : (b : Bool) → b ≡ sensible lefts darts f p → b ≡ true → (parents' : List ℕ) → parents' ≡ parents → Taking lefts darts proposal (f + 1) parents'
+  pub taking-keep : (b : Bool) → b ≡ sensible lefts darts f p → b ≡ true → (parents' : List ℕ) → parents' ≡ parents
+      → Taking lefts darts proposal (f + 1) parents'
   taking-keep b b-is yes' parents' e = rw e (record {
     size = t .size;
     taken = λ x l. by x l (ℕ-discrete x f);

@@ -17,8 +17,8 @@ sensible lefts darts f p = ltb p darts && eqb (at lefts p) f
 abbrev pub parentFrom : (lefts : List ℕ) (darts : ℕ) (proposal : List ℕ) (f : ℕ) → ℕ
 parentFrom lefts darts proposal f = cond (sensible lefts darts f (at proposal f)) (at proposal f) 1024
 
--- at first the faces at the first places of the queue, the roots, are at 0 and wait, and have no parent; no other face has a level, and each has the parent that
--- is proposed for it
+-- at first the faces at the first places of the queue, the roots, are at 0 and wait, and have no parent; no other face has a level, and each has the parent
+-- that is proposed for it
 pub record Begun (lefts : List ℕ) (darts faces : ℕ) (proposal : List ℕ) (potentials : List ℤ) (parents waiting queue : List ℕ) (roots : ℕ) : Type 0 where
   pub size-potentials : length potentials ≡ 1024
   pub size-parents : length parents ≡ 1024

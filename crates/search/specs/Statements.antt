@@ -56,8 +56,8 @@ pub record WhereALevelFell : Type 0 where
   -- a face waits exactly when it fell since it was last looked at; "a first level counts as a fall" (`firstLevels`)
   pub waits-exactly : (G : Given) (queue : List ℕ) (roots : ℕ) (c : Configuration) (h : ComesTo G queue roots c)
       → (f : ℕ) → Waits c f ↔ FellSince f (past h)
-  -- Within a straightening too, which is between two looks: at each of its moments u, first levels being laid or levels falling, no face waits twice, a dart can
-  -- lower a level only from a face that waits, and who waited when it began waits where it stood.
+  -- Within a straightening too, which is between two looks: at each of its moments u, first levels being laid or levels falling, no face waits twice, a dart
+  -- can lower a level only from a face that waits, and who waited when it began waits where it stood.
   pub straightening-once : (G : Given) (queue : List ℕ) (roots : ℕ) (c : Configuration) → ComesTo G queue roots c → c .left ≡ 0
       → (u : Tables) → Within (G .lefts) (G .lengths) (G .darts) (G .faces) 0 unmarked (c .tables) u
       → (i j f : ℕ) → WaitsAt (configuration u (c .first) 0) i f → WaitsAt (configuration u (c .first) 0) j f → i ≡ j

@@ -13,7 +13,8 @@ use Rattle.search.specs.declared.Outcome.{Outcome}
 use Rattle.search.specs.declared.Outcome.the-variants as outcome
 use Rattle.search.specs.declared.Straightened.the-variants as straightened
 
--- the looks between two straightenings: 3/2 as many as there are faces, and one at least. Free to choose: whatever it is, the search ends with one of its answers.
+-- the looks between two straightenings: 3/2 as many as there are faces, and one at least. Free to choose: whatever it is, the search ends with one of its
+-- answers.
 abbrev pub period : ℕ → ℕ
 period faces = faces + faces / 2 + 1
 
@@ -21,7 +22,8 @@ period faces = faces + faces / 2 + 1
 pub data Step (G : Given) : Configuration → Configuration → Type 0 where
   look : {c : Configuration} {u : Tables} → 0 < c .left → c .first < c .tables .last → LookAt G (front c) (c .tables) u
       → Step G c (configuration u (c .first + 1) (c .left - 1))
-  straighten : {c : Configuration} {u : Tables} → c .left ≡ 0 → Straightens (G .lefts) (G .lengths) (G .darts) (G .faces) 0 unmarked (c .tables) u (straightened.Straight (u .last))
+  straighten : {c : Configuration} {u : Tables} → c .left ≡ 0
+      → Straightens (G .lefts) (G .lengths) (G .darts) (G .faces) 0 unmarked (c .tables) u (straightened.Straight (u .last))
       → Step G c (configuration u (c .first) (period (G .faces)))
 
 pub data Goes (G : Given) : Configuration → Configuration → Type 0 where

@@ -2,10 +2,10 @@
 // to less than zero.
 //
 // A face whose potential fell waits in a queue until it is looked at. Its look crosses the darts right of which it lies, and each left face that falls comes to
-// wait, unless it does already: first come, first looked at. Each face has a parent, the dart over which it last fell. After each 3/2 as many looks as there are
-// faces the levels are straightened: every face falls to the length of its own walk of parents, so that a fall near a root reaches all faces below it at once.
-// Where the parents lead round, they are the ring. The first levels are laid by the same pass, along parents that may be proposed: a tree of an earlier search
-// costs one look at each face where it is still right, and else the search corrects it.
+// wait, unless it does already: first come, first looked at. Each face has a parent, the dart over which it last fell. After each 3/2 as many looks as there
+// are faces the levels are straightened: every face falls to the length of its own walk of parents, so that a fall near a root reaches all faces below it at
+// once. Where the parents lead round, they are the ring. The first levels are laid by the same pass, along parents that may be proposed: a tree of an earlier
+// search costs one look at each face where it is still right, and else the search corrects it.
 //
 // It takes at most as many rounds of the queue as there are faces, each linear in darts and faces; on drawings some three looks at each face are usual. Moore
 // 1959 (the queue); Cherkassky and Goldberg 1999 (parents that lead round, levels that are updated along them).
@@ -112,8 +112,8 @@ fn take_parents(lefts: &[u16; 1024], darts: usize, faces: usize, parents: &mut [
     }
 }
 
-// At first the roots, which stand at the first places of the queue, are at 0 and wait, without a parent; no other face has a level. Potentials and flags come as
-// new arrays are made, without levels and at rest: to fill them once more would cost as much as some looks.
+// At first the roots, which stand at the first places of the queue, are at 0 and wait, without a parent; no other face has a level. Potentials and flags come
+// as new arrays are made, without levels and at rest: to fill them once more would cost as much as some looks.
 fn begin(
     lefts: &[u16; 1024],
     darts: usize,
@@ -234,8 +234,8 @@ fn descend(
 ) -> usize
     requires { ⌜ Lowering (dualOf (now lefts) (now lengths) darts faces)
         (tablesOf (now potentials) (now parents) (now waiting) (now queue) last) (now noted) count ⌝ }
-    ensures { λ r. ⌜ Descends (now (lefts .entry)) (now (lengths .entry)) (up (rightOf (now (lefts .entry))) (at (now (parents .entry)))) (at (now (noted .entry)) 0)
-        count (tablesOf (now (potentials .entry)) (now (parents .entry)) (now (waiting .entry)) (now (queue .entry)) last)
+    ensures { λ r. ⌜ Descends (now (lefts .entry)) (now (lengths .entry)) (up (rightOf (now (lefts .entry))) (at (now (parents .entry))))
+        (at (now (noted .entry)) 0) count (tablesOf (now (potentials .entry)) (now (parents .entry)) (now (waiting .entry)) (now (queue .entry)) last)
         (tablesOf (now (potentials .exit)) (now (parents .exit)) (now (waiting .exit)) (now (queue .exit)) r) ⌝ }
 {
     let mut k = count;
@@ -269,8 +269,8 @@ fn is_round(potentials: &[i64; 1024], marks: &[u16; 1024], f: usize, y: usize) -
     false
 }
 
-// Every face falls to the length of its own walk of parents, and comes to wait if it fell; or there is a ring of parents. Before the first look it lays the first
-// levels: then only roots have one, and a face whose parents do not lead to a root is left without a parent.
+// Every face falls to the length of its own walk of parents, and comes to wait if it fell; or there is a ring of parents. Before the first look it lays the
+// first levels: then only roots have one, and a face whose parents do not lead to a root is left without a parent.
 fn straighten(
     lefts: &[u16; 1024],
     lengths: &[i32; 1024],
@@ -354,11 +354,11 @@ fn look(
     end
 }
 
-// The search from the roots, which stand at the first places of the queue, and from the parents that stand in `parents`: any array, of which each element that is
-// no dart with its face on the left counts as none. Where it is settled, `potentials` has the highest potentials that no dart can lower, with the roots at 0;
-// where it answers a ring, its dart closes it: the face left of that dart is on the ring, the dart is that face's parent, and the parents lead round: to the face
-// right of the dart, then to the face right of that one's parent, and so on back. How it goes, look by look, is `Searches`. No face has a level before, and none
-// waits.
+// The search from the roots, which stand at the first places of the queue, and from the parents that stand in `parents`: any array, of which each element that
+// is no dart with its face on the left counts as none. Where it is settled, `potentials` has the highest potentials that no dart can lower, with the roots at
+// 0; where it answers a ring, its dart closes it: the face left of that dart is on the ring, the dart is that face's parent, and the parents lead round: to the
+// face right of the dart, then to the face right of that one's parent, and so on back. How it goes, look by look, is `Searches`. No face has a level before,
+// and none waits.
 pub fn search(
     lefts: &[u16; 1024],
     lengths: &[i32; 1024],

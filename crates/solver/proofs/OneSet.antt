@@ -186,7 +186,8 @@ module _ {𝓜 : Map} (σ : Sound 𝓜) {outer count trees : ℕ} {lefts order f
       ended : (outcome.Ring (α .closing) ≡ outcome.Ring (β .closing)) × (α .parents ≡ β .parents)
       ended =
           alike-one alike (walked .groups) (α .queue) trees (α .size) (α .few) (α .sound) (α .joined) (α .searched)
-          (subst (λ q. Searches (given lefts' lengths' grouped' starts' ends' (darts 𝓜) count) q trees proposal (β .potentials) (β .parents) (outcome.Ring (β .closing)))
+          (subst (λ q. Searches (given lefts' lengths' grouped' starts' ends' (darts 𝓜) count) q trees proposal (β .potentials) (β .parents)
+          (outcome.Ring (β .closing)))
           (sym queues) (β .searched))
 
       ring-one : (v : ℕ) → v < 𝓜 .nodes → S v ≡ S' v

@@ -240,9 +240,9 @@ fn cut_of_ring(
 }
 
 // Decides one value from a source to a sink, with the face of the outer dart at 0 and the lowest face of each other part: true with the highest flow written,
-// false with the nodes of a proving set flagged, which follows from the drawing, the question and the parents proposed (`Named`). The walk over the darts and their
-// groups by faces are those of the open drawing. The search begins from `parents` as they stand, any array, and leaves its own there: a later decision on the
-// same drawing may begin from those. 1024 everywhere proposes none.
+// false with the nodes of a proving set flagged, which follows from the drawing, the question and the parents proposed (`Named`). The walk over the darts and
+// their groups by faces are those of the open drawing. The search begins from `parents` as they stand, any array, and leaves its own there: a later decision on
+// the same drawing may begin from those. 1024 everywhere proposes none.
 pub fn decide<'a>(
     tails: &'a [u16; 1024],
     rotations: &'a [u16; 1024],

@@ -1,6 +1,6 @@
--- Which set of nodes a decision names: how it comes about, step by step, from the drawing, the capacities, the question and the parents that are proposed to its
--- search. Document 02, Job 12: what a party is answered follows from what it sees. That the set follows is `named-one` (proofs/OneSet.antt): the relation has one end, and nothing else is asked of it,
--- so that nobody need believe it.
+-- Which set of nodes a decision names: how it comes about, step by step, from the drawing, the capacities, the question and the parents that are proposed to
+-- its search. Document 02, Job 12: what a party is answered follows from what it sees. That the set follows is `named-one` (proofs/OneSet.antt): the relation
+-- has one end, and nothing else is asked of it, so that nobody need believe it.
 use mathlib.Core.Path.{_≡_}
 use mathlib.Core.Logic.{_⊎_, _≢_}
 use mathlib.Core.Bool.{Bool, true, false}
@@ -71,8 +71,8 @@ pub record RingNamed (𝓜 : Map) (outer count trees : ℕ) (lefts order from gr
   pub made : MadeOfRing 𝓜 (rightOf lefts) (atℤ lengths) (at order) (at from) (at parents) (at lefts closing) S
 
 -- true: by the parts of source and sink; false: by a ring
-abbrev pub NamedBy : Map → (outer count trees : ℕ) → (lefts order from grouped starts ends : List ℕ) (lengths : List ℤ) (proposal : List ℕ) → (S : ℕ → Bool) → Bool
-    → Type 0
+abbrev pub NamedBy : Map → (outer count trees : ℕ) → (lefts order from grouped starts ends : List ℕ) (lengths : List ℤ) (proposal : List ℕ)
+    → (S : ℕ → Bool) → Bool → Type 0
 NamedBy 𝓜 outer count trees lefts order from grouped starts ends lengths proposal S true = Unit
 NamedBy 𝓜 outer count trees lefts order from grouped starts ends lengths proposal S false =
     RingNamed 𝓜 outer count trees lefts order from grouped starts ends lengths proposal S
@@ -81,8 +81,8 @@ NamedBy 𝓜 outer count trees lefts order from grouped starts ends lengths prop
 abbrev pub noParents : List ℕ
 noParents = list.replicate 1024 1024
 
--- The set S is named for the value from s to t, of the drawing with this outer dart and these capacities, where these parents are proposed. The arrays are those
--- that opening leaves.
+-- The set S is named for the value from s to t, of the drawing with this outer dart and these capacities, where these parents are proposed. The arrays are
+-- those that opening leaves.
 pub record Named (𝓜 : Map) (outer : ℕ) (c : ℕ → ℤ) (s t : ℕ) (value : ℤ) (proposal : List ℕ) (S : ℕ → Bool) : Type 0 where
   pub sound : Sound 𝓜
   pub lefts : List ℕ
