@@ -70,7 +70,7 @@ module _ (right right' : ℕ → ℕ) (darts : ℕ) (same : (d : ℕ) → d < da
     marks-alike : (k : ℕ) → k ≤ count → marked (up right (at parents)) f k marks ≡ marked (up right' (at parents)) f k marks
     unfolding marked
     marks-alike zero l = refl
-    marks-alike (suc k) l = ap₂ (λ m y. set m y (f + 1)) (marks-alike k (omega arith)) (faces-alike k (omega arith))
+    marks-alike (suc k) l = ap₂ (λ m y. set m y f) (marks-alike k (omega arith)) (faces-alike k (omega arith))
 
     mark-alike : (k : ℕ) → k ≤ count → at (marked (up right (at parents)) f k marks) (iter (up right (at parents)) k f)
         ≡ at (marked (up right' (at parents)) f k marks) (iter (up right' (at parents)) k f)

@@ -59,21 +59,21 @@ heights-fall faces ρ ρ' y v c l m h =
 
 -- ── faces that are not marked ──
 abbrev pub fresh : ℕ → List ℕ → ℕ
-fresh faces marks = sumℕ faces (λ x. bit (eqb (at marks x) 0))
+fresh faces marks = sumℕ faces (λ x. bit (eqb (at marks x) 1024))
 
 pub fresh-few : (faces : ℕ) (marks : List ℕ) → fresh faces marks ≤ faces
-fresh-few faces marks = sum-le-size faces (λ x. bit (eqb (at marks x) 0)) (λ x l. bit-le (eqb (at marks x) 0))
+fresh-few faces marks = sum-le-size faces (λ x. bit (eqb (at marks x) 1024)) (λ x l. bit-le (eqb (at marks x) 1024))
 
-pub fresh-some : (faces : ℕ) (marks : List ℕ) (y : ℕ) → y < faces → at marks y ≡ 0 → 1 ≤ fresh faces marks
+pub fresh-some : (faces : ℕ) (marks : List ℕ) (y : ℕ) → y < faces → at marks y ≡ 1024 → 1 ≤ fresh faces marks
 fresh-some faces marks y l e =
-    omega (arith, term-le-sum faces y (λ x. bit (eqb (at marks x) 0)) l, ap bit (eqb-true (at marks y) 0 e))
+    omega (arith, term-le-sum faces y (λ x. bit (eqb (at marks x) 1024)) l, ap bit (eqb-true (at marks y) 1024 e))
 
-pub fresh-less : (faces : ℕ) (marks marks' : List ℕ) (y v : ℕ) → Changed (at marks) (at marks') y v → y < faces → at marks y ≡ 0 → 0 < v
+pub fresh-less : (faces : ℕ) (marks marks' : List ℕ) (y v : ℕ) → Changed (at marks) (at marks') y v → y < faces → at marks y ≡ 1024 → v < 1024
     → fresh faces marks' + 1 ≡ fresh faces marks
 fresh-less faces marks marks' y v c l e s =
     omega (
       arith,
-      sum-changed faces y (λ x. bit (eqb (at marks x) 0)) (λ x. bit (eqb (at marks' x) 0)) (λ x n. ap (λ m. bit (eqb m 0)) (c .off x n)) l,
-      ap bit (eqb-true (at marks y) 0 e),
-      ap bit (eqb-false (at marks' y) 0 (λ q. omega (arith, c .at y mathlib.Core.Path.refl))),
+      sum-changed faces y (λ x. bit (eqb (at marks x) 1024)) (λ x. bit (eqb (at marks' x) 1024)) (λ x n. ap (λ m. bit (eqb m 1024)) (c .off x n)) l,
+      ap bit (eqb-true (at marks y) 1024 e),
+      ap bit (eqb-false (at marks' y) 1024 (λ q. omega (arith, c .at y mathlib.Core.Path.refl))),
     )

@@ -20,7 +20,7 @@ module _ (g : ℕ → ℕ) (f : ℕ) (marks : List ℕ) where
   unfolding marked
   marked-none = refl
 
-  pub marked-more : (k : ℕ) → marked g f (k + 1) marks ≡ set (marked g f k marks) (iter g k f) (f + 1)
+  pub marked-more : (k : ℕ) → marked g f (k + 1) marks ≡ set (marked g f k marks) (iter g k f) f
   unfolding marked
   marked-more k = ap (λ m. marked g f m marks) (native.Mathlib.Numerals.add-one k)
 
@@ -36,14 +36,14 @@ module _ (g : ℕ → ℕ) (f : ℕ) (marks : List ℕ) where
   marked-cases (suc k) x = by (ℕ-discrete x (iter g k f)) (marked-cases k x)
     where
       by : Dec (x ≡ iter g k f) → (at (marked g f k marks) x ≡ at marks x) ⊎ ((j : ℕ) × (j < k) × (iter g j f ≡ x))
-          → (at (set (marked g f k marks) (iter g k f) (f + 1)) x ≡ at marks x) ⊎ ((j : ℕ) × (j < suc k) × (iter g j f ≡ x))
+          → (at (set (marked g f k marks) (iter g k f) f) x ≡ at marks x) ⊎ ((j : ℕ) × (j < suc k) × (iter g j f ≡ x))
       by (yes e) r = inr (k, omega arith, sym e)
-      by (no c) (inl e) = inl (getD-set-other (marked g f k marks) (iter g k f) x (f + 1) 0 c ∙ e)
+      by (no c) (inl e) = inl (getD-set-other (marked g f k marks) (iter g k f) x f 0 c ∙ e)
       by (no c) (inr r) = inr (r .0, omega (arith, r .1), r .2)
 
   module _ (size : length marks ≡ 1024) where
     -- who was met has the mark
-    pub marked-new : (k j : ℕ) → j < k → iter g j f < 1024 → at (marked g f k marks) (iter g j f) ≡ f + 1
+    pub marked-new : (k j : ℕ) → j < k → iter g j f < 1024 → at (marked g f k marks) (iter g j f) ≡ f
     unfolding marked
     marked-new zero j l s = absurd (omega arith)
     marked-new (suc k) j l s = by (ℕ-discrete (iter g j f) (iter g k f)) (λ c. marked-new k j (omega (arith, apart c)) s)
@@ -51,14 +51,14 @@ module _ (g : ℕ → ℕ) (f : ℕ) (marks : List ℕ) where
         apart : (iter g j f ≡ iter g k f → ⊥) → j ≡ k → ⊥
         apart c e = c (ap (λ m. iter g m f) e)
 
-        by : Dec (iter g j f ≡ iter g k f) → ((iter g j f ≡ iter g k f → ⊥) → at (marked g f k marks) (iter g j f) ≡ f + 1)
-            → at (set (marked g f k marks) (iter g k f) (f + 1)) (iter g j f) ≡ f + 1
-        by (yes e) r = rw e (getD-set-same (marked g f k marks) (iter g k f) (f + 1) 0 (omega (arith, marked-size k, ap (λ m. m) e)))
-        by (no c) r = getD-set-other (marked g f k marks) (iter g k f) (iter g j f) (f + 1) 0 c ∙ r c
+        by : Dec (iter g j f ≡ iter g k f) → ((iter g j f ≡ iter g k f → ⊥) → at (marked g f k marks) (iter g j f) ≡ f)
+            → at (set (marked g f k marks) (iter g k f) f) (iter g j f) ≡ f
+        by (yes e) r = rw e (getD-set-same (marked g f k marks) (iter g k f) f 0 (omega (arith, marked-size k, ap (λ m. m) e)))
+        by (no c) r = getD-set-other (marked g f k marks) (iter g k f) (iter g j f) f 0 c ∙ r c
 
     -- a mark stays
-    pub marked-stays : (k x : ℕ) → x < 1024 → (at marks x ≡ 0 → ⊥) → at (marked g f k marks) x ≡ 0 → ⊥
-    marked-stays k x l h e = by (marked-cases k x)
+    pub marked-stays : f < 1024 → (k x : ℕ) → x < 1024 → (at marks x ≡ 1024 → ⊥) → at (marked g f k marks) x ≡ 1024 → ⊥
+    marked-stays small k x l h e = by (marked-cases k x)
       where
         by : (at (marked g f k marks) x ≡ at marks x) ⊎ ((j : ℕ) × (j < k) × (iter g j f ≡ x)) → ⊥
         by (inl q) = h (sym q ∙ e)
@@ -92,6 +92,6 @@ module _ {right : ℕ → ℕ} {darts : ℕ} (faces : ℕ) {parents marks : List
       omega (
         arith,
         ascent-few k (omega arith),
-        fresh-less faces (marked g f k marks) (set (marked g f k marks) (iter g k f) (f + 1)) (iter g k f) (f + 1)
-            (stored (marked g f k marks) (iter g k f) (f + 1) 0 (omega (arith, marked-size g f marks k))) in' (a .onward k (omega arith) .1) (omega arith),
+        fresh-less faces (marked g f k marks) (set (marked g f k marks) (iter g k f) f) (iter g k f) f
+            (stored (marked g f k marks) (iter g k f) f 0 (omega (arith, marked-size g f marks k))) in' (a .onward k (omega arith) .1) (omega arith),
       )

@@ -61,24 +61,24 @@ module _ {lefts : List ℕ} {lengths : List ℤ} {darts faces : ℕ} {start : Ta
     g = upwardOf lefts now
 
     -- whether it has come round, as it is tested
-    closes-at : at marks' top ≡ f + 1 → HasLevel (atℤ (now .potentials)) top → Closes f (iter g count f) (marked g f count marks) now
+    closes-at : at marks' top ≡ f → HasLevel (atℤ (now .potentials)) top → Closes f (iter g count f) (marked g f count marks) now
     closes-at m has = (
       ap (at (marked g f count marks)) (sym (a .top-is)) ∙ ap (λ l. at l top) (sym (a .marks-are)) ∙ m,
       λ e. has (ap (atℤ (now .potentials)) (a .top-is) ∙ e),
     )
 
-    closes-tested : Closes f (iter g count f) (marked g f count marks) now → (at marks' top ≡ f + 1) × HasLevel (atℤ (now .potentials)) top
+    closes-tested : Closes f (iter g count f) (marked g f count marks) now → (at marks' top ≡ f) × HasLevel (atℤ (now .potentials)) top
     closes-tested c = (
       ap (λ l. at l top) (a .marks-are) ∙ ap (at (marked g f count marks)) (a .top-is) ∙ c .0,
       λ e. c .1 (ap (atℤ (now .potentials)) (sym (a .top-is)) ∙ e),
     )
 
-    pub pass-ring : at marks' top ≡ f + 1 → HasLevel (atℤ (now .potentials)) top → (d : ℕ) → d ≡ at (now .parents) top
+    pub pass-ring : at marks' top ≡ f → HasLevel (atℤ (now .potentials)) top → (d : ℕ) → d ≡ at (now .parents) top
         → Straightens lefts lengths darts faces 0 unmarked start now (straightened.Ring d)
     pass-ring m has d e =
         h .back now (straightened.Ring d) (ring count f-in (a .ascent) (closes-at m has) (e ∙ ap (at (now .parents)) (a .top-is)))
 
-    module _ (not-round : at marks' top ≡ f + 1 → HasLevel (atℤ (now .potentials)) top → ⊥) where
+    module _ (not-round : at marks' top ≡ f → HasLevel (atℤ (now .potentials)) top → ⊥) where
       open' : Closes f (iter g count f) (marked g f count marks) now → ⊥
       open' c = let t = closes-tested c in not-round (t .0) (t .1)
 

@@ -27,7 +27,7 @@ module _ (right : ℕ → ℕ) (darts faces : ℕ) (parents : List ℕ) (f : ℕ
     pub size-marks : length marks ≡ 1024
     pub size-noted : length noted ≡ 1024
     pub noted-are : (k : ℕ) → k < count → at noted k ≡ iter g k f
-    pub onward : (k : ℕ) → k < count → (at parents (iter g k f) < darts) × (at (marked g f k marks₀) (iter g k f) ≡ 0)
+    pub onward : (k : ℕ) → k < count → (at parents (iter g k f) < darts) × (at (marked g f k marks₀) (iter g k f) ≡ 1024)
     pub left : fresh faces marks + count ≡ fresh faces marks₀
 
   pub rising-first : (marks noted : List ℕ) → length marks ≡ 1024 → length noted ≡ 1024 → f < faces → Rising marks marks noted f 0
@@ -42,24 +42,24 @@ module _ (right : ℕ → ℕ) (darts faces : ℕ) (parents : List ℕ) (f : ℕ
     left = omega arith;
   }
 
-  module _ {marks₀ marks noted : List ℕ} {y count : ℕ} (few : faces ≤ 1024) (r : Rising marks₀ marks noted y count) where
+  module _ {marks₀ marks noted : List ℕ} {y count : ℕ} (few : faces ≤ 1024) (f-in : f < faces) (r : Rising marks₀ marks noted y count) where
     mark-is : at marks y ≡ at (marked g f count marks₀) (iter g count f)
     mark-is = ap (at marks) (r .y-is) ∙ ap (λ m. at m (iter g count f)) (r .marks-are)
 
     -- where the mark is not there yet a face is left, so there is room
-    pub rising-room : at marks y ≡ 0 → count < 1024
+    pub rising-room : at marks y ≡ 1024 → count < 1024
     rising-room e = omega (arith, r .left, fresh-some faces marks y (r .y-in) e, fresh-few faces marks₀)
 
-    pub rising-less : at marks y ≡ 0 → fresh faces (set marks y (f + 1)) < fresh faces marks
+    pub rising-less : at marks y ≡ 1024 → fresh faces (set marks y f) < fresh faces marks
     rising-less e =
         omega (
           arith,
-          fresh-less faces marks (set marks y (f + 1)) y (f + 1) (stored marks y (f + 1) 0 (omega (arith, r .y-in, r .size-marks))) (r .y-in) e (omega arith),
+          fresh-less faces marks (set marks y f) y f (stored marks y f 0 (omega (arith, r .y-in, r .size-marks))) (r .y-in) e (omega arith),
         )
 
     -- one face more
-    pub rising-more : (p z : ℕ) → p ≡ at parents y → p < darts → at marks y ≡ 0 → z ≡ right p → z < faces
-        → Rising marks₀ (set marks y (f + 1)) (set noted count y) z (count + 1)
+    pub rising-more : (p z : ℕ) → p ≡ at parents y → p < darts → at marks y ≡ 1024 → z ≡ right p → z < faces
+        → Rising marks₀ (set marks y f) (set noted count y) z (count + 1)
     rising-more p z p-is p-in e z-is z-in = record {
       y-is = z-is ∙ ap right (p-is ∙ ap (at parents) (r .y-is)) ∙ sym (iter-suc g count f) ∙ ap (λ m. iter g m f) (sym (add-one count));
       y-in = z-in;
@@ -72,7 +72,7 @@ module _ (right : ℕ → ℕ) (darts faces : ℕ) (parents : List ℕ) (f : ℕ
           omega (
             arith,
             r .left,
-            fresh-less faces marks (set marks y (f + 1)) y (f + 1) (stored marks y (f + 1) 0 (omega (arith, r .y-in, r .size-marks))) (r .y-in) e (omega arith),
+            fresh-less faces marks (set marks y f) y f (stored marks y f 0 (omega (arith, r .y-in, r .size-marks))) (r .y-in) e (omega arith),
           );
     }
       where
@@ -83,13 +83,13 @@ module _ (right : ℕ → ℕ) (darts faces : ℕ) (parents : List ℕ) (f : ℕ
         noted' k l (yes q) = c .at k q ∙ r .y-is ∙ ap (λ m. iter g m f) (sym q)
         noted' k l (no n) = c .off k n ∙ r .noted-are k (omega arith)
 
-        onward' : (k : ℕ) → k < count + 1 → Dec (k ≡ count) → (at parents (iter g k f) < darts) × (at (marked g f k marks₀) (iter g k f) ≡ 0)
+        onward' : (k : ℕ) → k < count + 1 → Dec (k ≡ count) → (at parents (iter g k f) < darts) × (at (marked g f k marks₀) (iter g k f) ≡ 1024)
         onward' k l (yes q) =
             rw q (subst (λ x. at parents x < darts) (r .y-is) (rw (← p-is) p-in), sym mark-is ∙ e)
         onward' k l (no n) = r .onward k (omega arith)
 
     -- it stops
-    pub rising-stops : (at parents y < darts → at marks y ≡ 0 → ⊥) → Ascended g darts faces parents f marks₀ marks noted count y
+    pub rising-stops : (at parents y < darts → at marks y ≡ 1024 → ⊥) → Ascended g darts faces parents f marks₀ marks noted count y
     rising-stops stop = record {
       ascent = record {
         onward = r .onward;

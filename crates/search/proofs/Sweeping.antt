@@ -35,23 +35,23 @@ module _ (lefts : List ℕ) (lengths : List ℤ) (darts faces : ℕ) (roots : Li
   pub record Swept (t : Tables) (first b f : ℕ) (marks : List ℕ) (deep : ℕ) : Type 0 where
     pub passing : Passing N t first b
     pub size : length marks ≡ 1024
-    pub low : (x : ℕ) → x < faces → at marks x ≤ f
-    pub near : (x : ℕ) → x < faces → (at marks x ≡ 0 → ⊥) → HasLevel (atℤ (t .potentials)) x → mag (atℤ (t .potentials) x) ≤ deep * longest
+    pub low : (x : ℕ) → x < faces → (at marks x ≡ 1024 → ⊥) → at marks x < f
+    pub near : (x : ℕ) → x < faces → (at marks x ≡ 1024 → ⊥) → HasLevel (atℤ (t .potentials)) x → mag (atℤ (t .potentials) x) ≤ deep * longest
     pub room : deep + fresh faces marks ≤ faces
-    pub gone : (x : ℕ) → x < faces → x < f → (at marks x ≡ 0 → ⊥) ⊎ (darts ≤ at (t .parents) x)
+    pub gone : (x : ℕ) → x < faces → x < f → (at marks x ≡ 1024 → ⊥) ⊎ (darts ≤ at (t .parents) x)
 
   pub swept-none : {t : Tables} {first b : ℕ} → Passing N t first b → Swept t first b 0 unmarked 0
   swept-none r = record {
     passing = r;
     size = refl;
-    low = λ x l. omega (arith, zero-at x l);
-    near = λ x l n. absurd (n (zero-at x l));
+    low = λ x l n. absurd (n (none-at x l));
+    near = λ x l n. absurd (n (none-at x l));
     room = omega (arith, fresh-few faces unmarked);
     gone = λ x l m. absurd (omega arith);
   }
     where
-      zero-at : (x : ℕ) → x < faces → at unmarked x ≡ 0
-      zero-at x l = getD-replicate 1024 x 0 0 (omega (arith, sound .few-faces))
+      none-at : (x : ℕ) → x < faces → at unmarked x ≡ 1024
+      none-at x l = getD-replicate 1024 x 1024 0 (omega (arith, sound .few-faces))
 
   -- all are gone through
   pub swept-all : {t : Tables} {first b f deep : ℕ} {marks : List ℕ} → Swept t first b f marks deep → faces ≤ f → Passing N t first 1024
@@ -70,7 +70,7 @@ module _ (lefts : List ℕ) (lengths : List ℤ) (darts faces : ℕ) (roots : Li
       r : Passing N t first b
       r = s .passing
 
-      by : (x : ℕ) → x < faces → HasLevel (atℤ (t .potentials)) x → (at marks x ≡ 0 → ⊥) ⊎ (darts ≤ at (t .parents) x)
+      by : (x : ℕ) → x < faces → HasLevel (atℤ (t .potentials)) x → (at marks x ≡ 1024 → ⊥) ⊎ (darts ≤ at (t .parents) x)
           → mag (atℤ (t .potentials) x) ≤ 1024 * longest
       by x m h (inl n) = omega (arith, s .near x m n h, s .room, sound .few-faces)
       by x m h (inr n) = omega (arith, ap mag (r .state .orphan x m n h))
@@ -99,8 +99,8 @@ module _ (lefts : List ℕ) (lengths : List ℤ) (darts faces : ℕ) (roots : Li
     pub count-few : count ≤ faces
     count-few = omega (arith, left-over, fresh-few faces marks)
 
-    met : (x : ℕ) (j : ℕ) → j < count → iter g j f ≡ x → at marks' x ≡ f + 1
-    met x j l e = subst (λ y. at marks' y ≡ f + 1) e (marked-new g f marks (s .size) count j l (small j (omega arith)))
+    met : (x : ℕ) (j : ℕ) → j < count → iter g j f ≡ x → at marks' x ≡ f
+    met x j l e = subst (λ y. at marks' y ≡ f) e (marked-new g f marks (s .size) count j l (small j (omega arith)))
 
     -- it has come round
     module _ (c : Closes f (iter g count f) marks' t) where
@@ -112,7 +112,8 @@ module _ (lefts : List ℕ) (lengths : List ℤ) (darts faces : ℕ) (roots : Li
       place = by (marked-cases g f marks count y)
         where
           by : (at marks' y ≡ at marks y) ⊎ ((j : ℕ) × (j < count) × (iter g j f ≡ y)) → (j : ℕ) × (j < count) × (iter g j f ≡ y)
-          by (inl e) = absurd (omega (arith, e, c .0, s .low y (inside count (omega arith))))
+          by (inl e) =
+              absurd (omega (arith, e, c .0, s .low y (inside count (omega arith)) (λ z. omega (arith, e, c .0, f-in, sound .few-faces))))
           by (inr r) = r
 
       abbrev j : ℕ
@@ -165,7 +166,7 @@ module _ (lefts : List ℕ) (lengths : List ℤ) (darts faces : ℕ) (roots : Li
       module _ (wide : 1024 ≤ b) (thin : b < 1600000) where
         -- a face that was marked before, or has followed its parent
         Done : ℕ → ℕ → Type 0
-        Done k x = (at marks x ≡ 0 → ⊥) ⊎ ((j : ℕ) × (k ≤ j) × (j < count) × (iter g j f ≡ x))
+        Done k x = (at marks x ≡ 1024 → ⊥) ⊎ ((j : ℕ) × (k ≤ j) × (j < count) × (iter g j f ≡ x))
 
         -- on the way down, the faces from place k on have followed
         record Falling (u : Tables) (k deep' : ℕ) : Type 0 where
@@ -185,7 +186,7 @@ module _ (lefts : List ℕ) (lengths : List ℤ) (darts faces : ℕ) (roots : Li
           parentless = λ x l. l;
         }
           where
-            near' : (x : ℕ) → x < faces → (at marks x ≡ 0 → ⊥) ⊎ ((j : ℕ) × (count ≤ j) × (j < count) × (iter g j f ≡ x))
+            near' : (x : ℕ) → x < faces → (at marks x ≡ 1024 → ⊥) ⊎ ((j : ℕ) × (count ≤ j) × (j < count) × (iter g j f ≡ x))
                 → HasLevel (atℤ (t .potentials)) x → mag (atℤ (t .potentials) x) ≤ deep * longest
             near' x l (inl n) = s .near x l n
             near' x l (inr r) = absurd (omega (arith, r .1, r .2))
@@ -206,15 +207,15 @@ module _ (lefts : List ℕ) (lengths : List ℤ) (darts faces : ℕ) (roots : Li
             same : (x : ℕ) → (x ≡ iter g k f → ⊥) → atℤ (v .potentials) x ≡ atℤ (u .potentials) x
             same = follow-others lefts lengths darts faces roots sound wide thin (h .descending) w
 
-            earlier : (x : ℕ) → (x ≡ iter g k f → ⊥) → (at marks x ≡ 0 → ⊥) ⊎ ((j : ℕ) × (k ≤ j) × (j < count) × (iter g j f ≡ x))
-                → (at marks x ≡ 0 → ⊥) ⊎ ((j : ℕ) × (suc k ≤ j) × (j < count) × (iter g j f ≡ x))
+            earlier : (x : ℕ) → (x ≡ iter g k f → ⊥) → (at marks x ≡ 1024 → ⊥) ⊎ ((j : ℕ) × (k ≤ j) × (j < count) × (iter g j f ≡ x))
+                → (at marks x ≡ 1024 → ⊥) ⊎ ((j : ℕ) × (suc k ≤ j) × (j < count) × (iter g j f ≡ x))
             earlier x n (inl m) = inl m
             earlier x n (inr r) = inr (r .0, omega (arith, r .1, other), r .2, r .3)
               where
                 other : r .0 ≡ k → ⊥
                 other e = n (sym (r .3) ∙ ap (λ m. iter g m f) e)
 
-            near' : (x : ℕ) → x < faces → (at marks x ≡ 0 → ⊥) ⊎ ((j : ℕ) × (k ≤ j) × (j < count) × (iter g j f ≡ x))
+            near' : (x : ℕ) → x < faces → (at marks x ≡ 1024 → ⊥) ⊎ ((j : ℕ) × (k ≤ j) × (j < count) × (iter g j f ≡ x))
                 → HasLevel (atℤ (v .potentials)) x → Dec (x ≡ iter g k f) → mag (atℤ (v .potentials) x) ≤ suc deep' * longest
             near' x l d has (yes e) =
                 subst (λ z. mag (atℤ (v .potentials) z) ≤ suc deep' * longest) (sym e) (below .near (λ z. has (ap (atℤ (v .potentials)) e ∙ z)))
@@ -229,7 +230,7 @@ module _ (lefts : List ℕ) (lengths : List ℤ) (darts faces : ℕ) (roots : Li
         swept-more {u} q = record {
           passing = h .descending .passing;
           size = marked-size g f marks count ∙ s .size;
-          low = λ x l. low' x l (marked-cases g f marks count x);
+          low = λ x l n. low' x l n (marked-cases g f marks count x);
           near = λ x l n. h .near x l (done-at x n (marked-cases g f marks count x));
           room = omega (arith, s .room, left-over);
           gone = λ x l m. gone' x l (decLt x f) m;
@@ -238,32 +239,33 @@ module _ (lefts : List ℕ) (lengths : List ℤ) (darts faces : ℕ) (roots : Li
             h : Falling u 0 (deep + count)
             h = falling-last falling-first q
 
-            low' : (x : ℕ) → x < faces → (at marks' x ≡ at marks x) ⊎ ((j : ℕ) × (j < count) × (iter g j f ≡ x)) → at marks' x ≤ f + 1
-            low' x l (inl e) = omega (arith, s .low x l)
-            low' x l (inr r) = omega (arith, met x (r .0) (r .1) (r .2))
+            low' : (x : ℕ) → x < faces → (at marks' x ≡ 1024 → ⊥) → (at marks' x ≡ at marks x) ⊎ ((j : ℕ) × (j < count) × (iter g j f ≡ x))
+                → at marks' x < f + 1
+            low' x l n (inl e) = omega (arith, s .low x l (λ z. n (e ∙ z)))
+            low' x l n (inr r) = omega (arith, met x (r .0) (r .1) (r .2))
 
-            done-at : (x : ℕ) → (at marks' x ≡ 0 → ⊥) → (at marks' x ≡ at marks x) ⊎ ((j : ℕ) × (j < count) × (iter g j f ≡ x))
-                → (at marks x ≡ 0 → ⊥) ⊎ ((j : ℕ) × (0 ≤ j) × (j < count) × (iter g j f ≡ x))
+            done-at : (x : ℕ) → (at marks' x ≡ 1024 → ⊥) → (at marks' x ≡ at marks x) ⊎ ((j : ℕ) × (j < count) × (iter g j f ≡ x))
+                → (at marks x ≡ 1024 → ⊥) ⊎ ((j : ℕ) × (0 ≤ j) × (j < count) × (iter g j f ≡ x))
             done-at x n (inl e) = inl (λ z. n (e ∙ z))
             done-at x n (inr r) = inr (r .0, omega arith, r .1, r .2)
 
-            kept : (x : ℕ) → x < faces → (at marks x ≡ 0 → ⊥) ⊎ (darts ≤ at (t .parents) x) → (at marks' x ≡ 0 → ⊥) ⊎ (darts ≤ at (u .parents) x)
-            kept x l (inl n) = inl (marked-stays g f marks (s .size) count x (omega (arith, sound .few-faces)) n)
+            kept : (x : ℕ) → x < faces → (at marks x ≡ 1024 → ⊥) ⊎ (darts ≤ at (t .parents) x) → (at marks' x ≡ 1024 → ⊥) ⊎ (darts ≤ at (u .parents) x)
+            kept x l (inl n) = inl (marked-stays g f marks (s .size) (omega (arith, f-in, sound .few-faces)) count x (omega (arith, sound .few-faces)) n)
             kept x l (inr n) = inr (h .parentless x n)
 
             -- the face f itself: it was met, or the ascent stopped there
-            itself : Dec (0 < count) → Dec (at (t .parents) f < darts) → (at marks' f ≡ 0 → ⊥) ⊎ (darts ≤ at (u .parents) f)
-            itself (yes some) p = inl (λ z. omega (arith, met f 0 some (iter-zero g f), z))
+            itself : Dec (0 < count) → Dec (at (t .parents) f < darts) → (at marks' f ≡ 1024 → ⊥) ⊎ (darts ≤ at (u .parents) f)
+            itself (yes some) p = inl (λ z. omega (arith, met f 0 some (iter-zero g f), z, f-in, sound .few-faces))
             itself (no n) (no p) = inr (h .parentless f (omega (arith, p)))
             itself (no n) (yes p) = inl (λ z. a .stops (rw (top-is) p) (ap (at marks') top-is ∙ z))
               where
                 top-is : iter g count f ≡ f
                 top-is = ap (λ m. iter g m f) (omega (arith, n)) ∙ iter-zero g f
 
-            gone' : (x : ℕ) → x < faces → Dec (x < f) → x < f + 1 → (at marks' x ≡ 0 → ⊥) ⊎ (darts ≤ at (u .parents) x)
+            gone' : (x : ℕ) → x < faces → Dec (x < f) → x < f + 1 → (at marks' x ≡ 1024 → ⊥) ⊎ (darts ≤ at (u .parents) x)
             gone' x l (yes m) _ = kept x l (s .gone x l m)
             gone' x l (no m) o =
-                subst (λ z. (at marks' z ≡ 0 → ⊥) ⊎ (darts ≤ at (u .parents) z)) (omega (arith, m))
+                subst (λ z. (at marks' z ≡ 1024 → ⊥) ⊎ (darts ≤ at (u .parents) z)) (omega (arith, m))
                 (itself (decLt 0 count) (decLt (at (t .parents) f) darts))
 
   -- ── the whole ──

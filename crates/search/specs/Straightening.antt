@@ -18,19 +18,19 @@ use Rattle.search.specs.declared.Straightened.{Straightened}
 use Rattle.search.specs.declared.Straightened.the-variants as straightened
 
 -- ── up ──
--- at first no face is marked
+-- at first no face is marked: 1024 is the number of no face
 abbrev pub unmarked : List ℕ
-unmarked = replicate 1024 0
+unmarked = replicate 1024 1024
 
--- the first k faces of the ascent from f are marked f + 1
+-- the first k faces of the ascent from f are marked with f
 unfoldable pub marked : (upward : ℕ → ℕ) (f k : ℕ) → List ℕ → List ℕ
 marked upward f zero marks = marks
-marked upward f (suc k) marks = set (marked upward f k marks) (iter upward k f) (f + 1)
+marked upward f (suc k) marks = set (marked upward f k marks) (iter upward k f) f
 
 -- the ascent from f goes through `count` faces, each with a parent and not marked yet; the next one lacks a parent or is marked
 pub record Ascent (upward : ℕ → ℕ) (darts : ℕ) (parents marks : List ℕ) (f count : ℕ) : Type 0 where
-  pub onward : (k : ℕ) → k < count → (at parents (iter upward k f) < darts) × (at (marked upward f k marks) (iter upward k f) ≡ 0)
-  pub stops : at parents (iter upward count f) < darts → at (marked upward f count marks) (iter upward count f) ≡ 0 → ⊥
+  pub onward : (k : ℕ) → k < count → (at parents (iter upward k f) < darts) × (at (marked upward f k marks) (iter upward k f) ≡ 1024)
+  pub stops : at parents (iter upward count f) < darts → at (marked upward f count marks) (iter upward count f) ≡ 1024 → ⊥
 
 -- ── down ──
 -- the face y follows its parent: it falls to the level across it plus its length, and comes to wait, or it is there already; where the face across the parent
@@ -59,7 +59,7 @@ upwardOf lefts t = up (rightOf lefts) (at (t .parents))
 
 -- the ascent from f has come to the face y, which has a level and was met in this very ascent
 abbrev pub Closes : (f y : ℕ) (marks : List ℕ) → Tables → Type 0
-Closes f y marks t = (at marks y ≡ f + 1) × HasLevel (atℤ (t .potentials)) y
+Closes f y marks t = (at marks y ≡ f) × HasLevel (atℤ (t .potentials)) y
 
 -- the faces from f on are gone through; it ends straight, with the end of the queue, or with the dart that closes a ring of parents
 pub data Straightens (lefts : List ℕ) (lengths : List ℤ) (darts faces : ℕ) : (f : ℕ) → List ℕ → Tables → Tables → Straightened → Type 0 where

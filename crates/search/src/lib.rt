@@ -139,7 +139,7 @@ fn begin(
     }
 }
 
-// Goes up from the face f over parents, through faces that have one and are not marked; marks each with f + 1 and notes it.
+// Goes up from the face f over parents, through faces that have one and are not marked; marks each with f and notes it.
 fn ascend(
     lefts: &[u16; 1024],
     parents: &[u16; 1024],
@@ -164,13 +164,13 @@ fn ascend(
                 top: y,
             };
         }
-        if marks[y] != 0 {
+        if marks[y] != 1024 {
             return Risen {
                 count: count,
                 top: y,
             };
         }
-        marks[y] = (f + 1) as u16;
+        marks[y] = f as u16;
         noted[count] = y as u16;
         count += 1;
         y = arrays::right(lefts, p);
@@ -260,10 +260,10 @@ fn descend(
 // Whether the ascent from f has come round: to the face y, which has a level and was met in this very ascent.
 fn is_round(potentials: &[i64; 1024], marks: &[u16; 1024], f: usize, y: usize) -> bool
     requires { ⌜ (y < 1024) × (f < 1024) ⌝ }
-    ensures { λ r. ⌜ (r ≡ true → (at (now (marks .entry)) y ≡ f + 1) × (atℤ (now (potentials .entry)) y ≡ far → ⊥))
-        × (r ≡ false → at (now (marks .entry)) y ≡ f + 1 → (atℤ (now (potentials .entry)) y ≡ far → ⊥) → ⊥) ⌝ }
+    ensures { λ r. ⌜ (r ≡ true → (at (now (marks .entry)) y ≡ f) × (atℤ (now (potentials .entry)) y ≡ far → ⊥))
+        × (r ≡ false → at (now (marks .entry)) y ≡ f → (atℤ (now (potentials .entry)) y ≡ far → ⊥) → ⊥) ⌝ }
 {
-    if arrays::wide(marks[y]) == f + 1 {
+    if arrays::wide(marks[y]) == f {
         return !is_far(potentials, y);
     }
     false
@@ -288,8 +288,8 @@ fn straighten(
         (tablesOf (now (potentials .entry)) (now (parents .entry)) (now (waiting .entry)) (now (queue .entry)) last)
         (tablesOf (now (potentials .exit)) (now (parents .exit)) (now (waiting .exit)) (now (queue .exit)) end) r) ⌝ }
 {
-    let mut marks = [0u16; 1024];
-    let mut noted = [0u16; 1024];
+    let mut marks = [1024u16; 1024];
+    let mut noted = [1024u16; 1024];
     let mut end = last;
     for f in 0..faces {
         let risen = ascend(lefts, &*parents, darts, faces, f, &mut marks, &mut noted);

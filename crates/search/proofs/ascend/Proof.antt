@@ -31,13 +31,13 @@ returns : tie.Need-returns Inv-loop μ-loop
 returns c =
     let k = c .before in
     let l = k .before .before in
-    rising-stops _ _ _ _ _ (l .before .pre .3) (l .loop .inv) (λ h e. omega (arith, c .if1 .taken, k .wide .ensures))
+    rising-stops _ _ _ _ _ (l .before .pre .3) (l .before .pre .4) (l .loop .inv) (λ h e. omega (arith, c .if1 .taken, k .wide .ensures))
 
 abbrev at-mark : tie.After-if22 Inv-loop μ-loop → At-loop
 at-mark c = c .before .before .before .before
 
 returns-2 : tie.Need-returns-2 Inv-loop μ-loop
-returns-2 c = let l = at-mark (c .before) in rising-stops _ _ _ _ _ (l .before .pre .3) (l .loop .inv) (λ h e. c .if2 .taken e)
+returns-2 c = let l = at-mark (c .before) in rising-stops _ _ _ _ _ (l .before .pre .3) (l .before .pre .4) (l .loop .inv) (λ h e. c .if2 .taken e)
 
 -- ── it goes on ──
 abbrev Onward : Type 0
@@ -46,7 +46,7 @@ Onward = tie.Else2 Inv-loop μ-loop
 abbrev there : Onward → At-loop
 there c = at-mark (c .before)
 
-new : (c : Onward) → at (there c .loop .marks) (there c .loop .y) ≡ 0
+new : (c : Onward) → at (there c .loop .marks) (there c .loop .y) ≡ 1024
 new c = c .if2 .left
 
 dart-in : (c : Onward) → c .before .before .before .wide .result < there c .before .args .darts
@@ -56,17 +56,18 @@ f-small : (c : Onward) → there c .before .args .f < 1024
 f-small c = let p = there c .before .pre in omega (arith, p .3, p .4)
 
 room : (c : Onward) → there c .loop .count < 1024
-room c = let l = there c in rising-room _ _ _ _ _ (l .before .pre .3) (l .loop .inv) (new c)
+room c = let l = there c in rising-room _ _ _ _ _ (l .before .pre .3) (l .before .pre .4) (l .loop .inv) (new c)
 
 loop-less : tie.Need-loop-less Inv-loop μ-loop
-loop-less c = let l = there (c .before) in rising-less _ _ _ _ _ (l .before .pre .3) (l .loop .inv) (new (c .before))
+loop-less c = let l = there (c .before) in rising-less _ _ _ _ _ (l .before .pre .3) (l .before .pre .4) (l .loop .inv) (new (c .before))
 
 loop-again : tie.Need-loop-again Inv-loop μ-loop
 loop-again c =
     let k = c .before in
     let w = k .before .before .before .wide in
     let l = there k in
-    rising-more _ _ _ _ _ (l .before .pre .3) (l .loop .inv) (w .result) (c .right .result) (w .ensures) (dart-in k) (new k) (c .right .ensures)
+    rising-more _ _ _ _ _ (l .before .pre .3) (l .before .pre .4) (l .loop .inv) (w .result) (c .right .result) (w .ensures)
+    (dart-in k) (new k) (c .right .ensures)
     (omega (arith, c .right .ensures, l .before .pre .5 (w .result) (dart-in k)))
 
 pub ascend-spec : {M : Type 1} → statement M
@@ -83,7 +84,6 @@ ascend-spec =
     (λ c. record { fits = omega (arith, small (c .before .before .before)) })
     (λ c. small (c .before .before .before))
     returns-2
-    (λ c. record { fits = omega (arith, f-small c) })
     (λ c. record { fits = omega (arith, f-small c) })
     (λ c. record { fits = omega (arith, small (there c)) })
     (λ c. small (there c))

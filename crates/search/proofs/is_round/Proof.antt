@@ -18,4 +18,4 @@ returns-2 c = (λ q. absurd (true≢false (sym q)), λ q m h. c .if1 .left (c .b
 
 pub is-round-spec : {M : Type 1} → statement M
 is-round-spec =
-    tie.close (tie.spec (λ c. search needs) (λ c. search needs) (λ c κs. search needs) (λ c. search needs) (λ c κs. search needs) returns returns-2)
+    tie.close (tie.spec (λ c. search needs) (λ c. search needs) (λ c κs. search needs) (λ c κs. search needs) returns returns-2)
