@@ -6,3 +6,6 @@ pub mod Deciding
 pub mod Confirming
 pub mod Naming
 pub mod OneSet
+pub mod Carried
+pub mod LeastLength
+pub mod Distance
