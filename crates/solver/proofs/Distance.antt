@@ -1,4 +1,4 @@
--- The search from the face left of a dart, of a map: its dual is sound and rooted there; and the capacity of a dart in place of its length. What is read of it.
+-- The search from the face left of a dart, of a map: its dual is sound and rooted there. Its levels tell the least capacity of the dart (`least-at`).
 use mathlib.Core.Path.{_≡_, refl, sym, _∙_, ap, ap₂, subst}
 use mathlib.Core.Bool.{Bool, true, false, cond}
 use mathlib.Core.List.{List}
@@ -63,7 +63,8 @@ module _ (z : ℤ) {l : ℤ} (near : mag z ≤ farthest) (short : Limited mostLe
   pub slack-fits : SFits w64 (toZ w64 (ofZ w64 z) +ℤ toZ w32 (ofZ w32 l))
   slack-fits = subst (SFits w64) (sym slack-is) (limited-fits64 2000000000602000001 (z +ℤ l) (omega arith) (limited-plus (level-limited z near) short))
 
-  module _ {c wide slack : ℤ} (small : Limited mostCapacity c) (same : wide ≡ toZ w32 (ofZ w32 c)) (is : slack ≡ toZ w64 (ofZ w64 z) +ℤ toZ w32 (ofZ w32 l)) where
+  module _ {c wide slack : ℤ} (small : Limited mostCapacity c) (same : wide ≡ toZ w32 (ofZ w32 c))
+      (is : slack ≡ toZ w64 (ofZ w64 z) +ℤ toZ w32 (ofZ w32 l)) where
     capacity-is : wide ≡ c
     capacity-is = same ∙ same-bits (omega arith) small
 

@@ -1,4 +1,4 @@
--- The search from the face left of a dart: its roots are those of the drawing with this dart as its outer dart, and what it answers is read at the face right of
+-- The search from the face left of a dart: its roots are those of the drawing with this dart as its outer dart. What it answers is read at the face right of
 -- it.
 use mathlib.Core.Path.{_≡_, refl, sym, _∙_, ap}
 use native.Mathlib.Omega.{arith}
