@@ -1,6 +1,6 @@
 -- The least length of one dart with which there is no cycle of negative length is minus the distance back (`least-length`), over any dual graph with levels
--- that are settled from the face left of the dart. The walk back may use the dart itself: with a smaller length of the dart it is shorter still, so the cycle is
--- negative all the same; and where no level can be lowered it is no shorter than the level, so the level is still the length of a walk.
+-- that are settled from the face left of the dart. The walk back may use the dart itself: with a smaller length of the dart it is shorter still, so the cycle
+-- is negative all the same; and where no level can be lowered it is no shorter than the level, so the level is still the length of a walk.
 use mathlib.Core.Path.{_≡_, refl, sym, _∙_, ap, subst}
 use mathlib.Core.Logic.{_⊎_, inl, inr, _↔_}
 use mathlib.Core.Bool.{Bool, true, false, cond}

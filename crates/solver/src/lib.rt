@@ -27,7 +27,7 @@ ghost use Rattle.arrays.specs.inner.Sizes.{mostCapacity, mostValue};
 ghost use Rattle.solver.specs.inner.Search.{PartFlagged, Measured, Searchable, Searched, Retraced, Ringed};
 ghost use Rattle.solver.specs.inner.Decision.{Decided, Confirmed};
 ghost use Rattle.solver.specs.inner.Named.{MeasuredBy, MadeOfRing, Named};
-ghost use Rattle.solver.specs.inner.LeastCapacity.{Returned, LeastCapacity};
+ghost use Rattle.solver.specs.inner.LeastCapacity.{RootedFrom, Returned, LeastCapacity};
 ghost use Rattle.arrays.specs.inner.Flags.{flagged};
 use search::Outcome;
 
@@ -344,33 +344,29 @@ pub fn decide<'a>(
     true
 }
 
-// How far it is from the face left of a dart back to the face right of it: the level of the latter in a search whose roots are those of the drawing with this
-// dart as its outer dart. So the face left of it is at 0 in its part, and each other part has its lowest face at 0. Or the dart that closes a ring.
-fn distance_back<'a>(
-    rotations: &'a [u16; 1024],
-    lefts: &'a [u16; 1024],
-    lengths: &'a [i32; 1024],
-    grouped: &'a [u16; 1024],
-    starts: &'a [u16; 1024],
-    ends: &'a [u16; 1024],
+// How far it is from the face left of a dart, the root of its part, back to the face right of it: the level of the latter in a search from the roots, which
+// stand at the first places of the queue. Or the dart that closes a ring, and the parents lead round it.
+fn distance_back(
+    lefts: &[u16; 1024],
+    lengths: &[i32; 1024],
+    grouped: &[u16; 1024],
+    starts: &[u16; 1024],
+    ends: &[u16; 1024],
     edges: usize,
     faces: usize,
+    roots: usize,
     dart: usize,
     parents: &mut [u16; 1024],
+    queue: &mut [u16; 1024],
 ) -> Back
-    requires { ⌜ (length (now parents) ≡ 1024) × (edges ≤ 512) × (dart < 2 * edges)
-        × ((d : ℕ) → d < 2 * edges → at (now rotations) d < 2 * edges)
-        × Grouped (rightOf (now lefts)) (2 * edges) faces (now grouped) (now starts) (now ends)
-        × ((queue : List ℕ) (roots : ℕ) → length queue ≡ 1024 → RootsOf (2 * edges) (at (now rotations)) dart (at (now lefts)) (at queue) roots
-        → WellFormed (dualOf (now lefts) (now lengths) (2 * edges) faces (take roots queue))
-        × Joined (dualOf (now lefts) (now lengths) (2 * edges) faces (take roots queue))) ⌝ }
+    requires { ⌜ (length (now parents) ≡ 1024) × (length (now queue) ≡ 1024) × (roots ≤ 1024) × (edges ≤ 512) × (dart < 2 * edges)
+        × WellFormed (dualOf (now lefts) (now lengths) (2 * edges) faces (take roots (now queue)))
+        × Joined (dualOf (now lefts) (now lengths) (2 * edges) faces (take roots (now queue)))
+        × Grouped (rightOf (now lefts)) (2 * edges) faces (now grouped) (now starts) (now ends) ⌝ }
     ensures { λ r. ⌜ (length (now (parents .exit)) ≡ 1024)
-        × ((queue : List ℕ) × (roots : ℕ) × (length queue ≡ 1024)
-        × RootsOf (2 * edges) (at (now (rotations .entry))) dart (at (now (lefts .entry))) (at queue) roots
-        × Returned (dualOf (now (lefts .entry)) (now (lengths .entry)) (2 * edges) faces (take roots queue)) dart (at (now (parents .exit))) r) ⌝ }
+        × Returned (dualOf (now (lefts .entry)) (now (lengths .entry)) (2 * edges) faces (take roots (now (queue .entry)))) dart
+        (at (now (parents .exit))) r ⌝ }
 {
-    let mut queue = [0u16; 1024];
-    let roots = traversal::roots_of(rotations, lefts, 2 * edges, dart, &mut queue);
     // What the search begins with: no face has a level, and none waits.
     let mut potentials = [4611686018427387904i64; 1024];
     let mut waiting = [0u8; 1024];
@@ -386,18 +382,113 @@ fn distance_back<'a>(
         &mut potentials,
         &mut *parents,
         &mut waiting,
-        &mut queue,
+        queue,
     );
     if let Outcome::Ring(d) = outcome {
         return Back::Ring(d);
     }
     let right = arrays::right(lefts, dart);
-    Back::Far(potentials[right])
+    let level = potentials[right];
+    Back::Far(level)
+}
+
+// The least capacity of one dart, by a search from roots that stand at the first places of the queue, of which the face left of the dart is one.
+fn least_from<'a>(
+    tails: &'a [u16; 1024],
+    rotations: &'a [u16; 1024],
+    lefts: &'a [u16; 1024],
+    capacities: &'a [i32; 1024],
+    order: &'a [u16; 1024],
+    from: &'a [u16; 1024],
+    grouped: &'a [u16; 1024],
+    starts: &'a [u16; 1024],
+    ends: &'a [u16; 1024],
+    nodes: usize,
+    edges: usize,
+    faces: usize,
+    source: usize,
+    sink: usize,
+    value: i32,
+    roots: usize,
+    dart: usize,
+    queue: &mut [u16; 1024],
+    inside: &mut [u8; 1024],
+) -> Least
+    requires { ⌜ (length (now queue) ≡ 1024) × (length (now inside) ≡ 1024)
+        × Drawn (mapOf nodes edges (now tails) (now rotations)) (at (now lefts)) faces dart (atℤ (now capacities))
+        × Ends (mapOf nodes edges (now tails) (now rotations)) source sink × Limited mostValue value
+        × Treed (mapOf nodes edges (now tails) (now rotations)) (2 * edges) (at (now order)) (at (now from))
+        × Grouped (rightOf (now lefts)) (2 * edges) faces (now grouped) (now starts) (now ends)
+        × RootedFrom (now lefts) (2 * edges) faces (now queue) roots dart ⌝ }
+    ensures { λ r. ⌜ (length (now (inside .exit)) ≡ 1024)
+        × LeastCapacity (mapOf nodes edges (now (tails .entry)) (now (rotations .entry))) (atℤ (now (capacities .entry))) source sink value dart
+        (now (inside .exit)) r ⌝ }
+{
+    let start = traversal::dart_at(tails, 2 * edges, source);
+    let finish = traversal::dart_at(tails, 2 * edges, sink);
+    let mut lengths = [0i32; 1024];
+    if cut_apart(
+        tails,
+        rotations,
+        capacities,
+        order,
+        from,
+        nodes,
+        edges,
+        start,
+        finish,
+        value,
+        &mut lengths,
+        &mut *inside,
+    ) {
+        return Least::Nothing;
+    }
+    let mut parents = [1024u16; 1024];
+    let back = distance_back(
+        lefts,
+        &lengths,
+        grouped,
+        starts,
+        ends,
+        edges,
+        faces,
+        roots,
+        dart,
+        &mut parents,
+        queue,
+    );
+    match back {
+        Back::Far(z) => {
+            let slack = signed::plus_wide(z, lengths[dart]);
+            Least::At(signed::minus64(signed::widen(capacities[dart]), slack))
+        }
+        Back::Ring(d) => {
+            let y = arrays::wide(lefts[d]);
+            cut_of_ring(
+                tails,
+                rotations,
+                lefts,
+                &lengths,
+                order,
+                from,
+                &parents,
+                nodes,
+                edges,
+                faces,
+                y,
+                inside,
+            );
+            Least::Nothing
+        }
+    }
 }
 
 // The least capacity of one dart, up to the one it has, with which the value can be carried from source to sink; the capacities of all other darts are as they
 // are. It is the least length of the dart without a cycle of negative length, minus the distance back (`LeastLength`), taken from lengths to capacities. Or
 // that it cannot be carried with the capacity that the dart has, with the nodes of a proving set flagged.
+//
+// The faces at 0 are those of the drawing with this dart as its outer dart: the face left of it in its part, in each other part the lowest. A walk over the
+// darts finds the other parts, where there are any. `least_from` has two callers, so that its arrays are not kept below a later decision on the stack.
 pub fn least_capacity<'a>(
     tails: &'a [u16; 1024],
     rotations: &'a [u16; 1024],
@@ -427,62 +518,53 @@ pub fn least_capacity<'a>(
         × LeastCapacity (mapOf nodes edges (now (tails .entry)) (now (rotations .entry))) (atℤ (now (capacities .entry))) source sink value dart
         (now (inside .exit)) r ⌝ }
 {
-    let start = traversal::dart_at(tails, 2 * edges, source);
-    let finish = traversal::dart_at(tails, 2 * edges, sink);
-    let mut lengths = [0i32; 1024];
-    if cut_apart(
+    let mut queue = [0u16; 1024];
+    if trees == 1 {
+        queue[0] = lefts[dart];
+        return least_from(
+            tails,
+            rotations,
+            lefts,
+            capacities,
+            order,
+            from,
+            grouped,
+            starts,
+            ends,
+            nodes,
+            edges,
+            faces,
+            source,
+            sink,
+            value,
+            1,
+            dart,
+            &mut queue,
+            inside,
+        );
+    }
+    let roots = traversal::roots_of(rotations, lefts, 2 * edges, dart, &mut queue);
+    least_from(
         tails,
         rotations,
+        lefts,
         capacities,
         order,
         from,
-        nodes,
-        edges,
-        start,
-        finish,
-        value,
-        &mut lengths,
-        &mut *inside,
-    ) {
-        return Least::Nothing;
-    }
-    let mut parents = [1024u16; 1024];
-    let back = distance_back(
-        rotations,
-        lefts,
-        &lengths,
         grouped,
         starts,
         ends,
+        nodes,
         edges,
         faces,
+        source,
+        sink,
+        value,
+        roots,
         dart,
-        &mut parents,
-    );
-    match back {
-        Back::Far(z) => {
-            let slack = signed::plus_wide(z, lengths[dart]);
-            Least::At(signed::minus64(signed::widen(capacities[dart]), slack))
-        }
-        Back::Ring(d) => {
-            let y = arrays::wide(lefts[d]);
-            cut_of_ring(
-                tails,
-                rotations,
-                lefts,
-                &lengths,
-                order,
-                from,
-                &parents,
-                nodes,
-                edges,
-                faces,
-                y,
-                inside,
-            );
-            Least::Nothing
-        }
-    }
+        &mut queue,
+        inside,
+    )
 }
 
 // Lays levels along the parents from the faces at 0, which are read off the walk, and looks whether they are settled: where they are, writes the flows that

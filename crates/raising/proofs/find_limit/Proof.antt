@@ -102,10 +102,12 @@ returns-2 c =
     let e = l .before .before .before .before in
     let d = e .before in
     let s = begun d in
-    let a = s .args in (
+    let a = s .args in
+    let last = l .least-limit .last in (
       l .least-limit .ensures .0,
       sought-as (drawing s) (a .source) (a .sink) (same-value (s .pre .6)) (a .edge) (decided d (e .if1 .left) .0)
-          (l .least-limit .last .1 .1 .1 .1 .1 .1 .1 .1 .1 .1 .1 .1 .1 .1 .1 .1 .1 .1 .0) (l .least-limit .last .1 .1 .1 .1 .1 .1 .1 .1 .1 .1 .1 .1 .1 .1 .1 .1 .1 .1 .1 .0)
+          (last .1 .1 .1 .1 .1 .1 .1 .1 .1 .1 .1 .1 .1 .1 .1 .1 .1 .1 .0)
+          (last .1 .1 .1 .1 .1 .1 .1 .1 .1 .1 .1 .1 .1 .1 .1 .1 .1 .1 .1 .0)
           {r = l .least-limit .result} refl (l .least-limit .ensures .1),
     )
 

@@ -18,11 +18,12 @@ returns : tie.Need-returns
 returns c =
     let d = c .before in
     let s = d .before .before .before .before in
-    let a = s .args in (
+    let a = s .args in
+    let flows' = d .decide .last .1 .1 .1 .1 .1 .1 .1 .1 .1 .1 .1 .1 .1 .1 .1 .1 .1 .1 .0 in
+    let inside' = d .decide .last .1 .1 .1 .1 .1 .1 .1 .1 .1 .1 .1 .1 .1 .1 .1 .1 .1 .1 .1 .0 in (
       d .decide .ensures .0,
       decided-as (mapOf (a .nodes) (a .edges) (a .tails .now) (a .rotations .now)) (a .outer) {c = atℤ (a .capacities .now)} refl (a .source) (a .sink)
-          (same-value (s .pre .4)) (a .flows .now) (d .decide .last .1 .1 .1 .1 .1 .1 .1 .1 .1 .1 .1 .1 .1 .1 .1 .1 .1 .1 .0) (d .decide .last .1 .1 .1 .1 .1 .1 .1 .1 .1 .1 .1 .1 .1 .1 .1 .1 .1 .1 .1 .0)
-          {r = d .decide .result} refl (d .decide .ensures .1),
+          (same-value (s .pre .4)) (a .flows .now) flows' inside' {r = d .decide .result} refl (d .decide .ensures .1),
     )
 
 pub serves-spec : {M : Type 1} → statement M

@@ -2,16 +2,18 @@
 -- right of it. And what follows for one capacity of a drawing: the least with which a value can be carried.
 use mathlib.Core.Path.{_≡_}
 use mathlib.Core.Bool.{cond}
-use mathlib.Core.List.{List}
-use Prim.Native.Nat.{ℕ, _<_}
+use mathlib.Core.List.{List, []}
+use Prim.Native.Nat.{ℕ, _≤_, _<_}
 use lib.Dec.{eqb}
+use lib.ListN as list
 use lib.IntN.{ℤ, pos, _+ℤ_}
 use lib.Signed.{_≤ℤ_, _<ℤ_}
 use Rattle.maps.specs.Map.{Map}
 use Rattle.flows.specs.Settings.{Carries}
 use Rattle.flows.specs.ProvingSet.{Proves}
+use Rattle.arrays.specs.At.{at}
 use Rattle.arrays.specs.inner.Flags.{flagged}
-use Rattle.search.specs.Dual.{Dual}
+use Rattle.search.specs.Dual.{Dual, dualOf, Joined}
 use Rattle.search.specs.Parents.{ParentRing}
 use Rattle.search.specs.inner.Walk.{Ring}
 use Rattle.search.specs.inner.Settled.{Settled}
@@ -42,6 +44,13 @@ pub record RootedAt (N : Dual) (d : ℕ) : Type 0 where
   pub place : ℕ
   pub place-in : place < N .roots
   pub is : N .root place ≡ N .left d
+
+-- the faces at the first places of a queue are roots, one to a part, whatever the lengths are, and the face left of the dart d is one of them
+pub record RootedFrom (lefts : List ℕ) (darts count : ℕ) (queue : List ℕ) (roots d : ℕ) : Type 0 where
+  pub few : roots ≤ 1024
+  pub inside : (m : ℕ) → m < list.length (list.take roots queue) → at (list.take roots queue) m < count
+  pub joined : Joined (dualOf lefts [] darts count (list.take roots queue))
+  pub at-left : RootedAt (dualOf lefts [] darts count (list.take roots queue)) d
 
 -- Levels ρ tell which lengths x of the dart d, up to its own, leave no cycle of negative length: those that are not below minus the level of the face right of
 -- it. With these the same levels are settled; with any other there is a cycle of negative length through the face left of d.
