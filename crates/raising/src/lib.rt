@@ -13,11 +13,9 @@ ghost use Rattle.arrays.specs.inner.Drawn.{Drawn};
 ghost use Rattle.arrays.specs.Maps.{mapOf, drawingOf};
 ghost use Rattle.arrays.specs.inner.Sizes.{mostOnSheet, mostValue};
 ghost use Rattle.solver.specs.inner.Ends.{Ends};
-ghost use Rattle.solver.specs.inner.Decision.{Decided};
 ghost use Rattle.raising.specs.Raise.{limitChecks, Fails, RaiseFound};
 ghost use Rattle.raising.specs.inner.Sought.{Sought};
 use refusals::Verdict;
-use solver::Least;
 
 // What is answered: the forward capacity, that none serves, or the number of a refusal and its place.
 pub enum RaiseAnswer {
@@ -32,64 +30,8 @@ enum Found {
     Nowhere,
 }
 
-// Decides the value with the capacities as they are: true with its highest flow written, false with the nodes of a proving set flagged. What the search keeps
-// is given back before another search begins.
-fn serves<'a>(
-    tails: &'a [u16; 1024],
-    rotations: &'a [u16; 1024],
-    lefts: &'a [u16; 1024],
-    capacities: &'a [i32; 1024],
-    order: &'a [u16; 1024],
-    from: &'a [u16; 1024],
-    grouped: &'a [u16; 1024],
-    starts: &'a [u16; 1024],
-    ends: &'a [u16; 1024],
-    nodes: usize,
-    edges: usize,
-    faces: usize,
-    trees: usize,
-    outer: usize,
-    source: usize,
-    sink: usize,
-    value: i32,
-    flows: &mut [i32],
-    inside: &mut [u8; 1024],
-) -> bool
-    requires { ⌜ (length (now inside) ≡ 1024) × (edges ≤ length (now flows))
-        × Drawn (mapOf nodes edges (now tails) (now rotations)) (at (now lefts)) faces outer (atℤ (now capacities))
-        × Ends (mapOf nodes edges (now tails) (now rotations)) source sink × Limited mostValue value
-        × Walked (2 * edges) faces outer trees (at (now rotations)) (now lefts) (now order) (now from) (now grouped) (now starts) (now ends) ⌝ }
-    ensures { λ r. ⌜ (length (now (inside .exit)) ≡ 1024)
-        × Decided (mapOf nodes edges (now (tails .entry)) (now (rotations .entry))) outer (atℤ (now (capacities .entry)))
-        source sink value (now (flows .entry)) (now (flows .exit)) (now (inside .exit)) r ⌝ }
-{
-    let mut parents = [1024u16; 1024];
-    solver::decide(
-        tails,
-        rotations,
-        lefts,
-        capacities,
-        order,
-        from,
-        grouped,
-        starts,
-        ends,
-        nodes,
-        edges,
-        faces,
-        trees,
-        outer,
-        source,
-        sink,
-        value,
-        &mut parents,
-        flows,
-        inside,
-    )
-}
-
-// The least capacity of the edge's forward dart, where its present one fails: what the distance back leaves of 1,000,000. Its highest flow is written. Where
-// 1,000,000 fails too, the nodes of a set that proves it are flagged.
+// The least capacity of the edge's forward dart, where its present one fails: the flow on it that is highest from the face left of it, with 1,000,000 as its
+// capacity. The highest flow with that is written. Where 1,000,000 fails too, the nodes of a set that proves it are flagged.
 fn least_limit<'a>(
     tails: &'a [u16; 1024],
     rotations: &'a [u16; 1024],
@@ -124,7 +66,7 @@ fn least_limit<'a>(
 {
     let dart = 2 * edge;
     capacities[dart] = 1000000;
-    let least = solver::least_capacity(
+    if solver::decide_from(
         tails,
         rotations,
         lefts,
@@ -139,16 +81,16 @@ fn least_limit<'a>(
         faces,
         trees,
         outer,
+        dart,
         source,
         sink,
         value,
-        dart,
+        &mut *flows,
         &mut *inside,
-    );
-    if let Least::At(v) = least {
-        let limit = signed::narrow(v);
+    ) {
+        let limit = flows[edge];
         capacities[dart] = limit;
-        serves(
+        solver::decide_from(
             tails,
             rotations,
             lefts,
@@ -162,6 +104,7 @@ fn least_limit<'a>(
             edges,
             faces,
             trees,
+            outer,
             outer,
             source,
             sink,
@@ -206,7 +149,7 @@ fn find_limit<'a>(
         × Sought (drawingOf nodes edges outer (now (tails .entry)) (now (rotations .entry)) (now (capacities .entry))) source sink value edge
         (now (flows .entry)) (now (flows .exit)) (now (inside .exit)) r ⌝ }
 {
-    if serves(
+    if solver::decide_from(
         tails,
         rotations,
         lefts,
@@ -220,6 +163,7 @@ fn find_limit<'a>(
         edges,
         faces,
         trees,
+        outer,
         outer,
         source,
         sink,

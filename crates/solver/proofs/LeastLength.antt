@@ -5,20 +5,22 @@ use mathlib.Core.Path.{_≡_, refl, sym, _∙_, ap, subst}
 use mathlib.Core.Logic.{_⊎_, inl, inr, _↔_}
 use mathlib.Core.Bool.{Bool, true, false, cond}
 use mathlib.Core.List.{List, [], _∷_, _++_}
-use Prim.Native.Nat.{ℕ, _<_}
+use Prim.Native.Nat.{ℕ, _*_, _<_}
 use native.Mathlib.Omega.{arith}
 use lib.Dec.{eqb}
-use lib.IntN.{ℤ, pos, _+ℤ_}
+use lib.IntN.{ℤ, pos, _+ℤ_, _-ℤ_}
 use lib.Signed.{_≤ℤ_, _<ℤ_}
 use Rattle.integers.proofs.Omega.{atoms₁, atoms₂, atoms₃, atoms₄, parts, equal, at-most, less, from-equal, from-at-most, from-less}
 use Rattle.integers.proofs.Laws.{le-antisym, le-trans, lt-or-ge}
 use Rattle.integers.proofs.Tests.{eqb-true, eqb-eq}
+use Rattle.maps.specs.Dart.{rev}
+use Rattle.edge_flows.specs.inner.Flow.{flowOf}
 use Rattle.search.specs.Dual.{Dual, Joined}
 use Rattle.search.specs.inner.Walk.{Walk, here, onward, Crossing, stay, cross, total, Ring}
 use Rattle.search.specs.inner.Settled.{Still, Settled}
 use Rattle.search.proofs.Order.{le-of-eq}
 use Rattle.search.proofs.Highest.{below-walk, not-both}
-use Rattle.solver.specs.inner.LeastCapacity.{replaced, relengthed, RootedAt, LeastLength}
+use Rattle.solver.specs.inner.LeastLength.{replaced, relengthed, RootedAt, LeastLength}
 
 -- ── a walk from a root, dart by dart ──
 total-further : (length : ℕ → ℤ) (ds : List ℕ) (d : ℕ) → total length (ds ++ (d ∷ [])) ≡ total length ds +ℤ length d
@@ -172,3 +174,11 @@ module _ {N : Dual} (joined : Joined N) {ρ : ℕ → ℤ} (σ : Settled N ρ) {
   -- a bridge: the same face on both sides, so its own length decides
   pub bridge-back : N .right d ≡ N .left d → ρ (N .right d) ≡ pos 0
   bridge-back e = ap ρ e ∙ left-level σ at-left
+
+-- the flow on the edge of the dart that the levels make: its capacity less its length and the distance back
+pub flow-back : {N : Dual} {ρ : ℕ → ℤ} (c : ℕ → ℤ) (e : ℕ) → Settled N ρ → RootedAt N (2 * e) → N .right (2 * e) ≡ N .left (rev (2 * e))
+    → flowOf (N .left) c (N .length) ρ e ≡ c (2 * e) -ℤ (N .length (2 * e) +ℤ ρ (N .right (2 * e)))
+flow-back {N} {ρ} c e σ at-left reversed =
+    ap (λ f. (ρ (N .left (2 * e)) -ℤ ρ f) +ℤ (c (2 * e) -ℤ N .length (2 * e))) (sym reversed)
+    ∙ (let a = atoms₄ (ρ (N .left (2 * e))) (ρ (N .right (2 * e))) (c (2 * e)) (N .length (2 * e)) in
+    equal (search parts) (omega (arith, from-equal (left-level σ at-left) (search parts))))

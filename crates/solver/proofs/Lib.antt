@@ -6,6 +6,4 @@ pub mod Deciding
 pub mod Confirming
 pub mod Naming
 pub mod OneSet
-pub mod Carried
 pub mod LeastLength
-pub mod Distance

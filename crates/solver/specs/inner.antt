@@ -3,4 +3,4 @@ pub mod Ends
 pub mod Search
 pub mod Decision
 pub mod Named
-pub mod LeastCapacity
+pub mod LeastLength

@@ -17,7 +17,7 @@ ghost use Rattle.grouping.specs.inner.Walked.{Walked};
 ghost use Rattle.lengths.specs.inner.Lengths.{Treed};
 ghost use Rattle.arrays.specs.At.{at, atℤ};
 ghost use Rattle.traversal.specs.inner.Forest.{Forest, RootsOf, RootsHere};
-ghost use Rattle.search.specs.Dual.{dualOf, WellFormed, Joined};
+ghost use Rattle.search.specs.Dual.{dualOf};
 ghost use Rattle.search.specs.Given.{given};
 ghost use Rattle.search.specs.Trace.{Searches};
 ghost use Rattle.arrays.specs.inner.Drawn.{Drawn};
@@ -27,21 +27,8 @@ ghost use Rattle.arrays.specs.inner.Sizes.{mostCapacity, mostValue};
 ghost use Rattle.solver.specs.inner.Search.{PartFlagged, Measured, Searchable, Searched, Retraced, Ringed};
 ghost use Rattle.solver.specs.inner.Decision.{Decided, Confirmed};
 ghost use Rattle.solver.specs.inner.Named.{MeasuredBy, MadeOfRing, Named};
-ghost use Rattle.solver.specs.inner.LeastCapacity.{RootedFrom, Returned, LeastCapacity};
 ghost use Rattle.arrays.specs.inner.Flags.{flagged};
 use search::Outcome;
-
-// The level of the face right of a dart, in a search from the face left of it; or the dart that closes a ring.
-enum Back {
-    Far(i64),
-    Ring(usize),
-}
-
-// The least capacity of a dart with which a value can be carried, or that it cannot be with the one it has.
-pub enum Least {
-    At(i64),
-    Nothing,
-}
 
 // Flags the nodes of the part that the dart d is in.
 fn flag_part(
@@ -344,56 +331,44 @@ pub fn decide<'a>(
     true
 }
 
-// How far it is from the face left of a dart, the root of its part, back to the face right of it: the level of the latter in a search from the roots, which
-// stand at the first places of the queue. Or the dart that closes a ring, and the parents lead round it.
-fn distance_back(
-    lefts: &[u16; 1024],
-    lengths: &[i32; 1024],
-    grouped: &[u16; 1024],
-    starts: &[u16; 1024],
-    ends: &[u16; 1024],
+// The faces at 0 of the drawing with `first` as its outer dart, into the first places of the queue, and how many they are. Those of its own outer dart are read
+// off the walk; any other takes a walk of its own.
+fn fill_roots<'a>(
+    rotations: &'a [u16; 1024],
+    lefts: &'a [u16; 1024],
+    order: &'a [u16; 1024],
+    from: &'a [u16; 1024],
     edges: usize,
-    faces: usize,
-    roots: usize,
-    dart: usize,
-    parents: &mut [u16; 1024],
+    trees: usize,
+    outer: usize,
+    first: usize,
     queue: &mut [u16; 1024],
-) -> Back
-    requires { ⌜ (length (now parents) ≡ 1024) × (length (now queue) ≡ 1024) × (roots ≤ 1024) × (edges ≤ 512) × (dart < 2 * edges)
-        × WellFormed (dualOf (now lefts) (now lengths) (2 * edges) faces (take roots (now queue)))
-        × Joined (dualOf (now lefts) (now lengths) (2 * edges) faces (take roots (now queue)))
-        × Grouped (rightOf (now lefts)) (2 * edges) faces (now grouped) (now starts) (now ends) ⌝ }
-    ensures { λ r. ⌜ (length (now (parents .exit)) ≡ 1024)
-        × Returned (dualOf (now (lefts .entry)) (now (lengths .entry)) (2 * edges) faces (take roots (now (queue .entry)))) dart
-        (at (now (parents .exit))) r ⌝ }
+) -> usize
+    requires { ⌜ (length (now queue) ≡ 1024) × (edges ≤ 512) × (first < 2 * edges) × ((d : ℕ) → d < 2 * edges → at (now rotations) d < 2 * edges)
+        × Forest (2 * edges) (at (now rotations)) outer (at (now order)) (at (now from)) trees ⌝ }
+    ensures { λ r. ⌜ (length (now (queue .exit)) ≡ 1024)
+        × RootsOf (2 * edges) (at (now (rotations .entry))) first (at (now (lefts .entry))) (at (now (queue .exit))) r ⌝ }
 {
-    // What the search begins with: no face has a level, and none waits.
-    let mut potentials = [4611686018427387904i64; 1024];
-    let mut waiting = [0u8; 1024];
-    let outcome = search::search(
-        lefts,
-        lengths,
-        grouped,
-        starts,
-        ends,
-        2 * edges,
-        faces,
-        roots,
-        &mut potentials,
-        &mut *parents,
-        &mut waiting,
-        queue,
-    );
-    if let Outcome::Ring(d) = outcome {
-        return Back::Ring(d);
+    if first == outer {
+        traversal::first_faces(
+            rotations,
+            lefts,
+            order,
+            from,
+            2 * edges,
+            outer,
+            trees,
+            queue,
+        );
+        return trees;
     }
-    let right = arrays::right(lefts, dart);
-    let level = potentials[right];
-    Back::Far(level)
+    traversal::roots_of(rotations, lefts, 2 * edges, first, queue)
 }
 
-// The least capacity of one dart, by a search from roots that stand at the first places of the queue, of which the face left of the dart is one.
-fn least_from<'a>(
+// Decides as `decide` does, of the drawing with `first` as its outer dart: the face left of it is at 0 in its part, in each other part the lowest. So the flow
+// on `first`, written where the value can be carried, is the least with which it can: its capacity less its length and the distance back, from the face left of
+// it to the face right of it (`LeastLength`). It has several callers, so that its arrays are not kept below another decision on the stack.
+pub fn decide_from<'a>(
     tails: &'a [u16; 1024],
     rotations: &'a [u16; 1024],
     lefts: &'a [u16; 1024],
@@ -406,23 +381,22 @@ fn least_from<'a>(
     nodes: usize,
     edges: usize,
     faces: usize,
+    trees: usize,
+    outer: usize,
+    first: usize,
     source: usize,
     sink: usize,
     value: i32,
-    roots: usize,
-    dart: usize,
-    queue: &mut [u16; 1024],
+    flows: &mut [i32],
     inside: &mut [u8; 1024],
-) -> Least
-    requires { ⌜ (length (now queue) ≡ 1024) × (length (now inside) ≡ 1024)
-        × Drawn (mapOf nodes edges (now tails) (now rotations)) (at (now lefts)) faces dart (atℤ (now capacities))
+) -> bool
+    requires { ⌜ (length (now inside) ≡ 1024) × (edges ≤ length (now flows)) × (first < 2 * edges)
+        × Drawn (mapOf nodes edges (now tails) (now rotations)) (at (now lefts)) faces outer (atℤ (now capacities))
         × Ends (mapOf nodes edges (now tails) (now rotations)) source sink × Limited mostValue value
-        × Treed (mapOf nodes edges (now tails) (now rotations)) (2 * edges) (at (now order)) (at (now from))
-        × Grouped (rightOf (now lefts)) (2 * edges) faces (now grouped) (now starts) (now ends)
-        × RootedFrom (now lefts) (2 * edges) faces (now queue) roots dart ⌝ }
+        × Walked (2 * edges) faces outer trees (at (now rotations)) (now lefts) (now order) (now from) (now grouped) (now starts) (now ends) ⌝ }
     ensures { λ r. ⌜ (length (now (inside .exit)) ≡ 1024)
-        × LeastCapacity (mapOf nodes edges (now (tails .entry)) (now (rotations .entry))) (atℤ (now (capacities .entry))) source sink value dart
-        (now (inside .exit)) r ⌝ }
+        × Decided (mapOf nodes edges (now (tails .entry)) (now (rotations .entry))) first (atℤ (now (capacities .entry)))
+        source sink value (now (flows .entry)) (now (flows .exit)) (now (inside .exit)) r ⌝ }
 {
     let start = traversal::dart_at(tails, 2 * edges, source);
     let finish = traversal::dart_at(tails, 2 * edges, sink);
@@ -441,11 +415,24 @@ fn least_from<'a>(
         &mut lengths,
         &mut *inside,
     ) {
-        return Least::Nothing;
+        return false;
     }
-    let mut parents = [1024u16; 1024];
-    let back = distance_back(
+    let mut queue = [0u16; 1024];
+    let roots = fill_roots(
+        rotations,
         lefts,
+        order,
+        from,
+        edges,
+        trees,
+        outer,
+        first,
+        &mut queue,
+    );
+    let mut parents = [1024u16; 1024];
+    let outcome = settle(
+        lefts,
+        capacities,
         &lengths,
         grouped,
         starts,
@@ -453,118 +440,29 @@ fn least_from<'a>(
         edges,
         faces,
         roots,
-        dart,
         &mut parents,
-        queue,
+        &mut queue,
+        flows,
     );
-    match back {
-        Back::Far(z) => {
-            let slack = signed::plus_wide(z, lengths[dart]);
-            Least::At(signed::minus64(signed::widen(capacities[dart]), slack))
-        }
-        Back::Ring(d) => {
-            let y = arrays::wide(lefts[d]);
-            cut_of_ring(
-                tails,
-                rotations,
-                lefts,
-                &lengths,
-                order,
-                from,
-                &parents,
-                nodes,
-                edges,
-                faces,
-                y,
-                inside,
-            );
-            Least::Nothing
-        }
-    }
-}
-
-// The least capacity of one dart, up to the one it has, with which the value can be carried from source to sink; the capacities of all other darts are as they
-// are. It is the least length of the dart without a cycle of negative length, minus the distance back (`LeastLength`), taken from lengths to capacities. Or
-// that it cannot be carried with the capacity that the dart has, with the nodes of a proving set flagged.
-//
-// The faces at 0 are those of the drawing with this dart as its outer dart: the face left of it in its part, in each other part the lowest. A walk over the
-// darts finds the other parts, where there are any. `least_from` has two callers, so that its arrays are not kept below a later decision on the stack.
-pub fn least_capacity<'a>(
-    tails: &'a [u16; 1024],
-    rotations: &'a [u16; 1024],
-    lefts: &'a [u16; 1024],
-    capacities: &'a [i32; 1024],
-    order: &'a [u16; 1024],
-    from: &'a [u16; 1024],
-    grouped: &'a [u16; 1024],
-    starts: &'a [u16; 1024],
-    ends: &'a [u16; 1024],
-    nodes: usize,
-    edges: usize,
-    faces: usize,
-    trees: usize,
-    outer: usize,
-    source: usize,
-    sink: usize,
-    value: i32,
-    dart: usize,
-    inside: &mut [u8; 1024],
-) -> Least
-    requires { ⌜ (length (now inside) ≡ 1024) × (dart < 2 * edges)
-        × Drawn (mapOf nodes edges (now tails) (now rotations)) (at (now lefts)) faces outer (atℤ (now capacities))
-        × Ends (mapOf nodes edges (now tails) (now rotations)) source sink × Limited mostValue value
-        × Walked (2 * edges) faces outer trees (at (now rotations)) (now lefts) (now order) (now from) (now grouped) (now starts) (now ends) ⌝ }
-    ensures { λ r. ⌜ (length (now (inside .exit)) ≡ 1024)
-        × LeastCapacity (mapOf nodes edges (now (tails .entry)) (now (rotations .entry))) (atℤ (now (capacities .entry))) source sink value dart
-        (now (inside .exit)) r ⌝ }
-{
-    let mut queue = [0u16; 1024];
-    if trees == 1 {
-        queue[0] = lefts[dart];
-        return least_from(
+    if let Outcome::Ring(d) = outcome {
+        let y = arrays::wide(lefts[d]);
+        cut_of_ring(
             tails,
             rotations,
             lefts,
-            capacities,
+            &lengths,
             order,
             from,
-            grouped,
-            starts,
-            ends,
+            &parents,
             nodes,
             edges,
             faces,
-            source,
-            sink,
-            value,
-            1,
-            dart,
-            &mut queue,
+            y,
             inside,
         );
+        return false;
     }
-    let roots = traversal::roots_of(rotations, lefts, 2 * edges, dart, &mut queue);
-    least_from(
-        tails,
-        rotations,
-        lefts,
-        capacities,
-        order,
-        from,
-        grouped,
-        starts,
-        ends,
-        nodes,
-        edges,
-        faces,
-        source,
-        sink,
-        value,
-        roots,
-        dart,
-        &mut queue,
-        inside,
-    )
+    true
 }
 
 // Lays levels along the parents from the faces at 0, which are read off the walk, and looks whether they are settled: where they are, writes the flows that

@@ -24,26 +24,26 @@ drawing c = drawingOf (c .args .nodes) (c .args .edges) (c .args .outer) (c .arg
 dart-in : (c : tie.Start) → 2 * c .args .edge < 1024
 dart-in c = omega (arith, c .pre .3, c .pre .4 .few-edges)
 
-serves-requires : tie.Need-serves-requires
-serves-requires c κs = let p = c .before .before .before .pre in (p .1, p .2, p .4, p .5, small-value (p .6), p .8)
+decide-from-requires : tie.Need-decide-from-requires
+decide-from-requires c κs = let p = c .before .before .before .pre in (p .1, p .2, p .4 .outer-in, p .4, p .5, small-value (p .6), p .8)
 
 -- ── what was decided of the present capacity ──
 abbrev begun : tie.After-flows → tie.Start
 begun c = c .before .before .before .before .before
 
 abbrev flows' : tie.After-flows → List ℤ
-flows' c = c .before .serves .last .1 .1 .1 .1 .1 .1 .1 .1 .1 .1 .1 .1 .1 .1 .1 .1 .1 .0
+flows' c = c .before .decide-from .last .1 .1 .1 .1 .1 .1 .1 .1 .1 .1 .1 .1 .1 .1 .1 .1 .1 .1 .0
 
 abbrev inside' : tie.After-flows → List ℕ
-inside' c = c .before .serves .last .1 .1 .1 .1 .1 .1 .1 .1 .1 .1 .1 .1 .1 .1 .1 .1 .1 .1 .0
+inside' c = c .before .decide-from .last .1 .1 .1 .1 .1 .1 .1 .1 .1 .1 .1 .1 .1 .1 .1 .1 .1 .1 .1 .0
 
-decided : (c : tie.After-flows) {r : Bool} → c .before .serves .result ≡ r
+decided : (c : tie.After-flows) {r : Bool} → c .before .decide-from .result ≡ r
     → Decided (drawing (begun c) .map) (begun c .args .outer) (drawing (begun c) .capacity) (begun c .args .source) (begun c .args .sink)
     (begun c .args .value) (begun c .args .flows .now) (flows' c) (inside' c) r
 decided c e =
     let s = begun c in
     decided-as (drawing s .map) (s .args .outer) {c = drawing s .capacity} refl (s .args .source) (s .args .sink) (same-value (s .pre .6)) (s .args .flows .now)
-    (flows' c) (inside' c) e (c .before .serves .ensures .1)
+    (flows' c) (inside' c) e (c .before .decide-from .ensures .1)
 
 mul-t26 : tie.Need-mul-t26
 mul-t26 c = omega (arith, dart-in (begun (c .before)))
@@ -64,7 +64,7 @@ returns c =
     let d = t .before in
     let s = begun d in
     let a = s .args in (
-      d .before .serves .ensures .0,
+      d .before .decide-from .ensures .0,
       sought-as (drawing s) (a .source) (a .sink) {value = a .value} refl (a .edge) {old = a .flows .now} refl (flows' d) (inside' d)
           {r = At (drawing s .capacity (2 * a .edge))} (ap At (sym (same-bits (omega arith) (s .pre .7))))
           (present-serves (drawing s) (a .source) (a .sink) (a .value) (a .edge) (a .flows .now) (s .pre .7 .high) (flows' d) (inside' d)
@@ -81,7 +81,7 @@ least-limit-requires c κs =
     let p = s .pre in
     let q = decided d (e .if1 .left) in (
       p .0,
-      d .before .serves .ensures .0,
+      d .before .decide-from .ensures .0,
       omega (arith, p .2, ap length (q .0)),
       p .3,
       p .4,
@@ -114,4 +114,4 @@ returns-2 c =
 pub find-limit-spec : {M : Type 1} → statement M
 find-limit-spec =
     tie.close
-    (tie.spec serves-requires mul-t26 mul-t27 element-copy-out-t30 same-length returns least-limit-requires same-length-2 returns-2)
+    (tie.spec decide-from-requires mul-t26 mul-t27 element-copy-out-t30 same-length returns least-limit-requires same-length-2 returns-2)

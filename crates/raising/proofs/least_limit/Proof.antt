@@ -1,31 +1,29 @@
--- A limit above the present one: the greatest is stored, the least capacity that serves is found and stored, and a decision writes its highest flow. The ways
--- out are laws of `Seeking`.
-use mathlib.Core.Path.{_≡_, refl, sym, _∙_, ap, subst}
+-- A limit above the present one: the greatest is stored and decided from the face left of the dart; the flow on the edge is stored and decided. The ways out are
+-- laws of `Seeking`.
+use mathlib.Core.Path.{_≡_, refl, sym, _∙_, ap}
+use mathlib.Core.Bool.{Bool, true}
 use mathlib.Core.List.{List}
 use Prim.Native.Nat.{ℕ, _*_, _<_}
 use native.Mathlib.Omega.{arith}
 use lib.ListN.{length, set, length-set}
 use lib.IntN.{ℤ, pos}
-use mir.Syntax.{w32, w64}
-use mir.Val.{toZ, ofZ, SFits}
+use mir.Syntax.{w32}
+use mir.Val.{toZ, ofZ}
 use borrow.Author.Needs.{needs}
 use Rattle.integers.specs.inner.Limited.{Limited}
 use Rattle.integers.proofs.Laws.{le-trans, le-of-lt}
-use Rattle.signed.proofs.Laws.{number-of-bits}
-use Rattle.signed.proofs.Limits.{limited-fits, same-bits64}
+use Rattle.signed.proofs.Limits.{same-bits}
 use Rattle.maps.specs.Drawing.{Drawing}
-use Rattle.arrays.specs.At.{at, atℤ}
+use Rattle.arrays.specs.At.{atℤ}
 use Rattle.arrays.specs.Maps.{drawingOf}
-use Rattle.arrays.specs.inner.Drawn.{Drawn}
-use Rattle.solver.specs.inner.LeastCapacity.{LeastCapacity}
-use Rattle.solver.specs.declared.Least.{Least}
-use Rattle.solver.specs.declared.Least.the-variants as least
+use Rattle.arrays.proofs.FillLoops.{filled-front, filled-length}
+use Rattle.solver.specs.inner.Decision.{Decided}
 use Rattle.solver.proofs.Preparing.{same-value, small-value}
 use Rattle.raising.specs.Raised.{raised}
 use Rattle.raising.specs.inner.Sought.{mostLimit}
 use Rattle.raising.specs.declared.Found.the-variants.{At}
 use Rattle.raising.proofs.Raised.{le-same, stored, stored-elsewhere, raised-drawn}
-use Rattle.raising.proofs.Seeking.{under-most, above-present, least-serves, least-as, decided-as, sought-as}
+use Rattle.raising.proofs.Seeking.{under-most, above-present, least-serves, decided-as, sought-as}
 use Rattle.raising.proofs.least_limit.Statement.{statement}
 use Rattle.raising.proofs.least_limit.Tie as tie
 
@@ -52,12 +50,13 @@ greatest-is : (c : tie.Start) → atℤ (greatest c) ≡ raised (atℤ (c .args 
 greatest-is c =
     stored (c .args .edge) (c .args .capacities .now) (c .args .capacities .now) (λ d n. refl) mostLimit (omega (arith, dart-in c, c .pre .0))
 
-least-capacity-requires : tie.Need-least-capacity-requires
-least-capacity-requires c κs =
-    let s = c .before .before in
+decide-from-requires : tie.Need-decide-from-requires
+decide-from-requires c κs =
+    let s = c .before .before .before in
     let a = s .args in
     let p = s .pre in (
       p .1,
+      p .2,
       omega (arith, p .3),
       rw (greatest-is s) (raised-drawn (a .edge) (p .7 .high) (le-same mostLimit) (p .4)),
       p .5,
@@ -65,94 +64,98 @@ least-capacity-requires c κs =
       p .8,
     )
 
-abbrev begun : tie.After-least-capacity → tie.Start
-begun c = c .before .before .before
+abbrev begun : tie.After-flows → tie.Start
+begun c = c .before .before .before .before .before
 
-abbrev first : tie.After-least-capacity → List ℕ
-first c = c .least-capacity .last .1 .1 .1 .1 .1 .1 .1 .1 .1 .1 .1 .1 .1 .1 .1 .1 .1 .1 .0
+abbrev between : tie.After-flows → List ℤ
+between c = c .before .decide-from .last .1 .1 .1 .1 .1 .1 .1 .1 .1 .1 .1 .1 .1 .1 .1 .1 .1 .1 .0
 
-found : (c : tie.After-least-capacity) {answer : Least} → c .least-capacity .result ≡ answer
-    → LeastCapacity (drawing (begun c) .map) (raised (drawing (begun c) .capacity) (begun c .args .edge) mostLimit) (begun c .args .source)
-    (begun c .args .sink) (begun c .args .value) (2 * begun c .args .edge) (first c) answer
-found c e =
+abbrev first : tie.After-flows → List ℕ
+first c = c .before .decide-from .last .1 .1 .1 .1 .1 .1 .1 .1 .1 .1 .1 .1 .1 .1 .1 .1 .1 .1 .1 .0
+
+decided : (c : tie.After-flows) {r : Bool} → c .before .decide-from .result ≡ r
+    → Decided (drawing (begun c) .map) (2 * begun c .args .edge) (raised (drawing (begun c) .capacity) (begun c .args .edge) mostLimit)
+    (begun c .args .source) (begun c .args .sink) (begun c .args .value) (begun c .args .flows .now) (between c) (first c) r
+decided c e =
     let s = begun c in
-    least-as (drawing s .map) (greatest-is s) (s .args .source) (s .args .sink) (same-value (s .pre .6)) (2 * s .args .edge) (first c) e
-    (c .least-capacity .ensures .1)
-
-enum-known-least : tie.Need-enum-known-least
-enum-known-least c = search needs
-
--- ── one serves: it is above the present one, so 32 bits hold it ──
-abbrev searched : tie.After-least → tie.After-least-capacity
-searched c = c .before .before
-
-abbrev limit : tie.After-least → ℤ
-limit c = c .least .given .0 .0
-
-told : (c : tie.After-least)
-    → LeastCapacity (drawing (begun (searched c)) .map) (raised (drawing (begun (searched c)) .capacity) (begun (searched c) .args .edge) mostLimit)
-    (begun (searched c) .args .source) (begun (searched c) .args .sink) (begun (searched c) .args .value) (2 * begun (searched c) .args .edge)
-    (first (searched c)) (least.At (limit c))
-told c = found (searched c) (c .least .given .1)
-
-small : (c : tie.After-least) → Limited 1000000 (limit c)
-small c =
-    let s = begun (searched c) in
     let a = s .args in
+    decided-as (drawing s .map) (2 * a .edge) (greatest-is s) (a .source) (a .sink) (same-value (s .pre .6)) (a .flows .now) (between c) (first c) e
+    (c .before .decide-from .ensures .1)
+
+-- ── it serves: the flow on the edge is above the present capacity, so 32 bits hold it ──
+abbrev start : tie.Then1 → tie.Start
+start c = begun (c .before)
+
+abbrev limit : tie.Then1 → ℤ
+limit c = decided (c .before) (c .if1 .taken) .0 (start c .args .edge)
+
+small : (c : tie.Then1) → Limited 1000000 (limit c)
+small c =
+    let s = start c in
+    let a = s .args in
+    let d = decided (c .before) (c .if1 .taken) in
+    let σ = s .pre .4 .plane .sound in
     record {
       low =
           le-trans (s .pre .7 .low)
-          (le-of-lt (above-present (drawing s) (a .source) (a .sink) (a .value) (a .edge) (a .flows .now) (s .pre .4 .plane .sound .range) (s .pre .5)
-          (s .pre .9) (limit c) (first (searched c)) (told c)));
+          (le-of-lt (above-present (drawing s) (a .source) (a .sink) (a .value) (a .edge) (a .flows .now) (σ .range) (s .pre .5) σ
+          (omega (arith, s .pre .3)) (s .pre .9) (d .0) (d .1)));
       high =
-          under-most (drawing s) (a .source) (a .sink) (a .value) (a .edge) (a .flows .now) (s .pre .4 .plane .sound .range) (s .pre .5)
-          (s .pre .9) (limit c) (first (searched c)) (told c);
+          under-most (drawing s) (a .source) (a .sink) (a .value) (a .edge) (a .flows .now) (σ .range) (s .pre .5) σ
+          (omega (arith, s .pre .3)) (s .pre .9) (d .0) (d .1);
     }
 
-narrow-requires : tie.Need-narrow-requires
-narrow-requires c κs =
-    subst (SFits w32) (sym (same-bits64 (omega arith) (small (c .before)))) (limited-fits 1000000 (limit (c .before)) (omega arith) (small (c .before)))
-
-abbrev known : tie.After-narrow → tie.After-least
-known c = c .before .before
-
-abbrev bits : tie.After-narrow → ℤ
-bits c = toZ w32 (ofZ w32 (c .narrow .result))
-
-bits-are : (c : tie.After-narrow) → bits c ≡ limit (known c)
-bits-are c = number-of-bits _ (record { sfits = c .narrow .ok }) ∙ c .narrow .ensures ∙ same-bits64 (omega arith) (small (known c))
-
 mul-limit : tie.Need-mul-limit
-mul-limit c = omega (arith, dart-in (begun (searched (known c))))
+mul-limit c = omega (arith, dart-in (start c))
+
+sized : (c : tie.Then1) → length (between (c .before)) ≡ length (start c .args .flows .now)
+sized c = filled-length _ _ _ _ (decided (c .before) (c .if1 .taken) .2) (start c .pre .2)
+
+slice-copy-out-limit : tie.Need-slice-copy-out-limit
+slice-copy-out-limit c = omega (arith, sized c, start c .pre .2, start c .pre .3)
+
+abbrev bits : tie.Then1 → ℤ
+bits c = toZ w32 (ofZ w32 (atℤ (between (c .before)) (start c .args .edge)))
+
+bits-are : (c : tie.Then1) → bits c ≡ limit c
+bits-are c =
+    ap (λ z. toZ w32 (ofZ w32 z))
+    (filled-front (pos 0) (start c .args .edges) (decided (c .before) (c .if1 .taken) .0) (start c .args .flows .now) (between (c .before))
+    (decided (c .before) (c .if1 .taken) .2) (start c .args .edge) (start c .pre .3))
+    ∙ same-bits (omega arith) (small c)
+
+mul-limit-2 : tie.Need-mul-limit-2
+mul-limit-2 c = omega (arith, dart-in (start (c .before)))
 
 element-set-from-limit : tie.Need-element-set-from-limit
-element-set-from-limit c = omega (arith, dart-in (begun (searched (known c))))
+element-set-from-limit c =
+    let s = start (c .before) in omega (arith, dart-in s, s .pre .0, length-set (s .args .capacities .now) (2 * s .args .edge) mostLimit)
 
 -- ── it is stored, and its highest flow written ──
-capacities-are : (c : tie.After-narrow)
-    → atℤ (set (greatest (begun (searched (known c)))) (2 * begun (searched (known c)) .args .edge) (bits c))
-    ≡ raised (atℤ (begun (searched (known c)) .args .capacities .now)) (begun (searched (known c)) .args .edge) (limit (known c))
+capacities-are : (c : tie.Then1)
+    → atℤ (set (greatest (start c)) (2 * start c .args .edge) (bits c)) ≡ raised (atℤ (start c .args .capacities .now)) (start c .args .edge) (limit c)
 capacities-are c =
-    let s = begun (searched (known c)) in
+    let s = start c in
     let a = s .args in
     stored (a .edge) (greatest s) (a .capacities .now) (stored-elsewhere (a .edge) (a .capacities .now) (a .capacities .now) (λ d n. refl) mostLimit) (bits c)
     (omega (arith, dart-in s, s .pre .0, length-set (a .capacities .now) (2 * a .edge) mostLimit))
     ∙ ap (raised (atℤ (a .capacities .now)) (a .edge)) (bits-are c)
 
-serves-requires : tie.Need-serves-requires
-serves-requires c κs =
-    let n = c .before .before .before in
-    let l = known n in
-    let f = searched l in
-    let s = begun f in
+decide-from-requires-2 : tie.Need-decide-from-requires-2
+decide-from-requires-2 c κs =
+    let t = c .before .before .before .before in
+    let s = start t in
     let a = s .args in
-    let p = s .pre in (
-      f .least-capacity .ensures .0,
-      p .2,
-      rw (capacities-are n)
+    let p = s .pre in
+    let d = decided (t .before) (t .if1 .taken) in
+    let σ = p .4 .plane .sound in (
+      t .before .before .decide-from .ensures .0,
+      omega (arith, sized t, p .2),
+      p .4 .outer-in,
+      rw (capacities-are t)
           (raised-drawn (a .edge)
-          (le-of-lt (above-present (drawing s) (a .source) (a .sink) (a .value) (a .edge) (a .flows .now) (p .4 .plane .sound .range) (p .5)
-          (p .9) (limit l) (first f) (told l))) (small l .high) (p .4)),
+          (le-of-lt (above-present (drawing s) (a .source) (a .sink) (a .value) (a .edge) (a .flows .now) (σ .range) (p .5) σ
+          (omega (arith, p .3)) (p .9) (d .0) (d .1))) (small t .high) (p .4)),
       p .5,
       small-value (p .6),
       p .8,
@@ -164,31 +167,29 @@ same-length c = search needs
 returns : tie.Need-returns
 returns c =
     let e = c .before in
-    let n = e .before .before .before .before in
-    let l = known n in
-    let f = searched l in
-    let s = begun f in
+    let t = e .before .before .before .before .before in
+    let s = start t in
     let a = s .args in
     let p = s .pre in
-    let flows' = e .serves .last .1 .1 .1 .1 .1 .1 .1 .1 .1 .1 .1 .1 .1 .1 .1 .1 .1 .0 in
-    let inside' = e .serves .last .1 .1 .1 .1 .1 .1 .1 .1 .1 .1 .1 .1 .1 .1 .1 .1 .1 .1 .0 in (
-      e .serves .ensures .0,
+    let d = decided (t .before) (t .if1 .taken) in
+    let σ = p .4 .plane .sound in
+    let flows' = e .decide-from2 .last .1 .1 .1 .1 .1 .1 .1 .1 .1 .1 .1 .1 .1 .1 .1 .1 .1 .1 .0 in
+    let inside' = e .decide-from2 .last .1 .1 .1 .1 .1 .1 .1 .1 .1 .1 .1 .1 .1 .1 .1 .1 .1 .1 .1 .0 in (
+      e .decide-from2 .ensures .0,
       sought-as (drawing s) (a .source) (a .sink) {value = a .value} refl (a .edge) {old = a .flows .now} refl flows' inside'
-          {r = At (limit l)} (ap At (sym (bits-are n)))
-          (least-serves (drawing s) (a .source) (a .sink) (a .value) (a .edge) (a .flows .now) (p .4 .plane .sound .range) (p .5) (p .9) (limit l) (first f)
-          (told l) flows' inside' (e .serves .result)
-          (decided-as (drawing s .map) (a .outer) (capacities-are n) (a .source) (a .sink) (same-value (p .6)) (a .flows .now) flows' inside'
-          {r = e .serves .result} refl (e .serves .ensures .1))),
+          {r = At (limit t)} (ap At (sym (bits-are t)))
+          (least-serves (drawing s) (a .source) (a .sink) (a .value) (a .edge) (a .flows .now) (σ .range) (p .5) σ (omega (arith, p .3)) (p .9) (d .0) (d .1)
+          (between (t .before)) flows' inside' (e .decide-from2 .result) (d .2)
+          (decided-as (drawing s .map) (a .outer) (capacities-are t) (a .source) (a .sink) (same-value (p .6)) (between (t .before)) flows' inside'
+          {r = e .decide-from2 .result} refl (e .decide-from2 .ensures .1))),
     )
 
-enum-told : tie.Need-enum-told
-enum-told c = search needs
+same-length-2 : tie.Need-same-length-2
+same-length-2 c = search needs
 
 -- ── none does ──
 returns-2 : tie.Need-returns-2
-returns-2 c =
-    let f = c .before .before in
-    (f .least-capacity .ensures .0, (refl, found f (c .enum-told .given .1)))
+returns-2 c = let f = c .before in (f .before .decide-from .ensures .0, decided f (c .if1 .left))
 
 pub least-limit-spec : {M : Type 1} → statement M
 least-limit-spec =
@@ -197,13 +198,13 @@ least-limit-spec =
     mul-dart
     mul-capacities
     element-set-of-capacities
-    least-capacity-requires
-    enum-known-least
-    narrow-requires
+    decide-from-requires
     mul-limit
+    slice-copy-out-limit
+    mul-limit-2
     element-set-from-limit
-    serves-requires
+    decide-from-requires-2
     same-length
     returns
-    enum-told
+    same-length-2
     returns-2)
