@@ -1,5 +1,5 @@
--- A limit above the present one: the greatest is stored and decided from the face left of the dart; the flow on the edge is stored and decided. The ways out are
--- laws of `Seeking`.
+-- A limit above the present one: the greatest is stored and decided from the face left of the dart; the flow on the edge is stored and decided. The ways out
+-- are laws of `Seeking`.
 use mathlib.Core.Path.{_≡_, refl, sym, _∙_, ap}
 use mathlib.Core.Bool.{Bool, true}
 use mathlib.Core.List.{List}

@@ -18,10 +18,9 @@ returns : tie.Need-returns
 returns c =
     let t = c .before .before in
     let a = t .before .args in
-    let e = c .first-faces .ensures in (
-      e .0,
-      subst (λ f. RootsOf (2 * a .edges) (at (a .rotations .now)) f (at (a .lefts .now)) (at (c .first-faces .last .1 .1 .1 .1 .1 .1 .1 .0)) (a .trees)) (sym (t .if1 .taken)) (e .1),
-    )
+    let e = c .first-faces .ensures in
+    let queue = c .first-faces .last .1 .1 .1 .1 .1 .1 .1 .0 in
+    (e .0, subst (λ f. RootsOf (2 * a .edges) (at (a .rotations .now)) f (at (a .lefts .now)) (at queue) (a .trees)) (sym (t .if1 .taken)) (e .1))
 
 mul-roots-of : tie.Need-mul-roots-of
 mul-roots-of c = search needs
