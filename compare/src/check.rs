@@ -60,6 +60,21 @@ impl Tally {
     }
 }
 
+/// What is counted of the channels whose limit is raised above the present one.
+pub const RAISED: &str = "Raised above the present limit";
+
+/// Where such a channel lies. A loop is never one: whatever its limit is, no delivery waits for it.
+fn channel_kind(drawing: &Drawing, (source, sink): (u16, u16), edge: usize) -> &'static str {
+    let (faces, parts) = (drawing.faces(), drawing.parts());
+    let part = parts[drawing.tail(2 * edge)];
+    match (parts[source as usize], parts[sink as usize]) {
+        (from, to) if from != to => "with the ends apart",
+        (from, _) if from != part => "in another part than the ends",
+        _ if faces[2 * edge] == faces[2 * edge + 1] => "a bridge",
+        _ => "another channel",
+    }
+}
+
 /// A difference between the unit and this program, told with the drawing.
 #[derive(Debug)]
 pub struct Wrong(pub String);
@@ -483,30 +498,63 @@ impl Checker<'_> {
         Ok(())
     }
 
-    /// Raise limit, of channels and values that are carried or not; then beside Solve on the sheet with the limit given, and with the one before it.
+    /// Raise limit, of channels and values that are carried or not; then of a channel that is first closed as far as its back limit lets it be, perhaps below zero,
+    /// for values of both signs that were carried before.
     fn raise_limit(&mut self, drawing: &Drawing, source: u16, sink: u16, (least, largest): (i64, i64)) -> Check {
         let more = self.chance.between(1, 40);
         let within = self.chance.between(least, largest);
         for value in [largest + 1, largest + more, within, least - 1, largest + 999_990 + more] {
-            let (value, edge) = (value as i32, self.chance.below(drawing.edges()));
-            let lent = self.lend(drawing.bytes(), drawing);
-            let after = self.compare(Call::RaiseLimit { source, sink, value, edge: edge as u16 }, &lent)?;
-            if after.found != 1 {
-                continue;
-            }
-            let mut lent = Lent::new(drawing.with_limit(edge, after.value as i64).bytes());
-            (lent.flows, lent.set) = (vec![0; drawing.edges()], vec![0; drawing.words()]);
-            let solved = self.compare(Call::Solve { source, sink, value }, &lent)?;
-            let mut serves = solved.can == 1 && solved.flows == after.flows[..drawing.edges()];
-            if (after.value as i64) > drawing.capacity(2 * edge) {
-                lent.sheet = drawing.with_limit(edge, after.value as i64 - 1).bytes();
-                serves &= self.compare(Call::Solve { source, sink, value }, &lent)?.can == 0;
-            }
-            if !serves {
-                return Err(Wrong(format!("Raise limit says {} of channel {edge} for {value}, Solve otherwise\n{}", after.value, drawing.text())));
-            }
+            let edge = self.chance.below(drawing.edges());
+            self.raise_one(drawing, (source, sink, value as i32), edge)?;
+        }
+        let edge = self.some_channel(drawing, source);
+        let closed = drawing.with_limit(edge, -drawing.capacity(2 * edge + 1));
+        let between = self.chance.between(least, largest);
+        for value in [between, self.chance.pick(&[least, largest]), self.chance.pick(&[0, -between])] {
+            self.raise_one(&closed, (source, sink, value as i32), edge)?;
         }
         Ok(())
+    }
+
+    /// Raise limit of one channel and value; then beside Solve on the sheet with the limit given, and with the one before it.
+    fn raise_one(&mut self, drawing: &Drawing, (source, sink, value): (u16, u16, i32), edge: usize) -> Check {
+        let lent = self.lend(drawing.bytes(), drawing);
+        let after = self.compare(Call::RaiseLimit { source, sink, value, edge: edge as u16 }, &lent)?;
+        if after.found != 1 {
+            return Ok(());
+        }
+        let greater = (after.value as i64) > drawing.capacity(2 * edge);
+        let mut lent = Lent::new(drawing.with_limit(edge, after.value as i64).bytes());
+        (lent.flows, lent.set) = (vec![0; drawing.edges()], vec![0; drawing.words()]);
+        let solved = self.compare(Call::Solve { source, sink, value }, &lent)?;
+        let mut serves = solved.can == 1 && solved.flows == after.flows[..drawing.edges()];
+        if greater {
+            lent.sheet = drawing.with_limit(edge, after.value as i64 - 1).bytes();
+            serves &= self.compare(Call::Solve { source, sink, value }, &lent)?.can == 0;
+            *self.tally.answers.entry((RAISED, 0, channel_kind(drawing, (source, sink), edge))).or_default() += 1;
+        }
+        if !serves {
+            return Err(Wrong(format!("Raise limit says {} of channel {edge} for {value}, Solve otherwise\n{}", after.value, drawing.text())));
+        }
+        Ok(())
+    }
+
+    /// A channel; often a bridge, a loop or one of another part than the node, where there is one.
+    fn some_channel(&mut self, drawing: &Drawing, node: u16) -> usize {
+        let (faces, parts) = (drawing.faces(), drawing.parts());
+        let like = self.chance.below(5);
+        let wanted: Vec<usize> = (0..drawing.edges())
+            .filter(|&edge| match like {
+                0 => faces[2 * edge] == faces[2 * edge + 1],
+                1 => drawing.tail(2 * edge) == drawing.head(2 * edge),
+                2 => parts[drawing.tail(2 * edge)] != parts[node as usize],
+                _ => true,
+            })
+            .collect();
+        if wanted.is_empty() {
+            return self.chance.below(drawing.edges());
+        }
+        self.chance.pick(&wanted)
     }
 
     /// The DIMACS text of the drawing, which may have least flows, and of the drawing without them: in as much room as it needs, in more, and in a byte less.

@@ -49,6 +49,8 @@ faults! {
     RaiseFromZero: "Raise limit begins at 0 where the present limit is below it",
     RaiseBelowPresent: "Raise limit gives a smaller limit than the present one where that would do",
     RaiseOneMore: "Raise limit gives a limit one too great, with its highest flow",
+    RaiseFromTheRight: "Raise limit takes the distance from the face right of the channel",
+    RaiseFromTheZeroFace: "Raise limit takes the distance from the face at 0",
     RaiseOtherFlows: "Raise limit gives the flows of another limit that serves",
     RaiseBack: "Raise limit raises the back limit too",
     RaiseSetOfTheSheet: "the set of Raise limit's none is judged with the sheet's limit",
@@ -586,7 +588,7 @@ fn refuses(fault: Fault, call: &Call, before: &Lent, after: &Lent) -> Option<u8>
         Call::Examine { .. } if fault == Fault::ExamineWrongRefused => {
             let drawing = judge::records(&before.sheet).ok()?;
             let outside = |edge: usize, flow: i32| flow > drawing.capacities[2 * edge] || -(flow as i64) > drawing.capacity(2 * edge + 1);
-            let used = &before.flows[..before.claims.len() * drawing.edges()];
+            let used = before.flows.get(..before.claims.len() * drawing.edges())?; // too short, it is refused with 16
             used.iter().enumerate().any(|(at, &flow)| outside(at % drawing.edges(), flow)).then_some(17)
         }
         Call::Page { count } => match fault {
@@ -635,6 +637,8 @@ fn raised(fault: Fault, question: (u16, u16, i32), edge: usize, drawing: &Drawin
             after.value += 1;
             carried(&drawing.with_limit(edge, limit + 1), question, after);
         }
+        Fault::RaiseFromTheRight if limit > present => rooted(Some((2 * edge + 1) as u16), question, edge, drawing, after),
+        Fault::RaiseFromTheZeroFace if limit > present => rooted(drawing.outer, question, edge, drawing, after),
         Fault::RaiseOtherFlows if limit < MOST_LIMIT => carried(&drawing.with_limit(edge, limit + 1), question, after),
         Fault::RaiseBack if limit > present => {
             let mut both = drawing.with_limit(edge, limit);
@@ -644,6 +648,16 @@ fn raised(fault: Fault, question: (u16, u16, i32), edge: usize, drawing: &Drawin
         Fault::RaiseSetOnLimit => after.set.fill(0),
         _ => {}
     }
+}
+
+/// What the distance gives from the faces at 0 where this is the outer dart: the flow on the channel, with 1,000,000, that is highest from there. From the face left of the
+/// channel it is the least limit.
+fn rooted(outer: Option<u16>, (source, sink, value): (u16, u16, i32), edge: usize, drawing: &Drawing, after: &mut Lent) {
+    let wide = Drawing { outer, ..drawing.with_limit(edge, MOST_LIMIT) };
+    let Some(flows) = carry(&wide, source as usize, sink as usize, value as i64) else { return };
+    let limit = highest(&wide, &wide.faces(), &flows)[edge].max(drawing.capacity(2 * edge));
+    after.value = limit as i32;
+    carried(&drawing.with_limit(edge, limit), (source, sink, value), after);
 }
 
 fn not_raised(fault: Fault, question: (u16, u16, i32), edge: usize, drawing: &Drawing, before: &Lent, after: &mut Lent) {
@@ -940,7 +954,7 @@ fn put(slice: &mut [i32], numbers: &[i64]) {
 #[cfg(test)]
 mod tests {
     use super::*;
-    use crate::check::{compare_drawing, Tally};
+    use crate::check::{compare_drawing, Tally, RAISED};
     use crate::pairs;
 
     const SEED: u64 = 11;
@@ -964,13 +978,14 @@ mod tests {
         run(None, &mut tally).unwrap_or_else(|wrong| panic!("{wrong}"));
         let sheet: Vec<u8> = (1..=10).chain([12, 24]).collect(); // 11 no longer occurs
         let with = |more: &[u8]| [&sheet[..], more].concat();
-        let due: [(&str, Vec<u8>, &[&str]); 20] = [
+        let due: [(&str, Vec<u8>, &[&str]); 21] = [
             ("Read", with(&[16]), &["done"]),
             ("Write", vec![3, 4, 5, 6, 7, 9, 10, 12, 16, 24], &["done"]),
             ("Solve", with(&[13, 14, 15, 16]), &["can", "cannot"]),
             ("Largest", with(&[13, 14, 16]), &["value", "value below 0", "none"]),
             ("Least and largest", with(&[13, 14, 16]), &["values", "values above 0", "values below 0", "none"]),
             ("Raise limit", with(&[13, 14, 15, 16, 25]), &["limit", "limit below 0", "none"]),
+            (RAISED, vec![], &["a bridge", "another channel", "in another part than the ends", "with the ends apart"]),
             ("Mark", with(&[13, 14, 16, 17, 18]), &["value"]),
             ("Levels from settings", with(&[16, 17, 18]), &["done"]),
             ("Settings from levels", with(&[16, 17, 19, 20]), &["done"]),

@@ -71,7 +71,7 @@ pub fn lowest(drawing: &Drawing, faces: &[usize], flows: &[i64]) -> Vec<i64> {
 #[cfg(test)]
 mod tests {
     use super::*;
-    use crate::flow::carry;
+    use crate::flow::{carry, least_on, MOST_LIMIT};
     use crate::paper;
 
     #[test]
@@ -87,6 +87,18 @@ mod tests {
         assert_eq!(lowest(&drawing, &faces, &[2, 2, 2]), [5, 1, 0]);
         for (outer, answer) in [(1, [5, 0, 1]), (3, [3, 3, 0]), (5, [0, 2, 4])] {
             assert_eq!(highest(&paper::a_outer(outer), &faces, &[2, 2, 2]), answer);
+        }
+    }
+
+    /// From the face left of a channel the highest answer has the least on it that the others leave it: the limit that it must be raised to.
+    #[test]
+    fn from_the_face_left_of_a_channel_its_flow_is_least() {
+        for drawing in [paper::a(), paper::a_with(&[(3, -2)]), paper::a_with(&[(0, -2), (1, 5)])] {
+            for (edge, value) in (0..3).flat_map(|edge| (-6..20).map(move |value| (edge, value))) {
+                let rooted = Drawing { outer: Some(2 * edge as u16), ..drawing.with_limit(edge, MOST_LIMIT) };
+                let least = carry(&rooted, 0, 1, value).map(|flows| highest(&rooted, &rooted.faces(), &flows)[edge]);
+                assert_eq!(least, least_on(&drawing, 0, 1, value, edge));
+            }
         }
     }
 

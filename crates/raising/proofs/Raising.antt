@@ -15,7 +15,7 @@ use Rattle.signed.proofs.Limits.{same-bits}
 use Rattle.maps.specs.Drawing.{Drawing}
 use Rattle.questions.specs.Question.{endChecks, valueChecks, roomChecks}
 use Rattle.raising.specs.Raise.{edgeChecks, limitChecks, RaiseFound}
-use Rattle.raising.specs.inner.Bracket.{Sought}
+use Rattle.raising.specs.inner.Sought.{Sought}
 use Rattle.raising.specs.declared.RaiseAnswer.the-variants.{Limit}
 use Rattle.raising.specs.declared.Found.{Found}
 use Rattle.raising.specs.declared.Found.the-variants.{At}

@@ -1,21 +1,20 @@
-// What the forward capacity of an edge must be raised to for a value to be carried, on a drawing that is open and sound, held in lent arrays. Document 02,
-// Job 7. With a greater capacity at least as much can be carried: so capacities are probed between one that fails and one that serves, by halves.
+// What the forward capacity of an edge must be raised to: the least length of one dart without a cycle of negative length is minus the distance back, so one
+// search with the greatest capacity, from the face left of the dart, tells the least; at most three searches a call. Shortest paths: Ford 1956, Bellman 1958;
+// flows of a plane drawing as shortest paths of its dual: Miller and Naor 1995.
+//
+// The drawing is open and sound, and held in lent arrays. Document 02, Job 7.
 ghost use mathlib.Core.Path.{_≡_};
-ghost use mathlib.Core.Bool.{true, false};
 ghost use Prim.Native.Nat.{ℕ, _*_, _<_, _≤_};
 ghost use lib.ListN.{length};
-ghost use lib.IntN.{pos, _+ℤ_, _-ℤ_};
-ghost use lib.Signed.{_≤ℤ_, _<ℤ_};
 ghost use Rattle.integers.specs.inner.Limited.{Limited};
-ghost use Rattle.refusals.specs.Order.{Decides};
 ghost use Rattle.grouping.specs.inner.Walked.{Walked};
 ghost use Rattle.arrays.specs.At.{at, atℤ};
 ghost use Rattle.arrays.specs.inner.Drawn.{Drawn};
 ghost use Rattle.arrays.specs.Maps.{mapOf, drawingOf};
 ghost use Rattle.arrays.specs.inner.Sizes.{mostOnSheet, mostValue};
 ghost use Rattle.solver.specs.inner.Ends.{Ends};
-ghost use Rattle.raising.specs.Raise.{limitChecks, RaiseFound};
-ghost use Rattle.raising.specs.inner.Bracket.{mostLimit, Next, Sought};
+ghost use Rattle.raising.specs.Raise.{limitChecks, Fails, RaiseFound};
+ghost use Rattle.raising.specs.inner.Sought.{Sought};
 use refusals::Verdict;
 
 // What is answered: the forward capacity, that none serves, or the number of a refusal and its place.
@@ -31,38 +30,94 @@ enum Found {
     Nowhere,
 }
 
-// Whether a capacity that serves is found, with one that fails right below it.
-fn is_least(low: i32, high: i32, found: bool) -> bool
-    requires { ⌜ Limited 1000001 low ⌝ }
-    ensures { λ r. ⌜ (r ≡ true → (found ≡ true) × ((low +ℤ pos 1) ≡ high)) × (r ≡ false → found ≡ true → (low +ℤ pos 1) ≡ high → ⊥) ⌝ }
+// The least capacity of the edge's forward dart, where its present one fails: the flow on it that is highest from the face left of it, with 1,000,000 as its
+// capacity. The highest flow with that is written. Where 1,000,000 fails too, the nodes of a set that proves it are flagged.
+fn least_limit<'a>(
+    tails: &'a [u16; 1024],
+    rotations: &'a [u16; 1024],
+    lefts: &'a [u16; 1024],
+    capacities: &mut [i32; 1024],
+    order: &'a [u16; 1024],
+    from: &'a [u16; 1024],
+    grouped: &'a [u16; 1024],
+    starts: &'a [u16; 1024],
+    ends: &'a [u16; 1024],
+    nodes: usize,
+    edges: usize,
+    faces: usize,
+    trees: usize,
+    outer: usize,
+    source: usize,
+    sink: usize,
+    value: i32,
+    edge: usize,
+    flows: &mut [i32],
+    inside: &mut [u8; 1024],
+) -> Found
+    requires { ⌜ (length (now capacities) ≡ 1024) × (length (now inside) ≡ 1024) × (edges ≤ length (now flows)) × (edge < edges)
+        × Drawn (mapOf nodes edges (now tails) (now rotations)) (at (now lefts)) faces outer (atℤ (now capacities))
+        × Ends (mapOf nodes edges (now tails) (now rotations)) source sink × Limited mostValue value
+        × Limited mostOnSheet (atℤ (now capacities) (2 * edge))
+        × Walked (2 * edges) faces outer trees (at (now rotations)) (now lefts) (now order) (now from) (now grouped) (now starts) (now ends)
+        × Fails (drawingOf nodes edges outer (now tails) (now rotations) (now capacities)) source sink value edge (atℤ (now capacities) (2 * edge)) ⌝ }
+    ensures { λ r. ⌜ (length (now (inside .exit)) ≡ 1024)
+        × Sought (drawingOf nodes edges outer (now (tails .entry)) (now (rotations .entry)) (now (capacities .entry))) source sink value edge
+        (now (flows .entry)) (now (flows .exit)) (now (inside .exit)) r ⌝ }
 {
-    if found {
-        return signed::plus(low, 1) == high;
+    let dart = 2 * edge;
+    capacities[dart] = 1000000;
+    if solver::decide_from(
+        tails,
+        rotations,
+        lefts,
+        &*capacities,
+        order,
+        from,
+        grouped,
+        starts,
+        ends,
+        nodes,
+        edges,
+        faces,
+        trees,
+        outer,
+        dart,
+        source,
+        sink,
+        value,
+        &mut *flows,
+        &mut *inside,
+    ) {
+        let limit = flows[edge];
+        capacities[dart] = limit;
+        solver::decide_from(
+            tails,
+            rotations,
+            lefts,
+            &*capacities,
+            order,
+            from,
+            grouped,
+            starts,
+            ends,
+            nodes,
+            edges,
+            faces,
+            trees,
+            outer,
+            outer,
+            source,
+            sink,
+            value,
+            flows,
+            inside,
+        );
+        return Found::At(limit);
     }
-    false
+    Found::Nowhere
 }
 
-// The capacity to probe: between one that fails and one that serves the middle, before that the one to begin with or the greatest.
-fn next_limit(low: i32, high: i32, found: bool) -> i32
-    requires { ⌜ (low <ℤ high) × Limited 1000001 low × Limited 1000000 high × (found ≡ true → (low +ℤ pos 1) ≡ high → ⊥) ⌝ }
-    ensures { λ r. ⌜ Next low high r found ⌝ }
-{
-    if found {
-        return signed::plus(low, signed::halve(signed::minus(high, low)));
-    }
-    high
-}
-
-// Whether this is the greatest capacity that an edge of a sheet has.
-fn is_most(limit: i32) -> bool
-    requires { ⌜ limit ≤ℤ mostLimit ⌝ }
-    ensures { λ r. ⌜ Decides (limit ≡ mostLimit) r ⌝ }
-{
-    limit == 1000000
-}
-
-// Probes capacities of the edge's forward dart: its present one, the greatest, then the middle between one that fails and one that serves, until they are next
-// to each other. Each that serves leaves its highest flow in `flows`, and one that fails leaves `flows` alone: in the end they are those of the capacity found.
+// The present capacity of the edge's forward dart where it serves, with its highest flow; else the least greater one that does.
 fn find_limit<'a>(
     tails: &'a [u16; 1024],
     rotations: &'a [u16; 1024],
@@ -94,52 +149,52 @@ fn find_limit<'a>(
         × Sought (drawingOf nodes edges outer (now (tails .entry)) (now (rotations .entry)) (now (capacities .entry))) source sink value edge
         (now (flows .entry)) (now (flows .exit)) (now (inside .exit)) r ⌝ }
 {
-    let dart = 2 * edge;
-    let mut high = capacities[dart];
-    let mut low = signed::minus(high, 1);
-    let mut found = false;
-    let mut parents = [0u16; 1024];
-    let outcome = loop {
-        if is_least(low, high, found) {
-            break Found::At(high);
-        }
-        let limit = next_limit(low, high, found);
-        capacities[dart] = limit;
-        if solver::decide(
-            tails,
-            rotations,
-            lefts,
-            &*capacities,
-            order,
-            from,
-            grouped,
-            starts,
-            ends,
-            nodes,
-            edges,
-            faces,
-            trees,
-            outer,
-            source,
-            sink,
-            value,
-            &mut parents,
-            &mut *flows,
-            &mut *inside,
-        ) {
-            high = limit;
-            found = true;
-        } else {
-            low = limit;
-            if !found {
-                if is_most(limit) {
-                    break Found::Nowhere;
-                }
-                high = 1000000;
-            }
-        }
-    };
-    outcome
+    if solver::decide_from(
+        tails,
+        rotations,
+        lefts,
+        &*capacities,
+        order,
+        from,
+        grouped,
+        starts,
+        ends,
+        nodes,
+        edges,
+        faces,
+        trees,
+        outer,
+        outer,
+        source,
+        sink,
+        value,
+        &mut *flows,
+        &mut *inside,
+    ) {
+        return Found::At(capacities[2 * edge]);
+    }
+    least_limit(
+        tails,
+        rotations,
+        lefts,
+        capacities,
+        order,
+        from,
+        grouped,
+        starts,
+        ends,
+        nodes,
+        edges,
+        faces,
+        trees,
+        outer,
+        source,
+        sink,
+        value,
+        edge,
+        flows,
+        inside,
+    )
 }
 
 // The least forward capacity of an edge, from its present one to 1,000,000, with which the value can be carried from source to sink, and the highest flow under

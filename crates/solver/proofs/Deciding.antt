@@ -199,3 +199,16 @@ decided-apart 𝓜 outer c s t value length flows inside e h = (refl, rw e at h)
 pub measured-long : (𝓜 : Map) (s t : ℕ) (c : ℕ → ℤ) (value : ℤ) (length : ℕ → ℤ) (inside : List ℕ) {r : Bool}
     → r ≡ false → Measured 𝓜 s t c value length inside r → Lengthened 𝓜 s t c value length
 measured-long 𝓜 s t c value length inside e h = rw e at h
+
+-- the same drawing with another outer dart
+pub redrawn : {𝓜 : Map} {left : ℕ → ℕ} {count outer first : ℕ} {c : ℕ → ℤ} → Drawn 𝓜 left count outer c → first < darts 𝓜 → Drawn 𝓜 left count first c
+redrawn drawn first-in = record {
+  plane = drawn .plane;
+  few-nodes = drawn .few-nodes;
+  few-edges = drawn .few-edges;
+  left-is = drawn .left-is;
+  counted = drawn .counted;
+  outer-in = first-in;
+  small = drawn .small;
+  pairs = drawn .pairs;
+}

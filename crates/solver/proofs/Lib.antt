@@ -5,3 +5,4 @@ pub mod Preparing
 pub mod Deciding
 pub mod Naming
 pub mod OneSet
+pub mod LeastLength

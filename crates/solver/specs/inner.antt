@@ -3,3 +3,4 @@ pub mod Ends
 pub mod Search
 pub mod Decision
 pub mod Named
+pub mod LeastLength

@@ -331,3 +331,137 @@ pub fn decide<'a>(
     }
     true
 }
+
+// The faces at 0 of the drawing with `first` as its outer dart, into the first places of the queue, and how many they are. Those of its own outer dart are read
+// off the walk; any other takes a walk of its own.
+fn fill_roots<'a>(
+    rotations: &'a [u16; 1024],
+    lefts: &'a [u16; 1024],
+    order: &'a [u16; 1024],
+    from: &'a [u16; 1024],
+    edges: usize,
+    trees: usize,
+    outer: usize,
+    first: usize,
+    queue: &mut [u16; 1024],
+) -> usize
+    requires { ⌜ (length (now queue) ≡ 1024) × (edges ≤ 512) × (first < 2 * edges) × ((d : ℕ) → d < 2 * edges → at (now rotations) d < 2 * edges)
+        × Forest (2 * edges) (at (now rotations)) outer (at (now order)) (at (now from)) trees ⌝ }
+    ensures { λ r. ⌜ (length (now (queue .exit)) ≡ 1024)
+        × RootsOf (2 * edges) (at (now (rotations .entry))) first (at (now (lefts .entry))) (at (now (queue .exit))) r ⌝ }
+{
+    if first == outer {
+        traversal::first_faces(
+            rotations,
+            lefts,
+            order,
+            from,
+            2 * edges,
+            outer,
+            trees,
+            queue,
+        );
+        return trees;
+    }
+    traversal::roots_of(rotations, lefts, 2 * edges, first, queue)
+}
+
+// Decides as `decide` does, of the drawing with `first` as its outer dart: the face left of it is at 0 in its part, in each other part the lowest. So the flow
+// on `first`, written where the value can be carried, is the least with which it can: its capacity less its length and the distance back, from the face left of
+// it to the face right of it (`LeastLength`). It has several callers, so that its arrays are not kept below another decision on the stack.
+pub fn decide_from<'a>(
+    tails: &'a [u16; 1024],
+    rotations: &'a [u16; 1024],
+    lefts: &'a [u16; 1024],
+    capacities: &'a [i32; 1024],
+    order: &'a [u16; 1024],
+    from: &'a [u16; 1024],
+    grouped: &'a [u16; 1024],
+    starts: &'a [u16; 1024],
+    ends: &'a [u16; 1024],
+    nodes: usize,
+    edges: usize,
+    faces: usize,
+    trees: usize,
+    outer: usize,
+    first: usize,
+    source: usize,
+    sink: usize,
+    value: i32,
+    flows: &mut [i32],
+    inside: &mut [u8; 1024],
+) -> bool
+    requires { ⌜ (length (now inside) ≡ 1024) × (edges ≤ length (now flows)) × (first < 2 * edges)
+        × Drawn (mapOf nodes edges (now tails) (now rotations)) (at (now lefts)) faces outer (atℤ (now capacities))
+        × Ends (mapOf nodes edges (now tails) (now rotations)) source sink × Limited mostValue value
+        × Walked (2 * edges) faces outer trees (at (now rotations)) (now lefts) (now order) (now from) (now grouped) (now starts) (now ends) ⌝ }
+    ensures { λ r. ⌜ (length (now (inside .exit)) ≡ 1024)
+        × Decided (mapOf nodes edges (now (tails .entry)) (now (rotations .entry))) first (atℤ (now (capacities .entry)))
+        source sink value (now (flows .entry)) (now (flows .exit)) (now (inside .exit)) r ⌝ }
+{
+    let start = traversal::dart_at(tails, 2 * edges, source);
+    let finish = traversal::dart_at(tails, 2 * edges, sink);
+    let mut lengths = [0i32; 1024];
+    if cut_apart(
+        tails,
+        rotations,
+        capacities,
+        order,
+        from,
+        nodes,
+        edges,
+        start,
+        finish,
+        value,
+        &mut lengths,
+        &mut *inside,
+    ) {
+        return false;
+    }
+    let mut queue = [0u16; 1024];
+    let roots = fill_roots(
+        rotations,
+        lefts,
+        order,
+        from,
+        edges,
+        trees,
+        outer,
+        first,
+        &mut queue,
+    );
+    let mut parents = [1024u16; 1024];
+    let outcome = settle(
+        lefts,
+        capacities,
+        &lengths,
+        grouped,
+        starts,
+        ends,
+        edges,
+        faces,
+        roots,
+        &mut parents,
+        &mut queue,
+        flows,
+    );
+    if let Outcome::Ring(d) = outcome {
+        let y = arrays::wide(lefts[d]);
+        cut_of_ring(
+            tails,
+            rotations,
+            lefts,
+            &lengths,
+            order,
+            from,
+            &parents,
+            nodes,
+            edges,
+            faces,
+            y,
+            inside,
+        );
+        return false;
+    }
+    true
+}

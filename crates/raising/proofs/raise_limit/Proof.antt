@@ -25,7 +25,7 @@ use Rattle.questions.proofs.Sets.{set-written, proves-written}
 use Rattle.questions.proofs.Solving.{ends-as, ends-for}
 use Rattle.raising.specs.Raised.{raised}
 use Rattle.raising.specs.Raise.{edgeChecks, limitChecks}
-use Rattle.raising.specs.inner.Bracket.{mostLimit, Sought}
+use Rattle.raising.specs.inner.Sought.{mostLimit, Sought}
 use Rattle.raising.specs.declared.Found.{Found}
 use Rattle.raising.proofs.Raising.{edge-in, raise-ends, raise-value, raise-edge, raise-room, raise-none, sought-for, told-limit, limit-as}
 use Rattle.raising.proofs.raise_limit.Statement.{statement}

@@ -1,0 +1,210 @@
+-- A limit above the present one: the greatest is stored and decided from the face left of the dart; the flow on the edge is stored and decided. The ways out
+-- are laws of `Seeking`.
+use mathlib.Core.Path.{_≡_, refl, sym, _∙_, ap}
+use mathlib.Core.Bool.{Bool, true}
+use mathlib.Core.List.{List}
+use Prim.Native.Nat.{ℕ, _*_, _<_}
+use native.Mathlib.Omega.{arith}
+use lib.ListN.{length, set, length-set}
+use lib.IntN.{ℤ, pos}
+use mir.Syntax.{w32}
+use mir.Val.{toZ, ofZ}
+use borrow.Author.Needs.{needs}
+use Rattle.integers.specs.inner.Limited.{Limited}
+use Rattle.integers.proofs.Laws.{le-trans, le-of-lt}
+use Rattle.signed.proofs.Limits.{same-bits}
+use Rattle.maps.specs.Drawing.{Drawing}
+use Rattle.arrays.specs.At.{atℤ}
+use Rattle.arrays.specs.Maps.{drawingOf}
+use Rattle.arrays.proofs.FillLoops.{filled-front, filled-length}
+use Rattle.solver.specs.inner.Decision.{Decided}
+use Rattle.solver.proofs.Preparing.{same-value, small-value}
+use Rattle.raising.specs.Raised.{raised}
+use Rattle.raising.specs.inner.Sought.{mostLimit}
+use Rattle.raising.specs.declared.Found.the-variants.{At}
+use Rattle.raising.proofs.Raised.{le-same, stored, stored-elsewhere, raised-drawn}
+use Rattle.raising.proofs.Seeking.{under-most, above-present, least-serves, decided-as, sought-as}
+use Rattle.raising.proofs.least_limit.Statement.{statement}
+use Rattle.raising.proofs.least_limit.Tie as tie
+
+abbrev drawing : tie.Start → Drawing
+drawing c = drawingOf (c .args .nodes) (c .args .edges) (c .args .outer) (c .args .tails .now) (c .args .rotations .now) (c .args .capacities .now)
+
+dart-in : (c : tie.Start) → 2 * c .args .edge < 1024
+dart-in c = omega (arith, c .pre .3, c .pre .4 .few-edges)
+
+mul-dart : tie.Need-mul-dart
+mul-dart c = omega (arith, dart-in c)
+
+mul-capacities : tie.Need-mul-capacities
+mul-capacities c = omega (arith, dart-in c)
+
+element-set-of-capacities : tie.Need-element-set-of-capacities
+element-set-of-capacities c = omega (arith, dart-in c, c .pre .0)
+
+-- ── the greatest capacity is stored ──
+abbrev greatest : tie.Start → List ℤ
+greatest c = set (c .args .capacities .now) (2 * c .args .edge) mostLimit
+
+greatest-is : (c : tie.Start) → atℤ (greatest c) ≡ raised (atℤ (c .args .capacities .now)) (c .args .edge) mostLimit
+greatest-is c =
+    stored (c .args .edge) (c .args .capacities .now) (c .args .capacities .now) (λ d n. refl) mostLimit (omega (arith, dart-in c, c .pre .0))
+
+decide-from-requires : tie.Need-decide-from-requires
+decide-from-requires c κs =
+    let s = c .before .before .before in
+    let a = s .args in
+    let p = s .pre in (
+      p .1,
+      p .2,
+      omega (arith, p .3),
+      rw (greatest-is s) (raised-drawn (a .edge) (p .7 .high) (le-same mostLimit) (p .4)),
+      p .5,
+      small-value (p .6),
+      p .8,
+    )
+
+abbrev begun : tie.After-flows → tie.Start
+begun c = c .before .before .before .before .before
+
+abbrev between : tie.After-flows → List ℤ
+between c = c .before .decide-from .last .1 .1 .1 .1 .1 .1 .1 .1 .1 .1 .1 .1 .1 .1 .1 .1 .1 .1 .0
+
+abbrev first : tie.After-flows → List ℕ
+first c = c .before .decide-from .last .1 .1 .1 .1 .1 .1 .1 .1 .1 .1 .1 .1 .1 .1 .1 .1 .1 .1 .1 .0
+
+decided : (c : tie.After-flows) {r : Bool} → c .before .decide-from .result ≡ r
+    → Decided (drawing (begun c) .map) (2 * begun c .args .edge) (raised (drawing (begun c) .capacity) (begun c .args .edge) mostLimit)
+    (begun c .args .source) (begun c .args .sink) (begun c .args .value) (begun c .args .flows .now) (between c) (first c) r
+decided c e =
+    let s = begun c in
+    let a = s .args in
+    decided-as (drawing s .map) (2 * a .edge) (greatest-is s) (a .source) (a .sink) (same-value (s .pre .6)) (a .flows .now) (between c) (first c) e
+    (c .before .decide-from .ensures .1)
+
+-- ── it serves: the flow on the edge is above the present capacity, so 32 bits hold it ──
+abbrev start : tie.Then1 → tie.Start
+start c = begun (c .before)
+
+abbrev limit : tie.Then1 → ℤ
+limit c = decided (c .before) (c .if1 .taken) .0 (start c .args .edge)
+
+small : (c : tie.Then1) → Limited 1000000 (limit c)
+small c =
+    let s = start c in
+    let a = s .args in
+    let d = decided (c .before) (c .if1 .taken) in
+    let σ = s .pre .4 .plane .sound in
+    record {
+      low =
+          le-trans (s .pre .7 .low)
+          (le-of-lt (above-present (drawing s) (a .source) (a .sink) (a .value) (a .edge) (a .flows .now) (σ .range) (s .pre .5) σ
+          (omega (arith, s .pre .3)) (s .pre .9) (d .0) (d .1)));
+      high =
+          under-most (drawing s) (a .source) (a .sink) (a .value) (a .edge) (a .flows .now) (σ .range) (s .pre .5) σ
+          (omega (arith, s .pre .3)) (s .pre .9) (d .0) (d .1);
+    }
+
+mul-limit : tie.Need-mul-limit
+mul-limit c = omega (arith, dart-in (start c))
+
+sized : (c : tie.Then1) → length (between (c .before)) ≡ length (start c .args .flows .now)
+sized c = filled-length _ _ _ _ (decided (c .before) (c .if1 .taken) .2) (start c .pre .2)
+
+slice-copy-out-limit : tie.Need-slice-copy-out-limit
+slice-copy-out-limit c = omega (arith, sized c, start c .pre .2, start c .pre .3)
+
+abbrev bits : tie.Then1 → ℤ
+bits c = toZ w32 (ofZ w32 (atℤ (between (c .before)) (start c .args .edge)))
+
+bits-are : (c : tie.Then1) → bits c ≡ limit c
+bits-are c =
+    ap (λ z. toZ w32 (ofZ w32 z))
+    (filled-front (pos 0) (start c .args .edges) (decided (c .before) (c .if1 .taken) .0) (start c .args .flows .now) (between (c .before))
+    (decided (c .before) (c .if1 .taken) .2) (start c .args .edge) (start c .pre .3))
+    ∙ same-bits (omega arith) (small c)
+
+mul-limit-2 : tie.Need-mul-limit-2
+mul-limit-2 c = omega (arith, dart-in (start (c .before)))
+
+element-set-from-limit : tie.Need-element-set-from-limit
+element-set-from-limit c =
+    let s = start (c .before) in omega (arith, dart-in s, s .pre .0, length-set (s .args .capacities .now) (2 * s .args .edge) mostLimit)
+
+-- ── it is stored, and its highest flow written ──
+capacities-are : (c : tie.Then1)
+    → atℤ (set (greatest (start c)) (2 * start c .args .edge) (bits c)) ≡ raised (atℤ (start c .args .capacities .now)) (start c .args .edge) (limit c)
+capacities-are c =
+    let s = start c in
+    let a = s .args in
+    stored (a .edge) (greatest s) (a .capacities .now) (stored-elsewhere (a .edge) (a .capacities .now) (a .capacities .now) (λ d n. refl) mostLimit) (bits c)
+    (omega (arith, dart-in s, s .pre .0, length-set (a .capacities .now) (2 * a .edge) mostLimit))
+    ∙ ap (raised (atℤ (a .capacities .now)) (a .edge)) (bits-are c)
+
+decide-from-requires-2 : tie.Need-decide-from-requires-2
+decide-from-requires-2 c κs =
+    let t = c .before .before .before .before in
+    let s = start t in
+    let a = s .args in
+    let p = s .pre in
+    let d = decided (t .before) (t .if1 .taken) in
+    let σ = p .4 .plane .sound in (
+      t .before .before .decide-from .ensures .0,
+      omega (arith, sized t, p .2),
+      p .4 .outer-in,
+      rw (capacities-are t)
+          (raised-drawn (a .edge)
+          (le-of-lt (above-present (drawing s) (a .source) (a .sink) (a .value) (a .edge) (a .flows .now) (σ .range) (p .5) σ
+          (omega (arith, p .3)) (p .9) (d .0) (d .1))) (small t .high) (p .4)),
+      p .5,
+      small-value (p .6),
+      p .8,
+    )
+
+same-length : tie.Need-same-length
+same-length c = search needs
+
+returns : tie.Need-returns
+returns c =
+    let e = c .before in
+    let t = e .before .before .before .before .before in
+    let s = start t in
+    let a = s .args in
+    let p = s .pre in
+    let d = decided (t .before) (t .if1 .taken) in
+    let σ = p .4 .plane .sound in
+    let flows' = e .decide-from2 .last .1 .1 .1 .1 .1 .1 .1 .1 .1 .1 .1 .1 .1 .1 .1 .1 .1 .1 .0 in
+    let inside' = e .decide-from2 .last .1 .1 .1 .1 .1 .1 .1 .1 .1 .1 .1 .1 .1 .1 .1 .1 .1 .1 .1 .0 in (
+      e .decide-from2 .ensures .0,
+      sought-as (drawing s) (a .source) (a .sink) {value = a .value} refl (a .edge) {old = a .flows .now} refl flows' inside'
+          {r = At (limit t)} (ap At (sym (bits-are t)))
+          (least-serves (drawing s) (a .source) (a .sink) (a .value) (a .edge) (a .flows .now) (σ .range) (p .5) σ (omega (arith, p .3)) (p .9) (d .0) (d .1)
+          (between (t .before)) flows' inside' (e .decide-from2 .result) (d .2)
+          (decided-as (drawing s .map) (a .outer) (capacities-are t) (a .source) (a .sink) (same-value (p .6)) (between (t .before)) flows' inside'
+          {r = e .decide-from2 .result} refl (e .decide-from2 .ensures .1))),
+    )
+
+same-length-2 : tie.Need-same-length-2
+same-length-2 c = search needs
+
+-- ── none does ──
+returns-2 : tie.Need-returns-2
+returns-2 c = let f = c .before in (f .before .decide-from .ensures .0, decided f (c .if1 .left))
+
+pub least-limit-spec : {M : Type 1} → statement M
+least-limit-spec =
+    tie.close
+    (tie.spec
+    mul-dart
+    mul-capacities
+    element-set-of-capacities
+    decide-from-requires
+    mul-limit
+    slice-copy-out-limit
+    mul-limit-2
+    element-set-from-limit
+    decide-from-requires-2
+    same-length
+    returns
+    same-length-2
+    returns-2)
