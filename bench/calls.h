@@ -1,16 +1,11 @@
 // The unit's operations as functions without parameters, for bench/drive.c and bench/controller.c: what each is given and gives stands in the arrays below.
-// A length is 64 bits wide in every call: on x86-64 it is anyway, and the module that is compiled for a controller was made for x86-64.
-#include <stddef.h>
-#include <stdint.h>
+#include "../include/analyser.h"
 #if __STDC_HOSTED__
 #include <string.h>
 #endif
-#define size_t uint64_t
-#include "../include/analyser.h"
-#undef size_t
 
 static uint8_t sheet[ANALYSER_SHEET_BYTES + 1], written[ANALYSER_SHEET_BYTES];
-static uint64_t sheet_length, length;
+static analyser_length sheet_length, length;
 static uint16_t source, sink;
 static int32_t value;
 static uint16_t tails[ANALYSER_MAX_DARTS], turns[ANALYSER_MAX_DARTS];
@@ -138,7 +133,7 @@ static void read_sheet(void) {
                            &place);
 }
 static void write_sheet(void) {
-    uint64_t darts = 2 * (uint64_t)channels;
+    analyser_length darts = 2 * (analyser_length)channels;
     result = analyser_write(nodes, outer, tails, darts, turns, darts, limits, darts, written, sizeof written, &length, &place);
 }
 static void mark(void) { result = analyser_mark(sheet, sheet_length, source, sink, settings, ANALYSER_MAX_CHANNELS, &value, &place); }

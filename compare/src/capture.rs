@@ -1,5 +1,6 @@
 //! Limits from a capture (document 02, Job 10), against a model that keeps every record in a list: the window is a part of the list, its least the least of those
 //! of a channel, and what is largest on the limits found is decided by the other solver. Deliberate faults change what the library is given or what it gave.
+use crate::abi::analyser_largest_after;
 use crate::chance::Chance;
 use crate::check::{Tally, Wrong};
 use crate::drawing::Drawing;
@@ -31,29 +32,6 @@ pub const FAULTS: [CaptureFault; 10] = {
     use CaptureFault::*;
     [Latest, WindowLonger, WindowShorter, AfterUnchecked, EqualTicks, SheetKept, AnyFound, EndsFirst, LimitsOfNone, LimitsOnRefusal]
 };
-
-#[rustfmt::skip]
-extern "C" {
-    fn analyser_largest_after(
-        sheet: *const u8,
-        sheet_length: usize,
-        capture: *const u8,
-        capture_length: usize,
-        window: u16,
-        named: u64,
-        source: u16,
-        sink: u16,
-        limits: *mut i32,
-        limits_length: usize,
-        flows: *mut i32,
-        flows_length: usize,
-        set: *mut u64,
-        set_length: usize,
-        found: *mut u8,
-        value: *mut i32,
-        place: *mut u16,
-    ) -> u8;
-}
 
 #[derive(Clone, Debug)]
 struct Asked {

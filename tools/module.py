@@ -1,19 +1,30 @@
-"""The LLVM module of crates/abi, for bench/controller and bench/climb. The kit gives it to its clang, and to nobody else: so `rt staticlib abi` is run with a kit
-whose folders are links into the real one, but for a clang that keeps a copy of its input before it runs the real one. The library is the same, byte for byte."""
+"""The LLVM module of crates/abi, for tools/library, bench/controller and bench/climb. The kit gives it to its clang, and to nobody else: so `rt staticlib abi`
+is run with a kit whose folders are links into the real one, but for a clang that keeps a copy of its input before it runs the real one. The library is the same,
+byte for byte. `tools/module clang` prints the path of the kit's clang.
+"""
 import os
 import shutil
 import subprocess
+import sys
 
 
 def toolchain():
     """The folder of the kit's clang and linker, and what of the kit's home lies above it."""
-    home = os.path.dirname(os.path.dirname(os.path.realpath(shutil.which("rt"))))
+    rt = shutil.which("rt")
+    if not rt:
+        raise SystemExit("tools/module: the Rattle toolchain is needed: put `rt` on the path")
+    home = os.path.dirname(os.path.dirname(os.path.realpath(rt)))
     below = f"on/{os.uname().machine}/toolchain/bin"
     return (home, below) if os.path.isdir(f"{home}/{below}") else (home, "toolchain/bin")
 
 
+def tool(name):
+    """A program of the kit: clang, ld.lld or llvm-ar."""
+    return "/".join(toolchain()) + "/" + name
+
+
 def clang():
-    return "/".join(toolchain()) + "/clang"
+    return tool("clang")
 
 
 def linked(real, copy, way):
@@ -48,3 +59,9 @@ exec '{clang()}' "$@"
     subprocess.run([clang(), *text], check=True)
     with open(f"{kept}.ll") as file:
         return file.read()
+
+
+if __name__ == "__main__":
+    if sys.argv[1:] != ["clang"]:
+        raise SystemExit("use: tools/module clang")
+    print(clang())
