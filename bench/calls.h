@@ -16,7 +16,10 @@ static uint8_t answer, result;
 static uint16_t nodes, channels, outer, size, place, channel;
 static int32_t number;
 static uint8_t text[ANALYSER_DIMACS_BYTES]; // of a key too, which is shorter
-enum { QUESTIONS = 20, PAGE_SETTINGS = QUESTIONS * ANALYSER_MAX_CHANNELS, PAGE_WORDS = QUESTIONS * ANALYSER_SET_WORDS };
+#ifndef PAGE_OF
+#define PAGE_OF 20
+#endif
+enum { QUESTIONS = PAGE_OF, PAGE_SETTINGS = QUESTIONS * ANALYSER_MAX_CHANNELS, PAGE_WORDS = QUESTIONS * ANALYSER_SET_WORDS };
 static uint16_t headgates[ANALYSER_PAGE_QUESTIONS], outfalls[ANALYSER_PAGE_QUESTIONS], sizes[ANALYSER_PAGE_QUESTIONS];
 static int32_t deliveries[ANALYSER_PAGE_QUESTIONS], page_settings[PAGE_SETTINGS];
 static uint64_t page_sets[PAGE_WORDS];
@@ -70,7 +73,7 @@ static void page(void) {
                            sizes, &place);
 }
 // A class of the size that `value` says, each paper with the settings and the set that Largest gives, and its claim: read_sheet and largest_class come before.
-enum { FEW = 4, PAPERS = __STDC_HOSTED__ ? ANALYSER_CLASS_PAPERS : FEW }; // a controller holds few
+enum { FEW = 5, PAPERS = __STDC_HOSTED__ ? ANALYSER_CLASS_PAPERS : FEW }; // a controller holds few
 enum { CLASS_SETTINGS = PAPERS * ANALYSER_MAX_CHANNELS, CLASS_WORDS = PAPERS * ANALYSER_SET_WORDS };
 static int32_t class_claims[PAPERS], class_settings[CLASS_SETTINGS];
 static uint64_t class_sets[CLASS_WORDS];

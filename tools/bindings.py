@@ -7,11 +7,13 @@ docs/MANUAL.md says the refusals in words. Nothing else declares them by hand.
     tools/bindings recorder    prints the same functions for Rust, each by way of `recorded`: compare/src/corpus.rs
     tools/bindings calls       prints a C function for each of them that takes its arguments from a list: tests/machines.c
     tools/bindings python      prints a Python module that loads the shared library beside it
+    tools/bindings json        prints each function's name, and of each argument whether it is lent, and whether it is 64 bits wide: tests/machines.mjs
 
 Python tools call load(). Of the header the session's struct and the four inline functions are written by hand: the compiler holds them to the lines made here.
 """
 import ctypes
 import difflib
+import json
 import os
 import re
 import sys
@@ -221,7 +223,7 @@ def arguments(function):
 
 
 def calls():
-    lines = ["// Made by tools/bindings."]
+    lines = ["// Made by tools/bindings.", "struct area {", "    void *at;", "    analyser_length length;", "};"]
     for function in functions():
         numbers = any(not p.lent for p in function.parameters)
         lines += [f"static uint8_t call_{function.name}(const uint64_t *numbers, const struct area *areas) {{"]
@@ -299,6 +301,18 @@ def load(path):
     return library
 
 
+# JavaScript
+
+
+def as_json():
+    """A list of functions, [name, arguments]; an argument is "slice" or "pointer" where it is lent, else "long" for 64 bits or "number"."""
+    def kind(p):
+        if p.lent:
+            return "pointer" if p.count else "slice"
+        return "long" if SIZES[p.element] == 8 else "number"
+    return [json.dumps([[function.name, [kind(p) for p in function.parameters]] for function in functions()])]
+
+
 def check():
     now, due = header()
     wrong = list(difflib.unified_diff(now.splitlines(), due.splitlines(), HEADER, "what its sources say", lineterm=""))
@@ -315,7 +329,7 @@ def write():
     return 0
 
 
-PRINTED = {"rust": rust, "recorder": recorder, "calls": calls, "python": python}
+PRINTED = {"rust": rust, "recorder": recorder, "calls": calls, "python": python, "json": as_json}
 
 
 def main(words):
