@@ -1,5 +1,6 @@
-// What libanalyser asks of a controller beside itself: the functions of ARM's run-time ABI that its compiler calls. tools/library puts this file into the library
-// for each Cortex-M. Every function is weak: where a C library or a compiler's own has one, that one is taken. Nothing is proved of them; tests/machines runs them.
+// What libanalyser asks of a controller beside itself: the functions of ARM's run-time ABI that its compiler calls. tools/library puts this file into the
+// library for each Cortex-M. Every function is weak: where a C library or a compiler's own has one, that one is taken. Nothing is proved of them;
+// `tests/machines --qemu` runs them.
 #include <stddef.h>
 #include <stdint.h>
 

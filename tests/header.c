@@ -67,7 +67,8 @@ static void set_three(int32_t first, int32_t second, int32_t third) {
 }
 
 // Least and largest on a sheet, with slices of these lengths: all that it may write, and one element more of each slice than drawing A needs.
-static void least_and_largest(const char *name, const uint8_t *bytes, analyser_length bytes_length, uint16_t headgate, uint16_t outfall, const analyser_length lengths[4]) {
+static void least_and_largest(const char *name, const uint8_t *bytes, analyser_length bytes_length, uint16_t headgate, uint16_t outfall,
+                              const analyser_length lengths[4]) {
     untouched();
     int result = analyser_least_and_largest(bytes, bytes_length, headgate, outfall, low, lengths[0], below, lengths[1], high, lengths[2], above, lengths[3], &flag,
                                             &least, &largest, &place);
@@ -79,7 +80,8 @@ static void least_and_largest(const char *name, const uint8_t *bytes, analyser_l
 }
 
 // Totals by node of a sheet, of one word and with slices of these lengths; places past the subtotals of drawing B's three nodes too.
-static void totals(const char *name, const uint8_t *bytes, analyser_length bytes_length, uint64_t word, analyser_length set_length, analyser_length subtotals_length) {
+static void totals(const char *name, const uint8_t *bytes, analyser_length bytes_length, uint64_t word, analyser_length set_length,
+                   analyser_length subtotals_length) {
     untouched();
     set[0] = word;
     int result = analyser_totals(bytes, bytes_length, set, set_length, subtotals, subtotals_length, &total, &place);
@@ -100,8 +102,8 @@ static void practice(const char *name, uint16_t rows, uint16_t columns, uint32_t
 }
 
 // Raise limit on drawing A with slices of these lengths: all that it may write, and one element more of each slice than drawing A needs.
-static void raise_limit(const char *name, analyser_length bytes_length, uint16_t headgate, uint16_t outfall, int32_t delivery, uint16_t channel, analyser_length settings_length,
-                        analyser_length set_length) {
+static void raise_limit(const char *name, analyser_length bytes_length, uint16_t headgate, uint16_t outfall, int32_t delivery, uint16_t channel,
+                        analyser_length settings_length, analyser_length set_length) {
     untouched();
     int result = analyser_raise_limit(drawing_a, bytes_length, headgate, outfall, delivery, channel, settings, settings_length, set, set_length, &flag, &value,
                                       &place);
@@ -114,8 +116,8 @@ static void raise_limit(const char *name, analyser_length bytes_length, uint16_t
 // drawing A needs. The limits stand in low.
 static const uint8_t capture[] = {5, 1, 0, 0, 0, 0, 0, 3, 0, 0, 0, 5, 1, 0, 0, 0, 1, 0, 2, 0, 0, 0, 5, 5, 0, 0, 0, 0, 0, 2, 0, 0, 0};
 
-static void largest_after(const char *name, analyser_length bytes_length, analyser_length capture_length, uint16_t window, uint64_t named, uint16_t headgate, uint16_t outfall,
-                          analyser_length limits_length, analyser_length settings_length, analyser_length set_length) {
+static void largest_after(const char *name, analyser_length bytes_length, analyser_length capture_length, uint16_t window, uint64_t named, uint16_t headgate,
+                          uint16_t outfall, analyser_length limits_length, analyser_length settings_length, analyser_length set_length) {
     untouched();
     int result = analyser_largest_after(drawing_a, bytes_length, capture, capture_length, window, named, headgate, outfall, low, limits_length, settings,
                                         settings_length, set, set_length, &flag, &value, &place);
@@ -137,7 +139,8 @@ static void write_dimacs(const char *name, const uint8_t *bytes, analyser_length
 }
 
 // A page on drawing A, of so many of these questions, with slices of these lengths: 6 can, 13 cannot, no such node, ends equal, out of range.
-static void page(const char *name, const uint8_t *bytes, analyser_length bytes_length, analyser_length count, analyser_length settings_length, analyser_length sets_length) {
+static void page(const char *name, const uint8_t *bytes, analyser_length bytes_length, analyser_length count, analyser_length settings_length,
+                 analyser_length sets_length) {
     static const uint16_t headgates[ANALYSER_PAGE_QUESTIONS] = {0, 0, 2, 1, 0}, outfalls[ANALYSER_PAGE_QUESTIONS] = {1, 1, 1, 1, 1};
     static const int32_t deliveries[ANALYSER_PAGE_QUESTIONS] = {6, 13, 6, 6, 600000001};
     static uint8_t answers[ANALYSER_PAGE_QUESTIONS];
@@ -156,8 +159,8 @@ static void page(const char *name, const uint8_t *bytes, analyser_length bytes_l
 }
 
 // A class on a drawing with slices of these lengths: the first papers are those of drawing A or drawing B, in two channels or three to a paper.
-static void examine(const char *name, const uint8_t *bytes, analyser_length bytes_length, uint16_t headgate, uint16_t outfall, int32_t delivery, const int32_t *given,
-                    const uint64_t *sets, const analyser_length lengths[5]) {
+static void examine(const char *name, const uint8_t *bytes, analyser_length bytes_length, uint16_t headgate, uint16_t outfall, int32_t delivery,
+                    const int32_t *given, const uint64_t *sets, const analyser_length lengths[5]) {
     static const int32_t claims[ANALYSER_CLASS_PAPERS + 1] = {12, 12, 12, 13};
     static const uint8_t kinds[4] = {0, 0, ANALYSER_CLAIMS_NONE, 0}, none[4] = {ANALYSER_CLAIMS_NONE, ANALYSER_CLAIMS_NONE, 0, 0};
     uint8_t points[5] = {UNTOUCHED, UNTOUCHED, UNTOUCHED, UNTOUCHED, UNTOUCHED}, low_points = UNTOUCHED, high_points = UNTOUCHED;
@@ -202,7 +205,8 @@ static void start(const char *name, const uint8_t *bytes, analyser_length bytes_
 }
 
 // The settings written are spoilt behind the call: the offer is the session's.
-static void ask(const char *name, uint16_t party, uint16_t headgate, uint16_t outfall, int32_t delivery, analyser_length settings_length, analyser_length set_length) {
+static void ask(const char *name, uint16_t party, uint16_t headgate, uint16_t outfall, int32_t delivery, analyser_length settings_length,
+                analyser_length set_length) {
     untouched();
     int result = analyser_ask(session, party, headgate, outfall, delivery, settings, settings_length, set, set_length, &flag, &size, &place);
     printf("ask of %d, %s %d: can %d, size %d, set %d", party, name, result, flag, size, (int)set[0]);
@@ -509,5 +513,6 @@ int main(void) {
     session->limits[1] = INT32_MIN;
     clear("to limits that are none");
     ask("on limits that are none", 0, 0, 1, 6, 3, 1);
+    printf("in words: 0 %s, 14 %s, 11 %s\n", analyser_refusal_text(0), analyser_refusal_text(14), analyser_refusal_text(11));
     return 0;
 }

@@ -1,5 +1,5 @@
-"""The C interface from one source. The functions of crates/abi/src/lib.rt say the prototypes and the session's fields, the unit's definitions say the constants,
-docs/MANUAL.md says the refusals in words. Nothing else declares them by hand.
+"""The C interface from one source. The functions of crates/abi/src/lib.rt say the prototypes and the session's fields, the unit's definitions say the
+constants, docs/MANUAL.md says the refusals in words. Nothing else declares them by hand.
 
     tools/bindings --check     include/analyser.h is what these say: else the difference, and exit status 1
     tools/bindings --write     makes it so; a new function needs its comment and a line `uint8_t analyser_NAME();` there first
@@ -232,7 +232,8 @@ def calls():
         lines += [] if function.result else ["    return 0;"]
         lines += ["}"]
     rows = [f'    {{"{function.name}", call_{function.name}}},' for function in functions()]
-    return [*lines, "static const struct {", "    const char *name;", "    uint8_t (*call)(const uint64_t *, const struct area *);", "} functions[] = {", *rows, "};"]
+    table = ["static const struct {", "    const char *name;", "    uint8_t (*call)(const uint64_t *, const struct area *);", "} functions[] = {"]
+    return [*lines, *table, *rows, "};"]
 
 
 # Rust
@@ -280,7 +281,7 @@ def python_kinds(p):
 
 
 def python():
-    lines = ['"""The analyser\'s C interface for Python, made by tools/bindings: `library` has its functions, and analyser.h says what each takes and gives."""',
+    lines = ['"""The analyser for Python, made by tools/bindings: `library` has the functions of analyser.h, which says what each takes and gives."""',
              "import os", "from ctypes import CDLL, POINTER, c_int32, c_uint8, c_uint16, c_uint32, c_uint64", "",
              'library = CDLL(os.path.join(os.path.dirname(os.path.abspath(__file__)), "libanalyser.so"))']
     for function in functions():

@@ -1,4 +1,5 @@
-//! What the builds of unit/ and compare/ share: the static library that `rt staticlib abi` writes, and the declarations of its functions that tools/bindings makes.
+//! What the builds of unit/ and compare/ share: the static library that `rt staticlib abi` writes, and the declarations of its functions, which tools/bindings
+//! makes.
 use std::path::Path;
 use std::process::Command;
 

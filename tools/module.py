@@ -1,6 +1,6 @@
-"""The LLVM module of crates/abi, for tools/library, bench/controller and bench/climb. The kit gives it to its clang, and to nobody else: so `rt staticlib abi`
-is run with a kit whose folders are links into the real one, but for a clang that keeps a copy of its input before it runs the real one. The library is the same,
-byte for byte. `tools/module clang` prints the path of the kit's clang.
+"""The LLVM module of crates/abi, for tools/library and bench/climb. The kit gives it to its clang, and to nobody else: so `rt staticlib abi` is run with a kit
+whose folders are links into the real one, but for a clang that keeps a copy of its input before it runs the real one. The library is the same, byte for byte.
+`tools/module clang` prints the path of the kit's clang.
 """
 import os
 import shutil

@@ -1,6 +1,6 @@
-// Answers questions over a serial line, on a controller with 64 KiB: a bare-metal program for qemu's board mps2-an386. It takes two bytes, a length with the lower
-// byte first, and as many bytes, a question and its sheet, as samples/ has them. It answers with the text of the key and a line `stack N of M`: how much stack has
-// been used since the start, and how much there is. Then it waits for the next question.
+// Answers questions over a serial line, on a controller with 64 KiB: a bare-metal program for qemu's board mps2-an386. It takes two bytes, a length with the
+// lower byte first, and as many bytes, a question and its sheet, as samples/ has them. It answers with the text of the key and a line `stack N of M`: how much
+// stack has been used since the start, and how much there is. Then it waits for the next question.
 #include <analyser.h>
 
 // The board's first serial line.

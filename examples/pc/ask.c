@@ -22,14 +22,15 @@ int main(int count, char **words) {
     int32_t delivery = (int32_t)(input[5] | input[6] << 8 | input[7] << 16 | (uint32_t)input[8] << 24);
     uint16_t nodes = 0, channels = 0, outer = 0, size = 0, place = 0;
     uint8_t can = 0;
-    uint8_t result = analyser_solve(sheet, length - QUESTION, headgate, outfall, delivery, settings, ANALYSER_MAX_CHANNELS, set, ANALYSER_SET_WORDS, &can, &size,
-                                    &place);
+    uint8_t result = analyser_solve(sheet, length - QUESTION, headgate, outfall, delivery, settings, ANALYSER_MAX_CHANNELS, set, ANALYSER_SET_WORDS, &can,
+                                    &size, &place);
     if (result != ANALYSER_ANSWERED) {
         printf("refused %d\n", result);
         fprintf(stderr, "%s\n", analyser_refusal_text(result));
         return 1;
     }
-    analyser_read(sheet, length - QUESTION, tails, ANALYSER_MAX_DARTS, turns, ANALYSER_MAX_DARTS, limits, ANALYSER_MAX_DARTS, &nodes, &channels, &outer, &place);
+    analyser_read(sheet, length - QUESTION, tails, ANALYSER_MAX_DARTS, turns, ANALYSER_MAX_DARTS, limits, ANALYSER_MAX_DARTS, &nodes, &channels, &outer,
+                  &place);
     if (can) {
         printf("can %ld\n", (long)delivery);
         for (int e = 0; e < channels; e++) printf("%d %ld\n", e, (long)settings[e]);
