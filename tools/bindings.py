@@ -19,7 +19,7 @@ import re
 import sys
 from typing import NamedTuple
 
-TOP = os.path.dirname(os.path.dirname(os.path.abspath(__file__)))
+TOP = os.path.dirname(os.path.dirname(os.path.realpath(__file__)))
 SOURCE, HEADER, MANUAL = "crates/abi/src/lib.rt", "include/analyser.h", "docs/MANUAL.md"
 WIDTH = 160
 # the code's words, and the paper's, which the header has

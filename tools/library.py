@@ -185,8 +185,15 @@ def build(text, target):
         os.makedirs(path)
     shutil.copyfile(f"{TOP}/include/analyser.h", f"{folder}/analyser.h")
     said = BUILDERS[target](text, folder, work, target)
-    write(f"{folder}/about.txt", said + f"module: sha256 {hashlib.sha256(text.partition(chr(10))[2].encode()).hexdigest()}\n")
-    print(f"target/library/{target}: {said.splitlines()[0]}")
+    named = text.partition("\n")[2]  # without the first line, which has the path of a file
+    write(f"{folder}/about.txt", said + f"module: sha256 {hashlib.sha256(named.encode()).hexdigest()}\n")
+
+
+def make(targets):
+    """Builds the library for each of these machines, of one proved module; a Fault says why it cannot."""
+    text = proved_module()
+    for target in targets:
+        build(text, target)
 
 
 def main(targets):
@@ -194,12 +201,12 @@ def main(targets):
         print("use: tools/library TARGET ..; a target is " + ", ".join(BUILDERS), file=sys.stderr)
         return 2
     try:
-        text = proved_module()
-        for target in targets:
-            build(text, target)
+        make(targets)
     except (Fault, bindings.Fault) as fault:
         print(f"tools/library: {fault}", file=sys.stderr)
         return 1
+    for target in targets:
+        print(f"target/library/{target}: libanalyser {bindings.version()[1]}")
     return 0
 
 

@@ -7,6 +7,8 @@ import shutil
 import subprocess
 import sys
 
+TOP = os.path.dirname(os.path.dirname(os.path.realpath(__file__)))
+
 
 def toolchain():
     """The folder of the kit's clang and linker, and what of the kit's home lies above it."""
@@ -52,7 +54,7 @@ exec '{clang()}' "$@"
     os.chmod(f"{kit}/{below}/clang", 0o755)
     if os.path.exists(f"{kept}.bc"):
         os.remove(f"{kept}.bc")
-    done = subprocess.run(["rt", "staticlib", "abi"], capture_output=True, text=True, env={**os.environ, "RATTLE_HOME": kit})
+    done = subprocess.run(["rt", "staticlib", "abi"], cwd=TOP, capture_output=True, text=True, env={**os.environ, "RATTLE_HOME": kit})
     if done.returncode != 0 or not os.path.exists(f"{kept}.bc"):
         raise SystemExit(done.stdout + done.stderr + "no module of crates/abi")
     text = ["--target=x86_64-unknown-linux-gnu", "-x", "ir", f"{kept}.bc", "-S", "-emit-llvm", "-Xclang", "-disable-llvm-passes", "-o", f"{kept}.ll"]

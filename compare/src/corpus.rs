@@ -56,8 +56,11 @@ pub fn end() -> io::Result<u64> {
     recorder.map_or(Ok(0), |mut recorder| recorder.file.flush().map(|()| recorder.calls))
 }
 
-/// Makes the call. What the areas say must be true.
-pub fn recorded(function: u8, numbers: &[u64], areas: &[Area], call: impl FnOnce() -> u8) -> u8 {
+/// Makes the call.
+///
+/// # Safety
+/// Each area is a pointer of the call, to as many elements as it says.
+pub unsafe fn recorded(function: u8, numbers: &[u64], areas: &[Area], call: impl FnOnce() -> u8) -> u8 {
     if RECORDER.with(|recorder| recorder.borrow().is_none()) {
         return call();
     }
@@ -82,12 +85,13 @@ fn offsets(areas: &[Area]) -> Vec<usize> {
     offsets
 }
 
-fn image(areas: &[Area]) -> Vec<u8> {
+/// # Safety
+/// As `recorded`.
+unsafe fn image(areas: &[Area]) -> Vec<u8> {
     let mut image = vec![];
     for (area, offset) in areas.iter().zip(offsets(areas)) {
         image.resize(offset, GUARD);
-        // SAFETY: the pointer is to as many elements as the call says.
-        image.extend_from_slice(unsafe { std::slice::from_raw_parts(area.at, area.bytes) });
+        image.extend_from_slice(std::slice::from_raw_parts(area.at, area.bytes));
     }
     image.resize(image.len().next_multiple_of(8) + GUARDS, GUARD);
     image
@@ -154,7 +158,7 @@ mod tests {
         let areas = [Area::new(bytes.as_ptr(), 3), Area::new(words.as_ptr(), 2), Area::new(bytes.as_ptr(), 0)];
         let offsets = offsets(&areas);
         assert_eq!(offsets, [16, 40, 72]);
-        let image = image(&areas);
+        let image = unsafe { image(&areas) };
         assert_eq!(image.len(), 88);
         assert_eq!(image[16..20], [9, 9, 9, GUARD]);
         assert_eq!(image[40..48], 7u64.to_le_bytes());
