@@ -1,16 +1,11 @@
 // The unit's operations as functions without parameters, for bench/drive.c and bench/controller.c: what each is given and gives stands in the arrays below.
-// A length is 64 bits wide in every call: on x86-64 it is anyway, and the module that is compiled for a controller was made for x86-64.
-#include <stddef.h>
-#include <stdint.h>
+#include "../include/analyser.h"
 #if __STDC_HOSTED__
 #include <string.h>
 #endif
-#define size_t uint64_t
-#include "../include/analyser.h"
-#undef size_t
 
 static uint8_t sheet[ANALYSER_SHEET_BYTES + 1], written[ANALYSER_SHEET_BYTES];
-static uint64_t sheet_length, length;
+static analyser_length sheet_length, length;
 static uint16_t source, sink;
 static int32_t value;
 static uint16_t tails[ANALYSER_MAX_DARTS], turns[ANALYSER_MAX_DARTS];
@@ -21,7 +16,10 @@ static uint8_t answer, result;
 static uint16_t nodes, channels, outer, size, place, channel;
 static int32_t number;
 static uint8_t text[ANALYSER_DIMACS_BYTES]; // of a key too, which is shorter
-enum { QUESTIONS = 20, PAGE_SETTINGS = QUESTIONS * ANALYSER_MAX_CHANNELS, PAGE_WORDS = QUESTIONS * ANALYSER_SET_WORDS };
+#ifndef PAGE_OF
+#define PAGE_OF 20
+#endif
+enum { QUESTIONS = PAGE_OF, PAGE_SETTINGS = QUESTIONS * ANALYSER_MAX_CHANNELS, PAGE_WORDS = QUESTIONS * ANALYSER_SET_WORDS };
 static uint16_t headgates[ANALYSER_PAGE_QUESTIONS], outfalls[ANALYSER_PAGE_QUESTIONS], sizes[ANALYSER_PAGE_QUESTIONS];
 static int32_t deliveries[ANALYSER_PAGE_QUESTIONS], page_settings[PAGE_SETTINGS];
 static uint64_t page_sets[PAGE_WORDS];
@@ -75,7 +73,7 @@ static void page(void) {
                            sizes, &place);
 }
 // A class of the size that `value` says, each paper with the settings and the set that Largest gives, and its claim: read_sheet and largest_class come before.
-enum { FEW = 4, PAPERS = __STDC_HOSTED__ ? ANALYSER_CLASS_PAPERS : FEW }; // a controller holds few
+enum { FEW = 5, PAPERS = __STDC_HOSTED__ ? ANALYSER_CLASS_PAPERS : FEW }; // a controller holds few
 enum { CLASS_SETTINGS = PAPERS * ANALYSER_MAX_CHANNELS, CLASS_WORDS = PAPERS * ANALYSER_SET_WORDS };
 static int32_t class_claims[PAPERS], class_settings[CLASS_SETTINGS];
 static uint64_t class_sets[CLASS_WORDS];
@@ -138,7 +136,7 @@ static void read_sheet(void) {
                            &place);
 }
 static void write_sheet(void) {
-    uint64_t darts = 2 * (uint64_t)channels;
+    analyser_length darts = 2 * (analyser_length)channels;
     result = analyser_write(nodes, outer, tails, darts, turns, darts, limits, darts, written, sizeof written, &length, &place);
 }
 static void mark(void) { result = analyser_mark(sheet, sheet_length, source, sink, settings, ANALYSER_MAX_CHANNELS, &value, &place); }

@@ -9,42 +9,13 @@ int memcmp(const void *, const void *, size_t);
 int strcmp(const char *, const char *);
 void *memcpy(void *, const void *, size_t);
 void *memset(void *, int, size_t);
+#include "host.h"
 #else
 #include <stdio.h>
 #endif
 #include "calls.h"
 
 #ifdef __arm__
-// What the compiler asks of a C library: sixteen bytes at a time where they are aligned. The module's own calls of these are counted with the operation.
-void *memset(void *at, int byte, size_t count) {
-    uint8_t *to = at, *end = to + count;
-    uint32_t word = (uint8_t)byte * 0x01010101u;
-    while (to < end && (uintptr_t)to % 4) *to++ = (uint8_t)byte;
-    for (uint8_t *last = end - (uint32_t)(end - to) % 16; to < last; to += 16) {
-        uint32_t *four = (uint32_t *)to;
-        four[0] = four[1] = four[2] = four[3] = word;
-    }
-    while (to < end) *to++ = (uint8_t)byte;
-    return at;
-}
-void *memcpy(void *at, const void *from, size_t count) {
-    uint8_t *to = at, *end = to + count;
-    const uint8_t *next = from;
-    if (((uintptr_t)to | (uintptr_t)next) % 4 == 0)
-        for (uint8_t *last = end - count % 16; to < last; to += 16, next += 16) {
-            const uint32_t *four = (const uint32_t *)next, a = four[0], b = four[1], c = four[2], d = four[3];
-            ((uint32_t *)to)[0] = a, ((uint32_t *)to)[1] = b, ((uint32_t *)to)[2] = c, ((uint32_t *)to)[3] = d;
-        }
-    while (to < end) *to++ = *next++;
-    return at;
-}
-void *memmove(void *at, const void *from, size_t count) {
-    uint8_t *to = at;
-    const uint8_t *next = from;
-    if (to <= next || to >= next + count) return memcpy(at, from, count);
-    while (count--) to[count] = next[count];
-    return at;
-}
 int memcmp(const void *a, const void *b, size_t count) {
     const uint8_t *x = a, *y = b;
     for (; count; x++, y++, count--)
@@ -55,57 +26,11 @@ int strcmp(const char *a, const char *b) {
     while (*a && *a == *b) a++, b++;
     return (uint8_t)*a - (uint8_t)*b;
 }
-void __aeabi_memset(void *at, size_t count, int byte) { memset(at, byte, count); }
-void __aeabi_memclr(void *at, size_t count) { memset(at, 0, count); }
-void __aeabi_memset4(void *, size_t, int) __attribute__((alias("__aeabi_memset")));
-void __aeabi_memset8(void *, size_t, int) __attribute__((alias("__aeabi_memset")));
-void __aeabi_memclr4(void *, size_t) __attribute__((alias("__aeabi_memclr")));
-void __aeabi_memclr8(void *, size_t) __attribute__((alias("__aeabi_memclr")));
-void *__aeabi_memcpy(void *, const void *, size_t) __attribute__((alias("memcpy")));
-void *__aeabi_memcpy4(void *, const void *, size_t) __attribute__((alias("memcpy")));
-void *__aeabi_memcpy8(void *, const void *, size_t) __attribute__((alias("memcpy")));
-void *__aeabi_memmove(void *, const void *, size_t) __attribute__((alias("memmove")));
-void *__aeabi_memmove4(void *, const void *, size_t) __attribute__((alias("memmove")));
-void *__aeabi_memmove8(void *, const void *, size_t) __attribute__((alias("memmove")));
 
-// A division of 64 bits: the quotient in r0 and r1, the rest in r2 and r3. The processor divides 32 bits; a longer one goes bit by bit.
-__attribute__((used)) static uint64_t divided(uint64_t what, uint64_t by, uint64_t *rest) {
-    uint64_t quotient = 0;
-    if ((what | by) >> 32 == 0) {
-        quotient = (uint32_t)what / (uint32_t)by;
-        what -= (uint32_t)quotient * (uint32_t)by;
-    } else if (by <= what) {
-        for (int shift = __builtin_clzll(by) - __builtin_clzll(what); shift >= 0; shift--) {
-            quotient <<= 1;
-            if (by << shift <= what) what -= by << shift, quotient |= 1;
-        }
-    }
-    *rest = what;
-    return quotient;
-}
-__attribute__((naked)) void __aeabi_uldivmod(void) {
-    __asm__("push {r4, lr}\n sub sp, #16\n add r4, sp, #8\n str r4, [sp]\n bl divided\n ldrd r2, r3, [sp, #8]\n add sp, #16\n pop {r4, pc}");
-}
-
-// Files, by semihosting: 1 opens (in mode 1, rb, or 5, wb), 5 writes and 6 reads, both giving how many bytes are left over, 24 ends.
-static int32_t host(int32_t what, const void *words) {
-    register int32_t r0 __asm__("r0") = what;
-    register const void *r1 __asm__("r1") = words;
-    __asm__ volatile("bkpt 0xab" : "+r"(r0) : "r"(r1) : "memory");
-    return r0;
-}
-static int32_t opened(const char *name, uint32_t mode) {
-    uintptr_t words[] = {(uintptr_t)name, mode, strcmp(name, "answers") ? 9 : 7};
-    return host(1, words);
-}
 static int32_t questions, answers;
-static int take(void *at, uint32_t count) {
-    uintptr_t words[] = {(uintptr_t)questions, (uintptr_t)at, count};
-    return host(6, words) == 0;
-}
+static int take(void *at, uint32_t count) { return host_all(HOST_READ, questions, at, count); }
 static void put(const void *at, uint32_t count) {
-    uintptr_t words[] = {(uintptr_t)answers, (uintptr_t)at, count};
-    if (host(5, words) != 0) host(24, NULL);
+    if (!host_all(HOST_WRITE, answers, at, count)) host_end(1);
 }
 
 // A timer of the board, counting down at 25 MHz, which is 40 ns a tick: with `-icount shift=6` an instruction takes 64 ns, and 5 instructions 8 ticks.
@@ -211,10 +136,9 @@ static int answer_all(void) {
 
 #ifdef __arm__
 static void start(void) {
-    questions = opened("questions", 1);
-    answers = opened("answers", 5);
-    int failed = questions < 0 || answers < 0 || answer_all();
-    host(24, (const void *)(failed ? 0x20023 : 0x20026)); // an error, or the program's end
+    questions = host_open("questions", HOST_READS);
+    answers = host_open("answers", HOST_WRITES);
+    host_end(questions < 0 || answers < 0 || answer_all());
 }
 __attribute__((section(".vectors"), used)) static void *const vectors[] = {stack + sizeof stack / sizeof stack[0], (void *)start};
 #else

@@ -1,11 +1,9 @@
-//! Links the static library that `rt staticlib abi` writes.
-use std::path::Path;
+//! Links the library, and takes the declarations of its functions from their source, each with its recording.
+#[path = "../tools/build.rs"]
+mod build;
 
 fn main() {
-    let folder = Path::new(env!("CARGO_MANIFEST_DIR")).join("../target/staticlib");
-    let library = folder.join("libabi.a");
-    println!("cargo:rerun-if-changed={}", library.display());
-    println!("cargo:rustc-link-search=native={}", folder.display());
-    println!("cargo:rustc-link-lib=static=abi");
-    assert!(library.exists(), "{}: run `rt staticlib abi` first", library.display());
+    let top = std::path::Path::new(env!("CARGO_MANIFEST_DIR")).join("..");
+    build::link(&top);
+    build::declare(&top, "recorder");
 }

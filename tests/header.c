@@ -40,7 +40,7 @@ static int32_t low[ANALYSER_MAX_CHANNELS], high[ANALYSER_MAX_CHANNELS], least, l
 static uint64_t below[ANALYSER_SET_WORDS], above[ANALYSER_SET_WORDS];
 static int32_t subtotals[ANALYSER_MAX_NODES], total;
 static uint8_t input[9 + sizeof drawing_a], text[ANALYSER_KEY_TEXT_BYTES], dimacs[ANALYSER_DIMACS_BYTES];
-static size_t length;
+static analyser_length length;
 
 static void untouched(void) {
     nodes = channels = outer = size = place = UNTOUCHED;
@@ -67,7 +67,8 @@ static void set_three(int32_t first, int32_t second, int32_t third) {
 }
 
 // Least and largest on a sheet, with slices of these lengths: all that it may write, and one element more of each slice than drawing A needs.
-static void least_and_largest(const char *name, const uint8_t *bytes, size_t bytes_length, uint16_t headgate, uint16_t outfall, const size_t lengths[4]) {
+static void least_and_largest(const char *name, const uint8_t *bytes, analyser_length bytes_length, uint16_t headgate, uint16_t outfall,
+                              const analyser_length lengths[4]) {
     untouched();
     int result = analyser_least_and_largest(bytes, bytes_length, headgate, outfall, low, lengths[0], below, lengths[1], high, lengths[2], above, lengths[3], &flag,
                                             &least, &largest, &place);
@@ -79,7 +80,8 @@ static void least_and_largest(const char *name, const uint8_t *bytes, size_t byt
 }
 
 // Totals by node of a sheet, of one word and with slices of these lengths; places past the subtotals of drawing B's three nodes too.
-static void totals(const char *name, const uint8_t *bytes, size_t bytes_length, uint64_t word, size_t set_length, size_t subtotals_length) {
+static void totals(const char *name, const uint8_t *bytes, analyser_length bytes_length, uint64_t word, analyser_length set_length,
+                   analyser_length subtotals_length) {
     untouched();
     set[0] = word;
     int result = analyser_totals(bytes, bytes_length, set, set_length, subtotals, subtotals_length, &total, &place);
@@ -89,7 +91,7 @@ static void totals(const char *name, const uint8_t *bytes, size_t bytes_length, 
 }
 
 // A practice sheet in an output of this length: the number of bytes, the first ones, each forward limit and the bytes behind the sheet.
-static void practice(const char *name, uint16_t rows, uint16_t columns, uint32_t seed, size_t room) {
+static void practice(const char *name, uint16_t rows, uint16_t columns, uint32_t seed, analyser_length room) {
     untouched();
     memset(sheet, UNTOUCHED, sizeof sheet);
     int result = analyser_practice_sheet(rows, columns, seed, sheet, room, &length, &place);
@@ -100,8 +102,8 @@ static void practice(const char *name, uint16_t rows, uint16_t columns, uint32_t
 }
 
 // Raise limit on drawing A with slices of these lengths: all that it may write, and one element more of each slice than drawing A needs.
-static void raise_limit(const char *name, size_t bytes_length, uint16_t headgate, uint16_t outfall, int32_t delivery, uint16_t channel, size_t settings_length,
-                        size_t set_length) {
+static void raise_limit(const char *name, analyser_length bytes_length, uint16_t headgate, uint16_t outfall, int32_t delivery, uint16_t channel,
+                        analyser_length settings_length, analyser_length set_length) {
     untouched();
     int result = analyser_raise_limit(drawing_a, bytes_length, headgate, outfall, delivery, channel, settings, settings_length, set, set_length, &flag, &value,
                                       &place);
@@ -114,8 +116,8 @@ static void raise_limit(const char *name, size_t bytes_length, uint16_t headgate
 // drawing A needs. The limits stand in low.
 static const uint8_t capture[] = {5, 1, 0, 0, 0, 0, 0, 3, 0, 0, 0, 5, 1, 0, 0, 0, 1, 0, 2, 0, 0, 0, 5, 5, 0, 0, 0, 0, 0, 2, 0, 0, 0};
 
-static void largest_after(const char *name, size_t bytes_length, size_t capture_length, uint16_t window, uint64_t named, uint16_t headgate, uint16_t outfall,
-                          size_t limits_length, size_t settings_length, size_t set_length) {
+static void largest_after(const char *name, analyser_length bytes_length, analyser_length capture_length, uint16_t window, uint64_t named, uint16_t headgate,
+                          uint16_t outfall, analyser_length limits_length, analyser_length settings_length, analyser_length set_length) {
     untouched();
     int result = analyser_largest_after(drawing_a, bytes_length, capture, capture_length, window, named, headgate, outfall, low, limits_length, settings,
                                         settings_length, set, set_length, &flag, &value, &place);
@@ -125,7 +127,7 @@ static void largest_after(const char *name, size_t bytes_length, size_t capture_
     ended();
 }
 
-static void write_dimacs(const char *name, const uint8_t *bytes, size_t bytes_length, uint16_t headgate, uint16_t outfall, size_t room) {
+static void write_dimacs(const char *name, const uint8_t *bytes, analyser_length bytes_length, uint16_t headgate, uint16_t outfall, analyser_length room) {
     untouched();
     memset(dimacs, '#', sizeof dimacs);
     int result = analyser_write_dimacs(bytes, bytes_length, headgate, outfall, dimacs, room, &length, &place);
@@ -137,13 +139,14 @@ static void write_dimacs(const char *name, const uint8_t *bytes, size_t bytes_le
 }
 
 // A page on drawing A, of so many of these questions, with slices of these lengths: 6 can, 13 cannot, no such node, ends equal, out of range.
-static void page(const char *name, const uint8_t *bytes, size_t bytes_length, size_t count, size_t settings_length, size_t sets_length) {
+static void page(const char *name, const uint8_t *bytes, analyser_length bytes_length, analyser_length count, analyser_length settings_length,
+                 analyser_length sets_length) {
     static const uint16_t headgates[ANALYSER_PAGE_QUESTIONS] = {0, 0, 2, 1, 0}, outfalls[ANALYSER_PAGE_QUESTIONS] = {1, 1, 1, 1, 1};
     static const int32_t deliveries[ANALYSER_PAGE_QUESTIONS] = {6, 13, 6, 6, 600000001};
     static uint8_t answers[ANALYSER_PAGE_QUESTIONS];
     static uint16_t sizes[ANALYSER_PAGE_QUESTIONS];
     untouched();
-    for (int i = 0; i < ANALYSER_PAGE_QUESTIONS; i++) answers[i] = sizes[i] = UNTOUCHED;
+    for (int i = 0; i < ANALYSER_PAGE_QUESTIONS; i++) answers[i] = UNTOUCHED, sizes[i] = UNTOUCHED;
     int result = analyser_page(bytes, bytes_length, count, headgates, outfalls, deliveries, settings, settings_length, set, sets_length, answers, sizes, &place);
     printf("page %s %d: answers", name, result);
     for (int i = 0; i < 6; i++) printf(" %d", answers[i]);
@@ -156,8 +159,8 @@ static void page(const char *name, const uint8_t *bytes, size_t bytes_length, si
 }
 
 // A class on a drawing with slices of these lengths: the first papers are those of drawing A or drawing B, in two channels or three to a paper.
-static void examine(const char *name, const uint8_t *bytes, size_t bytes_length, uint16_t headgate, uint16_t outfall, int32_t delivery, const int32_t *given,
-                    const uint64_t *sets, const size_t lengths[5]) {
+static void examine(const char *name, const uint8_t *bytes, analyser_length bytes_length, uint16_t headgate, uint16_t outfall, int32_t delivery,
+                    const int32_t *given, const uint64_t *sets, const analyser_length lengths[5]) {
     static const int32_t claims[ANALYSER_CLASS_PAPERS + 1] = {12, 12, 12, 13};
     static const uint8_t kinds[4] = {0, 0, ANALYSER_CLAIMS_NONE, 0}, none[4] = {ANALYSER_CLAIMS_NONE, ANALYSER_CLAIMS_NONE, 0, 0};
     uint8_t points[5] = {UNTOUCHED, UNTOUCHED, UNTOUCHED, UNTOUCHED, UNTOUCHED}, low_points = UNTOUCHED, high_points = UNTOUCHED;
@@ -194,7 +197,7 @@ static void show_session(void) {
     ended();
 }
 
-static void start(const char *name, const uint8_t *bytes, size_t bytes_length) {
+static void start(const char *name, const uint8_t *bytes, analyser_length bytes_length) {
     untouched();
     int result = analyser_start(session, bytes, bytes_length, &place);
     printf("start %s %d", name, result);
@@ -202,7 +205,8 @@ static void start(const char *name, const uint8_t *bytes, size_t bytes_length) {
 }
 
 // The settings written are spoilt behind the call: the offer is the session's.
-static void ask(const char *name, uint16_t party, uint16_t headgate, uint16_t outfall, int32_t delivery, size_t settings_length, size_t set_length) {
+static void ask(const char *name, uint16_t party, uint16_t headgate, uint16_t outfall, int32_t delivery, analyser_length settings_length,
+                analyser_length set_length) {
     untouched();
     int result = analyser_ask(session, party, headgate, outfall, delivery, settings, settings_length, set, set_length, &flag, &size, &place);
     printf("ask of %d, %s %d: can %d, size %d, set %d", party, name, result, flag, size, (int)set[0]);
@@ -230,8 +234,8 @@ int main(void) {
     // the settings and sets of four papers on drawing A, and of three on drawing B
     static const int32_t of_a[12] = {0, 2, 4, 5, 3, 4, 0, 2, 4, 0, 2, 5}, of_b[6] = {0, 0, 0, 0, 0, 0};
     static const uint64_t sets_a[4] = {1, 2, ~(uint64_t)2, 3}, sets_b[3] = {4, 1, 4};
-    static const size_t four[5] = {4, 4, 12, 4, 4}, three[5] = {3, 3, 6, 3, 3}, no_papers[5] = {0, 0, 0, 0, 0}, too_many[5] = {1001, 4, 12, 4, 4};
-    static const size_t too_short[4][5] = {{4, 3, 12, 4, 4}, {4, 4, 11, 4, 4}, {4, 4, 12, 3, 4}, {4, 4, 12, 4, 3}};
+    static const analyser_length four[5] = {4, 4, 12, 4, 4}, three[5] = {3, 3, 6, 3, 3}, no_papers[5] = {0, 0, 0, 0, 0}, too_many[5] = {1001, 4, 12, 4, 4};
+    static const analyser_length too_short[4][5] = {{4, 3, 12, 4, 4}, {4, 4, 11, 4, 4}, {4, 4, 12, 3, 4}, {4, 4, 12, 4, 3}};
 
     untouched();
     result = analyser_read(drawing_a, sizeof drawing_a, tails, ANALYSER_MAX_DARTS, turns, ANALYSER_MAX_DARTS, limits, ANALYSER_MAX_DARTS, &nodes, &channels,
@@ -282,7 +286,7 @@ int main(void) {
     numbers("settings", settings, 4);
     ended();
 
-    static const size_t enough[4] = {ANALYSER_MAX_CHANNELS, ANALYSER_SET_WORDS, ANALYSER_MAX_CHANNELS, ANALYSER_SET_WORDS};
+    static const analyser_length enough[4] = {ANALYSER_MAX_CHANNELS, ANALYSER_SET_WORDS, ANALYSER_MAX_CHANNELS, ANALYSER_SET_WORDS};
     least_and_largest("A", drawing_a, sizeof drawing_a, 0, 1, enough);
     least_and_largest("A back", drawing_a, sizeof drawing_a, 1, 0, enough);
     least_and_largest("B", drawing_b, sizeof drawing_b, 0, 1, enough);
@@ -377,7 +381,7 @@ int main(void) {
     ended();
 
     // its refusals, each beside the next in order: a sheet check with an end that is no node, that end twice, equal ends with slices too short, each slice
-    static const size_t short_slices[5][4] = {{2, 0, 2, 0}, {2, 1, 3, 1}, {3, 0, 3, 1}, {3, 1, 2, 1}, {3, 1, 3, 0}};
+    static const analyser_length short_slices[5][4] = {{2, 0, 2, 0}, {2, 1, 3, 1}, {3, 0, 3, 1}, {3, 1, 2, 1}, {3, 1, 3, 0}};
     least_and_largest("cut short", drawing_a, sizeof drawing_a - 1, 2, 1, enough);
     least_and_largest("no such node", drawing_a, sizeof drawing_a, 2, 2, enough);
     least_and_largest("ends equal", drawing_a, sizeof drawing_a, 1, 1, short_slices[0]);
@@ -509,5 +513,6 @@ int main(void) {
     session->limits[1] = INT32_MIN;
     clear("to limits that are none");
     ask("on limits that are none", 0, 0, 1, 6, 3, 1);
+    printf("in words: 0 %s, 14 %s, 11 %s\n", analyser_refusal_text(0), analyser_refusal_text(14), analyser_refusal_text(11));
     return 0;
 }

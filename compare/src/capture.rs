@@ -1,11 +1,13 @@
 //! Limits from a capture (document 02, Job 10), against a model that keeps every record in a list: the window is a part of the list, its least the least of those
 //! of a channel, and what is largest on the limits found is decided by the other solver. Deliberate faults change what the library is given or what it gave.
+use crate::abi::analyser_largest_after;
 use crate::chance::Chance;
 use crate::check::{Tally, Wrong};
+use crate::damage;
 use crate::drawing::Drawing;
 use crate::flow::{carry, range};
 use crate::grow::grow;
-use crate::judge::objection;
+use crate::judge::{self, objection};
 use crate::levels::highest;
 
 /// The name under which the answers are counted.
@@ -31,29 +33,6 @@ pub const FAULTS: [CaptureFault; 10] = {
     use CaptureFault::*;
     [Latest, WindowLonger, WindowShorter, AfterUnchecked, EqualTicks, SheetKept, AnyFound, EndsFirst, LimitsOfNone, LimitsOnRefusal]
 };
-
-#[rustfmt::skip]
-extern "C" {
-    fn analyser_largest_after(
-        sheet: *const u8,
-        sheet_length: usize,
-        capture: *const u8,
-        capture_length: usize,
-        window: u16,
-        named: u64,
-        source: u16,
-        sink: u16,
-        limits: *mut i32,
-        limits_length: usize,
-        flows: *mut i32,
-        flows_length: usize,
-        set: *mut u64,
-        set_length: usize,
-        found: *mut u8,
-        value: *mut i32,
-        place: *mut u16,
-    ) -> u8;
-}
 
 #[derive(Clone, Debug)]
 struct Asked {
@@ -117,8 +96,9 @@ fn records_of(bytes: &[u8], edges: usize) -> (Vec<Record>, Option<u8>) {
     (records, None)
 }
 
-/// The drawing with the limits found, or the refusal that is due; the sheet itself is right.
-fn due(drawing: &Drawing, asked: &Asked, given: &Given) -> Result<Drawing, u8> {
+/// The drawing with the limits found, or the refusal that is due.
+fn due(asked: &Asked, given: &Given) -> Result<Drawing, u8> {
+    let drawing = judge::sheet(&asked.sheet).map_err(|refusal| refusal.number)?;
     if !(1..=256).contains(&asked.window) || asked.named >= (asked.capture.len() / RECORD) as u64 {
         return Err(26);
     }
@@ -228,8 +208,8 @@ fn faulty(fault: CaptureFault, drawing: &Drawing, asked: &Asked, before: &Given,
 }
 
 /// What is wrong with an answer, if something is.
-fn objections(drawing: &Drawing, asked: &Asked, before: &Given, result: u8, after: &Given) -> Option<String> {
-    let found = match due(drawing, asked, before) {
+fn objections(asked: &Asked, before: &Given, result: u8, after: &Given) -> Option<String> {
+    let found = match due(asked, before) {
         Err(number) => {
             let left = Given { place: 0, ..before.clone() };
             return (result != number || *after != left).then(|| format!("refusal {number} is due, {result} was given, or a slice was changed"));
@@ -239,7 +219,7 @@ fn objections(drawing: &Drawing, asked: &Asked, before: &Given, result: u8, afte
     if result != 0 {
         return Some(format!("an answer is due, {result} was given"));
     }
-    let (source, sink, edges, words) = (asked.source as usize, asked.sink as usize, drawing.edges(), drawing.words());
+    let (source, sink, edges, words) = (asked.source as usize, asked.sink as usize, found.edges(), found.words());
     let mut left = before.clone();
     for edge in 0..edges {
         left.limits[edge] = found.capacities[2 * edge];
@@ -301,17 +281,17 @@ fn capture(chance: &mut Chance, drawing: &Drawing) -> Vec<u8> {
     bytes
 }
 
-/// One drawing with some captures, compared; with a fault, what the faulty library says.
+/// One drawing with some captures, the last on a damaged sheet, compared; with a fault, what the faulty library says.
 pub fn compare(fault: Option<CaptureFault>, seed: u64, number: u64, tally: &mut Tally) -> Result<(), Wrong> {
     let mut chance = Chance::new(seed ^ 0xca97, number);
     let grown = grow(&mut chance, number);
     let drawing = &grown.drawing;
-    for _ in 0..3 {
+    for which in 0..4 {
         let bytes = capture(&mut chance, drawing);
         let whole = bytes.len() / RECORD;
         let widest = if chance.one_in(4) { 256 } else { 6 };
         let mut asked = Asked {
-            sheet: drawing.bytes(),
+            sheet: if which < 3 { drawing.bytes() } else { damage::bytes(&mut chance, drawing) },
             window: if chance.one_in(16) { chance.pick(&[0, 257, 65535]) } else { 1 + chance.below(widest) as u16 },
             named: if chance.one_in(16) { whole as u64 + chance.next() % 3 } else { chance.below(whole.max(1)) as u64 },
             capture: bytes,
@@ -339,7 +319,7 @@ pub fn compare(fault: Option<CaptureFault>, seed: u64, number: u64, tally: &mut 
             Some(fault) => faulty(fault, drawing, &asked, &before, &mut after),
             None => call(&asked, &mut after),
         };
-        if let Some(text) = objections(drawing, &asked, &before, result, &after) {
+        if let Some(text) = objections(&asked, &before, result, &after) {
             return Err(Wrong(format!("seed {seed}, drawing {number}, {NAME}: {text}\n{asked:?}\n{}", drawing.text())));
         }
         let answer = if result != 0 { "" } else { ["none", "value"][after.found as usize] };
@@ -360,7 +340,8 @@ mod tests {
                 panic!("{text}");
             }
         }
-        for due in [(0, "value"), (0, "none"), (1, ""), (2, ""), (6, ""), (7, ""), (13, ""), (14, ""), (16, ""), (25, ""), (26, ""), (27, "")] {
+        let refusals = [1, 2, 3, 4, 5, 6, 7, 8, 9, 10, 12, 13, 14, 16, 24, 25, 26, 27].map(|number| (number, ""));
+        for due in refusals.into_iter().chain([(0, "value"), (0, "none")]) {
             assert!(tally.answers.contains_key(&(NAME, due.0, due.1)), "no {due:?}");
         }
     }

@@ -1,15 +1,19 @@
 //! Compares the analyser's C interface with an independent flow solver, on random flat drawings and damaged sheets, and plays sessions of two parties on them:
 //! against a model that keeps lists, and in pairs of runs that a party must not be able to tell apart.
 //!
-//!     compare [--seed N] [--count N | --seconds N] [--from N] [--sheets FOLDER] [--questions FOLDER [--program PATH]] [--fault NAME]
+//!     compare [--seed N] [--count N | --seconds N] [--from N] [--sheets FOLDER] [--questions FOLDER [--program PATH]] [--fault NAME] [--corpus FILE]
 //!
 //! --sheets compares the sheets of a folder first: its file cases.txt has a line for each, with its name, counts, ends and largest value (see bench/sheets).
 //! --questions runs the program key on the files *.question of a folder, and compares what it prints; files *.page are pages, with their answers.
+//! --corpus writes every call of the library with what it was lent and left, for tests/machines.
 //! The same seed and count give the same run. A drawing is made from the seed and its number alone: --from N begins with that number. --fault shows how a
 //! deliberate fault is caught (any other word lists them). It ends with 'N compared, 0 wrong' and status 0, or with the drawing and the difference and status 1.
+#[allow(dead_code)]
+mod abi;
 mod capture;
 mod chance;
 mod check;
+mod corpus;
 mod damage;
 mod dimacs;
 mod drawing;
@@ -48,9 +52,11 @@ struct Switches {
     program: String,
     fault: Option<Fault>,
     capture_fault: Option<CaptureFault>,
+    corpus: Option<String>,
 }
 
-const USAGE: &str = "compare [--seed N] [--count N | --seconds N] [--from N] [--sheets FOLDER] [--questions FOLDER [--program PATH]] [--fault NAME]";
+const USAGE: &str =
+    "compare [--seed N] [--count N | --seconds N] [--from N] [--sheets FOLDER] [--questions FOLDER [--program PATH]] [--fault NAME] [--corpus FILE]";
 
 fn switches() -> Result<Switches, String> {
     let mut switches = Switches {
@@ -63,6 +69,7 @@ fn switches() -> Result<Switches, String> {
         program: "target/bin/key".to_string(),
         fault: None,
         capture_fault: None,
+        corpus: None,
     };
     let words: Vec<String> = std::env::args().skip(1).collect();
     for pair in words.chunks(2) {
@@ -76,6 +83,7 @@ fn switches() -> Result<Switches, String> {
             "--questions" => switches.questions = Some(value.clone()),
             "--program" => switches.program = value.clone(),
             "--sheets" => switches.sheets = Some(value.clone()),
+            "--corpus" => switches.corpus = Some(value.clone()),
             "--fault" => match capture::FAULTS.into_iter().find(|fault| format!("{fault:?}") == *value) {
                 Some(fault) => switches.capture_fault = Some(fault),
                 None => switches.fault = Some(fault(value)?),
@@ -100,6 +108,10 @@ fn main() -> ExitCode {
         }
     };
     println!("seed {}", switches.seed);
+    if let Some(Err(error)) = switches.corpus.as_deref().map(corpus::begin) {
+        eprintln!("{}: {error}", switches.corpus.unwrap_or_default());
+        return ExitCode::from(2);
+    }
     let library = Library { fault: switches.fault };
     let mut tally = Tally::default();
     let mut kept = switches.sheets.iter().try_for_each(|folder| stored(&library, folder, &mut tally));
@@ -140,6 +152,15 @@ fn main() -> ExitCode {
             switches.seed,
             switches.first
         );
+    }
+    if let Some(path) = &switches.corpus {
+        match corpus::end() {
+            Ok(calls) => println!("{path}: {calls} calls"),
+            Err(error) => {
+                eprintln!("{path}: {error}");
+                return ExitCode::from(2);
+            }
+        }
     }
     println!("{} compared, 0 wrong", tally.compared());
     ExitCode::SUCCESS

@@ -1,6 +1,7 @@
 //! Sessions that two parties share (document 02, Jobs 11 and 12): long random sequences of calls against a model that keeps lists. The model knows the drawing,
 //! the flows of every commit of either party since the last clear, and where each party stands, with its offer; it has no limits left, but adds the lists up for
 //! each question. Values that no start gave stand among the sessions: of those the model knows what the fields say, and that a refusal changes nothing.
+use crate::abi::{analyser_session_ask, analyser_session_clear, analyser_session_commit, analyser_session_start};
 use crate::chance::Chance;
 use crate::damage;
 use crate::drawing::Drawing;
@@ -72,19 +73,6 @@ impl Call {
             Call::Clear => "Clear",
         }
     }
-}
-
-#[rustfmt::skip]
-extern "C" {
-    fn analyser_session_start(sheet: *const u8, sheet_length: usize, nodes: *mut u16, edges: *mut u16, outer: *mut u16, tails: *mut u16, rotations: *mut u16,
-        limits: *mut i32, left: *mut i32, standing: *mut u8, first: *const i32, second: *const i32, place: *mut u16) -> u8;
-    fn analyser_session_ask(party: u16, nodes: u16, edges: u16, outer: u16, tails: *const u16, rotations: *const u16, limits: *const i32, left: *const i32,
-        standing: *mut u8, first: *mut i32, second: *mut i32, source: u16, sink: u16, value: i32, flows: *mut i32, flows_length: usize, set: *mut u64,
-        set_length: usize, can: *mut u8, size: *mut u16, place: *mut u16) -> u8;
-    fn analyser_session_commit(party: u16, nodes: u16, edges: u16, outer: u16, tails: *const u16, rotations: *const u16, limits: *const i32, left: *mut i32,
-        standing: *mut u8, first: *const i32, second: *const i32, place: *mut u16) -> u8;
-    fn analyser_session_clear(nodes: u16, edges: u16, outer: u16, tails: *const u16, rotations: *const u16, limits: *const i32, left: *mut i32,
-        standing: *mut u8, first: *const i32, second: *const i32);
 }
 
 const FENCE: [u64; 8] = [0xa5a5_a5a5_a5a5_a5a5; 8];

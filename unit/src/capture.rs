@@ -1,5 +1,6 @@
 //! A capture of the recorder (document 02, Job 10): as its bytes, or as text with a line `TICK CHANNEL LIMIT` for each record. The limits after a record, and
 //! Largest on them.
+use crate::abi::analyser_largest_after;
 use crate::answer::{number, refusal_json, Answer, Outcome};
 use crate::commands::{ends_of, largest_of, none, spaced};
 use crate::json::Json;
@@ -31,13 +32,6 @@ fn parse(file: &File) -> Parsed<Vec<u8>> {
         bytes.extend((fields[2] as i32).to_le_bytes());
     }
     Ok(bytes)
-}
-
-#[rustfmt::skip]
-extern "C" {
-    fn analyser_largest_after(sheet: *const u8, sheet_length: usize, capture: *const u8, capture_length: usize, window: u16, named: u64, headgate: u16,
-                              outfall: u16, limits: *mut i32, limits_length: usize, settings: *mut i32, settings_length: usize, set: *mut u64,
-                              set_length: usize, found: *mut u8, value: *mut i32, place: *mut u16) -> u8;
 }
 
 /// The forward limits after a record, and Largest on them.

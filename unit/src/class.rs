@@ -1,5 +1,6 @@
 //! A class of papers (document 02, Job 14), one to a line: `NAME: SETTING .. | CLAIM | NODE ..`, with a setting for each channel; the claim is a number or `none`;
 //! the set may have no node. Its points.
+use crate::abi::analyser_examine;
 use crate::answer::{number, Answer, Outcome};
 use crate::commands::ends_of;
 use crate::json::Json;
@@ -46,14 +47,6 @@ fn paper(line: &Line, channels: usize) -> Parsed<Paper> {
     let settings = settings.iter().map(|word| Ok(line.parsed(&SETTING, word)? as i32)).collect::<Parsed<Vec<i32>>>()?;
     let nodes = nodes.iter().map(|word| Ok(line.parsed(&NODE, word)? as u16)).collect::<Parsed<Vec<u16>>>()?;
     Ok(Paper { name: name.trim().to_string(), settings, claim, set: words_of(&nodes) })
-}
-
-#[rustfmt::skip]
-extern "C" {
-    fn analyser_examine(sheet: *const u8, sheet_length: usize, headgate: u16, outfall: u16, delivery: i32, claims: *const i32, claims_length: usize,
-                        kinds: *const u8, kinds_length: usize, settings: *const i32, settings_length: usize, sets: *const u64, sets_length: usize,
-                        points: *mut u8, points_length: usize, number: *mut u16, sum: *mut u16, least: *mut u8, greatest: *mut u8,
-                        place: *mut u16) -> u8;
 }
 
 /// What a class comes to; without papers there is no least and no greatest.

@@ -1,5 +1,8 @@
 //! The proved library (include/analyser.h), one safe function to an operation; those of a module of their own stand there. Each lends as much room as the
 //! largest drawing needs, so that 16 is said only of what a caller gave. What was not written is told by a number that no answer has.
+use crate::abi::*;
+pub use crate::abi::SET_WORDS;
+
 #[derive(Clone, Copy, Debug, PartialEq)]
 pub struct Refusal {
     pub number: u8,
@@ -8,15 +11,6 @@ pub struct Refusal {
 
 pub type Told<T> = Result<T, Refusal>;
 
-const MAX_CHANNELS: usize = 512;
-const MAX_DARTS: usize = 1024;
-const MAX_FACES: usize = 1024;
-const MAX_NODES: usize = 513;
-pub const SET_WORDS: usize = 9;
-const PAGE: usize = 64;
-const SHEET_BYTES: usize = 8711;
-const KEY_TEXT_BYTES: usize = 6671;
-const DIMACS_BYTES: usize = 18463;
 
 /// No setting, level, limit or subtotal is this low.
 pub const UNWRITTEN: i32 = i32::MIN;
@@ -62,38 +56,6 @@ pub enum Answered {
     Can(Vec<i32>),
     Cannot { set: Vec<u64>, size: u16 },
     Refused(u8),
-}
-
-#[rustfmt::skip]
-extern "C" {
-    fn analyser_read(sheet: *const u8, sheet_length: usize, tails: *mut u16, tails_length: usize, turns: *mut u16, turns_length: usize, limits: *mut i32,
-                     limits_length: usize, nodes: *mut u16, channels: *mut u16, outer: *mut u16, place: *mut u16) -> u8;
-    fn analyser_write(nodes: u16, outer: u16, tails: *const u16, tails_length: usize, turns: *const u16, turns_length: usize, limits: *const i32,
-                      limits_length: usize, sheet: *mut u8, sheet_length: usize, length: *mut usize, place: *mut u16) -> u8;
-    fn analyser_solve(sheet: *const u8, sheet_length: usize, headgate: u16, outfall: u16, delivery: i32, settings: *mut i32, settings_length: usize,
-                      set: *mut u64, set_length: usize, can: *mut u8, size: *mut u16, place: *mut u16) -> u8;
-    fn analyser_largest(sheet: *const u8, sheet_length: usize, headgate: u16, outfall: u16, settings: *mut i32, settings_length: usize, set: *mut u64,
-                        set_length: usize, found: *mut u8, value: *mut i32, place: *mut u16) -> u8;
-    fn analyser_least_and_largest(sheet: *const u8, sheet_length: usize, headgate: u16, outfall: u16, low: *mut i32, low_length: usize, below: *mut u64,
-                                  below_length: usize, high: *mut i32, high_length: usize, above: *mut u64, above_length: usize, found: *mut u8,
-                                  least: *mut i32, largest: *mut i32, place: *mut u16) -> u8;
-    fn analyser_raise_limit(sheet: *const u8, sheet_length: usize, headgate: u16, outfall: u16, delivery: i32, channel: u16, settings: *mut i32,
-                            settings_length: usize, set: *mut u64, set_length: usize, found: *mut u8, limit: *mut i32, place: *mut u16) -> u8;
-    fn analyser_page(sheet: *const u8, sheet_length: usize, count: usize, headgates: *const u16, outfalls: *const u16, deliveries: *const i32,
-                     settings: *mut i32, settings_length: usize, sets: *mut u64, sets_length: usize, answers: *mut u8, sizes: *mut u16,
-                     place: *mut u16) -> u8;
-    fn analyser_mark(sheet: *const u8, sheet_length: usize, headgate: u16, outfall: u16, settings: *const i32, settings_length: usize, value: *mut i32,
-                     place: *mut u16) -> u8;
-    fn analyser_levels_from_settings(sheet: *const u8, sheet_length: usize, settings: *const i32, settings_length: usize, levels: *mut i32,
-                                     levels_length: usize, place: *mut u16) -> u8;
-    fn analyser_settings_from_levels(sheet: *const u8, sheet_length: usize, levels: *const i32, levels_length: usize, settings: *mut i32,
-                                     settings_length: usize, place: *mut u16) -> u8;
-    fn analyser_totals(sheet: *const u8, sheet_length: usize, set: *const u64, set_length: usize, subtotals: *mut i32, subtotals_length: usize,
-                       total: *mut i32, place: *mut u16) -> u8;
-    fn analyser_key_text(input: *const u8, input_length: usize, text: *mut u8, text_length: usize, length: *mut usize, place: *mut u16) -> u8;
-    fn analyser_practice_sheet(rows: u16, columns: u16, seed: u32, sheet: *mut u8, sheet_length: usize, length: *mut usize, place: *mut u16) -> u8;
-    fn analyser_write_dimacs(sheet: *const u8, sheet_length: usize, headgate: u16, outfall: u16, text: *mut u8, text_length: usize, length: *mut usize,
-                             place: *mut u16) -> u8;
 }
 
 /// A call by its place pointer: the answer that it left, or its refusal.
@@ -194,12 +156,12 @@ pub fn raise_limit(sheet: &[u8], ends: Ends, delivery: i32, channel: u16) -> Tol
 /// The stretches of question i begin at i times the channels and i times the words of a set. More than 64 questions are counted and not lent: 21 comes first.
 #[rustfmt::skip]
 pub fn page(sheet: &[u8], questions: &[(Ends, i32)]) -> Told<Vec<Answered>> {
-    let (mut headgates, mut outfalls, mut deliveries) = ([0; PAGE], [0; PAGE], [0; PAGE]);
-    for (i, &((headgate, outfall), delivery)) in questions.iter().take(PAGE).enumerate() {
+    let (mut headgates, mut outfalls, mut deliveries) = ([0; PAGE_QUESTIONS], [0; PAGE_QUESTIONS], [0; PAGE_QUESTIONS]);
+    for (i, &((headgate, outfall), delivery)) in questions.iter().take(PAGE_QUESTIONS).enumerate() {
         (headgates[i], outfalls[i], deliveries[i]) = (headgate, outfall, delivery);
     }
-    let (mut settings, mut sets) = (vec![UNWRITTEN; PAGE * MAX_CHANNELS], vec![0; PAGE * SET_WORDS]);
-    let (mut answers, mut sizes) = ([0; PAGE], [0; PAGE]);
+    let (mut settings, mut sets) = (vec![UNWRITTEN; PAGE_QUESTIONS * MAX_CHANNELS], vec![0; PAGE_QUESTIONS * SET_WORDS]);
+    let (mut answers, mut sizes) = ([0; PAGE_QUESTIONS], [0; PAGE_QUESTIONS]);
     told(|place| unsafe {
         analyser_page(sheet.as_ptr(), sheet.len(), questions.len(), headgates.as_ptr(), outfalls.as_ptr(), deliveries.as_ptr(),
             settings.as_mut_ptr(), settings.len(), sets.as_mut_ptr(), sets.len(), answers.as_mut_ptr(), sizes.as_mut_ptr(), place)

@@ -1,4 +1,9 @@
 //! Every operation of the unit as a command: `tools/unit --help`. Nothing is decided here: the proved library answers, and this shows it.
+/// The functions of the library and the lengths that go with them, declared by tools/bindings.
+#[allow(dead_code)]
+mod abi {
+    include!(concat!(env!("OUT_DIR"), "/abi.rs"));
+}
 mod answer;
 mod capture;
 mod class;

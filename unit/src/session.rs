@@ -1,5 +1,6 @@
 //! A session on a sheet that two parties share (document 02, Jobs 11 and 12), one call a line: `ask HEADGATE OUTFALL DELIVERY`, `commit`, `clear`. Before ask
 //! and commit may stand the party, as in `1 ask 0 6 5`; without it they are of party 0.
+use crate::abi::{analyser_session_ask, analyser_session_clear, analyser_session_commit, analyser_session_start, MAX_CHANNELS, MAX_DARTS};
 use crate::answer::{number, refusal_json, refusal_text, Answer, Outcome, View};
 use crate::commands::{delivers, ends_of, set_json, spaced};
 use crate::json::Json;
@@ -38,34 +39,18 @@ fn parse(file: &File) -> Parsed<Vec<Call>> {
     Ok(calls)
 }
 
-#[rustfmt::skip]
-extern "C" {
-    fn analyser_session_start(sheet: *const u8, sheet_length: usize, nodes: *mut u16, channels: *mut u16, outer: *mut u16, tails: *mut u16, turns: *mut u16,
-                              limits: *mut i32, left: *mut i32, standing: *mut u8, first: *const i32, second: *const i32, place: *mut u16) -> u8;
-    fn analyser_session_ask(party: u16, nodes: u16, channels: u16, outer: u16, tails: *const u16, turns: *const u16, limits: *const i32, left: *const i32,
-                            standing: *mut u8, first: *mut i32, second: *mut i32, headgate: u16, outfall: u16, delivery: i32, settings: *mut i32,
-                            settings_length: usize, set: *mut u64, set_length: usize, can: *mut u8, size: *mut u16, place: *mut u16) -> u8;
-    fn analyser_session_commit(party: u16, nodes: u16, channels: u16, outer: u16, tails: *const u16, turns: *const u16, limits: *const i32, left: *mut i32,
-                               standing: *mut u8, first: *const i32, second: *const i32, place: *mut u16) -> u8;
-    fn analyser_session_clear(nodes: u16, channels: u16, outer: u16, tails: *const u16, turns: *const u16, limits: *const i32, left: *mut i32,
-                              standing: *mut u8, first: *const i32, second: *const i32);
-}
-
-const DARTS: usize = 1024;
-const CHANNELS: usize = 512;
-
 /// The library's session: its fields are handed on and never changed here.
 struct Session {
     nodes: u16,
     channels: u16,
     outer: u16,
     standing: [u8; 2],
-    tails: [u16; DARTS],
-    turns: [u16; DARTS],
-    limits: [i32; DARTS],
-    left: [i32; DARTS],
-    first: [i32; CHANNELS],
-    second: [i32; CHANNELS],
+    tails: [u16; MAX_DARTS],
+    turns: [u16; MAX_DARTS],
+    limits: [i32; MAX_DARTS],
+    left: [i32; MAX_DARTS],
+    first: [i32; MAX_CHANNELS],
+    second: [i32; MAX_CHANNELS],
 }
 
 /// Where a party stands, by its number, in words for the text and for the JSON.
@@ -75,8 +60,8 @@ const STANDINGS: [(&str, &str); 4] = [("has no offer", "none"), ("has an offer",
 impl Session {
     fn start(sheet: &[u8]) -> Told<Session> {
         let mut new = Session {
-            nodes: 0, channels: 0, outer: 0, standing: [0; 2], tails: [0; DARTS], turns: [0; DARTS], limits: [0; DARTS], left: [0; DARTS],
-            first: [0; CHANNELS], second: [0; CHANNELS],
+            nodes: 0, channels: 0, outer: 0, standing: [0; 2], tails: [0; MAX_DARTS], turns: [0; MAX_DARTS], limits: [0; MAX_DARTS], left: [0; MAX_DARTS],
+            first: [0; MAX_CHANNELS], second: [0; MAX_CHANNELS],
         };
         told(|place| unsafe {
             analyser_session_start(sheet.as_ptr(), sheet.len(), &mut new.nodes, &mut new.channels, &mut new.outer, new.tails.as_mut_ptr(),
