@@ -73,7 +73,7 @@ static void page(void) {
                            sizes, &place);
 }
 // A class of the size that `value` says, each paper with the settings and the set that Largest gives, and its claim: read_sheet and largest_class come before.
-enum { FEW = 5, PAPERS = __STDC_HOSTED__ ? ANALYSER_CLASS_PAPERS : FEW }; // a controller holds few
+enum { FEW = 3, PAPERS = __STDC_HOSTED__ ? ANALYSER_CLASS_PAPERS : FEW }; // a controller holds few
 enum { CLASS_SETTINGS = PAPERS * ANALYSER_MAX_CHANNELS, CLASS_WORDS = PAPERS * ANALYSER_SET_WORDS };
 static int32_t class_claims[PAPERS], class_settings[CLASS_SETTINGS];
 static uint64_t class_sets[CLASS_WORDS];

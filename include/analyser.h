@@ -18,7 +18,7 @@
 // THE CALLER'S DUTIES, which nothing checks. A slice is a pointer and its length in elements. Each pointer is not null, also where the length is 0, is aligned
 // for its type, and points to as many initialised elements as the length says (one, for a pointer with no length), at most PTRDIFF_MAX bytes: a length above
 // what the memory holds is the caller's fault on every machine. Nothing that is lent as not const may overlap anything else that is lent to the same call, and
-// until the call returns no other thread writes what is lent, nor reads what is lent as not const. The stack has room for the call: 44 KiB is enough for every
+// until the call returns no other thread writes what is lent, nor reads what is lent as not const. The stack has room for the call: 50 KiB is enough for every
 // operation, and docs/MANUAL.md, "Memory and time on a controller", has the number of each.
 //
 // A SHEET is a head and then its channels in order, nothing after. Fields are little-endian; a limit is signed, in two's complement.
