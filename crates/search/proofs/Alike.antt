@@ -10,6 +10,8 @@ use lib.Dec.{eqb, ltb}
 use lib.ListN.{length, take, set}
 use lib.IntN.{ℤ, _+ℤ_}
 use lib.Signed.{_≤ℤ_, _<ℤ_}
+use Rattle.integers.specs.Sum.{Naturals, bit}
+use Rattle.integers.proofs.Sums.{sum-ext}
 use Rattle.integers.proofs.Tests.{ltb-false}
 use Rattle.maps.specs.Orbit.{iter}
 use Rattle.maps.proofs.Orbits.{iter-zero, iter-suc}
@@ -21,11 +23,11 @@ use Rattle.search.specs.Level.{HasLevel, far}
 use Rattle.search.specs.Queue.{Pushed}
 use Rattle.search.specs.Moves.{sensible, parentFrom, Begun, Relaxed}
 use Rattle.search.specs.Given.{Given, given, dual, InGroups}
-use Rattle.search.specs.Configuration.{Tables, Configuration, front}
+use Rattle.search.specs.Configuration.{Tables, tablesOf, Configuration, configuration, front}
 use Rattle.search.specs.Look.{Crosses, done, keep, lower, LookAt}
 use Rattle.search.specs.Straightening.{marked, Ascent, Follows, leaves, keeps, falls, Descends, down, upwardOf, Closes, Straightens, end, ring, next}
 use Rattle.search.specs.Straightening as straightening
-use Rattle.search.specs.Trace.{Step, look, straighten, Goes, stay, go, Ends, Searches}
+use Rattle.search.specs.Trace.{Step, look, straighten, Goes, stay, go, Ends, firstLooks, start, Searches}
 use Rattle.search.specs.declared.Outcome.{Outcome}
 use Rattle.search.specs.declared.Outcome.the-variants as outcome
 use Rattle.search.specs.declared.Straightened.{Straightened}
@@ -110,6 +112,13 @@ module _ {darts faces : ℕ} {lefts lefts' : List ℕ} {lengths lengths' : List 
       by : Dec (p < darts) → (ltb p darts && eqb (at lefts p) f) ≡ (ltb p darts && eqb (at lefts' p) f)
       by (yes l) = ap (λ x. ltb p darts && eqb x f) (α .same-lefts p l)
       by (no n) = rw (ltb-false p darts (omega (arith, n)))
+
+  start-alike : (proposal : List ℕ) (ρ : List ℤ) (parents waiting queue : List ℕ) (roots : ℕ)
+      → start G proposal ρ parents waiting queue roots ≡ start G' proposal ρ parents waiting queue roots
+  start-alike proposal ρ parents waiting queue roots =
+      ap (λ n. configuration (tablesOf ρ parents waiting queue roots) 0 (firstLooks faces n))
+      (sum-ext Naturals faces (λ f. bit (sensible lefts darts f (at proposal f))) (λ f. bit (sensible lefts' darts f (at proposal f)))
+      (λ f l. ap bit (sensible-alike f (at proposal f))))
 
   begun-alike : {proposal : List ℕ} {ρ : List ℤ} {parents waiting queue : List ℕ} {roots : ℕ} → Begun lefts darts faces proposal ρ parents waiting queue roots
       → Begun lefts' darts faces proposal ρ parents waiting queue roots
@@ -235,7 +244,7 @@ module _ {darts faces : ℕ} {lefts lefts' : List ℕ} {lengths lengths' : List 
         (sound : WellFormed (dual G (take roots queue))) (joined : Joined (dual G (take roots queue))) where
       pub searches-alike : {proposal : List ℕ} {ρ : List ℤ} {parents : List ℕ} {o : Outcome} → Searches G queue roots proposal ρ parents o
           → Searches G' queue roots proposal ρ parents o
-      searches-alike {o = o} s =
+      searches-alike {proposal} {o = o} s =
           let r = start-passing G queue roots size few sound joined γ (s .begun) in
           record {
             first-potentials = s .first-potentials;
@@ -243,7 +252,8 @@ module _ {darts faces : ℕ} {lefts lefts' : List ℕ} {lengths lengths' : List 
             first-waiting = s .first-waiting;
             begun = begun-alike (s .begun);
             end = s .end;
-            run = goes-alike (take roots queue) sound r (s .run);
+            run = subst (λ c. Goes G' c (s .end)) (start-alike proposal (s .first-potentials) (s .first-parents) (s .first-waiting) queue roots)
+                (goes-alike (take roots queue) sound r (s .run));
             left = s .left;
             ended = ends-alike (take roots queue) sound (s .end) (goes-passing G (take roots queue) sound γ r (s .run)) (s .left) o (s .ended);
             potentials-are = s .potentials-are;

@@ -172,18 +172,18 @@ module _ {lefts : List ℕ} {darts faces : ℕ} {proposal queue : List ℕ} {roo
       by f k n (yes l) = b .proposed f l n ∙ sym (c .proposed f l n)
       by f k n (no l) = let m : faces ≤ f = omega (arith, l) in b .beyond f m k n ∙ sym (c .beyond f m k n)
 
-  begun-one : start ρ parents waiting queue roots ≡ start ρ' parents' waiting' queue roots
-  begun-one =
-      ap (λ x. start x parents waiting queue roots) begun-potentials
-      ∙ ap (λ x. start ρ' x waiting queue roots) begun-parents
-      ∙ ap (λ x. start ρ' parents' x queue roots) begun-waiting
+  begun-one : (G : Given) → start G proposal ρ parents waiting queue roots ≡ start G proposal ρ' parents' waiting' queue roots
+  begun-one G =
+      ap (λ x. start G proposal x parents waiting queue roots) begun-potentials
+      ∙ ap (λ x. start G proposal ρ' x waiting queue roots) begun-parents
+      ∙ ap (λ x. start G proposal ρ' parents' x queue roots) begun-waiting
 
 -- the same given, the same roots and proposal: the same answer, and the same potentials and parents left
 pub searches-one : {G : Given} {queue : List ℕ} {roots : ℕ} {proposal : List ℕ} {ρ ρ' : List ℤ} {parents parents' : List ℕ} {o p : Outcome}
     → Searches G queue roots proposal ρ parents o → Searches G queue roots proposal ρ' parents' p → (o ≡ p) × (ρ ≡ ρ') × (parents ≡ parents')
 searches-one {G} {o = o} {p = p} a b =
     let r =
-    goes-one (a .left) (b .left) o p (a .run) (a .ended) (subst (λ c. Goes G c (b .end)) (sym (begun-one (a .begun) (b .begun))) (b .run)) (b .ended) in (
+    goes-one (a .left) (b .left) o p (a .run) (a .ended) (subst (λ c. Goes G c (b .end)) (sym (begun-one (a .begun) (b .begun) G)) (b .run)) (b .ended) in (
       r .0,
       sym (a .potentials-are) ∙ ap (λ t. t .potentials) (r .1) ∙ b .potentials-are,
       sym (a .parents-are) ∙ ap (λ t. t .parents) (r .1) ∙ b .parents-are,

@@ -1,18 +1,20 @@
 -- What a search answers follows from how it goes: settled potentials, or a ring.
 use mathlib.Core.Path.{_≡_, _∙_, ap, subst}
+use mathlib.Core.Bool.{Bool, true, false, cond}
 use mathlib.Core.List.{List}
 use Prim.Native.Nat.{ℕ, _≤_}
 use native.Mathlib.Omega.{arith}
+use lib.Dec.{eqb}
 use lib.ListN.{length, take}
 use lib.IntN.{ℤ}
 use Rattle.arrays.specs.At.{atℤ}
 use Rattle.search.specs.Dual.{WellFormed, Joined}
 use Rattle.search.specs.inner.Settled.{Settled}
 use Rattle.search.specs.inner.Answer.{Answer}
-use Rattle.search.specs.Moves.{Begun}
+use Rattle.search.specs.Moves.{takenFrom, Begun}
 use Rattle.search.specs.Given.{Given, dual, InGroups}
 use Rattle.search.specs.Configuration.{Tables, Configuration}
-use Rattle.search.specs.Trace.{start, Ends, Searches}
+use Rattle.search.specs.Trace.{period, firstLooks, start, Ends, Searches}
 use Rattle.search.specs.declared.Outcome.{Outcome}
 use Rattle.search.specs.declared.Outcome.the-variants as outcome
 use Rattle.search.proofs.Reached.{settled}
@@ -41,13 +43,25 @@ module _ (G : Given) (roots : List ℕ) (sound : WellFormed (dual G roots)) wher
         (bound-few (G .faces) (c .left) (sound .few-faces))
         (swept-none (G .lefts) (G .lengths) (G .darts) (G .faces) roots sound (r .passing)) (h .1)
 
+first-in : (faces taken : ℕ) → firstLooks faces taken ≤ period faces
+first-in faces taken = by (eqb taken 0)
+  where
+    by : (b : Bool) → cond b (period faces) 0 ≤ period faces
+    by true = omega arith
+    by false = omega arith
+
 module _ (G : Given) (queue : List ℕ) (roots : ℕ) (size : length queue ≡ 1024) (few : roots ≤ 1024)
     (sound : WellFormed (dual G (take roots queue))) (joined : Joined (dual G (take roots queue))) (g : InGroups G) where
   -- the beginning
   pub start-passing : {proposal : List ℕ} {ρ : List ℤ} {parents waiting : List ℕ}
       → Begun (G .lefts) (G .darts) (G .faces) proposal ρ parents waiting queue roots
-      → PassingAt (dual G (take roots queue)) (start ρ parents waiting queue roots)
-  start-passing b = record { in-period = omega arith; passing = begun-passing G queue roots size few sound joined b (bound (G .faces) 0) }
+      → PassingAt (dual G (take roots queue)) (start G proposal ρ parents waiting queue roots)
+  start-passing {proposal} b =
+      let taken = takenFrom (G .lefts) (G .darts) (G .faces) proposal in
+      record {
+        in-period = first-in (G .faces) taken;
+        passing = begun-passing G queue roots size few sound joined b (bound (G .faces) (firstLooks (G .faces) taken));
+      }
 
   module _ {proposal : List ℕ} {potentials : List ℤ} {parents : List ℕ} {o : Outcome} (s : Searches G queue roots proposal potentials parents o) where
     at-end : PassingAt (dual G (take roots queue)) (s .end)

@@ -125,5 +125,18 @@ module _ {lefts : List ℕ} {lengths : List ℤ} {darts faces : ℕ} {start : Ta
           → Pass lefts lengths darts faces start (f + 1) marks' noted' u
       pass-met l {u} q = pass-next (subst (λ x. Descends lefts lengths g x count now u) (sym (from l)) q)
 
-      pub pass-none : count ≡ 0 → Pass lefts lengths darts faces start (f + 1) marks' noted' now
-      pass-none e = pass-next (subst (λ k. Descends lefts lengths g f k now now) (sym e) done)
+    -- where the ascent goes through no face it has not come round: f is not marked with f
+    pub pass-none : count ≡ 0 → Pass lefts lengths darts faces start (f + 1) marks' noted' now
+    unfolding marked
+    pass-none e = pass-next not-round (subst (λ k. Descends lefts lengths g f k now now) (sym e) done)
+      where
+        top-at : top ≡ f
+        top-at = a .top-is ∙ ap (λ k. iter g k f) e ∙ iter-zero g f
+
+        marks-at : marks' ≡ marks
+        marks-at = a .marks-are ∙ ap (λ k. marked g f k marks) e
+
+        not-round : at marks' top ≡ f → HasLevel (atℤ (now .potentials)) top → ⊥
+        not-round m has =
+            let q : at marks f ≡ f = ap (at marks) (sym top-at) ∙ ap (λ l. at l top) (sym marks-at) ∙ m in
+            omega (arith, q, h .swept .low f f-in (λ z. omega (arith, q, z, f-in, h .sound .few-faces)))

@@ -7,12 +7,17 @@ use lib.Dec.{eqb, ltb}
 use lib.ListN.{length, set}
 use lib.IntN.{ℤ, pos, _+ℤ_}
 use lib.Signed.{_≤ℤ_, _<ℤ_}
+use Rattle.integers.specs.Sum.{count}
 use Rattle.arrays.specs.At.{at, atℤ}
 use Rattle.search.specs.Level.{far}
 
 -- what is taken of a proposed parent p of the face f: a dart with f on its left, and nothing else; 1024 is no dart
 abbrev pub sensible : (lefts : List ℕ) (darts f p : ℕ) → Bool
 sensible lefts darts f p = ltb p darts && eqb (at lefts p) f
+
+-- how many faces have a parent of the proposal
+abbrev pub takenFrom : (lefts : List ℕ) (darts faces : ℕ) (proposal : List ℕ) → ℕ
+takenFrom lefts darts faces proposal = count faces (λ f. sensible lefts darts f (at proposal f))
 
 abbrev pub parentFrom : (lefts : List ℕ) (darts : ℕ) (proposal : List ℕ) (f : ℕ) → ℕ
 parentFrom lefts darts proposal f = cond (sensible lefts darts f (at proposal f)) (at proposal f) 1024

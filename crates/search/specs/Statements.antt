@@ -31,7 +31,7 @@ pub record ComesTo (G : Given) (queue : List ℕ) (roots : ℕ) (c : Configurati
   pub parents : List ℕ
   pub waiting : List ℕ
   pub begun : Begun (G .lefts) (G .darts) (G .faces) proposal potentials parents waiting queue roots
-  pub run : Goes G (start potentials parents waiting queue roots) c
+  pub run : Goes G (start G proposal potentials parents waiting queue roots) c
 
 -- what happened until then, the latest first
 abbrev pub past : {G : Given} {queue : List ℕ} {roots : ℕ} {c : Configuration} → ComesTo G queue roots c → List Event

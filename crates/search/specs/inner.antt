@@ -5,3 +5,4 @@ pub mod Settled
 pub mod Answer
 pub mod Progress
 pub mod Ascending
+pub mod Taking

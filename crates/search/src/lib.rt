@@ -21,14 +21,15 @@ ghost use Rattle.search.specs.Dual.{dualOf, WellFormed, Joined};
 ghost use Rattle.search.specs.Parents.{up};
 ghost use Rattle.search.specs.inner.Answer.{Answer};
 ghost use Rattle.search.specs.Queue.{Pushed};
-ghost use Rattle.search.specs.Moves.{sensible, parentFrom, Begun, Relaxed};
+ghost use Rattle.search.specs.Moves.{sensible, takenFrom, Begun, Relaxed};
 ghost use Rattle.search.specs.Given.{given};
 ghost use Rattle.search.specs.Configuration.{tablesOf};
 ghost use Rattle.search.specs.Look.{LookAt};
 ghost use Rattle.search.specs.Straightening.{unmarked, Follows, Descends, Closes, Straightens};
-ghost use Rattle.search.specs.Trace.{Searches};
+ghost use Rattle.search.specs.Trace.{firstLooks, Searches};
 ghost use Rattle.search.specs.inner.Progress.{Looking, Lowering, Straightening};
 ghost use Rattle.search.specs.inner.Ascending.{Ascended};
+ghost use Rattle.search.specs.inner.Taking.{Taking};
 ghost use Rattle.search.specs.Level.{far};
 
 // What stands in the place of a level where a face has none yet.
@@ -97,23 +98,25 @@ fn is_sensible(lefts: &[u16; 1024], darts: usize, f: usize, p: usize) -> bool
     p < darts && arrays::wide(lefts[p]) == f
 }
 
-// Of the proposed parents those stay that can be parents.
-fn take_parents(lefts: &[u16; 1024], darts: usize, faces: usize, parents: &mut [u16; 1024])
+// Of the proposed parents those stay that can be parents. Returns how many.
+fn take_parents(lefts: &[u16; 1024], darts: usize, faces: usize, parents: &mut [u16; 1024]) -> usize
     requires { ⌜ (length (now parents) ≡ 1024) × (darts ≤ 1024) × (faces ≤ 1024) ⌝ }
-    ensures { λ _. ⌜ (length (now (parents .exit)) ≡ 1024)
-        × ((f : ℕ) → f < faces → at (now (parents .exit)) f ≡ parentFrom (now (lefts .entry)) darts (now (parents .entry)) f)
-        × ((f : ℕ) → faces ≤ f → at (now (parents .exit)) f ≡ at (now (parents .entry)) f) ⌝ }
+    ensures { λ r. ⌜ Taking (now (lefts .entry)) darts (now (parents .entry)) faces (now (parents .exit)) r ⌝ }
 {
+    let mut taken: usize = 0;
     for f in 0..faces {
         let p = arrays::wide(parents[f]);
-        if !is_sensible(lefts, darts, f, p) {
+        if is_sensible(lefts, darts, f, p) {
+            taken += 1;
+        } else {
             parents[f] = 1024;
         }
     }
+    taken
 }
 
 // At first the roots, which stand at the first places of the queue, are at 0 and wait, without a parent; no other face has a level. Potentials and flags come
-// as new arrays are made, without levels and at rest: to fill them once more would cost as much as some looks.
+// as new arrays are made, without levels and at rest: to fill them once more would cost as much as some looks. Returns how many parents were taken.
 fn begin(
     lefts: &[u16; 1024],
     darts: usize,
@@ -123,20 +126,32 @@ fn begin(
     waiting: &mut [u8; 1024],
     queue: &[u16; 1024],
     roots: usize,
-)
+) -> usize
     requires { ⌜ (length (now potentials) ≡ 1024) × (length (now parents) ≡ 1024) × (length (now waiting) ≡ 1024) × (roots ≤ 1024)
         × ((m : ℕ) → m < roots → at (now queue) m < 1024) × (darts ≤ 1024) × (faces ≤ 1024)
         × ((f : ℕ) → f < 1024 → atℤ (now potentials) f ≡ far) × ((f : ℕ) → f < 1024 → at (now waiting) f ≡ 0) ⌝ }
-    ensures { λ _. ⌜ Begun (now (lefts .entry)) darts faces (now (parents .entry)) (now (potentials .exit)) (now (parents .exit)) (now (waiting .exit))
-        (now (queue .entry)) roots ⌝ }
+    ensures { λ r. ⌜ Begun (now (lefts .entry)) darts faces (now (parents .entry)) (now (potentials .exit)) (now (parents .exit)) (now (waiting .exit))
+        (now (queue .entry)) roots × (r ≡ takenFrom (now (lefts .entry)) darts faces (now (parents .entry))) ⌝ }
 {
-    take_parents(lefts, darts, faces, &mut *parents);
+    let taken = take_parents(lefts, darts, faces, &mut *parents);
     for m in 0..roots {
         let f = arrays::wide(queue[m]);
         potentials[f] = 0;
         parents[f] = 1024;
         waiting[f] = 1;
     }
+    taken
+}
+
+// The looks before the first straightening: none where parents were taken, along which it lays the first levels.
+fn first_looks(faces: usize, taken: usize) -> usize
+    requires { ⌜ faces ≤ 1024 ⌝ }
+    ensures { λ r. ⌜ r ≡ firstLooks faces taken ⌝ }
+{
+    if taken == 0 {
+        return faces + faces / 2 + 1;
+    }
+    0
 }
 
 // Goes up from the face f over parents, through faces that have one and are not marked; marks each with f and notes it.
@@ -293,11 +308,11 @@ fn straighten(
     let mut end = last;
     for f in 0..faces {
         let risen = ascend(lefts, &*parents, darts, faces, f, &mut marks, &mut noted);
-        let top = risen.top;
-        if is_round(&*potentials, &marks, f, top) {
-            return Straightened::Ring(arrays::wide(parents[top]));
-        }
         if 0 < risen.count {
+            let top = risen.top;
+            if is_round(&*potentials, &marks, f, top) {
+                return Straightened::Ring(arrays::wide(parents[top]));
+            }
             end = descend(
                 lefts,
                 lengths,
@@ -383,7 +398,7 @@ pub fn search(
         × Searches (given (now (lefts .entry)) (now (lengths .entry)) (now (order .entry)) (now (starts .entry)) (now (ends .entry)) darts faces)
         (now (queue .entry)) roots (now (parents .entry)) (now (potentials .exit)) (now (parents .exit)) r ⌝ }
 {
-    begin(
+    let taken = begin(
         lefts,
         darts,
         faces,
@@ -395,27 +410,8 @@ pub fn search(
     );
     let mut first: usize = 0;
     let mut last: usize = roots;
+    let mut left = first_looks(faces, taken);
     let outcome = 'search: loop {
-        let pass = straighten(
-            lefts,
-            lengths,
-            darts,
-            faces,
-            &mut *potentials,
-            &mut *parents,
-            &mut *waiting,
-            &mut *queue,
-            last,
-        );
-        match pass {
-            Straightened::Ring(d) => {
-                break 'search Outcome::Ring(d);
-            }
-            Straightened::Straight(end) => {
-                last = end;
-            }
-        }
-        let mut left = faces + faces / 2 + 1;
         while 0 < left {
             if first == last {
                 break 'search Outcome::Settled;
@@ -439,6 +435,26 @@ pub fn search(
             first += 1;
             left -= 1;
         }
+        let pass = straighten(
+            lefts,
+            lengths,
+            darts,
+            faces,
+            &mut *potentials,
+            &mut *parents,
+            &mut *waiting,
+            &mut *queue,
+            last,
+        );
+        match pass {
+            Straightened::Ring(d) => {
+                break 'search Outcome::Ring(d);
+            }
+            Straightened::Straight(end) => {
+                last = end;
+            }
+        }
+        left = faces + faces / 2 + 1;
     };
     outcome
 }

@@ -5,23 +5,25 @@ use Prim.Native.Nat.{ℕ, _≤_, _<_, _-_}
 use native.Mathlib.Omega.{arith}
 use borrow.Author.Needs.{needs}
 use Rattle.search.specs.Moves.{Begun}
-use Rattle.search.proofs.Taking.{Taking}
+use Rattle.search.specs.inner.Taking.{Taking}
 use Rattle.search.proofs.Beginning.{begun-none, begun-more}
 use Rattle.search.proofs.begin.Statement.{statement}
 use Rattle.search.proofs.begin.Tie as tie
 
 abbrev Inv-loop : tie.InvT-loop
-Inv-loop lefts darts faces potentials₀ parents₀ waiting₀ queue roots m₀ potentials parents waiting m =
-    ((proposal : List ℕ) → Taking lefts darts proposal faces parents₀ → Begun lefts darts faces proposal potentials parents waiting queue m) × (m ≤ roots)
+Inv-loop lefts darts faces potentials₀ parents₀ waiting₀ queue roots taken m₀ potentials parents waiting m =
+    ((proposal : List ℕ) (number : ℕ) → Taking lefts darts proposal faces parents₀ number
+    → Begun lefts darts faces proposal potentials parents waiting queue m)
+    × (m ≤ roots)
 
 abbrev μ-loop : tie.MeasureT-loop
-μ-loop lefts darts faces potentials₀ parents₀ waiting₀ queue roots m₀ potentials parents waiting m = roots - m
+μ-loop lefts darts faces potentials₀ parents₀ waiting₀ queue roots taken m₀ potentials parents waiting m = roots - m
 
 loop-holds : tie.Need-loop-holds Inv-loop μ-loop
 loop-holds c =
     let s = c .before .before in
     let p = s .pre in
-    (λ proposal t. begun-none (s .args .queue .now) (p .0) (t .size) (p .2) (p .7) (t .taken) (t .rest) (p .8), omega arith)
+    (λ proposal number t. begun-none (s .args .queue .now) (p .0) (t .size) (p .2) (p .7) (t .taken) (t .rest) (p .8), omega arith)
 
 abbrev start : tie.After-wide Inv-loop μ-loop → tie.Start Inv-loop μ-loop
 start c = c .before .before .before .before .before .before
@@ -34,8 +36,8 @@ root-in c = omega (arith, c .wide .ensures, start c .pre .4 (c .before .before .
 
 loop-again : tie.Need-loop-again Inv-loop μ-loop
 loop-again c = (
-  λ proposal t.
-      begun-more (start c .args .queue .now) (c .wide .result) (c .wide .ensures) (root-in c) (c .before .before .before .loop .inv .0 proposal t),
+  λ proposal number t.
+      begun-more (start c .args .queue .now) (c .wide .result) (c .wide .ensures) (root-in c) (c .before .before .before .loop .inv .0 proposal number t),
   omega (arith, c .before .before .loop-test .taken),
 )
 
@@ -45,10 +47,13 @@ returns c =
     let k = c .before .before in
     let s = k .before .before in
     let e = k .take-parents .ensures in
-    let all : l .m ≡ s .args .roots = omega (arith, c .loop-test .left, l .inv .1) in
-    subst
-    (Begun (s .args .lefts .now) (s .args .darts) (s .args .faces) (s .args .parents .now) (l .potentials) (l .parents) (l .waiting) (s .args .queue .now)) all
-    (l .inv .0 (s .args .parents .now) (record { size = e .0; taken = e .1; rest = e .2 }))
+    let all : l .m ≡ s .args .roots = omega (arith, c .loop-test .left, l .inv .1) in (
+      subst
+          (Begun (s .args .lefts .now) (s .args .darts) (s .args .faces) (s .args .parents .now) (l .potentials) (l .parents) (l .waiting)
+          (s .args .queue .now)) all
+          (l .inv .0 (s .args .parents .now) (k .take-parents .result) e),
+      e .counted,
+    )
 
 pub begin-spec : {M : Type 1} → statement M
 begin-spec =

@@ -43,44 +43,36 @@ top-small : (c : Up) → c .ascend .result .top < 1024
 top-small c = omega (arith, c .ascend .ensures .top-in, turn c .before .loop .inv .sound .few-faces)
 
 is-round-requires : tie.Need-is-round-requires Inv-loop μ-loop
-is-round-requires c κs = let u = c .before .before in (top-small u, f-small (turn u))
+is-round-requires c κs = let u = c .before .before .before .before in (top-small u, f-small (turn u))
 
 returns : tie.Need-returns Inv-loop μ-loop
 returns c =
     let t = c .before .before in
-    let r = t .before .is-round .ensures .0 (t .if1 .taken) in
-    let u = t .before .before .before .before in
+    let r = t .before .is-round .ensures .0 (t .if2 .taken) in
+    let u = t .before .before .before .before .before .before in
     let n = turn u in
     (_, pass-ring (n .before .loop .inv) (n .loop-test .taken) (u .ascend .ensures) (r .0) (r .1) (c .wide .result) (c .wide .ensures))
 
 -- ── it has not come round ──
-abbrev Open : Type 0
-Open = tie.After-struct-known Inv-loop μ-loop
-
-abbrev risen : Open → Up
-risen c = c .before .before .before .before .before
-
 descend-requires : tie.Need-descend-requires Inv-loop μ-loop
 descend-requires c κs =
     let t = c .before .before .before .before .before in
-    let o = t .before in
-    let u = risen o in
+    let o = t .before .before .before .before in
+    let u = o .before .before in
     let n = turn u in
-    pass-down (n .before .loop .inv) (n .loop-test .taken) (u .ascend .ensures) (o .before .before .is-round .ensures .1 (o .before .if1 .left)) (t .if2 .taken)
+    pass-down (n .before .loop .inv) (n .loop-test .taken) (u .ascend .ensures) (t .before .is-round .ensures .1 (t .if2 .left)) (o .if1 .taken)
 
 loop-again : tie.Need-loop-again Inv-loop μ-loop
 loop-again c =
-    let o = c .before in
-    let u = risen o in
+    let u = c .before .before in
     let n = turn u in
     let i = n .before .loop .inv in
-    let away = o .before .before .is-round .ensures .1 (o .before .if1 .left) in
     ⊎-elim
     (λ d.
-    rw (d .7, d .8, d .9, d .10, d .11)
-    (pass-met i (n .loop-test .taken) (u .ascend .ensures) away (d .0 .taken) (d .6 .ensures)))
-    (λ d. rw (d .1, d .2, d .3, d .4, d .5) (pass-none i (n .loop-test .taken) (u .ascend .ensures) away (omega (arith, d .0 .left))))
-    (c .if2 .came)
+    rw (d .11, d .12, d .13, d .14, d .15)
+    (pass-met i (n .loop-test .taken) (u .ascend .ensures) (d .3 .ensures .1 (d .4 .left)) (d .0 .taken) (d .10 .ensures)))
+    (λ d. rw (d .1, d .2, d .3, d .4, d .5) (pass-none i (n .loop-test .taken) (u .ascend .ensures) (omega (arith, d .0 .left))))
+    (c .if1 .came)
 
 returns-2 : tie.Need-returns-2 Inv-loop μ-loop
 returns-2 c = (_, pass-last _ (c .before .loop .inv) (omega (arith, c .loop-test .left)) refl)
@@ -94,12 +86,12 @@ straighten-spec =
     loop-holds
     ascend-requires
     is-round-requires
-    (λ c. record { fits = omega (arith, top-small (c .before .before .before .before)) })
-    (λ c. top-small (c .before .before .before .before))
+    (λ c. record { fits = omega (arith, top-small (c .before .before .before .before .before .before)) })
+    (λ c. top-small (c .before .before .before .before .before .before))
     (λ c κs. search needs)
     returns
     descend-requires
-    (λ c. record { fits = omega (arith, f-small (turn (risen (c .before)))) })
-    (λ c. omega (arith, turn (risen (c .before)) .loop-test .taken))
+    (λ c. record { fits = omega (arith, f-small (turn (c .before .before))) })
+    (λ c. omega (arith, turn (c .before .before) .loop-test .taken))
     loop-again
     returns-2)
