@@ -366,6 +366,95 @@ fn fill_roots<'a>(
     traversal::roots_of(rotations, lefts, 2 * edges, first, queue)
 }
 
+// Decides as `decide` does, of the drawing with `first` as its outer dart, whose faces at 0 stand at the first places of the queue. `first` is named by the
+// contract only.
+fn decide_at<'a>(
+    tails: &'a [u16; 1024],
+    rotations: &'a [u16; 1024],
+    lefts: &'a [u16; 1024],
+    capacities: &'a [i32; 1024],
+    order: &'a [u16; 1024],
+    from: &'a [u16; 1024],
+    grouped: &'a [u16; 1024],
+    starts: &'a [u16; 1024],
+    ends: &'a [u16; 1024],
+    nodes: usize,
+    edges: usize,
+    faces: usize,
+    first: usize,
+    source: usize,
+    sink: usize,
+    value: i32,
+    roots: usize,
+    queue: &mut [u16; 1024],
+    flows: &mut [i32],
+    inside: &mut [u8; 1024],
+) -> bool
+    requires { ⌜ (length (now queue) ≡ 1024) × (length (now inside) ≡ 1024) × (edges ≤ length (now flows))
+        × Drawn (mapOf nodes edges (now tails) (now rotations)) (at (now lefts)) faces first (atℤ (now capacities))
+        × Ends (mapOf nodes edges (now tails) (now rotations)) source sink × Limited mostValue value
+        × Treed (mapOf nodes edges (now tails) (now rotations)) (2 * edges) (at (now order)) (at (now from))
+        × Grouped (rightOf (now lefts)) (2 * edges) faces (now grouped) (now starts) (now ends)
+        × RootsOf (2 * edges) (at (now rotations)) first (at (now lefts)) (at (now queue)) roots ⌝ }
+    ensures { λ r. ⌜ (length (now (inside .exit)) ≡ 1024)
+        × Decided (mapOf nodes edges (now (tails .entry)) (now (rotations .entry))) first (atℤ (now (capacities .entry)))
+        source sink value (now (flows .entry)) (now (flows .exit)) (now (inside .exit)) r ⌝ }
+{
+    let start = traversal::dart_at(tails, 2 * edges, source);
+    let finish = traversal::dart_at(tails, 2 * edges, sink);
+    let mut lengths = [0i32; 1024];
+    if cut_apart(
+        tails,
+        rotations,
+        capacities,
+        order,
+        from,
+        nodes,
+        edges,
+        start,
+        finish,
+        value,
+        &mut lengths,
+        &mut *inside,
+    ) {
+        return false;
+    }
+    let mut parents = [1024u16; 1024];
+    let outcome = settle(
+        lefts,
+        capacities,
+        &lengths,
+        grouped,
+        starts,
+        ends,
+        edges,
+        faces,
+        roots,
+        &mut parents,
+        queue,
+        flows,
+    );
+    if let Outcome::Ring(d) = outcome {
+        let y = arrays::wide(lefts[d]);
+        cut_of_ring(
+            tails,
+            rotations,
+            lefts,
+            &lengths,
+            order,
+            from,
+            &parents,
+            nodes,
+            edges,
+            faces,
+            y,
+            inside,
+        );
+        return false;
+    }
+    true
+}
+
 // Decides as `decide` does, of the drawing with `first` as its outer dart: the face left of it is at 0 in its part, in each other part the lowest. So the flow
 // on `first`, written where the value can be carried, is the least with which it can: its capacity less its length and the distance back, from the face left of
 // it to the face right of it (`LeastLength`). It has several callers, so that its arrays are not kept below another decision on the stack.
@@ -399,25 +488,6 @@ pub fn decide_from<'a>(
         × Decided (mapOf nodes edges (now (tails .entry)) (now (rotations .entry))) first (atℤ (now (capacities .entry)))
         source sink value (now (flows .entry)) (now (flows .exit)) (now (inside .exit)) r ⌝ }
 {
-    let start = traversal::dart_at(tails, 2 * edges, source);
-    let finish = traversal::dart_at(tails, 2 * edges, sink);
-    let mut lengths = [0i32; 1024];
-    if cut_apart(
-        tails,
-        rotations,
-        capacities,
-        order,
-        from,
-        nodes,
-        edges,
-        start,
-        finish,
-        value,
-        &mut lengths,
-        &mut *inside,
-    ) {
-        return false;
-    }
     let mut queue = [0u16; 1024];
     let roots = fill_roots(
         rotations,
@@ -430,38 +500,26 @@ pub fn decide_from<'a>(
         first,
         &mut queue,
     );
-    let mut parents = [1024u16; 1024];
-    let outcome = settle(
+    decide_at(
+        tails,
+        rotations,
         lefts,
         capacities,
-        &lengths,
+        order,
+        from,
         grouped,
         starts,
         ends,
+        nodes,
         edges,
         faces,
+        first,
+        source,
+        sink,
+        value,
         roots,
-        &mut parents,
         &mut queue,
         flows,
-    );
-    if let Outcome::Ring(d) = outcome {
-        let y = arrays::wide(lefts[d]);
-        cut_of_ring(
-            tails,
-            rotations,
-            lefts,
-            &lengths,
-            order,
-            from,
-            &parents,
-            nodes,
-            edges,
-            faces,
-            y,
-            inside,
-        );
-        return false;
-    }
-    true
+        inside,
+    )
 }
