@@ -7,8 +7,8 @@
 // once. Where the parents lead round, they are the ring. The first levels are laid by the same pass, along parents that may be proposed: a tree of an earlier
 // search costs one look at each face where it is still right, and else the search corrects it.
 //
-// It takes at most as many rounds of the queue as there are faces, each linear in darts and faces; on drawings some three looks at each face are usual. Moore
-// 1959 (the queue); Cherkassky and Goldberg 1999 (parents that lead round, levels that are updated along them).
+// It takes at most as many rounds of the queue as there are faces, each linear in darts and faces, which no theorem here says: that it ends is proved.
+// Moore 1959 (the queue); Cherkassky and Goldberg 1999 (parents that lead round, levels that are updated along them).
 ghost use mathlib.Core.Path.{_≡_};
 ghost use mathlib.Core.Bool.{true, false};
 ghost use Prim.Native.Nat.{ℕ, _+_, _<_, _≤_};
