@@ -5,7 +5,7 @@
 // WORDS. The paper's headgate is the source and its outfall the sink; a channel is an edge with two darts, 2e from its tail to
 // its head and 2e + 1 back; a dart's limit is the most that it may carry (below zero: the least the other way); a dart's turn is
 // the next dart clockwise with the same tail; a setting is the flow on dart 2e. Nodes, channels, darts and faces are numbered
-// from 0, faces in order of their lowest dart: there are channels + 2 - nodes of them. A level is the potential of a face.
+// from 0, faces in order of their lowest dart: a drawing in p parts has channels + 2p - nodes of them. A level is the potential of a face.
 //
 // ANSWERS. Every function takes any input, keeps no state but in a session that the caller owns, and ends. The result is 0 (ANALYSER_ANSWERED) where there is
 // an answer, else the number of the first refusal in the order given at the function. An answer comes through the pointers and leaves *place as it was; a
@@ -72,35 +72,36 @@ ANALYSER_HOLDS(length_width, sizeof(analyser_length) == 8);
 #define ANALYSER_PRACTICE_BYTES 8165 // 16 rows and 16 columns
 #define ANALYSER_DIMACS_BYTES 18463
 
-// The results. "Sheet": a sheet check, so given by every function that takes a sheet. *place is 0 unless said.
+// The results. "Sheet": a sheet check, so given by every function that takes a sheet. "Capture": also of the records of a capture, or of the limits found in
+// them. *place is 0 unless said.
 enum analyser_result {
     ANALYSER_ANSWERED = 0, // there is an answer, and *place is as it was
-    ANALYSER_CUT_SHORT = 1, // a record has no first byte, or its body is cut short. Sheet; Largest after
-    ANALYSER_WRONG_KIND = 2, // a record is not of the kind that is due. Sheet; Largest after
-    ANALYSER_COUNT_OUT_OF_RANGE = 3, // nodes not 2 to 513, or channels not 1 to 512. Sheet; Write
-    ANALYSER_END_IS_NO_NODE = 4, // a channel's tail or head is no node. Sheet; Write
-    ANALYSER_TURN_IS_NO_DART = 5, // a turn is no dart. Sheet; Write
-    ANALYSER_LIMIT_OUT_OF_RANGE = 6, // a limit not -1000000 to 1000000. Sheet; Write; Largest after
-    ANALYSER_LIMITS_BELOW_ZERO = 7, // a channel's two limits add to less than zero. Sheet; Write; Largest after
+    ANALYSER_CUT_SHORT = 1, // a record has no first byte, or its body is cut short. Sheet, capture
+    ANALYSER_WRONG_KIND = 2, // a record is not of the kind that is due. Sheet, capture
+    ANALYSER_COUNT_OUT_OF_RANGE = 3, // nodes not 2 to 513, or channels not 1 to 512. Sheet, Write
+    ANALYSER_END_IS_NO_NODE = 4, // a channel's tail or head is no node. Sheet, Write
+    ANALYSER_TURN_IS_NO_DART = 5, // a turn is no dart. Sheet, Write
+    ANALYSER_LIMIT_OUT_OF_RANGE = 6, // a limit not -1000000 to 1000000. Sheet, capture, Write
+    ANALYSER_LIMITS_BELOW_ZERO = 7, // a channel's two limits add to less than zero. Sheet, capture, Write
     ANALYSER_BYTES_LEFT_OVER = 8, // bytes after the last channel. Sheet
-    ANALYSER_TURN_MISPLACED = 9, // a turn has another tail than its dart, or two darts have one turn. Sheet; Write
-    ANALYSER_NOT_ONE_ROUND = 10, // a node's darts do not form exactly one round, or it has none. Sheet; Write
-    ANALYSER_NOT_FLAT = 12, // nodes - channels + faces is not 2 in some part: what channels, followed either way, join. Sheet; Write
-    ANALYSER_NO_SUCH_NODE = 13, // headgate or outfall is no node. Solve, all three Largest, Raise limit, Mark, DIMACS text, Examine, Ask
-    ANALYSER_ENDS_EQUAL = 14, // headgate and outfall are one node. Solve, all three Largest, Raise limit, Mark, DIMACS text, Examine, Ask
+    ANALYSER_TURN_MISPLACED = 9, // a turn has another tail than its dart, or two darts have one turn. Sheet, Write
+    ANALYSER_NOT_ONE_ROUND = 10, // a node's darts do not form exactly one round, or it has none. Sheet, Write
+    ANALYSER_NOT_FLAT = 12, // nodes - channels + faces is not 2 in some part: what channels, followed either way, join. Sheet, Write
+    ANALYSER_NO_SUCH_NODE = 13, // headgate or outfall is no node. All with a headgate
+    ANALYSER_ENDS_EQUAL = 14, // headgate and outfall are one node. All with a headgate
     ANALYSER_DELIVERY_OUT_OF_RANGE = 15, // the delivery is not -600000000 to 600000000. Solve, Raise limit, Examine, Ask
-    ANALYSER_SLICE_TOO_SHORT = 16, // a lent slice is too short; in Write also inputs of unequal or odd length. Every function
-    ANALYSER_OUTSIDE_LIMITS = 17, // a setting is outside its channel's limits; *place is the lowest such channel. Mark, both level functions
+    ANALYSER_SLICE_TOO_SHORT = 16, // a lent slice is too short; in Write also inputs of unequal or odd length. All but Start and Commit
+    ANALYSER_OUTSIDE_LIMITS = 17, // a setting is outside its channel's limits; *place is the lowest such channel. Mark, both level operations
     ANALYSER_OFF_BALANCE = 18, // flow is lost or gained at a node; *place is the lowest such node. Mark, Levels from settings
     ANALYSER_LEVEL_OUT_OF_RANGE = 19, // a level is not -600000000 to 600000000. Settings from levels
     ANALYSER_ZERO_FACE_NOT_AT_0 = 20, // the level of the outer face, or of the lowest face of another part, is not 0. Settings from levels
     ANALYSER_TOO_MANY_QUESTIONS = 21, // more than 64 questions. Page
     ANALYSER_LEAST_FLOW = 22, // a limit, forward or back, is below zero: the text cannot hold a least flow. DIMACS text
     ANALYSER_PRACTICE_OUT_OF_RANGE = 23, // rows or columns not 2 to 16, or the seed not below 2147483648. Practice sheet
-    ANALYSER_OUTER_IS_NO_DART = 24, // the outer dart is no dart. Sheet; Write
-    ANALYSER_NO_SUCH_CHANNEL = 25, // there is no such channel. Raise limit; of a record of the capture, Largest after
-    ANALYSER_WINDOW_OUT_OF_RANGE = 26, // the window is not 1 to 256, or the named record is none of the capture's whole records. Largest after
-    ANALYSER_TICK_GOES_BACK = 27, // a record of the capture has a lower tick than the one before. Largest after
+    ANALYSER_OUTER_IS_NO_DART = 24, // the outer dart is no dart. Sheet, Write
+    ANALYSER_NO_SUCH_CHANNEL = 25, // there is no such channel. Raise limit, Limits from a capture
+    ANALYSER_WINDOW_OUT_OF_RANGE = 26, // the window is not 1 to 256, or the named record is none of the capture's whole records. Limits from a capture
+    ANALYSER_TICK_GOES_BACK = 27, // a record of the capture has a lower tick than the one before. Limits from a capture
     ANALYSER_NO_OFFER = 28, // the party has no offer. Commit
     ANALYSER_NO_PARTY = 29, // there is no such party: a party is 0 or 1. Ask, Commit
     ANALYSER_COMMITTED = 30, // the party has committed since the start or the last clear. Ask, Commit

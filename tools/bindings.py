@@ -123,6 +123,71 @@ def refusals():
     return dict(sorted((int(number), sentence.strip()) for number, sentence in re.findall(r"^\| (\d+) \| ([^|]*) \|", table, re.M)))
 
 
+# Which operation gives which refusals, by its C function. tests/machines holds it to what the unit answers: each pair occurs, and no other.
+SHEET = {1, 2, 3, 4, 5, 6, 7, 8, 9, 10, 12, 24}
+GIVEN = {
+    "read": ("Read", SHEET | {16}),
+    "write": ("Write", {3, 4, 5, 6, 7, 9, 10, 12, 16, 24}),
+    "solve": ("Solve", SHEET | {13, 14, 15, 16}),
+    "largest": ("Largest", SHEET | {13, 14, 16}),
+    "least_and_largest": ("Least and largest", SHEET | {13, 14, 16}),
+    "raise_limit": ("Raise limit", SHEET | {13, 14, 15, 16, 25}),
+    "largest_after": ("Limits from a capture", SHEET | {13, 14, 16, 25, 26, 27}),
+    "page": ("Page", SHEET | {16, 21}),
+    "mark": ("Mark", SHEET | {13, 14, 16, 17, 18}),
+    "levels_from_settings": ("Levels from settings", SHEET | {16, 17, 18}),
+    "settings_from_levels": ("Settings from levels", SHEET | {16, 17, 19, 20}),
+    "totals": ("Totals by node", SHEET | {16}),
+    "write_dimacs": ("DIMACS text", SHEET | {13, 14, 16, 22}),
+    "practice_sheet": ("Practice sheet", {16, 23}),
+    "examine": ("Examine", SHEET | {13, 14, 15, 16, 32}),
+    "key_text": ("Key's text", {16}),
+    "session_start": ("Start", SHEET),
+    "session_ask": ("Ask", {13, 14, 15, 16, 29, 30}),
+    "session_commit": ("Commit", {28, 29, 30, 31}),
+    "session_clear": ("Clear", set()),
+}
+OF_CAPTURE = {1, 2, 6, 7}  # also of the records of a capture, and of the limits found in them
+IN_ANSWERS = {"key": SHEET | {13, 14, 15}, "a question of a page": {13, 14, 15}}  # told in a text or in a list of answers, and not as a result
+
+
+LEVEL_OPERATIONS = ["Levels from settings", "Settings from levels"]
+
+
+def with_source():
+    """The names of the operations that take a source, the paper's headgate."""
+    taking = {function.name.removeprefix("analyser_") for function in functions() if any(p.name == "source" for p in function.parameters)}
+    return [name for key, (name, _) in GIVEN.items() if key in taking]
+
+
+def givers(number, in_answers=False):
+    """Who gives a refusal: "sheet" for every operation on a sheet, the others by their names, or all but a few."""
+    refusing = [(name, numbers) for name, numbers in GIVEN.values() if numbers]
+    names = [name for name, numbers in refusing if number in numbers and not (number in SHEET and SHEET <= numbers)]
+    others = [name for name, numbers in refusing if number not in numbers]
+    if number in SHEET:
+        names = ["sheet", *(["capture"] if number in OF_CAPTURE else []), *names]
+    elif len(others) < 3:
+        names = ["all but " + " and ".join(others)]
+    elif names == with_source():
+        names = ["all with a headgate"]
+    if names[-2:] == LEVEL_OPERATIONS:
+        names[-2:] = ["both level operations"]
+    names += [name for name, numbers in IN_ANSWERS.items() if in_answers and number in numbers]
+    return ", ".join(names)
+
+
+def manual():
+    """The manual as it is, and with the rows of its refusals rising and their last column made."""
+    now = read(MANUAL)
+    before, title, rest = now.partition("\n### Every refusal\n")
+    table, next_title, behind = rest.partition("\n### ")
+    rows = re.findall(r"^\| (\d+) \| ([^|]*) \| ([^|]*) \| [^|]* \|\n", table, re.M)
+    made = "".join(f"| {n} | {condition} | {place} | {givers(int(n), True)} |\n" for n, condition, place in sorted(rows, key=lambda row: int(row[0])))
+    head, line, tail = table.partition("|---|---|---|---|\n")
+    return now, before + title + head + line + made + re.sub(r"^\| \d+ \|.*\n", "", tail, flags=re.M) + next_title + behind
+
+
 def version():
     """The version, of which the header is the one place: its number, and in words."""
     found = re.search(r"^#define ANALYSER_VERSION (\d+)", read(HEADER), re.M)
@@ -186,6 +251,10 @@ def between(text, what, lines):
     return before + first + "\n".join(lines) + "\n" + last + behind
 
 
+def initial(words):
+    return words[0].upper() + words[1:]
+
+
 def header():
     """The header as it is, and as it should be."""
     now = text = read(HEADER)
@@ -204,6 +273,8 @@ def header():
         raise Fault(f"{HEADER}: {more[0]} is no function of {SOURCE}")
     if numbers != [0, *refusals()]:
         raise Fault(f"{HEADER}: the numbers of enum analyser_result are not 0 and those of {MANUAL}, \"Every refusal\", rising")
+    text = re.sub(r"^(    ANALYSER_\w+ = (\d+),? // .*)\. [^.\n]*$",
+                  lambda row: row[0] if row[2] == "0" else f"{row[1]}. {initial(givers(int(row[2])))}", text, flags=re.M)
     text = between(text, "the session's layout", layout())
     return now, between(text, "the manual's sentences", texts())
 
@@ -315,18 +386,20 @@ def as_json():
 
 
 def check():
-    now, due = header()
-    wrong = list(difflib.unified_diff(now.splitlines(), due.splitlines(), HEADER, "what its sources say", lineterm=""))
+    wrong = []
+    for name, (now, due) in ((HEADER, header()), (MANUAL, manual())):
+        wrong += difflib.unified_diff(now.splitlines(), due.splitlines(), name, "what its sources say", lineterm="")
     print(*wrong, f"tools/bindings: {len(functions())} functions, {len(constants())} constants, {len(refusals())} refusals: "
-          f"{HEADER} is {'not ' if wrong else ''}current", sep="\n")
+          f"{HEADER} and {MANUAL} are {'not ' if wrong else ''}current", sep="\n")
     return 1 if wrong else 0
 
 
 def write():
-    now, due = header()
-    if now != due:
-        with open(f"{TOP}/{HEADER}", "w", encoding="utf-8") as file:
-            file.write(due)
+    for name, made in ((MANUAL, manual), (HEADER, header)):
+        now, due = made()
+        if now != due:
+            with open(f"{TOP}/{name}", "w", encoding="utf-8") as file:
+                file.write(due)
     return 0
 
 
