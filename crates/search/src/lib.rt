@@ -115,6 +115,36 @@ fn take_parents(lefts: &[u16; 1024], darts: usize, faces: usize, parents: &mut [
     taken
 }
 
+// 1 where a parent is proposed, else 0.
+fn proposed(p: u16) -> u16
+    ensures { λ r. ⌜ (r ≤ 1) × (r ≡ 0 → p ≡ 1024) ⌝ }
+{
+    if p == 1024 { 0 } else { 1 }
+}
+
+// Whether 1024 stands for every face: no parent is proposed. A sum of 16 bits, which the compiler adds up eight faces at a time.
+fn none_proposed(parents: &[u16; 1024], faces: usize) -> bool
+    requires { ⌜ faces ≤ 1024 ⌝ }
+    ensures { λ r. ⌜ (r ≡ true → (f : ℕ) → f < faces → at (now (parents .entry)) f ≡ 1024) ⌝ }
+{
+    let mut some: u16 = 0;
+    for f in 0..faces {
+        some += proposed(parents[f]);
+    }
+    some == 0
+}
+
+// The same, without a look at each face where none is proposed.
+fn take_proposed(lefts: &[u16; 1024], darts: usize, faces: usize, parents: &mut [u16; 1024]) -> usize
+    requires { ⌜ (length (now parents) ≡ 1024) × (darts ≤ 1024) × (faces ≤ 1024) ⌝ }
+    ensures { λ r. ⌜ Taking (now (lefts .entry)) darts (now (parents .entry)) faces (now (parents .exit)) r ⌝ }
+{
+    if none_proposed(&*parents, faces) {
+        return 0;
+    }
+    take_parents(lefts, darts, faces, parents)
+}
+
 // At first the roots, which stand at the first places of the queue, are at 0 and wait, without a parent; no other face has a level. Potentials and flags come
 // as new arrays are made, without levels and at rest: to fill them once more would cost as much as some looks. Returns how many parents were taken.
 fn begin(
@@ -133,7 +163,7 @@ fn begin(
     ensures { λ r. ⌜ Begun (now (lefts .entry)) darts faces (now (parents .entry)) (now (potentials .exit)) (now (parents .exit)) (now (waiting .exit))
         (now (queue .entry)) roots × (r ≡ takenFrom (now (lefts .entry)) darts faces (now (parents .entry))) ⌝ }
 {
-    let taken = take_parents(lefts, darts, faces, &mut *parents);
+    let taken = take_proposed(lefts, darts, faces, &mut *parents);
     for m in 0..roots {
         let f = arrays::wide(queue[m]);
         potentials[f] = 0;
@@ -362,8 +392,9 @@ fn look(
     while j < e {
         let d = arrays::wide(order[j]);
         j += 1;
+        let f = arrays::wide(lefts[d]);
         if relax(lefts, lengths, &mut *potentials, &mut *parents, i, d) {
-            end = push(&mut *waiting, &mut *queue, arrays::wide(lefts[d]), end);
+            end = push(&mut *waiting, &mut *queue, f, end);
         }
     }
     end
