@@ -135,7 +135,12 @@ fn none_proposed(parents: &[u16; 1024], faces: usize) -> bool
 }
 
 // The same, without a look at each face where none is proposed.
-fn take_proposed(lefts: &[u16; 1024], darts: usize, faces: usize, parents: &mut [u16; 1024]) -> usize
+fn take_proposed(
+    lefts: &[u16; 1024],
+    darts: usize,
+    faces: usize,
+    parents: &mut [u16; 1024],
+) -> usize
     requires { ⌜ (length (now parents) ≡ 1024) × (darts ≤ 1024) × (faces ≤ 1024) ⌝ }
     ensures { λ r. ⌜ Taking (now (lefts .entry)) darts (now (parents .entry)) faces (now (parents .exit)) r ⌝ }
 {
