@@ -9,7 +9,8 @@ use Rattle.search.proofs.descend.Tie as tie
 
 abbrev Inv-loop : tie.InvT-loop
 Inv-loop lefts lengths darts faces f count from links₀ potentials₀ parents₀ waiting₀ queue₀ last k₀ y₀ end₀ links potentials parents waiting queue k y end =
-    Falling lefts lengths darts faces (tablesOf potentials₀ parents₀ waiting₀ queue₀ last) f count links₀ k y links (tablesOf potentials parents waiting queue end)
+    Falling lefts lengths darts faces (tablesOf potentials₀ parents₀ waiting₀ queue₀ last) f count links₀ k y links
+    (tablesOf potentials parents waiting queue end)
 
 abbrev μ-loop : tie.MeasureT-loop
 μ-loop lefts lengths darts faces f count from links₀ potentials₀ parents₀ waiting₀ queue₀ last k₀ y₀ end₀ links potentials parents waiting queue k y end = k
