@@ -513,27 +513,46 @@ fn take_node(
     wider
 }
 
-// Takes the flags of the listed nodes from this place on away.
-fn leave_out(
+// Gives this flag to the nodes that are listed at these places.
+fn flag_listed(
     tails: &[u16; 1024],
     list: &[u16; 512],
     from: usize,
     end: usize,
+    flag: u8,
     inside: &mut [u8; 1024],
 )
     requires { ⌜ length (now inside) ≡ 1024 ⌝ }
     ensures { λ _. ⌜ length (now (inside .exit)) ≡ 1024 ⌝ }
 {
     for i in from..end {
-        inside[place(tails[place(list[i % 512])])] = 0;
+        inside[place(tails[place(list[i % 512])])] = flag;
     }
 }
 
-// The least cut so far: its total, how many of the listed nodes are in its set, and how many were listed then.
+// Leaves the flags of the first listed nodes alone, up to this size: by flagging them anew where they are few, else by taking the others' flags away.
+fn keep_first(
+    tails: &[u16; 1024],
+    list: &[u16; 512],
+    size: usize,
+    end: usize,
+    inside: &mut [u8; 1024],
+)
+    requires { ⌜ length (now inside) ≡ 1024 ⌝ }
+    ensures { λ _. ⌜ length (now (inside .exit)) ≡ 1024 ⌝ }
+{
+    if size < end / 2 {
+        flag_none(&mut *inside);
+        flag_listed(tails, list, 0, size, 1, inside);
+        return;
+    }
+    flag_listed(tails, list, size, end, 0, inside);
+}
+
+// The least cut so far: its total, and how many of the listed nodes are in its set.
 struct Best {
     total: u32,
     size: usize,
-    listed: usize,
 }
 
 // Where the list ended, with the least cut.
@@ -542,12 +561,11 @@ struct Found {
     end: usize,
 }
 
-fn better(best: Best, total: u32, size: usize, end: usize) -> Best {
+fn better(best: Best, total: u32, size: usize) -> Best {
     if total < best.total {
         return Best {
             total: total,
             size: size,
-            listed: end,
         };
     }
     best
@@ -573,7 +591,6 @@ fn spread_all(
     let mut best = Best {
         total: 4294967295,
         size: 0,
-        listed: 0,
     };
     for next in 0..512usize {
         if grown.end <= next {
@@ -592,12 +609,28 @@ fn spread_all(
             &mut *list,
             grown,
         );
-        best = better(best, grown.total, next + 1, grown.end);
+        best = better(best, grown.total, next + 1);
     }
     Found {
         best: best,
         end: grown.end,
     }
+}
+
+// Whether two nodes at least are next ahead of the first listed nodes, up to this size, which have flags: whether the second listed behind them was listed by
+// one of them.
+fn has_two_ahead(
+    tails: &[u16; 1024],
+    list: &[u16; 512],
+    size: usize,
+    end: usize,
+    inside: &[u8; 1024],
+) -> bool {
+    let second = std::num::wrapping_add_usize(size, 1);
+    if end <= second {
+        return false;
+    }
+    inside[head(tails, place(list[second % 512]))] == 1
 }
 
 // Flags the nodes of the least cut among the sets that spread from the source, nearest nodes first, up to all but the sink; `start` is a dart at the source.
@@ -617,11 +650,11 @@ pub fn spread(
     inside[sink] = 2;
     let mut list = [0u16; 512];
     let spread = spread_all(tails, rotations, capacities, start, &mut *inside, &mut list);
-    leave_out(tails, &list, spread.best.size, spread.end, &mut *inside);
+    keep_first(tails, &list, spread.best.size, spread.end, &mut *inside);
     inside[sink] = 0;
     let size = spread.best.size;
     if size < 2 {
         return true;
     }
-    std::num::wrapping_sub_usize(spread.best.listed, size) < 2
+    !has_two_ahead(tails, &list, size, spread.end, &*inside)
 }
