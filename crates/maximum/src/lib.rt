@@ -1,14 +1,11 @@
-// The largest value that can be carried from a source to a sink, with its highest flow and a set around the source whose cut it is: no greater value can be
-// carried (the maximum flow is the minimum cut: Ford and Fulkerson 1956). Or that no value can be, with a set beside both ends whose cut is below zero.
-//
-// Two bounds close in on the value: above, the cut of a set around the source; below, a value that is carried, or the negative of the cut of a set around the
-// sink. The first set spreads from the source, node by node, and the least cut on its way is taken (`pivots::spread`). Each probe decides one value by the
-// search over the faces (`solver::decide`; a flow of a plane map is a shortest path problem of its dual: Hassin 1981, Miller and Naor 1995), which begins from
-// the tree of the faces as the step before left it. A value that is carried is the low bound, and pivots lower the high one: as the value grows, the trees of
-// the faces and of the nodes exchange an edge wherever a dart is full, until the full darts are a cut (`pivots::propose`; Erickson 2010). A value that cannot
-// be carried has a proving set, which moves a bound or shows that there is nothing. Bounds that meet are the answer; where they pass each other, the union or
-// the intersection of their two sets shows that there is nothing.
-//
+// The largest value that can be carried from a source to a sink, with its highest flow and a set around the source whose cut it is (maximum flow, minimum cut:
+// Ford and Fulkerson 1956); or that no value can be, with a set beside both ends whose cut is below zero.
+// Two bounds close in: above, the cut of a set around the source, at first the least of those that spread from it (`pivots::spread`); below, a value that is
+// carried, or the negative of the cut of a set around the sink. Each probe decides one value by the search over the faces (`solver::decide`; a flow of a plane
+// map is a shortest path problem of its dual: Hassin 1981, Miller and Naor 1995), from the tree of the faces as the step before left it. A value that is
+// carried is the low bound, and pivots lower the high one: trees of faces and nodes exchange an edge wherever a dart is full, until the full darts are a cut
+// (`pivots::propose`; Erickson 2010). A value that cannot be carried has a proving set, which moves a bound or shows that there is nothing. Bounds that meet
+// are the answer; where they pass each other, the union or the intersection of their two sets shows that there is nothing.
 // Cost: one decision where the first bound is probed and is the answer, two or three where the pivots find it. After the first two probes the middle of the
 // bounds is probed at least every other time, so some 60 decisions do for any capacities. What a decision costs is said in `search`.
 ghost use mathlib.Core.Path.{_≡_};

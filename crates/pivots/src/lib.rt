@@ -443,71 +443,116 @@ fn list_ahead(
     list: &mut [u16; 512],
     end: usize,
 ) -> usize
-    requires { ⌜ (length (now inside) ≡ 1024) × (length (now list) ≡ 512) × (back < 1024) × (v < 1024) × (end ≤ 1024) ⌝ }
-    ensures { λ r. ⌜ (length (now (inside .exit)) ≡ 1024) × (length (now (list .exit)) ≡ 512) × (r ≤ end + 1) ⌝ }
+    requires { ⌜ (length (now inside) ≡ 1024) × (length (now list) ≡ 512) × (back < 1024) × (v < 1024) ⌝ }
+    ensures { λ r. ⌜ (length (now (inside .exit)) ≡ 1024) × (length (now (list .exit)) ≡ 512) ⌝ }
 {
     if inside[v] != 0 {
         return end;
     }
     inside[v] = 2;
     list[end % 512] = number(back);
-    end + 1
+    std::num::wrapping_add_usize(end, 1)
 }
 
-// One dart d at a node that joins the set: what it can carry to a node outside is added, what comes from a node inside no longer leaves.
+// One dart d at the node v that joins the set: what it can carry to a node outside is added, what comes from a node inside no longer leaves.
 fn cross(
     tails: &[u16; 1024],
     capacities: &[i32; 1024],
+    v: usize,
     d: usize,
     inside: &mut [u8; 1024],
     list: &mut [u16; 512],
-    total: u32,
-    end: usize,
+    grown: Grown,
 ) -> Grown
-    requires { ⌜ (length (now inside) ≡ 1024) × (length (now list) ≡ 512) × (d < 1024) × (end ≤ 1024) ⌝ }
-    ensures { λ r. ⌜ (length (now (inside .exit)) ≡ 1024) × (length (now (list .exit)) ≡ 512) × (r .end ≤ end + 1) ⌝ }
+    requires { ⌜ (length (now inside) ≡ 1024) × (length (now list) ≡ 512) × (d < 1024) ⌝ }
+    ensures { λ r. ⌜ (length (now (inside .exit)) ≡ 1024) × (length (now (list .exit)) ≡ 512) ⌝ }
 {
     let back = arrays::reverse(d);
     let u = place(tails[back]);
     if inside[u] != 1 {
         return Grown {
-            total: std::num::wrapping_add_u32(total, signed::to_bits(capacities[d])),
-            end: list_ahead(back, u, inside, list, end),
+            total: std::num::wrapping_add_u32(grown.total, signed::to_bits(capacities[d])),
+            end: list_ahead(back, u, inside, list, grown.end),
         };
     }
-    if u == place(tails[d]) {
-        return Grown {
-            total: total,
-            end: end,
-        };
+    if u == v {
+        return grown;
     }
     Grown {
-        total: std::num::wrapping_sub_u32(total, signed::to_bits(capacities[back])),
-        end: end,
+        total: std::num::wrapping_sub_u32(grown.total, signed::to_bits(capacities[back])),
+        end: grown.end,
     }
 }
 
-// Takes the flags of the listed nodes from this place on away.
-fn leave_out(
+// Takes the node of the dart `start` into the set, dart by dart round it.
+fn take_node(
+    tails: &[u16; 1024],
+    rotations: &[u16; 1024],
+    capacities: &[i32; 1024],
+    start: usize,
+    inside: &mut [u8; 1024],
+    list: &mut [u16; 512],
+    grown: Grown,
+) -> Grown
+    requires { ⌜ (length (now inside) ≡ 1024) × (length (now list) ≡ 512) × (start < 1024) ⌝ }
+    ensures { λ _. ⌜ (length (now (inside .exit)) ≡ 1024) × (length (now (list .exit)) ≡ 512) ⌝ }
+{
+    let v = place(tails[start]);
+    inside[v] = 1;
+    let mut d = start;
+    let mut wider = grown;
+    let mut left: usize = 1024;
+    while 0 < left {
+        wider = cross(tails, capacities, v, d, &mut *inside, &mut *list, wider);
+        d = place(rotations[d]);
+        if d == start {
+            return wider;
+        }
+        left -= 1;
+    }
+    wider
+}
+
+// Gives this flag to the nodes that are listed at these places.
+fn flag_listed(
     tails: &[u16; 1024],
     list: &[u16; 512],
     from: usize,
     end: usize,
+    flag: u8,
     inside: &mut [u8; 1024],
 )
     requires { ⌜ length (now inside) ≡ 1024 ⌝ }
     ensures { λ _. ⌜ length (now (inside .exit)) ≡ 1024 ⌝ }
 {
     for i in from..end {
-        inside[place(tails[place(list[i % 512])])] = 0;
+        inside[place(tails[place(list[i % 512])])] = flag;
     }
 }
 
-// The least cut so far: its total, how many of the listed nodes are in its set, and how many were listed then.
+// Leaves the flags of the first listed nodes alone, up to this size: by flagging them anew where they are few, else by taking the others' flags away.
+fn keep_first(
+    tails: &[u16; 1024],
+    list: &[u16; 512],
+    size: usize,
+    end: usize,
+    inside: &mut [u8; 1024],
+)
+    requires { ⌜ length (now inside) ≡ 1024 ⌝ }
+    ensures { λ _. ⌜ length (now (inside .exit)) ≡ 1024 ⌝ }
+{
+    if size < end / 2 {
+        flag_none(&mut *inside);
+        flag_listed(tails, list, 0, size, 1, inside);
+        return;
+    }
+    flag_listed(tails, list, size, end, 0, inside);
+}
+
+// The least cut so far: its total, and how many of the listed nodes are in its set.
 struct Best {
     total: u32,
     size: usize,
-    listed: usize,
 }
 
 // Where the list ended, with the least cut.
@@ -516,25 +561,14 @@ struct Found {
     end: usize,
 }
 
-fn better(best: Best, total: u32, size: usize, end: usize) -> Best {
+fn better(best: Best, total: u32, size: usize) -> Best {
     if total < best.total {
         return Best {
             total: total,
             size: size,
-            listed: end,
         };
     }
     best
-}
-
-// Takes the listed node at this place into the set. Answers the dart that it is listed by.
-fn take(tails: &[u16; 1024], list: &[u16; 512], next: usize, inside: &mut [u8; 1024]) -> usize
-    requires { ⌜ length (now inside) ≡ 1024 ⌝ }
-    ensures { λ r. ⌜ (length (now (inside .exit)) ≡ 1024) × (r < 1024) ⌝ }
-{
-    let start = place(list[next % 512]);
-    inside[place(tails[start])] = 1;
-    start
 }
 
 // Spreads a set from the node of `first`, node by node as they are listed: dart by dart round each, then to the next.
@@ -550,40 +584,53 @@ fn spread_all(
     ensures { λ _. ⌜ (length (now (inside .exit)) ≡ 1024) × (length (now (list .exit)) ≡ 512) ⌝ }
 {
     list[0] = number(first);
-    let mut start = take(tails, &*list, 0, &mut *inside);
-    let mut d = start;
-    let mut next: usize = 1;
-    let mut end: usize = 1;
-    let mut total: u32 = 2147483648;
+    let mut grown = Grown {
+        total: 2147483648,
+        end: 1,
+    };
     let mut best = Best {
         total: 4294967295,
         size: 0,
-        listed: 0,
     };
-    let mut steps: usize = 0;
-    while steps < 1024 {
-        steps += 1;
-        let grown = cross(tails, capacities, d, &mut *inside, &mut *list, total, end);
-        total = grown.total;
-        end = grown.end;
-        d = place(rotations[d]);
-        if d == start {
-            best = better(best, total, next, end);
-            if end <= next {
-                return Found {
-                    best: best,
-                    end: end,
-                };
-            }
-            start = take(tails, &*list, next, &mut *inside);
-            next += 1;
-            d = start;
+    for next in 0..512usize {
+        if grown.end <= next {
+            return Found {
+                best: best,
+                end: grown.end,
+            };
         }
+        let start = place(list[next]);
+        grown = take_node(
+            tails,
+            rotations,
+            capacities,
+            start,
+            &mut *inside,
+            &mut *list,
+            grown,
+        );
+        best = better(best, grown.total, next + 1);
     }
     Found {
         best: best,
-        end: end,
+        end: grown.end,
     }
+}
+
+// Whether two nodes at least are next ahead of the first listed nodes, up to this size, which have flags: whether the second listed behind them was listed by
+// one of them.
+fn has_two_ahead(
+    tails: &[u16; 1024],
+    list: &[u16; 512],
+    size: usize,
+    end: usize,
+    inside: &[u8; 1024],
+) -> bool {
+    let second = std::num::wrapping_add_usize(size, 1);
+    if end <= second {
+        return false;
+    }
+    inside[head(tails, place(list[second % 512]))] == 1
 }
 
 // Flags the nodes of the least cut among the sets that spread from the source, nearest nodes first, up to all but the sink; `start` is a dart at the source.
@@ -603,11 +650,11 @@ pub fn spread(
     inside[sink] = 2;
     let mut list = [0u16; 512];
     let spread = spread_all(tails, rotations, capacities, start, &mut *inside, &mut list);
-    leave_out(tails, &list, spread.best.size, spread.end, &mut *inside);
+    keep_first(tails, &list, spread.best.size, spread.end, &mut *inside);
     inside[sink] = 0;
     let size = spread.best.size;
     if size < 2 {
         return true;
     }
-    std::num::wrapping_sub_usize(spread.best.listed, size) < 2
+    !has_two_ahead(tails, &list, size, spread.end, &*inside)
 }

@@ -1,14 +1,16 @@
 -- The proposed parents are taken or left, face by face.
-use mathlib.Core.Path.{_≡_, sym, _∙_, ap}
-use mathlib.Core.Bool.{Bool, true, false, cond}
+use mathlib.Core.Path.{_≡_, refl, sym, _∙_, ap}
+use mathlib.Core.Bool.{Bool, true, false, cond, _&&_}
 use mathlib.Core.List.{List}
 use Prim.Native.Nat.{ℕ, _+_, _≤_, _<_}
 use native.Mathlib.Omega.{arith}
 use native.Mathlib.Decide.{ℕ-discrete}
+use lib.Dec.{eqb}
 use lib.ListN.{length, set, length-set}
 use Rattle.arrays.specs.At.{at}
 use Rattle.integers.specs.Sum.{Naturals, bit}
-use Rattle.integers.proofs.Sums.{sum-more}
+use Rattle.integers.proofs.Sums.{sum-more, sum-nil}
+use Rattle.integers.proofs.Tests.{ltb-false}
 use Rattle.search.specs.Moves.{sensible, parentFrom, takenFrom}
 use Rattle.search.specs.inner.Taking.{Taking}
 use Rattle.search.proofs.Change.{Changed, stored}
@@ -52,3 +54,16 @@ module _ {lefts : List ℕ} {darts : ℕ} {proposal : List ℕ} {f : ℕ} {paren
       by x l (yes q) =
           c .at x q ∙ ap (λ c. cond c (at proposal f) 1024) (sym no' ∙ b-is ∙ test-is) ∙ ap (parentFrom lefts darts proposal) (sym q)
       by x l (no m) = c .off x m ∙ t .taken x (omega arith)
+
+-- where 1024 stands for every face, all parents are taken as they stand, and none of them counts
+module _ (lefts : List ℕ) {darts faces : ℕ} (proposal : List ℕ) (few : darts ≤ 1024) (none : (f : ℕ) → f < faces → at proposal f ≡ 1024) where
+  unfit : (f : ℕ) → f < faces → sensible lefts darts f (at proposal f) ≡ false
+  unfit f l = ap (λ b. b && eqb (at lefts (at proposal f)) f) (ltb-false (at proposal f) darts (omega (arith, none f l)))
+
+  pub taking-none : length proposal ≡ 1024 → Taking lefts darts proposal faces proposal 0
+  taking-none size = record {
+    size = size;
+    taken = λ x l. none x l ∙ ap (λ b. cond b (at proposal x) 1024) (sym (unfit x l));
+    rest = λ x l. refl;
+    counted = sym (sum-nil Naturals faces (λ f. bit (sensible lefts darts f (at proposal f))) (λ f l. ap bit (unfit f l)));
+  }

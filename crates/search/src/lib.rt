@@ -11,6 +11,7 @@
 // Moore 1959 (the queue); Cherkassky and Goldberg 1999 (parents that lead round, levels that are updated along them).
 ghost use mathlib.Core.Path.{_≡_};
 ghost use mathlib.Core.Bool.{true, false};
+ghost use mathlib.Core.List.{List};
 ghost use Prim.Native.Nat.{ℕ, _+_, _<_, _≤_};
 ghost use lib.ListN.{length, take};
 ghost use lib.Signed.{mag};
@@ -28,12 +29,15 @@ ghost use Rattle.search.specs.Look.{LookAt};
 ghost use Rattle.search.specs.Straightening.{unmarked, Follows, Descends, Closes, Straightens};
 ghost use Rattle.search.specs.Trace.{firstLooks, Searches};
 ghost use Rattle.search.specs.inner.Progress.{Looking, Lowering, Straightening};
-ghost use Rattle.search.specs.inner.Ascending.{Ascended};
+ghost use Rattle.search.specs.inner.Ascending.{Matched, Ascended, Unlinked};
 ghost use Rattle.search.specs.inner.Taking.{Taking};
 ghost use Rattle.search.specs.Level.{far};
 
 // What stands in the place of a level where a face has none yet.
 const FAR: i64 = 2000000000000000;
+
+// The link of a face that has followed its parent in this straightening.
+const DONE: u16 = 1025;
 
 // Settled potentials, or the dart that closes a ring.
 pub enum Outcome {
@@ -47,9 +51,10 @@ enum Straightened {
     Ring(usize),
 }
 
-// How many faces an ascent went through, and the face that it came to.
+// How many faces an ascent went through, the last of them, and the face that it came to.
 struct Risen {
     count: usize,
+    last: usize,
     top: usize,
 }
 
@@ -115,6 +120,41 @@ fn take_parents(lefts: &[u16; 1024], darts: usize, faces: usize, parents: &mut [
     taken
 }
 
+// 1 where a parent is proposed, else 0.
+fn proposed(p: u16) -> u16
+    ensures { λ r. ⌜ (r ≤ 1) × (r ≡ 0 → p ≡ 1024) ⌝ }
+{
+    if p == 1024 { 0 } else { 1 }
+}
+
+// Whether 1024 stands for every face: no parent is proposed. A sum of 16 bits, which the compiler adds up eight faces at a time.
+fn none_proposed(parents: &[u16; 1024], faces: usize) -> bool
+    requires { ⌜ faces ≤ 1024 ⌝ }
+    ensures { λ r. ⌜ (r ≡ true → (f : ℕ) → f < faces → at (now (parents .entry)) f ≡ 1024) ⌝ }
+{
+    let mut some: u16 = 0;
+    for f in 0..faces {
+        some += proposed(parents[f]);
+    }
+    some == 0
+}
+
+// The same, without a look at each face where none is proposed.
+fn take_proposed(
+    lefts: &[u16; 1024],
+    darts: usize,
+    faces: usize,
+    parents: &mut [u16; 1024],
+) -> usize
+    requires { ⌜ (length (now parents) ≡ 1024) × (darts ≤ 1024) × (faces ≤ 1024) ⌝ }
+    ensures { λ r. ⌜ Taking (now (lefts .entry)) darts (now (parents .entry)) faces (now (parents .exit)) r ⌝ }
+{
+    if none_proposed(&*parents, faces) {
+        return 0;
+    }
+    take_parents(lefts, darts, faces, parents)
+}
+
 // At first the roots, which stand at the first places of the queue, are at 0 and wait, without a parent; no other face has a level. Potentials and flags come
 // as new arrays are made, without levels and at rest: to fill them once more would cost as much as some looks. Returns how many parents were taken.
 fn begin(
@@ -133,7 +173,7 @@ fn begin(
     ensures { λ r. ⌜ Begun (now (lefts .entry)) darts faces (now (parents .entry)) (now (potentials .exit)) (now (parents .exit)) (now (waiting .exit))
         (now (queue .entry)) roots × (r ≡ takenFrom (now (lefts .entry)) darts faces (now (parents .entry))) ⌝ }
 {
-    let taken = take_parents(lefts, darts, faces, &mut *parents);
+    let taken = take_proposed(lefts, darts, faces, &mut *parents);
     for m in 0..roots {
         let f = arrays::wide(queue[m]);
         potentials[f] = 0;
@@ -154,39 +194,42 @@ fn first_looks(faces: usize, taken: usize) -> usize
     0
 }
 
-// Goes up from the face f over parents, through faces that have one and are not marked; marks each with f and notes it.
+// Goes up from the face f over parents, through faces that have one and no link yet. Each gets a link down, to the face before it on the way; f to itself.
 fn ascend(
     lefts: &[u16; 1024],
     parents: &[u16; 1024],
     darts: usize,
     faces: usize,
     f: usize,
-    marks: &mut [u16; 1024],
-    noted: &mut [u16; 1024],
+    links: &mut [u16; 1024],
 ) -> Risen
-    requires { ⌜ (length (now marks) ≡ 1024) × (length (now noted) ≡ 1024) × (darts ≤ 1024) × (faces ≤ 1024) × (f < faces)
+    requires { ⌜ (length (now links) ≡ 1024) × (darts ≤ 1024) × (faces ≤ 1024) × (f < faces)
         × ((d : ℕ) → d < darts → rightOf (now lefts) d < faces) ⌝ }
-    ensures { λ r. ⌜ Ascended (up (rightOf (now (lefts .entry))) (at (now (parents .entry)))) darts faces (now (parents .entry)) f
-        (now (marks .entry)) (now (marks .exit)) (now (noted .exit)) (r .count) (r .top) ⌝ }
+    ensures { λ r. ⌜ ((marks : List ℕ) → Matched marks (now (links .entry))
+        → Ascended (up (rightOf (now (lefts .entry))) (at (now (parents .entry)))) darts faces (now (parents .entry)) f marks
+        (now (links .entry)) (now (links .exit)) (r .count) (r .last) (r .top)) ⌝ }
 {
     let mut y = f;
+    let mut below = f;
     let mut count: usize = 0;
     loop {
         let p = arrays::wide(parents[y]);
         if darts <= p {
             return Risen {
                 count: count,
+                last: below,
                 top: y,
             };
         }
-        if marks[y] != 1024 {
+        if links[y] != 1024 {
             return Risen {
                 count: count,
+                last: below,
                 top: y,
             };
         }
-        marks[y] = f as u16;
-        noted[count] = y as u16;
+        links[y] = below as u16;
+        below = y;
         count += 1;
         y = arrays::right(lefts, p);
     }
@@ -233,14 +276,16 @@ fn follow(
     last
 }
 
-// The noted faces follow their parents, the last one first. Returns the end of the queue.
+// The faces of the ascent from f follow their parents, down the links from the last one on. Returns the end of the queue. `f` is named by the contract only.
 fn descend(
     lefts: &[u16; 1024],
     lengths: &[i32; 1024],
     darts: usize,
     faces: usize,
-    noted: &[u16; 1024],
+    f: usize,
     count: usize,
+    from: usize,
+    links: &mut [u16; 1024],
     potentials: &mut [i64; 1024],
     parents: &mut [u16; 1024],
     waiting: &mut [u8; 1024],
@@ -248,16 +293,19 @@ fn descend(
     last: usize,
 ) -> usize
     requires { ⌜ Lowering (dualOf (now lefts) (now lengths) darts faces)
-        (tablesOf (now potentials) (now parents) (now waiting) (now queue) last) (now noted) count ⌝ }
+        (tablesOf (now potentials) (now parents) (now waiting) (now queue) last) f count from (now links) ⌝ }
     ensures { λ r. ⌜ Descends (now (lefts .entry)) (now (lengths .entry)) (up (rightOf (now (lefts .entry))) (at (now (parents .entry))))
-        (at (now (noted .entry)) 0) count (tablesOf (now (potentials .entry)) (now (parents .entry)) (now (waiting .entry)) (now (queue .entry)) last)
-        (tablesOf (now (potentials .exit)) (now (parents .exit)) (now (waiting .exit)) (now (queue .exit)) r) ⌝ }
+        f count (tablesOf (now (potentials .entry)) (now (parents .entry)) (now (waiting .entry)) (now (queue .entry)) last)
+        (tablesOf (now (potentials .exit)) (now (parents .exit)) (now (waiting .exit)) (now (queue .exit)) r)
+        × Unlinked (up (rightOf (now (lefts .entry))) (at (now (parents .entry)))) f 0 count (now (links .entry)) (now (links .exit)) ⌝ }
 {
     let mut k = count;
+    let mut y = from;
     let mut end = last;
     while 0 < k {
         k -= 1;
-        let y = arrays::wide(noted[k]);
+        let below = arrays::wide(links[y]);
+        links[y] = DONE;
         end = follow(
             lefts,
             lengths,
@@ -268,17 +316,18 @@ fn descend(
             y,
             end,
         );
+        y = below;
     }
     end
 }
 
-// Whether the ascent from f has come round: to the face y, which has a level and was met in this very ascent.
-fn is_round(potentials: &[i64; 1024], marks: &[u16; 1024], f: usize, y: usize) -> bool
-    requires { ⌜ (y < 1024) × (f < 1024) ⌝ }
-    ensures { λ r. ⌜ (r ≡ true → (at (now (marks .entry)) y ≡ f) × (atℤ (now (potentials .entry)) y ≡ far → ⊥))
-        × (r ≡ false → at (now (marks .entry)) y ≡ f → (atℤ (now (potentials .entry)) y ≡ far → ⊥) → ⊥) ⌝ }
+// Whether the ascent that is under way has come round: to the face y, which has a level and was met in this very ascent: who was met before is done.
+fn is_round(potentials: &[i64; 1024], links: &[u16; 1024], y: usize) -> bool
+    requires { ⌜ y < 1024 ⌝ }
+    ensures { λ r. ⌜ (r ≡ true → (at (now (links .entry)) y < 1024) × (atℤ (now (potentials .entry)) y ≡ far → ⊥))
+        × (r ≡ false → at (now (links .entry)) y < 1024 → (atℤ (now (potentials .entry)) y ≡ far → ⊥) → ⊥) ⌝ }
 {
-    if arrays::wide(marks[y]) == f {
+    if links[y] < 1024 {
         return !is_far(potentials, y);
     }
     false
@@ -303,14 +352,13 @@ fn straighten(
         (tablesOf (now (potentials .entry)) (now (parents .entry)) (now (waiting .entry)) (now (queue .entry)) last)
         (tablesOf (now (potentials .exit)) (now (parents .exit)) (now (waiting .exit)) (now (queue .exit)) end) r) ⌝ }
 {
-    let mut marks = [1024u16; 1024];
-    let mut noted = [1024u16; 1024];
+    let mut links = [1024u16; 1024];
     let mut end = last;
     for f in 0..faces {
-        let risen = ascend(lefts, &*parents, darts, faces, f, &mut marks, &mut noted);
+        let risen = ascend(lefts, &*parents, darts, faces, f, &mut links);
         if 0 < risen.count {
             let top = risen.top;
-            if is_round(&*potentials, &marks, f, top) {
+            if is_round(&*potentials, &links, top) {
                 return Straightened::Ring(arrays::wide(parents[top]));
             }
             end = descend(
@@ -318,8 +366,10 @@ fn straighten(
                 lengths,
                 darts,
                 faces,
-                &noted,
+                f,
                 risen.count,
+                risen.last,
+                &mut links,
                 &mut *potentials,
                 &mut *parents,
                 &mut *waiting,
@@ -362,8 +412,9 @@ fn look(
     while j < e {
         let d = arrays::wide(order[j]);
         j += 1;
+        let f = arrays::wide(lefts[d]);
         if relax(lefts, lengths, &mut *potentials, &mut *parents, i, d) {
-            end = push(&mut *waiting, &mut *queue, arrays::wide(lefts[d]), end);
+            end = push(&mut *waiting, &mut *queue, f, end);
         }
     }
     end

@@ -2,6 +2,7 @@
 // proving set.
 //
 // The walk over the darts and the groups of darts by faces were made when the drawing was opened. All other arrays belong to a step, and none is kept longer.
+// Lengths and heights are made of ones, which nobody reads: of zeros the compiler makes a call of memset, which for 4 KiB takes an instruction for each byte.
 ghost use mathlib.Core.Path.{_≡_};
 ghost use mathlib.Core.Bool.{false};
 ghost use mathlib.Core.List.{List, []};
@@ -234,7 +235,7 @@ fn cut_of_ring(
 {
     let mut winding = [0i16; 1024];
     windings::fill_winding(lefts, parents, 2 * edges, y, &mut winding);
-    let mut heights = [0i32; 1024];
+    let mut heights = [1i32; 1024];
     heights::fill_heights(tails, order, from, 2 * edges, &winding, &mut heights);
     thresholds::choose_set(tails, lengths, &heights, nodes, 2 * edges, inside);
 }
@@ -277,7 +278,7 @@ pub fn decide<'a>(
 {
     let start = traversal::dart_at(tails, 2 * edges, source);
     let finish = traversal::dart_at(tails, 2 * edges, sink);
-    let mut lengths = [0i32; 1024];
+    let mut lengths = [1i32; 1024];
     if cut_apart(
         tails,
         rotations,
@@ -402,7 +403,7 @@ fn decide_at<'a>(
 {
     let start = traversal::dart_at(tails, 2 * edges, source);
     let finish = traversal::dart_at(tails, 2 * edges, sink);
-    let mut lengths = [0i32; 1024];
+    let mut lengths = [1i32; 1024];
     if cut_apart(
         tails,
         rotations,

@@ -46,12 +46,12 @@ returns c =
     let l = c .before .loop in
     let k = c .before .before in
     let s = k .before .before in
-    let e = k .take-parents .ensures in
+    let e = k .take-proposed .ensures in
     let all : l .m ≡ s .args .roots = omega (arith, c .loop-test .left, l .inv .1) in (
       subst
           (Begun (s .args .lefts .now) (s .args .darts) (s .args .faces) (s .args .parents .now) (l .potentials) (l .parents) (l .waiting)
           (s .args .queue .now)) all
-          (l .inv .0 (s .args .parents .now) (k .take-parents .result) e),
+          (l .inv .0 (s .args .parents .now) (k .take-proposed .result) e),
       e .counted,
     )
 

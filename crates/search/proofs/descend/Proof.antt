@@ -8,14 +8,15 @@ use Rattle.search.proofs.descend.Statement.{statement}
 use Rattle.search.proofs.descend.Tie as tie
 
 abbrev Inv-loop : tie.InvT-loop
-Inv-loop lefts lengths darts faces noted count potentials₀ parents₀ waiting₀ queue₀ last k₀ end₀ potentials parents waiting queue k end =
-    Falling lefts lengths darts faces (tablesOf potentials₀ parents₀ waiting₀ queue₀ last) noted count k (tablesOf potentials parents waiting queue end)
+Inv-loop lefts lengths darts faces f count from links₀ potentials₀ parents₀ waiting₀ queue₀ last k₀ y₀ end₀ links potentials parents waiting queue k y end =
+    Falling lefts lengths darts faces (tablesOf potentials₀ parents₀ waiting₀ queue₀ last) f count links₀ k y links
+    (tablesOf potentials parents waiting queue end)
 
 abbrev μ-loop : tie.MeasureT-loop
-μ-loop lefts lengths darts faces noted count potentials₀ parents₀ waiting₀ queue₀ last k₀ end₀ potentials parents waiting queue k end = k
+μ-loop lefts lengths darts faces f count from links₀ potentials₀ parents₀ waiting₀ queue₀ last k₀ y₀ end₀ links potentials parents waiting queue k y end = k
 
-k-in : (c : tie.In-loop Inv-loop μ-loop) → c .before .loop .k ≤ 1024
-k-in c = let i = c .before .loop .inv in omega (arith, i .descending .room, i .sound .few-faces)
+y-small : (c : tie.In-loop Inv-loop μ-loop) → c .before .loop .y < 1024
+y-small c = let i = c .before .loop .inv in omega (arith, face-in i (c .loop-test .taken), i .sound .few-faces)
 
 follow-requires : tie.Need-follow-requires Inv-loop μ-loop
 follow-requires c κs =
@@ -23,20 +24,18 @@ follow-requires c κs =
     let n = w .before .before in
     let i = n .before .loop .inv in
     let some = n .loop-test .taken in
-    let y = w .wide .result in
     let r = i .descending .passing in
-    let e = w .wide .ensures in
     let few = i .sound .few-faces in (
       r .size-potentials,
       r .size-parents,
       r .size-waiting,
       r .size-queue,
-      omega (arith, face-in i some y e),
-      omega (arith, dart-in i some y e, i .sound .few-darts),
-      omega (arith, left-in i some y e),
-      omega (arith, right-in i some y e),
+      y-small n,
+      omega (arith, dart-in i some, i .sound .few-darts),
+      omega (arith, left-in i some),
+      omega (arith, right-in i some),
       omega (arith, r .spent),
-      λ has. omega (arith, right-near i some y e has, length-near i some y e),
+      λ has. omega (arith, right-near i some has, length-near i some),
     )
 
 loop-again : tie.Need-loop-again Inv-loop μ-loop
@@ -53,9 +52,11 @@ descend-spec =
     μ-loop
     (λ c. falling-first (c .pre))
     (λ c. search needs)
-    (λ c. record { fits = omega (arith, k-in c) })
-    (λ c. omega (arith, k-in c, c .loop-test .taken))
+    (λ c. record { fits = omega (arith, y-small c) })
+    (λ c. y-small c)
     (λ c κs. search needs)
+    (λ c. record { fits = omega (arith, y-small (c .before .before)) })
+    (λ c. y-small (c .before .before))
     follow-requires
     (λ c. omega (arith, c .before .before .before .before .before .before .before .loop-test .taken))
     loop-again

@@ -96,9 +96,22 @@ left-small c =
     let h = looping c .loop .inv in
     omega (arith, try-left (h .sound) (base (looping c) .pre .1) (h .trying) (c .wide3 .result) (more c) (c .wide3 .ensures), h .sound .few-faces)
 
+mul-wide-4 : tie.Need-mul-wide-4 Inv-loop μ-loop
+mul-wide-4 c = record { fits = omega (arith, dart-small c) }
+
+element-copy-out-wide-4 : tie.Need-element-copy-out-wide-4 Inv-loop μ-loop
+element-copy-out-wide-4 c = dart-small c
+
+wide-requires-4 : tie.Need-wide-requires-4 Inv-loop μ-loop
+wide-requires-4 c κs = search needs
+
+-- the dart, seen from where the face left of it is read
+abbrev crossed : tie.After-wide4 Inv-loop μ-loop → tie.After-wide3 Inv-loop μ-loop
+crossed c = c .before .before
+
 relax-requires : tie.Need-relax-requires Inv-loop μ-loop
 relax-requires c κs =
-    let d = c .before .before in
+    let d = crossed (c .before .before) in
     let h = looping d .loop .inv in (
       h .trying .stage .size-potentials,
       h .trying .stage .size-parents,
@@ -109,38 +122,35 @@ relax-requires c κs =
     )
 
 -- ── it lowered ──
+abbrev leftward : tie.After-relax Inv-loop μ-loop → tie.After-wide4 Inv-loop μ-loop
+leftward c = c .before .before .before
+
 abbrev dart : tie.After-relax Inv-loop μ-loop → tie.After-wide3 Inv-loop μ-loop
-dart c = c .before .before .before
-
-mul-wide-4 : tie.Need-mul-wide-4 Inv-loop μ-loop
-mul-wide-4 c = record { fits = omega (arith, dart-small (dart (c .before .before .before))) }
-
-element-copy-out-wide-4 : tie.Need-element-copy-out-wide-4 Inv-loop μ-loop
-element-copy-out-wide-4 c = dart-small (dart (c .before .before .before))
-
-wide-requires-4 : tie.Need-wide-requires-4 Inv-loop μ-loop
-wide-requires-4 c κs = search needs
-
--- the place after `relax`, seen from `push`
-abbrev relaxed : tie.After-wide4 Inv-loop μ-loop → tie.After-relax Inv-loop μ-loop
-relaxed c = c .before .before .before .before .before
+dart c = crossed (leftward c)
 
 push-requires : tie.Need-push-requires Inv-loop μ-loop
 push-requires c κs =
-    let d = dart (relaxed c) in
-    let h = looping d .loop .inv in
-    (h .trying .stage .size-waiting, h .trying .stage .size-queue, omega (arith, c .wide4 .ensures, left-small d), omega (arith, h .trying .stage .spent))
+    let r = c .before .before .before in
+    let d = dart r in
+    let h = looping d .loop .inv in (
+      h .trying .stage .size-waiting,
+      h .trying .stage .size-queue,
+      omega (arith, leftward r .wide4 .ensures, left-small d),
+      omega (arith, h .trying .stage .spent),
+    )
 
 loop-less : tie.Need-loop-less Inv-loop μ-loop
-loop-less c = omega (arith, dart (relaxed (c .before)) .before .before .loop-test .taken)
+loop-less c = omega (arith, dart (c .before .before .before .before) .before .before .loop-test .taken)
 
 loop-again : tie.Need-loop-again Inv-loop μ-loop
 loop-again c =
-    let r = relaxed (c .before) in
+    let t = c .before .before .before in
+    let r = t .before in
+    let w = leftward r .wide4 in
     let d = dart r in
     let s = base (looping d) in
-    look-lowers (givenAt s) (s .pre .1) (looping d .loop .inv) (d .wide3 .result) (more d) (d .wide3 .ensures) _ (c .before .wide4 .result)
-    (c .before .wide4 .ensures) (r .relax .result) (c .before .before .before .before .before .if1 .taken) (r .relax .ensures) (c .push .ensures)
+    look-lowers (givenAt s) (s .pre .1) (looping d .loop .inv) (d .wide3 .result) (more d) (d .wide3 .ensures) _ (w .result) (w .ensures) (r .relax .result)
+    (t .if1 .taken) (r .relax .ensures) (c .push .ensures)
 
 -- ── it could not ──
 loop-less-2 : tie.Need-loop-less-2 Inv-loop μ-loop
@@ -177,10 +187,10 @@ look-spec =
     element-copy-out-wide-3
     wide-requires-3
     add-j
-    relax-requires
     mul-wide-4
     element-copy-out-wide-4
     wide-requires-4
+    relax-requires
     push-requires
     loop-less
     loop-again

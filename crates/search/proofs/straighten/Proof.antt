@@ -5,20 +5,19 @@ use Prim.Native.Nat.{_-_, _≤_, _<_}
 use native.Mathlib.Omega.{arith}
 use borrow.Author.Needs.{needs}
 use Rattle.search.specs.Configuration.{tablesOf}
-use Rattle.search.proofs.Passes.{Pass, pass-first, pass-last, pass-ring, pass-down, pass-met, pass-none}
+use Rattle.search.proofs.Passes.{Pass, pass-first, pass-last, pass-ring, pass-down, pass-next, pass-none}
 use Rattle.search.proofs.straighten.Statement.{statement}
 use Rattle.search.proofs.straighten.Tie as tie
 
 abbrev Inv-loop : tie.InvT-loop
-Inv-loop lefts lengths darts faces potentials₀ parents₀ waiting₀ queue₀ last marks₀ noted₀ end₀ f₀ potentials parents waiting queue marks noted end f =
-    Pass lefts lengths darts faces (tablesOf potentials₀ parents₀ waiting₀ queue₀ last) f marks noted (tablesOf potentials parents waiting queue end)
+Inv-loop lefts lengths darts faces potentials₀ parents₀ waiting₀ queue₀ last links₀ end₀ f₀ potentials parents waiting queue links end f =
+    Pass lefts lengths darts faces (tablesOf potentials₀ parents₀ waiting₀ queue₀ last) f links (tablesOf potentials parents waiting queue end)
 
 abbrev μ-loop : tie.MeasureT-loop
-μ-loop lefts lengths darts faces potentials₀ parents₀ waiting₀ queue₀ last marks₀ noted₀ end₀ f₀ potentials parents waiting queue marks noted end f =
-    faces - f
+μ-loop lefts lengths darts faces potentials₀ parents₀ waiting₀ queue₀ last links₀ end₀ f₀ potentials parents waiting queue links end f = faces - f
 
 loop-holds : tie.Need-loop-holds Inv-loop μ-loop
-loop-holds c = pass-first _ refl (c .pre)
+loop-holds c = pass-first (c .pre)
 
 abbrev Turn : Type 0
 Turn = tie.In-loop Inv-loop μ-loop
@@ -28,22 +27,25 @@ f-small c = omega (arith, c .loop-test .taken, c .before .loop .inv .sound .few-
 
 ascend-requires : tie.Need-ascend-requires Inv-loop μ-loop
 ascend-requires c κs =
-    let n = c .before .before .before in
+    let n = c .before .before in
     let i = n .before .loop .inv in
-    (i .swept .size, i .size-noted, i .sound .few-darts, i .sound .few-faces, n .loop-test .taken, i .sound .right-in)
+    (i .size-links, i .sound .few-darts, i .sound .few-faces, n .loop-test .taken, i .sound .right-in)
 
 -- ── the ascent has come to a face ──
 abbrev Up : Type 0
 Up = tie.After-ascend Inv-loop μ-loop
 
 abbrev turn : Up → Turn
-turn c = c .before .before .before .before
+turn c = c .before .before .before
+
+top-in : (c : Up) → c .ascend .result .top < turn c .before .before .args .faces
+top-in c = let i = turn c .before .loop .inv in c .ascend .ensures (i .marks) (i .matched) .top-in
 
 top-small : (c : Up) → c .ascend .result .top < 1024
-top-small c = omega (arith, c .ascend .ensures .top-in, turn c .before .loop .inv .sound .few-faces)
+top-small c = omega (arith, top-in c, turn c .before .loop .inv .sound .few-faces)
 
 is-round-requires : tie.Need-is-round-requires Inv-loop μ-loop
-is-round-requires c κs = let u = c .before .before .before .before in (top-small u, f-small (turn u))
+is-round-requires c κs = top-small (c .before .before .before .before)
 
 returns : tie.Need-returns Inv-loop μ-loop
 returns c =
@@ -51,7 +53,8 @@ returns c =
     let r = t .before .is-round .ensures .0 (t .if2 .taken) in
     let u = t .before .before .before .before .before .before in
     let n = turn u in
-    (_, pass-ring (n .before .loop .inv) (n .loop-test .taken) (u .ascend .ensures) (r .0) (r .1) (c .wide .result) (c .wide .ensures))
+    let i = n .before .loop .inv in
+    (_, pass-ring i (n .loop-test .taken) (u .ascend .ensures (i .marks) (i .matched)) (r .0) (r .1) (c .wide .result) (c .wide .ensures))
 
 -- ── it has not come round ──
 descend-requires : tie.Need-descend-requires Inv-loop μ-loop
@@ -60,18 +63,20 @@ descend-requires c κs =
     let o = t .before .before .before .before in
     let u = o .before .before in
     let n = turn u in
-    pass-down (n .before .loop .inv) (n .loop-test .taken) (u .ascend .ensures) (t .before .is-round .ensures .1 (t .if2 .left)) (o .if1 .taken)
+    let i = n .before .loop .inv in
+    pass-down i (n .loop-test .taken) (u .ascend .ensures (i .marks) (i .matched)) (t .before .is-round .ensures .1 (t .if2 .left))
 
 loop-again : tie.Need-loop-again Inv-loop μ-loop
 loop-again c =
     let u = c .before .before in
     let n = turn u in
     let i = n .before .loop .inv in
+    let a = u .ascend .ensures (i .marks) (i .matched) in
     ⊎-elim
     (λ d.
-    rw (d .11, d .12, d .13, d .14, d .15)
-    (pass-met i (n .loop-test .taken) (u .ascend .ensures) (d .3 .ensures .1 (d .4 .left)) (d .0 .taken) (d .10 .ensures)))
-    (λ d. rw (d .1, d .2, d .3, d .4, d .5) (pass-none i (n .loop-test .taken) (u .ascend .ensures) (omega (arith, d .0 .left))))
+    rw (d .11, d .12, d .13, d .14, d .15, d .16)
+    (let q = d .10 .ensures in pass-next i (n .loop-test .taken) a (d .3 .ensures .1 (d .4 .left)) (q .1) (q .0)))
+    (λ d. rw (d .1, d .2, d .3, d .4, d .5, d .6) (pass-none i (n .loop-test .taken) a (omega (arith, d .0 .left))))
     (c .if1 .came)
 
 returns-2 : tie.Need-returns-2 Inv-loop μ-loop

@@ -97,8 +97,8 @@ pub record Descending (N : Dual) (t : Tables) (first b : ℕ) (upward : ℕ → 
   pub near : HasLevel (atℤ (t .potentials)) (iter upward k f) → mag (atℤ (t .potentials) (iter upward k f)) ≤ deep * longest
   pub room : deep + rest + k ≤ N .faces
 
--- the same with some roots, the faces noted in an array
-pub record Lowering (dual : List ℕ → Dual) (t : Tables) (noted : List ℕ) (count : ℕ) : Type 0 where
+-- the same with some roots; the faces have links down, and `from` is the last of them
+pub record Lowering (dual : List ℕ → Dual) (t : Tables) (f count from : ℕ) (links : List ℕ) : Type 0 where
   pub roots : List ℕ
   pub sound : WellFormed (dual roots)
   pub first : ℕ
@@ -107,8 +107,10 @@ pub record Lowering (dual : List ℕ → Dual) (t : Tables) (noted : List ℕ) (
   pub few : bound < 1600000
   pub deep : ℕ
   pub rest : ℕ
-  pub descending : Descending (dual roots) t first bound (up (dual roots .right) (at (t .parents))) (at noted 0) count deep rest
-  pub noted-are : (k : ℕ) → k < count → at noted k ≡ iter (up (dual roots .right) (at (t .parents))) k (at noted 0)
+  pub descending : Descending (dual roots) t first bound (up (dual roots .right) (at (t .parents))) f count deep rest
+  pub size-links : length links ≡ 1024
+  pub linked : (k : ℕ) → k < count → at links (iter (up (dual roots .right) (at (t .parents))) k f) ≡ iter (up (dual roots .right) (at (t .parents))) (k - 1) f
+  pub from-is : from ≡ iter (up (dual roots .right) (at (t .parents))) (count - 1) f
 
 -- the same for a whole straightening
 pub record Straightening (dual : List ℕ → Dual) (t : Tables) : Type 0 where

@@ -4,15 +4,15 @@ use Prim.Native.Nat.{ℕ, _-_, _≤_, _<_}
 use native.Mathlib.Omega.{arith}
 use lib.ListN.{length}
 use borrow.Author.Needs.{needs}
-use Rattle.pivots.proofs.leave_out.Statement.{statement}
-use Rattle.pivots.proofs.leave_out.Tie as tie
+use Rattle.pivots.proofs.flag_listed.Statement.{statement}
+use Rattle.pivots.proofs.flag_listed.Tie as tie
 
 abbrev Inv-loop : tie.InvT-loop
-Inv-loop tails list from end inside₀ i₀ inside i =
+Inv-loop tails list from end flag inside₀ i₀ inside i =
     length inside ≡ 1024
 
 abbrev μ-loop : tie.MeasureT-loop
-μ-loop tails list from end inside₀ i₀ inside i = end - i
+μ-loop tails list from end flag inside₀ i₀ inside i = end - i
 
 loop-holds : tie.Need-loop-holds Inv-loop μ-loop
 loop-holds c = search needs
@@ -50,8 +50,8 @@ loop-again c = search needs
 returns : tie.Need-returns Inv-loop μ-loop
 returns c = search needs
 
-pub leave-out-spec : {M : Type 1} → statement M
-leave-out-spec =
+pub flag-listed-spec : {M : Type 1} → statement M
+flag-listed-spec =
     tie.close
     (tie.spec
     Inv-loop
