@@ -2,3 +2,4 @@
 pub mod Numbered
 pub mod Paging
 pub mod Refusals
+pub mod Statements

@@ -1,7 +1,6 @@
 -- A result tells whether there is an answer: every check has a number of 1 or more, so a result of 0 is no refusal, and any other is one.
 use Prim.Native.Nat.{ℕ}
-use mathlib.Core.Path.{_≡_}
-use mathlib.Core.Logic.{_≢_}
+use mathlib.Core.Path.{_≡_, sym, _∙_, subst}
 use mathlib.Core.List.{List}
 use native.Mathlib.Omega.{arith}
 use lib.ListN.{length}
@@ -47,6 +46,7 @@ use Rattle.parties.specs.Shared.{Shared, sharedDrawing}
 use Rattle.parties.specs.Start.{emptied}
 use Rattle.parties.specs.Calls.{askChecks, commitChecks}
 use Rattle.dimacs.specs.declared.DimacsAnswer.the-variants as dimacs
+use Rattle.abi.specs.Result.{Says}
 use Rattle.abi.specs.Read.{TellsRead}
 use Rattle.abi.specs.Write.{TellsWrite}
 use Rattle.abi.specs.Solve.{TellsSolve}
@@ -66,6 +66,7 @@ use Rattle.abi.specs.Sessions.{TellsStart, TellsAsk, TellsCommit}
 use Rattle.abi.proofs.Numbered.{
   Numbered,
   first-numbered,
+  never-eleven,
   read-numbered,
   write-numbered,
   solve-numbered,
@@ -87,23 +88,17 @@ use Rattle.abi.proofs.Numbered.{
   commit-numbered,
 }
 
--- ── what a result says, of any operation with these checks; Same: everything else behind a pointer is as it was ──
-pub record Says (cs : List Check) (result place place' : ℕ) (Same : Type 0) : Type 0 where
-  -- 0 exactly when no check refuses; the place is then as it was
-  pub zero-none : result ≡ 0 → NoneOf cs × (place' ≡ place)
-  pub none-zero : NoneOf cs → result ≡ 0
-  -- not 0: it is the number of the first check that refuses, at the place written, and nothing else is written
-  pub refused : result ≢ 0 → FirstOf cs result place' × Same
-
 module _ {cs : List Check} {result place place' : ℕ} {Same : Type 0} where
   says-answer : NoneOf cs → result ≡ 0 → place' ≡ place → Says cs result place place' Same
-  says-answer none z same = record { zero-none = λ _. (none, same); none-zero = λ _. z; refused = λ n. absurd (n z) }
+  says-answer none z same =
+      record { zero-none = λ _. (none, same); none-zero = λ _. z; refused = λ n. absurd (n z); not-eleven = λ e. omega (arith, z, e) }
 
   says-refusal : (k p : ℕ) → Numbered cs → FirstOf cs k p → result ≡ k → place' ≡ p → Same → Says cs result place place' Same
   says-refusal k p n h e q same = record {
-    zero-none = λ z. absurd (omega (arith, first-numbered cs k p n h, e, z));
+    zero-none = λ z. absurd (first-numbered cs k p n h (sym e ∙ z));
     none-zero = λ none. absurd (first-none cs k p h none);
     refused = λ _. (rw (e, q) h, same);
+    not-eleven = λ z. never-eleven cs n p (subst (λ j. FirstOf cs j p) (sym e ∙ z) h);
   }
 
 -- ── and so of each ──
