@@ -53,7 +53,7 @@ use Rattle.parties.specs.Calls.{askChecks, commitChecks}
 
 -- ── lists of checks whose numbers are neither 0 nor 11 ──
 -- of a numeral this is computed
-unfoldable given : ℕ → Bool
+unfoldable pub given : ℕ → Bool
 given k = cond (eqb k 0) false (cond (eqb k 11) false true)
 
 unfoldable pub Numbered : List Check → Type 0

@@ -1,5 +1,5 @@
--- What a result says of an operation with given checks. Document 01, demand 1: "each refusal has its stated condition and place in the order, and leaves all lent
--- memory unchanged". The place behind its pointer is where a refusal is told; Same: everything else behind a pointer is as it was.
+-- What a result says of an operation with given checks. Document 01, demand 1: "each refusal has its stated condition and place in the order, and leaves all
+-- lent memory unchanged". The place behind its pointer is where a refusal is told; Same: everything else behind a pointer is as it was.
 use Prim.Native.Nat.{ℕ}
 use mathlib.Core.Path.{_≡_}
 use mathlib.Core.Logic.{_≢_}
