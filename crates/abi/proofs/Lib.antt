@@ -3,3 +3,4 @@ pub mod Numbered
 pub mod Paging
 pub mod Refusals
 pub mod Statements
+pub mod OneAnswer

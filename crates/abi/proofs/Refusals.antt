@@ -111,8 +111,8 @@ module _ {place place' result : ℕ} where
 
   pub key-says : (input text : List ℕ) {text' : List ℕ} {length length' : ℕ} → TellsKey input text text' length length' place place' result
       → Says (keyRoomChecks text) result place place' ((text' ≡ text) × (length' ≡ length))
-  key-says input text (key.Bytes n, h, t) = says-answer (h .0) (t .0) (t .2)
-  key-says input text (key.Refused k p, h, t) = says-refusal k p (key-numbered text) (h .0) (t .0) (t .2) (h .1, t .1)
+  key-says input text (key.Bytes n, h, named, t) = says-answer (h .0) (t .0) (t .2)
+  key-says input text (key.Refused k p, h, named, t) = says-refusal k p (key-numbered text) (h .0) (t .0) (t .2) (h .1, t .1)
 
   pub practice-says : {rows columns seed : ℕ} {sheet sheet' : List ℕ} {length length' : ℕ}
       → TellsPractice rows columns seed sheet sheet' length length' place place' result
@@ -131,9 +131,9 @@ module _ {place place' result : ℕ} where
     pub solve-says : {source sink : ℕ} {value : ℤ} {flows flows' : List ℤ} {set set' : List ℕ} {can can' size size' : ℕ}
         → TellsSolve s source sink value flows flows' set set' can can' size size' place place' result
         → Says (solveChecks s source sink value flows set) result place place' ((flows' ≡ flows) × (set' ≡ set) × (can' ≡ can) × (size' ≡ size))
-    solve-says (solve.Can, h, t) = says-answer (h .0) (t .0) (t .3)
-    solve-says (solve.Cannot n, h, t) = says-answer (h .0) (t .0) (t .3)
-    solve-says (solve.Refused k p, h, t) = says-refusal k p (solve-numbered s _ _ _ _ _) (h .0) (t .0) (t .3) (h .1, h .2, t .1, t .2)
+    solve-says (solve.Can, h, named, t) = says-answer (h .0) (t .0) (t .3)
+    solve-says (solve.Cannot n, h, named, t) = says-answer (h .0) (t .0) (t .3)
+    solve-says (solve.Refused k p, h, named, t) = says-refusal k p (solve-numbered s _ _ _ _ _) (h .0) (t .0) (t .3) (h .1, h .2, t .1, t .2)
 
     pub largest-says : {source sink : ℕ} {flows flows' : List ℤ} {set set' : List ℕ} {found found' : ℕ} {value value' : ℤ}
         → TellsLargest s source sink flows flows' set set' found found' value value' place place' result
@@ -182,7 +182,7 @@ module _ {place place' result : ℕ} where
     pub page-says : (count : ℕ) (sources sinks : List ℕ) (values : List ℤ) {flows flows' : List ℤ} {sets sets' answers answers' sizes sizes' : List ℕ}
         → TellsPage s count sources sinks values flows flows' sets sets' answers answers' sizes sizes' place place' result
         → Says (pageChecks s count flows sets) result place place' ((flows' ≡ flows) × (sets' ≡ sets) × (answers' ≡ answers) × (sizes' ≡ sizes))
-    page-says count sources sinks values {flows} {flows'} {sets} {sets'} {answers} {answers'} {sizes} {sizes'} (page, h, t) =
+    page-says count sources sinks values {flows} {flows'} {sets} {sets'} {answers} {answers'} {sizes} {sizes'} (page, h, named, t) =
         go (page .verdict) (h .0) t
       where
         go : (v : Verdict)
