@@ -78,7 +78,8 @@ module _ (s : List ℕ) (sheet : NoneOf (sheetChecks s)) where
 
     -- what carries 0 balances at both ends too, and what balances everywhere carries 0
     zero-balances : (x : ℕ → ℤ) → Delivers s source sink (pos 0) x → BalancedWithin s x
-    zero-balances x carried = (record { antisymmetric = carried .antisymmetric; balanced = λ v l. go v l (ℕ-discrete v source) (ℕ-discrete v sink) }, carried .within)
+    zero-balances x carried =
+        (record { antisymmetric = carried .antisymmetric; balanced = λ v l. go v l (ℕ-discrete v source) (ℕ-discrete v sink) }, carried .within)
       where
         go : (v : ℕ) → v < nodesOf s → Dec (v ≡ source) → Dec (v ≡ sink) → net (sheetMap s) (onDarts x) v ≡ pos 0
         go v l (yes e) q = ap (net (sheetMap s) (onDarts x)) e ∙ carried .carries
