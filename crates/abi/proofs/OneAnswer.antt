@@ -92,6 +92,9 @@ module _ (s : List ℕ) (count : ℕ) (sources sinks : List ℕ) (values flows f
   module _ (i : ℕ) (l : i < count) (own' : List ℤ) (set' : List ℕ) (can can' size size' place₂ place₂' result : ℕ)
       (alone : TellsSolve s (at sources i) (at sinks i) (atℤ values i) (stretch (edgesOf s) i flows) own' (stretch (wordsFor (nodesOf s)) i sets) set'
       can can' size size' place₂ place₂' result) where
+    abbrev Answered : SolveAnswer → Type 0
+    Answered = Solves s (at sources i) (at sinks i) (atℤ values i) (stretch (edgesOf s) i flows) own' (stretch (wordsFor (nodesOf s)) i sets) set'
+
     line : (answerAt (told .0) i ≡ alone .0) × (stretch (edgesOf s) i flows' ≡ own') × (stretch (wordsFor (nodesOf s)) i sets' ≡ set')
     line =
         one-answer .same-line s count (questionIn sources sinks values) flows flows' sets sets' (told .0) (told .1) (told .2) passed i l
@@ -102,7 +105,7 @@ module _ (s : List ℕ) (count : ℕ) (sources sinks : List ℕ) (values flows f
     numbers =
         told-number (alone .0) can can' size size' place₂ place₂' result
         (λ k p e. not-zero s (at sources i) (at sinks i) (atℤ values i) (stretch (edgesOf s) i flows) own' (stretch (wordsFor (nodesOf s)) i sets) set' k p
-        (subst (Solves s (at sources i) (at sinks i) (atℤ values i) (stretch (edgesOf s) i flows) own' (stretch (wordsFor (nodesOf s)) i sets) set') e (alone .1)))
+        (subst Answered e (alone .1)))
         (alone .3)
 
     number-of : at answers' i ≡ numberTold (alone .0)

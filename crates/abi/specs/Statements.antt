@@ -53,8 +53,8 @@ use Rattle.abi.specs.Practice.{TellsPractice}
 use Rattle.abi.specs.Dimacs.{TellsDimacs}
 use Rattle.abi.specs.Sessions.{TellsStart, TellsAsk, TellsCommit}
 
--- ── One question, one answer, as C is told it. Document 02, Job 12, "isolation"; Job 1: "Each answer .. is the one Solve gives alone, and its stretches hold what
--- Solve would leave there". ──
+-- ── One question, one answer, as C is told it. Document 02, Job 12, "isolation"; Job 1: "Each answer .. is the one Solve gives alone, and its stretches hold
+-- what Solve would leave there". ──
 pub record OneAnswerInC : Type 0 where
   -- two calls on the same bytes with the same question that are lent the same give the same result and leave the same behind every pointer, the words of a
   -- proving set and its size included
