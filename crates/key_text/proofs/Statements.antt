@@ -1,8 +1,17 @@
 -- The statements of specs/Statements.antt, each by its law: of the text in proofs/Demand3.antt and Unread.antt, of numbers in the crate texts.
+use Prim.Native.Nat.{ℕ}
+use mathlib.Core.Path.{_≡_, _∙_, ap}
+use mathlib.Core.List.{List}
+use lib.ListN.{drop}
+use lib.Seq.{drop-at}
 use Rattle.texts.proofs.ReadBack.{decimal-read, no-leading-zero, number-injective}
+use Rattle.key_text.specs.Key.{Prints}
 use Rattle.key_text.specs.Statements.{KeyText, Numbers}
 use Rattle.key_text.proofs.Demand3 as demand
 use Rattle.key_text.proofs.Unread.{longest, unread}
+
+rest-kept : (b text text' : List ℕ) (n : ℕ) → Prints b text text' n → drop n text' ≡ drop n text
+rest-kept b text text' n h = ap (drop n) (h .4) ∙ drop-at (h .0) (drop n text) n (h .2)
 
 pub key-statements : KeyText
 key-statements = record {
@@ -19,6 +28,8 @@ key-statements = record {
   cannot-prints = λ b t asked. demand.cannot-prints b asked t;
   longest = longest;
   unread = unread;
+  rest-kept = rest-kept;
+  short-kept = λ b text text' k p h. h .1;
 }
 
 pub numbers : Numbers

@@ -1,11 +1,11 @@
 -- What is said of the key's text. Document 01, demand 3: "a delivery is called impossible by "cannot" and possible by "can", in Solve's answer and in the key's
--- text alike". A field for each statement; all that a field knows of the text is `Key`, which the contracts of `key_text`, `key_of_input` and `write_key` say of
--- what they print. Settings are any function from edges to whole numbers. The proofs are in proofs/Statements.antt.
+-- text alike". A field for each statement; all that a field knows of the text is `Key`, which the contracts of `key_text`, `key_of_input` and `write_key` say
+-- of what they print. Settings are any function from edges to whole numbers. The proofs are in proofs/Statements.antt.
 use Prim.Native.Nat.{ℕ, _≤_}
 use mathlib.Core.Path.{_≡_}
 use mathlib.Core.Logic.{_⊎_, _↔_}
 use mathlib.Core.List.{List, _++_}
-use lib.ListN.{getD, length, take}
+use lib.ListN.{getD, length, take, drop}
 use lib.IntN.{ℤ}
 use Rattle.refusals.specs.Order.{NoneOf, FirstOf}
 use Rattle.flows.specs.ProvingSet.{SetOf, member, size}
@@ -16,7 +16,8 @@ use Rattle.analyser.specs.Statements.{HighestFor, Possible, Impossible, ProvesO
 use Rattle.analyser.specs.Drops.{NotEvenInDrops}
 use Rattle.key_text.specs.Question.{sourceOf, sinkOf, valueOf, sheetOf, keyChecks}
 use Rattle.key_text.specs.Text.{canWord, cannotWord, refusedWord, canText, cannotText, refusedText}
-use Rattle.key_text.specs.Key.{Key}
+use Rattle.key_text.specs.declared.KeyAnswer.the-variants.{Refused}
+use Rattle.key_text.specs.Key.{Key, Prints, Writes}
 use Rattle.key_text.specs.Input.{inputRoom}
 
 -- the text's first word
@@ -48,6 +49,9 @@ pub record KeyText : Type 0 where
   -- what the program leaves unread decides nothing: an accepted input has fewer bytes than it reads, and the first of them have the keys of all
   pub longest : (b : List ℕ) → NoneOf (keyChecks b) → length b ≤ 8720
   pub unread : (n : ℕ) → inputRoom ≤ n → (b t : List ℕ) → Key b t ↔ Key (take n b) t
+  -- behind a key the slice is as it was; all of it where there is no room for some key
+  pub rest-kept : (b text text' : List ℕ) (n : ℕ) → Prints b text text' n → drop n text' ≡ drop n text
+  pub short-kept : (b text text' : List ℕ) (k p : ℕ) → Writes b text text' (Refused k p) → text' ≡ text
 
 -- ── numbers in a text are in base ten ──
 pub record Numbers : Type 0 where
