@@ -1,6 +1,6 @@
--- What an operation does not write. Document 01, "Operations": "Extra elements in a lent slice, the sheet excepted, are neither read nor written"; ""Can" writes
--- the settings only; "cannot" writes the set only"; "settings untouched"; demand 1: a refusal "leaves all lent memory unchanged". A field for each operation and
--- case; all that a field knows of a run is its contract. The proofs are in proofs/LentMemory.antt.
+-- What an operation does not write. Document 01, "Operations": "Extra elements in a lent slice, the sheet excepted, are neither read nor written"; ""Can"
+-- writes the settings only; "cannot" writes the set only"; "settings untouched"; demand 1: a refusal "leaves all lent memory unchanged". A field for each
+-- operation and case; all that a field knows of a run is its contract. The proofs are in proofs/LentMemory.antt.
 use Prim.Native.Nat.{ℕ, _*_}
 use mathlib.Core.Path.{_≡_}
 use mathlib.Core.List.{List}
