@@ -2,3 +2,5 @@
 pub mod Numbered
 pub mod Paging
 pub mod Refusals
+pub mod Statements
+pub mod OneAnswer

@@ -1,7 +1,6 @@
 -- A result tells whether there is an answer: every check has a number of 1 or more, so a result of 0 is no refusal, and any other is one.
 use Prim.Native.Nat.{ℕ}
-use mathlib.Core.Path.{_≡_}
-use mathlib.Core.Logic.{_≢_}
+use mathlib.Core.Path.{_≡_, sym, _∙_, subst}
 use mathlib.Core.List.{List}
 use native.Mathlib.Omega.{arith}
 use lib.ListN.{length}
@@ -47,6 +46,7 @@ use Rattle.parties.specs.Shared.{Shared, sharedDrawing}
 use Rattle.parties.specs.Start.{emptied}
 use Rattle.parties.specs.Calls.{askChecks, commitChecks}
 use Rattle.dimacs.specs.declared.DimacsAnswer.the-variants as dimacs
+use Rattle.abi.specs.Result.{Says}
 use Rattle.abi.specs.Read.{TellsRead}
 use Rattle.abi.specs.Write.{TellsWrite}
 use Rattle.abi.specs.Solve.{TellsSolve}
@@ -66,6 +66,7 @@ use Rattle.abi.specs.Sessions.{TellsStart, TellsAsk, TellsCommit}
 use Rattle.abi.proofs.Numbered.{
   Numbered,
   first-numbered,
+  never-eleven,
   read-numbered,
   write-numbered,
   solve-numbered,
@@ -87,23 +88,17 @@ use Rattle.abi.proofs.Numbered.{
   commit-numbered,
 }
 
--- ── what a result says, of any operation with these checks; Same: everything else behind a pointer is as it was ──
-pub record Says (cs : List Check) (result place place' : ℕ) (Same : Type 0) : Type 0 where
-  -- 0 exactly when no check refuses; the place is then as it was
-  pub zero-none : result ≡ 0 → NoneOf cs × (place' ≡ place)
-  pub none-zero : NoneOf cs → result ≡ 0
-  -- not 0: it is the number of the first check that refuses, at the place written, and nothing else is written
-  pub refused : result ≢ 0 → FirstOf cs result place' × Same
-
 module _ {cs : List Check} {result place place' : ℕ} {Same : Type 0} where
   says-answer : NoneOf cs → result ≡ 0 → place' ≡ place → Says cs result place place' Same
-  says-answer none z same = record { zero-none = λ _. (none, same); none-zero = λ _. z; refused = λ n. absurd (n z) }
+  says-answer none z same =
+      record { zero-none = λ _. (none, same); none-zero = λ _. z; refused = λ n. absurd (n z); not-eleven = λ e. omega (arith, z, e) }
 
   says-refusal : (k p : ℕ) → Numbered cs → FirstOf cs k p → result ≡ k → place' ≡ p → Same → Says cs result place place' Same
   says-refusal k p n h e q same = record {
-    zero-none = λ z. absurd (omega (arith, first-numbered cs k p n h, e, z));
+    zero-none = λ z. absurd (first-numbered cs k p n h (sym e ∙ z));
     none-zero = λ none. absurd (first-none cs k p h none);
     refused = λ _. (rw (e, q) h, same);
+    not-eleven = λ z. never-eleven cs n p (subst (λ j. FirstOf cs j p) (sym e ∙ z) h);
   }
 
 -- ── and so of each ──
@@ -116,8 +111,8 @@ module _ {place place' result : ℕ} where
 
   pub key-says : (input text : List ℕ) {text' : List ℕ} {length length' : ℕ} → TellsKey input text text' length length' place place' result
       → Says (keyRoomChecks text) result place place' ((text' ≡ text) × (length' ≡ length))
-  key-says input text (key.Bytes n, h, t) = says-answer (h .0) (t .0) (t .2)
-  key-says input text (key.Refused k p, h, t) = says-refusal k p (key-numbered text) (h .0) (t .0) (t .2) (h .1, t .1)
+  key-says input text (key.Bytes n, h, named, t) = says-answer (h .0) (t .0) (t .2)
+  key-says input text (key.Refused k p, h, named, t) = says-refusal k p (key-numbered text) (h .0) (t .0) (t .2) (h .1, t .1)
 
   pub practice-says : {rows columns seed : ℕ} {sheet sheet' : List ℕ} {length length' : ℕ}
       → TellsPractice rows columns seed sheet sheet' length length' place place' result
@@ -136,9 +131,9 @@ module _ {place place' result : ℕ} where
     pub solve-says : {source sink : ℕ} {value : ℤ} {flows flows' : List ℤ} {set set' : List ℕ} {can can' size size' : ℕ}
         → TellsSolve s source sink value flows flows' set set' can can' size size' place place' result
         → Says (solveChecks s source sink value flows set) result place place' ((flows' ≡ flows) × (set' ≡ set) × (can' ≡ can) × (size' ≡ size))
-    solve-says (solve.Can, h, t) = says-answer (h .0) (t .0) (t .3)
-    solve-says (solve.Cannot n, h, t) = says-answer (h .0) (t .0) (t .3)
-    solve-says (solve.Refused k p, h, t) = says-refusal k p (solve-numbered s _ _ _ _ _) (h .0) (t .0) (t .3) (h .1, h .2, t .1, t .2)
+    solve-says (solve.Can, h, named, t) = says-answer (h .0) (t .0) (t .3)
+    solve-says (solve.Cannot n, h, named, t) = says-answer (h .0) (t .0) (t .3)
+    solve-says (solve.Refused k p, h, named, t) = says-refusal k p (solve-numbered s _ _ _ _ _) (h .0) (t .0) (t .3) (h .1, h .2, t .1, t .2)
 
     pub largest-says : {source sink : ℕ} {flows flows' : List ℤ} {set set' : List ℕ} {found found' : ℕ} {value value' : ℤ}
         → TellsLargest s source sink flows flows' set set' found found' value value' place place' result
@@ -187,7 +182,7 @@ module _ {place place' result : ℕ} where
     pub page-says : (count : ℕ) (sources sinks : List ℕ) (values : List ℤ) {flows flows' : List ℤ} {sets sets' answers answers' sizes sizes' : List ℕ}
         → TellsPage s count sources sinks values flows flows' sets sets' answers answers' sizes sizes' place place' result
         → Says (pageChecks s count flows sets) result place place' ((flows' ≡ flows) × (sets' ≡ sets) × (answers' ≡ answers) × (sizes' ≡ sizes))
-    page-says count sources sinks values {flows} {flows'} {sets} {sets'} {answers} {answers'} {sizes} {sizes'} (page, h, t) =
+    page-says count sources sinks values {flows} {flows'} {sets} {sets'} {answers} {answers'} {sizes} {sizes'} (page, h, named, t) =
         go (page .verdict) (h .0) t
       where
         go : (v : Verdict)

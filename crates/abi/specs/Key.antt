@@ -4,6 +4,7 @@ use Prim.Native.Nat.{ℕ}
 use mathlib.Core.Path.{_≡_}
 use mathlib.Core.List.{List}
 use Rattle.key_text.specs.Key.{Writes}
+use Rattle.key_text.specs.inner.Named.{WriteNamed}
 use Rattle.key_text.specs.declared.KeyAnswer.{KeyAnswer}
 use Rattle.key_text.specs.declared.KeyAnswer.the-variants.{Bytes, Refused}
 
@@ -12,7 +13,7 @@ abbrev pub KeyTold : KeyAnswer → (result length length' place place' : ℕ) �
 KeyTold (Bytes n) result length length' place place' = (result ≡ 0) × (length' ≡ n) × (place' ≡ place)
 KeyTold (Refused k p) result length length' place place' = (result ≡ k) × (length' ≡ length) × (place' ≡ p)
 
--- a key, and what is told of it
+-- a key, its set the one that the search names, and what is told of it
 abbrev pub TellsKey : List ℕ → (text text' : List ℕ) (length length' place place' result : ℕ) → Type 0
 TellsKey input text text' length length' place place' result =
-    (answer : KeyAnswer) × Writes input text text' answer × KeyTold answer result length length' place place'
+    (answer : KeyAnswer) × Writes input text text' answer × WriteNamed input text' answer × KeyTold answer result length length' place place'

@@ -14,3 +14,5 @@ pub mod Key
 pub mod Practice
 pub mod Dimacs
 pub mod Sessions
+pub mod Result
+pub mod Statements

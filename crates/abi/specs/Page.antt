@@ -13,6 +13,7 @@ use Rattle.pages.specs.Page.{answerAt}
 use Rattle.pages.specs.declared.Page.{Page}
 use Rattle.answer_arrays.specs.Told.{numberTold, sizeTold}
 use Rattle.analyser.specs.Page.{AnswersPage}
+use Rattle.analyser.specs.inner.Named.{PageNamed}
 
 -- what stands in the arrays, by the page's verdict: an answer and a size in each of the first `count` places, the others as they were; or all as it was
 abbrev pub PageTold : Verdict → (count : ℕ) → (ℕ → SolveAnswer) → (answers answers' sizes sizes' : List ℕ) (place place' result : ℕ) → Type 0
@@ -27,10 +28,11 @@ PageTold (verdict.Refused k p) count answer answers answers' sizes sizes' place 
     × (sizes' ≡ sizes)
     × (place' ≡ p)
 
--- a page of the questions in the three arrays, and what is told of it
+-- a page of the questions in the three arrays, its sets those that the search names, and what is told of it
 abbrev pub TellsPage : List ℕ → (count : ℕ) → (sources sinks : List ℕ) (values : List ℤ) → (flows flows' : List ℤ) (sets sets' : List ℕ)
     → (answers answers' sizes sizes' : List ℕ) (place place' result : ℕ) → Type 0
 TellsPage s count sources sinks values flows flows' sets sets' answers answers' sizes sizes' place place' result =
     (page : Page)
     × AnswersPage s count (questionIn sources sinks values) flows flows' sets sets' page
+    × PageNamed s count (questionIn sources sinks values) sets' page
     × PageTold (page .verdict) count (answerAt page) answers answers' sizes sizes' place place' result

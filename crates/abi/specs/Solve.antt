@@ -4,7 +4,9 @@ use Prim.Native.Nat.{ℕ}
 use mathlib.Core.Path.{_≡_}
 use mathlib.Core.List.{List}
 use lib.IntN.{ℤ}
+use Rattle.records.specs.Sheet.{sheetDrawing}
 use Rattle.analyser.specs.Solve.{Solves}
+use Rattle.questions.specs.inner.Named.{SetNamed}
 use Rattle.questions.specs.declared.SolveAnswer.{SolveAnswer}
 use Rattle.questions.specs.declared.SolveAnswer.the-variants.{Can, Cannot, Refused}
 
@@ -14,7 +16,10 @@ Told Can result can can' size size' place place' = (result ≡ 0) × (can' ≡ 1
 Told (Cannot n) result can can' size size' place place' = (result ≡ 0) × (can' ≡ 0) × (size' ≡ n) × (place' ≡ place)
 Told (Refused k p) result can can' size size' place place' = (result ≡ k) × (can' ≡ can) × (size' ≡ size) × (place' ≡ p)
 
--- an answer of Solve, and what is told of it
+-- an answer of Solve, its set the one that the search names (that this decides the set is what `OneAnswerInC` says), and what is told of it
 abbrev pub TellsSolve : List ℕ → (source sink : ℕ) → ℤ → (flows flows' : List ℤ) (set set' : List ℕ) (can can' size size' place place' result : ℕ) → Type 0
 TellsSolve s source sink value flows flows' set set' can can' size size' place place' result =
-    (answer : SolveAnswer) × Solves s source sink value flows flows' set set' answer × Told answer result can can' size size' place place'
+    (answer : SolveAnswer)
+    × Solves s source sink value flows flows' set set' answer
+    × SetNamed (sheetDrawing s) source sink value set' answer
+    × Told answer result can can' size size' place place'

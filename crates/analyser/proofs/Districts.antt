@@ -4,6 +4,7 @@ use mathlib.Core.Logic.{_⊎_, inl, inr, _↔_}
 use mathlib.Core.Bool.{Bool, true, false}
 use mathlib.Core.List.{List}
 use Prim.Native.Nat.{ℕ, _<_}
+use native.Mathlib.Decide.{ℕ-discrete}
 use lib.IntN.{ℤ, pos}
 use Rattle.integers.proofs.Tests.{either}
 use Rattle.refusals.specs.Order.{NoneOf}
@@ -11,8 +12,11 @@ use Rattle.maps.specs.Map.{Map, darts, head}
 use Rattle.maps.specs.Walk.{Walk, here, along}
 use Rattle.maps.specs.Check.{Sound}
 use Rattle.maps.proofs.Darts.{rev-in}
+use Rattle.maps.specs.Flow.{net}
+use Rattle.maps.proofs.Cuts.{sink-takes}
 use Rattle.maps.proofs.Walks.{walk-append, walk-back}
 use Rattle.maps.proofs.Parts.{flat-in-any}
+use Rattle.flows.specs.Settings.{onDarts}
 use Rattle.flows.proofs.Plane.{zero-dart, zero-one}
 use Rattle.flows.proofs.Apart as apart
 use Rattle.arrays.specs.At.{atℤ}
@@ -24,7 +28,7 @@ use Rattle.questions.specs.declared.LargestAnswer.the-variants as largest
 use Rattle.ranges.specs.declared.RangeAnswer.the-variants as range
 use Rattle.analyser.specs.Largest.{FindsLargest}
 use Rattle.analyser.specs.Range.{FindsRange}
-use Rattle.analyser.specs.Statements.{Delivers, Districts}
+use Rattle.analyser.specs.Statements.{Delivers, Possible, BalancedWithin, Districts}
 use Rattle.analyser.proofs.SheetPlane.{plane, outer-in}
 use Rattle.analyser.proofs.Accepted.{sought}
 use Rattle.analyser.proofs.Range.{range-accepted, least-and-largest}
@@ -72,6 +76,32 @@ module _ (s : List ℕ) (sheet : NoneOf (sheetChecks s)) where
         let e = ends-in (nodesOf s) source sink ends in
         apart.apart-zero (plane s sheet .sound .range) (e .0) (e .1) (ends-differ (nodesOf s) source sink ends) (capacityOf s) far
 
+    -- what carries 0 balances at both ends too, and what balances everywhere carries 0
+    zero-balances : (x : ℕ → ℤ) → Delivers s source sink (pos 0) x → BalancedWithin s x
+    zero-balances x carried =
+        (record { antisymmetric = carried .antisymmetric; balanced = λ v l. go v l (ℕ-discrete v source) (ℕ-discrete v sink) }, carried .within)
+      where
+        go : (v : ℕ) → v < nodesOf s → Dec (v ≡ source) → Dec (v ≡ sink) → net (sheetMap s) (onDarts x) v ≡ pos 0
+        go v l (yes e) q = ap (net (sheetMap s) (onDarts x)) e ∙ carried .carries
+        go v l (no e) (yes q) =
+            let i = ends-in (nodesOf s) source sink ends in
+            ap (net (sheetMap s) (onDarts x)) q ∙ sink-takes (σ .range) (i .0) (i .1) (ends-differ (nodesOf s) source sink ends) carried
+        go v l (no e) (no q) = carried .balanced v l e q
+
+    balanced-zero : (x : ℕ → ℤ) → BalancedWithin s x → Delivers s source sink (pos 0) x
+    balanced-zero x b = record {
+      antisymmetric = b .0 .antisymmetric;
+      within = b .1;
+      balanced = λ v l _ _. b .0 .balanced v l;
+      carries = b .0 .balanced source (ends-in (nodesOf s) source sink ends .0);
+    }
+
+    exactly : (value : ℤ) → Possible s source sink value ↔ ((value ≡ pos 0) × ((x : ℕ → ℤ) × BalancedWithin s x))
+    exactly value = (
+      (λ p. let z = zero value (p .0) (p .1) in (z, (p .0, zero-balances (p .0) (subst (λ v. Delivers s source sink v (p .0)) z (p .1))))),
+      (λ b. (b .1 .0, subst (λ v. Delivers s source sink v (b .1 .0)) (sym (b .0)) (balanced-zero (b .1 .0) (b .1 .1)))),
+    )
+
 pub districts : Districts
 districts = record {
   flat-in-each = λ s sheet k part κ. flat-in-any (σ s sheet) (plane s sheet .flat .components) κ (plane s sheet .flat .in-each);
@@ -90,6 +120,7 @@ districts = record {
       zero-one (σ s sheet) κ (outerOf s) (outer-in s sheet) d e l m
       (κ .agree (𝓜 .tail d) (𝓜 .tail e) (σ s sheet .range .tail-in d l) (σ s sheet .range .tail-in e m) w);
   apart-zero = λ s source sink value x sheet ends far d. zero s sheet source sink ends far value x d;
+  apart-exactly = λ s source sink value sheet ends far. exactly s sheet source sink ends far value;
   headgate-part = λ s source sink value S sheet ends is far more.
       let e = ends-in (nodesOf s) source sink ends in
       apart.part-of-source (sheetMap s) (capacityOf s) S (joined-whole (plane s sheet .sound) source S is)

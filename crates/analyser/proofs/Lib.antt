@@ -17,3 +17,4 @@ pub mod ByNode
 pub mod Drops
 pub mod Captured
 pub mod OneAnswer
+pub mod LentMemory

@@ -34,7 +34,7 @@ use Rattle.ranges.proofs.Exchanged.{ends-exchanged}
 use Rattle.ranges.proofs.Ranging as ranging
 use Rattle.analyser.specs.Largest.{largestChecks, FindsLargest}
 use Rattle.analyser.specs.Range.{rangeChecks, FindsRange}
-use Rattle.analyser.specs.Statements.{Delivers, Possible, Impossible, LeastAndLargest}
+use Rattle.analyser.specs.Statements.{Delivers, HighestFor, Possible, Impossible, LeastAndLargest}
 use Rattle.analyser.proofs.SheetPlane.{plane, outer-in}
 use Rattle.analyser.proofs.Accepted.{largest-none}
 use Rattle.analyser.proofs.Demand3 as demand
@@ -93,13 +93,19 @@ module _ (s : List ℕ) (source sink : ℕ) (low low' : List ℤ) (below below' 
           next : negℤ (v -ℤ pos 1) ≡ negℤ v +ℤ pos 1
           next = let a = atoms₁ v in equal (search parts) (omega arith)
 
-      pub least-carries : Delivers s source sink v (atℤ low')
-      least-carries =
+      pub least-highest : HighestFor s source sink v (atℤ low')
+      least-highest =
           highest-agrees (sheetMap s) (h .1 .0) (atℤ low')
-          (λ e l. sym (filled-front (pos 0) (edgesOf s) (h .1 .0) low low' (h .1 .2) e l)) (h .1 .1) .carries
+          (λ e l. sym (filled-front (pos 0) (edgesOf s) (h .1 .0) low low' (h .1 .2) e l)) (h .1 .1)
+
+      pub largest-highest : HighestFor s source sink w (atℤ high')
+      largest-highest = demand.largest-highest s source sink high high' above above' asked-there w there
+
+      pub least-carries : Delivers s source sink v (atℤ low')
+      least-carries = least-highest .carries
 
       pub largest-carries : Delivers s source sink w (atℤ high')
-      largest-carries = demand.largest-carries s source sink high high' above above' asked-there w there
+      largest-carries = largest-highest .carries
 
       pub nothing-greater : (value : ℤ) (x : ℕ → ℤ) → Delivers s source sink value x → value ≤ℤ w
       nothing-greater = demand.nothing-greater s source sink high high' above above' asked-there w there
@@ -162,6 +168,10 @@ least-and-largest = record {
       least-carries s source sink low low' below below' high high' above above' (h .0) v w h;
   largest-carries = λ s source sink low low' below below' high high' above above' v w h.
       largest-carries s source sink low low' below below' high high' above above' (h .0) v w h;
+  least-highest = λ s source sink low low' below below' high high' above above' v w h.
+      least-highest s source sink low low' below below' high high' above above' (h .0) v w h;
+  largest-highest = λ s source sink low low' below below' high high' above above' v w h.
+      largest-highest s source sink low low' below below' high high' above above' (h .0) v w h;
   next-lower-impossible = λ s source sink low low' below below' high high' above above' v w h. h .2;
   next-greater-impossible = λ s source sink low low' below below' high high' above above' v w h. h .4;
   between-exactly = λ s source sink low low' below below' high high' above above' v w h.

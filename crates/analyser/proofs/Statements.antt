@@ -19,6 +19,7 @@ use Rattle.balance.proofs.Within.{within-none}
 use Rattle.balance.proofs.Balance.{circulation-none, none-carries, carries-none}
 use Rattle.records.specs.Sheet.{nodesOf, edgesOf, capacityOf, outerOf, sheetMap, sheetDrawing}
 use Rattle.records.proofs.Head.{kind-one-outer}
+use Rattle.records.proofs.KindOne.{kind-one-judged}
 use Rattle.sheets.specs.Open.{sheetChecks}
 use Rattle.questions.specs.Question.{endChecks}
 use Rattle.questions.specs.Mark.{paperChecks}
@@ -31,9 +32,9 @@ use Rattle.levels.specs.declared.LevelAnswer.the-variants as level
 use Rattle.levels.proofs.Given.{balanced-none}
 use Rattle.analyser.specs.Mark.{markChecks, Marks}
 use Rattle.analyser.specs.LevelsOf.{levelsChecks, GivesLevels}
-use Rattle.analyser.specs.Statements.{Delivers, BalancedWithin, LevelsFor, SettingsAndLevels, OuterFace, PossibleAndImpossible}
+use Rattle.analyser.specs.Statements.{Delivers, BalancedWithin, LevelsFor, SettingsAndLevels, HighestAnswer, OuterFace, PossibleAndImpossible}
 use Rattle.analyser.proofs.Accepted.{mark-parts, levels-none}
-use Rattle.analyser.proofs.SheetPlane.{plane, zero-in}
+use Rattle.analyser.proofs.SheetPlane.{plane, zero-in, levels-unique}
 use Rattle.analyser.proofs.Asked.{excludes}
 use Rattle.analyser.proofs.Demand3 as demand
 use Rattle.analyser.proofs.ThereAndBack as back
@@ -92,6 +93,15 @@ settings-and-levels = record {
   leveled-balanced = back.leveled-balanced;
   settings-again = λ s flows levels levels' given again again' answer room h. back.settings-again s flows levels levels' given again again' room answer h;
   levels-again = λ s levels flows flows' given again again' answer room h. back.levels-again s levels flows flows' given again again' room answer h;
+  levels-unique = levels-unique;
+}
+
+pub highest-answer : HighestAnswer
+highest-answer = record {
+  can-highest = λ s source sink value flows flows' set set' h. demand.can-highest s source sink value flows flows' set set' (h .0) h;
+  can-only = λ s source sink value flows flows' set set' h. demand.can-only s source sink value flows flows' set set' (h .0) h;
+  largest-highest = λ s source sink v flows flows' set set' h. demand.largest-highest s source sink flows flows' set set' (h .0) v h;
+  largest-only = λ s source sink v flows flows' set set' h. demand.largest-only s source sink flows flows' set set' (h .0) v h;
 }
 
 pub outer-face : OuterFace
@@ -100,6 +110,7 @@ outer-face = record {
       let o = kind-one-outer s one in
       let zero = ap (left (sheetMap s)) o ∙ first-face (plane s sheet .sound) in
       (there s f o zero, back s f o zero);
+  kind-one-judged = kind-one-judged;
 }
   where
     there : (s : List ℕ) (f : ℕ) → outerOf s ≡ 0 → left (sheetMap s) (outerOf s) ≡ 0

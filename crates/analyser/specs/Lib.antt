@@ -13,3 +13,4 @@ pub mod inner
 pub mod OneAnswer
 pub mod Statements
 pub mod Drops
+pub mod LentMemory

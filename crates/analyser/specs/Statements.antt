@@ -9,12 +9,14 @@ use Prim.Native.Nat.{ℕ, _+_, _*_, _≤_, _<_}
 use mathlib.Core.Path.{_≡_}
 use mathlib.Core.Logic.{_⊎_, _↔_}
 use mathlib.Core.Bool.{Bool, true, false}
-use mathlib.Core.List.{List}
+use mathlib.Core.List.{List, [], _∷_, _++_}
 use lib.ListN.{length, take}
 use lib.IntN.{ℤ, pos, _+ℤ_, _-ℤ_}
 use lib.Signed.{_≤ℤ_, _<ℤ_}
-use Rattle.integers.specs.Sum.{sumℤ, when, count}
-use Rattle.refusals.specs.Order.{NoneOf}
+use Rattle.integers.specs.Sum.{sumℤ, count}
+use Rattle.integers.specs.Sum as sum
+use Rattle.refusals.specs.Order.{_when_, NoneOf, Judged}
+use Rattle.refusals.specs.declared.Verdict.{Verdict}
 use Rattle.refusals.specs.declared.Verdict.the-variants.{Passed}
 use Rattle.maps.specs.Map.{darts}
 use Rattle.maps.specs.Face.{faces, left}
@@ -27,7 +29,9 @@ use Rattle.flows.specs.ZeroFace.{LowestElsewhere, ZeroFace}
 use Rattle.flows.specs.Levels.{Levels}
 use Rattle.flows.specs.ProvingSet.{bound, Proves, wordsFor, member, size}
 use Rattle.arrays.specs.At.{atℤ}
-use Rattle.records.specs.Sheet.{kindOf, nodesOf, edgesOf, capacityOf, outerOf, sheetMap}
+use Rattle.records.specs.Record.{recordChecks}
+use Rattle.records.specs.Check.{Outside}
+use Rattle.records.specs.Sheet.{kindOf, nodesOf, edgesOf, capacityOf, outerOf, sheetMap, headChecks}
 use Rattle.sheets.specs.Open.{sheetChecks}
 use Rattle.questions.specs.Question.{endChecks, SetWritten}
 use Rattle.questions.specs.declared.SolveAnswer.{SolveAnswer}
@@ -88,6 +92,10 @@ ProvesOf s source sink value S = Proves (sheetMap s) (capacityOf s) source sink 
 abbrev pub BalancedWithin : List ℕ → (ℕ → ℤ) → Type 0
 BalancedWithin s x = Balanced (sheetMap s) x × Within (sheetMap s) (capacityOf s) x
 
+-- the settings x are the highest answer for the delivery
+abbrev pub HighestFor : List ℕ → (source sink : ℕ) → ℤ → (ℕ → ℤ) → Type 0
+HighestFor s source sink value x = Highest (sheetMap s) (outerOf s) (capacityOf s) source sink value x
+
 -- ρ are the face levels of the settings x
 abbrev pub LevelsFor : List ℕ → (x ρ : ℕ → ℤ) → Type 0
 LevelsFor s x ρ = Levels (sheetMap s) (outerOf s) x ρ
@@ -123,12 +131,34 @@ pub record SettingsAndLevels : Type 0 where
   pub levels-again : (s : List ℕ) (levels flows flows' : List ℤ) → GivesSettings s levels flows flows' Done
       → (again again' : List ℤ) (answer : LevelAnswer) → faces (sheetMap s) ≤ length again → GivesLevels s flows' again again' answer
       → (answer ≡ Done) × ((f : ℕ) → f < faces (sheetMap s) → atℤ again' f ≡ atℤ levels f)
+  -- the levels of given settings are one
+  pub levels-unique : (s : List ℕ) → NoneOf (sheetChecks s) → (x ρ τ : ℕ → ℤ) → LevelsFor s x ρ → LevelsFor s x τ
+      → (f : ℕ) → f < faces (sheetMap s) → ρ f ≡ τ f
+
+-- ── Document 01, "The highest answer": "Of all right settings for a delivery, the unit gives the one from which every other differs by balanced settings
+-- whose levels are nowhere above zero." The settings given are it, and there is no other. ──
+pub record HighestAnswer : Type 0 where
+  -- those that Solve writes
+  pub can-highest : (s : List ℕ) (source sink : ℕ) (value : ℤ) (flows flows' : List ℤ) (set set' : List ℕ)
+      → Solves s source sink value flows flows' set set' Can → HighestFor s source sink value (atℤ flows')
+  pub can-only : (s : List ℕ) (source sink : ℕ) (value : ℤ) (flows flows' : List ℤ) (set set' : List ℕ)
+      → Solves s source sink value flows flows' set set' Can
+      → (y : ℕ → ℤ) → HighestFor s source sink value y → (e : ℕ) → e < edgesOf s → atℤ flows' e ≡ y e
+  -- those that Largest writes
+  pub largest-highest : (s : List ℕ) (source sink : ℕ) (v : ℤ) (flows flows' : List ℤ) (set set' : List ℕ)
+      → FindsLargest s source sink flows flows' set set' (largest.Value v) → HighestFor s source sink v (atℤ flows')
+  pub largest-only : (s : List ℕ) (source sink : ℕ) (v : ℤ) (flows flows' : List ℤ) (set set' : List ℕ)
+      → FindsLargest s source sink flows flows' set set' (largest.Value v)
+      → (y : ℕ → ℤ) → HighestFor s source sink v y → (e : ℕ) → e < edgesOf s → atℤ flows' e ≡ y e
 
 -- ── document 02, Job 6: "A kind 1 head is still read, as outer dart 0." The highest answer, both level operations and refusal 20 know the outer dart by the
 -- faces at level 0 alone: face 0 then, as document 01 has it, and in each part that dart 0 is not in the lowest face ──
 pub record OuterFace : Type 0 where
   pub kind-one-outer : (s : List ℕ) → NoneOf (sheetChecks s) → kindOf s ≡ 1
       → (f : ℕ) → ZeroFace (sheetMap s) (outerOf s) f ↔ ((f ≡ 0) ⊎ LowestElsewhere (sheetMap s) 0 f)
+  -- such a head is judged as document 01 has it: "1 no first byte; 2 kind not 1; 1 body cut short; 3 a count out of range"
+  pub kind-one-judged : (s : List ℕ) → kindOf s ≡ 1
+      → (v : Verdict) → Judged (headChecks s) v ↔ Judged (recordChecks s 1 0 ++ ((3 when Outside 2 513 (nodesOf s) ⊎ Outside 1 512 (edgesOf s)) ∷ [])) v
 
 -- ── document 02, Job 8: "Flat now means that nodes − channels + faces = 2 in each part. Each part has one face at level 0 .. Headgate and outfall may lie in
 -- different parts, and then only 0 can be delivered". Two nodes are in one part if a walk along channels joins them. ──
@@ -148,6 +178,10 @@ pub record Districts : Type 0 where
   -- "then only 0 can be delivered"
   pub apart-zero : (s : List ℕ) (source sink : ℕ) (value : ℤ) (x : ℕ → ℤ) → NoneOf (sheetChecks s) → NoneOf (endChecks (nodesOf s) source sink)
       → (Walk (sheetMap s) source sink → ⊥) → Delivers s source sink value x → value ≡ pos 0
+  -- .. and 0 exactly where the least flows allow settings that balance at every node
+  pub apart-exactly : (s : List ℕ) (source sink : ℕ) (value : ℤ) → NoneOf (sheetChecks s) → NoneOf (endChecks (nodesOf s) source sink)
+      → (Walk (sheetMap s) source sink → ⊥)
+      → Possible s source sink value ↔ ((value ≡ pos 0) × ((x : ℕ → ℤ) × BalancedWithin s x))
   -- the headgate's part proves each delivery above 0 impossible, the outfall's part each below 0
   pub headgate-part : (s : List ℕ) (source sink : ℕ) (value : ℤ) (S : ℕ → Bool) → NoneOf (sheetChecks s) → NoneOf (endChecks (nodesOf s) source sink)
       → ((v : ℕ) → v < nodesOf s → (S v ≡ true) ↔ Walk (sheetMap s) source v) → (Walk (sheetMap s) source sink → ⊥)
@@ -210,6 +244,11 @@ pub record LeastAndLargest : Type 0 where
   -- and the largest
   pub largest-carries : (s : List ℕ) (source sink : ℕ) (low low' : List ℤ) (below below' : List ℕ) (high high' : List ℤ) (above above' : List ℕ) (v w : ℤ)
       → FindsRange s source sink low low' below below' high high' above above' (range.Values v w) → Delivers s source sink w (atℤ high')
+  -- "with its highest settings": both settings are the highest
+  pub least-highest : (s : List ℕ) (source sink : ℕ) (low low' : List ℤ) (below below' : List ℕ) (high high' : List ℤ) (above above' : List ℕ) (v w : ℤ)
+      → FindsRange s source sink low low' below below' high high' above above' (range.Values v w) → HighestFor s source sink v (atℤ low')
+  pub largest-highest : (s : List ℕ) (source sink : ℕ) (low low' : List ℤ) (below below' : List ℕ) (high high' : List ℤ) (above above' : List ℕ) (v w : ℤ)
+      → FindsRange s source sink low low' below below' high high' above above' (range.Values v w) → HighestFor s source sink w (atℤ high')
   -- "a set proving the next lower one impossible"
   pub next-lower-impossible : (s : List ℕ) (source sink : ℕ) (low low' : List ℤ) (below below' : List ℕ) (high high' : List ℤ) (above above' : List ℕ) (v w : ℤ)
       → FindsRange s source sink low low' below below' high high' above above' (range.Values v w)
@@ -254,8 +293,8 @@ pub record TotalsByNode : Type 0 where
   pub totals-cut : (s set : List ℕ) (out out' : List ℤ) (t : ℤ) → GivesTotals s set out out' (Total t) → t ≡ cut (sheetMap s) (capacityOf s) (member set)
   -- "taken channel by channel": each with what its two darts add
   pub totals-by-channel : (s set : List ℕ) (out out' : List ℤ) (t : ℤ) → GivesTotals s set out out' (Total t)
-      → t ≡ sumℤ (edgesOf s) (λ e. when (leaves (sheetMap s) (member set) (2 * e)) (capacityOf s (2 * e))
-      +ℤ when (leaves (sheetMap s) (member set) (2 * e + 1)) (capacityOf s (2 * e + 1)))
+      → t ≡ sumℤ (edgesOf s) (λ e. sum.when (leaves (sheetMap s) (member set) (2 * e)) (capacityOf s (2 * e))
+      +ℤ sum.when (leaves (sheetMap s) (member set) (2 * e + 1)) (capacityOf s (2 * e + 1)))
   -- "for every set of nodes": of any set S that the words agree with on the nodes
   pub totals-any-set : (s set : List ℕ) (out out' : List ℤ) (t : ℤ) (S : ℕ → Bool) → ((v : ℕ) → v < nodesOf s → member set v ≡ S v)
       → GivesTotals s set out out' (Total t) → t ≡ cut (sheetMap s) (capacityOf s) S

@@ -25,12 +25,10 @@ use Rattle.texts.proofs.Joined.{lines-agree}
 use Rattle.key_text.specs.Question.{sourceOf, sinkOf, valueOf, sheetOf, keyChecks}
 use Rattle.key_text.specs.Text.{canWord, cannotWord, refusedWord, edgeLine, canLine, canText, cannotLine, cannotText, refusedText}
 use Rattle.key_text.specs.Key.{Key, can, cannot, refused}
+use Rattle.key_text.specs.Statements.{Says}
 use Rattle.key_text.proofs.Answering.{key-solve}
 
 -- ── the text's first word ──
-abbrev pub Says : List ℕ → List ℕ → Type 0
-Says word t = (rest : List ℕ) × (t ≡ word ++ rest)
-
 pub says-can : (value : ℤ) (edges : ℕ) (x : ℕ → ℤ) (t : List ℕ) → t ≡ canText value edges x → Says canWord t
 unfolding canText canLine
 says-can value edges x t e = (_, e)
@@ -39,7 +37,7 @@ says-cannot : (value : ℤ) (n nodes : ℕ) (words t : List ℕ) → t ≡ canno
 unfolding cannotText cannotLine
 says-cannot value n nodes words t e = (_, e)
 
-says-refused : (k : ℕ) (t : List ℕ) → t ≡ refusedText k → Says refusedWord t
+pub says-refused : (k : ℕ) (t : List ℕ) → t ≡ refusedText k → Says refusedWord t
 unfolding refusedText
 says-refused k t e = (_, e)
 

@@ -7,3 +7,4 @@ pub mod Demand3
 pub mod Pieces
 pub mod Begun
 pub mod OneKey
+pub mod Statements

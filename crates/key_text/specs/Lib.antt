@@ -4,3 +4,4 @@ pub mod Key
 pub mod Input
 pub mod inner
 pub mod OneKey
+pub mod Statements

@@ -5,7 +5,7 @@ use mathlib.Core.List.{List, _++_}
 use Prim.Native.Nat.{ℕ, _≤_, _<_}
 use native.Mathlib.Omega.{arith}
 use lib.ListN.{length, take, drop, length-append}
-use lib.Seq.{take-at}
+use lib.Seq.{take-at, drop-at}
 use Rattle.fields.specs.Fields.{le16}
 use Rattle.refusals.specs.Order.{NoneOf, FirstOf}
 use Rattle.refusals.proofs.Order.{neither, first-none}
@@ -45,6 +45,10 @@ module _ (rows columns seed : ℕ) where
   -- the sheet stands at the front of the output
   front : (out out' : List ℕ) (n : ℕ) → Practises rows columns seed out out' (Bytes n) → take n out' ≡ sheet
   front out out' n h = ap (take n) (h .2) ∙ take-at sheet (drop n out) n (sheet-length ∙ sym (h .1))
+
+  -- and what was there stands behind it
+  rest-kept : (out out' : List ℕ) (n : ℕ) → Practises rows columns seed out out' (Bytes n) → drop n out' ≡ drop n out
+  rest-kept out out' n h = ap (drop n) (h .2) ∙ drop-at sheet (drop n out) n (sheet-length ∙ sym (h .1))
 
   -- its length is the number of bytes told, and the output holds as many
   pub front-counted : (out out' : List ℕ) (n : ℕ) → Practises rows columns seed out out' (Bytes n) → (n ≤ length out') × (n ≡ length (take n out'))
@@ -89,4 +93,6 @@ practice-sheets = record {
   practice-drawn = drawn;
   practice-made = made;
   practice-one = λ rows columns seed out out' other other' n m h g. front rows columns seed out out' n h ∙ sym (front rows columns seed other other' m g);
+  rest-kept = rest-kept;
+  refused-kept = λ rows columns seed out out' k p h. h .1;
 }

@@ -3,14 +3,14 @@
 use Prim.Native.Nat.{ℕ, _≤_, _<_}
 use mathlib.Core.Path.{_≡_}
 use mathlib.Core.List.{List}
-use lib.ListN.{length, take}
+use lib.ListN.{length, take, drop}
 use Rattle.refusals.specs.Order.{NoneOf}
 use Rattle.maps.specs.Walk.{Connected}
 use Rattle.records.specs.Sheet.{kindOf, sheetMap, sheetDrawing}
 use Rattle.sheets.specs.Open.{sheetChecks}
 use Rattle.practice.specs.Practice.{gridDrawing, practiceLength, Practises}
 use Rattle.practice.specs.declared.PracticeAnswer.{PracticeAnswer}
-use Rattle.practice.specs.declared.PracticeAnswer.the-variants.{Bytes}
+use Rattle.practice.specs.declared.PracticeAnswer.the-variants.{Bytes, Refused}
 
 pub record PracticeSheets : Type 0 where
   -- every sheet made is one the unit accepts: no sheet check holds of it. Its head is of kind 1
@@ -26,3 +26,6 @@ pub record PracticeSheets : Type 0 where
   -- one sheet for each: of the same rows, columns and seed the same bytes, whatever was lent
   pub practice-one : (rows columns seed : ℕ) (out out' other other' : List ℕ) (n m : ℕ)
       → Practises rows columns seed out out' (Bytes n) → Practises rows columns seed other other' (Bytes m) → take n out' ≡ take m other'
+  -- behind the sheet the output is as it was; all of it where it is refused
+  pub rest-kept : (rows columns seed : ℕ) (out out' : List ℕ) (n : ℕ) → Practises rows columns seed out out' (Bytes n) → drop n out' ≡ drop n out
+  pub refused-kept : (rows columns seed : ℕ) (out out' : List ℕ) (k p : ℕ) → Practises rows columns seed out out' (Refused k p) → out' ≡ out

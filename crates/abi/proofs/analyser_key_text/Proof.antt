@@ -4,6 +4,7 @@ use mathlib.Core.List.{List}
 use Prim.Native.Nat.{ℕ}
 use borrow.Author.Needs.{needs}
 use Rattle.key_text.specs.Key.{Writes}
+use Rattle.key_text.specs.inner.Named.{WriteNamed}
 use Rattle.key_text.specs.declared.KeyAnswer.{KeyAnswer}
 use Rattle.key_text.specs.declared.KeyAnswer.the-variants.{Bytes, Refused}
 use Rattle.abi.proofs.analyser_key_text.Statement.{statement}
@@ -19,6 +20,9 @@ found : (c : tie.After-write-key) (answer : KeyAnswer) → c .write-key .result 
     → Writes (start c .args .input .now) (start c .args .text .now) (text' c) answer
 found c answer e = rw e at (c .write-key .ensures .0)
 
+named : (c : tie.After-write-key) (answer : KeyAnswer) → c .write-key .result ≡ answer → WriteNamed (start c .args .input .now) (text' c) answer
+named c answer e = rw e at (c .write-key .ensures .1)
+
 write-key-requires : tie.Need-write-key-requires
 write-key-requires c κs = search needs
 
@@ -32,13 +36,17 @@ same-length : tie.Need-same-length
 same-length c = search needs
 
 returns : tie.Need-returns
-returns c = (Bytes _, found (c .before .before .before .before .before) (Bytes _) (c .before .answer .given .1), (refl, refl, refl))
+returns c =
+    let k = c .before .before .before .before .before in
+    (Bytes _, found k (Bytes _) (c .before .answer .given .1), named k (Bytes _) (c .before .answer .given .1), (refl, refl, refl))
 
 same-length-2 : tie.Need-same-length-2
 same-length-2 c = search needs
 
 returns-2 : tie.Need-returns-2
-returns-2 c = (Refused _ _, found (c .before .before .before .before .before) (Refused _ _) (c .before .answer2 .given .1), (refl, refl, refl))
+returns-2 c =
+    let k = c .before .before .before .before .before in
+    (Refused _ _, found k (Refused _ _) (c .before .answer2 .given .1), named k (Refused _ _) (c .before .answer2 .given .1), (refl, refl, refl))
 
 pub analyser-key-text-spec : {M : Type 1} → statement M
 analyser-key-text-spec =

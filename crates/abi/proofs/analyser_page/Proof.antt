@@ -6,7 +6,8 @@ use lib.IntN.{ℤ}
 use borrow.Author.Needs.{needs}
 use Rattle.analyser.specs.Page.{AnswersPage}
 use Rattle.pages.specs.Question.{questionIn}
-use Rattle.analyser.proofs.Lines.{page-listed}
+use Rattle.analyser.specs.inner.Named.{PageNamed}
+use Rattle.analyser.proofs.Lines.{page-listed, page-named-listed}
 use Rattle.abi.proofs.Paging.{page-few, told-passed, told-refused}
 use Rattle.abi.proofs.analyser_page.Statement.{statement}
 use Rattle.abi.proofs.analyser_page.Tie as tie
@@ -30,6 +31,15 @@ listed c =
     (c .before .before .before .list-from .result) (c .before .before .before .list-from .ensures) (begun c .args .flows .now) (flows' c)
     (begun c .args .sets .now) (sets' c) (c .page-of .result) (c .page-of .ensures .0)
 
+-- and its sets are those that the search names
+named : (c : tie.After-page-of) → PageNamed (begun c .args .sheet .now) (begun c .args .count)
+    (questionIn (begun c .args .sources .now) (begun c .args .sinks .now) (begun c .args .values .now)) (sets' c) (c .page-of .result)
+named c =
+    page-named-listed (begun c .args .sheet .now) (begun c .args .count)
+    (questionIn (begun c .args .sources .now) (begun c .args .sinks .now) (begun c .args .values .now))
+    (c .before .before .before .list-from .result) (c .before .before .before .list-from .ensures) (begun c .args .flows .now) (flows' c)
+    (begun c .args .sets .now) (sets' c) (c .page-of .result) (c .page-of .ensures .0) (c .page-of .ensures .1)
+
 list-from-requires : tie.Need-list-from-requires
 list-from-requires c κs = search needs
 
@@ -48,7 +58,7 @@ same-length-2 c = search needs
 returns : tie.Need-returns
 returns c =
     let k = c .before .before .before .before .before .before in
-    (k .page-of .result, listed k, told-refused (begun k .args .count) (k .page-of .result) _ _ (c .before .verdict .given .1) _ _ _)
+    (k .page-of .result, listed k, named k, told-refused (begun k .args .count) (k .page-of .result) _ _ (c .before .verdict .given .1) _ _ _)
 
 enum-told : tie.Need-enum-told
 enum-told c = search needs
@@ -74,6 +84,7 @@ returns-2 c =
     let k = c .before .before .before .before .before .before .before .before .before in (
       k .page-of .result,
       listed k,
+      named k,
       told-passed _ _ _ _ _ _ _ (k .page-of .result) (listed k) (c .before .before .before .before .enum-told .given .1) _ _ _ _ _
           (c .before .before .tell-numbers .ensures) (c .tell-sizes .ensures),
     )

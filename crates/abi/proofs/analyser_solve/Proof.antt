@@ -5,7 +5,9 @@ use Prim.Native.Nat.{ℕ}
 use lib.IntN.{ℤ}
 use borrow.Author.Needs.{needs}
 use Rattle.signed.proofs.Laws.{number-of-bits}
+use Rattle.records.specs.Sheet.{sheetDrawing}
 use Rattle.analyser.specs.Solve.{Solves}
+use Rattle.questions.specs.inner.Named.{SetNamed}
 use Rattle.questions.specs.declared.SolveAnswer.{SolveAnswer}
 use Rattle.questions.specs.declared.SolveAnswer.the-variants.{Can, Cannot, Refused}
 use Rattle.abi.proofs.analyser_solve.Statement.{statement}
@@ -26,6 +28,11 @@ solved : (c : tie.After-solve) (answer : SolveAnswer) → c .solve .result ≡ a
     (start c .args .flows .now) (flows' c) (start c .args .set .now) (set' c) answer
 solved c answer e = rw (number-of-bits _ (start c .fits .value), e) at (c .solve .ensures .0)
 
+-- and its set is the one that the search names
+named : (c : tie.After-solve) (answer : SolveAnswer) → c .solve .result ≡ answer
+    → SetNamed (sheetDrawing (start c .args .sheet .now)) (start c .args .source) (start c .args .sink) (start c .args .value) (set' c) answer
+named c answer e = rw (number-of-bits _ (start c .fits .value), e) at (c .solve .ensures .1)
+
 solve-requires : tie.Need-solve-requires
 solve-requires c κs = search needs
 
@@ -45,7 +52,9 @@ same-length-2 : tie.Need-same-length-2
 same-length-2 c = search needs
 
 returns : tie.Need-returns
-returns c = (Can, solved (c .before .before .before .before .before) Can (c .enum-told .given .1), (refl, refl, refl, refl))
+returns c =
+    let k = c .before .before .before .before .before in
+    (Can, solved k Can (c .enum-told .given .1), named k Can (c .enum-told .given .1), (refl, refl, refl, refl))
 
 same-length-3 : tie.Need-same-length-3
 same-length-3 c = search needs
@@ -54,7 +63,9 @@ same-length-4 : tie.Need-same-length-4
 same-length-4 c = search needs
 
 returns-2 : tie.Need-returns-2
-returns-2 c = (Cannot _, solved (c .before .before .before .before .before .before) (Cannot _) (c .before .answer .given .1), (refl, refl, refl, refl))
+returns-2 c =
+    let k = c .before .before .before .before .before .before in
+    (Cannot _, solved k (Cannot _) (c .before .answer .given .1), named k (Cannot _) (c .before .answer .given .1), (refl, refl, refl, refl))
 
 same-length-5 : tie.Need-same-length-5
 same-length-5 c = search needs
@@ -63,7 +74,9 @@ same-length-6 : tie.Need-same-length-6
 same-length-6 c = search needs
 
 returns-3 : tie.Need-returns-3
-returns-3 c = (Refused _ _, solved (c .before .before .before .before .before .before) (Refused _ _) (c .before .answer2 .given .1), (refl, refl, refl, refl))
+returns-3 c =
+    let k = c .before .before .before .before .before .before in
+    (Refused _ _, solved k (Refused _ _) (c .before .answer2 .given .1), named k (Refused _ _) (c .before .answer2 .given .1), (refl, refl, refl, refl))
 
 pub analyser-solve-spec : {M : Type 1} → statement M
 analyser-solve-spec =
