@@ -98,7 +98,8 @@ fn behind(capture: &[u8], at: usize) -> usize
     if capture.len() <= at {
         return capture.len();
     }
-    if capture.len() - at < records::record_length(5) {
+    let left = capture.len() - at;
+    if left < records::record_length(5) {
         return capture.len();
     }
     at + records::record_length(5)

@@ -9,8 +9,8 @@ use Rattle.capture.proofs.behind.Tie as tie
 returns : tie.Need-returns
 returns c = sym (behind-end _ _ (omega arith))
 
-sub-if2 : tie.Need-sub-if2
-sub-if2 c = search needs
+sub-left : tie.Need-sub-left
+sub-left c = search needs
 
 record-length-requires : tie.Need-record-length-requires
 record-length-requires c κs = search needs
@@ -30,4 +30,4 @@ returns-3 c =
     sym (behind-next _ _ (omega (arith, short .record-length .ensures .0, c .before .if2 .left)) ∙ omega (arith, c .record-length2 .ensures .0))
 
 pub behind-spec : {M : Type 1} → statement M
-behind-spec = tie.close (tie.spec returns sub-if2 record-length-requires returns-2 record-length-requires-2 add-result returns-3)
+behind-spec = tie.close (tie.spec returns sub-left record-length-requires returns-2 record-length-requires-2 add-result returns-3)

@@ -265,8 +265,8 @@ module _ {M : Type 1} (𝓤 : URA M) (H : Heap 𝓤) (A : Atoms 𝓤) (W : Given
     abbrev Left : Out → SProp 𝓤
     Left = afterBlock 𝓤 H (afterSeq 𝓤 H (Wp 𝓤 H Cs Λ En mirs.t-4 (atReturn 𝓤 H En Post)) (atReturn 𝓤 H En Post))
 
-    slice-typed : WT v
-    slice-typed = shr-slice-lawful 𝓤 H A W (named 0) κ u8 .typed s (v ∷ []) is .0 .1
+    v-typed : WT v
+    v-typed = shr-slice-lawful 𝓤 H A W (named 0) κ u8 .typed s (v ∷ []) is .0 .1
 
     -- a turn in which a record is checked
     more : (p : ℕ) (r : Checked) (u : Val) (X : SProp 𝓤) → p < 2 ^ 64 → goesOn b p (r .refusal) ≡ true → (p < length b) × Passing edges b p (r .last)
@@ -275,7 +275,7 @@ module _ {M : Type 1} (𝓤 : URA M) (H : Heap 𝓤) (A : Atoms 𝓤) (W : Given
     unfolding afterTurn
     more p r u X fits on φ k =
         qed W (At p r u) ∵ exec ! Cs Λ En mirs.turn-1 (anyQ (afterTurn 𝓤 H X Left)) $
-        assigns ! (of-opd ! (load ! (from ! (fld ! refl (stop !))) (look-in ! 3 (sub ! 0 refl (whole !))))) (from ! (stop !)) (init ! 6 refl (tt, slice-typed)) $
+        assigns ! (of-opd ! (load ! (from ! (fld ! refl (stop !))) (look-in ! 3 (sub ! 0 refl (whole !))))) (from ! (stop !)) (init ! 6 refl (tt, v-typed)) $
         assigns ! (of-opd ! (load ! (from ! (fld ! refl (stop !))) (look-in ! 3 (sub ! 1 refl (whole !))))) (from ! (stop !)) (init ! 7 refl (
           tt,
           record { fits = fits },
@@ -294,7 +294,7 @@ module _ {M : Type 1} (𝓤 : URA M) (H : Heap 𝓤) (A : Atoms 𝓤) (W : Given
         land ! (from ! (stop !)) (init ! 5 refl (bool-lawful 𝓤 H A W .typed t (u₁ ∷ []) is₁ .0)) $
         rewrite ! 5 (λ (w : Val). ‵ (fat fullShare test l₅ 0 w)) (ap only (bool-tells t (u₁ ∷ []) is₁) ∙ ap vbool (e₁ ∙ on)) refl $
         stays ! (load ! (from ! (stop !)) (look ! 5 refl)) $
-        assigns ! (of-opd ! (load ! (from ! (fld ! refl (stop !))) (look-in ! 3 (sub ! 0 refl (whole !))))) (from ! (stop !)) (init ! 8 refl (tt, slice-typed)) $
+        assigns ! (of-opd ! (load ! (from ! (fld ! refl (stop !))) (look-in ! 3 (sub ! 0 refl (whole !))))) (from ! (stop !)) (init ! 8 refl (tt, v-typed)) $
         assigns ! (of-opd ! (load ! (from ! (fld ! refl (stop !))) (look-in ! 3 (sub ! 1 refl (whole !))))) (from ! (stop !)) (init ! 9 refl (
           tt,
           record { fits = fits },
@@ -311,10 +311,7 @@ module _ {M : Type 1} (𝓤 : URA M) (H : Heap 𝓤) (A : Atoms 𝓤) (W : Given
         heard ! (Checks p r u r′) (λ stands. split ! $ move ! (1 ∷ []) $ peeks ! RC (Is RC) (shows 𝓤 H A RC) r′ (u₂ ∷ []) (λ is₂.
         -- [what is checked owns; the token; what the slice owns; _3; _4; …]
         land ! (from ! (stop !)) (store ! 4 refl (LL.lawful C.the-type C′.the-laws 𝓤 H A W .typed r′ (u₂ ∷ []) is₂ .0)) $
-        assigns ! (of-opd ! (load ! (from ! (fld ! refl (stop !))) (look-in ! 3 (sub ! 0 refl (whole !))))) (from ! (stop !)) (init ! 10 refl (
-          tt,
-          slice-typed,
-        )) $
+        assigns ! (of-opd ! (load ! (from ! (fld ! refl (stop !))) (look-in ! 3 (sub ! 0 refl (whole !))))) (from ! (stop !)) (init ! 10 refl (tt, v-typed)) $
         assigns ! (of-opd ! (load ! (from ! (fld ! refl (stop !))) (look-in ! 3 (sub ! 1 refl (whole !))))) (from ! (stop !)) (init ! 11 refl (
           tt,
           record { fits = fits },
@@ -341,7 +338,7 @@ module _ {M : Type 1} (𝓤 : URA M) (H : Heap 𝓤) (A : Atoms 𝓤) (W : Given
     unfolding afterTurn
     ends p r u X fits off stands =
         qed W (At p r u) ∵ exec ! Cs Λ En mirs.turn-1 (anyQ (afterTurn 𝓤 H X Left)) $
-        assigns ! (of-opd ! (load ! (from ! (fld ! refl (stop !))) (look-in ! 3 (sub ! 0 refl (whole !))))) (from ! (stop !)) (init ! 6 refl (tt, slice-typed)) $
+        assigns ! (of-opd ! (load ! (from ! (fld ! refl (stop !))) (look-in ! 3 (sub ! 0 refl (whole !))))) (from ! (stop !)) (init ! 6 refl (tt, v-typed)) $
         assigns ! (of-opd ! (load ! (from ! (fld ! refl (stop !))) (look-in ! 3 (sub ! 1 refl (whole !))))) (from ! (stop !)) (init ! 7 refl (
           tt,
           record { fits = fits },
@@ -424,7 +421,7 @@ module _ {M : Type 1} (𝓤 : URA M) (H : Heap 𝓤) (A : Atoms 𝓤) (W : Given
         qed W Passed ∵ exec ! Cs Λ En mirs.t-1 (atRet En Post) $
         assigns ! (agg ! (and-then ! (load ! (from ! (stop !)) (look ! 20 refl)) (and-then ! (lit ! tt) (no-more !)))) (from ! (stop !)) (init ! 16 refl (
           tt,
-          (slice-typed, (record { fits = lit< tt }, tt)),
+          (v-typed, (record { fits = lit< tt }, tt)),
         )) $
         assigns ! (agg ! (and-then ! (lit ! tt) (and-then ! (lit ! tt) (no-more !)))) (from ! (stop !)) (init ! 14 refl (
           tt,

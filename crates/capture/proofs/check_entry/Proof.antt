@@ -28,7 +28,8 @@ returns c =
     let e = w .before .before in
     let k = e .before .before in
     let s = k .before .before in
-    inr (omega arith, out-channel (s .pre .1) (s .pre .0) _ _ _ (sym (k .entry-at .ensures) ∙ e .entry .given .1) (omega (arith, w .wide .ensures, c .if1 .taken)))
+    let found = sym (k .entry-at .ensures) ∙ e .entry .given .1 in
+    inr (omega arith, out-channel (s .pre .1) (s .pre .0) _ _ _ found (omega (arith, w .wide .ensures, c .if1 .taken)))
 
 returns-2 : tie.Need-returns-2
 returns-2 c =
@@ -37,10 +38,8 @@ returns-2 c =
     let e = w .before .before in
     let k = e .before .before in
     let s = k .before .before in
-    inr (
-      omega arith,
-      out-tick (s .pre .1) (s .pre .0) _ _ _ (sym (k .entry-at .ensures) ∙ e .entry .given .1) (omega (arith, w .wide .ensures, left .if1 .left)) (c .if2 .taken),
-    )
+    let found = sym (k .entry-at .ensures) ∙ e .entry .given .1 in
+    inr (omega arith, out-tick (s .pre .1) (s .pre .0) _ _ _ found (omega (arith, w .wide .ensures, left .if1 .left)) (c .if2 .taken))
 
 returns-3 : tie.Need-returns-3
 returns-3 c =
@@ -61,7 +60,8 @@ returns-5 c =
     let e = w .before .before in
     let k = e .before .before in
     let s = k .before .before in
-    stands-step (s .pre .1) (s .pre .0) _ _ _ (sym (k .entry-at .ensures) ∙ e .entry .given .1) (omega (arith, w .wide .ensures, left .if1 .left)) (c .if2 .left)
+    let found = sym (k .entry-at .ensures) ∙ e .entry .given .1 in
+    stands-step (s .pre .1) (s .pre .0) _ _ _ found (omega (arith, w .wide .ensures, left .if1 .left)) (c .if2 .left)
 
 pub check-entry-spec : {M : Type 1} → statement M
 check-entry-spec =
