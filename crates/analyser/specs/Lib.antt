@@ -5,6 +5,7 @@ pub mod Solve
 pub mod Largest
 pub mod Range
 pub mod Totals
+pub mod Counts
 pub mod Raise
 pub mod After
 pub mod Dimacs

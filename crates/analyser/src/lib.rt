@@ -18,6 +18,7 @@ ghost use Rattle.analyser.specs.LevelsOf.{GivesLevels};
 ghost use Rattle.analyser.specs.SettingsOf.{GivesSettings};
 ghost use Rattle.analyser.specs.Totals.{GivesTotals};
 ghost use Rattle.analyser.specs.Dimacs.{WritesDimacs};
+ghost use Rattle.analyser.specs.Counts.{GivesCounts};
 use dimacs::DimacsAnswer;
 use levels::LevelAnswer;
 use pages::Listed;
@@ -620,4 +621,26 @@ pub fn write_dimacs(sheet: &[u8], source: u16, sink: u16, out: &mut [u8]) -> Dim
         sink,
         out,
     )
+}
+
+// What Counts answers: how many nodes and edges a sheet has, or the number of a refusal and its place.
+pub enum CountsAnswer {
+    Counts(u16, u16),
+    Refused(u8, u16),
+}
+
+// Counts: both counts of a sheet, for who lends slices that they measure, and has no use for Read's. Totals by node of no node makes the sheet checks: with
+// room for any set it refuses nothing else, and what it opens lies in its own frame, not in that of who asks for the counts.
+pub fn counts(sheet: &[u8]) -> CountsAnswer
+    ensures { λ r. ⌜ GivesCounts (now (sheet .entry)) r ⌝ }
+{
+    let set = [0u64; 9];
+    let mut subtotals = [0i32; 513];
+    let answer = totals(sheet, &set, &mut subtotals);
+    if let TotalsAnswer::Refused(k, p) = answer {
+        return CountsAnswer::Refused(k, p);
+    }
+    let nodes = records::nodes_of(sheet);
+    let edges = records::edges_of(sheet);
+    CountsAnswer::Counts(arrays::narrow(nodes), arrays::narrow(edges))
 }

@@ -1,21 +1,25 @@
 -- The records of a capture checked in turn: what each one found leads out by, and what is known once one more has passed.
 use mathlib.Core.Path.{_≡_, refl, sym, _∙_, ap, subst}
 use mathlib.Core.Logic.{_≢_, inl, inr}
+use mathlib.Core.Bool.{true, false, cond, true≢false}
 use mathlib.Core.List.{List}
 use Prim.Native.Nat.{ℕ, zero, suc, _+_, _*_, _/_, _≤_, _<_}
 use native.Mathlib.Omega.{arith}
-use native.Mathlib.Decide.{ℕ-discrete}
+use native.Mathlib.Decide.{ℕ-discrete, decLt}
 use native.Mathlib.Numerals.{add-one}
 use borrow.Author.Count.{below-more}
+use lib.Dec.{eqb, ltb}
 use lib.ListN.{length, getD}
 use lib.IntN.{ℤ}
-use Rattle.refusals.specs.Order.{NoneOf, FirstOf}
+use Rattle.integers.proofs.Tests.{eqb-true, eqb-eq, eqb-false, ltb-true, ltb-lt, ltb-false, and-both}
+use Rattle.refusals.specs.Order.{NoneOf, FirstOf, Judged}
+use Rattle.refusals.specs.declared.Verdict.the-variants.{Passed, Refused}
 use Rattle.refusals.proofs.Order.{first-in-turn, none-in-turn, in-turn-none}
 use Rattle.records.specs.Record.{recordLength}
 use Rattle.capture.specs.Entry.{entryPlace, tickOf, channelOf, limitOf, tickBefore, begun, entryChecks}
 use Rattle.capture.specs.Capture.{recordsChecks}
 use Rattle.capture.specs.inner.Read.{entryAt}
-use Rattle.capture.specs.inner.Taken.{Passing}
+use Rattle.capture.specs.inner.Taken.{Passing, Stands, goesOn, placeBehind, verdictOf}
 use Rattle.capture.specs.declared.Entry.the-variants.{Wrong, Cut, Full}
 use Rattle.capture.proofs.Reading.{reads-full, wrong-kind, cut-short, full-kind, full-whole, full-tick, full-channel}
 
@@ -26,12 +30,53 @@ begins n i l = omega (arith, l)
 pub ends : (n i : ℕ) → n ≤ 11 * i → (n + 10) / 11 ≤ i
 ends n i l = omega (arith, l)
 
-pub passing-start : (edges : ℕ) (b : List ℕ) → Passing edges b 0 0
+-- ── the reader goes forward: never past the end, and farther while bytes are left ──
+module _ (b : List ℕ) (place : ℕ) where
+  pub behind-end : length b < place + recordLength 5 → placeBehind b place ≡ length b
+  unfolding placeBehind
+  behind-end l = rw (ltb-true (length b) (place + recordLength 5) l)
+
+  pub behind-next : place + recordLength 5 ≤ length b → placeBehind b place ≡ place + recordLength 5
+  unfolding placeBehind
+  behind-next l = rw (ltb-false (length b) (place + recordLength 5) l)
+
+  pub behind-farther : place < length b → (place < placeBehind b place) × (placeBehind b place ≤ length b)
+  behind-farther more = go (decLt (length b) (place + recordLength 5))
+    where
+      go : Dec (length b < place + recordLength 5) → (place < placeBehind b place) × (placeBehind b place ≤ length b)
+      go (yes l) = let e = behind-end l in (omega (arith, e, more), omega (arith, e))
+      go (no l) = let e = behind-next (omega (arith, l)) in (omega (arith, e), omega (arith, e, l))
+
+  -- ── whether it goes on ──
+  module _ (refusal : ℕ) where
+    pub goes-refused : refusal ≢ 0 → goesOn b place refusal ≡ false
+    unfolding goesOn
+    goes-refused h = rw (eqb-false refusal 0 h)
+
+    pub goes-left : refusal ≡ 0 → goesOn b place refusal ≡ ltb place (length b)
+    unfolding goesOn
+    goes-left e = rw (eqb-true refusal 0 e)
+
+    pub goes-more : goesOn b place refusal ≡ true → (refusal ≡ 0) × (place < length b)
+    unfolding goesOn
+    goes-more h = let r = and-both (eqb refusal 0) (ltb place (length b)) h in (eqb-eq refusal 0 (r .0), ltb-lt place (length b) (r .1))
+
+    pub goes-done : goesOn b place refusal ≡ false → refusal ≡ 0 → length b ≤ place
+    goes-done h e = go (decLt place (length b))
+      where
+        go : Dec (place < length b) → length b ≤ place
+        go (yes l) = absurd (true≢false (sym (ltb-true place (length b) l) ∙ (sym (goes-left e) ∙ h)))
+        go (no l) = omega (arith, l)
+
+passing-start : (edges : ℕ) (b : List ℕ) → Passing edges b 0 0
 passing-start edges b = record { count = 0; placed = refl; inside = omega arith; last = refl; passed = λ i l. absurd (omega arith) }
+
+pub stands-start : (edges : ℕ) (b : List ℕ) → Stands edges b 0 0 0
+stands-start edges b = inl (refl, passing-start edges b)
 
 module _ {edges : ℕ} {b : List ℕ} {place tick : ℕ} (π : Passing edges b place tick) where
   -- ── the end of the capture ──
-  pub passed-all : length b ≤ place → NoneOf (recordsChecks edges b)
+  passed-all : length b ≤ place → NoneOf (recordsChecks edges b)
   unfolding recordsChecks
   passed-all l = none-in-turn (begun b) (entryChecks edges b) (λ i m. π .passed i (omega (arith, m, ends (length b) (π .count) (omega (arith, π .placed)))))
 
@@ -75,7 +120,7 @@ module _ {edges : ℕ} {b : List ℕ} {place tick : ℕ} (π : Passing edges b p
             let t' = full-tick b (entryPlace (π .count)) t e x found in
             out 27 (inr (kind, inr (whole, inr (channel, inl (omega (arith, t', π .last, l), refl, refl)))))
 
-        pub passing-step : tick ≤ t → Passing edges b (place + 11) t
+        passing-step : tick ≤ t → Passing edges b (place + recordLength 5) t
         unfolding NoneOf entryChecks
         passing-step l =
             let t' = full-tick b (entryPlace (π .count)) t e x found in
@@ -87,6 +132,9 @@ module _ {edges : ℕ} {b : List ℕ} {place tick : ℕ} (π : Passing edges b p
               passed = subst (λ n. (i : ℕ) → i < n → NoneOf (entryChecks edges b i)) (add-one (π .count))
                   (below-more _ (π .count) (π .passed) (kind, (whole, (channel, ((λ m. omega (arith, t', π .last, l, m)), tt)))));
             }
+
+        pub stands-step : tick ≤ t → Stands edges b (placeBehind b place) 0 t
+        stands-step l = inl (refl, subst (λ p. Passing edges b p t) (sym (behind-next b place (full-whole b place t e x h))) (passing-step l))
 
 -- ── what a record that passed is ──
 module _ (edges : ℕ) (b : List ℕ) (i : ℕ) (passed : NoneOf (entryChecks edges b i)) where
@@ -108,3 +156,18 @@ module _ (edges : ℕ) (b : List ℕ) (i : ℕ) (passed : NoneOf (entryChecks ed
   pub passed-channel : channelOf b i < edges
   unfolding NoneOf entryChecks
   passed-channel = let n : edges ≤ channelOf b i → ⊥ = passed .1 .1 .0 in omega (arith, n)
+
+-- ── all records ──
+module _ {edges : ℕ} {b : List ℕ} {place refusal tick : ℕ} where
+  pub stands-passing : Stands edges b place refusal tick → refusal ≡ 0 → Passing edges b place tick
+  stands-passing (inl s) e = s .1
+  stands-passing (inr s) e = absurd (let l = s .0 in omega (arith, l, e))
+
+  pub stands-judged : Stands edges b place refusal tick → goesOn b place refusal ≡ false → Judged (recordsChecks edges b) (verdictOf refusal)
+  unfolding verdictOf
+  stands-judged (inl s) h =
+      subst (λ t. Judged (recordsChecks edges b) (cond t Passed (Refused refusal 0))) (sym (eqb-true refusal 0 (s .0)))
+      (passed-all (s .1) (goes-done b place refusal h (s .0)))
+  stands-judged (inr s) h =
+      subst (λ t. Judged (recordsChecks edges b) (cond t Passed (Refused refusal 0)))
+      (sym (eqb-false refusal 0 (λ e. let l = s .0 in omega (arith, l, e)))) (s .1)

@@ -12,11 +12,11 @@ ghost use Rattle.arrays.specs.Filled.{filled};
 ghost use Rattle.arrays.specs.inner.Drawn.{Drawn};
 ghost use Rattle.arrays.specs.Maps.{mapOf, drawingOf};
 ghost use Rattle.arrays.specs.inner.Sizes.{mostOnSheet};
-ghost use Rattle.capture.specs.Entry.{begun, entryChecks};
+ghost use Rattle.capture.specs.Entry.{entryPlace, begun, entryChecks};
 ghost use Rattle.capture.specs.Window.{lesser, laid, found};
 ghost use Rattle.capture.specs.Capture.{windowChecks, recordsChecks, limitsChecks, lastChecks, captureChecks, FoundAfter};
 ghost use Rattle.capture.specs.inner.Read.{entryAt};
-ghost use Rattle.capture.specs.inner.Taken.{lowered, LimitsTaken};
+ghost use Rattle.capture.specs.inner.Taken.{goesOn, placeBehind, Passing, Stands, verdictOf, lowered, LimitsTaken};
 use questions::LargestAnswer;
 use refusals::Verdict;
 
@@ -31,6 +31,12 @@ pub enum Entry {
     Wrong,
     Cut,
     Full(u32, u16, i32),
+}
+
+// What the records looked at come to: the number of the refusal of one of them, 0 where all have passed, and the tick of the last.
+pub struct Checked {
+    pub refusal: u8,
+    pub last: u32,
 }
 
 // The record at a place, on slice and number. What is left is compared with a record's length, so that no sum can wrap.
@@ -50,27 +56,6 @@ pub fn entry_at(capture: &[u8], at: usize) -> Entry
     let edge = fields::read_u16(capture, at + 5);
     let limit = fields::read_i32(capture, at + 7);
     Entry::Full(tick, edge, limit)
-}
-
-// A reader at a place.
-pub fn reader_at<'a>(capture: &'a [u8], at: usize) -> Reader<'a>
-    ensures { λ r. ⌜ (r .capture ≡ capture .entry) × (r .at ≡ at) ⌝ }
-{
-    Reader { capture, at }
-}
-
-// The record that a reader stands at.
-pub fn record<'a>(reader: Reader<'a>) -> Entry
-    ensures { λ r. ⌜ r ≡ entryAt (now (reader .entry .capture)) (reader .entry .at) ⌝ }
-{
-    entry_at(reader.capture, reader.at)
-}
-
-// The same for whoever has a plain slice: every loop reads through this.
-pub fn entry_of(capture: &[u8], at: usize) -> Entry
-    ensures { λ r. ⌜ r ≡ entryAt (now (capture .entry)) at ⌝ }
-{
-    record(reader_at(capture, at))
 }
 
 // The same number, widened.
@@ -96,34 +81,91 @@ fn check_window(capture: &[u8], window: usize, named: usize) -> Verdict
     Verdict::Passed
 }
 
-// Every record of the capture in turn, to the end: 2, 1, 25 and 27. What is kept is the tick of the record before.
-fn check_capture(capture: &[u8], edges: usize) -> Verdict
-    ensures { λ r. ⌜ Judged (recordsChecks edges (now (capture .entry))) r ⌝ }
+// Whether another record is to be checked: none was refused, and bytes are left.
+fn goes_on(capture: &[u8], at: usize, checked: Checked) -> bool
+    ensures { λ r. ⌜ r ≡ goesOn (now (capture .entry)) at (checked .refusal) ⌝ }
 {
-    let mut at: usize = 0;
-    let mut last: u32 = 0;
-    while at < capture.len() {
-        let entry = entry_of(capture, at);
-        match entry {
-            Entry::Wrong => {
-                return Verdict::Refused(2, 0);
+    if checked.refusal != 0 {
+        return false;
+    }
+    at < capture.len()
+}
+
+// The place behind the record at a place: a record's length farther, or the end of the capture where that is nearer.
+fn behind(capture: &[u8], at: usize) -> usize
+    ensures { λ r. ⌜ r ≡ placeBehind (now (capture .entry)) at ⌝ }
+{
+    if capture.len() <= at {
+        return capture.len();
+    }
+    let left = capture.len() - at;
+    if left < records::record_length(5) {
+        return capture.len();
+    }
+    at + records::record_length(5)
+}
+
+// One record, after those before it have passed: 2, 1, 25 and 27.
+fn check_entry(capture: &[u8], at: usize, edges: usize, passed: Checked) -> Checked
+    requires { ⌜ (at < length (now capture)) × Passing edges (now capture) at (passed .last) ⌝ }
+    ensures { λ r. ⌜ Stands edges (now (capture .entry)) (placeBehind (now (capture .entry)) at) (r .refusal) (r .last) ⌝ }
+{
+    let entry = entry_at(capture, at);
+    match entry {
+        Entry::Wrong => Checked {
+            refusal: 2,
+            last: 0,
+        },
+        Entry::Cut => Checked {
+            refusal: 1,
+            last: 0,
+        },
+        Entry::Full(tick, edge, _) => {
+            if edges <= arrays::wide(edge) {
+                return Checked {
+                    refusal: 25,
+                    last: 0,
+                };
             }
-            Entry::Cut => {
-                return Verdict::Refused(1, 0);
+            if tick < passed.last {
+                return Checked {
+                    refusal: 27,
+                    last: 0,
+                };
             }
-            Entry::Full(tick, edge, _) => {
-                if edges <= arrays::wide(edge) {
-                    return Verdict::Refused(25, 0);
-                }
-                if tick < last {
-                    return Verdict::Refused(27, 0);
-                }
-                last = tick;
-                at += 11;
+            Checked {
+                refusal: 0,
+                last: tick,
             }
         }
     }
-    Verdict::Passed
+}
+
+// What the records come to, once no more is to be checked.
+fn verdict_of(checked: Checked) -> Verdict
+    ensures { λ r. ⌜ r ≡ verdictOf (checked .refusal) ⌝ }
+{
+    if checked.refusal == 0 {
+        return Verdict::Passed;
+    }
+    Verdict::Refused(checked.refusal, 0)
+}
+
+// Every record of the capture in turn, to the end: 2, 1, 25 and 27. The reader holds the capture and its place, which goes forward from record to record; what
+// is kept beside it is the tick of the record before.
+fn check_capture(capture: &[u8], edges: usize) -> Verdict
+    ensures { λ r. ⌜ Judged (recordsChecks edges (now (capture .entry))) r ⌝ }
+{
+    let mut reader = Reader { capture, at: 0 };
+    let mut checked = Checked {
+        refusal: 0,
+        last: 0,
+    };
+    while goes_on(reader.capture, reader.at, checked) {
+        checked = check_entry(reader.capture, reader.at, edges, checked);
+        reader.at = behind(reader.capture, reader.at);
+    }
+    verdict_of(checked)
 }
 
 // The capacity of an edge's forward dart once a record of it is taken: the first one's limit, then the lesser of the two.
@@ -159,7 +201,7 @@ fn take_window(
     edges: usize,
     capacities: &mut [i32; 1024],
 )
-    requires { ⌜ (length (now capacities) ≡ 1024) × (edges ≤ 512) × (11 * (first + count) ≤ length (now capture))
+    requires { ⌜ (length (now capacities) ≡ 1024) × (edges ≤ 512) × (entryPlace (first + count) ≤ length (now capture))
         × ((i : ℕ) → i < first + count → NoneOf (entryChecks edges (now capture) i)) ⌝ }
     ensures { λ _. ⌜ (length (now (capacities .exit)) ≡ 1024)
         × ((d : ℕ) → atℤ (now (capacities .exit)) d ≡ laid (atℤ (now (capacities .entry))) (now (capture .entry)) first count d) ⌝ }
@@ -167,7 +209,7 @@ fn take_window(
     let mut seen = [0u8; 512];
     let mut i: usize = 0;
     while i < count {
-        let entry = entry_of(capture, 11 * (first + i));
+        let entry = entry_at(capture, records::record_length(5) * (first + i));
         i += 1;
         if let Entry::Full(_, edge, limit) = entry {
             take_limit(&mut seen, &mut *capacities, arrays::wide(edge), limit);

@@ -18,11 +18,9 @@ use Rattle.refusals.proofs.Order.{none-append, append-none, first-left, first-r
 use Rattle.maps.specs.Cut.{cut}
 use Rattle.flows.specs.ProvingSet.{bound, wordsFor, member}
 use Rattle.arrays.specs.At.{atℤ}
-use Rattle.records.specs.Record.{recordLength}
-use Rattle.records.specs.Sheet.{nodesOf, edgesOf, capacityOf, sheetMap}
+use Rattle.records.specs.Check.{numberChecks}
+use Rattle.records.specs.Sheet.{nodesOf, edgesOf, capacityOf, outerOf, sheetMap, headRecordChecks, headChecks, byteChecks}
 use Rattle.sheets.specs.Open.{sheetChecks}
-use Rattle.sheets.proofs.Accepted.{sheet-bytes}
-use Rattle.sheets.proofs.Opening.{bytes-room}
 use Rattle.questions.specs.Question.{endChecks, valueChecks, roomChecks}
 use Rattle.questions.specs.Largest.{searchChecks}
 use Rattle.questions.specs.declared.LargestAnswer.{LargestAnswer}
@@ -47,12 +45,15 @@ use Rattle.desk.specs.declared.Delivery.{Delivery}
 use Rattle.desk.specs.declared.Delivery.the-variants.{Value, None}
 use Rattle.desk.proofs.Judging.{earns-by, earns-at-most, judged-at-most}
 
--- ── the head of an accepted sheet ──
+-- ── the counts of an accepted sheet: 3 does not hold ──
 pub counts-fit : (s : List ℕ) → NoneOf (sheetChecks s) → (nodesOf s ≤ 513) × (edgesOf s ≤ 512)
-counts-fit s none = let room = bytes-room s (sheet-bytes s none) in (room .2, room .4)
-
-pub head-there : (s : List ℕ) → NoneOf (sheetChecks s) → recordLength 1 ≤ length s
-head-there s none = bytes-room s (sheet-bytes s none) .0
+unfolding sheetChecks byteChecks headChecks numberChecks NoneOf
+counts-fit s none =
+    let head = append-none (headChecks s) _ (append-none (byteChecks s) _ none .0) .0 in
+    let three = append-none (headRecordChecks s) (numberChecks (nodesOf s) (edgesOf s) (outerOf s)) head .1 .0 in
+    let nodes : 513 < nodesOf s → ⊥ = λ l. three (inl (inr l)) in
+    let edges : 512 < edgesOf s → ⊥ = λ l. three (inr (inr l)) in
+    (omega (arith, nodes), omega (arith, edges))
 
 pub few-words : (nodes : ℕ) → nodes ≤ 513 → wordsFor nodes ≤ 9
 few-words nodes l = omega arith
@@ -143,21 +144,6 @@ module _ (s set : List ℕ) (accepted : NoneOf (sheetChecks s)) (long : wordsFor
 
   pub total-never-refused : (out' : List ℤ) (k p : ℕ) → GivesTotals s set noTotals out' (totals.Refused k p) → ⊥
   total-never-refused out' k p h = first-none (totalsChecks s set noTotals) k p (h .0) total-room
-
--- the sheet checks, from what Totals by node says with room for any set
-pub totals-accepted : (s set : List ℕ) (out' : List ℤ) (t : ℤ) → GivesTotals s set noTotals out' (totals.Total t) → NoneOf (sheetChecks s)
-unfolding totalsChecks
-totals-accepted s set out' t h = append-none (sheetChecks s) _ (h .0) .0
-
-pub totals-refused : (s set : List ℕ) (out' : List ℤ) (k p : ℕ) → 9 ≤ length set → GivesTotals s set noTotals out' (totals.Refused k p)
-    → FirstOf (sheetChecks s) k p
-unfolding totalsChecks
-totals-refused s set out' k p long h = go (append-first (sheetChecks s) (totalChecks (nodesOf s) set noTotals) k p (h .0))
-  where
-    go : FirstOf (sheetChecks s) k p ⊎ (NoneOf (sheetChecks s) × FirstOf (totalChecks (nodesOf s) set noTotals) k p) → FirstOf (sheetChecks s) k p
-    go (inl f) = f
-    go (inr (none, f)) =
-        absurd (total-never-refused s set none (omega (arith, few-words (nodesOf s) (counts-fit s none .0))) out' k p h)
 
 -- ── claim and set, from the numbers to the drawing ──
 bound-by : (S : ℕ → Bool) (source sink : ℕ) (value : ℤ) (from into : Bool) → S source ≡ from → S sink ≡ into

@@ -1,5 +1,5 @@
 // The exam desk: papers of a class marked against one drawing, source, sink and value. Document 02, Job 14. It stands above the analyser and calls what the
-// unit offers, Largest, Mark and Totals by node, of which it knows the contracts and the printed statements alone.
+// unit offers, Counts, Largest, Mark and Totals by node, of which it knows the contracts and the printed statements alone.
 ghost use mathlib.Core.Path.{_≡_};
 ghost use Prim.Native.Nat.{ℕ, _+_, _*_, _/_, _<_, _≤_};
 ghost use mathlib.Core.List.{_++_};
@@ -20,6 +20,7 @@ ghost use Rattle.desk.specs.Paper.{claimOf, nodesIn, paperOf, Earns, IsL
 ghost use Rattle.desk.specs.Class.{classChecks, Examines};
 ghost use Rattle.desk.specs.inner.Judged.{IsValue, IsNone, ProvesBy, NoneBy, ValuePoints, NonePoints, LastSixBy};
 ghost use Rattle.desk.specs.inner.Asked.{Asked};
+use analyser::CountsAnswer;
 use questions::LargestAnswer;
 use questions::MarkAnswer;
 use refusals::Verdict;
@@ -186,20 +187,6 @@ fn last_six(largest: Delivery, claim: Delivery, total: i32, from: bool, into: bo
     match largest {
         Delivery::Value(v) => value_points(v, claim, total, from, into),
         Delivery::None => none_points(claim, total, from, into),
-    }
-}
-
-// The sheet checks, by Totals by node of no node: with room for any set it refuses nothing else. Read would give the counts too, but the arrays that it is
-// lent, 8 KiB, would lie in the frame that calls Largest.
-fn check_sheet(sheet: &[u8]) -> Verdict
-    ensures { λ r. ⌜ Judged (sheetChecks (now (sheet .entry))) r ⌝ }
-{
-    let set = [0u64; 9];
-    let mut subtotals = [0i32; 513];
-    let answer = analyser::totals(sheet, &set, &mut subtotals);
-    match answer {
-        TotalsAnswer::Total(t) => Verdict::Passed,
-        TotalsAnswer::Refused(k, p) => Verdict::Refused(k, p),
     }
 }
 
@@ -497,23 +484,21 @@ pub fn examine(
     ensures { λ r. ⌜ Examines (now (sheet .entry)) source sink value (now (claims .entry)) (now (kinds .entry)) (now (settings .entry)) (now (sets .entry))
         (now (points .entry)) (now (points .exit)) r ⌝ }
 {
-    let checked = check_sheet(sheet);
-    if let Verdict::Refused(k, p) = checked {
-        return Class::Refused(k, p);
+    let counted = analyser::counts(sheet);
+    match counted {
+        CountsAnswer::Refused(k, p) => Class::Refused(k, p),
+        CountsAnswer::Counts(nodes, edges) => examine_counted(
+            sheet,
+            wide(nodes),
+            wide(edges),
+            source,
+            sink,
+            value,
+            claims,
+            kinds,
+            settings,
+            sets,
+            points,
+        ),
     }
-    let nodes = records::nodes_of(sheet);
-    let edges = records::edges_of(sheet);
-    examine_counted(
-        sheet,
-        nodes,
-        edges,
-        source,
-        sink,
-        value,
-        claims,
-        kinds,
-        settings,
-        sets,
-        points,
-    )
 }

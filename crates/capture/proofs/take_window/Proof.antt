@@ -12,8 +12,9 @@ use borrow.Author.Needs.{needs}
 use Rattle.signed.proofs.Laws.{number-of-bits}
 use Rattle.refusals.specs.Order.{NoneOf}
 use Rattle.arrays.specs.At.{atℤ}
-use Rattle.capture.specs.Entry.{tickOf, channelOf, limitOf, entryChecks}
+use Rattle.capture.specs.Entry.{entryPlace, tickOf, channelOf, limitOf, entryChecks}
 use Rattle.capture.specs.Window.{laid}
+use Rattle.capture.specs.inner.Read.{entryAt}
 use Rattle.capture.specs.inner.Taken.{Taken}
 use Rattle.capture.specs.declared.Entry.{Entry}
 use Rattle.capture.specs.declared.Entry.the-variants.{Wrong, Cut, Full}
@@ -28,7 +29,7 @@ abbrev Inv-loop : tie.InvT-loop
 Inv-loop capture first count edges capacities₀ seen₀ i₀ capacities seen i =
     (i ≤ count)
     × (edges ≤ 512)
-    × (11 * (first + count) ≤ length capture)
+    × (entryPlace (first + count) ≤ length capture)
     × ((j : ℕ) → j < first + count → NoneOf (entryChecks edges capture j))
     × Taken (atℤ capacities₀) capture first i seen capacities
 
@@ -36,24 +37,29 @@ abbrev μ-loop : tie.MeasureT-loop
 μ-loop capture first count edges capacities₀ seen₀ i₀ capacities seen i = count - i
 
 -- ── the turn of the loop in which a record is read, and that the record passed ──
-abbrev turn : tie.After-entry-of Inv-loop μ-loop → tie.At-loop Inv-loop μ-loop
-turn k = k .before .before
+abbrev turn : tie.After-entry-at Inv-loop μ-loop → tie.At-loop Inv-loop μ-loop
+turn k = k .before .before .before
 
-abbrev begin : tie.After-entry-of Inv-loop μ-loop → tie.Start Inv-loop μ-loop
+abbrev begin : tie.After-entry-at Inv-loop μ-loop → tie.Start Inv-loop μ-loop
 begin k = turn k .before .before
 
-abbrev number : tie.After-entry-of Inv-loop μ-loop → ℕ
+abbrev number : tie.After-entry-at Inv-loop μ-loop → ℕ
 number k = begin k .args .first + turn k .loop .i
 
-passed : (k : tie.After-entry-of Inv-loop μ-loop) → NoneOf (entryChecks (begin k .args .edges) (begin k .args .capture .now) (number k))
+passed : (k : tie.After-entry-at Inv-loop μ-loop) → NoneOf (entryChecks (begin k .args .edges) (begin k .args .capture .now) (number k))
 passed k = turn k .loop .inv .3 (number k) (omega arith)
 
+-- what is found stands at its place, by the table of lengths
+found : (k : tie.After-entry-at Inv-loop μ-loop) → entryAt (begin k .args .capture .now) (entryPlace (number k)) ≡ k .entry-at .result
+found k =
+    sym (k .entry-at .ensures ∙ ap (λ n. entryAt (begin k .args .capture .now) (n * number k)) (k .before .record-length .ensures .0))
+
 -- so it is found whole, and nothing else is
-whole : (k : tie.After-entry-of Inv-loop μ-loop)
-    → k .entry-of .result
+whole : (k : tie.After-entry-at Inv-loop μ-loop)
+    → k .entry-at .result
     ≡ Full (tickOf (begin k .args .capture .now) (number k)) (channelOf (begin k .args .capture .now) (number k)) (limitOf (begin k .args .capture .now)
     (number k))
-whole k = k .entry-of .ensures ∙ passed-full (begin k .args .edges) (begin k .args .capture .now) (number k) (passed k)
+whole k = sym (found k) ∙ passed-full (begin k .args .edges) (begin k .args .capture .now) (number k) (passed k)
 
 not-full : (r : Entry) (t e : ℕ) (x : ℤ) → OneOf (0 ∷ 1 ∷ []) (tagOf tags.the-type r) → r ≡ Full t e x → ⊥
 not-full Wrong t e x one h = full-apart t e x (inl h)
@@ -64,7 +70,7 @@ not-full (Full t' e' x') t e x (inr one) h = omega arith
 -- its edge
 channel : (e : tie.After-entry Inv-loop μ-loop)
     → e .entry .given .0 .1 .0 ≡ channelOf (begin (e .before .before) .args .capture .now) (number (e .before .before))
-channel e = let k = e .before .before in full-channel _ _ _ _ _ (sym (k .entry-of .ensures) ∙ e .entry .given .1)
+channel e = let k = e .before .before in full-channel _ _ _ _ _ (found k ∙ e .entry .given .1)
 
 few : (e : tie.After-entry Inv-loop μ-loop) → e .entry .given .0 .1 .0 < 512
 few e =
@@ -75,14 +81,20 @@ few e =
 loop-holds : tie.Need-loop-holds Inv-loop μ-loop
 loop-holds c = let p = c .before .pre in (omega arith, p .1, p .2, p .3, taken-start _ _ _ _ (p .0) (λ d. refl))
 
-add-entry-of : tie.Need-add-entry-of Inv-loop μ-loop
-add-entry-of c = search needs
+record-length-requires : tie.Need-record-length-requires Inv-loop μ-loop
+record-length-requires c κs = search needs
 
-mul-entry-of : tie.Need-mul-entry-of Inv-loop μ-loop
-mul-entry-of c = search needs
+add-entry-at : tie.Need-add-entry-at Inv-loop μ-loop
+add-entry-at c = search needs
 
-entry-of-requires : tie.Need-entry-of-requires Inv-loop μ-loop
-entry-of-requires c κs = search needs
+mul-entry-at : tie.Need-mul-entry-at Inv-loop μ-loop
+mul-entry-at c =
+    let i = c .before .before .loop in
+    let length-is = c .record-length .ensures .0 in
+    omega (arith, ap (λ n. n * (c .before .before .before .before .args .first + i .i)) length-is, i .inv .2)
+
+entry-at-requires : tie.Need-entry-at-requires Inv-loop μ-loop
+entry-at-requires c κs = search needs
 
 add-i : tie.Need-add-i Inv-loop μ-loop
 add-i c = search needs
@@ -114,7 +126,7 @@ loop-again c =
       i .inv .2,
       i .inv .3,
       taken-step _ _ _ (i .inv .4) (w .wide .result) _ (w .wide .ensures ∙ channel e) (omega (arith, w .wide .ensures, few e))
-          (number-of-bits _ (record { sfits = told .known-told .given .1 .1 .0 .1 }) ∙ full-limit _ _ _ _ _ (sym (k .entry-of .ensures) ∙ e .entry .given .1))
+          (number-of-bits _ (record { sfits = told .known-told .given .1 .1 .0 .1 }) ∙ full-limit _ _ _ _ _ (found k ∙ e .entry .given .1))
           (c .take-limit .ensures .0) (c .take-limit .ensures .1),
     )
 
@@ -122,7 +134,7 @@ loop-less-2 : tie.Need-loop-less-2 Inv-loop μ-loop
 loop-less-2 c = omega arith
 
 loop-again-2 : tie.Need-loop-again-2 Inv-loop μ-loop
-loop-again-2 c = let k = c .before in absurd (not-full (k .entry-of .result) _ _ _ (c .match .keys2) (whole k))
+loop-again-2 c = let k = c .before in absurd (not-full (k .entry-at .result) _ _ _ (c .match .keys2) (whole k))
 
 returns : tie.Need-returns Inv-loop μ-loop
 returns c =
@@ -141,9 +153,10 @@ take-window-spec =
     Inv-loop
     μ-loop
     loop-holds
-    add-entry-of
-    mul-entry-of
-    entry-of-requires
+    record-length-requires
+    add-entry-at
+    mul-entry-at
+    entry-at-requires
     add-i
     enum-known-entry
     wide-requires
