@@ -11,6 +11,10 @@ pub struct Answer {
     pub views: Vec<View>,
     /// What `--out` writes, where the answer is a file of its own.
     pub bytes: Option<Vec<u8>>,
+    /// Whether these bytes go to standard output where there is no `--out`, in the text's place.
+    pub raw: bool,
+    /// What was given and is no part of the answer, so that nothing is passed over in silence.
+    pub notes: Vec<String>,
     /// Whether the text is the key of a refusal.
     pub refused: bool,
 }
@@ -34,15 +38,17 @@ impl From<Refusal> for Failure {
 
 pub type Outcome = Result<Answer, Failure>;
 
-/// Number, place and the manual's sentence, on one line.
-pub fn refusal_text(refusal: Refusal) -> String {
-    let row = refusals::row_of(refusal.number);
-    let of = if row.place == "0" { String::new() } else { format!(" ({})", row.place) };
-    format!("refused {} place {}{of}: {}\n", refusal.number, refusal.place, row.sentence)
+/// Number, place where there is one, and sentence, on one line.
+pub fn refusal_text(refusal: Refusal, command: &str) -> String {
+    let place = match refusals::row_of(refusal.number).place {
+        "0" => String::new(),
+        of => format!(" place {} ({of})", refusal.place),
+    };
+    format!("refused {}{place}: {}\n", refusal.number, refusals::sentence(refusal.number, command))
 }
 
-pub fn refusal_json(refusal: Refusal) -> Vec<(&'static str, Json)> {
-    let sentence = refusals::row_of(refusal.number).sentence;
+pub fn refusal_json(refusal: Refusal, command: &str) -> Vec<(&'static str, Json)> {
+    let sentence = refusals::sentence(refusal.number, command);
     vec![("answer", "refused".into()), ("refused", number(refusal.number)), ("place", number(refusal.place)), ("sentence", sentence.into())]
 }
 
