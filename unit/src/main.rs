@@ -50,6 +50,7 @@ fn main() -> ExitCode {
 fn done(wanted: Wanted) -> Parsed<u8> {
     let words = match wanted {
         Wanted::Help(command) => return say(table::help(command).as_bytes()).map(|_| 0),
+        Wanted::Version => return say(format!("tools/unit {}\n", bindings::VERSION).as_bytes()).map(|_| 0),
         Wanted::Run(words) => words,
     };
     match progress::during(words.command.operation, || (words.command.run)(&words)) {

@@ -430,7 +430,8 @@ SHEET is a sheet as bytes or as text, told by the first byte. The text has a lin
     --picture FILE   a picture (SVG) of the answer as well; several answers, as of a page or a session, stand one below the other
     --csv            of class: the marks as a CSV file
     --out FILE       of pack, unpack, write, practice, dimacs, dimacs-sheet and class --csv: into a file, and nothing on standard output
-    --help           this; behind a command, more about it with examples
+    --help, -h       this; behind a command, more about it with examples
+    --version        the version of the library's interface
 
 A refusal is told with its number, its place, and the manual's sentence for it. Exit status: 0 an answer, 1 a refusal, 2 bad use, such as a file that cannot
 be read: then one line on standard error says what is wrong, FILE:LINE: .. for a text. docs/BENCH.md shows an exam day with these commands.

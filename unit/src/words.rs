@@ -17,6 +17,7 @@ pub struct Words {
 pub enum Wanted {
     Run(Words),
     Help(Option<&'static Command>),
+    Version,
 }
 
 pub fn parse(arguments: Vec<String>) -> Parsed<Wanted> {
@@ -27,7 +28,8 @@ pub fn parse(arguments: Vec<String>) -> Parsed<Wanted> {
         match word.as_str() {
             "--json" => json = true,
             "--csv" => csv = true,
-            "--help" => help = true,
+            "--help" | "-h" => help = true,
+            "--version" => return Ok(Wanted::Version),
             "--picture" => picture = Some(file_behind(&word, arguments.next())?),
             "--out" => out = Some(file_behind(&word, arguments.next())?),
             _ if word.starts_with("--") => return bad(format!("no option {word}")),
