@@ -68,7 +68,7 @@ pub fn command(words: &Words) -> Outcome {
     let window = words.number(window, &short("window"))? as u16;
     let ends = ends_of(&question);
     if words.given[record] == "all" {
-        return all(&sheet.bytes, &capture, window, ends);
+        return all(&sheet.bytes, &capture, window, ends, words);
     }
     let record = words.number(record, &unsigned("record"))? as u64;
     let (limits, found) = largest_after(&sheet.bytes, &capture, window, record, ends)?;
@@ -91,21 +91,31 @@ fn one(sheet: &[u8], ends: Ends, limits: &[i32], found: Found<Extreme>) -> Outco
     Ok(answer)
 }
 
-/// Every record in turn. The limits found are judged anew after each (6 and 7); whatever else is refused is refused after the first.
-fn all(sheet: &[u8], capture: &[u8], window: u16, ends: Ends) -> Outcome {
+/// The records that an answer after this one looks at, and which of them it is: those before the window change nothing.
+fn within(capture: &[u8], window: u16, record: usize) -> (&[u8], u64) {
+    let first = (record + 1).saturating_sub(window as usize);
+    (&capture[first * RECORD_BYTES..(record + 1) * RECORD_BYTES], (record - first) as u64)
+}
+
+/// Every record in turn. The limits found are judged anew after each (6 and 7); whatever else is refused is refused after the first, for which the whole
+/// capture is handed over.
+fn all(sheet: &[u8], capture: &[u8], window: u16, ends: Ends, words: &Words) -> Outcome {
     let records = (capture.len() / RECORD_BYTES).max(1);
     let (mut text, mut list) = (String::new(), vec![]);
     for record in 0..records {
         progress::step(record, records);
-        let (said, mut json) = match largest_after(sheet, capture, window, record as u64, ends) {
+        let (some, at) = if record == 0 { (capture, 0) } else { within(capture, window, record) };
+        let (said, mut json) = match largest_after(sheet, some, window, at, ends) {
             Ok((_, Found::Some(found))) => (format!("largest {}", found.value), vec![("answer", "largest".into()), ("largest", number(found.value))]),
             Ok((_, Found::None(_))) => ("none".to_string(), vec![("answer", "none".into())]),
             Err(refusal @ Refusal { number: 6 | 7, .. }) => (format!("refused {}", refusal.number), refusal_json(refusal, "capture")),
             Err(refusal) => return Err(refusal.into()),
         };
         text += &format!("record {record}: {said}\n");
-        json.insert(0, ("record", number(record as u32)));
-        list.push(Json::Object(json));
+        if words.json {
+            json.insert(0, ("record", number(record as u32)));
+            list.push(Json::Object(json));
+        }
     }
     Ok(Answer { text, json: vec![("answer", "records".into()), ("records", Json::List(list))], ..Answer::default() })
 }
