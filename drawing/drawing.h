@@ -23,7 +23,7 @@
 #define DRAWING_BENDS 8192 // of all channels of a sheet together
 #define DRAWING_UNIT 100 // places are in hundredths of a pixel of the picture
 #define DRAWING_MOST 100000000 // the largest place, either way: a million pixels
-#define DRAWING_WORK (4 * 1024 * 1024) // bytes that you lend as `work`, aligned to 8; what they hold before does not matter, and after means nothing
+#define DRAWING_WORK (6 * 1024 * 1024) // bytes that you lend as `work`, aligned to 8; what they hold before does not matter, and after means nothing
 #define DRAWING_TEXT (4 * 1024 * 1024) // no text is longer than this
 #define DRAWING_NONE (-1) // for a dart or a node that is not named
 
@@ -37,7 +37,7 @@
 // What Read gives of a sheet.
 struct drawing_sheet {
     uint16_t nodes, channels;
-    int32_t outer; // a dart on the face that is to lie outside in its part, or DRAWING_NONE; in every other part the lowest-numbered face lies outside
+    int32_t outer; // a dart on the face that is to lie outside in its part, or DRAWING_NONE; in every other part the longest face lies outside
     uint16_t tails[DRAWING_DARTS]; // of each dart, two for each channel
     uint16_t turns[DRAWING_DARTS]; // the next dart clockwise with the same tail
     int32_t limits[DRAWING_DARTS]; // only read by drawing_svg
