@@ -1,5 +1,6 @@
 //! A sheet, with a question before it or not: as text, as bytes, and each turned into the other.
 use crate::library::Drawing;
+use crate::picture;
 use crate::text::{long, short, Field, File, Line, Parsed};
 
 #[derive(Clone, Copy, Debug, PartialEq)]
@@ -81,6 +82,7 @@ impl Sheet {
         if !file.is_text() {
             return Ok(Sheet::from_bytes(file.name, &file.data));
         }
+        picture::remember(&file.data);
         Ok(SheetText::parse(&file)?.sheet(file.name))
     }
 
