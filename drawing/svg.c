@@ -258,6 +258,30 @@ static double taken(const struct picture *to, struct box box) {
     return sum;
 }
 
+// Whether a line comes into a box: not all of it is on one side, and not all corners are on one side of it.
+static int comes_into(const struct box *box, double ax, double ay, double bx, double by) {
+    if ((ax < box->left && bx < box->left) || (ax > box->right && bx > box->right) || (ay < box->top && by < box->top) || (ay > box->bottom && by > box->bottom)) return 0;
+    int above = 0;
+    for (int i = 0; i < 4; i++) {
+        double x = i % 2 ? box->right : box->left, y = i / 2 ? box->bottom : box->top;
+        above += (bx - ax) * (y - ay) - (by - ay) * (x - ax) > 0;
+    }
+    return above > 0 && above < 4;
+}
+
+// How many channels come into a box, but for one. Not looked at in a drawing of very many bends.
+static uint32_t crossed(const struct picture *to, struct box box, uint32_t but) {
+    uint32_t count = 0;
+    if (to->start[to->sheet->channels] > 8 * DRAWING_CHANNELS) return 0;
+    for (uint32_t channel = 0; channel < to->sheet->channels; channel++) {
+        int comes = 0;
+        if (channel == but) continue;
+        for (uint32_t i = to->start[channel]; i + 1 < to->start[channel + 1] && !comes; i++) comes = comes_into(&box, to->x[i], to->y[i], to->x[i + 1], to->y[i + 1]);
+        count += (uint32_t)comes;
+    }
+    return count;
+}
+
 // The letters of a channel's label: the number that counts, and the allowed settings.
 static uint32_t label_length(const struct picture *to, uint32_t channel, const struct look *look) {
     uint32_t span = length_of(to->sheet->limits[2 * channel]) + length_of(-(int64_t)to->sheet->limits[2 * channel + 1]) + 2;
@@ -300,7 +324,7 @@ static void put_names(struct picture *to, uint32_t channel) {
         if (i % 2) dx = -dx, dy = -dy;
         double away = (dx < 0 ? -dx : dx) * (wide + badge) / 2 + (dy < 0 ? -dy : dy) * 13 + look.width / 2 + 1;
         struct box number = box_at(at.x, at.y, badge, 13), label = box_at(at.x + dx * away, at.y + dy * away, wide, 13);
-        double cost = 2 * taken(to, number) + taken(to, label);
+        double cost = 2 * taken(to, number) + taken(to, label) + 40 * crossed(to, label, DRAWING_CHANNELS) + 80 * crossed(to, number, channel);
         if (cost >= best) continue;
         best = cost, spot = at, x = at.x + dx * away, y = at.y + dy * away, boxes[0] = number, boxes[1] = label;
     }
