@@ -1,4 +1,4 @@
-//! How far a comparison is, on standard error: on a terminal one line, written anew twice a second; elsewhere a line every ten seconds.
+//! How far a comparison is, on standard error: on a terminal one line, written anew twice a second; elsewhere a line every half minute.
 use std::io::{IsTerminal, Write};
 use std::time::{Duration, Instant};
 
@@ -13,7 +13,7 @@ impl Progress {
     }
 
     pub fn tell(&mut self, drawings: u64, compared: u64) {
-        if self.last.elapsed() < Duration::from_millis(if self.terminal { 500 } else { 10_000 }) {
+        if self.last.elapsed() < Duration::from_millis(if self.terminal { 500 } else { 30_000 }) {
             return;
         }
         self.last = Instant::now();

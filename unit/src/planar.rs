@@ -200,6 +200,11 @@ fn faces_of(nodes: usize, edges: &[Ends]) -> Option<Vec<Vec<Ends>>> {
     if edges.len() == 1 {
         return Some(vec![vec![(a, b), (b, a)]]);
     }
+    let mut met = vec![false; nodes];
+    edges.iter().for_each(|&(a, b)| (met[a], met[b]) = (true, true));
+    if edges.len() + 6 > 3 * met.iter().filter(|met| **met).count().max(3) {
+        return None; // more edges than a flat drawing has
+    }
     let mut block = Block { nodes, edges, faces: vec![], around: vec![], drawn: vec![false; edges.len()], inside: vec![false; nodes] };
     let mut cycle = path(nodes, edges, a, |_, edge| edge != 0, |node| node == b).expect("a block of two edges has a cycle");
     cycle.push(a);
@@ -217,19 +222,22 @@ fn is_flat(nodes: usize, edges: &[Ends]) -> bool {
     blocks(nodes, edges).iter().all(|block| faces_of(nodes, &block.iter().map(|&edge| edges[edge]).collect::<Vec<_>>()).is_some())
 }
 
-/// Of a graph that has no flat drawing as few edges as have none: each of them is needed.
+/// Of a graph that has no flat drawing as few edges as have none: stretches of them are left out while it stays so, at last one by one, so that each of those
+/// that remain is needed.
 fn needed(nodes: usize, edges: &[Ends]) -> Vec<Ends> {
-    let (mut kept, mut rest): (Vec<Ends>, Vec<Ends>) = (vec![], edges.to_vec());
-    while is_flat(nodes, &kept) {
-        let with = |count: usize| [&kept[..], &rest[..count]].concat();
-        // kept with the first `low` of the rest is flat, with the first `high` it is not
-        let (mut low, mut high) = (0, rest.len());
-        while high - low > 1 {
-            let middle = (low + high) / 2;
-            *(if is_flat(nodes, &with(middle)) { &mut low } else { &mut high }) = middle;
+    let mut kept = edges.to_vec();
+    let mut size = kept.len();
+    while size > 1 {
+        size = size.div_ceil(2);
+        let mut at = 0;
+        while at < kept.len() {
+            let without = [&kept[..at], &kept[(at + size).min(kept.len())..]].concat();
+            if is_flat(nodes, &without) {
+                at += size;
+            } else {
+                kept = without;
+            }
         }
-        kept.push(rest[high - 1]);
-        rest.truncate(high - 1);
     }
     kept
 }

@@ -1,12 +1,12 @@
 //! A line on standard error while work takes long: what is going on, how far it is where that is known, and for how long. On a terminal it is written anew
-//! twice a second, and is gone at the end; elsewhere there is a line every ten seconds.
+//! twice a second, and is gone at the end; elsewhere there is a line every half minute.
 use std::io::{IsTerminal, Write};
 use std::sync::atomic::{AtomicUsize, Ordering};
 use std::sync::mpsc::{channel, RecvTimeoutError};
 use std::time::{Duration, Instant};
 
 const STEP: Duration = Duration::from_millis(500);
-const RARE_STEP: Duration = Duration::from_secs(10);
+const RARE_STEP: Duration = Duration::from_secs(30);
 static DONE: AtomicUsize = AtomicUsize::new(0);
 static TOTAL: AtomicUsize = AtomicUsize::new(0);
 
