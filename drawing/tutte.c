@@ -227,7 +227,7 @@ void part_smooth(struct part *part) {
         next_weights(part, 0, -1), even = 0;
         if (!solved(part)) return; // the grid's places stay
     }
-    uint32_t rounds = LINKS_MADE / part->links;
+    uint32_t rounds = LINKS_MADE / (part->links + 1);
     rounds = even > 0 ? 2 * FEWEST : rounds < FEWEST ? FEWEST : rounds > MOST ? MOST : rounds;
     for (uint32_t round = 0, failures = 0; round < rounds && failures < FAILURES; round++) {
         next_weights(part, even, roots);
