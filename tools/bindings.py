@@ -3,8 +3,9 @@ constants, docs/MANUAL.md says the refusals in words. Nothing else declares them
 
     tools/bindings --check     include/analyser.h is what these say: else the difference, and exit status 1
     tools/bindings --write     makes it so; a new function needs its comment and a line `uint8_t analyser_NAME();` there first
-    tools/bindings rust        prints declarations for Rust, which the builds of unit/ and compare/ take in
-    tools/bindings recorder    prints the same functions for Rust, each by way of `recorded`: compare/src/corpus.rs
+    tools/bindings rust        prints declarations for Rust, which the crate bindings/ takes in
+    tools/bindings unlinked    prints the same functions without the library behind them: each calls `missing`
+    tools/bindings recorder    prints a macro for Rust that defines them once more, each by way of `recorded`: compare/src/corpus.rs
     tools/bindings calls       prints a C function for each of them that takes its arguments from a list: tests/machines.c
     tools/bindings python      prints a Python module that loads the shared library beside it
     tools/bindings json        prints each function's name, and of each argument whether it is lent, and whether it is 64 bits wide: tests/machines.mjs
@@ -321,24 +322,38 @@ def rust_function(function):
     return f"pub fn {function.name}({', '.join(part for p in function.parameters for part in rust_parameters(p))}){' -> u8' if function.result else ''}"
 
 
-def rust():
+def rust_constants():
     lines = ["// Made by tools/bindings.", 'const _: () = assert!(usize::BITS == 64, "a length is 64 bits wide");']
-    lines += [f"pub const {name}: usize = {value};" for name, value in constants().items()]
-    return [*lines, 'extern "C" {', *(f"    {rust_function(function)};" for function in functions()), "}"]
+    lines += [f'pub const VERSION: &str = "{version()[1]}";']
+    return [*lines, *(f"pub const {name}: usize = {value};" for name, value in constants().items())]
+
+
+def rust():
+    return [*rust_constants(), 'extern "C" {', *(f"    {rust_function(function)};" for function in functions()), "}"]
+
+
+SAFETY = ["/// # Safety", "/// The caller's duties of include/analyser.h."]
+
+
+def unlinked():
+    lines = rust_constants()
+    for function in functions():
+        lines += [*SAFETY, "#[allow(unused_variables)]", f"{rust_function(function).replace('pub fn', 'pub unsafe fn')} {{", "    missing()", "}"]
+    return lines
 
 
 def recorder():
-    lines = ["mod raw {", *(f"    {line}" for line in rust()), "}"]
+    lines = ["#[macro_export]", "macro_rules! recorder {", "    () => {"]
     for index, function in enumerate(functions()):
         numbers = ", ".join(f"{p.name} as u64" for p in function.parameters if not p.lent)
         areas = ", ".join(f"Area::new({p.name}, {p.count or p.name + '_length'})" for p in function.parameters if p.lent)
         passed = ", ".join(name for p in function.parameters for name in ([p.name] if p.count or not p.lent else [p.name, f"{p.name}_length"]))
-        call, end = f"raw::{function.name}({passed})", ""
+        call, end = f"$crate::{function.name}({passed})", ""
         if not function.result:
             call, end = f"{{ {call}; 0 }}", ";"
-        lines += ["/// # Safety", "/// The caller's duties of include/analyser.h.", f"{rust_function(function).replace('pub fn', 'pub unsafe fn')} {{"]
+        lines += [*SAFETY, f"{rust_function(function).replace('pub fn', 'pub unsafe fn')} {{"]
         lines += [f"    recorded({index}, &[{numbers}], &[{areas}], || {call}){end}", "}"]
-    return lines
+    return [*lines, "    };", "}"]
 
 
 # Python
@@ -403,7 +418,7 @@ def write():
     return 0
 
 
-PRINTED = {"rust": rust, "recorder": recorder, "calls": calls, "python": python, "json": as_json}
+PRINTED = {"rust": rust, "unlinked": unlinked, "recorder": recorder, "calls": calls, "python": python, "json": as_json}
 
 
 def main(words):

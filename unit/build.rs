@@ -1,9 +1,7 @@
-//! Links the library, and takes the declarations of its functions from their source.
-#[path = "../tools/build.rs"]
-mod build;
+//! Compiles what draws.
+#[path = "../drawing/build.rs"]
+mod drawing;
 
 fn main() {
-    let top = std::path::Path::new(env!("CARGO_MANIFEST_DIR")).join("..");
-    build::link(&top);
-    build::declare(&top, "rust");
+    drawing::compile(&std::path::Path::new(env!("CARGO_MANIFEST_DIR")).join(".."));
 }

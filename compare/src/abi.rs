@@ -1,3 +1,3 @@
-//! The functions of the library, declared by tools/bindings from their source. Each call goes by way of the recorder.
+//! The functions of the library, each by way of the recorder.
 use crate::corpus::{recorded, Area};
-include!(concat!(env!("OUT_DIR"), "/abi.rs"));
+bindings::recorder!();

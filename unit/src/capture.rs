@@ -1,15 +1,17 @@
 //! A capture of the recorder (document 02, Job 10): as its bytes, or as text with a line `TICK CHANNEL LIMIT` for each record. The limits after a record, and
 //! Largest on them.
-use crate::abi::analyser_largest_after;
 use crate::answer::{number, refusal_json, Answer, Outcome};
 use crate::commands::{ends_of, largest_of, none, spaced};
 use crate::json::Json;
 use crate::library::{settings_room, told, written, Ends, Extreme, Found, Refusal, Told, SET_WORDS};
 use crate::progress;
+use crate::sheets::Record;
 use crate::text::{long, short, unsigned, Field, File, Parsed};
 use crate::words::Words;
+use bindings::analyser_largest_after;
 
-const KIND: u8 = 5;
+pub const KIND: u8 = 5;
+const RECORD_BYTES: usize = 11;
 const RECORD: [Field; 3] = [unsigned("tick"), short("channel"), long("forward limit")];
 
 /// The recorder's bytes, right or wrong: told from a text by the first byte, as a sheet is.
@@ -22,7 +24,7 @@ pub fn read(name: &str) -> Parsed<Vec<u8>> {
     }
 }
 
-fn parse(file: &File) -> Parsed<Vec<u8>> {
+pub fn parse(file: &File) -> Parsed<Vec<u8>> {
     let mut bytes = vec![];
     for line in &file.lines()? {
         let fields = line.numbers("a record", 0, &RECORD)?;
@@ -32,6 +34,18 @@ fn parse(file: &File) -> Parsed<Vec<u8>> {
         bytes.extend((fields[2] as i32).to_le_bytes());
     }
     Ok(bytes)
+}
+
+/// The text of the recorder's bytes.
+pub fn text(file: &File) -> Parsed<String> {
+    let record = Record { kind: KIND, name: "a record", size: RECORD_BYTES };
+    let mut text = String::new();
+    for start in (0..file.data.len()).step_by(RECORD_BYTES) {
+        let body = record.body(&file.data, start).or_else(|what| file.fault(what))?;
+        let [tick, limit] = [0, 6].map(|at| [body[at], body[at + 1], body[at + 2], body[at + 3]]);
+        text += &format!("{} {} {}\n", u32::from_le_bytes(tick), u16::from_le_bytes([body[4], body[5]]), i32::from_le_bytes(limit));
+    }
+    Ok(text)
 }
 
 /// The forward limits after a record, and Largest on them.
@@ -47,8 +61,6 @@ fn largest_after(sheet: &[u8], capture: &[u8], window: u16, named: u64, ends: En
     Ok((written(limits), found))
 }
 
-const RECORD_BYTES: usize = 11;
-
 pub fn command(words: &Words) -> Outcome {
     let (sheet, question) = words.question(3)?;
     let [name, window, record] = [3, 2, 1].map(|behind| words.given.len() - behind);
@@ -56,7 +68,7 @@ pub fn command(words: &Words) -> Outcome {
     let window = words.number(window, &short("window"))? as u16;
     let ends = ends_of(&question);
     if words.given[record] == "all" {
-        return all(&sheet.bytes, &capture, window, ends);
+        return all(&sheet.bytes, &capture, window, ends, words);
     }
     let record = words.number(record, &unsigned("record"))? as u64;
     let (limits, found) = largest_after(&sheet.bytes, &capture, window, record, ends)?;
@@ -79,21 +91,31 @@ fn one(sheet: &[u8], ends: Ends, limits: &[i32], found: Found<Extreme>) -> Outco
     Ok(answer)
 }
 
-/// Every record in turn. The limits found are judged anew after each (6 and 7); whatever else is refused is refused after the first.
-fn all(sheet: &[u8], capture: &[u8], window: u16, ends: Ends) -> Outcome {
+/// The records that an answer after this one looks at, and which of them it is: those before the window change nothing.
+fn within(capture: &[u8], window: u16, record: usize) -> (&[u8], u64) {
+    let first = (record + 1).saturating_sub(window as usize);
+    (&capture[first * RECORD_BYTES..(record + 1) * RECORD_BYTES], (record - first) as u64)
+}
+
+/// Every record in turn. The limits found are judged anew after each (6 and 7); whatever else is refused is refused after the first, for which the whole
+/// capture is handed over.
+fn all(sheet: &[u8], capture: &[u8], window: u16, ends: Ends, words: &Words) -> Outcome {
     let records = (capture.len() / RECORD_BYTES).max(1);
     let (mut text, mut list) = (String::new(), vec![]);
     for record in 0..records {
         progress::step(record, records);
-        let (said, mut json) = match largest_after(sheet, capture, window, record as u64, ends) {
+        let (some, at) = if record == 0 { (capture, 0) } else { within(capture, window, record) };
+        let (said, mut json) = match largest_after(sheet, some, window, at, ends) {
             Ok((_, Found::Some(found))) => (format!("largest {}", found.value), vec![("answer", "largest".into()), ("largest", number(found.value))]),
             Ok((_, Found::None(_))) => ("none".to_string(), vec![("answer", "none".into())]),
-            Err(refusal @ Refusal { number: 6 | 7, .. }) => (format!("refused {}", refusal.number), refusal_json(refusal)),
+            Err(refusal @ Refusal { number: 6 | 7, .. }) => (format!("refused {}", refusal.number), refusal_json(refusal, "capture")),
             Err(refusal) => return Err(refusal.into()),
         };
         text += &format!("record {record}: {said}\n");
-        json.insert(0, ("record", number(record as u32)));
-        list.push(Json::Object(json));
+        if words.json {
+            json.insert(0, ("record", number(record as u32)));
+            list.push(Json::Object(json));
+        }
     }
     Ok(Answer { text, json: vec![("answer", "records".into()), ("records", Json::List(list))], ..Answer::default() })
 }

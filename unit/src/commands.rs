@@ -3,7 +3,7 @@ use crate::answer::{number, Answer, Outcome, View};
 use crate::json::Json;
 use crate::library::{self, nodes_of, Answered, Drawing, Ends, Found, Refusal, Solved};
 use crate::lists;
-use crate::sheets::{hex, text_of, Question, SheetText};
+use crate::sheets::{hex, Question, SheetText};
 use crate::text::{short, unsigned, File};
 use crate::words::Words;
 
@@ -40,7 +40,7 @@ fn against(sheet: &[u8], set: &[u64], ends: Ends, delivery: i32) -> Result<Strin
     })
 }
 
-fn plain(sheet: &[u8], ends: Option<Ends>) -> Result<View, Refusal> {
+pub fn plain(sheet: &[u8], ends: Option<Ends>) -> Result<View, Refusal> {
     let Drawing { nodes, channels, outer, .. } = library::read(sheet)?;
     View::new("drawing".to_string(), format!("{nodes} nodes, {channels} channels, outer dart {outer}"), sheet, ends)
 }
@@ -50,7 +50,7 @@ pub fn read(words: &Words) -> Outcome {
     let drawing = library::read(&sheet.bytes)?;
     let Drawing { nodes, channels, outer, tails, turns, limits } = &drawing;
     Ok(Answer {
-        text: text_of(sheet.question, Some(*outer), &drawing),
+        text: SheetText::of(sheet.question, Some(*outer), &drawing).text(),
         json: vec![
             ("answer", "drawing".into()),
             ("nodes", number(*nodes)),
@@ -68,7 +68,9 @@ pub fn read(words: &Words) -> Outcome {
 pub fn write(words: &Words) -> Outcome {
     let file = File::read(&words.given[0])?;
     let text = SheetText::parse(&file)?;
-    let bytes = library::write(text.nodes, text.outer.unwrap_or(0), &text.tails, &text.turns, &text.limits)?;
+    let written = library::write(text.nodes, text.outer.unwrap_or(0), &text.tails, &text.turns, &text.limits);
+    let _ = words.kept.set(text.sheet(file.name));
+    let bytes = written?;
     Ok(sheet_answer(hex(&bytes), bytes)?)
 }
 
@@ -143,12 +145,7 @@ pub fn extreme_text(name: &str, found: &library::Extreme) -> String {
 pub fn largest_of(sheet: &[u8], ends: Ends, found: &library::Extreme) -> Outcome {
     Ok(Answer {
         text: extreme_text("largest", found),
-        json: vec![
-            ("answer", "largest".into()),
-            ("largest", number(found.value)),
-            ("settings", Json::numbers(&found.settings)),
-            ("set", set_json(&found.set)),
-        ],
+        json: vec![("answer", "largest".into()), ("largest", number(found.value)), ("settings", Json::numbers(&found.settings)), ("set", set_json(&found.set))],
         views: vec![extreme_view(sheet, ends, "largest", found)?],
         ..Answer::default()
     })
@@ -231,7 +228,7 @@ pub fn page(words: &Words) -> Outcome {
             Answered::Cannot { set, size } => {
                 (spaced("cannot", &nodes_of(set)), vec![("answer", "cannot".into()), ("set", set_json(set)), ("size", number(*size))])
             }
-            Answered::Refused(refused) => (format!("refused {refused}"), crate::answer::refusal_json(Refusal { number: *refused, place: 0 })),
+            Answered::Refused(refused) => (format!("refused {refused}"), crate::answer::refusal_json(Refusal { number: *refused, place: 0 }, "page")),
         };
         answer.text += &format!("question {} {} {delivery}: {said}\n", ends.0, ends.1);
         json.splice(0..0, [("headgate", number(ends.0)), ("outfall", number(ends.1)), ("delivery", number(delivery))]);
@@ -253,15 +250,25 @@ pub fn spaced<T: ToString>(word: &str, numbers: &[T]) -> String {
     numbers.iter().fold(word.to_string(), |line, number| line + " " + &number.to_string())
 }
 
+/// The settings of the sheet's channels, and a note where more were given.
+fn of_channels(sheet: &[u8], mut settings: Vec<i32>) -> Result<(Vec<i32>, Vec<String>), Refusal> {
+    let channels = library::read(sheet)?.channels as usize;
+    let notes = lists::surplus(settings.len(), "settings", channels, "channels");
+    settings.truncate(channels);
+    Ok((settings, notes))
+}
+
 pub fn mark(words: &Words) -> Outcome {
     let (sheet, question) = words.question(1)?;
     let settings = lists::settings(words.last())?;
     let ends = ends_of(&question);
     let value = library::mark(&sheet.bytes, ends, &settings)?;
+    let (settings, notes) = of_channels(&sheet.bytes, settings)?;
     Ok(Answer {
         text: format!("value {value}\n"),
         json: vec![("answer", "value".into()), ("value", number(value))],
         views: vec![can_view(&sheet.bytes, ends, format!("value {value}"), value, &settings)?],
+        notes,
         ..Answer::default()
     })
 }
@@ -275,9 +282,11 @@ pub fn levels(words: &Words) -> Outcome {
     let sheet = words.sheet()?;
     let settings = lists::settings(words.last())?;
     let levels = library::levels_from_settings(&sheet.bytes, &settings)?;
+    let (settings, notes) = of_channels(&sheet.bytes, settings)?;
     Ok(Answer {
         text: listed(&levels),
         json: vec![("answer", "levels".into()), ("levels", Json::numbers(&levels))],
+        notes,
         views: vec![leveled_view(&sheet.bytes, "levels from settings", &settings, &levels)?],
         ..Answer::default()
     })
@@ -285,9 +294,14 @@ pub fn levels(words: &Words) -> Outcome {
 
 pub fn settings(words: &Words) -> Outcome {
     let sheet = words.sheet()?;
-    let levels = lists::levels(words.last())?;
+    let mut levels = lists::levels(words.last())?;
     let settings = library::settings_from_levels(&sheet.bytes, &levels)?;
+    // the settings are balanced, and have as many levels as there are faces
+    let faces = library::levels_from_settings(&sheet.bytes, &settings)?.len();
+    let notes = lists::surplus(levels.len(), "levels", faces, "faces");
+    levels.truncate(faces);
     Ok(Answer {
+        notes,
         text: listed(&settings),
         json: vec![("answer", "settings".into()), ("settings", Json::numbers(&settings))],
         views: vec![leveled_view(&sheet.bytes, "settings from levels", &settings, &levels)?],
@@ -299,10 +313,14 @@ pub fn totals(words: &Words) -> Outcome {
     let sheet = words.sheet()?;
     let set = lists::set(words.last())?;
     let (subtotals, total) = library::totals(&sheet.bytes, &set)?;
-    let nodes: Vec<u16> = nodes_of(&set).into_iter().take(subtotals.len()).collect();
+    let mut nodes = nodes_of(&set);
+    let none = nodes.split_off(subtotals.len());
+    let last = library::read(&sheet.bytes)?.nodes - 1;
+    let notes = if none.is_empty() { vec![] } else { vec![spaced(&format!("the last node of the sheet is {last}, and passed over was"), &none)] };
     let lines: String = nodes.iter().zip(&subtotals).map(|(node, subtotal)| format!("{node} {subtotal}\n")).collect();
     let caption = format!("the outward total of a set of {} nodes", nodes.len());
     Ok(Answer {
+        notes,
         text: format!("{lines}total {total}\n"),
         json: vec![("answer", "totals".into()), ("nodes", Json::numbers(&nodes)), ("subtotals", Json::numbers(&subtotals)), ("total", number(total))],
         views: vec![View::new(format!("total {total}"), caption, &sheet.bytes, sheet.question.as_ref().map(ends_of))?.set(&sheet.bytes, &set)?],
@@ -337,18 +355,5 @@ pub fn key(words: &Words) -> Outcome {
 pub fn practice(words: &Words) -> Outcome {
     let (rows, columns) = (words.number(0, &short("rows"))? as u16, words.number(1, &short("columns"))? as u16);
     let bytes = library::practice_sheet(rows, columns, words.number(2, &unsigned("seed"))? as u32)?;
-    Ok(sheet_answer(text_of(None, None, &library::read(&bytes)?), bytes)?)
-}
-
-pub fn dimacs(words: &Words) -> Outcome {
-    let (sheet, question) = words.question(0)?;
-    let ends = ends_of(&question);
-    let text = library::write_dimacs(&sheet.bytes, ends)?;
-    Ok(Answer {
-        json: vec![("answer", "dimacs".into()), ("text", text.as_str().into())],
-        bytes: Some(text.clone().into_bytes()),
-        text,
-        views: vec![plain(&sheet.bytes, Some(ends))?],
-        ..Answer::default()
-    })
+    Ok(sheet_answer(SheetText::of(None, None, &library::read(&bytes)?).text(), bytes)?)
 }

@@ -11,6 +11,10 @@ impl Json {
     pub fn numbers<T: Copy + Into<i64>>(list: &[T]) -> Json {
         Json::List(list.iter().map(|&number| Json::Number(number.into())).collect())
     }
+
+    pub fn texts(list: &[String]) -> Json {
+        Json::List(list.iter().map(|text| text.as_str().into()).collect())
+    }
 }
 
 impl From<&str> for Json {

@@ -1,7 +1,7 @@
 //! The proved library (include/analyser.h), one safe function to an operation; those of a module of their own stand there. Each lends as much room as the
 //! largest drawing needs, so that 16 is said only of what a caller gave. What was not written is told by a number that no answer has.
-use crate::abi::*;
-pub use crate::abi::SET_WORDS;
+pub use bindings::SET_WORDS;
+use bindings::*;
 
 #[derive(Clone, Copy, Debug, PartialEq)]
 pub struct Refusal {
@@ -10,7 +10,6 @@ pub struct Refusal {
 }
 
 pub type Told<T> = Result<T, Refusal>;
-
 
 /// No setting, level, limit or subtotal is this low.
 pub const UNWRITTEN: i32 = i32::MIN;

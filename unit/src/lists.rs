@@ -3,7 +3,7 @@ use crate::sheets::{Question, QUESTION};
 use crate::text::{long, short, Field, File, Line, Parsed};
 
 /// Words that begin a line which is not part of a list of numbers: what the command itself prints around settings and levels.
-const AROUND: [&str; 8] = ["can", "cannot", "largest", "least", "limit", "none", "set", "value"];
+const AROUND: [&str; 9] = ["can", "cannot", "largest", "least", "limit", "none", "note", "set", "value"];
 
 /// One number a line, in order, or its place in the order before it: so what a command prints is a list for the next one.
 fn numbered(name: &str, place: &str, what: &'static str) -> Parsed<Vec<i32>> {
@@ -31,6 +31,15 @@ pub fn settings(name: &str) -> Parsed<Vec<i32>> {
 
 pub fn levels(name: &str) -> Parsed<Vec<i32>> {
     numbered(name, "face", "level")
+}
+
+/// What is said of numbers behind those that there is a place for, such as `channels` of a sheet.
+pub fn surplus(given: usize, what: &str, places: usize, place: &str) -> Vec<String> {
+    if given > places {
+        vec![format!("{given} {what} were given, and the sheet has {places} {place}: the last {} were passed over", given - places)]
+    } else {
+        vec![]
+    }
 }
 
 /// The words of a set: nodes, as many on a line as there are, behind the word `set` or not.

@@ -25,6 +25,17 @@ pub fn row_of(number: u8) -> Row {
     rows().into_iter().find(|row| row.number == number).unwrap_or(unknown)
 }
 
+/// What a refusal says to someone who asked for this: 13 and 16 have conditions of several operations in the manual.
+pub fn sentence(number: u8, command: &str) -> &'static str {
+    let whole = row_of(number).sentence;
+    match (number, command) {
+        (16, "mark" | "levels") => "there are fewer settings than the sheet has channels",
+        (16, "settings") => "there are fewer levels than the drawing has faces",
+        (13, _) => whole.split(';').next().unwrap_or(whole),
+        _ => whole,
+    }
+}
+
 #[cfg(test)]
 mod tests {
     use super::*;

@@ -1,6 +1,5 @@
 //! A session on a sheet that two parties share (document 02, Jobs 11 and 12), one call a line: `ask HEADGATE OUTFALL DELIVERY`, `commit`, `clear`. Before ask
 //! and commit may stand the party, as in `1 ask 0 6 5`; without it they are of party 0.
-use crate::abi::{analyser_session_ask, analyser_session_clear, analyser_session_commit, analyser_session_start, MAX_CHANNELS, MAX_DARTS};
 use crate::answer::{number, refusal_json, refusal_text, Answer, Outcome, View};
 use crate::commands::{delivers, ends_of, set_json, spaced};
 use crate::json::Json;
@@ -9,6 +8,7 @@ use crate::progress;
 use crate::sheets::{Question, QUESTION};
 use crate::text::{short, Field, File, Parsed};
 use crate::words::Words;
+use bindings::{analyser_session_ask, analyser_session_clear, analyser_session_commit, analyser_session_start, MAX_CHANNELS, MAX_DARTS};
 
 #[derive(Clone, Copy, Debug, PartialEq)]
 pub enum Call {
@@ -130,7 +130,7 @@ fn said(reply: &Reply) -> (String, Vec<(&'static str, Json)>) {
             (spaced("cannot", &nodes_of(set)), vec![("answer", "cannot".into()), ("set", set_json(set)), ("size", number(*size))])
         }
         Reply::Done => ("done".to_string(), vec![("answer", "done".into())]),
-        Reply::Refused(refusal) => (refusal_text(*refusal).trim_end().to_string(), refusal_json(*refusal)),
+        Reply::Refused(refusal) => (refusal_text(*refusal, "session").trim_end().to_string(), refusal_json(*refusal, "session")),
     }
 }
 

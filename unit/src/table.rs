@@ -52,6 +52,46 @@ pub const COMMANDS: &[Command] = &[
         run: commands::write,
     },
     Command {
+        name: "pack",
+        operation: "Text to bytes",
+        words: "[TEXT] [--out FILE]",
+        counts: &[0, 1],
+        says: "The bytes of a text: of a question and its sheet, of a sheet alone, or of a capture, on standard output or into a file.\n\
+               Nothing is judged but that each number fits its field. Without a name the text is standard input.",
+        json: "answer bytes, length, bytes",
+        examples: "$ printf '7 513 -2\\n' | tools/unit pack | od -An -tu1\n\
+                   \x20  5   7   0   0   0   1   2 254 255 255 255\n\
+                   $ tools/unit pack samples/a-6.txt | cmp - samples/a-6.question\n",
+        run: crate::packing::pack,
+    },
+    Command {
+        name: "unpack",
+        operation: "Bytes to text",
+        words: "[BYTES] [--out FILE]",
+        counts: &[0, 1],
+        says: "The text of bytes, which 'pack' turns back: of a question and its sheet, of a sheet alone, or of a capture.\n\
+               Nothing is judged but that there are such records. Without a name the bytes are standard input.",
+        json: "answer text, text",
+        examples: "$ tools/unit unpack samples/a-6.question\n\
+                   question 0 1 6\n\
+                   nodes 2\n\
+                   0 1 2 5 5 0\n\
+                   0 1 4 1 3 0\n\
+                   0 1 0 3 4 0\n",
+        run: crate::packing::unpack,
+    },
+    Command {
+        name: "check",
+        operation: "Text and bytes of a folder",
+        words: "FOLDER",
+        counts: &[1],
+        says: "Every NAME.txt of a folder packs to NAME.question, and that unpacks to NAME.txt; so do NAME.records and NAME.capture.",
+        json: "answer agree, samples, captures",
+        examples: "$ tools/unit check samples | grep -o 'agree with their text'\n\
+                   agree with their text\n",
+        run: crate::packing::check,
+    },
+    Command {
         name: "solve",
         operation: "Solve",
         words: "SHEET [HEADGATE OUTFALL DELIVERY]",
@@ -69,7 +109,7 @@ pub const COMMANDS: &[Command] = &[
                    set 0\n\
                    size 1\n\
                    $ tools/unit solve samples/a-6.txt 1 1 6\n\
-                   refused 14 place 0: headgate and outfall are equal\n\
+                   refused 14: headgate and outfall are equal\n\
                    $ tools/unit solve samples/a-6.txt --json\n\
                    {\"operation\": \"Solve\", \"answer\": \"can\", \"delivery\": 6, \"settings\": [0, 2, 4]}\n",
         run: commands::solve,
@@ -231,7 +271,7 @@ pub const COMMANDS: &[Command] = &[
                    0 2 0 2 13 0\n\
                    1 3 1 3 15 0\n\
                    $ tools/unit practice 2 17 1\n\
-                   refused 23 place 0: rows or columns not 2 to 16, or a seed of 2,147,483,648 or more\n",
+                   refused 23: rows or columns not 2 to 16, or a seed of 2,147,483,648 or more\n",
         run: commands::practice,
     },
     Command {
@@ -252,8 +292,41 @@ pub const COMMANDS: &[Command] = &[
                    a 1 2 4\n\
                    a 2 1 0\n\
                    $ tools/unit dimacs samples/mill-5.txt\n\
-                   refused 22 place 0: some limit, forward or back, is below 0\n",
-        run: commands::dimacs,
+                   refused 22: some limit, forward or back, is below 0\n",
+        run: crate::dimacs::write,
+    },
+    Command {
+        name: "dimacs-show",
+        operation: "A DIMACS text in words",
+        words: "[TEXT]",
+        counts: &[0, 1],
+        says: "A DIMACS maximum flow text in words: its counts and ends, each channel with both limits, and the largest delivery, or why the unit\n\
+               cannot take it. Arcs may stand in any order; an arc without one back is a channel with back limit 0. Nodes count from 1.",
+        json: "answer problem, nodes, source, sink, channels (ends and both limits), largest, why (null where it can be drawn)",
+        examples: "$ printf 'p max 3 3\\nn 3 t\\nn 1 s\\na 1 2 5\\na 2 3 4\\na 2 1 1\\n' | tools/unit dimacs-show\n\
+                   3 nodes, 3 arcs, from node 1 to node 3\n\
+                   1 parts, 0 arcs from a node to itself, 0 arcs of capacity 0\n\
+                   channel 0: 1 -> 2 5, back 1\n\
+                   channel 1: 2 -> 3 4, back 0\n\
+                   largest 4\n",
+        run: crate::dimacs::show,
+    },
+    Command {
+        name: "dimacs-sheet",
+        operation: "A sheet from a DIMACS text",
+        words: "[TEXT] [--out FILE]",
+        counts: &[0, 1],
+        says: "The text of a sheet with a flat drawing for a DIMACS text, which asks for the largest delivery; with --out its bytes. A text has no\n\
+               turns: those of the drawing are found here. Where there is no flat drawing, five nodes that are joined each to each, or three and\n\
+               three, and the paths that join them, are named. Nodes of the sheet count from 0.",
+        json: "answer sheet, text",
+        examples: "$ tools/unit dimacs-sheet samples/a-6.max\n\
+                   question 0 1 12\n\
+                   nodes 2\n\
+                   0 1 4 3 5 0\n\
+                   0 1 0 5 3 0\n\
+                   0 1 2 1 4 0\n",
+        run: crate::dimacs::sheet,
     },
     Command {
         name: "capture",
@@ -293,9 +366,9 @@ pub const COMMANDS: &[Command] = &[
                    0 ask 0 1 6: can 0 2 4\n\
                    1 ask 0 1 7: can 0 3 4\n\
                    0 commit: done\n\
-                   1 commit: refused 31 place 0: the other party's commit made the offer stale\n\
+                   1 commit: refused 31: the other party's commit made the offer stale\n\
                    1 ask 0 1 7: cannot 0\n\
-                   1 commit: refused 28 place 0: the party has no offer\n\
+                   1 commit: refused 28: the party has no offer\n\
                    party 0 has committed\n\
                    party 1 has no offer\n\
                    left\n\
@@ -311,24 +384,30 @@ pub const COMMANDS: &[Command] = &[
     Command {
         name: "class",
         operation: "Examine, the exam desk",
-        words: "SHEET [HEADGATE OUTFALL DELIVERY] CLASS",
+        words: "SHEET [HEADGATE OUTFALL DELIVERY] CLASS [--csv]",
         counts: &[2, 5],
-        says: "The points of each paper of a class and their sum, least and greatest: 4 if its settings carry the delivery, 3 if its claim is\n\
-               the largest delivery, 3 if its set proves the next one impossible. CLASS has a line for each paper,\n\
-               'NAME: SETTING .. | CLAIM | NODE ..': a setting for each channel, a number or 'none', the nodes of its set.",
-        json: "answer class, names, points (both by paper), papers, sum, least, greatest, mean (sum and number); null where there is none",
+        says: "The points of each paper of a class, their sum, least and greatest: 4 if its settings carry the delivery, 3 if its claim is\n\
+               the largest delivery, 3 if its set proves the next one impossible, shown in this order. CLASS has a line for each paper,\n\
+               'NAME: SETTING .. | CLAIM | NODE ..': a setting for each channel, a number or 'none', the nodes of its set; or it is a CSV file\n\
+               with the columns name, settings, claim and set. A part that cannot be read earns nothing and is named in a note.\n\
+               With --csv the answer is a CSV file: name, points, settings, claim, set, notes.",
+        json: "answer class, names, points, parts (three numbers), notes (each by paper), papers, sum, least, greatest, mean (sum and number);\n\
+               null where there is none",
         examples: "$ tools/unit class samples/a-6.txt samples/a-6.class\n\
-                   paper all right: 10\n\
-                   paper settings of 12: 6\n\
-                   paper other settings of 6: 7\n\
-                   paper above a limit: 3\n\
-                   paper claims none: 7\n\
-                   paper proves nothing: 7\n\
+                   paper all right: 10 = 4 + 3 + 3\n\
+                   paper settings of 12: 6 = 0 + 3 + 3\n\
+                   paper other settings of 6: 7 = 4 + 0 + 3\n\
+                   paper above a limit: 3 = 0 + 3 + 0\n\
+                   paper claims none: 7 = 4 + 0 + 3\n\
+                   paper proves nothing: 7 = 4 + 3 + 0\n\
                    papers 6\n\
                    sum 40\n\
                    least 3\n\
                    greatest 10\n\
-                   mean 40/6\n",
+                   mean 40/6\n\
+                   $ printf 'Ada: 0 2 | 12 | 0\\n' | tools/unit class samples/a-6.txt - --csv\n\
+                   name,points,settings,claim,set,notes\n\
+                   Ada,6,0,3,3,\"standard input:1: Ada: settings: here are 2, and the sheet has 3 channels\"\n",
         run: crate::class::command,
     },
 ];
@@ -338,14 +417,21 @@ tools/unit COMMAND ..: every operation of the unit by name. It calls the proved 
 ";
 
 const FOOT: &str = "\
-SHEET is a sheet as text (tools/sheet --help has its form) or as bytes, told by the first byte; where a question stands before it, that is the question
-unless another is given. A file may be '-', standard input. Nodes, channels, darts and faces count from 0.
+SHEET is a sheet as bytes or as text, told by the first byte. The text has a line for each of these, blanks between words and comments behind #:
+
+    question HEADGATE OUTFALL DELIVERY    perhaps: the question, unless another is given behind the sheet
+    nodes NODES                           once
+    outer DART                            perhaps: a dart on the outer face
+    TAIL HEAD TURN TURN FORWARD BACK      for each channel: its ends, the turns of its two darts, its two limits
+ A file may be '-', standard input. Nodes, channels, darts and faces count from 0.
 
     --json           the answer as one line of JSON: \"operation\", \"answer\", and the fields that 'tools/unit COMMAND --help' names;
                      a refusal has \"answer\": \"refused\", \"refused\": its number, \"place\" and \"sentence\"
     --picture FILE   a picture (SVG) of the answer as well; several answers, as of a page or a session, stand one below the other
-    --out FILE       of write, practice and dimacs: the bytes of the answer into a file, and nothing on standard output
-    --help           this; behind a command, more about it with examples
+    --csv            of class: the marks as a CSV file
+    --out FILE       of pack, unpack, write, practice, dimacs, dimacs-sheet and class --csv: into a file, and nothing on standard output
+    --help, -h       this; behind a command, more about it with examples
+    --version        the version of the library's interface
 
 A refusal is told with its number, its place, and the manual's sentence for it. Exit status: 0 an answer, 1 a refusal, 2 bad use, such as a file that cannot
 be read: then one line on standard error says what is wrong, FILE:LINE: .. for a text. docs/BENCH.md shows an exam day with these commands.

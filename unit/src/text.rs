@@ -15,13 +15,17 @@ pub fn fault<T>(place: &str, what: impl std::fmt::Display) -> Parsed<T> {
 const MOST: u64 = 1 << 25;
 
 /// A file's name as it is said in a fault, unless it would break the line.
-fn one_line(name: &str) -> String {
+pub fn one_line(name: &str) -> String {
     if name.is_empty() || name.chars().any(char::is_control) {
         format!("{name:?}")
     } else {
         name.to_string()
     }
 }
+
+/// What standard input had, for a call that is made once more.
+#[cfg(feature = "unlinked")]
+pub static INPUT: std::sync::OnceLock<Vec<u8>> = std::sync::OnceLock::new();
 
 /// A file that was read: `-` is standard input.
 pub struct File {
@@ -31,6 +35,8 @@ pub struct File {
 
 pub struct Line<'a> {
     place: String,
+    /// Its number in the file, from 1.
+    pub number: usize,
     pub words: Vec<&'a str>,
 }
 
@@ -43,6 +49,10 @@ impl File {
             let open = std::fs::File::open(name);
             (one_line(name), open.and_then(|file| file.take(MOST + 1).read_to_end(&mut data)))
         };
+        #[cfg(feature = "unlinked")]
+        if name == "-" {
+            let _ = INPUT.set(data.clone());
+        }
         match done {
             Err(error) => fault(&said, system(&error)),
             Ok(_) if data.len() as u64 > MOST => fault(&said, format!("it is longer than {MOST} bytes")),
@@ -64,7 +74,7 @@ impl File {
             let line = line.strip_suffix('\r').unwrap_or(line).split('#').next().unwrap_or("");
             let words: Vec<&str> = line.split([' ', '\t']).filter(|word| !word.is_empty()).collect();
             if !words.is_empty() {
-                found.push(Line { place, words });
+                found.push(Line { place, number: number + 1, words });
             }
         }
         Ok(found)

@@ -7,23 +7,29 @@ pub struct Words {
     pub command: &'static Command,
     pub given: Vec<String>,
     pub json: bool,
+    pub csv: bool,
     pub picture: Option<String>,
     pub out: Option<String>,
+    /// The sheet that was read, for a hint where it is refused.
+    pub kept: std::cell::OnceCell<Sheet>,
 }
 
 pub enum Wanted {
     Run(Words),
     Help(Option<&'static Command>),
+    Version,
 }
 
 pub fn parse(arguments: Vec<String>) -> Parsed<Wanted> {
     let mut rest = vec![];
-    let (mut json, mut help, mut picture, mut out) = (false, false, None, None);
+    let (mut json, mut csv, mut help, mut picture, mut out) = (false, false, false, None, None);
     let mut arguments = arguments.into_iter();
     while let Some(word) = arguments.next() {
         match word.as_str() {
             "--json" => json = true,
-            "--help" => help = true,
+            "--csv" => csv = true,
+            "--help" | "-h" => help = true,
+            "--version" => return Ok(Wanted::Version),
             "--picture" => picture = Some(file_behind(&word, arguments.next())?),
             "--out" => out = Some(file_behind(&word, arguments.next())?),
             _ if word.starts_with("--") => return bad(format!("no option {word}")),
@@ -38,7 +44,7 @@ pub fn parse(arguments: Vec<String>) -> Parsed<Wanted> {
     if help {
         return Ok(Wanted::Help(Some(command)));
     }
-    let words = Words { command, given: rest, json, picture, out };
+    let words = Words { command, given: rest, json, csv, picture, out, kept: Default::default() };
     words.check()?;
     Ok(Wanted::Run(words))
 }
@@ -57,6 +63,9 @@ impl Words {
         if !counts.contains(&self.given.len()) {
             return fault(name, format!("use: tools/unit {name} {words}"));
         }
+        if self.csv && (*name != "class" || self.json) {
+            return fault(name, "--csv is of class, and not with --json");
+        }
         if self.given.iter().filter(|word| *word == "-").count() > 1 {
             return fault(name, "standard input can be one file only");
         }
@@ -72,7 +81,8 @@ impl Words {
     }
 
     pub fn sheet(&self) -> Parsed<Sheet> {
-        Sheet::read(&self.given[0])
+        let sheet = Sheet::read(&self.given[0])?;
+        Ok(self.kept.get_or_init(|| sheet).clone())
     }
 
     /// A sheet and a question on it: the one behind the name of the sheet, or the sheet's own. `behind` words follow in either case.
