@@ -45,15 +45,20 @@ function presentNow() {
 const sameGiven = (p, q) => p && q && sameBytes(p.sheet, q.sheet) && ["source", "sink", "delivery", "channel"].every(name => p[name] === q[name])
   && String(p.wanted) === String(q.wanted) && String(p.candidate) === String(q.candidate) && String(p.set) === String(q.set);
 
-// Whether something changed since the last look: the parts of the state are compared by identity, and only then the bytes.
-let lastLook = [];
+// Whether something changed since the last look: the parts of the state are compared by identity, and only then the bytes. While the hand drags something only
+// places change, so that the turns tell.
+let lastLook = [], lastTurns = null;
+
 function notice() {
-  const { source, sink, value, work } = drawing, look = [shapeNow(), source, sink, value, work, [...chosen.channels].join(), mode()];
-  if (look.every((one, i) => one === lastLook[i])) return;
-  lastLook = look;
-  const now = presentNow();
-  if (sameGiven(now, present)) { if (answered()) followUp(); return; }
-  present = now;
+  const { source, sink, value, work } = drawing, now = shapeNow(), look = [source, sink, value, work, [...chosen.channels].join(), mode(), now];
+  const same = i => look[i] === lastLook[i];
+  if (look.every((_, i) => same(i))) return;
+  const dragged = hand && look.every((_, i) => i === 6 || same(i)) && lastTurns && now.turns.every((turn, dart) => turn === lastTurns[dart]);
+  [lastLook, lastTurns] = [look, now.turns];
+  if (dragged) return;
+  const given = presentNow();
+  if (sameGiven(given, present)) { if (answered()) followUp(); return; }
+  present = given;
   ask();
 }
 
@@ -69,6 +74,10 @@ async function ask() {
 }
 
 const answered = () => live && live.given === present ? live : null;
+
+// For tests/page: whether the present question is answered; and the key's text once it is.
+examiner.live = () => { notice(); return answered(); };
+examiner.answer = async () => { while (!examiner.live()) await new Promise(done => setTimeout(done, 0)); return live.key ? live.key.text : ""; };
 
 // ---- What is shown over the drawing ----------------------------------------------------------------
 
