@@ -170,6 +170,9 @@ function tellLive() {
     }
   } else if (drawing.nodes.length) box.append(paragraph("The sheet is accepted. Name headgate and outfall, and the answer stands here.", "soft"));
   for (const id of ["source", "sink", "value", "outer"]) $(id).setAttribute("aria-invalid", Boolean(now.where && now.where.field === id));
+  const verdict = now.key ? now.key.text.split("\n")[0].split(" ").slice(0, 2).join(" ") : "";
+  $("verdict").textContent = minus(verdict);
+  $("verdict").className = verdict.startsWith("can ") ? "" : "bad";
   tellRange(now);
   tellRaise(now);
   tellCandidate(now);
