@@ -199,63 +199,104 @@ button("save-page", async () => save(await answerPage(), `${fileName}.page`, `Sa
 
 // ---- A class of papers --------------------------------------------------------------------------------
 
-// The cells of a line of CSV: parted by commas (or semicolons, where the heads are), in quotes or not, a quote in quotes doubled.
-function cellsOf(line, mark) {
-  const cells = [], form = new RegExp(`\\s*(?:"((?:[^"]|"")*)"|([^${mark}]*?))\\s*(${mark}|$)`, "y");
-  for (let found; (found = form.exec(line));) { cells.push((found[1] ?? found[2]).replaceAll('""', '"')); if (!found[3]) break; }
-  return cells;
+// CSV as spreadsheets write it, and as tools/unit reads it: cells between commas, semicolons or tabs, perhaps in quotes, in which a quote is doubled and a line
+// may end. The first line is the head: one of its cells is `name`.
+function markOf(text) {
+  const head = text.split("\n")[0], named = mark => head.split(mark).some(cell => cell.trim().replaceAll('"', "").toLowerCase() === "name");
+  return [",", ";", "\t"].find(mark => head.includes(mark) && named(mark));
 }
 
-// A paper's three parts. A part that cannot be read earns nothing, and a note says why; the others are marked.
-function paperOf(name, parts, channels, nodes) {
-  const notes = [], part = (words, fallback, read) => { try { return read(words); } catch (fault) { notes.push(fault.message); return fallback; } };
-  const settings = part(parts[0], new Array(channels).fill(0x7fffffff), words => {
-    const list = numbersOf(words, "setting");
-    if (list.length !== channels) throw new Fault(`here are ${list.length} settings, and the sheet has ${channels} channels`);
-    return list;
-  });
-  const claim = part(parts[1].trim(), 0x7fffffff, word => word === "none" ? null : wholeNumber(word.replace("\u2212", "-"), "claim", LONG));
-  const set = part(parts[2], [], words => {
-    const list = numbersOf(words, "node", SHORT), none = list.find(v => v >= nodes);
-    if (none !== undefined) throw new Fault(`there is no node ${none}`);
-    return list;
-  });
-  return { name, settings, claim, set, notes };
+function rowsOf(text, mark) { // [line, cells] of each row that has something in a cell
+  const rows = [], form = new RegExp(`\\s*"((?:[^"]|"")*)"[^${mark}\n]*|([^${mark}\n]*)`, "y");
+  for (let at = 0, line = 1; at <= text.length;) {
+    const cells = [], begins = line;
+    for (;;) {
+      form.lastIndex = at;
+      const [all, quoted, bare] = form.exec(text);
+      cells.push(quoted === undefined ? bare.replace(/\r$/, "") : quoted.replaceAll('""', '"'));
+      line += all.split("\n").length - 1;
+      at += all.length + 1;
+      if (text[at - 1] !== mark) break;
+    }
+    line++;
+    if (cells.some(cell => cell.trim())) rows.push([begins, cells]);
+  }
+  return rows;
 }
+
+// A paper's three parts. A part that cannot be read, or that no sheet could have, earns nothing, and a note says why; the others are marked.
+function paperOf(line, name, parts, notes, channels, nodes) {
+  const part = (what, words, wrong, read) => {
+    try { if (words === undefined) throw new Fault(`${what}: the part is missing`); return read(words); } catch (fault) { notes.push(fault.message); return wrong; }
+  };
+  const settings = part("settings", parts[0], new Array(channels).fill(0x7fffffff), words => {
+    const list = numbersOf(words, "setting");
+    if (list.length !== channels) throw new Fault(`settings: here are ${list.length}, and the sheet has ${channels} channels`);
+    return list;
+  });
+  const claim = part("claim", parts[1], 0x7fffffff, words => {
+    const [word, more] = words.trim().split(/\s+/);
+    if (!word || more) throw new Fault(`claim: ${word ? "more than one word" : "there is none"}; it is a number or 'none'`);
+    return word.toLowerCase() === "none" ? null : wholeNumber(word, "claim", LONG);
+  });
+  const set = part("set", parts[2], [], words => {
+    const list = numbersOf(words, "node", SHORT), none = list.find(v => v >= nodes);
+    if (none !== undefined) throw new Fault(`set: there is no node ${none}, the last is ${nodes - 1}`);
+    return list;
+  });
+  const file = drawing.work.papersName || "papers", named = name || `line ${line}`;
+  return { name: named, settings, claim, set, notes: notes.map(what => `${file}:${line}: ${named}: ${what}`) };
+}
+
+const PAPER = "'NAME: SETTING .. | CLAIM | NODE ..'", COLUMNS = ["name", "settings", "claim", "set"];
 
 function papersOf(text, channels, nodes) {
-  const lines = text.split(/\r?\n/).map((line, i) => [i + 1, line]).filter(([, line]) => line.trim() && !line.trim().startsWith("#"));
-  const mark = lines.length && /^\s*"?name"?\s*([,;])/i.exec(lines[0][1]);
-  if (mark) return lines.slice(1).map(([line, words]) => {
-    const cells = cellsOf(words, mark[1]);
-    if (cells.length < 4) throw new Fault(`papers, line ${line}: name, settings, claim and set are due`);
-    return paperOf(cells[0], cells.slice(1, 4), channels, nodes);
-  });
-  return lines.map(([line, words]) => {
-    const [, name, rest] = /^([^:]*):(.*)$/.exec(words) || [null, "", ""], parts = rest.split("|");
-    if (!name.trim() || parts.length !== 3) throw new Fault(`papers, line ${line}: not 'NAME: SETTING .. | CLAIM | NODE ..'`);
-    return paperOf(name.trim(), parts, channels, nodes);
+  const mark = markOf(text);
+  if (mark) {
+    const [[line, head], ...rows] = rowsOf(text, mark), places = COLUMNS.map(name => head.findIndex(cell => cell.trim().toLowerCase() === name));
+    const missing = places.indexOf(-1);
+    if (missing >= 0) throw new Fault(`line ${line}: no column '${COLUMNS[missing]}', so no class: it has ${COLUMNS.join(", ")}`);
+    return rows.map(([at, cells]) => {
+      const [name = "", ...parts] = places.map(place => cells[place]);
+      return paperOf(at, name.trim(), parts, name.trim() ? [] : ["no name"], channels, nodes);
+    });
+  }
+  const lines = text.split("\n").map((line, i) => [i + 1, line.split("#")[0].trim()]).filter(([, line]) => line);
+  if (lines.length && !lines.some(([, line]) => /[:|]/.test(line))) throw new Fault(`line ${lines[0][0]}: not ${PAPER}, so no class`);
+  return lines.map(([at, line]) => {
+    const colon = line.indexOf(":"), name = line.slice(0, Math.max(0, colon)).trim(), parts = line.slice(colon + 1).split("|"), notes = [];
+    if (!name) notes.push(`no name: not ${PAPER}`);
+    if (parts.length > 3) notes.push("what stands behind the third part is passed over");
+    return paperOf(at, name, parts, notes, channels, nodes);
   });
 }
 
-const looksLikeClass = text => /^\s*"?name"?\s*[,;]\s*"?settings/i.test(text.replace(/^(\s*#.*\n)*/, "")) || /^[^#\n:]*:[^\n|]*\|[^\n|]*\|/m.test(text);
-const quoted = word => /[",;\n]/.test(word) ? `"${String(word).replaceAll('"', '""')}"` : word;
+const looksLikeClass = text => Boolean(markOf(text)) || textLines(text).some(([, words]) => words.join(" ").includes("|"));
 
+function cellOf(word) { // a spreadsheet takes what begins with one of four signs for a formula: a quote before it says that it is none
+  const plain = /^[=+@-]/.test(word) ? `'${word}` : String(word);
+  return /[,"\n\r]/.test(plain) ? `"${plain.replaceAll('"', '""')}"` : plain;
+}
+
+// The points by part, each by the unit. Where nothing can be delivered claim and set earn 6 together, which are shown as 3 each, as tools/unit does.
 async function markClass() {
   const box = $("points"), text = drawing.work.papers || "", given = presentNow();
   if (!text.trim()) { box.replaceChildren(); return ""; }
   asking();
   const papers = papersOf(text, given.channels, given.nodes), said = await askUnit("examine", { ...given, papers: papers.map(({ notes, name, ...paper }) => paper) });
   if (said.refused) { box.replaceChildren(paragraph(refusalWords(said), "bad")); return ""; }
-  const rows = papers.map((paper, q) => [paper.name, said.settings[q], said.claims[q], said.both[q] - said.claims[q], said.points[q], paper.notes.join("; ")]);
-  const heads = ["paper", "settings", "claim", "set", "points"], mean = said.number ? `${said.sum}/${said.number}` : "none";
-  const figures = [["papers", said.number], ["sum", said.sum], ...(said.number ? [["least", said.least], ["greatest", said.greatest], ["mean", mean]] : [])];
-  const notes = rows.filter(row => row[5]).map(row => paragraph(`${row[0]}: ${row[5]}.`, "soft"));
-  box.replaceChildren(scrolled(table(heads, rows.map(row => row.slice(0, 5)))), ...notes, table(["the class", ""], figures));
-  return [["paper", "settings (4)", "claim (3)", "set (3, or 6 with a claim of none)", "points", "note"], ...rows, [],
-    ...figures].map(row => row.map(quoted).join(",") + "\r\n").join("");
+  const rows = papers.map((paper, q) => {
+    const together = (said.both[q] - said.claims[q] - said.sets[q]) / 2;
+    return [paper.name, said.points[q], said.settings[q], said.claims[q] + together, said.sets[q] + together, paper.notes.join("; ")];
+  });
+  const figures = [["papers", said.number], ["sum", said.sum],
+    ...(said.number ? [["least", said.least], ["greatest", said.greatest], ["mean", `${said.sum}/${said.number}`]] : [])];
+  const notes = papers.flatMap(paper => paper.notes).map(note => paragraph(note, "soft"));
+  const heads = [["paper", "points", "settings", "claim", "set"], ["of", 10, 4, 3, 3]];
+  box.replaceChildren(scrolled(table(heads[0], [heads[1], ...rows.map(row => row.slice(0, 5))])), ...notes, table(["the class", ""], figures));
+  return [["name", "points", "settings", "claim", "set", "notes"], ...rows].map(row => row.map(cellOf).join(",") + "\n").join("");
 }
-onText("papers", words => worked("papers", words));
+onText("papers", words => change(d => { d.work = { ...d.work, papers: words, papersName: null }; }));
 button("open-class", () => $("file").click());
 button("save-class", async () => {
   const csv = await markClass();
@@ -283,14 +324,13 @@ async function callSession(operation, given, words) {
 }
 
 for (const party of [0, 1]) {
-  $(`ask-${party}`).addEventListener("keydown", event => {
-    if (event.key !== "Enter") return;
-    attempt(() => {
-      asking();
-      const { source, sink } = drawing, delivery = wholeNumber($(`ask-${party}`).value.trim().replace("\u2212", "-"), "delivery", LONG);
-      callSession("ask", { party, source, sink, delivery }, `${party} ask ${source} ${sink} ${delivery}`).catch(soften);
-    });
-  });
+  const asks = () => {
+    asking();
+    const { source, sink } = drawing, delivery = wholeNumber($(`ask-${party}`).value.trim().replace("\u2212", "-"), "delivery", LONG);
+    return callSession("ask", { party, source, sink, delivery }, `${party} ask ${source} ${sink} ${delivery}`);
+  };
+  button(`asks-${party}`, asks);
+  $(`ask-${party}`).addEventListener("keydown", event => { if (event.key === "Enter") $(`asks-${party}`).click(); });
   button(`commit-${party}`, () => callSession("commit", { party }, `${party} commit`));
 }
 button("table-clear", () => callSession("clear", {}, "clear"));
@@ -415,7 +455,7 @@ readers.push((name, bytes, text) => {
   if (looksLikeClass(text)) {
     papersOf(text, drawing.channels.length, drawing.nodes.length);
     say(`${name}: a class of papers.`);
-    return taken("papers", text, "at-class");
+    return taken("papers", text, "at-class", { papersName: name });
   }
   if (lines.length && lines.every(([, words]) => words[0] === "question" || words[0] === "sheet")) {
     const own = lines.filter(([, words]) => words[0] === "question").map(([, words]) => words.slice(0, 4).join(" ").replace(/:$/, "") + "\n").join("");

@@ -124,9 +124,9 @@ const OPERATIONS = {
       : answers[k] === 0 ? { set: nodesOf(sets, k * words, words) } : { refused: answers[k] }) };
   },
 
-  // A class. Papers: { settings, claim: a number or null for none, set }. The points of all; then those of the settings alone, of the claim alone, and of claim
-  // and set, each by Examine too: on a paper whose other parts are replaced by ones that earn nothing whatever the sheet is (a setting beyond every limit, a
-  // claim beyond every delivery, the empty set).
+  // A class. Papers: { settings, claim: a number or null for none, set }. The points of all; then those of the settings alone, of the claim alone, of the set alone
+  // and of claim and set, each by Examine too: on a paper whose other parts are replaced by ones that earn nothing whatever the sheet is (a setting beyond every
+  // limit, a claim beyond every delivery, the empty set).
   examine({ sheet, nodes, channels, source, sink, delivery, papers }) {
     const words = Math.ceil(nodes / 64), beyond = new Array(channels).fill(0x7fffffff), wrong = { claim: 0x7fffffff, set: [] };
     const marked = list => {
@@ -144,10 +144,11 @@ const OPERATIONS = {
     };
     const all = marked(papers);
     if (all.refused) return all;
-    const set = marked(papers.map(paper => ({ ...paper, ...wrong }))), both = marked(papers.map(paper => ({ ...paper, settings: beyond })));
-    const claim = marked(papers.map(paper => ({ settings: beyond, claim: paper.claim, set: [] })));
+    const only = keep => marked(papers.map(paper => ({ settings: beyond, ...wrong, ...keep(paper) }))).points;
+    const apart = { settings: only(({ settings }) => ({ settings })), claims: only(({ claim }) => ({ claim })), sets: only(({ set }) => ({ set })),
+      both: only(({ claim, set }) => ({ claim, set })) };
     const [number, sum, least, greatest] = all.figures;
-    return { points: all.points, settings: set.points, claims: claim.points, both: both.points, number, sum, least, greatest };
+    return { points: all.points, ...apart, number, sum, least, greatest };
   },
 
   // A session is the fields of the C struct, as plain arrays. Each call gives a new one, so that what was can be gone back to.
