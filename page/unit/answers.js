@@ -93,6 +93,9 @@ function withSet(nodes, more = {}) {
   return { inside, counted, ...more };
 }
 
+// A set with what the unit says that each of its nodes has of the outward total.
+const marked = (nodes, { subtotals }) => ({ inside: new Set(nodes), subtotals: new Map(nodes.map((v, i) => [v, subtotals[i]])) });
+const shownNone = range => range && range.none ? withSet(range.set, marked(range.set, range.totals)) : null;
 const faultAt = (nodes, channels) => ({ nodes: new Set(nodes), channels: new Set(channels) });
 
 function shownFault(said) {
@@ -102,15 +105,15 @@ function shownFault(said) {
 const SHOWN = {
   plain: () => null,
   key: ({ found, where }) => found ? found : where ? { fault: faultAt(where.nodes, where.channels) } : null,
-  least: ({ range }) => range && range.low ? withSettings(range.low, { inside: new Set(range.below) }) : range && range.none ? withSet(range.set) : null,
-  largest: ({ range }) => range && range.high ? withSettings(range.high, { inside: new Set(range.above) }) : range && range.none ? withSet(range.set) : null,
+  least: ({ range }) => range && range.low ? withSettings(range.low, marked(range.below, range.belowTotals)) : shownNone(range),
+  largest: ({ range }) => range && range.high ? withSettings(range.high, marked(range.above, range.aboveTotals)) : shownNone(range),
   raised: ({ raise }) => {
     if (!raise || raise.refused) return null;
     const limits = drawing.channels.map((c, e) => [e === raise.channel ? raise.limit ?? 1000000 : c.forward, c.back]);
-    return raise.none ? withSet(raise.set, { limits }) : withSettings(raise.settings, { limits });
+    return raise.none ? withSet(raise.set, { limits, ...marked(raise.set, raise.totals) }) : withSettings(raise.settings, { limits });
   },
   candidate: ({ mark, given }) => given.candidate ? withSettings(given.candidate, mark ? shownFault(mark) : {}) : null,
-  set: ({ totals, given }) => withSet(given.set, totals && !totals.refused ? { subtotals: new Map(given.set.map((v, i) => [v, totals.subtotals[i]])) } : {}),
+  set: ({ totals, given }) => withSet(given.set, totals && !totals.refused ? marked(given.set, totals) : {}),
   levels: ({ levels, given }) => given.candidate ? withSettings(given.candidate, levels ? levels.refused ? shownFault(levels) : { levels: levels.levels } : {}) : null,
 };
 
@@ -162,7 +165,7 @@ function tellLive() {
   } else if (now.key) {
     try {
       now.found = keyForm(readKey(now.key.text, drawing));
-      if (now.found.leaving) now.found.total = now.key.totals.total;
+      if (now.found.leaving) Object.assign(now.found, { total: now.key.totals.total }, marked([...now.found.inside], now.key.totals));
       tellKey(now.found, box);
     } catch (fault) {
       if (!(fault instanceof Fault)) throw fault;

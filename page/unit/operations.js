@@ -318,7 +318,8 @@ async function sessionNow() {
 async function callSession(operation, given, words) {
   const held = await sessionNow(), said = await askUnit(operation, { ...given, session: held.state });
   const told = said.refused ? refusalWords(said) : said.settings ? `can ${said.settings.join(" ")}` : said.set ? `cannot ${said.set.join(" ")}` : "done";
-  const last = said.refused ? held.last : operation === "ask" ? { settings: said.settings, set: said.set, left: held.state.left } : null;
+  const last = said.refused ? held.last : operation === "ask" ? { words, value: given.delivery, source: given.source,
+    sink: given.sink, settings: said.settings, set: said.set, left: held.state.left } : null;
   worked("session", { ...held, state: said.session, log: [...held.log, `${words}: ${told}`], last });
   setMode("table");
 }

@@ -1,55 +1,62 @@
 "use strict";
 // Places and pictures by drawing/ (C, compiled to WebAssembly): the same code as behind `tools/unit --picture`, so the same layout and the same look. It is no part
-// of the unit and nothing of it is proved. The fields lie where drawing/drawing.h says.
+// of the unit and nothing of it is proved. The fields lie where drawing/drawing.h says, which tools/page reads.
 
-const UNITS = 100, ROOM = 4 * 1024 * 1024, NOT_NAMED = -1;
-const AT = { sheet: 0, places: 8200, shown: 8200 + 71184, size: 8200 + 71184 + 10736, work: 90136, text: 90136 + ROOM };
-let pens = null; // what drawing/ exports
+const PENS = JSON.parse($("drawing-about").textContent); // the constants of drawing/drawing.h, and where the fields of its structs lie
+const NOT_NAMED = -1;
+let pens = null, rooms = null; // what drawing/ exports, and where what it is lent lies
 
 async function beginPens() {
   pens = (await WebAssembly.instantiate(bytesOf("drawing-wasm"))).instance.exports;
-  const missing = Math.ceil((pens.__heap_base.value + 8 + AT.text + ROOM - pens.memory.buffer.byteLength) / 65536);
+  let at = pens.__heap_base.value + 15 & ~15;
+  const room = size => { const first = at; at += size + 15 & ~15; return first; }, { sizes, WORK, TEXT } = PENS;
+  rooms = { sheet: room(sizes.drawing_sheet), places: room(sizes.drawing_places), shown: room(sizes.drawing_shown), size: room(8), work: room(WORK), text: room(TEXT) };
+  const missing = Math.ceil((at - pens.memory.buffer.byteLength) / 65536);
   if (missing > 0) pens.memory.grow(missing);
 }
 
-const penBase = () => pens.__heap_base.value + 7 & ~7;
-const lent = name => penBase() + AT[name];
+const KINDS_OF = { x: Int32Array, y: Int32Array, bend_x: Int32Array, bend_y: Int32Array, outer: Int32Array, limits: Int32Array, headgate: Int32Array,
+  outfall: Int32Array, settings: Int32Array, subtotals: Int32Array, levels: Int32Array, style: Uint32Array, lines: Uint32Array, nodes: Uint16Array,
+  channels: Uint16Array, tails: Uint16Array, turns: Uint16Array, first: Uint16Array, set: BigUint64Array, wrong_channels: BigUint64Array,
+  wrong_nodes: BigUint64Array }; // all others are bytes
 
-function field(kind, struct, offset, values) {
-  new kind(pens.memory.buffer, lent(struct) + offset, values.length).set(values);
-}
+const part = (struct, name, count) =>
+  new (KINDS_OF[name] || Uint8Array)(pens.memory.buffer, rooms[struct] + PENS.fields[`drawing_${struct}`][name], count);
+const put = (struct, name, values) => part(struct, name, values.length).set(values);
+const taken = (struct, name, count) => Array.from(part(struct, name, count));
 
 function putSheet({ nodes, outer, channels }, limits) {
   const column = i => channels.flatMap(row => row.slice(i, i + 2));
-  field(Uint16Array, "sheet", 0, [nodes, channels.length]);
-  field(Int32Array, "sheet", 4, [outer === null ? NOT_NAMED : outer]);
-  field(Uint16Array, "sheet", 8, column(0));
-  field(Uint16Array, "sheet", 2056, column(2));
-  field(Int32Array, "sheet", 4104, limits ? limits.flat() : column(4));
+  put("sheet", "nodes", [nodes]);
+  put("sheet", "channels", [channels.length]);
+  put("sheet", "outer", [outer === null ? NOT_NAMED : outer]);
+  put("sheet", "tails", column(0));
+  put("sheet", "turns", column(2));
+  put("sheet", "limits", limits ? limits.flat() : column(4));
 }
 
-const fitsPens = sheet => sheet.nodes <= 513 && sheet.channels.length <= 512 && sheet.channels.every(row => Math.max(row[2], row[3]) < 2 * sheet.channels.length);
+const fitsPens = sheet => sheet.nodes <= PENS.NODES && sheet.channels.length <= PENS.CHANNELS;
 
 layoutOf = sheet => {
   if (!fitsPens(sheet)) return placesOf(sheet);
   putSheet(sheet);
-  if (pens.drawing_places(lent("sheet"), lent("places"), lent("work"))) return placesOf(sheet); // not flat: the page's own way, which crosses
-  const read = (kind, offset, count) => Array.from(new kind(pens.memory.buffer, lent("places") + offset, count)), m = sheet.channels.length;
-  const x = read(Int32Array, 0, sheet.nodes), y = read(Int32Array, 2052, sheet.nodes), first = read(Uint16Array, 4104, m + 1), sharp = read(Uint8Array, 5130, m);
-  const u = read(Int32Array, 5648, first[m]), v = read(Int32Array, 38416, first[m]), point = (a, b) => [a / UNITS, b / UNITS];
-  return { nodes: x.map((a, i) => point(a, y[i])),
-    bends: sharp.map((corner, e) => [u.slice(first[e], first[e + 1]).map((a, i) => point(a, v[first[e] + i])), corner === 1]) };
+  if (pens.drawing_places(rooms.sheet, rooms.places, rooms.work)) return placesOf(sheet); // not flat: the page's own way, which crosses
+  const m = sheet.channels.length, [x, y] = ["x", "y"].map(name => taken("places", name, sheet.nodes)), first = taken("places", "first", m + 1);
+  const [u, v] = ["bend_x", "bend_y"].map(name => taken("places", name, first[m])), point = (a, b) => [a / PENS.UNIT, b / PENS.UNIT];
+  return { nodes: x.map((a, i) => point(a, y[i])), bends: taken("places", "sharp", m).map((corner, e) =>
+    [u.slice(first[e], first[e + 1]).map((a, i) => point(a, v[first[e] + i])), corner === 1]) };
 };
 
 function putPlaces() { // as drawn, in the hundredths in which the text is saved
-  const { routes } = shapeNow(), hundredths = z => Math.round(UNITS * +z.toFixed(2)), first = [0], bends = [];
+  const { routes } = shapeNow(), hundredths = z => Math.round(PENS.UNIT * +z.toFixed(2)), first = [0], bends = [];
   for (const route of routes) { bends.push(...route.slice(1, -1)); first.push(bends.length); }
-  field(Int32Array, "places", 0, drawing.nodes.map(p => hundredths(p[0])));
-  field(Int32Array, "places", 2052, drawing.nodes.map(p => hundredths(p[1])));
-  field(Uint16Array, "places", 4104, first);
-  field(Uint8Array, "places", 5130, drawing.channels.map(c => c.sharp ? 1 : 0));
-  field(Int32Array, "places", 5648, bends.map(p => hundredths(p[0])));
-  field(Int32Array, "places", 38416, bends.map(p => hundredths(p[1])));
+  if (bends.length > PENS.BENDS) throw new Fault("There is no picture of so many bends.");
+  put("places", "x", drawing.nodes.map(p => hundredths(p[0])));
+  put("places", "y", drawing.nodes.map(p => hundredths(p[1])));
+  put("places", "first", first);
+  put("places", "sharp", drawing.channels.map(c => c.sharp ? 1 : 0));
+  put("places", "bend_x", bends.map(p => hundredths(p[0])));
+  put("places", "bend_y", bends.map(p => hundredths(p[1])));
 }
 
 function bits(nodes, words) {
@@ -59,49 +66,82 @@ function bits(nodes, words) {
 }
 
 // The picture of what is shown (in the form of `shownNow`), as SVG text and its size.
-function pictureOf(shown, { title, caption, paper = false, lines = 0 }) {
-  const { source, sink, nodes } = drawing, words = text => [...new TextEncoder().encode(text), 0], has = value => value ? 1 : 0;
-  if (!fitsPens(sheetOf(drawing))) throw new Fault("There is no picture of more than 513 nodes or 512 channels.");
-  const named = v => v !== null && v < nodes.length ? v : NOT_NAMED, { settings, inside, subtotals, levels, fault } = shown || {};
-  putSheet(sheetOf(drawing), shown && shown.limits);
+function pictureOf(shown, { title, caption, bare = false, paper = false, lines = 0 }) {
+  const sheet = sheetOf(drawing), { source, sink, nodes } = drawing, words = (text, most) => [...new TextEncoder().encode(text).slice(0, most - 1), 0];
+  if (!fitsPens(sheet)) throw new Fault(`There is no picture of more than ${PENS.NODES} nodes or ${PENS.CHANNELS} channels.`);
+  const end = v => !bare && v !== null && v < nodes.length ? v : NOT_NAMED, { settings, inside, subtotals, levels, fault } = shown || {};
+  putSheet(sheet, shown && shown.limits);
   putPlaces();
-  new Uint8Array(pens.memory.buffer, lent("shown"), 10736).fill(0);
-  field(Uint32Array, "shown", 0, [paper ? 1 : 0, lines]);
-  field(Int32Array, "shown", 8, [named(source), named(sink)]);
-  field(Uint8Array, "shown", 16, [has(settings), has(inside), has(subtotals), has(levels), has(fault)]);
-  if (settings) field(Int32Array, "shown", 24, settings);
-  if (inside) new Uint8Array(pens.memory.buffer, lent("shown") + 2072, 72).set(new Uint8Array(bits(inside, 9).buffer));
-  if (subtotals) field(Int32Array, "shown", 2144, nodes.map((_, v) => subtotals.get(v) || 0));
-  if (levels) field(Int32Array, "shown", 4196, levels);
-  if (fault) {
-    new Uint8Array(pens.memory.buffer, lent("shown") + 8296, 64).set(new Uint8Array(bits(fault.channels, 8).buffer));
-    new Uint8Array(pens.memory.buffer, lent("shown") + 8360, 72).set(new Uint8Array(bits(fault.nodes, 9).buffer));
+  new Uint8Array(pens.memory.buffer, rooms.shown, PENS.sizes.drawing_shown).fill(0);
+  put("shown", "style", [paper ? 1 : 0]);
+  put("shown", "lines", [lines]);
+  put("shown", "headgate", [end(source)]);
+  put("shown", "outfall", [end(sink)]);
+  if (settings) { put("shown", "has_settings", [1]); put("shown", "settings", settings); }
+  if (inside) { put("shown", "has_set", [1]); put("shown", "set", bits(inside, 9)); }
+  if (inside && subtotals) { put("shown", "has_subtotals", [1]); put("shown", "subtotals", nodes.map((_, v) => subtotals.get(v) || 0)); }
+  if (levels) { put("shown", "has_levels", [1]); put("shown", "levels", levels); }
+  if (fault && fault.channels.size + fault.nodes.size) {
+    put("shown", "has_wrong", [1]);
+    put("shown", "wrong_channels", bits(fault.channels, 8));
+    put("shown", "wrong_nodes", bits(fault.nodes, 9));
   }
-  field(Uint8Array, "shown", 8432, words(title).slice(-256));
-  field(Uint8Array, "shown", 8688, words(caption).slice(-2048));
-  const length = pens.drawing_svg(lent("sheet"), lent("places"), lent("shown"), lent("work"), lent("text"), ROOM, lent("size"));
-  if (!length || length > ROOM) throw new Fault("There is no picture of this drawing: it is not flat, or a place lies too far away.");
-  const text = new TextDecoder().decode(new Uint8Array(pens.memory.buffer, lent("text"), length).slice());
-  return { text, size: [...new Uint32Array(pens.memory.buffer, lent("size"), 2)] };
+  put("shown", "title", words(title, 256));
+  put("shown", "caption", words(caption, 2048));
+  const length = pens.drawing_svg(rooms.sheet, rooms.places, rooms.shown, rooms.work, rooms.text, PENS.TEXT, rooms.size);
+  if (!length || length > PENS.TEXT) throw new Fault("There is no picture of this drawing: it is not flat, or a place lies too far away.");
+  const text = new TextDecoder().decode(new Uint8Array(pens.memory.buffer, rooms.text, length).slice());
+  return { text, size: [...new Uint32Array(pens.memory.buffer, rooms.size, 2)] };
 }
 
-// ---- Title and caption, as tools/unit has them -----------------------------------------------------------
+// ---- Title and caption, word for word as tools/unit has them -----------------------------------------------
+
+const delivers = (from, value, to) => `node ${from} delivers ${value} to node ${to}`;
+
+function against(set, total, delivery) { // what the set of an impossible delivery says
+  const { source, sink } = drawing, due = delivery * (set.includes(source) - set.includes(sink));
+  return due > 0 ? `the set lets out at most ${total}, ${due} is asked`
+    : `the set lets out at most ${total}: it takes in at least ${-total}, and ${-due + 0} is asked`;
+}
+
+const NAMED = {
+  key: ({ key, found }) => {
+    const { source, sink, value } = drawing;
+    if (!found) return null;
+    return found.settings ? [`can ${value}`, delivers(source, value, sink)] : [`cannot ${value}`, against([...found.inside], key.totals.total, value)];
+  },
+  least: ({ range }) => extremeNamed("least", range, range && range.belowTotals, total => `takes in at least ${-total + 0}`),
+  largest: ({ range }) => extremeNamed("largest", range, range && range.aboveTotals, total => `lets out at most ${total}`),
+  raised: ({ raise, given }) => !raise || raise.refused ? null
+    : raise.none ? [`no limit on channel ${raise.channel} will do`, against(raise.set, raise.totals.total, given.delivery)]
+      : [`limit ${raise.limit} on channel ${raise.channel}`, delivers(given.source, given.delivery, given.sink)],
+  candidate: ({ mark, given }) => !mark ? null : mark.refused ? ["settings", refusalWords(mark)]
+    : [`value ${mark.value}`, delivers(given.source, mark.value, given.sink)],
+  set: ({ totals, given }) => totals && !totals.refused ? [`total ${totals.total}`, `the outward total of a set of ${given.set.length} nodes`] : null,
+  levels: ({ levels }) => levels && !levels.refused ? ["levels from settings", "the setting of a channel is the level left of it less the level right of it"] : null,
+  table: () => {
+    const held = sessionFits(), asked = held && held.last ? held.last.words : null, { value, source, sink } = held && held.last || {};
+    if (!asked) return held ? ["limits left", held.log.join("; ")] : null;
+    return held.last.settings ? [`${asked}: can ${value}`, `on the limits left ${delivers(source, value, sink)}`]
+      : [`${asked}: cannot ${value}`, `on the limits left a set of size ${held.last.set.length} proves it: ${held.last.set.join(" ")}`];
+  },
+  capture: () => after && !after.refused ? [after.none ? "none" : `largest ${after.largest}`, `after record ${drawing.work.record ?? 0}`] : null,
+};
+
+function extremeNamed(name, range, totals, proof) {
+  const { source, sink } = drawing;
+  if (!range || range.refused) return null;
+  if (range.none) return ["none", against(range.set, range.totals.total, 0)];
+  return [`${name} ${range[name]}`, `${delivers(source, range[name], sink)}, and the set ${proof(totals.total)}`];
+}
 
 function named() {
-  const { source, sink, value } = drawing, now = answered(), ends = `node ${source} to node ${sink}`, given = now ? now.given : {};
-  const of = { title: "", caption: "" }, say = (title, caption = "") => Object.assign(of, { title, caption });
-  if (source === null || sink === null || !now) return say("The drawing", `${drawing.nodes.length} nodes, ${drawing.channels.length} channels`);
-  if (mode() === "least" && now.range && !now.range.none) return say(`Least ${now.range.least}`, `From ${ends}; the set of ${listed(now.range.below)}`);
-  if (mode() === "largest" && now.range && !now.range.none) return say(`Largest ${now.range.largest}`, `From ${ends}; the set of ${listed(now.range.above)}`);
-  if (mode() === "candidate") return say("Settings", now.mark && now.mark.refused ? refusalWords(now.mark) : now.mark ? `They carry ${now.mark.value}` : "");
-  if (mode() === "set") return say(`The set of ${listed(given.set)}`, now.totals ? `Its outward total is ${now.totals.total}` : "");
-  if (mode() === "levels") return say("Levels of the faces");
-  return say(now.key.text.split("\n")[0], `From ${ends}`);
+  const now = answered(), found = now && NAMED[mode()] && NAMED[mode()](now), { nodes, channels, outer } = drawing;
+  const [title, caption] = found || ["drawing", `${nodes.length} nodes, ${channels.length} channels, outer dart ${outer ?? 0}`];
+  return { title: minus(title), caption: minus(caption), bare: Boolean(found) && mode() === "levels" };
 }
 
-function currentPicture() {
-  return pictureOf(shownNow(), named());
-}
+const currentPicture = () => pictureOf(shownNow(), named());
 
 button("save-svg", () => save(currentPicture().text, `${fileName}.svg`, `Saved ${fileName}.svg.`));
 button("save-png", () => {
@@ -118,15 +158,17 @@ button("save-png", () => {
 // ---- Paper: the exam page, and the key page ---------------------------------------------------------------
 
 function paperPages() {
-  const { source, sink, value } = drawing, now = answered(), section = text => {
+  const { source, sink, value } = drawing, now = answered(), section = ({ text }) => {
     const made = document.createElement("section");
     made.innerHTML = text;
     return made;
   };
   const asks = source !== null && sink !== null;
-  const question = asks ? `Can ${value} be delivered from node ${source} to node ${sink}? Give settings, or a set that proves that it cannot.` : "";
-  const pages = [section(pictureOf(null, { title: fileName, caption: question, paper: true, lines: asks ? 8 : 0 }).text)];
-  if (now && now.found) pages.push(section(pictureOf(now.found, { title: `Key: ${fileName}`, caption: named().title }).text));
+  const question = asks ? `Can ${value} be delivered from node ${source} to node ${sink}? Give the setting of each channel, or a set of nodes that proves that it `
+    + "cannot." : "";
+  const pages = [section(pictureOf(null, { title: minus(fileName), caption: minus(question), paper: true, lines: asks ? 8 : 0 }))];
+  const key = now && NAMED.key(now);
+  if (key) pages.push(section(pictureOf(now.found, { title: minus(key[0]), caption: minus(`${fileName}: ${key[1]}`) })));
   return pages;
 }
 

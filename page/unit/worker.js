@@ -69,7 +69,10 @@ const OPERATIONS = {
     const settings = settingsFor(channels), set = new BigUint64Array(WORDS), found = new Uint8Array(1), limit = new Int32Array(1), place = new Uint16Array(1);
     const refused = call("analyser_raise_limit", sheet, source, sink, delivery, channel, settings, set, found, limit, place);
     if (refused) return { refused, place: place[0] };
-    return found[0] ? { channel, limit: limit[0], settings: [...settings.subarray(0, channels)] } : { channel, none: true, set: nodesOf(set) };
+    if (found[0]) return { channel, limit: limit[0], settings: [...settings.subarray(0, channels)] };
+    const nodes = nodesOf(set), raised = sheet.slice(), head = sheet[0] === 4 ? 7 : 5; // the set proves it for this limit, so its totals are of this sheet
+    new DataView(raised.buffer).setInt32(head + 17 * channel + 9, 1000000, true);
+    return { channel, none: true, set: nodes, totals: OPERATIONS.totals({ sheet: raised, set: nodes }) };
   },
 
   mark({ sheet, source, sink, candidate }) {
@@ -194,6 +197,7 @@ const OPERATIONS = {
     const said = Object.fromEntries(wanted.map(name => [name, OPERATIONS[name](given)])), { key, range } = said, total = set => OPERATIONS.totals({ ...given, set });
     if (key && key.text.startsWith("cannot")) key.totals = total(key.text.trim().split("\n").slice(1).map(Number));
     if (range && range.none) range.totals = total(range.set);
+    if (range && range.low) Object.assign(range, { belowTotals: total(range.below), aboveTotals: total(range.above) });
     return said;
   },
 };
