@@ -23,7 +23,7 @@
 #define DRAWING_BENDS 8192 // of all channels of a sheet together
 #define DRAWING_UNIT 100 // places are in hundredths of a pixel of the picture
 #define DRAWING_MOST 100000000 // the largest place, either way: a million pixels
-#define DRAWING_WORK (6 * 1024 * 1024) // bytes that you lend as `work`, aligned to 8; what they hold before does not matter, and after means nothing
+#define DRAWING_WORK (8 * 1024 * 1024) // bytes that you lend as `work`, aligned to 8; what they hold before does not matter, and after means nothing
 #define DRAWING_TEXT (4 * 1024 * 1024) // no text is longer than this
 #define DRAWING_NONE (-1) // for a dart or a node that is not named
 

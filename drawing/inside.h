@@ -17,9 +17,12 @@ struct map {
 uint32_t drawing_map(const struct drawing_sheet *sheet, struct map *map);
 
 // A channel as short straight lines, one after another: at most LINE_POINTS points, in hundredths of a pixel.
-#define STEPS 8 // of a quadratic piece
+#define STEPS 12 // of a quadratic piece
 #define LINE_POINTS (STEPS * DRAWING_BENDS + 2)
 uint32_t drawing_line(const struct drawing_sheet *sheet, const struct drawing_places *places, uint32_t channel, int32_t *x, int32_t *y);
+
+// Whether places are some: none is too far, and the bends are in order, two or more for a loop.
+int drawing_in_range(const struct drawing_sheet *sheet, const struct drawing_places *places);
 
 static inline uint32_t face_step(const struct drawing_sheet *sheet, uint32_t dart) { return sheet->turns[dart ^ 1]; }
 

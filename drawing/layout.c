@@ -157,13 +157,29 @@ static int may_be_straight(const struct drawing_sheet *sheet, const struct layou
     return 1;
 }
 
+// Whether the triangle of a channel is nowhere as wide as this, in pixels: its area is less than that of a strip along one of its sides.
+static int narrow(const struct drawing_sheet *sheet, const struct layout *layout, uint32_t channel, double pixels) {
+    uint32_t tail = sheet->tails[2 * channel], head = sheet->tails[2 * channel + 1], last = 2 * channel + 1;
+    int32_t x[3] = {layout->x[tail], layout->way_x[2 * channel], tail == head ? layout->way_x[last] : layout->x[head]};
+    int32_t y[3] = {layout->y[tail], layout->way_y[2 * channel], tail == head ? layout->way_y[last] : layout->y[head]};
+    double area = (double)twice_area(x[0], y[0], x[1], y[1], x[2], y[2]), strip = pixels * PIXEL;
+    for (uint32_t i = 0; i < 3; i++) {
+        double dx = (double)x[(i + 1) % 3] - x[i], dy = (double)y[(i + 1) % 3] - y[i];
+        if (area * area < (dx * dx + dy * dy) * strip * strip) return 1;
+    }
+    return 0;
+}
+
+// Channels that are nearly straight become so first, then others. What is neither straight nor free has corners, and so has what is too narrow for a curve: there
+// the hundredths to which places are rounded would count.
 static void straighten(const struct drawing_sheet *sheet, struct layout *layout) {
     for (uint32_t channel = 0; channel < sheet->channels; channel++) layout->straight[channel] = 0;
-    for (uint32_t channel = 0; channel < sheet->channels; channel++) {
-        int free = is_free(sheet, layout, channel);
-        layout->straight[channel] = free && may_be_straight(sheet, layout, channel);
-        layout->sharp[channel] = !free;
+    for (uint32_t i = 0; i < 2u * sheet->channels; i++) {
+        uint32_t other = i >= sheet->channels, channel = other ? i - sheet->channels : i;
+        if (layout->straight[channel] || (!other && !narrow(sheet, layout, channel, 1))) continue;
+        layout->straight[channel] = may_be_straight(sheet, layout, channel) && is_free(sheet, layout, channel);
     }
+    for (uint32_t channel = 0; channel < sheet->channels; channel++) layout->sharp[channel] = narrow(sheet, layout, channel, 6) || !is_free(sheet, layout, channel);
 }
 
 // ---- The sheet ----

@@ -111,3 +111,15 @@ double drawing_root(double number) {
     if (!(number > 0)) return 0;
     return __builtin_sqrt(number);
 }
+
+int drawing_in_range(const struct drawing_sheet *sheet, const struct drawing_places *places) {
+    uint32_t last = places->first[sheet->channels];
+    int good = last <= DRAWING_BENDS && places->first[0] == 0;
+    for (uint32_t channel = 0; channel < sheet->channels && good; channel++)
+        good = places->first[channel] <= places->first[channel + 1] && (sheet->tails[2 * channel] != sheet->tails[2 * channel + 1] || places->first[channel + 1] - places->first[channel] >= 2);
+    for (uint32_t node = 0; node < sheet->nodes; node++)
+        good &= places->x[node] <= DRAWING_MOST && places->x[node] >= -DRAWING_MOST && places->y[node] <= DRAWING_MOST && places->y[node] >= -DRAWING_MOST;
+    for (uint32_t i = 0; i < last && good; i++)
+        good = places->bend_x[i] <= DRAWING_MOST && places->bend_x[i] >= -DRAWING_MOST && places->bend_y[i] <= DRAWING_MOST && places->bend_y[i] >= -DRAWING_MOST;
+    return good;
+}

@@ -4,7 +4,9 @@
 // (Floater's mean value coordinates, 2003). Round by round, links beside large triangles then count for more, so that small ones get room.
 #include "part.h"
 
-#define ROUNDS 40
+#define ROUNDS 40 // for small parts
+#define FEW_ROUNDS 20 // for parts of more than MANY points
+#define MANY 1500
 #define FAILURES 8 // rounds that gave no places, at most
 #define EVEN 0.05 // the share of equal weights, until a round fails
 
@@ -218,6 +220,7 @@ static void approach(struct part *part) {
 
 void part_smooth(struct part *part) {
     double even = EVEN;
+    uint32_t rounds = part->points > MANY ? FEW_ROUNDS : ROUNDS;
     int roots = 0;
     stretch(part);
     equal_weights(part);
@@ -225,7 +228,7 @@ void part_smooth(struct part *part) {
         next_weights(part, 0, -1);
         if (!solved(part)) return; // the grid's places stay
     }
-    for (uint32_t round = 0, failures = 0; round < ROUNDS && failures < FAILURES; round++) {
+    for (uint32_t round = 0, failures = 0; round < rounds && failures < FAILURES; round++) {
         next_weights(part, even, roots);
         if (solved(part)) continue;
         approach(part);
