@@ -158,17 +158,17 @@ button("save-png", () => {
 // ---- Paper: the exam page, and the key page ---------------------------------------------------------------
 
 function paperPages() {
-  const { source, sink, value } = drawing, now = answered(), section = ({ text }) => {
+  const { source, sink, value } = drawing, now = answered(), section = ({ text }, words = "") => {
     const made = document.createElement("section");
     made.innerHTML = text;
+    if (words) made.prepend(paragraph(words));
     return made;
   };
-  const asks = source !== null && sink !== null;
-  const question = asks ? `Can ${value} be delivered from node ${source} to node ${sink}? Give the setting of each channel, or a set of nodes that proves that it `
-    + "cannot." : "";
-  const pages = [section(pictureOf(null, { title: minus(fileName), caption: minus(question), paper: true, lines: asks ? 8 : 0 }))];
-  const key = now && NAMED.key(now);
-  if (key) pages.push(section(pictureOf(now.found, { title: minus(key[0]), caption: minus(`${fileName}: ${key[1]}`) })));
+  const asks = source !== null && sink !== null, question = `Can ${value} be delivered from node ${source} to node ${sink}? `
+    + "If it can, give the setting of each channel. If it cannot, give a set of nodes that proves it, with its outward total.";
+  const exam = { title: minus(fileName), caption: asks ? minus(`${value} from node ${source} to node ${sink}`) : "", paper: true, lines: asks ? 8 : 0 };
+  const pages = [section(pictureOf(null, exam), asks ? question : "")], key = now && NAMED.key(now);
+  if (key) pages.push(section(pictureOf(now.found, { title: minus(key[0]), caption: minus(key[1]) }), `Key: ${fileName}`));
   return pages;
 }
 
