@@ -55,16 +55,16 @@ const NAMES_OUTER: u8 = 4;
 
 /// A picture: a drawing with settings on its channels, a set with or without the subtotals of its nodes, levels on its faces, or some of these.
 pub struct View {
-    title: String,
-    caption: String,
-    drawing: Drawing,
+    pub title: String,
+    pub caption: String,
+    pub drawing: Drawing,
     /// The outer dart, where the sheet names one; else the picture may choose.
-    outer: Option<u16>,
-    ends: Option<Ends>,
-    settings: Option<Vec<i32>>,
-    set: Option<Vec<u16>>,
-    subtotals: Option<Vec<i32>>,
-    levels: Option<Vec<i32>>,
+    pub outer: Option<u16>,
+    pub ends: Option<Ends>,
+    pub settings: Option<Vec<i32>>,
+    pub set: Option<Vec<u16>>,
+    pub subtotals: Option<Vec<i32>>,
+    pub levels: Option<Vec<i32>>,
 }
 
 impl View {
@@ -103,25 +103,5 @@ impl View {
     pub fn bare_set(mut self, set: &[u64]) -> View {
         self.set = Some(library::nodes_of(set));
         self
-    }
-
-    pub fn json(&self) -> Json {
-        let Drawing { nodes, tails, turns, limits, .. } = &self.drawing;
-        let list = |numbers: Option<&Vec<i32>>| numbers.map_or(Json::Null, |numbers| Json::numbers(numbers));
-        Json::Object(vec![
-            ("title", self.title.as_str().into()),
-            ("caption", self.caption.as_str().into()),
-            ("nodes", number(*nodes)),
-            ("outer", self.outer.into()),
-            ("tails", Json::numbers(tails)),
-            ("turns", Json::numbers(turns)),
-            ("limits", Json::numbers(limits)),
-            ("headgate", self.ends.map(|ends| ends.0).into()),
-            ("outfall", self.ends.map(|ends| ends.1).into()),
-            ("settings", list(self.settings.as_ref())),
-            ("set", self.set.as_ref().map_or(Json::Null, |nodes| Json::numbers(nodes))),
-            ("subtotals", list(self.subtotals.as_ref())),
-            ("levels", list(self.levels.as_ref())),
-        ])
     }
 }

@@ -1,5 +1,6 @@
 //! A sheet, with a question before it or not: from the text of `tools/sheet` or from its bytes, and as text again.
 use crate::library::Drawing;
+use crate::picture;
 use crate::text::{long, short, Field, File, Line, Parsed};
 
 #[derive(Clone, Copy, Debug, PartialEq)]
@@ -40,6 +41,7 @@ impl Sheet {
             return Ok(Sheet::from_bytes(file.name, &file.data));
         }
         let text = SheetText::parse(&file)?;
+        picture::remember(&file.data);
         Ok(Sheet { name: file.name, question: text.question, bytes: text.bytes() })
     }
 
