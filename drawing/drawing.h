@@ -1,5 +1,6 @@
-// Drawing a sheet: places from its turns, and a picture (SVG). One source for the examiner's page (WebAssembly) and for the command tools/unit (x86-64), so that
-// both have the same layout and the same look: the places and the text are the same bytes on both machines. Nothing here is proved; tests/drawing tries it.
+// Drawing a sheet: places from its turns, and a picture (SVG). One source for the examiner's page (WebAssembly) and for the command tools/unit (x86-64), so
+// that both have the same layout and the same look: the places and the text are the same bytes on both machines. Nothing here is proved; tests/drawing tries
+// it.
 //
 // Freestanding C: no function of a C library is called (but memcpy, memmove and memset, which a compiler may put in), and no memory is taken: you lend it. The
 // structs have no pointers and only numbers of a fixed width, so they lie alike in C, in Rust (#[repr(C)]) and in JavaScript (by offset: the lines at the end).
@@ -43,9 +44,9 @@ struct drawing_sheet {
     int32_t limits[DRAWING_DARTS]; // only read by drawing_svg
 };
 
-// Where a drawing lies: x to the right, y downwards. A channel is a line from its tail by its bends to its head. Without a bend it is straight. With bends it has
-// a corner at each (`sharp`), or is a curve: quadratic pieces that have the bends as their control points and the middles between bends as their ends, so that
-// it leaves each end towards the nearest bend, as on the examiner's page. A loop has two bends or more.
+// Where a drawing lies: x to the right, y downwards. A channel is a line from its tail by its bends to its head. Without a bend it is straight. With bends it
+// has a corner at each (`sharp`), or is a curve: quadratic pieces that have the bends as their control points and the middles between bends as their ends, so
+// that it leaves each end towards the nearest bend, as on the examiner's page. A loop has two bends or more.
 struct drawing_places {
     int32_t x[DRAWING_NODES], y[DRAWING_NODES];
     uint16_t first[DRAWING_CHANNELS + 1]; // the bends of channel e are first[e] to first[e + 1] - 1, from its tail to its head; first[0] is 0
@@ -59,8 +60,8 @@ struct drawing_places {
 // DRAWING_DONE or DRAWING_NOT_FLAT; only in the first case is *places written, all of it.
 uint32_t drawing_places(const struct drawing_sheet *sheet, struct drawing_places *places, void *work);
 
-// Whether places show a sheet: at each node the darts leave clockwise in the order of the turns (DRAWING_NOT_THE_TURNS: *at is a node where they do not), and no
-// channels cross (DRAWING_CROSSES: *at is one of them; curves are taken as many short straight lines). Turns are looked at first: places with a crossing and
+// Whether places show a sheet: at each node the darts leave clockwise in the order of the turns (DRAWING_NOT_THE_TURNS: *at is a node where they do not), and
+// no channels cross (DRAWING_CROSSES: *at is one of them; curves are taken as many short straight lines). Turns are looked at first: places with a crossing and
 // the right turns are a drawing that the unit takes, if not a good one.
 uint32_t drawing_follows(const struct drawing_sheet *sheet, const struct drawing_places *places, void *work, uint32_t *at);
 
@@ -83,8 +84,8 @@ struct drawing_shown {
     uint8_t title[256], caption[2048]; // UTF-8 text that ends with a 0 byte; no markup. A caption that is too long for the picture ends behind a word
 };
 
-// The picture as an SVG document (UTF-8, no 0 byte at the end) and its size in whole pixels: size[0] wide, size[1] high. Returns the bytes of the text; where that
-// is more than `length` nothing useful is written, so call again with as much. 0: *sheet is not flat or a place too far. Documents can be put below one
+// The picture as an SVG document (UTF-8, no 0 byte at the end) and its size in whole pixels: size[0] wide, size[1] high. Returns the bytes of the text; where
+// that is more than `length` nothing useful is written, so call again with as much. 0: *sheet is not flat or a place too far. Documents can be put below one
 // another in a document of your own: a document begins with "<svg ", behind which a y may be put.
 uint32_t drawing_svg(const struct drawing_sheet *sheet, const struct drawing_places *places, const struct drawing_shown *shown, void *work, uint8_t *text,
                      uint32_t length, uint32_t size[2]);

@@ -10,7 +10,7 @@ struct follow {
     uint16_t channel[SEGMENTS];
     uint32_t order[SEGMENTS];
 };
-_Static_assert(sizeof(struct follow) <= DRAWING_WORK, "DRAWING_WORK");
+_Static_assert(sizeof(struct follow) <= FOLLOW_WORK, "FOLLOW_WORK");
 
 // The direction in which a dart leaves its tail.
 static void direction(const struct drawing_sheet *sheet, const struct drawing_places *places, uint32_t dart, int64_t way[2]) {

@@ -31,6 +31,8 @@ static inline int64_t twice_area(int32_t px, int32_t py, int32_t qx, int32_t qy,
     return (int64_t)(qx - px) * (ry - py) - (int64_t)(qy - py) * (rx - px);
 }
 
+#define FOLLOW_WORK (3 * 1024 * 1024 + 512 * 1024) // what drawing_follows needs of `work`
+
 double drawing_root(double number); // its square drawing_root, 0 of what is below zero
 
 #endif

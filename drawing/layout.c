@@ -14,6 +14,9 @@ struct layout {
     uint8_t straight[DRAWING_CHANNELS], sharp[DRAWING_CHANNELS];
     int32_t wide[DRAWING_NODES], high[DRAWING_NODES]; // of each part
     double measure[DRAWING_DARTS];
+    struct drawing_sheet own; // a part as a sheet, and its places with a corner at each point
+    struct drawing_places own_places;
+    uint64_t work[FOLLOW_WORK / 8];
 };
 _Static_assert(sizeof(struct layout) <= DRAWING_WORK, "DRAWING_WORK");
 
@@ -91,12 +94,31 @@ static int rounded(struct part *part, double by, int32_t *x, int32_t *y) {
     return 1;
 }
 
+// Whether the part's channels, with corners at their points, show its turns at these places and cross nowhere: they may where a triangle has turned.
+static int shows(struct layout *layout, const int32_t *x, const int32_t *y) {
+    const struct part *part = &layout->part;
+    struct drawing_sheet *own = &layout->own;
+    struct drawing_places *places = &layout->own_places;
+    uint32_t count = 0, at;
+    own->nodes = (uint16_t)part->nodes, own->channels = (uint16_t)part->edges, own->outer = DRAWING_NONE;
+    for (uint32_t dart = 0; dart < 2 * part->edges; dart++) own->tails[dart] = part->tail[dart], own->turns[dart] = part->turn[dart];
+    for (uint32_t node = 0; node < part->nodes; node++) places->x[node] = x[node], places->y[node] = y[node];
+    for (uint32_t dart = 0; dart < 2 * part->edges; dart++) {
+        if (dart % 2 == 0) places->first[dart / 2] = (uint16_t)count, places->sharp[dart / 2] = 1;
+        if (dart % 2 == 0 || part->way[dart] != part->way[dart - 1]) places->bend_x[count] = x[part->way[dart]], places->bend_y[count++] = y[part->way[dart]];
+    }
+    places->first[part->edges] = (uint16_t)count;
+    for (uint32_t i = 0; i < part->nodes; i++) places->y[i] = -places->y[i];
+    for (uint32_t i = 0; i < count; i++) places->bend_y[i] = -places->bend_y[i];
+    return drawing_follows(own, places, layout->work, &at) == DRAWING_DONE;
+}
+
 // Takes a part's places, as large as it is to be or as it must be: at the latest where a step is a hundredth of a pixel they are the places themselves.
 static void keep_part(struct layout *layout, uint32_t which) {
     struct part *part = &layout->part;
     int32_t *x = part->sum[0], *y = part->sum[1], left = INT32_MAX, right = INT32_MIN, low = INT32_MAX, high = INT32_MIN;
     double by = enlarged(part, layout->measure), most = (double)FINE / PIXEL;
-    while (!rounded(part, by, x, y)) by = 2 * by < most ? 2 * by : most;
+    while (!rounded(part, by, x, y) && !shows(layout, x, y)) by = 2 * by < most ? 2 * by : most;
     for (uint32_t p = 0; p < part->nodes + 2 * part->edges; p++) {
         uint32_t point = p < part->nodes ? p : part->way[p - part->nodes];
         left = x[point] < left ? x[point] : left, right = x[point] > right ? x[point] : right;

@@ -39,6 +39,7 @@ struct picture {
     double x[LINE_POINTS + 2 * DRAWING_CHANNELS], y[LINE_POINTS + 2 * DRAWING_CHANNELS], node_x[DRAWING_NODES], node_y[DRAWING_NODES];
     int32_t line_x[LINE_POINTS], line_y[LINE_POINTS];
     struct box box[BOXES]; // what is not to be written over
+    struct box channel[DRAWING_CHANNELS]; // round each channel
     uint32_t boxes, width, height;
     int32_t greatest; // setting
 };
@@ -133,6 +134,17 @@ static void find_lines(struct picture *to) {
     for (uint32_t i = 0; i < count; i++) to->x[i] += (across - wide) / 2 + ASIDE - left, to->y[i] += ABOVE - top;
     for (uint32_t node = 0; node < nodes; node++) {
         to->node_x[node] = places->x[node] / 100.0 + (across - wide) / 2 + ASIDE - left, to->node_y[node] = places->y[node] / 100.0 + ABOVE - top;
+    }
+}
+
+static void find_boxes(struct picture *to) {
+    for (uint32_t channel = 0; channel < to->sheet->channels; channel++) {
+        struct box box = {1e9, 1e9, -1e9, -1e9};
+        for (uint32_t i = to->start[channel]; i < to->start[channel + 1]; i++) {
+            box.left = to->x[i] < box.left ? to->x[i] : box.left, box.right = to->x[i] > box.right ? to->x[i] : box.right;
+            box.top = to->y[i] < box.top ? to->y[i] : box.top, box.bottom = to->y[i] > box.bottom ? to->y[i] : box.bottom;
+        }
+        to->channel[channel] = box;
     }
 }
 
@@ -258,6 +270,31 @@ static double taken(const struct picture *to, struct box box) {
     return sum;
 }
 
+// Whether a line comes into a box: not all of it is on one side, and not all corners are on one side of it.
+static int comes_into(const struct box *box, double ax, double ay, double bx, double by) {
+    if ((ax < box->left && bx < box->left) || (ax > box->right && bx > box->right) || (ay < box->top && by < box->top) || (ay > box->bottom && by > box->bottom)) return 0;
+    int above = 0;
+    for (int i = 0; i < 4; i++) {
+        double x = i % 2 ? box->right : box->left, y = i / 2 ? box->bottom : box->top;
+        above += (bx - ax) * (y - ay) - (by - ay) * (x - ax) > 0;
+    }
+    return above > 0 && above < 4;
+}
+
+// How many channels come into a box, but for one. Not looked at in a drawing of very many bends.
+static uint32_t crossed(const struct picture *to, struct box box, uint32_t but) {
+    uint32_t count = 0;
+    if (to->start[to->sheet->channels] > 8 * DRAWING_CHANNELS) return 0;
+    for (uint32_t channel = 0; channel < to->sheet->channels; channel++) {
+        const struct box *all = &to->channel[channel];
+        int comes = 0;
+        if (channel == but || all->left > box.right || all->right < box.left || all->top > box.bottom || all->bottom < box.top) continue;
+        for (uint32_t i = to->start[channel]; i + 1 < to->start[channel + 1] && !comes; i++) comes = comes_into(&box, to->x[i], to->y[i], to->x[i + 1], to->y[i + 1]);
+        count += (uint32_t)comes;
+    }
+    return count;
+}
+
 // The letters of a channel's label: the number that counts, and the allowed settings.
 static uint32_t label_length(const struct picture *to, uint32_t channel, const struct look *look) {
     uint32_t span = length_of(to->sheet->limits[2 * channel]) + length_of(-(int64_t)to->sheet->limits[2 * channel + 1]) + 2;
@@ -301,6 +338,7 @@ static void put_names(struct picture *to, uint32_t channel) {
         double away = (dx < 0 ? -dx : dx) * (wide + badge) / 2 + (dy < 0 ? -dy : dy) * 13 + look.width / 2 + 1;
         struct box number = box_at(at.x, at.y, badge, 13), label = box_at(at.x + dx * away, at.y + dy * away, wide, 13);
         double cost = 2 * taken(to, number) + taken(to, label);
+        if (cost < best) cost += 40 * crossed(to, label, DRAWING_CHANNELS) + 80 * crossed(to, number, channel);
         if (cost >= best) continue;
         best = cost, spot = at, x = at.x + dx * away, y = at.y + dy * away, boxes[0] = number, boxes[1] = label;
     }
@@ -531,7 +569,7 @@ uint32_t drawing_svg(const struct drawing_sheet *sheet, const struct drawing_pla
     to->sheet = sheet, to->places = places, to->shown = shown, to->text = text, to->length = length, to->used = to->boxes = 0;
     if (drawing_map(sheet, &to->map) != DRAWING_DONE || !drawing_in_range(sheet, places)) return 0;
     if (shown->headgate >= (int32_t)sheet->nodes || shown->outfall >= (int32_t)sheet->nodes) return 0;
-    find_lines(to);
+    find_lines(to), find_boxes(to);
     if (shown->style == DRAWING_PAPER) to->height += RULED * (shown->lines < 64 ? shown->lines : 64);
     to->greatest = 0;
     for (uint32_t channel = 0; channel < sheet->channels && shown->has_settings; channel++) {

@@ -4,9 +4,9 @@
 // (Floater's mean value coordinates, 2003). Round by round, links beside large triangles then count for more, so that small ones get room.
 #include "part.h"
 
-#define ROUNDS 40 // for small parts
-#define FEW_ROUNDS 20 // for parts of more than MANY points
-#define MANY 1500
+#define FEWEST 20 // rounds
+#define MOST 150
+#define LINKS_MADE 1000000 // in all rounds together, about
 #define FAILURES 8 // rounds that gave no places, at most
 #define EVEN 0.05 // the share of equal weights, until a round fails
 
@@ -220,20 +220,24 @@ static void approach(struct part *part) {
 
 void part_smooth(struct part *part) {
     double even = EVEN;
-    uint32_t rounds = part->points > MANY ? FEW_ROUNDS : ROUNDS;
     int roots = 0;
     stretch(part);
     equal_weights(part);
     if (!solved(part)) {
-        next_weights(part, 0, -1);
+        next_weights(part, 0, -1), even = 0;
         if (!solved(part)) return; // the grid's places stay
     }
+    uint32_t rounds = LINKS_MADE / (part->links + 1);
+    rounds = even > 0 ? 2 * FEWEST : rounds < FEWEST ? FEWEST : rounds > MOST ? MOST : rounds;
     for (uint32_t round = 0, failures = 0; round < rounds && failures < FAILURES; round++) {
         next_weights(part, even, roots);
         if (solved(part)) continue;
-        approach(part);
         failures++;
-        if (even == 0 && roots < 2) roots++;
-        even = 0;
+        if (even > 0) {
+            even = 0;
+            continue;
+        }
+        approach(part);
+        if (roots < 2) roots++;
     }
 }

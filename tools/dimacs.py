@@ -1,8 +1,8 @@
 """Shows a DIMACS maximum flow text, as far as it can be shown.
 
     tools/dimacs show  < a.max     the problem in words: its counts and ends, its parts, each channel with both limits
-    tools/dimacs sheet < a.max     a flat drawing that has this text, as tools/sheet reads it, so that tools/picture can draw it:
-                                       tools/dimacs sheet < a.max | tools/sheet pack > a.question && tools/picture a.question > a.svg
+    tools/dimacs sheet < a.max     a flat drawing that has this text, as tools/sheet reads it, so that tools/unit can draw it:
+                                       tools/dimacs sheet < a.max > a.txt && tools/unit read a.txt --picture a.svg
 
 A text as the unit writes it has two arcs for each channel, forward and back, one behind the other; any other text can be shown in words only. A text has no
 turns: those of the drawing that `sheet` prints are found here, channel by channel, and need not be those of the sheet that the text was written from. The

@@ -1,4 +1,4 @@
-"""Reading, refusing and writing, for tools/sheet and tools/picture. A bad input gets one line on standard error, which names the file, the line where there is
+"""Reading, refusing and writing, for tools/sheet, tools/capture and tools/dimacs. A bad input gets one line on standard error, which names the file, the line where there is
 one, and the fault; then exit status 2, and nothing on standard output: a tool makes all its bytes before the first is written."""
 import os
 import re

@@ -221,24 +221,29 @@ fn saved(sheet: &Sheet, work: &mut [u64]) -> Option<Box<Places>> {
     (follows == DONE || follows == CROSSES).then_some(places)
 }
 
+/// Saved places, or such as the turns give. The views of a session or a page are of one sheet: places that were made are used again.
+fn places_of(sheet: &Sheet, before: Option<(Box<Sheet>, Box<Places>)>, work: &mut [u64]) -> Parsed<Box<Places>> {
+    let same = |other: &Sheet| (other.nodes, other.channels, other.outer, other.tails, other.turns) == (sheet.nodes, sheet.channels, sheet.outer, sheet.tails, sheet.turns);
+    if let Some((_, places)) = before.filter(|(other, _)| same(other)) {
+        return Ok(places);
+    }
+    if let Some(places) = saved(sheet, work) {
+        return Ok(places);
+    }
+    let mut places: Box<Places> = zeroed();
+    // Safety: the structs are drawing.h's, and `work` is as long as it asks.
+    match unsafe { drawing_places(sheet, &mut *places, work.as_mut_ptr()) } {
+        DONE => Ok(places),
+        _ => fault("picture", "the drawing is not flat"),
+    }
+}
+
 /// One picture, and its size.
-fn document(view: &View, work: &mut [u64]) -> Parsed<(String, [u32; 2])> {
-    let (sheet, shown) = (sheet_of(view), shown_of(view));
-    let places = match saved(&sheet, work) {
-        Some(places) => places,
-        None => {
-            let mut places: Box<Places> = zeroed();
-            // Safety: as above.
-            if unsafe { drawing_places(&*sheet, &mut *places, work.as_mut_ptr()) } != DONE {
-                return fault("picture", "the drawing is not flat");
-            }
-            places
-        }
-    };
+fn document(sheet: &Sheet, places: &Places, shown: &Shown, work: &mut [u64]) -> Parsed<(String, [u32; 2])> {
     let (mut text, mut size) = (vec![0; 1 << 16], [0; 2]);
     loop {
         // Safety: as above; the text's length goes with it.
-        let length = unsafe { drawing_svg(&*sheet, &*places, &*shown, work.as_mut_ptr(), text.as_mut_ptr(), text.len() as u32, size.as_mut_ptr()) } as usize;
+        let length = unsafe { drawing_svg(sheet, places, shown, work.as_mut_ptr(), text.as_mut_ptr(), text.len() as u32, size.as_mut_ptr()) } as usize;
         if length <= text.len() {
             text.truncate(length);
             return String::from_utf8(text).map(|text| (text, size)).or_else(|_| fault("picture", "a title is no text"));
@@ -250,7 +255,13 @@ fn document(view: &View, work: &mut [u64]) -> Parsed<(String, [u32; 2])> {
 /// The views one below the other.
 pub fn draw(views: &[View]) -> Parsed<Vec<u8>> {
     let mut work = vec![0u64; WORK / 8];
-    let documents: Vec<_> = views.iter().map(|view| document(view, &mut work)).collect::<Parsed<_>>()?;
+    let (mut documents, mut before) = (vec![], None);
+    for view in views {
+        let sheet = sheet_of(view);
+        let places = places_of(&sheet, before.take(), &mut work)?;
+        documents.push(document(&sheet, &places, &shown_of(view), &mut work)?);
+        before = Some((sheet, places));
+    }
     if let [(text, _)] = &documents[..] {
         return Ok(text.clone().into_bytes());
     }
