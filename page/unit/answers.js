@@ -22,8 +22,11 @@ function askUnit(operation, given) {
 const begun = askUnit("begin", { wasm: bytesOf("unit-wasm"), functions: UNIT.functions });
 
 const sentence = number => UNIT.refusals[number] || "there is no such refusal";
-const refusalWords = ({ refused, place }, sort = "") => `refused ${refused}${refused === 17 || refused === 18 ? ` at ${sort || (refused === 17 ? "channel" : "node")} `
-  + `${place}` : ""}: ${sentence(refused)}`;
+
+function refusalWords({ refused, place }) {
+  const where = refused === 17 ? ` at channel ${place}` : refused === 18 ? ` at node ${place}` : "";
+  return `refused ${refused}${where}: ${sentence(refused)}`;
+}
 
 // ---- The present question, and what is asked of it ------------------------------------------------
 
@@ -34,10 +37,7 @@ function presentNow() {
   const given = { sheet: pack({ ...sheet, question: null }), question: sheet.question ? pack(sheet) : null, nodes: sheet.nodes, channels: sheet.channels.length,
     source, sink, delivery: value, channel, candidate: settings, set: work.set || [], wanted: ["read"] };
   if (sheet.question) given.wanted.push("key", "range", ...(chosen.channels.size === 1 ? ["raise"] : []), ...(settings ? ["mark"] : []));
-  if (settings && mode() === "levels") {
-    given.candidate = settings;
-    given.wanted.push("levels");
-  }
+  if (settings && mode() === "levels") given.wanted.push("levels");
   if (given.set.length) given.wanted.push("totals");
   return given;
 }
