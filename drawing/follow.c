@@ -71,7 +71,8 @@ static int sign(int64_t number) { return (number > 0) - (number < 0); }
 // Which side of one piece the ends of another lie on: -1 if both on one, 0 if an end is on its line, 1 if on two.
 static int parted(const struct follow *all, uint32_t one, uint32_t other) {
     const int32_t *x = all->x[one], *y = all->y[one];
-    int a = sign(twice_area(x[0], y[0], x[1], y[1], all->x[other][0], all->y[other][0])), b = sign(twice_area(x[0], y[0], x[1], y[1], all->x[other][1], all->y[other][1]));
+    int a = sign(twice_area(x[0], y[0], x[1], y[1], all->x[other][0], all->y[other][0])),
+        b = sign(twice_area(x[0], y[0], x[1], y[1], all->x[other][1], all->y[other][1]));
     return a * b < 0 ? 1 : a * b > 0 ? -1 : 0;
 }
 

@@ -1,5 +1,5 @@
-// Places from turns: each part by itself (triangulate.c, grid.c, tutte.c), scaled to hundredths of a pixel, its channels straight where they can be, and the parts
-// in rows. In parts y grows upwards; on the page, downwards.
+// Places from turns: each part by itself (triangulate.c, grid.c, tutte.c), scaled to hundredths of a pixel, its channels straight where they can be, and the
+// parts in rows. In parts y grows upwards; on the page, downwards.
 #include "part.h"
 
 #define PIXEL DRAWING_UNIT
@@ -39,8 +39,10 @@ static void place_row(struct part *part) {
     for (uint32_t i = 0; i < part->nodes; i++) {
         uint32_t row = i / across, column = row % 2 ? across - 1 - i % across : i % across;
         part->x[part->tail[dart]] = (int32_t)(110 * FINE * column), part->y[part->tail[dart]] = (int32_t)(100 * FINE * (part->nodes / across - row));
-        if (i + 2 < part->nodes) dart = part->turn[dart ^ 1];
-        else dart ^= 1; // the last node
+        if (i + 2 < part->nodes)
+            dart = part->turn[dart ^ 1];
+        else
+            dart ^= 1; // the last node
     }
     for (uint32_t edge = 0; edge < part->edges; edge++) {
         uint32_t a = part->tail[2 * edge], b = part->tail[2 * edge + 1], way = part->way[2 * edge];
@@ -136,7 +138,8 @@ static void keep_part(struct layout *layout, uint32_t which) {
 
 // Whether a point lies in a triangle or on its rim, whichever way that is turned.
 static int lies_in(int32_t x, int32_t y, const int32_t tx[3], const int32_t ty[3]) {
-    int64_t a = twice_area(tx[0], ty[0], tx[1], ty[1], x, y), b = twice_area(tx[1], ty[1], tx[2], ty[2], x, y), c = twice_area(tx[2], ty[2], tx[0], ty[0], x, y);
+    int64_t a = twice_area(tx[0], ty[0], tx[1], ty[1], x, y), b = twice_area(tx[1], ty[1], tx[2], ty[2], x, y),
+            c = twice_area(tx[2], ty[2], tx[0], ty[0], x, y);
     return (a >= 0 && b >= 0 && c >= 0) || (a <= 0 && b <= 0 && c <= 0);
 }
 
@@ -192,8 +195,8 @@ static int narrow(const struct drawing_sheet *sheet, const struct layout *layout
     return 0;
 }
 
-// Channels that are nearly straight become so first, then others. What is neither straight nor free has corners, and so has what is too narrow for a curve: there
-// the hundredths to which places are rounded would count.
+// Channels that are nearly straight become so first, then others. What is neither straight nor free has corners, and so has what is too narrow for a curve:
+// there the hundredths to which places are rounded would count.
 static void straighten(const struct drawing_sheet *sheet, struct layout *layout) {
     for (uint32_t channel = 0; channel < sheet->channels; channel++) layout->straight[channel] = 0;
     for (uint32_t i = 0; i < 2u * sheet->channels; i++) {
@@ -201,7 +204,8 @@ static void straighten(const struct drawing_sheet *sheet, struct layout *layout)
         if (layout->straight[channel] || (!other && !narrow(sheet, layout, channel, 1))) continue;
         layout->straight[channel] = may_be_straight(sheet, layout, channel) && is_free(sheet, layout, channel);
     }
-    for (uint32_t channel = 0; channel < sheet->channels; channel++) layout->sharp[channel] = narrow(sheet, layout, channel, 6) || !is_free(sheet, layout, channel);
+    for (uint32_t channel = 0; channel < sheet->channels; channel++)
+        layout->sharp[channel] = narrow(sheet, layout, channel, 6) || !is_free(sheet, layout, channel);
 }
 
 // ---- The sheet ----
@@ -248,8 +252,10 @@ uint32_t drawing_places(const struct drawing_sheet *sheet, struct drawing_places
     for (uint32_t i = 0; i < sizeof *places; i++) bytes[i] = 0;
     for (uint32_t which = 0; which < layout->map.parts; which++) {
         part_take(sheet, &layout->map, which, part);
-        if (is_row(part)) place_row(part);
-        else part_triangulate(part, part->dart[layout->map.outer[which]]), part_grid(part), part_smooth(part);
+        if (is_row(part))
+            place_row(part);
+        else
+            part_triangulate(part, part->dart[layout->map.outer[which]]), part_grid(part), part_smooth(part);
         keep_part(layout, which);
     }
     straighten(sheet, layout);

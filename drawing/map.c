@@ -89,7 +89,8 @@ uint32_t drawing_map(const struct drawing_sheet *sheet, struct map *map) {
 }
 
 uint32_t drawing_line(const struct drawing_sheet *sheet, const struct drawing_places *places, uint32_t channel, int32_t *x, int32_t *y) {
-    uint32_t tail = sheet->tails[2 * channel], head = sheet->tails[2 * channel + 1], first = places->first[channel], last = places->first[channel + 1], count = 0;
+    uint32_t tail = sheet->tails[2 * channel], head = sheet->tails[2 * channel + 1], first = places->first[channel], last = places->first[channel + 1],
+             count = 0;
     x[count] = places->x[tail], y[count++] = places->y[tail];
     for (uint32_t bend = first; bend < last; bend++) {
         int64_t ax = x[count - 1], ay = y[count - 1], bx = places->bend_x[bend], by = places->bend_y[bend];
@@ -97,7 +98,8 @@ uint32_t drawing_line(const struct drawing_sheet *sheet, const struct drawing_pl
             x[count] = (int32_t)bx, y[count++] = (int32_t)by;
             continue;
         }
-        int64_t cx = bend + 1 < last ? (bx + places->bend_x[bend + 1]) / 2 : places->x[head], cy = bend + 1 < last ? (by + places->bend_y[bend + 1]) / 2 : places->y[head];
+        int64_t cx = bend + 1 < last ? (bx + places->bend_x[bend + 1]) / 2 : places->x[head],
+                cy = bend + 1 < last ? (by + places->bend_y[bend + 1]) / 2 : places->y[head];
         for (int64_t t = 1, u = STEPS - 1; t <= STEPS; t++, u--) {
             x[count] = (int32_t)((u * u * ax + 2 * u * t * bx + t * t * cx) / (STEPS * STEPS));
             y[count++] = (int32_t)((u * u * ay + 2 * u * t * by + t * t * cy) / (STEPS * STEPS));
@@ -107,19 +109,28 @@ uint32_t drawing_line(const struct drawing_sheet *sheet, const struct drawing_pl
     return count;
 }
 
-double drawing_root(double number) {
-    if (!(number > 0)) return 0;
-    return __builtin_sqrt(number);
-}
+// The instruction: of clang whatever the options are, of others with -fno-math-errno.
+#ifdef __has_builtin
+#if __has_builtin(__builtin_elementwise_sqrt)
+#define SQUARE_ROOT __builtin_elementwise_sqrt
+#endif
+#endif
+#ifndef SQUARE_ROOT
+#define SQUARE_ROOT __builtin_sqrt
+#endif
+
+double drawing_root(double number) { return number > 0 ? SQUARE_ROOT(number) : 0; }
 
 int drawing_in_range(const struct drawing_sheet *sheet, const struct drawing_places *places) {
     uint32_t last = places->first[sheet->channels];
     int good = last <= DRAWING_BENDS && places->first[0] == 0;
     for (uint32_t channel = 0; channel < sheet->channels && good; channel++)
-        good = places->first[channel] <= places->first[channel + 1] && (sheet->tails[2 * channel] != sheet->tails[2 * channel + 1] || places->first[channel + 1] - places->first[channel] >= 2);
+        good = places->first[channel] <= places->first[channel + 1] &&
+               (sheet->tails[2 * channel] != sheet->tails[2 * channel + 1] || places->first[channel + 1] - places->first[channel] >= 2);
     for (uint32_t node = 0; node < sheet->nodes; node++)
         good &= places->x[node] <= DRAWING_MOST && places->x[node] >= -DRAWING_MOST && places->y[node] <= DRAWING_MOST && places->y[node] >= -DRAWING_MOST;
     for (uint32_t i = 0; i < last && good; i++)
-        good = places->bend_x[i] <= DRAWING_MOST && places->bend_x[i] >= -DRAWING_MOST && places->bend_y[i] <= DRAWING_MOST && places->bend_y[i] >= -DRAWING_MOST;
+        good =
+            places->bend_x[i] <= DRAWING_MOST && places->bend_x[i] >= -DRAWING_MOST && places->bend_y[i] <= DRAWING_MOST && places->bend_y[i] >= -DRAWING_MOST;
     return good;
 }

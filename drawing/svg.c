@@ -224,8 +224,8 @@ static void put_path(struct picture *to, uint32_t first, uint32_t last, const do
     put(to, "\" stroke-linecap=\"round\" stroke-linejoin=\"round\"/>\n");
 }
 
-// A channel up to the foot of its arrowhead, and that. A filled one shows which way the water runs, so for a setting below zero it points from the channel's head
-// to its tail; or which way leads out of the set. A hollow one points from tail to head, so that you can tell in which direction the limits count.
+// A channel up to the foot of its arrowhead, and that. A filled one shows which way the water runs, so for a setting below zero it points from the channel's
+// head to its tail; or which way leads out of the set. A hollow one points from tail to head, so that you can tell in which direction the limits count.
 static void put_channel(struct picture *to, uint32_t channel) {
     struct look look = look_of(to, channel);
     uint32_t first = to->start[channel], last = to->start[channel + 1] - 1;
@@ -272,7 +272,9 @@ static double taken(const struct picture *to, struct box box) {
 
 // Whether a line comes into a box: not all of it is on one side, and not all corners are on one side of it.
 static int comes_into(const struct box *box, double ax, double ay, double bx, double by) {
-    if ((ax < box->left && bx < box->left) || (ax > box->right && bx > box->right) || (ay < box->top && by < box->top) || (ay > box->bottom && by > box->bottom)) return 0;
+    if ((ax < box->left && bx < box->left) || (ax > box->right && bx > box->right) || (ay < box->top && by < box->top) ||
+        (ay > box->bottom && by > box->bottom))
+        return 0;
     int above = 0;
     for (int i = 0; i < 4; i++) {
         double x = i % 2 ? box->right : box->left, y = i / 2 ? box->bottom : box->top;
@@ -289,7 +291,8 @@ static uint32_t crossed(const struct picture *to, struct box box, uint32_t but) 
         const struct box *all = &to->channel[channel];
         int comes = 0;
         if (channel == but || all->left > box.right || all->right < box.left || all->top > box.bottom || all->bottom < box.top) continue;
-        for (uint32_t i = to->start[channel]; i + 1 < to->start[channel + 1] && !comes; i++) comes = comes_into(&box, to->x[i], to->y[i], to->x[i + 1], to->y[i + 1]);
+        for (uint32_t i = to->start[channel]; i + 1 < to->start[channel + 1] && !comes; i++)
+            comes = comes_into(&box, to->x[i], to->y[i], to->x[i + 1], to->y[i + 1]);
         count += (uint32_t)comes;
     }
     return count;
@@ -318,7 +321,8 @@ static void put_label(struct picture *to, uint32_t channel, const struct look *l
 static void put_badge(struct picture *to, uint32_t channel, double x, double y, double width) {
     int wrong = to->shown->has_wrong && in_set(to->shown->wrong_channels, channel);
     put(to, "<rect x=\""), put_pair(to, x - width / 2, "\" y=\"", y - 6.5), put(to, "\" width=\""), put_pixels(to, width);
-    put(to, "\" height=\"13\" rx=\"4\" fill=\""), put(to, wrong ? CUT : "#fff"), put(to, "\" stroke=\""), put(to, wrong ? CUT : "#777"), put(to, "\" stroke-width=\"0.8\"/>");
+    put(to, "\" height=\"13\" rx=\"4\" fill=\""), put(to, wrong ? CUT : "#fff"), put(to, "\" stroke=\""), put(to, wrong ? CUT : "#777"),
+        put(to, "\" stroke-width=\"0.8\"/>");
     put(to, "<text x=\""), put_pair(to, x, "\" y=\"", y + 3.6), put(to, "\" font-size=\"10\" fill=\""), put(to, wrong ? "#fff" : "#333");
     put(to, "\" text-anchor=\"middle\" class=\"channel\">"), put_number(to, channel), put(to, "</text>\n");
 }
@@ -351,10 +355,13 @@ static void put_names(struct picture *to, uint32_t channel) {
 
 static void put_node(struct picture *to, uint32_t node) {
     const struct drawing_shown *shown = to->shown;
-    int inside = shown->has_set && in_set(shown->set, node), wrong = shown->has_wrong && in_set(shown->wrong_nodes, node), subtotal = inside && shown->has_subtotals;
+    int inside = shown->has_set && in_set(shown->set, node), wrong = shown->has_wrong && in_set(shown->wrong_nodes, node),
+        subtotal = inside && shown->has_subtotals;
     int end = (int32_t)node == shown->headgate || (int32_t)node == shown->outfall, paper = shown->style == DRAWING_PAPER;
     double x = to->node_x[node], y = to->node_y[node];
-    if (wrong) put(to, "<circle cx=\""), put_pair(to, x, "\" cy=\"", y), put(to, "\" r=\"20\" fill=\"none\" stroke=\"" CUT "\" stroke-width=\"3\" stroke-dasharray=\"5 3\"/>\n");
+    if (wrong)
+        put(to, "<circle cx=\""), put_pair(to, x, "\" cy=\"", y),
+            put(to, "\" r=\"20\" fill=\"none\" stroke=\"" CUT "\" stroke-width=\"3\" stroke-dasharray=\"5 3\"/>\n");
     put(to, "<circle cx=\""), put_pair(to, x, "\" cy=\"", y), put(to, "\" r=\"14\" fill=\""), put(to, inside ? INSIDE : "#fff"), put(to, "\" stroke=\"");
     put(to, !end || paper ? INK : (int32_t)node == shown->headgate ? SOURCE : SINK), put(to, end ? "\" stroke-width=\"4\"/>" : "\" stroke-width=\"1.4\"/>");
     put(to, "<text x=\""), put_pair(to, x, "\" y=\"", y + (subtotal ? 0.5 : 4.5)), put(to, "\" font-size=\"12\" text-anchor=\"middle\">");
@@ -434,13 +441,15 @@ static void put_band(struct picture *to) {
         }
 }
 
-// The face of the outer dart, where the sheet names one: all that lies outside the channels round it is tinted. Not in a drawing of several parts, where each has
-// its own outside.
+// The face of the outer dart, where the sheet names one: all that lies outside the channels round it is tinted. Not in a drawing of several parts, where each
+// has its own outside.
 static void put_outer(struct picture *to) {
     if (to->sheet->outer < 0 || to->map.parts != 1) return;
-    put(to, "<rect y=\"64\" width=\""), put_number(to, to->width), put(to, "\" height=\""), put_number(to, (int64_t)to->height - 124), put(to, "\" fill=\"" OUTER "\"/>\n");
+    put(to, "<rect y=\"64\" width=\""), put_number(to, to->width), put(to, "\" height=\""), put_number(to, (int64_t)to->height - 124),
+        put(to, "\" fill=\"" OUTER "\"/>\n");
     put(to, "<path d=\""), put_face(to, (uint32_t)to->sheet->outer), put(to, "\" fill=\"#fff\"/>\n");
-    open_text(to, to->width - 24, 82, 11, "#555", "end", 0), put(to, "outer face, left of dart "), put_number(to, to->sheet->outer), put(to, ": level 0</text>\n");
+    open_text(to, to->width - 24, 82, 11, "#555", "end", 0), put(to, "outer face, left of dart "), put_number(to, to->sheet->outer),
+        put(to, ": level 0</text>\n");
 }
 
 // One side of a face against a spot: whether a ray to the right crosses it, and the square of its distance.
@@ -458,7 +467,8 @@ static double depth(const struct picture *to, uint32_t start, double x, double y
     int inside = 0;
     double least = 1e18;
     do {
-        for (uint32_t i = to->start[dart / 2]; i + 1 < to->start[dart / 2 + 1]; i++) inside ^= against(x, y, to->x[i], to->y[i], to->x[i + 1], to->y[i + 1], &least);
+        for (uint32_t i = to->start[dart / 2]; i + 1 < to->start[dart / 2 + 1]; i++)
+            inside ^= against(x, y, to->x[i], to->y[i], to->x[i + 1], to->y[i + 1], &least);
         dart = face_step(to->sheet, dart);
     } while (dart != start);
     return inside ? least : -1;
@@ -488,7 +498,9 @@ static void put_levels(struct picture *to) {
         double x = 0, y = 0;
         if (lies_outside(to, face)) {
             if (above > to->height - BELOW) continue;
-            open_text(to, to->width - 24, above, 12, LEVEL, "end", 1), put(to, "outside, left of dart "), put_number(to, to->map.lowest[face]), put(to, ": level ");
+            open_text(to, to->width - 24, above, 12, LEVEL, "end", 1), put(to, "outside, left of dart "), put_number(to, to->map.lowest[face]),
+                put(to, ": level ");
+            keep_box(to, box_at(to->width - 24 - 105, above - 4, 210, 16));
             above += 16;
         } else {
             middle_of(to, to->map.lowest[face], &x, &y);
@@ -522,24 +534,27 @@ static void put_legend(struct picture *to) {
         x = put_item(to, x, GREY, 1.6, shown->has_set ? "other channels" : "a channel");
     }
     if (shown->has_levels) x = put_item(to, x, LEVEL, 5, "the level of a face");
-    if (shown->has_wrong) x = put_item(to, x, CUT, 5, "wrong");
+    if (shown->has_wrong) x = put_item(to, x, CUT, 5, "outside its limits (17)"), x = put_item(to, x, CUT, 1.6, "a ring: off balance (18)");
     put_text(to, 24, to->height - 16, 11, INK, "start", 0,
-        shown->has_settings
-        ? "in a box: the channel\xe2\x80\x99s number; arrowhead: the way the water runs (hollow: none runs, from tail to head); \xe2\x80\x9c" MINUS "3 of " MINUS
-          "8..4\xe2\x80\x9d: 3 from head to tail, allowed " MINUS "8 to 4"
-        : shown->has_set
-        ? "in a box: the channel\xe2\x80\x99s number; arrowhead: out of the set (hollow: from tail to head); \xe2\x80\x9c" MINUS
-          "3..8\xe2\x80\x9d: allowed settings, at most 8 from tail to head and 3 back"
-        : "in a box: the channel\xe2\x80\x99s number; \xe2\x80\x9c" MINUS "3..8\xe2\x80\x9d: allowed settings, at most 8 from tail to head, as the arrowhead points, "
-          "and 3 back; \xe2\x80\x9c" "2..8\xe2\x80\x9d: at least 2");
+             shown->has_settings
+                 ? "in a box: the channel\xe2\x80\x99s number; arrowhead: the way the water runs (hollow: none runs, from tail to head); \xe2\x80\x9c" MINUS
+                   "3 of " MINUS "8..4\xe2\x80\x9d: 3 from head to tail, allowed " MINUS "8 to 4"
+             : shown->has_set ? "in a box: the channel\xe2\x80\x99s number; arrowhead: out of the set (hollow: from tail to head); \xe2\x80\x9c" MINUS
+                                "3..8\xe2\x80\x9d: allowed settings, at most 8 from tail to head and 3 back"
+                              : "in a box: the channel\xe2\x80\x99s number; \xe2\x80\x9c" MINUS
+                                "3..8\xe2\x80\x9d: allowed settings, at most 8 from tail to head, as the arrowhead points, "
+                                "and 3 back; \xe2\x80\x9c"
+                                "2..8\xe2\x80\x9d: at least 2");
 }
 
 // An exam page has what the marks mean on one line, and ruled lines.
 static void put_lines(struct picture *to) {
     uint32_t lines = to->shown->lines < 64 ? to->shown->lines : 64, foot = to->height - BELOW + 48 - lines * RULED;
-    put_text(to, 24, foot, 11, INK, "start", 0, "in a box: the channel\xe2\x80\x99s number; beside it its least and its greatest setting, from tail to head as the arrowhead points");
+    put_text(to, 24, foot, 11, INK, "start", 0,
+             "in a box: the channel\xe2\x80\x99s number; beside it its least and its greatest setting, from tail to head as the arrowhead points");
     for (uint32_t i = 0; i < lines; i++) {
-        put(to, "<path d=\"M24 "), put_number(to, foot + 30 + i * RULED), put(to, "H"), put_number(to, to->width - 24), put(to, "\" stroke=\"#888\" stroke-width=\"0.8\"/>\n");
+        put(to, "<path d=\"M24 "), put_number(to, foot + 30 + i * RULED), put(to, "H"), put_number(to, to->width - 24),
+            put(to, "\" stroke=\"#888\" stroke-width=\"0.8\"/>\n");
     }
 }
 
@@ -579,8 +594,10 @@ uint32_t drawing_svg(const struct drawing_sheet *sheet, const struct drawing_pla
     put_head(to);
     if (shown->style != DRAWING_PAPER) put_outer(to);
     put_drawing(to);
-    if (shown->style == DRAWING_PAPER) put_lines(to);
-    else put_legend(to);
+    if (shown->style == DRAWING_PAPER)
+        put_lines(to);
+    else
+        put_legend(to);
     put(to, "</svg>\n");
     size[0] = to->width, size[1] = to->height;
     return to->used;

@@ -1,5 +1,6 @@
-// A part of a sheet, triangulated within its turns: a channel gets a point on its way (a loop two), a face a centre, and where its walk comes to a point twice a
-// ring of points before that, so that there are no loops and no parallels. A triangle lies round all. Here too is the frame on which the outer points are to lie.
+// A part of a sheet, triangulated within its turns: a channel gets a point on its way (a loop two), a face a centre, and where its walk comes to a point twice
+// a ring of points before that, so that there are no loops and no parallels. A triangle lies round all. Here too is the frame on which the outer points are to
+// lie.
 #include "part.h"
 
 void part_take(const struct drawing_sheet *sheet, const struct map *map, uint32_t which, struct part *part) {
@@ -109,7 +110,8 @@ static void find_turning(struct part *part, uint32_t start, uint32_t count, int 
     double from[3] = {rectangle ? 2.5 : 3, rectangle ? 0 : 1.0 / 3, rectangle ? 1 : 5.0 / 3}, last = -1;
     for (uint32_t k = 0; k < 3; k++) part->turning[k] = start % count;
     for (uint32_t i = start; i < start + count; i++) {
-        double here = part->along[i % count], next = i + 1 < start + count ? part->along[(i + 1) % count] : part->along[start % count] + 4, middle = (here + next) / 2;
+        double here = part->along[i % count], next = i + 1 < start + count ? part->along[(i + 1) % count] : part->along[start % count] + 4,
+               middle = (here + next) / 2;
         for (uint32_t k = 0; k < 3; k++)
             if (last < from[k] && middle >= from[k]) part->turning[k] = i % count;
         last = middle;

@@ -1,7 +1,7 @@
-// Better places of a triangulated part: from those on the grid to others, each step with its triangles all turned the right way, which is tested in whole numbers.
-// Every point goes into the weighted middle of its neighbours, the outer ones on a convex frame (Tutte 1963; any weights above zero will do, Floater 1997). With
-// equal weights that is often too narrow for a grid of any fineness; then the weights are those for which the points lie in the middle where they are now
-// (Floater's mean value coordinates, 2003). Round by round, links beside large triangles then count for more, so that small ones get room.
+// Better places of a triangulated part: from those on the grid to others, each step with its triangles all turned the right way, which is tested in whole
+// numbers. Every point goes into the weighted middle of its neighbours, the outer ones on a convex frame (Tutte 1963; any weights above zero will do, Floater
+// 1997). With equal weights that is often too narrow for a grid of any fineness; then the weights are those for which the points lie in the middle where they
+// are now (Floater's mean value coordinates, 2003). Round by round, links beside large triangles then count for more, so that small ones get room.
 #include "part.h"
 
 #define FEWEST 20 // rounds
@@ -29,7 +29,8 @@ static int may_lie(const struct part *part, uint32_t point, int32_t x, int32_t y
     for (uint32_t i = first; i < last; i++) {
         uint32_t a = part->near[i], b = part->near[i + 1 < last ? i + 1 : first];
         int64_t area = twice_area(x, y, part->x[a], part->y[a], part->x[b], part->y[b]);
-        if (area <= FINE * FINE / 16 && (area <= 0 || area < twice_area(part->x[point], part->y[point], part->x[a], part->y[a], part->x[b], part->y[b]))) return 0;
+        if (area <= FINE * FINE / 16 && (area <= 0 || area < twice_area(part->x[point], part->y[point], part->x[a], part->y[a], part->x[b], part->y[b])))
+            return 0;
     }
     return 1;
 }
@@ -66,8 +67,10 @@ static void make_links(struct part *part) {
         for (uint32_t i = part->first[point]; i < part->first[point + 1]; i++) {
             uint32_t other = part->near[i];
             double weight = part->weight[i];
-            if (!part->still[other]) link(part, point, other, weight);
-            else pull[0] += weight, pull[1] += weight * part->at[0][other], pull[2] += weight * part->at[1][other];
+            if (!part->still[other])
+                link(part, point, other, weight);
+            else
+                pull[0] += weight, pull[1] += weight * part->at[0][other], pull[2] += weight * part->at[1][other];
         }
     }
 }
@@ -99,8 +102,10 @@ static void eliminate(struct part *part, uint32_t point) {
         for (uint32_t other = part->link_first[point]; other != FREE; other = part->link_next[other]) {
             uint32_t to = part->link_to[other];
             if (to == from) continue;
-            if (part->marked[to] == part->marks) part->link_weight[part->mark_at[to]] += share * part->link_weight[other];
-            else link(part, from, to, share * part->link_weight[other]);
+            if (part->marked[to] == part->marks)
+                part->link_weight[part->mark_at[to]] += share * part->link_weight[other];
+            else
+                link(part, from, to, share * part->link_weight[other]);
         }
     }
 }
@@ -157,7 +162,8 @@ static void present_weights(struct part *part, uint32_t point) {
     for (uint32_t i = first; i < last; i++) part->weight[i] /= sum;
 }
 
-// The present weights. A share of them may be even; and links beside large triangles may count for more: by their area, or by the root of it, or the root of that.
+// The present weights. A share of them may be even; and links beside large triangles may count for more: by their area, or by the root of it, or the root of
+// that.
 static void next_weights(struct part *part, double even, int roots) {
     for (uint32_t point = 0; point < part->points; point++) {
         if (part->still[point]) continue;
@@ -173,7 +179,8 @@ static void next_weights(struct part *part, double even, int roots) {
 // Whether the places are some, and not beyond the triangle round all.
 static int in_range(const struct part *part) {
     for (uint32_t p = 0; p < part->points; p++)
-        if (!(part->at[0][p] >= 0 && part->at[0][p] <= part->x[part->right_corner] && part->at[1][p] >= 0 && part->at[1][p] <= part->y[part->top_corner])) return 0;
+        if (!(part->at[0][p] >= 0 && part->at[0][p] <= part->x[part->right_corner] && part->at[1][p] >= 0 && part->at[1][p] <= part->y[part->top_corner]))
+            return 0;
     return 1;
 }
 

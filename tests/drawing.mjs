@@ -1,5 +1,5 @@
-// Lays out and draws sheets by drawing.wasm, for tests/drawing: drawing.mjs MODULE RECORDS. A record is a struct drawing_sheet and a struct drawing_shown; of each
-// the SHA-256 of the places and the text is printed.
+// Lays out and draws sheets by drawing.wasm, for tests/drawing: drawing.mjs MODULE RECORDS. A record is a struct drawing_sheet and a struct drawing_shown; of
+// each the SHA-256 of the places and the text is printed.
 import crypto from "node:crypto";
 import fs from "node:fs";
 

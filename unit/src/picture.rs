@@ -1,5 +1,5 @@
-//! Pictures: drawing/ lays a sheet out and writes it as SVG, the same bytes as on the examiner's page. The places that the page saved in a sheet's text are taken
-//! if they show its turns.
+//! Pictures: drawing/ lays a sheet out and writes it as SVG, the same bytes as on the examiner's page. The places that the page saved in a sheet's text are
+//! taken if they show its turns.
 use crate::answer::View;
 use crate::text::{fault, Parsed};
 use std::sync::Mutex;
@@ -223,8 +223,8 @@ fn saved(sheet: &Sheet, work: &mut [u64]) -> Option<Box<Places>> {
 
 /// Saved places, or such as the turns give. The views of a session or a page are of one sheet: places that were made are used again.
 fn places_of(sheet: &Sheet, before: Option<(Box<Sheet>, Box<Places>)>, work: &mut [u64]) -> Parsed<Box<Places>> {
-    let same = |other: &Sheet| (other.nodes, other.channels, other.outer, other.tails, other.turns) == (sheet.nodes, sheet.channels, sheet.outer, sheet.tails, sheet.turns);
-    if let Some((_, places)) = before.filter(|(other, _)| same(other)) {
+    let shape = |sheet: &Sheet| (sheet.nodes, sheet.channels, sheet.outer, sheet.tails, sheet.turns);
+    if let Some((_, places)) = before.filter(|(other, _)| shape(other) == shape(sheet)) {
         return Ok(places);
     }
     if let Some(places) = saved(sheet, work) {
