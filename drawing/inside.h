@@ -4,6 +4,10 @@
 
 #include "drawing.h"
 
+#if defined(__clang__)
+#pragma STDC FP_CONTRACT OFF // gcc has an option for it
+#endif
+
 // The sheet's faces and parts, numbered in order of their lowest darts.
 struct map {
     uint32_t faces, parts;

@@ -109,10 +109,17 @@ uint32_t drawing_line(const struct drawing_sheet *sheet, const struct drawing_pl
     return count;
 }
 
-double drawing_root(double number) {
-    if (!(number > 0)) return 0;
-    return __builtin_sqrt(number);
-}
+// The instruction: of clang whatever the options are, of others with -fno-math-errno.
+#ifdef __has_builtin
+#if __has_builtin(__builtin_elementwise_sqrt)
+#define SQUARE_ROOT __builtin_elementwise_sqrt
+#endif
+#endif
+#ifndef SQUARE_ROOT
+#define SQUARE_ROOT __builtin_sqrt
+#endif
+
+double drawing_root(double number) { return number > 0 ? SQUARE_ROOT(number) : 0; }
 
 int drawing_in_range(const struct drawing_sheet *sheet, const struct drawing_places *places) {
     uint32_t last = places->first[sheet->channels];
