@@ -4,14 +4,12 @@ use mathlib.Core.List.{List}
 use Prim.Native.Nat.{ℕ, _≤_}
 use native.Mathlib.Omega.{arith}
 use lib.IntN.{ℤ}
-use Rattle.refusals.specs.Order.{NoneOf}
 use Rattle.refusals.specs.declared.Verdict.the-variants as verdict
 use Rattle.refusals.proofs.Order.{append-none}
 use Rattle.flows.specs.ProvingSet.{wordsFor}
 use Rattle.arrays.specs.Filled.{filled}
 use Rattle.records.specs.Sheet.{nodesOf, edgesOf}
 use Rattle.sheets.specs.Open.{sheetChecks}
-use Rattle.questions.specs.declared.SolveAnswer.{SolveAnswer}
 use Rattle.pages.specs.Page.{answerAt, PageAs}
 use Rattle.pages.specs.declared.Question.{Question}
 use Rattle.pages.specs.declared.Page.{Page}

@@ -1,6 +1,5 @@
 -- The statements of specs/Statements.antt: what each result says by proofs/Refusals.antt, that no list has an 11 by proofs/Numbered.antt.
 use Rattle.parties.specs.Shared.{sharedDrawing}
-use Rattle.sheets.specs.Open.{sheetChecks}
 use Rattle.abi.specs.Statements.{Results, NeverEleven}
 use Rattle.abi.proofs.Refusals as says
 use Rattle.abi.proofs.Numbered.{

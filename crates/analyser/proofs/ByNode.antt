@@ -1,26 +1,25 @@
 -- Totals by node (document 02, Job 9): the total is document 01's sum; what stands where in the slice; what the set says past the last node is passed over.
-use mathlib.Core.Path.{_≡_, refl, sym, _∙_, ap, ap₂, subst}
+use mathlib.Core.Path.{_≡_, sym, _∙_, ap, ap₂, subst}
 use mathlib.Core.Logic.{_↔_}
 use mathlib.Core.Bool.{Bool, true, false}
 use mathlib.Core.List.{List, _++_}
 use Prim.Native.Nat.{ℕ, _+_, _*_, _<_}
-use native.Mathlib.Omega.{arith}
 use lib.ListN.{drop}
 use lib.IntN.{ℤ, pos, _+ℤ_}
 use lib.Signed.{_<ℤ_}
-use Rattle.integers.specs.Sum.{Integers, Naturals, sum, sumℤ, when, bit, count}
+use Rattle.integers.specs.Sum.{Integers, Naturals, sumℤ, when, bit, count}
 use Rattle.integers.proofs.Sums.{sum-ext, sum-nil}
 use Rattle.refusals.specs.Order.{NoneOf}
 use Rattle.refusals.proofs.Order.{append-none, first-none}
 use Rattle.maps.specs.Map.{Map}
 use Rattle.maps.specs.Check.{InRange}
 use Rattle.maps.specs.Cut.{leaves, cut}
-use Rattle.flows.specs.ProvingSet.{bound, Proves, member}
+use Rattle.flows.specs.ProvingSet.{bound, member}
 use Rattle.flows.proofs.Agreement.{cut-agrees}
 use Rattle.arrays.specs.At.{atℤ}
 use Rattle.records.specs.Sheet.{nodesOf, edgesOf, capacityOf, sheetMap}
 use Rattle.sheets.specs.Open.{sheetChecks}
-use Rattle.totals.specs.Subtotal.{subtotal, total, listed}
+use Rattle.totals.specs.Subtotal.{subtotal, total}
 use Rattle.totals.specs.Totals.{totalChecks}
 use Rattle.totals.specs.declared.TotalsAnswer.{TotalsAnswer}
 use Rattle.totals.specs.declared.TotalsAnswer.the-variants.{Total, Refused}

@@ -1,13 +1,13 @@
 -- Job 1's statements, from the contract of a page alone.
-use mathlib.Core.Path.{_≡_, refl, sym, subst, _∙_, ap₂}
+use mathlib.Core.Path.{_≡_, refl, subst, ap₂}
 use mathlib.Core.Logic.{_⊎_, inl, inr}
-use mathlib.Core.List.{List, _++_}
-use Prim.Native.Nat.{ℕ, _≤_, _<_, _+_, _*_}
+use mathlib.Core.List.{List}
+use Prim.Native.Nat.{ℕ, _≤_, _<_, _*_}
 use native.Mathlib.Nat.{zero-mul}
 use native.Mathlib.Omega.{arith}
-use lib.ListN.{length, take, drop}
+use lib.ListN.{length, drop}
 use lib.IntN.{ℤ}
-use Rattle.refusals.specs.Order.{Check, NoneOf, FirstOf}
+use Rattle.refusals.specs.Order.{NoneOf, FirstOf}
 use Rattle.refusals.specs.declared.Verdict.{Verdict}
 use Rattle.refusals.specs.declared.Verdict.the-variants.{Passed}
 use Rattle.refusals.specs.declared.Verdict.the-variants as verdict

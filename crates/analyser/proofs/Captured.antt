@@ -1,8 +1,8 @@
 -- What is said of limits from a capture, from the contract: the window's least is that of some record, and demand 3 on the drawing with the limits found.
-use mathlib.Core.Path.{_≡_, refl, sym, _∙_, ap}
+use mathlib.Core.Path.{_≡_, refl}
 use mathlib.Core.Logic.{_⊎_, inl, inr}
 use mathlib.Core.List.{List}
-use Prim.Native.Nat.{ℕ, _+_, _-_, _*_, _≤_, _<_}
+use Prim.Native.Nat.{ℕ, _*_}
 use native.Mathlib.Omega.{arith}
 use lib.IntN.{ℤ, pos}
 use lib.Signed.{_≤ℤ_}
@@ -18,7 +18,7 @@ use Rattle.capture.specs.Window.{Seen, unseen, least, firstOf, countOf, forward
 use Rattle.capture.specs.Capture.{takingChecks, lastChecks, captureChecks, foundDrawing}
 use Rattle.capture.proofs.Taking.{laid-forward, laid-backward}
 use Rattle.capture.proofs.Least.{LeastOf, least-of}
-use Rattle.analyser.specs.After.{afterChecks, FindsAfter}
+use Rattle.analyser.specs.After.{afterChecks}
 use Rattle.analyser.specs.Statements.{InWindow, LimitsOfCapture}
 use Rattle.analyser.proofs.SheetPlane.{plane}
 use Rattle.analyser.proofs.OnDrawing as on

@@ -12,7 +12,6 @@ use lib.Signed.{_≤ℤ_}
 use Rattle.integers.specs.inner.Limited.{Limited}
 use Rattle.refusals.specs.Order.{NoneOf}
 use Rattle.refusals.proofs.Order.{first-none}
-use Rattle.flows.specs.Settings.{Carries}
 use Rattle.flows.specs.Highest.{Highest}
 use Rattle.flows.specs.ProvingSet.{Proves, member, size}
 use Rattle.flows.proofs.Agreement.{highest-agrees}

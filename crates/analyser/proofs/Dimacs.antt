@@ -6,7 +6,7 @@ use mathlib.Core.Logic.{_≢_}
 use mathlib.Core.List.{List}
 use Prim.Native.Nat.{ℕ, _≤_, _<_}
 use native.Mathlib.Omega.{arith}
-use lib.ListN.{length, take, drop}
+use lib.ListN.{take, drop}
 use lib.Seq.{take-at}
 use lib.IntN.{ℤ, pos, negsuc}
 use lib.Signed.{_≤ℤ_}
@@ -16,7 +16,7 @@ use Rattle.refusals.proofs.Order.{append-none}
 use Rattle.maps.specs.Map.{darts}
 use Rattle.flows.specs.ProvingSet.{member}
 use Rattle.arrays.specs.At.{atℤ}
-use Rattle.records.specs.Sheet.{nodesOf, edgesOf, capacityOf, sheetMap, sheetDrawing}
+use Rattle.records.specs.Sheet.{nodesOf, capacityOf, sheetMap, sheetDrawing}
 use Rattle.sheets.specs.Open.{sheetChecks}
 use Rattle.sheets.proofs.Accepted.{sheet-counts}
 use Rattle.questions.specs.Question.{endChecks}
@@ -29,7 +29,7 @@ use Rattle.dimacs.specs.Text.{natural, dimacsText}
 use Rattle.dimacs.specs.Drawn.{drawnProblem}
 use Rattle.dimacs.specs.Write.{BelowZero, textOf}
 use Rattle.dimacs.specs.declared.DimacsAnswer.the-variants.{Bytes}
-use Rattle.dimacs.proofs.Settling.{NotBelowZero, natural-is}
+use Rattle.dimacs.proofs.Settling.{NotBelowZero}
 use Rattle.dimacs.proofs.Largest.{zero-carries}
 use Rattle.dimacs.proofs.ReadBack as text
 use Rattle.dimacs.proofs.Greatest as greatest

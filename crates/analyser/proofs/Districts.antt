@@ -26,8 +26,6 @@ use Rattle.questions.specs.Question.{endChecks}
 use Rattle.questions.proofs.Asked.{ends-in, ends-differ}
 use Rattle.questions.specs.declared.LargestAnswer.the-variants as largest
 use Rattle.ranges.specs.declared.RangeAnswer.the-variants as range
-use Rattle.analyser.specs.Largest.{FindsLargest}
-use Rattle.analyser.specs.Range.{FindsRange}
 use Rattle.analyser.specs.Statements.{Delivers, Possible, BalancedWithin, Districts}
 use Rattle.analyser.proofs.SheetPlane.{plane, outer-in}
 use Rattle.analyser.proofs.Accepted.{sought}

@@ -1,6 +1,6 @@
 -- Job 13's statements: each "cannot" names a proving set, and what a set excludes it excludes in parts too (flows/proofs/Parts.antt).
 use mathlib.Core.Path.{_≡_, refl, subst}
-use mathlib.Core.Logic.{_≢_, _↔_}
+use mathlib.Core.Logic.{_↔_}
 use mathlib.Core.Bool.{Bool}
 use mathlib.Core.List.{List}
 use Prim.Native.Nat.{ℕ, _<_}
@@ -25,7 +25,6 @@ use Rattle.raising.specs.Raised.{raised}
 use Rattle.raising.specs.declared.RaiseAnswer.the-variants as raise
 use Rattle.analyser.specs.Solve.{solveChecks, Solves}
 use Rattle.analyser.specs.Largest.{FindsLargest}
-use Rattle.analyser.specs.Raise.{RaisesLimit}
 use Rattle.analyser.specs.Drops.{DeliversInParts, NotEvenInDrops, InDrops}
 use Rattle.analyser.proofs.SheetPlane.{plane}
 use Rattle.analyser.proofs.Accepted.{accepted, sought}

@@ -1,7 +1,7 @@
 -- What an operation does not write, from its contract: a slice that is filled in front is as it was behind, and a set that is written is followed by what was
 -- there.
 use mathlib.Core.Path.{_≡_, sym, _∙_, ap, subst}
-use mathlib.Core.List.{List, _++_}
+use mathlib.Core.List.{List}
 use Prim.Native.Nat.{ℕ, _*_}
 use lib.ListN.{drop}
 use lib.Seq.{drop-at}
@@ -15,7 +15,6 @@ use Rattle.arrays.specs.Filled.{tabulate, filled}
 use Rattle.arrays.proofs.Tabulate.{length-tabulate}
 use Rattle.records.specs.Sheet.{nodesOf, edgesOf, capacityOf, sheetMap, sheetDrawing}
 use Rattle.questions.specs.Question.{SetWritten}
-use Rattle.questions.specs.Largest.{LargestFound}
 use Rattle.questions.specs.declared.SolveAnswer.{SolveAnswer}
 use Rattle.questions.specs.declared.SolveAnswer.the-variants.{Can, Cannot, Refused}
 use Rattle.questions.specs.declared.LargestAnswer.{LargestAnswer}

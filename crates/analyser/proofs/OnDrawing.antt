@@ -11,7 +11,6 @@ use lib.Signed.{_≤ℤ_}
 use Rattle.integers.proofs.Omega.{atoms₁, atoms₃, parts, at-most, from-at-most, from-less}
 use Rattle.refusals.specs.Order.{Check, NoneOf}
 use Rattle.refusals.proofs.Order.{first-none}
-use Rattle.maps.specs.Map.{Map}
 use Rattle.maps.specs.Drawing.{Drawing}
 use Rattle.maps.specs.Cut.{cut}
 use Rattle.flows.specs.Settings.{Carries}

@@ -1,15 +1,13 @@
 -- One question, one answer: of Solve by what the search names, of a page's line by Solve's.
-use mathlib.Core.Path.{_≡_, refl, sym, _∙_, ap, subst}
+use mathlib.Core.Path.{_≡_, sym, _∙_, ap}
 use mathlib.Core.Logic.{_≢_}
 use mathlib.Core.List.{List}
 use Prim.Native.Nat.{ℕ, _<_}
-use lib.ListN.{take}
 use lib.IntN.{ℤ}
-use Rattle.refusals.specs.Order.{NoneOf, FirstOf}
+use Rattle.refusals.specs.Order.{NoneOf}
 use Rattle.refusals.proofs.Order.{append-none, first-none, first-one}
-use Rattle.refusals.specs.declared.Verdict.the-variants.{Passed}
 use Rattle.flows.specs.ProvingSet.{wordsFor, size}
-use Rattle.records.specs.Sheet.{nodesOf, edgesOf, sheetMap, sheetDrawing}
+use Rattle.records.specs.Sheet.{nodesOf, edgesOf, sheetDrawing}
 use Rattle.sheets.specs.Open.{sheetChecks}
 use Rattle.questions.specs.Question.{endChecks}
 use Rattle.questions.specs.Solve.{questionChecks}

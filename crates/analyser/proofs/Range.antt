@@ -1,12 +1,11 @@
 -- The least and the largest value (document 02, Job 4), from the contract `FindsRange` alone. Such an answer
 -- is one of Largest, and with the ends exchanged one of Largest again: what is proved of Largest holds at both
 -- ends. What lies between is carried by the potentials of the two flows, weighed (flows/proofs/Between.antt).
-use mathlib.Core.Path.{_≡_, refl, sym, _∙_, ap, subst}
+use mathlib.Core.Path.{_≡_, refl, sym, ap, subst}
 use mathlib.Core.Logic.{_≢_}
 use mathlib.Core.List.{List}
 use Prim.Native.Nat.{ℕ, _<_}
 use native.Mathlib.Omega.{arith}
-use lib.ListN.{length}
 use lib.IntN.{ℤ, pos, negℤ, _+ℤ_, _-ℤ_}
 use lib.Signed.{_≤ℤ_}
 use Rattle.integers.proofs.Omega.{atoms₁, atoms₂, parts, equal, at-most, from-at-most}
@@ -22,7 +21,7 @@ use Rattle.arrays.specs.At.{atℤ}
 use Rattle.arrays.proofs.FillLoops.{filled-front}
 use Rattle.records.specs.Sheet.{nodesOf, edgesOf, capacityOf, outerOf, sheetMap}
 use Rattle.sheets.specs.Open.{sheetChecks}
-use Rattle.questions.specs.Question.{endChecks, roomChecks, SetWritten}
+use Rattle.questions.specs.Question.{endChecks}
 use Rattle.questions.specs.Question.{endChecks}
 use Rattle.questions.specs.declared.LargestAnswer.{LargestAnswer}
 use Rattle.questions.specs.declared.LargestAnswer.the-variants as largest

@@ -1,16 +1,15 @@
 -- An accepted sheet's drawing is plane, its outer dart is one of its darts, and its capacities are within their range;
 -- its circulations have levels, one set of them.
-use mathlib.Core.Path.{_≡_, refl, sym, _∙_, ap, subst}
+use mathlib.Core.Path.{_≡_, subst}
 use mathlib.Core.Logic.{inl, inr}
 use mathlib.Core.List.{List}
-use Prim.Native.Nat.{ℕ, _+_, _*_, _≤_, _<_}
+use Prim.Native.Nat.{ℕ, _<_}
 use native.Mathlib.Omega.{arith}
-use lib.IntN.{ℤ, pos, negsuc}
-use lib.Signed.{_≤ℤ_}
+use lib.IntN.{ℤ}
 use Rattle.integers.specs.inner.Limited.{Limited}
 use Rattle.integers.proofs.Limits.{limited-more}
 use Rattle.refusals.specs.Order.{NoneOf}
-use Rattle.maps.specs.Map.{Map, darts}
+use Rattle.maps.specs.Map.{darts}
 use Rattle.maps.specs.Face.{faces, left}
 use Rattle.maps.proofs.Faces.{left-in}
 use Rattle.flows.specs.Settings.{onDarts, Balanced}
@@ -18,11 +17,10 @@ use Rattle.flows.specs.ZeroFace.{ZeroFace}
 use Rattle.flows.specs.Levels.{Levels}
 use Rattle.flows.specs.inner.Plane.{Plane}
 use Rattle.flows.proofs.Plane.{potentials-at, potentials-one}
-use Rattle.arrays.specs.At.{at}
 use Rattle.arrays.specs.inner.Sizes.{mostOnSheet}
 use Rattle.arrays.specs.inner.Drawn.{Drawn}
 use Rattle.rotations.proofs.Accepted.{accepted}
-use Rattle.records.specs.Sheet.{nodesOf, edgesOf, capacityOf, outerOf, sheetMap}
+use Rattle.records.specs.Sheet.{capacityOf, outerOf, sheetMap}
 use Rattle.records.proofs.Bytes.{bytes-range, bytes-capacities, bytes-pairs}
 use Rattle.records.proofs.Drawing.{capacity-inside}
 use Rattle.sheets.specs.Open.{sheetChecks}

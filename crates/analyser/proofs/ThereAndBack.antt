@@ -1,22 +1,18 @@
 -- There and back, from the contracts of the two level operations: settings to levels to settings, and levels to settings to levels, give the same numbers
 -- (document 01, demand 2). Elements past the edges and past the faces take no part.
-use mathlib.Core.Path.{_≡_, refl, sym, _∙_, ap, ap₂, subst}
-use mathlib.Core.Logic.{_⊎_, inl, inr, _≢_}
-use mathlib.Core.List.{List, [], _∷_, _++_}
-use Prim.Native.Nat.{ℕ, zero, suc, _+_, _*_, _≤_, _<_}
+use mathlib.Core.Path.{_≡_, refl, sym, _∙_, ap₂}
+use mathlib.Core.List.{List}
+use Prim.Native.Nat.{ℕ, _*_, _≤_, _<_}
 use native.Mathlib.Omega.{arith}
-use lib.ListN.{length, getD, drop, List·getD-append}
-use lib.IntN.{ℤ, pos, negsuc, negℤ, _-ℤ_}
-use lib.Signed.{_≤ℤ_, _<ℤ_}
+use lib.ListN.{length}
+use lib.IntN.{ℤ, pos, _-ℤ_}
 use Rattle.integers.specs.inner.Limited.{Limited}
 use Rattle.integers.proofs.Omega.{atoms₁, parts, from-less, from-at-most}
-use Rattle.refusals.specs.Order.{Check, _when_, NoneOf, FirstOf}
+use Rattle.refusals.specs.Order.{Check, NoneOf}
 use Rattle.refusals.proofs.Order.{none-append, append-none, first-none, neither}
-use Rattle.maps.specs.Dart.{rev}
 use Rattle.maps.specs.Map.{Map, darts}
 use Rattle.maps.specs.Face.{faces, left, right}
-use Rattle.maps.specs.Flow.{Circulation, net}
-use Rattle.maps.specs.Potential.{difference, Potentials}
+use Rattle.maps.specs.Potential.{difference}
 use Rattle.maps.proofs.Faces.{left-in, right-in}
 use Rattle.maps.proofs.Planar.{difference-circulation}
 use Rattle.flows.specs.Settings.{onDarts, Within}
@@ -26,17 +22,15 @@ use Rattle.flows.proofs.OnDarts.{onDarts-even, onDarts-of, onDarts-antisymmetri
 use Rattle.flows.proofs.Nets.{net-ext}
 use Rattle.flows.proofs.LevelBound.{levels-small}
 use Rattle.balance.proofs.Within.{none-within, within-none}
-use Rattle.balance.proofs.Balance.{none-circulation, circulation-none}
+use Rattle.balance.proofs.Balance.{circulation-none}
 use Rattle.flows.proofs.Agreement.{onDarts-agrees, within-agrees}
-use Rattle.arrays.specs.Filled.{tabulate, filled}
-use Rattle.arrays.proofs.Tabulate.{length-tabulate, getD-tabulate}
 use Rattle.records.specs.Sheet.{edgesOf, capacityOf, outerOf, sheetMap, sheetDrawing}
 use Rattle.arrays.specs.At.{atℤ}
 use Rattle.sheets.specs.Open.{sheetChecks}
 use Rattle.sheets.proofs.Accepted.{sheet-counts}
 use Rattle.arrays.proofs.FillLoops.{filled-length, filled-front}
 use Rattle.analyser.specs.LevelsOf.{levelsChecks, GivesLevels}
-use Rattle.levels.specs.Level.{LevelOutside, levelChecks}
+use Rattle.levels.specs.Level.{LevelOutside}
 use Rattle.analyser.specs.SettingsOf.{settingsChecks, GivesSettings}
 use Rattle.levels.specs.LevelsOf.{balancedChecks}
 use Rattle.levels.specs.SettingsOf.{leveledChecks, fromLevels}

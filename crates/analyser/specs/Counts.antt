@@ -1,5 +1,5 @@
--- Counts: how many nodes and edges a sheet has. Document 01, "Operations": "Read gives both counts"; this gives them to who has no use for Read's slices, so the
--- sheet checks are all that refuses.
+-- Counts: how many nodes and edges a sheet has. Document 01, "Operations": "Read gives both counts". This gives them to callers that have no use for the slices
+-- of Read, so the sheet checks are all that refuses.
 use Prim.Native.Nat.{ℕ}
 use mathlib.Core.Path.{_≡_}
 use mathlib.Core.List.{List}

@@ -1,17 +1,17 @@
 -- Two answers to one question are one, as a record: a field for each statement, with the papers' words above it. All that a field knows of a run is the
 -- contract of the operation: `Solves` or `AnswersPage`, and `SetNamed` or `PageNamed`, which says of which search the set comes and need not be read: that it
 -- decides the set is what the fields say. The proofs are in proofs/OneAnswer.antt.
-use Prim.Native.Nat.{ℕ, _≤_, _<_}
+use Prim.Native.Nat.{ℕ, _<_}
 use mathlib.Core.Path.{_≡_}
 use mathlib.Core.List.{List}
-use lib.ListN.{length, take}
+use lib.ListN.{take}
 use lib.IntN.{ℤ}
 use Rattle.refusals.specs.declared.Verdict.the-variants.{Passed}
 use Rattle.flows.specs.ProvingSet.{wordsFor}
 use Rattle.records.specs.Sheet.{nodesOf, edgesOf, sheetDrawing}
 use Rattle.questions.specs.inner.Named.{SetNamed}
 use Rattle.questions.specs.declared.SolveAnswer.{SolveAnswer}
-use Rattle.questions.specs.declared.SolveAnswer.the-variants.{Can, Cannot, Refused}
+use Rattle.questions.specs.declared.SolveAnswer.the-variants.{Cannot}
 use Rattle.pages.specs.Stretch.{stretch}
 use Rattle.pages.specs.Page.{answerAt}
 use Rattle.pages.specs.declared.Question.{Question}

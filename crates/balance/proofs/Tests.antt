@@ -7,7 +7,7 @@ use lib.IntN.{ℤ, pos, negℤ, _+ℤ_}
 use lib.Signed.{_<ℤ_, ltZ}
 use mir.Syntax.{w32}
 use mir.Val.{SFits, ofZ, toZ}
-use Rattle.integers.proofs.Omega.{Parts, atoms₂, parts, less, from-less}
+use Rattle.integers.proofs.Omega.{atoms₂, parts, less, from-less}
 use Rattle.integers.proofs.Laws.{lt-of-test, ge-of-test, lt-le-clash}
 use Rattle.signed.proofs.Laws.{number-of-bits}
 use Rattle.refusals.specs.Order.{Decides}

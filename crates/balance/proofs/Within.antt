@@ -4,7 +4,7 @@ use Prim.Native.Nat.{ℕ, _+_, _*_, _<_}
 use native.Mathlib.Omega.{arith}
 use lib.IntN.{ℤ, pos, negsuc, negℤ}
 use lib.Signed.{_≤ℤ_, _<ℤ_}
-use Rattle.integers.proofs.Omega.{Parts, atoms₁, parts, at-most, from-at-most}
+use Rattle.integers.proofs.Omega.{atoms₁, parts, at-most, from-at-most}
 use Rattle.integers.proofs.Laws.{lt-or-ge, lt-le-clash, le-trans}
 use Rattle.refusals.specs.Order.{NoneOf, FirstOf}
 use Rattle.refusals.proofs.Order.{neither, first-none}

@@ -5,7 +5,7 @@ ghost use mathlib.Core.Logic.{_⊎_, _≢_};
 ghost use Prim.Native.Nat.{ℕ, _+_, _*_, _<_, _≤_};
 ghost use lib.Dec.{eqb};
 ghost use lib.ListN.{length};
-ghost use lib.IntN.{ℤ, pos, negℤ, _+ℤ_, _-ℤ_};
+ghost use lib.IntN.{pos, negℤ, _+ℤ_, _-ℤ_};
 ghost use lib.Signed.{_<ℤ_};
 ghost use mir.Syntax.{w32};
 ghost use mir.Val.{SFits};

@@ -1,9 +1,9 @@
 -- The records of a capture checked in turn: what each one found leads out by, and what is known once one more has passed.
-use mathlib.Core.Path.{_≡_, refl, sym, _∙_, ap, subst}
+use mathlib.Core.Path.{_≡_, refl, sym, _∙_, subst}
 use mathlib.Core.Logic.{_≢_, inl, inr}
 use mathlib.Core.Bool.{true, false, cond, true≢false}
 use mathlib.Core.List.{List}
-use Prim.Native.Nat.{ℕ, zero, suc, _+_, _*_, _/_, _≤_, _<_}
+use Prim.Native.Nat.{ℕ, suc, _+_, _*_, _/_, _≤_, _<_}
 use native.Mathlib.Omega.{arith}
 use native.Mathlib.Decide.{ℕ-discrete, decLt}
 use native.Mathlib.Numerals.{add-one}
@@ -14,9 +14,9 @@ use lib.IntN.{ℤ}
 use Rattle.integers.proofs.Tests.{eqb-true, eqb-eq, eqb-false, ltb-true, ltb-lt, ltb-false, and-both}
 use Rattle.refusals.specs.Order.{NoneOf, FirstOf, Judged}
 use Rattle.refusals.specs.declared.Verdict.the-variants.{Passed, Refused}
-use Rattle.refusals.proofs.Order.{first-in-turn, none-in-turn, in-turn-none}
+use Rattle.refusals.proofs.Order.{first-in-turn, none-in-turn}
 use Rattle.records.specs.Record.{recordLength}
-use Rattle.capture.specs.Entry.{entryPlace, tickOf, channelOf, limitOf, tickBefore, begun, entryChecks}
+use Rattle.capture.specs.Entry.{entryPlace, tickOf, channelOf, limitOf, begun, entryChecks}
 use Rattle.capture.specs.Capture.{recordsChecks}
 use Rattle.capture.specs.inner.Read.{entryAt}
 use Rattle.capture.specs.inner.Taken.{Passing, Stands, goesOn, placeBehind, verdictOf}

@@ -1,10 +1,9 @@
 -- Largest on the drawing with the limits found: the checks in front, what the drawing is, and what its answer says.
-use mathlib.Core.Path.{_≡_, refl, sym, _∙_, ap, subst, fun-ext}
+use mathlib.Core.Path.{_≡_, refl, _∙_, subst, fun-ext}
 use mathlib.Core.List.{List, _++_}
-use Prim.Native.Nat.{ℕ, _+_, _*_, _≤_, _<_}
+use Prim.Native.Nat.{ℕ, _*_, _<_}
 use native.Mathlib.Omega.{arith}
-use lib.ListN.{length}
-use lib.IntN.{ℤ, pos, negsuc}
+use lib.IntN.{ℤ}
 use Rattle.integers.specs.inner.Limited.{Limited}
 use Rattle.integers.proofs.Limits.{limited-more}
 use Rattle.refusals.specs.Order.{Check, NoneOf, FirstOf, Judged}
@@ -22,7 +21,7 @@ use Rattle.questions.specs.declared.LargestAnswer.{LargestAnswer}
 use Rattle.questions.specs.declared.LargestAnswer.the-variants.{Value, None, Refused}
 use Rattle.questions.proofs.After.{largest-after}
 use Rattle.capture.specs.Window.{firstOf, countOf, forwardOf, found}
-use Rattle.capture.specs.Capture.{takingChecks, lastChecks, captureChecks, foundDrawing, LimitsGiven, FoundAfter}
+use Rattle.capture.specs.Capture.{takingChecks, lastChecks, captureChecks, foundDrawing, FoundAfter}
 use Rattle.capture.specs.inner.Taken.{LimitsTaken}
 use Rattle.capture.proofs.Limits.{taking-limits}
 use Rattle.capture.proofs.Lasting.{last-search}

@@ -1,19 +1,15 @@
 -- What the reader finds, from the tests that it makes, and what the checks of a record say of it.
-use mathlib.Core.Path.{_≡_, refl, sym, _∙_, ap, subst}
+use mathlib.Core.Path.{_≡_, sym, _∙_, ap}
 use mathlib.Core.Logic.{_≢_, _⊎_, inl, inr}
-use mathlib.Core.Bool.{cond, true, false}
-use mathlib.Core.List.{List, [], _∷_}
-use Prim.Native.Nat.{ℕ, zero, suc, _+_, _*_, _≤_, _<_}
+use mathlib.Core.List.{List}
+use Prim.Native.Nat.{ℕ, _+_, _≤_, _<_}
 use native.Mathlib.Omega.{arith}
 use native.Mathlib.Decide.{ℕ-discrete, decLt}
-use lib.Dec.{eqb, ltb}
 use lib.ListN.{length, getD}
 use lib.IntN.{ℤ, pos}
 use Rattle.integers.proofs.Tests.{eqb-true, eqb-false, ltb-true, ltb-false}
-use Rattle.refusals.specs.Order.{NoneOf, FirstOf}
 use Rattle.fields.specs.Fields.{u16At, u32At, i32At}
 use Rattle.records.specs.Record.{recordLength}
-use Rattle.capture.specs.Entry.{entryPlace, tickOf, channelOf, limitOf, tickBefore, entryChecks}
 use Rattle.capture.specs.inner.Read.{entryAt}
 use Rattle.capture.specs.declared.Entry.{Entry}
 use Rattle.capture.specs.declared.Entry.the-variants.{Wrong, Cut, Full}

@@ -3,12 +3,12 @@ use mathlib.Core.Path.{_≡_, refl, sym, _∙_, ap}
 use mathlib.Core.Logic.{_≢_}
 use mathlib.Core.Bool.{cond, true, false}
 use mathlib.Core.List.{List}
-use Prim.Native.Nat.{ℕ, zero, suc, _+_, _*_, _/_, _%_, _≤_, _<_}
+use Prim.Native.Nat.{ℕ, _+_, _*_, _/_, _%_, _<_}
 use native.Mathlib.Omega.{arith}
 use native.Mathlib.Decide.{ℕ-discrete}
 use native.Mathlib.Numerals.{add-one}
 use lib.Dec.{eqb}
-use lib.ListN.{length, getD, set, replicate, length-set, length-replicate}
+use lib.ListN.{length, set, replicate, length-set, length-replicate}
 use lib.Seq.{getD-set-same, getD-set-other}
 use lib.IntN.{ℤ, pos}
 use lib.Signed.{ltZ}
@@ -16,7 +16,7 @@ use Rattle.integers.proofs.Tests.{eqb-true, eqb-false}
 use Rattle.arrays.specs.At.{at, atℤ}
 use Rattle.arrays.proofs.FillLoops.{same-everywhere}
 use Rattle.capture.specs.Entry.{channelOf, limitOf}
-use Rattle.capture.specs.Window.{Seen, unseen, least, lesser, withLimit, seenIn, orElse, laid}
+use Rattle.capture.specs.Window.{Seen, unseen, least, withLimit, seenIn, orElse, laid}
 use Rattle.capture.specs.inner.Taken.{mark, lowered, Taken}
 
 -- ── the least so far, by the tests that are made ──

@@ -2,7 +2,7 @@
 use mathlib.Core.Path.{_≡_, refl, sym, _∙_, ap, ap₂, subst}
 use mathlib.Core.Logic.{_⊎_, inl, inr}
 use mathlib.Core.Bool.{Bool, true, false, cond, _&&_, true≢false}
-use mathlib.Core.List.{List, [], _∷_, _++_}
+use mathlib.Core.List.{List, _++_}
 use Prim.Native.Nat.{ℕ, _+_, _*_, _≤_, _<_}
 use native.Mathlib.Omega.{arith}
 use lib.Dec.{ltb, lt→ltb}
@@ -12,7 +12,7 @@ use lib.Signed.{_<ℤ_}
 use Rattle.integers.specs.Sum.{count, bit}
 use Rattle.integers.proofs.Tests.{of-T}
 use Rattle.integers.proofs.Counting.{bit-le, sum-le-size}
-use Rattle.refusals.specs.Order.{_when_, NoneOf, FirstOf, Judged}
+use Rattle.refusals.specs.Order.{NoneOf, FirstOf, Judged}
 use Rattle.refusals.specs.declared.Verdict.{Verdict}
 use Rattle.refusals.proofs.Order.{none-append, append-none, first-left, first-right, append-first, first-none, neither}
 use Rattle.maps.specs.Cut.{cut}
@@ -23,12 +23,10 @@ use Rattle.records.specs.Sheet.{nodesOf, edgesOf, capacityOf, outerOf, sheetMap
 use Rattle.sheets.specs.Open.{sheetChecks}
 use Rattle.questions.specs.Question.{endChecks, valueChecks, roomChecks}
 use Rattle.questions.specs.Largest.{searchChecks}
-use Rattle.questions.specs.declared.LargestAnswer.{LargestAnswer}
 use Rattle.questions.specs.declared.LargestAnswer.the-variants as largest
 use Rattle.questions.specs.declared.MarkAnswer.{MarkAnswer}
 use Rattle.questions.specs.declared.MarkAnswer.the-variants as mark
 use Rattle.totals.specs.Totals.{totalChecks}
-use Rattle.totals.specs.declared.TotalsAnswer.{TotalsAnswer}
 use Rattle.totals.specs.declared.TotalsAnswer.the-variants as totals
 use Rattle.analyser.specs.Largest.{largestChecks, FindsLargest}
 use Rattle.analyser.specs.Mark.{Marks}
@@ -36,10 +34,10 @@ use Rattle.analyser.specs.Totals.{totalsChecks, GivesTotals}
 use Rattle.analyser.specs.Statements.{Delivers, ProvesOf}
 use Rattle.analyser.proofs.Statements.{settings-and-levels, possible-and-impossible}
 use Rattle.analyser.proofs.ByNode.{totals-by-node}
-use Rattle.desk.specs.Paper.{Paper, nodesIn, Earns, IsLargest, LastSix, Points}
+use Rattle.desk.specs.Paper.{nodesIn, Earns, IsLargest, LastSix, Points}
 use Rattle.desk.specs.Class.{classChecks, examineChecks, Examines}
 use Rattle.desk.specs.declared.Class.{Class}
-use Rattle.desk.specs.inner.Judged.{ProvesBy, NoneBy, LastSixBy}
+use Rattle.desk.specs.inner.Judged.{ProvesBy, LastSixBy}
 use Rattle.desk.specs.inner.Asked.{Asked}
 use Rattle.desk.specs.declared.Delivery.{Delivery}
 use Rattle.desk.specs.declared.Delivery.the-variants.{Value, None}

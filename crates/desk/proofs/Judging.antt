@@ -1,13 +1,13 @@
 -- A paper judged by numbers: tests of the machine as facts, case by case of which ends the set holds; what earns what.
 use mathlib.Core.Path.{_≡_, refl, sym, _∙_, ap, subst}
-use mathlib.Core.Logic.{_⊎_, inl, inr}
+use mathlib.Core.Logic.{inl, inr}
 use mathlib.Core.Bool.{Bool, true, false, cond, not, true≢false}
-use Prim.Native.Nat.{ℕ, _+_, _≤_}
+use Prim.Native.Nat.{ℕ, _≤_}
 use native.Mathlib.Omega.{arith}
 use lib.Dec.{eqb}
 use lib.IntN.{ℤ, pos, negsuc, negℤ, _+ℤ_}
-use lib.Signed.{_≤ℤ_, _<ℤ_, ltZ}
-use Rattle.integers.proofs.Omega.{Parts, parts, atoms₁, atoms₂, less, at-most, from-less, from-at-most}
+use lib.Signed.{_<ℤ_, ltZ}
+use Rattle.integers.proofs.Omega.{parts, atoms₂, less, from-less, from-at-most}
 use Rattle.integers.proofs.Tests.{eqb-true, eqb-false}
 use Rattle.integers.proofs.Laws.{lt-of-test, ge-of-test, lt-le-clash}
 use mir.Syntax.{w32}
@@ -16,7 +16,7 @@ use Rattle.signed.proofs.Laws.{number-of-bits, same-of-test, apart-of-test}
 use Rattle.refusals.specs.Order.{Decides}
 use Rattle.refusals.proofs.Decisions.{decides-by}
 use Rattle.desk.specs.Paper.{claimOf, Earns}
-use Rattle.desk.specs.inner.Judged.{IsValue, IsNone, ProvesBy, NoneBy, ValuePoints, NonePoints, LastSixBy}
+use Rattle.desk.specs.inner.Judged.{IsValue, ProvesBy, NoneBy, ValuePoints, NonePoints, LastSixBy}
 use Rattle.desk.specs.declared.Delivery.{Delivery}
 use Rattle.desk.specs.declared.Delivery.the-variants.{Value, None}
 

@@ -13,7 +13,7 @@ use Rattle.integers.specs.Sum.{sum, sumℕ}
 use Rattle.flows.specs.ProvingSet.{wordsFor}
 use Rattle.arrays.specs.At.{at, atℤ}
 use Rattle.records.specs.Sheet.{nodesOf, edgesOf}
-use Rattle.pages.specs.Stretch.{stretch, SameFrom}
+use Rattle.pages.specs.Stretch.{SameFrom}
 use Rattle.desk.specs.Paper.{claimOf, nodesIn, paperOf, Points}
 use Rattle.desk.specs.declared.Delivery.{Delivery}
 

@@ -2,15 +2,14 @@
 use mathlib.Core.Path.{_≡_, refl, sym, _∙_, ap, ap₂, subst}
 use mathlib.Core.Logic.{_⊎_, _↔_, inl, inr}
 use mathlib.Core.Bool.{Bool, true, false, _&&_, true≢false}
-use mathlib.Core.List.{List, _++_}
+use mathlib.Core.List.{List}
 use Prim.Native.Nat.{ℕ, zero, suc, _+_, _*_, _-_, _≤_, _<_}
 use native.Mathlib.Omega.{arith}
 use native.Mathlib.Nat.{suc-mul}
 use lib.Dec.{ltb, ltb→lt, nltb→le}
-use lib.ListN.{length, take, drop, take-append-drop}
+use lib.ListN.{length}
 use lib.Seq.{ext-getD, getD-drop}
 use lib.IntN.{ℤ}
-use lib.Signed.{_≤ℤ_}
 use Rattle.integers.specs.Sum.{Naturals, sum, sumℕ}
 use Rattle.integers.proofs.Sums.{sum-ext}
 use Rattle.integers.proofs.Tests.{either, T-of}
@@ -23,10 +22,9 @@ use Rattle.records.specs.Sheet.{nodesOf, edgesOf}
 use Rattle.sheets.specs.Open.{sheetChecks}
 use Rattle.questions.specs.Question.{endChecks, valueChecks}
 use Rattle.questions.specs.declared.LargestAnswer.the-variants as largest
-use Rattle.analyser.specs.Largest.{FindsLargest}
 use Rattle.analyser.proofs.Statements.{possible-and-impossible}
-use Rattle.desk.specs.Paper.{Paper, nodesIn, paperOf, Earns, IsLargest, LastSix, Points}
-use Rattle.desk.specs.Class.{classChecks, examineChecks, Figures, Examines}
+use Rattle.desk.specs.Paper.{Paper, nodesIn, paperOf, IsLargest, LastSix, Points}
+use Rattle.desk.specs.Class.{examineChecks, Examines}
 use Rattle.desk.specs.Statements.{ExamDesk}
 use Rattle.desk.specs.declared.Delivery.{Delivery}
 use Rattle.desk.specs.declared.Delivery.the-variants.{Value, None}

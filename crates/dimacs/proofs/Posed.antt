@@ -1,7 +1,7 @@
 -- A drawing's problem is well posed.
-use mathlib.Core.Path.{_≡_, sym, subst}
+use mathlib.Core.Path.{sym, subst}
 use mathlib.Core.Logic.{_≢_}
-use Prim.Native.Nat.{ℕ, _+_, _≤_, _<_}
+use Prim.Native.Nat.{ℕ, _≤_, _<_}
 use native.Mathlib.Omega.{arith}
 use lib.ListN.{length}
 use lib.IntN.{ℤ}
@@ -9,8 +9,8 @@ use Rattle.maps.specs.Dart.{rev}
 use Rattle.maps.specs.Map.{Map, darts}
 use Rattle.maps.specs.Check.{InRange}
 use Rattle.maps.proofs.Darts.{rev-in}
-use Rattle.dimacs.specs.Problem.{Arc, Problem, arcAt, WellPosed}
-use Rattle.dimacs.specs.Drawn.{arcOf, drawnProblem}
+use Rattle.dimacs.specs.Problem.{Problem, WellPosed}
+use Rattle.dimacs.specs.Drawn.{drawnProblem}
 use Rattle.dimacs.proofs.Arcs.{arcs-many, arc-is}
 
 module _ (𝓜 : Map) (c : ℕ → ℤ) (s t : ℕ) (range : InRange 𝓜) (s-in : s < 𝓜 .nodes) (t-in : t < 𝓜 .nodes) (s≢t : s ≢ t) where

@@ -12,7 +12,7 @@ use Rattle.texts.specs.Lines.{lines}
 use Rattle.texts.specs.Numeral.{numeral}
 use Rattle.texts.proofs.ReadBack.{decimal-read}
 use Rattle.dimacs.specs.Problem.{Arc, Problem}
-use Rattle.dimacs.specs.Reading.{pieces, onFirst, notEmpty, fieldsOf, same, withCounts, withSource, withSink, withArc, told, ofLines, problemOf}
+use Rattle.dimacs.specs.Reading.{pieces, notEmpty, fieldsOf, same, withCounts, withSource, withSink, withArc, told, ofLines, problemOf}
 use Rattle.dimacs.specs.Text.{natural, problemLine, nodeLine, arcLine, dimacsText}
 use Rattle.dimacs.specs.Drawn.{arcOf, drawnProblem}
 use Rattle.dimacs.proofs.Parting.{free, free-append, pieces-more, decimal-free, field-more, field-last, number-more, number-last}

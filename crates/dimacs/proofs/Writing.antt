@@ -7,7 +7,7 @@ use native.Mathlib.Omega.{arith}
 use lib.ListN.{length}
 use Rattle.refusals.specs.Order.{Check, _when_, NoneOf, FirstOf}
 use Rattle.refusals.proofs.Order.{none-append, append-none, first-left, first-right}
-use Rattle.maps.specs.Map.{Map, darts}
+use Rattle.maps.specs.Map.{darts}
 use Rattle.maps.specs.Drawing.{Drawing}
 use Rattle.questions.specs.Question.{endChecks}
 use Rattle.dimacs.specs.Write.{BelowZero, textOf, textChecks, TextWritten}

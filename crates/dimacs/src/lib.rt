@@ -1,7 +1,7 @@
 // The DIMACS maximum flow text of a drawing that is open and sound, held in lent arrays. Document 02, Job 2. How long the text is, is found before its first
 // byte is written, straight into the lent output.
 ghost use mathlib.Core.Path.{_≡_};
-ghost use mathlib.Core.List.{[], _∷_, _++_};
+ghost use mathlib.Core.List.{_∷_, _++_};
 ghost use Prim.Native.Nat.{_+_, _≤_};
 ghost use lib.ListN.{length};
 ghost use lib.IntN.{pos};

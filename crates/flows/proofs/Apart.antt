@@ -1,15 +1,13 @@
 -- Source and sink in different parts (document 02, Job 8): no dart leaves a part, so its cut is 0, the source's part proves every value above 0 impossible and
 -- the sink's every value below 0. Only 0 can be carried.
-use mathlib.Core.Path.{_≡_, refl, sym, _∙_, ap, ap₂, subst}
+use mathlib.Core.Path.{_≡_, refl, sym, ap}
 use mathlib.Core.Logic.{_≢_, _⊎_, inl, inr}
 use mathlib.Core.Bool.{Bool, true, false, not, _&&_}
 use Prim.Native.Nat.{ℕ, _<_}
-use native.Mathlib.Omega.{arith}
 use lib.Dec.{eqb}
-use lib.IntN.{ℤ, pos, negℤ}
+use lib.IntN.{ℤ, pos}
 use lib.Signed.{_≤ℤ_, _<ℤ_}
 use Rattle.integers.specs.Sum.{Integers, when}
-use Rattle.integers.proofs.Omega.{atoms₁, parts, less, from-less}
 use Rattle.integers.proofs.Laws.{lt-or-ge, le-antisym}
 use Rattle.integers.proofs.Tests.{eqb-true, eqb-false}
 use Rattle.integers.proofs.Sums.{sum-nil}
@@ -17,7 +15,7 @@ use Rattle.maps.specs.Map.{Map, darts, head}
 use Rattle.maps.specs.Walk.{Walk}
 use Rattle.maps.specs.Check.{InRange}
 use Rattle.maps.specs.Cut.{leaves, cut}
-use Rattle.maps.proofs.Walks.{node-label, label-across, walk-of-label, walk-back}
+use Rattle.maps.proofs.Walks.{node-label, label-across, walk-of-label}
 use Rattle.flows.specs.Settings.{Carries}
 use Rattle.flows.specs.ProvingSet.{Proves}
 use Rattle.flows.specs.inner.Sides.{AtSource, AtSink}

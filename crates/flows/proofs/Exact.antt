@@ -3,27 +3,27 @@
 use mathlib.Core.Path.{_≡_, refl, sym, _∙_, ap, ap₂}
 use mathlib.Core.Logic.{_≢_}
 use mathlib.Core.Bool.{Bool, true, false, cond}
-use Prim.Native.Nat.{ℕ, zero, suc, _+_, _*_, _≤_, _<_}
+use Prim.Native.Nat.{ℕ, _<_}
 use native.Mathlib.Omega.{arith}
 use lib.Dec.{eqb}
 use lib.IntN.{ℤ, pos, negℤ, _+ℤ_, _-ℤ_, _*ℤ_, +ℤ-idl, +ℤ-idr, +ℤ-invr}
 use lib.Signed.{_≤ℤ_, _<ℤ_}
-use Rattle.integers.specs.Sum.{Integers, sumℤ, when}
-use Rattle.integers.proofs.Omega.{atoms₁, atoms₂, atoms₃, parts, equal, less, at-most, from-equal, from-less, from-at-most}
+use Rattle.integers.specs.Sum.{Integers, when}
+use Rattle.integers.proofs.Omega.{atoms₁, atoms₂, atoms₃, parts, equal, less, at-most, from-less, from-at-most}
 use Rattle.integers.proofs.Laws.{lt-le-clash}
 use Rattle.integers.proofs.Sums.{sum-ext}
 use Rattle.integers.proofs.IntegerSums.{sum-sub, when-neg, when-add}
 use Rattle.maps.specs.Dart.{rev}
 use Rattle.maps.specs.Map.{Map, darts}
 use Rattle.maps.specs.Check.{InRange}
-use Rattle.maps.specs.Flow.{Antisymmetric, net, Flow}
+use Rattle.maps.specs.Flow.{net, Flow}
 use Rattle.maps.specs.Cut.{leaves, cut, sent}
 use Rattle.maps.specs.inner.FaceWalk.{FaceWalk, total}
 use Rattle.maps.specs.Potential.{Heights}
 use Rattle.maps.proofs.Cuts.{cut-bound, flow-sent}
 use Rattle.maps.proofs.LayerCake.{above}
 use Rattle.maps.proofs.Rings.{winding, ring-heights, ring-threshold}
-use Rattle.flows.specs.Settings.{onDarts, Carries}
+use Rattle.flows.specs.Settings.{Carries}
 use Rattle.flows.specs.ProvingSet.{bound, Proves}
 use Rattle.flows.proofs.Nets.{net-mul}
 use Rattle.flows.specs.inner.Plane.{Plane}

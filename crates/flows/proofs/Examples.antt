@@ -2,21 +2,19 @@
 use mathlib.Core.Path.{_≡_, refl, sym, _∙_, ap}
 use mathlib.Core.Logic.{_⊎_, inl, inr}
 use mathlib.Core.List.{List, [], _∷_}
-use mathlib.Core.Bool.{Bool, true, false}
-use Prim.Native.Nat.{ℕ, zero, suc, _+_, _*_, _≤_, _<_}
+use mathlib.Core.Bool.{true}
+use Prim.Native.Nat.{ℕ, zero, suc, _<_}
 use native.Mathlib.Omega.{arith}
-use lib.Dec.{eqb}
 use lib.ListN.{getD}
 use lib.Count.{ones, onesIn}
 use lib.IntN.{ℤ, pos, negsuc, negℤ, _+ℤ_, _-ℤ_, _*ℤ_}
-use lib.Signed.{_≤ℤ_, _<ℤ_, leZ, ltZ}
+use lib.Signed.{_≤ℤ_, leZ}
 use Rattle.integers.specs.Sum.{sum}
 use Rattle.integers.proofs.Omega.{atoms₁, atoms₂, atoms₃, atoms₅, parts, equal, at-most, from-equal, from-at-most}
 use Rattle.integers.proofs.Laws.{lt-of-test, le-of-test}
 use Rattle.integers.proofs.Tests.{every, every-equalℤ, every-at-most, eqZ}
 use Rattle.maps.specs.Dart.{rev}
 use Rattle.maps.specs.Orbit.{iter, lowest, isLowest, orbits, orbitOf}
-use Rattle.maps.specs.Map.{Map}
 use Rattle.maps.specs.Face.{faces, left}
 use Rattle.maps.specs.Flow.{net}
 use Rattle.maps.specs.Cut.{cut}

@@ -1,18 +1,17 @@
 -- The highest answer: potentials that no dart can lower and that are above all others of that kind make it; and there is at most one.
-use mathlib.Core.Path.{_≡_, refl, sym, _∙_, ap, ap₂}
+use mathlib.Core.Path.{_≡_, sym, _∙_, ap, ap₂}
 use mathlib.Core.Logic.{_≢_}
-use Prim.Native.Nat.{ℕ, _+_, _*_, _≤_, _<_}
+use Prim.Native.Nat.{ℕ, _<_}
 use native.Mathlib.Omega.{arith}
 use native.Mathlib.Decide.{ℕ-discrete}
 use lib.IntN.{ℤ, pos, negℤ, _+ℤ_, _-ℤ_, _*ℤ_, +ℤ-invr}
 use lib.Signed.{_≤ℤ_}
-use Rattle.integers.proofs.Omega.{atoms₂, atoms₃, atoms₄, atoms₅, parts, equal, at-most, from-equal, from-at-most}
+use Rattle.integers.proofs.Omega.{atoms₂, atoms₄, atoms₅, parts, equal, at-most, from-equal, from-at-most}
 use Rattle.integers.proofs.Laws.{le-antisym, equal-of-sub}
-use Rattle.maps.specs.Dart.{rev}
 use Rattle.maps.specs.Map.{Map, darts}
 use Rattle.maps.specs.Face.{faces, left, right}
-use Rattle.maps.specs.Flow.{net, Circulation, Flow}
-use Rattle.maps.specs.Potential.{difference, Potentials}
+use Rattle.maps.specs.Flow.{net}
+use Rattle.maps.specs.Potential.{Potentials}
 use Rattle.maps.proofs.Cuts.{sink-takes}
 use Rattle.maps.proofs.Faces.{left-in, right-in}
 use Rattle.flows.specs.Settings.{onDarts, Carries, Balanced}

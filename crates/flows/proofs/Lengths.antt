@@ -1,21 +1,18 @@
 -- Lengths of darts for a value: the capacity less the value along what carries it. Potentials that no dart can lower, and flows of that value, are the same
 -- thing.
-use mathlib.Core.Path.{_≡_, refl, sym, _∙_, ap, ap₂}
+use mathlib.Core.Path.{_≡_, refl, _∙_, ap₂}
 use mathlib.Core.Logic.{_≢_}
-use mathlib.Core.Bool.{Bool, true, false}
-use Prim.Native.Nat.{ℕ, zero, suc, _+_, _*_, _≤_, _<_}
+use Prim.Native.Nat.{ℕ, _<_}
 use native.Mathlib.Omega.{arith}
 use lib.Dec.{eqb}
-use lib.IntN.{ℤ, pos, negℤ, _+ℤ_, _-ℤ_, _*ℤ_}
-use lib.Signed.{_≤ℤ_}
+use lib.IntN.{ℤ, pos, _+ℤ_, _-ℤ_, _*ℤ_}
 use Rattle.integers.specs.Sum.{when}
-use Rattle.integers.proofs.Omega.{atoms₁, atoms₂, atoms₃, atoms₄, parts, equal, at-most, from-equal, from-at-most}
+use Rattle.integers.proofs.Omega.{atoms₁, atoms₃, atoms₄, parts, equal, at-most, from-at-most}
 use Rattle.integers.proofs.Tests.{eqb-true, eqb-false}
-use Rattle.maps.specs.Dart.{rev}
 use Rattle.maps.specs.Map.{Map, darts}
 use Rattle.maps.specs.Face.{left, right}
 use Rattle.maps.specs.Check.{Sound}
-use Rattle.maps.specs.Flow.{Antisymmetric, net, Circulation, Flow}
+use Rattle.maps.specs.Flow.{Antisymmetric, net}
 use Rattle.maps.specs.Potential.{difference}
 use Rattle.maps.proofs.Planar.{difference-circulation}
 use Rattle.flows.specs.Settings.{onDarts, Carries}

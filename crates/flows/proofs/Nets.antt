@@ -1,13 +1,13 @@
 -- Net flows are linear, and tell no two functions apart that agree on the darts.
-use mathlib.Core.Path.{_≡_, refl, sym, _∙_, ap}
+use mathlib.Core.Path.{_≡_, _∙_, ap}
 use Prim.Native.Nat.{ℕ, _<_}
 use lib.Dec.{eqb}
-use lib.IntN.{ℤ, pos, negℤ, _+ℤ_, _-ℤ_, _*ℤ_}
-use Rattle.integers.specs.Sum.{Integers, sumℤ, when}
+use lib.IntN.{ℤ, negℤ, _+ℤ_, _-ℤ_, _*ℤ_}
+use Rattle.integers.specs.Sum.{Integers, when}
 use Rattle.integers.proofs.Sums.{sum-ext, sum-add}
 use Rattle.integers.proofs.IntegerSums.{sum-neg, sum-mul, when-neg, when-add, when-mul}
 use Rattle.maps.specs.Map.{Map, darts}
-use Rattle.maps.specs.Flow.{net, Circulation, Flow}
+use Rattle.maps.specs.Flow.{net}
 
 module _ (𝓜 : Map) (v : ℕ) where
   abbrev here : ℕ → ℤ → ℤ

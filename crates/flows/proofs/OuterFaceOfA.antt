@@ -1,6 +1,6 @@
 -- The outer face on drawing A, by computation: with dart 1 as the outer dart it is the face left of that dart, face 1, and the levels of the settings 2, 1, −3,
 -- which are 0, −2, −3 with face 0 at 0, are all 2 higher (document 02, Job 6).
-use mathlib.Core.Path.{_≡_, refl, ap}
+use mathlib.Core.Path.{refl, ap}
 use mathlib.Core.Logic.{inl}
 use mathlib.Core.List.{List, [], _∷_}
 use Prim.Native.Nat.{ℕ}

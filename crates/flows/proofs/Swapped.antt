@@ -1,6 +1,6 @@
 -- Source and sink exchanged: what carries a value from t to s carries its negative from s to t, the highest answer is the same, and so is what a set proves.
 -- The least value from s to t is so the negative of the largest from t to s (document 02, Job 4).
-use mathlib.Core.Path.{_≡_, refl, sym, _∙_, ap, subst}
+use mathlib.Core.Path.{_≡_, refl, sym, _∙_, subst}
 use mathlib.Core.Logic.{_≢_}
 use mathlib.Core.Bool.{Bool, true, false, cond}
 use Prim.Native.Nat.{ℕ, _<_}

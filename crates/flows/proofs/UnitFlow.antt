@@ -1,22 +1,21 @@
 -- A unit flow from s to t: one along a walk, minus one against it. It carries any value when multiplied, and sends the bound of a proving set out of a set.
 use mathlib.Core.Path.{_≡_, refl, sym, _∙_, ap, ap₂}
-use mathlib.Core.Logic.{_≢_}
 use mathlib.Core.Bool.{Bool, true, false, cond}
-use Prim.Native.Nat.{ℕ, zero, suc, _+_, _*_, _≤_, _<_}
+use Prim.Native.Nat.{ℕ, _<_}
 use native.Mathlib.Omega.{arith}
 use lib.Dec.{eqb}
 use lib.IntN.{ℤ, pos, negℤ, _+ℤ_, _-ℤ_, _*ℤ_, +ℤ-invr}
-use Rattle.integers.specs.Sum.{Integers, sumℤ, when, bit}
-use Rattle.integers.proofs.Omega.{atoms₁, atoms₂, atoms₃, parts, equal}
+use Rattle.integers.specs.Sum.{Integers, when}
+use Rattle.integers.proofs.Omega.{atoms₂, atoms₃, parts, equal}
 use Rattle.integers.proofs.Laws.{neg-sub}
-use Rattle.integers.proofs.Sums.{sum-ext, sum-nil, sum-add, sum-pick}
-use Rattle.integers.proofs.IntegerSums.{sum-sub, when-zero, when-mul}
+use Rattle.integers.proofs.Sums.{sum-ext, sum-nil, sum-pick}
+use Rattle.integers.proofs.IntegerSums.{sum-sub, when-zero}
 use Rattle.maps.specs.Dart.{rev}
 use Rattle.maps.specs.Map.{Map, darts, head}
 use Rattle.maps.specs.Walk.{Walk, here, along}
 use Rattle.maps.specs.Flow.{Antisymmetric, net}
 use Rattle.maps.proofs.Darts.{rev-rev, rev-in, eqb-rev}
-use Rattle.flows.proofs.Nets.{net-ext, net-add}
+use Rattle.flows.proofs.Nets.{net-add}
 use Rattle.flows.specs.inner.UnitFlow.{UnitFlow, Carrier, single, walkFlow}
 
 pub single-antisymmetric : (d i : ℕ) → single d (rev i) ≡ negℤ (single d i)

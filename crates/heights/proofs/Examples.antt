@@ -1,6 +1,6 @@
 -- A worked example: edges from node 0 to node 1 and from node 1 to node 2, with heights 0, −1 and 2. The winding of a dart is the drop along it: 1 and −3, and
 -- the negatives of these for the reverses.
-use mathlib.Core.Path.{_≡_, refl}
+use mathlib.Core.Path.{refl}
 use mathlib.Core.List.{[], _∷_}
 use Prim.Native.Nat.{ℕ, zero, suc, _<_}
 use native.Mathlib.Omega.{arith}

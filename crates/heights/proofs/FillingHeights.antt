@@ -17,7 +17,7 @@ use Rattle.traversal.specs.inner.Spread.{Follows}
 use Rattle.traversal.specs.inner.Forest.{Reached}
 use Rattle.traversal.proofs.Spreading.{all-met}
 use Rattle.heights.specs.inner.Heights.{Based, Fillable, HeightsOf, Filled, Rooted}
-use Rattle.arrays.specs.At.{at, atℤ}
+use Rattle.arrays.specs.At.{atℤ}
 use Rattle.integers.specs.inner.Limited.{Limited}
 use Rattle.arrays.specs.inner.Sizes.{mostWinding, mostHeight}
 use Rattle.integers.proofs.Limits.{limited-minus, limited-more, limited-zero}

@@ -1,10 +1,10 @@
 -- Heights with given differences and with the first node of each tree at 0 are one, at the node of every dart.
-use mathlib.Core.Path.{_≡_, refl, sym, _∙_, ap, ap₂, subst}
+use mathlib.Core.Path.{_≡_, refl, sym, _∙_, ap, subst}
 use mathlib.Core.Logic.{_⊎_, inl, inr}
-use Prim.Native.Nat.{ℕ, zero, suc, _+_, _≤_, _<_}
+use Prim.Native.Nat.{ℕ, zero, suc, _+_, _<_}
 use native.Mathlib.Omega.{arith}
 use borrow.Author.Count.{below-more}
-use lib.IntN.{ℤ, pos, _-ℤ_}
+use lib.IntN.{ℤ, pos}
 use Rattle.integers.proofs.Omega.{atoms₄, parts, equal, from-equal}
 use Rattle.maps.specs.Dart.{rev}
 use Rattle.traversal.specs.inner.Spread.{Follows}

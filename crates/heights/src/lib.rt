@@ -2,9 +2,6 @@
 // one difference away, or at the node of one met before, or begins a tree.
 ghost use mathlib.Core.Path.{_≡_};
 ghost use lib.ListN.{length};
-ghost use lib.IntN.{_-ℤ_};
-ghost use mir.Syntax.{w32};
-ghost use mir.Val.{SFits};
 ghost use Rattle.heights.specs.inner.Heights.{Fillable, Filled, Rooted};
 ghost use Rattle.arrays.specs.At.{at, atℤ};
 

@@ -2,10 +2,10 @@
 use mathlib.Core.Path.{_≡_, refl, sym, _∙_, ap}
 use mathlib.Core.Logic.{_⊎_, inl, inr}
 use mathlib.Core.Bool.{Bool, true, false, cond, not, _&&_}
-use Prim.Native.Nat.{ℕ, zero, suc, _+_, _*_, _-_, _≤_, _<_, min}
+use Prim.Native.Nat.{ℕ, zero, suc, _+_, _-_, _≤_, _<_, min}
 use native.Mathlib.Omega.{arith}
 use native.Mathlib.Decide.{ℕ-discrete, decLe, decLt}
-use native.Mathlib.Nat.{add-zero, add-mul, zero-mul, one-mul}
+use native.Mathlib.Nat.{add-zero}
 use lib.Dec.{eqb, ltb}
 use Rattle.integers.specs.Sum.{Naturals, sum, sumℕ, bit, count}
 use Rattle.integers.proofs.Tests.{either, ltb-true, ltb-false}

@@ -1,10 +1,9 @@
 -- An injection of 0..n-1 into itself is onto, and has an inverse; sums are reindexed by it.
-use mathlib.Core.Path.{_≡_, refl, sym, _∙_, ap}
+use mathlib.Core.Path.{_≡_, sym, _∙_, ap}
 use mathlib.Core.Logic.{_⊎_, inl, inr, _≢_}
 use mathlib.Core.Bool.{Bool, true, false, cond, true≢false}
-use Prim.Native.Nat.{ℕ, zero, suc, _+_, _≤_, _<_}
+use Prim.Native.Nat.{ℕ, zero, suc, _≤_, _<_}
 use native.Mathlib.Omega.{arith}
-use native.Mathlib.Decide.{ℕ-discrete}
 use lib.Dec.{eqb}
 use Rattle.integers.specs.Sum.{Monoid, Naturals, sum, sumℕ, bit, count}
 use Rattle.integers.proofs.Tests.{either, eqb-eq}

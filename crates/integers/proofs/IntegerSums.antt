@@ -1,15 +1,15 @@
 -- Sums of integers: negation, order, a common factor, naturals among them, and the term that makes a sum negative.
-use mathlib.Core.Path.{_≡_, refl, sym, _∙_, ap, ap₂}
+use mathlib.Core.Path.{_≡_, refl, sym, _∙_, ap}
 use mathlib.Core.Logic.{_⊎_, inl, inr}
-use mathlib.Core.Bool.{Bool, true, false, cond}
-use Prim.Native.Nat.{ℕ, zero, suc, _+_, _*_, _≤_, _<_}
+use mathlib.Core.Bool.{Bool, true, false}
+use Prim.Native.Nat.{ℕ, zero, suc, _<_}
 use native.Mathlib.Omega.{arith}
-use lib.IntN.{ℤ, pos, negsuc, negℤ, _+ℤ_, _-ℤ_, _*ℤ_, negℤ-+ℤ}
+use lib.IntN.{ℤ, pos, negℤ, _+ℤ_, _-ℤ_, _*ℤ_, negℤ-+ℤ}
 use lib.Signed.{_≤ℤ_, _<ℤ_, ≤ℤ-refl}
-use Rattle.integers.specs.Sum.{Integers, Naturals, sum, sumℤ, sumℕ, when}
-use Rattle.integers.proofs.Omega.{Parts, atoms₁, atoms₂, parts, at-most, equal, from-less, from-at-most}
+use Rattle.integers.specs.Sum.{Integers, sum, sumℤ, sumℕ, when}
+use Rattle.integers.proofs.Omega.{atoms₁, atoms₂, parts, equal, from-less, from-at-most}
 use Rattle.integers.proofs.Laws.{le-add, lt-or-ge, lt-le-clash, mul-distrib-left}
-use Rattle.integers.proofs.Sums.{sum-ext, sum-nil, sum-add, sum-bijection}
+use Rattle.integers.proofs.Sums.{sum-add}
 
 -- ── selected terms ──
 pub when-zero : (b : Bool) → when b (pos 0) ≡ pos 0

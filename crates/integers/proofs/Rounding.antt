@@ -1,6 +1,6 @@
 -- Rounding down to a multiple: the greatest whole number whose multiple is at most z, and that an order up to a multiple is kept when both sides are rounded.
 use mathlib.Core.Logic.{_⊎_, inl, inr}
-use Prim.Native.Nat.{ℕ, suc, _/_, _<_}
+use Prim.Native.Nat.{ℕ, suc, _/_}
 use native.Mathlib.Omega.{arith}
 use native.Mathlib.Nat.{div-add-mod, mod-lt}
 use lib.IntN.{ℤ, pos, negsuc, _+ℤ_, _*ℤ_}

@@ -4,7 +4,7 @@ use mathlib.Core.Path.{_≡_, refl, sym, ap, ap₂, subst, _∙_}
 use mathlib.Core.Logic.{_≢_, _⊎_, inl, inr}
 use mathlib.Core.Bool.{cond}
 use mathlib.Core.List.{List, [], _∷_, _++_}
-use Prim.Native.Nat.{ℕ, zero, suc, _+_, _*_, _/_, _%_, _^_, _≤_, _<_}
+use Prim.Native.Nat.{ℕ, zero, suc, _*_, _/_, _%_, _^_, _≤_, _<_}
 use native.Mathlib.Omega.{arith}
 use lib.Dec.{eqb}
 use lib.ListN.{length, getD, take, drop}
@@ -13,17 +13,16 @@ use lib.IntN.{ℤ}
 use Rattle.integers.specs.inner.Limited.{Limited}
 use Rattle.refusals.specs.Order.{Check, NoneOf, FirstOf}
 use Rattle.refusals.proofs.Order.{none-append, append-none, append-first, first-left, first-right, first-none, neither}
-use Rattle.maps.specs.Map.{darts}
 use Rattle.flows.specs.ProvingSet.{wordsFor, member, size}
 use Rattle.flows.proofs.Limits.{settings-limited}
 use Rattle.flows.proofs.OnDarts.{onDarts-even}
-use Rattle.records.specs.Record.{bodyLength, recordChecks}
+use Rattle.records.specs.Record.{recordChecks}
 use Rattle.records.specs.Sheet.{nodesOf, edgesOf, capacityOf, sheetMap, sheetDrawing}
 use Rattle.arrays.specs.At.{atℤ}
 use Rattle.sheets.specs.Open.{sheetChecks}
 use Rattle.sheets.proofs.Opening.{bytes-room}
 use Rattle.sheets.proofs.Accepted.{sheet-bytes, sheet-counts}
-use Rattle.questions.specs.Question.{endChecks, valueChecks, roomChecks, SetWritten}
+use Rattle.questions.specs.Question.{endChecks, valueChecks, roomChecks}
 use Rattle.questions.specs.Solve.{questionChecks}
 use Rattle.analyser.specs.Solve.{solveChecks, Solves}
 use Rattle.questions.specs.declared.SolveAnswer.{SolveAnswer}
@@ -36,7 +35,6 @@ use Rattle.analyser.proofs.SheetPlane.{capacity-small}
 use Rattle.analyser.proofs.Demand3.{can-highest, set-excludes}
 use Rattle.texts.specs.Decimal.{decimal}
 use Rattle.texts.specs.inner.Placed.{Placed}
-use Rattle.texts.specs.Lines.{lines}
 use Rattle.texts.proofs.Joined.{placed-front, lines-agree}
 use Rattle.key_text.specs.Question.{sourceOf, sinkOf, valueOf, sheetOf, keyChecks}
 use Rattle.key_text.specs.Text.{nodeLine, canText, cannotLine, cannotText, refusedText}

@@ -8,7 +8,7 @@ use lib.ListN.{length, take, length-drop}
 use lib.Seq.{take-all}
 use Rattle.refusals.specs.Order.{Check, NoneOf, FirstOf}
 use Rattle.refusals.proofs.Order.{append-none}
-use Rattle.records.specs.Record.{recordLength, bodyLength, recordChecks}
+use Rattle.records.specs.Record.{recordLength, recordChecks}
 use Rattle.records.specs.Sheet.{nodesOf}
 use Rattle.sheets.specs.Open.{sheetChecks}
 use Rattle.sheets.proofs.Accepted.{sheet-bytes}

@@ -1,8 +1,8 @@
 -- The climb on its way: a walk leads from the node of the dart reached to the node where the climb began, and the value was taken along it. No edge is used
 -- twice, because the places of the darts fall: of an edge used, one dart stands after the dart reached.
 use mathlib.Core.Path.{_≡_, refl, sym, _∙_, ap, ap₂, subst}
-use mathlib.Core.Logic.{_⊎_, inl, inr, _≢_}
-use Prim.Native.Nat.{ℕ, zero, suc, _≤_, _<_}
+use mathlib.Core.Logic.{inl, inr, _≢_}
+use Prim.Native.Nat.{ℕ, suc, _≤_, _<_}
 use native.Mathlib.Omega.{arith}
 use native.Mathlib.Decide.{ℕ-discrete}
 use borrow.Author.Count.{below-more}
@@ -22,7 +22,7 @@ use Rattle.maps.proofs.Orbits.{iter-zero, iter-suc}
 use Rattle.flows.specs.inner.UnitFlow.{single, walkFlow}
 use Rattle.traversal.specs.inner.Spread.{Follows}
 use Rattle.traversal.proofs.Spreading.{place}
-use Rattle.lengths.specs.inner.Lengths.{Treed, Once, Top, taken, Climbable, Climbed}
+use Rattle.lengths.specs.inner.Lengths.{Treed, Once, taken, Climbable, Climbed}
 use Rattle.integers.specs.inner.Limited.{Limited}
 use Rattle.arrays.specs.inner.Sizes.{mostValue, mostLength}
 use Rattle.signed.proofs.Limits.{same-bits}

@@ -1,6 +1,6 @@
 -- A worked example: one edge from node 0 to node 1, of capacities 5 forth and 3 back.
 -- The value 7 goes along dart 0, so the lengths are 5 − 7 = −2 and 3 + 7 = 10.
-use mathlib.Core.Path.{_≡_, refl}
+use mathlib.Core.Path.{refl}
 use mathlib.Core.Logic.{_≢_}
 use mathlib.Core.Bool.{true, true≢false}
 use mathlib.Core.List.{[], _∷_}

@@ -1,14 +1,14 @@
 -- Two climbs, one for the value and one against it: on each dart the tree's own unit may be taken by the one, by the other or by both, which cancel. Where both
 -- end at one dart, what is left is a unit flow between the nodes where they began; where they do not, no walk joins those nodes.
-use mathlib.Core.Path.{_≡_, refl, sym, _∙_, ap, ap₂, subst}
-use mathlib.Core.Logic.{_⊎_, inl, inr, _≢_}
+use mathlib.Core.Path.{_≡_, sym, _∙_, ap, ap₂, subst}
+use mathlib.Core.Logic.{inl, inr, _≢_}
 use mathlib.Core.Bool.{Bool}
 use Prim.Native.Nat.{ℕ, _<_}
 use native.Mathlib.Omega.{arith}
 use lib.Dec.{eqb}
 use mir.Syntax.{w32}
 use mir.Val.{toZ, ofZ, SFits}
-use lib.IntN.{ℤ, pos, negsuc, negℤ, _+ℤ_, _-ℤ_, _*ℤ_}
+use lib.IntN.{ℤ, pos, negℤ, _-ℤ_, _*ℤ_}
 use Rattle.integers.specs.Sum.{when}
 use Rattle.integers.specs.inner.Limited.{Limited}
 use Rattle.integers.proofs.Omega.{atoms₂, atoms₃, atoms₄, parts, equal, at-most}
@@ -16,7 +16,7 @@ use Rattle.integers.proofs.Tests.{eqb-eq, eqb-ne}
 use Rattle.integers.proofs.Limits.{limited-more, limited-minus}
 use Rattle.signed.proofs.Limits.{limited-fits, same-bits}
 use Rattle.maps.specs.Dart.{rev}
-use Rattle.maps.specs.Map.{Map, darts}
+use Rattle.maps.specs.Map.{Map}
 use Rattle.maps.specs.Walk.{Walk}
 use Rattle.maps.specs.Flow.{Antisymmetric, net}
 use Rattle.maps.proofs.Darts.{rev-in}
@@ -27,7 +27,7 @@ use Rattle.flows.proofs.Nets.{net-ext, net-sub}
 use Rattle.traversal.proofs.Forests.{own-one}
 use Rattle.traversal.specs.inner.Forest.{Forest}
 use Rattle.lengths.specs.inner.Lengths.{Treed, Once, Climbable, Climbed, Fillable, Filled}
-use Rattle.arrays.specs.inner.Sizes.{mostCapacity, mostValue, mostLength}
+use Rattle.arrays.specs.inner.Sizes.{mostValue, mostLength}
 use Rattle.lengths.proofs.Limits.{Unit, limited-unit}
 use Rattle.lengths.proofs.Place.{one-way}
 

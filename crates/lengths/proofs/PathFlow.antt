@@ -1,5 +1,5 @@
 -- For a caller that holds a sound map: what a walk over all its darts leaves is what `fill_lengths` needs.
-use mathlib.Core.Path.{_≡_, refl}
+use mathlib.Core.Path.{refl}
 use Prim.Native.Nat.{ℕ}
 use Rattle.maps.specs.Map.{Map, darts}
 use Rattle.maps.specs.Check.{Sound}

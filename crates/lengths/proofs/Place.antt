@@ -5,7 +5,7 @@ use Prim.Native.Nat.{ℕ, _<_}
 use native.Mathlib.Omega.{arith}
 use Rattle.maps.specs.Dart.{rev}
 use Rattle.maps.specs.Map.{Map}
-use Rattle.maps.proofs.Darts.{rev-rev, rev-apart}
+use Rattle.maps.proofs.Darts.{rev-apart}
 use Rattle.traversal.specs.inner.Spread.{Met, Follows}
 use Rattle.traversal.specs.inner.Forest as forest
 use Rattle.traversal.proofs.Spreading.{place, place-is, all-met}

@@ -10,7 +10,7 @@ use lib.IntN.{ℤ, pos, negsuc, negℤ, _-ℤ_, ℤ-discrete}
 use lib.Signed.{_≤ℤ_, _<ℤ_}
 use mir.Syntax.{w32}
 use mir.Val.{SFits}
-use Rattle.integers.proofs.Omega.{Parts, atoms₂, parts, at-most, from-at-most}
+use Rattle.integers.proofs.Omega.{atoms₂, parts, at-most, from-at-most}
 use Rattle.integers.proofs.Laws.{lt-or-ge}
 use Rattle.refusals.specs.Order.{NoneOf, FirstOf}
 use Rattle.arrays.specs.At.{atℤ}

@@ -3,11 +3,10 @@
 use Prim.Native.Nat.{ℕ, _<_}
 use mathlib.Core.Path.{_≡_}
 use mathlib.Core.Logic.{_⊎_}
-use mathlib.Core.List.{List, [], _∷_, _++_}
+use mathlib.Core.List.{List, _∷_, _++_}
 use lib.ListN.{length}
 use lib.IntN.{ℤ}
 use Rattle.refusals.specs.Order.{Check, _when_, NoneOf, FirstOf}
-use Rattle.maps.specs.Map.{Map}
 use Rattle.maps.specs.Drawing.{Drawing}
 use Rattle.maps.specs.Face.{faces}
 use Rattle.flows.specs.Levels.{Levels}

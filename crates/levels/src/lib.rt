@@ -14,11 +14,8 @@ ghost use Rattle.integers.specs.inner.Limited.{Limited};
 ghost use Rattle.arrays.specs.inner.Sizes.{mostOnSheet};
 ghost use Rattle.refusals.specs.Order.{Decides, Judged};
 ghost use Rattle.arrays.specs.Filled.{filled};
-ghost use lib.IntN.{_-ℤ_};
 ghost use lib.ListN.{length};
 ghost use mathlib.Core.Path.{_≡_};
-ghost use mir.Syntax.{w32};
-ghost use mir.Val.{SFits};
 use refusals::Verdict;
 
 // Whether a level is not from -600,000,000 to 600,000,000.

@@ -1,5 +1,5 @@
 -- Every map has its components numbered: a class of the forest of all edges is a component, and its number is how many classes have a lower label.
-use mathlib.Core.Path.{_≡_, sym, _∙_, ap}
+use mathlib.Core.Path.{_≡_, _∙_, ap}
 use mathlib.Core.Bool.{Bool, true}
 use Prim.Native.Nat.{ℕ, _+_, _*_, _<_}
 use native.Mathlib.Omega.{arith}
@@ -9,7 +9,7 @@ use Rattle.integers.specs.Sum.{count}
 use Rattle.integers.proofs.Tests.{eqb-true, eqb-eq}
 use Rattle.integers.proofs.Counting.{count-lt, count-reach}
 use Rattle.maps.specs.Map.{Map}
-use Rattle.maps.specs.Walk.{Walk, Components}
+use Rattle.maps.specs.Walk.{Components}
 use Rattle.maps.specs.Check.{InRange}
 use Rattle.maps.proofs.ForestCount.{label-idempotent, label-in}
 use Rattle.maps.proofs.Walks.{all, node-label, label-across, walk-keeps, walk-of-label}

@@ -1,26 +1,25 @@
 -- Cuts and flows: what a flow sends out of a set is the sum of the net flows of its nodes, so the value, with the sign of what the set separates, is at most
 -- the capacity of the cut. Capacities may be below zero; flows may be whole numbers or, scaled by n, n-th parts.
-use mathlib.Core.Path.{_≡_, refl, sym, _∙_, ap, ap₂}
+use mathlib.Core.Path.{_≡_, sym, _∙_, ap, ap₂}
 use mathlib.Core.Logic.{_≢_}
-use mathlib.Core.Bool.{Bool, true, false, cond}
-use Prim.Native.Nat.{ℕ, zero, suc, _+_, _*_, _≤_, _<_}
+use mathlib.Core.Bool.{Bool, true, cond}
+use Prim.Native.Nat.{ℕ, suc, _*_, _<_}
 use native.Mathlib.Omega.{arith}
 use native.Mathlib.Decide.{ℕ-discrete}
 use lib.Dec.{eqb}
-use lib.IntN.{ℤ, pos, negℤ, _+ℤ_, _-ℤ_, _*ℤ_, +ℤ-idr, +ℤ-idl, +ℤ-invr}
+use lib.IntN.{ℤ, pos, negℤ, _+ℤ_, _*ℤ_, +ℤ-idr, +ℤ-idl, +ℤ-invr}
 use lib.Signed.{_≤ℤ_}
-use Rattle.integers.specs.Sum.{Integers, sum, sumℤ, when}
-use Rattle.integers.proofs.Omega.{atoms₂, atoms₃, parts, equal, from-equal}
-use Rattle.integers.proofs.Laws.{mul-le-cancel, mul-distrib-left, mul-neg}
+use Rattle.integers.specs.Sum.{Integers, sumℤ, when}
+use Rattle.integers.proofs.Omega.{atoms₃, parts, equal, from-equal}
+use Rattle.integers.proofs.Laws.{mul-le-cancel}
 use Rattle.integers.proofs.Tests.{eqb-true, eqb-false}
 use Rattle.integers.proofs.Sums.{sum-ext, sum-nil, sum-add, sum-pick}
 use Rattle.integers.proofs.IntegerSums.{sum-le, sum-mul, when-zero, when-neg, when-le, when-mul}
-use Rattle.maps.specs.Dart.{rev}
-use Rattle.maps.specs.Map.{Map, darts, head}
+use Rattle.maps.specs.Map.{Map, darts}
 use Rattle.maps.specs.Flow.{Antisymmetric, net, Flow}
 use Rattle.maps.specs.Cut.{leaves, cut, sent}
 use Rattle.maps.specs.Check.{InRange}
-use Rattle.maps.proofs.LabelSums.{sumAt, sumOver, over-labels, over-exits, over-edges}
+use Rattle.maps.proofs.LabelSums.{over-labels, over-exits, over-edges}
 
 -- the cut identity
 pub cut-identity : {𝓜 : Map} → InRange 𝓜 → (φ : ℕ → ℤ) → Antisymmetric 𝓜 φ → (S : ℕ → Bool) → cut 𝓜 φ S ≡ sumℤ (𝓜 .nodes) (λ v. when (S v) (net 𝓜 φ v))

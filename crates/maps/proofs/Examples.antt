@@ -1,23 +1,21 @@
 -- Concrete maps, by computation: nothing in this crate is vacuous, and each definition that carries meaning gives the paper's numbers.
 -- Drawing A of document 01 meets every hypothesis; A with its turns at node 1 the other way round fails flatness only, and has a circulation without
 -- potentials; drawing B has a set of nodes with a negative cut.
-use mathlib.Core.Path.{_≡_, refl, sym, _∙_, ap}
+use mathlib.Core.Path.{_≡_, refl, _∙_, ap}
 use mathlib.Core.List.{List, [], _∷_}
-use mathlib.Core.Bool.{Bool, true, false}
-use Prim.Native.Nat.{ℕ, zero, suc, _+_, _*_, _≤_, _<_}
+use mathlib.Core.Bool.{true}
+use Prim.Native.Nat.{ℕ, zero, suc, _+_, _<_}
 use native.Mathlib.Omega.{arith}
 use lib.Dec.{eqb, ltb}
 use lib.ListN.{getD}
 use lib.IntN.{ℤ, pos, negsuc, negℤ, natAbs, +ℤ-invr}
-use lib.Signed.{_≤ℤ_, _<ℤ_, ltZ}
-use Rattle.integers.specs.Sum.{sum, sumℤ}
-use Rattle.integers.proofs.Laws.{lt-of-test}
+use Rattle.integers.specs.Sum.{sum}
 use Rattle.integers.proofs.Tests.{every, every-below, every-equal, every-two, every-equalℤ, every-at-most, eqZ, eqb-true, eqb-eq}
 use Rattle.integers.proofs.Injections.{find}
 use Rattle.maps.specs.Dart.{rev}
 use Rattle.maps.specs.Orbit.{iter, lowest, isLowest, orbits, orbitOf}
-use Rattle.maps.specs.Map.{Map, darts, head}
-use Rattle.maps.specs.Face.{faces, left, right}
+use Rattle.maps.specs.Map.{Map}
+use Rattle.maps.specs.Face.{faces, left}
 use Rattle.maps.specs.Walk.{Walk, here, along, Connected}
 use Rattle.maps.specs.Flat.{Flat}
 use Rattle.maps.specs.Check.{Sound, NotFlat}

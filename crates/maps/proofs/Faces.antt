@@ -1,18 +1,17 @@
 -- Faces of a sound map: the face step permutes the darts, the numbers of faces are the one numbering by lowest dart, and the identity everything hangs on,
 -- left (rotation d) = right d.
 use mathlib.Core.Path.{_≡_, refl, sym, _∙_, ap}
-use mathlib.Core.Bool.{Bool, true}
-use Prim.Native.Nat.{ℕ, _≤_, _<_}
+use Prim.Native.Nat.{ℕ, _<_}
 use native.Mathlib.Omega.{arith}
 use lib.Dec.{eqb}
 use Rattle.integers.proofs.Tests.{eqb-true, eqb-eq}
 use Rattle.integers.proofs.Injections.{find, find-is}
 use Rattle.maps.specs.Dart.{rev}
 use Rattle.integers.specs.Sum.{sum, count}
-use Rattle.maps.specs.Orbit.{Orbit, iter, lowest, isLowest, orbitOf, Permutes}
+use Rattle.maps.specs.Orbit.{Orbit, lowest, isLowest, orbitOf, Permutes}
 use Rattle.maps.specs.Map.{Map, darts, head}
 use Rattle.maps.specs.Face.{step, faces, left, right}
-use Rattle.maps.specs.Walk.{Walk, here, along, Components}
+use Rattle.maps.specs.Walk.{here, along, Components}
 use Rattle.maps.specs.Check.{Sound}
 use Rattle.maps.proofs.Darts.{rev-rev, rev-in, rev-injective}
 use Rattle.maps.proofs.Orbits.{iter-keeps, iter-zero, iter-suc, lowest-below}

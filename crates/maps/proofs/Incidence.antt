@@ -1,9 +1,9 @@
 -- Maps with labels in place of orbits, so that nodes and faces play the same part: `tail` is constant along `turn`, `left` along d ↦ turn (rev d),
 -- every label has a dart, and a Boolean set of darts that rev and turn keep holds, with a dart, all darts of its component. The dual exchanges the two.
 -- Both planar theorems are one theorem here.
-use mathlib.Core.Path.{_≡_, refl, sym, _∙_, ap, ap₂}
-use mathlib.Core.Bool.{Bool, true, false}
-use Prim.Native.Nat.{ℕ, zero, suc, _+_, _*_, _≤_, _<_}
+use mathlib.Core.Path.{_≡_, sym, _∙_, ap}
+use mathlib.Core.Bool.{Bool}
+use Prim.Native.Nat.{ℕ, _+_, _*_, _≤_, _<_}
 use native.Mathlib.Omega.{arith}
 use lib.Dec.{eqb}
 use lib.IntN.{ℤ, pos, negℤ, _+ℤ_, _-ℤ_, +ℤ-invr}

@@ -1,17 +1,17 @@
 -- Layer cake: the sum of the drops of heights over the darts, each times a length, is the sum over the thresholds θ of the cuts out of {v : θ < height of v}.
 -- So where that sum is below zero, so is the cut of some threshold set.
-use mathlib.Core.Path.{_≡_, refl, sym, _∙_, ap, ap₂}
+use mathlib.Core.Path.{_≡_, sym, _∙_, ap, ap₂}
 use mathlib.Core.Logic.{_⊎_, inl, inr}
 use mathlib.Core.Bool.{Bool, true, false, not, _&&_}
-use Prim.Native.Nat.{ℕ, zero, suc, _+_, _*_, _-_, _≤_, _<_}
+use Prim.Native.Nat.{ℕ, zero, suc, _+_, _-_, _≤_, _<_}
 use native.Mathlib.Omega.{arith}
 use native.Mathlib.Decide.{decLt}
 use lib.Dec.{ltb}
-use lib.IntN.{ℤ, pos, negℤ, _+ℤ_, _-ℤ_, _*ℤ_}
-use lib.Signed.{_≤ℤ_, _<ℤ_, ltZ, ltZ-yes}
-use Rattle.integers.specs.Sum.{Integers, Naturals, sum, sumℤ, sumℕ, when, bit, count}
-use Rattle.integers.proofs.Omega.{atom, literal, added, negated, atoms₁, atoms₂, parts, positive, negative, positive-is, equal, from-less, from-at-most}
-use Rattle.integers.proofs.Laws.{lt-or-ge, lt-le-clash, lt-of-test, ge-of-test}
+use lib.IntN.{ℤ, pos, _+ℤ_, _-ℤ_, _*ℤ_}
+use lib.Signed.{_<ℤ_, ltZ}
+use Rattle.integers.specs.Sum.{Integers, sum, sumℤ, sumℕ, when, bit, count}
+use Rattle.integers.proofs.Omega.{atom, literal, added, negated, atoms₁, parts, positive, negative, positive-is, equal, from-less, from-at-most}
+use Rattle.integers.proofs.Laws.{lt-of-test, ge-of-test}
 use Rattle.integers.proofs.Tests.{either, ltb-true, ltb-false}
 use Rattle.integers.proofs.Sums.{sum-ext, sum-swap}
 use Rattle.integers.proofs.IntegerSums.{negative-term}

@@ -1,15 +1,14 @@
 -- The numbers of orbits: what `orbitOf` and `orbits` say is the one numbering from 0 in order of the lowest members.
-use mathlib.Core.Path.{_≡_, refl, sym, _∙_, ap}
-use mathlib.Core.Bool.{Bool, true}
-use Prim.Native.Nat.{ℕ, zero, suc, _+_, _-_, _≤_, _<_}
+use mathlib.Core.Path.{_≡_, sym, _∙_, ap}
+use mathlib.Core.Bool.{true}
+use Prim.Native.Nat.{ℕ, zero, suc, _≤_, _<_}
 use native.Mathlib.Omega.{arith}
 use native.Mathlib.Decide.{ℕ-discrete, decLt}
-use lib.Dec.{eqb}
 use Rattle.integers.specs.Sum.{count}
 use Rattle.integers.proofs.Tests.{eqb-true, eqb-eq}
-use Rattle.integers.proofs.Counting.{count-le, count-lt, count-reach}
-use Rattle.maps.specs.Orbit.{iter, Orbit, lowest, isLowest, orbits, orbitOf, Permutes}
-use Rattle.maps.proofs.Orbits.{lowest-orbit, lowest-least, lowest-below, lowest-same, orbit-sym, orbit-trans, orbit-in}
+use Rattle.integers.proofs.Counting.{count-lt, count-reach}
+use Rattle.maps.specs.Orbit.{Orbit, lowest, isLowest, orbits, orbitOf, Permutes}
+use Rattle.maps.proofs.Orbits.{lowest-orbit, lowest-below, lowest-same, orbit-sym, orbit-trans}
 
 -- the orbits of 0, .., n - 1 are numbered from 0 in order of their lowest members, as a relation: what a loop that numbers them shows
 pub record Numbered (n : ℕ) (next number : ℕ → ℕ) (k : ℕ) : Type 0 where

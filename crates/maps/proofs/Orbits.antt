@@ -4,7 +4,6 @@ use mathlib.Core.Logic.{_⊎_, inl, inr, _≢_}
 use Prim.Native.Nat.{ℕ, zero, suc, _+_, _-_, _≤_, _<_, min}
 use native.Mathlib.Omega.{arith}
 use native.Mathlib.Decide.{decLt, decLe}
-use lib.Dec.{eqb}
 use Rattle.integers.proofs.Pigeonhole.{seek, Twice, pigeonhole}
 use Rattle.maps.specs.Orbit.{iter, Orbit, lowest, Permutes}
 

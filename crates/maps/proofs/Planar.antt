@@ -2,18 +2,17 @@
 -- one every circulation has potentials, one set of them once each component's root face is at 0; and, dually, what is zero around every face is a
 -- difference of heights of the nodes.
 use mathlib.Core.Path.{_≡_, refl, sym, _∙_, ap, ap₂}
-use mathlib.Core.Bool.{Bool}
-use Prim.Native.Nat.{ℕ, zero, suc, _+_, _*_, _≤_, _<_}
+use Prim.Native.Nat.{ℕ, _+_, _*_, _≤_, _<_}
 use native.Mathlib.Omega.{arith}
 use lib.Dec.{eqb}
-use lib.IntN.{ℤ, pos, negℤ, _-ℤ_, +ℤ-invr}
-use Rattle.integers.proofs.Omega.{atoms₂, atoms₃, atoms₄, parts, equal, from-equal}
+use lib.IntN.{ℤ, pos, _-ℤ_, +ℤ-invr}
+use Rattle.integers.proofs.Omega.{atoms₃, atoms₄, parts, equal, from-equal}
 use Rattle.integers.specs.Sum.{Naturals, bit, count}
 use Rattle.integers.proofs.Laws.{equal-of-sub}
 use Rattle.integers.proofs.Sums.{sum-ext}
 use Rattle.maps.specs.Dart.{rev}
-use Rattle.maps.specs.Map.{Map, darts, head}
-use Rattle.maps.specs.Face.{step, faces, left, right}
+use Rattle.maps.specs.Map.{Map, darts}
+use Rattle.maps.specs.Face.{faces, left, right}
 use Rattle.maps.specs.Walk.{Components}
 use Rattle.maps.specs.Flat.{nodesIn, edgesIn, FlatInEach}
 use Rattle.maps.specs.Check.{Sound}
@@ -21,7 +20,7 @@ use Rattle.maps.specs.Flow.{Antisymmetric, net, Circulation}
 use Rattle.maps.specs.Potential.{difference, Potentials, Roots, RootedAtZero, around, Heights}
 use Rattle.maps.proofs.Darts.{rev-in}
 use Rattle.maps.proofs.Incidence.{Incidence, dual, difference-antisymmetric, difference-closed, planar, incidence-bound, incidence-part-bound}
-use Rattle.maps.proofs.Faces.{dartWith, dartWith-is, left-in, right-in, left-rotation, face-dart, same-in-part, part-head, part-left}
+use Rattle.maps.proofs.Faces.{dartWith, dartWith-is, left-in, left-rotation, face-dart, same-in-part, part-head, part-left}
 use Rattle.maps.proofs.Euler.{euler}
 
 -- potential differences are circulations

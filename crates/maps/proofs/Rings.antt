@@ -2,12 +2,12 @@
 -- around every face, so by the planar theorem it is a difference of heights of the nodes; a dart crossed both ways only adds to the total; layer cake.
 use mathlib.Core.Path.{_≡_, refl, sym, _∙_, ap, ap₂}
 use mathlib.Core.Bool.{Bool, true, false, cond}
-use Prim.Native.Nat.{ℕ, zero, suc, _+_, _*_, _-_, _≤_, _<_, min}
+use Prim.Native.Nat.{ℕ, _+_, _*_, _-_, _<_, min}
 use native.Mathlib.Omega.{arith}
 use lib.Dec.{eqb}
-use lib.IntN.{ℤ, pos, negℤ, _+ℤ_, _-ℤ_, _*ℤ_, +ℤ-invr}
+use lib.IntN.{ℤ, pos, _+ℤ_, _-ℤ_, _*ℤ_, +ℤ-invr}
 use lib.Signed.{_≤ℤ_, _<ℤ_}
-use Rattle.integers.specs.Sum.{Integers, sum, sumℤ, when, bit}
+use Rattle.integers.specs.Sum.{Integers, sumℤ, when, bit}
 use Rattle.integers.proofs.Omega.{
   atom,
   literal,
@@ -30,7 +30,7 @@ use Rattle.integers.proofs.Sums.{sum-ext, sum-nil, sum-add, sum-pick, sum-pairs
 use Rattle.integers.proofs.IntegerSums.{sum-le, sum-sub, when-zero}
 use Rattle.maps.specs.Dart.{rev}
 use Rattle.maps.specs.Map.{Map, darts, head}
-use Rattle.maps.specs.Face.{faces, left, right}
+use Rattle.maps.specs.Face.{left, right}
 use Rattle.maps.specs.Walk.{Components}
 use Rattle.maps.specs.Flat.{FlatInEach}
 use Rattle.maps.specs.Check.{Sound}
@@ -38,7 +38,7 @@ use Rattle.maps.specs.Flow.{Antisymmetric}
 use Rattle.maps.specs.Potential.{around, Heights}
 use Rattle.maps.specs.Cut.{cut}
 use Rattle.maps.specs.inner.FaceWalk.{FaceWalk, stay, cross, total}
-use Rattle.maps.proofs.Darts.{rev-even, rev-odd, rev-rev, rev-in, rev-injective, eqb-rev}
+use Rattle.maps.proofs.Darts.{rev-even, rev-odd, rev-rev, rev-in, eqb-rev}
 use Rattle.maps.proofs.Planar.{tension-heights}
 use Rattle.maps.proofs.LayerCake.{above, threshold}
 

@@ -1,8 +1,8 @@
 -- Cut capacities are submodular where the two capacities of each edge add to zero or more (what check 7 leaves): the union and the intersection of two sets
 -- have together no more than the two sets. Edge by edge; only an edge from one set's own part to the other's makes a difference.
-use mathlib.Core.Path.{_≡_, refl, sym, _∙_, ap, ap₂}
+use mathlib.Core.Path.{_≡_, _∙_, ap₂}
 use mathlib.Core.Bool.{Bool, true, false, not, _&&_, _||_}
-use Prim.Native.Nat.{ℕ, _+_, _*_, _≤_, _<_}
+use Prim.Native.Nat.{ℕ, _+_, _*_, _<_}
 use native.Mathlib.Omega.{arith}
 use lib.IntN.{ℤ, pos, _+ℤ_}
 use lib.Signed.{_≤ℤ_}
@@ -11,7 +11,7 @@ use Rattle.integers.proofs.Omega.{atoms₂, parts, at-most, from-at-most}
 use Rattle.integers.proofs.Sums.{sum-ext, sum-add, sum-pairs}
 use Rattle.integers.proofs.IntegerSums.{sum-le}
 use Rattle.maps.specs.Dart.{rev}
-use Rattle.maps.specs.Map.{Map, darts, head}
+use Rattle.maps.specs.Map.{Map, darts}
 use Rattle.maps.specs.Cut.{leaves, cut, union, intersection}
 use Rattle.maps.proofs.Darts.{rev-even, rev-odd}
 

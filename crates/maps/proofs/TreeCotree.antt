@@ -3,8 +3,8 @@
 -- A forest T of the places leaves, by the counts, just enough edges for a forest of the faces; potentials laid along that one are right on all edges.
 use mathlib.Core.Path.{_≡_, refl, sym, _∙_, ap, ap₂}
 use mathlib.Core.Logic.{_⊎_, inl, inr}
-use mathlib.Core.Bool.{Bool, true, false, cond, not, true≢false, false≢true}
-use Prim.Native.Nat.{ℕ, zero, suc, _+_, _*_, _≤_, _<_}
+use mathlib.Core.Bool.{Bool, true, false, cond, not, false≢true}
+use Prim.Native.Nat.{ℕ, _+_, _*_, _≤_, _<_}
 use native.Mathlib.Omega.{arith}
 use lib.Dec.{eqb}
 use lib.IntN.{ℤ, pos, _+ℤ_, negℤ, _-ℤ_, +ℤ-invr, natAbs}
@@ -16,7 +16,7 @@ use Rattle.integers.proofs.Sums.{sum-ext, sum-add}
 use Rattle.integers.proofs.IntegerSums.{sum-neg}
 use Rattle.integers.proofs.Counting.{bit-le, bit-one, sum-full, sum-le-size, sum-le-sum, sum-ones}
 use Rattle.maps.proofs.Forest.{carried, label, taken, taken-allowed, label-closed, forest-zero, height, height-taken}
-use Rattle.maps.proofs.ForestCount.{classes, forest-count, class-one, classes-le}
+use Rattle.maps.proofs.ForestCount.{forest-count, class-one, classes-le}
 
 abbrev one : Bool → ℤ
 one b = cond b (pos 1) (pos 0)

@@ -6,7 +6,7 @@ use lib.Dec.{eqb}
 use lib.IntN.{ℤ, pos, _-ℤ_}
 use Rattle.integers.specs.Sum.{sumℤ, when}
 use Rattle.maps.specs.Map.{Map, darts, head}
-use Rattle.maps.specs.Face.{faces, left, right}
+use Rattle.maps.specs.Face.{left, right}
 
 -- the flow on d that face potentials ρ give
 abbrev pub difference : Map → (ℕ → ℤ) → ℕ → ℤ

@@ -1,6 +1,6 @@
 -- Probing between two bounds: how it begins, what a carried value and a proving set do to the bounds, and the three ways in which it ends.
 use mathlib.Core.Path.{_≡_, refl, sym, _∙_, ap, subst}
-use mathlib.Core.Logic.{_≢_, _⊎_, inl, inr}
+use mathlib.Core.Logic.{_⊎_, inl, inr}
 use mathlib.Core.Bool.{Bool, true, false}
 use mathlib.Core.List.{List, _++_}
 use Prim.Native.Nat.{ℕ, _*_, _≤_, _<_}
@@ -21,7 +21,7 @@ use Rattle.integers.proofs.Tests.{eqb-true, eqb-false, ltb-true}
 use Rattle.signed.proofs.Limits.{same-bits}
 use Rattle.maps.specs.Dart.{rev}
 use Rattle.maps.specs.Map.{Map, darts}
-use Rattle.maps.specs.Cut.{cut, union, intersection}
+use Rattle.maps.specs.Cut.{cut, union}
 use Rattle.flows.specs.Highest.{Highest}
 use Rattle.flows.specs.ProvingSet.{Proves}
 use Rattle.flows.specs.inner.Plane.{Plane}

@@ -1,15 +1,10 @@
 // Sets of nodes as flags: one node, a copy, union and intersection, the cut of a set, and on which side of a question it lies.
 ghost use mathlib.Core.Path.{_≡_};
-ghost use mathlib.Core.Bool.{not, _&&_, _||_};
-ghost use Prim.Native.Nat.{ℕ, _<_, _≤_, _%_};
+ghost use mathlib.Core.Bool.{_&&_, _||_};
+ghost use Prim.Native.Nat.{ℕ, _<_};
 ghost use lib.Dec.{eqb};
 ghost use lib.ListN.{length};
-ghost use Rattle.integers.specs.Sum.{when};
-ghost use Rattle.integers.specs.inner.Limited.{Limited};
-ghost use Rattle.maps.specs.Dart.{rev};
 ghost use Rattle.maps.specs.Cut.{union, intersection};
-ghost use Rattle.arrays.specs.At.{at, atℤ};
-ghost use Rattle.cuts.specs.inner.Cut.{leavesOf, cutOf};
 ghost use Rattle.node_flags.specs.inner.Flags.{Sided};
 ghost use Rattle.arrays.specs.inner.Flags.{flagged};
 

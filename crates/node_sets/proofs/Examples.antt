@@ -3,7 +3,6 @@ use mathlib.Core.Path.{_≡_, refl}
 use mathlib.Core.Bool.{true, false}
 use mathlib.Core.List.{[], _∷_}
 use lib.Count.{ones, onesIn}
-use Rattle.integers.specs.Sum.{bit}
 use Rattle.flows.specs.ProvingSet.{wordsFor, member, size}
 use Rattle.node_sets.specs.inner.Words.{word, setWord}
 

@@ -1,7 +1,7 @@
 // Sets of nodes in 64-bit words. Document 01, "A proving set": "It is written as 64-bit words, node i being bit i mod 64 of word i div 64, unused bits zero,
 // words as many as the nodes need. Its size is the number of ones in its words."
 ghost use mathlib.Core.Path.{_≡_};
-ghost use Prim.Native.Nat.{ℕ, _+_, _/_, _^_, _<_, _≤_};
+ghost use Prim.Native.Nat.{_+_, _/_, _^_, _<_, _≤_};
 ghost use lib.ListN.{length, take};
 ghost use lib.Count.{ones};
 ghost use Rattle.flows.specs.ProvingSet.{wordsFor, member, size};

@@ -1,6 +1,6 @@
 // Lists of up to 64 questions on a drawing that is open and sound, held in lent arrays. Document 02, Job 1. Each question gets a stretch of one buffer for its
 // settings and a stretch of another for its set, and is answered as Solve answers it alone.
-ghost use Prim.Native.Nat.{ℕ, _*_, _<_, _≤_, min};
+ghost use Prim.Native.Nat.{_*_, _<_, _≤_, min};
 ghost use mathlib.Core.Path.{_≡_};
 ghost use lib.ListN.{length};
 ghost use Rattle.refusals.specs.Order.{Judged};

@@ -9,7 +9,6 @@ use native.Mathlib.Decide.{ℕ-discrete}
 use lib.Dec.{eqb}
 use lib.IntN.{ℤ, pos, negsuc, _+ℤ_, _-ℤ_, +ℤ-idr}
 use lib.Signed.{_≤ℤ_}
-use Rattle.integers.specs.inner.Limited.{Limited}
 use Rattle.integers.proofs.Omega.{atoms₁, atoms₂, atoms₃, atoms₄, atoms₅, parts, equal, at-most, from-equal, from-at-most}
 use Rattle.integers.proofs.Tests.{eqb-true, eqb-false}
 use Rattle.refusals.specs.Order.{NoneOf}
@@ -19,7 +18,7 @@ use Rattle.maps.specs.Drawing.{Drawing}
 use Rattle.maps.proofs.Darts.{rev-in, rev-even}
 use Rattle.flows.specs.Settings.{onDarts, Within}
 use Rattle.flows.proofs.Agreement.{within-agrees}
-use Rattle.arrays.specs.At.{at, atℤ}
+use Rattle.arrays.specs.At.{atℤ}
 use Rattle.arrays.specs.Filled.{filled}
 use Rattle.arrays.proofs.FillLoops.{filled-front}
 use Rattle.records.specs.Sheet.{edgesOf, outerOf, capacityOf, sheetMap}
@@ -30,7 +29,7 @@ use Rattle.sheets.proofs.Opening.{drawings-are}
 use Rattle.questions.specs.declared.SolveAnswer.{SolveAnswer}
 use Rattle.questions.specs.declared.SolveAnswer.the-variants.{Can, Cannot, Refused}
 use Rattle.analyser.proofs.SheetPlane.{capacity-small}
-use Rattle.sessions.specs.Fit.{PairFits, InBounds, Fit, Lowerable}
+use Rattle.sessions.specs.Fit.{PairFits, Fit, Lowerable}
 use Rattle.parties.specs.Shared.{idle, offered, stale, committed, Shared, sharedDrawing, put, staled, flowsOf, loweredBy, letIn, cleared}
 use Rattle.parties.specs.Start.{Started}
 use Rattle.parties.specs.Calls.{Asks}

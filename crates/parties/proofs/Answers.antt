@@ -12,7 +12,6 @@ use Rattle.refusals.specs.declared.Verdict.{Verdict}
 use Rattle.refusals.specs.declared.Verdict.the-variants as verdict
 use Rattle.refusals.proofs.Order.{first-none, first-one, judged-one}
 use Rattle.refusals.proofs.Same.{Same}
-use Rattle.maps.specs.Map.{Map}
 use Rattle.maps.specs.Drawing.{Drawing}
 use Rattle.questions.specs.Question.{valueChecks, roomChecks}
 use Rattle.questions.specs.Solve.{questionChecks, Solved}

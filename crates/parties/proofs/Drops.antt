@@ -5,7 +5,6 @@ use Rattle.records.specs.Sheet.{nodesOf, edgesOf}
 use Rattle.questions.specs.declared.SolveAnswer.the-variants.{Cannot}
 use Rattle.questions.proofs.Asked as questions
 use Rattle.analyser.proofs.Drops.{set-in-drops}
-use Rattle.parties.specs.Shared.{Shared}
 use Rattle.parties.specs.Drops.{InDropsLeft}
 use Rattle.parties.proofs.Statements.{reached-kept, answered, asked-of}
 

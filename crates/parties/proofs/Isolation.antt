@@ -6,14 +6,13 @@ use mathlib.Core.Logic.{_≢_, _⊎_, inl, inr}
 use mathlib.Core.Bool.{cond}
 use mathlib.Core.List.{List, [], _∷_, _++_}
 use native.Mathlib.Decide.{ℕ-discrete}
-use lib.Dec.{eqb}
 use lib.IntN.{ℤ}
 use Rattle.integers.proofs.Tests.{eqb-true, eqb-false}
 use Rattle.refusals.specs.declared.Verdict.{Verdict}
 use Rattle.refusals.specs.declared.Verdict.the-variants as verdict
 use Rattle.questions.specs.declared.SolveAnswer.{SolveAnswer}
 use Rattle.questions.specs.declared.SolveAnswer.the-variants.{Can, Cannot, Refused}
-use Rattle.parties.specs.Shared.{idle, committed, staled, Shared, put, loweredBy, flowsOf, letIn, cleared}
+use Rattle.parties.specs.Shared.{idle, committed, staled, Shared, put, loweredBy, flowsOf, letIn}
 use Rattle.parties.specs.Calls.{afterAsk, Asks, Commits}
 use Rattle.parties.specs.Statements.{TwoParties}
 use Rattle.parties.specs.Seen.{

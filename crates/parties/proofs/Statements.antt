@@ -14,8 +14,6 @@ use Rattle.refusals.specs.declared.Verdict.{Verdict}
 use Rattle.refusals.specs.declared.Verdict.the-variants as verdict
 use Rattle.refusals.proofs.Order.{first-none}
 use Rattle.maps.specs.Dart.{rev}
-use Rattle.maps.specs.Map.{Map}
-use Rattle.maps.specs.Drawing.{Drawing}
 use Rattle.maps.proofs.Darts.{rev-in}
 use Rattle.flows.specs.Settings.{onDarts}
 use Rattle.flows.specs.Highest.{Highest}

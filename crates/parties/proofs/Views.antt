@@ -1,6 +1,6 @@
 -- What a party can see of a shared session: the drawing, the sheet's limits, the limits left, where it stands and its offer. A call of its own is answered by
 -- that alone, in one way, whatever value the session is.
-use Prim.Native.Nat.{ℕ, _*_, _≤_, _<_}
+use Prim.Native.Nat.{ℕ, _≤_, _<_}
 use mathlib.Core.Path.{_≡_, refl, sym, _∙_, ap, ap₂, subst}
 use mathlib.Core.Logic.{_≢_, inl, inr}
 use mathlib.Core.Bool.{cond}
@@ -9,11 +9,10 @@ use native.Mathlib.Omega.{arith}
 use lib.Dec.{eqb}
 use lib.IntN.{ℤ}
 use Rattle.integers.proofs.Tests.{eqb-true, eqb-false}
-use Rattle.refusals.specs.Order.{Check, NoneOf, FirstOf, Judged}
+use Rattle.refusals.specs.Order.{NoneOf, Judged}
 use Rattle.refusals.specs.declared.Verdict.{Verdict}
 use Rattle.refusals.specs.declared.Verdict.the-variants as verdict
 use Rattle.refusals.proofs.Order.{first-one, judged-one}
-use Rattle.maps.specs.Map.{Map}
 use Rattle.maps.specs.Drawing.{Drawing}
 use Rattle.arrays.specs.At.{atℤ}
 use Rattle.arrays.specs.Filled.{tabulate, filled}
@@ -25,7 +24,7 @@ use Rattle.questions.proofs.OneAnswer.{solved-one}
 use Rattle.sessions.specs.Fit.{Fit, OnFit}
 use Rattle.sessions.specs.Ask as ask
 use Rattle.sessions.proofs.Fitting.{fit-plane}
-use Rattle.parties.specs.Shared.{idle, offered, committed, staled, Shared, sharedDrawing, put, loweredBy, flowsOf, letIn, cleared}
+use Rattle.parties.specs.Shared.{idle, offered, committed, staled, Shared, sharedDrawing, put, loweredBy, flowsOf, letIn}
 use Rattle.parties.specs.Calls.{askChecks, commitChecks, afterAsk, Asks, Commits}
 
 pub record View : Type 0 where

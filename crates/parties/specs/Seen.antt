@@ -2,7 +2,6 @@
 -- the same accepted commits with the same flows and the same clears, in the same order, between the same calls of the other party, the other party gets the
 -- same answers."
 use Prim.Native.Nat.{ℕ}
-use mathlib.Core.Path.{_≡_}
 use mathlib.Core.Bool.{cond}
 use mathlib.Core.List.{List, [], _∷_, _++_}
 use lib.Dec.{eqb}

@@ -12,8 +12,6 @@ use Rattle.refusals.specs.Order.{_when_, NoneOf, FirstOf}
 use Rattle.refusals.specs.declared.Verdict.{Verdict}
 use Rattle.refusals.specs.declared.Verdict.the-variants as verdict
 use Rattle.maps.specs.Dart.{rev}
-use Rattle.maps.specs.Map.{Map}
-use Rattle.maps.specs.Drawing.{Drawing}
 use Rattle.flows.specs.Settings.{onDarts, Within, Carries}
 use Rattle.flows.specs.Highest.{Highest}
 use Rattle.flows.specs.ProvingSet.{Proves, member, size}

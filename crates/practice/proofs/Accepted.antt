@@ -1,30 +1,26 @@
 -- The sheet of every grid of 2 to 16 rows and columns passes all sheet checks, whatever the seed.
-use mathlib.Core.Path.{_≡_, refl, sym, _∙_, ap, subst}
-use mathlib.Core.Logic.{_⊎_, inl, inr}
-use mathlib.Core.Bool.{Bool, true, false, cond, _&&_}
-use mathlib.Core.List.{List, [], _∷_, _++_}
+use mathlib.Core.Path.{_≡_, refl, sym, ap, subst}
+use mathlib.Core.Logic.{inl, inr}
 use Prim.Native.Nat.{ℕ, suc, _+_, _*_, _-_, _/_, _%_, _≤_, _<_}
 use native.Mathlib.Omega.{arith}
 use native.Mathlib.Nat.{mul-le-mul-right, mod-lt}
-use lib.Dec.{eqb, ltb, ltb→lt}
-use lib.ListN.{length}
-use lib.IntN.{ℤ, pos, negsuc, _+ℤ_}
+use lib.Dec.{ltb→lt}
+use lib.IntN.{pos, _+ℤ_}
 use lib.Signed.{_<ℤ_}
 use Rattle.integers.proofs.Tests.{eqb-true, eqb-false, ltb-true, ltb-false}
 use Rattle.refusals.specs.Order.{NoneOf}
 use Rattle.refusals.proofs.Order.{none-append, neither}
-use Rattle.maps.specs.Map.{Map}
 use Rattle.maps.specs.Drawing.{Drawing}
 use Rattle.rotations.specs.MapChecks.{mapChecks}
 use Rattle.rotations.proofs.Accepted.{passes}
-use Rattle.records.specs.Check.{CapacityOutside, Outside, numberChecks, fieldChecks, edgeChecks}
+use Rattle.records.specs.Check.{CapacityOutside, numberChecks, fieldChecks, edgeChecks}
 use Rattle.records.specs.Sheet.{sheetMap, sheetDrawing, byteChecks}
 use Rattle.records.specs.Encode.{encodePlain}
 use Rattle.records.proofs.Encodable.{ZeroPast, Encodable, encodable-of-checks}
 use Rattle.records.proofs.EncodeAccepted.{plain-accepted}
 use Rattle.records.proofs.Decode.{sheet-encode-plain}
 use Rattle.sheets.specs.Open.{sheetChecks}
-use Rattle.practice.specs.Grid.{gridNodes, gridEdges, gridTail, gridRotation, gridMap}
+use Rattle.practice.specs.Grid.{gridNodes, gridEdges, gridTail, gridRotation}
 use Rattle.practice.specs.Seed.{capacityFrom, stateAfter, forwardOf}
 use Rattle.practice.specs.Practice.{gridCapacity, gridDrawing}
 use Rattle.practice.proofs.GridSound.{grid-range, grid-sound}

@@ -1,17 +1,17 @@
 -- Rows and columns: which dart leaves a node on a side, and that every dart leaves some node on some side.
-use mathlib.Core.Path.{_≡_, refl, sym, _∙_, ap, ap₂, fun-ext}
-use mathlib.Core.Bool.{Bool, true, cond}
+use mathlib.Core.Path.{_≡_, refl, sym, _∙_, ap, fun-ext}
+use mathlib.Core.Bool.{true, cond}
 use Prim.Native.Nat.{ℕ, zero, suc, _+_, _*_, _-_, _/_, _%_, _≤_, _<_}
 use native.Mathlib.Omega.{arith}
 use native.Mathlib.Nat.{suc-mul, mul-suc, mul-le-mul-right, mul-zero, div-add-mod', mod-lt, div-lt-iff-lt-mul}
 use native.Mathlib.Decide.{decLt}
-use lib.Dec.{eqb, ltb}
+use lib.Dec.{ltb}
 use lib.Arith.{digits-div, digits-mod}
 use Rattle.integers.proofs.Tests.{eqb-true, eqb-false, ltb-true, ltb-false, ltb-lt}
 use Rattle.maps.specs.Dart.{rev}
 use Rattle.maps.proofs.Darts.{rev-even, rev-odd, by-edge}
-use Rattle.practice.specs.Side.{Side, north, east, south, west, turn, next}
-use Rattle.practice.specs.Grid.{Place, placed, across, gridEdges, beginning, ending, placeOf, present, dartAt, nodeAt, rotationAt, gridTail, gridRotation}
+use Rattle.practice.specs.Side.{Side, north, east, south, west, next}
+use Rattle.practice.specs.Grid.{placed, across, gridEdges, beginning, ending, placeOf, present, dartAt, nodeAt, rotationAt, gridTail, gridRotation}
 use Rattle.practice.proofs.Sides.{having}
 
 pub one-less : (n : ℕ) → n + 1 - 1 ≡ n

@@ -1,7 +1,6 @@
 -- Practice sheets by computation: the sheet of two rows, two columns and the seed 1, byte by byte; the turns at a node with four sides; limits of two seeds.
-use Prim.Native.Nat.{ℕ, zero, suc, _+_, _*_, _-_, _/_, _%_}
 use mathlib.Core.Path.{_≡_, refl}
-use mathlib.Core.List.{List, [], _∷_, _++_}
+use mathlib.Core.List.{[], _∷_}
 use Rattle.fields.specs.Fields.{le16, le32, leBits}
 use Rattle.records.specs.Encode.{plainHead, encodeEdge}
 use Rattle.practice.specs.Side.{turn, next}

@@ -13,13 +13,12 @@ use Rattle.maps.specs.Map.{Map, darts}
 use Rattle.maps.specs.Face.{step}
 use Rattle.maps.specs.Walk.{Connected, Components}
 use Rattle.maps.specs.Flat.{Flat}
-use Rattle.maps.specs.Check.{Sound}
 use Rattle.maps.proofs.Darts.{rev-in, rev-rev}
 use Rattle.maps.proofs.Walks.{connected-components}
 use Rattle.maps.proofs.Planar.{euler-at-most}
 use Rattle.maps.proofs.Parts.{flat-of}
 use Rattle.practice.specs.Side.{Side, north, east, south, west, turn, next}
-use Rattle.practice.specs.Grid.{Place, placeOf, present, dartAt, gridTail, gridRotation, gridMap}
+use Rattle.practice.specs.Grid.{placeOf, present, dartAt, gridTail, gridRotation, gridMap}
 use Rattle.practice.proofs.Labels.{connected-down, faces-at-least}
 use Rattle.practice.proofs.Sides.{back, corner, corners}
 use Rattle.practice.proofs.Coordinates.{View, view, place-at, tail-at, rotation-at, dart-in, row-of, present-having, row-above, column-left, one-less}

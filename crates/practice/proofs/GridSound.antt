@@ -1,7 +1,7 @@
 -- A grid is a sound map: its numbers are in range, and the darts at each node are one round.
-use mathlib.Core.Path.{_≡_, refl, sym, _∙_, ap}
+use mathlib.Core.Path.{_≡_, sym, _∙_, ap}
 use mathlib.Core.Bool.{Bool, true}
-use Prim.Native.Nat.{ℕ, zero, suc, _+_, _*_, _-_, _/_, _%_, _≤_, _<_}
+use Prim.Native.Nat.{ℕ, zero, suc, _+_, _*_, _/_, _%_, _≤_, _<_}
 use native.Mathlib.Omega.{arith}
 use native.Mathlib.Nat.{div-add-mod'}
 use native.Mathlib.Decide.{decLt}
@@ -13,7 +13,7 @@ use Rattle.maps.specs.Map.{Map, darts}
 use Rattle.maps.specs.Check.{InRange, Sound}
 use Rattle.maps.proofs.Orbits.{iter-zero, iter-suc}
 use Rattle.practice.specs.Side.{Side, north, south, next}
-use Rattle.practice.specs.Grid.{Place, placeOf, present, dartAt, gridTail, gridRotation, gridMap}
+use Rattle.practice.specs.Grid.{placeOf, present, dartAt, gridTail, gridRotation, gridMap}
 use Rattle.practice.proofs.Sides.{next-present, next-apart, one-round, turns}
 use Rattle.practice.proofs.Coordinates.{View, view, in-rows, row-of, present-having, place-at, dart-in, tail-at, rotation-at}
 

@@ -1,21 +1,19 @@
 -- The statements of practice sheets, each from the contract alone.
 use mathlib.Core.Path.{_≡_, refl, sym, _∙_, ap, subst}
-use mathlib.Core.Logic.{_⊎_, inl, inr}
-use mathlib.Core.List.{List, _++_}
+use mathlib.Core.List.{List}
 use Prim.Native.Nat.{ℕ, _≤_, _<_}
 use native.Mathlib.Omega.{arith}
 use lib.ListN.{length, take, drop, length-append}
 use lib.Seq.{take-at, drop-at}
 use Rattle.fields.specs.Fields.{le16}
-use Rattle.refusals.specs.Order.{NoneOf, FirstOf}
+use Rattle.refusals.specs.Order.{NoneOf}
 use Rattle.refusals.proofs.Order.{neither, first-none}
 use Rattle.maps.specs.Walk.{Connected}
-use Rattle.records.specs.Check.{Outside}
 use Rattle.records.specs.Sheet.{kindOf, sheetMap, sheetDrawing}
-use Rattle.records.specs.Encode.{plainHead, encodeEdges, encodePlain}
+use Rattle.records.specs.Encode.{plainHead, encodePlain}
 use Rattle.records.proofs.Places.{front-length}
 use Rattle.sheets.specs.Open.{sheetChecks}
-use Rattle.practice.specs.Grid.{gridEdges, gridMap}
+use Rattle.practice.specs.Grid.{gridEdges}
 use Rattle.practice.specs.Practice.{gridDrawing, practiceLength, practiceChecks, Practises}
 use Rattle.practice.specs.Statements.{PracticeSheets}
 use Rattle.practice.specs.declared.PracticeAnswer.{PracticeAnswer}

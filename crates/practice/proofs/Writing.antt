@@ -7,7 +7,7 @@ use Prim.Native.Nat.{ℕ, _+_, _*_, _-_, _/_, _%_, _≤_, _<_}
 use native.Mathlib.Omega.{arith}
 use native.Mathlib.Numerals.{add-one}
 use lib.ListN.{length, drop}
-use lib.IntN.{ℤ, pos}
+use lib.IntN.{pos}
 use Rattle.integers.proofs.Tests.{ltb-true, ltb-false}
 use Rattle.refusals.specs.Order.{NoneOf, FirstOf}
 use Rattle.fields.specs.Fields.{put, le16}
@@ -24,7 +24,7 @@ use Rattle.sheets.proofs.PlacedRecords.{placed-16}
 use Rattle.practice.specs.Grid.{placed, gridEdges, beginning, ending, placeOf, nodeAt, rotationAt, gridTail, gridRotation}
 use Rattle.practice.specs.inner.Numbered.{side}
 use Rattle.practice.specs.Seed.{forwardOf}
-use Rattle.practice.specs.Practice.{gridCapacity, gridDrawing, practiceLength, practiceChecks}
+use Rattle.practice.specs.Practice.{gridDrawing, practiceLength, practiceChecks}
 use Rattle.practice.proofs.Coordinates.{place-even, place-odd}
 use Rattle.practice.proofs.Accepted.{forward-is, backward-is}
 

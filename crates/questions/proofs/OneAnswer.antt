@@ -3,12 +3,12 @@ use mathlib.Core.Path.{_≡_, refl, sym, _∙_, ap, ap₂}
 use mathlib.Core.Logic.{_≢_}
 use mathlib.Core.List.{List, _++_}
 use Prim.Native.Nat.{ℕ, _<_}
-use lib.ListN.{length, take, drop}
+use lib.ListN.{take, drop}
 use lib.Seq.{take-append-seam}
 use lib.IntN.{ℤ}
-use Rattle.refusals.specs.Order.{Check, NoneOf, FirstOf}
+use Rattle.refusals.specs.Order.{Check, NoneOf}
 use Rattle.refusals.proofs.Order.{first-none, first-one}
-use Rattle.maps.specs.Map.{Map, darts}
+use Rattle.maps.specs.Map.{darts}
 use Rattle.maps.specs.Drawing.{Drawing}
 use Rattle.flows.specs.ProvingSet.{wordsFor, size, SetOf}
 use Rattle.flows.specs.inner.Plane.{Plane}

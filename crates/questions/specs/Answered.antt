@@ -5,7 +5,6 @@ use mathlib.Core.Path.{_≡_}
 use mathlib.Core.List.{List}
 use lib.IntN.{ℤ, pos}
 use lib.Signed.{_<ℤ_}
-use Rattle.maps.specs.Map.{Map}
 use Rattle.maps.specs.Drawing.{Drawing}
 use Rattle.maps.specs.Cut.{cut}
 use Rattle.flows.specs.Highest.{Highest}

@@ -4,7 +4,7 @@ use Prim.Native.Nat.{ℕ, _≤_, _<_}
 use mathlib.Core.Path.{_≡_}
 use mathlib.Core.Logic.{_⊎_}
 use mathlib.Core.List.{List, [], _∷_, _++_}
-use lib.ListN.{length, drop}
+use lib.ListN.{drop}
 use lib.IntN.{ℤ, pos, negsuc}
 use lib.Signed.{_<ℤ_}
 use Rattle.refusals.specs.Order.{Check, _when_}

@@ -7,7 +7,7 @@ use Rattle.refusals.specs.Order.{Check, _at_when_, inTurn}
 use Rattle.fields.specs.Fields.{u16At}
 use Rattle.records.specs.Record.{recordChecks}
 use Rattle.records.specs.Check.{numberChecks, fieldChecks, edgeChecks}
-use Rattle.records.specs.Sheet.{headLength, headRecordChecks, headChecks, edgeRecordChecks, byteChecks}
+use Rattle.records.specs.Sheet.{headRecordChecks, headChecks, edgeRecordChecks, byteChecks}
 
 unfoldable pub numbers : List Check → List ℕ
 numbers [] = []

@@ -7,7 +7,7 @@ use lib.ListN.{length}
 use Rattle.refusals.specs.Order.{Check, _when_, NoneOf, inTurn}
 use Rattle.refusals.proofs.Order.{none-append, none-in-turn}
 use Rattle.maps.specs.Drawing.{Drawing}
-use Rattle.records.specs.Record.{bodyLength, recordChecks}
+use Rattle.records.specs.Record.{recordChecks}
 use Rattle.records.specs.Check.{numberChecks, edgeChecks}
 use Rattle.records.specs.Sheet.{nodesOf, edgesOf, outerOf, edgeAt, sheetDrawing, headRecordChecks, headChecks, edgeRecordChecks, byteChecks}
 use Rattle.records.specs.Encode.{encodeHead, plainHead, encode, encodePlain}

@@ -10,7 +10,7 @@ use Rattle.refusals.specs.Order.{NoneOf, FirstOf, inTurn, Judged}
 use Rattle.refusals.specs.declared.Verdict.the-variants.{Passed, Refused}
 use Rattle.refusals.proofs.Order.{neither}
 use Rattle.fields.specs.Fields.{u16At, u32At, i32At}
-use Rattle.records.specs.Record.{bodyLength, recordChecks}
+use Rattle.records.specs.Record.{recordChecks}
 use Rattle.records.specs.Check.{numberChecks, fieldChecks, edgeChecks}
 use Rattle.records.specs.Sheet.{headLength, outerOf, tailOf, rotationOf, capacityOf, headRecordChecks, headChecks, edgeRecordChecks, byteChecks}
 

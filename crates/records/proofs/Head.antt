@@ -1,7 +1,7 @@
 -- What a head is: how long it is and which outer dart it names, by its kind; whole and of one of the two kinds, where its record passes its checks. Document
 -- 02, Job 6: "A kind 1 head is still read, as outer dart 0."
 use Prim.Native.Nat.{ℕ, zero, suc, _≤_, _<_}
-use mathlib.Core.Path.{_≡_, _∙_, ap}
+use mathlib.Core.Path.{_≡_, ap}
 use mathlib.Core.Logic.{_≢_, _⊎_, inl, inr}
 use mathlib.Core.Bool.{cond}
 use mathlib.Core.List.{List}

@@ -1,7 +1,7 @@
 -- A sheet with a head of kind 4 that the checks on bytes accept is the bytes that Write writes of the drawing read from it. What Write writes of a sheet of
 -- kind 1 has the kind 4, the same counts, dart 0, and the same edges (document 02, Job 6).
 use mathlib.Core.Path.{_≡_, refl, sym, _∙_, ap, ap₂}
-use mathlib.Core.List.{List, [], _∷_, _++_}
+use mathlib.Core.List.{List, _∷_, _++_}
 use Prim.Native.Nat.{ℕ, zero, suc, _+_, _*_, _≤_, _<_}
 use native.Mathlib.Omega.{arith}
 use native.Mathlib.Numerals.{add-one}
@@ -10,7 +10,7 @@ use lib.Seq.{take-all, drop-cons, take-add, drop-drop}
 use Rattle.refusals.specs.Order.{NoneOf}
 use Rattle.fields.specs.Fields.{u16At, i32At, le16, le32}
 use Rattle.fields.proofs.Laws.{u16-again, i32-again}
-use Rattle.records.specs.Sheet.{kindOf, headLength, nodesOf, edgesOf, outerOf, edgeAt, sheetDrawing, byteChecks}
+use Rattle.records.specs.Sheet.{kindOf, headLength, nodesOf, edgesOf, edgeAt, sheetDrawing, byteChecks}
 use Rattle.records.specs.Encode.{encodeHead, encodeEdge, encodeEdges, encode}
 use Rattle.records.proofs.Fields.{tail-even, tail-odd, rotation-even, rotation-odd, capacity-even, capacity-odd}
 use Rattle.records.proofs.Bytes.{bytes-length, bytes-kinds}

@@ -7,7 +7,6 @@ use mathlib.Core.List.{List, [], _∷_}
 use lib.IntN.{ℤ, pos, negsuc, _+ℤ_}
 use lib.Signed.{_<ℤ_}
 use Rattle.refusals.specs.Order.{Check, _when_}
-use Rattle.maps.specs.Map.{Map, darts}
 use Rattle.maps.specs.Drawing.{Drawing}
 
 -- x is not one of low, .., high

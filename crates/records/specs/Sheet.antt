@@ -10,7 +10,7 @@ use lib.ListN.{length, getD}
 use lib.IntN.{ℤ, pos}
 use Rattle.refusals.specs.Order.{Check, _when_, inTurn}
 use Rattle.fields.specs.Fields.{u16At, i32At}
-use Rattle.maps.specs.Map.{Map, darts}
+use Rattle.maps.specs.Map.{Map}
 use Rattle.maps.specs.Drawing.{Drawing}
 use Rattle.records.specs.Record.{recordLength, recordChecks}
 use Rattle.records.specs.Check.{numberChecks, edgeChecks}

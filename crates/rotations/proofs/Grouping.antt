@@ -6,7 +6,7 @@ use Prim.Native.Nat.{ℕ, _+_, _*_, _≤_, _<_}
 use native.Mathlib.Omega.{arith}
 use native.Mathlib.Decide.{ℕ-discrete, decLt}
 use Rattle.maps.specs.Dart.{rev}
-use Rattle.maps.specs.Orbit.{Orbit, iter, lowest, orbitOf}
+use Rattle.maps.specs.Orbit.{Orbit, lowest, orbitOf}
 use Rattle.maps.proofs.Darts.{rev-in, rev-rev}
 use Rattle.maps.proofs.Orbits.{orbit-decided}
 use Rattle.arrays.specs.At.{at}

@@ -5,7 +5,6 @@ ghost use mathlib.Core.Logic.{_≢_};
 ghost use Prim.Native.Nat.{ℕ, _+_, _*_, _<_, _≤_};
 ghost use lib.ListN.{length};
 ghost use Rattle.refusals.specs.Order.{Decides};
-ghost use Rattle.maps.specs.Dart.{rev};
 ghost use Rattle.maps.specs.Orbit.{orbits, orbitOf, Permutes};
 ghost use Rattle.maps.specs.Walk.{Components};
 ghost use Rattle.maps.specs.Check.{InRange, RotationFault, NodeFault, Sound};

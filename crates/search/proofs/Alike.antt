@@ -1,6 +1,5 @@
 -- What is given to a search matters on its darts and faces only: on arrays that agree there the same search goes. So two such searches have one end.
 use mathlib.Core.Path.{_≡_, refl, sym, _∙_, ap, ap₂, subst}
-use mathlib.Core.Logic.{_⊎_, inl, inr}
 use mathlib.Core.Bool.{Bool, true, false, cond, _&&_}
 use mathlib.Core.List.{List}
 use Prim.Native.Nat.{ℕ, zero, suc, _+_, _≤_, _<_}
@@ -19,13 +18,13 @@ use Rattle.arrays.specs.At.{at, atℤ}
 use Rattle.arrays.specs.Maps.{rightOf}
 use Rattle.search.specs.Dual.{dualOf, WellFormed, Joined}
 use Rattle.search.specs.Parents.{up}
-use Rattle.search.specs.Level.{HasLevel, far}
+use Rattle.search.specs.Level.{HasLevel}
 use Rattle.search.specs.Queue.{Pushed}
-use Rattle.search.specs.Moves.{sensible, parentFrom, Begun, Relaxed}
+use Rattle.search.specs.Moves.{sensible, Begun, Relaxed}
 use Rattle.search.specs.Given.{Given, given, dual, InGroups}
 use Rattle.search.specs.Configuration.{Tables, tablesOf, Configuration, configuration, front}
 use Rattle.search.specs.Look.{Crosses, done, keep, lower, LookAt}
-use Rattle.search.specs.Straightening.{marked, Ascent, Follows, leaves, keeps, falls, Descends, down, upwardOf, Closes, Straightens, end, ring, next}
+use Rattle.search.specs.Straightening.{marked, Ascent, Follows, leaves, keeps, falls, Descends, down, upwardOf, Straightens, end, ring, next}
 use Rattle.search.specs.Straightening as straightening
 use Rattle.search.specs.Trace.{Step, look, straighten, Goes, stay, go, Ends, firstLooks, start, Searches}
 use Rattle.search.specs.declared.Outcome.{Outcome}

@@ -3,14 +3,14 @@ use mathlib.Core.Path.{_≡_, sym, _∙_, ap}
 use mathlib.Core.Logic.{_⊎_, inl, inr}
 use mathlib.Core.Bool.{Bool, true, false, cond}
 use mathlib.Core.List.{List}
-use Prim.Native.Nat.{ℕ, _+_, _*_, _≤_, _<_}
+use Prim.Native.Nat.{ℕ, _+_, _≤_, _<_}
 use native.Mathlib.Omega.{arith}
 use native.Mathlib.Decide.{ℕ-discrete}
 use lib.Dec.{eqb, ltb}
 use lib.ListN.{length, set, take, length-set}
 use lib.Seq.{getD-take, length-take-le}
 use lib.IntN.{ℤ, pos}
-use Rattle.integers.proofs.Tests.{either, and-both, eqb-eq}
+use Rattle.integers.proofs.Tests.{and-both, eqb-eq}
 use Rattle.integers.proofs.Pigeonhole.{seek}
 use Rattle.arrays.specs.At.{at, atℤ}
 use Rattle.search.specs.Dual.{Dual, WellFormed, Joined}

@@ -1,12 +1,11 @@
 -- The way down: each face of the ascent follows its parent, the last of them first.
 use mathlib.Core.Path.{_≡_, refl, sym, _∙_, ap, subst}
-use mathlib.Core.Logic.{_⊎_, inl, inr}
-use mathlib.Core.Bool.{true, false}
+use mathlib.Core.Bool.{true}
 use mathlib.Core.List.{List}
-use Prim.Native.Nat.{ℕ, zero, suc, _+_, _*_, _≤_, _<_}
+use Prim.Native.Nat.{ℕ, suc, _*_, _≤_, _<_}
 use native.Mathlib.Omega.{arith}
 use native.Mathlib.Decide.{ℕ-discrete}
-use lib.ListN.{length, set, length-set}
+use lib.ListN.{set, length-set}
 use lib.IntN.{ℤ, pos, _+ℤ_}
 use lib.Signed.{mag, _≤ℤ_}
 use Rattle.integers.proofs.Laws.{le-antisym}
@@ -19,7 +18,7 @@ use Rattle.search.specs.Queue.{Pushed}
 use Rattle.search.specs.Moves.{Relaxed}
 use Rattle.search.specs.Configuration.{Tables, tablesOf}
 use Rattle.search.specs.Straightening.{Follows, leaves, keeps, falls}
-use Rattle.search.specs.inner.Progress.{Stage, Passing, Descending}
+use Rattle.search.specs.inner.Progress.{Passing, Descending}
 use Rattle.search.proofs.Order.{mag-add}
 use Rattle.search.proofs.Change.{Changed, stored}
 use Rattle.search.proofs.Turning.{orphaned}

@@ -1,8 +1,8 @@
 -- What the search leaves follows from what it is given: each configuration has one step or is an end, and there is one beginning.
-use mathlib.Core.Path.{_≡_, refl, sym, _∙_, ap, ap₂, subst}
+use mathlib.Core.Path.{_≡_, refl, sym, _∙_, ap, subst}
 use mathlib.Core.Logic.{_⊎_, inl, inr}
 use mathlib.Core.List.{List}
-use Prim.Native.Nat.{ℕ, suc, _+_, _-_, _≤_, _<_}
+use Prim.Native.Nat.{ℕ, _+_, _-_, _≤_, _<_}
 use native.Mathlib.Omega.{arith}
 use native.Mathlib.Decide.{decLt}
 use lib.Seq.{ext-getD}
@@ -16,7 +16,7 @@ use Rattle.search.specs.Moves.{Begun}
 use Rattle.search.specs.Given.{Given}
 use Rattle.search.specs.Configuration.{Tables, tablesOf, Configuration, configuration}
 use Rattle.search.specs.Look.{Crosses, done, keep, lower}
-use Rattle.search.specs.Straightening.{unmarked, marked, Ascent, Follows, leaves, keeps, falls, Descends, down, upwardOf, Straightens, end, ring, next}
+use Rattle.search.specs.Straightening.{marked, Ascent, Follows, leaves, keeps, falls, Descends, down, upwardOf, Straightens, end, ring, next}
 use Rattle.search.specs.Straightening as straightening
 use Rattle.search.specs.Trace.{period, Step, look, straighten, Goes, stay, go, Ends, start, Searches}
 use Rattle.search.specs.declared.Outcome.{Outcome}

@@ -1,10 +1,10 @@
 -- On the way down, as the code comes by it: what comes of the rest comes of the whole.
 use mathlib.Core.Path.{_≡_, refl, sym, _∙_, ap, subst}
 use mathlib.Core.List.{List}
-use Prim.Native.Nat.{ℕ, suc, _+_, _-_, _*_, _≤_, _<_}
+use Prim.Native.Nat.{ℕ, suc, _-_, _*_, _≤_, _<_}
 use native.Mathlib.Omega.{arith}
 use native.Mathlib.Decide.{ℕ-discrete}
-use lib.ListN.{length, set, length-set}
+use lib.ListN.{set, length-set}
 use lib.IntN.{ℤ}
 use lib.Signed.{mag}
 use Rattle.maps.specs.Orbit.{iter}
@@ -17,7 +17,7 @@ use Rattle.search.specs.Straightening.{Follows, Descends, done, down, up
 use Rattle.search.specs.inner.Progress.{Descending, Lowering}
 use Rattle.search.specs.inner.Ascending.{Unlinked}
 use Rattle.search.proofs.Change.{Changed, stored}
-use Rattle.search.proofs.Descent.{y-in, p-in, left-is, w-in, w-near, follow-on}
+use Rattle.search.proofs.Descent.{y-in, p-in, w-near, follow-on}
 
 pub record Falling (lefts : List ℕ) (lengths : List ℤ) (darts faces : ℕ) (start : Tables) (f count : ℕ) (links₀ : List ℕ) (k y : ℕ) (links : List ℕ)
     (now : Tables) : Type 0 where

@@ -12,7 +12,7 @@ use Rattle.maps.proofs.Orbits.{iter-zero, iter-suc}
 use Rattle.arrays.specs.At.{at}
 use Rattle.search.specs.Parents.{up}
 use Rattle.search.specs.Straightening.{marked, Ascent}
-use Rattle.search.proofs.Change.{Changed, stored}
+use Rattle.search.proofs.Change.{stored}
 use Rattle.search.proofs.Heights.{fresh, fresh-less}
 
 module _ (g : ℕ → ℕ) (f : ℕ) (marks : List ℕ) where

@@ -9,7 +9,6 @@ use lib.ListN.{length}
 use lib.ListN.{getD-replicate}
 use lib.IntN.{ℤ}
 use Rattle.maps.specs.Orbit.{iter}
-use Rattle.maps.proofs.Orbits.{iter-zero}
 use Rattle.arrays.specs.At.{at, atℤ}
 use Rattle.search.specs.Dual.{dualOf, WellFormed}
 use Rattle.search.specs.Level.{HasLevel}
@@ -17,7 +16,7 @@ use Rattle.search.specs.Configuration.{Tables}
 use Rattle.search.specs.Straightening.{unmarked, marked, Descends, done, upwardOf, Closes, Straightens, end, ring, next}
 use Rattle.search.specs.declared.Straightened.{Straightened}
 use Rattle.search.specs.declared.Straightened.the-variants as straightened
-use Rattle.search.specs.inner.Progress.{Descending, Lowering, Straightening}
+use Rattle.search.specs.inner.Progress.{Lowering, Straightening}
 use Rattle.search.specs.inner.Ascending.{Matched, Ascended, Unlinked}
 use Rattle.search.proofs.Heights.{fresh}
 use Rattle.search.proofs.Marking.{marked-cases, marked-new, marked-size, ascent-inside}

@@ -2,7 +2,7 @@
 use mathlib.Core.Path.{_≡_, refl, sym, _∙_, ap, subst}
 use mathlib.Core.Logic.{_⊎_, inl, inr}
 use mathlib.Core.List.{List}
-use Prim.Native.Nat.{ℕ, suc, _+_, _-_, _≤_, _<_}
+use Prim.Native.Nat.{ℕ, _+_, _-_, _≤_, _<_}
 use native.Mathlib.Omega.{arith}
 use native.Mathlib.Decide.{ℕ-discrete}
 use native.Mathlib.Numerals.{add-one}
@@ -11,7 +11,7 @@ use Rattle.maps.specs.Orbit.{iter}
 use Rattle.maps.proofs.Orbits.{iter-zero, iter-suc}
 use Rattle.arrays.specs.At.{at}
 use Rattle.search.specs.Parents.{up}
-use Rattle.search.specs.Straightening.{marked, Ascent}
+use Rattle.search.specs.Straightening.{marked}
 use Rattle.search.specs.inner.Ascending.{Matched, Ascended}
 use Rattle.search.proofs.Change.{Changed, stored}
 use Rattle.search.proofs.Heights.{fresh, fresh-less, fresh-some, fresh-few}

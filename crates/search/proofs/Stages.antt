@@ -1,8 +1,6 @@
 -- A stage of the search: a dart is crossed and lowers a face, which comes to wait, or cannot.
-use mathlib.Core.Path.{_≡_, refl, sym, _∙_, ap, subst}
+use mathlib.Core.Path.{_≡_, sym, _∙_, ap, subst}
 use mathlib.Core.Logic.{inl, inr}
-use mathlib.Core.Bool.{true, false}
-use mathlib.Core.List.{List}
 use Prim.Native.Nat.{ℕ, _+_, _*_, _%_, _≤_, _<_}
 use native.Mathlib.Omega.{arith}
 use lib.ListN.{length, set, length-set}
@@ -13,7 +11,7 @@ use Rattle.search.specs.Dual.{Dual, WellFormed, longest}
 use Rattle.search.specs.Level.{HasLevel}
 use Rattle.search.specs.Queue.{faceAt, Pushed}
 use Rattle.search.specs.Configuration.{Tables}
-use Rattle.search.specs.inner.Progress.{State, Quiet, Line, Stage, Passing, heights, most}
+use Rattle.search.specs.inner.Progress.{Line, Stage, heights}
 use Rattle.search.proofs.Change.{Changed, changed, stored, unchanged}
 use Rattle.search.proofs.Line.{line-push, push-old}
 use Rattle.search.proofs.Heights.{heights-fall}

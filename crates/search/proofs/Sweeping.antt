@@ -2,25 +2,24 @@
 use mathlib.Core.Path.{_≡_, refl, sym, _∙_, ap, subst}
 use mathlib.Core.Logic.{_⊎_, inl, inr}
 use mathlib.Core.List.{List}
-use Prim.Native.Nat.{ℕ, zero, suc, _+_, _-_, _*_, _≤_, _<_}
+use Prim.Native.Nat.{ℕ, suc, _+_, _-_, _*_, _≤_, _<_}
 use native.Mathlib.Omega.{arith}
 use native.Mathlib.Decide.{ℕ-discrete, decLt}
 use lib.ListN.{length, getD-replicate}
-use lib.IntN.{ℤ, pos}
+use lib.IntN.{ℤ}
 use lib.Signed.{mag}
 use Rattle.maps.specs.Orbit.{iter}
 use Rattle.maps.proofs.Orbits.{iter-zero, iter-suc, iter-add}
 use Rattle.arrays.specs.At.{at, atℤ}
-use Rattle.arrays.specs.Maps.{rightOf}
 use Rattle.search.specs.Dual.{Dual, dualOf, WellFormed, longest}
 use Rattle.search.specs.inner.Walk.{Ring}
-use Rattle.search.specs.Parents.{up, ParentRing}
+use Rattle.search.specs.Parents.{ParentRing}
 use Rattle.search.specs.Level.{HasLevel}
 use Rattle.search.specs.Configuration.{Tables}
 use Rattle.search.specs.Straightening.{unmarked, marked, Ascent, Follows, Descends, done, down, upwardOf, Closes, Straightens, end, ring, next}
 use Rattle.search.specs.declared.Straightened.{Straightened}
 use Rattle.search.specs.declared.Straightened.the-variants as straightened
-use Rattle.search.specs.inner.Progress.{Stage, Passing, Descending}
+use Rattle.search.specs.inner.Progress.{Passing, Descending}
 use Rattle.search.proofs.Turning.{bounded}
 use Rattle.search.proofs.Heights.{fresh, fresh-few}
 use Rattle.search.proofs.Chains.{ring-of, parent-ring}

@@ -4,7 +4,6 @@ use mathlib.Core.Path.{_≡_}
 use mathlib.Core.List.{List, [], _∷_}
 use Prim.Native.Nat.{ℕ, zero, suc}
 use lib.IntN.{ℤ}
-use Rattle.maps.specs.Orbit.{iter}
 use Rattle.arrays.specs.At.{at}
 use Rattle.search.specs.Given.{Given}
 use Rattle.search.specs.Configuration.{Tables, Configuration, front}

@@ -1,5 +1,4 @@
 -- A look at a face: it waits no more, the darts right of which it lies are crossed one after the other, and each face that falls comes to wait.
-use mathlib.Core.Path.{_≡_}
 use mathlib.Core.Bool.{true, false}
 use Prim.Native.Nat.{ℕ, _+_, _≤_, _<_}
 use lib.ListN.{set}

@@ -26,7 +26,7 @@ ghost use Rattle.search.specs.Moves.{sensible, takenFrom, Begun, Relaxed
 ghost use Rattle.search.specs.Given.{given};
 ghost use Rattle.search.specs.Configuration.{tablesOf};
 ghost use Rattle.search.specs.Look.{LookAt};
-ghost use Rattle.search.specs.Straightening.{unmarked, Follows, Descends, Closes, Straightens};
+ghost use Rattle.search.specs.Straightening.{unmarked, Follows, Descends, Straightens};
 ghost use Rattle.search.specs.Trace.{firstLooks, Searches};
 ghost use Rattle.search.specs.inner.Progress.{Looking, Lowering, Straightening};
 ghost use Rattle.search.specs.inner.Ascending.{Matched, Ascended, Unlinked};

@@ -13,7 +13,7 @@ use Rattle.refusals.specs.declared.Verdict.{Verdict}
 use Rattle.refusals.specs.declared.Verdict.the-variants as verdict
 use Rattle.refusals.proofs.Order.{first-none}
 use Rattle.refusals.proofs.Same.{Same, same-refl, same-sym, none-same, first-same}
-use Rattle.maps.specs.Map.{Map, darts}
+use Rattle.maps.specs.Map.{darts}
 use Rattle.maps.specs.Face.{faces, left}
 use Rattle.maps.specs.Drawing.{Drawing}
 use Rattle.arrays.specs.Maps.{drawingOf}

@@ -1,6 +1,5 @@
 -- A drawing that is fit is one that a question can be put to: plane, its limits of limited size.
-use mathlib.Core.Path.{_≡_, sym, subst}
-use mathlib.Core.List.{List}
+use mathlib.Core.Path.{_≡_}
 use Prim.Native.Nat.{ℕ, _+_, _*_, _<_}
 use native.Mathlib.Omega.{arith}
 use lib.IntN.{ℤ, pos, _+ℤ_}
@@ -8,7 +7,7 @@ use lib.Signed.{_≤ℤ_}
 use Rattle.integers.specs.inner.Limited.{Limited}
 use Rattle.integers.proofs.Omega.{atoms₂, parts, at-most, from-at-most}
 use Rattle.maps.specs.Dart.{rev}
-use Rattle.maps.specs.Map.{Map, darts}
+use Rattle.maps.specs.Map.{darts}
 use Rattle.maps.specs.Drawing.{Drawing}
 use Rattle.maps.specs.Face.{faces, left}
 use Rattle.maps.proofs.Darts.{by-edge, rev-even, rev-odd}

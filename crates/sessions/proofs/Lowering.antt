@@ -10,7 +10,6 @@ use lib.ListN.{length, drop}
 use lib.IntN.{ℤ, pos, negℤ, _+ℤ_, _-ℤ_}
 use mir.Syntax.{w32}
 use mir.Val.{SFits}
-use Rattle.integers.specs.inner.Limited.{Limited}
 use Rattle.integers.proofs.Limits.{limited-minus}
 use Rattle.integers.proofs.Omega.{atoms₂, parts, equal}
 use Rattle.integers.proofs.Tests.{eqb-true, eqb-false, ltb-false}

@@ -6,7 +6,6 @@ use mathlib.Core.List.{List, _∷_, _++_}
 use lib.ListN.{length}
 use lib.IntN.{ℤ}
 use Rattle.refusals.specs.Order.{Check, _when_}
-use Rattle.maps.specs.Map.{Map}
 use Rattle.maps.specs.Drawing.{Drawing}
 use Rattle.questions.specs.Question.{valueChecks, roomChecks}
 use Rattle.sessions.specs.Fit.{Fit}

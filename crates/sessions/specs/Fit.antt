@@ -4,7 +4,7 @@ use Prim.Native.Nat.{ℕ, _+_, _*_, _≤_, _<_}
 use lib.IntN.{ℤ, pos, _+ℤ_}
 use lib.Signed.{_≤ℤ_}
 use Rattle.refusals.specs.Order.{NoneOf}
-use Rattle.maps.specs.Map.{Map, darts}
+use Rattle.maps.specs.Map.{darts}
 use Rattle.maps.specs.Drawing.{Drawing}
 use Rattle.maps.specs.Check.{InRange}
 use Rattle.flows.specs.Settings.{onDarts}

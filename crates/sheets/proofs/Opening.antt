@@ -1,8 +1,7 @@
 -- Opening a sheet: arrays filled from its bytes are its drawing's functions, everywhere; what the phases of the checks said is what all of them say.
-use mathlib.Core.Path.{_≡_, refl, sym, _∙_, ap, subst}
-use mathlib.Core.Bool.{cond}
-use mathlib.Core.List.{List, _++_}
-use Prim.Native.Nat.{ℕ, _+_, _*_, _/_, _%_, _≤_, _<_}
+use mathlib.Core.Path.{_≡_, ap, subst}
+use mathlib.Core.List.{List}
+use Prim.Native.Nat.{ℕ, _*_, _≤_}
 use native.Mathlib.Omega.{arith}
 use lib.ListN.{length}
 use lib.IntN.{ℤ, pos}
@@ -10,9 +9,7 @@ use Rattle.refusals.specs.Order.{NoneOf, FirstOf}
 use Rattle.refusals.specs.declared.Verdict.{Verdict}
 use Rattle.refusals.specs.declared.Verdict.the-variants.{Passed, Refused}
 use Rattle.refusals.proofs.Order.{none-append, first-left, first-right}
-use Rattle.maps.specs.Map.{Map}
-use Rattle.maps.specs.Drawing.{Drawing}
-use Rattle.maps.specs.Face.{faces, left}
+use Rattle.maps.specs.Face.{faces}
 use Rattle.arrays.specs.At.{at, atℤ}
 use Rattle.arrays.specs.Maps.{mapOf, drawingOf}
 use Rattle.arrays.specs.Filled.{filled}

@@ -2,25 +2,22 @@
 -- slices to the same bytes where the head is of kind 4, and to the same drawing where it is of kind 1; from accepted slices to bytes, which the sheet checks
 -- accept, to the same slices.
 use mathlib.Core.Path.{_≡_, refl, sym, _∙_, ap, ap₂, subst, fun-ext}
-use mathlib.Core.Logic.{_⊎_, inl, inr}
-use mathlib.Core.List.{List, [], _∷_, _++_}
-use Prim.Native.Nat.{ℕ, _+_, _*_, _/_, _%_, _≤_, _<_}
+use mathlib.Core.Logic.{inl, inr}
+use mathlib.Core.List.{List, _++_}
+use Prim.Native.Nat.{ℕ, _+_, _*_, _%_, _≤_, _<_}
 use native.Mathlib.Omega.{arith}
 use native.Mathlib.Decide.{decLt}
 use lib.ListN.{length, getD, take, drop, List·getD-eq-default}
 use lib.Seq.{take-at}
 use lib.IntN.{ℤ, pos}
-use Rattle.refusals.specs.Order.{NoneOf, FirstOf, inTurn}
+use Rattle.refusals.specs.Order.{NoneOf, inTurn}
 use Rattle.refusals.proofs.Order.{none-append, none-in-turn, first-none}
-use Rattle.maps.specs.Map.{Map}
-use Rattle.arrays.specs.At.{at, atℤ}
-use Rattle.arrays.specs.Maps.{mapOf}
 use Rattle.rotations.specs.MapChecks.{mapChecks}
 use Rattle.maps.specs.Drawing.{Drawing}
 use Rattle.records.specs.Check.{numberChecks, edgeChecks}
-use Rattle.records.specs.Sheet.{kindOf, nodesOf, edgesOf, outerOf, edgeAt, tailOf, rotationOf, capacityOf, sheetMap, sheetDrawing, byteChecks}
+use Rattle.records.specs.Sheet.{kindOf, nodesOf, edgesOf, outerOf, tailOf, rotationOf, capacityOf, sheetMap, sheetDrawing, byteChecks}
 use Rattle.records.specs.Encode.{encodeHead, encode, encodeLength}
-use Rattle.arrays.specs.Filled.{tabulate, filled}
+use Rattle.arrays.specs.Filled.{tabulate}
 use Rattle.arrays.proofs.Tabulate.{length-tabulate, getD-tabulate, getD-past, tabulate-getD}
 use Rattle.records.proofs.Fields.{tail-past, rotation-past, capacity-past}
 use Rattle.records.proofs.Bytes.{bytes-length, bytes-head, head-range, bytes-drawn}

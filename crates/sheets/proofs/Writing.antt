@@ -2,31 +2,31 @@
 use mathlib.Core.Path.{_≡_, refl, sym, _∙_, ap, ap₂, fun-ext}
 use mathlib.Core.Logic.{_⊎_, inl, inr, _≢_}
 use mathlib.Core.List.{List, [], _∷_, _++_, append-assoc}
-use Prim.Native.Nat.{ℕ, zero, suc, _+_, _*_, _/_, _%_, _≤_, _<_}
+use Prim.Native.Nat.{ℕ, _+_, _%_, _≤_, _<_}
 use native.Mathlib.Omega.{arith}
 use native.Mathlib.Decide.{decLt}
 use native.Mathlib.Numerals.{add-one}
-use lib.ListN.{length, getD, drop, List·getD-eq-default}
-use lib.IntN.{ℤ, pos}
+use lib.ListN.{length, drop, List·getD-eq-default}
+use lib.IntN.{ℤ}
 use Rattle.refusals.specs.Order.{Check, _when_, inTurn, NoneOf, FirstOf, Judged}
 use Rattle.refusals.specs.declared.Verdict.{Verdict}
 use Rattle.refusals.specs.declared.Verdict.the-variants.{Passed, Refused}
-use Rattle.refusals.proofs.Order.{none-append, append-none, none-in-turn, in-turn-none, first-left, first-right, first-in-turn, judged-right, neither}
+use Rattle.refusals.proofs.Order.{none-append, append-none, in-turn-none, first-left, first-right, judged-right, neither}
 use Rattle.fields.specs.Fields.{put, le16}
 use Rattle.fields.proofs.Laws.{put-after}
 use Rattle.maps.specs.Map.{Map}
 use Rattle.maps.specs.Check.{InRange}
-use Rattle.arrays.specs.At.{at, atℤ}
+use Rattle.arrays.specs.At.{at}
 use Rattle.arrays.specs.Maps.{mapOf}
 use Rattle.rotations.specs.MapChecks.{mapChecks, MapJudged}
 use Rattle.maps.specs.Drawing.{Drawing}
 use Rattle.records.specs.Check.{numberChecks, edgeChecks}
 use Rattle.records.specs.Record.{recordLength}
 use Rattle.records.specs.Encode.{outerHeadBytes, encodeHead, encodeEdge, encodeEdges, encode, encodeLength}
-use Rattle.records.proofs.Drawing.{counts-range, drawing-range}
+use Rattle.records.proofs.Drawing.{drawing-range}
 use Rattle.records.proofs.Places.{head-length, front-length, edge-length}
 use Rattle.sheets.specs.Write.{edgesIn, slicesDrawing, drawingChecks, writeChecks}
-use Rattle.arrays.proofs.FillLoops.{Filling, filling-end}
+use Rattle.arrays.proofs.FillLoops.{Filling}
 
 -- ── arrays loaded from slices ──
 pub loaded : {to : List ℕ} (from : List ℕ) → Filling 0 (at from) (length from) to → (d : ℕ) → at to d ≡ at from d

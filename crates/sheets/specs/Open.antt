@@ -5,7 +5,7 @@ use Prim.Native.Nat.{ℕ, _<_}
 use Rattle.refusals.specs.Order.{Check, NoneOf, FirstOf}
 use Rattle.refusals.specs.declared.Verdict.{Verdict}
 use Rattle.refusals.specs.declared.Verdict.the-variants.{Passed, Refused}
-use Rattle.maps.specs.Map.{Map, darts}
+use Rattle.maps.specs.Map.{darts}
 use Rattle.maps.specs.Face.{faces, left}
 use Rattle.arrays.specs.At.{at}
 use Rattle.rotations.specs.MapChecks.{mapChecks}

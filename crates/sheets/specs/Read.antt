@@ -5,10 +5,10 @@ use Prim.Native.Nat.{ℕ, _*_, _<_}
 use mathlib.Core.Path.{_≡_}
 use mathlib.Core.Logic.{_⊎_}
 use mathlib.Core.List.{List, [], _∷_, _++_}
-use lib.ListN.{length, drop}
+use lib.ListN.{length}
 use lib.IntN.{ℤ}
 use Rattle.refusals.specs.Order.{Check, _when_, NoneOf, FirstOf}
-use Rattle.arrays.specs.Filled.{tabulate, filled}
+use Rattle.arrays.specs.Filled.{filled}
 use Rattle.records.specs.Sheet.{nodesOf, edgesOf, outerOf, tailOf, rotationOf, capacityOf}
 use Rattle.sheets.specs.Open.{sheetChecks}
 use Rattle.sheets.specs.declared.ReadAnswer.{ReadAnswer}

@@ -1,7 +1,7 @@
 -- Write. Document 01, "Operations": "Write takes a node count and those three slices, fills bytes and gives their number. First 16: input slices of unequal or
 -- odd length. Then 3, 4, 5, 6, 7, 9, 10, 11, 12 as for a sheet, 4 to 7 channel by channel; then 16 output shorter than the sheet." Document 02, Job 6: it
 -- takes the outer dart too "and always writes kind 4"; 24 stands right after 3.
-use Prim.Native.Nat.{ℕ, _*_, _/_, _%_, _+_, _<_}
+use Prim.Native.Nat.{ℕ, _/_, _%_, _<_}
 use mathlib.Core.Path.{_≡_}
 use mathlib.Core.Logic.{_⊎_, _≢_}
 use mathlib.Core.List.{List, [], _∷_, _++_}

@@ -1,8 +1,6 @@
 // Sheets: bytes to the network record and back. Document 01, "Operations": the sheet checks, Read and Write.
 ghost use mathlib.Core.Path.{_≡_};
-ghost use mathlib.Core.Bool.{cond};
 ghost use Prim.Native.Nat.{ℕ, _+_, _*_, _/_, _%_, _<_, _≤_};
-ghost use lib.Dec.{ltb};
 ghost use lib.ListN.{length, drop};
 ghost use mathlib.Core.List.{List, _++_};
 ghost use lib.IntN.{pos};

@@ -10,8 +10,8 @@ use native.Mathlib.Omega.{arith}
 use lib.Dec.{eqb}
 use lib.IntN.{ℤ, pos, _+ℤ_, _-ℤ_}
 use lib.Signed.{_≤ℤ_, _<ℤ_}
-use Rattle.integers.proofs.Omega.{atoms₁, atoms₂, atoms₃, atoms₄, parts, equal, at-most, less, from-equal, from-at-most, from-less}
-use Rattle.integers.proofs.Laws.{le-antisym, le-trans, lt-or-ge}
+use Rattle.integers.proofs.Omega.{atoms₁, atoms₃, atoms₄, parts, equal, at-most, less, from-equal, from-at-most, from-less}
+use Rattle.integers.proofs.Laws.{le-antisym, lt-or-ge}
 use Rattle.integers.proofs.Tests.{eqb-true, eqb-eq}
 use Rattle.maps.specs.Dart.{rev}
 use Rattle.edge_flows.specs.inner.Flow.{flowOf}

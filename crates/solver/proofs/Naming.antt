@@ -1,10 +1,10 @@
 -- How a decision comes to name its set, for the functions on the way: from equal values and from bits.
-use mathlib.Core.Path.{_≡_, refl, sym, _∙_, ap, subst}
-use mathlib.Core.Logic.{inl, inr, _≢_}
-use mathlib.Core.Bool.{Bool, true, false}
+use mathlib.Core.Path.{_≡_, subst}
+use mathlib.Core.Logic.{_≢_}
+use mathlib.Core.Bool.{Bool, false}
 use mathlib.Core.List.{List}
 use Prim.Native.Nat.{ℕ, _<_}
-use lib.IntN.{ℤ, pos}
+use lib.IntN.{ℤ}
 use Rattle.maps.specs.Map.{Map, darts}
 use Rattle.arrays.specs.At.{at, atℤ}
 use Rattle.arrays.specs.inner.Drawn.{Drawn}

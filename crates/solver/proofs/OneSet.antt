@@ -1,9 +1,9 @@
 -- A decision names one set: two ways in which a set comes about for one question on one drawing lead to the same nodes.
 use mathlib.Core.Path.{_≡_, refl, sym, _∙_, ap, ap₂, subst}
-use mathlib.Core.Logic.{_⊎_, inl, inr, _≢_}
+use mathlib.Core.Logic.{_⊎_, inl, inr}
 use mathlib.Core.Bool.{Bool, true, false, true≢false}
-use mathlib.Core.List.{List, [], _∷_}
-use Prim.Native.Nat.{ℕ, zero, suc, _≤_, _<_}
+use mathlib.Core.List.{List, _∷_}
+use Prim.Native.Nat.{ℕ, zero, suc, _<_}
 use native.Mathlib.Omega.{arith}
 use native.Mathlib.Decide.{decLt}
 use lib.ListN as list
@@ -15,7 +15,7 @@ use Rattle.integers.proofs.Tests.{either}
 use Rattle.maps.specs.Dart.{rev}
 use Rattle.maps.specs.Orbit.{iter}
 use Rattle.maps.specs.Map.{Map, darts, head}
-use Rattle.maps.specs.Face.{faces, left}
+use Rattle.maps.specs.Face.{left}
 use Rattle.maps.specs.Walk.{Walk, here, along}
 use Rattle.maps.specs.Check.{Sound}
 use Rattle.maps.proofs.Darts.{rev-in}
@@ -38,11 +38,10 @@ use Rattle.search.specs.declared.Outcome.{Outcome}
 use Rattle.search.specs.declared.Outcome.the-variants as outcome
 use Rattle.search.proofs.Alike.{Alike, alike-one}
 use Rattle.windings.specs.inner.Winding.{crossings, Round}
-use Rattle.heights.specs.inner.Heights.{HeightsOf}
 use Rattle.heights.proofs.OneHeight.{same-height}
 use Rattle.thresholds.proofs.OneThreshold.{same-set}
 use Rattle.solver.specs.inner.Search.{PartFlagged}
-use Rattle.solver.specs.inner.Named.{FirstDart, ApartBy, MeasuredBy, MadeOfRing, RingNamed, NamedBy, Named}
+use Rattle.solver.specs.inner.Named.{FirstDart, ApartBy, MadeOfRing, RingNamed, NamedBy, Named}
 
 -- ── the first dart of a node ──
 first-one : {𝓜 : Map} {v d e : ℕ} → FirstDart 𝓜 v d → FirstDart 𝓜 v e → d ≡ e

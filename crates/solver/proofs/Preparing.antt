@@ -1,9 +1,9 @@
 -- What a decision stands on: the lengths from the walk over the darts, or the nodes of one part; and a signed argument as the number of its bits.
-use mathlib.Core.Path.{_≡_, refl, sym, _∙_, ap, subst}
+use mathlib.Core.Path.{_≡_, refl, sym, _∙_, subst}
 use mathlib.Core.Logic.{_⊎_, inl, inr, _≢_}
 use mathlib.Core.Bool.{Bool, true, false}
 use mathlib.Core.List.{List}
-use Prim.Native.Nat.{ℕ, _+_, _-_, _≤_, _<_}
+use Prim.Native.Nat.{ℕ, _≤_, _<_}
 use native.Mathlib.Omega.{arith}
 use lib.IntN.{ℤ, pos}
 use lib.Signed.{_<ℤ_}
@@ -30,7 +30,6 @@ use Rattle.traversal.proofs.Reach.{start-in, start-marked, node-marked, back-ma
 use Rattle.lengths.specs.inner.Lengths.{Treed, Fillable, Filled}
 use Rattle.search.proofs.OfMap.{faces-few}
 use Rattle.arrays.specs.inner.Drawn.{Drawn}
-use Rattle.solver.specs.inner.Ends.{Ends}
 use Rattle.arrays.specs.inner.Sizes.{mostCapacity, mostValue}
 use Rattle.solver.specs.inner.Search.{Lengthened, PartFlagged, Measured}
 use Rattle.solver.specs.inner.Decision.{Decided}

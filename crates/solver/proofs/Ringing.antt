@@ -1,20 +1,16 @@
 -- From a ring of parents to a set of nodes: its winding is that of a walk over faces of length below zero, so the heights of the nodes are heights of that
 -- winding, and some threshold has a cut below zero.
-use mathlib.Core.Path.{_≡_, refl, sym, _∙_, ap, ap₂, subst}
+use mathlib.Core.Path.{_≡_, sym, _∙_, subst}
 use mathlib.Core.Bool.{Bool}
-use mathlib.Core.List.{List}
-use Prim.Native.Nat.{ℕ, _+_, _*_, _%_, _≤_, _<_}
+use Prim.Native.Nat.{ℕ, _≤_, _<_}
 use native.Mathlib.Omega.{arith}
-use lib.IntN.{ℤ, pos, _+ℤ_, _-ℤ_}
-use lib.Signed.{_≤ℤ_, _<ℤ_}
+use lib.IntN.{ℤ, pos}
+use lib.Signed.{_<ℤ_}
 use Rattle.integers.specs.inner.Limited.{Limited}
-use Rattle.integers.proofs.Omega.{atoms₃, parts, equal}
-use Rattle.maps.specs.Dart.{rev}
 use Rattle.maps.specs.Map.{Map, darts}
 use Rattle.maps.specs.Cut.{cut}
 use Rattle.maps.specs.inner.FaceWalk.{FaceWalk, total}
 use Rattle.maps.specs.Potential.{Heights}
-use Rattle.maps.proofs.Darts.{rev-in}
 use Rattle.maps.proofs.Rings.{winding, ring-threshold}
 use Rattle.flows.proofs.Exact.{ring-heights-exist}
 use Rattle.traversal.specs.inner.Forest.{Forest}

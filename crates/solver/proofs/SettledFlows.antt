@@ -1,22 +1,22 @@
 -- Settled potentials make flows that fit: potentials are near, and the flow of an edge lies between its two capacities.
-use mathlib.Core.Path.{_≡_, refl, sym, _∙_, ap}
+use mathlib.Core.Path.{_≡_, refl, _∙_, ap}
 use mathlib.Core.List.{List}
 use Prim.Native.Nat.{ℕ, _+_, _*_, _≤_, _<_}
 use native.Mathlib.Omega.{arith}
-use lib.IntN.{ℤ, pos, negsuc, negℤ, _+ℤ_, _-ℤ_}
+use lib.IntN.{ℤ, pos, negsuc, _+ℤ_, _-ℤ_}
 use lib.Signed.{mag, _≤ℤ_}
 use Rattle.integers.specs.inner.Limited.{Limited}
-use Rattle.integers.proofs.Omega.{atoms₂, atoms₃, atoms₄, parts, at-most, from-equal, from-at-most}
-use Rattle.integers.proofs.Limits.{limited-more, limited-both}
+use Rattle.integers.proofs.Omega.{atoms₃, parts, at-most, from-equal, from-at-most}
+use Rattle.integers.proofs.Limits.{limited-more}
 use Rattle.maps.specs.Dart.{rev}
 use Rattle.maps.proofs.Darts.{rev-rev, rev-in}
 use Rattle.search.specs.Dual.{Dual}
 use Rattle.search.specs.Parents.{ParentRing}
-use Rattle.search.specs.inner.Settled.{Still, Settled}
+use Rattle.search.specs.inner.Settled.{Settled}
 use Rattle.search.specs.declared.Outcome.{Outcome}
 use Rattle.search.specs.declared.Outcome.the-variants as outcome
 use Rattle.edge_flows.specs.inner.Flow.{flowOf, Flowing}
-use Rattle.arrays.specs.inner.Sizes.{mostPotential, mostCapacity}
+use Rattle.arrays.specs.inner.Sizes.{mostCapacity}
 use Rattle.solver.specs.inner.Search.{Searchable, Searched}
 
 -- of a ring, all that is said is that no flow was written and that the parents lead round it

@@ -10,7 +10,7 @@ use Rattle.refusals.proofs.Order.{none-append, first-left, first-right, first-n
 use Rattle.fields.specs.Fields.{le16, leBits, le32}
 use Rattle.flows.specs.ProvingSet.{member, size}
 use Rattle.maps.specs.Drawing.{Drawing}
-use Rattle.records.specs.Record.{bodyLength, recordChecks}
+use Rattle.records.specs.Record.{recordChecks}
 use Rattle.records.specs.Sheet.{nodesOf, edgesOf, sheetDrawing}
 use Rattle.records.proofs.Record.{record-passes}
 use Rattle.arrays.specs.At.{atℤ}

@@ -6,7 +6,7 @@ use Prim.Native.Nat.{ℕ, zero, suc, _+_, _*_, _<_, _≤_}
 use native.Mathlib.Omega.{arith}
 use native.Mathlib.Nat.{add-zero, mul-suc}
 use native.Mathlib.Numerals.{add-one}
-use lib.ListN.{length, take, drop, length-append}
+use lib.ListN.{length, drop, length-append}
 use Rattle.fields.specs.Fields.{put}
 use Rattle.fields.proofs.Laws.{put-length}
 use Rattle.texts.specs.Lines.{lines}

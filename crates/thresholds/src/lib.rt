@@ -1,20 +1,15 @@
 // A set of nodes with a cut below zero: the nodes above a threshold, tried upwards. Each test of signed numbers is a function of its own.
 ghost use mathlib.Core.Path.{_≡_};
-ghost use mathlib.Core.Bool.{not, _&&_};
 ghost use mathlib.Core.Logic.{_⊎_};
-ghost use Prim.Native.Nat.{ℕ, _<_, _≤_, _%_};
+ghost use Prim.Native.Nat.{ℕ, _<_, _≤_};
 ghost use lib.Dec.{eqb};
 ghost use lib.ListN.{length};
-ghost use lib.IntN.{ℤ, pos};
+ghost use lib.IntN.{pos};
 ghost use lib.Signed.{_≤ℤ_, _<ℤ_, ltZ};
-ghost use Rattle.integers.specs.Sum.{when};
-ghost use Rattle.integers.specs.inner.Limited.{Limited};
-ghost use Rattle.maps.specs.Dart.{rev};
 ghost use Rattle.arrays.specs.At.{at, atℤ};
-ghost use Rattle.cuts.specs.inner.Cut.{leavesOf, cutOf};
+ghost use Rattle.cuts.specs.inner.Cut.{cutOf};
 ghost use Rattle.thresholds.specs.inner.Above.{above};
 ghost use Rattle.thresholds.specs.inner.Choice.{Choosable, FirstServes};
-ghost use Rattle.arrays.specs.inner.Sizes.{mostLength, mostHeight};
 
 fn is_above(x: i32, threshold: i32) -> bool
     ensures { λ r. ⌜ r ≡ ltZ threshold x ⌝ }

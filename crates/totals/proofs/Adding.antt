@@ -1,15 +1,15 @@
 -- What is added along the round of a node's darts: so many of them from `start` on, and at the end the node's subtotal.
-use mathlib.Core.Path.{_≡_, refl, sym, _∙_, ap, ap₂}
+use mathlib.Core.Path.{_≡_, sym, _∙_, ap, ap₂}
 use mathlib.Core.Logic.{_≢_}
 use mathlib.Core.Bool.{Bool, true, not}
 use Prim.Native.Nat.{ℕ, suc, _-_, _*_, _≤_, _<_}
 use native.Mathlib.Omega.{arith}
 use native.Mathlib.Decide.{ℕ-discrete}
 use lib.Dec.{eqb}
-use lib.IntN.{ℤ, pos, _+ℤ_, +ℤ-idl}
+use lib.IntN.{ℤ, _+ℤ_, +ℤ-idl}
 use mir.Syntax.{w32}
 use mir.Val.{SFits}
-use Rattle.integers.specs.Sum.{Integers, sum, sumℤ, when}
+use Rattle.integers.specs.Sum.{Integers, sumℤ}
 use Rattle.integers.specs.inner.Limited.{Limited}
 use Rattle.integers.proofs.Tests.{eqb-true, eqb-eq}
 use Rattle.integers.proofs.Sums.{sum-zero, sum-suc}

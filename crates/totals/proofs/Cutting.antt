@@ -1,20 +1,19 @@
 -- The subtotals of the nodes of a set add up to its cut, for every set of nodes; what agrees on the nodes has the same subtotals; and all of them fit 32 bits.
-use mathlib.Core.Path.{_≡_, refl, sym, _∙_, ap, ap₂}
+use mathlib.Core.Path.{_≡_, refl, sym, _∙_, ap}
 use mathlib.Core.Bool.{Bool, true, false, not, _&&_}
-use Prim.Native.Nat.{ℕ, _+_, _*_, _≤_, _<_}
-use native.Mathlib.Omega.{arith}
+use Prim.Native.Nat.{ℕ, _+_, _*_, _<_}
 use lib.Dec.{eqb}
-use lib.IntN.{ℤ, pos, _+ℤ_}
-use Rattle.integers.specs.Sum.{Integers, sum, sumℤ, when}
+use lib.IntN.{ℤ, _+ℤ_}
+use Rattle.integers.specs.Sum.{Integers, sumℤ, when}
 use Rattle.integers.specs.inner.Limited.{Limited}
 use Rattle.integers.proofs.Sums.{sum-ext, sum-pairs}
-use Rattle.integers.proofs.Limits.{limited-more, limited-when, limited-sum}
+use Rattle.integers.proofs.Limits.{limited-when, limited-sum}
 use Rattle.maps.specs.Dart.{rev}
 use Rattle.maps.specs.Map.{Map, darts, head}
 use Rattle.maps.specs.Cut.{leaves, cut}
 use Rattle.maps.specs.Check.{InRange}
 use Rattle.maps.proofs.Darts.{rev-in}
-use Rattle.maps.proofs.LabelSums.{sumAt, sumOver, over-labels}
+use Rattle.maps.proofs.LabelSums.{sumAt, over-labels}
 use Rattle.totals.specs.Subtotal.{subtotal, total}
 
 -- two tests at once, or one after the other

@@ -2,7 +2,6 @@
 -- 4, and a loop at node 1 with 7 and 9; of its nodes, 1 has the lowest dart, then 2, then 0.
 use mathlib.Core.Path.{_≡_, refl}
 use mathlib.Core.List.{List, [], _∷_}
-use Prim.Native.Nat.{ℕ}
 use lib.IntN.{ℤ, pos, negsuc}
 use Rattle.integers.specs.Sum.{sum, count}
 use Rattle.maps.specs.Dart.{rev}

@@ -10,7 +10,7 @@ use mir.Syntax.{w32, w64}
 use mir.Val.{SFits}
 use Rattle.integers.specs.Sum.{Integers, sum, sumℤ, when, bit, count}
 use Rattle.integers.specs.inner.Limited.{Limited}
-use Rattle.integers.proofs.Sums.{sum-zero, sum-more}
+use Rattle.integers.proofs.Sums.{sum-more}
 use Rattle.integers.proofs.Limits.{limited-more, limited-when, limited-sum}
 use Rattle.integers.proofs.Counting.{bit-le, sum-le-size, count-le, count-lt}
 use Rattle.signed.proofs.Limits.{limited-fits, limited-fits64}

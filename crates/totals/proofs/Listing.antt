@@ -9,10 +9,8 @@ use native.Mathlib.Nat.{add-zero}
 use native.Mathlib.Numerals.{add-one}
 use lib.ListN.{length, getD, set, drop, length-append, length-drop, List·getD-append}
 use lib.Seq.{getD-at, drop-cons, set-at}
-use Rattle.integers.specs.Sum.{Naturals, sum, bit, count}
-use Rattle.integers.proofs.Sums.{sum-ext}
-use Rattle.integers.proofs.Tests.{either}
-use Rattle.integers.proofs.Counting.{count-le, count-lt}
+use Rattle.integers.specs.Sum.{sum, bit, count}
+use Rattle.integers.proofs.Counting.{count-lt}
 use Rattle.totals.specs.Subtotal.{listed}
 
 -- ── one number more ──

@@ -7,8 +7,8 @@ use Prim.Native.Nat.{ℕ, zero, suc, _+_, _-_, _≤_, _<_}
 use native.Mathlib.Omega.{arith}
 use native.Mathlib.Decide.{decLt, ℕ-discrete}
 use lib.Dec.{eqb}
-use lib.IntN.{ℤ, pos}
-use Rattle.integers.specs.Sum.{Integers, sum, sumℤ, when}
+use lib.IntN.{ℤ}
+use Rattle.integers.specs.Sum.{Integers, sumℤ, when}
 use Rattle.integers.proofs.Tests.{either, eqb-true, eqb-false}
 use Rattle.integers.proofs.Sums.{sum-ext, sum-swap, sum-pick, sum-one, sum-nil}
 use Rattle.maps.specs.Orbit.{iter, Orbit, Permutes}

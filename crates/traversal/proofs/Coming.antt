@@ -6,7 +6,7 @@ use native.Mathlib.Omega.{arith}
 use native.Mathlib.Decide.{ℕ-discrete, decLt}
 use borrow.Author.Count.{below-more}
 use Rattle.maps.specs.Dart.{rev}
-use Rattle.maps.specs.Orbit.{iter, Orbit}
+use Rattle.maps.specs.Orbit.{iter}
 use Rattle.maps.proofs.Darts.{rev-in}
 use Rattle.maps.proofs.Orbits.{iter-zero, iter-suc}
 use Rattle.traversal.specs.inner.Mark.{unmarked}

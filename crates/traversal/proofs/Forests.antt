@@ -1,20 +1,20 @@
 -- What the walk over all darts says of a sound map: its trees are the parts of the map, and the faces left of their first darts are the faces at 0
 -- (document 02, Job 8).
 use mathlib.Core.Path.{_≡_, refl, sym, _∙_, ap, subst}
-use mathlib.Core.Logic.{_⊎_, inl, inr, _≢_}
-use mathlib.Core.Bool.{Bool, true}
+use mathlib.Core.Logic.{_⊎_, inl, inr}
+use mathlib.Core.Bool.{Bool}
 use Prim.Native.Nat.{ℕ, zero, suc, _≤_, _<_}
 use native.Mathlib.Omega.{arith}
 use native.Mathlib.Decide.{ℕ-discrete, decLt}
 use lib.Dec.{eqb}
 use Rattle.integers.proofs.Tests.{eqb-true, eqb-eq}
 use Rattle.integers.proofs.Injections.{find, find-is}
-use Rattle.maps.specs.Map.{Map, darts, head}
+use Rattle.maps.specs.Map.{Map, darts}
 use Rattle.maps.specs.Face.{left}
 use Rattle.maps.specs.Walk.{Walk, here, Components}
 use Rattle.maps.specs.Check.{Sound}
 use Rattle.maps.proofs.Walks.{walk-append, walk-back, walk-keeps, node-label, label-across, walk-of-label}
-use Rattle.flows.specs.ZeroFace.{LowestElsewhere, ZeroFace}
+use Rattle.flows.specs.ZeroFace.{ZeroFace}
 use Rattle.flows.proofs.Plane.{lowest-elsewhere, zero-one}
 use Rattle.traversal.specs.inner.Spread.{Met}
 use Rattle.traversal.specs.inner.Forest.{Reached, Trees, Forest}

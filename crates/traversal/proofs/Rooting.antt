@@ -1,12 +1,11 @@
 -- The pass that writes the first faces of the trees, on its way; and what it leaves, of a map: the faces at 0, all of them.
-use mathlib.Core.Path.{_≡_, refl, sym, _∙_, ap, subst}
+use mathlib.Core.Path.{_≡_, sym, _∙_, ap, subst}
 use mathlib.Core.Logic.{_⊎_, inl, inr, _≢_}
 use Prim.Native.Nat.{ℕ, _+_, _≤_, _<_}
 use native.Mathlib.Omega.{arith}
 use native.Mathlib.Decide.{ℕ-discrete, decLt}
 use Rattle.maps.specs.Map.{Map, darts}
 use Rattle.maps.specs.Face as face
-use Rattle.maps.specs.Walk.{Components}
 use Rattle.maps.specs.Check.{Sound}
 use Rattle.flows.specs.ZeroFace.{ZeroFace}
 use Rattle.traversal.specs.inner.Forest.{Reached, Trees, Forest, RootsOf}

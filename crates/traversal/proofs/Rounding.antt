@@ -5,7 +5,7 @@ use Prim.Native.Nat.{ℕ, suc, _+_, _≤_, _<_}
 use native.Mathlib.Omega.{arith}
 use native.Mathlib.Decide.{ℕ-discrete}
 use Rattle.maps.specs.Dart.{rev}
-use Rattle.maps.specs.Orbit.{iter, Orbit}
+use Rattle.maps.specs.Orbit.{Orbit}
 use Rattle.maps.proofs.Orbits.{iter-zero, iter-suc}
 use Rattle.traversal.specs.inner.Mark.{unmarked}
 use Rattle.traversal.specs.inner.Spread.{Added}

@@ -5,7 +5,6 @@ ghost use mathlib.Core.Path.{_≡_};
 ghost use mathlib.Core.Logic.{_≢_};
 ghost use Prim.Native.Nat.{ℕ, _+_, _%_, _<_, _≤_};
 ghost use lib.ListN.{length};
-ghost use Rattle.maps.specs.Dart.{rev};
 ghost use Rattle.arrays.specs.At.{at};
 ghost use Rattle.traversal.specs.inner.Mark.{unmarked};
 ghost use Rattle.refusals.specs.Order.{Decides};

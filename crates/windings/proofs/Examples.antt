@@ -1,7 +1,7 @@
 -- A worked example: two edges between two faces, face 0 left of the darts 0 and 3, face 1 left of the darts 1 and 2. The parent of face 0 is dart 0 and that of
 -- face 1 is dart 2, so two steps up lead from face 0 over dart 0 to face 1, and over dart 2 to face 0 again.
 use mathlib.Core.Path.{_≡_, refl}
-use mathlib.Core.List.{List, [], _∷_}
+use mathlib.Core.List.{[], _∷_}
 use Prim.Native.Nat.{ℕ}
 use lib.IntN.{pos, negsuc}
 use Rattle.maps.specs.Dart.{rev}

@@ -22,21 +22,6 @@ found : (c : tie.After-examine) (answer : Class) → c .examine .result ≡ answ
     (start c .args .kinds .now) (start c .args .settings .now) (start c .args .sets .now) (start c .args .points .now) (points' c) answer
 found c answer e = rw (number-of-bits _ (start c .fits .value), e) at (c .examine .ensures)
 
-examine-requires : tie.Need-examine-requires
-examine-requires c κs = search needs
-
-enum-told : tie.Need-enum-told
-enum-told c = search needs
-
-enum-known-class : tie.Need-enum-known-class
-enum-known-class c = search needs
-
-enum-known-class-2 : tie.Need-enum-known-class-2
-enum-known-class-2 c = search needs
-
-same-length : tie.Need-same-length
-same-length c = search needs
-
 returns : tie.Need-returns
 returns c = (
   Empty,
@@ -44,18 +29,12 @@ returns c = (
   record { result-told = refl; number-told = refl; sum-told = refl; least-told = refl; greatest-told = refl; place-told = refl },
 )
 
-same-length-2 : tie.Need-same-length-2
-same-length-2 c = search needs
-
 returns-2 : tie.Need-returns-2
 returns-2 c = (
   Marked _ _ _ _,
   found (c .before .before .before .before .before) (Marked _ _ _ _) (c .before .class .given .1),
   record { result-told = refl; number-told = refl; sum-told = refl; least-told = refl; greatest-told = refl; place-told = refl },
 )
-
-same-length-3 : tie.Need-same-length-3
-same-length-3 c = search needs
 
 returns-3 : tie.Need-returns-3
 returns-3 c = (
@@ -68,13 +47,13 @@ pub analyser-examine-spec : {M : Type 1} → statement M
 analyser-examine-spec =
     tie.close
     (tie.spec
-    examine-requires
-    enum-told
-    enum-known-class
-    enum-known-class-2
-    same-length
+    (λ c κs. search needs)
+    (λ c. search needs)
+    (λ c. search needs)
+    (λ c. search needs)
+    (λ c. search needs)
     returns
-    same-length-2
+    (λ c. search needs)
     returns-2
-    same-length-3
+    (λ c. search needs)
     returns-3)

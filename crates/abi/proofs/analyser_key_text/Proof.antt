@@ -23,25 +23,10 @@ found c answer e = rw e at (c .write-key .ensures .0)
 named : (c : tie.After-write-key) (answer : KeyAnswer) → c .write-key .result ≡ answer → WriteNamed (start c .args .input .now) (text' c) answer
 named c answer e = rw e at (c .write-key .ensures .1)
 
-write-key-requires : tie.Need-write-key-requires
-write-key-requires c κs = search needs
-
-enum-known-answer : tie.Need-enum-known-answer
-enum-known-answer c = search needs
-
-enum-known-answer-2 : tie.Need-enum-known-answer-2
-enum-known-answer-2 c = search needs
-
-same-length : tie.Need-same-length
-same-length c = search needs
-
 returns : tie.Need-returns
 returns c =
     let k = c .before .before .before .before .before in
     (Bytes _, found k (Bytes _) (c .before .answer .given .1), named k (Bytes _) (c .before .answer .given .1), (refl, refl, refl))
-
-same-length-2 : tie.Need-same-length-2
-same-length-2 c = search needs
 
 returns-2 : tie.Need-returns-2
 returns-2 c =
@@ -52,10 +37,10 @@ pub analyser-key-text-spec : {M : Type 1} → statement M
 analyser-key-text-spec =
     tie.close
     (tie.spec
-    write-key-requires
-    enum-known-answer
-    enum-known-answer-2
-    same-length
+    (λ c κs. search needs)
+    (λ c. search needs)
+    (λ c. search needs)
+    (λ c. search needs)
     returns
-    same-length-2
+    (λ c. search needs)
     returns-2)

@@ -19,23 +19,8 @@ found : (c : tie.After-levels-from-settings) (answer : LevelAnswer) → c .level
     → GivesLevels (start c .args .sheet .now) (start c .args .flows .now) (start c .args .levels .now) (levels' c) answer
 found c answer e = rw e at (c .levels-from-settings .ensures)
 
-levels-from-settings-requires : tie.Need-levels-from-settings-requires
-levels-from-settings-requires c κs = search needs
-
-enum-told : tie.Need-enum-told
-enum-told c = search needs
-
-enum-known-answer : tie.Need-enum-known-answer
-enum-known-answer c = search needs
-
-same-length : tie.Need-same-length
-same-length c = search needs
-
 returns : tie.Need-returns
 returns c = (Done, found (c .before .before .before) Done (c .enum-told .given .1), (refl, refl))
-
-same-length-2 : tie.Need-same-length-2
-same-length-2 c = search needs
 
 returns-2 : tie.Need-returns-2
 returns-2 c = (Refused _ _, found (c .before .before .before .before) (Refused _ _) (c .before .answer .given .1), (refl, refl))
@@ -44,10 +29,10 @@ pub analyser-levels-from-settings-spec : {M : Type 1} → statement M
 analyser-levels-from-settings-spec =
     tie.close
     (tie.spec
-    levels-from-settings-requires
-    enum-told
-    enum-known-answer
-    same-length
+    (λ c κs. search needs)
+    (λ c. search needs)
+    (λ c. search needs)
+    (λ c. search needs)
     returns
-    same-length-2
+    (λ c. search needs)
     returns-2)

@@ -15,15 +15,6 @@ found : (c : tie.After-mark) (answer : MarkAnswer) → c .mark .result ≡ answe
     → Marks (start c .args .sheet .now) (start c .args .source) (start c .args .sink) (start c .args .flows .now) answer
 found c answer e = rw e at (c .mark .ensures)
 
-mark-requires : tie.Need-mark-requires
-mark-requires c κs = search needs
-
-enum-known-answer : tie.Need-enum-known-answer
-enum-known-answer c = search needs
-
-enum-known-answer-2 : tie.Need-enum-known-answer-2
-enum-known-answer-2 c = search needs
-
 returns : tie.Need-returns
 returns c = (
   Value _,
@@ -38,8 +29,8 @@ pub analyser-mark-spec : {M : Type 1} → statement M
 analyser-mark-spec =
     tie.close
     (tie.spec
-    mark-requires
-    enum-known-answer
-    enum-known-answer-2
+    (λ c κs. search needs)
+    (λ c. search needs)
+    (λ c. search needs)
     returns
     returns-2)

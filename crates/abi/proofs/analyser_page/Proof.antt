@@ -40,28 +40,10 @@ named c =
     (c .before .before .before .list-from .result) (c .before .before .before .list-from .ensures) (begun c .args .flows .now) (flows' c)
     (begun c .args .sets .now) (sets' c) (c .page-of .result) (c .page-of .ensures .0) (c .page-of .ensures .1)
 
-list-from-requires : tie.Need-list-from-requires
-list-from-requires c κs = search needs
-
-page-of-requires : tie.Need-page-of-requires
-page-of-requires c κs = search needs
-
-enum-known-verdict : tie.Need-enum-known-verdict
-enum-known-verdict c = search needs
-
-same-length : tie.Need-same-length
-same-length c = search needs
-
-same-length-2 : tie.Need-same-length-2
-same-length-2 c = search needs
-
 returns : tie.Need-returns
 returns c =
     let k = c .before .before .before .before .before .before in
     (k .page-of .result, listed k, named k, told-refused (begun k .args .count) (k .page-of .result) _ _ (c .before .verdict .given .1) _ _ _)
-
-enum-told : tie.Need-enum-told
-enum-told c = search needs
 
 tell-numbers-requires : tie.Need-tell-numbers-requires
 tell-numbers-requires c κs =
@@ -72,12 +54,6 @@ tell-sizes-requires : tie.Need-tell-sizes-requires
 tell-sizes-requires c κs =
     let k = c .before .before .before .before .before .before .before .before in
     (page-few _ _ _ _ _ _ _ (k .page-of .result) (listed k) (c .before .before .before .enum-told .given .1), omega (arith, c .tell-sizes-arg .given .0 .1))
-
-same-length-3 : tie.Need-same-length-3
-same-length-3 c = search needs
-
-same-length-4 : tie.Need-same-length-4
-same-length-4 c = search needs
 
 returns-2 : tie.Need-returns-2
 returns-2 c =
@@ -93,15 +69,15 @@ pub analyser-page-spec : {M : Type 1} → statement M
 analyser-page-spec =
     tie.close
     (tie.spec
-    list-from-requires
-    page-of-requires
-    enum-known-verdict
-    same-length
-    same-length-2
+    (λ c κs. search needs)
+    (λ c κs. search needs)
+    (λ c. search needs)
+    (λ c. search needs)
+    (λ c. search needs)
     returns
-    enum-told
+    (λ c. search needs)
     tell-numbers-requires
     tell-sizes-requires
-    same-length-3
-    same-length-4
+    (λ c. search needs)
+    (λ c. search needs)
     returns-2)

@@ -27,39 +27,12 @@ found : (c : tie.After-read) (answer : ReadAnswer) → c .read .result ≡ answe
     (start c .args .capacities .now) (tails' c) (rotations' c) (capacities' c) answer
 found c answer e = rw e at (c .read .ensures)
 
-read-requires : tie.Need-read-requires
-read-requires c κs = search needs
-
-enum-known-answer : tie.Need-enum-known-answer
-enum-known-answer c = search needs
-
-enum-known-answer-2 : tie.Need-enum-known-answer-2
-enum-known-answer-2 c = search needs
-
-same-length : tie.Need-same-length
-same-length c = search needs
-
-same-length-2 : tie.Need-same-length-2
-same-length-2 c = search needs
-
-same-length-3 : tie.Need-same-length-3
-same-length-3 c = search needs
-
 returns : tie.Need-returns
 returns c = (
   Counts _ _ _,
   found (c .before .before .before .before .before .before .before .before) (Counts _ _ _) (c .before .answer .given .1),
   (refl, refl, refl, refl, refl),
 )
-
-same-length-4 : tie.Need-same-length-4
-same-length-4 c = search needs
-
-same-length-5 : tie.Need-same-length-5
-same-length-5 c = search needs
-
-same-length-6 : tie.Need-same-length-6
-same-length-6 c = search needs
 
 returns-2 : tie.Need-returns-2
 returns-2 c = (
@@ -72,14 +45,14 @@ pub analyser-read-spec : {M : Type 1} → statement M
 analyser-read-spec =
     tie.close
     (tie.spec
-    read-requires
-    enum-known-answer
-    enum-known-answer-2
-    same-length
-    same-length-2
-    same-length-3
+    (λ c κs. search needs)
+    (λ c. search needs)
+    (λ c. search needs)
+    (λ c. search needs)
+    (λ c. search needs)
+    (λ c. search needs)
     returns
-    same-length-4
-    same-length-5
-    same-length-6
+    (λ c. search needs)
+    (λ c. search needs)
+    (λ c. search needs)
     returns-2)

@@ -45,36 +45,6 @@ asked c answer e =
     (number-of-bits _ (begun c .fits .value))
     (subst (Asks (came c) (a .party) (a .source) (a .sink) _ (a .flows .now) (flows' c) (a .set .now) (set' c) (left' c)) e (c .ask .ensures))
 
-ask-requires : tie.Need-ask-requires
-ask-requires c κs = search needs
-
-enum-told : tie.Need-enum-told
-enum-told c = search needs
-
-enum-known-answer : tie.Need-enum-known-answer
-enum-known-answer c = search needs
-
-enum-known-answer-2 : tie.Need-enum-known-answer-2
-enum-known-answer-2 c = search needs
-
-same-length : tie.Need-same-length
-same-length c = search needs
-
-same-length-2 : tie.Need-same-length-2
-same-length-2 c = search needs
-
-same-length-3 : tie.Need-same-length-3
-same-length-3 c = search needs
-
-same-length-4 : tie.Need-same-length-4
-same-length-4 c = search needs
-
-same-length-5 : tie.Need-same-length-5
-same-length-5 c = search needs
-
-same-length-6 : tie.Need-same-length-6
-same-length-6 c = search needs
-
 returns : tie.Need-returns
 returns c = (Can, asked (c .before .before .before .before .before) Can (c .enum-told .given .1), (refl, refl, refl, refl))
 
@@ -88,16 +58,16 @@ pub analyser-session-ask-spec : {M : Type 1} → statement M
 analyser-session-ask-spec =
     tie.close
     (tie.spec
-    ask-requires
-    enum-told
-    enum-known-answer
-    enum-known-answer-2
-    same-length
-    same-length-2
+    (λ c κs. search needs)
+    (λ c. search needs)
+    (λ c. search needs)
+    (λ c. search needs)
+    (λ c. search needs)
+    (λ c. search needs)
     returns
-    same-length-3
-    same-length-4
+    (λ c. search needs)
+    (λ c. search needs)
     returns-2
-    same-length-5
-    same-length-6
+    (λ c. search needs)
+    (λ c. search needs)
     returns-3)

@@ -26,15 +26,6 @@ left' c =
 committed : (c : tie.After-commit) (answer : Verdict) → c .commit .result ≡ answer → Commits (came c) (begun c .args .party) (left' c) answer
 committed c answer e = subst (Commits (came c) (begun c .args .party) (left' c)) e (c .commit .ensures)
 
-commit-requires : tie.Need-commit-requires
-commit-requires c κs = search needs
-
-enum-told : tie.Need-enum-told
-enum-told c = search needs
-
-enum-known-answer : tie.Need-enum-known-answer
-enum-known-answer c = search needs
-
 returns : tie.Need-returns
 returns c = (Passed, committed (c .before .before) Passed (c .enum-told .given .1), (refl, refl))
 
@@ -42,4 +33,4 @@ returns-2 : tie.Need-returns-2
 returns-2 c = (Refused _ _, committed (c .before .before .before) (Refused _ _) (c .before .answer .given .1), (refl, refl))
 
 pub analyser-session-commit-spec : {M : Type 1} → statement M
-analyser-session-commit-spec = tie.close (tie.spec commit-requires enum-told enum-known-answer returns returns-2)
+analyser-session-commit-spec = tie.close (tie.spec (λ c κs. search needs) (λ c. search needs) (λ c. search needs) returns returns-2)

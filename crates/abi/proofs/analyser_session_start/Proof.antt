@@ -34,15 +34,6 @@ left' c =
 started : (c : tie.After-start) (answer : Verdict) → c .start .result ≡ answer → Starts (begun c .args .sheet .now) (came c) (left' c) answer
 started c answer e = subst (Starts (begun c .args .sheet .now) (came c) (left' c)) e (c .start .ensures)
 
-start-requires : tie.Need-start-requires
-start-requires c κs = search needs
-
-enum-told : tie.Need-enum-told
-enum-told c = search needs
-
-enum-known-answer : tie.Need-enum-known-answer
-enum-known-answer c = search needs
-
 returns : tie.Need-returns
 returns c = (Passed, started (c .before .before) Passed (c .enum-told .given .1), (refl, refl))
 
@@ -50,4 +41,4 @@ returns-2 : tie.Need-returns-2
 returns-2 c = (Refused _ _, started (c .before .before .before) (Refused _ _) (c .before .answer .given .1), (refl, refl))
 
 pub analyser-session-start-spec : {M : Type 1} → statement M
-analyser-session-start-spec = tie.close (tie.spec start-requires enum-told enum-known-answer returns returns-2)
+analyser-session-start-spec = tie.close (tie.spec (λ c κs. search needs) (λ c. search needs) (λ c. search needs) returns returns-2)

@@ -19,23 +19,8 @@ found : (c : tie.After-settings-from-levels) (answer : LevelAnswer) → c .setti
     → GivesSettings (start c .args .sheet .now) (start c .args .levels .now) (start c .args .flows .now) (flows' c) answer
 found c answer e = rw e at (c .settings-from-levels .ensures)
 
-settings-from-levels-requires : tie.Need-settings-from-levels-requires
-settings-from-levels-requires c κs = search needs
-
-enum-told : tie.Need-enum-told
-enum-told c = search needs
-
-enum-known-answer : tie.Need-enum-known-answer
-enum-known-answer c = search needs
-
-same-length : tie.Need-same-length
-same-length c = search needs
-
 returns : tie.Need-returns
 returns c = (Done, found (c .before .before .before) Done (c .enum-told .given .1), (refl, refl))
-
-same-length-2 : tie.Need-same-length-2
-same-length-2 c = search needs
 
 returns-2 : tie.Need-returns-2
 returns-2 c = (Refused _ _, found (c .before .before .before .before) (Refused _ _) (c .before .answer .given .1), (refl, refl))
@@ -44,10 +29,10 @@ pub analyser-settings-from-levels-spec : {M : Type 1} → statement M
 analyser-settings-from-levels-spec =
     tie.close
     (tie.spec
-    settings-from-levels-requires
-    enum-told
-    enum-known-answer
-    same-length
+    (λ c κs. search needs)
+    (λ c. search needs)
+    (λ c. search needs)
+    (λ c. search needs)
     returns
-    same-length-2
+    (λ c. search needs)
     returns-2)

@@ -33,45 +33,15 @@ named : (c : tie.After-solve) (answer : SolveAnswer) → c .solve .result ≡ an
     → SetNamed (sheetDrawing (start c .args .sheet .now)) (start c .args .source) (start c .args .sink) (start c .args .value) (set' c) answer
 named c answer e = rw (number-of-bits _ (start c .fits .value), e) at (c .solve .ensures .1)
 
-solve-requires : tie.Need-solve-requires
-solve-requires c κs = search needs
-
-enum-told : tie.Need-enum-told
-enum-told c = search needs
-
-enum-known-answer : tie.Need-enum-known-answer
-enum-known-answer c = search needs
-
-enum-known-answer-2 : tie.Need-enum-known-answer-2
-enum-known-answer-2 c = search needs
-
-same-length : tie.Need-same-length
-same-length c = search needs
-
-same-length-2 : tie.Need-same-length-2
-same-length-2 c = search needs
-
 returns : tie.Need-returns
 returns c =
     let k = c .before .before .before .before .before in
     (Can, solved k Can (c .enum-told .given .1), named k Can (c .enum-told .given .1), (refl, refl, refl, refl))
 
-same-length-3 : tie.Need-same-length-3
-same-length-3 c = search needs
-
-same-length-4 : tie.Need-same-length-4
-same-length-4 c = search needs
-
 returns-2 : tie.Need-returns-2
 returns-2 c =
     let k = c .before .before .before .before .before .before in
     (Cannot _, solved k (Cannot _) (c .before .answer .given .1), named k (Cannot _) (c .before .answer .given .1), (refl, refl, refl, refl))
-
-same-length-5 : tie.Need-same-length-5
-same-length-5 c = search needs
-
-same-length-6 : tie.Need-same-length-6
-same-length-6 c = search needs
 
 returns-3 : tie.Need-returns-3
 returns-3 c =
@@ -82,16 +52,16 @@ pub analyser-solve-spec : {M : Type 1} → statement M
 analyser-solve-spec =
     tie.close
     (tie.spec
-    solve-requires
-    enum-told
-    enum-known-answer
-    enum-known-answer-2
-    same-length
-    same-length-2
+    (λ c κs. search needs)
+    (λ c. search needs)
+    (λ c. search needs)
+    (λ c. search needs)
+    (λ c. search needs)
+    (λ c. search needs)
     returns
-    same-length-3
-    same-length-4
+    (λ c. search needs)
+    (λ c. search needs)
     returns-2
-    same-length-5
-    same-length-6
+    (λ c. search needs)
+    (λ c. search needs)
     returns-3)

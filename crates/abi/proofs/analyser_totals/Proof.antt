@@ -20,27 +20,12 @@ found : (c : tie.After-totals) (answer : TotalsAnswer) → c .totals .result ≡
     → GivesTotals (start c .args .sheet .now) (start c .args .set .now) (start c .args .subtotals .now) (subtotals' c) answer
 found c answer e = rw e at (c .totals .ensures)
 
-totals-requires : tie.Need-totals-requires
-totals-requires c κs = search needs
-
-enum-known-answer : tie.Need-enum-known-answer
-enum-known-answer c = search needs
-
-enum-known-answer-2 : tie.Need-enum-known-answer-2
-enum-known-answer-2 c = search needs
-
-same-length : tie.Need-same-length
-same-length c = search needs
-
 returns : tie.Need-returns
 returns c = (
   Total _,
   found (c .before .before .before .before) (Total _) (c .before .answer .given .1),
   (refl, number-of-bits _ (record { sfits = c .known-told .given .0 .1 }), refl),
 )
-
-same-length-2 : tie.Need-same-length-2
-same-length-2 c = search needs
 
 returns-2 : tie.Need-returns-2
 returns-2 c = (Refused _ _, found (c .before .before .before .before) (Refused _ _) (c .before .answer2 .given .1), (refl, refl, refl))
@@ -49,10 +34,10 @@ pub analyser-totals-spec : {M : Type 1} → statement M
 analyser-totals-spec =
     tie.close
     (tie.spec
-    totals-requires
-    enum-known-answer
-    enum-known-answer-2
-    same-length
+    (λ c κs. search needs)
+    (λ c. search needs)
+    (λ c. search needs)
+    (λ c. search needs)
     returns
-    same-length-2
+    (λ c. search needs)
     returns-2)

@@ -39,26 +39,11 @@ accepted : (c : tie.After-enum-told) → NoneOf (sheetChecks (start (asked c) .a
 accepted c = totals-passed _ noSet noTotals (out' (asked c)) _ (found (asked c) (totals.Total _) (c .enum-told .given .1))
 
 -- ── the needs, in the order of the code ──
-slice-aggregate-totals : tie.Need-slice-aggregate-totals
-slice-aggregate-totals c = search needs
-
-slice-aggregate-totals-2 : tie.Need-slice-aggregate-totals-2
-slice-aggregate-totals-2 c = search needs
-
-totals-requires : tie.Need-totals-requires
-totals-requires c κs = search needs
-
-enum-known-answer : tie.Need-enum-known-answer
-enum-known-answer c = search needs
-
 returns : tie.Need-returns
 returns c =
     let t = c .before .before .before .before in
     totals-refused _ noSet noTotals (out' t) (omega (arith, length-replicate {A = ℕ} 9 0)) (omega (arith, length-replicate 513 (pos 0))) _ _
     (found t (totals.Refused _ _) (c .before .answer .given .1))
-
-enum-told : tie.Need-enum-told
-enum-told c = search needs
 
 nodes-of-requires : tie.Need-nodes-of-requires
 nodes-of-requires c κs = head-counts _ (accepted c) .0
@@ -82,12 +67,12 @@ pub counts-spec : {M : Type 1} → statement M
 counts-spec =
     tie.close
     (tie.spec
-    slice-aggregate-totals
-    slice-aggregate-totals-2
-    totals-requires
-    enum-known-answer
+    (λ c. search needs)
+    (λ c. search needs)
+    (λ c κs. search needs)
+    (λ c. search needs)
     returns
-    enum-told
+    (λ c. search needs)
     nodes-of-requires
     edges-of-requires
     narrow-requires

@@ -1,8 +1,8 @@
 -- Mark: as Solve, with nothing to write.
-use mathlib.Core.Path.{_≡_, refl}
+use mathlib.Core.Path.{refl}
 use mathlib.Core.List.{List}
 use Prim.Native.Nat.{ℕ}
-use lib.IntN.{ℤ, pos}
+use lib.IntN.{pos}
 use borrow.Author.Needs.{needs}
 use Rattle.refusals.specs.Order.{NoneOf}
 use Rattle.arrays.proofs.FillLoops.{same-everywhere}
@@ -16,9 +16,6 @@ use Rattle.analyser.proofs.mark.Tie as tie
 open-requires : tie.Need-open-requires
 open-requires c κs = refl
 
-enum-known-verdict : tie.Need-enum-known-verdict
-enum-known-verdict c = search needs
-
 -- ── the sheet is refused ──
 returns : tie.Need-returns
 returns c =
@@ -26,9 +23,6 @@ returns c =
     let a = o .before .before .before .args in
     mark-refused (a .sheet .now) _ _ (opens-first (a .sheet .now) _ (o .«open» .result) (c .before .verdict .given .1) (o .«open» .ensures .1))
     (a .source) (a .sink) (a .flows .now)
-
-enum-told : tie.Need-enum-told
-enum-told c = search needs
 
 -- ── it is accepted ──
 abbrev begun : tie.After-enum-told → tie.Start
@@ -86,9 +80,9 @@ mark-spec =
     tie.close
     (tie.spec
     open-requires
-    enum-known-verdict
+    (λ c. search needs)
     returns
-    enum-told
+    (λ c. search needs)
     fill-tails-requires
     fill-rotations-requires
     fill-capacities-requires

@@ -1,5 +1,5 @@
 -- A list of questions on one sheet: as Solve.
-use mathlib.Core.Path.{_≡_, refl, sym, _∙_, ap}
+use mathlib.Core.Path.{refl, sym, _∙_, ap}
 use mathlib.Core.List.{List}
 use Prim.Native.Nat.{ℕ}
 use lib.IntN.{pos}
@@ -21,12 +21,6 @@ use Rattle.analyser.proofs.page_of.Tie as tie
 open-walked-requires : tie.Need-open-walked-requires
 open-walked-requires c κs = (refl, same-everywhere 1024 0, refl, same-everywhere 1024 0, refl, refl, refl, refl, refl, refl)
 
-enum-known-verdict : tie.Need-enum-known-verdict
-enum-known-verdict c = search needs
-
-refused-page-requires : tie.Need-refused-page-requires
-refused-page-requires c κs = search needs
-
 -- ── the sheet is refused ──
 returns : tie.Need-returns
 returns c =
@@ -38,9 +32,6 @@ returns c =
           (a .list .count) (a .flows .now) (a .sets .now)) (c .refused-page .ensures),
       λ e. absurd (not-passed (sym (ap (λ (p : Page). p .verdict) (c .refused-page .ensures)) ∙ e)),
     )
-
-enum-told : tie.Need-enum-told
-enum-told c = search needs
 
 -- ── it is accepted ──
 abbrev opened : tie.After-enum-told → tie.After-open-walked
@@ -89,12 +80,6 @@ answer-list-requires c κs =
           (prepared t .tails-are) (prepared t .rotations-are) (f .fill-capacities .ensures .1) _ _ _ _ _ (prepared t .walked),
     )
 
-same-length : tie.Need-same-length
-same-length c = search needs
-
-same-length-2 : tie.Need-same-length-2
-same-length-2 c = search needs
-
 returns-2 : tie.Need-returns-2
 returns-2 c =
     let k = c .before .before .before in
@@ -114,12 +99,12 @@ page-of-spec =
     tie.close
     (tie.spec
     open-walked-requires
-    enum-known-verdict
-    refused-page-requires
+    (λ c. search needs)
+    (λ c κs. search needs)
     returns
-    enum-told
+    (λ c. search needs)
     fill-capacities-requires
     answer-list-requires
-    same-length
-    same-length-2
+    (λ c. search needs)
+    (λ c. search needs)
     returns-2)

@@ -1,8 +1,8 @@
 -- Settings from levels: as Solve.
-use mathlib.Core.Path.{_≡_, refl}
+use mathlib.Core.Path.{refl}
 use mathlib.Core.List.{List}
 use Prim.Native.Nat.{ℕ}
-use lib.IntN.{ℤ, pos}
+use lib.IntN.{pos}
 use borrow.Author.Needs.{needs}
 use Rattle.refusals.specs.Order.{NoneOf}
 use Rattle.arrays.proofs.FillLoops.{same-everywhere}
@@ -16,9 +16,6 @@ use Rattle.analyser.proofs.settings_from_levels.Tie as tie
 open-requires : tie.Need-open-requires
 open-requires c κs = refl
 
-enum-known-verdict : tie.Need-enum-known-verdict
-enum-known-verdict c = search needs
-
 -- ── the sheet is refused ──
 returns : tie.Need-returns
 returns c =
@@ -28,9 +25,6 @@ returns c =
           (a .levels .now) (a .flows .now),
       refl,
     )
-
-enum-told : tie.Need-enum-told
-enum-told c = search needs
 
 -- ── it is accepted ──
 abbrev begun : tie.After-enum-told → tie.Start
@@ -71,9 +65,6 @@ settings-of-requires c κs =
     (f .fill-capacities .last .1 .1 .0) (accepted t) (f .before .before .before .before .fill-tails .ensures .1)
     (f .before .before .fill-rotations .ensures .1) (f .fill-capacities .ensures .1)
 
-same-length : tie.Need-same-length
-same-length c = search needs
-
 returns-2 : tie.Need-returns-2
 returns-2 c =
     let k = c .before in
@@ -91,12 +82,12 @@ settings-from-levels-spec =
     tie.close
     (tie.spec
     open-requires
-    enum-known-verdict
+    (λ c. search needs)
     returns
-    enum-told
+    (λ c. search needs)
     fill-tails-requires
     fill-rotations-requires
     fill-capacities-requires
     settings-of-requires
-    same-length
+    (λ c. search needs)
     returns-2)

@@ -26,26 +26,14 @@ abbrev μ-loop : tie.MeasureT-loop
 loop-holds : tie.Need-loop-holds Inv-loop μ-loop
 loop-holds c = (omega arith, refl, copy-start _ _)
 
-mul-answered : tie.Need-mul-answered Inv-loop μ-loop
-mul-answered c = search needs
-
 element-copy-out-answered : tie.Need-element-copy-out-answered Inv-loop μ-loop
 element-copy-out-answered c = omega (arith, c .loop-test .taken, c .before .before .before .pre .0)
-
-number-told-requires : tie.Need-number-told-requires Inv-loop μ-loop
-number-told-requires c κs = search needs
 
 slice-write-answers : tie.Need-slice-write-answers Inv-loop μ-loop
 slice-write-answers c =
     let l = c .before .before .before .loop in
     let t = c .before .before .before .before .before in
     omega (arith, filled-length _ _ _ _ (l .inv .2) (omega (arith, t .pre .0, t .pre .1)), t .pre .0, t .pre .1)
-
-add-i : tie.Need-add-i Inv-loop μ-loop
-add-i c = search needs
-
-loop-less : tie.Need-loop-less Inv-loop μ-loop
-loop-less c = search needs
 
 loop-again : tie.Need-loop-again Inv-loop μ-loop
 loop-again c =
@@ -76,12 +64,12 @@ tell-numbers-spec =
     Inv-loop
     μ-loop
     loop-holds
-    mul-answered
+    (λ c. search needs)
     element-copy-out-answered
-    number-told-requires
+    (λ c κs. search needs)
     slice-write-answers
-    add-i
-    loop-less
+    (λ c. search needs)
+    (λ c. search needs)
     loop-again
     same-length
     returns)

@@ -26,29 +26,14 @@ abbrev μ-loop : tie.MeasureT-loop
 loop-holds : tie.Need-loop-holds Inv-loop μ-loop
 loop-holds c = (omega arith, refl, copy-start _ _)
 
-mul-answered : tie.Need-mul-answered Inv-loop μ-loop
-mul-answered c = search needs
-
 element-copy-out-answered : tie.Need-element-copy-out-answered Inv-loop μ-loop
 element-copy-out-answered c = omega (arith, c .loop-test .taken, c .before .before .before .pre .0)
-
-size-told-requires : tie.Need-size-told-requires Inv-loop μ-loop
-size-told-requires c κs = search needs
-
-mul-sizes : tie.Need-mul-sizes Inv-loop μ-loop
-mul-sizes c = search needs
 
 slice-write-sizes : tie.Need-slice-write-sizes Inv-loop μ-loop
 slice-write-sizes c =
     let l = c .before .before .before .loop in
     let t = c .before .before .before .before .before in
     omega (arith, filled-length _ _ _ _ (l .inv .2) (omega (arith, t .pre .0, t .pre .1)), t .pre .0, t .pre .1)
-
-add-i : tie.Need-add-i Inv-loop μ-loop
-add-i c = search needs
-
-loop-less : tie.Need-loop-less Inv-loop μ-loop
-loop-less c = search needs
 
 loop-again : tie.Need-loop-again Inv-loop μ-loop
 loop-again c =
@@ -79,13 +64,13 @@ tell-sizes-spec =
     Inv-loop
     μ-loop
     loop-holds
-    mul-answered
+    (λ c. search needs)
     element-copy-out-answered
-    size-told-requires
-    mul-sizes
+    (λ c κs. search needs)
+    (λ c. search needs)
     slice-write-sizes
-    add-i
-    loop-less
+    (λ c. search needs)
+    (λ c. search needs)
     loop-again
     same-length
     returns)

@@ -5,21 +5,9 @@ use borrow.Author.Needs.{needs}
 use Rattle.arrays.proofs.right.Statement.{statement}
 use Rattle.arrays.proofs.right.Tie as tie
 
-reverse-requires : tie.Need-reverse-requires
-reverse-requires c κs = search needs
-
-mul-wide : tie.Need-mul-wide
-mul-wide c = search needs
-
-element-copy-out-wide : tie.Need-element-copy-out-wide
-element-copy-out-wide c = search needs
-
-wide-requires : tie.Need-wide-requires
-wide-requires c κs = search needs
-
 returns : tie.Need-returns
 returns c = c .wide .ensures ∙ ap (λ e. getD (c .before .before .before .args .lefts .now) e 0) (c .before .before .reverse .ensures .0)
 
 pub right-spec : {M : Type 1} → statement M
 right-spec =
-    tie.close (tie.spec reverse-requires mul-wide element-copy-out-wide wide-requires returns)
+    tie.close (tie.spec (λ c κs. search needs) (λ c. search needs) (λ c. search needs) (λ c κs. search needs) returns)

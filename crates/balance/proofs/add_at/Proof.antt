@@ -12,21 +12,6 @@ use Rattle.balance.proofs.Nets.{set-added}
 use Rattle.balance.proofs.add_at.Statement.{statement}
 use Rattle.balance.proofs.add_at.Tie as tie
 
-mul-plus : tie.Need-mul-plus
-mul-plus c = search needs
-
-element-copy-out-plus : tie.Need-element-copy-out-plus
-element-copy-out-plus c = search needs
-
-plus-requires : tie.Need-plus-requires
-plus-requires c κs = search needs
-
-mul-t9 : tie.Need-mul-t9
-mul-t9 c = search needs
-
-element-set-from-nets : tie.Need-element-set-from-nets
-element-set-from-nets c = search needs
-
 returns : tie.Need-returns
 returns c =
     let l = c .before .before .args .nets .now in
@@ -40,4 +25,4 @@ returns c =
 pub add-at-spec : {M : Type 1} → statement M
 add-at-spec =
     tie.close
-    (tie.spec mul-plus element-copy-out-plus plus-requires mul-t9 element-set-from-nets returns)
+    (tie.spec (λ c. search needs) (λ c. search needs) (λ c κs. search needs) (λ c. search needs) (λ c. search needs) returns)

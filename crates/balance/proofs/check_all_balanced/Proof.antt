@@ -14,9 +14,6 @@ use Rattle.balance.proofs.check_all_balanced.Tie as tie
 fill-nets-requires : tie.Need-fill-nets-requires
 fill-nets-requires c κs = let s = c .before in (s .pre .1, s .pre .2, refl, s .pre .3, s .pre .4, same-everywhere 1024 (pos 0))
 
-check-balance-requires : tie.Need-check-balance-requires
-check-balance-requires c κs = search needs
-
 returns : tie.Need-returns
 returns c rotation =
     let filled = c .before .before .fill-nets in
@@ -28,4 +25,4 @@ returns c rotation =
     (a .nodes) (a .nodes) (c .check-balance .result) (omega arith) (omega arith) (c .check-balance .ensures)
 
 pub check-all-balanced-spec : {M : Type 1} → statement M
-check-all-balanced-spec = tie.close (tie.spec fill-nets-requires check-balance-requires returns)
+check-all-balanced-spec = tie.close (tie.spec fill-nets-requires (λ c κs. search needs) returns)

@@ -25,18 +25,6 @@ abbrev μ-loop : tie.MeasureT-loop
 loop-holds : tie.Need-loop-holds Inv-loop μ-loop
 loop-holds c = (omega arith, λ u l. absurd (omega arith))
 
-mul-off-balance : tie.Need-mul-off-balance Inv-loop μ-loop
-mul-off-balance c = search needs
-
-element-copy-out-off-balance : tie.Need-element-copy-out-off-balance Inv-loop μ-loop
-element-copy-out-off-balance c = search needs
-
-off-balance-requires : tie.Need-off-balance-requires Inv-loop μ-loop
-off-balance-requires c κs = search needs
-
-narrow-requires : tie.Need-narrow-requires Inv-loop μ-loop
-narrow-requires c κs = search needs
-
 -- the test of node v, on the number in the array
 abbrev Place : Type 0
 Place = lts.After-off-balance (off-balance-reads.Asked, off-balance-reads.Learnt, narrow-reads.Asked, narrow-reads.Learnt) reads.Pre reads.Post Inv-loop μ-loop
@@ -59,12 +47,6 @@ returns c =
     lowest (s .args .nodes) 18 (Off (s .args .a) (s .args .b) (atℤ (s .args .nets .now))) (o .v) (c .narrow .result) (omega arith) (o .inv .1)
     (said-yes (judged-here (c .before .before)) (c .before .if1 .taken)) (c .narrow .ensures)
 
-add-v : tie.Need-add-v Inv-loop μ-loop
-add-v c = search needs
-
-loop-less : tie.Need-loop-less Inv-loop μ-loop
-loop-less c = search needs
-
 loop-again : tie.Need-loop-again Inv-loop μ-loop
 loop-again c =
     let o = c .before .before .before .before .loop in
@@ -83,12 +65,12 @@ check-balance-spec =
     Inv-loop
     μ-loop
     loop-holds
-    mul-off-balance
-    element-copy-out-off-balance
-    off-balance-requires
-    narrow-requires
+    (λ c. search needs)
+    (λ c. search needs)
+    (λ c κs. search needs)
+    (λ c κs. search needs)
     returns
-    add-v
-    loop-less
+    (λ c. search needs)
+    (λ c. search needs)
     loop-again
     returns-2)

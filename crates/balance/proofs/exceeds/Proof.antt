@@ -17,12 +17,6 @@ use Rattle.balance.proofs.exceeds.Tie as tie
 returns : tie.Need-returns
 returns c = inl (lt-of-test _ _ (rw (number-of-bits _ (c .before .fits .forward), number-of-bits _ (c .before .fits .x)) at (c .if1 .taken)))
 
-add32-requires : tie.Need-add32-requires
-add32-requires c κs = search needs
-
-below-zero-requires : tie.Need-below-zero-requires
-below-zero-requires c κs = search needs
-
 returns-2 : tie.Need-returns-2
 returns-2 c =
     let a = c .before .before .before .args in
@@ -36,4 +30,4 @@ returns-2 c =
     (rw sum at (c .below-zero .ensures))
 
 pub exceeds-spec : {M : Type 1} → statement M
-exceeds-spec = tie.close (tie.spec returns add32-requires below-zero-requires returns-2)
+exceeds-spec = tie.close (tie.spec returns (λ c κs. search needs) (λ c κs. search needs) returns-2)

@@ -22,24 +22,6 @@ abbrev μ-loop : tie.MeasureT-loop
 loop-holds : tie.Need-loop-holds Inv-loop μ-loop
 loop-holds c = (omega arith, c .pre .2, λ v l. c .pre .5 v ∙ sym (net-none _ _ v))
 
-mul-wide : tie.Need-mul-wide Inv-loop μ-loop
-mul-wide c = search needs
-
-mul-wide-2 : tie.Need-mul-wide-2 Inv-loop μ-loop
-mul-wide-2 c = search needs
-
-element-copy-out-wide : tie.Need-element-copy-out-wide Inv-loop μ-loop
-element-copy-out-wide c = search needs
-
-wide-requires : tie.Need-wide-requires Inv-loop μ-loop
-wide-requires c κs = search needs
-
-mul-add-at : tie.Need-mul-add-at Inv-loop μ-loop
-mul-add-at c = search needs
-
-shared-slice-copy-out-add-at : tie.Need-shared-slice-copy-out-add-at Inv-loop μ-loop
-shared-slice-copy-out-add-at c = search needs
-
 add-at-requires : tie.Need-add-at-requires Inv-loop μ-loop
 add-at-requires c κs =
     let s = c .before .before .before .before .before .before in
@@ -51,27 +33,6 @@ add-at-requires c κs =
           (added-fits (at (s .args .tails .now)) (atℤ (s .args .flows .now)) (s .args .edges)
           (s .pre .4) (o .e) (c .before .wide .result) (omega arith) (s .pre .0)),
     )
-
-mul-wide-3 : tie.Need-mul-wide-3 Inv-loop μ-loop
-mul-wide-3 c = search needs
-
-add-wide : tie.Need-add-wide Inv-loop μ-loop
-add-wide c = search needs
-
-mul-wide-4 : tie.Need-mul-wide-4 Inv-loop μ-loop
-mul-wide-4 c = search needs
-
-element-copy-out-wide-2 : tie.Need-element-copy-out-wide-2 Inv-loop μ-loop
-element-copy-out-wide-2 c = search needs
-
-wide-requires-2 : tie.Need-wide-requires-2 Inv-loop μ-loop
-wide-requires-2 c κs = search needs
-
-mul-sub-at : tie.Need-mul-sub-at Inv-loop μ-loop
-mul-sub-at c = search needs
-
-shared-slice-copy-out-sub-at : tie.Need-shared-slice-copy-out-sub-at Inv-loop μ-loop
-shared-slice-copy-out-sub-at c = search needs
 
 sub-at-requires : tie.Need-sub-at-requires Inv-loop μ-loop
 sub-at-requires c κs =
@@ -88,12 +49,6 @@ sub-at-requires c κs =
       rw (bits, between .ensures .1 v, bits, o .inv .2 v w)
           (taken-fits (at (s .args .tails .now)) (atℤ (s .args .flows .now)) (s .args .edges) (s .pre .4) (o .e) v atTail (omega arith) (s .pre .0)),
     )
-
-add-e : tie.Need-add-e Inv-loop μ-loop
-add-e c = search needs
-
-loop-less : tie.Need-loop-less Inv-loop μ-loop
-loop-less c = search needs
 
 loop-again : tie.Need-loop-again Inv-loop μ-loop
 loop-again c =
@@ -127,22 +82,22 @@ fill-nets-spec =
     Inv-loop
     μ-loop
     loop-holds
-    mul-wide
-    mul-wide-2
-    element-copy-out-wide
-    wide-requires
-    mul-add-at
-    shared-slice-copy-out-add-at
+    (λ c. search needs)
+    (λ c. search needs)
+    (λ c. search needs)
+    (λ c κs. search needs)
+    (λ c. search needs)
+    (λ c. search needs)
     add-at-requires
-    mul-wide-3
-    add-wide
-    mul-wide-4
-    element-copy-out-wide-2
-    wide-requires-2
-    mul-sub-at
-    shared-slice-copy-out-sub-at
+    (λ c. search needs)
+    (λ c. search needs)
+    (λ c. search needs)
+    (λ c. search needs)
+    (λ c κs. search needs)
+    (λ c. search needs)
+    (λ c. search needs)
     sub-at-requires
-    add-e
-    loop-less
+    (λ c. search needs)
+    (λ c. search needs)
     loop-again
     returns)

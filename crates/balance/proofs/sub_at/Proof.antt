@@ -12,21 +12,6 @@ use Rattle.balance.proofs.Nets.{set-added}
 use Rattle.balance.proofs.sub_at.Statement.{statement}
 use Rattle.balance.proofs.sub_at.Tie as tie
 
-mul-minus : tie.Need-mul-minus
-mul-minus c = search needs
-
-element-copy-out-minus : tie.Need-element-copy-out-minus
-element-copy-out-minus c = search needs
-
-minus-requires : tie.Need-minus-requires
-minus-requires c κs = search needs
-
-mul-t9 : tie.Need-mul-t9
-mul-t9 c = search needs
-
-element-set-from-nets : tie.Need-element-set-from-nets
-element-set-from-nets c = search needs
-
 returns : tie.Need-returns
 returns c =
     let l = c .before .before .args .nets .now in
@@ -40,4 +25,4 @@ returns c =
 pub sub-at-spec : {M : Type 1} → statement M
 sub-at-spec =
     tie.close
-    (tie.spec mul-minus element-copy-out-minus minus-requires mul-t9 element-set-from-nets returns)
+    (tie.spec (λ c. search needs) (λ c. search needs) (λ c κs. search needs) (λ c. search needs) (λ c. search needs) returns)

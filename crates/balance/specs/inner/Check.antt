@@ -1,5 +1,4 @@
 -- Refusal 18 on given sums at the nodes. Document 01, "Operations": "18 a node other than those two off balance", with the lowest node.
-use mathlib.Core.Path.{_≡_}
 use mathlib.Core.Logic.{_≢_}
 use mathlib.Core.List.{List, [], _∷_}
 use Prim.Native.Nat.{ℕ}

@@ -2,7 +2,6 @@
 use Prim.Native.Nat.{ℕ, _<_}
 use lib.IntN.{ℤ}
 use Rattle.integers.specs.inner.Limited.{Limited}
-use Rattle.arrays.specs.At.{atℤ}
 
 -- every edge's flow is at most a million: 1,024 of them add up to less than 2^31
 abbrev pub SmallFlows : ℕ → (ℕ → ℤ) → Type 0

@@ -9,20 +9,8 @@ use Rattle.capture.proofs.behind.Tie as tie
 returns : tie.Need-returns
 returns c = sym (behind-end _ _ (omega arith))
 
-sub-left : tie.Need-sub-left
-sub-left c = search needs
-
-record-length-requires : tie.Need-record-length-requires
-record-length-requires c κs = search needs
-
 returns-2 : tie.Need-returns-2
 returns-2 c = sym (behind-end _ _ (omega (arith, c .before .record-length .ensures .0)))
-
-record-length-requires-2 : tie.Need-record-length-requires-2
-record-length-requires-2 c κs = search needs
-
-add-result : tie.Need-add-result
-add-result c = search needs
 
 returns-3 : tie.Need-returns-3
 returns-3 c =
@@ -30,4 +18,4 @@ returns-3 c =
     sym (behind-next _ _ (omega (arith, short .record-length .ensures .0, c .before .if2 .left)) ∙ omega (arith, c .record-length2 .ensures .0))
 
 pub behind-spec : {M : Type 1} → statement M
-behind-spec = tie.close (tie.spec returns sub-left record-length-requires returns-2 record-length-requires-2 add-result returns-3)
+behind-spec = tie.close (tie.spec returns (λ c. search needs) (λ c κs. search needs) returns-2 (λ c κs. search needs) (λ c. search needs) returns-3)

@@ -4,7 +4,7 @@
 -- Invariant: the records before the reader's place have passed, or one of them is refused (`Stands`). Measure: the bytes left.
 use mathlib.Core.Path.{_≡_, refl, sym, _∙_, ap, subst}
 use mathlib.Core.Bool.{Bool, true, false}
-use Prim.Native.Nat.{ℕ, _+_, _-_, _≤_, _<_, _^_}
+use Prim.Native.Nat.{ℕ, _+_, _-_, _<_, _^_}
 use native.Mathlib.Omega.{arith}
 use mathlib.Core.List.{List, [], _∷_}
 use lib.Dec.{lit<}
@@ -34,7 +34,7 @@ use denote.Laws.{Is, shows}
 use denote.Memory.{pointee}
 use denote.Plain.{uint-vals, uint-tells, uint-makes, uint-lawful, bool-tells, bool-lawful}
 use denote.Builtin.{u8, usize, bool}
-use denote.Ref.{RefT, NamedLft, now}
+use denote.Ref.{RefT, now}
 use denote.Slice.{sliceTy, sliceVal, ShrSlice, slice-vals, shr-slice-tells, shr-slice-lawful, shr-slice-copy}
 use denote.Signature.{plain}
 use denote.Steps.{nothing, only, owned, peeks, facts, heard}

@@ -38,48 +38,12 @@ judged k =
 loop-holds : tie.Need-loop-holds Inv-loop μ-loop
 loop-holds c = (omega arith, omega arith, λ i l. absurd (omega arith))
 
-mul-check-capacities : tie.Need-mul-check-capacities Inv-loop μ-loop
-mul-check-capacities c = search needs
-
-mul-check-capacities-2 : tie.Need-mul-check-capacities-2 Inv-loop μ-loop
-mul-check-capacities-2 c = search needs
-
-element-copy-out-check-capacities : tie.Need-element-copy-out-check-capacities Inv-loop μ-loop
-element-copy-out-check-capacities c = search needs
-
-mul-check-capacities-3 : tie.Need-mul-check-capacities-3 Inv-loop μ-loop
-mul-check-capacities-3 c = search needs
-
-add-check-capacities : tie.Need-add-check-capacities Inv-loop μ-loop
-add-check-capacities c = search needs
-
-mul-check-capacities-4 : tie.Need-mul-check-capacities-4 Inv-loop μ-loop
-mul-check-capacities-4 c = search needs
-
-element-copy-out-check-capacities-2 : tie.Need-element-copy-out-check-capacities-2 Inv-loop μ-loop
-element-copy-out-check-capacities-2 c = search needs
-
-check-capacities-requires : tie.Need-check-capacities-requires Inv-loop μ-loop
-check-capacities-requires c κs = search needs
-
-enum-known-channel : tie.Need-enum-known-channel Inv-loop μ-loop
-enum-known-channel c = search needs
-
 returns : tie.Need-returns Inv-loop μ-loop
 unfolding limitsChecks
 returns c =
     let k = c .before .before .before in
     let i = turn k .loop in
     first-in-turn _ _ (i .e) _ _ (omega arith) (i .inv .2) (subst (Judged _) (c .before .channel .given .1) (judged k))
-
-enum-told : tie.Need-enum-told Inv-loop μ-loop
-enum-told c = search needs
-
-add-e : tie.Need-add-e Inv-loop μ-loop
-add-e c = search needs
-
-loop-less : tie.Need-loop-less Inv-loop μ-loop
-loop-less c = search needs
 
 loop-again : tie.Need-loop-again Inv-loop μ-loop
 loop-again c =
@@ -98,18 +62,18 @@ check-found-spec =
     Inv-loop
     μ-loop
     loop-holds
-    mul-check-capacities
-    mul-check-capacities-2
-    element-copy-out-check-capacities
-    mul-check-capacities-3
-    add-check-capacities
-    mul-check-capacities-4
-    element-copy-out-check-capacities-2
-    check-capacities-requires
-    enum-known-channel
+    (λ c. search needs)
+    (λ c. search needs)
+    (λ c. search needs)
+    (λ c. search needs)
+    (λ c. search needs)
+    (λ c. search needs)
+    (λ c. search needs)
+    (λ c κs. search needs)
+    (λ c. search needs)
     returns
-    enum-told
-    add-e
-    loop-less
+    (λ c. search needs)
+    (λ c. search needs)
+    (λ c. search needs)
     loop-again
     returns-2)

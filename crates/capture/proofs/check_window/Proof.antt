@@ -2,7 +2,6 @@
 use mathlib.Core.Path.{refl}
 use mathlib.Core.Logic.{inl, inr}
 use native.Mathlib.Omega.{arith}
-use borrow.Author.Needs.{needs}
 use Rattle.refusals.specs.Order.{FirstOf, NoneOf}
 use Rattle.refusals.proofs.Order.{neither}
 use Rattle.capture.specs.Capture.{windowChecks}

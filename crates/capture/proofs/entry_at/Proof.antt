@@ -1,5 +1,5 @@
 -- The record at a place: no byte and another kind are wrong, then the length is looked at, then the fields are read.
-use mathlib.Core.Path.{_≡_, sym, _∙_}
+use mathlib.Core.Path.{sym, _∙_}
 use Prim.Native.Nat.{_+_, _≤_}
 use native.Mathlib.Omega.{arith}
 use lib.ListN.{length}
@@ -19,17 +19,8 @@ whole c = omega (arith, c .before .record-length .ensures .0)
 returns : tie.Need-returns
 returns c = sym (reads-nothing _ _ (omega arith))
 
-shared-slice-read-if2 : tie.Need-shared-slice-read-if2
-shared-slice-read-if2 c = search needs
-
 returns-2 : tie.Need-returns-2
 returns-2 c = sym (reads-wrong _ _ (c .if2 .taken))
-
-sub-if3 : tie.Need-sub-if3
-sub-if3 c = search needs
-
-record-length-requires : tie.Need-record-length-requires
-record-length-requires c κs = search needs
 
 returns-3 : tie.Need-returns-3
 returns-3 c = sym (reads-cut _ _ (c .before .before .if2 .left) (omega (arith, c .before .record-length .ensures .0)))
@@ -65,10 +56,10 @@ entry-at-spec =
     tie.close
     (tie.spec
     returns
-    shared-slice-read-if2
+    (λ c. search needs)
     returns-2
-    sub-if3
-    record-length-requires
+    (λ c. search needs)
+    (λ c κs. search needs)
     returns-3
     add-read-u32
     read-u32-requires

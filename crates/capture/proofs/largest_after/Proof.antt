@@ -78,17 +78,8 @@ are : (c : tie.After-enum-told2) →
 are c = fun-ext (taken (checked c) .1)
 
 -- ── the needs, in the order of the code ──
-wide-requires : tie.Need-wide-requires
-wide-requires c κs = search needs
-
-wide64-requires : tie.Need-wide64-requires
-wide64-requires c κs = search needs
-
 take-limits-requires : tie.Need-take-limits-requires
 take-limits-requires c κs = let p = c .before .before .before .before .before .pre in (p .0, p .1 .few-edges)
-
-enum-known-taken : tie.Need-enum-known-taken
-enum-known-taken c = search needs
 
 returns : tie.Need-returns
 returns c =
@@ -103,29 +94,8 @@ returns c =
       ),
     )
 
-enum-told : tie.Need-enum-told
-enum-told c = search needs
-
-wide-requires-2 : tie.Need-wide-requires-2
-wide-requires-2 c κs = search needs
-
-wide-requires-3 : tie.Need-wide-requires-3
-wide-requires-3 c κs = search needs
-
 check-last-requires : tie.Need-check-last-requires
 check-last-requires c κs = start (c .before .before .before .before .before) .pre .1 .few-nodes
-
-enum-known-last : tie.Need-enum-known-last
-enum-known-last c = search needs
-
-same-length : tie.Need-same-length
-same-length c = search needs
-
-same-length-2 : tie.Need-same-length-2
-same-length-2 c = search needs
-
-same-length-3 : tie.Need-same-length-3
-same-length-3 c = search needs
 
 returns-2 : tie.Need-returns-2
 returns-2 c =
@@ -140,9 +110,6 @@ returns-2 c =
         refl,
       ),
     )
-
-enum-told-2 : tie.Need-enum-told-2
-enum-told-2 c = search needs
 
 write-limits-requires : tie.Need-write-limits-requires
 write-limits-requires c κs =
@@ -165,15 +132,6 @@ largest-requires c κs =
       s .pre .2,
     )
 
-same-length-4 : tie.Need-same-length-4
-same-length-4 c = search needs
-
-same-length-5 : tie.Need-same-length-5
-same-length-5 c = search needs
-
-same-length-6 : tie.Need-same-length-6
-same-length-6 c = search needs
-
 returns-3 : tie.Need-returns-3
 returns-3 c =
     let k = c .before .before .before in
@@ -189,24 +147,24 @@ pub largest-after-spec : {M : Type 1} → statement M
 largest-after-spec =
     tie.close
     (tie.spec
-    wide-requires
-    wide64-requires
+    (λ c κs. search needs)
+    (λ c κs. search needs)
     take-limits-requires
-    enum-known-taken
+    (λ c. search needs)
     returns
-    enum-told
-    wide-requires-2
-    wide-requires-3
+    (λ c. search needs)
+    (λ c κs. search needs)
+    (λ c κs. search needs)
     check-last-requires
-    enum-known-last
-    same-length
-    same-length-2
-    same-length-3
+    (λ c. search needs)
+    (λ c. search needs)
+    (λ c. search needs)
+    (λ c. search needs)
     returns-2
-    enum-told-2
+    (λ c. search needs)
     write-limits-requires
     largest-requires
-    same-length-4
-    same-length-5
-    same-length-6
+    (λ c. search needs)
+    (λ c. search needs)
+    (λ c. search needs)
     returns-3)

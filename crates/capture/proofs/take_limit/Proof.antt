@@ -9,30 +9,6 @@ use Rattle.capture.specs.inner.Taken.{lowered}
 use Rattle.capture.proofs.take_limit.Statement.{statement}
 use Rattle.capture.proofs.take_limit.Tie as tie
 
-mul-dart : tie.Need-mul-dart
-mul-dart c = search needs
-
-element-copy-out-mark : tie.Need-element-copy-out-mark
-element-copy-out-mark c = search needs
-
-mul-present : tie.Need-mul-present
-mul-present c = search needs
-
-element-copy-out-present : tie.Need-element-copy-out-present
-element-copy-out-present c = search needs
-
-lowered-by-requires : tie.Need-lowered-by-requires
-lowered-by-requires c κs = search needs
-
-element-write-seen : tie.Need-element-write-seen
-element-write-seen c = search needs
-
-mul-least : tie.Need-mul-least
-mul-least c = search needs
-
-element-set-from-least : tie.Need-element-set-from-least
-element-set-from-least c = search needs
-
 returns : tie.Need-returns
 returns c =
     let present = c .before in
@@ -49,12 +25,12 @@ pub take-limit-spec : {M : Type 1} → statement M
 take-limit-spec =
     tie.close
     (tie.spec
-    mul-dart
-    element-copy-out-mark
-    mul-present
-    element-copy-out-present
-    lowered-by-requires
-    element-write-seen
-    mul-least
-    element-set-from-least
+    (λ c. search needs)
+    (λ c. search needs)
+    (λ c. search needs)
+    (λ c. search needs)
+    (λ c κs. search needs)
+    (λ c. search needs)
+    (λ c. search needs)
+    (λ c. search needs)
     returns)

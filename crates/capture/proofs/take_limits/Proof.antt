@@ -1,6 +1,6 @@
 -- The limits after the named record: the phases one after another, each way out by a law of `Limits`.
-use mathlib.Core.Path.{_≡_, refl, sym}
-use Prim.Native.Nat.{ℕ, _+_, _*_, _≤_}
+use mathlib.Core.Path.{refl}
+use Prim.Native.Nat.{_+_, _*_, _≤_}
 use native.Mathlib.Omega.{arith}
 use lib.ListN.{length}
 use borrow.Author.Needs.{needs}
@@ -30,26 +30,11 @@ whole : (c : tie.After-enum-told2) → NoneOf (recordsChecks (start (in-range c)
 whole c = rw (c .enum-told2 .given .1) at (c .before .before .check-capture .ensures)
 
 -- ── the needs, in the order of the code ──
-check-window-requires : tie.Need-check-window-requires
-check-window-requires c κs = search needs
-
-enum-known-ranged : tie.Need-enum-known-ranged
-enum-known-ranged c = search needs
-
 returns : tie.Need-returns
 returns c =
     let k = c .before .before .before in
     let s = k .before .before in
     (s .pre .0, window-refused _ _ (atℤ (s .args .capacities .now)) _ _ _ _ _ (rw (c .before .ranged .given .1) at (k .check-window .ensures)))
-
-enum-told : tie.Need-enum-told
-enum-told c = search needs
-
-check-capture-requires : tie.Need-check-capture-requires
-check-capture-requires c κs = search needs
-
-enum-known-whole : tie.Need-enum-known-whole
-enum-known-whole c = search needs
 
 returns-2 : tie.Need-returns-2
 returns-2 c =
@@ -60,14 +45,8 @@ returns-2 c =
           (k .check-capture .ensures)),
     )
 
-enum-told-2 : tie.Need-enum-told-2
-enum-told-2 c = search needs
-
 add-end : tie.Need-add-end
 add-end c = omega (arith, inside (in-range c) .2)
-
-window-start-requires : tie.Need-window-start-requires
-window-start-requires c κs = search needs
 
 sub-take-window : tie.Need-sub-take-window
 sub-take-window c = omega (arith, c .window-start .ensures)
@@ -101,16 +80,16 @@ pub take-limits-spec : {M : Type 1} → statement M
 take-limits-spec =
     tie.close
     (tie.spec
-    check-window-requires
-    enum-known-ranged
+    (λ c κs. search needs)
+    (λ c. search needs)
     returns
-    enum-told
-    check-capture-requires
-    enum-known-whole
+    (λ c. search needs)
+    (λ c κs. search needs)
+    (λ c. search needs)
     returns-2
-    enum-told-2
+    (λ c. search needs)
     add-end
-    window-start-requires
+    (λ c κs. search needs)
     sub-take-window
     take-window-requires
     check-found-requires

@@ -81,29 +81,11 @@ few e =
 loop-holds : tie.Need-loop-holds Inv-loop μ-loop
 loop-holds c = let p = c .before .pre in (omega arith, p .1, p .2, p .3, taken-start _ _ _ _ (p .0) (λ d. refl))
 
-record-length-requires : tie.Need-record-length-requires Inv-loop μ-loop
-record-length-requires c κs = search needs
-
-add-entry-at : tie.Need-add-entry-at Inv-loop μ-loop
-add-entry-at c = search needs
-
 mul-entry-at : tie.Need-mul-entry-at Inv-loop μ-loop
 mul-entry-at c =
     let i = c .before .before .loop in
     let length-is = c .record-length .ensures .0 in
     omega (arith, ap (λ n. n * (c .before .before .before .before .args .first + i .i)) length-is, i .inv .2)
-
-entry-at-requires : tie.Need-entry-at-requires Inv-loop μ-loop
-entry-at-requires c κs = search needs
-
-add-i : tie.Need-add-i Inv-loop μ-loop
-add-i c = search needs
-
-enum-known-entry : tie.Need-enum-known-entry Inv-loop μ-loop
-enum-known-entry c = search needs
-
-wide-requires : tie.Need-wide-requires Inv-loop μ-loop
-wide-requires c κs = search needs
 
 take-limit-requires : tie.Need-take-limit-requires Inv-loop μ-loop
 take-limit-requires c κs =
@@ -153,13 +135,13 @@ take-window-spec =
     Inv-loop
     μ-loop
     loop-holds
-    record-length-requires
-    add-entry-at
+    (λ c κs. search needs)
+    (λ c. search needs)
     mul-entry-at
-    entry-at-requires
-    add-i
-    enum-known-entry
-    wide-requires
+    (λ c κs. search needs)
+    (λ c. search needs)
+    (λ c. search needs)
+    (λ c κs. search needs)
     take-limit-requires
     loop-less
     loop-again

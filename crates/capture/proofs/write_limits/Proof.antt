@@ -1,13 +1,12 @@
 -- The forward limits written: a slice filled from its start.
-use mathlib.Core.Path.{_≡_, refl, _∙_, ap}
-use mathlib.Core.List.{_++_}
-use Prim.Native.Nat.{ℕ, _-_, _*_, _≤_}
+use mathlib.Core.Path.{_≡_, _∙_, ap}
+use Prim.Native.Nat.{_-_, _*_, _≤_}
 use native.Mathlib.Omega.{arith}
-use lib.ListN.{length, drop}
+use lib.ListN.{length}
 use borrow.Author.Needs.{needs}
 use Rattle.signed.proofs.Laws.{number-of-bits}
 use Rattle.arrays.specs.At.{atℤ}
-use Rattle.arrays.specs.Filled.{tabulate, filled}
+use Rattle.arrays.specs.Filled.{filled}
 use Rattle.arrays.proofs.FillLoops.{copy-start, copy-step, filled-length}
 use Rattle.capture.proofs.write_limits.Statement.{statement}
 use Rattle.capture.proofs.write_limits.Tie as tie
@@ -22,26 +21,8 @@ abbrev μ-loop : tie.MeasureT-loop
 loop-holds : tie.Need-loop-holds Inv-loop μ-loop
 loop-holds c = (omega arith, omega arith, omega arith, copy-start _ _)
 
-mul-limits : tie.Need-mul-limits Inv-loop μ-loop
-mul-limits c = search needs
-
-mul-limits-2 : tie.Need-mul-limits-2 Inv-loop μ-loop
-mul-limits-2 c = search needs
-
-element-copy-out-limits : tie.Need-element-copy-out-limits Inv-loop μ-loop
-element-copy-out-limits c = search needs
-
-mul-t11 : tie.Need-mul-t11 Inv-loop μ-loop
-mul-t11 c = search needs
-
 slice-set-from-limits : tie.Need-slice-set-from-limits Inv-loop μ-loop
 slice-set-from-limits c = let i = c .before .before .loop in omega (arith, filled-length _ _ _ _ (i .inv .3) (omega (arith, i .inv .0, i .inv .2)), i .inv .2)
-
-add-e : tie.Need-add-e Inv-loop μ-loop
-add-e c = search needs
-
-loop-less : tie.Need-loop-less Inv-loop μ-loop
-loop-less c = search needs
 
 loop-again : tie.Need-loop-again Inv-loop μ-loop
 loop-again c =
@@ -68,13 +49,13 @@ write-limits-spec =
     Inv-loop
     μ-loop
     loop-holds
-    mul-limits
-    mul-limits-2
-    element-copy-out-limits
-    mul-t11
+    (λ c. search needs)
+    (λ c. search needs)
+    (λ c. search needs)
+    (λ c. search needs)
     slice-set-from-limits
-    add-e
-    loop-less
+    (λ c. search needs)
+    (λ c. search needs)
     loop-again
     same-length
     returns)

@@ -1,7 +1,7 @@
 -- What the reader finds at a place of a capture: a kind that is not 5, a body that is cut short, or a whole record with its fields. Past the end nothing
 -- stands,
 -- which is no kind 5 either.
-use Prim.Native.Nat.{ℕ, _+_, _≤_, _<_}
+use Prim.Native.Nat.{ℕ, _+_}
 use mathlib.Core.Bool.{cond}
 use mathlib.Core.List.{List}
 use lib.Dec.{eqb, ltb}

@@ -1,10 +1,8 @@
 -- `capacity` meets its contract: the total fits 32 bits.
-use mathlib.Core.Path.{sym, _∙_, _≡_}
-use lib.IntN.{ℤ}
+use mathlib.Core.Path.{_∙_, _≡_}
 use mir.ValLaws.{toZ-ofZ}
 use mir.Syntax.{w64}
 use mir.Val.{toZ, ofZ}
-use borrow.Author.Needs.{needs}
 use Rattle.signed.proofs.Laws.{number-of-bits}
 use Rattle.arrays.specs.At.{at, atℤ}
 use Rattle.arrays.specs.inner.Flags.{flagged}

@@ -33,54 +33,12 @@ head-is : (c : tie.After-at-head)
     ≡ flag-of c (at (c .before .before .before .before .before .before .args .tails .now) (2 * c .before .before .before .before .before .before .args .e + 1))
 head-is c = ap (flag-of c) (c .before .before .wide2 .ensures)
 
-mul-wide : tie.Need-mul-wide
-mul-wide c = search needs
-
-mul-wide-2 : tie.Need-mul-wide-2
-mul-wide-2 c = search needs
-
-element-copy-out-wide : tie.Need-element-copy-out-wide
-element-copy-out-wide c = search needs
-
-wide-requires : tie.Need-wide-requires
-wide-requires c κs = search needs
-
-mul-wide-3 : tie.Need-mul-wide-3
-mul-wide-3 c = search needs
-
-add-wide : tie.Need-add-wide
-add-wide c = search needs
-
-mul-wide-4 : tie.Need-mul-wide-4
-mul-wide-4 c = search needs
-
-element-copy-out-wide-2 : tie.Need-element-copy-out-wide-2
-element-copy-out-wide-2 c = search needs
-
-wide-requires-2 : tie.Need-wide-requires-2
-wide-requires-2 c κs = search needs
-
-element-copy-out-at-tail : tie.Need-element-copy-out-at-tail
-element-copy-out-at-tail c = search needs
-
-element-copy-out-at-head : tie.Need-element-copy-out-at-head
-element-copy-out-at-head c = search needs
-
 returns : tie.Need-returns
 returns c =
     let l = c .before in
     let s = l .before .before .before .before .before .before in
     let n = one-mark (mark-of l (tail-at l)) (mark-of l (head-at l)) (c .if1 .taken) in
     share-none (s .args .e) (at (s .args .tails .now)) (atℤ (s .args .lengths .now)) (flagged (s .args .inside .now)) _ _ (tail-is l) (head-is l) (n .0) (n .1)
-
-mul-result : tie.Need-mul-result
-mul-result c = search needs
-
-mul-result-2 : tie.Need-mul-result-2
-mul-result-2 c = search needs
-
-element-copy-out-result : tie.Need-element-copy-out-result
-element-copy-out-result c = search needs
 
 returns-2 : tie.Need-returns-2
 returns-2 c =
@@ -90,18 +48,6 @@ returns-2 c =
     number-of-bits _ (record { sfits = c .result .given })
     ∙ share-first (s .args .e) (at (s .args .tails .now)) (atℤ (s .args .lengths .now)) (flagged (s .args .inside .now)) _ _ (tail-is l) (head-is l)
     (first-marked (mark-of l (tail-at l)) (mark-of l (head-at l)) (o .if1 .left) (c .before .if2 .taken))
-
-mul-result-3 : tie.Need-mul-result-3
-mul-result-3 c = search needs
-
-add-result : tie.Need-add-result
-add-result c = search needs
-
-mul-result-4 : tie.Need-mul-result-4
-mul-result-4 c = search needs
-
-element-copy-out-result-2 : tie.Need-element-copy-out-result-2
-element-copy-out-result-2 c = search needs
 
 returns-3 : tie.Need-returns-3
 returns-3 c =
@@ -124,25 +70,25 @@ pub edge-share-spec : {M : Type 1} → statement M
 edge-share-spec =
     tie.close
     (tie.spec
-    mul-wide
-    mul-wide-2
-    element-copy-out-wide
-    wide-requires
-    mul-wide-3
-    add-wide
-    mul-wide-4
-    element-copy-out-wide-2
-    wide-requires-2
-    element-copy-out-at-tail
-    element-copy-out-at-head
+    (λ c. search needs)
+    (λ c. search needs)
+    (λ c. search needs)
+    (λ c κs. search needs)
+    (λ c. search needs)
+    (λ c. search needs)
+    (λ c. search needs)
+    (λ c. search needs)
+    (λ c κs. search needs)
+    (λ c. search needs)
+    (λ c. search needs)
     returns
-    mul-result
-    mul-result-2
-    element-copy-out-result
+    (λ c. search needs)
+    (λ c. search needs)
+    (λ c. search needs)
     returns-2
-    mul-result-3
-    add-result
-    mul-result-4
-    element-copy-out-result-2
+    (λ c. search needs)
+    (λ c. search needs)
+    (λ c. search needs)
+    (λ c. search needs)
     returns-3
     returns-4)

@@ -53,20 +53,11 @@ edge-share-requires c κs =
     let l = c .loop-test .taken in
     (omega (arith, s .pre .0), s .pre .2 (2 * e) (omega (arith, s .pre .1)), s .pre .2 (2 * e + 1) (omega (arith, s .pre .1)))
 
-widen-requires : tie.Need-widen-requires Inv-loop μ-loop
-widen-requires c κs = search needs
-
 plus64-requires : tie.Need-plus64-requires Inv-loop μ-loop
 plus64-requires c κs =
     let s = c .before .before .before .before in
     let o = c .before .before .before .loop in
     rw (sum-next c) (cut-fits (2 * (o .e + 1)) _ _ _ (omega (arith, s .pre .0)) (λ i l. s .pre .3 i (omega (arith, s .pre .1))))
-
-add-e : tie.Need-add-e Inv-loop μ-loop
-add-e c = search needs
-
-loop-less : tie.Need-loop-less Inv-loop μ-loop
-loop-less c = search needs
 
 loop-again : tie.Need-loop-again Inv-loop μ-loop
 loop-again c = (omega arith, toZ-ofZ w64 _ (record { sfits = c .plus64 .ok }) ∙ c .plus64 .ensures ∙ sum-next (c .before))
@@ -86,9 +77,9 @@ total-spec =
     μ-loop
     loop-holds
     edge-share-requires
-    widen-requires
+    (λ c κs. search needs)
     plus64-requires
-    add-e
-    loop-less
+    (λ c. search needs)
+    (λ c. search needs)
     loop-again
     returns)

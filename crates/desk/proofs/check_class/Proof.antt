@@ -28,9 +28,6 @@ returns-3 : tie.Need-returns-3
 unfolding classChecks FirstOf
 returns-3 c = inr (λ h. omega arith, inl (inr (inl (omega arith)), refl, refl))
 
-words-for-requires : tie.Need-words-for-requires
-words-for-requires c κs = search needs
-
 mul-if4 : tie.Need-mul-if4
 mul-if4 c =
     let few : c .before .before .before .before .args .n ≤ 1000 = omega arith in
@@ -65,7 +62,7 @@ check-class-spec =
     returns-2
     mul-if3
     returns-3
-    words-for-requires
+    (λ c κs. search needs)
     mul-if4
     returns-4
     returns-5

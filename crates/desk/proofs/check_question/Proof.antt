@@ -1,7 +1,6 @@
 -- Checks 13, 14 and 15: a test for each end, one for both, one for each side of the range.
 use mathlib.Core.Path.{refl}
 use mathlib.Core.Logic.{inl, inr}
-use mathlib.Core.List.{_++_}
 use native.Mathlib.Omega.{arith}
 use Rattle.integers.proofs.Laws.{lt-of-test, ge-of-test, lt-le-clash}
 use Rattle.signed.proofs.Laws.{number-of-bits}

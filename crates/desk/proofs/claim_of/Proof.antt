@@ -1,5 +1,5 @@
 -- A claim: kind 1 is none.
-use mathlib.Core.Path.{_≡_, _∙_, ap}
+use mathlib.Core.Path.{_∙_, ap}
 use native.Mathlib.Omega.{arith}
 use Rattle.signed.proofs.Laws.{number-of-bits}
 use Rattle.desk.specs.declared.Delivery.the-variants.{Value}

@@ -1,15 +1,9 @@
 -- Whether a claim is a value: its number, bit by bit.
-use mathlib.Core.Path.{_≡_, refl, sym, _∙_}
+use mathlib.Core.Path.{refl, sym, _∙_}
 use borrow.Author.Needs.{needs}
 use Rattle.desk.proofs.Judging.{no-value, claim-decides}
 use Rattle.desk.proofs.claims_value.Statement.{statement}
 use Rattle.desk.proofs.claims_value.Tie as tie
-
-enum-known-claim : tie.Need-enum-known-claim
-enum-known-claim c = search needs
-
-enum-told : tie.Need-enum-told
-enum-told c = search needs
 
 returns : tie.Need-returns
 returns c =
@@ -20,4 +14,4 @@ returns-2 : tie.Need-returns-2
 returns-2 c = λ e. no-value _ (sym (c .enum-told .given .1) ∙ e)
 
 pub claims-value-spec : {M : Type 1} → statement M
-claims-value-spec = tie.close (tie.spec enum-known-claim enum-told returns returns-2)
+claims-value-spec = tie.close (tie.spec (λ c. search needs) (λ c. search needs) returns returns-2)

@@ -17,21 +17,6 @@ said : (c : tie.After-counts) (answer : CountsAnswer) → c .counts .result ≡ 
 said c answer e = rw e at (c .counts .ensures)
 
 -- ── the needs, in the order of the code ──
-counts-requires : tie.Need-counts-requires
-counts-requires c κs = search needs
-
-enum-known-counted : tie.Need-enum-known-counted
-enum-known-counted c = search needs
-
-enum-known-counted-2 : tie.Need-enum-known-counted-2
-enum-known-counted-2 c = search needs
-
-wide-requires : tie.Need-wide-requires
-wide-requires c κs = search needs
-
-wide-requires-2 : tie.Need-wide-requires-2
-wide-requires-2 c κs = search needs
-
 examine-counted-requires : tie.Need-examine-counted-requires
 examine-counted-requires c κs =
     let m = c .before in
@@ -46,9 +31,6 @@ returns c =
     let a = start k .args in
     (sheet-refused (a .sheet .now) (a .source) (a .sink) (a .value) _ _ _ _ _ _ _ (said k (Refused _ _) (c .before .counted .given .1)), refl)
 
-same-length : tie.Need-same-length
-same-length c = search needs
-
 returns-2 : tie.Need-returns-2
 returns-2 c =
     let x = c .before .before in
@@ -62,12 +44,12 @@ pub examine-spec : {M : Type 1} → statement M
 examine-spec =
     tie.close
     (tie.spec
-    counts-requires
-    enum-known-counted
-    enum-known-counted-2
-    wide-requires
-    wide-requires-2
+    (λ c κs. search needs)
+    (λ c. search needs)
+    (λ c. search needs)
+    (λ c κs. search needs)
+    (λ c κs. search needs)
     examine-counted-requires
     returns
-    same-length
+    (λ c. search needs)
     returns-2)

@@ -1,9 +1,9 @@
 -- A class on an accepted sheet: the refusals in order, then the points of the papers and their figures.
-use Prim.Native.Nat.{ℕ, _≤_, _<_, _+_, _*_}
-use mathlib.Core.Path.{_≡_, refl, sym, _∙_, ap, subst}
+use Prim.Native.Nat.{ℕ, _≤_, _<_, _*_}
+use mathlib.Core.Path.{_≡_, refl, _∙_, subst}
 use mathlib.Core.List.{List, _++_}
 use native.Mathlib.Omega.{arith}
-use lib.ListN.{length, getD}
+use lib.ListN.{length}
 use borrow.Author.Needs.{needs}
 use Rattle.signed.proofs.Laws.{number-of-bits}
 use Rattle.refusals.specs.Order.{NoneOf, Judged}
@@ -19,18 +19,6 @@ use Rattle.desk.specs.inner.Asked.{Asked}
 use Rattle.desk.proofs.Asking.{counts-fit, question-refused, class-refused, class-accepted, asked-of, class-room, question-as, class-as}
 use Rattle.desk.proofs.examine_counted.Statement.{statement}
 use Rattle.desk.proofs.examine_counted.Tie as tie
-
-wide-requires : tie.Need-wide-requires
-wide-requires c κs = search needs
-
-wide-requires-2 : tie.Need-wide-requires-2
-wide-requires-2 c κs = search needs
-
-check-question-requires : tie.Need-check-question-requires
-check-question-requires c κs = search needs
-
-enum-known-asked : tie.Need-enum-known-asked
-enum-known-asked c = search needs
 
 -- ── 13, 14 and 15 ──
 abbrev begun : tie.After-check-question → tie.Start
@@ -49,9 +37,6 @@ returns c =
     let a = s .args in
     (question-refused (a .sheet .now) (a .source) (a .sink) (a .value) _ _ _ _ _ (s .pre .0) _ _ (asked q (Refused _ _) (c .before .asked .given .1)), refl)
 
-enum-told : tie.Need-enum-told
-enum-told c = search needs
-
 -- ── 32 and 16 ──
 abbrev first : tie.After-check-class → tie.After-check-question
 first c = c .before .before .before
@@ -64,9 +49,6 @@ check-class-requires c κs =
     let s = begun (c .before .before) in
     let few = counts-fit _ (s .pre .0) in
     (omega (arith, few .0, s .pre .1), omega (arith, few .1, s .pre .2))
-
-enum-known-room : tie.Need-enum-known-room
-enum-known-room c = search needs
 
 passed : (c : tie.After-check-class)
     → NoneOf (endChecks (nodesOf (start c .args .sheet .now)) (start c .args .source) (start c .args .sink) ++ valueChecks (start c .args .value))
@@ -81,9 +63,6 @@ returns-2 c =
           (class-as _ _ _ _ _ _ _ _ _ _ (Refused _ _) (k .check-class .ensures) (s .pre .1) (s .pre .2) (c .before .room .given .1)),
       refl,
     )
-
-enum-told-2 : tie.Need-enum-told-2
-enum-told-2 c = search needs
 
 -- ── the class is accepted ──
 abbrev checked : tie.After-enum-told2 → tie.After-check-class
@@ -213,16 +192,16 @@ pub examine-counted-spec : {M : Type 1} → statement M
 examine-counted-spec =
     tie.close
     (tie.spec
-    wide-requires
-    wide-requires-2
-    check-question-requires
-    enum-known-asked
+    (λ c κs. search needs)
+    (λ c κs. search needs)
+    (λ c κs. search needs)
+    (λ c. search needs)
     returns
-    enum-told
+    (λ c. search needs)
     check-class-requires
-    enum-known-room
+    (λ c. search needs)
     returns-2
-    enum-told-2
+    (λ c. search needs)
     returns-3
     find-largest-requires
     mark-papers-requires

@@ -1,5 +1,5 @@
 -- Largest into arrays of 512 and 9: each arm of the match has what it promises of its answer; it does not refuse.
-use mathlib.Core.Path.{_≡_, sym, _∙_, ap, subst}
+use mathlib.Core.Path.{_≡_, sym, subst}
 use mathlib.Core.List.{List}
 use Prim.Native.Nat.{ℕ}
 use lib.IntN.{ℤ, pos}
@@ -14,24 +14,6 @@ use Rattle.desk.specs.declared.Delivery.the-variants.{Value}
 use Rattle.desk.proofs.Asking.{value-largest, none-largest, never-refused}
 use Rattle.desk.proofs.find_largest.Statement.{statement}
 use Rattle.desk.proofs.find_largest.Tie as tie
-
-slice-aggregate-largest : tie.Need-slice-aggregate-largest
-slice-aggregate-largest c = search needs
-
-slice-aggregate-largest-2 : tie.Need-slice-aggregate-largest-2
-slice-aggregate-largest-2 c = search needs
-
-largest-requires : tie.Need-largest-requires
-largest-requires c κs = search needs
-
-enum-known-answer : tie.Need-enum-known-answer
-enum-known-answer c = search needs
-
-enum-told : tie.Need-enum-told
-enum-told c = search needs
-
-enum-known-answer-2 : tie.Need-enum-known-answer-2
-enum-known-answer-2 c = search needs
 
 abbrev start : tie.After-largest → tie.Start
 start c = c .before .before .before .before
@@ -69,12 +51,12 @@ pub find-largest-spec : {M : Type 1} → statement M
 find-largest-spec =
     tie.close
     (tie.spec
-    slice-aggregate-largest
-    slice-aggregate-largest-2
-    largest-requires
-    enum-known-answer
-    enum-told
-    enum-known-answer-2
+    (λ c. search needs)
+    (λ c. search needs)
+    (λ c κs. search needs)
+    (λ c. search needs)
+    (λ c. search needs)
+    (λ c. search needs)
     returns
     returns-2
     returns-3)

@@ -1,23 +1,9 @@
 -- The points for claim and set: each arm of the match has those of its largest value.
 use borrow.Author.Needs.{needs}
-use mathlib.Core.Path.{_≡_, sym, subst}
 use Rattle.signed.proofs.Laws.{number-of-bits}
-use Rattle.desk.specs.inner.Judged.{ValuePoints, NonePoints, LastSixBy}
 use Rattle.desk.proofs.Judging.{of-value, of-none}
 use Rattle.desk.proofs.last_six.Statement.{statement}
 use Rattle.desk.proofs.last_six.Tie as tie
-
-enum-known-largest : tie.Need-enum-known-largest
-enum-known-largest c = search needs
-
-value-points-requires : tie.Need-value-points-requires
-value-points-requires c κs = search needs
-
-enum-told : tie.Need-enum-told
-enum-told c = search needs
-
-none-points-requires : tie.Need-none-points-requires
-none-points-requires c κs = search needs
 
 returns : tie.Need-returns
 returns c =
@@ -37,9 +23,9 @@ pub last-six-spec : {M : Type 1} → statement M
 last-six-spec =
     tie.close
     (tie.spec
-    enum-known-largest
-    value-points-requires
-    enum-told
-    none-points-requires
+    (λ c. search needs)
+    (λ c κs. search needs)
+    (λ c. search needs)
+    (λ c κs. search needs)
     returns
     returns-2)

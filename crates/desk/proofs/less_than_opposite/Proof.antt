@@ -1,5 +1,5 @@
 -- A sum at 64 bits, which never wraps, beside -1.
-use mathlib.Core.Path.{_≡_, _∙_, ap, ap₂}
+use mathlib.Core.Path.{_∙_, ap, ap₂}
 use borrow.Author.Needs.{needs}
 use lib.IntN.{negsuc, _+ℤ_}
 use lib.Signed.{ltZ}
@@ -9,9 +9,6 @@ use Rattle.signed.proofs.Laws.{number-of-bits}
 use Rattle.desk.proofs.less_than_opposite.Statement.{statement}
 use Rattle.desk.proofs.less_than_opposite.Tie as tie
 
-add32-requires : tie.Need-add32-requires
-add32-requires c κs = search needs
-
 returns : tie.Need-returns
 returns c =
     let f = c .before .fits in
@@ -19,4 +16,4 @@ returns c =
     (toZ-ofZ w64 _ (record { sfits = c .add32 .ok }) ∙ c .add32 .ensures ∙ ap₂ _+ℤ_ (number-of-bits _ (f .x)) (number-of-bits _ (f .v)))
 
 pub less-than-opposite-spec : {M : Type 1} → statement M
-less-than-opposite-spec = tie.close (tie.spec add32-requires returns)
+less-than-opposite-spec = tie.close (tie.spec (λ c κs. search needs) returns)

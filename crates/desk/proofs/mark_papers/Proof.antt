@@ -1,9 +1,8 @@
 -- The papers of a class, marked in turn: each turn is a step of `Halfway`.
-use Prim.Native.Nat.{ℕ, _≤_, _<_, _-_, _+_, _*_}
+use Prim.Native.Nat.{ℕ, _≤_, _-_, _+_, _*_}
 use mathlib.Core.Path.{_≡_, refl, sym, _∙_, ap, subst}
 use native.Mathlib.Omega.{arith}
-use lib.ListN.{length, getD, set, take, drop}
-use lib.Seq.{length-take-le}
+use lib.ListN.{length}
 use borrow.Author.Needs.{needs}
 use mir.Syntax.{w32}
 use mir.Val.{toZ}
@@ -74,35 +73,14 @@ add-past c = record { fits = omega (arith, sets-small c) }
 shared-slice-read-claim-of : tie.Need-shared-slice-read-claim-of Inv-loop μ-loop
 shared-slice-read-claim-of c = omega (arith, c .before .loop-test .taken, begun (c .before) .pre .4)
 
-mul-claim-of : tie.Need-mul-claim-of Inv-loop μ-loop
-mul-claim-of c = search needs
-
-shared-slice-copy-out-claim-of : tie.Need-shared-slice-copy-out-claim-of Inv-loop μ-loop
-shared-slice-copy-out-claim-of c = search needs
-
-claim-of-requires : tie.Need-claim-of-requires Inv-loop μ-loop
-claim-of-requires c κs = search needs
-
 mul-paper-points : tie.Need-mul-paper-points Inv-loop μ-loop
 mul-paper-points c = record { fits = omega (arith, settings-small (c .before .before .before)) }
-
-sub-paper-points : tie.Need-sub-paper-points Inv-loop μ-loop
-sub-paper-points c = search needs
-
-part-paper-points-start : tie.Need-part-paper-points-start Inv-loop μ-loop
-part-paper-points-start c = search needs
 
 part-paper-points-end : tie.Need-part-paper-points-end Inv-loop μ-loop
 part-paper-points-end c = settings-room (c .before .before .before)
 
 mul-paper-points-2 : tie.Need-mul-paper-points-2 Inv-loop μ-loop
 mul-paper-points-2 c = record { fits = omega (arith, sets-small (c .before .before .before .before)) }
-
-sub-paper-points-2 : tie.Need-sub-paper-points-2 Inv-loop μ-loop
-sub-paper-points-2 c = search needs
-
-part-paper-points-start-2 : tie.Need-part-paper-points-start-2 Inv-loop μ-loop
-part-paper-points-start-2 c = search needs
 
 part-paper-points-end-2 : tie.Need-part-paper-points-end-2 Inv-loop μ-loop
 part-paper-points-end-2 c = sets-room (c .before .before .before .before)
@@ -124,12 +102,6 @@ slice-write-points : tie.Need-slice-write-points Inv-loop μ-loop
 slice-write-points c =
     let t = c .before .before .before .before .before .before in
     omega (arith, t .loop-test .taken, begun t .pre .7, t .before .loop .inv .4 .behind .0)
-
-add-q : tie.Need-add-q Inv-loop μ-loop
-add-q c = search needs
-
-loop-less : tie.Need-loop-less Inv-loop μ-loop
-loop-less c = search needs
 
 -- the claim of paper q
 claimed : (c : tie.After-claim-of Inv-loop μ-loop)
@@ -185,21 +157,21 @@ mark-papers-spec =
     mul-word
     add-past
     shared-slice-read-claim-of
-    mul-claim-of
-    shared-slice-copy-out-claim-of
-    claim-of-requires
+    (λ c. search needs)
+    (λ c. search needs)
+    (λ c κs. search needs)
     mul-paper-points
-    sub-paper-points
-    part-paper-points-start
+    (λ c. search needs)
+    (λ c. search needs)
     part-paper-points-end
     mul-paper-points-2
-    sub-paper-points-2
-    part-paper-points-start-2
+    (λ c. search needs)
+    (λ c. search needs)
     part-paper-points-end-2
     paper-points-requires
     slice-write-points
-    add-q
-    loop-less
+    (λ c. search needs)
+    (λ c. search needs)
     loop-again
     same-length
     returns)

@@ -8,12 +8,6 @@ use Rattle.desk.proofs.Judging.{earned, missed}
 use Rattle.desk.proofs.none_points.Statement.{statement}
 use Rattle.desk.proofs.none_points.Tie as tie
 
-claims-none-requires : tie.Need-claims-none-requires
-claims-none-requires c κs = search needs
-
-proves-none-requires : tie.Need-proves-none-requires
-proves-none-requires c κs = search needs
-
 abbrev begun : tie.After-proves-none → tie.Start
 begun c = c .before .before .before
 
@@ -33,4 +27,4 @@ returns-3 c = missed 6 (λ h. said-no (c .before .claims-none .ensures) (c .if1 
 
 pub none-points-spec : {M : Type 1} → statement M
 none-points-spec =
-    tie.close (tie.spec claims-none-requires proves-none-requires returns returns-2 returns-3)
+    tie.close (tie.spec (λ c κs. search needs) (λ c κs. search needs) returns returns-2 returns-3)

@@ -12,18 +12,6 @@ use Rattle.desk.proofs.Asking.{total-is, total-never-refused}
 use Rattle.desk.proofs.outward_total.Statement.{statement}
 use Rattle.desk.proofs.outward_total.Tie as tie
 
-slice-aggregate-totals : tie.Need-slice-aggregate-totals
-slice-aggregate-totals c = search needs
-
-totals-requires : tie.Need-totals-requires
-totals-requires c κs = search needs
-
-enum-known-answer : tie.Need-enum-known-answer
-enum-known-answer c = search needs
-
-enum-known-answer-2 : tie.Need-enum-known-answer-2
-enum-known-answer-2 c = search needs
-
 abbrev start : tie.After-totals → tie.Start
 start c = c .before .before .before .before
 
@@ -51,9 +39,9 @@ pub outward-total-spec : {M : Type 1} → statement M
 outward-total-spec =
     tie.close
     (tie.spec
-    slice-aggregate-totals
-    totals-requires
-    enum-known-answer
-    enum-known-answer-2
+    (λ c. search needs)
+    (λ c κs. search needs)
+    (λ c. search needs)
+    (λ c. search needs)
     returns
     returns-2)

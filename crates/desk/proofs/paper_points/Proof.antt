@@ -1,13 +1,11 @@
 -- One paper: 4 for its settings, and the points for claim and set.
-use Prim.Native.Nat.{ℕ, _≤_, _<_, _+_, _/_}
-use mathlib.Core.Path.{_≡_, refl, sym, _∙_, ap, subst}
+use Prim.Native.Nat.{ℕ, _≤_, _<_, _/_}
+use mathlib.Core.Path.{_≡_, _∙_, ap}
 use native.Mathlib.Omega.{arith}
-use lib.ListN.{length}
 use borrow.Author.Needs.{needs}
 use Rattle.signed.proofs.Laws.{number-of-bits}
 use Rattle.flows.specs.ProvingSet.{wordsFor, member}
 use Rattle.arrays.specs.At.{atℤ}
-use Rattle.records.specs.Sheet.{nodesOf}
 use Rattle.analyser.specs.Statements.{Delivers}
 use Rattle.desk.specs.Paper.{Earns}
 use Rattle.desk.specs.inner.Judged.{LastSixBy}
@@ -26,24 +24,15 @@ outward-total-requires c κs = let p = c .before .before .before .pre in (p .0 .
 word-in : (nodes words v w : ℕ) → wordsFor nodes ≤ words → w ≡ v → v < nodes → w / 64 < words
 word-in nodes words v w long e l = omega arith
 
-wide-requires : tie.Need-wide-requires
-wide-requires c κs = search needs
-
 holds-requires : tie.Need-holds-requires
 holds-requires c κs =
     let s = c .before .before .before .before .before in
     word-in _ _ _ _ (s .pre .2) (c .wide .ensures) (ends-inside _ _ _ (s .pre .0 .ends) .0)
 
-wide-requires-2 : tie.Need-wide-requires-2
-wide-requires-2 c κs = search needs
-
 holds-requires-2 : tie.Need-holds-requires-2
 holds-requires-2 c κs =
     let s = c .before .before .before .before .before .before .before in
     word-in _ _ _ _ (s .pre .2) (c .wide2 .ensures) (ends-inside _ _ _ (s .pre .0 .ends) .1)
-
-last-six-requires : tie.Need-last-six-requires
-last-six-requires c κs = search needs
 
 -- ── the places ──
 abbrev total-at : tie.After-last-six → tie.After-outward-total
@@ -87,10 +76,10 @@ paper-points-spec =
     (tie.spec
     settings-points-requires
     outward-total-requires
-    wide-requires
+    (λ c κs. search needs)
     holds-requires
-    wide-requires-2
+    (λ c κs. search needs)
     holds-requires-2
-    last-six-requires
+    (λ c κs. search needs)
     add-result
     returns)

@@ -1,5 +1,5 @@
 -- Whether a set meets the rule for none: a test for each way to hold the ends.
-use mathlib.Core.Path.{_≡_, sym, _∙_, ap}
+use mathlib.Core.Path.{sym, _∙_, ap}
 use mathlib.Core.Bool.{true≢false}
 use borrow.Author.Needs.{needs}
 use lib.IntN.{pos}
@@ -8,9 +8,6 @@ use Rattle.signed.proofs.Laws.{number-of-bits}
 use Rattle.desk.proofs.Judging.{none-same}
 use Rattle.desk.proofs.proves_none.Statement.{statement}
 use Rattle.desk.proofs.proves_none.Tie as tie
-
-less-requires : tie.Need-less-requires
-less-requires c κs = search needs
 
 returns : tie.Need-returns
 returns c =
@@ -25,9 +22,6 @@ returns-2 c = λ h. true≢false (sym (c .before .if1 .taken) ∙ h .0 ∙ c .if
 returns-3 : tie.Need-returns-3
 returns-3 c = λ h. true≢false (sym (c .if3 .taken) ∙ sym (h .0) ∙ c .before .if1 .left)
 
-less-requires-2 : tie.Need-less-requires-2
-less-requires-2 c κs = search needs
-
 returns-4 : tie.Need-returns-4
 returns-4 c =
     let s = c .before .before .before in
@@ -37,4 +31,4 @@ returns-4 c =
 
 pub proves-none-spec : {M : Type 1} → statement M
 proves-none-spec =
-    tie.close (tie.spec less-requires returns returns-2 returns-3 less-requires-2 returns-4)
+    tie.close (tie.spec (λ c κs. search needs) returns returns-2 returns-3 (λ c κs. search needs) returns-4)

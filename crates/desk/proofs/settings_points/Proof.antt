@@ -1,6 +1,5 @@
 -- The points for settings: Mark gives the value asked exactly where they carry it.
-use mathlib.Core.Path.{_≡_, ap, sym, subst}
-use lib.IntN.{ℤ}
+use mathlib.Core.Path.{_≡_}
 use borrow.Author.Needs.{needs}
 use Rattle.signed.proofs.Laws.{number-of-bits}
 use Rattle.analyser.specs.Mark.{Marks}
@@ -10,18 +9,6 @@ use Rattle.desk.proofs.Judging.{earns-same}
 use Rattle.desk.proofs.Asking.{marked-earns, refused-earns}
 use Rattle.desk.proofs.settings_points.Statement.{statement}
 use Rattle.desk.proofs.settings_points.Tie as tie
-
-mark-requires : tie.Need-mark-requires
-mark-requires c κs = search needs
-
-enum-known-answer : tie.Need-enum-known-answer
-enum-known-answer c = search needs
-
-value-asked-requires : tie.Need-value-asked-requires
-value-asked-requires c κs = search needs
-
-enum-known-answer-2 : tie.Need-enum-known-answer-2
-enum-known-answer-2 c = search needs
 
 abbrev start : tie.After-mark → tie.Start
 start c = c .before .before
@@ -48,9 +35,9 @@ pub settings-points-spec : {M : Type 1} → statement M
 settings-points-spec =
     tie.close
     (tie.spec
-    mark-requires
-    enum-known-answer
-    value-asked-requires
-    enum-known-answer-2
+    (λ c κs. search needs)
+    (λ c. search needs)
+    (λ c κs. search needs)
+    (λ c. search needs)
     returns
     returns-2)

@@ -1,8 +1,7 @@
 -- The sum of the points, paper by paper: at most ten more each.
-use Prim.Native.Nat.{ℕ, _≤_, _<_, _-_, _+_, _*_}
+use Prim.Native.Nat.{ℕ, _≤_, _-_, _+_, _*_}
 use mathlib.Core.Path.{_≡_, refl, sym, _∙_, ap, ap₂}
 use native.Mathlib.Omega.{arith}
-use lib.ListN.{length, getD}
 use borrow.Author.Needs.{needs}
 use Rattle.integers.specs.Sum.{sum, sumℕ}
 use Rattle.arrays.specs.At.{at}
@@ -23,12 +22,6 @@ none f = refl
 loop-holds : tie.Need-loop-holds Inv-loop μ-loop
 loop-holds c = (omega arith, none _, omega arith)
 
-shared-slice-read-wide-points : tie.Need-shared-slice-read-wide-points Inv-loop μ-loop
-shared-slice-read-wide-points c = search needs
-
-wide-points-requires : tie.Need-wide-points-requires Inv-loop μ-loop
-wide-points-requires c κs = search needs
-
 -- the points of paper q
 few : (c : tie.After-wide-points Inv-loop μ-loop) → c .wide-points .result ≤ 10
 few c =
@@ -39,12 +32,6 @@ add-sum : tie.Need-add-sum Inv-loop μ-loop
 add-sum c =
     let t = c .before .before in
     record { fits = omega (arith, few c, t .before .loop .inv .2, t .loop-test .taken, t .before .before .before .pre .1) }
-
-add-q : tie.Need-add-q Inv-loop μ-loop
-add-q c = search needs
-
-loop-less : tie.Need-loop-less Inv-loop μ-loop
-loop-less c = search needs
 
 loop-again : tie.Need-loop-again Inv-loop μ-loop
 loop-again c =
@@ -69,10 +56,10 @@ sum-of-spec =
     Inv-loop
     μ-loop
     loop-holds
-    shared-slice-read-wide-points
-    wide-points-requires
+    (λ c. search needs)
+    (λ c κs. search needs)
     add-sum
-    add-q
-    loop-less
+    (λ c. search needs)
+    (λ c. search needs)
     loop-again
     returns)

@@ -1,5 +1,5 @@
 -- 4 points for the value asked: two numbers of 32 bits, bit by bit.
-use mathlib.Core.Path.{_≡_, ap}
+use mathlib.Core.Path.{ap}
 use mir.Syntax.{w32}
 use mir.Val.{ofZ}
 use Rattle.desk.proofs.Judging.{earned, missed, same-bits}

@@ -1,5 +1,5 @@
 -- Claim and set, each by itself: 3 and 3.
-use mathlib.Core.Path.{_≡_, refl}
+use mathlib.Core.Path.{refl}
 use borrow.Author.Needs.{needs}
 use lib.IntN.{pos, _+ℤ_}
 use Rattle.signed.proofs.Laws.{number-of-bits}
@@ -9,12 +9,6 @@ use Rattle.desk.specs.inner.Judged.{IsValue, ProvesBy}
 use Rattle.desk.proofs.Judging.{earned, missed}
 use Rattle.desk.proofs.value_points.Statement.{statement}
 use Rattle.desk.proofs.value_points.Tie as tie
-
-claims-value-requires : tie.Need-claims-value-requires
-claims-value-requires c κs = search needs
-
-proves-next-requires : tie.Need-proves-next-requires
-proves-next-requires c κs = search needs
 
 abbrev begun : tie.After-proves-next → tie.Start
 begun c = c .before .before
@@ -49,4 +43,4 @@ returns-4 c =
 pub value-points-spec : {M : Type 1} → statement M
 value-points-spec =
     tie.close
-    (tie.spec claims-value-requires proves-next-requires returns returns-2 returns-3 returns-4)
+    (tie.spec (λ c κs. search needs) (λ c κs. search needs) returns returns-2 returns-3 returns-4)

@@ -26,26 +26,8 @@ capacity-digits c =
     counted (c .digit-count3 .ensures) (n .ensures ∙ ap natural (number-of-bits _ (start c .fits .capacity))) (omega (arith, n .ok))
 
 -- ── the needs, in the order of the code ──
-node-number-requires : tie.Need-node-number-requires
-node-number-requires c κs = search needs
-
-digit-count-requires : tie.Need-digit-count-requires
-digit-count-requires c κs = search needs
-
-node-number-requires-2 : tie.Need-node-number-requires-2
-node-number-requires-2 c κs = search needs
-
-digit-count-requires-2 : tie.Need-digit-count-requires-2
-digit-count-requires-2 c κs = search needs
-
 add-ends : tie.Need-add-ends
 add-ends c = record { fits = omega (arith, tail-digits (c .before .before) .1, head-digits c .1) }
-
-capacity-number-requires : tie.Need-capacity-number-requires
-capacity-number-requires c κs = search needs
-
-digit-count-requires-3 : tie.Need-digit-count-requires-3
-digit-count-requires-3 c κs = search needs
 
 add-result : tie.Need-add-result
 add-result c = record { fits = omega (arith, tail-digits (c .before .before .before .before) .1, head-digits (c .before .before) .1, capacity-digits c .1) }
@@ -65,13 +47,13 @@ pub arc-length-spec : {M : Type 1} → statement M
 arc-length-spec =
     tie.close
     (tie.spec
-    node-number-requires
-    digit-count-requires
-    node-number-requires-2
-    digit-count-requires-2
+    (λ c κs. search needs)
+    (λ c κs. search needs)
+    (λ c κs. search needs)
+    (λ c κs. search needs)
     add-ends
-    capacity-number-requires
-    digit-count-requires-3
+    (λ c κs. search needs)
+    (λ c κs. search needs)
     add-result
     add-result-2
     returns)

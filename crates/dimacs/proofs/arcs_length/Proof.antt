@@ -1,14 +1,13 @@
 -- Invariant: the sum is how long the lines of the arcs below d are, and at most 35 for each.
 use mathlib.Core.Path.{_≡_, refl, _∙_, ap}
 use mathlib.Core.List.{List}
-use Prim.Native.Nat.{ℕ, _+_, _*_, _-_, _≤_, _<_}
+use Prim.Native.Nat.{ℕ, _*_, _-_, _≤_}
 use native.Mathlib.Omega.{arith}
 use native.Mathlib.Nat.{le-antisymm}
 use lib.ListN.{length}
 use lib.IntN.{ℤ}
 use borrow.Author.Needs.{needs}
 use Rattle.signed.proofs.Laws.{number-of-bits}
-use Rattle.maps.specs.Dart.{rev}
 use Rattle.arrays.specs.At.{at, atℤ}
 use Rattle.texts.specs.Lines.{lines}
 use Rattle.texts.proofs.Joined.{lines-next}
@@ -52,37 +51,10 @@ loop-holds c = (omega arith, refl, omega arith)
 reverse-requires : tie.Need-reverse-requires Inv-loop μ-loop
 reverse-requires c κs = omega (arith, c .before .before .pre, c .loop-test .taken)
 
-mul-arc-length : tie.Need-mul-arc-length Inv-loop μ-loop
-mul-arc-length c = search needs
-
-element-copy-out-arc-length : tie.Need-element-copy-out-arc-length Inv-loop μ-loop
-element-copy-out-arc-length c = search needs
-
-mul-arc-length-2 : tie.Need-mul-arc-length-2 Inv-loop μ-loop
-mul-arc-length-2 c = search needs
-
-element-copy-out-arc-length-2 : tie.Need-element-copy-out-arc-length-2 Inv-loop μ-loop
-element-copy-out-arc-length-2 c = search needs
-
-mul-arc-length-3 : tie.Need-mul-arc-length-3 Inv-loop μ-loop
-mul-arc-length-3 c = search needs
-
-element-copy-out-arc-length-3 : tie.Need-element-copy-out-arc-length-3 Inv-loop μ-loop
-element-copy-out-arc-length-3 c = search needs
-
-arc-length-requires : tie.Need-arc-length-requires Inv-loop μ-loop
-arc-length-requires c κs = search needs
-
 add-sum : tie.Need-add-sum Inv-loop μ-loop
 add-sum c =
     let t = turn c in
     record { fits = omega (arith, t .before .loop .inv .2, c .arc-length .ensures .1, t .loop-test .taken, t .before .before .pre) }
-
-add-d : tie.Need-add-d Inv-loop μ-loop
-add-d c = search needs
-
-loop-less : tie.Need-loop-less Inv-loop μ-loop
-loop-less c = search needs
 
 loop-again : tie.Need-loop-again Inv-loop μ-loop
 loop-again c =
@@ -107,15 +79,15 @@ arcs-length-spec =
     μ-loop
     loop-holds
     reverse-requires
-    mul-arc-length
-    element-copy-out-arc-length
-    mul-arc-length-2
-    element-copy-out-arc-length-2
-    mul-arc-length-3
-    element-copy-out-arc-length-3
-    arc-length-requires
+    (λ c. search needs)
+    (λ c. search needs)
+    (λ c. search needs)
+    (λ c. search needs)
+    (λ c. search needs)
+    (λ c. search needs)
+    (λ c κs. search needs)
     add-sum
-    add-d
-    loop-less
+    (λ c. search needs)
+    (λ c. search needs)
     loop-again
     returns)

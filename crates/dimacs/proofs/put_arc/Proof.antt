@@ -1,6 +1,5 @@
 -- "a ", both ends, and the capacity.
 use mathlib.Core.Path.{_≡_, _∙_, ap}
-use mathlib.Core.List.{List, [], _∷_, _++_}
 use Prim.Native.Nat.{ℕ, _+_, _≤_}
 use native.Mathlib.Omega.{arith}
 use lib.ListN.{length}
@@ -70,43 +69,19 @@ capacity-is : (c : tie.After-capacity-number) → c .capacity-number .result ≡
 capacity-is c = c .capacity-number .ensures ∙ ap natural (number-of-bits _ (base (headed c) .fits .capacity))
 
 -- ── the needs, in the order of the code ──
-slice-aggregate-put-bytes : tie.Need-slice-aggregate-put-bytes
-slice-aggregate-put-bytes c = search needs
-
 put-bytes-requires : tie.Need-put-bytes-requires
 put-bytes-requires c κs = omega (arith, room (c .before .before .before))
-
-node-number-requires : tie.Need-node-number-requires
-node-number-requires c κs = search needs
-
-slice-aggregate-put-field : tie.Need-slice-aggregate-put-field
-slice-aggregate-put-field c = search needs
 
 put-field-requires : tie.Need-put-field-requires
 put-field-requires c κs =
     omega (arith, ap long (c .before .node-number .ensures), word-room (c .before .before .before .before .before))
 
-node-number-requires-2 : tie.Need-node-number-requires-2
-node-number-requires-2 c κs = search needs
-
-slice-aggregate-put-field-2 : tie.Need-slice-aggregate-put-field-2
-slice-aggregate-put-field-2 c = search needs
-
 put-field-requires-2 : tie.Need-put-field-requires-2
 put-field-requires-2 c κs =
     omega (arith, ap long (c .before .node-number2 .ensures), tail-room (c .before .before .before .before .before))
 
-capacity-number-requires : tie.Need-capacity-number-requires
-capacity-number-requires c κs = search needs
-
-slice-aggregate-put-field-3 : tie.Need-slice-aggregate-put-field-3
-slice-aggregate-put-field-3 c = search needs
-
 put-field-requires-3 : tie.Need-put-field-requires-3
 put-field-requires-3 c κs = omega (arith, ap long (capacity-is (c .before)), head-room (headed (c .before)))
-
-same-length : tie.Need-same-length
-same-length c = search needs
 
 returns : tie.Need-returns
 returns c =
@@ -123,16 +98,16 @@ pub put-arc-spec : {M : Type 1} → statement M
 put-arc-spec =
     tie.close
     (tie.spec
-    slice-aggregate-put-bytes
+    (λ c. search needs)
     put-bytes-requires
-    node-number-requires
-    slice-aggregate-put-field
+    (λ c κs. search needs)
+    (λ c. search needs)
     put-field-requires
-    node-number-requires-2
-    slice-aggregate-put-field-2
+    (λ c κs. search needs)
+    (λ c. search needs)
     put-field-requires-2
-    capacity-number-requires
-    slice-aggregate-put-field-3
+    (λ c κs. search needs)
+    (λ c. search needs)
     put-field-requires-3
-    same-length
+    (λ c. search needs)
     returns)

@@ -1,11 +1,10 @@
 -- Invariant: the lines of the arcs below d stand at the place. Those of all arcs have room, so each has.
-use mathlib.Core.Path.{_≡_, refl, sym, subst, _∙_, ap}
+use mathlib.Core.Path.{_≡_, _∙_, ap}
 use mathlib.Core.List.{List}
-use Prim.Native.Nat.{ℕ, _+_, _-_, _≤_, _<_}
+use Prim.Native.Nat.{ℕ, _+_, _-_, _≤_}
 use native.Mathlib.Omega.{arith}
 use native.Mathlib.Nat.{le-antisymm}
 use lib.ListN.{length}
-use lib.IntN.{ℤ}
 use borrow.Author.Needs.{needs}
 use mir.Syntax.{w32}
 use mir.Val.{toZ, ofZ}
@@ -86,34 +85,10 @@ loop-holds c = (omega arith, placed-none _ _)
 reverse-requires : tie.Need-reverse-requires Inv-loop μ-loop
 reverse-requires c κs = omega (arith, started (c .before) .pre .0, c .loop-test .taken)
 
-mul-put-arc : tie.Need-mul-put-arc Inv-loop μ-loop
-mul-put-arc c = search needs
-
-element-copy-out-put-arc : tie.Need-element-copy-out-put-arc Inv-loop μ-loop
-element-copy-out-put-arc c = search needs
-
-mul-put-arc-2 : tie.Need-mul-put-arc-2 Inv-loop μ-loop
-mul-put-arc-2 c = search needs
-
-element-copy-out-put-arc-2 : tie.Need-element-copy-out-put-arc-2 Inv-loop μ-loop
-element-copy-out-put-arc-2 c = search needs
-
-mul-put-arc-3 : tie.Need-mul-put-arc-3 Inv-loop μ-loop
-mul-put-arc-3 c = search needs
-
-element-copy-out-put-arc-3 : tie.Need-element-copy-out-put-arc-3 Inv-loop μ-loop
-element-copy-out-put-arc-3 c = search needs
-
 put-arc-requires : tie.Need-put-arc-requires Inv-loop μ-loop
 put-arc-requires c κs =
     let t = turn c in
     omega (arith, t .before .loop .inv .1 .1, next t, length-now (t .before), ap length (handed c))
-
-add-d : tie.Need-add-d Inv-loop μ-loop
-add-d c = search needs
-
-loop-less : tie.Need-loop-less Inv-loop μ-loop
-loop-less c = search needs
 
 loop-again : tie.Need-loop-again Inv-loop μ-loop
 loop-again c =
@@ -138,15 +113,15 @@ put-arcs-spec =
     μ-loop
     loop-holds
     reverse-requires
-    mul-put-arc
-    element-copy-out-put-arc
-    mul-put-arc-2
-    element-copy-out-put-arc-2
-    mul-put-arc-3
-    element-copy-out-put-arc-3
+    (λ c. search needs)
+    (λ c. search needs)
+    (λ c. search needs)
+    (λ c. search needs)
+    (λ c. search needs)
+    (λ c. search needs)
     put-arc-requires
-    add-d
-    loop-less
+    (λ c. search needs)
+    (λ c. search needs)
     loop-again
     same-length
     returns)

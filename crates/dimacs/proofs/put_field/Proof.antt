@@ -4,15 +4,6 @@ use Rattle.texts.proofs.Joined.{placed-then}
 use Rattle.dimacs.proofs.put_field.Statement.{statement}
 use Rattle.dimacs.proofs.put_field.Tie as tie
 
-put-decimal-requires : tie.Need-put-decimal-requires
-put-decimal-requires c κs = search needs
-
-put-bytes-requires : tie.Need-put-bytes-requires
-put-bytes-requires c κs = search needs
-
-same-length : tie.Need-same-length
-same-length c = search needs
-
 returns : tie.Need-returns
 returns c =
     let p = c .before .before in
@@ -20,4 +11,4 @@ returns c =
     placed-then _ _ _ _ _ _ _ _ (d .put-decimal .ensures) (p .put-bytes .ensures) (d .before .before .before .before .pre)
 
 pub put-field-spec : {M : Type 1} → statement M
-put-field-spec = tie.close (tie.spec put-decimal-requires put-bytes-requires same-length returns)
+put-field-spec = tie.close (tie.spec (λ c κs. search needs) (λ c κs. search needs) (λ c. search needs) returns)

@@ -1,12 +1,11 @@
 -- "n ", a node, and what it is.
-use mathlib.Core.Path.{_≡_, ap}
-use mathlib.Core.List.{List, [], _∷_, _++_}
-use Prim.Native.Nat.{ℕ, _+_, _≤_}
+use mathlib.Core.Path.{ap}
+use mathlib.Core.List.{_++_}
+use Prim.Native.Nat.{_+_, _≤_}
 use native.Mathlib.Omega.{arith}
 use lib.ListN.{length, length-append}
 use borrow.Author.Needs.{needs}
 use Rattle.texts.specs.Decimal.{decimal}
-use Rattle.texts.specs.inner.Placed.{Placed}
 use Rattle.texts.proofs.Joined.{placed-as, placed-room, placed-then}
 use Rattle.dimacs.proofs.Length.{long}
 use Rattle.dimacs.proofs.put_node.Statement.{statement}
@@ -23,20 +22,11 @@ word-room : (c : tie.After-put-bytes)
 word-room c = placed-room 2 _ _ _ _ _ _ (c .put-bytes .ensures) (omega arith) (room (start c))
 
 -- ── the needs, in the order of the code ──
-slice-aggregate-put-bytes : tie.Need-slice-aggregate-put-bytes
-slice-aggregate-put-bytes c = search needs
-
 put-bytes-requires : tie.Need-put-bytes-requires
 put-bytes-requires c κs = omega (arith, room (c .before .before .before .before))
 
-node-number-requires : tie.Need-node-number-requires
-node-number-requires c κs = search needs
-
 put-field-requires : tie.Need-put-field-requires
 put-field-requires c κs = omega (arith, ap long (c .node-number .ensures), word-room (c .before .before .before .before))
-
-same-length : tie.Need-same-length
-same-length c = search needs
 
 returns : tie.Need-returns
 returns c =
@@ -51,9 +41,9 @@ pub put-node-spec : {M : Type 1} → statement M
 put-node-spec =
     tie.close
     (tie.spec
-    slice-aggregate-put-bytes
+    (λ c. search needs)
     put-bytes-requires
-    node-number-requires
+    (λ c κs. search needs)
     put-field-requires
-    same-length
+    (λ c. search needs)
     returns)

@@ -1,11 +1,9 @@
 -- "p max ", and the two counts.
-use mathlib.Core.Path.{_≡_, ap}
-use mathlib.Core.List.{List, [], _∷_, _++_}
-use Prim.Native.Nat.{ℕ, _+_, _≤_}
+use mathlib.Core.Path.{ap}
+use Prim.Native.Nat.{_+_, _≤_}
 use native.Mathlib.Omega.{arith}
 use lib.ListN.{length}
 use borrow.Author.Needs.{needs}
-use Rattle.texts.specs.Decimal.{decimal}
 use Rattle.texts.specs.inner.Placed.{Placed}
 use Rattle.texts.proofs.Joined.{placed-as, placed-room, three-placed}
 use Rattle.dimacs.proofs.Length.{long, problem-length}
@@ -38,34 +36,16 @@ nodes-room c =
     (omega (arith, ended-length (start (word c) .args .nodes) 32)) (word-room (word c))
 
 -- ── the needs, in the order of the code ──
-slice-aggregate-put-bytes : tie.Need-slice-aggregate-put-bytes
-slice-aggregate-put-bytes c = search needs
-
 put-bytes-requires : tie.Need-put-bytes-requires
 put-bytes-requires c κs = omega (arith, room (c .before .before .before))
-
-count-requires : tie.Need-count-requires
-count-requires c κs = search needs
-
-slice-aggregate-put-field : tie.Need-slice-aggregate-put-field
-slice-aggregate-put-field c = search needs
 
 put-field-requires : tie.Need-put-field-requires
 put-field-requires c κs =
     omega (arith, ap long (c .before .count .ensures), word-room (c .before .before .before .before .before))
 
-count-requires-2 : tie.Need-count-requires-2
-count-requires-2 c κs = search needs
-
-slice-aggregate-put-field-2 : tie.Need-slice-aggregate-put-field-2
-slice-aggregate-put-field-2 c = search needs
-
 put-field-requires-2 : tie.Need-put-field-requires-2
 put-field-requires-2 c κs =
     omega (arith, ap long (c .before .count2 .ensures), nodes-room (c .before .before .before .before .before))
-
-same-length : tie.Need-same-length
-same-length c = search needs
 
 returns : tie.Need-returns
 returns c =
@@ -81,13 +61,13 @@ pub put-problem-spec : {M : Type 1} → statement M
 put-problem-spec =
     tie.close
     (tie.spec
-    slice-aggregate-put-bytes
+    (λ c. search needs)
     put-bytes-requires
-    count-requires
-    slice-aggregate-put-field
+    (λ c κs. search needs)
+    (λ c. search needs)
     put-field-requires
-    count-requires-2
-    slice-aggregate-put-field-2
+    (λ c κs. search needs)
+    (λ c. search needs)
     put-field-requires-2
-    same-length
+    (λ c. search needs)
     returns)

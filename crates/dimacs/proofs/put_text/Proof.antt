@@ -1,6 +1,5 @@
 -- The problem line, both node lines and the lines of the arcs, one behind another.
-use mathlib.Core.Path.{_≡_, ap}
-use mathlib.Core.List.{List, [], _∷_, _++_}
+use mathlib.Core.List.{List}
 use Prim.Native.Nat.{ℕ, _+_, _*_, _≤_}
 use native.Mathlib.Omega.{arith}
 use lib.ListN.{length}
@@ -74,38 +73,23 @@ sink-room : (c : tie.After-put-node2) → c .put-node2 .result + length (arcs (b
 sink-room c = placed-room (length (sink (begun c))) _ _ _ _ _ _ (sink-placed c) (omega arith) (source-room (sourced c))
 
 -- ── the needs, in the order of the code ──
-mul-put-problem : tie.Need-mul-put-problem
-mul-put-problem c = search needs
-
 put-problem-requires : tie.Need-put-problem-requires
 put-problem-requires c κs =
     let s = c .before .before in
     (s .pre .0, omega (arith, s .pre .1), omega (arith, room s))
 
-slice-aggregate-put-node : tie.Need-slice-aggregate-put-node
-slice-aggregate-put-node c = search needs
-
 put-node-requires : tie.Need-put-node-requires
 unfolding nodeLine
 put-node-requires c κs = omega (arith, problem-room (c .before .before .before .before))
-
-slice-aggregate-put-node-2 : tie.Need-slice-aggregate-put-node-2
-slice-aggregate-put-node-2 c = search needs
 
 put-node-requires-2 : tie.Need-put-node-requires-2
 unfolding nodeLine
 put-node-requires-2 c κs = omega (arith, source-room (c .before .before .before .before))
 
-mul-put-arcs : tie.Need-mul-put-arcs
-mul-put-arcs c = search needs
-
 put-arcs-requires : tie.Need-put-arcs-requires
 put-arcs-requires c κs =
     let n = c .before .before .before in
     (omega (arith, begun n .pre .1), sink-room n)
-
-same-length : tie.Need-same-length
-same-length c = search needs
 
 returns : tie.Need-returns
 unfolding dimacsText
@@ -120,13 +104,13 @@ pub put-text-spec : {M : Type 1} → statement M
 put-text-spec =
     tie.close
     (tie.spec
-    mul-put-problem
+    (λ c. search needs)
     put-problem-requires
-    slice-aggregate-put-node
+    (λ c. search needs)
     put-node-requires
-    slice-aggregate-put-node-2
+    (λ c. search needs)
     put-node-requires-2
-    mul-put-arcs
+    (λ c. search needs)
     put-arcs-requires
-    same-length
+    (λ c. search needs)
     returns)

@@ -21,15 +21,6 @@ abbrev μ-loop : tie.MeasureT-loop
 loop-holds : tie.Need-loop-holds Inv-loop μ-loop
 loop-holds c = (omega arith, λ i l. absurd (omega arith))
 
-mul-negative : tie.Need-mul-negative Inv-loop μ-loop
-mul-negative c = search needs
-
-element-copy-out-negative : tie.Need-element-copy-out-negative Inv-loop μ-loop
-element-copy-out-negative c = search needs
-
-negative-requires : tie.Need-negative-requires Inv-loop μ-loop
-negative-requires c κs = search needs
-
 -- the test of dart d, on the number in the array
 judged-here : (c : tie.After-negative Inv-loop μ-loop)
     → Decides (atℤ (c .before .before .before .before .args .capacities .now) (c .before .before .before .loop .d) <ℤ pos 0) (c .negative .result)
@@ -42,12 +33,6 @@ returns : tie.Need-returns Inv-loop μ-loop
 returns c =
     let o = c .before .before .before .before .loop in
     (o .d, omega (arith, c .before .before .before .loop-test .taken), said-yes (judged-here (c .before)) (c .if1 .taken))
-
-add-d : tie.Need-add-d Inv-loop μ-loop
-add-d c = search needs
-
-loop-less : tie.Need-loop-less Inv-loop μ-loop
-loop-less c = search needs
 
 loop-again : tie.Need-loop-again Inv-loop μ-loop
 loop-again c =
@@ -64,11 +49,11 @@ some-negative-spec =
     Inv-loop
     μ-loop
     loop-holds
-    mul-negative
-    element-copy-out-negative
-    negative-requires
+    (λ c. search needs)
+    (λ c. search needs)
+    (λ c κs. search needs)
     returns
-    add-d
-    loop-less
+    (λ c. search needs)
+    (λ c. search needs)
     loop-again
     returns-2)

@@ -1,5 +1,5 @@
 -- Four numbers of at most ten digits, the arcs, and eighteen bytes more.
-use mathlib.Core.Path.{_≡_, _∙_}
+use mathlib.Core.Path.{_≡_}
 use Prim.Native.Nat.{_+_, _*_, _≤_}
 use native.Mathlib.Omega.{arith}
 use borrow.Author.Needs.{needs}
@@ -29,50 +29,17 @@ sink-digits : (c : tie.After-digit-count4) → (c .digit-count4 .result ≡ long
 sink-digits c = let n = c .before .node-number2 in counted (c .digit-count4 .ensures) (n .ensures) (omega (arith, n .ok))
 
 -- ── the needs, in the order of the code ──
-count-requires : tie.Need-count-requires
-count-requires c κs = search needs
-
-digit-count-requires : tie.Need-digit-count-requires
-digit-count-requires c κs = search needs
-
-mul-count : tie.Need-mul-count
-mul-count c = search needs
-
-count-requires-2 : tie.Need-count-requires-2
-count-requires-2 c κs = search needs
-
-digit-count-requires-2 : tie.Need-digit-count-requires-2
-digit-count-requires-2 c κs = search needs
-
 add-counts : tie.Need-add-counts
 add-counts c = record { fits = omega (arith, nodes-digits (c .before .before) .1, arcs-digits c .1) }
 
 add-counts-2 : tie.Need-add-counts-2
 add-counts-2 c = record { fits = omega (arith, nodes-digits (c .before .before) .1, arcs-digits c .1) }
 
-node-number-requires : tie.Need-node-number-requires
-node-number-requires c κs = search needs
-
-digit-count-requires-3 : tie.Need-digit-count-requires-3
-digit-count-requires-3 c κs = search needs
-
-node-number-requires-2 : tie.Need-node-number-requires-2
-node-number-requires-2 c κs = search needs
-
-digit-count-requires-4 : tie.Need-digit-count-requires-4
-digit-count-requires-4 c κs = search needs
-
 add-ends : tie.Need-add-ends
 add-ends c = record { fits = omega (arith, source-digits (c .before .before) .1, sink-digits c .1) }
 
 add-ends-2 : tie.Need-add-ends-2
 add-ends-2 c = record { fits = omega (arith, source-digits (c .before .before) .1, sink-digits c .1) }
-
-mul-arcs-length : tie.Need-mul-arcs-length
-mul-arcs-length c = search needs
-
-arcs-length-requires : tie.Need-arcs-length-requires
-arcs-length-requires c κs = search needs
 
 -- ── all of it ──
 small : (c : tie.After-arcs-length)
@@ -113,21 +80,21 @@ pub text-length-spec : {M : Type 1} → statement M
 text-length-spec =
     tie.close
     (tie.spec
-    count-requires
-    digit-count-requires
-    mul-count
-    count-requires-2
-    digit-count-requires-2
+    (λ c κs. search needs)
+    (λ c κs. search needs)
+    (λ c. search needs)
+    (λ c κs. search needs)
+    (λ c κs. search needs)
     add-counts
     add-counts-2
-    node-number-requires
-    digit-count-requires-3
-    node-number-requires-2
-    digit-count-requires-4
+    (λ c κs. search needs)
+    (λ c κs. search needs)
+    (λ c κs. search needs)
+    (λ c κs. search needs)
     add-ends
     add-ends-2
-    mul-arcs-length
-    arcs-length-requires
+    (λ c. search needs)
+    (λ c κs. search needs)
     add-result
     add-result-2
     returns)

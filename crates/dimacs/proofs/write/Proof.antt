@@ -1,7 +1,6 @@
 -- Each way out is a law of `Writing`; the text's length is known before the first byte is written.
 use mathlib.Core.Path.{_≡_, refl}
-use mathlib.Core.List.{List}
-use Prim.Native.Nat.{ℕ, _*_, _≤_}
+use Prim.Native.Nat.{_*_, _≤_}
 use native.Mathlib.Omega.{arith}
 use lib.ListN.{length}
 use borrow.Author.Needs.{needs}
@@ -50,29 +49,11 @@ enough : (c : tie.Else2) → length (textOf (drawing (begun (c .before))) (begun
 enough c = omega (arith, c .before .text-length .ensures, c .if2 .left)
 
 -- ── the needs, in the order of the code ──
-wide-requires : tie.Need-wide-requires
-wide-requires c κs = search needs
-
-wide-requires-2 : tie.Need-wide-requires-2
-wide-requires-2 c κs = search needs
-
-check-ends-requires : tie.Need-check-ends-requires
-check-ends-requires c κs = search needs
-
-enum-known-ends : tie.Need-enum-known-ends
-enum-known-ends c = search needs
-
 returns : tie.Need-returns
 returns c =
     let e = c .before .before .before in
     let s = start e in
     (text-ends (drawing s) (s .args .source) (s .args .sink) (s .args .out .now) _ _ (ends-judged e (Refused _ _) (c .before .ends .given .1)), refl)
-
-enum-told : tie.Need-enum-told
-enum-told c = search needs
-
-mul-some-negative : tie.Need-mul-some-negative
-mul-some-negative c = search needs
 
 some-negative-requires : tie.Need-some-negative-requires
 some-negative-requires c κs = omega (arith, base c .pre .1)
@@ -104,9 +85,6 @@ put-text-requires c κs =
     let p = begun (e .before) .pre in
     (p .0, p .1, enough e)
 
-same-length : tie.Need-same-length
-same-length c = search needs
-
 returns-4 : tie.Need-returns-4
 returns-4 c =
     let p = c .before .before in
@@ -123,17 +101,17 @@ pub write-spec : {M : Type 1} → statement M
 write-spec =
     tie.close
     (tie.spec
-    wide-requires
-    wide-requires-2
-    check-ends-requires
-    enum-known-ends
+    (λ c κs. search needs)
+    (λ c κs. search needs)
+    (λ c κs. search needs)
+    (λ c. search needs)
     returns
-    enum-told
-    mul-some-negative
+    (λ c. search needs)
+    (λ c. search needs)
     some-negative-requires
     returns-2
     text-length-requires
     returns-3
     put-text-requires
-    same-length
+    (λ c. search needs)
     returns-4)

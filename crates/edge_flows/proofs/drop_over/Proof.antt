@@ -15,39 +15,6 @@ use Rattle.edge_flows.proofs.drop_over.Reads as reads
 use Rattle.edge_flows.proofs.drop_over.Statement.{statement}
 use Rattle.edge_flows.proofs.drop_over.Tie as tie
 
-mul-wide : tie.Need-mul-wide
-mul-wide c = search needs
-
-mul-wide-2 : tie.Need-mul-wide-2
-mul-wide-2 c = search needs
-
-element-copy-out-wide : tie.Need-element-copy-out-wide
-element-copy-out-wide c = search needs
-
-wide-requires : tie.Need-wide-requires
-wide-requires c κs = search needs
-
-mul-wide-3 : tie.Need-mul-wide-3
-mul-wide-3 c = search needs
-
-add-wide : tie.Need-add-wide
-add-wide c = search needs
-
-mul-wide-4 : tie.Need-mul-wide-4
-mul-wide-4 c = search needs
-
-element-copy-out-wide-2 : tie.Need-element-copy-out-wide-2
-element-copy-out-wide-2 c = search needs
-
-wide-requires-2 : tie.Need-wide-requires-2
-wide-requires-2 c κs = search needs
-
-mul-minus64 : tie.Need-mul-minus64
-mul-minus64 c = search needs
-
-element-copy-out-minus64 : tie.Need-element-copy-out-minus64
-element-copy-out-minus64 c = search needs
-
 -- the face on the right, as the code reads it: left of dart 2e + 1
 abbrev Place : Type 0
 Place = lts.After-wide2 (wide-reads.Asked, wide-reads.Learnt, minus64-reads.Asked, minus64-reads.Learnt) reads.Pre reads.Post
@@ -91,17 +58,17 @@ pub drop-over-spec : {M : Type 1} → statement M
 drop-over-spec =
     tie.close
     (tie.spec
-    mul-wide
-    mul-wide-2
-    element-copy-out-wide
-    wide-requires
-    mul-wide-3
-    add-wide
-    mul-wide-4
-    element-copy-out-wide-2
-    wide-requires-2
-    mul-minus64
-    element-copy-out-minus64
+    (λ c. search needs)
+    (λ c. search needs)
+    (λ c. search needs)
+    (λ c κs. search needs)
+    (λ c. search needs)
+    (λ c. search needs)
+    (λ c. search needs)
+    (λ c. search needs)
+    (λ c κs. search needs)
+    (λ c. search needs)
+    (λ c. search needs)
     mul-minus64-2
     element-copy-out-minus64-2
     minus64-requires

@@ -26,17 +26,8 @@ loop-holds c = (omega arith, copy-start _ _)
 flow-of-requires : tie.Need-flow-of-requires Inv-loop μ-loop
 flow-of-requires c κs = let s = c .before .before in (s .pre .0, c .loop-test .taken, s .pre .2)
 
-mul-t10 : tie.Need-mul-t10 Inv-loop μ-loop
-mul-t10 c = search needs
-
 slice-set-from-flows : tie.Need-slice-set-from-flows Inv-loop μ-loop
 slice-set-from-flows c = omega (arith, filled-length _ _ _ _ (c .before .before .loop .inv .1) (omega arith))
-
-add-e : tie.Need-add-e Inv-loop μ-loop
-add-e c = search needs
-
-loop-less : tie.Need-loop-less Inv-loop μ-loop
-loop-less c = search needs
 
 loop-again : tie.Need-loop-again Inv-loop μ-loop
 loop-again c =
@@ -63,10 +54,10 @@ fill-flows-spec =
     μ-loop
     loop-holds
     flow-of-requires
-    mul-t10
+    (λ c. search needs)
     slice-set-from-flows
-    add-e
-    loop-less
+    (λ c. search needs)
+    (λ c. search needs)
     loop-again
     same-length
     returns)

@@ -26,27 +26,6 @@ drop-over-requires c κs =
     let l = c .pre .1 in
     (omega (arith, c .pre .0), left-in φ (c .args .e) l, right-in φ (c .args .e) l, drop-fits φ (c .args .e) l)
 
-mul-sub32 : tie.Need-mul-sub32
-mul-sub32 c = search needs
-
-mul-sub32-2 : tie.Need-mul-sub32-2
-mul-sub32-2 c = search needs
-
-element-copy-out-sub32 : tie.Need-element-copy-out-sub32
-element-copy-out-sub32 c = search needs
-
-mul-sub32-3 : tie.Need-mul-sub32-3
-mul-sub32-3 c = search needs
-
-mul-sub32-4 : tie.Need-mul-sub32-4
-mul-sub32-4 c = search needs
-
-element-copy-out-sub32-2 : tie.Need-element-copy-out-sub32-2
-element-copy-out-sub32-2 c = search needs
-
-sub32-requires : tie.Need-sub32-requires
-sub32-requires c κs = search needs
-
 -- the places after both terms are computed, and after their sum is
 abbrev Place : Type 0
 Place =
@@ -118,13 +97,13 @@ flow-of-spec =
     tie.close
     (tie.spec
     drop-over-requires
-    mul-sub32
-    mul-sub32-2
-    element-copy-out-sub32
-    mul-sub32-3
-    mul-sub32-4
-    element-copy-out-sub32-2
-    sub32-requires
+    (λ c. search needs)
+    (λ c. search needs)
+    (λ c. search needs)
+    (λ c. search needs)
+    (λ c. search needs)
+    (λ c. search needs)
+    (λ c κs. search needs)
     plus64-requires
     narrow-requires
     returns)

@@ -8,15 +8,9 @@ use borrow.Author.Needs.{needs}
 use Rattle.fields.proofs.read_i32.Statement.{statement}
 use Rattle.fields.proofs.read_i32.Tie as tie
 
-read-u32-requires : tie.Need-read-u32-requires
-read-u32-requires c κs = search needs
-
-of-bits-requires : tie.Need-of-bits-requires
-of-bits-requires c κs = search needs
-
 returns : tie.Need-returns
 unfolding i32At
 returns c = number-of-bits (c .of-bits .result) (record { sfits = c .of-bits .ok }) ∙ c .of-bits .ensures ∙ ap (toZ w32) (c .before .read-u32 .ensures)
 
 pub read-i32-spec : {M : Type 1} → statement M
-read-i32-spec = tie.close (tie.spec read-u32-requires of-bits-requires returns)
+read-i32-spec = tie.close (tie.spec (λ c κs. search needs) (λ c κs. search needs) returns)

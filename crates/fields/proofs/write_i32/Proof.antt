@@ -8,15 +8,6 @@ use borrow.Author.Needs.{needs}
 use Rattle.fields.proofs.write_i32.Statement.{statement}
 use Rattle.fields.proofs.write_i32.Tie as tie
 
-to-bits-requires : tie.Need-to-bits-requires
-to-bits-requires c κs = search needs
-
-write-u32-requires : tie.Need-write-u32-requires
-write-u32-requires c κs = search needs
-
-same-length : tie.Need-same-length
-same-length c = search needs
-
 returns : tie.Need-returns
 unfolding le32
 returns c =
@@ -26,4 +17,4 @@ returns c =
     (c .before .before .before .to-bits .ensures ∙ ap (ofZ w32) (number-of-bits (s .args .x) (s .fits .x)))
 
 pub write-i32-spec : {M : Type 1} → statement M
-write-i32-spec = tie.close (tie.spec to-bits-requires write-u32-requires same-length returns)
+write-i32-spec = tie.close (tie.spec (λ c κs. search needs) (λ c κs. search needs) (λ c. search needs) returns)

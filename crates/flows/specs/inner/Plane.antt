@@ -1,5 +1,5 @@
 -- A plane map: sound and flat, which is what the sheet checks 9 to 12 leave.
-use Prim.Native.Nat.{ℕ, _<_}
+use Prim.Native.Nat.{_<_}
 use Rattle.maps.specs.Map.{Map}
 use Rattle.maps.specs.Flat.{Flat}
 use Rattle.maps.specs.Check.{Sound}

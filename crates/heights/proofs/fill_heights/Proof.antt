@@ -76,20 +76,11 @@ abbrev both : tie.After-minus-small Inv-loop μ-loop → tie.After-wide6 Inv-loo
 both c = c .before .before .before
 
 -- ── the needs, in the order of the code ──
-element-copy-out-wide : tie.Need-element-copy-out-wide Inv-loop μ-loop
-element-copy-out-wide c = search needs
-
-wide-requires : tie.Need-wide-requires Inv-loop μ-loop
-wide-requires c κs = search needs
-
 mul-wide : tie.Need-mul-wide Inv-loop μ-loop
 mul-wide c = omega (arith, begun c .pre .1 .few, first-in c)
 
 element-copy-out-wide-2 : tie.Need-element-copy-out-wide-2 Inv-loop μ-loop
 element-copy-out-wide-2 c = omega (arith, begun c .pre .1 .few, first-in c)
-
-wide-requires-2 : tie.Need-wide-requires-2 Inv-loop μ-loop
-wide-requires-2 c κs = search needs
 
 mul-heights : tie.Need-mul-heights Inv-loop μ-loop
 mul-heights c = omega (arith, root-in c)
@@ -115,9 +106,6 @@ mul-wide-2 c = omega (arith, few c, c .loop-test .taken)
 element-copy-out-wide-3 : tie.Need-element-copy-out-wide-3 Inv-loop μ-loop
 element-copy-out-wide-3 c = omega (arith, few c, c .loop-test .taken)
 
-wide-requires-3 : tie.Need-wide-requires-3 Inv-loop μ-loop
-wide-requires-3 c κs = search needs
-
 add-i : tie.Need-add-i Inv-loop μ-loop
 add-i c = omega (arith, few (turn c), turn c .loop-test .taken)
 
@@ -126,9 +114,6 @@ mul-wide-3 c = omega (arith, few (turn c), dart-below c)
 
 element-copy-out-wide-4 : tie.Need-element-copy-out-wide-4 Inv-loop μ-loop
 element-copy-out-wide-4 c = omega (arith, few (turn c), dart-below c)
-
-wide-requires-4 : tie.Need-wide-requires-4 Inv-loop μ-loop
-wide-requires-4 c κs = search needs
 
 reverse-requires : tie.Need-reverse-requires Inv-loop μ-loop
 reverse-requires c κs = omega (arith, few (turn (met c)), origin-below c)
@@ -139,17 +124,11 @@ mul-wide-4 c = let f = c .before .before in omega (arith, few (turn (met f)), or
 element-copy-out-wide-5 : tie.Need-element-copy-out-wide-5 Inv-loop μ-loop
 element-copy-out-wide-5 c = let f = c .before .before in omega (arith, few (turn (met f)), origin-below f)
 
-wide-requires-5 : tie.Need-wide-requires-5 Inv-loop μ-loop
-wide-requires-5 c κs = search needs
-
 mul-wide-5 : tie.Need-mul-wide-5 Inv-loop μ-loop
 mul-wide-5 c = let d = met (origin c) in omega (arith, few (turn d), dart-below d)
 
 element-copy-out-wide-6 : tie.Need-element-copy-out-wide-6 Inv-loop μ-loop
 element-copy-out-wide-6 c = let d = met (origin c) in omega (arith, few (turn d), dart-below d)
-
-wide-requires-6 : tie.Need-wide-requires-6 Inv-loop μ-loop
-wide-requires-6 c κs = search needs
 
 mul-minus-small : tie.Need-mul-minus-small Inv-loop μ-loop
 mul-minus-small c = omega (arith, known-in (knows c))
@@ -205,9 +184,6 @@ mul-wide-6 c = let d = met (c .before .before .before) in omega (arith, few (tur
 element-copy-out-wide-7 : tie.Need-element-copy-out-wide-7 Inv-loop μ-loop
 element-copy-out-wide-7 c = let d = met (c .before .before .before) in omega (arith, few (turn d), dart-below d)
 
-wide-requires-7 : tie.Need-wide-requires-7 Inv-loop μ-loop
-wide-requires-7 c κs = search needs
-
 mul-heights-2 : tie.Need-mul-heights-2 Inv-loop μ-loop
 mul-heights-2 c = omega (arith, base-in c)
 
@@ -253,28 +229,28 @@ fill-heights-spec =
     (tie.spec
     Inv-loop
     μ-loop
-    element-copy-out-wide
-    wide-requires
+    (λ c. search needs)
+    (λ c κs. search needs)
     mul-wide
     element-copy-out-wide-2
-    wide-requires-2
+    (λ c κs. search needs)
     mul-heights
     element-set-of-heights
     loop-holds
     mul-wide-2
     element-copy-out-wide-3
-    wide-requires-3
+    (λ c κs. search needs)
     add-i
     mul-wide-3
     element-copy-out-wide-4
-    wide-requires-4
+    (λ c κs. search needs)
     reverse-requires
     mul-wide-4
     element-copy-out-wide-5
-    wide-requires-5
+    (λ c κs. search needs)
     mul-wide-5
     element-copy-out-wide-6
-    wide-requires-6
+    (λ c κs. search needs)
     mul-minus-small
     element-copy-out-minus-small
     mul-minus-small-2
@@ -286,7 +262,7 @@ fill-heights-spec =
     loop-again
     mul-wide-6
     element-copy-out-wide-7
-    wide-requires-7
+    (λ c κs. search needs)
     mul-heights-2
     element-set-of-heights-2
     loop-less-2

@@ -2,10 +2,9 @@
 -- what filling them needs, and what it leaves.
 use mathlib.Core.Path.{_≡_}
 use Prim.Native.Nat.{ℕ, _≤_, _<_}
-use lib.IntN.{ℤ, pos, negℤ, _-ℤ_}
+use lib.IntN.{ℤ, pos, _-ℤ_}
 use Rattle.integers.specs.inner.Limited.{Limited}
 use Rattle.maps.specs.Dart.{rev}
-use Rattle.arrays.specs.At.{at, atℤ}
 use Rattle.traversal.specs.inner.Forest.{Forest}
 use Rattle.arrays.specs.inner.Sizes.{mostWinding, mostHeight}
 

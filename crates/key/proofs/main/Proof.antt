@@ -8,7 +8,6 @@ use lib.ListN.{length, take, drop, replicate, length-append}
 use lib.Seq.{take-at, take-all, length-take-le}
 use borrow.Author.Needs.{needs}
 use Rattle.key_text.specs.Input.{Begins}
-use Rattle.key_text.specs.Key.{Prints}
 use Rattle.streams.specs.inner.Input.{Filled}
 use Rattle.streams.specs.declared.Input.{Input}
 use Rattle.streams.specs.declared.Input.the-variants.{Ended, Full}
@@ -46,33 +45,6 @@ front c =
     let k = c .key-of-input .ensures _ (bytes-begin _ _ (there (c .before .before .before))) .0 in
     (k .0, k .2, k .4)
 
-slice-aggregate-read-input : tie.Need-slice-aggregate-read-input
-slice-aggregate-read-input c = search needs
-
-read-input-requires : tie.Need-read-input-requires
-read-input-requires c κs = search needs
-
-enum-known-n : tie.Need-enum-known-n
-enum-known-n c = search needs
-
-enum-known-n-2 : tie.Need-enum-known-n-2
-enum-known-n-2 c = search needs
-
-enum-told : tie.Need-enum-told
-enum-told c = search needs
-
-slice-aggregate-fail : tie.Need-slice-aggregate-fail
-slice-aggregate-fail c = search needs
-
-fail-requires : tie.Need-fail-requires
-fail-requires c κs = search needs
-
-returns : tie.Need-returns
-returns c = search needs
-
-slice-aggregate-key-of-input : tie.Need-slice-aggregate-key-of-input
-slice-aggregate-key-of-input c = search needs
-
 key-of-input-requires : tie.Need-key-of-input-requires
 key-of-input-requires c κs = (search needs, there (c .before .before))
 
@@ -82,39 +54,24 @@ array-share-prefix-text c = let f = front c in front-there _ (f .0) _ _ (f .1) (
 slice-aggregate-write-text : tie.Need-slice-aggregate-write-text
 slice-aggregate-write-text c = let f = front (c .before) in front-taken _ (f .0) _ _ (f .1) (f .2)
 
-write-text-requires : tie.Need-write-text-requires
-write-text-requires c κs = search needs
-
-slice-aggregate-fail-2 : tie.Need-slice-aggregate-fail-2
-slice-aggregate-fail-2 c = search needs
-
-fail-requires-2 : tie.Need-fail-requires-2
-fail-requires-2 c κs = search needs
-
-returns-2 : tie.Need-returns-2
-returns-2 c = search needs
-
-returns-3 : tie.Need-returns-3
-returns-3 c = search needs
-
 pub main-spec : {M : Type 1} → statement M
 main-spec =
     tie.close
     (tie.spec
-    slice-aggregate-read-input
-    read-input-requires
-    enum-known-n
-    enum-known-n-2
-    enum-told
-    slice-aggregate-fail
-    fail-requires
-    returns
-    slice-aggregate-key-of-input
+    (λ c. search needs)
+    (λ c κs. search needs)
+    (λ c. search needs)
+    (λ c. search needs)
+    (λ c. search needs)
+    (λ c. search needs)
+    (λ c κs. search needs)
+    (λ c. search needs)
+    (λ c. search needs)
     key-of-input-requires
     array-share-prefix-text
     slice-aggregate-write-text
-    write-text-requires
-    slice-aggregate-fail-2
-    fail-requires-2
-    returns-2
-    returns-3)
+    (λ c κs. search needs)
+    (λ c. search needs)
+    (λ c κs. search needs)
+    (λ c. search needs)
+    (λ c. search needs))

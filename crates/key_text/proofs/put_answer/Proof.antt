@@ -76,18 +76,6 @@ abbrev refused : tie.After-answer2 → tie.After-solve
 refused c = c .before .before .before .before
 
 -- ── the needs, in the order of the code: it can ──
-slice-aggregate-solve : tie.Need-slice-aggregate-solve
-slice-aggregate-solve c = search needs
-
-slice-aggregate-solve-2 : tie.Need-slice-aggregate-solve-2
-slice-aggregate-solve-2 c = search needs
-
-solve-requires : tie.Need-solve-requires
-solve-requires c κs = search needs
-
-enum-told : tie.Need-enum-told
-enum-told c = search needs
-
 edges-of-requires : tie.Need-edges-of-requires
 edges-of-requires c κs =
     let t = c .before in
@@ -107,9 +95,6 @@ put-can-requires c κs =
       λ i l. flows-fit _ _ _ _ _ (flows' a) _ (set' a) h i (subst (λ k. i < k) e l),
     )
 
-same-length : tie.Need-same-length
-same-length c = search needs
-
 returns : tie.Need-returns
 returns c b question sheet source sink value =
     let p = c .before .before in
@@ -125,9 +110,6 @@ returns c b question sheet source sink value =
     (p .put-can .ensures)
 
 -- ── it cannot ──
-enum-known-answer : tie.Need-enum-known-answer
-enum-known-answer c = search needs
-
 nodes-of-requires : tie.Need-nodes-of-requires
 nodes-of-requires c κs =
     let t = c .before .before in
@@ -146,9 +128,6 @@ put-cannot-requires c κs =
       omega (arith, few, e),
     )
 
-same-length-2 : tie.Need-same-length-2
-same-length-2 c = search needs
-
 returns-2 : tie.Need-returns-2
 returns-2 c b question sheet source sink value =
     let p = c .before .before in
@@ -166,14 +145,8 @@ returns-2 c b question sheet source sink value =
     (p .put-cannot .ensures)
 
 -- ── refused ──
-enum-known-answer-2 : tie.Need-enum-known-answer-2
-enum-known-answer-2 c = search needs
-
 put-refused-requires : tie.Need-put-refused-requires
 put-refused-requires c κs = omega (arith, start (refused (c .before .before)) .pre)
-
-same-length-3 : tie.Need-same-length-3
-same-length-3 c = search needs
 
 returns-3 : tie.Need-returns-3
 returns-3 c b question sheet source sink value =
@@ -191,20 +164,20 @@ pub put-answer-spec : {M : Type 1} → statement M
 put-answer-spec =
     tie.close
     (tie.spec
-    slice-aggregate-solve
-    slice-aggregate-solve-2
-    solve-requires
-    enum-told
+    (λ c. search needs)
+    (λ c. search needs)
+    (λ c κs. search needs)
+    (λ c. search needs)
     edges-of-requires
     put-can-requires
-    enum-known-answer
+    (λ c. search needs)
     nodes-of-requires
     put-cannot-requires
-    enum-known-answer-2
+    (λ c. search needs)
     put-refused-requires
-    same-length
+    (λ c. search needs)
     returns
-    same-length-2
+    (λ c. search needs)
     returns-2
-    same-length-3
+    (λ c. search needs)
     returns-3)

@@ -43,9 +43,6 @@ put-edges-requires c κs =
     let s = begin f in
     (first-room f, s .pre .2, s .pre .3)
 
-same-length : tie.Need-same-length
-same-length c = search needs
-
 returns : tie.Need-returns
 unfolding canText
 returns c =
@@ -58,4 +55,4 @@ returns c =
     placed-then _ _ _ _ _ _ _ _ (first f) (all-lines .put-edges .ensures) (omega (arith, all, can-line-length (s .args .value) (s .pre .1), s .pre .0))
 
 pub put-can-spec : {M : Type 1} → statement M
-put-can-spec = tie.close (tie.spec put-can-line-requires put-edges-requires same-length returns)
+put-can-spec = tie.close (tie.spec put-can-line-requires put-edges-requires (λ c. search needs) returns)

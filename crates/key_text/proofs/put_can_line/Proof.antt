@@ -42,9 +42,6 @@ abbrev told : tie.After-put-bytes2 → tie.After-put-number
 told c = c .before .before .before .before .before
 
 -- ── the needs, in the order of the code ──
-slice-aggregate-put-bytes : tie.Need-slice-aggregate-put-bytes
-slice-aggregate-put-bytes c = search needs
-
 put-bytes-requires : tie.Need-put-bytes-requires
 put-bytes-requires c κs = omega (arith, c .before .before .before .pre .0)
 
@@ -54,14 +51,8 @@ put-number-requires c κs =
     let s = begin b in
     omega (arith, subst (λ x. length (number x) ≤ 10) (sym (number-of-bits _ (s .fits .value))) (nine-digits s), word-room b)
 
-slice-aggregate-put-bytes-2 : tie.Need-slice-aggregate-put-bytes-2
-slice-aggregate-put-bytes-2 c = search needs
-
 put-bytes-requires-2 : tie.Need-put-bytes-requires-2
 put-bytes-requires-2 c κs = value-room (c .before .before .before .before)
-
-same-length : tie.Need-same-length
-same-length c = search needs
 
 returns : tie.Need-returns
 unfolding canLine
@@ -75,10 +66,10 @@ pub put-can-line-spec : {M : Type 1} → statement M
 put-can-line-spec =
     tie.close
     (tie.spec
-    slice-aggregate-put-bytes
+    (λ c. search needs)
     put-bytes-requires
     put-number-requires
-    slice-aggregate-put-bytes-2
+    (λ c. search needs)
     put-bytes-requires-2
-    same-length
+    (λ c. search needs)
     returns)

@@ -40,9 +40,6 @@ put-cannot-line-requires c κs =
 put-nodes-requires : tie.Need-put-nodes-requires
 put-nodes-requires c κs = let f = c .before .before .before in (first-room f, begin f .pre .2)
 
-same-length : tie.Need-same-length
-same-length c = search needs
-
 returns : tie.Need-returns
 unfolding cannotText
 returns c =
@@ -53,4 +50,4 @@ returns c =
     placed-then _ _ _ _ _ _ _ _ (first f) (all-lines .put-nodes .ensures) (omega (arith, all, short-line f, s .pre .0))
 
 pub put-cannot-spec : {M : Type 1} → statement M
-put-cannot-spec = tie.close (tie.spec put-cannot-line-requires put-nodes-requires same-length returns)
+put-cannot-spec = tie.close (tie.spec put-cannot-line-requires put-nodes-requires (λ c. search needs) returns)

@@ -78,9 +78,6 @@ abbrev counted : tie.After-put-bytes3 → tie.After-put-decimal
 counted c = c .before .before .before .before .before
 
 -- ── the needs, in the order of the code ──
-slice-aggregate-put-bytes : tie.Need-slice-aggregate-put-bytes
-slice-aggregate-put-bytes c = search needs
-
 put-bytes-requires : tie.Need-put-bytes-requires
 put-bytes-requires c κs = omega (arith, c .before .before .before .pre .0)
 
@@ -90,26 +87,14 @@ put-number-requires c κs =
     let s = begin b in
     omega (arith, subst (λ x. length (number x) ≤ 10) (sym (number-of-bits _ (s .fits .value))) (nine-digits s), word-room b)
 
-slice-aggregate-put-bytes-2 : tie.Need-slice-aggregate-put-bytes-2
-slice-aggregate-put-bytes-2 c = search needs
-
 put-bytes-requires-2 : tie.Need-put-bytes-requires-2
 put-bytes-requires-2 c κs = omega (arith, value-room (c .before .before .before .before))
-
-short-requires : tie.Need-short-requires
-short-requires c κs = search needs
 
 put-decimal-requires : tie.Need-put-decimal-requires
 put-decimal-requires c κs = omega (arith, five-digits c, blank-room (parted c))
 
-slice-aggregate-put-bytes-3 : tie.Need-slice-aggregate-put-bytes-3
-slice-aggregate-put-bytes-3 c = search needs
-
 put-bytes-requires-3 : tie.Need-put-bytes-requires-3
 put-bytes-requires-3 c κs = size-room (c .before .before .before .before)
-
-same-length : tie.Need-same-length
-same-length c = search needs
 
 returns : tie.Need-returns
 unfolding cannotLine
@@ -128,14 +113,14 @@ pub put-cannot-line-spec : {M : Type 1} → statement M
 put-cannot-line-spec =
     tie.close
     (tie.spec
-    slice-aggregate-put-bytes
+    (λ c. search needs)
     put-bytes-requires
     put-number-requires
-    slice-aggregate-put-bytes-2
+    (λ c. search needs)
     put-bytes-requires-2
-    short-requires
+    (λ c κs. search needs)
     put-decimal-requires
-    slice-aggregate-put-bytes-3
+    (λ c. search needs)
     put-bytes-requires-3
-    same-length
+    (λ c. search needs)
     returns)

@@ -61,16 +61,10 @@ abbrev valued : tie.After-put-bytes2 → tie.After-put-number
 valued c = c .before .before .before .before .before
 
 -- ── the needs, in the order of the code ──
-index-requires : tie.Need-index-requires
-index-requires c κs = search needs
-
 put-decimal-requires : tie.Need-put-decimal-requires
 put-decimal-requires c κs =
     let s = c .before .before .before in
     omega (arith, subst (λ n. length (decimal n) ≤ 3) (sym (c .index .ensures)) (three-digits s), s .pre .0)
-
-slice-aggregate-put-bytes : tie.Need-slice-aggregate-put-bytes
-slice-aggregate-put-bytes c = search needs
 
 put-bytes-requires : tie.Need-put-bytes-requires
 put-bytes-requires c κs = omega (arith, edge-room (c .before .before .before .before))
@@ -81,14 +75,8 @@ put-number-requires c κs =
     let s = begin (named b) in
     omega (arith, subst (λ x. length (number x) ≤ 8) (sym (number-of-bits _ (s .fits .flow))) (seven-digits s), blank-room b)
 
-slice-aggregate-put-bytes-2 : tie.Need-slice-aggregate-put-bytes-2
-slice-aggregate-put-bytes-2 c = search needs
-
 put-bytes-requires-2 : tie.Need-put-bytes-requires-2
 put-bytes-requires-2 c κs = flow-room (c .before .before .before .before)
-
-same-length : tie.Need-same-length
-same-length c = search needs
 
 returns : tie.Need-returns
 unfolding edgeLine
@@ -103,12 +91,12 @@ pub put-edge-spec : {M : Type 1} → statement M
 put-edge-spec =
     tie.close
     (tie.spec
-    index-requires
+    (λ c κs. search needs)
     put-decimal-requires
-    slice-aggregate-put-bytes
+    (λ c. search needs)
     put-bytes-requires
     put-number-requires
-    slice-aggregate-put-bytes-2
+    (λ c. search needs)
     put-bytes-requires-2
-    same-length
+    (λ c. search needs)
     returns)

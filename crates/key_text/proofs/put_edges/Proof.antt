@@ -67,12 +67,6 @@ loop-holds : tie.Need-loop-holds Inv-loop μ-loop
 unfolding lines
 loop-holds c = (omega arith, placed-none _ _)
 
-mul-put-edge : tie.Need-mul-put-edge Inv-loop μ-loop
-mul-put-edge c = search needs
-
-element-copy-out-put-edge : tie.Need-element-copy-out-put-edge Inv-loop μ-loop
-element-copy-out-put-edge c = search needs
-
 put-edge-requires : tie.Need-put-edge-requires Inv-loop μ-loop
 put-edge-requires c κs =
     let t = turn c in
@@ -83,12 +77,6 @@ put-edge-requires c κs =
       omega (arith, s .pre .1, l),
       subst (Limited 1000000) (sym (handed c)) (s .pre .2 (o .loop .e) l),
     )
-
-add-e : tie.Need-add-e Inv-loop μ-loop
-add-e c = search needs
-
-loop-less : tie.Need-loop-less Inv-loop μ-loop
-loop-less c = search needs
 
 loop-again : tie.Need-loop-again Inv-loop μ-loop
 loop-again c =
@@ -116,11 +104,11 @@ put-edges-spec =
     Inv-loop
     μ-loop
     loop-holds
-    mul-put-edge
-    element-copy-out-put-edge
+    (λ c. search needs)
+    (λ c. search needs)
     put-edge-requires
-    add-e
-    loop-less
+    (λ c. search needs)
+    (λ c. search needs)
     loop-again
     same-length
     returns)

@@ -33,18 +33,6 @@ whole : (c : tie.After-enum-told) → 9 ≤ length (begin (asked c) .args .input
 whole c = question-whole (begin (asked c) .args .input .now) (passed c)
 
 -- ── the needs, in the order of the code ──
-check-record-requires : tie.Need-check-record-requires
-check-record-requires c κs = search needs
-
-enum-known-whole : tie.Need-enum-known-whole
-enum-known-whole c = search needs
-
-put-refused-requires : tie.Need-put-refused-requires
-put-refused-requires c κs = search needs
-
-same-length : tie.Need-same-length
-same-length c = search needs
-
 returns : tie.Need-returns
 returns c =
     let p = c .before .before in
@@ -56,9 +44,6 @@ returns c =
     (p .put-refused .ensures)
     (omega (arith, fits, s .pre))
 
-enum-told : tie.Need-enum-told
-enum-told c = search needs
-
 read-u16-requires : tie.Need-read-u16-requires
 read-u16-requires c κs = omega (arith, whole c)
 
@@ -68,23 +53,11 @@ read-u16-requires-2 c κs = omega (arith, whole (c .before))
 read-i32-requires : tie.Need-read-i32-requires
 read-i32-requires c κs = omega (arith, whole (c .before .before))
 
-record-length-requires : tie.Need-record-length-requires
-record-length-requires c κs = search needs
-
 sub-put-answer : tie.Need-sub-put-answer
 sub-put-answer c = omega (arith, whole (c .before .before .before .before), c .record-length .ensures .0)
 
 part-put-answer-start : tie.Need-part-put-answer-start
 part-put-answer-start c = omega (arith, whole (c .before .before .before .before), c .record-length .ensures .0)
-
-part-put-answer-end : tie.Need-part-put-answer-end
-part-put-answer-end c = search needs
-
-put-answer-requires : tie.Need-put-answer-requires
-put-answer-requires c κs = search needs
-
-same-length-2 : tie.Need-same-length-2
-same-length-2 c = search needs
 
 returns-2 : tie.Need-returns-2
 returns-2 c =
@@ -102,19 +75,19 @@ pub put-key-spec : {M : Type 1} → statement M
 put-key-spec =
     tie.close
     (tie.spec
-    check-record-requires
-    enum-known-whole
-    put-refused-requires
-    same-length
+    (λ c κs. search needs)
+    (λ c. search needs)
+    (λ c κs. search needs)
+    (λ c. search needs)
     returns
-    enum-told
+    (λ c. search needs)
     read-u16-requires
     read-u16-requires-2
     read-i32-requires
-    record-length-requires
+    (λ c κs. search needs)
     sub-put-answer
     part-put-answer-start
-    part-put-answer-end
-    put-answer-requires
-    same-length-2
+    (λ c. search needs)
+    (λ c κs. search needs)
+    (λ c. search needs)
     returns-2)

@@ -39,22 +39,13 @@ counted c = c .before .before .before .before .before
 contains-requires : tie.Need-contains-requires
 contains-requires c κs = omega (arith, c .before .before .pre .1, c .contains-arg .given .0)
 
-index-requires : tie.Need-index-requires
-index-requires c κs = search needs
-
 put-decimal-requires : tie.Need-put-decimal-requires
 put-decimal-requires c κs =
     let s = begin (c .before .before .before) in
     omega (arith, subst (λ n. length (decimal n) ≤ 3) (sym (c .index .ensures)) (three-digits s), s .pre .0)
 
-slice-aggregate-put-bytes : tie.Need-slice-aggregate-put-bytes
-slice-aggregate-put-bytes c = search needs
-
 put-bytes-requires : tie.Need-put-bytes-requires
 put-bytes-requires c κs = number-room (c .before .before .before .before)
-
-same-length : tie.Need-same-length
-same-length c = search needs
 
 returns : tie.Need-returns
 returns c =
@@ -77,10 +68,10 @@ put-node-spec =
     tie.close
     (tie.spec
     contains-requires
-    index-requires
+    (λ c κs. search needs)
     put-decimal-requires
-    slice-aggregate-put-bytes
+    (λ c. search needs)
     put-bytes-requires
-    same-length
+    (λ c. search needs)
     returns
     returns-2)

@@ -47,12 +47,6 @@ put-node-requires c κs =
       omega (arith, s .pre .1, c .before .loop-test .taken),
     )
 
-add-v : tie.Need-add-v Inv-loop μ-loop
-add-v c = search needs
-
-loop-less : tie.Need-loop-less Inv-loop μ-loop
-loop-less c = search needs
-
 loop-again : tie.Need-loop-again Inv-loop μ-loop
 loop-again c =
     let w = c .before .before in
@@ -74,4 +68,4 @@ returns c =
     placed-as (λ k. lines k (nodeLine set)) _ _ _ _ (le-antisymm (o .loop .inv .0) (c .loop-test .left)) (o .loop .inv .1)
 
 pub put-nodes-spec : {M : Type 1} → statement M
-put-nodes-spec = tie.close (tie.spec Inv-loop μ-loop loop-holds put-node-requires add-v loop-less loop-again same-length returns)
+put-nodes-spec = tie.close (tie.spec Inv-loop μ-loop loop-holds put-node-requires (λ c. search needs) (λ c. search needs) loop-again same-length returns)

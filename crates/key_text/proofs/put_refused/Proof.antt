@@ -48,26 +48,14 @@ abbrev counted : tie.After-put-bytes2 → tie.After-put-decimal
 counted c = c .before .before .before .before .before
 
 -- ── the needs, in the order of the code ──
-slice-aggregate-put-bytes : tie.Need-slice-aggregate-put-bytes
-slice-aggregate-put-bytes c = search needs
-
 put-bytes-requires : tie.Need-put-bytes-requires
 put-bytes-requires c κs = omega (arith, c .before .before .before .pre)
-
-byte-requires : tie.Need-byte-requires
-byte-requires c κs = search needs
 
 put-decimal-requires : tie.Need-put-decimal-requires
 put-decimal-requires c κs = omega (arith, three-digits c, word-room (said c))
 
-slice-aggregate-put-bytes-2 : tie.Need-slice-aggregate-put-bytes-2
-slice-aggregate-put-bytes-2 c = search needs
-
 put-bytes-requires-2 : tie.Need-put-bytes-requires-2
 put-bytes-requires-2 c κs = number-room (c .before .before .before .before)
-
-same-length : tie.Need-same-length
-same-length c = search needs
 
 returns : tie.Need-returns
 unfolding refusedText
@@ -80,11 +68,11 @@ pub put-refused-spec : {M : Type 1} → statement M
 put-refused-spec =
     tie.close
     (tie.spec
-    slice-aggregate-put-bytes
+    (λ c. search needs)
     put-bytes-requires
-    byte-requires
+    (λ c κs. search needs)
     put-decimal-requires
-    slice-aggregate-put-bytes-2
+    (λ c. search needs)
     put-bytes-requires-2
-    same-length
+    (λ c. search needs)
     returns)

@@ -11,15 +11,9 @@ returns : tie.Need-returns
 unfolding FirstOf
 returns c = ((inl (c .if1 .taken, refl, refl), refl), tt)
 
-put-key-requires : tie.Need-put-key-requires
-put-key-requires c κs = search needs
-
-same-length : tie.Need-same-length
-same-length c = search needs
-
 returns-2 : tie.Need-returns-2
 unfolding NoneOf
 returns-2 c = let key = c .before .before .put-key .ensures in ((((λ l. omega arith), tt), key .0), key .1)
 
 pub write-key-spec : {M : Type 1} → statement M
-write-key-spec = tie.close (tie.spec returns put-key-requires same-length returns-2)
+write-key-spec = tie.close (tie.spec returns (λ c κs. search needs) (λ c. search needs) returns-2)

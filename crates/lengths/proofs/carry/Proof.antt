@@ -15,26 +15,8 @@ use Rattle.lengths.proofs.Carrying.{carried}
 use Rattle.lengths.proofs.carry.Statement.{statement}
 use Rattle.lengths.proofs.carry.Tie as tie
 
-mul-minus : tie.Need-mul-minus
-mul-minus c = search needs
-
-element-copy-out-minus : tie.Need-element-copy-out-minus
-element-copy-out-minus c = search needs
-
 minus-requires : tie.Need-minus-requires
 minus-requires c κs = let h = c .before .pre in minus-fits (h .4) (h .6)
-
-mul-lengths : tie.Need-mul-lengths
-mul-lengths c = search needs
-
-element-set-from-lengths : tie.Need-element-set-from-lengths
-element-set-from-lengths c = search needs
-
-mul-plus : tie.Need-mul-plus
-mul-plus c = search needs
-
-element-copy-out-plus : tie.Need-element-copy-out-plus
-element-copy-out-plus c = search needs
 
 -- the first store left the length at x as it was
 plus-requires : tie.Need-plus-requires
@@ -43,12 +25,6 @@ plus-requires c κs =
     let a = toZ w32 (ofZ w32 (c .before .minus .result)) in
     let same = getD-set-other (s .args .lengths .now) (s .args .p) (s .args .x) a (pos 0) (s .pre .3) in
     plus-fits (subst (Limited mostLength) (sym same) (s .pre .5)) (s .pre .6)
-
-mul-t6 : tie.Need-mul-t6
-mul-t6 c = search needs
-
-element-set-from-lengths-2 : tie.Need-element-set-from-lengths-2
-element-set-from-lengths-2 c = search needs
 
 returns : tie.Need-returns
 returns c =
@@ -72,14 +48,14 @@ pub carry-spec : {M : Type 1} → statement M
 carry-spec =
     tie.close
     (tie.spec
-    mul-minus
-    element-copy-out-minus
+    (λ c. search needs)
+    (λ c. search needs)
     minus-requires
-    mul-lengths
-    element-set-from-lengths
-    mul-plus
-    element-copy-out-plus
+    (λ c. search needs)
+    (λ c. search needs)
+    (λ c. search needs)
+    (λ c. search needs)
     plus-requires
-    mul-t6
-    element-set-from-lengths-2
+    (λ c. search needs)
+    (λ c. search needs)
     returns)

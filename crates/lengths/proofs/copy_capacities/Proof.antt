@@ -24,24 +24,6 @@ abbrev μ-loop : tie.MeasureT-loop
 loop-holds : tie.Need-loop-holds Inv-loop μ-loop
 loop-holds c = (omega arith, c .pre .1, c .pre .0, λ k l. absurd (omega arith))
 
-mul-lengths : tie.Need-mul-lengths Inv-loop μ-loop
-mul-lengths c = search needs
-
-element-copy-out-lengths : tie.Need-element-copy-out-lengths Inv-loop μ-loop
-element-copy-out-lengths c = search needs
-
-mul-t10 : tie.Need-mul-t10 Inv-loop μ-loop
-mul-t10 c = search needs
-
-element-set-from-lengths : tie.Need-element-set-from-lengths Inv-loop μ-loop
-element-set-from-lengths c = search needs
-
-add-d : tie.Need-add-d Inv-loop μ-loop
-add-d c = search needs
-
-loop-less : tie.Need-loop-less Inv-loop μ-loop
-loop-less c = search needs
-
 loop-again : tie.Need-loop-again Inv-loop μ-loop
 loop-again c =
     let o = c .before .before .loop in
@@ -64,11 +46,11 @@ copy-capacities-spec =
     Inv-loop
     μ-loop
     loop-holds
-    mul-lengths
-    element-copy-out-lengths
-    mul-t10
-    element-set-from-lengths
-    add-d
-    loop-less
+    (λ c. search needs)
+    (λ c. search needs)
+    (λ c. search needs)
+    (λ c. search needs)
+    (λ c. search needs)
+    (λ c. search needs)
     loop-again
     returns)

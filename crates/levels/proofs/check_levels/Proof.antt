@@ -32,15 +32,6 @@ abbrev μ-loop2 : tie.MeasureT-loop2
 loop-holds : tie.Need-loop-holds Inv-loop μ-loop Inv-loop2 μ-loop2
 loop-holds c = (omega arith, λ k l. absurd (omega arith))
 
-mul-level-outside : tie.Need-mul-level-outside Inv-loop μ-loop Inv-loop2 μ-loop2
-mul-level-outside c = search needs
-
-shared-slice-copy-out-level-outside : tie.Need-shared-slice-copy-out-level-outside Inv-loop μ-loop Inv-loop2 μ-loop2
-shared-slice-copy-out-level-outside c = search needs
-
-level-outside-requires : tie.Need-level-outside-requires Inv-loop μ-loop Inv-loop2 μ-loop2
-level-outside-requires c κs = search needs
-
 -- the test of face f, on the number in the slice
 judged-here : (c : tie.After-level-outside Inv-loop μ-loop Inv-loop2 μ-loop2)
     → Decides (LevelOutside (atℤ (c .before .before .before .before .args .levels .now) (c .before .before .before .loop .f))) (c .level-outside .result)
@@ -50,12 +41,6 @@ returns : tie.Need-returns Inv-loop μ-loop Inv-loop2 μ-loop2
 returns c =
     let o = c .before .before .before .before .loop in
     levels-outside _ _ _ (o .f) (omega arith) (said-yes (judged-here (c .before)) (c .if1 .taken))
-
-add-f : tie.Need-add-f Inv-loop μ-loop Inv-loop2 μ-loop2
-add-f c = search needs
-
-loop-less : tie.Need-loop-less Inv-loop μ-loop Inv-loop2 μ-loop2
-loop-less c = search needs
 
 loop-again : tie.Need-loop-again Inv-loop μ-loop Inv-loop2 μ-loop2
 loop-again c =
@@ -77,9 +62,6 @@ mul-wide c = omega (arith, begun (c .before) .pre .0, c .loop2-test .taken)
 
 element-copy-out-wide : tie.Need-element-copy-out-wide Inv-loop μ-loop Inv-loop2 μ-loop2
 element-copy-out-wide c = omega (arith, begun (c .before) .pre .0, c .loop2-test .taken)
-
-wide-requires : tie.Need-wide-requires Inv-loop μ-loop Inv-loop2 μ-loop2
-wide-requires c κs = search needs
 
 abbrev turn : tie.After-wide Inv-loop μ-loop Inv-loop2 μ-loop2 → tie.In-loop2 Inv-loop μ-loop Inv-loop2 μ-loop2
 turn c = c .before .before
@@ -136,17 +118,17 @@ check-levels-spec =
     Inv-loop2
     μ-loop2
     loop-holds
-    mul-level-outside
-    shared-slice-copy-out-level-outside
-    level-outside-requires
+    (λ c. search needs)
+    (λ c. search needs)
+    (λ c κs. search needs)
     returns
-    add-f
-    loop-less
+    (λ c. search needs)
+    (λ c. search needs)
     loop-again
     loop2-holds
     mul-wide
     element-copy-out-wide
-    wide-requires
+    (λ c κs. search needs)
     mul-if2
     shared-slice-copy-out-if2
     returns-2

@@ -18,24 +18,12 @@ use Rattle.levels.proofs.dart_flow.Tie as tie
 bits : (x : ℤ) → Limited mostOnSheet x → toZ w32 (ofZ w32 x) ≡ x
 bits x h = same-bits (omega arith) h
 
-mul-result : tie.Need-mul-result
-mul-result c = search needs
-
-shared-slice-copy-out-result : tie.Need-shared-slice-copy-out-result
-shared-slice-copy-out-result c = search needs
-
 returns : tie.Need-returns
 returns c =
     let a = c .before .before .args in
     let h = c .before .before .pre .1 in
     let e = bits (atℤ (a .flows .now) _) h in
     (e ∙ sym (flow-forth (atℤ (a .flows .now)) (a .d) (c .before .if1 .taken)), subst (Limited mostOnSheet) (sym e) h)
-
-mul-minus : tie.Need-mul-minus
-mul-minus c = search needs
-
-shared-slice-copy-out-minus : tie.Need-shared-slice-copy-out-minus
-shared-slice-copy-out-minus c = search needs
 
 minus-requires : tie.Need-minus-requires
 minus-requires c κs =
@@ -56,10 +44,10 @@ pub dart-flow-spec : {M : Type 1} → statement M
 dart-flow-spec =
     tie.close
     (tie.spec
-    mul-result
-    shared-slice-copy-out-result
+    (λ c. search needs)
+    (λ c. search needs)
     returns
-    mul-minus
-    shared-slice-copy-out-minus
+    (λ c. search needs)
+    (λ c. search needs)
     minus-requires
     returns-2)

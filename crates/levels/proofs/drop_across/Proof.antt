@@ -9,45 +9,6 @@ use Rattle.levels.proofs.Level.{difference-fits}
 use Rattle.levels.proofs.drop_across.Statement.{statement}
 use Rattle.levels.proofs.drop_across.Tie as tie
 
-mul-wide : tie.Need-mul-wide
-mul-wide c = search needs
-
-mul-wide-2 : tie.Need-mul-wide-2
-mul-wide-2 c = search needs
-
-element-copy-out-wide : tie.Need-element-copy-out-wide
-element-copy-out-wide c = search needs
-
-wide-requires : tie.Need-wide-requires
-wide-requires c κs = search needs
-
-mul-wide-3 : tie.Need-mul-wide-3
-mul-wide-3 c = search needs
-
-add-wide : tie.Need-add-wide
-add-wide c = search needs
-
-mul-wide-4 : tie.Need-mul-wide-4
-mul-wide-4 c = search needs
-
-element-copy-out-wide-2 : tie.Need-element-copy-out-wide-2
-element-copy-out-wide-2 c = search needs
-
-wide-requires-2 : tie.Need-wide-requires-2
-wide-requires-2 c κs = search needs
-
-mul-minus : tie.Need-mul-minus
-mul-minus c = search needs
-
-shared-slice-copy-out-minus : tie.Need-shared-slice-copy-out-minus
-shared-slice-copy-out-minus c = search needs
-
-mul-minus-2 : tie.Need-mul-minus-2
-mul-minus-2 c = search needs
-
-shared-slice-copy-out-minus-2 : tie.Need-shared-slice-copy-out-minus-2
-shared-slice-copy-out-minus-2 c = search needs
-
 minus-requires : tie.Need-minus-requires
 minus-requires c κs =
     let s = c .before .before .before .before .before .before in
@@ -75,18 +36,18 @@ pub drop-across-spec : {M : Type 1} → statement M
 drop-across-spec =
     tie.close
     (tie.spec
-    mul-wide
-    mul-wide-2
-    element-copy-out-wide
-    wide-requires
-    mul-wide-3
-    add-wide
-    mul-wide-4
-    element-copy-out-wide-2
-    wide-requires-2
-    mul-minus
-    shared-slice-copy-out-minus
-    mul-minus-2
-    shared-slice-copy-out-minus-2
+    (λ c. search needs)
+    (λ c. search needs)
+    (λ c. search needs)
+    (λ c κs. search needs)
+    (λ c. search needs)
+    (λ c. search needs)
+    (λ c. search needs)
+    (λ c. search needs)
+    (λ c κs. search needs)
+    (λ c. search needs)
+    (λ c. search needs)
+    (λ c. search needs)
+    (λ c. search needs)
     minus-requires
     returns)

@@ -28,17 +28,8 @@ drop-across-requires c κs =
     let o = c .before .loop in
     (omega (arith, s .pre .0), s .pre .2 (2 * o .e) (omega arith), s .pre .2 (2 * o .e + 1) (omega arith))
 
-mul-t8 : tie.Need-mul-t8 Inv-loop μ-loop
-mul-t8 c = search needs
-
 slice-set-from-flows : tie.Need-slice-set-from-flows Inv-loop μ-loop
 slice-set-from-flows c = omega (arith, filled-length _ _ _ _ (c .before .before .loop .inv .1) (omega arith))
-
-add-e : tie.Need-add-e Inv-loop μ-loop
-add-e c = search needs
-
-loop-less : tie.Need-loop-less Inv-loop μ-loop
-loop-less c = search needs
 
 loop-again : tie.Need-loop-again Inv-loop μ-loop
 loop-again c =
@@ -64,10 +55,10 @@ fill-differences-spec =
     μ-loop
     loop-holds
     drop-across-requires
-    mul-t8
+    (λ c. search needs)
     slice-set-from-flows
-    add-e
-    loop-less
+    (λ c. search needs)
+    (λ c. search needs)
     loop-again
     same-length
     returns)

@@ -31,20 +31,11 @@ first-in c = let p = begun c .pre in dart-in p (p .some) (c .wide .ensures)
 root-in : (c : tie.After-wide2 Inv-loop μ-loop) → c .wide2 .result < length (begun (c .before .before) .args .levels .now)
 root-in c = let w = c .before .before in face-in (begun w .pre) (first-in w) (c .wide2 .ensures)
 
-element-copy-out-wide : tie.Need-element-copy-out-wide Inv-loop μ-loop
-element-copy-out-wide c = search needs
-
-wide-requires : tie.Need-wide-requires Inv-loop μ-loop
-wide-requires c κs = search needs
-
 mul-wide : tie.Need-mul-wide Inv-loop μ-loop
 mul-wide c = omega (arith, begun c .pre .few, first-in c)
 
 element-copy-out-wide-2 : tie.Need-element-copy-out-wide-2 Inv-loop μ-loop
 element-copy-out-wide-2 c = omega (arith, begun c .pre .few, first-in c)
-
-wide-requires-2 : tie.Need-wide-requires-2 Inv-loop μ-loop
-wide-requires-2 c κs = search needs
 
 mul-levels : tie.Need-mul-levels Inv-loop μ-loop
 mul-levels c = omega (arith, root-in c)
@@ -91,9 +82,6 @@ mul-wide-2 c = omega (arith, start (c .before) .pre .few, c .loop-test .taken)
 element-copy-out-wide-3 : tie.Need-element-copy-out-wide-3 Inv-loop μ-loop
 element-copy-out-wide-3 c = omega (arith, start (c .before) .pre .few, c .loop-test .taken)
 
-wide-requires-3 : tie.Need-wide-requires-3 Inv-loop μ-loop
-wide-requires-3 c κs = search needs
-
 add-i : tie.Need-add-i Inv-loop μ-loop
 add-i c = omega (arith, start (turn c .before) .pre .few, turn c .loop-test .taken)
 
@@ -102,9 +90,6 @@ mul-wide-3 c = omega (arith, start (turn c .before) .pre .few, dart-below c)
 
 element-copy-out-wide-4 : tie.Need-element-copy-out-wide-4 Inv-loop μ-loop
 element-copy-out-wide-4 c = omega (arith, start (turn c .before) .pre .few, dart-below c)
-
-wide-requires-4 : tie.Need-wide-requires-4 Inv-loop μ-loop
-wide-requires-4 c κs = search needs
 
 -- ── the dart p from which it was met ──
 abbrev met : tie.After-wide4 Inv-loop μ-loop → tie.After-wide3 Inv-loop μ-loop
@@ -120,9 +105,6 @@ mul-wide-4 c = let d = met c in omega (arith, start (turn d .before) .pre .few, 
 
 element-copy-out-wide-5 : tie.Need-element-copy-out-wide-5 Inv-loop μ-loop
 element-copy-out-wide-5 c = let d = met c in omega (arith, start (turn d .before) .pre .few, dart-below d)
-
-wide-requires-5 : tie.Need-wide-requires-5 Inv-loop μ-loop
-wide-requires-5 c κs = search needs
 
 -- ── the face left of d ──
 abbrev origin : tie.After-wide5 Inv-loop μ-loop → tie.After-wide4 Inv-loop μ-loop
@@ -169,9 +151,6 @@ mul-wide-5 c = let f = origin (c .before) in omega (arith, start (looped (c .bef
 
 element-copy-out-wide-6 : tie.Need-element-copy-out-wide-6 Inv-loop μ-loop
 element-copy-out-wide-6 c = let f = origin (c .before) in omega (arith, start (looped (c .before)) .pre .few, origin-below f)
-
-wide-requires-6 : tie.Need-wide-requires-6 Inv-loop μ-loop
-wide-requires-6 c κs = search needs
 
 dart-flow-requires : tie.Need-dart-flow-requires Inv-loop μ-loop
 dart-flow-requires c κs =
@@ -244,31 +223,31 @@ fill-levels-spec =
     (tie.spec
     Inv-loop
     μ-loop
-    element-copy-out-wide
-    wide-requires
+    (λ c. search needs)
+    (λ c κs. search needs)
     mul-wide
     element-copy-out-wide-2
-    wide-requires-2
+    (λ c κs. search needs)
     mul-levels
     slice-set-of-levels
     loop-holds
     mul-wide-2
     element-copy-out-wide-3
-    wide-requires-3
+    (λ c κs. search needs)
     add-i
     mul-wide-3
     element-copy-out-wide-4
-    wide-requires-4
+    (λ c κs. search needs)
     mul-wide-4
     element-copy-out-wide-5
-    wide-requires-5
+    (λ c κs. search needs)
     mul-levels-2
     slice-set-of-levels-2
     loop-less
     loop-again
     mul-wide-5
     element-copy-out-wide-6
-    wide-requires-6
+    (λ c κs. search needs)
     dart-flow-requires
     mul-minus
     slice-copy-out-minus

@@ -79,9 +79,6 @@ returns-2 c =
 check-within-requires : tie.Need-check-within-requires
 check-within-requires c κs = (given c .pre .0 .few-edges, room-edges c)
 
-enum-known-within : tie.Need-enum-known-within
-enum-known-within c = search needs
-
 returns-3 : tie.Need-returns-3
 returns-3 c =
     let w = c .before .before .before in
@@ -91,17 +88,11 @@ returns-3 c =
       refl,
     )
 
-enum-told : tie.Need-enum-told
-enum-told c = search needs
-
 check-all-balanced-requires : tie.Need-check-all-balanced-requires
 check-all-balanced-requires c κs =
     let r = roomy c in
     let p = given r .pre .0 in
     (p .few-nodes, p .few-edges, room-edges r, tails-small p, small c)
-
-enum-known-balanced : tie.Need-enum-known-balanced
-enum-known-balanced c = search needs
 
 returns-4 : tie.Need-returns-4
 returns-4 c =
@@ -114,18 +105,12 @@ returns-4 c =
       refl,
     )
 
-enum-told-2 : tie.Need-enum-told-2
-enum-told-2 c = search needs
-
 write-levels-requires : tie.Need-write-levels-requires
 write-levels-requires c κs =
     let t = limited (asked (c .before)) in
     let r = roomy t in
     let s = given r in
     levelable (s .pre .0) (flowsOf s) (levelsOf s) (room-edges r) (room-faces r) (small t)
-
-same-length : tie.Need-same-length
-same-length c = search needs
 
 returns-5 : tie.Need-returns-5
 returns-5 c =
@@ -150,13 +135,13 @@ levels-of-spec =
     returns
     returns-2
     check-within-requires
-    enum-known-within
+    (λ c. search needs)
     returns-3
-    enum-told
+    (λ c. search needs)
     check-all-balanced-requires
-    enum-known-balanced
+    (λ c. search needs)
     returns-4
-    enum-told-2
+    (λ c. search needs)
     write-levels-requires
-    same-length
+    (λ c. search needs)
     returns-5)

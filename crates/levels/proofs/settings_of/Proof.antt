@@ -100,9 +100,6 @@ check-levels-requires c κs =
     let e = w .roots-of .ensures .1 in
     (few-roots (given r .pre) e, roots-in (given r .pre) e, omega (arith, r .if2 .left))
 
-enum-known-judged : tie.Need-enum-known-judged
-enum-known-judged c = search needs
-
 returns-3 : tie.Need-returns-3
 returns-3 c =
     let l = c .before .before .before in
@@ -112,14 +109,8 @@ returns-3 c =
       refl,
     )
 
-enum-told : tie.Need-enum-told
-enum-told c = search needs
-
 check-differences-requires : tie.Need-check-differences-requires
 check-differences-requires c κs = (given (levelled c) .pre .few-edges, ready c)
-
-enum-known-within : tie.Need-enum-known-within
-enum-known-within c = search needs
 
 returns-4 : tie.Need-returns-4
 returns-4 c =
@@ -131,17 +122,11 @@ returns-4 c =
       refl,
     )
 
-enum-told-2 : tie.Need-enum-told-2
-enum-told-2 c = search needs
-
 fill-differences-requires : tie.Need-fill-differences-requires
 fill-differences-requires c κs =
     let t = limited (c .before .before .before) in
     let r = levelled t in
     (given r .pre .few-edges, room-edges r, ready t)
-
-same-length : tie.Need-same-length
-same-length c = search needs
 
 returns-5 : tie.Need-returns-5
 returns-5 c =
@@ -163,13 +148,13 @@ settings-of-spec =
     mul-roots-of
     roots-of-requires
     check-levels-requires
-    enum-known-judged
+    (λ c. search needs)
     returns-3
-    enum-told
+    (λ c. search needs)
     check-differences-requires
-    enum-known-within
+    (λ c. search needs)
     returns-4
-    enum-told-2
+    (λ c. search needs)
     fill-differences-requires
-    same-length
+    (λ c. search needs)
     returns-5)

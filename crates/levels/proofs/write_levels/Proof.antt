@@ -21,13 +21,10 @@ fill-levels-requires c κs =
     let s = c .before .before .before in
     s .before .before .before .pre .walked (s .spread-all .ensures .2)
 
-same-length : tie.Need-same-length
-same-length c = search needs
-
 returns : tie.Need-returns
 returns c =
     let s = c .before .before .before .before .before in
     record { order = _; from = _; trees = _; forest = s .spread-all .ensures .2; levelled = c .before .fill-levels .ensures }
 
 pub write-levels-spec : {M : Type 1} → statement M
-write-levels-spec = tie.close (tie.spec mul-spread-all spread-all-requires mul-fill-levels fill-levels-requires same-length returns)
+write-levels-spec = tie.close (tie.spec mul-spread-all spread-all-requires mul-fill-levels fill-levels-requires (λ c. search needs) returns)

@@ -1,27 +1,11 @@
 -- `maximum::begin` meets its contract: a set that does not lie at the source gives way to the source alone.
-use mathlib.Core.Path.{_≡_, refl, sym, _∙_, subst}
-use lib.Dec.{eqb}
+use mathlib.Core.Path.{refl, sym, _∙_, subst}
 use borrow.Author.Needs.{needs}
 use Rattle.integers.proofs.Tests.{eqb-true, eqb-false}
 use Rattle.arrays.specs.inner.Flags.{flagged}
 use Rattle.node_flags.specs.inner.Flags.{Sided}
 use Rattle.maximum.proofs.begin.Statement.{statement}
 use Rattle.maximum.proofs.begin.Tie as tie
-
-mul-dart-at : tie.Need-mul-dart-at
-mul-dart-at c = search needs
-
-dart-at-requires : tie.Need-dart-at-requires
-dart-at-requires c κs = search needs
-
-spread-requires : tie.Need-spread-requires
-spread-requires c κs = search needs
-
-side-of-requires : tie.Need-side-of-requires
-side-of-requires c κs = search needs
-
-enum-told : tie.Need-enum-told
-enum-told c = search needs
 
 returns : tie.Need-returns
 returns c =
@@ -31,9 +15,6 @@ returns c =
       subst (Sided (s .args .source) (s .args .sink) (flagged (sided .before .before .spread .last .1 .1 .1 .1 .1 .0))) (c .enum-told .given .1)
           (sided .side-of .ensures),
     )
-
-flag-one-requires : tie.Need-flag-one-requires
-flag-one-requires c κs = search needs
 
 returns-2 : tie.Need-returns-2
 returns-2 c =
@@ -47,11 +28,11 @@ pub begin-spec : {M : Type 1} → statement M
 begin-spec =
     tie.close
     (tie.spec
-    mul-dart-at
-    dart-at-requires
-    spread-requires
-    side-of-requires
-    enum-told
+    (λ c. search needs)
+    (λ c κs. search needs)
+    (λ c κs. search needs)
+    (λ c κs. search needs)
+    (λ c. search needs)
     returns
-    flag-one-requires
+    (λ c κs. search needs)
     returns-2)

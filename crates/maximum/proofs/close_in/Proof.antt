@@ -1,8 +1,8 @@
 -- `maximum::close_in` meets its contract: the loop keeps `Probing`, each probe brings the bounds closer, and the ways out are laws of `Bracketing`.
-use mathlib.Core.Path.{_≡_, refl, sym, _∙_, ap, subst}
-use mathlib.Core.Bool.{Bool, true, false}
+use mathlib.Core.Path.{_≡_, sym, _∙_, ap, subst}
+use mathlib.Core.Bool.{true}
 use mathlib.Core.List.{List}
-use Prim.Native.Nat.{ℕ, _*_, _≤_, _<_}
+use Prim.Native.Nat.{ℕ, _*_, _<_}
 use native.Mathlib.Omega.{arith}
 use lib.ListN.{length}
 use lib.IntN.{ℤ}
@@ -100,9 +100,6 @@ at-bits c =
 as-long : (c : tie.At-loop Inv-loop μ-loop) → length (c .loop .flows) ≡ length (entered c)
 as-long c = bracket-length (c .loop .bounds .found) (start c .pre .4) (c .loop .inv .bracket)
 
-is-less-requires : tie.Need-is-less-requires Inv-loop μ-loop
-is-less-requires c κs = search needs
-
 -- ── the bounds have passed each other ──
 abbrev looping : tie.After-is-less Inv-loop μ-loop → tie.At-loop Inv-loop μ-loop
 looping c = c .before .before .before
@@ -133,9 +130,6 @@ returns c =
 -- ── they have met ──
 abbrev ordered : tie.After-finished Inv-loop μ-loop → tie.At-loop Inv-loop μ-loop
 ordered c = looping (c .before .before)
-
-finished-requires : tie.Need-finished-requires Inv-loop μ-loop
-finished-requires c κs = search needs
 
 same-length-2 : tie.Need-same-length-2 Inv-loop μ-loop
 same-length-2 c = as-long (ordered (c .before))
@@ -229,12 +223,12 @@ close-in-spec =
     Inv-loop
     μ-loop
     loop-holds
-    is-less-requires
+    (λ c κs. search needs)
     mul-join
     join-requires
     same-length
     returns
-    finished-requires
+    (λ c κs. search needs)
     same-length-2
     returns-2
     probe-requires

@@ -1,7 +1,6 @@
 -- `maximum::first_bounds` meets its contract: the cut of one set, and the negative of the other's or the least that it can be.
 use mathlib.Core.Path.{_≡_, refl, sym, _∙_, ap, subst}
 use mathlib.Core.Logic.{inl, inr}
-use native.Mathlib.Omega.{arith}
 use lib.IntN.{negℤ}
 use mir.Syntax.{w32}
 use mir.Val.{toZ, ofZ}
@@ -29,14 +28,8 @@ low-is : (c : tie.After-capacity2)
     (atℤ (given c .args .capacities .now)) (flagged (given c .args .b .now))
 low-is c = number-of-bits _ (record { sfits = c .capacity2 .ok }) ∙ c .capacity2 .ensures
 
-capacity-requires : tie.Need-capacity-requires
-capacity-requires c κs = search needs
-
 returns : tie.Need-returns
 returns c = (refl, high-is (c .before), inl refl)
-
-capacity-requires-2 : tie.Need-capacity-requires-2
-capacity-requires-2 c κs = search needs
 
 negate-requires : tie.Need-negate-requires
 negate-requires c κs =
@@ -48,4 +41,4 @@ returns-2 c =
     (refl, high-is (c .before .before .before), inr (number-of-bits _ (record { sfits = c .negate .ok }) ∙ c .negate .ensures ∙ ap negℤ (low-is (c .before))))
 
 pub first-bounds-spec : {M : Type 1} → statement M
-first-bounds-spec = tie.close (tie.spec capacity-requires returns capacity-requires-2 negate-requires returns-2)
+first-bounds-spec = tie.close (tie.spec (λ c κs. search needs) returns (λ c κs. search needs) negate-requires returns-2)

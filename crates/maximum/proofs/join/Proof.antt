@@ -29,18 +29,6 @@ union-total c =
     number-of-bits _ (record { sfits = c .capacity .ok }) ∙ c .capacity .ensures
     ∙ cut-flags _ _ _ _ _ (s .pre .2) (s .pre .3) (c .before .before .unite .ensures .1)
 
-unite-requires : tie.Need-unite-requires
-unite-requires c κs = search needs
-
-capacity-requires : tie.Need-capacity-requires
-capacity-requires c κs = search needs
-
-is-less-requires : tie.Need-is-less-requires
-is-less-requires c κs = search needs
-
-copy-flags-requires : tie.Need-copy-flags-requires
-copy-flags-requires c κs = search needs
-
 returns : tie.Need-returns
 returns c =
     let tested = c .before .before .before .before in
@@ -51,12 +39,6 @@ returns c =
         subst (λ t. t <ℤ pos 0) (union-total (tested .before)) (lt-of-test _ _ (sym (tested .is-less .ensures) ∙ c .before .before .before .if1 .taken)),
       ),
     )
-
-intersect-requires : tie.Need-intersect-requires
-intersect-requires c κs = search needs
-
-copy-flags-requires-2 : tie.Need-copy-flags-requires-2
-copy-flags-requires-2 c κs = search needs
 
 returns-2 : tie.Need-returns-2
 returns-2 c =
@@ -74,11 +56,11 @@ pub join-spec : {M : Type 1} → statement M
 join-spec =
     tie.close
     (tie.spec
-    unite-requires
-    capacity-requires
-    is-less-requires
-    copy-flags-requires
+    (λ c κs. search needs)
+    (λ c κs. search needs)
+    (λ c κs. search needs)
+    (λ c κs. search needs)
     returns
-    intersect-requires
-    copy-flags-requires-2
+    (λ c κs. search needs)
+    (λ c κs. search needs)
     returns-2)

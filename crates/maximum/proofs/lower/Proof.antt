@@ -1,5 +1,5 @@
 -- `maximum::lower` meets its contract: the set is kept where it lies at the source and its cut is less.
-use mathlib.Core.Path.{_≡_, refl, sym, _∙_, subst}
+use mathlib.Core.Path.{refl, sym, _∙_, subst}
 use lib.Signed.{_<ℤ_}
 use mir.Syntax.{w32}
 use mir.Val.{toZ, ofZ}
@@ -12,21 +12,6 @@ use Rattle.node_flags.specs.declared.Side.the-variants as side
 use Rattle.maximum.specs.inner.Narrowing.{stays, falls}
 use Rattle.maximum.proofs.lower.Statement.{statement}
 use Rattle.maximum.proofs.lower.Tie as tie
-
-capacity-requires : tie.Need-capacity-requires
-capacity-requires c κs = search needs
-
-is-less-requires : tie.Need-is-less-requires
-is-less-requires c κs = search needs
-
-side-of-requires : tie.Need-side-of-requires
-side-of-requires c κs = search needs
-
-enum-told : tie.Need-enum-told
-enum-told c = search needs
-
-copy-flags-requires : tie.Need-copy-flags-requires
-copy-flags-requires c κs = search needs
 
 returns : tie.Need-returns
 returns c =
@@ -57,4 +42,14 @@ returns-3 c =
     (s .pre .0, stays (number-of-bits _ (s .fits .high)) refl)
 
 pub lower-spec : {M : Type 1} → statement M
-lower-spec = tie.close (tie.spec capacity-requires is-less-requires side-of-requires enum-told copy-flags-requires returns returns-2 returns-3)
+lower-spec =
+    tie.close
+    (tie.spec
+    (λ c κs. search needs)
+    (λ c κs. search needs)
+    (λ c κs. search needs)
+    (λ c. search needs)
+    (λ c κs. search needs)
+    returns
+    returns-2
+    returns-3)

@@ -9,11 +9,5 @@ maximize-from-requires c κs =
     let p = c .before .before .before .pre in
     (p .0, p .1, p .2, p .3, p .4, p .5, refl)
 
-same-length : tie.Need-same-length
-same-length c = search needs
-
-returns : tie.Need-returns
-returns c = search needs
-
 pub maximize-spec : {M : Type 1} → statement M
-maximize-spec = tie.close (tie.spec maximize-from-requires same-length returns)
+maximize-spec = tie.close (tie.spec maximize-from-requires (λ c. search needs) (λ c. search needs))

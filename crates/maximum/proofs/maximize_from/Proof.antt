@@ -1,6 +1,5 @@
 -- `maximum::maximize_from` meets its contract: the first set lies at the source, and the bounds close in from there.
-use mathlib.Core.Path.{_≡_, refl, sym, subst}
-use mathlib.Core.List.{List}
+use mathlib.Core.Path.{refl, sym, subst}
 use Prim.Native.Nat.{ℕ, _*_, _<_}
 use native.Mathlib.Omega.{arith}
 use lib.IntN.{ℤ}
@@ -96,9 +95,6 @@ close-in-requires c κs =
       bounds m,
     )
 
-same-length : tie.Need-same-length
-same-length c = search needs
-
 returns : tie.Need-returns
 returns c = let e = c .before .close-in .ensures in (e .1, e .0, e .2)
 
@@ -111,5 +107,5 @@ maximize-from-spec =
     mul-first-bounds
     first-bounds-requires
     close-in-requires
-    same-length
+    (λ c. search needs)
     returns)

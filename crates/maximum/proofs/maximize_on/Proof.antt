@@ -9,7 +9,6 @@ use lib.ListN.{length}
 use lib.IntN.{ℤ}
 use mir.Syntax.{w32}
 use mir.Val.{toZ, ofZ}
-use borrow.Author.Needs.{needs}
 use Rattle.integers.specs.inner.Limited.{Limited}
 use Rattle.integers.proofs.Limits.{limited-more}
 use Rattle.signed.proofs.Laws.{number-of-bits}

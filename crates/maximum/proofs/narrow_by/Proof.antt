@@ -49,18 +49,6 @@ OnSide c r =
 on-side : (c : tie.After-side-of) (r : Side) → c .side-of .result ≡ r → OnSide c r
 on-side c r e = subst (OnSide c) e (c .side-of .ensures)
 
-capacity-requires : tie.Need-capacity-requires
-capacity-requires c κs = search needs
-
-side-of-requires : tie.Need-side-of-requires
-side-of-requires c κs = search needs
-
-enum-told : tie.Need-enum-told
-enum-told c = search needs
-
-copy-flags-requires : tie.Need-copy-flags-requires
-copy-flags-requires c κs = search needs
-
 returns : tie.Need-returns
 returns c =
     let told = c .before .before in
@@ -74,12 +62,6 @@ returns c =
         (refl, number-of-bits _ (s .fits .low), total-is (sided .before), c .copy-flags .ensures .1, refl),
       ),
     )
-
-enum-told-2 : tie.Need-enum-told-2
-enum-told-2 c = search needs
-
-copy-flags-requires-2 : tie.Need-copy-flags-requires-2
-copy-flags-requires-2 c κs = search needs
 
 negate-requires : tie.Need-negate-requires
 negate-requires c κs =
@@ -107,9 +89,6 @@ returns-2 c =
       ),
     )
 
-copy-flags-requires-3 : tie.Need-copy-flags-requires-3
-copy-flags-requires-3 c κs = search needs
-
 returns-3 : tie.Need-returns-3
 returns-3 c =
     let left = c .before .before in
@@ -128,14 +107,14 @@ pub narrow-by-spec : {M : Type 1} → statement M
 narrow-by-spec =
     tie.close
     (tie.spec
-    capacity-requires
-    side-of-requires
-    enum-told
-    copy-flags-requires
+    (λ c κs. search needs)
+    (λ c κs. search needs)
+    (λ c. search needs)
+    (λ c κs. search needs)
     returns
-    enum-told-2
-    copy-flags-requires-2
+    (λ c. search needs)
+    (λ c κs. search needs)
     negate-requires
     returns-2
-    copy-flags-requires-3
+    (λ c κs. search needs)
     returns-3)

@@ -23,17 +23,11 @@ not-above x f e = subst (λ y. y ≤ℤ pos 0) (number-of-bits x f) (ge-of-test 
 not-below : (x : ℤ) → SFits w32 x → ltZ (toZ w32 (ofZ w32 x)) (pos 0) ≡ false → pos 0 ≤ℤ x
 not-below x f e = subst (λ y. pos 0 ≤ℤ y) (number-of-bits x f) (ge-of-test _ _ e)
 
-is-less-requires : tie.Need-is-less-requires
-is-less-requires c κs = search needs
-
 returns : tie.Need-returns
 returns c =
     let s = c .before .before in
     let e = number-of-bits _ (s .fits .low) in
     rw e (at-itself _, s .pre)
-
-is-less-requires-2 : tie.Need-is-less-requires-2
-is-less-requires-2 c κs = search needs
 
 returns-2 : tie.Need-returns-2
 returns-2 c =
@@ -51,4 +45,4 @@ returns-3 c =
     )
 
 pub nearest-zero-spec : {M : Type 1} → statement M
-nearest-zero-spec = tie.close (tie.spec is-less-requires returns is-less-requires-2 returns-2 returns-3)
+nearest-zero-spec = tie.close (tie.spec (λ c κs. search needs) returns (λ c κs. search needs) returns-2 returns-3)

@@ -8,12 +8,6 @@ use Rattle.maximum.proofs.Stepping.{at-top}
 use Rattle.maximum.proofs.next_value.Statement.{statement}
 use Rattle.maximum.proofs.next_value.Tie as tie
 
-enum-told : tie.Need-enum-told
-enum-told c = search needs
-
-middle-requires : tie.Need-middle-requires
-middle-requires c κs = search needs
-
 returns : tie.Need-returns
 returns c =
     let e = c .middle .ensures in
@@ -32,12 +26,6 @@ returns-2 c =
     let h = s .pre in
     let r = at-top (h .0) (h .1) (h .2) _ (number-of-bits _ (s .fits .high)) in
     (r .0, r .1, λ _. r .2)
-
-enum-told-2 : tie.Need-enum-told-2
-enum-told-2 c = search needs
-
-nearest-zero-requires : tie.Need-nearest-zero-requires
-nearest-zero-requires c κs = search needs
 
 returns-3 : tie.Need-returns-3
 returns-3 c =
@@ -61,11 +49,11 @@ pub next-value-spec : {M : Type 1} → statement M
 next-value-spec =
     tie.close
     (tie.spec
-    enum-told
-    middle-requires
+    (λ c. search needs)
+    (λ c κs. search needs)
     returns
     returns-2
-    enum-told-2
-    nearest-zero-requires
+    (λ c. search needs)
+    (λ c κs. search needs)
     returns-3
     returns-4)

@@ -1,10 +1,9 @@
 -- `maximum::probe` meets its contract: a value that is carried is the low bound, a proving set moves a bound or shows that there is nothing.
-use mathlib.Core.Path.{_≡_, refl, sym, _∙_, ap, subst}
-use mathlib.Core.Bool.{Bool, true, false, true≢false, false≢true}
+use mathlib.Core.Path.{_≡_, sym, subst}
+use mathlib.Core.Bool.{Bool, true, false, false≢true}
 use mathlib.Core.List.{List}
-use Prim.Native.Nat.{ℕ, _*_, _≤_, _<_}
+use Prim.Native.Nat.{ℕ, _*_, _<_}
 use native.Mathlib.Omega.{arith}
-use lib.ListN.{length}
 use lib.IntN.{ℤ}
 use lib.Signed.{_≤ℤ_, _<ℤ_}
 use mir.Syntax.{w32}
@@ -13,12 +12,11 @@ use borrow.Author.Needs.{needs}
 use Rattle.integers.specs.inner.Limited.{Limited}
 use Rattle.integers.proofs.Limits.{limited-more}
 use Rattle.signed.proofs.Limits.{same-bits}
-use Rattle.maps.specs.Map.{Map, darts}
+use Rattle.maps.specs.Map.{Map}
 use Rattle.arrays.specs.At.{at, atℤ}
 use Rattle.arrays.specs.inner.Flags.{flagged}
 use Rattle.arrays.specs.Maps.{mapOf}
 use Rattle.arrays.proofs.FillLoops.{filled-length}
-use Rattle.cuts.specs.inner.Cut.{cutOf}
 use Rattle.solver.specs.inner.Decision.{Decided}
 use Rattle.maximum.specs.inner.Bracket.{Bracket, Closer}
 use Rattle.maximum.proofs.Bracketing.{
@@ -221,9 +219,6 @@ new-high c =
     let w = b .pre .11 in
     same-bits (omega arith) (high-small (b .args .outer) (ground b) (proposed c (w .0) (w .1) .0 .ceiling))
 
-same-length : tie.Need-same-length
-same-length c = search needs
-
 returns : tie.Need-returns
 returns c =
     let k = chosen c in
@@ -242,9 +237,6 @@ returns c =
     )
 
 -- ── it cannot be: the set moves a bound, or shows that there is nothing ──
-mul-narrow-by : tie.Need-mul-narrow-by
-mul-narrow-by c = search needs
-
 narrow-by-requires : tie.Need-narrow-by-requires
 narrow-by-requires c κs =
     let b = base (c .before .before .before .before .before) in (
@@ -257,9 +249,6 @@ narrow-by-requires c κs =
       tails-in b,
       caps-in b,
     )
-
-next-after-requires : tie.Need-next-after-requires
-next-after-requires c κs = search needs
 
 abbrev probed : tie.After-narrow-by → tie.After-decide
 probed c = c .before .before .before .before .before .before
@@ -287,9 +276,6 @@ moved c before h e =
     let r = c .narrow-by .ensures .2 in
     narrowed (b .args .outer) (ground b) before (b .args .flows .now) (b .args .a .now) (b .args .b .now) (lo b) (hi b) (b .args .bounds .found)
     (at-bits b before h) (value n) (at-least n) (at-most n) (inside' k) (decided k (refused c) .1) (a' c) (b' c) (c .narrow-by .result) (r .0) (r .1) (r .2) e
-
-same-length-2 : tie.Need-same-length-2
-same-length-2 c = search needs
 
 returns-2 : tie.Need-returns-2
 returns-2 c =
@@ -327,10 +313,10 @@ probe-spec =
     next-value-requires
     decide-requires
     propose-requires
-    same-length
+    (λ c. search needs)
     returns
-    mul-narrow-by
+    (λ c. search needs)
     narrow-by-requires
-    next-after-requires
-    same-length-2
+    (λ c κs. search needs)
+    (λ c. search needs)
     returns-2)

@@ -9,22 +9,10 @@ use Rattle.maximum.specs.inner.Narrowing.{Lowers, stays}
 use Rattle.maximum.proofs.propose.Statement.{statement}
 use Rattle.maximum.proofs.propose.Tie as tie
 
-finished-requires : tie.Need-finished-requires
-finished-requires c κs = search needs
-
 returns : tie.Need-returns
 returns c =
     let s = c .before .before in
     (s .pre .0, s .pre .1, s .pre .2, stays (number-of-bits _ (s .fits .high)) refl)
-
-propose-requires : tie.Need-propose-requires
-propose-requires c κs = search needs
-
-mul-lower : tie.Need-mul-lower
-mul-lower c = search needs
-
-lower-requires : tie.Need-lower-requires
-lower-requires c κs = search needs
 
 -- bounds that the machine holds as bits
 same-bounds : {s t : ℕ} {total high high₁ low low₁ : ℤ} {inside A A' : List ℕ} → high ≡ high₁ → low ≡ low₁ → Lowers s t total high low inside A A'
@@ -43,4 +31,4 @@ returns-2 c =
     )
 
 pub propose-spec : {M : Type 1} → statement M
-propose-spec = tie.close (tie.spec finished-requires returns propose-requires mul-lower lower-requires returns-2)
+propose-spec = tie.close (tie.spec (λ c κs. search needs) returns (λ c κs. search needs) (λ c. search needs) (λ c κs. search needs) returns-2)

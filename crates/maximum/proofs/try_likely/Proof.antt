@@ -1,18 +1,17 @@
 -- `maximum::try_likely` meets its contract: the bounds stay as they are, or the high one is probed.
 use mathlib.Core.Path.{_≡_, refl, sym, _∙_, subst}
-use mathlib.Core.Bool.{Bool, true, false, true≢false}
-use mathlib.Core.List.{List}
+use mathlib.Core.Bool.{true≢false}
 use Prim.Native.Nat.{ℕ}
 use native.Mathlib.Omega.{arith}
 use lib.IntN.{ℤ}
-use lib.Signed.{_≤ℤ_, _<ℤ_}
+use lib.Signed.{_<ℤ_}
 use mir.Syntax.{w32}
 use mir.Val.{toZ, ofZ}
 use borrow.Author.Needs.{needs}
 use Rattle.integers.proofs.Laws.{le-of-lt, lt-of-test}
 use Rattle.signed.proofs.Limits.{same-bits}
 use Rattle.maps.specs.Map.{Map}
-use Rattle.arrays.specs.At.{at, atℤ}
+use Rattle.arrays.specs.At.{atℤ}
 use Rattle.arrays.specs.inner.Flags.{flagged}
 use Rattle.arrays.specs.Maps.{mapOf}
 use Rattle.maximum.proofs.Bracketing.{Ground, high-small, low-small}
@@ -45,9 +44,6 @@ returns c =
     let p = c .before .pre in
     (p .0, p .1, p .2, λ before h. (λ none. absurd (true≢false (sym none ∙ p .8)), λ _. h))
 
-is-less-requires : tie.Need-is-less-requires
-is-less-requires c κs = search needs
-
 below : (c : tie.Then2) → c .before .before .before .before .before .args .bounds .low <ℤ c .before .before .before .before .before .args .bounds .high
 below c =
     let s = c .before .before .before .before .before in
@@ -60,16 +56,10 @@ probe-requires c κs =
     let p = t .before .before .before .before .before .pre in
     (refl, p .0, p .1, p .2, p .3, p .4, p .5, p .6, p .7, le-of-lt (below t), λ _. below t, p .9)
 
-same-length : tie.Need-same-length
-same-length c = search needs
-
-returns-2 : tie.Need-returns-2
-returns-2 c = search needs
-
 returns-3 : tie.Need-returns-3
 returns-3 c =
     let p = c .before .before .before .before .before .pre in
     (p .0, p .1, p .2, λ before h. (λ none. absurd (true≢false (sym none ∙ p .8)), λ _. h))
 
 pub try-likely-spec : {M : Type 1} → statement M
-try-likely-spec = tie.close (tie.spec returns is-less-requires probe-requires same-length returns-2 returns-3)
+try-likely-spec = tie.close (tie.spec returns (λ c κs. search needs) probe-requires (λ c. search needs) (λ c. search needs) returns-3)

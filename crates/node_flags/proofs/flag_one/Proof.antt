@@ -18,22 +18,10 @@ abbrev μ-loop : tie.MeasureT-loop
 loop-holds : tie.Need-loop-holds Inv-loop μ-loop
 loop-holds c = filled-start _ _ (c .pre .0)
 
-element-write-inside : tie.Need-element-write-inside Inv-loop μ-loop
-element-write-inside c = search needs
-
-add-u : tie.Need-add-u Inv-loop μ-loop
-add-u c = search needs
-
-loop-less : tie.Need-loop-less Inv-loop μ-loop
-loop-less c = search needs
-
 loop-again : tie.Need-loop-again Inv-loop μ-loop
 loop-again c =
     let o = c .before .loop in
     filled-step (λ w. false) (o .inside) (o .u) 0 (omega arith) (o .inv) refl
-
-element-write-inside-2 : tie.Need-element-write-inside-2 Inv-loop μ-loop
-element-write-inside-2 c = search needs
 
 returns : tie.Need-returns Inv-loop μ-loop
 returns c =
@@ -48,9 +36,9 @@ flag-one-spec =
     Inv-loop
     μ-loop
     loop-holds
-    element-write-inside
-    add-u
-    loop-less
+    (λ c. search needs)
+    (λ c. search needs)
+    (λ c. search needs)
     loop-again
-    element-write-inside-2
+    (λ c. search needs)
     returns)

@@ -5,20 +5,11 @@ use Rattle.integers.proofs.Tests.{eqb-true, eqb-false}
 use Rattle.node_flags.proofs.side_of.Statement.{statement}
 use Rattle.node_flags.proofs.side_of.Tie as tie
 
-element-copy-out-if1 : tie.Need-element-copy-out-if1
-element-copy-out-if1 c = search needs
-
-element-copy-out-if2 : tie.Need-element-copy-out-if2
-element-copy-out-if2 c = search needs
-
 returns : tie.Need-returns
 returns c = eqb-true _ 1 (c .before .before .if1 .taken) ∙ sym (eqb-true _ 1 (c .if2 .taken))
 
 returns-2 : tie.Need-returns-2
 returns-2 c = (eqb-true _ 1 (c .before .before .if1 .taken), eqb-false _ 1 (c .if2 .left))
-
-element-copy-out-if3 : tie.Need-element-copy-out-if3
-element-copy-out-if3 c = search needs
 
 returns-3 : tie.Need-returns-3
 returns-3 c = (eqb-false _ 1 (c .before .before .if1 .left), eqb-true _ 1 (c .if3 .taken))
@@ -30,10 +21,10 @@ pub side-of-spec : {M : Type 1} → statement M
 side-of-spec =
     tie.close
     (tie.spec
-    element-copy-out-if1
-    element-copy-out-if2
+    (λ c. search needs)
+    (λ c. search needs)
     returns
     returns-2
-    element-copy-out-if3
+    (λ c. search needs)
     returns-3
     returns-4)

@@ -17,24 +17,6 @@ abbrev μ-loop : tie.MeasureT-loop
 loop-holds : tie.Need-loop-holds Inv-loop μ-loop
 loop-holds c = filled-start _ _ (c .pre)
 
-element-copy-out-either : tie.Need-element-copy-out-either Inv-loop μ-loop
-element-copy-out-either c = search needs
-
-element-copy-out-either-2 : tie.Need-element-copy-out-either-2 Inv-loop μ-loop
-element-copy-out-either-2 c = search needs
-
-either-requires : tie.Need-either-requires Inv-loop μ-loop
-either-requires c κs = search needs
-
-element-write-to : tie.Need-element-write-to Inv-loop μ-loop
-element-write-to c = search needs
-
-add-u : tie.Need-add-u Inv-loop μ-loop
-add-u c = search needs
-
-loop-less : tie.Need-loop-less Inv-loop μ-loop
-loop-less c = search needs
-
 loop-again : tie.Need-loop-again Inv-loop μ-loop
 loop-again c =
     let o = c .before .before .before .before .loop in
@@ -52,11 +34,11 @@ unite-spec =
     Inv-loop
     μ-loop
     loop-holds
-    element-copy-out-either
-    element-copy-out-either-2
-    either-requires
-    element-write-to
-    add-u
-    loop-less
+    (λ c. search needs)
+    (λ c. search needs)
+    (λ c κs. search needs)
+    (λ c. search needs)
+    (λ c. search needs)
+    (λ c. search needs)
     loop-again
     returns)

@@ -1,9 +1,6 @@
 -- Sets of nodes as flags, one byte for each node: on which side of a question a set lies.
 use mathlib.Core.Bool.{Bool}
-use mathlib.Core.List.{List}
 use Prim.Native.Nat.{ℕ}
-use lib.Dec.{eqb}
-use lib.ListN.{getD}
 use Rattle.flows.specs.inner.Sides.{AtSource, AtSink, Beside}
 use Rattle.node_flags.specs.declared.Side.{Side}
 use Rattle.node_flags.specs.declared.Side.the-variants as side

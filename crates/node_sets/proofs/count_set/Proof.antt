@@ -26,23 +26,8 @@ loop-holds c =
     let e = c .words-for .ensures in
     (omega arith, omega (arith, e, p .1), omega (arith, e, p .0), e, omega arith, refl)
 
-mul-count-word : tie.Need-mul-count-word Inv-loop μ-loop
-mul-count-word c = search needs
-
-shared-slice-read-count-word : tie.Need-shared-slice-read-count-word Inv-loop μ-loop
-shared-slice-read-count-word c = search needs
-
 count-word-requires : tie.Need-count-word-requires Inv-loop μ-loop
 count-word-requires c κs = tt
-
-add-total : tie.Need-add-total Inv-loop μ-loop
-add-total c = search needs
-
-add-i : tie.Need-add-i Inv-loop μ-loop
-add-i c = search needs
-
-loop-less : tie.Need-loop-less Inv-loop μ-loop
-loop-less c = search needs
 
 loop-again : tie.Need-loop-again Inv-loop μ-loop
 loop-again c =
@@ -67,11 +52,11 @@ count-set-spec =
     μ-loop
     words-for-requires
     loop-holds
-    mul-count-word
-    shared-slice-read-count-word
+    (λ c. search needs)
+    (λ c. search needs)
     count-word-requires
-    add-total
-    add-i
-    loop-less
+    (λ c. search needs)
+    (λ c. search needs)
+    (λ c. search needs)
     loop-again
     returns)

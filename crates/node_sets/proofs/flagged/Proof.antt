@@ -6,9 +6,6 @@ use borrow.Author.Needs.{needs}
 use Rattle.node_sets.proofs.flagged.Statement.{statement}
 use Rattle.node_sets.proofs.flagged.Tie as tie
 
-element-copy-out-result : tie.Need-element-copy-out-result
-element-copy-out-result c = search needs
-
 returns : tie.Need-returns
 returns c = sym (flag-inside (c .before .before .args .inside .now) (c .before .before .args .nodes) (c .before .before .args .v) (c .before .if1 .taken))
 
@@ -18,4 +15,4 @@ returns-2 c =
     ∙ sym (flag-outside (c .before .args .inside .now) (c .before .args .nodes) (c .before .args .v) (c .if1 .left))
 
 pub flagged-spec : {M : Type 1} → statement M
-flagged-spec = tie.close (tie.spec element-copy-out-result returns returns-2)
+flagged-spec = tie.close (tie.spec (λ c. search needs) returns returns-2)

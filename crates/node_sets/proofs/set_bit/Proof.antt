@@ -7,11 +7,8 @@ use borrow.Author.Needs.{needs}
 use Rattle.node_sets.proofs.set_bit.Statement.{statement}
 use Rattle.node_sets.proofs.set_bit.Tie as tie
 
-shl-result : tie.Need-shl-result
-shl-result c = search needs
-
 returns : tie.Need-returns
 returns c = ap (λ (x : ℕ). bitOr (c .args .w) x) (one-shl (c .args .k) (c .pre .0)) ∙ or-above (c .args .w) (c .args .k) (c .pre .1)
 
 pub set-bit-spec : {M : Type 1} → statement M
-set-bit-spec = tie.close (tie.spec shl-result returns)
+set-bit-spec = tie.close (tie.spec (λ c. search needs) returns)

@@ -25,26 +25,11 @@ loop-holds : tie.Need-loop-holds Inv-loop μ-loop
 unfolding word
 loop-holds c = (omega arith, refl)
 
-mul-flagged : tie.Need-mul-flagged Inv-loop μ-loop
-mul-flagged c = search needs
-
-add-flagged : tie.Need-add-flagged Inv-loop μ-loop
-add-flagged c = search needs
-
-flagged-requires : tie.Need-flagged-requires Inv-loop μ-loop
-flagged-requires c κs = search needs
-
 set-bit-requires : tie.Need-set-bit-requires Inv-loop μ-loop
 set-bit-requires c κs =
     let o = c .before .before .before .loop in
     let a = c .before .before .before .before .args in
     (omega arith, subst (λ (x : ℕ). x < 2 ^ o .k) (sym (o .inv .1)) (word-below (tests (a .inside .now) (a .nodes) (a .j)) (o .k)))
-
-add-k : tie.Need-add-k Inv-loop μ-loop
-add-k c = search needs
-
-loop-less : tie.Need-loop-less Inv-loop μ-loop
-loop-less c = search needs
 
 loop-again : tie.Need-loop-again Inv-loop μ-loop
 loop-again c =
@@ -71,11 +56,11 @@ word-of-spec =
     Inv-loop
     μ-loop
     loop-holds
-    mul-flagged
-    add-flagged
-    flagged-requires
+    (λ c. search needs)
+    (λ c. search needs)
+    (λ c κs. search needs)
     set-bit-requires
-    add-k
-    loop-less
+    (λ c. search needs)
+    (λ c. search needs)
     loop-again
     returns)

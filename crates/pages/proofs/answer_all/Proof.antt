@@ -1,10 +1,8 @@
 -- The list answered question by question: each turn is a step of `Answering`.
-use Prim.Native.Nat.{ℕ, _≤_, _<_, _-_, _+_, _*_}
+use Prim.Native.Nat.{_≤_, _-_, _+_, _*_}
 use mathlib.Core.Path.{_≡_, refl}
-use mathlib.Core.List.{List}
 use native.Mathlib.Omega.{arith}
-use lib.ListN.{length, getD, set}
-use lib.IntN.{ℤ}
+use lib.ListN.{length}
 use borrow.Author.Needs.{needs}
 use Rattle.flows.specs.ProvingSet.{wordsFor}
 use Rattle.arrays.specs.Maps.{drawingOf}
@@ -66,20 +64,8 @@ mul-word c = record { fits = omega (arith, sets-small c) }
 add-past : tie.Need-add-past Inv-loop μ-loop
 add-past c = record { fits = omega (arith, sets-small c) }
 
-mul-q : tie.Need-mul-q Inv-loop μ-loop
-mul-q c = search needs
-
-element-copy-out-q : tie.Need-element-copy-out-q Inv-loop μ-loop
-element-copy-out-q c = search needs
-
 mul-ask : tie.Need-mul-ask Inv-loop μ-loop
 mul-ask c = record { fits = omega (arith, flows-small (c .before)) }
-
-sub-ask : tie.Need-sub-ask Inv-loop μ-loop
-sub-ask c = search needs
-
-part-ask-start : tie.Need-part-ask-start Inv-loop μ-loop
-part-ask-start c = search needs
 
 part-ask-end : tie.Need-part-ask-end Inv-loop μ-loop
 part-ask-end c = flows-room (c .before)
@@ -87,29 +73,11 @@ part-ask-end c = flows-room (c .before)
 mul-ask-2 : tie.Need-mul-ask-2 Inv-loop μ-loop
 mul-ask-2 c = record { fits = omega (arith, sets-small (c .before .before)) }
 
-sub-ask-2 : tie.Need-sub-ask-2 Inv-loop μ-loop
-sub-ask-2 c = search needs
-
-part-ask-start-2 : tie.Need-part-ask-start-2 Inv-loop μ-loop
-part-ask-start-2 c = search needs
-
 part-ask-end-2 : tie.Need-part-ask-end-2 Inv-loop μ-loop
 part-ask-end-2 c = sets-room (c .before .before)
 
 ask-requires : tie.Need-ask-requires Inv-loop μ-loop
 ask-requires c κs = let p = c .before .before .before .before .before .before .before .pre in (p .0, p .1)
-
-mul-answers : tie.Need-mul-answers Inv-loop μ-loop
-mul-answers c = search needs
-
-array-set-from-answers : tie.Need-array-set-from-answers Inv-loop μ-loop
-array-set-from-answers c = search needs
-
-add-i : tie.Need-add-i Inv-loop μ-loop
-add-i c = search needs
-
-loop-less : tie.Need-loop-less Inv-loop μ-loop
-loop-less c = search needs
 
 loop-again : tie.Need-loop-again Inv-loop μ-loop
 loop-again c =
@@ -153,21 +121,21 @@ answer-all-spec =
     add-end
     mul-word
     add-past
-    mul-q
-    element-copy-out-q
+    (λ c. search needs)
+    (λ c. search needs)
     mul-ask
-    sub-ask
-    part-ask-start
+    (λ c. search needs)
+    (λ c. search needs)
     part-ask-end
     mul-ask-2
-    sub-ask-2
-    part-ask-start-2
+    (λ c. search needs)
+    (λ c. search needs)
     part-ask-end-2
     ask-requires
-    mul-answers
-    array-set-from-answers
-    add-i
-    loop-less
+    (λ c. search needs)
+    (λ c. search needs)
+    (λ c. search needs)
+    (λ c. search needs)
     loop-again
     same-length
     same-length-2

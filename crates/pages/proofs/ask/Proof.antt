@@ -1,6 +1,5 @@
 -- One question: Solve's own contract, of the question's parts.
 use mathlib.Core.Path.{subst}
-use Prim.Native.Nat.{ℕ}
 use borrow.Author.Needs.{needs}
 use Rattle.signed.proofs.Laws.{number-of-bits}
 use Rattle.arrays.specs.Maps.{drawingOf}
@@ -8,15 +7,6 @@ use Rattle.questions.specs.Solve.{questionChecks, Solved}
 use Rattle.questions.specs.inner.Named.{SetNamed}
 use Rattle.pages.proofs.ask.Statement.{statement}
 use Rattle.pages.proofs.ask.Tie as tie
-
-solve-requires : tie.Need-solve-requires
-solve-requires c κs = search needs
-
-same-length : tie.Need-same-length
-same-length c = search needs
-
-same-length-2 : tie.Need-same-length-2
-same-length-2 c = search needs
 
 returns : tie.Need-returns
 returns c =
@@ -33,4 +23,4 @@ returns c =
     (number-of-bits (a .q .value) (record { sfits = g .1 .1 .0 .1 })) (k .solve .ensures)
 
 pub ask-spec : {M : Type 1} → statement M
-ask-spec = tie.close (tie.spec solve-requires same-length same-length-2 returns)
+ask-spec = tie.close (tie.spec (λ c κs. search needs) (λ c. search needs) (λ c. search needs) returns)

@@ -26,9 +26,6 @@ returns-2 : tie.Need-returns-2
 unfolding listChecks FirstOf
 returns-2 c = inr (λ h. omega arith, inl (inl (omega arith), refl, refl))
 
-words-for-requires : tie.Need-words-for-requires
-words-for-requires c κs = search needs
-
 mul-if3 : tie.Need-mul-if3
 mul-if3 c =
     let few : c .before .before .before .before .args .n ≤ 64 = omega arith in
@@ -52,4 +49,4 @@ returns-4 c =
 
 pub check-list-spec : {M : Type 1} → statement M
 check-list-spec =
-    tie.close (tie.spec returns mul-if2 returns-2 words-for-requires mul-if3 returns-3 returns-4)
+    tie.close (tie.spec returns mul-if2 returns-2 (λ c κs. search needs) mul-if3 returns-3 returns-4)

@@ -1,5 +1,5 @@
 -- A list from three arrays, question by question.
-use Prim.Native.Nat.{ℕ, _≤_, _<_, _-_, _+_, min}
+use Prim.Native.Nat.{ℕ, _≤_, _-_, min}
 use mathlib.Core.Path.{_≡_, ap, _∙_}
 use native.Mathlib.Omega.{arith}
 use lib.IntN.{ℤ}
@@ -22,43 +22,13 @@ Inv-loop count sources sinks values few next₀ i₀ next i =
 abbrev μ-loop : tie.MeasureT-loop
 μ-loop count sources sinks values few next₀ i₀ next i = few - i
 
-held-requires : tie.Need-held-requires Inv-loop μ-loop
-held-requires c κs = search needs
-
-empty-list-requires : tie.Need-empty-list-requires Inv-loop μ-loop
-empty-list-requires c κs = search needs
-
 loop-holds : tie.Need-loop-holds Inv-loop μ-loop
 loop-holds c = (omega arith, c .before .held .ensures, c .empty-list .ensures ∙ gathered-start _ _)
-
-mul-t10 : tie.Need-mul-t10 Inv-loop μ-loop
-mul-t10 c = search needs
-
-element-copy-out-t13 : tie.Need-element-copy-out-t13 Inv-loop μ-loop
-element-copy-out-t13 c = search needs
-
-mul-t14 : tie.Need-mul-t14 Inv-loop μ-loop
-mul-t14 c = search needs
-
-element-copy-out-t17 : tie.Need-element-copy-out-t17 Inv-loop μ-loop
-element-copy-out-t17 c = search needs
-
-mul-t18 : tie.Need-mul-t18 Inv-loop μ-loop
-mul-t18 c = search needs
-
-element-copy-out-t21 : tie.Need-element-copy-out-t21 Inv-loop μ-loop
-element-copy-out-t21 c = search needs
 
 with-question-requires : tie.Need-with-question-requires Inv-loop μ-loop
 with-question-requires c κs =
     let t = c .before .before .before in
     omega (arith, t .before .loop .inv .1, t .loop-test .taken)
-
-add-i : tie.Need-add-i Inv-loop μ-loop
-add-i c = search needs
-
-loop-less : tie.Need-loop-less Inv-loop μ-loop
-loop-less c = search needs
 
 loop-again : tie.Need-loop-again Inv-loop μ-loop
 loop-again c =
@@ -85,17 +55,17 @@ list-from-spec =
     (tie.spec
     Inv-loop
     μ-loop
-    held-requires
-    empty-list-requires
+    (λ c κs. search needs)
+    (λ c κs. search needs)
     loop-holds
-    mul-t10
-    element-copy-out-t13
-    mul-t14
-    element-copy-out-t17
-    mul-t18
-    element-copy-out-t21
+    (λ c. search needs)
+    (λ c. search needs)
+    (λ c. search needs)
+    (λ c. search needs)
+    (λ c. search needs)
+    (λ c. search needs)
     with-question-requires
-    add-i
-    loop-less
+    (λ c. search needs)
+    (λ c. search needs)
     loop-again
     returns)

@@ -1,7 +1,7 @@
 -- `list_of` meets its contract: a walk of its MIR, by hand, since it is lent a slice of structs. Of the three functions that it calls one after the other the
 -- proof knows the contracts alone. The slice is lent on to `gather` at its own lifetime, and is still had after the call.
-use mathlib.Core.Path.{_≡_, refl, sym, ap, ap₂, subst, _∙_}
-use Prim.Native.Nat.{ℕ, _≤_, _<_, _^_, min}
+use mathlib.Core.Path.{_≡_, refl}
+use Prim.Native.Nat.{ℕ, _≤_, min}
 use native.Mathlib.Omega.{arith}
 use mathlib.Core.List.{List, [], _∷_}
 use lib.ListN.{length}

@@ -25,12 +25,6 @@ returns c =
     let s = c .before .before in
     no-party (shared s) (s .args .party) _ _ _ _ _ (c .if1 .taken)
 
-wide-requires : tie.Need-wide-requires
-wide-requires c κs = search needs
-
-element-copy-out-if2 : tie.Need-element-copy-out-if2
-element-copy-out-if2 c = search needs
-
 -- ── the party ──
 abbrev begun : tie.After-wide → tie.Start
 begun c = c .before .before .before
@@ -46,15 +40,6 @@ returns-2 c =
 
 may-ask : (c : tie.Else2) → shared (begun (c .before .before)) .standing (begun (c .before .before) .args .party) ≢ committed
 may-ask c e = c .if2 .left (ap (shared (begun (c .before .before)) .standing) (c .before .before .wide .ensures) ∙ e)
-
-answer-left-requires : tie.Need-answer-left-requires
-answer-left-requires c κs = search needs
-
-enum-told : tie.Need-enum-told
-enum-told c = search needs
-
-wide-requires-2 : tie.Need-wide-requires-2
-wide-requires-2 c κs = search needs
 
 -- ── the answer on the limits left ──
 abbrev answer : tie.After-slice-known2 → tie.After-answer-left
@@ -96,24 +81,6 @@ keep-offer-requires c κs =
       omega (arith, w .wide2 .ensures, few, c .keep-offer-arg3 .given .0 .1),
     )
 
-stand-requires : tie.Need-stand-requires
-stand-requires c κs = search needs
-
-enum-known-answer : tie.Need-enum-known-answer
-enum-known-answer c = search needs
-
-stand-requires-2 : tie.Need-stand-requires-2
-stand-requires-2 c κs = search needs
-
-enum-known-answer-2 : tie.Need-enum-known-answer-2
-enum-known-answer-2 c = search needs
-
-same-length : tie.Need-same-length
-same-length c = search needs
-
-same-length-2 : tie.Need-same-length-2
-same-length-2 c = search needs
-
 returns-3 : tie.Need-returns-3
 returns-3 c =
     let o = c .before .before in
@@ -128,12 +95,6 @@ returns-3 c =
     (o .keep-offer .ensures))
     (k .answer-left .ensures)
 
-same-length-3 : tie.Need-same-length-3
-same-length-3 c = search needs
-
-same-length-4 : tie.Need-same-length-4
-same-length-4 c = search needs
-
 returns-4 : tie.Need-returns-4
 returns-4 c =
     let t = c .before .before .before in
@@ -144,12 +105,6 @@ returns-4 c =
     (is-party (widened k)) (may-ask (uncommitted k)) _
     (after-cannot (shared s) (widened k .wide .ensures) _ (c .stand2 .ensures))
     (k .answer-left .ensures)
-
-same-length-5 : tie.Need-same-length-5
-same-length-5 c = search needs
-
-same-length-6 : tie.Need-same-length-6
-same-length-6 c = search needs
 
 returns-5 : tie.Need-returns-5
 returns-5 c =
@@ -165,23 +120,23 @@ ask-spec =
     tie.close
     (tie.spec
     returns
-    wide-requires
-    element-copy-out-if2
+    (λ c κs. search needs)
+    (λ c. search needs)
     returns-2
-    answer-left-requires
-    enum-told
-    wide-requires-2
+    (λ c κs. search needs)
+    (λ c. search needs)
+    (λ c κs. search needs)
     keep-offer-requires
-    stand-requires
-    enum-known-answer
-    stand-requires-2
-    enum-known-answer-2
-    same-length
-    same-length-2
+    (λ c κs. search needs)
+    (λ c. search needs)
+    (λ c κs. search needs)
+    (λ c. search needs)
+    (λ c. search needs)
+    (λ c. search needs)
     returns-3
-    same-length-3
-    same-length-4
+    (λ c. search needs)
+    (λ c. search needs)
     returns-4
-    same-length-5
-    same-length-6
+    (λ c. search needs)
+    (λ c. search needs)
     returns-5)

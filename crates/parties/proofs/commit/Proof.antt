@@ -33,12 +33,6 @@ session s =
 returns : tie.Need-returns
 returns c = (no-party (session (c .before)) (c .before .args .party) (c .if1 .taken), refl)
 
-wide-requires : tie.Need-wide-requires
-wide-requires c κs = search needs
-
-element-copy-out-stands : tie.Need-element-copy-out-stands
-element-copy-out-stands c = search needs
-
 -- ── where the party stands ──
 abbrev start : tie.After-stands → tie.Start
 start c = c .before .before .before
@@ -66,9 +60,6 @@ returns-4 c =
           (λ e. c .before .if3 .left (stood t ∙ e)) (λ e. c .if4 .taken (stood t ∙ e)),
       refl,
     )
-
-take-of-requires : tie.Need-take-of-requires
-take-of-requires c κs = search needs
 
 -- ── the offer ──
 abbrev stands : tie.After-take-of → tie.After-stands
@@ -106,12 +97,12 @@ commit-spec =
     tie.close
     (tie.spec
     returns
-    wide-requires
-    element-copy-out-stands
+    (λ c κs. search needs)
+    (λ c. search needs)
     returns-2
     returns-3
     returns-4
-    take-of-requires
+    (λ c κs. search needs)
     stand-committed-requires
     returns-5
     returns-6)

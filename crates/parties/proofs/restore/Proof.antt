@@ -22,25 +22,10 @@ abbrev μ-loop : tie.MeasureT-loop
 loop-holds : tie.Need-loop-holds Inv-loop μ-loop
 loop-holds c = (omega arith, copy-start _ _)
 
-mul-left : tie.Need-mul-left Inv-loop μ-loop
-mul-left c = search needs
-
-shared-slice-copy-out-left : tie.Need-shared-slice-copy-out-left Inv-loop μ-loop
-shared-slice-copy-out-left c = search needs
-
-mul-t8 : tie.Need-mul-t8 Inv-loop μ-loop
-mul-t8 c = search needs
-
 slice-set-from-left : tie.Need-slice-set-from-left Inv-loop μ-loop
 slice-set-from-left c =
     let s = c .before .before .before in
     omega (arith, filled-length _ _ _ _ (c .before .before .loop .inv .1) (omega (arith, s .pre .1)), s .pre .1)
-
-add-dart : tie.Need-add-dart Inv-loop μ-loop
-add-dart c = search needs
-
-loop-less : tie.Need-loop-less Inv-loop μ-loop
-loop-less c = search needs
 
 loop-again : tie.Need-loop-again Inv-loop μ-loop
 loop-again c =
@@ -68,12 +53,12 @@ restore-spec =
     Inv-loop
     μ-loop
     loop-holds
-    mul-left
-    shared-slice-copy-out-left
-    mul-t8
+    (λ c. search needs)
+    (λ c. search needs)
+    (λ c. search needs)
     slice-set-from-left
-    add-dart
-    loop-less
+    (λ c. search needs)
+    (λ c. search needs)
     loop-again
     same-length
     returns)

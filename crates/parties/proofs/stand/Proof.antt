@@ -4,14 +4,8 @@ use borrow.Author.Needs.{needs}
 use Rattle.parties.proofs.stand.Statement.{statement}
 use Rattle.parties.proofs.stand.Tie as tie
 
-slice-write-standing : tie.Need-slice-write-standing
-slice-write-standing c = search needs
-
-same-length : tie.Need-same-length
-same-length c = search needs
-
 returns : tie.Need-returns
 returns c = set-put (c .args .standing .now) (c .args .party) (c .args .place) (c .pre)
 
 pub stand-spec : {M : Type 1} → statement M
-stand-spec = tie.close (tie.spec slice-write-standing same-length returns)
+stand-spec = tie.close (tie.spec (λ c. search needs) (λ c. search needs) returns)

@@ -5,19 +5,10 @@ use Rattle.parties.proofs.Taking.{written-long, written-both}
 use Rattle.parties.proofs.stand_idle.Statement.{statement}
 use Rattle.parties.proofs.stand_idle.Tie as tie
 
-slice-write-standing : tie.Need-slice-write-standing
-slice-write-standing c = search needs
-
-slice-write-standing-2 : tie.Need-slice-write-standing-2
-slice-write-standing-2 c = search needs
-
-same-length : tie.Need-same-length
-same-length c = search needs
-
 returns : tie.Need-returns
 returns c =
     let xs = c .args .standing .now in
     (written-long xs (c .pre) _ _, written-both xs (c .pre) _ _ (λ q. 0) refl refl (λ q l. refl))
 
 pub stand-idle-spec : {M : Type 1} → statement M
-stand-idle-spec = tie.close (tie.spec slice-write-standing slice-write-standing-2 same-length returns)
+stand-idle-spec = tie.close (tie.spec (λ c. search needs) (λ c. search needs) (λ c. search needs) returns)

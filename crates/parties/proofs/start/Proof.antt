@@ -17,14 +17,8 @@ session s =
     sharedOf (a .nodes .now) (a .edges .now) (a .outer .now) (a .tails .now) (a .rotations .now) (a .limits .now) (a .left .now) (a .standing .now)
     (a .first .now) (a .second .now)
 
-open-requires : tie.Need-open-requires
-open-requires c κs = search needs
-
 stand-idle-requires : tie.Need-stand-idle-requires
 stand-idle-requires c κs = c .stand-idle-arg .given .0 .1
-
-enum-known-verdict : tie.Need-enum-known-verdict
-enum-known-verdict c = search needs
 
 returns : tie.Need-returns
 returns c =
@@ -34,9 +28,6 @@ returns c =
       opens-first (s .args .sheet .now) _ (o .«open» .result) (c .before .verdict .given .1) (o .«open» .ensures .1),
       after-refusal (session s) _ (i .stand-idle .ensures .1),
     )
-
-enum-told : tie.Need-enum-told
-enum-told c = search needs
 
 -- ── it is accepted ──
 abbrev opened : tie.After-enum-told → tie.After-open
@@ -114,11 +105,11 @@ pub start-spec : {M : Type 1} → statement M
 start-spec =
     tie.close
     (tie.spec
-    open-requires
+    (λ c κs. search needs)
     stand-idle-requires
-    enum-known-verdict
+    (λ c. search needs)
     returns
-    enum-told
+    (λ c. search needs)
     narrow-requires
     narrow-requires-2
     narrow-requires-3

@@ -9,12 +9,6 @@ use Rattle.parties.proofs.Taking.{lowered-by-flows}
 use Rattle.parties.proofs.take.Statement.{statement}
 use Rattle.parties.proofs.take.Tie as tie
 
-wide-requires : tie.Need-wide-requires
-wide-requires c κs = search needs
-
-lowerable-requires : tie.Need-lowerable-requires
-lowerable-requires c κs = search needs
-
 abbrev start : tie.After-lowerable → tie.Start
 start c = c .before .before .before .before
 
@@ -51,4 +45,4 @@ returns-2 c =
     }
 
 pub take-spec : {M : Type 1} → statement M
-take-spec = tie.close (tie.spec wide-requires lowerable-requires lower-requires returns returns-2)
+take-spec = tie.close (tie.spec (λ c κs. search needs) (λ c κs. search needs) lower-requires returns returns-2)

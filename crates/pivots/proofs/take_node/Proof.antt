@@ -1,7 +1,6 @@
 -- Invariant: the arrays' lengths, that d is a dart, and that the steps that are left are counted.
-use mathlib.Core.Path.{_≡_, refl}
-use Prim.Native.Nat.{ℕ, _≤_, _<_}
-use native.Mathlib.Omega.{arith}
+use mathlib.Core.Path.{_≡_}
+use Prim.Native.Nat.{_≤_, _<_}
 use lib.ListN.{length}
 use borrow.Author.Needs.{needs}
 use Rattle.pivots.proofs.take_node.Statement.{statement}

@@ -1,5 +1,5 @@
 -- The capacity that a state gives is less than 100, so its bits are the number.
-use mathlib.Core.Path.{_≡_, refl, sym, _∙_, ap}
+use mathlib.Core.Path.{_≡_, _∙_, ap}
 use native.Mathlib.Omega.{arith}
 use Prim.Native.Nat.{ℕ, _/_, _%_, _<_}
 use lib.IntN.{pos}
@@ -13,14 +13,8 @@ use borrow.Author.Needs.{needs}
 use Rattle.practice.proofs.capacity_from.Statement.{statement}
 use Rattle.practice.proofs.capacity_from.Tie as tie
 
-cast-of-bits : tie.Need-cast-of-bits
-cast-of-bits c = search needs
-
 small-number : (n : ℕ) → n < 100 → toZ w32 (ofZ w32 (toZ w32 n)) ≡ pos n
 small-number n l = number-of-bits (toZ w32 n) (number-fits n (omega arith)) ∙ toZ-pos w32 n (omega arith)
-
-of-bits-requires : tie.Need-of-bits-requires
-of-bits-requires c κs = search needs
 
 returns : tie.Need-returns
 unfolding capacityFrom
@@ -29,4 +23,4 @@ returns c =
     ap (λ x. toZ w32 (ofZ w32 x)) (c .of-bits .ensures) ∙ small-number (n % 100) (mod-lt n (omega arith))
 
 pub capacity-from-spec : {M : Type 1} → statement M
-capacity-from-spec = tie.close (tie.spec cast-of-bits of-bits-requires returns)
+capacity-from-spec = tie.close (tie.spec (λ c. search needs) (λ c κs. search needs) returns)

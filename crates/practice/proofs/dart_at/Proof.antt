@@ -1,5 +1,5 @@
 -- The dart on a side: a formula for each number.
-use mathlib.Core.Path.{_≡_, refl, sym, _∙_, ap}
+use mathlib.Core.Path.{_≡_, ap}
 use Prim.Native.Nat.{_+_, _*_, _<_}
 use native.Mathlib.Omega.{arith}
 use Rattle.integers.proofs.Tests.{ltb-lt}
@@ -27,34 +27,13 @@ west-of c = ltb-lt 0 (c .before .before .before .args .c) (rw (is-west c) at (c 
 sub-edge-south : tie.Need-sub-edge-south
 sub-edge-south c = omega (arith, north-of c)
 
-edge-south-requires : tie.Need-edge-south-requires
-edge-south-requires c κs = search needs
-
-mul-result : tie.Need-mul-result
-mul-result c = search needs
-
-add-result : tie.Need-add-result
-add-result c = search needs
-
 returns : tie.Need-returns
 unfolding dartAt side
 returns c = rw (c .before .if1 .taken) (ap (λ e. 2 * e + 1) (c .edge-south .ensures .0))
 
-edge-east-requires : tie.Need-edge-east-requires
-edge-east-requires c κs = search needs
-
-mul-result-2 : tie.Need-mul-result-2
-mul-result-2 c = search needs
-
 returns-2 : tie.Need-returns-2
 unfolding dartAt side
 returns-2 c = rw (c .before .if2 .taken) (ap (λ e. 2 * e) (c .edge-east .ensures .0))
-
-edge-south-requires-2 : tie.Need-edge-south-requires-2
-edge-south-requires-2 c κs = search needs
-
-mul-result-3 : tie.Need-mul-result-3
-mul-result-3 c = search needs
 
 returns-3 : tie.Need-returns-3
 unfolding dartAt side
@@ -62,15 +41,6 @@ returns-3 c = rw (c .before .if3 .taken) (ap (λ e. 2 * e) (c .edge-south2 .ensu
 
 sub-edge-east : tie.Need-sub-edge-east
 sub-edge-east c = omega (arith, west-of c)
-
-edge-east-requires-2 : tie.Need-edge-east-requires-2
-edge-east-requires-2 c κs = search needs
-
-mul-result-4 : tie.Need-mul-result-4
-mul-result-4 c = search needs
-
-add-result-2 : tie.Need-add-result-2
-add-result-2 c = search needs
 
 returns-4 : tie.Need-returns-4
 unfolding dartAt
@@ -81,18 +51,18 @@ dart-at-spec =
     tie.close
     (tie.spec
     sub-edge-south
-    edge-south-requires
-    mul-result
-    add-result
+    (λ c κs. search needs)
+    (λ c. search needs)
+    (λ c. search needs)
     returns
-    edge-east-requires
-    mul-result-2
+    (λ c κs. search needs)
+    (λ c. search needs)
     returns-2
-    edge-south-requires-2
-    mul-result-3
+    (λ c κs. search needs)
+    (λ c. search needs)
     returns-3
     sub-edge-east
-    edge-east-requires-2
-    mul-result-4
-    add-result-2
+    (λ c κs. search needs)
+    (λ c. search needs)
+    (λ c. search needs)
     returns-4)

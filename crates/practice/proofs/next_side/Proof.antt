@@ -1,7 +1,6 @@
 -- The next side that has an edge: three tests, side after side.
 use mathlib.Core.Path.{_≡_, sym, _∙_, ap}
-use mathlib.Core.Bool.{Bool, true, false}
-use Prim.Native.Nat.{_+_, _%_}
+use mathlib.Core.Bool.{Bool}
 use Rattle.practice.specs.Side.{Side, turn}
 use Rattle.practice.specs.Grid.{present}
 use Rattle.practice.specs.inner.Numbered.{side}
@@ -26,32 +25,14 @@ third : (c : tie.After-has-side3)
 third c = let s = c .before .before .before .before .before in ap (has s) (sym (three-turns (s .args .s) (s .pre .2))) ∙ sym (c .has-side3 .ensures)
 
 -- ── the needs, in the order of the code ──
-add-one : tie.Need-add-one
-add-one c = search needs
-
-add-two : tie.Need-add-two
-add-two c = search needs
-
-add-three : tie.Need-add-three
-add-three c = search needs
-
-has-side-requires : tie.Need-has-side-requires
-has-side-requires c κs = search needs
-
 returns : tie.Need-returns
 returns c = let s = c .before .before in
     one-turn (s .args .s) (s .pre .2) ∙ sym (next-first (has s) (side (s .args .s)) (first (c .before) ∙ c .if1 .taken))
-
-has-side-requires-2 : tie.Need-has-side-requires-2
-has-side-requires-2 c κs = search needs
 
 returns-2 : tie.Need-returns-2
 returns-2 c = let b = c .before .before in
     let s = b .before .before in
     two-turns (s .args .s) (s .pre .2) ∙ sym (next-second (has s) (side (s .args .s)) (first (b .before) ∙ b .if1 .left) (second (c .before) ∙ c .if2 .taken))
-
-has-side-requires-3 : tie.Need-has-side-requires-3
-has-side-requires-3 c κs = search needs
 
 returns-3 : tie.Need-returns-3
 returns-3 c = let b = c .before .before in
@@ -70,13 +51,13 @@ pub next-side-spec : {M : Type 1} → statement M
 next-side-spec =
     tie.close
     (tie.spec
-    add-one
-    add-two
-    add-three
-    has-side-requires
+    (λ c. search needs)
+    (λ c. search needs)
+    (λ c. search needs)
+    (λ c κs. search needs)
     returns
-    has-side-requires-2
+    (λ c κs. search needs)
     returns-2
-    has-side-requires-3
+    (λ c κs. search needs)
     returns-3
     returns-4)

@@ -97,15 +97,6 @@ headed c =
     (c .before .narrow2 .ensures ∙ edges-are (roomy c .before .before .before)) (c .write-head .ensures)
 
 -- ── the needs, in the order of the code ──
-wide-requires : tie.Need-wide-requires
-wide-requires c κs = search needs
-
-wide-requires-2 : tie.Need-wide-requires-2
-wide-requires-2 c κs = search needs
-
-out-of-range-requires : tie.Need-out-of-range-requires
-out-of-range-requires c κs = search needs
-
 returns : tie.Need-returns
 returns c =
     let a = begun (c .before) .args in
@@ -113,12 +104,6 @@ returns c =
 
 edge-count-requires : tie.Need-edge-count-requires
 edge-count-requires c κs = let p = sizes c in (omega (arith, p .0), p .1, omega (arith, p .2), p .3)
-
-record-length-requires : tie.Need-record-length-requires
-record-length-requires c κs = search needs
-
-edge-at-requires : tie.Need-edge-at-requires
-edge-at-requires c κs = search needs
 
 returns-2 : tie.Need-returns-2
 returns-2 c =
@@ -128,15 +113,6 @@ returns-2 c =
 
 times-requires : tie.Need-times-requires
 times-requires c κs = let p = sizes (ranged (c .before)) in (p .1, p .3)
-
-narrow-requires : tie.Need-narrow-requires
-narrow-requires c κs = search needs
-
-narrow-requires-2 : tie.Need-narrow-requires-2
-narrow-requires-2 c κs = search needs
-
-write-head-requires : tie.Need-write-head-requires
-write-head-requires c κs = search needs
 
 write-edges-requires : tie.Need-write-edges-requires
 write-edges-requires c κs =
@@ -151,9 +127,6 @@ write-edges-requires c κs =
       p .4,
       omega (arith, roomy h .if2 .left, long (roomy h .before), head-length h, same),
     )
-
-same-length : tie.Need-same-length
-same-length c = search needs
 
 returns-3 : tie.Need-returns-3
 returns-3 c =
@@ -173,18 +146,18 @@ pub practice-sheet-spec : {M : Type 1} → statement M
 practice-sheet-spec =
     tie.close
     (tie.spec
-    wide-requires
-    wide-requires-2
-    out-of-range-requires
+    (λ c κs. search needs)
+    (λ c κs. search needs)
+    (λ c κs. search needs)
     returns
     edge-count-requires
-    record-length-requires
-    edge-at-requires
+    (λ c κs. search needs)
+    (λ c κs. search needs)
     returns-2
     times-requires
-    narrow-requires
-    narrow-requires-2
-    write-head-requires
+    (λ c κs. search needs)
+    (λ c κs. search needs)
+    (λ c κs. search needs)
     write-edges-requires
-    same-length
+    (λ c. search needs)
     returns-3)

@@ -1,9 +1,9 @@
 -- The dart next clockwise: the next side has an edge, and its dart is one of at most 960.
-use mathlib.Core.Path.{_≡_, refl, sym, _∙_, ap}
+use mathlib.Core.Path.{_≡_, _∙_, ap}
 use mathlib.Core.Bool.{true}
-use Prim.Native.Nat.{_*_, _≤_, _<_}
+use Prim.Native.Nat.{_<_}
 use native.Mathlib.Omega.{arith}
-use Rattle.practice.specs.Grid.{present, dartAt, gridEdges}
+use Rattle.practice.specs.Grid.{present, dartAt}
 use Rattle.practice.specs.inner.Numbered.{side}
 use Rattle.practice.proofs.Coordinates.{dart-in}
 use Rattle.practice.proofs.GridSound.{next-here}
@@ -33,9 +33,6 @@ small c =
       few-edges (a .rows) (a .columns) (p .0) (p .1),
     )
 
-next-side-requires : tie.Need-next-side-requires
-next-side-requires c κs = search needs
-
 dart-at-requires : tie.Need-dart-at-requires
 dart-at-requires c κs = let p = c .before .pre in (p .0, p .1, p .2, p .3, turned c)
 
@@ -48,4 +45,4 @@ returns c =
     c .narrow .ensures ∙ c .before .dart-at .ensures ∙ ap (dartAt (a .rows) (a .columns) (a .r) (a .c)) (c .before .before .next-side .ensures)
 
 pub rotation-at-spec : {M : Type 1} → statement M
-rotation-at-spec = tie.close (tie.spec next-side-requires dart-at-requires narrow-requires returns)
+rotation-at-spec = tie.close (tie.spec (λ c κs. search needs) dart-at-requires narrow-requires returns)

@@ -1,7 +1,7 @@
 -- `practice::times` meets its contract: 16 · 16 is 256.
 use native.Mathlib.Omega.{arith}
 use native.Mathlib.Nat.{mul-le-mul-right}
-use mathlib.Core.Path.{_≡_, refl}
+use mathlib.Core.Path.{refl}
 use Prim.Native.Nat.{_*_, _≤_}
 use Rattle.practice.proofs.times.Statement.{statement}
 use Rattle.practice.proofs.times.Tie as tie

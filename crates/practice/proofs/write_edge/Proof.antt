@@ -59,18 +59,6 @@ in-column c =
     (omega (arith, q .0), q .1)
 
 -- ── the needs, in the order of the code ──
-sub-gaps : tie.Need-sub-gaps
-sub-gaps c = search needs
-
-times-requires : tie.Need-times-requires
-times-requires c κs = search needs
-
-div-r : tie.Need-div-r
-div-r c = search needs
-
-rem-c : tie.Need-rem-c
-rem-c c = search needs
-
 add-write-between : tie.Need-add-write-between
 add-write-between c = omega (arith, in-row (c .before) .1, eastward (c .before) .pre .4)
 
@@ -95,9 +83,6 @@ write-between-requires c κs =
       ltb-true 0 (column + 1) (omega arith),
     )
 
-same-length : tie.Need-same-length
-same-length c = search needs
-
 returns : tie.Need-returns
 returns c =
     let w = c .before .before in
@@ -107,12 +92,6 @@ returns c =
     w .write-between .ensures
     ∙ same-record (a .rows) (a .columns) (a .place) (a .out .now) (sym (begins-across (a .rows) (a .columns) (a .e) (first t)))
     (sym (ends-across (a .rows) (a .columns) (a .e) (first t))) (number-of-bits (a .forward) (s .fits .forward))
-
-div-r-2 : tie.Need-div-r-2
-div-r-2 c = search needs
-
-rem-c-2 : tie.Need-rem-c-2
-rem-c-2 c = search needs
 
 add-write-between-2 : tie.Need-add-write-between-2
 add-write-between-2 c = omega (arith, in-column (c .before) .0, southward (c .before) .pre .2)
@@ -138,9 +117,6 @@ write-between-requires-2 c κs =
       ltb-true 0 (row + 1) (omega arith),
     )
 
-same-length-2 : tie.Need-same-length-2
-same-length-2 c = search needs
-
 returns-2 : tie.Need-returns-2
 returns-2 c =
     let w = c .before .before in
@@ -158,17 +134,17 @@ pub write-edge-spec : {M : Type 1} → statement M
 write-edge-spec =
     tie.close
     (tie.spec
-    sub-gaps
-    times-requires
-    div-r
-    rem-c
+    (λ c. search needs)
+    (λ c κs. search needs)
+    (λ c. search needs)
+    (λ c. search needs)
     add-write-between
     write-between-requires
-    same-length
+    (λ c. search needs)
     returns
-    div-r-2
-    rem-c-2
+    (λ c. search needs)
+    (λ c. search needs)
     add-write-between-2
     write-between-requires-2
-    same-length-2
+    (λ c. search needs)
     returns-2)

@@ -2,7 +2,7 @@
 -- the rest is as it was.
 use mathlib.Core.Path.{_≡_, refl, sym, _∙_, ap}
 use mathlib.Core.List.{List, _++_}
-use Prim.Native.Nat.{ℕ, _+_, _*_, _-_, _≤_, _<_}
+use Prim.Native.Nat.{ℕ, _+_, _-_, _≤_, _<_}
 use native.Mathlib.Omega.{arith}
 use native.Mathlib.Numerals.{add-one}
 use lib.IntN.{pos}
@@ -101,24 +101,12 @@ kept c =
     (omega (arith, o .loop .inv .3, s .pre .5, inside (c .before .before)))
 
 -- ── the needs, in the order of the code ──
-record-length-requires : tie.Need-record-length-requires Inv-loop μ-loop
-record-length-requires c κs = search needs
-
-edge-count-requires : tie.Need-edge-count-requires Inv-loop μ-loop
-edge-count-requires c κs = search needs
-
 loop-holds : tie.Need-loop-holds Inv-loop μ-loop
 unfolding stateAfter
 loop-holds c = let s = c .before .before .before in (omega arith, refl, s .pre .4, refl, λ old e. front-start (drawn s) old _ e)
 
 next-state-requires : tie.Need-next-state-requires Inv-loop μ-loop
 next-state-requires c κs = c .before .loop .inv .2
-
-capacity-from-requires : tie.Need-capacity-from-requires Inv-loop μ-loop
-capacity-from-requires c κs = search needs
-
-edge-at-requires : tie.Need-edge-at-requires Inv-loop μ-loop
-edge-at-requires c κs = search needs
 
 write-edge-requires : tie.Need-write-edge-requires Inv-loop μ-loop
 write-edge-requires c κs =
@@ -134,12 +122,6 @@ write-edge-requires c κs =
       inside l,
     )
 
-add-e : tie.Need-add-e Inv-loop μ-loop
-add-e c = search needs
-
-loop-less : tie.Need-loop-less Inv-loop μ-loop
-loop-less c = search needs
-
 loop-again : tie.Need-loop-again Inv-loop μ-loop
 loop-again c =
     let w = c .before .before in
@@ -153,9 +135,6 @@ loop-again c =
       λ old e. front-step (drawn (begun o)) old (o .loop .e) (o .loop .out) _ (o .loop .inv .4 old e) (written w),
     )
 
-same-length : tie.Need-same-length Inv-loop μ-loop
-same-length c = search needs
-
 returns : tie.Need-returns Inv-loop μ-loop
 returns c = λ old e.
     let o = c .before in
@@ -167,15 +146,15 @@ write-edges-spec =
     (tie.spec
     Inv-loop
     μ-loop
-    record-length-requires
-    edge-count-requires
+    (λ c κs. search needs)
+    (λ c κs. search needs)
     loop-holds
     next-state-requires
-    capacity-from-requires
-    edge-at-requires
+    (λ c κs. search needs)
+    (λ c κs. search needs)
     write-edge-requires
-    add-e
-    loop-less
+    (λ c. search needs)
+    (λ c. search needs)
     loop-again
-    same-length
+    (λ c. search needs)
     returns)

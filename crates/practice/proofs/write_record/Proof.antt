@@ -9,48 +9,6 @@ use borrow.Author.Needs.{needs}
 use Rattle.practice.proofs.write_record.Statement.{statement}
 use Rattle.practice.proofs.write_record.Tie as tie
 
-write-u8-requires : tie.Need-write-u8-requires
-write-u8-requires c κs = search needs
-
-add-write-u16 : tie.Need-add-write-u16
-add-write-u16 c = search needs
-
-write-u16-requires : tie.Need-write-u16-requires
-write-u16-requires c κs = search needs
-
-add-write-u16-2 : tie.Need-add-write-u16-2
-add-write-u16-2 c = search needs
-
-write-u16-requires-2 : tie.Need-write-u16-requires-2
-write-u16-requires-2 c κs = search needs
-
-add-write-u16-3 : tie.Need-add-write-u16-3
-add-write-u16-3 c = search needs
-
-write-u16-requires-3 : tie.Need-write-u16-requires-3
-write-u16-requires-3 c κs = search needs
-
-add-write-u16-4 : tie.Need-add-write-u16-4
-add-write-u16-4 c = search needs
-
-write-u16-requires-4 : tie.Need-write-u16-requires-4
-write-u16-requires-4 c κs = search needs
-
-add-write-i32 : tie.Need-add-write-i32
-add-write-i32 c = search needs
-
-write-i32-requires : tie.Need-write-i32-requires
-write-i32-requires c κs = search needs
-
-add-write-i32-2 : tie.Need-add-write-i32-2
-add-write-i32-2 c = search needs
-
-write-i32-requires-2 : tie.Need-write-i32-requires-2
-write-i32-requires-2 c κs = search needs
-
-same-length : tie.Need-same-length
-same-length c = search needs
-
 -- ── the places, from the last field to the first ──
 abbrev forward-at : tie.After-write-i322 → tie.After-write-i32
 forward-at c = c .before .before .before .before
@@ -97,18 +55,18 @@ pub write-record-spec : {M : Type 1} → statement M
 write-record-spec =
     tie.close
     (tie.spec
-    write-u8-requires
-    add-write-u16
-    write-u16-requires
-    add-write-u16-2
-    write-u16-requires-2
-    add-write-u16-3
-    write-u16-requires-3
-    add-write-u16-4
-    write-u16-requires-4
-    add-write-i32
-    write-i32-requires
-    add-write-i32-2
-    write-i32-requires-2
-    same-length
+    (λ c κs. search needs)
+    (λ c. search needs)
+    (λ c κs. search needs)
+    (λ c. search needs)
+    (λ c κs. search needs)
+    (λ c. search needs)
+    (λ c κs. search needs)
+    (λ c. search needs)
+    (λ c κs. search needs)
+    (λ c. search needs)
+    (λ c κs. search needs)
+    (λ c. search needs)
+    (λ c κs. search needs)
+    (λ c. search needs)
     returns)

@@ -66,18 +66,6 @@ room : (c : tie.After-enum-told2) → NoneOf (roomAt (base (asked c)))
 room c = room-judged (c .before .before) Passed (c .enum-told2 .given .1)
 
 -- ── the needs, in the order of the code ──
-wide-requires : tie.Need-wide-requires
-wide-requires c κs = search needs
-
-wide-requires-2 : tie.Need-wide-requires-2
-wide-requires-2 c κs = search needs
-
-check-ends-requires : tie.Need-check-ends-requires
-check-ends-requires c κs = search needs
-
-enum-known-named : tie.Need-enum-known-named
-enum-known-named c = search needs
-
 returns : tie.Need-returns
 returns c =
     let e = c .before .before .before in
@@ -85,14 +73,8 @@ returns c =
     let j = ends-judged e (Refused _ _) (c .before .named .given .1) in
     (largest-ends (a .nodes) (a .edges) (a .source) (a .sink) (a .flows .now) (a .set .now) _ _ j, refl, refl)
 
-enum-told : tie.Need-enum-told
-enum-told c = search needs
-
 check-room-requires : tie.Need-check-room-requires
 check-room-requires c κs = base c .pre .0 .few-nodes
-
-enum-known-room : tie.Need-enum-known-room
-enum-known-room c = search needs
 
 returns-2 : tie.Need-returns-2
 returns-2 c =
@@ -101,9 +83,6 @@ returns-2 c =
     let a = base e .args in
     let j = room-judged r (Refused _ _) (c .before .room .given .1) in
     (largest-room (a .nodes) (a .edges) (a .source) (a .sink) (a .flows .now) (a .set .now) (two e) _ _ j, refl, refl)
-
-enum-told-2 : tie.Need-enum-told-2
-enum-told-2 c = search needs
 
 maximize-requires : tie.Need-maximize-requires
 maximize-requires c κs =
@@ -148,15 +127,6 @@ none c =
 write-set-requires : tie.Need-write-set-requires
 write-set-requires c κs = let d = c .before .before .before in (start d .pre .0 .few-nodes, room-flows _ _ _ _ (room (roomy d)) .1)
 
-enum-known-most : tie.Need-enum-known-most
-enum-known-most c = search needs
-
-same-length : tie.Need-same-length
-same-length c = search needs
-
-same-length-2 : tie.Need-same-length-2
-same-length-2 c = search needs
-
 -- ── the set written ──
 abbrev found-at : tie.After-write-set → tie.After-maximize
 found-at c = c .before .before .before .before
@@ -183,15 +153,6 @@ returns-3 c =
       ),
     )
 
-enum-told-3 : tie.Need-enum-told-3
-enum-told-3 c = search needs
-
-same-length-3 : tie.Need-same-length-3
-same-length-3 c = search needs
-
-same-length-4 : tie.Need-same-length-4
-same-length-4 c = search needs
-
 returns-4 : tie.Need-returns-4
 returns-4 c =
     let w = c .before .before .before .before in
@@ -207,23 +168,23 @@ pub largest-spec : {M : Type 1} → statement M
 largest-spec =
     tie.close
     (tie.spec
-    wide-requires
-    wide-requires-2
-    check-ends-requires
-    enum-known-named
+    (λ c κs. search needs)
+    (λ c κs. search needs)
+    (λ c κs. search needs)
+    (λ c. search needs)
     returns
-    enum-told
+    (λ c. search needs)
     check-room-requires
-    enum-known-room
+    (λ c. search needs)
     returns-2
-    enum-told-2
+    (λ c. search needs)
     maximize-requires
     write-set-requires
-    enum-known-most
-    same-length
-    same-length-2
+    (λ c. search needs)
+    (λ c. search needs)
+    (λ c. search needs)
     returns-3
-    enum-told-3
-    same-length-3
-    same-length-4
+    (λ c. search needs)
+    (λ c. search needs)
+    (λ c. search needs)
     returns-4)

@@ -85,26 +85,11 @@ balance-judged c v e =
     (w .before .wide .ensures) (w .wide2 .ensures) v (rw e at (c .check-balance .ensures))
 
 -- ── the needs, in the order of the code ──
-wide-requires : tie.Need-wide-requires
-wide-requires c κs = search needs
-
-wide-requires-2 : tie.Need-wide-requires-2
-wide-requires-2 c κs = search needs
-
-check-ends-requires : tie.Need-check-ends-requires
-check-ends-requires c κs = search needs
-
-enum-known-ends : tie.Need-enum-known-ends
-enum-known-ends c = search needs
-
 returns : tie.Need-returns
 returns c =
     let e = c .before .before .before in
     let s = begun e in
     mark-ends (drawingAt s) (s .args .source) (s .args .sink) (s .args .flows .now) _ _ (ends-judged e (Refused _ _) (c .before .ends .given .1))
-
-enum-told : tie.Need-enum-told
-enum-told c = search needs
 
 returns-2 : tie.Need-returns-2
 returns-2 c =
@@ -115,9 +100,6 @@ returns-2 c =
 check-within-requires : tie.Need-check-within-requires
 check-within-requires c κs = (base (c .before) .pre .1, c .if1 .left)
 
-enum-known-within : tie.Need-enum-known-within
-enum-known-within c = search needs
-
 returns-3 : tie.Need-returns-3
 returns-3 c =
     let w = c .before .before .before in
@@ -125,9 +107,6 @@ returns-3 c =
     let s = base e in
     let j = within-judged w (Refused _ _) (c .before .within .given .1) in
     mark-within (drawingAt s) (s .args .source) (s .args .sink) (s .args .flows .now) (two e) (w .before .if1 .left) _ _ j
-
-enum-told-2 : tie.Need-enum-told-2
-enum-told-2 c = search needs
 
 fill-nets-requires : tie.Need-fill-nets-requires
 fill-nets-requires c κs =
@@ -145,9 +124,6 @@ fill-nets-requires c κs =
 check-balance-requires : tie.Need-check-balance-requires
 check-balance-requires c κs = start (c .before) .pre .0
 
-enum-known-balanced : tie.Need-enum-known-balanced
-enum-known-balanced c = search needs
-
 returns-4 : tie.Need-returns-4
 returns-4 c =
     let b = c .before .before .before in
@@ -156,13 +132,7 @@ returns-4 c =
     mark-balance (drawingAt s) (s .args .source) (s .args .sink) (s .args .flows .now) (two (roomy t)) (t .before .before .before .if1 .left) (within t) _ _
     (balance-judged b (Refused _ _) (c .before .balanced .given .1))
 
-enum-told-3 : tie.Need-enum-told-3
-enum-told-3 c = search needs
-
 -- ── the value is the sum at the source ──
-mul-t22 : tie.Need-mul-t22
-mul-t22 c = search needs
-
 abbrev sums : tie.After-enum-told3 → tie.After-fill-nets
 sums c = filled (c .before .before)
 
@@ -193,22 +163,22 @@ pub mark-spec : {M : Type 1} → statement M
 mark-spec =
     tie.close
     (tie.spec
-    wide-requires
-    wide-requires-2
-    check-ends-requires
-    enum-known-ends
+    (λ c κs. search needs)
+    (λ c κs. search needs)
+    (λ c κs. search needs)
+    (λ c. search needs)
     returns
-    enum-told
+    (λ c. search needs)
     returns-2
     check-within-requires
-    enum-known-within
+    (λ c. search needs)
     returns-3
-    enum-told-2
+    (λ c. search needs)
     fill-nets-requires
     check-balance-requires
-    enum-known-balanced
+    (λ c. search needs)
     returns-4
-    enum-told-3
-    mul-t22
+    (λ c. search needs)
+    (λ c. search needs)
     array-copy-out-t29
     returns-5)

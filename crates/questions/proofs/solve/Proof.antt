@@ -80,30 +80,12 @@ room : (c : tie.After-enum-told2) → NoneOf (roomAt (base (asked c)))
 room c = room-judged (c .before .before) Passed (c .enum-told2 .given .1)
 
 -- ── the needs, in the order of the code ──
-wide-requires : tie.Need-wide-requires
-wide-requires c κs = search needs
-
-wide-requires-2 : tie.Need-wide-requires-2
-wide-requires-2 c κs = search needs
-
-check-ends-requires : tie.Need-check-ends-requires
-check-ends-requires c κs = search needs
-
-enum-known-named : tie.Need-enum-known-named
-enum-known-named c = search needs
-
 returns : tie.Need-returns
 returns c =
     let e = c .before .before .before in
     let a = begun e .args in
     let j = ends-judged e (Refused _ _) (c .before .named .given .1) in
     ((solve-ends (a .nodes) (a .edges) (a .source) (a .sink) (a .value) (a .flows .now) (a .set .now) _ _ j, refl, refl), tt)
-
-enum-told : tie.Need-enum-told
-enum-told c = search needs
-
-value-outside-requires : tie.Need-value-outside-requires
-value-outside-requires c κs = search needs
 
 returns-2 : tie.Need-returns-2
 unfolding FirstOf valueChecks
@@ -118,9 +100,6 @@ returns-2 c =
 check-room-requires : tie.Need-check-room-requires
 check-room-requires c κs = base c .pre .0 .few-nodes
 
-enum-known-room : tie.Need-enum-known-room
-enum-known-room c = search needs
-
 returns-3 : tie.Need-returns-3
 returns-3 c =
     let r = c .before .before .before in
@@ -128,9 +107,6 @@ returns-3 c =
     let a = base e .args in
     let j = room-judged r (Refused _ _) (c .before .room .given .1) in
     ((solve-room (a .nodes) (a .edges) (a .source) (a .sink) (a .value) (a .flows .now) (a .set .now) (two (ended e)) (inside e) _ _ j, refl, refl), tt)
-
-enum-told-2 : tie.Need-enum-told-2
-enum-told-2 c = search needs
 
 decide-requires : tie.Need-decide-requires
 decide-requires c κs =
@@ -186,9 +162,6 @@ none c =
     let a = start c .args in
     solve-none (a .nodes) (a .edges) (a .source) (a .sink) (a .value) (a .flows .now) (a .set .now) (two (ended e)) (inside e) (room (roomy c))
 
-same-length : tie.Need-same-length
-same-length c = search needs
-
 returns-4 : tie.Need-returns-4
 returns-4 c = let d = c .before .before in ((none d, decided d (c .if2 .taken), refl), tt)
 
@@ -212,12 +185,6 @@ narrow-requires : tie.Need-narrow-requires
 narrow-requires c κs =
     let w = c .before .before .before .before in
     size-small (w .write-set .ensures) (start (decision (w .before)) .pre .0 .few-nodes) _ (c .count-set .ensures)
-
-same-length-2 : tie.Need-same-length-2
-same-length-2 c = search needs
-
-same-length-3 : tie.Need-same-length-3
-same-length-3 c = search needs
 
 abbrev set' : tie.After-write-set → List ℕ
 set' c = c .write-set .last .1 .1 .0
@@ -252,24 +219,24 @@ pub solve-spec : {M : Type 1} → statement M
 solve-spec =
     tie.close
     (tie.spec
-    wide-requires
-    wide-requires-2
-    check-ends-requires
-    enum-known-named
+    (λ c κs. search needs)
+    (λ c κs. search needs)
+    (λ c κs. search needs)
+    (λ c. search needs)
     returns
-    enum-told
-    value-outside-requires
+    (λ c. search needs)
+    (λ c κs. search needs)
     returns-2
     check-room-requires
-    enum-known-room
+    (λ c. search needs)
     returns-3
-    enum-told-2
+    (λ c. search needs)
     decide-requires
-    same-length
+    (λ c. search needs)
     returns-4
     write-set-requires
     count-set-requires
     narrow-requires
-    same-length-2
-    same-length-3
+    (λ c. search needs)
+    (λ c. search needs)
     returns-5)

@@ -54,9 +54,6 @@ mul-t27 c = omega (arith, dart-in (begun (c .before)))
 element-copy-out-t30 : tie.Need-element-copy-out-t30
 element-copy-out-t30 c = omega (arith, dart-in (begun (c .before)), begun (c .before) .pre .0)
 
-same-length : tie.Need-same-length
-same-length c = search needs
-
 -- ── it serves ──
 returns : tie.Need-returns
 returns c =
@@ -93,9 +90,6 @@ least-limit-requires c κs =
           (present-fails (drawing s) (a .source) (a .sink) (a .value) (a .edge) (a .flows .now) (p .4 .plane .sound .range) (p .5) (flows' d) (inside' d) q),
     )
 
-same-length-2 : tie.Need-same-length-2
-same-length-2 c = search needs
-
 returns-2 : tie.Need-returns-2
 returns-2 c =
     let l = c .before in
@@ -114,4 +108,4 @@ returns-2 c =
 pub find-limit-spec : {M : Type 1} → statement M
 find-limit-spec =
     tie.close
-    (tie.spec decide-from-requires mul-t26 mul-t27 element-copy-out-t30 same-length returns least-limit-requires same-length-2 returns-2)
+    (tie.spec decide-from-requires mul-t26 mul-t27 element-copy-out-t30 (λ c. search needs) returns least-limit-requires (λ c. search needs) returns-2)

@@ -1,7 +1,7 @@
 -- A limit above the present one: the greatest is stored and decided from the face left of the dart; the flow on the edge is stored and decided. The ways out
 -- are laws of `Seeking`.
 use mathlib.Core.Path.{_≡_, refl, sym, _∙_, ap}
-use mathlib.Core.Bool.{Bool, true}
+use mathlib.Core.Bool.{Bool}
 use mathlib.Core.List.{List}
 use Prim.Native.Nat.{ℕ, _*_, _<_}
 use native.Mathlib.Omega.{arith}
@@ -161,9 +161,6 @@ decide-from-requires-2 c κs =
       p .8,
     )
 
-same-length : tie.Need-same-length
-same-length c = search needs
-
 returns : tie.Need-returns
 returns c =
     let e = c .before in
@@ -184,9 +181,6 @@ returns c =
           {r = e .decide-from2 .result} refl (e .decide-from2 .ensures .1))),
     )
 
-same-length-2 : tie.Need-same-length-2
-same-length-2 c = search needs
-
 -- ── none does ──
 returns-2 : tie.Need-returns-2
 returns-2 c = let f = c .before in (f .before .decide-from .ensures .0, decided f (c .if1 .left))
@@ -204,7 +198,7 @@ least-limit-spec =
     mul-limit-2
     element-set-from-limit
     decide-from-requires-2
-    same-length
+    (λ c. search needs)
     returns
-    same-length-2
+    (λ c. search needs)
     returns-2)

@@ -6,7 +6,7 @@ use mathlib.Core.List.{List}
 use Prim.Native.Nat.{ℕ, _*_, _≤_, _<_}
 use native.Mathlib.Omega.{arith}
 use lib.ListN.{length, take}
-use lib.IntN.{ℤ, pos}
+use lib.IntN.{ℤ}
 use borrow.Author.Needs.{needs}
 use Rattle.integers.specs.inner.Limited.{Limited}
 use Rattle.refusals.specs.Order.{Check, NoneOf, FirstOf, Judged}
@@ -14,7 +14,6 @@ use Rattle.refusals.specs.declared.Verdict.{Verdict}
 use Rattle.refusals.specs.declared.Verdict.the-variants.{Passed, Refused}
 use Rattle.refusals.proofs.Order.{said-yes, said-no}
 use Rattle.signed.proofs.Laws.{number-of-bits}
-use Rattle.maps.specs.Map.{Map}
 use Rattle.maps.specs.Drawing.{Drawing}
 use Rattle.flows.specs.ProvingSet.{wordsFor}
 use Rattle.arrays.specs.Maps.{drawingOf}
@@ -100,33 +99,12 @@ abbrev widened : tie.After-enum-told2 → tie.After-wide3
 widened c = checked (ended (asked c .before)) .before
 
 -- ── the needs, in the order of the code ──
-wide-requires : tie.Need-wide-requires
-wide-requires c κs = search needs
-
-wide-requires-2 : tie.Need-wide-requires-2
-wide-requires-2 c κs = search needs
-
-wide-requires-3 : tie.Need-wide-requires-3
-wide-requires-3 c κs = search needs
-
-check-ends-requires : tie.Need-check-ends-requires
-check-ends-requires c κs = search needs
-
-enum-known-named : tie.Need-enum-known-named
-enum-known-named c = search needs
-
 returns : tie.Need-returns
 returns c =
     let e = c .before .before .before in
     let a = begun e .args in
     let j = ends-judged e (Refused _ _) (c .before .named .given .1) in
     (raise-ends (a .nodes) (a .edges) (a .source) (a .sink) (a .value) (a .edge) (a .flows .now) (a .set .now) _ _ j, refl, refl)
-
-enum-told : tie.Need-enum-told
-enum-told c = search needs
-
-value-outside-requires : tie.Need-value-outside-requires
-value-outside-requires c κs = search needs
 
 returns-2 : tie.Need-returns-2
 unfolding FirstOf valueChecks
@@ -155,9 +133,6 @@ returns-3 c =
 check-room-requires : tie.Need-check-room-requires
 check-room-requires c κs = base (c .before) .pre .1 .few-nodes
 
-enum-known-room : tie.Need-enum-known-room
-enum-known-room c = search needs
-
 returns-4 : tie.Need-returns-4
 returns-4 c =
     let r = c .before .before .before in
@@ -169,9 +144,6 @@ returns-4 c =
       refl,
       refl,
     )
-
-enum-told-2 : tie.Need-enum-told-2
-enum-told-2 c = search needs
 
 -- ── what was found ──
 abbrev roomy : tie.After-inside → tie.After-enum-told2
@@ -218,12 +190,6 @@ sought c same =
     sought-for (w .before .before .wide .ensures) (w .before .wide2 .ensures) (same-value (value-limited _ (inside (asked m .before)))) (w .wide3 .ensures)
     (drawing s) (s .args .flows .now) (flows' c) (inside' c) same (c .find-limit .ensures .1)
 
-enum-known-least : tie.Need-enum-known-least
-enum-known-least c = search needs
-
-same-length : tie.Need-same-length
-same-length c = search needs
-
 -- ── a capacity serves ──
 returns-5 : tie.Need-returns-5
 returns-5 c =
@@ -236,21 +202,12 @@ returns-5 c =
     (told-limit (drawing s) (a .source) (a .sink) (a .value) (a .edge) (a .flows .now) (flows' f) (inside' f) _ (present m) h)
     (none m, h .0, h .1, h .2, h .3, refl)
 
-enum-told-3 : tie.Need-enum-told-3
-enum-told-3 c = search needs
-
 -- ── none does: the set is written ──
 abbrev ending : tie.After-write-set-arg → tie.After-find-limit
 ending c = c .before .before .before .before .before
 
 write-set-requires : tie.Need-write-set-requires
 write-set-requires c κs = let m = known (ending c) in (start m .pre .1 .few-nodes, room-flows _ _ _ _ (room m) .1)
-
-same-length-2 : tie.Need-same-length-2
-same-length-2 c = search needs
-
-same-length-3 : tie.Need-same-length-3
-same-length-3 c = search needs
 
 abbrev set' : tie.After-write-set → List ℕ
 set' c = c .write-set .last .1 .1 .0
@@ -277,26 +234,26 @@ pub raise-limit-spec : {M : Type 1} → statement M
 raise-limit-spec =
     tie.close
     (tie.spec
-    wide-requires
-    wide-requires-2
-    wide-requires-3
-    check-ends-requires
-    enum-known-named
+    (λ c κs. search needs)
+    (λ c κs. search needs)
+    (λ c κs. search needs)
+    (λ c κs. search needs)
+    (λ c. search needs)
     returns
-    enum-told
-    value-outside-requires
+    (λ c. search needs)
+    (λ c κs. search needs)
     returns-2
     returns-3
     check-room-requires
-    enum-known-room
+    (λ c. search needs)
     returns-4
-    enum-told-2
+    (λ c. search needs)
     find-limit-requires
-    enum-known-least
-    same-length
+    (λ c. search needs)
+    (λ c. search needs)
     returns-5
-    enum-told-3
+    (λ c. search needs)
     write-set-requires
-    same-length-2
-    same-length-3
+    (λ c. search needs)
+    (λ c. search needs)
     returns-6)

@@ -98,18 +98,6 @@ abbrev widened : tie.After-enum-told3 → tie.After-wide2
 widened c = checked (asked (half c)) .before
 
 -- ── the needs, in the order of the code ──
-wide-requires : tie.Need-wide-requires
-wide-requires c κs = search needs
-
-wide-requires-2 : tie.Need-wide-requires-2
-wide-requires-2 c κs = search needs
-
-check-ends-requires : tie.Need-check-ends-requires
-check-ends-requires c κs = search needs
-
-enum-known-named : tie.Need-enum-known-named
-enum-known-named c = search needs
-
 returns : tie.Need-returns
 returns c =
     let e = c .before .before .before in
@@ -117,14 +105,8 @@ returns c =
     let j = ends-judged e (Refused _ _) (c .before .named .given .1) in
     (range-ends (a .nodes) (a .edges) (a .source) (a .sink) (a .low .now) (a .below .now) (a .high .now) (a .above .now) _ _ j, refl, refl, refl, refl)
 
-enum-told : tie.Need-enum-told
-enum-told c = search needs
-
 check-room-requires : tie.Need-check-room-requires
 check-room-requires c κs = base c .pre .0 .few-nodes
-
-enum-known-low-room : tie.Need-enum-known-low-room
-enum-known-low-room c = search needs
 
 returns-2 : tie.Need-returns-2
 returns-2 c =
@@ -134,14 +116,8 @@ returns-2 c =
     let j = lower-judged r (Refused _ _) (c .before .low-room .given .1) in
     (range-lower (a .nodes) (a .edges) (a .source) (a .sink) (a .low .now) (a .below .now) (a .high .now) (a .above .now) (two e) _ _ j, refl, refl, refl, refl)
 
-enum-told-2 : tie.Need-enum-told-2
-enum-told-2 c = search needs
-
 check-room-requires-2 : tie.Need-check-room-requires-2
 check-room-requires-2 c κs = base (asked c) .pre .0 .few-nodes
-
-enum-known-high-room : tie.Need-enum-known-high-room
-enum-known-high-room c = search needs
 
 returns-3 : tie.Need-returns-3
 returns-3 c =
@@ -155,9 +131,6 @@ returns-3 c =
       refl,
       refl,
     )
-
-enum-told-3 : tie.Need-enum-told-3
-enum-told-3 c = search needs
 
 -- ── there ──
 abbrev passed : tie.After-maximize-from → tie.After-enum-told3
@@ -195,9 +168,6 @@ there c same =
 write-set-requires : tie.Need-write-set-requires
 write-set-requires c κs = let m = passed (c .before .before .before) in (start m .pre .0 .few-nodes, room-flows _ _ _ _ (upper m) .1)
 
-enum-known-most : tie.Need-enum-known-most
-enum-known-most c = search needs
-
 abbrev found : tie.After-write-set → tie.After-maximize-from
 found c = c .before .before .before .before
 
@@ -205,9 +175,6 @@ abbrev above' : tie.After-write-set → List ℕ
 above' c = c .write-set .last .1 .1 .0
 
 -- ── nothing can be carried ──
-enum-told-4 : tie.Need-enum-told-4
-enum-told-4 c = search needs
-
 abbrev written : tie.After-enum-told4 → tie.After-write-set
 written c = c .before .before .before .before
 
@@ -215,15 +182,6 @@ write-set-requires-2 : tie.Need-write-set-requires-2
 write-set-requires-2 c κs =
     let m = passed (found (written (c .before .before))) in
     (start m .pre .0 .few-nodes, room-flows _ _ _ _ (lower (half m)) .1)
-
-same-length : tie.Need-same-length
-same-length c = search needs
-
-same-length-2 : tie.Need-same-length-2
-same-length-2 c = search needs
-
-same-length-3 : tie.Need-same-length-3
-same-length-3 c = search needs
 
 returns-4 : tie.Need-returns-4
 returns-4 c =
@@ -323,9 +281,6 @@ returned c = c .before .before .before .before
 abbrev below' : tie.After-write-set3 → List ℕ
 below' c = c .write-set3 .last .1 .1 .0
 
-enum-known-back : tie.Need-enum-known-back
-enum-known-back c = search needs
-
 abbrev least : tie.After-known-told5 → tie.After-write-set3
 least c = c .before .before .before .before .before
 
@@ -341,18 +296,6 @@ negate-requires-2 c κs =
     let m = returned (least c) in
     let s = start (origin m) in
     negatable (mapAt s) (capacityAt s) (s .pre .0 .few-edges) (s .pre .1) (inside2' m) (value-back c .2)
-
-same-length-4 : tie.Need-same-length-4
-same-length-4 c = search needs
-
-same-length-5 : tie.Need-same-length-5
-same-length-5 c = search needs
-
-same-length-6 : tie.Need-same-length-6
-same-length-6 c = search needs
-
-same-length-7 : tie.Need-same-length-7
-same-length-7 c = search needs
 
 returns-5 : tie.Need-returns-5
 returns-5 c =
@@ -384,21 +327,6 @@ returns-5 c =
       ),
     )
 
-enum-told-5 : tie.Need-enum-told-5
-enum-told-5 c = search needs
-
-same-length-8 : tie.Need-same-length-8
-same-length-8 c = search needs
-
-same-length-9 : tie.Need-same-length-9
-same-length-9 c = search needs
-
-same-length-10 : tie.Need-same-length-10
-same-length-10 c = search needs
-
-same-length-11 : tie.Need-same-length-11
-same-length-11 c = search needs
-
 -- nothing back, where something is carried there: this never comes
 returns-6 : tie.Need-returns-6
 returns-6 c =
@@ -414,42 +342,42 @@ pub least-and-largest-spec : {M : Type 1} → statement M
 least-and-largest-spec =
     tie.close
     (tie.spec
-    wide-requires
-    wide-requires-2
-    check-ends-requires
-    enum-known-named
+    (λ c κs. search needs)
+    (λ c κs. search needs)
+    (λ c κs. search needs)
+    (λ c. search needs)
     returns
-    enum-told
+    (λ c. search needs)
     check-room-requires
-    enum-known-low-room
+    (λ c. search needs)
     returns-2
-    enum-told-2
+    (λ c. search needs)
     check-room-requires-2
-    enum-known-high-room
+    (λ c. search needs)
     returns-3
-    enum-told-3
+    (λ c. search needs)
     maximize-from-requires
     write-set-requires
-    enum-known-most
-    enum-told-4
+    (λ c. search needs)
+    (λ c. search needs)
     write-set-requires-2
-    same-length
-    same-length-2
-    same-length-3
+    (λ c. search needs)
+    (λ c. search needs)
+    (λ c. search needs)
     returns-4
     negate-requires
     maximize-on-requires
     write-set-requires-3
-    enum-known-back
+    (λ c. search needs)
     negate-requires-2
-    same-length-4
-    same-length-5
-    same-length-6
-    same-length-7
+    (λ c. search needs)
+    (λ c. search needs)
+    (λ c. search needs)
+    (λ c. search needs)
     returns-5
-    enum-told-5
-    same-length-8
-    same-length-9
-    same-length-10
-    same-length-11
+    (λ c. search needs)
+    (λ c. search needs)
+    (λ c. search needs)
+    (λ c. search needs)
+    (λ c. search needs)
     returns-6)

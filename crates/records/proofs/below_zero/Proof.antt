@@ -15,9 +15,6 @@ begun c = c .before
 exact : (c : tie.After-add32) → c .add32 .result ≡ begun c .args .x +ℤ begun c .args .y
 exact c = let f = begun c .fits in rw (number-of-bits _ (f .x), number-of-bits _ (f .y)) at (c .add32 .ensures)
 
-add32-requires : tie.Need-add32-requires
-add32-requires c κs = search needs
-
 returns : tie.Need-returns
 returns c = let s = c .before in lt-of-test _ _ (rw (toZ-ofZ _ _ (record { sfits = s .add32 .ok }), exact s) at (c .if1 .taken))
 
@@ -25,4 +22,4 @@ returns-2 : tie.Need-returns-2
 returns-2 c = let s = c .before in λ h. lt-le-clash h (ge-of-test _ _ (rw (toZ-ofZ _ _ (record { sfits = s .add32 .ok }), exact s) at (c .if1 .left)))
 
 pub below-zero-spec : {M : Type 1} → statement M
-below-zero-spec = tie.close (tie.spec add32-requires returns returns-2)
+below-zero-spec = tie.close (tie.spec (λ c κs. search needs) returns returns-2)

@@ -23,14 +23,8 @@ second : (c : tie.After-capacity-outside2) → Decides (CapacityOutside (begun (
 second c = rw (number-of-bits _ (begun (tested c) .fits .y)) at (c .capacity-outside2 .ensures)
 
 -- ── the needs, in the order of the code ──
-capacity-outside-requires : tie.Need-capacity-outside-requires
-capacity-outside-requires c κs = search needs
-
 returns : tie.Need-returns
 returns c = let t = c .before in inl (said-yes {b = t .capacity-outside .result} (first t) (c .if1 .taken))
-
-capacity-outside-requires-2 : tie.Need-capacity-outside-requires-2
-capacity-outside-requires-2 c κs = search needs
 
 returns-2 : tie.Need-returns-2
 returns-2 c =
@@ -38,4 +32,4 @@ returns-2 c =
     second-decides _ (c .capacity-outside2 .result) (said-no {b = t .capacity-outside .result} (first t) (c .before .if1 .left)) (second c)
 
 pub capacities-outside-spec : {M : Type 1} → statement M
-capacities-outside-spec = tie.close (tie.spec capacity-outside-requires returns capacity-outside-requires-2 returns-2)
+capacities-outside-spec = tie.close (tie.spec (λ c κs. search needs) returns (λ c κs. search needs) returns-2)

@@ -35,17 +35,8 @@ abbrev turn : tie.After-check-edge-record Inv-loop μ-loop → tie.At-loop Inv-l
 turn c = c .before .before
 
 -- ── the needs, in the order of the code ──
-check-head-requires : tie.Need-check-head-requires Inv-loop μ-loop
-check-head-requires c κs = search needs
-
-enum-known-whole : tie.Need-enum-known-whole Inv-loop μ-loop
-enum-known-whole c = search needs
-
 returns : tie.Need-returns Inv-loop μ-loop
 returns c = refused-head _ _ _ (rw (c .before .whole .given .1) at (c .before .before .before .check-head .ensures))
-
-enum-told : tie.Need-enum-told Inv-loop μ-loop
-enum-told c = search needs
 
 head-length-requires : tie.Need-head-length-requires Inv-loop μ-loop
 head-length-requires c κs = let h = head-whole _ (head-passed c) in omega arith
@@ -71,26 +62,11 @@ loop-holds c =
       λ i l. absurd (omega arith),
     )
 
-check-edge-record-requires : tie.Need-check-edge-record-requires Inv-loop μ-loop
-check-edge-record-requires c κs = search needs
-
-enum-known-edge : tie.Need-enum-known-edge Inv-loop μ-loop
-enum-known-edge c = search needs
-
 returns-2 : tie.Need-returns-2 Inv-loop μ-loop
 returns-2 c =
     let edge = c .before .before .before in
     let i = turn edge .loop in
     refused-edge _ (i .inv .6) (i .e) _ _ (omega arith) (i .inv .7) (rw (c .before .edge .given .1) at (edge .check-edge-record .ensures))
-
-enum-told-2 : tie.Need-enum-told-2 Inv-loop μ-loop
-enum-told-2 c = search needs
-
-add-e : tie.Need-add-e Inv-loop μ-loop
-add-e c = search needs
-
-loop-less : tie.Need-loop-less Inv-loop μ-loop
-loop-less c = search needs
 
 loop-again : tie.Need-loop-again Inv-loop μ-loop
 loop-again c =
@@ -98,9 +74,6 @@ loop-again c =
     let i = turn edge .loop in
     let passed = rw (c .enum-told2 .given .1) at (edge .check-edge-record .ensures) in
     (omega arith, i .inv .1, i .inv .2, i .inv .3, i .inv .4, i .inv .5, i .inv .6, below-more _ (i .e) (i .inv .7) passed)
-
-edge-at-requires : tie.Need-edge-at-requires Inv-loop μ-loop
-edge-at-requires c κs = search needs
 
 returns-3 : tie.Need-returns-3 Inv-loop μ-loop
 unfolding FirstOf
@@ -120,21 +93,21 @@ check-bytes-spec =
     (tie.spec
     Inv-loop
     μ-loop
-    check-head-requires
-    enum-known-whole
+    (λ c κs. search needs)
+    (λ c. search needs)
     returns
-    enum-told
+    (λ c. search needs)
     head-length-requires
     read-wide-requires
     read-wide-requires-2
     loop-holds
-    check-edge-record-requires
-    enum-known-edge
+    (λ c κs. search needs)
+    (λ c. search needs)
     returns-2
-    enum-told-2
-    add-e
-    loop-less
+    (λ c. search needs)
+    (λ c. search needs)
+    (λ c. search needs)
     loop-again
-    edge-at-requires
+    (λ c κs. search needs)
     returns-3
     returns-4)

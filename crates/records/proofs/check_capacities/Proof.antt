@@ -37,12 +37,6 @@ in-range : (c : tie.Else1) → CapacityOutside (begun (ranged (tested c)) .args 
 in-range c = let r = ranged (tested c) in said-no {b = r .capacities-outside .result} (range-decided r) (c .if1 .left)
 
 -- ── the needs, in the order of the code ──
-capacities-outside-requires : tie.Need-capacities-outside-requires
-capacities-outside-requires c κs = search needs
-
-below-zero-requires : tie.Need-below-zero-requires
-below-zero-requires c κs = search needs
-
 returns : tie.Need-returns
 unfolding FirstOf
 returns c =
@@ -64,4 +58,4 @@ returns-3 c =
     (in-range e, (said-no {b = z .below-zero .result} (sum-decided z) (c .if2 .left), tt))
 
 pub check-capacities-spec : {M : Type 1} → statement M
-check-capacities-spec = tie.close (tie.spec capacities-outside-requires below-zero-requires returns returns-2 returns-3)
+check-capacities-spec = tie.close (tie.spec (λ c κs. search needs) (λ c κs. search needs) returns returns-2 returns-3)

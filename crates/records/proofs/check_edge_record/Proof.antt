@@ -36,60 +36,27 @@ whole c =
     omega (arith, place k, edge-body _ (begun k .args .e) (judged k _ (c .enum-told .given .1)))
 
 -- ── the needs, in the order of the code ──
-edge-at-requires : tie.Need-edge-at-requires
-edge-at-requires c κs = search needs
-
-check-record-requires : tie.Need-check-record-requires
-check-record-requires c κs = search needs
-
-enum-known-whole : tie.Need-enum-known-whole
-enum-known-whole c = search needs
-
 returns : tie.Need-returns
 unfolding edgeRecordChecks
 returns c = first-left _ _ _ _ (judged (c .before .before .before) _ (c .before .whole .given .1))
 
-enum-told : tie.Need-enum-told
-enum-told c = search needs
-
-add-read-wide : tie.Need-add-read-wide
-add-read-wide c = search needs
-
 read-wide-requires : tie.Need-read-wide-requires
 read-wide-requires c κs = omega (arith, whole c)
-
-add-read-wide-2 : tie.Need-add-read-wide-2
-add-read-wide-2 c = search needs
 
 read-wide-requires-2 : tie.Need-read-wide-requires-2
 read-wide-requires-2 c κs = omega (arith, whole (c .before))
 
-add-read-wide-3 : tie.Need-add-read-wide-3
-add-read-wide-3 c = search needs
-
 read-wide-requires-3 : tie.Need-read-wide-requires-3
 read-wide-requires-3 c κs = omega (arith, whole (c .before .before))
-
-add-read-wide-4 : tie.Need-add-read-wide-4
-add-read-wide-4 c = search needs
 
 read-wide-requires-4 : tie.Need-read-wide-requires-4
 read-wide-requires-4 c κs = omega (arith, whole (c .before .before .before))
 
-add-read-i32 : tie.Need-add-read-i32
-add-read-i32 c = search needs
-
 read-i32-requires : tie.Need-read-i32-requires
 read-i32-requires c κs = omega (arith, whole (c .before .before .before .before))
 
-add-read-i32-2 : tie.Need-add-read-i32-2
-add-read-i32-2 c = search needs
-
 read-i32-requires-2 : tie.Need-read-i32-requires-2
 read-i32-requires-2 c κs = omega (arith, whole (c .before .before .before .before .before))
-
-check-fields-requires : tie.Need-check-fields-requires
-check-fields-requires c κs = search needs
 
 returns-2 : tie.Need-returns-2
 unfolding edgeRecordChecks
@@ -115,22 +82,22 @@ pub check-edge-record-spec : {M : Type 1} → statement M
 check-edge-record-spec =
     tie.close
     (tie.spec
-    edge-at-requires
-    check-record-requires
-    enum-known-whole
+    (λ c κs. search needs)
+    (λ c κs. search needs)
+    (λ c. search needs)
     returns
-    enum-told
-    add-read-wide
+    (λ c. search needs)
+    (λ c. search needs)
     read-wide-requires
-    add-read-wide-2
+    (λ c. search needs)
     read-wide-requires-2
-    add-read-wide-3
+    (λ c. search needs)
     read-wide-requires-3
-    add-read-wide-4
+    (λ c. search needs)
     read-wide-requires-4
-    add-read-i32
+    (λ c. search needs)
     read-i32-requires
-    add-read-i32-2
+    (λ c. search needs)
     read-i32-requires-2
-    check-fields-requires
+    (λ c κs. search needs)
     returns-2)

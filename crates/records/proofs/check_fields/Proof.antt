@@ -27,25 +27,13 @@ rotations : (c : tie.Else2)
 rotations c = said-no (c .before .names-none2 .ensures) (c .if2 .left)
 
 -- ── the needs, in the order of the code ──
-mul-darts : tie.Need-mul-darts
-mul-darts c = search needs
-
-names-none-requires : tie.Need-names-none-requires
-names-none-requires c κs = search needs
-
 returns : tie.Need-returns
 unfolding FirstOf fieldChecks
 returns c = inl (said-yes (c .before .names-none .ensures) (c .if1 .taken), refl, refl)
 
-names-none-requires-2 : tie.Need-names-none-requires-2
-names-none-requires-2 c κs = search needs
-
 returns-2 : tie.Need-returns-2
 unfolding FirstOf fieldChecks
 returns-2 c = inr (ends (c .before .before), inl (said-yes (c .before .names-none2 .ensures) (c .if2 .taken), refl, refl))
-
-check-capacities-requires : tie.Need-check-capacities-requires
-check-capacities-requires c κs = search needs
 
 -- ── 6 and 7 decide ──
 returns-3 : tie.Need-returns-3
@@ -60,10 +48,10 @@ pub check-fields-spec : {M : Type 1} → statement M
 check-fields-spec =
     tie.close
     (tie.spec
-    mul-darts
-    names-none-requires
+    (λ c. search needs)
+    (λ c κs. search needs)
     returns
-    names-none-requires-2
+    (λ c κs. search needs)
     returns-2
-    check-capacities-requires
+    (λ c κs. search needs)
     returns-3)

@@ -13,18 +13,9 @@ whole : (c : tie.After-enum-told) → NoneOf (headRecordChecks (c .before .befor
 whole c = rw (c .enum-told .given .1) at (c .before .before .check-head-record .ensures)
 
 -- ── the needs, in the order of the code ──
-check-head-record-requires : tie.Need-check-head-record-requires
-check-head-record-requires c κs = search needs
-
-enum-known-whole : tie.Need-enum-known-whole
-enum-known-whole c = search needs
-
 returns : tie.Need-returns
 unfolding headChecks
 returns c = first-left _ _ _ _ (rw (c .before .whole .given .1) at (c .before .before .before .check-head-record .ensures))
-
-enum-told : tie.Need-enum-told
-enum-told c = search needs
 
 read-wide-requires : tie.Need-read-wide-requires
 read-wide-requires c κs = omega (arith, head-counted _ (whole c))
@@ -34,9 +25,6 @@ read-wide-requires-2 c κs = omega (arith, head-counted _ (whole (c .before)))
 
 outer-of-requires : tie.Need-outer-of-requires
 outer-of-requires c κs = head-body _ (whole (c .before .before))
-
-check-numbers-requires : tie.Need-check-numbers-requires
-check-numbers-requires c κs = search needs
 
 returns-2 : tie.Need-returns-2
 unfolding headChecks
@@ -51,12 +39,12 @@ pub check-head-spec : {M : Type 1} → statement M
 check-head-spec =
     tie.close
     (tie.spec
-    check-head-record-requires
-    enum-known-whole
+    (λ c κs. search needs)
+    (λ c. search needs)
     returns
-    enum-told
+    (λ c. search needs)
     read-wide-requires
     read-wide-requires-2
     outer-of-requires
-    check-numbers-requires
+    (λ c κs. search needs)
     returns-2)

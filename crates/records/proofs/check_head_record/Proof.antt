@@ -13,18 +13,9 @@ returns : tie.Need-returns
 unfolding FirstOf headRecordChecks
 returns c = inl (omega arith, refl, refl)
 
-shared-slice-read-no-head : tie.Need-shared-slice-read-no-head
-shared-slice-read-no-head c = search needs
-
-no-head-requires : tie.Need-no-head-requires
-no-head-requires c κs = search needs
-
 returns-2 : tie.Need-returns-2
 unfolding FirstOf headRecordChecks
 returns-2 c = inr (λ h. omega arith, inl (said-yes (c .before .no-head .ensures) (c .if2 .taken), refl, refl))
-
-head-length-requires : tie.Need-head-length-requires
-head-length-requires c κs = search needs
 
 returns-3 : tie.Need-returns-3
 unfolding FirstOf headRecordChecks
@@ -44,9 +35,9 @@ check-head-record-spec =
     tie.close
     (tie.spec
     returns
-    shared-slice-read-no-head
-    no-head-requires
+    (λ c. search needs)
+    (λ c κs. search needs)
     returns-2
-    head-length-requires
+    (λ c κs. search needs)
     returns-3
     returns-4)

@@ -1,5 +1,4 @@
 -- Checks 3 and 24: a test for each count; then, where both are in range, one for the outer dart.
-use Prim.Native.Nat.{ℕ}
 use mathlib.Core.Path.{refl}
 use mathlib.Core.Logic.{_⊎_, inl, inr}
 use native.Mathlib.Omega.{arith}
@@ -11,15 +10,9 @@ use Rattle.records.proofs.Drawing.{not-right}
 use Rattle.records.proofs.check_numbers.Statement.{statement}
 use Rattle.records.proofs.check_numbers.Tie as tie
 
-outside-requires : tie.Need-outside-requires
-outside-requires c κs = search needs
-
 returns : tie.Need-returns
 unfolding FirstOf numberChecks
 returns c = inl (inl (said-yes (c .before .outside .ensures) (c .if1 .taken)), refl, refl)
-
-outside-requires-2 : tie.Need-outside-requires-2
-outside-requires-2 c κs = search needs
 
 returns-2 : tie.Need-returns-2
 unfolding FirstOf numberChecks
@@ -46,4 +39,4 @@ unfolding NoneOf numberChecks
 returns-4 c = (in-range (c .before), ((λ h. omega arith), tt))
 
 pub check-numbers-spec : {M : Type 1} → statement M
-check-numbers-spec = tie.close (tie.spec outside-requires returns outside-requires-2 returns-2 mul-if3 returns-3 returns-4)
+check-numbers-spec = tie.close (tie.spec (λ c κs. search needs) returns (λ c κs. search needs) returns-2 mul-if3 returns-3 returns-4)

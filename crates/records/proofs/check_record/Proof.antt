@@ -8,18 +8,9 @@ use Rattle.records.specs.Record.{recordChecks}
 use Rattle.records.proofs.check_record.Statement.{statement}
 use Rattle.records.proofs.check_record.Tie as tie
 
-record-length-requires : tie.Need-record-length-requires
-record-length-requires c κs = search needs
-
-add-end : tie.Need-add-end
-add-end c = search needs
-
 returns : tie.Need-returns
 unfolding FirstOf recordChecks
 returns c = inl (omega arith, refl, refl)
-
-shared-slice-read-if2 : tie.Need-shared-slice-read-if2
-shared-slice-read-if2 c = search needs
 
 returns-2 : tie.Need-returns-2
 unfolding FirstOf recordChecks
@@ -37,10 +28,10 @@ pub check-record-spec : {M : Type 1} → statement M
 check-record-spec =
     tie.close
     (tie.spec
-    record-length-requires
-    add-end
+    (λ c κs. search needs)
+    (λ c. search needs)
     returns
-    shared-slice-read-if2
+    (λ c. search needs)
     returns-2
     returns-3
     returns-4)

@@ -6,9 +6,6 @@ use borrow.Author.Needs.{needs}
 use Rattle.records.proofs.edge_at.Statement.{statement}
 use Rattle.records.proofs.edge_at.Tie as tie
 
-record-length-requires : tie.Need-record-length-requires
-record-length-requires c κs = search needs
-
 mul-result : tie.Need-mul-result
 mul-result c = rw (c .record-length .ensures .0) (omega arith)
 
@@ -19,4 +16,4 @@ returns : tie.Need-returns
 returns c = let a = c .before .args in ap (λ n. a .head + n * a .e) (c .record-length .ensures .0)
 
 pub edge-at-spec : {M : Type 1} → statement M
-edge-at-spec = tie.close (tie.spec record-length-requires mul-result add-result returns)
+edge-at-spec = tie.close (tie.spec (λ c κs. search needs) mul-result add-result returns)

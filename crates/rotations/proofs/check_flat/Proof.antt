@@ -1,6 +1,5 @@
 -- The orbits of the face step are the faces, so their count decides check 12 of a sound map. Both ways out have their verdict.
 use mathlib.Core.Path.{_≡_, refl}
-use Prim.Native.Nat.{_≤_}
 use native.Mathlib.Omega.{arith}
 use borrow.Author.Needs.{needs}
 use Rattle.maps.specs.Map.{Map}
@@ -37,9 +36,6 @@ mul-if1 c = let p = begun c .pre in omega (arith, p .0, p .7)
 add-if1-2 : tie.Need-add-if1-2
 add-if1-2 c = let p = begun c .pre in omega (arith, p .0, p .7)
 
-refused-requires : tie.Need-refused-requires
-refused-requires c κs = search needs
-
 returns : tie.Need-returns
 returns c =
     let n = c .before .before in
@@ -68,4 +64,4 @@ returns-2 c =
     )
 
 pub check-flat-spec : {M : Type 1} → statement M
-check-flat-spec = tie.close (tie.spec number-faces-requires add-if1 mul-if1 add-if1-2 refused-requires returns returns-2)
+check-flat-spec = tie.close (tie.spec number-faces-requires add-if1 mul-if1 add-if1-2 (λ c κs. search needs) returns returns-2)

@@ -18,9 +18,6 @@ mapAt c = mapOf (c .args .nodes) (c .args .edges) (c .args .tails .now) (c .args
 rotation-fault-requires : tie.Need-rotation-fault-requires
 rotation-fault-requires c κs = (c .pre .0, c .pre .9 .rotation-in)
 
-refused-requires : tie.Need-refused-requires
-refused-requires c κs = search needs
-
 returns : tie.Need-returns
 returns c =
     let s = c .before .before .before in
@@ -37,9 +34,6 @@ not-9 c = said-no (c .before .rotation-fault .ensures) (c .if1 .left)
 
 node-fault-requires : tie.Need-node-fault-requires
 node-fault-requires c κs = let p = begun c .pre in (p .0, p .1, p .9, not-9 c)
-
-refused-requires-2 : tie.Need-refused-requires-2
-refused-requires-2 c κs = search needs
 
 returns-2 : tie.Need-returns-2
 returns-2 c =
@@ -88,10 +82,10 @@ check-in-turn-spec =
     tie.close
     (tie.spec
     rotation-fault-requires
-    refused-requires
+    (λ c κs. search needs)
     returns
     node-fault-requires
-    refused-requires-2
+    (λ c κs. search needs)
     returns-2
     mul-spread-all
     spread-all-requires

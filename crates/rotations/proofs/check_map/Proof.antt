@@ -1,6 +1,4 @@
 -- Either the walk found the map sound, and its trees are the parts; or the checks are made in turn.
-use native.Mathlib.Omega.{arith}
-use borrow.Author.Needs.{needs}
 use Rattle.traversal.proofs.Forests.{treeOf, trees-components}
 use Rattle.traversal.proofs.Rooting.{trees-few}
 use Rattle.rotations.proofs.Walking.{walked-if}

@@ -26,17 +26,11 @@ mul-wide c = omega (arith, c .before .before .pre .0)
 element-copy-out-wide : tie.Need-element-copy-out-wide Inv-loop μ-loop
 element-copy-out-wide c = omega (arith, c .before .before .pre .0)
 
-wide-requires : tie.Need-wide-requires Inv-loop μ-loop
-wide-requires c κs = search needs
-
 mul-wide-2 : tie.Need-mul-wide-2 Inv-loop μ-loop
 mul-wide-2 c = omega (arith, c .before .before .before .before .pre .0)
 
 element-copy-out-wide-2 : tie.Need-element-copy-out-wide-2 Inv-loop μ-loop
 element-copy-out-wide-2 c = omega (arith, c .before .before .before .before .pre .0)
-
-wide-requires-2 : tie.Need-wide-requires-2 Inv-loop μ-loop
-wide-requires-2 c κs = search needs
 
 add-entry : tie.Need-add-entry Inv-loop μ-loop
 add-entry c =
@@ -55,9 +49,6 @@ element-copy-out-wide-3 c =
     let o = c .before .before .before .before .before .loop in
     let p = c .before .before .before .before .before .before .pre in
     omega (arith, p .3 (o .d) (omega arith), c .before .before .wide .ensures)
-
-wide-requires-3 : tie.Need-wide-requires-3 Inv-loop μ-loop
-wide-requires-3 c κs = search needs
 
 narrow-requires : tie.Need-narrow-requires Inv-loop μ-loop
 narrow-requires c κs =
@@ -127,14 +118,14 @@ enter-all-spec =
     loop-holds
     mul-wide
     element-copy-out-wide
-    wide-requires
+    (λ c κs. search needs)
     mul-wide-2
     element-copy-out-wide-2
-    wide-requires-2
+    (λ c κs. search needs)
     add-entry
     mul-wide-3
     element-copy-out-wide-3
-    wide-requires-3
+    (λ c κs. search needs)
     narrow-requires
     mul-table
     element-write-table

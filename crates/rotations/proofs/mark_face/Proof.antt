@@ -69,9 +69,6 @@ mul-wide c = omega (arith, back-below (c .before), at-loop c .loop .inv .2 .few)
 element-copy-out-wide : tie.Need-element-copy-out-wide Inv-loop μ-loop
 element-copy-out-wide c = omega (arith, back-below (c .before), at-loop c .loop .inv .2 .few)
 
-wide-requires : tie.Need-wide-requires Inv-loop μ-loop
-wide-requires c κs = search needs
-
 -- ── the dart is marked, and the walk has stepped on ──
 abbrev laid : tie.After-wide Inv-loop μ-loop → tie.After-narrow Inv-loop μ-loop
 laid c = c .before .before
@@ -158,7 +155,7 @@ mark-face-spec =
     element-write-grouped
     mul-wide
     element-copy-out-wide
-    wide-requires
+    (λ c κs. search needs)
     loop-less
     loop-again
     returns)

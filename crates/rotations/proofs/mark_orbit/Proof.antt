@@ -34,9 +34,6 @@ mul-wide c = let i = c .loop .inv in omega (arith, still-in (i .1) (i .2 .1), i 
 element-copy-out-wide : tie.Need-element-copy-out-wide Inv-loop μ-loop
 element-copy-out-wide c = let i = c .loop .inv in omega (arith, still-in (i .1) (i .2 .1), i .1 .few)
 
-wide-requires : tie.Need-wide-requires Inv-loop μ-loop
-wide-requires c κs = search needs
-
 loop-less : tie.Need-loop-less Inv-loop μ-loop
 loop-less c =
     let o = c .before .before .before .loop in
@@ -67,7 +64,7 @@ mark-orbit-spec =
     element-write-label
     mul-wide
     element-copy-out-wide
-    wide-requires
+    (λ c κs. search needs)
     loop-less
     loop-again
     returns)

@@ -11,9 +11,6 @@ use Rattle.refusals.proofs.Decisions.{decides-by}
 use Rattle.rotations.proofs.node_fault.Statement.{statement}
 use Rattle.rotations.proofs.node_fault.Tie as tie
 
-mul-darts : tie.Need-mul-darts
-mul-darts c = search needs
-
 number-orbits-requires : tie.Need-number-orbits-requires
 number-orbits-requires c κs =
     let p = c .before .pre in
@@ -36,9 +33,6 @@ returns c =
     two-rounds (p .2) (rotation-permutes (p .2) (p .3)) (c .before .before .before .before .number-orbits .ensures .2)
     (rw (c .if1 .taken) at (c .before .enter-all .ensures .1))
 
-some-empty-requires : tie.Need-some-empty-requires
-some-empty-requires c κs = search needs
-
 returns-2 : tie.Need-returns-2
 returns-2 c =
     let p = c .before .before .before .before .before .before .before .before .pre in
@@ -51,9 +45,9 @@ pub node-fault-spec : {M : Type 1} → statement M
 node-fault-spec =
     tie.close
     (tie.spec
-    mul-darts
+    (λ c. search needs)
     number-orbits-requires
     enter-all-requires
     returns
-    some-empty-requires
+    (λ c κs. search needs)
     returns-2)

@@ -2,7 +2,7 @@
 -- from `free` on: as many darts have no number yet, so that the loop stops at the last face.
 use mathlib.Core.Path.{_≡_, refl, sym, _∙_, subst}
 use mathlib.Core.Logic.{_≢_}
-use Prim.Native.Nat.{ℕ, _+_, _*_, _-_, _≤_, _<_}
+use Prim.Native.Nat.{ℕ, _*_, _-_, _≤_, _<_}
 use native.Mathlib.Omega.{arith}
 use native.Mathlib.Decide.{decLt}
 use lib.ListN.{length, set, length-set}
@@ -35,9 +35,6 @@ few c = omega (arith, c .pre .0)
 
 none-yet : (n : ℕ) (g : ℕ → ℕ) → ((y : ℕ) → y < n → g y ≡ unmarked) → n ≡ holding unmarked n g
 none-yet n g h = omega (arith, holding-all unmarked n g h)
-
-mul-darts : tie.Need-mul-darts Inv-loop μ-loop
-mul-darts c = search needs
 
 unmark-all-requires : tie.Need-unmark-all-requires Inv-loop μ-loop
 unmark-all-requires c κs = c .before .pre .1
@@ -221,7 +218,7 @@ number-faces-spec =
     (tie.spec
     Inv-loop
     μ-loop
-    mul-darts
+    (λ c. search needs)
     unmark-all-requires
     loop-holds
     add-next

@@ -22,9 +22,6 @@ Inv-loop tails rotations nodes edges darts origin₀ d₀ origin d =
 abbrev μ-loop : tie.MeasureT-loop
 μ-loop tails rotations nodes edges darts origin₀ d₀ origin d = 2 * edges - d
 
-mul-darts : tie.Need-mul-darts Inv-loop μ-loop
-mul-darts c = search needs
-
 loop-holds : tie.Need-loop-holds Inv-loop μ-loop
 loop-holds c = (omega arith, length-replicate {A = ℕ} 1024 0, register-none _ _ _ zeros, λ k l. absurd (omega arith))
 
@@ -33,9 +30,6 @@ mul-wide c = omega (arith, c .before .before .pre .0)
 
 element-copy-out-wide : tie.Need-element-copy-out-wide Inv-loop μ-loop
 element-copy-out-wide c = omega (arith, c .before .before .pre .0)
-
-wide-requires : tie.Need-wide-requires Inv-loop μ-loop
-wide-requires c κs = search needs
 
 mul-if1 : tie.Need-mul-if1 Inv-loop μ-loop
 mul-if1 c =
@@ -104,9 +98,6 @@ array-write-origin c =
 add-d : tie.Need-add-d Inv-loop μ-loop
 add-d c = omega (arith, c .before .before .before .before .before .before .before .before .before .pre .0)
 
-loop-less : tie.Need-loop-less Inv-loop μ-loop
-loop-less c = search needs
-
 loop-again : tie.Need-loop-again Inv-loop μ-loop
 loop-again c =
     let o = c .before .before .before .before .before .before .before .before .loop in
@@ -134,11 +125,11 @@ rotation-fault-spec =
     (tie.spec
     Inv-loop
     μ-loop
-    mul-darts
+    (λ c. search needs)
     loop-holds
     mul-wide
     element-copy-out-wide
-    wide-requires
+    (λ c κs. search needs)
     mul-if1
     element-copy-out-if1
     mul-if1-2
@@ -152,6 +143,6 @@ rotation-fault-spec =
     mul-origin
     array-write-origin
     add-d
-    loop-less
+    (λ c. search needs)
     loop-again
     returns-3)

@@ -10,9 +10,6 @@ use Rattle.rotations.proofs.Whole.{rounds-sound, unround-unsound, empty
 use Rattle.rotations.proofs.walk_nodes.Statement.{statement}
 use Rattle.rotations.proofs.walk_nodes.Tie as tie
 
-mul-darts : tie.Need-mul-darts
-mul-darts c = search needs
-
 spread-rounds-requires : tie.Need-spread-rounds-requires
 spread-rounds-requires c κs =
     let p = c .before .before .before .pre in (
@@ -31,9 +28,6 @@ returns : tie.Need-returns
 returns c =
     let e = c .before .spread-rounds .ensures in
     (e .0, e .1, (λ h. absurd (h refl)), λ z σ. unround-unsound σ (e .4 (c .if1 .taken)))
-
-some-empty-requires : tie.Need-some-empty-requires
-some-empty-requires c κs = search needs
 
 returns-2 : tie.Need-returns-2
 returns-2 c =
@@ -56,4 +50,4 @@ returns-3 c =
     )
 
 pub walk-nodes-spec : {M : Type 1} → statement M
-walk-nodes-spec = tie.close (tie.spec mul-darts spread-rounds-requires returns some-empty-requires returns-2 returns-3)
+walk-nodes-spec = tie.close (tie.spec (λ c. search needs) spread-rounds-requires returns (λ c κs. search needs) returns-2 returns-3)

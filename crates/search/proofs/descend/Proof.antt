@@ -1,5 +1,5 @@
 -- `descend` meets its contract (`Falling`).
-use Prim.Native.Nat.{_≤_, _<_}
+use Prim.Native.Nat.{_<_}
 use native.Mathlib.Omega.{arith}
 use borrow.Author.Needs.{needs}
 use Rattle.search.specs.Configuration.{tablesOf}

@@ -1,5 +1,5 @@
 -- `follow` meets its contract: its three ways out are the three cases of `Follows`.
-use mathlib.Core.Path.{_≡_, sym, _∙_, ap}
+use mathlib.Core.Path.{_≡_, _∙_, ap}
 use Prim.Native.Nat.{_<_}
 use native.Mathlib.Omega.{arith}
 use lib.Signed.{mag}

@@ -1,6 +1,5 @@
 -- `look` meets its contract: the darts of the face before place j are tried (`Halfway`), and each way through the loop is a law of that file.
-use mathlib.Core.Path.{refl}
-use Prim.Native.Nat.{_+_, _-_, _≤_, _<_}
+use Prim.Native.Nat.{_-_, _<_}
 use native.Mathlib.Omega.{arith}
 use borrow.Author.Needs.{needs}
 use Rattle.arrays.specs.At.{at}
@@ -39,17 +38,11 @@ mul-wide c = record { fits = omega (arith, face-small c) }
 element-copy-out-wide : tie.Need-element-copy-out-wide Inv-loop μ-loop
 element-copy-out-wide c = face-small c
 
-wide-requires : tie.Need-wide-requires Inv-loop μ-loop
-wide-requires c κs = search needs
-
 mul-wide-2 : tie.Need-mul-wide-2 Inv-loop μ-loop
 mul-wide-2 c = record { fits = omega (arith, face-small (c .before .before)) }
 
 element-copy-out-wide-2 : tie.Need-element-copy-out-wide-2 Inv-loop μ-loop
 element-copy-out-wide-2 c = face-small (c .before .before)
-
-wide-requires-2 : tie.Need-wide-requires-2 Inv-loop μ-loop
-wide-requires-2 c κs = search needs
 
 loop-holds : tie.Need-loop-holds Inv-loop μ-loop
 loop-holds c =
@@ -69,9 +62,6 @@ mul-wide-3 c = record { fits = omega (arith, ends-in c) }
 
 element-copy-out-wide-3 : tie.Need-element-copy-out-wide-3 Inv-loop μ-loop
 element-copy-out-wide-3 c = ends-in c
-
-wide-requires-3 : tie.Need-wide-requires-3 Inv-loop μ-loop
-wide-requires-3 c κs = search needs
 
 add-j : tie.Need-add-j Inv-loop μ-loop
 add-j c = record { fits = omega (arith, ends-in (c .before .before)) }
@@ -101,9 +91,6 @@ mul-wide-4 c = record { fits = omega (arith, dart-small c) }
 
 element-copy-out-wide-4 : tie.Need-element-copy-out-wide-4 Inv-loop μ-loop
 element-copy-out-wide-4 c = dart-small c
-
-wide-requires-4 : tie.Need-wide-requires-4 Inv-loop μ-loop
-wide-requires-4 c κs = search needs
 
 -- the dart, seen from where the face left of it is read
 abbrev crossed : tie.After-wide4 Inv-loop μ-loop → tie.After-wide3 Inv-loop μ-loop
@@ -178,18 +165,18 @@ look-spec =
     element-write-waiting
     mul-wide
     element-copy-out-wide
-    wide-requires
+    (λ c κs. search needs)
     mul-wide-2
     element-copy-out-wide-2
-    wide-requires-2
+    (λ c κs. search needs)
     loop-holds
     mul-wide-3
     element-copy-out-wide-3
-    wide-requires-3
+    (λ c κs. search needs)
     add-j
     mul-wide-4
     element-copy-out-wide-4
-    wide-requires-4
+    (λ c κs. search needs)
     relax-requires
     push-requires
     loop-less

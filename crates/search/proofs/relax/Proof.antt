@@ -16,27 +16,6 @@ use Rattle.search.proofs.relax.Reads as reads
 use Rattle.search.proofs.relax.Lts as lts
 use Rattle.signed.proofs.plus_wide.Reads as plus-wide-reads
 
-mul-wide : tie.Need-mul-wide
-mul-wide c = search needs
-
-element-copy-out-wide : tie.Need-element-copy-out-wide
-element-copy-out-wide c = search needs
-
-wide-requires : tie.Need-wide-requires
-wide-requires c κs = search needs
-
-mul-plus-wide : tie.Need-mul-plus-wide
-mul-plus-wide c = search needs
-
-element-copy-out-plus-wide : tie.Need-element-copy-out-plus-wide
-element-copy-out-plus-wide c = search needs
-
-mul-plus-wide-2 : tie.Need-mul-plus-wide-2
-mul-plus-wide-2 c = search needs
-
-element-copy-out-plus-wide-2 : tie.Need-element-copy-out-plus-wide-2
-element-copy-out-plus-wide-2 c = search needs
-
 plus-wide-requires : tie.Need-plus-wide-requires
 plus-wide-requires c κs =
     let a = c .before .before .before .before .args in
@@ -73,27 +52,6 @@ old-is c =
     let w = c .before .before .before .before .wide in
     toZ-ofZ w64 (atℤ p (w .result)) (record { sfits = c .if12 .given }) ∙ ap (atℤ p) (w .ensures)
 
-mul-if1 : tie.Need-mul-if1
-mul-if1 c = search needs
-
-element-copy-out-if1 : tie.Need-element-copy-out-if1
-element-copy-out-if1 c = search needs
-
-mul-v : tie.Need-mul-v
-mul-v c = search needs
-
-element-set-from-v : tie.Need-element-set-from-v
-element-set-from-v c = search needs
-
-cast-parents : tie.Need-cast-parents
-cast-parents c = search needs
-
-mul-parents : tie.Need-mul-parents
-mul-parents c = search needs
-
-element-write-parents : tie.Need-element-write-parents
-element-write-parents c = search needs
-
 returns : tie.Need-returns
 unfolding new old
 returns c =
@@ -112,20 +70,20 @@ pub relax-spec : {M : Type 1} → statement M
 relax-spec =
     tie.close
     (tie.spec
-    mul-wide
-    element-copy-out-wide
-    wide-requires
-    mul-plus-wide
-    element-copy-out-plus-wide
-    mul-plus-wide-2
-    element-copy-out-plus-wide-2
+    (λ c. search needs)
+    (λ c. search needs)
+    (λ c κs. search needs)
+    (λ c. search needs)
+    (λ c. search needs)
+    (λ c. search needs)
+    (λ c. search needs)
     plus-wide-requires
-    mul-if1
-    element-copy-out-if1
-    mul-v
-    element-set-from-v
-    cast-parents
-    mul-parents
-    element-write-parents
+    (λ c. search needs)
+    (λ c. search needs)
+    (λ c. search needs)
+    (λ c. search needs)
+    (λ c. search needs)
+    (λ c. search needs)
+    (λ c. search needs)
     returns
     returns-2)

@@ -15,7 +15,7 @@ use Rattle.search.specs.Given.{Given, given, dual}
 use Rattle.search.specs.Configuration.{tablesOf, Configuration, configuration}
 use Rattle.search.specs.Straightening.{unmarked, Straightens}
 use Rattle.search.specs.Moves.{takenFrom}
-use Rattle.search.specs.Trace.{period, Goes, stay, firstLooks, start, Searches}
+use Rattle.search.specs.Trace.{Goes, stay, firstLooks, start, Searches}
 use Rattle.search.specs.declared.Outcome.{Outcome}
 use Rattle.search.specs.declared.Outcome.the-variants as outcome
 use Rattle.search.proofs.Beginning.{root-face}

@@ -1,10 +1,9 @@
 -- What is not fit is refused 13; of what is fit the arrays hold a drawing, and the question is asked of it.
 use mathlib.Core.Path.{_≡_, refl}
-use mathlib.Core.List.{List}
 use Prim.Native.Nat.{ℕ, _<_}
 use Rattle.refusals.specs.Order.{NoneOf}
 use Rattle.refusals.proofs.Order.{said-yes, said-no}
-use Rattle.maps.specs.Map.{Map, darts}
+use Rattle.maps.specs.Map.{darts}
 use Rattle.maps.specs.Face.{faces, left}
 use Rattle.maps.specs.Drawing.{Drawing}
 use Rattle.signed.proofs.Laws.{number-of-bits}
@@ -28,18 +27,6 @@ use Rattle.sessions.proofs.Asking.{
 use borrow.Author.Needs.{needs}
 use Rattle.sessions.proofs.answer_left.Statement.{statement}
 use Rattle.sessions.proofs.answer_left.Tie as tie
-
-wide-requires : tie.Need-wide-requires
-wide-requires c κs = search needs
-
-wide-requires-2 : tie.Need-wide-requires-2
-wide-requires-2 c κs = search needs
-
-wide-requires-3 : tie.Need-wide-requires-3
-wide-requires-3 c κs = search needs
-
-in-bounds-requires : tie.Need-in-bounds-requires
-in-bounds-requires c κs = search needs
 
 -- ── the drawing at the width of an index, and as it is given ──
 abbrev begun : tie.After-in-bounds → tie.Start
@@ -85,18 +72,12 @@ check-map-requires c κs =
     let b = bounded (c .before .before .before .before .before .before) in
     (b .few-edges, b .few-nodes, b .outer-in, refl, refl, refl, refl, refl, refl, b .range)
 
-enum-known-verdict : tie.Need-enum-known-verdict
-enum-known-verdict c = search needs
-
 returns-2 : tie.Need-returns-2
 returns-2 c =
     let m = c .before .before .before in
     let b = within (m) .before in
     let r = map-refused (held b) _ _ _ _ (c .before .verdict .given .1) (m .check-map .ensures .6) in
     ((unfit-answered (held b) (given b) (same b) r _ _ _ _ _, refl, refl), tt, tt)
-
-enum-told : tie.Need-enum-told
-enum-told c = search needs
 
 -- ── fit ──
 passed : (c : tie.After-enum-told)
@@ -119,12 +100,6 @@ solve-requires c κs =
     let p = passed t in
     (fit-drawn (held (within m .before)) (fit t) _ _ (p .1) (p .2), if-passed (t .enum-told .given .1) (m .check-map .ensures .7))
 
-same-length : tie.Need-same-length
-same-length c = search needs
-
-same-length-2 : tie.Need-same-length-2
-same-length-2 c = search needs
-
 returns-3 : tie.Need-returns-3
 returns-3 c =
     let k = c .before .before .before in
@@ -141,16 +116,16 @@ pub answer-left-spec : {M : Type 1} → statement M
 answer-left-spec =
     tie.close
     (tie.spec
-    wide-requires
-    wide-requires-2
-    wide-requires-3
-    in-bounds-requires
+    (λ c κs. search needs)
+    (λ c κs. search needs)
+    (λ c κs. search needs)
+    (λ c κs. search needs)
     returns
     check-map-requires
-    enum-known-verdict
+    (λ c. search needs)
     returns-2
-    enum-told
+    (λ c. search needs)
     solve-requires
-    same-length
-    same-length-2
+    (λ c. search needs)
+    (λ c. search needs)
     returns-3)

@@ -6,24 +6,6 @@ use borrow.Author.Needs.{needs}
 use Rattle.sessions.proofs.in_bounds.Statement.{statement}
 use Rattle.sessions.proofs.in_bounds.Tie as tie
 
-returns : tie.Need-returns
-returns c = search needs
-
-returns-2 : tie.Need-returns-2
-returns-2 c = search needs
-
-mul-if3 : tie.Need-mul-if3
-mul-if3 c = search needs
-
-returns-3 : tie.Need-returns-3
-returns-3 c = search needs
-
-in-range-requires : tie.Need-in-range-requires
-in-range-requires c κs = search needs
-
-limits-fit-requires : tie.Need-limits-fit-requires
-limits-fit-requires c κs = search needs
-
 returns-4 : tie.Need-returns-4
 returns-4 c =
     let r = c .before .before in
@@ -45,11 +27,11 @@ pub in-bounds-spec : {M : Type 1} → statement M
 in-bounds-spec =
     tie.close
     (tie.spec
-    returns
-    returns-2
-    mul-if3
-    returns-3
-    in-range-requires
-    limits-fit-requires
+    (λ c. search needs)
+    (λ c. search needs)
+    (λ c. search needs)
+    (λ c. search needs)
+    (λ c κs. search needs)
+    (λ c κs. search needs)
     returns-4
     returns-5)

@@ -1,9 +1,9 @@
 -- Invariant: the first e places hold the flows below e, and the others are as they were.
 use mathlib.Core.Path.{_≡_, _∙_, ap}
 use mathlib.Core.List.{_++_}
-use Prim.Native.Nat.{ℕ, _≤_, _-_}
+use Prim.Native.Nat.{_≤_, _-_}
 use native.Mathlib.Omega.{arith}
-use lib.ListN.{length, drop}
+use lib.ListN.{drop}
 use borrow.Author.Needs.{needs}
 use Rattle.signed.proofs.Laws.{number-of-bits}
 use Rattle.arrays.specs.At.{atℤ}
@@ -21,24 +21,9 @@ abbrev μ-loop : tie.MeasureT-loop
 loop-holds : tie.Need-loop-holds Inv-loop μ-loop
 loop-holds c = (omega arith, copy-start _ _)
 
-mul-offer : tie.Need-mul-offer Inv-loop μ-loop
-mul-offer c = search needs
-
-shared-slice-copy-out-offer : tie.Need-shared-slice-copy-out-offer Inv-loop μ-loop
-shared-slice-copy-out-offer c = search needs
-
-mul-t9 : tie.Need-mul-t9 Inv-loop μ-loop
-mul-t9 c = search needs
-
 slice-set-from-offer : tie.Need-slice-set-from-offer Inv-loop μ-loop
 slice-set-from-offer c =
     omega (arith, filled-length _ _ _ _ (c .before .before .loop .inv .1) (omega (arith, c .before .before .before .pre .1)), c .before .before .before .pre .1)
-
-add-e : tie.Need-add-e Inv-loop μ-loop
-add-e c = search needs
-
-loop-less : tie.Need-loop-less Inv-loop μ-loop
-loop-less c = search needs
 
 loop-again : tie.Need-loop-again Inv-loop μ-loop
 loop-again c =
@@ -65,12 +50,12 @@ keep-spec =
     Inv-loop
     μ-loop
     loop-holds
-    mul-offer
-    shared-slice-copy-out-offer
-    mul-t9
+    (λ c. search needs)
+    (λ c. search needs)
+    (λ c. search needs)
     slice-set-from-offer
-    add-e
-    loop-less
+    (λ c. search needs)
+    (λ c. search needs)
     loop-again
     same-length
     returns)

@@ -38,36 +38,6 @@ judged-here c =
 loop-holds : tie.Need-loop-holds Inv-loop μ-loop
 loop-holds c = (omega arith, c .pre, λ k l. absurd (omega arith))
 
-mul-pair-fits : tie.Need-mul-pair-fits Inv-loop μ-loop
-mul-pair-fits c = search needs
-
-mul-pair-fits-2 : tie.Need-mul-pair-fits-2 Inv-loop μ-loop
-mul-pair-fits-2 c = search needs
-
-element-copy-out-pair-fits : tie.Need-element-copy-out-pair-fits Inv-loop μ-loop
-element-copy-out-pair-fits c = search needs
-
-mul-pair-fits-3 : tie.Need-mul-pair-fits-3 Inv-loop μ-loop
-mul-pair-fits-3 c = search needs
-
-add-pair-fits : tie.Need-add-pair-fits Inv-loop μ-loop
-add-pair-fits c = search needs
-
-mul-pair-fits-4 : tie.Need-mul-pair-fits-4 Inv-loop μ-loop
-mul-pair-fits-4 c = search needs
-
-element-copy-out-pair-fits-2 : tie.Need-element-copy-out-pair-fits-2 Inv-loop μ-loop
-element-copy-out-pair-fits-2 c = search needs
-
-pair-fits-requires : tie.Need-pair-fits-requires Inv-loop μ-loop
-pair-fits-requires c κs = search needs
-
-add-e : tie.Need-add-e Inv-loop μ-loop
-add-e c = search needs
-
-loop-less : tie.Need-loop-less Inv-loop μ-loop
-loop-less c = search needs
-
 loop-again : tie.Need-loop-again Inv-loop μ-loop
 loop-again c =
     let o = c .before .before .before .before .before .loop in
@@ -86,16 +56,16 @@ limits-fit-spec =
     Inv-loop
     μ-loop
     loop-holds
-    mul-pair-fits
-    mul-pair-fits-2
-    element-copy-out-pair-fits
-    mul-pair-fits-3
-    add-pair-fits
-    mul-pair-fits-4
-    element-copy-out-pair-fits-2
-    pair-fits-requires
-    add-e
-    loop-less
+    (λ c. search needs)
+    (λ c. search needs)
+    (λ c. search needs)
+    (λ c. search needs)
+    (λ c. search needs)
+    (λ c. search needs)
+    (λ c. search needs)
+    (λ c κs. search needs)
+    (λ c. search needs)
+    (λ c. search needs)
     loop-again
     returns
     returns-2)

@@ -1,10 +1,10 @@
 -- Invariant: the limits below d are lowered, and the others are as they were.
 use mathlib.Core.Path.{_≡_, refl, sym, _∙_, ap, subst}
 use mathlib.Core.List.{_++_}
-use Prim.Native.Nat.{ℕ, _*_, _/_, _≤_, _-_}
+use Prim.Native.Nat.{_*_, _/_, _≤_, _-_}
 use native.Mathlib.Omega.{arith}
 use lib.IntN.{_-ℤ_}
-use lib.ListN.{length, drop}
+use lib.ListN.{drop}
 use borrow.Author.Needs.{needs}
 use mir.Syntax.{w32}
 use mir.Val.{toZ, ofZ, SFits}
@@ -29,18 +29,9 @@ mul-darts c = omega (arith, c .pre .1)
 loop-holds : tie.Need-loop-holds Inv-loop μ-loop
 loop-holds c = (omega arith, refl, copy-start _ _)
 
-mul-lowered-by : tie.Need-mul-lowered-by Inv-loop μ-loop
-mul-lowered-by c = search needs
-
 slice-copy-out-lowered-by : tie.Need-slice-copy-out-lowered-by Inv-loop μ-loop
 slice-copy-out-lowered-by c =
     let s = c .before .before in omega (arith, filled-length _ _ _ _ (c .before .loop .inv .2) (omega (arith, s .pre .0, s .pre .1)), s .pre .0, s .pre .1)
-
-mul-lowered-by-2 : tie.Need-mul-lowered-by-2 Inv-loop μ-loop
-mul-lowered-by-2 c = search needs
-
-element-copy-out-lowered-by : tie.Need-element-copy-out-lowered-by Inv-loop μ-loop
-element-copy-out-lowered-by c = search needs
 
 -- the limit that is read is the one at entry, and the flow is its edge's
 limit-is : (c : tie.After-lowered-by-arg Inv-loop μ-loop)
@@ -64,19 +55,10 @@ lowered-by-requires c κs =
     rw (limit-is (c .before), flow-is c) (subst (SFits w32) (sym (own-flow (atℤ (s .args .left .now) (o .d)) (atℤ (s .args .offer .now)) (o .d)))
     (s .pre .2 (o .d) (omega arith)))
 
-mul-t16 : tie.Need-mul-t16 Inv-loop μ-loop
-mul-t16 c = search needs
-
 slice-set-from-left : tie.Need-slice-set-from-left Inv-loop μ-loop
 slice-set-from-left c =
     let s = c .before .before .before .before .before in
     omega (arith, filled-length _ _ _ _ (c .before .before .before .before .loop .inv .2) (omega (arith, s .pre .0, s .pre .1)), s .pre .0, s .pre .1)
-
-add-d : tie.Need-add-d Inv-loop μ-loop
-add-d c = search needs
-
-loop-less : tie.Need-loop-less Inv-loop μ-loop
-loop-less c = search needs
 
 loop-again : tie.Need-loop-again Inv-loop μ-loop
 loop-again c =
@@ -109,15 +91,15 @@ lower-spec =
     μ-loop
     mul-darts
     loop-holds
-    mul-lowered-by
+    (λ c. search needs)
     slice-copy-out-lowered-by
-    mul-lowered-by-2
-    element-copy-out-lowered-by
+    (λ c. search needs)
+    (λ c. search needs)
     lowered-by-requires
-    mul-t16
+    (λ c. search needs)
     slice-set-from-left
-    add-d
-    loop-less
+    (λ c. search needs)
+    (λ c. search needs)
     loop-again
     same-length
     returns)

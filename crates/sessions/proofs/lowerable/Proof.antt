@@ -9,22 +9,10 @@ use Rattle.sessions.proofs.lowerable.Tie as tie
 returns : tie.Need-returns
 returns c = λ h. omega (arith, h .few-edges, c .if1 .taken)
 
-limits-fit-requires : tie.Need-limits-fit-requires
-limits-fit-requires c κs = search needs
-
-check-within-requires : tie.Need-check-within-requires
-check-within-requires c κs = search needs
-
-enum-known-within : tie.Need-enum-known-within
-enum-known-within c = search needs
-
 returns-2 : tie.Need-returns-2
 returns-2 c =
     let w = c .before .before .before in
     λ h. first-none _ _ _ (rw (c .before .within .given .1) at (w .check-within .ensures)) (lowerable-none _ _ _ h)
-
-enum-told : tie.Need-enum-told
-enum-told c = search needs
 
 returns-3 : tie.Need-returns-3
 returns-3 c =
@@ -41,10 +29,10 @@ lowerable-spec =
     tie.close
     (tie.spec
     returns
-    limits-fit-requires
-    check-within-requires
-    enum-known-within
+    (λ c κs. search needs)
+    (λ c κs. search needs)
+    (λ c. search needs)
     returns-2
-    enum-told
+    (λ c. search needs)
     returns-3
     returns-4)

@@ -1,8 +1,7 @@
 -- Each branch settles the test of the dart's parity.
-use mathlib.Core.Path.{_≡_, sym, _∙_, ap, subst}
-use lib.IntN.{ℤ, negℤ, _+ℤ_, _-ℤ_}
+use mathlib.Core.Path.{sym, _∙_, subst}
 use mir.Syntax.{w32}
-use mir.Val.{toZ, ofZ, SFits}
+use mir.Val.{SFits}
 use Rattle.signed.proofs.Laws.{number-of-bits}
 use Rattle.sessions.proofs.Lowering.{forth, back}
 use Rattle.sessions.proofs.lowered_by.Statement.{statement}

@@ -10,9 +10,6 @@ use Rattle.sessions.proofs.pair_fits.Tie as tie
 returns : tie.Need-returns
 returns c = λ h. lt-le-clash (lt-of-test _ _ (rw (number-of-bits _ (c .before .fits .back)) at (c .if1 .taken))) (h .1)
 
-exceeds-requires : tie.Need-exceeds-requires
-exceeds-requires c κs = search needs
-
 returns-2 : tie.Need-returns-2
 returns-2 c =
     let f = c .before .before .before .fits in
@@ -25,4 +22,4 @@ returns-3 c =
     (rw (number-of-bits _ (s .fits .forward), number-of-bits _ (s .fits .back)) at (said-no (c .before .exceeds .ensures) (c .if2 .left)))
 
 pub pair-fits-spec : {M : Type 1} → statement M
-pair-fits-spec = tie.close (tie.spec returns exceeds-requires returns-2 returns-3)
+pair-fits-spec = tie.close (tie.spec returns (λ c κs. search needs) returns-2 returns-3)

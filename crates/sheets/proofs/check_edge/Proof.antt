@@ -13,84 +13,6 @@ use Rattle.sheets.proofs.EdgeOfSlices.{edge-judged}
 use Rattle.sheets.proofs.check_edge.Statement.{statement}
 use Rattle.sheets.proofs.check_edge.Tie as tie
 
-mul-wide : tie.Need-mul-wide
-mul-wide c = search needs
-
-mul-wide-2 : tie.Need-mul-wide-2
-mul-wide-2 c = search needs
-
-shared-slice-read-wide : tie.Need-shared-slice-read-wide
-shared-slice-read-wide c = search needs
-
-wide-requires : tie.Need-wide-requires
-wide-requires c κs = search needs
-
-mul-wide-3 : tie.Need-mul-wide-3
-mul-wide-3 c = search needs
-
-add-wide : tie.Need-add-wide
-add-wide c = search needs
-
-mul-wide-4 : tie.Need-mul-wide-4
-mul-wide-4 c = search needs
-
-shared-slice-read-wide-2 : tie.Need-shared-slice-read-wide-2
-shared-slice-read-wide-2 c = search needs
-
-wide-requires-2 : tie.Need-wide-requires-2
-wide-requires-2 c κs = search needs
-
-mul-wide-5 : tie.Need-mul-wide-5
-mul-wide-5 c = search needs
-
-mul-wide-6 : tie.Need-mul-wide-6
-mul-wide-6 c = search needs
-
-shared-slice-read-wide-3 : tie.Need-shared-slice-read-wide-3
-shared-slice-read-wide-3 c = search needs
-
-wide-requires-3 : tie.Need-wide-requires-3
-wide-requires-3 c κs = search needs
-
-mul-wide-7 : tie.Need-mul-wide-7
-mul-wide-7 c = search needs
-
-add-wide-2 : tie.Need-add-wide-2
-add-wide-2 c = search needs
-
-mul-wide-8 : tie.Need-mul-wide-8
-mul-wide-8 c = search needs
-
-shared-slice-read-wide-4 : tie.Need-shared-slice-read-wide-4
-shared-slice-read-wide-4 c = search needs
-
-wide-requires-4 : tie.Need-wide-requires-4
-wide-requires-4 c κs = search needs
-
-mul-forward : tie.Need-mul-forward
-mul-forward c = search needs
-
-mul-forward-2 : tie.Need-mul-forward-2
-mul-forward-2 c = search needs
-
-shared-slice-copy-out-forward : tie.Need-shared-slice-copy-out-forward
-shared-slice-copy-out-forward c = search needs
-
-mul-backward : tie.Need-mul-backward
-mul-backward c = search needs
-
-add-backward : tie.Need-add-backward
-add-backward c = search needs
-
-mul-backward-2 : tie.Need-mul-backward-2
-mul-backward-2 c = search needs
-
-shared-slice-copy-out-backward : tie.Need-shared-slice-copy-out-backward
-shared-slice-copy-out-backward c = search needs
-
-check-fields-requires : tie.Need-check-fields-requires
-check-fields-requires c κs = search needs
-
 abbrev drawn : tie.Start → Drawing
 drawn s = slicesDrawing (s .args .nodes) (s .args .outer) (s .args .tails .now) (s .args .rotations .now) (s .args .capacities .now)
 
@@ -142,30 +64,30 @@ pub check-edge-spec : {M : Type 1} → statement M
 check-edge-spec =
     tie.close
     (tie.spec
-    mul-wide
-    mul-wide-2
-    shared-slice-read-wide
-    wide-requires
-    mul-wide-3
-    add-wide
-    mul-wide-4
-    shared-slice-read-wide-2
-    wide-requires-2
-    mul-wide-5
-    mul-wide-6
-    shared-slice-read-wide-3
-    wide-requires-3
-    mul-wide-7
-    add-wide-2
-    mul-wide-8
-    shared-slice-read-wide-4
-    wide-requires-4
-    mul-forward
-    mul-forward-2
-    shared-slice-copy-out-forward
-    mul-backward
-    add-backward
-    mul-backward-2
-    shared-slice-copy-out-backward
-    check-fields-requires
+    (λ c. search needs)
+    (λ c. search needs)
+    (λ c. search needs)
+    (λ c κs. search needs)
+    (λ c. search needs)
+    (λ c. search needs)
+    (λ c. search needs)
+    (λ c. search needs)
+    (λ c κs. search needs)
+    (λ c. search needs)
+    (λ c. search needs)
+    (λ c. search needs)
+    (λ c κs. search needs)
+    (λ c. search needs)
+    (λ c. search needs)
+    (λ c. search needs)
+    (λ c. search needs)
+    (λ c κs. search needs)
+    (λ c. search needs)
+    (λ c. search needs)
+    (λ c. search needs)
+    (λ c. search needs)
+    (λ c. search needs)
+    (λ c. search needs)
+    (λ c. search needs)
+    (λ c κs. search needs)
     returns)

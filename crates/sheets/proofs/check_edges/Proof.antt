@@ -25,26 +25,11 @@ turn c = c .before .before
 loop-holds : tie.Need-loop-holds Inv-loop μ-loop
 loop-holds c = (omega arith, λ i l. absurd (omega arith))
 
-check-edge-requires : tie.Need-check-edge-requires Inv-loop μ-loop
-check-edge-requires c κs = search needs
-
-enum-known-edge : tie.Need-enum-known-edge Inv-loop μ-loop
-enum-known-edge c = search needs
-
 returns : tie.Need-returns Inv-loop μ-loop
 returns c =
     let edge = c .before .before .before in
     let o = turn edge .loop in
     first-in-turn _ _ (o .e) _ _ (omega arith) (o .inv .1) (rw (c .before .edge .given .1) at (edge .check-edge .ensures))
-
-enum-told : tie.Need-enum-told Inv-loop μ-loop
-enum-told c = search needs
-
-add-e : tie.Need-add-e Inv-loop μ-loop
-add-e c = search needs
-
-loop-less : tie.Need-loop-less Inv-loop μ-loop
-loop-less c = search needs
 
 loop-again : tie.Need-loop-again Inv-loop μ-loop
 loop-again c =
@@ -61,11 +46,11 @@ check-edges-spec =
     Inv-loop
     μ-loop
     loop-holds
-    check-edge-requires
-    enum-known-edge
+    (λ c κs. search needs)
+    (λ c. search needs)
     returns
-    enum-told
-    add-e
-    loop-less
+    (λ c. search needs)
+    (λ c. search needs)
+    (λ c. search needs)
     loop-again
     returns-2)

@@ -59,35 +59,20 @@ map-is c =
     loaded-map (a .nodes) _ (tails' c) (rotations' c) (a .tails .now) (a .rotations .now) (c .before .before .load .ensures .1) (c .load2 .ensures .1)
 
 -- ── the needs, in the order of the code ──
-check-numbers-requires : tie.Need-check-numbers-requires
-check-numbers-requires c κs = search needs
-
-enum-known-numbers : tie.Need-enum-known-numbers
-enum-known-numbers c = search needs
-
 returns : tie.Need-returns
 returns c =
     let numbers = c .before .before .before in
     refused-numbers (drawn (numbers .before .before .before)) _ _ (rw (c .before .numbers .given .1) at (numbers .check-numbers .ensures))
-
-enum-told : tie.Need-enum-told
-enum-told c = search needs
 
 check-edges-requires : tie.Need-check-edges-requires
 check-edges-requires c κs =
     let p = begun c .pre in
     (p .0, p .1, omega (arith, p .2, counts-range _ _ _ (numbers-passed c) .3))
 
-enum-known-fields : tie.Need-enum-known-fields
-enum-known-fields c = search needs
-
 returns-2 : tie.Need-returns-2
 returns-2 c =
     let t = c .before .before .before .before in
     refused-edges (drawn (begun t)) _ _ (numbers-passed t) (rw (c .before .fields .given .1) at (c .before .before .before .check-edges .ensures))
-
-enum-told-2 : tie.Need-enum-told-2
-enum-told-2 c = search needs
 
 load-requires : tie.Need-load-requires
 load-requires c κs = (refl, long (c .before), same-everywhere 1024 0)
@@ -117,14 +102,14 @@ pub check-slices-spec : {M : Type 1} → statement M
 check-slices-spec =
     tie.close
     (tie.spec
-    check-numbers-requires
-    enum-known-numbers
+    (λ c κs. search needs)
+    (λ c. search needs)
     returns
-    enum-told
+    (λ c. search needs)
     check-edges-requires
-    enum-known-fields
+    (λ c. search needs)
     returns-2
-    enum-told-2
+    (λ c. search needs)
     load-requires
     load-requires-2
     check-map-requires

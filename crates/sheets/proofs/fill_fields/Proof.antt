@@ -39,20 +39,11 @@ field-read c =
 head-length-requires : tie.Need-head-length-requires Inv-loop μ-loop
 head-length-requires c κs = let s = c .before .before in omega (arith, s .pre .2, head-some (s .args .s .now))
 
-mul-darts : tie.Need-mul-darts Inv-loop μ-loop
-mul-darts c = search needs
-
 loop-holds : tie.Need-loop-holds Inv-loop μ-loop
 loop-holds c = (omega arith, copy-start _ _)
 
-edge-at-requires : tie.Need-edge-at-requires Inv-loop μ-loop
-edge-at-requires c κs = search needs
-
 add-read-u16 : tie.Need-add-read-u16 Inv-loop μ-loop
 add-read-u16 c = omega (arith, place c, begun (c .before .before) .pre .2)
-
-mul-read-u16 : tie.Need-mul-read-u16 Inv-loop μ-loop
-mul-read-u16 c = search needs
 
 add-read-u16-2 : tie.Need-add-read-u16-2 Inv-loop μ-loop
 add-read-u16-2 c = omega (arith, place c, begun (c .before .before) .pre .2)
@@ -60,17 +51,8 @@ add-read-u16-2 c = omega (arith, place c, begun (c .before .before) .pre .2)
 read-u16-requires : tie.Need-read-u16-requires Inv-loop μ-loop
 read-u16-requires c κs = omega (arith, place c, begun (c .before .before) .pre .2)
 
-mul-to : tie.Need-mul-to Inv-loop μ-loop
-mul-to c = search needs
-
 slice-write-to : tie.Need-slice-write-to Inv-loop μ-loop
 slice-write-to c = omega (arith, filled-length _ _ _ _ (turn c .loop .inv .1) (omega arith))
-
-add-d : tie.Need-add-d Inv-loop μ-loop
-add-d c = search needs
-
-loop-less : tie.Need-loop-less Inv-loop μ-loop
-loop-less c = search needs
 
 loop-again : tie.Need-loop-again Inv-loop μ-loop
 loop-again c = let o = turn c .loop in (omega arith, copy-step _ (o .d) _ _ _ (o .inv .1) (omega arith) (field-read c))
@@ -92,17 +74,17 @@ fill-fields-spec =
     Inv-loop
     μ-loop
     head-length-requires
-    mul-darts
+    (λ c. search needs)
     loop-holds
-    edge-at-requires
+    (λ c κs. search needs)
     add-read-u16
-    mul-read-u16
+    (λ c. search needs)
     add-read-u16-2
     read-u16-requires
-    mul-to
+    (λ c. search needs)
     slice-write-to
-    add-d
-    loop-less
+    (λ c. search needs)
+    (λ c. search needs)
     loop-again
     same-length
     returns)

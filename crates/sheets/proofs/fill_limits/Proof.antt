@@ -1,9 +1,9 @@
 -- The capacities of each edge's darts. Invariant: the places of the edges below e have their capacities, the others are as they were.
-use Prim.Native.Nat.{_≤_, _<_, _-_, _+_, _*_}
+use Prim.Native.Nat.{_≤_, _-_, _+_, _*_}
 use mathlib.Core.Path.{_≡_, _∙_, ap}
 use native.Mathlib.Omega.{arith}
 use borrow.Author.Needs.{needs}
-use lib.ListN.{length, length-set}
+use lib.ListN.{length-set}
 use mir.Syntax.{w32}
 use mir.Val.{toZ, ofZ}
 use Rattle.signed.proofs.Laws.{number-of-bits}
@@ -57,9 +57,6 @@ head-length-requires c κs = let s = c .before in omega (arith, s .pre .1, head-
 loop-holds : tie.Need-loop-holds Inv-loop μ-loop
 loop-holds c = (omega arith, copy-start _ _)
 
-edge-at-requires : tie.Need-edge-at-requires Inv-loop μ-loop
-edge-at-requires c κs = search needs
-
 add-read-i32 : tie.Need-add-read-i32 Inv-loop μ-loop
 add-read-i32 c = omega (arith, place c, begun (c .before .before) .pre .1)
 
@@ -72,32 +69,11 @@ add-read-i32-2 c = omega (arith, place (c .before), begun (first c) .pre .1)
 read-i32-requires-2 : tie.Need-read-i32-requires-2 Inv-loop μ-loop
 read-i32-requires-2 c κs = omega (arith, place (c .before), begun (first c) .pre .1)
 
-mul-forward : tie.Need-mul-forward Inv-loop μ-loop
-mul-forward c = search needs
-
-mul-forward-2 : tie.Need-mul-forward-2 Inv-loop μ-loop
-mul-forward-2 c = search needs
-
 slice-set-from-forward : tie.Need-slice-set-from-forward Inv-loop μ-loop
 slice-set-from-forward c = omega (arith, filled-length _ _ _ _ (turn c .loop .inv .1) (omega arith))
 
-mul-backward : tie.Need-mul-backward Inv-loop μ-loop
-mul-backward c = search needs
-
-add-backward : tie.Need-add-backward Inv-loop μ-loop
-add-backward c = search needs
-
-mul-backward-2 : tie.Need-mul-backward-2 Inv-loop μ-loop
-mul-backward-2 c = search needs
-
 slice-set-from-backward : tie.Need-slice-set-from-backward Inv-loop μ-loop
 slice-set-from-backward c = simp length-set (omega (arith, filled-length _ _ _ _ (turn c .loop .inv .1) (omega arith)))
-
-add-e : tie.Need-add-e Inv-loop μ-loop
-add-e c = search needs
-
-loop-less : tie.Need-loop-less Inv-loop μ-loop
-loop-less c = search needs
 
 loop-again : tie.Need-loop-again Inv-loop μ-loop
 loop-again c =
@@ -127,20 +103,20 @@ fill-limits-spec =
     μ-loop
     head-length-requires
     loop-holds
-    edge-at-requires
+    (λ c κs. search needs)
     add-read-i32
     read-i32-requires
     add-read-i32-2
     read-i32-requires-2
-    mul-forward
-    mul-forward-2
+    (λ c. search needs)
+    (λ c. search needs)
     slice-set-from-forward
-    mul-backward
-    add-backward
-    mul-backward-2
+    (λ c. search needs)
+    (λ c. search needs)
+    (λ c. search needs)
     slice-set-from-backward
-    add-e
-    loop-less
+    (λ c. search needs)
+    (λ c. search needs)
     loop-again
     same-length
     returns)

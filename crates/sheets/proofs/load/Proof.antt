@@ -26,24 +26,6 @@ begun c = c .before
 loop-holds : tie.Need-loop-holds Inv-loop μ-loop
 loop-holds c = (omega arith, filling-start _ (c .pre .0) (c .pre .2))
 
-mul-to : tie.Need-mul-to Inv-loop μ-loop
-mul-to c = search needs
-
-shared-slice-read-to : tie.Need-shared-slice-read-to Inv-loop μ-loop
-shared-slice-read-to c = search needs
-
-mul-to-2 : tie.Need-mul-to-2 Inv-loop μ-loop
-mul-to-2 c = search needs
-
-element-write-to : tie.Need-element-write-to Inv-loop μ-loop
-element-write-to c = search needs
-
-add-d : tie.Need-add-d Inv-loop μ-loop
-add-d c = search needs
-
-loop-less : tie.Need-loop-less Inv-loop μ-loop
-loop-less c = search needs
-
 loop-again : tie.Need-loop-again Inv-loop μ-loop
 loop-again c = let o = turn c in (omega arith, filling-step (o .loop .inv .1) _ (omega (arith, begun o .pre .1)) refl)
 
@@ -61,11 +43,11 @@ load-spec =
     Inv-loop
     μ-loop
     loop-holds
-    mul-to
-    shared-slice-read-to
-    mul-to-2
-    element-write-to
-    add-d
-    loop-less
+    (λ c. search needs)
+    (λ c. search needs)
+    (λ c. search needs)
+    (λ c. search needs)
+    (λ c. search needs)
+    (λ c. search needs)
     loop-again
     returns)

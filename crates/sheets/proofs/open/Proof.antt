@@ -1,6 +1,5 @@
 -- The arrays that the caller does not need are its own.
 use mathlib.Core.Path.{refl}
-use borrow.Author.Needs.{needs}
 use Rattle.arrays.proofs.FillLoops.{same-everywhere}
 use Rattle.sheets.proofs.open.Statement.{statement}
 use Rattle.sheets.proofs.open.Tie as tie

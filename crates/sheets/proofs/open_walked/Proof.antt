@@ -49,15 +49,6 @@ map-is c =
     (c .fill-rotations .ensures .1)
 
 -- ── the needs, in the order of the code ──
-check-bytes-requires : tie.Need-check-bytes-requires
-check-bytes-requires c κs = search needs
-
-enum-known-bytes : tie.Need-enum-known-bytes
-enum-known-bytes c = search needs
-
-refused-requires : tie.Need-refused-requires
-refused-requires c κs = search needs
-
 returns : tie.Need-returns
 returns c =
     let judged = c .before .before .before .before in
@@ -74,9 +65,6 @@ returns c =
       opens-refused _ _ _ _ _ _ e (rw (c .before .before .bytes .given .1) at (judged .check-bytes .ensures)),
       rw e tt,
     )
-
-enum-told : tie.Need-enum-told
-enum-told c = search needs
 
 nodes-of-requires : tie.Need-nodes-of-requires
 nodes-of-requires c κs = bytes-room (sheet c) (passed c) .0
@@ -158,11 +146,11 @@ pub open-walked-spec : {M : Type 1} → statement M
 open-walked-spec =
     tie.close
     (tie.spec
-    check-bytes-requires
-    enum-known-bytes
-    refused-requires
+    (λ c κs. search needs)
+    (λ c. search needs)
+    (λ c κs. search needs)
     returns
-    enum-told
+    (λ c. search needs)
     nodes-of-requires
     edges-of-requires
     outer-of-requires

@@ -59,16 +59,10 @@ filled-at c = roomy (tails-filled (rotations-filled c))
 open-requires : tie.Need-open-requires
 open-requires c κs = refl
 
-enum-known-verdict : tie.Need-enum-known-verdict
-enum-known-verdict c = search needs
-
 returns : tie.Need-returns
 returns c =
     let o = c .before .before .before .«open» in
     (read-refused _ _ _ _ _ _ (opens-first _ _ (o .result) (c .before .verdict .given .1) (o .ensures .1)), refl, refl, refl)
-
-enum-told : tie.Need-enum-told
-enum-told c = search needs
 
 mul-darts : tie.Need-mul-darts
 mul-darts c = omega (arith, few c .0)
@@ -100,15 +94,6 @@ narrow-requires-2 c κs = omega (arith, few (told (filled-at (c .before .before)
 narrow-requires-3 : tie.Need-narrow-requires-3
 narrow-requires-3 c κs = omega (arith, few (told (filled-at (c .before .before .before))) .2)
 
-same-length : tie.Need-same-length
-same-length c = search needs
-
-same-length-2 : tie.Need-same-length-2
-same-length-2 c = search needs
-
-same-length-3 : tie.Need-same-length-3
-same-length-3 c = search needs
-
 returns-5 : tie.Need-returns-5
 returns-5 c =
     let f = c .before .before .before .before in
@@ -133,9 +118,9 @@ read-spec =
     tie.close
     (tie.spec
     open-requires
-    enum-known-verdict
+    (λ c. search needs)
     returns
-    enum-told
+    (λ c. search needs)
     mul-darts
     returns-2
     returns-3
@@ -146,7 +131,7 @@ read-spec =
     narrow-requires
     narrow-requires-2
     narrow-requires-3
-    same-length
-    same-length-2
-    same-length-3
+    (λ c. search needs)
+    (λ c. search needs)
+    (λ c. search needs)
     returns-5)

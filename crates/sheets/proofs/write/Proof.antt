@@ -98,17 +98,8 @@ returns-2 c = (uneven (c .before .before .before .before .before) (inr (inl (c .
 returns-3 : tie.Need-returns-3
 returns-3 c = (uneven (c .before .before .before .before .before .before) (inr (inr (c .if3 .taken))), refl)
 
-wide-requires : tie.Need-wide-requires
-wide-requires c κs = search needs
-
-wide-requires-2 : tie.Need-wide-requires-2
-wide-requires-2 c κs = search needs
-
 check-slices-requires : tie.Need-check-slices-requires
 check-slices-requires c κs = let e = c .before .before in (same-rotations e, same-capacities e, e .if3 .left)
-
-enum-known-drawing : tie.Need-enum-known-drawing
-enum-known-drawing c = search needs
 
 returns-4 : tie.Need-returns-4
 returns-4 c =
@@ -119,12 +110,6 @@ returns-4 c =
           (same-rotations e) (same-capacities e) (e .if3 .left) _ _ (judged j (Refused _ _) (c .before .drawing .given .1)),
       refl,
     )
-
-enum-told : tie.Need-enum-told
-enum-told c = search needs
-
-record-length-requires : tie.Need-record-length-requires
-record-length-requires c κs = search needs
 
 edge-at-requires : tie.Need-edge-at-requires
 edge-at-requires c κs = (c .record-length .ensures .1, few (c .before))
@@ -152,9 +137,6 @@ write-edges-requires c κs =
     let e = sliced t in
     (same-rotations e, same-capacities e, omega (arith, e .if3 .left, few t), omega (arith, long (roomy h), head-length h))
 
-same-length : tie.Need-same-length
-same-length c = search needs
-
 returns-6 : tie.Need-returns-6
 returns-6 c =
     let w = c .before .before in
@@ -177,17 +159,17 @@ write-spec =
     returns
     returns-2
     returns-3
-    wide-requires
-    wide-requires-2
+    (λ c κs. search needs)
+    (λ c κs. search needs)
     check-slices-requires
-    enum-known-drawing
+    (λ c. search needs)
     returns-4
-    enum-told
-    record-length-requires
+    (λ c. search needs)
+    (λ c κs. search needs)
     edge-at-requires
     returns-5
     narrow-requires
     write-head-requires
     write-edges-requires
-    same-length
+    (λ c. search needs)
     returns-6)

@@ -84,83 +84,8 @@ kept c =
 loop-holds : tie.Need-loop-holds Inv-loop μ-loop
 loop-holds c = (omega arith, refl, λ nodes outer old e. write-start (drawn nodes outer (c .before .before .before .before)) old _ e)
 
-record-length-requires : tie.Need-record-length-requires Inv-loop μ-loop
-record-length-requires c κs = search needs
-
-edge-at-requires : tie.Need-edge-at-requires Inv-loop μ-loop
-edge-at-requires c κs = search needs
-
-mul-write-edge : tie.Need-mul-write-edge Inv-loop μ-loop
-mul-write-edge c = search needs
-
-mul-write-edge-2 : tie.Need-mul-write-edge-2 Inv-loop μ-loop
-mul-write-edge-2 c = search needs
-
-shared-slice-read-write-edge : tie.Need-shared-slice-read-write-edge Inv-loop μ-loop
-shared-slice-read-write-edge c = search needs
-
-mul-write-edge-3 : tie.Need-mul-write-edge-3 Inv-loop μ-loop
-mul-write-edge-3 c = search needs
-
-add-write-edge : tie.Need-add-write-edge Inv-loop μ-loop
-add-write-edge c = search needs
-
-mul-write-edge-4 : tie.Need-mul-write-edge-4 Inv-loop μ-loop
-mul-write-edge-4 c = search needs
-
-shared-slice-read-write-edge-2 : tie.Need-shared-slice-read-write-edge-2 Inv-loop μ-loop
-shared-slice-read-write-edge-2 c = search needs
-
-mul-write-edge-5 : tie.Need-mul-write-edge-5 Inv-loop μ-loop
-mul-write-edge-5 c = search needs
-
-mul-write-edge-6 : tie.Need-mul-write-edge-6 Inv-loop μ-loop
-mul-write-edge-6 c = search needs
-
-shared-slice-read-write-edge-3 : tie.Need-shared-slice-read-write-edge-3 Inv-loop μ-loop
-shared-slice-read-write-edge-3 c = search needs
-
-mul-write-edge-7 : tie.Need-mul-write-edge-7 Inv-loop μ-loop
-mul-write-edge-7 c = search needs
-
-add-write-edge-2 : tie.Need-add-write-edge-2 Inv-loop μ-loop
-add-write-edge-2 c = search needs
-
-mul-write-edge-8 : tie.Need-mul-write-edge-8 Inv-loop μ-loop
-mul-write-edge-8 c = search needs
-
-shared-slice-read-write-edge-4 : tie.Need-shared-slice-read-write-edge-4 Inv-loop μ-loop
-shared-slice-read-write-edge-4 c = search needs
-
-mul-write-edge-9 : tie.Need-mul-write-edge-9 Inv-loop μ-loop
-mul-write-edge-9 c = search needs
-
-mul-write-edge-10 : tie.Need-mul-write-edge-10 Inv-loop μ-loop
-mul-write-edge-10 c = search needs
-
-shared-slice-copy-out-write-edge : tie.Need-shared-slice-copy-out-write-edge Inv-loop μ-loop
-shared-slice-copy-out-write-edge c = search needs
-
-mul-write-edge-11 : tie.Need-mul-write-edge-11 Inv-loop μ-loop
-mul-write-edge-11 c = search needs
-
-add-write-edge-3 : tie.Need-add-write-edge-3 Inv-loop μ-loop
-add-write-edge-3 c = search needs
-
-mul-write-edge-12 : tie.Need-mul-write-edge-12 Inv-loop μ-loop
-mul-write-edge-12 c = search needs
-
-shared-slice-copy-out-write-edge-2 : tie.Need-shared-slice-copy-out-write-edge-2 Inv-loop μ-loop
-shared-slice-copy-out-write-edge-2 c = search needs
-
 write-edge-requires : tie.Need-write-edge-requires Inv-loop μ-loop
 write-edge-requires c κs = omega (arith, place (located c), turn c .loop .inv .1, begun c .pre .3)
-
-add-e : tie.Need-add-e Inv-loop μ-loop
-add-e c = search needs
-
-loop-less : tie.Need-loop-less Inv-loop μ-loop
-loop-less c = search needs
 
 loop-again : tie.Need-loop-again Inv-loop μ-loop
 loop-again c =
@@ -171,9 +96,6 @@ loop-again c =
       kept w ∙ o .inv .1,
       λ nodes outer old e. write-step (drawn nodes outer (begun a)) old (o .e) (o .out) _ (o .inv .2 nodes outer old e) (written w nodes outer),
     )
-
-same-length : tie.Need-same-length Inv-loop μ-loop
-same-length c = search needs
 
 returns : tie.Need-returns Inv-loop μ-loop
 returns c = λ nodes outer old e.
@@ -187,33 +109,33 @@ write-edges-spec =
     (tie.spec
     Inv-loop
     μ-loop
-    record-length-requires
+    (λ c κs. search needs)
     loop-holds
-    edge-at-requires
-    mul-write-edge
-    mul-write-edge-2
-    shared-slice-read-write-edge
-    mul-write-edge-3
-    add-write-edge
-    mul-write-edge-4
-    shared-slice-read-write-edge-2
-    mul-write-edge-5
-    mul-write-edge-6
-    shared-slice-read-write-edge-3
-    mul-write-edge-7
-    add-write-edge-2
-    mul-write-edge-8
-    shared-slice-read-write-edge-4
-    mul-write-edge-9
-    mul-write-edge-10
-    shared-slice-copy-out-write-edge
-    mul-write-edge-11
-    add-write-edge-3
-    mul-write-edge-12
-    shared-slice-copy-out-write-edge-2
+    (λ c κs. search needs)
+    (λ c. search needs)
+    (λ c. search needs)
+    (λ c. search needs)
+    (λ c. search needs)
+    (λ c. search needs)
+    (λ c. search needs)
+    (λ c. search needs)
+    (λ c. search needs)
+    (λ c. search needs)
+    (λ c. search needs)
+    (λ c. search needs)
+    (λ c. search needs)
+    (λ c. search needs)
+    (λ c. search needs)
+    (λ c. search needs)
+    (λ c. search needs)
+    (λ c. search needs)
+    (λ c. search needs)
+    (λ c. search needs)
+    (λ c. search needs)
+    (λ c. search needs)
     write-edge-requires
-    add-e
-    loop-less
+    (λ c. search needs)
+    (λ c. search needs)
     loop-again
-    same-length
+    (λ c. search needs)
     returns)

@@ -4,21 +4,6 @@ use Rattle.sheets.proofs.PlacedRecords.{head-placed}
 use Rattle.sheets.proofs.write_head.Statement.{statement}
 use Rattle.sheets.proofs.write_head.Tie as tie
 
-write-u8-requires : tie.Need-write-u8-requires
-write-u8-requires c κs = search needs
-
-write-u16-requires : tie.Need-write-u16-requires
-write-u16-requires c κs = search needs
-
-write-u16-requires-2 : tie.Need-write-u16-requires-2
-write-u16-requires-2 c κs = search needs
-
-write-u16-requires-3 : tie.Need-write-u16-requires-3
-write-u16-requires-3 c κs = search needs
-
-same-length : tie.Need-same-length
-same-length c = search needs
-
 -- ── the places, from the last field to the first ──
 abbrev edges-at : tie.After-write-u163 → tie.After-write-u162
 edges-at c = c .before .before .before .before
@@ -46,4 +31,4 @@ returns c =
 pub write-head-spec : {M : Type 1} → statement M
 write-head-spec =
     tie.close
-    (tie.spec write-u8-requires write-u16-requires write-u16-requires-2 write-u16-requires-3 same-length returns)
+    (tie.spec (λ c κs. search needs) (λ c κs. search needs) (λ c κs. search needs) (λ c κs. search needs) (λ c. search needs) returns)

@@ -7,12 +7,6 @@ use Rattle.signed.proofs.Laws.{number-of-bits, halved}
 use Rattle.signed.proofs.halve.Statement.{statement}
 use Rattle.signed.proofs.halve.Tie as tie
 
-to-bits-requires : tie.Need-to-bits-requires
-to-bits-requires c κs = search needs
-
-of-bits-requires : tie.Need-of-bits-requires
-of-bits-requires c κs = search needs
-
 returns : tie.Need-returns
 returns c =
     let s = c .before .before in
@@ -21,4 +15,4 @@ returns c =
     (number-of-bits _ (record { sfits = c .of-bits .ok }) ∙ c .of-bits .ensures)
 
 pub halve-spec : {M : Type 1} → statement M
-halve-spec = tie.close (tie.spec to-bits-requires of-bits-requires returns)
+halve-spec = tie.close (tie.spec (λ c κs. search needs) (λ c κs. search needs) returns)

@@ -8,20 +8,8 @@ use mir.Val.{toZ}
 use Rattle.signed.proofs.of_bits.Statement.{statement}
 use Rattle.signed.proofs.of_bits.Tie as tie
 
-cast-result : tie.Need-cast-result
-cast-result c = search needs
-
-sub-result : tie.Need-sub-result
-sub-result c = search needs
-
-cast-result-2 : tie.Need-cast-result-2
-cast-result-2 c = search needs
-
-returns : tie.Need-returns
-returns c = search needs
-
 returns-2 : tie.Need-returns-2
 returns-2 c = let n = c .before .args .n in let twice : 4294967295 - (4294967295 - n) ≡ n = omega (arith, c .before .fits .n) in ap (toZ w32) twice
 
 pub of-bits-spec : {M : Type 1} → statement M
-of-bits-spec = tie.close (tie.spec cast-result sub-result cast-result-2 returns returns-2)
+of-bits-spec = tie.close (tie.spec (λ c. search needs) (λ c. search needs) (λ c. search needs) (λ c. search needs) returns-2)

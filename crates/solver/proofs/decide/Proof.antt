@@ -1,10 +1,9 @@
 -- A question decided: darts at its ends, lengths, search, and the ways out, which are laws of `Deciding`.
-use mathlib.Core.Path.{_≡_, refl, sym, subst}
+use mathlib.Core.Path.{_≡_, refl, subst}
 use mathlib.Core.Bool.{Bool, true, false, true≢false}
 use mathlib.Core.List.{List}
-use Prim.Native.Nat.{ℕ, _*_, _<_}
+use Prim.Native.Nat.{ℕ, _<_}
 use native.Mathlib.Omega.{arith}
-use lib.ListN.{length}
 use lib.IntN.{ℤ}
 use borrow.Author.Needs.{needs}
 use Rattle.maps.specs.Map.{Map}
@@ -126,9 +125,6 @@ settle-all-requires c κs =
       λ queue long roots. searchable (s .args .lefts .now) (p .2) (p .3) (row (e .before)) (known e) queue long roots,
     )
 
-enum-known-outcome : tie.Need-enum-known-outcome
-enum-known-outcome c = search needs
-
 -- ── a ring: the dart that closes it ──
 abbrev joined : tie.After-settle-all → tie.Else1
 joined c = c .before .before .before .before
@@ -147,9 +143,6 @@ mul-wide c = omega (arith, closes c)
 
 element-copy-out-wide : tie.Need-element-copy-out-wide
 element-copy-out-wide c = omega (arith, closes c)
-
-wide-requires : tie.Need-wide-requires
-wide-requires c κs = search needs
 
 abbrev ringed-at : tie.After-wide → tie.After-outcome
 ringed-at c = c .before .before .before
@@ -205,9 +198,6 @@ named-ring c inside' made =
       made = rw (← c .wide .ensures) made;
     })
 
-same-length : tie.Need-same-length
-same-length c = search needs
-
 returns-2 : tie.Need-returns-2
 returns-2 c =
     let o = ringed-at (c .before .before .before .before) in
@@ -223,12 +213,6 @@ returns-2 c =
       s .settle-all .ensures .0,
       λ z. named-ring (c .before .before .before .before) inside' (e .2),
     )
-
-enum-told : tie.Need-enum-told
-enum-told c = search needs
-
-same-length-2 : tie.Need-same-length-2
-same-length-2 c = search needs
 
 returns-3 : tie.Need-returns-3
 returns-3 c =
@@ -255,13 +239,13 @@ decide-spec =
     cut-apart-requires
     returns
     settle-all-requires
-    enum-known-outcome
+    (λ c. search needs)
     mul-wide
     element-copy-out-wide
-    wide-requires
+    (λ c κs. search needs)
     cut-of-ring-requires
-    same-length
+    (λ c. search needs)
     returns-2
-    enum-told
-    same-length-2
+    (λ c. search needs)
+    (λ c. search needs)
     returns-3)

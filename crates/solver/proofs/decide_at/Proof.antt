@@ -1,5 +1,5 @@
 -- A question decided of the drawing with another outer dart: as `decide`, by the same laws of `Deciding`.
-use mathlib.Core.Path.{_≡_, refl}
+use mathlib.Core.Path.{refl}
 use mathlib.Core.List.{List}
 use Prim.Native.Nat.{ℕ, _<_}
 use native.Mathlib.Omega.{arith}
@@ -105,9 +105,6 @@ joined c = c .before .before .before .before .before
 abbrev lengthened : tie.After-settle → tie.After-cut-apart
 lengthened c = joined c .before
 
-enum-known-outcome : tie.Need-enum-known-outcome
-enum-known-outcome c = search needs
-
 -- ── a ring: the dart that closes it ──
 abbrev settled : tie.After-outcome → tie.After-settle
 settled c = c .before .before .before
@@ -127,9 +124,6 @@ mul-wide c = omega (arith, closes c)
 element-copy-out-wide : tie.Need-element-copy-out-wide
 element-copy-out-wide c = omega (arith, closes c)
 
-wide-requires : tie.Need-wide-requires
-wide-requires c κs = search needs
-
 abbrev ringed-at : tie.After-wide → tie.After-outcome
 ringed-at c = c .before .before .before
 
@@ -147,9 +141,6 @@ cut-of-ring-requires c κs =
           _ (w .wide .ensures) (searched-ring _ _ _ _ _ _ _ (o .outcome .given .1) (s .settle .ensures .1) .2),
     )
 
-same-length : tie.Need-same-length
-same-length c = search needs
-
 returns-2 : tie.Need-returns-2
 returns-2 c =
     let w = c .before .before .before .before in
@@ -164,12 +155,6 @@ returns-2 c =
           _ _ (c .cut-of-ring .last .1 .1 .1 .1 .1 .1 .1 .1 .1 .1 .1 .0)
           (searched-ring _ _ _ _ _ _ _ (o .outcome .given .1) (s .settle .ensures .1) .0) (k .1),
     )
-
-enum-told : tie.Need-enum-told
-enum-told c = search needs
-
-same-length-2 : tie.Need-same-length-2
-same-length-2 c = search needs
 
 -- ── settled ──
 returns-3 : tie.Need-returns-3
@@ -194,13 +179,13 @@ decide-at-spec =
     cut-apart-requires
     returns
     settle-requires
-    enum-known-outcome
+    (λ c. search needs)
     mul-wide
     element-copy-out-wide
-    wide-requires
+    (λ c κs. search needs)
     cut-of-ring-requires
-    same-length
+    (λ c. search needs)
     returns-2
-    enum-told
-    same-length-2
+    (λ c. search needs)
+    (λ c. search needs)
     returns-3)

@@ -19,9 +19,6 @@ decide-at-requires c κs =
     let e = r .fill-roots .ensures in
     (e .0, p .0, p .1, redrawn (p .3) (p .2), p .4, small-value (p .5), treed-of (p .3 .plane .sound) (p .6 .forest), p .6 .groups, e .1)
 
-same-length : tie.Need-same-length
-same-length c = search needs
-
 returns : tie.Need-returns
 returns c =
     let d = c .before in
@@ -35,4 +32,4 @@ returns c =
     )
 
 pub decide-from-spec : {M : Type 1} → statement M
-decide-from-spec = tie.close (tie.spec fill-roots-requires decide-at-requires same-length returns)
+decide-from-spec = tie.close (tie.spec fill-roots-requires decide-at-requires (λ c. search needs) returns)

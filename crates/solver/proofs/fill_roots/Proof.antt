@@ -8,9 +8,6 @@ use Prim.Native.Nat.{_*_}
 use Rattle.solver.proofs.fill_roots.Statement.{statement}
 use Rattle.solver.proofs.fill_roots.Tie as tie
 
-mul-first-faces : tie.Need-mul-first-faces
-mul-first-faces c = search needs
-
 first-faces-requires : tie.Need-first-faces-requires
 first-faces-requires c κs = let p = c .before .before .pre in (p .0, omega (arith, p .1), p .4)
 
@@ -22,9 +19,6 @@ returns c =
     let queue = c .first-faces .last .1 .1 .1 .1 .1 .1 .1 .0 in
     (e .0, subst (λ f. RootsOf (2 * a .edges) (at (a .rotations .now)) f (at (a .lefts .now)) (at queue) (a .trees)) (sym (t .if1 .taken)) (e .1))
 
-mul-roots-of : tie.Need-mul-roots-of
-mul-roots-of c = search needs
-
 roots-of-requires : tie.Need-roots-of-requires
 roots-of-requires c κs = let p = c .before .before .pre in (p .0, omega (arith, p .1), omega arith, p .2, p .3)
 
@@ -32,4 +26,4 @@ returns-2 : tie.Need-returns-2
 returns-2 c = c .roots-of .ensures
 
 pub fill-roots-spec : {M : Type 1} → statement M
-fill-roots-spec = tie.close (tie.spec mul-first-faces first-faces-requires returns mul-roots-of roots-of-requires returns-2)
+fill-roots-spec = tie.close (tie.spec (λ c. search needs) first-faces-requires returns (λ c. search needs) roots-of-requires returns-2)

@@ -1,7 +1,6 @@
 -- The search's answer, and where it is settled the flows: what `fill_flows` requires is `flowing`. The roots stand in the queue.
-use native.Mathlib.Omega.{arith}
-use mathlib.Core.Path.{_≡_, refl}
-use lib.ListN.{length, getD-replicate}
+use mathlib.Core.Path.{refl}
+use lib.ListN.{getD-replicate}
 use lib.IntN.{pos}
 use borrow.Author.Needs.{needs}
 use Rattle.search.specs.Level.{far}
@@ -11,9 +10,6 @@ use Rattle.solver.proofs.Naming.{searches-known}
 use Rattle.solver.proofs.settle.Statement.{statement}
 use Rattle.solver.proofs.settle.Tie as tie
 
-mul-search : tie.Need-mul-search
-mul-search c = search needs
-
 search-requires : tie.Need-search-requires
 search-requires c κs =
     let p = c .before .before .before .before .pre in
@@ -22,9 +18,6 @@ search-requires c κs =
 -- ── the search has answered ──
 abbrev begun : tie.After-search → tie.Start
 begun c = c .before .before .before .before .before
-
-enum-known-outcome : tie.Need-enum-known-outcome
-enum-known-outcome c = search needs
 
 returns : tie.Need-returns
 returns c =
@@ -37,18 +30,12 @@ returns c =
       (_, searches-known (c .before .outcome .given .1) went),
     )
 
-enum-told : tie.Need-enum-told
-enum-told c = search needs
-
 fill-flows-requires : tie.Need-fill-flows-requires
 fill-flows-requires c κs =
     let t = c .before .before in
     let s = t .before .before in
     let p = begun s .pre in
     (p .3, p .4, flowing (p .5) _ (rw (t .enum-told .given .1) at (s .search .ensures .0)))
-
-same-length : tie.Need-same-length
-same-length c = search needs
 
 returns-2 : tie.Need-returns-2
 returns-2 c =
@@ -61,4 +48,14 @@ returns-2 c =
     )
 
 pub settle-spec : {M : Type 1} → statement M
-settle-spec = tie.close (tie.spec mul-search search-requires enum-known-outcome returns enum-told fill-flows-requires same-length returns-2)
+settle-spec =
+    tie.close
+    (tie.spec
+    (λ c. search needs)
+    search-requires
+    (λ c. search needs)
+    returns
+    (λ c. search needs)
+    fill-flows-requires
+    (λ c. search needs)
+    returns-2)

@@ -1,13 +1,10 @@
 -- The faces at 0 stand in the queue, and the search is asked with them.
-use mathlib.Core.Path.{_≡_, refl, _∙_}
+use mathlib.Core.Path.{refl, _∙_}
 use native.Mathlib.Omega.{arith}
 use borrow.Author.Needs.{needs}
 use Rattle.arrays.proofs.FillLoops.{same-everywhere}
 use Rattle.solver.proofs.settle_all.Statement.{statement}
 use Rattle.solver.proofs.settle_all.Tie as tie
-
-mul-first-faces : tie.Need-mul-first-faces
-mul-first-faces c = search needs
 
 first-faces-requires : tie.Need-first-faces-requires
 first-faces-requires c κs =
@@ -21,9 +18,6 @@ settle-requires c κs =
     let o = f .first-faces .ensures in
     (p .0, o .0, p .1, p .2, p .3, p .6 _ (o .0) (o .1), p .5)
 
-same-length : tie.Need-same-length
-same-length c = search needs
-
 returns : tie.Need-returns
 returns c =
     let f = c .before .before .before .before .before in
@@ -32,4 +26,4 @@ returns c =
     (e .0, (_, o .0, o .1, e .1, record { are = o .2 .are; kept = λ i l. o .2 .kept i l ∙ same-everywhere 1024 0 i }, e .2))
 
 pub settle-all-spec : {M : Type 1} → statement M
-settle-all-spec = tie.close (tie.spec mul-first-faces first-faces-requires settle-requires same-length returns)
+settle-all-spec = tie.close (tie.spec (λ c. search needs) first-faces-requires settle-requires (λ c. search needs) returns)

@@ -3,8 +3,6 @@ use mathlib.Core.Path.{_≡_}
 use mathlib.Core.Bool.{Bool, true, false}
 use mathlib.Core.List.{List}
 use Prim.Native.Nat.{ℕ}
-use lib.Dec.{eqb}
-use lib.ListN.{getD}
 use lib.IntN.{ℤ}
 use Rattle.maps.specs.Map.{Map}
 use Rattle.flows.specs.Highest.{Highest}

@@ -15,7 +15,6 @@ use Rattle.maps.specs.Check.{Sound}
 use Rattle.arrays.specs.At.{at, atℤ}
 use Rattle.arrays.specs.Maps.{rightOf}
 use Rattle.traversal.specs.inner.Forest.{RootsHere}
-use Rattle.grouping.specs.Grouped.{Grouped}
 use Rattle.grouping.specs.inner.Walked.{Walked}
 use Rattle.lengths.specs.inner.Lengths.{Along}
 use Rattle.search.specs.Dual.{dualOf, WellFormed, Joined}

@@ -21,12 +21,6 @@ inside l =
     let o = l .loop in
     right-inside (a .n) (a .at) (a .text .now) (l .before .before .before .pre) (o .m) (o .i) (o .text) (o .inv)
 
-digit-count-requires : tie.Need-digit-count-requires Inv-loop μ-loop
-digit-count-requires c κs = search needs
-
-add-end : tie.Need-add-end Inv-loop μ-loop
-add-end c = search needs
-
 sub-i : tie.Need-sub-i Inv-loop μ-loop
 sub-i c = omega (arith, c .digit-count .ensures, decimal-positive (c .before .before .args .n))
 
@@ -34,9 +28,6 @@ loop-holds : tie.Need-loop-holds Inv-loop μ-loop
 loop-holds c =
     let a = c .before .before .args in
     right-start (a .n) (a .at) _ (a .text .now) (omega (arith, c .digit-count .ensures, decimal-positive (a .n)))
-
-last-digit-requires : tie.Need-last-digit-requires Inv-loop μ-loop
-last-digit-requires c κs = search needs
 
 slice-write-text : tie.Need-slice-write-text Inv-loop μ-loop
 slice-write-text c = inside (c .before .before)
@@ -48,9 +39,6 @@ sub-i-2 c =
     let o = l .loop in
     omega (arith, right-before (a .n) (a .at) (a .text .now) (l .before .before .before .pre) (o .m) (o .i) (o .text) (o .inv) (c .before .loop-test .taken))
 
-loop-less : tie.Need-loop-less Inv-loop μ-loop
-loop-less c = search needs
-
 loop-again : tie.Need-loop-again Inv-loop μ-loop
 loop-again c =
     let l = c .before .before in
@@ -58,9 +46,6 @@ loop-again c =
     let o = l .loop in
     right-step (a .n) (a .at) (a .text .now) (l .before .before .before .pre) (o .m) (o .i) (o .text)
     (o .inv) (c .last-digit .result) (c .last-digit .ensures) (c .before .loop-test .taken)
-
-last-digit-requires-2 : tie.Need-last-digit-requires-2 Inv-loop μ-loop
-last-digit-requires-2 c κs = search needs
 
 slice-write-text-2 : tie.Need-slice-write-text-2 Inv-loop μ-loop
 slice-write-text-2 c = inside (c .before .before)
@@ -89,16 +74,16 @@ put-decimal-spec =
     (tie.spec
     Inv-loop
     μ-loop
-    digit-count-requires
-    add-end
+    (λ c κs. search needs)
+    (λ c. search needs)
     sub-i
     loop-holds
-    last-digit-requires
+    (λ c κs. search needs)
     slice-write-text
     sub-i-2
-    loop-less
+    (λ c. search needs)
     loop-again
-    last-digit-requires-2
+    (λ c κs. search needs)
     slice-write-text-2
     same-length
     returns)

@@ -47,14 +47,8 @@ written c =
     ∙ put-behind (a .at) 45 (decimal (t .before .magnitude .result)) (a .text .now) (fits t)
     ∙ ap (λ s. put (a .at) s (a .text .now)) (with-minus t)
 
-magnitude-requires : tie.Need-magnitude-requires
-magnitude-requires c κs = search needs
-
 slice-write-text : tie.Need-slice-write-text
 slice-write-text c = omega (arith, fits c)
-
-add-put-decimal : tie.Need-add-put-decimal
-add-put-decimal c = search needs
 
 put-decimal-requires : tie.Need-put-decimal-requires
 put-decimal-requires c κs = simp length-set (omega (arith, fits (c .before)))
@@ -72,9 +66,6 @@ returns c =
     let t = c .before .before .before .before in
     (written (c .before .before), omega (arith, c .before .before .put-decimal .ensures .1, ap length (with-minus t)))
 
-same-length-2 : tie.Need-same-length-2
-same-length-2 c = search needs
-
 returns-2 : tie.Need-returns-2
 returns-2 c =
     let t = c .before .before .before .before in
@@ -87,12 +78,12 @@ pub put-number-spec : {M : Type 1} → statement M
 put-number-spec =
     tie.close
     (tie.spec
-    magnitude-requires
+    (λ c κs. search needs)
     slice-write-text
-    add-put-decimal
+    (λ c. search needs)
     put-decimal-requires
     put-decimal-requires-2
     same-length
     returns
-    same-length-2
+    (λ c. search needs)
     returns-2)

@@ -3,7 +3,6 @@ use mathlib.Core.Path.{sym, _∙_, ap, _≡_, subst}
 use mathlib.Core.Bool.{false}
 use Prim.Native.Nat.{ℕ, _<_}
 use native.Mathlib.Omega.{arith}
-use lib.Dec.{eqb}
 use lib.ListN.{length}
 use lib.IntN.{ℤ, pos, _+ℤ_}
 use lib.Signed.{_<ℤ_, ltZ}
@@ -90,9 +89,6 @@ total-requires c κs =
     let ok = c .before .before .before .before .before .pre .1 in
     (ok .few-darts, ok .even, (λ d l. omega (arith, ok .tail-in d l, ok .few-nodes)), ok .short)
 
-is-negative-requires : tie.Need-is-negative-requires Inv-loop μ-loop
-is-negative-requires c κs = search needs
-
 plus-requires : tie.Need-plus-requires Inv-loop μ-loop
 plus-requires c κs = limited-fits mostHeight _ (omega arith) (trying-next (c .before .before .before .before .loop .inv .2) (goes-on c))
 
@@ -133,7 +129,7 @@ choose-set-spec =
     flag-above-requires
     loop-holds
     total-requires
-    is-negative-requires
+    (λ c κs. search needs)
     plus-requires
     flag-above-requires-2
     loop-less

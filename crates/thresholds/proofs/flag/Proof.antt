@@ -6,9 +6,6 @@ use Rattle.signed.proofs.Laws.{number-of-bits}
 use Rattle.thresholds.proofs.flag.Statement.{statement}
 use Rattle.thresholds.proofs.flag.Tie as tie
 
-is-above-requires : tie.Need-is-above-requires
-is-above-requires c κs = search needs
-
 returns : tie.Need-returns
 returns c =
     let s = c .before .before in
@@ -20,4 +17,4 @@ returns-2 c =
     sym (c .if1 .left) ∙ c .before .is-above .ensures ∙ ap₂ ltZ (number-of-bits _ (s .fits .threshold)) (number-of-bits _ (s .fits .x))
 
 pub flag-spec : {M : Type 1} → statement M
-flag-spec = tie.close (tie.spec is-above-requires returns returns-2)
+flag-spec = tie.close (tie.spec (λ c κs. search needs) returns returns-2)

@@ -16,27 +16,9 @@ Inv-loop heights nodes low₀ v₀ low v = (v ≤ nodes) × Low nodes (atℤ hei
 abbrev μ-loop : tie.MeasureT-loop
 μ-loop heights nodes low₀ v₀ low v = nodes - v
 
-element-copy-out-low : tie.Need-element-copy-out-low Inv-loop μ-loop
-element-copy-out-low c = search needs
-
 loop-holds : tie.Need-loop-holds Inv-loop μ-loop
 loop-holds c =
     (omega arith, low-start _ _ _ (c .before .pre .0) (number-of-bits _ (record { sfits = c .low .given })))
-
-mul-lower : tie.Need-mul-lower Inv-loop μ-loop
-mul-lower c = search needs
-
-element-copy-out-lower : tie.Need-element-copy-out-lower Inv-loop μ-loop
-element-copy-out-lower c = search needs
-
-lower-requires : tie.Need-lower-requires Inv-loop μ-loop
-lower-requires c κs = search needs
-
-add-v : tie.Need-add-v Inv-loop μ-loop
-add-v c = search needs
-
-loop-less : tie.Need-loop-less Inv-loop μ-loop
-loop-less c = search needs
 
 loop-again : tie.Need-loop-again Inv-loop μ-loop
 loop-again c =
@@ -59,12 +41,12 @@ lowest-spec =
     (tie.spec
     Inv-loop
     μ-loop
-    element-copy-out-low
+    (λ c. search needs)
     loop-holds
-    mul-lower
-    element-copy-out-lower
-    lower-requires
-    add-v
-    loop-less
+    (λ c. search needs)
+    (λ c. search needs)
+    (λ c κs. search needs)
+    (λ c. search needs)
+    (λ c. search needs)
     loop-again
     returns)

@@ -28,15 +28,6 @@ whole : (c : tie.After-enum-told) → 9 ≤ length (begin (c .before .before) .a
 whole c = question-whole (begin (c .before .before) .args .input .now) (passed c)
 
 -- ── the needs, in the order of the code ──
-check-record-requires : tie.Need-check-record-requires
-check-record-requires c κs = search needs
-
-enum-known-whole : tie.Need-enum-known-whole
-enum-known-whole c = search needs
-
-put-refused-requires : tie.Need-put-refused-requires
-put-refused-requires c κs = search needs
-
 returns : tie.Need-returns
 returns c =
     let w = c .before .before .before in
@@ -44,38 +35,17 @@ returns c =
     let s = begin k in
     question-refused (s .args .input .now) (s .args .text .now) _ _ _ _ (judged k (Refused _ _) (w .whole .given .1)) (c .put-refused .ensures)
 
-enum-told : tie.Need-enum-told
-enum-told c = search needs
-
 read-u16-requires : tie.Need-read-u16-requires
 read-u16-requires c κs = omega (arith, whole c)
 
 read-u16-requires-2 : tie.Need-read-u16-requires-2
 read-u16-requires-2 c κs = omega (arith, whole (c .before))
 
-record-length-requires : tie.Need-record-length-requires
-record-length-requires c κs = search needs
-
 sub-write-dimacs : tie.Need-sub-write-dimacs
 sub-write-dimacs c = omega (arith, whole (c .before .before .before), c .record-length .ensures .0)
 
 part-write-dimacs-start : tie.Need-part-write-dimacs-start
 part-write-dimacs-start c = omega (arith, whole (c .before .before .before), c .record-length .ensures .0)
-
-part-write-dimacs-end : tie.Need-part-write-dimacs-end
-part-write-dimacs-end c = search needs
-
-write-dimacs-requires : tie.Need-write-dimacs-requires
-write-dimacs-requires c κs = search needs
-
-enum-known-answer : tie.Need-enum-known-answer
-enum-known-answer c = search needs
-
-enum-known-answer-2 : tie.Need-enum-known-answer-2
-enum-known-answer-2 c = search needs
-
-put-refused-requires-2 : tie.Need-put-refused-requires-2
-put-refused-requires-2 c κs = search needs
 
 returns-2 : tie.Need-returns-2
 returns-2 c =
@@ -106,20 +76,20 @@ pub put-text-spec : {M : Type 1} → statement M
 put-text-spec =
     tie.close
     (tie.spec
-    check-record-requires
-    enum-known-whole
-    put-refused-requires
+    (λ c κs. search needs)
+    (λ c. search needs)
+    (λ c κs. search needs)
     returns
-    enum-told
+    (λ c. search needs)
     read-u16-requires
     read-u16-requires-2
-    record-length-requires
+    (λ c κs. search needs)
     sub-write-dimacs
     part-write-dimacs-start
-    part-write-dimacs-end
-    write-dimacs-requires
-    enum-known-answer
-    enum-known-answer-2
-    put-refused-requires-2
+    (λ c. search needs)
+    (λ c κs. search needs)
+    (λ c. search needs)
+    (λ c. search needs)
+    (λ c κs. search needs)
     returns-2
     returns-3)

@@ -23,15 +23,6 @@ loop-holds c = (omega arith, omega arith, refl)
 contains-requires : tie.Need-contains-requires Inv-loop μ-loop
 contains-requires c κs = let s = c .before .before .before in omega (arith, s .pre .0, s .pre .1, c .loop-test .taken)
 
-add-members : tie.Need-add-members Inv-loop μ-loop
-add-members c = search needs
-
-add-v : tie.Need-add-v Inv-loop μ-loop
-add-v c = search needs
-
-loop-less : tie.Need-loop-less Inv-loop μ-loop
-loop-less c = search needs
-
 loop-again : tie.Need-loop-again Inv-loop μ-loop
 loop-again c =
     let o = c .before .before .before .loop in
@@ -57,8 +48,8 @@ count-members-spec =
     μ-loop
     loop-holds
     contains-requires
-    add-members
-    add-v
-    loop-less
+    (λ c. search needs)
+    (λ c. search needs)
+    (λ c. search needs)
     loop-again
     returns)

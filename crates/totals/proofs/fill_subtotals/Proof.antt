@@ -1,9 +1,8 @@
 -- Invariant: the subtotals of the nodes below `next` that are in the set are written and added (`Filling`).
 use mathlib.Core.Path.{_≡_, refl, sym, _∙_, ap}
 use mathlib.Core.Bool.{true}
-use Prim.Native.Nat.{ℕ, _-_, _*_, _≤_, _<_}
+use Prim.Native.Nat.{_-_, _*_, _≤_, _<_}
 use native.Mathlib.Omega.{arith}
-use lib.ListN.{length}
 use mir.Syntax.{w32, w64}
 use mir.Val.{toZ, ofZ}
 use mir.ValLaws.{toZ-ofZ}
@@ -46,9 +45,6 @@ mul-wide c = let t = c .before .before in omega (arith, t .loop-test .taken, beg
 
 element-copy-out-wide : tie.Need-element-copy-out-wide Inv-loop μ-loop
 element-copy-out-wide c = let t = c .before .before in omega (arith, t .loop-test .taken, begun t .pre .0)
-
-wide-requires : tie.Need-wide-requires Inv-loop μ-loop
-wide-requires c κs = search needs
 
 -- its dart in the table is one of the darts, and leaves it
 start-at : (c : tie.After-wide Inv-loop μ-loop)
@@ -148,7 +144,7 @@ fill-subtotals-spec =
     contains-requires
     mul-wide
     element-copy-out-wide
-    wide-requires
+    (λ c κs. search needs)
     round-total-requires
     plus-wide-requires
     mul-sum

@@ -1,9 +1,6 @@
 -- `share` meets its contract: the dart's capacity where its head is outside the set, and 0 elsewhere.
-use mathlib.Core.Path.{_≡_, refl, sym, _∙_, ap}
+use mathlib.Core.Path.{_≡_, sym, _∙_, ap}
 use mathlib.Core.Bool.{not}
-use Prim.Native.Nat.{_/_, _<_}
-use native.Mathlib.Omega.{arith}
-use lib.ListN.{length}
 use borrow.Author.Needs.{needs}
 use Rattle.signed.proofs.Laws.{number-of-bits}
 use Rattle.maps.specs.Dart.{rev}
@@ -24,24 +21,6 @@ inside-is : (c : tie.After-contains)
     (at (c .before .before .before .before .before .before .args .tails .now) (rev (c .before .before .before .before .before .before .args .d)))
 inside-is c = c .contains .ensures ∙ ap (member (c .before .before .before .before .before .before .args .set .now)) (head-is (c .before .before))
 
-reverse-requires : tie.Need-reverse-requires
-reverse-requires c κs = search needs
-
-mul-wide : tie.Need-mul-wide
-mul-wide c = search needs
-
-element-copy-out-wide : tie.Need-element-copy-out-wide
-element-copy-out-wide c = search needs
-
-wide-requires : tie.Need-wide-requires
-wide-requires c κs = search needs
-
-mul-limit : tie.Need-mul-limit
-mul-limit c = search needs
-
-element-copy-out-limit : tie.Need-element-copy-out-limit
-element-copy-out-limit c = search needs
-
 contains-requires : tie.Need-contains-requires
 contains-requires c κs = let s = c .before .before .before .before .before in rw (head-is (c .before)) (s .pre .1)
 
@@ -56,12 +35,12 @@ pub share-spec : {M : Type 1} → statement M
 share-spec =
     tie.close
     (tie.spec
-    reverse-requires
-    mul-wide
-    element-copy-out-wide
-    wide-requires
-    mul-limit
-    element-copy-out-limit
+    (λ c κs. search needs)
+    (λ c. search needs)
+    (λ c. search needs)
+    (λ c κs. search needs)
+    (λ c. search needs)
+    (λ c. search needs)
     contains-requires
     returns
     returns-2)

@@ -1,6 +1,6 @@
 -- `totals_of` meets its contract: refused where a slice is too short, and else the subtotals and their sum.
-use mathlib.Core.Path.{_≡_, refl, sym, _∙_, ap}
-use Prim.Native.Nat.{ℕ, _*_, _≤_, _<_}
+use mathlib.Core.Path.{_≡_, refl, _∙_}
+use Prim.Native.Nat.{_≤_}
 use native.Mathlib.Omega.{arith}
 use lib.ListN.{length}
 use mir.Syntax.{w64}
@@ -75,9 +75,6 @@ narrow-requires c κs =
     let p = begun (passed (c .before)) .pre in
     rw (sum-is (c .before)) (total-fits (p .2 .range) _ _ (p .1) (p .3))
 
-same-length : tie.Need-same-length
-same-length c = search needs
-
 returns-3 : tie.Need-returns-3
 returns-3 c =
     let f = c .before .before in
@@ -100,5 +97,5 @@ totals-of-spec =
     fill-starts-requires
     fill-subtotals-requires
     narrow-requires
-    same-length
+    (λ c. search needs)
     returns-3)

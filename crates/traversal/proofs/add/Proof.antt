@@ -8,26 +8,8 @@ use Rattle.traversal.proofs.Spreading.{added-old, added-new}
 use Rattle.traversal.proofs.add.Statement.{statement}
 use Rattle.traversal.proofs.add.Tie as tie
 
-mul-if1 : tie.Need-mul-if1
-mul-if1 c = search needs
-
-element-copy-out-if1 : tie.Need-element-copy-out-if1
-element-copy-out-if1 c = search needs
-
 returns : tie.Need-returns
 returns c = let p = c .before .before .pre in (p .0, p .1, added-old (c .if1 .taken))
-
-narrow-requires : tie.Need-narrow-requires
-narrow-requires c κs = search needs
-
-mul-from : tie.Need-mul-from
-mul-from c = search needs
-
-element-write-from : tie.Need-element-write-from
-element-write-from c = search needs
-
-narrow-requires-2 : tie.Need-narrow-requires-2
-narrow-requires-2 c κs = search needs
 
 mul-order : tie.Need-mul-order
 mul-order c = omega (arith, c .before .before .before .before .pre .4 (c .before .before .if1 .left))
@@ -56,13 +38,13 @@ pub add-spec : {M : Type 1} → statement M
 add-spec =
     tie.close
     (tie.spec
-    mul-if1
-    element-copy-out-if1
+    (λ c. search needs)
+    (λ c. search needs)
     returns
-    narrow-requires
-    mul-from
-    element-write-from
-    narrow-requires-2
+    (λ c κs. search needs)
+    (λ c. search needs)
+    (λ c. search needs)
+    (λ c κs. search needs)
     mul-order
     element-write-order
     add-result

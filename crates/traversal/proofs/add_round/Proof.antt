@@ -10,7 +10,7 @@ use Rattle.arrays.specs.At.{at}
 use Rattle.traversal.specs.inner.Mark.{unmarked}
 use Rattle.traversal.specs.inner.Forest.{Growing}
 use Rattle.traversal.specs.inner.FirstCome.{FirstCome}
-use Rattle.traversal.proofs.Spreading.{few, room, added-grew, growing-added}
+use Rattle.traversal.proofs.Spreading.{room, added-grew, growing-added}
 use Rattle.traversal.proofs.Rounding.{Rounding, stay, rounding-start, rounding-on, rounding-end, rounding-merged, rounding-astray}
 use Rattle.traversal.proofs.Coming.{first-come-added, comes-turned, parted-owned}
 use Rattle.traversal.proofs.add_round.Statement.{statement}
@@ -54,9 +54,6 @@ mul-wide c = omega (arith, c .pre .3, c .pre .6)
 element-copy-out-wide : tie.Need-element-copy-out-wide Inv-loop μ-loop
 element-copy-out-wide c = omega (arith, c .pre .3, c .pre .6)
 
-wide-requires : tie.Need-wide-requires Inv-loop μ-loop
-wide-requires c κs = search needs
-
 mul-if1 : tie.Need-mul-if1 Inv-loop μ-loop
 mul-if1 c = omega (arith, node-below c)
 
@@ -92,9 +89,6 @@ mul-wide-2 c = let p = begun (named (free c)) .pre in omega (arith, p .3, p .6)
 
 element-copy-out-wide-2 : tie.Need-element-copy-out-wide-2 Inv-loop μ-loop
 element-copy-out-wide-2 c = let p = begun (named (free c)) .pre in omega (arith, p .3, p .6)
-
-wide-requires-2 : tie.Need-wide-requires-2 Inv-loop μ-loop
-wide-requires-2 c κs = search needs
 
 add-requires : tie.Need-add-requires Inv-loop μ-loop
 add-requires c κs =
@@ -169,9 +163,6 @@ mul-wide-3 c = omega (arith, next-below (at-loop c), start (at-loop c) .pre .3)
 element-copy-out-wide-3 : tie.Need-element-copy-out-wide-3 Inv-loop μ-loop
 element-copy-out-wide-3 c = omega (arith, next-below (at-loop c), start (at-loop c) .pre .3)
 
-wide-requires-3 : tie.Need-wide-requires-3 Inv-loop μ-loop
-wide-requires-3 c κs = search needs
-
 returns-3 : tie.Need-returns-3 Inv-loop μ-loop
 returns-3 c =
     let l = at-loop (c .before .before .before) in
@@ -207,9 +198,6 @@ mul-wide-4 c = let l = at-loop (fresh (joined c)) in omega (arith, next-below l,
 
 element-copy-out-wide-4 : tie.Need-element-copy-out-wide-4 Inv-loop μ-loop
 element-copy-out-wide-4 c = let l = at-loop (fresh (joined c)) in omega (arith, next-below l, start l .pre .3)
-
-wide-requires-4 : tie.Need-wide-requires-4 Inv-loop μ-loop
-wide-requires-4 c κs = search needs
 
 loop-less : tie.Need-loop-less Inv-loop μ-loop
 loop-less c =
@@ -278,7 +266,7 @@ add-round-spec =
     μ-loop
     mul-wide
     element-copy-out-wide
-    wide-requires
+    (λ c κs. search needs)
     mul-if1
     element-copy-out-if1
     returns
@@ -288,7 +276,7 @@ add-round-spec =
     element-write-owner
     mul-wide-2
     element-copy-out-wide-2
-    wide-requires-2
+    (λ c κs. search needs)
     add-requires
     loop-holds
     mul-if2
@@ -296,12 +284,12 @@ add-round-spec =
     returns-2
     mul-wide-3
     element-copy-out-wide-3
-    wide-requires-3
+    (λ c κs. search needs)
     returns-3
     add-requires-2
     mul-wide-4
     element-copy-out-wide-4
-    wide-requires-4
+    (λ c κs. search needs)
     loop-less
     loop-again
     returns-4)

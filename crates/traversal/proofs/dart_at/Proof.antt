@@ -1,5 +1,5 @@
 -- Invariant: a dart that leaves v is at d or further on. The loop ends where it stands at such a dart.
-use mathlib.Core.Path.{_≡_, sym, _∙_}
+use mathlib.Core.Path.{sym, _∙_}
 use mathlib.Core.Logic.{_≢_}
 use Prim.Native.Nat.{ℕ, _-_, _<_}
 use native.Mathlib.Omega.{arith}
@@ -24,9 +24,6 @@ mul-wide c = omega (arith, c .before .pre .0, ahead-in (c .loop .inv .0))
 
 element-copy-out-wide : tie.Need-element-copy-out-wide Inv-loop μ-loop
 element-copy-out-wide c = omega (arith, c .before .pre .0, ahead-in (c .loop .inv .0))
-
-wide-requires : tie.Need-wide-requires Inv-loop μ-loop
-wide-requires c κs = search needs
 
 add-d : tie.Need-add-d Inv-loop μ-loop
 add-d c = omega (arith, c .before .before .before .before .pre .0, ahead-in (c .before .before .before .loop .inv .0))
@@ -55,7 +52,7 @@ dart-at-spec =
     loop-holds
     mul-wide
     element-copy-out-wide
-    wide-requires
+    (λ c κs. search needs)
     add-d
     loop-less
     loop-again

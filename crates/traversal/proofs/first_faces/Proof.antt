@@ -41,9 +41,6 @@ mul-wide c = omega (arith, begun (c .before) .pre .1, place-in c)
 element-copy-out-wide : tie.Need-element-copy-out-wide Inv-loop μ-loop
 element-copy-out-wide c = omega (arith, begun (c .before) .pre .1, place-in c)
 
-wide-requires : tie.Need-wide-requires Inv-loop μ-loop
-wide-requires c κs = search needs
-
 -- the dart at place i
 abbrev turn : tie.After-wide Inv-loop μ-loop → tie.In-loop Inv-loop μ-loop
 turn c = c .before .before
@@ -62,9 +59,6 @@ mul-wide-2 c = omega (arith, dart-below c, few (turn c))
 
 element-copy-out-wide-2 : tie.Need-element-copy-out-wide-2 Inv-loop μ-loop
 element-copy-out-wide-2 c = omega (arith, dart-below c, few (turn c))
-
-wide-requires-2 : tie.Need-wide-requires-2 Inv-loop μ-loop
-wide-requires-2 c κs = search needs
 
 -- it begins a tree, the next one
 abbrev met : tie.After-wide2 Inv-loop μ-loop → tie.After-wide Inv-loop μ-loop
@@ -157,11 +151,11 @@ first-faces-spec =
     loop-holds
     mul-wide
     element-copy-out-wide
-    wide-requires
+    (λ c κs. search needs)
     add-i
     mul-wide-2
     element-copy-out-wide-2
-    wide-requires-2
+    (λ c κs. search needs)
     mul-roots
     element-copy-out-roots
     mul-roots-2

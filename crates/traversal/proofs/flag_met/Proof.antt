@@ -1,6 +1,6 @@
 -- First all flags are cleared; then those of the darts before `next` are right (`FlagsMet`).
 use mathlib.Core.Path.{_≡_, subst, sym, _∙_, ap}
-use Prim.Native.Nat.{ℕ, _+_, _-_, _≤_, _<_}
+use Prim.Native.Nat.{ℕ, _-_, _≤_, _<_}
 use native.Mathlib.Omega.{arith}
 use lib.ListN.{length, set, length-set}
 use lib.Seq.{getD-set-same, getD-set-other}
@@ -26,15 +26,6 @@ abbrev μ-loop2 : tie.MeasureT-loop2
 
 loop-holds : tie.Need-loop-holds Inv-loop μ-loop Inv-loop2 μ-loop2
 loop-holds c = (omega arith, c .pre .0, λ d l. absurd (omega arith))
-
-element-write-inside : tie.Need-element-write-inside Inv-loop μ-loop Inv-loop2 μ-loop2
-element-write-inside c = search needs
-
-add-v : tie.Need-add-v Inv-loop μ-loop Inv-loop2 μ-loop2
-add-v c = search needs
-
-loop-less : tie.Need-loop-less Inv-loop μ-loop Inv-loop2 μ-loop2
-loop-less c = search needs
 
 loop-again : tie.Need-loop-again Inv-loop μ-loop Inv-loop2 μ-loop2
 loop-again c =
@@ -70,9 +61,6 @@ mul-wide c = omega (arith, below (c .before .before))
 
 element-copy-out-wide : tie.Need-element-copy-out-wide Inv-loop μ-loop Inv-loop2 μ-loop2
 element-copy-out-wide c = omega (arith, below (c .before .before))
-
-wide-requires : tie.Need-wide-requires Inv-loop μ-loop Inv-loop2 μ-loop2
-wide-requires c κs = search needs
 
 abbrev turn : tie.After-wide Inv-loop μ-loop Inv-loop2 μ-loop2 → tie.In-loop2 Inv-loop μ-loop Inv-loop2 μ-loop2
 turn c = c .before .before .before .before
@@ -126,9 +114,9 @@ flag-met-spec =
     Inv-loop2
     μ-loop2
     loop-holds
-    element-write-inside
-    add-v
-    loop-less
+    (λ c. search needs)
+    (λ c. search needs)
+    (λ c. search needs)
     loop-again
     loop2-holds
     add-next
@@ -136,7 +124,7 @@ flag-met-spec =
     element-copy-out-if1
     mul-wide
     element-copy-out-wide
-    wide-requires
+    (λ c κs. search needs)
     element-write-inside-2
     loop2-less
     loop2-again

@@ -52,17 +52,11 @@ mul-wide c = omega (arith, few (c .before .loop .inv .2), begun (c .before) .pre
 element-copy-out-wide : tie.Need-element-copy-out-wide Inv-loop μ-loop
 element-copy-out-wide c = omega (arith, few (c .before .loop .inv .2), begun (c .before) .pre .2)
 
-wide-requires : tie.Need-wide-requires Inv-loop μ-loop
-wide-requires c κs = search needs
-
 mul-wide-2 : tie.Need-mul-wide-2 Inv-loop μ-loop
 mul-wide-2 c = omega (arith, dart-below c, begun (at-loop c) .pre .2)
 
 element-copy-out-wide-2 : tie.Need-element-copy-out-wide-2 Inv-loop μ-loop
 element-copy-out-wide-2 c = omega (arith, dart-below c, begun (at-loop c) .pre .2)
-
-wide-requires-2 : tie.Need-wide-requires-2 Inv-loop μ-loop
-wide-requires-2 c κs = search needs
 
 -- and so is its rotation
 turn-below : (c : tie.After-wide2 Inv-loop μ-loop) → c .wide2 .result < begun (at-loop (c .before .before)) .args .darts
@@ -171,10 +165,10 @@ grow-spec =
     loop-holds
     mul-wide
     element-copy-out-wide
-    wide-requires
+    (λ c κs. search needs)
     mul-wide-2
     element-copy-out-wide-2
-    wide-requires-2
+    (λ c κs. search needs)
     add-requires-2
     reverse-requires
     add-requires-3

@@ -1,7 +1,7 @@
 -- A tree, round by round. Invariant: unless a round failed, the trees so far, whole rounds, and that marks stay.
 use mathlib.Core.Path.{_≡_, sym, _∙_, ap, subst}
 use mathlib.Core.Logic.{inl, _≢_}
-use Prim.Native.Nat.{ℕ, _+_, _*_, _/_, _-_, _≤_, _<_}
+use Prim.Native.Nat.{ℕ, _+_, _*_, _/_, _-_, _<_}
 use native.Mathlib.Omega.{arith}
 use lib.ListN.{length}
 use borrow.Author.Needs.{needs}
@@ -72,9 +72,6 @@ mul-wide c = omega (arith, few (grown c), begun (c .before) .pre .3, c .loop-tes
 
 element-copy-out-wide : tie.Need-element-copy-out-wide Inv-loop μ-loop
 element-copy-out-wide c = omega (arith, few (grown c), begun (c .before) .pre .3, c .loop-test .taken, c .before .loop .inv .0)
-
-wide-requires : tie.Need-wide-requires Inv-loop μ-loop
-wide-requires c κs = search needs
 
 -- the dart at the head, and its reverse, are below the number of darts
 abbrev in-loop : tie.After-wide Inv-loop μ-loop → tie.In-loop Inv-loop μ-loop
@@ -231,7 +228,7 @@ grow-rounds-spec =
     loop-holds
     mul-wide
     element-copy-out-wide
-    wide-requires
+    (λ c κs. search needs)
     reverse-requires
     add-head
     mul-if1

@@ -6,14 +6,8 @@ use borrow.Author.Needs.{needs}
 use Rattle.traversal.proofs.is_met.Statement.{statement}
 use Rattle.traversal.proofs.is_met.Tie as tie
 
-mul-result : tie.Need-mul-result
-mul-result c = search needs
-
-element-copy-out-result : tie.Need-element-copy-out-result
-element-copy-out-result c = search needs
-
 returns : tie.Need-returns
 returns c = decides-ne (at (c .before .args .from .now) (c .before .args .d)) unmarked (λ h. h) (λ e h. h e)
 
 pub is-met-spec : {M : Type 1} → statement M
-is-met-spec = tie.close (tie.spec mul-result element-copy-out-result returns)
+is-met-spec = tie.close (tie.spec (λ c. search needs) (λ c. search needs) returns)

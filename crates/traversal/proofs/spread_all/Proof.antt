@@ -1,11 +1,9 @@
 -- Tree by tree. Invariant: the trees so far are whole, there is one, and every dart below `next` is marked.
 use mathlib.Core.Path.{_≡_, refl}
 use mathlib.Core.Logic.{_≢_, inl, inr}
-use Prim.Native.Nat.{ℕ, _+_, _-_, _≤_, _<_}
+use Prim.Native.Nat.{ℕ, _-_, _≤_, _<_}
 use native.Mathlib.Omega.{arith}
-use native.Mathlib.Decide.{ℕ-discrete}
 use lib.ListN.{length}
-use borrow.Author.Needs.{needs}
 use borrow.Author.Count.{below-more}
 use Rattle.arrays.specs.At.{at}
 use Rattle.traversal.specs.inner.Mark.{unmarked}

@@ -2,17 +2,16 @@
 -- yet, `next` is a dart.
 use mathlib.Core.Path.{_≡_, refl}
 use mathlib.Core.Logic.{_≢_, inl, inr}
-use Prim.Native.Nat.{ℕ, _+_, _-_, _≤_, _<_}
+use Prim.Native.Nat.{ℕ, _-_, _<_}
 use native.Mathlib.Omega.{arith}
 use lib.ListN.{length}
-use borrow.Author.Needs.{needs}
 use borrow.Author.Count.{below-more}
 use Rattle.arrays.specs.At.{at}
 use Rattle.traversal.specs.inner.Mark.{unmarked}
 use Rattle.traversal.specs.inner.Forest.{Growing}
 use Rattle.traversal.specs.inner.Rounds.{Rounds}
 use Rattle.traversal.specs.inner.FirstCome.{FirstCome, RoundedOff}
-use Rattle.traversal.proofs.Spreading.{few, trees-few, growing-none, some-left, all-marked, all-grown}
+use Rattle.traversal.proofs.Spreading.{trees-few, growing-none, some-left, all-marked, all-grown}
 use Rattle.traversal.proofs.Rounding.{rounds-none}
 use Rattle.traversal.proofs.Coming.{none-came}
 use Rattle.traversal.proofs.spread_rounds.Statement.{statement}

@@ -21,18 +21,6 @@ abbrev μ-loop : tie.MeasureT-loop
 loop-holds : tie.Need-loop-holds Inv-loop μ-loop
 loop-holds c = (omega arith, c .pre, λ d l. absurd (omega arith))
 
-mul-label : tie.Need-mul-label Inv-loop μ-loop
-mul-label c = search needs
-
-element-write-label : tie.Need-element-write-label Inv-loop μ-loop
-element-write-label c = search needs
-
-add-i : tie.Need-add-i Inv-loop μ-loop
-add-i c = search needs
-
-loop-less : tie.Need-loop-less Inv-loop μ-loop
-loop-less c = search needs
-
 loop-again : tie.Need-loop-again Inv-loop μ-loop
 loop-again c =
     let i = c .before .loop .i in
@@ -53,9 +41,9 @@ unmark-all-spec =
     Inv-loop
     μ-loop
     loop-holds
-    mul-label
-    element-write-label
-    add-i
-    loop-less
+    (λ c. search needs)
+    (λ c. search needs)
+    (λ c. search needs)
+    (λ c. search needs)
     loop-again
     returns)

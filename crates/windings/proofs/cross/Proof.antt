@@ -14,29 +14,8 @@ use Rattle.windings.proofs.Crossing.{plus-read, minus-read, plus-fits, 
 use Rattle.windings.proofs.cross.Statement.{statement}
 use Rattle.windings.proofs.cross.Tie as tie
 
-reverse-requires : tie.Need-reverse-requires
-reverse-requires c κs = search needs
-
-mul-plus16 : tie.Need-mul-plus16
-mul-plus16 c = search needs
-
-element-copy-out-plus16 : tie.Need-element-copy-out-plus16
-element-copy-out-plus16 c = search needs
-
 plus16-requires : tie.Need-plus16-requires
 plus16-requires c κs = plus-fits (c .before .before .pre .2)
-
-mul-winding : tie.Need-mul-winding
-mul-winding c = search needs
-
-element-set-from-winding : tie.Need-element-set-from-winding
-element-set-from-winding c = search needs
-
-mul-minus16 : tie.Need-mul-minus16
-mul-minus16 c = search needs
-
-element-copy-out-minus16 : tie.Need-element-copy-out-minus16
-element-copy-out-minus16 c = search needs
 
 -- the first store left the winding of the reverse as it was
 minus16-requires : tie.Need-minus16-requires
@@ -47,12 +26,6 @@ minus16-requires c κs =
     let a = toZ w16 (ofZ w16 (c .before .plus16 .result)) in
     let same = getD-set-other l (s .args .p) (o .result) a (pos 0) (λ q. rev-apart (s .args .p) (sym (o .ensures .0) ∙ q)) in
     minus-fits (subst (Limited 1024) (sym (same ∙ ap (atℤ l) (o .ensures .0))) (s .pre .3))
-
-mul-t5 : tie.Need-mul-t5
-mul-t5 c = search needs
-
-element-set-from-winding-2 : tie.Need-element-set-from-winding-2
-element-set-from-winding-2 c = search needs
 
 returns : tie.Need-returns
 returns c =
@@ -75,15 +48,15 @@ pub cross-spec : {M : Type 1} → statement M
 cross-spec =
     tie.close
     (tie.spec
-    reverse-requires
-    mul-plus16
-    element-copy-out-plus16
+    (λ c κs. search needs)
+    (λ c. search needs)
+    (λ c. search needs)
     plus16-requires
-    mul-winding
-    element-set-from-winding
-    mul-minus16
-    element-copy-out-minus16
+    (λ c. search needs)
+    (λ c. search needs)
+    (λ c. search needs)
+    (λ c. search needs)
     minus16-requires
-    mul-t5
-    element-set-from-winding-2
+    (λ c. search needs)
+    (λ c. search needs)
     returns)

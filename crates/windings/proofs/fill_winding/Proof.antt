@@ -26,9 +26,6 @@ mul-wide c = let r = c .before .pre .3 in omega (arith, face-in r (c .loop .inv 
 element-copy-out-wide : tie.Need-element-copy-out-wide Inv-loop μ-loop
 element-copy-out-wide c = let r = c .before .pre .3 in face-in r (c .loop .inv .1)
 
-wide-requires : tie.Need-wide-requires Inv-loop μ-loop
-wide-requires c κs = search needs
-
 cross-requires : tie.Need-cross-requires Inv-loop μ-loop
 cross-requires c κs =
     let s = c .before .before .before .before in
@@ -73,7 +70,7 @@ fill-winding-spec =
     loop-holds
     mul-wide
     element-copy-out-wide
-    wide-requires
+    (λ c κs. search needs)
     cross-requires
     right-requires
     loop-less

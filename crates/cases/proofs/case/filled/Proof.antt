@@ -13,47 +13,8 @@ Inv-loop s k to₀ n value i₀ to i = (length to ≡ length to₀) × (i ≤ le
 abbrev μ-loop : tie.MeasureT-loop
 μ-loop s k to₀ n value i₀ to i = length to₀ - i
 
-part-requires : tie.Need-part-requires Inv-loop μ-loop
-part-requires c κs = search needs
-
-count-requires : tie.Need-count-requires Inv-loop μ-loop
-count-requires c κs = search needs
-
-half-requires : tie.Need-half-requires Inv-loop μ-loop
-half-requires c κs = search needs
-
-cast-value : tie.Need-cast-value Inv-loop μ-loop
-cast-value c = search needs
-
-loop-holds : tie.Need-loop-holds Inv-loop μ-loop
-loop-holds c = search needs
-
-sub-result : tie.Need-sub-result Inv-loop μ-loop
-sub-result c = search needs
-
-part-to-start : tie.Need-part-to-start Inv-loop μ-loop
-part-to-start c = search needs
-
-part-to-end : tie.Need-part-to-end Inv-loop μ-loop
-part-to-end c = search needs
-
-returns : tie.Need-returns Inv-loop μ-loop
-returns c = search needs
-
-slice-write-to : tie.Need-slice-write-to Inv-loop μ-loop
-slice-write-to c = search needs
-
-add-i : tie.Need-add-i Inv-loop μ-loop
-add-i c = search needs
-
-loop-less : tie.Need-loop-less Inv-loop μ-loop
-loop-less c = search needs
-
 loop-again : tie.Need-loop-again Inv-loop μ-loop
 loop-again c = (simp length-set (omega arith), simp length-set (omega arith))
-
-returns-2 : tie.Need-returns-2 Inv-loop μ-loop
-returns-2 c = search needs
 
 pub filled-spec : {M : Type 1} → statement M
 filled-spec =
@@ -61,17 +22,17 @@ filled-spec =
     (tie.spec
     Inv-loop
     μ-loop
-    part-requires
-    count-requires
-    half-requires
-    cast-value
-    loop-holds
-    sub-result
-    part-to-start
-    part-to-end
-    returns
-    slice-write-to
-    add-i
-    loop-less
+    (λ c κs. search needs)
+    (λ c κs. search needs)
+    (λ c κs. search needs)
+    (λ c. search needs)
+    (λ c. search needs)
+    (λ c. search needs)
+    (λ c. search needs)
+    (λ c. search needs)
+    (λ c. search needs)
+    (λ c. search needs)
+    (λ c. search needs)
+    (λ c. search needs)
     loop-again
-    returns-2)
+    (λ c. search needs))
