@@ -73,23 +73,24 @@ fn refused(words: &Words, refusal: Refusal) -> Parsed<u8> {
     say(text.as_bytes()).map(|_| REFUSED)
 }
 
-/// The file and the picture first, so that nothing is said where one of them cannot be made.
+/// The answer first: it is said whether or not a picture of it can be made.
 fn answered(words: &Words, answer: Answer) -> Parsed<u8> {
-    if let Some(file) = &words.picture {
-        if answer.views.is_empty() {
-            return fault(words.command.name, "there is nothing to see, so no picture");
-        }
-        let drawn = progress::during("drawing", || picture::draw(&answer.views))?;
-        keep(file, &drawn)?;
-    }
     let status = if answer.refused { REFUSED } else { 0 };
     let text = if words.json { line(words, answer.json, &answer.notes) } else { answer.text + &noted(&answer.notes) };
     match (&words.out, answer.bytes) {
-        (None, Some(bytes)) if answer.raw && !words.json => say(&bytes).map(|_| status),
-        (None, _) => say(text.as_bytes()).map(|_| status),
-        (Some(file), Some(bytes)) => keep(file, &bytes).map(|_| status),
-        (Some(_), None) => fault(words.command.name, "it has no --out"),
+        (None, Some(bytes)) if answer.raw && !words.json => say(&bytes)?,
+        (None, _) => say(text.as_bytes())?,
+        (Some(file), Some(bytes)) => keep(file, &bytes)?,
+        (Some(_), None) => return fault(words.command.name, "it has no --out"),
     }
+    let Some(file) = &words.picture else {
+        return Ok(status);
+    };
+    if answer.views.is_empty() {
+        return fault(words.command.name, "there is nothing to see, so no picture");
+    }
+    let drawn = progress::during("drawing", || picture::draw(&answer.views))?;
+    keep(file, &drawn).map(|_| status)
 }
 
 fn noted(notes: &[String]) -> String {

@@ -1,8 +1,7 @@
 // The analyser's operations on sheets. Document 01, "Operations": Solve, Largest, Mark, Levels from settings, Settings from levels. Document 02: the least
 // delivery beside the largest (Job 4), what a forward limit must be raised to (Job 7), totals by node (Job 9), limits from a capture (Job 10), DIMACS text (Job
 // 2), questions by the page (Job 1). Each fills the arrays of a drawing once, in its own frame, from the sheet, and lends them to the operation on drawings;
-// those that decide are lent the walk over the darts and their groups too, which opening makes. Arrays that opening fills before anybody reads them are made of
-// ones: arrays of zeros would be a call of memset each (docs/DECISIONS.md, "Largest", 4).
+// those that decide are lent the walk over the darts and their groups too, which opening makes.
 ghost use lib.ListN.{length};
 ghost use Rattle.records.specs.Sheet.{sheetDrawing};
 ghost use Rattle.questions.specs.inner.Named.{SetNamed};
@@ -49,12 +48,12 @@ pub fn solve(
 {
     let mut tails = [0u16; 1024];
     let mut rotations = [0u16; 1024];
-    let mut lefts = [1u16; 1024];
-    let mut order = [1u16; 1024];
-    let mut from = [1u16; 1024];
-    let mut grouped = [1u16; 1024];
-    let mut starts = [1u16; 1024];
-    let mut ends = [1u16; 1024];
+    let mut lefts = [0u16; 1024];
+    let mut order = [0u16; 1024];
+    let mut from = [0u16; 1024];
+    let mut grouped = [0u16; 1024];
+    let mut starts = [0u16; 1024];
+    let mut ends = [0u16; 1024];
     let opened = sheets::open_walked(
         sheet,
         &mut tails,
@@ -108,12 +107,12 @@ pub fn largest(
 {
     let mut tails = [0u16; 1024];
     let mut rotations = [0u16; 1024];
-    let mut lefts = [1u16; 1024];
-    let mut order = [1u16; 1024];
-    let mut from = [1u16; 1024];
-    let mut grouped = [1u16; 1024];
-    let mut starts = [1u16; 1024];
-    let mut ends = [1u16; 1024];
+    let mut lefts = [0u16; 1024];
+    let mut order = [0u16; 1024];
+    let mut from = [0u16; 1024];
+    let mut grouped = [0u16; 1024];
+    let mut starts = [0u16; 1024];
+    let mut ends = [0u16; 1024];
     let opened = sheets::open_walked(
         sheet,
         &mut tails,
@@ -171,12 +170,12 @@ pub fn least_and_largest(
 {
     let mut tails = [0u16; 1024];
     let mut rotations = [0u16; 1024];
-    let mut lefts = [1u16; 1024];
-    let mut order = [1u16; 1024];
-    let mut from = [1u16; 1024];
-    let mut grouped = [1u16; 1024];
-    let mut starts = [1u16; 1024];
-    let mut ends = [1u16; 1024];
+    let mut lefts = [0u16; 1024];
+    let mut order = [0u16; 1024];
+    let mut from = [0u16; 1024];
+    let mut grouped = [0u16; 1024];
+    let mut starts = [0u16; 1024];
+    let mut ends = [0u16; 1024];
     let opened = sheets::open_walked(
         sheet,
         &mut tails,
@@ -233,12 +232,12 @@ pub fn raise_limit(
 {
     let mut tails = [0u16; 1024];
     let mut rotations = [0u16; 1024];
-    let mut lefts = [1u16; 1024];
-    let mut order = [1u16; 1024];
-    let mut from = [1u16; 1024];
-    let mut grouped = [1u16; 1024];
-    let mut starts = [1u16; 1024];
-    let mut ends = [1u16; 1024];
+    let mut lefts = [0u16; 1024];
+    let mut order = [0u16; 1024];
+    let mut from = [0u16; 1024];
+    let mut grouped = [0u16; 1024];
+    let mut starts = [0u16; 1024];
+    let mut ends = [0u16; 1024];
     let opened = sheets::open_walked(
         sheet,
         &mut tails,
@@ -298,12 +297,12 @@ pub fn largest_after(
 {
     let mut tails = [0u16; 1024];
     let mut rotations = [0u16; 1024];
-    let mut lefts = [1u16; 1024];
-    let mut order = [1u16; 1024];
-    let mut from = [1u16; 1024];
-    let mut grouped = [1u16; 1024];
-    let mut starts = [1u16; 1024];
-    let mut ends = [1u16; 1024];
+    let mut lefts = [0u16; 1024];
+    let mut order = [0u16; 1024];
+    let mut from = [0u16; 1024];
+    let mut grouped = [0u16; 1024];
+    let mut starts = [0u16; 1024];
+    let mut ends = [0u16; 1024];
     let opened = sheets::open_walked(
         sheet,
         &mut tails,
@@ -355,12 +354,12 @@ pub fn page_of(sheet: &[u8], list: Listed, flows: &mut [i32], sets: &mut [u64]) 
 {
     let mut tails = [0u16; 1024];
     let mut rotations = [0u16; 1024];
-    let mut lefts = [1u16; 1024];
-    let mut order = [1u16; 1024];
-    let mut from = [1u16; 1024];
-    let mut grouped = [1u16; 1024];
-    let mut starts = [1u16; 1024];
-    let mut ends = [1u16; 1024];
+    let mut lefts = [0u16; 1024];
+    let mut order = [0u16; 1024];
+    let mut from = [0u16; 1024];
+    let mut grouped = [0u16; 1024];
+    let mut starts = [0u16; 1024];
+    let mut ends = [0u16; 1024];
     let opened = sheets::open_walked(
         sheet,
         &mut tails,
