@@ -4,6 +4,28 @@ ghost use Prim.Native.Nat.{_<_};
 ghost use Rattle.maps.specs.Dart.{rev};
 ghost use Rattle.arrays.specs.Maps.{rightOf};
 
+// The sizes of an open drawing: its nodes, edges, faces and parts (connected components), and a dart on its outer face.
+pub struct Sizes {
+    pub nodes: usize,
+    pub edges: usize,
+    pub faces: usize,
+    pub parts: usize,
+    pub outer: usize,
+}
+
+// The nodes that a flow goes from and to.
+pub struct Terminals {
+    pub source: usize,
+    pub sink: usize,
+}
+
+// A question: the value that a flow from source to sink is to have.
+pub struct Demand {
+    pub source: usize,
+    pub sink: usize,
+    pub value: i32,
+}
+
 // An index of 16 bits at the width of an index.
 pub fn wide(x: u16) -> usize
     ensures { λ r. ⌜ r ≡ x ⌝ }
