@@ -208,7 +208,7 @@ fn number_faces(
         × (r ≡ orbits (2 * edges) (stepOf (now (rotations .entry))))
         × ((d : ℕ) → d < 2 * edges → at (now (lefts .exit)) d ≡ orbitOf (2 * edges) (stepOf (now (rotations .entry))) d)
         × Grouped (rightOf (now (lefts .exit))) (2 * edges) r (now (grouped .exit)) (now (starts .exit))
-        × InRounds (2 * edges) (stepOf (now (rotations .entry))) r (at (now (grouped .exit))) (at (now (starts .exit))) (at) ⌝ }
+        × InRounds (2 * edges) (stepOf (now (rotations .entry))) r (at (now (grouped .exit))) (at (now (starts .exit))) ⌝ }
 {
     let darts = 2 * edges;
     traversal::unmark_all(lefts);
@@ -265,7 +265,7 @@ fn check_flat<'a>(
         × IfPassed (r .verdict) ((r .parts ≡ parts)
         × Grouped (rightOf (now (lefts .exit))) (2 * edges) (r .faces) (now (grouped .exit)) (now (starts .exit))
         × InRounds (2 * edges) (stepOf (now (rotations .entry))) (r .faces)
-        (at (now (grouped .exit))) (at (now (starts .exit))) (at)) ⌝ }
+        (at (now (grouped .exit))) (at (now (starts .exit)))) ⌝ }
 {
     let faces = number_faces(rotations, edges, lefts, grouped, starts);
     if nodes + faces != edges + 2 * parts {
