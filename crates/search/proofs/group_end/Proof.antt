@@ -15,5 +15,12 @@ before darts starts (suc f) h = let e : f ≡ suc f - 1 = omega arith in ap star
 returns : tie.Need-returns
 returns c = let s = c .before in sym (ap (endOf (s .args .darts) (at (s .args .starts .now))) (c .if1 .taken))
 
+returns-2 : tie.Need-returns-2
+returns-2 c =
+    let t = c .before .before in
+    let a = t .before .args in
+    c .wide .ensures ∙ sym (before (a .darts) (at (a .starts .now)) (a .f) (t .if1 .left))
+
 pub group-end-spec : {M : Type 1} → statement M
-group-end-spec = tie.close (tie.spec ?)
+group-end-spec =
+    tie.close (tie.spec returns (λ c. search needs) (λ c. search needs) (λ c. search needs) (λ c κs. search needs) returns-2)

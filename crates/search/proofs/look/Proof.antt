@@ -43,13 +43,13 @@ group-end-requires c κs = face-small (c .before .before)
 
 loop-holds : tie.Need-loop-holds Inv-loop μ-loop
 loop-holds c =
-    let s = c .before .before .before .before in
-    let w = c .before .before .wide in
+    let s = c .before .before .before in
+    let w = c .before .wide in
     look-begins (givenAt s) (s .pre .1) (s .args .i) (w .result) (s .pre .0) (w .ensures)
 
 -- ── in the loop ──
 abbrev base : tie.At-loop Inv-loop μ-loop → tie.Start Inv-loop μ-loop
-base c = c .before .before .before .before .before
+base c = c .before .before .before .before
 
 ends-in : (c : tie.In-loop Inv-loop μ-loop) → c .before .loop .j < 1024
 ends-in c = omega (arith, c .loop-test .taken, c .before .before .group-end .ensures, c .before .loop .inv .trying .end-in)
@@ -151,7 +151,7 @@ returns : tie.Need-returns Inv-loop μ-loop
 returns c =
     let s = base (c .before) in
     look-ends (givenAt s) (s .pre .1) (c .before .loop .inv) (omega (arith, c .loop-test .left, c .before .before .group-end .ensures))
-    (c .before .before .before .before .wide .ensures)
+    (c .before .before .before .wide .ensures)
 
 pub look-spec : {M : Type 1} → statement M
 look-spec =
