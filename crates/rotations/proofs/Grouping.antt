@@ -26,7 +26,8 @@ ends-kept darts starts starts' f kept (suc g) l = kept g (λ e. omega (arith, e,
 
 -- f faces have their numbers and their groups, which fill the places from `low` on
 pub record Grouping (edges : ℕ) (label grouped starts : ℕ → ℕ) (f low : ℕ) : Type 0 where
-  pub stands : (y : ℕ) → y < 2 * edges → label y ≢ unmarked → (label y < f) × ((j : ℕ) × (starts (label y) ≤ j) × (j < endOf (2 * edges) starts (label y)) × (grouped j ≡ rev y))
+  pub stands : (y : ℕ) → y < 2 * edges → label y ≢ unmarked
+      → (label y < f) × ((j : ℕ) × (starts (label y) ≤ j) × (j < endOf (2 * edges) starts (label y)) × (grouped j ≡ rev y))
   pub ordered : (g : ℕ) → g < f → (low ≤ starts g) × (starts g ≤ endOf (2 * edges) starts g) × (endOf (2 * edges) starts g ≤ 2 * edges)
   pub low-is : low ≡ endOf (2 * edges) starts f
   pub room : low ≤ 2 * edges

@@ -35,6 +35,10 @@ pub record Trying (N : Dual) (order starts : List ℕ) (t : Tables) (first b i j
   pub stage : Stage N t (first + 1) (b + j) (Todo order (endOf (N .darts) (at starts) i) j)
 
 module _ {N : Dual} (sound : WellFormed N) {order starts : List ℕ} (g : Grouped (N .right) (N .darts) (N .faces) order starts) where
+  -- where the groups end
+  abbrev stop : ℕ → ℕ
+  stop = endOf (N .darts) (at starts)
+
   -- ── the look begins ──
   module _ {t : Tables} {first b : ℕ} (r : Passing N t first b) (few : b + 1024 < 1600000) (some : first < t .last)
       (i : ℕ) (i-is : i ≡ faceAt (t .queue) first) where
@@ -65,8 +69,8 @@ module _ {N : Dual} (sound : WellFormed N) {order starts : List ℕ} (g : Groupe
         state = widened (clear (r .state) i off-flag) (b + at starts i) (omega arith);
         line = line-take (r .line) some i i-is off-flag;
         quiet =
-            quiet-weaken (λ d. N .right d ≡ i) (Todo order (endOf (N .darts) (at starts) i) (at starts i))
-            (λ d b q. (g .place d, omega (arith, g .from-start d b, ap (at starts) q), omega (arith, g .before-end d b, ap (endOf (N .darts) (at starts)) q), g .stands d b))
+            quiet-weaken (λ d. N .right d ≡ i) (Todo order (stop i) (at starts i))
+            (λ d b q. (g .place d, omega (arith, g .from-start d b, ap (at starts) q), omega (arith, g .before-end d b, ap stop q), g .stands d b))
             (quiet-take i 0 off-flag (r .quiet));
       };
     }
@@ -79,7 +83,7 @@ module _ {N : Dual} (sound : WellFormed N) {order starts : List ℕ} (g : Groupe
       ne q = t .1 (sym (t .0 .3) ∙ ap (at order) q ∙ sym p)
 
   -- ── the dart d at place j is tried ──
-  module _ {t : Tables} {first b i j : ℕ} (r : Trying N order starts t first b i j) (d : ℕ) (more : j < endOf (N .darts) (at starts) i) (d-is : d ≡ at order j) where
+  module _ {t : Tables} {first b i j : ℕ} (r : Trying N order starts t first b i j) (d : ℕ) (more : j < stop i) (d-is : d ≡ at order j) where
     pub try-in : d < N .darts
     try-in = rw d-is (g .dart i j (r .i-in) (r .from-start) more)
 
@@ -101,7 +105,7 @@ module _ {N : Dual} (sound : WellFormed N) {order starts : List ℕ} (g : Groupe
     next-few : b + (j + 1) < 1600000
     next-few = omega (arith, r .few, r .end-in)
 
-    on : {u : Tables} → HasLevel (atℤ (u .potentials)) i → Stage N u (first + 1) (b + (j + 1)) (λ e. (Todo order (endOf (N .darts) (at starts) i) j e) × (e ≡ d → ⊥))
+    on : {u : Tables} → HasLevel (atℤ (u .potentials)) i → Stage N u (first + 1) (b + (j + 1)) (λ e. (Todo order (stop i) j e) × (e ≡ d → ⊥))
         → Trying N order starts u first b i (j + 1)
     on h s = record {
       i-in = r .i-in;
@@ -111,15 +115,15 @@ module _ {N : Dual} (sound : WellFormed N) {order starts : List ℕ} (g : Groupe
       few = r .few;
       has = h;
       stage =
-          stage-weaken (λ e. (Todo order (endOf (N .darts) (at starts) i) j e) × (e ≡ d → ⊥)) (Todo order (endOf (N .darts) (at starts) i) (j + 1)) (b + (j + 1)) (omega arith)
-          (λ x l q. todo-next (endOf (N .darts) (at starts) i) j d d-is x q) s;
+          stage-weaken (λ e. (Todo order (stop i) j e) × (e ≡ d → ⊥)) (Todo order (stop i) (j + 1)) (b + (j + 1)) (omega arith)
+          (λ x l q. todo-next (stop i) j d d-is x q) s;
     }
 
     -- it cannot lower
     pub try-keep : atℤ (t .potentials) (N .left d) ≤ℤ (atℤ (t .potentials) i +ℤ N .length d) → Trying N order starts t first b i (j + 1)
     try-keep le =
         on (r .has)
-        (stage-weaken (λ e. (Todo order (endOf (N .darts) (at starts) i) j e) × (e ≡ d → ⊥)) (λ e. (Todo order (endOf (N .darts) (at starts) i) j e) × (e ≡ d → ⊥)) (b + (j + 1)) (omega arith)
+        (stage-weaken (λ e. (Todo order (stop i) j e) × (e ≡ d → ⊥)) (λ e. (Todo order (stop i) j e) × (e ≡ d → ⊥)) (b + (j + 1)) (omega arith)
         (λ x l q. q) (stage-keep sound (r .stage) d try-in i try-right le))
 
     -- it lowers
@@ -138,6 +142,6 @@ module _ {N : Dual} (sound : WellFormed N) {order starts : List ℕ} (g : Groupe
       try-fell = stage-fell sound (r .stage) d try-in i try-right (r .has) (b + (j + 1)) wider next-few next-near u e-ρ e-parents less p
 
   -- ── all its darts are tried ──
-  pub tried : {t : Tables} {first b i j : ℕ} → Trying N order starts t first b i j → endOf (N .darts) (at starts) i ≤ j → Passing N t (first + 1) (b + 1024)
+  pub tried : {t : Tables} {first b i j : ℕ} → Trying N order starts t first b i j → stop i ≤ j → Passing N t (first + 1) (b + 1024)
   tried {b = b} {i = i} {j = j} r all =
-      stage-weaken (Todo order (endOf (N .darts) (at starts) i) j) (λ d. ⊥) (b + 1024) (omega (arith, r .to-end, r .end-in)) (λ d l q. omega (arith, q .1, q .2)) (r .stage)
+      stage-weaken (Todo order (stop i) j) (λ d. ⊥) (b + 1024) (omega (arith, r .to-end, r .end-in)) (λ d l q. omega (arith, q .1, q .2)) (r .stage)
