@@ -9,7 +9,8 @@ ghost use Rattle.refusals.specs.Order.{Judged, Decides};
 ghost use Rattle.fields.specs.Fields.{u16At};
 ghost use Rattle.records.specs.Record.{bodyLength, recordLength, recordChecks};
 ghost use Rattle.records.specs.Check.{Outside, CapacityOutside, numberChecks, capacityChecks, fieldChecks};
-ghost use Rattle.records.specs.Sheet.{nodesOf, edgesOf, outerOf, headLength, edgeAfter, headRecordChecks, headChecks, edgeRecordChecks, byteChecks};
+ghost use Rattle.records.specs.Sheet.{nodesOf, edgesOf, outerOf, headLength, edgeAfter, headRecordChecks};
+ghost use Rattle.records.specs.inner.Reading.{HeadRead, EdgeRead};
 use refusals::Verdict;
 
 // The body length of each kind of record: kind 0 is none, 1 a head, 2 an edge, 3 a question, 4 a head that names the outer dart, 5 an entry of a capture.
@@ -162,19 +163,48 @@ fn check_head_record(s: &[u8]) -> Verdict
     Verdict::Passed
 }
 
-// The head of a sheet: its record, then its numbers. A body of 4 bytes and one of 6 have the counts at the same places; the outer dart is read only of a head
-// that is whole and names one.
-pub fn check_head(s: &[u8]) -> Verdict
-    ensures { λ r. ⌜ Judged (headChecks (now (s .entry))) r ⌝ }
+// The head of a sheet as it is read: the verdict on it and, where it passed, its length and its numbers.
+pub struct HeadRecord {
+    pub verdict: Verdict,
+    pub length: usize,
+    pub nodes: usize,
+    pub edges: usize,
+    pub outer: usize,
+}
+
+fn refused_head(number: u8, place: u16) -> HeadRecord
+    ensures { λ r. ⌜ r .verdict ≡ Verdict.Refused number place ⌝ }
+{
+    HeadRecord {
+        verdict: Verdict::Refused(number, place),
+        length: 0,
+        nodes: 0,
+        edges: 0,
+        outer: 0,
+    }
+}
+
+// Reads the head of a sheet and checks it: its record, then its numbers. A body of 4 bytes and one of 6 have the counts at the same places; the outer dart is
+// read only of a head that is whole and names one.
+pub fn read_head(s: &[u8]) -> HeadRecord
+    ensures { λ r. ⌜ HeadRead (now (s .entry)) r (r .verdict) ⌝ }
 {
     let whole = check_head_record(s);
     if let Verdict::Refused(k, p) = whole {
-        return Verdict::Refused(k, p);
+        return refused_head(k, p);
     }
+    let length = head_length(s);
     let nodes = read_wide(s, 1);
     let edges = read_wide(s, 3);
     let outer = outer_of(s);
-    check_numbers(nodes, edges, outer)
+    let verdict = check_numbers(nodes, edges, outer);
+    HeadRecord {
+        verdict: verdict,
+        length: length,
+        nodes: nodes,
+        edges: edges,
+        outer: outer,
+    }
 }
 
 // One of the two numbers names nothing: there are only `count` things, from 0.
@@ -263,55 +293,65 @@ pub fn check_fields(
     check_capacities(forward, backward)
 }
 
-// The record of edge e, whole, and then its fields against the head's counts; it is read only once it is known to be whole.
-pub fn check_edge_record(s: &[u8], head: usize, nodes: usize, edges: usize, e: usize) -> Verdict
+// The record of an edge as it is read: the verdict on it and, where it passed, its fields.
+pub struct EdgeRecord {
+    pub verdict: Verdict,
+    pub tail: u16,
+    pub head: u16,
+    pub rotation: u16,
+    pub back_rotation: u16,
+    pub forward: i32,
+    pub backward: i32,
+}
+
+fn refused_edge(number: u8, place: u16) -> EdgeRecord
+    ensures { λ r. ⌜ r .verdict ≡ Verdict.Refused number place ⌝ }
+{
+    EdgeRecord {
+        verdict: Verdict::Refused(number, place),
+        tail: 0,
+        head: 0,
+        rotation: 0,
+        back_rotation: 0,
+        forward: 0,
+        backward: 0,
+    }
+}
+
+// Reads the record of edge e and checks it against the head's counts: the record, whole, then its fields. They are read once, and only of a record that is
+// known to be whole.
+pub fn read_edge(s: &[u8], head: usize, nodes: usize, edges: usize, e: usize) -> EdgeRecord
     requires { ⌜ (edges ≤ 512) × (e < edges) × (head ≤ 256) × (head ≡ headLength (now s)) × (nodes ≡ nodesOf (now s)) × (edges ≡ edgesOf (now s)) ⌝ }
-    ensures { λ r. ⌜ Judged (edgeRecordChecks (now (s .entry)) e) r ⌝ }
+    ensures { λ r. ⌜ EdgeRead (now (s .entry)) e r (r .verdict) ⌝ }
 {
     let at = edge_at(head, e);
     let whole = check_record(s, 2, at);
     if let Verdict::Refused(k, p) = whole {
-        return Verdict::Refused(k, p);
+        return refused_edge(k, p);
     }
-    let tail = read_wide(s, at + 1);
-    let other = read_wide(s, at + 3);
-    let rotation = read_wide(s, at + 5);
-    let back_rotation = read_wide(s, at + 7);
+    let tail = fields::read_u16(s, at + 1);
+    let other = fields::read_u16(s, at + 3);
+    let rotation = fields::read_u16(s, at + 5);
+    let back_rotation = fields::read_u16(s, at + 7);
     let forward = fields::read_i32(s, at + 9);
     let backward = fields::read_i32(s, at + 13);
-    check_fields(
+    let verdict = check_fields(
         nodes,
         edges,
-        tail,
-        other,
-        rotation,
-        back_rotation,
+        tail as usize,
+        other as usize,
+        rotation as usize,
+        back_rotation as usize,
         forward,
         backward,
-    )
-}
-
-// Checks 1 to 8 on bytes of any length: the head, the edges in turn, then nothing more. At most 512 turns, since check 3 comes first.
-pub fn check_bytes(s: &[u8]) -> Verdict
-    ensures { λ r. ⌜ Judged (byteChecks (now (s .entry))) r ⌝ }
-{
-    let whole = check_head(s);
-    if let Verdict::Refused(k, p) = whole {
-        return Verdict::Refused(k, p);
+    );
+    EdgeRecord {
+        verdict: verdict,
+        tail: tail,
+        head: other,
+        rotation: rotation,
+        back_rotation: back_rotation,
+        forward: forward,
+        backward: backward,
     }
-    let head = head_length(s);
-    let nodes = read_wide(s, 1);
-    let edges = read_wide(s, 3);
-    let mut e: usize = 0;
-    while e < edges {
-        let edge = check_edge_record(s, head, nodes, edges, e);
-        if let Verdict::Refused(k, p) = edge {
-            return Verdict::Refused(k, p);
-        }
-        e += 1;
-    }
-    if edge_at(head, edges) < s.len() {
-        return Verdict::Refused(8, 0);
-    }
-    Verdict::Passed
 }

@@ -1,47 +1,41 @@
 -- Opening a sheet: arrays filled from its bytes are its drawing's functions, everywhere; what the phases of the checks said is what all of them say.
-use mathlib.Core.Path.{_≡_, ap, subst}
+use mathlib.Core.Path.{_≡_, refl, sym, _∙_, ap, subst, fun-ext}
+use mathlib.Core.Bool.{Bool, true, false, cond, not, true≢false}
 use mathlib.Core.List.{List}
 use Prim.Native.Nat.{ℕ, _*_, _≤_}
 use native.Mathlib.Omega.{arith}
+use lib.Dec.{ltb}
 use lib.ListN.{length}
 use lib.IntN.{ℤ, pos}
 use Rattle.refusals.specs.Order.{NoneOf, FirstOf}
 use Rattle.refusals.specs.declared.Verdict.{Verdict}
-use Rattle.refusals.specs.declared.Verdict.the-variants.{Passed, Refused}
+use Rattle.refusals.specs.declared.Verdict.the-variants.{Passed}
 use Rattle.refusals.proofs.Order.{none-append, first-left, first-right}
-use Rattle.maps.specs.Face.{faces}
 use Rattle.arrays.specs.At.{at, atℤ}
 use Rattle.arrays.specs.Maps.{mapOf, drawingOf}
-use Rattle.arrays.specs.Filled.{filled}
-use Rattle.arrays.proofs.FillLoops.{filled-zeros}
-use Rattle.rotations.specs.MapChecks.{mapChecks, MapJudged}
+use Rattle.arrays.proofs.FillLoops.{Filling, filling-end}
+use Rattle.rotations.specs.MapChecks.{mapChecks}
 use Rattle.records.specs.Record.{recordLength}
 use Rattle.records.specs.Sheet.{headLength, nodesOf, edgesOf, outerOf, edgeAt, field16, field32}
 use Rattle.records.specs.Sheet.{tailOf, rotationOf, capacityOf, sheetMap, sheetDrawing, byteChecks}
 use Rattle.records.proofs.Bytes.{head-whole, bytes-head, bytes-length, bytes-counts}
-use Rattle.sheets.specs.declared.Opened.{Opened}
 use Rattle.rotations.specs.inner.Passing.{IfPassed}
-use Rattle.grouping.specs.inner.Walked.{Walked}
-use Rattle.sheets.specs.Open.{sheetChecks, Numbers, Opens}
-use Rattle.sheets.specs.inner.Prepared.{Prepared}
+use Rattle.sheets.specs.Open.{sheetChecks, Holds, Opens}
+use Rattle.sheets.specs.declared.Network.{Network}
 
-module _ (s : List ℕ) (edges : ℕ) (are : edges ≡ edgesOf s) where
-  all : 2 * edges ≡ 2 * edgesOf s
-  all = ap (λ m. 2 * m) are
+-- arrays that were filled edge by edge, from zeros on, hold the sheet's fields
+module _ (s : List ℕ) (n : ℕ) (all : n ≡ 2 * edgesOf s) where
+  pub tails-are : (to : List ℕ) → Filling 0 (field16 s 1) n to → at to ≡ tailOf s
+  unfolding tailOf
+  tails-are to φ = fun-ext (λ d. filling-end φ d ∙ ap (λ k. cond (ltb d k) (field16 s 1 d) 0) all)
 
-  module _ (old new : List ℕ) (room : 2 * edges ≤ length old) (zeros : (d : ℕ) → at old d ≡ 0) where
-    pub tails-are : new ≡ filled (2 * edges) (field16 s 1) old → at new ≡ tailOf s
-    unfolding tailOf
-    tails-are h = filled-zeros 0 (2 * edges) (2 * edgesOf s) (field16 s 1) old new room all zeros h
+  pub rotations-are : (to : List ℕ) → Filling 0 (field16 s 5) n to → at to ≡ rotationOf s
+  unfolding rotationOf
+  rotations-are to φ = fun-ext (λ d. filling-end φ d ∙ ap (λ k. cond (ltb d k) (field16 s 5 d) 0) all)
 
-    pub rotations-are : new ≡ filled (2 * edges) (field16 s 5) old → at new ≡ rotationOf s
-    unfolding rotationOf
-    rotations-are h = filled-zeros 0 (2 * edges) (2 * edgesOf s) (field16 s 5) old new room all zeros h
-
-  pub capacities-are : (old new : List ℤ) → 2 * edges ≤ length old → ((d : ℕ) → atℤ old d ≡ pos 0)
-      → new ≡ filled (2 * edges) (field32 s 9) old → atℤ new ≡ capacityOf s
+  pub capacities-are : (to : List ℤ) → Filling (pos 0) (field32 s 9) n to → atℤ to ≡ capacityOf s
   unfolding capacityOf
-  capacities-are old new room zeros h = filled-zeros (pos 0) (2 * edges) (2 * edgesOf s) (field32 s 9) old new room all zeros h
+  capacities-are to φ = fun-ext (λ d. filling-end φ d ∙ ap (λ k. cond (ltb d k) (field32 s 9 d) (pos 0)) all)
 
 -- the map and the drawing of the arrays are the sheet's
 pub maps-are : (s : List ℕ) (nodes edges : ℕ) (t r : List ℕ) → nodes ≡ nodesOf s → edges ≡ edgesOf s
@@ -63,38 +57,42 @@ bytes-room s h =
     (omega arith, n .0, n .1, n .2, n .3, omega arith, w .0)
 
 -- ── verdicts ──
-pub opens-refused : (s lefts : List ℕ) (o : Opened) (k p : ℕ) (v : Verdict) → v ≡ Refused k p → FirstOf (byteChecks s) k p → Opens s lefts o v
+-- the record of a sheet that is refused, by its bytes or by its map
+module _ (s : List ℕ) (n : Network) (k p : ℕ) (is : (n .accepted ≡ false) × (n .refusal ≡ k) × (n .place ≡ p)) where
+  opens-first : FirstOf (sheetChecks s) k p → Opens s n (n .accepted)
+  opens-first h = rw (is .0, is .1, is .2) h
+
+  pub opens-bytes : FirstOf (byteChecks s) k p → Opens s n (n .accepted)
+  unfolding sheetChecks
+  opens-bytes h = opens-first (first-left (byteChecks s) (mapChecks (sheetMap s)) k p h)
+
+  pub opens-map : NoneOf (byteChecks s) → FirstOf (mapChecks (sheetMap s)) k p → Opens s n (n .accepted)
+  unfolding sheetChecks
+  opens-map b h = opens-first (first-right (byteChecks s) (mapChecks (sheetMap s)) k p b h)
+
+-- nothing is asked of a record that was refused
+pub not-accepted : {b : Bool} {P : Type 0} → b ≡ false → b ≡ true → P
+not-accepted e f = absurd (true≢false (sym f ∙ e))
+
+-- both phases passed
+pub sheet-passed : (s : List ℕ) → NoneOf (byteChecks s) → NoneOf (mapChecks (sheetMap s)) → NoneOf (sheetChecks s)
 unfolding sheetChecks
-opens-refused s lefts o k p v e h = rw e (first-left (byteChecks s) (mapChecks (sheetMap s)) k p h)
+sheet-passed s b m = none-append (byteChecks s) (mapChecks (sheetMap s)) b m
 
-pub opens-judged : (s lefts : List ℕ) (o : Opened) → NoneOf (byteChecks s) → o .nodes ≡ nodesOf s → o .edges ≡ edgesOf s → o .outer ≡ outerOf s
-    → (v : Verdict) → MapJudged (sheetMap s) (at lefts) (o .faces) v → Opens s lefts o v
-unfolding sheetChecks
-opens-judged s lefts o h n e out Passed j =
-    (none-append (byteChecks s) (mapChecks (sheetMap s)) h (j .0), record { nodes-are = n; edges-are = e; faces-are = j .2; outer-is = out; lefts-are = j .1 })
-opens-judged s lefts o h n e out (Refused k p) j = first-right (byteChecks s) (mapChecks (sheetMap s)) k p h j
+-- what a record that was looked at says
+pub is-accepted : (b : Bool) → not b ≡ false → b ≡ true
+is-accepted true e = refl
+is-accepted false e = absurd (true≢false e)
 
--- what a verdict that was looked at says
-pub opens-passed : (s lefts : List ℕ) (o : Opened) {v : Verdict} → v ≡ Passed → Opens s lefts o v → NoneOf (sheetChecks s) × Numbers s lefts o
-opens-passed s lefts o e h = subst (Opens s lefts o) e h
+is-refused : (b : Bool) → not b ≡ true → b ≡ false
+is-refused true e = absurd (true≢false (sym e))
+is-refused false e = refl
 
-pub opens-first : (s lefts : List ℕ) (o : Opened) {k p : ℕ} {v : Verdict} → v ≡ Refused k p → Opens s lefts o v → FirstOf (sheetChecks s) k p
-opens-first s lefts o e h = subst (Opens s lefts o) e h
+pub opens-passed : (s : List ℕ) (n : Network) → not (n .accepted) ≡ false → Opens s n (n .accepted) → NoneOf (sheetChecks s) × Holds s n
+opens-passed s n e h = subst (Opens s n) (is-accepted (n .accepted) e) h
 
--- the walk over the arrays is one over the sheet's rotations
-pub prepared-if : (s : List ℕ) (o : Opened) (v : Verdict) (edges outer : ℕ) (tails rotations lefts order from grouped starts ends : List ℕ)
-    → edges ≡ edgesOf s → outer ≡ outerOf s → at tails ≡ tailOf s → at rotations ≡ rotationOf s
-    → IfPassed v (Walked (2 * edges) (o .faces) outer (o .parts) (at rotations) lefts order from grouped starts ends)
-    → IfPassed v (Prepared s o tails rotations lefts order from grouped starts ends)
-prepared-if s o Passed edges outer tails rotations lefts order from grouped starts ends e u t r w = record {
-  tails-are = t;
-  rotations-are = r;
-  walked =
-      subst (λ n. Walked (2 * n) (o .faces) (outerOf s) (o .parts) (rotationOf s) lefts order from grouped starts ends) e
-      (subst (λ d. Walked (2 * edges) (o .faces) d (o .parts) (rotationOf s) lefts order from grouped starts ends) u
-      (subst (λ f. Walked (2 * edges) (o .faces) outer (o .parts) f lefts order from grouped starts ends) r w));
-}
-prepared-if s o (Refused k p) edges outer tails rotations lefts order from grouped starts ends e u t r w = tt
+pub opens-refused : (s : List ℕ) (n : Network) → not (n .accepted) ≡ true → Opens s n (n .accepted) → FirstOf (sheetChecks s) (n .refusal) (n .place)
+opens-refused s n e h = subst (Opens s n) (is-refused (n .accepted) e) h
 
 -- what was prepared, where the verdict that was looked at is that it passed
 pub if-passed : {v : Verdict} {P : Type 0} → v ≡ Passed → IfPassed v P → P

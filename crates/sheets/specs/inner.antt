@@ -1,2 +1,2 @@
 -- What loops and inner functions are proved with: no operation's contract and no printed statement rests on these.
-pub mod Prepared
+pub mod Reading

@@ -1,195 +1,204 @@
 // Sheets: bytes to the network record and back. Document 01, "Operations": the sheet checks, Read and Write.
 ghost use mathlib.Core.Path.{_≡_};
-ghost use Prim.Native.Nat.{ℕ, _+_, _*_, _/_, _%_, _<_, _≤_};
+ghost use mathlib.Core.Bool.{true, false};
+ghost use Prim.Native.Nat.{ℕ, _*_, _%_, _+_, _<_, _≤_};
 ghost use lib.ListN.{length, drop};
 ghost use mathlib.Core.List.{List, _++_};
 ghost use lib.IntN.{pos};
 ghost use Rattle.refusals.specs.Order.{NoneOf, Judged, inTurn};
 ghost use Rattle.fields.specs.Fields.{put};
 ghost use Rattle.arrays.specs.At.{at, atℤ};
+ghost use Rattle.arrays.specs.Filled.{tabulate};
+ghost use Rattle.grouping.specs.inner.Walked.{Walked};
 ghost use Rattle.records.specs.Record.{recordLength};
-ghost use Rattle.records.specs.Sheet.{edgesOf, edgeAt, field16, field32, tailOf, rotationOf, capacityOf, byteChecks};
+ghost use Rattle.records.specs.Sheet.{headLength, nodesOf, edgesOf, headChecks};
 ghost use Rattle.records.specs.Check.{edgeChecks};
 ghost use Rattle.records.specs.Encode.{outerHeadBytes, edgeBytes, encodeHead, encode, encodeLength};
-ghost use Rattle.rotations.specs.inner.Passing.{IfPassed};
 ghost use Rattle.sheets.specs.Open.{Opens};
-ghost use Rattle.sheets.specs.inner.Prepared.{Prepared};
+ghost use Rattle.sheets.specs.inner.Reading.{EdgesRead};
 ghost use Rattle.sheets.specs.Read.{Reads};
-ghost use Rattle.arrays.specs.Filled.{filled};
 ghost use Rattle.sheets.specs.Write.{edgesIn, slicesDrawing, drawingChecks, Writes};
+use arrays::Sizes;
 use refusals::Verdict;
 
-// All 1,024 darts with their tails, rotations ("turns"), capacities ("limits") and left faces; how many nodes, edges and faces there are, and a dart on the
-// outer face. An operation makes it once, in its own frame, fills its arrays in place, and lends them to what works on it.
+// The network record: all 1,024 darts with their tails, rotations ("turns"), capacities ("limits") and left faces, and the sizes of the drawing; or, of a sheet
+// that is not accepted, the number of the refusal and its place. An operation holds it in its own frame and lends its arrays to what works on them.
 pub struct Network {
-    pub nodes: usize,
-    pub edges: usize,
-    pub faces: usize,
-    pub outer: usize,
+    pub accepted: bool,
+    pub refusal: u8,
+    pub place: u16,
+    pub sizes: Sizes,
     pub tails: [u16; 1024],
     pub rotations: [u16; 1024],
     pub capacities: [i32; 1024],
     pub lefts: [u16; 1024],
 }
 
-// The verdict of the sheet checks; where they passed, the numbers of the sheet's drawing, and how many parts it has.
-pub struct Opened {
-    pub verdict: Verdict,
-    pub nodes: usize,
-    pub edges: usize,
-    pub faces: usize,
-    pub parts: usize,
-    pub outer: usize,
-}
-
-// A field of 16 bits of each dart, which stands `first` bytes into the record of its edge, into the first places of a slice.
-fn fill_fields(s: &[u8], first: usize, edges: usize, to: &mut [u16])
-    requires { ⌜ (first ≤ 13) × (edges ≤ 512) × (edgeAt (now s) edges ≤ length (now s)) × (2 * edges ≤ length (now to)) ⌝ }
-    ensures { λ _. ⌜ now (to .exit) ≡ filled (2 * edges) (field16 (now (s .entry)) first) (now (to .entry)) ⌝ }
+fn refused(number: u8, place: u16) -> Network
+    ensures { λ r. ⌜ (r .accepted ≡ false) × (r .refusal ≡ number) × (r .place ≡ place) ⌝ }
 {
-    let head = records::head_length(s);
-    let darts = 2 * edges;
-    let mut d: usize = 0;
-    while d < darts {
-        let at = records::edge_at(head, d / 2);
-        to[d] = fields::read_u16(s, at + first + 2 * (d % 2));
-        d += 1;
+    Network {
+        accepted: false,
+        refusal: number,
+        place: place,
+        sizes: Sizes {
+            nodes: 0,
+            edges: 0,
+            faces: 0,
+            parts: 0,
+            outer: 0,
+        },
+        tails: [0u16; 1024],
+        rotations: [0u16; 1024],
+        capacities: [0i32; 1024],
+        lefts: [0u16; 1024],
     }
 }
 
-// The capacity of each dart, into the first places of a slice. Both of an edge are read before they are written: so the compiler makes one move of them.
-fn fill_limits(s: &[u8], edges: usize, to: &mut [i32])
-    requires { ⌜ (edges ≤ 512) × (edgeAt (now s) edges ≤ length (now s)) × (2 * edges ≤ length (now to)) ⌝ }
-    ensures { λ _. ⌜ now (to .exit) ≡ filled (2 * edges) (field32 (now (s .entry)) 9) (now (to .entry)) ⌝ }
-{
-    let head = records::head_length(s);
-    let mut e: usize = 0;
-    while e < edges {
-        let at = records::edge_at(head, e);
-        let forward = fields::read_i32(s, at + 9);
-        let backward = fields::read_i32(s, at + 13);
-        to[2 * e] = forward;
-        to[2 * e + 1] = backward;
-        e += 1;
-    }
-}
-
-// The tail of each dart of a sheet whose bytes are accepted, into an array of zeros.
-pub fn fill_tails(s: &[u8], edges: usize, to: &mut [u16; 1024])
-    requires { ⌜ NoneOf (byteChecks (now s)) × (edges ≡ edgesOf (now s)) × (length (now to) ≡ 1024) × ((d : ℕ) → at (now to) d ≡ 0) ⌝ }
-    ensures { λ _. ⌜ (length (now (to .exit)) ≡ 1024) × (at (now (to .exit)) ≡ tailOf (now (s .entry))) ⌝ }
-{
-    fill_fields(s, 1, edges, to);
-}
-
-// The rotation of each dart, likewise.
-pub fn fill_rotations(s: &[u8], edges: usize, to: &mut [u16; 1024])
-    requires { ⌜ NoneOf (byteChecks (now s)) × (edges ≡ edgesOf (now s)) × (length (now to) ≡ 1024) × ((d : ℕ) → at (now to) d ≡ 0) ⌝ }
-    ensures { λ _. ⌜ (length (now (to .exit)) ≡ 1024) × (at (now (to .exit)) ≡ rotationOf (now (s .entry))) ⌝ }
-{
-    fill_fields(s, 5, edges, to);
-}
-
-// The capacity of each dart, likewise.
-pub fn fill_capacities(s: &[u8], edges: usize, to: &mut [i32; 1024])
-    requires { ⌜ NoneOf (byteChecks (now s)) × (edges ≡ edgesOf (now s)) × (length (now to) ≡ 1024) × ((d : ℕ) → atℤ (now to) d ≡ pos 0) ⌝ }
-    ensures { λ _. ⌜ (length (now (to .exit)) ≡ 1024) × (atℤ (now (to .exit)) ≡ capacityOf (now (s .entry))) ⌝ }
-{
-    fill_limits(s, edges, to);
-}
-
-fn refused(number: u8, place: u16) -> Opened
-    ensures { λ r. ⌜ r .verdict ≡ Verdict.Refused number place ⌝ }
-{
-    Opened {
-        verdict: Verdict::Refused(number, place),
-        nodes: 0,
-        edges: 0,
-        faces: 0,
-        parts: 0,
-        outer: 0,
-    }
-}
-
-// The sheet checks on any bytes. Of a sheet that passes them it gives the numbers, the tail, the rotation and the left face of each dart, and what decisions
-// need: a walk over all darts from the outer dart on, and the darts in groups by their right faces. `tails` and `rotations` are all zeros before.
-pub fn open_walked(
+// Reads the records of the edges, behind a head that passed, each once: checks them in turn, then that nothing is left over, and stores their fields. The
+// arrays are all zeros before.
+fn read_edges(
     s: &[u8],
+    head: usize,
+    nodes: usize,
+    edges: usize,
     tails: &mut [u16; 1024],
     rotations: &mut [u16; 1024],
-    lefts: &mut [u16; 1024],
+    capacities: &mut [i32; 1024],
+) -> Verdict
+    requires { ⌜ NoneOf (headChecks (now s)) × (head ≡ headLength (now s)) × (nodes ≡ nodesOf (now s)) × (edges ≡ edgesOf (now s))
+        × (length (now tails) ≡ 1024) × ((d : ℕ) → at (now tails) d ≡ 0) × (length (now rotations) ≡ 1024) × ((d : ℕ) → at (now rotations) d ≡ 0)
+        × (length (now capacities) ≡ 1024) × ((d : ℕ) → atℤ (now capacities) d ≡ pos 0) ⌝ }
+    ensures { λ r. ⌜ (length (now (tails .exit)) ≡ 1024) × (length (now (rotations .exit)) ≡ 1024) × (length (now (capacities .exit)) ≡ 1024)
+        × EdgesRead (now (s .entry)) (now (tails .exit)) (now (rotations .exit)) (now (capacities .exit)) r ⌝ }
+{
+    let mut e: usize = 0;
+    while e < edges {
+        let edge = records::read_edge(s, head, nodes, edges, e);
+        let verdict = edge.verdict;
+        if let Verdict::Refused(k, p) = verdict {
+            return Verdict::Refused(k, p);
+        }
+        tails[2 * e] = edge.tail;
+        tails[2 * e + 1] = edge.head;
+        rotations[2 * e] = edge.rotation;
+        rotations[2 * e + 1] = edge.back_rotation;
+        let forward = edge.forward;
+        let backward = edge.backward;
+        capacities[2 * e] = forward;
+        capacities[2 * e + 1] = backward;
+        e += 1;
+    }
+    if records::edge_at(head, edges) < s.len() {
+        return Verdict::Refused(8, 0);
+    }
+    Verdict::Passed
+}
+
+// Opens a sheet: makes the sheet checks on any bytes, in one pass over them, and gives the network record. Of an accepted sheet it also gives what decisions
+// need: a walk over all darts from the outer dart on, and the darts in groups by their right faces. Both are by-products of the checks on the map.
+pub fn open_walked(
+    s: &[u8],
     order: &mut [u16; 1024],
     from: &mut [u16; 1024],
     grouped: &mut [u16; 1024],
     starts: &mut [u16; 1024],
-    ends: &mut [u16; 1024],
-) -> Opened
-    requires { ⌜ (length (now tails) ≡ 1024) × ((d : ℕ) → at (now tails) d ≡ 0) × (length (now rotations) ≡ 1024) × ((d : ℕ) → at (now rotations) d ≡ 0)
-        × (length (now lefts) ≡ 1024) × (length (now order) ≡ 1024) × (length (now from) ≡ 1024)
-        × (length (now grouped) ≡ 1024) × (length (now starts) ≡ 1024) × (length (now ends) ≡ 1024) ⌝ }
-    ensures { λ r. ⌜ (length (now (tails .exit)) ≡ 1024) × (length (now (rotations .exit)) ≡ 1024)
-        × (length (now (lefts .exit)) ≡ 1024) × (length (now (order .exit)) ≡ 1024) × (length (now (from .exit)) ≡ 1024)
-        × (length (now (grouped .exit)) ≡ 1024) × (length (now (starts .exit)) ≡ 1024) × (length (now (ends .exit)) ≡ 1024)
-        × Opens (now (s .entry)) (now (lefts .exit)) r (r .verdict)
-        × IfPassed (r .verdict) (Prepared (now (s .entry)) r (now (tails .exit)) (now (rotations .exit)) (now (lefts .exit))
-        (now (order .exit)) (now (from .exit)) (now (grouped .exit)) (now (starts .exit)) (now (ends .exit))) ⌝ }
+) -> Network
+    requires { ⌜ (length (now order) ≡ 1024) × (length (now from) ≡ 1024) × (length (now grouped) ≡ 1024) × (length (now starts) ≡ 1024) ⌝ }
+    ensures { λ r. ⌜ (length (now (order .exit)) ≡ 1024) × (length (now (from .exit)) ≡ 1024)
+        × (length (now (grouped .exit)) ≡ 1024) × (length (now (starts .exit)) ≡ 1024)
+        × Opens (now (s .entry)) r (r .accepted)
+        × (r .accepted ≡ true → Walked (2 * r .sizes .edges) (r .sizes .faces) (r .sizes .outer) (r .sizes .parts) (at (r .rotations)) (r .lefts)
+        (now (order .exit)) (now (from .exit)) (now (grouped .exit)) (now (starts .exit))) ⌝ }
 {
-    let bytes = records::check_bytes(s);
-    if let Verdict::Refused(k, p) = bytes {
+    let head = records::read_head(s);
+    let whole = head.verdict;
+    if let Verdict::Refused(k, p) = whole {
         return refused(k, p);
     }
-    let nodes = records::nodes_of(s);
-    let edges = records::edges_of(s);
-    let outer = records::outer_of(s);
-    fill_tails(s, edges, tails);
-    fill_rotations(s, edges, rotations);
+    let mut tails = [0u16; 1024];
+    let mut rotations = [0u16; 1024];
+    let mut capacities = [0i32; 1024];
+    let read = read_edges(
+        s,
+        head.length,
+        head.nodes,
+        head.edges,
+        &mut tails,
+        &mut rotations,
+        &mut capacities,
+    );
+    if let Verdict::Refused(k, p) = read {
+        return refused(k, p);
+    }
+    let mut lefts = [0u16; 1024];
     let checked = rotations::check_map(
-        &*tails,
-        &*rotations,
-        nodes,
-        edges,
-        outer,
-        lefts,
+        &tails,
+        &rotations,
+        head.nodes,
+        head.edges,
+        head.outer,
+        &mut lefts,
         order,
         from,
         grouped,
         starts,
-        ends,
     );
     let verdict = checked.verdict;
-    Opened {
-        verdict: verdict,
-        nodes: nodes,
-        edges: edges,
-        faces: checked.faces,
-        parts: checked.parts,
-        outer: outer,
+    if let Verdict::Refused(k, p) = verdict {
+        return refused(k, p);
+    }
+    Network {
+        accepted: true,
+        refusal: 0,
+        place: 0,
+        sizes: Sizes {
+            nodes: head.nodes,
+            edges: head.edges,
+            faces: checked.faces,
+            parts: checked.parts,
+            outer: head.outer,
+        },
+        tails: tails,
+        rotations: rotations,
+        capacities: capacities,
+        lefts: lefts,
     }
 }
 
-// The same for who needs the numbers and the left faces only.
-pub fn open(s: &[u8], lefts: &mut [u16; 1024]) -> Opened
-    requires { ⌜ length (now lefts) ≡ 1024 ⌝ }
-    ensures { λ r. ⌜ (length (now (lefts .exit)) ≡ 1024) × Opens (now (s .entry)) (now (lefts .exit)) r (r .verdict) ⌝ }
+// Opens a sheet for an operation that decides nothing: the walk and the groups are the checks' own.
+pub fn open(s: &[u8]) -> Network
+    ensures { λ r. ⌜ Opens (now (s .entry)) r (r .accepted) ⌝ }
 {
-    let mut tails = [0u16; 1024];
-    let mut rotations = [0u16; 1024];
     let mut order = [0u16; 1024];
     let mut from = [0u16; 1024];
     let mut grouped = [0u16; 1024];
     let mut starts = [0u16; 1024];
-    let mut ends = [0u16; 1024];
-    open_walked(
-        s,
-        &mut tails,
-        &mut rotations,
-        lefts,
-        &mut order,
-        &mut from,
-        &mut grouped,
-        &mut starts,
-        &mut ends,
-    )
+    open_walked(s, &mut order, &mut from, &mut grouped, &mut starts)
+}
+
+// Copies the front of an array of darts into a slice, all of it.
+pub fn copy_darts(from: &[u16; 1024], to: &mut [u16])
+    requires { ⌜ length (now to) ≤ 1024 ⌝ }
+    ensures { λ _. ⌜ now (to .exit) ≡ tabulate (length (now (to .entry))) (at (now (from .entry))) ⌝ }
+{
+    let mut d: usize = 0;
+    while d < to.len() {
+        to[d] = from[d];
+        d += 1;
+    }
+}
+
+// The same of an array of capacities.
+pub fn copy_capacities(from: &[i32; 1024], to: &mut [i32])
+    requires { ⌜ length (now to) ≤ 1024 ⌝ }
+    ensures { λ _. ⌜ now (to .exit) ≡ tabulate (length (now (to .entry))) (atℤ (now (from .entry))) ⌝ }
+{
+    let mut d: usize = 0;
+    while d < to.len() {
+        to[d] = from[d];
+        d += 1;
+    }
 }
 
 // What Read answers: both counts and a dart on the outer face, or the number of a refusal and its place.
@@ -208,14 +217,12 @@ pub fn read(
     ensures { λ r. ⌜ Reads (now (sheet .entry)) (now (tails .entry)) (now (rotations .entry))
         (now (capacities .entry)) (now (tails .exit)) (now (rotations .exit)) (now (capacities .exit)) r ⌝ }
 {
-    let mut lefts = [0u16; 1024];
-    let opened = open(sheet, &mut lefts);
-    let verdict = opened.verdict;
-    if let Verdict::Refused(k, p) = verdict {
-        return ReadAnswer::Refused(k, p);
+    let net = open(sheet);
+    if !net.accepted {
+        return ReadAnswer::Refused(net.refusal, net.place);
     }
-    let edges = opened.edges;
-    let darts = 2 * edges;
+    let sizes = net.sizes;
+    let darts = 2 * sizes.edges;
     if tails.len() < darts {
         return ReadAnswer::Refused(16, 0);
     }
@@ -225,13 +232,13 @@ pub fn read(
     if capacities.len() < darts {
         return ReadAnswer::Refused(16, 0);
     }
-    fill_fields(sheet, 1, edges, &mut *tails);
-    fill_fields(sheet, 5, edges, &mut *rotations);
-    fill_limits(sheet, edges, &mut *capacities);
+    copy_darts(&net.tails, &mut tails[0..darts]);
+    copy_darts(&net.rotations, &mut rotations[0..darts]);
+    copy_capacities(&net.capacities, &mut capacities[0..darts]);
     ReadAnswer::Counts(
-        arrays::narrow(opened.nodes),
-        arrays::narrow(edges),
-        arrays::narrow(opened.outer),
+        arrays::narrow(sizes.nodes),
+        arrays::narrow(sizes.edges),
+        arrays::narrow(sizes.outer),
     )
 }
 
@@ -330,7 +337,6 @@ fn check_slices(
     let mut from = [0u16; 1024];
     let mut grouped = [0u16; 1024];
     let mut starts = [0u16; 1024];
-    let mut ends = [0u16; 1024];
     load(tails, &mut all_tails);
     load(rotations, &mut all_rotations);
     let checked = rotations::check_map(
@@ -344,7 +350,6 @@ fn check_slices(
         &mut from,
         &mut grouped,
         &mut starts,
-        &mut ends,
     );
     let verdict = checked.verdict;
     verdict

@@ -82,21 +82,21 @@ load-requires-2 c κs = let t = c .before .before .before in (refl, omega (arith
 
 check-map-requires : tie.Need-check-map-requires
 check-map-requires c κs =
-    let l = c .before .before .before .before .before .before .before .before in
+    let l = c .before .before .before .before .before .before .before in
     let t = told l in
     let n = counts-range _ _ _ (numbers-passed (counted t)) in
     let range = subst InRange (sym (map-is l)) (turns-range (drawn (start l)) (edges-passed t)) in
-    (n .3, omega (arith, n .1), outer-range _ _ _ (numbers-passed (counted t)), refl, refl, refl, refl, refl, refl, range)
+    (n .3, omega (arith, n .1), outer-range _ _ _ (numbers-passed (counted t)), refl, refl, refl, refl, refl, range)
 
 returns-3 : tie.Need-returns-3
 returns-3 c =
-    let l = c .before .before .before .before .before .before .before .before .before in
+    let l = c .before .before .before .before .before .before .before .before in
     let t = told l in
     let m = c .check-map in
     let v = m .result .verdict in
     let lefts = m .last .1 .1 .1 .1 .1 .0 in
     judged-map (drawn (start l)) v (numbers-passed (counted t)) (edges-passed t)
-    (map-judged _ (at lefts) (m .result .faces) v (subst (λ 𝓜. MapJudged 𝓜 (at lefts) (m .result .faces) v) (map-is l) (m .ensures .6)))
+    (map-judged _ (at lefts) (m .result .faces) v (subst (λ 𝓜. MapJudged 𝓜 (at lefts) (m .result .faces) v) (map-is l) (m .ensures .5)))
 
 pub check-slices-spec : {M : Type 1} → statement M
 check-slices-spec =

@@ -1,145 +1,193 @@
--- The sheet checks: the bytes passed, then the arrays are filled with the sheet's map; each way out is a verdict of the whole list, by a law of `Opening`.
-use mathlib.Core.Path.{_≡_, sym, subst}
+-- The sheet checks: the head, the edges, then the map that the arrays hold; each way out is a verdict of the whole list, by a law of `Opening`.
+use mathlib.Core.Path.{_≡_, refl, sym, subst}
 use mathlib.Core.List.{List}
 use Prim.Native.Nat.{ℕ}
+use lib.IntN.{ℤ, pos}
 use native.Mathlib.Omega.{arith}
 use borrow.Author.Needs.{needs}
 use Rattle.refusals.specs.Order.{NoneOf}
+use Rattle.refusals.specs.declared.Verdict.{Verdict}
 use Rattle.maps.specs.Map.{Map}
 use Rattle.maps.specs.Check.{InRange}
 use Rattle.arrays.specs.At.{at}
 use Rattle.arrays.specs.Maps.{mapOf}
+use Rattle.arrays.proofs.FillLoops.{same-everywhere}
 use Rattle.rotations.specs.MapChecks.{MapJudged}
-use Rattle.records.specs.Sheet.{sheetMap, byteChecks}
-use Rattle.records.proofs.Bytes.{bytes-range, bytes-outer}
-use Rattle.sheets.specs.declared.Opened.{Opened}
-use Rattle.sheets.proofs.Opening.{maps-are, bytes-room, opens-refused, opens-judged, prepared-if}
+use Rattle.records.specs.Sheet.{sheetMap, headChecks, byteChecks}
+use Rattle.records.specs.inner.Reading.{HeadOf, HeadRead}
+use Rattle.records.proofs.Bytes.{bytes-range, bytes-outer, refused-head}
+use Rattle.sheets.specs.inner.Reading.{FieldsRead, EdgesRead}
+use Rattle.sheets.proofs.Opening.{maps-are, bytes-room, opens-bytes, opens-map, not-accepted, sheet-passed, if-passed}
 use Rattle.sheets.proofs.open_walked.Statement.{statement}
 use Rattle.sheets.proofs.open_walked.Tie as tie
 
--- ── the bytes passed ──
-abbrev sheet : tie.After-enum-told → List ℕ
-sheet c = c .before .before .before .before .args .s .now
+-- ── the head passed ──
+abbrev begun : tie.After-read-head → tie.Start
+begun c = c .before .before
 
-passed : (c : tie.After-enum-told) → NoneOf (byteChecks (sheet c))
-passed c = rw (c .enum-told .given .1) at (c .before .before .check-bytes .ensures)
+head-read : (c : tie.After-read-head) (v : Verdict) → c .read-head .result .verdict ≡ v → HeadRead (begun c .args .s .now) (c .read-head .result) v
+head-read c v e = subst (HeadRead (begun c .args .s .now) (c .read-head .result)) e (c .read-head .ensures)
 
-abbrev begun : tie.After-enum-told → tie.Start
-begun c = c .before .before .before .before
+abbrev headed : tie.After-enum-told → tie.After-read-head
+headed c = c .before .before
 
--- ── the arrays are filled ──
-abbrev counted : tie.After-outer-of → tie.After-edges-of
-counted c = c .before
+head-passed : (c : tie.After-enum-told)
+    → NoneOf (headChecks (begun (headed c) .args .s .now)) × HeadOf (begun (headed c) .args .s .now) (headed c .read-head .result)
+head-passed c = head-read (headed c) _ (c .enum-told .given .1)
 
-abbrev told : tie.After-outer-of → tie.After-enum-told
-told c = c .before .before .before
+-- ── the edges passed ──
+abbrev told : tie.After-read-edges → tie.After-enum-told
+told c = c .before .before .before .before
 
-abbrev read : tie.After-fill-rotations → tie.After-outer-of
-read c = c .before .before .before .before
+abbrev start : tie.After-read-edges → tie.Start
+start c = begun (headed (told c))
 
-abbrev map' : tie.After-fill-rotations → Map
-map' c =
-    mapOf (counted (read c) .before .nodes-of .result) (counted (read c) .edges-of .result) (c .before .before .fill-tails .last .1 .1 .0)
-    (c .fill-rotations .last .1 .1 .0)
+abbrev sheet : tie.After-read-edges → List ℕ
+sheet c = start c .args .s .now
 
-map-is : (c : tie.After-fill-rotations) → map' c ≡ sheetMap (sheet (told (read c)))
+abbrev tails : tie.After-read-edges → List ℕ
+tails c = c .read-edges .last .1 .1 .1 .1 .0
+
+abbrev rotations : tie.After-read-edges → List ℕ
+rotations c = c .read-edges .last .1 .1 .1 .1 .1 .0
+
+abbrev capacities : tie.After-read-edges → List ℤ
+capacities c = c .read-edges .last .1 .1 .1 .1 .1 .1 .0
+
+edges-read : (c : tie.After-read-edges) (v : Verdict) → c .read-edges .result ≡ v → EdgesRead (sheet c) (tails c) (rotations c) (capacities c) v
+edges-read c v e = subst (EdgesRead (sheet c) (tails c) (rotations c) (capacities c)) e (c .read-edges .ensures .3)
+
+abbrev read : tie.After-enum-told2 → tie.After-read-edges
+read c = c .before .before
+
+edges-passed : (c : tie.After-enum-told2)
+    → NoneOf (byteChecks (sheet (read c))) × FieldsRead (sheet (read c)) (tails (read c)) (rotations (read c)) (capacities (read c))
+edges-passed c = edges-read (read c) _ (c .enum-told2 .given .1)
+
+-- ── the map that the arrays hold is the sheet's ──
+abbrev head : (c : tie.After-enum-told2) → HeadOf (sheet (read c)) (headed (told (read c)) .read-head .result)
+head c = head-passed (told (read c)) .1
+
+abbrev map' : tie.After-enum-told2 → Map
+map' c = let h = headed (told (read c)) .read-head .result in mapOf (h .nodes) (h .edges) (tails (read c)) (rotations (read c))
+
+map-is : (c : tie.After-enum-told2) → map' c ≡ sheetMap (sheet (read c))
 map-is c =
-    maps-are (sheet (told (read c))) _ _ (c .before .before .fill-tails .last .1 .1 .0) (c .fill-rotations .last .1 .1 .0)
-    (counted (read c) .before .nodes-of .ensures) (counted (read c) .edges-of .ensures) (c .before .before .fill-tails .ensures .1)
-    (c .fill-rotations .ensures .1)
+    let f = edges-passed c .1 in
+    maps-are (sheet (read c)) _ _ (tails (read c)) (rotations (read c)) (head c .nodes-are) (head c .edges-are) (f .tails-are) (f .rotations-are)
+
+abbrev lent : tie.After-check-map → tie.After-enum-told2
+lent c = c .before .before .before .before .before .before .before .before
+
+abbrev lefts : tie.After-check-map → List ℕ
+lefts c = c .check-map .last .1 .1 .1 .1 .1 .0
+
+judged : (c : tie.After-check-map) (v : Verdict) → c .check-map .result .verdict ≡ v
+    → MapJudged (sheetMap (sheet (read (lent c)))) (at (lefts c)) (c .check-map .result .faces) v
+judged c v e =
+    subst (MapJudged (sheetMap (sheet (read (lent c)))) (at (lefts c)) (c .check-map .result .faces)) e
+    (subst (λ 𝓜. MapJudged 𝓜 (at (lefts c)) (c .check-map .result .faces) (c .check-map .result .verdict)) (map-is (lent c)) (c .check-map .ensures .5))
 
 -- ── the needs, in the order of the code ──
 returns : tie.Need-returns
 returns c =
-    let judged = c .before .before .before .before in
-    let p = judged .before .before .pre in
-    let e = c .refused .ensures in (
+    let h = c .before .before .before .before in
+    let p = begun h .pre in
+    let r = c .refused .ensures in (
       p .0,
+      p .1,
       p .2,
-      p .4,
-      p .5,
-      p .6,
-      p .7,
-      p .8,
-      p .9,
-      opens-refused _ _ _ _ _ _ e (rw (c .before .before .bytes .given .1) at (judged .check-bytes .ensures)),
-      rw e tt,
+      p .3,
+      opens-bytes (begun h .args .s .now) (c .refused .result) _ _ r (refused-head _ _ _ (head-read h _ (c .before .before .whole .given .1))),
+      not-accepted (r .0),
     )
 
-nodes-of-requires : tie.Need-nodes-of-requires
-nodes-of-requires c κs = bytes-room (sheet c) (passed c) .0
-
-edges-of-requires : tie.Need-edges-of-requires
-edges-of-requires c κs = bytes-room (sheet (c .before)) (passed (c .before)) .0
-
-outer-of-requires : tie.Need-outer-of-requires
-outer-of-requires c κs = let t = c .before .before in bytes-room (sheet t) (passed t) .6
-
-fill-tails-requires : tie.Need-fill-tails-requires
-fill-tails-requires c κs =
-    let r = c .before in
-    let p = begun (told r) .pre in
-    (passed (told r), counted r .edges-of .ensures, p .0, p .1)
-
-fill-rotations-requires : tie.Need-fill-rotations-requires
-fill-rotations-requires c κs =
-    let r = c .before .before .before in
-    let p = begun (told r) .pre in
-    (passed (told r), counted r .edges-of .ensures, p .2, p .3)
-
-check-map-requires : tie.Need-check-map-requires
-check-map-requires c κs =
-    let f = c .before .before .before .before .before .before .before .before in
-    let t = told (read f) in
-    let room = bytes-room (sheet t) (passed t) in
-    let n = counted (read f) .before .nodes-of .ensures in
-    let e = counted (read f) .edges-of .ensures in
-    let p = begun t .pre in (
-      omega (arith, e, room .4),
-      omega (arith, n, room .2),
-      omega (arith, e, read f .outer-of .ensures, bytes-outer (sheet t) (passed t)),
-      p .4,
-      p .5,
-      p .6,
-      p .7,
-      p .8,
-      p .9,
-      subst InRange (sym (map-is f)) (bytes-range (sheet t) (passed t)),
+read-edges-requires : tie.Need-read-edges-requires
+read-edges-requires c κs =
+    let h = head-passed (c .before .before .before) in (
+      h .0,
+      h .1 .length-is,
+      h .1 .nodes-are,
+      h .1 .edges-are,
+      refl,
+      same-everywhere 1024 0,
+      refl,
+      same-everywhere 1024 0,
+      refl,
+      same-everywhere 1024 (pos 0),
     )
 
 returns-2 : tie.Need-returns-2
 returns-2 c =
-    let f = c .before .before .before .before .before .before .before .before .before in
-    let r = read f in
-    let t = told r in
-    let m = c .check-map in
-    let v = m .result .verdict in
-    let lefts = m .last .1 .1 .1 .1 .1 .0 in
-    let nodes = counted r .before .nodes-of in
-    let edges = counted r .edges-of in
-    let outer = r .outer-of in
-    let tails = f .before .before .fill-tails .ensures in
-    let rotations = f .fill-rotations .ensures in
-    let e = m .ensures in
-    let o : Opened = record {
-      verdict = v;
-      nodes = nodes .result;
-      edges = edges .result;
-      faces = m .result .faces;
-      parts = m .result .parts;
-      outer = outer .result;
-    } in (
-      tails .0,
-      rotations .0,
-      e .0,
+    let e = c .before .before .before .before in
+    let p = start e .pre in
+    let r = c .refused2 .ensures in (
+      p .0,
+      p .1,
+      p .2,
+      p .3,
+      opens-bytes (sheet e) (c .refused2 .result) _ _ r (edges-read e _ (c .before .before .read .given .1)),
+      not-accepted (r .0),
+    )
+
+check-map-requires : tie.Need-check-map-requires
+check-map-requires c κs =
+    let e = c .before .before .before .before .before .before .before in
+    let s = sheet (read e) in
+    let b = edges-passed e .0 in
+    let room = bytes-room s b in
+    let h = head e in
+    let p = start (read e) .pre in (
+      omega (arith, h .edges-are, room .4),
+      omega (arith, h .nodes-are, room .2),
+      omega (arith, h .edges-are, h .outer-is, bytes-outer s b),
+      refl,
+      p .0,
+      p .1,
+      p .2,
+      p .3,
+      subst InRange (sym (map-is e)) (bytes-range s b),
+    )
+
+returns-3 : tie.Need-returns-3
+returns-3 c =
+    let m = c .before .before .before .before in
+    let e = m .check-map .ensures in
+    let r = c .refused3 .ensures in (
       e .1,
       e .2,
       e .3,
       e .4,
-      e .5,
-      opens-judged (sheet t) lefts o (passed t) (nodes .ensures) (edges .ensures) (outer .ensures) v
-          (subst (λ 𝓜. MapJudged 𝓜 (at lefts) (m .result .faces) v) (map-is f) (e .6)),
-      prepared-if (sheet t) o v (edges .result) (outer .result) _ _ _ _ _ _ _ _ (edges .ensures) (outer .ensures) (tails .1) (rotations .1) (e .7),
+      opens-map (sheet (read (lent m))) (c .refused3 .result) _ _ r (edges-passed (lent m) .0) (judged m _ (c .before .before .verdict .given .1)),
+      not-accepted (r .0),
+    )
+
+returns-4 : tie.Need-returns-4
+returns-4 c =
+    let m = c .before .before in
+    let l = lent m in
+    let h = head l in
+    let f = edges-passed l .1 in
+    let j = judged m _ (c .enum-told3 .given .1) in
+    let e = m .check-map .ensures in (
+      e .1,
+      e .2,
+      e .3,
+      e .4,
+      (
+        sheet-passed (sheet (read l)) (edges-passed l .0) (j .0),
+        record {
+          nodes-are = h .nodes-are;
+          edges-are = h .edges-are;
+          faces-are = j .2;
+          outer-is = h .outer-is;
+          tails-are = f .tails-are;
+          rotations-are = f .rotations-are;
+          capacities-are = f .capacities-are;
+          lefts-are = j .1;
+        },
+      ),
+      λ _. if-passed (c .enum-told3 .given .1) (e .6),
     )
 
 pub open-walked-spec : {M : Type 1} → statement M
@@ -151,10 +199,14 @@ open-walked-spec =
     (λ c κs. search needs)
     returns
     (λ c. search needs)
-    nodes-of-requires
-    edges-of-requires
-    outer-of-requires
-    fill-tails-requires
-    fill-rotations-requires
+    read-edges-requires
+    (λ c. search needs)
+    (λ c κs. search needs)
+    returns-2
+    (λ c. search needs)
     check-map-requires
-    returns-2)
+    (λ c. search needs)
+    (λ c κs. search needs)
+    returns-3
+    (λ c. search needs)
+    returns-4)

@@ -1,7 +1,8 @@
--- Checks 1, 2 and 4 to 7 of the record of an edge: the record is whole, at its place behind the head; then its fields are judged as they stand in it.
+-- Checks 1, 2 and 4 to 7 of the record of an edge: the record is whole, at its place behind the head; then its fields are read and judged as they stand in it.
 use mathlib.Core.Path.{_≡_, _∙_, ap, subst}
 use Prim.Native.Nat.{_+_, _≤_}
 use lib.ListN.{length}
+use Rattle.fields.specs.Fields.{u16At, i32At}
 use Rattle.refusals.specs.Order.{Judged}
 use Rattle.refusals.specs.declared.Verdict.{Verdict}
 use Rattle.records.specs.Record.{recordChecks}
@@ -10,10 +11,10 @@ use Rattle.signed.proofs.Laws.{number-of-bits}
 use Rattle.refusals.proofs.Order.{first-left, judged-right}
 use Rattle.records.specs.Sheet.{edgeAfter, edgeAt, edgeRecordChecks}
 use Rattle.records.proofs.Record.{edge-body}
-use Rattle.records.proofs.EdgeRead.{edge-read}
+use Rattle.records.proofs.EdgeRead.{edge-read, edge-told}
 use borrow.Author.Needs.{needs}
-use Rattle.records.proofs.check_edge_record.Statement.{statement}
-use Rattle.records.proofs.check_edge_record.Tie as tie
+use Rattle.records.proofs.read_edge.Statement.{statement}
+use Rattle.records.proofs.read_edge.Tie as tie
 
 -- ── the record begins behind the sheet's head and the records before it ──
 abbrev begun : tie.After-check-record → tie.Start
@@ -38,19 +39,21 @@ whole c =
 -- ── the needs, in the order of the code ──
 returns : tie.Need-returns
 unfolding edgeRecordChecks
-returns c = first-left _ _ _ _ (judged (c .before .before .before) _ (c .before .whole .given .1))
+returns c =
+    let k = c .before .before .before .before in
+    rw (c .refused-edge .ensures) (first-left _ _ _ _ (judged k _ (c .before .before .whole .given .1)))
 
-read-wide-requires : tie.Need-read-wide-requires
-read-wide-requires c κs = omega (arith, whole c)
+read-u16-requires : tie.Need-read-u16-requires
+read-u16-requires c κs = omega (arith, whole c)
 
-read-wide-requires-2 : tie.Need-read-wide-requires-2
-read-wide-requires-2 c κs = omega (arith, whole (c .before))
+read-u16-requires-2 : tie.Need-read-u16-requires-2
+read-u16-requires-2 c κs = omega (arith, whole (c .before))
 
-read-wide-requires-3 : tie.Need-read-wide-requires-3
-read-wide-requires-3 c κs = omega (arith, whole (c .before .before))
+read-u16-requires-3 : tie.Need-read-u16-requires-3
+read-u16-requires-3 c κs = omega (arith, whole (c .before .before))
 
-read-wide-requires-4 : tie.Need-read-wide-requires-4
-read-wide-requires-4 c κs = omega (arith, whole (c .before .before .before))
+read-u16-requires-4 : tie.Need-read-u16-requires-4
+read-u16-requires-4 c κs = omega (arith, whole (c .before .before .before))
 
 read-i32-requires : tie.Need-read-i32-requires
 read-i32-requires c κs = omega (arith, whole (c .before .before .before .before))
@@ -69,35 +72,50 @@ returns-2 c =
     let tail = head .before in
     let told = tail .before in
     let k = checked told in
-    let s = begun k in
+    let a = begun k .args in
+    let s = a .s .now in
     let v = c .check-fields .result in
     let forward-is = number-of-bits (forward .read-i32 .result) (record { sfits = forward .read-i32 .ok }) ∙ forward .read-i32 .ensures in
     let backward-is = number-of-bits (backward .read-i322 .result) (record { sfits = backward .read-i322 .ok }) ∙ backward .read-i322 .ensures in
-    judged-right _ _ v (judged k _ (told .enum-told .given .1))
-    (edge-read (s .args .s .now) (s .args .e) v (s .pre .1) (s .pre .4) (s .pre .5) (place k)
-    (tail .read-wide .ensures) (head .read-wide2 .ensures) (rotation .read-wide3 .ensures) (back .read-wide4 .ensures) forward-is backward-is
-    (c .check-fields .ensures))
+    edge-told s (a .e) _ v
+    (judged-right _ _ v (judged k _ (told .enum-told .given .1))
+    (edge-read s (a .e) v (begun k .pre .1) (begun k .pre .4) (begun k .pre .5) (place k)
+    (tail .read-u16 .ensures) (head .read-u162 .ensures) (rotation .read-u163 .ensures) (back .read-u164 .ensures) forward-is backward-is
+    (c .check-fields .ensures)))
+    (record {
+      tail-is = tail .read-u16 .ensures ∙ ap (u16At s) (omega (arith, place k));
+      head-is = head .read-u162 .ensures ∙ ap (u16At s) (omega (arith, place k));
+      rotation-is = rotation .read-u163 .ensures ∙ ap (u16At s) (omega (arith, place k));
+      back-is = back .read-u164 .ensures ∙ ap (u16At s) (omega (arith, place k));
+      forward-is = forward-is ∙ ap (i32At s) (omega (arith, place k));
+      backward-is = backward-is ∙ ap (i32At s) (omega (arith, place k));
+    })
 
-pub check-edge-record-spec : {M : Type 1} → statement M
-check-edge-record-spec =
+pub read-edge-spec : {M : Type 1} → statement M
+read-edge-spec =
     tie.close
     (tie.spec
     (λ c κs. search needs)
     (λ c κs. search needs)
     (λ c. search needs)
+    (λ c κs. search needs)
     returns
     (λ c. search needs)
     (λ c. search needs)
-    read-wide-requires
+    read-u16-requires
     (λ c. search needs)
-    read-wide-requires-2
+    read-u16-requires-2
     (λ c. search needs)
-    read-wide-requires-3
+    read-u16-requires-3
     (λ c. search needs)
-    read-wide-requires-4
+    read-u16-requires-4
     (λ c. search needs)
     read-i32-requires
     (λ c. search needs)
     read-i32-requires-2
+    (λ c. search needs)
+    (λ c. search needs)
+    (λ c. search needs)
+    (λ c. search needs)
     (λ c κs. search needs)
     returns-2)

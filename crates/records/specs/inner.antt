@@ -1,0 +1,2 @@
+-- What inner functions are proved with: no operation's contract and no printed statement rests on these.
+pub mod Reading
