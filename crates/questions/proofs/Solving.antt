@@ -1,14 +1,15 @@
 -- Solve: its ways out as verdicts of its whole list of checks; its ends and its value as the solver takes them.
 use mathlib.Core.Path.{_≡_, subst}
-use mathlib.Core.Bool.{Bool}
+use mathlib.Core.Bool.{Bool, true, false}
 use mathlib.Core.List.{List, _++_}
-use Prim.Native.Nat.{ℕ}
-use lib.ListN.{length}
+use Prim.Native.Nat.{ℕ, _-_}
+use lib.ListN.{length, take, drop}
 use lib.IntN.{ℤ}
 use Rattle.refusals.specs.Order.{Check, NoneOf, FirstOf, Judged}
 use Rattle.refusals.specs.declared.Verdict.{Verdict}
 use Rattle.refusals.proofs.Order.{none-append, first-left, first-right}
 use Rattle.maps.specs.Map.{Map}
+use Rattle.balance.proofs.Parts.{part-kept, part-filled}
 use Rattle.solver.specs.inner.Ends.{Ends}
 use Rattle.solver.specs.inner.Decision.{Decided}
 use Rattle.solver.specs.inner.Named.{Named}
@@ -70,3 +71,9 @@ module _ {a b source sink : ℕ} (p : a ≡ source) (q : b ≡ sink) where
   named-as 𝓜 outer c {v} {value} e proposal S h =
       subst (λ w. Named 𝓜 outer c source sink w proposal S) e
       (subst (λ t. Named 𝓜 outer c source t v proposal S) q (subst (λ s. Named 𝓜 outer c s b v proposal S) p h))
+
+-- ── the flows are lent from the front of a slice: what was decided of that part is decided of the slice ──
+pub decided-back : (𝓜 : Map) (outer : ℕ) (c : ℕ → ℤ) (s t : ℕ) (value : ℤ) (flows y : List ℤ) (inside : List ℕ) (r : Bool)
+    → Decided 𝓜 outer c s t value (take (𝓜 .edges - 0) flows) y inside r → Decided 𝓜 outer c s t value flows (y ++ drop (𝓜 .edges - 0) flows) inside r
+decided-back 𝓜 outer c s t value flows y inside true d = (d .0, d .1, part-filled (𝓜 .edges) flows (d .0) y (d .2))
+decided-back 𝓜 outer c s t value flows y inside false d = (part-kept (𝓜 .edges) flows y (d .0), d .1)

@@ -130,13 +130,14 @@ pub fn solve<'a>(
         t,
         value,
         &mut parents,
-        flows,
+        &mut flows[0..edges],
         &mut inside,
     ) {
         return SolveAnswer::Can;
     }
-    node_sets::write_set(&inside, nodes, set);
-    let size = node_sets::count_set(&*set, nodes);
+    let words = node_sets::words_for(nodes);
+    node_sets::write_set(&inside, nodes, &mut set[0..words]);
+    let size = node_sets::count_set(&set[0..words], nodes);
     SolveAnswer::Cannot(arrays::narrow(size))
 }
 
@@ -204,10 +205,11 @@ pub fn largest<'a>(
         outer,
         s,
         t,
-        flows,
+        &mut flows[0..edges],
         &mut inside,
     );
-    node_sets::write_set(&inside, nodes, set);
+    let words = node_sets::words_for(nodes);
+    node_sets::write_set(&inside, nodes, &mut set[0..words]);
     if let Maximum::Value(v) = most {
         return LargestAnswer::Value(v);
     }
@@ -248,12 +250,13 @@ pub fn mark<'a>(
     if flows.len() < edges {
         return MarkAnswer::Refused(16, 0);
     }
-    let within = balance::check_within(capacities, edges, flows);
+    let given = &flows[0..edges];
+    let within = balance::check_within(capacities, edges, given);
     if let Verdict::Refused(k, p) = within {
         return MarkAnswer::Refused(k, p);
     }
     let mut nets = [0i32; 1024];
-    balance::fill_nets(tails, edges, flows, &mut nets);
+    balance::fill_nets(tails, edges, given, &mut nets);
     let balanced = balance::check_balance(&nets, nodes, s, t);
     if let Verdict::Refused(k, p) = balanced {
         return MarkAnswer::Refused(k, p);

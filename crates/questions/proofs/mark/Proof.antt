@@ -1,8 +1,9 @@
 -- Mark meets its contract. The facts at three places of the code, each gained by a check that did not refuse; then every way out is a law of `Marking`.
 use mathlib.Core.Path.{_≡_, refl, _∙_, ap}
 use mathlib.Core.List.{List}
-use Prim.Native.Nat.{_<_}
+use Prim.Native.Nat.{_-_, _<_}
 use native.Mathlib.Omega.{arith}
+use lib.ListN.{take}
 use lib.IntN.{ℤ, pos}
 use borrow.Author.Needs.{needs}
 use Rattle.refusals.specs.Order.{Check, NoneOf, Judged}
@@ -14,6 +15,7 @@ use Rattle.flows.specs.Check.{withinChecks, balanceChecks, EndOf}
 use Rattle.arrays.specs.At.{atℤ}
 use Rattle.arrays.specs.Maps.{drawingOf}
 use Rattle.arrays.proofs.FillLoops.{same-everywhere}
+use Rattle.balance.proofs.Parts.{part-length, part-net, part-within, part-balance}
 use Rattle.questions.specs.Question.{endChecks}
 use Rattle.questions.proofs.Asked.{ends-in}
 use Rattle.questions.proofs.Solving.{ends-as}
@@ -52,10 +54,20 @@ two c = ends-judged (checked c) Passed (c .enum-told .given .1)
 
 -- ── 17 did not refuse ──
 abbrev long : tie.After-check-within → tie.After-enum-told
-long c = c .before .before
+long c = c .before .before .before
+
+-- the part lent
+abbrev given : tie.Start → List ℤ
+given s = take (s .args .edges - 0) (s .args .flows .now)
+
+within-given : (c : tie.After-check-within) (v : Verdict) → c .check-within .result ≡ v
+    → Judged (withinChecks (base (long c) .args .edges) (atℤ (base (long c) .args .capacities .now)) (atℤ (given (base (long c))))) v
+within-given c v e = rw e at (c .check-within .ensures)
 
 within-judged : (c : tie.After-check-within) (v : Verdict) → c .check-within .result ≡ v → Judged (withinAt (base (long c))) v
-within-judged c v e = rw e at (c .check-within .ensures)
+within-judged c v e =
+    let s = base (long c) in
+    part-within (drawingAt s .map) (s .args .flows .now) (atℤ (s .args .capacities .now)) v (within-given c v e)
 
 abbrev roomy : tie.After-enum-told2 → tie.After-enum-told
 roomy c = long (c .before .before)
@@ -81,8 +93,9 @@ balance-judged c v e =
     let n = filled c in
     let s = start n in
     let w = checked (roomy (fitting n)) .before in
-    ends-balanced (drawingAt s .map) (atℤ (s .args .flows .now)) (s .pre .0) (nets' n) (n .fill-nets .ensures .1)
-    (w .before .wide .ensures) (w .wide2 .ensures) v (rw e at (c .check-balance .ensures))
+    part-balance (drawingAt s .map) (s .args .flows .now) (EndOf (s .args .source) (s .args .sink)) v
+    (ends-balanced (drawingAt s .map) (atℤ (given s)) (s .pre .0) (nets' n) (n .fill-nets .ensures .1)
+    (w .before .wide .ensures) (w .wide2 .ensures) v (rw e at (c .check-balance .ensures)))
 
 -- ── the needs, in the order of the code ──
 returns : tie.Need-returns
@@ -98,7 +111,10 @@ returns-2 c =
     mark-short (drawingAt s) (s .args .source) (s .args .sink) (s .args .flows .now) (two e) (c .if1 .taken)
 
 check-within-requires : tie.Need-check-within-requires
-check-within-requires c κs = (base (c .before) .pre .1, c .if1 .left)
+check-within-requires c κs =
+    let e = c .before in
+    let s = base (e .before) in
+    (s .pre .1, omega (arith, part-length (s .args .edges) (s .args .flows .now) (e .if1 .left)))
 
 returns-3 : tie.Need-returns-3
 returns-3 c =
@@ -106,7 +122,7 @@ returns-3 c =
     let e = long w in
     let s = base e in
     let j = within-judged w (Refused _ _) (c .before .within .given .1) in
-    mark-within (drawingAt s) (s .args .source) (s .args .sink) (s .args .flows .now) (two e) (w .before .if1 .left) _ _ j
+    mark-within (drawingAt s) (s .args .source) (s .args .sink) (s .args .flows .now) (two e) (w .before .before .if1 .left) _ _ j
 
 fill-nets-requires : tie.Need-fill-nets-requires
 fill-nets-requires c κs =
@@ -114,10 +130,10 @@ fill-nets-requires c κs =
     let s = base (roomy t) in
     let p = s .pre in (
       p .1,
-      t .before .before .before .if1 .left,
+      omega (arith, part-length (s .args .edges) (s .args .flows .now) (t .before .before .before .before .if1 .left)),
       refl,
       (λ d l. omega (arith, p .2 d l, p .0)),
-      flows-small (drawingAt s .map) (atℤ (s .args .flows .now)) (atℤ (s .args .capacities .now)) (p .3) (within t),
+      flows-small (drawingAt s .map) (atℤ (given s)) (atℤ (s .args .capacities .now)) (p .3) (within-given (t .before .before) Passed (t .enum-told2 .given .1)),
       same-everywhere 1024 (pos 0),
     )
 
@@ -129,7 +145,7 @@ returns-4 c =
     let b = c .before .before .before in
     let t = fitting (filled b) in
     let s = base (roomy t) in
-    mark-balance (drawingAt s) (s .args .source) (s .args .sink) (s .args .flows .now) (two (roomy t)) (t .before .before .before .if1 .left) (within t) _ _
+    mark-balance (drawingAt s) (s .args .source) (s .args .sink) (s .args .flows .now) (two (roomy t)) (t .before .before .before .before .if1 .left) (within t) _ _
     (balance-judged b (Refused _ _) (c .before .balanced .given .1))
 
 -- ── the value is the sum at the source ──
@@ -142,8 +158,8 @@ source-in c = ends-in _ _ _ (two (roomy (fitting c))) .0
 source-wide : (c : tie.After-fill-nets) → checked (roomy (fitting c)) .before .before .wide .result ≡ start c .args .source
 source-wide c = checked (roomy (fitting c)) .before .before .wide .ensures
 
-array-copy-out-t29 : tie.Need-array-copy-out-t29
-array-copy-out-t29 c = let n = sums c in omega (arith, source-in n, source-wide n, start n .pre .0)
+array-copy-out-t32 : tie.Need-array-copy-out-t32
+array-copy-out-t32 c = let n = sums c in omega (arith, source-in n, source-wide n, start n .pre .0)
 
 returns-5 : tie.Need-returns-5
 returns-5 c =
@@ -152,11 +168,12 @@ returns-5 c =
     let t = fitting n in
     let s = start n in
     let x = s .args .flows .now in (
-      mark-none (drawingAt s) (s .args .source) (s .args .sink) x (two (roomy t)) (t .before .before .before .if1 .left) (within t)
+      mark-none (drawingAt s) (s .args .source) (s .args .sink) x (two (roomy t)) (t .before .before .before .before .if1 .left) (within t)
           (balance-judged (e .before .before) Passed (e .enum-told3 .given .1)),
-      number-of-bits _ (record { sfits = c .t29 .given })
+      number-of-bits _ (record { sfits = c .t32 .given })
           ∙ ap (atℤ (nets' n)) (source-wide n)
-          ∙ net-of (drawingAt s .map) (atℤ x) (s .pre .0) (nets' n) (n .fill-nets .ensures .1) (s .args .source) (source-in n),
+          ∙ net-of (drawingAt s .map) (atℤ (given s)) (s .pre .0) (nets' n) (n .fill-nets .ensures .1) (s .args .source) (source-in n)
+          ∙ part-net (drawingAt s .map) x (s .args .source),
     )
 
 pub mark-spec : {M : Type 1} → statement M
@@ -170,6 +187,9 @@ mark-spec =
     returns
     (λ c. search needs)
     returns-2
+    (λ c. search needs)
+    (λ c. search needs)
+    (λ c. search needs)
     check-within-requires
     (λ c. search needs)
     returns-3
@@ -180,5 +200,5 @@ mark-spec =
     returns-4
     (λ c. search needs)
     (λ c. search needs)
-    array-copy-out-t29
+    array-copy-out-t32
     returns-5)

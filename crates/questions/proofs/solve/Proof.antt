@@ -2,10 +2,10 @@
 use mathlib.Core.Path.{_≡_, refl, _∙_}
 use mathlib.Core.Bool.{Bool, false}
 use mathlib.Core.Logic.{inl}
-use mathlib.Core.List.{List}
-use Prim.Native.Nat.{ℕ, _≤_}
+use mathlib.Core.List.{List, _++_}
+use Prim.Native.Nat.{ℕ, _-_, _≤_}
 use native.Mathlib.Omega.{arith}
-use lib.ListN.{length, take}
+use lib.ListN.{length, take, drop}
 use lib.IntN.{ℤ}
 use borrow.Author.Needs.{needs}
 use Rattle.refusals.specs.Order.{Check, NoneOf, FirstOf, Judged}
@@ -14,18 +14,20 @@ use Rattle.refusals.specs.declared.Verdict.the-variants.{Passed, Refused}
 use Rattle.refusals.proofs.Order.{said-yes, said-no}
 use Rattle.signed.proofs.Laws.{number-of-bits}
 use Rattle.maps.specs.Map.{Map}
-use Rattle.flows.specs.ProvingSet.{wordsFor}
+use Rattle.flows.specs.ProvingSet.{wordsFor, size}
 use Rattle.arrays.specs.At.{atℤ}
 use Rattle.arrays.specs.Maps.{mapOf}
 use Rattle.arrays.specs.inner.Flags.{flagged}
+use Rattle.node_sets.specs.inner.Words.{Written}
+use Rattle.balance.proofs.Parts.{part-length}
 use Rattle.solver.specs.inner.Decision.{Decided}
 use Rattle.solver.specs.inner.Named.{noParents, Named}
 use Rattle.solver.proofs.Preparing.{same-value, small-value}
 use Rattle.questions.specs.Question.{endChecks, valueChecks, roomChecks}
 use Rattle.questions.specs.Solve.{questionChecks}
 use Rattle.questions.proofs.Asked.{value-limited, room-flows}
-use Rattle.questions.proofs.Sets.{set-written, size-small, proves-written}
-use Rattle.questions.proofs.Solving.{solve-ends, solve-value, solve-room, solve-none, ends-as, ends-for, decided-as, named-as}
+use Rattle.questions.proofs.Sets.{words-lent, written-back, words-again, set-written, size-small, proves-written}
+use Rattle.questions.proofs.Solving.{solve-ends, solve-value, solve-room, solve-none, ends-as, ends-for, decided-as, decided-back, named-as}
 use Rattle.questions.proofs.solve.Statement.{statement}
 use Rattle.questions.proofs.solve.Tie as tie
 
@@ -108,13 +110,20 @@ returns-3 c =
     let j = room-judged r (Refused _ _) (c .before .room .given .1) in
     ((solve-room (a .nodes) (a .edges) (a .source) (a .sink) (a .value) (a .flows .now) (a .set .now) (two (ended e)) (inside e) _ _ j, refl, refl), tt)
 
+-- the flows of the edges are there to be lent
+flows-in : (c : tie.After-enum-told2) → base (asked c) .args .edges ≤ length (base (asked c) .args .flows .now)
+flows-in c = room-flows _ _ _ _ (room c) .0
+
+part-decide-end : tie.Need-part-decide-end
+part-decide-end c = flows-in (c .before)
+
 decide-requires : tie.Need-decide-requires
 decide-requires c κs =
     let m = c .before .before .before in
     let e = asked m in
     let w = checked (ended e) .before in (
       refl,
-      room-flows _ _ _ _ (room m) .0,
+      omega (arith, part-length (base e .args .edges) (base e .args .flows .now) (flows-in m)),
       base e .pre .0,
       ends-for (w .before .wide .ensures) (w .wide2 .ensures) (mapAt (base e)) (two (ended e)),
       small-value (value-limited _ (inside e)),
@@ -129,8 +138,12 @@ roomy c = c .before .before .before .before
 abbrev start : tie.After-decide → tie.Start
 start c = base (asked (roomy c))
 
+-- the part lent, as it came back, and the slice with it
+abbrev lent' : tie.After-decide → List ℤ
+lent' c = c .decide .last .1 .1 .1 .1 .1 .1 .1 .1 .1 .1 .1 .1 .1 .1 .1 .1 .1 .1 .0
+
 abbrev flows' : tie.After-decide → List ℤ
-flows' c = c .decide .last .1 .1 .1 .1 .1 .1 .1 .1 .1 .1 .1 .1 .1 .1 .1 .1 .1 .1 .0
+flows' c = lent' c ++ drop (start c .args .edges - 0) (start c .args .flows .now)
 
 abbrev inside' : tie.After-decide → List ℕ
 inside' c = c .decide .last .1 .1 .1 .1 .1 .1 .1 .1 .1 .1 .1 .1 .1 .1 .1 .1 .1 .1 .1 .0
@@ -138,12 +151,14 @@ inside' c = c .decide .last .1 .1 .1 .1 .1 .1 .1 .1 .1 .1 .1 .1 .1 .1 .1 .1 .1 .
 decided : (c : tie.After-decide) {answer : Bool} → c .decide .result ≡ answer
     → Decided (mapAt (start c)) (start c .args .outer) (capacityAt (start c)) (start c .args .source) (start c .args .sink) (start c .args .value)
     (start c .args .flows .now) (flows' c) (inside' c) answer
-decided c same =
+decided c {answer} same =
     let e = asked (roomy c) in
     let s = start c in
+    let a = s .args in
     let w = checked (ended e) .before in
-    decided-as (w .before .wide .ensures) (w .wide2 .ensures) (mapAt s) (s .args .outer) (capacityAt s) (same-value (value-limited _ (inside e)))
-    (s .args .flows .now) (flows' c) (inside' c) same (c .decide .ensures .1)
+    decided-back (mapAt s) (a .outer) (capacityAt s) (a .source) (a .sink) (a .value) (a .flows .now) (lent' c) (inside' c) answer
+    (decided-as (w .before .wide .ensures) (w .wide2 .ensures) (mapAt s) (a .outer) (capacityAt s) (same-value (value-limited _ (inside e)))
+    (take (a .edges - 0) (a .flows .now)) (lent' c) (inside' c) same (c .decide .ensures .1))
 
 -- the set is the one that the search names
 named : (c : tie.After-decide) → c .decide .result ≡ false
@@ -166,52 +181,89 @@ returns-4 : tie.Need-returns-4
 returns-4 c = let d = c .before .before in ((none d, decided d (c .if2 .taken), refl), tt)
 
 -- ── it cannot: the set is written ──
-abbrev decision : tie.After-write-set-arg → tie.After-decide
-decision c = c .before .before .before .before
+abbrev decision : tie.After-words-for → tie.After-decide
+decision c = c .before .before .before
 
-words-in : (c : tie.After-decide) → wordsFor (start c .args .nodes) ≤ length (start c .args .set .now)
-words-in c = room-flows _ _ _ _ (room (roomy c)) .1
+words-in : (c : tie.After-words-for) → wordsFor (start (decision c) .args .nodes) ≤ length (start (decision c) .args .set .now)
+words-in c = room-flows _ _ _ _ (room (roomy (decision c))) .1
+
+words-for-requires : tie.Need-words-for-requires
+words-for-requires c κs = start (c .before .before) .pre .0 .few-nodes
+
+part-write-set-end : tie.Need-part-write-set-end
+part-write-set-end c = let n = c .before in omega (arith, n .words-for .ensures, words-in n)
 
 write-set-requires : tie.Need-write-set-requires
-write-set-requires c κs = let d = decision c in (start d .pre .0 .few-nodes, words-in d)
+write-set-requires c κs =
+    let n = c .before .before in
+    let s = start (decision n) in
+    words-lent (s .args .set .now) (n .words-for .ensures) (words-in n) (s .pre .0 .few-nodes)
+
+abbrev counted : tie.After-write-set → tie.After-words-for
+counted c = c .before .before .before
+
+-- the slice with the words that were lent
+abbrev set' : tie.After-write-set → List ℕ
+set' c = c .write-set .last .1 .1 .0 ++ drop (counted c .words-for .result - 0) (start (decision (counted c)) .args .set .now)
+
+written : (c : tie.After-write-set)
+    → Written (inside' (decision (counted c))) (start (decision (counted c)) .args .nodes) (start (decision (counted c)) .args .set .now) (set' c)
+written c =
+    let n = counted c in
+    written-back (start (decision n) .args .set .now) (n .words-for .ensures) (words-in n) (c .write-set .ensures)
+
+words-kept : (c : tie.After-write-set) → wordsFor (start (decision (counted c)) .args .nodes) ≤ length (set' c)
+words-kept c = omega (arith, words-in (counted c), written c .length-kept)
+
+part-count-set-end : tie.Need-part-count-set-end
+part-count-set-end c = let w = c .before .before .before in omega (arith, counted w .words-for .ensures, words-kept w)
 
 count-set-requires : tie.Need-count-set-requires
 count-set-requires c κs =
-    let w = c .before .before .before in
-    let d = decision (w .before) in
-    (start d .pre .0 .few-nodes, omega (arith, words-in d, w .write-set .ensures .length-kept))
+    let w = c .before .before .before .before in
+    let n = counted w in
+    words-lent (set' w) (n .words-for .ensures) (words-kept w) (start (decision n) .pre .0 .few-nodes)
+
+abbrev wrote : tie.After-count-set → tie.After-write-set
+wrote c = c .before .before .before .before .before
+
+-- the number of ones in the words
+size-is : (c : tie.After-count-set) → c .count-set .result ≡ size (take (wordsFor (start (decision (counted (wrote c))) .args .nodes)) (set' (wrote c)))
+size-is c =
+    let w = wrote c in
+    let n = counted w in
+    c .count-set .ensures ∙ words-again (start (decision n) .args .set .now) (n .words-for .ensures) (words-in n) (w .write-set .ensures)
 
 narrow-requires : tie.Need-narrow-requires
 narrow-requires c κs =
-    let w = c .before .before .before .before in
-    size-small (w .write-set .ensures) (start (decision (w .before)) .pre .0 .few-nodes) _ (c .count-set .ensures)
-
-abbrev set' : tie.After-write-set → List ℕ
-set' c = c .write-set .last .1 .1 .0
+    let w = wrote c in
+    size-small (written w) (start (decision (counted w)) .pre .0 .few-nodes) _ (size-is c)
 
 returns-5 : tie.Need-returns-5
 returns-5 c =
-    let n = c .before in
-    let w = n .before .before .before .before in
-    let d = decision (w .before) in
+    let k = c .before in
+    let w = wrote k in
+    let n = counted w in
+    let d = decision n in
     let s = start d in
     let a = s .args in
-    let r = decided d (w .before .before .before .if2 .left) in
+    let left = n .before .if2 .left in
+    let r = decided d left in
     let ends = two (ended (asked (roomy d))) in (
       (
         none d,
         (
           take (wordsFor (a .nodes)) (set' w),
-          set-written (w .write-set .ensures),
-          proves-written (s .pre .0 .plane .sound .range) (capacityAt s) (w .write-set .ensures) (a .source) (a .sink) ends (a .value) (r .1),
-          c .narrow .ensures ∙ n .count-set .ensures,
+          set-written (written w),
+          proves-written (s .pre .0 .plane .sound .range) (capacityAt s) (written w) (a .source) (a .sink) ends (a .value) (r .1),
+          c .narrow .ensures ∙ size-is k,
         ),
         r .0,
       ),
       record {
         inside = flagged (inside' d);
-        named = named d (w .before .before .before .if2 .left);
-        holds = w .write-set .ensures .members;
+        named = named d left;
+        holds = written w .members;
       },
     )
 
@@ -231,10 +283,20 @@ solve-spec =
     (λ c. search needs)
     returns-3
     (λ c. search needs)
+    (λ c. search needs)
+    (λ c. search needs)
+    part-decide-end
     decide-requires
     (λ c. search needs)
     returns-4
+    words-for-requires
+    (λ c. search needs)
+    (λ c. search needs)
+    part-write-set-end
     write-set-requires
+    (λ c. search needs)
+    (λ c. search needs)
+    part-count-set-end
     count-set-requires
     narrow-requires
     (λ c. search needs)
