@@ -16,15 +16,15 @@ use Rattle.rotations.specs.inner.Passing.{IfPassed}
 
 module _ {darts outer parts : ℕ} (rotations order from : List ℕ) (𝓕 : Forest darts (at rotations) outer (at order) (at from) parts)
     (came : FirstCome (at rotations) outer (at order) (at from) darts) where
-  pub walked-if : (v : Verdict) (faces trees : ℕ) (lefts grouped starts ends : List ℕ)
-      → IfPassed v ((trees ≡ parts) × Grouped (rightOf lefts) darts faces grouped starts ends
-      × InRounds darts (stepOf rotations) faces (at grouped) (at starts) (at ends))
-      → IfPassed v (Walked darts faces outer trees (at rotations) lefts order from grouped starts ends)
-  walked-if Passed faces trees lefts grouped starts ends h =
+  pub walked-if : (v : Verdict) (faces trees : ℕ) (lefts grouped starts : List ℕ)
+      → IfPassed v ((trees ≡ parts) × Grouped (rightOf lefts) darts faces grouped starts
+      × InRounds darts (stepOf rotations) faces (at grouped) (at starts))
+      → IfPassed v (Walked darts faces outer trees (at rotations) lefts order from grouped starts)
+  walked-if Passed faces trees lefts grouped starts h =
       record {
         forest = subst (Forest darts (at rotations) outer (at order) (at from)) (sym (h .0)) 𝓕;
         groups = h .1;
         first-come = came;
         in-rounds = h .2;
       }
-  walked-if (Refused k p) faces trees lefts grouped starts ends h = tt
+  walked-if (Refused k p) faces trees lefts grouped starts h = tt

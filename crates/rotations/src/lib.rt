@@ -200,16 +200,15 @@ fn number_faces(
     lefts: &mut [u16; 1024],
     grouped: &mut [u16; 1024],
     starts: &mut [u16; 1024],
-    ends: &mut [u16; 1024],
 ) -> usize
-    requires { ⌜ (edges ≤ 512) × (length (now lefts) ≡ 1024) × (length (now grouped) ≡ 1024) × (length (now starts) ≡ 1024) × (length (now ends) ≡ 1024)
+    requires { ⌜ (edges ≤ 512) × (length (now lefts) ≡ 1024) × (length (now grouped) ≡ 1024) × (length (now starts) ≡ 1024)
         × Permutes (2 * edges) (stepOf (now rotations)) ⌝ }
     ensures { λ r. ⌜ (length (now (lefts .exit)) ≡ 1024) × (length (now (grouped .exit)) ≡ 1024)
-        × (length (now (starts .exit)) ≡ 1024) × (length (now (ends .exit)) ≡ 1024)
+        × (length (now (starts .exit)) ≡ 1024)
         × (r ≡ orbits (2 * edges) (stepOf (now (rotations .entry))))
         × ((d : ℕ) → d < 2 * edges → at (now (lefts .exit)) d ≡ orbitOf (2 * edges) (stepOf (now (rotations .entry))) d)
-        × Grouped (rightOf (now (lefts .exit))) (2 * edges) r (now (grouped .exit)) (now (starts .exit)) (now (ends .exit))
-        × InRounds (2 * edges) (stepOf (now (rotations .entry))) r (at (now (grouped .exit))) (at (now (starts .exit))) (at (now (ends .exit))) ⌝ }
+        × Grouped (rightOf (now (lefts .exit))) (2 * edges) r (now (grouped .exit)) (now (starts .exit))
+        × InRounds (2 * edges) (stepOf (now (rotations .entry))) r (at (now (grouped .exit))) (at (now (starts .exit))) ⌝ }
 {
     let darts = 2 * edges;
     traversal::unmark_all(lefts);
@@ -220,7 +219,6 @@ fn number_faces(
         let d = next;
         next += 1;
         if lefts[d] == UNMARKED {
-            ends[f] = narrow(free);
             free = mark_face(rotations, edges, d, narrow(f), lefts, grouped, free);
             starts[f] = narrow(free);
             f += 1;
@@ -257,20 +255,19 @@ fn check_flat<'a>(
     lefts: &mut [u16; 1024],
     grouped: &mut [u16; 1024],
     starts: &mut [u16; 1024],
-    ends: &mut [u16; 1024],
 ) -> Checked
     requires { ⌜ (edges ≤ 512) × (nodes ≤ 1024) × (length (now lefts) ≡ 1024) × (length (now grouped) ≡ 1024)
-        × (length (now starts) ≡ 1024) × (length (now ends) ≡ 1024) × Sound (mapOf nodes edges (now tails) (now rotations))
+        × (length (now starts) ≡ 1024) × Sound (mapOf nodes edges (now tails) (now rotations))
         × (parts ≤ 2 * edges) × ((part : ℕ → ℕ) × Components (mapOf nodes edges (now tails) (now rotations)) parts part) ⌝ }
     ensures { λ r. ⌜ (length (now (lefts .exit)) ≡ 1024) × (length (now (grouped .exit)) ≡ 1024)
-        × (length (now (starts .exit)) ≡ 1024) × (length (now (ends .exit)) ≡ 1024)
+        × (length (now (starts .exit)) ≡ 1024)
         × MapJudged (mapOf nodes edges (now (tails .entry)) (now (rotations .entry))) (at (now (lefts .exit))) (r .faces) (r .verdict)
         × IfPassed (r .verdict) ((r .parts ≡ parts)
-        × Grouped (rightOf (now (lefts .exit))) (2 * edges) (r .faces) (now (grouped .exit)) (now (starts .exit)) (now (ends .exit))
+        × Grouped (rightOf (now (lefts .exit))) (2 * edges) (r .faces) (now (grouped .exit)) (now (starts .exit))
         × InRounds (2 * edges) (stepOf (now (rotations .entry))) (r .faces)
-        (at (now (grouped .exit))) (at (now (starts .exit))) (at (now (ends .exit)))) ⌝ }
+        (at (now (grouped .exit))) (at (now (starts .exit)))) ⌝ }
 {
-    let faces = number_faces(rotations, edges, lefts, grouped, starts, ends);
+    let faces = number_faces(rotations, edges, lefts, grouped, starts);
     if nodes + faces != edges + 2 * parts {
         return refused(12);
     }
@@ -324,16 +321,15 @@ fn check_in_turn<'a>(
     from: &mut [u16; 1024],
     grouped: &mut [u16; 1024],
     starts: &mut [u16; 1024],
-    ends: &mut [u16; 1024],
 ) -> Checked
     requires { ⌜ (edges ≤ 512) × (nodes ≤ 1024) × (outer < 2 * edges) × (length (now lefts) ≡ 1024) × (length (now order) ≡ 1024)
-        × (length (now from) ≡ 1024) × (length (now grouped) ≡ 1024) × (length (now starts) ≡ 1024) × (length (now ends) ≡ 1024)
+        × (length (now from) ≡ 1024) × (length (now grouped) ≡ 1024) × (length (now starts) ≡ 1024)
         × InRange (mapOf nodes edges (now tails) (now rotations)) × (Sound (mapOf nodes edges (now tails) (now rotations)) → ⊥) ⌝ }
     ensures { λ r. ⌜ (length (now (lefts .exit)) ≡ 1024) × (length (now (order .exit)) ≡ 1024) × (length (now (from .exit)) ≡ 1024)
-        × (length (now (grouped .exit)) ≡ 1024) × (length (now (starts .exit)) ≡ 1024) × (length (now (ends .exit)) ≡ 1024)
+        × (length (now (grouped .exit)) ≡ 1024) × (length (now (starts .exit)) ≡ 1024)
         × MapJudged (mapOf nodes edges (now (tails .entry)) (now (rotations .entry))) (at (now (lefts .exit))) (r .faces) (r .verdict)
         × IfPassed (r .verdict) (Walked (2 * edges) (r .faces) outer (r .parts) (at (now (rotations .entry))) (now (lefts .exit))
-        (now (order .exit)) (now (from .exit)) (now (grouped .exit)) (now (starts .exit)) (now (ends .exit))) ⌝ }
+        (now (order .exit)) (now (from .exit)) (now (grouped .exit)) (now (starts .exit))) ⌝ }
 {
     if rotation_fault(tails, rotations, nodes, edges) {
         return refused(9);
@@ -351,7 +347,6 @@ fn check_in_turn<'a>(
         lefts,
         grouped,
         starts,
-        ends,
     )
 }
 
@@ -368,16 +363,15 @@ pub fn check_map<'a>(
     from: &mut [u16; 1024],
     grouped: &mut [u16; 1024],
     starts: &mut [u16; 1024],
-    ends: &mut [u16; 1024],
 ) -> Checked
     requires { ⌜ (edges ≤ 512) × (nodes ≤ 1024) × (outer < 2 * edges) × (length (now lefts) ≡ 1024) × (length (now order) ≡ 1024)
-        × (length (now from) ≡ 1024) × (length (now grouped) ≡ 1024) × (length (now starts) ≡ 1024) × (length (now ends) ≡ 1024)
+        × (length (now from) ≡ 1024) × (length (now grouped) ≡ 1024) × (length (now starts) ≡ 1024)
         × InRange (mapOf nodes edges (now tails) (now rotations)) ⌝ }
     ensures { λ r. ⌜ (length (now (lefts .exit)) ≡ 1024) × (length (now (order .exit)) ≡ 1024) × (length (now (from .exit)) ≡ 1024)
-        × (length (now (grouped .exit)) ≡ 1024) × (length (now (starts .exit)) ≡ 1024) × (length (now (ends .exit)) ≡ 1024)
+        × (length (now (grouped .exit)) ≡ 1024) × (length (now (starts .exit)) ≡ 1024)
         × MapJudged (mapOf nodes edges (now (tails .entry)) (now (rotations .entry))) (at (now (lefts .exit))) (r .faces) (r .verdict)
         × IfPassed (r .verdict) (Walked (2 * edges) (r .faces) outer (r .parts) (at (now (rotations .entry))) (now (lefts .exit))
-        (now (order .exit)) (now (from .exit)) (now (grouped .exit)) (now (starts .exit)) (now (ends .exit))) ⌝ }
+        (now (order .exit)) (now (from .exit)) (now (grouped .exit)) (now (starts .exit))) ⌝ }
 {
     let parts = walk_nodes(tails, rotations, nodes, edges, outer, order, from);
     if parts == 0 {
@@ -392,7 +386,6 @@ pub fn check_map<'a>(
             from,
             grouped,
             starts,
-            ends,
         );
     }
     check_flat(
@@ -404,6 +397,5 @@ pub fn check_map<'a>(
         lefts,
         grouped,
         starts,
-        ends,
     )
 }

@@ -16,6 +16,7 @@ use Rattle.maps.specs.Orbit.{iter}
 use Rattle.maps.proofs.Orbits.{iter-zero, iter-suc}
 use Rattle.arrays.specs.At.{at, atℤ}
 use Rattle.arrays.specs.Maps.{rightOf}
+use Rattle.grouping.specs.Grouped.{endOf}
 use Rattle.search.specs.Dual.{dualOf, WellFormed, Joined}
 use Rattle.search.specs.Parents.{up}
 use Rattle.search.specs.Level.{HasLevel}
@@ -88,21 +89,20 @@ module _ (right right' : ℕ → ℕ) (darts : ℕ) (same : (d : ℕ) → d < da
 
 -- ── a run ──
 -- two arrays of each kind that agree as far as they matter
-pub record Alike (darts faces : ℕ) (lefts lefts' : List ℕ) (lengths lengths' : List ℤ) (order order' starts starts' ends ends' : List ℕ) : Type 0 where
+pub record Alike (darts faces : ℕ) (lefts lefts' : List ℕ) (lengths lengths' : List ℤ) (order order' starts starts' : List ℕ) : Type 0 where
   pub same-lefts : (d : ℕ) → d < darts → at lefts d ≡ at lefts' d
   pub same-rights : (d : ℕ) → d < darts → rightOf lefts d ≡ rightOf lefts' d
   pub same-lengths : (d : ℕ) → d < darts → atℤ lengths d ≡ atℤ lengths' d
   pub same-starts : (f : ℕ) → f < faces → at starts f ≡ at starts' f
-  pub same-ends : (f : ℕ) → f < faces → at ends f ≡ at ends' f
-  pub same-order : (f j : ℕ) → f < faces → at starts f ≤ j → j < at ends f → at order j ≡ at order' j
+  pub same-order : (f j : ℕ) → f < faces → at starts f ≤ j → j < endOf darts (at starts) f → at order j ≡ at order' j
 
-module _ {darts faces : ℕ} {lefts lefts' : List ℕ} {lengths lengths' : List ℤ} {order order' starts starts' ends ends' : List ℕ}
-    (α : Alike darts faces lefts lefts' lengths lengths' order order' starts starts' ends ends') where
+module _ {darts faces : ℕ} {lefts lefts' : List ℕ} {lengths lengths' : List ℤ} {order order' starts starts' : List ℕ}
+    (α : Alike darts faces lefts lefts' lengths lengths' order order' starts starts') where
   abbrev G : Given
-  G = given lefts lengths order starts ends darts faces
+  G = given lefts lengths order starts darts faces
 
   abbrev G' : Given
-  G' = given lefts' lengths' order' starts' ends' darts faces
+  G' = given lefts' lengths' order' starts' darts faces
 
   -- ── the beginning ──
   sensible-alike : (f p : ℕ) → sensible lefts darts f p ≡ sensible lefts' darts f p
@@ -196,7 +196,8 @@ module _ {darts faces : ℕ} {lefts lefts' : List ℕ} {lengths lengths' : List 
 
   -- ── looks ──
   module _ (γ : InGroups G) where
-    crosses-alike : (i j : ℕ) {t u : Tables} → i < faces → at starts i ≤ j → Crosses G i (at ends i) j t u → Crosses G' i (at ends i) j t u
+    crosses-alike : (i j : ℕ) {t u : Tables} → i < faces → at starts i ≤ j → Crosses G i (endOf darts (at starts) i) j t u
+        → Crosses G' i (endOf darts (at starts) i) j t u
     crosses-alike i j l m (done k) = done k
     crosses-alike i j {t} l m (keep k a q) =
         let e = α .same-order i j l m k in
@@ -213,9 +214,13 @@ module _ {darts faces : ℕ} {lefts lefts' : List ℕ} {lengths lengths' : List 
         (subst (λ x. Pushed (t .waiting) (t .queue) (v .waiting) (v .queue) x (t .last) (v .last)) f p)
         (crosses-alike i (j + 1) l (omega (arith, m)) q)
 
+    same-ends : (f : ℕ) → f < faces → endOf darts (at starts) f ≡ endOf darts (at starts') f
+    same-ends zero l = refl
+    same-ends (suc f) l = α .same-starts f (omega (arith, l))
+
     look-alike : (i : ℕ) (t u : Tables) → i < faces → LookAt G i t u → LookAt G' i t u
     look-alike i t u l q =
-        rw (sym (α .same-starts i l)) (rw (sym (α .same-ends i l)) (crosses-alike i (at starts i) l (omega arith) q))
+        rw (sym (α .same-starts i l)) (rw (sym (same-ends i l)) (crosses-alike i (at starts i) l (omega arith) q))
 
     module _ (roots : List ℕ) (sound : WellFormed (dual G roots)) where
       -- the straightening that begins at c

@@ -14,7 +14,7 @@ use Rattle.search.specs.Dual.{dualOf, WellFormed}
 use Rattle.search.specs.Level.{CanLower}
 use Rattle.search.specs.Queue.{faceAt}
 use Rattle.search.specs.Moves.{Begun}
-use Rattle.search.specs.Given.{Given, dual, InGroups}
+use Rattle.search.specs.Given.{Given, dual, InGroups, endAt}
 use Rattle.search.specs.Configuration.{Tables, Configuration, configuration, front}
 use Rattle.search.specs.Look.{Crosses, done, keep, lower}
 use Rattle.search.specs.Straightening.{Follows, leaves, keeps, falls, Descends, down, Straightens, end, ring, next}
@@ -182,8 +182,8 @@ module _ (lefts : List ℕ) (lengths : List ℤ) (darts faces : ℕ) (roots : Li
 
 module _ (G : Given) (roots : List ℕ) (sound : WellFormed (dual G roots)) (g : InGroups G) where
   -- ── within a look ──
-  crosses-told : {first b i j : ℕ} {t u : Tables} (past : List Event) → Trying (dual G roots) (G .order) (G .starts) (G .ends) t first b i j
-      → (q : Crosses G i (at (G .ends) i) j t u) → Told (G .faces) (t .waiting) past → Told (G .faces) (u .waiting) (crossed q past)
+  crosses-told : {first b i j : ℕ} {t u : Tables} (past : List Event) → Trying (dual G roots) (G .order) (G .starts) t first b i j
+      → (q : Crosses G i (endAt G i) j t u) → Told (G .faces) (t .waiting) past → Told (G .faces) (u .waiting) (crossed q past)
   unfolding crossed
   crosses-told past r (done l) h = h
   crosses-told {j = j} past r (keep l a q) h = crosses-told past (try-keep sound g r (at (G .order) j) l refl (a .2)) q h
@@ -192,8 +192,8 @@ module _ (G : Given) (roots : List ℕ) (sound : WellFormed (dual G roots)) (g :
       crosses-told (fell (at (G .lefts) d) ∷ past) (try-lower sound g r d l refl v (a .0) (a .1) (a .2) p) q
       (told-fall h (at (G .lefts) d) (try-left sound g r d l refl) (try-fell sound g r d l refl v (a .0) (a .1) (a .2) p .flag))
 
-  crosses-kept : {first b i j : ℕ} {t u : Tables} → Trying (dual G roots) (G .order) (G .starts) (G .ends) t first b i j
-      → Crosses G i (at (G .ends) i) j t u → Kept (G .faces) (first + 1) t u
+  crosses-kept : {first b i j : ℕ} {t u : Tables} → Trying (dual G roots) (G .order) (G .starts) t first b i j
+      → Crosses G i (endAt G i) j t u → Kept (G .faces) (first + 1) t u
   crosses-kept r (done l) = kept-all
   crosses-kept {j = j} r (keep l a q) = crosses-kept (try-keep sound g r (at (G .order) j) l refl (a .2)) q
   crosses-kept {j = j} r (lower {u = v} l a p q) =

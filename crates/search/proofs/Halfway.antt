@@ -8,7 +8,7 @@ use Rattle.arrays.specs.At.{at}
 use Rattle.search.specs.Dual.{WellFormed}
 use Rattle.search.specs.Queue.{Pushed}
 use Rattle.search.specs.Moves.{Relaxed}
-use Rattle.search.specs.Given.{Given, dual, InGroups}
+use Rattle.search.specs.Given.{Given, dual, InGroups, endAt}
 use Rattle.search.specs.Configuration.{Tables, tablesOf}
 use Rattle.search.specs.Look.{Crosses, done, keep, lower, takenUp}
 use Rattle.search.specs.inner.Progress.{Looking}
@@ -19,8 +19,8 @@ pub record Halfway (G : Given) (start : Tables) (i s j : ℕ) (now : Tables) : T
   pub sound : WellFormed (dual G roots)
   pub first : ℕ
   pub bound : ℕ
-  pub trying : Trying (dual G roots) (G .order) (G .starts) (G .ends) now first bound i j
-  pub back : (u : Tables) → Crosses G i (at (G .ends) i) j now u → Crosses G i (at (G .ends) i) s start u
+  pub trying : Trying (dual G roots) (G .order) (G .starts) now first bound i j
+  pub back : (u : Tables) → Crosses G i (endAt G i) j now u → Crosses G i (endAt G i) s start u
 
 module _ (G : Given) (g : InGroups G) where
   pub look-begins : {t : Tables} (i s : ℕ) → Looking (dual G) t i → s ≡ at (G .starts) i
@@ -35,7 +35,7 @@ module _ (G : Given) (g : InGroups G) where
   }
 
   -- the dart at place j is crossed: it could not lower, or it did, and its left face was pushed
-  module _ {start now : Tables} {i s j : ℕ} (h : Halfway G start i s j now) (d : ℕ) (l : j < at (G .ends) i) (d-is : d ≡ at (G .order) j) where
+  module _ {start now : Tables} {i s j : ℕ} (h : Halfway G start i s j now) (d : ℕ) (l : j < endAt G i) (d-is : d ≡ at (G .order) j) where
     pub look-keeps : (ρ : List ℤ) (parents : List ℕ) (b : Bool) → b ≡ false → Relaxed (G .lefts) (G .lengths) (now .potentials) (now .parents) ρ parents i d b
         → Halfway G start i s (j + 1) (tablesOf ρ parents (now .waiting) (now .queue) (now .last))
     look-keeps ρ parents b e r = rw (kept .0, kept .1) again
@@ -79,6 +79,6 @@ module _ (G : Given) (g : InGroups G) where
         pushed : Pushed (now .waiting) (now .queue) (v .waiting) (v .queue) (at (G .lefts) d) (now .last) (v .last)
         pushed = subst (λ x. Pushed (now .waiting) (now .queue) (v .waiting) (v .queue) x (now .last) (v .last)) f-is p
 
-  pub look-ends : {start now : Tables} {i s j : ℕ} → Halfway G start i s j now → at (G .ends) i ≤ j → s ≡ at (G .starts) i
-      → Crosses G i (at (G .ends) i) (at (G .starts) i) start now
-  look-ends {start} {now} {i = i} h l s-is = subst (λ x. Crosses G i (at (G .ends) i) x start now) s-is (h .back now (done l))
+  pub look-ends : {start now : Tables} {i s j : ℕ} → Halfway G start i s j now → endAt G i ≤ j → s ≡ at (G .starts) i
+      → Crosses G i (endAt G i) (at (G .starts) i) start now
+  look-ends {start} {now} {i = i} h l s-is = subst (λ x. Crosses G i (endAt G i) x start now) s-is (h .back now (done l))

@@ -5,7 +5,7 @@ use Prim.Native.Nat.{ℕ, _+_, _-_, _*_, _≤_, _<_}
 use native.Mathlib.Omega.{arith}
 use Rattle.arrays.specs.At.{at}
 use Rattle.search.specs.Dual.{Dual, WellFormed}
-use Rattle.search.specs.Given.{Given, dual, InGroups}
+use Rattle.search.specs.Given.{Given, dual, InGroups, endAt}
 use lib.IntN.{ℤ}
 use Rattle.search.specs.Configuration.{Tables, tablesOf, Configuration, configuration, front}
 use Rattle.search.specs.Look.{Crosses, done, keep, lower, takenUp, LookAt}
@@ -36,15 +36,15 @@ pub bound-look : (faces left : ℕ) → faces ≤ 1024 → 0 < left → left ≤
 bound-look faces left l s m = omega arith
 
 module _ (G : Given) (roots : List ℕ) (sound : WellFormed (dual G roots)) (g : InGroups G) where
-  crosses-passing : {first b i j : ℕ} {t u : Tables} → Trying (dual G roots) (G .order) (G .starts) (G .ends) t first b i j
-      → Crosses G i (at (G .ends) i) j t u → Passing (dual G roots) u (first + 1) (b + 1024)
+  crosses-passing : {first b i j : ℕ} {t u : Tables} → Trying (dual G roots) (G .order) (G .starts) t first b i j
+      → Crosses G i (endAt G i) j t u → Passing (dual G roots) u (first + 1) (b + 1024)
   crosses-passing r (done l) = tried sound g r l
   crosses-passing {j = j} r (keep l a q) = crosses-passing (try-keep sound g r (at (G .order) j) l refl (a .2)) q
   crosses-passing {j = j} r (lower {u = v} l a p q) = crosses-passing (try-lower sound g r (at (G .order) j) l refl v (a .0) (a .1) (a .2) p) q
 
   -- what a look begins with
   pub look-trying : (c : Configuration) → PassingAt (dual G roots) c → 0 < c .left → c .first < c .tables .last
-      → Trying (dual G roots) (G .order) (G .starts) (G .ends) (takenUp (front c) (c .tables)) (c .first) (bound (G .faces) (c .left)) (front c)
+      → Trying (dual G roots) (G .order) (G .starts) (takenUp (front c) (c .tables)) (c .first) (bound (G .faces) (c .left)) (front c)
       (at (G .starts) (front c))
   look-trying c r l m = begin-trying sound g (r .passing) (bound-look (G .faces) (c .left) (sound .few-faces) l (r .in-period)) m (front c) refl
 

@@ -7,7 +7,7 @@ use lib.ListN.{set, length-set}
 use lib.IntN.{_+ℤ_}
 use lib.Signed.{mag, _≤ℤ_, _<ℤ_}
 use Rattle.arrays.specs.At.{at, atℤ}
-use Rattle.grouping.specs.Grouped.{Grouped}
+use Rattle.grouping.specs.Grouped.{endOf, Grouped}
 use Rattle.search.specs.Dual.{Dual, WellFormed, longest}
 use Rattle.search.specs.Level.{HasLevel}
 use Rattle.search.specs.Queue.{faceAt, Pushed}
@@ -25,16 +25,20 @@ abbrev Todo : List ℕ → ℕ → ℕ → ℕ → Type 0
 Todo order e j d = (m : ℕ) × (j ≤ m) × (m < e) × (at order m ≡ d)
 
 -- the face i, which stood at place `first`, is looked at: its darts before place j of the order are tried
-pub record Trying (N : Dual) (order starts ends : List ℕ) (t : Tables) (first b i j : ℕ) : Type 0 where
+pub record Trying (N : Dual) (order starts : List ℕ) (t : Tables) (first b i j : ℕ) : Type 0 where
   pub i-in : i < N .faces
   pub from-start : at starts i ≤ j
-  pub to-end : j ≤ at ends i
-  pub end-in : at ends i ≤ 1024
+  pub to-end : j ≤ endOf (N .darts) (at starts) i
+  pub end-in : endOf (N .darts) (at starts) i ≤ 1024
   pub few : b + 1024 < 1600000
   pub has : HasLevel (atℤ (t .potentials)) i
-  pub stage : Stage N t (first + 1) (b + j) (Todo order (at ends i) j)
+  pub stage : Stage N t (first + 1) (b + j) (Todo order (endOf (N .darts) (at starts) i) j)
 
-module _ {N : Dual} (sound : WellFormed N) {order starts ends : List ℕ} (g : Grouped (N .right) (N .darts) (N .faces) order starts ends) where
+module _ {N : Dual} (sound : WellFormed N) {order starts : List ℕ} (g : Grouped (N .right) (N .darts) (N .faces) order starts) where
+  -- where the groups end
+  abbrev stop : ℕ → ℕ
+  stop = endOf (N .darts) (at starts)
+
   -- ── the look begins ──
   module _ {t : Tables} {first b : ℕ} (r : Passing N t first b) (few : b + 1024 < 1600000) (some : first < t .last)
       (i : ℕ) (i-is : i ≡ faceAt (t .queue) first) where
@@ -47,7 +51,7 @@ module _ {N : Dual} (sound : WellFormed N) {order starts ends : List ℕ} (g : G
     pub off-flag : Changed (at (t .waiting)) (at (set (t .waiting) i 0)) i 0
     off-flag = stored (t .waiting) i 0 0 (omega (arith, looked-in, r .size-waiting, sound .few-faces))
 
-    pub begin-trying : Trying N order starts ends (takenUp i t) first b i (at starts i)
+    pub begin-trying : Trying N order starts (takenUp i t) first b i (at starts i)
     begin-trying = record {
       i-in = looked-in;
       from-start = omega arith;
@@ -65,8 +69,8 @@ module _ {N : Dual} (sound : WellFormed N) {order starts ends : List ℕ} (g : G
         state = widened (clear (r .state) i off-flag) (b + at starts i) (omega arith);
         line = line-take (r .line) some i i-is off-flag;
         quiet =
-            quiet-weaken (λ d. N .right d ≡ i) (Todo order (at ends i) (at starts i))
-            (λ d b q. (g .place d, omega (arith, g .from-start d b, ap (at starts) q), omega (arith, g .before-end d b, ap (at ends) q), g .stands d b))
+            quiet-weaken (λ d. N .right d ≡ i) (Todo order (stop i) (at starts i))
+            (λ d b q. (g .place d, omega (arith, g .from-start d b, ap (at starts) q), omega (arith, g .before-end d b, ap stop q), g .stands d b))
             (quiet-take i 0 off-flag (r .quiet));
       };
     }
@@ -79,7 +83,7 @@ module _ {N : Dual} (sound : WellFormed N) {order starts ends : List ℕ} (g : G
       ne q = t .1 (sym (t .0 .3) ∙ ap (at order) q ∙ sym p)
 
   -- ── the dart d at place j is tried ──
-  module _ {t : Tables} {first b i j : ℕ} (r : Trying N order starts ends t first b i j) (d : ℕ) (more : j < at ends i) (d-is : d ≡ at order j) where
+  module _ {t : Tables} {first b i j : ℕ} (r : Trying N order starts t first b i j) (d : ℕ) (more : j < stop i) (d-is : d ≡ at order j) where
     pub try-in : d < N .darts
     try-in = rw d-is (g .dart i j (r .i-in) (r .from-start) more)
 
@@ -101,8 +105,8 @@ module _ {N : Dual} (sound : WellFormed N) {order starts ends : List ℕ} (g : G
     next-few : b + (j + 1) < 1600000
     next-few = omega (arith, r .few, r .end-in)
 
-    on : {u : Tables} → HasLevel (atℤ (u .potentials)) i → Stage N u (first + 1) (b + (j + 1)) (λ e. (Todo order (at ends i) j e) × (e ≡ d → ⊥))
-        → Trying N order starts ends u first b i (j + 1)
+    on : {u : Tables} → HasLevel (atℤ (u .potentials)) i → Stage N u (first + 1) (b + (j + 1)) (λ e. (Todo order (stop i) j e) × (e ≡ d → ⊥))
+        → Trying N order starts u first b i (j + 1)
     on h s = record {
       i-in = r .i-in;
       from-start = omega (arith, r .from-start);
@@ -111,15 +115,15 @@ module _ {N : Dual} (sound : WellFormed N) {order starts ends : List ℕ} (g : G
       few = r .few;
       has = h;
       stage =
-          stage-weaken (λ e. (Todo order (at ends i) j e) × (e ≡ d → ⊥)) (Todo order (at ends i) (j + 1)) (b + (j + 1)) (omega arith)
-          (λ x l q. todo-next (at ends i) j d d-is x q) s;
+          stage-weaken (λ e. (Todo order (stop i) j e) × (e ≡ d → ⊥)) (Todo order (stop i) (j + 1)) (b + (j + 1)) (omega arith)
+          (λ x l q. todo-next (stop i) j d d-is x q) s;
     }
 
     -- it cannot lower
-    pub try-keep : atℤ (t .potentials) (N .left d) ≤ℤ (atℤ (t .potentials) i +ℤ N .length d) → Trying N order starts ends t first b i (j + 1)
+    pub try-keep : atℤ (t .potentials) (N .left d) ≤ℤ (atℤ (t .potentials) i +ℤ N .length d) → Trying N order starts t first b i (j + 1)
     try-keep le =
         on (r .has)
-        (stage-weaken (λ e. (Todo order (at ends i) j e) × (e ≡ d → ⊥)) (λ e. (Todo order (at ends i) j e) × (e ≡ d → ⊥)) (b + (j + 1)) (omega arith)
+        (stage-weaken (λ e. (Todo order (stop i) j e) × (e ≡ d → ⊥)) (λ e. (Todo order (stop i) j e) × (e ≡ d → ⊥)) (b + (j + 1)) (omega arith)
         (λ x l q. q) (stage-keep sound (r .stage) d try-in i try-right le))
 
     -- it lowers
@@ -129,7 +133,7 @@ module _ {N : Dual} (sound : WellFormed N) {order starts ends : List ℕ} (g : G
       wider : b + j ≤ b + (j + 1)
       wider = omega arith
 
-      pub try-lower : Trying N order starts ends u first b i (j + 1)
+      pub try-lower : Trying N order starts u first b i (j + 1)
       try-lower =
           on (has-stays sound (r .stage) d try-in i try-right (r .has) (b + (j + 1)) wider next-few next-near u e-ρ e-parents less i (r .has))
           (stage-lower sound (r .stage) d try-in i try-right (r .has) (b + (j + 1)) wider next-few next-near u e-ρ e-parents less p)
@@ -138,6 +142,6 @@ module _ {N : Dual} (sound : WellFormed N) {order starts ends : List ℕ} (g : G
       try-fell = stage-fell sound (r .stage) d try-in i try-right (r .has) (b + (j + 1)) wider next-few next-near u e-ρ e-parents less p
 
   -- ── all its darts are tried ──
-  pub tried : {t : Tables} {first b i j : ℕ} → Trying N order starts ends t first b i j → at ends i ≤ j → Passing N t (first + 1) (b + 1024)
+  pub tried : {t : Tables} {first b i j : ℕ} → Trying N order starts t first b i j → stop i ≤ j → Passing N t (first + 1) (b + 1024)
   tried {b = b} {i = i} {j = j} r all =
-      stage-weaken (Todo order (at ends i) j) (λ d. ⊥) (b + 1024) (omega (arith, r .to-end, r .end-in)) (λ d l q. omega (arith, q .1, q .2)) (r .stage)
+      stage-weaken (Todo order (stop i) j) (λ d. ⊥) (b + 1024) (omega (arith, r .to-end, r .end-in)) (λ d l q. omega (arith, q .1, q .2)) (r .stage)

@@ -5,7 +5,7 @@ use lib.ListN.{set}
 use Rattle.arrays.specs.At.{at}
 use Rattle.search.specs.Queue.{Pushed}
 use Rattle.search.specs.Moves.{Relaxed}
-use Rattle.search.specs.Given.{Given}
+use Rattle.search.specs.Given.{Given, endAt}
 use Rattle.search.specs.Configuration.{Tables, tablesOf}
 
 -- the darts at places j, .., e − 1 of the order are crossed in turn from the face i: each lowers its left face, which comes to wait, or cannot
@@ -25,4 +25,4 @@ takenUp i t = tablesOf (t .potentials) (t .parents) (set (t .waiting) i 0) (t .q
 
 -- the look at the face i: it waits no more, and the darts right of which it lies are crossed
 abbrev pub LookAt : (G : Given) (i : ℕ) → Tables → Tables → Type 0
-LookAt G i t u = Crosses G i (at (G .ends) i) (at (G .starts) i) (takenUp i t) u
+LookAt G i t u = Crosses G i (endAt G i) (at (G .starts) i) (takenUp i t) u

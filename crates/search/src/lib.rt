@@ -15,7 +15,7 @@ ghost use mathlib.Core.List.{List};
 ghost use Prim.Native.Nat.{ℕ, _+_, _<_, _≤_};
 ghost use lib.ListN.{length, take};
 ghost use lib.Signed.{mag};
-ghost use Rattle.grouping.specs.Grouped.{Grouped};
+ghost use Rattle.grouping.specs.Grouped.{endOf, Grouped};
 ghost use Rattle.arrays.specs.At.{at, atℤ};
 ghost use Rattle.arrays.specs.Maps.{rightOf};
 ghost use Rattle.search.specs.Dual.{dualOf, WellFormed, Joined};
@@ -381,6 +381,17 @@ fn straighten(
     Straightened::Straight(end)
 }
 
+// Where the group of the face f ends: behind the last dart, or where the group of the face before it starts.
+fn group_end(starts: &[u16; 1024], darts: usize, f: usize) -> usize
+    requires { ⌜ f < 1024 ⌝ }
+    ensures { λ r. ⌜ r ≡ endOf darts (at (now (starts .entry))) f ⌝ }
+{
+    if f == 0 {
+        return darts;
+    }
+    arrays::wide(starts[f - 1])
+}
+
 // Looks at the face i, which stands at the first place of the queue: it waits no more, and the darts whose right face it is are crossed. Returns the end of the
 // queue.
 fn look(
@@ -388,7 +399,6 @@ fn look(
     lengths: &[i32; 1024],
     order: &[u16; 1024],
     starts: &[u16; 1024],
-    ends: &[u16; 1024],
     darts: usize,
     faces: usize,
     potentials: &mut [i64; 1024],
@@ -400,14 +410,14 @@ fn look(
 ) -> usize
     requires { ⌜ Looking (dualOf (now lefts) (now lengths) darts faces)
         (tablesOf (now potentials) (now parents) (now waiting) (now queue) last) i
-        × Grouped (rightOf (now lefts)) darts faces (now order) (now starts) (now ends) ⌝ }
-    ensures { λ r. ⌜ LookAt (given (now (lefts .entry)) (now (lengths .entry)) (now (order .entry)) (now (starts .entry)) (now (ends .entry)) darts faces) i
+        × Grouped (rightOf (now lefts)) darts faces (now order) (now starts) ⌝ }
+    ensures { λ r. ⌜ LookAt (given (now (lefts .entry)) (now (lengths .entry)) (now (order .entry)) (now (starts .entry)) darts faces) i
         (tablesOf (now (potentials .entry)) (now (parents .entry)) (now (waiting .entry)) (now (queue .entry)) last)
         (tablesOf (now (potentials .exit)) (now (parents .exit)) (now (waiting .exit)) (now (queue .exit)) r) ⌝ }
 {
     waiting[i] = 0;
     let mut j = arrays::wide(starts[i]);
-    let e = arrays::wide(ends[i]);
+    let e = group_end(starts, darts, i);
     let mut end = last;
     while j < e {
         let d = arrays::wide(order[j]);
@@ -430,7 +440,6 @@ pub fn search(
     lengths: &[i32; 1024],
     order: &[u16; 1024],
     starts: &[u16; 1024],
-    ends: &[u16; 1024],
     darts: usize,
     faces: usize,
     roots: usize,
@@ -441,12 +450,12 @@ pub fn search(
 ) -> Outcome
     requires { ⌜ WellFormed (dualOf (now lefts) (now lengths) darts faces (take roots (now queue)))
         × Joined (dualOf (now lefts) (now lengths) darts faces (take roots (now queue)))
-        × Grouped (rightOf (now lefts)) darts faces (now order) (now starts) (now ends)
+        × Grouped (rightOf (now lefts)) darts faces (now order) (now starts)
         × (length (now potentials) ≡ 1024) × (length (now parents) ≡ 1024) × (length (now waiting) ≡ 1024) × (length (now queue) ≡ 1024)
         × (roots ≤ 1024) × ((f : ℕ) → f < 1024 → atℤ (now potentials) f ≡ far) × ((f : ℕ) → f < 1024 → at (now waiting) f ≡ 0) ⌝ }
     ensures { λ r. ⌜ Answer (dualOf (now (lefts .entry)) (now (lengths .entry)) darts faces (take roots (now (queue .entry))))
         (now (potentials .exit)) (now (parents .exit)) r
-        × Searches (given (now (lefts .entry)) (now (lengths .entry)) (now (order .entry)) (now (starts .entry)) (now (ends .entry)) darts faces)
+        × Searches (given (now (lefts .entry)) (now (lengths .entry)) (now (order .entry)) (now (starts .entry)) darts faces)
         (now (queue .entry)) roots (now (parents .entry)) (now (potentials .exit)) (now (parents .exit)) r ⌝ }
 {
     let taken = begin(
@@ -473,7 +482,6 @@ pub fn search(
                 lengths,
                 order,
                 starts,
-                ends,
                 darts,
                 faces,
                 &mut *potentials,

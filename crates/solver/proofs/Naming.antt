@@ -38,23 +38,22 @@ pub measured-other : {𝓜 : Map} {start finish : ℕ} {from : ℕ → ℕ} {c :
 measured-other m = record { joined = m .joined; along = m .along; way = m .way }
 
 -- ── the set named ──
-pub named-of : {𝓜 : Map} {outer count trees : ℕ} {c : ℕ → ℤ} (lefts order from grouped starts ends : List ℕ)
-    → Drawn 𝓜 (at lefts) count outer c → Walked (darts 𝓜) count outer trees (𝓜 .rotation) lefts order from grouped starts ends
+pub named-of : {𝓜 : Map} {outer count parts : ℕ} {c : ℕ → ℤ} (lefts order from grouped starts : List ℕ)
+    → Drawn 𝓜 (at lefts) count outer c → Walked (darts 𝓜) count outer parts (𝓜 .rotation) lefts order from grouped starts
     → {s t start finish : ℕ} {value : ℤ}
     → (start < darts 𝓜) × (𝓜 .tail start ≡ s) × ((e : ℕ) → e < start → 𝓜 .tail e ≢ s)
     → (finish < darts 𝓜) × (𝓜 .tail finish ≡ t) × ((e : ℕ) → e < finish → 𝓜 .tail e ≢ t)
     → (proposal : List ℕ) {S : ℕ → Bool} (lengths : List ℤ) (apart : Bool) → MeasuredBy 𝓜 start finish (at from) c value (atℤ lengths) S apart
-    → NamedBy 𝓜 outer count trees lefts order from grouped starts ends lengths proposal S apart → Named 𝓜 outer c s t value proposal S
-named-of {𝓜} {outer} {count} {trees} lefts order from grouped starts ends drawn walked {s} {t} {start} {finish} a b proposal lengths apart m n = record {
+    → NamedBy 𝓜 outer count parts lefts order from grouped starts lengths proposal S apart → Named 𝓜 outer c s t value proposal S
+named-of {𝓜} {outer} {count} {parts} lefts order from grouped starts drawn walked {s} {t} {start} {finish} a b proposal lengths apart m n = record {
   sound = drawn .plane .sound;
   lefts = lefts;
   order = order;
   from = from;
   grouped = grouped;
   starts = starts;
-  ends = ends;
   count = count;
-  trees = trees;
+  parts = parts;
   left-is = drawn .left-is;
   counted = drawn .counted;
   walked = walked;

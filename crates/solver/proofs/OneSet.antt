@@ -106,8 +106,8 @@ module _ (right right' parent : ℕ → ℕ) (n : ℕ) (same : (d : ℕ) → d <
   }
 
 -- ── the set made from it ──
-module _ {𝓜 : Map} (σ : Sound 𝓜) {first trees : ℕ} {order from order' from' : ℕ → ℕ}
-    (𝓕 : Forest (darts 𝓜) (𝓜 .rotation) first order from trees)
+module _ {𝓜 : Map} (σ : Sound 𝓜) {first parts : ℕ} {order from order' from' : ℕ → ℕ}
+    (𝓕 : Forest (darts 𝓜) (𝓜 .rotation) first order from parts)
     (orders : (i : ℕ) → i < darts 𝓜 → order i ≡ order' i) (froms : (i : ℕ) → i < darts 𝓜 → from (order i) ≡ from' (order' i))
     {right right' : ℕ → ℕ} (rights : (d : ℕ) → d < darts 𝓜 → right d ≡ right' d)
     {length length' : ℕ → ℤ} (lengths : (d : ℕ) → d < darts 𝓜 → length d ≡ length' d) {parent : ℕ → ℕ} {y : ℕ} {S S' : ℕ → Bool}
@@ -139,10 +139,10 @@ unfolding closingOf
 closing-one h = ap closingOf h
 
 -- ── the search and its ring ──
-module _ {𝓜 : Map} (σ : Sound 𝓜) {outer count trees : ℕ} {lefts order from grouped starts ends lefts' order' from' grouped' starts' ends' : List ℕ}
+module _ {𝓜 : Map} (σ : Sound 𝓜) {outer count parts : ℕ} {lefts order from grouped starts lefts' order' from' grouped' starts' : List ℕ}
     (left-is : (d : ℕ) → d < darts 𝓜 → at lefts d ≡ left 𝓜 d) (left-is' : (d : ℕ) → d < darts 𝓜 → at lefts' d ≡ left 𝓜 d)
-    (walked : Walked (darts 𝓜) count outer trees (𝓜 .rotation) lefts order from grouped starts ends)
-    (walked' : Walked (darts 𝓜) count outer trees (𝓜 .rotation) lefts' order' from' grouped' starts' ends') where
+    (walked : Walked (darts 𝓜) count outer parts (𝓜 .rotation) lefts order from grouped starts)
+    (walked' : Walked (darts 𝓜) count outer parts (𝓜 .rotation) lefts' order' from' grouped' starts') where
   orders : (i : ℕ) → i < darts 𝓜 → at order i ≡ at order' i
   orders = same-order (walked .forest .apart) (walked' .forest .apart) (walked .first-come) (walked' .first-come)
 
@@ -156,22 +156,21 @@ module _ {𝓜 : Map} (σ : Sound 𝓜) {outer count trees : ℕ} {lefts order f
   rights-same d l = lefts-same (rev d) (rev-in (𝓜 .edges) d l)
 
   module _ (lengths lengths' : List ℤ) (same : (d : ℕ) → d < darts 𝓜 → atℤ lengths d ≡ atℤ lengths' d) where
-    alike : Alike (darts 𝓜) count lefts lefts' lengths lengths' grouped grouped' starts starts' ends ends'
+    alike : Alike (darts 𝓜) count lefts lefts' lengths lengths' grouped grouped' starts starts'
     alike = record {
       same-lefts = lefts-same;
       same-rights = rights-same;
       same-lengths = same;
       same-starts = grouping.same-starts (step-permutes σ) (walked .in-rounds) (walked' .in-rounds);
-      same-ends = grouping.same-ends (step-permutes σ) (walked .in-rounds) (walked' .in-rounds);
       same-order = grouping.same-grouped (step-permutes σ) (walked .in-rounds) (walked' .in-rounds);
     }
 
-    module _ {proposal : List ℕ} {S S' : ℕ → Bool} (α : RingNamed 𝓜 outer count trees lefts order from grouped starts ends lengths proposal S)
-        (β : RingNamed 𝓜 outer count trees lefts' order' from' grouped' starts' ends' lengths' proposal S') where
+    module _ {proposal : List ℕ} {S S' : ℕ → Bool} (α : RingNamed 𝓜 outer count parts lefts order from grouped starts lengths proposal S)
+        (β : RingNamed 𝓜 outer count parts lefts' order' from' grouped' starts' lengths' proposal S') where
       queues : α .queue ≡ β .queue
-      queues = ext-getD 0 (α .queue) (β .queue) (α .size ∙ sym (β .size)) (λ t l. by t (decLt t trees))
+      queues = ext-getD 0 (α .queue) (β .queue) (α .size ∙ sym (β .size)) (λ t l. by t (decLt t parts))
         where
-          by : (t : ℕ) → Dec (t < trees) → at (α .queue) t ≡ at (β .queue) t
+          by : (t : ℕ) → Dec (t < parts) → at (α .queue) t ≡ at (β .queue) t
           by t (yes l) =
               let b = walked .forest .planted .begins t in
               let b-in = walked .forest .planted .begins-in t l in
@@ -184,8 +183,8 @@ module _ {𝓜 : Map} (σ : Sound 𝓜) {outer count trees : ℕ} {lefts order f
 
       ended : (outcome.Ring (α .closing) ≡ outcome.Ring (β .closing)) × (α .parents ≡ β .parents)
       ended =
-          alike-one alike (walked .groups) (α .queue) trees (α .size) (α .few) (α .sound) (α .joined) (α .searched)
-          (subst (λ q. Searches (given lefts' lengths' grouped' starts' ends' (darts 𝓜) count) q trees proposal (β .potentials) (β .parents)
+          alike-one alike (walked .groups) (α .queue) parts (α .size) (α .few) (α .sound) (α .joined) (α .searched)
+          (subst (λ q. Searches (given lefts' lengths' grouped' starts' (darts 𝓜) count) q parts proposal (β .potentials) (β .parents)
           (outcome.Ring (β .closing)))
           (sym queues) (β .searched))
 
@@ -219,7 +218,7 @@ module _ {𝓜 : Map} {outer : ℕ} {c : ℕ → ℤ} {s t : ℕ} {value : ℤ} 
   marks-in d l = let r = met d l in subst (λ x. at (α .from) x < darts 𝓜) (r .2) (by (r .0) (r .1) (α .walked .forest .planted .met (r .0) (r .1)))
     where
       by : (i : ℕ) → i < darts 𝓜
-          → ((u : ℕ) × (u < α .trees) × (α .walked .forest .planted .begins u ≡ i)) ⊎ Reached (𝓜 .rotation) (at (α .order)) (at (α .from)) i
+          → ((u : ℕ) × (u < α .parts) × (α .walked .forest .planted .begins u ≡ i)) ⊎ Reached (𝓜 .rotation) (at (α .order)) (at (α .from)) i
           → at (α .from) (at (α .order) i) < darts 𝓜
       by i m (inl (u, k, e)) =
           let own = subst (λ x. at (α .from) (at (α .order) x) ≡ at (α .order) x) e (α .walked .forest .planted .own u k) in
@@ -253,22 +252,22 @@ module _ {𝓜 : Map} {outer : ℕ} {c : ℕ → ℤ} {s t : ℕ} {value : ℤ} 
   not-none' : value <ℤ pos 0 → value ≡ pos 0 → ⊥
   not-none' h e = let a = atoms₁ value in omega (arith, from-less h (search parts), from-equal e (search parts))
 
-  abbrev Ring' : (count trees : ℕ) → Type 0
-  Ring' count trees =
-      RingNamed 𝓜 outer count trees (β .lefts) (β .order) (β .from) (β .grouped) (β .starts) (β .ends) (β .lengths) proposal S'
+  abbrev Ring' : (count parts : ℕ) → Type 0
+  Ring' count parts =
+      RingNamed 𝓜 outer count parts (β .lefts) (β .order) (β .from) (β .grouped) (β .starts) (β .lengths) proposal S'
 
-  abbrev Walked' : (count trees : ℕ) → Type 0
-  Walked' count trees =
-      Walked (darts 𝓜) count outer trees (𝓜 .rotation) (β .lefts) (β .order) (β .from) (β .grouped) (β .starts) (β .ends)
+  abbrev Walked' : (count parts : ℕ) → Type 0
+  Walked' count parts =
+      Walked (darts 𝓜) count outer parts (𝓜 .rotation) (β .lefts) (β .order) (β .from) (β .grouped) (β .starts)
 
-  by-ring : RingNamed 𝓜 outer (α .count) (α .trees) (α .lefts) (α .order) (α .from) (α .grouped) (α .starts) (α .ends) (α .lengths) proposal S
-      → Ring' (β .count) (β .trees) → (v : ℕ) → v < 𝓜 .nodes → S v ≡ S' v
+  by-ring : RingNamed 𝓜 outer (α .count) (α .parts) (α .lefts) (α .order) (α .from) (α .grouped) (α .starts) (α .lengths) proposal S
+      → Ring' (β .count) (β .parts) → (v : ℕ) → v < 𝓜 .nodes → S v ≡ S' v
   by-ring r r' =
       ring-one (α .sound) (α .left-is) (β .left-is) (α .walked) (there Walked' (β .walked)) (α .lengths) (β .lengths) row-one r (there Ring' r')
     where
-      there : (P : ℕ → ℕ → Type 0) → P (β .count) (β .trees) → P (α .count) (α .trees)
+      there : (P : ℕ → ℕ → Type 0) → P (β .count) (β .parts) → P (α .count) (α .parts)
       there P h =
-          subst (λ n. P n (α .trees)) (β .counted ∙ sym (α .counted))
+          subst (λ n. P n (α .parts)) (β .counted ∙ sym (α .counted))
           (subst (P (β .count)) (sym (same-trees (α .walked .forest) (β .walked .forest) same-orders same-origins)) h)
 
   abbrev Flagged : Type 0
@@ -297,9 +296,9 @@ module _ {𝓜 : Map} {outer : ℕ} {c : ℕ → ℤ} {s t : ℕ} {value : ℤ} 
   clash e f h (inr z) = some-value h z
 
   by-ways : (a b : Bool) → ApartBy 𝓜 (α .start) (α .finish) value (α .measured .joined) S a
-      → NamedBy 𝓜 outer (α .count) (α .trees) (α .lefts) (α .order) (α .from) (α .grouped) (α .starts) (α .ends) (α .lengths) proposal S a
+      → NamedBy 𝓜 outer (α .count) (α .parts) (α .lefts) (α .order) (α .from) (α .grouped) (α .starts) (α .lengths) proposal S a
       → ApartBy 𝓜 (β .start) (β .finish) value (β .measured .joined) S' b
-      → NamedBy 𝓜 outer (β .count) (β .trees) (β .lefts) (β .order) (β .from) (β .grouped) (β .starts) (β .ends) (β .lengths) proposal S' b
+      → NamedBy 𝓜 outer (β .count) (β .parts) (β .lefts) (β .order) (β .from) (β .grouped) (β .starts) (β .lengths) proposal S' b
       → (v : ℕ) → v < 𝓜 .nodes → S v ≡ S' v
   by-ways true true w r w' r' = by-parts (w .1) (w' .1)
   by-ways false false w r w' r' = by-ring r r'

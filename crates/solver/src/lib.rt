@@ -14,21 +14,21 @@ ghost use Rattle.integers.specs.inner.Limited.{Limited};
 ghost use Rattle.maps.specs.Check.{Sound};
 ghost use Rattle.maps.specs.Cut.{cut};
 ghost use Rattle.grouping.specs.Grouped.{Grouped};
-ghost use Rattle.grouping.specs.inner.Walked.{Walked};
 ghost use Rattle.lengths.specs.inner.Lengths.{Treed};
 ghost use Rattle.arrays.specs.At.{at, atℤ};
 ghost use Rattle.traversal.specs.inner.Forest.{Forest, RootsOf, RootsHere};
 ghost use Rattle.search.specs.Dual.{dualOf};
 ghost use Rattle.search.specs.Given.{given};
 ghost use Rattle.search.specs.Trace.{Searches};
-ghost use Rattle.arrays.specs.inner.Drawn.{Drawn};
-ghost use Rattle.solver.specs.inner.Ends.{Ends};
+ghost use Rattle.solver.specs.inner.Lent.{Lent, LentRoots};
 ghost use Rattle.arrays.specs.Maps.{mapOf, rightOf};
 ghost use Rattle.arrays.specs.inner.Sizes.{mostCapacity, mostValue};
 ghost use Rattle.solver.specs.inner.Search.{PartFlagged, Measured, Searchable, Searched, Ringed};
 ghost use Rattle.solver.specs.inner.Decision.{Decided};
 ghost use Rattle.solver.specs.inner.Named.{MeasuredBy, MadeOfRing, Named};
 ghost use Rattle.arrays.specs.inner.Flags.{flagged};
+use arrays::Demand;
+use arrays::Sizes;
 use search::Outcome;
 
 // Flags the nodes of the part that the dart d is in.
@@ -107,7 +107,6 @@ fn settle(
     lengths: &[i32; 1024],
     grouped: &[u16; 1024],
     starts: &[u16; 1024],
-    ends: &[u16; 1024],
     edges: usize,
     faces: usize,
     roots: usize,
@@ -115,14 +114,14 @@ fn settle(
     queue: &mut [u16; 1024],
     flows: &mut [i32],
 ) -> Outcome
-    requires { ⌜ (length (now parents) ≡ 1024) × (length (now queue) ≡ 1024) × (roots ≤ 1024) × (edges ≤ 512) × (edges ≤ length (now flows))
+    requires { ⌜ (length (now parents) ≡ 1024) × (length (now queue) ≡ 1024) × (roots ≤ 1024) × (edges ≤ 512) × (length (now flows) ≡ edges)
         × Searchable (dualOf (now lefts) (now lengths) (2 * edges) faces (take roots (now queue))) edges (atℤ (now capacities))
-        × Grouped (rightOf (now lefts)) (2 * edges) faces (now grouped) (now starts) (now ends) ⌝ }
+        × Grouped (rightOf (now lefts)) (2 * edges) faces (now grouped) (now starts) ⌝ }
     ensures { λ r. ⌜ (length (now (parents .exit)) ≡ 1024)
         × Searched (dualOf (now (lefts .entry)) (now (lengths .entry)) (2 * edges) faces (take roots (now (queue .entry)))) edges
         (atℤ (now (capacities .entry)))
         (now (flows .entry)) (now (flows .exit)) (at (now (parents .exit))) r
-        × ((ρ : List ℤ) × Searches (given (now (lefts .entry)) (now (lengths .entry)) (now (grouped .entry)) (now (starts .entry)) (now (ends .entry))
+        × ((ρ : List ℤ) × Searches (given (now (lefts .entry)) (now (lengths .entry)) (now (grouped .entry)) (now (starts .entry))
         (2 * edges) faces) (now (queue .entry)) roots (now (parents .entry)) ρ (now (parents .exit)) r) ⌝ }
 {
     // What the search begins with: no face has a level, and none waits.
@@ -133,7 +132,6 @@ fn settle(
         lengths,
         grouped,
         starts,
-        ends,
         2 * edges,
         faces,
         roots,
@@ -160,27 +158,24 @@ fn settle_all<'a>(
     from: &'a [u16; 1024],
     grouped: &'a [u16; 1024],
     starts: &'a [u16; 1024],
-    ends: &'a [u16; 1024],
-    edges: usize,
-    faces: usize,
-    trees: usize,
-    outer: usize,
+    sizes: Sizes,
     parents: &mut [u16; 1024],
     flows: &mut [i32],
 ) -> Outcome
-    requires { ⌜ (length (now parents) ≡ 1024) × (trees ≤ 1024) × (edges ≤ 512) × (edges ≤ length (now flows))
-        × Forest (2 * edges) (at (now rotations)) outer (at (now order)) (at (now from)) trees
-        × Grouped (rightOf (now lefts)) (2 * edges) faces (now grouped) (now starts) (now ends)
-        × ((queue : List ℕ) → length queue ≡ 1024 → RootsOf (2 * edges) (at (now rotations)) outer (at (now lefts)) (at queue) trees
-        → Searchable (dualOf (now lefts) (now lengths) (2 * edges) faces (take trees queue)) edges (atℤ (now capacities))) ⌝ }
+    requires { ⌜ (length (now parents) ≡ 1024) × (sizes .parts ≤ 1024) × (sizes .edges ≤ 512) × (length (now flows) ≡ sizes .edges)
+        × Forest (2 * sizes .edges) (at (now rotations)) (sizes .outer) (at (now order)) (at (now from)) (sizes .parts)
+        × Grouped (rightOf (now lefts)) (2 * sizes .edges) (sizes .faces) (now grouped) (now starts)
+        × ((queue : List ℕ) → length queue ≡ 1024 → RootsOf (2 * sizes .edges) (at (now rotations)) (sizes .outer) (at (now lefts)) (at queue) (sizes .parts)
+        → Searchable (dualOf (now lefts) (now lengths) (2 * sizes .edges) (sizes .faces) (take (sizes .parts) queue)) (sizes .edges) (atℤ (now capacities))) ⌝ }
     ensures { λ r. ⌜ (length (now (parents .exit)) ≡ 1024)
-        × ((queue : List ℕ) × (length queue ≡ 1024) × RootsOf (2 * edges) (at (now (rotations .entry))) outer (at (now (lefts .entry))) (at queue) trees
-        × Searched (dualOf (now (lefts .entry)) (now (lengths .entry)) (2 * edges) faces (take trees queue)) edges (atℤ (now (capacities .entry)))
-        (now (flows .entry)) (now (flows .exit)) (at (now (parents .exit))) r
-        × RootsHere (2 * edges) (at (now (rotations .entry))) outer (at (now (lefts .entry))) (at (now (order .entry))) (at (now (from .entry)))
-        (λ i. 0) (at queue) trees
-        × ((ρ : List ℤ) × Searches (given (now (lefts .entry)) (now (lengths .entry)) (now (grouped .entry)) (now (starts .entry)) (now (ends .entry))
-        (2 * edges) faces) queue trees (now (parents .entry)) ρ (now (parents .exit)) r)) ⌝ }
+        × ((queue : List ℕ) × (length queue ≡ 1024)
+        × RootsOf (2 * sizes .edges) (at (now (rotations .entry))) (sizes .outer) (at (now (lefts .entry))) (at queue) (sizes .parts)
+        × Searched (dualOf (now (lefts .entry)) (now (lengths .entry)) (2 * sizes .edges) (sizes .faces) (take (sizes .parts) queue)) (sizes .edges)
+        (atℤ (now (capacities .entry))) (now (flows .entry)) (now (flows .exit)) (at (now (parents .exit))) r
+        × RootsHere (2 * sizes .edges) (at (now (rotations .entry))) (sizes .outer) (at (now (lefts .entry))) (at (now (order .entry))) (at (now (from .entry)))
+        (λ i. 0) (at queue) (sizes .parts)
+        × ((ρ : List ℤ) × Searches (given (now (lefts .entry)) (now (lengths .entry)) (now (grouped .entry)) (now (starts .entry))
+        (2 * sizes .edges) (sizes .faces)) queue (sizes .parts) (now (parents .entry)) ρ (now (parents .exit)) r)) ⌝ }
 {
     let mut queue = [0u16; 1024];
     traversal::first_faces(
@@ -188,9 +183,9 @@ fn settle_all<'a>(
         lefts,
         order,
         from,
-        2 * edges,
-        outer,
-        trees,
+        2 * sizes.edges,
+        sizes.outer,
+        sizes.parts,
         &mut queue,
     );
     settle(
@@ -199,10 +194,9 @@ fn settle_all<'a>(
         lengths,
         grouped,
         starts,
-        ends,
-        edges,
-        faces,
-        trees,
+        sizes.edges,
+        sizes.faces,
+        sizes.parts,
         parents,
         &mut queue,
         flows,
@@ -253,31 +247,23 @@ pub fn decide<'a>(
     from: &'a [u16; 1024],
     grouped: &'a [u16; 1024],
     starts: &'a [u16; 1024],
-    ends: &'a [u16; 1024],
-    nodes: usize,
-    edges: usize,
-    faces: usize,
-    trees: usize,
-    outer: usize,
-    source: usize,
-    sink: usize,
-    value: i32,
+    sizes: Sizes,
+    demand: Demand,
     parents: &mut [u16; 1024],
     flows: &mut [i32],
     inside: &mut [u8; 1024],
 ) -> bool
-    requires { ⌜ (length (now inside) ≡ 1024) × (edges ≤ length (now flows))
-        × Drawn (mapOf nodes edges (now tails) (now rotations)) (at (now lefts)) faces outer (atℤ (now capacities))
-        × Ends (mapOf nodes edges (now tails) (now rotations)) source sink × Limited mostValue value × (length (now parents) ≡ 1024)
-        × Walked (2 * edges) faces outer trees (at (now rotations)) (now lefts) (now order) (now from) (now grouped) (now starts) (now ends) ⌝ }
+    requires { ⌜ Lent sizes (demand .source) (demand .sink) (now tails) (now rotations) (now lefts) (now capacities) (now order) (now from) (now grouped)
+        (now starts) (now flows) × Limited mostValue (demand .value) × (length (now parents) ≡ 1024) × (length (now inside) ≡ 1024) ⌝ }
     ensures { λ r. ⌜ (length (now (inside .exit)) ≡ 1024)
-        × Decided (mapOf nodes edges (now (tails .entry)) (now (rotations .entry))) outer (atℤ (now (capacities .entry)))
-        source sink value (now (flows .entry)) (now (flows .exit)) (now (inside .exit)) r × (length (now (parents .exit)) ≡ 1024)
-        × (r ≡ false → Named (mapOf nodes edges (now (tails .entry)) (now (rotations .entry))) outer (atℤ (now (capacities .entry)))
-        source sink value (now (parents .entry)) (flagged (now (inside .exit)))) ⌝ }
+        × Decided (mapOf (sizes .nodes) (sizes .edges) (now (tails .entry)) (now (rotations .entry))) (sizes .outer) (atℤ (now (capacities .entry)))
+        (demand .source) (demand .sink) (demand .value) (now (flows .entry)) (now (flows .exit)) (now (inside .exit)) r
+        × (length (now (parents .exit)) ≡ 1024)
+        × (r ≡ false → Named (mapOf (sizes .nodes) (sizes .edges) (now (tails .entry)) (now (rotations .entry))) (sizes .outer) (atℤ (now (capacities .entry)))
+        (demand .source) (demand .sink) (demand .value) (now (parents .entry)) (flagged (now (inside .exit)))) ⌝ }
 {
-    let start = traversal::dart_at(tails, 2 * edges, source);
-    let finish = traversal::dart_at(tails, 2 * edges, sink);
+    let start = traversal::dart_at(tails, 2 * sizes.edges, demand.source);
+    let finish = traversal::dart_at(tails, 2 * sizes.edges, demand.sink);
     let mut lengths = [1i32; 1024];
     if cut_apart(
         tails,
@@ -285,11 +271,11 @@ pub fn decide<'a>(
         capacities,
         order,
         from,
-        nodes,
-        edges,
+        sizes.nodes,
+        sizes.edges,
         start,
         finish,
-        value,
+        demand.value,
         &mut lengths,
         &mut *inside,
     ) {
@@ -304,11 +290,7 @@ pub fn decide<'a>(
         from,
         grouped,
         starts,
-        ends,
-        edges,
-        faces,
-        trees,
-        outer,
+        sizes,
         &mut *parents,
         flows,
     );
@@ -322,9 +304,9 @@ pub fn decide<'a>(
             order,
             from,
             &*parents,
-            nodes,
-            edges,
-            faces,
+            sizes.nodes,
+            sizes.edges,
+            sizes.faces,
             y,
             inside,
         );
@@ -340,35 +322,34 @@ fn fill_roots<'a>(
     lefts: &'a [u16; 1024],
     order: &'a [u16; 1024],
     from: &'a [u16; 1024],
-    edges: usize,
-    trees: usize,
-    outer: usize,
+    sizes: Sizes,
     first: usize,
     queue: &mut [u16; 1024],
 ) -> usize
-    requires { ⌜ (length (now queue) ≡ 1024) × (edges ≤ 512) × (first < 2 * edges) × ((d : ℕ) → d < 2 * edges → at (now rotations) d < 2 * edges)
-        × Forest (2 * edges) (at (now rotations)) outer (at (now order)) (at (now from)) trees ⌝ }
+    requires { ⌜ (length (now queue) ≡ 1024) × (sizes .edges ≤ 512) × (first < 2 * sizes .edges)
+        × ((d : ℕ) → d < 2 * sizes .edges → at (now rotations) d < 2 * sizes .edges)
+        × Forest (2 * sizes .edges) (at (now rotations)) (sizes .outer) (at (now order)) (at (now from)) (sizes .parts) ⌝ }
     ensures { λ r. ⌜ (length (now (queue .exit)) ≡ 1024)
-        × RootsOf (2 * edges) (at (now (rotations .entry))) first (at (now (lefts .entry))) (at (now (queue .exit))) r ⌝ }
+        × RootsOf (2 * sizes .edges) (at (now (rotations .entry))) first (at (now (lefts .entry))) (at (now (queue .exit))) r ⌝ }
 {
-    if first == outer {
+    if first == sizes.outer {
         traversal::first_faces(
             rotations,
             lefts,
             order,
             from,
-            2 * edges,
-            outer,
-            trees,
+            2 * sizes.edges,
+            sizes.outer,
+            sizes.parts,
             queue,
         );
-        return trees;
+        return sizes.parts;
     }
-    traversal::roots_of(rotations, lefts, 2 * edges, first, queue)
+    traversal::roots_of(rotations, lefts, 2 * sizes.edges, first, queue)
 }
 
-// Decides as `decide` does, of the drawing with `first` as its outer dart, whose faces at 0 stand at the first places of the queue. `first` is named by the
-// contract only.
+// Decides as `decide` does, of the drawing with another outer dart than its own, which `sizes` has: its faces at 0 stand at the first places of the queue, one
+// for each part. The outer dart is named by the contract only.
 fn decide_at<'a>(
     tails: &'a [u16; 1024],
     rotations: &'a [u16; 1024],
@@ -378,31 +359,20 @@ fn decide_at<'a>(
     from: &'a [u16; 1024],
     grouped: &'a [u16; 1024],
     starts: &'a [u16; 1024],
-    ends: &'a [u16; 1024],
-    nodes: usize,
-    edges: usize,
-    faces: usize,
-    first: usize,
-    source: usize,
-    sink: usize,
-    value: i32,
-    roots: usize,
+    sizes: Sizes,
+    demand: Demand,
     queue: &mut [u16; 1024],
     flows: &mut [i32],
     inside: &mut [u8; 1024],
 ) -> bool
-    requires { ⌜ (length (now queue) ≡ 1024) × (length (now inside) ≡ 1024) × (edges ≤ length (now flows))
-        × Drawn (mapOf nodes edges (now tails) (now rotations)) (at (now lefts)) faces first (atℤ (now capacities))
-        × Ends (mapOf nodes edges (now tails) (now rotations)) source sink × Limited mostValue value
-        × Treed (mapOf nodes edges (now tails) (now rotations)) (2 * edges) (at (now order)) (at (now from))
-        × Grouped (rightOf (now lefts)) (2 * edges) faces (now grouped) (now starts) (now ends)
-        × RootsOf (2 * edges) (at (now rotations)) first (at (now lefts)) (at (now queue)) roots ⌝ }
+    requires { ⌜ LentRoots sizes (demand .source) (demand .sink) (now tails) (now rotations) (now lefts) (now capacities) (now order) (now from) (now grouped)
+        (now starts) (now queue) (now flows) × Limited mostValue (demand .value) × (length (now queue) ≡ 1024) × (length (now inside) ≡ 1024) ⌝ }
     ensures { λ r. ⌜ (length (now (inside .exit)) ≡ 1024)
-        × Decided (mapOf nodes edges (now (tails .entry)) (now (rotations .entry))) first (atℤ (now (capacities .entry)))
-        source sink value (now (flows .entry)) (now (flows .exit)) (now (inside .exit)) r ⌝ }
+        × Decided (mapOf (sizes .nodes) (sizes .edges) (now (tails .entry)) (now (rotations .entry))) (sizes .outer) (atℤ (now (capacities .entry)))
+        (demand .source) (demand .sink) (demand .value) (now (flows .entry)) (now (flows .exit)) (now (inside .exit)) r ⌝ }
 {
-    let start = traversal::dart_at(tails, 2 * edges, source);
-    let finish = traversal::dart_at(tails, 2 * edges, sink);
+    let start = traversal::dart_at(tails, 2 * sizes.edges, demand.source);
+    let finish = traversal::dart_at(tails, 2 * sizes.edges, demand.sink);
     let mut lengths = [1i32; 1024];
     if cut_apart(
         tails,
@@ -410,11 +380,11 @@ fn decide_at<'a>(
         capacities,
         order,
         from,
-        nodes,
-        edges,
+        sizes.nodes,
+        sizes.edges,
         start,
         finish,
-        value,
+        demand.value,
         &mut lengths,
         &mut *inside,
     ) {
@@ -427,10 +397,9 @@ fn decide_at<'a>(
         &lengths,
         grouped,
         starts,
-        ends,
-        edges,
-        faces,
-        roots,
+        sizes.edges,
+        sizes.faces,
+        sizes.parts,
         &mut parents,
         queue,
         flows,
@@ -445,9 +414,9 @@ fn decide_at<'a>(
             order,
             from,
             &parents,
-            nodes,
-            edges,
-            faces,
+            sizes.nodes,
+            sizes.edges,
+            sizes.faces,
             y,
             inside,
         );
@@ -468,39 +437,20 @@ pub fn decide_from<'a>(
     from: &'a [u16; 1024],
     grouped: &'a [u16; 1024],
     starts: &'a [u16; 1024],
-    ends: &'a [u16; 1024],
-    nodes: usize,
-    edges: usize,
-    faces: usize,
-    trees: usize,
-    outer: usize,
+    sizes: Sizes,
     first: usize,
-    source: usize,
-    sink: usize,
-    value: i32,
+    demand: Demand,
     flows: &mut [i32],
     inside: &mut [u8; 1024],
 ) -> bool
-    requires { ⌜ (length (now inside) ≡ 1024) × (edges ≤ length (now flows)) × (first < 2 * edges)
-        × Drawn (mapOf nodes edges (now tails) (now rotations)) (at (now lefts)) faces outer (atℤ (now capacities))
-        × Ends (mapOf nodes edges (now tails) (now rotations)) source sink × Limited mostValue value
-        × Walked (2 * edges) faces outer trees (at (now rotations)) (now lefts) (now order) (now from) (now grouped) (now starts) (now ends) ⌝ }
+    requires { ⌜ Lent sizes (demand .source) (demand .sink) (now tails) (now rotations) (now lefts) (now capacities) (now order) (now from) (now grouped)
+        (now starts) (now flows) × Limited mostValue (demand .value) × (first < 2 * sizes .edges) × (length (now inside) ≡ 1024) ⌝ }
     ensures { λ r. ⌜ (length (now (inside .exit)) ≡ 1024)
-        × Decided (mapOf nodes edges (now (tails .entry)) (now (rotations .entry))) first (atℤ (now (capacities .entry)))
-        source sink value (now (flows .entry)) (now (flows .exit)) (now (inside .exit)) r ⌝ }
+        × Decided (mapOf (sizes .nodes) (sizes .edges) (now (tails .entry)) (now (rotations .entry))) first (atℤ (now (capacities .entry)))
+        (demand .source) (demand .sink) (demand .value) (now (flows .entry)) (now (flows .exit)) (now (inside .exit)) r ⌝ }
 {
     let mut queue = [0u16; 1024];
-    let roots = fill_roots(
-        rotations,
-        lefts,
-        order,
-        from,
-        edges,
-        trees,
-        outer,
-        first,
-        &mut queue,
-    );
+    let roots = fill_roots(rotations, lefts, order, from, sizes, first, &mut queue);
     decide_at(
         tails,
         rotations,
@@ -510,15 +460,14 @@ pub fn decide_from<'a>(
         from,
         grouped,
         starts,
-        ends,
-        nodes,
-        edges,
-        faces,
-        first,
-        source,
-        sink,
-        value,
-        roots,
+        Sizes {
+            nodes: sizes.nodes,
+            edges: sizes.edges,
+            faces: sizes.faces,
+            parts: roots,
+            outer: first,
+        },
+        demand,
         &mut queue,
         flows,
         inside,

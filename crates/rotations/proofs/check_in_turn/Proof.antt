@@ -16,14 +16,14 @@ abbrev mapAt : tie.Start → Map
 mapAt c = mapOf (c .args .nodes) (c .args .edges) (c .args .tails .now) (c .args .rotations .now)
 
 rotation-fault-requires : tie.Need-rotation-fault-requires
-rotation-fault-requires c κs = (c .pre .0, c .pre .9 .rotation-in)
+rotation-fault-requires c κs = (c .pre .0, c .pre .8 .rotation-in)
 
 returns : tie.Need-returns
 returns c =
     let s = c .before .before .before in
     let p = s .pre in
     let nine = refused-9 (mapAt s) (said-yes (c .before .before .rotation-fault .ensures) (c .before .if1 .taken)) in
-    (p .3, p .4, p .5, p .6, p .7, p .8, rw (c .refused .ensures) nine, rw (c .refused .ensures) tt)
+    (p .3, p .4, p .5, p .6, p .7, rw (c .refused .ensures) nine, rw (c .refused .ensures) tt)
 
 -- ── 9 was passed ──
 abbrev begun : tie.Else1 → tie.Start
@@ -33,14 +33,14 @@ not-9 : (c : tie.Else1) → RotationFault (mapAt (begun c)) → ⊥
 not-9 c = said-no (c .before .rotation-fault .ensures) (c .if1 .left)
 
 node-fault-requires : tie.Need-node-fault-requires
-node-fault-requires c κs = let p = begun c .pre in (p .0, p .1, p .9, not-9 c)
+node-fault-requires c κs = let p = begun c .pre in (p .0, p .1, p .8, not-9 c)
 
 returns-2 : tie.Need-returns-2
 returns-2 c =
     let e = c .before .before .before in
     let p = begun e .pre in
     let ten = refused-10 (mapAt (begun e)) (not-9 e) (said-yes (c .before .before .node-fault .ensures) (c .before .if2 .taken)) in
-    (p .3, p .4, p .5, p .6, p .7, p .8, rw (c .refused2 .ensures) ten, rw (c .refused2 .ensures) tt)
+    (p .3, p .4, p .5, p .6, p .7, rw (c .refused2 .ensures) ten, rw (c .refused2 .ensures) tt)
 
 -- ── 10 was passed ──
 abbrev turned : tie.Else2 → tie.Else1
@@ -50,7 +50,7 @@ not-10 : (c : tie.Else2) → NodeFault (mapAt (begun (turned c))) → ⊥
 not-10 c = said-no (c .before .node-fault .ensures) (c .if2 .left)
 
 sound : (c : tie.Else2) → Sound (mapAt (begun (turned c)))
-sound c = sound-of-checks (begun (turned c) .pre .9) (not-9 (turned c)) (not-10 c)
+sound c = sound-of-checks (begun (turned c) .pre .8) (not-9 (turned c)) (not-10 c)
 
 mul-spread-all : tie.Need-mul-spread-all
 mul-spread-all c = omega (arith, begun (turned c) .pre .0)
@@ -58,7 +58,7 @@ mul-spread-all c = omega (arith, begun (turned c) .pre .0)
 spread-all-requires : tie.Need-spread-all-requires
 spread-all-requires c κs =
     let p = begun (turned (c .before .before)) .pre in
-    (p .4, p .5, omega (arith, p .0), omega arith, p .2, p .9 .rotation-in)
+    (p .4, p .5, omega (arith, p .0), omega arith, p .2, p .8 .rotation-in)
 
 -- ── the walk is done ──
 abbrev passed : tie.After-spread-all → tie.Else2
@@ -66,16 +66,16 @@ passed c = c .before .before .before
 
 check-flat-requires : tie.Need-check-flat-requires
 check-flat-requires c κs =
-    let w = c .before .before .before .before in
+    let w = c .before .before .before in
     let e = passed w in
     let p = begun (turned e) .pre in
     let 𝓕 = w .spread-all .ensures .2 in
-    (p .0, p .1, p .3, p .6, p .7, p .8, sound e, trees-few 𝓕, (treeOf (sound e) 𝓕, trees-components (sound e) 𝓕))
+    (p .0, p .1, p .3, p .6, p .7, sound e, trees-few 𝓕, (treeOf (sound e) 𝓕, trees-components (sound e) 𝓕))
 
 returns-3 : tie.Need-returns-3
 returns-3 c =
-    let w = c .before .before .before .before .before in
-    absurd (begun (turned (passed w)) .pre .10 (sound (passed w)))
+    let w = c .before .before .before .before in
+    absurd (begun (turned (passed w)) .pre .9 (sound (passed w)))
 
 pub check-in-turn-spec : {M : Type 1} → statement M
 check-in-turn-spec =

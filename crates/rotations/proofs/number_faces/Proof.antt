@@ -21,14 +21,14 @@ use Rattle.rotations.proofs.number_faces.Statement.{statement}
 use Rattle.rotations.proofs.number_faces.Tie as tie
 
 abbrev Inv-loop : tie.InvT-loop
-Inv-loop rotations edges lefts₀ grouped₀ starts₀ ends₀ darts f₀ free₀ next₀ lefts grouped starts ends f free next =
-    (length lefts ≡ 1024) × (length grouped ≡ 1024) × (length starts ≡ 1024) × (length ends ≡ 1024)
-    × Numbering (2 * edges) (stepOf rotations) (at lefts) next f × Grouping edges (at lefts) (at grouped) (at starts) (at ends) f free
+Inv-loop rotations edges lefts₀ grouped₀ starts₀ darts f₀ free₀ next₀ lefts grouped starts f free next =
+    (length lefts ≡ 1024) × (length grouped ≡ 1024) × (length starts ≡ 1024)
+    × Numbering (2 * edges) (stepOf rotations) (at lefts) next f × Grouping edges (at lefts) (at grouped) (at starts) f free
     × (free ≡ holding unmarked (2 * edges) (at lefts))
-    × Rounding (2 * edges) (stepOf rotations) (at grouped) (at starts) (at ends) f free
+    × Rounding (2 * edges) (stepOf rotations) (at grouped) (at starts) f free
 
 abbrev μ-loop : tie.MeasureT-loop
-μ-loop rotations edges lefts₀ grouped₀ starts₀ ends₀ darts f₀ free₀ next₀ lefts grouped starts ends f free next = 2 * edges - next
+μ-loop rotations edges lefts₀ grouped₀ starts₀ darts f₀ free₀ next₀ lefts grouped starts f free next = 2 * edges - next
 
 few : (c : tie.Start Inv-loop μ-loop) → 2 * c .args .edges ≤ 1024
 few c = omega (arith, c .pre .0)
@@ -47,8 +47,7 @@ loop-holds c =
       e .0,
       p .2,
       p .3,
-      p .4,
-      numbering-start (few s) (p .5) (e .1),
+      numbering-start (few s) (p .4) (e .1),
       grouping-none (few s) (e .1),
       none-yet _ _ (λ y l. e .1 y (omega (arith, few s))),
       rounding-none,
@@ -66,12 +65,12 @@ next-in c = go (decLt (c .before .loop .next) (2 * begun c .args .edges))
     none m =
         let s = begun c in
         let i = c .before .loop .inv in
-        let done = numbering-end (few s) (s .pre .5) (i .4) (omega (arith, i .4 .upto, m)) in
-        holding-none unmarked _ _ (λ y l e. omega (arith, done .1 y l, number-small (few s) (s .pre .5) y l, e))
+        let done = numbering-end (few s) (s .pre .4) (i .3) (omega (arith, i .3 .upto, m)) in
+        holding-none unmarked _ _ (λ y l e. omega (arith, done .1 y l, number-small (few s) (s .pre .4) y l, e))
 
     go : Dec (c .before .loop .next < 2 * begun c .args .edges) → c .before .loop .next < 2 * begun c .args .edges
     go (yes l) = l
-    go (no l) = absurd (omega (arith, c .loop-test .taken, c .before .loop .inv .6, none (omega (arith, l))))
+    go (no l) = absurd (omega (arith, c .loop-test .taken, c .before .loop .inv .5, none (omega (arith, l))))
 
 add-next : tie.Need-add-next Inv-loop μ-loop
 add-next c = omega (arith, few (begun c), next-in c)
@@ -90,27 +89,18 @@ number-below : (c : tie.Then1 Inv-loop μ-loop) → turn c .before .loop .f < 10
 number-below c =
     let t = turn c in
     let s = begun t in
-    omega (arith, few s, used-few (few s) (s .pre .5) (t .before .loop .inv .4), next-in t)
+    omega (arith, few s, used-few (few s) (s .pre .4) (t .before .loop .inv .3), next-in t)
 
 narrow-requires : tie.Need-narrow-requires Inv-loop μ-loop
-narrow-requires c κs = let t = turn c in omega (arith, few (begun t), t .before .loop .inv .5 .room)
-
-mul-ends : tie.Need-mul-ends Inv-loop μ-loop
-mul-ends c = omega (arith, number-below (c .before))
-
-element-write-ends : tie.Need-element-write-ends Inv-loop μ-loop
-element-write-ends c = omega (arith, number-below (c .before), turn (c .before) .before .loop .inv .3)
-
-narrow-requires-2 : tie.Need-narrow-requires-2 Inv-loop μ-loop
-narrow-requires-2 c κs = omega (arith, number-below (c .before))
+narrow-requires c κs = omega (arith, number-below c)
 
 -- the face may be numbered
-abbrev free : tie.After-narrow2 Inv-loop μ-loop → tie.Then1 Inv-loop μ-loop
-free c = c .before .before
+abbrev free : tie.After-narrow Inv-loop μ-loop → tie.Then1 Inv-loop μ-loop
+free c = c .before
 
 face : (c : tie.Then1 Inv-loop μ-loop) → let t = turn c in let o = t .before .loop in
     Markable (2 * begun t .args .edges) (stepOf (begun t .args .rotations .now)) (at (o .lefts)) (o .next) (o .f)
-face c = let t = turn c in let s = begun t in markable (few s) (s .pre .5) (t .before .loop .inv .4) (next-in t) (c .if1 .taken)
+face c = let t = turn c in let s = begun t in markable (few s) (s .pre .4) (t .before .loop .inv .3) (next-in t) (c .if1 .taken)
 
 mark-face-requires : tie.Need-mark-face-requires Inv-loop μ-loop
 mark-face-requires c κs =
@@ -121,20 +111,20 @@ mark-face-requires c κs =
     let a = begun t .args in (
       o .inv .0,
       o .inv .1,
-      subst (Markable (2 * a .edges) (stepOf (a .rotations .now)) (at (o .lefts)) (o .next)) (sym (n .narrow2 .ensures)) (face b),
-      o .inv .6,
-      o .inv .5 .room,
+      subst (Markable (2 * a .edges) (stepOf (a .rotations .now)) (at (o .lefts)) (o .next)) (sym (n .narrow .ensures)) (face b),
+      o .inv .5,
+      o .inv .4 .room,
     )
 
 -- ── the face is numbered ──
-abbrev numbered : tie.After-mark-face Inv-loop μ-loop → tie.After-narrow2 Inv-loop μ-loop
+abbrev numbered : tie.After-mark-face Inv-loop μ-loop → tie.After-narrow Inv-loop μ-loop
 numbered c = c .before .before .before
 
 laid-below : (c : tie.After-mark-face Inv-loop μ-loop) → c .mark-face .result ≤ 1024
-laid-below c = omega (arith, c .mark-face .ensures .3 .some, few (begun (turn (free (numbered c)))), turn (free (numbered c)) .before .loop .inv .5 .room)
+laid-below c = omega (arith, c .mark-face .ensures .3 .some, few (begun (turn (free (numbered c)))), turn (free (numbered c)) .before .loop .inv .4 .room)
 
-narrow-requires-3 : tie.Need-narrow-requires-3 Inv-loop μ-loop
-narrow-requires-3 c κs = omega (arith, laid-below c)
+narrow-requires-2 : tie.Need-narrow-requires-2 Inv-loop μ-loop
+narrow-requires-2 c κs = omega (arith, laid-below c)
 
 mul-starts : tie.Need-mul-starts Inv-loop μ-loop
 mul-starts c = omega (arith, number-below (free (numbered (c .before))))
@@ -161,25 +151,20 @@ loop-again c =
     let o = t .before .loop in
     let i = o .inv in
     let e = m .mark-face .ensures in
-    let first = n .before .narrow in
-    let last = c .narrow3 in
+    let last = c .narrow2 in
     let after = at (m .mark-face .last .1 .1 .1 .1 .0) in
-    let marked = subst (Marked (2 * a .edges) (stepOf (a .rotations .now)) (at (o .lefts)) after (o .next)) (n .narrow2 .ensures) (e .2) in
+    let marked = subst (Marked (2 * a .edges) (stepOf (a .rotations .now)) (at (o .lefts)) after (o .next)) (n .narrow .ensures) (e .2) in
     let begins = getD-set-same (o .starts) (o .f) (last .result) 0 (omega (arith, number-below b, i .2)) ∙ last .ensures in
     let starts-kept : (g : ℕ) → g ≢ o .f → at (set (o .starts) (o .f) (last .result)) g ≡ at (o .starts) g =
-    λ g h. getD-set-other (o .starts) (o .f) g (last .result) 0 h in
-    let stops = getD-set-same (o .ends) (o .f) (first .result) 0 (omega (arith, number-below b, i .3)) ∙ first .ensures in
-    let ends-kept : (g : ℕ) → g ≢ o .f → at (set (o .ends) (o .f) (first .result)) g ≡ at (o .ends) g =
-    λ g h. getD-set-other (o .ends) (o .f) g (first .result) 0 h in (
+    λ g h. getD-set-other (o .starts) (o .f) g (last .result) 0 h in (
       e .0,
       e .1,
       length-set (o .starts) (o .f) (last .result) ∙ i .2,
-      length-set (o .ends) (o .f) (first .result) ∙ i .3,
-      mark (few s) (s .pre .5) (i .4) (next-in t) (b .if1 .taken) marked,
-      grouping-on (i .5) (face b) marked (e .3) begins starts-kept stops ends-kept,
+      mark (few s) (s .pre .4) (i .3) (next-in t) (b .if1 .taken) marked,
+      grouping-on (i .4) (face b) marked (e .3) begins starts-kept,
       e .4,
-      rounding-on (i .7) (next-in t) (is-lowest (few s) (s .pre .5) (i .4) (next-in t) (b .if1 .taken))
-          (number-is (few s) (s .pre .5) (i .4) (next-in t) (b .if1 .taken)) (e .5) (e .3 .kept) begins starts-kept stops ends-kept,
+      rounding-on (i .6) (next-in t) (is-lowest (few s) (s .pre .4) (i .3) (next-in t) (b .if1 .taken))
+          (number-is (few s) (s .pre .4) (i .3) (next-in t) (b .if1 .taken)) (e .5) (e .3 .kept) begins starts-kept (i .4 .low-is),
     )
 
 loop-less-2 : tie.Need-loop-less-2 Inv-loop μ-loop
@@ -190,26 +175,25 @@ loop-again-2 c =
     let t = c .before .before in
     let s = begun t in
     let i = t .before .loop .inv in
-    (i .0, i .1, i .2, i .3, pass (few s) (s .pre .5) (i .4) (next-in t) (c .if1 .left), i .5, i .6, i .7)
+    (i .0, i .1, i .2, pass (few s) (s .pre .4) (i .3) (next-in t) (c .if1 .left), i .4, i .5, i .6)
 
 returns : tie.Need-returns Inv-loop μ-loop
 returns c =
     let s = c .before .before .before .before in
     let o = c .before .loop in
     let i = o .inv in
-    let π = s .pre .5 in
+    let π = s .pre .4 in
     let n = 2 * s .args .edges in
-    let all = none-holds unmarked n (at (o .lefts)) (omega (arith, i .6, c .loop-test .left)) in
-    let done = numbering-end (few s) π (pass-all (few s) π (n - o .next) (o .next) (i .4) (omega (arith, i .4 .upto)) all) refl in (
+    let all = none-holds unmarked n (at (o .lefts)) (omega (arith, i .5, c .loop-test .left)) in
+    let done = numbering-end (few s) π (pass-all (few s) π (n - o .next) (o .next) (i .3) (omega (arith, i .3 .upto)) all) refl in (
       i .0,
       i .1,
       i .2,
-      i .3,
       done .0,
       done .1,
-      grouping-end (o .lefts) (o .grouped) (o .starts) (o .ends) (i .5)
+      grouping-end (o .lefts) (o .grouped) (o .starts) (i .4)
           (λ y l e. omega (arith, done .1 y l, number-small (few s) π y l, e)),
-      i .7 .so-far,
+      i .6 .so-far,
     )
 
 pub number-faces-spec : {M : Type 1} → statement M
@@ -225,11 +209,8 @@ number-faces-spec =
     mul-if1
     element-copy-out-if1
     narrow-requires
-    mul-ends
-    element-write-ends
-    narrow-requires-2
     mark-face-requires
-    narrow-requires-3
+    narrow-requires-2
     mul-starts
     element-write-starts
     add-f

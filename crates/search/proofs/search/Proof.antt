@@ -26,27 +26,27 @@ use Rattle.search.proofs.search.Statement.{statement}
 use Rattle.search.proofs.search.Tie as tie
 
 abbrev Inv-loop : tie.InvT-loop
-Inv-loop lefts lengths order starts ends darts faces roots potentials₀ parents₀ waiting₀ queue₀ taken first₀ last₀ left₀
+Inv-loop lefts lengths order starts darts faces roots potentials₀ parents₀ waiting₀ queue₀ taken first₀ last₀ left₀
     potentials parents waiting queue first last left =
-    Goes (given lefts lengths order starts ends darts faces)
+    Goes (given lefts lengths order starts darts faces)
     (configuration (tablesOf potentials₀ parents₀ waiting₀ queue₀ last₀) first₀ left₀)
     (configuration (tablesOf potentials parents waiting queue last) first left)
     × (first + left ≡ first₀ + left₀)
 
 abbrev μ-loop : tie.MeasureT-loop
-μ-loop lefts lengths order starts ends darts faces roots potentials₀ parents₀ waiting₀ queue₀ taken first₀ last₀ left₀
+μ-loop lefts lengths order starts darts faces roots potentials₀ parents₀ waiting₀ queue₀ taken first₀ last₀ left₀
     potentials parents waiting queue first last left = left
 
 abbrev Inv-search : tie.InvT-search
-Inv-search lefts lengths order starts ends darts faces roots potentials₀ parents₀ waiting₀ queue₀ taken first₀ last₀ left₀
+Inv-search lefts lengths order starts darts faces roots potentials₀ parents₀ waiting₀ queue₀ taken first₀ last₀ left₀
     potentials parents waiting queue first last left =
-    Goes (given lefts lengths order starts ends darts faces)
+    Goes (given lefts lengths order starts darts faces)
     (configuration (tablesOf potentials₀ parents₀ waiting₀ queue₀ last₀) first₀ left₀)
     (configuration (tablesOf potentials parents waiting queue last) first left)
 
 -- a round without a look is one at most: a straightening with which the search begins
 abbrev μ-search : tie.MeasureT-search
-μ-search lefts lengths order starts ends darts faces roots potentials₀ parents₀ waiting₀ queue₀ taken first₀ last₀ left₀
+μ-search lefts lengths order starts darts faces roots potentials₀ parents₀ waiting₀ queue₀ taken first₀ last₀ left₀
     potentials parents waiting queue first last left =
     2 * (heights faces potentials + heights faces potentials + (last - first)) + (1 - left)
 
@@ -56,7 +56,7 @@ Start = tie.Start Inv-loop μ-loop Inv-search μ-search
 
 abbrev givenAt : Start → Given
 givenAt s =
-    given (s .args .lefts .now) (s .args .lengths .now) (s .args .order .now) (s .args .starts .now) (s .args .ends .now) (s .args .darts) (s .args .faces)
+    given (s .args .lefts .now) (s .args .lengths .now) (s .args .order .now) (s .args .starts .now) (s .args .darts) (s .args .faces)
 
 abbrev rootsAt : Start → List ℕ
 rootsAt s = take (s .args .roots) (s .args .queue .now)

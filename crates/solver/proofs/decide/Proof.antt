@@ -22,39 +22,51 @@ use Rattle.solver.proofs.decide.Statement.{statement}
 use Rattle.solver.proofs.decide.Tie as tie
 
 abbrev mapAt : tie.Start → Map
-mapAt s = mapOf (s .args .nodes) (s .args .edges) (s .args .tails .now) (s .args .rotations .now)
+mapAt s = mapOf (s .args .sizes .nodes) (s .args .sizes .edges) (s .args .tails .now) (s .args .rotations .now)
 
 mul-dart-at : tie.Need-mul-dart-at
-mul-dart-at c = omega (arith, c .pre .2 .few-edges)
+mul-dart-at c = omega (arith, c .before .pre .0 .opened .drawn .few-edges)
 
 dart-at-requires : tie.Need-dart-at-requires
-dart-at-requires c κs = let p = c .pre in (omega (arith, p .2 .few-edges), p .2 .plane .sound .has-dart _ (p .3 .source-in))
+dart-at-requires c κs =
+    let p = c .before .pre .0 in
+    let n = p .opened .drawn in
+    (omega (arith, n .few-edges), n .plane .sound .has-dart _ (p .ends .source-in))
 
 mul-dart-at-2 : tie.Need-mul-dart-at-2
-mul-dart-at-2 c = omega (arith, c .before .pre .2 .few-edges)
+mul-dart-at-2 c = omega (arith, c .before .before .before .pre .0 .opened .drawn .few-edges)
 
 dart-at-requires-2 : tie.Need-dart-at-requires-2
-dart-at-requires-2 c κs = let p = c .before .pre in (omega (arith, p .2 .few-edges), p .2 .plane .sound .has-dart _ (p .3 .sink-in))
+dart-at-requires-2 c κs =
+    let p = c .before .before .before .pre .0 in
+    let n = p .opened .drawn in
+    (omega (arith, n .few-edges), n .plane .sound .has-dart _ (p .ends .sink-in))
 
 cut-apart-requires : tie.Need-cut-apart-requires
 cut-apart-requires c κs =
-    let t = c .before .before in
-    let d = t .before in
-    let p = d .before .pre in (
+    let t = c .before .before .before in
+    let d = t .before .before in
+    let p = d .before .before .pre in (
       refl,
-      p .0,
-      p .2 .few-edges,
-      p .2 .few-nodes,
+      p .3,
+      p .0 .opened .drawn .few-edges,
+      p .0 .opened .drawn .few-nodes,
       d .dart-at .ensures .0,
       t .dart-at2 .ensures .0,
-      treed-of (p .2 .plane .sound) (p .6 .forest),
-      p .2 .small,
-      small-value (p .4),
+      treed-of (p .0 .opened .drawn .plane .sound) (p .0 .opened .walked .forest),
+      p .0 .opened .drawn .small,
+      small-value (p .1),
     )
 
 -- ── the lengths are known, or the ends are apart ──
+abbrev finished : tie.After-cut-apart → tie.After-dart-at2
+finished c = c .before .before .before .before
+
+abbrev started : tie.After-cut-apart → tie.After-dart-at
+started c = finished c .before .before
+
 abbrev begun : tie.After-cut-apart → tie.Start
-begun c = c .before .before .before .before .before
+begun c = started c .before .before
 
 abbrev row : tie.After-cut-apart → List ℤ
 row c = c .cut-apart .last .1 .1 .1 .1 .1 .1 .1 .1 .1 .1 .0
@@ -63,52 +75,50 @@ abbrev flags : tie.After-cut-apart → List ℕ
 flags c = c .cut-apart .last .1 .1 .1 .1 .1 .1 .1 .1 .1 .1 .1 .0
 
 measured : (c : tie.After-cut-apart)
-    → Measured (mapAt (begun c)) (begun c .args .source) (begun c .args .sink) (atℤ (begun c .args .capacities .now)) (begun c .args .value)
-    (atℤ (row c)) (flags c) (c .cut-apart .result)
+    → Measured (mapAt (begun c)) (begun c .args .demand .source) (begun c .args .demand .sink) (atℤ (begun c .args .capacities .now))
+    (begun c .args .demand .value) (atℤ (row c)) (flags c) (c .cut-apart .result)
 measured c =
-    let t = c .before .before .before in
-    let d = t .before in
-    measured-for (mapAt (begun c)) (atℤ (begun c .args .capacities .now)) (atℤ (row c)) (flags c) (c .cut-apart .result) (d .dart-at .ensures .1)
-    (t .dart-at2 .ensures .1) (same-value (begun c .pre .4)) (c .cut-apart .ensures .2)
+    measured-for (mapAt (begun c)) (atℤ (begun c .args .capacities .now)) (atℤ (row c)) (flags c) (c .cut-apart .result) (started c .dart-at .ensures .1)
+    (finished c .dart-at2 .ensures .1) (same-value (begun c .pre .1)) (c .cut-apart .ensures .2)
 
 -- how the lengths came about, and the set where the ends are apart
 measured-how : (c : tie.After-cut-apart) (b : Bool) → c .cut-apart .result ≡ b
-    → MeasuredBy (mapAt (begun c)) (c .before .before .before .before .dart-at .result) (c .before .before .before .dart-at2 .result)
-    (at (begun c .args .from .now)) (atℤ (begun c .args .capacities .now)) (begun c .args .value) (atℤ (row c)) (flagged (flags c)) b
+    → MeasuredBy (mapAt (begun c)) (started c .dart-at .result) (finished c .dart-at2 .result)
+    (at (begun c .args .from .now)) (atℤ (begun c .args .capacities .now)) (begun c .args .demand .value) (atℤ (row c)) (flagged (flags c)) b
 measured-how c b e =
-    subst (MeasuredBy (mapAt (begun c)) (c .before .before .before .before .dart-at .result) (c .before .before .before .dart-at2 .result)
-    (at (begun c .args .from .now)) (atℤ (begun c .args .capacities .now)) (begun c .args .value) (atℤ (row c)) (flagged (flags c))) e
+    subst (MeasuredBy (mapAt (begun c)) (started c .dart-at .result) (finished c .dart-at2 .result)
+    (at (begun c .args .from .now)) (atℤ (begun c .args .capacities .now)) (begun c .args .demand .value) (atℤ (row c)) (flagged (flags c))) e
     (measured-by-for (mapAt (begun c)) (at (begun c .args .from .now)) (atℤ (begun c .args .capacities .now)) (atℤ (row c)) (flagged (flags c))
-    (c .cut-apart .result) (same-value (begun c .pre .4)) (c .cut-apart .ensures .3))
+    (c .cut-apart .result) (same-value (begun c .pre .1)) (c .cut-apart .ensures .3))
 
 named-apart : (c : tie.After-cut-apart) → c .cut-apart .result ≡ true
-    → Named (mapAt (begun c)) (begun c .args .outer) (atℤ (begun c .args .capacities .now)) (begun c .args .source) (begun c .args .sink)
-    (begun c .args .value) (begun c .args .parents .now) (flagged (flags c))
+    → Named (mapAt (begun c)) (begun c .args .sizes .outer) (atℤ (begun c .args .capacities .now)) (begun c .args .demand .source) (begun c .args .demand .sink)
+    (begun c .args .demand .value) (begun c .args .parents .now) (flagged (flags c))
 named-apart c e =
     let s = begun c in
-    let t = c .before .before .before in
-    let d = t .before in
-    named-of (s .args .lefts .now) (s .args .order .now) (s .args .from .now) (s .args .grouped .now) (s .args .starts .now) (s .args .ends .now)
-    (s .pre .2) (s .pre .6) (d .dart-at .ensures) (t .dart-at2 .ensures) (s .args .parents .now) (row c) true (measured-how c true e) tt
+    named-of (s .args .lefts .now) (s .args .order .now) (s .args .from .now) (s .args .grouped .now) (s .args .starts .now)
+    (s .pre .0 .opened .drawn) (s .pre .0 .opened .walked) (started c .dart-at .ensures) (finished c .dart-at2 .ensures)
+    (s .args .parents .now) (row c) true (measured-how c true e) tt
 
 returns : tie.Need-returns
 returns c =
     let l = c .before in
     let s = begun l in (
       l .cut-apart .ensures .1,
-      decided-apart (mapAt s) (s .args .outer) (atℤ (s .args .capacities .now)) (s .args .source) (s .args .sink) (s .args .value) (atℤ (row l))
+      decided-apart (mapAt s) (s .args .sizes .outer) (atℤ (s .args .capacities .now)) (s .args .demand .source) (s .args .demand .sink)
+          (s .args .demand .value) (atℤ (row l))
           (s .args .flows .now) (flags l) (c .if1 .taken) (measured l),
-      s .pre .5,
+      s .pre .2,
       λ e. named-apart l (c .if1 .taken),
     )
 
 known : (c : tie.Else1)
-    → Lengthened (mapAt (begun (c .before))) (begun (c .before) .args .source) (begun (c .before) .args .sink)
-    (atℤ (begun (c .before) .args .capacities .now)) (begun (c .before) .args .value) (atℤ (row (c .before)))
+    → Lengthened (mapAt (begun (c .before))) (begun (c .before) .args .demand .source) (begun (c .before) .args .demand .sink)
+    (atℤ (begun (c .before) .args .capacities .now)) (begun (c .before) .args .demand .value) (atℤ (row (c .before)))
 known c =
     let s = begun (c .before) in
-    measured-long (mapAt s) (s .args .source) (s .args .sink) (atℤ (s .args .capacities .now)) (s .args .value) (atℤ (row (c .before))) (flags (c .before))
-    (c .if1 .left) (measured (c .before))
+    measured-long (mapAt s) (s .args .demand .source) (s .args .demand .sink) (atℤ (s .args .capacities .now)) (s .args .demand .value)
+    (atℤ (row (c .before))) (flags (c .before)) (c .if1 .left) (measured (c .before))
 
 -- ── the search from the faces at 0 ──
 settle-all-requires : tie.Need-settle-all-requires
@@ -116,13 +126,13 @@ settle-all-requires c κs =
     let e = c .before .before .before in
     let s = begun (e .before) in
     let p = s .pre in (
-      p .5,
-      omega (arith, trees-few (p .6 .forest), p .2 .few-edges),
-      p .2 .few-edges,
-      p .1,
-      p .6 .forest,
-      p .6 .groups,
-      λ queue long roots. searchable (s .args .lefts .now) (p .2) (p .3) (row (e .before)) (known e) queue long roots,
+      p .2,
+      omega (arith, trees-few (p .0 .opened .walked .forest), p .0 .opened .drawn .few-edges),
+      p .0 .opened .drawn .few-edges,
+      p .0 .exact,
+      p .0 .opened .walked .forest,
+      p .0 .opened .walked .groups,
+      λ queue long roots. searchable (s .args .lefts .now) (p .0 .opened .drawn) (p .0 .ends) (row (e .before)) (known e) queue long roots,
     )
 
 -- ── a ring: the dart that closes it ──
@@ -136,7 +146,7 @@ closes : (c : tie.After-known-told) → c .before .outcome .given .0 .0 < 1024
 closes c =
     let s = c .before .before .before .before in
     let p = begun (lengthened s) .pre in
-    omega (arith, searched-ring _ _ _ _ _ _ _ (c .before .outcome .given .1) (s .settle-all .ensures .1 .3) .1, p .2 .few-edges)
+    omega (arith, searched-ring _ _ _ _ _ _ _ (c .before .outcome .given .1) (s .settle-all .ensures .1 .3) .1, p .0 .opened .drawn .few-edges)
 
 mul-wide : tie.Need-mul-wide
 mul-wide c = omega (arith, closes c)
@@ -159,16 +169,16 @@ cut-of-ring-requires c κs =
     let f = lengthened s in
     let p = begun f .pre in (
       f .cut-apart .ensures .1,
-      treed-of (p .2 .plane .sound) (p .6 .forest),
-      ringed (begun f .args .lefts .now) (p .2) (p .3) (row f) (known (joined s)) (q .0) (q .1) (q .2)
+      treed-of (p .0 .opened .drawn .plane .sound) (p .0 .opened .walked .forest),
+      ringed (begun f .args .lefts .now) (p .0 .opened .drawn) (p .0 .ends) (row f) (known (joined s)) (q .0) (q .1) (q .2)
           _ (w .wide .ensures) (searched-ring _ _ _ _ _ _ _ (o .outcome .given .1) (s .settle-all .ensures .1 .3) .2),
     )
 
 -- the set made from the ring
 named-ring : (c : tie.After-wide) (inside' : List ℕ) → let o = ringed-at c in let f = lengthened (settled o) in let s = begun f in
     MadeOfRing (mapAt s) (rightOf (s .args .lefts .now)) (atℤ (row f)) (at (s .args .order .now)) (at (s .args .from .now))
-    (at (settled o .settle-all .last .1 .1 .1 .1 .1 .1 .1 .1 .1 .1 .1 .1 .1 .0)) (c .wide .result) (flagged inside')
-    → Named (mapAt s) (s .args .outer) (atℤ (s .args .capacities .now)) (s .args .source) (s .args .sink) (s .args .value)
+    (at (settled o .settle-all .last .1 .1 .1 .1 .1 .1 .1 .1 .1 .0)) (c .wide .result) (flagged inside')
+    → Named (mapAt s) (s .args .sizes .outer) (atℤ (s .args .capacities .now)) (s .args .demand .source) (s .args .demand .sink) (s .args .demand .value)
     (s .args .parents .now) (flagged inside')
 named-ring c inside' made =
     let o = ringed-at c in
@@ -177,16 +187,15 @@ named-ring c inside' made =
     let f = lengthened a in
     let s = begun f in
     let p = s .pre in
-    let t = f .before .before .before in
-    let d = t .before in
     let q = a .settle-all .ensures .1 in
-    let ok = searchable (s .args .lefts .now) (p .2) (p .3) (row f) (known j) (q .0) (q .1) (q .2) in
-    named-of (s .args .lefts .now) (s .args .order .now) (s .args .from .now) (s .args .grouped .now) (s .args .starts .now) (s .args .ends .now)
-    (p .2) (p .6) (d .dart-at .ensures) (t .dart-at2 .ensures) (s .args .parents .now) (row f) false (measured-other (measured-how f false (j .if1 .left)))
+    let ok = searchable (s .args .lefts .now) (p .0 .opened .drawn) (p .0 .ends) (row f) (known j) (q .0) (q .1) (q .2) in
+    named-of (s .args .lefts .now) (s .args .order .now) (s .args .from .now) (s .args .grouped .now) (s .args .starts .now)
+    (p .0 .opened .drawn) (p .0 .opened .walked) (started f .dart-at .ensures) (finished f .dart-at2 .ensures)
+    (s .args .parents .now) (row f) false (measured-other (measured-how f false (j .if1 .left)))
     (record {
       queue = q .0;
       size = q .1;
-      few = omega (arith, trees-few (p .6 .forest), p .2 .few-edges);
+      few = omega (arith, trees-few (p .0 .opened .walked .forest), p .0 .opened .drawn .few-edges);
       roots = q .4;
       sound = ok .sound;
       joined = ok .joined;
@@ -208,7 +217,7 @@ returns-2 c =
     let e = c .cut-of-ring .ensures in
     let inside' = c .cut-of-ring .last .1 .1 .1 .1 .1 .1 .1 .1 .1 .1 .1 .0 in (
       e .0,
-      decided-cannot (begun f .args .lefts .now) (p .2) (p .3) (row f) (known (joined s)) (q .0) (q .1) (q .2)
+      decided-cannot (begun f .args .lefts .now) (p .0 .opened .drawn) (p .0 .ends) (row f) (known (joined s)) (q .0) (q .1) (q .2)
           _ _ inside' (searched-ring _ _ _ _ _ _ _ (o .outcome .given .1) (s .settle-all .ensures .1 .3) .0) (e .1),
       s .settle-all .ensures .0,
       λ z. named-ring (c .before .before .before .before) inside' (e .2),
@@ -222,7 +231,7 @@ returns-3 c =
     let p = begun f .pre in
     let r = rw (c .enum-told .given .1) at (s .settle-all .ensures .1 .3) in (
       f .cut-apart .ensures .1,
-      decided-can (begun f .args .lefts .now) (p .2) (p .3) (row f) (known (joined s)) (q .0) (q .1) (q .2)
+      decided-can (begun f .args .lefts .now) (p .0 .opened .drawn) (p .0 .ends) (row f) (known (joined s)) (q .0) (q .1) (q .2)
           (r .0) (r .1) _ _ (flags f) (r .2),
       s .settle-all .ensures .0,
       λ z. absurd (true≢false z),

@@ -17,39 +17,49 @@ use Rattle.solver.proofs.decide_at.Statement.{statement}
 use Rattle.solver.proofs.decide_at.Tie as tie
 
 abbrev mapAt : tie.Start → Map
-mapAt s = mapOf (s .args .nodes) (s .args .edges) (s .args .tails .now) (s .args .rotations .now)
+mapAt s = mapOf (s .args .sizes .nodes) (s .args .sizes .edges) (s .args .tails .now) (s .args .rotations .now)
 
 mul-dart-at : tie.Need-mul-dart-at
-mul-dart-at c = omega (arith, c .pre .3 .few-edges)
+mul-dart-at c = omega (arith, c .before .pre .0 .drawn .few-edges)
 
 dart-at-requires : tie.Need-dart-at-requires
-dart-at-requires c κs = let p = c .pre in (omega (arith, p .3 .few-edges), p .3 .plane .sound .has-dart _ (p .4 .source-in))
+dart-at-requires c κs =
+    let p = c .before .pre .0 in
+    (omega (arith, p .drawn .few-edges), p .drawn .plane .sound .has-dart _ (p .ends .source-in))
 
 mul-dart-at-2 : tie.Need-mul-dart-at-2
-mul-dart-at-2 c = omega (arith, c .before .pre .3 .few-edges)
+mul-dart-at-2 c = omega (arith, c .before .before .before .pre .0 .drawn .few-edges)
 
 dart-at-requires-2 : tie.Need-dart-at-requires-2
-dart-at-requires-2 c κs = let p = c .before .pre in (omega (arith, p .3 .few-edges), p .3 .plane .sound .has-dart _ (p .4 .sink-in))
+dart-at-requires-2 c κs =
+    let p = c .before .before .before .pre .0 in
+    (omega (arith, p .drawn .few-edges), p .drawn .plane .sound .has-dart _ (p .ends .sink-in))
 
 cut-apart-requires : tie.Need-cut-apart-requires
 cut-apart-requires c κs =
-    let t = c .before .before in
-    let d = t .before in
-    let p = d .before .pre in (
+    let t = c .before .before .before in
+    let d = t .before .before in
+    let p = d .before .before .pre in (
       refl,
-      p .1,
-      p .3 .few-edges,
-      p .3 .few-nodes,
+      p .3,
+      p .0 .drawn .few-edges,
+      p .0 .drawn .few-nodes,
       d .dart-at .ensures .0,
       t .dart-at2 .ensures .0,
-      p .6,
-      p .3 .small,
-      small-value (p .5),
+      p .0 .treed,
+      p .0 .drawn .small,
+      small-value (p .1),
     )
 
 -- ── the lengths are known, or the ends are apart ──
+abbrev finished : tie.After-cut-apart → tie.After-dart-at2
+finished c = c .before .before .before .before
+
+abbrev started : tie.After-cut-apart → tie.After-dart-at
+started c = finished c .before .before
+
 abbrev begun : tie.After-cut-apart → tie.Start
-begun c = c .before .before .before .before .before
+begun c = started c .before .before
 
 abbrev row : tie.After-cut-apart → List ℤ
 row c = c .cut-apart .last .1 .1 .1 .1 .1 .1 .1 .1 .1 .1 .0
@@ -58,30 +68,29 @@ abbrev flags : tie.After-cut-apart → List ℕ
 flags c = c .cut-apart .last .1 .1 .1 .1 .1 .1 .1 .1 .1 .1 .1 .0
 
 measured : (c : tie.After-cut-apart)
-    → Measured (mapAt (begun c)) (begun c .args .source) (begun c .args .sink) (atℤ (begun c .args .capacities .now)) (begun c .args .value)
-    (atℤ (row c)) (flags c) (c .cut-apart .result)
+    → Measured (mapAt (begun c)) (begun c .args .demand .source) (begun c .args .demand .sink) (atℤ (begun c .args .capacities .now))
+    (begun c .args .demand .value) (atℤ (row c)) (flags c) (c .cut-apart .result)
 measured c =
-    let t = c .before .before .before in
-    let d = t .before in
-    measured-for (mapAt (begun c)) (atℤ (begun c .args .capacities .now)) (atℤ (row c)) (flags c) (c .cut-apart .result) (d .dart-at .ensures .1)
-    (t .dart-at2 .ensures .1) (same-value (begun c .pre .5)) (c .cut-apart .ensures .2)
+    measured-for (mapAt (begun c)) (atℤ (begun c .args .capacities .now)) (atℤ (row c)) (flags c) (c .cut-apart .result) (started c .dart-at .ensures .1)
+    (finished c .dart-at2 .ensures .1) (same-value (begun c .pre .1)) (c .cut-apart .ensures .2)
 
 returns : tie.Need-returns
 returns c =
     let l = c .before in
     let s = begun l in (
       l .cut-apart .ensures .1,
-      decided-apart (mapAt s) (s .args .first) (atℤ (s .args .capacities .now)) (s .args .source) (s .args .sink) (s .args .value) (atℤ (row l))
+      decided-apart (mapAt s) (s .args .sizes .outer) (atℤ (s .args .capacities .now)) (s .args .demand .source) (s .args .demand .sink)
+          (s .args .demand .value) (atℤ (row l))
           (s .args .flows .now) (flags l) (c .if1 .taken) (measured l),
     )
 
 known : (c : tie.Else1)
-    → Lengthened (mapAt (begun (c .before))) (begun (c .before) .args .source) (begun (c .before) .args .sink)
-    (atℤ (begun (c .before) .args .capacities .now)) (begun (c .before) .args .value) (atℤ (row (c .before)))
+    → Lengthened (mapAt (begun (c .before))) (begun (c .before) .args .demand .source) (begun (c .before) .args .demand .sink)
+    (atℤ (begun (c .before) .args .capacities .now)) (begun (c .before) .args .demand .value) (atℤ (row (c .before)))
 known c =
     let s = begun (c .before) in
-    measured-long (mapAt s) (s .args .source) (s .args .sink) (atℤ (s .args .capacities .now)) (s .args .value) (atℤ (row (c .before))) (flags (c .before))
-    (c .if1 .left) (measured (c .before))
+    measured-long (mapAt s) (s .args .demand .source) (s .args .demand .sink) (atℤ (s .args .capacities .now)) (s .args .demand .value)
+    (atℤ (row (c .before))) (flags (c .before)) (c .if1 .left) (measured (c .before))
 
 -- ── the search from the roots ──
 settle-requires : tie.Need-settle-requires
@@ -91,12 +100,12 @@ settle-requires c κs =
     let s = begun f in
     let p = s .pre in (
       refl,
-      p .0,
-      omega (arith, roots-few (p .8), p .3 .few-edges),
-      p .3 .few-edges,
       p .2,
-      searchable (s .args .lefts .now) (p .3) (p .4) (row f) (known e) (s .args .queue .now) (p .0) (p .8),
-      p .7,
+      omega (arith, roots-few (p .0 .roots), p .0 .drawn .few-edges),
+      p .0 .drawn .few-edges,
+      p .0 .exact,
+      searchable (s .args .lefts .now) (p .0 .drawn) (p .0 .ends) (row f) (known e) (s .args .queue .now) (p .2) (p .0 .roots),
+      p .0 .groups,
     )
 
 abbrev joined : tie.After-settle → tie.Else1
@@ -115,7 +124,7 @@ closes c =
     omega (
       arith,
       searched-ring _ _ _ _ _ _ _ (c .before .outcome .given .1) (s .settle .ensures .1) .1,
-      begun (lengthened s) .pre .3 .few-edges,
+      begun (lengthened s) .pre .0 .drawn .few-edges,
     )
 
 mul-wide : tie.Need-mul-wide
@@ -136,8 +145,8 @@ cut-of-ring-requires c κs =
     let b = begun f in
     let p = b .pre in (
       f .cut-apart .ensures .1,
-      p .6,
-      ringed (b .args .lefts .now) (p .3) (p .4) (row f) (known (joined s)) (b .args .queue .now) (p .0) (p .8)
+      p .0 .treed,
+      ringed (b .args .lefts .now) (p .0 .drawn) (p .0 .ends) (row f) (known (joined s)) (b .args .queue .now) (p .2) (p .0 .roots)
           _ (w .wide .ensures) (searched-ring _ _ _ _ _ _ _ (o .outcome .given .1) (s .settle .ensures .1) .2),
     )
 
@@ -151,7 +160,7 @@ returns-2 c =
     let p = b .pre in
     let k = c .cut-of-ring .ensures in (
       k .0,
-      decided-cannot (b .args .lefts .now) (p .3) (p .4) (row f) (known (joined s)) (b .args .queue .now) (p .0) (p .8)
+      decided-cannot (b .args .lefts .now) (p .0 .drawn) (p .0 .ends) (row f) (known (joined s)) (b .args .queue .now) (p .2) (p .0 .roots)
           _ _ (c .cut-of-ring .last .1 .1 .1 .1 .1 .1 .1 .1 .1 .1 .1 .0)
           (searched-ring _ _ _ _ _ _ _ (o .outcome .given .1) (s .settle .ensures .1) .0) (k .1),
     )
@@ -165,7 +174,8 @@ returns-3 c =
     let p = b .pre in
     let q = rw (c .enum-told .given .1) at (s .settle .ensures .1) in (
       f .cut-apart .ensures .1,
-      decided-can (b .args .lefts .now) (p .3) (p .4) (row f) (known (joined s)) (b .args .queue .now) (p .0) (p .8) (q .0) (q .1) _ _ (flags f) (q .2),
+      decided-can (b .args .lefts .now) (p .0 .drawn) (p .0 .ends) (row f) (known (joined s)) (b .args .queue .now) (p .2) (p .0 .roots)
+          (q .0) (q .1) _ _ (flags f) (q .2),
     )
 
 pub decide-at-spec : {M : Type 1} → statement M

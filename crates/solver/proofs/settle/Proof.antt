@@ -1,5 +1,6 @@
 -- The search's answer, and where it is settled the flows: what `fill_flows` requires is `flowing`. The roots stand in the queue.
 use mathlib.Core.Path.{refl}
+use native.Mathlib.Omega.{arith}
 use lib.ListN.{getD-replicate}
 use lib.IntN.{pos}
 use borrow.Author.Needs.{needs}
@@ -35,7 +36,7 @@ fill-flows-requires c κs =
     let t = c .before .before in
     let s = t .before .before in
     let p = begun s .pre in
-    (p .3, p .4, flowing (p .5) _ (rw (t .enum-told .given .1) at (s .search .ensures .0)))
+    (p .3, omega (arith, p .4), flowing (p .5) _ (rw (t .enum-told .given .1) at (s .search .ensures .0)))
 
 returns-2 : tie.Need-returns-2
 returns-2 c =

@@ -54,27 +54,27 @@ pub record MadeOfRing (𝓜 : Map) (right : ℕ → ℕ) (length : ℕ → ℤ) 
   pub serves : FirstServes (𝓜 .nodes) (darts 𝓜) (𝓜 .tail) length height S
 
 -- the search from the faces at 0, which ends with the ring that the dart `closing` closes, and the set made from it
-pub record RingNamed (𝓜 : Map) (outer count trees : ℕ) (lefts order from grouped starts ends : List ℕ) (lengths : List ℤ) (proposal : List ℕ)
+pub record RingNamed (𝓜 : Map) (outer count parts : ℕ) (lefts order from grouped starts : List ℕ) (lengths : List ℤ) (proposal : List ℕ)
     (S : ℕ → Bool) : Type 0 where
   pub queue : List ℕ
   pub size : list.length queue ≡ 1024
-  pub few : trees ≤ 1024
-  pub roots : RootsHere (darts 𝓜) (𝓜 .rotation) outer (at lefts) (at order) (at from) (λ i. 0) (at queue) trees
-  pub sound : WellFormed (dualOf lefts lengths (darts 𝓜) count (list.take trees queue))
-  pub joined : Joined (dualOf lefts lengths (darts 𝓜) count (list.take trees queue))
+  pub few : parts ≤ 1024
+  pub roots : RootsHere (darts 𝓜) (𝓜 .rotation) outer (at lefts) (at order) (at from) (λ i. 0) (at queue) parts
+  pub sound : WellFormed (dualOf lefts lengths (darts 𝓜) count (list.take parts queue))
+  pub joined : Joined (dualOf lefts lengths (darts 𝓜) count (list.take parts queue))
   pub potentials : List ℤ
   pub parents : List ℕ
   pub closing : ℕ
   pub closing-in : closing < darts 𝓜
-  pub searched : Searches (given lefts lengths grouped starts ends (darts 𝓜) count) queue trees proposal potentials parents (outcome.Ring closing)
+  pub searched : Searches (given lefts lengths grouped starts (darts 𝓜) count) queue parts proposal potentials parents (outcome.Ring closing)
   pub made : MadeOfRing 𝓜 (rightOf lefts) (atℤ lengths) (at order) (at from) (at parents) (at lefts closing) S
 
 -- true: by the parts of source and sink; false: by a ring
-abbrev pub NamedBy : Map → (outer count trees : ℕ) → (lefts order from grouped starts ends : List ℕ) (lengths : List ℤ) (proposal : List ℕ)
+abbrev pub NamedBy : Map → (outer count parts : ℕ) → (lefts order from grouped starts : List ℕ) (lengths : List ℤ) (proposal : List ℕ)
     → (S : ℕ → Bool) → Bool → Type 0
-NamedBy 𝓜 outer count trees lefts order from grouped starts ends lengths proposal S true = Unit
-NamedBy 𝓜 outer count trees lefts order from grouped starts ends lengths proposal S false =
-    RingNamed 𝓜 outer count trees lefts order from grouped starts ends lengths proposal S
+NamedBy 𝓜 outer count parts lefts order from grouped starts lengths proposal S true = Unit
+NamedBy 𝓜 outer count parts lefts order from grouped starts lengths proposal S false =
+    RingNamed 𝓜 outer count parts lefts order from grouped starts lengths proposal S
 
 -- no parents are proposed: each is 1024, which is no dart
 abbrev pub noParents : List ℕ
@@ -89,12 +89,11 @@ pub record Named (𝓜 : Map) (outer : ℕ) (c : ℕ → ℤ) (s t : ℕ) (value
   pub from : List ℕ
   pub grouped : List ℕ
   pub starts : List ℕ
-  pub ends : List ℕ
   pub count : ℕ
-  pub trees : ℕ
+  pub parts : ℕ
   pub left-is : (d : ℕ) → d < darts 𝓜 → at lefts d ≡ left 𝓜 d
   pub counted : count ≡ faces 𝓜
-  pub walked : Walked (darts 𝓜) count outer trees (𝓜 .rotation) lefts order from grouped starts ends
+  pub walked : Walked (darts 𝓜) count outer parts (𝓜 .rotation) lefts order from grouped starts
   pub start : ℕ
   pub finish : ℕ
   pub start-first : FirstDart 𝓜 s start
@@ -102,4 +101,4 @@ pub record Named (𝓜 : Map) (outer : ℕ) (c : ℕ → ℤ) (s t : ℕ) (value
   pub lengths : List ℤ
   pub apart : Bool
   pub measured : MeasuredBy 𝓜 start finish (at from) c value (atℤ lengths) S apart
-  pub by : NamedBy 𝓜 outer count trees lefts order from grouped starts ends lengths proposal S apart
+  pub by : NamedBy 𝓜 outer count parts lefts order from grouped starts lengths proposal S apart
