@@ -54,13 +54,13 @@ told-value 𝓜 c few small v inside e = same-bits (omega arith) (subst (Limited
 pub highest-as : {𝓜 : Map} {outer : ℕ} {c : ℕ → ℤ} {s t : ℕ} {v w : ℤ} {x : ℕ → ℤ} → v ≡ w → Highest 𝓜 outer c s t v x → Highest 𝓜 outer c s t w x
 highest-as {𝓜} {outer} {c} {s} {t} {x = x} e h = subst (λ v. Highest 𝓜 outer c s t v x) e h
 
-pub maximized-as : {a b source sink : ℕ} → a ≡ source → b ≡ sink → (𝓜 : Map) (outer : ℕ) (c : ℕ → ℤ)
-    (flows flows' : List ℤ) (inside : List ℕ) {r answer : Maximum} → r ≡ answer
-    → Maximized 𝓜 outer c a b flows flows' inside r → Maximized 𝓜 outer c source sink flows flows' inside answer
-maximized-as p q 𝓜 outer c flows flows' inside same d = rw (← p, ← q, ← same) d
-
 -- the flows are lent from the front of a slice: what was found with that part is found with the slice
-pub maximized-back : (𝓜 : Map) (outer : ℕ) (c : ℕ → ℤ) (s t : ℕ) (flows y : List ℤ) (inside : List ℕ) (r : Maximum)
-    → Maximized 𝓜 outer c s t (take (𝓜 .edges - 0) flows) y inside r → Maximized 𝓜 outer c s t flows (y ++ drop (𝓜 .edges - 0) flows) inside r
-maximized-back 𝓜 outer c s t flows y inside (maximum.Value v) m = ((m .0 .0, m .0 .1, part-filled (𝓜 .edges) flows (m .0 .0) y (m .0 .2)), m .1, m .2)
-maximized-back 𝓜 outer c s t flows y inside maximum.Nothing m = (part-kept (𝓜 .edges) flows y (m .0), m .1, m .2)
+pub maximized-back : (𝓜 : Map) (outer : ℕ) (c : ℕ → ℤ) (s t : ℕ) (flows y : List ℤ) (inside : List ℕ) {r answer : Maximum} → r ≡ answer
+    → Maximized 𝓜 outer c s t (take (𝓜 .edges - 0) flows) y inside r → Maximized 𝓜 outer c s t flows (y ++ drop (𝓜 .edges - 0) flows) inside answer
+maximized-back 𝓜 outer c s t flows y inside {r} {answer} same m =
+    go answer (subst (Maximized 𝓜 outer c s t (take (𝓜 .edges - 0) flows) y inside) same m)
+  where
+    go : (a : Maximum) → Maximized 𝓜 outer c s t (take (𝓜 .edges - 0) flows) y inside a
+        → Maximized 𝓜 outer c s t flows (y ++ drop (𝓜 .edges - 0) flows) inside a
+    go (maximum.Value v) m = ((m .0 .0, m .0 .1, part-filled (𝓜 .edges) flows (m .0 .0) y (m .0 .2)), m .1, m .2)
+    go maximum.Nothing m = (part-kept (𝓜 .edges) flows y (m .0), m .1, m .2)
