@@ -28,7 +28,9 @@ part-length size i l room = length-take-le size (drop (i * size) l) (simp (lengt
 
 -- the same as the code has it, which tells the part by its ends
 pub stretch-exact : {A : Type 0} (size i : ℕ) (l : List A) → i * size + size ≤ length l → length (take (i * size + size - i * size) (drop (i * size) l)) ≡ size
-stretch-exact size i l room = length-take-le _ (drop (i * size) l) (simp (length-drop) (omega arith)) ∙ omega arith
+stretch-exact size i l room =
+    let few : i * size + size - i * size ≤ length (drop (i * size) l) = simp (length-drop) (omega arith) in
+    omega (arith, length-take-le (i * size + size - i * size) (drop (i * size) l) few)
 
 -- what lies in the first of two joined lists does not depend on the second
 in-front : {A : Type 0} (start size : ℕ) (l xs : List A) → start + size ≤ length l → take size (drop start (l ++ xs)) ≡ take size (drop start l)

@@ -1,6 +1,6 @@
 -- The list answered question by question: each turn is a step of `Answering`.
 use Prim.Native.Nat.{_≤_, _-_, _+_, _*_}
-use mathlib.Core.Path.{_≡_, refl}
+use mathlib.Core.Path.{_≡_, refl, _∙_}
 use native.Mathlib.Omega.{arith}
 use lib.ListN.{length}
 use borrow.Author.Needs.{needs}
@@ -9,21 +9,21 @@ use Rattle.arrays.specs.Maps.{drawingOf}
 use Rattle.pages.specs.Question.{questionAt}
 use Rattle.pages.specs.inner.Listed.{solvedAlone}
 use Rattle.pages.proofs.Listing.{words-few}
-use Rattle.pages.proofs.Stretches.{small-end, stretch-room}
+use Rattle.pages.proofs.Stretches.{small-end, stretch-room, stretch-exact}
 use Rattle.pages.proofs.Answering.{Halfway, halfway-start, halfway-turn, all-answered}
 use Rattle.pages.proofs.answer_all.Statement.{statement}
 use Rattle.pages.proofs.answer_all.Tie as tie
 
 abbrev Inv-loop : tie.InvT-loop
-Inv-loop tails rotations lefts capacities order from grouped starts flows₀ sets₀
-    sizes list count words answers₀ i₀ flows sets answers i =
+Inv-loop tails rotations lefts capacities order from grouped starts sizes flows₀ sets₀
+    list count edges words answers₀ i₀ flows sets answers i =
     (i ≤ count) × (count ≡ list .count) × (words ≡ wordsFor (sizes .nodes))
-    × Halfway (sizes .edges) words (λ j. solvedAlone (drawingOf (sizes .nodes) (sizes .edges) (sizes .outer) tails rotations capacities) (questionAt (list .questions) j))
+    × Halfway edges words (λ j. solvedAlone (drawingOf (sizes .nodes) (sizes .edges) (sizes .outer) tails rotations capacities) (questionAt (list .questions) j))
     flows₀ sets₀ i flows sets answers
 
 abbrev μ-loop : tie.MeasureT-loop
-μ-loop tails rotations lefts capacities order from grouped starts flows₀ sets₀
-    sizes list count words answers₀ i₀ flows sets answers i =
+μ-loop tails rotations lefts capacities order from grouped starts sizes flows₀ sets₀
+    list count edges words answers₀ i₀ flows sets answers i =
     count - i
 
 -- ── where the stretches of question i end ──
@@ -101,7 +101,7 @@ loop-again c =
       halfway-turn e w _ _ _ (l .i) (l .flows) (l .sets) (l .answers) (l .inv .3)
           (flows-room t) (sets-room t) (omega (arith, t .loop-test .taken, begun t .pre .1 .few))
           (l .i * e + e - l .i * e) (l .i * w + w - l .i * w) (omega arith) (omega arith)
-          (k .ask .last .1 .1 .1 .1 .1 .1 .1 .1 .1 .1 .1 .1 .1 .1 .1 .0) (k .ask .last .1 .1 .1 .1 .1 .1 .1 .1 .1 .1 .1 .1 .1 .1 .1 .1 .0) (k .ask .result)
+          (k .ask .last .1 .1 .1 .1 .1 .1 .1 .1 .1 .1 .0) (k .ask .last .1 .1 .1 .1 .1 .1 .1 .1 .1 .1 .1 .0) (k .ask .result)
           (c .before .before .flows .given .0) (c .before .sets .given .0) (k .ask .ensures),
     )
 
@@ -115,7 +115,7 @@ returns : tie.Need-returns Inv-loop μ-loop
 returns c =
     let s = c .before .before .before .before in
     let l = c .before .loop in
-    all-answered (s .args .sizes .nodes) (s .args .sizes .edges) (s .args .t15 .count) _ (l .i) _ (s .args .flows .now) (l .flows) (s .args .sets .now) (l .sets) (l .answers)
+    all-answered (s .args .sizes .nodes) (s .args .sizes .edges) (s .args .t10 .count) _ (l .i) _ (s .args .flows .now) (l .flows) (s .args .sets .now) (l .sets) (l .answers)
     (l .inv .2) (l .inv .3) (omega (arith, l .inv .0, c .loop-test .left)) (s .pre .1 .few) (s .pre .1 .flows-room) (s .pre .1 .sets-room)
 
 pub answer-all-spec : {M : Type 1} → statement M
