@@ -4,4 +4,5 @@ pub mod Lowest
 pub mod Nets
 pub mod Within
 pub mod Balance
+pub mod Parts
 pub mod Examples

@@ -167,7 +167,7 @@ fn put_arcs(
     end
 }
 
-// The text: the problem line, the source, the sink, the arcs.
+// The text, into a slice that is as long as it is: the problem line, the source, the sink, the arcs.
 fn put_text<'a>(
     tails: &'a [u16; 1024],
     rotations: &'a [u16; 1024],
@@ -180,7 +180,7 @@ fn put_text<'a>(
     text: &mut [u8],
 ) -> usize
     requires { ⌜ (nodes ≤ 1024) × (edges ≤ 512)
-        × (length (textOf (drawingOf nodes edges outer (now tails) (now rotations) (now capacities)) source sink) ≤ length (now text)) ⌝ }
+        × (length (now text) ≡ length (textOf (drawingOf nodes edges outer (now tails) (now rotations) (now capacities)) source sink)) ⌝ }
     ensures { λ r. ⌜ Placed 0 (textOf (drawingOf nodes edges outer (now (tails .entry)) (now (rotations .entry)) (now (capacities .entry))) source sink)
         (now (text .entry)) (now (text .exit)) r ⌝ }
 {
@@ -242,6 +242,6 @@ pub fn write<'a>(
         outer,
         source,
         sink,
-        out,
+        &mut out[0..length],
     ))
 }

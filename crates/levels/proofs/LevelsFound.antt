@@ -18,6 +18,7 @@ use Rattle.maps.specs.Face as face
 use Rattle.maps.proofs.Faces.{left-in}
 use Rattle.flows.specs.Levels.{Levels}
 use Rattle.flows.specs.Check.{withinChecks, balanceChecks, NoNode}
+use Rattle.flows.proofs.Agreement.{onDarts-agrees}
 use Rattle.arrays.specs.At.{atℤ}
 use Rattle.arrays.specs.inner.Drawn.{Drawn}
 use Rattle.arrays.specs.Filled.{tabulate, filled}
@@ -53,6 +54,10 @@ filled-itself n old new room same kept = ext-getD (pos 0) new (table ++ drop n o
     at-place i (yes l) = sym (List·getD-append table (drop n old) (pos 0) i (omega (arith, size)) ∙ getD-tabulate n i (atℤ new) (pos 0) l)
     at-place i (no over) = let e : n + (i - n) ≡ i = omega (arith, over) in subst (λ j. atℤ new j ≡ getD (table ++ drop n old) j (pos 0)) e (past (i - n))
 
+-- settings that agree on the edges have the same levels
+pub levels-agree : (𝓜 : Map) (outer : ℕ) (x y ρ : ℕ → ℤ) → ((e : ℕ) → e < 𝓜 .edges → x e ≡ y e) → Levels 𝓜 outer x ρ → Levels 𝓜 outer y ρ
+levels-agree 𝓜 outer x y ρ same h = record { differences = λ d l. sym (onDarts-agrees 𝓜 x y same d l) ∙ h .differences d l; rooted = h .rooted }
+
 module _ {𝓜 : Map} {left : ℕ → ℕ} {faces outer : ℕ} {capacity : ℕ → ℤ} (p : Drawn 𝓜 left faces outer capacity) where
   pub tails-small : (d : ℕ) → d < darts 𝓜 → 𝓜 .tail d < 1024
   tails-small d l = omega (arith, p .plane .sound .range .tail-in d l, p .few-nodes)
@@ -67,13 +72,14 @@ module _ {𝓜 : Map} {left : ℕ → ℕ} {faces outer : ℕ} {capacity : ℕ �
       record { low = at-most (search parts) (omega (arith, from-at-most backward (search parts))); high = forward }
 
   module _ (flows levels : List ℤ) where
-    pub levelable : 𝓜 .edges ≤ length flows → face.faces 𝓜 ≤ length levels → SmallFlows (𝓜 .edges) (atℤ flows)
+    pub levelable : length flows ≡ 𝓜 .edges → face.faces 𝓜 ≤ length levels → SmallFlows (𝓜 .edges) (atℤ flows)
         → Levelable (𝓜 .edges) outer (length levels) (𝓜 .rotation) left flows
-    levelable room-edges room-faces small = record {
+    levelable exact room-faces small = record {
       outer-in = p .outer-in;
       few = p .few-edges;
+      exact = exact;
       rotation-in = p .plane .sound .range .rotation-in;
-      walked = λ 𝓕. map-fillable (p .left-is) (p .plane .sound) (omega (arith, p .outer-in)) (p .few-edges) room-faces room-edges small 𝓕;
+      walked = λ 𝓕. map-fillable (p .left-is) (p .plane .sound) (omega (arith, p .outer-in)) (p .few-edges) room-faces (omega arith) small 𝓕;
     }
 
     -- what is written: the levels of the balanced settings, in the places of the faces and in no other

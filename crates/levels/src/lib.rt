@@ -34,7 +34,7 @@ fn level_outside(x: i32) -> bool
 // Refusals 19 and 20: "19 a level beyond ±600,000,000, 20 face 0 not at 0"; of the faces at 0 there is one to a part (document 02, Job 8), and they stand in
 // the first places of `roots`. All faces are looked at for 19 before these are for 20.
 fn check_levels(levels: &[i32], faces: usize, roots: &[u16; 1024], count: usize) -> Verdict
-    requires { ⌜ (count ≤ 1024) × ((m : ℕ) → m < count → at (now roots) m < faces) × (faces ≤ length (now levels)) ⌝ }
+    requires { ⌜ (count ≤ 1024) × ((m : ℕ) → m < count → at (now roots) m < faces) × (length (now levels) ≡ faces) ⌝ }
     ensures { λ r. ⌜ Judged (levelChecks faces (OneOf (at (now (roots .entry))) count) (atℤ (now (levels .entry)))) r ⌝ }
 {
     let mut f: usize = 0;
@@ -87,9 +87,9 @@ fn check_differences<'a>(
     Verdict::Passed
 }
 
-// The flows that the levels give, into the first places of a slice; the rest stays as it was.
+// The flows that the levels give, into a slice with one place for each edge.
 fn fill_differences(lefts: &[u16; 1024], edges: usize, levels: &[i32], flows: &mut [i32])
-    requires { ⌜ (edges ≤ 512) × (edges ≤ length (now flows)) × HaveLevels edges (at (now lefts)) (now levels) ⌝ }
+    requires { ⌜ (edges ≤ 512) × (length (now flows) ≡ edges) × HaveLevels edges (at (now lefts)) (now levels) ⌝ }
     ensures { λ _. ⌜ now (flows .exit) ≡ filled edges (across (at (now (lefts .entry))) (atℤ (now (levels .entry)))) (now (flows .entry)) ⌝ }
 {
     let mut e: usize = 0;
@@ -195,15 +195,23 @@ pub fn levels_of<'a>(
     if levels.len() < faces {
         return LevelAnswer::Refused(16, 0);
     }
-    let within = balance::check_within(capacities, edges, flows);
+    let given = &flows[0..edges];
+    let within = balance::check_within(capacities, edges, given);
     if let Verdict::Refused(k, p) = within {
         return LevelAnswer::Refused(k, p);
     }
-    let balanced = balance::check_all_balanced(tails, nodes, edges, flows);
+    let balanced = balance::check_all_balanced(tails, nodes, edges, given);
     if let Verdict::Refused(k, p) = balanced {
         return LevelAnswer::Refused(k, p);
     }
-    write_levels(rotations, lefts, edges, outer, flows, levels);
+    write_levels(
+        rotations,
+        lefts,
+        edges,
+        outer,
+        given,
+        &mut levels[0..faces],
+    );
     LevelAnswer::Done
 }
 
@@ -234,14 +242,15 @@ pub fn settings_of<'a>(
     }
     let mut roots = [0u16; 1024];
     let count = traversal::roots_of(rotations, lefts, 2 * edges, outer, &mut roots);
-    let judged = check_levels(levels, faces, &roots, count);
+    let given = &levels[0..faces];
+    let judged = check_levels(given, faces, &roots, count);
     if let Verdict::Refused(k, p) = judged {
         return LevelAnswer::Refused(k, p);
     }
-    let within = check_differences(lefts, capacities, edges, levels);
+    let within = check_differences(lefts, capacities, edges, given);
     if let Verdict::Refused(k, p) = within {
         return LevelAnswer::Refused(k, p);
     }
-    fill_differences(lefts, edges, levels, flows);
+    fill_differences(lefts, edges, given, &mut flows[0..edges]);
     LevelAnswer::Done
 }

@@ -53,7 +53,10 @@ use Rattle.node_flags.specs.inner.Flags.{Sided}
 use Rattle.arrays.specs.inner.Flags.{flagged}
 use Rattle.node_flags.specs.declared.Side.{Side}
 use Rattle.node_flags.specs.declared.Side.the-variants as side
+use Rattle.arrays.specs.Maps.{mapOf}
+use Rattle.arrays.specs.declared.Sizes.{Sizes}
 use Rattle.solver.specs.inner.Ends.{Ends}
+use Rattle.solver.specs.inner.Lent.{Lent}
 use Rattle.solver.specs.inner.Decision.{Decided}
 use Rattle.maximum.specs.inner.Bracket.{Ceiling, Floor, Bracket, Closer}
 use Rattle.maximum.specs.inner.Narrowing.{SameFlags, Narrows, Lowers, stays, falls, Joins}
@@ -106,12 +109,18 @@ pub record Ground (𝓜 : Map) (c : ℕ → ℤ) (s t : ℕ) : Type 0 where
   pub pairs : (d : ℕ) → d < darts 𝓜 → pos 0 ≤ℤ (c d +ℤ c (rev d))
   pub two : Ends 𝓜 s t
 
+pub ground-of : {n : Sizes} {s t : ℕ} {tails rotations lefts : List ℕ} {capacities : List ℤ} {order from grouped starts : List ℕ} {flows : List ℤ}
+    → Lent n s t tails rotations lefts capacities order from grouped starts flows → ((d : ℕ) → d < 2 * n .edges → Limited 1000000 (atℤ capacities d))
+    → Ground (mapOf (n .nodes) (n .edges) tails rotations) (atℤ capacities) s t
+ground-of p small =
+    let d = p .opened .drawn in
+    record { plane = d .plane; few-nodes = d .few-nodes; few-edges = d .few-edges; small = small; pairs = d .pairs; two = p .ends }
+
 -- what the loop keeps: the sizes of its arrays, and the bounds
-pub record Probing (𝓜 : Map) (outer : ℕ) (c : ℕ → ℤ) (s t : ℕ) (before flows : List ℤ) (A B inside parents : List ℕ)
+pub record Probing (𝓜 : Map) (outer : ℕ) (c : ℕ → ℤ) (s t : ℕ) (before flows : List ℤ) (A B parents : List ℕ)
     (low high : ℤ) (found : Bool) : Type 0 where
   pub size-a : length A ≡ 1024
   pub size-b : length B ≡ 1024
-  pub size-inside : length inside ≡ 1024
   pub size-parents : length parents ≡ 1024
   pub bracket : Bracket 𝓜 outer c s t before flows A B low high found
 

@@ -25,14 +25,15 @@ ghost use Rattle.cuts.specs.inner.Cut.{cutOf};
 ghost use Rattle.node_flags.specs.inner.Flags.{Sided};
 ghost use Rattle.arrays.specs.inner.Flags.{flagged};
 ghost use Rattle.node_flags.specs.declared.Side.{Side};
-ghost use Rattle.arrays.specs.inner.Drawn.{Drawn};
-ghost use Rattle.grouping.specs.inner.Walked.{Walked};
-ghost use Rattle.solver.specs.inner.Ends.{Ends};
+ghost use Rattle.solver.specs.inner.Lent.{Lent};
 ghost use Rattle.arrays.specs.Maps.{mapOf};
 ghost use Rattle.maximum.specs.inner.Bracket.{Bracket, Closer};
 ghost use Rattle.maximum.specs.inner.Narrowing.{Narrows, Lowers, Joins};
 ghost use Rattle.maximum.specs.inner.Maximum.{Maximized};
 ghost use Rattle.maximum.specs.inner.Probing.{Probes};
+use arrays::Demand;
+use arrays::Sizes;
+use arrays::Terminals;
 use node_flags::Side;
 
 // Which value is probed next: the high bound, the one nearest to zero, or the middle of the two bounds.
@@ -50,6 +51,12 @@ struct Bounds {
     found: bool,
     next: Next,
     none: bool,
+}
+
+// A question that is not answered yet: its nodes, and the bounds of its answer.
+struct Pending {
+    terminals: Terminals,
+    bounds: Bounds,
 }
 
 // The two bounds after a proving set, or that it shows that there is nothing between any.
@@ -282,28 +289,28 @@ fn lower(
     high
 }
 
-// Where no value is left between the cuts of a and b, the union or the intersection has a cut below zero: it is kept in a. `joined` is lent to make it in.
+// Where no value is left between the cuts of a and b, the union or the intersection has a cut below zero: it is kept in a.
 fn join(
     tails: &[u16; 1024],
     capacities: &[i32; 1024],
     darts: usize,
     a: &mut [u8; 1024],
     b: &[u8; 1024],
-    joined: &mut [u8; 1024],
 )
     requires { ⌜ (length (now a) ≡ 1024) × (darts ≤ 1024) × (darts % 2 ≡ 0) × ((d : ℕ) → d < darts → at (now tails) d < 1024)
-        × ((d : ℕ) → d < darts → Limited 2000000 (atℤ (now capacities) d)) × (length (now joined) ≡ 1024) ⌝ }
+        × ((d : ℕ) → d < darts → Limited 2000000 (atℤ (now capacities) d)) ⌝ }
     ensures { λ _. ⌜ (length (now (a .exit)) ≡ 1024)
         × Joins darts (at (now (tails .entry))) (atℤ (now (capacities .entry))) (now (a .entry)) (now (a .exit)) (now (b .entry)) ⌝ }
 {
-    node_flags::unite(&*a, b, &mut *joined);
-    let total = cuts::capacity(tails, capacities, &*joined, darts);
+    let mut joined = [0u8; 1024];
+    node_flags::unite(&*a, b, &mut joined);
+    let total = cuts::capacity(tails, capacities, &joined, darts);
     if is_less(total, 0) {
-        node_flags::copy_flags(&*joined, a);
+        node_flags::copy_flags(&joined, a);
         return;
     }
-    node_flags::intersect(&*a, b, &mut *joined);
-    node_flags::copy_flags(&*joined, a);
+    node_flags::intersect(&*a, b, &mut joined);
+    node_flags::copy_flags(&joined, a);
 }
 
 // The high bound, lowered by a set that the pivots propose from the flows of the low one and from the tree of the faces that its search left; they leave
@@ -313,48 +320,46 @@ fn propose<'a>(
     tails: &'a [u16; 1024],
     lefts: &'a [u16; 1024],
     capacities: &'a [i32; 1024],
-    nodes: usize,
-    edges: usize,
-    faces: usize,
-    source: usize,
-    sink: usize,
+    sizes: Sizes,
+    terminals: Terminals,
     low: i32,
     high: i32,
     flows: &[i32],
     parents: &mut [u16; 1024],
-    inside: &mut [u8; 1024],
     a: &mut [u8; 1024],
 ) -> i32
-    requires { ⌜ (length (now parents) ≡ 1024) × (length (now inside) ≡ 1024) × (length (now a) ≡ 1024) × (edges ≤ length (now flows))
-        × (nodes ≤ 1024) × (edges ≤ 512) × (source < 1024) × (sink < 1024)
-        × ((d : ℕ) → d < 2 * edges → at (now tails) d < 1024) × ((d : ℕ) → d < 2 * edges → Limited 2000000 (atℤ (now capacities) d)) ⌝ }
-    ensures { λ r. ⌜ (length (now (parents .exit)) ≡ 1024) × (length (now (inside .exit)) ≡ 1024) × (length (now (a .exit)) ≡ 1024)
-        × Lowers source sink (cutOf (2 * edges) (at (now (tails .entry))) (atℤ (now (capacities .entry))) (flagged (now (inside .exit))))
-        high r (now (inside .exit)) (now (a .entry)) (now (a .exit)) ⌝ }
+    requires { ⌜ (length (now parents) ≡ 1024) × (length (now a) ≡ 1024) × (length (now flows) ≡ sizes .edges)
+        × (sizes .nodes ≤ 1024) × (sizes .edges ≤ 512) × (terminals .source < 1024) × (terminals .sink < 1024)
+        × ((d : ℕ) → d < 2 * sizes .edges → at (now tails) d < 1024) × ((d : ℕ) → d < 2 * sizes .edges → Limited 2000000 (atℤ (now capacities) d)) ⌝ }
+    ensures { λ r. ⌜ (length (now (parents .exit)) ≡ 1024) × (length (now (a .exit)) ≡ 1024)
+        × ((inside : List ℕ) × Lowers (terminals .source) (terminals .sink)
+        (cutOf (2 * sizes .edges) (at (now (tails .entry))) (atℤ (now (capacities .entry))) (flagged inside))
+        high r inside (now (a .entry)) (now (a .exit))) ⌝ }
 {
     if finished(low, high, true) {
         return high;
     }
+    let mut inside = [0u8; 1024];
     pivots::propose(
         tails,
         lefts,
         capacities,
-        nodes,
-        edges,
-        faces,
-        source,
-        sink,
+        sizes.nodes,
+        sizes.edges,
+        sizes.faces,
+        terminals.source,
+        terminals.sink,
         flows,
         parents,
-        &mut *inside,
+        &mut inside,
     );
     lower(
         tails,
         capacities,
-        &*inside,
-        2 * edges,
-        source,
-        sink,
+        &inside,
+        2 * sizes.edges,
+        terminals.source,
+        terminals.sink,
         high,
         a,
     )
@@ -371,40 +376,35 @@ fn probe<'a>(
     from: &'a [u16; 1024],
     grouped: &'a [u16; 1024],
     starts: &'a [u16; 1024],
-    ends: &'a [u16; 1024],
-    nodes: usize,
-    edges: usize,
-    faces: usize,
-    trees: usize,
-    outer: usize,
-    source: usize,
-    sink: usize,
-    bounds: Bounds,
+    sizes: Sizes,
+    pending: Pending,
     flows: &mut [i32],
     parents: &mut [u16; 1024],
-    inside: &mut [u8; 1024],
     a: &mut [u8; 1024],
     b: &mut [u8; 1024],
 ) -> Bounds
-    requires { ⌜ (length (now parents) ≡ 1024) × (length (now inside) ≡ 1024) × (length (now a) ≡ 1024) × (length (now b) ≡ 1024)
-        × (edges ≤ length (now flows)) × ((d : ℕ) → d < 2 * edges → Limited 1000000 (atℤ (now capacities) d))
-        × Drawn (mapOf nodes edges (now tails) (now rotations)) (at (now lefts)) faces outer (atℤ (now capacities))
-        × Ends (mapOf nodes edges (now tails) (now rotations)) source sink
-        × Walked (2 * edges) faces outer trees (at (now rotations)) (now lefts) (now order) (now from) (now grouped) (now starts) (now ends)
-        × (bounds .low ≤ℤ bounds .high) × (bounds .found ≡ true → bounds .low <ℤ bounds .high)
-        × ((before : List ℤ) × Bracket (mapOf nodes edges (now tails) (now rotations)) outer (atℤ (now capacities)) source sink
-        before (now flows) (now a) (now b) (bounds .low) (bounds .high) (bounds .found)) ⌝ }
-    ensures { λ r. ⌜ (length (now (parents .exit)) ≡ 1024) × (length (now (inside .exit)) ≡ 1024) × (length (now (a .exit)) ≡ 1024)
-        × (length (now (b .exit)) ≡ 1024)
-        × (r .none ≡ false → Closer (bounds .low) (bounds .high) (bounds .found) (r .low) (r .high) (r .found))
-        × Probes (mapOf nodes edges (now (tails .entry)) (now (rotations .entry))) outer (atℤ (now (capacities .entry))) source sink
-        (now (flows .entry)) (now (flows .exit)) (now (a .entry)) (now (a .exit)) (now (b .entry)) (now (b .exit)) bounds r ⌝ }
+    requires { ⌜ Lent sizes (pending .terminals .source) (pending .terminals .sink) (now tails) (now rotations) (now lefts) (now capacities) (now order)
+        (now from) (now grouped) (now starts) (now flows)
+        × ((d : ℕ) → d < 2 * sizes .edges → Limited 1000000 (atℤ (now capacities) d))
+        × (length (now parents) ≡ 1024) × (length (now a) ≡ 1024) × (length (now b) ≡ 1024)
+        × (pending .bounds .low ≤ℤ pending .bounds .high) × (pending .bounds .found ≡ true → pending .bounds .low <ℤ pending .bounds .high)
+        × ((before : List ℤ) × Bracket (mapOf (sizes .nodes) (sizes .edges) (now tails) (now rotations)) (sizes .outer) (atℤ (now capacities))
+        (pending .terminals .source) (pending .terminals .sink) before (now flows) (now a) (now b)
+        (pending .bounds .low) (pending .bounds .high) (pending .bounds .found)) ⌝ }
+    ensures { λ r. ⌜ (length (now (parents .exit)) ≡ 1024) × (length (now (a .exit)) ≡ 1024) × (length (now (b .exit)) ≡ 1024)
+        × (r .none ≡ false → Closer (pending .bounds .low) (pending .bounds .high) (pending .bounds .found) (r .low) (r .high) (r .found))
+        × Probes (mapOf (sizes .nodes) (sizes .edges) (now (tails .entry)) (now (rotations .entry))) (sizes .outer) (atℤ (now (capacities .entry)))
+        (pending .terminals .source) (pending .terminals .sink) (now (flows .entry)) (now (flows .exit)) (now (a .entry)) (now (a .exit))
+        (now (b .entry)) (now (b .exit)) (pending .bounds) r ⌝ }
 {
+    let terminals = pending.terminals;
+    let bounds = pending.bounds;
     let low = bounds.low;
     let high = bounds.high;
     let found = bounds.found;
     let next = bounds.next;
     let value = next_value(low, high, found, next);
+    let mut inside = [0u8; 1024];
     if solver::decide(
         tails,
         rotations,
@@ -414,18 +414,15 @@ fn probe<'a>(
         from,
         grouped,
         starts,
-        ends,
-        nodes,
-        edges,
-        faces,
-        trees,
-        outer,
-        source,
-        sink,
-        value,
+        sizes,
+        Demand {
+            source: terminals.source,
+            sink: terminals.sink,
+            value: value,
+        },
         &mut *parents,
         &mut *flows,
-        &mut *inside,
+        &mut inside,
     ) {
         return Bounds {
             low: value,
@@ -433,16 +430,12 @@ fn probe<'a>(
                 tails,
                 lefts,
                 capacities,
-                nodes,
-                edges,
-                faces,
-                source,
-                sink,
+                sizes,
+                terminals,
                 value,
                 high,
                 &*flows,
                 parents,
-                inside,
                 a,
             ),
             found: true,
@@ -453,10 +446,10 @@ fn probe<'a>(
     let n = narrow_by(
         tails,
         capacities,
-        &*inside,
-        2 * edges,
-        source,
-        sink,
+        &inside,
+        2 * sizes.edges,
+        terminals.source,
+        terminals.sink,
         low,
         high,
         a,
@@ -481,38 +474,31 @@ fn close_in<'a>(
     from: &'a [u16; 1024],
     grouped: &'a [u16; 1024],
     starts: &'a [u16; 1024],
-    ends: &'a [u16; 1024],
-    nodes: usize,
-    edges: usize,
-    faces: usize,
-    trees: usize,
-    outer: usize,
-    source: usize,
-    sink: usize,
-    begun: Bounds,
+    sizes: Sizes,
+    begun: Pending,
     flows: &mut [i32],
     parents: &mut [u16; 1024],
-    inside: &mut [u8; 1024],
     a: &mut [u8; 1024],
     b: &mut [u8; 1024],
 ) -> Maximum
-    requires { ⌜ (length (now parents) ≡ 1024) × (length (now inside) ≡ 1024) × (length (now a) ≡ 1024) × (length (now b) ≡ 1024)
-        × (edges ≤ length (now flows)) × ((d : ℕ) → d < 2 * edges → Limited 1000000 (atℤ (now capacities) d))
-        × Drawn (mapOf nodes edges (now tails) (now rotations)) (at (now lefts)) faces outer (atℤ (now capacities))
-        × Ends (mapOf nodes edges (now tails) (now rotations)) source sink
-        × Walked (2 * edges) faces outer trees (at (now rotations)) (now lefts) (now order) (now from) (now grouped) (now starts) (now ends)
-        × Bracket (mapOf nodes edges (now tails) (now rotations)) outer (atℤ (now capacities)) source sink (now flows) (now flows) (now a) (now b)
-        (begun .low) (begun .high) (begun .found) ⌝ }
+    requires { ⌜ Lent sizes (begun .terminals .source) (begun .terminals .sink) (now tails) (now rotations) (now lefts) (now capacities) (now order)
+        (now from) (now grouped) (now starts) (now flows)
+        × ((d : ℕ) → d < 2 * sizes .edges → Limited 1000000 (atℤ (now capacities) d))
+        × (length (now parents) ≡ 1024) × (length (now a) ≡ 1024) × (length (now b) ≡ 1024)
+        × Bracket (mapOf (sizes .nodes) (sizes .edges) (now tails) (now rotations)) (sizes .outer) (atℤ (now capacities))
+        (begun .terminals .source) (begun .terminals .sink) (now flows) (now flows) (now a) (now b)
+        (begun .bounds .low) (begun .bounds .high) (begun .bounds .found) ⌝ }
     ensures { λ r. ⌜ (length (now (parents .exit)) ≡ 1024) × (length (now (a .exit)) ≡ 1024)
-        × Maximized (mapOf nodes edges (now (tails .entry)) (now (rotations .entry))) outer
-        (atℤ (now (capacities .entry))) source sink (now (flows .entry)) (now (flows .exit)) (now (a .exit)) r ⌝ }
+        × Maximized (mapOf (sizes .nodes) (sizes .edges) (now (tails .entry)) (now (rotations .entry))) (sizes .outer) (atℤ (now (capacities .entry)))
+        (begun .terminals .source) (begun .terminals .sink) (now (flows .entry)) (now (flows .exit)) (now (a .exit)) r ⌝ }
 {
-    let mut bounds = begun;
+    let terminals = begun.terminals;
+    let mut bounds = begun.bounds;
     loop {
         let low = bounds.low;
         let high = bounds.high;
         if is_less(high, low) {
-            join(tails, capacities, 2 * edges, a, &*b, inside);
+            join(tails, capacities, 2 * sizes.edges, a, &*b);
             return Maximum::Nothing;
         }
         if finished(low, high, bounds.found) {
@@ -527,18 +513,13 @@ fn close_in<'a>(
             from,
             grouped,
             starts,
-            ends,
-            nodes,
-            edges,
-            faces,
-            trees,
-            outer,
-            source,
-            sink,
-            bounds,
+            sizes,
+            Pending {
+                terminals: terminals,
+                bounds: bounds,
+            },
             &mut *flows,
             &mut *parents,
-            &mut *inside,
             &mut *a,
             &mut *b,
         );
@@ -558,32 +539,31 @@ pub fn maximize_from<'a>(
     from: &'a [u16; 1024],
     grouped: &'a [u16; 1024],
     starts: &'a [u16; 1024],
-    ends: &'a [u16; 1024],
-    nodes: usize,
-    edges: usize,
-    faces: usize,
-    trees: usize,
-    outer: usize,
-    source: usize,
-    sink: usize,
+    sizes: Sizes,
+    terminals: Terminals,
     flows: &mut [i32],
     parents: &mut [u16; 1024],
     a: &mut [u8; 1024],
 ) -> Maximum
-    requires { ⌜ (length (now a) ≡ 1024) × (edges ≤ length (now flows)) × ((d : ℕ) → d < 2 * edges → Limited 1000000 (atℤ (now capacities) d))
-        × Drawn (mapOf nodes edges (now tails) (now rotations)) (at (now lefts)) faces outer (atℤ (now capacities))
-        × Ends (mapOf nodes edges (now tails) (now rotations)) source sink
-        × Walked (2 * edges) faces outer trees (at (now rotations)) (now lefts) (now order) (now from) (now grouped) (now starts) (now ends)
-        × (length (now parents) ≡ 1024) ⌝ }
+    requires { ⌜ Lent sizes (terminals .source) (terminals .sink) (now tails) (now rotations) (now lefts) (now capacities) (now order) (now from) (now grouped)
+        (now starts) (now flows)
+        × ((d : ℕ) → d < 2 * sizes .edges → Limited 1000000 (atℤ (now capacities) d)) × (length (now a) ≡ 1024) × (length (now parents) ≡ 1024) ⌝ }
     ensures { λ r. ⌜ (length (now (a .exit)) ≡ 1024) × (length (now (parents .exit)) ≡ 1024)
-        × Maximized (mapOf nodes edges (now (tails .entry)) (now (rotations .entry))) outer
-        (atℤ (now (capacities .entry))) source sink (now (flows .entry)) (now (flows .exit)) (now (a .exit)) r ⌝ }
+        × Maximized (mapOf (sizes .nodes) (sizes .edges) (now (tails .entry)) (now (rotations .entry))) (sizes .outer) (atℤ (now (capacities .entry)))
+        (terminals .source) (terminals .sink) (now (flows .entry)) (now (flows .exit)) (now (a .exit)) r ⌝ }
 {
-    let likely = begin(tails, rotations, capacities, edges, source, sink, &mut *a);
+    let likely = begin(
+        tails,
+        rotations,
+        capacities,
+        sizes.edges,
+        terminals.source,
+        terminals.sink,
+        &mut *a,
+    );
     let mut b = [0u8; 1024];
-    let mut inside = [0u8; 1024];
-    node_flags::flag_one(sink, &mut b);
-    let bounds = first_bounds(tails, capacities, 2 * edges, likely, &*a, &b);
+    node_flags::flag_one(terminals.sink, &mut b);
+    let bounds = first_bounds(tails, capacities, 2 * sizes.edges, likely, &*a, &b);
     close_in(
         tails,
         rotations,
@@ -593,18 +573,13 @@ pub fn maximize_from<'a>(
         from,
         grouped,
         starts,
-        ends,
-        nodes,
-        edges,
-        faces,
-        trees,
-        outer,
-        source,
-        sink,
-        bounds,
+        sizes,
+        Pending {
+            terminals: terminals,
+            bounds: bounds,
+        },
         flows,
         parents,
-        &mut inside,
         a,
         &mut b,
     )
@@ -620,24 +595,17 @@ pub fn maximize<'a>(
     from: &'a [u16; 1024],
     grouped: &'a [u16; 1024],
     starts: &'a [u16; 1024],
-    ends: &'a [u16; 1024],
-    nodes: usize,
-    edges: usize,
-    faces: usize,
-    trees: usize,
-    outer: usize,
-    source: usize,
-    sink: usize,
+    sizes: Sizes,
+    terminals: Terminals,
     flows: &mut [i32],
     a: &mut [u8; 1024],
 ) -> Maximum
-    requires { ⌜ (length (now a) ≡ 1024) × (edges ≤ length (now flows)) × ((d : ℕ) → d < 2 * edges → Limited 1000000 (atℤ (now capacities) d))
-        × Drawn (mapOf nodes edges (now tails) (now rotations)) (at (now lefts)) faces outer (atℤ (now capacities))
-        × Ends (mapOf nodes edges (now tails) (now rotations)) source sink
-        × Walked (2 * edges) faces outer trees (at (now rotations)) (now lefts) (now order) (now from) (now grouped) (now starts) (now ends) ⌝ }
+    requires { ⌜ Lent sizes (terminals .source) (terminals .sink) (now tails) (now rotations) (now lefts) (now capacities) (now order) (now from) (now grouped)
+        (now starts) (now flows)
+        × ((d : ℕ) → d < 2 * sizes .edges → Limited 1000000 (atℤ (now capacities) d)) × (length (now a) ≡ 1024) ⌝ }
     ensures { λ r. ⌜ (length (now (a .exit)) ≡ 1024)
-        × Maximized (mapOf nodes edges (now (tails .entry)) (now (rotations .entry))) outer
-        (atℤ (now (capacities .entry))) source sink (now (flows .entry)) (now (flows .exit)) (now (a .exit)) r ⌝ }
+        × Maximized (mapOf (sizes .nodes) (sizes .edges) (now (tails .entry)) (now (rotations .entry))) (sizes .outer) (atℤ (now (capacities .entry)))
+        (terminals .source) (terminals .sink) (now (flows .entry)) (now (flows .exit)) (now (a .exit)) r ⌝ }
 {
     let mut parents = [1024u16; 1024];
     maximize_from(
@@ -649,23 +617,17 @@ pub fn maximize<'a>(
         from,
         grouped,
         starts,
-        ends,
-        nodes,
-        edges,
-        faces,
-        trees,
-        outer,
-        source,
-        sink,
+        sizes,
+        terminals,
         flows,
         &mut parents,
         a,
     )
 }
 
-// Copies the flows of the edges; the rest of the slice stays as it was.
+// Copies the flows of the edges.
 fn copy_flows(from: &[i32], edges: usize, to: &mut [i32])
-    requires { ⌜ (edges ≤ length (now from)) × (edges ≤ length (now to)) × ((e : ℕ) → e < edges → Limited 1000000 (atℤ (now from) e)) ⌝ }
+    requires { ⌜ (length (now from) ≡ edges) × (length (now to) ≡ edges) × ((e : ℕ) → e < edges → Limited 1000000 (atℤ (now from) e)) ⌝ }
     ensures { λ _. ⌜ now (to .exit) ≡ filled edges (atℤ (now (from .entry))) (now (to .entry)) ⌝ }
 {
     let mut e: usize = 0;
@@ -686,33 +648,26 @@ fn try_likely<'a>(
     from: &'a [u16; 1024],
     grouped: &'a [u16; 1024],
     starts: &'a [u16; 1024],
-    ends: &'a [u16; 1024],
-    nodes: usize,
-    edges: usize,
-    faces: usize,
-    trees: usize,
-    outer: usize,
-    source: usize,
-    sink: usize,
+    sizes: Sizes,
     likely: bool,
-    bounds: Bounds,
+    given: Pending,
     flows: &mut [i32],
-    inside: &mut [u8; 1024],
     a: &mut [u8; 1024],
     b: &mut [u8; 1024],
 ) -> Bounds
-    requires { ⌜ (length (now inside) ≡ 1024) × (length (now a) ≡ 1024) × (length (now b) ≡ 1024)
-        × (edges ≤ length (now flows)) × ((d : ℕ) → d < 2 * edges → Limited 1000000 (atℤ (now capacities) d))
-        × Drawn (mapOf nodes edges (now tails) (now rotations)) (at (now lefts)) faces outer (atℤ (now capacities))
-        × Ends (mapOf nodes edges (now tails) (now rotations)) source sink
-        × Walked (2 * edges) faces outer trees (at (now rotations)) (now lefts) (now order) (now from) (now grouped) (now starts) (now ends)
-        × (bounds .none ≡ false)
-        × ((before : List ℤ) × Bracket (mapOf nodes edges (now tails) (now rotations)) outer (atℤ (now capacities)) source sink
-        before (now flows) (now a) (now b) (bounds .low) (bounds .high) (bounds .found)) ⌝ }
-    ensures { λ r. ⌜ (length (now (inside .exit)) ≡ 1024) × (length (now (a .exit)) ≡ 1024) × (length (now (b .exit)) ≡ 1024)
-        × Probes (mapOf nodes edges (now (tails .entry)) (now (rotations .entry))) outer (atℤ (now (capacities .entry))) source sink
-        (now (flows .entry)) (now (flows .exit)) (now (a .entry)) (now (a .exit)) (now (b .entry)) (now (b .exit)) bounds r ⌝ }
+    requires { ⌜ Lent sizes (given .terminals .source) (given .terminals .sink) (now tails) (now rotations) (now lefts) (now capacities) (now order)
+        (now from) (now grouped) (now starts) (now flows)
+        × ((d : ℕ) → d < 2 * sizes .edges → Limited 1000000 (atℤ (now capacities) d)) × (length (now a) ≡ 1024) × (length (now b) ≡ 1024)
+        × (given .bounds .none ≡ false)
+        × ((before : List ℤ) × Bracket (mapOf (sizes .nodes) (sizes .edges) (now tails) (now rotations)) (sizes .outer) (atℤ (now capacities))
+        (given .terminals .source) (given .terminals .sink) before (now flows) (now a) (now b)
+        (given .bounds .low) (given .bounds .high) (given .bounds .found)) ⌝ }
+    ensures { λ r. ⌜ (length (now (a .exit)) ≡ 1024) × (length (now (b .exit)) ≡ 1024)
+        × Probes (mapOf (sizes .nodes) (sizes .edges) (now (tails .entry)) (now (rotations .entry))) (sizes .outer) (atℤ (now (capacities .entry)))
+        (given .terminals .source) (given .terminals .sink) (now (flows .entry)) (now (flows .exit)) (now (a .entry)) (now (a .exit))
+        (now (b .entry)) (now (b .exit)) (given .bounds) r ⌝ }
 {
+    let bounds = given.bounds;
     if !likely {
         return bounds;
     }
@@ -727,18 +682,10 @@ fn try_likely<'a>(
             from,
             grouped,
             starts,
-            ends,
-            nodes,
-            edges,
-            faces,
-            trees,
-            outer,
-            source,
-            sink,
-            bounds,
+            sizes,
+            given,
             flows,
             &mut parents,
-            inside,
             a,
             b,
         );
@@ -746,7 +693,7 @@ fn try_likely<'a>(
     bounds
 }
 
-// The largest value where one is known that is carried: its highest flow stands in `known`, and the parents are those that its search left.
+// The largest value where one is known that is carried, that of the demand: its highest flow stands in `known`, and the parents are those that its search left.
 pub fn maximize_on<'a>(
     tails: &'a [u16; 1024],
     rotations: &'a [u16; 1024],
@@ -756,38 +703,40 @@ pub fn maximize_on<'a>(
     from: &'a [u16; 1024],
     grouped: &'a [u16; 1024],
     starts: &'a [u16; 1024],
-    ends: &'a [u16; 1024],
-    nodes: usize,
-    edges: usize,
-    faces: usize,
-    trees: usize,
-    outer: usize,
-    source: usize,
-    sink: usize,
-    carried: i32,
+    sizes: Sizes,
+    demand: Demand,
     known: &[i32],
     flows: &mut [i32],
     parents: &mut [u16; 1024],
     a: &mut [u8; 1024],
 ) -> Maximum
-    requires { ⌜ (length (now a) ≡ 1024) × (edges ≤ length (now flows)) × ((d : ℕ) → d < 2 * edges → Limited 1000000 (atℤ (now capacities) d))
-        × Drawn (mapOf nodes edges (now tails) (now rotations)) (at (now lefts)) faces outer (atℤ (now capacities))
-        × Ends (mapOf nodes edges (now tails) (now rotations)) source sink
-        × Walked (2 * edges) faces outer trees (at (now rotations)) (now lefts) (now order) (now from) (now grouped) (now starts) (now ends)
-        × (length (now parents) ≡ 1024)
-        × ((x : ℕ → ℤ) × (old : List ℤ) × Highest (mapOf nodes edges (now tails) (now rotations)) outer (atℤ (now capacities)) source sink carried x
-        × (now known ≡ filled edges x old) × (edges ≤ length old)) ⌝ }
+    requires { ⌜ Lent sizes (demand .source) (demand .sink) (now tails) (now rotations) (now lefts) (now capacities) (now order) (now from) (now grouped)
+        (now starts) (now flows)
+        × ((d : ℕ) → d < 2 * sizes .edges → Limited 1000000 (atℤ (now capacities) d)) × (length (now a) ≡ 1024) × (length (now parents) ≡ 1024)
+        × ((x : ℕ → ℤ) × (old : List ℤ) × Highest (mapOf (sizes .nodes) (sizes .edges) (now tails) (now rotations)) (sizes .outer) (atℤ (now capacities))
+        (demand .source) (demand .sink) (demand .value) x × (now known ≡ filled (sizes .edges) x old) × (length old ≡ sizes .edges)) ⌝ }
     ensures { λ r. ⌜ (length (now (a .exit)) ≡ 1024)
-        × Maximized (mapOf nodes edges (now (tails .entry)) (now (rotations .entry))) outer
-        (atℤ (now (capacities .entry))) source sink (now (flows .entry)) (now (flows .exit)) (now (a .exit)) r ⌝ }
+        × Maximized (mapOf (sizes .nodes) (sizes .edges) (now (tails .entry)) (now (rotations .entry))) (sizes .outer) (atℤ (now (capacities .entry)))
+        (demand .source) (demand .sink) (now (flows .entry)) (now (flows .exit)) (now (a .exit)) r ⌝ }
 {
-    copy_flows(known, edges, &mut *flows);
-    let likely = begin(tails, rotations, capacities, edges, source, sink, &mut *a);
+    copy_flows(known, sizes.edges, &mut *flows);
+    let likely = begin(
+        tails,
+        rotations,
+        capacities,
+        sizes.edges,
+        demand.source,
+        demand.sink,
+        &mut *a,
+    );
+    let terminals = Terminals {
+        source: demand.source,
+        sink: demand.sink,
+    };
     let mut b = [0u8; 1024];
-    let mut inside = [0u8; 1024];
     let given = Bounds {
-        low: carried,
-        high: cuts::capacity(tails, capacities, &*a, 2 * edges),
+        low: demand.value,
+        high: cuts::capacity(tails, capacities, &*a, 2 * sizes.edges),
         found: true,
         next: Next::High,
         none: false,
@@ -801,18 +750,13 @@ pub fn maximize_on<'a>(
         from,
         grouped,
         starts,
-        ends,
-        nodes,
-        edges,
-        faces,
-        trees,
-        outer,
-        source,
-        sink,
+        sizes,
         likely,
-        given,
+        Pending {
+            terminals: terminals,
+            bounds: given,
+        },
         &mut *flows,
-        &mut inside,
         &mut *a,
         &mut b,
     );
@@ -823,16 +767,12 @@ pub fn maximize_on<'a>(
         tails,
         lefts,
         capacities,
-        nodes,
-        edges,
-        faces,
-        source,
-        sink,
+        sizes,
+        terminals,
         tried.low,
         tried.high,
         &*flows,
         &mut *parents,
-        &mut inside,
         &mut *a,
     );
     let bounds = Bounds {
@@ -851,18 +791,13 @@ pub fn maximize_on<'a>(
         from,
         grouped,
         starts,
-        ends,
-        nodes,
-        edges,
-        faces,
-        trees,
-        outer,
-        source,
-        sink,
-        bounds,
+        sizes,
+        Pending {
+            terminals: terminals,
+            bounds: bounds,
+        },
         flows,
         parents,
-        &mut inside,
         a,
         &mut b,
     )

@@ -5,7 +5,7 @@ ghost use Prim.Native.Nat.{_+_, _/_, _^_, _<_, _≤_};
 ghost use lib.ListN.{length, take};
 ghost use lib.Count.{ones};
 ghost use Rattle.flows.specs.ProvingSet.{wordsFor, member, size};
-ghost use Rattle.node_sets.specs.inner.Words.{flag, setWord, Written};
+ghost use Rattle.node_sets.specs.inner.Words.{flag, setWord, WordsLent, Written};
 
 // As many words as the nodes need.
 pub fn words_for(nodes: usize) -> usize
@@ -45,9 +45,9 @@ fn word_of(inside: &[u8; 1024], nodes: usize, j: usize) -> u64
     w
 }
 
-// Writes the set of the nodes v with inside[v] = 1. Words past those that the nodes need are left.
+// Writes the set of the nodes v with inside[v] = 1 into a slice of as many words as they need.
 pub fn write_set(inside: &[u8; 1024], nodes: usize, words: &mut [u64])
-    requires { ⌜ (nodes ≤ 1024) × (wordsFor nodes ≤ length (now words)) ⌝ }
+    requires { ⌜ WordsLent nodes (now words) ⌝ }
     ensures { λ _. ⌜ Written (now (inside .entry)) nodes (now (words .entry)) (now (words .exit)) ⌝ }
 {
     let n = words_for(nodes);
@@ -63,9 +63,9 @@ fn count_word(w: u64) -> usize
     u64::count_ones(w) as usize
 }
 
-// The size of the set: ones counted in each 64-bit word, and summed.
+// The size of the set, which has as many words as the nodes need: ones counted in each 64-bit word, and summed.
 pub fn count_set(words: &[u64], nodes: usize) -> usize
-    requires { ⌜ (nodes ≤ 1024) × (wordsFor nodes ≤ length (now words)) ⌝ }
+    requires { ⌜ WordsLent nodes (now words) ⌝ }
     ensures { λ r. ⌜ r ≡ size (take (wordsFor nodes) (now (words .entry))) ⌝ }
 {
     let n = words_for(nodes);

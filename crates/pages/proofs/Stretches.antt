@@ -1,7 +1,7 @@
 -- Stretches of one buffer, whatever it holds: where each lies, and what a new stretch i in place of the old one leaves as it was.
 use mathlib.Core.Path.{_≡_, sym, ap, subst, _∙_}
 use mathlib.Core.List.{List, _++_}
-use Prim.Native.Nat.{ℕ, _+_, _*_, _≤_, _<_}
+use Prim.Native.Nat.{ℕ, _+_, _*_, _-_, _≤_, _<_}
 use native.Mathlib.Nat.{suc-mul, mul-le-mul, mul-le-mul-right}
 use native.Mathlib.Numerals.{add-one}
 use native.Mathlib.Omega.{arith}
@@ -25,6 +25,12 @@ stretch-room size i n l l' below room same = omega (arith, ends-before size i n 
 
 pub part-length : {A : Type 0} (size i : ℕ) (l : List A) → i * size + size ≤ length l → length (stretch size i l) ≡ size
 part-length size i l room = length-take-le size (drop (i * size) l) (simp (length-drop) (omega arith))
+
+-- the same as the code has it, which tells the part by its ends
+pub stretch-exact : {A : Type 0} (size i : ℕ) (l : List A) → i * size + size ≤ length l → length (take (i * size + size - i * size) (drop (i * size) l)) ≡ size
+stretch-exact size i l room =
+    let few : i * size + size - i * size ≤ length (drop (i * size) l) = simp (length-drop) (omega arith) in
+    omega (arith, length-take-le (i * size + size - i * size) (drop (i * size) l) few)
 
 -- what lies in the first of two joined lists does not depend on the second
 in-front : {A : Type 0} (start size : ℕ) (l xs : List A) → start + size ≤ length l → take size (drop start (l ++ xs)) ≡ take size (drop start l)

@@ -1,17 +1,18 @@
 // Lists of up to 64 questions on a drawing that is open and sound, held in lent arrays. Document 02, Job 1. Each question gets a stretch of one buffer for its
 // settings and a stretch of another for its set, and is answered as Solve answers it alone.
-ghost use Prim.Native.Nat.{_*_, _<_, _≤_, min};
+ghost use Prim.Native.Nat.{_<_, _≤_, min};
 ghost use mathlib.Core.Path.{_≡_};
 ghost use lib.ListN.{length};
 ghost use Rattle.refusals.specs.Order.{Judged};
 ghost use Rattle.flows.specs.ProvingSet.{wordsFor};
-ghost use Rattle.grouping.specs.inner.Walked.{Walked};
-ghost use Rattle.arrays.specs.At.{at, atℤ};
-ghost use Rattle.arrays.specs.inner.Drawn.{Drawn};
-ghost use Rattle.arrays.specs.Maps.{mapOf, drawingOf};
+ghost use Rattle.grouping.specs.inner.OpenDrawing.{OpenDrawing};
+ghost use Rattle.arrays.specs.Maps.{drawingOf};
 ghost use Rattle.pages.specs.Question.{questionAt, questionIn};
 ghost use Rattle.pages.specs.Page.{listChecks, Paged};
+ghost use Rattle.pages.specs.inner.Lent.{StretchesLent, ListLent};
 ghost use Rattle.pages.specs.inner.Listed.{emptyList, listedAt, gathered, listOf, solvedAlone, refusedPage};
+use arrays::Demand;
+use arrays::Sizes;
 use questions::SolveAnswer;
 use refusals::Verdict;
 
@@ -133,7 +134,7 @@ fn check_list(nodes: usize, edges: usize, n: usize, flows: &[i32], sets: &[u64])
     Verdict::Passed
 }
 
-// One question, taken apart, is put to Solve with the slices that are lent for it.
+// One question, taken apart, is put to Solve with the slices that are lent for it: a place for each edge, and a word for each that the nodes need.
 fn ask<'a>(
     tails: &'a [u16; 1024],
     rotations: &'a [u16; 1024],
@@ -143,41 +144,23 @@ fn ask<'a>(
     from: &'a [u16; 1024],
     grouped: &'a [u16; 1024],
     starts: &'a [u16; 1024],
-    ends: &'a [u16; 1024],
-    nodes: usize,
-    edges: usize,
-    faces: usize,
-    trees: usize,
-    outer: usize,
+    sizes: Sizes,
     q: Question,
     flows: &mut [i32],
     set: &mut [u64],
 ) -> SolveAnswer
-    requires { ⌜ Drawn (mapOf nodes edges (now tails) (now rotations)) (at (now lefts)) faces outer (atℤ (now capacities))
-        × Walked (2 * edges) faces outer trees (at (now rotations)) (now lefts) (now order) (now from) (now grouped) (now starts) (now ends) ⌝ }
-    ensures { λ r. ⌜ solvedAlone (drawingOf nodes edges outer (now (tails .entry)) (now (rotations .entry)) (now (capacities .entry))) q
+    requires { ⌜ OpenDrawing sizes (now tails) (now rotations) (now lefts) (now capacities) (now order) (now from) (now grouped) (now starts)
+        × StretchesLent sizes (now flows) (now set) ⌝ }
+    ensures { λ r. ⌜ solvedAlone (drawingOf (sizes .nodes) (sizes .edges) (sizes .outer) (now (tails .entry)) (now (rotations .entry)) (now (capacities .entry))) q
         (now (flows .entry)) (now (flows .exit)) (now (set .entry)) (now (set .exit)) r ⌝ }
 {
+    let demand = Demand {
+        source: arrays::wide(q.source),
+        sink: arrays::wide(q.sink),
+        value: q.value,
+    };
     questions::solve(
-        tails,
-        rotations,
-        lefts,
-        capacities,
-        order,
-        from,
-        grouped,
-        starts,
-        ends,
-        nodes,
-        edges,
-        faces,
-        trees,
-        outer,
-        q.source,
-        q.sink,
-        q.value,
-        flows,
-        set,
+        tails, rotations, lefts, capacities, order, from, grouped, starts, sizes, demand, flows, set,
     )
 }
 
@@ -191,26 +174,22 @@ fn answer_all<'a>(
     from: &'a [u16; 1024],
     grouped: &'a [u16; 1024],
     starts: &'a [u16; 1024],
-    ends: &'a [u16; 1024],
-    nodes: usize,
-    edges: usize,
-    faces: usize,
-    trees: usize,
-    outer: usize,
+    sizes: Sizes,
     list: Listed,
     flows: &mut [i32],
     sets: &mut [u64],
 ) -> Page
-    requires { ⌜ Drawn (mapOf nodes edges (now tails) (now rotations)) (at (now lefts)) faces outer (atℤ (now capacities))
-        × Walked (2 * edges) faces outer trees (at (now rotations)) (now lefts) (now order) (now from) (now grouped) (now starts) (now ends)
-        × (list .count ≤ 64) × (list .count * edges ≤ length (now flows)) × (list .count * wordsFor nodes ≤ length (now sets)) ⌝ }
-    ensures { λ r. ⌜ Paged (listChecks nodes edges (list .count) (now (flows .entry)) (now (sets .entry))) edges (wordsFor nodes) (list .count)
-        (λ i. solvedAlone (drawingOf nodes edges outer (now (tails .entry)) (now (rotations .entry)) (now (capacities .entry)))
+    requires { ⌜ OpenDrawing sizes (now tails) (now rotations) (now lefts) (now capacities) (now order) (now from) (now grouped) (now starts)
+        × ListLent sizes (list .count) (now flows) (now sets) ⌝ }
+    ensures { λ r. ⌜ Paged (listChecks (sizes .nodes) (sizes .edges) (list .count) (now (flows .entry)) (now (sets .entry)))
+        (sizes .edges) (wordsFor (sizes .nodes)) (list .count)
+        (λ i. solvedAlone (drawingOf (sizes .nodes) (sizes .edges) (sizes .outer) (now (tails .entry)) (now (rotations .entry)) (now (capacities .entry)))
         (questionAt (list .questions) i))
         (now (flows .entry)) (now (flows .exit)) (now (sets .entry)) (now (sets .exit)) r ⌝ }
 {
     let count = list.count;
-    let words = node_sets::words_for(nodes);
+    let edges = sizes.edges;
+    let words = node_sets::words_for(sizes.nodes);
     let none = Answered {
         answer: SolveAnswer::Refused(0, 0),
     };
@@ -231,12 +210,7 @@ fn answer_all<'a>(
             from,
             grouped,
             starts,
-            ends,
-            nodes,
-            edges,
-            faces,
-            trees,
-            outer,
+            sizes,
             q,
             &mut flows[start..end],
             &mut sets[word..past],
@@ -275,24 +249,19 @@ pub fn answer_list<'a>(
     from: &'a [u16; 1024],
     grouped: &'a [u16; 1024],
     starts: &'a [u16; 1024],
-    ends: &'a [u16; 1024],
-    nodes: usize,
-    edges: usize,
-    faces: usize,
-    trees: usize,
-    outer: usize,
+    sizes: Sizes,
     list: Listed,
     flows: &mut [i32],
     sets: &mut [u64],
 ) -> Page
-    requires { ⌜ Drawn (mapOf nodes edges (now tails) (now rotations)) (at (now lefts)) faces outer (atℤ (now capacities))
-        × Walked (2 * edges) faces outer trees (at (now rotations)) (now lefts) (now order) (now from) (now grouped) (now starts) (now ends) ⌝ }
-    ensures { λ r. ⌜ Paged (listChecks nodes edges (list .count) (now (flows .entry)) (now (sets .entry))) edges (wordsFor nodes) (list .count)
-        (λ i. solvedAlone (drawingOf nodes edges outer (now (tails .entry)) (now (rotations .entry)) (now (capacities .entry)))
+    requires { ⌜ OpenDrawing sizes (now tails) (now rotations) (now lefts) (now capacities) (now order) (now from) (now grouped) (now starts) ⌝ }
+    ensures { λ r. ⌜ Paged (listChecks (sizes .nodes) (sizes .edges) (list .count) (now (flows .entry)) (now (sets .entry)))
+        (sizes .edges) (wordsFor (sizes .nodes)) (list .count)
+        (λ i. solvedAlone (drawingOf (sizes .nodes) (sizes .edges) (sizes .outer) (now (tails .entry)) (now (rotations .entry)) (now (capacities .entry)))
         (questionAt (list .questions) i))
         (now (flows .entry)) (now (flows .exit)) (now (sets .entry)) (now (sets .exit)) r ⌝ }
 {
-    let verdict = check_list(nodes, edges, list.count, &*flows, &*sets);
+    let verdict = check_list(sizes.nodes, sizes.edges, list.count, &*flows, &*sets);
     if let Verdict::Refused(k, p) = verdict {
         return refused_page(k, p);
     }
@@ -305,12 +274,7 @@ pub fn answer_list<'a>(
         from,
         grouped,
         starts,
-        ends,
-        nodes,
-        edges,
-        faces,
-        trees,
-        outer,
+        sizes,
         list,
         flows,
         sets,

@@ -78,6 +78,6 @@ module _ (𝓜 : Map) (x : ℕ → ℤ) where
     pub net-of : (v : ℕ) → v < 𝓜 .nodes → atℤ nets v ≡ net 𝓜 (onDarts x) v
     net-of v l = are v (omega (arith, few, l)) ∙ up-to-all 𝓜 x v
 
-    pub ends-balanced : {a b source sink : ℕ} → a ≡ source → b ≡ sink → (v : Verdict) → Judged (offChecks (𝓜 .nodes) a b (atℤ nets)) v
+    pub ends-balanced : (source sink : ℕ) (v : Verdict) → Judged (offChecks (𝓜 .nodes) source sink (atℤ nets)) v
         → Judged (balanceChecks 𝓜 (EndOf source sink) x) v
-    ends-balanced {source = source} {sink = sink} p q v j = judged-ends 𝓜 x (atℤ nets) net-of source sink v (rw (← p, ← q) j)
+    ends-balanced source sink v j = judged-ends 𝓜 x (atℤ nets) net-of source sink v j

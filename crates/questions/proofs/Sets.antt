@@ -1,9 +1,11 @@
 -- The set written: as the words that the answer names, with what the flags proved.
-use mathlib.Core.Path.{_≡_, sym, _∙_, subst}
-use mathlib.Core.List.{List}
-use Prim.Native.Nat.{ℕ, _≤_, _<_}
+use mathlib.Core.Path.{_≡_, sym, _∙_, ap, subst}
+use mathlib.Core.List.{List, _++_}
+use Prim.Native.Nat.{ℕ, _-_, _≤_, _<_}
+use native.Mathlib.Nat.{sub-zero}
 use native.Mathlib.Omega.{arith}
-use lib.ListN.{take}
+use lib.ListN.{length, getD, take, drop, length-append, length-drop}
+use lib.Seq.{take-append-le, drop-at, take-take}
 use lib.IntN.{ℤ, pos, _+ℤ_}
 use lib.Signed.{_<ℤ_}
 use Rattle.integers.specs.Sum.{bit}
@@ -17,10 +19,36 @@ use Rattle.flows.specs.inner.Sides.{AtSource, Beside}
 use Rattle.flows.proofs.Agreement.{cut-agrees, proves-agrees}
 use Rattle.flows.proofs.Interval.{source-proves-next}
 use Rattle.arrays.specs.inner.Flags.{flagged}
-use Rattle.node_sets.specs.inner.Words.{Written}
+use Rattle.balance.proofs.Parts.{part-length}
+use Rattle.node_sets.specs.inner.Words.{WordsLent, Written}
 use Rattle.node_sets.proofs.Writing.{written-whole, written-size}
 use Rattle.questions.specs.Question.{endChecks, SetWritten}
 use Rattle.questions.proofs.Asked.{ends-in}
+
+-- ── the words are lent from the front of a slice: what was written to that part is written to the slice ──
+module _ (set : List ℕ) {nodes w : ℕ} (many : w ≡ wordsFor nodes) (room : wordsFor nodes ≤ length set) where
+  pub words-lent : nodes ≤ 1024 → WordsLent nodes (take (w - 0) set)
+  words-lent few = record { few-nodes = few; exact = part-length w set (omega arith) ∙ many }
+
+  module _ {inside y : List ℕ} (written : Written inside nodes (take (w - 0) set) y) where
+    long : length y ≡ w
+    long = written .length-kept ∙ part-length w set (omega arith)
+
+    front : take (wordsFor nodes) (y ++ drop (w - 0) set) ≡ take (wordsFor nodes) y
+    front = take-append-le (wordsFor nodes) y (drop (w - 0) set) (omega (arith, long))
+
+    pub written-back : Written inside nodes set (y ++ drop (w - 0) set)
+    written-back = record {
+      length-kept = simp (length-append, length-drop) (omega (arith, long));
+      rest-kept = drop-at y (drop (w - 0) set) (wordsFor nodes) (long ∙ many) ∙ ap (λ k. drop k set) (sub-zero w ∙ many);
+      set-of = rw front (written .set-of);
+      words-are = λ i l. ap (λ s. getD s i 0) front ∙ written .words-are i l;
+      members = λ v l. ap (λ s. member s v) front ∙ written .members v l;
+    }
+
+    -- and the words that are lent again hold the set
+    pub words-again : size (take (wordsFor nodes) (take (w - 0) (y ++ drop (w - 0) set))) ≡ size (take (wordsFor nodes) (y ++ drop (w - 0) set))
+    words-again = ap size (take-take (wordsFor nodes) (w - 0) (y ++ drop (w - 0) set) (omega arith))
 
 module _ {inside set set' : List ℕ} {nodes : ℕ} (written : Written inside nodes set set') where
   pub set-written : SetWritten nodes (take (wordsFor nodes) set') set set'

@@ -1,17 +1,17 @@
 // Questions on a drawing that is open and sound, held in lent arrays: Solve, Largest and Mark with the refusals 13 to 18. They know no bytes.
-ghost use Prim.Native.Nat.{ℕ, _*_, _<_, _≤_};
-ghost use Rattle.integers.specs.inner.Limited.{Limited};
+ghost use Prim.Native.Nat.{_≤_};
 ghost use Rattle.refusals.specs.Order.{Decides, Judged};
-ghost use Rattle.grouping.specs.inner.Walked.{Walked};
-ghost use Rattle.arrays.specs.At.{at, atℤ};
-ghost use Rattle.arrays.specs.inner.Drawn.{Drawn};
-ghost use Rattle.arrays.specs.Maps.{mapOf, drawingOf};
-ghost use Rattle.arrays.specs.inner.Sizes.{mostOnSheet};
+ghost use Rattle.grouping.specs.inner.OpenDrawing.{OpenDrawing};
+ghost use Rattle.arrays.specs.Maps.{drawingOf};
 ghost use Rattle.questions.specs.Question.{endChecks, ValueOutside, roomChecks};
 ghost use Rattle.questions.specs.Solve.{questionChecks, Solved};
 ghost use Rattle.questions.specs.inner.Named.{SetNamed};
+ghost use Rattle.questions.specs.inner.Lent.{OpenSheet, OpenPaper};
 ghost use Rattle.questions.specs.Largest.{searchChecks, LargestFound};
 ghost use Rattle.questions.specs.Mark.{paperChecks, Marked};
+use arrays::Demand;
+use arrays::Sizes;
+use arrays::Terminals;
 use maximum::Maximum;
 use refusals::Verdict;
 
@@ -76,41 +76,32 @@ pub fn solve<'a>(
     from: &'a [u16; 1024],
     grouped: &'a [u16; 1024],
     starts: &'a [u16; 1024],
-    ends: &'a [u16; 1024],
-    nodes: usize,
-    edges: usize,
-    faces: usize,
-    trees: usize,
-    outer: usize,
-    source: u16,
-    sink: u16,
-    value: i32,
+    sizes: Sizes,
+    demand: Demand,
     flows: &mut [i32],
     set: &mut [u64],
 ) -> SolveAnswer
-    requires { ⌜ Drawn (mapOf nodes edges (now tails) (now rotations)) (at (now lefts)) faces outer (atℤ (now capacities))
-        × Walked (2 * edges) faces outer trees (at (now rotations)) (now lefts) (now order) (now from) (now grouped) (now starts) (now ends) ⌝ }
-    ensures { λ r. ⌜ Solved (drawingOf nodes edges outer (now (tails .entry)) (now (rotations .entry)) (now (capacities .entry)))
-        (questionChecks nodes edges source sink value (now (flows .entry)) (now (set .entry)))
-        source sink value (now (flows .entry)) (now (flows .exit)) (now (set .entry)) (now (set .exit)) r
-        × SetNamed (drawingOf nodes edges outer (now (tails .entry)) (now (rotations .entry)) (now (capacities .entry)))
-        source sink value (now (set .exit)) r ⌝ }
+    requires { ⌜ OpenDrawing sizes (now tails) (now rotations) (now lefts) (now capacities) (now order) (now from) (now grouped) (now starts) ⌝ }
+    ensures { λ r. ⌜ Solved (drawingOf (sizes .nodes) (sizes .edges) (sizes .outer) (now (tails .entry)) (now (rotations .entry)) (now (capacities .entry)))
+        (questionChecks (sizes .nodes) (sizes .edges) (demand .source) (demand .sink) (demand .value) (now (flows .entry)) (now (set .entry)))
+        (demand .source) (demand .sink) (demand .value) (now (flows .entry)) (now (flows .exit)) (now (set .entry)) (now (set .exit)) r
+        × SetNamed (drawingOf (sizes .nodes) (sizes .edges) (sizes .outer) (now (tails .entry)) (now (rotations .entry)) (now (capacities .entry)))
+        (demand .source) (demand .sink) (demand .value) (now (set .exit)) r ⌝ }
 {
-    let s = arrays::wide(source);
-    let t = arrays::wide(sink);
-    let named = check_ends(nodes, s, t);
+    let named = check_ends(sizes.nodes, demand.source, demand.sink);
     if let Verdict::Refused(k, p) = named {
         return SolveAnswer::Refused(k, p);
     }
-    if value_outside(value) {
+    if value_outside(demand.value) {
         return SolveAnswer::Refused(15, 0);
     }
-    let room = check_room(nodes, edges, flows.len(), set.len());
+    let room = check_room(sizes.nodes, sizes.edges, flows.len(), set.len());
     if let Verdict::Refused(k, p) = room {
         return SolveAnswer::Refused(k, p);
     }
     let mut inside = [0u8; 1024];
     let mut parents = [1024u16; 1024];
+    let edges = sizes.edges;
     if solver::decide(
         tails,
         rotations,
@@ -120,23 +111,17 @@ pub fn solve<'a>(
         from,
         grouped,
         starts,
-        ends,
-        nodes,
-        edges,
-        faces,
-        trees,
-        outer,
-        s,
-        t,
-        value,
+        sizes,
+        demand,
         &mut parents,
-        flows,
+        &mut flows[0..edges],
         &mut inside,
     ) {
         return SolveAnswer::Can;
     }
-    node_sets::write_set(&inside, nodes, set);
-    let size = node_sets::count_set(&*set, nodes);
+    let words = node_sets::words_for(sizes.nodes);
+    node_sets::write_set(&inside, sizes.nodes, &mut set[0..words]);
+    let size = node_sets::count_set(&set[0..words], sizes.nodes);
     SolveAnswer::Cannot(arrays::narrow(size))
 }
 
@@ -158,35 +143,26 @@ pub fn largest<'a>(
     from: &'a [u16; 1024],
     grouped: &'a [u16; 1024],
     starts: &'a [u16; 1024],
-    ends: &'a [u16; 1024],
-    nodes: usize,
-    edges: usize,
-    faces: usize,
-    trees: usize,
-    outer: usize,
-    source: u16,
-    sink: u16,
+    sizes: Sizes,
+    terminals: Terminals,
     flows: &mut [i32],
     set: &mut [u64],
 ) -> LargestAnswer
-    requires { ⌜ Drawn (mapOf nodes edges (now tails) (now rotations)) (at (now lefts)) faces outer (atℤ (now capacities))
-        × ((d : ℕ) → d < 2 * edges → Limited mostOnSheet (atℤ (now capacities) d))
-        × Walked (2 * edges) faces outer trees (at (now rotations)) (now lefts) (now order) (now from) (now grouped) (now starts) (now ends) ⌝ }
-    ensures { λ r. ⌜ LargestFound (drawingOf nodes edges outer (now (tails .entry)) (now (rotations .entry)) (now (capacities .entry)))
-        (searchChecks nodes edges source sink (now (flows .entry)) (now (set .entry)))
-        source sink (now (flows .entry)) (now (flows .exit)) (now (set .entry)) (now (set .exit)) r ⌝ }
+    requires { ⌜ OpenSheet sizes (now tails) (now rotations) (now lefts) (now capacities) (now order) (now from) (now grouped) (now starts) ⌝ }
+    ensures { λ r. ⌜ LargestFound (drawingOf (sizes .nodes) (sizes .edges) (sizes .outer) (now (tails .entry)) (now (rotations .entry)) (now (capacities .entry)))
+        (searchChecks (sizes .nodes) (sizes .edges) (terminals .source) (terminals .sink) (now (flows .entry)) (now (set .entry)))
+        (terminals .source) (terminals .sink) (now (flows .entry)) (now (flows .exit)) (now (set .entry)) (now (set .exit)) r ⌝ }
 {
-    let s = arrays::wide(source);
-    let t = arrays::wide(sink);
-    let named = check_ends(nodes, s, t);
+    let named = check_ends(sizes.nodes, terminals.source, terminals.sink);
     if let Verdict::Refused(k, p) = named {
         return LargestAnswer::Refused(k, p);
     }
-    let room = check_room(nodes, edges, flows.len(), set.len());
+    let room = check_room(sizes.nodes, sizes.edges, flows.len(), set.len());
     if let Verdict::Refused(k, p) = room {
         return LargestAnswer::Refused(k, p);
     }
     let mut inside = [0u8; 1024];
+    let places = sizes.edges;
     let most = maximum::maximize(
         tails,
         rotations,
@@ -196,18 +172,13 @@ pub fn largest<'a>(
         from,
         grouped,
         starts,
-        ends,
-        nodes,
-        edges,
-        faces,
-        trees,
-        outer,
-        s,
-        t,
-        flows,
+        sizes,
+        terminals,
+        &mut flows[0..places],
         &mut inside,
     );
-    node_sets::write_set(&inside, nodes, set);
+    let words = node_sets::words_for(sizes.nodes);
+    node_sets::write_set(&inside, sizes.nodes, &mut set[0..words]);
     if let Maximum::Value(v) = most {
         return LargestAnswer::Value(v);
     }
@@ -226,37 +197,35 @@ pub fn mark<'a>(
     tails: &'a [u16; 1024],
     rotations: &'a [u16; 1024],
     capacities: &'a [i32; 1024],
-    nodes: usize,
-    edges: usize,
-    outer: usize,
-    source: u16,
-    sink: u16,
+    sizes: Sizes,
+    terminals: Terminals,
     flows: &[i32],
 ) -> MarkAnswer
-    requires { ⌜ (nodes ≤ 1024) × (edges ≤ 512) × ((d : ℕ) → d < 2 * edges → at (now tails) d < nodes)
-        × ((d : ℕ) → d < 2 * edges → Limited mostOnSheet (atℤ (now capacities) d)) ⌝ }
-    ensures { λ r. ⌜ Marked (drawingOf nodes edges outer (now (tails .entry)) (now (rotations .entry)) (now (capacities .entry)))
-        (paperChecks (drawingOf nodes edges outer (now (tails .entry)) (now (rotations .entry)) (now (capacities .entry))) source sink (now (flows .entry)))
-        source sink (now (flows .entry)) r ⌝ }
+    requires { ⌜ OpenPaper sizes (now tails) (now capacities) ⌝ }
+    ensures { λ r. ⌜ Marked (drawingOf (sizes .nodes) (sizes .edges) (sizes .outer) (now (tails .entry)) (now (rotations .entry)) (now (capacities .entry)))
+        (paperChecks (drawingOf (sizes .nodes) (sizes .edges) (sizes .outer) (now (tails .entry)) (now (rotations .entry)) (now (capacities .entry)))
+        (terminals .source) (terminals .sink) (now (flows .entry)))
+        (terminals .source) (terminals .sink) (now (flows .entry)) r ⌝ }
 {
-    let s = arrays::wide(source);
-    let t = arrays::wide(sink);
-    let ends = check_ends(nodes, s, t);
+    let ends = check_ends(sizes.nodes, terminals.source, terminals.sink);
     if let Verdict::Refused(k, p) = ends {
         return MarkAnswer::Refused(k, p);
     }
-    if flows.len() < edges {
+    let many = sizes.edges;
+    if flows.len() < many {
         return MarkAnswer::Refused(16, 0);
     }
-    let within = balance::check_within(capacities, edges, flows);
+    let given = &flows[0..many];
+    let within = balance::check_within(capacities, many, given);
     if let Verdict::Refused(k, p) = within {
         return MarkAnswer::Refused(k, p);
     }
     let mut nets = [0i32; 1024];
-    balance::fill_nets(tails, edges, flows, &mut nets);
-    let balanced = balance::check_balance(&nets, nodes, s, t);
+    balance::fill_nets(tails, many, given, &mut nets);
+    let source = terminals.source;
+    let balanced = balance::check_balance(&nets, sizes.nodes, source, terminals.sink);
     if let Verdict::Refused(k, p) = balanced {
         return MarkAnswer::Refused(k, p);
     }
-    MarkAnswer::Value(nets[s])
+    MarkAnswer::Value(nets[source])
 }

@@ -3,10 +3,12 @@
 use mathlib.Core.Path.{_≡_, sym, _∙_, ap, subst}
 use mathlib.Core.Logic.{_⊎_, inl, inr}
 use mathlib.Core.Bool.{Bool}
-use mathlib.Core.List.{List}
-use Prim.Native.Nat.{ℕ, _≤_, _<_}
+use mathlib.Core.List.{List, _++_}
+use Prim.Native.Nat.{ℕ, _-_, _≤_, _<_}
 use native.Mathlib.Omega.{arith}
-use lib.ListN.{take}
+use native.Mathlib.Nat.{sub-zero}
+use lib.ListN.{length, take, drop}
+use lib.Seq.{take-at}
 use lib.IntN.{ℤ, pos, negℤ, _+ℤ_, _-ℤ_}
 use lib.Signed.{_<ℤ_}
 use mir.Syntax.{w32}
@@ -27,8 +29,11 @@ use Rattle.flows.proofs.Exact.{proves-excludes}
 use Rattle.flows.proofs.Interval.{beside-proves}
 use Rattle.flows.proofs.ValueBound.{cut-small}
 use Rattle.flows.proofs.Swapped.{highest-back, proves-back}
+use Rattle.arrays.specs.Filled.{filled}
 use Rattle.arrays.specs.inner.Flags.{flagged}
 use Rattle.arrays.specs.inner.Sizes.{mostOnSheet}
+use Rattle.arrays.proofs.FillLoops.{filled-length}
+use Rattle.balance.proofs.Parts.{part-length}
 use Rattle.node_sets.specs.inner.Words.{Written}
 use Rattle.node_sets.proofs.Writing.{written-same}
 use Rattle.questions.specs.Question.{endChecks, SetWritten}
@@ -70,11 +75,10 @@ module _ {𝓜 : Map} (range : InRange 𝓜) (c : ℕ → ℤ) (source sink : �
       subst (λ w. Highest 𝓜 outer c source sink w x) (sym e) (highest-back range (n .1) (n .0) (λ q. ends-differ (𝓜 .nodes) source sink two (sym q)) h)
 
   -- and what carries the largest value there is known to carry its negative back
-  pub known-back : {a b : ℕ} → a ≡ sink → b ≡ source → (outer : ℕ) {v known : ℤ} {x : ℕ → ℤ} → known ≡ negℤ v
-      → Highest 𝓜 outer c source sink v x → Highest 𝓜 outer c a b known x
-  known-back {a} {b} p q outer {v} {x = x} e h =
+  pub known-back : (outer : ℕ) {v known : ℤ} {x : ℕ → ℤ} → known ≡ negℤ v → Highest 𝓜 outer c source sink v x → Highest 𝓜 outer c sink source known x
+  known-back outer {v} {x = x} e h =
       let n = ends-in (𝓜 .nodes) source sink two in
-      subst (λ w. Highest 𝓜 outer c a b w x) (sym e) (rw (p, q) (highest-back range (n .0) (n .1) (ends-differ (𝓜 .nodes) source sink two) h))
+      subst (λ w. Highest 𝓜 outer c sink source w x) (sym e) (highest-back range (n .0) (n .1) (ends-differ (𝓜 .nodes) source sink two) h)
 
   -- and a set that proves the next greater value back impossible proves the next lower one there so
   pub next-lower : (v : ℤ) {least : ℤ} (S : ℕ → Bool) → least ≡ negℤ v → Proves 𝓜 c sink source (v +ℤ pos 1) S → Proves 𝓜 c source sink (least -ℤ pos 1) S
@@ -94,3 +98,10 @@ pub also-written : {inside : List ℕ} {nodes : ℕ} {before after before' after
     → SetWritten nodes (take (wordsFor nodes) after') before after
 also-written {inside} {nodes} {before} {after} {before'} {after'} w w' =
     subst (λ words. SetWritten nodes words before after) (written-same inside nodes before after before' after' w w') (set-written w)
+
+-- the part of the slice that the way there has filled, lent again for the way back
+pub filled-again : (n : ℕ) (x : ℕ → ℤ) (l y : List ℤ) → n ≤ length l → y ≡ filled n x (take (n - 0) l)
+    → take (n - 0) (y ++ drop (n - 0) l) ≡ filled n x (take (n - 0) l)
+filled-again n x l y room e =
+    let long : length y ≡ n = filled-length n x (take (n - 0) l) y e (omega (arith, part-length n l room)) ∙ part-length n l room in
+    take-at y (drop (n - 0) l) (n - 0) (long ∙ sym (sub-zero n)) ∙ e

@@ -1,14 +1,12 @@
 // The least and the largest value on a drawing that is open and sound, held in lent arrays. Document 02, Job 4. What carries a value from source to sink
 // carries its negative from sink to source: the least value is the negative of the largest with the ends exchanged, with the same flows and the same sets. So
 // the way back begins with what the way there found.
-ghost use Prim.Native.Nat.{ℕ, _*_, _<_};
-ghost use Rattle.integers.specs.inner.Limited.{Limited};
-ghost use Rattle.grouping.specs.inner.Walked.{Walked};
-ghost use Rattle.arrays.specs.At.{at, atℤ};
-ghost use Rattle.arrays.specs.inner.Drawn.{Drawn};
-ghost use Rattle.arrays.specs.Maps.{mapOf, drawingOf};
-ghost use Rattle.arrays.specs.inner.Sizes.{mostOnSheet};
+ghost use Rattle.arrays.specs.Maps.{drawingOf};
+ghost use Rattle.questions.specs.inner.Lent.{OpenSheet};
 ghost use Rattle.ranges.specs.Range.{spanChecks, RangeFound};
+use arrays::Demand;
+use arrays::Sizes;
+use arrays::Terminals;
 use maximum::Maximum;
 use refusals::Verdict;
 
@@ -31,41 +29,34 @@ pub fn least_and_largest<'a>(
     from: &'a [u16; 1024],
     grouped: &'a [u16; 1024],
     starts: &'a [u16; 1024],
-    ends: &'a [u16; 1024],
-    nodes: usize,
-    edges: usize,
-    faces: usize,
-    trees: usize,
-    outer: usize,
-    source: u16,
-    sink: u16,
+    sizes: Sizes,
+    terminals: Terminals,
     low: &mut [i32],
     below: &mut [u64],
     high: &mut [i32],
     above: &mut [u64],
 ) -> RangeAnswer
-    requires { ⌜ Drawn (mapOf nodes edges (now tails) (now rotations)) (at (now lefts)) faces outer (atℤ (now capacities))
-        × ((d : ℕ) → d < 2 * edges → Limited mostOnSheet (atℤ (now capacities) d))
-        × Walked (2 * edges) faces outer trees (at (now rotations)) (now lefts) (now order) (now from) (now grouped) (now starts) (now ends) ⌝ }
-    ensures { λ r. ⌜ RangeFound (drawingOf nodes edges outer (now (tails .entry)) (now (rotations .entry)) (now (capacities .entry)))
-        (spanChecks nodes edges source sink (now (low .entry)) (now (below .entry)) (now (high .entry)) (now (above .entry)))
-        source sink (now (low .entry)) (now (low .exit)) (now (below .entry)) (now (below .exit))
+    requires { ⌜ OpenSheet sizes (now tails) (now rotations) (now lefts) (now capacities) (now order) (now from) (now grouped) (now starts) ⌝ }
+    ensures { λ r. ⌜ RangeFound (drawingOf (sizes .nodes) (sizes .edges) (sizes .outer) (now (tails .entry)) (now (rotations .entry)) (now (capacities .entry)))
+        (spanChecks (sizes .nodes) (sizes .edges) (terminals .source) (terminals .sink)
+        (now (low .entry)) (now (below .entry)) (now (high .entry)) (now (above .entry)))
+        (terminals .source) (terminals .sink) (now (low .entry)) (now (low .exit)) (now (below .entry)) (now (below .exit))
         (now (high .entry)) (now (high .exit)) (now (above .entry)) (now (above .exit)) r ⌝ }
 {
-    let s = arrays::wide(source);
-    let t = arrays::wide(sink);
-    let named = questions::check_ends(nodes, s, t);
+    let named = questions::check_ends(sizes.nodes, terminals.source, terminals.sink);
     if let Verdict::Refused(k, p) = named {
         return RangeAnswer::Refused(k, p);
     }
-    let low_room = questions::check_room(nodes, edges, low.len(), below.len());
+    let low_room = questions::check_room(sizes.nodes, sizes.edges, low.len(), below.len());
     if let Verdict::Refused(k, p) = low_room {
         return RangeAnswer::Refused(k, p);
     }
-    let high_room = questions::check_room(nodes, edges, high.len(), above.len());
+    let high_room = questions::check_room(sizes.nodes, sizes.edges, high.len(), above.len());
     if let Verdict::Refused(k, p) = high_room {
         return RangeAnswer::Refused(k, p);
     }
+    let edges = sizes.edges;
+    let words = node_sets::words_for(sizes.nodes);
     let mut inside = [0u8; 1024];
     let mut parents = [1024u16; 1024];
     let most = maximum::maximize_from(
@@ -77,24 +68,22 @@ pub fn least_and_largest<'a>(
         from,
         grouped,
         starts,
-        ends,
-        nodes,
-        edges,
-        faces,
-        trees,
-        outer,
-        s,
-        t,
-        &mut *high,
+        sizes,
+        terminals,
+        &mut high[0..edges],
         &mut parents,
         &mut inside,
     );
-    node_sets::write_set(&inside, nodes, above);
+    node_sets::write_set(&inside, sizes.nodes, &mut above[0..words]);
     let Maximum::Value(largest) = most else {
-        node_sets::write_set(&inside, nodes, below);
+        node_sets::write_set(&inside, sizes.nodes, &mut below[0..words]);
         return RangeAnswer::None;
     };
-    let carried = maximum::negate(largest);
+    let exchanged = Demand {
+        source: terminals.sink,
+        sink: terminals.source,
+        value: maximum::negate(largest),
+    };
     let back = maximum::maximize_on(
         tails,
         rotations,
@@ -104,21 +93,14 @@ pub fn least_and_largest<'a>(
         from,
         grouped,
         starts,
-        ends,
-        nodes,
-        edges,
-        faces,
-        trees,
-        outer,
-        t,
-        s,
-        carried,
-        &*high,
-        low,
+        sizes,
+        exchanged,
+        &high[0..edges],
+        &mut low[0..edges],
         &mut parents,
         &mut inside,
     );
-    node_sets::write_set(&inside, nodes, below);
+    node_sets::write_set(&inside, sizes.nodes, &mut below[0..words]);
     if let Maximum::Value(v) = back {
         return RangeAnswer::Values(maximum::negate(v), largest);
     }

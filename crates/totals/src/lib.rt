@@ -9,6 +9,7 @@ ghost use Rattle.integers.specs.inner.Limited.{Limited};
 ghost use Rattle.maps.specs.Dart.{rev};
 ghost use Rattle.maps.specs.Check.{Sound};
 ghost use Rattle.flows.specs.ProvingSet.{wordsFor, member};
+ghost use Rattle.node_sets.specs.inner.Words.{WordsLent};
 ghost use Rattle.arrays.specs.At.{at, atℤ};
 ghost use Rattle.arrays.specs.Maps.{mapOf};
 ghost use Rattle.arrays.specs.inner.Sizes.{mostOnSheet};
@@ -19,7 +20,7 @@ ghost use Rattle.totals.specs.inner.Given.{Subtotaled};
 
 // How many nodes are in the set. Bits past the last node are not read.
 fn count_members(set: &[u64], nodes: usize) -> usize
-    requires { ⌜ (nodes ≤ 1024) × (wordsFor nodes ≤ length (now set)) ⌝ }
+    requires { ⌜ WordsLent nodes (now set) ⌝ }
     ensures { λ r. ⌜ r ≡ count nodes (member (now (set .entry))) ⌝ }
 {
     let mut members: usize = 0;
@@ -58,7 +59,7 @@ fn round_total<'a>(
 ) -> i32
     requires { ⌜ (nodes ≤ 1024) × (edges ≤ 512) × Sound (mapOf nodes edges (now tails) (now rotations))
         × ((d : ℕ) → d < 2 * edges → Limited mostOnSheet (atℤ (now capacities) d))
-        × (wordsFor nodes ≤ length (now set)) × (start < 2 * edges) ⌝ }
+        × (length (now set) ≡ wordsFor nodes) × (start < 2 * edges) ⌝ }
     ensures { λ r. ⌜ r ≡ subtotal (mapOf nodes edges (now (tails .entry)) (now (rotations .entry))) (atℤ (now (capacities .entry)))
         (member (now (set .entry))) (at (now (tails .entry)) start) ⌝ }
 {
@@ -97,7 +98,7 @@ fn fill_subtotals<'a>(
     requires { ⌜ (nodes ≤ 1024) × (edges ≤ 512) × Sound (mapOf nodes edges (now tails) (now rotations))
         × ((d : ℕ) → d < 2 * edges → Limited mostOnSheet (atℤ (now capacities) d))
         × Starts (2 * edges) (at (now tails)) (at (now starts))
-        × (wordsFor nodes ≤ length (now set)) × (count nodes (member (now set)) ≤ length (now subtotals)) ⌝ }
+        × (length (now set) ≡ wordsFor nodes) × (length (now subtotals) ≡ count nodes (member (now set))) ⌝ }
     ensures { λ r. ⌜ Subtotaled (mapOf nodes edges (now (tails .entry)) (now (rotations .entry))) (atℤ (now (capacities .entry)))
         (member (now (set .entry))) (now (subtotals .entry)) (now (subtotals .exit)) r ⌝ }
 {
@@ -144,7 +145,8 @@ pub fn totals_of<'a>(
     if set.len() < words {
         return TotalsAnswer::Refused(16, 0);
     }
-    let members = count_members(set, nodes);
+    let given = &set[0..words];
+    let members = count_members(given, nodes);
     if subtotals.len() < members {
         return TotalsAnswer::Refused(16, 0);
     }
@@ -157,8 +159,8 @@ pub fn totals_of<'a>(
         nodes,
         edges,
         &starts,
-        set,
-        subtotals,
+        given,
+        &mut subtotals[0..members],
     );
     TotalsAnswer::Total(signed::narrow(total))
 }

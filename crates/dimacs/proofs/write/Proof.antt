@@ -1,8 +1,9 @@
 -- Each way out is a law of `Writing`; the text's length is known before the first byte is written.
-use mathlib.Core.Path.{_≡_, refl}
-use Prim.Native.Nat.{_*_, _≤_}
+use mathlib.Core.Path.{_≡_, refl, sym, _∙_, ap}
+use mathlib.Core.List.{List, _++_}
+use Prim.Native.Nat.{ℕ, _*_, _-_, _≤_}
 use native.Mathlib.Omega.{arith}
-use lib.ListN.{length}
+use lib.ListN.{length, take, drop}
 use borrow.Author.Needs.{needs}
 use Rattle.refusals.specs.Order.{NoneOf, Judged}
 use Rattle.refusals.specs.declared.Verdict.{Verdict}
@@ -11,8 +12,10 @@ use Rattle.refusals.proofs.Order.{said-yes, said-no}
 use Rattle.maps.specs.Drawing.{Drawing}
 use Rattle.arrays.specs.At.{atℤ}
 use Rattle.arrays.specs.Maps.{drawingOf}
+use Rattle.balance.proofs.Parts.{part-length, part-written}
 use Rattle.questions.specs.Question.{endChecks}
 use Rattle.questions.proofs.Solving.{ends-as}
+use Rattle.texts.specs.inner.Placed.{Placed}
 use Rattle.texts.proofs.Joined.{placed-front}
 use Rattle.dimacs.specs.Write.{BelowZero, textOf}
 use Rattle.dimacs.proofs.Writing.{text-ends, text-negative, text-short, text-none}
@@ -48,6 +51,12 @@ enough : (c : tie.Else2) → length (textOf (drawing (begun (c .before))) (begun
     ≤ length (begun (c .before) .args .out .now)
 enough c = omega (arith, c .before .text-length .ensures, c .if2 .left)
 
+-- the text laid into the part that is as long as it is, which is then given back
+text-back : (n : ℕ) (out text y : List ℕ) (end : ℕ) → n ≡ length text → Placed 0 text (take (n - 0) out) y end → y ++ drop (n - 0) out ≡ text ++ drop end out
+text-back n out text y end e h =
+    let same : end ≡ n = omega (arith, h .1, e) in
+    part-written n out text y (placed-front _ _ _ _ h ∙ ap (λ k. text ++ drop k (take (n - 0) out)) same) ∙ ap (λ k. text ++ drop k out) (sym same)
+
 -- ── the needs, in the order of the code ──
 returns : tie.Need-returns
 returns c =
@@ -82,8 +91,9 @@ returns-3 c =
 put-text-requires : tie.Need-put-text-requires
 put-text-requires c κs =
     let e = c .before in
-    let p = begun (e .before) .pre in
-    (p .0, p .1, enough e)
+    let n = e .before .text-length in
+    let s = begun (e .before) in
+    (s .pre .0, s .pre .1, part-length (n .result) (s .args .out .now) (e .if2 .left) ∙ n .ensures)
 
 returns-4 : tie.Need-returns-4
 returns-4 c =
@@ -94,7 +104,7 @@ returns-4 c =
     let s = base t in (
       text-none (drawing s) (s .args .source) (s .args .sink) (s .args .out .now) (two t) (none n) (enough e),
       omega (arith, p .put-text .ensures .1),
-      placed-front _ _ _ _ (p .put-text .ensures),
+      text-back (e .before .text-length .result) (s .args .out .now) _ _ _ (e .before .text-length .ensures) (p .put-text .ensures),
     )
 
 pub write-spec : {M : Type 1} → statement M
@@ -112,6 +122,9 @@ write-spec =
     returns-2
     text-length-requires
     returns-3
+    (λ c. search needs)
+    (λ c. search needs)
+    (λ c. search needs)
     put-text-requires
     (λ c. search needs)
     returns-4)

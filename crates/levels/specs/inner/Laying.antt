@@ -58,9 +58,10 @@ pub record LevelledFrom (darts : ℕ) (rotation left : ℕ → ℕ) (first : ℕ
   pub forest : Forest darts rotation first order from trees
   pub levelled : Levelled darts left order from x before after
 
--- whichever way a walk over all darts goes, it gives an order to fill along
+-- the slice of flows has one for each edge; and whichever way a walk over all darts goes, it gives an order to fill along
 pub record Levelable (edges outer room : ℕ) (rotation left : ℕ → ℕ) (flows : List ℤ) : Type 0 where
   pub outer-in : outer < 2 * edges
   pub few : edges ≤ 512
+  pub exact : length flows ≡ edges
   pub rotation-in : (d : ℕ) → d < 2 * edges → rotation d < 2 * edges
   pub walked : {order from : ℕ → ℕ} {trees : ℕ} → Forest (2 * edges) rotation outer order from trees → Fillable (2 * edges) room left order from flows

@@ -23,6 +23,7 @@ use Rattle.maximum.specs.declared.Maximum.the-variants as maximum
 use Rattle.maximum.proofs.Gap.{gap, gap-closer}
 use Rattle.maximum.proofs.Bracketing.{
   Ground,
+  ground-of,
   Probing,
   high-small,
   low-small,
@@ -36,41 +37,38 @@ use Rattle.maximum.proofs.close_in.Statement.{statement}
 use Rattle.maximum.proofs.close_in.Tie as tie
 
 abbrev Inv-loop : tie.InvT-loop
-Inv-loop tails rotations lefts capacities order from grouped starts ends nodes edges faces trees outer source sink flows₀ parents₀ inside₀ a₀ b₀ bounds₀
-    flows parents inside a b bounds =
-    Probing (mapOf nodes edges tails rotations) outer (atℤ capacities) source sink flows₀ flows a b inside parents (bounds .low) (bounds .high) (bounds .found)
+Inv-loop tails rotations lefts capacities order from grouped starts sizes flows₀ parents₀ a₀ b₀ terminals bounds₀ flows parents a b bounds =
+    Probing (mapOf (sizes .nodes) (sizes .edges) tails rotations) (sizes .outer) (atℤ capacities) (terminals .source) (terminals .sink) flows₀ flows a b parents
+    (bounds .low) (bounds .high) (bounds .found)
 
 abbrev μ-loop : tie.MeasureT-loop
-μ-loop tails rotations lefts capacities order from grouped starts ends nodes edges faces trees outer source sink flows₀ parents₀ inside₀ a₀ b₀ bounds₀
-    flows parents inside a b bounds =
+μ-loop tails rotations lefts capacities order from grouped starts sizes flows₀ parents₀ a₀ b₀ terminals bounds₀ flows parents a b bounds =
     gap (bounds .low) (bounds .high) (bounds .found)
 
 -- ── what the function is given ──
 abbrev 𝓜 : tie.Start Inv-loop μ-loop → Map
-𝓜 c = mapOf (c .args .nodes) (c .args .edges) (c .args .tails .now) (c .args .rotations .now)
+𝓜 c = mapOf (c .args .sizes .nodes) (c .args .sizes .edges) (c .args .tails .now) (c .args .rotations .now)
 
 abbrev caps : tie.Start Inv-loop μ-loop → ℕ → ℤ
 caps c = atℤ (c .args .capacities .now)
 
-ground : (c : tie.Start Inv-loop μ-loop) → Ground (𝓜 c) (caps c) (c .args .source) (c .args .sink)
-ground c =
-    let p = c .pre in
-    record { plane = p .6 .plane; few-nodes = p .6 .few-nodes; few-edges = p .6 .few-edges; small = p .5; pairs = p .6 .pairs; two = p .7 }
+ground : (c : tie.Start Inv-loop μ-loop) → Ground (𝓜 c) (caps c) (c .args .begun .terminals .source) (c .args .begun .terminals .sink)
+ground c = ground-of (c .pre .0) (c .pre .1)
 
-tails-in : (c : tie.Start Inv-loop μ-loop) (d : ℕ) → d < 2 * c .args .edges → at (c .args .tails .now) d < 1024
-tails-in c d l = omega (arith, c .pre .6 .few-nodes, c .pre .6 .plane .sound .range .tail-in d l)
+tails-in : (c : tie.Start Inv-loop μ-loop) (d : ℕ) → d < 2 * c .args .sizes .edges → at (c .args .tails .now) d < 1024
+tails-in c d l = omega (arith, c .pre .0 .opened .drawn .few-nodes, c .pre .0 .opened .drawn .plane .sound .range .tail-in d l)
 
-caps-in : (c : tie.Start Inv-loop μ-loop) (d : ℕ) → d < 2 * c .args .edges → Limited 2000000 (caps c d)
-caps-in c d l = limited-more (omega arith) (c .pre .5 d l)
+caps-in : (c : tie.Start Inv-loop μ-loop) (d : ℕ) → d < 2 * c .args .sizes .edges → Limited 2000000 (caps c d)
+caps-in c d l = limited-more (omega arith) (c .pre .1 d l)
 
 loop-holds : tie.Need-loop-holds Inv-loop μ-loop
 loop-holds c =
-    let p = c .pre in
-    record { size-a = p .2; size-b = p .3; size-inside = p .1; size-parents = p .0; bracket = p .9 }
+    let p = c .before .before .pre in
+    record { size-a = p .3; size-b = p .4; size-parents = p .2; bracket = p .5 }
 
 -- ── in the loop ──
 abbrev start : tie.At-loop Inv-loop μ-loop → tie.Start Inv-loop μ-loop
-start c = c .before
+start c = c .before .before .before
 
 abbrev entered : tie.At-loop Inv-loop μ-loop → List ℤ
 entered c = start c .args .flows .now
@@ -84,34 +82,34 @@ hi c = toZ w32 (ofZ w32 (c .loop .bounds .high))
 
 same-lo : (c : tie.At-loop Inv-loop μ-loop) → lo c ≡ c .loop .bounds .low
 same-lo c =
-    same-bits (omega arith) (low-small (start c .args .outer) (ground (start c)) (entered c) (c .loop .flows) (flagged (c .loop .b))
+    same-bits (omega arith) (low-small (start c .args .sizes .outer) (ground (start c)) (entered c) (c .loop .flows) (flagged (c .loop .b))
     (c .loop .bounds .low) (c .loop .bounds .found) (c .loop .inv .bracket .floor))
 
 same-hi : (c : tie.At-loop Inv-loop μ-loop) → hi c ≡ c .loop .bounds .high
-same-hi c = same-bits (omega arith) (high-small (start c .args .outer) (ground (start c)) (c .loop .inv .bracket .ceiling))
+same-hi c = same-bits (omega arith) (high-small (start c .args .sizes .outer) (ground (start c)) (c .loop .inv .bracket .ceiling))
 
 at-bits : (c : tie.At-loop Inv-loop μ-loop)
-    → Bracket (𝓜 (start c)) (start c .args .outer) (caps (start c)) (start c .args .source) (start c .args .sink) (entered c) (c .loop .flows)
-    (c .loop .a) (c .loop .b) (lo c) (hi c) (c .loop .bounds .found)
+    → Bracket (𝓜 (start c)) (start c .args .sizes .outer) (caps (start c)) (start c .args .begun .terminals .source) (start c .args .begun .terminals .sink)
+    (entered c) (c .loop .flows) (c .loop .a) (c .loop .b) (lo c) (hi c) (c .loop .bounds .found)
 at-bits c =
-    bits-bracket (start c .args .outer) (ground (start c)) (entered c) (c .loop .flows) (c .loop .a) (c .loop .b) _ _ (c .loop .bounds .found)
+    bits-bracket (start c .args .sizes .outer) (ground (start c)) (entered c) (c .loop .flows) (c .loop .a) (c .loop .b) _ _ (c .loop .bounds .found)
     (c .loop .inv .bracket)
 
 as-long : (c : tie.At-loop Inv-loop μ-loop) → length (c .loop .flows) ≡ length (entered c)
-as-long c = bracket-length (c .loop .bounds .found) (start c .pre .4) (c .loop .inv .bracket)
+as-long c = bracket-length (c .loop .bounds .found) (omega (arith, start c .pre .0 .exact)) (c .loop .inv .bracket)
 
 -- ── the bounds have passed each other ──
 abbrev looping : tie.After-is-less Inv-loop μ-loop → tie.At-loop Inv-loop μ-loop
 looping c = c .before .before .before
 
 mul-join : tie.Need-mul-join Inv-loop μ-loop
-mul-join c = omega (arith, start (looping (c .before)) .pre .6 .few-edges)
+mul-join c = omega (arith, start (looping (c .before .before)) .pre .0 .opened .drawn .few-edges)
 
 join-requires : tie.Need-join-requires Inv-loop μ-loop
 join-requires c κs =
     let l = looping (c .before .before .before .before) in
     let b = start l in
-    (l .loop .inv .size-a, omega (arith, b .pre .6 .few-edges), omega arith, tails-in b, caps-in b, l .loop .inv .size-inside)
+    (l .loop .inv .size-a, omega (arith, b .pre .0 .opened .drawn .few-edges), omega arith, tails-in b, caps-in b)
 
 same-length : tie.Need-same-length Inv-loop μ-loop
 same-length c = as-long (looping (c .before .before .before .before .before))
@@ -123,7 +121,7 @@ returns c =
     let b = start l in (
       l .loop .inv .size-parents,
       c .join .ensures .0,
-      passed (b .args .outer) (ground b) (entered l) (l .loop .flows) (l .loop .a) (l .loop .b) (lo l) (hi l) (l .loop .bounds .found) (at-bits l)
+      passed (b .args .sizes .outer) (ground b) (entered l) (l .loop .flows) (l .loop .a) (l .loop .b) (lo l) (hi l) (l .loop .bounds .found) (at-bits l)
           (lt-of-test _ _ (sym (t .before .is-less .ensures) ∙ t .if1 .taken)) (c .join .last .1 .1 .1 .0) (c .join .ensures .1),
     )
 
@@ -141,7 +139,8 @@ returns-2 c =
     let r = c .before .finished .ensures .0 (c .if2 .taken) in (
       l .loop .inv .size-parents,
       l .loop .inv .size-a,
-      met (b .args .outer) (ground b) (entered l) (l .loop .flows) (l .loop .a) (l .loop .b) (lo l) (hi l) (l .loop .bounds .found) (at-bits l) (r .0) (r .1),
+      met (b .args .sizes .outer) (ground b) (entered l) (l .loop .flows) (l .loop .a) (l .loop .b) (lo l) (hi l) (l .loop .bounds .found) (at-bits l)
+          (r .0) (r .1),
     )
 
 -- ── a probe between them ──
@@ -161,39 +160,35 @@ apart c e =
 
 probe-requires : tie.Need-probe-requires Inv-loop μ-loop
 probe-requires c κs =
-    let q = c .before .before .before .before .before in
+    let q = c .before .before .before .before in
     let l = ordered (q .before) in
     let p = start l .pre in
     let v = l .loop .inv in (
+      record { opened = p .0 .opened; ends = p .0 .ends; exact = as-long l ∙ p .0 .exact },
+      p .1,
       v .size-parents,
-      v .size-inside,
       v .size-a,
       v .size-b,
-      omega (arith, as-long l, p .4),
-      p .5,
-      p .6,
-      p .7,
-      p .8,
       in-turn (q .before),
       apart q,
       (entered l, v .bracket),
     )
 
 abbrev probed : tie.After-probe Inv-loop μ-loop → tie.After-finished Inv-loop μ-loop
-probed c = c .before .before .before .before .before .before .before
+probed c = c .before .before .before .before .before .before
 
 same-length-3 : tie.Need-same-length-3 Inv-loop μ-loop
 same-length-3 c =
     let k = c .before .before in
     let l = ordered (probed k) in
-    ap length (k .probe .ensures .5 (entered l) (l .loop .inv .bracket) .0 (c .if3 .taken) .0)
+    ap length (k .probe .ensures .4 (entered l) (l .loop .inv .bracket) .0 (c .if3 .taken) .0)
 
 returns-3 : tie.Need-returns-3 Inv-loop μ-loop
 returns-3 c =
     let k = c .before .before in
     let l = ordered (probed k) in
     let e = k .probe .ensures in
-    (e .0, e .2, e .5 (entered l) (l .loop .inv .bracket) .0 (c .if3 .taken))
+    (e .0, e .1, e .4 (entered l) (l .loop .inv .bracket) .0 (c .if3 .taken))
 
 loop-less : tie.Need-loop-less Inv-loop μ-loop
 loop-less c =
@@ -201,7 +196,7 @@ loop-less c =
     let l = ordered (probed k) in
     let r = k .probe .result in
     gap-closer (l .loop .bounds .low) (l .loop .bounds .high) (l .loop .bounds .found) (r .low) (r .high) (r .found) (in-turn (probed k))
-    (k .probe .ensures .4 (c .if3 .left))
+    (k .probe .ensures .3 (c .if3 .left))
 
 loop-again : tie.Need-loop-again Inv-loop μ-loop
 loop-again c =
@@ -209,11 +204,10 @@ loop-again c =
     let l = ordered (probed k) in
     let e = k .probe .ensures in
     record {
-      size-a = e .2;
-      size-b = e .3;
-      size-inside = e .1;
+      size-a = e .1;
+      size-b = e .2;
       size-parents = e .0;
-      bracket = e .5 (entered l) (l .loop .inv .bracket) .1 (c .if3 .left);
+      bracket = e .4 (entered l) (l .loop .inv .bracket) .1 (c .if3 .left);
     }
 
 pub close-in-spec : {M : Type 1} → statement M

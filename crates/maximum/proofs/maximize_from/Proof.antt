@@ -10,62 +10,60 @@ use Rattle.maps.specs.Map.{Map}
 use Rattle.arrays.specs.At.{at, atℤ}
 use Rattle.arrays.specs.Maps.{mapOf}
 use Rattle.maximum.specs.inner.Bracket.{Bracket}
-use Rattle.maximum.proofs.Bracketing.{Ground, begins}
+use Rattle.maximum.proofs.Bracketing.{Ground, ground-of, begins}
 use Rattle.maximum.proofs.maximize_from.Statement.{statement}
 use Rattle.maximum.proofs.maximize_from.Tie as tie
 
 abbrev 𝓜 : tie.Start → Map
-𝓜 c = mapOf (c .args .nodes) (c .args .edges) (c .args .tails .now) (c .args .rotations .now)
+𝓜 c = mapOf (c .args .sizes .nodes) (c .args .sizes .edges) (c .args .tails .now) (c .args .rotations .now)
 
 abbrev caps : tie.Start → ℕ → ℤ
 caps c = atℤ (c .args .capacities .now)
 
-ground : (c : tie.Start) → Ground (𝓜 c) (caps c) (c .args .source) (c .args .sink)
-ground c =
-    let p = c .pre in
-    record { plane = p .3 .plane; few-nodes = p .3 .few-nodes; few-edges = p .3 .few-edges; small = p .2; pairs = p .3 .pairs; two = p .4 }
+ground : (c : tie.Start) → Ground (𝓜 c) (caps c) (c .args .terminals .source) (c .args .terminals .sink)
+ground c = ground-of (c .pre .0) (c .pre .1)
 
 begin-requires : tie.Need-begin-requires
 begin-requires c κs =
     let p = c .before .pre in (
-      p .0,
-      p .3 .few-edges,
-      omega (arith, p .4 .source-in, p .3 .few-nodes),
-      omega (arith, p .4 .sink-in, p .3 .few-nodes),
-      p .4 .two,
-      p .3 .plane .sound .has-dart _ (p .4 .source-in),
+      p .2,
+      p .0 .opened .drawn .few-edges,
+      omega (arith, p .0 .ends .source-in, p .0 .opened .drawn .few-nodes),
+      omega (arith, p .0 .ends .sink-in, p .0 .opened .drawn .few-nodes),
+      p .0 .ends .two,
+      p .0 .opened .drawn .plane .sound .has-dart _ (p .0 .ends .source-in),
     )
 
 flag-one-requires : tie.Need-flag-one-requires
-flag-one-requires c κs = let p = c .before .before .before .pre in (refl, omega (arith, p .4 .sink-in, p .3 .few-nodes))
+flag-one-requires c κs = let p = c .before .before .before .pre in (refl, omega (arith, p .0 .ends .sink-in, p .0 .opened .drawn .few-nodes))
 
 mul-first-bounds : tie.Need-mul-first-bounds
-mul-first-bounds c = omega (arith, c .before .before .before .before .pre .3 .few-edges)
+mul-first-bounds c = omega (arith, c .before .before .before .before .before .pre .0 .opened .drawn .few-edges)
 
 abbrev given : tie.After-flag-one → tie.Start
 given c = c .before .before .before .before
 
-tails-in : (c : tie.Start) (d : ℕ) → d < 2 * c .args .edges → at (c .args .tails .now) d < 1024
-tails-in c d l = omega (arith, c .pre .3 .few-nodes, c .pre .3 .plane .sound .range .tail-in d l)
+tails-in : (c : tie.Start) (d : ℕ) → d < 2 * c .args .sizes .edges → at (c .args .tails .now) d < 1024
+tails-in c d l = omega (arith, c .pre .0 .opened .drawn .few-nodes, c .pre .0 .opened .drawn .plane .sound .range .tail-in d l)
 
-caps-in : (c : tie.Start) (d : ℕ) → d < 2 * c .args .edges → Limited 2000000 (caps c d)
-caps-in c d l = limited-more (omega arith) (c .pre .2 d l)
+caps-in : (c : tie.Start) (d : ℕ) → d < 2 * c .args .sizes .edges → Limited 2000000 (caps c d)
+caps-in c d l = limited-more (omega arith) (c .pre .1 d l)
 
 first-bounds-requires : tie.Need-first-bounds-requires
 first-bounds-requires c κs =
-    let s = given (c .before .before) in
-    (omega (arith, s .pre .3 .few-edges), omega arith, tails-in s, caps-in s)
+    let s = given (c .before .before .before) in
+    (omega (arith, s .pre .0 .opened .drawn .few-edges), omega arith, tails-in s, caps-in s)
 
 -- the bounds to begin with
 abbrev flagged-sink : tie.After-first-bounds → tie.After-flag-one
-flagged-sink c = c .before .before .before
+flagged-sink c = c .before .before .before .before
 
 abbrev first-set : tie.After-first-bounds → tie.After-begin
 first-set c = flagged-sink c .before .before
 
 bounds : (c : tie.After-first-bounds)
     → let s = given (flagged-sink c) in
-    Bracket (𝓜 s) (s .args .outer) (caps s) (s .args .source) (s .args .sink) (s .args .flows .now) (s .args .flows .now)
+    Bracket (𝓜 s) (s .args .sizes .outer) (caps s) (s .args .terminals .source) (s .args .terminals .sink) (s .args .flows .now) (s .args .flows .now)
     (first-set c .begin .last .1 .1 .1 .1 .1 .1 .0) (flagged-sink c .flag-one .last .1 .0)
     (c .first-bounds .result .low) (c .first-bounds .result .high) (c .first-bounds .result .found)
 bounds c =
@@ -74,26 +72,16 @@ bounds c =
     let B = flagged-sink c .flag-one .last .1 .0 in
     let r = c .first-bounds .result in
     let e = c .first-bounds .ensures in
-    subst (Bracket (𝓜 s) (s .args .outer) (caps s) (s .args .source) (s .args .sink) (s .args .flows .now) (s .args .flows .now) A B (r .low) (r .high))
-    (sym (e .0))
-    (begins (s .args .outer) (ground s) (s .args .flows .now) A B (r .low) (r .high) (first-set c .begin .ensures .1) (flagged-sink c .flag-one .ensures .1)
-    (e .1) (e .2))
+    subst (Bracket (𝓜 s) (s .args .sizes .outer) (caps s) (s .args .terminals .source) (s .args .terminals .sink) (s .args .flows .now)
+    (s .args .flows .now) A B (r .low) (r .high)) (sym (e .0))
+    (begins (s .args .sizes .outer) (ground s) (s .args .flows .now) A B (r .low) (r .high) (first-set c .begin .ensures .1)
+    (flagged-sink c .flag-one .ensures .1) (e .1) (e .2))
 
 close-in-requires : tie.Need-close-in-requires
 close-in-requires c κs =
-    let m = c .before .before .before .before .before in
-    let p = given (flagged-sink m) .pre in (
-      p .6,
-      refl,
-      first-set m .begin .ensures .0,
-      flagged-sink m .flag-one .ensures .0,
-      p .1,
-      p .2,
-      p .3,
-      p .4,
-      p .5,
-      bounds m,
-    )
+    let m = c .before .before .before .before in
+    let p = given (flagged-sink m) .pre in
+    (p .0, p .1, p .3, first-set m .begin .ensures .0, flagged-sink m .flag-one .ensures .0, bounds m)
 
 returns : tie.Need-returns
 returns c = let e = c .before .close-in .ensures in (e .1, e .0, e .2)

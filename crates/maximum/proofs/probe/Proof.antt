@@ -1,5 +1,5 @@
 -- `maximum::probe` meets its contract: a value that is carried is the low bound, a proving set moves a bound or shows that there is nothing.
-use mathlib.Core.Path.{_≡_, sym, subst}
+use mathlib.Core.Path.{_≡_, refl, sym, _∙_, subst}
 use mathlib.Core.Bool.{Bool, true, false, false≢true}
 use mathlib.Core.List.{List}
 use Prim.Native.Nat.{ℕ, _*_, _<_}
@@ -21,6 +21,7 @@ use Rattle.solver.specs.inner.Decision.{Decided}
 use Rattle.maximum.specs.inner.Bracket.{Bracket, Closer}
 use Rattle.maximum.proofs.Bracketing.{
   Ground,
+  ground-of,
   high-small,
   low-small,
   between-limited,
@@ -40,48 +41,47 @@ use Rattle.maximum.proofs.probe.Tie as tie
 
 -- ── what the function is given ──
 abbrev 𝓜 : tie.Start → Map
-𝓜 c = mapOf (c .args .nodes) (c .args .edges) (c .args .tails .now) (c .args .rotations .now)
+𝓜 c = mapOf (c .args .sizes .nodes) (c .args .sizes .edges) (c .args .tails .now) (c .args .rotations .now)
 
 abbrev caps : tie.Start → ℕ → ℤ
 caps c = atℤ (c .args .capacities .now)
 
 abbrev src : tie.Start → ℕ
-src c = c .args .source
+src c = c .args .pending .terminals .source
 
 abbrev snk : tie.Start → ℕ
-snk c = c .args .sink
+snk c = c .args .pending .terminals .sink
 
 -- the bounds, as the numbers of their bits
 abbrev lo : tie.Start → ℤ
-lo c = toZ w32 (ofZ w32 (c .args .bounds .low))
+lo c = toZ w32 (ofZ w32 (c .args .pending .bounds .low))
 
 abbrev hi : tie.Start → ℤ
-hi c = toZ w32 (ofZ w32 (c .args .bounds .high))
+hi c = toZ w32 (ofZ w32 (c .args .pending .bounds .high))
 
 ground : (c : tie.Start) → Ground (𝓜 c) (caps c) (src c) (snk c)
-ground c =
-    let p = c .pre in
-    record { plane = p .6 .plane; few-nodes = p .6 .few-nodes; few-edges = p .6 .few-edges; small = p .5; pairs = p .6 .pairs; two = p .7 }
+ground c = ground-of (c .pre .0) (c .pre .1)
 
-tails-in : (c : tie.Start) (d : ℕ) → d < 2 * c .args .edges → at (c .args .tails .now) d < 1024
-tails-in c d l = omega (arith, c .pre .6 .few-nodes, c .pre .6 .plane .sound .range .tail-in d l)
+tails-in : (c : tie.Start) (d : ℕ) → d < 2 * c .args .sizes .edges → at (c .args .tails .now) d < 1024
+tails-in c d l = omega (arith, c .pre .0 .opened .drawn .few-nodes, c .pre .0 .opened .drawn .plane .sound .range .tail-in d l)
 
-caps-in : (c : tie.Start) (d : ℕ) → d < 2 * c .args .edges → Limited 2000000 (caps c d)
-caps-in c d l = limited-more (omega arith) (c .pre .5 d l)
+caps-in : (c : tie.Start) (d : ℕ) → d < 2 * c .args .sizes .edges → Limited 2000000 (caps c d)
+caps-in c d l = limited-more (omega arith) (c .pre .1 d l)
 
 -- they are small
-lo-small : (c : tie.Start) → Limited 512000000 (c .args .bounds .low)
+lo-small : (c : tie.Start) → Limited 512000000 (c .args .pending .bounds .low)
 lo-small c =
-    let b = c .pre .11 in
-    low-small (c .args .outer) (ground c) (b .0) (c .args .flows .now) (flagged (c .args .b .now)) (c .args .bounds .low) (c .args .bounds .found) (b .1 .floor)
+    let b = c .pre .7 in
+    low-small (c .args .sizes .outer) (ground c) (b .0) (c .args .flows .now) (flagged (c .args .b .now)) (c .args .pending .bounds .low)
+    (c .args .pending .bounds .found) (b .1 .floor)
 
-hi-small : (c : tie.Start) → Limited 512000000 (c .args .bounds .high)
-hi-small c = high-small (c .args .outer) (ground c) (c .pre .11 .1 .ceiling)
+hi-small : (c : tie.Start) → Limited 512000000 (c .args .pending .bounds .high)
+hi-small c = high-small (c .args .sizes .outer) (ground c) (c .pre .7 .1 .ceiling)
 
-same-lo : (c : tie.Start) → lo c ≡ c .args .bounds .low
+same-lo : (c : tie.Start) → lo c ≡ c .args .pending .bounds .low
 same-lo c = same-bits (omega arith) (lo-small c)
 
-same-hi : (c : tie.Start) → hi c ≡ c .args .bounds .high
+same-hi : (c : tie.Start) → hi c ≡ c .args .pending .bounds .high
 same-hi c = same-bits (omega arith) (hi-small c)
 
 bits-limited : {b : ℕ} {x : ℤ} → b < 2147483648 → Limited b x → Limited b (toZ w32 (ofZ w32 x))
@@ -89,31 +89,31 @@ bits-limited {b} l h = subst (Limited b) (sym (same-bits l h)) h
 
 -- and in order
 in-order : (c : tie.Start) → lo c ≤ℤ hi c
-in-order c = rw (same-lo c, same-hi c) (c .pre .9)
+in-order c = rw (same-lo c, same-hi c) (c .pre .5)
 
 -- what holds of the bounds holds of the numbers of their bits
 at-bits : (c : tie.Start) (before : List ℤ)
-    → Bracket (𝓜 c) (c .args .outer) (caps c) (src c) (snk c) before (c .args .flows .now) (c .args .a .now) (c .args .b .now)
-    (c .args .bounds .low) (c .args .bounds .high) (c .args .bounds .found)
-    → Bracket (𝓜 c) (c .args .outer) (caps c) (src c) (snk c) before (c .args .flows .now) (c .args .a .now) (c .args .b .now)
-    (lo c) (hi c) (c .args .bounds .found)
+    → Bracket (𝓜 c) (c .args .sizes .outer) (caps c) (src c) (snk c) before (c .args .flows .now) (c .args .a .now) (c .args .b .now)
+    (c .args .pending .bounds .low) (c .args .pending .bounds .high) (c .args .pending .bounds .found)
+    → Bracket (𝓜 c) (c .args .sizes .outer) (caps c) (src c) (snk c) before (c .args .flows .now) (c .args .a .now) (c .args .b .now)
+    (lo c) (hi c) (c .args .pending .bounds .found)
 at-bits c before b =
-    bits-bracket (c .args .outer) (ground c) before (c .args .flows .now) (c .args .a .now) (c .args .b .now) _ _ (c .args .bounds .found) b
+    bits-bracket (c .args .sizes .outer) (ground c) before (c .args .flows .now) (c .args .a .now) (c .args .b .now) _ _ (c .args .pending .bounds .found) b
 
-closer-of-bits : (c : tie.Start) {low' high' : ℤ} {found' : Bool} → Closer (lo c) (hi c) (c .args .bounds .found) low' high' found'
-    → Closer (c .args .bounds .low) (c .args .bounds .high) (c .args .bounds .found) low' high' found'
+closer-of-bits : (c : tie.Start) {low' high' : ℤ} {found' : Bool} → Closer (lo c) (hi c) (c .args .pending .bounds .found) low' high' found'
+    → Closer (c .args .pending .bounds .low) (c .args .pending .bounds .high) (c .args .pending .bounds .found) low' high' found'
 closer-of-bits c {low'} {high'} {found'} h =
-    subst (λ l. Closer l (c .args .bounds .high) (c .args .bounds .found) low' high' found') (same-lo c)
-    (subst (λ k. Closer (lo c) k (c .args .bounds .found) low' high' found') (same-hi c) h)
+    subst (λ l. Closer l (c .args .pending .bounds .high) (c .args .pending .bounds .found) low' high' found') (same-lo c)
+    (subst (λ k. Closer (lo c) k (c .args .pending .bounds .found) low' high' found') (same-hi c) h)
 
 -- ── the value probed ──
 next-value-requires : tie.Need-next-value-requires
 next-value-requires c κs =
-    let s = c .before .before in
+    let s = c .before .before .before .before in
     (in-order s, limited-more (omega arith) (bits-limited (omega arith) (lo-small s)), limited-more (omega arith) (bits-limited (omega arith) (hi-small s)))
 
 abbrev given : tie.After-next-value → tie.Start
-given c = c .before .before .before
+given c = c .before .before .before .before .before
 
 abbrev value : tie.After-next-value → ℤ
 value c = toZ w32 (ofZ w32 (c .next-value .result))
@@ -133,16 +133,16 @@ at-least c = subst (λ v. lo (given c) ≤ℤ v) (sym (same-value c)) (c .next-v
 at-most : (c : tie.After-next-value) → value c ≤ℤ hi (given c)
 at-most c = subst (λ v. v ≤ℤ hi (given c)) (sym (same-value c)) (c .next-value .ensures .1)
 
-above : (c : tie.After-next-value) → given c .args .bounds .found ≡ true → lo (given c) <ℤ value c
+above : (c : tie.After-next-value) → given c .args .pending .bounds .found ≡ true → lo (given c) <ℤ value c
 above c e =
     let s = given c in
-    subst (λ v. lo s <ℤ v) (sym (same-value c)) (c .next-value .ensures .2 e (rw (same-lo s, same-hi s) (s .pre .10 e)))
+    subst (λ v. lo s <ℤ v) (sym (same-value c)) (c .next-value .ensures .2 e (rw (same-lo s, same-hi s) (s .pre .6 e)))
 
 decide-requires : tie.Need-decide-requires
 decide-requires c κs =
     let n = c .before .before .before in
     let p = given n .pre in
-    (p .1, p .4, p .6, p .7, limited-more (omega arith) (bits-limited (omega arith) (value-small n)), p .0, p .8)
+    (p .0, limited-more (omega arith) (bits-limited (omega arith) (value-small n)), p .2, refl)
 
 -- ── the decision ──
 abbrev asked : tie.After-decide → tie.After-next-value
@@ -152,17 +152,18 @@ abbrev base : tie.After-decide → tie.Start
 base c = given (asked c)
 
 abbrev flows' : tie.After-decide → List ℤ
-flows' c = c .decide .last .1 .1 .1 .1 .1 .1 .1 .1 .1 .1 .1 .1 .1 .1 .1 .1 .1 .1 .0
+flows' c = c .decide .last .1 .1 .1 .1 .1 .1 .1 .1 .1 .1 .1 .0
 
 abbrev inside' : tie.After-decide → List ℕ
-inside' c = c .decide .last .1 .1 .1 .1 .1 .1 .1 .1 .1 .1 .1 .1 .1 .1 .1 .1 .1 .1 .1 .0
+inside' c = c .decide .last .1 .1 .1 .1 .1 .1 .1 .1 .1 .1 .1 .1 .0
 
 decided : (c : tie.After-decide) {r : Bool} → c .decide .result ≡ r
-    → Decided (𝓜 (base c)) (base c .args .outer) (caps (base c)) (src (base c)) (snk (base c)) (value (asked c)) (base c .args .flows .now) (flows' c)
+    → Decided (𝓜 (base c)) (base c .args .sizes .outer) (caps (base c)) (src (base c)) (snk (base c)) (value (asked c)) (base c .args .flows .now) (flows' c)
     (inside' c) r
 decided c e =
     let b = base c in
-    subst (Decided (𝓜 b) (b .args .outer) (caps b) (src b) (snk b) (value (asked c)) (b .args .flows .now) (flows' c) (inside' c)) e (c .decide .ensures .1)
+    subst (Decided (𝓜 b) (b .args .sizes .outer) (caps b) (src b) (snk b) (value (asked c)) (b .args .flows .now) (flows' c) (inside' c)) e
+    (c .decide .ensures .1)
 
 -- ── it is carried ──
 abbrev can : tie.Then1 → tie.After-decide
@@ -170,91 +171,93 @@ can c = c .before .before
 
 propose-requires : tie.Need-propose-requires
 propose-requires c κs =
-    let t = c .before .before .before .before in
+    let t = c .before .before .before in
     let k = can t in
-    let b = base k in (
+    let b = base k in
+    let exact = b .pre .0 .exact in (
       k .decide .ensures .2,
-      k .decide .ensures .0,
-      b .pre .2,
-      omega (arith, filled-length _ _ (b .args .flows .now) (flows' k) (decided k (t .if1 .taken) .2) (b .pre .4), b .pre .4),
-      b .pre .6 .few-nodes,
-      b .pre .6 .few-edges,
-      omega (arith, b .pre .7 .source-in, b .pre .6 .few-nodes),
-      omega (arith, b .pre .7 .sink-in, b .pre .6 .few-nodes),
+      b .pre .3,
+      filled-length _ _ (b .args .flows .now) (flows' k) (decided k (t .if1 .taken) .2) (omega (arith, exact)) ∙ exact,
+      b .pre .0 .opened .drawn .few-nodes,
+      b .pre .0 .opened .drawn .few-edges,
+      omega (arith, b .pre .0 .ends .source-in, b .pre .0 .opened .drawn .few-nodes),
+      omega (arith, b .pre .0 .ends .sink-in, b .pre .0 .opened .drawn .few-nodes),
       tails-in b,
       caps-in b,
     )
 
 abbrev taken : tie.After-propose → tie.Then1
-taken c = c .before .before .before .before .before
+taken c = c .before .before .before .before
 
 abbrev chosen : tie.After-propose → tie.After-decide
 chosen c = can (taken c)
 
 abbrev a'' : tie.After-propose → List ℕ
-a'' c = c .propose .last .1 .1 .1 .1 .1 .1 .1 .1 .1 .1 .1 .1 .1 .0
+a'' c = c .propose .last .1 .1 .1 .1 .1 .1 .1 .1 .1 .0
 
 -- the bounds then, before the high one is held as bits
 proposed : (c : tie.After-propose) (before : List ℤ)
-    → Bracket (𝓜 (base (chosen c))) (base (chosen c) .args .outer) (caps (base (chosen c))) (src (base (chosen c))) (snk (base (chosen c))) before
+    → Bracket (𝓜 (base (chosen c))) (base (chosen c) .args .sizes .outer) (caps (base (chosen c))) (src (base (chosen c))) (snk (base (chosen c))) before
     (base (chosen c) .args .flows .now) (base (chosen c) .args .a .now) (base (chosen c) .args .b .now)
-    (base (chosen c) .args .bounds .low) (base (chosen c) .args .bounds .high) (base (chosen c) .args .bounds .found)
-    → Bracket (𝓜 (base (chosen c))) (base (chosen c) .args .outer) (caps (base (chosen c))) (src (base (chosen c))) (snk (base (chosen c))) before
+    (base (chosen c) .args .pending .bounds .low) (base (chosen c) .args .pending .bounds .high) (base (chosen c) .args .pending .bounds .found)
+    → Bracket (𝓜 (base (chosen c))) (base (chosen c) .args .sizes .outer) (caps (base (chosen c))) (src (base (chosen c))) (snk (base (chosen c))) before
     (flows' (chosen c)) (a'' c) (base (chosen c) .args .b .now) (value (asked (chosen c))) (c .propose .result) true
     × (c .propose .result ≤ℤ hi (base (chosen c)))
 proposed c before h =
     let k = chosen c in
     let b = base k in
-    let o = b .args .outer in
+    let o = b .args .sizes .outer in
     let g = ground b in
     let v = value (asked k) in
     lowered o g before (flows' k) (b .args .a .now) (b .args .b .now) v (hi b) true
-    (carried o g before (b .args .flows .now) (b .args .a .now) (b .args .b .now) (lo b) (hi b) (b .args .bounds .found) (at-bits b before h)
+    (carried o g before (b .args .flows .now) (b .args .a .now) (b .args .b .now) (lo b) (hi b) (b .args .pending .bounds .found) (at-bits b before h)
     v (flows' k) (inside' k) (decided k (taken c .if1 .taken)))
-    _ (a'' c) (c .propose .result) (c .propose .ensures .3)
+    _ (a'' c) (c .propose .result) (c .propose .ensures .2 .1)
 
 new-high : (c : tie.After-propose) → toZ w32 (ofZ w32 (c .propose .result)) ≡ c .propose .result
 new-high c =
     let b = base (chosen c) in
-    let w = b .pre .11 in
-    same-bits (omega arith) (high-small (b .args .outer) (ground b) (proposed c (w .0) (w .1) .0 .ceiling))
+    let w = b .pre .7 in
+    same-bits (omega arith) (high-small (b .args .sizes .outer) (ground b) (proposed c (w .0) (w .1) .0 .ceiling))
 
 returns : tie.Need-returns
 returns c =
     let k = chosen c in
     let n = asked k in
     let b = base k in
-    let w = b .pre .11 in
+    let w = b .pre .7 in
     let e = c .propose .ensures in (
       e .0,
       e .1,
-      e .2,
-      b .pre .3,
+      b .pre .4,
       λ _. closer-of-bits b
-          (carried-closer (b .args .outer) (ground b) (lo b) (hi b) (value n) (b .args .bounds .found) (at-least n) (at-most n) _
+          (carried-closer (b .args .sizes .outer) (ground b) (lo b) (hi b) (value n) (b .args .pending .bounds .found) (at-least n) (at-most n) _
           (rw (new-high c) (proposed c (w .0) (w .1) .1)) (above n)),
       λ before h. (λ none. absurd (false≢true none), λ _. rw (new-high c) (proposed c before h .0)),
     )
 
 -- ── it cannot be: the set moves a bound, or shows that there is nothing ──
+mul-narrow-by : tie.Need-mul-narrow-by
+mul-narrow-by c = omega (arith, base (c .before .before .before .before) .pre .0 .opened .drawn .few-edges)
+
 narrow-by-requires : tie.Need-narrow-by-requires
 narrow-by-requires c κs =
-    let b = base (c .before .before .before .before .before) in (
-      b .pre .2,
+    let b = base (c .before .before .before .before .before .before) in (
       b .pre .3,
-      omega (arith, b .pre .7 .source-in, b .pre .6 .few-nodes),
-      omega (arith, b .pre .7 .sink-in, b .pre .6 .few-nodes),
-      omega (arith, b .pre .6 .few-edges),
+      b .pre .4,
+      omega (arith, b .pre .0 .ends .source-in, b .pre .0 .opened .drawn .few-nodes),
+      omega (arith, b .pre .0 .ends .sink-in, b .pre .0 .opened .drawn .few-nodes),
+      omega (arith, b .pre .0 .opened .drawn .few-edges),
       omega arith,
       tails-in b,
       caps-in b,
     )
 
 abbrev probed : tie.After-narrow-by → tie.After-decide
-probed c = c .before .before .before .before .before .before
+probed c = c .before .before .before .before .before .before .before
 
 refused : (c : tie.After-narrow-by) → probed c .decide .result ≡ false
-refused c = c .before .before .before .before .if1 .left
+refused c = c .before .before .before .before .before .if1 .left
 
 abbrev a' : tie.After-narrow-by → List ℕ
 a' c = c .narrow-by .last .1 .1 .1 .1 .1 .1 .1 .1 .0
@@ -263,18 +266,18 @@ abbrev b' : tie.After-narrow-by → List ℕ
 b' c = c .narrow-by .last .1 .1 .1 .1 .1 .1 .1 .1 .1 .0
 
 moved : (c : tie.After-narrow-by) (before : List ℤ)
-    → Bracket (𝓜 (base (probed c))) (base (probed c) .args .outer) (caps (base (probed c))) (src (base (probed c))) (snk (base (probed c))) before
+    → Bracket (𝓜 (base (probed c))) (base (probed c) .args .sizes .outer) (caps (base (probed c))) (src (base (probed c))) (snk (base (probed c))) before
     (base (probed c) .args .flows .now) (base (probed c) .args .a .now) (base (probed c) .args .b .now)
-    (base (probed c) .args .bounds .low) (base (probed c) .args .bounds .high) (base (probed c) .args .bounds .found)
+    (base (probed c) .args .pending .bounds .low) (base (probed c) .args .pending .bounds .high) (base (probed c) .args .pending .bounds .found)
     → c .narrow-by .result .none ≡ false
-    → Bracket (𝓜 (base (probed c))) (base (probed c) .args .outer) (caps (base (probed c))) (src (base (probed c))) (snk (base (probed c))) before
-    (base (probed c) .args .flows .now) (a' c) (b' c) (c .narrow-by .result .low) (c .narrow-by .result .high) (base (probed c) .args .bounds .found)
+    → Bracket (𝓜 (base (probed c))) (base (probed c) .args .sizes .outer) (caps (base (probed c))) (src (base (probed c))) (snk (base (probed c))) before
+    (base (probed c) .args .flows .now) (a' c) (b' c) (c .narrow-by .result .low) (c .narrow-by .result .high) (base (probed c) .args .pending .bounds .found)
 moved c before h e =
     let k = probed c in
     let n = asked k in
     let b = base k in
     let r = c .narrow-by .ensures .2 in
-    narrowed (b .args .outer) (ground b) before (b .args .flows .now) (b .args .a .now) (b .args .b .now) (lo b) (hi b) (b .args .bounds .found)
+    narrowed (b .args .sizes .outer) (ground b) before (b .args .flows .now) (b .args .a .now) (b .args .b .now) (lo b) (hi b) (b .args .pending .bounds .found)
     (at-bits b before h) (value n) (at-least n) (at-most n) (inside' k) (decided k (refused c) .1) (a' c) (b' c) (c .narrow-by .result) (r .0) (r .1) (r .2) e
 
 returns-2 : tie.Need-returns-2
@@ -283,15 +286,14 @@ returns-2 c =
     let k = probed m in
     let n = asked k in
     let b = base k in
-    let o = b .args .outer in
+    let o = b .args .sizes .outer in
     let g = ground b in
-    let f = b .args .bounds .found in
+    let f = b .args .pending .bounds .found in
     let x = b .args .flows .now in
-    let w = b .pre .11 in
+    let w = b .pre .7 in
     let r = m .narrow-by .ensures .2 in
     let d = decided k (refused m) in (
       k .decide .ensures .2,
-      k .decide .ensures .0,
       m .narrow-by .ensures .0,
       m .narrow-by .ensures .1,
       λ e. closer-of-bits b
@@ -315,7 +317,7 @@ probe-spec =
     propose-requires
     (λ c. search needs)
     returns
-    (λ c. search needs)
+    mul-narrow-by
     narrow-by-requires
     (λ c κs. search needs)
     (λ c. search needs)

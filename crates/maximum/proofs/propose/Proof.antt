@@ -1,6 +1,6 @@
 -- `maximum::propose` meets its contract: whatever is proposed, its cut is added up.
 use mathlib.Core.Path.{_≡_, refl, sym, subst}
-use mathlib.Core.List.{List}
+use mathlib.Core.List.{List, []}
 use Prim.Native.Nat.{ℕ}
 use lib.IntN.{ℤ}
 use borrow.Author.Needs.{needs}
@@ -12,7 +12,7 @@ use Rattle.maximum.proofs.propose.Tie as tie
 returns : tie.Need-returns
 returns c =
     let s = c .before .before in
-    (s .pre .0, s .pre .1, s .pre .2, stays (number-of-bits _ (s .fits .high)) refl)
+    (s .pre .0, s .pre .1, ([], stays (number-of-bits _ (s .fits .high)) refl))
 
 -- bounds that the machine holds as bits
 same-bounds : {s t : ℕ} {total high high₁ low low₁ : ℤ} {inside A A' : List ℕ} → high ≡ high₁ → low ≡ low₁ → Lowers s t total high low inside A A'
@@ -23,11 +23,10 @@ same-bounds {s} {t} {total} {high} {high₁} {low} {low₁} {inside} {A} {A'} e 
 returns-2 : tie.Need-returns-2
 returns-2 c =
     let e = c .lower .ensures in
-    let s = c .before .before .before .before .before .before .before .before in (
-      search needs,
+    let s = c .before .before .before .before .before .before .before .before .before in (
       search needs,
       e .0,
-      same-bounds (number-of-bits _ (s .fits .high)) (sym (number-of-bits _ (record { sfits = c .lower .ok }))) (e .1),
+      (_, same-bounds (number-of-bits _ (s .fits .high)) (sym (number-of-bits _ (record { sfits = c .lower .ok }))) (e .1)),
     )
 
 pub propose-spec : {M : Type 1} → statement M

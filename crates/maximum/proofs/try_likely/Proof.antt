@@ -14,52 +14,53 @@ use Rattle.maps.specs.Map.{Map}
 use Rattle.arrays.specs.At.{atℤ}
 use Rattle.arrays.specs.inner.Flags.{flagged}
 use Rattle.arrays.specs.Maps.{mapOf}
-use Rattle.maximum.proofs.Bracketing.{Ground, high-small, low-small}
+use Rattle.maximum.proofs.Bracketing.{Ground, ground-of, high-small, low-small}
 use Rattle.maximum.proofs.try_likely.Statement.{statement}
 use Rattle.maximum.proofs.try_likely.Tie as tie
 
 abbrev 𝓜 : tie.Start → Map
-𝓜 c = mapOf (c .args .nodes) (c .args .edges) (c .args .tails .now) (c .args .rotations .now)
+𝓜 c = mapOf (c .args .sizes .nodes) (c .args .sizes .edges) (c .args .tails .now) (c .args .rotations .now)
 
 abbrev caps : tie.Start → ℕ → ℤ
 caps c = atℤ (c .args .capacities .now)
 
-ground : (c : tie.Start) → Ground (𝓜 c) (caps c) (c .args .source) (c .args .sink)
-ground c =
-    let p = c .pre in
-    record { plane = p .5 .plane; few-nodes = p .5 .few-nodes; few-edges = p .5 .few-edges; small = p .4; pairs = p .5 .pairs; two = p .6 }
+ground : (c : tie.Start) → Ground (𝓜 c) (caps c) (c .args .given .terminals .source) (c .args .given .terminals .sink)
+ground c = ground-of (c .pre .0) (c .pre .1)
 
-same-lo : (c : tie.Start) → toZ w32 (ofZ w32 (c .args .bounds .low)) ≡ c .args .bounds .low
+same-lo : (c : tie.Start) → toZ w32 (ofZ w32 (c .args .given .bounds .low)) ≡ c .args .given .bounds .low
 same-lo c =
-    let b = c .pre .9 in
-    same-bits (omega arith) (low-small (c .args .outer) (ground c) (b .0) (c .args .flows .now) (flagged (c .args .b .now))
-    (c .args .bounds .low) (c .args .bounds .found) (b .1 .floor))
+    let b = c .pre .5 in
+    same-bits (omega arith) (low-small (c .args .sizes .outer) (ground c) (b .0) (c .args .flows .now) (flagged (c .args .b .now))
+    (c .args .given .bounds .low) (c .args .given .bounds .found) (b .1 .floor))
 
-same-hi : (c : tie.Start) → toZ w32 (ofZ w32 (c .args .bounds .high)) ≡ c .args .bounds .high
-same-hi c = same-bits (omega arith) (high-small (c .args .outer) (ground c) (c .pre .9 .1 .ceiling))
+same-hi : (c : tie.Start) → toZ w32 (ofZ w32 (c .args .given .bounds .high)) ≡ c .args .given .bounds .high
+same-hi c = same-bits (omega arith) (high-small (c .args .sizes .outer) (ground c) (c .pre .5 .1 .ceiling))
 
 -- nothing is tried: the bounds are as they were
 returns : tie.Need-returns
 returns c =
-    let p = c .before .pre in
-    (p .0, p .1, p .2, λ before h. (λ none. absurd (true≢false (sym none ∙ p .8)), λ _. h))
+    let p = c .before .before .pre in
+    (p .2, p .3, λ before h. (λ none. absurd (true≢false (sym none ∙ p .4)), λ _. h))
 
-below : (c : tie.Then2) → c .before .before .before .before .before .args .bounds .low <ℤ c .before .before .before .before .before .args .bounds .high
+abbrev begun : tie.Then2 → tie.Start
+begun c = c .before .before .before .before .before .before
+
+below : (c : tie.Then2) → begun c .args .given .bounds .low <ℤ begun c .args .given .bounds .high
 below c =
-    let s = c .before .before .before .before .before in
-    subst (λ h. s .args .bounds .low <ℤ h) (same-hi s)
-    (subst (λ l. l <ℤ toZ w32 (ofZ w32 (s .args .bounds .high))) (same-lo s) (lt-of-test _ _ (sym (c .before .is-less .ensures) ∙ c .if2 .taken)))
+    let s = begun c in
+    subst (λ h. s .args .given .bounds .low <ℤ h) (same-hi s)
+    (subst (λ l. l <ℤ toZ w32 (ofZ w32 (s .args .given .bounds .high))) (same-lo s) (lt-of-test _ _ (sym (c .before .is-less .ensures) ∙ c .if2 .taken)))
 
 probe-requires : tie.Need-probe-requires
 probe-requires c κs =
-    let t = c .before .before .before .before .before in
-    let p = t .before .before .before .before .before .pre in
-    (refl, p .0, p .1, p .2, p .3, p .4, p .5, p .6, p .7, le-of-lt (below t), λ _. below t, p .9)
+    let t = c .before .before .before .before in
+    let p = begun t .pre in
+    (p .0, p .1, refl, p .2, p .3, le-of-lt (below t), λ _. below t, p .5)
 
 returns-3 : tie.Need-returns-3
 returns-3 c =
-    let p = c .before .before .before .before .before .pre in
-    (p .0, p .1, p .2, λ before h. (λ none. absurd (true≢false (sym none ∙ p .8)), λ _. h))
+    let p = c .before .before .before .before .before .before .pre in
+    (p .2, p .3, λ before h. (λ none. absurd (true≢false (sym none ∙ p .4)), λ _. h))
 
 pub try-likely-spec : {M : Type 1} → statement M
 try-likely-spec = tie.close (tie.spec returns (λ c κs. search needs) probe-requires (λ c. search needs) (λ c. search needs) returns-3)

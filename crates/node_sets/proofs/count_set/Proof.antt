@@ -17,14 +17,14 @@ abbrev μ-loop : tie.MeasureT-loop
 μ-loop words nodes n total₀ i₀ total i = n - i
 
 words-for-requires : tie.Need-words-for-requires Inv-loop μ-loop
-words-for-requires c κs = c .before .pre .0
+words-for-requires c κs = c .before .pre .few-nodes
 
 loop-holds : tie.Need-loop-holds Inv-loop μ-loop
 unfolding size
 loop-holds c =
     let p = c .before .before .pre in
     let e = c .words-for .ensures in
-    (omega arith, omega (arith, e, p .1), omega (arith, e, p .0), e, omega arith, refl)
+    (omega arith, omega (arith, e, p .exact), omega (arith, e, p .few-nodes), e, omega arith, refl)
 
 count-word-requires : tie.Need-count-word-requires Inv-loop μ-loop
 count-word-requires c κs = tt

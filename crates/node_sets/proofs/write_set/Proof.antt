@@ -17,16 +17,16 @@ abbrev μ-loop : tie.MeasureT-loop
 μ-loop inside nodes words₀ n j₀ words j = n - j
 
 words-for-requires : tie.Need-words-for-requires Inv-loop μ-loop
-words-for-requires c κs = c .before .pre .0
+words-for-requires c κs = c .before .pre .few-nodes
 
 loop-holds : tie.Need-loop-holds Inv-loop μ-loop
 loop-holds c =
     let s = c .before .before in
     let e = c .words-for .ensures in
-    (omega arith, omega (arith, e, s .pre .0), e, omega (arith, e, s .pre .1), writing-start (s .args .inside .now) (s .args .nodes) (s .args .words .now))
+    (omega arith, omega (arith, e, s .pre .few-nodes), e, omega (arith, e, s .pre .exact), writing-start (s .args .inside .now) (s .args .nodes) (s .args .words .now))
 
 word-of-requires : tie.Need-word-of-requires Inv-loop μ-loop
-word-of-requires c κs = (c .before .before .before .before .pre .0, omega (arith, c .before .loop .inv .1))
+word-of-requires c κs = (c .before .before .before .before .pre .few-nodes, omega (arith, c .before .loop .inv .1))
 
 loop-again : tie.Need-loop-again Inv-loop μ-loop
 loop-again c =
@@ -39,7 +39,7 @@ loop-again c =
       e,
       omega (arith, length-set (o .words) (o .j) w, o .inv .3),
       writing-step (s .args .inside .now) (s .args .nodes) (s .args .words .now) (o .words)
-          (o .j) w (o .inv .4) (omega (arith, e)) (s .pre .1) (c .word-of .ensures),
+          (o .j) w (o .inv .4) (omega (arith, e)) (omega (arith, s .pre .exact)) (c .word-of .ensures),
     )
 
 same-length : tie.Need-same-length Inv-loop μ-loop
@@ -51,7 +51,7 @@ returns c =
     let s = c .before .before .before .before in
     let e : o .j ≡ wordsFor (s .args .nodes) = omega (arith, o .inv .2, o .inv .0) in
     writing-end (s .args .inside .now) (s .args .nodes) (s .args .words .now) (o .words)
-    (subst (λ (x : ℕ). Writing (s .args .inside .now) (s .args .nodes) (s .args .words .now) (o .words) x) e (o .inv .4)) (s .pre .1)
+    (subst (λ (x : ℕ). Writing (s .args .inside .now) (s .args .nodes) (s .args .words .now) (o .words) x) e (o .inv .4)) (omega (arith, s .pre .exact))
 
 pub write-set-spec : {M : Type 1} → statement M
 write-set-spec =

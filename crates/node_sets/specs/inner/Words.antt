@@ -1,5 +1,5 @@
 -- A set of nodes made from flags, one for each node, and written as 64-bit words (document 01, "A proving set").
-use Prim.Native.Nat.{ℕ, zero, suc, _+_, _*_, _^_, _<_}
+use Prim.Native.Nat.{ℕ, zero, suc, _+_, _*_, _^_, _≤_, _<_}
 use mathlib.Core.Path.{_≡_}
 use mathlib.Core.Bool.{Bool, _&&_}
 use mathlib.Core.List.{List}
@@ -20,6 +20,11 @@ flag inside nodes v = ltb v nodes && eqb (getD inside v 0) 1
 -- word j of the set
 abbrev pub setWord : List ℕ → ℕ → ℕ → ℕ
 setWord inside nodes j = word (λ k. flag inside nodes (64 * j + k)) 64
+
+-- a slice lent for a set of nodes: as many words as they need, and no more
+pub record WordsLent (nodes : ℕ) (words : List ℕ) : Type 0 where
+  pub few-nodes : nodes ≤ 1024
+  pub exact : length words ≡ wordsFor nodes
 
 -- what `write_set` leaves: the words that the nodes need are the set of the flagged nodes, with unused bits zero, and further words are as before
 pub record Written (inside : List ℕ) (nodes : ℕ) (before after : List ℕ) : Type 0 where

@@ -1,6 +1,6 @@
 -- The list answered question by question: each turn is a step of `Answering`.
 use Prim.Native.Nat.{_≤_, _-_, _+_, _*_}
-use mathlib.Core.Path.{_≡_, refl}
+use mathlib.Core.Path.{_≡_, refl, _∙_}
 use native.Mathlib.Omega.{arith}
 use lib.ListN.{length}
 use borrow.Author.Needs.{needs}
@@ -9,45 +9,45 @@ use Rattle.arrays.specs.Maps.{drawingOf}
 use Rattle.pages.specs.Question.{questionAt}
 use Rattle.pages.specs.inner.Listed.{solvedAlone}
 use Rattle.pages.proofs.Listing.{words-few}
-use Rattle.pages.proofs.Stretches.{small-end, stretch-room}
+use Rattle.pages.proofs.Stretches.{small-end, stretch-room, stretch-exact}
 use Rattle.pages.proofs.Answering.{Halfway, halfway-start, halfway-turn, all-answered}
 use Rattle.pages.proofs.answer_all.Statement.{statement}
 use Rattle.pages.proofs.answer_all.Tie as tie
 
 abbrev Inv-loop : tie.InvT-loop
-Inv-loop tails rotations lefts capacities order from grouped starts ends nodes edges faces trees outer flows₀ sets₀
-    list count words answers₀ i₀ flows sets answers i =
-    (i ≤ count) × (count ≡ list .count) × (words ≡ wordsFor nodes)
-    × Halfway edges words (λ j. solvedAlone (drawingOf nodes edges outer tails rotations capacities) (questionAt (list .questions) j))
+Inv-loop tails rotations lefts capacities order from grouped starts sizes flows₀ sets₀
+    list count edges words answers₀ i₀ flows sets answers i =
+    (i ≤ count) × (count ≡ list .count) × (words ≡ wordsFor (sizes .nodes))
+    × Halfway edges words (λ j. solvedAlone (drawingOf (sizes .nodes) (sizes .edges) (sizes .outer) tails rotations capacities) (questionAt (list .questions) j))
     flows₀ sets₀ i flows sets answers
 
 abbrev μ-loop : tie.MeasureT-loop
-μ-loop tails rotations lefts capacities order from grouped starts ends nodes edges faces trees outer flows₀ sets₀
-    list count words answers₀ i₀ flows sets answers i =
+μ-loop tails rotations lefts capacities order from grouped starts sizes flows₀ sets₀
+    list count edges words answers₀ i₀ flows sets answers i =
     count - i
 
 -- ── where the stretches of question i end ──
 abbrev begun : tie.In-loop Inv-loop μ-loop → tie.Start Inv-loop μ-loop
 begun c = c .before .before .before .before
 
-flows-small : (c : tie.In-loop Inv-loop μ-loop) → c .before .loop .i * begun c .args .edges + begun c .args .edges ≤ 32768
-flows-small c = small-end _ _ _ (c .loop-test .taken) (begun c .pre .2) (begun c .pre .0 .few-edges)
+flows-small : (c : tie.In-loop Inv-loop μ-loop) → c .before .loop .i * begun c .args .sizes .edges + begun c .args .sizes .edges ≤ 32768
+flows-small c = small-end _ _ _ (c .loop-test .taken) (begun c .pre .1 .few) (begun c .pre .0 .drawn .few-edges)
 
 sets-small : (c : tie.In-loop Inv-loop μ-loop) → c .before .loop .i * c .before .before .words-for .result + c .before .before .words-for .result ≤ 32768
 sets-small c =
-    let w = words-few _ (begun c .pre .0 .few-nodes) in
-    small-end _ _ _ (c .loop-test .taken) (begun c .pre .2) (omega (arith, w, c .before .before .words-for .ensures))
+    let w = words-few _ (begun c .pre .0 .drawn .few-nodes) in
+    small-end _ _ _ (c .loop-test .taken) (begun c .pre .1 .few) (omega (arith, w, c .before .before .words-for .ensures))
 
-flows-room : (c : tie.In-loop Inv-loop μ-loop) → c .before .loop .i * begun c .args .edges + begun c .args .edges ≤ length (c .before .loop .flows)
-flows-room c = stretch-room _ _ _ _ _ (c .loop-test .taken) (begun c .pre .3) (c .before .loop .inv .3 .flows-behind)
+flows-room : (c : tie.In-loop Inv-loop μ-loop) → c .before .loop .i * begun c .args .sizes .edges + begun c .args .sizes .edges ≤ length (c .before .loop .flows)
+flows-room c = stretch-room _ _ _ _ _ (c .loop-test .taken) (begun c .pre .1 .flows-room) (c .before .loop .inv .3 .flows-behind)
 
 sets-room : (c : tie.In-loop Inv-loop μ-loop)
     → c .before .loop .i * c .before .before .words-for .result + c .before .before .words-for .result ≤ length (c .before .loop .sets)
 sets-room c =
-    stretch-room _ _ _ _ _ (c .loop-test .taken) (rw (c .before .before .words-for .ensures) (begun c .pre .4)) (c .before .loop .inv .3 .sets-behind)
+    stretch-room _ _ _ _ _ (c .loop-test .taken) (rw (c .before .before .words-for .ensures) (begun c .pre .1 .sets-room)) (c .before .loop .inv .3 .sets-behind)
 
 words-for-requires : tie.Need-words-for-requires Inv-loop μ-loop
-words-for-requires c κs = c .before .pre .0 .few-nodes
+words-for-requires c κs = c .before .pre .0 .drawn .few-nodes
 
 loop-holds : tie.Need-loop-holds Inv-loop μ-loop
 loop-holds c = (omega arith, refl, c .words-for .ensures, halfway-start _ _ _ _ _)
@@ -77,22 +77,31 @@ part-ask-end-2 : tie.Need-part-ask-end-2 Inv-loop μ-loop
 part-ask-end-2 c = sets-room (c .before .before)
 
 ask-requires : tie.Need-ask-requires Inv-loop μ-loop
-ask-requires c κs = let p = c .before .before .before .before .before .before .before .pre in (p .0, p .1)
+ask-requires c κs =
+    let t = c .before .before .before in
+    let e = begun t .args .sizes .edges in
+    let w = t .before .before .words-for in (
+      begun t .pre .0,
+      record {
+        flows-exact = stretch-exact e (t .before .loop .i) (t .before .loop .flows) (flows-room t);
+        set-exact = stretch-exact (w .result) (t .before .loop .i) (t .before .loop .sets) (sets-room t) ∙ w .ensures;
+      },
+    )
 
 loop-again : tie.Need-loop-again Inv-loop μ-loop
 loop-again c =
     let k = c .before .before .before in
     let t = k .before .before .before .before in
     let l = t .before .loop in
-    let e = begun t .args .edges in
+    let e = begun t .args .sizes .edges in
     let w = t .before .before .words-for .result in (
       omega arith,
       refl,
       l .inv .2,
       halfway-turn e w _ _ _ (l .i) (l .flows) (l .sets) (l .answers) (l .inv .3)
-          (flows-room t) (sets-room t) (omega (arith, t .loop-test .taken, begun t .pre .2))
+          (flows-room t) (sets-room t) (omega (arith, t .loop-test .taken, begun t .pre .1 .few))
           (l .i * e + e - l .i * e) (l .i * w + w - l .i * w) (omega arith) (omega arith)
-          (k .ask .last .1 .1 .1 .1 .1 .1 .1 .1 .1 .1 .1 .1 .1 .1 .1 .0) (k .ask .last .1 .1 .1 .1 .1 .1 .1 .1 .1 .1 .1 .1 .1 .1 .1 .1 .0) (k .ask .result)
+          (k .ask .last .1 .1 .1 .1 .1 .1 .1 .1 .1 .1 .0) (k .ask .last .1 .1 .1 .1 .1 .1 .1 .1 .1 .1 .1 .0) (k .ask .result)
           (c .before .before .flows .given .0) (c .before .sets .given .0) (k .ask .ensures),
     )
 
@@ -106,8 +115,8 @@ returns : tie.Need-returns Inv-loop μ-loop
 returns c =
     let s = c .before .before .before .before in
     let l = c .before .loop in
-    all-answered (s .args .nodes) (s .args .edges) (s .args .t15 .count) _ (l .i) _ (s .args .flows .now) (l .flows) (s .args .sets .now) (l .sets) (l .answers)
-    (l .inv .2) (l .inv .3) (omega (arith, l .inv .0, c .loop-test .left)) (s .pre .2) (s .pre .3) (s .pre .4)
+    all-answered (s .args .sizes .nodes) (s .args .sizes .edges) (s .args .t10 .count) _ (l .i) _ (s .args .flows .now) (l .flows) (s .args .sets .now) (l .sets) (l .answers)
+    (l .inv .2) (l .inv .3) (omega (arith, l .inv .0, c .loop-test .left)) (s .pre .1 .few) (s .pre .1 .flows-room) (s .pre .1 .sets-room)
 
 pub answer-all-spec : {M : Type 1} → statement M
 answer-all-spec =

@@ -8,16 +8,16 @@ returns : tie.Need-returns
 returns c =
     let k = c .before .before .before .before in
     let a = k .before .before .before .before .args in
-    refused-so _ (a .edges) _ _ _ (a .flows .now) (a .sets .now) _ _ (c .refused-page .result)
+    refused-so _ (a .sizes .edges) _ _ _ (a .flows .now) (a .sets .now) _ _ (c .refused-page .result)
     (rw (c .before .before .verdict .given .1) at (k .check-list .ensures)) (c .refused-page .ensures)
 
 answer-all-requires : tie.Need-answer-all-requires
 answer-all-requires c κs =
     let k = c .before .before .before .before in
     let s = k .before .before .before .before in
-    let h = list-accepted (s .args .nodes) (s .args .edges) (s .args .list .count) (s .args .flows .now) (s .args .sets .now)
+    let h = list-accepted (s .args .sizes .nodes) (s .args .sizes .edges) (s .args .list .count) (s .args .flows .now) (s .args .sets .now)
     (rw (c .before .before .enum-told .given .1) at (k .check-list .ensures)) in
-    (s .pre .0, s .pre .1, h .0, h .1, h .2)
+    (s .pre, record { few = h .0; flows-room = h .1; sets-room = h .2 })
 
 pub answer-list-spec : {M : Type 1} → statement M
 answer-list-spec =

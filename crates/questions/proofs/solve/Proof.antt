@@ -2,11 +2,13 @@
 use mathlib.Core.Path.{_≡_, refl, _∙_}
 use mathlib.Core.Bool.{Bool, false}
 use mathlib.Core.Logic.{inl}
-use mathlib.Core.List.{List}
-use Prim.Native.Nat.{ℕ, _≤_}
+use mathlib.Core.List.{List, _++_}
+use Prim.Native.Nat.{ℕ, _-_, _≤_}
 use native.Mathlib.Omega.{arith}
-use lib.ListN.{length, take}
+use lib.ListN.{length, take, drop}
 use lib.IntN.{ℤ}
+use mir.Syntax.{w32}
+use mir.Val.{toZ, ofZ}
 use borrow.Author.Needs.{needs}
 use Rattle.refusals.specs.Order.{Check, NoneOf, FirstOf, Judged}
 use Rattle.refusals.specs.declared.Verdict.{Verdict}
@@ -14,43 +16,45 @@ use Rattle.refusals.specs.declared.Verdict.the-variants.{Passed, Refused}
 use Rattle.refusals.proofs.Order.{said-yes, said-no}
 use Rattle.signed.proofs.Laws.{number-of-bits}
 use Rattle.maps.specs.Map.{Map}
-use Rattle.flows.specs.ProvingSet.{wordsFor}
+use Rattle.flows.specs.ProvingSet.{wordsFor, size}
 use Rattle.arrays.specs.At.{atℤ}
 use Rattle.arrays.specs.Maps.{mapOf}
 use Rattle.arrays.specs.inner.Flags.{flagged}
+use Rattle.node_sets.specs.inner.Words.{Written}
+use Rattle.balance.proofs.Parts.{part-length}
 use Rattle.solver.specs.inner.Decision.{Decided}
-use Rattle.solver.specs.inner.Named.{noParents, Named}
-use Rattle.solver.proofs.Preparing.{same-value, small-value}
 use Rattle.questions.specs.Question.{endChecks, valueChecks, roomChecks}
 use Rattle.questions.specs.Solve.{questionChecks}
 use Rattle.questions.proofs.Asked.{value-limited, room-flows}
-use Rattle.questions.proofs.Sets.{set-written, size-small, proves-written}
-use Rattle.questions.proofs.Solving.{solve-ends, solve-value, solve-room, solve-none, ends-as, ends-for, decided-as, named-as}
+use Rattle.questions.proofs.Sets.{words-lent, written-back, words-again, set-written, size-small, proves-written}
+use Rattle.questions.proofs.Solving.{solve-ends, solve-value, solve-room, solve-none, ends-for, decided-back}
 use Rattle.questions.proofs.solve.Statement.{statement}
 use Rattle.questions.proofs.solve.Tie as tie
 
 -- ── the drawing and the checks, of what the function is given ──
 abbrev mapAt : tie.Start → Map
-mapAt s = mapOf (s .args .nodes) (s .args .edges) (s .args .tails .now) (s .args .rotations .now)
+mapAt s = mapOf (s .args .sizes .nodes) (s .args .sizes .edges) (s .args .tails .now) (s .args .rotations .now)
 
 abbrev capacityAt : tie.Start → ℕ → ℤ
 capacityAt s = atℤ (s .args .capacities .now)
 
 abbrev endsAt : tie.Start → List Check
-endsAt s = endChecks (s .args .nodes) (s .args .source) (s .args .sink)
+endsAt s = endChecks (s .args .sizes .nodes) (s .args .demand .source) (s .args .demand .sink)
 
 abbrev roomAt : tie.Start → List Check
-roomAt s = roomChecks (s .args .nodes) (s .args .edges) (length (s .args .flows .now)) (length (s .args .set .now))
+roomAt s = roomChecks (s .args .sizes .nodes) (s .args .sizes .edges) (length (s .args .flows .now)) (length (s .args .set .now))
 
 abbrev checksAt : tie.Start → List Check
-checksAt s = questionChecks (s .args .nodes) (s .args .edges) (s .args .source) (s .args .sink) (s .args .value) (s .args .flows .now) (s .args .set .now)
+checksAt s =
+    let a = s .args in
+    questionChecks (a .sizes .nodes) (a .sizes .edges) (a .demand .source) (a .demand .sink) (a .demand .value) (a .flows .now) (a .set .now)
 
 -- ── 13 and 14 did not refuse ──
 abbrev begun : tie.After-check-ends → tie.Start
-begun c = c .before .before .before .before
+begun c = c .before .before
 
 ends-judged : (c : tie.After-check-ends) (v : Verdict) → c .check-ends .result ≡ v → Judged (endsAt (begun c)) v
-ends-judged c v e = ends-as (c .before .before .wide .ensures) (c .before .wide2 .ensures) (begun c .args .nodes) v (rw e at (c .check-ends .ensures))
+ends-judged c v e = rw e at (c .check-ends .ensures)
 
 abbrev checked : tie.After-enum-told → tie.After-check-ends
 checked c = c .before .before
@@ -60,14 +64,18 @@ two c = ends-judged (checked c) Passed (c .enum-told .given .1)
 
 -- ── 15 did not refuse ──
 abbrev ended : tie.Else1 → tie.After-enum-told
-ended c = c .before .before
+ended c = c .before .before .before
 
 abbrev base : tie.Else1 → tie.Start
 base c = begun (checked (ended c))
 
-inside : (c : tie.Else1) → NoneOf (valueChecks (base c .args .value))
+-- the value is the number of its bits
+value-is : (c : tie.After-struct-told) → toZ w32 (ofZ w32 (begun (checked (c .before)) .args .demand .value)) ≡ begun (checked (c .before)) .args .demand .value
+value-is c = number-of-bits _ (record { sfits = c .struct-told .given .1 .1 .0 .1 })
+
+inside : (c : tie.Else1) → NoneOf (valueChecks (base c .args .demand .value))
 unfolding NoneOf valueChecks
-inside c = ((λ h. said-no (c .before .value-outside .ensures) (c .if1 .left) (rw (number-of-bits _ (base c .fits .value)) h)), tt)
+inside c = ((λ h. said-no (c .before .value-outside .ensures) (c .if1 .left) (rw (value-is (c .before .before)) h)), tt)
 
 -- ── 16 did not refuse ──
 room-judged : (c : tie.After-check-room) (v : Verdict) → c .check-room .result ≡ v → Judged (roomAt (base (c .before))) v
@@ -85,20 +93,20 @@ returns c =
     let e = c .before .before .before in
     let a = begun e .args in
     let j = ends-judged e (Refused _ _) (c .before .named .given .1) in
-    ((solve-ends (a .nodes) (a .edges) (a .source) (a .sink) (a .value) (a .flows .now) (a .set .now) _ _ j, refl, refl), tt)
+    ((solve-ends (a .sizes .nodes) (a .sizes .edges) (a .demand .source) (a .demand .sink) (a .demand .value) (a .flows .now) (a .set .now) _ _ j, refl, refl), tt)
 
 returns-2 : tie.Need-returns-2
 unfolding FirstOf valueChecks
 returns-2 c =
-    let e = c .before .before in
+    let e = c .before .before .before in
     let s = begun (checked e) in
     let a = s .args in
-    let out = rw (number-of-bits _ (s .fits .value)) at (said-yes (c .before .value-outside .ensures) (c .if1 .taken)) in
-    let first = solve-value (a .nodes) (a .edges) (a .source) (a .sink) (a .value) (a .flows .now) (a .set .now) (two e) 15 0 (inl (out, refl, refl)) in
+    let out = rw (value-is (c .before .before)) at (said-yes (c .before .value-outside .ensures) (c .if1 .taken)) in
+    let first = solve-value (a .sizes .nodes) (a .sizes .edges) (a .demand .source) (a .demand .sink) (a .demand .value) (a .flows .now) (a .set .now) (two e) 15 0 (inl (out, refl, refl)) in
     ((first, refl, refl), tt)
 
 check-room-requires : tie.Need-check-room-requires
-check-room-requires c κs = base c .pre .0 .few-nodes
+check-room-requires c κs = base c .pre .drawn .few-nodes
 
 returns-3 : tie.Need-returns-3
 returns-3 c =
@@ -106,20 +114,29 @@ returns-3 c =
     let e = r .before in
     let a = base e .args in
     let j = room-judged r (Refused _ _) (c .before .room .given .1) in
-    ((solve-room (a .nodes) (a .edges) (a .source) (a .sink) (a .value) (a .flows .now) (a .set .now) (two (ended e)) (inside e) _ _ j, refl, refl), tt)
+    ((solve-room (a .sizes .nodes) (a .sizes .edges) (a .demand .source) (a .demand .sink) (a .demand .value) (a .flows .now) (a .set .now) (two (ended e)) (inside e) _ _ j, refl, refl), tt)
+
+-- the flows of the edges are there to be lent
+flows-in : (c : tie.After-enum-told2) → base (asked c) .args .sizes .edges ≤ length (base (asked c) .args .flows .now)
+flows-in c = room-flows _ _ _ _ (room c) .0
+
+part-decide-end : tie.Need-part-decide-end
+part-decide-end c = flows-in (c .before)
 
 decide-requires : tie.Need-decide-requires
 decide-requires c κs =
     let m = c .before .before .before in
     let e = asked m in
-    let w = checked (ended e) .before in (
+    let s = base e in
+    let a = s .args in (
+      record {
+        opened = s .pre;
+        ends = ends-for (mapAt s) (a .demand .source) (a .demand .sink) (two (ended e));
+        exact = part-length (a .sizes .edges) (a .flows .now) (flows-in m);
+      },
+      value-limited _ (inside e),
       refl,
-      room-flows _ _ _ _ (room m) .0,
-      base e .pre .0,
-      ends-for (w .before .wide .ensures) (w .wide2 .ensures) (mapAt (base e)) (two (ended e)),
-      small-value (value-limited _ (inside e)),
       refl,
-      base e .pre .1,
     )
 
 -- ── what was decided ──
@@ -129,89 +146,118 @@ roomy c = c .before .before .before .before
 abbrev start : tie.After-decide → tie.Start
 start c = base (asked (roomy c))
 
+-- the part lent, as it came back, and the slice with it
+abbrev lent' : tie.After-decide → List ℤ
+lent' c = c .decide .last .1 .1 .1 .1 .1 .1 .1 .1 .1 .1 .1 .0
+
 abbrev flows' : tie.After-decide → List ℤ
-flows' c = c .decide .last .1 .1 .1 .1 .1 .1 .1 .1 .1 .1 .1 .1 .1 .1 .1 .1 .1 .1 .0
+flows' c = lent' c ++ drop (start c .args .sizes .edges - 0) (start c .args .flows .now)
 
 abbrev inside' : tie.After-decide → List ℕ
-inside' c = c .decide .last .1 .1 .1 .1 .1 .1 .1 .1 .1 .1 .1 .1 .1 .1 .1 .1 .1 .1 .1 .0
+inside' c = c .decide .last .1 .1 .1 .1 .1 .1 .1 .1 .1 .1 .1 .1 .0
 
 decided : (c : tie.After-decide) {answer : Bool} → c .decide .result ≡ answer
-    → Decided (mapAt (start c)) (start c .args .outer) (capacityAt (start c)) (start c .args .source) (start c .args .sink) (start c .args .value)
-    (start c .args .flows .now) (flows' c) (inside' c) answer
+    → Decided (mapAt (start c)) (start c .args .sizes .outer) (capacityAt (start c)) (start c .args .demand .source) (start c .args .demand .sink)
+    (start c .args .demand .value) (start c .args .flows .now) (flows' c) (inside' c) answer
 decided c same =
-    let e = asked (roomy c) in
     let s = start c in
-    let w = checked (ended e) .before in
-    decided-as (w .before .wide .ensures) (w .wide2 .ensures) (mapAt s) (s .args .outer) (capacityAt s) (same-value (value-limited _ (inside e)))
-    (s .args .flows .now) (flows' c) (inside' c) same (c .decide .ensures .1)
-
--- the set is the one that the search names
-named : (c : tie.After-decide) → c .decide .result ≡ false
-    → Named (mapAt (start c)) (start c .args .outer) (capacityAt (start c)) (start c .args .source) (start c .args .sink) (start c .args .value)
-    noParents (flagged (inside' c))
-named c e =
-    let q = asked (roomy c) in
-    let s = start c in
-    let w = checked (ended q) .before in
-    named-as (w .before .wide .ensures) (w .wide2 .ensures) (mapAt s) (s .args .outer) (capacityAt s) (same-value (value-limited _ (inside q)))
-    noParents (flagged (inside' c)) (c .decide .ensures .3 e)
+    let a = s .args in
+    decided-back (mapAt s) (a .sizes .outer) (capacityAt s) (a .demand .source) (a .demand .sink) (a .demand .value) (a .flows .now) (lent' c) (inside' c) same
+    (c .decide .ensures .1)
 
 none : (c : tie.After-decide) → NoneOf (checksAt (start c))
 none c =
     let e = asked (roomy c) in
     let a = start c .args in
-    solve-none (a .nodes) (a .edges) (a .source) (a .sink) (a .value) (a .flows .now) (a .set .now) (two (ended e)) (inside e) (room (roomy c))
+    solve-none (a .sizes .nodes) (a .sizes .edges) (a .demand .source) (a .demand .sink) (a .demand .value) (a .flows .now) (a .set .now) (two (ended e)) (inside e) (room (roomy c))
 
 returns-4 : tie.Need-returns-4
 returns-4 c = let d = c .before .before in ((none d, decided d (c .if2 .taken), refl), tt)
 
 -- ── it cannot: the set is written ──
-abbrev decision : tie.After-write-set-arg → tie.After-decide
-decision c = c .before .before .before .before
+abbrev decision : tie.After-words-for → tie.After-decide
+decision c = c .before .before .before
 
-words-in : (c : tie.After-decide) → wordsFor (start c .args .nodes) ≤ length (start c .args .set .now)
-words-in c = room-flows _ _ _ _ (room (roomy c)) .1
+words-in : (c : tie.After-words-for) → wordsFor (start (decision c) .args .sizes .nodes) ≤ length (start (decision c) .args .set .now)
+words-in c = room-flows _ _ _ _ (room (roomy (decision c))) .1
+
+words-for-requires : tie.Need-words-for-requires
+words-for-requires c κs = start (c .before .before) .pre .drawn .few-nodes
+
+part-write-set-end : tie.Need-part-write-set-end
+part-write-set-end c = let n = c .before in omega (arith, n .words-for .ensures, words-in n)
 
 write-set-requires : tie.Need-write-set-requires
-write-set-requires c κs = let d = decision c in (start d .pre .0 .few-nodes, words-in d)
+write-set-requires c κs =
+    let n = c .before .before in
+    let s = start (decision n) in
+    words-lent (s .args .set .now) (n .words-for .ensures) (words-in n) (s .pre .drawn .few-nodes)
+
+abbrev counted : tie.After-write-set → tie.After-words-for
+counted c = c .before .before .before
+
+-- the slice with the words that were lent
+abbrev set' : tie.After-write-set → List ℕ
+set' c = c .write-set .last .1 .1 .0 ++ drop (counted c .words-for .result - 0) (start (decision (counted c)) .args .set .now)
+
+written : (c : tie.After-write-set)
+    → Written (inside' (decision (counted c))) (start (decision (counted c)) .args .sizes .nodes) (start (decision (counted c)) .args .set .now) (set' c)
+written c =
+    let n = counted c in
+    written-back (start (decision n) .args .set .now) (n .words-for .ensures) (words-in n) (c .write-set .ensures)
+
+words-kept : (c : tie.After-write-set) → wordsFor (start (decision (counted c)) .args .sizes .nodes) ≤ length (set' c)
+words-kept c = omega (arith, words-in (counted c), written c .length-kept)
+
+part-count-set-end : tie.Need-part-count-set-end
+part-count-set-end c = let w = c .before .before .before in omega (arith, counted w .words-for .ensures, words-kept w)
 
 count-set-requires : tie.Need-count-set-requires
 count-set-requires c κs =
-    let w = c .before .before .before in
-    let d = decision (w .before) in
-    (start d .pre .0 .few-nodes, omega (arith, words-in d, w .write-set .ensures .length-kept))
+    let w = c .before .before .before .before in
+    let n = counted w in
+    words-lent (set' w) (n .words-for .ensures) (words-kept w) (start (decision n) .pre .drawn .few-nodes)
+
+abbrev wrote : tie.After-count-set → tie.After-write-set
+wrote c = c .before .before .before .before .before
+
+-- the number of ones in the words
+size-is : (c : tie.After-count-set) → c .count-set .result ≡ size (take (wordsFor (start (decision (counted (wrote c))) .args .sizes .nodes)) (set' (wrote c)))
+size-is c =
+    let w = wrote c in
+    let n = counted w in
+    c .count-set .ensures ∙ words-again (start (decision n) .args .set .now) (n .words-for .ensures) (words-in n) (w .write-set .ensures)
 
 narrow-requires : tie.Need-narrow-requires
 narrow-requires c κs =
-    let w = c .before .before .before .before in
-    size-small (w .write-set .ensures) (start (decision (w .before)) .pre .0 .few-nodes) _ (c .count-set .ensures)
-
-abbrev set' : tie.After-write-set → List ℕ
-set' c = c .write-set .last .1 .1 .0
+    let w = wrote c in
+    size-small (written w) (start (decision (counted w)) .pre .drawn .few-nodes) _ (size-is c)
 
 returns-5 : tie.Need-returns-5
 returns-5 c =
-    let n = c .before in
-    let w = n .before .before .before .before in
-    let d = decision (w .before) in
+    let k = c .before in
+    let w = wrote k in
+    let n = counted w in
+    let d = decision n in
     let s = start d in
     let a = s .args in
-    let r = decided d (w .before .before .before .if2 .left) in
+    let left = n .before .if2 .left in
+    let r = decided d left in
     let ends = two (ended (asked (roomy d))) in (
       (
         none d,
         (
-          take (wordsFor (a .nodes)) (set' w),
-          set-written (w .write-set .ensures),
-          proves-written (s .pre .0 .plane .sound .range) (capacityAt s) (w .write-set .ensures) (a .source) (a .sink) ends (a .value) (r .1),
-          c .narrow .ensures ∙ n .count-set .ensures,
+          take (wordsFor (a .sizes .nodes)) (set' w),
+          set-written (written w),
+          proves-written (s .pre .drawn .plane .sound .range) (capacityAt s) (written w) (a .demand .source) (a .demand .sink) ends (a .demand .value) (r .1),
+          c .narrow .ensures ∙ size-is k,
         ),
         r .0,
       ),
       record {
         inside = flagged (inside' d);
-        named = named d (w .before .before .before .if2 .left);
-        holds = w .write-set .ensures .members;
+        named = d .decide .ensures .3 left;
+        holds = written w .members;
       },
     )
 
@@ -219,8 +265,6 @@ pub solve-spec : {M : Type 1} → statement M
 solve-spec =
     tie.close
     (tie.spec
-    (λ c κs. search needs)
-    (λ c κs. search needs)
     (λ c κs. search needs)
     (λ c. search needs)
     returns
@@ -231,10 +275,20 @@ solve-spec =
     (λ c. search needs)
     returns-3
     (λ c. search needs)
+    (λ c. search needs)
+    (λ c. search needs)
+    part-decide-end
     decide-requires
     (λ c. search needs)
     returns-4
+    words-for-requires
+    (λ c. search needs)
+    (λ c. search needs)
+    part-write-set-end
     write-set-requires
+    (λ c. search needs)
+    (λ c. search needs)
+    part-count-set-end
     count-set-requires
     narrow-requires
     (λ c. search needs)

@@ -21,7 +21,7 @@ unfolding sum
 loop-holds c = (omega arith, omega arith, refl)
 
 contains-requires : tie.Need-contains-requires Inv-loop μ-loop
-contains-requires c κs = let s = c .before .before .before in omega (arith, s .pre .0, s .pre .1, c .loop-test .taken)
+contains-requires c κs = let s = c .before .before .before in omega (arith, s .pre .exact, c .loop-test .taken)
 
 loop-again : tie.Need-loop-again Inv-loop μ-loop
 loop-again c =

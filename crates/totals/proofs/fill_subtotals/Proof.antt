@@ -94,7 +94,7 @@ slice-set-from-sum c =
     let t = turn k in
     let φ = t .before .loop .inv .1 in
     let p = begun t .pre in
-    omega (arith, place-in _ _ _ _ φ (in-set k) (t .loop-test .taken) (p .6), same-long _ _ _ _ φ (t .before .loop .inv .0) (p .6))
+    omega (arith, place-in _ _ _ _ φ (in-set k) (t .loop-test .taken) (omega (arith, p .6)), same-long _ _ _ _ φ (t .before .loop .inv .0) (omega (arith, p .6)))
 
 add-place : tie.Need-add-place Inv-loop μ-loop
 add-place c = let t = turn (c .before) in omega (arith, place-few _ _ _ _ (t .before .loop .inv .1), t .loop-test .taken, begun t .pre .0)
@@ -108,7 +108,7 @@ loop-again c =
     let t = turn k in
     let p = begun t .pre in (
       omega (arith, t .loop-test .taken),
-      fill-put _ _ _ _ (t .before .loop .inv .1) (in-set k) (t .loop-test .taken) (p .6) (sum-is k)
+      fill-put _ _ _ _ (t .before .loop .inv .1) (in-set k) (t .loop-test .taken) (omega (arith, p .6)) (sum-is k)
           (toZ-ofZ w64 _ (record { sfits = c .plus-wide .ok }) ∙ c .plus-wide .ensures) refl,
     )
 
@@ -124,7 +124,7 @@ loop-again-2 c =
 same-length : tie.Need-same-length Inv-loop μ-loop
 same-length c =
     let o = c .before .loop in
-    same-long _ _ _ _ (o .inv .1) (o .inv .0) (c .before .before .before .pre .6)
+    same-long _ _ _ _ (o .inv .1) (o .inv .0) (omega (arith, c .before .before .before .pre .6))
 
 returns : tie.Need-returns Inv-loop μ-loop
 returns c =

@@ -32,7 +32,7 @@ head-word : {𝓜 : Map} → Sound 𝓜 → {n : ℕ} → wordsFor (𝓜 .nodes)
 head-word {𝓜} σ room d l = omega (arith, σ .range .tail-in (rev d) (rev-in (𝓜 .edges) d l))
 
 share-requires : tie.Need-share-requires Inv-loop μ-loop
-share-requires c κs = let p = c .before .pre in (omega (arith, p .1, p .5), head-word (p .2) (p .4) _ (p .5))
+share-requires c κs = let p = c .before .pre in (omega (arith, p .1, p .5), head-word (p .2) (omega (arith, p .4)) _ (p .5))
 
 mul-wide : tie.Need-mul-wide Inv-loop μ-loop
 mul-wide c = let p = c .before .before .pre in omega (arith, p .1, p .5)
@@ -54,7 +54,7 @@ below : (c : tie.In-loop Inv-loop μ-loop) → c .before .loop .d < 2 * begun c 
 below c = dart-in (begun c .pre .2) _ _ (begun c .pre .5) (c .before .loop .inv)
 
 share-requires-2 : tie.Need-share-requires-2 Inv-loop μ-loop
-share-requires-2 c κs = let p = begun c .pre in (omega (arith, p .1, below c), head-word (p .2) (p .4) _ (below c))
+share-requires-2 c κs = let p = begun c .pre in (omega (arith, p .1, below c), head-word (p .2) (omega (arith, p .4)) _ (below c))
 
 abbrev drawn : tie.In-loop Inv-loop μ-loop → Map
 drawn c = let a = begun c .args in mapOf (a .nodes) (a .edges) (a .tails .now) (a .rotations .now)
