@@ -27,10 +27,11 @@ ghost use Rattle.arrays.specs.inner.Flags.{flagged};
 ghost use Rattle.node_flags.specs.declared.Side.{Side};
 ghost use Rattle.solver.specs.inner.Lent.{Lent};
 ghost use Rattle.arrays.specs.Maps.{mapOf};
-ghost use Rattle.maximum.specs.inner.Bracket.{Bracket, Closer};
+ghost use Rattle.maximum.specs.inner.Bracket.{Closer};
 ghost use Rattle.maximum.specs.inner.Narrowing.{Narrows, Lowers, Joins};
 ghost use Rattle.maximum.specs.inner.Maximum.{Maximized};
 ghost use Rattle.maximum.specs.inner.Probing.{Probes};
+ghost use Rattle.maximum.specs.inner.Underway.{Underway};
 use arrays::Demand;
 use arrays::Sizes;
 use arrays::Terminals;
@@ -383,14 +384,11 @@ fn probe<'a>(
     a: &mut [u8; 1024],
     b: &mut [u8; 1024],
 ) -> Bounds
-    requires { ⌜ Lent sizes (pending .terminals .source) (pending .terminals .sink) (now tails) (now rotations) (now lefts) (now capacities) (now order)
-        (now from) (now grouped) (now starts) (now flows)
-        × ((d : ℕ) → d < 2 * sizes .edges → Limited 1000000 (atℤ (now capacities) d))
-        × (length (now parents) ≡ 1024) × (length (now a) ≡ 1024) × (length (now b) ≡ 1024)
-        × (pending .bounds .low ≤ℤ pending .bounds .high) × (pending .bounds .found ≡ true → pending .bounds .low <ℤ pending .bounds .high)
-        × ((before : List ℤ) × Bracket (mapOf (sizes .nodes) (sizes .edges) (now tails) (now rotations)) (sizes .outer) (atℤ (now capacities))
-        (pending .terminals .source) (pending .terminals .sink) before (now flows) (now a) (now b)
-        (pending .bounds .low) (pending .bounds .high) (pending .bounds .found)) ⌝ }
+    requires { ⌜ ((before : List ℤ)
+        × Underway sizes pending (now tails) (now rotations) (now lefts) (now capacities) (now order) (now from) (now grouped) (now starts)
+        before (now flows) (now a) (now b))
+        × (length (now parents) ≡ 1024) × (pending .bounds .low ≤ℤ pending .bounds .high)
+        × (pending .bounds .found ≡ true → pending .bounds .low <ℤ pending .bounds .high) ⌝ }
     ensures { λ r. ⌜ (length (now (parents .exit)) ≡ 1024) × (length (now (a .exit)) ≡ 1024) × (length (now (b .exit)) ≡ 1024)
         × (r .none ≡ false → Closer (pending .bounds .low) (pending .bounds .high) (pending .bounds .found) (r .low) (r .high) (r .found))
         × Probes (mapOf (sizes .nodes) (sizes .edges) (now (tails .entry)) (now (rotations .entry))) (sizes .outer) (atℤ (now (capacities .entry)))
@@ -481,13 +479,8 @@ fn close_in<'a>(
     a: &mut [u8; 1024],
     b: &mut [u8; 1024],
 ) -> Maximum
-    requires { ⌜ Lent sizes (begun .terminals .source) (begun .terminals .sink) (now tails) (now rotations) (now lefts) (now capacities) (now order)
-        (now from) (now grouped) (now starts) (now flows)
-        × ((d : ℕ) → d < 2 * sizes .edges → Limited 1000000 (atℤ (now capacities) d))
-        × (length (now parents) ≡ 1024) × (length (now a) ≡ 1024) × (length (now b) ≡ 1024)
-        × Bracket (mapOf (sizes .nodes) (sizes .edges) (now tails) (now rotations)) (sizes .outer) (atℤ (now capacities))
-        (begun .terminals .source) (begun .terminals .sink) (now flows) (now flows) (now a) (now b)
-        (begun .bounds .low) (begun .bounds .high) (begun .bounds .found) ⌝ }
+    requires { ⌜ Underway sizes begun (now tails) (now rotations) (now lefts) (now capacities) (now order) (now from) (now grouped) (now starts)
+        (now flows) (now flows) (now a) (now b) × (length (now parents) ≡ 1024) ⌝ }
     ensures { λ r. ⌜ (length (now (parents .exit)) ≡ 1024) × (length (now (a .exit)) ≡ 1024)
         × Maximized (mapOf (sizes .nodes) (sizes .edges) (now (tails .entry)) (now (rotations .entry))) (sizes .outer) (atℤ (now (capacities .entry)))
         (begun .terminals .source) (begun .terminals .sink) (now (flows .entry)) (now (flows .exit)) (now (a .exit)) r ⌝ }
@@ -655,13 +648,9 @@ fn try_likely<'a>(
     a: &mut [u8; 1024],
     b: &mut [u8; 1024],
 ) -> Bounds
-    requires { ⌜ Lent sizes (given .terminals .source) (given .terminals .sink) (now tails) (now rotations) (now lefts) (now capacities) (now order)
-        (now from) (now grouped) (now starts) (now flows)
-        × ((d : ℕ) → d < 2 * sizes .edges → Limited 1000000 (atℤ (now capacities) d)) × (length (now a) ≡ 1024) × (length (now b) ≡ 1024)
-        × (given .bounds .none ≡ false)
-        × ((before : List ℤ) × Bracket (mapOf (sizes .nodes) (sizes .edges) (now tails) (now rotations)) (sizes .outer) (atℤ (now capacities))
-        (given .terminals .source) (given .terminals .sink) before (now flows) (now a) (now b)
-        (given .bounds .low) (given .bounds .high) (given .bounds .found)) ⌝ }
+    requires { ⌜ ((before : List ℤ)
+        × Underway sizes given (now tails) (now rotations) (now lefts) (now capacities) (now order) (now from) (now grouped) (now starts)
+        before (now flows) (now a) (now b)) × (given .bounds .none ≡ false) ⌝ }
     ensures { λ r. ⌜ (length (now (a .exit)) ≡ 1024) × (length (now (b .exit)) ≡ 1024)
         × Probes (mapOf (sizes .nodes) (sizes .edges) (now (tails .entry)) (now (rotations .entry))) (sizes .outer) (atℤ (now (capacities .entry)))
         (given .terminals .source) (given .terminals .sink) (now (flows .entry)) (now (flows .exit)) (now (a .entry)) (now (a .exit))
