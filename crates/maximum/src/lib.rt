@@ -290,28 +290,25 @@ fn lower(
     high
 }
 
-// Where no value is left between the cuts of a and b, the union or the intersection has a cut below zero: it is kept in a.
+// Where no value is left between the cuts of a and b, the union or the intersection has a cut below zero: it is kept in a, and b is used up.
 fn join(
     tails: &[u16; 1024],
     capacities: &[i32; 1024],
     darts: usize,
     a: &mut [u8; 1024],
-    b: &[u8; 1024],
+    b: &mut [u8; 1024],
 )
-    requires { ⌜ (length (now a) ≡ 1024) × (darts ≤ 1024) × (darts % 2 ≡ 0) × ((d : ℕ) → d < darts → at (now tails) d < 1024)
-        × ((d : ℕ) → d < darts → Limited 2000000 (atℤ (now capacities) d)) ⌝ }
+    requires { ⌜ (length (now a) ≡ 1024) × (length (now b) ≡ 1024) × (darts ≤ 1024) × (darts % 2 ≡ 0)
+        × ((d : ℕ) → d < darts → at (now tails) d < 1024) × ((d : ℕ) → d < darts → Limited 2000000 (atℤ (now capacities) d)) ⌝ }
     ensures { λ _. ⌜ (length (now (a .exit)) ≡ 1024)
         × Joins darts (at (now (tails .entry))) (atℤ (now (capacities .entry))) (now (a .entry)) (now (a .exit)) (now (b .entry)) ⌝ }
 {
-    let mut joined = [0u8; 1024];
-    node_flags::unite(&*a, b, &mut joined);
-    let total = cuts::capacity(tails, capacities, &joined, darts);
+    node_flags::either_and_both(&mut *a, &mut *b);
+    let total = cuts::capacity(tails, capacities, &*a, darts);
     if is_less(total, 0) {
-        node_flags::copy_flags(&joined, a);
         return;
     }
-    node_flags::intersect(&*a, b, &mut joined);
-    node_flags::copy_flags(&joined, a);
+    node_flags::copy_flags(&*b, a);
 }
 
 // The high bound, lowered by a set that the pivots propose from the flows of the low one and from the tree of the faces that its search left; they leave
@@ -491,7 +488,7 @@ fn close_in<'a>(
         let low = bounds.low;
         let high = bounds.high;
         if is_less(high, low) {
-            join(tails, capacities, 2 * sizes.edges, a, &*b);
+            join(tails, capacities, 2 * sizes.edges, a, b);
             return Maximum::Nothing;
         }
         if finished(low, high, bounds.found) {

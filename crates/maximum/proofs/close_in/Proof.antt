@@ -109,7 +109,7 @@ join-requires : tie.Need-join-requires Inv-loop μ-loop
 join-requires c κs =
     let l = looping (c .before .before .before .before) in
     let b = start l in
-    (l .loop .inv .size-a, omega (arith, ground b .few-edges), omega arith, tails-in b, caps-in b)
+    (l .loop .inv .size-a, l .loop .inv .size-b, omega (arith, ground b .few-edges), omega arith, tails-in b, caps-in b)
 
 same-length : tie.Need-same-length Inv-loop μ-loop
 same-length c = as-long (looping (c .before .before .before .before .before))
