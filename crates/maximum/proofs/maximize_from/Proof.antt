@@ -44,7 +44,7 @@ abbrev given : tie.After-flag-one → tie.Start
 given c = c .before .before .before .before
 
 tails-in : (c : tie.Start) (d : ℕ) → d < 2 * c .args .sizes .edges → at (c .args .tails .now) d < 1024
-tails-in c d l = omega (arith, c .pre .0 .opened .drawn .few-nodes, c .pre .0 .opened .drawn .plane .sound .range .tail-in d l)
+tails-in c d l = let g = ground c in omega (arith, g .few-nodes, g .plane .sound .range .tail-in d l)
 
 caps-in : (c : tie.Start) (d : ℕ) → d < 2 * c .args .sizes .edges → Limited 2000000 (caps c d)
 caps-in c d l = limited-more (omega arith) (c .pre .1 d l)
@@ -80,8 +80,16 @@ bounds c =
 close-in-requires : tie.Need-close-in-requires
 close-in-requires c κs =
     let m = c .before .before .before .before in
-    let p = given (flagged-sink m) .pre in
-    (p .0, p .1, p .3, first-set m .begin .ensures .0, flagged-sink m .flag-one .ensures .0, bounds m)
+    let p = given (flagged-sink m) .pre in (
+      record {
+        lent = p .0;
+        small = p .1;
+        size-a = first-set m .begin .ensures .0;
+        size-b = flagged-sink m .flag-one .ensures .0;
+        bracket = bounds m;
+      },
+      p .3,
+    )
 
 returns : tie.Need-returns
 returns c = let e = c .before .close-in .ensures in (e .1, e .0, e .2)

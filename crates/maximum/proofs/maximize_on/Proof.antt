@@ -87,7 +87,7 @@ same-room c =
     filled-length (s .args .sizes .edges) (s .pre .4 .0) (s .args .flows .now) (since c) (is-since c) (omega (arith, s .pre .0 .exact))
 
 tails-in : (c : tie.Start) (d : ℕ) → d < 2 * c .args .sizes .edges → at (c .args .tails .now) d < 1024
-tails-in c d l = omega (arith, c .pre .0 .opened .drawn .few-nodes, c .pre .0 .opened .drawn .plane .sound .range .tail-in d l)
+tails-in c d l = let g = ground c in omega (arith, g .few-nodes, g .plane .sound .range .tail-in d l)
 
 caps-in : (c : tie.Start) (d : ℕ) → d < 2 * c .args .sizes .edges → Limited 2000000 (caps c d)
 caps-in c d l = limited-more (omega arith) (c .pre .1 d l)
@@ -144,12 +144,17 @@ try-likely-requires c κs =
     let q = c .before .before .before .before in
     let s = start q in
     let p = s .pre in (
-      record { opened = p .0 .opened; ends = p .0 .ends; exact = same-room (copy (first-set q)) ∙ p .0 .exact },
-      p .1,
-      first-set q .begin .ensures .0,
+      (
+        s .args .flows .now,
+        record {
+          lent = record { opened = p .0 .opened; ends = p .0 .ends; exact = same-room (copy (first-set q)) ∙ p .0 .exact };
+          small = p .1;
+          size-a = first-set q .begin .ensures .0;
+          size-b = refl;
+          bracket = bounds q _;
+        },
+      ),
       refl,
-      refl,
-      (s .args .flows .now, bounds q _),
     )
 
 -- ── the high bound was tried ──
@@ -241,12 +246,14 @@ close-in-requires c κs =
     let t = tried (left w) in
     let p = origin t .pre in
     let e = w .propose .ensures in (
-      record { opened = p .0 .opened; ends = p .0 .ends; exact = room (left w) },
-      p .1,
+      record {
+        lent = record { opened = p .0 .opened; ends = p .0 .ends; exact = room (left w) };
+        small = p .1;
+        size-a = e .1;
+        size-b = t .try-likely .ensures .1;
+        bracket = anew (t .try-likely .result .found) (begun w);
+      },
       e .0,
-      e .1,
-      t .try-likely .ensures .1,
-      anew (t .try-likely .result .found) (begun w),
     )
 
 -- ── what is found from there, told of the slice that was lent ──
