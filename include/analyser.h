@@ -294,8 +294,7 @@ ANALYSER_HOLDS(session_size, sizeof(struct analyser_session) == 16392);
 
 // The same functions with the fields of the session one by one, the two offers as first and second; the four inline functions behind them pass these on.
 uint8_t analyser_session_start(const uint8_t *sheet, analyser_length sheet_length, uint16_t *nodes, uint16_t *channels, uint16_t *outer, uint16_t *tails,
-                               uint16_t *turns, int32_t *limits, int32_t *left, uint8_t *standing, const int32_t *first, const int32_t *second,
-                               uint16_t *place);
+                               uint16_t *turns, int32_t *limits, int32_t *left, uint8_t *standing, int32_t *first, int32_t *second, uint16_t *place);
 uint8_t analyser_session_ask(uint16_t party, uint16_t nodes, uint16_t channels, uint16_t outer, const uint16_t *tails, const uint16_t *turns,
                              const int32_t *limits, const int32_t *left, uint8_t *standing, int32_t *first, int32_t *second, uint16_t headgate,
                              uint16_t outfall, int32_t delivery, int32_t *settings, analyser_length settings_length, uint64_t *set, analyser_length set_length,
@@ -305,8 +304,10 @@ uint8_t analyser_session_commit(uint16_t party, uint16_t nodes, uint16_t channel
 void analyser_session_clear(uint16_t nodes, uint16_t channels, uint16_t outer, const uint16_t *tails, const uint16_t *turns, const int32_t *limits,
                             int32_t *left, uint8_t *standing, const int32_t *first, const int32_t *second);
 
-// Start: a session on the sheet, with all of its limits left; neither party has an offer or has committed.
-// Refusals: the sheet checks. Then the session has no nodes and no channels, every question of a party on it is refused 13, and there is no offer.
+// Start: a session on the sheet, with all of its limits left; neither party has an offer or has committed. Every byte of the session is written, with 0 past
+// the last dart and in the settings of both offers: the sheet alone decides the session, whatever the memory held.
+// Refusals: the sheet checks. Then the session has no nodes and no channels, zeros everywhere; every question of a party on it is refused 13, and there is no
+// offer.
 static inline uint8_t analyser_start(struct analyser_session *session, const uint8_t *sheet, analyser_length sheet_length, uint16_t *place) {
     return analyser_session_start(sheet, sheet_length, &session->nodes, &session->channels, &session->outer, session->tails, session->turns, session->limits,
                                   session->left, session->standing, session->offers[0], session->offers[1], place);

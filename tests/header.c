@@ -173,7 +173,7 @@ static void examine(const char *name, const uint8_t *bytes, analyser_length byte
     ended();
 }
 
-// A session between guards. Its offers are UNTOUCHED until a "can" is kept.
+// A session between guards. All of it is UNTOUCHED before the first start, which leaves nothing of that.
 static struct {
     uint64_t before[8];
     struct analyser_session session;
@@ -183,8 +183,7 @@ static struct analyser_session *const session = &kept.session;
 
 static void guard(void) {
     for (int i = 0; i < 8; i++) kept.before[i] = kept.behind[i] = UNTOUCHED;
-    for (int p = 0; p < 2; p++)
-        for (int i = 0; i < ANALYSER_MAX_CHANNELS; i++) session->offers[p][i] = UNTOUCHED;
+    memset(session, UNTOUCHED, sizeof *session);
 }
 
 static void show_session(void) {

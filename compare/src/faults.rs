@@ -165,6 +165,8 @@ faults! {
     OfferOfTheCaller: "a commit takes the offer from the slice that the caller lent for the settings",
     RefusedStartKeeps: "a refused start leaves the old session",
     StartKeepsOffer: "a start leaves the parties where they stood in the older session",
+    StartLeavesTheOldOffer: "a start leaves in the arrays of the offers what the memory held",
+    RefusedStartLeavesArrays: "a refused start leaves in the arrays what the memory held",
     StartDartZero: "a session has dart 0 on the outer face",
     ForeignEmptied: "a value that is no session is emptied when it is refused",
     SetByTheOthersQuestion: "once the other party has asked, another set that proves the same is named",

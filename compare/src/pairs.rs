@@ -1,7 +1,8 @@
 //! Pairs of runs (document 02, Job 12): "If two runs from one start differ only in one party's asks and refused commits, and have the same accepted commits with
-//! the same flows and the same clears, in the same order, between the same calls of the other party, the other party gets the same answers." The first run is
-//! made up as it goes; the second has the same events, and other asks and refused commits between them. What the watched party is told, and its slices as they
-//! are left, must be the same in every byte. Each call of both is held to the model too.
+//! the same flows and the same clears, in the same order, between the same calls of the other party, the other party gets the same answers." Each run has a start
+//! of its own, of one sheet, in memory that held other things. The first run is made up as it goes; the second has the same events, and other asks and refused
+//! commits between them. What the watched party is told, and its slices as they are left, must be the same in every byte. Each call of both is held to the model
+//! too.
 use crate::drawing::Drawing;
 use crate::sessions::{junk, reach, Answer, Call, Player, Question, Table};
 
@@ -15,6 +16,9 @@ enum Event {
 
 /// What the watched party gets of its calls.
 type Gifts = Vec<(u8, Answer)>;
+
+/// What is said where two starts of one sheet leave different sessions.
+const SHEET_DECIDES: &str = "two starts of one sheet, in memory that held other things, leave two sessions";
 
 /// The name under which pairs are counted.
 pub const NAME: &str = "Pair of runs";
@@ -44,7 +48,8 @@ impl Player<'_> {
         Ok(())
     }
 
-    /// One start, twice, in memory that held other things; now and then a refused one, or a value that no start gave.
+    /// One start, twice, in memory that held other things: the sessions must be the same in every place. Now and then a refused one, or a value that no start
+    /// gave.
     fn starts(&mut self, drawing: &Drawing) -> Result<[Table; 2], String> {
         let mut tables = [Table::new(junk(self.chance)), Table::new(junk(self.chance))];
         let mut sheet = drawing.bytes();
@@ -54,6 +59,9 @@ impl Player<'_> {
         for table in &mut tables {
             let came = self.lend(&table.model);
             self.step_with(Call::Start(sheet.clone()), came, table)?;
+        }
+        if tables[0].session != tables[1].session {
+            return Err(format!("{SHEET_DECIDES}\n"));
         }
         if self.chance.one_in(12) {
             let session = self.spoilt(&tables[0].session);
@@ -154,24 +162,33 @@ mod tests {
     use crate::faults::{Fault, Library};
     use crate::grow::grow;
 
-    /// Whether one of many pairs tells, without the model.
-    fn told_apart(fault: Option<Fault>) -> bool {
+    /// Whether one of many pairs says this, without the model.
+    fn told(fault: Option<Fault>, says: &str) -> bool {
         let library = Library { fault };
         (0..300).any(|number| {
             let mut chance = Chance::new(11, number);
             let grown = grow(&mut chance, number);
             let mut player = Player::new(&library, &mut chance, grown.source, grown.sink);
             player.judged = false;
-            player.pair(&grown.drawing).is_err_and(|text| text.contains("cannot tell apart"))
+            player.pair(&grown.drawing).is_err_and(|text| text.contains(says))
         })
     }
 
     #[test]
     fn leaks_are_told_by_the_runs_alone() {
         use Fault::*;
-        assert!(!told_apart(None));
+        assert!(!told(None, "cannot tell apart"));
         for fault in [SetByTheOthersQuestion, OthersOfferHeld, OthersLastAnswer, AskMakesStale, RefusedCommitMakesStale] {
-            assert!(told_apart(Some(fault)), "{fault:?}");
+            assert!(told(Some(fault), "cannot tell apart"), "{fault:?}");
+        }
+    }
+
+    #[test]
+    fn what_a_start_leaves_is_told_by_two_of_them_alone() {
+        use Fault::*;
+        assert!(!told(None, SHEET_DECIDES));
+        for fault in [StartLeavesTheOldOffer, RefusedStartLeavesArrays, StartKeepsOffer, RefusedStartKeeps] {
+            assert!(told(Some(fault), SHEET_DECIDES), "{fault:?}");
         }
     }
 }

@@ -38,6 +38,10 @@ fn start(fault: Fault, done: bool, before: &Session, s: &mut Session) {
     match fault {
         Fault::RefusedStartKeeps if !done => *s = before.clone(),
         Fault::StartKeepsOffer if done => s.standing = before.standing,
+        Fault::StartLeavesTheOldOffer => s.offers = before.offers,
+        Fault::RefusedStartLeavesArrays if !done => {
+            (s.tails, s.rotations, s.limits, s.left) = (before.tails, before.rotations, before.limits, before.left);
+        }
         Fault::StartDartZero if done => s.outer = 0,
         _ => {}
     }

@@ -37,6 +37,21 @@ pub struct Session {
     pub offers: [[i32; EDGES]; 2],
 }
 
+impl Session {
+    /// Zeros everywhere.
+    const ZERO: Session = Session {
+        nodes: 0,
+        edges: 0,
+        outer: 0,
+        standing: [IDLE; 2],
+        tails: [0; DARTS],
+        rotations: [0; DARTS],
+        limits: [0; DARTS],
+        left: [0; DARTS],
+        offers: [[0; EDGES]; 2],
+    };
+}
+
 /// What a call is lent beside the session.
 #[derive(Clone, Debug, PartialEq)]
 pub struct Answer {
@@ -223,11 +238,11 @@ impl Model {
     fn start(&mut self, sheet: &[u8], due: &mut Due) -> u8 {
         let judged = judge::sheet(sheet);
         *self = Model { drawing: judged.clone().ok(), commits: vec![], parties: [Party::NEW; 2], started: true };
+        due.session = Session::ZERO; // nothing of what was there is left
         let session = &mut due.session;
         match judged {
             Ok(drawing) => {
                 (session.nodes, session.edges, session.outer) = (drawing.nodes, drawing.edges() as u16, drawing.outer_dart() as u16);
-                (session.tails, session.rotations, session.limits) = ([0; DARTS], [0; DARTS], [0; DARTS]);
                 session.tails[..drawing.darts()].copy_from_slice(&drawing.tails);
                 session.rotations[..drawing.darts()].copy_from_slice(&drawing.rotations);
                 session.limits[..drawing.darts()].copy_from_slice(&drawing.capacities);
@@ -235,7 +250,6 @@ impl Model {
                 0
             }
             Err(refusal) => {
-                (session.nodes, session.edges, session.outer) = (0, 0, 0);
                 due.refused(refusal.number);
                 due.answer.place = refusal.place;
                 refusal.number

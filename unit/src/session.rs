@@ -65,8 +65,8 @@ impl Session {
         };
         told(|place| unsafe {
             analyser_session_start(sheet.as_ptr(), sheet.len(), &mut new.nodes, &mut new.channels, &mut new.outer, new.tails.as_mut_ptr(),
-                new.turns.as_mut_ptr(), new.limits.as_mut_ptr(), new.left.as_mut_ptr(), new.standing.as_mut_ptr(), new.first.as_ptr(),
-                new.second.as_ptr(), place)
+                new.turns.as_mut_ptr(), new.limits.as_mut_ptr(), new.left.as_mut_ptr(), new.standing.as_mut_ptr(), new.first.as_mut_ptr(),
+                new.second.as_mut_ptr(), place)
         })?;
         Ok(new)
     }

@@ -220,9 +220,9 @@ module _ {place place' result : ℕ} where
     dimacs-says (dimacs.Refused k p, h, t) = says-refusal k p (dimacs-numbered s _ _ _) (h .0) (t .0) (t .2) (h .1, t .1)
 
     -- a refused start leaves the session of no nodes
-    pub start-says : (S S' : Shared) → TellsStart s S S' place place' result → Says (sheetChecks s) result place place' (S' ≡ emptied S)
-    start-says S S' (verdict.Passed, h, t) = says-answer (h .0) (t .0) (t .1)
-    start-says S S' (verdict.Refused k p, h, t) = says-refusal k p (sheet-numbered s) (h .0) (t .0) (t .1) (h .1)
+    pub start-says : (S' : Shared) → TellsStart s S' place place' result → Says (sheetChecks s) result place place' (S' ≡ emptied)
+    start-says S' (verdict.Passed, h, t) = says-answer (h .0) (t .0) (t .1)
+    start-says S' (verdict.Refused k p, h, t) = says-refusal k p (sheet-numbered s) (h .0) (t .0) (t .1) (h .1)
 
   -- ── a session, whatever value it is, and any number as a party ──
   pub ask-says : (S S' : Shared) (q : ℕ) {source sink : ℕ} {value : ℤ} {flows flows' : List ℤ} {set set' : List ℕ} {can can' size size' : ℕ}

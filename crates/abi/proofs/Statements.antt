@@ -47,7 +47,7 @@ results = record {
   examine-says = λ s source sink value claims kinds settings sets points points' number number' sum sum' least least' greatest greatest' place place' result h.
       says.examine-says s h;
   key-says = λ input text text' length length' place place' result h. says.key-says input text h;
-  start-says = λ s S S' place place' result h. says.start-says s S S' h;
+  start-says = λ s S' place place' result h. says.start-says s S' h;
   ask-says = λ S S' p source sink value flows flows' set set' can can' size size' place place' result h. says.ask-says S S' p h;
   commit-says = λ S S' p place place' result h. says.commit-says S S' p h;
 }

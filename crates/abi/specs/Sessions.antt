@@ -19,8 +19,8 @@ VerdictTold Passed result place place' = (result ≡ 0) × (place' ≡ place)
 VerdictTold (Refused k p) result place place' = (result ≡ k) × (place' ≡ p)
 
 -- an answer of Start, and what is told of it
-abbrev pub TellsStart : List ℕ → (S S' : Shared) (place place' result : ℕ) → Type 0
-TellsStart s S S' place place' result = (answer : Verdict) × Starts s S S' answer × VerdictTold answer result place place'
+abbrev pub TellsStart : List ℕ → (S' : Shared) (place place' result : ℕ) → Type 0
+TellsStart s S' place place' result = (answer : Verdict) × Starts s S' answer × VerdictTold answer result place place'
 
 -- an answer of Ask to party p, and what is told of it: as of Solve's
 abbrev pub TellsAsk : Shared → (p source sink : ℕ) → ℤ → (flows flows' : List ℤ) (set set' : List ℕ) (S' : Shared)

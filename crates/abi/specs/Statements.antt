@@ -151,8 +151,8 @@ pub record Results : Type 0 where
       → TellsKey input text text' length length' place place' result
       → Says (keyRoomChecks text) result place place' ((text' ≡ text) × (length' ≡ length))
   -- of a session, whatever value it is: a refused start leaves the one of no nodes
-  pub start-says : (s : List ℕ) (S S' : Shared) (place place' result : ℕ)
-      → TellsStart s S S' place place' result → Says (sheetChecks s) result place place' (S' ≡ emptied S)
+  pub start-says : (s : List ℕ) (S' : Shared) (place place' result : ℕ)
+      → TellsStart s S' place place' result → Says (sheetChecks s) result place place' (S' ≡ emptied)
   pub ask-says : (S S' : Shared) (p source sink : ℕ) (value : ℤ) (flows flows' : List ℤ) (set set' : List ℕ) (can can' size size' place place' result : ℕ)
       → TellsAsk S p source sink value flows flows' set set' S' can can' size size' place place' result
       → Says (askChecks (sharedDrawing S) (S .standing p) p source sink value flows set) result place place'

@@ -537,7 +537,7 @@ pub extern "C" fn analyser_examine(
     }
 }
 
-// Start of a session of two parties. The fields of the session are lent one by one; the arrays of the offers are named by the contract only.
+// Start of a session of two parties. The fields of the session are lent one by one, and each place of them is written.
 #[no_mangle]
 pub extern "C" fn analyser_session_start(
     sheet: &[u8],
@@ -549,15 +549,13 @@ pub extern "C" fn analyser_session_start(
     limits: &mut [i32; 1024],
     left: &mut [i32; 1024],
     standing: &mut [u8; 2],
-    first: &[i32; 512],
-    second: &[i32; 512],
+    first: &mut [i32; 512],
+    second: &mut [i32; 512],
     place: &mut u16,
 ) -> u8
     ensures { λ r. ⌜ TellsStart (now (sheet .entry))
-        (sharedOf (now (nodes .entry)) (now (edges .entry)) (now (outer .entry)) (now (tails .entry)) (now (rotations .entry)) (now (limits .entry))
-        (now (left .entry)) (now (standing .entry)) (now (first .entry)) (now (second .entry)))
         (sharedOf (now (nodes .exit)) (now (edges .exit)) (now (outer .exit)) (now (tails .exit)) (now (rotations .exit)) (now (limits .exit))
-        (now (left .exit)) (now (standing .exit)) (now (first .entry)) (now (second .entry)))
+        (now (left .exit)) (now (standing .exit)) (now (first .exit)) (now (second .exit)))
         (now (place .entry)) (now (place .exit)) r ⌝ }
 {
     let answer = parties::start(

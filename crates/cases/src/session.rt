@@ -146,8 +146,8 @@ pub fn session(s: &[u8], flows: &mut [i32], set: &mut [u64]) {
         &mut limits,
         &mut left,
         &mut standing,
-        &first,
-        &second,
+        &mut first,
+        &mut second,
     ));
     let calls = case::part(s, 2);
     let mut at: usize = 0;

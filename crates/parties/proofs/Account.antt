@@ -14,26 +14,26 @@ use Rattle.integers.proofs.Tests.{eqb-true, eqb-false}
 use Rattle.refusals.specs.Order.{NoneOf}
 use Rattle.maps.specs.Dart.{rev}
 use Rattle.maps.specs.Map.{Map}
-use Rattle.maps.specs.Drawing.{Drawing}
 use Rattle.maps.proofs.Darts.{rev-in, rev-even}
 use Rattle.flows.specs.Settings.{onDarts, Within}
 use Rattle.flows.proofs.Agreement.{within-agrees}
 use Rattle.arrays.specs.At.{atℤ}
 use Rattle.arrays.specs.Filled.{filled}
 use Rattle.arrays.proofs.FillLoops.{filled-front}
-use Rattle.records.specs.Sheet.{edgesOf, outerOf, capacityOf, sheetMap}
+use Rattle.records.specs.Sheet.{nodesOf, edgesOf, outerOf, capacityOf, sheetMap}
 use Rattle.records.proofs.Bytes.{bytes-range, bytes-pairs}
 use Rattle.sheets.specs.Open.{sheetChecks}
 use Rattle.sheets.proofs.Accepted.{sheet-bytes, sheet-map, sheet-counts, sheet-outer}
-use Rattle.sheets.proofs.Opening.{drawings-are}
+use Rattle.sheets.proofs.Opening.{maps-are}
 use Rattle.questions.specs.declared.SolveAnswer.{SolveAnswer}
 use Rattle.questions.specs.declared.SolveAnswer.the-variants.{Can, Cannot, Refused}
 use Rattle.analyser.proofs.SheetPlane.{capacity-small}
 use Rattle.sessions.specs.Fit.{PairFits, Fit, Lowerable}
 use Rattle.parties.specs.Shared.{idle, offered, stale, committed, Shared, sharedDrawing, put, staled, flowsOf, loweredBy, letIn, cleared}
-use Rattle.parties.specs.Start.{Started}
+use Rattle.parties.specs.Start.{started}
 use Rattle.parties.specs.Calls.{Asks}
 use Rattle.parties.specs.Reached.{total}
+use Rattle.parties.proofs.Starting.{tails-read, rotations-read, limits-read}
 use Rattle.parties.proofs.Totals.{total-antisymmetric}
 use Rattle.parties.proofs.Taking.{edge-flow}
 
@@ -57,18 +57,16 @@ all-left : (s : List ℕ) (S : Shared) → S .left ≡ S .limits → atℤ (S .l
 unfolding total
 all-left s S e c d = +ℤ-idr (atℤ (S .left) d) ∙ ap (λ (l : List ℤ). atℤ l d) e ∙ ap (λ (f : ℕ → ℤ). f d) c
 
-pub start-kept : (s : List ℕ) (S : Shared) → NoneOf (sheetChecks s) → Started s S → Kept s S []
+pub start-kept : (s : List ℕ) → NoneOf (sheetChecks s) → Kept s (started s) []
 unfolding Above
-start-kept s S h t = record {
+start-kept s h = record {
   sheet = h;
-  map-is = ap (λ (𝓓 : Drawing). 𝓓 .map)
-      (drawings-are s (S .nodes) (S .edges) (S .outer) (S .tails) (S .rotations) (S .limits)
-      (t .nodes-are) (t .edges-are) (t .outer-is) (t .tails-are) (t .rotations-are) (t .limits-are));
-  outer-is = t .outer-is;
-  limits-are = t .limits-are;
-  untouched = λ e. t .all-left;
-  account = λ d l. all-left s S (t .all-left) (t .limits-are) d;
-  fresh = λ p e. absurd (omega (arith, t .both-idle p, e));
+  map-is = maps-are s (nodesOf s) (edgesOf s) (started s .tails) (started s .rotations) refl refl (tails-read s h) (rotations-read s h);
+  outer-is = refl;
+  limits-are = limits-read s h;
+  untouched = λ e. refl;
+  account = λ d l. all-left s (started s) refl (limits-read s h) d;
+  fresh = λ p e. absurd (omega (arith, e));
   above = tt;
 }
 

@@ -1,5 +1,5 @@
--- Two runs that show a party the same give it the same. Each run is turned into the party's view of it, which what it does not see leaves as it is and what it
--- sees changes in one way.
+-- Two runs from starts of one sheet that show a party the same give it the same. Each run is turned into the party's view of it, which what it does not see
+-- leaves as it is and what it sees changes in one way.
 use Prim.Native.Nat.{ℕ}
 use mathlib.Core.Path.{_≡_, refl, sym, _∙_, ap, ap₂, subst}
 use mathlib.Core.Logic.{_≢_, _⊎_, inl, inr}
@@ -13,6 +13,7 @@ use Rattle.refusals.specs.declared.Verdict.the-variants as verdict
 use Rattle.questions.specs.declared.SolveAnswer.{SolveAnswer}
 use Rattle.questions.specs.declared.SolveAnswer.the-variants.{Can, Cannot, Refused}
 use Rattle.parties.specs.Shared.{idle, committed, staled, Shared, put, loweredBy, flowsOf, letIn}
+use Rattle.parties.specs.Start.{Starts}
 use Rattle.parties.specs.Calls.{afterAsk, Asks, Commits}
 use Rattle.parties.specs.Statements.{TwoParties}
 use Rattle.parties.specs.Seen.{
@@ -42,6 +43,7 @@ use Rattle.parties.specs.Seen.{
   end,
   next,
 }
+use Rattle.parties.proofs.Starting.{one-start}
 use Rattle.parties.proofs.Views.{View, view, turned, other, ask-one, commit-one}
 
 -- ── a run as q sees it ──
@@ -158,8 +160,13 @@ run-views q {S} (next {T = T} {e = e} {es = es} s r) = go (does q s) (run-views 
 
 -- Two runs from one session, whatever value it is, that show the party q the same give it the same: verdicts, settings, sets with their words and sizes,
 -- refusals.
-pub isolated : (q : ℕ) (S U W : Shared) (es fs : List Event) → Run S es U → Run S fs W → allSeen q es ≡ allSeen q fs → gifts q es ≡ gifts q fs
-isolated q S U W es fs r s e = views-one q (run-views q r) (subst (λ zs. Views q (view q S) zs (gifts q fs)) (sym e) (run-views q s))
+isolated-from : (q : ℕ) (S U W : Shared) (es fs : List Event) → Run S es U → Run S fs W → allSeen q es ≡ allSeen q fs → gifts q es ≡ gifts q fs
+isolated-from q S U W es fs r s e = views-one q (run-views q r) (subst (λ zs. Views q (view q S) zs (gifts q fs)) (sym e) (run-views q s))
+
+-- And so do two from starts of one sheet, which leave one session.
+isolated : (s : List ℕ) (q : ℕ) (S T U W : Shared) (v w : Verdict) (es fs : List Event) → Starts s S v → Starts s T w → Run S es U → Run T fs W
+    → allSeen q es ≡ allSeen q fs → gifts q es ≡ gifts q fs
+isolated s q S T U W v w es fs a b r t = isolated-from q T U W es fs (subst (λ X. Run X es U) (one-start s S T v w a b .0) r) t
 
 pub two-parties : TwoParties
-two-parties = record { isolated = isolated }
+two-parties = record { one-start = one-start; isolated = isolated; isolated-from = isolated-from }

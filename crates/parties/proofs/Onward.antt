@@ -12,6 +12,7 @@ use Rattle.questions.specs.declared.SolveAnswer.{SolveAnswer}
 use Rattle.questions.specs.declared.SolveAnswer.the-variants.{Can, Cannot, Refused}
 use Rattle.sessions.specs.Ask as ask
 use Rattle.parties.specs.Shared.{idle, offered, committed, Shared, sharedDrawing, flowsOf, cleared}
+use Rattle.parties.specs.Start.{started}
 use Rattle.parties.specs.Calls.{askChecks, commitChecks, Asks}
 use Rattle.parties.specs.Seen.{Event, clears, Step, ask-step, commit-step, clear-step, Run, end, next}
 use Rattle.parties.specs.Reached.{booked, since, Reached, Barred}
@@ -77,10 +78,8 @@ run-kept (next st r) h = run-kept r (step-kept st h)
 pub reached-invariant : {s : List ℕ} {S : Shared} {fs : List (List ℤ)} → Reached s S fs → Invariant s S fs
 reached-invariant {s} {S} r =
     subst (Invariant s S) (sym (r .flows-are))
-    (run-kept (r .run) (record {
-      kept = start-kept s (r .first) (r .starts .0) (r .starts .1);
-      stands = idle-stands (r .first) (r .starts .1 .both-idle);
-    }))
+    (run-kept (r .run)
+    (subst (λ T. Invariant s T []) (sym (r .starts .1)) (record { kept = start-kept s (r .starts .0); stands = idle-stands (started s) (λ q. refl) })))
 
 -- a clear after a run: nothing is let in since
 and-clear : {S U : Shared} {es : List Event} → Run S es U → Run S (es ++ (clears ∷ [])) (cleared U)
@@ -94,7 +93,6 @@ since-clear fs (e ∷ es) = since-clear (booked fs e) es
 
 pub reached-clear : {s : List ℕ} {S : Shared} {fs : List (List ℤ)} → Reached s S fs → Reached s (cleared S) []
 reached-clear r = record {
-  old = r .old;
   first = r .first;
   starts = r .starts;
   events = r .events ++ (clears ∷ []);

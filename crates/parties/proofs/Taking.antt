@@ -1,4 +1,4 @@
--- Start, Commit and Clear: the ways out, and the session after it.
+-- Commit and Clear: the ways out, and the session after it.
 use Prim.Native.Nat.{ℕ, zero, suc, _*_, _/_, _%_, _≤_, _<_}
 use mathlib.Core.Path.{_≡_, refl, sym, _∙_, ap, ap₂, subst, fun-ext}
 use mathlib.Core.Logic.{_≢_, inl, inr}
@@ -19,7 +19,6 @@ use Rattle.arrays.proofs.Tabulate.{getD-tabulate}
 use Rattle.arrays.proofs.FillLoops.{filled-below, filled-length, filled-front}
 use Rattle.sessions.specs.Fit.{Lowerable}
 use Rattle.parties.specs.Shared.{offered, stale, committed, staled, Shared, loweredBy, letIn, cleared}
-use Rattle.parties.specs.Start.{emptied}
 use Rattle.parties.specs.Calls.{commitChecks}
 use Rattle.parties.specs.inner.Taken.{Taken}
 
@@ -83,10 +82,6 @@ after-commit S p left' standing' h g = ap₂ (at-standing S) h (fun-ext g)
 pub after-clear : (S : Shared) (left' : List ℤ) (standing' : ℕ → ℕ) → left' ≡ S .limits → ((q : ℕ) → standing' q ≡ 0)
     → at-standing S left' standing' ≡ cleared S
 after-clear S left' standing' h g = ap₂ (at-standing S) h (fun-ext g)
-
--- a start that was refused
-pub after-refusal : (S : Shared) (standing' : ℕ → ℕ) → ((q : ℕ) → standing' q ≡ 0) → at-standing (emptied S) (S .left) standing' ≡ emptied S
-after-refusal S standing' g = ap (at-standing (emptied S) (S .left)) (fun-ext g)
 
 -- ── the two parties' places ──
 -- an equation at both, and 0 past them

@@ -31,20 +31,18 @@ since fs (e ∷ es) = since (booked fs e) es
 -- S is reached from a start on the sheet s that was accepted, in whatever memory, by calls in any number and order; fs are the flows of both parties' accepted
 -- commits since the last clear
 pub record Reached (s : List ℕ) (S : Shared) (fs : List (List ℤ)) : Type 0 where
-  pub old : Shared
   pub first : Shared
-  pub starts : Starts s old first Passed
+  pub starts : Starts s first Passed
   pub events : List Event
   pub run : Run first events S
   pub flows-are : fs ≡ since [] events
 
 -- the same from one that was refused
 pub record Barred (s : List ℕ) (S : Shared) (fs : List (List ℤ)) : Type 0 where
-  pub old : Shared
   pub first : Shared
   pub number : ℕ
   pub place : ℕ
-  pub starts : Starts s old first (Refused number place)
+  pub starts : Starts s first (Refused number place)
   pub events : List Event
   pub run : Run first events S
   pub flows-are : fs ≡ since [] events

@@ -1,42 +1,45 @@
 -- Start. Document 02, Job 11: "A session starts from a sheet. A start refused by the sheet checks gives a session of no nodes and no channels, .. and there is
--- no offer."
+-- no offer."; Job 12: "If two runs from one start .." What a start leaves follows from the sheet alone: it says every place of the session.
 use Prim.Native.Nat.{ℕ}
 use mathlib.Core.Path.{_≡_}
 use mathlib.Core.List.{List}
+use lib.IntN.{pos}
 use Rattle.refusals.specs.Order.{NoneOf, FirstOf}
 use Rattle.refusals.specs.declared.Verdict.{Verdict}
 use Rattle.refusals.specs.declared.Verdict.the-variants.{Passed, Refused}
-use Rattle.arrays.specs.At.{at, atℤ}
-use Rattle.records.specs.Sheet.{nodesOf, edgesOf, outerOf, tailOf, rotationOf, capacityOf}
+use Rattle.maps.specs.Drawing.{Drawing}
+use Rattle.arrays.specs.Filled.{tabulate}
+use Rattle.records.specs.Sheet.{sheetDrawing}
 use Rattle.sheets.specs.Open.{sheetChecks}
-use Rattle.parties.specs.Shared.{idle, Shared}
+use Rattle.parties.specs.Shared.{idle, Shared, offersOf}
 
--- the sheet's drawing and its limits, all of them left; neither party has an offer or has committed
-pub record Started (s : List ℕ) (S : Shared) : Type 0 where
-  pub nodes-are : S .nodes ≡ nodesOf s
-  pub edges-are : S .edges ≡ edgesOf s
-  pub outer-is : S .outer ≡ outerOf s
-  pub tails-are : at (S .tails) ≡ tailOf s
-  pub rotations-are : at (S .rotations) ≡ rotationOf s
-  pub limits-are : atℤ (S .limits) ≡ capacityOf s
-  pub all-left : S .left ≡ S .limits
-  pub both-idle : (q : ℕ) → S .standing q ≡ idle
-
--- no nodes, no edges, no offer; the arrays, of which nothing is read then, are as they were
-abbrev pub emptied : Shared → Shared
-emptied S = record {
-  nodes = 0;
-  edges = 0;
-  outer = 0;
-  tails = S .tails;
-  rotations = S .rotations;
-  limits = S .limits;
-  left = S .left;
+-- a session begun on a drawing: its numbers, and all of its limits left, in arrays of 1,024; neither party has an offer or has committed, and the arrays of the
+-- offers, of 512, hold zeros
+abbrev pub begunOn : Drawing → Shared
+begunOn 𝓓 = record {
+  nodes = 𝓓 .map .nodes;
+  edges = 𝓓 .map .edges;
+  outer = 𝓓 .outer;
+  tails = tabulate 1024 (𝓓 .map .tail);
+  rotations = tabulate 1024 (𝓓 .map .rotation);
+  limits = tabulate 1024 (𝓓 .capacity);
+  left = tabulate 1024 (𝓓 .capacity);
   standing = λ q. idle;
-  offer = S .offer;
+  offer = offersOf (tabulate 512 (λ e. pos 0)) (tabulate 512 (λ e. pos 0));
 }
 
--- a start from the bytes s in memory that held S, which leaves S'
-abbrev pub Starts : List ℕ → Shared → Shared → Verdict → Type 0
-Starts s S S' Passed = NoneOf (sheetChecks s) × Started s S'
-Starts s S S' (Refused k p) = FirstOf (sheetChecks s) k p × (S' ≡ emptied S)
+-- on a sheet's drawing, which has zeros past its last dart
+abbrev pub started : List ℕ → Shared
+started s = begunOn (sheetDrawing s)
+
+-- no nodes, no edges, and zeros everywhere
+abbrev pub noDrawing : Drawing
+noDrawing = record { map = record { nodes = 0; edges = 0; tail = λ d. 0; rotation = λ d. 0 }; capacity = λ d. pos 0; outer = 0 }
+
+abbrev pub emptied : Shared
+emptied = begunOn noDrawing
+
+-- a start from the bytes s, in whatever memory, leaves S'
+abbrev pub Starts : List ℕ → Shared → Verdict → Type 0
+Starts s S' Passed = NoneOf (sheetChecks s) × (S' ≡ started s)
+Starts s S' (Refused k p) = FirstOf (sheetChecks s) k p × (S' ≡ emptied)

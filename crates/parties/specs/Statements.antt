@@ -1,6 +1,6 @@
 -- What document 02, Jobs 11 and 12, says of sessions, as records: a field for each statement, its words above it. All that a field knows of a call is its
 -- definition, `Starts`, `Asks`, `Commits` or `cleared`. `Sessions` is of those begun by a start and passed on only through the calls (Reached.antt),
--- `AnyValue` of every value, `TwoParties` of every two runs. The proofs are in proofs/Statements.antt and proofs/Isolation.antt.
+-- `AnyValue` of every value, `TwoParties` of every two runs from starts of one sheet. The proofs are in proofs/Statements.antt and proofs/Isolation.antt.
 use Prim.Native.Nat.{ℕ, _*_, _≤_, _<_}
 use mathlib.Core.Path.{_≡_}
 use mathlib.Core.Logic.{_≢_, _↔_}
@@ -24,6 +24,7 @@ use Rattle.questions.specs.declared.SolveAnswer.the-variants.{Can, Cannot, Refu
 use Rattle.analyser.specs.Solve.{Solves}
 use Rattle.sessions.specs.Fit.{Fit}
 use Rattle.parties.specs.Shared.{idle, offered, stale, committed, Shared, sharedDrawing, cleared}
+use Rattle.parties.specs.Start.{Starts}
 use Rattle.parties.specs.Calls.{Asks, Commits}
 use Rattle.parties.specs.Seen.{Event, clears, Step, Run, allSeen, gifts}
 use Rattle.parties.specs.Reached.{total, Reached, Barred}
@@ -148,8 +149,13 @@ pub record AnyValue : Type 0 where
       → (Fit (sharedDrawing S) → ⊥) → MayAsk S p → Asks S p source sink value flows flows' set set' S' answer → answer ≡ Refused 13 0
 
 -- ── Job 12, isolation: "If two runs from one start differ only in one party's asks and refused commits, and have the same accepted commits with the same flows
--- and the same clears, in the same order, between the same calls of the other party, the other party gets the same answers." From any first value; q is the
--- other party, and what it sees leaves out what the runs may differ in ──
+-- and the same clears, in the same order, between the same calls of the other party, the other party gets the same answers." q is the other party, and what it
+-- sees leaves out what the runs may differ in ──
 pub record TwoParties : Type 0 where
-  -- the same answers: verdicts, settings, sets with their words and sizes, refusals
-  pub isolated : (q : ℕ) (S U W : Shared) (es fs : List Event) → Run S es U → Run S fs W → allSeen q es ≡ allSeen q fs → gifts q es ≡ gifts q fs
+  -- "one start": a sheet decides the verdict of a start and the session that it leaves, in every place, whatever the memory held
+  pub one-start : (s : List ℕ) (S T : Shared) (v w : Verdict) → Starts s S v → Starts s T w → (S ≡ T) × (v ≡ w)
+  -- two runs, each from a start of the same sheet, accepted or refused. The same answers: verdicts, settings, sets with their words and sizes, refusals
+  pub isolated : (s : List ℕ) (q : ℕ) (S T U W : Shared) (v w : Verdict) (es fs : List Event) → Starts s S v → Starts s T w → Run S es U → Run T fs W
+      → allSeen q es ≡ allSeen q fs → gifts q es ≡ gifts q fs
+  -- from any one value too, also one that no start leaves
+  pub isolated-from : (q : ℕ) (S U W : Shared) (es fs : List Event) → Run S es U → Run S fs W → allSeen q es ≡ allSeen q fs → gifts q es ≡ gifts q fs

@@ -6,34 +6,42 @@ ghost use mathlib.Core.Bool.{cond};
 ghost use Prim.Native.Nat.{ℕ, _<_, _≤_};
 ghost use lib.Dec.{eqb};
 ghost use lib.ListN.{length};
-ghost use lib.IntN.{pos};
 ghost use Rattle.arrays.specs.At.{at, atℤ};
 ghost use Rattle.arrays.specs.Filled.{filled};
 ghost use Rattle.parties.specs.Shared.{committed, staled, offersOf, sharedOf, cleared};
-ghost use Rattle.parties.specs.Start.{Starts};
+ghost use Rattle.parties.specs.Start.{emptied, Starts};
 ghost use Rattle.parties.specs.Calls.{Asks, Commits};
 ghost use Rattle.parties.specs.inner.Taken.{Taken};
 use arrays::wide;
 use questions::SolveAnswer;
 use refusals::Verdict;
 
-// Zeros everywhere.
-fn erase(to: &mut [u16])
-    requires { ⌜ length (now to) ≡ 1024 ⌝ }
-    ensures { λ _. ⌜ (length (now (to .exit)) ≡ 1024) × ((d : ℕ) → at (now (to .exit)) d ≡ 0) ⌝ }
+// Zeros everywhere: no nodes, no edges, no offer, and nothing of what was there.
+fn erase(
+    nodes: &mut u16,
+    edges: &mut u16,
+    outer: &mut u16,
+    tails: &mut [u16; 1024],
+    rotations: &mut [u16; 1024],
+    limits: &mut [i32; 1024],
+    left: &mut [i32; 1024],
+    standing: &mut [u8; 2],
+    first: &mut [i32; 512],
+    second: &mut [i32; 512],
+)
+    ensures { λ _. ⌜ sharedOf (now (nodes .exit)) (now (edges .exit)) (now (outer .exit)) (now (tails .exit)) (now (rotations .exit)) (now (limits .exit))
+        (now (left .exit)) (now (standing .exit)) (now (first .exit)) (now (second .exit)) ≡ emptied ⌝ }
 {
-    for d in 0..1024usize {
-        to[d] = 0;
-    }
-}
-
-fn erase_limits(to: &mut [i32])
-    requires { ⌜ length (now to) ≡ 1024 ⌝ }
-    ensures { λ _. ⌜ (length (now (to .exit)) ≡ 1024) × ((d : ℕ) → atℤ (now (to .exit)) d ≡ pos 0) ⌝ }
-{
-    for d in 0..1024usize {
-        to[d] = 0;
-    }
+    *nodes = 0;
+    *edges = 0;
+    *outer = 0;
+    *tails = [0u16; 1024];
+    *rotations = [0u16; 1024];
+    *limits = [0i32; 1024];
+    *left = [0i32; 1024];
+    *standing = [0u8; 2];
+    *first = [0i32; 512];
+    *second = [0i32; 512];
 }
 
 // All limits of the sheet are left.
@@ -55,8 +63,8 @@ fn stand_idle(standing: &mut [u8])
     standing[1] = 0;
 }
 
-// Start: the sheet's drawing, its limits, all of them left, and no offer. Where the sheet is refused, a session of no nodes and no edges, with no offer; the
-// other arrays are then as they were. The arrays of the offers are named by the contract only.
+// Start: the sheet's drawing, its limits, all of them left, and no offer; where the sheet is refused, a session of no nodes and no edges, with no offer. Every
+// place of the session is written: nothing is left of what the memory held.
 pub fn start(
     sheet: &[u8],
     nodes: &mut u16,
@@ -67,31 +75,34 @@ pub fn start(
     limits: &mut [i32; 1024],
     left: &mut [i32; 1024],
     standing: &mut [u8; 2],
-    first: &[i32; 512],
-    second: &[i32; 512],
+    first: &mut [i32; 512],
+    second: &mut [i32; 512],
 ) -> Verdict
     ensures { λ r. ⌜ Starts (now (sheet .entry))
-        (sharedOf (now (nodes .entry)) (now (edges .entry)) (now (outer .entry)) (now (tails .entry)) (now (rotations .entry)) (now (limits .entry))
-        (now (left .entry)) (now (standing .entry)) (now (first .entry)) (now (second .entry)))
         (sharedOf (now (nodes .exit)) (now (edges .exit)) (now (outer .exit)) (now (tails .exit)) (now (rotations .exit)) (now (limits .exit))
-        (now (left .exit)) (now (standing .exit)) (now (first .entry)) (now (second .entry))) r ⌝ }
+        (now (left .exit)) (now (standing .exit)) (now (first .exit)) (now (second .exit))) r ⌝ }
 {
     let mut lefts = [0u16; 1024];
     let opened = sheets::open(sheet, &mut lefts);
     let verdict = opened.verdict;
-    stand_idle(standing);
+    erase(
+        nodes,
+        edges,
+        outer,
+        tails,
+        rotations,
+        limits,
+        left,
+        standing,
+        first,
+        second,
+    );
     if let Verdict::Refused(k, p) = verdict {
-        *nodes = 0;
-        *edges = 0;
-        *outer = 0;
         return Verdict::Refused(k, p);
     }
     *nodes = arrays::narrow(opened.nodes);
     *edges = arrays::narrow(opened.edges);
     *outer = arrays::narrow(opened.outer);
-    erase(tails);
-    erase(rotations);
-    erase_limits(limits);
     sheets::fill_tails(sheet, opened.edges, tails);
     sheets::fill_rotations(sheet, opened.edges, rotations);
     sheets::fill_capacities(sheet, opened.edges, limits);

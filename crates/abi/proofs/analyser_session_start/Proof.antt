@@ -9,13 +9,7 @@ use Rattle.abi.proofs.analyser_session_start.Statement.{statement}
 use Rattle.abi.proofs.analyser_session_start.Tie as tie
 
 abbrev begun : tie.After-start → tie.Start
-begun c = c .before .before .before .before .before .before .before .before .before .before
-
-abbrev came : tie.After-start → Shared
-came c =
-    let a = begun c .args in
-    sharedOf (a .nodes .now) (a .edges .now) (a .outer .now) (a .tails .now) (a .rotations .now) (a .limits .now) (a .left .now) (a .standing .now)
-    (a .first .now) (a .second .now)
+begun c = c .before .before .before .before .before .before .before .before .before .before .before .before
 
 abbrev left' : tie.After-start → Shared
 left' c =
@@ -28,11 +22,11 @@ left' c =
     (c .start .last .1 .1 .1 .1 .1 .1 .0)
     (c .start .last .1 .1 .1 .1 .1 .1 .1 .0)
     (c .start .last .1 .1 .1 .1 .1 .1 .1 .1 .0)
-    (begun c .args .first .now)
-    (begun c .args .second .now)
+    (c .start .last .1 .1 .1 .1 .1 .1 .1 .1 .1 .0)
+    (c .start .last .1 .1 .1 .1 .1 .1 .1 .1 .1 .1 .0)
 
-started : (c : tie.After-start) (answer : Verdict) → c .start .result ≡ answer → Starts (begun c .args .sheet .now) (came c) (left' c) answer
-started c answer e = subst (Starts (begun c .args .sheet .now) (came c) (left' c)) e (c .start .ensures)
+started : (c : tie.After-start) (answer : Verdict) → c .start .result ≡ answer → Starts (begun c .args .sheet .now) (left' c) answer
+started c answer e = subst (Starts (begun c .args .sheet .now) (left' c)) e (c .start .ensures)
 
 returns : tie.Need-returns
 returns c = (Passed, started (c .before .before) Passed (c .enum-told .given .1), (refl, refl))

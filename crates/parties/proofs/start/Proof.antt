@@ -1,43 +1,42 @@
--- A refused sheet leaves a session of no nodes; of an accepted one the arrays are filled, and all of its limits are left.
-use mathlib.Core.Path.{_∙_}
+-- All is zero at first, and stays so where the sheet is refused; of an accepted one the arrays are filled, and all of its limits are left.
+use mathlib.Core.Path.{refl, _∙_, ap}
+use mathlib.Core.List.{List}
+use Prim.Native.Nat.{ℕ}
 use native.Mathlib.Omega.{arith}
+use lib.IntN.{pos}
 use Rattle.refusals.specs.Order.{NoneOf}
 use Rattle.sheets.specs.Open.{sheetChecks, Numbers}
 use Rattle.sheets.proofs.Accepted.{sheet-bytes, sheet-counts, sheet-outer}
 use Rattle.sheets.proofs.Opening.{opens-passed, opens-first}
 use borrow.Author.Needs.{needs}
-use Rattle.parties.specs.Shared.{Shared, sharedOf}
-use Rattle.parties.proofs.Taking.{after-refusal}
+use Rattle.parties.specs.Shared.{Shared}
+use Rattle.parties.proofs.Starting.{zeros-read, after-start}
 use Rattle.parties.proofs.start.Statement.{statement}
 use Rattle.parties.proofs.start.Tie as tie
 
-abbrev session : tie.Start → Shared
-session s =
-    let a = s .args in
-    sharedOf (a .nodes .now) (a .edges .now) (a .outer .now) (a .tails .now) (a .rotations .now) (a .limits .now) (a .left .now) (a .standing .now)
-    (a .first .now) (a .second .now)
+-- ── the sheet was opened ──
+abbrev opening : tie.After-erase → tie.After-open
+opening e = e .before .before .before .before .before .before .before .before .before .before .before
 
-stand-idle-requires : tie.Need-stand-idle-requires
-stand-idle-requires c κs = c .stand-idle-arg .given .0 .1
+abbrev sheet : tie.After-open → List ℕ
+sheet o = o .before .before .before .args .sheet .now
 
+abbrev erased : tie.After-enum-told → tie.After-erase
+erased t = t .before .before
+
+-- it was accepted
+accepted : (t : tie.After-enum-told) → NoneOf (sheetChecks (sheet (opening (erased t))))
+    × Numbers (sheet (opening (erased t))) (opening (erased t) .«open» .last .1 .0) (opening (erased t) .«open» .result)
+accepted t = let o = opening (erased t) in opens-passed (sheet o) _ (o .«open» .result) (t .enum-told .given .1) (o .«open» .ensures .1)
+
+-- ── it is refused ──
 returns : tie.Need-returns
 returns c =
-    let i = c .before .before .before in
-    let o = i .before .before in
-    let s = o .before .before .before in (
-      opens-first (s .args .sheet .now) _ (o .«open» .result) (c .before .verdict .given .1) (o .«open» .ensures .1),
-      after-refusal (session s) _ (i .stand-idle .ensures .1),
-    )
+    let e = c .before .before .before in
+    let o = opening e in
+    (opens-first (sheet o) _ (o .«open» .result) (c .before .verdict .given .1) (o .«open» .ensures .1), e .erase .ensures)
 
 -- ── it is accepted ──
-abbrev opened : tie.After-enum-told → tie.After-open
-opened c = c .before .before .before .before
-
-accepted : (c : tie.After-enum-told) → NoneOf (sheetChecks (opened c .before .before .before .args .sheet .now))
-    × Numbers (opened c .before .before .before .args .sheet .now) (opened c .«open» .last .1 .0) (opened c .«open» .result)
-accepted c =
-    opens-passed (opened c .before .before .before .args .sheet .now) _ (opened c .«open» .result) (c .enum-told .given .1) (opened c .«open» .ensures .1)
-
 narrow-requires : tie.Need-narrow-requires
 narrow-requires c κs = let a = accepted c in omega (arith, a .1 .nodes-are, sheet-counts _ (a .0) .1)
 
@@ -50,34 +49,26 @@ narrow-requires-3 c κs = let a = accepted (c .before .before) in omega (arith, 
 abbrev told : tie.After-narrow3 → tie.After-enum-told
 told c = c .before .before .before
 
-erase-requires : tie.Need-erase-requires
-erase-requires c κs = c .erase-arg .given .0 .1
-
-erase-requires-2 : tie.Need-erase-requires-2
-erase-requires-2 c κs = c .erase-arg2 .given .0 .1
-
-erase-limits-requires : tie.Need-erase-limits-requires
-erase-limits-requires c κs = c .erase-limits-arg .given .0 .1
-
 fill-tails-requires : tie.Need-fill-tails-requires
 fill-tails-requires c κs =
-    let a = accepted (told (c .before .before .before .before .before .before .before)) in
-    let e = c .before .before .before .before .before in
-    (sheet-bytes _ (a .0), a .1 .edges-are, e .erase .ensures .0, e .erase .ensures .1)
+    let t = told (c .before) in
+    let a = accepted t in
+    let z = zeros-read 0 1024 _ (ap (λ (S : Shared). S .tails) (erased t .erase .ensures)) in
+    (sheet-bytes _ (a .0), a .1 .edges-are, z .0, z .1)
 
 fill-rotations-requires : tie.Need-fill-rotations-requires
 fill-rotations-requires c κs =
-    let t = c .before .before in
-    let a = accepted (told (t .before .before .before .before .before .before .before)) in
-    let e = t .before .before .before in
-    (sheet-bytes _ (a .0), a .1 .edges-are, e .erase2 .ensures .0, e .erase2 .ensures .1)
+    let t = told (c .before .before .before) in
+    let a = accepted t in
+    let z = zeros-read 0 1024 _ (ap (λ (S : Shared). S .rotations) (erased t .erase .ensures)) in
+    (sheet-bytes _ (a .0), a .1 .edges-are, z .0, z .1)
 
 fill-capacities-requires : tie.Need-fill-capacities-requires
 fill-capacities-requires c κs =
-    let t = c .before .before .before .before in
-    let a = accepted (told (t .before .before .before .before .before .before .before)) in
-    let e = t .before in
-    (sheet-bytes _ (a .0), a .1 .edges-are, e .erase-limits .ensures .0, e .erase-limits .ensures .1)
+    let t = told (c .before .before .before .before .before) in
+    let a = accepted t in
+    let z = zeros-read (pos 0) 1024 _ (ap (λ (S : Shared). S .limits) (erased t .erase .ensures)) in
+    (sheet-bytes _ (a .0), a .1 .edges-are, z .0, z .1)
 
 restore-requires : tie.Need-restore-requires
 restore-requires c κs = (c .before .restore-arg2 .given .0, c .restore-arg3 .given .0 .1)
@@ -85,20 +76,15 @@ restore-requires c κs = (c .before .restore-arg2 .given .0, c .restore-arg3 .gi
 returns-2 : tie.Need-returns-2
 returns-2 c =
     let p = c .before .before .before .before in
-    let f = p .before .before .before .before in
-    let n = f .before .before .before .before .before .before .before .before in
-    let a = accepted (told n) in (
+    let r = p .before .before in
+    let f = r .before .before in
+    let n = f .before .before in
+    let a = accepted (told n) in
+    let nodes-are = n .before .before .narrow .ensures ∙ a .1 .nodes-are in
+    let edges-are = n .before .narrow2 .ensures ∙ a .1 .edges-are in (
       a .0,
-      record {
-        nodes-are = n .before .before .narrow .ensures ∙ a .1 .nodes-are;
-        edges-are = n .before .narrow2 .ensures ∙ a .1 .edges-are;
-        outer-is = n .narrow3 .ensures ∙ a .1 .outer-is;
-        tails-are = f .fill-tails .ensures .1;
-        rotations-are = p .before .before .fill-rotations .ensures .1;
-        limits-are = p .fill-capacities .ensures .1;
-        all-left = c .restore .ensures;
-        both-idle = told n .before .before .stand-idle .ensures .1;
-      },
+      after-start _ _ _ (erased (told n) .erase .ensures) nodes-are edges-are (n .narrow3 .ensures ∙ a .1 .outer-is) (f .fill-tails .ensures)
+          (r .fill-rotations .ensures) (p .fill-capacities .ensures) (c .restore .ensures) refl refl,
     )
 
 pub start-spec : {M : Type 1} → statement M
@@ -106,16 +92,13 @@ start-spec =
     tie.close
     (tie.spec
     (λ c κs. search needs)
-    stand-idle-requires
+    (λ c κs. search needs)
     (λ c. search needs)
     returns
     (λ c. search needs)
     narrow-requires
     narrow-requires-2
     narrow-requires-3
-    erase-requires
-    erase-requires-2
-    erase-limits-requires
     fill-tails-requires
     fill-rotations-requires
     fill-capacities-requires
