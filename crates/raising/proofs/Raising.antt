@@ -1,9 +1,9 @@
 -- The ways out as verdicts of the whole list of checks; what an accepted question is known of; what was found, of the question.
 use mathlib.Core.Path.{_≡_, sym, subst}
 use mathlib.Core.List.{List, _++_}
-use Prim.Native.Nat.{ℕ, _*_, _≤_, _<_}
+use Prim.Native.Nat.{ℕ, _*_, _-_, _≤_, _<_}
 use native.Mathlib.Omega.{arith}
-use lib.ListN.{length}
+use lib.ListN.{length, take, drop}
 use lib.IntN.{ℤ}
 use mir.Syntax.{w32}
 use mir.Val.{toZ, ofZ}
@@ -13,12 +13,13 @@ use Rattle.refusals.specs.Order.{Check, NoneOf, FirstOf}
 use Rattle.refusals.proofs.Order.{none-append, append-none, first-left, first-right}
 use Rattle.signed.proofs.Limits.{same-bits}
 use Rattle.maps.specs.Drawing.{Drawing}
+use Rattle.balance.proofs.Parts.{part-kept, part-filled}
 use Rattle.questions.specs.Question.{endChecks, valueChecks, roomChecks}
 use Rattle.raising.specs.Raise.{edgeChecks, limitChecks, RaiseFound}
 use Rattle.raising.specs.inner.Sought.{Sought}
 use Rattle.raising.specs.declared.RaiseAnswer.the-variants.{Limit}
 use Rattle.raising.specs.declared.Found.{Found}
-use Rattle.raising.specs.declared.Found.the-variants.{At}
+use Rattle.raising.specs.declared.Found.the-variants.{At, Nowhere}
 
 -- ── 25 ──
 pub edge-in : (edges edge : ℕ) → NoneOf (edgeChecks edges edge) → edge < edges
@@ -78,11 +79,17 @@ module _ (nodes edges source sink : ℕ) (value : ℤ) (edge : ℕ) (flows : Lis
       let c = append-none channel room (b .1) in
       record { ends-two = a .0; value-inside = b .0; is-edge = c .0; has-room = c .1 }
 
--- ── what was found, of the question: its ends and its edge come at the width of an index, its value as the number of its bits ──
-pub sought-for : {a b n source sink edge : ℕ} {v value : ℤ} → a ≡ source → b ≡ sink → v ≡ value → n ≡ edge → (𝓓 : Drawing)
-    (before flows : List ℤ) (inside : List ℕ) {r answer : Found} → r ≡ answer
-    → Sought 𝓓 a b v n before flows inside r → Sought 𝓓 source sink value edge before flows inside answer
-sought-for p q e m 𝓓 before flows inside same h = rw (← p, ← q, ← e, ← m, ← same) h
+-- ── what was found: the flows are lent from the front of a slice, and what was found with that part is found with the slice ──
+pub sought-back : (𝓓 : Drawing) (source sink : ℕ) (value : ℤ) (edge : ℕ) (flows y : List ℤ) (inside : List ℕ) {r answer : Found} → r ≡ answer
+    → Sought 𝓓 source sink value edge (take (𝓓 .map .edges - 0) flows) y inside r
+    → Sought 𝓓 source sink value edge flows (y ++ drop (𝓓 .map .edges - 0) flows) inside answer
+sought-back 𝓓 source sink value edge flows y inside {r} {answer} same h =
+    go answer (subst (Sought 𝓓 source sink value edge (take (𝓓 .map .edges - 0) flows) y inside) same h)
+  where
+    go : (a : Found) → Sought 𝓓 source sink value edge (take (𝓓 .map .edges - 0) flows) y inside a
+        → Sought 𝓓 source sink value edge flows (y ++ drop (𝓓 .map .edges - 0) flows) inside a
+    go (At v) h = (h .0, h .1, (h .2 .0, h .2 .1, part-filled (𝓓 .map .edges) flows (h .2 .0) y (h .2 .2)), h .3)
+    go Nowhere h = (part-kept (𝓓 .map .edges) flows y (h .0), h .1)
 
 -- the capacity found, from the number of its bits
 pub told-limit : (𝓓 : Drawing) (source sink : ℕ) (value : ℤ) (edge : ℕ) (before flows : List ℤ) (inside : List ℕ) (v : ℤ)

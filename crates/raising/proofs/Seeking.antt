@@ -123,10 +123,10 @@ module _ (𝓓 : Drawing) (s t : ℕ) (value : ℤ) (edge : ℕ) (flows : List �
       least-serves between flows' inside false e d = absurd (excludes (raised (𝓓 .capacity) edge v) (flagged inside) (d .1) x carried)
 
 -- ── the same of what is equal: of the capacities that an array holds, of numbers held as bits, of slices as they were ──
-pub decided-as : (𝓜 : Map) (outer : ℕ) {c c' : ℕ → ℤ} → c ≡ c' → (s t : ℕ) {v value : ℤ} → v ≡ value → (flows flows' : List ℤ) (inside : List ℕ)
-    {r a : Bool} → r ≡ a → Decided 𝓜 outer c s t v flows flows' inside r → Decided 𝓜 outer c' s t value flows flows' inside a
-decided-as 𝓜 outer p s t e flows flows' inside q h = rw (← p, ← e, ← q) h
+pub decided-as : (𝓜 : Map) (outer : ℕ) {c c' : ℕ → ℤ} → c ≡ c' → (s t : ℕ) (value : ℤ) (flows flows' : List ℤ) (inside : List ℕ)
+    {r a : Bool} → r ≡ a → Decided 𝓜 outer c s t value flows flows' inside r → Decided 𝓜 outer c' s t value flows flows' inside a
+decided-as 𝓜 outer p s t value flows flows' inside q h = rw (← p, ← q) h
 
-pub sought-as : (𝓓 : Drawing) (s t : ℕ) {v value : ℤ} → v ≡ value → (edge : ℕ) {old before : List ℤ} → old ≡ before → (flows : List ℤ) (inside : List ℕ)
-    {r a : Found} → r ≡ a → Sought 𝓓 s t v edge old flows inside r → Sought 𝓓 s t value edge before flows inside a
-sought-as 𝓓 s t e edge p flows inside q h = rw (← e, ← p, ← q) h
+pub sought-as : (𝓓 : Drawing) (s t : ℕ) (value : ℤ) (edge : ℕ) {old before : List ℤ} → old ≡ before → (flows : List ℤ) (inside : List ℕ)
+    {r a : Found} → r ≡ a → Sought 𝓓 s t value edge old flows inside r → Sought 𝓓 s t value edge before flows inside a
+sought-as 𝓓 s t value edge p flows inside q h = rw (← p, ← q) h

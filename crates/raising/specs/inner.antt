@@ -1,2 +1,3 @@
 -- What loops and inner functions are proved with: no operation's contract and no printed statement rests on these.
 pub mod Sought
+pub mod Lifted

@@ -4,17 +4,16 @@
 //
 // The drawing is open and sound, and held in lent arrays. Document 02, Job 7.
 ghost use mathlib.Core.Path.{_≡_};
-ghost use Prim.Native.Nat.{ℕ, _*_, _<_, _≤_};
+ghost use Prim.Native.Nat.{_*_};
 ghost use lib.ListN.{length};
-ghost use Rattle.integers.specs.inner.Limited.{Limited};
-ghost use Rattle.grouping.specs.inner.Walked.{Walked};
-ghost use Rattle.arrays.specs.At.{at, atℤ};
-ghost use Rattle.arrays.specs.inner.Drawn.{Drawn};
-ghost use Rattle.arrays.specs.Maps.{mapOf, drawingOf};
-ghost use Rattle.arrays.specs.inner.Sizes.{mostOnSheet, mostValue};
-ghost use Rattle.solver.specs.inner.Ends.{Ends};
+ghost use Rattle.arrays.specs.At.{atℤ};
+ghost use Rattle.arrays.specs.Maps.{drawingOf};
+ghost use Rattle.questions.specs.inner.Lent.{OpenSheet};
 ghost use Rattle.raising.specs.Raise.{limitChecks, Fails, RaiseFound};
 ghost use Rattle.raising.specs.inner.Sought.{Sought};
+ghost use Rattle.raising.specs.inner.Lifted.{Liftable};
+use arrays::Demand;
+use arrays::Sizes;
 use refusals::Verdict;
 
 // What is answered: the forward capacity, that none serves, or the number of a refusal and its place.
@@ -41,28 +40,19 @@ fn least_limit<'a>(
     from: &'a [u16; 1024],
     grouped: &'a [u16; 1024],
     starts: &'a [u16; 1024],
-    ends: &'a [u16; 1024],
-    nodes: usize,
-    edges: usize,
-    faces: usize,
-    trees: usize,
-    outer: usize,
-    source: usize,
-    sink: usize,
-    value: i32,
+    sizes: Sizes,
+    demand: Demand,
     edge: usize,
     flows: &mut [i32],
     inside: &mut [u8; 1024],
 ) -> Found
-    requires { ⌜ (length (now capacities) ≡ 1024) × (length (now inside) ≡ 1024) × (edges ≤ length (now flows)) × (edge < edges)
-        × Drawn (mapOf nodes edges (now tails) (now rotations)) (at (now lefts)) faces outer (atℤ (now capacities))
-        × Ends (mapOf nodes edges (now tails) (now rotations)) source sink × Limited mostValue value
-        × Limited mostOnSheet (atℤ (now capacities) (2 * edge))
-        × Walked (2 * edges) faces outer trees (at (now rotations)) (now lefts) (now order) (now from) (now grouped) (now starts) (now ends)
-        × Fails (drawingOf nodes edges outer (now tails) (now rotations) (now capacities)) source sink value edge (atℤ (now capacities) (2 * edge)) ⌝ }
+    requires { ⌜ Liftable sizes (demand .source) (demand .sink) (demand .value) edge (now tails) (now rotations) (now lefts) (now capacities)
+        (now order) (now from) (now grouped) (now starts) (now flows) (now inside)
+        × Fails (drawingOf (sizes .nodes) (sizes .edges) (sizes .outer) (now tails) (now rotations) (now capacities)) (demand .source) (demand .sink)
+        (demand .value) edge (atℤ (now capacities) (2 * edge)) ⌝ }
     ensures { λ r. ⌜ (length (now (inside .exit)) ≡ 1024)
-        × Sought (drawingOf nodes edges outer (now (tails .entry)) (now (rotations .entry)) (now (capacities .entry))) source sink value edge
-        (now (flows .entry)) (now (flows .exit)) (now (inside .exit)) r ⌝ }
+        × Sought (drawingOf (sizes .nodes) (sizes .edges) (sizes .outer) (now (tails .entry)) (now (rotations .entry)) (now (capacities .entry)))
+        (demand .source) (demand .sink) (demand .value) edge (now (flows .entry)) (now (flows .exit)) (now (inside .exit)) r ⌝ }
 {
     let dart = 2 * edge;
     capacities[dart] = 1000000;
@@ -75,16 +65,9 @@ fn least_limit<'a>(
         from,
         grouped,
         starts,
-        ends,
-        nodes,
-        edges,
-        faces,
-        trees,
-        outer,
+        sizes,
         dart,
-        source,
-        sink,
-        value,
+        demand,
         &mut *flows,
         &mut *inside,
     ) {
@@ -99,16 +82,9 @@ fn least_limit<'a>(
             from,
             grouped,
             starts,
-            ends,
-            nodes,
-            edges,
-            faces,
-            trees,
-            outer,
-            outer,
-            source,
-            sink,
-            value,
+            sizes,
+            sizes.outer,
+            demand,
             flows,
             inside,
         );
@@ -127,27 +103,17 @@ fn find_limit<'a>(
     from: &'a [u16; 1024],
     grouped: &'a [u16; 1024],
     starts: &'a [u16; 1024],
-    ends: &'a [u16; 1024],
-    nodes: usize,
-    edges: usize,
-    faces: usize,
-    trees: usize,
-    outer: usize,
-    source: usize,
-    sink: usize,
-    value: i32,
+    sizes: Sizes,
+    demand: Demand,
     edge: usize,
     flows: &mut [i32],
     inside: &mut [u8; 1024],
 ) -> Found
-    requires { ⌜ (length (now capacities) ≡ 1024) × (length (now inside) ≡ 1024) × (edges ≤ length (now flows)) × (edge < edges)
-        × Drawn (mapOf nodes edges (now tails) (now rotations)) (at (now lefts)) faces outer (atℤ (now capacities))
-        × Ends (mapOf nodes edges (now tails) (now rotations)) source sink × Limited mostValue value
-        × Limited mostOnSheet (atℤ (now capacities) (2 * edge))
-        × Walked (2 * edges) faces outer trees (at (now rotations)) (now lefts) (now order) (now from) (now grouped) (now starts) (now ends) ⌝ }
+    requires { ⌜ Liftable sizes (demand .source) (demand .sink) (demand .value) edge (now tails) (now rotations) (now lefts) (now capacities)
+        (now order) (now from) (now grouped) (now starts) (now flows) (now inside) ⌝ }
     ensures { λ r. ⌜ (length (now (inside .exit)) ≡ 1024)
-        × Sought (drawingOf nodes edges outer (now (tails .entry)) (now (rotations .entry)) (now (capacities .entry))) source sink value edge
-        (now (flows .entry)) (now (flows .exit)) (now (inside .exit)) r ⌝ }
+        × Sought (drawingOf (sizes .nodes) (sizes .edges) (sizes .outer) (now (tails .entry)) (now (rotations .entry)) (now (capacities .entry)))
+        (demand .source) (demand .sink) (demand .value) edge (now (flows .entry)) (now (flows .exit)) (now (inside .exit)) r ⌝ }
 {
     if solver::decide_from(
         tails,
@@ -158,16 +124,9 @@ fn find_limit<'a>(
         from,
         grouped,
         starts,
-        ends,
-        nodes,
-        edges,
-        faces,
-        trees,
-        outer,
-        outer,
-        source,
-        sink,
-        value,
+        sizes,
+        sizes.outer,
+        demand,
         &mut *flows,
         &mut *inside,
     ) {
@@ -182,15 +141,8 @@ fn find_limit<'a>(
         from,
         grouped,
         starts,
-        ends,
-        nodes,
-        edges,
-        faces,
-        trees,
-        outer,
-        source,
-        sink,
-        value,
+        sizes,
+        demand,
         edge,
         flows,
         inside,
@@ -208,45 +160,34 @@ pub fn raise_limit<'a>(
     from: &'a [u16; 1024],
     grouped: &'a [u16; 1024],
     starts: &'a [u16; 1024],
-    ends: &'a [u16; 1024],
-    nodes: usize,
-    edges: usize,
-    faces: usize,
-    trees: usize,
-    outer: usize,
-    source: u16,
-    sink: u16,
-    value: i32,
-    edge: u16,
+    sizes: Sizes,
+    demand: Demand,
+    edge: usize,
     flows: &mut [i32],
     set: &mut [u64],
 ) -> RaiseAnswer
     requires { ⌜ (length (now capacities) ≡ 1024)
-        × Drawn (mapOf nodes edges (now tails) (now rotations)) (at (now lefts)) faces outer (atℤ (now capacities))
-        × ((d : ℕ) → d < 2 * edges → Limited mostOnSheet (atℤ (now capacities) d))
-        × Walked (2 * edges) faces outer trees (at (now rotations)) (now lefts) (now order) (now from) (now grouped) (now starts) (now ends) ⌝ }
-    ensures { λ r. ⌜ RaiseFound (drawingOf nodes edges outer (now (tails .entry)) (now (rotations .entry)) (now (capacities .entry)))
-        (limitChecks nodes edges source sink value edge (now (flows .entry)) (now (set .entry)))
-        source sink value edge (now (flows .entry)) (now (flows .exit)) (now (set .entry)) (now (set .exit)) r ⌝ }
+        × OpenSheet sizes (now tails) (now rotations) (now lefts) (now capacities) (now order) (now from) (now grouped) (now starts) ⌝ }
+    ensures { λ r. ⌜ RaiseFound (drawingOf (sizes .nodes) (sizes .edges) (sizes .outer) (now (tails .entry)) (now (rotations .entry)) (now (capacities .entry)))
+        (limitChecks (sizes .nodes) (sizes .edges) (demand .source) (demand .sink) (demand .value) edge (now (flows .entry)) (now (set .entry)))
+        (demand .source) (demand .sink) (demand .value) edge (now (flows .entry)) (now (flows .exit)) (now (set .entry)) (now (set .exit)) r ⌝ }
 {
-    let s = arrays::wide(source);
-    let t = arrays::wide(sink);
-    let e = arrays::wide(edge);
-    let named = questions::check_ends(nodes, s, t);
+    let named = questions::check_ends(sizes.nodes, demand.source, demand.sink);
     if let Verdict::Refused(k, p) = named {
         return RaiseAnswer::Refused(k, p);
     }
-    if questions::value_outside(value) {
+    if questions::value_outside(demand.value) {
         return RaiseAnswer::Refused(15, 0);
     }
-    if edges <= e {
+    if sizes.edges <= edge {
         return RaiseAnswer::Refused(25, 0);
     }
-    let room = questions::check_room(nodes, edges, flows.len(), set.len());
+    let room = questions::check_room(sizes.nodes, sizes.edges, flows.len(), set.len());
     if let Verdict::Refused(k, p) = room {
         return RaiseAnswer::Refused(k, p);
     }
     let mut inside = [0u8; 1024];
+    let edges = sizes.edges;
     let least = find_limit(
         tails,
         rotations,
@@ -256,22 +197,16 @@ pub fn raise_limit<'a>(
         from,
         grouped,
         starts,
-        ends,
-        nodes,
-        edges,
-        faces,
-        trees,
-        outer,
-        s,
-        t,
-        value,
-        e,
-        flows,
+        sizes,
+        demand,
+        edge,
+        &mut flows[0..edges],
         &mut inside,
     );
     if let Found::At(v) = least {
         return RaiseAnswer::Limit(v);
     }
-    node_sets::write_set(&inside, nodes, set);
+    let words = node_sets::words_for(sizes.nodes);
+    node_sets::write_set(&inside, sizes.nodes, &mut set[0..words]);
     RaiseAnswer::None
 }
