@@ -15,14 +15,16 @@ use Rattle.arrays.specs.Maps.{mapOf, drawingOf}
 use Rattle.arrays.specs.inner.Sizes.{mostOnSheet}
 use Rattle.arrays.specs.inner.Drawn.{Drawn}
 use Rattle.grouping.specs.inner.Walked.{Walked}
+use Rattle.grouping.specs.inner.OpenDrawing.{OpenDrawing}
 use Rattle.records.specs.Sheet.{nodesOf, edgesOf, outerOf, tailOf, rotationOf, capacityOf, sheetMap, sheetDrawing}
 use Rattle.records.proofs.Bytes.{bytes-range}
-use Rattle.sheets.specs.Open.{sheetChecks, Numbers}
-use Rattle.sheets.specs.declared.Opened.{Opened}
+use Rattle.sheets.specs.Open.{sheetChecks, Holds}
+use Rattle.sheets.specs.declared.Network.{Network}
 use Rattle.sheets.proofs.Accepted.{sheet-bytes, sheet-counts}
 use Rattle.sheets.proofs.Opening.{drawings-are}
 use Rattle.questions.specs.Solve.{questionChecks, Solved}
 use Rattle.questions.specs.inner.Named.{SetNamed}
+use Rattle.questions.specs.inner.Lent.{OpenSheet, OpenPaper}
 use Rattle.questions.specs.Largest.{searchChecks, LargestFound}
 use Rattle.questions.specs.Mark.{paperChecks, Marked}
 use Rattle.questions.specs.declared.SolveAnswer.{SolveAnswer}
@@ -116,65 +118,66 @@ module _ (s : List ℕ) (k p : ℕ) (first : FirstOf (sheetChecks s) k p) where
   dimacs-refused source sink out = first-left (sheetChecks s) _ k p first
 
 -- ── an accepted one ──
-module _ (s : List ℕ) (o : Opened) (lefts tails rotations : List ℕ) (capacities : List ℤ) (open' : NoneOf (sheetChecks s) × Numbers s lefts o)
-    (tails-are : at tails ≡ tailOf s) (rotations-are : at rotations ≡ rotationOf s) (capacities-are : atℤ capacities ≡ capacityOf s) where
+module _ (s : List ℕ) (net : Network) (open' : NoneOf (sheetChecks s) × Holds s net) where
   abbrev held : Drawing
-  held = drawingOf (o .nodes) (o .edges) (o .outer) tails rotations capacities
+  held = drawingOf (net .sizes .nodes) (net .sizes .edges) (net .sizes .outer) (net .tails) (net .rotations) (net .capacities)
 
-  same : drawingOf (o .nodes) (o .edges) (o .outer) tails rotations capacities ≡ sheetDrawing s
+  same : drawingOf (net .sizes .nodes) (net .sizes .edges) (net .sizes .outer) (net .tails) (net .rotations) (net .capacities) ≡ sheetDrawing s
   same =
-      let n = open' .1 in
-      drawings-are s (o .nodes) (o .edges) (o .outer) tails rotations capacities
-      (n .nodes-are) (n .edges-are) (n .outer-is) tails-are rotations-are capacities-are
+      let h = open' .1 in
+      drawings-are s (net .sizes .nodes) (net .sizes .edges) (net .sizes .outer) (net .tails) (net .rotations) (net .capacities)
+      (h .nodes-are) (h .edges-are) (h .outer-is) (h .tails-are) (h .rotations-are) (h .capacities-are)
 
-  pub drawn : Drawn (mapOf (o .nodes) (o .edges) tails rotations) (at lefts) (o .faces) (o .outer) (atℤ capacities)
+  pub drawn : Drawn (held .map) (at (net .lefts)) (net .sizes .faces) (net .sizes .outer) (atℤ (net .capacities))
   drawn =
-      subst (λ 𝓓. Drawn (𝓓 .map) (at lefts) (o .faces) (𝓓 .outer) (𝓓 .capacity)) (sym same)
-      (sheet-drawn s (open' .0) (at lefts) (o .faces) (open' .1 .lefts-are) (open' .1 .faces-are))
+      subst (λ 𝓓. Drawn (𝓓 .map) (at (net .lefts)) (net .sizes .faces) (𝓓 .outer) (𝓓 .capacity)) (sym same)
+      (sheet-drawn s (open' .0) (at (net .lefts)) (net .sizes .faces) (open' .1 .lefts-are) (open' .1 .faces-are))
 
-  pub small : (d : ℕ) → d < 2 * o .edges → Limited mostOnSheet (atℤ capacities d)
+  pub small : (d : ℕ) → d < 2 * net .sizes .edges → Limited mostOnSheet (atℤ (net .capacities) d)
   small = subst (λ 𝓓. (d : ℕ) → d < darts (𝓓 .map) → Limited mostOnSheet (𝓓 .capacity d)) (sym same) (capacity-small s (open' .0))
 
-  -- the walk and the groups that decisions are lent
-  pub walked : (order from grouped starts ends : List ℕ)
-      → Walked (2 * edgesOf s) (o .faces) (outerOf s) (o .parts) (rotationOf s) lefts order from grouped starts ends
-      → Walked (2 * o .edges) (o .faces) (o .outer) (o .parts) (at rotations) lefts order from grouped starts ends
-  walked order from grouped starts ends h =
-      subst (λ n. Walked (2 * n) (o .faces) (o .outer) (o .parts) (at rotations) lefts order from grouped starts ends) (sym (open' .1 .edges-are))
-      (subst (λ d. Walked (2 * edgesOf s) (o .faces) d (o .parts) (at rotations) lefts order from grouped starts ends) (sym (open' .1 .outer-is))
-      (subst (λ r. Walked (2 * edgesOf s) (o .faces) (outerOf s) (o .parts) r lefts order from grouped starts ends) (sym rotations-are) h))
+  -- what decisions are lent
+  pub opened : (order from grouped starts : List ℕ)
+      → Walked (2 * net .sizes .edges) (net .sizes .faces) (net .sizes .outer) (net .sizes .parts) (at (net .rotations)) (net .lefts) order from grouped starts
+      → OpenDrawing (net .sizes) (net .tails) (net .rotations) (net .lefts) (net .capacities) order from grouped starts
+  opened order from grouped starts walked = record { drawn = drawn; walked = walked }
+
+  pub opened-sheet : (order from grouped starts : List ℕ)
+      → Walked (2 * net .sizes .edges) (net .sizes .faces) (net .sizes .outer) (net .sizes .parts) (at (net .rotations)) (net .lefts) order from grouped starts
+      → OpenSheet (net .sizes) (net .tails) (net .rotations) (net .lefts) (net .capacities) order from grouped starts
+  opened-sheet order from grouped starts walked = record { opened = opened order from grouped starts walked; small = small }
 
   -- what Mark asks, which is less
-  pub markable : (o .nodes ≤ 1024) × (o .edges ≤ 512) × ((d : ℕ) → d < 2 * o .edges → at tails d < o .nodes)
-      × ((d : ℕ) → d < 2 * o .edges → Limited mostOnSheet (atℤ capacities d))
+  pub markable : OpenPaper (net .sizes) (net .tails) (net .capacities)
   markable =
-      let n = sheet-counts s (open' .0) in (
-        omega (arith, open' .1 .nodes-are, n .1),
-        omega (arith, open' .1 .edges-are, n .3),
-        subst (λ 𝓓. (d : ℕ) → d < darts (𝓓 .map) → 𝓓 .map .tail d < 𝓓 .map .nodes) (sym same) (bytes-range s (sheet-bytes s (open' .0)) .tail-in),
-        small,
-      )
+      let n = sheet-counts s (open' .0) in record {
+        few-nodes = omega (arith, open' .1 .nodes-are, n .1);
+        few-edges = omega (arith, open' .1 .edges-are, n .3);
+        tails-in =
+            subst (λ 𝓓. (d : ℕ) → d < darts (𝓓 .map) → 𝓓 .map .tail d < 𝓓 .map .nodes) (sym same) (bytes-range s (sheet-bytes s (open' .0)) .tail-in);
+        small = small;
+      }
 
   pub solved-sheet : (source sink : ℕ) {v value : ℤ} → v ≡ value → (flows flows' : List ℤ) (set set' : List ℕ) (r : SolveAnswer)
-      → Solved (drawingOf (o .nodes) (o .edges) (o .outer) tails rotations capacities)
-      (questionChecks (o .nodes) (o .edges) source sink v flows set) source sink v flows flows' set set' r
+      → Solved held
+      (questionChecks (net .sizes .nodes) (net .sizes .edges) source sink v flows set) source sink v flows flows' set set' r
       → Solves s source sink value flows flows' set set' r
   unfolding solveChecks
   solved-sheet source sink {value = value} e flows flows' set set' r h =
       solved-after (sheetChecks s) (open' .0) (sheetDrawing s) _ source sink value flows flows' set set' r
       (subst (λ 𝓓. Solved 𝓓 (questionChecks (𝓓 .map .nodes) (𝓓 .map .edges) source sink value flows set) source sink value flows flows' set set' r) same
-      (subst (λ w. Solved held (questionChecks (o .nodes) (o .edges) source sink w flows set) source sink w flows flows' set set' r) e h))
+      (subst (λ w. Solved held (questionChecks (net .sizes .nodes) (net .sizes .edges) source sink w flows set) source sink w flows flows' set set' r) e h))
 
   -- and its set is the one that the search names
   pub named-sheet : (source sink : ℕ) {v value : ℤ} → v ≡ value → (set' : List ℕ) (r : SolveAnswer)
-      → SetNamed (drawingOf (o .nodes) (o .edges) (o .outer) tails rotations capacities) source sink v set' r
+      → SetNamed held source sink v set' r
       → SetNamed (sheetDrawing s) source sink value set' r
   named-sheet source sink {value = value} e set' r h =
       subst (λ 𝓓. SetNamed 𝓓 source sink value set' r) same (subst (λ w. SetNamed held source sink w set' r) e h)
 
   pub largest-sheet : (source sink : ℕ) (flows flows' : List ℤ) (set set' : List ℕ) (r : LargestAnswer)
-      → LargestFound (drawingOf (o .nodes) (o .edges) (o .outer) tails rotations capacities)
-      (searchChecks (o .nodes) (o .edges) source sink flows set) source sink flows flows' set set' r
+      → LargestFound held
+      (searchChecks (net .sizes .nodes) (net .sizes .edges) source sink flows set) source sink flows flows' set set' r
       → FindsLargest s source sink flows flows' set set' r
   unfolding largestChecks
   largest-sheet source sink flows flows' set set' r h =
@@ -182,8 +185,8 @@ module _ (s : List ℕ) (o : Opened) (lefts tails rotations : List ℕ) (capacit
       (subst (λ 𝓓. LargestFound 𝓓 (searchChecks (𝓓 .map .nodes) (𝓓 .map .edges) source sink flows set) source sink flows flows' set set' r) same h)
 
   pub range-sheet : (source sink : ℕ) (low low' : List ℤ) (below below' : List ℕ) (high high' : List ℤ) (above above' : List ℕ) (r : RangeAnswer)
-      → RangeFound (drawingOf (o .nodes) (o .edges) (o .outer) tails rotations capacities)
-      (spanChecks (o .nodes) (o .edges) source sink low below high above) source sink low low' below below' high high' above above' r
+      → RangeFound held
+      (spanChecks (net .sizes .nodes) (net .sizes .edges) source sink low below high above) source sink low low' below below' high high' above above' r
       → FindsRange s source sink low low' below below' high high' above above' r
   unfolding rangeChecks
   range-sheet source sink low low' below below' high high' above above' r h =
@@ -192,19 +195,19 @@ module _ (s : List ℕ) (o : Opened) (lefts tails rotations : List ℕ) (capacit
       source sink low low' below below' high high' above above' r) same h)
 
   pub raise-sheet : (source sink : ℕ) {v value : ℤ} → v ≡ value → (edge : ℕ) (flows flows' : List ℤ) (set set' : List ℕ) (r : RaiseAnswer)
-      → RaiseFound (drawingOf (o .nodes) (o .edges) (o .outer) tails rotations capacities)
-      (limitChecks (o .nodes) (o .edges) source sink v edge flows set) source sink v edge flows flows' set set' r
+      → RaiseFound held
+      (limitChecks (net .sizes .nodes) (net .sizes .edges) source sink v edge flows set) source sink v edge flows flows' set set' r
       → RaisesLimit s source sink value edge flows flows' set set' r
   unfolding raiseChecks
   raise-sheet source sink {value = value} e edge flows flows' set set' r h =
       raise-after (sheetChecks s) (open' .0) (sheetDrawing s) _ source sink value edge flows flows' set set' r
       (subst (λ 𝓓. RaiseFound 𝓓 (limitChecks (𝓓 .map .nodes) (𝓓 .map .edges) source sink value edge flows set)
       source sink value edge flows flows' set set' r) same
-      (subst (λ w. RaiseFound held (limitChecks (o .nodes) (o .edges) source sink w edge flows set) source sink w edge flows flows' set set' r) e h))
+      (subst (λ w. RaiseFound held (limitChecks (net .sizes .nodes) (net .sizes .edges) source sink w edge flows set) source sink w edge flows flows' set set' r) e h))
 
   pub after-sheet : (b : List ℕ) (w n source sink : ℕ) (limits limits' flows flows' : List ℤ) (set set' : List ℕ) (r : LargestAnswer)
-      → FoundAfter (drawingOf (o .nodes) (o .edges) (o .outer) tails rotations capacities)
-      (captureChecks (drawingOf (o .nodes) (o .edges) (o .outer) tails rotations capacities) b w n source sink limits flows set)
+      → FoundAfter held
+      (captureChecks held b w n source sink limits flows set)
       b w n source sink limits limits' flows flows' set set' r
       → FindsAfter s b w n source sink limits limits' flows flows' set set' r
   unfolding afterChecks
@@ -213,8 +216,8 @@ module _ (s : List ℕ) (o : Opened) (lefts tails rotations : List ℕ) (capacit
       (subst (λ 𝓓. FoundAfter 𝓓 (captureChecks 𝓓 b w n source sink limits flows set) b w n source sink limits limits' flows flows' set set' r) same h)
 
   pub page-sheet : (n : ℕ) (question : ℕ → Question) (flows flows' : List ℤ) (sets sets' : List ℕ) (r : Page)
-      → Paged (listChecks (o .nodes) (o .edges) n flows sets) (o .edges) (wordsFor (o .nodes)) n
-      (λ i. solvedAlone (drawingOf (o .nodes) (o .edges) (o .outer) tails rotations capacities) (question i)) flows flows' sets sets' r
+      → Paged (listChecks (net .sizes .nodes) (net .sizes .edges) n flows sets) (net .sizes .edges) (wordsFor (net .sizes .nodes)) n
+      (λ i. solvedAlone held (question i)) flows flows' sets sets' r
       → AnswersPage s n question flows flows' sets sets' r
   unfolding pageChecks solveChecks
   page-sheet n question flows flows' sets sets' r h =
@@ -228,8 +231,8 @@ module _ (s : List ℕ) (o : Opened) (lefts tails rotations : List ℕ) (capacit
       (λ i. solvedAlone 𝓓 (question i)) flows flows' sets sets' r) same h)
 
   pub page-named : (n : ℕ) (question : ℕ → Question) (flows flows' : List ℤ) (sets sets' : List ℕ) (r : Page)
-      → Paged (listChecks (o .nodes) (o .edges) n flows sets) (o .edges) (wordsFor (o .nodes)) n
-      (λ i. solvedAlone (drawingOf (o .nodes) (o .edges) (o .outer) tails rotations capacities) (question i)) flows flows' sets sets' r
+      → Paged (listChecks (net .sizes .nodes) (net .sizes .edges) n flows sets) (net .sizes .edges) (wordsFor (net .sizes .nodes)) n
+      (λ i. solvedAlone held (question i)) flows flows' sets sets' r
       → PageNamed s n question sets' r
   page-named n question flows flows' sets sets' r h passed i l =
       let p = subst (λ 𝓓. Paged (listChecks (𝓓 .map .nodes) (𝓓 .map .edges) n flows sets) (𝓓 .map .edges) (wordsFor (𝓓 .map .nodes)) n
@@ -238,8 +241,8 @@ module _ (s : List ℕ) (o : Opened) (lefts tails rotations : List ℕ) (capacit
       flows flows' sets sets' r p passed i l .1
 
   pub marked-sheet : (source sink : ℕ) (flows : List ℤ) (r : MarkAnswer)
-      → Marked (drawingOf (o .nodes) (o .edges) (o .outer) tails rotations capacities)
-      (paperChecks (drawingOf (o .nodes) (o .edges) (o .outer) tails rotations capacities) source sink flows) source sink flows r
+      → Marked held
+      (paperChecks held source sink flows) source sink flows r
       → Marks s source sink flows r
   unfolding markChecks
   marked-sheet source sink flows r h =
@@ -247,8 +250,8 @@ module _ (s : List ℕ) (o : Opened) (lefts tails rotations : List ℕ) (capacit
       (subst (λ 𝓓. Marked 𝓓 (paperChecks 𝓓 source sink flows) source sink flows r) same h)
 
   pub levels-sheet : (flows levels levels' : List ℤ) (r : LevelAnswer)
-      → LevelsGiven (drawingOf (o .nodes) (o .edges) (o .outer) tails rotations capacities)
-      (balancedChecks (drawingOf (o .nodes) (o .edges) (o .outer) tails rotations capacities) flows levels) flows levels levels' r
+      → LevelsGiven held
+      (balancedChecks held flows levels) flows levels levels' r
       → GivesLevels s flows levels levels' r
   unfolding levelsChecks
   levels-sheet flows levels levels' r h =
@@ -256,8 +259,8 @@ module _ (s : List ℕ) (o : Opened) (lefts tails rotations : List ℕ) (capacit
       (subst (λ 𝓓. LevelsGiven 𝓓 (balancedChecks 𝓓 flows levels) flows levels levels' r) same h)
 
   pub settings-sheet : (levels flows flows' : List ℤ) (r : LevelAnswer)
-      → SettingsGiven (drawingOf (o .nodes) (o .edges) (o .outer) tails rotations capacities)
-      (leveledChecks (drawingOf (o .nodes) (o .edges) (o .outer) tails rotations capacities) levels flows) levels flows flows' r
+      → SettingsGiven held
+      (leveledChecks held levels flows) levels flows flows' r
       → GivesSettings s levels flows flows' r
   unfolding settingsChecks
   settings-sheet levels flows flows' r h =
@@ -265,12 +268,12 @@ module _ (s : List ℕ) (o : Opened) (lefts tails rotations : List ℕ) (capacit
       (subst (λ 𝓓. SettingsGiven 𝓓 (leveledChecks 𝓓 levels flows) levels flows flows' r) same h)
 
   -- what Totals asks
-  pub roundable : (o .nodes ≤ 1024) × (o .edges ≤ 512) × Sound (mapOf (o .nodes) (o .edges) tails rotations)
-      × ((d : ℕ) → d < 2 * o .edges → Limited mostOnSheet (atℤ capacities d))
-  roundable = (markable .0, markable .1, drawn .plane .sound, small)
+  pub roundable : (net .sizes .nodes ≤ 1024) × (net .sizes .edges ≤ 512) × Sound (held .map)
+      × ((d : ℕ) → d < 2 * net .sizes .edges → Limited mostOnSheet (atℤ (net .capacities) d))
+  roundable = (markable .few-nodes, markable .few-edges, drawn .plane .sound, small)
 
   pub totals-sheet : (set : List ℕ) (out out' : List ℤ) (r : TotalsAnswer)
-      → TotalGiven (mapOf (o .nodes) (o .edges) tails rotations) (atℤ capacities) (totalChecks (o .nodes) set out) set out out' r
+      → TotalGiven (held .map) (atℤ (net .capacities)) (totalChecks (net .sizes .nodes) set out) set out out' r
       → GivesTotals s set out out' r
   unfolding totalsChecks
   totals-sheet set out out' r h =
@@ -278,12 +281,12 @@ module _ (s : List ℕ) (o : Opened) (lefts tails rotations : List ℕ) (capacit
       (subst (λ 𝓓. TotalGiven (𝓓 .map) (𝓓 .capacity) (totalChecks (𝓓 .map .nodes) set out) set out out' r) same h)
 
   -- what the text asks, which is less still
-  pub counts-small : (o .nodes ≤ 1024) × (o .edges ≤ 512)
-  counts-small = (markable .0, markable .1)
+  pub counts-small : (net .sizes .nodes ≤ 1024) × (net .sizes .edges ≤ 512)
+  counts-small = (markable .few-nodes, markable .few-edges)
 
   pub dimacs-sheet : (source sink : ℕ) (out out' : List ℕ) (r : DimacsAnswer)
-      → TextWritten (drawingOf (o .nodes) (o .edges) (o .outer) tails rotations capacities)
-      (textChecks (drawingOf (o .nodes) (o .edges) (o .outer) tails rotations capacities) source sink out) source sink out out' r
+      → TextWritten held
+      (textChecks held source sink out) source sink out out' r
       → WritesDimacs s source sink out out' r
   unfolding dimacsChecks
   dimacs-sheet source sink out out' r h =

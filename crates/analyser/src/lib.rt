@@ -1,7 +1,7 @@
 // The analyser's operations on sheets. Document 01, "Operations": Solve, Largest, Mark, Levels from settings, Settings from levels. Document 02: the least
 // delivery beside the largest (Job 4), what a forward limit must be raised to (Job 7), totals by node (Job 9), limits from a capture (Job 10), DIMACS text (Job
-// 2), questions by the page (Job 1). Each fills the arrays of a drawing once, in its own frame, from the sheet, and lends them to the operation on drawings;
-// those that decide are lent the walk over the darts and their groups too, which opening makes.
+// 2), questions by the page (Job 1). Each opens its sheet in one way: it holds the network record in its own frame and lends its arrays to the operation on
+// drawings. Operations that decide also hold the walk over the darts and their groups, which opening makes.
 ghost use lib.ListN.{length};
 ghost use Rattle.records.specs.Sheet.{sheetDrawing};
 ghost use Rattle.questions.specs.inner.Named.{SetNamed};
@@ -19,6 +19,9 @@ ghost use Rattle.analyser.specs.SettingsOf.{GivesSettings};
 ghost use Rattle.analyser.specs.Totals.{GivesTotals};
 ghost use Rattle.analyser.specs.Dimacs.{WritesDimacs};
 ghost use Rattle.analyser.specs.Counts.{GivesCounts};
+use arrays::Demand;
+use arrays::Terminals;
+use capture::After;
 use dimacs::DimacsAnswer;
 use levels::LevelAnswer;
 use pages::Listed;
@@ -29,8 +32,6 @@ use questions::MarkAnswer;
 use questions::SolveAnswer;
 use raising::RaiseAnswer;
 use ranges::RangeAnswer;
-use refusals::Verdict;
-use sheets::Network;
 use totals::TotalsAnswer;
 
 // Solve: the highest flow of a value from source to sink, or a set of nodes that proves that there is none.
@@ -46,49 +47,31 @@ pub fn solve(
     ensures { λ r. ⌜ Solves (now (sheet .entry)) source sink value (now (flows .entry)) (now (flows .exit)) (now (set .entry)) (now (set .exit)) r
         × SetNamed (sheetDrawing (now (sheet .entry))) source sink value (now (set .exit)) r ⌝ }
 {
-    let mut tails = [0u16; 1024];
-    let mut rotations = [0u16; 1024];
-    let mut lefts = [0u16; 1024];
     let mut order = [0u16; 1024];
     let mut from = [0u16; 1024];
     let mut grouped = [0u16; 1024];
     let mut starts = [0u16; 1024];
-    let mut ends = [0u16; 1024];
-    let opened = sheets::open_walked(
-        sheet,
-        &mut tails,
-        &mut rotations,
-        &mut lefts,
-        &mut order,
-        &mut from,
-        &mut grouped,
-        &mut starts,
-        &mut ends,
-    );
-    let verdict = opened.verdict;
-    if let Verdict::Refused(k, p) = verdict {
-        return SolveAnswer::Refused(k, p);
+    let net = sheets::open_walked(sheet, &mut order, &mut from, &mut grouped, &mut starts);
+    if !net.accepted {
+        return SolveAnswer::Refused(net.refusal, net.place);
     }
-    let mut capacities = [0i32; 1024];
-    sheets::fill_capacities(sheet, opened.edges, &mut capacities);
+    let sizes = net.sizes;
+    let demand = Demand {
+        source: arrays::wide(source),
+        sink: arrays::wide(sink),
+        value: value,
+    };
     questions::solve(
-        &tails,
-        &rotations,
-        &lefts,
-        &capacities,
+        &net.tails,
+        &net.rotations,
+        &net.lefts,
+        &net.capacities,
         &order,
         &from,
         &grouped,
         &starts,
-        &ends,
-        opened.nodes,
-        opened.edges,
-        opened.faces,
-        opened.parts,
-        opened.outer,
-        source,
-        sink,
-        value,
+        sizes,
+        demand,
         flows,
         set,
     )
@@ -105,48 +88,30 @@ pub fn largest(
 ) -> LargestAnswer
     ensures { λ r. ⌜ FindsLargest (now (sheet .entry)) source sink (now (flows .entry)) (now (flows .exit)) (now (set .entry)) (now (set .exit)) r ⌝ }
 {
-    let mut tails = [0u16; 1024];
-    let mut rotations = [0u16; 1024];
-    let mut lefts = [0u16; 1024];
     let mut order = [0u16; 1024];
     let mut from = [0u16; 1024];
     let mut grouped = [0u16; 1024];
     let mut starts = [0u16; 1024];
-    let mut ends = [0u16; 1024];
-    let opened = sheets::open_walked(
-        sheet,
-        &mut tails,
-        &mut rotations,
-        &mut lefts,
-        &mut order,
-        &mut from,
-        &mut grouped,
-        &mut starts,
-        &mut ends,
-    );
-    let verdict = opened.verdict;
-    if let Verdict::Refused(k, p) = verdict {
-        return LargestAnswer::Refused(k, p);
+    let net = sheets::open_walked(sheet, &mut order, &mut from, &mut grouped, &mut starts);
+    if !net.accepted {
+        return LargestAnswer::Refused(net.refusal, net.place);
     }
-    let mut capacities = [0i32; 1024];
-    sheets::fill_capacities(sheet, opened.edges, &mut capacities);
+    let sizes = net.sizes;
+    let terminals = Terminals {
+        source: arrays::wide(source),
+        sink: arrays::wide(sink),
+    };
     questions::largest(
-        &tails,
-        &rotations,
-        &lefts,
-        &capacities,
+        &net.tails,
+        &net.rotations,
+        &net.lefts,
+        &net.capacities,
         &order,
         &from,
         &grouped,
         &starts,
-        &ends,
-        opened.nodes,
-        opened.edges,
-        opened.faces,
-        opened.parts,
-        opened.outer,
-        source,
-        sink,
+        sizes,
+        terminals,
         flows,
         set,
     )
@@ -168,48 +133,30 @@ pub fn least_and_largest(
         (now (low .entry)) (now (low .exit)) (now (below .entry)) (now (below .exit))
         (now (high .entry)) (now (high .exit)) (now (above .entry)) (now (above .exit)) r ⌝ }
 {
-    let mut tails = [0u16; 1024];
-    let mut rotations = [0u16; 1024];
-    let mut lefts = [0u16; 1024];
     let mut order = [0u16; 1024];
     let mut from = [0u16; 1024];
     let mut grouped = [0u16; 1024];
     let mut starts = [0u16; 1024];
-    let mut ends = [0u16; 1024];
-    let opened = sheets::open_walked(
-        sheet,
-        &mut tails,
-        &mut rotations,
-        &mut lefts,
-        &mut order,
-        &mut from,
-        &mut grouped,
-        &mut starts,
-        &mut ends,
-    );
-    let verdict = opened.verdict;
-    if let Verdict::Refused(k, p) = verdict {
-        return RangeAnswer::Refused(k, p);
+    let net = sheets::open_walked(sheet, &mut order, &mut from, &mut grouped, &mut starts);
+    if !net.accepted {
+        return RangeAnswer::Refused(net.refusal, net.place);
     }
-    let mut capacities = [0i32; 1024];
-    sheets::fill_capacities(sheet, opened.edges, &mut capacities);
+    let sizes = net.sizes;
+    let terminals = Terminals {
+        source: arrays::wide(source),
+        sink: arrays::wide(sink),
+    };
     ranges::least_and_largest(
-        &tails,
-        &rotations,
-        &lefts,
-        &capacities,
+        &net.tails,
+        &net.rotations,
+        &net.lefts,
+        &net.capacities,
         &order,
         &from,
         &grouped,
         &starts,
-        &ends,
-        opened.nodes,
-        opened.edges,
-        opened.faces,
-        opened.parts,
-        opened.outer,
-        source,
-        sink,
+        sizes,
+        terminals,
         low,
         below,
         high,
@@ -230,50 +177,33 @@ pub fn raise_limit(
 ) -> RaiseAnswer
     ensures { λ r. ⌜ RaisesLimit (now (sheet .entry)) source sink value edge (now (flows .entry)) (now (flows .exit)) (now (set .entry)) (now (set .exit)) r ⌝ }
 {
-    let mut tails = [0u16; 1024];
-    let mut rotations = [0u16; 1024];
-    let mut lefts = [0u16; 1024];
     let mut order = [0u16; 1024];
     let mut from = [0u16; 1024];
     let mut grouped = [0u16; 1024];
     let mut starts = [0u16; 1024];
-    let mut ends = [0u16; 1024];
-    let opened = sheets::open_walked(
-        sheet,
-        &mut tails,
-        &mut rotations,
-        &mut lefts,
-        &mut order,
-        &mut from,
-        &mut grouped,
-        &mut starts,
-        &mut ends,
-    );
-    let verdict = opened.verdict;
-    if let Verdict::Refused(k, p) = verdict {
-        return RaiseAnswer::Refused(k, p);
+    let net = sheets::open_walked(sheet, &mut order, &mut from, &mut grouped, &mut starts);
+    if !net.accepted {
+        return RaiseAnswer::Refused(net.refusal, net.place);
     }
-    let mut capacities = [0i32; 1024];
-    sheets::fill_capacities(sheet, opened.edges, &mut capacities);
+    let sizes = net.sizes;
+    let demand = Demand {
+        source: arrays::wide(source),
+        sink: arrays::wide(sink),
+        value: value,
+    };
+    let mut capacities = net.capacities;
     raising::raise_limit(
-        &tails,
-        &rotations,
-        &lefts,
+        &net.tails,
+        &net.rotations,
+        &net.lefts,
         &mut capacities,
         &order,
         &from,
         &grouped,
         &starts,
-        &ends,
-        opened.nodes,
-        opened.edges,
-        opened.faces,
-        opened.parts,
-        opened.outer,
-        source,
-        sink,
-        value,
-        edge,
+        sizes,
+        demand,
+        arrays::wide(edge),
         flows,
         set,
     )
@@ -295,51 +225,34 @@ pub fn largest_after(
     ensures { λ r. ⌜ FindsAfter (now (sheet .entry)) (now (capture .entry)) window named source sink
         (now (limits .entry)) (now (limits .exit)) (now (flows .entry)) (now (flows .exit)) (now (set .entry)) (now (set .exit)) r ⌝ }
 {
-    let mut tails = [0u16; 1024];
-    let mut rotations = [0u16; 1024];
-    let mut lefts = [0u16; 1024];
     let mut order = [0u16; 1024];
     let mut from = [0u16; 1024];
     let mut grouped = [0u16; 1024];
     let mut starts = [0u16; 1024];
-    let mut ends = [0u16; 1024];
-    let opened = sheets::open_walked(
-        sheet,
-        &mut tails,
-        &mut rotations,
-        &mut lefts,
-        &mut order,
-        &mut from,
-        &mut grouped,
-        &mut starts,
-        &mut ends,
-    );
-    let verdict = opened.verdict;
-    if let Verdict::Refused(k, p) = verdict {
-        return LargestAnswer::Refused(k, p);
+    let net = sheets::open_walked(sheet, &mut order, &mut from, &mut grouped, &mut starts);
+    if !net.accepted {
+        return LargestAnswer::Refused(net.refusal, net.place);
     }
-    let mut capacities = [0i32; 1024];
-    sheets::fill_capacities(sheet, opened.edges, &mut capacities);
+    let sizes = net.sizes;
+    let after = After {
+        window: window,
+        named: named,
+        source: arrays::wide(source),
+        sink: arrays::wide(sink),
+    };
+    let mut capacities = net.capacities;
     capture::largest_after(
-        &tails,
-        &rotations,
-        &lefts,
+        &net.tails,
+        &net.rotations,
+        &net.lefts,
         &mut capacities,
         &order,
         &from,
         &grouped,
         &starts,
-        &ends,
-        opened.nodes,
-        opened.edges,
-        opened.faces,
-        opened.parts,
-        opened.outer,
+        sizes,
         capture,
-        window,
-        named,
-        source,
-        sink,
+        after,
         limits,
         flows,
         set,
@@ -352,46 +265,25 @@ pub fn page_of(sheet: &[u8], list: Listed, flows: &mut [i32], sets: &mut [u64]) 
         (now (flows .entry)) (now (flows .exit)) (now (sets .entry)) (now (sets .exit)) r
         × PageNamed (now (sheet .entry)) (list .count) (questionAt (list .questions)) (now (sets .exit)) r ⌝ }
 {
-    let mut tails = [0u16; 1024];
-    let mut rotations = [0u16; 1024];
-    let mut lefts = [0u16; 1024];
     let mut order = [0u16; 1024];
     let mut from = [0u16; 1024];
     let mut grouped = [0u16; 1024];
     let mut starts = [0u16; 1024];
-    let mut ends = [0u16; 1024];
-    let opened = sheets::open_walked(
-        sheet,
-        &mut tails,
-        &mut rotations,
-        &mut lefts,
-        &mut order,
-        &mut from,
-        &mut grouped,
-        &mut starts,
-        &mut ends,
-    );
-    let verdict = opened.verdict;
-    if let Verdict::Refused(k, p) = verdict {
-        return pages::refused_page(k, p);
+    let net = sheets::open_walked(sheet, &mut order, &mut from, &mut grouped, &mut starts);
+    if !net.accepted {
+        return pages::refused_page(net.refusal, net.place);
     }
-    let mut capacities = [0i32; 1024];
-    sheets::fill_capacities(sheet, opened.edges, &mut capacities);
+    let sizes = net.sizes;
     pages::answer_list(
-        &tails,
-        &rotations,
-        &lefts,
-        &capacities,
+        &net.tails,
+        &net.rotations,
+        &net.lefts,
+        &net.capacities,
         &order,
         &from,
         &grouped,
         &starts,
-        &ends,
-        opened.nodes,
-        opened.edges,
-        opened.faces,
-        opened.parts,
-        opened.outer,
+        sizes,
         list,
         flows,
         sets,
@@ -412,40 +304,21 @@ pub fn page(sheet: &[u8], questions: &[Question], flows: &mut [i32], sets: &mut 
 pub fn mark(sheet: &[u8], source: u16, sink: u16, flows: &[i32]) -> MarkAnswer
     ensures { λ r. ⌜ Marks (now (sheet .entry)) source sink (now (flows .entry)) r ⌝ }
 {
-    let mut network = Network {
-        nodes: 0,
-        edges: 0,
-        faces: 0,
-        outer: 0,
-        tails: [0u16; 1024],
-        rotations: [0u16; 1024],
-        capacities: [0i32; 1024],
-        lefts: [0u16; 1024],
-    };
-    let opened = sheets::open(sheet, &mut network.lefts);
-    let verdict = opened.verdict;
-    if let Verdict::Refused(k, p) = verdict {
-        return MarkAnswer::Refused(k, p);
+    let net = sheets::open(sheet);
+    if !net.accepted {
+        return MarkAnswer::Refused(net.refusal, net.place);
     }
-    network.nodes = opened.nodes;
-    network.edges = opened.edges;
-    network.faces = opened.faces;
-    network.outer = opened.outer;
-    sheets::fill_tails(sheet, opened.edges, &mut network.tails);
-    sheets::fill_rotations(sheet, opened.edges, &mut network.rotations);
-    sheets::fill_capacities(sheet, opened.edges, &mut network.capacities);
-    let nodes = network.nodes;
-    let edges = network.edges;
-    let outer = network.outer;
+    let sizes = net.sizes;
+    let terminals = Terminals {
+        source: arrays::wide(source),
+        sink: arrays::wide(sink),
+    };
     questions::mark(
-        &network.tails,
-        &network.rotations,
-        &network.capacities,
-        nodes,
-        edges,
-        outer,
-        source,
-        sink,
+        &net.tails,
+        &net.rotations,
+        &net.capacities,
+        sizes,
+        terminals,
         flows,
     )
 }
@@ -455,41 +328,20 @@ pub fn mark(sheet: &[u8], source: u16, sink: u16, flows: &[i32]) -> MarkAnswer
 pub fn levels_from_settings(sheet: &[u8], flows: &[i32], levels: &mut [i32]) -> LevelAnswer
     ensures { λ r. ⌜ GivesLevels (now (sheet .entry)) (now (flows .entry)) (now (levels .entry)) (now (levels .exit)) r ⌝ }
 {
-    let mut network = Network {
-        nodes: 0,
-        edges: 0,
-        faces: 0,
-        outer: 0,
-        tails: [0u16; 1024],
-        rotations: [0u16; 1024],
-        capacities: [0i32; 1024],
-        lefts: [0u16; 1024],
-    };
-    let opened = sheets::open(sheet, &mut network.lefts);
-    let verdict = opened.verdict;
-    if let Verdict::Refused(k, p) = verdict {
-        return LevelAnswer::Refused(k, p);
+    let net = sheets::open(sheet);
+    if !net.accepted {
+        return LevelAnswer::Refused(net.refusal, net.place);
     }
-    network.nodes = opened.nodes;
-    network.edges = opened.edges;
-    network.faces = opened.faces;
-    network.outer = opened.outer;
-    sheets::fill_tails(sheet, opened.edges, &mut network.tails);
-    sheets::fill_rotations(sheet, opened.edges, &mut network.rotations);
-    sheets::fill_capacities(sheet, opened.edges, &mut network.capacities);
-    let nodes = network.nodes;
-    let edges = network.edges;
-    let faces = network.faces;
-    let outer = network.outer;
+    let sizes = net.sizes;
     levels::levels_of(
-        &network.tails,
-        &network.rotations,
-        &network.lefts,
-        &network.capacities,
-        nodes,
-        edges,
-        faces,
-        outer,
+        &net.tails,
+        &net.rotations,
+        &net.lefts,
+        &net.capacities,
+        sizes.nodes,
+        sizes.edges,
+        sizes.faces,
+        sizes.outer,
         flows,
         levels,
     )
@@ -500,41 +352,20 @@ pub fn levels_from_settings(sheet: &[u8], flows: &[i32], levels: &mut [i32]) -> 
 pub fn settings_from_levels(sheet: &[u8], levels: &[i32], flows: &mut [i32]) -> LevelAnswer
     ensures { λ r. ⌜ GivesSettings (now (sheet .entry)) (now (levels .entry)) (now (flows .entry)) (now (flows .exit)) r ⌝ }
 {
-    let mut network = Network {
-        nodes: 0,
-        edges: 0,
-        faces: 0,
-        outer: 0,
-        tails: [0u16; 1024],
-        rotations: [0u16; 1024],
-        capacities: [0i32; 1024],
-        lefts: [0u16; 1024],
-    };
-    let opened = sheets::open(sheet, &mut network.lefts);
-    let verdict = opened.verdict;
-    if let Verdict::Refused(k, p) = verdict {
-        return LevelAnswer::Refused(k, p);
+    let net = sheets::open(sheet);
+    if !net.accepted {
+        return LevelAnswer::Refused(net.refusal, net.place);
     }
-    network.nodes = opened.nodes;
-    network.edges = opened.edges;
-    network.faces = opened.faces;
-    network.outer = opened.outer;
-    sheets::fill_tails(sheet, opened.edges, &mut network.tails);
-    sheets::fill_rotations(sheet, opened.edges, &mut network.rotations);
-    sheets::fill_capacities(sheet, opened.edges, &mut network.capacities);
-    let nodes = network.nodes;
-    let edges = network.edges;
-    let faces = network.faces;
-    let outer = network.outer;
+    let sizes = net.sizes;
     levels::settings_of(
-        &network.tails,
-        &network.rotations,
-        &network.lefts,
-        &network.capacities,
-        nodes,
-        edges,
-        faces,
-        outer,
+        &net.tails,
+        &net.rotations,
+        &net.lefts,
+        &net.capacities,
+        sizes.nodes,
+        sizes.edges,
+        sizes.faces,
+        sizes.outer,
         levels,
         flows,
     )
@@ -545,36 +376,17 @@ pub fn settings_from_levels(sheet: &[u8], levels: &[i32], flows: &mut [i32]) -> 
 pub fn totals(sheet: &[u8], set: &[u64], subtotals: &mut [i32]) -> TotalsAnswer
     ensures { λ r. ⌜ GivesTotals (now (sheet .entry)) (now (set .entry)) (now (subtotals .entry)) (now (subtotals .exit)) r ⌝ }
 {
-    let mut network = Network {
-        nodes: 0,
-        edges: 0,
-        faces: 0,
-        outer: 0,
-        tails: [0u16; 1024],
-        rotations: [0u16; 1024],
-        capacities: [0i32; 1024],
-        lefts: [0u16; 1024],
-    };
-    let opened = sheets::open(sheet, &mut network.lefts);
-    let verdict = opened.verdict;
-    if let Verdict::Refused(k, p) = verdict {
-        return TotalsAnswer::Refused(k, p);
+    let net = sheets::open(sheet);
+    if !net.accepted {
+        return TotalsAnswer::Refused(net.refusal, net.place);
     }
-    network.nodes = opened.nodes;
-    network.edges = opened.edges;
-    network.faces = opened.faces;
-    network.outer = opened.outer;
-    sheets::fill_tails(sheet, opened.edges, &mut network.tails);
-    sheets::fill_rotations(sheet, opened.edges, &mut network.rotations);
-    sheets::fill_capacities(sheet, opened.edges, &mut network.capacities);
-    let nodes = network.nodes;
-    let edges = network.edges;
+    let sizes = net.sizes;
     totals::totals_of(
-        &network.tails,
-        &network.rotations,
-        &network.capacities,
-        nodes,
-        edges,
+        &net.tails,
+        &net.rotations,
+        &net.capacities,
+        sizes.nodes,
+        sizes.edges,
         set,
         subtotals,
     )
@@ -585,38 +397,18 @@ pub fn totals(sheet: &[u8], set: &[u64], subtotals: &mut [i32]) -> TotalsAnswer
 pub fn write_dimacs(sheet: &[u8], source: u16, sink: u16, out: &mut [u8]) -> DimacsAnswer
     ensures { λ r. ⌜ WritesDimacs (now (sheet .entry)) source sink (now (out .entry)) (now (out .exit)) r ⌝ }
 {
-    let mut network = Network {
-        nodes: 0,
-        edges: 0,
-        faces: 0,
-        outer: 0,
-        tails: [0u16; 1024],
-        rotations: [0u16; 1024],
-        capacities: [0i32; 1024],
-        lefts: [0u16; 1024],
-    };
-    let opened = sheets::open(sheet, &mut network.lefts);
-    let verdict = opened.verdict;
-    if let Verdict::Refused(k, p) = verdict {
-        return DimacsAnswer::Refused(k, p);
+    let net = sheets::open(sheet);
+    if !net.accepted {
+        return DimacsAnswer::Refused(net.refusal, net.place);
     }
-    network.nodes = opened.nodes;
-    network.edges = opened.edges;
-    network.faces = opened.faces;
-    network.outer = opened.outer;
-    sheets::fill_tails(sheet, opened.edges, &mut network.tails);
-    sheets::fill_rotations(sheet, opened.edges, &mut network.rotations);
-    sheets::fill_capacities(sheet, opened.edges, &mut network.capacities);
-    let nodes = network.nodes;
-    let edges = network.edges;
-    let outer = network.outer;
+    let sizes = net.sizes;
     dimacs::write(
-        &network.tails,
-        &network.rotations,
-        &network.capacities,
-        nodes,
-        edges,
-        outer,
+        &net.tails,
+        &net.rotations,
+        &net.capacities,
+        sizes.nodes,
+        sizes.edges,
+        sizes.outer,
         source,
         sink,
         out,
@@ -629,18 +421,14 @@ pub enum CountsAnswer {
     Refused(u8, u16),
 }
 
-// Counts: both counts of a sheet, for who lends slices that they measure, and has no use for Read's. Totals by node of no node makes the sheet checks: with
-// room for any set it refuses nothing else, and what it opens lies in its own frame, not in that of who asks for the counts.
+// Counts: both counts of a sheet, for a caller that lends slices of these lengths and has no use for Read's.
 pub fn counts(sheet: &[u8]) -> CountsAnswer
     ensures { λ r. ⌜ GivesCounts (now (sheet .entry)) r ⌝ }
 {
-    let set = [0u64; 9];
-    let mut subtotals = [0i32; 513];
-    let answer = totals(sheet, &set, &mut subtotals);
-    if let TotalsAnswer::Refused(k, p) = answer {
-        return CountsAnswer::Refused(k, p);
+    let net = sheets::open(sheet);
+    if !net.accepted {
+        return CountsAnswer::Refused(net.refusal, net.place);
     }
-    let nodes = records::nodes_of(sheet);
-    let edges = records::edges_of(sheet);
-    CountsAnswer::Counts(arrays::narrow(nodes), arrays::narrow(edges))
+    let sizes = net.sizes;
+    CountsAnswer::Counts(arrays::narrow(sizes.nodes), arrays::narrow(sizes.edges))
 }

@@ -18,6 +18,8 @@ ghost use Rattle.questions.specs.Solve.{Solved};
 ghost use Rattle.questions.specs.inner.Named.{SetNamed};
 ghost use Rattle.sessions.specs.Fit.{PairFits, LimitsFit, InBounds, OnFit, Lowerable};
 ghost use Rattle.sessions.specs.Ask.{askChecks};
+use arrays::Demand;
+use arrays::Sizes;
 use arrays::wide;
 use questions::SolveAnswer;
 use refusals::Verdict;
@@ -132,7 +134,6 @@ pub fn answer_left<'a>(
     let mut from = [0u16; 1024];
     let mut grouped = [0u16; 1024];
     let mut starts = [0u16; 1024];
-    let mut ends = [0u16; 1024];
     let checked = rotations::check_map(
         tails,
         rotations,
@@ -144,12 +145,23 @@ pub fn answer_left<'a>(
         &mut from,
         &mut grouped,
         &mut starts,
-        &mut ends,
     );
     let verdict = checked.verdict;
     if let Verdict::Refused(k, p) = verdict {
         return SolveAnswer::Refused(13, 0);
     }
+    let sizes = Sizes {
+        nodes: n,
+        edges: m,
+        faces: checked.faces,
+        parts: checked.parts,
+        outer: o,
+    };
+    let demand = Demand {
+        source: wide(source),
+        sink: wide(sink),
+        value: value,
+    };
     questions::solve(
         tails,
         rotations,
@@ -159,15 +171,8 @@ pub fn answer_left<'a>(
         &from,
         &grouped,
         &starts,
-        &ends,
-        n,
-        m,
-        checked.faces,
-        checked.parts,
-        o,
-        source,
-        sink,
-        value,
+        sizes,
+        demand,
         flows,
         set,
     )
