@@ -6,7 +6,7 @@ use native.Mathlib.Omega.{arith}
 use lib.IntN.{ℤ}
 use Rattle.integers.specs.inner.Limited.{Limited}
 use Rattle.integers.proofs.Limits.{limited-more}
-use Rattle.refusals.specs.Order.{Check, NoneOf, FirstOf, Judged}
+use Rattle.refusals.specs.Order.{Check, NoneOf, FirstOf}
 use Rattle.refusals.specs.declared.Verdict.{Verdict}
 use Rattle.refusals.proofs.Order.{first-left, first-right, none-append, first-none}
 use Rattle.maps.specs.Map.{Map, darts}
@@ -32,13 +32,6 @@ pub taken-widened : (edges : ℕ) (c c' : ℕ → ℤ) (b : List ℕ) {w w' n n'
     → LimitsTaken edges c c' b w n v → LimitsTaken edges c c' b w' n' v'
 taken-widened edges c c' b {w' = w'} {n = n} {v' = v'} p q r h =
     subst (λ m. LimitsTaken edges c c' b w' m v') q (subst (λ x. LimitsTaken edges c c' b x n v') p (subst (LimitsTaken edges c c' b _ n) r h))
-
-pub last-widened : (nodes edges : ℕ) {source source' sink sink' : ℕ} (limits flows : List ℤ) (set : List ℕ) {v v' : Verdict}
-    → source ≡ source' → sink ≡ sink' → v ≡ v'
-    → Judged (lastChecks nodes edges source sink limits flows set) v → Judged (lastChecks nodes edges source' sink' limits flows set) v'
-last-widened nodes edges {source' = source'} {sink = sink} limits flows set {v' = v'} p q r h =
-    subst (λ t. Judged (lastChecks nodes edges source' t limits flows set) v') q
-    (subst (λ s. Judged (lastChecks nodes edges s sink limits flows set) v') p (subst (Judged _) r h))
 
 -- ── the drawing with capacities that have passed 6 and 7 ──
 module _ (𝓜 : Map) (c : ℕ → ℤ) (b : List ℕ) (w n : ℕ) (taken : NoneOf (takingChecks (𝓜 .edges) c b w n)) where

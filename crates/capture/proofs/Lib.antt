@@ -7,3 +7,4 @@ pub mod Lasting
 pub mod Limits
 pub mod Finding
 pub mod Least
+pub mod Lending

@@ -4,16 +4,17 @@ ghost use mathlib.Core.Path.{_≡_};
 ghost use Prim.Native.Nat.{ℕ, _+_, _-_, _*_, _<_, _≤_};
 ghost use lib.ListN.{length, set};
 ghost use Rattle.refusals.specs.Order.{Judged, NoneOf};
-ghost use Rattle.grouping.specs.inner.Walked.{Walked};
+ghost use Rattle.grouping.specs.inner.OpenDrawing.{OpenDrawing};
 ghost use Rattle.arrays.specs.At.{at, atℤ};
 ghost use Rattle.arrays.specs.Filled.{filled};
-ghost use Rattle.arrays.specs.inner.Drawn.{Drawn};
-ghost use Rattle.arrays.specs.Maps.{mapOf, drawingOf};
+ghost use Rattle.arrays.specs.Maps.{drawingOf};
 ghost use Rattle.capture.specs.Entry.{entryPlace, entryChecks};
 ghost use Rattle.capture.specs.Window.{laid};
 ghost use Rattle.capture.specs.Capture.{windowChecks, recordsChecks, limitsChecks, lastChecks, captureChecks, FoundAfter};
 ghost use Rattle.capture.specs.inner.Read.{entryAt};
 ghost use Rattle.capture.specs.inner.Taken.{goesOn, placeBehind, Passing, Stands, verdictOf, lowered, LimitsTaken};
+use arrays::Sizes;
+use arrays::Terminals;
 use questions::LargestAnswer;
 use refusals::Verdict;
 
@@ -253,9 +254,9 @@ fn check_last(
     questions::check_room(nodes, edges, flows.len(), set.len())
 }
 
-// The forward limits found, one for each edge, in the first places of their slice.
+// The forward limits found, into a slice with a place for each edge.
 fn write_limits(capacities: &[i32; 1024], edges: usize, limits: &mut [i32])
-    requires { ⌜ (edges ≤ 512) × (edges ≤ length (now limits)) ⌝ }
+    requires { ⌜ (edges ≤ 512) × (length (now limits) ≡ edges) ⌝ }
     ensures { λ _. ⌜ now (limits .exit) ≡ filled edges (λ e. atℤ (now (capacities .entry)) (2 * e)) (now (limits .entry)) ⌝ }
 {
     let mut e: usize = 0;
@@ -301,6 +302,14 @@ fn take_limits(
     check_found(&*capacities, edges)
 }
 
+// What is asked of a capture: how many records the window has, the record that it ends with, and the nodes that a flow goes from and to.
+pub struct After {
+    pub window: u16,
+    pub named: u64,
+    pub source: usize,
+    pub sink: usize,
+}
+
 // Largest on a drawing with the forward limits that a capture leaves after a named record. The capacities become those found; the limits are written for each
 // answer but a refusal, and a refusal leaves all three slices.
 pub fn largest_after<'a>(
@@ -312,45 +321,37 @@ pub fn largest_after<'a>(
     from: &'a [u16; 1024],
     grouped: &'a [u16; 1024],
     starts: &'a [u16; 1024],
-    ends: &'a [u16; 1024],
-    nodes: usize,
-    edges: usize,
-    faces: usize,
-    trees: usize,
-    outer: usize,
+    sizes: Sizes,
     capture: &[u8],
-    window: u16,
-    named: u64,
-    source: u16,
-    sink: u16,
+    after: After,
     limits: &mut [i32],
     flows: &mut [i32],
     set: &mut [u64],
 ) -> LargestAnswer
     requires { ⌜ (length (now capacities) ≡ 1024)
-        × Drawn (mapOf nodes edges (now tails) (now rotations)) (at (now lefts)) faces outer (atℤ (now capacities))
-        × Walked (2 * edges) faces outer trees (at (now rotations)) (now lefts) (now order) (now from) (now grouped) (now starts) (now ends) ⌝ }
-    ensures { λ r. ⌜ FoundAfter (drawingOf nodes edges outer (now (tails .entry)) (now (rotations .entry)) (now (capacities .entry)))
-        (captureChecks (drawingOf nodes edges outer (now (tails .entry)) (now (rotations .entry)) (now (capacities .entry)))
-        (now (capture .entry)) window named source sink (now (limits .entry)) (now (flows .entry)) (now (set .entry)))
-        (now (capture .entry)) window named source sink
+        × OpenDrawing sizes (now tails) (now rotations) (now lefts) (now capacities) (now order) (now from) (now grouped) (now starts) ⌝ }
+    ensures { λ r. ⌜ FoundAfter (drawingOf (sizes .nodes) (sizes .edges) (sizes .outer) (now (tails .entry)) (now (rotations .entry)) (now (capacities .entry)))
+        (captureChecks (drawingOf (sizes .nodes) (sizes .edges) (sizes .outer) (now (tails .entry)) (now (rotations .entry)) (now (capacities .entry)))
+        (now (capture .entry)) (after .window) (after .named) (after .source) (after .sink)
+        (now (limits .entry)) (now (flows .entry)) (now (set .entry)))
+        (now (capture .entry)) (after .window) (after .named) (after .source) (after .sink)
         (now (limits .entry)) (now (limits .exit)) (now (flows .entry)) (now (flows .exit)) (now (set .entry)) (now (set .exit)) r ⌝ }
 {
     let taken = take_limits(
         capture,
-        arrays::wide(window),
-        wide64(named),
-        edges,
+        arrays::wide(after.window),
+        wide64(after.named),
+        sizes.edges,
         &mut *capacities,
     );
     if let Verdict::Refused(k, p) = taken {
         return LargestAnswer::Refused(k, p);
     }
     let last = check_last(
-        nodes,
-        edges,
-        arrays::wide(source),
-        arrays::wide(sink),
+        sizes.nodes,
+        sizes.edges,
+        after.source,
+        after.sink,
         &*limits,
         &*flows,
         &*set,
@@ -358,7 +359,13 @@ pub fn largest_after<'a>(
     if let Verdict::Refused(k, p) = last {
         return LargestAnswer::Refused(k, p);
     }
-    write_limits(&*capacities, edges, limits);
+    let edges = sizes.edges;
+    let words = node_sets::words_for(sizes.nodes);
+    let terminals = Terminals {
+        source: after.source,
+        sink: after.sink,
+    };
+    write_limits(&*capacities, edges, &mut limits[0..edges]);
     questions::largest(
         tails,
         rotations,
@@ -368,15 +375,9 @@ pub fn largest_after<'a>(
         from,
         grouped,
         starts,
-        ends,
-        nodes,
-        edges,
-        faces,
-        trees,
-        outer,
-        source,
-        sink,
-        flows,
-        set,
+        sizes,
+        terminals,
+        &mut flows[0..edges],
+        &mut set[0..words],
     )
 }
