@@ -158,62 +158,60 @@ module _ (s : List ℕ) (net : Network) (open' : NoneOf (sheetChecks s) × Holds
         small = small;
       }
 
-  pub solved-sheet : (source sink : ℕ) {v value : ℤ} → v ≡ value → (flows flows' : List ℤ) (set set' : List ℕ) (r : SolveAnswer)
+  pub solved-sheet : {u source w sink : ℕ} {v value : ℤ} → u ≡ source → w ≡ sink → v ≡ value → (flows flows' : List ℤ) (set set' : List ℕ) (r : SolveAnswer)
       → Solved held
-      (questionChecks (net .sizes .nodes) (net .sizes .edges) source sink v flows set) source sink v flows flows' set set' r
+      (questionChecks (net .sizes .nodes) (net .sizes .edges) u w v flows set) u w v flows flows' set set' r
       → Solves s source sink value flows flows' set set' r
   unfolding solveChecks
-  solved-sheet source sink {value = value} e flows flows' set set' r h =
+  solved-sheet {source = source} {sink = sink} {value = value} from to e flows flows' set set' r h =
       solved-after (sheetChecks s) (open' .0) (sheetDrawing s) _ source sink value flows flows' set set' r
       (subst (λ 𝓓. Solved 𝓓 (questionChecks (𝓓 .map .nodes) (𝓓 .map .edges) source sink value flows set) source sink value flows flows' set set' r) same
-      (subst (λ w. Solved held (questionChecks (net .sizes .nodes) (net .sizes .edges) source sink w flows set) source sink w flows flows' set set' r) e h))
+      (rw (from, to, e) at h))
 
   -- and its set is the one that the search names
-  pub named-sheet : (source sink : ℕ) {v value : ℤ} → v ≡ value → (set' : List ℕ) (r : SolveAnswer)
-      → SetNamed held source sink v set' r
-      → SetNamed (sheetDrawing s) source sink value set' r
-  named-sheet source sink {value = value} e set' r h =
-      subst (λ 𝓓. SetNamed 𝓓 source sink value set' r) same (subst (λ w. SetNamed held source sink w set' r) e h)
+  pub named-sheet : {u source w sink : ℕ} {v value : ℤ} → u ≡ source → w ≡ sink → v ≡ value → (set' : List ℕ) (r : SolveAnswer)
+      → SetNamed held u w v set' r → SetNamed (sheetDrawing s) source sink value set' r
+  named-sheet {source = source} {sink = sink} {value = value} from to e set' r h =
+      subst (λ 𝓓. SetNamed 𝓓 source sink value set' r) same (rw (from, to, e) at h)
 
-  pub largest-sheet : (source sink : ℕ) (flows flows' : List ℤ) (set set' : List ℕ) (r : LargestAnswer)
-      → LargestFound held
-      (searchChecks (net .sizes .nodes) (net .sizes .edges) source sink flows set) source sink flows flows' set set' r
+  pub largest-sheet : {u source w sink : ℕ} → u ≡ source → w ≡ sink → (flows flows' : List ℤ) (set set' : List ℕ) (r : LargestAnswer)
+      → LargestFound held (searchChecks (net .sizes .nodes) (net .sizes .edges) u w flows set) u w flows flows' set set' r
       → FindsLargest s source sink flows flows' set set' r
   unfolding largestChecks
-  largest-sheet source sink flows flows' set set' r h =
+  largest-sheet {source = source} {sink = sink} from to flows flows' set set' r h =
       largest-after (sheetChecks s) (open' .0) (sheetDrawing s) _ source sink flows flows' set set' r
-      (subst (λ 𝓓. LargestFound 𝓓 (searchChecks (𝓓 .map .nodes) (𝓓 .map .edges) source sink flows set) source sink flows flows' set set' r) same h)
+      (subst (λ 𝓓. LargestFound 𝓓 (searchChecks (𝓓 .map .nodes) (𝓓 .map .edges) source sink flows set) source sink flows flows' set set' r) same
+      (rw (from, to) at h))
 
-  pub range-sheet : (source sink : ℕ) (low low' : List ℤ) (below below' : List ℕ) (high high' : List ℤ) (above above' : List ℕ) (r : RangeAnswer)
-      → RangeFound held
-      (spanChecks (net .sizes .nodes) (net .sizes .edges) source sink low below high above) source sink low low' below below' high high' above above' r
+  pub range-sheet : {u source w sink : ℕ} → u ≡ source → w ≡ sink
+      → (low low' : List ℤ) (below below' : List ℕ) (high high' : List ℤ) (above above' : List ℕ) (r : RangeAnswer)
+      → RangeFound held (spanChecks (net .sizes .nodes) (net .sizes .edges) u w low below high above) u w low low' below below' high high' above above' r
       → FindsRange s source sink low low' below below' high high' above above' r
   unfolding rangeChecks
-  range-sheet source sink low low' below below' high high' above above' r h =
+  range-sheet {source = source} {sink = sink} from to low low' below below' high high' above above' r h =
       range-after (sheetChecks s) (open' .0) (sheetDrawing s) _ source sink low low' below below' high high' above above' r
       (subst (λ 𝓓. RangeFound 𝓓 (spanChecks (𝓓 .map .nodes) (𝓓 .map .edges) source sink low below high above)
-      source sink low low' below below' high high' above above' r) same h)
+      source sink low low' below below' high high' above above' r) same (rw (from, to) at h))
 
-  pub raise-sheet : (source sink : ℕ) {v value : ℤ} → v ≡ value → (edge : ℕ) (flows flows' : List ℤ) (set set' : List ℕ) (r : RaiseAnswer)
-      → RaiseFound held
-      (limitChecks (net .sizes .nodes) (net .sizes .edges) source sink v edge flows set) source sink v edge flows flows' set set' r
+  pub raise-sheet : {u source w sink x edge : ℕ} {v value : ℤ} → u ≡ source → w ≡ sink → v ≡ value → x ≡ edge
+      → (flows flows' : List ℤ) (set set' : List ℕ) (r : RaiseAnswer)
+      → RaiseFound held (limitChecks (net .sizes .nodes) (net .sizes .edges) u w v x flows set) u w v x flows flows' set set' r
       → RaisesLimit s source sink value edge flows flows' set set' r
   unfolding raiseChecks
-  raise-sheet source sink {value = value} e edge flows flows' set set' r h =
+  raise-sheet {source = source} {sink = sink} {edge = edge} {value = value} from to e along flows flows' set set' r h =
       raise-after (sheetChecks s) (open' .0) (sheetDrawing s) _ source sink value edge flows flows' set set' r
       (subst (λ 𝓓. RaiseFound 𝓓 (limitChecks (𝓓 .map .nodes) (𝓓 .map .edges) source sink value edge flows set)
-      source sink value edge flows flows' set set' r) same
-      (subst (λ w. RaiseFound held (limitChecks (net .sizes .nodes) (net .sizes .edges) source sink w edge flows set) source sink w edge flows flows' set set' r) e h))
+      source sink value edge flows flows' set set' r) same (rw (from, to, e, along) at h))
 
-  pub after-sheet : (b : List ℕ) (w n source sink : ℕ) (limits limits' flows flows' : List ℤ) (set set' : List ℕ) (r : LargestAnswer)
-      → FoundAfter held
-      (captureChecks held b w n source sink limits flows set)
-      b w n source sink limits limits' flows flows' set set' r
+  pub after-sheet : (b : List ℕ) (w n : ℕ) {u source x sink : ℕ} → u ≡ source → x ≡ sink
+      → (limits limits' flows flows' : List ℤ) (set set' : List ℕ) (r : LargestAnswer)
+      → FoundAfter held (captureChecks held b w n u x limits flows set) b w n u x limits limits' flows flows' set set' r
       → FindsAfter s b w n source sink limits limits' flows flows' set set' r
   unfolding afterChecks
-  after-sheet b w n source sink limits limits' flows flows' set set' r h =
+  after-sheet b w n {source = source} {sink = sink} from to limits limits' flows flows' set set' r h =
       after-after (sheetChecks s) (open' .0) (sheetDrawing s) _ b w n source sink limits limits' flows flows' set set' r
-      (subst (λ 𝓓. FoundAfter 𝓓 (captureChecks 𝓓 b w n source sink limits flows set) b w n source sink limits limits' flows flows' set set' r) same h)
+      (subst (λ 𝓓. FoundAfter 𝓓 (captureChecks 𝓓 b w n source sink limits flows set) b w n source sink limits limits' flows flows' set set' r) same
+      (rw (from, to) at h))
 
   pub page-sheet : (n : ℕ) (question : ℕ → Question) (flows flows' : List ℤ) (sets sets' : List ℕ) (r : Page)
       → Paged (listChecks (net .sizes .nodes) (net .sizes .edges) n flows sets) (net .sizes .edges) (wordsFor (net .sizes .nodes)) n
@@ -240,14 +238,12 @@ module _ (s : List ℕ) (net : Network) (open' : NoneOf (sheetChecks s) × Holds
       lines-of (listChecks (nodesOf s) (edgesOf s) n flows sets) (edgesOf s) (wordsFor (nodesOf s)) n (λ i. solvedAlone (sheetDrawing s) (question i))
       flows flows' sets sets' r p passed i l .1
 
-  pub marked-sheet : (source sink : ℕ) (flows : List ℤ) (r : MarkAnswer)
-      → Marked held
-      (paperChecks held source sink flows) source sink flows r
-      → Marks s source sink flows r
+  pub marked-sheet : {u source w sink : ℕ} → u ≡ source → w ≡ sink → (flows : List ℤ) (r : MarkAnswer)
+      → Marked held (paperChecks held u w flows) u w flows r → Marks s source sink flows r
   unfolding markChecks
-  marked-sheet source sink flows r h =
+  marked-sheet {source = source} {sink = sink} from to flows r h =
       marked-after (sheetChecks s) (open' .0) (sheetDrawing s) _ source sink flows r
-      (subst (λ 𝓓. Marked 𝓓 (paperChecks 𝓓 source sink flows) source sink flows r) same h)
+      (subst (λ 𝓓. Marked 𝓓 (paperChecks 𝓓 source sink flows) source sink flows r) same (rw (from, to) at h))
 
   pub levels-sheet : (flows levels levels' : List ℤ) (r : LevelAnswer)
       → LevelsGiven held

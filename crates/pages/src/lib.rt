@@ -160,7 +160,18 @@ fn ask<'a>(
         value: q.value,
     };
     questions::solve(
-        tails, rotations, lefts, capacities, order, from, grouped, starts, sizes, demand, flows, set,
+        tails,
+        rotations,
+        lefts,
+        capacities,
+        order,
+        from,
+        grouped,
+        starts,
+        sizes,
+        demand,
+        flows,
+        set,
     )
 }
 

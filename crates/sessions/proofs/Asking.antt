@@ -80,20 +80,19 @@ drawings-same {m = m} {o = o} {nodes = nodes} {edges = edges} p q r tails rotati
     ∙ ap (λ k. drawingOf nodes edges k tails rotations left) r
 
 -- what was answered on a fit drawing, said of the session's
-pub answered : (𝓓 𝓔 : Drawing) → 𝓓 ≡ 𝓔 → Fit 𝓓 → (source sink : ℕ) {v value : ℤ} → v ≡ value
+pub answered : (𝓓 𝓔 : Drawing) → 𝓓 ≡ 𝓔 → Fit 𝓓 → {s source t sink : ℕ} {v value : ℤ} → s ≡ source → t ≡ sink → v ≡ value
     → (flows flows' : List ℤ) (set set' : List ℕ) (r : SolveAnswer)
-    → Solved 𝓓 (questionChecks (𝓓 .map .nodes) (𝓓 .map .edges) source sink v flows set) source sink v flows flows' set set' r
+    → Solved 𝓓 (questionChecks (𝓓 .map .nodes) (𝓓 .map .edges) s t v flows set) s t v flows flows' set set' r
     → Solved 𝓔 (askChecks 𝓔 source sink value flows set) source sink value flows flows' set set' r
-answered 𝓓 𝓔 e fit source sink {v} {value} q flows flows' set set' r h =
-    subst (λ w. Solved 𝓔 (askChecks 𝓔 source sink w flows set) source sink w flows flows' set set' r) q
-    (subst (λ 𝓕. Solved 𝓕 (askChecks 𝓕 source sink v flows set) source sink v flows flows' set set' r) e
-    (solved-same 𝓓 _ _ (same-sym _ _ (fit-same 𝓓 source sink v flows set fit)) source sink v flows flows' set set' r h))
+answered 𝓓 𝓔 e fit {source = source} {sink = sink} {value = value} from to q flows flows' set set' r h =
+    subst (λ 𝓕. Solved 𝓕 (askChecks 𝓕 source sink value flows set) source sink value flows flows' set set' r) e
+    (solved-same 𝓓 _ _ (same-sym _ _ (fit-same 𝓓 source sink value flows set fit)) source sink value flows flows' set set' r (rw (from, to, q) at h))
 
 -- the set that the search names, said of the session's drawing; and that this is fit
-pub named-answered : (𝓓 𝓔 : Drawing) → 𝓓 ≡ 𝓔 → (source sink : ℕ) {v value : ℤ} → v ≡ value → (set' : List ℕ) (r : SolveAnswer)
-    → SetNamed 𝓓 source sink v set' r → SetNamed 𝓔 source sink value set' r
-named-answered 𝓓 𝓔 e source sink {v} q set' r h =
-    subst (λ w. SetNamed 𝓔 source sink w set' r) q (subst (λ 𝓕. SetNamed 𝓕 source sink v set' r) e h)
+pub named-answered : (𝓓 𝓔 : Drawing) → 𝓓 ≡ 𝓔 → {s source t sink : ℕ} {v value : ℤ} → s ≡ source → t ≡ sink → v ≡ value → (set' : List ℕ) (r : SolveAnswer)
+    → SetNamed 𝓓 s t v set' r → SetNamed 𝓔 source sink value set' r
+named-answered 𝓓 𝓔 e {source = source} {sink = sink} {value = value} from to q set' r h =
+    subst (λ 𝓕. SetNamed 𝓕 source sink value set' r) e (rw (from, to, q) at h)
 
 pub fit-answered : (𝓓 𝓔 : Drawing) → 𝓓 ≡ 𝓔 → Fit 𝓓 → (r : SolveAnswer) → OnFit 𝓔 r
 fit-answered 𝓓 𝓔 e fit Can = subst Fit e fit

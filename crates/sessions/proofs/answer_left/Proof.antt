@@ -65,18 +65,18 @@ bounded : (c : tie.Else1) → InBounds (held (c .before))
 bounded c = said-yes (c .before .in-bounds .ensures) (unless-left (c .before .in-bounds .result) (c .if1 .left))
 
 abbrev within : tie.After-check-map → tie.Else1
-within c = c .before .before .before .before .before .before .before
+within c = c .before .before .before .before .before .before
 
 check-map-requires : tie.Need-check-map-requires
 check-map-requires c κs =
-    let b = bounded (c .before .before .before .before .before .before) in
-    (b .few-edges, b .few-nodes, b .outer-in, refl, refl, refl, refl, refl, refl, b .range)
+    let b = bounded (c .before .before .before .before .before) in
+    (b .few-edges, b .few-nodes, b .outer-in, refl, refl, refl, refl, refl, b .range)
 
 returns-2 : tie.Need-returns-2
 returns-2 c =
     let m = c .before .before .before in
     let b = within (m) .before in
-    let r = map-refused (held b) _ _ _ _ (c .before .verdict .given .1) (m .check-map .ensures .6) in
+    let r = map-refused (held b) _ _ _ _ (c .before .verdict .given .1) (m .check-map .ensures .5) in
     ((unfit-answered (held b) (given b) (same b) r _ _ _ _ _, refl, refl), tt, tt)
 
 -- ── fit ──
@@ -88,27 +88,32 @@ passed : (c : tie.After-enum-told)
 passed c =
     let m = c .before .before in
     map-passed (held (within m .before)) (at (m .check-map .last .1 .1 .1 .1 .1 .0)) (m .check-map .result .faces) (c .enum-told .given .1)
-    (m .check-map .ensures .6)
+    (m .check-map .ensures .5)
 
 fit : (c : tie.After-enum-told) → Fit (held (within (c .before .before) .before))
 fit c = record { bounds = bounded (within (c .before .before)); passes = passed c .0 }
 
 solve-requires : tie.Need-solve-requires
 solve-requires c κs =
-    let t = c .before .before .before .before .before .before .before .before in
+    let t = c .before .before .before .before .before .before .before .before .before in
     let m = t .before .before in
-    let p = passed t in
-    (fit-drawn (held (within m .before)) (fit t) _ _ (p .1) (p .2), if-passed (t .enum-told .given .1) (m .check-map .ensures .7))
+    let p = passed t in record {
+      drawn = fit-drawn (held (within m .before)) (fit t) _ _ (p .1) (p .2);
+      walked = if-passed (t .enum-told .given .1) (m .check-map .ensures .6);
+    }
 
 returns-3 : tie.Need-returns-3
 returns-3 c =
     let k = c .before .before .before in
-    let t = k .before .before .before .before .before .before .before .before .before in
+    let w = k .before .before .before .before .before .before .before .before in
+    let t = w .before .before in
     let b = within (t .before .before) .before in
     let s = begun b in
-    let q = number-of-bits _ (s .fits .value) in (
-      answered (held b) (given b) (same b) (fit t) (s .args .source) (s .args .sink) q _ _ _ _ (k .solve .result) (k .solve .ensures .0),
-      named-answered (held b) (given b) (same b) (s .args .source) (s .args .sink) q _ (k .solve .result) (k .solve .ensures .1),
+    let q = number-of-bits _ (s .fits .value) in
+    let from = w .before .wide4 .ensures in
+    let to = w .wide5 .ensures in (
+      answered (held b) (given b) (same b) (fit t) from to q _ _ _ _ (k .solve .result) (k .solve .ensures .0),
+      named-answered (held b) (given b) (same b) from to q _ (k .solve .result) (k .solve .ensures .1),
       fit-answered (held b) (given b) (same b) (fit t) (k .solve .result),
     )
 
@@ -125,6 +130,8 @@ answer-left-spec =
     (λ c. search needs)
     returns-2
     (λ c. search needs)
+    (λ c κs. search needs)
+    (λ c κs. search needs)
     solve-requires
     (λ c. search needs)
     (λ c. search needs)
