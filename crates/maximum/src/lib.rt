@@ -703,6 +703,7 @@ pub fn maximize_on<'a>(
         × Maximized (mapOf (sizes .nodes) (sizes .edges) (now (tails .entry)) (now (rotations .entry))) (sizes .outer) (atℤ (now (capacities .entry)))
         (demand .source) (demand .sink) (now (flows .entry)) (now (flows .exit)) (now (a .exit)) r ⌝ }
 {
+    let carried = demand.value;
     copy_flows(known, sizes.edges, &mut *flows);
     let likely = begin(
         tails,
@@ -719,7 +720,7 @@ pub fn maximize_on<'a>(
     };
     let mut b = [0u8; 1024];
     let given = Bounds {
-        low: demand.value,
+        low: carried,
         high: cuts::capacity(tails, capacities, &*a, 2 * sizes.edges),
         found: true,
         next: Next::High,

@@ -54,7 +54,7 @@ ground c = ground-of (c .pre .0) (c .pre .1)
 
 copy-flows-requires : tie.Need-copy-flows-requires
 copy-flows-requires c κs =
-    let s = c .before in
+    let s = c .before .before in
     let k = s .pre .4 in
     let x = k .0 in
     let a = s .args in
@@ -74,7 +74,7 @@ same-carried s =
 
 -- the slice after the copy
 abbrev given : tie.After-copy-flows → tie.Start
-given c = c .before .before
+given c = c .before .before .before
 
 abbrev since : tie.After-copy-flows → List ℤ
 since c = c .copy-flows .last .1 .1 .0
@@ -140,7 +140,7 @@ bounds c B =
 
 try-likely-requires : tie.Need-try-likely-requires
 try-likely-requires c κs =
-    let q = c .before .before .before .before in
+    let q = c .before .before .before in
     let s = start q in
     let p = s .pre in (
       (
@@ -158,7 +158,7 @@ try-likely-requires c κs =
 
 -- ── the high bound was tried ──
 abbrev measured : tie.After-try-likely → tie.After-capacity
-measured c = c .before .before .before .before .before
+measured c = c .before .before .before .before
 
 abbrev origin : tie.After-try-likely → tie.Start
 origin c = start (measured c)
