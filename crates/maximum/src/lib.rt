@@ -31,7 +31,7 @@ ghost use Rattle.maximum.specs.inner.Bracket.{Closer};
 ghost use Rattle.maximum.specs.inner.Narrowing.{Narrows, Lowers, Joins};
 ghost use Rattle.maximum.specs.inner.Maximum.{Maximized};
 ghost use Rattle.maximum.specs.inner.Probing.{Probes};
-ghost use Rattle.maximum.specs.inner.Underway.{Underway};
+ghost use Rattle.maximum.specs.inner.Underway.{Underway, LentPivots};
 use arrays::Demand;
 use arrays::Sizes;
 use arrays::Terminals;
@@ -326,9 +326,7 @@ fn propose<'a>(
     parents: &mut [u16; 1024],
     a: &mut [u8; 1024],
 ) -> i32
-    requires { ⌜ (length (now parents) ≡ 1024) × (length (now a) ≡ 1024) × (length (now flows) ≡ sizes .edges)
-        × (sizes .nodes ≤ 1024) × (sizes .edges ≤ 512) × (terminals .source < 1024) × (terminals .sink < 1024)
-        × ((d : ℕ) → d < 2 * sizes .edges → at (now tails) d < 1024) × ((d : ℕ) → d < 2 * sizes .edges → Limited 2000000 (atℤ (now capacities) d)) ⌝ }
+    requires { ⌜ LentPivots sizes terminals (now tails) (now capacities) (now flows) (now parents) (now a) ⌝ }
     ensures { λ r. ⌜ (length (now (parents .exit)) ≡ 1024) × (length (now (a .exit)) ≡ 1024)
         × ((inside : List ℕ) × Lowers (terminals .source) (terminals .sink)
         (cutOf (2 * sizes .edges) (at (now (tails .entry))) (atℤ (now (capacities .entry))) (flagged inside))
@@ -705,6 +703,7 @@ pub fn maximize_on<'a>(
         × Maximized (mapOf (sizes .nodes) (sizes .edges) (now (tails .entry)) (now (rotations .entry))) (sizes .outer) (atℤ (now (capacities .entry)))
         (demand .source) (demand .sink) (now (flows .entry)) (now (flows .exit)) (now (a .exit)) r ⌝ }
 {
+    let carried = demand.value;
     copy_flows(known, sizes.edges, &mut *flows);
     let likely = begin(
         tails,
@@ -721,7 +720,7 @@ pub fn maximize_on<'a>(
     };
     let mut b = [0u8; 1024];
     let given = Bounds {
-        low: demand.value,
+        low: carried,
         high: cuts::capacity(tails, capacities, &*a, 2 * sizes.edges),
         found: true,
         next: Next::High,

@@ -2,7 +2,7 @@
 use mathlib.Core.Path.{_≡_, sym, _∙_, ap, subst}
 use mathlib.Core.Bool.{true}
 use mathlib.Core.List.{List}
-use Prim.Native.Nat.{ℕ, _*_, _<_}
+use Prim.Native.Nat.{ℕ}
 use native.Mathlib.Omega.{arith}
 use lib.ListN.{length}
 use lib.IntN.{ℤ}
@@ -10,12 +10,10 @@ use lib.Signed.{_≤ℤ_, _<ℤ_}
 use mir.Syntax.{w32}
 use mir.Val.{toZ, ofZ}
 use borrow.Author.Needs.{needs}
-use Rattle.integers.specs.inner.Limited.{Limited}
 use Rattle.integers.proofs.Laws.{ge-of-test, lt-of-test}
-use Rattle.integers.proofs.Limits.{limited-more}
 use Rattle.signed.proofs.Limits.{same-bits}
 use Rattle.maps.specs.Map.{Map}
-use Rattle.arrays.specs.At.{at, atℤ}
+use Rattle.arrays.specs.At.{atℤ}
 use Rattle.arrays.specs.inner.Flags.{flagged}
 use Rattle.arrays.specs.Maps.{mapOf}
 use Rattle.maximum.specs.inner.Bracket.{Bracket}
@@ -24,6 +22,8 @@ use Rattle.maximum.proofs.Gap.{gap, gap-closer}
 use Rattle.maximum.proofs.Bracketing.{
   Ground,
   ground-of,
+  tails-few,
+  capacities-few,
   Probing,
   high-small,
   low-small,
@@ -54,12 +54,6 @@ caps c = atℤ (c .args .capacities .now)
 
 ground : (c : tie.Start Inv-loop μ-loop) → Ground (𝓜 c) (caps c) (c .args .begun .terminals .source) (c .args .begun .terminals .sink)
 ground c = ground-of (c .pre .0 .lent) (c .pre .0 .small)
-
-tails-in : (c : tie.Start Inv-loop μ-loop) (d : ℕ) → d < 2 * c .args .sizes .edges → at (c .args .tails .now) d < 1024
-tails-in c d l = let g = ground c in omega (arith, g .few-nodes, g .plane .sound .range .tail-in d l)
-
-caps-in : (c : tie.Start Inv-loop μ-loop) (d : ℕ) → d < 2 * c .args .sizes .edges → Limited 2000000 (caps c d)
-caps-in c d l = limited-more (omega arith) (c .pre .0 .small d l)
 
 loop-holds : tie.Need-loop-holds Inv-loop μ-loop
 loop-holds c =
@@ -109,7 +103,7 @@ join-requires : tie.Need-join-requires Inv-loop μ-loop
 join-requires c κs =
     let l = looping (c .before .before .before .before) in
     let b = start l in
-    (l .loop .inv .size-a, l .loop .inv .size-b, omega (arith, ground b .few-edges), omega arith, tails-in b, caps-in b)
+    (l .loop .inv .size-a, l .loop .inv .size-b, omega (arith, ground b .few-edges), omega arith, tails-few (ground b), capacities-few (ground b))
 
 same-length : tie.Need-same-length Inv-loop μ-loop
 same-length c = as-long (looping (c .before .before .before .before .before))

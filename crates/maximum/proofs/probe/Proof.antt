@@ -2,7 +2,7 @@
 use mathlib.Core.Path.{_≡_, refl, sym, _∙_, subst}
 use mathlib.Core.Bool.{Bool, true, false, false≢true}
 use mathlib.Core.List.{List}
-use Prim.Native.Nat.{ℕ, _*_, _<_}
+use Prim.Native.Nat.{ℕ, _<_}
 use native.Mathlib.Omega.{arith}
 use lib.IntN.{ℤ}
 use lib.Signed.{_≤ℤ_, _<ℤ_}
@@ -13,7 +13,7 @@ use Rattle.integers.specs.inner.Limited.{Limited}
 use Rattle.integers.proofs.Limits.{limited-more}
 use Rattle.signed.proofs.Limits.{same-bits}
 use Rattle.maps.specs.Map.{Map}
-use Rattle.arrays.specs.At.{at, atℤ}
+use Rattle.arrays.specs.At.{atℤ}
 use Rattle.arrays.specs.inner.Flags.{flagged}
 use Rattle.arrays.specs.Maps.{mapOf}
 use Rattle.arrays.proofs.FillLoops.{filled-length}
@@ -22,6 +22,11 @@ use Rattle.maximum.specs.inner.Bracket.{Bracket, Closer}
 use Rattle.maximum.proofs.Bracketing.{
   Ground,
   ground-of,
+  lent-pivots,
+  source-few,
+  sink-few,
+  tails-few,
+  capacities-few,
   high-small,
   low-small,
   between-limited,
@@ -61,12 +66,6 @@ hi c = toZ w32 (ofZ w32 (c .args .pending .bounds .high))
 
 ground : (c : tie.Start) → Ground (𝓜 c) (caps c) (src c) (snk c)
 ground c = let u = c .pre .0 .1 in ground-of (u .lent) (u .small)
-
-tails-in : (c : tie.Start) (d : ℕ) → d < 2 * c .args .sizes .edges → at (c .args .tails .now) d < 1024
-tails-in c d l = let g = ground c in omega (arith, g .few-nodes, g .plane .sound .range .tail-in d l)
-
-caps-in : (c : tie.Start) (d : ℕ) → d < 2 * c .args .sizes .edges → Limited 2000000 (caps c d)
-caps-in c d l = limited-more (omega arith) (c .pre .0 .1 .small d l)
 
 -- they are small
 lo-small : (c : tie.Start) → Limited 512000000 (c .args .pending .bounds .low)
@@ -175,17 +174,9 @@ propose-requires c κs =
     let k = can t in
     let b = base k in
     let g = ground b in
-    let exact = b .pre .0 .1 .lent .exact in (
-      k .decide .ensures .2,
-      b .pre .0 .1 .size-a,
-      filled-length _ _ (b .args .flows .now) (flows' k) (decided k (t .if1 .taken) .2) (omega (arith, exact)) ∙ exact,
-      g .few-nodes,
-      g .few-edges,
-      omega (arith, g .two .source-in, g .few-nodes),
-      omega (arith, g .two .sink-in, g .few-nodes),
-      tails-in b,
-      caps-in b,
-    )
+    let exact = b .pre .0 .1 .lent .exact in
+    lent-pivots (b .args .rotations .now) g (k .decide .ensures .2) (b .pre .0 .1 .size-a)
+    (filled-length _ _ (b .args .flows .now) (flows' k) (decided k (t .if1 .taken) .2) (omega (arith, exact)) ∙ exact)
 
 abbrev taken : tie.After-propose → tie.Then1
 taken c = c .before .before .before .before
@@ -247,12 +238,12 @@ narrow-by-requires c κs =
     let g = ground b in (
       b .pre .0 .1 .size-a,
       b .pre .0 .1 .size-b,
-      omega (arith, g .two .source-in, g .few-nodes),
-      omega (arith, g .two .sink-in, g .few-nodes),
+      source-few g,
+      sink-few g,
       omega (arith, g .few-edges),
       omega arith,
-      tails-in b,
-      caps-in b,
+      tails-few g,
+      capacities-few g,
     )
 
 abbrev probed : tie.After-narrow-by → tie.After-decide
