@@ -512,7 +512,7 @@ fn difference(of: &Call, [before, session, expected]: [&Session; 3], (result, an
     writeln!(text, "{}\nresult {result}, not {number}; answer {answer:?}, not {:?} {:?}", &call[..call.len().min(200)], due.answer, due.objection).unwrap();
     let fields = |s: &Session| format!("{} {} {} {:?}", s.nodes, s.edges, s.outer, s.standing);
     writeln!(text, "session {}, not {}, before {}", fields(session), fields(expected), fields(before)).unwrap();
-    let most = 2 * (expected.edges as usize).min(8);
+    let most = 2 * (expected.edges as usize).clamp(4, 8);
     writeln!(text, "limits {:?}, not {:?}", &session.limits[..most], &expected.limits[..most]).unwrap();
     writeln!(text, "left {:?}, not {:?}", &session.left[..most], &expected.left[..most]).unwrap();
     for party in 0..2 {

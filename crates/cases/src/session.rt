@@ -1,5 +1,5 @@
-// A session of two parties: a start on the sheet of part 1, then the calls of part 2 in turn. A call has 12 bytes: its kind, party, source and sink, 16 bits
-// each, and its value in 32. Kind 0 asks, 1 commits, any other clears.
+// A session of two parties: a start on the sheet of part 1, in memory that holds other numbers, then the calls of part 2 in turn. A call has 12 bytes: its
+// kind, party, source and sink, 16 bits each, and its value in 32. Kind 0 asks, 1 commits, any other clears.
 use super::case;
 use super::operations;
 use super::say;
@@ -22,6 +22,45 @@ fn say_left(edges: u16, left: &[i32; 1024]) {
             say::signed(left[d]);
         }
         d += 1;
+    }
+}
+
+fn darts_of(edges: u16) -> usize {
+    2 * arrays::wide(edges)
+}
+
+fn say_old() {
+    say::say(b": old");
+}
+
+// Of each array, what a start left as it was in memory: past the last dart, and in the offers, all is zero.
+fn say_old_halves(from: usize, values: &[u16; 1024]) {
+    let mut d: usize = from;
+    while d < 1024 {
+        if values[d] != 0 {
+            say_old();
+        }
+        d += 1;
+    }
+}
+
+fn say_old_limits(from: usize, values: &[i32; 1024]) {
+    let mut d: usize = from;
+    while d < 1024 {
+        if values[d] != 0 {
+            say_old();
+        }
+        d += 1;
+    }
+}
+
+fn say_old_offer(values: &[i32; 512]) {
+    let mut e: usize = 0;
+    while e < 512 {
+        if values[e] != 0 {
+            say_old();
+        }
+        e += 1;
     }
 }
 
@@ -126,16 +165,16 @@ fn call<'a>(
 }
 
 pub fn session(s: &[u8], flows: &mut [i32], set: &mut [u64]) {
-    let mut nodes: u16 = 0;
-    let mut edges: u16 = 0;
-    let mut outer: u16 = 0;
-    let mut tails = [0u16; 1024];
-    let mut rotations = [0u16; 1024];
-    let mut limits = [0i32; 1024];
-    let mut left = [0i32; 1024];
-    let mut standing = [0u8; 2];
-    let mut first = [0i32; 512];
-    let mut second = [0i32; 512];
+    let mut nodes: u16 = 9;
+    let mut edges: u16 = 9;
+    let mut outer: u16 = 9;
+    let mut tails = [9u16; 1024];
+    let mut rotations = [9u16; 1024];
+    let mut limits = [9i32; 1024];
+    let mut left = [9i32; 1024];
+    let mut standing = [3u8; 2];
+    let mut first = [9i32; 512];
+    let mut second = [9i32; 512];
     say_verdict(parties::start(
         case::part(s, 1),
         &mut nodes,
@@ -149,6 +188,13 @@ pub fn session(s: &[u8], flows: &mut [i32], set: &mut [u64]) {
         &mut first,
         &mut second,
     ));
+    let darts = darts_of(edges);
+    say_old_halves(darts, &tails);
+    say_old_halves(darts, &rotations);
+    say_old_limits(darts, &limits);
+    say_old_limits(darts, &left);
+    say_old_offer(&first);
+    say_old_offer(&second);
     let calls = case::part(s, 2);
     let mut at: usize = 0;
     while calls.len() - at >= 12 {
