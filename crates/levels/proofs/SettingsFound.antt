@@ -61,8 +61,8 @@ module _ {𝓜 : Map} {left : ℕ → ℕ} {faces outer : ℕ} {capacity : ℕ �
               (λ e. r .2 (same (r .0) (root-in (r .1)) ∙ e)),
             )),
             (λ r.
-              let o = zero-root (p .plane .sound) (p .left-is) ρs (r .0) (r .1) in
-              (r .0, o, (λ e. r .2 (sym (same (r .0) (root-in o)) ∙ e)))),
+                let o = zero-root (p .plane .sound) (p .left-is) ρs (r .0) (r .1) in
+                (r .0, o, (λ e. r .2 (sym (same (r .0) (root-in o)) ∙ e)))),
             tt,
           ),
         ) j

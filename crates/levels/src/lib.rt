@@ -204,14 +204,7 @@ pub fn levels_of<'a>(
     if let Verdict::Refused(k, p) = balanced {
         return LevelAnswer::Refused(k, p);
     }
-    write_levels(
-        rotations,
-        lefts,
-        edges,
-        outer,
-        given,
-        &mut levels[0..faces],
-    );
+    write_levels(rotations, lefts, edges, outer, given, &mut levels[0..faces]);
     LevelAnswer::Done
 }
 
