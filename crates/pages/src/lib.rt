@@ -151,7 +151,8 @@ fn ask<'a>(
 ) -> SolveAnswer
     requires { ⌜ OpenDrawing sizes (now tails) (now rotations) (now lefts) (now capacities) (now order) (now from) (now grouped) (now starts)
         × StretchesLent sizes (now flows) (now set) ⌝ }
-    ensures { λ r. ⌜ solvedAlone (drawingOf (sizes .nodes) (sizes .edges) (sizes .outer) (now (tails .entry)) (now (rotations .entry)) (now (capacities .entry))) q
+    ensures { λ r. ⌜ solvedAlone
+        (drawingOf (sizes .nodes) (sizes .edges) (sizes .outer) (now (tails .entry)) (now (rotations .entry)) (now (capacities .entry))) q
         (now (flows .entry)) (now (flows .exit)) (now (set .entry)) (now (set .exit)) r ⌝ }
 {
     let demand = Demand {

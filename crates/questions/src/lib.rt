@@ -149,7 +149,8 @@ pub fn largest<'a>(
     set: &mut [u64],
 ) -> LargestAnswer
     requires { ⌜ OpenSheet sizes (now tails) (now rotations) (now lefts) (now capacities) (now order) (now from) (now grouped) (now starts) ⌝ }
-    ensures { λ r. ⌜ LargestFound (drawingOf (sizes .nodes) (sizes .edges) (sizes .outer) (now (tails .entry)) (now (rotations .entry)) (now (capacities .entry)))
+    ensures { λ r. ⌜ LargestFound
+        (drawingOf (sizes .nodes) (sizes .edges) (sizes .outer) (now (tails .entry)) (now (rotations .entry)) (now (capacities .entry)))
         (searchChecks (sizes .nodes) (sizes .edges) (terminals .source) (terminals .sink) (now (flows .entry)) (now (set .entry)))
         (terminals .source) (terminals .sink) (now (flows .entry)) (now (flows .exit)) (now (set .entry)) (now (set .exit)) r ⌝ }
 {

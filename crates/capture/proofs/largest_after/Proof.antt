@@ -83,7 +83,9 @@ roomy : (c : tie.After-words-for) →
     let a = home c .args in
     NoneOf (searchChecks (a .sizes .nodes) (a .sizes .edges) (a .after .source) (a .after .sink) (a .flows .now) (a .set .now))
     × (a .sizes .edges ≤ length (a .limits .now))
-roomy c = let a = home c .args in last-search (a .sizes .nodes) (a .sizes .edges) (a .after .source) (a .after .sink) (a .limits .now) (a .flows .now) (a .set .now) (last (c .before))
+roomy c =
+    let a = home c .args in
+    last-search (a .sizes .nodes) (a .sizes .edges) (a .after .source) (a .after .sink) (a .limits .now) (a .flows .now) (a .set .now) (last (c .before))
 
 -- the capacities are those found
 are : (c : tie.After-enum-told2) →
@@ -107,7 +109,8 @@ returns c =
     let a = begun k .args in (
       refl,
       (
-        taking-refused (drawing (begun k)) (a .capture .now) (a .after .window) (a .after .named) (a .after .source) (a .after .sink) (a .limits .now) (a .flows .now) (a .set .now) _ _
+        taking-refused (drawing (begun k)) (a .capture .now) (a .after .window) (a .after .named) (a .after .source) (a .after .sink) (a .limits .now)
+            (a .flows .now) (a .set .now) _ _
             (taken-as k (Refused _ _) (c .before .taken .given .1)),
         refl,
         refl,
@@ -124,7 +127,8 @@ returns-2 c =
     let a = start t .args in (
       refl,
       (
-        last-refused (drawing (start t)) (a .capture .now) (a .after .window) (a .after .named) (a .after .source) (a .after .sink) (a .limits .now) (a .flows .now) (a .set .now)
+        last-refused (drawing (start t)) (a .capture .now) (a .after .window) (a .after .named) (a .after .source) (a .after .sink) (a .limits .now)
+            (a .flows .now) (a .set .now)
             (taken t .0) _ _ (last-as k (Refused _ _) (c .before .last .given .1)),
         refl,
         refl,
@@ -185,7 +189,8 @@ returns-3 c =
     let t = h .before in
     let s = start (checked t) in
     let a = s .args in
-    largest-given (drawing s) (a .capture .now) (a .after .window) (a .after .named) (a .after .source) (a .after .sink) (a .limits .now) (a .flows .now) (a .set .now)
+    largest-given (drawing s) (a .capture .now) (a .after .window) (a .after .named) (a .after .source) (a .after .sink) (a .limits .now)
+    (a .flows .now) (a .set .now)
     (taken (checked t) .0) (atℤ (capacities' (limited (checked t)))) (taken (checked t) .1) (last t) _ _ _ (k .largest .result)
     (part-filled (a .sizes .edges) (a .limits .now) _ _ (w .write-limits .ensures))
     (largest-back (foundAt h) (a .after .source) (a .after .sink) (a .flows .now) (a .set .now) (roomy h .0) (h .words-for .result) (h .words-for .ensures)

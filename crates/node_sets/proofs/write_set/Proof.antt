@@ -22,8 +22,13 @@ words-for-requires c κs = c .before .pre .few-nodes
 loop-holds : tie.Need-loop-holds Inv-loop μ-loop
 loop-holds c =
     let s = c .before .before in
-    let e = c .words-for .ensures in
-    (omega arith, omega (arith, e, s .pre .few-nodes), e, omega (arith, e, s .pre .exact), writing-start (s .args .inside .now) (s .args .nodes) (s .args .words .now))
+    let e = c .words-for .ensures in (
+      omega arith,
+      omega (arith, e, s .pre .few-nodes),
+      e,
+      omega (arith, e, s .pre .exact),
+      writing-start (s .args .inside .now) (s .args .nodes) (s .args .words .now),
+    )
 
 word-of-requires : tie.Need-word-of-requires Inv-loop μ-loop
 word-of-requires c κs = (c .before .before .before .before .pre .few-nodes, omega (arith, c .before .loop .inv .1))

@@ -18,7 +18,8 @@ abbrev Inv-loop : tie.InvT-loop
 Inv-loop tails rotations lefts capacities order from grouped starts sizes flows₀ sets₀
     list count edges words answers₀ i₀ flows sets answers i =
     (i ≤ count) × (count ≡ list .count) × (words ≡ wordsFor (sizes .nodes))
-    × Halfway edges words (λ j. solvedAlone (drawingOf (sizes .nodes) (sizes .edges) (sizes .outer) tails rotations capacities) (questionAt (list .questions) j))
+    × Halfway edges words (λ j. solvedAlone (drawingOf (sizes .nodes) (sizes .edges) (sizes .outer) tails rotations capacities)
+    (questionAt (list .questions) j))
     flows₀ sets₀ i flows sets answers
 
 abbrev μ-loop : tie.MeasureT-loop
@@ -38,13 +39,15 @@ sets-small c =
     let w = words-few _ (begun c .pre .0 .drawn .few-nodes) in
     small-end _ _ _ (c .loop-test .taken) (begun c .pre .1 .few) (omega (arith, w, c .before .before .words-for .ensures))
 
-flows-room : (c : tie.In-loop Inv-loop μ-loop) → c .before .loop .i * begun c .args .sizes .edges + begun c .args .sizes .edges ≤ length (c .before .loop .flows)
+flows-room : (c : tie.In-loop Inv-loop μ-loop)
+    → c .before .loop .i * begun c .args .sizes .edges + begun c .args .sizes .edges ≤ length (c .before .loop .flows)
 flows-room c = stretch-room _ _ _ _ _ (c .loop-test .taken) (begun c .pre .1 .flows-room) (c .before .loop .inv .3 .flows-behind)
 
 sets-room : (c : tie.In-loop Inv-loop μ-loop)
     → c .before .loop .i * c .before .before .words-for .result + c .before .before .words-for .result ≤ length (c .before .loop .sets)
 sets-room c =
-    stretch-room _ _ _ _ _ (c .loop-test .taken) (rw (c .before .before .words-for .ensures) (begun c .pre .1 .sets-room)) (c .before .loop .inv .3 .sets-behind)
+    stretch-room _ _ _ _ _ (c .loop-test .taken) (rw (c .before .before .words-for .ensures) (begun c .pre .1 .sets-room))
+    (c .before .loop .inv .3 .sets-behind)
 
 words-for-requires : tie.Need-words-for-requires Inv-loop μ-loop
 words-for-requires c κs = c .before .pre .0 .drawn .few-nodes
@@ -115,7 +118,8 @@ returns : tie.Need-returns Inv-loop μ-loop
 returns c =
     let s = c .before .before .before .before in
     let l = c .before .loop in
-    all-answered (s .args .sizes .nodes) (s .args .sizes .edges) (s .args .t10 .count) _ (l .i) _ (s .args .flows .now) (l .flows) (s .args .sets .now) (l .sets) (l .answers)
+    all-answered (s .args .sizes .nodes) (s .args .sizes .edges) (s .args .t10 .count) _ (l .i) _ (s .args .flows .now) (l .flows)
+    (s .args .sets .now) (l .sets) (l .answers)
     (l .inv .2) (l .inv .3) (omega (arith, l .inv .0, c .loop-test .left)) (s .pre .1 .few) (s .pre .1 .flows-room) (s .pre .1 .sets-room)
 
 pub answer-all-spec : {M : Type 1} → statement M

@@ -140,7 +140,8 @@ found c same =
 none : (c : tie.After-maximize) → NoneOf (checksAt (start c))
 none c =
     let a = start c .args in
-    largest-none (a .sizes .nodes) (a .sizes .edges) (a .terminals .source) (a .terminals .sink) (a .flows .now) (a .set .now) (two (asked (roomy c))) (room (roomy c))
+    largest-none (a .sizes .nodes) (a .sizes .edges) (a .terminals .source) (a .terminals .sink) (a .flows .now) (a .set .now) (two (asked (roomy c)))
+    (room (roomy c))
 
 -- ── the set written ──
 abbrev found-at : tie.After-words-for → tie.After-maximize
@@ -201,7 +202,8 @@ returns-4 c =
     let a = s .args in
     let r = found m (c .enum-told3 .given .1) in
     let ends = two (asked (roomy m)) in
-    let k = none-written (s .pre .opened .drawn .plane .sound .range) (capacityAt s) (written w) (a .terminals .source) (a .terminals .sink) ends (r .1) (r .2) in
+    let k = none-written (s .pre .opened .drawn .plane .sound .range) (capacityAt s) (written w) (a .terminals .source) (a .terminals .sink) ends
+    (r .1) (r .2) in
     (none m, r .0, (take (wordsFor (a .sizes .nodes)) (set' w), set-written (written w), k))
 
 pub largest-spec : {M : Type 1} → statement M

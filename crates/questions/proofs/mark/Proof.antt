@@ -101,7 +101,8 @@ returns : tie.Need-returns
 returns c =
     let e = c .before .before .before in
     let s = begun e in
-    mark-ends (drawingAt s) (s .args .terminals .source) (s .args .terminals .sink) (s .args .flows .now) _ _ (ends-judged e (Refused _ _) (c .before .ends .given .1))
+    mark-ends (drawingAt s) (s .args .terminals .source) (s .args .terminals .sink) (s .args .flows .now) _ _
+    (ends-judged e (Refused _ _) (c .before .ends .given .1))
 
 returns-2 : tie.Need-returns-2
 returns-2 c =
@@ -132,7 +133,8 @@ fill-nets-requires c κs =
       omega (arith, part-length (s .args .sizes .edges) (s .args .flows .now) (t .before .before .before .before .if1 .left)),
       refl,
       (λ d l. omega (arith, p .tails-in d l, p .few-nodes)),
-      flows-small (drawingAt s .map) (atℤ (given s)) (atℤ (s .args .capacities .now)) (p .small) (within-given (t .before .before) Passed (t .enum-told2 .given .1)),
+      flows-small (drawingAt s .map) (atℤ (given s)) (atℤ (s .args .capacities .now)) (p .small)
+          (within-given (t .before .before) Passed (t .enum-told2 .given .1)),
       same-everywhere 1024 (pos 0),
     )
 
@@ -144,7 +146,8 @@ returns-4 c =
     let b = c .before .before .before in
     let t = fitting (filled b) in
     let s = base (roomy t) in
-    mark-balance (drawingAt s) (s .args .terminals .source) (s .args .terminals .sink) (s .args .flows .now) (two (roomy t)) (t .before .before .before .before .if1 .left) (within t) _ _
+    mark-balance (drawingAt s) (s .args .terminals .source) (s .args .terminals .sink) (s .args .flows .now) (two (roomy t))
+    (t .before .before .before .before .if1 .left) (within t) _ _
     (balance-judged b (Refused _ _) (c .before .balanced .given .1))
 
 -- ── the value is the sum at the source ──
@@ -167,7 +170,8 @@ returns-5 c =
     let t = fitting n in
     let s = start n in
     let x = s .args .flows .now in (
-      mark-none (drawingAt s) (s .args .terminals .source) (s .args .terminals .sink) x (two (roomy t)) (t .before .before .before .before .if1 .left) (within t)
+      mark-none (drawingAt s) (s .args .terminals .source) (s .args .terminals .sink) x (two (roomy t)) (t .before .before .before .before .if1 .left)
+          (within t)
           (balance-judged (e .before .before) Passed (e .enum-told3 .given .1)),
       number-of-bits _ (record { sfits = c .t29 .given })
           ∙ net-of (drawingAt s .map) (atℤ (given s)) (s .pre .few-nodes) (nets' n) (n .fill-nets .ensures .1) (s .args .terminals .source) (source-in n)

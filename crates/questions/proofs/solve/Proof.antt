@@ -1,6 +1,6 @@
 -- Solve meets its contract: the facts at three places, each gained by a check that did not refuse; then every way out is a law of `Solving` or `Sets`.
 use mathlib.Core.Path.{_≡_, refl, _∙_}
-use mathlib.Core.Bool.{Bool, false}
+use mathlib.Core.Bool.{Bool}
 use mathlib.Core.Logic.{inl}
 use mathlib.Core.List.{List, _++_}
 use Prim.Native.Nat.{ℕ, _-_, _≤_}
@@ -92,8 +92,14 @@ returns : tie.Need-returns
 returns c =
     let e = c .before .before .before in
     let a = begun e .args in
-    let j = ends-judged e (Refused _ _) (c .before .named .given .1) in
-    ((solve-ends (a .sizes .nodes) (a .sizes .edges) (a .demand .source) (a .demand .sink) (a .demand .value) (a .flows .now) (a .set .now) _ _ j, refl, refl), tt)
+    let j = ends-judged e (Refused _ _) (c .before .named .given .1) in (
+      (
+        solve-ends (a .sizes .nodes) (a .sizes .edges) (a .demand .source) (a .demand .sink) (a .demand .value) (a .flows .now) (a .set .now) _ _ j,
+        refl,
+        refl,
+      ),
+      tt,
+    )
 
 returns-2 : tie.Need-returns-2
 unfolding FirstOf valueChecks
@@ -102,7 +108,8 @@ returns-2 c =
     let s = begun (checked e) in
     let a = s .args in
     let out = rw (value-is (c .before .before)) at (said-yes (c .before .value-outside .ensures) (c .if1 .taken)) in
-    let first = solve-value (a .sizes .nodes) (a .sizes .edges) (a .demand .source) (a .demand .sink) (a .demand .value) (a .flows .now) (a .set .now) (two e) 15 0 (inl (out, refl, refl)) in
+    let first = solve-value (a .sizes .nodes) (a .sizes .edges) (a .demand .source) (a .demand .sink) (a .demand .value) (a .flows .now) (a .set .now)
+    (two e) 15 0 (inl (out, refl, refl)) in
     ((first, refl, refl), tt)
 
 check-room-requires : tie.Need-check-room-requires
@@ -113,8 +120,15 @@ returns-3 c =
     let r = c .before .before .before in
     let e = r .before in
     let a = base e .args in
-    let j = room-judged r (Refused _ _) (c .before .room .given .1) in
-    ((solve-room (a .sizes .nodes) (a .sizes .edges) (a .demand .source) (a .demand .sink) (a .demand .value) (a .flows .now) (a .set .now) (two (ended e)) (inside e) _ _ j, refl, refl), tt)
+    let j = room-judged r (Refused _ _) (c .before .room .given .1) in (
+      (
+        solve-room (a .sizes .nodes) (a .sizes .edges) (a .demand .source) (a .demand .sink) (a .demand .value) (a .flows .now) (a .set .now)
+            (two (ended e)) (inside e) _ _ j,
+        refl,
+        refl,
+      ),
+      tt,
+    )
 
 -- the flows of the edges are there to be lent
 flows-in : (c : tie.After-enum-told2) → base (asked c) .args .sizes .edges ≤ length (base (asked c) .args .flows .now)
@@ -169,7 +183,8 @@ none : (c : tie.After-decide) → NoneOf (checksAt (start c))
 none c =
     let e = asked (roomy c) in
     let a = start c .args in
-    solve-none (a .sizes .nodes) (a .sizes .edges) (a .demand .source) (a .demand .sink) (a .demand .value) (a .flows .now) (a .set .now) (two (ended e)) (inside e) (room (roomy c))
+    solve-none (a .sizes .nodes) (a .sizes .edges) (a .demand .source) (a .demand .sink) (a .demand .value) (a .flows .now) (a .set .now)
+    (two (ended e)) (inside e) (room (roomy c))
 
 returns-4 : tie.Need-returns-4
 returns-4 c = let d = c .before .before in ((none d, decided d (c .if2 .taken), refl), tt)

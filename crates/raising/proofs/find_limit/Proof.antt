@@ -100,7 +100,8 @@ returns-2 c =
     let last = l .least-limit .last in (
       l .least-limit .ensures .0,
       sought-as (drawing s) (a .demand .source) (a .demand .sink) (a .demand .value) (a .edge) (decided d (e .if1 .left) .0)
-          (last .1 .1 .1 .1 .1 .1 .1 .1 .1 .1 .1 .0) (last .1 .1 .1 .1 .1 .1 .1 .1 .1 .1 .1 .1 .0) {r = l .least-limit .result} refl (l .least-limit .ensures .1),
+          (last .1 .1 .1 .1 .1 .1 .1 .1 .1 .1 .1 .0) (last .1 .1 .1 .1 .1 .1 .1 .1 .1 .1 .1 .1 .0) {r = l .least-limit .result} refl
+          (l .least-limit .ensures .1),
     )
 
 pub find-limit-spec : {M : Type 1} → statement M

@@ -103,7 +103,8 @@ small c =
     record {
       low =
           le-trans (s .pre .0 .present .low)
-          (le-of-lt (above-present (drawing s) (a .demand .source) (a .demand .sink) (a .demand .value) (a .edge) (a .flows .now) (σ .range) (s .pre .0 .lent .ends) σ
+          (le-of-lt (above-present (drawing s) (a .demand .source) (a .demand .sink) (a .demand .value) (a .edge) (a .flows .now) (σ .range)
+          (s .pre .0 .lent .ends) σ
           (omega (arith, s .pre .0 .edge-in)) (s .pre .1) (d .0) (d .1)));
       high =
           under-most (drawing s) (a .demand .source) (a .demand .sink) (a .demand .value) (a .edge) (a .flows .now) (σ .range) (s .pre .0 .lent .ends) σ
@@ -158,7 +159,8 @@ decide-from-requires-2 c κs =
         opened = record {
           drawn = rw (capacities-are t)
               (raised-drawn (a .edge)
-              (le-of-lt (above-present (drawing s) (a .demand .source) (a .demand .sink) (a .demand .value) (a .edge) (a .flows .now) (σ .range) (p .lent .ends) σ
+              (le-of-lt (above-present (drawing s) (a .demand .source) (a .demand .sink) (a .demand .value) (a .edge) (a .flows .now) (σ .range)
+              (p .lent .ends) σ
               (omega (arith, p .edge-in)) (s .pre .1) (d .0) (d .1))) (small t .high) (p .lent .opened .drawn));
           walked = p .lent .opened .walked;
         };

@@ -110,8 +110,12 @@ returns : tie.Need-returns
 returns c =
     let e = c .before .before .before in
     let a = begun e .args in
-    let j = ends-judged e (Refused _ _) (c .before .named .given .1) in
-    (raise-ends (a .sizes .nodes) (a .sizes .edges) (a .demand .source) (a .demand .sink) (a .demand .value) (a .edge) (a .flows .now) (a .set .now) _ _ j, refl, refl)
+    let j = ends-judged e (Refused _ _) (c .before .named .given .1) in (
+      raise-ends (a .sizes .nodes) (a .sizes .edges) (a .demand .source) (a .demand .sink) (a .demand .value) (a .edge) (a .flows .now) (a .set .now)
+          _ _ j,
+      refl,
+      refl,
+    )
 
 returns-2 : tie.Need-returns-2
 unfolding FirstOf valueChecks
@@ -120,7 +124,8 @@ returns-2 c =
     let s = begun (checked e) in
     let a = s .args in
     let out = rw (value-is (c .before .before)) at (said-yes (c .before .value-outside .ensures) (c .if1 .taken)) in (
-      raise-value (a .sizes .nodes) (a .sizes .edges) (a .demand .source) (a .demand .sink) (a .demand .value) (a .edge) (a .flows .now) (a .set .now) (two e) 15 0 (inl (out, refl, refl)),
+      raise-value (a .sizes .nodes) (a .sizes .edges) (a .demand .source) (a .demand .sink) (a .demand .value) (a .edge) (a .flows .now) (a .set .now)
+          (two e) 15 0 (inl (out, refl, refl)),
       refl,
       refl,
     )
@@ -131,7 +136,8 @@ returns-3 c =
     let e = c .before .before in
     let a = base e .args in
     let out : a .sizes .edges ≤ a .edge = omega (arith, c .if2 .taken) in (
-      raise-edge (a .sizes .nodes) (a .sizes .edges) (a .demand .source) (a .demand .sink) (a .demand .value) (a .edge) (a .flows .now) (a .set .now) (two (ended e)) (inside e)
+      raise-edge (a .sizes .nodes) (a .sizes .edges) (a .demand .source) (a .demand .sink) (a .demand .value) (a .edge) (a .flows .now) (a .set .now)
+          (two (ended e)) (inside e)
           25 0 (inl (out, refl, refl)),
       refl,
       refl,
@@ -205,7 +211,8 @@ sought : (c : tie.After-find-limit) {answer : Found} → c .find-limit .result �
 sought c same =
     let s = start (known c) in
     let a = s .args in
-    sought-back (drawing s) (a .demand .source) (a .demand .sink) (a .demand .value) (a .edge) (a .flows .now) (lent' c) (inside' c) same (c .find-limit .ensures .1)
+    sought-back (drawing s) (a .demand .source) (a .demand .sink) (a .demand .value) (a .edge) (a .flows .now) (lent' c) (inside' c) same
+    (c .find-limit .ensures .1)
 
 -- ── a capacity serves ──
 returns-5 : tie.Need-returns-5

@@ -106,7 +106,10 @@ upper : (c : tie.After-words-for) → NoneOf (upperAt (start c))
 upper c = let t = c .before in upper-judged (t .before .before) Passed (t .enum-told3 .given .1)
 
 none : (c : tie.After-words-for) → NoneOf (checksAt (start c))
-none c = let a = start c .args in range-none (a .sizes .nodes) (a .sizes .edges) (a .terminals .source) (a .terminals .sink) (a .low .now) (a .below .now) (a .high .now) (a .above .now) (ends-two c) (lower (half c)) (upper c)
+none c =
+    let a = start c .args in
+    range-none (a .sizes .nodes) (a .sizes .edges) (a .terminals .source) (a .terminals .sink) (a .low .now) (a .below .now) (a .high .now) (a .above .now)
+    (ends-two c) (lower (half c)) (upper c)
 
 -- ── what is there to be lent ──
 low-in : (c : tie.After-words-for) → start c .args .sizes .edges ≤ length (start c .args .low .now)
@@ -126,8 +129,14 @@ returns : tie.Need-returns
 returns c =
     let e = c .before .before .before in
     let a = begun e .args in
-    let j = ends-judged e (Refused _ _) (c .before .named .given .1) in
-    (range-ends (a .sizes .nodes) (a .sizes .edges) (a .terminals .source) (a .terminals .sink) (a .low .now) (a .below .now) (a .high .now) (a .above .now) _ _ j, refl, refl, refl, refl)
+    let j = ends-judged e (Refused _ _) (c .before .named .given .1) in (
+      range-ends (a .sizes .nodes) (a .sizes .edges) (a .terminals .source) (a .terminals .sink) (a .low .now) (a .below .now) (a .high .now)
+          (a .above .now) _ _ j,
+      refl,
+      refl,
+      refl,
+      refl,
+    )
 
 check-room-requires : tie.Need-check-room-requires
 check-room-requires c κs = base c .pre .opened .drawn .few-nodes
@@ -138,7 +147,8 @@ returns-2 c =
     let e = r .before in
     let a = base e .args in
     let j = lower-judged r (Refused _ _) (c .before .low-room .given .1) in (
-      range-lower (a .sizes .nodes) (a .sizes .edges) (a .terminals .source) (a .terminals .sink) (a .low .now) (a .below .now) (a .high .now) (a .above .now) (two e) _ _ j,
+      range-lower (a .sizes .nodes) (a .sizes .edges) (a .terminals .source) (a .terminals .sink) (a .low .now) (a .below .now) (a .high .now)
+          (a .above .now) (two e) _ _ j,
       refl,
       refl,
       refl,
@@ -154,7 +164,8 @@ returns-3 c =
     let e = r .before in
     let a = base (asked e) .args in
     let j = upper-judged r (Refused _ _) (c .before .high-room .given .1) in (
-      range-upper (a .sizes .nodes) (a .sizes .edges) (a .terminals .source) (a .terminals .sink) (a .low .now) (a .below .now) (a .high .now) (a .above .now) (two (asked e)) (lower e)
+      range-upper (a .sizes .nodes) (a .sizes .edges) (a .terminals .source) (a .terminals .sink) (a .low .now) (a .below .now) (a .high .now)
+          (a .above .now) (two (asked e)) (lower e)
           _ _ j,
       refl,
       refl,
@@ -199,7 +210,8 @@ inside' c = c .maximize-from .last .1 .1 .1 .1 .1 .1 .1 .1 .1 .1 .1 .1 .0
 
 there-lent : (c : tie.After-maximize-from) {answer : Maximum} → c .maximize-from .result ≡ answer
     → Maximized (mapAt (start (passed c))) (start (passed c) .args .sizes .outer) (capacityAt (start (passed c))) (start (passed c) .args .terminals .source)
-    (start (passed c) .args .terminals .sink) (take (start (passed c) .args .sizes .edges - 0) (start (passed c) .args .high .now)) (lentHigh' c) (inside' c) answer
+    (start (passed c) .args .terminals .sink) (take (start (passed c) .args .sizes .edges - 0) (start (passed c) .args .high .now)) (lentHigh' c)
+    (inside' c) answer
 there-lent c same =
     let s = start (passed c) in
     let a = s .args in
@@ -322,7 +334,8 @@ maximize-on-requires c κs =
       (
         h .0 .0,
         take (a .sizes .edges - 0) (a .high .now),
-        known-back (s .pre .opened .drawn .plane .sound .range) (capacityAt s) (a .terminals .source) (a .terminals .sink) ends (a .sizes .outer) back (h .0 .1),
+        known-back (s .pre .opened .drawn .plane .sound .range) (capacityAt s) (a .terminals .source) (a .terminals .sink) ends (a .sizes .outer) back
+            (h .0 .1),
         filled-again (a .sizes .edges) (h .0 .0) (a .high .now) (lentHigh' f) (high-in m) (h .0 .2),
         part-length (a .sizes .edges) (a .high .now) (high-in m),
       ),

@@ -94,7 +94,12 @@ slice-set-from-sum c =
     let t = turn k in
     let φ = t .before .loop .inv .1 in
     let p = begun t .pre in
-    omega (arith, place-in _ _ _ _ φ (in-set k) (t .loop-test .taken) (omega (arith, p .6)), same-long _ _ _ _ φ (t .before .loop .inv .0) (omega (arith, p .6)))
+    omega (
+      arith,
+      place-in _ _ _ _ φ (in-set k) (t .loop-test .taken) (omega (arith, p .6)),
+      same-long _ _ _ _ φ (t .before .loop .inv .0)
+          (omega (arith, p .6)),
+    )
 
 add-place : tie.Need-add-place Inv-loop μ-loop
 add-place c = let t = turn (c .before) in omega (arith, place-few _ _ _ _ (t .before .loop .inv .1), t .loop-test .taken, begun t .pre .0)
