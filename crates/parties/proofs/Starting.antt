@@ -74,24 +74,25 @@ after-erase = λ i. record {
   offer = offersOf (written-whole (pos 0) 512 i) (written-whole (pos 0) 512 i);
 }
 
+-- an array that was copied from one that holds the values of a function
+pub array-copied : {A : Type 0} (n : ℕ) (to : List A) (x f : ℕ → A) {k : ℕ} → to ≡ tabulate k x → k ≡ n → x ≡ f → to ≡ tabulate n f
+array-copied n to x f e long same = e ∙ ap (λ k. tabulate k x) long ∙ ap (tabulate n) same
+
 -- all zeros, and then what the sheet says
 pub after-start : (s : List ℕ) (E S : Shared) → E ≡ emptied → S .nodes ≡ nodesOf s → S .edges ≡ edgesOf s → S .outer ≡ outerOf s
-    → (length (S .tails) ≡ 1024) × (at (S .tails) ≡ tailOf s) → (length (S .rotations) ≡ 1024) × (at (S .rotations) ≡ rotationOf s)
-    → (length (S .limits) ≡ 1024) × (atℤ (S .limits) ≡ capacityOf s) → S .left ≡ S .limits → S .standing ≡ E .standing → S .offer ≡ E .offer → S ≡ started s
+    → S .tails ≡ tabulate 1024 (tailOf s) → S .rotations ≡ tabulate 1024 (rotationOf s) → S .limits ≡ tabulate 1024 (capacityOf s)
+    → S .left ≡ tabulate 1024 (capacityOf s) → S .standing ≡ E .standing → S .offer ≡ E .offer → S ≡ started s
 after-start s E S erased n e o t r c l st off = λ i. record {
   nodes = n i;
   edges = e i;
   outer = o i;
-  tails = array-is 0 1024 (S .tails) (tailOf s) (t .0) (t .1) i;
-  rotations = array-is 0 1024 (S .rotations) (rotationOf s) (r .0) (r .1) i;
-  limits = limits-are i;
-  left = (l ∙ limits-are) i;
+  tails = t i;
+  rotations = r i;
+  limits = c i;
+  left = l i;
   standing = (st ∙ ap (λ (T : Shared). T .standing) erased) i;
   offer = (off ∙ ap (λ (T : Shared). T .offer) erased) i;
 }
-  where
-    limits-are : S .limits ≡ tabulate 1024 (capacityOf s)
-    limits-are = array-is (pos 0) 1024 (S .limits) (capacityOf s) (c .0) (c .1)
 
 -- ── a sheet decides the session that a start leaves, and the verdict ──
 pub one-start : (s : List ℕ) (S T : Shared) (v w : Verdict) → Starts s S v → Starts s T w → (S ≡ T) × (v ≡ w)

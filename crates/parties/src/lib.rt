@@ -82,9 +82,7 @@ pub fn start(
         (sharedOf (now (nodes .exit)) (now (edges .exit)) (now (outer .exit)) (now (tails .exit)) (now (rotations .exit)) (now (limits .exit))
         (now (left .exit)) (now (standing .exit)) (now (first .exit)) (now (second .exit))) r ⌝ }
 {
-    let mut lefts = [0u16; 1024];
-    let opened = sheets::open(sheet, &mut lefts);
-    let verdict = opened.verdict;
+    let net = sheets::open(sheet);
     erase(
         nodes,
         edges,
@@ -97,16 +95,17 @@ pub fn start(
         first,
         second,
     );
-    if let Verdict::Refused(k, p) = verdict {
-        return Verdict::Refused(k, p);
+    if !net.accepted {
+        return Verdict::Refused(net.refusal, net.place);
     }
-    *nodes = arrays::narrow(opened.nodes);
-    *edges = arrays::narrow(opened.edges);
-    *outer = arrays::narrow(opened.outer);
-    sheets::fill_tails(sheet, opened.edges, tails);
-    sheets::fill_rotations(sheet, opened.edges, rotations);
-    sheets::fill_capacities(sheet, opened.edges, limits);
-    restore(&*limits, left);
+    let sizes = net.sizes;
+    *nodes = arrays::narrow(sizes.nodes);
+    *edges = arrays::narrow(sizes.edges);
+    *outer = arrays::narrow(sizes.outer);
+    sheets::copy_darts(&net.tails, tails);
+    sheets::copy_darts(&net.rotations, rotations);
+    sheets::copy_capacities(&net.capacities, limits);
+    sheets::copy_capacities(&net.capacities, left);
     Verdict::Passed
 }
 
