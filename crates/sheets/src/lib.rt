@@ -108,7 +108,8 @@ pub fn open_walked(
     ensures { λ r. ⌜ (length (now (order .exit)) ≡ 1024) × (length (now (from .exit)) ≡ 1024)
         × (length (now (grouped .exit)) ≡ 1024) × (length (now (starts .exit)) ≡ 1024)
         × Opens (now (s .entry)) r (r .accepted)
-        × (r .accepted ≡ true → Walked (2 * r .sizes .edges) (r .sizes .faces) (r .sizes .outer) (r .sizes .parts) (at (r .rotations)) (r .lefts)
+        × (r .accepted ≡ true → (length (r .capacities) ≡ 1024)
+        × Walked (2 * r .sizes .edges) (r .sizes .faces) (r .sizes .outer) (r .sizes .parts) (at (r .rotations)) (r .lefts)
         (now (order .exit)) (now (from .exit)) (now (grouped .exit)) (now (starts .exit))) ⌝ }
 {
     let head = records::read_head(s);

@@ -187,7 +187,7 @@ returns-4 c =
           lefts-are = j .1;
         },
       ),
-      λ _. if-passed (c .enum-told3 .given .1) (e .6),
+      λ _. (read l .read-edges .ensures .2, if-passed (c .enum-told3 .given .1) (e .6)),
     )
 
 pub open-walked-spec : {M : Type 1} → statement M
