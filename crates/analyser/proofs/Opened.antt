@@ -11,12 +11,12 @@ use Rattle.refusals.proofs.Order.{first-left, none-append, first-right}
 use Rattle.maps.specs.Map.{darts}
 use Rattle.maps.specs.Drawing.{Drawing}
 use Rattle.arrays.specs.At.{at, atℤ}
-use Rattle.arrays.specs.Maps.{mapOf, drawingOf}
+use Rattle.arrays.specs.Maps.{drawingOf}
 use Rattle.arrays.specs.inner.Sizes.{mostOnSheet}
 use Rattle.arrays.specs.inner.Drawn.{Drawn}
 use Rattle.grouping.specs.inner.Walked.{Walked}
 use Rattle.grouping.specs.inner.OpenDrawing.{OpenDrawing}
-use Rattle.records.specs.Sheet.{nodesOf, edgesOf, outerOf, tailOf, rotationOf, capacityOf, sheetMap, sheetDrawing}
+use Rattle.records.specs.Sheet.{nodesOf, edgesOf, capacityOf, sheetMap, sheetDrawing}
 use Rattle.records.proofs.Bytes.{bytes-range}
 use Rattle.sheets.specs.Open.{sheetChecks, Holds}
 use Rattle.sheets.specs.declared.Network.{Network}

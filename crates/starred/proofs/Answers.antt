@@ -1,6 +1,7 @@
 -- From what is known of a drawing to the lines of the table: an accepted sheet that holds the drawing gets these answers, by the contracts of the operations.
 -- What the drawing must be known by is a record for each kind of answer; the facts of one drawing are in proofs/Table.antt.
 use mathlib.Core.Path.{_≡_, refl, sym, _∙_, subst, ap, ap₂}
+use mathlib.Core.Bool.{Bool, true, false}
 use mathlib.Core.List.{List, _++_}
 use Prim.Native.Nat.{ℕ, _≤_, _<_}
 use native.Mathlib.Omega.{arith}
@@ -9,8 +10,6 @@ use lib.IntN.{ℤ, pos, _+ℤ_}
 use lib.Signed.{_≤ℤ_, _<ℤ_}
 use Rattle.integers.proofs.Laws.{le-trans, le-antisym}
 use Rattle.refusals.specs.Order.{NoneOf, FirstOf}
-use Rattle.refusals.specs.declared.Verdict.{Verdict}
-use Rattle.refusals.specs.declared.Verdict.the-variants.{Passed}
 use Rattle.refusals.specs.declared.Verdict.the-variants as verdict
 use Rattle.refusals.proofs.Order.{first-none, first-one, neither}
 use Rattle.maps.specs.Map.{darts}
@@ -27,7 +26,7 @@ use Rattle.balance.proofs.Balance.{circulation-none}
 use Rattle.maps.specs.Drawing.{Drawing}
 use Rattle.arrays.proofs.Tabulate.{tabulate-ext, tabulate-getD}
 use Rattle.records.specs.Sheet.{nodesOf, edgesOf, capacityOf, sheetMap, sheetDrawing, outerOf}
-use Rattle.sheets.specs.declared.Opened.{Opened}
+use Rattle.sheets.specs.declared.Network.{Network}
 use Rattle.arrays.specs.At.{atℤ}
 use Rattle.sheets.specs.Open.{sheetChecks, Opens}
 use Rattle.arrays.specs.Filled.{filled}
@@ -236,19 +235,19 @@ levels-are {s} good settings found by more levels levels' answer room given = go
     go (level.Refused j p) h = absurd (first-none (levelsChecks s (settings ++ more) levels) j p (h .0) whole)
 
 -- ── opening a sheet ──
-pub opened : {s : List ℕ} {𝓓 : Drawing} → Good s 𝓓 → (lefts : List ℕ) (o : Opened) (v : Verdict)
-    → Opens s lefts o v → (v ≡ Passed) × ((d : ℕ) → d < darts (𝓓 .map) → InFace lefts (left (𝓓 .map) d) d)
-opened {s} {𝓓} good lefts o v h =
-    subst (λ (𝓔 : Drawing). (v ≡ Passed) × ((d : ℕ) → d < darts (𝓔 .map) → InFace lefts (left (𝓔 .map) d) d)) (good .drawing) (go v h)
+pub opened : {s : List ℕ} {𝓓 : Drawing} → Good s 𝓓 → (n : Network) → Opens s n (n .accepted)
+    → (n .accepted ≡ true) × ((d : ℕ) → d < darts (𝓓 .map) → InFace (n .lefts) (left (𝓓 .map) d) d)
+opened {s} {𝓓} good n h =
+    subst (λ (𝓔 : Drawing). (n .accepted ≡ true) × ((d : ℕ) → d < darts (𝓔 .map) → InFace (n .lefts) (left (𝓔 .map) d) d)) (good .drawing) (go (n .accepted) h)
   where
-    go : (v : Verdict) → Opens s lefts o v → (v ≡ Passed) × ((d : ℕ) → d < darts (sheetMap s) → InFace lefts (left (sheetMap s) d) d)
-    go Passed h = (refl, h .1 .lefts-are)
-    go (verdict.Refused j p) h = absurd (first-none (sheetChecks s) j p h (good .accepted))
+    go : (b : Bool) → Opens s n b → (b ≡ true) × ((d : ℕ) → d < darts (sheetMap s) → InFace (n .lefts) (left (sheetMap s) d) d)
+    go true h = (refl, h .1 .lefts-are)
+    go false h = absurd (first-none (sheetChecks s) (n .refusal) (n .place) h (good .accepted))
 
-pub refused-open : (s : List ℕ) (n : ℕ) → FirstOf (sheetChecks s) n 0
-    → (lefts : List ℕ) (o : Opened) (v : Verdict) → Opens s lefts o v → v ≡ verdict.Refused n 0
-refused-open s n bad lefts o v h = go v h
+pub refused-open : (s : List ℕ) (k : ℕ) → FirstOf (sheetChecks s) k 0
+    → (n : Network) → Opens s n (n .accepted) → (n .accepted ≡ false) × (n .refusal ≡ k) × (n .place ≡ 0)
+refused-open s k bad n h = go (n .accepted) h
   where
-    go : (v : Verdict) → Opens s lefts o v → v ≡ verdict.Refused n 0
-    go Passed h = absurd (first-none (sheetChecks s) n 0 bad (h .0))
-    go (verdict.Refused j p) h = let e = first-one (sheetChecks s) j p n 0 h bad in ap₂ verdict.Refused (e .0) (e .1)
+    go : (b : Bool) → Opens s n b → (b ≡ false) × (n .refusal ≡ k) × (n .place ≡ 0)
+    go true h = absurd (first-none (sheetChecks s) k 0 bad (h .0))
+    go false h = let e = first-one (sheetChecks s) (n .refusal) (n .place) k 0 h bad in (refl, e .0, e .1)

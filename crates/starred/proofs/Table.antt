@@ -76,8 +76,8 @@ twisted-only source sink value t key =
 pub starred : Starred
 unfolding every onDarts net cut bound sum rev size ones onesIn left orbits orbitOf isLowest lowest iter eqZ
 starred = record {
-  faces-of-A = λ lefts r v h.
-      let o = opened A-good lefts r v h in
+  faces-of-A = λ n h.
+      let o = opened A-good n h in
       let at-left = o .1 in (
         o .0,
         (at-left 0 (omega arith), at-left 5 (omega arith)),

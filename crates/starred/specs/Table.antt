@@ -3,15 +3,13 @@
 -- length; so each is about every run of the operation, by its contract. In all of them "Headgate 0, outfall 1".
 use Prim.Native.Nat.{ℕ, _≤_}
 use mathlib.Core.Path.{_≡_}
+use mathlib.Core.Bool.{true, false}
 use mathlib.Core.List.{List, [], _∷_, _++_}
 use lib.ListN.{length, drop}
 use lib.IntN.{ℤ, pos, negsuc}
-use Rattle.refusals.specs.declared.Verdict.{Verdict}
-use Rattle.refusals.specs.declared.Verdict.the-variants.{Passed}
-use Rattle.refusals.specs.declared.Verdict.the-variants as verdict
 use Rattle.flows.specs.ProvingSet.{wordsFor}
 use Rattle.records.specs.Sheet.{nodesOf, edgesOf}
-use Rattle.sheets.specs.declared.Opened.{Opened}
+use Rattle.sheets.specs.declared.Network.{Network}
 use Rattle.arrays.specs.At.{at}
 use Rattle.sheets.specs.Open.{Opens}
 use Rattle.analyser.specs.Solve.{Solves}
@@ -83,8 +81,9 @@ KeyPrints bytes t = (text text' : List ℕ) (n : ℕ) → Prints bytes text text
 -- ── the table ──
 pub record Starred : Type 0 where
   -- "faces {0,5}, {1,2}, {3,4}"
-  pub faces-of-A : (lefts : List ℕ) (o : Opened) (v : Verdict) → Opens A lefts o v
-      → (v ≡ Passed) × (InFace lefts 0 0 × InFace lefts 0 5) × (InFace lefts 1 1 × InFace lefts 1 2) × (InFace lefts 2 3 × InFace lefts 2 4)
+  pub faces-of-A : (n : Network) → Opens A n (n .accepted)
+      → (n .accepted ≡ true) × (InFace (n .lefts) 0 0 × InFace (n .lefts) 0 5) × (InFace (n .lefts) 1 1 × InFace (n .lefts) 1 2)
+      × (InFace (n .lefts) 2 3 × InFace (n .lefts) 2 4)
   -- "6: settings 0, 2, 4; key prints `can 6`, `0 0`, `1 2`, `2 4`, one per line"
   pub six : SolveCan A 0 1 (pos 6) (pos 0 ∷ pos 2 ∷ pos 4 ∷ [])
   pub six-key : KeyPrints (question 0 1 (pos 6) ++ A) canSix
@@ -105,7 +104,7 @@ pub record Starred : Type 0 where
   -- "A with all limits 5: settings 2, 1, −3 have levels 0, −2, −3"
   pub levels-of-five : LevelsAre allFive (pos 2 ∷ pos 1 ∷ negsuc 2 ∷ []) (pos 0 ∷ negsuc 1 ∷ negsuc 2 ∷ [])
   -- "A with turns 1→3→5→1 at node 1: refused 12; key prints `refused 12`", whatever is asked of it
-  pub twisted-opened : (lefts : List ℕ) (o : Opened) (v : Verdict) → Opens twisted lefts o v → v ≡ verdict.Refused 12 0
+  pub twisted-opened : (n : Network) → Opens twisted n (n .accepted) → (n .accepted ≡ false) × (n .refusal ≡ 12) × (n .place ≡ 0)
   pub twisted-refused : (source sink : ℕ) (value : ℤ) → SolveRefused twisted source sink value 12
   pub twisted-key : (source sink : ℕ) (value : ℤ) → KeyPrints (question source sink value ++ twisted) refusedTwelve
   -- "B, 3 nodes: ..; headgate 0, outfall 1: largest is none, set {2}"; {2} is bit 2

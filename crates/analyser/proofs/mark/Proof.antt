@@ -1,5 +1,4 @@
 -- Mark: as Solve, with nothing to write.
-use mathlib.Core.Path.{refl}
 use mathlib.Core.List.{List}
 use Prim.Native.Nat.{ℕ}
 use borrow.Author.Needs.{needs}
