@@ -16,7 +16,7 @@ use Rattle.integers.specs.inner.Limited.{Limited}
 use Rattle.integers.specs.Sum.{bit}
 use Rattle.integers.proofs.Omega.{atoms₂, atoms₃, atoms₄, parts, at-most, less, from-equal, from-at-most, from-less}
 use Rattle.integers.proofs.Laws.{lt-le-clash, le-trans, le-antisym, le-of-lt, lt-or-ge}
-use Rattle.integers.proofs.Limits.{limited-neg}
+use Rattle.integers.proofs.Limits.{limited-neg, limited-more}
 use Rattle.integers.proofs.Tests.{eqb-true, eqb-false, ltb-true}
 use Rattle.signed.proofs.Limits.{same-bits}
 use Rattle.maps.specs.Dart.{rev}
@@ -55,12 +55,14 @@ use Rattle.node_flags.specs.declared.Side.{Side}
 use Rattle.node_flags.specs.declared.Side.the-variants as side
 use Rattle.arrays.specs.Maps.{mapOf}
 use Rattle.arrays.specs.declared.Sizes.{Sizes}
+use Rattle.arrays.specs.declared.Terminals.{Terminals}
 use Rattle.solver.specs.inner.Ends.{Ends}
 use Rattle.solver.specs.inner.Lent.{Lent}
 use Rattle.solver.specs.inner.Decision.{Decided}
 use Rattle.maximum.specs.inner.Bracket.{Ceiling, Floor, Bracket, Closer}
 use Rattle.maximum.specs.inner.Narrowing.{SameFlags, Narrows, Lowers, stays, falls, Joins}
 use Rattle.maximum.specs.inner.Maximum.{Maximized}
+use Rattle.maximum.specs.inner.Underway.{LentPivots}
 use Rattle.maximum.specs.declared.Narrowed.{Narrowed}
 use Rattle.maximum.specs.declared.Maximum.{Maximum}
 use Rattle.maximum.specs.declared.Maximum.the-variants as maximum
@@ -116,6 +118,34 @@ ground-of p small =
     let d = p .opened .drawn in
     record { plane = d .plane; few-nodes = d .few-nodes; few-edges = d .few-edges; small = small; pairs = d .pairs; two = p .ends }
 
+module _ {𝓜 : Map} {c : ℕ → ℤ} {s t : ℕ} (ground : Ground 𝓜 c s t) where
+  pub source-few : s < 1024
+  source-few = omega (arith, ground .two .source-in, ground .few-nodes)
+
+  pub sink-few : t < 1024
+  sink-few = omega (arith, ground .two .sink-in, ground .few-nodes)
+
+  pub tails-few : (d : ℕ) → d < darts 𝓜 → 𝓜 .tail d < 1024
+  tails-few d l = omega (arith, ground .few-nodes, ground .plane .sound .range .tail-in d l)
+
+  pub capacities-few : (d : ℕ) → d < darts 𝓜 → Limited 2000000 (c d)
+  capacities-few d l = limited-more (omega arith) (ground .small d l)
+
+pub lent-pivots : {n : Sizes} {t : Terminals} {tails : List ℕ} (rotations : List ℕ) {capacities flows : List ℤ} {parents A : List ℕ}
+    → Ground (mapOf (n .nodes) (n .edges) tails rotations) (atℤ capacities) (t .source) (t .sink) → length parents ≡ 1024 → length A ≡ 1024
+    → length flows ≡ n .edges → LentPivots n t tails capacities flows parents A
+lent-pivots rotations g p a e = record {
+  few-nodes = g .few-nodes;
+  few-edges = g .few-edges;
+  source-in = source-few g;
+  sink-in = sink-few g;
+  tails-in = tails-few g;
+  small = capacities-few g;
+  size-parents = p;
+  size-a = a;
+  exact = e;
+}
+
 -- what the loop keeps: the sizes of its arrays, and the bounds
 pub record Probing (𝓜 : Map) (outer : ℕ) (c : ℕ → ℤ) (s t : ℕ) (before flows : List ℤ) (A B parents : List ℕ)
     (low high : ℤ) (found : Bool) : Type 0 where
@@ -130,10 +160,10 @@ module _ {𝓜 : Map} (outer : ℕ) {c : ℕ → ℤ} {s t : ℕ} (ground : Grou
   same-cut xs ys same = cut-agrees (ground .plane .sound .range) (flagged xs) (flagged ys) (λ v l. same v (omega (arith, ground .few-nodes))) c
 
   s-in : s < 1024
-  s-in = omega (arith, ground .two .source-in, ground .few-nodes)
+  s-in = source-few ground
 
   t-in : t < 1024
-  t-in = omega (arith, ground .two .sink-in, ground .few-nodes)
+  t-in = sink-few ground
 
   -- ── the bounds stay small ──
   pub high-small : {A : ℕ → Bool} {high : ℤ} → Ceiling 𝓜 c s t A high → Limited 512000000 high

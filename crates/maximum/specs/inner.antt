@@ -3,3 +3,4 @@ pub mod Bracket
 pub mod Narrowing
 pub mod Maximum
 pub mod Probing
+pub mod Underway

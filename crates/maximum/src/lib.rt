@@ -27,10 +27,11 @@ ghost use Rattle.arrays.specs.inner.Flags.{flagged};
 ghost use Rattle.node_flags.specs.declared.Side.{Side};
 ghost use Rattle.solver.specs.inner.Lent.{Lent};
 ghost use Rattle.arrays.specs.Maps.{mapOf};
-ghost use Rattle.maximum.specs.inner.Bracket.{Bracket, Closer};
+ghost use Rattle.maximum.specs.inner.Bracket.{Closer};
 ghost use Rattle.maximum.specs.inner.Narrowing.{Narrows, Lowers, Joins};
 ghost use Rattle.maximum.specs.inner.Maximum.{Maximized};
 ghost use Rattle.maximum.specs.inner.Probing.{Probes};
+ghost use Rattle.maximum.specs.inner.Underway.{Underway, LentPivots};
 use arrays::Demand;
 use arrays::Sizes;
 use arrays::Terminals;
@@ -289,28 +290,25 @@ fn lower(
     high
 }
 
-// Where no value is left between the cuts of a and b, the union or the intersection has a cut below zero: it is kept in a.
+// Where no value is left between the cuts of a and b, the union or the intersection has a cut below zero: it is kept in a, and b is used up.
 fn join(
     tails: &[u16; 1024],
     capacities: &[i32; 1024],
     darts: usize,
     a: &mut [u8; 1024],
-    b: &[u8; 1024],
+    b: &mut [u8; 1024],
 )
-    requires { ⌜ (length (now a) ≡ 1024) × (darts ≤ 1024) × (darts % 2 ≡ 0) × ((d : ℕ) → d < darts → at (now tails) d < 1024)
-        × ((d : ℕ) → d < darts → Limited 2000000 (atℤ (now capacities) d)) ⌝ }
+    requires { ⌜ (length (now a) ≡ 1024) × (length (now b) ≡ 1024) × (darts ≤ 1024) × (darts % 2 ≡ 0)
+        × ((d : ℕ) → d < darts → at (now tails) d < 1024) × ((d : ℕ) → d < darts → Limited 2000000 (atℤ (now capacities) d)) ⌝ }
     ensures { λ _. ⌜ (length (now (a .exit)) ≡ 1024)
         × Joins darts (at (now (tails .entry))) (atℤ (now (capacities .entry))) (now (a .entry)) (now (a .exit)) (now (b .entry)) ⌝ }
 {
-    let mut joined = [0u8; 1024];
-    node_flags::unite(&*a, b, &mut joined);
-    let total = cuts::capacity(tails, capacities, &joined, darts);
+    node_flags::either_and_both(&mut *a, &mut *b);
+    let total = cuts::capacity(tails, capacities, &*a, darts);
     if is_less(total, 0) {
-        node_flags::copy_flags(&joined, a);
         return;
     }
-    node_flags::intersect(&*a, b, &mut joined);
-    node_flags::copy_flags(&joined, a);
+    node_flags::copy_flags(&*b, a);
 }
 
 // The high bound, lowered by a set that the pivots propose from the flows of the low one and from the tree of the faces that its search left; they leave
@@ -328,9 +326,7 @@ fn propose<'a>(
     parents: &mut [u16; 1024],
     a: &mut [u8; 1024],
 ) -> i32
-    requires { ⌜ (length (now parents) ≡ 1024) × (length (now a) ≡ 1024) × (length (now flows) ≡ sizes .edges)
-        × (sizes .nodes ≤ 1024) × (sizes .edges ≤ 512) × (terminals .source < 1024) × (terminals .sink < 1024)
-        × ((d : ℕ) → d < 2 * sizes .edges → at (now tails) d < 1024) × ((d : ℕ) → d < 2 * sizes .edges → Limited 2000000 (atℤ (now capacities) d)) ⌝ }
+    requires { ⌜ LentPivots sizes terminals (now tails) (now capacities) (now flows) (now parents) (now a) ⌝ }
     ensures { λ r. ⌜ (length (now (parents .exit)) ≡ 1024) × (length (now (a .exit)) ≡ 1024)
         × ((inside : List ℕ) × Lowers (terminals .source) (terminals .sink)
         (cutOf (2 * sizes .edges) (at (now (tails .entry))) (atℤ (now (capacities .entry))) (flagged inside))
@@ -383,14 +379,11 @@ fn probe<'a>(
     a: &mut [u8; 1024],
     b: &mut [u8; 1024],
 ) -> Bounds
-    requires { ⌜ Lent sizes (pending .terminals .source) (pending .terminals .sink) (now tails) (now rotations) (now lefts) (now capacities) (now order)
-        (now from) (now grouped) (now starts) (now flows)
-        × ((d : ℕ) → d < 2 * sizes .edges → Limited 1000000 (atℤ (now capacities) d))
-        × (length (now parents) ≡ 1024) × (length (now a) ≡ 1024) × (length (now b) ≡ 1024)
-        × (pending .bounds .low ≤ℤ pending .bounds .high) × (pending .bounds .found ≡ true → pending .bounds .low <ℤ pending .bounds .high)
-        × ((before : List ℤ) × Bracket (mapOf (sizes .nodes) (sizes .edges) (now tails) (now rotations)) (sizes .outer) (atℤ (now capacities))
-        (pending .terminals .source) (pending .terminals .sink) before (now flows) (now a) (now b)
-        (pending .bounds .low) (pending .bounds .high) (pending .bounds .found)) ⌝ }
+    requires { ⌜ ((before : List ℤ)
+        × Underway sizes pending (now tails) (now rotations) (now lefts) (now capacities) (now order) (now from) (now grouped) (now starts)
+        before (now flows) (now a) (now b))
+        × (length (now parents) ≡ 1024) × (pending .bounds .low ≤ℤ pending .bounds .high)
+        × (pending .bounds .found ≡ true → pending .bounds .low <ℤ pending .bounds .high) ⌝ }
     ensures { λ r. ⌜ (length (now (parents .exit)) ≡ 1024) × (length (now (a .exit)) ≡ 1024) × (length (now (b .exit)) ≡ 1024)
         × (r .none ≡ false → Closer (pending .bounds .low) (pending .bounds .high) (pending .bounds .found) (r .low) (r .high) (r .found))
         × Probes (mapOf (sizes .nodes) (sizes .edges) (now (tails .entry)) (now (rotations .entry))) (sizes .outer) (atℤ (now (capacities .entry)))
@@ -481,13 +474,8 @@ fn close_in<'a>(
     a: &mut [u8; 1024],
     b: &mut [u8; 1024],
 ) -> Maximum
-    requires { ⌜ Lent sizes (begun .terminals .source) (begun .terminals .sink) (now tails) (now rotations) (now lefts) (now capacities) (now order)
-        (now from) (now grouped) (now starts) (now flows)
-        × ((d : ℕ) → d < 2 * sizes .edges → Limited 1000000 (atℤ (now capacities) d))
-        × (length (now parents) ≡ 1024) × (length (now a) ≡ 1024) × (length (now b) ≡ 1024)
-        × Bracket (mapOf (sizes .nodes) (sizes .edges) (now tails) (now rotations)) (sizes .outer) (atℤ (now capacities))
-        (begun .terminals .source) (begun .terminals .sink) (now flows) (now flows) (now a) (now b)
-        (begun .bounds .low) (begun .bounds .high) (begun .bounds .found) ⌝ }
+    requires { ⌜ Underway sizes begun (now tails) (now rotations) (now lefts) (now capacities) (now order) (now from) (now grouped) (now starts)
+        (now flows) (now flows) (now a) (now b) × (length (now parents) ≡ 1024) ⌝ }
     ensures { λ r. ⌜ (length (now (parents .exit)) ≡ 1024) × (length (now (a .exit)) ≡ 1024)
         × Maximized (mapOf (sizes .nodes) (sizes .edges) (now (tails .entry)) (now (rotations .entry))) (sizes .outer) (atℤ (now (capacities .entry)))
         (begun .terminals .source) (begun .terminals .sink) (now (flows .entry)) (now (flows .exit)) (now (a .exit)) r ⌝ }
@@ -498,7 +486,7 @@ fn close_in<'a>(
         let low = bounds.low;
         let high = bounds.high;
         if is_less(high, low) {
-            join(tails, capacities, 2 * sizes.edges, a, &*b);
+            join(tails, capacities, 2 * sizes.edges, a, b);
             return Maximum::Nothing;
         }
         if finished(low, high, bounds.found) {
@@ -655,13 +643,9 @@ fn try_likely<'a>(
     a: &mut [u8; 1024],
     b: &mut [u8; 1024],
 ) -> Bounds
-    requires { ⌜ Lent sizes (given .terminals .source) (given .terminals .sink) (now tails) (now rotations) (now lefts) (now capacities) (now order)
-        (now from) (now grouped) (now starts) (now flows)
-        × ((d : ℕ) → d < 2 * sizes .edges → Limited 1000000 (atℤ (now capacities) d)) × (length (now a) ≡ 1024) × (length (now b) ≡ 1024)
-        × (given .bounds .none ≡ false)
-        × ((before : List ℤ) × Bracket (mapOf (sizes .nodes) (sizes .edges) (now tails) (now rotations)) (sizes .outer) (atℤ (now capacities))
-        (given .terminals .source) (given .terminals .sink) before (now flows) (now a) (now b)
-        (given .bounds .low) (given .bounds .high) (given .bounds .found)) ⌝ }
+    requires { ⌜ ((before : List ℤ)
+        × Underway sizes given (now tails) (now rotations) (now lefts) (now capacities) (now order) (now from) (now grouped) (now starts)
+        before (now flows) (now a) (now b)) × (given .bounds .none ≡ false) ⌝ }
     ensures { λ r. ⌜ (length (now (a .exit)) ≡ 1024) × (length (now (b .exit)) ≡ 1024)
         × Probes (mapOf (sizes .nodes) (sizes .edges) (now (tails .entry)) (now (rotations .entry))) (sizes .outer) (atℤ (now (capacities .entry)))
         (given .terminals .source) (given .terminals .sink) (now (flows .entry)) (now (flows .exit)) (now (a .entry)) (now (a .exit))
@@ -719,6 +703,7 @@ pub fn maximize_on<'a>(
         × Maximized (mapOf (sizes .nodes) (sizes .edges) (now (tails .entry)) (now (rotations .entry))) (sizes .outer) (atℤ (now (capacities .entry)))
         (demand .source) (demand .sink) (now (flows .entry)) (now (flows .exit)) (now (a .exit)) r ⌝ }
 {
+    let carried = demand.value;
     copy_flows(known, sizes.edges, &mut *flows);
     let likely = begin(
         tails,
@@ -735,7 +720,7 @@ pub fn maximize_on<'a>(
     };
     let mut b = [0u8; 1024];
     let given = Bounds {
-        low: demand.value,
+        low: carried,
         high: cuts::capacity(tails, capacities, &*a, 2 * sizes.edges),
         found: true,
         next: Next::High,

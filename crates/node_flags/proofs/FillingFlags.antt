@@ -1,7 +1,7 @@
--- Flags filled node by node: the loop of `flag_one`, `copy_flags`, `unite` and `intersect`, which differ only in the set that is filled in.
-use mathlib.Core.Path.{_≡_, refl, sym, _∙_, ap}
+-- Flags filled node by node: the loop of `flag_one`, `copy_flags` and `either_and_both`, which differ only in the sets that are filled in.
+use mathlib.Core.Path.{_≡_, refl, sym, _∙_, ap, ap₂}
 use mathlib.Core.Logic.{_≢_}
-use mathlib.Core.Bool.{Bool, false}
+use mathlib.Core.Bool.{Bool, false, _&&_, _||_}
 use mathlib.Core.List.{List}
 use Prim.Native.Nat.{ℕ, _+_, _≤_, _<_}
 use native.Mathlib.Omega.{arith}
@@ -11,6 +11,8 @@ use lib.ListN.{length, set, length-set}
 use lib.Seq.{getD-set-other, getD-set-same}
 use borrow.Author.Count.{below-more}
 use Rattle.integers.proofs.Tests.{eqb-true, eqb-false}
+use Rattle.maps.specs.Cut.{union, intersection}
+use Rattle.arrays.specs.At.{at}
 use Rattle.arrays.specs.inner.Flags.{flagged}
 
 -- the flags of the nodes below u are those of the set S
@@ -49,3 +51,22 @@ one-flagged {to} {u} v m all end w l = go (ℕ-discrete w v)
     go : Dec (w ≡ v) → flagged (set to v 1) w ≡ eqb w v
     go (yes e) = rw e (flagged-same to v 1 (omega (arith, end .long)) ∙ sym (eqb-true v v refl))
     go (no h) = flagged-other to v 1 w h ∙ filled-all (λ w. false) all end w l ∙ sym (eqb-false w v h)
+
+-- two sets at once: the flags of the nodes below u are those of the union and of the intersection, and the others are as they were
+pub record Joining (a₀ b₀ a b : List ℕ) (u : ℕ) : Type 0 where
+  pub united : Filled (union (flagged a₀) (flagged b₀)) a u
+  pub common : Filled (intersection (flagged a₀) (flagged b₀)) b u
+  pub rest-a : (v : ℕ) → u ≤ v → at a v ≡ at a₀ v
+  pub rest-b : (v : ℕ) → u ≤ v → at b v ≡ at b₀ v
+
+pub joining-start : (a b : List ℕ) → length a ≡ 1024 → length b ≡ 1024 → Joining a b a b 0
+joining-start a b p q = record { united = filled-start _ a p; common = filled-start _ b q; rest-a = λ v l. refl; rest-b = λ v l. refl }
+
+pub joining-step : {a₀ b₀ a b : List ℕ} {u : ℕ} (x y : ℕ) → u < 1024 → Joining a₀ b₀ a b u → eqb x 1 ≡ (eqb (at a u) 1 || eqb (at b u) 1)
+    → eqb y 1 ≡ (eqb (at a u) 1 && eqb (at b u) 1) → Joining a₀ b₀ (set a u x) (set b u y) (u + 1)
+joining-step {a₀} {b₀} {a} {b} {u} x y l now p q = record {
+  united = filled-step _ a u x l (now .united) (p ∙ ap₂ (λ m n. eqb m 1 || eqb n 1) (now .rest-a u (omega arith)) (now .rest-b u (omega arith)));
+  common = filled-step _ b u y l (now .common) (q ∙ ap₂ (λ m n. eqb m 1 && eqb n 1) (now .rest-a u (omega arith)) (now .rest-b u (omega arith)));
+  rest-a = λ v m. getD-set-other a u v x 0 (λ e. omega (arith, e, m)) ∙ now .rest-a v (omega (arith, m));
+  rest-b = λ v m. getD-set-other b u v y 0 (λ e. omega (arith, e, m)) ∙ now .rest-b v (omega (arith, m));
+}

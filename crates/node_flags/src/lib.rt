@@ -49,25 +49,18 @@ fn both(x: u8, y: u8) -> u8
     if x == 1 { y } else { 0 }
 }
 
-// The nodes of either set.
-pub fn unite(a: &[u8; 1024], b: &[u8; 1024], to: &mut [u8; 1024])
-    requires { ⌜ length (now to) ≡ 1024 ⌝ }
-    ensures { λ _. ⌜ (length (now (to .exit)) ≡ 1024)
-        × ((u : ℕ) → u < 1024 → flagged (now (to .exit)) u ≡ union (flagged (now (a .entry))) (flagged (now (b .entry))) u) ⌝ }
+// The nodes of either set into a, and those of both into b.
+pub fn either_and_both(a: &mut [u8; 1024], b: &mut [u8; 1024])
+    requires { ⌜ (length (now a) ≡ 1024) × (length (now b) ≡ 1024) ⌝ }
+    ensures { λ _. ⌜ (length (now (a .exit)) ≡ 1024) × (length (now (b .exit)) ≡ 1024)
+        × ((u : ℕ) → u < 1024 → flagged (now (a .exit)) u ≡ union (flagged (now (a .entry))) (flagged (now (b .entry))) u)
+        × ((u : ℕ) → u < 1024 → flagged (now (b .exit)) u ≡ intersection (flagged (now (a .entry))) (flagged (now (b .entry))) u) ⌝ }
 {
     for u in 0..1024usize {
-        to[u] = either(a[u], b[u]);
-    }
-}
-
-// The nodes of both sets.
-pub fn intersect(a: &[u8; 1024], b: &[u8; 1024], to: &mut [u8; 1024])
-    requires { ⌜ length (now to) ≡ 1024 ⌝ }
-    ensures { λ _. ⌜ (length (now (to .exit)) ≡ 1024)
-        × ((u : ℕ) → u < 1024 → flagged (now (to .exit)) u ≡ intersection (flagged (now (a .entry))) (flagged (now (b .entry))) u) ⌝ }
-{
-    for u in 0..1024usize {
-        to[u] = both(a[u], b[u]);
+        let x = a[u];
+        let y = b[u];
+        a[u] = either(x, y);
+        b[u] = both(x, y);
     }
 }
 

@@ -13,17 +13,16 @@ ghost use lib.Signed.{_<ℤ_};
 ghost use Rattle.integers.specs.inner.Limited.{Limited};
 ghost use Rattle.maps.specs.Check.{Sound};
 ghost use Rattle.maps.specs.Cut.{cut};
-ghost use Rattle.grouping.specs.Grouped.{Grouped};
 ghost use Rattle.lengths.specs.inner.Lengths.{Treed};
 ghost use Rattle.arrays.specs.At.{at, atℤ};
 ghost use Rattle.traversal.specs.inner.Forest.{Forest, RootsOf, RootsHere};
 ghost use Rattle.search.specs.Dual.{dualOf};
 ghost use Rattle.search.specs.Given.{given};
 ghost use Rattle.search.specs.Trace.{Searches};
-ghost use Rattle.solver.specs.inner.Lent.{Lent, LentRoots};
+ghost use Rattle.solver.specs.inner.Lent.{Lent, LentRoots, LentSearch, LentWalk};
 ghost use Rattle.arrays.specs.Maps.{mapOf, rightOf};
 ghost use Rattle.arrays.specs.inner.Sizes.{mostCapacity, mostValue};
-ghost use Rattle.solver.specs.inner.Search.{PartFlagged, Measured, Searchable, Searched, Ringed};
+ghost use Rattle.solver.specs.inner.Search.{PartFlagged, Measured, Searched, Ringed};
 ghost use Rattle.solver.specs.inner.Decision.{Decided};
 ghost use Rattle.solver.specs.inner.Named.{MeasuredBy, MadeOfRing, Named};
 ghost use Rattle.arrays.specs.inner.Flags.{flagged};
@@ -114,9 +113,7 @@ fn settle(
     queue: &mut [u16; 1024],
     flows: &mut [i32],
 ) -> Outcome
-    requires { ⌜ (length (now parents) ≡ 1024) × (length (now queue) ≡ 1024) × (roots ≤ 1024) × (edges ≤ 512) × (length (now flows) ≡ edges)
-        × Searchable (dualOf (now lefts) (now lengths) (2 * edges) faces (take roots (now queue))) edges (atℤ (now capacities))
-        × Grouped (rightOf (now lefts)) (2 * edges) faces (now grouped) (now starts) ⌝ }
+    requires { ⌜ LentSearch (now lefts) (now capacities) (now lengths) (now grouped) (now starts) edges faces roots (now parents) (now queue) (now flows) ⌝ }
     ensures { λ r. ⌜ (length (now (parents .exit)) ≡ 1024)
         × Searched (dualOf (now (lefts .entry)) (now (lengths .entry)) (2 * edges) faces (take roots (now (queue .entry)))) edges
         (atℤ (now (capacities .entry)))
@@ -162,11 +159,8 @@ fn settle_all<'a>(
     parents: &mut [u16; 1024],
     flows: &mut [i32],
 ) -> Outcome
-    requires { ⌜ (length (now parents) ≡ 1024) × (sizes .parts ≤ 1024) × (sizes .edges ≤ 512) × (length (now flows) ≡ sizes .edges)
-        × Forest (2 * sizes .edges) (at (now rotations)) (sizes .outer) (at (now order)) (at (now from)) (sizes .parts)
-        × Grouped (rightOf (now lefts)) (2 * sizes .edges) (sizes .faces) (now grouped) (now starts)
-        × ((queue : List ℕ) → length queue ≡ 1024 → RootsOf (2 * sizes .edges) (at (now rotations)) (sizes .outer) (at (now lefts)) (at queue) (sizes .parts)
-        → Searchable (dualOf (now lefts) (now lengths) (2 * sizes .edges) (sizes .faces) (take (sizes .parts) queue)) (sizes .edges) (atℤ (now capacities))) ⌝ }
+    requires { ⌜ LentWalk sizes (now rotations) (now lefts) (now capacities) (now lengths) (now order) (now from) (now grouped) (now starts) (now parents)
+        (now flows) ⌝ }
     ensures { λ r. ⌜ (length (now (parents .exit)) ≡ 1024)
         × ((queue : List ℕ) × (length queue ≡ 1024)
         × RootsOf (2 * sizes .edges) (at (now (rotations .entry))) (sizes .outer) (at (now (lefts .entry))) (at queue) (sizes .parts)

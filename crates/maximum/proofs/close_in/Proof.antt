@@ -2,7 +2,7 @@
 use mathlib.Core.Path.{_≡_, sym, _∙_, ap, subst}
 use mathlib.Core.Bool.{true}
 use mathlib.Core.List.{List}
-use Prim.Native.Nat.{ℕ, _*_, _<_}
+use Prim.Native.Nat.{ℕ}
 use native.Mathlib.Omega.{arith}
 use lib.ListN.{length}
 use lib.IntN.{ℤ}
@@ -10,12 +10,10 @@ use lib.Signed.{_≤ℤ_, _<ℤ_}
 use mir.Syntax.{w32}
 use mir.Val.{toZ, ofZ}
 use borrow.Author.Needs.{needs}
-use Rattle.integers.specs.inner.Limited.{Limited}
 use Rattle.integers.proofs.Laws.{ge-of-test, lt-of-test}
-use Rattle.integers.proofs.Limits.{limited-more}
 use Rattle.signed.proofs.Limits.{same-bits}
 use Rattle.maps.specs.Map.{Map}
-use Rattle.arrays.specs.At.{at, atℤ}
+use Rattle.arrays.specs.At.{atℤ}
 use Rattle.arrays.specs.inner.Flags.{flagged}
 use Rattle.arrays.specs.Maps.{mapOf}
 use Rattle.maximum.specs.inner.Bracket.{Bracket}
@@ -24,6 +22,8 @@ use Rattle.maximum.proofs.Gap.{gap, gap-closer}
 use Rattle.maximum.proofs.Bracketing.{
   Ground,
   ground-of,
+  tails-few,
+  capacities-few,
   Probing,
   high-small,
   low-small,
@@ -53,18 +53,12 @@ abbrev caps : tie.Start Inv-loop μ-loop → ℕ → ℤ
 caps c = atℤ (c .args .capacities .now)
 
 ground : (c : tie.Start Inv-loop μ-loop) → Ground (𝓜 c) (caps c) (c .args .begun .terminals .source) (c .args .begun .terminals .sink)
-ground c = ground-of (c .pre .0) (c .pre .1)
-
-tails-in : (c : tie.Start Inv-loop μ-loop) (d : ℕ) → d < 2 * c .args .sizes .edges → at (c .args .tails .now) d < 1024
-tails-in c d l = omega (arith, c .pre .0 .opened .drawn .few-nodes, c .pre .0 .opened .drawn .plane .sound .range .tail-in d l)
-
-caps-in : (c : tie.Start Inv-loop μ-loop) (d : ℕ) → d < 2 * c .args .sizes .edges → Limited 2000000 (caps c d)
-caps-in c d l = limited-more (omega arith) (c .pre .1 d l)
+ground c = ground-of (c .pre .0 .lent) (c .pre .0 .small)
 
 loop-holds : tie.Need-loop-holds Inv-loop μ-loop
 loop-holds c =
     let p = c .before .before .pre in
-    record { size-a = p .3; size-b = p .4; size-parents = p .2; bracket = p .5 }
+    record { size-a = p .0 .size-a; size-b = p .0 .size-b; size-parents = p .1; bracket = p .0 .bracket }
 
 -- ── in the loop ──
 abbrev start : tie.At-loop Inv-loop μ-loop → tie.Start Inv-loop μ-loop
@@ -96,20 +90,20 @@ at-bits c =
     (c .loop .inv .bracket)
 
 as-long : (c : tie.At-loop Inv-loop μ-loop) → length (c .loop .flows) ≡ length (entered c)
-as-long c = bracket-length (c .loop .bounds .found) (omega (arith, start c .pre .0 .exact)) (c .loop .inv .bracket)
+as-long c = bracket-length (c .loop .bounds .found) (omega (arith, start c .pre .0 .lent .exact)) (c .loop .inv .bracket)
 
 -- ── the bounds have passed each other ──
 abbrev looping : tie.After-is-less Inv-loop μ-loop → tie.At-loop Inv-loop μ-loop
 looping c = c .before .before .before
 
 mul-join : tie.Need-mul-join Inv-loop μ-loop
-mul-join c = omega (arith, start (looping (c .before .before)) .pre .0 .opened .drawn .few-edges)
+mul-join c = omega (arith, ground (start (looping (c .before .before))) .few-edges)
 
 join-requires : tie.Need-join-requires Inv-loop μ-loop
 join-requires c κs =
     let l = looping (c .before .before .before .before) in
     let b = start l in
-    (l .loop .inv .size-a, omega (arith, b .pre .0 .opened .drawn .few-edges), omega arith, tails-in b, caps-in b)
+    (l .loop .inv .size-a, l .loop .inv .size-b, omega (arith, ground b .few-edges), omega arith, tails-few (ground b), capacities-few (ground b))
 
 same-length : tie.Need-same-length Inv-loop μ-loop
 same-length c = as-long (looping (c .before .before .before .before .before))
@@ -162,16 +156,21 @@ probe-requires : tie.Need-probe-requires Inv-loop μ-loop
 probe-requires c κs =
     let q = c .before .before .before .before in
     let l = ordered (q .before) in
-    let p = start l .pre in
+    let p = start l .pre .0 in
     let v = l .loop .inv in (
-      record { opened = p .0 .opened; ends = p .0 .ends; exact = as-long l ∙ p .0 .exact },
-      p .1,
+      (
+        entered l,
+        record {
+          lent = record { opened = p .lent .opened; ends = p .lent .ends; exact = as-long l ∙ p .lent .exact };
+          small = p .small;
+          size-a = v .size-a;
+          size-b = v .size-b;
+          bracket = v .bracket;
+        },
+      ),
       v .size-parents,
-      v .size-a,
-      v .size-b,
       in-turn (q .before),
       apart q,
-      (entered l, v .bracket),
     )
 
 abbrev probed : tie.After-probe Inv-loop μ-loop → tie.After-finished Inv-loop μ-loop

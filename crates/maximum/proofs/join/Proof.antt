@@ -27,27 +27,22 @@ union-total : (c : tie.After-capacity) → UnionTotal c
 union-total c =
     let s = c .before .before .before .before .before in
     number-of-bits _ (record { sfits = c .capacity .ok }) ∙ c .capacity .ensures
-    ∙ cut-flags _ _ _ _ _ (s .pre .2) (s .pre .3) (c .before .before .unite .ensures .1)
+    ∙ cut-flags _ _ _ _ _ (s .pre .3) (s .pre .4) (c .before .before .either-and-both .ensures .2)
 
 returns : tie.Need-returns
 returns c =
-    let tested = c .before .before .before .before in
-    let united = tested .before .before .before in (
-      c .copy-flags .ensures .0,
-      inl (
-        λ u l. c .copy-flags .ensures .1 u l ∙ united .unite .ensures .1 u l,
-        subst (λ t. t <ℤ pos 0) (union-total (tested .before)) (lt-of-test _ _ (sym (tested .is-less .ensures) ∙ c .before .before .before .if1 .taken)),
-      ),
-    )
+    let tested = c .before in
+    let e = tested .before .before .before .either-and-both .ensures in
+    (e .0, inl (e .2, subst (λ t. t <ℤ pos 0) (union-total (tested .before)) (lt-of-test _ _ (sym (tested .is-less .ensures) ∙ c .if1 .taken))))
 
 returns-2 : tie.Need-returns-2
 returns-2 c =
-    let met = c .before .before .before in
-    let left = met .before .before .before in
-    let tested = left .before in (
-      c .copy-flags2 .ensures .0,
+    let left = c .before .before .before in
+    let tested = left .before in
+    let e = tested .before .before .before .either-and-both .ensures in (
+      c .copy-flags .ensures .0,
       inr (
-        λ u l. c .copy-flags2 .ensures .1 u l ∙ met .intersect .ensures .1 u l,
+        λ u l. c .copy-flags .ensures .1 u l ∙ e .3 u l,
         subst (λ t. pos 0 ≤ℤ t) (union-total (tested .before)) (ge-of-test _ _ (sym (tested .is-less .ensures) ∙ left .if1 .left)),
       ),
     )
@@ -59,8 +54,6 @@ join-spec =
     (λ c κs. search needs)
     (λ c κs. search needs)
     (λ c κs. search needs)
-    (λ c κs. search needs)
     returns
-    (λ c κs. search needs)
     (λ c κs. search needs)
     returns-2)

@@ -1,16 +1,14 @@
 -- `maximum::maximize_from` meets its contract: the first set lies at the source, and the bounds close in from there.
 use mathlib.Core.Path.{refl, sym, subst}
-use Prim.Native.Nat.{ℕ, _*_, _<_}
+use Prim.Native.Nat.{ℕ}
 use native.Mathlib.Omega.{arith}
 use lib.IntN.{ℤ}
 use borrow.Author.Needs.{needs}
-use Rattle.integers.specs.inner.Limited.{Limited}
-use Rattle.integers.proofs.Limits.{limited-more}
 use Rattle.maps.specs.Map.{Map}
-use Rattle.arrays.specs.At.{at, atℤ}
+use Rattle.arrays.specs.At.{atℤ}
 use Rattle.arrays.specs.Maps.{mapOf}
 use Rattle.maximum.specs.inner.Bracket.{Bracket}
-use Rattle.maximum.proofs.Bracketing.{Ground, ground-of, begins}
+use Rattle.maximum.proofs.Bracketing.{Ground, ground-of, source-few, sink-few, tails-few, capacities-few, begins}
 use Rattle.maximum.proofs.maximize_from.Statement.{statement}
 use Rattle.maximum.proofs.maximize_from.Tie as tie
 
@@ -25,17 +23,18 @@ ground c = ground-of (c .pre .0) (c .pre .1)
 
 begin-requires : tie.Need-begin-requires
 begin-requires c κs =
-    let p = c .before .pre in (
+    let p = c .before .pre in
+    let g = ground (c .before) in (
       p .2,
-      p .0 .opened .drawn .few-edges,
-      omega (arith, p .0 .ends .source-in, p .0 .opened .drawn .few-nodes),
-      omega (arith, p .0 .ends .sink-in, p .0 .opened .drawn .few-nodes),
-      p .0 .ends .two,
-      p .0 .opened .drawn .plane .sound .has-dart _ (p .0 .ends .source-in),
+      g .few-edges,
+      source-few g,
+      sink-few g,
+      g .two .two,
+      g .plane .sound .has-dart _ (g .two .source-in),
     )
 
 flag-one-requires : tie.Need-flag-one-requires
-flag-one-requires c κs = let p = c .before .before .before .pre in (refl, omega (arith, p .0 .ends .sink-in, p .0 .opened .drawn .few-nodes))
+flag-one-requires c κs = (refl, sink-few (ground (c .before .before .before)))
 
 mul-first-bounds : tie.Need-mul-first-bounds
 mul-first-bounds c = omega (arith, c .before .before .before .before .before .pre .0 .opened .drawn .few-edges)
@@ -43,16 +42,10 @@ mul-first-bounds c = omega (arith, c .before .before .before .before .before .pr
 abbrev given : tie.After-flag-one → tie.Start
 given c = c .before .before .before .before
 
-tails-in : (c : tie.Start) (d : ℕ) → d < 2 * c .args .sizes .edges → at (c .args .tails .now) d < 1024
-tails-in c d l = omega (arith, c .pre .0 .opened .drawn .few-nodes, c .pre .0 .opened .drawn .plane .sound .range .tail-in d l)
-
-caps-in : (c : tie.Start) (d : ℕ) → d < 2 * c .args .sizes .edges → Limited 2000000 (caps c d)
-caps-in c d l = limited-more (omega arith) (c .pre .1 d l)
-
 first-bounds-requires : tie.Need-first-bounds-requires
 first-bounds-requires c κs =
     let s = given (c .before .before .before) in
-    (omega (arith, s .pre .0 .opened .drawn .few-edges), omega arith, tails-in s, caps-in s)
+    (omega (arith, s .pre .0 .opened .drawn .few-edges), omega arith, tails-few (ground s), capacities-few (ground s))
 
 -- the bounds to begin with
 abbrev flagged-sink : tie.After-first-bounds → tie.After-flag-one
@@ -80,8 +73,16 @@ bounds c =
 close-in-requires : tie.Need-close-in-requires
 close-in-requires c κs =
     let m = c .before .before .before .before in
-    let p = given (flagged-sink m) .pre in
-    (p .0, p .1, p .3, first-set m .begin .ensures .0, flagged-sink m .flag-one .ensures .0, bounds m)
+    let p = given (flagged-sink m) .pre in (
+      record {
+        lent = p .0;
+        small = p .1;
+        size-a = first-set m .begin .ensures .0;
+        size-b = flagged-sink m .flag-one .ensures .0;
+        bracket = bounds m;
+      },
+      p .3,
+    )
 
 returns : tie.Need-returns
 returns c = let e = c .before .close-in .ensures in (e .1, e .0, e .2)

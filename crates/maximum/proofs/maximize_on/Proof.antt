@@ -3,19 +3,18 @@
 use mathlib.Core.Path.{_≡_, refl, sym, _∙_, ap, subst}
 use mathlib.Core.Bool.{true}
 use mathlib.Core.List.{List}
-use Prim.Native.Nat.{ℕ, _*_, _≤_, _<_}
+use Prim.Native.Nat.{ℕ, _≤_}
 use native.Mathlib.Omega.{arith}
 use lib.ListN.{length}
 use lib.IntN.{ℤ}
 use mir.Syntax.{w32}
 use mir.Val.{toZ, ofZ}
 use Rattle.integers.specs.inner.Limited.{Limited}
-use Rattle.integers.proofs.Limits.{limited-more}
 use Rattle.signed.proofs.Laws.{number-of-bits}
 use Rattle.signed.proofs.Limits.{same-bits}
 use Rattle.maps.specs.Map.{Map}
 use Rattle.flows.specs.Highest.{Highest}
-use Rattle.arrays.specs.At.{at, atℤ}
+use Rattle.arrays.specs.At.{atℤ}
 use Rattle.arrays.specs.Filled.{filled}
 use Rattle.arrays.specs.Maps.{mapOf}
 use Rattle.arrays.proofs.FillLoops.{filled-length}
@@ -23,6 +22,11 @@ use Rattle.maximum.specs.inner.Bracket.{Bracket}
 use Rattle.maximum.proofs.Bracketing.{
   Ground,
   ground-of,
+  lent-pivots,
+  source-few,
+  sink-few,
+  tails-few,
+  capacities-few,
   read-back,
   copied,
   flow-small,
@@ -50,7 +54,7 @@ ground c = ground-of (c .pre .0) (c .pre .1)
 
 copy-flows-requires : tie.Need-copy-flows-requires
 copy-flows-requires c κs =
-    let s = c .before in
+    let s = c .before .before in
     let k = s .pre .4 in
     let x = k .0 in
     let a = s .args in
@@ -70,7 +74,7 @@ same-carried s =
 
 -- the slice after the copy
 abbrev given : tie.After-copy-flows → tie.Start
-given c = c .before .before
+given c = c .before .before .before
 
 abbrev since : tie.After-copy-flows → List ℤ
 since c = c .copy-flows .last .1 .1 .0
@@ -86,21 +90,16 @@ same-room c =
     let s = given c in
     filled-length (s .args .sizes .edges) (s .pre .4 .0) (s .args .flows .now) (since c) (is-since c) (omega (arith, s .pre .0 .exact))
 
-tails-in : (c : tie.Start) (d : ℕ) → d < 2 * c .args .sizes .edges → at (c .args .tails .now) d < 1024
-tails-in c d l = omega (arith, c .pre .0 .opened .drawn .few-nodes, c .pre .0 .opened .drawn .plane .sound .range .tail-in d l)
-
-caps-in : (c : tie.Start) (d : ℕ) → d < 2 * c .args .sizes .edges → Limited 2000000 (caps c d)
-caps-in c d l = limited-more (omega arith) (c .pre .1 d l)
-
 begin-requires : tie.Need-begin-requires
 begin-requires c κs =
-    let p = given (c .before .before) .pre in (
-      p .2,
-      p .0 .opened .drawn .few-edges,
-      omega (arith, p .0 .ends .source-in, p .0 .opened .drawn .few-nodes),
-      omega (arith, p .0 .ends .sink-in, p .0 .opened .drawn .few-nodes),
-      p .0 .ends .two,
-      p .0 .opened .drawn .plane .sound .has-dart _ (p .0 .ends .source-in),
+    let s = given (c .before .before) in
+    let g = ground s in (
+      s .pre .2,
+      g .few-edges,
+      source-few g,
+      sink-few g,
+      g .two .two,
+      g .plane .sound .has-dart _ (g .two .source-in),
     )
 
 abbrev copy : tie.After-begin → tie.After-copy-flows
@@ -115,7 +114,7 @@ mul-capacity c = omega (arith, base (c .before .before) .pre .0 .opened .drawn .
 capacity-requires : tie.Need-capacity-requires
 capacity-requires c κs =
     let s = base (c .before .before) in
-    (omega (arith, s .pre .0 .opened .drawn .few-edges), omega arith, tails-in s, caps-in s)
+    (omega (arith, s .pre .0 .opened .drawn .few-edges), omega arith, tails-few (ground s), capacities-few (ground s))
 
 -- ── the bounds to begin with ──
 abbrev first-set : tie.After-capacity → tie.After-begin
@@ -141,20 +140,25 @@ bounds c B =
 
 try-likely-requires : tie.Need-try-likely-requires
 try-likely-requires c κs =
-    let q = c .before .before .before .before in
+    let q = c .before .before .before in
     let s = start q in
     let p = s .pre in (
-      record { opened = p .0 .opened; ends = p .0 .ends; exact = same-room (copy (first-set q)) ∙ p .0 .exact },
-      p .1,
-      first-set q .begin .ensures .0,
+      (
+        s .args .flows .now,
+        record {
+          lent = record { opened = p .0 .opened; ends = p .0 .ends; exact = same-room (copy (first-set q)) ∙ p .0 .exact };
+          small = p .1;
+          size-a = first-set q .begin .ensures .0;
+          size-b = refl;
+          bracket = bounds q _;
+        },
+      ),
       refl,
-      refl,
-      (s .args .flows .now, bounds q _),
     )
 
 -- ── the high bound was tried ──
 abbrev measured : tie.After-try-likely → tie.After-capacity
-measured c = c .before .before .before .before .before
+measured c = c .before .before .before .before
 
 abbrev origin : tie.After-try-likely → tie.Start
 origin c = start (measured c)
@@ -204,17 +208,7 @@ propose-requires c κs =
     let l = c .before .before .before .before .before in
     let t = tried l in
     let s = origin t in
-    let p = s .pre in (
-      p .3,
-      t .try-likely .ensures .0,
-      room l,
-      p .0 .opened .drawn .few-nodes,
-      p .0 .opened .drawn .few-edges,
-      omega (arith, p .0 .ends .source-in, p .0 .opened .drawn .few-nodes),
-      omega (arith, p .0 .ends .sink-in, p .0 .opened .drawn .few-nodes),
-      tails-in s,
-      caps-in s,
-    )
+    lent-pivots (s .args .rotations .now) (ground s) (s .pre .3) (t .try-likely .ensures .0) (room l)
 
 -- ── and lowered by the pivots ──
 abbrev left : tie.After-propose → tie.Else1
@@ -241,12 +235,14 @@ close-in-requires c κs =
     let t = tried (left w) in
     let p = origin t .pre in
     let e = w .propose .ensures in (
-      record { opened = p .0 .opened; ends = p .0 .ends; exact = room (left w) },
-      p .1,
+      record {
+        lent = record { opened = p .0 .opened; ends = p .0 .ends; exact = room (left w) };
+        small = p .1;
+        size-a = e .1;
+        size-b = t .try-likely .ensures .1;
+        bracket = anew (t .try-likely .result .found) (begun w);
+      },
       e .0,
-      e .1,
-      t .try-likely .ensures .1,
-      anew (t .try-likely .result .found) (begun w),
     )
 
 -- ── what is found from there, told of the slice that was lent ──

@@ -2,7 +2,7 @@
 use mathlib.Core.Path.{_≡_, refl, sym, _∙_, subst}
 use mathlib.Core.Bool.{Bool, true, false, false≢true}
 use mathlib.Core.List.{List}
-use Prim.Native.Nat.{ℕ, _*_, _<_}
+use Prim.Native.Nat.{ℕ, _<_}
 use native.Mathlib.Omega.{arith}
 use lib.IntN.{ℤ}
 use lib.Signed.{_≤ℤ_, _<ℤ_}
@@ -13,7 +13,7 @@ use Rattle.integers.specs.inner.Limited.{Limited}
 use Rattle.integers.proofs.Limits.{limited-more}
 use Rattle.signed.proofs.Limits.{same-bits}
 use Rattle.maps.specs.Map.{Map}
-use Rattle.arrays.specs.At.{at, atℤ}
+use Rattle.arrays.specs.At.{atℤ}
 use Rattle.arrays.specs.inner.Flags.{flagged}
 use Rattle.arrays.specs.Maps.{mapOf}
 use Rattle.arrays.proofs.FillLoops.{filled-length}
@@ -22,6 +22,11 @@ use Rattle.maximum.specs.inner.Bracket.{Bracket, Closer}
 use Rattle.maximum.proofs.Bracketing.{
   Ground,
   ground-of,
+  lent-pivots,
+  source-few,
+  sink-few,
+  tails-few,
+  capacities-few,
   high-small,
   low-small,
   between-limited,
@@ -60,23 +65,17 @@ abbrev hi : tie.Start → ℤ
 hi c = toZ w32 (ofZ w32 (c .args .pending .bounds .high))
 
 ground : (c : tie.Start) → Ground (𝓜 c) (caps c) (src c) (snk c)
-ground c = ground-of (c .pre .0) (c .pre .1)
-
-tails-in : (c : tie.Start) (d : ℕ) → d < 2 * c .args .sizes .edges → at (c .args .tails .now) d < 1024
-tails-in c d l = omega (arith, c .pre .0 .opened .drawn .few-nodes, c .pre .0 .opened .drawn .plane .sound .range .tail-in d l)
-
-caps-in : (c : tie.Start) (d : ℕ) → d < 2 * c .args .sizes .edges → Limited 2000000 (caps c d)
-caps-in c d l = limited-more (omega arith) (c .pre .1 d l)
+ground c = let u = c .pre .0 .1 in ground-of (u .lent) (u .small)
 
 -- they are small
 lo-small : (c : tie.Start) → Limited 512000000 (c .args .pending .bounds .low)
 lo-small c =
-    let b = c .pre .7 in
+    let b = c .pre .0 in
     low-small (c .args .sizes .outer) (ground c) (b .0) (c .args .flows .now) (flagged (c .args .b .now)) (c .args .pending .bounds .low)
-    (c .args .pending .bounds .found) (b .1 .floor)
+    (c .args .pending .bounds .found) (b .1 .bracket .floor)
 
 hi-small : (c : tie.Start) → Limited 512000000 (c .args .pending .bounds .high)
-hi-small c = high-small (c .args .sizes .outer) (ground c) (c .pre .7 .1 .ceiling)
+hi-small c = high-small (c .args .sizes .outer) (ground c) (c .pre .0 .1 .bracket .ceiling)
 
 same-lo : (c : tie.Start) → lo c ≡ c .args .pending .bounds .low
 same-lo c = same-bits (omega arith) (lo-small c)
@@ -89,7 +88,7 @@ bits-limited {b} l h = subst (Limited b) (sym (same-bits l h)) h
 
 -- and in order
 in-order : (c : tie.Start) → lo c ≤ℤ hi c
-in-order c = rw (same-lo c, same-hi c) (c .pre .5)
+in-order c = rw (same-lo c, same-hi c) (c .pre .2)
 
 -- what holds of the bounds holds of the numbers of their bits
 at-bits : (c : tie.Start) (before : List ℤ)
@@ -136,13 +135,13 @@ at-most c = subst (λ v. v ≤ℤ hi (given c)) (sym (same-value c)) (c .next-va
 above : (c : tie.After-next-value) → given c .args .pending .bounds .found ≡ true → lo (given c) <ℤ value c
 above c e =
     let s = given c in
-    subst (λ v. lo s <ℤ v) (sym (same-value c)) (c .next-value .ensures .2 e (rw (same-lo s, same-hi s) (s .pre .6 e)))
+    subst (λ v. lo s <ℤ v) (sym (same-value c)) (c .next-value .ensures .2 e (rw (same-lo s, same-hi s) (s .pre .3 e)))
 
 decide-requires : tie.Need-decide-requires
 decide-requires c κs =
     let n = c .before .before .before in
     let p = given n .pre in
-    (p .0, limited-more (omega arith) (bits-limited (omega arith) (value-small n)), p .2, refl)
+    (p .0 .1 .lent, limited-more (omega arith) (bits-limited (omega arith) (value-small n)), p .1, refl)
 
 -- ── the decision ──
 abbrev asked : tie.After-decide → tie.After-next-value
@@ -174,17 +173,10 @@ propose-requires c κs =
     let t = c .before .before .before in
     let k = can t in
     let b = base k in
-    let exact = b .pre .0 .exact in (
-      k .decide .ensures .2,
-      b .pre .3,
-      filled-length _ _ (b .args .flows .now) (flows' k) (decided k (t .if1 .taken) .2) (omega (arith, exact)) ∙ exact,
-      b .pre .0 .opened .drawn .few-nodes,
-      b .pre .0 .opened .drawn .few-edges,
-      omega (arith, b .pre .0 .ends .source-in, b .pre .0 .opened .drawn .few-nodes),
-      omega (arith, b .pre .0 .ends .sink-in, b .pre .0 .opened .drawn .few-nodes),
-      tails-in b,
-      caps-in b,
-    )
+    let g = ground b in
+    let exact = b .pre .0 .1 .lent .exact in
+    lent-pivots (b .args .rotations .now) g (k .decide .ensures .2) (b .pre .0 .1 .size-a)
+    (filled-length _ _ (b .args .flows .now) (flows' k) (decided k (t .if1 .taken) .2) (omega (arith, exact)) ∙ exact)
 
 abbrev taken : tie.After-propose → tie.Then1
 taken c = c .before .before .before .before
@@ -217,40 +209,41 @@ proposed c before h =
 new-high : (c : tie.After-propose) → toZ w32 (ofZ w32 (c .propose .result)) ≡ c .propose .result
 new-high c =
     let b = base (chosen c) in
-    let w = b .pre .7 in
-    same-bits (omega arith) (high-small (b .args .sizes .outer) (ground b) (proposed c (w .0) (w .1) .0 .ceiling))
+    let w = b .pre .0 in
+    same-bits (omega arith) (high-small (b .args .sizes .outer) (ground b) (proposed c (w .0) (w .1 .bracket) .0 .ceiling))
 
 returns : tie.Need-returns
 returns c =
     let k = chosen c in
     let n = asked k in
     let b = base k in
-    let w = b .pre .7 in
+    let w = b .pre .0 in
     let e = c .propose .ensures in (
       e .0,
       e .1,
-      b .pre .4,
+      b .pre .0 .1 .size-b,
       λ _. closer-of-bits b
           (carried-closer (b .args .sizes .outer) (ground b) (lo b) (hi b) (value n) (b .args .pending .bounds .found) (at-least n) (at-most n) _
-          (rw (new-high c) (proposed c (w .0) (w .1) .1)) (above n)),
+          (rw (new-high c) (proposed c (w .0) (w .1 .bracket) .1)) (above n)),
       λ before h. (λ none. absurd (false≢true none), λ _. rw (new-high c) (proposed c before h .0)),
     )
 
 -- ── it cannot be: the set moves a bound, or shows that there is nothing ──
 mul-narrow-by : tie.Need-mul-narrow-by
-mul-narrow-by c = omega (arith, base (c .before .before .before .before) .pre .0 .opened .drawn .few-edges)
+mul-narrow-by c = omega (arith, ground (base (c .before .before .before .before)) .few-edges)
 
 narrow-by-requires : tie.Need-narrow-by-requires
 narrow-by-requires c κs =
-    let b = base (c .before .before .before .before .before .before) in (
-      b .pre .3,
-      b .pre .4,
-      omega (arith, b .pre .0 .ends .source-in, b .pre .0 .opened .drawn .few-nodes),
-      omega (arith, b .pre .0 .ends .sink-in, b .pre .0 .opened .drawn .few-nodes),
-      omega (arith, b .pre .0 .opened .drawn .few-edges),
+    let b = base (c .before .before .before .before .before .before) in
+    let g = ground b in (
+      b .pre .0 .1 .size-a,
+      b .pre .0 .1 .size-b,
+      source-few g,
+      sink-few g,
+      omega (arith, g .few-edges),
       omega arith,
-      tails-in b,
-      caps-in b,
+      tails-few g,
+      capacities-few g,
     )
 
 abbrev probed : tie.After-narrow-by → tie.After-decide
@@ -290,14 +283,14 @@ returns-2 c =
     let g = ground b in
     let f = b .args .pending .bounds .found in
     let x = b .args .flows .now in
-    let w = b .pre .7 in
+    let w = b .pre .0 in
     let r = m .narrow-by .ensures .2 in
     let d = decided k (refused m) in (
       k .decide .ensures .2,
       m .narrow-by .ensures .0,
       m .narrow-by .ensures .1,
       λ e. closer-of-bits b
-          (bits-closer o g (w .0) x (a' m) (b' m) _ _ f (moved m (w .0) (w .1) e)
+          (bits-closer o g (w .0) x (a' m) (b' m) _ _ f (moved m (w .0) (w .1 .bracket) e)
           (narrowed-closer o g (lo b) (hi b) (value n) f (at-least n) (at-most n) (inside' k) (d .1) (b .args .a .now) (a' m) (b .args .b .now) (b' m)
           (m .narrow-by .result) (r .0) (r .1) (r .2) e)),
       λ before h. (

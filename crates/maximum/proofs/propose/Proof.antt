@@ -12,7 +12,7 @@ use Rattle.maximum.proofs.propose.Tie as tie
 returns : tie.Need-returns
 returns c =
     let s = c .before .before in
-    (s .pre .0, s .pre .1, ([], stays (number-of-bits _ (s .fits .high)) refl))
+    (s .pre .size-parents, s .pre .size-a, ([], stays (number-of-bits _ (s .fits .high)) refl))
 
 -- bounds that the machine holds as bits
 same-bounds : {s t : ℕ} {total high high₁ low low₁ : ℤ} {inside A A' : List ℕ} → high ≡ high₁ → low ≡ low₁ → Lowers s t total high low inside A A'

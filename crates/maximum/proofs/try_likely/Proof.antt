@@ -25,22 +25,22 @@ abbrev caps : tie.Start → ℕ → ℤ
 caps c = atℤ (c .args .capacities .now)
 
 ground : (c : tie.Start) → Ground (𝓜 c) (caps c) (c .args .given .terminals .source) (c .args .given .terminals .sink)
-ground c = ground-of (c .pre .0) (c .pre .1)
+ground c = let u = c .pre .0 .1 in ground-of (u .lent) (u .small)
 
 same-lo : (c : tie.Start) → toZ w32 (ofZ w32 (c .args .given .bounds .low)) ≡ c .args .given .bounds .low
 same-lo c =
-    let b = c .pre .5 in
+    let b = c .pre .0 in
     same-bits (omega arith) (low-small (c .args .sizes .outer) (ground c) (b .0) (c .args .flows .now) (flagged (c .args .b .now))
-    (c .args .given .bounds .low) (c .args .given .bounds .found) (b .1 .floor))
+    (c .args .given .bounds .low) (c .args .given .bounds .found) (b .1 .bracket .floor))
 
 same-hi : (c : tie.Start) → toZ w32 (ofZ w32 (c .args .given .bounds .high)) ≡ c .args .given .bounds .high
-same-hi c = same-bits (omega arith) (high-small (c .args .sizes .outer) (ground c) (c .pre .5 .1 .ceiling))
+same-hi c = same-bits (omega arith) (high-small (c .args .sizes .outer) (ground c) (c .pre .0 .1 .bracket .ceiling))
 
 -- nothing is tried: the bounds are as they were
 returns : tie.Need-returns
 returns c =
     let p = c .before .before .pre in
-    (p .2, p .3, λ before h. (λ none. absurd (true≢false (sym none ∙ p .4)), λ _. h))
+    (p .0 .1 .size-a, p .0 .1 .size-b, λ before h. (λ none. absurd (true≢false (sym none ∙ p .1)), λ _. h))
 
 abbrev begun : tie.Then2 → tie.Start
 begun c = c .before .before .before .before .before .before
@@ -55,12 +55,12 @@ probe-requires : tie.Need-probe-requires
 probe-requires c κs =
     let t = c .before .before .before .before in
     let p = begun t .pre in
-    (p .0, p .1, refl, p .2, p .3, le-of-lt (below t), λ _. below t, p .5)
+    (p .0, refl, le-of-lt (below t), λ _. below t)
 
 returns-3 : tie.Need-returns-3
 returns-3 c =
     let p = c .before .before .before .before .before .before .pre in
-    (p .2, p .3, λ before h. (λ none. absurd (true≢false (sym none ∙ p .4)), λ _. h))
+    (p .0 .1 .size-a, p .0 .1 .size-b, λ before h. (λ none. absurd (true≢false (sym none ∙ p .1)), λ _. h))
 
 pub try-likely-spec : {M : Type 1} → statement M
 try-likely-spec = tie.close (tie.spec returns (λ c κs. search needs) probe-requires (λ c. search needs) (λ c. search needs) returns-3)

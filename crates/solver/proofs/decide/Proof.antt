@@ -125,15 +125,17 @@ settle-all-requires : tie.Need-settle-all-requires
 settle-all-requires c κs =
     let e = c .before .before .before in
     let s = begun (e .before) in
-    let p = s .pre in (
-      p .2,
-      omega (arith, trees-few (p .0 .opened .walked .forest), p .0 .opened .drawn .few-edges),
-      p .0 .opened .drawn .few-edges,
-      p .0 .exact,
-      p .0 .opened .walked .forest,
-      p .0 .opened .walked .groups,
-      λ queue long roots. searchable (s .args .lefts .now) (p .0 .opened .drawn) (p .0 .ends) (row (e .before)) (known e) queue long roots,
-    )
+    let p = s .pre in
+    let o = p .0 .opened in
+    record {
+      few-edges = o .drawn .few-edges;
+      few-parts = omega (arith, trees-few (o .walked .forest), o .drawn .few-edges);
+      size-parents = p .2;
+      forest = o .walked .forest;
+      searchable = λ queue long roots. searchable (s .args .lefts .now) (o .drawn) (p .0 .ends) (row (e .before)) (known e) queue long roots;
+      groups = o .walked .groups;
+      exact = p .0 .exact;
+    }
 
 -- ── a ring: the dart that closes it ──
 abbrev joined : tie.After-settle-all → tie.Else1

@@ -98,15 +98,17 @@ settle-requires c κs =
     let e = c .before .before .before .before in
     let f = e .before in
     let s = begun f in
-    let p = s .pre in (
-      refl,
-      p .2,
-      omega (arith, roots-few (p .0 .roots), p .0 .drawn .few-edges),
-      p .0 .drawn .few-edges,
-      p .0 .exact,
-      searchable (s .args .lefts .now) (p .0 .drawn) (p .0 .ends) (row f) (known e) (s .args .queue .now) (p .2) (p .0 .roots),
-      p .0 .groups,
-    )
+    let p = s .pre in
+    let o = p .0 in
+    record {
+      few-edges = o .drawn .few-edges;
+      few-roots = omega (arith, roots-few (o .roots), o .drawn .few-edges);
+      size-parents = refl;
+      size-queue = p .2;
+      searchable = searchable (s .args .lefts .now) (o .drawn) (o .ends) (row f) (known e) (s .args .queue .now) (p .2) (o .roots);
+      groups = o .groups;
+      exact = o .exact;
+    }
 
 abbrev joined : tie.After-settle → tie.Else1
 joined c = c .before .before .before .before .before

@@ -14,7 +14,18 @@ use Rattle.solver.proofs.settle.Tie as tie
 search-requires : tie.Need-search-requires
 search-requires c κs =
     let p = c .before .before .before .before .pre in
-    (p .5 .sound, p .5 .joined, p .6, refl, p .0, refl, p .1, p .2, λ f l. getD-replicate 1024 f far (pos 0) l, λ f l. getD-replicate 1024 f 0 0 l)
+    let q = p .searchable in (
+      q .sound,
+      q .joined,
+      p .groups,
+      refl,
+      p .size-parents,
+      refl,
+      p .size-queue,
+      p .few-roots,
+      λ f l. getD-replicate 1024 f far (pos 0) l,
+      λ f l. getD-replicate 1024 f 0 0 l,
+    )
 
 -- ── the search has answered ──
 abbrev begun : tie.After-search → tie.Start
@@ -26,7 +37,7 @@ returns c =
     let p = begun s .pre in
     let a = rw (c .before .outcome .given .1) at (s .search .ensures .0) in
     let went = s .search .ensures .1 in (
-      parents-sized _ _ _ (p .1) (p .2) (p .5 .sound) (p .5 .joined) (p .6) went,
+      parents-sized _ _ _ (p .size-queue) (p .few-roots) (p .searchable .sound) (p .searchable .joined) (p .groups) went,
       ring-kept _ (a .0) (a .2),
       (_, searches-known (c .before .outcome .given .1) went),
     )
@@ -36,14 +47,14 @@ fill-flows-requires c κs =
     let t = c .before .before in
     let s = t .before .before in
     let p = begun s .pre in
-    (p .3, omega (arith, p .4), flowing (p .5) _ (rw (t .enum-told .given .1) at (s .search .ensures .0)))
+    (p .few-edges, omega (arith, p .exact), flowing (p .searchable) _ (rw (t .enum-told .given .1) at (s .search .ensures .0)))
 
 returns-2 : tie.Need-returns-2
 returns-2 c =
     let t = c .before .before .before .before in
     let s = t .before .before in
     let p = begun s .pre in (
-      parents-sized _ _ _ (p .1) (p .2) (p .5 .sound) (p .5 .joined) (p .6) (s .search .ensures .1),
+      parents-sized _ _ _ (p .size-queue) (p .few-roots) (p .searchable .sound) (p .searchable .joined) (p .groups) (s .search .ensures .1),
       (_, (rw (t .enum-told .given .1) at (s .search .ensures .0)), c .before .fill-flows .ensures),
       (_, searches-known (t .enum-told .given .1) (s .search .ensures .1)),
     )

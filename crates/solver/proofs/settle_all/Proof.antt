@@ -9,14 +9,22 @@ use Rattle.solver.proofs.settle_all.Tie as tie
 first-faces-requires : tie.Need-first-faces-requires
 first-faces-requires c κs =
     let p = c .before .before .pre in
-    (refl, omega (arith, p .2), p .4)
+    (refl, omega (arith, p .few-edges), p .forest)
 
 settle-requires : tie.Need-settle-requires
 settle-requires c κs =
     let f = c .before .before .before in
     let p = f .before .before .before .pre in
     let o = f .first-faces .ensures in
-    (p .0, o .0, p .1, p .2, p .3, p .6 _ (o .0) (o .1), p .5)
+    record {
+      few-edges = p .few-edges;
+      few-roots = p .few-parts;
+      size-parents = p .size-parents;
+      size-queue = o .0;
+      searchable = p .searchable _ (o .0) (o .1);
+      groups = p .groups;
+      exact = p .exact;
+    }
 
 returns : tie.Need-returns
 returns c =
