@@ -8,7 +8,7 @@ ghost use Rattle.integers.specs.Sum.{when, count};
 ghost use Rattle.integers.specs.inner.Limited.{Limited};
 ghost use Rattle.maps.specs.Dart.{rev};
 ghost use Rattle.maps.specs.Check.{Sound};
-ghost use Rattle.flows.specs.ProvingSet.{wordsFor, member};
+ghost use Rattle.flows.specs.ProvingSet.{member};
 ghost use Rattle.node_sets.specs.inner.Words.{WordsLent};
 ghost use Rattle.arrays.specs.At.{at, atℤ};
 ghost use Rattle.arrays.specs.Maps.{mapOf};
@@ -17,6 +17,7 @@ ghost use Rattle.totals.specs.Subtotal.{subtotal};
 ghost use Rattle.totals.specs.Totals.{totalChecks, TotalGiven};
 ghost use Rattle.totals.specs.inner.Starts.{Starts};
 ghost use Rattle.totals.specs.inner.Given.{Subtotaled};
+ghost use Rattle.totals.specs.inner.Lent.{TotalsLent};
 
 // How many nodes are in the set. Bits past the last node are not read.
 fn count_members(set: &[u64], nodes: usize) -> usize
@@ -57,9 +58,7 @@ fn round_total<'a>(
     set: &[u64],
     start: usize,
 ) -> i32
-    requires { ⌜ (nodes ≤ 1024) × (edges ≤ 512) × Sound (mapOf nodes edges (now tails) (now rotations))
-        × ((d : ℕ) → d < 2 * edges → Limited mostOnSheet (atℤ (now capacities) d))
-        × (length (now set) ≡ wordsFor nodes) × (start < 2 * edges) ⌝ }
+    requires { ⌜ TotalsLent nodes edges (now tails) (now rotations) (now capacities) (now set) × (start < 2 * edges) ⌝ }
     ensures { λ r. ⌜ r ≡ subtotal (mapOf nodes edges (now (tails .entry)) (now (rotations .entry))) (atℤ (now (capacities .entry)))
         (member (now (set .entry))) (at (now (tails .entry)) start) ⌝ }
 {
@@ -95,10 +94,8 @@ fn fill_subtotals<'a>(
     set: &[u64],
     subtotals: &mut [i32],
 ) -> i64
-    requires { ⌜ (nodes ≤ 1024) × (edges ≤ 512) × Sound (mapOf nodes edges (now tails) (now rotations))
-        × ((d : ℕ) → d < 2 * edges → Limited mostOnSheet (atℤ (now capacities) d))
-        × Starts (2 * edges) (at (now tails)) (at (now starts))
-        × (length (now set) ≡ wordsFor nodes) × (length (now subtotals) ≡ count nodes (member (now set))) ⌝ }
+    requires { ⌜ TotalsLent nodes edges (now tails) (now rotations) (now capacities) (now set)
+        × Starts (2 * edges) (at (now tails)) (at (now starts)) × (length (now subtotals) ≡ count nodes (member (now set))) ⌝ }
     ensures { λ r. ⌜ Subtotaled (mapOf nodes edges (now (tails .entry)) (now (rotations .entry))) (atℤ (now (capacities .entry)))
         (member (now (set .entry))) (now (subtotals .entry)) (now (subtotals .exit)) r ⌝ }
 {

@@ -31,20 +31,20 @@ abbrev begun : tie.In-loop Inv-loop μ-loop → tie.Start Inv-loop μ-loop
 begun c = c .before .before .before
 
 add-next : tie.Need-add-next Inv-loop μ-loop
-add-next c = omega (arith, c .loop-test .taken, begun c .pre .0)
+add-next c = omega (arith, c .loop-test .taken, begun c .pre .0 .few-nodes)
 
 contains-requires : tie.Need-contains-requires Inv-loop μ-loop
-contains-requires c κs = omega (arith, c .loop-test .taken, begun c .pre .5)
+contains-requires c κs = omega (arith, c .loop-test .taken, begun c .pre .0 .exact)
 
 -- ── a node of the set ──
 abbrev drawn : tie.In-loop Inv-loop μ-loop → Map
 drawn c = let a = begun c .args in mapOf (a .nodes) (a .edges) (a .tails .now) (a .rotations .now)
 
 mul-wide : tie.Need-mul-wide Inv-loop μ-loop
-mul-wide c = let t = c .before .before in omega (arith, t .loop-test .taken, begun t .pre .0)
+mul-wide c = let t = c .before .before in omega (arith, t .loop-test .taken, begun t .pre .0 .few-nodes)
 
 element-copy-out-wide : tie.Need-element-copy-out-wide Inv-loop μ-loop
-element-copy-out-wide c = let t = c .before .before in omega (arith, t .loop-test .taken, begun t .pre .0)
+element-copy-out-wide c = let t = c .before .before in omega (arith, t .loop-test .taken, begun t .pre .0 .few-nodes)
 
 -- its dart in the table is one of the darts, and leaves it
 start-at : (c : tie.After-wide Inv-loop μ-loop)
@@ -53,8 +53,8 @@ start-at : (c : tie.After-wide Inv-loop μ-loop)
 start-at c =
     let t = c .before .before .before .before in
     let p = begun t .pre in
-    let d = p .2 .has-dart (t .before .loop .next) (t .loop-test .taken) in
-    let s = p .4 (d .0) (d .1) in
+    let d = p .0 .sound .has-dart (t .before .loop .next) (t .loop-test .taken) in
+    let s = p .1 (d .0) (d .1) in
     let is : c .wide .result ≡ at (begun t .args .starts .now) (at (begun t .args .tails .now) (d .0)) =
     c .wide .ensures ∙ ap (at (begun t .args .starts .now)) (sym (d .2)) in
     (omega (arith, is, s .0), ap (at (begun t .args .tails .now)) is ∙ s .1 ∙ d .2)
@@ -62,7 +62,7 @@ start-at c =
 round-total-requires : tie.Need-round-total-requires Inv-loop μ-loop
 round-total-requires c κs =
     let p = begun (c .before .before .before .before) .pre in
-    (p .0, p .1, p .2, p .3, p .5, start-at c .0)
+    (p .0, start-at c .0)
 
 abbrev turn : tie.After-round-total Inv-loop μ-loop → tie.In-loop Inv-loop μ-loop
 turn c = c .before .before .before .before .before
@@ -83,10 +83,10 @@ plus-wide-requires : tie.Need-plus-wide-requires Inv-loop μ-loop
 plus-wide-requires c κs =
     let t = turn c in
     let p = begun t .pre in
-    sum-fits _ _ _ _ (t .before .loop .inv .1) (p .1) (p .3) (t .loop-test .taken) (p .0) (in-set c) (sum-is c)
+    sum-fits _ _ _ _ (t .before .loop .inv .1) (p .0 .few-edges) (p .0 .small) (t .loop-test .taken) (p .0 .few-nodes) (in-set c) (sum-is c)
 
 mul-sum : tie.Need-mul-sum Inv-loop μ-loop
-mul-sum c = let t = turn (c .before) in omega (arith, place-few _ _ _ _ (t .before .loop .inv .1), t .loop-test .taken, begun t .pre .0)
+mul-sum c = let t = turn (c .before) in omega (arith, place-few _ _ _ _ (t .before .loop .inv .1), t .loop-test .taken, begun t .pre .0 .few-nodes)
 
 slice-set-from-sum : tie.Need-slice-set-from-sum Inv-loop μ-loop
 slice-set-from-sum c =
@@ -96,13 +96,13 @@ slice-set-from-sum c =
     let p = begun t .pre in
     omega (
       arith,
-      place-in _ _ _ _ φ (in-set k) (t .loop-test .taken) (omega (arith, p .6)),
+      place-in _ _ _ _ φ (in-set k) (t .loop-test .taken) (omega (arith, p .2)),
       same-long _ _ _ _ φ (t .before .loop .inv .0)
-          (omega (arith, p .6)),
+          (omega (arith, p .2)),
     )
 
 add-place : tie.Need-add-place Inv-loop μ-loop
-add-place c = let t = turn (c .before) in omega (arith, place-few _ _ _ _ (t .before .loop .inv .1), t .loop-test .taken, begun t .pre .0)
+add-place c = let t = turn (c .before) in omega (arith, place-few _ _ _ _ (t .before .loop .inv .1), t .loop-test .taken, begun t .pre .0 .few-nodes)
 
 loop-less : tie.Need-loop-less Inv-loop μ-loop
 loop-less c = omega (arith, turn (c .before) .loop-test .taken)
@@ -113,7 +113,7 @@ loop-again c =
     let t = turn k in
     let p = begun t .pre in (
       omega (arith, t .loop-test .taken),
-      fill-put _ _ _ _ (t .before .loop .inv .1) (in-set k) (t .loop-test .taken) (omega (arith, p .6)) (sum-is k)
+      fill-put _ _ _ _ (t .before .loop .inv .1) (in-set k) (t .loop-test .taken) (omega (arith, p .2)) (sum-is k)
           (toZ-ofZ w64 _ (record { sfits = c .plus-wide .ok }) ∙ c .plus-wide .ensures) refl,
     )
 
@@ -129,7 +129,7 @@ loop-again-2 c =
 same-length : tie.Need-same-length Inv-loop μ-loop
 same-length c =
     let o = c .before .loop in
-    same-long _ _ _ _ (o .inv .1) (o .inv .0) (omega (arith, c .before .before .before .pre .6))
+    same-long _ _ _ _ (o .inv .1) (o .inv .0) (omega (arith, c .before .before .before .pre .2))
 
 returns : tie.Need-returns Inv-loop μ-loop
 returns c =

@@ -32,29 +32,29 @@ head-word : {𝓜 : Map} → Sound 𝓜 → {n : ℕ} → wordsFor (𝓜 .nodes)
 head-word {𝓜} σ room d l = omega (arith, σ .range .tail-in (rev d) (rev-in (𝓜 .edges) d l))
 
 share-requires : tie.Need-share-requires Inv-loop μ-loop
-share-requires c κs = let p = c .before .pre in (omega (arith, p .1, p .5), head-word (p .2) (omega (arith, p .4)) _ (p .5))
+share-requires c κs = let p = c .before .pre in (omega (arith, p .0 .few-edges, p .1), head-word (p .0 .sound) (omega (arith, p .0 .exact)) _ (p .1))
 
 mul-wide : tie.Need-mul-wide Inv-loop μ-loop
-mul-wide c = let p = c .before .before .pre in omega (arith, p .1, p .5)
+mul-wide c = let p = c .before .before .pre in omega (arith, p .0 .few-edges, p .1)
 
 element-copy-out-wide : tie.Need-element-copy-out-wide Inv-loop μ-loop
-element-copy-out-wide c = let p = c .before .before .pre in omega (arith, p .1, p .5)
+element-copy-out-wide c = let p = c .before .before .pre in omega (arith, p .0 .few-edges, p .1)
 
 loop-holds : tie.Need-loop-holds Inv-loop μ-loop
 loop-holds c =
     let p = c .before .before .before .before .pre in
     let f = c .before .before .share in
-    set-off (p .2) _ _ (p .5) (number-of-bits _ (record { sfits = f .ok }) ∙ f .ensures) (c .wide .ensures)
+    set-off (p .0 .sound) _ _ (p .1) (number-of-bits _ (record { sfits = f .ok }) ∙ f .ensures) (c .wide .ensures)
 
 -- ── in the loop ──
 abbrev begun : tie.In-loop Inv-loop μ-loop → tie.Start Inv-loop μ-loop
 begun c = c .before .before .before .before .before .before
 
 below : (c : tie.In-loop Inv-loop μ-loop) → c .before .loop .d < 2 * begun c .args .edges
-below c = dart-in (begun c .pre .2) _ _ (begun c .pre .5) (c .before .loop .inv)
+below c = dart-in (begun c .pre .0 .sound) _ _ (begun c .pre .1) (c .before .loop .inv)
 
 share-requires-2 : tie.Need-share-requires-2 Inv-loop μ-loop
-share-requires-2 c κs = let p = begun c .pre in (omega (arith, p .1, below c), head-word (p .2) (omega (arith, p .4)) _ (below c))
+share-requires-2 c κs = let p = begun c .pre in (omega (arith, p .0 .few-edges, below c), head-word (p .0 .sound) (omega (arith, p .0 .exact)) _ (below c))
 
 abbrev drawn : tie.In-loop Inv-loop μ-loop → Map
 drawn c = let a = begun c .args in mapOf (a .nodes) (a .edges) (a .tails .now) (a .rotations .now)
@@ -69,33 +69,33 @@ plus-requires : tie.Need-plus-requires Inv-loop μ-loop
 plus-requires c κs =
     let t = c .before in
     let p = begun t .pre in
-    rw (share-is c) (more-fits (p .2) _ _ (p .5) (t .before .loop .inv) (t .loop-test .taken) (p .1) (p .3))
+    rw (share-is c) (more-fits (p .0 .sound) _ _ (p .1) (t .before .loop .inv) (t .loop-test .taken) (p .0 .few-edges) (p .0 .small))
 
 mul-wide-2 : tie.Need-mul-wide-2 Inv-loop μ-loop
-mul-wide-2 c = let t = c .before .before in omega (arith, begun t .pre .1, below t)
+mul-wide-2 c = let t = c .before .before in omega (arith, begun t .pre .0 .few-edges, below t)
 
 element-copy-out-wide-2 : tie.Need-element-copy-out-wide-2 Inv-loop μ-loop
-element-copy-out-wide-2 c = let t = c .before .before in omega (arith, begun t .pre .1, below t)
+element-copy-out-wide-2 c = let t = c .before .before in omega (arith, begun t .pre .0 .few-edges, below t)
 
 loop-less : tie.Need-loop-less Inv-loop μ-loop
 loop-less c =
     let t = c .before .before .before .before in
     let p = begun t .pre in
-    nearer (p .2) _ _ (p .5) (t .before .loop .inv) (t .loop-test .taken) refl (c .wide2 .ensures)
+    nearer (p .0 .sound) _ _ (p .1) (t .before .loop .inv) (t .loop-test .taken) refl (c .wide2 .ensures)
 
 loop-again : tie.Need-loop-again Inv-loop μ-loop
 loop-again c =
     let t = c .before .before .before .before in
     let s = c .before .before in
     let p = begun t .pre in
-    turn-on (p .2) _ _ (p .5) (t .before .loop .inv) (t .loop-test .taken)
+    turn-on (p .0 .sound) _ _ (p .1) (t .before .loop .inv) (t .loop-test .taken)
     (number-of-bits _ (record { sfits = s .plus .ok }) ∙ s .plus .ensures ∙ ap (λ z. toZ w32 (t .before .loop .sum) +ℤ z) (share-is (s .before)))
     (c .wide2 .ensures)
 
 returns : tie.Need-returns Inv-loop μ-loop
 returns c =
     let p = c .before .before .before .before .before .before .pre in
-    turned (p .2) _ _ (p .5) (c .before .loop .inv) (c .loop-test .left)
+    turned (p .0 .sound) _ _ (p .1) (c .before .loop .inv) (c .loop-test .left)
 
 pub round-total-spec : {M : Type 1} → statement M
 round-total-spec =

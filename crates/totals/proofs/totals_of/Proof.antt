@@ -88,12 +88,8 @@ fill-subtotals-requires c κs =
     let s = begun e in
     let p = s .pre in
     let k = e .before in (
-      p .0,
-      p .1,
-      p .2,
-      p .3,
+      record { few-nodes = p .0; few-edges = p .1; sound = p .2; small = p .3; exact = words-lent (asked k) },
       f .fill-starts .ensures .1,
-      words-lent (asked k),
       part-length (k .count-members .result) (s .args .subtotals .now) (e .if2 .left) ∙ k .count-members .ensures,
     )
 
