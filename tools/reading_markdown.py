@@ -3,7 +3,7 @@
 import re
 import textwrap
 
-from definitions import Definition, fields
+from definitions import Definition
 from project import Library
 from reading import reading_order
 
@@ -227,19 +227,6 @@ class Markdown:
         made = {each.whole for page in pages for each in page.definitions()}
         lines, asked = sum(page.lines() for page in pages), sum(contracts(page) for page in pages)
         yield f"| {len(pages)} pages |  | {len(made)} | {lines:,} | {self.reading.limit or 0:,} | {asked} |"
-
-    # ── what a link may name ──
-    def names_at(self):
-        """The names that stand below each heading, by page and anchor: definitions below their file's, a statement and its fields below its own."""
-        found = {}
-        for page, order in self.orders.items():
-            for file, definitions in order.items():
-                found[page.name, anchor(file.place)] = {name for made in definitions for name in (made.name, *made.constructors)}
-            for record in page.statements:
-                found[page.name, anchor(record.name)] = {record.name, *fields(record)}
-            for made in page.operations:
-                found.setdefault((page.name, anchor(f"The operations of {made.file.place}")), set()).add(made.name)
-        return found
 
 
 def contracts(page):
