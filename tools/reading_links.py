@@ -18,6 +18,7 @@ class Links:
     def __init__(self, reading):
         self.records = [record for page in reading.pages for record in page.statements]
         self.headings = {(page.name, anchor(record.name)): {record.name, *fields(record)} for page in reading.pages for record in page.statements}
+        self.headings.update({(page.name, "operations"): {made.name for made in page.operations} for page in reading.pages})
         self.page_of = {record: page for page in reading.pages for record in page.statements}
         self.files = {}
         for each, page in reading.home.items():
@@ -62,10 +63,10 @@ class Links:
         for name, page, heading in LINK.findall(text):
             if name not in self.headings.get((page, heading), ()):
                 yield f"{name} does not stand in reading/{page}.md#{heading}"
-        for block in BLOCK.split(text):
-            sentence = SENTENCE.search(without_code(block))
-            if sentence and not TO_PAGE.search(block):
-                yield f"no link to docs/reading for {' '.join(sentence.group().split())[:80]}"
+        for start, end in behind_sentences(text):
+            if not TO_PAGE.search(text, start, end):
+                sentence = text[text.rfind("*", 0, start - 1) + 1:start - 1]
+                yield f"no link to docs/reading behind the printed sentence {' '.join(sentence.split())[:80]}"
 
 
 def without_code(text):

@@ -70,13 +70,17 @@ def code(language, blocks):
 
 
 def shown(definitions):
-    """The lines of each definition, below the section and the module that it stands in where these are others than those of the one before."""
+    """The lines of each definition, with what stands above it."""
+    return [above + made.fixity + made.comment + made.code for above, made in below_sections(definitions)]
+
+
+def below_sections(definitions):
+    """Each definition with the section and the modules that it stands in, where these are others than those of the one before."""
     section, outer = [], []
     for made in definitions:
         lines = made.section if made.section != section else []
-        lines = lines + [module for depth, module in enumerate(made.outer) if made.outer[:depth + 1] != outer[:depth + 1]]
+        yield lines + [module for depth, module in enumerate(made.outer) if made.outer[:depth + 1] != outer[:depth + 1]], made
         section, outer = made.section, made.outer
-        yield lines + made.fixity + made.comment + made.code
 
 
 def to_page(page, heading=None):
