@@ -126,7 +126,10 @@ class Above:
             self.section, self.comment = self.comment, []
 
     def taken(self):
+        """The comment, for what stands below it. One that begins a section of its own ends the section above."""
         comment, self.comment = self.comment, []
+        if comment and comment[0].lstrip().startswith("-- ──"):
+            self.section = []
         return comment
 
 

@@ -49,8 +49,9 @@ prover's own.
 
 # ── pieces of Markdown ──
 def prose(text):
-    """Wrapped; a line that begins like a list or a heading would become one."""
-    lines = textwrap.wrap(" ".join(text.split()), WIDTH - 1, break_long_words=False, break_on_hyphens=False)
+    """Wrapped, with no line's end in the words of a link; a line that begins like a list or a heading would become one."""
+    text = re.sub(r"\[[^\]]*\]\(", lambda link: link.group().replace(" ", "\0"), " ".join(text.split()))
+    lines = [line.replace("\0", " ") for line in textwrap.wrap(text, WIDTH - 1, break_long_words=False, break_on_hyphens=False)]
     begins = re.compile(r"^([-+*#>](?=\s|$)|\d+(?=[.)](\s|$)))")
     return [begins.sub(lambda start: start.group() + "\\" if start.group().isdigit() else "\\" + start.group(), line) for line in lines]
 
