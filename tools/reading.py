@@ -47,8 +47,9 @@ class Reading:
         return [each for each in used if isinstance(each, Definition) and each in self.home and self.home[each].number < page.number]
 
     def rests_on(self, page):
-        """The earlier pages that a page needs."""
-        return sorted({self.home[each] for each in self.earlier(page, page.definitions() + page.operations)}, key=lambda other: other.number)
+        """The earlier pages that have something of what a page's roots reach."""
+        found = {self.home[each] for each in reached(self, page.operations + page.statements) if isinstance(each, Definition)}
+        return sorted(found - {page}, key=lambda other: other.number)
 
 
 # ── tools/believed.roots ──
