@@ -13,17 +13,23 @@ SECTION = re.compile(r"\s*-- ──.*──$")
 
 
 class Definition:
-    """One definition, with what stands above it. `parts` has its texts as (telescope, patterns, text): what the first two bind holds in the text."""
+    """One definition, with what stands above it. `parts` has its texts as (telescope, patterns, text): what the first two bind holds in the text. `spans` has
+    the lines of its code, from and to, that each part is from."""
 
     def __init__(self, file, name, kind, code, comment=(), section=(), outer=()):
         self.file, self.name, self.kind = file, name, kind
         self.code, self.comment, self.section, self.outer = list(code), list(comment), list(section), list(outer)
-        self.fixity, self.parts, self.constructors = [], [], {}
+        self.fixity, self.parts, self.spans, self.constructors = [], [], [], {}
         self.telescope = [word for text in outer for word in tokens(text)[2:-1]]  # of the modules around it
+        self.whole, self.repeats = self, 0  # an excerpt has the record that it is from, and how many of its lines an earlier excerpt has (see `excerpt`)
 
     def lines(self):
-        """How many lines a reader must believe: no comment, no blank line."""
-        return sum(1 for line in self.code if line.strip() and not line.lstrip().startswith(("--", "//")))
+        """How many lines a reader must believe: no comment, no blank line, and none that an earlier excerpt has."""
+        return sum(1 for line in self.code[self.repeats:] if line.strip() and not is_comment(line))
+
+    def add(self, part, start, end):
+        self.parts.append(part)
+        self.spans.append((start, end))
 
 
 class File:
@@ -42,6 +48,10 @@ def tokens(text):
 
 def indent(line):
     return len(line) - len(line.lstrip())
+
+
+def is_comment(line):
+    return line.lstrip().startswith(("--", "//"))
 
 
 # ── imports ──
@@ -116,7 +126,10 @@ class Above:
             self.section, self.comment = self.comment, []
 
     def taken(self):
+        """The comment, for what stands below it. One that begins a section of its own ends the section above."""
         comment, self.comment = self.comment, []
+        if comment and comment[0].lstrip().startswith("-- ──"):
+            self.section = []
         return comment
 
 
@@ -184,10 +197,10 @@ def begun(file, block, above_it):
     made = Definition(file, words[0], kind, block, above_it.taken(), above_it.section, [text for text, _ in above_it.outer])
     before, its_type = split_at(words[1:], ":")
     if kind == "function":
-        made.parts.append((made.telescope, before, its_type))  # `before` has names of levels, if anything
+        made.add((made.telescope, before, its_type), 0, len(block))  # `before` has names of levels, if anything
     else:
         made.telescope += before
-        made.parts.append((made.telescope, [], (split_at(its_type, "where") or [its_type])[0]))
+        made.add((made.telescope, [], (split_at(its_type, "where") or [its_type])[0]), 0, head_of(block))
         take_members(made, block)
     names = {made.name, *made.constructors}
     made.fixity = [line for line in above_it.fixity if names & set(line.split())]
@@ -197,33 +210,65 @@ def begun(file, block, above_it):
 def take_members(made, block):
     """A type's parameters hold in its members, a record's members in those below them. A member of a data is a constructor."""
     known = list(made.telescope)
-    for member in members(block):
-        names, its_type = split_at([word for word in tokens("\n".join(member)) if word != "pub"], ":") or ([], [])
-        made.parts.append((known, [], its_type))
+    for start, end in members(block):
+        names, its_type = member_of(block[start:end])
+        made.add((known, [], its_type), start, end)
         if made.kind == "data":
-            made.constructors.update({each: member for each in names})
+            made.constructors.update({each: [line for line in block[start:end] if not is_comment(line)] for each in names})
         else:
             known = known + ["(", *names, ":", "_", ")"]
 
 
+def member_of(lines):
+    """The names and the type of a member."""
+    return split_at([word for word in tokens("\n".join(lines)) if word != "pub"], ":") or ([], [])
+
+
+def head_of(block):
+    """How many lines a record or data has up to its `where`."""
+    return next((at + 1 for at, line in enumerate(block) if re.search(r"\bwhere\b", line) and not is_comment(line)), len(block))
+
+
 def members(block):
-    """The members of a record or data, behind its `where`: each begins at the depth of the first one."""
-    found = []
-    behind_it = re.split(r"\bwhere\b", "\n".join(block), maxsplit=1)[1:]
-    body = [line for text in behind_it for line in text.split("\n") if line.strip() and not line.lstrip().startswith("--")]
-    for line in body:
-        if indent(line) == indent(body[0]):
-            found.append([])
-        found[-1].append(line)
-    return found
+    """The members of a record or data, behind its `where`, each by its lines, from and to: it begins at the depth of the first one, with the comment above."""
+    spans, depth, above_it = [], None, head_of(block)
+    for at in range(head_of(block), len(block)):
+        if not block[at].strip() or is_comment(block[at]):
+            continue
+        depth = indent(block[at]) if depth is None else depth
+        if indent(block[at]) == depth:
+            spans.append((above_it, at + 1))
+        else:
+            spans[-1] = (spans[-1][0], at + 1)
+        above_it = at + 1
+    return spans
+
+
+def fields(record):
+    """The names of a record's fields."""
+    return [name for start, end in members(record.code) for name in member_of(record.code[start:end])[0]]
+
+
+def excerpt(record, names, first):
+    """A record with these of its fields only, as the definition that a page shows. Its head is counted where it is shown first."""
+    head = head_of(record.code)
+    part = Definition(record.file, record.name, record.kind, record.code[:head], record.comment, record.section, record.outer)
+    part.whole, part.fixity, part.repeats = record, record.fixity, 0 if first else head
+    part.add(record.parts[0], 0, head)
+    for member, (start, end) in zip(record.parts[1:], record.spans[1:]):
+        if set(member_of(record.code[start:end])[0]) & set(names):
+            part.add(member, len(part.code), len(part.code) + end - start)
+            part.code += record.code[start:end]
+    return part
 
 
 def carry_on(made, block):
     """A clause of the definition above. An `unfolding` line is for the prover: it names nothing that the clauses do not."""
+    start = len(made.code)
     made.code += block
     clause = split_at(tokens("\n".join(block)), "=")
     if clause:
-        made.parts.append((made.telescope, clause[0], clause[1]))
+        made.add((made.telescope, clause[0], clause[1]), start, len(made.code))
 
 
 # ── which names a text mentions ──
@@ -354,7 +399,8 @@ def operation(file, name):
     signature, *clauses = re.split(r"^    (?:requires|ensures|ghost)\b", "\n".join(code), flags=re.M)
     made.signature = signature
     bound = ["(", *re.findall(r"(\w+)\s*:[^:]", signature), ":", ")"]
-    made.parts = [(bound, [], tokens(clause[clause.index("{") + 1:clause.rindex("}")])) for clause in clauses]
+    for clause in clauses:
+        made.add((bound, [], tokens(clause[clause.index("{") + 1:clause.rindex("}")])), 0, len(code))
     return made
 
 
