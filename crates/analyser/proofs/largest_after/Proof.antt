@@ -65,7 +65,8 @@ largest-after-requires : tie.Need-largest-after-requires
 largest-after-requires c κs =
     let t = c .before .before .before .before .before .before .before .before .before .before .before .before .before .before .before .before in
     let o = t .before in
-    (o .open-walked .ensures .5 (is-accepted (net o .accepted) (t .if1 .left)) .0, opened (sheet o) (net o) (accepted t) (order o) (from o) (grouped o) (starts o) (walked t))
+    let long = o .open-walked .ensures .5 (is-accepted (net o .accepted) (t .if1 .left)) .0 in
+    (long, opened (sheet o) (net o) (accepted t) (order o) (from o) (grouped o) (starts o) (walked t))
 
 returns-2 : tie.Need-returns-2
 returns-2 c =
@@ -76,7 +77,8 @@ returns-2 c =
     let t = k .before .before .before .before .before .before .before .before .before .before .before .before .before .before .before .before .before in
     let o = t .before in
     let a = begun o .args in
-    after-sheet (sheet o) (net o) (accepted t) (a .capture .now) (a .window) (a .named) from' to (a .limits .now) _ (a .flows .now) _ (a .set .now) _ (k .largest-after .result) (k .largest-after .ensures)
+    after-sheet (sheet o) (net o) (accepted t) (a .capture .now) (a .window) (a .named) from' to
+    (a .limits .now) _ (a .flows .now) _ (a .set .now) _ (k .largest-after .result) (k .largest-after .ensures)
 
 pub largest-after-spec : {M : Type 1} → statement M
 largest-after-spec =

@@ -70,7 +70,8 @@ returns-2 c =
     let t = k .before .before .before .before .before .before .before .before .before .before .before .before .before .before .before .before .before in
     let o = t .before in
     let a = begun o .args in
-    range-sheet (sheet o) (net o) (accepted t) from' to (a .low .now) _ (a .below .now) _ (a .high .now) _ (a .above .now) _ (k .least-and-largest .result) (k .least-and-largest .ensures)
+    range-sheet (sheet o) (net o) (accepted t) from' to
+    (a .low .now) _ (a .below .now) _ (a .high .now) _ (a .above .now) _ (k .least-and-largest .result) (k .least-and-largest .ensures)
 
 pub least-and-largest-spec : {M : Type 1} → statement M
 least-and-largest-spec =

@@ -75,8 +75,10 @@ returns-2 c =
     let o = t .before in
     let a = begun o .args in
     let e = k .answer-list .ensures in (
-      page-sheet (sheet o) (net o) (accepted t) (a .list .count) (questionAt (a .list .questions)) (a .flows .now) _ (a .sets .now) _ (k .answer-list .result) e,
-      page-named (sheet o) (net o) (accepted t) (a .list .count) (questionAt (a .list .questions)) (a .flows .now) _ (a .sets .now) _ (k .answer-list .result) e,
+      page-sheet (sheet o) (net o) (accepted t) (a .list .count) (questionAt (a .list .questions))
+          (a .flows .now) _ (a .sets .now) _ (k .answer-list .result) e,
+      page-named (sheet o) (net o) (accepted t) (a .list .count) (questionAt (a .list .questions))
+          (a .flows .now) _ (a .sets .now) _ (k .answer-list .result) e,
     )
 
 pub page-of-spec : {M : Type 1} → statement M

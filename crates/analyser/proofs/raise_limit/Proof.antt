@@ -60,7 +60,8 @@ raise-limit-requires : tie.Need-raise-limit-requires
 raise-limit-requires c κs =
     let t = c .before .before .before .before .before .before .before .before .before .before .before .before .before .before .before .before in
     let o = t .before in
-    (o .open-walked .ensures .5 (is-accepted (net o .accepted) (t .if1 .left)) .0, opened-sheet (sheet o) (net o) (accepted t) (order o) (from o) (grouped o) (starts o) (walked t))
+    let long = o .open-walked .ensures .5 (is-accepted (net o .accepted) (t .if1 .left)) .0 in
+    (long, opened-sheet (sheet o) (net o) (accepted t) (order o) (from o) (grouped o) (starts o) (walked t))
 
 returns-2 : tie.Need-returns-2
 returns-2 c =
@@ -72,7 +73,8 @@ returns-2 c =
     let t = k .before .before .before .before .before .before .before .before .before .before .before .before .before .before .before .before .before in
     let o = t .before in
     let a = begun o .args in
-    raise-sheet (sheet o) (net o) (accepted t) from' to (number-of-bits _ (begun o .fits .value)) along (a .flows .now) _ (a .set .now) _ (k .raise-limit .result) (k .raise-limit .ensures)
+    raise-sheet (sheet o) (net o) (accepted t) from' to (number-of-bits _ (begun o .fits .value)) along
+    (a .flows .now) _ (a .set .now) _ (k .raise-limit .result) (k .raise-limit .ensures)
 
 pub raise-limit-spec : {M : Type 1} → statement M
 raise-limit-spec =

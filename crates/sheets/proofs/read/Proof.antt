@@ -66,7 +66,9 @@ returns-3 : tie.Need-returns-3
 returns-3 c = let a = accepted (c .before .before .before .before) in (read-short _ _ _ _ (a .0) (inr (inl (omega (arith, a .1 .edges-are)))), refl, refl, refl)
 
 returns-4 : tie.Need-returns-4
-returns-4 c = let a = accepted (c .before .before .before .before .before) in (read-short _ _ _ _ (a .0) (inr (inr (omega (arith, a .1 .edges-are)))), refl, refl, refl)
+returns-4 c =
+    let a = accepted (c .before .before .before .before .before) in
+    (read-short _ _ _ _ (a .0) (inr (inr (omega (arith, a .1 .edges-are)))), refl, refl, refl)
 
 -- the part of a slice that is lent has room for every dart and no more
 lent : {A : Type 0} (c : tie.Else1) (l : List A) → length (take (2 * net (c .before) .sizes .edges - 0) l) ≤ 1024

@@ -54,8 +54,14 @@ two-more {z = z} {f = f} e to φ = subst (λ k. Filling z f k to) (omega arith) 
 -- ── the needs, in the order of the code ──
 loop-holds : tie.Need-loop-holds Inv-loop μ-loop
 loop-holds c =
-    let p = c .before .pre in
-    (omega arith, omega (arith, p .3, head-counts _ (p .0) .3), λ i l. absurd (omega arith), filling-start _ (p .4) (p .5), filling-start _ (p .6) (p .7), filling-start _ (p .8) (p .9))
+    let p = c .before .pre in (
+      omega arith,
+      omega (arith, p .3, head-counts _ (p .0) .3),
+      λ i l. absurd (omega arith),
+      filling-start _ (p .4) (p .5),
+      filling-start _ (p .6) (p .7),
+      filling-start _ (p .8) (p .9),
+    )
 
 read-edge-requires : tie.Need-read-edge-requires Inv-loop μ-loop
 read-edge-requires c κs =
@@ -70,7 +76,8 @@ returns c =
       o .inv .3 .long,
       o .inv .4 .long,
       o .inv .5 .long,
-      refused-edge _ (p .0) (o .e) _ _ (omega (arith, p .3)) (o .inv .2) (subst (EdgeRead (begun (turn edge) .args .s .now) (o .e) (edge .read-edge .result)) (c .before .verdict .given .1) (edge .read-edge .ensures)),
+      refused-edge _ (p .0) (o .e) _ _ (omega (arith, p .3)) (o .inv .2)
+          (subst (EdgeRead (begun (turn edge) .args .s .now) (o .e) (edge .read-edge .result)) (c .before .verdict .given .1) (edge .read-edge .ensures)),
     )
 
 loop-again : tie.Need-loop-again Inv-loop μ-loop
