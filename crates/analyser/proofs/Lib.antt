@@ -14,6 +14,7 @@ pub mod ByThePage
 pub mod Statements
 pub mod Districts
 pub mod ByNode
+pub mod Counted
 pub mod Drops
 pub mod Captured
 pub mod OneAnswer

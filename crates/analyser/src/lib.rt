@@ -421,14 +421,18 @@ pub enum CountsAnswer {
     Refused(u8, u16),
 }
 
-// Counts: both counts of a sheet, for a caller that lends slices of these lengths and has no use for Read's.
+// Counts: both counts of a sheet, for a caller that lends slices of these lengths and has no use for Read's. Totals by node of no node makes the sheet checks:
+// with room for any set it refuses nothing else, and the record that it holds lies in its own frame, not in the caller's.
 pub fn counts(sheet: &[u8]) -> CountsAnswer
     ensures { λ r. ⌜ GivesCounts (now (sheet .entry)) r ⌝ }
 {
-    let net = sheets::open(sheet);
-    if !net.accepted {
-        return CountsAnswer::Refused(net.refusal, net.place);
+    let set = [0u64; 9];
+    let mut subtotals = [0i32; 513];
+    let answer = totals(sheet, &set, &mut subtotals);
+    if let TotalsAnswer::Refused(k, p) = answer {
+        return CountsAnswer::Refused(k, p);
     }
-    let sizes = net.sizes;
-    CountsAnswer::Counts(arrays::narrow(sizes.nodes), arrays::narrow(sizes.edges))
+    let nodes = records::nodes_of(sheet);
+    let edges = records::edges_of(sheet);
+    CountsAnswer::Counts(arrays::narrow(nodes), arrays::narrow(edges))
 }

@@ -82,7 +82,11 @@ pub fn start(
         (sharedOf (now (nodes .exit)) (now (edges .exit)) (now (outer .exit)) (now (tails .exit)) (now (rotations .exit)) (now (limits .exit))
         (now (left .exit)) (now (standing .exit)) (now (first .exit)) (now (second .exit))) r ⌝ }
 {
-    let net = sheets::open(sheet);
+    let mut order = [0u16; 1024];
+    let mut from = [0u16; 1024];
+    let mut grouped = [0u16; 1024];
+    let mut starts = [0u16; 1024];
+    let net = sheets::open_walked(sheet, &mut order, &mut from, &mut grouped, &mut starts);
     erase(
         nodes,
         edges,

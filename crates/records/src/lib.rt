@@ -87,22 +87,25 @@ pub fn edge_at(head: usize, e: usize) -> usize
     head + record_length(2) * e
 }
 
-// A record of this kind, whole, at `at`. Its kind is looked at before its length: a wrong kind is 2 even where the body is cut short.
+// A record of this kind, whole, at `at`. A wrong kind is 2 even where the body is cut short. Of a record that is whole only the kind is left to look at.
 pub fn check_record(s: &[u8], kind: u8, at: usize) -> Verdict
     requires { ⌜ at ≤ 100000 ⌝ }
     ensures { λ r. ⌜ Judged (recordChecks (now (s .entry)) kind at) r ⌝ }
 {
     let end = at + record_length(kind);
+    if end <= s.len() {
+        if s[at] == kind {
+            return Verdict::Passed;
+        }
+        return Verdict::Refused(2, 0);
+    }
     if s.len() <= at {
         return Verdict::Refused(1, 0);
     }
     if s[at] != kind {
         return Verdict::Refused(2, 0);
     }
-    if s.len() < end {
-        return Verdict::Refused(1, 0);
-    }
-    Verdict::Passed
+    Verdict::Refused(1, 0)
 }
 
 // Not one of low, .., high.

@@ -133,25 +133,28 @@ fn some_empty(table: &[u16; 1024], n: usize) -> bool
     false
 }
 
-// Check 10: "some node's darts do not form exactly one round, or it has none". Each node is entered with the round of its darts.
+// Check 10: "some node's darts do not form exactly one round, or it has none". Each node is entered with the round of its darts. `round` and `owner` are lent
+// for the work: what they hold before and after does not matter.
 fn node_fault<'a>(
     tails: &'a [u16; 1024],
     rotations: &'a [u16; 1024],
     nodes: usize,
     edges: usize,
+    round: &mut [u16; 1024],
+    owner: &mut [u16; 1024],
 ) -> bool
     requires { ⌜ (edges ≤ 512) × (nodes ≤ 1024) × InRange (mapOf nodes edges (now tails) (now rotations))
-        × (RotationFault (mapOf nodes edges (now tails) (now rotations)) → ⊥) ⌝ }
-    ensures { λ r. ⌜ Decides (NodeFault (mapOf nodes edges (now (tails .entry)) (now (rotations .entry)))) r ⌝ }
+        × (RotationFault (mapOf nodes edges (now tails) (now rotations)) → ⊥) × (length (now round) ≡ 1024) ⌝ }
+    ensures { λ r. ⌜ Decides (NodeFault (mapOf nodes edges (now (tails .entry)) (now (rotations .entry)))) r
+        × (length (now (round .exit)) ≡ 1024) × (length (now (owner .exit)) ≡ 1024) ⌝ }
 {
     let darts = 2 * edges;
-    let mut round = [0u16; 1024];
-    number_orbits(rotations, darts, &mut round);
-    let mut owner = [0u16; 1024];
-    if enter_all(tails, &round, darts, &mut owner) {
+    number_orbits(rotations, darts, &mut *round);
+    *owner = [0u16; 1024];
+    if enter_all(tails, &*round, darts, &mut *owner) {
         return true;
     }
-    some_empty(&owner, nodes)
+    some_empty(&*owner, nodes)
 }
 
 // Faces: rounds of the face step. "The face step of a dart is the turn of its reverse."
@@ -279,7 +282,7 @@ fn check_flat<'a>(
 }
 
 // Walks over all darts from `outer` on, part by part, and answers how many parts there are; 0 where the darts of some node are not one round, or it has none:
-// then 9 or 10 holds, and which of them is not told.
+// then 9 or 10 holds, and which of them is not told. `owner` is lent for the work, all zeros.
 fn walk_nodes<'a>(
     tails: &'a [u16; 1024],
     rotations: &'a [u16; 1024],
@@ -288,22 +291,23 @@ fn walk_nodes<'a>(
     outer: usize,
     order: &mut [u16; 1024],
     from: &mut [u16; 1024],
+    owner: &mut [u16; 1024],
 ) -> usize
     requires { ⌜ (edges ≤ 512) × (nodes ≤ 1024) × (outer < 2 * edges) × (length (now order) ≡ 1024) × (length (now from) ≡ 1024)
-        × InRange (mapOf nodes edges (now tails) (now rotations)) ⌝ }
+        × InRange (mapOf nodes edges (now tails) (now rotations)) × (length (now owner) ≡ 1024) × ((v : ℕ) → at (now owner) v ≡ 0) ⌝ }
     ensures { λ r. ⌜ (length (now (order .exit)) ≡ 1024) × (length (now (from .exit)) ≡ 1024)
         × (r ≢ 0 → Sound (mapOf nodes edges (now (tails .entry)) (now (rotations .entry)))
         × Forest (2 * edges) (at (now (rotations .entry))) outer (at (now (order .exit))) (at (now (from .exit))) r
         × FirstCome (at (now (rotations .entry))) outer (at (now (order .exit))) (at (now (from .exit))) (2 * edges))
-        × (r ≡ 0 → Sound (mapOf nodes edges (now (tails .entry)) (now (rotations .entry))) → ⊥) ⌝ }
+        × (r ≡ 0 → Sound (mapOf nodes edges (now (tails .entry)) (now (rotations .entry))) → ⊥)
+        × (length (now (owner .exit)) ≡ 1024) ⌝ }
 {
     let darts = 2 * edges;
-    let mut owner = [0u16; 1024];
-    let trees = traversal::spread_rounds(tails, rotations, darts, outer, order, from, &mut owner);
+    let trees = traversal::spread_rounds(tails, rotations, darts, outer, order, from, &mut *owner);
     if trees == 0 {
         return 0;
     }
-    if some_empty(&owner, nodes) {
+    if some_empty(&*owner, nodes) {
         return 0;
     }
     trees
@@ -334,7 +338,7 @@ fn check_in_turn<'a>(
     if rotation_fault(tails, rotations, nodes, edges) {
         return refused(9);
     }
-    if node_fault(tails, rotations, nodes, edges) {
+    if node_fault(tails, rotations, nodes, edges, &mut *grouped, &mut *starts) {
         return refused(10);
     }
     let parts = traversal::spread_all(rotations, 2 * edges, outer, order, from);
@@ -351,7 +355,7 @@ fn check_in_turn<'a>(
 }
 
 // The checks 9, 10 and 12 in order, of a map that the checks 3 to 5 left in range. One walk over the darts, from `outer` on, decides at once that neither 9 nor
-// 10 holds. Where all pass, `lefts` holds the face at the left of each dart, and the other arrays the walk and the darts in groups.
+// 10 holds. `lefts` is all zeros before. Where all pass, it holds the face at the left of each dart, and the other arrays the walk and the darts in groups.
 pub fn check_map<'a>(
     tails: &'a [u16; 1024],
     rotations: &'a [u16; 1024],
@@ -366,14 +370,23 @@ pub fn check_map<'a>(
 ) -> Checked
     requires { ⌜ (edges ≤ 512) × (nodes ≤ 1024) × (outer < 2 * edges) × (length (now lefts) ≡ 1024) × (length (now order) ≡ 1024)
         × (length (now from) ≡ 1024) × (length (now grouped) ≡ 1024) × (length (now starts) ≡ 1024)
-        × InRange (mapOf nodes edges (now tails) (now rotations)) ⌝ }
+        × InRange (mapOf nodes edges (now tails) (now rotations)) × ((d : ℕ) → at (now lefts) d ≡ 0) ⌝ }
     ensures { λ r. ⌜ (length (now (lefts .exit)) ≡ 1024) × (length (now (order .exit)) ≡ 1024) × (length (now (from .exit)) ≡ 1024)
         × (length (now (grouped .exit)) ≡ 1024) × (length (now (starts .exit)) ≡ 1024)
         × MapJudged (mapOf nodes edges (now (tails .entry)) (now (rotations .entry))) (at (now (lefts .exit))) (r .faces) (r .verdict)
         × IfPassed (r .verdict) (Walked (2 * edges) (r .faces) outer (r .parts) (at (now (rotations .entry))) (now (lefts .exit))
         (now (order .exit)) (now (from .exit)) (now (grouped .exit)) (now (starts .exit))) ⌝ }
 {
-    let parts = walk_nodes(tails, rotations, nodes, edges, outer, order, from);
+    let parts = walk_nodes(
+        tails,
+        rotations,
+        nodes,
+        edges,
+        outer,
+        order,
+        from,
+        &mut *lefts,
+    );
     if parts == 0 {
         return check_in_turn(
             tails,

@@ -218,7 +218,11 @@ pub fn read(
     ensures { λ r. ⌜ Reads (now (sheet .entry)) (now (tails .entry)) (now (rotations .entry))
         (now (capacities .entry)) (now (tails .exit)) (now (rotations .exit)) (now (capacities .exit)) r ⌝ }
 {
-    let net = open(sheet);
+    let mut order = [0u16; 1024];
+    let mut from = [0u16; 1024];
+    let mut grouped = [0u16; 1024];
+    let mut starts = [0u16; 1024];
+    let net = open_walked(sheet, &mut order, &mut from, &mut grouped, &mut starts);
     if !net.accepted {
         return ReadAnswer::Refused(net.refusal, net.place);
     }

@@ -17,22 +17,25 @@ use Rattle.parties.proofs.start.Statement.{statement}
 use Rattle.parties.proofs.start.Tie as tie
 
 -- ── the sheet was opened ──
-abbrev opening : tie.After-erase → tie.After-open
+abbrev opening : tie.After-erase → tie.After-open-walked
 opening e = e .before .before .before .before .before .before .before .before .before .before .before
 
-abbrev sheet : tie.After-open → List ℕ
-sheet o = o .before .before .args .sheet .now
+abbrev sheet : tie.After-open-walked → List ℕ
+sheet o = o .before .before .before .before .before .before .args .sheet .now
 
-abbrev net : tie.After-open → Network
-net o = o .«open» .result
+abbrev net : tie.After-open-walked → Network
+net o = o .open-walked .result
+
+open-walked-requires : tie.Need-open-walked-requires
+open-walked-requires c κs = (refl, refl, refl, refl)
 
 -- it was accepted
 accepted : (t : tie.Else1) → NoneOf (sheetChecks (sheet (opening (t .before)))) × Holds (sheet (opening (t .before))) (net (opening (t .before)))
-accepted t = let o = opening (t .before) in opens-passed (sheet o) (net o) (t .if1 .left) (o .«open» .ensures)
+accepted t = let o = opening (t .before) in opens-passed (sheet o) (net o) (t .if1 .left) (o .open-walked .ensures .4)
 
 -- ── it is refused ──
 returns : tie.Need-returns
-returns c = let o = opening (c .before) in (opens-refused (sheet o) (net o) (c .if1 .taken) (o .«open» .ensures), c .before .erase .ensures)
+returns c = let o = opening (c .before) in (opens-refused (sheet o) (net o) (c .if1 .taken) (o .open-walked .ensures .4), c .before .erase .ensures)
 
 -- ── it is accepted ──
 narrow-requires : tie.Need-narrow-requires
@@ -103,7 +106,7 @@ pub start-spec : {M : Type 1} → statement M
 start-spec =
     tie.close
     (tie.spec
-    (λ c κs. search needs)
+    open-walked-requires
     (λ c κs. search needs)
     returns
     narrow-requires

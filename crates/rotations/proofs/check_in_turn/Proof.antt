@@ -33,21 +33,26 @@ not-9 : (c : tie.Else1) → RotationFault (mapAt (begun c)) → ⊥
 not-9 c = said-no (c .before .rotation-fault .ensures) (c .if1 .left)
 
 node-fault-requires : tie.Need-node-fault-requires
-node-fault-requires c κs = let p = begun c .pre in (p .0, p .1, p .8, not-9 c)
+node-fault-requires c κs =
+    let e = c .before .before in
+    let p = begun e .pre in
+    (p .0, p .1, p .8, not-9 e, p .6)
 
 returns-2 : tie.Need-returns-2
 returns-2 c =
-    let e = c .before .before .before in
+    let f = c .before .before in
+    let e = f .before .before .before in
     let p = begun e .pre in
-    let ten = refused-10 (mapAt (begun e)) (not-9 e) (said-yes (c .before .before .node-fault .ensures) (c .before .if2 .taken)) in
-    (p .3, p .4, p .5, p .6, p .7, rw (c .refused2 .ensures) ten, rw (c .refused2 .ensures) tt)
+    let n = f .node-fault .ensures in
+    let ten = refused-10 (mapAt (begun e)) (not-9 e) (said-yes (n .0) (c .before .if2 .taken)) in
+    (p .3, p .4, p .5, n .1, n .2, rw (c .refused2 .ensures) ten, rw (c .refused2 .ensures) tt)
 
 -- ── 10 was passed ──
 abbrev turned : tie.Else2 → tie.Else1
-turned c = c .before .before
+turned c = c .before .before .before .before
 
 not-10 : (c : tie.Else2) → NodeFault (mapAt (begun (turned c))) → ⊥
-not-10 c = said-no (c .before .node-fault .ensures) (c .if2 .left)
+not-10 c = said-no (c .before .node-fault .ensures .0) (c .if2 .left)
 
 sound : (c : tie.Else2) → Sound (mapAt (begun (turned c)))
 sound c = sound-of-checks (begun (turned c) .pre .8) (not-9 (turned c)) (not-10 c)
@@ -69,8 +74,9 @@ check-flat-requires c κs =
     let w = c .before .before .before in
     let e = passed w in
     let p = begun (turned e) .pre in
+    let n = e .before .node-fault .ensures in
     let 𝓕 = w .spread-all .ensures .2 in
-    (p .0, p .1, p .3, p .6, p .7, sound e, trees-few 𝓕, (treeOf (sound e) 𝓕, trees-components (sound e) 𝓕))
+    (p .0, p .1, p .3, n .1, n .2, sound e, trees-few 𝓕, (treeOf (sound e) 𝓕, trees-components (sound e) 𝓕))
 
 returns-3 : tie.Need-returns-3
 returns-3 c =

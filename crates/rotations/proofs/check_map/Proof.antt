@@ -6,17 +6,17 @@ use Rattle.rotations.proofs.check_map.Statement.{statement}
 use Rattle.rotations.proofs.check_map.Tie as tie
 
 walk-nodes-requires : tie.Need-walk-nodes-requires
-walk-nodes-requires c κs = let p = c .before .before .pre in (p .0, p .1, p .2, p .4, p .5, p .8)
+walk-nodes-requires c κs = let p = c .before .before .before .pre in (p .0, p .1, p .2, p .4, p .5, p .8, p .3, p .9)
 
 abbrev begun : tie.After-walk-nodes → tie.Start
-begun c = c .before .before .before
+begun c = c .before .before .before .before
 
 check-in-turn-requires : tie.Need-check-in-turn-requires
 check-in-turn-requires c κs =
     let w = c .before .before .before .before .before .before in
     let p = begun w .pre in
     let e = w .walk-nodes .ensures in
-    (p .0, p .1, p .2, p .3, e .0, e .1, p .6, p .7, p .8, e .3 (c .before .before .before .before .before .if1 .taken))
+    (p .0, p .1, p .2, e .4, e .0, e .1, p .6, p .7, p .8, e .3 (c .before .before .before .before .before .if1 .taken))
 
 returns : tie.Need-returns
 returns c = c .check-in-turn .ensures
@@ -27,7 +27,7 @@ check-flat-requires c κs =
     let w = d .before in
     let p = begun w .pre in
     let e = w .walk-nodes .ensures .2 (d .if1 .left) in
-    (p .0, p .1, p .3, p .6, p .7, e .0, trees-few (e .1), (treeOf (e .0) (e .1), trees-components (e .0) (e .1)))
+    (p .0, p .1, w .walk-nodes .ensures .4, p .6, p .7, e .0, trees-few (e .1), (treeOf (e .0) (e .1), trees-components (e .0) (e .1)))
 
 returns-2 : tie.Need-returns-2
 returns-2 c =

@@ -14,12 +14,12 @@ use Rattle.rotations.proofs.node_fault.Tie as tie
 number-orbits-requires : tie.Need-number-orbits-requires
 number-orbits-requires c κs =
     let p = c .before .pre in
-    (length-replicate {A = ℕ} 1024 0, omega (arith, p .0), rotation-permutes (p .2) (p .3))
+    (p .4, omega (arith, p .0), rotation-permutes (p .2) (p .3))
 
 enter-all-requires : tie.Need-enter-all-requires
 enter-all-requires c κs =
-    let p = c .before .before .before .before .pre in
-    let n = c .before .before .number-orbits .ensures in (
+    let p = c .before .before .before .before .before .pre in
+    let n = c .before .before .before .number-orbits .ensures in (
       omega (arith, p .0),
       length-replicate {A = ℕ} 1024 0,
       zeros,
@@ -29,17 +29,20 @@ enter-all-requires c κs =
 
 returns : tie.Need-returns
 returns c =
-    let p = c .before .before .before .before .before .before .pre in
-    two-rounds (p .2) (rotation-permutes (p .2) (p .3)) (c .before .before .before .before .number-orbits .ensures .2)
-    (rw (c .if1 .taken) at (c .before .enter-all .ensures .1))
+    let p = c .before .before .before .before .before .before .before .pre in
+    let n = c .before .before .before .before .before .number-orbits .ensures in
+    let e = c .before .enter-all .ensures in
+    (two-rounds (p .2) (rotation-permutes (p .2) (p .3)) (n .2) (rw (c .if1 .taken) at (e .1)), n .0, e .0)
 
 returns-2 : tie.Need-returns-2
 returns-2 c =
-    let p = c .before .before .before .before .before .before .before .before .pre in
+    let p = c .before .before .before .before .before .before .before .before .before .pre in
+    let n = c .before .before .before .before .before .before .before .number-orbits .ensures in
+    let e = c .before .before .before .enter-all .ensures in
     let π = rotation-permutes (p .2) (p .3) in
-    let rounds = c .before .before .before .before .before .before .number-orbits .ensures .2 in
-    let ρ = rw (c .before .before .if1 .left) at (c .before .before .before .enter-all .ensures .1) in
-    decides-by (c .some-empty .result) (no-dart (p .2) π rounds ρ) (nodes-good (p .2) π rounds ρ) (c .some-empty .ensures)
+    let rounds = n .2 in
+    let ρ = rw (c .before .before .if1 .left) at (e .1) in
+    (decides-by (c .some-empty .result) (no-dart (p .2) π rounds ρ) (nodes-good (p .2) π rounds ρ) (c .some-empty .ensures), n .0, e .0)
 
 pub node-fault-spec : {M : Type 1} → statement M
 node-fault-spec =

@@ -9,6 +9,7 @@ use Rattle.maps.specs.Drawing.{Drawing}
 use Rattle.signed.proofs.Laws.{number-of-bits}
 use Rattle.arrays.specs.At.{at}
 use Rattle.arrays.specs.Maps.{drawingOf}
+use Rattle.arrays.proofs.FillLoops.{same-everywhere}
 use Rattle.rotations.specs.MapChecks.{mapChecks}
 use Rattle.sheets.proofs.Opening.{if-passed}
 use Rattle.sessions.specs.Fit.{InBounds, Fit}
@@ -70,7 +71,7 @@ within c = c .before .before .before .before .before .before
 check-map-requires : tie.Need-check-map-requires
 check-map-requires c κs =
     let b = bounded (c .before .before .before .before .before) in
-    (b .few-edges, b .few-nodes, b .outer-in, refl, refl, refl, refl, refl, b .range)
+    (b .few-edges, b .few-nodes, b .outer-in, refl, refl, refl, refl, refl, b .range, same-everywhere 1024 0)
 
 returns-2 : tie.Need-returns-2
 returns-2 c =

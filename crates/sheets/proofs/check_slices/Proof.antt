@@ -86,7 +86,7 @@ check-map-requires c κs =
     let t = told l in
     let n = counts-range _ _ _ (numbers-passed (counted t)) in
     let range = subst InRange (sym (map-is l)) (turns-range (drawn (start l)) (edges-passed t)) in
-    (n .3, omega (arith, n .1), outer-range _ _ _ (numbers-passed (counted t)), refl, refl, refl, refl, refl, range)
+    (n .3, omega (arith, n .1), outer-range _ _ _ (numbers-passed (counted t)), refl, refl, refl, refl, refl, range, same-everywhere 1024 0)
 
 returns-3 : tie.Need-returns-3
 returns-3 c =

@@ -147,6 +147,7 @@ check-map-requires c κs =
       p .2,
       p .3,
       subst InRange (sym (map-is e)) (bytes-range s b),
+      same-everywhere 1024 0,
     )
 
 returns-3 : tie.Need-returns-3

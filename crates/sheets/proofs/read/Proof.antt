@@ -17,14 +17,14 @@ use Rattle.sheets.proofs.read.Statement.{statement}
 use Rattle.sheets.proofs.read.Tie as tie
 
 -- ── the sheet is accepted ──
-abbrev sheet : tie.After-open → List ℕ
-sheet c = c .before .before .before .before .args .sheet .now
+abbrev sheet : tie.After-open-walked → List ℕ
+sheet c = c .before .before .before .before .before .before .before .before .args .sheet .now
 
-abbrev net : tie.After-open → Network
-net c = c .«open» .result
+abbrev net : tie.After-open-walked → Network
+net c = c .open-walked .result
 
 accepted : (c : tie.Else1) → NoneOf (sheetChecks (sheet (c .before))) × Holds (sheet (c .before)) (net (c .before))
-accepted c = opens-passed (sheet (c .before)) (net (c .before)) (c .if1 .left) (c .before .«open» .ensures)
+accepted c = opens-passed (sheet (c .before)) (net (c .before)) (c .if1 .left) (c .before .open-walked .ensures .4)
 
 few : (c : tie.Else1) → (net (c .before) .sizes .edges ≤ 512) × (net (c .before) .sizes .nodes ≤ 513) × (net (c .before) .sizes .outer ≤ 1023)
 few c =
@@ -51,10 +51,13 @@ abbrev copied : tie.After-copy-capacities → tie.Else4
 copied c = roomy (tails-copied (rotations-copied c))
 
 -- ── the needs, in the order of the code ──
+open-walked-requires : tie.Need-open-walked-requires
+open-walked-requires c κs = (refl, refl, refl, refl)
+
 returns : tie.Need-returns
 returns c =
     let o = c .before in
-    (read-refused _ _ _ _ _ _ (opens-refused (sheet o) (net o) (c .if1 .taken) (o .«open» .ensures)), refl, refl, refl)
+    (read-refused _ _ _ _ _ _ (opens-refused (sheet o) (net o) (c .if1 .taken) (o .open-walked .ensures .4)), refl, refl, refl)
 
 mul-darts : tie.Need-mul-darts
 mul-darts c = omega (arith, few (c .before .before) .0)
@@ -116,7 +119,7 @@ pub read-spec : {M : Type 1} → statement M
 read-spec =
     tie.close
     (tie.spec
-    (λ c κs. search needs)
+    open-walked-requires
     returns
     mul-darts
     returns-2
