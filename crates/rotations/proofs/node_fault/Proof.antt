@@ -1,9 +1,12 @@
 -- The rounds of the rotation are numbered, and each node is entered with the number of its darts: two numbers, or none, are a fault.
-use Prim.Native.Nat.{ℕ}
+use Prim.Native.Nat.{ℕ, _*_, _≤_}
 use native.Mathlib.Omega.{arith}
 use lib.ListN.{length-replicate}
 use borrow.Author.Needs.{needs}
+use Rattle.maps.specs.Map.{Map, darts}
+use Rattle.maps.specs.Orbit.{Permutes}
 use Rattle.maps.proofs.Checks.{rotation-permutes}
+use Rattle.arrays.specs.Maps.{mapOf}
 use Rattle.rotations.proofs.Holding.{zeros}
 use Rattle.rotations.proofs.Numbering.{number-small}
 use Rattle.rotations.proofs.Register.{two-rounds, no-dart, nodes-good}
@@ -11,35 +14,54 @@ use Rattle.refusals.proofs.Decisions.{decides-by}
 use Rattle.rotations.proofs.node_fault.Statement.{statement}
 use Rattle.rotations.proofs.node_fault.Tie as tie
 
+-- ── what is given ──
+abbrev mapAt : tie.Start → Map
+mapAt s = let a = s .args in mapOf (a .nodes) (a .edges) (a .tails .now) (a .rotations .now)
+
+few : (s : tie.Start) → 2 * s .args .edges ≤ 1024
+few s = omega (arith, s .pre .0)
+
+permutes : (s : tie.Start) → Permutes (darts (mapAt s)) (mapAt s .rotation)
+permutes s = rotation-permutes (s .pre .2) (s .pre .3)
+
 number-orbits-requires : tie.Need-number-orbits-requires
-number-orbits-requires c κs =
-    let p = c .before .pre in
-    (length-replicate {A = ℕ} 1024 0, omega (arith, p .0), rotation-permutes (p .2) (p .3))
+number-orbits-requires c κs = (length-replicate {A = ℕ} 1024 0, few (c .before), permutes (c .before))
+
+-- ── the rounds are numbered ──
+abbrev numbered : tie.After-owner → tie.After-number-orbits
+numbered c = c .before .before
+
+abbrev begun : tie.After-owner → tie.Start
+begun c = numbered c .before .before
 
 enter-all-requires : tie.Need-enter-all-requires
 enter-all-requires c κs =
-    let p = c .before .before .before .before .pre in
-    let n = c .before .before .number-orbits .ensures in (
-      omega (arith, p .0),
+    let s = begun c in (
+      few s,
       length-replicate {A = ℕ} 1024 0,
       zeros,
-      (λ d l. omega (arith, p .1, p .2 .tail-in d l)),
-      (λ d l. omega (arith, n .2 d l, number-small (omega (arith, p .0)) (rotation-permutes (p .2) (p .3)) d l)),
+      (λ d l. omega (arith, s .pre .1, s .pre .2 .tail-in d l)),
+      (λ d l. omega (arith, numbered c .number-orbits .ensures .2 d l, number-small (few s) (permutes s) d l)),
     )
 
+-- a node has darts of two rounds
 returns : tie.Need-returns
 returns c =
-    let p = c .before .before .before .before .before .before .pre in
-    two-rounds (p .2) (rotation-permutes (p .2) (p .3)) (c .before .before .before .before .number-orbits .ensures .2)
-    (rw (c .if1 .taken) at (c .before .enter-all .ensures .1))
+    let e = c .before in
+    let n = e .before in
+    let s = begun n in
+    two-rounds (s .pre .2) (permutes s) (numbered n .number-orbits .ensures .2) (rw (c .if1 .taken) at (e .enter-all .ensures .1))
 
+-- ── each node has the darts of one round, or none ──
 returns-2 : tie.Need-returns-2
 returns-2 c =
-    let p = c .before .before .before .before .before .before .before .before .pre in
-    let π = rotation-permutes (p .2) (p .3) in
-    let rounds = c .before .before .before .before .before .before .number-orbits .ensures .2 in
-    let ρ = rw (c .before .before .if1 .left) at (c .before .before .before .enter-all .ensures .1) in
-    decides-by (c .some-empty .result) (no-dart (p .2) π rounds ρ) (nodes-good (p .2) π rounds ρ) (c .some-empty .ensures)
+    let f = c .before .before in
+    let e = f .before in
+    let n = e .before in
+    let s = begun n in
+    let rounds = numbered n .number-orbits .ensures .2 in
+    let ρ = rw (f .if1 .left) at (e .enter-all .ensures .1) in
+    decides-by (c .some-empty .result) (no-dart (s .pre .2) (permutes s) rounds ρ) (nodes-good (s .pre .2) (permutes s) rounds ρ) (c .some-empty .ensures)
 
 pub node-fault-spec : {M : Type 1} → statement M
 node-fault-spec =

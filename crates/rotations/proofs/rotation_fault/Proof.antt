@@ -122,10 +122,11 @@ loop-again c =
     let r = entered c in
     let o = turn r .loop in
     let n = c .narrow in
-    let w = r .wide in (
+    let w = r .wide in
+    let l : w .result < length (o .origin) = omega (arith, rotation-below r, o .inv .1) in (
       omega (arith, dart-below r),
       length-set (o .origin) (w .result) (n .result) ∙ o .inv .1,
-      register-new (o .origin) (w .result) (n .result) (o .inv .2) (omega (arith, rotation-below r, o .inv .1)) (w .ensures) (n .ensures) (c .before .if2 .left),
+      register-new (o .origin) (w .result) (n .result) (o .inv .2) l (w .ensures) (n .ensures) (c .before .if2 .left),
       below-more _ (o .d) (o .inv .3) (same-tail (c .before .before)),
     )
 

@@ -24,29 +24,41 @@ spread-rounds-requires c κs =
       zeros,
     )
 
+-- the walk failed
 returns : tie.Need-returns
 returns c =
     let e = c .before .spread-rounds .ensures in
     (e .0, e .1, (λ h. absurd (h refl)), λ z σ. unround-unsound σ (e .4 (c .if1 .taken)))
 
+-- ── the walk listed whole rounds ──
+abbrev listed : tie.After-some-empty → tie.Else1
+listed c = c .before .before
+
+abbrev walked : tie.After-some-empty → tie.After-spread-rounds
+walked c = listed c .before
+
+abbrev begun : tie.After-some-empty → tie.Start
+begun c = walked c .before .before .before .before
+
+-- a node has none
 returns-2 : tie.Need-returns-2
 returns-2 c =
-    let s = c .before .before .before .before in
-    let e = s .spread-rounds .ensures in
-    let g = e .3 (c .before .before .before .if1 .left) in
-    (e .0, e .1, (λ h. absurd (h refl)), λ z σ. empty-unsound σ (g .1) (g .2) (said-yes (c .before .some-empty .ensures) (c .if2 .taken)))
+    let n = c .before in
+    let e = walked n .spread-rounds .ensures in
+    let g = e .3 (listed n .if1 .left) in
+    (e .0, e .1, (λ h. absurd (h refl)), λ z σ. empty-unsound σ (g .1) (g .2) (said-yes (n .some-empty .ensures) (c .if2 .taken)))
 
+-- each has one
 returns-3 : tie.Need-returns-3
 returns-3 c =
-    let s = c .before .before .before .before in
-    let p = s .before .before .before .before .pre in
-    let e = s .spread-rounds .ensures in (
+    let n = c .before in
+    let e = walked n .spread-rounds .ensures in (
       e .0,
       e .1,
       (λ h.
           let g = e .3 h in
-          (rounds-sound (p .5) (g .1) (g .2) (said-no (c .before .some-empty .ensures) (c .if2 .left)), g .0, g .3)),
-      λ z. absurd (c .before .before .before .if1 .left z),
+          (rounds-sound (begun n .pre .5) (g .1) (g .2) (said-no (n .some-empty .ensures) (c .if2 .left)), g .0, g .3)),
+      λ z. absurd (listed n .if1 .left z),
     )
 
 pub walk-nodes-spec : {M : Type 1} → statement M
