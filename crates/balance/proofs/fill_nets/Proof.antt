@@ -4,6 +4,9 @@ use Prim.Native.Nat.{_*_, ℕ, _≤_, _<_, _-_, _+_}
 use native.Mathlib.Omega.{arith}
 use lib.Dec.{eqb}
 use lib.ListN.{length}
+use lib.IntN.{ℤ}
+use mir.Syntax.{w32}
+use mir.Val.{toZ, ofZ}
 use borrow.Author.Needs.{needs}
 use Rattle.signed.proofs.Laws.{number-of-bits}
 use Rattle.arrays.specs.At.{at, atℤ}
@@ -22,51 +25,91 @@ abbrev μ-loop : tie.MeasureT-loop
 loop-holds : tie.Need-loop-holds Inv-loop μ-loop
 loop-holds c = (omega arith, c .pre .2, λ v l. c .pre .5 v ∙ sym (net-none _ _ v))
 
+-- ── the head of the loop ──
+abbrev At-loop : Type 0
+At-loop = tie.At-loop Inv-loop μ-loop
+
+abbrev begun : At-loop → tie.Start Inv-loop μ-loop
+begun l = l .before
+
+abbrev tailsAt : At-loop → ℕ → ℕ
+tailsAt l = at (begun l .args .tails .now)
+
+abbrev flowsAt : At-loop → ℕ → ℤ
+flowsAt l = atℤ (begun l .args .flows .now)
+
+-- the flow of the edge e
+abbrev flow : At-loop → ℤ
+flow l = flowsAt l (l .loop .e)
+
+-- ── the tail is read: the flow is added there ──
+abbrev Tail : Type 0
+Tail = tie.After-wide Inv-loop μ-loop
+
+abbrev turn : Tail → At-loop
+turn c = c .before .before .before .before
+
+tail-below : (c : Tail) → c .wide .result < 1024
+tail-below c = let l = turn c in omega (arith, c .wide .ensures, begun l .pre .3 (2 * l .loop .e) (omega arith))
+
 add-at-requires : tie.Need-add-at-requires Inv-loop μ-loop
 add-at-requires c κs =
-    let s = c .before .before .before .before .before .before in
-    let o = c .before .before .before .before .before .loop in
-    let w : c .before .wide .result < 1024 = omega (arith, c .before .wide .ensures, s .pre .3 (2 * o .e) (omega arith)) in (
-      o .inv .1,
-      w,
-      rw (number-of-bits (atℤ (s .args .flows .now) (o .e)) (record { sfits = c .add-at-arg2 .given }), o .inv .2 (c .before .wide .result) w)
-          (added-fits (at (s .args .tails .now)) (atℤ (s .args .flows .now)) (s .args .edges)
-          (s .pre .4) (o .e) (c .before .wide .result) (omega arith) (s .pre .0)),
+    let t = c .before in
+    let l = turn t in
+    let s = begun l in
+    let v = t .wide .result in (
+      l .loop .inv .1,
+      tail-below t,
+      rw (number-of-bits (flow l) (record { sfits = c .add-at-arg2 .given }), l .loop .inv .2 v (tail-below t))
+          (added-fits (tailsAt l) (flowsAt l) (s .args .edges) (s .pre .4) (l .loop .e) v (omega arith) (s .pre .0)),
     )
+
+-- ── the head is read: the flow is taken away there ──
+abbrev Head : Type 0
+Head = tie.After-wide2 Inv-loop μ-loop
+
+abbrev added : Head → tie.After-add-at Inv-loop μ-loop
+added c = c .before .before .before
+
+abbrev tail : Head → Tail
+tail c = added c .before .before
+
+abbrev round : Head → At-loop
+round c = turn (tail c)
+
+head-below : (c : Head) → c .wide2 .result < 1024
+head-below c = let l = round c in omega (arith, c .wide2 .ensures, begun l .pre .3 (2 * l .loop .e + 1) (omega arith))
+
+-- the flow is the number of its bits
+flow-is : (c : tie.After-sub-at-arg2 Inv-loop μ-loop) → toZ w32 (ofZ w32 (flow (round (c .before)))) ≡ flow (round (c .before))
+flow-is c = number-of-bits (flow (round (c .before))) (record { sfits = c .sub-at-arg2 .given })
 
 sub-at-requires : tie.Need-sub-at-requires Inv-loop μ-loop
 sub-at-requires c κs =
-    let s = c .before .before .before .before .before .before .before .before .before .before .before in
-    let o = c .before .before .before .before .before .before .before .before .before .before .loop in
-    let between = c .before .before .before .before .add-at in
-    let v = c .before .wide2 .result in
-    let w : v < 1024 = omega (arith, c .before .wide2 .ensures, s .pre .3 (2 * o .e + 1) (omega arith)) in
-    let x = atℤ (s .args .flows .now) (o .e) in
-    let bits = number-of-bits x (record { sfits = c .sub-at-arg2 .given }) in
-    let atTail = eqb v (c .before .before .before .before .before .before .wide .result) in (
-      between .ensures .0,
-      w,
-      rw (bits, between .ensures .1 v, bits, o .inv .2 v w)
-          (taken-fits (at (s .args .tails .now)) (atℤ (s .args .flows .now)) (s .args .edges) (s .pre .4) (o .e) v atTail (omega arith) (s .pre .0)),
+    let h = c .before in
+    let l = round h in
+    let s = begun l in
+    let sums = added h .add-at .ensures in
+    let v = h .wide2 .result in
+    let at-tail = eqb v (tail h .wide .result) in (
+      sums .0,
+      head-below h,
+      rw (flow-is c, sums .1 v, flow-is c, l .loop .inv .2 v (head-below h))
+          (taken-fits (tailsAt l) (flowsAt l) (s .args .edges) (s .pre .4) (l .loop .e) v at-tail (omega arith) (s .pre .0)),
     )
 
+-- ── both sums are done ──
 loop-again : tie.Need-loop-again Inv-loop μ-loop
 loop-again c =
-    let s = c .before .before .before .before .before .before .before .before .before .before .before .before in
-    let o = c .before .before .before .before .before .before .before .before .before .before .before .loop in
-    let between = c .before .before .before .before .before .add-at in
-    let x = atℤ (s .args .flows .now) (o .e) in
-    let bits = number-of-bits x (record { sfits = c .before .sub-at-arg2 .given }) in (
+    let b = c .before in
+    let h = b .before in
+    let l = round h in
+    let first = tail h .wide in
+    let second = h .wide2 in (
       omega arith,
       c .sub-at .ensures .0,
-      λ v l. net-stepped (at (s .args .tails .now)) (atℤ (s .args .flows .now)) (o .e) v
-          (c .before .before .before .before .before .before .before .wide .result)
-          (c .before .before .wide2 .result)
-          (c .before .before .before .before .before .before .before .wide .ensures)
-          (c .before .before .wide2 .ensures)
-          (o .inv .2 v l)
-          (rw bits at (between .ensures .1 v))
-          (rw bits at (c .sub-at .ensures .1 v)),
+      λ v k. net-stepped (tailsAt l) (flowsAt l) (l .loop .e) v (first .result) (second .result) (first .ensures) (second .ensures) (l .loop .inv .2 v k)
+          (rw (flow-is b) at (added h .add-at .ensures .1 v)) (rw (flow-is b) at (c .sub-at .ensures .1 v)),
     )
 
 returns : tie.Need-returns Inv-loop μ-loop

@@ -69,9 +69,12 @@ spread-all-requires c κs =
 abbrev passed : tie.After-spread-all → tie.Else2
 passed c = c .before .before .before
 
+abbrev walked : tie.After-check-flat-arg3 → tie.After-spread-all
+walked c = c .before .before .before
+
 check-flat-requires : tie.Need-check-flat-requires
 check-flat-requires c κs =
-    let w = c .before .before .before in
+    let w = walked c in
     let e = passed w in
     let p = begun (turned e) .pre in
     let n = e .before .node-fault .ensures in
@@ -79,9 +82,7 @@ check-flat-requires c κs =
     (p .0, p .1, p .3, n .1, n .2, sound e, trees-few 𝓕, (treeOf (sound e) 𝓕, trees-components (sound e) 𝓕))
 
 returns-3 : tie.Need-returns-3
-returns-3 c =
-    let w = c .before .before .before .before in
-    absurd (begun (turned (passed w)) .pre .9 (sound (passed w)))
+returns-3 c = let e = passed (walked (c .before)) in absurd (begun (turned e) .pre .9 (sound e))
 
 pub check-in-turn-spec : {M : Type 1} → statement M
 check-in-turn-spec =

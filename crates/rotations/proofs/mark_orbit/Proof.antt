@@ -1,8 +1,8 @@
 -- Invariant: the walk has marked k places of the orbit and is not back at `start`. The measure is how many places have no number.
-use mathlib.Core.Path.{_≡_, sym, _∙_}
-use Prim.Native.Nat.{ℕ, suc}
+use mathlib.Core.Path.{_≡_, sym, _∙_, subst}
+use Prim.Native.Nat.{ℕ, suc, _<_}
 use native.Mathlib.Omega.{arith}
-use lib.ListN.{length, length-set}
+use lib.ListN.{length, set, length-set}
 use borrow.Author.Needs.{needs}
 use Rattle.arrays.specs.At.{at}
 use Rattle.rotations.specs.inner.Holding.{holding}
@@ -22,36 +22,54 @@ abbrev μ-loop : tie.MeasureT-loop
 loop-holds : tie.Need-loop-holds Inv-loop μ-loop
 loop-holds c = (c .pre .0, c .pre .1, (0, set-off _ _ _ _))
 
+-- ── in the loop ──
+below : (l : tie.At-loop Inv-loop μ-loop) → l .loop .x < l .before .args .n
+below l = let i = l .loop .inv in still-in (i .1) (i .2 .1)
+
 mul-label : tie.Need-mul-label Inv-loop μ-loop
-mul-label c = let i = c .loop .inv in omega (arith, still-in (i .1) (i .2 .1), i .1 .few)
+mul-label c = omega (arith, below c, c .loop .inv .1 .few)
 
 element-write-label : tie.Need-element-write-label Inv-loop μ-loop
-element-write-label c = let i = c .loop .inv in omega (arith, still-in (i .1) (i .2 .1), i .1 .few)
+element-write-label c = omega (arith, below c, c .loop .inv .1 .few)
 
 mul-wide : tie.Need-mul-wide Inv-loop μ-loop
-mul-wide c = let i = c .loop .inv in omega (arith, still-in (i .1) (i .2 .1), i .1 .few)
+mul-wide c = omega (arith, below c, c .loop .inv .1 .few)
 
 element-copy-out-wide : tie.Need-element-copy-out-wide Inv-loop μ-loop
-element-copy-out-wide c = let i = c .loop .inv in omega (arith, still-in (i .1) (i .2 .1), i .1 .few)
+element-copy-out-wide c = omega (arith, below c, c .loop .inv .1 .few)
+
+-- ── the place is marked, and the walk has stepped on ──
+abbrev over : tie.After-wide Inv-loop μ-loop → tie.At-loop Inv-loop μ-loop
+over c = c .before .before
+
+long : (c : tie.After-wide Inv-loop μ-loop) → length (set (over c .loop .label) (over c .loop .x) (over c .before .args .number)) ≡ 1024
+long c = let o = over c .loop in length-set (o .label) (o .x) (over c .before .args .number) ∙ o .inv .0
 
 loop-less : tie.Need-loop-less Inv-loop μ-loop
-loop-less c =
-    let o = c .before .before .before .loop in
-    let i = o .inv in
-    omega (arith, fewer (o .label) (i .0) (i .1) (i .2 .1))
+loop-less c = let o = over (c .before) .loop in let i = o .inv in omega (arith, fewer (o .label) (i .0) (i .1) (i .2 .1))
 
 loop-again : tie.Need-loop-again Inv-loop μ-loop
 loop-again c =
-    let o = c .before .before .before .loop in
+    let w = c .before in
+    let o = over w .loop in
     let i = o .inv in
-    let at-x = c .before .wide .ensures in
-    (length-set (o .label) (o .x) _ ∙ i .0, i .1, (suc (i .2 .0), rw at-x (walk-on (o .label) (i .0) (i .1) (i .2 .1) (λ e. c .if1 .left (at-x ∙ e)))))
+    let a = over w .before .args in
+    let at-x = w .wide .ensures in
+    let on = walk-on (o .label) (i .0) (i .1) (i .2 .1) (λ e. c .if1 .left (at-x ∙ e)) in (
+      long w,
+      i .1,
+      (
+        suc (i .2 .0),
+        subst (Walking (at (a .next .now)) (at (a .label .now)) (at (set (o .label) (o .x) (a .number))) (a .start) (a .number) (suc (i .2 .0))) (sym at-x) on,
+      ),
+    )
 
 returns : tie.Need-returns Inv-loop μ-loop
 returns c =
-    let o = c .before .before .before .loop in
+    let w = c .before in
+    let o = over w .loop in
     let i = o .inv in
-    (length-set (o .label) (o .x) _ ∙ i .0, walk-end (o .label) (i .0) (i .1) (i .2 .1) (sym (c .before .wide .ensures) ∙ c .if1 .taken))
+    (long w, walk-end (o .label) (i .0) (i .1) (i .2 .1) (sym (w .wide .ensures) ∙ c .if1 .taken))
 
 pub mark-orbit-spec : {M : Type 1} → statement M
 mark-orbit-spec =

@@ -54,8 +54,11 @@ loop-holds c =
     )
 
 -- ── in the loop ──
+abbrev start : tie.At-loop Inv-loop μ-loop → tie.Start Inv-loop μ-loop
+start l = l .before .before .before
+
 abbrev begun : tie.In-loop Inv-loop μ-loop → tie.Start Inv-loop μ-loop
-begun c = c .before .before .before .before
+begun c = start (c .before)
 
 -- some dart has no number, so there is a next one
 next-in : (c : tie.In-loop Inv-loop μ-loop) → c .before .loop .next < 2 * begun c .args .edges
@@ -120,31 +123,38 @@ mark-face-requires c κs =
 abbrev numbered : tie.After-mark-face Inv-loop μ-loop → tie.After-narrow Inv-loop μ-loop
 numbered c = c .before .before .before
 
+abbrev marking : tie.After-mark-face Inv-loop μ-loop → tie.Then1 Inv-loop μ-loop
+marking c = free (numbered c)
+
+-- the darts' numbers afterwards
+abbrev lefts-after : tie.After-mark-face Inv-loop μ-loop → ℕ → ℕ
+lefts-after c = at (c .mark-face .last .1 .1 .1 .1 .0)
+
 laid-below : (c : tie.After-mark-face Inv-loop μ-loop) → c .mark-face .result ≤ 1024
-laid-below c = omega (arith, c .mark-face .ensures .3 .some, few (begun (turn (free (numbered c)))), turn (free (numbered c)) .before .loop .inv .4 .room)
+laid-below c = let t = turn (marking c) in omega (arith, c .mark-face .ensures .3 .some, few (begun t), t .before .loop .inv .4 .room)
 
 narrow-requires-2 : tie.Need-narrow-requires-2 Inv-loop μ-loop
 narrow-requires-2 c κs = omega (arith, laid-below c)
 
 mul-starts : tie.Need-mul-starts Inv-loop μ-loop
-mul-starts c = omega (arith, number-below (free (numbered (c .before))))
+mul-starts c = omega (arith, number-below (marking (c .before)))
 
 element-write-starts : tie.Need-element-write-starts Inv-loop μ-loop
 element-write-starts c =
-    let b = free (numbered (c .before)) in
+    let b = marking (c .before) in
     omega (arith, number-below b, turn b .before .loop .inv .2)
 
 add-f : tie.Need-add-f Inv-loop μ-loop
-add-f c = omega (arith, number-below (free (numbered (c .before))))
+add-f c = omega (arith, number-below (marking (c .before)))
 
 loop-less : tie.Need-loop-less Inv-loop μ-loop
-loop-less c = omega (arith, next-in (turn (free (numbered (c .before)))))
+loop-less c = omega (arith, next-in (turn (marking (c .before))))
 
 loop-again : tie.Need-loop-again Inv-loop μ-loop
 loop-again c =
     let m = c .before in
     let n = numbered m in
-    let b = free n in
+    let b = marking m in
     let t = turn b in
     let s = begun t in
     let a = s .args in
@@ -152,8 +162,7 @@ loop-again c =
     let i = o .inv in
     let e = m .mark-face .ensures in
     let last = c .narrow2 in
-    let after = at (m .mark-face .last .1 .1 .1 .1 .0) in
-    let marked = subst (Marked (2 * a .edges) (stepOf (a .rotations .now)) (at (o .lefts)) after (o .next)) (n .narrow .ensures) (e .2) in
+    let marked = subst (Marked (2 * a .edges) (stepOf (a .rotations .now)) (at (o .lefts)) (lefts-after m) (o .next)) (n .narrow .ensures) (e .2) in
     let begins = getD-set-same (o .starts) (o .f) (last .result) 0 (omega (arith, number-below b, i .2)) ∙ last .ensures in
     let starts-kept : (g : ℕ) → g ≢ o .f → at (set (o .starts) (o .f) (last .result)) g ≡ at (o .starts) g =
     λ g h. getD-set-other (o .starts) (o .f) g (last .result) 0 h in (
@@ -167,19 +176,24 @@ loop-again c =
           (number-is (few s) (s .pre .4) (i .3) (next-in t) (b .if1 .taken)) (e .5) (e .3 .kept) begins starts-kept (i .4 .low-is),
     )
 
+-- ── the dart has a number already ──
+abbrev passed : tie.Else1 Inv-loop μ-loop → tie.In-loop Inv-loop μ-loop
+passed c = c .before .before
+
 loop-less-2 : tie.Need-loop-less-2 Inv-loop μ-loop
-loop-less-2 c = omega (arith, next-in (c .before .before))
+loop-less-2 c = omega (arith, next-in (passed c))
 
 loop-again-2 : tie.Need-loop-again-2 Inv-loop μ-loop
 loop-again-2 c =
-    let t = c .before .before in
+    let t = passed c in
     let s = begun t in
     let i = t .before .loop .inv in
     (i .0, i .1, i .2, pass (few s) (s .pre .4) (i .3) (next-in t) (c .if1 .left), i .4, i .5, i .6)
 
+-- ── all darts have their numbers ──
 returns : tie.Need-returns Inv-loop μ-loop
 returns c =
-    let s = c .before .before .before .before in
+    let s = start (c .before) in
     let o = c .before .loop in
     let i = o .inv in
     let π = s .pre .4 in

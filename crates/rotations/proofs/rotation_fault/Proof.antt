@@ -6,6 +6,7 @@ use native.Mathlib.Omega.{arith}
 use lib.ListN.{length, length-set, length-replicate}
 use borrow.Author.Count.{below-more}
 use borrow.Author.Needs.{needs}
+use Rattle.maps.specs.Map.{Map}
 use Rattle.arrays.specs.At.{at}
 use Rattle.arrays.specs.Maps.{mapOf}
 use Rattle.rotations.specs.inner.Register.{Register}
@@ -25,99 +26,117 @@ abbrev μ-loop : tie.MeasureT-loop
 loop-holds : tie.Need-loop-holds Inv-loop μ-loop
 loop-holds c = (omega arith, length-replicate {A = ℕ} 1024 0, register-none _ _ _ zeros, λ k l. absurd (omega arith))
 
+-- ── the places: where it starts, and where a dart's rotation is read ──
+few : (s : tie.Start Inv-loop μ-loop) → 2 * s .args .edges ≤ 1024
+few s = omega (arith, s .pre .0)
+
+abbrev Read : Type 0
+Read = tie.After-wide Inv-loop μ-loop
+
+abbrev turn : Read → tie.At-loop Inv-loop μ-loop
+turn c = c .before .before .before
+
+abbrev begun : Read → tie.Start Inv-loop μ-loop
+begun c = turn c .before
+
+abbrev mapAt : tie.Start Inv-loop μ-loop → Map
+mapAt s = let a = s .args in mapOf (a .nodes) (a .edges) (a .tails .now) (a .rotations .now)
+
+dart-below : (c : Read) → turn c .loop .d < 2 * begun c .args .edges
+dart-below c = omega arith
+
+rotation-below : (c : Read) → c .wide .result < 1024
+rotation-below c = let s = begun c in omega (arith, few s, s .pre .1 (turn c .loop .d) (dart-below c), c .wide .ensures)
+
+-- ── the needs, in the order of the code ──
 mul-wide : tie.Need-mul-wide Inv-loop μ-loop
-mul-wide c = omega (arith, c .before .before .pre .0)
+mul-wide c = omega (arith, few (c .before .before))
 
 element-copy-out-wide : tie.Need-element-copy-out-wide Inv-loop μ-loop
-element-copy-out-wide c = omega (arith, c .before .before .pre .0)
+element-copy-out-wide c = omega (arith, few (c .before .before))
 
 mul-if1 : tie.Need-mul-if1 Inv-loop μ-loop
-mul-if1 c =
-    let o = c .before .before .before .loop in
-    let p = c .before .before .before .before .pre in
-    omega (arith, p .0, p .1 (o .d) (omega arith), c .wide .ensures)
+mul-if1 c = omega (arith, rotation-below c)
 
 element-copy-out-if1 : tie.Need-element-copy-out-if1 Inv-loop μ-loop
-element-copy-out-if1 c =
-    let o = c .before .before .before .loop in
-    let p = c .before .before .before .before .pre in
-    omega (arith, p .0, p .1 (o .d) (omega arith), c .wide .ensures)
+element-copy-out-if1 c = omega (arith, rotation-below c)
 
 mul-if1-2 : tie.Need-mul-if1-2 Inv-loop μ-loop
-mul-if1-2 c = omega (arith, c .before .before .before .before .before .pre .0)
+mul-if1-2 c = omega (arith, few (begun (c .before)), dart-below (c .before))
 
 element-copy-out-if1-2 : tie.Need-element-copy-out-if1-2 Inv-loop μ-loop
-element-copy-out-if1-2 c = omega (arith, c .before .before .before .before .before .pre .0)
+element-copy-out-if1-2 c = omega (arith, few (begun (c .before)), dart-below (c .before))
 
+-- it has another tail
 returns : tie.Need-returns Inv-loop μ-loop
 returns c =
-    let o = c .before .before .before .before .before .before .loop in
-    inl (
-      o .d,
-      omega arith,
-      λ e. c .if1 .taken (ap (at (c .before .before .before .before .before .before .before .args .tails .now)) (c .before .before .before .wide .ensures) ∙ e),
-    )
+    let r = c .before .before .before in
+    inl (turn r .loop .d, dart-below r, λ e. c .if1 .taken (ap (at (begun r .args .tails .now)) (r .wide .ensures) ∙ e))
+
+-- ── it has the same tail ──
+abbrev read : tie.Else1 Inv-loop μ-loop → Read
+read c = c .before .before .before
 
 mul-if2 : tie.Need-mul-if2 Inv-loop μ-loop
-mul-if2 c =
-    let o = c .before .before .before .before .before .before .loop in
-    let p = c .before .before .before .before .before .before .before .pre in
-    omega (arith, p .0, p .1 (o .d) (omega arith), c .before .before .before .wide .ensures)
+mul-if2 c = omega (arith, rotation-below (read c))
 
 array-read-if2 : tie.Need-array-read-if2 Inv-loop μ-loop
-array-read-if2 c =
-    let o = c .before .before .before .before .before .before .loop in
-    let p = c .before .before .before .before .before .before .before .pre in
-    omega (arith, p .0, p .1 (o .d) (omega arith), c .before .before .before .wide .ensures)
+array-read-if2 c = omega (arith, rotation-below (read c))
 
+-- another dart has this rotation
 returns-2 : tie.Need-returns-2 Inv-loop μ-loop
 returns-2 c =
-    let o = c .before .before .before .before .before .before .before .loop in
-    let a = c .before .before .before .before .before .before .before .before .args in
-    rotation-twice (mapOf (a .nodes) (a .edges) (a .tails .now) (a .rotations .now)) (o .inv .2) (omega arith)
-    (λ e. c .if2 .taken (ap (at (o .origin)) (c .before .before .before .before .wide .ensures) ∙ e))
+    let r = read (c .before) in
+    let o = turn r .loop in
+    rotation-twice (mapAt (begun r)) (o .inv .2) (dart-below r) (λ e. c .if2 .taken (ap (at (o .origin)) (r .wide .ensures) ∙ e))
+
+-- ── and no other dart has it: it is entered ──
+abbrev alone : tie.Else2 Inv-loop μ-loop → Read
+alone c = read (c .before)
 
 add-narrow : tie.Need-add-narrow Inv-loop μ-loop
-add-narrow c = omega (arith, c .before .before .before .before .before .before .before .before .pre .0)
+add-narrow c = omega (arith, few (begun (alone c)), dart-below (alone c))
 
 narrow-requires : tie.Need-narrow-requires Inv-loop μ-loop
-narrow-requires c κs = omega (arith, c .before .before .before .before .before .before .before .before .pre .0)
+narrow-requires c κs = omega (arith, few (begun (alone c)), dart-below (alone c))
+
+abbrev entered : tie.After-narrow Inv-loop μ-loop → Read
+entered c = alone (c .before)
 
 mul-origin : tie.Need-mul-origin Inv-loop μ-loop
-mul-origin c =
-    let o = c .before .before .before .before .before .before .before .before .loop in
-    let p = c .before .before .before .before .before .before .before .before .before .pre in
-    omega (arith, p .0, p .1 (o .d) (omega arith), c .before .before .before .before .before .wide .ensures)
+mul-origin c = omega (arith, rotation-below (entered c))
 
 array-write-origin : tie.Need-array-write-origin Inv-loop μ-loop
-array-write-origin c =
-    let o = c .before .before .before .before .before .before .before .before .loop in
-    let p = c .before .before .before .before .before .before .before .before .before .pre in
-    omega (arith, p .0, p .1 (o .d) (omega arith), c .before .before .before .before .before .wide .ensures)
+array-write-origin c = omega (arith, rotation-below (entered c))
 
 add-d : tie.Need-add-d Inv-loop μ-loop
-add-d c = omega (arith, c .before .before .before .before .before .before .before .before .before .pre .0)
+add-d c = omega (arith, few (begun (entered c)), dart-below (entered c))
+
+-- the rotation's tail is the dart's
+same-tail : (c : tie.Else1 Inv-loop μ-loop) → let r = read c in let a = begun r .args in
+    at (a .tails .now) (at (a .rotations .now) (turn r .loop .d)) ≡ at (a .tails .now) (turn r .loop .d)
+same-tail c = let r = read c in ap (at (begun r .args .tails .now)) (sym (r .wide .ensures)) ∙ c .if1 .left
 
 loop-again : tie.Need-loop-again Inv-loop μ-loop
 loop-again c =
-    let o = c .before .before .before .before .before .before .before .before .loop in
-    let p = c .before .before .before .before .before .before .before .before .before .pre in
-    let t = c .before .before .before .before .before .wide .result in
-    let is-t = c .before .before .before .before .before .wide .ensures in
-    let l : t < 1024 = omega (arith, p .0, p .1 (o .d) (omega arith), is-t) in (
-      omega arith,
-      length-set (o .origin) t (c .narrow .result) ∙ o .inv .1,
-      register-new (o .origin) t (c .narrow .result) (o .inv .2) (omega (arith, o .inv .1)) is-t (c .narrow .ensures) (c .before .if2 .left),
-      below-more _ (o .d) (o .inv .3)
-          (ap (at (c .before .before .before .before .before .before .before .before .before .args .tails .now)) (sym is-t) ∙ c .before .before .if1 .left),
+    let r = entered c in
+    let o = turn r .loop in
+    let n = c .narrow in
+    let w = r .wide in
+    let l : w .result < length (o .origin) = omega (arith, rotation-below r, o .inv .1) in (
+      omega (arith, dart-below r),
+      length-set (o .origin) (w .result) (n .result) ∙ o .inv .1,
+      register-new (o .origin) (w .result) (n .result) (o .inv .2) l (w .ensures) (n .ensures) (c .before .if2 .left),
+      below-more _ (o .d) (o .inv .3) (same-tail (c .before .before)),
     )
 
+-- ── all darts are entered ──
 returns-3 : tie.Need-returns-3 Inv-loop μ-loop
 returns-3 c =
     let o = c .before .loop in
-    let a = c .before .before .args in
-    let e : o .d ≡ 2 * a .edges = omega arith in
-    rotation-good (mapOf (a .nodes) (a .edges) (a .tails .now) (a .rotations .now)) (rw e at (o .inv .2)) (rw e at (o .inv .3))
+    let s = c .before .before in
+    let e : o .d ≡ 2 * s .args .edges = omega arith in
+    rotation-good (mapAt s) (rw e at (o .inv .2)) (rw e at (o .inv .3))
 
 pub rotation-fault-spec : {M : Type 1} → statement M
 rotation-fault-spec =
