@@ -15,7 +15,7 @@ ghost use Rattle.records.specs.Sheet.{headLength, nodesOf, edgesOf, headChecks}
 ghost use Rattle.records.specs.Check.{edgeChecks};
 ghost use Rattle.records.specs.Encode.{outerHeadBytes, edgeBytes, encodeHead, encode, encodeLength};
 ghost use Rattle.sheets.specs.Open.{Opens};
-ghost use Rattle.sheets.specs.inner.Reading.{EdgesRead};
+ghost use Rattle.sheets.specs.inner.Reading.{EdgesRead, networkOf};
 ghost use Rattle.sheets.specs.Read.{Reads};
 ghost use Rattle.sheets.specs.Write.{edgesIn, slicesDrawing, drawingChecks, Writes};
 use arrays::Sizes;
@@ -34,10 +34,18 @@ pub struct Network {
     pub lefts: [u16; 1024],
 }
 
-fn refused(number: u8, place: u16) -> Network
+// What the checks of a sheet found: whether it is accepted and its sizes, or the number of the refusal and its place.
+pub struct Opened {
+    pub accepted: bool,
+    pub refusal: u8,
+    pub place: u16,
+    pub sizes: Sizes,
+}
+
+fn refused(number: u8, place: u16) -> Opened
     ensures { λ r. ⌜ (r .accepted ≡ false) × (r .refusal ≡ number) × (r .place ≡ place) ⌝ }
 {
-    Network {
+    Opened {
         accepted: false,
         refusal: number,
         place: place,
@@ -48,10 +56,6 @@ fn refused(number: u8, place: u16) -> Network
             parts: 0,
             outer: 0,
         },
-        tails: [0u16; 1024],
-        rotations: [0u16; 1024],
-        capacities: [0i32; 1024],
-        lefts: [0u16; 1024],
     }
 }
 
@@ -95,8 +99,79 @@ fn read_edges(
     Verdict::Passed
 }
 
-// Opens a sheet: makes the sheet checks on any bytes, in one pass over them, and gives the network record. Of an accepted sheet it also gives what decisions
-// need: a walk over all darts from the outer dart on, and the darts in groups by their right faces. Both are by-products of the checks on the map.
+// The sheet checks on any bytes, in one pass over them. Of an accepted sheet the arrays are filled: with its fields, its left faces, a walk over all darts from
+// the outer dart on, and the darts in groups by their right faces. The first four are all zeros before.
+fn read_sheet(
+    s: &[u8],
+    tails: &mut [u16; 1024],
+    rotations: &mut [u16; 1024],
+    capacities: &mut [i32; 1024],
+    lefts: &mut [u16; 1024],
+    order: &mut [u16; 1024],
+    from: &mut [u16; 1024],
+    grouped: &mut [u16; 1024],
+    starts: &mut [u16; 1024],
+) -> Opened
+    requires { ⌜ (length (now tails) ≡ 1024) × ((d : ℕ) → at (now tails) d ≡ 0) × (length (now rotations) ≡ 1024) × ((d : ℕ) → at (now rotations) d ≡ 0)
+        × (length (now capacities) ≡ 1024) × ((d : ℕ) → atℤ (now capacities) d ≡ pos 0) × (length (now lefts) ≡ 1024) × ((d : ℕ) → at (now lefts) d ≡ 0)
+        × (length (now order) ≡ 1024) × (length (now from) ≡ 1024) × (length (now grouped) ≡ 1024) × (length (now starts) ≡ 1024) ⌝ }
+    ensures { λ r. ⌜ (length (now (tails .exit)) ≡ 1024) × (length (now (rotations .exit)) ≡ 1024)
+        × (length (now (capacities .exit)) ≡ 1024) × (length (now (lefts .exit)) ≡ 1024)
+        × (length (now (order .exit)) ≡ 1024) × (length (now (from .exit)) ≡ 1024)
+        × (length (now (grouped .exit)) ≡ 1024) × (length (now (starts .exit)) ≡ 1024)
+        × Opens (now (s .entry)) (networkOf r (now (tails .exit)) (now (rotations .exit)) (now (capacities .exit)) (now (lefts .exit))) (r .accepted)
+        × (r .accepted ≡ true → Walked (2 * r .sizes .edges) (r .sizes .faces) (r .sizes .outer) (r .sizes .parts)
+        (at (now (rotations .exit))) (now (lefts .exit)) (now (order .exit)) (now (from .exit)) (now (grouped .exit)) (now (starts .exit))) ⌝ }
+{
+    let head = records::read_head(s);
+    let whole = head.verdict;
+    if let Verdict::Refused(k, p) = whole {
+        return refused(k, p);
+    }
+    let read = read_edges(
+        s,
+        head.length,
+        head.nodes,
+        head.edges,
+        &mut *tails,
+        &mut *rotations,
+        &mut *capacities,
+    );
+    if let Verdict::Refused(k, p) = read {
+        return refused(k, p);
+    }
+    let checked = rotations::check_map(
+        &*tails,
+        &*rotations,
+        head.nodes,
+        head.edges,
+        head.outer,
+        lefts,
+        order,
+        from,
+        grouped,
+        starts,
+    );
+    let verdict = checked.verdict;
+    if let Verdict::Refused(k, p) = verdict {
+        return refused(k, p);
+    }
+    Opened {
+        accepted: true,
+        refusal: 0,
+        place: 0,
+        sizes: Sizes {
+            nodes: head.nodes,
+            edges: head.edges,
+            faces: checked.faces,
+            parts: checked.parts,
+            outer: head.outer,
+        },
+    }
+}
+
+// Opens a sheet: makes the sheet checks, and gives the network record, which is made at the end and nowhere else, so that no frame holds it twice. Of an
+// accepted sheet it also gives what decisions need, the walk and the groups: both are by-products of the checks on the map.
 pub fn open_walked(
     s: &[u8],
     order: &mut [u16; 1024],
@@ -112,54 +187,27 @@ pub fn open_walked(
         × Walked (2 * r .sizes .edges) (r .sizes .faces) (r .sizes .outer) (r .sizes .parts) (at (r .rotations)) (r .lefts)
         (now (order .exit)) (now (from .exit)) (now (grouped .exit)) (now (starts .exit))) ⌝ }
 {
-    let head = records::read_head(s);
-    let whole = head.verdict;
-    if let Verdict::Refused(k, p) = whole {
-        return refused(k, p);
-    }
     let mut tails = [0u16; 1024];
     let mut rotations = [0u16; 1024];
     let mut capacities = [0i32; 1024];
-    let read = read_edges(
+    let mut lefts = [0u16; 1024];
+    let opened = read_sheet(
         s,
-        head.length,
-        head.nodes,
-        head.edges,
         &mut tails,
         &mut rotations,
         &mut capacities,
-    );
-    if let Verdict::Refused(k, p) = read {
-        return refused(k, p);
-    }
-    let mut lefts = [0u16; 1024];
-    let checked = rotations::check_map(
-        &tails,
-        &rotations,
-        head.nodes,
-        head.edges,
-        head.outer,
         &mut lefts,
         order,
         from,
         grouped,
         starts,
     );
-    let verdict = checked.verdict;
-    if let Verdict::Refused(k, p) = verdict {
-        return refused(k, p);
-    }
+    let sizes = opened.sizes;
     Network {
-        accepted: true,
-        refusal: 0,
-        place: 0,
-        sizes: Sizes {
-            nodes: head.nodes,
-            edges: head.edges,
-            faces: checked.faces,
-            parts: checked.parts,
-            outer: head.outer,
-        },
+        accepted: opened.accepted,
+        refusal: opened.refusal,
+        place: opened.place,
+        sizes: sizes,
         tails: tails,
         rotations: rotations,
         capacities: capacities,
