@@ -6,7 +6,7 @@
 // carried is the low bound, and pivots lower the high one: trees of faces and nodes exchange an edge wherever a dart is full, until the full darts are a cut
 // (`pivots::propose`; Erickson 2010). A value that cannot be carried has a proving set, which moves a bound or shows that there is nothing. Bounds that meet
 // are the answer; where they pass each other, the union or the intersection of their two sets shows that there is nothing.
-// Cost: one decision where the first bound is probed and is the answer, two or three where the pivots find it. After the first two probes the middle of the
+// Cost: one decision where the first bound is probed and is the answer, two or three where the pivots find it. After the first three probes the middle of the
 // bounds is probed at least every other time, so some 60 decisions do for any capacities. What a decision costs is said in `search`.
 ghost use mathlib.Core.Path.{_≡_};
 ghost use mathlib.Core.Bool.{true, false};
@@ -37,10 +37,11 @@ use arrays::Sizes;
 use arrays::Terminals;
 use node_flags::Side;
 
-// Which value is probed next: the high bound, the one nearest to zero, or the middle of the two bounds.
+// Which value is probed next: the high bound, the one nearest to zero, the high bound again, or the middle of the two bounds.
 enum Next {
     High,
     Zero,
+    Again,
     Middle,
 }
 
@@ -127,19 +128,23 @@ fn next_value(low: i32, high: i32, found: bool, next: Next) -> i32
     high
 }
 
-// What is probed after a value that cannot be carried: once one is found, the middle and the high bound in turn; before that the value nearest to zero, where
-// it was not probed yet, and then the middle.
+// What is probed after a value that cannot be carried: the middle and the high bound in turn; before one is found, the value nearest to zero comes after the
+// first of these.
 fn next_after(next: Next, found: bool) -> Next {
-    if let Next::High = next {
-        if found {
-            return Next::Middle;
-        }
-        return Next::Zero;
-    }
     if found {
-        return Next::High;
+        return match next {
+            Next::High => Next::Middle,
+            Next::Zero => Next::High,
+            Next::Again => Next::Middle,
+            Next::Middle => Next::High,
+        };
     }
-    Next::Middle
+    match next {
+        Next::High => Next::Zero,
+        Next::Zero => Next::Again,
+        Next::Again => Next::Middle,
+        Next::Middle => Next::Again,
+    }
 }
 
 // Whether the bounds have met at a value that is carried.
