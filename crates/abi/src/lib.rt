@@ -22,6 +22,7 @@ ghost use Rattle.abi.specs.Sessions.{TellsStart, TellsAsk, TellsCommit};
 use dimacs::DimacsAnswer;
 use key_text::KeyAnswer;
 use levels::LevelAnswer;
+use parties::SessionSizes;
 use practice::PracticeAnswer;
 use questions::LargestAnswer;
 use questions::MarkAnswer;
@@ -612,11 +613,14 @@ pub extern "C" fn analyser_session_ask<'a>(
         (now (standing .exit)) (now (first .exit)) (now (second .exit)))
         (now (can .entry)) (now (can .exit)) (now (size .entry)) (now (size .exit)) (now (place .entry)) (now (place .exit)) r ⌝ }
 {
+    let sizes = SessionSizes {
+        nodes: nodes,
+        edges: edges,
+        outer: outer,
+    };
     let answer = parties::ask(
         party,
-        nodes,
-        edges,
-        outer,
+        sizes,
         tails,
         rotations,
         limits,

@@ -3,6 +3,7 @@
 use super::case;
 use super::operations;
 use super::say;
+use parties::SessionSizes;
 use refusals::Verdict;
 
 fn say_verdict(answer: Verdict) {
@@ -79,11 +80,14 @@ fn ask<'a>(
     flows: &mut [i32],
     set: &mut [u64],
 ) {
+    let sizes = SessionSizes {
+        nodes: nodes,
+        edges: edges,
+        outer: outer,
+    };
     operations::say_solve(parties::ask(
         case::half(c, 2),
-        nodes,
-        edges,
-        outer,
+        sizes,
         tails,
         rotations,
         limits,

@@ -135,13 +135,18 @@ fn keep_offer(party: usize, flows: &[i32], edges: usize, first: &mut [i32], seco
     }
 }
 
+// The sizes of a session's drawing, as the session holds them: its nodes and edges, and a dart on its outer face.
+pub struct SessionSizes {
+    pub nodes: u16,
+    pub edges: u16,
+    pub outer: u16,
+}
+
 // Ask: Solve's answer on the limits left, to a party that has not committed. "Can" is kept as its offer; "cannot" clears that; a refusal changes nothing. The
 // sheet's limits are named by the contract only.
 pub fn ask<'a>(
     party: u16,
-    nodes: u16,
-    edges: u16,
-    outer: u16,
+    sizes: SessionSizes,
     tails: &'a [u16; 1024],
     rotations: &'a [u16; 1024],
     limits: &[i32; 1024],
@@ -156,10 +161,10 @@ pub fn ask<'a>(
     set: &mut [u64],
 ) -> SolveAnswer
     ensures { λ r. ⌜ Asks
-        (sharedOf nodes edges outer (now (tails .entry)) (now (rotations .entry)) (now (limits .entry)) (now (left .entry))
+        (sharedOf (sizes .nodes) (sizes .edges) (sizes .outer) (now (tails .entry)) (now (rotations .entry)) (now (limits .entry)) (now (left .entry))
         (now (standing .entry)) (now (first .entry)) (now (second .entry)))
         party source sink value (now (flows .entry)) (now (flows .exit)) (now (set .entry)) (now (set .exit))
-        (sharedOf nodes edges outer (now (tails .entry)) (now (rotations .entry)) (now (limits .entry)) (now (left .entry))
+        (sharedOf (sizes .nodes) (sizes .edges) (sizes .outer) (now (tails .entry)) (now (rotations .entry)) (now (limits .entry)) (now (left .entry))
         (now (standing .exit)) (now (first .exit)) (now (second .exit))) r ⌝ }
 {
     if party >= 2 {
@@ -170,9 +175,9 @@ pub fn ask<'a>(
         return SolveAnswer::Refused(30, 0);
     }
     let answer = sessions::answer_left(
-        nodes,
-        edges,
-        outer,
+        sizes.nodes,
+        sizes.edges,
+        sizes.outer,
         tails,
         rotations,
         left,
@@ -184,7 +189,7 @@ pub fn ask<'a>(
     );
     match answer {
         SolveAnswer::Can => {
-            keep_offer(p, &*flows, wide(edges), first, second);
+            keep_offer(p, &*flows, wide(sizes.edges), first, second);
             stand(standing, p, 1);
             SolveAnswer::Can
         }

@@ -25,15 +25,15 @@ abbrev left' : tie.After-ask → Shared
 left' c =
     let a = begun c .args in
     sharedOf (a .nodes) (a .edges) (a .outer) (a .tails .now) (a .rotations .now) (a .limits .now) (a .left .now)
+    (c .ask .last .1 .1 .1 .1 .1 .1 .0)
+    (c .ask .last .1 .1 .1 .1 .1 .1 .1 .0)
     (c .ask .last .1 .1 .1 .1 .1 .1 .1 .1 .0)
-    (c .ask .last .1 .1 .1 .1 .1 .1 .1 .1 .1 .0)
-    (c .ask .last .1 .1 .1 .1 .1 .1 .1 .1 .1 .1 .0)
 
 abbrev flows' : tie.After-ask → List ℤ
-flows' c = c .ask .last .1 .1 .1 .1 .1 .1 .1 .1 .1 .1 .1 .1 .1 .1 .0
+flows' c = c .ask .last .1 .1 .1 .1 .1 .1 .1 .1 .1 .1 .1 .1 .0
 
 abbrev set' : tie.After-ask → List ℕ
-set' c = c .ask .last .1 .1 .1 .1 .1 .1 .1 .1 .1 .1 .1 .1 .1 .1 .1 .0
+set' c = c .ask .last .1 .1 .1 .1 .1 .1 .1 .1 .1 .1 .1 .1 .1 .0
 
 -- the value that Ask is given is the one that came in
 asked : (c : tie.After-ask) (answer : SolveAnswer) → c .ask .result ≡ answer
