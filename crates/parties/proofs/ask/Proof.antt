@@ -17,8 +17,8 @@ use Rattle.parties.proofs.ask.Tie as tie
 abbrev shared : tie.Start → Shared
 shared s =
     let a = s .args in
-    sharedOf (a .sizes .nodes) (a .sizes .edges) (a .sizes .outer) (a .tails .now) (a .rotations .now) (a .limits .now) (a .left .now) (a .standing .now) (a .first .now)
-    (a .second .now)
+    sharedOf (a .sizes .nodes) (a .sizes .edges) (a .sizes .outer) (a .tails .now) (a .rotations .now) (a .limits .now) (a .left .now) (a .standing .now)
+    (a .first .now) (a .second .now)
 
 returns : tie.Need-returns
 returns c =
