@@ -8,167 +8,167 @@ use lib.ListN.{take}
 use lib.IntN.{ℤ}
 use Rattle.refusals.specs.declared.Verdict.{Verdict}
 use Rattle.refusals.specs.declared.Verdict.TheVariants as verdict
-use Rattle.flows.specs.ProvingSet.{wordsFor}
+use Rattle.flows.specs.ProvingSet.{words_for}
 use Rattle.arrays.specs.At.{at, atℤ}
-use Rattle.arrays.proofs.FillLoops.{filled-front}
-use Rattle.records.specs.Sheet.{nodesOf, edgesOf, sheetDrawing}
+use Rattle.arrays.proofs.FillLoops.{filled_front}
+use Rattle.records.specs.Sheet.{nodes_of, edges_of, sheet_drawing}
 use Rattle.questions.specs.inner.Named.{SetNamed}
 use Rattle.questions.specs.declared.SolveAnswer.{SolveAnswer}
 use Rattle.questions.specs.declared.SolveAnswer.TheVariants.{Can, Cannot, Refused}
 use Rattle.pages.specs.Stretch.{stretch}
-use Rattle.pages.specs.Page.{answerAt, PageAs}
-use Rattle.pages.specs.Question.{questionIn}
-use Rattle.answer_arrays.specs.Told.{numberTold, sizeTold}
-use Rattle.analyser.specs.Solve.{solveChecks, Solves}
-use Rattle.analyser.specs.Page.{pageChecks, solvesAlone}
+use Rattle.pages.specs.Page.{answer_at, PageAs}
+use Rattle.pages.specs.Question.{question_in}
+use Rattle.answer_arrays.specs.Told.{number_told, size_told}
+use Rattle.analyser.specs.Solve.{solve_checks, Solves}
+use Rattle.analyser.specs.Page.{page_checks, solves_alone}
 use Rattle.analyser.proofs.OneAnswer.{one_answer}
-use Rattle.key_text.specs.Question.{source_of, sinkOf, value_of, sheetOf}
-use Rattle.key_text.specs.Text.{canText, cannotText, refusedText}
-use Rattle.key_text.specs.Key.{Prints, Writes, keyRoomChecks}
-use Rattle.key_text.specs.OneKey.{answerText}
+use Rattle.key_text.specs.Question.{source_of, sink_of, value_of, sheet_of}
+use Rattle.key_text.specs.Text.{can_text, cannot_text, refused_text}
+use Rattle.key_text.specs.Key.{Prints, Writes, key_room_checks}
+use Rattle.key_text.specs.OneKey.{answer_text}
 use Rattle.key_text.specs.inner.Named.{KeyNamed, WriteNamed}
 use Rattle.key_text.specs.declared.KeyAnswer.{KeyAnswer}
 use Rattle.key_text.specs.declared.KeyAnswer.TheVariants as key
-use Rattle.key_text.proofs.OneKey.{one-key-text}
+use Rattle.key_text.proofs.OneKey.{one_key_text}
 use Rattle.abi.specs.Solve.{Told, TellsSolve}
 use Rattle.abi.specs.Page.{PageTold, TellsPage}
 use Rattle.abi.specs.Key.{KeyTold, TellsKey}
 use Rattle.abi.specs.Statements.{OneAnswerInC}
-use Rattle.abi.proofs.Numbered.{first-numbered, solve-numbered, key-numbered, page-numbered}
+use Rattle.abi.proofs.Numbered.{first_numbered, solve_numbered, key_numbered, page_numbered}
 
 -- ── what is told follows from the answer ──
-told-one : (r : SolveAnswer) (can can' can'' size size' size'' place place' place'' result other : ℕ)
+told_one : (r : SolveAnswer) (can can' can'' size size' size'' place place' place'' result other : ℕ)
     → Told r result can can' size size' place place' → Told r other can can'' size size'' place place''
     → (result ≡ other) × (can' ≡ can'') × (size' ≡ size'') × (place' ≡ place'')
-told-one Can can can' can'' size size' size'' place place' place'' result other t u =
+told_one Can can can' can'' size size' size'' place place' place'' result other t u =
     (t.0 ∙ sym u.0, t.1 ∙ sym u.1, t.2 ∙ sym u.2, t.3 ∙ sym u.3)
-told-one (Cannot n) can can' can'' size size' size'' place place' place'' result other t u =
+told_one (Cannot n) can can' can'' size size' size'' place place' place'' result other t u =
     (t.0 ∙ sym u.0, t.1 ∙ sym u.1, t.2 ∙ sym u.2, t.3 ∙ sym u.3)
-told-one (Refused k p) can can' can'' size size' size'' place place' place'' result other t u =
+told_one (Refused k p) can can' can'' size size' size'' place place' place'' result other t u =
     (t.0 ∙ sym u.0, t.1 ∙ sym u.1, t.2 ∙ sym u.2, t.3 ∙ sym u.3)
 
 module _ (s : List ℕ) (source sink : ℕ) (value : ℤ) (flows flows' : List ℤ) (set set' : List ℕ) where
   -- a refusal of Solve is not told as 0
-  not-zero : (k p : ℕ) → Solves s source sink value flows flows' set set' (Refused k p) → k ≢ 0
-  not-zero k p h = first-numbered (solveChecks s source sink value flows set) k p (solve-numbered s source sink value flows set) h.0
+  not_zero : (k p : ℕ) → Solves s source sink value flows flows' set set' (Refused k p) → k ≢ 0
+  not_zero k p h = first_numbered (solve_checks s source sink value flows set) k p (solve_numbered s source sink value flows set) h.0
 
   -- what is told as "cannot" is such an answer
-  told-cannot : (r : SolveAnswer) (can size size' place place' : ℕ) → Solves s source sink value flows flows' set set' r
+  told_cannot : (r : SolveAnswer) (can size size' place place' : ℕ) → Solves s source sink value flows flows' set set' r
       → Told r 0 can 0 size size' place place' → r ≡ Cannot size'
-  told-cannot Can can size size' place place' h t = absurd (omega (arith, t.1))
-  told-cannot (Cannot n) can size size' place place' h t = ap Cannot (sym t.2)
-  told-cannot (Refused k p) can size size' place place' h t = absurd (not-zero k p h (sym t.0))
+  told_cannot Can can size size' place place' h t = absurd (omega (arith, t.1))
+  told_cannot (Cannot n) can size size' place place' h t = ap Cannot (sym t.2)
+  told_cannot (Refused k p) can size size' place place' h t = absurd (not_zero k p h (sym t.0))
 
 -- ── the numbers of a page's answer, and what Solve tells of the same ──
-told-number : (r : SolveAnswer) (can can' size size' place place' result : ℕ) → (((k p : ℕ) → r ≡ Refused k p → k ≢ 0))
+told_number : (r : SolveAnswer) (can can' size size' place place' result : ℕ) → (((k p : ℕ) → r ≡ Refused k p → k ≢ 0))
     → Told r result can can' size size' place place'
-    → (result ≡ 0 → numberTold r ≡ can') × (result ≢ 0 → numberTold r ≡ result) × (result ≡ 0 → can' ≡ 0 → sizeTold r ≡ size')
-told-number Can can can' size size' place place' result numbered t =
+    → (result ≡ 0 → number_told r ≡ can') × (result ≢ 0 → number_told r ≡ result) × (result ≡ 0 → can' ≡ 0 → size_told r ≡ size')
+told_number Can can can' size size' place place' result numbered t =
     ((λ z. sym t.1), (λ n. absurd (n t.0)), (λ z c. absurd (omega (arith, t.1, c))))
-told-number (Cannot m) can can' size size' place place' result numbered t =
+told_number (Cannot m) can can' size size' place place' result numbered t =
     ((λ z. sym t.1), (λ n. absurd (n t.0)), (λ z c. sym t.2))
-told-number (Refused k p) can can' size size' place place' result numbered t =
+told_number (Refused k p) can can' size size' place place' result numbered t =
     ((λ z. absurd (numbered k p refl (sym t.0 ∙ z))), (λ n. sym t.0), (λ z c. absurd (numbered k p refl (sym t.0 ∙ z))))
 
 -- ── a page that is told as 0 passed ──
 module _ (s : List ℕ) (count : ℕ) (sources sinks : List ℕ) (values flows flows' : List ℤ) (sets sets' answers answers' sizes sizes' : List ℕ)
     (place place' : ℕ) (told : TellsPage s count sources sinks values flows flows' sets sets' answers answers' sizes sizes' place place' 0) where
   abbrev TellsAs : Verdict → Type 0
-  TellsAs v = PageTold v count (answerAt told.0) answers answers' sizes sizes' place place' 0
+  TellsAs v = PageTold v count (answer_at told.0) answers answers' sizes sizes' place place' 0
 
   passed : told.0.verdict ≡ verdict.Passed
   passed = go told.0.verdict told.1.0 told.3
     where
       go : (v : Verdict)
-          → PageAs (pageChecks s count flows sets) (edgesOf s) (wordsFor (nodesOf s)) count (λ i. solvesAlone s (questionIn sources sinks values i))
-          flows flows' sets sets' v told.0.count (answerAt told.0)
+          → PageAs (page_checks s count flows sets) (edges_of s) (words_for (nodes_of s)) count (λ i. solves_alone s (question_in sources sinks values i))
+          flows flows' sets sets' v told.0.count (answer_at told.0)
           → TellsAs v → v ≡ verdict.Passed
       go verdict.Passed h t = refl
-      go (verdict.Refused k p) h t = absurd (first-numbered (pageChecks s count flows sets) k p (page-numbered s count flows sets) h.0 (sym t.0))
+      go (verdict.Refused k p) h t = absurd (first_numbered (page_checks s count flows sets) k p (page_numbered s count flows sets) h.0 (sym t.0))
 
   as_passed : TellsAs verdict.Passed
   as_passed = subst TellsAs passed told.3
 
   module _ (i : ℕ) (l : i < count) (own' : List ℤ) (set' : List ℕ) (can can' size size' place₂ place₂' result : ℕ)
-      (alone : TellsSolve s (at sources i) (at sinks i) (atℤ values i) (stretch (edgesOf s) i flows) own' (stretch (wordsFor (nodesOf s)) i sets) set'
+      (alone : TellsSolve s (at sources i) (at sinks i) (atℤ values i) (stretch (edges_of s) i flows) own' (stretch (words_for (nodes_of s)) i sets) set'
       can can' size size' place₂ place₂' result) where
     abbrev Answered : SolveAnswer → Type 0
-    Answered = Solves s (at sources i) (at sinks i) (atℤ values i) (stretch (edgesOf s) i flows) own' (stretch (wordsFor (nodesOf s)) i sets) set'
+    Answered = Solves s (at sources i) (at sinks i) (atℤ values i) (stretch (edges_of s) i flows) own' (stretch (words_for (nodes_of s)) i sets) set'
 
-    line : (answerAt told.0 i ≡ alone.0) × (stretch (edgesOf s) i flows' ≡ own') × (stretch (wordsFor (nodesOf s)) i sets' ≡ set')
+    line : (answer_at told.0 i ≡ alone.0) × (stretch (edges_of s) i flows' ≡ own') × (stretch (words_for (nodes_of s)) i sets' ≡ set')
     line =
-        one_answer.same_line s count (questionIn sources sinks values) flows flows' sets sets' told.0 told.1 told.2 passed i l
+        one_answer.same_line s count (question_in sources sinks values) flows flows' sets sets' told.0 told.1 told.2 passed i l
         own' set' alone.0 alone.1 alone.2
 
-    numbers : (result ≡ 0 → numberTold alone.0 ≡ can') × (result ≢ 0 → numberTold alone.0 ≡ result)
-        × (result ≡ 0 → can' ≡ 0 → sizeTold alone.0 ≡ size')
+    numbers : (result ≡ 0 → number_told alone.0 ≡ can') × (result ≢ 0 → number_told alone.0 ≡ result)
+        × (result ≡ 0 → can' ≡ 0 → size_told alone.0 ≡ size')
     numbers =
-        told-number alone.0 can can' size size' place₂ place₂' result
-        (λ k p e. not-zero s (at sources i) (at sinks i) (atℤ values i) (stretch (edgesOf s) i flows) own' (stretch (wordsFor (nodesOf s)) i sets) set' k p
+        told_number alone.0 can can' size size' place₂ place₂' result
+        (λ k p e. not_zero s (at sources i) (at sinks i) (atℤ values i) (stretch (edges_of s) i flows) own' (stretch (words_for (nodes_of s)) i sets) set' k p
         (subst Answered e alone.1))
         alone.3
 
-    number_of : at answers' i ≡ numberTold alone.0
-    number_of = filled-front 0 count (λ j. numberTold (answerAt told.0 j)) answers answers' as_passed.1 i l ∙ ap numberTold line.0
+    number_of : at answers' i ≡ number_told alone.0
+    number_of = filled_front 0 count (λ j. number_told (answer_at told.0 j)) answers answers' as_passed.1 i l ∙ ap number_told line.0
 
-    size_of : at sizes' i ≡ sizeTold alone.0
-    size_of = filled-front 0 count (λ j. sizeTold (answerAt told.0 j)) sizes sizes' as_passed.2 i l ∙ ap sizeTold line.0
+    size_of : at sizes' i ≡ size_told alone.0
+    size_of = filled_front 0 count (λ j. size_told (answer_at told.0 j)) sizes sizes' as_passed.2 i l ∙ ap size_told line.0
 
-    same_line : (stretch (edgesOf s) i flows' ≡ own') × (stretch (wordsFor (nodesOf s)) i sets' ≡ set')
+    same_line : (stretch (edges_of s) i flows' ≡ own') × (stretch (words_for (nodes_of s)) i sets' ≡ set')
         × (result ≡ 0 → at answers' i ≡ can') × (result ≢ 0 → at answers' i ≡ result) × (result ≡ 0 → can' ≡ 0 → at sizes' i ≡ size')
     same_line = (line.1, line.2, (λ z. number_of ∙ numbers.0 z), (λ n. number_of ∙ numbers.1 n), (λ z c. size_of ∙ numbers.2 z c))
 
 -- ── a key that is told as 0 is written, and its length is told ──
-key-written : (b text text' : List ℕ) (length length' place place' : ℕ) → TellsKey b text text' length length' place place' 0
+key_written : (b text text' : List ℕ) (length length' place place' : ℕ) → TellsKey b text text' length length' place place' 0
     → Prints b text text' length' × KeyNamed b text' length'
-key-written b text text' length length' place place' told = go told.0 told.1 told.2 told.3
+key_written b text text' length length' place place' told = go told.0 told.1 told.2 told.3
   where
     go : (r : KeyAnswer) → Writes b text text' r → WriteNamed b text' r → KeyTold r 0 length length' place place'
         → Prints b text text' length' × KeyNamed b text' length'
     go (key.Bytes n) h named t = (subst (Prints b text text') (sym t.1) h.1, subst (KeyNamed b text') (sym t.1) named)
-    go (key.Refused k p) h named t = absurd (first-numbered (keyRoomChecks text) k p (key-numbered text) h.0 (sym t.0))
+    go (key.Refused k p) h named t = absurd (first_numbered (key_room_checks text) k p (key_numbered text) h.0 (sym t.0))
 
 -- ── the text of what Solve tells ──
 module _ (b text' : List ℕ) (n : ℕ) (flows flows' : List ℤ) (set set' : List ℕ) (can can' size size' place place' result : ℕ) where
-  told_text : (r : SolveAnswer) → Solves (sheetOf b) (source_of b) (sinkOf b) (value_of b) flows flows' set set' r
-      → Told r result can can' size size' place place' → (r ≢ Refused 16 0 → take n text' ≡ answerText b flows' set' r)
-      → (result ≡ 0 → can' ≡ 1 → take n text' ≡ canText (value_of b) (edgesOf (sheetOf b)) (atℤ flows'))
-      × (result ≡ 0 → can' ≡ 0 → take n text' ≡ cannotText (value_of b) size' (nodesOf (sheetOf b)) set')
-      × (result ≢ 0 → result ≢ 16 → take n text' ≡ refusedText result)
+  told_text : (r : SolveAnswer) → Solves (sheet_of b) (source_of b) (sink_of b) (value_of b) flows flows' set set' r
+      → Told r result can can' size size' place place' → (r ≢ Refused 16 0 → take n text' ≡ answer_text b flows' set' r)
+      → (result ≡ 0 → can' ≡ 1 → take n text' ≡ can_text (value_of b) (edges_of (sheet_of b)) (atℤ flows'))
+      × (result ≡ 0 → can' ≡ 0 → take n text' ≡ cannot_text (value_of b) size' (nodes_of (sheet_of b)) set')
+      × (result ≢ 0 → result ≢ 16 → take n text' ≡ refused_text result)
   told_text Can h t text =
-      ((λ z c. text (λ e. omega (arith, ap numberTold e))), (λ z c. absurd (omega (arith, t.1, c))), (λ m o. absurd (m t.0)))
+      ((λ z c. text (λ e. omega (arith, ap number_told e))), (λ z c. absurd (omega (arith, t.1, c))), (λ m o. absurd (m t.0)))
   told_text (Cannot k) h t text = (
     (λ z c. absurd (omega (arith, t.1, c))),
-    (λ z c. text (λ e. omega (arith, ap numberTold e)) ∙ ap (λ j. cannotText (value_of b) j (nodesOf (sheetOf b)) set') (sym t.2)),
+    (λ z c. text (λ e. omega (arith, ap number_told e)) ∙ ap (λ j. cannot_text (value_of b) j (nodes_of (sheet_of b)) set') (sym t.2)),
     (λ m o. absurd (m t.0)),
   )
   told_text (Refused k p) h t text =
-      let never = not-zero (sheetOf b) (source_of b) (sinkOf b) (value_of b) flows flows' set set' k p h in (
+      let never = not_zero (sheet_of b) (source_of b) (sink_of b) (value_of b) flows flows' set set' k p h in (
         (λ z c. absurd (never (sym t.0 ∙ z))),
         (λ z c. absurd (never (sym t.0 ∙ z))),
-        (λ m o. text (λ e. o (t.0 ∙ ap numberTold e)) ∙ ap refusedText (sym t.0)),
+        (λ m o. text (λ e. o (t.0 ∙ ap number_told e)) ∙ ap refused_text (sym t.0)),
       )
 
-pub one-answer-in-c : OneAnswerInC
-one-answer-in-c = record {
+pub one_answer_in_c : OneAnswerInC
+one_answer_in_c = record {
   same_answer = λ s source sink value flows flows' flows'' set set' set'' can can' can'' size size' size'' place place' place'' result other h k.
       let one = one_answer.same_answer s source sink value flows flows' flows'' set set' set'' h.0 k.0 h.1 h.2 k.1 k.2 in
-      let told = told-one k.0 can can' can'' size size' size'' place place' place'' result other
+      let told = told_one k.0 can can' can'' size size' size'' place place' place'' result other
       (subst (λ r. Told r result can can' size size' place place') one.0 h.3) k.3 in
       (told.0, one.1, one.2, told.1, told.2, told.3);
   same_set = λ s source sink value flows flows' set set' can size size' place place' own own' words words' can₂ size₂ size₂' place₂ place₂' h k.
-      let e = told-cannot s source sink value flows flows' set set' h.0 can size size' place place' h.1 h.3 in
-      let f = told-cannot s source sink value own own' words words' k.0 can₂ size₂ size₂' place₂ place₂' k.1 k.3 in
+      let e = told_cannot s source sink value flows flows' set set' h.0 can size size' place place' h.1 h.3 in
+      let f = told_cannot s source sink value own own' words words' k.0 can₂ size₂ size₂' place₂ place₂' k.1 k.3 in
       one_answer.same_set s source sink value flows flows' set set' size' own own' words words' size₂'
-      (subst (Solves s source sink value flows flows' set set') e h.1) (subst (SetNamed (sheetDrawing s) source sink value set') e h.2)
-      (subst (Solves s source sink value own own' words words') f k.1) (subst (SetNamed (sheetDrawing s) source sink value words') f k.2);
+      (subst (Solves s source sink value flows flows' set set') e h.1) (subst (SetNamed (sheet_drawing s) source sink value set') e h.2)
+      (subst (Solves s source sink value own own' words words') f k.1) (subst (SetNamed (sheet_drawing s) source sink value words') f k.2);
   same_line = same_line;
   same_text = λ b text text' own own' length length' length₂ length₂' place place' place₂ place₂' h k.
-      let p = key-written b text text' length length' place place' h in
-      let q = key-written b own own' length₂ length₂' place₂ place₂' k in
-      one-key-text.same_text b text text' own own' length' length₂' p.0 p.1 q.0 q.1;
+      let p = key_written b text text' length length' place place' h in
+      let q = key_written b own own' length₂ length₂' place₂ place₂' k in
+      one_key_text.same_text b text text' own own' length' length₂' p.0 p.1 q.0 q.1;
   same_key = λ b text text' length length' place place' h whole flows flows' set set' can can' size size' place₂ place₂' result k.
-      let p = key-written b text text' length length' place place' h in
+      let p = key_written b text text' length length' place place' h in
       told_text b text' length' flows flows' set set' can can' size size' place₂ place₂' result k.0 k.1 k.3
-      (one-key-text.same_key b text text' length' p.0 p.1 whole flows flows' set set' k.0 k.1 k.2);
+      (one_key_text.same_key b text text' length' p.0 p.1 whole flows flows' set set' k.0 k.1 k.2);
 }

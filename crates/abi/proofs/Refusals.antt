@@ -8,28 +8,28 @@ use lib.IntN.{ℤ}
 use Rattle.refusals.specs.Order.{Check, NoneOf, FirstOf}
 use Rattle.refusals.specs.declared.Verdict.{Verdict}
 use Rattle.refusals.specs.declared.Verdict.TheVariants as verdict
-use Rattle.refusals.proofs.Order.{first-none}
-use Rattle.flows.specs.ProvingSet.{wordsFor}
-use Rattle.records.specs.Sheet.{nodesOf, edgesOf}
-use Rattle.pages.specs.Question.{questionIn}
-use Rattle.pages.specs.Page.{answerAt, PageAs}
-use Rattle.sheets.specs.Read.{readChecks}
-use Rattle.sheets.specs.Open.{sheetChecks}
-use Rattle.sheets.specs.Write.{writeChecks}
+use Rattle.refusals.proofs.Order.{first_none}
+use Rattle.flows.specs.ProvingSet.{words_for}
+use Rattle.records.specs.Sheet.{nodes_of, edges_of}
+use Rattle.pages.specs.Question.{question_in}
+use Rattle.pages.specs.Page.{answer_at, PageAs}
+use Rattle.sheets.specs.Read.{read_checks}
+use Rattle.sheets.specs.Open.{sheet_checks}
+use Rattle.sheets.specs.Write.{write_checks}
 use Rattle.sheets.specs.declared.ReadAnswer.TheVariants as read
 use Rattle.sheets.specs.declared.WriteAnswer.TheVariants as write
-use Rattle.analyser.specs.Solve.{solveChecks}
-use Rattle.analyser.specs.Largest.{largestChecks}
-use Rattle.analyser.specs.Range.{rangeChecks}
-use Rattle.analyser.specs.Raise.{raiseChecks}
-use Rattle.analyser.specs.After.{afterChecks}
-use Rattle.desk.specs.Class.{examineChecks}
+use Rattle.analyser.specs.Solve.{solve_checks}
+use Rattle.analyser.specs.Largest.{largest_checks}
+use Rattle.analyser.specs.Range.{range_checks}
+use Rattle.analyser.specs.Raise.{raise_checks}
+use Rattle.analyser.specs.After.{after_checks}
+use Rattle.desk.specs.Class.{examine_checks}
 use Rattle.desk.specs.declared.Class.TheVariants as class
-use Rattle.analyser.specs.Page.{pageChecks, solvesAlone}
-use Rattle.analyser.specs.Mark.{markChecks}
-use Rattle.analyser.specs.LevelsOf.{levelsChecks}
-use Rattle.analyser.specs.SettingsOf.{settingsChecks}
-use Rattle.analyser.specs.Totals.{totalsChecks}
+use Rattle.analyser.specs.Page.{page_checks, solves_alone}
+use Rattle.analyser.specs.Mark.{mark_checks}
+use Rattle.analyser.specs.LevelsOf.{levels_checks}
+use Rattle.analyser.specs.SettingsOf.{settings_checks}
+use Rattle.analyser.specs.Totals.{totals_checks}
 use Rattle.questions.specs.declared.SolveAnswer.TheVariants as solve
 use Rattle.questions.specs.declared.LargestAnswer.TheVariants as largest
 use Rattle.ranges.specs.declared.RangeAnswer.TheVariants as range
@@ -37,14 +37,14 @@ use Rattle.raising.specs.declared.RaiseAnswer.TheVariants as raise
 use Rattle.questions.specs.declared.MarkAnswer.TheVariants as mark
 use Rattle.levels.specs.declared.LevelAnswer.TheVariants as level
 use Rattle.totals.specs.declared.TotalsAnswer.TheVariants as totals
-use Rattle.key_text.specs.Key.{keyRoomChecks}
+use Rattle.key_text.specs.Key.{key_room_checks}
 use Rattle.key_text.specs.declared.KeyAnswer.TheVariants as key
-use Rattle.practice.specs.Practice.{practiceChecks}
+use Rattle.practice.specs.Practice.{practice_checks}
 use Rattle.practice.specs.declared.PracticeAnswer.TheVariants as practice
-use Rattle.analyser.specs.Dimacs.{dimacsChecks}
-use Rattle.parties.specs.Shared.{Shared, sharedDrawing}
+use Rattle.analyser.specs.Dimacs.{dimacs_checks}
+use Rattle.parties.specs.Shared.{Shared, shared_drawing}
 use Rattle.parties.specs.Start.{emptied}
-use Rattle.parties.specs.Calls.{askChecks, commitChecks}
+use Rattle.parties.specs.Calls.{ask_checks, commit_checks}
 use Rattle.dimacs.specs.declared.DimacsAnswer.TheVariants as dimacs
 use Rattle.abi.specs.Result.{Says}
 use Rattle.abi.specs.Read.{TellsRead}
@@ -65,175 +65,175 @@ use Rattle.abi.specs.Dimacs.{TellsDimacs}
 use Rattle.abi.specs.Sessions.{TellsStart, TellsAsk, TellsCommit}
 use Rattle.abi.proofs.Numbered.{
   Numbered,
-  first-numbered,
-  never-eleven,
-  read-numbered,
-  write-numbered,
-  solve-numbered,
-  largest-numbered,
-  after-numbered,
-  range-numbered,
-  raise-numbered,
-  page-numbered,
-  mark-numbered,
-  levels-numbered,
-  settings-numbered,
-  totals-numbered,
-  examine-numbered,
-  key-numbered,
-  practice-numbered,
-  dimacs-numbered,
-  sheet-numbered,
-  ask-numbered,
-  commit-numbered,
+  first_numbered,
+  never_eleven,
+  read_numbered,
+  write_numbered,
+  solve_numbered,
+  largest_numbered,
+  after_numbered,
+  range_numbered,
+  raise_numbered,
+  page_numbered,
+  mark_numbered,
+  levels_numbered,
+  settings_numbered,
+  totals_numbered,
+  examine_numbered,
+  key_numbered,
+  practice_numbered,
+  dimacs_numbered,
+  sheet_numbered,
+  ask_numbered,
+  commit_numbered,
 }
 
 module _ {cs : List Check} {result place place' : ℕ} {Same : Type 0} where
-  says-answer : NoneOf cs → result ≡ 0 → place' ≡ place → Says cs result place place' Same
-  says-answer none z same =
-      record { zero-none = λ _. (none, same); none-zero = λ _. z; refused = λ n. absurd (n z); not-eleven = λ e. omega (arith, z, e) }
+  says_answer : NoneOf cs → result ≡ 0 → place' ≡ place → Says cs result place place' Same
+  says_answer none z same =
+      record { zero_none = λ _. (none, same); none_zero = λ _. z; refused = λ n. absurd (n z); not_eleven = λ e. omega (arith, z, e) }
 
-  says-refusal : (k p : ℕ) → Numbered cs → FirstOf cs k p → result ≡ k → place' ≡ p → Same → Says cs result place place' Same
-  says-refusal k p n h e q same = record {
-    zero-none = λ z. absurd (first-numbered cs k p n h (sym e ∙ z));
-    none-zero = λ none. absurd (first-none cs k p h none);
+  says_refusal : (k p : ℕ) → Numbered cs → FirstOf cs k p → result ≡ k → place' ≡ p → Same → Says cs result place place' Same
+  says_refusal k p n h e q same = record {
+    zero_none = λ z. absurd (first_numbered cs k p n h (sym e ∙ z));
+    none_zero = λ none. absurd (first_none cs k p h none);
     refused = λ _. (rw (e, q) h, same);
-    not-eleven = λ z. never-eleven cs n p (subst (λ j. FirstOf cs j p) (sym e ∙ z) h);
+    not_eleven = λ z. never_eleven cs n p (subst (λ j. FirstOf cs j p) (sym e ∙ z) h);
   }
 
 -- ── and so of each ──
 module _ {place place' result : ℕ} where
-  pub write-says : {nodes outer : ℕ} {tails rotations sheet sheet' : List ℕ} {capacities : List ℤ} {length length' : ℕ}
+  pub write_says : {nodes outer : ℕ} {tails rotations sheet sheet' : List ℕ} {capacities : List ℤ} {length length' : ℕ}
       → TellsWrite nodes outer tails rotations capacities sheet sheet' length length' place place' result
-      → Says (writeChecks nodes outer tails rotations capacities sheet) result place place' ((sheet' ≡ sheet) × (length' ≡ length))
-  write-says (write.Bytes n, h, t) = says-answer h.0 t.0 t.2
-  write-says (write.Refused k p, h, t) = says-refusal k p (write-numbered _ _ _ _ _ _) h.0 t.0 t.2 (h.1, t.1)
+      → Says (write_checks nodes outer tails rotations capacities sheet) result place place' ((sheet' ≡ sheet) × (length' ≡ length))
+  write_says (write.Bytes n, h, t) = says_answer h.0 t.0 t.2
+  write_says (write.Refused k p, h, t) = says_refusal k p (write_numbered _ _ _ _ _ _) h.0 t.0 t.2 (h.1, t.1)
 
-  pub key-says : (input text : List ℕ) {text' : List ℕ} {length length' : ℕ} → TellsKey input text text' length length' place place' result
-      → Says (keyRoomChecks text) result place place' ((text' ≡ text) × (length' ≡ length))
-  key-says input text (key.Bytes n, h, named, t) = says-answer h.0 t.0 t.2
-  key-says input text (key.Refused k p, h, named, t) = says-refusal k p (key-numbered text) h.0 t.0 t.2 (h.1, t.1)
+  pub key_says : (input text : List ℕ) {text' : List ℕ} {length length' : ℕ} → TellsKey input text text' length length' place place' result
+      → Says (key_room_checks text) result place place' ((text' ≡ text) × (length' ≡ length))
+  key_says input text (key.Bytes n, h, named, t) = says_answer h.0 t.0 t.2
+  key_says input text (key.Refused k p, h, named, t) = says_refusal k p (key_numbered text) h.0 t.0 t.2 (h.1, t.1)
 
-  pub practice-says : {rows columns seed : ℕ} {sheet sheet' : List ℕ} {length length' : ℕ}
+  pub practice_says : {rows columns seed : ℕ} {sheet sheet' : List ℕ} {length length' : ℕ}
       → TellsPractice rows columns seed sheet sheet' length length' place place' result
-      → Says (practiceChecks rows columns seed sheet) result place place' ((sheet' ≡ sheet) × (length' ≡ length))
-  practice-says (practice.Bytes n, h, t) = says-answer h.0 t.0 t.2
-  practice-says (practice.Refused k p, h, t) = says-refusal k p (practice-numbered _ _ _ _) h.0 t.0 t.2 (h.1, t.1)
+      → Says (practice_checks rows columns seed sheet) result place place' ((sheet' ≡ sheet) × (length' ≡ length))
+  practice_says (practice.Bytes n, h, t) = says_answer h.0 t.0 t.2
+  practice_says (practice.Refused k p, h, t) = says_refusal k p (practice_numbered _ _ _ _) h.0 t.0 t.2 (h.1, t.1)
 
   module _ (s : List ℕ) where
-    pub read-says : {tails rotations tails' rotations' : List ℕ} {capacities capacities' : List ℤ} {nodes nodes' edges edges' outer outer' : ℕ}
+    pub read_says : {tails rotations tails' rotations' : List ℕ} {capacities capacities' : List ℤ} {nodes nodes' edges edges' outer outer' : ℕ}
         → TellsRead s tails rotations capacities tails' rotations' capacities' nodes nodes' edges edges' outer outer' place place' result
-        → Says (readChecks s tails rotations capacities) result place place'
+        → Says (read_checks s tails rotations capacities) result place place'
         ((tails' ≡ tails) × (rotations' ≡ rotations) × (capacities' ≡ capacities) × (nodes' ≡ nodes) × (edges' ≡ edges) × (outer' ≡ outer))
-    read-says (read.Counts n e o, h, t) = says-answer h.0 t.0 t.4
-    read-says (read.Refused k p, h, t) = says-refusal k p (read-numbered s _ _ _) h.0 t.0 t.4 (h.1, h.2, h.3, t.1, t.2, t.3)
+    read_says (read.Counts n e o, h, t) = says_answer h.0 t.0 t.4
+    read_says (read.Refused k p, h, t) = says_refusal k p (read_numbered s _ _ _) h.0 t.0 t.4 (h.1, h.2, h.3, t.1, t.2, t.3)
 
-    pub solve-says : {source sink : ℕ} {value : ℤ} {flows flows' : List ℤ} {set set' : List ℕ} {can can' size size' : ℕ}
+    pub solve_says : {source sink : ℕ} {value : ℤ} {flows flows' : List ℤ} {set set' : List ℕ} {can can' size size' : ℕ}
         → TellsSolve s source sink value flows flows' set set' can can' size size' place place' result
-        → Says (solveChecks s source sink value flows set) result place place' ((flows' ≡ flows) × (set' ≡ set) × (can' ≡ can) × (size' ≡ size))
-    solve-says (solve.Can, h, named, t) = says-answer h.0 t.0 t.3
-    solve-says (solve.Cannot n, h, named, t) = says-answer h.0 t.0 t.3
-    solve-says (solve.Refused k p, h, named, t) = says-refusal k p (solve-numbered s _ _ _ _ _) h.0 t.0 t.3 (h.1, h.2, t.1, t.2)
+        → Says (solve_checks s source sink value flows set) result place place' ((flows' ≡ flows) × (set' ≡ set) × (can' ≡ can) × (size' ≡ size))
+    solve_says (solve.Can, h, named, t) = says_answer h.0 t.0 t.3
+    solve_says (solve.Cannot n, h, named, t) = says_answer h.0 t.0 t.3
+    solve_says (solve.Refused k p, h, named, t) = says_refusal k p (solve_numbered s _ _ _ _ _) h.0 t.0 t.3 (h.1, h.2, t.1, t.2)
 
-    pub largest-says : {source sink : ℕ} {flows flows' : List ℤ} {set set' : List ℕ} {found found' : ℕ} {value value' : ℤ}
+    pub largest_says : {source sink : ℕ} {flows flows' : List ℤ} {set set' : List ℕ} {found found' : ℕ} {value value' : ℤ}
         → TellsLargest s source sink flows flows' set set' found found' value value' place place' result
-        → Says (largestChecks s source sink flows set) result place place' ((flows' ≡ flows) × (set' ≡ set) × (found' ≡ found) × (value' ≡ value))
-    largest-says (largest.Value v, h, t) = says-answer h.0 t.0 t.3
-    largest-says (largest.None, h, t) = says-answer h.0 t.0 t.3
-    largest-says (largest.Refused k p, h, t) = says-refusal k p (largest-numbered s _ _ _ _) h.0 t.0 t.3 (h.1, h.2, t.1, t.2)
+        → Says (largest_checks s source sink flows set) result place place' ((flows' ≡ flows) × (set' ≡ set) × (found' ≡ found) × (value' ≡ value))
+    largest_says (largest.Value v, h, t) = says_answer h.0 t.0 t.3
+    largest_says (largest.None, h, t) = says_answer h.0 t.0 t.3
+    largest_says (largest.Refused k p, h, t) = says_refusal k p (largest_numbered s _ _ _ _) h.0 t.0 t.3 (h.1, h.2, t.1, t.2)
 
-    pub range-says : {source sink : ℕ} {low low' : List ℤ} {below below' : List ℕ} {high high' : List ℤ} {above above' : List ℕ}
+    pub range_says : {source sink : ℕ} {low low' : List ℤ} {below below' : List ℕ} {high high' : List ℤ} {above above' : List ℕ}
         {found found' : ℕ} {least least' largest largest' : ℤ}
         → TellsRange s source sink low low' below below' high high' above above' found found' least least' largest largest' place place' result
-        → Says (rangeChecks s source sink low below high above) result place place'
+        → Says (range_checks s source sink low below high above) result place place'
         ((low' ≡ low) × (below' ≡ below) × (high' ≡ high) × (above' ≡ above) × (found' ≡ found) × (least' ≡ least) × (largest' ≡ largest))
-    range-says (range.Values v w, h, t) = says-answer h.0 t.0 t.4
-    range-says (range.None, h, t) = says-answer h.0 t.0 t.4
-    range-says (range.Refused k p, h, t) =
-        says-refusal k p (range-numbered s _ _ _ _ _ _) h.0 t.0 t.4 (h.1, h.2, h.3, h.4, t.1, t.2, t.3)
+    range_says (range.Values v w, h, t) = says_answer h.0 t.0 t.4
+    range_says (range.None, h, t) = says_answer h.0 t.0 t.4
+    range_says (range.Refused k p, h, t) =
+        says_refusal k p (range_numbered s _ _ _ _ _ _) h.0 t.0 t.4 (h.1, h.2, h.3, h.4, t.1, t.2, t.3)
 
-    pub raise-says : {source sink : ℕ} {value : ℤ} {edge : ℕ} {flows flows' : List ℤ} {set set' : List ℕ} {found found' : ℕ} {limit limit' : ℤ}
+    pub raise_says : {source sink : ℕ} {value : ℤ} {edge : ℕ} {flows flows' : List ℤ} {set set' : List ℕ} {found found' : ℕ} {limit limit' : ℤ}
         → TellsRaise s source sink value edge flows flows' set set' found found' limit limit' place place' result
-        → Says (raiseChecks s source sink value edge flows set) result place place' ((flows' ≡ flows) × (set' ≡ set) × (found' ≡ found) × (limit' ≡ limit))
-    raise-says (raise.Limit v, h, t) = says-answer h.0 t.0 t.3
-    raise-says (raise.None, h, t) = says-answer h.0 t.0 t.3
-    raise-says (raise.Refused k p, h, t) = says-refusal k p (raise-numbered s _ _ _ _ _ _) h.0 t.0 t.3 (h.1, h.2, t.1, t.2)
+        → Says (raise_checks s source sink value edge flows set) result place place' ((flows' ≡ flows) × (set' ≡ set) × (found' ≡ found) × (limit' ≡ limit))
+    raise_says (raise.Limit v, h, t) = says_answer h.0 t.0 t.3
+    raise_says (raise.None, h, t) = says_answer h.0 t.0 t.3
+    raise_says (raise.Refused k p, h, t) = says_refusal k p (raise_numbered s _ _ _ _ _ _) h.0 t.0 t.3 (h.1, h.2, t.1, t.2)
 
-    pub after-says : (b : List ℕ) (w n : ℕ) {source sink : ℕ} {limits limits' flows flows' : List ℤ} {set set' : List ℕ} {found found' : ℕ} {value value' : ℤ}
+    pub after_says : (b : List ℕ) (w n : ℕ) {source sink : ℕ} {limits limits' flows flows' : List ℤ} {set set' : List ℕ} {found found' : ℕ} {value value' : ℤ}
         → TellsAfter s b w n source sink limits limits' flows flows' set set' found found' value value' place place' result
-        → Says (afterChecks s b w n source sink limits flows set) result place place'
+        → Says (after_checks s b w n source sink limits flows set) result place place'
         ((limits' ≡ limits) × (flows' ≡ flows) × (set' ≡ set) × (found' ≡ found) × (value' ≡ value))
-    after-says b w n (largest.Value v, h, t) = says-answer h.1.0 t.0 t.3
-    after-says b w n (largest.None, h, t) = says-answer h.1.0 t.0 t.3
-    after-says b w n (largest.Refused k p, h, t) =
-        says-refusal k p (after-numbered s b w n _ _ _ _ _) h.1.0 t.0 t.3 (h.0, h.1.1, h.1.2, t.1, t.2)
+    after_says b w n (largest.Value v, h, t) = says_answer h.1.0 t.0 t.3
+    after_says b w n (largest.None, h, t) = says_answer h.1.0 t.0 t.3
+    after_says b w n (largest.Refused k p, h, t) =
+        says_refusal k p (after_numbered s b w n _ _ _ _ _) h.1.0 t.0 t.3 (h.0, h.1.1, h.1.2, t.1, t.2)
 
-    pub examine-says : {source sink : ℕ} {value : ℤ} {claims : List ℤ} {kinds : List ℕ} {settings : List ℤ} {sets points points' : List ℕ}
+    pub examine_says : {source sink : ℕ} {value : ℤ} {claims : List ℤ} {kinds : List ℕ} {settings : List ℤ} {sets points points' : List ℕ}
         {number number' sum sum' least least' greatest greatest' : ℕ}
         → TellsExamine s source sink value claims kinds settings sets points points' number number' sum sum' least least' greatest greatest' place place' result
-        → Says (examineChecks s source sink value (length claims) (length kinds) (length settings) (length sets) (length points)) result place place'
+        → Says (examine_checks s source sink value (length claims) (length kinds) (length settings) (length sets) (length points)) result place place'
         ((points' ≡ points) × (number' ≡ number) × (sum' ≡ sum) × (least' ≡ least) × (greatest' ≡ greatest))
-    examine-says (class.Empty, h, t) = says-answer h.0 t.result-told t.place-told
-    examine-says (class.Marked n m l g, h, t) = says-answer h.0 t.result-told t.place-told
-    examine-says (class.Refused k p, h, t) =
-        says-refusal k p (examine-numbered s _ _ _ _ _ _ _ _) h.0 t.result-told t.place-told
-        (h.1, t.number-told, t.sum_told, t.least-told, t.greatest-told)
+    examine_says (class.Empty, h, t) = says_answer h.0 t.result_told t.place_told
+    examine_says (class.Marked n m l g, h, t) = says_answer h.0 t.result_told t.place_told
+    examine_says (class.Refused k p, h, t) =
+        says_refusal k p (examine_numbered s _ _ _ _ _ _ _ _) h.0 t.result_told t.place_told
+        (h.1, t.number-told, t.sum_told, t.least_told, t.greatest_told)
 
-    pub page-says : (count : ℕ) (sources sinks : List ℕ) (values : List ℤ) {flows flows' : List ℤ} {sets sets' answers answers' sizes sizes' : List ℕ}
+    pub page_says : (count : ℕ) (sources sinks : List ℕ) (values : List ℤ) {flows flows' : List ℤ} {sets sets' answers answers' sizes sizes' : List ℕ}
         → TellsPage s count sources sinks values flows flows' sets sets' answers answers' sizes sizes' place place' result
-        → Says (pageChecks s count flows sets) result place place' ((flows' ≡ flows) × (sets' ≡ sets) × (answers' ≡ answers) × (sizes' ≡ sizes))
-    page-says count sources sinks values {flows} {flows'} {sets} {sets'} {answers} {answers'} {sizes} {sizes'} (page, h, named, t) =
+        → Says (page_checks s count flows sets) result place place' ((flows' ≡ flows) × (sets' ≡ sets) × (answers' ≡ answers) × (sizes' ≡ sizes))
+    page_says count sources sinks values {flows} {flows'} {sets} {sets'} {answers} {answers'} {sizes} {sizes'} (page, h, named, t) =
         go page.verdict h.0 t
       where
         go : (v : Verdict)
-            → PageAs (pageChecks s count flows sets) (edgesOf s) (wordsFor (nodesOf s)) count (λ i. solvesAlone s (questionIn sources sinks values i))
-            flows flows' sets sets' v page.count (answerAt page)
-            → PageTold v count (answerAt page) answers answers' sizes sizes' place place' result
-            → Says (pageChecks s count flows sets) result place place' ((flows' ≡ flows) × (sets' ≡ sets) × (answers' ≡ answers) × (sizes' ≡ sizes))
-        go verdict.Passed h t = says-answer h.0 t.0 t.3
-        go (verdict.Refused k p) h t = says-refusal k p (page-numbered s _ _ _) h.0 t.0 t.3 (h.2, h.3, t.1, t.2)
+            → PageAs (page_checks s count flows sets) (edges_of s) (words_for (nodes_of s)) count (λ i. solves_alone s (question_in sources sinks values i))
+            flows flows' sets sets' v page.count (answer_at page)
+            → PageTold v count (answer_at page) answers answers' sizes sizes' place place' result
+            → Says (page_checks s count flows sets) result place place' ((flows' ≡ flows) × (sets' ≡ sets) × (answers' ≡ answers) × (sizes' ≡ sizes))
+        go verdict.Passed h t = says_answer h.0 t.0 t.3
+        go (verdict.Refused k p) h t = says_refusal k p (page_numbered s _ _ _) h.0 t.0 t.3 (h.2, h.3, t.1, t.2)
 
-    pub mark-says : {source sink : ℕ} {flows : List ℤ} {value value' : ℤ}
-        → TellsMark s source sink flows value value' place place' result → Says (markChecks s source sink flows) result place place' (value' ≡ value)
-    mark-says (mark.Value v, h, t) = says-answer h.0 t.0 t.2
-    mark-says (mark.Refused k p, h, t) = says-refusal k p (mark-numbered s _ _ _) h t.0 t.2 t.1
+    pub mark_says : {source sink : ℕ} {flows : List ℤ} {value value' : ℤ}
+        → TellsMark s source sink flows value value' place place' result → Says (mark_checks s source sink flows) result place place' (value' ≡ value)
+    mark_says (mark.Value v, h, t) = says_answer h.0 t.0 t.2
+    mark_says (mark.Refused k p, h, t) = says_refusal k p (mark_numbered s _ _ _) h t.0 t.2 t.1
 
-    pub levels-says : {flows levels levels' : List ℤ} → TellsLevels s flows levels levels' place place' result
-        → Says (levelsChecks s flows levels) result place place' (levels' ≡ levels)
-    levels-says (level.Done, h, t) = says-answer h.0 t.0 t.1
-    levels-says (level.Refused k p, h, t) = says-refusal k p (levels-numbered s _ _) h.0 t.0 t.1 h.1
+    pub levels_says : {flows levels levels' : List ℤ} → TellsLevels s flows levels levels' place place' result
+        → Says (levels_checks s flows levels) result place place' (levels' ≡ levels)
+    levels_says (level.Done, h, t) = says_answer h.0 t.0 t.1
+    levels_says (level.Refused k p, h, t) = says_refusal k p (levels_numbered s _ _) h.0 t.0 t.1 h.1
 
-    pub settings-says : {levels flows flows' : List ℤ} → TellsSettings s levels flows flows' place place' result
-        → Says (settingsChecks s levels flows) result place place' (flows' ≡ flows)
-    settings-says (level.Done, h, t) = says-answer h.0 t.0 t.1
-    settings-says (level.Refused k p, h, t) = says-refusal k p (settings-numbered s _ _) h.0 t.0 t.1 h.1
+    pub settings_says : {levels flows flows' : List ℤ} → TellsSettings s levels flows flows' place place' result
+        → Says (settings_checks s levels flows) result place place' (flows' ≡ flows)
+    settings_says (level.Done, h, t) = says_answer h.0 t.0 t.1
+    settings_says (level.Refused k p, h, t) = says_refusal k p (settings_numbered s _ _) h.0 t.0 t.1 h.1
 
-    pub totals-says : {set : List ℕ} {out out' : List ℤ} {total total' : ℤ} → TellsTotals s set out out' total total' place place' result
-        → Says (totalsChecks s set out) result place place' ((out' ≡ out) × (total' ≡ total))
-    totals-says (totals.Total t, h, w) = says-answer h.0 w.0 w.2
-    totals-says (totals.Refused k p, h, w) = says-refusal k p (totals-numbered s _ _) h.0 w.0 w.2 (h.1, w.1)
+    pub totals_says : {set : List ℕ} {out out' : List ℤ} {total total' : ℤ} → TellsTotals s set out out' total total' place place' result
+        → Says (totals_checks s set out) result place place' ((out' ≡ out) × (total' ≡ total))
+    totals_says (totals.Total t, h, w) = says_answer h.0 w.0 w.2
+    totals_says (totals.Refused k p, h, w) = says_refusal k p (totals_numbered s _ _) h.0 w.0 w.2 (h.1, w.1)
 
-    pub dimacs-says : {source sink : ℕ} {text text' : List ℕ} {length length' : ℕ}
+    pub dimacs_says : {source sink : ℕ} {text text' : List ℕ} {length length' : ℕ}
         → TellsDimacs s source sink text text' length length' place place' result
-        → Says (dimacsChecks s source sink text) result place place' ((text' ≡ text) × (length' ≡ length))
-    dimacs-says (dimacs.Bytes n, h, t) = says-answer h.0 t.0 t.2
-    dimacs-says (dimacs.Refused k p, h, t) = says-refusal k p (dimacs-numbered s _ _ _) h.0 t.0 t.2 (h.1, t.1)
+        → Says (dimacs_checks s source sink text) result place place' ((text' ≡ text) × (length' ≡ length))
+    dimacs_says (dimacs.Bytes n, h, t) = says_answer h.0 t.0 t.2
+    dimacs_says (dimacs.Refused k p, h, t) = says_refusal k p (dimacs_numbered s _ _ _) h.0 t.0 t.2 (h.1, t.1)
 
     -- a refused start leaves the session of no nodes
-    pub start-says : (S' : Shared) → TellsStart s S' place place' result → Says (sheetChecks s) result place place' (S' ≡ emptied)
-    start-says S' (verdict.Passed, h, t) = says-answer h.0 t.0 t.1
-    start-says S' (verdict.Refused k p, h, t) = says-refusal k p (sheet-numbered s) h.0 t.0 t.1 h.1
+    pub start_says : (S' : Shared) → TellsStart s S' place place' result → Says (sheet_checks s) result place place' (S' ≡ emptied)
+    start_says S' (verdict.Passed, h, t) = says_answer h.0 t.0 t.1
+    start_says S' (verdict.Refused k p, h, t) = says_refusal k p (sheet_numbered s) h.0 t.0 t.1 h.1
 
   -- ── a session, whatever value it is, and any number as a party ──
-  pub ask-says : (S S' : Shared) (q : ℕ) {source sink : ℕ} {value : ℤ} {flows flows' : List ℤ} {set set' : List ℕ} {can can' size size' : ℕ}
+  pub ask_says : (S S' : Shared) (q : ℕ) {source sink : ℕ} {value : ℤ} {flows flows' : List ℤ} {set set' : List ℕ} {can can' size size' : ℕ}
       → TellsAsk S q source sink value flows flows' set set' S' can can' size size' place place' result
-      → Says (askChecks (sharedDrawing S) (S.standing q) q source sink value flows set) result place place'
+      → Says (ask_checks (shared_drawing S) (S.standing q) q source sink value flows set) result place place'
       ((S' ≡ S) × (flows' ≡ flows) × (set' ≡ set) × (can' ≡ can) × (size' ≡ size))
-  ask-says S S' q (solve.Can, h, t) = says-answer h.solved.0 t.0 t.3
-  ask-says S S' q (solve.Cannot n, h, t) = says-answer h.solved.0 t.0 t.3
-  ask-says S S' q (solve.Refused k p, h, t) =
-      says-refusal k p (ask-numbered (sharedDrawing S) _ q _ _ _ _ _) h.solved.0 t.0 t.3 (h.after, h.solved.1, h.solved.2, t.1, t.2)
+  ask_says S S' q (solve.Can, h, t) = says_answer h.solved.0 t.0 t.3
+  ask_says S S' q (solve.Cannot n, h, t) = says_answer h.solved.0 t.0 t.3
+  ask_says S S' q (solve.Refused k p, h, t) =
+      says_refusal k p (ask_numbered (shared_drawing S) _ q _ _ _ _ _) h.solved.0 t.0 t.3 (h.after, h.solved.1, h.solved.2, t.1, t.2)
 
-  pub commit-says : (S S' : Shared) (q : ℕ) → TellsCommit S q S' place place' result → Says (commitChecks S q) result place place' (S' ≡ S)
-  commit-says S S' q (verdict.Passed, h, t) = says-answer h.0 t.0 t.1
-  commit-says S S' q (verdict.Refused k p, h, t) = says-refusal k p (commit-numbered S q) h.0 t.0 t.1 h.1
+  pub commit_says : (S S' : Shared) (q : ℕ) → TellsCommit S q S' place place' result → Says (commit_checks S q) result place place' (S' ≡ S)
+  commit_says S S' q (verdict.Passed, h, t) = says_answer h.0 t.0 t.1
+  commit_says S S' q (verdict.Refused k p, h, t) = says_refusal k p (commit_numbered S q) h.0 t.0 t.1 h.1

@@ -9,12 +9,12 @@ use Rattle.desk.specs.declared.Class.TheVariants.{Empty, Marked, Refused}
 -- it was
 pub record ClassTold (result number number' sum sum' least least' greatest greatest' place place' : ℕ)
     (answer number_is sum_is_lem least-is greatest-is place_is : ℕ) : Type 0 where
-  pub result-told : result ≡ answer
+  pub result_told : result ≡ answer
   pub number-told : number' ≡ number_is
   pub sum_told : sum' ≡ sum_is_lem
-  pub least-told : least' ≡ least-is
-  pub greatest-told : greatest' ≡ greatest-is
-  pub place-told : place' ≡ place_is
+  pub least_told : least' ≡ least-is
+  pub greatest_told : greatest' ≡ greatest-is
+  pub place_told : place' ≡ place_is
 
 abbrev pub ExamineTold : Class → (result number number' sum sum' least least' greatest greatest' place place' : ℕ) → Type 0
 ExamineTold Empty result number number' sum sum' least least' greatest greatest' place place' =

@@ -5,10 +5,10 @@ use Rattle.refusals.specs.declared.Verdict.{Verdict}
 use Rattle.refusals.specs.declared.Verdict.TheVariants as verdict
 use Rattle.arrays.specs.Filled.{filled}
 use Rattle.questions.specs.declared.SolveAnswer.{SolveAnswer}
-use Rattle.pages.specs.Question.{questionIn}
-use Rattle.pages.specs.Page.{answerAt}
+use Rattle.pages.specs.Question.{question_in}
+use Rattle.pages.specs.Page.{answer_at}
 use Rattle.pages.specs.declared.Page.{Page}
-use Rattle.answer_arrays.specs.Told.{numberTold, sizeTold}
+use Rattle.answer_arrays.specs.Told.{number_told, size_told}
 use Rattle.analyser.specs.Page.{AnswersPage}
 use Rattle.analyser.specs.inner.Named.{PageNamed}
 
@@ -16,8 +16,8 @@ use Rattle.analyser.specs.inner.Named.{PageNamed}
 abbrev pub PageTold : Verdict → (count : ℕ) → (ℕ → SolveAnswer) → (answers answers' sizes sizes' : List ℕ) (place place' result : ℕ) → Type 0
 PageTold verdict.Passed count answer answers answers' sizes sizes' place place' result =
     (result ≡ 0)
-    × (answers' ≡ filled count (λ i. numberTold (answer i)) answers)
-    × (sizes' ≡ filled count (λ i. sizeTold (answer i)) sizes)
+    × (answers' ≡ filled count (λ i. number_told (answer i)) answers)
+    × (sizes' ≡ filled count (λ i. size_told (answer i)) sizes)
     × (place' ≡ place)
 PageTold (verdict.Refused k p) count answer answers answers' sizes sizes' place place' result =
     (result ≡ k)
@@ -30,6 +30,6 @@ abbrev pub TellsPage : List ℕ → (count : ℕ) → (sources sinks : List ℕ)
     → (answers answers' sizes sizes' : List ℕ) (place place' result : ℕ) → Type 0
 TellsPage s count sources sinks values flows flows' sets sets' answers answers' sizes sizes' place place' result =
     (page : Page)
-    × AnswersPage s count (questionIn sources sinks values) flows flows' sets sets' page
-    × PageNamed s count (questionIn sources sinks values) sets' page
-    × PageTold page.verdict count (answerAt page) answers answers' sizes sizes' place place' result
+    × AnswersPage s count (question_in sources sinks values) flows flows' sets sets' page
+    × PageNamed s count (question_in sources sinks values) sets' page
+    × PageTold page.verdict count (answer_at page) answers answers' sizes sizes' place place' result

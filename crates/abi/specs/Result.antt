@@ -5,9 +5,9 @@ use Rattle.refusals.specs.Order.{Check, NoneOf, FirstOf}
 
 pub record Says (cs : List Check) (result place place' : ℕ) (Same : Type 0) : Type 0 where
   -- 0 exactly when no check refuses; the place is then as it was
-  pub zero-none : result ≡ 0 → NoneOf cs × (place' ≡ place)
-  pub none-zero : NoneOf cs → result ≡ 0
+  pub zero_none : result ≡ 0 → NoneOf cs × (place' ≡ place)
+  pub none_zero : NoneOf cs → result ≡ 0
   -- not 0: it is the number of the first check that refuses, at the place written, and nothing else is written
   pub refused : result ≢ 0 → FirstOf cs result place' × Same
   -- document 02, Job 8: 11 no longer occurs
-  pub not-eleven : result ≢ 11
+  pub not_eleven : result ≢ 11

@@ -1,7 +1,7 @@
 -- What a C program is told of a solve answer. Document 01, "Operations": "A refusal is its number, with a lowest channel (17) or node (18), else place 0.";
 -- "Can" and "cannot" with the size of the set are Solve's. The result is the number of the refusal, or 0; the rest is behind pointers.
 use Rattle.std.specs.Prelude.{ℕ, ◌≡◌, List, ℤ}
-use Rattle.records.specs.Sheet.{sheetDrawing}
+use Rattle.records.specs.Sheet.{sheet_drawing}
 use Rattle.analyser.specs.Solve.{Solves}
 use Rattle.questions.specs.inner.Named.{SetNamed}
 use Rattle.questions.specs.declared.SolveAnswer.{SolveAnswer}
@@ -18,5 +18,5 @@ abbrev pub TellsSolve : List ℕ → (source sink : ℕ) → ℤ → (flows flow
 TellsSolve s source sink value flows flows' set set' can can' size size' place place' result =
     (answer : SolveAnswer)
     × Solves s source sink value flows flows' set set' answer
-    × SetNamed (sheetDrawing s) source sink value set' answer
+    × SetNamed (sheet_drawing s) source sink value set' answer
     × Told answer result can can' size size' place place'

@@ -16,7 +16,7 @@ ghost use Rattle.abi.specs.Examine.{TellsExamine};
 ghost use Rattle.abi.specs.Key.{TellsKey};
 ghost use Rattle.abi.specs.Practice.{TellsPractice};
 ghost use Rattle.abi.specs.Dimacs.{TellsDimacs};
-ghost use Rattle.parties.specs.Shared.{sharedOf, cleared};
+ghost use Rattle.parties.specs.Shared.{shared_of, cleared};
 ghost use Rattle.abi.specs.Sessions.{TellsStart, TellsAsk, TellsCommit};
 
 use desk::Class;
@@ -537,7 +537,7 @@ pub extern "C" fn analyser_session_start(
     place: &mut u16,
 ) -> u8
     ensures { TellsStart sheet.now
-        (sharedOf nodes.new edges.new outer.new tails.new rotations.new limits.new
+        (shared_of nodes.new edges.new outer.new tails.new rotations.new limits.new
         left.new standing.new first.new second.new)
         place.old place.new result }
 {
@@ -578,10 +578,10 @@ pub extern "C" fn analyser_session_ask<'a>(
     place: &mut u16,
 ) -> u8
     ensures { TellsAsk
-        (sharedOf nodes edges outer tails.now rotations.now limits.now left.now
+        (shared_of nodes edges outer tails.now rotations.now limits.now left.now
         standing.old first.old second.old)
         party source sink value flows.old flows.new set.old set.new
-        (sharedOf nodes edges outer tails.now rotations.now limits.now left.now
+        (shared_of nodes edges outer tails.now rotations.now limits.now left.now
         standing.new first.new second.new)
         can.old can.new size.old size.new place.old place.new result }
 {
@@ -628,10 +628,10 @@ pub extern "C" fn analyser_session_commit<'a>(
     place: &mut u16,
 ) -> u8
     ensures { TellsCommit
-        (sharedOf nodes edges outer tails.now rotations.now limits.now left.old
+        (shared_of nodes edges outer tails.now rotations.now limits.now left.old
         standing.old first.now second.now)
         party
-        (sharedOf nodes edges outer tails.now rotations.now limits.now left.new
+        (shared_of nodes edges outer tails.now rotations.now limits.now left.new
         standing.new first.now second.now)
         place.old place.new result }
 {
@@ -661,9 +661,9 @@ pub extern "C" fn analyser_session_clear<'a>(
     first: &[i32; 512],
     second: &[i32; 512],
 )
-    ensures { sharedOf nodes edges outer tails.now rotations.now limits.now left.new
+    ensures { shared_of nodes edges outer tails.now rotations.now limits.now left.new
         standing.new first.now second.now
-        ≡ cleared (sharedOf nodes edges outer tails.now rotations.now limits.now left.old
+        ≡ cleared (shared_of nodes edges outer tails.now rotations.now limits.now left.old
         standing.old first.now second.now) }
 {
     parties::clear(

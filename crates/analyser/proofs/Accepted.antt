@@ -4,67 +4,67 @@ use Prim.Native.Nat.{ℕ}
 use lib.ListN.{length}
 use lib.IntN.{ℤ}
 use Rattle.refusals.specs.Order.{NoneOf}
-use Rattle.refusals.proofs.Order.{none-append, append-none}
-use Rattle.records.specs.Sheet.{nodesOf, edgesOf, sheetDrawing}
-use Rattle.sheets.specs.Open.{sheetChecks}
-use Rattle.questions.specs.Solve.{questionChecks}
-use Rattle.questions.specs.Largest.{searchChecks}
-use Rattle.questions.specs.Mark.{paperChecks}
-use Rattle.questions.specs.Question.{endChecks, valueChecks, roomChecks}
+use Rattle.refusals.proofs.Order.{none_append, append_none}
+use Rattle.records.specs.Sheet.{nodes_of, edges_of, sheet_drawing}
+use Rattle.sheets.specs.Open.{sheet_checks}
+use Rattle.questions.specs.Solve.{question_checks}
+use Rattle.questions.specs.Largest.{search_checks}
+use Rattle.questions.specs.Mark.{paper_checks}
+use Rattle.questions.specs.Question.{end_checks, value_checks, room_checks}
 use Rattle.questions.proofs.Asked as questions
-use Rattle.levels.specs.LevelsOf.{balancedChecks}
-use Rattle.analyser.specs.Solve.{solveChecks}
-use Rattle.analyser.specs.Largest.{largestChecks}
-use Rattle.analyser.specs.Mark.{markChecks}
-use Rattle.analyser.specs.LevelsOf.{levelsChecks}
+use Rattle.levels.specs.LevelsOf.{balanced_checks}
+use Rattle.analyser.specs.Solve.{solve_checks}
+use Rattle.analyser.specs.Largest.{largest_checks}
+use Rattle.analyser.specs.Mark.{mark_checks}
+use Rattle.analyser.specs.LevelsOf.{levels_checks}
 
 -- ── Solve ──
 module _ (s : List ℕ) (source sink : ℕ) (value : ℤ) (flows : List ℤ) (set : List ℕ) where
   pub record Accepted : Type 0 where
-    pub sheet : NoneOf (sheetChecks s)
-    pub ends-two : NoneOf (endChecks (nodesOf s) source sink)
-    pub value-inside : NoneOf (valueChecks value)
-    pub has_room : NoneOf (roomChecks (nodesOf s) (edgesOf s) (length flows) (length set))
+    pub sheet : NoneOf (sheet_checks s)
+    pub ends_two : NoneOf (end_checks (nodes_of s) source sink)
+    pub value_inside : NoneOf (value_checks value)
+    pub has_room : NoneOf (room_checks (nodes_of s) (edges_of s) (length flows) (length set))
 
-  pub accepted : NoneOf (solveChecks s source sink value flows set) → Accepted
-  unfolding solveChecks
+  pub accepted : NoneOf (solve_checks s source sink value flows set) → Accepted
+  unfolding solve_checks
   accepted h =
-      let p = append-none (sheetChecks s) _ h in
-      let q = questions.accepted (nodesOf s) (edgesOf s) source sink flows set value p.1 in
-      record { sheet = p.0; ends-two = q.ends-two; value-inside = q.value-inside; has_room = q.has_room }
+      let p = append_none (sheet_checks s) _ h in
+      let q = questions.accepted (nodes_of s) (edges_of s) source sink flows set value p.1 in
+      record { sheet = p.0; ends_two = q.ends_two; value_inside = q.value_inside; has_room = q.has_room }
 
-  pub solve-none : Accepted → NoneOf (solveChecks s source sink value flows set)
-  unfolding solveChecks questionChecks
-  solve-none a =
-      none-append (sheetChecks s) _ a.sheet
-      (none-append (endChecks (nodesOf s) source sink) _ a.ends-two (none-append (valueChecks value) _ a.value-inside a.has_room))
+  pub solve_none : Accepted → NoneOf (solve_checks s source sink value flows set)
+  unfolding solve_checks question_checks
+  solve_none a =
+      none_append (sheet_checks s) _ a.sheet
+      (none_append (end_checks (nodes_of s) source sink) _ a.ends_two (none_append (value_checks value) _ a.value_inside a.has_room))
 
 -- ── Largest ──
 module _ (s : List ℕ) (source sink : ℕ) (flows : List ℤ) (set : List ℕ) where
   pub record Sought : Type 0 where
-    pub sheet : NoneOf (sheetChecks s)
-    pub ends-two : NoneOf (endChecks (nodesOf s) source sink)
-    pub has_room : NoneOf (roomChecks (nodesOf s) (edgesOf s) (length flows) (length set))
+    pub sheet : NoneOf (sheet_checks s)
+    pub ends_two : NoneOf (end_checks (nodes_of s) source sink)
+    pub has_room : NoneOf (room_checks (nodes_of s) (edges_of s) (length flows) (length set))
 
-  pub sought : NoneOf (largestChecks s source sink flows set) → Sought
-  unfolding largestChecks
+  pub sought : NoneOf (largest_checks s source sink flows set) → Sought
+  unfolding largest_checks
   sought h =
-      let p = append-none (sheetChecks s) _ h in
-      let q = questions.sought (nodesOf s) (edgesOf s) source sink flows set p.1 in
-      record { sheet = p.0; ends-two = q.ends-two; has_room = q.has_room }
+      let p = append_none (sheet_checks s) _ h in
+      let q = questions.sought (nodes_of s) (edges_of s) source sink flows set p.1 in
+      record { sheet = p.0; ends_two = q.ends_two; has_room = q.has_room }
 
-  pub largest-none : Sought → NoneOf (largestChecks s source sink flows set)
-  unfolding largestChecks searchChecks
-  largest-none a = none-append (sheetChecks s) _ a.sheet (none-append (endChecks (nodesOf s) source sink) _ a.ends-two a.has_room)
+  pub largest_none : Sought → NoneOf (largest_checks s source sink flows set)
+  unfolding largest_checks search_checks
+  largest_none a = none_append (sheet_checks s) _ a.sheet (none_append (end_checks (nodes_of s) source sink) _ a.ends_two a.has_room)
 
 -- ── Mark ──
-pub mark-parts : (s : List ℕ) (source sink : ℕ) (flows : List ℤ) → NoneOf (markChecks s source sink flows)
-    → NoneOf (sheetChecks s) × NoneOf (paperChecks (sheetDrawing s) source sink flows)
-unfolding markChecks
-mark-parts s source sink flows h = append-none (sheetChecks s) _ h
+pub mark_parts : (s : List ℕ) (source sink : ℕ) (flows : List ℤ) → NoneOf (mark_checks s source sink flows)
+    → NoneOf (sheet_checks s) × NoneOf (paper_checks (sheet_drawing s) source sink flows)
+unfolding mark_checks
+mark_parts s source sink flows h = append_none (sheet_checks s) _ h
 
 -- ── Levels from settings ──
-pub levels-none : (s : List ℕ) (flows levels : List ℤ) → NoneOf (sheetChecks s)
-    → NoneOf (balancedChecks (sheetDrawing s) flows levels) → NoneOf (levelsChecks s flows levels)
-unfolding levelsChecks
-levels-none s flows levels h b = none-append (sheetChecks s) _ h b
+pub levels_none : (s : List ℕ) (flows levels : List ℤ) → NoneOf (sheet_checks s)
+    → NoneOf (balanced_checks (sheet_drawing s) flows levels) → NoneOf (levels_checks s flows levels)
+unfolding levels_checks
+levels_none s flows levels h b = none_append (sheet_checks s) _ h b

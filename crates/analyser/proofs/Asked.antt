@@ -9,22 +9,22 @@ use Rattle.refusals.specs.Order.{NoneOf}
 use Rattle.flows.specs.Settings.{Carries}
 use Rattle.flows.specs.Highest.{Highest}
 use Rattle.flows.specs.ProvingSet.{Proves}
-use Rattle.flows.proofs.HighestFlow.{highest-unique}
-use Rattle.records.specs.Sheet.{nodesOf, edgesOf, capacityOf, outerOf, sheetMap, sheetDrawing}
-use Rattle.sheets.specs.Open.{sheetChecks}
-use Rattle.questions.specs.Question.{endChecks}
-use Rattle.questions.proofs.Asked.{ends-in, ends-differ}
-use Rattle.analyser.proofs.SheetPlane.{plane, outer-in}
+use Rattle.flows.proofs.HighestFlow.{highest_unique}
+use Rattle.records.specs.Sheet.{nodes_of, edges_of, capacity_of, outer_of, sheet_map, sheet_drawing}
+use Rattle.sheets.specs.Open.{sheet_checks}
+use Rattle.questions.specs.Question.{end_checks}
+use Rattle.questions.proofs.Asked.{ends_in, ends_differ}
+use Rattle.analyser.proofs.SheetPlane.{plane, outer_in}
 use Rattle.analyser.proofs.OnDrawing as on
 
-module _ (s : List ℕ) (sheet : NoneOf (sheetChecks s)) (source sink : ℕ) (two : NoneOf (endChecks (nodesOf s) source sink)) where
-  pub excludes : (value : ℤ) (S : ℕ → Bool) → Proves (sheetMap s) (capacityOf s) source sink value S
-      → (x : ℕ → ℤ) → Carries (sheetMap s) (capacityOf s) source sink value x → ⊥
-  excludes = on.excludes (sheetDrawing s) (plane s sheet) source sink two
+module _ (s : List ℕ) (sheet : NoneOf (sheet_checks s)) (source sink : ℕ) (two : NoneOf (end_checks (nodes_of s) source sink)) where
+  pub excludes : (value : ℤ) (S : ℕ → Bool) → Proves (sheet_map s) (capacity_of s) source sink value S
+      → (x : ℕ → ℤ) → Carries (sheet_map s) (capacity_of s) source sink value x → ⊥
+  excludes = on.excludes (sheet_drawing s) (plane s sheet) source sink two
 
-  pub one-highest : (value : ℤ) (x y : ℕ → ℤ) → Highest (sheetMap s) (outerOf s) (capacityOf s) source sink value x
-      → Highest (sheetMap s) (outerOf s) (capacityOf s) source sink value y
-      → (e : ℕ) → e < edgesOf s → x e ≡ y e
-  one-highest value x y =
-      let e = ends-in (nodesOf s) source sink two in
-      highest-unique (plane s sheet) e.0 e.1 (ends-differ (nodesOf s) source sink two) (outerOf s) (outer-in s sheet) x y
+  pub one_highest : (value : ℤ) (x y : ℕ → ℤ) → Highest (sheet_map s) (outer_of s) (capacity_of s) source sink value x
+      → Highest (sheet_map s) (outer_of s) (capacity_of s) source sink value y
+      → (e : ℕ) → e < edges_of s → x e ≡ y e
+  one_highest value x y =
+      let e = ends_in (nodes_of s) source sink two in
+      highest_unique (plane s sheet) e.0 e.1 (ends_differ (nodes_of s) source sink two) (outer_of s) (outer_in s sheet) x y

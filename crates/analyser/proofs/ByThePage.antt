@@ -11,177 +11,177 @@ use Rattle.refusals.specs.Order.{NoneOf, FirstOf}
 use Rattle.refusals.specs.declared.Verdict.{Verdict}
 use Rattle.refusals.specs.declared.Verdict.TheVariants.{Passed}
 use Rattle.refusals.specs.declared.Verdict.TheVariants as verdict
-use Rattle.refusals.proofs.Order.{append-none, none-append, append-first, first-none, first_one}
-use Rattle.refusals.proofs.Same.{Same, same_refl, same-sym, same-append, none-same, first-same}
-use Rattle.flows.specs.ProvingSet.{wordsFor}
-use Rattle.records.specs.Sheet.{nodesOf, edgesOf}
-use Rattle.sheets.specs.Open.{sheetChecks}
-use Rattle.questions.specs.Question.{endChecks, valueChecks, roomChecks}
-use Rattle.questions.specs.Solve.{questionChecks}
+use Rattle.refusals.proofs.Order.{append_none, none_append, append_first, first_none, first_one}
+use Rattle.refusals.proofs.Same.{Same, same_refl, same_sym, same_append, none_same, first_same}
+use Rattle.flows.specs.ProvingSet.{words_for}
+use Rattle.records.specs.Sheet.{nodes_of, edges_of}
+use Rattle.sheets.specs.Open.{sheet_checks}
+use Rattle.questions.specs.Question.{end_checks, value_checks, room_checks}
+use Rattle.questions.specs.Solve.{question_checks}
 use Rattle.questions.specs.declared.SolveAnswer.{SolveAnswer}
 use Rattle.questions.specs.declared.SolveAnswer.TheVariants.{Can, Cannot, Refused}
 use Rattle.pages.specs.Stretch.{stretch, SameFrom}
-use Rattle.pages.specs.Page.{listChecks, answerAt, PageAs}
+use Rattle.pages.specs.Page.{list_checks, answer_at, PageAs}
 use Rattle.pages.specs.declared.Question.{Question}
 use Rattle.pages.specs.declared.Page.{Page}
-use Rattle.pages.proofs.Stretches.{part_length, stretch-room}
-use Rattle.pages.proofs.Listing.{list-accepted}
-use Rattle.analyser.specs.Solve.{solveChecks, Solves}
-use Rattle.analyser.specs.Page.{pageChecks, solvesAlone, AnswersPage}
+use Rattle.pages.proofs.Stretches.{part_length, stretch_room}
+use Rattle.pages.proofs.Listing.{list_accepted}
+use Rattle.analyser.specs.Solve.{solve_checks, Solves}
+use Rattle.analyser.specs.Page.{page_checks, solves_alone, AnswersPage}
 use Rattle.analyser.specs.Statements.{ByThePage}
 use Rattle.analyser.proofs.Demand3 as demand
 
 -- ── one question, put twice, with room both times ──
 module _ (s : List ℕ) (source sink : ℕ) (value : ℤ) (own : List ℤ) (set : List ℕ) (other : List ℤ) (another : List ℕ)
-    (Own-room : edgesOf s ≤ length own) (set_room : wordsFor (nodesOf s) ≤ length set)
-    (other-room : edgesOf s ≤ length other) (another-room : wordsFor (nodesOf s) ≤ length another) where
-  same-checks : Same (solveChecks s source sink value own set) (solveChecks s source sink value other another)
-  unfolding solveChecks questionChecks roomChecks Same
-  same-checks =
-      same-append (sheetChecks s) (sheetChecks s) _ _ (same_refl (sheetChecks s))
-      (same-append (endChecks (nodesOf s) source sink) (endChecks (nodesOf s) source sink) _ _ (same_refl (endChecks (nodesOf s) source sink))
-      (same-append (valueChecks value) (valueChecks value) _ _ (same_refl (valueChecks value))
+    (Own-room : edges_of s ≤ length own) (set_room : words_for (nodes_of s) ≤ length set)
+    (other-room : edges_of s ≤ length other) (another-room : words_for (nodes_of s) ≤ length another) where
+  same_checks : Same (solve_checks s source sink value own set) (solve_checks s source sink value other another)
+  unfolding solve_checks question_checks room_checks Same
+  same_checks =
+      same_append (sheet_checks s) (sheet_checks s) _ _ (same_refl (sheet_checks s))
+      (same_append (end_checks (nodes_of s) source sink) (end_checks (nodes_of s) source sink) _ _ (same_refl (end_checks (nodes_of s) source sink))
+      (same_append (value_checks value) (value_checks value) _ _ (same_refl (value_checks value))
       (refl, refl, (λ h. absurd (short own set Own-room set_room h)), (λ h. absurd (short other another other-room another-room h)), tt)))
     where
-      short : (f : List ℤ) (t : List ℕ) → edgesOf s ≤ length f → wordsFor (nodesOf s) ≤ length t
-          → (length f < edgesOf s) ⊎ (length t < wordsFor (nodesOf s)) → ⊥
+      short : (f : List ℤ) (t : List ℕ) → edges_of s ≤ length f → words_for (nodes_of s) ≤ length t
+          → (length f < edges_of s) ⊎ (length t < words_for (nodes_of s)) → ⊥
       short f t fr tr (inl l) = omega arith
       short f t fr tr (inr l) = omega arith
 
-refusal-of : (s : List ℕ) (source sink : ℕ) (value : ℤ) (flows flows' : List ℤ) (set set' : List ℕ) (answer : SolveAnswer) (k p : ℕ)
-    → FirstOf (solveChecks s source sink value flows set) k p → Solves s source sink value flows flows' set set' answer → answer ≡ Refused k p
-refusal-of s source sink value flows flows' set set' Can k p first h = absurd (first-none (solveChecks s source sink value flows set) k p first h.0)
-refusal-of s source sink value flows flows' set set' (Cannot n) k p first h = absurd (first-none (solveChecks s source sink value flows set) k p first h.0)
-refusal-of s source sink value flows flows' set set' (Refused j q) k p first h =
-    let e = first_one (solveChecks s source sink value flows set) j q k p h.0 first in
+refusal_of : (s : List ℕ) (source sink : ℕ) (value : ℤ) (flows flows' : List ℤ) (set set' : List ℕ) (answer : SolveAnswer) (k p : ℕ)
+    → FirstOf (solve_checks s source sink value flows set) k p → Solves s source sink value flows flows' set set' answer → answer ≡ Refused k p
+refusal_of s source sink value flows flows' set set' Can k p first h = absurd (first_none (solve_checks s source sink value flows set) k p first h.0)
+refusal_of s source sink value flows flows' set set' (Cannot n) k p first h = absurd (first_none (solve_checks s source sink value flows set) k p first h.0)
+refusal_of s source sink value flows flows' set set' (Refused j q) k p first h =
+    let e = first_one (solve_checks s source sink value flows set) j q k p h.0 first in
     ap₂ Refused e.0 e.1
 
 module _ (s : List ℕ) (source sink : ℕ) (value : ℤ) (own own' : List ℤ) (set set' : List ℕ) (answer : SolveAnswer)
     (other other' : List ℤ) (another another' : List ℕ) (answer' : SolveAnswer)
-    (same : Same (solveChecks s source sink value own set) (solveChecks s source sink value other another))
+    (same : Same (solve_checks s source sink value own set) (solve_checks s source sink value other another))
     (h : Solves s source sink value own own' set set' answer) (g : Solves s source sink value other other' another another' answer') where
-  refused-too : (k p : ℕ) → answer ≡ Refused k p → answer' ≡ Refused k p
-  refused-too k p e =
-      refusal-of s source sink value other other' another another' answer' k p
-      (first-same (solveChecks s source sink value own set) _ k p same (subst (Solves s source sink value own own' set set') e h).0) g
+  refused_too : (k p : ℕ) → answer ≡ Refused k p → answer' ≡ Refused k p
+  refused_too k p e =
+      refusal_of s source sink value other other' another another' answer' k p
+      (first_same (solve_checks s source sink value own set) _ k p same (subst (Solves s source sink value own own' set set') e h).0) g
 
-  can-too : answer ≡ Can → answer' ≡ Can
-  can-too e =
+  can_too : answer ≡ Can → answer' ≡ Can
+  can_too e =
       let c = subst (Solves s source sink value own own' set set') e h in
-      (demand.can-exactly s source sink value other other' another another' (none-same (solveChecks s source sink value own set) _ same c.0) answer' g).1 _
-      (demand.can-carries s source sink value own own' set set' c.0 c)
+      (demand.can_exactly s source sink value other other' another another' (none_same (solve_checks s source sink value own set) _ same c.0) answer' g).1 _
+      (demand.can_carries s source sink value own own' set set' c.0 c)
 
 -- ── a page ──
 module _ (s : List ℕ) (n : ℕ) (question : ℕ → Question) (flows flows' : List ℤ) (sets sets' : List ℕ) (page : Page)
     (answers : AnswersPage s n question flows flows' sets sets' page) (passed : page.verdict ≡ Passed) where
   abbrev e : ℕ
-  e = edgesOf s
+  e = edges_of s
 
   abbrev w : ℕ
-  w = wordsFor (nodesOf s)
+  w = words_for (nodes_of s)
 
-  as_passed : PageAs (pageChecks s n flows sets) e w n (λ i. solvesAlone s (question i)) flows flows' sets sets' Passed page.count (answerAt page)
+  as_passed : PageAs (page_checks s n flows sets) e w n (λ i. solves_alone s (question i)) flows flows' sets sets' Passed page.count (answer_at page)
   as_passed =
-      subst (λ v. PageAs (pageChecks s n flows sets) e w n (λ i. solvesAlone s (question i)) flows flows' sets sets' v page.count (answerAt page))
+      subst (λ v. PageAs (page_checks s n flows sets) e w n (λ i. solves_alone s (question i)) flows flows' sets sets' v page.count (answer_at page))
       passed answers.0
 
-  accepted : NoneOf (sheetChecks s) × NoneOf (listChecks (nodesOf s) e n flows sets)
-  unfolding pageChecks
-  accepted = append-none (sheetChecks s) _ as_passed.0
+  accepted : NoneOf (sheet_checks s) × NoneOf (list_checks (nodes_of s) e n flows sets)
+  unfolding page_checks
+  accepted = append_none (sheet_checks s) _ as_passed.0
 
   module _ (i : ℕ) (l : i < n) where
     line : Solves s (question i).source (question i).sink (question i).value (stretch e i flows) (stretch e i flows') (stretch w i sets) (stretch w i sets')
-        (answerAt page i)
+        (answer_at page i)
     line = as_passed.2 i l
 
     flows_long : length (stretch e i flows) ≡ e
     flows_long =
-        let r = list-accepted (nodesOf s) e n flows sets accepted.1 in
-        part_length e i flows (stretch-room e i n flows flows l r.1 (refl, refl))
+        let r = list_accepted (nodes_of s) e n flows sets accepted.1 in
+        part_length e i flows (stretch_room e i n flows flows l r.1 (refl, refl))
 
-    sets-long : length (stretch w i sets) ≡ w
-    sets-long =
-        let r = list-accepted (nodesOf s) e n flows sets accepted.1 in
-        part_length w i sets (stretch-room w i n sets sets l r.2 (refl, refl))
+    sets_long : length (stretch w i sets) ≡ w
+    sets_long =
+        let r = list_accepted (nodes_of s) e n flows sets accepted.1 in
+        part_length w i sets (stretch_room w i n sets sets l r.2 (refl, refl))
 
-    numbers : (k p : ℕ) → FirstOf (questionChecks (nodesOf s) e (question i).source (question i).sink (question i).value (stretch e i flows) (stretch w i
+    numbers : (k p : ℕ) → FirstOf (question_checks (nodes_of s) e (question i).source (question i).sink (question i).value (stretch e i flows) (stretch w i
         sets)) k p
         → (k ≡ 13) ⊎ ((k ≡ 14) ⊎ (k ≡ 15))
-    unfolding questionChecks endChecks valueChecks roomChecks FirstOf
+    unfolding question_checks end_checks value_checks room_checks FirstOf
     numbers k p (inl h) = inl h.1
     numbers k p (inr (_, inl h)) = inr (inl h.1)
     numbers k p (inr (_, inr (_, inl h))) = inr (inr h.1)
     numbers k p (inr (_, inr (_, inr (_, inl (inl h, _, _))))) = absurd (omega (arith, flows_long))
-    numbers k p (inr (_, inr (_, inr (_, inl (inr h, _, _))))) = absurd (omega (arith, sets-long))
+    numbers k p (inr (_, inr (_, inr (_, inl (inr h, _, _))))) = absurd (omega (arith, sets_long))
     numbers k p (inr (_, inr (_, inr (_, inr (_, h))))) = absurd h
 
-    line_refused : (k p : ℕ) → answerAt page i ≡ Refused k p
+    line_refused : (k p : ℕ) → answer_at page i ≡ Refused k p
         → ((k ≡ 13) ⊎ ((k ≡ 14) ⊎ (k ≡ 15))) × (stretch e i flows' ≡ stretch e i flows) × (stretch w i sets' ≡ stretch w i sets)
-    unfolding solveChecks
+    unfolding solve_checks
     line_refused k p eq =
         let r = subst (λ a. Solves s (question i).source (question i).sink (question i).value (stretch e i flows) (stretch e i flows')
         (stretch w i sets) (stretch w i sets') a) eq line in
-        (past (append-first (sheetChecks s) _ k p r.0), r.1, r.2)
+        (past (append_first (sheet_checks s) _ k p r.0), r.1, r.2)
       where
-        past : FirstOf (sheetChecks s) k p
-            ⊎ (NoneOf (sheetChecks s)
-            × FirstOf (questionChecks (nodesOf s) e (question i).source (question i).sink (question i).value (stretch e i flows) (stretch w i sets)) k p)
+        past : FirstOf (sheet_checks s) k p
+            ⊎ (NoneOf (sheet_checks s)
+            × FirstOf (question_checks (nodes_of s) e (question i).source (question i).sink (question i).value (stretch e i flows) (stretch w i sets)) k p)
             → (k ≡ 13) ⊎ ((k ≡ 14) ⊎ (k ≡ 15))
-        past (inl h) = absurd (first-none (sheetChecks s) k p h accepted.0)
+        past (inl h) = absurd (first_none (sheet_checks s) k p h accepted.0)
         past (inr h) = numbers k p h.1
 
     module _ (own own' : List ℤ) (set set' : List ℕ) (answer : SolveAnswer) (Own-room : e ≤ length own) (set_room : w ≤ length set)
         (solved : Solves s (question i).source (question i).sink (question i).value own own' set set' answer) where
-      same : Same (solveChecks s (question i).source (question i).sink (question i).value (stretch e i flows) (stretch w i sets))
-          (solveChecks s (question i).source (question i).sink (question i).value own set)
+      same : Same (solve_checks s (question i).source (question i).sink (question i).value (stretch e i flows) (stretch w i sets))
+          (solve_checks s (question i).source (question i).sink (question i).value own set)
       same =
-          same-checks s (question i).source (question i).sink (question i).value (stretch e i flows) (stretch w i sets) own set
-          (omega (arith, flows_long)) (omega (arith, sets-long)) Own-room set_room
+          same_checks s (question i).source (question i).sink (question i).value (stretch e i flows) (stretch w i sets) own set
+          (omega (arith, flows_long)) (omega (arith, sets_long)) Own-room set_room
 
-      back : Same (solveChecks s (question i).source (question i).sink (question i).value own set)
-          (solveChecks s (question i).source (question i).sink (question i).value (stretch e i flows) (stretch w i sets))
-      back = same-sym (solveChecks s (question i).source (question i).sink (question i).value (stretch e i flows) (stretch w i sets)) _ same
+      back : Same (solve_checks s (question i).source (question i).sink (question i).value own set)
+          (solve_checks s (question i).source (question i).sink (question i).value (stretch e i flows) (stretch w i sets))
+      back = same_sym (solve_checks s (question i).source (question i).sink (question i).value (stretch e i flows) (stretch w i sets)) _ same
 
-      same-can : (answerAt page i ≡ Can → answer ≡ Can) × (answer ≡ Can → answerAt page i ≡ Can)
-      same-can = (
-        can-too s (question i).source (question i).sink (question i).value _ _ _ _ (answerAt page i) own own' set set' answer same line solved,
-        can-too s (question i).source (question i).sink (question i).value own own' set set' answer _ _ _ _ (answerAt page i) back solved line,
+      same_can : (answer_at page i ≡ Can → answer ≡ Can) × (answer ≡ Can → answer_at page i ≡ Can)
+      same_can = (
+        can_too s (question i).source (question i).sink (question i).value _ _ _ _ (answer_at page i) own own' set set' answer same line solved,
+        can_too s (question i).source (question i).sink (question i).value own own' set set' answer _ _ _ _ (answer_at page i) back solved line,
       )
 
-      same-refused : (k p : ℕ) → (answerAt page i ≡ Refused k p → answer ≡ Refused k p) × (answer ≡ Refused k p → answerAt page i ≡ Refused k p)
-      same-refused k p = (
-        refused-too s (question i).source (question i).sink (question i).value _ _ _ _ (answerAt page i) own own' set set' answer same line solved k p,
-        refused-too s (question i).source (question i).sink (question i).value own own' set set' answer _ _ _ _ (answerAt page i) back solved line k p,
+      same_refused : (k p : ℕ) → (answer_at page i ≡ Refused k p → answer ≡ Refused k p) × (answer ≡ Refused k p → answer_at page i ≡ Refused k p)
+      same_refused k p = (
+        refused_too s (question i).source (question i).sink (question i).value _ _ _ _ (answer_at page i) own own' set set' answer same line solved k p,
+        refused_too s (question i).source (question i).sink (question i).value own own' set set' answer _ _ _ _ (answer_at page i) back solved line k p,
       )
 
 -- ── the empty list ──
-module _ (s : List ℕ) (question : ℕ → Question) (flows flows' : List ℤ) (sets sets' : List ℕ) (sheet : NoneOf (sheetChecks s)) where
-  empty-passes : NoneOf (pageChecks s 0 flows sets)
-  unfolding pageChecks listChecks NoneOf
-  empty-passes = none-append (sheetChecks s) _ sheet ((λ l. omega arith), (no_room, tt))
+module _ (s : List ℕ) (question : ℕ → Question) (flows flows' : List ℤ) (sets sets' : List ℕ) (sheet : NoneOf (sheet_checks s)) where
+  empty_passes : NoneOf (page_checks s 0 flows sets)
+  unfolding page_checks list_checks NoneOf
+  empty_passes = none_append (sheet_checks s) _ sheet ((λ l. omega arith), (no_room, tt))
     where
-      no_room : (length flows < 0 * edgesOf s) ⊎ (length sets < 0 * wordsFor (nodesOf s)) → ⊥
-      no_room (inl l) = omega (arith, zero-mul (edgesOf s))
-      no_room (inr l) = omega (arith, zero-mul (wordsFor (nodesOf s)))
+      no_room : (length flows < 0 * edges_of s) ⊎ (length sets < 0 * words_for (nodes_of s)) → ⊥
+      no_room (inl l) = omega (arith, zero-mul (edges_of s))
+      no_room (inr l) = omega (arith, zero-mul (words_for (nodes_of s)))
 
   all_same : {A : Type 0} (size : ℕ) (l l' : List A) → SameFrom (0 * size) l l' → l' ≡ l
   all_same size l l' h = subst (λ k. drop k l' ≡ drop k l) (zero-mul size) h.1
 
-  empty-as : (v : Verdict) (count : ℕ) (answers : ℕ → SolveAnswer)
-      → PageAs (pageChecks s 0 flows sets) (edgesOf s) (wordsFor (nodesOf s)) 0 (λ i. solvesAlone s (question i)) flows flows' sets sets' v count answers
+  empty_as : (v : Verdict) (count : ℕ) (answers : ℕ → SolveAnswer)
+      → PageAs (page_checks s 0 flows sets) (edges_of s) (words_for (nodes_of s)) 0 (λ i. solves_alone s (question i)) flows flows' sets sets' v count answers
       → (v ≡ Passed) × (count ≡ 0) × (flows' ≡ flows) × (sets' ≡ sets)
-  empty-as verdict.Passed count answers h = (refl, h.1, all_same (edgesOf s) flows flows' h.3, all_same (wordsFor (nodesOf s)) sets sets' h.4)
-  empty-as (verdict.Refused k p) count answers h = absurd (first-none (pageChecks s 0 flows sets) k p h.0 empty-passes)
+  empty_as verdict.Passed count answers h = (refl, h.1, all_same (edges_of s) flows flows' h.3, all_same (words_for (nodes_of s)) sets sets' h.4)
+  empty_as (verdict.Refused k p) count answers h = absurd (first_none (page_checks s 0 flows sets) k p h.0 empty_passes)
 
 -- ── all ──
-pub by-the-page : ByThePage
-by-the-page = record {
-  line-solves = λ s n question flows flows' sets sets' page h passed i l. line s n question flows flows' sets sets' page h passed i l;
+pub by_the_page : ByThePage
+by_the_page = record {
+  line_solves = λ s n question flows flows' sets sets' page h passed i l. line s n question flows flows' sets sets' page h passed i l;
   line_refused = λ s n question flows flows' sets sets' page h passed i l k p e. line_refused s n question flows flows' sets sets' page h passed i l k p e;
-  same-can = λ s n question flows flows' sets sets' page h passed i l own own' set set' answer Own-room set_room solved.
-      same-can s n question flows flows' sets sets' page h passed i l own own' set set' answer Own-room set_room solved;
-  same-refused = λ s n question flows flows' sets sets' page h passed i l own own' set set' answer Own-room set_room solved k p.
-      same-refused s n question flows flows' sets sets' page h passed i l own own' set set' answer Own-room set_room solved k p;
-  empty-none = λ s question flows flows' sets sets' page sheet h.
-      empty-as s question flows flows' sets sets' sheet page.verdict page.count (answerAt page) h.0;
+  same_can = λ s n question flows flows' sets sets' page h passed i l own own' set set' answer Own-room set_room solved.
+      same_can s n question flows flows' sets sets' page h passed i l own own' set set' answer Own-room set_room solved;
+  same_refused = λ s n question flows flows' sets sets' page h passed i l own own' set set' answer Own-room set_room solved k p.
+      same_refused s n question flows flows' sets sets' page h passed i l own own' set set' answer Own-room set_room solved k p;
+  empty_none = λ s question flows flows' sets sets' page sheet h.
+      empty_as s question flows flows' sets sets' sheet page.verdict page.count (answer_at page) h.0;
 }

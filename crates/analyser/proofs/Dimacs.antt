@@ -10,77 +10,77 @@ use lib.ListN.{take, drop}
 use lib.Seq.{take_at}
 use lib.IntN.{ℤ, pos, negsuc}
 use lib.Signed.{◌≤ℤ◌}
-use Rattle.integers.proofs.Omega.{parts, from-at-most}
+use Rattle.integers.proofs.Omega.{parts, from_at_most}
 use Rattle.refusals.specs.Order.{NoneOf}
-use Rattle.refusals.proofs.Order.{append-none}
+use Rattle.refusals.proofs.Order.{append_none}
 use Rattle.maps.specs.Map.{darts}
 use Rattle.flows.specs.ProvingSet.{member}
 use Rattle.arrays.specs.At.{atℤ}
-use Rattle.records.specs.Sheet.{nodesOf, capacityOf, sheetMap, sheetDrawing}
-use Rattle.sheets.specs.Open.{sheetChecks}
-use Rattle.sheets.proofs.Accepted.{sheet-counts}
-use Rattle.questions.specs.Question.{endChecks}
+use Rattle.records.specs.Sheet.{nodes_of, capacity_of, sheet_map, sheet_drawing}
+use Rattle.sheets.specs.Open.{sheet_checks}
+use Rattle.sheets.proofs.Accepted.{sheet_counts}
+use Rattle.questions.specs.Question.{end_checks}
 use Rattle.questions.specs.declared.LargestAnswer.{LargestAnswer}
 use Rattle.questions.specs.declared.LargestAnswer.TheVariants as largest
-use Rattle.questions.proofs.Asked.{ends-in, ends-differ}
+use Rattle.questions.proofs.Asked.{ends_in, ends_differ}
 use Rattle.dimacs.specs.Problem.{WellPosed, Greatest, NoneGreaterInParts}
-use Rattle.dimacs.specs.Reading.{problemOf}
-use Rattle.dimacs.specs.Text.{natural, dimacsText}
-use Rattle.dimacs.specs.Drawn.{drawnProblem}
+use Rattle.dimacs.specs.Reading.{problem_of}
+use Rattle.dimacs.specs.Text.{natural, dimacs_text}
+use Rattle.dimacs.specs.Drawn.{drawn_problem}
 use Rattle.dimacs.specs.Write.{BelowZero, text_of}
 use Rattle.dimacs.specs.declared.DimacsAnswer.TheVariants.{Bytes}
 use Rattle.dimacs.proofs.Settling.{NotBelowZero}
-use Rattle.dimacs.proofs.Largest.{zero-carries}
+use Rattle.dimacs.proofs.Largest.{zero_carries}
 use Rattle.dimacs.proofs.ReadBack as text
 use Rattle.dimacs.proofs.Greatest as greatest
 use Rattle.dimacs.proofs.Posed.{posed}
-use Rattle.dimacs.proofs.Length.{text-short}
-use Rattle.dimacs.proofs.Writing.{text-known}
-use Rattle.analyser.specs.Largest.{largestChecks, FindsLargest}
-use Rattle.analyser.specs.Dimacs.{dimacsChecks, WritesDimacs}
+use Rattle.dimacs.proofs.Length.{text_short}
+use Rattle.dimacs.proofs.Writing.{text_known}
+use Rattle.analyser.specs.Largest.{largest_checks, FindsLargest}
+use Rattle.analyser.specs.Dimacs.{dimacs_checks, WritesDimacs}
 use Rattle.analyser.specs.Statements.{DimacsTexts}
-use Rattle.analyser.proofs.SheetPlane.{plane, capacity-small}
+use Rattle.analyser.proofs.SheetPlane.{plane, capacity_small}
 use Rattle.analyser.proofs.Demand3 as demand
 
-natural-small : (c : ℤ) → c ≤ℤ pos 1000000 → natural c ≤ 1000000
+natural_small : (c : ℤ) → c ≤ℤ pos 1000000 → natural c ≤ 1000000
 unfolding natural
-natural-small (pos n) h = omega (arith, from-at-most h (search parts))
-natural-small (negsuc n) h = omega arith
+natural_small (pos n) h = omega (arith, from_at_most h (search parts))
+natural_small (negsuc n) h = omega arith
 
 module _ (s : List ℕ) (source sink : ℕ) (out out' : List ℕ) (n : ℕ) (w : WritesDimacs s source sink out out' (Bytes n)) where
   -- ── what a written sheet is known of ──
-  apart : NoneOf (sheetChecks s) × (NoneOf (endChecks (nodesOf s) source sink) × (BelowZero (darts (sheetMap s)) (capacityOf s) → ⊥))
-  unfolding dimacsChecks
-  apart = let a = append-none (sheetChecks s) _ w.0 in (a.0, text-known (sheetDrawing s) source sink out a.1)
+  apart : NoneOf (sheet_checks s) × (NoneOf (end_checks (nodes_of s) source sink) × (BelowZero (darts (sheet_map s)) (capacity_of s) → ⊥))
+  unfolding dimacs_checks
+  apart = let a = append_none (sheet_checks s) _ w.0 in (a.0, text_known (sheet_drawing s) source sink out a.1)
 
-  good : NotBelowZero (sheetMap s) (capacityOf s)
-  good = greatest.not-below-zero (sheetMap s) (capacityOf s) apart.1.1
+  good : NotBelowZero (sheet_map s) (capacity_of s)
+  good = greatest.not_below_zero (sheet_map s) (capacity_of s) apart.1.1
 
-  ends : (source < nodesOf s) × (sink < nodesOf s)
-  ends = ends-in (nodesOf s) source sink apart.1.0
+  ends : (source < nodes_of s) × (sink < nodes_of s)
+  ends = ends_in (nodes_of s) source sink apart.1.0
 
   differ : source ≢ sink
-  differ = ends-differ (nodesOf s) source sink apart.1.0
+  differ = ends_differ (nodes_of s) source sink apart.1.0
 
   -- ── the bytes are the text ──
-  bytes : take n out' ≡ dimacsText (sheetMap s) (capacityOf s) source sink
-  bytes = ap (take n) w.2 ∙ take_at (text_of (sheetDrawing s) source sink) (drop n out) n (sym w.1)
+  bytes : take n out' ≡ dimacs_text (sheet_map s) (capacity_of s) source sink
+  bytes = ap (take n) w.2 ∙ take_at (text_of (sheet_drawing s) source sink) (drop n out) n (sym w.1)
 
-  pub reads-back : problemOf (take n out') ≡ drawnProblem (sheetMap s) (capacityOf s) source sink
-  reads-back = ap problemOf bytes ∙ text.reads-back (sheetMap s) (capacityOf s) source sink
+  pub reads_back : problem_of (take n out') ≡ drawn_problem (sheet_map s) (capacity_of s) source sink
+  reads_back = ap problem_of bytes ∙ text.reads_back (sheet_map s) (capacity_of s) source sink
 
-  pub well-posed : WellPosed (problemOf (take n out'))
-  well-posed =
-      subst WellPosed (sym reads-back) (posed (sheetMap s) (capacityOf s) source sink (plane s apart.0).sound.range ends.0 ends.1 differ)
+  pub well_posed : WellPosed (problem_of (take n out'))
+  well_posed =
+      subst WellPosed (sym reads_back) (posed (sheet_map s) (capacity_of s) source sink (plane s apart.0).sound.range ends.0 ends.1 differ)
 
   pub longest : n ≤ 18463
   longest =
-      let k = sheet-counts s apart.0 in
+      let k = sheet_counts s apart.0 in
       omega (
         arith,
         w.1,
-        text-short (sheetMap s) (capacityOf s) source sink (plane s apart.0).sound.range (omega (arith, k.1)) k.3 ends.0 ends.1
-            (λ d l. natural-small (capacityOf s d) (capacity-small s apart.0 d l).high),
+        text_short (sheet_map s) (capacity_of s) source sink (plane s apart.0).sound.range (omega (arith, k.1)) k.3 ends.0 ends.1
+            (λ d l. natural_small (capacity_of s d) (capacity_small s apart.0 d l).high),
       )
 
   -- ── beside Largest ──
@@ -88,46 +88,46 @@ module _ (s : List ℕ) (source sink : ℕ) (out out' : List ℕ) (n : ℕ) (w :
     abbrev Found : LargestAnswer → Type 0
     Found = FindsLargest s source sink flows flows' set set'
 
-    pub value-greatest : (v : ℤ) → Found (largest.Value v) → Greatest (problemOf (take n out')) v
-    value-greatest v h =
-        subst (λ t. Greatest (problemOf t) v) (sym bytes)
-        ((greatest.greatest-is-largest (sheetMap s) (capacityOf s) source sink good v).0 (
-          (atℤ flows', demand.largest-carries s source sink flows flows' set set' h.0 v h),
-          demand.nothing-greater s source sink flows flows' set set' h.0 v h,
+    pub value_greatest : (v : ℤ) → Found (largest.Value v) → Greatest (problem_of (take n out')) v
+    value_greatest v h =
+        subst (λ t. Greatest (problem_of t) v) (sym bytes)
+        ((greatest.greatest_is_largest (sheet_map s) (capacity_of s) source sink good v).0 (
+          (atℤ flows', demand.largest_carries s source sink flows flows' set set' h.0 v h),
+          demand.nothing_greater s source sink flows flows' set set' h.0 v h,
         ))
 
-    pub none-greater-in-parts : (v : ℤ) → Found (largest.Value v) → (k : ℕ) → NoneGreaterInParts k (problemOf (take n out')) v
-    none-greater-in-parts v h k =
-        subst (λ t. NoneGreaterInParts k (problemOf t) v) (sym bytes)
-        (greatest.none-greater-in-parts (sheetMap s) (capacityOf s) source sink good (plane s apart.0).sound.range ends.0 ends.1 differ
+    pub none_greater_in_parts : (v : ℤ) → Found (largest.Value v) → (k : ℕ) → NoneGreaterInParts k (problem_of (take n out')) v
+    none_greater_in_parts v h k =
+        subst (λ t. NoneGreaterInParts k (problem_of t) v) (sym bytes)
+        (greatest.none_greater_in_parts (sheet_map s) (capacity_of s) source sink good (plane s apart.0).sound.range ends.0 ends.1 differ
         v h.1.0 h.1.1.carries (member h.2.0) h.2.2 k)
 
-    module _ (asked : NoneOf (largestChecks s source sink flows set)) where
-      pub never-none : (answer : LargestAnswer) → Found answer → (v : ℤ) × (answer ≡ largest.Value v)
-      never-none (largest.Value v) h = (v, refl)
-      never-none largest.None h =
-          absurd (demand.none-delivered s source sink flows flows' set set' asked h (pos 0) (λ e. pos 0)
-          (zero-carries (sheetMap s) (capacityOf s) source sink good))
-      never-none (largest.Refused k p) h = absurd (demand.largest-answered s source sink flows flows' set set' asked k p h)
+    module _ (asked : NoneOf (largest_checks s source sink flows set)) where
+      pub never_none : (answer : LargestAnswer) → Found answer → (v : ℤ) × (answer ≡ largest.Value v)
+      never_none (largest.Value v) h = (v, refl)
+      never_none largest.None h =
+          absurd (demand.none_delivered s source sink flows flows' set set' asked h (pos 0) (λ e. pos 0)
+          (zero_carries (sheet_map s) (capacity_of s) source sink good))
+      never_none (largest.Refused k p) h = absurd (demand.largest_answered s source sink flows flows' set set' asked k p h)
 
-      pub greatest-is-largest : (answer : LargestAnswer) → Found answer → (v : ℤ)
-          → (Greatest (problemOf (take n out')) v → answer ≡ largest.Value v) × (answer ≡ largest.Value v → Greatest (problemOf (take n out')) v)
-      greatest-is-largest answer h v = (
+      pub greatest_is_largest : (answer : LargestAnswer) → Found answer → (v : ℤ)
+          → (Greatest (problem_of (take n out')) v → answer ≡ largest.Value v) × (answer ≡ largest.Value v → Greatest (problem_of (take n out')) v)
+      greatest_is_largest answer h v = (
         (λ g.
-            let a = never-none answer h in
-            a.1 ∙ ap largest.Value (greatest.greatest-unique (problemOf (take n out')) a.0 v (value-greatest a.0 (subst Found a.1 h)) g)),
-        (λ e. value-greatest v (subst Found e h)),
+            let a = never_none answer h in
+            a.1 ∙ ap largest.Value (greatest.greatest_unique (problem_of (take n out')) a.0 v (value_greatest a.0 (subst Found a.1 h)) g)),
+        (λ e. value_greatest v (subst Found e h)),
       )
 
 -- ── all ──
-pub dimacs-texts : DimacsTexts
-dimacs-texts = record {
-  reads-back = reads-back;
-  well-posed = well-posed;
-  greatest-is-largest = λ s source sink out out' n w flows flows' set set' answer asked h.
-      greatest-is-largest s source sink out out' n w flows flows' set set' asked answer h;
-  never-none = λ s source sink out out' n w flows flows' set set' answer asked h. never-none s source sink out out' n w flows flows' set set' asked answer h;
-  none-greater-in-parts = λ s source sink out out' n w flows flows' set set' v h.
-      none-greater-in-parts s source sink out out' n w flows flows' set set' v h;
+pub dimacs_texts : DimacsTexts
+dimacs_texts = record {
+  reads_back = reads_back;
+  well_posed = well_posed;
+  greatest_is_largest = λ s source sink out out' n w flows flows' set set' answer asked h.
+      greatest_is_largest s source sink out out' n w flows flows' set set' asked answer h;
+  never_none = λ s source sink out out' n w flows flows' set set' answer asked h. never_none s source sink out out' n w flows flows' set set' asked answer h;
+  none_greater_in_parts = λ s source sink out out' n w flows flows' set set' v h.
+      none_greater_in_parts s source sink out out' n w flows flows' set set' v h;
   longest = longest;
 }

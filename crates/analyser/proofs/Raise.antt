@@ -6,39 +6,39 @@ use Prim.Native.Nat.{ℕ, ◌*◌}
 use native.Mathlib.Omega.{arith}
 use lib.IntN.{ℤ, pos}
 use lib.Signed.{◌≤ℤ◌, ◌<ℤ◌}
-use Rattle.integers.proofs.Laws.{le_antisym, lt-or-ge}
+use Rattle.integers.proofs.Laws.{le_antisym, lt_or_ge}
 use Rattle.refusals.specs.Order.{NoneOf}
-use Rattle.refusals.proofs.Order.{append-none, first-none}
+use Rattle.refusals.proofs.Order.{append_none, first_none}
 use Rattle.flows.specs.Settings.{Carries}
 use Rattle.flows.specs.Highest.{Highest}
 use Rattle.flows.specs.ProvingSet.{member}
-use Rattle.flows.proofs.Exact.{proves-excludes}
-use Rattle.flows.proofs.Agreement.{highest-agrees}
+use Rattle.flows.proofs.Exact.{proves_excludes}
+use Rattle.flows.proofs.Agreement.{highest_agrees}
 use Rattle.arrays.specs.At.{atℤ}
-use Rattle.arrays.proofs.FillLoops.{filled-front}
-use Rattle.records.specs.Sheet.{nodesOf, edgesOf, capacityOf, outerOf, sheetMap}
-use Rattle.sheets.specs.Open.{sheetChecks}
-use Rattle.questions.specs.Question.{endChecks}
-use Rattle.questions.proofs.Asked.{ends-in, ends-differ}
+use Rattle.arrays.proofs.FillLoops.{filled_front}
+use Rattle.records.specs.Sheet.{nodes_of, edges_of, capacity_of, outer_of, sheet_map}
+use Rattle.sheets.specs.Open.{sheet_checks}
+use Rattle.questions.specs.Question.{end_checks}
+use Rattle.questions.proofs.Asked.{ends_in, ends_differ}
 use Rattle.raising.specs.Raised.{raised}
-use Rattle.raising.specs.Raise.{limitChecks}
+use Rattle.raising.specs.Raise.{limit_checks}
 use Rattle.raising.specs.declared.RaiseAnswer.{RaiseAnswer}
 use Rattle.raising.specs.declared.RaiseAnswer.TheVariants.{Limit, None, Refused}
-use Rattle.raising.proofs.Raised.{le_same, raised-more, raised-present}
+use Rattle.raising.proofs.Raised.{le_same, raised_more, raised_present}
 use Rattle.raising.proofs.Raising.{Weighed, weighed, edge_in}
-use Rattle.analyser.specs.Raise.{raiseChecks, RaisesLimit}
+use Rattle.analyser.specs.Raise.{raise_checks, RaisesLimit}
 use Rattle.analyser.specs.Statements.{Delivers, DeliversWith, Possible, PossibleWith, RaisedLimit}
-use Rattle.analyser.proofs.SheetPlane.{plane, capacity-small}
+use Rattle.analyser.proofs.SheetPlane.{plane, capacity_small}
 
 module _ (s : List ℕ) (source sink : ℕ) (value : ℤ) (edge : ℕ) where
-  greater-admits : (v w : ℤ) (x : ℕ → ℤ) → v ≤ℤ w → DeliversWith s source sink value edge v x → DeliversWith s source sink value edge w x
-  greater-admits v w x l h = raised-more (capacityOf s) edge l x h
+  greater_admits : (v w : ℤ) (x : ℕ → ℤ) → v ≤ℤ w → DeliversWith s source sink value edge v x → DeliversWith s source sink value edge w x
+  greater_admits v w x l h = raised_more (capacity_of s) edge l x h
 
-  present-same : (x : ℕ → ℤ) → DeliversWith s source sink value edge (capacityOf s (2 * edge)) x ↔ Delivers s source sink value x
-  present-same x =
-      let e = raised-present (capacityOf s) edge in (
-        subst (λ c. Carries (sheetMap s) c source sink value x) e,
-        subst (λ c. Carries (sheetMap s) c source sink value x) (sym e),
+  present_same : (x : ℕ → ℤ) → DeliversWith s source sink value edge (capacity_of s (2 * edge)) x ↔ Delivers s source sink value x
+  present_same x =
+      let e = raised_present (capacity_of s) edge in (
+        subst (λ c. Carries (sheet_map s) c source sink value x) e,
+        subst (λ c. Carries (sheet_map s) c source sink value x) (sym e),
       )
 
   module _ (flows flows' : List ℤ) (set set' : List ℕ) where
@@ -47,15 +47,15 @@ module _ (s : List ℕ) (source sink : ℕ) (value : ℤ) (edge : ℕ) where
 
     -- ── a limit ──
     module _ (v : ℤ) (h : Answers (Limit v)) where
-      limit-highest : Highest (sheetMap s) (outerOf s) (raised (capacityOf s) edge v) source sink value (atℤ flows')
-      limit-highest =
-          highest-agrees (sheetMap s) h.3.0 (atℤ flows')
-          (λ e l. sym (filled-front (pos 0) (edgesOf s) h.3.0 flows flows' h.3.2 e l)) h.3.1
+      limit_highest : Highest (sheet_map s) (outer_of s) (raised (capacity_of s) edge v) source sink value (atℤ flows')
+      limit_highest =
+          highest_agrees (sheet_map s) h.3.0 (atℤ flows')
+          (λ e l. sym (filled_front (pos 0) (edges_of s) h.3.0 flows flows' h.3.2 e l)) h.3.1
 
-      limit-exactly : (w : ℤ) → capacityOf s (2 * edge) ≤ℤ w → PossibleWith s source sink value edge w ↔ (v ≤ℤ w)
-      limit-exactly w from = (
-        (λ p. by (lt-or-ge w v) p),
-        (λ l. (atℤ flows', greater-admits v w (atℤ flows') l limit-highest.carries)),
+      limit_exactly : (w : ℤ) → capacity_of s (2 * edge) ≤ℤ w → PossibleWith s source sink value edge w ↔ (v ≤ℤ w)
+      limit_exactly w from = (
+        (λ p. by (lt_or_ge w v) p),
+        (λ l. (atℤ flows', greater_admits v w (atℤ flows') l limit_highest.carries)),
       )
         where
           by : (w <ℤ v) ⊎ (v ≤ℤ w) → PossibleWith s source sink value edge w → v ≤ℤ w
@@ -63,61 +63,61 @@ module _ (s : List ℕ) (source sink : ℕ) (value : ℤ) (edge : ℕ) where
           by (inr l) p = l
 
     -- ── what an accepted question is known of ──
-    module _ (asked : NoneOf (raiseChecks s source sink value edge flows set)) where
-      apart : NoneOf (sheetChecks s) × NoneOf (limitChecks (nodesOf s) (edgesOf s) source sink value edge flows set)
-      unfolding raiseChecks
-      apart = append-none (sheetChecks s) _ asked
+    module _ (asked : NoneOf (raise_checks s source sink value edge flows set)) where
+      apart : NoneOf (sheet_checks s) × NoneOf (limit_checks (nodes_of s) (edges_of s) source sink value edge flows set)
+      unfolding raise_checks
+      apart = append_none (sheet_checks s) _ asked
 
-      known : Weighed (nodesOf s) (edgesOf s) source sink value edge flows set
-      known = weighed (nodesOf s) (edgesOf s) source sink value edge flows set apart.1
+      known : Weighed (nodes_of s) (edges_of s) source sink value edge flows set
+      known = weighed (nodes_of s) (edges_of s) source sink value edge flows set apart.1
 
-      pub raise-accepted : NoneOf (sheetChecks s) × NoneOf (endChecks (nodesOf s) source sink)
-      raise-accepted = (apart.0, known.ends-two)
+      pub raise_accepted : NoneOf (sheet_checks s) × NoneOf (end_checks (nodes_of s) source sink)
+      raise_accepted = (apart.0, known.ends_two)
 
       -- the present limit is one of a sheet
-      present-most : capacityOf s (2 * edge) ≤ℤ pos 1000000
-      present-most = (capacity-small s apart.0 (2 * edge) (omega (arith, edge_in (edgesOf s) edge known.is-edge))).high
+      present_most : capacity_of s (2 * edge) ≤ℤ pos 1000000
+      present_most = (capacity_small s apart.0 (2 * edge) (omega (arith, edge_in (edges_of s) edge known.is_edge))).high
 
-      most-fails : Answers None → PossibleWith s source sink value edge (pos 1000000) → ⊥
-      most-fails h p =
-          let e = ends-in (nodesOf s) source sink known.ends-two in
-          proves-excludes (plane s apart.0).sound.range e.0 e.1 (ends-differ (nodesOf s) source sink known.ends-two)
-          (raised (capacityOf s) edge (pos 1000000)) value (member h.2.0) h.2.2 p.0 p.1
+      most_fails : Answers None → PossibleWith s source sink value edge (pos 1000000) → ⊥
+      most_fails h p =
+          let e = ends_in (nodes_of s) source sink known.ends_two in
+          proves_excludes (plane s apart.0).sound.range e.0 e.1 (ends_differ (nodes_of s) source sink known.ends_two)
+          (raised (capacity_of s) edge (pos 1000000)) value (member h.2.0) h.2.2 p.0 p.1
 
-      none-exactly : (answer : RaiseAnswer) → Answers answer → (answer ≡ None) ↔ (PossibleWith s source sink value edge (pos 1000000) → ⊥)
-      none-exactly answer found = ((λ e. most-fails (subst Answers e found)), by answer found)
+      none_exactly : (answer : RaiseAnswer) → Answers answer → (answer ≡ None) ↔ (PossibleWith s source sink value edge (pos 1000000) → ⊥)
+      none_exactly answer found = ((λ e. most_fails (subst Answers e found)), by answer found)
         where
           by : (r : RaiseAnswer) → Answers r → (PossibleWith s source sink value edge (pos 1000000) → ⊥) → r ≡ None
-          by (Limit v) h fails = absurd (fails (atℤ flows', greater-admits v (pos 1000000) (atℤ flows') h.2 (limit-highest v h).carries))
+          by (Limit v) h fails = absurd (fails (atℤ flows', greater_admits v (pos 1000000) (atℤ flows') h.2 (limit_highest v h).carries))
           by None h fails = refl
-          by (Refused k p) h fails = absurd (first-none (raiseChecks s source sink value edge flows set) k p h.0 asked)
+          by (Refused k p) h fails = absurd (first_none (raise_checks s source sink value edge flows set) k p h.0 asked)
 
-      present-exactly : (answer : RaiseAnswer) → Answers answer → (answer ≡ Limit (capacityOf s (2 * edge))) ↔ Possible s source sink value
-      present-exactly answer found = ((λ e. there (subst Answers e found)), by answer found)
+      present_exactly : (answer : RaiseAnswer) → Answers answer → (answer ≡ Limit (capacity_of s (2 * edge))) ↔ Possible s source sink value
+      present_exactly answer found = ((λ e. there (subst Answers e found)), by answer found)
         where
-          there : Answers (Limit (capacityOf s (2 * edge))) → Possible s source sink value
-          there h = (atℤ flows', (present-same (atℤ flows')).0 (limit-highest (capacityOf s (2 * edge)) h).carries)
+          there : Answers (Limit (capacity_of s (2 * edge))) → Possible s source sink value
+          there h = (atℤ flows', (present_same (atℤ flows')).0 (limit_highest (capacity_of s (2 * edge)) h).carries)
 
-          by : (r : RaiseAnswer) → Answers r → Possible s source sink value → r ≡ Limit (capacityOf s (2 * edge))
+          by : (r : RaiseAnswer) → Answers r → Possible s source sink value → r ≡ Limit (capacity_of s (2 * edge))
           by (Limit v) h p =
               ap Limit (le_antisym
-              ((limit-exactly v h (capacityOf s (2 * edge)) (le_same (capacityOf s (2 * edge)))).0 (p.0, (present-same p.0).1 p.1))
+              ((limit_exactly v h (capacity_of s (2 * edge)) (le_same (capacity_of s (2 * edge)))).0 (p.0, (present_same p.0).1 p.1))
               h.1)
           by None h p =
-              absurd (most-fails h (p.0, greater-admits (capacityOf s (2 * edge)) (pos 1000000) p.0 present-most ((present-same p.0).1 p.1)))
-          by (Refused k q) h p = absurd (first-none (raiseChecks s source sink value edge flows set) k q h.0 asked)
+              absurd (most_fails h (p.0, greater_admits (capacity_of s (2 * edge)) (pos 1000000) p.0 present_most ((present_same p.0).1 p.1)))
+          by (Refused k q) h p = absurd (first_none (raise_checks s source sink value edge flows set) k q h.0 asked)
 
 -- ── all ──
-pub raised-limit : RaisedLimit
-raised-limit = record {
-  greater-admits = greater-admits;
-  present-same = present-same;
-  limit-in-range = λ s source sink value edge flows flows' set set' v h. (h.1, h.2);
-  limit-carries = λ s source sink value edge flows flows' set set' v h. (limit-highest s source sink value edge flows flows' set set' v h).carries;
-  limit-highest = limit-highest;
-  limit-exactly = limit-exactly;
-  present-exactly = λ s source sink value edge flows flows' set set' answer asked h.
-      present-exactly s source sink value edge flows flows' set set' asked answer h;
-  none-exactly = λ s source sink value edge flows flows' set set' answer asked h. none-exactly s source sink value edge flows flows' set set' asked answer h;
-  none-proves = λ s source sink value edge flows flows' set set' h. h.2;
+pub raised_limit : RaisedLimit
+raised_limit = record {
+  greater_admits = greater_admits;
+  present_same = present_same;
+  limit_in_range = λ s source sink value edge flows flows' set set' v h. (h.1, h.2);
+  limit_carries = λ s source sink value edge flows flows' set set' v h. (limit_highest s source sink value edge flows flows' set set' v h).carries;
+  limit_highest = limit_highest;
+  limit_exactly = limit_exactly;
+  present_exactly = λ s source sink value edge flows flows' set set' answer asked h.
+      present_exactly s source sink value edge flows flows' set set' asked answer h;
+  none_exactly = λ s source sink value edge flows flows' set set' answer asked h. none_exactly s source sink value edge flows flows' set set' asked answer h;
+  none_proves = λ s source sink value edge flows flows' set set' h. h.2;
 }

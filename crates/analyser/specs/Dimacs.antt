@@ -2,13 +2,13 @@
 -- only a short output": on the sheet's drawing.
 use Rattle.std.specs.Prelude.{ℕ, List, ◌++◌}
 use Rattle.refusals.specs.Order.{Check}
-use Rattle.records.specs.Sheet.{sheetDrawing}
-use Rattle.sheets.specs.Open.{sheetChecks}
-use Rattle.dimacs.specs.Write.{textChecks, TextWritten}
+use Rattle.records.specs.Sheet.{sheet_drawing}
+use Rattle.sheets.specs.Open.{sheet_checks}
+use Rattle.dimacs.specs.Write.{text_checks, TextWritten}
 use Rattle.dimacs.specs.declared.DimacsAnswer.{DimacsAnswer}
 
-unfoldable pub dimacsChecks : List ℕ → (source sink : ℕ) → List ℕ → List Check
-dimacsChecks s source sink out = sheetChecks s ++ textChecks (sheetDrawing s) source sink out
+unfoldable pub dimacs_checks : List ℕ → (source sink : ℕ) → List ℕ → List Check
+dimacs_checks s source sink out = sheet_checks s ++ text_checks (sheet_drawing s) source sink out
 
 abbrev pub WritesDimacs : List ℕ → (source sink : ℕ) → (out out' : List ℕ) → DimacsAnswer → Type 0
-WritesDimacs s source sink out out' answer = TextWritten (sheetDrawing s) (dimacsChecks s source sink out) source sink out out' answer
+WritesDimacs s source sink out out' answer = TextWritten (sheet_drawing s) (dimacs_checks s source sink out) source sink out out' answer

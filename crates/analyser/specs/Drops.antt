@@ -6,17 +6,17 @@ use Rattle.refusals.specs.Order.{NoneOf}
 use Rattle.refusals.specs.declared.Verdict.TheVariants.{Passed}
 use Rattle.flows.specs.Settings.{Carries}
 use Rattle.flows.specs.Parts.{CarriesInParts, ExcludedInParts}
-use Rattle.records.specs.Sheet.{capacityOf, sheetMap}
+use Rattle.records.specs.Sheet.{capacity_of, sheet_map}
 use Rattle.questions.specs.declared.SolveAnswer.{SolveAnswer}
 use Rattle.questions.specs.declared.SolveAnswer.TheVariants.{Can, Cannot}
 use Rattle.questions.specs.declared.LargestAnswer.TheVariants as largest
 use Rattle.ranges.specs.declared.RangeAnswer.TheVariants as range
 use Rattle.raising.specs.Raised.{raised}
 use Rattle.raising.specs.declared.RaiseAnswer.TheVariants as raise
-use Rattle.pages.specs.Page.{answerAt}
+use Rattle.pages.specs.Page.{answer_at}
 use Rattle.pages.specs.declared.Question.{Question}
 use Rattle.pages.specs.declared.Page.{Page}
-use Rattle.analyser.specs.Solve.{solveChecks, Solves}
+use Rattle.analyser.specs.Solve.{solve_checks, Solves}
 use Rattle.analyser.specs.Largest.{FindsLargest}
 use Rattle.analyser.specs.Range.{FindsRange}
 use Rattle.analyser.specs.Raise.{RaisesLimit}
@@ -25,42 +25,42 @@ use Rattle.analyser.specs.Statements.{Delivers}
 
 -- the settings x, counted in n-th parts, carry the delivery on the sheet's drawing
 abbrev pub DeliversInParts : (n : ℕ) → List ℕ → (source sink : ℕ) → ℤ → (ℕ → ℤ) → Type 0
-DeliversInParts n s source sink value x = CarriesInParts n (sheetMap s) (capacityOf s) source sink value x
+DeliversInParts n s source sink value x = CarriesInParts n (sheet_map s) (capacity_of s) source sink value x
 
 -- not even in drops: in no parts at all
 abbrev pub NotEvenInDrops : List ℕ → (source sink : ℕ) → ℤ → Type 0
-NotEvenInDrops s source sink value = ExcludedInParts (sheetMap s) (capacityOf s) source sink value
+NotEvenInDrops s source sink value = ExcludedInParts (sheet_map s) (capacity_of s) source sink value
 
 pub record InDrops : Type 0 where
   -- for n = 1 these are the settings of document 01
-  pub one-part : (s : List ℕ) (source sink : ℕ) (value : ℤ) (x : ℕ → ℤ) → DeliversInParts 1 s source sink value x ↔ Delivers s source sink value x
+  pub one_part : (s : List ℕ) (source sink : ℕ) (value : ℤ) (x : ℕ → ℤ) → DeliversInParts 1 s source sink value x ↔ Delivers s source sink value x
   -- "where the unit says "cannot", no settings in n-th parts .. carry that delivery either, for each whole n from 1 up": Solve ..
-  pub cannot-in-drops : (s : List ℕ) (source sink : ℕ) (value : ℤ) (flows flows' : List ℤ) (set set' : List ℕ) (k : ℕ)
+  pub cannot_in_drops : (s : List ℕ) (source sink : ℕ) (value : ℤ) (flows flows' : List ℤ) (set set' : List ℕ) (k : ℕ)
       → Solves s source sink value flows flows' set set' (Cannot k) → NotEvenInDrops s source sink value
   -- .. and a question of a page
-  pub line-in-drops : (s : List ℕ) (count : ℕ) (question : ℕ → Question) (flows flows' : List ℤ) (sets sets' : List ℕ) (page : Page)
+  pub line_in_drops : (s : List ℕ) (count : ℕ) (question : ℕ → Question) (flows flows' : List ℤ) (sets sets' : List ℕ) (page : Page)
       → AnswersPage s count question flows flows' sets sets' page → page.verdict ≡ Passed → (i : ℕ) → i < count
-      → (k : ℕ) → answerAt page i ≡ Cannot k → NotEvenInDrops s (question i).source (question i).sink (question i).value
+      → (k : ℕ) → answer_at page i ≡ Cannot k → NotEvenInDrops s (question i).source (question i).sink (question i).value
   -- so parts help nobody: an accepted question is answered "can" exactly when some settings in n-th parts carry the delivery, whatever n is
-  pub can-exactly-in-parts : (s : List ℕ) (source sink : ℕ) (value : ℤ) (flows flows' : List ℤ) (set set' : List ℕ) (answer : SolveAnswer)
-      → NoneOf (solveChecks s source sink value flows set) → Solves s source sink value flows flows' set set' answer
+  pub can_exactly_in_parts : (s : List ℕ) (source sink : ℕ) (value : ℤ) (flows flows' : List ℤ) (set set' : List ℕ) (answer : SolveAnswer)
+      → NoneOf (solve_checks s source sink value flows set) → Solves s source sink value flows flows' set set' answer
       → (n : ℕ) → 0 < n → (answer ≡ Can) ↔ ((x : ℕ → ℤ) × DeliversInParts n s source sink value x)
   -- the value next above the largest; and no fraction of a litre more: w parts that are delivered are at most n times the largest
-  pub next-greater-in-drops : (s : List ℕ) (source sink : ℕ) (v : ℤ) (flows flows' : List ℤ) (set set' : List ℕ)
+  pub next_greater_in_drops : (s : List ℕ) (source sink : ℕ) (v : ℤ) (flows flows' : List ℤ) (set set' : List ℕ)
       → FindsLargest s source sink flows flows' set set' (largest.Value v) → NotEvenInDrops s source sink (v +ℤ pos 1)
-  pub nothing-greater-in-parts : (s : List ℕ) (source sink : ℕ) (v : ℤ) (flows flows' : List ℤ) (set set' : List ℕ)
+  pub nothing_greater_in_parts : (s : List ℕ) (source sink : ℕ) (v : ℤ) (flows flows' : List ℤ) (set set' : List ℕ)
       → FindsLargest s source sink flows flows' set set' (largest.Value v)
-      → (n : ℕ) (w : ℤ) (x : ℕ → ℤ) → Carries (sheetMap s) (λ d. pos n *ℤ capacityOf s d) source sink w x → w ≤ℤ (pos n *ℤ v)
+      → (n : ℕ) (w : ℤ) (x : ℕ → ℤ) → Carries (sheet_map s) (λ d. pos n *ℤ capacity_of s d) source sink w x → w ≤ℤ (pos n *ℤ v)
   -- "none": nothing at all
-  pub none-in-drops : (s : List ℕ) (source sink : ℕ) (flows flows' : List ℤ) (set set' : List ℕ)
+  pub none_in_drops : (s : List ℕ) (source sink : ℕ) (flows flows' : List ℤ) (set set' : List ℕ)
       → FindsLargest s source sink flows flows' set set' largest.None → (value : ℤ) → NotEvenInDrops s source sink value
   -- the value next below the least, the one next above the largest, and none, where both are asked
-  pub range-in-drops : (s : List ℕ) (source sink : ℕ) (low low' : List ℤ) (below below' : List ℕ) (high high' : List ℤ) (above above' : List ℕ) (v w : ℤ)
+  pub range_in_drops : (s : List ℕ) (source sink : ℕ) (low low' : List ℤ) (below below' : List ℕ) (high high' : List ℤ) (above above' : List ℕ) (v w : ℤ)
       → FindsRange s source sink low low' below below' high high' above above' (range.Values v w)
       → NotEvenInDrops s source sink (v -ℤ pos 1) × NotEvenInDrops s source sink (w +ℤ pos 1)
-  pub range-none-in-drops : (s : List ℕ) (source sink : ℕ) (low low' : List ℤ) (below below' : List ℕ) (high high' : List ℤ) (above above' : List ℕ)
+  pub range_none_in_drops : (s : List ℕ) (source sink : ℕ) (low low' : List ℤ) (below below' : List ℕ) (high high' : List ℤ) (above above' : List ℕ)
       → FindsRange s source sink low low' below below' high high' above above' range.None → (value : ℤ) → NotEvenInDrops s source sink value
   -- no limit of the weir serves: none with the limit 1,000,000
-  pub raise-in-drops : (s : List ℕ) (source sink : ℕ) (value : ℤ) (edge : ℕ) (flows flows' : List ℤ) (set set' : List ℕ)
+  pub raise_in_drops : (s : List ℕ) (source sink : ℕ) (value : ℤ) (edge : ℕ) (flows flows' : List ℤ) (set set' : List ℕ)
       → RaisesLimit s source sink value edge flows flows' set set' raise.None
-      → ExcludedInParts (sheetMap s) (raised (capacityOf s) edge (pos 1000000)) source sink value
+      → ExcludedInParts (sheet_map s) (raised (capacity_of s) edge (pos 1000000)) source sink value

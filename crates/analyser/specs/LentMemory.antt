@@ -5,8 +5,8 @@ use Rattle.std.specs.Prelude.{ℕ, ◌*◌, ◌≡◌, List, drop, ℤ}
 use Rattle.integers.specs.Sum.{count}
 use Rattle.refusals.specs.declared.Verdict.TheVariants as verdict
 use Rattle.maps.specs.Face.{faces}
-use Rattle.flows.specs.ProvingSet.{wordsFor, member}
-use Rattle.records.specs.Sheet.{nodesOf, edgesOf, sheetMap}
+use Rattle.flows.specs.ProvingSet.{words_for, member}
+use Rattle.records.specs.Sheet.{nodes_of, edges_of, sheet_map}
 use Rattle.questions.specs.declared.SolveAnswer.{SolveAnswer}
 use Rattle.questions.specs.declared.SolveAnswer.TheVariants.{Can, Cannot, Refused}
 use Rattle.questions.specs.declared.LargestAnswer.{LargestAnswer}
@@ -39,67 +39,67 @@ KeptFrom n l l' = drop n l' ≡ drop n l
 
 -- "Extra elements .. are neither read nor written": whatever the answer is
 pub record ExtraElements : Type 0 where
-  pub solve-extra : (s : List ℕ) (source sink : ℕ) (value : ℤ) (flows flows' : List ℤ) (set set' : List ℕ) (answer : SolveAnswer)
-      → Solves s source sink value flows flows' set set' answer → KeptFrom (edgesOf s) flows flows' × KeptFrom (wordsFor (nodesOf s)) set set'
-  pub largest-extra : (s : List ℕ) (source sink : ℕ) (flows flows' : List ℤ) (set set' : List ℕ) (answer : LargestAnswer)
-      → FindsLargest s source sink flows flows' set set' answer → KeptFrom (edgesOf s) flows flows' × KeptFrom (wordsFor (nodesOf s)) set set'
-  pub range-extra : (s : List ℕ) (source sink : ℕ) (low low' : List ℤ) (below below' : List ℕ) (high high' : List ℤ) (above above' : List ℕ)
+  pub solve_extra : (s : List ℕ) (source sink : ℕ) (value : ℤ) (flows flows' : List ℤ) (set set' : List ℕ) (answer : SolveAnswer)
+      → Solves s source sink value flows flows' set set' answer → KeptFrom (edges_of s) flows flows' × KeptFrom (words_for (nodes_of s)) set set'
+  pub largest_extra : (s : List ℕ) (source sink : ℕ) (flows flows' : List ℤ) (set set' : List ℕ) (answer : LargestAnswer)
+      → FindsLargest s source sink flows flows' set set' answer → KeptFrom (edges_of s) flows flows' × KeptFrom (words_for (nodes_of s)) set set'
+  pub range_extra : (s : List ℕ) (source sink : ℕ) (low low' : List ℤ) (below below' : List ℕ) (high high' : List ℤ) (above above' : List ℕ)
       (answer : RangeAnswer) → FindsRange s source sink low low' below below' high high' above above' answer
-      → KeptFrom (edgesOf s) low low' × KeptFrom (wordsFor (nodesOf s)) below below'
-      × KeptFrom (edgesOf s) high high' × KeptFrom (wordsFor (nodesOf s)) above above'
-  pub raise-extra : (s : List ℕ) (source sink : ℕ) (value : ℤ) (edge : ℕ) (flows flows' : List ℤ) (set set' : List ℕ) (answer : RaiseAnswer)
-      → RaisesLimit s source sink value edge flows flows' set set' answer → KeptFrom (edgesOf s) flows flows' × KeptFrom (wordsFor (nodesOf s)) set set'
-  pub after-extra : (s b : List ℕ) (w n source sink : ℕ) (limits limits' flows flows' : List ℤ) (set set' : List ℕ) (answer : LargestAnswer)
+      → KeptFrom (edges_of s) low low' × KeptFrom (words_for (nodes_of s)) below below'
+      × KeptFrom (edges_of s) high high' × KeptFrom (words_for (nodes_of s)) above above'
+  pub raise_extra : (s : List ℕ) (source sink : ℕ) (value : ℤ) (edge : ℕ) (flows flows' : List ℤ) (set set' : List ℕ) (answer : RaiseAnswer)
+      → RaisesLimit s source sink value edge flows flows' set set' answer → KeptFrom (edges_of s) flows flows' × KeptFrom (words_for (nodes_of s)) set set'
+  pub after_extra : (s b : List ℕ) (w n source sink : ℕ) (limits limits' flows flows' : List ℤ) (set set' : List ℕ) (answer : LargestAnswer)
       → FindsAfter s b w n source sink limits limits' flows flows' set set' answer
-      → KeptFrom (edgesOf s) limits limits' × KeptFrom (edgesOf s) flows flows' × KeptFrom (wordsFor (nodesOf s)) set set'
-  pub page-extra : (s : List ℕ) (n : ℕ) (question : ℕ → Question) (flows flows' : List ℤ) (sets sets' : List ℕ) (page : Page)
+      → KeptFrom (edges_of s) limits limits' × KeptFrom (edges_of s) flows flows' × KeptFrom (words_for (nodes_of s)) set set'
+  pub page_extra : (s : List ℕ) (n : ℕ) (question : ℕ → Question) (flows flows' : List ℤ) (sets sets' : List ℕ) (page : Page)
       → AnswersPage s n question flows flows' sets sets' page
-      → KeptFrom (n * edgesOf s) flows flows' × KeptFrom (n * wordsFor (nodesOf s)) sets sets'
-  pub levels-extra : (s : List ℕ) (flows levels levels' : List ℤ) (answer : LevelAnswer)
-      → GivesLevels s flows levels levels' answer → KeptFrom (faces (sheetMap s)) levels levels'
-  pub settings-extra : (s : List ℕ) (levels flows flows' : List ℤ) (answer : LevelAnswer)
-      → GivesSettings s levels flows flows' answer → KeptFrom (edgesOf s) flows flows'
-  pub totals-extra : (s set : List ℕ) (out out' : List ℤ) (answer : TotalsAnswer)
-      → GivesTotals s set out out' answer → KeptFrom (count (nodesOf s) (member set)) out out'
-  pub dimacs-extra : (s : List ℕ) (source sink : ℕ) (out out' : List ℕ) (n : ℕ) → WritesDimacs s source sink out out' (dimacs.Bytes n) → KeptFrom n out out'
+      → KeptFrom (n * edges_of s) flows flows' × KeptFrom (n * words_for (nodes_of s)) sets sets'
+  pub levels_extra : (s : List ℕ) (flows levels levels' : List ℤ) (answer : LevelAnswer)
+      → GivesLevels s flows levels levels' answer → KeptFrom (faces (sheet_map s)) levels levels'
+  pub settings_extra : (s : List ℕ) (levels flows flows' : List ℤ) (answer : LevelAnswer)
+      → GivesSettings s levels flows flows' answer → KeptFrom (edges_of s) flows flows'
+  pub totals_extra : (s set : List ℕ) (out out' : List ℤ) (answer : TotalsAnswer)
+      → GivesTotals s set out out' answer → KeptFrom (count (nodes_of s) (member set)) out out'
+  pub dimacs_extra : (s : List ℕ) (source sink : ℕ) (out out' : List ℕ) (n : ℕ) → WritesDimacs s source sink out out' (dimacs.Bytes n) → KeptFrom n out out'
 
 -- what an answer does not give is not written
 pub record NotWritten : Type 0 where
   -- ""Can" writes the settings only; "cannot" writes the set only"
-  pub can-set : (s : List ℕ) (source sink : ℕ) (value : ℤ) (flows flows' : List ℤ) (set set' : List ℕ)
+  pub can_set : (s : List ℕ) (source sink : ℕ) (value : ℤ) (flows flows' : List ℤ) (set set' : List ℕ)
       → Solves s source sink value flows flows' set set' Can → set' ≡ set
-  pub cannot-settings : (s : List ℕ) (source sink : ℕ) (value : ℤ) (flows flows' : List ℤ) (set set' : List ℕ) (n : ℕ)
+  pub cannot_settings : (s : List ℕ) (source sink : ℕ) (value : ℤ) (flows flows' : List ℤ) (set set' : List ℕ) (n : ℕ)
       → Solves s source sink value flows flows' set set' (Cannot n) → flows' ≡ flows
   -- "none": "settings untouched", of Largest, of the least and the largest, and of a capture
-  pub none-settings : (s : List ℕ) (source sink : ℕ) (flows flows' : List ℤ) (set set' : List ℕ)
+  pub none_settings : (s : List ℕ) (source sink : ℕ) (flows flows' : List ℤ) (set set' : List ℕ)
       → FindsLargest s source sink flows flows' set set' largest.None → flows' ≡ flows
-  pub range-none-settings : (s : List ℕ) (source sink : ℕ) (low low' : List ℤ) (below below' : List ℕ) (high high' : List ℤ) (above above' : List ℕ)
+  pub range_none_settings : (s : List ℕ) (source sink : ℕ) (low low' : List ℤ) (below below' : List ℕ) (high high' : List ℤ) (above above' : List ℕ)
       → FindsRange s source sink low low' below below' high high' above above' range.None → (low' ≡ low) × (high' ≡ high)
-  pub after-none-settings : (s b : List ℕ) (w n source sink : ℕ) (limits limits' flows flows' : List ℤ) (set set' : List ℕ)
+  pub after_none_settings : (s b : List ℕ) (w n source sink : ℕ) (limits limits' flows flows' : List ℤ) (set set' : List ℕ)
       → FindsAfter s b w n source sink limits limits' flows flows' set set' largest.None → flows' ≡ flows
   -- document 02, Job 7: "the set slice untouched; or none, .. the settings slice untouched"
-  pub limit-set : (s : List ℕ) (source sink : ℕ) (value : ℤ) (edge : ℕ) (flows flows' : List ℤ) (set set' : List ℕ) (v : ℤ)
+  pub limit_set : (s : List ℕ) (source sink : ℕ) (value : ℤ) (edge : ℕ) (flows flows' : List ℤ) (set set' : List ℕ) (v : ℤ)
       → RaisesLimit s source sink value edge flows flows' set set' (raise.Limit v) → set' ≡ set
-  pub raise-none-settings : (s : List ℕ) (source sink : ℕ) (value : ℤ) (edge : ℕ) (flows flows' : List ℤ) (set set' : List ℕ)
+  pub raise_none_settings : (s : List ℕ) (source sink : ℕ) (value : ℤ) (edge : ℕ) (flows flows' : List ℤ) (set set' : List ℕ)
       → RaisesLimit s source sink value edge flows flows' set set' raise.None → flows' ≡ flows
 
 -- a refusal "leaves all lent memory unchanged"
 pub record RefusedUnchanged : Type 0 where
-  pub solve-refused : (s : List ℕ) (source sink : ℕ) (value : ℤ) (flows flows' : List ℤ) (set set' : List ℕ) (k p : ℕ)
+  pub solve_refused : (s : List ℕ) (source sink : ℕ) (value : ℤ) (flows flows' : List ℤ) (set set' : List ℕ) (k p : ℕ)
       → Solves s source sink value flows flows' set set' (Refused k p) → (flows' ≡ flows) × (set' ≡ set)
-  pub largest-refused : (s : List ℕ) (source sink : ℕ) (flows flows' : List ℤ) (set set' : List ℕ) (k p : ℕ)
+  pub largest_refused : (s : List ℕ) (source sink : ℕ) (flows flows' : List ℤ) (set set' : List ℕ) (k p : ℕ)
       → FindsLargest s source sink flows flows' set set' (largest.Refused k p) → (flows' ≡ flows) × (set' ≡ set)
-  pub range-refused : (s : List ℕ) (source sink : ℕ) (low low' : List ℤ) (below below' : List ℕ) (high high' : List ℤ) (above above' : List ℕ) (k p : ℕ)
+  pub range_refused : (s : List ℕ) (source sink : ℕ) (low low' : List ℤ) (below below' : List ℕ) (high high' : List ℤ) (above above' : List ℕ) (k p : ℕ)
       → FindsRange s source sink low low' below below' high high' above above' (range.Refused k p)
       → (low' ≡ low) × (below' ≡ below) × (high' ≡ high) × (above' ≡ above)
-  pub raise-refused : (s : List ℕ) (source sink : ℕ) (value : ℤ) (edge : ℕ) (flows flows' : List ℤ) (set set' : List ℕ) (k p : ℕ)
+  pub raise_refused : (s : List ℕ) (source sink : ℕ) (value : ℤ) (edge : ℕ) (flows flows' : List ℤ) (set set' : List ℕ) (k p : ℕ)
       → RaisesLimit s source sink value edge flows flows' set set' (raise.Refused k p) → (flows' ≡ flows) × (set' ≡ set)
-  pub after-refused : (s b : List ℕ) (w n source sink : ℕ) (limits limits' flows flows' : List ℤ) (set set' : List ℕ) (k p : ℕ)
+  pub after_refused : (s b : List ℕ) (w n source sink : ℕ) (limits limits' flows flows' : List ℤ) (set set' : List ℕ) (k p : ℕ)
       → FindsAfter s b w n source sink limits limits' flows flows' set set' (largest.Refused k p) → (limits' ≡ limits) × (flows' ≡ flows) × (set' ≡ set)
-  pub page-refused : (s : List ℕ) (n : ℕ) (question : ℕ → Question) (flows flows' : List ℤ) (sets sets' : List ℕ) (page : Page) (k p : ℕ)
+  pub page_refused : (s : List ℕ) (n : ℕ) (question : ℕ → Question) (flows flows' : List ℤ) (sets sets' : List ℕ) (page : Page) (k p : ℕ)
       → AnswersPage s n question flows flows' sets sets' page → page.verdict ≡ verdict.Refused k p → (flows' ≡ flows) × (sets' ≡ sets)
-  pub levels-refused : (s : List ℕ) (flows levels levels' : List ℤ) (k p : ℕ) → GivesLevels s flows levels levels' (level.Refused k p) → levels' ≡ levels
-  pub settings-refused : (s : List ℕ) (levels flows flows' : List ℤ) (k p : ℕ) → GivesSettings s levels flows flows' (level.Refused k p) → flows' ≡ flows
-  pub totals-refused : (s set : List ℕ) (out out' : List ℤ) (k p : ℕ) → GivesTotals s set out out' (totals.Refused k p) → out' ≡ out
-  pub dimacs-refused : (s : List ℕ) (source sink : ℕ) (out out' : List ℕ) (k p : ℕ)
+  pub levels_refused : (s : List ℕ) (flows levels levels' : List ℤ) (k p : ℕ) → GivesLevels s flows levels levels' (level.Refused k p) → levels' ≡ levels
+  pub settings_refused : (s : List ℕ) (levels flows flows' : List ℤ) (k p : ℕ) → GivesSettings s levels flows flows' (level.Refused k p) → flows' ≡ flows
+  pub totals_refused : (s set : List ℕ) (out out' : List ℤ) (k p : ℕ) → GivesTotals s set out out' (totals.Refused k p) → out' ≡ out
+  pub dimacs_refused : (s : List ℕ) (source sink : ℕ) (out out' : List ℕ) (k p : ℕ)
       → WritesDimacs s source sink out out' (dimacs.Refused k p) → out' ≡ out

@@ -20,13 +20,13 @@ use Rattle.flows.specs.Settings.{Within, Balanced, Carries}
 use Rattle.flows.specs.Highest.{Highest}
 use Rattle.flows.specs.ZeroFace.{LowestElsewhere, ZeroFace}
 use Rattle.flows.specs.Levels.{Levels}
-use Rattle.flows.specs.ProvingSet.{bound, Proves, wordsFor, member, size}
+use Rattle.flows.specs.ProvingSet.{bound, Proves, words_for, member, size}
 use Rattle.arrays.specs.At.{atℤ}
-use Rattle.records.specs.Record.{recordChecks}
+use Rattle.records.specs.Record.{record_checks}
 use Rattle.records.specs.Check.{Outside}
-use Rattle.records.specs.Sheet.{kind_of, nodesOf, edgesOf, capacityOf, outerOf, sheetMap, headChecks}
-use Rattle.sheets.specs.Open.{sheetChecks}
-use Rattle.questions.specs.Question.{endChecks, SetWritten}
+use Rattle.records.specs.Sheet.{kind_of, nodes_of, edges_of, capacity_of, outer_of, sheet_map, head_checks}
+use Rattle.sheets.specs.Open.{sheet_checks}
+use Rattle.questions.specs.Question.{end_checks, SetWritten}
 use Rattle.questions.specs.declared.SolveAnswer.{SolveAnswer}
 use Rattle.questions.specs.declared.SolveAnswer.TheVariants.{Can, Cannot, Refused}
 use Rattle.questions.specs.declared.LargestAnswer.{LargestAnswer}
@@ -41,34 +41,34 @@ use Rattle.totals.specs.declared.TotalsAnswer.TheVariants.{Total}
 use Rattle.raising.specs.Raised.{raised}
 use Rattle.raising.specs.declared.RaiseAnswer.{RaiseAnswer}
 use Rattle.raising.specs.declared.RaiseAnswer.TheVariants as raise
-use Rattle.capture.specs.Entry.{channelOf, limitOf}
-use Rattle.capture.specs.Window.{forwardOf, found}
+use Rattle.capture.specs.Entry.{channel_of, limit_of}
+use Rattle.capture.specs.Window.{forward_of, found}
 use Rattle.pages.specs.Stretch.{stretch}
-use Rattle.pages.specs.Page.{answerAt}
+use Rattle.pages.specs.Page.{answer_at}
 use Rattle.pages.specs.declared.Question.{Question}
 use Rattle.pages.specs.declared.Page.{Page}
 use Rattle.levels.specs.declared.LevelAnswer.{LevelAnswer}
 use Rattle.levels.specs.declared.LevelAnswer.TheVariants.{Done}
 use Rattle.dimacs.specs.Problem.{WellPosed, Greatest, NoneGreaterInParts}
-use Rattle.dimacs.specs.Reading.{problemOf}
-use Rattle.dimacs.specs.Drawn.{drawnProblem}
+use Rattle.dimacs.specs.Reading.{problem_of}
+use Rattle.dimacs.specs.Drawn.{drawn_problem}
 use Rattle.dimacs.specs.declared.DimacsAnswer.TheVariants.{Bytes}
-use Rattle.analyser.specs.Solve.{solveChecks, Solves}
-use Rattle.analyser.specs.Largest.{largestChecks, FindsLargest}
-use Rattle.analyser.specs.Range.{rangeChecks, FindsRange}
-use Rattle.analyser.specs.Raise.{raiseChecks, RaisesLimit}
-use Rattle.analyser.specs.After.{afterChecks, FindsAfter}
+use Rattle.analyser.specs.Solve.{solve_checks, Solves}
+use Rattle.analyser.specs.Largest.{largest_checks, FindsLargest}
+use Rattle.analyser.specs.Range.{range_checks, FindsRange}
+use Rattle.analyser.specs.Raise.{raise_checks, RaisesLimit}
+use Rattle.analyser.specs.After.{after_checks, FindsAfter}
 use Rattle.analyser.specs.Page.{AnswersPage}
 use Rattle.analyser.specs.Mark.{Marks}
 use Rattle.analyser.specs.LevelsOf.{GivesLevels}
 use Rattle.analyser.specs.SettingsOf.{GivesSettings}
-use Rattle.analyser.specs.Totals.{totalsChecks, GivesTotals}
+use Rattle.analyser.specs.Totals.{totals_checks, GivesTotals}
 use Rattle.analyser.specs.Dimacs.{WritesDimacs}
 
 -- ── the words of the sentences, of a sheet's drawing ──
 -- the settings x keep every limit, balance at every node but source and sink, and carry the delivery
 abbrev pub Delivers : List ℕ → (source sink : ℕ) → ℤ → (ℕ → ℤ) → Type 0
-Delivers s source sink value x = Carries (sheetMap s) (capacityOf s) source sink value x
+Delivers s source sink value x = Carries (sheet_map s) (capacity_of s) source sink value x
 
 -- some settings carry the delivery; none do
 abbrev pub Possible : List ℕ → (source sink : ℕ) → ℤ → Type 0
@@ -79,114 +79,114 @@ Impossible s source sink value = (x : ℕ → ℤ) → Delivers s source sink va
 
 -- the set of nodes S proves that the delivery is impossible
 abbrev pub ProvesOf : List ℕ → (source sink : ℕ) → ℤ → (ℕ → Bool) → Type 0
-ProvesOf s source sink value S = Proves (sheetMap s) (capacityOf s) source sink value S
+ProvesOf s source sink value S = Proves (sheet_map s) (capacity_of s) source sink value S
 
 -- the settings x balance at every node, within limits
 abbrev pub BalancedWithin : List ℕ → (ℕ → ℤ) → Type 0
-BalancedWithin s x = Balanced (sheetMap s) x × Within (sheetMap s) (capacityOf s) x
+BalancedWithin s x = Balanced (sheet_map s) x × Within (sheet_map s) (capacity_of s) x
 
 -- the settings x are the highest answer for the delivery
 abbrev pub HighestFor : List ℕ → (source sink : ℕ) → ℤ → (ℕ → ℤ) → Type 0
-HighestFor s source sink value x = Highest (sheetMap s) (outerOf s) (capacityOf s) source sink value x
+HighestFor s source sink value x = Highest (sheet_map s) (outer_of s) (capacity_of s) source sink value x
 
 -- ρ are the face levels of the settings x
 abbrev pub LevelsFor : List ℕ → (x ρ : ℕ → ℤ) → Type 0
-LevelsFor s x ρ = Levels (sheetMap s) (outerOf s) x ρ
+LevelsFor s x ρ = Levels (sheet_map s) (outer_of s) x ρ
 
 -- ── 2. "Settings handed out keep every limit, balance at every node but source and sink, and carry the delivery asked. Balanced settings within limits
 -- become face levels, levels become settings, there and back gives the same numbers." ──
 pub record SettingsAndLevels : Type 0 where
   -- "Settings handed out keep every limit, balance at every node but source and sink, and carry the delivery asked": those that Solve writes
-  pub can-carries : (s : List ℕ) (source sink : ℕ) (value : ℤ) (flows flows' : List ℤ) (set set' : List ℕ)
+  pub can_carries : (s : List ℕ) (source sink : ℕ) (value : ℤ) (flows flows' : List ℤ) (set set' : List ℕ)
       → Solves s source sink value flows flows' set set' Can → Delivers s source sink value (atℤ flows')
   -- those that Largest writes, with the delivery that it gives
-  pub largest-carries : (s : List ℕ) (source sink : ℕ) (v : ℤ) (flows flows' : List ℤ) (set set' : List ℕ)
+  pub largest_carries : (s : List ℕ) (source sink : ℕ) (v : ℤ) (flows flows' : List ℤ) (set set' : List ℕ)
       → FindsLargest s source sink flows flows' set set' (largest.Value v) → Delivers s source sink v (atℤ flows')
   -- those that Mark accepts: they carry the value that it gives
-  pub marked-carries : (s : List ℕ) (source sink : ℕ) (flows : List ℤ) (v : ℤ)
+  pub marked_carries : (s : List ℕ) (source sink : ℕ) (flows : List ℤ) (v : ℤ)
       → Marks s source sink flows (mark.Value v) → Delivers s source sink v (atℤ flows)
   -- and conversely: Mark accepts whatever carries a value, and gives that value, where sheet and ends are accepted and there is a setting for each edge
-  pub carries-marked : (s : List ℕ) (source sink : ℕ) (flows : List ℤ) (v : ℤ) (answer : MarkAnswer)
-      → NoneOf (sheetChecks s) → NoneOf (endChecks (nodesOf s) source sink) → edgesOf s ≤ length flows
+  pub carries_marked : (s : List ℕ) (source sink : ℕ) (flows : List ℤ) (v : ℤ) (answer : MarkAnswer)
+      → NoneOf (sheet_checks s) → NoneOf (end_checks (nodes_of s) source sink) → edges_of s ≤ length flows
       → Delivers s source sink v (atℤ flows) → Marks s source sink flows answer → answer ≡ mark.Value v
   -- "Balanced settings within limits become face levels": on an accepted sheet, with a setting for each edge and room for a level of each face
-  pub balanced-leveled : (s : List ℕ) (flows levels levels' : List ℤ) (answer : LevelAnswer)
-      → NoneOf (sheetChecks s) → edgesOf s ≤ length flows → faces (sheetMap s) ≤ length levels
+  pub balanced_leveled : (s : List ℕ) (flows levels levels' : List ℤ) (answer : LevelAnswer)
+      → NoneOf (sheet_checks s) → edges_of s ≤ length flows → faces (sheet_map s) ≤ length levels
       → BalancedWithin s (atℤ flows) → GivesLevels s flows levels levels' answer → (answer ≡ Done) × LevelsFor s (atℤ flows) (atℤ levels')
   -- "levels become settings": settings that balance within limits, and whose levels they are
-  pub leveled-balanced : (s : List ℕ) (levels flows flows' : List ℤ)
+  pub leveled_balanced : (s : List ℕ) (levels flows flows' : List ℤ)
       → GivesSettings s levels flows flows' Done → BalancedWithin s (atℤ flows') × LevelsFor s (atℤ flows') (atℤ levels)
   -- "there and back gives the same numbers": from settings, into any slice with room, which is not refused
-  pub settings-again : (s : List ℕ) (flows levels levels' : List ℤ) → GivesLevels s flows levels levels' Done
-      → (again again' : List ℤ) (answer : LevelAnswer) → edgesOf s ≤ length again → GivesSettings s levels' again again' answer
-      → (answer ≡ Done) × ((e : ℕ) → e < edgesOf s → atℤ again' e ≡ atℤ flows e)
+  pub settings_again : (s : List ℕ) (flows levels levels' : List ℤ) → GivesLevels s flows levels levels' Done
+      → (again again' : List ℤ) (answer : LevelAnswer) → edges_of s ≤ length again → GivesSettings s levels' again again' answer
+      → (answer ≡ Done) × ((e : ℕ) → e < edges_of s → atℤ again' e ≡ atℤ flows e)
   -- and from levels
-  pub levels-again : (s : List ℕ) (levels flows flows' : List ℤ) → GivesSettings s levels flows flows' Done
-      → (again again' : List ℤ) (answer : LevelAnswer) → faces (sheetMap s) ≤ length again → GivesLevels s flows' again again' answer
-      → (answer ≡ Done) × ((f : ℕ) → f < faces (sheetMap s) → atℤ again' f ≡ atℤ levels f)
+  pub levels_again : (s : List ℕ) (levels flows flows' : List ℤ) → GivesSettings s levels flows flows' Done
+      → (again again' : List ℤ) (answer : LevelAnswer) → faces (sheet_map s) ≤ length again → GivesLevels s flows' again again' answer
+      → (answer ≡ Done) × ((f : ℕ) → f < faces (sheet_map s) → atℤ again' f ≡ atℤ levels f)
   -- the levels of given settings are one
-  pub levels-unique : (s : List ℕ) → NoneOf (sheetChecks s) → (x ρ τ : ℕ → ℤ) → LevelsFor s x ρ → LevelsFor s x τ
-      → (f : ℕ) → f < faces (sheetMap s) → ρ f ≡ τ f
+  pub levels_unique : (s : List ℕ) → NoneOf (sheet_checks s) → (x ρ τ : ℕ → ℤ) → LevelsFor s x ρ → LevelsFor s x τ
+      → (f : ℕ) → f < faces (sheet_map s) → ρ f ≡ τ f
 
 -- ── Document 01, "The highest answer": "Of all right settings for a delivery, the unit gives the one from which every other differs by balanced settings
 -- whose levels are nowhere above zero." The settings given are it, and there is no other. ──
 pub record HighestAnswer : Type 0 where
   -- those that Solve writes
-  pub can-highest : (s : List ℕ) (source sink : ℕ) (value : ℤ) (flows flows' : List ℤ) (set set' : List ℕ)
+  pub can_highest : (s : List ℕ) (source sink : ℕ) (value : ℤ) (flows flows' : List ℤ) (set set' : List ℕ)
       → Solves s source sink value flows flows' set set' Can → HighestFor s source sink value (atℤ flows')
-  pub can-only : (s : List ℕ) (source sink : ℕ) (value : ℤ) (flows flows' : List ℤ) (set set' : List ℕ)
+  pub can_only : (s : List ℕ) (source sink : ℕ) (value : ℤ) (flows flows' : List ℤ) (set set' : List ℕ)
       → Solves s source sink value flows flows' set set' Can
-      → (y : ℕ → ℤ) → HighestFor s source sink value y → (e : ℕ) → e < edgesOf s → atℤ flows' e ≡ y e
+      → (y : ℕ → ℤ) → HighestFor s source sink value y → (e : ℕ) → e < edges_of s → atℤ flows' e ≡ y e
   -- those that Largest writes
-  pub largest-highest : (s : List ℕ) (source sink : ℕ) (v : ℤ) (flows flows' : List ℤ) (set set' : List ℕ)
+  pub largest_highest : (s : List ℕ) (source sink : ℕ) (v : ℤ) (flows flows' : List ℤ) (set set' : List ℕ)
       → FindsLargest s source sink flows flows' set set' (largest.Value v) → HighestFor s source sink v (atℤ flows')
-  pub largest-only : (s : List ℕ) (source sink : ℕ) (v : ℤ) (flows flows' : List ℤ) (set set' : List ℕ)
+  pub largest_only : (s : List ℕ) (source sink : ℕ) (v : ℤ) (flows flows' : List ℤ) (set set' : List ℕ)
       → FindsLargest s source sink flows flows' set set' (largest.Value v)
-      → (y : ℕ → ℤ) → HighestFor s source sink v y → (e : ℕ) → e < edgesOf s → atℤ flows' e ≡ y e
+      → (y : ℕ → ℤ) → HighestFor s source sink v y → (e : ℕ) → e < edges_of s → atℤ flows' e ≡ y e
 
 -- ── document 02, Job 6: "A kind 1 head is still read, as outer dart 0." The highest answer, both level operations and refusal 20 know the outer dart by the
 -- faces at level 0 alone: face 0 then, as document 01 has it, and in each part that dart 0 is not in the lowest face ──
 pub record OuterFace : Type 0 where
-  pub kind-one-outer : (s : List ℕ) → NoneOf (sheetChecks s) → kind_of s ≡ 1
-      → (f : ℕ) → ZeroFace (sheetMap s) (outerOf s) f ↔ ((f ≡ 0) ⊎ LowestElsewhere (sheetMap s) 0 f)
+  pub kind_one_outer : (s : List ℕ) → NoneOf (sheet_checks s) → kind_of s ≡ 1
+      → (f : ℕ) → ZeroFace (sheet_map s) (outer_of s) f ↔ ((f ≡ 0) ⊎ LowestElsewhere (sheet_map s) 0 f)
   -- such a head is judged as document 01 has it: "1 no first byte; 2 kind not 1; 1 body cut short; 3 a count out of range"
-  pub kind-one-judged : (s : List ℕ) → kind_of s ≡ 1
-      → (v : Verdict) → Judged (headChecks s) v ↔ Judged (recordChecks s 1 0 ++ ((3 when Outside 2 513 (nodesOf s) ⊎ Outside 1 512 (edgesOf s)) ∷ [])) v
+  pub kind_one_judged : (s : List ℕ) → kind_of s ≡ 1
+      → (v : Verdict) → Judged (head_checks s) v ↔ Judged (record_checks s 1 0 ++ ((3 when Outside 2 513 (nodes_of s) ⊎ Outside 1 512 (edges_of s)) ∷ [])) v
 
 -- ── document 02, Job 8: "Flat now means that nodes − channels + faces = 2 in each part. Each part has one face at level 0 .. Headgate and outfall may lie in
 -- different parts, and then only 0 can be delivered". Two nodes are in one part if a walk along channels joins them. ──
 pub record Districts : Type 0 where
   -- an accepted sheet is flat in each part, however its parts are numbered
-  pub flat-in-each : (s : List ℕ) → NoneOf (sheetChecks s) → (parts : ℕ) (part : ℕ → ℕ) → Components (sheetMap s) parts part
-      → FlatInEach (sheetMap s) parts part
+  pub flat_in_each : (s : List ℕ) → NoneOf (sheet_checks s) → (parts : ℕ) (part : ℕ → ℕ) → Components (sheet_map s) parts part
+      → FlatInEach (sheet_map s) parts part
   -- each part has a face at level 0, ..
-  pub has-zero-face : (s : List ℕ) → NoneOf (sheetChecks s) → (d : ℕ) → d < darts (sheetMap s)
-      → (e : ℕ) × (e < darts (sheetMap s)) × Walk (sheetMap s) ((sheetMap s).tail d) ((sheetMap s).tail e)
-      × ZeroFace (sheetMap s) (outerOf s) (left (sheetMap s) e)
+  pub has_zero_face : (s : List ℕ) → NoneOf (sheet_checks s) → (d : ℕ) → d < darts (sheet_map s)
+      → (e : ℕ) × (e < darts (sheet_map s)) × Walk (sheet_map s) ((sheet_map s).tail d) ((sheet_map s).tail e)
+      × ZeroFace (sheet_map s) (outer_of s) (left (sheet_map s) e)
   -- .. and no part has two
-  pub one-zero-face : (s : List ℕ) → NoneOf (sheetChecks s) → (d e : ℕ) → d < darts (sheetMap s) → e < darts (sheetMap s)
-      → Walk (sheetMap s) ((sheetMap s).tail d) ((sheetMap s).tail e)
-      → ZeroFace (sheetMap s) (outerOf s) (left (sheetMap s) d) → ZeroFace (sheetMap s) (outerOf s) (left (sheetMap s) e)
-      → left (sheetMap s) d ≡ left (sheetMap s) e
+  pub one_zero_face : (s : List ℕ) → NoneOf (sheet_checks s) → (d e : ℕ) → d < darts (sheet_map s) → e < darts (sheet_map s)
+      → Walk (sheet_map s) ((sheet_map s).tail d) ((sheet_map s).tail e)
+      → ZeroFace (sheet_map s) (outer_of s) (left (sheet_map s) d) → ZeroFace (sheet_map s) (outer_of s) (left (sheet_map s) e)
+      → left (sheet_map s) d ≡ left (sheet_map s) e
   -- "then only 0 can be delivered"
-  pub apart-zero : (s : List ℕ) (source sink : ℕ) (value : ℤ) (x : ℕ → ℤ) → NoneOf (sheetChecks s) → NoneOf (endChecks (nodesOf s) source sink)
-      → (Walk (sheetMap s) source sink → ⊥) → Delivers s source sink value x → value ≡ pos 0
+  pub apart_zero : (s : List ℕ) (source sink : ℕ) (value : ℤ) (x : ℕ → ℤ) → NoneOf (sheet_checks s) → NoneOf (end_checks (nodes_of s) source sink)
+      → (Walk (sheet_map s) source sink → ⊥) → Delivers s source sink value x → value ≡ pos 0
   -- .. and 0 exactly where the least flows allow settings that balance at every node
-  pub apart-exactly : (s : List ℕ) (source sink : ℕ) (value : ℤ) → NoneOf (sheetChecks s) → NoneOf (endChecks (nodesOf s) source sink)
-      → (Walk (sheetMap s) source sink → ⊥)
+  pub apart_exactly : (s : List ℕ) (source sink : ℕ) (value : ℤ) → NoneOf (sheet_checks s) → NoneOf (end_checks (nodes_of s) source sink)
+      → (Walk (sheet_map s) source sink → ⊥)
       → Possible s source sink value ↔ ((value ≡ pos 0) × ((x : ℕ → ℤ) × BalancedWithin s x))
   -- the headgate's part proves each delivery above 0 impossible, the outfall's part each below 0
-  pub headgate-part : (s : List ℕ) (source sink : ℕ) (value : ℤ) (S : ℕ → Bool) → NoneOf (sheetChecks s) → NoneOf (endChecks (nodesOf s) source sink)
-      → ((v : ℕ) → v < nodesOf s → (S v ≡ true) ↔ Walk (sheetMap s) source v) → (Walk (sheetMap s) source sink → ⊥)
+  pub headgate_part : (s : List ℕ) (source sink : ℕ) (value : ℤ) (S : ℕ → Bool) → NoneOf (sheet_checks s) → NoneOf (end_checks (nodes_of s) source sink)
+      → ((v : ℕ) → v < nodes_of s → (S v ≡ true) ↔ Walk (sheet_map s) source v) → (Walk (sheet_map s) source sink → ⊥)
       → pos 0 <ℤ value → ProvesOf s source sink value S
-  pub outfall-part : (s : List ℕ) (source sink : ℕ) (value : ℤ) (S : ℕ → Bool) → NoneOf (sheetChecks s) → NoneOf (endChecks (nodesOf s) source sink)
-      → ((v : ℕ) → v < nodesOf s → (S v ≡ true) ↔ Walk (sheetMap s) sink v) → (Walk (sheetMap s) source sink → ⊥)
+  pub outfall_part : (s : List ℕ) (source sink : ℕ) (value : ℤ) (S : ℕ → Bool) → NoneOf (sheet_checks s) → NoneOf (end_checks (nodes_of s) source sink)
+      → ((v : ℕ) → v < nodes_of s → (S v ≡ true) ↔ Walk (sheet_map s) sink v) → (Walk (sheet_map s) source sink → ⊥)
       → value <ℤ pos 0 → ProvesOf s source sink value S
   -- the largest delivery is 0 then, where there is one; and so is the least
-  pub apart-largest : (s : List ℕ) (source sink : ℕ) (v : ℤ) (flows flows' : List ℤ) (set set' : List ℕ) → (Walk (sheetMap s) source sink → ⊥)
+  pub apart_largest : (s : List ℕ) (source sink : ℕ) (v : ℤ) (flows flows' : List ℤ) (set set' : List ℕ) → (Walk (sheet_map s) source sink → ⊥)
       → FindsLargest s source sink flows flows' set set' (largest.Value v) → v ≡ pos 0
-  pub apart-range : (s : List ℕ) (source sink : ℕ) (low low' : List ℤ) (below below' : List ℕ) (high high' : List ℤ) (above above' : List ℕ) (v w : ℤ)
-      → (Walk (sheetMap s) source sink → ⊥) → FindsRange s source sink low low' below below' high high' above above' (range.Values v w)
+  pub apart_range : (s : List ℕ) (source sink : ℕ) (low low' : List ℤ) (below below' : List ℕ) (high high' : List ℤ) (above above' : List ℕ) (v w : ℤ)
+      → (Walk (sheet_map s) source sink → ⊥) → FindsRange s source sink low low' below below' high high' above above' (range.Values v w)
       → (v ≡ pos 0) × (w ≡ pos 0)
 
 -- ── 3. "For every accepted flat drawing and question: "cannot" exactly when no whole-number settings carry the delivery, with a set of nodes
@@ -194,88 +194,88 @@ pub record Districts : Type 0 where
 -- when nothing at all can be delivered, with a set that proves it." ──
 pub record PossibleAndImpossible : Type 0 where
   -- ""cannot" exactly when no whole-number settings carry the delivery"
-  pub cannot-exactly : (s : List ℕ) (source sink : ℕ) (value : ℤ) (flows flows' : List ℤ) (set set' : List ℕ) (answer : SolveAnswer)
-      → NoneOf (solveChecks s source sink value flows set) → Solves s source sink value flows flows' set set' answer
+  pub cannot_exactly : (s : List ℕ) (source sink : ℕ) (value : ℤ) (flows flows' : List ℤ) (set set' : List ℕ) (answer : SolveAnswer)
+      → NoneOf (solve_checks s source sink value flows set) → Solves s source sink value flows flows' set set' answer
       → ((n : ℕ) × (answer ≡ Cannot n)) ↔ Impossible s source sink value
   -- "can" exactly when some do
-  pub can-exactly : (s : List ℕ) (source sink : ℕ) (value : ℤ) (flows flows' : List ℤ) (set set' : List ℕ) (answer : SolveAnswer)
-      → NoneOf (solveChecks s source sink value flows set) → Solves s source sink value flows flows' set set' answer
+  pub can_exactly : (s : List ℕ) (source sink : ℕ) (value : ℤ) (flows flows' : List ℤ) (set set' : List ℕ) (answer : SolveAnswer)
+      → NoneOf (solve_checks s source sink value flows set) → Solves s source sink value flows flows' set set' answer
       → (answer ≡ Can) ↔ Possible s source sink value
   -- "with a set of nodes that proves it": in front of the slice, and the number given is its size
-  pub cannot-proves : (s : List ℕ) (source sink : ℕ) (value : ℤ) (flows flows' : List ℤ) (set set' : List ℕ) (n : ℕ)
+  pub cannot_proves : (s : List ℕ) (source sink : ℕ) (value : ℤ) (flows flows' : List ℤ) (set set' : List ℕ) (n : ℕ)
       → Solves s source sink value flows flows' set set' (Cannot n)
-      → (words : List ℕ) × SetWritten (nodesOf s) words set set' × ProvesOf s source sink value (member words) × (n ≡ size words)
+      → (words : List ℕ) × SetWritten (nodes_of s) words set set' × ProvesOf s source sink value (member words) × (n ≡ size words)
   -- what proving is worth: any set of nodes that proves a delivery impossible leaves no settings that carry it, on an accepted sheet with accepted ends
-  pub set-excludes : (s : List ℕ) (source sink : ℕ) (value : ℤ) (S : ℕ → Bool)
-      → NoneOf (sheetChecks s) → NoneOf (endChecks (nodesOf s) source sink) → ProvesOf s source sink value S → Impossible s source sink value
+  pub set_excludes : (s : List ℕ) (source sink : ℕ) (value : ℤ) (S : ℕ → Bool)
+      → NoneOf (sheet_checks s) → NoneOf (end_checks (nodes_of s) source sink) → ProvesOf s source sink value S → Impossible s source sink value
   -- "the largest delivery is carried by the settings given"
-  pub largest-carries : (s : List ℕ) (source sink : ℕ) (v : ℤ) (flows flows' : List ℤ) (set set' : List ℕ)
+  pub largest_carries : (s : List ℕ) (source sink : ℕ) (v : ℤ) (flows flows' : List ℤ) (set set' : List ℕ)
       → FindsLargest s source sink flows flows' set set' (largest.Value v) → Delivers s source sink v (atℤ flows')
   -- "nothing greater can be"
-  pub nothing-greater : (s : List ℕ) (source sink : ℕ) (v : ℤ) (flows flows' : List ℤ) (set set' : List ℕ)
+  pub nothing_greater : (s : List ℕ) (source sink : ℕ) (v : ℤ) (flows flows' : List ℤ) (set set' : List ℕ)
       → FindsLargest s source sink flows flows' set set' (largest.Value v) → (w : ℤ) → Possible s source sink w → w ≤ℤ v
   -- "and its set proves the next one impossible"
-  pub next-impossible : (s : List ℕ) (source sink : ℕ) (v : ℤ) (flows flows' : List ℤ) (set set' : List ℕ)
+  pub next_impossible : (s : List ℕ) (source sink : ℕ) (v : ℤ) (flows flows' : List ℤ) (set set' : List ℕ)
       → FindsLargest s source sink flows flows' set set' (largest.Value v)
-      → (words : List ℕ) × SetWritten (nodesOf s) words set set' × ProvesOf s source sink (v +ℤ pos 1) (member words)
+      → (words : List ℕ) × SetWritten (nodes_of s) words set set' × ProvesOf s source sink (v +ℤ pos 1) (member words)
   -- ""none" exactly when nothing at all can be delivered"
-  pub none-exactly : (s : List ℕ) (source sink : ℕ) (flows flows' : List ℤ) (set set' : List ℕ) (answer : LargestAnswer)
-      → NoneOf (largestChecks s source sink flows set) → FindsLargest s source sink flows flows' set set' answer
+  pub none_exactly : (s : List ℕ) (source sink : ℕ) (flows flows' : List ℤ) (set set' : List ℕ) (answer : LargestAnswer)
+      → NoneOf (largest_checks s source sink flows set) → FindsLargest s source sink flows flows' set set' answer
       → (answer ≡ largest.None) ↔ ((value : ℤ) → Impossible s source sink value)
   -- "with a set that proves it": one set, for every delivery
-  pub none-proves : (s : List ℕ) (source sink : ℕ) (flows flows' : List ℤ) (set set' : List ℕ)
+  pub none_proves : (s : List ℕ) (source sink : ℕ) (flows flows' : List ℤ) (set set' : List ℕ)
       → FindsLargest s source sink flows flows' set set' largest.None
-      → (words : List ℕ) × SetWritten (nodesOf s) words set set' × ((value : ℤ) → ProvesOf s source sink value (member words))
+      → (words : List ℕ) × SetWritten (nodes_of s) words set set' × ((value : ℤ) → ProvesOf s source sink value (member words))
 
 -- ── Document 02, Job 4: "Report the least deliverable value beside the largest, with its highest settings and a set proving the next lower one impossible ..
 -- Show as well that each whole number between the two can be delivered, and none outside. Where Largest says none, this does too, with one set of that kind in
 -- both set slices". Of every run of `least_and_largest`, known by its contract `FindsRange` alone. ──
 pub record LeastAndLargest : Type 0 where
   -- the settings given carry the least delivery
-  pub least-carries : (s : List ℕ) (source sink : ℕ) (low low' : List ℤ) (below below' : List ℕ) (high high' : List ℤ) (above above' : List ℕ) (v w : ℤ)
+  pub least_carries : (s : List ℕ) (source sink : ℕ) (low low' : List ℤ) (below below' : List ℕ) (high high' : List ℤ) (above above' : List ℕ) (v w : ℤ)
       → FindsRange s source sink low low' below below' high high' above above' (range.Values v w) → Delivers s source sink v (atℤ low')
   -- and the largest
-  pub largest-carries : (s : List ℕ) (source sink : ℕ) (low low' : List ℤ) (below below' : List ℕ) (high high' : List ℤ) (above above' : List ℕ) (v w : ℤ)
+  pub largest_carries : (s : List ℕ) (source sink : ℕ) (low low' : List ℤ) (below below' : List ℕ) (high high' : List ℤ) (above above' : List ℕ) (v w : ℤ)
       → FindsRange s source sink low low' below below' high high' above above' (range.Values v w) → Delivers s source sink w (atℤ high')
   -- "with its highest settings": both settings are the highest
-  pub least-highest : (s : List ℕ) (source sink : ℕ) (low low' : List ℤ) (below below' : List ℕ) (high high' : List ℤ) (above above' : List ℕ) (v w : ℤ)
+  pub least_highest : (s : List ℕ) (source sink : ℕ) (low low' : List ℤ) (below below' : List ℕ) (high high' : List ℤ) (above above' : List ℕ) (v w : ℤ)
       → FindsRange s source sink low low' below below' high high' above above' (range.Values v w) → HighestFor s source sink v (atℤ low')
-  pub largest-highest : (s : List ℕ) (source sink : ℕ) (low low' : List ℤ) (below below' : List ℕ) (high high' : List ℤ) (above above' : List ℕ) (v w : ℤ)
+  pub largest_highest : (s : List ℕ) (source sink : ℕ) (low low' : List ℤ) (below below' : List ℕ) (high high' : List ℤ) (above above' : List ℕ) (v w : ℤ)
       → FindsRange s source sink low low' below below' high high' above above' (range.Values v w) → HighestFor s source sink w (atℤ high')
   -- "a set proving the next lower one impossible"
-  pub next-lower-impossible : (s : List ℕ) (source sink : ℕ) (low low' : List ℤ) (below below' : List ℕ) (high high' : List ℤ) (above above' : List ℕ) (v w : ℤ)
+  pub next_lower_impossible : (s : List ℕ) (source sink : ℕ) (low low' : List ℤ) (below below' : List ℕ) (high high' : List ℤ) (above above' : List ℕ) (v w : ℤ)
       → FindsRange s source sink low low' below below' high high' above above' (range.Values v w)
-      → (words : List ℕ) × SetWritten (nodesOf s) words below below' × ProvesOf s source sink (v -ℤ pos 1) (member words)
+      → (words : List ℕ) × SetWritten (nodes_of s) words below below' × ProvesOf s source sink (v -ℤ pos 1) (member words)
   -- and one proving the next greater
-  pub next-greater-impossible : (s : List ℕ) (source sink : ℕ) (low low' : List ℤ)
+  pub next_greater_impossible : (s : List ℕ) (source sink : ℕ) (low low' : List ℤ)
       (below below' : List ℕ) (high high' : List ℤ) (above above' : List ℕ) (v w : ℤ)
       → FindsRange s source sink low low' below below' high high' above above' (range.Values v w)
-      → (words : List ℕ) × SetWritten (nodesOf s) words above above' × ProvesOf s source sink (w +ℤ pos 1) (member words)
+      → (words : List ℕ) × SetWritten (nodes_of s) words above above' × ProvesOf s source sink (w +ℤ pos 1) (member words)
   -- "each whole number between the two can be delivered, and none outside": a delivery is possible exactly when it lies between them
-  pub between-exactly : (s : List ℕ) (source sink : ℕ) (low low' : List ℤ) (below below' : List ℕ) (high high' : List ℤ) (above above' : List ℕ) (v w : ℤ)
+  pub between_exactly : (s : List ℕ) (source sink : ℕ) (low low' : List ℤ) (below below' : List ℕ) (high high' : List ℤ) (above above' : List ℕ) (v w : ℤ)
       → FindsRange s source sink low low' below below' high high' above above' (range.Values v w)
       → (value : ℤ) → Possible s source sink value ↔ ((v ≤ℤ value) × (value ≤ℤ w))
   -- none exactly when nothing at all can be delivered
-  pub none-exactly : (s : List ℕ) (source sink : ℕ) (low low' : List ℤ) (below below' : List ℕ)
+  pub none_exactly : (s : List ℕ) (source sink : ℕ) (low low' : List ℤ) (below below' : List ℕ)
       (high high' : List ℤ) (above above' : List ℕ) (answer : RangeAnswer)
-      → NoneOf (rangeChecks s source sink low below high above) → FindsRange s source sink low low' below below' high high' above above' answer
+      → NoneOf (range_checks s source sink low below high above) → FindsRange s source sink low low' below below' high high' above above' answer
       → (answer ≡ range.None) ↔ ((value : ℤ) → Impossible s source sink value)
   -- "with one set of that kind in both set slices": the same words, and they prove each delivery impossible
-  pub none-proves : (s : List ℕ) (source sink : ℕ) (low low' : List ℤ) (below below' : List ℕ) (high high' : List ℤ) (above above' : List ℕ)
+  pub none_proves : (s : List ℕ) (source sink : ℕ) (low low' : List ℤ) (below below' : List ℕ) (high high' : List ℤ) (above above' : List ℕ)
       → FindsRange s source sink low low' below below' high high' above above' range.None
-      → (words : List ℕ) × SetWritten (nodesOf s) words below below' × SetWritten (nodesOf s) words above above'
+      → (words : List ℕ) × SetWritten (nodes_of s) words below below' × SetWritten (nodes_of s) words above above'
       × ((value : ℤ) → ProvesOf s source sink value (member words))
   -- the largest here is Largest's, whatever slices it was lent
-  pub same-largest : (s : List ℕ) (source sink : ℕ) (low low' : List ℤ) (below below' : List ℕ) (high high' : List ℤ) (above above' : List ℕ) (v w : ℤ)
+  pub same_largest : (s : List ℕ) (source sink : ℕ) (low low' : List ℤ) (below below' : List ℕ) (high high' : List ℤ) (above above' : List ℕ) (v w : ℤ)
       → FindsRange s source sink low low' below below' high high' above above' (range.Values v w)
       → (flows flows' : List ℤ) (set set' : List ℕ) (answer : LargestAnswer)
-      → NoneOf (largestChecks s source sink flows set) → FindsLargest s source sink flows flows' set set' answer → answer ≡ largest.Value w
+      → NoneOf (largest_checks s source sink flows set) → FindsLargest s source sink flows flows' set set' answer → answer ≡ largest.Value w
   -- "Where Largest says none, this does too", and only there
   pub same_none : (s : List ℕ) (source sink : ℕ) (low low' : List ℤ) (below below' : List ℕ)
       (high high' : List ℤ) (above above' : List ℕ) (answer : RangeAnswer)
-      → NoneOf (rangeChecks s source sink low below high above) → FindsRange s source sink low low' below below' high high' above above' answer
+      → NoneOf (range_checks s source sink low below high above) → FindsRange s source sink low low' below below' high high' above above' answer
       → (flows flows' : List ℤ) (set set' : List ℕ) (other : LargestAnswer)
-      → NoneOf (largestChecks s source sink flows set) → FindsLargest s source sink flows flows' set set' other
+      → NoneOf (largest_checks s source sink flows set) → FindsLargest s source sink flows flows' set set' other
       → (other ≡ largest.None) ↔ (answer ≡ range.None)
 
 -- ── Document 02, Job 9: "Fill a slice with the subtotal of each node of a given set in rising order, one element for each node in the set, and give the total.
@@ -283,74 +283,74 @@ pub record LeastAndLargest : Type 0 where
 -- `totals`, known by its contract `GivesTotals` alone. ──
 pub record TotalsByNode : Type 0 where
   -- document 01's sum, "of limits of darts with tail in it and head outside it"
-  pub totals-cut : (s set : List ℕ) (out out' : List ℤ) (t : ℤ) → GivesTotals s set out out' (Total t) → t ≡ cut (sheetMap s) (capacityOf s) (member set)
+  pub totals_cut : (s set : List ℕ) (out out' : List ℤ) (t : ℤ) → GivesTotals s set out out' (Total t) → t ≡ cut (sheet_map s) (capacity_of s) (member set)
   -- "taken channel by channel": each with what its two darts add
-  pub totals-by-channel : (s set : List ℕ) (out out' : List ℤ) (t : ℤ) → GivesTotals s set out out' (Total t)
-      → t ≡ sumℤ (edgesOf s) (λ e. sum.when (leaves (sheetMap s) (member set) (2 * e)) (capacityOf s (2 * e))
-      +ℤ sum.when (leaves (sheetMap s) (member set) (2 * e + 1)) (capacityOf s (2 * e + 1)))
+  pub totals_by_channel : (s set : List ℕ) (out out' : List ℤ) (t : ℤ) → GivesTotals s set out out' (Total t)
+      → t ≡ sumℤ (edges_of s) (λ e. sum.when (leaves (sheet_map s) (member set) (2 * e)) (capacity_of s (2 * e))
+      +ℤ sum.when (leaves (sheet_map s) (member set) (2 * e + 1)) (capacity_of s (2 * e + 1)))
   -- "for every set of nodes": of any set S that the words agree with on the nodes
-  pub totals-any-set : (s set : List ℕ) (out out' : List ℤ) (t : ℤ) (S : ℕ → Bool) → ((v : ℕ) → v < nodesOf s → member set v ≡ S v)
-      → GivesTotals s set out out' (Total t) → t ≡ cut (sheetMap s) (capacityOf s) S
+  pub totals_any_set : (s set : List ℕ) (out out' : List ℤ) (t : ℤ) (S : ℕ → Bool) → ((v : ℕ) → v < nodes_of s → member set v ≡ S v)
+      → GivesTotals s set out out' (Total t) → t ≡ cut (sheet_map s) (capacity_of s) S
   -- "proving or not": the total tells whether the set proves a delivery impossible
-  pub totals-prove : (s set : List ℕ) (out out' : List ℤ) (t : ℤ) (source sink : ℕ) (value : ℤ) → GivesTotals s set out out' (Total t)
+  pub totals_prove : (s set : List ℕ) (out out' : List ℤ) (t : ℤ) (source sink : ℕ) (value : ℤ) → GivesTotals s set out out' (Total t)
       → (t <ℤ bound (member set) source sink value) ↔ ProvesOf s source sink value (member set)
   -- there is an answer wherever no check refuses
-  pub totals-given : (s set : List ℕ) (out out' : List ℤ) (answer : TotalsAnswer)
-      → NoneOf (totalsChecks s set out) → GivesTotals s set out out' answer → answer ≡ Total (cut (sheetMap s) (capacityOf s) (member set))
+  pub totals_given : (s set : List ℕ) (out out' : List ℤ) (answer : TotalsAnswer)
+      → NoneOf (totals_checks s set out) → GivesTotals s set out out' answer → answer ≡ Total (cut (sheet_map s) (capacity_of s) (member set))
   -- "in rising order, one element for each node in the set": a node's subtotal stands behind those of the nodes below it that are in the set
-  pub subtotal-placed : (s set : List ℕ) (out out' : List ℤ) (t : ℤ) → GivesTotals s set out out' (Total t)
-      → (v : ℕ) → v < nodesOf s → member set v ≡ true
-      → atℤ out' (count v (member set)) ≡ subtotal (sheetMap s) (capacityOf s) (member set) v
+  pub subtotal_placed : (s set : List ℕ) (out out' : List ℤ) (t : ℤ) → GivesTotals s set out out' (Total t)
+      → (v : ℕ) → v < nodes_of s → member set v ≡ true
+      → atℤ out' (count v (member set)) ≡ subtotal (sheet_map s) (capacity_of s) (member set) v
   -- "Set bits past the last node are passed over": words that agree on the nodes give the same total and leave the same slice
-  pub past-last-node : (s set other : List ℕ) (out out' out'' : List ℤ) (t u : ℤ) → ((v : ℕ) → v < nodesOf s → member set v ≡ member other v)
+  pub past_last_node : (s set other : List ℕ) (out out' out'' : List ℤ) (t u : ℤ) → ((v : ℕ) → v < nodes_of s → member set v ≡ member other v)
       → GivesTotals s set out out' (Total t) → GivesTotals s other out out'' (Total u) → (t ≡ u) × (out' ≡ out'')
   -- a set with no node: the total is 0, and nothing is written
-  pub empty-set : (s set : List ℕ) (out out' : List ℤ) (t : ℤ) → ((v : ℕ) → v < nodesOf s → member set v ≡ false)
+  pub empty_set : (s set : List ℕ) (out out' : List ℤ) (t : ℤ) → ((v : ℕ) → v < nodes_of s → member set v ≡ false)
       → GivesTotals s set out out' (Total t) → (t ≡ pos 0) × (out' ≡ out)
 
 -- ── Document 02, Job 7: "Give the smallest forward limit, from its present one to 1,000,000, with which the delivery has settings, and the highest settings
 -- under it .. or none, when even 1,000,000 fails, with a set proving it for that limit". Of every run of `raise_limit`, known by its contract `RaisesLimit`. ──
 -- the settings x keep every limit with this forward limit of the edge, balance at every node but source and sink, and carry the delivery
 abbrev pub DeliversWith : List ℕ → (source sink : ℕ) → ℤ → (edge : ℕ) → (limit : ℤ) → (ℕ → ℤ) → Type 0
-DeliversWith s source sink value edge limit x = Carries (sheetMap s) (raised (capacityOf s) edge limit) source sink value x
+DeliversWith s source sink value edge limit x = Carries (sheet_map s) (raised (capacity_of s) edge limit) source sink value x
 
 abbrev pub PossibleWith : List ℕ → (source sink : ℕ) → ℤ → (edge : ℕ) → (limit : ℤ) → Type 0
 PossibleWith s source sink value edge limit = (x : ℕ → ℤ) × DeliversWith s source sink value edge limit x
 
 pub record RaisedLimit : Type 0 where
   -- a greater limit admits at least as much: the settings that carry a delivery carry it still
-  pub greater-admits : (s : List ℕ) (source sink : ℕ) (value : ℤ) (edge : ℕ) (v w : ℤ) (x : ℕ → ℤ)
+  pub greater_admits : (s : List ℕ) (source sink : ℕ) (value : ℤ) (edge : ℕ) (v w : ℤ) (x : ℕ → ℤ)
       → v ≤ℤ w → DeliversWith s source sink value edge v x → DeliversWith s source sink value edge w x
   -- with the present limit nothing is changed
-  pub present-same : (s : List ℕ) (source sink : ℕ) (value : ℤ) (edge : ℕ) (x : ℕ → ℤ)
-      → DeliversWith s source sink value edge (capacityOf s (2 * edge)) x ↔ Delivers s source sink value x
+  pub present_same : (s : List ℕ) (source sink : ℕ) (value : ℤ) (edge : ℕ) (x : ℕ → ℤ)
+      → DeliversWith s source sink value edge (capacity_of s (2 * edge)) x ↔ Delivers s source sink value x
   -- "from its present one to 1,000,000"
-  pub limit-in-range : (s : List ℕ) (source sink : ℕ) (value : ℤ) (edge : ℕ) (flows flows' : List ℤ) (set set' : List ℕ) (v : ℤ)
-      → RaisesLimit s source sink value edge flows flows' set set' (raise.Limit v) → (capacityOf s (2 * edge) ≤ℤ v) × (v ≤ℤ pos 1000000)
+  pub limit_in_range : (s : List ℕ) (source sink : ℕ) (value : ℤ) (edge : ℕ) (flows flows' : List ℤ) (set set' : List ℕ) (v : ℤ)
+      → RaisesLimit s source sink value edge flows flows' set set' (raise.Limit v) → (capacity_of s (2 * edge) ≤ℤ v) × (v ≤ℤ pos 1000000)
   -- "with which the delivery has settings": those given carry it, ..
-  pub limit-carries : (s : List ℕ) (source sink : ℕ) (value : ℤ) (edge : ℕ) (flows flows' : List ℤ) (set set' : List ℕ) (v : ℤ)
+  pub limit_carries : (s : List ℕ) (source sink : ℕ) (value : ℤ) (edge : ℕ) (flows flows' : List ℤ) (set set' : List ℕ) (v : ℤ)
       → RaisesLimit s source sink value edge flows flows' set set' (raise.Limit v) → DeliversWith s source sink value edge v (atℤ flows')
   -- .. and are "the highest settings under it"
-  pub limit-highest : (s : List ℕ) (source sink : ℕ) (value : ℤ) (edge : ℕ) (flows flows' : List ℤ) (set set' : List ℕ) (v : ℤ)
+  pub limit_highest : (s : List ℕ) (source sink : ℕ) (value : ℤ) (edge : ℕ) (flows flows' : List ℤ) (set set' : List ℕ) (v : ℤ)
       → RaisesLimit s source sink value edge flows flows' set set' (raise.Limit v)
-      → Highest (sheetMap s) (outerOf s) (raised (capacityOf s) edge v) source sink value (atℤ flows')
+      → Highest (sheet_map s) (outer_of s) (raised (capacity_of s) edge v) source sink value (atℤ flows')
   -- "the smallest": with a limit from the present one on the delivery is possible exactly when the limit is at least the one given
-  pub limit-exactly : (s : List ℕ) (source sink : ℕ) (value : ℤ) (edge : ℕ) (flows flows' : List ℤ) (set set' : List ℕ) (v : ℤ)
+  pub limit_exactly : (s : List ℕ) (source sink : ℕ) (value : ℤ) (edge : ℕ) (flows flows' : List ℤ) (set set' : List ℕ) (v : ℤ)
       → RaisesLimit s source sink value edge flows flows' set set' (raise.Limit v)
-      → (w : ℤ) → capacityOf s (2 * edge) ≤ℤ w → PossibleWith s source sink value edge w ↔ (v ≤ℤ w)
+      → (w : ℤ) → capacity_of s (2 * edge) ≤ℤ w → PossibleWith s source sink value edge w ↔ (v ≤ℤ w)
   -- the present limit is the answer exactly when the delivery is possible as the sheet is
-  pub present-exactly : (s : List ℕ) (source sink : ℕ) (value : ℤ) (edge : ℕ) (flows flows' : List ℤ) (set set' : List ℕ) (answer : RaiseAnswer)
-      → NoneOf (raiseChecks s source sink value edge flows set) → RaisesLimit s source sink value edge flows flows' set set' answer
-      → (answer ≡ raise.Limit (capacityOf s (2 * edge))) ↔ Possible s source sink value
+  pub present_exactly : (s : List ℕ) (source sink : ℕ) (value : ℤ) (edge : ℕ) (flows flows' : List ℤ) (set set' : List ℕ) (answer : RaiseAnswer)
+      → NoneOf (raise_checks s source sink value edge flows set) → RaisesLimit s source sink value edge flows flows' set set' answer
+      → (answer ≡ raise.Limit (capacity_of s (2 * edge))) ↔ Possible s source sink value
   -- "none, when even 1,000,000 fails", and only then
-  pub none-exactly : (s : List ℕ) (source sink : ℕ) (value : ℤ) (edge : ℕ) (flows flows' : List ℤ) (set set' : List ℕ) (answer : RaiseAnswer)
-      → NoneOf (raiseChecks s source sink value edge flows set) → RaisesLimit s source sink value edge flows flows' set set' answer
+  pub none_exactly : (s : List ℕ) (source sink : ℕ) (value : ℤ) (edge : ℕ) (flows flows' : List ℤ) (set set' : List ℕ) (answer : RaiseAnswer)
+      → NoneOf (raise_checks s source sink value edge flows set) → RaisesLimit s source sink value edge flows flows' set set' answer
       → (answer ≡ raise.None) ↔ (PossibleWith s source sink value edge (pos 1000000) → ⊥)
   -- "with a set proving it for that limit"
-  pub none-proves : (s : List ℕ) (source sink : ℕ) (value : ℤ) (edge : ℕ) (flows flows' : List ℤ) (set set' : List ℕ)
+  pub none_proves : (s : List ℕ) (source sink : ℕ) (value : ℤ) (edge : ℕ) (flows flows' : List ℤ) (set set' : List ℕ)
       → RaisesLimit s source sink value edge flows flows' set set' raise.None
-      → (words : List ℕ) × SetWritten (nodesOf s) words set set'
-      × Proves (sheetMap s) (raised (capacityOf s) edge (pos 1000000)) source sink value (member words)
+      → (words : List ℕ) × SetWritten (nodes_of s) words set set'
+      × Proves (sheet_map s) (raised (capacity_of s) edge (pos 1000000)) source sink value (member words)
 
 -- ── Document 02, Job 10: "After each record, a channel seen in the last W records has the least forward limit among them; an unseen one has the sheet's. ..
 -- Give these forward limits after a named record, one per channel in a slice of their own .., and Largest on them; the limits are written where Largest is none
@@ -362,7 +362,7 @@ InWindow w n i = (i ≤ n) × (n < i + w)
 
 -- the settings x carry the delivery within the limits found: the forward ones of the capture, the sheet's back limits
 abbrev pub DeliversAfter : List ℕ → List ℕ → (w n source sink : ℕ) → ℤ → (ℕ → ℤ) → Type 0
-DeliversAfter s b w n source sink value x = Carries (sheetMap s) (found (capacityOf s) b w n) source sink value x
+DeliversAfter s b w n source sink value x = Carries (sheet_map s) (found (capacity_of s) b w n) source sink value x
 
 abbrev pub PossibleAfter : List ℕ → List ℕ → (w n source sink : ℕ) → ℤ → Type 0
 PossibleAfter s b w n source sink value = (x : ℕ → ℤ) × DeliversAfter s b w n source sink value x
@@ -370,73 +370,73 @@ PossibleAfter s b w n source sink value = (x : ℕ → ℤ) × DeliversAfter s b
 pub record LimitsOfCapture : Type 0 where
   -- "a channel seen in the last W records has the least forward limit among them": that of some record of the channel in the window, and none there has less;
   -- "an unseen one has the sheet's"
-  pub window-least : (s b : List ℕ) (w n e : ℕ)
-      → ((i : ℕ) × InWindow w n i × (channelOf b i ≡ e) × (forwardOf (capacityOf s) b w n e ≡ limitOf b i)
-      × ((j : ℕ) → InWindow w n j → channelOf b j ≡ e → forwardOf (capacityOf s) b w n e ≤ℤ limitOf b j))
-      ⊎ (((i : ℕ) → InWindow w n i → channelOf b i ≡ e → ⊥) × (forwardOf (capacityOf s) b w n e ≡ capacityOf s (2 * e)))
+  pub window_least : (s b : List ℕ) (w n e : ℕ)
+      → ((i : ℕ) × InWindow w n i × (channel_of b i ≡ e) × (forward_of (capacity_of s) b w n e ≡ limit_of b i)
+      × ((j : ℕ) → InWindow w n j → channel_of b j ≡ e → forward_of (capacity_of s) b w n e ≤ℤ limit_of b j))
+      ⊎ (((i : ℕ) → InWindow w n i → channel_of b i ≡ e → ⊥) × (forward_of (capacity_of s) b w n e ≡ capacity_of s (2 * e)))
   -- they stand on the forward darts, the sheet's back limits on the others
-  pub found-forward : (s b : List ℕ) (w n e : ℕ) → found (capacityOf s) b w n (2 * e) ≡ forwardOf (capacityOf s) b w n e
-  pub found-backward : (s b : List ℕ) (w n e : ℕ) → found (capacityOf s) b w n (2 * e + 1) ≡ capacityOf s (2 * e + 1)
+  pub found_forward : (s b : List ℕ) (w n e : ℕ) → found (capacity_of s) b w n (2 * e) ≡ forward_of (capacity_of s) b w n e
+  pub found_backward : (s b : List ℕ) (w n e : ℕ) → found (capacity_of s) b w n (2 * e + 1) ≡ capacity_of s (2 * e + 1)
   -- "one per channel in a slice of their own", for a value ..
-  pub limits-given : (s b : List ℕ) (w n source sink : ℕ) (limits limits' flows flows' : List ℤ) (set set' : List ℕ) (v : ℤ)
+  pub limits_given : (s b : List ℕ) (w n source sink : ℕ) (limits limits' flows flows' : List ℤ) (set set' : List ℕ) (v : ℤ)
       → FindsAfter s b w n source sink limits limits' flows flows' set set' (largest.Value v)
-      → (e : ℕ) → e < edgesOf s → atℤ limits' e ≡ forwardOf (capacityOf s) b w n e
+      → (e : ℕ) → e < edges_of s → atℤ limits' e ≡ forward_of (capacity_of s) b w n e
   -- .. and "the limits are written where Largest is none as well"
-  pub limits-given-none : (s b : List ℕ) (w n source sink : ℕ) (limits limits' flows flows' : List ℤ) (set set' : List ℕ)
+  pub limits_given_none : (s b : List ℕ) (w n source sink : ℕ) (limits limits' flows flows' : List ℤ) (set set' : List ℕ)
       → FindsAfter s b w n source sink limits limits' flows flows' set set' largest.None
-      → (e : ℕ) → e < edgesOf s → atℤ limits' e ≡ forwardOf (capacityOf s) b w n e
+      → (e : ℕ) → e < edges_of s → atℤ limits' e ≡ forward_of (capacity_of s) b w n e
   -- demand 3 for the limits found: "the largest delivery is carried by the settings given"
-  pub largest-carries : (s b : List ℕ) (w n source sink : ℕ) (limits limits' flows flows' : List ℤ) (set set' : List ℕ) (v : ℤ)
+  pub largest_carries : (s b : List ℕ) (w n source sink : ℕ) (limits limits' flows flows' : List ℤ) (set set' : List ℕ) (v : ℤ)
       → FindsAfter s b w n source sink limits limits' flows flows' set set' (largest.Value v) → DeliversAfter s b w n source sink v (atℤ flows')
   -- "nothing greater can be"
-  pub nothing-greater : (s b : List ℕ) (w n source sink : ℕ) (limits limits' flows flows' : List ℤ) (set set' : List ℕ) (v : ℤ)
+  pub nothing_greater : (s b : List ℕ) (w n source sink : ℕ) (limits limits' flows flows' : List ℤ) (set set' : List ℕ) (v : ℤ)
       → FindsAfter s b w n source sink limits limits' flows flows' set set' (largest.Value v)
       → (value : ℤ) → PossibleAfter s b w n source sink value → value ≤ℤ v
   -- "and its set proves the next one impossible"
-  pub next-impossible : (s b : List ℕ) (w n source sink : ℕ) (limits limits' flows flows' : List ℤ) (set set' : List ℕ) (v : ℤ)
+  pub next_impossible : (s b : List ℕ) (w n source sink : ℕ) (limits limits' flows flows' : List ℤ) (set set' : List ℕ) (v : ℤ)
       → FindsAfter s b w n source sink limits limits' flows flows' set set' (largest.Value v)
-      → (words : List ℕ) × SetWritten (nodesOf s) words set set'
-      × Proves (sheetMap s) (found (capacityOf s) b w n) source sink (v +ℤ pos 1) (member words)
+      → (words : List ℕ) × SetWritten (nodes_of s) words set set'
+      × Proves (sheet_map s) (found (capacity_of s) b w n) source sink (v +ℤ pos 1) (member words)
   -- what proving is worth: no settings carry what a set proves impossible
-  pub set-excludes : (s b : List ℕ) (w n source sink : ℕ) (limits flows : List ℤ) (set : List ℕ)
-      → NoneOf (afterChecks s b w n source sink limits flows set)
-      → (value : ℤ) (S : ℕ → Bool) → Proves (sheetMap s) (found (capacityOf s) b w n) source sink value S → PossibleAfter s b w n source sink value → ⊥
+  pub set_excludes : (s b : List ℕ) (w n source sink : ℕ) (limits flows : List ℤ) (set : List ℕ)
+      → NoneOf (after_checks s b w n source sink limits flows set)
+      → (value : ℤ) (S : ℕ → Bool) → Proves (sheet_map s) (found (capacity_of s) b w n) source sink value S → PossibleAfter s b w n source sink value → ⊥
   -- ""none" exactly when nothing at all can be delivered"
-  pub none-exactly : (s b : List ℕ) (w n source sink : ℕ) (limits limits' flows flows' : List ℤ) (set set' : List ℕ) (answer : LargestAnswer)
-      → NoneOf (afterChecks s b w n source sink limits flows set) → FindsAfter s b w n source sink limits limits' flows flows' set set' answer
+  pub none_exactly : (s b : List ℕ) (w n source sink : ℕ) (limits limits' flows flows' : List ℤ) (set set' : List ℕ) (answer : LargestAnswer)
+      → NoneOf (after_checks s b w n source sink limits flows set) → FindsAfter s b w n source sink limits limits' flows flows' set set' answer
       → (answer ≡ largest.None) ↔ ((value : ℤ) → PossibleAfter s b w n source sink value → ⊥)
   -- "with a set that proves it": one set, for every delivery
-  pub none-proves : (s b : List ℕ) (w n source sink : ℕ) (limits limits' flows flows' : List ℤ) (set set' : List ℕ)
+  pub none_proves : (s b : List ℕ) (w n source sink : ℕ) (limits limits' flows flows' : List ℤ) (set set' : List ℕ)
       → FindsAfter s b w n source sink limits limits' flows flows' set set' largest.None
-      → (words : List ℕ) × SetWritten (nodesOf s) words set set'
-      × ((value : ℤ) → Proves (sheetMap s) (found (capacityOf s) b w n) source sink value (member words))
+      → (words : List ℕ) × SetWritten (nodes_of s) words set set'
+      × ((value : ℤ) → Proves (sheet_map s) (found (capacity_of s) b w n) source sink value (member words))
 
 -- ── Document 02, Job 2: "For every drawing written, the greatest flow of the text by the DIMACS definition is what Largest reports." Of every run of
--- `write_dimacs` that gave a number of bytes, known by its contract `WritesDimacs` alone. What the bytes mean is `problemOf`, which knows no drawing. ──
+-- `write_dimacs` that gave a number of bytes, known by its contract `WritesDimacs` alone. What the bytes mean is `problem_of`, which knows no drawing. ──
 pub record DimacsTexts : Type 0 where
   -- the bytes written are read back as the drawing's problem
-  pub reads-back : (s : List ℕ) (source sink : ℕ) (out out' : List ℕ) (n : ℕ)
-      → WritesDimacs s source sink out out' (Bytes n) → problemOf (take n out') ≡ drawnProblem (sheetMap s) (capacityOf s) source sink
+  pub reads_back : (s : List ℕ) (source sink : ℕ) (out out' : List ℕ) (n : ℕ)
+      → WritesDimacs s source sink out out' (Bytes n) → problem_of (take n out') ≡ drawn_problem (sheet_map s) (capacity_of s) source sink
   -- as many arcs as announced, no node that is none, source and sink two
-  pub well-posed : (s : List ℕ) (source sink : ℕ) (out out' : List ℕ) (n : ℕ)
-      → WritesDimacs s source sink out out' (Bytes n) → WellPosed (problemOf (take n out'))
+  pub well_posed : (s : List ℕ) (source sink : ℕ) (out out' : List ℕ) (n : ℕ)
+      → WritesDimacs s source sink out out' (Bytes n) → WellPosed (problem_of (take n out'))
   -- "the greatest flow of the text by the DIMACS definition is what Largest reports", in whatever slices
-  pub greatest-is-largest : (s : List ℕ) (source sink : ℕ) (out out' : List ℕ) (n : ℕ)
+  pub greatest_is_largest : (s : List ℕ) (source sink : ℕ) (out out' : List ℕ) (n : ℕ)
       → WritesDimacs s source sink out out' (Bytes n)
       → (flows flows' : List ℤ) (set set' : List ℕ) (answer : LargestAnswer)
-      → NoneOf (largestChecks s source sink flows set) → FindsLargest s source sink flows flows' set set' answer
-      → (v : ℤ) → Greatest (problemOf (take n out')) v ↔ (answer ≡ largest.Value v)
+      → NoneOf (largest_checks s source sink flows set) → FindsLargest s source sink flows flows' set set' answer
+      → (v : ℤ) → Greatest (problem_of (take n out')) v ↔ (answer ≡ largest.Value v)
   -- and it does report one: never none
-  pub never-none : (s : List ℕ) (source sink : ℕ) (out out' : List ℕ) (n : ℕ)
+  pub never_none : (s : List ℕ) (source sink : ℕ) (out out' : List ℕ) (n : ℕ)
       → WritesDimacs s source sink out out' (Bytes n)
       → (flows flows' : List ℤ) (set set' : List ℕ) (answer : LargestAnswer)
-      → NoneOf (largestChecks s source sink flows set) → FindsLargest s source sink flows flows' set set' answer
+      → NoneOf (largest_checks s source sink flows set) → FindsLargest s source sink flows flows' set set' answer
       → (v : ℤ) × (answer ≡ largest.Value v)
   -- nor has a flow of the text in k-th parts a greater value
-  pub none-greater-in-parts : (s : List ℕ) (source sink : ℕ) (out out' : List ℕ) (n : ℕ)
+  pub none_greater_in_parts : (s : List ℕ) (source sink : ℕ) (out out' : List ℕ) (n : ℕ)
       → WritesDimacs s source sink out out' (Bytes n)
       → (flows flows' : List ℤ) (set set' : List ℕ) (v : ℤ) → FindsLargest s source sink flows flows' set set' (largest.Value v)
-      → (k : ℕ) → NoneGreaterInParts k (problemOf (take n out')) v
+      → (k : ℕ) → NoneGreaterInParts k (problem_of (take n out')) v
   -- room for every text
   pub longest : (s : List ℕ) (source sink : ℕ) (out out' : List ℕ) (n : ℕ) → WritesDimacs s source sink out out' (Bytes n) → n ≤ 18463
 
@@ -445,28 +445,28 @@ pub record DimacsTexts : Type 0 where
 -- n questions, of which `question i` is number i. ──
 pub record ByThePage : Type 0 where
   -- what holds of answer i and its stretches is what Solve promises where these stretches are lent to it
-  pub line-solves : (s : List ℕ) (n : ℕ) (question : ℕ → Question) (flows flows' : List ℤ) (sets sets' : List ℕ) (page : Page)
+  pub line_solves : (s : List ℕ) (n : ℕ) (question : ℕ → Question) (flows flows' : List ℤ) (sets sets' : List ℕ) (page : Page)
       → AnswersPage s n question flows flows' sets sets' page → page.verdict ≡ Passed → (i : ℕ) → i < n
-      → Solves s (question i).source (question i).sink (question i).value (stretch (edgesOf s) i flows) (stretch (edgesOf s) i flows')
-      (stretch (wordsFor (nodesOf s)) i sets) (stretch (wordsFor (nodesOf s)) i sets') (answerAt page i)
+      → Solves s (question i).source (question i).sink (question i).value (stretch (edges_of s) i flows) (stretch (edges_of s) i flows')
+      (stretch (words_for (nodes_of s)) i sets) (stretch (words_for (nodes_of s)) i sets') (answer_at page i)
   -- a question is refused by 13, 14 or 15 alone, and its stretches are then as they were
   pub line_refused : (s : List ℕ) (n : ℕ) (question : ℕ → Question) (flows flows' : List ℤ) (sets sets' : List ℕ) (page : Page)
       → AnswersPage s n question flows flows' sets sets' page → page.verdict ≡ Passed → (i : ℕ) → i < n
-      → (k p : ℕ) → answerAt page i ≡ Refused k p
-      → ((k ≡ 13) ⊎ ((k ≡ 14) ⊎ (k ≡ 15))) × (stretch (edgesOf s) i flows' ≡ stretch (edgesOf s) i flows)
-      × (stretch (wordsFor (nodesOf s)) i sets' ≡ stretch (wordsFor (nodesOf s)) i sets)
+      → (k p : ℕ) → answer_at page i ≡ Refused k p
+      → ((k ≡ 13) ⊎ ((k ≡ 14) ⊎ (k ≡ 15))) × (stretch (edges_of s) i flows' ≡ stretch (edges_of s) i flows)
+      × (stretch (words_for (nodes_of s)) i sets' ≡ stretch (words_for (nodes_of s)) i sets)
   -- "the one Solve gives alone": a run of Solve that has room in slices of its own says can where the page does, and refuses where the page does, with the
   -- same number and place; so it says cannot where the page does
-  pub same-can : (s : List ℕ) (n : ℕ) (question : ℕ → Question) (flows flows' : List ℤ) (sets sets' : List ℕ) (page : Page)
+  pub same_can : (s : List ℕ) (n : ℕ) (question : ℕ → Question) (flows flows' : List ℤ) (sets sets' : List ℕ) (page : Page)
       → AnswersPage s n question flows flows' sets sets' page → page.verdict ≡ Passed → (i : ℕ) → i < n
-      → (own own' : List ℤ) (set set' : List ℕ) (answer : SolveAnswer) → edgesOf s ≤ length own → wordsFor (nodesOf s) ≤ length set
-      → Solves s (question i).source (question i).sink (question i).value own own' set set' answer → (answerAt page i ≡ Can) ↔ (answer ≡ Can)
-  pub same-refused : (s : List ℕ) (n : ℕ) (question : ℕ → Question) (flows flows' : List ℤ) (sets sets' : List ℕ) (page : Page)
+      → (own own' : List ℤ) (set set' : List ℕ) (answer : SolveAnswer) → edges_of s ≤ length own → words_for (nodes_of s) ≤ length set
+      → Solves s (question i).source (question i).sink (question i).value own own' set set' answer → (answer_at page i ≡ Can) ↔ (answer ≡ Can)
+  pub same_refused : (s : List ℕ) (n : ℕ) (question : ℕ → Question) (flows flows' : List ℤ) (sets sets' : List ℕ) (page : Page)
       → AnswersPage s n question flows flows' sets sets' page → page.verdict ≡ Passed → (i : ℕ) → i < n
-      → (own own' : List ℤ) (set set' : List ℕ) (answer : SolveAnswer) → edgesOf s ≤ length own → wordsFor (nodesOf s) ≤ length set
+      → (own own' : List ℤ) (set set' : List ℕ) (answer : SolveAnswer) → edges_of s ≤ length own → words_for (nodes_of s) ≤ length set
       → Solves s (question i).source (question i).sink (question i).value own own' set set' answer
-      → (k p : ℕ) → (answerAt page i ≡ Refused k p) ↔ (answer ≡ Refused k p)
+      → (k p : ℕ) → (answer_at page i ≡ Refused k p) ↔ (answer ≡ Refused k p)
   -- "an empty list gives none", and needs no room: on an accepted sheet, whatever the buffers
-  pub empty-none : (s : List ℕ) (question : ℕ → Question) (flows flows' : List ℤ) (sets sets' : List ℕ) (page : Page) → NoneOf (sheetChecks s)
+  pub empty_none : (s : List ℕ) (question : ℕ → Question) (flows flows' : List ℤ) (sets sets' : List ℕ) (page : Page) → NoneOf (sheet_checks s)
       → AnswersPage s 0 question flows flows' sets sets' page
       → (page.verdict ≡ Passed) × (page.count ≡ 0) × (flows' ≡ flows) × (sets' ≡ sets)

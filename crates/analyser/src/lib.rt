@@ -3,7 +3,7 @@
 // 2), questions by the page (Job 1). Each opens its sheet in one way: it holds the network record in its own frame and lends its arrays to the operation on
 // drawings. Operations that decide also hold the walk over the darts and their groups, which opening makes.
 ghost use Rattle.std.specs.Prelude.{length};
-ghost use Rattle.records.specs.Sheet.{sheetDrawing};
+ghost use Rattle.records.specs.Sheet.{sheet_drawing};
 ghost use Rattle.questions.specs.inner.Named.{SetNamed};
 ghost use Rattle.analyser.specs.inner.Named.{PageNamed};
 ghost use Rattle.analyser.specs.Solve.{Solves};
@@ -12,7 +12,7 @@ ghost use Rattle.analyser.specs.Range.{FindsRange};
 ghost use Rattle.analyser.specs.Raise.{RaisesLimit};
 ghost use Rattle.analyser.specs.After.{FindsAfter};
 ghost use Rattle.analyser.specs.Page.{AnswersPage};
-ghost use Rattle.pages.specs.Question.{questionAt};
+ghost use Rattle.pages.specs.Question.{question_at};
 ghost use Rattle.analyser.specs.Mark.{Marks};
 ghost use Rattle.analyser.specs.LevelsOf.{GivesLevels};
 ghost use Rattle.analyser.specs.SettingsOf.{GivesSettings};
@@ -41,7 +41,7 @@ pub fn solve(
     set: &mut [u64],
 ) -> SolveAnswer
     ensures { Solves sheet.now source sink value flows.old flows.new set.old set.new result
-        × SetNamed (sheetDrawing sheet.now) source sink value set.new result }
+        × SetNamed (sheet_drawing sheet.now) source sink value set.new result }
 {
     let mut order = [0u16; 1024];
     let mut from = [0u16; 1024];
@@ -257,9 +257,9 @@ pub fn largest_after(
 
 // A list of questions on one sheet, which is opened once: each is answered as Solve answers it alone, with its own stretch of each buffer.
 pub fn page_of(sheet: &[u8], list: Listed, flows: &mut [i32], sets: &mut [u64]) -> Page
-    ensures { AnswersPage sheet.now list.count (questionAt list.questions)
+    ensures { AnswersPage sheet.now list.count (question_at list.questions)
         flows.old flows.new sets.old sets.new result
-        × PageNamed sheet.now list.count (questionAt list.questions) sets.new result }
+        × PageNamed sheet.now list.count (question_at list.questions) sets.new result }
 {
     let mut order = [0u16; 1024];
     let mut from = [0u16; 1024];
@@ -288,9 +288,9 @@ pub fn page_of(sheet: &[u8], list: Listed, flows: &mut [i32], sets: &mut [u64]) 
 
 // Questions by the page: a lent slice of questions on one sheet, the settings of question i from i times the edges on, its set from i times the words on.
 pub fn page(sheet: &[u8], questions: &[Question], flows: &mut [i32], sets: &mut [u64]) -> Page
-    ensures { AnswersPage sheet.now (length questions.now) (questionAt questions.now)
+    ensures { AnswersPage sheet.now (length questions.now) (question_at questions.now)
         flows.old flows.new sets.old sets.new result
-        × PageNamed sheet.now (length questions.now) (questionAt questions.now) sets.new result }
+        × PageNamed sheet.now (length questions.now) (question_at questions.now) sets.new result }
 {
     let list = pages::list_of(questions);
     page_of(sheet, list, flows, sets)

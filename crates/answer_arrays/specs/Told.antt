@@ -5,13 +5,13 @@ use Rattle.questions.specs.declared.SolveAnswer.{SolveAnswer}
 use Rattle.questions.specs.declared.SolveAnswer.TheVariants.{Can, Cannot, Refused}
 
 -- the number that tells an answer: 1 can, 0 cannot, else that of the refusal, which is 13 or more
-abbrev pub numberTold : SolveAnswer → ℕ
-numberTold Can = 1
-numberTold (Cannot n) = 0
-numberTold (Refused k p) = k
+abbrev pub number_told : SolveAnswer → ℕ
+number_told Can = 1
+number_told (Cannot n) = 0
+number_told (Refused k p) = k
 
 -- the size of the set where it cannot, else 0
-abbrev pub sizeTold : SolveAnswer → ℕ
-sizeTold Can = 0
-sizeTold (Cannot n) = n
-sizeTold (Refused k p) = 0
+abbrev pub size_told : SolveAnswer → ℕ
+size_told Can = 0
+size_told (Cannot n) = n
+size_told (Refused k p) = 0

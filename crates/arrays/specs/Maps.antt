@@ -5,12 +5,12 @@ use Rattle.maps.specs.Map.{Map}
 use Rattle.maps.specs.Drawing.{Drawing}
 use Rattle.arrays.specs.At.{at, atℤ}
 
-abbrev pub mapOf : (nodes edges : ℕ) (tails rotations : List ℕ) → Map
-mapOf nodes edges tails rotations = record { nodes = nodes; edges = edges; tail = at tails; rotation = at rotations }
+abbrev pub map_of : (nodes edges : ℕ) (tails rotations : List ℕ) → Map
+map_of nodes edges tails rotations = record { nodes = nodes; edges = edges; tail = at tails; rotation = at rotations }
 
-abbrev pub drawingOf : (nodes edges outer : ℕ) (tails rotations : List ℕ) (capacities : List ℤ) → Drawing
-drawingOf nodes edges outer tails rotations capacities = record { map = mapOf nodes edges tails rotations; capacity = atℤ capacities; outer = outer }
+abbrev pub drawing_of : (nodes edges outer : ℕ) (tails rotations : List ℕ) (capacities : List ℤ) → Drawing
+drawing_of nodes edges outer tails rotations capacities = record { map = map_of nodes edges tails rotations; capacity = atℤ capacities; outer = outer }
 
 -- the face right of a dart is the face left of its reverse: there is no array of right faces
-abbrev pub rightOf : List ℕ → ℕ → ℕ
-rightOf lefts d = get_or lefts (rev d) 0
+abbrev pub right_of : List ℕ → ℕ → ℕ
+right_of lefts d = get_or lefts (rev d) 0

@@ -1,7 +1,7 @@
 // What every function on arrays uses: indices widened and narrowed, the reverse of a dart, and the face right of it.
 ghost use Rattle.std.specs.Prelude.{◌≡◌, ◌<◌};
 ghost use Rattle.maps.specs.Dart.{rev};
-ghost use Rattle.arrays.specs.Maps.{rightOf};
+ghost use Rattle.arrays.specs.Maps.{right_of};
 
 // The sizes of an open drawing: its nodes, edges, faces and parts (connected components), and a dart on its outer face.
 #[derive(Drop)]
@@ -54,7 +54,7 @@ pub fn reverse(d: usize) -> usize
 // The face right of d: the face left of its reverse.
 pub fn right(lefts: &[u16; 1024], d: usize) -> usize
     requires { d < 1024 }
-    ensures { result ≡ rightOf lefts.now d }
+    ensures { result ≡ right_of lefts.now d }
 {
     let r = reverse(d);
     wide(lefts[r])

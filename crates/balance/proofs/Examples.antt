@@ -9,23 +9,23 @@ use Rattle.integers.specs.Sum.{sum}
 use Rattle.refusals.specs.Order.{FirstOf, in_turn, Judged}
 use Rattle.refusals.specs.declared.Verdict.TheVariants.{Refused}
 use Rattle.refusals.proofs.Order.{neither}
-use Rattle.flows.specs.Settings.{onDarts}
-use Rattle.flows.specs.Check.{withinChecks}
+use Rattle.flows.specs.Settings.{on_darts}
+use Rattle.flows.specs.Check.{within_checks}
 use Rattle.arrays.specs.At.{at, atℤ}
-use Rattle.balance.specs.inner.NetUpTo.{netUpTo}
-use Rattle.balance.specs.inner.Check.{offChecks}
+use Rattle.balance.specs.inner.NetUpTo.{net_up_to}
+use Rattle.balance.specs.inner.Check.{off_checks}
 
 -- a flow of -2^31 on an edge of capacities 1,000,000
-least-refused : Judged (withinChecks 1 (atℤ (pos 1000000 ∷ pos 1000000 ∷ [])) (atℤ (negsuc 2147483647 ∷ []))) (Refused 17 0)
-unfolding withinChecks in_turn FirstOf
-least-refused = inl (inr (lt_z_yes tt), refl, refl)
+least_refused : Judged (within_checks 1 (atℤ (pos 1000000 ∷ pos 1000000 ∷ [])) (atℤ (negsuc 2147483647 ∷ []))) (Refused 17 0)
+unfolding within_checks in_turn FirstOf
+least_refused = inl (inr (lt_z_yes tt), refl, refl)
 
 -- edge 0 from node 0 to node 1 with 7, edge 1 from node 1 to itself with 5: node 1 takes in 7
-loop-cancels : netUpTo (at (0 ∷ 1 ∷ 1 ∷ 1 ∷ [])) (atℤ (pos 7 ∷ pos 5 ∷ [])) 4 1 ≡ negsuc 6
-unfolding netUpTo sum onDarts
+loop-cancels : net_up_to (at (0 ∷ 1 ∷ 1 ∷ 1 ∷ [])) (atℤ (pos 7 ∷ pos 5 ∷ [])) 4 1 ≡ negsuc 6
+unfolding net_up_to sum on_darts
 loop-cancels = refl
 
 -- nodes 0 and 2 are excused, nodes 1 and 3 are off balance: node 1 is named
-lowest-named : Judged (offChecks 4 2 0 (atℤ (pos 7 ∷ negsuc 0 ∷ pos 1 ∷ pos 2 ∷ []))) (Refused 18 1)
-unfolding offChecks in_turn FirstOf
-lowest-named = inr ((λ p. p.0 (inr refl)), inl ((neither (λ e. omega arith) (λ e. omega arith), (λ e. pos-ne-negsuc 0 0 (sym e))), refl, refl))
+lowest_named : Judged (off_checks 4 2 0 (atℤ (pos 7 ∷ negsuc 0 ∷ pos 1 ∷ pos 2 ∷ []))) (Refused 18 1)
+unfolding off_checks in_turn FirstOf
+lowest_named = inr ((λ p. p.0 (inr refl)), inl ((neither (λ e. omega arith) (λ e. omega arith), (λ e. pos-ne-negsuc 0 0 (sym e))), refl, refl))

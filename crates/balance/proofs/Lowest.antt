@@ -4,17 +4,17 @@ use mathlib.Core.Logic.{inl}
 use mathlib.Core.List.{[], ◌∷◌}
 use Prim.Native.Nat.{ℕ, ◌<◌}
 use Rattle.refusals.specs.Order.{◌at◌when◌, NoneOf, FirstOf, in_turn}
-use Rattle.refusals.proofs.Order.{none-in-turn, in-turn-none, first-in-turn}
+use Rattle.refusals.proofs.Order.{none_in_turn, in-turn-none, first_in_turn}
 
 module _ (n k : ℕ) (P : ℕ → Type 0) where
   pub lowest : (e p : ℕ) → e < n → ((i : ℕ) → i < e → P i → ⊥) → P e → p ≡ e → FirstOf (in_turn n (λ i. (k at i when P i) ∷ [])) k p
   unfolding FirstOf NoneOf
-  lowest e p l h g q = first-in-turn n _ e k p l (λ i m. (h i m, tt)) (inl (g, refl, q))
+  lowest e p l h g q = first_in_turn n _ e k p l (λ i m. (h i m, tt)) (inl (g, refl, q))
 
-  pub none-holds : ((i : ℕ) → i < n → P i → ⊥) → NoneOf (in_turn n (λ i. (k at i when P i) ∷ []))
+  pub none_holds : ((i : ℕ) → i < n → P i → ⊥) → NoneOf (in_turn n (λ i. (k at i when P i) ∷ []))
   unfolding NoneOf
-  none-holds h = none-in-turn n _ (λ i l. (h i l, tt))
+  none_holds h = none_in_turn n _ (λ i l. (h i l, tt))
 
-  pub holds-none : NoneOf (in_turn n (λ i. (k at i when P i) ∷ [])) → (i : ℕ) → i < n → P i → ⊥
+  pub holds_none : NoneOf (in_turn n (λ i. (k at i when P i) ∷ [])) → (i : ℕ) → i < n → P i → ⊥
   unfolding NoneOf
-  holds-none h i l = (in-turn-none n _ h i l).0
+  holds_none h i l = (in-turn-none n _ h i l).0

@@ -5,11 +5,11 @@ ghost use Rattle.std.specs.Int.{w32};
 ghost use Rattle.std.proofs.Common.{SFits};
 ghost use Rattle.integers.specs.Sum.{when};
 ghost use Rattle.refusals.specs.Order.{Decides, Judged};
-ghost use Rattle.flows.specs.Check.{withinChecks, EndOf};
+ghost use Rattle.flows.specs.Check.{within_checks, EndOf};
 ghost use Rattle.arrays.specs.At.{at, atℤ};
 ghost use Rattle.balance.specs.inner.SmallFlows.{SmallFlows};
-ghost use Rattle.balance.specs.inner.NetUpTo.{netUpTo};
-ghost use Rattle.balance.specs.inner.Check.{offChecks, JudgedAll};
+ghost use Rattle.balance.specs.inner.NetUpTo.{net_up_to};
+ghost use Rattle.balance.specs.inner.Check.{off_checks, JudgedAll};
 
 use refusals::Verdict;
 
@@ -33,7 +33,7 @@ pub fn exceeds(forward: i32, backward: i32, x: i32) -> bool
 // Refusal 17: "a setting outside its channel's limits", at the lowest such edge.
 pub fn check_within(capacities: &[i32; 1024], edges: usize, flows: &[i32]) -> Verdict
     requires { (edges ≤ 512) × (edges ≤ length flows.now) }
-    ensures { Judged (withinChecks edges (atℤ capacities.now) (atℤ flows.now)) result }
+    ensures { Judged (within_checks edges (atℤ capacities.now) (atℤ flows.now)) result }
 {
     let mut e: usize = 0;
     while e < edges {
@@ -66,7 +66,7 @@ pub fn fill_nets(tails: &[u16; 1024], edges: usize, flows: &[i32], nets: &mut [i
     requires { (edges ≤ 512) × (edges ≤ length flows.now) × (length nets.old ≡ 1024)
         × ((d : ℕ) → d < 2 * edges → at tails.now d < 1024) × SmallFlows edges (atℤ flows.now) × ((v : ℕ) → atℤ nets.old v ≡ pos 0) }
     ensures { (length nets.new ≡ 1024)
-        × ((v : ℕ) → v < 1024 → atℤ nets.new v ≡ netUpTo (at tails.now) (atℤ flows.now) (2 * edges) v) }
+        × ((v : ℕ) → v < 1024 → atℤ nets.new v ≡ net_up_to (at tails.now) (atℤ flows.now) (2 * edges) v) }
 {
     let mut e: usize = 0;
     while e < edges {
@@ -92,7 +92,7 @@ fn off_balance(v: usize, a: usize, b: usize, sum: i32) -> bool
 // Refusal 18: "a node other than those two off balance", at the lowest such node. Where a and b are no nodes, none is excused.
 pub fn check_balance(nets: &[i32; 1024], nodes: usize, a: usize, b: usize) -> Verdict
     requires { nodes ≤ 1024 }
-    ensures { Judged (offChecks nodes a b (atℤ nets.now)) result }
+    ensures { Judged (off_checks nodes a b (atℤ nets.now)) result }
 {
     let mut v: usize = 0;
     while v < nodes {

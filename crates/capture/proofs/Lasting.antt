@@ -9,34 +9,34 @@ use lib.IntN.{ℤ}
 use Rattle.refusals.specs.Order.{NoneOf, FirstOf, Judged}
 use Rattle.refusals.specs.declared.Verdict.{Verdict}
 use Rattle.refusals.specs.declared.Verdict.TheVariants.{Passed, Refused}
-use Rattle.refusals.proofs.Order.{first-left, first-right, none-append, append-none, neither}
-use Rattle.questions.specs.Question.{endChecks, roomChecks}
-use Rattle.questions.specs.Largest.{searchChecks}
-use Rattle.capture.specs.Capture.{lastChecks}
+use Rattle.refusals.proofs.Order.{first_left, first_right, none_append, append_none, neither}
+use Rattle.questions.specs.Question.{end_checks, room_checks}
+use Rattle.questions.specs.Largest.{search_checks}
+use Rattle.capture.specs.Capture.{last_checks}
 
 module _ (nodes edges source sink : ℕ) (limits flows : List ℤ) (set : List ℕ) where
-  pub ends-refused : (k p : ℕ) → FirstOf (endChecks nodes source sink) k p → FirstOf (lastChecks nodes edges source sink limits flows set) k p
-  unfolding lastChecks
-  ends-refused k p h = first-left (endChecks nodes source sink) _ k p h
+  pub ends_refused : (k p : ℕ) → FirstOf (end_checks nodes source sink) k p → FirstOf (last_checks nodes edges source sink limits flows set) k p
+  unfolding last_checks
+  ends_refused k p h = first_left (end_checks nodes source sink) _ k p h
 
-  module _ (two : NoneOf (endChecks nodes source sink)) where
-    pub limits-short : length limits < edges → FirstOf (lastChecks nodes edges source sink limits flows set) 16 0
-    unfolding lastChecks FirstOf
-    limits-short l = first-right (endChecks nodes source sink) _ 16 0 two (inl (inl l, refl, refl))
+  module _ (two : NoneOf (end_checks nodes source sink)) where
+    pub limits_short : length limits < edges → FirstOf (last_checks nodes edges source sink limits flows set) 16 0
+    unfolding last_checks FirstOf
+    limits_short l = first_right (end_checks nodes source sink) _ 16 0 two (inl (inl l, refl, refl))
 
-    pub room-judged : edges ≤ length limits → (v : Verdict) → Judged (roomChecks nodes edges (length flows) (length set)) v
-        → Judged (lastChecks nodes edges source sink limits flows set) v
-    unfolding lastChecks FirstOf NoneOf roomChecks
-    room-judged l Passed h = none-append (endChecks nodes source sink) _ two (neither (λ m. omega arith) h.0, tt)
-    room-judged l (Refused k p) (inl h) = first-right (endChecks nodes source sink) _ k p two (inl (inr h.0, h.1, h.2))
-    room-judged l (Refused k p) (inr h) = absurd h.1
+    pub room_judged : edges ≤ length limits → (v : Verdict) → Judged (room_checks nodes edges (length flows) (length set)) v
+        → Judged (last_checks nodes edges source sink limits flows set) v
+    unfolding last_checks FirstOf NoneOf room_checks
+    room_judged l Passed h = none_append (end_checks nodes source sink) _ two (neither (λ m. omega arith) h.0, tt)
+    room_judged l (Refused k p) (inl h) = first_right (end_checks nodes source sink) _ k p two (inl (inr h.0, h.1, h.2))
+    room_judged l (Refused k p) (inr h) = absurd h.1
 
   -- what they leave: the checks of Largest, and room for the limits
-  pub last-search : NoneOf (lastChecks nodes edges source sink limits flows set)
-      → NoneOf (searchChecks nodes edges source sink flows set) × (edges ≤ length limits)
-  unfolding lastChecks NoneOf searchChecks roomChecks
-  last-search h =
-      let p = append-none (endChecks nodes source sink) _ h in
+  pub last_search : NoneOf (last_checks nodes edges source sink limits flows set)
+      → NoneOf (search_checks nodes edges source sink flows set) × (edges ≤ length limits)
+  unfolding last_checks NoneOf search_checks room_checks
+  last_search h =
+      let p = append_none (end_checks nodes source sink) _ h in
       let short = p.1.0 in
       let room : length limits < edges → ⊥ = λ l. short (inl l) in
-      (none-append (endChecks nodes source sink) _ p.0 ((λ s. short (inr s)), tt), omega (arith, room))
+      (none_append (end_checks nodes source sink) _ p.0 ((λ s. short (inr s)), tt), omega (arith, room))

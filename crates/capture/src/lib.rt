@@ -5,12 +5,12 @@ ghost use Rattle.refusals.specs.Order.{Judged, NoneOf};
 ghost use Rattle.grouping.specs.inner.OpenDrawing.{OpenDrawing};
 ghost use Rattle.arrays.specs.At.{at, atℤ};
 ghost use Rattle.arrays.specs.Filled.{filled};
-ghost use Rattle.arrays.specs.Maps.{drawingOf};
-ghost use Rattle.capture.specs.Entry.{entryPlace, entryChecks};
+ghost use Rattle.arrays.specs.Maps.{drawing_of};
+ghost use Rattle.capture.specs.Entry.{entry_place, entry_checks};
 ghost use Rattle.capture.specs.Window.{laid};
-ghost use Rattle.capture.specs.Capture.{windowChecks, recordsChecks, limitsChecks, lastChecks, captureChecks, FoundAfter};
-ghost use Rattle.capture.specs.inner.Read.{entryAt};
-ghost use Rattle.capture.specs.inner.Taken.{goesOn, placeBehind, Passing, Stands, verdictOf, lowered, LimitsTaken};
+ghost use Rattle.capture.specs.Capture.{window_checks, records_checks, limits_checks, last_checks, capture_checks, FoundAfter};
+ghost use Rattle.capture.specs.inner.Read.{entry_at};
+ghost use Rattle.capture.specs.inner.Taken.{goesOn, place_behind, Passing, Stands, verdict_of, lowered, LimitsTaken};
 
 use arrays::{Sizes, Terminals};
 use questions::LargestAnswer;
@@ -40,7 +40,7 @@ pub struct Checked {
 
 // The record at a place, on slice and number. What is left is compared with a record's length, so that no sum can wrap.
 pub fn entry_at(capture: &[u8], at: usize) -> Entry
-    ensures { result ≡ entryAt capture.now at }
+    ensures { result ≡ entry_at capture.now at }
 {
     if capture.len() <= at {
         return Entry::Wrong;
@@ -66,7 +66,7 @@ fn wide64(x: u64) -> usize
 
 // Check 26: a window of 1 to 256 records, and a named record that is one of the whole ones.
 fn check_window(capture: &[u8], window: usize, named: usize) -> Verdict
-    ensures { Judged (windowChecks capture.now window named) result }
+    ensures { Judged (window_checks capture.now window named) result }
 {
     if window < 1 {
         return Verdict::Refused(26, 0);
@@ -92,7 +92,7 @@ fn goes_on(capture: &[u8], at: usize, checked: Checked) -> bool
 
 // The place behind the record at a place: a record's length farther, or the end of the capture where that is nearer.
 fn behind(capture: &[u8], at: usize) -> usize
-    ensures { result ≡ placeBehind capture.now at }
+    ensures { result ≡ place_behind capture.now at }
 {
     if capture.len() <= at {
         return capture.len();
@@ -107,7 +107,7 @@ fn behind(capture: &[u8], at: usize) -> usize
 // One record, after those before it have passed: 2, 1, 25 and 27.
 fn check_entry(capture: &[u8], at: usize, edges: usize, passed: Checked) -> Checked
     requires { (at < length capture.now) × Passing edges capture.now at passed.last }
-    ensures { Stands edges capture.now (placeBehind capture.now at) result.refusal result.last }
+    ensures { Stands edges capture.now (place_behind capture.now at) result.refusal result.last }
 {
     let entry = entry_at(capture, at);
     match entry {
@@ -142,7 +142,7 @@ fn check_entry(capture: &[u8], at: usize, edges: usize, passed: Checked) -> Chec
 
 // What the records come to, once no more is to be checked.
 fn verdict_of(checked: Checked) -> Verdict
-    ensures { result ≡ verdictOf checked.refusal }
+    ensures { result ≡ verdict_of checked.refusal }
 {
     if checked.refusal == 0 {
         return Verdict::Passed;
@@ -153,7 +153,7 @@ fn verdict_of(checked: Checked) -> Verdict
 // Every record of the capture in turn, to the end: 2, 1, 25 and 27. The reader holds the capture and its place, which goes forward from record to record; what
 // is kept beside it is the tick of the record before.
 fn check_capture(capture: &[u8], edges: usize) -> Verdict
-    ensures { Judged (recordsChecks edges capture.now) result }
+    ensures { Judged (records_checks edges capture.now) result }
 {
     let mut reader = Reader { capture, at: 0 };
     let mut checked = Checked {
@@ -200,8 +200,8 @@ fn take_window(
     edges: usize,
     capacities: &mut [i32; 1024],
 )
-    requires { (length capacities.old ≡ 1024) × (edges ≤ 512) × (entryPlace (first + count) ≤ length capture.now)
-        × ((i : ℕ) → i < first + count → NoneOf (entryChecks edges capture.now i)) }
+    requires { (length capacities.old ≡ 1024) × (edges ≤ 512) × (entry_place (first + count) ≤ length capture.now)
+        × ((i : ℕ) → i < first + count → NoneOf (entry_checks edges capture.now i)) }
     ensures { (length capacities.new ≡ 1024)
         × ((d : ℕ) → atℤ capacities.new d ≡ laid (atℤ capacities.old) capture.now first count d) }
 {
@@ -219,7 +219,7 @@ fn take_window(
 // Checks 6 and 7 on the limits found, channel by channel.
 fn check_found(capacities: &[i32; 1024], edges: usize) -> Verdict
     requires { edges ≤ 512 }
-    ensures { Judged (limitsChecks edges (atℤ capacities.now)) result }
+    ensures { Judged (limits_checks edges (atℤ capacities.now)) result }
 {
     let mut e: usize = 0;
     while e < edges {
@@ -243,7 +243,7 @@ fn check_last(
     set: &[u64],
 ) -> Verdict
     requires { nodes ≤ 1024 }
-    ensures { Judged (lastChecks nodes edges source sink limits.now flows.now set.now) result }
+    ensures { Judged (last_checks nodes edges source sink limits.now flows.now set.now) result }
 {
     let named = questions::check_ends(nodes, source, sink);
     if let Verdict::Refused(k, p) = named {
@@ -332,8 +332,8 @@ pub fn largest_after<'a>(
 ) -> LargestAnswer
     requires { (length capacities.old ≡ 1024)
         × OpenDrawing sizes tails.now rotations.now lefts.now capacities.old order.now from.now grouped.now starts.now }
-    ensures { FoundAfter (drawingOf sizes.nodes sizes.edges sizes.outer tails.now rotations.now capacities.old)
-        (captureChecks (drawingOf sizes.nodes sizes.edges sizes.outer tails.now rotations.now capacities.old)
+    ensures { FoundAfter (drawing_of sizes.nodes sizes.edges sizes.outer tails.now rotations.now capacities.old)
+        (capture_checks (drawing_of sizes.nodes sizes.edges sizes.outer tails.now rotations.now capacities.old)
         capture.now after.window after.named after.source after.sink
         limits.old flows.old set.old)
         capture.now after.window after.named after.source after.sink

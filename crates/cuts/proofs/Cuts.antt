@@ -9,15 +9,15 @@ use Rattle.maps.specs.Dart.{rev}
 use Rattle.arrays.specs.At.{at, atℤ}
 use Rattle.cuts.specs.inner.Cut.{cut_of}
 
-pub first-node : cut_of 2 (at (0 ∷ 1 ∷ [])) (atℤ (negsuc 0 ∷ pos 3 ∷ [])) (λ v. eqb v 0) ≡ negsuc 0
+pub first_node : cut_of 2 (at (0 ∷ 1 ∷ [])) (atℤ (negsuc 0 ∷ pos 3 ∷ [])) (λ v. eqb v 0) ≡ negsuc 0
 unfolding cut_of sum rev
-first-node = refl
+first_node = refl
 
-pub second-node : cut_of 2 (at (0 ∷ 1 ∷ [])) (atℤ (negsuc 0 ∷ pos 3 ∷ [])) (λ v. eqb v 1) ≡ pos 3
+pub second_node : cut_of 2 (at (0 ∷ 1 ∷ [])) (atℤ (negsuc 0 ∷ pos 3 ∷ [])) (λ v. eqb v 1) ≡ pos 3
 unfolding cut_of sum rev
-second-node = refl
+second_node = refl
 
 -- no dart leaves the set of all nodes
-pub both-nodes : cut_of 2 (at (0 ∷ 1 ∷ [])) (atℤ (negsuc 0 ∷ pos 3 ∷ [])) (λ v. true) ≡ pos 0
+pub both_nodes : cut_of 2 (at (0 ∷ 1 ∷ [])) (atℤ (negsuc 0 ∷ pos 3 ∷ [])) (λ v. true) ≡ pos 0
 unfolding cut_of sum rev
-both-nodes = refl
+both_nodes = refl

@@ -4,14 +4,14 @@ ghost use Rattle.integers.specs.Sum.{when};
 ghost use Rattle.integers.specs.inner.Limited.{Limited};
 ghost use Rattle.arrays.specs.At.{at, atℤ};
 ghost use Rattle.arrays.specs.inner.Flags.{flagged};
-ghost use Rattle.arrays.specs.inner.Sizes.{mostCapacity, mostLength};
-ghost use Rattle.cuts.specs.inner.Cut.{leavesOf, cut_of};
+ghost use Rattle.arrays.specs.inner.Sizes.{most_capacity, most_length};
+ghost use Rattle.cuts.specs.inner.Cut.{leaves_of, cut_of};
 
 // What the two darts of the edge e add to the cut of the flagged nodes: at most one of them leaves.
 fn edge_share(tails: &[u16; 1024], lengths: &[i32; 1024], inside: &[u8; 1024], e: usize) -> i32
     requires { (e < 512) × (at tails.now (2 * e) < 1024) × (at tails.now (2 * e + 1) < 1024) }
-    ensures { result ≡ when (leavesOf (at tails.now) (flagged inside.now) (2 * e)) (atℤ lengths.now (2 * e))
-        +ℤ when (leavesOf (at tails.now) (flagged inside.now) (2 * e + 1)) (atℤ lengths.now (2 * e + 1)) }
+    ensures { result ≡ when (leaves_of (at tails.now) (flagged inside.now) (2 * e)) (atℤ lengths.now (2 * e))
+        +ℤ when (leaves_of (at tails.now) (flagged inside.now) (2 * e + 1)) (atℤ lengths.now (2 * e + 1)) }
 {
     let tail = arrays::wide(tails[2 * e]);
     let head = arrays::wide(tails[2 * e + 1]);
@@ -32,7 +32,7 @@ fn edge_share(tails: &[u16; 1024], lengths: &[i32; 1024], inside: &[u8; 1024], e
 // The sum over the darts that leave the flagged nodes, edge by edge.
 pub fn total(tails: &[u16; 1024], lengths: &[i32; 1024], inside: &[u8; 1024], darts: usize) -> i64
     requires { (darts ≤ 1024) × (darts % 2 ≡ 0) × ((d : ℕ) → d < darts → at tails.now d < 1024)
-        × ((d : ℕ) → d < darts → Limited mostLength (atℤ lengths.now d)) }
+        × ((d : ℕ) → d < darts → Limited most_length (atℤ lengths.now d)) }
     ensures { result ≡ cut_of darts (at tails.now) (atℤ lengths.now) (flagged inside.now) }
 {
     let mut sum: i64 = 0;
@@ -53,7 +53,7 @@ pub fn capacity(
     darts: usize,
 ) -> i32
     requires { (darts ≤ 1024) × (darts % 2 ≡ 0) × ((d : ℕ) → d < darts → at tails.now d < 1024)
-        × ((d : ℕ) → d < darts → Limited mostCapacity (atℤ capacities.now d)) }
+        × ((d : ℕ) → d < darts → Limited most_capacity (atℤ capacities.now d)) }
     ensures { result ≡ cut_of darts (at tails.now) (atℤ capacities.now) (flagged inside.now) }
 {
     signed::narrow(total(tails, capacities, inside, darts))

@@ -7,53 +7,53 @@ use native.Mathlib.Omega.{arith}
 use lib.Dec.{eqb}
 use lib.IntN.{ℤ, pos, negsuc, neg_ℤ, ◌+ℤ◌}
 use lib.Signed.{◌<ℤ◌, lt_z}
-use Rattle.integers.proofs.Omega.{parts, atoms₂, less, from_less, from-at-most}
-use Rattle.integers.proofs.Tests.{eqb-true, eqb-false}
-use Rattle.integers.proofs.Laws.{lt-of-test, ge-of-test, lt-le-clash}
+use Rattle.integers.proofs.Omega.{parts, atoms₂, less, from_less, from_at_most}
+use Rattle.integers.proofs.Tests.{eqb_true, eqb_false}
+use Rattle.integers.proofs.Laws.{lt_of_test, ge_of_test, lt_le_clash}
 use mir.Syntax.{w32}
 use mir.Val.{to_z, of_z, SFits}
-use Rattle.signed.proofs.Laws.{number-of-bits, same-of-test, apart-of-test}
+use Rattle.signed.proofs.Laws.{number_of_bits, same_of_test, apart_of_test}
 use Rattle.refusals.specs.Order.{Decides}
-use Rattle.refusals.proofs.Decisions.{decides-by}
+use Rattle.refusals.proofs.Decisions.{decides_by}
 use Rattle.desk.specs.Paper.{claim_of, Earns}
 use Rattle.desk.specs.inner.Judged.{IsValue, ProvesBy, NoneBy, ValuePoints, NonePoints, LastSixBy}
 use Rattle.desk.specs.declared.Delivery.{Delivery}
 use Rattle.desk.specs.declared.Delivery.TheVariants.{Value, None}
 
 -- ── tests ──
-decides-less : (x y : ℤ) (r : Bool) → r ≡ lt_z x y → Decides (x <ℤ y) r
-decides-less x y true e = lt-of-test x y (sym e)
-decides-less x y false e = λ h. lt-le-clash h (ge-of-test x y (sym e))
+decides_less : (x y : ℤ) (r : Bool) → r ≡ lt_z x y → Decides (x <ℤ y) r
+decides_less x y true e = lt_of_test x y (sym e)
+decides_less x y false e = λ h. lt_le_clash h (ge_of_test x y (sym e))
 
-decides-more : (x y : ℤ) (r : Bool) → r ≡ lt_z x y → Decides (y <ℤ (x +ℤ pos 1)) (not r)
-decides-more x y true e = λ h. let a = atoms₂ x y in omega (arith, from_less h (search parts), from_less (lt-of-test x y (sym e)) (search parts))
-decides-more x y false e = let a = atoms₂ x y in less (search parts) (omega (arith, from-at-most (ge-of-test x y (sym e)) (search parts)))
+decides_more : (x y : ℤ) (r : Bool) → r ≡ lt_z x y → Decides (y <ℤ (x +ℤ pos 1)) (not r)
+decides_more x y true e = λ h. let a = atoms₂ x y in omega (arith, from_less h (search parts), from_less (lt_of_test x y (sym e)) (search parts))
+decides_more x y false e = let a = atoms₂ x y in less (search parts) (omega (arith, from_at_most (ge_of_test x y (sym e)) (search parts)))
 
-decides-opposite : (x v : ℤ) (r : Bool) → r ≡ lt_z (x +ℤ v) (negsuc 0) → Decides (x <ℤ neg_ℤ (v +ℤ pos 1)) r
-decides-opposite x v true e =
-    let a = atoms₂ x v in less (search parts) (omega (arith, from_less (lt-of-test (x +ℤ v) (negsuc 0) (sym e)) (search parts)))
-decides-opposite x v false e = λ h.
-    let a = atoms₂ x v in omega (arith, from_less h (search parts), from-at-most (ge-of-test (x +ℤ v) (negsuc 0) (sym e)) (search parts))
+decides_opposite : (x v : ℤ) (r : Bool) → r ≡ lt_z (x +ℤ v) (negsuc 0) → Decides (x <ℤ neg_ℤ (v +ℤ pos 1)) r
+decides_opposite x v true e =
+    let a = atoms₂ x v in less (search parts) (omega (arith, from_less (lt_of_test (x +ℤ v) (negsuc 0) (sym e)) (search parts)))
+decides_opposite x v false e = λ h.
+    let a = atoms₂ x v in omega (arith, from_less h (search parts), from_at_most (ge_of_test (x +ℤ v) (negsuc 0) (sym e)) (search parts))
 
 -- ── which ends the set holds ──
 pub next_both : (total v : ℤ) (from into r : Bool) → from ≡ true → into ≡ true → r ≡ lt_z total (pos 0) → Decides (ProvesBy total (v +ℤ pos 1) from into) r
-next_both total v from into r e f g = rw (e, f) (decides-less total (pos 0) r g)
+next_both total v from into r e f g = rw (e, f) (decides_less total (pos 0) r g)
 
-pub next-source : (total v : ℤ) (from into r : Bool) → from ≡ true → into ≡ false → r ≡ lt_z v total
+pub next_source : (total v : ℤ) (from into r : Bool) → from ≡ true → into ≡ false → r ≡ lt_z v total
     → Decides (ProvesBy total (v +ℤ pos 1) from into) (not r)
-next-source total v from into r e f g = rw (e, f) (decides-more v total r g)
+next_source total v from into r e f g = rw (e, f) (decides_more v total r g)
 
-pub next-sink : (total v : ℤ) (from into r : Bool) → from ≡ false → into ≡ true → r ≡ lt_z (total +ℤ v) (negsuc 0)
+pub next_sink : (total v : ℤ) (from into r : Bool) → from ≡ false → into ≡ true → r ≡ lt_z (total +ℤ v) (negsuc 0)
     → Decides (ProvesBy total (v +ℤ pos 1) from into) r
-next-sink total v from into r e f g = rw (e, f) (decides-opposite total v r g)
+next_sink total v from into r e f g = rw (e, f) (decides_opposite total v r g)
 
-pub next-neither : (total v : ℤ) (from into r : Bool) → from ≡ false → into ≡ false → r ≡ lt_z total (pos 0)
+pub next_neither : (total v : ℤ) (from into r : Bool) → from ≡ false → into ≡ false → r ≡ lt_z total (pos 0)
     → Decides (ProvesBy total (v +ℤ pos 1) from into) r
-next-neither total v from into r e f g = rw (e, f) (decides-less total (pos 0) r g)
+next_neither total v from into r e f g = rw (e, f) (decides_less total (pos 0) r g)
 
-pub none-same : (total : ℤ) (from into r : Bool) → from ≡ into → r ≡ lt_z total (pos 0) → Decides (NoneBy total from into) r
-none-same total from into r e g =
-    decides-by {P = total <ℤ pos 0} {Q = NoneBy total from into} r (λ h. (e, h)) (λ n h. n h.1) (decides-less total (pos 0) r g)
+pub none_same : (total : ℤ) (from into r : Bool) → from ≡ into → r ≡ lt_z total (pos 0) → Decides (NoneBy total from into) r
+none_same total from into r e g =
+    decides_by {P = total <ℤ pos 0} {Q = NoneBy total from into} r (λ h. (e, h)) (λ n h. n h.1) (decides_less total (pos 0) r g)
 
 -- ── what earns what ──
 pub earned : {P : Type 0} (k : ℕ) → P → Earns P k k
@@ -62,25 +62,25 @@ earned k h = inl (h, refl)
 pub missed : {P : Type 0} (k : ℕ) → (P → ⊥) → Earns P k 0
 missed k h = inr (h, refl)
 
-pub earns-by : {P Q : Type 0} (k n : ℕ) → (P → Q) → (Q → P) → Earns P k n → Earns Q k n
-earns-by k n f g (inl h) = inl (f h.0, h.1)
-earns-by k n f g (inr h) = inr (λ q. h.0 (g q), h.1)
+pub earns_by : {P Q : Type 0} (k n : ℕ) → (P → Q) → (Q → P) → Earns P k n → Earns Q k n
+earns_by k n f g (inl h) = inl (f h.0, h.1)
+earns_by k n f g (inr h) = inr (λ q. h.0 (g q), h.1)
 
-pub earns-at-most : {P : Type 0} (k n : ℕ) → Earns P k n → n ≤ k
-earns-at-most k n (inl h) = omega (arith, h.1)
-earns-at-most k n (inr h) = omega (arith, h.1)
+pub earns_at_most : {P : Type 0} (k n : ℕ) → Earns P k n → n ≤ k
+earns_at_most k n (inl h) = omega (arith, h.1)
+earns_at_most k n (inr h) = omega (arith, h.1)
 
-pub earns-one : {P : Type 0} (k n m : ℕ) → Earns P k n → Earns P k m → n ≡ m
-earns-one k n m (inl h) (inl g) = h.1 ∙ sym g.1
-earns-one k n m (inl h) (inr g) = absurd (g.0 h.0)
-earns-one k n m (inr h) (inl g) = absurd (h.0 g.0)
-earns-one k n m (inr h) (inr g) = h.1 ∙ sym g.1
+pub earns_one : {P : Type 0} (k n m : ℕ) → Earns P k n → Earns P k m → n ≡ m
+earns_one k n m (inl h) (inl g) = h.1 ∙ sym g.1
+earns_one k n m (inl h) (inr g) = absurd (g.0 h.0)
+earns_one k n m (inr h) (inl g) = absurd (h.0 g.0)
+earns_one k n m (inr h) (inr g) = h.1 ∙ sym g.1
 
 -- ── claim and set ──
-pub judged-at-most : (largest claim : Delivery) (total : ℤ) (from into : Bool) (n : ℕ) → LastSixBy largest claim total from into n → n ≤ 6
-judged-at-most (Value v) claim total from into n h =
-    omega (arith, earns-at-most 3 h.0 h.2, earns-at-most 3 h.1 h.3, h.4)
-judged-at-most None claim total from into n h = earns-at-most 6 n h
+pub judged_at_most : (largest claim : Delivery) (total : ℤ) (from into : Bool) (n : ℕ) → LastSixBy largest claim total from into n → n ≤ 6
+judged_at_most (Value v) claim total from into n h =
+    omega (arith, earns_at_most 3 h.0 h.2, earns_at_most 3 h.1 h.3, h.4)
+judged_at_most None claim total from into n h = earns_at_most 6 n h
 
 pub no_value : (v : ℤ) → None ≡ Value v → ⊥
 no_value v e = true≢false (ap is_none e)
@@ -89,31 +89,31 @@ no_value v e = true≢false (ap is_none e)
     is_none None = true
     is_none (Value w) = false
 
-pub value-one : {v w : ℤ} → Value v ≡ Value w → v ≡ w
-value-one {v} e = ap number e
+pub value_one : {v w : ℤ} → Value v ≡ Value w → v ≡ w
+value_one {v} e = ap number e
   where
     number : Delivery → ℤ
     number (Value u) = u
     number None = v
 
 -- ── a paper's claim ──
-pub claim-none : (kind : ℕ) (number : ℤ) → kind ≡ 1 → None ≡ claim_of kind number
+pub claim_none : (kind : ℕ) (number : ℤ) → kind ≡ 1 → None ≡ claim_of kind number
 unfolding claim_of
-claim-none kind number e = ap (λ b. cond b None (Value number)) (sym (eqb-true kind 1 e))
+claim_none kind number e = ap (λ b. cond b None (Value number)) (sym (eqb_true kind 1 e))
 
-pub claim-value : (kind : ℕ) (number : ℤ) → (kind ≡ 1 → ⊥) → Value number ≡ claim_of kind number
+pub claim_value : (kind : ℕ) (number : ℤ) → (kind ≡ 1 → ⊥) → Value number ≡ claim_of kind number
 unfolding claim_of
-claim-value kind number n = ap (λ b. cond b None (Value number)) (sym (eqb-false kind 1 n))
+claim_value kind number n = ap (λ b. cond b None (Value number)) (sym (eqb_false kind 1 n))
 
-pub claim-decides : (v w : ℤ) (claim : Delivery) (r : Bool) → claim ≡ Value w → SFits w32 w → SFits w32 v → r ≡ eqb (of_z w32 w) (of_z w32 v)
+pub claim_decides : (v w : ℤ) (claim : Delivery) (r : Bool) → claim ≡ Value w → SFits w32 w → SFits w32 v → r ≡ eqb (of_z w32 w) (of_z w32 v)
     → Decides (IsValue claim v) r
-claim-decides v w claim true is f g e = is ∙ ap Value (same-of-test f g (sym e))
-claim-decides v w claim false is f g e = λ q. apart-of-test f g (sym e) (value-one (sym is ∙ q))
+claim_decides v w claim true is f g e = is ∙ ap Value (same_of_test f g (sym e))
+claim_decides v w claim false is f g e = λ q. apart_of_test f g (sym e) (value_one (sym is ∙ q))
 
 -- ── numbers that came through their bits ──
-pub of-value : (largest : Delivery) (v v' : ℤ) (claim : Delivery) (total total' : ℤ) (from into : Bool) (n : ℕ)
+pub of_value : (largest : Delivery) (v v' : ℤ) (claim : Delivery) (total total' : ℤ) (from into : Bool) (n : ℕ)
     → largest ≡ Value v → v' ≡ v → total' ≡ total → ValuePoints v' claim total' from into n → LastSixBy largest claim total from into n
-of-value largest v v' claim total total' from into n is e f h =
+of_value largest v v' claim total total' from into n is e f h =
     subst (λ d. LastSixBy d claim total from into n) (sym is)
     (subst (λ w. ValuePoints w claim total from into n) e (subst (λ t. ValuePoints v' claim t from into n) f h))
 
@@ -122,8 +122,8 @@ pub of_none : (largest claim : Delivery) (total total' : ℤ) (from into : Bool)
 of_none largest claim total total' from into n is f h =
     subst (λ d. LastSixBy d claim total from into n) (sym is) (subst (λ t. NonePoints claim t from into n) f h)
 
-pub earns-same : (v v' w w' : ℤ) (n : ℕ) → v' ≡ v → w' ≡ w → Earns (v' ≡ w') 4 n → Earns (v ≡ w) 4 n
-earns-same v v' w w' n e f h = subst (λ x. Earns (x ≡ w) 4 n) e (subst (λ y. Earns (v' ≡ y) 4 n) f h)
+pub earns_same : (v v' w w' : ℤ) (n : ℕ) → v' ≡ v → w' ≡ w → Earns (v' ≡ w') 4 n → Earns (v ≡ w) 4 n
+earns_same v v' w w' n e f h = subst (λ x. Earns (x ≡ w) 4 n) e (subst (λ y. Earns (v' ≡ y) 4 n) f h)
 
 pub same_bits : {v w : ℤ} → SFits w32 v → SFits w32 w → of_z w32 v ≡ of_z w32 w → v ≡ w
-same_bits {v} {w} f g e = sym (number-of-bits v f) ∙ ap (to_z w32) e ∙ number-of-bits w g
+same_bits {v} {w} f g e = sym (number_of_bits v f) ∙ ap (to_z w32) e ∙ number_of_bits w g

@@ -10,31 +10,31 @@ use lib.IntN.{ℤ}
 use lib.ListN.{length, take, drop, set, length-set, length-drop}
 use lib.Seq.{length-take-le, get_or-set_same, get_or-set_other, drop-set-lt, drop-drop}
 use Rattle.integers.specs.Sum.{sum, sumℕ}
-use Rattle.flows.specs.ProvingSet.{wordsFor}
+use Rattle.flows.specs.ProvingSet.{words_for}
 use Rattle.arrays.specs.At.{at, atℤ}
-use Rattle.records.specs.Sheet.{nodesOf, edgesOf}
+use Rattle.records.specs.Sheet.{nodes_of, edges_of}
 use Rattle.pages.specs.Stretch.{SameFrom}
-use Rattle.desk.specs.Paper.{claim_of, nodesIn, paperOf, Points}
+use Rattle.desk.specs.Paper.{claim_of, nodes_in, paper_of, Points}
 use Rattle.desk.specs.declared.Delivery.{Delivery}
 
 -- ── one more ──
-pub next-below : (P : ℕ → Type 0) (q : ℕ) → ((j : ℕ) → j < q → P j) → P q → (j : ℕ) → j < q + 1 → P j
-next-below P q before here j l = go (ℕ_discrete j q)
+pub next_below : (P : ℕ → Type 0) (q : ℕ) → ((j : ℕ) → j < q → P j) → P q → (j : ℕ) → j < q + 1 → P j
+next_below P q before here j l = go (ℕ_discrete j q)
   where
     go : Dec (j ≡ q) → P j
     go (yes e) = subst P (sym e) here
     go (no n) = before j (omega (arith, n))
 
-pub sum-next : (q : ℕ) (f : ℕ → ℕ) → sumℕ (q + 1) f ≡ sumℕ q f + f q
+pub sum_next : (q : ℕ) (f : ℕ → ℕ) → sumℕ (q + 1) f ≡ sumℕ q f + f q
 unfolding sum
-sum-next q f = ap (λ k. sumℕ k f) (add-one q)
+sum_next q f = ap (λ k. sumℕ k f) (add-one q)
 
 -- ── where stretch i ends ──
-pub ends-before : (size i n : ℕ) → i < n → i * size + size ≤ n * size
-ends-before size i n l = let e = suc-mul i size in let h = mul-le-mul_right size l in omega (arith, e, h)
+pub ends_before : (size i n : ℕ) → i < n → i * size + size ≤ n * size
+ends_before size i n l = let e = suc-mul i size in let h = mul-le-mul_right size l in omega (arith, e, h)
 
-pub small-end : (size i n : ℕ) → i < n → n ≤ 1000 → size ≤ 512 → i * size + size ≤ 512000
-small-end size i n l few small = omega (arith, ends-before size i n l, mul-le-mul few small)
+pub small_end : (size i n : ℕ) → i < n → n ≤ 1000 → size ≤ 512 → i * size + size ≤ 512000
+small_end size i n l few small = omega (arith, ends_before size i n l, mul-le-mul few small)
 
 -- ── papers marked so far ──
 -- P j n: paper j has n points; q papers are marked
@@ -43,14 +43,14 @@ pub record Halfway (P : ℕ → ℕ → Type 0) (old : List ℕ) (q : ℕ) (now 
   pub few : (j : ℕ) → j < q → at now j ≤ 10
   pub behind : SameFrom q old now
 
-pub halfway-start : (P : ℕ → ℕ → Type 0) (old : List ℕ) → Halfway P old 0 old
-halfway-start P old = record { earned = λ j l. absurd (omega arith); few = λ j l. absurd (omega arith); behind = (refl, refl) }
+pub halfway_start : (P : ℕ → ℕ → Type 0) (old : List ℕ) → Halfway P old 0 old
+halfway_start P old = record { earned = λ j l. absurd (omega arith); few = λ j l. absurd (omega arith); behind = (refl, refl) }
 
-pub halfway-turn : (P : ℕ → ℕ → Type 0) (old : List ℕ) (q : ℕ) (now : List ℕ) (n : ℕ) → Halfway P old q now → q < length old → P q n → n ≤ 10
+pub halfway_turn : (P : ℕ → ℕ → Type 0) (old : List ℕ) (q : ℕ) (now : List ℕ) (n : ℕ) → Halfway P old q now → q < length old → P q n → n ≤ 10
     → Halfway P old (q + 1) (set now q n)
-halfway-turn P old q now n h room here few = record {
-  earned = next-below (λ j. P j (at (set now q n) j)) q (λ j l. subst (P j) (sym (other j l)) (h.earned j l)) (subst (P q) (sym same) here);
-  few = next-below (λ j. at (set now q n) j ≤ 10) q (λ j l. subst (λ x. x ≤ 10) (sym (other j l)) (h.few j l)) (subst (λ x. x ≤ 10) (sym same) few);
+halfway_turn P old q now n h room here few = record {
+  earned = next_below (λ j. P j (at (set now q n) j)) q (λ j l. subst (P j) (sym (other j l)) (h.earned j l)) (subst (P q) (sym same) here);
+  few = next_below (λ j. at (set now q n) j ≤ 10) q (λ j l. subst (λ x. x ≤ 10) (sym (other j l)) (h.few j l)) (subst (λ x. x ≤ 10) (sym same) few);
   behind = (
     length-set now q n ∙ h.behind.0,
     drop-set-lt (q + 1) now q n (omega arith) ∙ sym (drop-drop 1 q now) ∙ ap (drop 1) h.behind.1 ∙ drop-drop 1 q old,
@@ -66,60 +66,60 @@ halfway-turn P old q now n h room here few = record {
 -- the paper that was marked is paper q of the class
 pub turned : (s : List ℕ) (source sink : ℕ) (value value' : ℤ) (largest : Delivery) (claims : List ℤ) (kinds : List ℕ) (settings : List ℤ) (sets : List ℕ)
     (q edges words long wide : ℕ) (claim : Delivery) (n : ℕ)
-    → edges ≡ edgesOf s → words ≡ wordsFor (nodesOf s) → long ≡ edges → wide ≡ words → claim ≡ claim_of (at kinds q) (atℤ claims q) → value' ≡ value
+    → edges ≡ edges_of s → words ≡ words_for (nodes_of s) → long ≡ edges → wide ≡ words → claim ≡ claim_of (at kinds q) (atℤ claims q) → value' ≡ value
     → Points s source sink value' largest
-    (record { settings = atℤ (take long (drop (q * edges) settings)); claim = claim; set = nodesIn (nodesOf s) (take wide (drop (q * words) sets)) }) n
-    → Points s source sink value largest (paperOf s claims kinds settings sets q) n
+    (record { settings = atℤ (take long (drop (q * edges) settings)); claim = claim; set = nodes_in (nodes_of s) (take wide (drop (q * words) sets)) }) n
+    → Points s source sink value largest (paper_of s claims kinds settings sets q) n
 turned s source sink value value' largest claims kinds settings sets q edges words long wide claim n a b c d e f h =
-    subst (λ v. Points s source sink v largest (paperOf s claims kinds settings sets q) n) f
+    subst (λ v. Points s source sink v largest (paper_of s claims kinds settings sets q) n) f
     (subst (λ k. Points s source sink value' largest
     (record {
       settings = atℤ (take k (drop (q * k) settings));
       claim = claim_of (at kinds q) (atℤ claims q);
-      set = nodesIn (nodesOf s) (take (wordsFor (nodesOf s)) (drop (q * wordsFor (nodesOf s)) sets));
+      set = nodes_in (nodes_of s) (take (words_for (nodes_of s)) (drop (q * words_for (nodes_of s)) sets));
     }) n) a
     (subst (λ w. Points s source sink value' largest
     (record {
       settings = atℤ (take edges (drop (q * edges) settings));
       claim = claim_of (at kinds q) (atℤ claims q);
-      set = nodesIn (nodesOf s) (take w (drop (q * w) sets));
+      set = nodes_in (nodes_of s) (take w (drop (q * w) sets));
     }) n) b
     (subst (λ k. Points s source sink value' largest
     (record {
       settings = atℤ (take k (drop (q * edges) settings));
       claim = claim_of (at kinds q) (atℤ claims q);
-      set = nodesIn (nodesOf s) (take words (drop (q * words) sets));
+      set = nodes_in (nodes_of s) (take words (drop (q * words) sets));
     }) n) c
     (subst (λ w. Points s source sink value' largest
     (record {
       settings = atℤ (take long (drop (q * edges) settings));
       claim = claim_of (at kinds q) (atℤ claims q);
-      set = nodesIn (nodesOf s) (take w (drop (q * words) sets));
+      set = nodes_in (nodes_of s) (take w (drop (q * words) sets));
     }) n) d
     (subst (λ k. Points s source sink value' largest
     (record {
       settings = atℤ (take long (drop (q * edges) settings));
       claim = k;
-      set = nodesIn (nodesOf s) (take wide (drop (q * words) sets));
+      set = nodes_in (nodes_of s) (take wide (drop (q * words) sets));
     }) n) e h)))))
 
 -- a stretch is as long as it must be
-pub part-long : {A : Type 0} (q size long : ℕ) (l : List A) (least : ℕ) → size ≡ least → long ≡ size → q * size + size ≤ length l
+pub part_long : {A : Type 0} (q size long : ℕ) (l : List A) (least : ℕ) → size ≡ least → long ≡ size → q * size + size ≤ length l
     → least ≤ length (take long (drop (q * size) l))
-part-long q size long l least e f room =
+part_long q size long l least e f room =
     let behind : length (drop (q * size) l) ≡ length l - q * size = length-drop (q * size) l in
     let whole : length (take long (drop (q * size) l)) ≡ long = length-take-le long (drop (q * size) l) (omega arith) in
     omega arith
 
 -- after the last turn
-pub all-marked : (s : List ℕ) (source sink : ℕ) (value value' : ℤ) (largest : Delivery) (claims : List ℤ) (kinds : List ℕ) (settings : List ℤ) (sets : List ℕ)
+pub all_marked : (s : List ℕ) (source sink : ℕ) (value value' : ℤ) (largest : Delivery) (claims : List ℤ) (kinds : List ℕ) (settings : List ℤ) (sets : List ℕ)
     (old now : List ℕ) (q : ℕ) → q ≡ length claims → value' ≡ value
-    → Halfway (λ j n. Points s source sink value' largest (paperOf s claims kinds settings sets j) n) old q now
-    → ((j : ℕ) → j < length claims → Points s source sink value largest (paperOf s claims kinds settings sets j) (at now j))
+    → Halfway (λ j n. Points s source sink value' largest (paper_of s claims kinds settings sets j) n) old q now
+    → ((j : ℕ) → j < length claims → Points s source sink value largest (paper_of s claims kinds settings sets j) (at now j))
     × ((j : ℕ) → j < length claims → at now j ≤ 10)
     × SameFrom (length claims) old now
-all-marked s source sink value value' largest claims kinds settings sets old now q e f h = (
-  λ j l. subst (λ v. Points s source sink v largest (paperOf s claims kinds settings sets j) (at now j)) f (h.earned j (omega (arith, e))),
+all_marked s source sink value value' largest claims kinds settings sets old now q e f h = (
+  λ j l. subst (λ v. Points s source sink v largest (paper_of s claims kinds settings sets j) (at now j)) f (h.earned j (omega (arith, e))),
   λ j l. h.few j (omega (arith, e)),
   subst (λ k. SameFrom k old now) e h.behind,
 )

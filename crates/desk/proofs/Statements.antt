@@ -11,58 +11,58 @@ use lib.ListN.{length}
 use lib.Seq.{ext_get_or, get_or-drop}
 use lib.IntN.{ℤ}
 use Rattle.integers.specs.Sum.{Naturals, sum, sumℕ}
-use Rattle.integers.proofs.Sums.{sum-ext}
+use Rattle.integers.proofs.Sums.{sum_ext}
 use Rattle.integers.proofs.Tests.{either, T_of}
 use Rattle.integers.proofs.Laws.{le_antisym}
 use Rattle.refusals.specs.Order.{NoneOf}
-use Rattle.refusals.proofs.Order.{append-none, first-none}
+use Rattle.refusals.proofs.Order.{append_none, first_none}
 use Rattle.flows.specs.ProvingSet.{member}
 use Rattle.arrays.specs.At.{at, atℤ}
-use Rattle.records.specs.Sheet.{nodesOf, edgesOf}
-use Rattle.sheets.specs.Open.{sheetChecks}
-use Rattle.questions.specs.Question.{endChecks, valueChecks}
+use Rattle.records.specs.Sheet.{nodes_of, edges_of}
+use Rattle.sheets.specs.Open.{sheet_checks}
+use Rattle.questions.specs.Question.{end_checks, value_checks}
 use Rattle.questions.specs.declared.LargestAnswer.TheVariants as largest
-use Rattle.analyser.proofs.Statements.{possible-and-impossible}
-use Rattle.desk.specs.Paper.{Paper, nodesIn, paperOf, IsLargest, LastSix, Points}
-use Rattle.desk.specs.Class.{examineChecks, Examines}
+use Rattle.analyser.proofs.Statements.{possible_and_impossible}
+use Rattle.desk.specs.Paper.{Paper, nodes_in, paper_of, IsLargest, LastSix, Points}
+use Rattle.desk.specs.Class.{examine_checks, Examines}
 use Rattle.desk.specs.Statements.{ExamDesk}
 use Rattle.desk.specs.declared.Delivery.{Delivery}
 use Rattle.desk.specs.declared.Delivery.TheVariants.{Value, None}
 use Rattle.desk.specs.declared.Class.{Class}
 use Rattle.desk.specs.declared.Class.TheVariants.{Empty, Marked, Refused}
-use Rattle.desk.proofs.Judging.{earns-one, earns-at-most}
-use Rattle.desk.proofs.Asking.{mark-exactly, class-room}
+use Rattle.desk.proofs.Judging.{earns_one, earns_at_most}
+use Rattle.desk.proofs.Asking.{mark_exactly, class_room}
 
 -- ── points ──
-largest-one : (s : List ℕ) (source sink : ℕ) (d e : Delivery) → IsLargest s source sink d → IsLargest s source sink e → d ≡ e
-largest-one s source sink (Value v) (Value w) h g = ap Value (le_antisym (g.1 v h.0) (h.1 w g.0))
-largest-one s source sink (Value v) None h g = absurd (g v h.0.0 h.0.1)
-largest-one s source sink None (Value w) h g = absurd (h w g.0.0 g.0.1)
-largest-one s source sink None None h g = refl
+largest_one : (s : List ℕ) (source sink : ℕ) (d e : Delivery) → IsLargest s source sink d → IsLargest s source sink e → d ≡ e
+largest_one s source sink (Value v) (Value w) h g = ap Value (le_antisym (g.1 v h.0) (h.1 w g.0))
+largest_one s source sink (Value v) None h g = absurd (g v h.0.0 h.0.1)
+largest_one s source sink None (Value w) h g = absurd (h w g.0.0 g.0.1)
+largest_one s source sink None None h g = refl
 
-last-six-one : (s : List ℕ) (source sink : ℕ) (d : Delivery) (paper : Paper) (n m : ℕ)
+last_six_one : (s : List ℕ) (source sink : ℕ) (d : Delivery) (paper : Paper) (n m : ℕ)
     → LastSix s source sink d paper n → LastSix s source sink d paper m → n ≡ m
-last-six-one s source sink (Value v) paper n m h g =
-    h.4 ∙ ap₂ ◌+◌ (earns-one 3 _ _ h.2 g.2) (earns-one 3 _ _ h.3 g.3) ∙ sym g.4
-last-six-one s source sink None paper n m h g = earns-one 6 n m h g
+last_six_one s source sink (Value v) paper n m h g =
+    h.4 ∙ ap₂ ◌+◌ (earns_one 3 _ _ h.2 g.2) (earns_one 3 _ _ h.3 g.3) ∙ sym g.4
+last_six_one s source sink None paper n m h g = earns_one 6 n m h g
 
-last-six-few : (s : List ℕ) (source sink : ℕ) (d : Delivery) (paper : Paper) (n : ℕ) → LastSix s source sink d paper n → n ≤ 6
-last-six-few s source sink (Value v) paper n h = omega (arith, h.4, earns-at-most 3 h.0 h.2, earns-at-most 3 h.1 h.3)
-last-six-few s source sink None paper n h = earns-at-most 6 n h
+last_six_few : (s : List ℕ) (source sink : ℕ) (d : Delivery) (paper : Paper) (n : ℕ) → LastSix s source sink d paper n → n ≤ 6
+last_six_few s source sink (Value v) paper n h = omega (arith, h.4, earns_at_most 3 h.0 h.2, earns_at_most 3 h.1 h.3)
+last_six_few s source sink None paper n h = earns_at_most 6 n h
 
-points-one : (s : List ℕ) (source sink : ℕ) (value : ℤ) (d : Delivery) (paper : Paper) (n m : ℕ)
+points_one : (s : List ℕ) (source sink : ℕ) (value : ℤ) (d : Delivery) (paper : Paper) (n m : ℕ)
     → Points s source sink value d paper n → Points s source sink value d paper m → n ≡ m
-points-one s source sink value d paper n m h g =
-    h.4 ∙ ap₂ ◌+◌ (earns-one 4 _ _ h.2 g.2) (last-six-one s source sink d paper h.1 g.1 h.3 g.3) ∙ sym g.4
+points_one s source sink value d paper n m h g =
+    h.4 ∙ ap₂ ◌+◌ (earns_one 4 _ _ h.2 g.2) (last_six_one s source sink d paper h.1 g.1 h.3 g.3) ∙ sym g.4
 
-at-most-ten : (s : List ℕ) (source sink : ℕ) (value : ℤ) (d : Delivery) (paper : Paper) (n : ℕ) → Points s source sink value d paper n → n ≤ 10
-at-most-ten s source sink value d paper n h =
-    omega (arith, h.4, earns-at-most 4 h.0 h.2, last-six-few s source sink d paper h.1 h.3)
+at_most_ten : (s : List ℕ) (source sink : ℕ) (value : ℤ) (d : Delivery) (paper : Paper) (n : ℕ) → Points s source sink value d paper n → n ≤ 10
+at_most_ten s source sink value d paper n h =
+    omega (arith, h.4, earns_at_most 4 h.0 h.2, last_six_few s source sink d paper h.1 h.3)
 
-past-last-node : (nodes : ℕ) (words other : List ℕ) → ((v : ℕ) → v < nodes → member words v ≡ member other v)
-    → (v : ℕ) → nodesIn nodes words v ≡ nodesIn nodes other v
-unfolding nodesIn
-past-last-node nodes words other same v = go (either (ltb v nodes))
+past_last_node : (nodes : ℕ) (words other : List ℕ) → ((v : ℕ) → v < nodes → member words v ≡ member other v)
+    → (v : ℕ) → nodes_in nodes words v ≡ nodes_in nodes other v
+unfolding nodes_in
+past_last_node nodes words other same v = go (either (ltb v nodes))
   where
     go : (ltb v nodes ≡ true) ⊎ (ltb v nodes ≡ false) → (ltb v nodes && member words v) ≡ (ltb v nodes && member other v)
     go (inl e) = ap (λ b. ltb v nodes && b) (same v (ltb→lt v nodes (T_of e)))
@@ -74,66 +74,66 @@ unfolding sum
 sum_below zero f k h = omega arith
 sum_below (suc n) f k h = omega (arith, suc-mul n k, h n (omega arith), sum_below n f k (λ q l. h q (omega arith)))
 
-sum-above : (n : ℕ) (f : ℕ → ℕ) (k : ℕ) → ((q : ℕ) → q < n → k ≤ f q) → n * k ≤ sumℕ n f
+sum_above : (n : ℕ) (f : ℕ → ℕ) (k : ℕ) → ((q : ℕ) → q < n → k ≤ f q) → n * k ≤ sumℕ n f
 unfolding sum
-sum-above zero f k h = omega arith
-sum-above (suc n) f k h = omega (arith, suc-mul n k, h n (omega arith), sum-above n f k (λ q l. h q (omega arith)))
+sum_above zero f k h = omega arith
+sum_above (suc n) f k h = omega (arith, suc-mul n k, h n (omega arith), sum_above n f k (λ q l. h q (omega arith)))
 
-few-papers : (s : List ℕ) (source sink : ℕ) (value : ℤ) (n kinds settings sets points : ℕ)
-    → NoneOf (examineChecks s source sink value n kinds settings sets points) → n ≤ 1000
-unfolding examineChecks
-few-papers s source sink value n kinds settings sets points none =
-    let question = (append-none (sheetChecks s) _ none).1 in
-    let rest = (append-none (endChecks (nodesOf s) source sink) _ question).1 in
-    (class-room (nodesOf s) (edgesOf s) n kinds settings sets points (append-none (valueChecks value) _ rest).1).0
+few_papers : (s : List ℕ) (source sink : ℕ) (value : ℤ) (n kinds settings sets points : ℕ)
+    → NoneOf (examine_checks s source sink value n kinds settings sets points) → n ≤ 1000
+unfolding examine_checks
+few_papers s source sink value n kinds settings sets points none =
+    let question = (append_none (sheet_checks s) _ none).1 in
+    let rest = (append_none (end_checks (nodes_of s) source sink) _ question).1 in
+    (class_room (nodes_of s) (edges_of s) n kinds settings sets points (append_none (value_checks value) _ rest).1).0
 
 module _ (s : List ℕ) (source sink : ℕ) (value : ℤ) (claims : List ℤ) (kinds : List ℕ) (settings : List ℤ) (sets points points' : List ℕ)
     (number total least greatest : ℕ) (h : Examines s source sink value claims kinds settings sets points points' (Marked number total least greatest)) where
-  each-marked : (d : Delivery) → IsLargest s source sink d
-      → (q : ℕ) → q < length claims → Points s source sink value d (paperOf s claims kinds settings sets q) (at points' q)
-  each-marked d is q l =
-      subst (λ e. Points s source sink value e (paperOf s claims kinds settings sets q) (at points' q))
-      (largest-one s source sink h.1.0 d h.1.1 is) (h.1.2 q l)
+  each_marked : (d : Delivery) → IsLargest s source sink d
+      → (q : ℕ) → q < length claims → Points s source sink value d (paper_of s claims kinds settings sets q) (at points' q)
+  each_marked d is q l =
+      subst (λ e. Points s source sink value e (paper_of s claims kinds settings sets q) (at points' q))
+      (largest_one s source sink h.1.0 d h.1.1 is) (h.1.2 q l)
 
-  figures-bounded : (1 ≤ number) × (number ≤ 1000) × (least ≤ greatest) × (greatest ≤ 10) × (number * least ≤ total) × (total ≤ number * greatest)
-  figures-bounded =
+  figures_bounded : (1 ≤ number) × (number ≤ 1000) × (least ≤ greatest) × (greatest ≤ 10) × (number * least ≤ total) × (total ≤ number * greatest)
+  figures_bounded =
       let f = h.3 in
-      let top = f.greatest-reached in
-      let ten = at-most-ten s source sink value h.1.0 (paperOf s claims kinds settings sets top.0) (at points' top.0) (h.1.2 top.0 top.1) in
-      let low = sum-above (length claims) (at points') least f.least-below in
-      let high = sum_below (length claims) (at points') greatest f.greatest-above in (
+      let top = f.greatest_reached in
+      let ten = at_most_ten s source sink value h.1.0 (paper_of s claims kinds settings sets top.0) (at points' top.0) (h.1.2 top.0 top.1) in
+      let low = sum_above (length claims) (at points') least f.least_below in
+      let high = sum_below (length claims) (at points') greatest f.greatest_above in (
         omega (arith, f.number_is, top.1),
-        omega (arith, f.number_is, few-papers s source sink value _ _ _ _ _ h.0),
-        omega (arith, f.least-below top.0 top.1, top.2),
+        omega (arith, f.number_is, few_papers s source sink value _ _ _ _ _ h.0),
+        omega (arith, f.least_below top.0 top.1, top.2),
         omega (arith, ten, top.2),
         subst (λ k. k * least ≤ total) (sym f.number_is) (omega (arith, low, f.sum_is)),
         subst (λ k. total ≤ k * greatest) (sym f.number_is) (omega (arith, high, f.sum_is)),
       )
 
 -- least and greatest of the same points
-least-one : (n : ℕ) (f g : ℕ → ℕ) → ((q : ℕ) → q < n → f q ≡ g q) → (least least' : ℕ) → (q : ℕ) × (q < n) × (f q ≡ least)
+least_one : (n : ℕ) (f g : ℕ → ℕ) → ((q : ℕ) → q < n → f q ≡ g q) → (least least' : ℕ) → (q : ℕ) × (q < n) × (f q ≡ least)
     → ((q : ℕ) → q < n → least' ≤ g q) → least' ≤ least
-least-one n f g same least least' (q, l, e) below = omega (arith, e, same q l, below q l)
+least_one n f g same least least' (q, l, e) below = omega (arith, e, same q l, below q l)
 
-greatest-one : (n : ℕ) (f g : ℕ → ℕ) → ((q : ℕ) → q < n → f q ≡ g q) → (greatest greatest' : ℕ) → (q : ℕ) × (q < n) × (f q ≡ greatest)
+greatest_one : (n : ℕ) (f g : ℕ → ℕ) → ((q : ℕ) → q < n → f q ≡ g q) → (greatest greatest' : ℕ) → (q : ℕ) × (q < n) × (f q ≡ greatest)
     → ((q : ℕ) → q < n → g q ≤ greatest') → greatest ≤ greatest'
-greatest-one n f g same greatest greatest' (q, l, e) above = omega (arith, e, same q l, above q l)
+greatest_one n f g same greatest greatest' (q, l, e) above = omega (arith, e, same q l, above q l)
 
-class-one : (s : List ℕ) (source sink : ℕ) (value : ℤ) (claims : List ℤ) (kinds : List ℕ) (settings : List ℤ) (sets points points' points'' : List ℕ)
+class_one : (s : List ℕ) (source sink : ℕ) (value : ℤ) (claims : List ℤ) (kinds : List ℕ) (settings : List ℤ) (sets points points' points'' : List ℕ)
     (number total least greatest number' total' least' greatest' : ℕ)
     → Examines s source sink value claims kinds settings sets points points' (Marked number total least greatest)
     → Examines s source sink value claims kinds settings sets points points'' (Marked number' total' least' greatest')
     → (number ≡ number') × (total ≡ total') × (least ≡ least') × (greatest ≡ greatest') × (points' ≡ points'')
-class-one s source sink value claims kinds settings sets points points' points'' number total least greatest number' total' least' greatest' h g =
+class_one s source sink value claims kinds settings sets points points' points'' number total least greatest number' total' least' greatest' h g =
     let n = length claims in
     let f = h.3 in
     let e = g.3 in
-    let low = least-one n (at points') (at points'') same least least' f.least-reached e.least-below in
-    let low' = least-one n (at points'') (at points') (λ q l. sym (same q l)) least' least e.least-reached f.least-below in
-    let high = greatest-one n (at points') (at points'') same greatest greatest' f.greatest-reached e.greatest-above in
-    let high' = greatest-one n (at points'') (at points') (λ q l. sym (same q l)) greatest' greatest e.greatest-reached f.greatest-above in (
+    let low = least_one n (at points') (at points'') same least least' f.least_reached e.least_below in
+    let low' = least_one n (at points'') (at points') (λ q l. sym (same q l)) least' least e.least_reached f.least_below in
+    let high = greatest_one n (at points') (at points'') same greatest greatest' f.greatest_reached e.greatest_above in
+    let high' = greatest_one n (at points'') (at points') (λ q l. sym (same q l)) greatest' greatest e.greatest_reached f.greatest_above in (
       f.number_is ∙ sym e.number_is,
-      f.sum_is ∙ sum-ext Naturals n (at points') (at points'') same ∙ sym e.sum_is,
+      f.sum_is ∙ sum_ext Naturals n (at points') (at points'') same ∙ sym e.sum_is,
       omega arith,
       omega arith,
       ext_get_or 0 points' points'' (h.2.0 ∙ sym g.2.0) (λ i l. everywhere i),
@@ -141,8 +141,8 @@ class-one s source sink value claims kinds settings sets points points' points''
   where
     same : (q : ℕ) → q < length claims → at points' q ≡ at points'' q
     same q l =
-        points-one s source sink value h.1.0 (paperOf s claims kinds settings sets q) (at points' q) (at points'' q) (h.1.2 q l)
-        (each-marked s source sink value claims kinds settings sets points points'' number' total' least' greatest' g h.1.0 h.1.1 q l)
+        points_one s source sink value h.1.0 (paper_of s claims kinds settings sets q) (at points' q) (at points'' q) (h.1.2 q l)
+        (each_marked s source sink value claims kinds settings sets points points'' number' total' least' greatest' g h.1.0 h.1.1 q l)
 
     behind : (i : ℕ) → length claims ≤ i → (j : ℕ) → i ≡ length claims + j → at points' i ≡ at points'' i
     behind i l j e =
@@ -157,41 +157,41 @@ class-one s source sink value claims kinds settings sets points points' points''
         go (inr t) = let l = nltb→le i (length claims) (rw t tt) in behind i l (i - length claims) (omega arith)
 
 not-empty : (number total least greatest : ℕ) → Marked number total least greatest ≡ Empty → ⊥
-not-empty number total least greatest e = true≢false (ap is-marked e)
+not-empty number total least greatest e = true≢false (ap is_marked e)
   where
-    is-marked : Class → Bool
-    is-marked (Marked a b c d) = true
-    is-marked Empty = false
-    is-marked (Refused k p) = false
+    is_marked : Class → Bool
+    is_marked (Marked a b c d) = true
+    is_marked Empty = false
+    is_marked (Refused k p) = false
 
-empty-exactly : (s : List ℕ) (source sink : ℕ) (value : ℤ) (claims : List ℤ) (kinds : List ℕ) (settings : List ℤ) (sets points points' : List ℕ) (class : Class)
-    → NoneOf (examineChecks s source sink value (length claims) (length kinds) (length settings) (length sets) (length points))
+empty_exactly : (s : List ℕ) (source sink : ℕ) (value : ℤ) (claims : List ℤ) (kinds : List ℕ) (settings : List ℤ) (sets points points' : List ℕ) (class : Class)
+    → NoneOf (examine_checks s source sink value (length claims) (length kinds) (length settings) (length sets) (length points))
     → Examines s source sink value claims kinds settings sets points points' class → (class ≡ Empty) ↔ (length claims ≡ 0)
-empty-exactly s source sink value claims kinds settings sets points points' Empty none h = (λ e. h.1, λ e. refl)
-empty-exactly s source sink value claims kinds settings sets points points' (Marked number total least greatest) none h = (
+empty_exactly s source sink value claims kinds settings sets points points' Empty none h = (λ e. h.1, λ e. refl)
+empty_exactly s source sink value claims kinds settings sets points points' (Marked number total least greatest) none h = (
   λ e. absurd (not-empty number total least greatest e),
-  λ e. absurd (omega (arith, h.3.least-reached.1)),
+  λ e. absurd (omega (arith, h.3.least_reached.1)),
 )
-empty-exactly s source sink value claims kinds settings sets points points' (Refused k p) none h = absurd (first-none _ k p h.0 none)
+empty_exactly s source sink value claims kinds settings sets points points' (Refused k p) none h = absurd (first_none _ k p h.0 none)
 
-pub exam-desk : ExamDesk
-exam-desk = record {
-  largest-one = largest-one;
-  points-one = points-one;
-  at-most-ten = at-most-ten;
-  mark-exactly = λ s source sink value settings answer sheet ends long h.
-      mark-exactly s source sink (record { sheet = sheet; ends = ends }) value settings answer long h;
-  largest-value = λ s source sink v flows flows' set set' h. (
-    (atℤ flows', possible-and-impossible.largest-carries s source sink v flows flows' set set' h),
-    possible-and-impossible.nothing-greater s source sink v flows flows' set set' h,
+pub exam_desk : ExamDesk
+exam_desk = record {
+  largest_one = largest_one;
+  points_one = points_one;
+  at_most_ten = at_most_ten;
+  mark_exactly = λ s source sink value settings answer sheet ends long h.
+      mark_exactly s source sink (record { sheet = sheet; ends = ends }) value settings answer long h;
+  largest_value = λ s source sink v flows flows' set set' h. (
+    (atℤ flows', possible_and_impossible.largest_carries s source sink v flows flows' set set' h),
+    possible_and_impossible.nothing_greater s source sink v flows flows' set set' h,
   );
-  largest-none = λ s source sink flows flows' set set' h.
-      (possible-and-impossible.none-exactly s source sink flows flows' set set' largest.None h.0 h).0 refl;
-  past-last-node = past-last-node;
-  never-refused = λ s source sink value claims kinds settings sets points points' none k p h. first-none _ k p h.0 none;
-  each-marked = λ s source sink value claims kinds settings sets points points' number total least greatest d is h.
-      each-marked s source sink value claims kinds settings sets points points' number total least greatest h d is;
-  figures-bounded = figures-bounded;
-  empty-exactly = empty-exactly;
-  class-one = class-one;
+  largest_none = λ s source sink flows flows' set set' h.
+      (possible_and_impossible.none_exactly s source sink flows flows' set set' largest.None h.0 h).0 refl;
+  past_last_node = past_last_node;
+  never_refused = λ s source sink value claims kinds settings sets points points' none k p h. first_none _ k p h.0 none;
+  each_marked = λ s source sink value claims kinds settings sets points points' number total least greatest d is h.
+      each_marked s source sink value claims kinds settings sets points points' number total least greatest h d is;
+  figures_bounded = figures_bounded;
+  empty_exactly = empty_exactly;
+  class_one = class_one;
 }

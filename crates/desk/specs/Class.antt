@@ -5,53 +5,53 @@
 use Rattle.std.specs.Prelude.{ℕ, ◌*◌, ◌≤◌, ◌<◌, ◌≡◌, ◌⊎◌, List, [], ◌∷◌, ◌++◌, length, ℤ}
 use Rattle.integers.specs.Sum.{sumℕ}
 use Rattle.refusals.specs.Order.{Check, ◌when◌, NoneOf, FirstOf}
-use Rattle.flows.specs.ProvingSet.{wordsFor}
+use Rattle.flows.specs.ProvingSet.{words_for}
 use Rattle.arrays.specs.At.{at}
-use Rattle.records.specs.Sheet.{nodesOf, edgesOf}
-use Rattle.sheets.specs.Open.{sheetChecks}
-use Rattle.questions.specs.Question.{endChecks, valueChecks}
+use Rattle.records.specs.Sheet.{nodes_of, edges_of}
+use Rattle.sheets.specs.Open.{sheet_checks}
+use Rattle.questions.specs.Question.{end_checks, value_checks}
 use Rattle.pages.specs.Stretch.{SameFrom}
-use Rattle.desk.specs.Paper.{paperOf, IsLargest, Points}
+use Rattle.desk.specs.Paper.{paper_of, IsLargest, Points}
 use Rattle.desk.specs.declared.Delivery.{Delivery}
 use Rattle.desk.specs.declared.Class.{Class}
 use Rattle.desk.specs.declared.Class.TheVariants.{Empty, Marked, Refused}
 
 -- 32 and 16 of n papers, by the lengths of the slices alone: a kind for each claim, the stretches of settings and sets, a place for each paper's points
-unfoldable pub classChecks : (nodes edges n kinds settings sets points : ℕ) → List Check
-classChecks nodes edges n kinds settings sets points =
+unfoldable pub class_checks : (nodes edges n kinds settings sets points : ℕ) → List Check
+class_checks nodes edges n kinds settings sets points =
     (32 when 1000 < n)
-    ∷ (16 when (kinds < n) ⊎ ((settings < n * edges) ⊎ ((sets < n * wordsFor nodes) ⊎ (points < n))))
+    ∷ (16 when (kinds < n) ⊎ ((settings < n * edges) ⊎ ((sets < n * words_for nodes) ⊎ (points < n))))
     ∷ []
 
 -- the sheet checks, 13, 14, 15, 32, 16: what stands in the papers is not among them
-unfoldable pub examineChecks : List ℕ → (source sink : ℕ) → ℤ → (n kinds settings sets points : ℕ) → List Check
-examineChecks s source sink value n kinds settings sets points =
-    sheetChecks s
-    ++ (endChecks (nodesOf s) source sink ++ (valueChecks value ++ classChecks (nodesOf s) (edgesOf s) n kinds settings sets points))
+unfoldable pub examine_checks : List ℕ → (source sink : ℕ) → ℤ → (n kinds settings sets points : ℕ) → List Check
+examine_checks s source sink value n kinds settings sets points =
+    sheet_checks s
+    ++ (end_checks (nodes_of s) source sink ++ (value_checks value ++ class_checks (nodes_of s) (edges_of s) n kinds settings sets points))
 
 -- the figures of n papers, of which q has `points q`: the mean is sum over number, and is not divided; least and greatest are some paper's
 pub record Figures (n : ℕ) (points : ℕ → ℕ) (number sum least greatest : ℕ) : Type 0 where
   pub number_is : number ≡ n
   pub sum_is : sum ≡ sumℕ n points
-  pub least-reached : (q : ℕ) × (q < n) × (points q ≡ least)
-  pub least-below : (q : ℕ) → q < n → least ≤ points q
-  pub greatest-reached : (q : ℕ) × (q < n) × (points q ≡ greatest)
-  pub greatest-above : (q : ℕ) → q < n → points q ≤ greatest
+  pub least_reached : (q : ℕ) × (q < n) × (points q ≡ least)
+  pub least_below : (q : ℕ) → q < n → least ≤ points q
+  pub greatest_reached : (q : ℕ) × (q < n) × (points q ≡ greatest)
+  pub greatest_above : (q : ℕ) → q < n → points q ≤ greatest
 
 -- What a class of claims comes to. Empty: no paper, and no figures. Marked: the points of paper q at place q of the slice lent for them, which is left as it
 -- was behind the last, and the figures of those. Refused: the slice as it was.
 abbrev pub Examines : List ℕ → (source sink : ℕ) → ℤ → (claims : List ℤ) (kinds : List ℕ) (settings : List ℤ) (sets : List ℕ) → (points points' : List ℕ)
     → Class → Type 0
 Examines s source sink value claims kinds settings sets points points' Empty =
-    NoneOf (examineChecks s source sink value (length claims) (length kinds) (length settings) (length sets) (length points))
+    NoneOf (examine_checks s source sink value (length claims) (length kinds) (length settings) (length sets) (length points))
     × (length claims ≡ 0)
     × (points' ≡ points)
 Examines s source sink value claims kinds settings sets points points' (Marked number sum least greatest) =
-    NoneOf (examineChecks s source sink value (length claims) (length kinds) (length settings) (length sets) (length points))
+    NoneOf (examine_checks s source sink value (length claims) (length kinds) (length settings) (length sets) (length points))
     × ((largest : Delivery) × IsLargest s source sink largest
-    × ((q : ℕ) → q < length claims → Points s source sink value largest (paperOf s claims kinds settings sets q) (at points' q)))
+    × ((q : ℕ) → q < length claims → Points s source sink value largest (paper_of s claims kinds settings sets q) (at points' q)))
     × SameFrom (length claims) points points'
     × Figures (length claims) (at points') number sum least greatest
 Examines s source sink value claims kinds settings sets points points' (Refused k p) =
-    FirstOf (examineChecks s source sink value (length claims) (length kinds) (length settings) (length sets) (length points)) k p
+    FirstOf (examine_checks s source sink value (length claims) (length kinds) (length settings) (length sets) (length points)) k p
     × (points' ≡ points)

@@ -4,9 +4,9 @@
 -- operation is named here. That Mark gives a delivery exactly where settings carry it, and Largest the largest, is among the statements.
 use Rattle.std.specs.Prelude.{ℕ, ◌+◌, ◌≡◌, ◌⊎◌, Bool, cond, ◌&&◌, List, eqb, ltb, ℤ, pos, ◌+ℤ◌, ◌≤ℤ◌, ◌<ℤ◌}
 use Rattle.maps.specs.Cut.{cut}
-use Rattle.flows.specs.ProvingSet.{wordsFor, member}
+use Rattle.flows.specs.ProvingSet.{words_for, member}
 use Rattle.arrays.specs.At.{at, atℤ}
-use Rattle.records.specs.Sheet.{nodesOf, edgesOf, capacityOf, sheetMap}
+use Rattle.records.specs.Sheet.{nodes_of, edges_of, capacity_of, sheet_map}
 use Rattle.pages.specs.Stretch.{stretch}
 use Rattle.analyser.specs.Statements.{Delivers, Possible, Impossible, ProvesOf}
 use Rattle.desk.specs.declared.Delivery.{Delivery}
@@ -24,15 +24,15 @@ unfoldable pub claim_of : (kind : ℕ) → ℤ → Delivery
 claim_of kind number = cond (eqb kind 1) None (Value number)
 
 -- the nodes whose bits are set in the words: "bits past the last node are passed over"
-unfoldable pub nodesIn : (nodes : ℕ) → List ℕ → ℕ → Bool
-nodesIn nodes words v = ltb v nodes && member words v
+unfoldable pub nodes_in : (nodes : ℕ) → List ℕ → ℕ → Bool
+nodes_in nodes words v = ltb v nodes && member words v
 
 -- paper q of a class: claim and kind number q, and stretch q of the settings and of the sets, "in stretches as in Job 1"
-abbrev pub paperOf : List ℕ → (claims : List ℤ) (kinds : List ℕ) (settings : List ℤ) (sets : List ℕ) → ℕ → Paper
-paperOf s claims kinds settings sets q = record {
-  settings = atℤ (stretch (edgesOf s) q settings);
+abbrev pub paper_of : List ℕ → (claims : List ℤ) (kinds : List ℕ) (settings : List ℤ) (sets : List ℕ) → ℕ → Paper
+paper_of s claims kinds settings sets q = record {
+  settings = atℤ (stretch (edges_of s) q settings);
   claim = claim_of (at kinds q) (atℤ claims q);
-  set = nodesIn (nodesOf s) (stretch (wordsFor (nodesOf s)) q sets);
+  set = nodes_in (nodes_of s) (stretch (words_for (nodes_of s)) q sets);
 }
 
 -- ── its points ──
@@ -47,7 +47,7 @@ IsLargest s source sink None = (w : ℤ) → Impossible s source sink w
 
 -- 01's rule for "none": "a set holding both or neither of headgate and outfall, outward total below 0"
 abbrev pub NoneRule : List ℕ → (source sink : ℕ) → (ℕ → Bool) → Type 0
-NoneRule s source sink S = (S source ≡ S sink) × (cut (sheetMap s) (capacityOf s) S <ℤ pos 0)
+NoneRule s source sink S = (S source ≡ S sink) × (cut (sheet_map s) (capacity_of s) S <ℤ pos 0)
 
 -- the points for claim and set: 3 and 3, each by itself; where the largest is none 6 for both together
 abbrev pub LastSix : List ℕ → (source sink : ℕ) → (largest : Delivery) → Paper → ℕ → Type 0

@@ -5,15 +5,15 @@ ghost use Rattle.std.specs.Int.Signed.{lt_z};
 ghost use Rattle.integers.specs.Sum.{sumℕ};
 ghost use Rattle.refusals.specs.Order.{Decides, Judged, NoneOf};
 ghost use Rattle.maps.specs.Cut.{cut};
-ghost use Rattle.flows.specs.ProvingSet.{wordsFor, member};
+ghost use Rattle.flows.specs.ProvingSet.{words_for, member};
 ghost use Rattle.arrays.specs.At.{at, atℤ};
-ghost use Rattle.records.specs.Sheet.{nodesOf, edgesOf, capacityOf, sheetMap};
-ghost use Rattle.sheets.specs.Open.{sheetChecks};
-ghost use Rattle.questions.specs.Question.{endChecks, valueChecks};
+ghost use Rattle.records.specs.Sheet.{nodes_of, edges_of, capacity_of, sheet_map};
+ghost use Rattle.sheets.specs.Open.{sheet_checks};
+ghost use Rattle.questions.specs.Question.{end_checks, value_checks};
 ghost use Rattle.pages.specs.Stretch.{SameFrom};
 ghost use Rattle.analyser.specs.Statements.{Delivers};
-ghost use Rattle.desk.specs.Paper.{claim_of, nodesIn, paperOf, Earns, IsLargest, Points};
-ghost use Rattle.desk.specs.Class.{classChecks, Examines};
+ghost use Rattle.desk.specs.Paper.{claim_of, nodes_in, paper_of, Earns, IsLargest, Points};
+ghost use Rattle.desk.specs.Class.{class_checks, Examines};
 ghost use Rattle.desk.specs.inner.Judged.{IsValue, IsNone, ProvesBy, NoneBy, ValuePoints, NonePoints, LastSixBy};
 ghost use Rattle.desk.specs.inner.Asked.{Asked};
 
@@ -60,7 +60,7 @@ fn narrow(n: usize) -> u16
 // As many words as the nodes need.
 fn words_for(nodes: usize) -> usize
     requires { nodes ≤ 513 }
-    ensures { (result ≡ wordsFor nodes) × (result ≤ 9) }
+    ensures { (result ≡ words_for nodes) × (result ≤ 9) }
 {
     (nodes + 63) / 64
 }
@@ -215,7 +215,7 @@ fn value_asked(v: i32, value: i32) -> u8
 
 // The points for settings: 4 if Mark gives the value asked.
 fn settings_points(sheet: &[u8], source: u16, sink: u16, value: i32, settings: &[i32]) -> u8
-    requires { Asked sheet.now source sink × (edgesOf sheet.now ≤ length settings.now) }
+    requires { Asked sheet.now source sink × (edges_of sheet.now ≤ length settings.now) }
     ensures { Earns (Delivers sheet.now source sink value (atℤ settings.now)) 4 result }
 {
     let answer = analyser::mark(sheet, source, sink, settings);
@@ -227,8 +227,8 @@ fn settings_points(sheet: &[u8], source: u16, sink: u16, value: i32, settings: &
 
 // The outward total of a set, by Totals by node, with the subtotals in an array that ends here.
 fn outward_total(sheet: &[u8], set: &[u64]) -> i32
-    requires { NoneOf (sheetChecks sheet.now) × (wordsFor (nodesOf sheet.now) ≤ length set.now) }
-    ensures { result ≡ cut (sheetMap sheet.now) (capacityOf sheet.now) (nodesIn (nodesOf sheet.now) set.now) }
+    requires { NoneOf (sheet_checks sheet.now) × (words_for (nodes_of sheet.now) ≤ length set.now) }
+    ensures { result ≡ cut (sheet_map sheet.now) (capacity_of sheet.now) (nodes_in (nodes_of sheet.now) set.now) }
 {
     let mut subtotals = [0i32; 513];
     let answer = analyser::totals(sheet, set, &mut subtotals);
@@ -249,9 +249,9 @@ fn paper_points(
     settings: &[i32],
     set: &[u64],
 ) -> u8
-    requires { Asked sheet.now source sink × (edgesOf sheet.now ≤ length settings.now) × (wordsFor (nodesOf sheet.now) ≤ length set.now) }
+    requires { Asked sheet.now source sink × (edges_of sheet.now ≤ length settings.now) × (words_for (nodes_of sheet.now) ≤ length set.now) }
     ensures { Points sheet.now source sink value largest
-        (record { settings = atℤ settings.entry.now; claim = claim; set = nodesIn (nodesOf sheet.now) set.now }) result × (result ≤ 10) }
+        (record { settings = atℤ settings.entry.now; claim = claim; set = nodes_in (nodes_of sheet.now) set.now }) result × (result ≤ 10) }
 {
     let first = settings_points(sheet, source, sink, value, settings);
     let total = outward_total(sheet, set);
@@ -276,11 +276,11 @@ fn mark_papers(
     sets: &[u64],
     points: &mut [u8],
 )
-    requires { Asked sheet.now source sink × (nodes ≡ nodesOf sheet.now) × (edges ≡ edgesOf sheet.now) × (length claims.now ≤ 1000)
+    requires { Asked sheet.now source sink × (nodes ≡ nodes_of sheet.now) × (edges ≡ edges_of sheet.now) × (length claims.now ≤ 1000)
         × (length claims.now ≤ length kinds.now) × (length claims.now * edges ≤ length settings.now)
-        × (length claims.now * wordsFor nodes ≤ length sets.now) × (length claims.now ≤ length points.old) }
+        × (length claims.now * words_for nodes ≤ length sets.now) × (length claims.now ≤ length points.old) }
     ensures { ((q : ℕ) → q < length claims.now → Points sheet.now source sink value largest
-        (paperOf sheet.now claims.now kinds.now settings.now sets.now q) (at points.new q))
+        (paper_of sheet.now claims.now kinds.now settings.now sets.now q) (at points.new q))
         × ((q : ℕ) → q < length claims.now → at points.new q ≤ 10)
         × SameFrom (length claims.now) points.old points.new }
 {
@@ -356,7 +356,7 @@ fn greatest_of(points: &[u8], n: usize) -> usize
 
 // Checks 13, 14 and 15 of the question.
 fn check_question(nodes: usize, source: usize, sink: usize, value: i32) -> Verdict
-    ensures { Judged (endChecks nodes source sink ++ valueChecks value) result }
+    ensures { Judged (end_checks nodes source sink ++ value_checks value) result }
 {
     if nodes <= source {
         return Verdict::Refused(13, 0);
@@ -387,7 +387,7 @@ fn check_class(
     points: usize,
 ) -> Verdict
     requires { (nodes ≤ 513) × (edges ≤ 512) }
-    ensures { Judged (classChecks nodes edges n kinds settings sets points) result }
+    ensures { Judged (class_checks nodes edges n kinds settings sets points) result }
 {
     if 1000 < n {
         return Verdict::Refused(32, 0);
@@ -421,7 +421,7 @@ fn examine_counted(
     sets: &[u64],
     points: &mut [u8],
 ) -> Class
-    requires { NoneOf (sheetChecks sheet.now) × (nodes ≡ nodesOf sheet.now) × (edges ≡ edgesOf sheet.now) }
+    requires { NoneOf (sheet_checks sheet.now) × (nodes ≡ nodes_of sheet.now) × (edges ≡ edges_of sheet.now) }
     ensures { Examines sheet.now source sink value claims.now kinds.now settings.now sets.now
         points.old points.new result }
 {

@@ -8,33 +8,33 @@ use lib.ListN.{length, length-append}
 use lib.IntN.{ℤ}
 use Rattle.maps.specs.Map.{Map, darts, head}
 use Rattle.maps.specs.Check.{InRange}
-use Rattle.maps.proofs.Darts.{rev-in}
+use Rattle.maps.proofs.Darts.{rev_in}
 use Rattle.maps.specs.Dart.{rev}
 use Rattle.texts.specs.Decimal.{decimal}
 use Rattle.texts.specs.Lines.{lines}
-use Rattle.texts.proofs.Length.{decimal-length}
-use Rattle.texts.proofs.Joined.{lines-length}
-use Rattle.dimacs.specs.Text.{natural, problemLine, nodeLine, arcLine, dimacsText}
+use Rattle.texts.proofs.Length.{decimal_length}
+use Rattle.texts.proofs.Joined.{lines_length}
+use Rattle.dimacs.specs.Text.{natural, problem_line, node_line, arc_line, dimacs_text}
 
 abbrev pub long : ℕ → ℕ
 long n = length (decimal n)
 
 -- digits that were counted: of the number meant, and at most ten
 pub counted : {n m r : ℕ} → r ≡ long n → n ≡ m → n < 4294967296 → (r ≡ long m) × (r ≤ 10)
-counted {n} e same h = (e ∙ ap long same, omega (arith, e, decimal-length 9 n (omega arith)))
+counted {n} e same h = (e ∙ ap long same, omega (arith, e, decimal_length 9 n (omega arith)))
 
 -- ── each line ──
-pub problem-length : (n m : ℕ) → length (problemLine n m) ≡ long n + long m + 8
-unfolding problemLine
-problem-length n m = omega (arith, length-append (decimal n) (32 ∷ (decimal m ++ (10 ∷ []))), length-append (decimal m) (10 ∷ []))
+pub problem_length : (n m : ℕ) → length (problem_line n m) ≡ long n + long m + 8
+unfolding problem_line
+problem_length n m = omega (arith, length-append (decimal n) (32 ∷ (decimal m ++ (10 ∷ []))), length-append (decimal m) (10 ∷ []))
 
-pub node-length : (v which : ℕ) → length (nodeLine v which) ≡ long (v + 1) + 5
-unfolding nodeLine
-node-length v which = omega (arith, length-append (decimal (v + 1)) (32 ∷ which ∷ 10 ∷ []))
+pub node_length : (v which : ℕ) → length (node_line v which) ≡ long (v + 1) + 5
+unfolding node_line
+node_length v which = omega (arith, length-append (decimal (v + 1)) (32 ∷ which ∷ 10 ∷ []))
 
-pub arc-length : (v w : ℕ) (c : ℤ) → length (arcLine v w c) ≡ long (v + 1) + long (w + 1) + long (natural c) + 5
-unfolding arcLine
-arc-length v w c =
+pub arc_length : (v w : ℕ) (c : ℤ) → length (arc_line v w c) ≡ long (v + 1) + long (w + 1) + long (natural c) + 5
+unfolding arc_line
+arc_length v w c =
     omega (
       arith,
       length-append (decimal (v + 1)) (32 ∷ (decimal (w + 1) ++ (32 ∷ (decimal (natural c) ++ (10 ∷ []))))),
@@ -45,45 +45,45 @@ arc-length v w c =
 -- ── the text ──
 module _ (𝓜 : Map) (c : ℕ → ℤ) (s t : ℕ) where
   abbrev line : ℕ → List ℕ
-  line d = arcLine (𝓜.tail d) (head 𝓜 d) (c d)
+  line d = arc_line (𝓜.tail d) (head 𝓜 d) (c d)
 
-  pub text-lines : length (dimacsText 𝓜 c s t)
-      ≡ length (problemLine 𝓜.nodes (darts 𝓜)) + (length (nodeLine s 115) + (length (nodeLine t 116) + length (lines (darts 𝓜) line)))
-  unfolding dimacsText
-  text-lines =
+  pub text_lines : length (dimacs_text 𝓜 c s t)
+      ≡ length (problem_line 𝓜.nodes (darts 𝓜)) + (length (node_line s 115) + (length (node_line t 116) + length (lines (darts 𝓜) line)))
+  unfolding dimacs_text
+  text_lines =
       let arcs = lines (darts 𝓜) line in
       omega (
         arith,
-        length-append (problemLine 𝓜.nodes (darts 𝓜)) (nodeLine s 115 ++ (nodeLine t 116 ++ arcs)),
-        length-append (nodeLine s 115) (nodeLine t 116 ++ arcs),
-        length-append (nodeLine t 116) arcs,
+        length-append (problem_line 𝓜.nodes (darts 𝓜)) (node_line s 115 ++ (node_line t 116 ++ arcs)),
+        length-append (node_line s 115) (node_line t 116 ++ arcs),
+        length-append (node_line t 116) arcs,
       )
 
-  pub text-length : length (dimacsText 𝓜 c s t) ≡ long 𝓜.nodes + long (darts 𝓜) + 8 + (long (s + 1) + long (t + 1) + 10) + length (lines (darts 𝓜) line)
-  text-length = omega (arith, text-lines, problem-length 𝓜.nodes (darts 𝓜), node-length s 115, node-length t 116)
+  pub text_length : length (dimacs_text 𝓜 c s t) ≡ long 𝓜.nodes + long (darts 𝓜) + 8 + (long (s + 1) + long (t + 1) + 10) + length (lines (darts 𝓜) line)
+  text_length = omega (arith, text_lines, problem_length 𝓜.nodes (darts 𝓜), node_length s 115, node_length t 116)
 
-  pub text-short : InRange 𝓜 → 𝓜.nodes ≤ 999 → 𝓜.edges ≤ 512 → s < 𝓜.nodes → t < 𝓜.nodes
-      → ((d : ℕ) → d < darts 𝓜 → natural (c d) ≤ 1000000) → length (dimacsText 𝓜 c s t) ≤ 18463
-  text-short range few short s-in t-in small =
+  pub text_short : InRange 𝓜 → 𝓜.nodes ≤ 999 → 𝓜.edges ≤ 512 → s < 𝓜.nodes → t < 𝓜.nodes
+      → ((d : ℕ) → d < darts 𝓜 → natural (c d) ≤ 1000000) → length (dimacs_text 𝓜 c s t) ≤ 18463
+  text_short range few short s_in t_in small =
       omega (
         arith,
-        text-length,
+        text_length,
         three 𝓜.nodes few,
-        decimal-length 3 (darts 𝓜) (omega arith),
+        decimal_length 3 (darts 𝓜) (omega arith),
         three (s + 1) (omega arith),
         three (t + 1) (omega arith),
-        lines-length 18 (darts 𝓜) line each,
+        lines_length 18 (darts 𝓜) line each,
       )
     where
       three : (n : ℕ) → n ≤ 999 → long n ≤ 3
-      three n h = decimal-length 2 n (omega arith)
+      three n h = decimal_length 2 n (omega arith)
 
       each : (d : ℕ) → d < darts 𝓜 → length (line d) ≤ 18
       each d l =
           omega (
             arith,
-            arc-length (𝓜.tail d) (head 𝓜 d) (c d),
-            three (𝓜.tail d + 1) (omega (arith, range.tail-in d l)),
-            three (head 𝓜 d + 1) (omega (arith, range.tail-in (rev d) (rev-in 𝓜.edges d l))),
-            decimal-length 6 (natural (c d)) (omega (arith, small d l)),
+            arc_length (𝓜.tail d) (head 𝓜 d) (c d),
+            three (𝓜.tail d + 1) (omega (arith, range.tail_in d l)),
+            three (head 𝓜 d + 1) (omega (arith, range.tail_in (rev d) (rev_in 𝓜.edges d l))),
+            decimal_length 6 (natural (c d)) (omega (arith, small d l)),
           )

@@ -6,17 +6,17 @@ use Prim.Native.Nat.{ℕ, ◌≤◌, ◌<◌}
 use native.Mathlib.Omega.{arith}
 use lib.ListN.{length}
 use Rattle.refusals.specs.Order.{Check, ◌when◌, NoneOf, FirstOf}
-use Rattle.refusals.proofs.Order.{none-append, append-none, first-left, first-right}
+use Rattle.refusals.proofs.Order.{none_append, append_none, first_left, first_right}
 use Rattle.maps.specs.Map.{darts}
 use Rattle.maps.specs.Drawing.{Drawing}
-use Rattle.questions.specs.Question.{endChecks}
-use Rattle.dimacs.specs.Write.{BelowZero, text_of, textChecks, TextWritten}
+use Rattle.questions.specs.Question.{end_checks}
+use Rattle.dimacs.specs.Write.{BelowZero, text_of, text_checks, TextWritten}
 use Rattle.dimacs.specs.declared.DimacsAnswer.{DimacsAnswer}
 use Rattle.dimacs.specs.declared.DimacsAnswer.TheVariants.{Bytes, Refused}
 
 module _ (𝓓 : Drawing) (source sink : ℕ) (out : List ℕ) where
   abbrev ends : List Check
-  ends = endChecks 𝓓.map.nodes source sink
+  ends = end_checks 𝓓.map.nodes source sink
 
   abbrev Below : Type 0
   Below = BelowZero (darts 𝓓.map) 𝓓.capacity
@@ -24,30 +24,30 @@ module _ (𝓓 : Drawing) (source sink : ℕ) (out : List ℕ) where
   abbrev rest : List Check
   rest = (22 when Below) ∷ (16 when length out < length (text_of 𝓓 source sink)) ∷ []
 
-  pub text-ends : (k p : ℕ) → FirstOf ends k p → FirstOf (textChecks 𝓓 source sink out) k p
-  unfolding textChecks
-  text-ends k p h = first-left ends rest k p h
+  pub text_ends : (k p : ℕ) → FirstOf ends k p → FirstOf (text_checks 𝓓 source sink out) k p
+  unfolding text_checks
+  text_ends k p h = first_left ends rest k p h
 
   module _ (two : NoneOf ends) where
-    pub text-negative : Below → FirstOf (textChecks 𝓓 source sink out) 22 0
-    unfolding textChecks FirstOf
-    text-negative b = first-right ends rest 22 0 two (inl (b, refl, refl))
+    pub text_negative : Below → FirstOf (text_checks 𝓓 source sink out) 22 0
+    unfolding text_checks FirstOf
+    text_negative b = first_right ends rest 22 0 two (inl (b, refl, refl))
 
     module _ (none : Below → ⊥) where
-      pub text-short : length out < length (text_of 𝓓 source sink) → FirstOf (textChecks 𝓓 source sink out) 16 0
-      unfolding textChecks FirstOf
-      text-short l = first-right ends rest 16 0 two (inr (none, inl (l, refl, refl)))
+      pub text_short : length out < length (text_of 𝓓 source sink) → FirstOf (text_checks 𝓓 source sink out) 16 0
+      unfolding text_checks FirstOf
+      text_short l = first_right ends rest 16 0 two (inr (none, inl (l, refl, refl)))
 
-      pub text-none : length (text_of 𝓓 source sink) ≤ length out → NoneOf (textChecks 𝓓 source sink out)
-      unfolding textChecks NoneOf
-      text-none l = none-append ends rest two (none, ((λ m. omega arith), tt))
+      pub text_none : length (text_of 𝓓 source sink) ≤ length out → NoneOf (text_checks 𝓓 source sink out)
+      unfolding text_checks NoneOf
+      text_none l = none_append ends rest two (none, ((λ m. omega arith), tt))
 
   -- what an accepted drawing is known of
-  pub text-known : NoneOf (textChecks 𝓓 source sink out) → NoneOf ends × (Below → ⊥)
-  unfolding textChecks NoneOf
-  text-known h = let a = append-none ends rest h in (a.0, a.1.0)
+  pub text_known : NoneOf (text_checks 𝓓 source sink out) → NoneOf ends × (Below → ⊥)
+  unfolding text_checks NoneOf
+  text_known h = let a = append_none ends rest h in (a.0, a.1.0)
 
-pub text-after : (before : List Check) → NoneOf before → (𝓓 : Drawing) (checks : List Check) (source sink : ℕ) (out out' : List ℕ) (r : DimacsAnswer)
+pub text_after : (before : List Check) → NoneOf before → (𝓓 : Drawing) (checks : List Check) (source sink : ℕ) (out out' : List ℕ) (r : DimacsAnswer)
     → TextWritten 𝓓 checks source sink out out' r → TextWritten 𝓓 (before ++ checks) source sink out out' r
-text-after before passed 𝓓 checks source sink out out' (Bytes n) h = (none-append before checks passed h.0, h.1, h.2)
-text-after before passed 𝓓 checks source sink out out' (Refused k p) h = (first-right before checks k p passed h.0, h.1)
+text_after before passed 𝓓 checks source sink out out' (Bytes n) h = (none_append before checks passed h.0, h.1, h.2)
+text_after before passed 𝓓 checks source sink out out' (Refused k p) h = (first_right before checks k p passed h.0, h.1)

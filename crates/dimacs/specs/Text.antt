@@ -7,12 +7,12 @@ use Rattle.texts.specs.Decimal.{decimal}
 use Rattle.texts.specs.Lines.{lines}
 
 -- "p max NODES ARCS"
-unfoldable pub problemLine : (nodes arcs : ℕ) → List ℕ
-problemLine nodes arcs = 112 ∷ 32 ∷ 109 ∷ 97 ∷ 120 ∷ 32 ∷ (decimal nodes ++ (32 ∷ (decimal arcs ++ (10 ∷ []))))
+unfoldable pub problem_line : (nodes arcs : ℕ) → List ℕ
+problem_line nodes arcs = 112 ∷ 32 ∷ 109 ∷ 97 ∷ 120 ∷ 32 ∷ (decimal nodes ++ (32 ∷ (decimal arcs ++ (10 ∷ []))))
 
 -- "n NODE s" of the source and "n NODE t" of the sink: 115 is s, 116 is t
-unfoldable pub nodeLine : ℕ → (letter : ℕ) → List ℕ
-nodeLine v letter = 110 ∷ 32 ∷ (decimal (v + 1) ++ (32 ∷ letter ∷ 10 ∷ []))
+unfoldable pub node_line : ℕ → (letter : ℕ) → List ℕ
+node_line v letter = 110 ∷ 32 ∷ (decimal (v + 1) ++ (32 ∷ letter ∷ 10 ∷ []))
 
 -- "The text can't hold a least flow": no capacity below zero comes to be written, since 22 has refused it
 unfoldable pub natural : ℤ → ℕ
@@ -20,9 +20,9 @@ natural (pos n) = n
 natural (negsuc n) = 0
 
 -- "a FROM TO CAPACITY"
-unfoldable pub arcLine : (v w : ℕ) → ℤ → List ℕ
-arcLine v w c = 97 ∷ 32 ∷ (decimal (v + 1) ++ (32 ∷ (decimal (w + 1) ++ (32 ∷ (decimal (natural c) ++ (10 ∷ []))))))
+unfoldable pub arc_line : (v w : ℕ) → ℤ → List ℕ
+arc_line v w c = 97 ∷ 32 ∷ (decimal (v + 1) ++ (32 ∷ (decimal (w + 1) ++ (32 ∷ (decimal (natural c) ++ (10 ∷ []))))))
 
-unfoldable pub dimacsText : Map → (ℕ → ℤ) → (source sink : ℕ) → List ℕ
-dimacsText 𝓜 c source sink =
-    problemLine 𝓜.nodes (darts 𝓜) ++ (nodeLine source 115 ++ (nodeLine sink 116 ++ lines (darts 𝓜) (λ d. arcLine (𝓜.tail d) (head 𝓜 d) (c d))))
+unfoldable pub dimacs_text : Map → (ℕ → ℤ) → (source sink : ℕ) → List ℕ
+dimacs_text 𝓜 c source sink =
+    problem_line 𝓜.nodes (darts 𝓜) ++ (node_line source 115 ++ (node_line sink 116 ++ lines (darts 𝓜) (λ d. arc_line (𝓜.tail d) (head 𝓜 d) (c d))))

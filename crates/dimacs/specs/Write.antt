@@ -4,8 +4,8 @@ use Rattle.std.specs.Prelude.{ℕ, ◌<◌, ◌≡◌, List, [], ◌∷◌, ◌+
 use Rattle.refusals.specs.Order.{Check, ◌when◌, NoneOf, FirstOf}
 use Rattle.maps.specs.Map.{darts}
 use Rattle.maps.specs.Drawing.{Drawing}
-use Rattle.questions.specs.Question.{endChecks}
-use Rattle.dimacs.specs.Text.{dimacsText}
+use Rattle.questions.specs.Question.{end_checks}
+use Rattle.dimacs.specs.Text.{dimacs_text}
 use Rattle.dimacs.specs.declared.DimacsAnswer.{DimacsAnswer}
 use Rattle.dimacs.specs.declared.DimacsAnswer.TheVariants.{Bytes, Refused}
 
@@ -14,12 +14,12 @@ abbrev pub BelowZero : (darts : ℕ) → (ℕ → ℤ) → Type 0
 BelowZero darts c = (d : ℕ) × (d < darts) × (c d <ℤ pos 0)
 
 abbrev pub text_of : Drawing → (source sink : ℕ) → List ℕ
-text_of 𝓓 source sink = dimacsText 𝓓.map 𝓓.capacity source sink
+text_of 𝓓 source sink = dimacs_text 𝓓.map 𝓓.capacity source sink
 
 -- 13, 14, 22 and 16
-unfoldable pub textChecks : Drawing → (source sink : ℕ) → List ℕ → List Check
-textChecks 𝓓 source sink out =
-    endChecks 𝓓.map.nodes source sink
+unfoldable pub text_checks : Drawing → (source sink : ℕ) → List ℕ → List Check
+text_checks 𝓓 source sink out =
+    end_checks 𝓓.map.nodes source sink
     ++ ((22 when BelowZero (darts 𝓓.map) 𝓓.capacity) ∷ (16 when length out < length (text_of 𝓓 source sink)) ∷ [])
 
 -- What is answered, where `checks` are the refusals in order. Bytes: so many, the text, in front of the output, whose rest is as it was.

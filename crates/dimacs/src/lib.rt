@@ -3,12 +3,12 @@
 ghost use Rattle.std.specs.Prelude.{◌≡◌, ◌∷◌, ◌++◌, ◌+◌, ◌≤◌, length, pos, ◌<ℤ◌};
 ghost use Rattle.refusals.specs.Order.{Decides};
 ghost use Rattle.arrays.specs.At.{atℤ};
-ghost use Rattle.arrays.specs.Maps.{drawingOf};
+ghost use Rattle.arrays.specs.Maps.{drawing_of};
 ghost use Rattle.texts.specs.Decimal.{decimal};
 ghost use Rattle.texts.specs.inner.Placed.{Placed};
-ghost use Rattle.dimacs.specs.Text.{natural, problemLine, arcLine};
-ghost use Rattle.dimacs.specs.Write.{BelowZero, text_of, textChecks, TextWritten};
-ghost use Rattle.dimacs.specs.inner.ArcLines.{arcLines};
+ghost use Rattle.dimacs.specs.Text.{natural, problem_line, arc_line};
+ghost use Rattle.dimacs.specs.Write.{BelowZero, text_of, text_checks, TextWritten};
+ghost use Rattle.dimacs.specs.inner.ArcLines.{arc_lines};
 
 use refusals::Verdict;
 
@@ -60,7 +60,7 @@ fn some_negative(capacities: &[i32; 1024], darts: usize) -> bool
 
 // How long the line of an arc is: its three numbers, and "a", three spaces and the line feed.
 fn arc_length(tail: u16, head: u16, capacity: i32) -> usize
-    ensures { (result ≡ length (arcLine tail head capacity)) × (result ≤ 35) }
+    ensures { (result ≡ length (arc_line tail head capacity)) × (result ≤ 35) }
 {
     let ends = texts::digit_count(node_number(tail)) + texts::digit_count(node_number(head));
     ends + texts::digit_count(capacity_number(capacity)) + 5
@@ -69,7 +69,7 @@ fn arc_length(tail: u16, head: u16, capacity: i32) -> usize
 // How long the lines of all arcs are.
 fn arcs_length(tails: &[u16; 1024], capacities: &[i32; 1024], darts: usize) -> usize
     requires { darts ≤ 1024 }
-    ensures { (result ≡ length (arcLines tails.now capacities.now darts)) × (result ≤ 35840) }
+    ensures { (result ≡ length (arc_lines tails.now capacities.now darts)) × (result ≤ 35840) }
 {
     let mut sum: usize = 0;
     let mut d: usize = 0;
@@ -93,7 +93,7 @@ fn text_length<'a>(
     sink: u16,
 ) -> usize
     requires { (nodes ≤ 1024) × (edges ≤ 512) }
-    ensures { result ≡ length (text_of (drawingOf nodes edges outer tails.now rotations.now capacities.now) source sink) }
+    ensures { result ≡ length (text_of (drawing_of nodes edges outer tails.now rotations.now capacities.now) source sink) }
 {
     let counts = texts::digit_count(count(nodes)) + texts::digit_count(count(2 * edges)) + 8;
     let ends = texts::digit_count(node_number(source)) + texts::digit_count(node_number(sink)) + 10;
@@ -112,8 +112,8 @@ fn put_field(text: &mut [u8], at: usize, n: u32, after: &[u8]) -> usize
 
 // "p max", the number of nodes and the number of arcs.
 fn put_problem(text: &mut [u8], nodes: usize, arcs: usize) -> usize
-    requires { (nodes ≤ 1024) × (arcs ≤ 1024) × (length (problemLine nodes arcs) ≤ length text.old) }
-    ensures { Placed 0 (problemLine nodes arcs) text.old text.new result }
+    requires { (nodes ≤ 1024) × (arcs ≤ 1024) × (length (problem_line nodes arcs) ≤ length text.old) }
+    ensures { Placed 0 (problem_line nodes arcs) text.old text.new result }
 {
     let first = texts::put_bytes(text, 0, b"p max ");
     let second = put_field(text, first, count(nodes), b" ");
@@ -131,8 +131,8 @@ fn put_node(text: &mut [u8], at: usize, v: u16, role: &[u8]) -> usize
 
 // "a", the two ends of an arc and its capacity.
 fn put_arc(text: &mut [u8], at: usize, tail: u16, head: u16, capacity: i32) -> usize
-    requires { at + length (arcLine tail head capacity) ≤ length text.old }
-    ensures { Placed at (arcLine tail head capacity) text.old text.new result }
+    requires { at + length (arc_line tail head capacity) ≤ length text.old }
+    ensures { Placed at (arc_line tail head capacity) text.old text.new result }
 {
     let first = texts::put_bytes(text, at, b"a ");
     let second = put_field(text, first, node_number(tail), b" ");
@@ -149,8 +149,8 @@ fn put_arcs(
     darts: usize,
 ) -> usize
     requires { (darts ≤ 1024)
-        × (first + length (arcLines tails.now capacities.now darts) ≤ length text.old) }
-    ensures { Placed first (arcLines tails.now capacities.now darts)
+        × (first + length (arc_lines tails.now capacities.now darts) ≤ length text.old) }
+    ensures { Placed first (arc_lines tails.now capacities.now darts)
         text.old text.new result }
 {
     let mut end = first;
@@ -176,8 +176,8 @@ fn put_text<'a>(
     text: &mut [u8],
 ) -> usize
     requires { (nodes ≤ 1024) × (edges ≤ 512)
-        × (length text.old ≡ length (text_of (drawingOf nodes edges outer tails.now rotations.now capacities.now) source sink)) }
-    ensures { Placed 0 (text_of (drawingOf nodes edges outer tails.now rotations.now capacities.now) source sink)
+        × (length text.old ≡ length (text_of (drawing_of nodes edges outer tails.now rotations.now capacities.now) source sink)) }
+    ensures { Placed 0 (text_of (drawing_of nodes edges outer tails.now rotations.now capacities.now) source sink)
         text.old text.new result }
 {
     let first = put_problem(text, nodes, 2 * edges);
@@ -206,8 +206,8 @@ pub fn write<'a>(
     out: &mut [u8],
 ) -> DimacsAnswer
     requires { (nodes ≤ 1024) × (edges ≤ 512) }
-    ensures { TextWritten (drawingOf nodes edges outer tails.now rotations.now capacities.now)
-        (textChecks (drawingOf nodes edges outer tails.now rotations.now capacities.now) source sink out.old)
+    ensures { TextWritten (drawing_of nodes edges outer tails.now rotations.now capacities.now)
+        (text_checks (drawing_of nodes edges outer tails.now rotations.now capacities.now) source sink out.old)
         source sink out.old out.new result }
 {
     let ends = questions::check_ends(nodes, arrays::wide(source), arrays::wide(sink));

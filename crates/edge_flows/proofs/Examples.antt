@@ -7,16 +7,16 @@ use Rattle.maps.specs.Dart.{rev}
 use Rattle.arrays.specs.At.{at, atℤ}
 use Rattle.edge_flows.specs.inner.Flow.{flow_of}
 
-pub drop-and-along : flow_of
+pub drop_and_along : flow_of
     (at (0 ∷ 1 ∷ 1 ∷ 2 ∷ []))
     (atℤ (pos 9 ∷ pos 9 ∷ pos 6 ∷ pos 7 ∷ []))
     (atℤ (pos 1 ∷ pos 1 ∷ pos 4 ∷ pos 1 ∷ []))
     (atℤ (pos 0 ∷ pos 5 ∷ negsuc 2 ∷ [])) 1
     ≡ pos 10
 unfolding rev
-drop-and-along = refl
+drop_and_along = refl
 
 -- a potential that rises, and a dart longer than its capacity: the flow runs against the dart
-pub against-the-dart : flow_of (at (0 ∷ 1 ∷ [])) (atℤ (pos 2 ∷ pos 3 ∷ [])) (atℤ (pos 3 ∷ pos 2 ∷ [])) (atℤ (pos 0 ∷ pos 4 ∷ [])) 0 ≡ negsuc 4
+pub against_the_dart : flow_of (at (0 ∷ 1 ∷ [])) (atℤ (pos 2 ∷ pos 3 ∷ [])) (atℤ (pos 3 ∷ pos 2 ∷ [])) (atℤ (pos 0 ∷ pos 4 ∷ [])) 0 ≡ negsuc 4
 unfolding rev
-against-the-dart = refl
+against_the_dart = refl

@@ -4,35 +4,35 @@ use native.Mathlib.Omega.{arith}
 use lib.IntN.{ℤ, ◌-ℤ◌}
 use mir.Syntax.{w32, w64}
 use mir.Val.{SFits}
-use Rattle.integers.proofs.Limits.{limited-minus}
-use Rattle.signed.proofs.Limits.{limited-fits, limited-fits64}
+use Rattle.integers.proofs.Limits.{limited_minus}
+use Rattle.signed.proofs.Limits.{limited_fits, limited_fits64}
 use Rattle.maps.specs.Dart.{rev}
-use Rattle.maps.proofs.Darts.{rev-in}
+use Rattle.maps.proofs.Darts.{rev_in}
 use Rattle.edge_flows.specs.inner.Flow.{flow_of, Flowing}
-use Rattle.arrays.specs.inner.Sizes.{mostPotential, mostCapacity}
+use Rattle.arrays.specs.inner.Sizes.{most_potential, most_capacity}
 
 module _ {edges : ℕ} {left : ℕ → ℕ} {capacity length potential : ℕ → ℤ} (φ : Flowing edges left capacity length potential) (e : ℕ) (below : e < edges) where
   -- dart 2e and its reverse are darts of the edges
-  first-in : 2 * e < 2 * edges
-  first-in = omega arith
+  first_in : 2 * e < 2 * edges
+  first_in = omega arith
 
-  second-in : rev (2 * e) < 2 * edges
-  second-in = rev-in edges (2 * e) first-in
+  second_in : rev (2 * e) < 2 * edges
+  second_in = rev_in edges (2 * e) first_in
 
   pub left_in : left (2 * e) < 1024
-  left_in = φ.face-in (2 * e) first-in
+  left_in = φ.face_in (2 * e) first_in
 
-  pub right-in : left (rev (2 * e)) < 1024
-  right-in = φ.face-in (rev (2 * e)) second-in
+  pub right_in : left (rev (2 * e)) < 1024
+  right_in = φ.face_in (rev (2 * e)) second_in
 
   -- two potentials differ by at most 8·10^18, which is below 2^63
-  pub drop-fits : SFits w64 (potential (left (2 * e)) -ℤ potential (left (rev (2 * e))))
-  drop-fits =
-      limited-fits64 (mostPotential + mostPotential) (potential (left (2 * e)) -ℤ potential (left (rev (2 * e)))) (omega arith)
-      (limited-minus (φ.near (2 * e) first-in) (φ.near (rev (2 * e)) second-in))
+  pub drop_fits : SFits w64 (potential (left (2 * e)) -ℤ potential (left (rev (2 * e))))
+  drop_fits =
+      limited_fits64 (most_potential + most_potential) (potential (left (2 * e)) -ℤ potential (left (rev (2 * e)))) (omega arith)
+      (limited_minus (φ.near (2 * e) first_in) (φ.near (rev (2 * e)) second_in))
 
-  pub flow-fits64 : SFits w64 (flow_of left capacity length potential e)
-  flow-fits64 = limited-fits64 mostCapacity (flow_of left capacity length potential e) (omega arith) (φ.small e below)
+  pub flow_fits64 : SFits w64 (flow_of left capacity length potential e)
+  flow_fits64 = limited_fits64 most_capacity (flow_of left capacity length potential e) (omega arith) (φ.small e below)
 
-  pub flow-fits : SFits w32 (flow_of left capacity length potential e)
-  flow-fits = limited-fits mostCapacity (flow_of left capacity length potential e) (omega arith) (φ.small e below)
+  pub flow_fits : SFits w32 (flow_of left capacity length potential e)
+  flow_fits = limited_fits most_capacity (flow_of left capacity length potential e) (omega arith) (φ.small e below)

@@ -17,16 +17,16 @@ module _ (a b : ℕ) (p : a < 256) (q : b < 256) where
 
 -- ── four bytes ──
 -- the quotients one after another: `omega` alone loses its way among four of them
-by-quotients : (n a q b r c d : ℕ) → q * 256 + a ≡ n → r * 256 + b ≡ q → d * 256 + c ≡ r → a + b * 256 + c * 65536 + d * 16777216 ≡ n
-by-quotients n a q b r c d h k m = omega arith
+by_quotients : (n a q b r c d : ℕ) → q * 256 + a ≡ n → r * 256 + b ≡ q → d * 256 + c ≡ r → a + b * 256 + c * 65536 + d * 16777216 ≡ n
+by_quotients n a q b r c d h k m = omega arith
 
-last-quotient : (n : ℕ) → n < 4294967296 → n / 16777216 % 256 ≡ n / 16777216
-last-quotient n h = omega arith
+last_quotient : (n : ℕ) → n < 4294967296 → n / 16777216 % 256 ≡ n / 16777216
+last_quotient n h = omega arith
 
 pub joined32 : (n : ℕ) → n < 4294967296 → n % 256 + n / 256 % 256 * 256 + n / 65536 % 256 * 65536 + n / 16777216 % 256 * 16777216 ≡ n
 joined32 n h =
-    rw (last-quotient n h)
-    (by-quotients n (n % 256) (n / 256) (n / 256 % 256) (n / 65536) (n / 65536 % 256) (n / 16777216)
+    rw (last_quotient n h)
+    (by_quotients n (n % 256) (n / 256) (n / 256 % 256) (n / 65536) (n / 65536 % 256) (n / 16777216)
     (div-add-mod' n 256)
     (rw (← div-div-eq-div-mul n 256 256) (div-add-mod' (n / 256) 256))
     (rw (← div-div-eq-div-mul n 65536 256) (div-add-mod' (n / 65536) 256)))

@@ -6,26 +6,26 @@ use Rattle.std.specs.Int.{w32}
 use Rattle.std.proofs.Common.{to_z, of_z}
 
 -- ── read: the field at `at`, the low byte first ──
-unfoldable pub u16At : List ℕ → ℕ → ℕ
-u16At l at = get_or l at 0 + get_or l (at + 1) 0 * 256
+unfoldable pub u16_at : List ℕ → ℕ → ℕ
+u16_at l at = get_or l at 0 + get_or l (at + 1) 0 * 256
 
 -- 32 bits, as a number from 0
 unfoldable pub u32_at : List ℕ → ℕ → ℕ
 u32_at l at = get_or l at 0 + get_or l (at + 1) 0 * 256 + get_or l (at + 2) 0 * 65536 + get_or l (at + 3) 0 * 16777216
 
 -- 32 bits, with their sign
-unfoldable pub i32At : List ℕ → ℕ → ℤ
-i32At l at = to_z w32 (u32_at l at)
+unfoldable pub i32_at : List ℕ → ℕ → ℤ
+i32_at l at = to_z w32 (u32_at l at)
 
 -- ── write: the bytes of a value, the low one first ──
 unfoldable pub le16 : ℕ → List ℕ
 le16 n = n % 256 ∷ n / 256 % 256 ∷ []
 
-unfoldable pub leBits : ℕ → List ℕ
-leBits n = n % 256 ∷ n / 256 % 256 ∷ n / 65536 % 256 ∷ n / 16777216 % 256 ∷ []
+unfoldable pub le_bits : ℕ → List ℕ
+le_bits n = n % 256 ∷ n / 256 % 256 ∷ n / 65536 % 256 ∷ n / 16777216 % 256 ∷ []
 
 unfoldable pub le32 : ℤ → List ℕ
-le32 x = leBits (of_z w32 x)
+le32 x = le_bits (of_z w32 x)
 
 -- l with the bytes bs standing at `at`, and all else as it was
 unfoldable pub put : ℕ → List ℕ → List ℕ → List ℕ

@@ -1,7 +1,7 @@
 // Fields of records, read from and written into bytes. The paper: "Fields are little-endian, 16 bits unsigned or 32 bits signed." Document 02, Job 10: a tick
 // has 32 bits, unsigned.
 ghost use Rattle.std.specs.Prelude.{◌≡◌, [], ◌∷◌, ◌+◌, ◌<◌, ◌≤◌, length};
-ghost use Rattle.fields.specs.Fields.{u16At, u32_at, i32At, le16, leBits, le32, put};
+ghost use Rattle.fields.specs.Fields.{u16_at, u32_at, i32_at, le16, le_bits, le32, put};
 
 fn byte16(x: u8) -> u16
     ensures { (result ≡ x) × (result < 256) }
@@ -18,7 +18,7 @@ fn byte32(x: u8) -> u32
 // The field of 16 bits at `at`.
 pub fn read_u16(s: &[u8], at: usize) -> u16
     requires { at + 1 < length s.now }
-    ensures { result ≡ u16At s.now at }
+    ensures { result ≡ u16_at s.now at }
 {
     let low = byte16(s[at]);
     let high = byte16(s[at + 1]);
@@ -40,7 +40,7 @@ pub fn read_u32(s: &[u8], at: usize) -> u32
 // The field of 32 bits at `at`, with its sign.
 pub fn read_i32(s: &[u8], at: usize) -> i32
     requires { at + 3 < length s.now }
-    ensures { result ≡ i32At s.now at }
+    ensures { result ≡ i32_at s.now at }
 {
     signed::of_bits(read_u32(s, at))
 }
@@ -65,7 +65,7 @@ pub fn write_u16(s: &mut [u8], at: usize, n: u16)
 // 32 bits at `at`.
 fn write_u32(s: &mut [u8], at: usize, bits: u32)
     requires { at + 4 ≤ length s.old }
-    ensures { s.new ≡ put at (leBits bits) s.old }
+    ensures { s.new ≡ put at (le_bits bits) s.old }
 {
     s[at] = (bits % 256) as u8;
     s[at + 1] = (bits / 256 % 256) as u8;

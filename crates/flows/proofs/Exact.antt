@@ -9,10 +9,10 @@ use lib.Dec.{eqb}
 use lib.IntN.{ℤ, pos, neg_ℤ, ◌+ℤ◌, ◌-ℤ◌, ◌*ℤ◌, +ℤ_idl, +ℤ_idr, +ℤ_invr}
 use lib.Signed.{◌≤ℤ◌, ◌<ℤ◌}
 use Rattle.integers.specs.Sum.{Integers, when}
-use Rattle.integers.proofs.Omega.{atoms₁, atoms₂, atoms₃, parts, equal, less, at_most, from_less, from-at-most}
-use Rattle.integers.proofs.Laws.{lt-le-clash}
-use Rattle.integers.proofs.Sums.{sum-ext}
-use Rattle.integers.proofs.IntegerSums.{sum-sub, when-neg, when-add}
+use Rattle.integers.proofs.Omega.{atoms₁, atoms₂, atoms₃, parts, equal, less, at_most, from_less, from_at_most}
+use Rattle.integers.proofs.Laws.{lt_le_clash}
+use Rattle.integers.proofs.Sums.{sum_ext}
+use Rattle.integers.proofs.IntegerSums.{sum_sub, when_neg, when_add}
 use Rattle.maps.specs.Dart.{rev}
 use Rattle.maps.specs.Map.{Map, darts}
 use Rattle.maps.specs.Check.{InRange}
@@ -20,20 +20,20 @@ use Rattle.maps.specs.Flow.{net, Flow}
 use Rattle.maps.specs.Cut.{leaves, cut, sent}
 use Rattle.maps.specs.inner.FaceWalk.{FaceWalk, total}
 use Rattle.maps.specs.Potential.{Heights}
-use Rattle.maps.proofs.Cuts.{cut-bound, flow-sent}
+use Rattle.maps.proofs.Cuts.{cut_bound, flow_sent}
 use Rattle.maps.proofs.LayerCake.{above}
-use Rattle.maps.proofs.Rings.{winding, ring-heights, ring-threshold}
+use Rattle.maps.proofs.Rings.{winding, ring_heights, ring_threshold}
 use Rattle.flows.specs.Settings.{Carries}
 use Rattle.flows.specs.ProvingSet.{bound, Proves}
-use Rattle.flows.proofs.Nets.{net-mul}
+use Rattle.flows.proofs.Nets.{net_mul}
 use Rattle.flows.specs.inner.Plane.{Plane}
 use Rattle.flows.specs.inner.UnitFlow.{Carrier}
-use Rattle.flows.specs.inner.Lengths.{lengthFor}
+use Rattle.flows.specs.inner.Lengths.{length_for}
 
 -- the bound of a set is what a flow of the value sends out of it
-pub bound-sent : (S : ℕ → Bool) (s t : ℕ) (value : ℤ) → bound S s t value ≡ sent S s t value
+pub bound_sent : (S : ℕ → Bool) (s t : ℕ) (value : ℤ) → bound S s t value ≡ sent S s t value
 unfolding bound
-bound-sent S s t value = go (S s) (S t)
+bound_sent S s t value = go (S s) (S t)
   where
     go : (a b : Bool) → cond a (cond b (pos 0) value) (cond b (neg_ℤ value) (pos 0)) ≡ when a value -ℤ when b value
     go true true = sym (+ℤ_invr value)
@@ -41,17 +41,17 @@ bound-sent S s t value = go (S s) (S t)
     go false true = sym (+ℤ_idl (neg_ℤ value))
     go false false = refl
 
-module _ {𝓜 : Map} (range : InRange 𝓜) {s t : ℕ} (s-in : s < 𝓜.nodes) (t-in : t < 𝓜.nodes) (s≢t : s ≢ t) (c : ℕ → ℤ) where
-  pub proves-excludes : (value : ℤ) (S : ℕ → Bool) → Proves 𝓜 c s t value S → (x : ℕ → ℤ) → Carries 𝓜 c s t value x → ⊥
-  proves-excludes value S short x flow = lt-le-clash short (rw (bound-sent S s t value) (cut-bound range s-in t-in s≢t flow S))
+module _ {𝓜 : Map} (range : InRange 𝓜) {s t : ℕ} (s_in : s < 𝓜.nodes) (t_in : t < 𝓜.nodes) (s≢t : s ≢ t) (c : ℕ → ℤ) where
+  pub proves_excludes : (value : ℤ) (S : ℕ → Bool) → Proves 𝓜 c s t value S → (x : ℕ → ℤ) → Carries 𝓜 c s t value x → ⊥
+  proves_excludes value S short x flow = lt_le_clash short (rw (bound_sent S s t value) (cut_bound range s_in t_in s≢t flow S))
 
   -- a cut of the lengths is the cut of the capacities less what the value sends
   module _ {π : ℕ → ℤ} (value : ℤ) (carrier : Carrier 𝓜 s t value π) where
-    sent-unit : (S : ℕ → Bool) → cut 𝓜 (λ d. value *ℤ π d) S ≡ sent S s t value
-    sent-unit S = flow-sent range s-in t-in s≢t {c = λ d. value *ℤ π d} {value = value} {φ = λ d. value *ℤ π d} flow S
+    sent_unit : (S : ℕ → Bool) → cut 𝓜 (λ d. value *ℤ π d) S ≡ sent S s t value
+    sent_unit S = flow_sent range s_in t_in s≢t {c = λ d. value *ℤ π d} {value = value} {φ = λ d. value *ℤ π d} flow S
       where
         nets : (v : ℕ) → net 𝓜 (λ d. value *ℤ π d) v ≡ value *ℤ (when (eqb v s) (pos 1) -ℤ when (eqb v t) (pos 1))
-        nets v = net-mul 𝓜 v value π ∙ carrier.nets v
+        nets v = net_mul 𝓜 v value π ∙ carrier.nets v
 
         flow : Flow 𝓜 (λ d. value *ℤ π d) s t value (λ d. value *ℤ π d)
         flow = record {
@@ -60,46 +60,46 @@ module _ {𝓜 : Map} (range : InRange 𝓜) {s t : ℕ} (s-in : s < 𝓜.nodes)
           balanced = λ v l p q.
               nets v
               ∙ ap₂ (λ x y. value *ℤ (when x (pos 1) -ℤ when y (pos 1)))
-              (Rattle.integers.proofs.Tests.eqb-false v s p) (Rattle.integers.proofs.Tests.eqb-false v t q)
+              (Rattle.integers.proofs.Tests.eqb_false v s p) (Rattle.integers.proofs.Tests.eqb_false v t q)
               ∙ (let a = atoms₁ value in equal (search parts) (omega arith));
           carries =
               nets s
               ∙ ap₂ (λ x y. value *ℤ (when x (pos 1) -ℤ when y (pos 1)))
-              (Rattle.integers.proofs.Tests.eqb-true s s refl) (Rattle.integers.proofs.Tests.eqb-false s t s≢t)
+              (Rattle.integers.proofs.Tests.eqb_true s s refl) (Rattle.integers.proofs.Tests.eqb_false s t s≢t)
               ∙ (let a = atoms₁ value in equal (search parts) (omega arith));
         }
 
-    pub length_cut : (S : ℕ → Bool) → cut 𝓜 (lengthFor c π value) S ≡ cut 𝓜 c S -ℤ bound S s t value
+    pub length_cut : (S : ℕ → Bool) → cut 𝓜 (length_for c π value) S ≡ cut 𝓜 c S -ℤ bound S s t value
     unfolding cut
     length_cut S =
-        sum-ext Integers (darts 𝓜) (λ d. when (leaves 𝓜 S d) (c d -ℤ value *ℤ π d))
+        sum_ext Integers (darts 𝓜) (λ d. when (leaves 𝓜 S d) (c d -ℤ value *ℤ π d))
         (λ d. when (leaves 𝓜 S d) (c d) -ℤ when (leaves 𝓜 S d) (value *ℤ π d)) (λ d l. split (leaves 𝓜 S d) (c d) (value *ℤ π d))
-        ∙ sum-sub (darts 𝓜) (λ d. when (leaves 𝓜 S d) (c d)) (λ d. when (leaves 𝓜 S d) (value *ℤ π d))
-        ∙ ap (λ x. cut 𝓜 c S -ℤ x) (sent-unit S ∙ sym (bound-sent S s t value))
+        ∙ sum_sub (darts 𝓜) (λ d. when (leaves 𝓜 S d) (c d)) (λ d. when (leaves 𝓜 S d) (value *ℤ π d))
+        ∙ ap (λ x. cut 𝓜 c S -ℤ x) (sent_unit S ∙ sym (bound_sent S s t value))
       where
         split : (b : Bool) (x y : ℤ) → when b (x -ℤ y) ≡ when b x -ℤ when b y
-        split b x y = when-add b x (neg_ℤ y) ∙ ap (λ z. when b x +ℤ z) (when-neg b y)
+        split b x y = when_add b x (neg_ℤ y) ∙ ap (λ z. when b x +ℤ z) (when_neg b y)
 
     -- a set whose cut of the lengths is negative proves the value impossible
-    pub negative-proves : (S : ℕ → Bool) → cut 𝓜 (lengthFor c π value) S <ℤ pos 0 → Proves 𝓜 c s t value S
-    negative-proves S h =
+    pub negative_proves : (S : ℕ → Bool) → cut 𝓜 (length_for c π value) S <ℤ pos 0 → Proves 𝓜 c s t value S
+    negative_proves S h =
         let a = atoms₂ (cut 𝓜 c S) (bound S s t value) in
         less (search parts) (omega (arith, from_less (rw (length_cut S) at h) (search parts)))
 
     -- lengths of the two darts of an edge add up as their capacities do
     pub length_pairs : ((d : ℕ) → d < darts 𝓜 → pos 0 ≤ℤ (c d +ℤ c (rev d))) → (d : ℕ)
-        → d < darts 𝓜 → pos 0 ≤ℤ (lengthFor c π value d +ℤ lengthFor c π value (rev d))
+        → d < darts 𝓜 → pos 0 ≤ℤ (length_for c π value d +ℤ length_for c π value (rev d))
     length_pairs h d l =
         rw (carrier.antisymmetric d l)
-        (let a = atoms₃ (c d) (c (rev d)) value in let b = atoms₁ (π d) in at_most (search parts) (omega (arith, from-at-most (h d l) (search parts))))
+        (let a = atoms₃ (c d) (c (rev d)) value in let b = atoms₁ (π d) in at_most (search parts) (omega (arith, from_at_most (h d l) (search parts))))
 
 -- for any heights of the winding of a negative ring, some threshold set proves the value impossible
-pub ring-proves : {𝓜 : Map} → Plane 𝓜 → {s t : ℕ} → s < 𝓜.nodes → t < 𝓜.nodes → s ≢ t → (c : ℕ → ℤ) → ((d : ℕ) → d < darts 𝓜 → pos 0 ≤ℤ (c d +ℤ c (rev d)))
-    → {π : ℕ → ℤ} (value : ℤ) (carrier : Carrier 𝓜 s t value π) {f : ℕ} (w : FaceWalk 𝓜 f f) → total (lengthFor c π value) w <ℤ pos 0
-    → (h : ℕ → ℤ) → Heights 𝓜 (winding w) h → (θ : ℤ) × (cut 𝓜 (lengthFor c π value) (above h θ) <ℤ pos 0) × Proves 𝓜 c s t value (above h θ)
-ring-proves p s-in t-in s≢t c pairs {π = π} value carrier w short h heights =
-    let r = ring-threshold p.sound (lengthFor c π value) (length_pairs p.sound.range s-in t-in s≢t c value carrier pairs) w short h heights in
-    (r.0, r.1, negative-proves p.sound.range s-in t-in s≢t c value carrier (above h r.0) r.1)
+pub ring_proves : {𝓜 : Map} → Plane 𝓜 → {s t : ℕ} → s < 𝓜.nodes → t < 𝓜.nodes → s ≢ t → (c : ℕ → ℤ) → ((d : ℕ) → d < darts 𝓜 → pos 0 ≤ℤ (c d +ℤ c (rev d)))
+    → {π : ℕ → ℤ} (value : ℤ) (carrier : Carrier 𝓜 s t value π) {f : ℕ} (w : FaceWalk 𝓜 f f) → total (length_for c π value) w <ℤ pos 0
+    → (h : ℕ → ℤ) → Heights 𝓜 (winding w) h → (θ : ℤ) × (cut 𝓜 (length_for c π value) (above h θ) <ℤ pos 0) × Proves 𝓜 c s t value (above h θ)
+ring_proves p s_in t_in s≢t c pairs {π = π} value carrier w short h heights =
+    let r = ring_threshold p.sound (length_for c π value) (length_pairs p.sound.range s_in t_in s≢t c value carrier pairs) w short h heights in
+    (r.0, r.1, negative_proves p.sound.range s_in t_in s≢t c value carrier (above h r.0) r.1)
 
-pub ring-heights-exist : {𝓜 : Map} → Plane 𝓜 → {f : ℕ} (w : FaceWalk 𝓜 f f) → (h : ℕ → ℤ) × Heights 𝓜 (winding w) h
-ring-heights-exist p w = ring-heights p.sound p.flat.components p.flat.in-each w
+pub ring_heights_exist : {𝓜 : Map} → Plane 𝓜 → {f : ℕ} (w : FaceWalk 𝓜 f f) → (h : ℕ → ℤ) × Heights 𝓜 (winding w) h
+ring_heights_exist p w = ring_heights p.sound p.flat.components p.flat.in-each w

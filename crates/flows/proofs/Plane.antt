@@ -8,7 +8,7 @@ use native.Mathlib.Omega.{arith}
 use native.Mathlib.Decide.{ℕ_discrete, dec_lt}
 use lib.Dec.{eqb}
 use lib.IntN.{ℤ, pos}
-use Rattle.integers.proofs.Tests.{eqb-true, eqb-eq}
+use Rattle.integers.proofs.Tests.{eqb_true, eqb_eq}
 use Rattle.maps.specs.Map.{Map, darts}
 use Rattle.maps.specs.Face.{faces, left}
 use Rattle.maps.specs.Walk.{Walk, Connected, Components}
@@ -16,65 +16,65 @@ use Rattle.maps.specs.Check.{Sound}
 use Rattle.maps.specs.Flow.{Circulation}
 use Rattle.maps.specs.Potential.{Potentials, Roots}
 use Rattle.maps.proofs.Faces.{part_left}
-use Rattle.maps.proofs.Lowest.{First, first-place, lowest-face}
-use Rattle.maps.proofs.Planar.{rooted-potentials, potentials-unique}
+use Rattle.maps.proofs.Lowest.{First, first_place, lowest_face}
+use Rattle.maps.proofs.Planar.{rooted_potentials, potentials_unique}
 use Rattle.flows.specs.inner.Plane.{Plane}
 use Rattle.flows.specs.ZeroFace.{LowestElsewhere, ZeroFace}
 
 -- ── the zero faces are one to a part, however the parts are numbered ──
-module _ {𝓜 : Map} (σ : Sound 𝓜) {k : ℕ} {part : ℕ → ℕ} (κ : Components 𝓜 k part) (outer : ℕ) (outer-in : outer < darts 𝓜) where
+module _ {𝓜 : Map} (σ : Sound 𝓜) {k : ℕ} {part : ℕ → ℕ} (κ : Components 𝓜 k part) (outer : ℕ) (outer_in : outer < darts 𝓜) where
   abbrev part_at : ℕ → ℕ
   part_at d = part (𝓜.tail d)
 
   -- a dart of each part
-  part-dart : (c : ℕ) → c < k → (d : ℕ) × (d < darts 𝓜) × (part (𝓜.tail d) ≡ c)
-  part-dart c l = let v = κ.used c l in let d = σ.has-dart v.0 v.1 in (d.0, d.1, ap part d.2 ∙ v.2)
+  part_dart : (c : ℕ) → c < k → (d : ℕ) × (d < darts 𝓜) × (part (𝓜.tail d) ≡ c)
+  part_dart c l = let v = κ.used c l in let d = σ.has_dart v.0 v.1 in (d.0, d.1, ap part d.2 ∙ v.2)
 
   -- its lowest dart
-  lowest-dart : (c : ℕ) → c < k → First (darts 𝓜) (λ d. eqb c (part (𝓜.tail d)))
-  lowest-dart c l =
-      let r = part-dart c l in first-place (darts 𝓜) (λ d. eqb c (part (𝓜.tail d))) r.0 r.1 (eqb-true c (part (𝓜.tail r.0)) (sym r.2))
+  lowest_dart : (c : ℕ) → c < k → First (darts 𝓜) (λ d. eqb c (part (𝓜.tail d)))
+  lowest_dart c l =
+      let r = part_dart c l in first_place (darts 𝓜) (λ d. eqb c (part (𝓜.tail d))) r.0 r.1 (eqb_true c (part (𝓜.tail r.0)) (sym r.2))
 
   walk_of : (c d : ℕ) → c < darts 𝓜 → d < darts 𝓜 → part (𝓜.tail c) ≡ part (𝓜.tail d) → Walk 𝓜 (𝓜.tail c) (𝓜.tail d)
-  walk_of c d lc ld = κ.joined (𝓜.tail c) (𝓜.tail d) (σ.range.tail-in c lc) (σ.range.tail-in d ld)
+  walk_of c d lc ld = κ.joined (𝓜.tail c) (𝓜.tail d) (σ.range.tail_in c lc) (σ.range.tail_in d ld)
 
-  of-walk : (c d : ℕ) → c < darts 𝓜 → d < darts 𝓜 → Walk 𝓜 (𝓜.tail c) (𝓜.tail d) → part (𝓜.tail c) ≡ part (𝓜.tail d)
-  of-walk c d lc ld = κ.agree (𝓜.tail c) (𝓜.tail d) (σ.range.tail-in c lc) (σ.range.tail-in d ld)
+  of_walk : (c d : ℕ) → c < darts 𝓜 → d < darts 𝓜 → Walk 𝓜 (𝓜.tail c) (𝓜.tail d) → part (𝓜.tail c) ≡ part (𝓜.tail d)
+  of_walk c d lc ld = κ.agree (𝓜.tail c) (𝓜.tail d) (σ.range.tail_in c lc) (σ.range.tail_in d ld)
 
   -- the lowest dart of a part that the outer dart is not in lies on a zero face
-  pub lowest-elsewhere : (d : ℕ) → d < darts 𝓜 → part (𝓜.tail d) ≢ part (𝓜.tail outer)
+  pub lowest_elsewhere : (d : ℕ) → d < darts 𝓜 → part (𝓜.tail d) ≢ part (𝓜.tail outer)
       → ((e : ℕ) → e < darts 𝓜 → part (𝓜.tail e) ≡ part (𝓜.tail d) → d ≤ e) → LowestElsewhere 𝓜 outer (left 𝓜 d)
-  lowest-elsewhere d l other least = record {
+  lowest_elsewhere d l other least = record {
     dart = d;
-    dart-in = l;
+    dart_in = l;
     holds = refl;
-    elsewhere = λ w. other (of-walk d outer l outer-in w);
-    lowest = λ e m w. lowest-face σ κ d least e m (sym (of-walk d e l m w));
+    elsewhere = λ w. other (of_walk d outer l outer_in w);
+    lowest = λ e m w. lowest_face σ κ d least e m (sym (of_walk d e l m w));
   }
 
   -- the zero face of each part
   abbrev Zero : ℕ → Type 0
   Zero c = (d : ℕ) × (d < darts 𝓜) × (part (𝓜.tail d) ≡ c) × ZeroFace 𝓜 outer (left 𝓜 d)
 
-  pub zero-dart : (c : ℕ) → c < k → Zero c
-  zero-dart c l = go (ℕ_discrete c (part (𝓜.tail outer)))
+  pub zero_dart : (c : ℕ) → c < k → Zero c
+  zero_dart c l = go (ℕ_discrete c (part (𝓜.tail outer)))
     where
       low : First (darts 𝓜) (λ d. eqb c (part (𝓜.tail d)))
-      low = lowest-dart c l
+      low = lowest_dart c l
 
-      is_c : c ≡ part (𝓜.tail (lowest-dart c l).0)
-      is_c = eqb-eq c (part (𝓜.tail (lowest-dart c l).0)) (lowest-dart c l).2
+      is_c : c ≡ part (𝓜.tail (lowest_dart c l).0)
+      is_c = eqb_eq c (part (𝓜.tail (lowest_dart c l).0)) (lowest_dart c l).2
 
-      least : (e : ℕ) → e < darts 𝓜 → part (𝓜.tail e) ≡ part (𝓜.tail (lowest-dart c l).0) → (lowest-dart c l).0 ≤ e
-      least e m same = by (dec_lt e (lowest-dart c l).0)
+      least : (e : ℕ) → e < darts 𝓜 → part (𝓜.tail e) ≡ part (𝓜.tail (lowest_dart c l).0) → (lowest_dart c l).0 ≤ e
+      least e m same = by (dec_lt e (lowest_dart c l).0)
         where
-          by : Dec (e < (lowest-dart c l).0) → (lowest-dart c l).0 ≤ e
-          by (yes h) = absurd (false≢true (sym ((lowest-dart c l).3 e h) ∙ eqb-true c (part (𝓜.tail e)) (is_c ∙ sym same)))
+          by : Dec (e < (lowest_dart c l).0) → (lowest_dart c l).0 ≤ e
+          by (yes h) = absurd (false≢true (sym ((lowest_dart c l).3 e h) ∙ eqb_true c (part (𝓜.tail e)) (is_c ∙ sym same)))
           by (no h) = omega (arith, h)
 
       go : Dec (c ≡ part (𝓜.tail outer)) → Zero c
-      go (yes e) = (outer, outer-in, sym e, inl refl)
-      go (no h) = (low.0, low.1, sym is_c, inr (lowest-elsewhere low.0 low.1 (λ e. h (is_c ∙ e)) least))
+      go (yes e) = (outer, outer_in, sym e, inl refl)
+      go (no h) = (low.0, low.1, sym is_c, inr (lowest_elsewhere low.0 low.1 (λ e. h (is_c ∙ e)) least))
 
   -- and there is no other: two zero faces of one part are one
   pub zero_one : (c d : ℕ) → c < darts 𝓜 → d < darts 𝓜 → part (𝓜.tail c) ≡ part (𝓜.tail d)
@@ -87,14 +87,14 @@ module _ {𝓜 : Map} (σ : Sound 𝓜) {k : ℕ} {part : ℕ → ℕ} (κ : Com
           ⊎ ((part (𝓜.tail d) ≢ part (𝓜.tail outer)) × ((e : ℕ) → e < darts 𝓜 → part (𝓜.tail d) ≡ part (𝓜.tail e) → left 𝓜 d ≤ left 𝓜 e))
 
       place : (d : ℕ) → d < darts 𝓜 → ZeroFace 𝓜 outer (left 𝓜 d) → At d
-      place d l (inl e) = inl (e, part_left σ κ d outer l outer-in e)
+      place d l (inl e) = inl (e, part_left σ κ d outer l outer_in e)
       place d l (inr r) = inr (
-        (λ e. r.elsewhere (walk_of r.dart outer r.dart-in outer-in (own ∙ e))),
-        (λ e m q. r.lowest e m (walk_of r.dart e r.dart-in m (own ∙ q))),
+        (λ e. r.elsewhere (walk_of r.dart outer r.dart_in outer_in (own ∙ e))),
+        (λ e m q. r.lowest e m (walk_of r.dart e r.dart_in m (own ∙ q))),
       )
         where
           own : part (𝓜.tail r.dart) ≡ part (𝓜.tail d)
-          own = part_left σ κ r.dart d r.dart-in l r.holds
+          own = part_left σ κ r.dart d r.dart_in l r.holds
 
       go : At c → At d → left 𝓜 c ≡ left 𝓜 d
       go (inl a) (inl b) = a.0 ∙ sym b.0
@@ -103,10 +103,10 @@ module _ {𝓜 : Map} (σ : Sound 𝓜) {k : ℕ} {part : ℕ → ℕ} (κ : Com
       go (inr a) (inr b) = omega (arith, a.1 d ld same, b.1 c lc (sym same))
 
 -- in a connected map there is one
-pub zero-connected : {𝓜 : Map} → Sound 𝓜 → Connected 𝓜 → (outer : ℕ) → outer < darts 𝓜 → (f : ℕ) → ZeroFace 𝓜 outer f → f ≡ left 𝓜 outer
-zero-connected σ con outer l f (inl e) = e
-zero-connected {𝓜} σ con outer l f (inr r) =
-    absurd (r.elsewhere (con (𝓜.tail r.dart) (𝓜.tail outer) (σ.range.tail-in r.dart r.dart-in) (σ.range.tail-in outer l)))
+pub zero_connected : {𝓜 : Map} → Sound 𝓜 → Connected 𝓜 → (outer : ℕ) → outer < darts 𝓜 → (f : ℕ) → ZeroFace 𝓜 outer f → f ≡ left 𝓜 outer
+zero_connected σ con outer l f (inl e) = e
+zero_connected {𝓜} σ con outer l f (inr r) =
+    absurd (r.elsewhere (con (𝓜.tail r.dart) (𝓜.tail outer) (σ.range.tail_in r.dart r.dart_in) (σ.range.tail_in outer l)))
 
 -- ── potentials ──
 -- one number to each place below k
@@ -132,19 +132,19 @@ module _ {𝓜 : Map} (p : Plane 𝓜) (outer : ℕ) (l : outer < darts 𝓜) wh
   -- the zero face of a part, by its number
   chosen : (f : ℕ → ℕ) × ((c : ℕ) → c < p.flat.parts → Root c (f c))
   unfolding Root
-  chosen = choose p.flat.parts Root (λ c m. let z = zero-dart p.sound κ outer l c m in (left 𝓜 z.0, (z.3, (z.0, z.1, refl, z.2))))
+  chosen = choose p.flat.parts Root (λ c m. let z = zero_dart p.sound κ outer l c m in (left 𝓜 z.0, (z.3, (z.0, z.1, refl, z.2))))
 
   roots : Roots 𝓜 p.flat.parts p.flat.part chosen.0
   unfolding Root
   roots = record { of = λ c m. (chosen.1 c m).1 }
 
   -- each zero face is one of these
-  zero-root : (f : ℕ) → ZeroFace 𝓜 outer f → (c : ℕ) × (c < p.flat.parts) × (f ≡ chosen.0 c)
+  zero_root : (f : ℕ) → ZeroFace 𝓜 outer f → (c : ℕ) × (c < p.flat.parts) × (f ≡ chosen.0 c)
   unfolding Root
-  zero-root f z =
+  zero_root f z =
       let d = holder z in
       let c = p.flat.part (𝓜.tail d.0) in
-      let m : p.flat.part (𝓜.tail d.0) < p.flat.parts = κ.below (𝓜.tail d.0) (p.sound.range.tail-in d.0 d.1) in
+      let m : p.flat.part (𝓜.tail d.0) < p.flat.parts = κ.below (𝓜.tail d.0) (p.sound.range.tail_in d.0 d.1) in
       let r = chosen.1 c m in (
         c,
         m,
@@ -156,15 +156,15 @@ module _ {𝓜 : Map} (p : Plane 𝓜) (outer : ℕ) (l : outer < darts 𝓜) wh
     where
       holder : ZeroFace 𝓜 outer f → (d : ℕ) × (d < darts 𝓜) × (left 𝓜 d ≡ f)
       holder (inl e) = (outer, l, sym e)
-      holder (inr r) = (r.dart, r.dart-in, r.holds)
+      holder (inr r) = (r.dart, r.dart_in, r.holds)
 
-  pub potentials-at : (φ : ℕ → ℤ) → Circulation 𝓜 φ → (ρ : ℕ → ℤ) × Potentials 𝓜 φ ρ × ((f : ℕ) → ZeroFace 𝓜 outer f → ρ f ≡ pos 0)
-  potentials-at φ c =
-      let r = rooted-potentials p.sound κ p.flat.in-each roots φ c in
-      (r.0, r.1, λ f z. let q = zero-root f z in ap r.0 q.2 ∙ r.2 q.0 q.1)
+  pub potentials_at : (φ : ℕ → ℤ) → Circulation 𝓜 φ → (ρ : ℕ → ℤ) × Potentials 𝓜 φ ρ × ((f : ℕ) → ZeroFace 𝓜 outer f → ρ f ≡ pos 0)
+  potentials_at φ c =
+      let r = rooted_potentials p.sound κ p.flat.in-each roots φ c in
+      (r.0, r.1, λ f z. let q = zero_root f z in ap r.0 q.2 ∙ r.2 q.0 q.1)
 
-  pub potentials-one : (φ ρ τ : ℕ → ℤ) → Potentials 𝓜 φ ρ → Potentials 𝓜 φ τ
+  pub potentials_one : (φ ρ τ : ℕ → ℤ) → Potentials 𝓜 φ ρ → Potentials 𝓜 φ τ
       → ((f : ℕ) → ZeroFace 𝓜 outer f → ρ f ≡ pos 0) → ((f : ℕ) → ZeroFace 𝓜 outer f → τ f ≡ pos 0) → (f : ℕ) → f < faces 𝓜 → ρ f ≡ τ f
   unfolding Root
-  potentials-one φ ρ τ h g zρ zτ =
-      potentials-unique p.sound κ roots φ ρ τ h g (λ c m. zρ (chosen.0 c) (chosen.1 c m).0) (λ c m. zτ (chosen.0 c) (chosen.1 c m).0)
+  potentials_one φ ρ τ h g zρ zτ =
+      potentials_unique p.sound κ roots φ ρ τ h g (λ c m. zρ (chosen.0 c) (chosen.1 c m).0) (λ c m. zτ (chosen.0 c) (chosen.1 c m).0)

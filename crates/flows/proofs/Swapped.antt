@@ -9,14 +9,14 @@ use lib.Signed.{◌<ℤ◌}
 use Rattle.maps.specs.Map.{Map}
 use Rattle.maps.specs.Check.{InRange}
 use Rattle.maps.specs.Cut.{cut}
-use Rattle.maps.proofs.Cuts.{sink-takes}
+use Rattle.maps.proofs.Cuts.{sink_takes}
 use Rattle.flows.specs.Settings.{Carries}
 use Rattle.flows.specs.Highest.{Highest}
 use Rattle.flows.specs.ProvingSet.{bound, Proves}
 
-pub bound-back : (S : ℕ → Bool) (s t : ℕ) (value : ℤ) → bound S t s value ≡ bound S s t (neg_ℤ value)
+pub bound_back : (S : ℕ → Bool) (s t : ℕ) (value : ℤ) → bound S t s value ≡ bound S s t (neg_ℤ value)
 unfolding bound
-bound-back S s t value = go (S s) (S t)
+bound_back S s t value = go (S s) (S t)
   where
     go : (a b : Bool) → cond b (cond a (pos 0) value) (cond a (neg_ℤ value) (pos 0)) ≡ cond a (cond b (pos 0) (neg_ℤ value)) (cond b (neg_ℤ (neg_ℤ value)) (pos 0))
     go true true = refl
@@ -24,25 +24,25 @@ bound-back S s t value = go (S s) (S t)
     go false true = sym (neg_ℤ-neg_ℤ value)
     go false false = refl
 
-pub proves-back : (𝓜 : Map) (c : ℕ → ℤ) (s t : ℕ) (value : ℤ) (S : ℕ → Bool) → Proves 𝓜 c t s value S → Proves 𝓜 c s t (neg_ℤ value) S
-proves-back 𝓜 c s t value S = subst (λ b. cut 𝓜 c S <ℤ b) (bound-back S s t value)
+pub proves_back : (𝓜 : Map) (c : ℕ → ℤ) (s t : ℕ) (value : ℤ) (S : ℕ → Bool) → Proves 𝓜 c t s value S → Proves 𝓜 c s t (neg_ℤ value) S
+proves_back 𝓜 c s t value S = subst (λ b. cut 𝓜 c S <ℤ b) (bound_back S s t value)
 
-module _ {𝓜 : Map} (range : InRange 𝓜) {s t : ℕ} (s-in : s < 𝓜.nodes) (t-in : t < 𝓜.nodes) (s≢t : s ≢ t) {c : ℕ → ℤ} where
-  pub carries-back : {value : ℤ} (x : ℕ → ℤ) → Carries 𝓜 c s t value x → Carries 𝓜 c t s (neg_ℤ value) x
-  carries-back x flow = record {
+module _ {𝓜 : Map} (range : InRange 𝓜) {s t : ℕ} (s_in : s < 𝓜.nodes) (t_in : t < 𝓜.nodes) (s≢t : s ≢ t) {c : ℕ → ℤ} where
+  pub carries_back : {value : ℤ} (x : ℕ → ℤ) → Carries 𝓜 c s t value x → Carries 𝓜 c t s (neg_ℤ value) x
+  carries_back x flow = record {
     antisymmetric = flow.antisymmetric;
     within = flow.within;
     balanced = λ v l p q. flow.balanced v l q p;
-    carries = sink-takes range s-in t-in s≢t flow;
+    carries = sink_takes range s_in t_in s≢t flow;
   }
 
-  pub highest-back : {outer : ℕ} {value : ℤ} {x : ℕ → ℤ} → Highest 𝓜 outer c s t value x → Highest 𝓜 outer c t s (neg_ℤ value) x
-  highest-back {value = value} {x = x} h = record { carries = carries-back x h.carries; highest = λ y flow. h.highest y (again y flow) }
+  pub highest_back : {outer : ℕ} {value : ℤ} {x : ℕ → ℤ} → Highest 𝓜 outer c s t value x → Highest 𝓜 outer c t s (neg_ℤ value) x
+  highest_back {value = value} {x = x} h = record { carries = carries_back x h.carries; highest = λ y flow. h.highest y (again y flow) }
     where
       again : (y : ℕ → ℤ) → Carries 𝓜 c t s (neg_ℤ value) y → Carries 𝓜 c s t value y
       again y flow = record {
         antisymmetric = flow.antisymmetric;
         within = flow.within;
         balanced = λ v l p q. flow.balanced v l q p;
-        carries = sink-takes range t-in s-in (λ e. s≢t (sym e)) flow ∙ neg_ℤ-neg_ℤ value;
+        carries = sink_takes range t_in s_in (λ e. s≢t (sym e)) flow ∙ neg_ℤ-neg_ℤ value;
       }

@@ -7,29 +7,29 @@ use lib.Dec.{eqb}
 use lib.IntN.{ℤ, pos, neg_ℤ, ◌+ℤ◌, ◌-ℤ◌, ◌*ℤ◌, +ℤ_invr}
 use Rattle.integers.specs.Sum.{Integers, when}
 use Rattle.integers.proofs.Omega.{atoms₂, atoms₃, parts, equal}
-use Rattle.integers.proofs.Laws.{neg-sub}
-use Rattle.integers.proofs.Sums.{sum-ext, sum-nil, sum-pick}
-use Rattle.integers.proofs.IntegerSums.{sum-sub, when-zero}
+use Rattle.integers.proofs.Laws.{neg_sub}
+use Rattle.integers.proofs.Sums.{sum_ext, sum_nil, sum_pick}
+use Rattle.integers.proofs.IntegerSums.{sum_sub, when_zero}
 use Rattle.maps.specs.Dart.{rev}
 use Rattle.maps.specs.Map.{Map, darts, head}
 use Rattle.maps.specs.Walk.{Walk, here, along}
 use Rattle.maps.specs.Flow.{Antisymmetric, net}
-use Rattle.maps.proofs.Darts.{rev-rev, rev-in, eqb-rev}
-use Rattle.flows.proofs.Nets.{net-add}
-use Rattle.flows.specs.inner.UnitFlow.{UnitFlow, Carrier, single, walkFlow}
+use Rattle.maps.proofs.Darts.{rev_rev, rev_in, eqb_rev}
+use Rattle.flows.proofs.Nets.{net_add}
+use Rattle.flows.specs.inner.UnitFlow.{UnitFlow, Carrier, single, walk_flow}
 
-pub single-antisymmetric : (d i : ℕ) → single d (rev i) ≡ neg_ℤ (single d i)
-single-antisymmetric d i =
-    ap₂ (λ x y. when x (pos 1) -ℤ when y (pos 1)) (eqb-rev i d) (eqb-rev i (rev d) ∙ ap (eqb i) (rev-rev d))
-    ∙ sym (neg-sub (when (eqb i d) (pos 1)) (when (eqb i (rev d)) (pos 1)))
+pub single_antisymmetric : (d i : ℕ) → single d (rev i) ≡ neg_ℤ (single d i)
+single_antisymmetric d i =
+    ap₂ (λ x y. when x (pos 1) -ℤ when y (pos 1)) (eqb_rev i d) (eqb_rev i (rev d) ∙ ap (eqb i) (rev_rev d))
+    ∙ sym (neg_sub (when (eqb i d) (pos 1)) (when (eqb i (rev d)) (pos 1)))
 
-pub single-net : (𝓜 : Map) (d : ℕ) → d < darts 𝓜 → (v : ℕ) → net 𝓜 (single d) v ≡ when (eqb v (𝓜.tail d)) (pos 1) -ℤ when (eqb v (head 𝓜 d)) (pos 1)
+pub single_net : (𝓜 : Map) (d : ℕ) → d < darts 𝓜 → (v : ℕ) → net 𝓜 (single d) v ≡ when (eqb v (𝓜.tail d)) (pos 1) -ℤ when (eqb v (head 𝓜 d)) (pos 1)
 unfolding net
-single-net 𝓜 d l v =
-    sum-ext Integers (darts 𝓜) (λ i. when (eqb v (𝓜.tail i)) (single d i)) (λ i. cond (eqb i d) (unit i) (pos 0) -ℤ cond (eqb i (rev d)) (unit i) (pos 0))
+single_net 𝓜 d l v =
+    sum_ext Integers (darts 𝓜) (λ i. when (eqb v (𝓜.tail i)) (single d i)) (λ i. cond (eqb i d) (unit i) (pos 0) -ℤ cond (eqb i (rev d)) (unit i) (pos 0))
     (λ i m. split (eqb v (𝓜.tail i)) (eqb i d) (eqb i (rev d)))
-    ∙ sum-sub (darts 𝓜) (λ i. cond (eqb i d) (unit i) (pos 0)) (λ i. cond (eqb i (rev d)) (unit i) (pos 0))
-    ∙ ap₂ ◌-ℤ◌ (sum-pick Integers (darts 𝓜) d unit l) (sum-pick Integers (darts 𝓜) (rev d) unit (rev-in 𝓜.edges d l))
+    ∙ sum_sub (darts 𝓜) (λ i. cond (eqb i d) (unit i) (pos 0)) (λ i. cond (eqb i (rev d)) (unit i) (pos 0))
+    ∙ ap₂ ◌-ℤ◌ (sum_pick Integers (darts 𝓜) d unit l) (sum_pick Integers (darts 𝓜) (rev d) unit (rev_in 𝓜.edges d l))
   where
     unit : ℕ → ℤ
     unit i = when (eqb v (𝓜.tail i)) (pos 1)
@@ -44,32 +44,32 @@ single-net 𝓜 d l v =
     split false false true = refl
     split false false false = refl
 
-walk-antisymmetric : {𝓜 : Map} {v w : ℕ} (r : Walk 𝓜 v w) (i : ℕ) → walkFlow r (rev i) ≡ neg_ℤ (walkFlow r i)
-unfolding walkFlow
-walk-antisymmetric here i = refl
-walk-antisymmetric (along d l e r) i =
-    ap₂ ◌+ℤ◌ (single-antisymmetric d i) (walk-antisymmetric r i) ∙ (let a = atoms₂ (single d i) (walkFlow r i) in equal (search parts) (omega arith))
+walk_antisymmetric : {𝓜 : Map} {v w : ℕ} (r : Walk 𝓜 v w) (i : ℕ) → walk_flow r (rev i) ≡ neg_ℤ (walk_flow r i)
+unfolding walk_flow
+walk_antisymmetric here i = refl
+walk_antisymmetric (along d l e r) i =
+    ap₂ ◌+ℤ◌ (single_antisymmetric d i) (walk_antisymmetric r i) ∙ (let a = atoms₂ (single d i) (walk_flow r i) in equal (search parts) (omega arith))
 
-walk-net : {𝓜 : Map} {v w : ℕ} (r : Walk 𝓜 v w) (u : ℕ) → net 𝓜 (walkFlow r) u ≡ when (eqb u v) (pos 1) -ℤ when (eqb u w) (pos 1)
-unfolding walkFlow net
-walk-net {𝓜} (here {v = v}) u =
-    sum-nil Integers (darts 𝓜) (λ d. when (eqb u (𝓜.tail d)) (pos 0)) (λ d l. when-zero (eqb u (𝓜.tail d))) ∙ sym (+ℤ_invr (when (eqb u v) (pos 1)))
-walk-net {𝓜} (along {v = v} {w = w} d l e r) u =
-    net-add 𝓜 u (single d) (walkFlow r)
-    ∙ ap₂ ◌+ℤ◌ (single-net 𝓜 d l u) (walk-net r u)
+walk_net : {𝓜 : Map} {v w : ℕ} (r : Walk 𝓜 v w) (u : ℕ) → net 𝓜 (walk_flow r) u ≡ when (eqb u v) (pos 1) -ℤ when (eqb u w) (pos 1)
+unfolding walk_flow net
+walk_net {𝓜} (here {v = v}) u =
+    sum_nil Integers (darts 𝓜) (λ d. when (eqb u (𝓜.tail d)) (pos 0)) (λ d l. when_zero (eqb u (𝓜.tail d))) ∙ sym (+ℤ_invr (when (eqb u v) (pos 1)))
+walk_net {𝓜} (along {v = v} {w = w} d l e r) u =
+    net_add 𝓜 u (single d) (walk_flow r)
+    ∙ ap₂ ◌+ℤ◌ (single_net 𝓜 d l u) (walk_net r u)
     ∙ (let a = atoms₃ (when (eqb u (𝓜.tail d)) (pos 1)) (when (eqb u (head 𝓜 d)) (pos 1)) (when (eqb u w) (pos 1)) in equal (search parts) (omega arith))
     ∙ ap (λ x. when (eqb u x) (pos 1) -ℤ when (eqb u w) (pos 1)) e
 
-pub walk-unit : {𝓜 : Map} {s t : ℕ} (r : Walk 𝓜 s t) → UnitFlow 𝓜 s t (walkFlow r)
-walk-unit r = record { antisymmetric = λ d l. walk-antisymmetric r d; nets = walk-net r }
+pub walk_unit : {𝓜 : Map} {s t : ℕ} (r : Walk 𝓜 s t) → UnitFlow 𝓜 s t (walk_flow r)
+walk_unit r = record { antisymmetric = λ d l. walk_antisymmetric r d; nets = walk_net r }
 
 -- ── what carries a value ──
-pub unit-carries : {𝓜 : Map} {s t : ℕ} {π : ℕ → ℤ} → UnitFlow 𝓜 s t π → (value : ℤ) → Carrier 𝓜 s t value π
-unit-carries unit value = record { antisymmetric = unit.antisymmetric; nets = λ v. ap (λ x. value *ℤ x) (unit.nets v) }
+pub unit_carries : {𝓜 : Map} {s t : ℕ} {π : ℕ → ℤ} → UnitFlow 𝓜 s t π → (value : ℤ) → Carrier 𝓜 s t value π
+unit_carries unit value = record { antisymmetric = unit.antisymmetric; nets = λ v. ap (λ x. value *ℤ x) (unit.nets v) }
 
 -- nothing is carried by anything
-pub none-carried : {𝓜 : Map} {π : ℕ → ℤ} → Antisymmetric 𝓜 π → (s t : ℕ) (value : ℤ) → value ≡ pos 0 → Carrier 𝓜 s t value π
-none-carried {𝓜} {π} anti s t value z = record {
+pub none_carried : {𝓜 : Map} {π : ℕ → ℤ} → Antisymmetric 𝓜 π → (s t : ℕ) (value : ℤ) → value ≡ pos 0 → Carrier 𝓜 s t value π
+none_carried {𝓜} {π} anti s t value z = record {
   antisymmetric = anti;
   nets = λ v. rw z (nothing (net 𝓜 π v) (when (eqb v s) (pos 1) -ℤ when (eqb v t) (pos 1)));
 }

@@ -4,19 +4,19 @@ use Rattle.std.specs.Prelude.{ℕ, ◌+◌, ◌*◌, ◌≡◌, ◌⊎◌, ◌�
 use Rattle.refusals.specs.Order.{Check, ◌at◌when◌, in_turn}
 use Rattle.maps.specs.Map.{Map}
 use Rattle.maps.specs.Flow.{net}
-use Rattle.flows.specs.Settings.{onDarts}
+use Rattle.flows.specs.Settings.{on_darts}
 
 -- the flow of edge e is more than its forward capacity, or against it more than its back capacity
 abbrev pub Exceeds : (ℕ → ℤ) → (ℕ → ℤ) → ℕ → Type 0
 Exceeds c x e = (c (2 * e) <ℤ x e) ⊎ (c (2 * e + 1) <ℤ neg_ℤ (x e))
 
 -- 17, edge by edge
-unfoldable pub withinChecks : ℕ → (ℕ → ℤ) → (ℕ → ℤ) → List Check
-withinChecks edges c x = in_turn edges (λ e. (17 at e when Exceeds c x e) ∷ [])
+unfoldable pub within_checks : ℕ → (ℕ → ℤ) → (ℕ → ℤ) → List Check
+within_checks edges c x = in_turn edges (λ e. (17 at e when Exceeds c x e) ∷ [])
 
 -- 18, node by node, but at those that are excused
-unfoldable pub balanceChecks : Map → (ℕ → Type 0) → (ℕ → ℤ) → List Check
-balanceChecks 𝓜 Excused x = in_turn 𝓜.nodes (λ v. (18 at v when (Excused v → ⊥) × (net 𝓜 (onDarts x) v ≢ pos 0)) ∷ [])
+unfoldable pub balance_checks : Map → (ℕ → Type 0) → (ℕ → ℤ) → List Check
+balance_checks 𝓜 Excused x = in_turn 𝓜.nodes (λ v. (18 at v when (Excused v → ⊥) × (net 𝓜 (on_darts x) v ≢ pos 0)) ∷ [])
 
 -- Mark excuses the source and the sink, Levels from settings no node
 abbrev pub EndOf : ℕ → ℕ → ℕ → Type 0

@@ -3,10 +3,10 @@
 use Rattle.std.specs.Prelude.{ℕ, ◌≡◌, ℤ, pos}
 use Rattle.maps.specs.Map.{Map}
 use Rattle.maps.specs.Potential.{Potentials}
-use Rattle.flows.specs.Settings.{onDarts}
+use Rattle.flows.specs.Settings.{on_darts}
 use Rattle.flows.specs.ZeroFace.{ZeroFace}
 
 -- ρ are the levels of the settings x
 pub record Levels (𝓜 : Map) (outer : ℕ) (x ρ : ℕ → ℤ) : Type 0 where
-  pub differences : Potentials 𝓜 (onDarts x) ρ
+  pub differences : Potentials 𝓜 (on_darts x) ρ
   pub rooted : (f : ℕ) → ZeroFace 𝓜 outer f → ρ f ≡ pos 0

@@ -16,8 +16,8 @@ Proves 𝓜 c s t value S = cut 𝓜 c S <ℤ bound S s t value
 
 -- ── the set as words ──
 -- as many words as the nodes need
-abbrev pub wordsFor : ℕ → ℕ
-wordsFor nodes = (nodes + 63) / 64
+abbrev pub words_for : ℕ → ℕ
+words_for nodes = (nodes + 63) / 64
 
 -- node i is bit i mod 64 of word i div 64
 abbrev pub member : List ℕ → ℕ → Bool
@@ -25,7 +25,7 @@ member words i = eqb (get_or words (i / 64) 0 / 2 ^ (i % 64) % 2) 1
 
 -- a set of nodes, written in as many words as they need, each of 64 bits, unused bits zero
 pub record SetOf (nodes : ℕ) (words : List ℕ) : Type 0 where
-  pub long : length words ≡ wordsFor nodes
+  pub long : length words ≡ words_for nodes
   pub fits : (i : ℕ) → i < length words → get_or words i 0 < 2 ^ 64
   pub unused : (i : ℕ) → nodes ≤ i → member words i ≡ false
 

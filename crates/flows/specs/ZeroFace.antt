@@ -10,7 +10,7 @@ use Rattle.maps.specs.Walk.{Walk}
 -- f is the lowest-numbered face of a part that the outer dart is not in
 pub record LowestElsewhere (𝓜 : Map) (outer f : ℕ) : Type 0 where
   pub dart : ℕ
-  pub dart-in : dart < darts 𝓜
+  pub dart_in : dart < darts 𝓜
   pub holds : left 𝓜 dart ≡ f
   pub elsewhere : Walk 𝓜 (𝓜.tail dart) (𝓜.tail outer) → ⊥
   pub lowest : (e : ℕ) → e < darts 𝓜 → Walk 𝓜 (𝓜.tail dart) (𝓜.tail e) → f ≤ left 𝓜 e

@@ -17,6 +17,6 @@ four P p q r s (suc (suc zero)) l = r
 four P p q r s (suc (suc (suc zero))) l = s
 four P p q r s (suc (suc (suc (suc d)))) l = absurd (omega arith)
 
-pub three-nodes : HeightsOf 4 (at (0 ∷ 1 ∷ 1 ∷ 2 ∷ [])) (atℤ (pos 1 ∷ negsuc 0 ∷ negsuc 2 ∷ pos 3 ∷ [])) (atℤ (pos 0 ∷ negsuc 0 ∷ pos 2 ∷ []))
+pub three_nodes : HeightsOf 4 (at (0 ∷ 1 ∷ 1 ∷ 2 ∷ [])) (atℤ (pos 1 ∷ negsuc 0 ∷ negsuc 2 ∷ pos 3 ∷ [])) (atℤ (pos 0 ∷ negsuc 0 ∷ pos 2 ∷ []))
 unfolding rev
-three-nodes = four _ refl refl refl refl
+three_nodes = four _ refl refl refl refl

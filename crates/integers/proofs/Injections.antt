@@ -6,19 +6,19 @@ use Prim.Native.Nat.{ℕ, zero, suc, ◌≤◌, ◌<◌}
 use native.Mathlib.Omega.{arith}
 use lib.Dec.{eqb}
 use Rattle.integers.specs.Sum.{Monoid, Naturals, sum, sumℕ, bit, count}
-use Rattle.integers.proofs.Tests.{either, eqb-eq}
-use Rattle.integers.proofs.Sums.{sum-ext, sum-swap, sum-pick, sum-bijection}
-use Rattle.integers.proofs.Counting.{bit_le, bit-one, sum-full, sum-unique, sum_ones, count-find}
+use Rattle.integers.proofs.Tests.{either, eqb_eq}
+use Rattle.integers.proofs.Sums.{sum_ext, sum_swap, sum_pick, sum_bijection}
+use Rattle.integers.proofs.Counting.{bit_le, bit_one, sum_full, sum_unique, sum_ones, count_find}
 
 -- the last number below n that passes the test, 0 where none does
 unfoldable pub find : ℕ → (ℕ → Bool) → ℕ
 find zero b = 0
 find (suc n) b = cond (b n) n (find n b)
 
-pub find-is : (n : ℕ) (b : ℕ → Bool) (i : ℕ) → i < n → b i ≡ true → (find n b < n) × (b (find n b) ≡ true)
+pub find_is : (n : ℕ) (b : ℕ → Bool) (i : ℕ) → i < n → b i ≡ true → (find n b < n) × (b (find n b) ≡ true)
 unfolding find
-find-is zero b i l e = absurd (omega arith)
-find-is (suc n) b i l e = go (either (b n)) (find-is n b i)
+find_is zero b i l e = absurd (omega arith)
+find_is (suc n) b i l e = go (either (b n)) (find_is n b i)
   where
     go : (b n ≡ true) ⊎ (b n ≡ false) → (i < n → b i ≡ true → (find n b < n) × (b (find n b) ≡ true))
         → (cond (b n) n (find n b) < suc n) × (b (cond (b n) n (find n b)) ≡ true)
@@ -31,37 +31,37 @@ find-is (suc n) b i l e = go (either (b n)) (find-is n b i)
         q : (find n b < n) × (b (find n b) ≡ true)
         q = r (omega (arith, ne)) e
 
-module _ (n : ℕ) (p : ℕ → ℕ) (p-in : (i : ℕ) → i < n → p i < n) (p-injective : (i j : ℕ) → i < n → j < n → p i ≡ p j → i ≡ j) where
+module _ (n : ℕ) (p : ℕ → ℕ) (p_in : (i : ℕ) → i < n → p i < n) (p-injective : (i j : ℕ) → i < n → j < n → p i ≡ p j → i ≡ j) where
   -- n values below n, no two equal: each number is one of them, by counting pairs (i, j) with p i = j both ways
   pub onto : (j : ℕ) → j < n → (i : ℕ) × (i < n) × (eqb j (p i) ≡ true)
-  onto j l = count-find n (λ i. eqb j (p i)) (sum-full n (λ j. count n (λ i. eqb j (p i))) small whole j l)
+  onto j l = count_find n (λ i. eqb j (p i)) (sum_full n (λ j. count n (λ i. eqb j (p i))) small whole j l)
     where
       small : (j : ℕ) → j < n → count n (λ i. eqb j (p i)) ≤ 1
-      small j l = sum-unique n (λ i. bit (eqb j (p i))) (λ i m. bit_le (eqb j (p i)))
-          (λ i i' m m' h h'. p-injective i i' m m' (sym (eqb-eq j (p i) (bit-one (eqb j (p i)) h)) ∙ eqb-eq j (p i') (bit-one (eqb j (p i')) h')))
+      small j l = sum_unique n (λ i. bit (eqb j (p i))) (λ i m. bit_le (eqb j (p i)))
+          (λ i i' m m' h h'. p-injective i i' m m' (sym (eqb_eq j (p i) (bit_one (eqb j (p i)) h)) ∙ eqb_eq j (p i') (bit_one (eqb j (p i')) h')))
 
       whole : n ≤ sumℕ n (λ j. count n (λ i. eqb j (p i)))
       whole =
           omega (
             arith,
-            sum-swap Naturals n n (λ j i. bit (eqb j (p i))),
-            sum-ext Naturals n (λ i. sumℕ n (λ j. bit (eqb j (p i)))) (λ i. 1) (λ i m. sum-pick Naturals n (p i) (λ j. 1) (p-in i m)),
+            sum_swap Naturals n n (λ j i. bit (eqb j (p i))),
+            sum_ext Naturals n (λ i. sumℕ n (λ j. bit (eqb j (p i)))) (λ i. 1) (λ i m. sum_pick Naturals n (p i) (λ j. 1) (p_in i m)),
             sum_ones n,
           )
 
   pub inverse : ℕ → ℕ
   inverse j = find n (λ i. eqb j (p i))
 
-  pub inverse-in : (j : ℕ) → j < n → inverse j < n
+  pub inverse_in : (j : ℕ) → j < n → inverse j < n
   unfolding inverse
-  inverse-in j l = let q = onto j l in (find-is n (λ i. eqb j (p i)) q.0 q.1 q.2).0
+  inverse_in j l = let q = onto j l in (find_is n (λ i. eqb j (p i)) q.0 q.1 q.2).0
 
-  pub after-inverse : (j : ℕ) → j < n → p (inverse j) ≡ j
+  pub after_inverse : (j : ℕ) → j < n → p (inverse j) ≡ j
   unfolding inverse
-  after-inverse j l = let q = onto j l in sym (eqb-eq j (p (inverse j)) (find-is n (λ i. eqb j (p i)) q.0 q.1 q.2).1)
+  after_inverse j l = let q = onto j l in sym (eqb_eq j (p (inverse j)) (find_is n (λ i. eqb j (p i)) q.0 q.1 q.2).1)
 
-  pub inverse-after : (i : ℕ) → i < n → inverse (p i) ≡ i
-  inverse-after i l = p-injective (inverse (p i)) i (inverse-in (p i) (p-in i l)) l (after-inverse (p i) (p-in i l))
+  pub inverse_after : (i : ℕ) → i < n → inverse (p i) ≡ i
+  inverse_after i l = p-injective (inverse (p i)) i (inverse_in (p i) (p_in i l)) l (after_inverse (p i) (p_in i l))
 
-  pub sum-reindex : (𝓜 : Monoid) (f : ℕ → 𝓜.Carrier) → sum 𝓜 n (λ i. f (p i)) ≡ sum 𝓜 n f
-  sum-reindex 𝓜 f = sum-bijection 𝓜 n p inverse f p-in inverse-in inverse-after after-inverse
+  pub sum_reindex : (𝓜 : Monoid) (f : ℕ → 𝓜.Carrier) → sum 𝓜 n (λ i. f (p i)) ≡ sum 𝓜 n f
+  sum_reindex 𝓜 f = sum_bijection 𝓜 n p inverse f p_in inverse_in inverse_after after_inverse

@@ -20,87 +20,87 @@ use Rattle.integers.proofs.Omega.{
   equal,
   at_most,
   less,
-  from-equal,
-  from-at-most,
+  from_equal,
+  from_at_most,
   from_less,
 }
 
 -- ── ring ──
-pub mul-distrib-left : (c x y : ℤ) → c *ℤ (x +ℤ y) ≡ c *ℤ x +ℤ c *ℤ y
-mul-distrib-left c x y = let a = atoms₃ c x y in equal (search parts) (omega arith)
+pub mul_distrib_left : (c x y : ℤ) → c *ℤ (x +ℤ y) ≡ c *ℤ x +ℤ c *ℤ y
+mul_distrib_left c x y = let a = atoms₃ c x y in equal (search parts) (omega arith)
 
-pub mul-distrib-right : (x y c : ℤ) → (x +ℤ y) *ℤ c ≡ x *ℤ c +ℤ y *ℤ c
-mul-distrib-right x y c = let a = atoms₃ c x y in equal (search parts) (omega arith)
+pub mul_distrib_right : (x y c : ℤ) → (x +ℤ y) *ℤ c ≡ x *ℤ c +ℤ y *ℤ c
+mul_distrib_right x y c = let a = atoms₃ c x y in equal (search parts) (omega arith)
 
 pub mul_assoc : (x y z : ℤ) → (x *ℤ y) *ℤ z ≡ x *ℤ (y *ℤ z)
 mul_assoc x y z = let a = atoms₃ x y z in equal (search parts) (omega arith)
 
-pub mul-neg : (x y : ℤ) → x *ℤ neg_ℤ y ≡ neg_ℤ (x *ℤ y)
-mul-neg x y = let a = atoms₂ x y in equal (search parts) (omega arith)
+pub mul_neg : (x y : ℤ) → x *ℤ neg_ℤ y ≡ neg_ℤ (x *ℤ y)
+mul_neg x y = let a = atoms₂ x y in equal (search parts) (omega arith)
 
-pub sub-sub : (x y : ℤ) → x -ℤ (x -ℤ y) ≡ y
-sub-sub x y = let a = atoms₂ x y in equal (search parts) (omega arith)
+pub sub_sub : (x y : ℤ) → x -ℤ (x -ℤ y) ≡ y
+sub_sub x y = let a = atoms₂ x y in equal (search parts) (omega arith)
 
-pub neg-sub : (x y : ℤ) → neg_ℤ (x -ℤ y) ≡ y -ℤ x
-neg-sub x y = let a = atoms₂ x y in equal (search parts) (omega arith)
+pub neg_sub : (x y : ℤ) → neg_ℤ (x -ℤ y) ≡ y -ℤ x
+neg_sub x y = let a = atoms₂ x y in equal (search parts) (omega arith)
 
 -- no difference: equal
-pub equal-of-sub : (x y : ℤ) → x -ℤ y ≡ pos 0 → x ≡ y
-equal-of-sub x y e = let a = atoms₂ x y in equal (search parts) (omega (arith, from-equal e (search parts)))
+pub equal_of_sub : (x y : ℤ) → x -ℤ y ≡ pos 0 → x ≡ y
+equal_of_sub x y e = let a = atoms₂ x y in equal (search parts) (omega (arith, from_equal e (search parts)))
 
 -- ── order ──
 pub le_trans : {x y z : ℤ} → x ≤ℤ y → y ≤ℤ z → x ≤ℤ z
-le_trans {x} {y} {z} h g = let a = atoms₃ x y z in at_most (search parts) (omega (arith, from-at-most h (search parts), from-at-most g (search parts)))
+le_trans {x} {y} {z} h g = let a = atoms₃ x y z in at_most (search parts) (omega (arith, from_at_most h (search parts), from_at_most g (search parts)))
 
 pub le_antisym : {x y : ℤ} → x ≤ℤ y → y ≤ℤ x → x ≡ y
-le_antisym {x} {y} h g = let a = atoms₂ x y in equal (search parts) (omega (arith, from-at-most h (search parts), from-at-most g (search parts)))
+le_antisym {x} {y} h g = let a = atoms₂ x y in equal (search parts) (omega (arith, from_at_most h (search parts), from_at_most g (search parts)))
 
-pub le-add : {x y z w : ℤ} → x ≤ℤ y → z ≤ℤ w → (x +ℤ z) ≤ℤ (y +ℤ w)
-le-add {x} {y} {z} {w} h g = let a = atoms₄ x y z w in at_most (search parts) (omega (arith, from-at-most h (search parts), from-at-most g (search parts)))
+pub le_add : {x y z w : ℤ} → x ≤ℤ y → z ≤ℤ w → (x +ℤ z) ≤ℤ (y +ℤ w)
+le_add {x} {y} {z} {w} h g = let a = atoms₄ x y z w in at_most (search parts) (omega (arith, from_at_most h (search parts), from_at_most g (search parts)))
 
-pub le-neg : {x y : ℤ} → x ≤ℤ y → neg_ℤ y ≤ℤ neg_ℤ x
-le-neg {x} {y} h = let a = atoms₂ x y in at_most (search parts) (omega (arith, from-at-most h (search parts)))
+pub le_neg : {x y : ℤ} → x ≤ℤ y → neg_ℤ y ≤ℤ neg_ℤ x
+le_neg {x} {y} h = let a = atoms₂ x y in at_most (search parts) (omega (arith, from_at_most h (search parts)))
 
 pub le_of_lt : {x y : ℤ} → x <ℤ y → x ≤ℤ y
 le_of_lt {x} {y} h = let a = atoms₂ x y in at_most (search parts) (omega (arith, from_less h (search parts)))
 
-pub lt-le-clash : {x y : ℤ} → x <ℤ y → y ≤ℤ x → ⊥
-lt-le-clash {x} {y} h g = let a = atoms₂ x y in omega (arith, from_less h (search parts), from-at-most g (search parts))
+pub lt_le_clash : {x y : ℤ} → x <ℤ y → y ≤ℤ x → ⊥
+lt_le_clash {x} {y} h g = let a = atoms₂ x y in omega (arith, from_less h (search parts), from_at_most g (search parts))
 
 -- one of two integers is below the other, or not
-pub lt-or-ge : (x y : ℤ) → (x <ℤ y) ⊎ (y ≤ℤ x)
-lt-or-ge x y = go (lt_z x y) refl
+pub lt_or_ge : (x y : ℤ) → (x <ℤ y) ⊎ (y ≤ℤ x)
+lt_or_ge x y = go (lt_z x y) refl
   where
     go : (t : Bool) → lt_z x y ≡ t → (x <ℤ y) ⊎ (y ≤ℤ x)
     go true e = inl (lt_z_yes (rw e tt))
     go false e = inr (lt_z_no (rw e tt))
 
 -- the same, from a test of the machine
-pub lt-of-test : (x y : ℤ) → lt_z x y ≡ true → x <ℤ y
-lt-of-test x y e = lt_z_yes (rw e tt)
+pub lt_of_test : (x y : ℤ) → lt_z x y ≡ true → x <ℤ y
+lt_of_test x y e = lt_z_yes (rw e tt)
 
-pub ge-of-test : (x y : ℤ) → lt_z x y ≡ false → y ≤ℤ x
-ge-of-test x y e = lt_z_no (rw e tt)
+pub ge_of_test : (x y : ℤ) → lt_z x y ≡ false → y ≤ℤ x
+ge_of_test x y e = lt_z_no (rw e tt)
 
-pub le-of-test : (x y : ℤ) → le_z x y ≡ true → x ≤ℤ y
-le-of-test x y e = le_z_yes (rw e tt)
+pub le_of_test : (x y : ℤ) → le_z x y ≡ true → x ≤ℤ y
+le_of_test x y e = le_z_yes (rw e tt)
 
 -- ── a natural factor keeps the order, and can be taken away ──
-pub mul-le : (k : ℕ) {x y : ℤ} → x ≤ℤ y → (pos k *ℤ x) ≤ℤ (pos k *ℤ y)
-mul-le k {x} {y} h = let a = atoms₂ x y in at_most (search parts) (omega (arith, grown))
+pub mul_le : (k : ℕ) {x y : ℤ} → x ≤ℤ y → (pos k *ℤ x) ≤ℤ (pos k *ℤ y)
+mul_le k {x} {y} h = let a = atoms₂ x y in at_most (search parts) (omega (arith, grown))
   where
     grown : k * (positive x + negative y) ≤ k * (positive y + negative x)
-    grown = mul-le-mul (omega arith) (from-at-most h (atom x, atom y))
+    grown = mul-le-mul (omega arith) (from_at_most h (atom x, atom y))
 
-pub mul-lt : (k : ℕ) {x y : ℤ} → x <ℤ y → (pos (suc k) *ℤ x) <ℤ (pos (suc k) *ℤ y)
-mul-lt k {x} {y} h = let a = atoms₂ x y in less (search parts) (omega (arith, grown))
+pub mul_lt : (k : ℕ) {x y : ℤ} → x <ℤ y → (pos (suc k) *ℤ x) <ℤ (pos (suc k) *ℤ y)
+mul_lt k {x} {y} h = let a = atoms₂ x y in less (search parts) (omega (arith, grown))
   where
     grown : suc k * suc (positive x + negative y) ≤ suc k * (positive y + negative x)
     grown = mul-le-mul (omega arith) (from_less h (atom x, atom y))
 
-pub mul-le-cancel : (k : ℕ) (x y : ℤ) → (pos (suc k) *ℤ x) ≤ℤ (pos (suc k) *ℤ y) → x ≤ℤ y
-mul-le-cancel k x y h = go (lt-or-ge y x)
+pub mul_le_cancel : (k : ℕ) (x y : ℤ) → (pos (suc k) *ℤ x) ≤ℤ (pos (suc k) *ℤ y) → x ≤ℤ y
+mul_le_cancel k x y h = go (lt_or_ge y x)
   where
     go : (y <ℤ x) ⊎ (x ≤ℤ y) → x ≤ℤ y
-    go (inl l) = absurd (lt-le-clash (mul-lt k l) h)
+    go (inl l) = absurd (lt_le_clash (mul_lt k l) h)
     go (inr l) = l

@@ -4,8 +4,8 @@
 -- its atoms, which `atoms₁`, `atoms₂`, .. bring into scope. What is left is arithmetic of ℕ. A page of examples:
 --
 --   an equation        regroup x y c = let a = atoms₃ x y c in equal (search parts) (omega arith)
---   an order           below x y c h = let a = atoms₃ x y c in less (search parts) (omega (arith, from-at-most h (search parts)))
---   a hypothesis       from-equal h (search parts), from-at-most h (search parts), from_less h (search parts), in omega's list
+--   an order           below x y c h = let a = atoms₃ x y c in less (search parts) (omega (arith, from_at_most h (search parts)))
+--   a hypothesis       from_equal h (search parts), from_at_most h (search parts), from_less h (search parts), in omega's list
 --   a contradiction    clash x h g = let a = atoms₁ x in omega (arith, from_less h (search parts), from_less g (search parts))
 --   a product          `omega` multiplies out: equations of polynomials go the same way
 --   a deep term        search parts depth 9
@@ -44,59 +44,59 @@ add_parts (pos a) (negsuc b) = omega (arith, sub_parts a (suc b))
 add_parts (negsuc a) (pos b) = omega (arith, sub_parts b (suc a))
 add_parts (negsuc a) (negsuc b) = omega arith
 
-neg-parts : (z : ℤ) → positive (neg_ℤ z) + positive z ≡ negative z + negative (neg_ℤ z)
+neg_parts : (z : ℤ) → positive (neg_ℤ z) + positive z ≡ negative z + negative (neg_ℤ z)
 unfolding positive negative
-neg-parts (pos zero) = refl
-neg-parts (pos (suc n)) = omega arith
-neg-parts (negsuc n) = omega arith
+neg_parts (pos zero) = refl
+neg_parts (pos (suc n)) = omega arith
+neg_parts (negsuc n) = omega arith
 
-neg-pos-parts : (k : ℕ) → (positive (neg_ℤ (pos k)) ≡ 0) × (negative (neg_ℤ (pos k)) ≡ k)
+neg_pos_parts : (k : ℕ) → (positive (neg_ℤ (pos k)) ≡ 0) × (negative (neg_ℤ (pos k)) ≡ k)
 unfolding positive negative
-neg-pos-parts zero = (refl, refl)
-neg-pos-parts (suc k) = (refl, refl)
+neg_pos_parts zero = (refl, refl)
+neg_pos_parts (suc k) = (refl, refl)
 
-mul-parts : (z w : ℤ)
+mul_parts : (z w : ℤ)
     → positive (z *ℤ w) + (positive z * negative w + negative z * positive w) ≡ positive z * positive w + negative z * negative w + negative (z *ℤ w)
 unfolding positive negative
-mul-parts (pos a) (pos b) = omega arith
-mul-parts (pos a) (negsuc b) = omega (arith, (neg-pos-parts (a * suc b)).0, (neg-pos-parts (a * suc b)).1)
-mul-parts (negsuc a) (pos b) = omega (arith, (neg-pos-parts (suc a * b)).0, (neg-pos-parts (suc a * b)).1)
-mul-parts (negsuc a) (negsuc b) = omega arith
+mul_parts (pos a) (pos b) = omega arith
+mul_parts (pos a) (negsuc b) = omega (arith, (neg_pos_parts (a * suc b)).0, (neg_pos_parts (a * suc b)).1)
+mul_parts (negsuc a) (pos b) = omega (arith, (neg_pos_parts (suc a * b)).0, (neg_pos_parts (suc a * b)).1)
+mul_parts (negsuc a) (negsuc b) = omega arith
 
-same-by-parts : (z w : ℤ) → positive z + negative w ≡ positive w + negative z → z ≡ w
+same_by_parts : (z w : ℤ) → positive z + negative w ≡ positive w + negative z → z ≡ w
 unfolding positive negative
-same-by-parts (pos a) (pos b) e = ap pos (omega arith)
-same-by-parts (pos a) (negsuc b) e = absurd (omega arith)
-same-by-parts (negsuc a) (pos b) e = absurd (omega arith)
-same-by-parts (negsuc a) (negsuc b) e = ap negsuc (omega arith)
+same_by_parts (pos a) (pos b) e = ap pos (omega arith)
+same_by_parts (pos a) (negsuc b) e = absurd (omega arith)
+same_by_parts (negsuc a) (pos b) e = absurd (omega arith)
+same_by_parts (negsuc a) (negsuc b) e = ap negsuc (omega arith)
 
-le-by-parts : (z w : ℤ) → positive z + negative w ≤ positive w + negative z → T (le_z z w)
+le_by_parts : (z w : ℤ) → positive z + negative w ≤ positive w + negative z → T (le_z z w)
 unfolding positive negative
-le-by-parts (pos a) (pos b) e = le→leb a b (omega arith)
-le-by-parts (pos a) (negsuc b) e = absurd (omega arith)
-le-by-parts (negsuc a) (pos b) e = tt
-le-by-parts (negsuc a) (negsuc b) e = le→leb b a (omega arith)
+le_by_parts (pos a) (pos b) e = le→leb a b (omega arith)
+le_by_parts (pos a) (negsuc b) e = absurd (omega arith)
+le_by_parts (negsuc a) (pos b) e = tt
+le_by_parts (negsuc a) (negsuc b) e = le→leb b a (omega arith)
 
-parts-of-le : (z w : ℤ) → T (le_z z w) → positive z + negative w ≤ positive w + negative z
+parts_of_le : (z w : ℤ) → T (le_z z w) → positive z + negative w ≤ positive w + negative z
 unfolding positive negative
-parts-of-le (pos a) (pos b) t = let h : a ≤ b = leb→le a b t in omega arith
-parts-of-le (pos a) (negsuc b) t = absurd t
-parts-of-le (negsuc a) (pos b) t = omega arith
-parts-of-le (negsuc a) (negsuc b) t = let h : b ≤ a = leb→le b a t in omega arith
+parts_of_le (pos a) (pos b) t = let h : a ≤ b = leb→le a b t in omega arith
+parts_of_le (pos a) (negsuc b) t = absurd t
+parts_of_le (negsuc a) (pos b) t = omega arith
+parts_of_le (negsuc a) (negsuc b) t = let h : b ≤ a = leb→le b a t in omega arith
 
-lt-by-parts : (z w : ℤ) → positive z + negative w < positive w + negative z → T (lt_z z w)
+lt_by_parts : (z w : ℤ) → positive z + negative w < positive w + negative z → T (lt_z z w)
 unfolding positive negative
-lt-by-parts (pos a) (pos b) e = lt→ltb a b (omega arith)
-lt-by-parts (pos a) (negsuc b) e = absurd (omega arith)
-lt-by-parts (negsuc a) (pos b) e = tt
-lt-by-parts (negsuc a) (negsuc b) e = lt→ltb b a (omega arith)
+lt_by_parts (pos a) (pos b) e = lt→ltb a b (omega arith)
+lt_by_parts (pos a) (negsuc b) e = absurd (omega arith)
+lt_by_parts (negsuc a) (pos b) e = tt
+lt_by_parts (negsuc a) (negsuc b) e = lt→ltb b a (omega arith)
 
-parts-of-lt : (z w : ℤ) → T (lt_z z w) → positive z + negative w < positive w + negative z
+parts_of_lt : (z w : ℤ) → T (lt_z z w) → positive z + negative w < positive w + negative z
 unfolding positive negative
-parts-of-lt (pos a) (pos b) t = let h : a < b = ltb→lt a b t in omega arith
-parts-of-lt (pos a) (negsuc b) t = absurd t
-parts-of-lt (negsuc a) (pos b) t = omega arith
-parts-of-lt (negsuc a) (negsuc b) t = let h : b < a = ltb→lt b a t in omega arith
+parts_of_lt (pos a) (pos b) t = let h : a < b = ltb→lt a b t in omega arith
+parts_of_lt (pos a) (negsuc b) t = absurd t
+parts_of_lt (negsuc a) (pos b) t = omega arith
+parts_of_lt (negsuc a) (negsuc b) t = let h : b < a = ltb→lt b a t in omega arith
 
 -- ── an integer as a difference of naturals ──
 pub record Parts (z : ℤ) : Type 0 where
@@ -107,19 +107,19 @@ pub record Parts (z : ℤ) : Type 0 where
 abbrev pub atom : (z : ℤ) → Parts z
 atom z = record { plus = positive z; minus = negative z; is = refl }
 
-pub literal-is : (k : ℕ) → k + negative (pos k) ≡ positive (pos k) + 0
+pub literal_is : (k : ℕ) → k + negative (pos k) ≡ positive (pos k) + 0
 unfolding positive negative
-literal-is k = refl
+literal_is k = refl
 
 abbrev pub literal : (k : ℕ) → Parts (pos k)
-literal k = record { plus = k; minus = 0; is = literal-is k }
+literal k = record { plus = k; minus = 0; is = literal_is k }
 
-pub negative-literal-is : (k : ℕ) → 0 + negative (negsuc k) ≡ positive (negsuc k) + suc k
+pub negative_literal_is : (k : ℕ) → 0 + negative (negsuc k) ≡ positive (negsuc k) + suc k
 unfolding positive negative
-negative-literal-is k = omega arith
+negative_literal_is k = omega arith
 
-abbrev pub negative-literal : (k : ℕ) → Parts (negsuc k)
-negative-literal k = record { plus = 0; minus = suc k; is = negative-literal-is k }
+abbrev pub negative_literal : (k : ℕ) → Parts (negsuc k)
+negative_literal k = record { plus = 0; minus = suc k; is = negative_literal_is k }
 
 pub added_is : {z w : ℤ} (r : Parts z) (s : Parts w) → (r.plus + s.plus) + negative (z +ℤ w) ≡ positive (z +ℤ w) + (r.minus + s.minus)
 added_is {z} {w} r s = omega (arith, add_parts z w, r.is, s.is)
@@ -127,18 +127,18 @@ added_is {z} {w} r s = omega (arith, add_parts z w, r.is, s.is)
 abbrev pub added : {z w : ℤ} → Parts z → Parts w → Parts (z +ℤ w)
 added r s = record { plus = r.plus + s.plus; minus = r.minus + s.minus; is = added_is r s }
 
-pub negated-is : {z : ℤ} (r : Parts z) → r.minus + negative (neg_ℤ z) ≡ positive (neg_ℤ z) + r.plus
-negated-is {z} r = omega (arith, neg-parts z, r.is)
+pub negated_is : {z : ℤ} (r : Parts z) → r.minus + negative (neg_ℤ z) ≡ positive (neg_ℤ z) + r.plus
+negated_is {z} r = omega (arith, neg_parts z, r.is)
 
 abbrev pub negated : {z : ℤ} → Parts z → Parts (neg_ℤ z)
-negated r = record { plus = r.minus; minus = r.plus; is = negated-is r }
+negated r = record { plus = r.minus; minus = r.plus; is = negated_is r }
 
-pub multiplied-is : {z w : ℤ} (r : Parts z) (s : Parts w)
+pub multiplied_is : {z w : ℤ} (r : Parts z) (s : Parts w)
     → (r.plus * s.plus + r.minus * s.minus) + negative (z *ℤ w) ≡ positive (z *ℤ w) + (r.plus * s.minus + r.minus * s.plus)
-multiplied-is {z} {w} r s =
+multiplied_is {z} {w} r s =
     omega (
       arith,
-      mul-parts z w,
+      mul_parts z w,
       ap (λ x. x * s.plus) r.is,
       ap (λ x. x * s.minus) r.is,
       ap (λ x. positive z * x) s.is,
@@ -146,9 +146,9 @@ multiplied-is {z} {w} r s =
     )
 
 abbrev pub multiplied : {z w : ℤ} → Parts z → Parts w → Parts (z *ℤ w)
-multiplied r s = record { plus = r.plus * s.plus + r.minus * s.minus; minus = r.plus * s.minus + r.minus * s.plus; is = multiplied-is r s }
+multiplied r s = record { plus = r.plus * s.plus + r.minus * s.minus; minus = r.plus * s.minus + r.minus * s.plus; is = multiplied_is r s }
 
-pub ruleset parts = (added, negated, multiplied, literal, negative-literal)
+pub ruleset parts = (added, negated, multiplied, literal, negative_literal)
 
 abbrev pub atoms₁ : (x : ℤ) → Parts x
 atoms₁ = atom
@@ -167,32 +167,32 @@ atoms₅ x y z w v = (atom x, atom y, atom z, atom w, atom v)
 
 -- ── goals ──
 pub equal : {z w : ℤ} (r : Parts z × Parts w) → r.0.plus + r.1.minus ≡ r.1.plus + r.0.minus → z ≡ w
-equal {z} {w} r e = same-by-parts z w (omega (arith, r.0.is, r.1.is))
+equal {z} {w} r e = same_by_parts z w (omega (arith, r.0.is, r.1.is))
 
 pub at_most : {z w : ℤ} (r : Parts z × Parts w) → r.0.plus + r.1.minus ≤ r.1.plus + r.0.minus → z ≤ℤ w
-at_most {z} {w} r e = le_z_yes (le-by-parts z w (omega (arith, r.0.is, r.1.is)))
+at_most {z} {w} r e = le_z_yes (le_by_parts z w (omega (arith, r.0.is, r.1.is)))
 
 pub less : {z w : ℤ} (r : Parts z × Parts w) → r.0.plus + r.1.minus < r.1.plus + r.0.minus → z <ℤ w
-less {z} {w} r e = lt_z_yes (lt-by-parts z w (omega (arith, r.0.is, r.1.is)))
+less {z} {w} r e = lt_z_yes (lt_by_parts z w (omega (arith, r.0.is, r.1.is)))
 
 -- ── hypotheses ──
-pub from-equal : {z w : ℤ} → z ≡ w → (r : Parts z × Parts w) → r.0.plus + r.1.minus ≡ r.1.plus + r.0.minus
-from-equal {z} {w} e r = omega (arith, r.0.is, r.1.is, ap positive e, ap negative e)
+pub from_equal : {z w : ℤ} → z ≡ w → (r : Parts z × Parts w) → r.0.plus + r.1.minus ≡ r.1.plus + r.0.minus
+from_equal {z} {w} e r = omega (arith, r.0.is, r.1.is, ap positive e, ap negative e)
 
-pub from-at-most : {z w : ℤ} → z ≤ℤ w → (r : Parts z × Parts w) → r.0.plus + r.1.minus ≤ r.1.plus + r.0.minus
-from-at-most {z} {w} h r = omega (arith, r.0.is, r.1.is, parts-of-le z w h.le)
+pub from_at_most : {z w : ℤ} → z ≤ℤ w → (r : Parts z × Parts w) → r.0.plus + r.1.minus ≤ r.1.plus + r.0.minus
+from_at_most {z} {w} h r = omega (arith, r.0.is, r.1.is, parts_of_le z w h.le)
 
 pub from_less : {z w : ℤ} → z <ℤ w → (r : Parts z × Parts w) → r.0.plus + r.1.minus < r.1.plus + r.0.minus
-from_less {z} {w} h r = omega (arith, r.0.is, r.1.is, parts-of-lt z w h.lt)
+from_less {z} {w} h r = omega (arith, r.0.is, r.1.is, parts_of_lt z w h.lt)
 
 -- the positive part of any difference
-pub positive-is : {z : ℤ} (r : Parts z) → positive z ≡ r.plus - r.minus
+pub positive_is : {z : ℤ} (r : Parts z) → positive z ≡ r.plus - r.minus
 unfolding positive negative
-positive-is {z} r = go (one-is-nil z)
+positive_is {z} r = go (one_is_nil z)
   where
-    one-is-nil : (z : ℤ) → (positive z ≡ 0) ⊎ (negative z ≡ 0)
-    one-is-nil (pos n) = inr refl
-    one-is-nil (negsuc n) = inl refl
+    one_is_nil : (z : ℤ) → (positive z ≡ 0) ⊎ (negative z ≡ 0)
+    one_is_nil (pos n) = inr refl
+    one_is_nil (negsuc n) = inl refl
 
     go : (positive z ≡ 0) ⊎ (negative z ≡ 0) → positive z ≡ r.plus - r.minus
     go (inl e) = omega (arith, r.is)
@@ -203,7 +203,7 @@ regroup : (x y c : ℤ) → (x +ℤ c) -ℤ (y +ℤ c) ≡ x -ℤ y
 regroup x y c = let a = atoms₃ x y c in equal (search parts) (omega arith)
 
 below : (x y c : ℤ) → x ≤ℤ y → ((x +ℤ c) -ℤ pos 1) <ℤ (y +ℤ c)
-below x y c h = let a = atoms₃ x y c in less (search parts) (omega (arith, from-at-most h (search parts)))
+below x y c h = let a = atoms₃ x y c in less (search parts) (omega (arith, from_at_most h (search parts)))
 
 clash : (x : ℤ) → pos 2 <ℤ x → x <ℤ pos 3 → ⊥
 clash x h g = let a = atoms₁ x in omega (arith, from_less h (search parts), from_less g (search parts))

@@ -6,8 +6,8 @@ use native.Mathlib.Nat.{div-add-mod, mod-lt}
 use lib.IntN.{ℤ, pos, negsuc, ◌+ℤ◌, ◌*ℤ◌}
 use lib.Signed.{◌≤ℤ◌, ◌<ℤ◌}
 use mathlib.Core.Path.{◌≡◌}
-use Rattle.integers.proofs.Omega.{Parts, atoms₁, atoms₃, atoms₅, parts, equal, at_most, less, from-at-most, from_less}
-use Rattle.integers.proofs.Laws.{lt-or-ge, mul-le}
+use Rattle.integers.proofs.Omega.{Parts, atoms₁, atoms₃, atoms₅, parts, equal, at_most, less, from_at_most, from_less}
+use Rattle.integers.proofs.Laws.{lt_or_ge, mul_le}
 
 -- the greatest whole number that times (suc k) is at most z
 pub floor : ℕ → ℤ → ℤ
@@ -19,43 +19,43 @@ clash : (X Y N x y d : ℤ) → ((Y +ℤ N) +ℤ d) ≤ℤ X → X ≤ℤ x → 
 clash X Y N x y d p q r h =
     let a = atoms₅ X Y N x y in
     let b = atoms₁ d in
-    omega (arith, from-at-most p (search parts), from-at-most q (search parts), from_less r (search parts), from-at-most h (search parts))
+    omega (arith, from_at_most p (search parts), from_at_most q (search parts), from_less r (search parts), from_at_most h (search parts))
 
 module _ (k : ℕ) where
   abbrev D : ℤ
   D = pos (suc k)
 
-  floor-low : (z : ℤ) → (D *ℤ floor k z) ≤ℤ z
+  floor_low : (z : ℤ) → (D *ℤ floor k z) ≤ℤ z
   unfolding floor
-  floor-low (pos a) =
+  floor_low (pos a) =
       let p : Parts (pos (suc k)) × Parts (pos (a / suc k)) × Parts (pos a) = search parts in
       at_most (search parts) (omega (arith, div-add-mod a (suc k), mod-lt a {m = suc k} (omega arith)))
-  floor-low (negsuc a) =
+  floor_low (negsuc a) =
       let p : Parts (pos (suc k)) × Parts (negsuc (a / suc k)) × Parts (negsuc a) = search parts in
       at_most (search parts) (omega (arith, div-add-mod a (suc k), mod-lt a {m = suc k} (omega arith)))
 
-  floor-high : (z : ℤ) → z <ℤ (D *ℤ floor k z +ℤ D)
+  floor_high : (z : ℤ) → z <ℤ (D *ℤ floor k z +ℤ D)
   unfolding floor
-  floor-high (pos a) =
+  floor_high (pos a) =
       let p : Parts (pos (suc k)) × Parts (pos (a / suc k)) × Parts (pos a) = search parts in
       less (search parts) (omega (arith, div-add-mod a (suc k), mod-lt a {m = suc k} (omega arith)))
-  floor-high (negsuc a) =
+  floor_high (negsuc a) =
       let p : Parts (pos (suc k)) × Parts (negsuc (a / suc k)) × Parts (negsuc a) = search parts in
       less (search parts) (omega (arith, div-add-mod a (suc k), mod-lt a {m = suc k} (omega arith)))
 
   -- what is at most another and a multiple is so rounded down
-  pub floor-step : (x y n : ℤ) → x ≤ℤ (y +ℤ D *ℤ n) → floor k x ≤ℤ (floor k y +ℤ n)
-  floor-step x y n h = go (lt-or-ge (floor k y +ℤ n) (floor k x))
+  pub floor_step : (x y n : ℤ) → x ≤ℤ (y +ℤ D *ℤ n) → floor k x ≤ℤ (floor k y +ℤ n)
+  floor_step x y n h = go (lt_or_ge (floor k y +ℤ n) (floor k x))
     where
       go : ((floor k y +ℤ n) <ℤ floor k x) ⊎ (floor k x ≤ℤ (floor k y +ℤ n)) → floor k x ≤ℤ (floor k y +ℤ n)
       go (inr l) = l
-      go (inl l) = absurd (clash (D *ℤ floor k x) (D *ℤ floor k y) (D *ℤ n) x y D (rw spread at grown) (floor-low x) (floor-high y) h)
+      go (inl l) = absurd (clash (D *ℤ floor k x) (D *ℤ floor k y) (D *ℤ n) x y D (rw spread at grown) (floor_low x) (floor_high y) h)
         where
           next : ((floor k y +ℤ n) +ℤ pos 1) ≤ℤ floor k x
           next = let a = atoms₃ (floor k x) (floor k y) n in at_most (search parts) (omega (arith, from_less l (search parts)))
 
           grown : (D *ℤ ((floor k y +ℤ n) +ℤ pos 1)) ≤ℤ (D *ℤ floor k x)
-          grown = mul-le (suc k) next
+          grown = mul_le (suc k) next
 
           spread : D *ℤ ((floor k y +ℤ n) +ℤ pos 1) ≡ ((D *ℤ floor k y) +ℤ (D *ℤ n)) +ℤ D
           spread = let a = atoms₃ (floor k y) n D in equal (search parts) (omega arith)

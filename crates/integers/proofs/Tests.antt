@@ -25,33 +25,33 @@ either true = inl refl
 either false = inr refl
 
 -- ── equality and order of numbers ──
-pub eqb-true : (a b : ℕ) → a ≡ b → eqb a b ≡ true
-eqb-true a b e = rw e (of_T (eqb_refl b))
+pub eqb_true : (a b : ℕ) → a ≡ b → eqb a b ≡ true
+eqb_true a b e = rw e (of_T (eqb_refl b))
 
-pub eqb-eq : (a b : ℕ) → eqb a b ≡ true → a ≡ b
-eqb-eq a b e = eqb→eq a b (T_of e)
+pub eqb_eq : (a b : ℕ) → eqb a b ≡ true → a ≡ b
+eqb_eq a b e = eqb→eq a b (T_of e)
 
-pub eqb-false : (a b : ℕ) → a ≢ b → eqb a b ≡ false
-eqb-false a b h = go (either (eqb a b))
+pub eqb_false : (a b : ℕ) → a ≢ b → eqb a b ≡ false
+eqb_false a b h = go (either (eqb a b))
   where
     go : (eqb a b ≡ true) ⊎ (eqb a b ≡ false) → eqb a b ≡ false
-    go (inl e) = absurd (h (eqb-eq a b e))
+    go (inl e) = absurd (h (eqb_eq a b e))
     go (inr e) = e
 
-pub eqb-ne : (a b : ℕ) → eqb a b ≡ false → a ≢ b
-eqb-ne a b h e = true≢false (sym (eqb-true a b e) ∙ h)
+pub eqb_ne : (a b : ℕ) → eqb a b ≡ false → a ≢ b
+eqb_ne a b h e = true≢false (sym (eqb_true a b e) ∙ h)
 
-pub ltb-true : (a b : ℕ) → a < b → ltb a b ≡ true
-ltb-true a b h = of_T (lt→ltb a b h)
+pub ltb_true : (a b : ℕ) → a < b → ltb a b ≡ true
+ltb_true a b h = of_T (lt→ltb a b h)
 
-pub ltb-lt : (a b : ℕ) → ltb a b ≡ true → a < b
-ltb-lt a b e = ltb→lt a b (T_of e)
+pub ltb_lt : (a b : ℕ) → ltb a b ≡ true → a < b
+ltb_lt a b e = ltb→lt a b (T_of e)
 
-pub ltb-false : (a b : ℕ) → b ≤ a → ltb a b ≡ false
-ltb-false a b h = go (either (ltb a b))
+pub ltb_false : (a b : ℕ) → b ≤ a → ltb a b ≡ false
+ltb_false a b h = go (either (ltb a b))
   where
     go : (ltb a b ≡ true) ⊎ (ltb a b ≡ false) → ltb a b ≡ false
-    go (inl e) = absurd (omega (arith, ltb-lt a b e))
+    go (inl e) = absurd (omega (arith, ltb_lt a b e))
     go (inr e) = e
 
 -- ── tests joined ──
@@ -60,12 +60,12 @@ and_both true true e = (refl, refl)
 and_both true false e = absurd (false≢true e)
 and_both false b e = absurd (false≢true e)
 
-pub and-true : {a b : Bool} → a ≡ true → b ≡ true → a && b ≡ true
-and-true p q = rw (p, q)
+pub and_true : {a b : Bool} → a ≡ true → b ≡ true → a && b ≡ true
+and_true p q = rw (p, q)
 
-pub not-true : (b : Bool) → not b ≡ true → b ≡ false
-not-true true e = absurd (false≢true e)
-not-true false e = refl
+pub not_true : (b : Bool) → not b ≡ true → b ≡ false
+not_true true e = absurd (false≢true e)
+not_true false e = refl
 
 pub implied : (a : Bool) {b : Bool} → not a || b ≡ true → a ≡ true → b ≡ true
 implied true h e = h
@@ -76,42 +76,42 @@ unfoldable pub every : ℕ → (ℕ → Bool) → Bool
 every zero b = true
 every (suc n) b = every n b && b n
 
-pub every-at : (n : ℕ) (b : ℕ → Bool) → every n b ≡ true → (i : ℕ) → i < n → b i ≡ true
+pub every_at : (n : ℕ) (b : ℕ → Bool) → every n b ≡ true → (i : ℕ) → i < n → b i ≡ true
 unfolding every
-every-at zero b h i l = absurd (omega arith)
-every-at (suc n) b h i l = go (and_both (every n b) (b n) h) (ℕ_discrete i n) (every-at n b)
+every_at zero b h i l = absurd (omega arith)
+every_at (suc n) b h i l = go (and_both (every n b) (b n) h) (ℕ_discrete i n) (every_at n b)
   where
     go : (every n b ≡ true) × (b n ≡ true) → Dec (i ≡ n) → (every n b ≡ true → (i : ℕ) → i < n → b i ≡ true) → b i ≡ true
     go r (yes e) ih = ap b e ∙ r.1
     go r (no e) ih = ih r.0 i (omega (arith, e))
 
-pub every-below : (n : ℕ) (f g : ℕ → ℕ) → every n (λ i. ltb (f i) (g i)) ≡ true → (i : ℕ) → i < n → f i < g i
-every-below n f g h i l = ltb-lt (f i) (g i) (every-at n (λ i. ltb (f i) (g i)) h i l)
+pub every_below : (n : ℕ) (f g : ℕ → ℕ) → every n (λ i. ltb (f i) (g i)) ≡ true → (i : ℕ) → i < n → f i < g i
+every_below n f g h i l = ltb_lt (f i) (g i) (every_at n (λ i. ltb (f i) (g i)) h i l)
 
-pub every-equal : (n : ℕ) (f g : ℕ → ℕ) → every n (λ i. eqb (f i) (g i)) ≡ true → (i : ℕ) → i < n → f i ≡ g i
-every-equal n f g h i l = eqb-eq (f i) (g i) (every-at n (λ i. eqb (f i) (g i)) h i l)
+pub every_equal : (n : ℕ) (f g : ℕ → ℕ) → every n (λ i. eqb (f i) (g i)) ≡ true → (i : ℕ) → i < n → f i ≡ g i
+every_equal n f g h i l = eqb_eq (f i) (g i) (every_at n (λ i. eqb (f i) (g i)) h i l)
 
 -- at every two numbers below n: where x holds, y holds
 pub every_two : (n : ℕ) (x y : ℕ → ℕ → Bool) → every n (λ i. every n (λ j. not (x i j) || y i j)) ≡ true
     → (i j : ℕ) → i < n → j < n → x i j ≡ true → y i j ≡ true
-every_two n x y h i j li lj = implied (x i j) (every-at n (λ j. not (x i j) || y i j) (every-at n (λ i. every n (λ j. not (x i j) || y i j)) h i li) j lj)
+every_two n x y h i j li lj = implied (x i j) (every_at n (λ j. not (x i j) || y i j) (every_at n (λ i. every n (λ j. not (x i j) || y i j)) h i li) j lj)
 
 -- ── integers ──
-unfoldable pub eqZ : ℤ → ℤ → Bool
-eqZ (pos a) (pos b) = eqb a b
-eqZ (pos a) (negsuc b) = false
-eqZ (negsuc a) (pos b) = false
-eqZ (negsuc a) (negsuc b) = eqb a b
+unfoldable pub eq_z : ℤ → ℤ → Bool
+eq_z (pos a) (pos b) = eqb a b
+eq_z (pos a) (negsuc b) = false
+eq_z (negsuc a) (pos b) = false
+eq_z (negsuc a) (negsuc b) = eqb a b
 
-pub eqZ-eq : (x y : ℤ) → eqZ x y ≡ true → x ≡ y
-unfolding eqZ
-eqZ-eq (pos a) (pos b) e = ap pos (eqb-eq a b e)
-eqZ-eq (pos a) (negsuc b) e = absurd (false≢true e)
-eqZ-eq (negsuc a) (pos b) e = absurd (false≢true e)
-eqZ-eq (negsuc a) (negsuc b) e = ap negsuc (eqb-eq a b e)
+pub eq_z_eq : (x y : ℤ) → eq_z x y ≡ true → x ≡ y
+unfolding eq_z
+eq_z_eq (pos a) (pos b) e = ap pos (eqb_eq a b e)
+eq_z_eq (pos a) (negsuc b) e = absurd (false≢true e)
+eq_z_eq (negsuc a) (pos b) e = absurd (false≢true e)
+eq_z_eq (negsuc a) (negsuc b) e = ap negsuc (eqb_eq a b e)
 
-pub every-equalℤ : (n : ℕ) (f g : ℕ → ℤ) → every n (λ i. eqZ (f i) (g i)) ≡ true → (i : ℕ) → i < n → f i ≡ g i
-every-equalℤ n f g h i l = eqZ-eq (f i) (g i) (every-at n (λ i. eqZ (f i) (g i)) h i l)
+pub every_equalℤ : (n : ℕ) (f g : ℕ → ℤ) → every n (λ i. eq_z (f i) (g i)) ≡ true → (i : ℕ) → i < n → f i ≡ g i
+every_equalℤ n f g h i l = eq_z_eq (f i) (g i) (every_at n (λ i. eq_z (f i) (g i)) h i l)
 
-pub every-at-most : (n : ℕ) (f g : ℕ → ℤ) → every n (λ i. le_z (f i) (g i)) ≡ true → (i : ℕ) → i < n → f i ≤ℤ g i
-every-at-most n f g h i l = le_z_yes (T_of (every-at n (λ i. le_z (f i) (g i)) h i l))
+pub every_at_most : (n : ℕ) (f g : ℕ → ℤ) → every n (λ i. le_z (f i) (g i)) ≡ true → (i : ℕ) → i < n → f i ≤ℤ g i
+every_at_most n f g h i l = le_z_yes (T_of (every_at n (λ i. le_z (f i) (g i)) h i l))

@@ -8,15 +8,15 @@ pub record Monoid : Type 1 where
   pub Carrier : Type 0
   pub add : Carrier → Carrier → Carrier
   pub nil : Carrier
-  pub add-nil : (a : Carrier) → add a nil ≡ a
+  pub add_nil : (a : Carrier) → add a nil ≡ a
   pub commutes : (a b : Carrier) → add a b ≡ add b a
   pub associates : (a b c : Carrier) → add (add a b) c ≡ add a (add b c)
 
 abbrev pub Integers : Monoid
-Integers = record { Carrier = ℤ; add = ◌+ℤ◌; nil = pos 0; add-nil = +ℤ_idr; commutes = +ℤ_comm; associates = +ℤ_assoc }
+Integers = record { Carrier = ℤ; add = ◌+ℤ◌; nil = pos 0; add_nil = +ℤ_idr; commutes = +ℤ_comm; associates = +ℤ_assoc }
 
 abbrev pub Naturals : Monoid
-Naturals = record { Carrier = ℕ; add = ◌+◌; nil = 0; add-nil = add-zero; commutes = add_comm; associates = add_assoc }
+Naturals = record { Carrier = ℕ; add = ◌+◌; nil = 0; add_nil = add-zero; commutes = add_comm; associates = add_assoc }
 
 -- the empty sum is nil; the last term is added at the right
 unfoldable pub sum : (𝓜 : Monoid) → ℕ → (ℕ → 𝓜.Carrier) → 𝓜.Carrier

@@ -2,8 +2,8 @@
 use Rattle.std.specs.Prelude.{ℕ, ◌≡◌, ◌⊎◌, List, length, take}
 
 -- one byte more than the longest input that can be accepted, so that a byte left over is seen
-abbrev pub inputRoom : ℕ
-inputRoom = 8721
+abbrev pub input_room : ℕ
+input_room = 8721
 
 -- `whole` begins with the first n bytes of the buffer, and either ends there, or these are all that the buffer holds and more may follow
 abbrev pub Begins : (buffer : List ℕ) → ℕ → (whole : List ℕ) → Type 0

@@ -4,16 +4,16 @@
 use Rattle.std.specs.Prelude.{ℕ, ◌≤◌, ◌≡◌, ◌⊎◌, ◌↔◌, List, ◌++◌, get_or, length, take, drop, ℤ}
 use Rattle.refusals.specs.Order.{NoneOf, FirstOf}
 use Rattle.flows.specs.ProvingSet.{SetOf, member, size}
-use Rattle.records.specs.Sheet.{nodesOf, edgesOf}
+use Rattle.records.specs.Sheet.{nodes_of, edges_of}
 use Rattle.texts.specs.Decimal.{decimal, number}
 use Rattle.texts.specs.Numeral.{numeral}
 use Rattle.analyser.specs.Statements.{HighestFor, Possible, Impossible, ProvesOf}
 use Rattle.analyser.specs.Drops.{NotEvenInDrops}
-use Rattle.key_text.specs.Question.{source_of, sinkOf, value_of, sheetOf, keyChecks}
-use Rattle.key_text.specs.Text.{canWord, cannotWord, refusedWord, canText, cannotText, refusedText}
+use Rattle.key_text.specs.Question.{source_of, sink_of, value_of, sheet_of, key_checks}
+use Rattle.key_text.specs.Text.{can_word, cannot_word, refused_word, can_text, cannot_text, refused_text}
 use Rattle.key_text.specs.declared.KeyAnswer.TheVariants.{Refused}
 use Rattle.key_text.specs.Key.{Key, Prints, Writes}
-use Rattle.key_text.specs.Input.{inputRoom}
+use Rattle.key_text.specs.Input.{input_room}
 
 -- the text's first word
 abbrev pub Says : (word t : List ℕ) → Type 0
@@ -21,36 +21,36 @@ Says word t = (rest : List ℕ) × (t ≡ word ++ rest)
 
 pub record KeyText : Type 0 where
   -- "refused" exactly where a check refuses, and the number is that of the first
-  pub refused-exactly : (b t : List ℕ) → Key b t → Says refusedWord t ↔ ((k p : ℕ) × FirstOf (keyChecks b) k p)
-  pub refused-number : (b t : List ℕ) → Key b t → (k p : ℕ) → FirstOf (keyChecks b) k p → t ≡ refusedText k
+  pub refused_exactly : (b t : List ℕ) → Key b t → Says refused_word t ↔ ((k p : ℕ) × FirstOf (key_checks b) k p)
+  pub refused_number : (b t : List ℕ) → Key b t → (k p : ℕ) → FirstOf (key_checks b) k p → t ≡ refused_text k
   -- an accepted question is answered
-  pub can-or-cannot : (b t : List ℕ) → NoneOf (keyChecks b) → Key b t → Says canWord t ⊎ Says cannotWord t
+  pub can_or_cannot : (b t : List ℕ) → NoneOf (key_checks b) → Key b t → Says can_word t ⊎ Says cannot_word t
   -- "can" exactly when some settings carry the delivery; "cannot" exactly when none do
-  pub can-exactly : (b t : List ℕ) → NoneOf (keyChecks b) → Key b t
-      → Says canWord t ↔ Possible (sheetOf b) (source_of b) (sinkOf b) (value_of b)
-  pub cannot-exactly : (b t : List ℕ) → NoneOf (keyChecks b) → Key b t
-      → Says cannotWord t ↔ Impossible (sheetOf b) (source_of b) (sinkOf b) (value_of b)
+  pub can_exactly : (b t : List ℕ) → NoneOf (key_checks b) → Key b t
+      → Says can_word t ↔ Possible (sheet_of b) (source_of b) (sink_of b) (value_of b)
+  pub cannot_exactly : (b t : List ℕ) → NoneOf (key_checks b) → Key b t
+      → Says cannot_word t ↔ Impossible (sheet_of b) (source_of b) (sink_of b) (value_of b)
   -- document 02, Job 13: and then none do in n-th parts either
-  pub cannot-in-drops : (b t : List ℕ) → NoneOf (keyChecks b) → Key b t
-      → Says cannotWord t → NotEvenInDrops (sheetOf b) (source_of b) (sinkOf b) (value_of b)
+  pub cannot_in_drops : (b t : List ℕ) → NoneOf (key_checks b) → Key b t
+      → Says cannot_word t → NotEvenInDrops (sheet_of b) (source_of b) (sink_of b) (value_of b)
   -- under "can": each edge with its flow in the highest answer, and the text is one
-  pub can-prints : (b t : List ℕ) → NoneOf (keyChecks b) → Key b t → Says canWord t
-      → (x : ℕ → ℤ) × HighestFor (sheetOf b) (source_of b) (sinkOf b) (value_of b) x × (t ≡ canText (value_of b) (edgesOf (sheetOf b)) x)
-  pub can-one : (b t u : List ℕ) → NoneOf (keyChecks b) → Key b t → Key b u → Says canWord t → t ≡ u
+  pub can_prints : (b t : List ℕ) → NoneOf (key_checks b) → Key b t → Says can_word t
+      → (x : ℕ → ℤ) × HighestFor (sheet_of b) (source_of b) (sink_of b) (value_of b) x × (t ≡ can_text (value_of b) (edges_of (sheet_of b)) x)
+  pub can_one : (b t u : List ℕ) → NoneOf (key_checks b) → Key b t → Key b u → Says can_word t → t ≡ u
   -- under "cannot": the nodes of a set that proves it, and its size
-  pub cannot-prints : (b t : List ℕ) → NoneOf (keyChecks b) → Key b t → Says cannotWord t
-      → (words : List ℕ) × SetOf (nodesOf (sheetOf b)) words × ProvesOf (sheetOf b) (source_of b) (sinkOf b) (value_of b) (member words)
-      × (t ≡ cannotText (value_of b) (size words) (nodesOf (sheetOf b)) words)
+  pub cannot_prints : (b t : List ℕ) → NoneOf (key_checks b) → Key b t → Says cannot_word t
+      → (words : List ℕ) × SetOf (nodes_of (sheet_of b)) words × ProvesOf (sheet_of b) (source_of b) (sink_of b) (value_of b) (member words)
+      × (t ≡ cannot_text (value_of b) (size words) (nodes_of (sheet_of b)) words)
   -- what the program leaves unread decides nothing: an accepted input has fewer bytes than it reads, and the first of them have the keys of all
-  pub longest : (b : List ℕ) → NoneOf (keyChecks b) → length b ≤ 8720
-  pub unread : (n : ℕ) → inputRoom ≤ n → (b t : List ℕ) → Key b t ↔ Key (take n b) t
+  pub longest : (b : List ℕ) → NoneOf (key_checks b) → length b ≤ 8720
+  pub unread : (n : ℕ) → input_room ≤ n → (b t : List ℕ) → Key b t ↔ Key (take n b) t
   -- behind a key the slice is as it was; all of it where there is no room for some key
-  pub rest-kept : (b text text' : List ℕ) (n : ℕ) → Prints b text text' n → drop n text' ≡ drop n text
-  pub short-kept : (b text text' : List ℕ) (k p : ℕ) → Writes b text text' (Refused k p) → text' ≡ text
+  pub rest_kept : (b text text' : List ℕ) (n : ℕ) → Prints b text text' n → drop n text' ≡ drop n text
+  pub short_kept : (b text text' : List ℕ) (k p : ℕ) → Writes b text text' (Refused k p) → text' ≡ text
 
 -- ── numbers in a text are in base ten ──
 pub record Numbers : Type 0 where
   -- they read back, have no leading zero, and no two are written alike
-  pub decimal-read : (n : ℕ) → numeral (decimal n) ≡ n
-  pub no-leading-zero : (n : ℕ) → get_or (decimal n) 0 0 ≡ 48 → n ≡ 0
-  pub number-injective : (x y : ℤ) → number x ≡ number y → x ≡ y
+  pub decimal_read : (n : ℕ) → numeral (decimal n) ≡ n
+  pub no_leading_zero : (n : ℕ) → get_or (decimal n) 0 0 ≡ 48 → n ≡ 0
+  pub number_injective : (x y : ℤ) → number x ≡ number y → x ≡ y

@@ -6,34 +6,34 @@ use Rattle.texts.specs.Decimal.{decimal, number}
 use Rattle.texts.specs.Lines.{lines}
 
 -- the bytes of "can ", "cannot " and "refused "
-abbrev pub canWord : List ℕ
-canWord = 99 ∷ 97 ∷ 110 ∷ 32 ∷ []
+abbrev pub can_word : List ℕ
+can_word = 99 ∷ 97 ∷ 110 ∷ 32 ∷ []
 
-abbrev pub cannotWord : List ℕ
-cannotWord = 99 ∷ 97 ∷ 110 ∷ 110 ∷ 111 ∷ 116 ∷ 32 ∷ []
+abbrev pub cannot_word : List ℕ
+cannot_word = 99 ∷ 97 ∷ 110 ∷ 110 ∷ 111 ∷ 116 ∷ 32 ∷ []
 
-abbrev pub refusedWord : List ℕ
-refusedWord = 114 ∷ 101 ∷ 102 ∷ 117 ∷ 115 ∷ 101 ∷ 100 ∷ 32 ∷ []
+abbrev pub refused_word : List ℕ
+refused_word = 114 ∷ 101 ∷ 102 ∷ 117 ∷ 115 ∷ 101 ∷ 100 ∷ 32 ∷ []
 
 -- an edge ("channel") and its flow ("setting")
-unfoldable pub edgeLine : ℕ → ℤ → List ℕ
-edgeLine e flow = decimal e ++ (32 ∷ (number flow ++ (10 ∷ [])))
+unfoldable pub edge_line : ℕ → ℤ → List ℕ
+edge_line e flow = decimal e ++ (32 ∷ (number flow ++ (10 ∷ [])))
 
-unfoldable pub canLine : ℤ → List ℕ
-canLine value = canWord ++ (number value ++ (10 ∷ []))
+unfoldable pub can_line : ℤ → List ℕ
+can_line value = can_word ++ (number value ++ (10 ∷ []))
 
-unfoldable pub canText : ℤ → (edges : ℕ) → (ℕ → ℤ) → List ℕ
-canText value edges x = canLine value ++ lines edges (λ e. edgeLine e (x e))
+unfoldable pub can_text : ℤ → (edges : ℕ) → (ℕ → ℤ) → List ℕ
+can_text value edges x = can_line value ++ lines edges (λ e. edge_line e (x e))
 
 -- a node of the set has a line, another node none
-unfoldable pub nodeLine : List ℕ → ℕ → List ℕ
-nodeLine words v = cond (member words v) (decimal v ++ (10 ∷ [])) []
+unfoldable pub node_line : List ℕ → ℕ → List ℕ
+node_line words v = cond (member words v) (decimal v ++ (10 ∷ [])) []
 
-unfoldable pub cannotLine : ℤ → (size : ℕ) → List ℕ
-cannotLine value size = cannotWord ++ (number value ++ (32 ∷ (decimal size ++ (10 ∷ []))))
+unfoldable pub cannot_line : ℤ → (size : ℕ) → List ℕ
+cannot_line value size = cannot_word ++ (number value ++ (32 ∷ (decimal size ++ (10 ∷ []))))
 
-unfoldable pub cannotText : ℤ → (size nodes : ℕ) → List ℕ → List ℕ
-cannotText value size nodes words = cannotLine value size ++ lines nodes (nodeLine words)
+unfoldable pub cannot_text : ℤ → (size nodes : ℕ) → List ℕ → List ℕ
+cannot_text value size nodes words = cannot_line value size ++ lines nodes (node_line words)
 
-unfoldable pub refusedText : ℕ → List ℕ
-refusedText k = refusedWord ++ (decimal k ++ (10 ∷ []))
+unfoldable pub refused_text : ℕ → List ℕ
+refused_text k = refused_word ++ (decimal k ++ (10 ∷ []))

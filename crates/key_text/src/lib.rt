@@ -2,14 +2,14 @@
 ghost use Rattle.std.specs.Prelude.{◌≡◌, List, ℕ, ◌+◌, ◌*◌, ◌≤◌, ◌<◌, length};
 ghost use Rattle.integers.specs.inner.Limited.{Limited};
 ghost use Rattle.refusals.specs.Order.{NoneOf};
-ghost use Rattle.records.specs.Record.{recordChecks};
+ghost use Rattle.records.specs.Record.{record_checks};
 ghost use Rattle.arrays.specs.At.{atℤ};
 ghost use Rattle.texts.specs.inner.Placed.{Placed};
 ghost use Rattle.texts.specs.Lines.{lines};
-ghost use Rattle.key_text.specs.Question.{source_of, sinkOf, value_of, sheetOf};
-ghost use Rattle.key_text.specs.Text.{edgeLine, canLine, canText, nodeLine, cannotLine, cannotText, refusedText};
-ghost use Rattle.key_text.specs.Key.{Prints, textRoom, Writes};
-ghost use Rattle.key_text.specs.Input.{inputRoom, Begins};
+ghost use Rattle.key_text.specs.Question.{source_of, sink_of, value_of, sheet_of};
+ghost use Rattle.key_text.specs.Text.{edge_line, can_line, can_text, node_line, cannot_line, cannot_text, refused_text};
+ghost use Rattle.key_text.specs.Key.{Prints, text_room, Writes};
+ghost use Rattle.key_text.specs.Input.{input_room, Begins};
 ghost use Rattle.key_text.specs.inner.Named.{KeyNamed, WriteNamed};
 
 use questions::SolveAnswer;
@@ -38,7 +38,7 @@ fn short(n: u16) -> u32
 // "refused" and the number of the refusal.
 pub fn put_refused(text: &mut [u8], k: u8) -> usize
     requires { 12 ≤ length text.old }
-    ensures { Placed 0 (refusedText k) text.old text.new result }
+    ensures { Placed 0 (refused_text k) text.old text.new result }
 {
     let at = texts::put_bytes(text, 0, b"refused ");
     let end = texts::put_decimal(text, at, byte(k));
@@ -48,7 +48,7 @@ pub fn put_refused(text: &mut [u8], k: u8) -> usize
 // The line of an edge: its number and its flow.
 fn put_edge(text: &mut [u8], at: usize, e: usize, flow: i32) -> usize
     requires { (at + 13 ≤ length text.old) × (e < 1000) × Limited 1000000 flow }
-    ensures { Placed at (edgeLine e flow) text.old text.new result }
+    ensures { Placed at (edge_line e flow) text.old text.new result }
 {
     let first = texts::put_decimal(text, at, index(e));
     let second = texts::put_bytes(text, first, b" ");
@@ -59,7 +59,7 @@ fn put_edge(text: &mut [u8], at: usize, e: usize, flow: i32) -> usize
 // The lines of the edges, in their order.
 fn put_edges(text: &mut [u8], at: usize, edges: usize, flows: &[i32; 512]) -> usize
     requires { (at + 13 * edges ≤ length text.old) × (edges ≤ 512) × ((e : ℕ) → e < edges → Limited 1000000 (atℤ flows.now e)) }
-    ensures { Placed at (lines edges (λ e. edgeLine e (atℤ flows.now e))) text.old text.new result }
+    ensures { Placed at (lines edges (λ e. edge_line e (atℤ flows.now e))) text.old text.new result }
 {
     let mut end = at;
     let mut e: usize = 0;
@@ -73,7 +73,7 @@ fn put_edges(text: &mut [u8], at: usize, edges: usize, flows: &[i32; 512]) -> us
 // "can" and the value.
 fn put_can_line(text: &mut [u8], value: i32) -> usize
     requires { (15 ≤ length text.old) × Limited 600000000 value }
-    ensures { Placed 0 (canLine value) text.old text.new result }
+    ensures { Placed 0 (can_line value) text.old text.new result }
 {
     let at = texts::put_bytes(text, 0, b"can ");
     let end = texts::put_number(text, at, value);
@@ -84,7 +84,7 @@ fn put_can_line(text: &mut [u8], value: i32) -> usize
 fn put_can(text: &mut [u8], value: i32, edges: usize, flows: &[i32; 512]) -> usize
     requires { (15 + 13 * edges ≤ length text.old) × Limited 600000000 value
         × (edges ≤ 512) × ((e : ℕ) → e < edges → Limited 1000000 (atℤ flows.now e)) }
-    ensures { Placed 0 (canText value edges (atℤ flows.now)) text.old text.new result }
+    ensures { Placed 0 (can_text value edges (atℤ flows.now)) text.old text.new result }
 {
     let at = put_can_line(text, value);
     put_edges(text, at, edges, flows)
@@ -93,7 +93,7 @@ fn put_can(text: &mut [u8], value: i32, edges: usize, flows: &[i32; 512]) -> usi
 // The line of a node, if it is in the set.
 fn put_node(text: &mut [u8], at: usize, set: &[u64; 9], v: usize) -> usize
     requires { (at + 4 ≤ length text.old) × (v < 513) }
-    ensures { Placed at (nodeLine set.now v) text.old text.new result }
+    ensures { Placed at (node_line set.now v) text.old text.new result }
 {
     if node_sets::contains(set, v) {
         let end = texts::put_decimal(text, at, index(v));
@@ -105,7 +105,7 @@ fn put_node(text: &mut [u8], at: usize, set: &[u64; 9], v: usize) -> usize
 // The lines of the nodes in the set, rising.
 fn put_nodes(text: &mut [u8], at: usize, nodes: usize, set: &[u64; 9]) -> usize
     requires { (at + 4 * nodes ≤ length text.old) × (nodes ≤ 513) }
-    ensures { Placed at (lines nodes (nodeLine set.now)) text.old text.new result }
+    ensures { Placed at (lines nodes (node_line set.now)) text.old text.new result }
 {
     let mut end = at;
     let mut v: usize = 0;
@@ -119,7 +119,7 @@ fn put_nodes(text: &mut [u8], at: usize, nodes: usize, set: &[u64; 9]) -> usize
 // "cannot", the value and the size of the set.
 fn put_cannot_line(text: &mut [u8], value: i32, size: u16) -> usize
     requires { (24 ≤ length text.old) × Limited 600000000 value }
-    ensures { Placed 0 (cannotLine value size) text.old text.new result }
+    ensures { Placed 0 (cannot_line value size) text.old text.new result }
 {
     let first = texts::put_bytes(text, 0, b"cannot ");
     let second = texts::put_number(text, first, value);
@@ -131,7 +131,7 @@ fn put_cannot_line(text: &mut [u8], value: i32, size: u16) -> usize
 // "cannot", the value and the size, then the lines of the nodes in the set.
 fn put_cannot(text: &mut [u8], value: i32, size: u16, nodes: usize, set: &[u64; 9]) -> usize
     requires { (24 + 4 * nodes ≤ length text.old) × Limited 600000000 value × (nodes ≤ 513) }
-    ensures { Placed 0 (cannotText value size nodes set.now) text.old text.new result }
+    ensures { Placed 0 (cannot_text value size nodes set.now) text.old text.new result }
 {
     let at = put_cannot_line(text, value, size);
     put_nodes(text, at, nodes, set)
@@ -139,8 +139,8 @@ fn put_cannot(text: &mut [u8], value: i32, size: u16, nodes: usize, set: &[u64; 
 
 // The key of a question on a sheet, whichever bytes they were read from.
 fn put_answer(sheet: &[u8], source: u16, sink: u16, value: i32, text: &mut [u8]) -> usize
-    requires { textRoom ≤ length text.old }
-    ensures { (b : List ℕ) → NoneOf (recordChecks b 3 0) → sheetOf b ≡ sheet.now → source_of b ≡ source → sinkOf b ≡ sink → value_of b ≡ value
+    requires { text_room ≤ length text.old }
+    ensures { (b : List ℕ) → NoneOf (record_checks b 3 0) → sheet_of b ≡ sheet.now → source_of b ≡ source → sink_of b ≡ sink → value_of b ≡ value
         → Prints b text.old text.new result × KeyNamed b text.new result }
 {
     let mut flows = [0i32; 512];
@@ -155,7 +155,7 @@ fn put_answer(sheet: &[u8], source: u16, sink: u16, value: i32, text: &mut [u8])
 
 // The key of the bytes that were read: a question, then a sheet. The question's own refusals, 1 and 2, come first.
 fn put_key(input: &[u8], text: &mut [u8]) -> usize
-    requires { textRoom ≤ length text.old }
+    requires { text_room ≤ length text.old }
     ensures { Prints input.now text.old text.new result × KeyNamed input.now text.new result }
 {
     let whole = records::check_record(input, 3, 0);
@@ -179,7 +179,7 @@ pub fn key_text(input: &[u8], text: &mut [u8; 6671]) -> usize
 // The key of an input whose first n bytes stand in the buffer, whether it ends there or the buffer is full and more may follow: the program's own call. What is
 // left unread decides nothing, since the buffer is longer than every input that can be accepted; a shorter one would not see a byte left over.
 pub fn key_of_input(buffer: &[u8], n: usize, text: &mut [u8; 6671]) -> usize
-    requires { (inputRoom ≤ length buffer.now) × (n ≤ length buffer.now) }
+    requires { (input_room ≤ length buffer.now) × (n ≤ length buffer.now) }
     ensures { (whole : List ℕ) → Begins buffer.now n whole
         → Prints whole text.old text.new result × KeyNamed whole text.new result }
 {

@@ -11,14 +11,14 @@ use lib.ListN.{length, set, length-set}
 use lib.Seq.{get_or-set_same, get_or-set_other}
 use Rattle.integers.specs.Sum.{when}
 use Rattle.integers.proofs.Omega.{atoms₂, parts, equal}
-use Rattle.integers.proofs.Tests.{eqb-true, eqb-false}
+use Rattle.integers.proofs.Tests.{eqb_true, eqb_false}
 use Rattle.arrays.specs.At.{atℤ}
-use Rattle.lengths.proofs.Limits.{less-nothing}
+use Rattle.lengths.proofs.Limits.{less_nothing}
 
 pub carried : (l : List ℤ) (p x : ℕ) (value a b : ℤ) → length l ≡ 1024 → p < 1024 → x < 1024 → x ≢ p → a ≡ atℤ l p -ℤ value → b ≡ atℤ l x +ℤ value
     → (length (set (set l p a) x b) ≡ 1024)
     × ((d : ℕ) → atℤ (set (set l p a) x b) d ≡ atℤ l d -ℤ value *ℤ (when (eqb d p) (pos 1) -ℤ when (eqb d x) (pos 1)))
-carried l p x value a b long p-in x-in apart is-a is_b = (long₂, λ d. go d (ℕ_discrete d x) (ℕ_discrete d p))
+carried l p x value a b long p_in x-in apart is-a is_b = (long₂, λ d. go d (ℕ_discrete d x) (ℕ_discrete d p))
   where
     long₁ : length (set l p a) ≡ 1024
     long₁ = length-set l p a ∙ long
@@ -39,7 +39,7 @@ carried l p x value a b long p-in x-in apart is-a is_b = (long₂, λ d. go d (�
         ∙ is_b
         ∙ ap (λ y. atℤ l y +ℤ value) (sym e)
         ∙ longer (atℤ l d)
-        ∙ (rw (eqb-false d p (λ r. apart (sym e ∙ r)), eqb-true d x e) refl)
+        ∙ (rw (eqb_false d p (λ r. apart (sym e ∙ r)), eqb_true d x e) refl)
     go d (no e) (yes q) =
         get_or-set_other (set l p a) x d b (pos 0) e
         ∙ ap (atℤ (set l p a)) q
@@ -47,9 +47,9 @@ carried l p x value a b long p-in x-in apart is-a is_b = (long₂, λ d. go d (�
         ∙ is-a
         ∙ ap (λ y. atℤ l y -ℤ value) (sym q)
         ∙ shorter (atℤ l d)
-        ∙ (rw (eqb-true d p q, eqb-false d x e) refl)
+        ∙ (rw (eqb_true d p q, eqb_false d x e) refl)
     go d (no e) (no q) =
         get_or-set_other (set l p a) x d b (pos 0) e
         ∙ get_or-set_other l p d a (pos 0) q
-        ∙ sym (less-nothing (atℤ l d) value)
-        ∙ (rw (eqb-false d p q, eqb-false d x e) refl)
+        ∙ sym (less_nothing (atℤ l d) value)
+        ∙ (rw (eqb_false d p q, eqb_false d x e) refl)

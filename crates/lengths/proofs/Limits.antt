@@ -7,28 +7,28 @@ use native.Mathlib.Omega.{arith}
 use lib.IntN.{ℤ, pos, negsuc, ◌+ℤ◌, ◌-ℤ◌, ◌*ℤ◌}
 use mir.Syntax.{w32}
 use mir.Val.{to_z, of_z, SFits}
-use Rattle.integers.proofs.Limits.{limited-plus, limited-minus, limited-more}
-use Rattle.signed.proofs.Limits.{limited-fits, same_bits}
+use Rattle.integers.proofs.Limits.{limited_plus, limited_minus, limited_more}
+use Rattle.signed.proofs.Limits.{limited_fits, same_bits}
 use Rattle.integers.specs.Sum.{when}
 use Rattle.integers.proofs.Omega.{atoms₂, parts, equal}
 use Rattle.integers.specs.inner.Limited.{Limited}
-use Rattle.arrays.specs.inner.Sizes.{mostValue, mostLength}
+use Rattle.arrays.specs.inner.Sizes.{most_value, most_length}
 
 -- ── along a dart, against it, or not at all ──
 abbrev pub Unit : ℤ → Type 0
 Unit x = (x ≡ pos 0) ⊎ ((x ≡ pos 1) ⊎ (x ≡ negsuc 0))
 
-pub two-tests : (p q : Bool) → Unit (when p (pos 1) -ℤ when q (pos 1))
-two-tests true true = inl refl
-two-tests true false = inr (inl refl)
-two-tests false true = inr (inr refl)
-two-tests false false = inl refl
+pub two_tests : (p q : Bool) → Unit (when p (pos 1) -ℤ when q (pos 1))
+two_tests true true = inl refl
+two_tests true false = inr (inl refl)
+two_tests false true = inr (inr refl)
+two_tests false false = inl refl
 
-pub less-nothing : (c value : ℤ) → c -ℤ value *ℤ pos 0 ≡ c
-less-nothing c value = let t = atoms₂ c value in equal (search parts) (omega arith)
+pub less_nothing : (c value : ℤ) → c -ℤ value *ℤ pos 0 ≡ c
+less_nothing c value = let t = atoms₂ c value in equal (search parts) (omega arith)
 
-pub limited-unit : {a b : ℕ} {c value : ℤ} (f : ℤ) → Unit f → Limited a c → Limited b value → Limited (a + b) (c -ℤ value *ℤ f)
-limited-unit {a} {b} {c} {value} f u h g = go u
+pub limited_unit : {a b : ℕ} {c value : ℤ} (f : ℤ) → Unit f → Limited a c → Limited b value → Limited (a + b) (c -ℤ value *ℤ f)
+limited_unit {a} {b} {c} {value} f u h g = go u
   where
     once : c -ℤ value *ℤ pos 1 ≡ c -ℤ value
     once = let t = atoms₂ c value in equal (search parts) (omega arith)
@@ -37,20 +37,20 @@ limited-unit {a} {b} {c} {value} f u h g = go u
     back = let t = atoms₂ c value in equal (search parts) (omega arith)
 
     go : Unit f → Limited (a + b) (c -ℤ value *ℤ f)
-    go (inl e) = subst (Limited (a + b)) (sym (ap (λ z. c -ℤ value *ℤ z) e ∙ less-nothing c value)) (limited-more (omega arith) h)
-    go (inr (inl e)) = subst (Limited (a + b)) (sym (ap (λ z. c -ℤ value *ℤ z) e ∙ once)) (limited-minus h g)
-    go (inr (inr e)) = subst (Limited (a + b)) (sym (ap (λ z. c -ℤ value *ℤ z) e ∙ back)) (limited-plus h g)
+    go (inl e) = subst (Limited (a + b)) (sym (ap (λ z. c -ℤ value *ℤ z) e ∙ less_nothing c value)) (limited_more (omega arith) h)
+    go (inr (inl e)) = subst (Limited (a + b)) (sym (ap (λ z. c -ℤ value *ℤ z) e ∙ once)) (limited_minus h g)
+    go (inr (inr e)) = subst (Limited (a + b)) (sym (ap (λ z. c -ℤ value *ℤ z) e ∙ back)) (limited_plus h g)
 
 -- ── one step of the machine, on a length and a value ──
-module _ {x y : ℤ} (h : Limited mostLength x) (g : Limited mostValue y) where
-  pub minus-read : to_z w32 (of_z w32 x) -ℤ to_z w32 (of_z w32 y) ≡ x -ℤ y
-  minus-read = ap₂ (λ a b. a -ℤ b) (same_bits (omega arith) h) (same_bits (omega arith) g)
+module _ {x y : ℤ} (h : Limited most_length x) (g : Limited most_value y) where
+  pub minus_read : to_z w32 (of_z w32 x) -ℤ to_z w32 (of_z w32 y) ≡ x -ℤ y
+  minus_read = ap₂ (λ a b. a -ℤ b) (same_bits (omega arith) h) (same_bits (omega arith) g)
 
-  pub plus-read : to_z w32 (of_z w32 x) +ℤ to_z w32 (of_z w32 y) ≡ x +ℤ y
-  plus-read = ap₂ (λ a b. a +ℤ b) (same_bits (omega arith) h) (same_bits (omega arith) g)
+  pub plus_read : to_z w32 (of_z w32 x) +ℤ to_z w32 (of_z w32 y) ≡ x +ℤ y
+  plus_read = ap₂ (λ a b. a +ℤ b) (same_bits (omega arith) h) (same_bits (omega arith) g)
 
-  pub minus-fits : SFits w32 (to_z w32 (of_z w32 x) -ℤ to_z w32 (of_z w32 y))
-  minus-fits = subst (SFits w32) (sym minus-read) (limited-fits (mostLength + mostValue) (x -ℤ y) (omega arith) (limited-minus h g))
+  pub minus_fits : SFits w32 (to_z w32 (of_z w32 x) -ℤ to_z w32 (of_z w32 y))
+  minus_fits = subst (SFits w32) (sym minus_read) (limited_fits (most_length + most_value) (x -ℤ y) (omega arith) (limited_minus h g))
 
-  pub plus-fits : SFits w32 (to_z w32 (of_z w32 x) +ℤ to_z w32 (of_z w32 y))
-  plus-fits = subst (SFits w32) (sym plus-read) (limited-fits (mostLength + mostValue) (x +ℤ y) (omega arith) (limited-plus h g))
+  pub plus_fits : SFits w32 (to_z w32 (of_z w32 x) +ℤ to_z w32 (of_z w32 y))
+  plus_fits = subst (SFits w32) (sym plus_read) (limited_fits (most_length + most_value) (x +ℤ y) (omega arith) (limited_plus h g))

@@ -6,6 +6,6 @@ use Rattle.maps.specs.Check.{Sound}
 use Rattle.traversal.specs.inner.Forest.{Forest}
 use Rattle.lengths.specs.inner.Lengths.{Treed}
 
-pub treed-of : {𝓜 : Map} → Sound 𝓜 → {first : ℕ} {order from : ℕ → ℕ} {trees : ℕ} → Forest (darts 𝓜) 𝓜.rotation first order from trees
+pub treed_of : {𝓜 : Map} → Sound 𝓜 → {first : ℕ} {order from : ℕ → ℕ} {trees : ℕ} → Forest (darts 𝓜) 𝓜.rotation first order from trees
     → Treed 𝓜 (darts 𝓜) order from
-treed-of σ {first} {trees = trees} 𝓕 = record { all-darts = refl; sound = σ; first = first; trees = trees; forest = 𝓕 }
+treed_of σ {first} {trees = trees} 𝓕 = record { all_darts = refl; sound = σ; first = first; trees = trees; forest = 𝓕 }

@@ -5,23 +5,23 @@ use Prim.Native.Nat.{ℕ, ◌<◌}
 use native.Mathlib.Omega.{arith}
 use Rattle.maps.specs.Dart.{rev}
 use Rattle.maps.specs.Map.{Map}
-use Rattle.maps.proofs.Darts.{rev-apart}
+use Rattle.maps.proofs.Darts.{rev_apart}
 use Rattle.traversal.specs.inner.Spread.{Met, Follows}
 use Rattle.traversal.specs.inner.Forest as forest
-use Rattle.traversal.proofs.Spreading.{place, place_is, all-met}
+use Rattle.traversal.proofs.Spreading.{place, place_is, all_met}
 use Rattle.lengths.specs.inner.Lengths.{Treed}
 
 module _ {𝓜 : Map} {n : ℕ} {order from : ℕ → ℕ} (ρ : Treed 𝓜 n order from) where
   listed : (d : ℕ) → d < n → Met order n d
-  listed = all-met n n order ρ.forest.inside ρ.forest.apart refl
+  listed = all_met n n order ρ.forest.inside ρ.forest.apart refl
 
   place_of : (j d : ℕ) → j < n → order j ≡ d → place order n d ≡ j
   place_of j d l e =
       let q = place_is order n d (j, l, e) in
       ρ.forest.apart (place order n d) j q.0 l (q.1 ∙ sym e)
 
-  pub met-before : (x p : ℕ) → x < n → p ≡ from x → p ≢ x → (p < n) × (place order n p < place order n x) × Follows 𝓜.rotation x p
-  met-before x p l is-p other = go (listed x l)
+  pub met_before : (x p : ℕ) → x < n → p ≡ from x → p ≢ x → (p < n) × (place order n p < place order n x) × Follows 𝓜.rotation x p
+  met_before x p l is-p other = go (listed x l)
     where
       go : Met order n x → (p < n) × (place order n p < place order n x) × Follows 𝓜.rotation x p
       go (i, m, e) = by (ρ.forest.planted.met i m)
@@ -44,6 +44,6 @@ module _ {𝓜 : Map} {n : ℕ} {order from : ℕ → ℕ} (ρ : Treed 𝓜 n or
   -- of the two darts of an edge, only one can have been met from the other
   pub one_way : (d : ℕ) → d < n → rev d < n → from (rev d) ≡ d → from d ≡ rev d → ⊥
   one_way d l m h g =
-      let a = met-before (rev d) d m (sym h) (λ e. rev-apart d (sym e)) in
-      let b = met-before d (rev d) l (sym g) (rev-apart d) in
+      let a = met_before (rev d) d m (sym h) (λ e. rev_apart d (sym e)) in
+      let b = met_before d (rev d) l (sym g) (rev_apart d) in
       omega (arith, a.1, b.1)

@@ -5,7 +5,7 @@ ghost use Rattle.integers.specs.Sum.{when};
 ghost use Rattle.lengths.specs.inner.Lengths.{Climbable, Climbed, Fillable, Filled};
 ghost use Rattle.arrays.specs.At.{at, atℤ};
 ghost use Rattle.integers.specs.inner.Limited.{Limited};
-ghost use Rattle.arrays.specs.inner.Sizes.{mostLength, mostValue};
+ghost use Rattle.arrays.specs.inner.Sizes.{most_length, most_value};
 
 fn copy_capacities(capacities: &[i32; 1024], darts: usize, lengths: &mut [i32; 1024])
     requires { (length lengths.old ≡ 1024) × (darts ≤ 1024) }
@@ -20,8 +20,8 @@ fn copy_capacities(capacities: &[i32; 1024], darts: usize, lengths: &mut [i32; 1
 
 // Takes the value over one edge: its dart p, which the path goes along, gets shorter by the value, and the other dart x gets longer by it.
 fn carry(lengths: &mut [i32; 1024], p: usize, x: usize, value: i32)
-    requires { (length lengths.old ≡ 1024) × (p < 1024) × (x < 1024) × (x ≢ p) × Limited mostLength (atℤ lengths.old p)
-        × Limited mostLength (atℤ lengths.old x) × Limited mostValue value }
+    requires { (length lengths.old ≡ 1024) × (p < 1024) × (x < 1024) × (x ≢ p) × Limited most_length (atℤ lengths.old p)
+        × Limited most_length (atℤ lengths.old x) × Limited most_value value }
     ensures { (length lengths.new ≡ 1024)
         × ((d : ℕ) → atℤ lengths.new d ≡ atℤ lengths.old d -ℤ value *ℤ (when (eqb d p) (pos 1) -ℤ when (eqb d x) (pos 1))) }
 {

@@ -2,19 +2,19 @@
 use mathlib.Core.List.{List, ◌++◌}
 use lib.IntN.{ℤ}
 use Rattle.refusals.specs.Order.{Check, NoneOf}
-use Rattle.refusals.proofs.Order.{none-append, first-right}
+use Rattle.refusals.proofs.Order.{none_append, first_right}
 use Rattle.maps.specs.Drawing.{Drawing}
 use Rattle.levels.specs.LevelsOf.{LevelsGiven}
 use Rattle.levels.specs.SettingsOf.{SettingsGiven}
 use Rattle.levels.specs.declared.LevelAnswer.{LevelAnswer}
 use Rattle.levels.specs.declared.LevelAnswer.TheVariants.{Done, Refused}
 
-pub levels-after : (before : List Check) → NoneOf before → (𝓓 : Drawing) (checks : List Check) (flows levels levels' : List ℤ) (r : LevelAnswer)
+pub levels_after : (before : List Check) → NoneOf before → (𝓓 : Drawing) (checks : List Check) (flows levels levels' : List ℤ) (r : LevelAnswer)
     → LevelsGiven 𝓓 checks flows levels levels' r → LevelsGiven 𝓓 (before ++ checks) flows levels levels' r
-levels-after before none 𝓓 checks flows levels levels' Done h = (none-append before checks none h.0, h.1)
-levels-after before none 𝓓 checks flows levels levels' (Refused k p) h = (first-right before checks k p none h.0, h.1)
+levels_after before none 𝓓 checks flows levels levels' Done h = (none_append before checks none h.0, h.1)
+levels_after before none 𝓓 checks flows levels levels' (Refused k p) h = (first_right before checks k p none h.0, h.1)
 
-pub settings-after : (before : List Check) → NoneOf before → (𝓓 : Drawing) (checks : List Check) (levels flows flows' : List ℤ) (r : LevelAnswer)
+pub settings_after : (before : List Check) → NoneOf before → (𝓓 : Drawing) (checks : List Check) (levels flows flows' : List ℤ) (r : LevelAnswer)
     → SettingsGiven 𝓓 checks levels flows flows' r → SettingsGiven 𝓓 (before ++ checks) levels flows flows' r
-settings-after before none 𝓓 checks levels flows flows' Done h = (none-append before checks none h.0, h.1)
-settings-after before none 𝓓 checks levels flows flows' (Refused k p) h = (first-right before checks k p none h.0, h.1)
+settings_after before none 𝓓 checks levels flows flows' Done h = (none_append before checks none h.0, h.1)
+settings_after before none 𝓓 checks levels flows flows' (Refused k p) h = (first_right before checks k p none h.0, h.1)

@@ -10,40 +10,40 @@ use lib.ListN.{length, get_or, drop, get_or-append}
 use lib.Seq.{get_or-append-add, get_or-drop, ext_get_or}
 use lib.IntN.{ℤ, pos}
 use Rattle.integers.specs.inner.Limited.{Limited}
-use Rattle.integers.proofs.Omega.{atoms₁, parts, at_most, from-at-most}
+use Rattle.integers.proofs.Omega.{atoms₁, parts, at_most, from_at_most}
 use Rattle.integers.proofs.Laws.{le_trans}
 use Rattle.refusals.specs.Order.{NoneOf}
 use Rattle.maps.specs.Map.{Map, darts}
 use Rattle.maps.specs.Face as face
 use Rattle.maps.proofs.Faces.{left_in}
 use Rattle.flows.specs.Levels.{Levels}
-use Rattle.flows.specs.Check.{withinChecks, balanceChecks, NoNode}
-use Rattle.flows.proofs.Agreement.{onDarts-agrees}
+use Rattle.flows.specs.Check.{within_checks, balance_checks, NoNode}
+use Rattle.flows.proofs.Agreement.{on_darts_agrees}
 use Rattle.arrays.specs.At.{atℤ}
 use Rattle.arrays.specs.inner.Drawn.{Drawn}
 use Rattle.arrays.specs.Filled.{tabulate, filled}
-use Rattle.arrays.specs.inner.Sizes.{mostOnSheet}
-use Rattle.arrays.proofs.Tabulate.{length-tabulate, get_d_tabulate}
-use Rattle.arrays.proofs.FillLoops.{filled-length}
+use Rattle.arrays.specs.inner.Sizes.{most_on_sheet}
+use Rattle.arrays.proofs.Tabulate.{length_tabulate, get_d_tabulate}
+use Rattle.arrays.proofs.FillLoops.{filled_length}
 use Rattle.balance.specs.inner.SmallFlows.{SmallFlows}
-use Rattle.balance.proofs.Within.{none-forward, none-backward}
-use Rattle.balance.proofs.Balance.{none-circulation}
+use Rattle.balance.proofs.Within.{none_forward, none_backward}
+use Rattle.balance.proofs.Balance.{none_circulation}
 use Rattle.levels.specs.inner.Laying.{LevelledFrom, Levelable}
-use Rattle.levels.proofs.LevelsOfMap.{map-fillable, levels-found}
+use Rattle.levels.proofs.LevelsOfMap.{map_fillable, levels_found}
 
 -- a slice that differs from an older one in its first n places only
-pub filled-itself : (n : ℕ) (old new : List ℤ) → n ≤ length old → length new ≡ length old → ((i : ℕ) → n ≤ i → atℤ new i ≡ atℤ old i)
+pub filled_itself : (n : ℕ) (old new : List ℤ) → n ≤ length old → length new ≡ length old → ((i : ℕ) → n ≤ i → atℤ new i ≡ atℤ old i)
     → new ≡ filled n (atℤ new) old
-filled-itself n old new room same kept = ext_get_or (pos 0) new (table ++ drop n old) (same ∙ sym whole) (λ i l. at_place i (dec_lt i n))
+filled_itself n old new room same kept = ext_get_or (pos 0) new (table ++ drop n old) (same ∙ sym whole) (λ i l. at_place i (dec_lt i n))
   where
     table : List ℤ
     table = tabulate n (atℤ new)
 
     size : length table ≡ n
-    size = length-tabulate n (atℤ new)
+    size = length_tabulate n (atℤ new)
 
     whole : length (table ++ drop n old) ≡ length old
-    whole = filled-length n (atℤ new) old (table ++ drop n old) refl room
+    whole = filled_length n (atℤ new) old (table ++ drop n old) refl room
 
     past : (k : ℕ) → atℤ new (n + k) ≡ get_or (table ++ drop n old) (n + k) (pos 0)
     past k =
@@ -55,40 +55,40 @@ filled-itself n old new room same kept = ext_get_or (pos 0) new (table ++ drop n
     at_place i (no over) = let e : n + (i - n) ≡ i = omega (arith, over) in subst (λ j. atℤ new j ≡ get_or (table ++ drop n old) j (pos 0)) e (past (i - n))
 
 -- settings that agree on the edges have the same levels
-pub levels-agree : (𝓜 : Map) (outer : ℕ) (x y ρ : ℕ → ℤ) → ((e : ℕ) → e < 𝓜.edges → x e ≡ y e) → Levels 𝓜 outer x ρ → Levels 𝓜 outer y ρ
-levels-agree 𝓜 outer x y ρ same h = record { differences = λ d l. sym (onDarts-agrees 𝓜 x y same d l) ∙ h.differences d l; rooted = h.rooted }
+pub levels_agree : (𝓜 : Map) (outer : ℕ) (x y ρ : ℕ → ℤ) → ((e : ℕ) → e < 𝓜.edges → x e ≡ y e) → Levels 𝓜 outer x ρ → Levels 𝓜 outer y ρ
+levels_agree 𝓜 outer x y ρ same h = record { differences = λ d l. sym (on_darts_agrees 𝓜 x y same d l) ∙ h.differences d l; rooted = h.rooted }
 
 module _ {𝓜 : Map} {left : ℕ → ℕ} {faces outer : ℕ} {capacity : ℕ → ℤ} (p : Drawn 𝓜 left faces outer capacity) where
-  pub tails-small : (d : ℕ) → d < darts 𝓜 → 𝓜.tail d < 1024
-  tails-small d l = omega (arith, p.plane.sound.range.tail-in d l, p.few-nodes)
+  pub tails_small : (d : ℕ) → d < darts 𝓜 → 𝓜.tail d < 1024
+  tails_small d l = omega (arith, p.plane.sound.range.tail_in d l, p.few_nodes)
 
   -- settings within capacities of at most a million either way are that too
-  pub settings-small : ((d : ℕ) → d < darts 𝓜 → Limited mostOnSheet (capacity d))
-      → (x : ℕ → ℤ) → NoneOf (withinChecks 𝓜.edges capacity x) → SmallFlows 𝓜.edges x
-  settings-small small x w e l =
-      let forward = le_trans (none-forward 𝓜.edges capacity x w e l) (small (2 * e) (omega arith)).high in
-      let backward = le_trans (none-backward 𝓜.edges capacity x w e l) (small (2 * e + 1) (omega arith)).high in
+  pub settings_small : ((d : ℕ) → d < darts 𝓜 → Limited most_on_sheet (capacity d))
+      → (x : ℕ → ℤ) → NoneOf (within_checks 𝓜.edges capacity x) → SmallFlows 𝓜.edges x
+  settings_small small x w e l =
+      let forward = le_trans (none_forward 𝓜.edges capacity x w e l) (small (2 * e) (omega arith)).high in
+      let backward = le_trans (none_backward 𝓜.edges capacity x w e l) (small (2 * e + 1) (omega arith)).high in
       let a = atoms₁ (x e) in
-      record { low = at_most (search parts) (omega (arith, from-at-most backward (search parts))); high = forward }
+      record { low = at_most (search parts) (omega (arith, from_at_most backward (search parts))); high = forward }
 
   module _ (flows levels : List ℤ) where
     pub levelable : length flows ≡ 𝓜.edges → face.faces 𝓜 ≤ length levels → SmallFlows 𝓜.edges (atℤ flows)
         → Levelable 𝓜.edges outer (length levels) 𝓜.rotation left flows
     levelable exact room-faces small = record {
-      outer-in = p.outer-in;
-      few = p.few-edges;
+      outer_in = p.outer_in;
+      few = p.few_edges;
       exact = exact;
-      rotation-in = p.plane.sound.range.rotation-in;
-      walked = λ 𝓕. map-fillable p.left_is p.plane.sound (omega (arith, p.outer-in)) p.few-edges room-faces (omega arith) small 𝓕;
+      rotation_in = p.plane.sound.range.rotation_in;
+      walked = λ 𝓕. map_fillable p.left_is p.plane.sound (omega (arith, p.outer_in)) p.few_edges room-faces (omega arith) small 𝓕;
     }
 
     -- what is written: the levels of the balanced settings, in the places of the faces and in no other
     module _ (levels' : List ℤ) (written : LevelledFrom (darts 𝓜) 𝓜.rotation left outer (atℤ flows) levels levels') where
-      pub found : NoneOf (balanceChecks 𝓜 NoNode (atℤ flows)) → Levels 𝓜 outer (atℤ flows) (atℤ levels')
-      found balanced = levels-found p.left_is p.plane (none-circulation 𝓜 (atℤ flows) balanced) written.forest written.levelled.filled
+      pub found : NoneOf (balance_checks 𝓜 NoNode (atℤ flows)) → Levels 𝓜 outer (atℤ flows) (atℤ levels')
+      found balanced = levels_found p.left_is p.plane (none_circulation 𝓜 (atℤ flows) balanced) written.forest written.levelled.filled
 
       pub in_place : face.faces 𝓜 ≤ length levels → levels' ≡ filled (face.faces 𝓜) (atℤ levels') levels
-      in_place room = filled-itself (face.faces 𝓜) levels levels' room written.levelled.as_long (λ f past. written.levelled.kept f (other f past))
+      in_place room = filled_itself (face.faces 𝓜) levels levels' room written.levelled.as_long (λ f past. written.levelled.kept f (other f past))
         where
           other : (f : ℕ) → face.faces 𝓜 ≤ f → (d : ℕ) → d < darts 𝓜 → left d ≢ f
           other f past d l e = omega (arith, p.left_is d l, left_in p.plane.sound d l)

@@ -8,5 +8,5 @@ abbrev pub LevelOutside : ℤ → Type 0
 LevelOutside x = (x <ℤ negsuc 599999999) ⊎ (pos 600000000 <ℤ x)
 
 -- the levels ρ of the first so many faces, of which those in Zero must be at 0
-unfoldable pub levelChecks : ℕ → (Zero : ℕ → Type 0) → (ℕ → ℤ) → List Check
-levelChecks faces Zero ρ = (19 when (f : ℕ) × (f < faces) × LevelOutside (ρ f)) ∷ (20 when (f : ℕ) × Zero f × (ρ f ≢ pos 0)) ∷ []
+unfoldable pub level_checks : ℕ → (Zero : ℕ → Type 0) → (ℕ → ℤ) → List Check
+level_checks faces Zero ρ = (19 when (f : ℕ) × (f < faces) × LevelOutside (ρ f)) ∷ (20 when (f : ℕ) × Zero f × (ρ f ≢ pos 0)) ∷ []

@@ -5,17 +5,17 @@ use Rattle.refusals.specs.Order.{Check, ◌when◌, NoneOf, FirstOf}
 use Rattle.maps.specs.Drawing.{Drawing}
 use Rattle.maps.specs.Face.{faces}
 use Rattle.flows.specs.Levels.{Levels}
-use Rattle.flows.specs.Check.{withinChecks, balanceChecks, NoNode}
+use Rattle.flows.specs.Check.{within_checks, balance_checks, NoNode}
 use Rattle.arrays.specs.At.{atℤ}
 use Rattle.arrays.specs.Filled.{filled}
 use Rattle.levels.specs.declared.LevelAnswer.{LevelAnswer}
 use Rattle.levels.specs.declared.LevelAnswer.TheVariants.{Done, Refused}
 
-unfoldable pub balancedChecks : Drawing → List ℤ → List ℤ → List Check
-balancedChecks 𝓓 flows levels =
+unfoldable pub balanced_checks : Drawing → List ℤ → List ℤ → List Check
+balanced_checks 𝓓 flows levels =
     (16 when (length flows < 𝓓.map.edges) ⊎ (length levels < faces 𝓓.map))
-    ∷ (withinChecks 𝓓.map.edges 𝓓.capacity (atℤ flows)
-    ++ balanceChecks 𝓓.map NoNode (atℤ flows))
+    ∷ (within_checks 𝓓.map.edges 𝓓.capacity (atℤ flows)
+    ++ balance_checks 𝓓.map NoNode (atℤ flows))
 
 -- What the operation answers, where `checks` are its refusals in order. Done: the levels of the settings, of which there is one, in the first places of the
 -- slice; the rest as it was. Refused: the slice as it was.

@@ -1,17 +1,17 @@
 // Face potentials ("levels") both ways: the levels of given flows, laid along a walk over the darts, and the flows that given levels make.
 ghost use Rattle.std.specs.Prelude.{ℕ, ◌+◌, ◌*◌, ◌/◌, ◌<◌, ◌≤◌, length, ◌≡◌};
 ghost use Rattle.levels.specs.inner.Across.{across, HasLevel, HaveLevels, OneOf};
-ghost use Rattle.levels.specs.Level.{LevelOutside, levelChecks};
-ghost use Rattle.flows.specs.Check.{withinChecks};
-ghost use Rattle.flows.specs.Settings.{onDarts};
+ghost use Rattle.levels.specs.Level.{LevelOutside, level_checks};
+ghost use Rattle.flows.specs.Check.{within_checks};
+ghost use Rattle.flows.specs.Settings.{on_darts};
 ghost use Rattle.levels.specs.inner.Laying.{Fillable, Levelled, LevelledFrom, Levelable};
-ghost use Rattle.levels.specs.LevelsOf.{balancedChecks, LevelsGiven};
-ghost use Rattle.levels.specs.SettingsOf.{leveledChecks, SettingsGiven};
+ghost use Rattle.levels.specs.LevelsOf.{balanced_checks, LevelsGiven};
+ghost use Rattle.levels.specs.SettingsOf.{leveled_checks, SettingsGiven};
 ghost use Rattle.arrays.specs.At.{atℤ, at};
-ghost use Rattle.arrays.specs.Maps.{mapOf, drawingOf};
+ghost use Rattle.arrays.specs.Maps.{map_of, drawing_of};
 ghost use Rattle.arrays.specs.inner.Drawn.{Drawn};
 ghost use Rattle.integers.specs.inner.Limited.{Limited};
-ghost use Rattle.arrays.specs.inner.Sizes.{mostOnSheet};
+ghost use Rattle.arrays.specs.inner.Sizes.{most_on_sheet};
 ghost use Rattle.refusals.specs.Order.{Decides, Judged};
 ghost use Rattle.arrays.specs.Filled.{filled};
 
@@ -34,7 +34,7 @@ fn level_outside(x: i32) -> bool
 // the first places of `roots`. All faces are looked at for 19 before these are for 20.
 fn check_levels(levels: &[i32], faces: usize, roots: &[u16; 1024], count: usize) -> Verdict
     requires { (count ≤ 1024) × ((m : ℕ) → m < count → at roots.now m < faces) × (length levels.now ≡ faces) }
-    ensures { Judged (levelChecks faces (OneOf (at roots.now) count) (atℤ levels.now)) result }
+    ensures { Judged (level_checks faces (OneOf (at roots.now) count) (atℤ levels.now)) result }
 {
     let mut f: usize = 0;
     while f < faces {
@@ -73,7 +73,7 @@ fn check_differences<'a>(
     levels: &[i32],
 ) -> Verdict
     requires { (edges ≤ 512) × HaveLevels edges (at lefts.now) levels.now }
-    ensures { Judged (withinChecks edges (atℤ capacities.now) (across (at lefts.now) (atℤ levels.now))) result }
+    ensures { Judged (within_checks edges (atℤ capacities.now) (across (at lefts.now) (atℤ levels.now))) result }
 {
     let mut e: usize = 0;
     while e < edges {
@@ -100,8 +100,8 @@ fn fill_differences(lefts: &[u16; 1024], edges: usize, levels: &[i32], flows: &m
 
 // The flow of a dart: that of its edge, or its negative for the dart that goes back.
 fn dart_flow(flows: &[i32], d: usize) -> i32
-    requires { (d / 2 < length flows.now) × Limited mostOnSheet (atℤ flows.now (d / 2)) }
-    ensures { (result ≡ onDarts (atℤ flows.now) d) × Limited mostOnSheet result }
+    requires { (d / 2 < length flows.now) × Limited most_on_sheet (atℤ flows.now (d / 2)) }
+    ensures { (result ≡ on_darts (atℤ flows.now) d) × Limited most_on_sheet result }
 {
     if d % 2 == 0 {
         return flows[d / 2];
@@ -182,10 +182,10 @@ pub fn levels_of<'a>(
     flows: &[i32],
     levels: &mut [i32],
 ) -> LevelAnswer
-    requires { Drawn (mapOf nodes edges tails.now rotations.now) (at lefts.now) faces outer (atℤ capacities.now)
-        × ((d : ℕ) → d < 2 * edges → Limited mostOnSheet (atℤ capacities.now d)) }
-    ensures { LevelsGiven (drawingOf nodes edges outer tails.now rotations.now capacities.now)
-        (balancedChecks (drawingOf nodes edges outer tails.now rotations.now capacities.now)
+    requires { Drawn (map_of nodes edges tails.now rotations.now) (at lefts.now) faces outer (atℤ capacities.now)
+        × ((d : ℕ) → d < 2 * edges → Limited most_on_sheet (atℤ capacities.now d)) }
+    ensures { LevelsGiven (drawing_of nodes edges outer tails.now rotations.now capacities.now)
+        (balanced_checks (drawing_of nodes edges outer tails.now rotations.now capacities.now)
         flows.now levels.old)
         flows.now levels.old levels.new result }
 {
@@ -221,9 +221,9 @@ pub fn settings_of<'a>(
     levels: &[i32],
     flows: &mut [i32],
 ) -> LevelAnswer
-    requires { Drawn (mapOf nodes edges tails.now rotations.now) (at lefts.now) faces outer (atℤ capacities.now) }
-    ensures { SettingsGiven (drawingOf nodes edges outer tails.now rotations.now capacities.now)
-        (leveledChecks (drawingOf nodes edges outer tails.now rotations.now capacities.now)
+    requires { Drawn (map_of nodes edges tails.now rotations.now) (at lefts.now) faces outer (atℤ capacities.now) }
+    ensures { SettingsGiven (drawing_of nodes edges outer tails.now rotations.now capacities.now)
+        (leveled_checks (drawing_of nodes edges outer tails.now rotations.now capacities.now)
         levels.now flows.old)
         levels.now flows.old flows.new result }
 {

@@ -12,27 +12,27 @@ use lib.Dec.{eqb}
 use lib.IntN.{ℤ, pos, ◌+ℤ◌, neg_ℤ, ◌-ℤ◌, +ℤ_idr, +ℤ_invr}
 use Rattle.integers.specs.Sum.{Integers, sumℤ, when}
 use Rattle.integers.proofs.Omega.{atoms₃, parts, equal}
-use Rattle.integers.proofs.Tests.{either, eqb-true, eqb-eq, eqb-false}
+use Rattle.integers.proofs.Tests.{either, eqb_true, eqb_eq, eqb_false}
 use Rattle.integers.proofs.Sums.{sum_one}
 
 -- what x, running from a place to another, carries out of a set that holds the first (p) or the second (q)
 abbrev pub carried : Bool → Bool → ℤ → ℤ
 carried p q x = when p x +ℤ when q (neg_ℤ x)
 
-pub carried-zero : (p q : Bool) (x : ℤ) → x ≡ pos 0 → carried p q x ≡ pos 0
-carried-zero true true x e = +ℤ_invr x
-carried-zero true false x e = rw e
-carried-zero false true x e = rw e
-carried-zero false false x e = refl
+pub carried_zero : (p q : Bool) (x : ℤ) → x ≡ pos 0 → carried p q x ≡ pos 0
+carried_zero true true x e = +ℤ_invr x
+carried_zero true false x e = rw e
+carried_zero false true x e = rw e
+carried_zero false false x e = refl
 
-pub carried-inside : (p q : Bool) (x : ℤ) → p ≡ q → carried p q x ≡ pos 0
-carried-inside true true x e = +ℤ_invr x
-carried-inside true false x e = absurd (true≢false e)
-carried-inside false true x e = absurd (false≢true e)
-carried-inside false false x e = refl
+pub carried_inside : (p q : Bool) (x : ℤ) → p ≡ q → carried p q x ≡ pos 0
+carried_inside true true x e = +ℤ_invr x
+carried_inside true false x e = absurd (true≢false e)
+carried_inside false true x e = absurd (false≢true e)
+carried_inside false false x e = refl
 
-pub carried-out : (p q : Bool) (x : ℤ) → p ≡ true → q ≡ false → carried p q x ≡ x
-carried-out p q x h g = rw (h, g) (+ℤ_idr x)
+pub carried_out : (p q : Bool) (x : ℤ) → p ≡ true → q ≡ false → carried p q x ≡ x
+carried_out p q x h g = rw (h, g) (+ℤ_idr x)
 
 abbrev joining : Bool → ℕ → ℕ → Bool
 joining u x y = u && not (eqb x y)
@@ -46,31 +46,31 @@ module _ (allowed : ℕ → Bool) (a b : ℕ → ℕ) where
   pub taken : ℕ → Bool
   taken k = joining (allowed k) (label k (a k)) (label k (b k))
 
-  pub label-zero : (v : ℕ) → label 0 v ≡ v
+  pub label_zero : (v : ℕ) → label 0 v ≡ v
   unfolding label
-  label-zero v = refl
+  label_zero v = refl
 
-  label-suc : (k v : ℕ) → label (suc k) v ≡ cond (taken k) (cond (eqb (label k v) (label k (a k))) (label k (b k)) (label k v)) (label k v)
+  label_suc : (k v : ℕ) → label (suc k) v ≡ cond (taken k) (cond (eqb (label k v) (label k (a k))) (label k (b k)) (label k v)) (label k v)
   unfolding label taken
-  label-suc k v = refl
+  label_suc k v = refl
 
   pub label_kept : (k v : ℕ) → taken k ≡ false → label (suc k) v ≡ label k v
-  label_kept k v e = label-suc k v ∙ rw e
+  label_kept k v e = label_suc k v ∙ rw e
 
-  pub label-joined : (k v : ℕ) → taken k ≡ true → label (suc k) v ≡ cond (eqb (label k v) (label k (a k))) (label k (b k)) (label k v)
-  label-joined k v e = label-suc k v ∙ rw e
+  pub label_joined : (k v : ℕ) → taken k ≡ true → label (suc k) v ≡ cond (eqb (label k v) (label k (a k))) (label k (b k)) (label k v)
+  label_joined k v e = label_suc k v ∙ rw e
 
-  pub taken-allowed : (k : ℕ) → taken k ≡ true → allowed k ≡ true
+  pub taken_allowed : (k : ℕ) → taken k ≡ true → allowed k ≡ true
   unfolding taken
-  taken-allowed k e = go (allowed k) e
+  taken_allowed k e = go (allowed k) e
     where
       go : (u : Bool) → joining u (label k (a k)) (label k (b k)) ≡ true → u ≡ true
       go true e = refl
       go false e = absurd (false≢true e)
 
-  pub taken-joins : (k : ℕ) → taken k ≡ true → label k (a k) ≢ label k (b k)
+  pub taken_joins : (k : ℕ) → taken k ≡ true → label k (a k) ≢ label k (b k)
   unfolding taken
-  taken-joins k e p = go (allowed k) (rw (eqb-true (label k (a k)) (label k (b k)) p) at e)
+  taken_joins k e p = go (allowed k) (rw (eqb_true (label k (a k)) (label k (b k)) p) at e)
     where
       go : (u : Bool) → u && false ≡ true → ⊥
       go true e = false≢true e
@@ -78,35 +78,35 @@ module _ (allowed : ℕ → Bool) (a b : ℕ → ℕ) where
 
   left_out : (k : ℕ) → allowed k ≡ true → taken k ≡ false → label k (a k) ≡ label k (b k)
   unfolding taken
-  left_out k m e = eqb-eq (label k (a k)) (label k (b k)) (go (eqb (label k (a k)) (label k (b k))) (rw m at e))
+  left_out k m e = eqb_eq (label k (a k)) (label k (b k)) (go (eqb (label k (a k)) (label k (b k))) (rw m at e))
     where
       go : (u : Bool) → true && not u ≡ false → u ≡ true
       go true e = refl
       go false e = absurd (true≢false e)
 
-  label-next : (k v w : ℕ) → label k v ≡ label k w → label (suc k) v ≡ label (suc k) w
-  label-next k v w e = label-suc k v ∙ (rw e) ∙ sym (label-suc k w)
+  label_next : (k v w : ℕ) → label k v ≡ label k w → label (suc k) v ≡ label (suc k) w
+  label_next k v w e = label_suc k v ∙ (rw e) ∙ sym (label_suc k w)
 
-  label-later : (j k v w : ℕ) → label k v ≡ label k w → label (j + k) v ≡ label (j + k) w
-  label-later zero k v w e = rw (zero-add k) e
-  label-later (suc j) k v w e = rw (suc-add j k) (label-next (j + k) v w (label-later j k v w e))
+  label_later : (j k v w : ℕ) → label k v ≡ label k w → label (j + k) v ≡ label (j + k) w
+  label_later zero k v w e = rw (zero-add k) e
+  label_later (suc j) k v w e = rw (suc-add j k) (label_next (j + k) v w (label_later j k v w e))
 
-  label-ends : (k : ℕ) → allowed k ≡ true → label (suc k) (a k) ≡ label (suc k) (b k)
-  label-ends k m = go (either (taken k))
+  label_ends : (k : ℕ) → allowed k ≡ true → label (suc k) (a k) ≡ label (suc k) (b k)
+  label_ends k m = go (either (taken k))
     where
       go : (taken k ≡ true) ⊎ (taken k ≡ false) → label (suc k) (a k) ≡ label (suc k) (b k)
       go (inl e) =
           rw (
-            label-joined k (a k) e,
-            label-joined k (b k) e,
-            eqb-true (label k (a k)) (label k (a k)) refl,
-            eqb-false (label k (b k)) (label k (a k)) (λ p. taken-joins k e (sym p)),
+            label_joined k (a k) e,
+            label_joined k (b k) e,
+            eqb_true (label k (a k)) (label k (a k)) refl,
+            eqb_false (label k (b k)) (label k (a k)) (λ p. taken_joins k e (sym p)),
           )
-      go (inr e) = label-next k (a k) (b k) (left_out k m e)
+      go (inr e) = label_next k (a k) (b k) (left_out k m e)
 
   -- the ends of every allowed edge have one label from then on
-  pub label-closed : (e m : ℕ) → e < m → allowed e ≡ true → label m (a e) ≡ label m (b e)
-  label-closed e m l u = rw eq at (label-later (m - suc e) (suc e) (a e) (b e) (label-ends e u))
+  pub label_closed : (e m : ℕ) → e < m → allowed e ≡ true → label m (a e) ≡ label m (b e)
+  label_closed e m l u = rw eq at (label_later (m - suc e) (suc e) (a e) (b e) (label_ends e u))
     where
       eq : (m - suc e) + suc e ≡ m
       eq = omega arith
@@ -115,8 +115,8 @@ module _ (allowed : ℕ → Bool) (a b : ℕ → ℕ) where
   module _ (n : ℕ) (φ : ℕ → ℤ)
       (off : (e : ℕ) → e < n → taken e ≡ false → φ e ≡ pos 0)
       (closed : (S : ℕ → Bool) → sumℤ n (λ e. carried (S (a e)) (S (b e)) (φ e)) ≡ pos 0) where
-    last-zero : (k : ℕ) → k < n → ((e : ℕ) → e < n → k < e → φ e ≡ pos 0) → φ k ≡ pos 0
-    last-zero k l above = go (either (taken k))
+    last_zero : (k : ℕ) → k < n → ((e : ℕ) → e < n → k < e → φ e ≡ pos 0) → φ k ≡ pos 0
+    last_zero k l above = go (either (taken k))
       where
         S : ℕ → Bool
         S v = eqb (label k v) (label k (a k))
@@ -125,25 +125,25 @@ module _ (allowed : ℕ → Bool) (a b : ℕ → ℕ) where
         rest i m c = side (dec_lt k i) (either (taken i))
           where
             side : Dec (k < i) → (taken i ≡ true) ⊎ (taken i ≡ false) → carried (S (a i)) (S (b i)) (φ i) ≡ pos 0
-            side (yes h) t = carried-zero (S (a i)) (S (b i)) (φ i) (above i m h)
+            side (yes h) t = carried_zero (S (a i)) (S (b i)) (φ i) (above i m h)
             side (no h) (inl t) =
-                carried-inside (S (a i)) (S (b i)) (φ i) (ap (λ x. eqb x (label k (a k))) (label-closed i k (omega arith) (taken-allowed i t)))
-            side (no h) (inr t) = carried-zero (S (a i)) (S (b i)) (φ i) (off i m t)
+                carried_inside (S (a i)) (S (b i)) (φ i) (ap (λ x. eqb x (label k (a k))) (label_closed i k (omega arith) (taken_allowed i t)))
+            side (no h) (inr t) = carried_zero (S (a i)) (S (b i)) (φ i) (off i m t)
 
         go : (taken k ≡ true) ⊎ (taken k ≡ false) → φ k ≡ pos 0
         go (inr t) = off k l t
         go (inl t) =
-            sym (carried-out (S (a k)) (S (b k)) (φ k) (eqb-true (label k (a k)) (label k (a k)) refl)
-            (eqb-false (label k (b k)) (label k (a k)) (λ p. taken-joins k t (sym p))))
+            sym (carried_out (S (a k)) (S (b k)) (φ k) (eqb_true (label k (a k)) (label k (a k)) refl)
+            (eqb_false (label k (b k)) (label k (a k)) (λ p. taken_joins k t (sym p))))
             ∙ sym (sum_one Integers n k (λ e. carried (S (a e)) (S (b e)) (φ e)) l rest)
             ∙ closed S
 
     down : (j e : ℕ) → e < n → n ≤ e + j → φ e ≡ pos 0
     down zero e l h = absurd (omega arith)
-    down (suc j) e l h = last-zero e l (λ i m g. down j i m (omega arith))
+    down (suc j) e l h = last_zero e l (λ i m g. down j i m (omega arith))
 
-    pub forest-zero : (e : ℕ) → e < n → φ e ≡ pos 0
-    forest-zero e l = down n e l (omega arith)
+    pub forest_zero : (e : ℕ) → e < n → φ e ≡ pos 0
+    forest_zero e l = down n e l (omega arith)
 
   -- ── heights along the forest: a taken edge moves the class of a e so that the difference over e is φ e ──
   module _ (φ : ℕ → ℤ) where
@@ -155,15 +155,15 @@ module _ (allowed : ℕ → Bool) (a b : ℕ → ℕ) where
     height (suc k) v =
         cond (taken k) (cond (eqb (label k v) (label k (a k))) (height k v +ℤ shift k (height k (a k)) (height k (b k))) (height k v)) (height k v)
 
-    height-suc : (k v : ℕ)
+    height_suc : (k v : ℕ)
         → height (suc k) v
         ≡ cond (taken k) (cond (eqb (label k v) (label k (a k))) (height k v +ℤ shift k (height k (a k)) (height k (b k))) (height k v)) (height k v)
     unfolding height
-    height-suc k v = refl
+    height_suc k v = refl
 
     -- within a class the differences stay
-    height-keeps : (k v w : ℕ) → label k v ≡ label k w → height (suc k) v -ℤ height (suc k) w ≡ height k v -ℤ height k w
-    height-keeps k v w e = rw (height-suc k v, height-suc k w, e) (go (taken k) (eqb (label k w) (label k (a k))))
+    height_keeps : (k v w : ℕ) → label k v ≡ label k w → height (suc k) v -ℤ height (suc k) w ≡ height k v -ℤ height k w
+    height_keeps k v w e = rw (height_suc k v, height_suc k w, e) (go (taken k) (eqb (label k w) (label k (a k))))
       where
         c : ℤ
         c = shift k (height k (a k)) (height k (b k))
@@ -175,21 +175,21 @@ module _ (allowed : ℕ → Bool) (a b : ℕ → ℕ) where
         go true false = refl
         go false u = refl
 
-    height-new : (k : ℕ) → taken k ≡ true → height (suc k) (a k) -ℤ height (suc k) (b k) ≡ φ k
-    height-new k t =
+    height_new : (k : ℕ) → taken k ≡ true → height (suc k) (a k) -ℤ height (suc k) (b k) ≡ φ k
+    height_new k t =
         rw (
-          height-suc k (a k),
-          height-suc k (b k),
+          height_suc k (a k),
+          height_suc k (b k),
           t,
-          eqb-true (label k (a k)) (label k (a k)) refl,
-          eqb-false (label k (b k)) (label k (a k)) (λ p. taken-joins k t (sym p)),
+          eqb_true (label k (a k)) (label k (a k)) refl,
+          eqb_false (label k (b k)) (label k (a k)) (λ p. taken_joins k t (sym p)),
         )
         (let x = atoms₃ (height k (a k)) (height k (b k)) (φ k) in equal (search parts) (omega arith))
 
-    pub height-taken : (m e : ℕ) → e < m → taken e ≡ true → height m (a e) -ℤ height m (b e) ≡ φ e
-    height-taken zero e l t = absurd (omega arith)
-    height-taken (suc m) e l t = go (ℕ_discrete e m) (height-taken m e)
+    pub height_taken : (m e : ℕ) → e < m → taken e ≡ true → height m (a e) -ℤ height m (b e) ≡ φ e
+    height_taken zero e l t = absurd (omega arith)
+    height_taken (suc m) e l t = go (ℕ_discrete e m) (height_taken m e)
       where
         go : Dec (e ≡ m) → (e < m → taken e ≡ true → height m (a e) -ℤ height m (b e) ≡ φ e) → height (suc m) (a e) -ℤ height (suc m) (b e) ≡ φ e
-        go (yes p) r = rw p (height-new m (rw p at t))
-        go (no c) r = height-keeps m (a e) (b e) (label-closed e m (omega arith) (taken-allowed e t)) ∙ r (omega arith) t
+        go (yes p) r = rw p (height_new m (rw p at t))
+        go (no c) r = height_keeps m (a e) (b e) (label_closed e m (omega arith) (taken_allowed e t)) ∙ r (omega arith) t

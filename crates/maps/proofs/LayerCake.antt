@@ -10,43 +10,43 @@ use lib.Dec.{ltb}
 use lib.IntN.{ℤ, pos, ◌+ℤ◌, ◌-ℤ◌, ◌*ℤ◌}
 use lib.Signed.{◌<ℤ◌, lt_z}
 use Rattle.integers.specs.Sum.{Integers, sum, sumℤ, sumℕ, when, bit, count}
-use Rattle.integers.proofs.Omega.{atom, literal, added, negated, atoms₁, parts, positive, negative, positive-is, equal, from_less, from-at-most}
-use Rattle.integers.proofs.Laws.{lt-of-test, ge-of-test}
-use Rattle.integers.proofs.Tests.{either, ltb-true, ltb-false}
-use Rattle.integers.proofs.Sums.{sum-ext, sum-swap}
-use Rattle.integers.proofs.IntegerSums.{negative-term}
-use Rattle.integers.proofs.Counting.{between, count-between, term-le-sum}
+use Rattle.integers.proofs.Omega.{atom, literal, added, negated, atoms₁, parts, positive, negative, positive_is, equal, from_less, from_at_most}
+use Rattle.integers.proofs.Laws.{lt_of_test, ge_of_test}
+use Rattle.integers.proofs.Tests.{either, ltb_true, ltb_false}
+use Rattle.integers.proofs.Sums.{sum_ext, sum_swap}
+use Rattle.integers.proofs.IntegerSums.{negative_term}
+use Rattle.integers.proofs.Counting.{between, count_between, term_le_sum}
 use Rattle.maps.specs.Dart.{rev}
 use Rattle.maps.specs.Map.{Map, darts, head}
 use Rattle.maps.specs.Check.{InRange}
 use Rattle.maps.specs.Cut.{leaves, cut}
-use Rattle.maps.proofs.Darts.{rev-in}
+use Rattle.maps.proofs.Darts.{rev_in}
 
 -- the nodes above a threshold
 abbrev pub above : (ℕ → ℤ) → ℤ → ℕ → Bool
 above h θ v = lt_z θ (h v)
 
-sum-when : (m : ℕ) (c : ℤ) (b : ℕ → Bool) → sumℤ m (λ θ. when (b θ) c) ≡ pos (count m b) *ℤ c
+sum_when : (m : ℕ) (c : ℤ) (b : ℕ → Bool) → sumℤ m (λ θ. when (b θ) c) ≡ pos (count m b) *ℤ c
 unfolding sum
-sum-when zero c b = let a = atoms₁ c in equal (search parts) (omega arith)
-sum-when (suc m) c b = ap₂ ◌+ℤ◌ (sum-when m c b) (once (b m)) ∙ (let a = atoms₁ c in equal (search parts) (omega arith))
+sum_when zero c b = let a = atoms₁ c in equal (search parts) (omega arith)
+sum_when (suc m) c b = ap₂ ◌+ℤ◌ (sum_when m c b) (once (b m)) ∙ (let a = atoms₁ c in equal (search parts) (omega arith))
   where
     once : (t : Bool) → when t c ≡ pos (bit t) *ℤ c
     once true = let a = atoms₁ c in equal (search parts) (omega arith)
     once false = let a = atoms₁ c in equal (search parts) (omega arith)
 
 -- the drop from x to y, counted by the thresholds between them
-drop-layers : (m x y : ℕ) (c : ℤ) → x ≤ m → sumℤ m (λ θ. when (between x y θ) c) ≡ pos (x - y) *ℤ c
-drop-layers m x y c l = sum-when m c (between x y) ∙ ap (λ k. pos k *ℤ c) (count-between m x y ∙ omega arith)
+drop_layers : (m x y : ℕ) (c : ℤ) → x ≤ m → sumℤ m (λ θ. when (between x y θ) c) ≡ pos (x - y) *ℤ c
+drop_layers m x y c l = sum_when m c (between x y) ∙ ap (λ k. pos k *ℤ c) (count_between m x y ∙ omega arith)
 
 module _ (𝓜 : Map) (length : ℕ → ℤ) where
-  natural-cake : (m : ℕ) (g : ℕ → ℕ) → ((d : ℕ) → d < darts 𝓜 → g (𝓜.tail d) ≤ m)
+  natural_cake : (m : ℕ) (g : ℕ → ℕ) → ((d : ℕ) → d < darts 𝓜 → g (𝓜.tail d) ≤ m)
       → sumℤ (darts 𝓜) (λ d. pos (g (𝓜.tail d) - g (head 𝓜 d)) *ℤ length d) ≡ sumℤ m (λ θ. cut 𝓜 length (λ v. ltb θ (g v)))
   unfolding cut
-  natural-cake m g b =
-      sum-ext Integers (darts 𝓜) (λ d. pos (g (𝓜.tail d) - g (head 𝓜 d)) *ℤ length d) (λ d. sumℤ m (λ θ. when (leaves 𝓜 (λ v. ltb θ (g v)) d) (length d)))
-      (λ d l. sym (drop-layers m (g (𝓜.tail d)) (g (head 𝓜 d)) (length d) (b d l)))
-      ∙ sum-swap Integers (darts 𝓜) m (λ d θ. when (leaves 𝓜 (λ v. ltb θ (g v)) d) (length d))
+  natural_cake m g b =
+      sum_ext Integers (darts 𝓜) (λ d. pos (g (𝓜.tail d) - g (head 𝓜 d)) *ℤ length d) (λ d. sumℤ m (λ θ. when (leaves 𝓜 (λ v. ltb θ (g v)) d) (length d)))
+      (λ d l. sym (drop_layers m (g (𝓜.tail d)) (g (head 𝓜 d)) (length d) (b d l)))
+      ∙ sum_swap Integers (darts 𝓜) m (λ d θ. when (leaves 𝓜 (λ v. ltb θ (g v)) d) (length d))
 
   -- heights of either sign are moved up to be naturals
   module _ (range : InRange 𝓜) (h : ℕ → ℤ) where
@@ -58,52 +58,52 @@ module _ (𝓜 : Map) (length : ℕ → ℤ) where
 
     low : (v : ℕ) → v < 𝓜.nodes → negative (h v) ≤ lift
     unfolding lift
-    low v l = term-le-sum 𝓜.nodes v (λ v. negative (h v)) l
+    low v l = term_le_sum 𝓜.nodes v (λ v. negative (h v)) l
 
-    drop-is : (v w : ℕ) → v < 𝓜.nodes → w < 𝓜.nodes → positive (h v -ℤ h w) ≡ g v - g w
+    drop_is : (v w : ℕ) → v < 𝓜.nodes → w < 𝓜.nodes → positive (h v -ℤ h w) ≡ g v - g w
     unfolding g
-    drop-is v w lv lw =
+    drop_is v w lv lw =
         let x = atom (h v) in
         let y = atom (h w) in
-        omega (arith, positive-is (added x (negated y)), positive-is (added x (literal lift)), positive-is (added y (literal lift)), low v lv, low w lw)
+        omega (arith, positive_is (added x (negated y)), positive_is (added x (literal lift)), positive_is (added y (literal lift)), low v lv, low w lw)
 
     -- a threshold of the naturals is one of the heights
-    above-is : (θ v : ℕ) → v < 𝓜.nodes → ltb θ (g v) ≡ above h (pos θ -ℤ pos lift) v
+    above_is : (θ v : ℕ) → v < 𝓜.nodes → ltb θ (g v) ≡ above h (pos θ -ℤ pos lift) v
     unfolding g
-    above-is θ v l = go (dec_lt θ (positive (h v +ℤ pos lift))) (either (lt_z (pos θ -ℤ pos lift) (h v)))
+    above_is θ v l = go (dec_lt θ (positive (h v +ℤ pos lift))) (either (lt_z (pos θ -ℤ pos lift) (h v)))
       where
         is : positive (h v +ℤ pos lift) + negative (h v) ≡ positive (h v) + lift
-        is = let x = atom (h v) in omega (arith, positive-is (added x (literal lift)), low v l)
+        is = let x = atom (h v) in omega (arith, positive_is (added x (literal lift)), low v l)
 
         go : Dec (θ < positive (h v +ℤ pos lift)) → (lt_z (pos θ -ℤ pos lift) (h v) ≡ true) ⊎ (lt_z (pos θ -ℤ pos lift) (h v) ≡ false)
             → ltb θ (positive (h v +ℤ pos lift)) ≡ lt_z (pos θ -ℤ pos lift) (h v)
-        go (yes p) (inl q) = ltb-true θ (positive (h v +ℤ pos lift)) p ∙ sym q
-        go (yes p) (inr q) = let x = atom (h v) in absurd (omega (arith, is, from-at-most (ge-of-test (pos θ -ℤ pos lift) (h v) q) (search parts)))
-        go (no p) (inl q) = let x = atom (h v) in absurd (omega (arith, is, from_less (lt-of-test (pos θ -ℤ pos lift) (h v) q) (search parts)))
-        go (no p) (inr q) = ltb-false θ (positive (h v +ℤ pos lift)) (omega arith) ∙ sym q
+        go (yes p) (inl q) = ltb_true θ (positive (h v +ℤ pos lift)) p ∙ sym q
+        go (yes p) (inr q) = let x = atom (h v) in absurd (omega (arith, is, from_at_most (ge_of_test (pos θ -ℤ pos lift) (h v) q) (search parts)))
+        go (no p) (inl q) = let x = atom (h v) in absurd (omega (arith, is, from_less (lt_of_test (pos θ -ℤ pos lift) (h v) q) (search parts)))
+        go (no p) (inr q) = ltb_false θ (positive (h v +ℤ pos lift)) (omega arith) ∙ sym q
 
     pub threshold : sumℤ (darts 𝓜) (λ d. pos (positive (h (𝓜.tail d) -ℤ h (head 𝓜 d))) *ℤ length d) <ℤ pos 0
         → (θ : ℤ) × (cut 𝓜 length (above h θ) <ℤ pos 0)
     unfolding cut
-    threshold short = from (negative-term m (λ θ. cut 𝓜 length (λ v. ltb θ (g v))) (rw (cake) at short))
+    threshold short = from (negative_term m (λ θ. cut 𝓜 length (λ v. ltb θ (g v))) (rw (cake) at short))
       where
         m : ℕ
         m = sumℕ 𝓜.nodes g
 
         cake : sumℤ (darts 𝓜) (λ d. pos (positive (h (𝓜.tail d) -ℤ h (head 𝓜 d))) *ℤ length d) ≡ sumℤ m (λ θ. cut 𝓜 length (λ v. ltb θ (g v)))
         cake =
-            sum-ext Integers (darts 𝓜) (λ d. pos (positive (h (𝓜.tail d) -ℤ h (head 𝓜 d))) *ℤ length d) (λ d. pos (g (𝓜.tail d) - g (head 𝓜 d)) *ℤ length d)
-            (λ d l. ap (λ x. pos x *ℤ length d) (drop-is (𝓜.tail d) (head 𝓜 d) (range.tail-in d l) (range.tail-in (rev d) (rev-in 𝓜.edges d l))))
-            ∙ natural-cake m g (λ d l. term-le-sum 𝓜.nodes (𝓜.tail d) g (range.tail-in d l))
+            sum_ext Integers (darts 𝓜) (λ d. pos (positive (h (𝓜.tail d) -ℤ h (head 𝓜 d))) *ℤ length d) (λ d. pos (g (𝓜.tail d) - g (head 𝓜 d)) *ℤ length d)
+            (λ d l. ap (λ x. pos x *ℤ length d) (drop_is (𝓜.tail d) (head 𝓜 d) (range.tail_in d l) (range.tail_in (rev d) (rev_in 𝓜.edges d l))))
+            ∙ natural_cake m g (λ d l. term_le_sum 𝓜.nodes (𝓜.tail d) g (range.tail_in d l))
 
         from : (θ : ℕ) × (θ < m) × (cut 𝓜 length (λ v. ltb θ (g v)) <ℤ pos 0) → (θ : ℤ) × (cut 𝓜 length (above h θ) <ℤ pos 0)
         from r = (pos r.0 -ℤ pos lift, rw same at r.2)
           where
             same : cut 𝓜 length (λ v. ltb r.0 (g v)) ≡ cut 𝓜 length (above h (pos r.0 -ℤ pos lift))
             same =
-                sum-ext Integers (darts 𝓜) (λ d. when (leaves 𝓜 (λ v. ltb r.0 (g v)) d) (length d))
+                sum_ext Integers (darts 𝓜) (λ d. when (leaves 𝓜 (λ v. ltb r.0 (g v)) d) (length d))
                 (λ d. when (leaves 𝓜 (above h (pos r.0 -ℤ pos lift)) d) (length d))
                 (λ d l.
                 ap₂ (λ x y. when (x && not y) (length d))
-                (above-is r.0 (𝓜.tail d) (range.tail-in d l))
-                (above-is r.0 (head 𝓜 d) (range.tail-in (rev d) (rev-in 𝓜.edges d l))))
+                (above_is r.0 (𝓜.tail d) (range.tail_in d l))
+                (above_is r.0 (head 𝓜 d) (range.tail_in (rev d) (rev_in 𝓜.edges d l))))

@@ -6,14 +6,14 @@ use Prim.Native.Nat.{ℕ, zero, suc, ◌≤◌, ◌<◌}
 use native.Mathlib.Omega.{arith}
 use native.Mathlib.Decide.{ℕ_discrete}
 use Rattle.integers.proofs.Tests.{either}
-use Rattle.integers.proofs.Counting.{count-le}
-use Rattle.maps.specs.Orbit.{lowest, isLowest, orbitOf}
+use Rattle.integers.proofs.Counting.{count_le}
+use Rattle.maps.specs.Orbit.{lowest, is_lowest, orbit_of}
 use Rattle.maps.specs.Map.{Map, darts}
 use Rattle.maps.specs.Face.{step, left}
 use Rattle.maps.specs.Walk.{Components}
 use Rattle.maps.specs.Check.{Sound}
-use Rattle.maps.proofs.Orbits.{lowest-orbit, lowest-below, orbit-in}
-use Rattle.maps.proofs.Faces.{step-permutes, left_along, part_left}
+use Rattle.maps.proofs.Orbits.{lowest_orbit, lowest_below, orbit_in}
+use Rattle.maps.proofs.Faces.{step_permutes, left_along, part_left}
 
 -- the lowest place below n that passes a test, or none does
 abbrev pub First : ℕ → (ℕ → Bool) → Type 0
@@ -32,28 +32,28 @@ scan (suc n) b = go (scan n b) (either (b n))
         each x l (yes p) = ap b p ∙ e
         each x l (no p) = h x (omega (arith, p))
 
-pub first-place : (n : ℕ) (b : ℕ → Bool) (d : ℕ) → d < n → b d ≡ true → First n b
-first-place n b d l e = go (scan n b)
+pub first_place : (n : ℕ) (b : ℕ → Bool) (d : ℕ) → d < n → b d ≡ true → First n b
+first_place n b d l e = go (scan n b)
   where
     go : First n b ⊎ ((e : ℕ) → e < n → b e ≡ false) → First n b
     go (inl r) = r
     go (inr h) = absurd (false≢true (sym (h d l) ∙ e))
 
 -- faces are numbered by their lowest darts
-pub lowest-face : {𝓜 : Map} → Sound 𝓜 → {k : ℕ} {part : ℕ → ℕ} → Components 𝓜 k part → (d : ℕ)
+pub lowest_face : {𝓜 : Map} → Sound 𝓜 → {k : ℕ} {part : ℕ → ℕ} → Components 𝓜 k part → (d : ℕ)
     → ((e : ℕ) → e < darts 𝓜 → part (𝓜.tail e) ≡ part (𝓜.tail d) → d ≤ e)
     → (e : ℕ) → e < darts 𝓜 → part (𝓜.tail e) ≡ part (𝓜.tail d) → left 𝓜 d ≤ left 𝓜 e
-unfolding left orbitOf
-lowest-face {𝓜} σ {k} {part} κ d least e l same =
+unfolding left orbit_of
+lowest_face {𝓜} σ {k} {part} κ d least e l same =
     omega (
       arith,
-      count-le (lowest (step 𝓜) (darts 𝓜) d) d (isLowest (darts 𝓜) (step 𝓜)) (lowest-below (step-permutes σ) d),
-      count-le d low (isLowest (darts 𝓜) (step 𝓜))
-          (least low low-in (sym (part_left σ κ e low l low-in (left_along σ e low l (lowest-orbit (step-permutes σ) e))) ∙ same)),
+      count_le (lowest (step 𝓜) (darts 𝓜) d) d (is_lowest (darts 𝓜) (step 𝓜)) (lowest_below (step_permutes σ) d),
+      count_le d low (is_lowest (darts 𝓜) (step 𝓜))
+          (least low low_in (sym (part_left σ κ e low l low_in (left_along σ e low l (lowest_orbit (step_permutes σ) e))) ∙ same)),
     )
   where
     low : ℕ
     low = lowest (step 𝓜) (darts 𝓜) e
 
-    low-in : lowest (step 𝓜) (darts 𝓜) e < darts 𝓜
-    low-in = orbit-in (step-permutes σ) e (lowest (step 𝓜) (darts 𝓜) e) l (lowest-orbit (step-permutes σ) e)
+    low_in : lowest (step 𝓜) (darts 𝓜) e < darts 𝓜
+    low_in = orbit_in (step_permutes σ) e (lowest (step 𝓜) (darts 𝓜) e) l (lowest_orbit (step_permutes σ) e)

@@ -7,56 +7,56 @@ use native.Mathlib.Decide.{dec_lt, dec_le}
 use Rattle.integers.proofs.Pigeonhole.{seek, Twice, pigeonhole}
 use Rattle.maps.specs.Orbit.{iter, Orbit, lowest, Permutes}
 
-pub iter-zero : (next : ℕ → ℕ) (d : ℕ) → iter next 0 d ≡ d
+pub iter_zero : (next : ℕ → ℕ) (d : ℕ) → iter next 0 d ≡ d
 unfolding iter
-iter-zero next d = refl
+iter_zero next d = refl
 
-pub iter-suc : (next : ℕ → ℕ) (j d : ℕ) → iter next (suc j) d ≡ next (iter next j d)
+pub iter_suc : (next : ℕ → ℕ) (j d : ℕ) → iter next (suc j) d ≡ next (iter next j d)
 unfolding iter
-iter-suc next j d = refl
+iter_suc next j d = refl
 
-pub iter-add : (next : ℕ → ℕ) (i j d : ℕ) → iter next (i + j) d ≡ iter next i (iter next j d)
+pub iter_add : (next : ℕ → ℕ) (i j d : ℕ) → iter next (i + j) d ≡ iter next i (iter next j d)
 unfolding iter
-iter-add next zero j d = ap (λ m. iter next m d) e
+iter_add next zero j d = ap (λ m. iter next m d) e
   where
     e : 0 + j ≡ j
     e = omega arith
-iter-add next (suc i) j d = ap (λ m. iter next m d) e ∙ ap next (iter-add next i j d)
+iter_add next (suc i) j d = ap (λ m. iter next m d) e ∙ ap next (iter_add next i j d)
   where
     e : suc i + j ≡ suc (i + j)
     e = omega arith
 
 -- what a step keeps, its orbits keep
-pub iter-keeps : {A : Type 0} (n : ℕ) (next : ℕ → ℕ) → ((d : ℕ) → d < n → next d < n) → (q : ℕ → A) → ((d : ℕ) → d < n → q (next d) ≡ q d)
+pub iter_keeps : {A : Type 0} (n : ℕ) (next : ℕ → ℕ) → ((d : ℕ) → d < n → next d < n) → (q : ℕ → A) → ((d : ℕ) → d < n → q (next d) ≡ q d)
     → (j d : ℕ) → d < n → q (iter next j d) ≡ q d
-iter-keeps n next stays q h zero d l = ap q (iter-zero next d)
-iter-keeps n next stays q h (suc j) d l = ap q (iter-suc next j d) ∙ h (iter next j d) (go j d l) ∙ iter-keeps n next stays q h j d l
+iter_keeps n next stays q h zero d l = ap q (iter_zero next d)
+iter_keeps n next stays q h (suc j) d l = ap q (iter_suc next j d) ∙ h (iter next j d) (go j d l) ∙ iter_keeps n next stays q h j d l
   where
     go : (j d : ℕ) → d < n → iter next j d < n
-    go zero d l = rw (iter-zero next d) l
-    go (suc j) d l = rw (iter-suc next j d) (stays (iter next j d) (go j d l))
+    go zero d l = rw (iter_zero next d) l
+    go (suc j) d l = rw (iter_suc next j d) (stays (iter next j d) (go j d l))
 
 module _ {n : ℕ} {next : ℕ → ℕ} (π : Permutes n next) where
-  pub iter-in : (j d : ℕ) → d < n → iter next j d < n
-  iter-in zero d l = rw (iter-zero next d) l
-  iter-in (suc j) d l = rw (iter-suc next j d) (π.stays (iter next j d) (iter-in j d l))
+  pub iter_in : (j d : ℕ) → d < n → iter next j d < n
+  iter_in zero d l = rw (iter_zero next d) l
+  iter_in (suc j) d l = rw (iter_suc next j d) (π.stays (iter next j d) (iter_in j d l))
 
-  iter-cancel : (j c d : ℕ) → c < n → d < n → iter next j c ≡ iter next j d → c ≡ d
-  iter-cancel zero c d lc ld e = sym (iter-zero next c) ∙ e ∙ iter-zero next d
-  iter-cancel (suc j) c d lc ld e =
-      iter-cancel j c d lc ld (π.apart (iter next j c) (iter next j d) (iter-in j c lc) (iter-in j d ld) (sym (iter-suc next j c) ∙ e ∙ iter-suc next j d))
+  iter_cancel : (j c d : ℕ) → c < n → d < n → iter next j c ≡ iter next j d → c ≡ d
+  iter_cancel zero c d lc ld e = sym (iter_zero next c) ∙ e ∙ iter_zero next d
+  iter_cancel (suc j) c d lc ld e =
+      iter_cancel j c d lc ld (π.apart (iter next j c) (iter next j d) (iter_in j c lc) (iter_in j d ld) (sym (iter_suc next j c) ∙ e ∙ iter_suc next j d))
 
   -- the orbit closes within n steps
   pub closes : (d : ℕ) → d < n → (p : ℕ) × (0 < p) × (p ≤ n) × (iter next p d ≡ d)
-  closes d l = go (pigeonhole n (λ i. iter next i d) (λ i m. iter-in i d l))
+  closes d l = go (pigeonhole n (λ i. iter next i d) (λ i m. iter_in i d l))
     where
       go : Twice (λ i. iter next i d) n → (p : ℕ) × (0 < p) × (p ≤ n) × (iter next p d ≡ d)
       go t = (
         t.1 - t.0,
         omega (arith, t.2),
         omega (arith, t.3),
-        iter-cancel t.0 (iter next (t.1 - t.0) d) d (iter-in (t.1 - t.0) d l) l
-            (sym (iter-add next t.0 (t.1 - t.0) d) ∙ ap (λ m. iter next m d) back ∙ sym t.4),
+        iter_cancel t.0 (iter next (t.1 - t.0) d) d (iter_in (t.1 - t.0) d l) l
+            (sym (iter_add next t.0 (t.1 - t.0) d) ∙ ap (λ m. iter next m d) back ∙ sym t.4),
       )
         where
           back : t.0 + (t.1 - t.0) ≡ t.1
@@ -77,30 +77,30 @@ module _ {n : ℕ} {next : ℕ → ℕ} (π : Permutes n next) where
               → (i : ℕ) × (i < n) × (iter next i c ≡ d)
           cs (yes s) ih = (j, omega (arith, r.2), e)
           cs (no s) ih =
-              ih (omega (arith, r.1)) (ap (iter next (j - r.0)) (sym r.3) ∙ sym (iter-add next (j - r.0) r.0 c) ∙ ap (λ m. iter next m c) back ∙ e)
+              ih (omega (arith, r.1)) (ap (iter next (j - r.0)) (sym r.3) ∙ sym (iter_add next (j - r.0) r.0 c) ∙ ap (λ m. iter next m c) back ∙ e)
             where
               back : (j - r.0) + r.0 ≡ j
               back = omega (arith, s)
 
-  pub orbit-in : (c d : ℕ) → c < n → Orbit next c d → d < n
-  orbit-in c d l o = rw (← o.1) (iter-in o.0 c l)
+  pub orbit_in : (c d : ℕ) → c < n → Orbit next c d → d < n
+  orbit_in c d l o = rw (← o.1) (iter_in o.0 c l)
 
-  pub orbit-refl : (c : ℕ) → Orbit next c c
-  orbit-refl c = (0, iter-zero next c)
+  pub orbit_refl : (c : ℕ) → Orbit next c c
+  orbit_refl c = (0, iter_zero next c)
 
-  pub orbit-trans : (b c d : ℕ) → Orbit next b c → Orbit next c d → Orbit next b d
-  orbit-trans b c d o p = (p.0 + o.0, iter-add next p.0 o.0 b ∙ ap (iter next p.0) o.1 ∙ p.1)
+  pub orbit_trans : (b c d : ℕ) → Orbit next b c → Orbit next c d → Orbit next b d
+  orbit_trans b c d o p = (p.0 + o.0, iter_add next p.0 o.0 b ∙ ap (iter next p.0) o.1 ∙ p.1)
 
   -- the orbit of next c comes round to c; so, a step at a time, does that of any place met from c
-  pub orbit-sym : (c d : ℕ) → c < n → Orbit next c d → Orbit next d c
-  orbit-sym c d l o = rw o.1 at (back o.0)
+  pub orbit_sym : (c d : ℕ) → c < n → Orbit next c d → Orbit next d c
+  orbit_sym c d l o = rw o.1 at (back o.0)
     where
       one : (b : ℕ) → b < n → Orbit next (next b) b
       one b m = let r = closes b m in (r.0 - 1, go r.0 r.1 r.3)
         where
           front : (p : ℕ) → iter next p (next b) ≡ iter next (suc p) b
-          front zero = iter-zero next (next b) ∙ ap next (sym (iter-zero next b)) ∙ sym (iter-suc next 0 b)
-          front (suc p) = iter-suc next p (next b) ∙ ap next (front p) ∙ sym (iter-suc next (suc p) b)
+          front zero = iter_zero next (next b) ∙ ap next (sym (iter_zero next b)) ∙ sym (iter_suc next 0 b)
+          front (suc p) = iter_suc next p (next b) ∙ ap next (front p) ∙ sym (iter_suc next (suc p) b)
 
           go : (p : ℕ) → 0 < p → iter next p b ≡ b → iter next (p - 1) (next b) ≡ b
           go zero h e = absurd (omega arith)
@@ -110,24 +110,24 @@ module _ {n : ℕ} {next : ℕ → ℕ} (π : Permutes n next) where
               less = omega arith
 
       back : (j : ℕ) → Orbit next (iter next j c) c
-      back zero = (0, iter-zero next (iter next 0 c) ∙ iter-zero next c)
-      back (suc j) = orbit-trans (iter next (suc j) c) (iter next j c) c (rw (← iter-suc next j c) at (one (iter next j c) (iter-in j c l))) (back j)
+      back zero = (0, iter_zero next (iter next 0 c) ∙ iter_zero next c)
+      back (suc j) = orbit_trans (iter next (suc j) c) (iter next j c) c (rw (← iter_suc next j c) at (one (iter next j c) (iter_in j c l))) (back j)
 
-  pub orbit-decided : (c d : ℕ) → c < n → Dec (Orbit next c d)
-  orbit-decided c d l = go (seek (λ j. iter next j c) d n)
+  pub orbit_decided : (c d : ℕ) → c < n → Dec (Orbit next c d)
+  orbit_decided c d l = go (seek (λ j. iter next j c) d n)
     where
       go : ((i : ℕ) × (i < n) × (iter next i c ≡ d)) ⊎ ((i : ℕ) → i < n → iter next i c ≢ d) → Dec (Orbit next c d)
       go (inl s) = yes (s.0, s.2)
       go (inr h) = no (λ o. let s = soon c d l o in h s.0 s.1 s.2)
 
   -- ── the lowest member ──
-  lowest-le : (m j d : ℕ) → j ≤ m → lowest next m d ≤ iter next j d
+  lowest_le : (m j d : ℕ) → j ≤ m → lowest next m d ≤ iter next j d
   unfolding lowest
-  lowest-le zero j d l = rw zero-steps (rw (iter-zero next d) (omega arith))
+  lowest_le zero j d l = rw zero_steps (rw (iter_zero next d) (omega arith))
     where
-      zero-steps : j ≡ 0
-      zero-steps = omega arith
-  lowest-le (suc m) j d l = go (dec_le j m) (lowest-le m j d)
+      zero_steps : j ≡ 0
+      zero_steps = omega arith
+  lowest_le (suc m) j d l = go (dec_le j m) (lowest_le m j d)
     where
       go : Dec (j ≤ m) → (j ≤ m → lowest next m d ≤ iter next j d) → min (lowest next m d) (iter next (suc m) d) ≤ iter next j d
       go (yes h) ih = omega (arith, ih h)
@@ -136,10 +136,10 @@ module _ {n : ℕ} {next : ℕ → ℕ} (π : Permutes n next) where
           top : j ≡ suc m
           top = omega arith
 
-  lowest-met : (m d : ℕ) → Orbit next d (lowest next m d)
+  lowest_met : (m d : ℕ) → Orbit next d (lowest next m d)
   unfolding lowest
-  lowest-met zero d = orbit-refl d
-  lowest-met (suc m) d = go (dec_le (lowest next m d) (iter next (suc m) d)) (lowest-met m d)
+  lowest_met zero d = orbit_refl d
+  lowest_met (suc m) d = go (dec_le (lowest next m d) (iter next (suc m) d)) (lowest_met m d)
     where
       go : Dec (lowest next m d ≤ iter next (suc m) d) → Orbit next d (lowest next m d) → Orbit next d (min (lowest next m d) (iter next (suc m) d))
       go (yes h) o = rw is o
@@ -151,19 +151,19 @@ module _ {n : ℕ} {next : ℕ → ℕ} (π : Permutes n next) where
           is : min (lowest next m d) (iter next (suc m) d) ≡ iter next (suc m) d
           is = omega arith
 
-  pub lowest-orbit : (d : ℕ) → Orbit next d (lowest next n d)
-  lowest-orbit = lowest-met n
+  pub lowest_orbit : (d : ℕ) → Orbit next d (lowest next n d)
+  lowest_orbit = lowest_met n
 
-  pub lowest-least : (c d : ℕ) → c < n → Orbit next c d → lowest next n c ≤ d
-  lowest-least c d l o = let s = soon c d l o in rw (← s.2) (lowest-le n s.0 c (omega (arith, s.1)))
+  pub lowest_least : (c d : ℕ) → c < n → Orbit next c d → lowest next n c ≤ d
+  lowest_least c d l o = let s = soon c d l o in rw (← s.2) (lowest_le n s.0 c (omega (arith, s.1)))
 
-  pub lowest-below : (d : ℕ) → lowest next n d ≤ d
-  lowest-below d = rw (iter-zero next d) at (lowest-le n 0 d (omega arith))
+  pub lowest_below : (d : ℕ) → lowest next n d ≤ d
+  lowest_below d = rw (iter_zero next d) at (lowest_le n 0 d (omega arith))
 
-  pub lowest-same : (c d : ℕ) → c < n → Orbit next c d → lowest next n c ≡ lowest next n d
-  lowest-same c d l o =
+  pub lowest_same : (c d : ℕ) → c < n → Orbit next c d → lowest next n c ≡ lowest next n d
+  lowest_same c d l o =
       omega (
         arith,
-        lowest-least c (lowest next n d) l (orbit-trans c d (lowest next n d) o (lowest-orbit d)),
-        lowest-least d (lowest next n c) (orbit-in c d l o) (orbit-trans d c (lowest next n c) (orbit-sym c d l o) (lowest-orbit c)),
+        lowest_least c (lowest next n d) l (orbit_trans c d (lowest next n d) o (lowest_orbit d)),
+        lowest_least d (lowest next n c) (orbit_in c d l o) (orbit_trans d c (lowest next n c) (orbit_sym c d l o) (lowest_orbit c)),
       )

@@ -7,8 +7,8 @@ use Rattle.maps.specs.Flat.{Flat}
 
 -- what the checks 4 and 5 leave: every end is a node, every turn a dart
 pub record InRange (𝓜 : Map) : Type 0 where
-  pub tail-in : (d : ℕ) → d < darts 𝓜 → 𝓜.tail d < 𝓜.nodes
-  pub rotation-in : (d : ℕ) → d < darts 𝓜 → 𝓜.rotation d < darts 𝓜
+  pub tail_in : (d : ℕ) → d < darts 𝓜 → 𝓜.tail d < 𝓜.nodes
+  pub rotation_in : (d : ℕ) → d < darts 𝓜 → 𝓜.rotation d < darts 𝓜
 
 -- 9
 abbrev pub RotationFault : Map → Type 0
@@ -30,7 +30,7 @@ NotFlat 𝓜 = Flat 𝓜 → ⊥
 -- what the checks 9 and 10 leave, said positively: the darts that leave a node are one round of the rotation, and every node has one
 pub record Sound (𝓜 : Map) : Type 0 where
   pub range : InRange 𝓜
-  pub same-tail : (d : ℕ) → d < darts 𝓜 → 𝓜.tail (𝓜.rotation d) ≡ 𝓜.tail d
+  pub same_tail : (d : ℕ) → d < darts 𝓜 → 𝓜.tail (𝓜.rotation d) ≡ 𝓜.tail d
   pub injective : (c d : ℕ) → c < darts 𝓜 → d < darts 𝓜 → 𝓜.rotation c ≡ 𝓜.rotation d → c ≡ d
-  pub one-round : (c d : ℕ) → c < darts 𝓜 → d < darts 𝓜 → 𝓜.tail c ≡ 𝓜.tail d → Orbit 𝓜.rotation c d
-  pub has-dart : (v : ℕ) → v < 𝓜.nodes → (d : ℕ) × (d < darts 𝓜) × (𝓜.tail d ≡ v)
+  pub one_round : (c d : ℕ) → c < darts 𝓜 → d < darts 𝓜 → 𝓜.tail c ≡ 𝓜.tail d → Orbit 𝓜.rotation c d
+  pub has_dart : (v : ℕ) → v < 𝓜.nodes → (d : ℕ) × (d < darts 𝓜) × (𝓜.tail d ≡ v)

@@ -2,7 +2,7 @@
 -- face holding d, right(d) is left of d's reverse. Faces are numbered from 0 in order of their lowest dart."
 use Rattle.std.specs.Prelude.{ℕ}
 use Rattle.maps.specs.Dart.{rev}
-use Rattle.maps.specs.Orbit.{orbits, orbitOf}
+use Rattle.maps.specs.Orbit.{orbits, orbit_of}
 use Rattle.maps.specs.Map.{Map, darts}
 
 abbrev pub step : Map → ℕ → ℕ
@@ -12,7 +12,7 @@ unfoldable pub faces : Map → ℕ
 faces 𝓜 = orbits (darts 𝓜) (step 𝓜)
 
 unfoldable pub left : Map → ℕ → ℕ
-left 𝓜 d = orbitOf (darts 𝓜) (step 𝓜) d
+left 𝓜 d = orbit_of (darts 𝓜) (step 𝓜) d
 
 abbrev pub right : Map → ℕ → ℕ
 right 𝓜 d = left 𝓜 (rev d)

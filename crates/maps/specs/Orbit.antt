@@ -17,16 +17,16 @@ lowest next zero d = d
 lowest next (suc j) d = min (lowest next j d) (iter next (suc j) d)
 
 -- d is the lowest member of its orbit
-unfoldable pub isLowest : ℕ → (ℕ → ℕ) → ℕ → Bool
-isLowest n next d = eqb (lowest next n d) d
+unfoldable pub is_lowest : ℕ → (ℕ → ℕ) → ℕ → Bool
+is_lowest n next d = eqb (lowest next n d) d
 
 -- as many orbits as lowest members
 unfoldable pub orbits : ℕ → (ℕ → ℕ) → ℕ
-orbits n next = count n (isLowest n next)
+orbits n next = count n (is_lowest n next)
 
 -- the number of an orbit: how many orbits have a lower lowest member
-unfoldable pub orbitOf : ℕ → (ℕ → ℕ) → ℕ → ℕ
-orbitOf n next d = count (lowest next n d) (isLowest n next)
+unfoldable pub orbit_of : ℕ → (ℕ → ℕ) → ℕ → ℕ
+orbit_of n next d = count (lowest next n d) (is_lowest n next)
 
 -- the step stays below n, and no two places have one next
 pub record Permutes (n : ℕ) (next : ℕ → ℕ) : Type 0 where

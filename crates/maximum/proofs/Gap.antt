@@ -7,7 +7,7 @@ use native.Mathlib.Omega.{arith}
 use lib.IntN.{ℤ, pos, ◌+ℤ◌, ◌-ℤ◌}
 use lib.Signed.{◌≤ℤ◌, ◌<ℤ◌}
 use Rattle.integers.specs.Sum.{bit}
-use Rattle.integers.proofs.Omega.{atom, literal, added, negated, parts, positive, positive-is, from-at-most, from_less}
+use Rattle.integers.proofs.Omega.{atom, literal, added, negated, parts, positive, positive_is, from_at_most, from_less}
 use Rattle.maximum.specs.inner.Bracket.{Closer}
 
 abbrev pub gap : ℤ → ℤ → Bool → ℕ
@@ -23,10 +23,10 @@ module _ (low high low' high' : ℤ) (ordered : low ≤ℤ high) (rises : low �
       let w = atom high' in
       omega (
         arith,
-        positive-is (added (added y (negated x)) (literal 1)),
-        positive-is (added (added w (negated z)) (literal 1)),
-        from-at-most rises (search parts),
-        from-at-most falls (search parts),
+        positive_is (added (added y (negated x)) (literal 1)),
+        positive_is (added (added w (negated z)) (literal 1)),
+        from_at_most rises (search parts),
+        from_at_most falls (search parts),
       )
 
   fewer : (low <ℤ low') ⊎ (high' <ℤ high) → positive ((high' -ℤ low') +ℤ pos 1) < positive ((high -ℤ low) +ℤ pos 1)
@@ -37,11 +37,11 @@ module _ (low high low' high' : ℤ) (ordered : low ≤ℤ high) (rises : low �
       let w = atom high' in
       omega (
         arith,
-        positive-is (added (added y (negated x)) (literal 1)),
-        positive-is (added (added w (negated z)) (literal 1)),
-        from-at-most ordered (search parts),
+        positive_is (added (added y (negated x)) (literal 1)),
+        positive_is (added (added w (negated z)) (literal 1)),
+        from_at_most ordered (search parts),
         from_less l (search parts),
-        from-at-most falls (search parts),
+        from_at_most falls (search parts),
       )
   fewer (inr l) =
       let x = atom low in
@@ -50,25 +50,25 @@ module _ (low high low' high' : ℤ) (ordered : low ≤ℤ high) (rises : low �
       let w = atom high' in
       omega (
         arith,
-        positive-is (added (added y (negated x)) (literal 1)),
-        positive-is (added (added w (negated z)) (literal 1)),
-        from-at-most ordered (search parts),
-        from-at-most rises (search parts),
+        positive_is (added (added y (negated x)) (literal 1)),
+        positive_is (added (added w (negated z)) (literal 1)),
+        from_at_most ordered (search parts),
+        from_at_most rises (search parts),
         from_less l (search parts),
       )
 
 -- what is found stays found
-found-bits : (found found' : Bool) → (found ≡ true → found' ≡ true) → bit (not found') ≤ bit (not found)
-found-bits true true h = omega arith
-found-bits true false h = absurd (true≢false (mathlib.Core.Path.sym (h refl)))
-found-bits false true h = omega arith
-found-bits false false h = omega arith
+found_bits : (found found' : Bool) → (found ≡ true → found' ≡ true) → bit (not found') ≤ bit (not found)
+found_bits true true h = omega arith
+found_bits true false h = absurd (true≢false (mathlib.Core.Path.sym (h refl)))
+found_bits false true h = omega arith
+found_bits false false h = omega arith
 
-pub gap-closer : (low high : ℤ) (found : Bool) (low' high' : ℤ) (found' : Bool) → low ≤ℤ high → Closer low high found low' high' found'
+pub gap_closer : (low high : ℤ) (found : Bool) (low' high' : ℤ) (found' : Bool) → low ≤ℤ high → Closer low high found low' high' found'
     → gap low' high' found' < gap low high found
-gap-closer low high found low' high' found' ordered c = by c.less
+gap_closer low high found low' high' found' ordered c = by c.less
   where
     by : (low <ℤ low') ⊎ ((high' <ℤ high) ⊎ ((found ≡ false) × (found' ≡ true))) → gap low' high' found' < gap low high found
-    by (inl l) = omega (arith, fewer low high low' high' ordered c.rises c.falls (inl l), found-bits found found' c.still)
-    by (inr (inl l)) = omega (arith, fewer low high low' high' ordered c.rises c.falls (inr l), found-bits found found' c.still)
+    by (inl l) = omega (arith, fewer low high low' high' ordered c.rises c.falls (inl l), found_bits found found' c.still)
+    by (inr (inl l)) = omega (arith, fewer low high low' high' ordered c.rises c.falls (inr l), found_bits found found' c.still)
     by (inr (inr (e, f))) = rw (e, f) (omega (arith, values low high low' high' ordered c.rises c.falls))

@@ -20,7 +20,7 @@ ghost use Rattle.node_flags.specs.inner.Flags.{Sided};
 ghost use Rattle.arrays.specs.inner.Flags.{flagged};
 ghost use Rattle.node_flags.specs.declared.Side.{Side};
 ghost use Rattle.solver.specs.inner.Lent.{Lent};
-ghost use Rattle.arrays.specs.Maps.{mapOf};
+ghost use Rattle.arrays.specs.Maps.{map_of};
 ghost use Rattle.maximum.specs.inner.Bracket.{Closer};
 ghost use Rattle.maximum.specs.inner.Narrowing.{Narrows, Lowers, Joins};
 ghost use Rattle.maximum.specs.inner.Maximum.{Maximized};
@@ -389,7 +389,7 @@ fn probe<'a>(
         × (pending.bounds.found ≡ true → pending.bounds.low <ℤ pending.bounds.high) }
     ensures { (length parents.new ≡ 1024) × (length a.new ≡ 1024) × (length b.new ≡ 1024)
         × (result.none ≡ false → Closer pending.bounds.low pending.bounds.high pending.bounds.found result.low result.high result.found)
-        × Probes (mapOf sizes.nodes sizes.edges tails.now rotations.now) sizes.outer (atℤ capacities.now)
+        × Probes (map_of sizes.nodes sizes.edges tails.now rotations.now) sizes.outer (atℤ capacities.now)
         pending.terminals.source pending.terminals.sink flows.old flows.new a.old a.new
         b.old b.new pending.bounds result }
 {
@@ -471,7 +471,7 @@ fn close_in<'a>(
     requires { Underway sizes begun tails.now rotations.now lefts.now capacities.now order.now from.now grouped.now starts.now
         flows.old flows.old a.old b.old × (length parents.old ≡ 1024) }
     ensures { (length parents.new ≡ 1024) × (length a.new ≡ 1024)
-        × Maximized (mapOf sizes.nodes sizes.edges tails.now rotations.now) sizes.outer (atℤ capacities.now)
+        × Maximized (map_of sizes.nodes sizes.edges tails.now rotations.now) sizes.outer (atℤ capacities.now)
         begun.terminals.source begun.terminals.sink flows.old flows.new a.new result }
 {
     let terminals = begun.terminals;
@@ -531,7 +531,7 @@ pub fn maximize_from<'a>(
         starts.now flows.old
         × ((d : ℕ) → d < 2 * sizes.edges → Limited 1000000 (atℤ capacities.now d)) × (length a.old ≡ 1024) × (length parents.old ≡ 1024) }
     ensures { (length a.new ≡ 1024) × (length parents.new ≡ 1024)
-        × Maximized (mapOf sizes.nodes sizes.edges tails.now rotations.now) sizes.outer (atℤ capacities.now)
+        × Maximized (map_of sizes.nodes sizes.edges tails.now rotations.now) sizes.outer (atℤ capacities.now)
         terminals.source terminals.sink flows.old flows.new a.new result }
 {
     let likely = begin(
@@ -586,7 +586,7 @@ pub fn maximize<'a>(
         starts.now flows.old
         × ((d : ℕ) → d < 2 * sizes.edges → Limited 1000000 (atℤ capacities.now d)) × (length a.old ≡ 1024) }
     ensures { (length a.new ≡ 1024)
-        × Maximized (mapOf sizes.nodes sizes.edges tails.now rotations.now) sizes.outer (atℤ capacities.now)
+        × Maximized (map_of sizes.nodes sizes.edges tails.now rotations.now) sizes.outer (atℤ capacities.now)
         terminals.source terminals.sink flows.old flows.new a.new result }
 {
     let mut parents = [1024u16; 1024];
@@ -641,7 +641,7 @@ fn try_likely<'a>(
         × Underway sizes given tails.now rotations.now lefts.now capacities.now order.now from.now grouped.now starts.now
         before flows.old a.old b.old) × (given.bounds.none ≡ false) }
     ensures { (length a.new ≡ 1024) × (length b.new ≡ 1024)
-        × Probes (mapOf sizes.nodes sizes.edges tails.now rotations.now) sizes.outer (atℤ capacities.now)
+        × Probes (map_of sizes.nodes sizes.edges tails.now rotations.now) sizes.outer (atℤ capacities.now)
         given.terminals.source given.terminals.sink flows.old flows.new a.old a.new
         b.old b.new given.bounds result }
 {
@@ -691,10 +691,10 @@ pub fn maximize_on<'a>(
     requires { Lent sizes demand.source demand.sink tails.now rotations.now lefts.now capacities.now order.now from.now grouped.now
         starts.now flows.old
         × ((d : ℕ) → d < 2 * sizes.edges → Limited 1000000 (atℤ capacities.now d)) × (length a.old ≡ 1024) × (length parents.old ≡ 1024)
-        × ((x : ℕ → ℤ) × (old : List ℤ) × Highest (mapOf sizes.nodes sizes.edges tails.now rotations.now) sizes.outer (atℤ capacities.now)
+        × ((x : ℕ → ℤ) × (old : List ℤ) × Highest (map_of sizes.nodes sizes.edges tails.now rotations.now) sizes.outer (atℤ capacities.now)
         demand.source demand.sink demand.value x × (known.now ≡ filled sizes.edges x old) × (length old ≡ sizes.edges)) }
     ensures { (length a.new ≡ 1024)
-        × Maximized (mapOf sizes.nodes sizes.edges tails.now rotations.now) sizes.outer (atℤ capacities.now)
+        × Maximized (map_of sizes.nodes sizes.edges tails.now rotations.now) sizes.outer (atℤ capacities.now)
         demand.source demand.sink flows.old flows.new a.new result }
 {
     let carried = demand.value;

@@ -23,59 +23,59 @@ capacities = pos 2 ∷ pos 1 ∷ negsuc 2 ∷ pos 4 ∷ []
 abbrev first_two : List ℕ
 first_two = 1 ∷ 1 ∷ 0 ∷ []
 
-abbrev last-two : List ℕ
-last-two = 0 ∷ 1 ∷ 1 ∷ []
+abbrev last_two : List ℕ
+last_two = 0 ∷ 1 ∷ 1 ∷ []
 
 -- ── cuts ──
 -- a capacity below zero counts as it is: the one dart that leaves is that of -3
-below-zero : cut_of 4 (at tails) (atℤ capacities) (flagged first_two) ≡ negsuc 2
+below_zero : cut_of 4 (at tails) (atℤ capacities) (flagged first_two) ≡ negsuc 2
 unfolding cut_of sum rev
-below-zero = refl
+below_zero = refl
 
 -- only the dart back to node 0 leaves, and the one that enters does not count
-last-cut : cut_of 4 (at tails) (atℤ capacities) (flagged last-two) ≡ pos 1
+last_cut : cut_of 4 (at tails) (atℤ capacities) (flagged last_two) ≡ pos 1
 unfolding cut_of sum rev
-last-cut = refl
+last_cut = refl
 
 -- the middle node: 1 back and -3 forward
-middle-cut : cut_of 4 (at tails) (atℤ capacities) (intersection (flagged first_two) (flagged last-two)) ≡ negsuc 1
+middle_cut : cut_of 4 (at tails) (atℤ capacities) (intersection (flagged first_two) (flagged last_two)) ≡ negsuc 1
 unfolding cut_of sum rev
-middle-cut = refl
+middle_cut = refl
 
 -- all nodes: nothing leaves
-whole-cut : cut_of 4 (at tails) (atℤ capacities) (union (flagged first_two) (flagged last-two)) ≡ pos 0
+whole_cut : cut_of 4 (at tails) (atℤ capacities) (union (flagged first_two) (flagged last_two)) ≡ pos 0
 unfolding cut_of sum rev
-whole-cut = refl
+whole_cut = refl
 
 -- ── union and intersection ──
-union-first : union (flagged first_two) (flagged last-two) 0 ≡ true
-union-first = refl
+union_first : union (flagged first_two) (flagged last_two) 0 ≡ true
+union_first = refl
 
-union-last : union (flagged first_two) (flagged last-two) 2 ≡ true
-union-last = refl
+union_last : union (flagged first_two) (flagged last_two) 2 ≡ true
+union_last = refl
 
-intersection-first : intersection (flagged first_two) (flagged last-two) 0 ≡ false
-intersection-first = refl
+intersection_first : intersection (flagged first_two) (flagged last_two) 0 ≡ false
+intersection_first = refl
 
-intersection-middle : intersection (flagged first_two) (flagged last-two) 1 ≡ true
-intersection-middle = refl
+intersection_middle : intersection (flagged first_two) (flagged last_two) 1 ≡ true
+intersection_middle = refl
 
 -- a flag other than 1 is not inside, and neither is a node past the end
-not-two : flagged (2 ∷ []) 0 ≡ false
-not-two = refl
+not_two : flagged (2 ∷ []) 0 ≡ false
+not_two = refl
 
 past_end : flagged first_two 3 ≡ false
 past_end = refl
 
 -- ── sides, with the source 0 and the sink 2 ──
-first-at-source : Sided 0 2 (flagged first_two) side.Source
-first-at-source = (refl, refl)
+first_at_source : Sided 0 2 (flagged first_two) side.Source
+first_at_source = (refl, refl)
 
-last-at-sink : Sided 0 2 (flagged last-two) side.Sink
-last-at-sink = (refl, refl)
+last_at_sink : Sided 0 2 (flagged last_two) side.Sink
+last_at_sink = (refl, refl)
 
-union-beside : Sided 0 2 (union (flagged first_two) (flagged last-two)) side.Beside
-union-beside = refl
+union_beside : Sided 0 2 (union (flagged first_two) (flagged last_two)) side.Beside
+union_beside = refl
 
-intersection-beside : Sided 0 2 (intersection (flagged first_two) (flagged last-two)) side.Beside
-intersection-beside = refl
+intersection_beside : Sided 0 2 (intersection (flagged first_two) (flagged last_two)) side.Beside
+intersection_beside = refl

@@ -11,7 +11,7 @@ use lib.Pow.{pow_pos, pow-lt, shr_lt, split, high, low, field, mod-mod-pow}
 use lib.Bits.{bit_or, or_shifted_r}
 use lib.Count.{ones, ones_step, ones_cat, ones-le}
 use Rattle.integers.specs.Sum.{sum, Naturals, bit, count}
-use Rattle.integers.proofs.Sums.{sum-ext}
+use Rattle.integers.proofs.Sums.{sum_ext}
 use Rattle.node_sets.specs.inner.Words.{word}
 
 -- a one shifted within 64 bits
@@ -29,77 +29,77 @@ low_bit x m k h =
     let e : m ≡ (j + 1) + k = omega arith in
     ap (λ (y : ℕ). x % 2 ^ y / 2 ^ k % 2) e ∙ ap (λ (y : ℕ). y % 2) (field x (j + 1) k) ∙ mod-mod-pow (x / 2 ^ k) j 1
 
-bit-back : (b : Bool) → eqb (bit b) 1 ≡ b
-bit-back true = refl
-bit-back false = refl
+bit_back : (b : Bool) → eqb (bit b) 1 ≡ b
+bit_back true = refl
+bit_back false = refl
 
-bit-mod : (b : Bool) → bit b % 2 ≡ bit b
-bit-mod true = refl
-bit-mod false = refl
+bit_mod : (b : Bool) → bit b % 2 ≡ bit b
+bit_mod true = refl
+bit_mod false = refl
 
 -- ── the word made from tests ──
-part-le : (b : Bool) (x : ℕ) → bit b * x ≤ x
-part-le true x = omega arith
-part-le false x = omega arith
+part_le : (b : Bool) (x : ℕ) → bit b * x ≤ x
+part_le true x = omega arith
+part_le false x = omega arith
 
 pub word_below : (b : ℕ → Bool) (n : ℕ) → word b n < 2 ^ n
 unfolding word
 word_below b zero = omega arith
-word_below b (suc n) = omega (arith, word_below b n, part-le (b n) (2 ^ n), pow-suc 2 n)
+word_below b (suc n) = omega (arith, word_below b n, part_le (b n) (2 ^ n), pow-suc 2 n)
 
 pub word_more : (b : ℕ → Bool) (n : ℕ) → word b (n + 1) ≡ bit (b n) * 2 ^ n + word b n
 unfolding word
 word_more b n = ap (word b) (add-one n)
 
-pub word-with : (b : ℕ → Bool) (n : ℕ) → b n ≡ true → word b (n + 1) ≡ 2 ^ n + word b n
-word-with b n e = word_more b n ∙ ap (λ (x : Bool). bit x * 2 ^ n + word b n) e ∙ ap (λ (x : ℕ). x + word b n) (one-mul (2 ^ n))
+pub word_with : (b : ℕ → Bool) (n : ℕ) → b n ≡ true → word b (n + 1) ≡ 2 ^ n + word b n
+word_with b n e = word_more b n ∙ ap (λ (x : Bool). bit x * 2 ^ n + word b n) e ∙ ap (λ (x : ℕ). x + word b n) (one-mul (2 ^ n))
 
-pub word-without : (b : ℕ → Bool) (n : ℕ) → b n ≡ false → word b (n + 1) ≡ word b n
-word-without b n e = word_more b n ∙ ap (λ (x : Bool). bit x * 2 ^ n + word b n) e ∙ ap (λ (x : ℕ). x + word b n) (zero-mul (2 ^ n)) ∙ zero-add (word b n)
+pub word_without : (b : ℕ → Bool) (n : ℕ) → b n ≡ false → word b (n + 1) ≡ word b n
+word_without b n e = word_more b n ∙ ap (λ (x : Bool). bit x * 2 ^ n + word b n) e ∙ ap (λ (x : ℕ). x + word b n) (zero-mul (2 ^ n)) ∙ zero-add (word b n)
 
-pub word-bit : (b : ℕ → Bool) (n k : ℕ) → k < n → word b n / 2 ^ k % 2 ≡ bit (b k)
+pub word_bit : (b : ℕ → Bool) (n k : ℕ) → k < n → word b n / 2 ^ k % 2 ≡ bit (b k)
 unfolding word
-word-bit b zero k h = absurd (omega arith)
-word-bit b (suc n) k h = go (ℕ_discrete k n) (word-bit b n k)
+word_bit b zero k h = absurd (omega arith)
+word_bit b (suc n) k h = go (ℕ_discrete k n) (word_bit b n k)
   where
     go : Dec (k ≡ n) → (k < n → word b n / 2 ^ k % 2 ≡ bit (b k)) → (bit (b n) * 2 ^ n + word b n) / 2 ^ k % 2 ≡ bit (b k)
-    go (yes e) r = rw e (ap (λ (x : ℕ). x % 2) (high (bit (b n)) n (word_below b n)) ∙ bit-mod (b n))
+    go (yes e) r = rw e (ap (λ (x : ℕ). x % 2) (high (bit (b n)) n (word_below b n)) ∙ bit_mod (b n))
     go (no c) r =
         let l : k < n = omega (arith, c) in
         sym (low_bit (bit (b n) * 2 ^ n + word b n) n k l) ∙ ap (λ (x : ℕ). x / 2 ^ k % 2) (low (bit (b n)) n (word_below b n)) ∙ r l
 
 -- the test comes back
 pub word_test : (b : ℕ → Bool) (n k : ℕ) → k < n → eqb (word b n / 2 ^ k % 2) 1 ≡ b k
-word_test b n k h = ap (λ (x : ℕ). eqb x 1) (word-bit b n k h) ∙ bit-back (b k)
+word_test b n k h = ap (λ (x : ℕ). eqb x 1) (word_bit b n k h) ∙ bit_back (b k)
 
 -- ── ones ──
 pub no_ones : ones 0 ≡ 0
 no_ones = omega (arith, ones-le 0 0 (omega arith))
 
-ones-digit : (q : ℕ) → q < 2 → ones q ≡ q
-ones-digit q h =
+ones_digit : (q : ℕ) → q < 2 → ones q ≡ q
+ones_digit q h =
     let a : q % 2 ≡ q = omega arith in
     let b : q / 2 ≡ 0 = omega arith in
     let s : ones q ≡ q + ones 0 = ones_step q ∙ rw (a, b) in
     omega (arith, no_ones)
 
-digit-bit : (q : ℕ) → q < 2 → bit (eqb (q % 2) 1) ≡ q
-digit-bit zero h = refl
-digit-bit (suc zero) h = refl
-digit-bit (suc (suc q)) h = absurd (omega arith)
+digit_bit : (q : ℕ) → q < 2 → bit (eqb (q % 2) 1) ≡ q
+digit_bit zero h = refl
+digit_bit (suc zero) h = refl
+digit_bit (suc (suc q)) h = absurd (omega arith)
 
 -- the ones of a number of n digits are the bits that it has set
-pub ones-bits : (n w : ℕ) → w < 2 ^ n → ones w ≡ count n (λ k. eqb (w / 2 ^ k % 2) 1)
+pub ones_bits : (n w : ℕ) → w < 2 ^ n → ones w ≡ count n (λ k. eqb (w / 2 ^ k % 2) 1)
 unfolding sum
-ones-bits zero w h = omega (arith, ones-le 0 w h)
-ones-bits (suc n) w h =
+ones_bits zero w h = omega (arith, ones-le 0 w h)
+ones_bits (suc n) w h =
     let q = w / 2 ^ n in
     let r = w % 2 ^ n in
     let small : q < 2 = shr_lt 1 n (subst (λ (x : ℕ). w < 2 ^ x) (omega arith) h) in
     let cat : ones (q * 2 ^ n + r) ≡ ones q + ones r = ones_cat n q r (mod-lt w (pow_pos n)) in
     let whole : ones w ≡ ones q + ones r = ap ones (sym (split w n)) ∙ cat in
     let rest : ones r ≡ count n (λ k. eqb (w / 2 ^ k % 2) 1) =
-    ones-bits n r (mod-lt w (pow_pos n))
-    ∙ sum-ext Naturals n (λ k. bit (eqb (r / 2 ^ k % 2) 1)) (λ k. bit (eqb (w / 2 ^ k % 2) 1)) (λ k l. ap (λ (x : ℕ). bit (eqb x 1)) (low_bit w n k l)) in
-    let top : ones q ≡ bit (eqb (q % 2) 1) = ones-digit q small ∙ sym (digit-bit q small) in
+    ones_bits n r (mod-lt w (pow_pos n))
+    ∙ sum_ext Naturals n (λ k. bit (eqb (r / 2 ^ k % 2) 1)) (λ k. bit (eqb (w / 2 ^ k % 2) 1)) (λ k l. ap (λ (x : ℕ). bit (eqb x 1)) (low_bit w n k l)) in
+    let top : ones q ≡ bit (eqb (q % 2) 1) = ones_digit q small ∙ sym (digit_bit q small) in
     omega (arith, whole, rest, top)

@@ -14,14 +14,14 @@ use Rattle.flows.specs.ProvingSet.{SetOf, member}
 use Rattle.node_sets.proofs.Bits.{low_bit}
 
 -- a bit is told by its test
-bit-told : (x y : ℕ) → x < 2 → y < 2 → eqb x 1 ≡ eqb y 1 → x ≡ y
-bit-told zero zero l m e = refl
-bit-told zero (suc zero) l m e = absurd (false≢true e)
-bit-told (suc zero) zero l m e = absurd (true≢false e)
-bit-told (suc zero) (suc zero) l m e = refl
-bit-told zero (suc (suc y)) l m e = absurd (omega (arith, m))
-bit-told (suc zero) (suc (suc y)) l m e = absurd (omega (arith, m))
-bit-told (suc (suc x)) y l m e = absurd (omega (arith, l))
+bit_told : (x y : ℕ) → x < 2 → y < 2 → eqb x 1 ≡ eqb y 1 → x ≡ y
+bit_told zero zero l m e = refl
+bit_told zero (suc zero) l m e = absurd (false≢true e)
+bit_told (suc zero) zero l m e = absurd (true≢false e)
+bit_told (suc zero) (suc zero) l m e = refl
+bit_told zero (suc (suc y)) l m e = absurd (omega (arith, m))
+bit_told (suc zero) (suc (suc y)) l m e = absurd (omega (arith, m))
+bit_told (suc (suc x)) y l m e = absurd (omega (arith, l))
 
 -- numbers of n bits that have the same bits are equal
 by_bits : (n a b : ℕ) → a < 2 ^ n → b < 2 ^ n → ((k : ℕ) → k < n → a / 2 ^ k % 2 ≡ b / 2 ^ k % 2) → a ≡ b
@@ -49,7 +49,7 @@ module _ (nodes : ℕ) (words words' : List ℕ) (s : SetOf nodes words) (t : Se
 
   one_bit : (i k : ℕ) → k < 64 → get_or words i 0 / 2 ^ k % 2 ≡ get_or words' i 0 / 2 ^ k % 2
   one_bit i k l =
-      bit-told (get_or words i 0 / 2 ^ k % 2) (get_or words' i 0 / 2 ^ k % 2) (omega arith) (omega arith)
+      bit_told (get_or words i 0 / 2 ^ k % 2) (get_or words' i 0 / 2 ^ k % 2) (omega arith) (omega arith)
       (subst (λ (z : ℕ). eqb (get_or words i 0 / 2 ^ z % 2) 1 ≡ eqb (get_or words' i 0 / 2 ^ z % 2) 1) low
       (subst (λ (z : ℕ). eqb (get_or words z 0 / 2 ^ ((64 * i + k) % 64) % 2) 1 ≡ eqb (get_or words' z 0 / 2 ^ ((64 * i + k) % 64) % 2) 1) high
       (everywhere (64 * i + k))))
@@ -60,7 +60,7 @@ module _ (nodes : ℕ) (words words' : List ℕ) (s : SetOf nodes words) (t : Se
       low : (64 * i + k) % 64 ≡ k
       low = omega (arith, l)
 
-  pub same-words : words ≡ words'
-  same-words =
+  pub same_words : words ≡ words'
+  same_words =
       ext_get_or 0 words words' (s.long ∙ sym t.long)
       (λ i l. by_bits 64 (get_or words i 0) (get_or words' i 0) (s.fits i l) (t.fits i (omega (arith, l, s.long, t.long))) (one_bit i))

@@ -12,105 +12,105 @@ use lib.ListN.{length, get_or, take, drop, set, length-set, take-append-drop, ge
 use lib.Seq.{ext_get_or, length-take-le, get_or-take, get_or-set_same, get_or-set_other, drop-set-lt}
 use lib.Pow.{pow_pos}
 use Rattle.integers.specs.Sum.{Naturals, bit, count}
-use Rattle.integers.proofs.Sums.{sum-ext}
-use Rattle.integers.proofs.Tests.{either, ltb-true, ltb-false, ltb-lt}
-use Rattle.flows.specs.ProvingSet.{wordsFor, member, size}
-use Rattle.node_sets.specs.inner.Words.{flag, setWord, Written}
+use Rattle.integers.proofs.Sums.{sum_ext}
+use Rattle.integers.proofs.Tests.{either, ltb_true, ltb_false, ltb_lt}
+use Rattle.flows.specs.ProvingSet.{words_for, member, size}
+use Rattle.node_sets.specs.inner.Words.{flag, set_word, Written}
 use Rattle.node_sets.proofs.Bits.{word_below, word_test}
-use Rattle.node_sets.proofs.Size.{size-members}
+use Rattle.node_sets.proofs.Size.{size_members}
 
 -- the words below j are written, and nothing past the last
 pub record Writing (inside : List ℕ) (nodes : ℕ) (before now' : List ℕ) (j : ℕ) : Type 0 where
-  pub length-kept : length now' ≡ length before
-  pub rest-kept : drop (wordsFor nodes) now' ≡ drop (wordsFor nodes) before
-  pub done : (i : ℕ) → i < j → get_or now' i 0 ≡ setWord inside nodes i
+  pub length_kept : length now' ≡ length before
+  pub rest_kept : drop (words_for nodes) now' ≡ drop (words_for nodes) before
+  pub done : (i : ℕ) → i < j → get_or now' i 0 ≡ set_word inside nodes i
 
 pub writing_start : (inside : List ℕ) (nodes : ℕ) (before : List ℕ) → Writing inside nodes before before 0
-writing_start inside nodes before = record { length-kept = refl; rest-kept = refl; done = λ i l. absurd (omega arith) }
+writing_start inside nodes before = record { length_kept = refl; rest_kept = refl; done = λ i l. absurd (omega arith) }
 
 pub writing_step : (inside : List ℕ) (nodes : ℕ) (before now' : List ℕ) (j w : ℕ)
-    → Writing inside nodes before now' j → j < wordsFor nodes → wordsFor nodes ≤ length before → w ≡ setWord inside nodes j
+    → Writing inside nodes before now' j → j < words_for nodes → words_for nodes ≤ length before → w ≡ set_word inside nodes j
     → Writing inside nodes before (set now' j w) (j + 1)
 writing_step inside nodes before now' j w s l m e = record {
-  length-kept = length-set now' j w ∙ s.length-kept;
-  rest-kept = drop-set-lt (wordsFor nodes) now' j w l ∙ s.rest-kept;
+  length_kept = length-set now' j w ∙ s.length_kept;
+  rest_kept = drop-set-lt (words_for nodes) now' j w l ∙ s.rest_kept;
   done = λ i h. go i h (ℕ_discrete i j);
 }
   where
     kept : length now' ≡ length before
-    kept = s.length-kept
+    kept = s.length_kept
 
-    go : (i : ℕ) → i < j + 1 → Dec (i ≡ j) → get_or (set now' j w) i 0 ≡ setWord inside nodes i
+    go : (i : ℕ) → i < j + 1 → Dec (i ≡ j) → get_or (set now' j w) i 0 ≡ set_word inside nodes i
     go i h (yes q) = rw q (get_or-set_same now' j w 0 (omega (arith, kept, l, m)) ∙ e)
     go i h (no c) = get_or-set_other now' j i w 0 c ∙ s.done i (omega (arith, c))
 
-pub flag-inside : (inside : List ℕ) (nodes v : ℕ) → v < nodes → flag inside nodes v ≡ eqb (get_or inside v 0) 1
-flag-inside inside nodes v h = ap (λ (x : Bool). x && eqb (get_or inside v 0) 1) (ltb-true v nodes h)
+pub flag_inside : (inside : List ℕ) (nodes v : ℕ) → v < nodes → flag inside nodes v ≡ eqb (get_or inside v 0) 1
+flag_inside inside nodes v h = ap (λ (x : Bool). x && eqb (get_or inside v 0) 1) (ltb_true v nodes h)
 
-pub flag-outside : (inside : List ℕ) (nodes v : ℕ) → nodes ≤ v → flag inside nodes v ≡ false
-flag-outside inside nodes v h = ap (λ (x : Bool). x && eqb (get_or inside v 0) 1) (ltb-false v nodes h)
+pub flag_outside : (inside : List ℕ) (nodes v : ℕ) → nodes ≤ v → flag inside nodes v ≡ false
+flag_outside inside nodes v h = ap (λ (x : Bool). x && eqb (get_or inside v 0) 1) (ltb_false v nodes h)
 
 at_least : (a b : ℕ) → ltb a b ≡ false → b ≤ a
 at_least a b e = nltb→le a b (rw e tt)
 
-pub writing-end : (inside : List ℕ) (nodes : ℕ) (before after : List ℕ)
-    → Writing inside nodes before after (wordsFor nodes) → wordsFor nodes ≤ length before → Written inside nodes before after
-writing-end inside nodes before after s m = record {
-  length-kept = s.length-kept;
-  rest-kept = s.rest-kept;
-  set-of = record {
+pub writing_end : (inside : List ℕ) (nodes : ℕ) (before after : List ℕ)
+    → Writing inside nodes before after (words_for nodes) → words_for nodes ≤ length before → Written inside nodes before after
+writing_end inside nodes before after s m = record {
+  length_kept = s.length_kept;
+  rest_kept = s.rest_kept;
+  set_of = record {
     long = taken;
     fits = λ i h.
-        let l : i < wordsFor nodes = omega (arith, taken) in
+        let l : i < words_for nodes = omega (arith, taken) in
         subst (λ (x : ℕ). x < 2 ^ 64) (sym (at i l)) (word_below (λ k. flag inside nodes (64 * i + k)) 64);
-    unused = λ i h. past i h (either (ltb (i / 64) (wordsFor nodes)));
+    unused = λ i h. past i h (either (ltb (i / 64) (words_for nodes)));
   };
   words_are = at;
-  members = λ v h. in-word v (omega arith) ∙ flag-inside inside nodes v h;
+  members = λ v h. in-word v (omega arith) ∙ flag_inside inside nodes v h;
 }
   where
     kept : length after ≡ length before
-    kept = s.length-kept
+    kept = s.length_kept
 
-    taken : length (take (wordsFor nodes) after) ≡ wordsFor nodes
-    taken = length-take-le (wordsFor nodes) after (omega (arith, kept, m))
+    taken : length (take (words_for nodes) after) ≡ words_for nodes
+    taken = length-take-le (words_for nodes) after (omega (arith, kept, m))
 
-    at : (i : ℕ) → i < wordsFor nodes → get_or (take (wordsFor nodes) after) i 0 ≡ setWord inside nodes i
-    at i h = get_or-take (wordsFor nodes) after i 0 h ∙ s.done i h
+    at : (i : ℕ) → i < words_for nodes → get_or (take (words_for nodes) after) i 0 ≡ set_word inside nodes i
+    at i h = get_or-take (words_for nodes) after i 0 h ∙ s.done i h
 
-    in-word : (v : ℕ) → v / 64 < wordsFor nodes → member (take (wordsFor nodes) after) v ≡ flag inside nodes v
+    in-word : (v : ℕ) → v / 64 < words_for nodes → member (take (words_for nodes) after) v ≡ flag inside nodes v
     in-word v h =
         ap (λ (x : ℕ). eqb (x / 2 ^ (v % 64) % 2) 1) (at (v / 64) h)
         ∙ word_test (λ k. flag inside nodes (64 * (v / 64) + k)) 64 (v % 64) (omega arith)
         ∙ ap (flag inside nodes) (omega arith)
 
-    past : (i : ℕ) → nodes ≤ i → (ltb (i / 64) (wordsFor nodes) ≡ true) ⊎ (ltb (i / 64) (wordsFor nodes) ≡ false)
-        → member (take (wordsFor nodes) after) i ≡ false
-    past i h (inl e) = in-word i (ltb-lt (i / 64) (wordsFor nodes) e) ∙ flag-outside inside nodes i h
+    past : (i : ℕ) → nodes ≤ i → (ltb (i / 64) (words_for nodes) ≡ true) ⊎ (ltb (i / 64) (words_for nodes) ≡ false)
+        → member (take (words_for nodes) after) i ≡ false
+    past i h (inl e) = in-word i (ltb_lt (i / 64) (words_for nodes) e) ∙ flag_outside inside nodes i h
     past i h (inr e) =
         ap (λ (x : ℕ). eqb (x / 2 ^ (i % 64) % 2) 1)
-        (get_or-eq_default (take (wordsFor nodes) after) 0 (omega (arith, taken, at_least (i / 64) (wordsFor nodes) e)))
+        (get_or-eq_default (take (words_for nodes) after) 0 (omega (arith, taken, at_least (i / 64) (words_for nodes) e)))
         ∙ ap (λ (x : ℕ). eqb (x % 2) 1) (div-eq_of_lt (pow_pos (i % 64)))
 
 -- ── what a caller has ──
 -- the set in front, and behind it the words that were there
-pub written-whole : (inside : List ℕ) (nodes : ℕ) (before after : List ℕ) → Written inside nodes before after
-    → after ≡ take (wordsFor nodes) after ++ drop (wordsFor nodes) before
-written-whole inside nodes before after r =
-    sym (take-append-drop (wordsFor nodes) after) ∙ ap (λ (x : List ℕ). take (wordsFor nodes) after ++ x) r.rest-kept
+pub written_whole : (inside : List ℕ) (nodes : ℕ) (before after : List ℕ) → Written inside nodes before after
+    → after ≡ take (words_for nodes) after ++ drop (words_for nodes) before
+written_whole inside nodes before after r =
+    sym (take-append-drop (words_for nodes) after) ∙ ap (λ (x : List ℕ). take (words_for nodes) after ++ x) r.rest_kept
 
 -- the same flags give the same words
 pub written_same : (inside : List ℕ) (nodes : ℕ) (before after before' after' : List ℕ)
     → Written inside nodes before after → Written inside nodes before' after'
-    → take (wordsFor nodes) after ≡ take (wordsFor nodes) after'
+    → take (words_for nodes) after ≡ take (words_for nodes) after'
 written_same inside nodes before after before' after' r r' =
-    ext_get_or 0 (take (wordsFor nodes) after) (take (wordsFor nodes) after') (r.set-of.long ∙ sym r'.set-of.long)
-    (λ i l. let m : i < wordsFor nodes = omega (arith, r.set-of.long) in r.words_are i m ∙ sym (r'.words_are i m))
+    ext_get_or 0 (take (words_for nodes) after) (take (words_for nodes) after') (r.set_of.long ∙ sym r'.set_of.long)
+    (λ i l. let m : i < words_for nodes = omega (arith, r.set_of.long) in r.words_are i m ∙ sym (r'.words_are i m))
 
 -- its size is the number of flagged nodes
-pub written-size : (inside : List ℕ) (nodes : ℕ) (before after : List ℕ) → Written inside nodes before after
-    → size (take (wordsFor nodes) after) ≡ count nodes (λ v. eqb (get_or inside v 0) 1)
-written-size inside nodes before after r =
-    let new = take (wordsFor nodes) after in
-    size-members nodes new r.set-of
-    ∙ sum-ext Naturals nodes (λ v. bit (member new v)) (λ v. bit (eqb (get_or inside v 0) 1)) (λ v l. ap bit (r.members v l))
+pub written_size : (inside : List ℕ) (nodes : ℕ) (before after : List ℕ) → Written inside nodes before after
+    → size (take (words_for nodes) after) ≡ count nodes (λ v. eqb (get_or inside v 0) 1)
+written_size inside nodes before after r =
+    let new = take (words_for nodes) after in
+    size_members nodes new r.set_of
+    ∙ sum_ext Naturals nodes (λ v. bit (member new v)) (λ v. bit (eqb (get_or inside v 0) 1)) (λ v l. ap bit (r.members v l))

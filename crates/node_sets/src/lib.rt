@@ -2,13 +2,13 @@
 // words as many as the nodes need. Its size is the number of ones in its words."
 ghost use Rattle.std.specs.Prelude.{◌≡◌, ◌+◌, ◌/◌, ◌^◌, ◌<◌, ◌≤◌, length, take};
 ghost use Rattle.std.specs.Int.Count.{ones};
-ghost use Rattle.flows.specs.ProvingSet.{wordsFor, member, size};
-ghost use Rattle.node_sets.specs.inner.Words.{flag, setWord, WordsLent, Written};
+ghost use Rattle.flows.specs.ProvingSet.{words_for, member, size};
+ghost use Rattle.node_sets.specs.inner.Words.{flag, set_word, WordsLent, Written};
 
 // As many words as the nodes need.
 pub fn words_for(nodes: usize) -> usize
     requires { nodes ≤ 1024 }
-    ensures { result ≡ wordsFor nodes }
+    ensures { result ≡ words_for nodes }
 {
     (nodes + 63) / 64
 }
@@ -32,7 +32,7 @@ fn set_bit(w: u64, k: usize) -> u64
 // Word j of the set: its bit k is the flag of node 64 j + k.
 fn word_of(inside: &[u8; 1024], nodes: usize, j: usize) -> u64
     requires { (nodes ≤ 1024) × (j < 16) }
-    ensures { result ≡ setWord inside.now nodes j }
+    ensures { result ≡ set_word inside.now nodes j }
 {
     let mut w: u64 = 0;
     for k in 0..64usize {
@@ -64,7 +64,7 @@ fn count_word(w: u64) -> usize
 // The size of the set, which has as many words as the nodes need: ones counted in each 64-bit word, and summed.
 pub fn count_set(words: &[u64], nodes: usize) -> usize
     requires { WordsLent nodes words.now }
-    ensures { result ≡ size (take (wordsFor nodes) words.now) }
+    ensures { result ≡ size (take (words_for nodes) words.now) }
 {
     let n = words_for(nodes);
     let mut total: usize = 0;

@@ -10,14 +10,14 @@ use lib.IntN.{ℤ}
 use Rattle.refusals.specs.Order.{NoneOf}
 use Rattle.refusals.specs.declared.Verdict.TheVariants.{Passed}
 use Rattle.refusals.proofs.Order.{neither}
-use Rattle.flows.specs.ProvingSet.{wordsFor}
-use Rattle.arrays.proofs.FillLoops.{same-everywhere}
+use Rattle.flows.specs.ProvingSet.{words_for}
+use Rattle.arrays.proofs.FillLoops.{same_everywhere}
 use Rattle.questions.specs.declared.SolveAnswer.{SolveAnswer}
 use Rattle.questions.specs.declared.SolveAnswer.TheVariants.{Refused}
 use Rattle.pages.specs.Stretch.{stretch, SameFrom}
-use Rattle.pages.specs.Page.{listChecks, Alone, Paged}
+use Rattle.pages.specs.Page.{list_checks, Alone, Paged}
 use Rattle.pages.specs.declared.Answered.{Answered}
-use Rattle.pages.proofs.Stretches.{part_length, stretch-new, stretch-kept, same-behind, same-from-next, same_then}
+use Rattle.pages.proofs.Stretches.{part_length, stretch_new, stretch_kept, same_behind, same_from_next, same_then}
 
 abbrev pub none : Answered
 none = record { answer = Refused 0 0 }
@@ -29,24 +29,24 @@ pub record Halfway (edges words : ℕ) (alone : ℕ → Alone) (flows₀ : List 
     (i : ℕ) (flows : List ℤ) (sets : List ℕ) (answers : List Answered) : Type 0 where
   pub answered : (j : ℕ) → j < i
       → alone j (stretch edges j flows₀) (stretch edges j flows) (stretch words j sets₀) (stretch words j sets) (answer_in answers j)
-  pub flows-behind : SameFrom (i * edges) flows₀ flows
+  pub flows_behind : SameFrom (i * edges) flows₀ flows
   pub sets_behind : SameFrom (i * words) sets₀ sets
   pub no_more : (j : ℕ) → i ≤ j → answer_in answers j ≡ Refused 0 0
   pub places : length answers ≡ 64
 
 module _ (edges words : ℕ) (alone : ℕ → Alone) (flows₀ : List ℤ) (sets₀ : List ℕ) where
-  pub halfway-start : Halfway edges words alone flows₀ sets₀ 0 flows₀ sets₀ (replicate 64 none)
-  halfway-start = record {
+  pub halfway_start : Halfway edges words alone flows₀ sets₀ 0 flows₀ sets₀ (replicate 64 none)
+  halfway_start = record {
     answered = λ j l. absurd (omega arith);
-    flows-behind = (refl, refl);
+    flows_behind = (refl, refl);
     sets_behind = (refl, refl);
-    no_more = λ j l. ap (λ (a : Answered). a.answer) (same-everywhere 64 none j);
+    no_more = λ j l. ap (λ (a : Answered). a.answer) (same_everywhere 64 none j);
     places = refl;
   }
 
   -- question i, which got a part of each buffer, ys and zs in their places now
   module _ (i : ℕ) (flows : List ℤ) (sets : List ℕ) (answers : List Answered) (so_far : Halfway edges words alone flows₀ sets₀ i flows sets answers)
-      (flows-room : i * edges + edges ≤ length flows) (sets-room : i * words + words ≤ length sets) (few : i < 64)
+      (flows_room : i * edges + edges ≤ length flows) (sets_room : i * words + words ≤ length sets) (few : i < 64)
       (ys : List ℤ) (zs : List ℕ) (answer : SolveAnswer) (ys-long : length ys ≡ edges) (zs-long : length zs ≡ words)
       (line : alone i (stretch edges i flows) ys (stretch words i sets) zs answer) where
     abbrev flows' : List ℤ
@@ -68,28 +68,28 @@ module _ (edges words : ℕ) (alone : ℕ → Alone) (flows₀ : List ℤ) (sets
     new_line =
         subst (λ a. alone i (stretch edges i flows₀) (stretch edges i flows') (stretch words i sets₀) (stretch words i sets') a) (sym placed)
         (subst (λ x. alone i (stretch edges i flows₀) x (stretch words i sets₀) (stretch words i sets') answer)
-        (sym (stretch-new edges i flows ys flows-room ys-long))
-        (subst (λ x. alone i (stretch edges i flows₀) ys (stretch words i sets₀) x answer) (sym (stretch-new words i sets zs sets-room zs-long))
-        (subst (λ x. alone i x ys (stretch words i sets₀) zs answer) (ap (take edges) so_far.flows-behind.1)
+        (sym (stretch_new edges i flows ys flows_room ys-long))
+        (subst (λ x. alone i (stretch edges i flows₀) ys (stretch words i sets₀) x answer) (sym (stretch_new words i sets zs sets_room zs-long))
+        (subst (λ x. alone i x ys (stretch words i sets₀) zs answer) (ap (take edges) so_far.flows_behind.1)
         (subst (λ x. alone i (stretch edges i flows) ys x zs answer) (ap (take words) so_far.sets_behind.1) line))))
 
-    old-line : (j : ℕ) → j < i
+    old_line : (j : ℕ) → j < i
         → alone j (stretch edges j flows₀) (stretch edges j flows') (stretch words j sets₀) (stretch words j sets') (answer_in answers' j)
-    old-line j below =
+    old_line j below =
         subst (λ a. alone j (stretch edges j flows₀) (stretch edges j flows') (stretch words j sets₀) (stretch words j sets') a)
         (sym (others j (λ e. omega arith)))
         (subst (λ x. alone j (stretch edges j flows₀) x (stretch words j sets₀) (stretch words j sets') (answer_in answers j))
-        (sym (stretch-kept edges i flows ys flows-room ys-long j below))
+        (sym (stretch_kept edges i flows ys flows_room ys-long j below))
         (subst (λ x. alone j (stretch edges j flows₀) (stretch edges j flows) (stretch words j sets₀) x (answer_in answers j))
-        (sym (stretch-kept words i sets zs sets-room zs-long j below)) (so_far.answered j below)))
+        (sym (stretch_kept words i sets zs sets_room zs-long j below)) (so_far.answered j below)))
 
-    pub halfway-next : Halfway edges words alone flows₀ sets₀ (i + 1) flows' sets' answers'
-    halfway-next = record {
+    pub halfway_next : Halfway edges words alone flows₀ sets₀ (i + 1) flows' sets' answers'
+    halfway_next = record {
       answered = λ j l. lines j l (ℕ_discrete j i);
-      flows-behind = same_then ((i + 1) * edges) flows₀ flows flows' (same-from-next edges i flows₀ flows so_far.flows-behind)
-          (same-behind edges i flows ys flows-room ys-long);
-      sets_behind = same_then ((i + 1) * words) sets₀ sets sets' (same-from-next words i sets₀ sets so_far.sets_behind)
-          (same-behind words i sets zs sets-room zs-long);
+      flows_behind = same_then ((i + 1) * edges) flows₀ flows flows' (same_from_next edges i flows₀ flows so_far.flows_behind)
+          (same_behind edges i flows ys flows_room ys-long);
+      sets_behind = same_then ((i + 1) * words) sets₀ sets sets' (same_from_next words i sets₀ sets so_far.sets_behind)
+          (same_behind words i sets zs sets_room zs-long);
       no_more = λ j l. others j (λ e. omega arith) ∙ so_far.no_more j (omega arith);
       places = length-set answers i (record { answer = answer }) ∙ so_far.places;
     }
@@ -97,10 +97,10 @@ module _ (edges words : ℕ) (alone : ℕ → Alone) (flows₀ : List ℤ) (sets
         lines : (j : ℕ) → j < i + 1 → Dec (j ≡ i)
             → alone j (stretch edges j flows₀) (stretch edges j flows') (stretch words j sets₀) (stretch words j sets') (answer_in answers' j)
         lines j l (yes e) = rw e new_line
-        lines j l (no e) = old-line j (omega (arith, e))
+        lines j l (no e) = old_line j (omega (arith, e))
 
   -- the same as the code has it: the parts are told by their ends, and are as long as they were
-  pub halfway-turn : (i : ℕ) (flows : List ℤ) (sets : List ℕ) (answers : List Answered) → Halfway edges words alone flows₀ sets₀ i flows sets answers
+  pub halfway_turn : (i : ℕ) (flows : List ℤ) (sets : List ℕ) (answers : List Answered) → Halfway edges words alone flows₀ sets₀ i flows sets answers
       → i * edges + edges ≤ length flows → i * words + words ≤ length sets → i < 64
       → (k m : ℕ) → edges ≡ k → words ≡ m → (ys : List ℤ) (zs : List ℕ) (answer : SolveAnswer)
       → length ys ≡ length (take k (drop (i * edges) flows)) → length zs ≡ length (take m (drop (i * words) sets))
@@ -108,31 +108,31 @@ module _ (edges words : ℕ) (alone : ℕ → Alone) (flows₀ : List ℤ) (sets
       → Halfway edges words alone flows₀ sets₀ (i + 1)
       (take (i * edges) flows ++ (ys ++ drop k (drop (i * edges) flows))) (take (i * words) sets ++ (zs ++ drop m (drop (i * words) sets)))
       (set answers i (record { answer = answer }))
-  halfway-turn i flows sets answers so_far flows-room sets-room few k m ke me ys zs answer ys-long zs-long line =
+  halfway_turn i flows sets answers so_far flows_room sets_room few k m ke me ys zs answer ys-long zs-long line =
       subst (λ k. Halfway edges words alone flows₀ sets₀ (i + 1)
       (take (i * edges) flows ++ (ys ++ drop k (drop (i * edges) flows))) (take (i * words) sets ++ (zs ++ drop m (drop (i * words) sets)))
       (set answers i (record { answer = answer }))) ke
       (subst (λ m. Halfway edges words alone flows₀ sets₀ (i + 1)
       (take (i * edges) flows ++ (ys ++ drop edges (drop (i * edges) flows))) (take (i * words) sets ++ (zs ++ drop m (drop (i * words) sets)))
       (set answers i (record { answer = answer }))) me
-      (halfway-next i flows sets answers so_far flows-room sets-room few ys zs answer
-      (ys-long ∙ ap (λ k. length (take k (drop (i * edges) flows))) (sym ke) ∙ part_length edges i flows flows-room)
-      (zs-long ∙ ap (λ m. length (take m (drop (i * words) sets))) (sym me) ∙ part_length words i sets sets-room)
+      (halfway_next i flows sets answers so_far flows_room sets_room few ys zs answer
+      (ys-long ∙ ap (λ k. length (take k (drop (i * edges) flows))) (sym ke) ∙ part_length edges i flows flows_room)
+      (zs-long ∙ ap (λ m. length (take m (drop (i * words) sets))) (sym me) ∙ part_length words i sets sets_room)
       (subst (λ k. alone i (take k (drop (i * edges) flows)) ys (stretch words i sets) zs answer) (sym ke)
       (subst (λ m. alone i (take k (drop (i * edges) flows)) ys (take m (drop (i * words) sets)) zs answer) (sym me) line))))
 
 -- ── after the last question ──
-list-passed : (nodes edges n : ℕ) (flows : List ℤ) (sets : List ℕ) → n ≤ 64 → n * edges ≤ length flows → n * wordsFor nodes ≤ length sets
-    → NoneOf (listChecks nodes edges n flows sets)
-unfolding listChecks NoneOf
-list-passed nodes edges n flows sets few flows-room sets-room = ((λ l. omega arith), (neither (λ l. omega arith) (λ l. omega arith), tt))
+list_passed : (nodes edges n : ℕ) (flows : List ℤ) (sets : List ℕ) → n ≤ 64 → n * edges ≤ length flows → n * words_for nodes ≤ length sets
+    → NoneOf (list_checks nodes edges n flows sets)
+unfolding list_checks NoneOf
+list_passed nodes edges n flows sets few flows_room sets_room = ((λ l. omega arith), (neither (λ l. omega arith) (λ l. omega arith), tt))
 
-pub all-answered : (nodes edges n words i : ℕ) (alone : ℕ → Alone) (flows flows' : List ℤ) (sets sets' : List ℕ) (answers : List Answered)
-    → words ≡ wordsFor nodes → Halfway edges words alone flows sets i flows' sets' answers → i ≡ n → n ≤ 64
-    → n * edges ≤ length flows → n * wordsFor nodes ≤ length sets
-    → Paged (listChecks nodes edges n flows sets) edges (wordsFor nodes) n alone flows flows' sets sets'
+pub all_answered : (nodes edges n words i : ℕ) (alone : ℕ → Alone) (flows flows' : List ℤ) (sets sets' : List ℕ) (answers : List Answered)
+    → words ≡ words_for nodes → Halfway edges words alone flows sets i flows' sets' answers → i ≡ n → n ≤ 64
+    → n * edges ≤ length flows → n * words_for nodes ≤ length sets
+    → Paged (list_checks nodes edges n flows sets) edges (words_for nodes) n alone flows flows' sets sets'
     (record { verdict = Passed; count = n; answers = answers })
-all-answered nodes edges n words i alone flows flows' sets sets' answers we h ie few flows-room sets-room =
+all_answered nodes edges n words i alone flows flows' sets sets' answers we h ie few flows_room sets_room =
     let g = subst (λ w. Halfway edges w alone flows sets i flows' sets' answers) we h in
-    let k = subst (λ i. Halfway edges (wordsFor nodes) alone flows sets i flows' sets' answers) ie g in
-    ((list-passed nodes edges n flows sets few flows-room sets-room, refl, k.answered, k.flows-behind, k.sets_behind), k.no_more)
+    let k = subst (λ i. Halfway edges (words_for nodes) alone flows sets i flows' sets' answers) ie g in
+    ((list_passed nodes edges n flows sets few flows_room sets_room, refl, k.answered, k.flows_behind, k.sets_behind), k.no_more)

@@ -10,69 +10,69 @@ use lib.ListN.{length, set, length-set}
 use lib.Seq.{get_or-set_same, get_or-set_other}
 use lib.IntN.{ℤ}
 use Rattle.refusals.specs.Order.{Check, NoneOf, FirstOf}
-use Rattle.flows.specs.ProvingSet.{wordsFor}
-use Rattle.arrays.proofs.FillLoops.{same-everywhere}
-use Rattle.pages.specs.Question.{questionAt}
-use Rattle.pages.specs.Page.{Alone, listChecks, Paged}
-use Rattle.pages.specs.inner.Listed.{emptyList, listed_at, gathered, list_of, refusedPage}
+use Rattle.flows.specs.ProvingSet.{words_for}
+use Rattle.arrays.proofs.FillLoops.{same_everywhere}
+use Rattle.pages.specs.Question.{question_at}
+use Rattle.pages.specs.Page.{Alone, list_checks, Paged}
+use Rattle.pages.specs.inner.Listed.{emptyList, listed_at, gathered, list_of, refused_page}
 use Rattle.pages.specs.declared.Question.{Question}
 use Rattle.pages.specs.declared.Listed.{Listed}
 use Rattle.pages.specs.declared.Page.{Page}
 use Rattle.pages.specs.declared.Answered.{Answered}
 use Rattle.pages.proofs.Answering.{none}
 
-pub words-few : (nodes : ℕ) → nodes ≤ 1024 → wordsFor nodes ≤ 16
-words-few nodes h = omega arith
+pub words_few : (nodes : ℕ) → nodes ≤ 1024 → words_for nodes ≤ 16
+words_few nodes h = omega arith
 
 -- ── refused, and not refused ──
-pub refused-so : (checks : List Check) (edges words n : ℕ) (alone : ℕ → Alone) (flows : List ℤ) (sets : List ℕ) (k p : ℕ) (page : Page)
-    → FirstOf checks k p → page ≡ refusedPage k p → Paged checks edges words n alone flows flows sets sets page
-refused-so checks edges words n alone flows sets k p page first e =
+pub refused_so : (checks : List Check) (edges words n : ℕ) (alone : ℕ → Alone) (flows : List ℤ) (sets : List ℕ) (k p : ℕ) (page : Page)
+    → FirstOf checks k p → page ≡ refused_page k p → Paged checks edges words n alone flows flows sets sets page
+refused_so checks edges words n alone flows sets k p page first e =
     subst (λ page. Paged checks edges words n alone flows flows sets sets page) (sym e)
-    ((first, refl, refl, refl), λ i l. ap (λ (a : Answered). a.answer) (same-everywhere 64 none i))
+    ((first, refl, refl, refl), λ i l. ap (λ (a : Answered). a.answer) (same_everywhere 64 none i))
 
-pub list-accepted : (nodes edges n : ℕ) (flows : List ℤ) (sets : List ℕ) → NoneOf (listChecks nodes edges n flows sets)
-    → (n ≤ 64) × (n * edges ≤ length flows) × (n * wordsFor nodes ≤ length sets)
-unfolding listChecks NoneOf
-list-accepted nodes edges n flows sets h =
+pub list_accepted : (nodes edges n : ℕ) (flows : List ℤ) (sets : List ℕ) → NoneOf (list_checks nodes edges n flows sets)
+    → (n ≤ 64) × (n * edges ≤ length flows) × (n * words_for nodes ≤ length sets)
+unfolding list_checks NoneOf
+list_accepted nodes edges n flows sets h =
     let few : 64 < n → ⊥ = h.0 in
     let f : length flows < n * edges → ⊥ = λ l. h.1.0 (inl l) in
-    let g : length sets < n * wordsFor nodes → ⊥ = λ l. h.1.0 (inr l) in
+    let g : length sets < n * words_for nodes → ⊥ = λ l. h.1.0 (inr l) in
     (omega arith, omega arith, omega arith)
 
 -- ── gathered ──
 module _ (question : ℕ → Question) (list : Listed) where
-  gathered-length : (n : ℕ) → length (gathered question n list).questions ≡ length list.questions
+  gathered_length : (n : ℕ) → length (gathered question n list).questions ≡ length list.questions
   unfolding gathered
-  gathered-length zero = refl
-  gathered-length (suc n) = length-set (gathered question n list).questions n (question n) ∙ gathered-length n
+  gathered_length zero = refl
+  gathered_length (suc n) = length-set (gathered question n list).questions n (question n) ∙ gathered_length n
 
-  gathered-count : (n : ℕ) → (gathered question n list).count ≡ list.count
+  gathered_count : (n : ℕ) → (gathered question n list).count ≡ list.count
   unfolding gathered
-  gathered-count zero = refl
-  gathered-count (suc n) = gathered-count n
+  gathered_count zero = refl
+  gathered_count (suc n) = gathered_count n
 
-  gathered-are : (n i : ℕ) → n ≤ length list.questions → i < n → questionAt (gathered question n list).questions i ≡ question i
+  gathered_are : (n i : ℕ) → n ≤ length list.questions → i < n → question_at (gathered question n list).questions i ≡ question i
   unfolding gathered
-  gathered-are zero i room l = absurd (omega arith)
-  gathered-are (suc n) i room l = go (ℕ_discrete i n) (λ below. gathered-are n i (omega arith) below)
+  gathered_are zero i room l = absurd (omega arith)
+  gathered_are (suc n) i room l = go (ℕ_discrete i n) (λ below. gathered_are n i (omega arith) below)
     where
-      go : Dec (i ≡ n) → (i < n → questionAt (gathered question n list).questions i ≡ question i)
-          → questionAt (set (gathered question n list).questions n (question n)) i ≡ question i
-      go (yes e) before = rw e (get_or-set_same (gathered question n list).questions n (question n) _ (omega (arith, gathered-length n)))
+      go : Dec (i ≡ n) → (i < n → question_at (gathered question n list).questions i ≡ question i)
+          → question_at (set (gathered question n list).questions n (question n)) i ≡ question i
+      go (yes e) before = rw e (get_or-set_same (gathered question n list).questions n (question n) _ (omega (arith, gathered_length n)))
       go (no e) before = get_or-set_other (gathered question n list).questions n i (question n) _ e ∙ before (omega (arith, e))
 
 pub list_count : (n : ℕ) (question : ℕ → Question) → (list_of n question).count ≡ n
-list_count n question = gathered-count question (emptyList n) (min n 64)
+list_count n question = gathered_count question (emptyList n) (min n 64)
 
 -- where there are at most 64, each is in the list
-pub list-questions : (n : ℕ) (question : ℕ → Question) → n ≤ 64 → (i : ℕ) → i < n → questionAt (list_of n question).questions i ≡ question i
-list-questions n question few i l = gathered-are question (emptyList n) (min n 64) i (omega arith) (omega arith)
+pub list_questions : (n : ℕ) (question : ℕ → Question) → n ≤ 64 → (i : ℕ) → i < n → question_at (list_of n question).questions i ≡ question i
+list_questions n question few i l = gathered_are question (emptyList n) (min n 64) i (omega arith) (omega arith)
 
 -- no question yet, and one more
-pub gathered-start : (question : ℕ → Question) (list : Listed) → list ≡ gathered question 0 list
+pub gathered_start : (question : ℕ → Question) (list : Listed) → list ≡ gathered question 0 list
 unfolding gathered
-gathered-start question list = refl
+gathered_start question list = refl
 
 pub gathered_next : (question : ℕ → Question) (list before next : Listed) (i : ℕ) (q : Question) → before ≡ gathered question i list → q ≡ question i
     → next ≡ listed_at before i q → next ≡ gathered question (i + 1) list

@@ -5,22 +5,22 @@ use Rattle.std.specs.Prelude.{ℕ, ◌*◌, ◌<◌, ◌≤◌, ◌≡◌, ◌�
 use Rattle.refusals.specs.Order.{Check, ◌when◌, NoneOf, FirstOf}
 use Rattle.refusals.specs.declared.Verdict.{Verdict}
 use Rattle.refusals.specs.declared.Verdict.TheVariants as verdict
-use Rattle.flows.specs.ProvingSet.{wordsFor}
+use Rattle.flows.specs.ProvingSet.{words_for}
 use Rattle.questions.specs.declared.SolveAnswer.{SolveAnswer}
 use Rattle.questions.specs.declared.SolveAnswer.TheVariants.{Refused}
 use Rattle.pages.specs.Stretch.{stretch, SameFrom}
 use Rattle.pages.specs.declared.Page.{Page}
 
 -- 21, and 16 for n stretches of both buffers, whatever the answers will be; an empty list needs no room
-unfoldable pub listChecks : (nodes edges n : ℕ) → List ℤ → List ℕ → List Check
-listChecks nodes edges n flows sets =
+unfoldable pub list_checks : (nodes edges n : ℕ) → List ℤ → List ℕ → List Check
+list_checks nodes edges n flows sets =
     (21 when 64 < n)
-    ∷ (16 when (length flows < n * edges) ⊎ (length sets < n * wordsFor nodes))
+    ∷ (16 when (length flows < n * edges) ⊎ (length sets < n * words_for nodes))
     ∷ []
 
 -- answer i of a page; no answer is `Refused 0 0`
-abbrev pub answerAt : Page → ℕ → SolveAnswer
-answerAt page i = (get_or page.answers i (record { answer = Refused 0 0 })).answer
+abbrev pub answer_at : Page → ℕ → SolveAnswer
+answer_at page i = (get_or page.answers i (record { answer = Refused 0 0 })).answer
 
 -- What one question comes to by itself: the settings slice lent for it, what that is left with, the set slice lent for it, what that is left with, the answer.
 abbrev pub Alone : Type 1
@@ -46,5 +46,5 @@ PageAs checks edges words n alone flows flows' sets sets' (verdict.Refused k p) 
 -- the same of the page that is given: it has `count` answers, and none behind them
 abbrev pub Paged : List Check → (edges words n : ℕ) → (ℕ → Alone) → (flows flows' : List ℤ) (sets sets' : List ℕ) → Page → Type 0
 Paged checks edges words n alone flows flows' sets sets' page =
-    PageAs checks edges words n alone flows flows' sets sets' page.verdict page.count (answerAt page)
-    × ((i : ℕ) → page.count ≤ i → answerAt page i ≡ Refused 0 0)
+    PageAs checks edges words n alone flows flows' sets sets' page.verdict page.count (answer_at page)
+    × ((i : ℕ) → page.count ≤ i → answer_at page i ≡ Refused 0 0)

@@ -7,9 +7,9 @@ use Rattle.pages.specs.declared.Question.{Question}
 abbrev pub blank : Question
 blank = record { source = 0; sink = 0; value = pos 0 }
 
-abbrev pub questionAt : List Question → ℕ → Question
-questionAt questions i = get_or questions i blank
+abbrev pub question_at : List Question → ℕ → Question
+question_at questions i = get_or questions i blank
 
 -- question i where sources, sinks and values have an array each
-abbrev pub questionIn : (sources sinks : List ℕ) (values : List ℤ) → ℕ → Question
-questionIn sources sinks values i = record { source = at sources i; sink = at sinks i; value = atℤ values i }
+abbrev pub question_in : (sources sinks : List ℕ) (values : List ℤ) → ℕ → Question
+question_in sources sinks values i = record { source = at sources i; sink = at sinks i; value = atℤ values i }

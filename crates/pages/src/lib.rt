@@ -2,13 +2,13 @@
 // settings and a stretch of another for its set, and is answered as Solve answers it alone.
 ghost use Rattle.std.specs.Prelude.{◌<◌, ◌≤◌, min, ◌≡◌, length};
 ghost use Rattle.refusals.specs.Order.{Judged};
-ghost use Rattle.flows.specs.ProvingSet.{wordsFor};
+ghost use Rattle.flows.specs.ProvingSet.{words_for};
 ghost use Rattle.grouping.specs.inner.OpenDrawing.{OpenDrawing};
-ghost use Rattle.arrays.specs.Maps.{drawingOf};
-ghost use Rattle.pages.specs.Question.{questionAt, questionIn};
-ghost use Rattle.pages.specs.Page.{listChecks, Paged};
+ghost use Rattle.arrays.specs.Maps.{drawing_of};
+ghost use Rattle.pages.specs.Question.{question_at, question_in};
+ghost use Rattle.pages.specs.Page.{list_checks, Paged};
 ghost use Rattle.pages.specs.inner.Lent.{StretchesLent, ListLent};
-ghost use Rattle.pages.specs.inner.Listed.{emptyList, listed_at, gathered, list_of, solvedAlone, refusedPage};
+ghost use Rattle.pages.specs.inner.Listed.{emptyList, listed_at, gathered, list_of, solved_alone, refused_page};
 
 use arrays::{Demand, Sizes};
 use questions::SolveAnswer;
@@ -78,7 +78,7 @@ pub fn with_question(list: Listed, i: usize, q: Question) -> Listed
 // The first n questions of a lent slice, in the list.
 pub fn gather(questions: &[Question], n: usize, list: Listed) -> Listed
     requires { (n ≤ length questions.now) × (n ≤ 64) }
-    ensures { result ≡ gathered (questionAt questions.now) n list }
+    ensures { result ≡ gathered (question_at questions.now) n list }
 {
     let mut next = list;
     let mut i: usize = 0;
@@ -92,7 +92,7 @@ pub fn gather(questions: &[Question], n: usize, list: Listed) -> Listed
 
 // The questions of a lent slice: how many there are, and the first 64 of them.
 pub fn list_of(questions: &[Question]) -> Listed
-    ensures { result ≡ list_of (length questions.now) (questionAt questions.now) }
+    ensures { result ≡ list_of (length questions.now) (question_at questions.now) }
 {
     let n = questions.len();
     let empty = empty_list(n);
@@ -102,7 +102,7 @@ pub fn list_of(questions: &[Question]) -> Listed
 
 // A list of questions whose sources, sinks and values have an array each. Places from the number of questions on are not read.
 pub fn list_from(count: usize, sources: &[u16; 64], sinks: &[u16; 64], values: &[i32; 64]) -> Listed
-    ensures { result ≡ list_of count (questionIn sources.now sinks.now values.now) }
+    ensures { result ≡ list_of count (question_in sources.now sinks.now values.now) }
 {
     let few = held(count);
     let mut next = empty_list(count);
@@ -122,7 +122,7 @@ pub fn list_from(count: usize, sources: &[u16; 64], sinks: &[u16; 64], values: &
 // Checks 21 and 16: at most 64 questions, and room for a stretch of each in both buffers.
 fn check_list(nodes: usize, edges: usize, n: usize, flows: &[i32], sets: &[u64]) -> Verdict
     requires { (nodes ≤ 1024) × (edges ≤ 512) }
-    ensures { Judged (listChecks nodes edges n flows.now sets.now) result }
+    ensures { Judged (list_checks nodes edges n flows.now sets.now) result }
 {
     if 64 < n {
         return Verdict::Refused(21, 0);
@@ -153,8 +153,8 @@ fn ask<'a>(
 ) -> SolveAnswer
     requires { OpenDrawing sizes tails.now rotations.now lefts.now capacities.now order.now from.now grouped.now starts.now
         × StretchesLent sizes flows.old set.old }
-    ensures { solvedAlone
-        (drawingOf sizes.nodes sizes.edges sizes.outer tails.now rotations.now capacities.now) q
+    ensures { solved_alone
+        (drawing_of sizes.nodes sizes.edges sizes.outer tails.now rotations.now capacities.now) q
         flows.old flows.new set.old set.new result }
 {
     let demand = Demand {
@@ -185,10 +185,10 @@ fn answer_all<'a>(
 ) -> Page
     requires { OpenDrawing sizes tails.now rotations.now lefts.now capacities.now order.now from.now grouped.now starts.now
         × ListLent sizes list.count flows.old sets.old }
-    ensures { Paged (listChecks sizes.nodes sizes.edges list.count flows.old sets.old)
-        sizes.edges (wordsFor sizes.nodes) list.count
-        (λ i. solvedAlone (drawingOf sizes.nodes sizes.edges sizes.outer tails.now rotations.now capacities.now)
-        (questionAt list.questions i))
+    ensures { Paged (list_checks sizes.nodes sizes.edges list.count flows.old sets.old)
+        sizes.edges (words_for sizes.nodes) list.count
+        (λ i. solved_alone (drawing_of sizes.nodes sizes.edges sizes.outer tails.now rotations.now capacities.now)
+        (question_at list.questions i))
         flows.old flows.new sets.old sets.new result }
 {
     let count = list.count;
@@ -231,7 +231,7 @@ fn answer_all<'a>(
 
 // A page that is refused.
 pub fn refused_page(number: u8, place: u16) -> Page
-    ensures { result ≡ refusedPage number place }
+    ensures { result ≡ refused_page number place }
 {
     let none = Answered {
         answer: SolveAnswer::Refused(0, 0),
@@ -259,10 +259,10 @@ pub fn answer_list<'a>(
     sets: &mut [u64],
 ) -> Page
     requires { OpenDrawing sizes tails.now rotations.now lefts.now capacities.now order.now from.now grouped.now starts.now }
-    ensures { Paged (listChecks sizes.nodes sizes.edges list.count flows.old sets.old)
-        sizes.edges (wordsFor sizes.nodes) list.count
-        (λ i. solvedAlone (drawingOf sizes.nodes sizes.edges sizes.outer tails.now rotations.now capacities.now)
-        (questionAt list.questions i))
+    ensures { Paged (list_checks sizes.nodes sizes.edges list.count flows.old sets.old)
+        sizes.edges (words_for sizes.nodes) list.count
+        (λ i. solved_alone (drawing_of sizes.nodes sizes.edges sizes.outer tails.now rotations.now capacities.now)
+        (question_at list.questions i))
         flows.old flows.new sets.old sets.new result }
 {
     let verdict = check_list(sizes.nodes, sizes.edges, list.count, &*flows, &*sets);

@@ -9,7 +9,7 @@ use lib.Dec.{eqb}
 use lib.ListN.{length, set}
 use lib.Seq.{get_or-set_same, get_or-set_other}
 use lib.IntN.{ℤ}
-use Rattle.integers.proofs.Tests.{eqb-true, eqb-false}
+use Rattle.integers.proofs.Tests.{eqb_true, eqb_false}
 use Rattle.refusals.specs.Order.{NoneOf, FirstOf}
 use Rattle.arrays.specs.At.{at, atℤ}
 use Rattle.arrays.specs.Filled.{filled}
@@ -19,8 +19,8 @@ use Rattle.questions.specs.declared.SolveAnswer.{SolveAnswer}
 use Rattle.questions.specs.declared.SolveAnswer.TheVariants.{Can, Cannot, Refused}
 use Rattle.sessions.specs.Fit.{OnFit}
 use Rattle.sessions.specs.Ask as ask
-use Rattle.parties.specs.Shared.{idle, offered, committed, Shared, offersOf, sharedDrawing, put}
-use Rattle.parties.specs.Calls.{askChecks, afterAsk, Asks}
+use Rattle.parties.specs.Shared.{idle, offered, committed, Shared, offers_of, shared_drawing, put}
+use Rattle.parties.specs.Calls.{ask_checks, after_ask, Asks}
 
 -- a value put at one place of a function
 abbrev pub put_at : {A : Type 0} → (ℕ → A) → ℕ → A → ℕ → A
@@ -31,45 +31,45 @@ pub put_same : {A : Type 0} (f : ℕ → A) (p : ℕ) → put_at f p (f p) ≡ f
 put_same {A} f p = fun_ext (λ q. by q (ℕ_discrete q p))
   where
     by : (q : ℕ) → Dec (q ≡ p) → put_at f p (f p) q ≡ f q
-    by q (yes e) = ap (λ b. cond b (f p) (f q)) (eqb-true q p e) ∙ ap f (sym e)
-    by q (no e) = ap (λ b. cond b (f p) (f q)) (eqb-false q p e)
+    by q (yes e) = ap (λ b. cond b (f p) (f q)) (eqb_true q p e) ∙ ap f (sym e)
+    by q (no e) = ap (λ b. cond b (f p) (f q)) (eqb_false q p e)
 
 -- a place of a list set
-pub set-put : (l : List ℕ) (p a : ℕ) → p < length l → at (set l p a) ≡ put_at (at l) p a
-set-put l p a m = fun_ext (λ q. by q (ℕ_discrete q p))
+pub set_put : (l : List ℕ) (p a : ℕ) → p < length l → at (set l p a) ≡ put_at (at l) p a
+set_put l p a m = fun_ext (λ q. by q (ℕ_discrete q p))
   where
     by : (q : ℕ) → Dec (q ≡ p) → at (set l p a) q ≡ put_at (at l) p a q
-    by q (yes e) = ap (at (set l p a)) e ∙ get_or-set_same l p a 0 m ∙ sym (ap (λ b. cond b a (at l q)) (eqb-true q p e))
-    by q (no e) = get_or-set_other l p q a 0 e ∙ sym (ap (λ b. cond b a (at l q)) (eqb-false q p e))
+    by q (yes e) = ap (at (set l p a)) e ∙ get_or-set_same l p a 0 m ∙ sym (ap (λ b. cond b a (at l q)) (eqb_true q p e))
+    by q (no e) = get_or-set_other l p q a 0 e ∙ sym (ap (λ b. cond b a (at l q)) (eqb_false q p e))
 
 -- the offer of one party set
-pub first-kept : (first second xs : List ℤ) → offersOf xs second ≡ put_at (offersOf first second) 0 xs
-first-kept first second xs = fun_ext (λ q. by q (eqb q 0))
+pub first_kept : (first second xs : List ℤ) → offers_of xs second ≡ put_at (offers_of first second) 0 xs
+first_kept first second xs = fun_ext (λ q. by q (eqb q 0))
   where
     by : (q : ℕ) (b : Bool) → cond b xs (cond (eqb q 1) second []) ≡ cond b xs (cond b first (cond (eqb q 1) second []))
     by q true = refl
     by q false = refl
 
-pub second-kept : (first second xs : List ℤ) → offersOf first xs ≡ put_at (offersOf first second) 1 xs
-second-kept first second xs = fun_ext (λ q. by q (ℕ_discrete q 1))
+pub second_kept : (first second xs : List ℤ) → offers_of first xs ≡ put_at (offers_of first second) 1 xs
+second_kept first second xs = fun_ext (λ q. by q (ℕ_discrete q 1))
   where
-    by : (q : ℕ) → Dec (q ≡ 1) → offersOf first xs q ≡ put_at (offersOf first second) 1 xs q
+    by : (q : ℕ) → Dec (q ≡ 1) → offers_of first xs q ≡ put_at (offers_of first second) 1 xs q
     by q (yes e) =
-        ap (offersOf first xs) e ∙ sym (ap (λ b. cond b xs (offersOf first second q)) (eqb-true q 1 e))
-    by q (no e) = subst (λ b. cond (eqb q 0) first (cond b xs []) ≡ cond b xs (cond (eqb q 0) first (cond b second []))) (sym (eqb-false q 1 e)) refl
+        ap (offers_of first xs) e ∙ sym (ap (λ b. cond b xs (offers_of first second q)) (eqb_true q 1 e))
+    by q (no e) = subst (λ b. cond (eqb q 0) first (cond b xs []) ≡ cond b xs (cond (eqb q 0) first (cond b second []))) (sym (eqb_false q 1 e)) refl
 
 module _ {party : ℕ} (edges : ℕ) (flows first second xs : List ℤ) where
-  pub kept-first : party ≡ 0 → xs ≡ filled edges (atℤ flows) first
-      → offersOf xs second ≡ put_at (offersOf first second) party (filled edges (atℤ flows) (offersOf first second party))
-  kept-first e h =
-      subst (λ k. offersOf xs second ≡ put_at (offersOf first second) k (filled edges (atℤ flows) (offersOf first second k))) (sym e)
-      (first-kept first second xs ∙ ap (put_at (offersOf first second) 0) h)
+  pub kept_first : party ≡ 0 → xs ≡ filled edges (atℤ flows) first
+      → offers_of xs second ≡ put_at (offers_of first second) party (filled edges (atℤ flows) (offers_of first second party))
+  kept_first e h =
+      subst (λ k. offers_of xs second ≡ put_at (offers_of first second) k (filled edges (atℤ flows) (offers_of first second k))) (sym e)
+      (first_kept first second xs ∙ ap (put_at (offers_of first second) 0) h)
 
   pub kept_second : party ≡ 1 → xs ≡ filled edges (atℤ flows) second
-      → offersOf first xs ≡ put_at (offersOf first second) party (filled edges (atℤ flows) (offersOf first second party))
+      → offers_of first xs ≡ put_at (offers_of first second) party (filled edges (atℤ flows) (offers_of first second party))
   kept_second e h =
-      subst (λ k. offersOf first xs ≡ put_at (offersOf first second) k (filled edges (atℤ flows) (offersOf first second k))) (sym e)
-      (second-kept first second xs ∙ ap (put_at (offersOf first second) 1) h)
+      subst (λ k. offers_of first xs ≡ put_at (offers_of first second) k (filled edges (atℤ flows) (offers_of first second k))) (sym e)
+      (second_kept first second xs ∙ ap (put_at (offers_of first second) 1) h)
 
 -- ── the session after the answer ──
 abbrev pub turned : Shared → (ℕ → ℕ) → (ℕ → List ℤ) → Shared
@@ -90,31 +90,31 @@ turned_same S e f = λ i. turned S (e i) (f i)
 
 -- the party and the count of edges at the width of an index
 module _ (S : Shared) {p party : ℕ} (wide : p ≡ party) (standing : ℕ → ℕ) where
-  pub after-can : {m : ℕ} → m ≡ S.edges → (flows' : List ℤ) (offer : ℕ → List ℤ) → standing ≡ put_at S.standing p offered
-      → offer ≡ put_at S.offer p (filled m (atℤ flows') (S.offer p)) → turned S standing offer ≡ afterAsk S party flows' Can
-  after-can e flows' offer h g =
+  pub after_can : {m : ℕ} → m ≡ S.edges → (flows' : List ℤ) (offer : ℕ → List ℤ) → standing ≡ put_at S.standing p offered
+      → offer ≡ put_at S.offer p (filled m (atℤ flows') (S.offer p)) → turned S standing offer ≡ after_ask S party flows' Can
+  after_can e flows' offer h g =
       turned_same S (h ∙ ap (λ k. put_at S.standing k offered) wide)
       (g ∙ ap₂ (λ k n. put_at S.offer k (filled n (atℤ flows') (S.offer k))) wide e)
 
-  pub after-cannot : standing ≡ put_at S.standing p idle → turned S standing S.offer ≡ put S party idle (S.offer party)
-  after-cannot h = turned_same S (h ∙ ap (λ k. put_at S.standing k idle) wide) (sym (put_same S.offer party))
+  pub after_cannot : standing ≡ put_at S.standing p idle → turned S standing S.offer ≡ put S party idle (S.offer party)
+  after_cannot h = turned_same S (h ∙ ap (λ k. put_at S.standing k idle) wide) (sym (put_same S.offer party))
 
 -- ── the ways out ──
 module _ (S : Shared) (p source sink : ℕ) (value : ℤ) (flows : List ℤ) (set : List ℕ) where
-  pub no-party : 2 ≤ p → Asks S p source sink value flows flows set set S (Refused 29 0)
-  unfolding FirstOf askChecks
-  no-party h = record { solved = (inl (h, refl, refl), refl, refl); named = tt; on-fit = tt; after = refl }
+  pub no_party : 2 ≤ p → Asks S p source sink value flows flows set set S (Refused 29 0)
+  unfolding FirstOf ask_checks
+  no_party h = record { solved = (inl (h, refl, refl), refl, refl); named = tt; on_fit = tt; after = refl }
 
-  pub has-committed : (2 ≤ p → ⊥) → S.standing p ≡ committed → Asks S p source sink value flows flows set set S (Refused 30 0)
-  unfolding FirstOf askChecks
-  has-committed party h = record { solved = (inr (party, inl (h, refl, refl)), refl, refl); named = tt; on-fit = tt; after = refl }
+  pub has_committed : (2 ≤ p → ⊥) → S.standing p ≡ committed → Asks S p source sink value flows flows set set S (Refused 30 0)
+  unfolding FirstOf ask_checks
+  has_committed party h = record { solved = (inr (party, inl (h, refl, refl)), refl, refl); named = tt; on_fit = tt; after = refl }
 
   -- two checks that do not hold, in front
   module _ (party : 2 ≤ p → ⊥) (may : S.standing p ≢ committed) (flows' : List ℤ) (set' : List ℕ) where
     pub in-front : (r : SolveAnswer)
-        → Solved (sharedDrawing S) (ask.askChecks (sharedDrawing S) source sink value flows set) source sink value flows flows' set set' r
-        → Solved (sharedDrawing S) (askChecks (sharedDrawing S) (S.standing p) p source sink value flows set) source sink value flows flows' set set' r
-    unfolding NoneOf FirstOf askChecks
+        → Solved (shared_drawing S) (ask.ask_checks (shared_drawing S) source sink value flows set) source sink value flows flows' set set' r
+        → Solved (shared_drawing S) (ask_checks (shared_drawing S) (S.standing p) p source sink value flows set) source sink value flows flows' set set' r
+    unfolding NoneOf FirstOf ask_checks
     in-front Can h = ((party, (may, h.0)), h.1, h.2)
     in-front (Cannot n) h = ((party, (may, h.0)), h.1, h.2)
     in-front (Refused k q) h = (inr (party, inr (may, h.0)), h.1, h.2)
@@ -122,9 +122,9 @@ module _ (S : Shared) (p source sink : ℕ) (value : ℤ) (flows : List ℤ) (se
 -- what is promised of the answer on the limits left
 abbrev pub Left : Shared → (source sink : ℕ) → ℤ → (flows flows' : List ℤ) (set set' : List ℕ) → SolveAnswer → Type 0
 Left S source sink value flows flows' set set' r =
-    Solved (sharedDrawing S) (ask.askChecks (sharedDrawing S) source sink value flows set) source sink value flows flows' set set' r
-    × SetNamed (sharedDrawing S) source sink value set' r
-    × OnFit (sharedDrawing S) r
+    Solved (shared_drawing S) (ask.ask_checks (shared_drawing S) source sink value flows set) source sink value flows flows' set set' r
+    × SetNamed (shared_drawing S) source sink value set' r
+    × OnFit (shared_drawing S) r
 
 module _ (S : Shared) (p source sink : ℕ) {v value : ℤ} (q : v ≡ value) (flows flows' : List ℤ) (set set' : List ℕ) {answer r : SolveAnswer} (e : answer ≡ r)
   where
@@ -132,8 +132,8 @@ module _ (S : Shared) (p source sink : ℕ) {v value : ℤ} (q : v ≡ value) (f
     left_as h =
         subst (λ w. Left S source sink w flows flows' set set' r) q (subst (λ a. Left S source sink v flows flows' set set' a) e h)
 
-    pub told-as : (2 ≤ p → ⊥) → S.standing p ≢ committed → (S' : Shared) → S' ≡ afterAsk S p flows' r → Left S source sink v flows flows' set set' answer
+    pub told_as : (2 ≤ p → ⊥) → S.standing p ≢ committed → (S' : Shared) → S' ≡ after_ask S p flows' r → Left S source sink v flows flows' set set' answer
         → Asks S p source sink value flows flows' set set' S' r
-    told-as party may S' after h =
+    told_as party may S' after h =
         let g = left_as h in
-        record { solved = in-front S p source sink value flows set party may flows' set' r g.0; named = g.1; on-fit = g.2; after = after }
+        record { solved = in-front S p source sink value flows set party may flows' set' r g.0; named = g.1; on_fit = g.2; after = after }

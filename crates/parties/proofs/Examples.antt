@@ -3,7 +3,7 @@ use mathlib.Core.Path.{◌≡◌, refl}
 use mathlib.Core.List.{List, [], ◌∷◌}
 use lib.IntN.{ℤ, pos, negsuc}
 use Rattle.refusals.specs.declared.Verdict.TheVariants.{Passed, Refused}
-use Rattle.flows.specs.Settings.{onDarts}
+use Rattle.flows.specs.Settings.{on_darts}
 use Rattle.parties.specs.Seen.{commits, clears}
 use Rattle.parties.specs.Reached.{total, booked, since}
 
@@ -14,27 +14,27 @@ one = pos 3 ∷ negsuc 0 ∷ []
 abbrev two : List ℤ
 two = pos 4 ∷ pos 2 ∷ []
 
-pub both-count : since [] (commits 0 one Passed ∷ commits 1 two Passed ∷ []) ≡ two ∷ one ∷ []
+pub both_count : since [] (commits 0 one Passed ∷ commits 1 two Passed ∷ []) ≡ two ∷ one ∷ []
 unfolding since booked
-both-count = refl
+both_count = refl
 
-pub refused-does-not : since [] (commits 0 one Passed ∷ commits 0 one (Refused 30 0) ∷ []) ≡ one ∷ []
+pub refused_does_not : since [] (commits 0 one Passed ∷ commits 0 one (Refused 30 0) ∷ []) ≡ one ∷ []
 unfolding since booked
-refused-does-not = refl
+refused_does_not = refl
 
-pub begun-anew : since [] (commits 0 one Passed ∷ clears ∷ commits 1 two Passed ∷ []) ≡ two ∷ []
+pub begun_anew : since [] (commits 0 one Passed ∷ clears ∷ commits 1 two Passed ∷ []) ≡ two ∷ []
 unfolding since booked
-begun-anew = refl
+begun_anew = refl
 
 -- on the first edge 3 + 4 there and the negative back, on the second -1 + 2
 pub there : total (two ∷ one ∷ []) 0 ≡ pos 7
-unfolding total onDarts
+unfolding total on_darts
 there = refl
 
 pub back : total (two ∷ one ∷ []) 1 ≡ negsuc 6
-unfolding total onDarts
+unfolding total on_darts
 back = refl
 
-pub second-edge : total (two ∷ one ∷ []) 2 ≡ pos 1
-unfolding total onDarts
-second-edge = refl
+pub second_edge : total (two ∷ one ∷ []) 2 ≡ pos 1
+unfolding total on_darts
+second_edge = refl

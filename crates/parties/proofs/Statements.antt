@@ -12,257 +12,257 @@ use Rattle.integers.proofs.Omega.{atoms₂, parts, equal}
 use Rattle.refusals.specs.Order.{◌when◌, NoneOf}
 use Rattle.refusals.specs.declared.Verdict.{Verdict}
 use Rattle.refusals.specs.declared.Verdict.TheVariants as verdict
-use Rattle.refusals.proofs.Order.{first-none}
+use Rattle.refusals.proofs.Order.{first_none}
 use Rattle.maps.specs.Dart.{rev}
-use Rattle.maps.proofs.Darts.{rev-in}
-use Rattle.flows.specs.Settings.{onDarts}
+use Rattle.maps.proofs.Darts.{rev_in}
+use Rattle.flows.specs.Settings.{on_darts}
 use Rattle.flows.specs.Highest.{Highest}
 use Rattle.flows.specs.ProvingSet.{member}
-use Rattle.flows.proofs.Exact.{proves-excludes}
-use Rattle.flows.proofs.Agreement.{highest-agrees}
-use Rattle.flows.proofs.OnDarts.{onDarts-antisymmetric}
+use Rattle.flows.proofs.Exact.{proves_excludes}
+use Rattle.flows.proofs.Agreement.{highest_agrees}
+use Rattle.flows.proofs.OnDarts.{on_darts_antisymmetric}
 use Rattle.arrays.specs.At.{atℤ}
 use Rattle.arrays.specs.Filled.{filled}
-use Rattle.arrays.proofs.FillLoops.{filled-front}
-use Rattle.records.specs.Sheet.{nodesOf, edgesOf, outerOf, capacityOf, sheetMap, sheetDrawing}
-use Rattle.questions.specs.Solve.{questionChecks, Solved}
+use Rattle.arrays.proofs.FillLoops.{filled_front}
+use Rattle.records.specs.Sheet.{nodes_of, edges_of, outer_of, capacity_of, sheet_map, sheet_drawing}
+use Rattle.questions.specs.Solve.{question_checks, Solved}
 use Rattle.questions.specs.declared.SolveAnswer.{SolveAnswer}
 use Rattle.questions.specs.declared.SolveAnswer.TheVariants.{Can, Cannot, Refused}
-use Rattle.questions.proofs.Asked.{ends-in, ends-differ}
+use Rattle.questions.proofs.Asked.{ends_in, ends_differ}
 use Rattle.questions.proofs.Asked as questions
-use Rattle.questions.proofs.After.{solved-after}
-use Rattle.sheets.specs.Open.{sheetChecks}
-use Rattle.analyser.specs.Solve.{solveChecks, Solves}
+use Rattle.questions.proofs.After.{solved_after}
+use Rattle.sheets.specs.Open.{sheet_checks}
+use Rattle.analyser.specs.Solve.{solve_checks, Solves}
 use Rattle.analyser.proofs.SheetPlane.{plane}
-use Rattle.sessions.proofs.Asking.{solved-same}
-use Rattle.parties.specs.Shared.{idle, offered, stale, committed, Shared, sharedDrawing, put, staled, flowsOf}
-use Rattle.parties.specs.Calls.{afterAsk, Asks, Commits}
-use Rattle.parties.specs.Seen.{Event, clears, Step, ask-step, commit-step, clear_step}
+use Rattle.sessions.proofs.Asking.{solved_same}
+use Rattle.parties.specs.Shared.{idle, offered, stale, committed, Shared, shared_drawing, put, staled, flows_of}
+use Rattle.parties.specs.Calls.{after_ask, Asks, Commits}
+use Rattle.parties.specs.Seen.{Event, clears, Step, ask_step, commit_step, clear_step}
 use Rattle.parties.specs.Reached.{Reached}
 use Rattle.parties.specs.Statements.{DeliversLeft, MayAsk, Sessions, OthersKept, AnyValue}
 use Rattle.parties.proofs.Views.{own, other}
-use Rattle.parties.proofs.Taking.{edge-flow, has-committed, no-offer, staled-other}
-use Rattle.parties.proofs.Account.{Above, Kept, left-lowered, sums_kept, left-range, drawing-is, kept-fit, kept-lowerable}
-use Rattle.parties.proofs.Standings.{two-at-most, nobody-yet}
-use Rattle.parties.proofs.Onward.{asked-may, reached-invariant, reached-clear, barred-bare}
+use Rattle.parties.proofs.Taking.{edge-flow, has_committed, no_offer, staled_other}
+use Rattle.parties.proofs.Account.{Above, Kept, left_lowered, sums_kept, left_range, drawing_is, kept_fit, kept_lowerable}
+use Rattle.parties.proofs.Standings.{two_at_most, nobody_yet}
+use Rattle.parties.proofs.Onward.{asked_may, reached_invariant, reached_clear, barred_bare}
 use Rattle.parties.proofs.Answers.{
   told,
-  ask-committed,
-  ask-unfit,
-  ask-empty,
-  ask-29,
-  party-same,
+  ask_committed,
+  ask_unfit,
+  ask_empty,
+  ask_29,
+  party_same,
   behind,
-  none-in-front,
-  solved-behind,
-  verdict-is,
-  commit-29,
+  none_in_front,
+  solved_behind,
+  verdict_is,
+  commit_29,
   exactly,
 }
 
-pub reached-kept : {s : List ℕ} {S : Shared} {fs : List (List ℤ)} → Reached s S fs → Kept s S fs
-reached-kept r = (reached-invariant r).kept
+pub reached_kept : {s : List ℕ} {S : Shared} {fs : List (List ℤ)} → Reached s S fs → Kept s S fs
+reached_kept r = (reached_invariant r).kept
 
 -- ── what is answered, of the sheet's drawing with the limits left ──
 module _ (s : List ℕ) (S : Shared) (fs : List (List ℤ)) (r : Reached s S fs) (p source sink : ℕ) (value : ℤ) (flows flows' : List ℤ) (set set' : List ℕ) where
   pub answered : (S' : Shared) (answer : SolveAnswer) → Asks S p source sink value flows flows' set set' S' answer
-      → Solved (record { map = sheetMap s; capacity = atℤ S.left; outer = outerOf s })
-      ((29 when 2 ≤ p) ∷ (30 when S.standing p ≡ committed) ∷ questionChecks (nodesOf s) (edgesOf s) source sink value flows set)
+      → Solved (record { map = sheet_map s; capacity = atℤ S.left; outer = outer_of s })
+      ((29 when 2 ≤ p) ∷ (30 when S.standing p ≡ committed) ∷ question_checks (nodes_of s) (edges_of s) source sink value flows set)
       source sink value flows flows' set set' answer
   answered S' answer a =
-      let k = reached-kept r in
+      let k = reached_kept r in
       subst (λ 𝓓. Solved 𝓓 ((29 when 2 ≤ p) ∷ (30 when S.standing p ≡ committed)
-      ∷ questionChecks 𝓓.map.nodes 𝓓.map.edges source sink value flows set) source sink value flows flows' set set' answer)
-      (drawing-is k)
-      (solved-same (sharedDrawing S) _ _ (party-same (sharedDrawing S) (S.standing p) p source sink value flows set (kept-fit k))
+      ∷ question_checks 𝓓.map.nodes 𝓓.map.edges source sink value flows set) source sink value flows flows' set set' answer)
+      (drawing_is k)
+      (solved_same (shared_drawing S) _ _ (party_same (shared_drawing S) (S.standing p) p source sink value flows set (kept_fit k))
       source sink value flows flows' set set' answer a.solved)
 
-  pub asked_of : NoneOf ((29 when 2 ≤ p) ∷ (30 when S.standing p ≡ committed) ∷ questionChecks (nodesOf s) (edgesOf s) source sink value flows set)
-      → NoneOf (questionChecks (nodesOf s) (edgesOf s) source sink value flows set)
-  asked_of = behind (S.standing p) p (questionChecks (nodesOf s) (edgesOf s) source sink value flows set)
+  pub asked_of : NoneOf ((29 when 2 ≤ p) ∷ (30 when S.standing p ≡ committed) ∷ question_checks (nodes_of s) (edges_of s) source sink value flows set)
+      → NoneOf (question_checks (nodes_of s) (edges_of s) source sink value flows set)
+  asked_of = behind (S.standing p) p (question_checks (nodes_of s) (edges_of s) source sink value flows set)
 
-  highest : (S' : Shared) → Asks S p source sink value flows flows' set set' S' Can → Highest (sheetMap s) (outerOf s) (atℤ S.left) source sink value
+  highest : (S' : Shared) → Asks S p source sink value flows flows' set set' S' Can → Highest (sheet_map s) (outer_of s) (atℤ S.left) source sink value
       (atℤ flows')
   highest S' a =
       let h = answered S' Can a in
       let x = h.1.0 in
-      highest-agrees (sheetMap s) x (atℤ flows') (λ e l. sym (filled-front (pos 0) (edgesOf s) x flows flows' h.1.2 e l)) h.1.1
+      highest_agrees (sheet_map s) x (atℤ flows') (λ e l. sym (filled_front (pos 0) (edges_of s) x flows flows' h.1.2 e l)) h.1.1
 
-  cannot-only : (S' : Shared) (answer : SolveAnswer) → Asks S p source sink value flows flows' set set' S' answer
+  cannot_only : (S' : Shared) (answer : SolveAnswer) → Asks S p source sink value flows flows' set set' S' answer
       → (n : ℕ) × (answer ≡ Cannot n) → (x : ℕ → ℤ) → DeliversLeft s S source sink value x → ⊥
-  cannot-only S' answer a (n, e) =
+  cannot_only S' answer a (n, e) =
       let h = answered S' (Cannot n) (subst (Asks S p source sink value flows flows' set set' S') e a) in
-      let two = (questions.accepted (nodesOf s) (edgesOf s) source sink flows set value (asked_of h.0)).ends-two in
-      let i = ends-in (nodesOf s) source sink two in
-      proves-excludes (plane s (reached-kept r).sheet).sound.range i.0 i.1 (ends-differ (nodesOf s) source sink two)
+      let two = (questions.accepted (nodes_of s) (edges_of s) source sink flows set value (asked_of h.0)).ends_two in
+      let i = ends_in (nodes_of s) source sink two in
+      proves_excludes (plane s (reached_kept r).sheet).sound.range i.0 i.1 (ends_differ (nodes_of s) source sink two)
       (atℤ S.left) value (member h.1.0) h.1.2
 
-  module _ (may : MayAsk S p) (asked : NoneOf (questionChecks (nodesOf s) (edgesOf s) source sink value flows set)) where
-    not-refused : (S' : Shared) (k q : ℕ) → Asks S p source sink value flows flows' set set' S' (Refused k q) → ⊥
-    not-refused S' k q a = first-none _ k q (answered S' (Refused k q) a).0 (none-in-front (S.standing p) p _ may.0 may.1 asked)
+  module _ (may : MayAsk S p) (asked : NoneOf (question_checks (nodes_of s) (edges_of s) source sink value flows set)) where
+    not_refused : (S' : Shared) (k q : ℕ) → Asks S p source sink value flows flows' set set' S' (Refused k q) → ⊥
+    not_refused S' k q a = first_none _ k q (answered S' (Refused k q) a).0 (none_in_front (S.standing p) p _ may.0 may.1 asked)
 
-    can-where : (S' : Shared) (answer : SolveAnswer) → Asks S p source sink value flows flows' set set' S' answer
+    can_where : (S' : Shared) (answer : SolveAnswer) → Asks S p source sink value flows flows' set set' S' answer
         → (x : ℕ → ℤ) → DeliversLeft s S source sink value x → answer ≡ Can
-    can-where S' Can a x d = refl
-    can-where S' (Cannot n) a x d = absurd (cannot-only S' (Cannot n) a (n, refl) x d)
-    can-where S' (Refused k q) a x d = absurd (not-refused S' k q a)
+    can_where S' Can a x d = refl
+    can_where S' (Cannot n) a x d = absurd (cannot_only S' (Cannot n) a (n, refl) x d)
+    can_where S' (Refused k q) a x d = absurd (not_refused S' k q a)
 
-    cannot-where : (S' : Shared) (answer : SolveAnswer) → Asks S p source sink value flows flows' set set' S' answer
+    cannot_where : (S' : Shared) (answer : SolveAnswer) → Asks S p source sink value flows flows' set set' S' answer
         → ((x : ℕ → ℤ) → DeliversLeft s S source sink value x → ⊥) → (n : ℕ) × (answer ≡ Cannot n)
-    cannot-where S' Can a none = absurd (none (atℤ flows') (highest S' a).carries)
-    cannot-where S' (Cannot n) a none = (n, refl)
-    cannot-where S' (Refused k q) a none = absurd (not-refused S' k q a)
+    cannot_where S' Can a none = absurd (none (atℤ flows') (highest S' a).carries)
+    cannot_where S' (Cannot n) a none = (n, refl)
+    cannot_where S' (Refused k q) a none = absurd (not_refused S' k q a)
 
 -- before the first commit the limits left are the sheet's
-first-solves : (s : List ℕ) (S S' : Shared) (p source sink : ℕ) (value : ℤ) (flows flows' : List ℤ) (set set' : List ℕ) (answer : SolveAnswer)
+first_solves : (s : List ℕ) (S S' : Shared) (p source sink : ℕ) (value : ℤ) (flows flows' : List ℤ) (set set' : List ℕ) (answer : SolveAnswer)
     → Reached s S [] → p < 2 → Asks S p source sink value flows flows' set set' S' answer → Solves s source sink value flows flows' set set' answer
-unfolding solveChecks
-first-solves s S S' p source sink value flows flows' set set' answer r l a =
-    let i = reached-invariant r in
-    let left : atℤ S.left ≡ capacityOf s = ap atℤ (i.kept.untouched refl) ∙ i.kept.limits-are in
-    solved-after (sheetChecks s) i.kept.sheet (sheetDrawing s) _ source sink value flows flows' set set' answer
-    (subst (λ c. Solved (record { map = sheetMap s; capacity = c; outer = outerOf s }) (questionChecks (nodesOf s) (edgesOf s) source sink value flows set)
+unfolding solve_checks
+first_solves s S S' p source sink value flows flows' set set' answer r l a =
+    let i = reached_invariant r in
+    let left : atℤ S.left ≡ capacity_of s = ap atℤ (i.kept.untouched refl) ∙ i.kept.limits_are in
+    solved_after (sheet_checks s) i.kept.sheet (sheet_drawing s) _ source sink value flows flows' set set' answer
+    (subst (λ c. Solved (record { map = sheet_map s; capacity = c; outer = outer_of s }) (question_checks (nodes_of s) (edges_of s) source sink value flows set)
     source sink value flows flows' set set' answer) left
-    (solved-behind (S.standing p) p _ l (nobody-yet i.stands p l) _ source sink value flows flows' set set' answer
+    (solved_behind (S.standing p) p _ l (nobody_yet i.stands p l) _ source sink value flows flows' set set' answer
     (answered s S [] r p source sink value flows flows' set set' S' answer a)))
 
 -- ── what a commit says ──
-commit-says : (s : List ℕ) (S S' : Shared) (fs : List (List ℤ)) (p : ℕ) (answer : Verdict) → Reached s S fs → p < 2 → Commits S p S' answer
+commit_says : (s : List ℕ) (S S' : Shared) (fs : List (List ℤ)) (p : ℕ) (answer : Verdict) → Reached s S fs → p < 2 → Commits S p S' answer
     → ((answer ≡ verdict.Refused 28 0) ↔ (S.standing p ≡ idle)) × ((answer ≡ verdict.Passed) ↔ (S.standing p ≡ offered))
     × ((answer ≡ verdict.Refused 31 0) ↔ (S.standing p ≡ stale)) × ((answer ≡ verdict.Refused 30 0) ↔ (S.standing p ≡ committed))
-commit-says s S S' fs p answer r l c =
-    let i = reached-invariant r in
-    let by = exactly S p l (kept-lowerable i.kept p) (i.stands.stood p) S' answer c in
+commit_says s S S' fs p answer r l c =
+    let i = reached_invariant r in
+    let by = exactly S p l (kept_lowerable i.kept p) (i.stands.stood p) S' answer c in
     (by idle (omega arith), by offered (omega arith), by stale (omega arith), by committed (omega arith))
 
 pub sessions : Sessions
 unfolding Above
 sessions = record {
-  account = λ s S fs r. (reached-kept r).account;
-  drawing-kept = λ s S fs r. ((reached-kept r).map_is, (reached-kept r).outer-is);
-  limits-kept = λ s S fs r. (reached-kept r).limits-are;
-  pairs-kept = λ s S fs r. sums_kept (reached-kept r);
-  limits-reach = λ s S fs r. left-range (reached-kept r);
-  limits-met = λ s S xs fs r. (reached-kept r).above;
-  clear-restores = λ s S fs r. (reached-clear r, (reached-kept r).limits-are);
-  once-each = λ s S fs r. two-at-most (reached-invariant r).stands;
-  none_yet = λ s S p r. nobody-yet (reached-invariant r).stands p;
-  first-solves = first-solves;
-  ask-refused = λ s S S' fs p source sink value flows flows' set set' k q r a.
+  account = λ s S fs r. (reached_kept r).account;
+  drawing_kept = λ s S fs r. ((reached_kept r).map_is, (reached_kept r).outer_is);
+  limits_kept = λ s S fs r. (reached_kept r).limits_are;
+  pairs_kept = λ s S fs r. sums_kept (reached_kept r);
+  limits_reach = λ s S fs r. left_range (reached_kept r);
+  limits_met = λ s S xs fs r. (reached_kept r).above;
+  clear_restores = λ s S fs r. (reached_clear r, (reached_kept r).limits_are);
+  once_each = λ s S fs r. two_at_most (reached_invariant r).stands;
+  none_yet = λ s S p r. nobody_yet (reached_invariant r).stands p;
+  first_solves = first_solves;
+  ask_refused = λ s S S' fs p source sink value flows flows' set set' k q r a.
       (answered s S fs r p source sink value flows flows' set set' S' (Refused k q) a).0;
-  can-highest = λ s S S' fs p source sink value flows flows' set set' r a. highest s S fs r p source sink value flows flows' set set' S' a;
-  can-carries = λ s S S' fs p source sink value flows flows' set set' r a. (highest s S fs r p source sink value flows flows' set set' S' a).carries;
-  cannot-proves = λ s S S' fs p source sink value flows flows' set set' n r a. (answered s S fs r p source sink value flows flows' set set' S' (Cannot n) a).1;
-  cannot-exactly = λ s S S' fs p source sink value flows flows' set set' answer r may asked a. (
-    cannot-only s S fs r p source sink value flows flows' set set' S' answer a,
-    cannot-where s S fs r p source sink value flows flows' set set' may asked S' answer a,
+  can_highest = λ s S S' fs p source sink value flows flows' set set' r a. highest s S fs r p source sink value flows flows' set set' S' a;
+  can_carries = λ s S S' fs p source sink value flows flows' set set' r a. (highest s S fs r p source sink value flows flows' set set' S' a).carries;
+  cannot_proves = λ s S S' fs p source sink value flows flows' set set' n r a. (answered s S fs r p source sink value flows flows' set set' S' (Cannot n) a).1;
+  cannot_exactly = λ s S S' fs p source sink value flows flows' set set' answer r may asked a. (
+    cannot_only s S fs r p source sink value flows flows' set set' S' answer a,
+    cannot_where s S fs r p source sink value flows flows' set set' may asked S' answer a,
   );
-  can-exactly = λ s S S' fs p source sink value flows flows' set set' answer r may asked a. (
+  can_exactly = λ s S S' fs p source sink value flows flows' set set' answer r may asked a. (
     (λ e. let b = subst (Asks S p source sink value flows flows' set set' S') e a in
         (atℤ flows', (highest s S fs r p source sink value flows flows' set set' S' b).carries)),
-    (λ h. can-where s S fs r p source sink value flows flows' set set' may asked S' answer a h.0 h.1),
+    (λ h. can_where s S fs r p source sink value flows flows' set set' may asked S' answer a h.0 h.1),
   );
-  offer-within = λ s S fs p r. (reached-kept r).fresh p;
-  commit-exactly = λ s S S' fs p answer r l c. (commit-says s S S' fs p answer r l c).1;
-  commit-30 = λ s S S' fs p answer r l c. (commit-says s S S' fs p answer r l c).3;
-  commit-28 = λ s S S' fs p answer r l c. (commit-says s S S' fs p answer r l c).0;
-  commit-31 = λ s S S' fs p answer r l c. (commit-says s S S' fs p answer r l c).2;
-  barred-empty = λ s S fs r. let b = barred-bare r in (b.no-nodes, b.no_edges, b.no-offer, b.no-flows);
-  barred-13 = λ s S S' fs p source sink value flows flows' set set' answer r l a.
-      let b = barred-bare r in
+  offer_within = λ s S fs p r. (reached_kept r).fresh p;
+  commit_exactly = λ s S S' fs p answer r l c. (commit_says s S S' fs p answer r l c).1;
+  commit_30 = λ s S S' fs p answer r l c. (commit_says s S S' fs p answer r l c).3;
+  commit_28 = λ s S S' fs p answer r l c. (commit_says s S S' fs p answer r l c).0;
+  commit_31 = λ s S S' fs p answer r l c. (commit_says s S S' fs p answer r l c).2;
+  barred_empty = λ s S fs r. let b = barred_bare r in (b.no_nodes, b.no_edges, b.no_offer, b.no-flows);
+  barred_13 = λ s S S' fs p source sink value flows flows' set set' answer r l a.
+      let b = barred_bare r in
       told S p source sink value flows set flows' set' S' answer 13 0
-      (ask-empty S p source sink value flows set l (λ e. absurd (omega (arith, b.no-offer p, e))) b.no-nodes) a;
-  barred-28 = λ s S S' fs p answer r l c.
-      let i = (barred-bare r).no-offer p in
-      verdict-is S p S' answer (verdict.Refused 28 0)
-      (no-offer S p (λ m. absurd (omega (arith, l, m))) (λ e. absurd (omega (arith, i, e))) (λ e. absurd (omega (arith, i, e)))
+      (ask_empty S p source sink value flows set l (λ e. absurd (omega (arith, b.no_offer p, e))) b.no_nodes) a;
+  barred_28 = λ s S S' fs p answer r l c.
+      let i = (barred_bare r).no_offer p in
+      verdict_is S p S' answer (verdict.Refused 28 0)
+      (no_offer S p (λ m. absurd (omega (arith, l, m))) (λ e. absurd (omega (arith, i, e))) (λ e. absurd (omega (arith, i, e)))
       (λ e. absurd (omega (arith, i, e)))) c;
 }
 
 -- ── every value ──
-put-others : (S S' : Shared) (p a : ℕ) (xs : List ℤ) → S' ≡ put S p a xs → OthersKept S S' p
-put-others S S' p a xs e = record {
-  left-kept = ap (λ (T : Shared). T.left) e;
-  standing-kept = λ q h. ap (λ (T : Shared). T.standing q) e ∙ other q p a (S.standing q) (λ g. h (sym g));
-  offer-kept = λ q h. ap (λ (T : Shared). T.offer q) e ∙ other q p xs (S.offer q) (λ g. h (sym g));
+put_others : (S S' : Shared) (p a : ℕ) (xs : List ℤ) → S' ≡ put S p a xs → OthersKept S S' p
+put_others S S' p a xs e = record {
+  left_kept = ap (λ (T : Shared). T.left) e;
+  standing_kept = λ q h. ap (λ (T : Shared). T.standing q) e ∙ other q p a (S.standing q) (λ g. h (sym g));
+  offer_kept = λ q h. ap (λ (T : Shared). T.offer q) e ∙ other q p xs (S.offer q) (λ g. h (sym g));
 }
 
-put-stands : (S S' : Shared) (p a : ℕ) (xs : List ℤ) → S' ≡ put S p a xs → S'.standing p ≡ a
-put-stands S S' p a xs e = ap (λ (T : Shared). T.standing p) e ∙ own p a (S.standing p)
+put_stands : (S S' : Shared) (p a : ℕ) (xs : List ℤ) → S' ≡ put S p a xs → S'.standing p ≡ a
+put_stands S S' p a xs e = ap (λ (T : Shared). T.standing p) e ∙ own p a (S.standing p)
 
 lowers : (S S' : Shared) (p : ℕ) → Commits S p S' verdict.Passed → (d : ℕ) → d < 2 * S.edges
-    → (atℤ S'.left d ≡ atℤ S.left d -ℤ onDarts (atℤ (S.offer p)) d)
-    × (atℤ S'.left (rev d) ≡ atℤ S.left (rev d) +ℤ onDarts (atℤ (S.offer p)) d)
-lowers S S' p c d l = (once d l, once (rev d) (rev-in S.edges d l) ∙ back)
+    → (atℤ S'.left d ≡ atℤ S.left d -ℤ on_darts (atℤ (S.offer p)) d)
+    × (atℤ S'.left (rev d) ≡ atℤ S.left (rev d) +ℤ on_darts (atℤ (S.offer p)) d)
+lowers S S' p c d l = (once d l, once (rev d) (rev_in S.edges d l) ∙ back)
   where
-    once : (d : ℕ) → d < 2 * S.edges → atℤ S'.left d ≡ atℤ S.left d -ℤ onDarts (atℤ (S.offer p)) d
+    once : (d : ℕ) → d < 2 * S.edges → atℤ S'.left d ≡ atℤ S.left d -ℤ on_darts (atℤ (S.offer p)) d
     once d l =
-        ap (λ (T : Shared). atℤ T.left d) c.1 ∙ left-lowered S.edges S.left (flowsOf S p) d l
+        ap (λ (T : Shared). atℤ T.left d) c.1 ∙ left_lowered S.edges S.left (flows_of S p) d l
         ∙ ap (λ x. atℤ S.left d -ℤ x) (sym (edge-flow S.edges (S.offer p) d l))
 
-    back : atℤ S.left (rev d) -ℤ onDarts (atℤ (S.offer p)) (rev d) ≡ atℤ S.left (rev d) +ℤ onDarts (atℤ (S.offer p)) d
+    back : atℤ S.left (rev d) -ℤ on_darts (atℤ (S.offer p)) (rev d) ≡ atℤ S.left (rev d) +ℤ on_darts (atℤ (S.offer p)) d
     back =
-        ap (λ z. atℤ S.left (rev d) -ℤ z) (onDarts-antisymmetric (sharedDrawing S).map (atℤ (S.offer p)) d l)
-        ∙ (let a = atoms₂ (atℤ S.left (rev d)) (onDarts (atℤ (S.offer p)) d) in equal (search parts) (omega arith))
+        ap (λ z. atℤ S.left (rev d) -ℤ z) (on_darts_antisymmetric (shared_drawing S).map (atℤ (S.offer p)) d l)
+        ∙ (let a = atoms₂ (atℤ S.left (rev d)) (on_darts (atℤ (S.offer p)) d) in equal (search parts) (omega arith))
 
 -- where another party stands after a commit
-stands-beside : (S S' : Shared) (p q : ℕ) → Commits S p S' verdict.Passed → q ≢ p → S'.standing q ≡ staled (S.standing q)
-stands-beside S S' p q c h = ap (λ (T : Shared). T.standing q) c.1 ∙ other q p committed (staled (S.standing q)) (λ g. h (sym g))
+stands_beside : (S S' : Shared) (p q : ℕ) → Commits S p S' verdict.Passed → q ≢ p → S'.standing q ≡ staled (S.standing q)
+stands_beside S S' p q c h = ap (λ (T : Shared). T.standing q) c.1 ∙ other q p committed (staled (S.standing q)) (λ g. h (sym g))
 
 -- who has committed has until a clear
-ask-stays : (S : Shared) (p o : ℕ) (flows' : List ℤ) (r : SolveAnswer) → S.standing p ≡ committed
-    → ((p ≡ o) → r ≢ Can) → ((p ≡ o) → (n : ℕ) → r ≢ Cannot n) → (afterAsk S o flows' r).standing p ≡ committed
-ask-stays S p o flows' Can e can cannot = by (ℕ_discrete p o)
+ask_stays : (S : Shared) (p o : ℕ) (flows' : List ℤ) (r : SolveAnswer) → S.standing p ≡ committed
+    → ((p ≡ o) → r ≢ Can) → ((p ≡ o) → (n : ℕ) → r ≢ Cannot n) → (after_ask S o flows' r).standing p ≡ committed
+ask_stays S p o flows' Can e can cannot = by (ℕ_discrete p o)
   where
     by : Dec (p ≡ o) → cond (eqb p o) offered (S.standing p) ≡ committed
     by (yes h) = absurd (can h refl)
     by (no h) = other p o offered (S.standing p) (λ g. h (sym g)) ∙ e
-ask-stays S p o flows' (Cannot n) e can cannot = by (ℕ_discrete p o)
+ask_stays S p o flows' (Cannot n) e can cannot = by (ℕ_discrete p o)
   where
     by : Dec (p ≡ o) → cond (eqb p o) idle (S.standing p) ≡ committed
     by (yes h) = absurd (cannot h n refl)
     by (no h) = other p o idle (S.standing p) (λ g. h (sym g)) ∙ e
-ask-stays S p o flows' (Refused k q) e can cannot = e
+ask_stays S p o flows' (Refused k q) e can cannot = e
 
 still : (t : Bool) (a : ℕ) → a ≡ committed → cond t committed (staled a) ≡ committed
 still true a e = refl
 still false a e = ap staled e
 
 stays : (S S' : Shared) (e : Event) (p : ℕ) → Step S e S' → e ≢ clears → S.standing p ≡ committed → S'.standing p ≡ committed
-stays S S' e p (ask-step o k flows' set' r a) h c =
-    ap (λ (T : Shared). T.standing p) a.after ∙ ask-stays S p o flows' r c
-    (λ g f. asked-may S o k.source k.sink k.value k.flows k.set
+stays S S' e p (ask_step o k flows' set' r a) h c =
+    ap (λ (T : Shared). T.standing p) a.after ∙ ask_stays S p o flows' r c
+    (λ g f. asked_may S o k.source k.sink k.value k.flows k.set
     (subst (Asks S o k.source k.sink k.value k.flows flows' k.set set' S') f a).solved.0 (subst (λ b. S.standing b ≡ committed) g c))
-    (λ g n f. asked-may S o k.source k.sink k.value k.flows k.set
+    (λ g n f. asked_may S o k.source k.sink k.value k.flows k.set
     (subst (Asks S o k.source k.sink k.value k.flows flows' k.set set' S') f a).solved.0 (subst (λ b. S.standing b ≡ committed) g c))
-stays S S' e p (commit-step o verdict.Passed a) h c = ap (λ (T : Shared). T.standing p) a.1 ∙ still (eqb p o) (S.standing p) c
-stays S S' e p (commit-step o (verdict.Refused k q) a) h c = ap (λ (T : Shared). T.standing p) a.1 ∙ c
+stays S S' e p (commit_step o verdict.Passed a) h c = ap (λ (T : Shared). T.standing p) a.1 ∙ still (eqb p o) (S.standing p) c
+stays S S' e p (commit_step o (verdict.Refused k q) a) h c = ap (λ (T : Shared). T.standing p) a.1 ∙ c
 stays S S' e p clear_step h c = absurd (h refl)
 
 pub any_value : AnyValue
 any_value = record {
-  can-offers = λ S S' p source sink value flows flows' set set' a.
+  can_offers = λ S S' p source sink value flows flows' set set' a.
       let xs = filled S.edges (atℤ flows') (S.offer p) in (
-        put-stands S S' p offered xs a.after,
+        put_stands S S' p offered xs a.after,
         (λ e l. ap (λ (T : Shared). atℤ (T.offer p) e) a.after ∙ ap (λ (ys : List ℤ). atℤ ys e) (own p xs (S.offer p))
-            ∙ filled-front (pos 0) S.edges (atℤ flows') (S.offer p) xs refl e l),
-        put-others S S' p offered xs a.after,
+            ∙ filled_front (pos 0) S.edges (atℤ flows') (S.offer p) xs refl e l),
+        put_others S S' p offered xs a.after,
       );
-  cannot-clears = λ S S' p source sink value flows flows' set set' n a.
-      (put-stands S S' p idle (S.offer p) a.after, put-others S S' p idle (S.offer p) a.after);
-  commit-lowers = lowers;
-  commit-stands = λ S S' p c. ap (λ (T : Shared). T.standing p) c.1 ∙ own p committed (staled (S.standing p));
-  commit-stales = λ S S' p q c h e. stands-beside S S' p q c h ∙ ap staled e;
-  commit-leaves = λ S S' p q c h e. stands-beside S S' p q c h ∙ sym (staled-other (S.standing q) e);
-  clear-removes = λ S. (refl, λ q. refl);
-  committed-ask = λ S S' p source sink value flows flows' set set' answer l e a.
-      told S p source sink value flows set flows' set' S' answer 30 0 (ask-committed S p source sink value flows set l e) a;
-  committed-commit = λ S S' p answer l e c. verdict-is S p S' answer (verdict.Refused 30 0) (has-committed S p (λ m. absurd (omega (arith, l, m))) e) c;
-  committed-stays = stays;
-  ask-29 = λ S S' p source sink value flows flows' set set' answer a. ask-29 S p source sink value flows set flows' set' S' answer a;
-  commit-29 = λ S S' p answer c. commit-29 S p S' answer c;
-  ask-keeps = λ S S' p source sink value flows flows' set set' k q a. (a.after, a.solved.1, a.solved.2);
-  commit-keeps = λ S S' p k q c. c.1;
-  unfit-13 = λ S S' p source sink value flows flows' set set' answer unfit may a.
-      told S p source sink value flows set flows' set' S' answer 13 0 (ask-unfit S p source sink value flows set may.0 may.1 unfit) a;
+  cannot_clears = λ S S' p source sink value flows flows' set set' n a.
+      (put_stands S S' p idle (S.offer p) a.after, put_others S S' p idle (S.offer p) a.after);
+  commit_lowers = lowers;
+  commit_stands = λ S S' p c. ap (λ (T : Shared). T.standing p) c.1 ∙ own p committed (staled (S.standing p));
+  commit_stales = λ S S' p q c h e. stands_beside S S' p q c h ∙ ap staled e;
+  commit_leaves = λ S S' p q c h e. stands_beside S S' p q c h ∙ sym (staled_other (S.standing q) e);
+  clear_removes = λ S. (refl, λ q. refl);
+  committed_ask = λ S S' p source sink value flows flows' set set' answer l e a.
+      told S p source sink value flows set flows' set' S' answer 30 0 (ask_committed S p source sink value flows set l e) a;
+  committed_commit = λ S S' p answer l e c. verdict_is S p S' answer (verdict.Refused 30 0) (has_committed S p (λ m. absurd (omega (arith, l, m))) e) c;
+  committed_stays = stays;
+  ask_29 = λ S S' p source sink value flows flows' set set' answer a. ask_29 S p source sink value flows set flows' set' S' answer a;
+  commit_29 = λ S S' p answer c. commit_29 S p S' answer c;
+  ask_keeps = λ S S' p source sink value flows flows' set set' k q a. (a.after, a.solved.1, a.solved.2);
+  commit_keeps = λ S S' p k q c. c.1;
+  unfit_13 = λ S S' p source sink value flows flows' set set' answer unfit may a.
+      told S p source sink value flows set flows' set' S' answer 13 0 (ask_unfit S p source sink value flows set may.0 may.1 unfit) a;
 }

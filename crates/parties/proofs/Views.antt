@@ -8,11 +8,11 @@ use mathlib.Core.List.{List}
 use native.Mathlib.Omega.{arith}
 use lib.Dec.{eqb}
 use lib.IntN.{ℤ}
-use Rattle.integers.proofs.Tests.{eqb-true, eqb-false}
+use Rattle.integers.proofs.Tests.{eqb_true, eqb_false}
 use Rattle.refusals.specs.Order.{NoneOf, Judged}
 use Rattle.refusals.specs.declared.Verdict.{Verdict}
 use Rattle.refusals.specs.declared.Verdict.TheVariants as verdict
-use Rattle.refusals.proofs.Order.{first_one, judged-one}
+use Rattle.refusals.proofs.Order.{first_one, judged_one}
 use Rattle.maps.specs.Drawing.{Drawing}
 use Rattle.arrays.specs.At.{atℤ}
 use Rattle.arrays.specs.Filled.{tabulate, filled}
@@ -20,12 +20,12 @@ use Rattle.questions.specs.Solve.{Solved}
 use Rattle.questions.specs.inner.Named.{SetNamed}
 use Rattle.questions.specs.declared.SolveAnswer.{SolveAnswer}
 use Rattle.questions.specs.declared.SolveAnswer.TheVariants.{Can, Cannot, Refused}
-use Rattle.questions.proofs.OneAnswer.{solved-one}
+use Rattle.questions.proofs.OneAnswer.{solved_one}
 use Rattle.sessions.specs.Fit.{Fit, OnFit}
 use Rattle.sessions.specs.Ask as ask
-use Rattle.sessions.proofs.Fitting.{fit-plane}
-use Rattle.parties.specs.Shared.{idle, offered, committed, staled, Shared, sharedDrawing, put, loweredBy, flowsOf, letIn}
-use Rattle.parties.specs.Calls.{askChecks, commitChecks, afterAsk, Asks, Commits}
+use Rattle.sessions.proofs.Fitting.{fit_plane}
+use Rattle.parties.specs.Shared.{idle, offered, committed, staled, Shared, shared_drawing, put, lowered_by, flows_of, let_in}
+use Rattle.parties.specs.Calls.{ask_checks, commit_checks, after_ask, Asks, Commits}
 
 pub record View : Type 0 where
   pub nodes : ℕ
@@ -81,101 +81,101 @@ turned v left a xs = record {
 
 -- ── an answer, of the view alone ──
 record AskedOf (v : View) (q source sink : ℕ) (value : ℤ) (flows flows' : List ℤ) (set set' : List ℕ) (r : SolveAnswer) : Type 0 where
-  solved : Solved (sharedDrawing (looks v)) (askChecks (sharedDrawing (looks v)) v.mine q source sink value flows set) source sink value
+  solved : Solved (shared_drawing (looks v)) (ask_checks (shared_drawing (looks v)) v.mine q source sink value flows set) source sink value
       flows flows' set set' r
-  named : SetNamed (sharedDrawing (looks v)) source sink value set' r
-  on-fit : OnFit (sharedDrawing (looks v)) r
+  named : SetNamed (shared_drawing (looks v)) source sink value set' r
+  on_fit : OnFit (shared_drawing (looks v)) r
 
 asked_of : {S S' : Shared} {q source sink : ℕ} {value : ℤ} {flows flows' : List ℤ} {set set' : List ℕ} {r : SolveAnswer}
     → Asks S q source sink value flows flows' set set' S' r → AskedOf (view q S) q source sink value flows flows' set set' r
-asked_of a = record { solved = a.solved; named = a.named; on-fit = a.on-fit }
+asked_of a = record { solved = a.solved; named = a.named; on_fit = a.on_fit }
 
 module _ (v : View) (q source sink : ℕ) (value : ℤ) (flows : List ℤ) (set : List ℕ) where
   abbrev 𝓓 : Drawing
-  𝓓 = sharedDrawing (looks v)
+  𝓓 = shared_drawing (looks v)
 
-  ends : NoneOf (askChecks (sharedDrawing (looks v)) v.mine q source sink value flows set) → (source < v.nodes) × (sink < v.nodes) × (source ≢ sink)
-  unfolding NoneOf askChecks ask.askChecks
+  ends : NoneOf (ask_checks (shared_drawing (looks v)) v.mine q source sink value flows set) → (source < v.nodes) × (sink < v.nodes) × (source ≢ sink)
+  unfolding NoneOf ask_checks ask.ask_checks
   ends h =
       let a : v.nodes ≤ source → ⊥ = λ l. h.1.1.0 (inl l) in
       let b : v.nodes ≤ sink → ⊥ = λ l. h.1.1.0 (inr (inl l)) in
       (omega (arith, a), omega (arith, b), h.1.1.1.0)
 
-  on_one : {flows' flows'' : List ℤ} {set' set'' : List ℕ} (r r' : SolveAnswer) → Fit (sharedDrawing (looks v))
+  on_one : {flows' flows'' : List ℤ} {set' set'' : List ℕ} (r r' : SolveAnswer) → Fit (shared_drawing (looks v))
       → AskedOf v q source sink value flows flows' set set' r → AskedOf v q source sink value flows flows'' set set'' r'
       → (r ≡ r') × (flows' ≡ flows'') × (set' ≡ set'')
   on_one {flows'} {flows''} {set'} {set''} r r' fit a b =
-      solved-one (sharedDrawing (looks v)) (fit-plane (sharedDrawing (looks v)) fit) fit.bounds.outer-in
-      (askChecks (sharedDrawing (looks v)) v.mine q source sink value flows set) source sink value ends flows set
+      solved_one (shared_drawing (looks v)) (fit_plane (shared_drawing (looks v)) fit) fit.bounds.outer_in
+      (ask_checks (shared_drawing (looks v)) v.mine q source sink value flows set) source sink value ends flows set
       flows' flows'' set' set'' r r' a.solved a.named b.solved b.named
 
-  asked-one : {flows' flows'' : List ℤ} {set' set'' : List ℕ} (r r' : SolveAnswer)
+  asked_one : {flows' flows'' : List ℤ} {set' set'' : List ℕ} (r r' : SolveAnswer)
       → AskedOf v q source sink value flows flows' set set' r → AskedOf v q source sink value flows flows'' set set'' r'
       → (r ≡ r') × (flows' ≡ flows'') × (set' ≡ set'')
-  asked-one Can r' a b = on_one Can r' a.on-fit a b
-  asked-one (Cannot n) r' a b = on_one (Cannot n) r' a.on-fit a b
-  asked-one (Refused k p) Can a b = on_one (Refused k p) Can b.on-fit a b
-  asked-one (Refused k p) (Cannot n) a b = on_one (Refused k p) (Cannot n) b.on-fit a b
-  asked-one (Refused k p) (Refused j o) a b =
+  asked_one Can r' a b = on_one Can r' a.on_fit a b
+  asked_one (Cannot n) r' a b = on_one (Cannot n) r' a.on_fit a b
+  asked_one (Refused k p) Can a b = on_one (Refused k p) Can b.on_fit a b
+  asked_one (Refused k p) (Cannot n) a b = on_one (Refused k p) (Cannot n) b.on_fit a b
+  asked_one (Refused k p) (Refused j o) a b =
       let e = first_one _ k p j o a.solved.0 b.solved.0 in
       (ap₂ Refused e.0 e.1, a.solved.1 ∙ sym b.solved.1, a.solved.2 ∙ sym b.solved.2)
 
 -- ── the view after it ──
 pub own : {A : Type 0} (q : ℕ) (a b : A) → cond (eqb q q) a b ≡ a
-own q a b = ap (λ t. cond t a b) (eqb-true q q refl)
+own q a b = ap (λ t. cond t a b) (eqb_true q q refl)
 
 pub other : {A : Type 0} (q p : ℕ) (a b : A) → p ≢ q → cond (eqb q p) a b ≡ b
-other q p a b h = ap (λ t. cond t a b) (eqb-false q p (λ e. h (sym e)))
+other q p a b h = ap (λ t. cond t a b) (eqb_false q p (λ e. h (sym e)))
 
-afterView : View → List ℤ → SolveAnswer → View
-afterView v flows' Can = turned v v.left offered (filled v.edges (atℤ flows') v.offer)
-afterView v flows' (Cannot n) = turned v v.left idle v.offer
-afterView v flows' (Refused k p) = v
+after_view : View → List ℤ → SolveAnswer → View
+after_view v flows' Can = turned v v.left offered (filled v.edges (atℤ flows') v.offer)
+after_view v flows' (Cannot n) = turned v v.left idle v.offer
+after_view v flows' (Refused k p) = v
 
 put_view : (q : ℕ) (S : Shared) (a : ℕ) (xs : List ℤ) → view q (put S q a xs) ≡ turned (view q S) S.left a xs
 put_view q S a xs = ap₂ (turned (view q S) S.left) (own q a (S.standing q)) (own q xs (S.offer q))
 
-after-view : (q : ℕ) (S : Shared) (flows' : List ℤ) (r : SolveAnswer) → view q (afterAsk S q flows' r) ≡ afterView (view q S) flows' r
-unfolding afterView
+after-view : (q : ℕ) (S : Shared) (flows' : List ℤ) (r : SolveAnswer) → view q (after_ask S q flows' r) ≡ after_view (view q S) flows' r
+unfolding after_view
 after-view q S flows' Can = put_view q S offered _
 after-view q S flows' (Cannot n) = put_view q S idle _
 after-view q S flows' (Refused k p) = refl
 
-pub ask-one : (q : ℕ) (S T : Shared) → view q S ≡ view q T → (source sink : ℕ) (value : ℤ) (flows : List ℤ) (set : List ℕ)
+pub ask_one : (q : ℕ) (S T : Shared) → view q S ≡ view q T → (source sink : ℕ) (value : ℤ) (flows : List ℤ) (set : List ℕ)
     → {flows' flows'' : List ℤ} {set' set'' : List ℕ} {S' T' : Shared} (r r' : SolveAnswer)
     → Asks S q source sink value flows flows' set set' S' r → Asks T q source sink value flows flows'' set set'' T' r'
     → (r ≡ r') × (flows' ≡ flows'') × (set' ≡ set'') × (view q S' ≡ view q T')
-ask-one q S T e source sink value flows set {flows'} {flows''} {set'} {set''} {S'} {T'} r r' a b =
-    let o = asked-one (view q T) q source sink value flows set r r'
+ask_one q S T e source sink value flows set {flows'} {flows''} {set'} {set''} {S'} {T'} r r' a b =
+    let o = asked_one (view q T) q source sink value flows set r r'
     (subst (λ v. AskedOf v q source sink value flows flows' set set' r) e (asked_of a)) (asked_of b) in (
       o.0,
       o.1,
       o.2,
-      ap (view q) a.after ∙ after-view q S flows' r ∙ ap (λ v. afterView v flows' r) e ∙ ap₂ (afterView (view q T)) o.1 o.0
+      ap (view q) a.after ∙ after-view q S flows' r ∙ ap (λ v. after_view v flows' r) e ∙ ap₂ (after_view (view q T)) o.1 o.0
           ∙ sym (after-view q T flows'' r') ∙ sym (ap (view q) b.after),
     )
 
 -- ── a commit ──
-commit-judged : (q : ℕ) (S S' : Shared) (v : Verdict) → Commits S q S' v → Judged (commitChecks (looks (view q S)) q) v
-unfolding commitChecks
-commit-judged q S S' verdict.Passed c = c.0
-commit-judged q S S' (verdict.Refused k p) c = c.0
+commit_judged : (q : ℕ) (S S' : Shared) (v : Verdict) → Commits S q S' v → Judged (commit_checks (looks (view q S)) q) v
+unfolding commit_checks
+commit_judged q S S' verdict.Passed c = c.0
+commit_judged q S S' (verdict.Refused k p) c = c.0
 
-committedView : View → View
-committedView v = turned v (loweredBy v.edges v.left (tabulate v.edges (atℤ v.offer))) committed v.offer
+committed_view : View → View
+committed_view v = turned v (lowered_by v.edges v.left (tabulate v.edges (atℤ v.offer))) committed v.offer
 
-let-in-view : (q : ℕ) (S : Shared) → view q (letIn S q) ≡ committedView (view q S)
-unfolding committedView
-let-in-view q S = ap (λ a. turned (view q S) (loweredBy S.edges S.left (flowsOf S q)) a (S.offer q)) (own q committed (staled (S.standing q)))
+let_in_view : (q : ℕ) (S : Shared) → view q (let_in S q) ≡ committed_view (view q S)
+unfolding committed_view
+let_in_view q S = ap (λ a. turned (view q S) (lowered_by S.edges S.left (flows_of S q)) a (S.offer q)) (own q committed (staled (S.standing q)))
 
-commit-views : (q : ℕ) (S T : Shared) → view q S ≡ view q T → (S' T' : Shared) (v : Verdict) → Commits S q S' v → Commits T q T' v → view q S' ≡ view q T'
-commit-views q S T e S' T' verdict.Passed a b =
-    ap (view q) a.1 ∙ let-in-view q S ∙ ap committedView e ∙ sym (let-in-view q T) ∙ sym (ap (view q) b.1)
-commit-views q S T e S' T' (verdict.Refused k p) a b = ap (view q) a.1 ∙ e ∙ sym (ap (view q) b.1)
+commit_views : (q : ℕ) (S T : Shared) → view q S ≡ view q T → (S' T' : Shared) (v : Verdict) → Commits S q S' v → Commits T q T' v → view q S' ≡ view q T'
+commit_views q S T e S' T' verdict.Passed a b =
+    ap (view q) a.1 ∙ let_in_view q S ∙ ap committed_view e ∙ sym (let_in_view q T) ∙ sym (ap (view q) b.1)
+commit_views q S T e S' T' (verdict.Refused k p) a b = ap (view q) a.1 ∙ e ∙ sym (ap (view q) b.1)
 
-pub commit-one : (q : ℕ) (S T : Shared) → view q S ≡ view q T → (S' T' : Shared) (v w : Verdict) → Commits S q S' v → Commits T q T' w
+pub commit_one : (q : ℕ) (S T : Shared) → view q S ≡ view q T → (S' T' : Shared) (v w : Verdict) → Commits S q S' v → Commits T q T' w
     → (v ≡ w) × (view q S' ≡ view q T')
-commit-one q S T e S' T' v w a b =
-    let same : v ≡ w = judged-one (commitChecks (looks (view q T)) q) v w
-    (subst (λ u. Judged (commitChecks (looks u) q) v) e (commit-judged q S S' v a)) (commit-judged q T T' w b) in
-    (same, commit-views q S T e S' T' w (subst (Commits S q S') same a) b)
+commit_one q S T e S' T' v w a b =
+    let same : v ≡ w = judged_one (commit_checks (looks (view q T)) q) v w
+    (subst (λ u. Judged (commit_checks (looks u) q) v) e (commit_judged q S S' v a)) (commit_judged q T T' w b) in
+    (same, commit_views q S T e S' T' w (subst (Commits S q S') same a) b)

@@ -13,33 +13,33 @@ use Rattle.questions.specs.declared.SolveAnswer.{SolveAnswer}
 use Rattle.questions.specs.declared.SolveAnswer.TheVariants.{Can, Cannot, Refused}
 use Rattle.sessions.specs.Fit.{Lowerable, OnFit}
 use Rattle.sessions.specs.Ask as ask
-use Rattle.parties.specs.Shared.{idle, offered, stale, committed, Shared, sharedDrawing, put, letIn}
+use Rattle.parties.specs.Shared.{idle, offered, stale, committed, Shared, shared_drawing, put, let_in}
 
-unfoldable pub askChecks : Drawing → (standing : ℕ) → (party source sink : ℕ) → ℤ → List ℤ → List ℕ → List Check
-askChecks 𝓓 standing party source sink value flows set =
-    (29 when 2 ≤ party) ∷ (30 when standing ≡ committed) ∷ ask.askChecks 𝓓 source sink value flows set
+unfoldable pub ask_checks : Drawing → (standing : ℕ) → (party source sink : ℕ) → ℤ → List ℤ → List ℕ → List Check
+ask_checks 𝓓 standing party source sink value flows set =
+    (29 when 2 ≤ party) ∷ (30 when standing ≡ committed) ∷ ask.ask_checks 𝓓 source sink value flows set
 
 -- an offer that the limits left cannot be lowered by, which no session begun by a start has, is under 31
-unfoldable pub commitChecks : Shared → ℕ → List Check
-commitChecks S p =
+unfoldable pub commit_checks : Shared → ℕ → List Check
+commit_checks S p =
     (29 when 2 ≤ p)
     ∷ (30 when S.standing p ≡ committed)
     ∷ (28 when (S.standing p ≢ offered) × (S.standing p ≢ stale))
     ∷ (31 when (S.standing p ≡ stale) ⊎ (Lowerable S.edges (atℤ S.left) (atℤ (S.offer p)) → ⊥))
     ∷ []
 
-abbrev pub afterAsk : Shared → ℕ → List ℤ → SolveAnswer → Shared
-afterAsk S p flows' Can = put S p offered (filled S.edges (atℤ flows') (S.offer p))
-afterAsk S p flows' (Cannot n) = put S p idle (S.offer p)
-afterAsk S p flows' (Refused k q) = S
+abbrev pub after_ask : Shared → ℕ → List ℤ → SolveAnswer → Shared
+after_ask S p flows' Can = put S p offered (filled S.edges (atℤ flows') (S.offer p))
+after_ask S p flows' (Cannot n) = put S p idle (S.offer p)
+after_ask S p flows' (Refused k q) = S
 
 -- Ask: Solve's answer on the limits left, the set the one that the search names; then the session after it
 pub record Asks (S : Shared) (p source sink : ℕ) (value : ℤ) (flows flows' : List ℤ) (set set' : List ℕ) (S' : Shared) (r : SolveAnswer) : Type 0 where
-  pub solved : Solved (sharedDrawing S) (askChecks (sharedDrawing S) (S.standing p) p source sink value flows set) source sink value flows flows' set set' r
-  pub named : SetNamed (sharedDrawing S) source sink value set' r
-  pub on-fit : OnFit (sharedDrawing S) r
-  pub after : S' ≡ afterAsk S p flows' r
+  pub solved : Solved (shared_drawing S) (ask_checks (shared_drawing S) (S.standing p) p source sink value flows set) source sink value flows flows' set set' r
+  pub named : SetNamed (shared_drawing S) source sink value set' r
+  pub on_fit : OnFit (shared_drawing S) r
+  pub after : S' ≡ after_ask S p flows' r
 
 abbrev pub Commits : Shared → ℕ → Shared → Verdict → Type 0
-Commits S p S' verdict.Passed = NoneOf (commitChecks S p) × (S' ≡ letIn S p)
-Commits S p S' (verdict.Refused k q) = FirstOf (commitChecks S p) k q × (S' ≡ S)
+Commits S p S' verdict.Passed = NoneOf (commit_checks S p) × (S' ≡ let_in S p)
+Commits S p S' (verdict.Refused k q) = FirstOf (commit_checks S p) k q × (S' ≡ S)

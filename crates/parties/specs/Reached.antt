@@ -2,7 +2,7 @@
 -- parties' flows since the last clear."
 use Rattle.std.specs.Prelude.{ℕ, ◌≡◌, List, [], ◌∷◌, ℤ, pos, ◌+ℤ◌}
 use Rattle.refusals.specs.declared.Verdict.TheVariants.{Passed, Refused}
-use Rattle.flows.specs.Settings.{onDarts}
+use Rattle.flows.specs.Settings.{on_darts}
 use Rattle.arrays.specs.At.{atℤ}
 use Rattle.parties.specs.Shared.{Shared}
 use Rattle.parties.specs.Start.{Starts}
@@ -11,7 +11,7 @@ use Rattle.parties.specs.Seen.{Event, asks, commits, clears, Run}
 -- what flows that were let in come to on a dart
 unfoldable pub total : List (List ℤ) → ℕ → ℤ
 total [] d = pos 0
-total (xs ∷ fs) d = onDarts (atℤ xs) d +ℤ total fs d
+total (xs ∷ fs) d = on_darts (atℤ xs) d +ℤ total fs d
 
 -- the flows let in after an event, where fs were before it, the last in front: whose commit it was does not matter, and a clear begins anew
 unfoldable pub booked : List (List ℤ) → Event → List (List ℤ)
@@ -32,7 +32,7 @@ pub record Reached (s : List ℕ) (S : Shared) (fs : List (List ℤ)) : Type 0 w
   pub starts : Starts s first Passed
   pub events : List Event
   pub run : Run first events S
-  pub flows-are : fs ≡ since [] events
+  pub flows_are : fs ≡ since [] events
 
 -- the same from one that was refused
 pub record Barred (s : List ℕ) (S : Shared) (fs : List (List ℤ)) : Type 0 where
@@ -42,4 +42,4 @@ pub record Barred (s : List ℕ) (S : Shared) (fs : List (List ℤ)) : Type 0 wh
   pub starts : Starts s first (Refused number place)
   pub events : List Event
   pub run : Run first events S
-  pub flows-are : fs ≡ since [] events
+  pub flows_are : fs ≡ since [] events

@@ -5,7 +5,7 @@ use Rattle.std.specs.Prelude.{ℕ, cond, List, [], ◌∷◌, ◌++◌, eqb, ℤ
 use Rattle.refusals.specs.declared.Verdict.{Verdict}
 use Rattle.refusals.specs.declared.Verdict.TheVariants as verdict
 use Rattle.questions.specs.declared.SolveAnswer.{SolveAnswer}
-use Rattle.parties.specs.Shared.{Shared, cleared, flowsOf}
+use Rattle.parties.specs.Shared.{Shared, cleared, flows_of}
 use Rattle.parties.specs.Calls.{Asks, Commits}
 
 -- a question with the slices that it is lent
@@ -29,8 +29,8 @@ pub data Event : Type 0 where
 
 -- party q sees its own calls, the others' accepted commits with their flows, and clears
 pub data Seen : Type 0 where
-  own-ask : Question → Seen
-  own-commit : Seen
+  own_ask : Question → Seen
+  own_commit : Seen
   theirs : List ℤ → Seen
   wiped : Seen
 
@@ -39,13 +39,13 @@ accepted xs verdict.Passed = theirs xs ∷ []
 accepted xs (verdict.Refused k p) = []
 
 unfoldable pub seen : ℕ → Event → List Seen
-seen q (asks p k flows' set' r) = cond (eqb p q) (own-ask k ∷ []) []
-seen q (commits p xs v) = cond (eqb p q) (own-commit ∷ []) (accepted xs v)
+seen q (asks p k flows' set' r) = cond (eqb p q) (own_ask k ∷ []) []
+seen q (commits p xs v) = cond (eqb p q) (own_commit ∷ []) (accepted xs v)
 seen q clears = wiped ∷ []
 
-unfoldable pub allSeen : ℕ → List Event → List Seen
-allSeen q [] = []
-allSeen q (e ∷ es) = seen q e ++ allSeen q es
+unfoldable pub all_seen : ℕ → List Event → List Seen
+all_seen q [] = []
+all_seen q (e ∷ es) = seen q e ++ all_seen q es
 
 -- what it gets: the answers to its own calls
 unfoldable pub gift : ℕ → Event → List Gift
@@ -59,9 +59,9 @@ gifts q (e ∷ es) = gift q e ++ gifts q es
 
 -- a call
 pub data Step : Shared → Event → Shared → Type 0 where
-  ask-step : {S S' : Shared} (p : ℕ) (k : Question) (flows' : List ℤ) (set' : List ℕ) (r : SolveAnswer)
+  ask_step : {S S' : Shared} (p : ℕ) (k : Question) (flows' : List ℤ) (set' : List ℕ) (r : SolveAnswer)
       → Asks S p k.source k.sink k.value k.flows flows' k.set set' S' r → Step S (asks p k flows' set' r) S'
-  commit-step : {S S' : Shared} (p : ℕ) (v : Verdict) → Commits S p S' v → Step S (commits p (flowsOf S p) v) S'
+  commit_step : {S S' : Shared} (p : ℕ) (v : Verdict) → Commits S p S' v → Step S (commits p (flows_of S p) v) S'
   clear_step : {S : Shared} → Step S clears (cleared S)
 
 -- a run

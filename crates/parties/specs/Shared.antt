@@ -3,9 +3,9 @@
 -- restores the sheet's limits and removes both offers." It lies in memory that the caller owns and lends to each call: any value can be handed in as one.
 use Rattle.std.specs.Prelude.{ℕ, ◌*◌, cond, List, [], eqb, ℤ, ◌-ℤ◌}
 use Rattle.maps.specs.Drawing.{Drawing}
-use Rattle.flows.specs.Settings.{onDarts}
+use Rattle.flows.specs.Settings.{on_darts}
 use Rattle.arrays.specs.At.{at, atℤ}
-use Rattle.arrays.specs.Maps.{drawingOf}
+use Rattle.arrays.specs.Maps.{drawing_of}
 use Rattle.arrays.specs.Filled.{tabulate, filled}
 
 -- where a party stands: no offer, an offer, an offer that another's commit made stale, or it has committed. Any other number is as no offer
@@ -34,12 +34,12 @@ pub record Shared : Type 0 where
   pub offer : ℕ → List ℤ
 
 -- the offers of the parties 0 and 1
-abbrev pub offersOf : (first second : List ℤ) → ℕ → List ℤ
-offersOf first second q = cond (eqb q 0) first (cond (eqb q 1) second [])
+abbrev pub offers_of : (first second : List ℤ) → ℕ → List ℤ
+offers_of first second q = cond (eqb q 0) first (cond (eqb q 1) second [])
 
 -- the session in the caller's memory: a byte of standing for each party, and an array for each party's offer
-abbrev pub sharedOf : (nodes edges outer : ℕ) (tails rotations : List ℕ) (limits left : List ℤ) (standing : List ℕ) (first second : List ℤ) → Shared
-sharedOf nodes edges outer tails rotations limits left standing first second = record {
+abbrev pub shared_of : (nodes edges outer : ℕ) (tails rotations : List ℕ) (limits left : List ℤ) (standing : List ℕ) (first second : List ℤ) → Shared
+shared_of nodes edges outer tails rotations limits left standing first second = record {
   nodes = nodes;
   edges = edges;
   outer = outer;
@@ -48,11 +48,11 @@ sharedOf nodes edges outer tails rotations limits left standing first second = r
   limits = limits;
   left = left;
   standing = at standing;
-  offer = offersOf first second;
+  offer = offers_of first second;
 }
 
-abbrev pub sharedDrawing : Shared → Drawing
-sharedDrawing S = drawingOf S.nodes S.edges S.outer S.tails S.rotations S.left
+abbrev pub shared_drawing : Shared → Drawing
+shared_drawing S = drawing_of S.nodes S.edges S.outer S.tails S.rotations S.left
 
 -- party p stands there, with this offer; all else as it was
 abbrev pub put : Shared → ℕ → ℕ → List ℤ → Shared
@@ -73,22 +73,22 @@ abbrev pub staled : ℕ → ℕ
 staled a = cond (eqb a offered) stale a
 
 -- the flows of the offer of p, one for each edge
-abbrev pub flowsOf : Shared → ℕ → List ℤ
-flowsOf S p = tabulate S.edges (atℤ (S.offer p))
+abbrev pub flows_of : Shared → ℕ → List ℤ
+flows_of S p = tabulate S.edges (atℤ (S.offer p))
 
 -- each dart's limit left lowered once by its own flow
-abbrev pub loweredBy : (edges : ℕ) → List ℤ → List ℤ → List ℤ
-loweredBy edges left xs = filled (2 * edges) (λ d. atℤ left d -ℤ onDarts (atℤ xs) d) left
+abbrev pub lowered_by : (edges : ℕ) → List ℤ → List ℤ → List ℤ
+lowered_by edges left xs = filled (2 * edges) (λ d. atℤ left d -ℤ on_darts (atℤ xs) d) left
 
-abbrev pub letIn : Shared → ℕ → Shared
-letIn S p = record {
+abbrev pub let_in : Shared → ℕ → Shared
+let_in S p = record {
   nodes = S.nodes;
   edges = S.edges;
   outer = S.outer;
   tails = S.tails;
   rotations = S.rotations;
   limits = S.limits;
-  left = loweredBy S.edges S.left (flowsOf S p);
+  left = lowered_by S.edges S.left (flows_of S p);
   standing = λ q. cond (eqb q p) committed (staled (S.standing q));
   offer = S.offer;
 }

@@ -6,14 +6,14 @@ use Rattle.refusals.specs.declared.Verdict.{Verdict}
 use Rattle.refusals.specs.declared.Verdict.TheVariants.{Passed, Refused}
 use Rattle.maps.specs.Drawing.{Drawing}
 use Rattle.arrays.specs.Filled.{tabulate}
-use Rattle.records.specs.Sheet.{sheetDrawing}
-use Rattle.sheets.specs.Open.{sheetChecks}
-use Rattle.parties.specs.Shared.{idle, Shared, offersOf}
+use Rattle.records.specs.Sheet.{sheet_drawing}
+use Rattle.sheets.specs.Open.{sheet_checks}
+use Rattle.parties.specs.Shared.{idle, Shared, offers_of}
 
 -- a session begun on a drawing: its numbers, and all of its limits left, in arrays of 1,024; neither party has an offer or has committed, and the arrays of the
 -- offers, of 512, hold zeros
-abbrev pub begunOn : Drawing → Shared
-begunOn 𝓓 = record {
+abbrev pub begun_on : Drawing → Shared
+begun_on 𝓓 = record {
   nodes = 𝓓.map.nodes;
   edges = 𝓓.map.edges;
   outer = 𝓓.outer;
@@ -22,21 +22,21 @@ begunOn 𝓓 = record {
   limits = tabulate 1024 𝓓.capacity;
   left = tabulate 1024 𝓓.capacity;
   standing = λ q. idle;
-  offer = offersOf (tabulate 512 (λ e. pos 0)) (tabulate 512 (λ e. pos 0));
+  offer = offers_of (tabulate 512 (λ e. pos 0)) (tabulate 512 (λ e. pos 0));
 }
 
 -- on a sheet's drawing, which has zeros past its last dart
 abbrev pub started : List ℕ → Shared
-started s = begunOn (sheetDrawing s)
+started s = begun_on (sheet_drawing s)
 
 -- no nodes, no edges, and zeros everywhere
-abbrev pub noDrawing : Drawing
-noDrawing = record { map = record { nodes = 0; edges = 0; tail = λ d. 0; rotation = λ d. 0 }; capacity = λ d. pos 0; outer = 0 }
+abbrev pub no_drawing : Drawing
+no_drawing = record { map = record { nodes = 0; edges = 0; tail = λ d. 0; rotation = λ d. 0 }; capacity = λ d. pos 0; outer = 0 }
 
 abbrev pub emptied : Shared
-emptied = begunOn noDrawing
+emptied = begun_on no_drawing
 
 -- a start from the bytes s, in whatever memory, leaves S'
 abbrev pub Starts : List ℕ → Shared → Verdict → Type 0
-Starts s S' Passed = NoneOf (sheetChecks s) × (S' ≡ started s)
-Starts s S' (Refused k p) = FirstOf (sheetChecks s) k p × (S' ≡ emptied)
+Starts s S' Passed = NoneOf (sheet_checks s) × (S' ≡ started s)
+Starts s S' (Refused k p) = FirstOf (sheet_checks s) k p × (S' ≡ emptied)

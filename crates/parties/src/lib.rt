@@ -4,7 +4,7 @@
 ghost use Rattle.std.specs.Prelude.{◌≡◌, cond, ℕ, ◌<◌, ◌≤◌, eqb, length};
 ghost use Rattle.arrays.specs.At.{at, atℤ};
 ghost use Rattle.arrays.specs.Filled.{filled};
-ghost use Rattle.parties.specs.Shared.{committed, staled, offersOf, sharedOf, cleared};
+ghost use Rattle.parties.specs.Shared.{committed, staled, offers_of, shared_of, cleared};
 ghost use Rattle.parties.specs.Start.{emptied, Starts};
 ghost use Rattle.parties.specs.Calls.{Asks, Commits};
 ghost use Rattle.parties.specs.inner.Taken.{Taken};
@@ -26,7 +26,7 @@ fn erase(
     first: &mut [i32; 512],
     second: &mut [i32; 512],
 )
-    ensures { sharedOf nodes.new edges.new outer.new tails.new rotations.new limits.new
+    ensures { shared_of nodes.new edges.new outer.new tails.new rotations.new limits.new
         left.new standing.new first.new second.new ≡ emptied }
 {
     *nodes = 0;
@@ -76,7 +76,7 @@ pub fn start(
     second: &mut [i32; 512],
 ) -> Verdict
     ensures { Starts sheet.now
-        (sharedOf nodes.new edges.new outer.new tails.new rotations.new limits.new
+        (shared_of nodes.new edges.new outer.new tails.new rotations.new limits.new
         left.new standing.new first.new second.new) result }
 {
     let mut order = [0u16; 1024];
@@ -112,9 +112,9 @@ fn stand(standing: &mut [u8], party: usize, place: u8)
 // The first elements of a slice of flows, into the offer of a party.
 fn keep_offer(party: usize, flows: &[i32], edges: usize, first: &mut [i32], second: &mut [i32])
     requires { (party < 2) × (edges ≤ length flows.now) × (edges ≤ length first.old) × (edges ≤ length second.old) }
-    ensures { offersOf first.new second.new
-        ≡ (λ q. cond (eqb q party) (filled edges (atℤ flows.now) (offersOf first.old second.old party))
-        (offersOf first.old second.old q)) }
+    ensures { offers_of first.new second.new
+        ≡ (λ q. cond (eqb q party) (filled edges (atℤ flows.now) (offers_of first.old second.old party))
+        (offers_of first.old second.old q)) }
 {
     if party == 0 {
         sessions::keep(flows, edges, first);
@@ -150,10 +150,10 @@ pub fn ask<'a>(
     set: &mut [u64],
 ) -> SolveAnswer
     ensures { Asks
-        (sharedOf sizes.nodes sizes.edges sizes.outer tails.now rotations.now limits.now left.now
+        (shared_of sizes.nodes sizes.edges sizes.outer tails.now rotations.now limits.now left.now
         standing.old first.old second.old)
         party source sink value flows.old flows.new set.old set.new
-        (sharedOf sizes.nodes sizes.edges sizes.outer tails.now rotations.now limits.now left.now
+        (shared_of sizes.nodes sizes.edges sizes.outer tails.now rotations.now limits.now left.now
         standing.new first.new second.new) result }
 {
     if party >= 2 {
@@ -259,10 +259,10 @@ pub fn commit<'a>(
     second: &[i32; 512],
 ) -> Verdict
     ensures { Commits
-        (sharedOf nodes edges outer tails.now rotations.now limits.now left.old
+        (shared_of nodes edges outer tails.now rotations.now limits.now left.old
         standing.old first.now second.now)
         party
-        (sharedOf nodes edges outer tails.now rotations.now limits.now left.new
+        (shared_of nodes edges outer tails.now rotations.now limits.now left.new
         standing.new first.now second.now) result }
 {
     if party >= 2 {
@@ -299,9 +299,9 @@ pub fn clear<'a>(
     first: &[i32; 512],
     second: &[i32; 512],
 )
-    ensures { sharedOf nodes edges outer tails.now rotations.now limits.now left.new
+    ensures { shared_of nodes edges outer tails.now rotations.now limits.now left.new
         standing.new first.now second.now
-        ≡ cleared (sharedOf nodes edges outer tails.now rotations.now limits.now left.old
+        ≡ cleared (shared_of nodes edges outer tails.now rotations.now limits.now left.old
         standing.old first.now second.now) }
 {
     restore(limits, left);

@@ -7,11 +7,11 @@ use native.Mathlib.Nat.{suc-mul, mul-suc, mul-le-mul_right, mul-zero, div-add-mo
 use native.Mathlib.Decide.{dec_lt}
 use lib.Dec.{ltb}
 use lib.Arith.{digits_div, digits_mod}
-use Rattle.integers.proofs.Tests.{eqb-true, eqb-false, ltb-true, ltb-false, ltb-lt}
+use Rattle.integers.proofs.Tests.{eqb_true, eqb_false, ltb_true, ltb_false, ltb_lt}
 use Rattle.maps.specs.Dart.{rev}
-use Rattle.maps.proofs.Darts.{rev-even, rev-odd, by-edge}
+use Rattle.maps.proofs.Darts.{rev_even, rev_odd, by_edge}
 use Rattle.practice.specs.Side.{Side, north, east, south, west, next}
-use Rattle.practice.specs.Grid.{placed, across, gridEdges, beginning, ending, place_of, present, dartAt, nodeAt, rotationAt, gridTail, gridRotation}
+use Rattle.practice.specs.Grid.{placed, across, grid_edges, beginning, ending, place_of, present, dart_at, node_at, rotation_at, grid_tail, grid_rotation}
 use Rattle.practice.proofs.Sides.{having}
 
 pub one_less : (n : ℕ) → n + 1 - 1 ≡ n
@@ -21,16 +21,16 @@ pub one_more : (n : ℕ) → 0 < n → n - 1 + 1 ≡ n
 one_more n h = omega arith
 
 -- a row more, and a column more
-pub row-above : (w r : ℕ) → 0 < r → r * w ≡ (r - 1) * w + w
-row-above w zero l = absurd (omega arith)
-row-above w (suc r) l = suc-mul r w ∙ ap (λ x. x * w + w) less
+pub row_above : (w r : ℕ) → 0 < r → r * w ≡ (r - 1) * w + w
+row_above w zero l = absurd (omega arith)
+row_above w (suc r) l = suc-mul r w ∙ ap (λ x. x * w + w) less
   where
     less : r ≡ suc r - 1
     less = omega arith
 
-pub column-left : (r w : ℕ) → 0 < w → r * w ≡ r * (w - 1) + r
-column-left r zero l = absurd (omega arith)
-column-left r (suc w) l = mul-suc r w ∙ ap (λ x. r * x + r) less
+pub column_left : (r w : ℕ) → 0 < w → r * w ≡ r * (w - 1) + r
+column_left r zero l = absurd (omega arith)
+column_left r (suc w) l = mul-suc r w ∙ ap (λ x. r * x + r) less
   where
     less : w ≡ suc w - 1
     less = omega arith
@@ -51,44 +51,44 @@ row_of w n i l = ((div-lt_iff_lt-mul some).1 l, mod-lt i some)
         go (suc w) m = omega arith
 
 module _ (R C : ℕ) where
-  pub place-even : (e : ℕ) → place_of R C (2 * e) ≡ beginning R C e
+  pub place_even : (e : ℕ) → place_of R C (2 * e) ≡ beginning R C e
   unfolding place_of
-  place-even e = rw (eqb-true (2 * e % 2) 0 (omega arith)) (ap (beginning R C) half)
+  place_even e = rw (eqb_true (2 * e % 2) 0 (omega arith)) (ap (beginning R C) half)
     where
       half : 2 * e / 2 ≡ e
       half = omega arith
 
-  pub place-odd : (e : ℕ) → place_of R C (2 * e + 1) ≡ ending R C e
+  pub place_odd : (e : ℕ) → place_of R C (2 * e + 1) ≡ ending R C e
   unfolding place_of
-  place-odd e = rw (eqb-false ((2 * e + 1) % 2) 0 (omega arith)) (ap (ending R C) half)
+  place_odd e = rw (eqb_false ((2 * e + 1) % 2) 0 (omega arith)) (ap (ending R C) half)
     where
       half : (2 * e + 1) / 2 ≡ e
       half = omega arith
 
   -- ── the edge east of row r and column c, and the one south of it ──
   module _ (r c : ℕ) where
-    pub begins-east : r < R → c < C - 1 → beginning R C (r * (C - 1) + c) ≡ placed r c east
+    pub begins_east : r < R → c < C - 1 → beginning R C (r * (C - 1) + c) ≡ placed r c east
     unfolding beginning
-    begins-east lr lc = rw (ltb-true (r * (C - 1) + c) (R * (C - 1)) (in_rows (C - 1) R r c lr lc), digits_div r lc, digits_mod r lc)
+    begins_east lr lc = rw (ltb_true (r * (C - 1) + c) (R * (C - 1)) (in_rows (C - 1) R r c lr lc), digits_div r lc, digits_mod r lc)
 
-    pub ends-west : r < R → c < C - 1 → ending R C (r * (C - 1) + c) ≡ placed r (c + 1) west
+    pub ends_west : r < R → c < C - 1 → ending R C (r * (C - 1) + c) ≡ placed r (c + 1) west
     unfolding ending
-    ends-west lr lc = rw (ltb-true (r * (C - 1) + c) (R * (C - 1)) (in_rows (C - 1) R r c lr lc), digits_div r lc, digits_mod r lc)
+    ends_west lr lc = rw (ltb_true (r * (C - 1) + c) (R * (C - 1)) (in_rows (C - 1) R r c lr lc), digits_div r lc, digits_mod r lc)
 
     rest : R * (C - 1) + (r * C + c) - R * (C - 1) ≡ r * C + c
     rest = omega arith
 
-    pub begins-south : c < C → beginning R C (across R C + (r * C + c)) ≡ placed r c south
+    pub begins_south : c < C → beginning R C (across R C + (r * C + c)) ≡ placed r c south
     unfolding beginning
-    begins-south lc = rw (ltb-false (R * (C - 1) + (r * C + c)) (R * (C - 1)) (omega arith), rest, digits_div r lc, digits_mod r lc)
+    begins_south lc = rw (ltb_false (R * (C - 1) + (r * C + c)) (R * (C - 1)) (omega arith), rest, digits_div r lc, digits_mod r lc)
 
-    pub ends-north : c < C → ending R C (across R C + (r * C + c)) ≡ placed (r + 1) c north
+    pub ends_north : c < C → ending R C (across R C + (r * C + c)) ≡ placed (r + 1) c north
     unfolding ending
-    ends-north lc = rw (ltb-false (R * (C - 1) + (r * C + c)) (R * (C - 1)) (omega arith), rest, digits_div r lc, digits_mod r lc)
+    ends_north lc = rw (ltb_false (R * (C - 1) + (r * C + c)) (R * (C - 1)) (omega arith), rest, digits_div r lc, digits_mod r lc)
 
-  pub present-having : (r c : ℕ) → present R C r c ≡ having (ltb 0 r) (ltb (c + 1) C) (ltb (r + 1) R) (ltb 0 c)
+  pub present_having : (r c : ℕ) → present R C r c ≡ having (ltb 0 r) (ltb (c + 1) C) (ltb (r + 1) R) (ltb 0 c)
   unfolding present having
-  present-having r c = fun_ext go
+  present_having r c = fun_ext go
     where
       go : (s : Side) → present R C r c s ≡ having (ltb 0 r) (ltb (c + 1) C) (ltb (r + 1) R) (ltb 0 c) s
       go north = refl
@@ -97,123 +97,123 @@ module _ (R C : ℕ) where
       go west = refl
 
   -- ── the dart that leaves a node on a side ──
-  module _ (r c : ℕ) (r-in : r < R) (c-in : c < C) where
-    pub place_at : (s : Side) → present R C r c s ≡ true → place_of R C (dartAt R C r c s) ≡ placed r c s
-    unfolding present dartAt
+  module _ (r c : ℕ) (r_in : r < R) (c_in : c < C) where
+    pub place_at : (s : Side) → present R C r c s ≡ true → place_of R C (dart_at R C r c s) ≡ placed r c s
+    unfolding present dart_at
     place_at north h =
-        let l : 0 < r = ltb-lt 0 r h in
-        place-odd (across R C + ((r - 1) * C + c)) ∙ ends-north (r - 1) c c-in ∙ ap (λ x. placed x c north) (one_more r l)
+        let l : 0 < r = ltb_lt 0 r h in
+        place_odd (across R C + ((r - 1) * C + c)) ∙ ends_north (r - 1) c c_in ∙ ap (λ x. placed x c north) (one_more r l)
     place_at east h =
-        let l : c + 1 < C = ltb-lt (c + 1) C h in
-        place-even (r * (C - 1) + c) ∙ begins-east r c r-in (omega arith)
-    place_at south h = place-even (across R C + (r * C + c)) ∙ begins-south r c c-in
+        let l : c + 1 < C = ltb_lt (c + 1) C h in
+        place_even (r * (C - 1) + c) ∙ begins_east r c r_in (omega arith)
+    place_at south h = place_even (across R C + (r * C + c)) ∙ begins_south r c c_in
     place_at west h =
-        let l : 0 < c = ltb-lt 0 c h in
-        place-odd (r * (C - 1) + (c - 1)) ∙ ends-west r (c - 1) r-in (omega arith) ∙ ap (λ x. placed r x west) (one_more c l)
+        let l : 0 < c = ltb_lt 0 c h in
+        place_odd (r * (C - 1) + (c - 1)) ∙ ends_west r (c - 1) r_in (omega arith) ∙ ap (λ x. placed r x west) (one_more c l)
 
-    pub dart-in : (s : Side) → present R C r c s ≡ true → dartAt R C r c s < 2 * gridEdges R C
-    unfolding present dartAt
-    dart-in north h = let l : 0 < r = ltb-lt 0 r h in omega (arith, in_rows C (R - 1) (r - 1) c (omega arith) c-in)
-    dart-in east h = let l : c + 1 < C = ltb-lt (c + 1) C h in omega (arith, in_rows (C - 1) R r c r-in (omega arith))
-    dart-in south h = let l : r + 1 < R = ltb-lt (r + 1) R h in omega (arith, in_rows C (R - 1) r c (omega arith) c-in)
-    dart-in west h = let l : 0 < c = ltb-lt 0 c h in omega (arith, in_rows (C - 1) R r (c - 1) r-in (omega arith))
+    pub dart_in : (s : Side) → present R C r c s ≡ true → dart_at R C r c s < 2 * grid_edges R C
+    unfolding present dart_at
+    dart_in north h = let l : 0 < r = ltb_lt 0 r h in omega (arith, in_rows C (R - 1) (r - 1) c (omega arith) c_in)
+    dart_in east h = let l : c + 1 < C = ltb_lt (c + 1) C h in omega (arith, in_rows (C - 1) R r c r_in (omega arith))
+    dart_in south h = let l : r + 1 < R = ltb_lt (r + 1) R h in omega (arith, in_rows C (R - 1) r c (omega arith) c_in)
+    dart_in west h = let l : 0 < c = ltb_lt 0 c h in omega (arith, in_rows (C - 1) R r (c - 1) r_in (omega arith))
 
-    pub tail_at : (s : Side) → present R C r c s ≡ true → gridTail R C (dartAt R C r c s) ≡ r * C + c
-    unfolding gridTail
+    pub tail_at : (s : Side) → present R C r c s ≡ true → grid_tail R C (dart_at R C r c s) ≡ r * C + c
+    unfolding grid_tail
     tail_at s h =
-        ap (λ b. cond b (nodeAt R C (place_of R C (dartAt R C r c s))) 0) (ltb-true (dartAt R C r c s) (2 * gridEdges R C) (dart-in s h))
-        ∙ ap (nodeAt R C) (place_at s h)
+        ap (λ b. cond b (node_at R C (place_of R C (dart_at R C r c s))) 0) (ltb_true (dart_at R C r c s) (2 * grid_edges R C) (dart_in s h))
+        ∙ ap (node_at R C) (place_at s h)
 
-    pub rotation-at : (s : Side) → present R C r c s ≡ true → gridRotation R C (dartAt R C r c s) ≡ dartAt R C r c (next (present R C r c) s)
-    unfolding gridRotation
+    pub rotation-at : (s : Side) → present R C r c s ≡ true → grid_rotation R C (dart_at R C r c s) ≡ dart_at R C r c (next (present R C r c) s)
+    unfolding grid_rotation
     rotation-at s h =
-        ap (λ b. cond b (rotationAt R C (place_of R C (dartAt R C r c s))) 0) (ltb-true (dartAt R C r c s) (2 * gridEdges R C) (dart-in s h))
-        ∙ ap (rotationAt R C) (place_at s h)
+        ap (λ b. cond b (rotation_at R C (place_of R C (dart_at R C r c s))) 0) (ltb_true (dart_at R C r c s) (2 * grid_edges R C) (dart_in s h))
+        ∙ ap (rotation_at R C) (place_at s h)
 
     -- its reverse leaves the neighbour on the other side
-    pub rev-east : rev (dartAt R C r c east) ≡ dartAt R C r (c + 1) west
-    unfolding dartAt
-    rev-east = rev-even (r * (C - 1) + c) ∙ ap (λ x. 2 * (r * (C - 1) + x) + 1) (sym (one_less c))
+    pub rev_east : rev (dart_at R C r c east) ≡ dart_at R C r (c + 1) west
+    unfolding dart_at
+    rev_east = rev_even (r * (C - 1) + c) ∙ ap (λ x. 2 * (r * (C - 1) + x) + 1) (sym (one_less c))
 
-    pub rev-west : rev (dartAt R C r c west) ≡ dartAt R C r (c - 1) east
-    unfolding dartAt
-    rev-west = rev-odd (r * (C - 1) + (c - 1))
+    pub rev_west : rev (dart_at R C r c west) ≡ dart_at R C r (c - 1) east
+    unfolding dart_at
+    rev_west = rev_odd (r * (C - 1) + (c - 1))
 
-    pub rev-south : rev (dartAt R C r c south) ≡ dartAt R C (r + 1) c north
-    unfolding dartAt
-    rev-south = rev-even (across R C + (r * C + c)) ∙ ap (λ x. 2 * (across R C + (x * C + c)) + 1) (sym (one_less r))
+    pub rev_south : rev (dart_at R C r c south) ≡ dart_at R C (r + 1) c north
+    unfolding dart_at
+    rev_south = rev_even (across R C + (r * C + c)) ∙ ap (λ x. 2 * (across R C + (x * C + c)) + 1) (sym (one_less r))
 
-    pub rev-north : rev (dartAt R C r c north) ≡ dartAt R C (r - 1) c south
-    unfolding dartAt
-    rev-north = rev-odd (across R C + ((r - 1) * C + c))
+    pub rev_north : rev (dart_at R C r c north) ≡ dart_at R C (r - 1) c south
+    unfolding dart_at
+    rev_north = rev_odd (across R C + ((r - 1) * C + c))
 
 -- ── every dart leaves some node on some side ──
 pub record View (R C d : ℕ) : Type 0 where
   pub r : ℕ
   pub c : ℕ
   pub s : Side
-  pub r-in : r < R
-  pub c-in : c < C
+  pub r_in : r < R
+  pub c_in : c < C
   pub here : present R C r c s ≡ true
-  pub is : d ≡ dartAt R C r c s
+  pub is : d ≡ dart_at R C r c s
 
 module _ (R C : ℕ) where
-  view-across : (e : ℕ) → e < R * (C - 1) → View R C (2 * e) × View R C (2 * e + 1)
-  unfolding present dartAt
-  view-across e l =
+  view_across : (e : ℕ) → e < R * (C - 1) → View R C (2 * e) × View R C (2 * e + 1)
+  unfolding present dart_at
+  view_across e l =
       let q = row_of (C - 1) R e l in
       let whole = div-add-mod' e (C - 1) in (
         record {
           r = e / (C - 1);
           c = e % (C - 1);
           s = east;
-          r-in = q.0;
-          c-in = omega (arith, q.1);
-          here = ltb-true (e % (C - 1) + 1) C (omega (arith, q.1));
+          r_in = q.0;
+          c_in = omega (arith, q.1);
+          here = ltb_true (e % (C - 1) + 1) C (omega (arith, q.1));
           is = ap (λ x. 2 * x) (sym whole);
         },
         record {
           r = e / (C - 1);
           c = e % (C - 1) + 1;
           s = west;
-          r-in = q.0;
-          c-in = omega (arith, q.1);
-          here = ltb-true 0 (e % (C - 1) + 1) (omega arith);
+          r_in = q.0;
+          c_in = omega (arith, q.1);
+          here = ltb_true 0 (e % (C - 1) + 1) (omega arith);
           is = ap (λ x. 2 * x + 1) (sym whole) ∙ ap (λ x. 2 * (e / (C - 1) * (C - 1) + x) + 1) (sym (one_less (e % (C - 1))));
         },
       )
 
-  view-down : (e : ℕ) → e < (R - 1) * C → View R C (2 * (across R C + e)) × View R C (2 * (across R C + e) + 1)
-  unfolding present dartAt
-  view-down e l =
+  view_down : (e : ℕ) → e < (R - 1) * C → View R C (2 * (across R C + e)) × View R C (2 * (across R C + e) + 1)
+  unfolding present dart_at
+  view_down e l =
       let q = row_of C (R - 1) e l in
       let whole = div-add-mod' e C in (
         record {
           r = e / C;
           c = e % C;
           s = south;
-          r-in = omega (arith, q.0);
-          c-in = q.1;
-          here = ltb-true (e / C + 1) R (omega (arith, q.0));
+          r_in = omega (arith, q.0);
+          c_in = q.1;
+          here = ltb_true (e / C + 1) R (omega (arith, q.0));
           is = ap (λ x. 2 * (across R C + x)) (sym whole);
         },
         record {
           r = e / C + 1;
           c = e % C;
           s = north;
-          r-in = omega (arith, q.0);
-          c-in = q.1;
-          here = ltb-true 0 (e / C + 1) (omega arith);
+          r_in = omega (arith, q.0);
+          c_in = q.1;
+          here = ltb_true 0 (e / C + 1) (omega arith);
           is = ap (λ x. 2 * (across R C + x) + 1) (sym whole) ∙ ap (λ x. 2 * (across R C + (x * C + e % C)) + 1) (sym (one_less (e / C)));
         },
       )
 
-  pub view : (d : ℕ) → d < 2 * gridEdges R C → View R C d
-  view = by-edge (gridEdges R C) (View R C) (λ e l. (go e l (dec_lt e (R * (C - 1)))).0) (λ e l. (go e l (dec_lt e (R * (C - 1)))).1)
+  pub view : (d : ℕ) → d < 2 * grid_edges R C → View R C d
+  view = by_edge (grid_edges R C) (View R C) (λ e l. (go e l (dec_lt e (R * (C - 1)))).0) (λ e l. (go e l (dec_lt e (R * (C - 1)))).1)
     where
-      go : (e : ℕ) → e < gridEdges R C → Dec (e < R * (C - 1)) → View R C (2 * e) × View R C (2 * e + 1)
-      go e l (yes h) = view-across e h
-      go e l (no h) = rw same at (view-down (e - R * (C - 1)) (omega arith))
+      go : (e : ℕ) → e < grid_edges R C → Dec (e < R * (C - 1)) → View R C (2 * e) × View R C (2 * e + 1)
+      go e l (yes h) = view_across e h
+      go e l (no h) = rw same at (view_down (e - R * (C - 1)) (omega arith))
         where
           same : across R C + (e - R * (C - 1)) ≡ e
           same = omega arith

@@ -7,17 +7,17 @@ use native.Mathlib.Omega.{arith}
 use Rattle.practice.specs.Side.{Side, west, turn, next}
 use Rattle.practice.specs.inner.Numbered.{side}
 
-pub side-west : (s : ℕ) → s ≢ 0 → s ≢ 1 → s ≢ 2 → side s ≡ west
+pub side_west : (s : ℕ) → s ≢ 0 → s ≢ 1 → s ≢ 2 → side s ≡ west
 unfolding side
-side-west zero a b c = absurd (a refl)
-side-west (suc zero) a b c = absurd (b refl)
-side-west (suc (suc zero)) a b c = absurd (c refl)
-side-west (suc (suc (suc n))) a b c = refl
+side_west zero a b c = absurd (a refl)
+side_west (suc zero) a b c = absurd (b refl)
+side_west (suc (suc zero)) a b c = absurd (c refl)
+side_west (suc (suc (suc n))) a b c = refl
 
 module _ (s : ℕ) (l : s < 4) where
-  pub one-turn : side ((s + 1) % 4) ≡ turn (side s)
+  pub one_turn : side ((s + 1) % 4) ≡ turn (side s)
   unfolding side turn
-  one-turn = go s l
+  one_turn = go s l
     where
       go : (s : ℕ) → s < 4 → side ((s + 1) % 4) ≡ turn (side s)
       go zero l = refl
@@ -26,9 +26,9 @@ module _ (s : ℕ) (l : s < 4) where
       go (suc (suc (suc zero))) l = refl
       go (suc (suc (suc (suc n)))) l = absurd (omega arith)
 
-  pub two-turns : side ((s + 2) % 4) ≡ turn (turn (side s))
+  pub two_turns : side ((s + 2) % 4) ≡ turn (turn (side s))
   unfolding side turn
-  two-turns = go s l
+  two_turns = go s l
     where
       go : (s : ℕ) → s < 4 → side ((s + 2) % 4) ≡ turn (turn (side s))
       go zero l = refl
@@ -37,9 +37,9 @@ module _ (s : ℕ) (l : s < 4) where
       go (suc (suc (suc zero))) l = refl
       go (suc (suc (suc (suc n)))) l = absurd (omega arith)
 
-  pub three-turns : side ((s + 3) % 4) ≡ turn (turn (turn (side s)))
+  pub three_turns : side ((s + 3) % 4) ≡ turn (turn (turn (side s)))
   unfolding side turn
-  three-turns = go s l
+  three_turns = go s l
     where
       go : (s : ℕ) → s < 4 → side ((s + 3) % 4) ≡ turn (turn (turn (side s)))
       go zero l = refl
@@ -50,18 +50,18 @@ module _ (s : ℕ) (l : s < 4) where
 
 -- ── the next side that is present, side after side ──
 module _ (p : Side → Bool) (x : Side) where
-  pub next-first : p (turn x) ≡ true → next p x ≡ turn x
+  pub next_first : p (turn x) ≡ true → next p x ≡ turn x
   unfolding next
-  next-first a = rw a
+  next_first a = rw a
 
-  pub next-second : p (turn x) ≡ false → p (turn (turn x)) ≡ true → next p x ≡ turn (turn x)
+  pub next_second : p (turn x) ≡ false → p (turn (turn x)) ≡ true → next p x ≡ turn (turn x)
   unfolding next
-  next-second a b = rw (a, b)
+  next_second a b = rw (a, b)
 
-  pub next-third : p (turn x) ≡ false → p (turn (turn x)) ≡ false → p (turn (turn (turn x))) ≡ true → next p x ≡ turn (turn (turn x))
+  pub next_third : p (turn x) ≡ false → p (turn (turn x)) ≡ false → p (turn (turn (turn x))) ≡ true → next p x ≡ turn (turn (turn x))
   unfolding next
-  next-third a b c = rw (a, b, c)
+  next_third a b c = rw (a, b, c)
 
-  pub next-none : p (turn x) ≡ false → p (turn (turn x)) ≡ false → p (turn (turn (turn x))) ≡ false → next p x ≡ x
+  pub next_none : p (turn x) ≡ false → p (turn (turn x)) ≡ false → p (turn (turn (turn x))) ≡ false → next p x ≡ x
   unfolding next
-  next-none a b c = rw (a, b, c)
+  next_none a b c = rw (a, b, c)

@@ -4,7 +4,7 @@ use mathlib.Core.Logic.{◌⊎◌, inl, inr}
 use mathlib.Core.Bool.{Bool, true, false, cond, not, ◌&&◌, ◌||◌}
 use Prim.Native.Nat.{ℕ, zero, suc}
 use lib.Dec.{eqb}
-use Rattle.integers.proofs.Tests.{and_both, implied, eqb-eq, eqb-true, not-true}
+use Rattle.integers.proofs.Tests.{and_both, implied, eqb_eq, eqb_true, not_true}
 use Rattle.practice.specs.Side.{Side, north, east, south, west, turn, next}
 use Rattle.practice.specs.inner.Numbered.{side}
 
@@ -29,23 +29,23 @@ index east = 1
 index south = 2
 index west = 3
 
-side-index : (x : Side) → side (index x) ≡ x
+side_index : (x : Side) → side (index x) ≡ x
 unfolding side index
-side-index north = refl
-side-index east = refl
-side-index south = refl
-side-index west = refl
+side_index north = refl
+side_index east = refl
+side_index south = refl
+side_index west = refl
 
 unfoldable same : Side → Side → Bool
 same x y = eqb (index x) (index y)
 
-same-eq : (x y : Side) → same x y ≡ true → x ≡ y
+same_eq : (x y : Side) → same x y ≡ true → x ≡ y
 unfolding same
-same-eq x y e = sym (side-index x) ∙ ap side (eqb-eq (index x) (index y) e) ∙ side-index y
+same_eq x y e = sym (side_index x) ∙ ap side (eqb_eq (index x) (index y) e) ∙ side_index y
 
 same_refl : (x : Side) → same x x ≡ true
 unfolding same
-same_refl x = eqb-true (index x) (index x) refl
+same_refl x = eqb_true (index x) (index x) refl
 
 -- so many turns from a side
 unfoldable pub turns : (Side → Side) → ℕ → Side → Side
@@ -59,10 +59,10 @@ both t = t true && t false
 unfoldable each : (Side → Bool) → Bool
 each t = t north && (t east && (t south && t west))
 
-at-bool : (t : Bool → Bool) → both t ≡ true → (b : Bool) → t b ≡ true
+at_bool : (t : Bool → Bool) → both t ≡ true → (b : Bool) → t b ≡ true
 unfolding both
-at-bool t h true = (and_both (t true) (t false) h).0
-at-bool t h false = (and_both (t true) (t false) h).1
+at_bool t h true = (and_both (t true) (t false) h).0
+at_bool t h false = (and_both (t true) (t false) h).1
 
 at_side : (t : Side → Bool) → each t ≡ true → (s : Side) → t s ≡ true
 unfolding each
@@ -79,10 +79,10 @@ unfolding everywhere
 at t h n e s w x y =
     at_side (λ y. t (having n e s w) x y)
     (at_side (λ x. each (λ y. t (having n e s w) x y))
-    (at-bool (λ w. each (λ x. each (λ y. t (having n e s w) x y)))
-    (at-bool (λ s. both (λ w. each (λ x. each (λ y. t (having n e s w) x y))))
-    (at-bool (λ e. both (λ s. both (λ w. each (λ x. each (λ y. t (having n e s w) x y)))))
-    (at-bool (λ n. both (λ e. both (λ s. both (λ w. each (λ x. each (λ y. t (having n e s w) x y)))))) h n) e) s) w) x) y
+    (at_bool (λ w. each (λ x. each (λ y. t (having n e s w) x y)))
+    (at_bool (λ s. both (λ w. each (λ x. each (λ y. t (having n e s w) x y))))
+    (at_bool (λ e. both (λ s. both (λ w. each (λ x. each (λ y. t (having n e s w) x y)))))
+    (at_bool (λ n. both (λ e. both (λ s. both (λ w. each (λ x. each (λ y. t (having n e s w) x y)))))) h n) e) s) w) x) y
 
 one_of : (a b : Bool) → a || b ≡ true → (a ≡ true) ⊎ (b ≡ true)
 one_of true b h = inl refl
@@ -97,22 +97,22 @@ module _ (n e s w : Bool) where
   p = having n e s w
 
   -- the next side that is present is present
-  pub next-present : (x : Side) → p x ≡ true → p (next p x) ≡ true
+  pub next_present : (x : Side) → p x ≡ true → p (next p x) ≡ true
   unfolding everywhere both each having next turn
-  next-present x h = implied (p x) (at (λ q x y. not (q x) || q (next q x)) refl n e s w x x) h
+  next_present x h = implied (p x) (at (λ q x y. not (q x) || q (next q x)) refl n e s w x x) h
 
   -- no two sides have one next
-  pub next-apart : (x y : Side) → p x ≡ true → p y ≡ true → next p x ≡ next p y → x ≡ y
+  pub next_apart : (x y : Side) → p x ≡ true → p y ≡ true → next p x ≡ next p y → x ≡ y
   unfolding everywhere both each having next turn same index
-  next-apart x y hx hy h =
-      same-eq x y
+  next_apart x y hx hy h =
+      same_eq x y
       (implied (p x && (p y && same (next p x) (next p y))) (at (λ q x y. not (q x && (q y && same (next q x) (next q y))) || same x y) refl n e s w x y)
       (rw (hx, hy, h) (same_refl (next p y))))
 
   -- and at most three turns lead from one to any other
-  pub one-round : (x y : Side) → p x ≡ true → p y ≡ true → (j : ℕ) × (turns (next p) j x ≡ y)
+  pub one_round : (x y : Side) → p x ≡ true → p y ≡ true → (j : ℕ) × (turns (next p) j x ≡ y)
   unfolding everywhere both each having next turn same index turns
-  one-round x y hx hy = go (one_of near far found)
+  one_round x y hx hy = go (one_of near far found)
     where
       near : Bool
       near = same x y || same (next p x) y
@@ -128,12 +128,12 @@ module _ (n e s w : Bool) where
           (rw (hx, hy))
 
       few : (same x y ≡ true) ⊎ (same (next p x) y ≡ true) → (j : ℕ) × (turns (next p) j x ≡ y)
-      few (inl h) = (0, same-eq x y h)
-      few (inr h) = (1, same-eq (next p x) y h)
+      few (inl h) = (0, same_eq x y h)
+      few (inr h) = (1, same_eq (next p x) y h)
 
       more : (same (next p (next p x)) y ≡ true) ⊎ (same (next p (next p (next p x))) y ≡ true) → (j : ℕ) × (turns (next p) j x ≡ y)
-      more (inl h) = (2, same-eq (next p (next p x)) y h)
-      more (inr h) = (3, same-eq (next p (next p (next p x))) y h)
+      more (inl h) = (2, same_eq (next p (next p x)) y h)
+      more (inr h) = (3, same_eq (next p (next p (next p x))) y h)
 
       go : (near ≡ true) ⊎ (far ≡ true) → (j : ℕ) × (turns (next p) j x ≡ y)
       go (inl h) = few (one_of (same x y) (same (next p x) y) h)
@@ -153,11 +153,11 @@ module _ (n e s w : Bool) where
           (at (λ q x y. not (q x)
           || (same (back (next q x)) x || (not (q x && q (turn x)) && not (q (back (next q x)) && q (turn (back (next q x))))))) refl n e s w x x) hx
 
-      zero-at : (y : Side) → not (p y && p (turn y)) ≡ true → corner p cell y ≡ 0
-      zero-at y h = rw (not-true (p y && p (turn y)) h)
+      zero_at : (y : Side) → not (p y && p (turn y)) ≡ true → corner p cell y ≡ 0
+      zero_at y h = rw (not_true (p y && p (turn y)) h)
 
       go : (same (back (next p x)) x ≡ true) ⊎ (none ≡ true) → corner p cell (back (next p x)) ≡ corner p cell x
-      go (inl h) = ap (corner p cell) (same-eq (back (next p x)) x h)
+      go (inl h) = ap (corner p cell) (same_eq (back (next p x)) x h)
       go (inr h) =
           let q = and_both (not (p x && p (turn x))) (not (p (back (next p x)) && p (turn (back (next p x))))) h in
-          zero-at (back (next p x)) q.1 ∙ sym (zero-at x q.0)
+          zero_at (back (next p x)) q.1 ∙ sym (zero_at x q.0)

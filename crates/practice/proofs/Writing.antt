@@ -8,146 +8,146 @@ use native.Mathlib.Omega.{arith}
 use native.Mathlib.Numerals.{add-one}
 use lib.ListN.{length, drop}
 use lib.IntN.{pos}
-use Rattle.integers.proofs.Tests.{ltb-true, ltb-false}
+use Rattle.integers.proofs.Tests.{ltb_true, ltb_false}
 use Rattle.refusals.specs.Order.{NoneOf, FirstOf}
 use Rattle.fields.specs.Fields.{put, le16}
-use Rattle.fields.proofs.Laws.{put-after, put-length}
+use Rattle.fields.proofs.Laws.{put_after, put_length}
 use Rattle.maps.specs.Drawing.{Drawing}
-use Rattle.records.specs.Record.{recordLength}
-use Rattle.records.specs.Sheet.{edgeAfter}
+use Rattle.records.specs.Record.{record_length}
+use Rattle.records.specs.Sheet.{edge_after}
 use Rattle.records.specs.Check.{Outside}
-use Rattle.records.specs.Encode.{headBytes, edgeBytes, plainHead, encodeEdge, encodeEdges, encodePlain}
+use Rattle.records.specs.Encode.{headBytes, edge_bytes, plain_head, encode_edge, encode_edges, encode_plain}
 use Rattle.records.proofs.Drawing.{not_left, not_right}
-use Rattle.records.proofs.Places.{front_length, edge-length}
+use Rattle.records.proofs.Places.{front_length, edge_length}
 use Rattle.sheets.proofs.Placing.{Placed, placed_first}
-use Rattle.sheets.proofs.PlacedRecords.{placed-16}
-use Rattle.practice.specs.Grid.{placed, gridEdges, beginning, ending, place_of, nodeAt, rotationAt, gridTail, gridRotation}
+use Rattle.sheets.proofs.PlacedRecords.{placed_16}
+use Rattle.practice.specs.Grid.{placed, grid_edges, beginning, ending, place_of, node_at, rotation_at, grid_tail, grid_rotation}
 use Rattle.practice.specs.inner.Numbered.{side}
-use Rattle.practice.specs.Seed.{forwardOf}
-use Rattle.practice.specs.Practice.{gridDrawing, practiceLength, practiceChecks}
-use Rattle.practice.proofs.Coordinates.{place-even, place-odd}
-use Rattle.practice.proofs.Accepted.{forward-is, backward-is}
+use Rattle.practice.specs.Seed.{forward_of}
+use Rattle.practice.specs.Practice.{grid_drawing, practice_length, practice_checks}
+use Rattle.practice.proofs.Coordinates.{place_even, place_odd}
+use Rattle.practice.proofs.Accepted.{forward_is, backward_is}
 
 -- ── the head: its kind, the nodes, the edges ──
-pub head-placed : (old : List ℕ) {l₁ l₂ l₃ : List ℕ} (nodes edges : ℕ)
-    → recordLength 1 ≤ length old
+pub head_placed : (old : List ℕ) {l₁ l₂ l₃ : List ℕ} (nodes edges : ℕ)
+    → record_length 1 ≤ length old
     → l₁ ≡ put 0 (1 ∷ []) old
     → l₂ ≡ put 1 (le16 nodes) l₁
     → l₃ ≡ put 3 (le16 edges) l₂
     → l₃ ≡ put 0 (headBytes nodes edges) old
-head-placed old {l₁} {l₂} {l₃} nodes edges room e₁ e₂ e₃ = whole.bytes ∙ ap (λ bs. put 0 bs old) (simp append_assoc)
+head_placed old {l₁} {l₂} {l₃} nodes edges room e₁ e₂ e₃ = whole.bytes ∙ ap (λ bs. put 0 bs old) (simp append_assoc)
   where
     whole : Placed old 0 (((1 ∷ []) ++ le16 nodes) ++ le16 edges) 5 l₃
-    whole = placed-16 (placed-16 (placed_first e₁ refl) nodes e₂ (omega arith)) edges e₃ (omega arith)
+    whole = placed_16 (placed_16 (placed_first e₁ refl) nodes e₂ (omega arith)) edges e₃ (omega arith)
 
 -- it leaves the length as it was
-pub head-kept : (nodes edges : ℕ) (old l : List ℕ) → l ≡ put 0 (headBytes nodes edges) old → recordLength 1 ≤ length old → length l ≡ length old
+pub head_kept : (nodes edges : ℕ) (old l : List ℕ) → l ≡ put 0 (headBytes nodes edges) old → record_length 1 ≤ length old → length l ≡ length old
 unfolding le16
-head-kept nodes edges old l h room = ap length h ∙ put-length 0 (headBytes nodes edges) old room
+head_kept nodes edges old l h room = ap length h ∙ put_length 0 (headBytes nodes edges) old room
 
 -- and stands at the front of what was there
-pub head-written : (𝓓 : Drawing) (old l : List ℕ) (nodes edges : ℕ) → nodes ≡ 𝓓.map.nodes → edges ≡ 𝓓.map.edges → l ≡ put 0 (headBytes nodes edges) old
-    → l ≡ plainHead 𝓓 ++ drop (recordLength 1) old
-unfolding put plainHead le16
-head-written 𝓓 old l nodes edges n e h = h ∙ ap₂ (λ m k. headBytes m k ++ drop (recordLength 1) old) n e
+pub head_written : (𝓓 : Drawing) (old l : List ℕ) (nodes edges : ℕ) → nodes ≡ 𝓓.map.nodes → edges ≡ 𝓓.map.edges → l ≡ put 0 (headBytes nodes edges) old
+    → l ≡ plain_head 𝓓 ++ drop (record_length 1) old
+unfolding put plain_head le16
+head_written 𝓓 old l nodes edges n e h = h ∙ ap₂ (λ m k. headBytes m k ++ drop (record_length 1) old) n e
 
 -- ── edges written one after another ──
 -- the head and the records of n edges, in front of what the output held
 abbrev pub Front : Drawing → ℕ → (old l : List ℕ) → Type 0
-Front 𝓓 n old l = l ≡ (plainHead 𝓓 ++ encodeEdges 𝓓 n) ++ drop (edgeAfter (recordLength 1) n) old
+Front 𝓓 n old l = l ≡ (plain_head 𝓓 ++ encode_edges 𝓓 n) ++ drop (edge_after (record_length 1) n) old
 
 module _ (𝓓 : Drawing) (old : List ℕ) where
-  pub front-start : (l : List ℕ) → l ≡ plainHead 𝓓 ++ drop (recordLength 1) old → Front 𝓓 0 old l
-  unfolding encodeEdges
-  front-start l e = e ∙ ap (λ x. x ++ drop (recordLength 1) old) (sym (append-nil (plainHead 𝓓)))
+  pub front_start : (l : List ℕ) → l ≡ plain_head 𝓓 ++ drop (record_length 1) old → Front 𝓓 0 old l
+  unfolding encode_edges
+  front_start l e = e ∙ ap (λ x. x ++ drop (record_length 1) old) (sym (append-nil (plain_head 𝓓)))
 
-  pub front-step : (e : ℕ) (l next : List ℕ) → Front 𝓓 e old l → next ≡ put (edgeAfter (recordLength 1) e) (encodeEdge 𝓓 e) l → Front 𝓓 (e + 1) old next
-  unfolding encodeEdges plainHead le16
-  front-step e l next so_far h =
+  pub front_step : (e : ℕ) (l next : List ℕ) → Front 𝓓 e old l → next ≡ put (edge_after (record_length 1) e) (encode_edge 𝓓 e) l → Front 𝓓 (e + 1) old next
+  unfolding encode_edges plain_head le16
+  front_step e l next so_far h =
       h
-      ∙ put-after (edgeAfter (recordLength 1) e) (plainHead 𝓓 ++ encodeEdges 𝓓 e) (encodeEdge 𝓓 e) old l so_far (front_length (plainHead 𝓓) 𝓓 e)
+      ∙ put_after (edge_after (record_length 1) e) (plain_head 𝓓 ++ encode_edges 𝓓 e) (encode_edge 𝓓 e) old l so_far (front_length (plain_head 𝓓) 𝓓 e)
       ∙ ap₂ (λ x k. x ++ drop k old)
-      (append_assoc (plainHead 𝓓) (encodeEdges 𝓓 e) (encodeEdge 𝓓 e) ∙ ap (λ n. plainHead 𝓓 ++ encodeEdges 𝓓 n) (sym (add-one e))) ends
+      (append_assoc (plain_head 𝓓) (encode_edges 𝓓 e) (encode_edge 𝓓 e) ∙ ap (λ n. plain_head 𝓓 ++ encode_edges 𝓓 n) (sym (add-one e))) ends
     where
-      ends : edgeAfter (recordLength 1) e + length (encodeEdge 𝓓 e) ≡ edgeAfter (recordLength 1) (e + 1)
-      ends = omega (arith, edge-length 𝓓 e)
+      ends : edge_after (record_length 1) e + length (encode_edge 𝓓 e) ≡ edge_after (record_length 1) (e + 1)
+      ends = omega (arith, edge_length 𝓓 e)
 
-  pub front-end : (e : ℕ) (l : List ℕ) → e ≡ 𝓓.map.edges → Front 𝓓 e old l → l ≡ encodePlain 𝓓 ++ drop (edgeAfter (recordLength 1) 𝓓.map.edges) old
-  unfolding encodePlain
-  front-end e l h so_far = so_far ∙ ap (λ n. (plainHead 𝓓 ++ encodeEdges 𝓓 n) ++ drop (edgeAfter (recordLength 1) n) old) h
+  pub front_end : (e : ℕ) (l : List ℕ) → e ≡ 𝓓.map.edges → Front 𝓓 e old l → l ≡ encode_plain 𝓓 ++ drop (edge_after (record_length 1) 𝓓.map.edges) old
+  unfolding encode_plain
+  front_end e l h so_far = so_far ∙ ap (λ n. (plain_head 𝓓 ++ encode_edges 𝓓 n) ++ drop (edge_after (record_length 1) n) old) h
 
 -- ── where an edge begins and ends, with the sides by number ──
 module _ (R C e : ℕ) where
-  pub begins-across : e < R * (C - 1) → beginning R C e ≡ placed (e / (C - 1)) (e % (C - 1)) (side 1)
+  pub begins_across : e < R * (C - 1) → beginning R C e ≡ placed (e / (C - 1)) (e % (C - 1)) (side 1)
   unfolding beginning side
-  begins-across l = rw (ltb-true e (R * (C - 1)) l)
+  begins_across l = rw (ltb_true e (R * (C - 1)) l)
 
-  pub ends-across : e < R * (C - 1) → ending R C e ≡ placed (e / (C - 1)) (e % (C - 1) + 1) (side 3)
+  pub ends_across : e < R * (C - 1) → ending R C e ≡ placed (e / (C - 1)) (e % (C - 1) + 1) (side 3)
   unfolding ending side
-  ends-across l = rw (ltb-true e (R * (C - 1)) l)
+  ends_across l = rw (ltb_true e (R * (C - 1)) l)
 
-  pub begins-down : R * (C - 1) ≤ e → beginning R C e ≡ placed ((e - R * (C - 1)) / C) ((e - R * (C - 1)) % C) (side 2)
+  pub begins_down : R * (C - 1) ≤ e → beginning R C e ≡ placed ((e - R * (C - 1)) / C) ((e - R * (C - 1)) % C) (side 2)
   unfolding beginning side
-  begins-down l = rw (ltb-false e (R * (C - 1)) l)
+  begins_down l = rw (ltb_false e (R * (C - 1)) l)
 
-  pub ends-down : R * (C - 1) ≤ e → ending R C e ≡ placed ((e - R * (C - 1)) / C + 1) ((e - R * (C - 1)) % C) (side 0)
+  pub ends_down : R * (C - 1) ≤ e → ending R C e ≡ placed ((e - R * (C - 1)) / C + 1) ((e - R * (C - 1)) % C) (side 0)
   unfolding ending side
-  ends-down l = rw (ltb-false e (R * (C - 1)) l)
+  ends_down l = rw (ltb_false e (R * (C - 1)) l)
 
 -- ── the record of an edge of the grid ──
-module _ (R C seed e : ℕ) (l : e < gridEdges R C) where
-  even-in : 2 * e < 2 * gridEdges R C
-  even-in = omega arith
+module _ (R C seed e : ℕ) (l : e < grid_edges R C) where
+  even_in : 2 * e < 2 * grid_edges R C
+  even_in = omega arith
 
-  odd-in : 2 * e + 1 < 2 * gridEdges R C
-  odd-in = omega arith
+  odd_in : 2 * e + 1 < 2 * grid_edges R C
+  odd_in = omega arith
 
-  tail-even : gridTail R C (2 * e) ≡ nodeAt R C (beginning R C e)
-  unfolding gridTail
-  tail-even =
-      ap (λ b. cond b (nodeAt R C (place_of R C (2 * e))) 0) (ltb-true (2 * e) (2 * gridEdges R C) even-in) ∙ ap (nodeAt R C) (place-even R C e)
+  tail_even : grid_tail R C (2 * e) ≡ node_at R C (beginning R C e)
+  unfolding grid_tail
+  tail_even =
+      ap (λ b. cond b (node_at R C (place_of R C (2 * e))) 0) (ltb_true (2 * e) (2 * grid_edges R C) even_in) ∙ ap (node_at R C) (place_even R C e)
 
-  tail-odd : gridTail R C (2 * e + 1) ≡ nodeAt R C (ending R C e)
-  unfolding gridTail
-  tail-odd =
-      ap (λ b. cond b (nodeAt R C (place_of R C (2 * e + 1))) 0) (ltb-true (2 * e + 1) (2 * gridEdges R C) odd-in) ∙ ap (nodeAt R C) (place-odd R C e)
+  tail_odd : grid_tail R C (2 * e + 1) ≡ node_at R C (ending R C e)
+  unfolding grid_tail
+  tail_odd =
+      ap (λ b. cond b (node_at R C (place_of R C (2 * e + 1))) 0) (ltb_true (2 * e + 1) (2 * grid_edges R C) odd_in) ∙ ap (node_at R C) (place_odd R C e)
 
-  rotation-even : gridRotation R C (2 * e) ≡ rotationAt R C (beginning R C e)
-  unfolding gridRotation
-  rotation-even =
-      ap (λ b. cond b (rotationAt R C (place_of R C (2 * e))) 0) (ltb-true (2 * e) (2 * gridEdges R C) even-in) ∙ ap (rotationAt R C) (place-even R C e)
+  rotation_even : grid_rotation R C (2 * e) ≡ rotation_at R C (beginning R C e)
+  unfolding grid_rotation
+  rotation_even =
+      ap (λ b. cond b (rotation_at R C (place_of R C (2 * e))) 0) (ltb_true (2 * e) (2 * grid_edges R C) even_in) ∙ ap (rotation_at R C) (place_even R C e)
 
-  rotation-odd : gridRotation R C (2 * e + 1) ≡ rotationAt R C (ending R C e)
-  unfolding gridRotation
-  rotation-odd =
-      ap (λ b. cond b (rotationAt R C (place_of R C (2 * e + 1))) 0) (ltb-true (2 * e + 1) (2 * gridEdges R C) odd-in) ∙ ap (rotationAt R C) (place-odd R C e)
+  rotation_odd : grid_rotation R C (2 * e + 1) ≡ rotation_at R C (ending R C e)
+  unfolding grid_rotation
+  rotation_odd =
+      ap (λ b. cond b (rotation_at R C (place_of R C (2 * e + 1))) 0) (ltb_true (2 * e + 1) (2 * grid_edges R C) odd_in) ∙ ap (rotation_at R C) (place_odd R C e)
 
-  pub grid-record : encodeEdge (gridDrawing R C seed) e
-      ≡ edgeBytes (nodeAt R C (beginning R C e)) (nodeAt R C (ending R C e)) (rotationAt R C (beginning R C e)) (rotationAt R C (ending R C e))
-      (pos (forwardOf seed e)) (pos 0)
-  unfolding encodeEdge
-  grid-record = λ i. edgeBytes (tail-even i) (tail-odd i) (rotation-even i) (rotation-odd i) (forward-is R C seed e l i) (backward-is R C seed e l i)
+  pub grid_record : encode_edge (grid_drawing R C seed) e
+      ≡ edge_bytes (node_at R C (beginning R C e)) (node_at R C (ending R C e)) (rotation_at R C (beginning R C e)) (rotation_at R C (ending R C e))
+      (pos (forward_of seed e)) (pos 0)
+  unfolding encode_edge
+  grid_record = λ i. edge_bytes (tail_even i) (tail_odd i) (rotation_even i) (rotation_odd i) (forward_is R C seed e l i) (backward_is R C seed e l i)
 
 -- ── the ways out ──
 module _ (rows columns seed : ℕ) (out : List ℕ) where
   abbrev Unmade : Type 0
   Unmade = Outside 2 16 rows ⊎ (Outside 2 16 columns ⊎ (2147483648 ≤ seed))
 
-  pub practice-refused : Unmade → FirstOf (practiceChecks rows columns seed out) 23 0
-  unfolding FirstOf practiceChecks
-  practice-refused h = inl (h, refl, refl)
+  pub practice_refused : Unmade → FirstOf (practice_checks rows columns seed out) 23 0
+  unfolding FirstOf practice_checks
+  practice_refused h = inl (h, refl, refl)
 
-  pub practice-short : (Unmade → ⊥) → length out < practiceLength rows columns → FirstOf (practiceChecks rows columns seed out) 16 0
-  unfolding FirstOf practiceChecks
-  practice-short h l = inr (h, inl (l, refl, refl))
+  pub practice_short : (Unmade → ⊥) → length out < practice_length rows columns → FirstOf (practice_checks rows columns seed out) 16 0
+  unfolding FirstOf practice_checks
+  practice_short h l = inr (h, inl (l, refl, refl))
 
-  pub practice-passes : (Unmade → ⊥) → practiceLength rows columns ≤ length out → NoneOf (practiceChecks rows columns seed out)
-  unfolding NoneOf practiceChecks
-  practice-passes h room = (h, ((λ l. omega arith), tt))
+  pub practice_passes : (Unmade → ⊥) → practice_length rows columns ≤ length out → NoneOf (practice_checks rows columns seed out)
+  unfolding NoneOf practice_checks
+  practice_passes h room = (h, ((λ l. omega arith), tt))
 
   -- what 23 leaves
-  pub made-sizes : (Unmade → ⊥) → (2 ≤ rows) × (rows ≤ 16) × (2 ≤ columns) × (columns ≤ 16) × (seed < 2147483648)
-  made-sizes h =
+  pub made_sizes : (Unmade → ⊥) → (2 ≤ rows) × (rows ≤ 16) × (2 ≤ columns) × (columns ≤ 16) × (seed < 2147483648)
+  made_sizes h =
       let r = not_left h in
       let c = not_left (not_right h) in
       let s = not_right (not_right h) in

@@ -14,15 +14,15 @@ abbrev pub placed : ℕ → ℕ → Side → Place
 placed r c s = record { row = r; column = c; side = s }
 
 module _ (rows columns : ℕ) where
-  abbrev pub gridNodes : ℕ
-  gridNodes = rows * columns
+  abbrev pub grid_nodes : ℕ
+  grid_nodes = rows * columns
 
   -- the edges that run left to right come first, one less to a row than there are columns
   abbrev pub across : ℕ
   across = rows * (columns - 1)
 
-  abbrev pub gridEdges : ℕ
-  gridEdges = across + (rows - 1) * columns
+  abbrev pub grid_edges : ℕ
+  grid_edges = across + (rows - 1) * columns
 
   -- where an edge begins, and where it ends; of those that run down there is a row of `columns` between each two rows of nodes
   unfoldable pub beginning : ℕ → Place
@@ -43,25 +43,25 @@ module _ (rows columns : ℕ) where
   present r c west = ltb 0 c
 
   -- the dart that leaves it there
-  unfoldable pub dartAt : ℕ → ℕ → Side → ℕ
-  dartAt r c north = 2 * (across + ((r - 1) * columns + c)) + 1
-  dartAt r c east = 2 * (r * (columns - 1) + c)
-  dartAt r c south = 2 * (across + (r * columns + c))
-  dartAt r c west = 2 * (r * (columns - 1) + (c - 1)) + 1
+  unfoldable pub dart_at : ℕ → ℕ → Side → ℕ
+  dart_at r c north = 2 * (across + ((r - 1) * columns + c)) + 1
+  dart_at r c east = 2 * (r * (columns - 1) + c)
+  dart_at r c south = 2 * (across + (r * columns + c))
+  dart_at r c west = 2 * (r * (columns - 1) + (c - 1)) + 1
 
   -- the node at a place, and the dart that leaves it on the next side clockwise
-  abbrev pub nodeAt : Place → ℕ
-  nodeAt p = p.row * columns + p.column
+  abbrev pub node_at : Place → ℕ
+  node_at p = p.row * columns + p.column
 
-  abbrev pub rotationAt : Place → ℕ
-  rotationAt p = dartAt p.row p.column (next (present p.row p.column) p.side)
+  abbrev pub rotation_at : Place → ℕ
+  rotation_at p = dart_at p.row p.column (next (present p.row p.column) p.side)
 
   -- zero past the darts, as what is read from a sheet is
-  unfoldable pub gridTail : ℕ → ℕ
-  gridTail d = cond (ltb d (2 * gridEdges)) (nodeAt (place_of d)) 0
+  unfoldable pub grid_tail : ℕ → ℕ
+  grid_tail d = cond (ltb d (2 * grid_edges)) (node_at (place_of d)) 0
 
-  unfoldable pub gridRotation : ℕ → ℕ
-  gridRotation d = cond (ltb d (2 * gridEdges)) (rotationAt (place_of d)) 0
+  unfoldable pub grid_rotation : ℕ → ℕ
+  grid_rotation d = cond (ltb d (2 * grid_edges)) (rotation_at (place_of d)) 0
 
-  abbrev pub gridMap : Map
-  gridMap = record { nodes = gridNodes; edges = gridEdges; tail = gridTail; rotation = gridRotation }
+  abbrev pub grid_map : Map
+  grid_map = record { nodes = grid_nodes; edges = grid_edges; tail = grid_tail; rotation = grid_rotation }

@@ -3,13 +3,13 @@
 ghost use Rattle.std.specs.Prelude.{◌≡◌, true, ◌⊎◌, List, ◌++◌, ℕ, ◌+◌, ◌*◌, ◌-◌, ◌<◌, ◌≤◌, length, drop, pos};
 ghost use Rattle.refusals.specs.Order.{Decides};
 ghost use Rattle.fields.specs.Fields.{put};
-ghost use Rattle.records.specs.Record.{recordLength};
+ghost use Rattle.records.specs.Record.{record_length};
 ghost use Rattle.records.specs.Check.{Outside};
-ghost use Rattle.records.specs.Encode.{headBytes, edgeBytes, plainHead, encodePlain};
+ghost use Rattle.records.specs.Encode.{headBytes, edge_bytes, plain_head, encode_plain};
 ghost use Rattle.practice.specs.Side.{next};
-ghost use Rattle.practice.specs.Grid.{placed, across, gridEdges, beginning, ending, present, dartAt, nodeAt, rotationAt};
-ghost use Rattle.practice.specs.Seed.{nextState, capacityFrom};
-ghost use Rattle.practice.specs.Practice.{gridDrawing, practiceLength, Practises};
+ghost use Rattle.practice.specs.Grid.{placed, across, grid_edges, beginning, ending, present, dart_at, node_at, rotation_at};
+ghost use Rattle.practice.specs.Seed.{next_state, capacity_from};
+ghost use Rattle.practice.specs.Practice.{grid_drawing, practice_length, Practises};
 ghost use Rattle.practice.specs.inner.Numbered.{side};
 
 // A product of numbers that are at most 16.
@@ -57,7 +57,7 @@ fn has_side(rows: usize, columns: usize, r: usize, c: usize, s: usize) -> bool
 // The dart that leaves a node on a side where there is an edge.
 fn dart_at(rows: usize, columns: usize, r: usize, c: usize, s: usize) -> usize
     requires { (rows ≤ 16) × (columns ≤ 16) × (r < rows) × (c < columns) × (present rows columns r c (side s) ≡ true) }
-    ensures { result ≡ dartAt rows columns r c (side s) }
+    ensures { result ≡ dart_at rows columns r c (side s) }
 {
     if s == 0 {
         return 2 * edge_south(rows, columns, r - 1, c) + 1;
@@ -94,7 +94,7 @@ fn next_side(rows: usize, columns: usize, r: usize, c: usize, s: usize) -> usize
 // The dart next clockwise to the one that leaves a node on a side.
 fn rotation_at(rows: usize, columns: usize, r: usize, c: usize, s: usize) -> u16
     requires { (rows ≤ 16) × (columns ≤ 16) × (r < rows) × (c < columns) × (s < 4) × (present rows columns r c (side s) ≡ true) }
-    ensures { result ≡ rotationAt rows columns (placed r c (side s)) }
+    ensures { result ≡ rotation_at rows columns (placed r c (side s)) }
 {
     let t = next_side(rows, columns, r, c, s);
     let d = dart_at(rows, columns, r, c, t);
@@ -119,8 +119,8 @@ fn write_record(
     turned: u16,
     forward: i32,
 )
-    requires { (place ≤ 100000) × (place + recordLength 2 ≤ length out.old) }
-    ensures { out.new ≡ put place (edgeBytes tail head rotation turned forward (pos 0)) out.old }
+    requires { (place ≤ 100000) × (place + record_length 2 ≤ length out.old) }
+    ensures { out.new ≡ put place (edge_bytes tail head rotation turned forward (pos 0)) out.old }
 {
     fields::write_u8(out, place, 2);
     fields::write_u16(out, place + 1, tail);
@@ -145,11 +145,11 @@ fn write_between(
     t: usize,
     forward: i32,
 )
-    requires { (place ≤ 100000) × (place + recordLength 2 ≤ length out.old) × (rows ≤ 16) × (columns ≤ 16)
+    requires { (place ≤ 100000) × (place + record_length 2 ≤ length out.old) × (rows ≤ 16) × (columns ≤ 16)
         × (r < rows) × (c < columns) × (s < 4) × (present rows columns r c (side s) ≡ true)
         × (row < rows) × (column < columns) × (t < 4) × (present rows columns row column (side t) ≡ true) }
-    ensures { out.new ≡ put place (edgeBytes (nodeAt rows columns (placed r c (side s))) (nodeAt rows columns (placed row column (side t)))
-        (rotationAt rows columns (placed r c (side s))) (rotationAt rows columns (placed row column (side t))) forward (pos 0)) out.old }
+    ensures { out.new ≡ put place (edge_bytes (node_at rows columns (placed r c (side s))) (node_at rows columns (placed row column (side t)))
+        (rotation_at rows columns (placed r c (side s))) (rotation_at rows columns (placed row column (side t))) forward (pos 0)) out.old }
 {
     let tail = node_at(columns, r, c);
     let head = node_at(columns, row, column);
@@ -160,10 +160,10 @@ fn write_between(
 
 // The record of edge e: the first edges run east, the others south.
 fn write_edge(out: &mut [u8], place: usize, rows: usize, columns: usize, e: usize, forward: i32)
-    requires { (place ≤ 100000) × (place + recordLength 2 ≤ length out.old) × (rows ≤ 16) × (2 ≤ columns) × (columns ≤ 16)
-        × (e < gridEdges rows columns) }
-    ensures { out.new ≡ put place (edgeBytes (nodeAt rows columns (beginning rows columns e)) (nodeAt rows columns (ending rows columns e))
-        (rotationAt rows columns (beginning rows columns e)) (rotationAt rows columns (ending rows columns e)) forward (pos 0)) out.old }
+    requires { (place ≤ 100000) × (place + record_length 2 ≤ length out.old) × (rows ≤ 16) × (2 ≤ columns) × (columns ≤ 16)
+        × (e < grid_edges rows columns) }
+    ensures { out.new ≡ put place (edge_bytes (node_at rows columns (beginning rows columns e)) (node_at rows columns (ending rows columns e))
+        (rotation_at rows columns (beginning rows columns e)) (rotation_at rows columns (ending rows columns e)) forward (pos 0)) out.old }
 {
     let gaps = columns - 1;
     let first = times(rows, gaps);
@@ -182,14 +182,14 @@ fn write_edge(out: &mut [u8], place: usize, rows: usize, columns: usize, e: usiz
 // The next state of the seed's sequence: the product is below 2 ^ 62.
 fn next_state(state: u64) -> u64
     requires { state < 2147483648 }
-    ensures { (result ≡ nextState state) × (result < 2147483648) }
+    ensures { (result ≡ next_state state) × (result < 2147483648) }
 {
     (1103515245 * state + 12345) % 2147483648
 }
 
 // The capacity that a state gives, 0 to 99.
 fn capacity_from(state: u64) -> i32
-    ensures { result ≡ pos (capacityFrom state) }
+    ensures { result ≡ pos (capacity_from state) }
 {
     let capacity = state / 65536 % 100;
     signed::of_bits(capacity as u32)
@@ -198,17 +198,17 @@ fn capacity_from(state: u64) -> i32
 // How many edges a grid has.
 fn edge_count(rows: usize, columns: usize) -> usize
     requires { (1 ≤ rows) × (rows ≤ 16) × (1 ≤ columns) × (columns ≤ 16) }
-    ensures { (result ≡ gridEdges rows columns) × (result ≤ 512) }
+    ensures { (result ≡ grid_edges rows columns) × (result ≤ 512) }
 {
     times(rows, columns - 1) + times(rows - 1, columns)
 }
 
 // The records of all edges, after the head. The first edge takes the state after the seed.
 fn write_edges(out: &mut [u8], rows: usize, columns: usize, seed: u64)
-    requires { (2 ≤ rows) × (rows ≤ 16) × (2 ≤ columns) × (columns ≤ 16) × (seed < 2147483648) × (practiceLength rows columns ≤ length out.old) }
+    requires { (2 ≤ rows) × (rows ≤ 16) × (2 ≤ columns) × (columns ≤ 16) × (seed < 2147483648) × (practice_length rows columns ≤ length out.old) }
     ensures { (old : List ℕ)
-        → out.old ≡ plainHead (gridDrawing rows columns seed) ++ drop (recordLength 1) old
-        → out.new ≡ encodePlain (gridDrawing rows columns seed) ++ drop (practiceLength rows columns) old }
+        → out.old ≡ plain_head (grid_drawing rows columns seed) ++ drop (record_length 1) old
+        → out.new ≡ encode_plain (grid_drawing rows columns seed) ++ drop (practice_length rows columns) old }
 {
     let head = records::record_length(1);
     let edges = edge_count(rows, columns);
@@ -225,7 +225,7 @@ fn write_edges(out: &mut [u8], rows: usize, columns: usize, seed: u64)
 
 // The head of a sheet, of kind 1.
 fn write_head(out: &mut [u8], nodes: u16, edges: u16)
-    requires { recordLength 1 ≤ length out.old }
+    requires { record_length 1 ≤ length out.old }
     ensures { out.new ≡ put 0 (headBytes nodes edges) out.old }
 {
     fields::write_u8(out, 0, 1);

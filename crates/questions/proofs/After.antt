@@ -3,7 +3,7 @@ use mathlib.Core.List.{List, ◌++◌}
 use Prim.Native.Nat.{ℕ}
 use lib.IntN.{ℤ}
 use Rattle.refusals.specs.Order.{Check, NoneOf}
-use Rattle.refusals.proofs.Order.{none-append, first-right}
+use Rattle.refusals.proofs.Order.{none_append, first_right}
 use Rattle.maps.specs.Drawing.{Drawing}
 use Rattle.questions.specs.Solve.{Solved}
 use Rattle.questions.specs.Largest.{LargestFound}
@@ -16,18 +16,18 @@ use Rattle.questions.specs.declared.MarkAnswer.{MarkAnswer}
 use Rattle.questions.specs.declared.MarkAnswer.TheVariants as mark
 
 module _ (before : List Check) (passed : NoneOf before) (𝓓 : Drawing) (checks : List Check) (source sink : ℕ) where
-  pub solved-after : (value : ℤ) (flows flows' : List ℤ) (set set' : List ℕ) (r : SolveAnswer) → Solved 𝓓 checks source sink value flows flows' set set' r
+  pub solved_after : (value : ℤ) (flows flows' : List ℤ) (set set' : List ℕ) (r : SolveAnswer) → Solved 𝓓 checks source sink value flows flows' set set' r
       → Solved 𝓓 (before ++ checks) source sink value flows flows' set set' r
-  solved-after value flows flows' set set' solve.Can h = (none-append before checks passed h.0, h.1, h.2)
-  solved-after value flows flows' set set' (solve.Cannot n) h = (none-append before checks passed h.0, h.1, h.2)
-  solved-after value flows flows' set set' (solve.Refused k p) h = (first-right before checks k p passed h.0, h.1, h.2)
+  solved_after value flows flows' set set' solve.Can h = (none_append before checks passed h.0, h.1, h.2)
+  solved_after value flows flows' set set' (solve.Cannot n) h = (none_append before checks passed h.0, h.1, h.2)
+  solved_after value flows flows' set set' (solve.Refused k p) h = (first_right before checks k p passed h.0, h.1, h.2)
 
   pub largest-after : (flows flows' : List ℤ) (set set' : List ℕ) (r : LargestAnswer) → LargestFound 𝓓 checks source sink flows flows' set set' r
       → LargestFound 𝓓 (before ++ checks) source sink flows flows' set set' r
-  largest-after flows flows' set set' (largest.Value v) h = (none-append before checks passed h.0, h.1, h.2)
-  largest-after flows flows' set set' largest.None h = (none-append before checks passed h.0, h.1, h.2)
-  largest-after flows flows' set set' (largest.Refused k p) h = (first-right before checks k p passed h.0, h.1, h.2)
+  largest-after flows flows' set set' (largest.Value v) h = (none_append before checks passed h.0, h.1, h.2)
+  largest-after flows flows' set set' largest.None h = (none_append before checks passed h.0, h.1, h.2)
+  largest-after flows flows' set set' (largest.Refused k p) h = (first_right before checks k p passed h.0, h.1, h.2)
 
-  pub marked-after : (flows : List ℤ) (r : MarkAnswer) → Marked 𝓓 checks source sink flows r → Marked 𝓓 (before ++ checks) source sink flows r
-  marked-after flows (mark.Value v) h = (none-append before checks passed h.0, h.1)
-  marked-after flows (mark.Refused k p) h = first-right before checks k p passed h
+  pub marked_after : (flows : List ℤ) (r : MarkAnswer) → Marked 𝓓 checks source sink flows r → Marked 𝓓 (before ++ checks) source sink flows r
+  marked_after flows (mark.Value v) h = (none_append before checks passed h.0, h.1)
+  marked_after flows (mark.Refused k p) h = first_right before checks k p passed h

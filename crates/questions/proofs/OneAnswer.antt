@@ -7,16 +7,16 @@ use lib.ListN.{take, drop}
 use lib.Seq.{take-append_seam}
 use lib.IntN.{ℤ}
 use Rattle.refusals.specs.Order.{Check, NoneOf}
-use Rattle.refusals.proofs.Order.{first-none, first_one}
+use Rattle.refusals.proofs.Order.{first_none, first_one}
 use Rattle.maps.specs.Map.{darts}
 use Rattle.maps.specs.Drawing.{Drawing}
-use Rattle.flows.specs.ProvingSet.{wordsFor, size, SetOf}
+use Rattle.flows.specs.ProvingSet.{words_for, size, SetOf}
 use Rattle.flows.specs.inner.Plane.{Plane}
-use Rattle.flows.proofs.Exact.{proves-excludes}
-use Rattle.flows.proofs.HighestFlow.{highest-unique}
-use Rattle.arrays.proofs.Tabulate.{tabulate-ext}
-use Rattle.node_sets.proofs.SameWords.{same-words}
-use Rattle.solver.proofs.OneSet.{named-one}
+use Rattle.flows.proofs.Exact.{proves_excludes}
+use Rattle.flows.proofs.HighestFlow.{highest_unique}
+use Rattle.arrays.proofs.Tabulate.{tabulate_ext}
+use Rattle.node_sets.proofs.SameWords.{same_words}
+use Rattle.solver.proofs.OneSet.{named_one}
 use Rattle.questions.specs.Question.{SetWritten}
 use Rattle.questions.specs.Solve.{Solved}
 use Rattle.questions.specs.inner.Named.{NamedSet, SetNamed}
@@ -24,56 +24,56 @@ use Rattle.questions.specs.declared.SolveAnswer.{SolveAnswer}
 use Rattle.questions.specs.declared.SolveAnswer.TheVariants.{Can, Cannot, Refused}
 
 -- the words of a set written are those in front
-pub in-front : {nodes : ℕ} {words set set' : List ℕ} → SetWritten nodes words set set' → take (wordsFor nodes) set' ≡ words
+pub in-front : {nodes : ℕ} {words set set' : List ℕ} → SetWritten nodes words set set' → take (words_for nodes) set' ≡ words
 in-front {nodes} {words} {set} w =
-    ap₂ (λ n l. take n l) (sym w.is_set.long) w.placed ∙ take-append_seam words (drop (wordsFor nodes) set)
+    ap₂ (λ n l. take n l) (sym w.is_set.long) w.placed ∙ take-append_seam words (drop (words_for nodes) set)
 
 -- two sets that the search names for one question are written in the same words
-pub words-one : {𝓓 : Drawing} {source sink : ℕ} {value : ℤ} (words words' : List ℕ) → SetOf 𝓓.map.nodes words → SetOf 𝓓.map.nodes words'
+pub words_one : {𝓓 : Drawing} {source sink : ℕ} {value : ℤ} (words words' : List ℕ) → SetOf 𝓓.map.nodes words → SetOf 𝓓.map.nodes words'
     → NamedSet 𝓓 source sink value words → NamedSet 𝓓 source sink value words' → words ≡ words'
-words-one {𝓓} words words' s t a b =
-    same-words 𝓓.map.nodes words words' s t (λ v l. a.holds v l ∙ named-one a.named b.named v l ∙ sym (b.holds v l))
+words_one {𝓓} words words' s t a b =
+    same_words 𝓓.map.nodes words words' s t (λ v l. a.holds v l ∙ named_one a.named b.named v l ∙ sym (b.holds v l))
 
 -- ── of two answers "cannot", whatever slices were lent ──
 module _ {𝓓 : Drawing} {source sink : ℕ} {value : ℤ} {words words₂ set set' set₂ set₂' : List ℕ}
     (w : SetWritten 𝓓.map.nodes words set set') (w₂ : SetWritten 𝓓.map.nodes words₂ set₂ set₂')
-    (a : NamedSet 𝓓 source sink value (take (wordsFor 𝓓.map.nodes) set')) (b : NamedSet 𝓓 source sink value (take (wordsFor 𝓓.map.nodes) set₂')) where
+    (a : NamedSet 𝓓 source sink value (take (words_for 𝓓.map.nodes) set')) (b : NamedSet 𝓓 source sink value (take (words_for 𝓓.map.nodes) set₂')) where
   pub written_one : words ≡ words₂
-  written_one = words-one words words₂ w.is_set w₂.is_set (rw (in-front w) at a) (rw (in-front w₂) at b)
+  written_one = words_one words words₂ w.is_set w₂.is_set (rw (in-front w) at a) (rw (in-front w₂) at b)
 
 -- ── of two runs that are lent the same ──
-module _ (𝓓 : Drawing) (plane : Plane 𝓓.map) (outer-in : 𝓓.outer < darts 𝓓.map) (checks : List Check) (source sink : ℕ) (value : ℤ)
+module _ (𝓓 : Drawing) (plane : Plane 𝓓.map) (outer_in : 𝓓.outer < darts 𝓓.map) (checks : List Check) (source sink : ℕ) (value : ℤ)
     (ends : NoneOf checks → (source < 𝓓.map.nodes) × (sink < 𝓓.map.nodes) × (source ≢ sink)) (flows : List ℤ) (set : List ℕ) where
   abbrev One : (flows' flows'' : List ℤ) (set' set'' : List ℕ) (r q : SolveAnswer) → Type 0
   One flows' flows'' set' set'' r q = (r ≡ q) × (flows' ≡ flows'') × (set' ≡ set'')
 
-  pub solved-one : (flows' flows'' : List ℤ) (set' set'' : List ℕ) (r q : SolveAnswer)
+  pub solved_one : (flows' flows'' : List ℤ) (set' set'' : List ℕ) (r q : SolveAnswer)
       → Solved 𝓓 checks source sink value flows flows' set set' r → SetNamed 𝓓 source sink value set' r
       → Solved 𝓓 checks source sink value flows flows'' set set'' q → SetNamed 𝓓 source sink value set'' q
       → (r ≡ q) × (flows' ≡ flows'') × (set' ≡ set'')
-  solved-one flows' flows'' set' set'' Can Can h a k b =
+  solved_one flows' flows'' set' set'' Can Can h a k b =
       let e = ends h.0 in
-      let same = highest-unique plane e.0 e.1 e.2 𝓓.outer outer-in h.1.0 k.1.0 h.1.1 k.1.1 in (
+      let same = highest_unique plane e.0 e.1 e.2 𝓓.outer outer_in h.1.0 k.1.0 h.1.1 k.1.1 in (
         refl,
-        h.1.2 ∙ ap (λ l. l ++ drop 𝓓.map.edges flows) (tabulate-ext 𝓓.map.edges h.1.0 k.1.0 same) ∙ sym k.1.2,
+        h.1.2 ∙ ap (λ l. l ++ drop 𝓓.map.edges flows) (tabulate_ext 𝓓.map.edges h.1.0 k.1.0 same) ∙ sym k.1.2,
         h.2 ∙ sym k.2,
       )
-  solved-one flows' flows'' set' set'' (Cannot n) (Cannot m) h a k b =
+  solved_one flows' flows'' set' set'' (Cannot n) (Cannot m) h a k b =
       let words = written_one h.1.1 k.1.1 a b in (
         ap Cannot (h.1.3 ∙ ap size words ∙ sym k.1.3),
         h.2 ∙ sym k.2,
-        h.1.1.placed ∙ ap (λ l. l ++ drop (wordsFor 𝓓.map.nodes) set) words ∙ sym k.1.1.placed,
+        h.1.1.placed ∙ ap (λ l. l ++ drop (words_for 𝓓.map.nodes) set) words ∙ sym k.1.1.placed,
       )
-  solved-one flows' flows'' set' set'' (Refused j q) (Refused k p) h a i b =
+  solved_one flows' flows'' set' set'' (Refused j q) (Refused k p) h a i b =
       let e = first_one checks j q k p h.0 i.0 in
       (ap₂ Refused e.0 e.1, h.1 ∙ sym i.1, h.2 ∙ sym i.2)
-  solved-one flows' flows'' set' set'' Can (Cannot m) h a k b =
+  solved_one flows' flows'' set' set'' Can (Cannot m) h a k b =
       let e = ends h.0 in
-      absurd (proves-excludes plane.sound.range e.0 e.1 e.2 𝓓.capacity value _ k.1.2 h.1.0 h.1.1.carries)
-  solved-one flows' flows'' set' set'' (Cannot n) Can h a k b =
+      absurd (proves_excludes plane.sound.range e.0 e.1 e.2 𝓓.capacity value _ k.1.2 h.1.0 h.1.1.carries)
+  solved_one flows' flows'' set' set'' (Cannot n) Can h a k b =
       let e = ends h.0 in
-      absurd (proves-excludes plane.sound.range e.0 e.1 e.2 𝓓.capacity value _ h.1.2 k.1.0 k.1.1.carries)
-  solved-one flows' flows'' set' set'' Can (Refused k p) h a i b = absurd (first-none checks k p i.0 h.0)
-  solved-one flows' flows'' set' set'' (Cannot n) (Refused k p) h a i b = absurd (first-none checks k p i.0 h.0)
-  solved-one flows' flows'' set' set'' (Refused k p) Can h a i b = absurd (first-none checks k p h.0 i.0)
-  solved-one flows' flows'' set' set'' (Refused k p) (Cannot m) h a i b = absurd (first-none checks k p h.0 i.0)
+      absurd (proves_excludes plane.sound.range e.0 e.1 e.2 𝓓.capacity value _ h.1.2 k.1.0 k.1.1.carries)
+  solved_one flows' flows'' set' set'' Can (Refused k p) h a i b = absurd (first_none checks k p i.0 h.0)
+  solved_one flows' flows'' set' set'' (Cannot n) (Refused k p) h a i b = absurd (first_none checks k p i.0 h.0)
+  solved_one flows' flows'' set' set'' (Refused k p) Can h a i b = absurd (first_none checks k p h.0 i.0)
+  solved_one flows' flows'' set' set'' (Refused k p) (Cannot m) h a i b = absurd (first_none checks k p h.0 i.0)

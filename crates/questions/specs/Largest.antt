@@ -4,14 +4,14 @@
 use Rattle.std.specs.Prelude.{ℕ, ◌≡◌, List, ◌++◌, length, ℤ, pos, ◌+ℤ◌}
 use Rattle.refusals.specs.Order.{Check, NoneOf, FirstOf}
 use Rattle.maps.specs.Drawing.{Drawing}
-use Rattle.questions.specs.Question.{endChecks, roomChecks, SetWritten}
+use Rattle.questions.specs.Question.{end_checks, room_checks, SetWritten}
 use Rattle.questions.specs.Answered.{HighestWritten, ProofWritten, Blocks}
 use Rattle.questions.specs.declared.LargestAnswer.{LargestAnswer}
 use Rattle.questions.specs.declared.LargestAnswer.TheVariants.{Value, None, Refused}
 
 -- 13, 14 and 16
-unfoldable pub searchChecks : (nodes edges source sink : ℕ) → List ℤ → List ℕ → List Check
-searchChecks nodes edges source sink flows set = endChecks nodes source sink ++ roomChecks nodes edges (length flows) (length set)
+unfoldable pub search_checks : (nodes edges source sink : ℕ) → List ℤ → List ℕ → List Check
+search_checks nodes edges source sink flows set = end_checks nodes source sink ++ room_checks nodes edges (length flows) (length set)
 
 -- What Largest answers, where `checks` are its refusals in order.
 -- Value: the highest answer for it is written, and a set that proves the next greater value impossible. That no greater value can be delivered follows.

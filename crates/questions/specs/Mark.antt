@@ -4,22 +4,22 @@ use Rattle.std.specs.Prelude.{ℕ, ◌<◌, ◌≡◌, List, ◌∷◌, ◌++◌
 use Rattle.refusals.specs.Order.{Check, ◌when◌, NoneOf, FirstOf}
 use Rattle.maps.specs.Drawing.{Drawing}
 use Rattle.maps.specs.Flow.{net}
-use Rattle.flows.specs.Settings.{onDarts}
-use Rattle.flows.specs.Check.{withinChecks, balanceChecks, EndOf}
+use Rattle.flows.specs.Settings.{on_darts}
+use Rattle.flows.specs.Check.{within_checks, balance_checks, EndOf}
 use Rattle.arrays.specs.At.{atℤ}
-use Rattle.questions.specs.Question.{endChecks}
+use Rattle.questions.specs.Question.{end_checks}
 use Rattle.questions.specs.declared.MarkAnswer.{MarkAnswer}
 use Rattle.questions.specs.declared.MarkAnswer.TheVariants.{Value, Refused}
 
 -- 13, 14, 16, 17 and 18
-unfoldable pub paperChecks : Drawing → (source sink : ℕ) → List ℤ → List Check
-paperChecks 𝓓 source sink flows =
-    endChecks 𝓓.map.nodes source sink
+unfoldable pub paper_checks : Drawing → (source sink : ℕ) → List ℤ → List Check
+paper_checks 𝓓 source sink flows =
+    end_checks 𝓓.map.nodes source sink
     ++ ((16 when length flows < 𝓓.map.edges)
-    ∷ (withinChecks 𝓓.map.edges 𝓓.capacity (atℤ flows)
-    ++ balanceChecks 𝓓.map (EndOf source sink) (atℤ flows)))
+    ∷ (within_checks 𝓓.map.edges 𝓓.capacity (atℤ flows)
+    ++ balance_checks 𝓓.map (EndOf source sink) (atℤ flows)))
 
 -- what Mark answers, where `checks` are its refusals in order; the value: "the sum over darts with tail at the headgate"
 abbrev pub Marked : Drawing → List Check → (source sink : ℕ) → List ℤ → MarkAnswer → Type 0
-Marked 𝓓 checks source sink flows (Value v) = NoneOf checks × (v ≡ net 𝓓.map (onDarts (atℤ flows)) source)
+Marked 𝓓 checks source sink flows (Value v) = NoneOf checks × (v ≡ net 𝓓.map (on_darts (atℤ flows)) source)
 Marked 𝓓 checks source sink flows (Refused k p) = FirstOf checks k p

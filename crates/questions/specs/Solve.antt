@@ -5,15 +5,15 @@ use Rattle.std.specs.Prelude.{ℕ, ◌≡◌, List, ◌++◌, length, ℤ}
 use Rattle.refusals.specs.Order.{Check, NoneOf, FirstOf}
 use Rattle.maps.specs.Drawing.{Drawing}
 use Rattle.flows.specs.ProvingSet.{Proves, member, size}
-use Rattle.questions.specs.Question.{endChecks, valueChecks, roomChecks, SetWritten}
+use Rattle.questions.specs.Question.{end_checks, value_checks, room_checks, SetWritten}
 use Rattle.questions.specs.Answered.{HighestWritten}
 use Rattle.questions.specs.declared.SolveAnswer.{SolveAnswer}
 use Rattle.questions.specs.declared.SolveAnswer.TheVariants.{Can, Cannot, Refused}
 
 -- 13 to 16, of a drawing with so many nodes and edges
-unfoldable pub questionChecks : (nodes edges source sink : ℕ) → ℤ → List ℤ → List ℕ → List Check
-questionChecks nodes edges source sink value flows set =
-    endChecks nodes source sink ++ (valueChecks value ++ roomChecks nodes edges (length flows) (length set))
+unfoldable pub question_checks : (nodes edges source sink : ℕ) → ℤ → List ℤ → List ℕ → List Check
+question_checks nodes edges source sink value flows set =
+    end_checks nodes source sink ++ (value_checks value ++ room_checks nodes edges (length flows) (length set))
 
 -- What Solve answers, where `checks` are its refusals in order.
 -- Can: the highest answer, of which there is one, in the first places of the slice of settings, the rest and the set as they were.

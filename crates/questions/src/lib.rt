@@ -2,13 +2,13 @@
 ghost use Rattle.std.specs.Prelude.{◌≤◌};
 ghost use Rattle.refusals.specs.Order.{Decides, Judged};
 ghost use Rattle.grouping.specs.inner.OpenDrawing.{OpenDrawing};
-ghost use Rattle.arrays.specs.Maps.{drawingOf};
-ghost use Rattle.questions.specs.Question.{endChecks, ValueOutside, roomChecks};
-ghost use Rattle.questions.specs.Solve.{questionChecks, Solved};
+ghost use Rattle.arrays.specs.Maps.{drawing_of};
+ghost use Rattle.questions.specs.Question.{end_checks, ValueOutside, room_checks};
+ghost use Rattle.questions.specs.Solve.{question_checks, Solved};
 ghost use Rattle.questions.specs.inner.Named.{SetNamed};
 ghost use Rattle.questions.specs.inner.Lent.{OpenSheet, OpenPaper};
-ghost use Rattle.questions.specs.Largest.{searchChecks, LargestFound};
-ghost use Rattle.questions.specs.Mark.{paperChecks, Marked};
+ghost use Rattle.questions.specs.Largest.{search_checks, LargestFound};
+ghost use Rattle.questions.specs.Mark.{paper_checks, Marked};
 
 use arrays::{Demand, Sizes, Terminals};
 use maximum::Maximum;
@@ -16,7 +16,7 @@ use refusals::Verdict;
 
 // Checks 13 and 14: source and sink are nodes, and two.
 pub fn check_ends(nodes: usize, source: usize, sink: usize) -> Verdict
-    ensures { Judged (endChecks nodes source sink) result }
+    ensures { Judged (end_checks nodes source sink) result }
 {
     if nodes <= source {
         return Verdict::Refused(13, 0);
@@ -46,7 +46,7 @@ pub fn value_outside(value: i32) -> bool
 // Check 16 of a question: room for the flows of the edges, and for the words of a set of nodes.
 pub fn check_room(nodes: usize, edges: usize, flows: usize, set: usize) -> Verdict
     requires { nodes ≤ 1024 }
-    ensures { Judged (roomChecks nodes edges flows set) result }
+    ensures { Judged (room_checks nodes edges flows set) result }
 {
     if flows < edges {
         return Verdict::Refused(16, 0);
@@ -82,10 +82,10 @@ pub fn solve<'a>(
     set: &mut [u64],
 ) -> SolveAnswer
     requires { OpenDrawing sizes tails.now rotations.now lefts.now capacities.now order.now from.now grouped.now starts.now }
-    ensures { Solved (drawingOf sizes.nodes sizes.edges sizes.outer tails.now rotations.now capacities.now)
-        (questionChecks sizes.nodes sizes.edges demand.source demand.sink demand.value flows.old set.old)
+    ensures { Solved (drawing_of sizes.nodes sizes.edges sizes.outer tails.now rotations.now capacities.now)
+        (question_checks sizes.nodes sizes.edges demand.source demand.sink demand.value flows.old set.old)
         demand.source demand.sink demand.value flows.old flows.new set.old set.new result
-        × SetNamed (drawingOf sizes.nodes sizes.edges sizes.outer tails.now rotations.now capacities.now)
+        × SetNamed (drawing_of sizes.nodes sizes.edges sizes.outer tails.now rotations.now capacities.now)
         demand.source demand.sink demand.value set.new result }
 {
     let named = check_ends(sizes.nodes, demand.source, demand.sink);
@@ -151,8 +151,8 @@ pub fn largest<'a>(
 ) -> LargestAnswer
     requires { OpenSheet sizes tails.now rotations.now lefts.now capacities.now order.now from.now grouped.now starts.now }
     ensures { LargestFound
-        (drawingOf sizes.nodes sizes.edges sizes.outer tails.now rotations.now capacities.now)
-        (searchChecks sizes.nodes sizes.edges terminals.source terminals.sink flows.old set.old)
+        (drawing_of sizes.nodes sizes.edges sizes.outer tails.now rotations.now capacities.now)
+        (search_checks sizes.nodes sizes.edges terminals.source terminals.sink flows.old set.old)
         terminals.source terminals.sink flows.old flows.new set.old set.new result }
 {
     let named = check_ends(sizes.nodes, terminals.source, terminals.sink);
@@ -205,8 +205,8 @@ pub fn mark<'a>(
     flows: &[i32],
 ) -> MarkAnswer
     requires { OpenPaper sizes tails.now capacities.now }
-    ensures { Marked (drawingOf sizes.nodes sizes.edges sizes.outer tails.now rotations.now capacities.now)
-        (paperChecks (drawingOf sizes.nodes sizes.edges sizes.outer tails.now rotations.now capacities.now)
+    ensures { Marked (drawing_of sizes.nodes sizes.edges sizes.outer tails.now rotations.now capacities.now)
+        (paper_checks (drawing_of sizes.nodes sizes.edges sizes.outer tails.now rotations.now capacities.now)
         terminals.source terminals.sink flows.now)
         terminals.source terminals.sink flows.now result }
 {

@@ -10,94 +10,94 @@ use mir.Val.{to_z, of_z}
 use Rattle.integers.specs.inner.Limited.{Limited}
 use Rattle.integers.proofs.Laws.{le_trans}
 use Rattle.refusals.specs.Order.{Check, NoneOf, FirstOf}
-use Rattle.refusals.proofs.Order.{none-append, append-none, first-left, first-right}
+use Rattle.refusals.proofs.Order.{none_append, append_none, first_left, first_right}
 use Rattle.signed.proofs.Limits.{same_bits}
 use Rattle.maps.specs.Drawing.{Drawing}
-use Rattle.balance.proofs.Parts.{part-kept, part_filled}
-use Rattle.questions.specs.Question.{endChecks, valueChecks, roomChecks}
-use Rattle.raising.specs.Raise.{edgeChecks, limitChecks, RaiseFound}
+use Rattle.balance.proofs.Parts.{part_kept, part_filled}
+use Rattle.questions.specs.Question.{end_checks, value_checks, room_checks}
+use Rattle.raising.specs.Raise.{edge_checks, limit_checks, RaiseFound}
 use Rattle.raising.specs.inner.Sought.{Sought}
 use Rattle.raising.specs.declared.RaiseAnswer.TheVariants.{Limit}
 use Rattle.raising.specs.declared.Found.{Found}
 use Rattle.raising.specs.declared.Found.TheVariants.{At, Nowhere}
 
 -- ── 25 ──
-pub edge_in : (edges edge : ℕ) → NoneOf (edgeChecks edges edge) → edge < edges
-unfolding NoneOf edgeChecks
+pub edge_in : (edges edge : ℕ) → NoneOf (edge_checks edges edge) → edge < edges
+unfolding NoneOf edge_checks
 edge_in edges edge h = let l : edges ≤ edge → ⊥ = h.0 in omega arith
 
 -- ── the ways out ──
 module _ (nodes edges source sink : ℕ) (value : ℤ) (edge : ℕ) (flows : List ℤ) (set : List ℕ) where
   abbrev ends : List Check
-  ends = endChecks nodes source sink
+  ends = end_checks nodes source sink
 
   abbrev asked : List Check
-  asked = valueChecks value
+  asked = value_checks value
 
   abbrev channel : List Check
-  channel = edgeChecks edges edge
+  channel = edge_checks edges edge
 
   abbrev room : List Check
-  room = roomChecks nodes edges (length flows) (length set)
+  room = room_checks nodes edges (length flows) (length set)
 
-  pub raise-ends : (k p : ℕ) → FirstOf ends k p → FirstOf (limitChecks nodes edges source sink value edge flows set) k p
-  unfolding limitChecks
-  raise-ends k p h = first-left ends (asked ++ (channel ++ room)) k p h
+  pub raise_ends : (k p : ℕ) → FirstOf ends k p → FirstOf (limit_checks nodes edges source sink value edge flows set) k p
+  unfolding limit_checks
+  raise_ends k p h = first_left ends (asked ++ (channel ++ room)) k p h
 
   module _ (two : NoneOf ends) where
-    rest : (k p : ℕ) → FirstOf (asked ++ (channel ++ room)) k p → FirstOf (limitChecks nodes edges source sink value edge flows set) k p
-    unfolding limitChecks
-    rest k p h = first-right ends (asked ++ (channel ++ room)) k p two h
+    rest : (k p : ℕ) → FirstOf (asked ++ (channel ++ room)) k p → FirstOf (limit_checks nodes edges source sink value edge flows set) k p
+    unfolding limit_checks
+    rest k p h = first_right ends (asked ++ (channel ++ room)) k p two h
 
-    pub raise-value : (k p : ℕ) → FirstOf asked k p → FirstOf (limitChecks nodes edges source sink value edge flows set) k p
-    raise-value k p h = rest k p (first-left asked (channel ++ room) k p h)
+    pub raise_value : (k p : ℕ) → FirstOf asked k p → FirstOf (limit_checks nodes edges source sink value edge flows set) k p
+    raise_value k p h = rest k p (first_left asked (channel ++ room) k p h)
 
     module _ (inside : NoneOf asked) where
-      pub raise-edge : (k p : ℕ) → FirstOf channel k p → FirstOf (limitChecks nodes edges source sink value edge flows set) k p
-      raise-edge k p h = rest k p (first-right asked (channel ++ room) k p inside (first-left channel room k p h))
+      pub raise_edge : (k p : ℕ) → FirstOf channel k p → FirstOf (limit_checks nodes edges source sink value edge flows set) k p
+      raise_edge k p h = rest k p (first_right asked (channel ++ room) k p inside (first_left channel room k p h))
 
       module _ (is : NoneOf channel) where
-        pub raise-room : (k p : ℕ) → FirstOf room k p → FirstOf (limitChecks nodes edges source sink value edge flows set) k p
-        raise-room k p h = rest k p (first-right asked (channel ++ room) k p inside (first-right channel room k p is h))
+        pub raise_room : (k p : ℕ) → FirstOf room k p → FirstOf (limit_checks nodes edges source sink value edge flows set) k p
+        raise_room k p h = rest k p (first_right asked (channel ++ room) k p inside (first_right channel room k p is h))
 
-        pub raise-none : NoneOf room → NoneOf (limitChecks nodes edges source sink value edge flows set)
-        unfolding limitChecks
-        raise-none h = none-append ends (asked ++ (channel ++ room)) two (none-append asked (channel ++ room) inside (none-append channel room is h))
+        pub raise_none : NoneOf room → NoneOf (limit_checks nodes edges source sink value edge flows set)
+        unfolding limit_checks
+        raise_none h = none_append ends (asked ++ (channel ++ room)) two (none_append asked (channel ++ room) inside (none_append channel room is h))
 
   -- what an accepted question is known of
   pub record Weighed : Type 0 where
-    pub ends-two : NoneOf (endChecks nodes source sink)
-    pub value-inside : NoneOf (valueChecks value)
-    pub is-edge : NoneOf (edgeChecks edges edge)
-    pub has_room : NoneOf (roomChecks nodes edges (length flows) (length set))
+    pub ends_two : NoneOf (end_checks nodes source sink)
+    pub value_inside : NoneOf (value_checks value)
+    pub is_edge : NoneOf (edge_checks edges edge)
+    pub has_room : NoneOf (room_checks nodes edges (length flows) (length set))
 
-  pub weighed : NoneOf (limitChecks nodes edges source sink value edge flows set) → Weighed
-  unfolding limitChecks
+  pub weighed : NoneOf (limit_checks nodes edges source sink value edge flows set) → Weighed
+  unfolding limit_checks
   weighed h =
-      let a = append-none ends (asked ++ (channel ++ room)) h in
-      let b = append-none asked (channel ++ room) a.1 in
-      let c = append-none channel room b.1 in
-      record { ends-two = a.0; value-inside = b.0; is-edge = c.0; has_room = c.1 }
+      let a = append_none ends (asked ++ (channel ++ room)) h in
+      let b = append_none asked (channel ++ room) a.1 in
+      let c = append_none channel room b.1 in
+      record { ends_two = a.0; value_inside = b.0; is_edge = c.0; has_room = c.1 }
 
 -- ── what was found: the flows are lent from the front of a slice, and what was found with that part is found with the slice ──
-pub sought-back : (𝓓 : Drawing) (source sink : ℕ) (value : ℤ) (edge : ℕ) (flows y : List ℤ) (inside : List ℕ) {r answer : Found} → r ≡ answer
+pub sought_back : (𝓓 : Drawing) (source sink : ℕ) (value : ℤ) (edge : ℕ) (flows y : List ℤ) (inside : List ℕ) {r answer : Found} → r ≡ answer
     → Sought 𝓓 source sink value edge (take (𝓓.map.edges - 0) flows) y inside r
     → Sought 𝓓 source sink value edge flows (y ++ drop (𝓓.map.edges - 0) flows) inside answer
-sought-back 𝓓 source sink value edge flows y inside {r} {answer} same h =
+sought_back 𝓓 source sink value edge flows y inside {r} {answer} same h =
     go answer (subst (Sought 𝓓 source sink value edge (take (𝓓.map.edges - 0) flows) y inside) same h)
   where
     go : (a : Found) → Sought 𝓓 source sink value edge (take (𝓓.map.edges - 0) flows) y inside a
         → Sought 𝓓 source sink value edge flows (y ++ drop (𝓓.map.edges - 0) flows) inside a
     go (At v) h = (h.0, h.1, (h.2.0, h.2.1, part_filled 𝓓.map.edges flows h.2.0 y h.2.2), h.3)
-    go Nowhere h = (part-kept 𝓓.map.edges flows y h.0, h.1)
+    go Nowhere h = (part_kept 𝓓.map.edges flows y h.0, h.1)
 
 -- the capacity found, from the number of its bits
-pub told-limit : (𝓓 : Drawing) (source sink : ℕ) (value : ℤ) (edge : ℕ) (before flows : List ℤ) (inside : List ℕ) (v : ℤ)
+pub told_limit : (𝓓 : Drawing) (source sink : ℕ) (value : ℤ) (edge : ℕ) (before flows : List ℤ) (inside : List ℕ) (v : ℤ)
     → Limited 1000000 (𝓓.capacity (2 * edge)) → Sought 𝓓 source sink value edge before flows inside (At v) → to_z w32 (of_z w32 v) ≡ v
-told-limit 𝓓 source sink value edge before flows inside v small h =
+told_limit 𝓓 source sink value edge before flows inside v small h =
     let l : Limited 1000000 v = record { low = le_trans small.low h.0; high = h.1 } in same_bits (omega arith) l
 
-pub limit-as : (𝓓 : Drawing) (checks : List Check) (source sink : ℕ) (value : ℤ) (edge : ℕ) (flows flows' : List ℤ) (set set' : List ℕ) {v w : ℤ} → w ≡ v
+pub limit_as : (𝓓 : Drawing) (checks : List Check) (source sink : ℕ) (value : ℤ) (edge : ℕ) (flows flows' : List ℤ) (set set' : List ℕ) {v w : ℤ} → w ≡ v
     → RaiseFound 𝓓 checks source sink value edge flows flows' set set' (Limit v) → RaiseFound 𝓓 checks source sink value edge flows flows' set set' (Limit w)
-limit-as 𝓓 checks source sink value edge flows flows' set set' e h =
+limit_as 𝓓 checks source sink value edge flows flows' set set' e h =
     subst (λ z. RaiseFound 𝓓 checks source sink value edge flows flows' set set' (Limit z)) (sym e) h

@@ -5,20 +5,20 @@ use Rattle.std.specs.Prelude.{ℕ, ◌*◌, ◌≤◌, ◌≡◌, List, [], ◌�
 use Rattle.refusals.specs.Order.{Check, ◌when◌, NoneOf, FirstOf}
 use Rattle.maps.specs.Drawing.{Drawing}
 use Rattle.flows.specs.Settings.{Carries}
-use Rattle.questions.specs.Question.{endChecks, valueChecks, roomChecks}
+use Rattle.questions.specs.Question.{end_checks, value_checks, room_checks}
 use Rattle.questions.specs.Answered.{HighestWritten, ProofWritten}
-use Rattle.raising.specs.Raised.{raised, raisedDrawing}
+use Rattle.raising.specs.Raised.{raised, raised_drawing}
 use Rattle.raising.specs.declared.RaiseAnswer.{RaiseAnswer}
 use Rattle.raising.specs.declared.RaiseAnswer.TheVariants.{Limit, None, Refused}
 
 -- 25: there is no such edge
-unfoldable pub edgeChecks : (edges edge : ℕ) → List Check
-edgeChecks edges edge = (25 when edges ≤ edge) ∷ []
+unfoldable pub edge_checks : (edges edge : ℕ) → List Check
+edge_checks edges edge = (25 when edges ≤ edge) ∷ []
 
 -- 13, 14, 15, 25 and 16
-unfoldable pub limitChecks : (nodes edges source sink : ℕ) → ℤ → (edge : ℕ) → List ℤ → List ℕ → List Check
-limitChecks nodes edges source sink value edge flows set =
-    endChecks nodes source sink ++ (valueChecks value ++ (edgeChecks edges edge ++ roomChecks nodes edges (length flows) (length set)))
+unfoldable pub limit_checks : (nodes edges source sink : ℕ) → ℤ → (edge : ℕ) → List ℤ → List ℕ → List Check
+limit_checks nodes edges source sink value edge flows set =
+    end_checks nodes source sink ++ (value_checks value ++ (edge_checks edges edge ++ room_checks nodes edges (length flows) (length set)))
 
 -- nothing carries the value with this forward capacity of the edge
 abbrev pub Fails : Drawing → (source sink : ℕ) → ℤ → (edge : ℕ) → ℤ → Type 0
@@ -33,11 +33,11 @@ RaiseFound 𝓓 checks source sink value edge flows flows' set set' (Limit v) =
     NoneOf checks
     × (𝓓.capacity (2 * edge) ≤ℤ v)
     × (v ≤ℤ pos 1000000)
-    × HighestWritten (raisedDrawing 𝓓 edge v) source sink value flows flows'
+    × HighestWritten (raised_drawing 𝓓 edge v) source sink value flows flows'
     × ((w : ℤ) → 𝓓.capacity (2 * edge) ≤ℤ w → w <ℤ v → Fails 𝓓 source sink value edge w)
     × (set' ≡ set)
 RaiseFound 𝓓 checks source sink value edge flows flows' set set' None =
     NoneOf checks
     × (flows' ≡ flows)
-    × ProofWritten (raisedDrawing 𝓓 edge (pos 1000000)) source sink value set set'
+    × ProofWritten (raised_drawing 𝓓 edge (pos 1000000)) source sink value set set'
 RaiseFound 𝓓 checks source sink value edge flows flows' set set' (Refused k p) = FirstOf checks k p × (flows' ≡ flows) × (set' ≡ set)

@@ -6,5 +6,5 @@ use Rattle.maps.specs.Drawing.{Drawing}
 abbrev pub raised : (ℕ → ℤ) → (edge : ℕ) → ℤ → ℕ → ℤ
 raised c edge limit d = cond (eqb d (2 * edge)) limit (c d)
 
-abbrev pub raisedDrawing : Drawing → (edge : ℕ) → ℤ → Drawing
-raisedDrawing 𝓓 edge limit = record { map = 𝓓.map; capacity = raised 𝓓.capacity edge limit; outer = 𝓓.outer }
+abbrev pub raised_drawing : Drawing → (edge : ℕ) → ℤ → Drawing
+raised_drawing 𝓓 edge limit = record { map = 𝓓.map; capacity = raised 𝓓.capacity edge limit; outer = 𝓓.outer }

@@ -5,9 +5,9 @@
 // The drawing is open and sound, and held in lent arrays. Document 02, Job 7.
 ghost use Rattle.std.specs.Prelude.{◌≡◌, ◌*◌, length};
 ghost use Rattle.arrays.specs.At.{atℤ};
-ghost use Rattle.arrays.specs.Maps.{drawingOf};
+ghost use Rattle.arrays.specs.Maps.{drawing_of};
 ghost use Rattle.questions.specs.inner.Lent.{OpenSheet};
-ghost use Rattle.raising.specs.Raise.{limitChecks, Fails, RaiseFound};
+ghost use Rattle.raising.specs.Raise.{limit_checks, Fails, RaiseFound};
 ghost use Rattle.raising.specs.inner.Sought.{Sought};
 ghost use Rattle.raising.specs.inner.Lifted.{Liftable};
 
@@ -48,10 +48,10 @@ fn least_limit<'a>(
 ) -> Found
     requires { Liftable sizes demand.source demand.sink demand.value edge tails.now rotations.now lefts.now capacities.old
         order.now from.now grouped.now starts.now flows.old inside.old
-        × Fails (drawingOf sizes.nodes sizes.edges sizes.outer tails.now rotations.now capacities.old) demand.source demand.sink
+        × Fails (drawing_of sizes.nodes sizes.edges sizes.outer tails.now rotations.now capacities.old) demand.source demand.sink
         demand.value edge (atℤ capacities.old (2 * edge)) }
     ensures { (length inside.new ≡ 1024)
-        × Sought (drawingOf sizes.nodes sizes.edges sizes.outer tails.now rotations.now capacities.old)
+        × Sought (drawing_of sizes.nodes sizes.edges sizes.outer tails.now rotations.now capacities.old)
         demand.source demand.sink demand.value edge flows.old flows.new inside.new result }
 {
     let dart = 2 * edge;
@@ -112,7 +112,7 @@ fn find_limit<'a>(
     requires { Liftable sizes demand.source demand.sink demand.value edge tails.now rotations.now lefts.now capacities.old
         order.now from.now grouped.now starts.now flows.old inside.old }
     ensures { (length inside.new ≡ 1024)
-        × Sought (drawingOf sizes.nodes sizes.edges sizes.outer tails.now rotations.now capacities.old)
+        × Sought (drawing_of sizes.nodes sizes.edges sizes.outer tails.now rotations.now capacities.old)
         demand.source demand.sink demand.value edge flows.old flows.new inside.new result }
 {
     if solver::decide_from(
@@ -157,8 +157,8 @@ pub fn raise_limit<'a>(
 ) -> RaiseAnswer
     requires { (length capacities.old ≡ 1024)
         × OpenSheet sizes tails.now rotations.now lefts.now capacities.old order.now from.now grouped.now starts.now }
-    ensures { RaiseFound (drawingOf sizes.nodes sizes.edges sizes.outer tails.now rotations.now capacities.old)
-        (limitChecks sizes.nodes sizes.edges demand.source demand.sink demand.value edge flows.old set.old)
+    ensures { RaiseFound (drawing_of sizes.nodes sizes.edges sizes.outer tails.now rotations.now capacities.old)
+        (limit_checks sizes.nodes sizes.edges demand.source demand.sink demand.value edge flows.old set.old)
         demand.source demand.sink demand.value edge flows.old flows.new set.old set.new result }
 {
     let named = questions::check_ends(sizes.nodes, demand.source, demand.sink);

@@ -4,16 +4,16 @@
 use Rattle.std.specs.Prelude.{ℕ, ◌≡◌, List, ◌++◌, length, ℤ, pos, ◌+ℤ◌, ◌-ℤ◌}
 use Rattle.refusals.specs.Order.{Check, NoneOf, FirstOf}
 use Rattle.maps.specs.Drawing.{Drawing}
-use Rattle.questions.specs.Question.{endChecks, roomChecks, SetWritten}
+use Rattle.questions.specs.Question.{end_checks, room_checks, SetWritten}
 use Rattle.questions.specs.Answered.{HighestWritten, ProofWritten, Blocks}
 use Rattle.ranges.specs.declared.RangeAnswer.{RangeAnswer}
 use Rattle.ranges.specs.declared.RangeAnswer.TheVariants.{Values, None, Refused}
 
 -- 13, 14, and 16 for all four slices
-unfoldable pub spanChecks : (nodes edges source sink : ℕ) → (low : List ℤ) (below : List ℕ) (high : List ℤ) (above : List ℕ) → List Check
-spanChecks nodes edges source sink low below high above =
-    endChecks nodes source sink
-    ++ (roomChecks nodes edges (length low) (length below) ++ roomChecks nodes edges (length high) (length above))
+unfoldable pub span_checks : (nodes edges source sink : ℕ) → (low : List ℤ) (below : List ℕ) (high : List ℤ) (above : List ℕ) → List Check
+span_checks nodes edges source sink low below high above =
+    end_checks nodes source sink
+    ++ (room_checks nodes edges (length low) (length below) ++ room_checks nodes edges (length high) (length above))
 
 -- What is answered, where `checks` are the refusals in order. Lent are slices for the settings of the least value, `low`, and of the largest, `high`, and for
 -- the set of each, `below` and `above`; a name with ' is what its slice is left with.

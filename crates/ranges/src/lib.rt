@@ -1,9 +1,9 @@
 // The least and the largest value on a drawing that is open and sound, held in lent arrays. Document 02, Job 4. What carries a value from source to sink
 // carries its negative from sink to source: the least value is the negative of the largest with the ends exchanged, with the same flows and the same sets. So
 // the way back begins with what the way there found.
-ghost use Rattle.arrays.specs.Maps.{drawingOf};
+ghost use Rattle.arrays.specs.Maps.{drawing_of};
 ghost use Rattle.questions.specs.inner.Lent.{OpenSheet};
-ghost use Rattle.ranges.specs.Range.{spanChecks, RangeFound};
+ghost use Rattle.ranges.specs.Range.{span_checks, RangeFound};
 
 use arrays::{Demand, Sizes, Terminals};
 use maximum::Maximum;
@@ -37,8 +37,8 @@ pub fn least_and_largest<'a>(
     above: &mut [u64],
 ) -> RangeAnswer
     requires { OpenSheet sizes tails.now rotations.now lefts.now capacities.now order.now from.now grouped.now starts.now }
-    ensures { RangeFound (drawingOf sizes.nodes sizes.edges sizes.outer tails.now rotations.now capacities.now)
-        (spanChecks sizes.nodes sizes.edges terminals.source terminals.sink
+    ensures { RangeFound (drawing_of sizes.nodes sizes.edges sizes.outer tails.now rotations.now capacities.now)
+        (span_checks sizes.nodes sizes.edges terminals.source terminals.sink
         low.old below.old high.old above.old)
         terminals.source terminals.sink low.old low.new below.old below.new
         high.old high.new above.old above.new result }

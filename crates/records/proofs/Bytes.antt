@@ -8,122 +8,122 @@ use lib.ListN.{length, get_or}
 use lib.IntN.{pos, ◌+ℤ◌}
 use lib.Signed.{◌≤ℤ◌}
 use Rattle.refusals.specs.Order.{Check, ◌when◌, NoneOf, FirstOf, in_turn}
-use Rattle.refusals.proofs.Order.{none-append, append-none, none-in-turn, in-turn-none, first-left, first-right, first-in-turn}
+use Rattle.refusals.proofs.Order.{none_append, append_none, none_in_turn, in-turn-none, first_left, first_right, first_in_turn}
 use Rattle.maps.specs.Dart.{rev}
 use Rattle.maps.specs.Check.{InRange}
-use Rattle.records.specs.Record.{recordChecks}
-use Rattle.records.specs.Check.{CapacityOutside, numberChecks, edgeChecks}
-use Rattle.records.specs.Sheet.{kind_of, headLength, nodesOf, edgesOf, outerOf, edge_at, capacityOf, sheetMap, sheetDrawing}
-use Rattle.records.specs.Sheet.{headRecordChecks, headChecks, edgeRecordChecks, byteChecks}
-use Rattle.records.proofs.Record.{record-kind, edge-body}
-use Rattle.records.proofs.Head.{head-kind, head-lengths, head-body}
-use Rattle.records.proofs.Drawing.{counts-range, outer-range, drawing-range, drawing-capacities, drawing-pairs}
+use Rattle.records.specs.Record.{record_checks}
+use Rattle.records.specs.Check.{CapacityOutside, number_checks, edge_checks}
+use Rattle.records.specs.Sheet.{kind_of, headLength, nodes_of, edges_of, outer_of, edge_at, capacity_of, sheet_map, sheet_drawing}
+use Rattle.records.specs.Sheet.{head_record_checks, head_checks, edge_record_checks, byte_checks}
+use Rattle.records.proofs.Record.{record_kind, edge_body}
+use Rattle.records.proofs.Head.{head_kind, head_lengths, head_body}
+use Rattle.records.proofs.Drawing.{counts_range, outer_range, drawing_range, drawing_capacities, drawing_pairs}
 
 -- ── the head ──
-module _ (s : List ℕ) (passed : NoneOf (headChecks s)) where
-  head-record : NoneOf (headRecordChecks s)
-  unfolding headChecks
-  head-record = (append-none (headRecordChecks s) (numberChecks (nodesOf s) (edgesOf s) (outerOf s)) passed).0
+module _ (s : List ℕ) (passed : NoneOf (head_checks s)) where
+  head_record : NoneOf (head_record_checks s)
+  unfolding head_checks
+  head_record = (append_none (head_record_checks s) (number_checks (nodes_of s) (edges_of s) (outer_of s)) passed).0
 
-  pub head-kinds : (kind_of s ≡ 1) ⊎ (kind_of s ≡ 4)
-  head-kinds = head-kind s head-record
+  pub head_kinds : (kind_of s ≡ 1) ⊎ (kind_of s ≡ 4)
+  head_kinds = head_kind s head_record
 
-  pub head-whole : (headLength s ≤ length s) × (5 ≤ headLength s) × (headLength s ≤ 7)
-  head-whole = let l = head-lengths s head-kinds in (head-body s head-record, l.0, l.1)
+  pub head_whole : (headLength s ≤ length s) × (5 ≤ headLength s) × (headLength s ≤ 7)
+  head_whole = let l = head_lengths s head_kinds in (head_body s head_record, l.0, l.1)
 
-  pub head-range : NoneOf (numberChecks (nodesOf s) (edgesOf s) (outerOf s))
-  unfolding headChecks
-  head-range = (append-none (headRecordChecks s) (numberChecks (nodesOf s) (edgesOf s) (outerOf s)) passed).1
+  pub head_range : NoneOf (number_checks (nodes_of s) (edges_of s) (outer_of s))
+  unfolding head_checks
+  head_range = (append_none (head_record_checks s) (number_checks (nodes_of s) (edges_of s) (outer_of s)) passed).1
 
-  pub head-counts : (2 ≤ nodesOf s) × (nodesOf s ≤ 513) × (1 ≤ edgesOf s) × (edgesOf s ≤ 512)
-  head-counts = counts-range (nodesOf s) (edgesOf s) (outerOf s) head-range
+  pub head_counts : (2 ≤ nodes_of s) × (nodes_of s ≤ 513) × (1 ≤ edges_of s) × (edges_of s ≤ 512)
+  head_counts = counts_range (nodes_of s) (edges_of s) (outer_of s) head_range
 
-  head-outer : outerOf s < 2 * edgesOf s
-  head-outer = outer-range (nodesOf s) (edgesOf s) (outerOf s) head-range
+  head_outer : outer_of s < 2 * edges_of s
+  head_outer = outer_range (nodes_of s) (edges_of s) (outer_of s) head_range
 
 -- ── an edge ──
-module _ (s : List ℕ) (e : ℕ) (passed : NoneOf (edgeRecordChecks s e)) where
-  edge-record : NoneOf (recordChecks s 2 (edge_at s e))
-  unfolding edgeRecordChecks
-  edge-record = (append-none (recordChecks s 2 (edge_at s e)) (edgeChecks (sheetDrawing s) e) passed).0
+module _ (s : List ℕ) (e : ℕ) (passed : NoneOf (edge_record_checks s e)) where
+  edge_record : NoneOf (record_checks s 2 (edge_at s e))
+  unfolding edge_record_checks
+  edge_record = (append_none (record_checks s 2 (edge_at s e)) (edge_checks (sheet_drawing s) e) passed).0
 
-  edge-rest : NoneOf (edgeChecks (sheetDrawing s) e)
-  unfolding edgeRecordChecks
-  edge-rest = (append-none (recordChecks s 2 (edge_at s e)) (edgeChecks (sheetDrawing s) e) passed).1
+  edge_rest : NoneOf (edge_checks (sheet_drawing s) e)
+  unfolding edge_record_checks
+  edge_rest = (append_none (record_checks s 2 (edge_at s e)) (edge_checks (sheet_drawing s) e) passed).1
 
-  pub edge-whole : edge_at s e + 17 ≤ length s
-  edge-whole = edge-body s e edge-record
+  pub edge_whole : edge_at s e + 17 ≤ length s
+  edge_whole = edge_body s e edge_record
 
 -- ── all: the phases of the checks ──
 abbrev leftOver : List ℕ → List Check
-leftOver s = (8 when edge_at s (edgesOf s) < length s) ∷ []
+leftOver s = (8 when edge_at s (edges_of s) < length s) ∷ []
 
 abbrev edges : List ℕ → List Check
-edges s = in_turn (edgesOf s) (edgeRecordChecks s)
+edges s = in_turn (edges_of s) (edge_record_checks s)
 
-module _ (s : List ℕ) (passed : NoneOf (byteChecks s)) where
-  pub bytes-head : NoneOf (headChecks s)
-  unfolding byteChecks
-  bytes-head = (append-none (headChecks s) (edges s ++ leftOver s) passed).0
+module _ (s : List ℕ) (passed : NoneOf (byte_checks s)) where
+  pub bytes_head : NoneOf (head_checks s)
+  unfolding byte_checks
+  bytes_head = (append_none (head_checks s) (edges s ++ leftOver s) passed).0
 
-  after-head : NoneOf (edges s ++ leftOver s)
-  unfolding byteChecks
-  after-head = (append-none (headChecks s) (edges s ++ leftOver s) passed).1
+  after_head : NoneOf (edges s ++ leftOver s)
+  unfolding byte_checks
+  after_head = (append_none (head_checks s) (edges s ++ leftOver s) passed).1
 
-  pub bytes-edge : (e : ℕ) → e < edgesOf s → NoneOf (edgeRecordChecks s e)
-  bytes-edge = in-turn-none (edgesOf s) (edgeRecordChecks s) (append-none (edges s) (leftOver s) after-head).0
+  pub bytes_edge : (e : ℕ) → e < edges_of s → NoneOf (edge_record_checks s e)
+  bytes_edge = in-turn-none (edges_of s) (edge_record_checks s) (append_none (edges s) (leftOver s) after_head).0
 
-  nothing-after : length s ≤ edge_at s (edgesOf s)
+  nothing_after : length s ≤ edge_at s (edges_of s)
   unfolding NoneOf
-  nothing-after = omega (arith, (append-none (edges s) (leftOver s) after-head).1.0)
+  nothing_after = omega (arith, (append_none (edges s) (leftOver s) after_head).1.0)
 
-  pub bytes-counts : (2 ≤ nodesOf s) × (nodesOf s ≤ 513) × (1 ≤ edgesOf s) × (edgesOf s ≤ 512)
-  bytes-counts = head-counts s bytes-head
+  pub bytes_counts : (2 ≤ nodes_of s) × (nodes_of s ≤ 513) × (1 ≤ edges_of s) × (edges_of s ≤ 512)
+  bytes_counts = head_counts s bytes_head
 
-  pub bytes-outer : outerOf s < 2 * edgesOf s
-  bytes-outer = head-outer s bytes-head
+  pub bytes_outer : outer_of s < 2 * edges_of s
+  bytes_outer = head_outer s bytes_head
 
-  pub bytes-length : length s ≡ edge_at s (edgesOf s)
-  bytes-length =
-      let some = bytes-counts.2 in
-      let last = edgesOf s - 1 in
-      omega (arith, nothing-after, edge-whole s last (bytes-edge last (omega arith)))
+  pub bytes_length : length s ≡ edge_at s (edges_of s)
+  bytes_length =
+      let some = bytes_counts.2 in
+      let last = edges_of s - 1 in
+      omega (arith, nothing_after, edge_whole s last (bytes_edge last (omega arith)))
 
-  pub bytes-kinds : ((kind_of s ≡ 1) ⊎ (kind_of s ≡ 4)) × ((e : ℕ) → e < edgesOf s → get_or s (edge_at s e) 0 ≡ 2)
-  bytes-kinds = (head-kinds s bytes-head, λ e l. record-kind s 2 (edge_at s e) (edge-record s e (bytes-edge e l)))
+  pub bytes_kinds : ((kind_of s ≡ 1) ⊎ (kind_of s ≡ 4)) × ((e : ℕ) → e < edges_of s → get_or s (edge_at s e) 0 ≡ 2)
+  bytes_kinds = (head_kinds s bytes_head, λ e l. record_kind s 2 (edge_at s e) (edge_record s e (bytes_edge e l)))
 
-  pub bytes-drawn : (e : ℕ) → e < edgesOf s → NoneOf (edgeChecks (sheetDrawing s) e)
-  bytes-drawn e l = edge-rest s e (bytes-edge e l)
+  pub bytes_drawn : (e : ℕ) → e < edges_of s → NoneOf (edge_checks (sheet_drawing s) e)
+  bytes_drawn e l = edge_rest s e (bytes_edge e l)
 
-  pub bytes-range : InRange (sheetMap s)
-  bytes-range = drawing-range (sheetDrawing s) bytes-drawn
+  pub bytes_range : InRange (sheet_map s)
+  bytes_range = drawing_range (sheet_drawing s) bytes_drawn
 
-  pub bytes-capacities : (d : ℕ) → d < 2 * edgesOf s → CapacityOutside (capacityOf s d) → ⊥
-  bytes-capacities = drawing-capacities (sheetDrawing s) bytes-drawn
+  pub bytes_capacities : (d : ℕ) → d < 2 * edges_of s → CapacityOutside (capacity_of s d) → ⊥
+  bytes_capacities = drawing_capacities (sheet_drawing s) bytes_drawn
 
-  pub bytes-pairs : (d : ℕ) → d < 2 * edgesOf s → pos 0 ≤ℤ (capacityOf s d +ℤ capacityOf s (rev d))
-  bytes-pairs = drawing-pairs (sheetDrawing s) bytes-drawn
+  pub bytes_pairs : (d : ℕ) → d < 2 * edges_of s → pos 0 ≤ℤ (capacity_of s d +ℤ capacity_of s (rev d))
+  bytes_pairs = drawing_pairs (sheet_drawing s) bytes_drawn
 
 -- ── a verdict of a phase is the verdict of all ──
 module _ (s : List ℕ) where
-  pub refused-head : (k p : ℕ) → FirstOf (headChecks s) k p → FirstOf (byteChecks s) k p
-  unfolding byteChecks
-  refused-head k p h = first-left (headChecks s) (edges s ++ leftOver s) k p h
+  pub refused_head : (k p : ℕ) → FirstOf (head_checks s) k p → FirstOf (byte_checks s) k p
+  unfolding byte_checks
+  refused_head k p h = first_left (head_checks s) (edges s ++ leftOver s) k p h
 
-  module _ (head : NoneOf (headChecks s)) where
-    pub refused-edge : (e k p : ℕ) → e < edgesOf s → ((i : ℕ) → i < e → NoneOf (edgeRecordChecks s i))
-        → FirstOf (edgeRecordChecks s e) k p → FirstOf (byteChecks s) k p
-    unfolding byteChecks
-    refused-edge e k p l h g =
-        first-right (headChecks s) (edges s ++ leftOver s) k p head
-        (first-left (edges s) (leftOver s) k p (first-in-turn (edgesOf s) (edgeRecordChecks s) e k p l h g))
+  module _ (head : NoneOf (head_checks s)) where
+    pub refused_edge : (e k p : ℕ) → e < edges_of s → ((i : ℕ) → i < e → NoneOf (edge_record_checks s i))
+        → FirstOf (edge_record_checks s e) k p → FirstOf (byte_checks s) k p
+    unfolding byte_checks
+    refused_edge e k p l h g =
+        first_right (head_checks s) (edges s ++ leftOver s) k p head
+        (first_left (edges s) (leftOver s) k p (first_in_turn (edges_of s) (edge_record_checks s) e k p l h g))
 
-    pub refused-left : ((i : ℕ) → i < edgesOf s → NoneOf (edgeRecordChecks s i)) → FirstOf (leftOver s) 8 0 → FirstOf (byteChecks s) 8 0
-    unfolding byteChecks
-    refused-left h g =
-        first-right (headChecks s) (edges s ++ leftOver s) 8 0 head (first-right (edges s) (leftOver s) 8 0 (none-in-turn (edgesOf s) (edgeRecordChecks s) h) g)
+    pub refused_left : ((i : ℕ) → i < edges_of s → NoneOf (edge_record_checks s i)) → FirstOf (leftOver s) 8 0 → FirstOf (byte_checks s) 8 0
+    unfolding byte_checks
+    refused_left h g =
+        first_right (head_checks s) (edges s ++ leftOver s) 8 0 head (first_right (edges s) (leftOver s) 8 0 (none_in_turn (edges_of s) (edge_record_checks s) h) g)
 
-    pub all-passed : ((i : ℕ) → i < edgesOf s → NoneOf (edgeRecordChecks s i)) → NoneOf (leftOver s) → NoneOf (byteChecks s)
-    unfolding byteChecks
-    all-passed h g =
-        none-append (headChecks s) (edges s ++ leftOver s) head (none-append (edges s) (leftOver s) (none-in-turn (edgesOf s) (edgeRecordChecks s) h) g)
+    pub all_passed : ((i : ℕ) → i < edges_of s → NoneOf (edge_record_checks s i)) → NoneOf (leftOver s) → NoneOf (byte_checks s)
+    unfolding byte_checks
+    all_passed h g =
+        none_append (head_checks s) (edges s ++ leftOver s) head (none_append (edges s) (leftOver s) (none_in_turn (edges_of s) (edge_record_checks s) h) g)

@@ -4,6 +4,6 @@ use mathlib.Core.Logic.{◌⊎◌, inr}
 use Rattle.refusals.specs.Order.{Decides}
 use Rattle.refusals.proofs.Order.{neither}
 
-pub second-decides : {A : Type 0} (B : Type 0) (b : Bool) → (A → ⊥) → Decides B b → Decides (A ⊎ B) b
-second-decides B true f d = inr d
-second-decides B false f d = neither f d
+pub second_decides : {A : Type 0} (B : Type 0) (b : Bool) → (A → ⊥) → Decides B b → Decides (A ⊎ B) b
+second_decides B true f d = inr d
+second_decides B false f d = neither f d

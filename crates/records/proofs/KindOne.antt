@@ -8,23 +8,23 @@ use native.Mathlib.Omega.{arith}
 use Rattle.refusals.specs.Order.{Check, ◌when◌, NoneOf, FirstOf, Judged}
 use Rattle.refusals.specs.declared.Verdict.{Verdict}
 use Rattle.refusals.specs.declared.Verdict.TheVariants.{Passed, Refused}
-use Rattle.refusals.proofs.Order.{append-none, none-append, append-first, first-left}
-use Rattle.refusals.proofs.Same.{Same, same-sym, judged-same}
-use Rattle.records.specs.Record.{recordChecks}
-use Rattle.records.specs.Check.{Outside, numberChecks}
-use Rattle.records.specs.Sheet.{kind_of, nodesOf, edgesOf, outerOf, headRecordChecks, headChecks}
+use Rattle.refusals.proofs.Order.{append_none, none_append, append_first, first_left}
+use Rattle.refusals.proofs.Same.{Same, same_sym, judged_same}
+use Rattle.records.specs.Record.{record_checks}
+use Rattle.records.specs.Check.{Outside, number_checks}
+use Rattle.records.specs.Sheet.{kind_of, nodes_of, edges_of, outer_of, head_record_checks, head_checks}
 use Rattle.records.proofs.Drawing.{not_left, not_right}
-use Rattle.records.proofs.Head.{head-long, kind-one-outer}
+use Rattle.records.proofs.Head.{head_long, kind_one_outer}
 
 -- document 01's checks of a head
-abbrev pub plainHeadChecks : List ℕ → List Check
-plainHeadChecks s = recordChecks s 1 0 ++ ((3 when Outside 2 513 (nodesOf s) ⊎ Outside 1 512 (edgesOf s)) ∷ [])
+abbrev pub plain_head_checks : List ℕ → List Check
+plain_head_checks s = record_checks s 1 0 ++ ((3 when Outside 2 513 (nodes_of s) ⊎ Outside 1 512 (edges_of s)) ∷ [])
 
 -- a last check that cannot hold where none before it does decides nothing
-judged-but-last : (cs : List Check) (k : ℕ) (P : Type 0) → (NoneOf cs → P → ⊥) → (v : Verdict) → Judged (cs ++ ((k when P) ∷ [])) v ↔ Judged cs v
+judged_but_last : (cs : List Check) (k : ℕ) (P : Type 0) → (NoneOf cs → P → ⊥) → (v : Verdict) → Judged (cs ++ ((k when P) ∷ [])) v ↔ Judged cs v
 unfolding NoneOf FirstOf
-judged-but-last cs k P never Passed = ((λ h. (append-none cs ((k when P) ∷ []) h).0), (λ h. none-append cs ((k when P) ∷ []) h (never h, tt)))
-judged-but-last cs k P never (Refused j p) = ((λ h. go (append-first cs ((k when P) ∷ []) j p h)), first-left cs ((k when P) ∷ []) j p)
+judged_but_last cs k P never Passed = ((λ h. (append_none cs ((k when P) ∷ []) h).0), (λ h. none_append cs ((k when P) ∷ []) h (never h, tt)))
+judged_but_last cs k P never (Refused j p) = ((λ h. go (append_first cs ((k when P) ∷ []) j p h)), first_left cs ((k when P) ∷ []) j p)
   where
     last : NoneOf cs → FirstOf ((k when P) ∷ []) j p → ⊥
     last none (inl h) = never none h.0
@@ -36,13 +36,13 @@ judged-but-last cs k P never (Refused j p) = ((λ h. go (append-first cs ((k whe
 
 module _ (s : List ℕ) (one : kind_of s ≡ 1) where
   -- the head's checks but for 24
-  abbrev before-24 : List Check
-  before-24 = headRecordChecks s ++ ((3 when Outside 2 513 (nodesOf s) ⊎ Outside 1 512 (edgesOf s)) ∷ [])
+  abbrev before_24 : List Check
+  before_24 = head_record_checks s ++ ((3 when Outside 2 513 (nodes_of s) ⊎ Outside 1 512 (edges_of s)) ∷ [])
 
-  same : Same before-24 (plainHeadChecks s)
-  unfolding Same headRecordChecks recordChecks
+  same : Same before_24 (plain_head_checks s)
+  unfolding Same head_record_checks record_checks
   same =
-      let long = head-long s 1 one in (
+      let long = head_long s 1 one in (
         refl,
         refl,
         (λ h. h),
@@ -57,15 +57,15 @@ module _ (s : List ℕ) (one : kind_of s ≡ 1) where
       )
 
   -- where there is an edge, dart 0 is a dart
-  never : NoneOf before-24 → 2 * edgesOf s ≤ outerOf s → ⊥
+  never : NoneOf before_24 → 2 * edges_of s ≤ outer_of s → ⊥
   unfolding NoneOf
   never none h =
-      let three = (append-none (headRecordChecks s) ((3 when Outside 2 513 (nodesOf s) ⊎ Outside 1 512 (edgesOf s)) ∷ []) none).1.0 in
-      omega (arith, kind-one-outer s one, not_left (not_right three))
+      let three = (append_none (head_record_checks s) ((3 when Outside 2 513 (nodes_of s) ⊎ Outside 1 512 (edges_of s)) ∷ []) none).1.0 in
+      omega (arith, kind_one_outer s one, not_left (not_right three))
 
-  pub kind-one-judged : (v : Verdict) → Judged (headChecks s) v ↔ Judged (plainHeadChecks s) v
-  unfolding headChecks headRecordChecks numberChecks
-  kind-one-judged v =
-      let last = judged-but-last before-24 24 (2 * edgesOf s ≤ outerOf s) never v in
-      let back = same-sym before-24 (plainHeadChecks s) same in
-      ((λ h. judged-same before-24 (plainHeadChecks s) v same (last.0 h)), (λ h. last.1 (judged-same (plainHeadChecks s) before-24 v back h)))
+  pub kind_one_judged : (v : Verdict) → Judged (head_checks s) v ↔ Judged (plain_head_checks s) v
+  unfolding head_checks head_record_checks number_checks
+  kind_one_judged v =
+      let last = judged_but_last before_24 24 (2 * edges_of s ≤ outer_of s) never v in
+      let back = same_sym before_24 (plain_head_checks s) same in
+      ((λ h. judged_same before_24 (plain_head_checks s) v same (last.0 h)), (λ h. last.1 (judged_same (plain_head_checks s) before_24 v back h)))

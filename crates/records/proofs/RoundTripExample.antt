@@ -7,14 +7,14 @@ use lib.ListN.{get_or, get_or-eq_default}
 use lib.IntN.{pos, negsuc}
 use Rattle.refusals.specs.Order.{NoneOf}
 use Rattle.refusals.proofs.Order.{neither}
-use Rattle.fields.specs.Fields.{le16, leBits, le32}
+use Rattle.fields.specs.Fields.{le16, le_bits, le32}
 use Rattle.maps.specs.Drawing.{Drawing}
-use Rattle.records.specs.Check.{numberChecks, fieldChecks, edgeChecks}
-use Rattle.records.specs.Sheet.{sheetDrawing, byteChecks}
-use Rattle.records.specs.Encode.{encodeHead, encodeEdge, encodeEdges, encode}
-use Rattle.records.proofs.Encodable.{Encodable, encodable-of-checks}
-use Rattle.records.proofs.Decode.{sheet-encode}
-use Rattle.records.proofs.EncodeAccepted.{encode-accepted}
+use Rattle.records.specs.Check.{number_checks, field_checks, edge_checks}
+use Rattle.records.specs.Sheet.{sheet_drawing, byte_checks}
+use Rattle.records.specs.Encode.{encode_head, encode_edge, encode_edges, encode}
+use Rattle.records.proofs.Encodable.{Encodable, encodable_of_checks}
+use Rattle.records.proofs.Decode.{sheet_encode}
+use Rattle.records.proofs.EncodeAccepted.{encode_accepted}
 
 -- an edge from node 0 to node 1; each node has one dart, which is its own next; capacities 5 and -3
 abbrev bridge : Drawing
@@ -26,39 +26,39 @@ bridge =
     }
 
 -- the head, with dart 1 on the outer face, then the kind of an edge with its ends and turns, then its capacities
-abbrev bridgeSheet : List ℕ
-bridgeSheet = 4 ∷ 2 ∷ 0 ∷ 1 ∷ 0 ∷ 1 ∷ 0 ∷ 2 ∷ 0 ∷ 0 ∷ 1 ∷ 0 ∷ 0 ∷ 0 ∷ 1 ∷ 0 ∷ 5 ∷ 0 ∷ 0 ∷ 0 ∷ 253 ∷ 255 ∷ 255 ∷ 255 ∷ []
+abbrev bridge_sheet : List ℕ
+bridge_sheet = 4 ∷ 2 ∷ 0 ∷ 1 ∷ 0 ∷ 1 ∷ 0 ∷ 2 ∷ 0 ∷ 0 ∷ 1 ∷ 0 ∷ 0 ∷ 0 ∷ 1 ∷ 0 ∷ 5 ∷ 0 ∷ 0 ∷ 0 ∷ 253 ∷ 255 ∷ 255 ∷ 255 ∷ []
 
-bridge-encoded : encode bridge ≡ bridgeSheet
-unfolding encode encodeHead encodeEdges encodeEdge le16 le32 leBits
-bridge-encoded = refl
+bridge_encoded : encode bridge ≡ bridge_sheet
+unfolding encode encode_head encode_edges encode_edge le16 le32 le_bits
+bridge_encoded = refl
 
-bridge-numbers : NoneOf (numberChecks 2 1 1)
-unfolding numberChecks NoneOf
-bridge-numbers = (neither (neither (λ l. omega arith) (λ l. omega arith)) (neither (λ l. omega arith) (λ l. omega arith)), ((λ l. omega arith), tt))
+bridge_numbers : NoneOf (number_checks 2 1 1)
+unfolding number_checks NoneOf
+bridge_numbers = (neither (neither (λ l. omega arith) (λ l. omega arith)) (neither (λ l. omega arith) (λ l. omega arith)), ((λ l. omega arith), tt))
 
-bridge-edges : (e : ℕ) → e < 1 → NoneOf (edgeChecks bridge e)
-unfolding edgeChecks fieldChecks NoneOf
-bridge-edges zero h = (
+bridge_edges : (e : ℕ) → e < 1 → NoneOf (edge_checks bridge e)
+unfolding edge_checks field_checks NoneOf
+bridge_edges zero h = (
   neither (λ l. omega arith) (λ l. omega arith),
   (
     neither (λ l. omega arith) (λ l. omega arith),
     (neither (neither (λ l. l.lt) (λ l. l.lt)) (neither (λ l. l.lt) (λ l. l.lt)), ((λ l. l.lt), tt)),
   ),
 )
-bridge-edges (suc e) h = absurd (omega arith)
+bridge_edges (suc e) h = absurd (omega arith)
 
-bridge-encodable : Encodable bridge
-bridge-encodable =
-    encodable-of-checks bridge bridge-numbers bridge-edges
+bridge_encodable : Encodable bridge
+bridge_encodable =
+    encodable_of_checks bridge bridge_numbers bridge_edges
     (record {
-      tail-zero = λ d h. get_or-eq_default (0 ∷ 1 ∷ []) 0 h;
-      rotation-zero = λ d h. get_or-eq_default (0 ∷ 1 ∷ []) 0 h;
-      capacity-zero = λ d h. get_or-eq_default (pos 5 ∷ negsuc 2 ∷ []) (pos 0) h;
+      tail_zero = λ d h. get_or-eq_default (0 ∷ 1 ∷ []) 0 h;
+      rotation_zero = λ d h. get_or-eq_default (0 ∷ 1 ∷ []) 0 h;
+      capacity_zero = λ d h. get_or-eq_default (pos 5 ∷ negsuc 2 ∷ []) (pos 0) h;
     })
 
-bridge-accepted : NoneOf (byteChecks bridgeSheet)
-bridge-accepted = rw (← bridge-encoded) (encode-accepted bridge bridge-encodable bridge-numbers bridge-edges)
+bridge_accepted : NoneOf (byte_checks bridge_sheet)
+bridge_accepted = rw (← bridge_encoded) (encode_accepted bridge bridge_encodable bridge_numbers bridge_edges)
 
-bridge-read : sheetDrawing bridgeSheet ≡ bridge
-bridge-read = rw (← bridge-encoded) (sheet-encode bridge bridge-encodable)
+bridge_read : sheet_drawing bridge_sheet ≡ bridge
+bridge_read = rw (← bridge_encoded) (sheet_encode bridge bridge_encodable)

@@ -14,25 +14,25 @@ abbrev pub CapacityOutside : ℤ → Type 0
 CapacityOutside c = (c <ℤ negsuc 999999) ⊎ (pos 1000000 <ℤ c)
 
 -- 3 and 24, on the numbers of a head: both counts, and the outer dart, which must be a dart of the drawing
-unfoldable pub numberChecks : (nodes edges outer : ℕ) → List Check
-numberChecks nodes edges outer = (3 when Outside 2 513 nodes ⊎ Outside 1 512 edges) ∷ (24 when 2 * edges ≤ outer) ∷ []
+unfoldable pub number_checks : (nodes edges outer : ℕ) → List Check
+number_checks nodes edges outer = (3 when Outside 2 513 nodes ⊎ Outside 1 512 edges) ∷ (24 when 2 * edges ≤ outer) ∷ []
 
 -- 6 and 7, on the two capacities of an edge
-abbrev pub capacityChecks : (forward backward : ℤ) → List Check
-capacityChecks forward backward =
+abbrev pub capacity_checks : (forward backward : ℤ) → List Check
+capacity_checks forward backward =
     (6 when CapacityOutside forward ⊎ CapacityOutside backward)
     ∷ (7 when (forward +ℤ backward) <ℤ pos 0)
     ∷ []
 
 -- 4 to 7 on the six fields of an edge's record, in their order there; a rotation must be a dart of the whole drawing
-unfoldable pub fieldChecks : ℕ → ℕ → (tail head rotation backRotation : ℕ) (forward backward : ℤ) → List Check
-fieldChecks nodes edges tail head rotation backRotation forward backward =
+unfoldable pub field_checks : ℕ → ℕ → (tail head rotation backRotation : ℕ) (forward backward : ℤ) → List Check
+field_checks nodes edges tail head rotation backRotation forward backward =
     (4 when (nodes ≤ tail) ⊎ (nodes ≤ head))
     ∷ (5 when (2 * edges ≤ rotation) ⊎ (2 * edges ≤ backRotation))
-    ∷ capacityChecks forward backward
+    ∷ capacity_checks forward backward
 
 -- 4 to 7 on the edge e of a drawing
-unfoldable pub edgeChecks : Drawing → ℕ → List Check
-edgeChecks 𝓓 e =
-    fieldChecks 𝓓.map.nodes 𝓓.map.edges
+unfoldable pub edge_checks : Drawing → ℕ → List Check
+edge_checks 𝓓 e =
+    field_checks 𝓓.map.nodes 𝓓.map.edges
     (𝓓.map.tail (2 * e)) (𝓓.map.tail (2 * e + 1)) (𝓓.map.rotation (2 * e)) (𝓓.map.rotation (2 * e + 1)) (𝓓.capacity (2 * e)) (𝓓.capacity (2 * e + 1))

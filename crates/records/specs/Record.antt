@@ -5,17 +5,17 @@ use Rattle.std.specs.Prelude.{ℕ, ◌+◌, ◌≤◌, ◌<◌, ◌≢◌, cond,
 use Rattle.refusals.specs.Order.{Check, ◌when◌}
 
 -- the table; 0 for a kind that there is not
-abbrev pub bodyLength : ℕ → ℕ
-bodyLength kind = cond (ltb kind 6) (get_or (0 ∷ 4 ∷ 16 ∷ 8 ∷ 6 ∷ 10 ∷ []) kind 0) 0
+abbrev pub body_length : ℕ → ℕ
+body_length kind = cond (ltb kind 6) (get_or (0 ∷ 4 ∷ 16 ∷ 8 ∷ 6 ∷ 10 ∷ []) kind 0) 0
 
 -- the byte of kind, and the body
-abbrev pub recordLength : ℕ → ℕ
-recordLength kind = 1 + bodyLength kind
+abbrev pub record_length : ℕ → ℕ
+record_length kind = 1 + body_length kind
 
 -- a record of this kind is asked for at `at`: "1 no byte; 2 kind not 2; 1 body cut short", and so for a question; a head may have either of two kinds
-unfoldable pub recordChecks : List ℕ → ℕ → ℕ → List Check
-recordChecks s kind at =
+unfoldable pub record_checks : List ℕ → ℕ → ℕ → List Check
+record_checks s kind at =
     (1 when length s ≤ at)
     ∷ (2 when get_or s at 0 ≢ kind)
-    ∷ (1 when length s < at + recordLength kind)
+    ∷ (1 when length s < at + record_length kind)
     ∷ []

@@ -1,10 +1,10 @@
 // Records of a sheet: the table of body lengths, and the checks 1 to 8 on bytes, in the order of document 01, "Operations".
 ghost use Rattle.std.specs.Prelude.{◌≡◌, ◌⊎◌, ◌≢◌, ◌+◌, ◌*◌, ◌<◌, ◌≤◌, length, pos, ◌+ℤ◌, ◌<ℤ◌};
 ghost use Rattle.refusals.specs.Order.{Judged, Decides};
-ghost use Rattle.fields.specs.Fields.{u16At};
-ghost use Rattle.records.specs.Record.{bodyLength, recordLength, recordChecks};
-ghost use Rattle.records.specs.Check.{Outside, CapacityOutside, numberChecks, capacityChecks, fieldChecks};
-ghost use Rattle.records.specs.Sheet.{nodesOf, edgesOf, outerOf, headLength, edgeAfter, headRecordChecks};
+ghost use Rattle.fields.specs.Fields.{u16_at};
+ghost use Rattle.records.specs.Record.{body_length, record_length, record_checks};
+ghost use Rattle.records.specs.Check.{Outside, CapacityOutside, number_checks, capacity_checks, field_checks};
+ghost use Rattle.records.specs.Sheet.{nodes_of, edges_of, outer_of, headLength, edge_after, head_record_checks};
 ghost use Rattle.records.specs.inner.Reading.{HeadRead, EdgeRead};
 
 use refusals::Verdict;
@@ -22,7 +22,7 @@ fn wide8(x: u8) -> usize
 // A field of 16 bits, widened.
 fn read_wide(s: &[u8], at: usize) -> usize
     requires { at + 1 < length s.now }
-    ensures { result ≡ u16At s.now at }
+    ensures { result ≡ u16_at s.now at }
 {
     let x = fields::read_u16(s, at);
     x as usize
@@ -30,22 +30,22 @@ fn read_wide(s: &[u8], at: usize) -> usize
 
 // The two counts of a head.
 pub fn nodes_of(s: &[u8]) -> usize
-    requires { recordLength 1 ≤ length s.now }
-    ensures { result ≡ nodesOf s.now }
+    requires { record_length 1 ≤ length s.now }
+    ensures { result ≡ nodes_of s.now }
 {
     read_wide(s, 1)
 }
 
 pub fn edges_of(s: &[u8]) -> usize
-    requires { recordLength 1 ≤ length s.now }
-    ensures { result ≡ edgesOf s.now }
+    requires { record_length 1 ≤ length s.now }
+    ensures { result ≡ edges_of s.now }
 {
     read_wide(s, 3)
 }
 
 // Every reader of records takes a body's length from the table; 0 for a kind that there is not.
 pub fn body_length(kind: u8) -> u8
-    ensures { result ≡ bodyLength kind }
+    ensures { result ≡ body_length kind }
 {
     let k = kind as usize;
     if k < 6 { BODY[k] } else { 0 }
@@ -53,7 +53,7 @@ pub fn body_length(kind: u8) -> u8
 
 // A record: the byte of kind, and the body.
 pub fn record_length(kind: u8) -> usize
-    ensures { (result ≡ recordLength kind) × (result ≤ 256) }
+    ensures { (result ≡ record_length kind) × (result ≤ 256) }
 {
     1 + wide8(body_length(kind))
 }
@@ -70,7 +70,7 @@ pub fn head_length(s: &[u8]) -> usize
 // The dart on the outer face that the head names after its counts: a head of kind 1 names none, and it is dart 0. Only a head of kind 4 is read there.
 pub fn outer_of(s: &[u8]) -> usize
     requires { headLength s.now ≤ length s.now }
-    ensures { result ≡ outerOf s.now }
+    ensures { result ≡ outer_of s.now }
 {
     if s[0] == 4 { read_wide(s, 5) } else { 0 }
 }
@@ -78,7 +78,7 @@ pub fn outer_of(s: &[u8]) -> usize
 // Where the record of edge e begins, after a head of so many bytes; after the last one the sheet ends.
 pub fn edge_at(head: usize, e: usize) -> usize
     requires { (head ≤ 256) × (e ≤ 512) }
-    ensures { result ≡ edgeAfter head e }
+    ensures { result ≡ edge_after head e }
 {
     head + record_length(2) * e
 }
@@ -86,7 +86,7 @@ pub fn edge_at(head: usize, e: usize) -> usize
 // A record of this kind, whole, at `at`. A wrong kind is 2 even where the body is cut short. Of a record that is whole only the kind is left to look at.
 pub fn check_record(s: &[u8], kind: u8, at: usize) -> Verdict
     requires { at ≤ 100000 }
-    ensures { Judged (recordChecks s.now kind at) result }
+    ensures { Judged (record_checks s.now kind at) result }
 {
     let end = at + record_length(kind);
     if end <= s.len() {
@@ -119,7 +119,7 @@ fn outside(low: usize, high: usize, x: usize) -> bool
 
 // Checks 3 and 24: 2 to 513 nodes, 1 to 512 edges, then an outer dart that is a dart. Twice the edges is taken only once they are known to be few.
 pub fn check_numbers(nodes: usize, edges: usize, outer: usize) -> Verdict
-    ensures { Judged (numberChecks nodes edges outer) result }
+    ensures { Judged (number_checks nodes edges outer) result }
 {
     if outside(2, 513, nodes) {
         return Verdict::Refused(3, 0);
@@ -148,7 +148,7 @@ fn no_head(kind: u8) -> bool
 
 // The record of a head, of either kind, whole. As for every record the kind is looked at before the length, which depends on it.
 fn check_head_record(s: &[u8]) -> Verdict
-    ensures { Judged (headRecordChecks s.now) result }
+    ensures { Judged (head_record_checks s.now) result }
 {
     if s.len() == 0 {
         return Verdict::Refused(1, 0);
@@ -256,7 +256,7 @@ fn below_zero(x: i32, y: i32) -> bool
 
 // Checks 6 and 7 on the two capacities of an edge. The first that holds is named: a capacity out of range is 6 even where the two add to less than zero.
 pub fn check_capacities(forward: i32, backward: i32) -> Verdict
-    ensures { Judged (capacityChecks forward backward) result }
+    ensures { Judged (capacity_checks forward backward) result }
 {
     let beyond = capacities_outside(forward, backward);
     let negative = below_zero(forward, backward);
@@ -281,7 +281,7 @@ pub fn check_fields(
     backward: i32,
 ) -> Verdict
     requires { edges ≤ 512 }
-    ensures { Judged (fieldChecks nodes edges tail head rotation back_rotation forward backward) result }
+    ensures { Judged (field_checks nodes edges tail head rotation back_rotation forward backward) result }
 {
     let darts = 2 * edges;
     if names_none(nodes, tail, head) {
@@ -322,7 +322,7 @@ fn refused_edge(number: u8, place: u16) -> EdgeRecord
 // Reads the record of edge e and checks it against the head's counts: the record, whole, then its fields. They are read once, and only of a record that is
 // known to be whole.
 pub fn read_edge(s: &[u8], head: usize, nodes: usize, edges: usize, e: usize) -> EdgeRecord
-    requires { (edges ≤ 512) × (e < edges) × (head ≤ 256) × (head ≡ headLength s.now) × (nodes ≡ nodesOf s.now) × (edges ≡ edgesOf s.now) }
+    requires { (edges ≤ 512) × (e < edges) × (head ≤ 256) × (head ≡ headLength s.now) × (nodes ≡ nodes_of s.now) × (edges ≡ edges_of s.now) }
     ensures { EdgeRead s.now e result result.verdict }
 {
     let at = edge_at(head, e);

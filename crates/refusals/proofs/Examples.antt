@@ -13,9 +13,9 @@ unfolding FirstOf in_turn
 lowest = inl (tt, refl, refl)
 
 -- edge 2 fails check 5 and edge 1 fails check 6: refused 6, since edge 1 comes first
-unfoldable five-then-six : ℕ → List Check
-five-then-six e = (5 when e ≡ 2) ∷ (6 when e ≡ 1) ∷ []
+unfoldable five_then_six : ℕ → List Check
+five_then_six e = (5 when e ≡ 2) ∷ (6 when e ≡ 1) ∷ []
 
-edge-by-edge : Judged (in_turn 3 five-then-six) (Refused 6 0)
-unfolding FirstOf in_turn five-then-six
-edge-by-edge = inr (λ h. omega arith, inr (λ h. omega arith, inr (λ h. omega arith, inl (refl, refl, refl))))
+edge_by_edge : Judged (in_turn 3 five_then_six) (Refused 6 0)
+unfolding FirstOf in_turn five_then_six
+edge_by_edge = inr (λ h. omega arith, inr (λ h. omega arith, inr (λ h. omega arith, inl (refl, refl, refl))))

@@ -11,66 +11,66 @@ use Rattle.refusals.specs.declared.Verdict.{Verdict}
 use Rattle.refusals.specs.declared.Verdict.TheVariants.{Passed, Refused}
 
 -- ── two lists joined ──
-pub none-append : (xs ys : List Check) → NoneOf xs → NoneOf ys → NoneOf (xs ++ ys)
+pub none_append : (xs ys : List Check) → NoneOf xs → NoneOf ys → NoneOf (xs ++ ys)
 unfolding NoneOf
-none-append [] ys h g = g
-none-append ((j at q when P) ∷ xs) ys h g = (h.0, none-append xs ys h.1 g)
+none_append [] ys h g = g
+none_append ((j at q when P) ∷ xs) ys h g = (h.0, none_append xs ys h.1 g)
 
-pub append-none : (xs ys : List Check) → NoneOf (xs ++ ys) → NoneOf xs × NoneOf ys
+pub append_none : (xs ys : List Check) → NoneOf (xs ++ ys) → NoneOf xs × NoneOf ys
 unfolding NoneOf
-append-none [] ys h = (tt, h)
-append-none ((j at q when P) ∷ xs) ys h = let r = append-none xs ys h.1 in ((h.0, r.0), r.1)
+append_none [] ys h = (tt, h)
+append_none ((j at q when P) ∷ xs) ys h = let r = append_none xs ys h.1 in ((h.0, r.0), r.1)
 
-pub first-left : (xs ys : List Check) (k p : ℕ) → FirstOf xs k p → FirstOf (xs ++ ys) k p
+pub first_left : (xs ys : List Check) (k p : ℕ) → FirstOf xs k p → FirstOf (xs ++ ys) k p
 unfolding FirstOf
-first-left [] ys k p h = absurd h
-first-left ((j at q when P) ∷ xs) ys k p (inl h) = inl h
-first-left ((j at q when P) ∷ xs) ys k p (inr h) = inr (h.0, first-left xs ys k p h.1)
+first_left [] ys k p h = absurd h
+first_left ((j at q when P) ∷ xs) ys k p (inl h) = inl h
+first_left ((j at q when P) ∷ xs) ys k p (inr h) = inr (h.0, first_left xs ys k p h.1)
 
-pub first-right : (xs ys : List Check) (k p : ℕ) → NoneOf xs → FirstOf ys k p → FirstOf (xs ++ ys) k p
+pub first_right : (xs ys : List Check) (k p : ℕ) → NoneOf xs → FirstOf ys k p → FirstOf (xs ++ ys) k p
 unfolding FirstOf NoneOf
-first-right [] ys k p h g = g
-first-right ((j at q when P) ∷ xs) ys k p h g = inr (h.0, first-right xs ys k p h.1 g)
+first_right [] ys k p h g = g
+first_right ((j at q when P) ∷ xs) ys k p h g = inr (h.0, first_right xs ys k p h.1 g)
 
-pub append-first : (xs ys : List Check) (k p : ℕ) → FirstOf (xs ++ ys) k p → FirstOf xs k p ⊎ (NoneOf xs × FirstOf ys k p)
+pub append_first : (xs ys : List Check) (k p : ℕ) → FirstOf (xs ++ ys) k p → FirstOf xs k p ⊎ (NoneOf xs × FirstOf ys k p)
 unfolding FirstOf NoneOf
-append-first [] ys k p h = inr (tt, h)
-append-first ((j at q when P) ∷ xs) ys k p (inl h) = inl (inl h)
-append-first ((j at q when P) ∷ xs) ys k p (inr h) = go (append-first xs ys k p h.1)
+append_first [] ys k p h = inr (tt, h)
+append_first ((j at q when P) ∷ xs) ys k p (inl h) = inl (inl h)
+append_first ((j at q when P) ∷ xs) ys k p (inr h) = go (append_first xs ys k p h.1)
   where
     go : FirstOf xs k p ⊎ (NoneOf xs × FirstOf ys k p) → ((P × (k ≡ j) × (p ≡ q)) ⊎ ((P → ⊥) × FirstOf xs k p)) ⊎ (((P → ⊥) × NoneOf xs) × FirstOf ys k p)
     go (inl g) = inl (inr (h.0, g))
     go (inr g) = inr ((h.0, g.0), g.1)
 
 -- ── each of 0, .., n - 1 in turn ──
-pub none-in-turn : (n : ℕ) (f : ℕ → List Check) → ((i : ℕ) → i < n → NoneOf (f i)) → NoneOf (in_turn n f)
+pub none_in_turn : (n : ℕ) (f : ℕ → List Check) → ((i : ℕ) → i < n → NoneOf (f i)) → NoneOf (in_turn n f)
 unfolding in_turn NoneOf
-none-in-turn zero f h = tt
-none-in-turn (suc n) f h = none-append (in_turn n f) (f n) (none-in-turn n f (λ i l. h i (omega arith))) (h n (omega arith))
+none_in_turn zero f h = tt
+none_in_turn (suc n) f h = none_append (in_turn n f) (f n) (none_in_turn n f (λ i l. h i (omega arith))) (h n (omega arith))
 
 pub in-turn-none : (n : ℕ) (f : ℕ → List Check) → NoneOf (in_turn n f) → (i : ℕ) → i < n → NoneOf (f i)
 unfolding in_turn
 in-turn-none zero f h i l = absurd (omega arith)
-in-turn-none (suc n) f h i l = go (append-none (in_turn n f) (f n) h) (ℕ_discrete i n) (in-turn-none n f)
+in-turn-none (suc n) f h i l = go (append_none (in_turn n f) (f n) h) (ℕ_discrete i n) (in-turn-none n f)
   where
     go : NoneOf (in_turn n f) × NoneOf (f n) → Dec (i ≡ n) → (NoneOf (in_turn n f) → (i : ℕ) → i < n → NoneOf (f i)) → NoneOf (f i)
     go r (yes e) ih = rw e r.1
     go r (no e) ih = ih r.0 i (omega (arith, e))
 
-pub first-in-turn : (n : ℕ) (f : ℕ → List Check) (e k p : ℕ) → e < n → ((i : ℕ) → i < e → NoneOf (f i)) → FirstOf (f e) k p → FirstOf (in_turn n f) k p
+pub first_in_turn : (n : ℕ) (f : ℕ → List Check) (e k p : ℕ) → e < n → ((i : ℕ) → i < e → NoneOf (f i)) → FirstOf (f e) k p → FirstOf (in_turn n f) k p
 unfolding in_turn
-first-in-turn zero f e k p l h g = absurd (omega arith)
-first-in-turn (suc n) f e k p l h g = go (ℕ_discrete e n) (first-in-turn n f e k p)
+first_in_turn zero f e k p l h g = absurd (omega arith)
+first_in_turn (suc n) f e k p l h g = go (ℕ_discrete e n) (first_in_turn n f e k p)
   where
     go : Dec (e ≡ n) → (e < n → ((i : ℕ) → i < e → NoneOf (f i)) → FirstOf (f e) k p → FirstOf (in_turn n f) k p) → FirstOf (in_turn n f ++ f n) k p
-    go (yes q) r = first-right (in_turn n f) (f n) k p (none-in-turn n f (λ i m. h i (omega arith))) (rw q at g)
-    go (no q) r = first-left (in_turn n f) (f n) k p (r (omega (arith, q)) h g)
+    go (yes q) r = first_right (in_turn n f) (f n) k p (none_in_turn n f (λ i m. h i (omega arith))) (rw q at g)
+    go (no q) r = first_left (in_turn n f) (f n) k p (r (omega (arith, q)) h g)
 
 -- the first that holds is of some e, and of none lower
 pub in-turn-first : (n : ℕ) (f : ℕ → List Check) (k p : ℕ) → FirstOf (in_turn n f) k p → (e : ℕ) × (e < n) × ((i : ℕ) → i < e → NoneOf (f i)) × FirstOf (f e) k p
 unfolding in_turn FirstOf
 in-turn-first zero f k p h = absurd h
-in-turn-first (suc n) f k p h = go (append-first (in_turn n f) (f n) k p h) (in-turn-first n f k p)
+in-turn-first (suc n) f k p h = go (append_first (in_turn n f) (f n) k p h) (in-turn-first n f k p)
   where
     go : FirstOf (in_turn n f) k p ⊎ (NoneOf (in_turn n f) × FirstOf (f n) k p)
         → (FirstOf (in_turn n f) k p → (e : ℕ) × (e < n) × ((i : ℕ) → i < e → NoneOf (f i)) × FirstOf (f e) k p)
@@ -79,11 +79,11 @@ in-turn-first (suc n) f k p h = go (append-first (in_turn n f) (f n) k p h) (in-
     go (inr g) ih = (n, omega arith, in-turn-none n f g.0, g.1)
 
 -- ── one verdict only ──
-pub first-none : (cs : List Check) (k p : ℕ) → FirstOf cs k p → NoneOf cs → ⊥
+pub first_none : (cs : List Check) (k p : ℕ) → FirstOf cs k p → NoneOf cs → ⊥
 unfolding FirstOf NoneOf
-first-none [] k p h g = h
-first-none ((j at q when P) ∷ cs) k p (inl h) g = g.0 h.0
-first-none ((j at q when P) ∷ cs) k p (inr h) g = first-none cs k p h.1 g.1
+first_none [] k p h g = h
+first_none ((j at q when P) ∷ cs) k p (inl h) g = g.0 h.0
+first_none ((j at q when P) ∷ cs) k p (inr h) g = first_none cs k p h.1 g.1
 
 pub first_one : (cs : List Check) (j q k p : ℕ) → FirstOf cs j q → FirstOf cs k p → (j ≡ k) × (q ≡ p)
 unfolding FirstOf
@@ -93,26 +93,26 @@ first_one ((i at o when P) ∷ cs) j q k p (inl h) (inr g) = absurd (g.0 h.0)
 first_one ((i at o when P) ∷ cs) j q k p (inr h) (inl g) = absurd (h.0 g.0)
 first_one ((i at o when P) ∷ cs) j q k p (inr h) (inr g) = first_one cs j q k p h.1 g.1
 
-pub judged-one : (cs : List Check) (v w : Verdict) → Judged cs v → Judged cs w → v ≡ w
-judged-one cs Passed Passed h g = refl
-judged-one cs Passed (Refused k p) h g = absurd (first-none cs k p g h)
-judged-one cs (Refused j q) Passed h g = absurd (first-none cs j q h g)
-judged-one cs (Refused j q) (Refused k p) h g = let e = first_one cs j q k p h g in ap₂ Refused e.0 e.1
+pub judged_one : (cs : List Check) (v w : Verdict) → Judged cs v → Judged cs w → v ≡ w
+judged_one cs Passed Passed h g = refl
+judged_one cs Passed (Refused k p) h g = absurd (first_none cs k p g h)
+judged_one cs (Refused j q) Passed h g = absurd (first_none cs j q h g)
+judged_one cs (Refused j q) (Refused k p) h g = let e = first_one cs j q k p h g in ap₂ Refused e.0 e.1
 
 -- ── phases: a refusal of the first stands, and after one that passed the next one's verdict does ──
-pub judged-left : (xs ys : List Check) (k p : ℕ) → Judged xs (Refused k p) → Judged (xs ++ ys) (Refused k p)
-judged-left = first-left
+pub judged_left : (xs ys : List Check) (k p : ℕ) → Judged xs (Refused k p) → Judged (xs ++ ys) (Refused k p)
+judged_left = first_left
 
-pub judged-right : (xs ys : List Check) (v : Verdict) → Judged xs Passed → Judged ys v → Judged (xs ++ ys) v
-judged-right xs ys Passed h g = none-append xs ys h g
-judged-right xs ys (Refused k p) h g = first-right xs ys k p h g
+pub judged_right : (xs ys : List Check) (v : Verdict) → Judged xs Passed → Judged ys v → Judged (xs ++ ys) v
+judged_right xs ys Passed h g = none_append xs ys h g
+judged_right xs ys (Refused k p) h g = first_right xs ys k p h g
 
 -- ── what a test said ──
-pub said-yes : {P : Type 0} {b : Bool} → Decides P b → b ≡ true → P
-said-yes h e = rw e at h
+pub said_yes : {P : Type 0} {b : Bool} → Decides P b → b ≡ true → P
+said_yes h e = rw e at h
 
-pub said-no : {P : Type 0} {b : Bool} → Decides P b → b ≡ false → P → ⊥
-said-no h e = rw e at h
+pub said_no : {P : Type 0} {b : Bool} → Decides P b → b ≡ false → P → ⊥
+said_no h e = rw e at h
 
 pub neither : {A B : Type 0} → (A → ⊥) → (B → ⊥) → A ⊎ B → ⊥
 neither f g (inl a) = f a

@@ -21,49 +21,49 @@ unfolding Same
 same_refl [] = tt
 same_refl ((j at q when P) ∷ cs) = (refl, refl, (λ h. h), (λ h. h), same_refl cs)
 
-pub same-sym : (cs ds : List Check) → Same cs ds → Same ds cs
+pub same_sym : (cs ds : List Check) → Same cs ds → Same ds cs
 unfolding Same
-same-sym [] [] s = tt
-same-sym [] (d ∷ ds) s = absurd s
-same-sym (c ∷ cs) [] s = absurd s
-same-sym ((j at q when P) ∷ cs) ((k at p when Q) ∷ ds) s = (sym s.0, sym s.1, s.3, s.2, same-sym cs ds s.4)
+same_sym [] [] s = tt
+same_sym [] (d ∷ ds) s = absurd s
+same_sym (c ∷ cs) [] s = absurd s
+same_sym ((j at q when P) ∷ cs) ((k at p when Q) ∷ ds) s = (sym s.0, sym s.1, s.3, s.2, same_sym cs ds s.4)
 
-pub same-trans : (cs ds es : List Check) → Same cs ds → Same ds es → Same cs es
+pub same_trans : (cs ds es : List Check) → Same cs ds → Same ds es → Same cs es
 unfolding Same
-same-trans [] [] es s t = t
-same-trans [] (d ∷ ds) es s t = absurd s
-same-trans (c ∷ cs) [] es s t = absurd s
-same-trans (c ∷ cs) (d ∷ ds) [] s t = absurd t
-same-trans ((j at q when P) ∷ cs) ((k at p when Q) ∷ ds) ((l at r when R) ∷ es) s t =
-    (s.0 ∙ t.0, s.1 ∙ t.1, (λ h. t.2 (s.2 h)), (λ h. s.3 (t.3 h)), same-trans cs ds es s.4 t.4)
+same_trans [] [] es s t = t
+same_trans [] (d ∷ ds) es s t = absurd s
+same_trans (c ∷ cs) [] es s t = absurd s
+same_trans (c ∷ cs) (d ∷ ds) [] s t = absurd t
+same_trans ((j at q when P) ∷ cs) ((k at p when Q) ∷ ds) ((l at r when R) ∷ es) s t =
+    (s.0 ∙ t.0, s.1 ∙ t.1, (λ h. t.2 (s.2 h)), (λ h. s.3 (t.3 h)), same_trans cs ds es s.4 t.4)
 
-pub same-append : (cs ds es fs : List Check) → Same cs ds → Same es fs → Same (cs ++ es) (ds ++ fs)
+pub same_append : (cs ds es fs : List Check) → Same cs ds → Same es fs → Same (cs ++ es) (ds ++ fs)
 unfolding Same
-same-append [] [] es fs s t = t
-same-append [] (d ∷ ds) es fs s t = absurd s
-same-append (c ∷ cs) [] es fs s t = absurd s
-same-append ((j at q when P) ∷ cs) ((k at p when Q) ∷ ds) es fs s t = (s.0, s.1, s.2, s.3, same-append cs ds es fs s.4 t)
+same_append [] [] es fs s t = t
+same_append [] (d ∷ ds) es fs s t = absurd s
+same_append (c ∷ cs) [] es fs s t = absurd s
+same_append ((j at q when P) ∷ cs) ((k at p when Q) ∷ ds) es fs s t = (s.0, s.1, s.2, s.3, same_append cs ds es fs s.4 t)
 
-pub same-in-turn : (n : ℕ) (f g : ℕ → List Check) → ((i : ℕ) → i < n → Same (f i) (g i)) → Same (in_turn n f) (in_turn n g)
+pub same_in_turn : (n : ℕ) (f g : ℕ → List Check) → ((i : ℕ) → i < n → Same (f i) (g i)) → Same (in_turn n f) (in_turn n g)
 unfolding Same in_turn
-same-in-turn zero f g s = tt
-same-in-turn (suc n) f g s = same-append (in_turn n f) (in_turn n g) (f n) (g n) (same-in-turn n f g (λ i l. s i (omega arith))) (s n (omega arith))
+same_in_turn zero f g s = tt
+same_in_turn (suc n) f g s = same_append (in_turn n f) (in_turn n g) (f n) (g n) (same_in_turn n f g (λ i l. s i (omega arith))) (s n (omega arith))
 
 -- ── used ──
-pub none-same : (cs ds : List Check) → Same cs ds → NoneOf cs → NoneOf ds
+pub none_same : (cs ds : List Check) → Same cs ds → NoneOf cs → NoneOf ds
 unfolding Same NoneOf
-none-same [] [] s h = tt
-none-same [] (d ∷ ds) s h = absurd s
-none-same (c ∷ cs) [] s h = tt
-none-same ((j at q when P) ∷ cs) ((k at p when Q) ∷ ds) s h = ((λ x. h.0 (s.3 x)), none-same cs ds s.4 h.1)
+none_same [] [] s h = tt
+none_same [] (d ∷ ds) s h = absurd s
+none_same (c ∷ cs) [] s h = tt
+none_same ((j at q when P) ∷ cs) ((k at p when Q) ∷ ds) s h = ((λ x. h.0 (s.3 x)), none_same cs ds s.4 h.1)
 
-pub first-same : (cs ds : List Check) (n o : ℕ) → Same cs ds → FirstOf cs n o → FirstOf ds n o
+pub first_same : (cs ds : List Check) (n o : ℕ) → Same cs ds → FirstOf cs n o → FirstOf ds n o
 unfolding Same FirstOf
-first-same [] ds n o s h = absurd h
-first-same (c ∷ cs) [] n o s h = absurd s
-first-same ((j at q when P) ∷ cs) ((k at p when Q) ∷ ds) n o s (inl h) = inl (s.2 h.0, h.1 ∙ s.0, h.2 ∙ s.1)
-first-same ((j at q when P) ∷ cs) ((k at p when Q) ∷ ds) n o s (inr h) = inr ((λ x. h.0 (s.3 x)), first-same cs ds n o s.4 h.1)
+first_same [] ds n o s h = absurd h
+first_same (c ∷ cs) [] n o s h = absurd s
+first_same ((j at q when P) ∷ cs) ((k at p when Q) ∷ ds) n o s (inl h) = inl (s.2 h.0, h.1 ∙ s.0, h.2 ∙ s.1)
+first_same ((j at q when P) ∷ cs) ((k at p when Q) ∷ ds) n o s (inr h) = inr ((λ x. h.0 (s.3 x)), first_same cs ds n o s.4 h.1)
 
-pub judged-same : (cs ds : List Check) (v : Verdict) → Same cs ds → Judged cs v → Judged ds v
-judged-same cs ds Passed s h = none-same cs ds s h
-judged-same cs ds (Refused n o) s h = first-same cs ds n o s h
+pub judged_same : (cs ds : List Check) (v : Verdict) → Same cs ds → Judged cs v → Judged ds v
+judged_same cs ds Passed s h = none_same cs ds s h
+judged_same cs ds (Refused n o) s h = first_same cs ds n o s h

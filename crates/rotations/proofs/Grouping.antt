@@ -7,11 +7,11 @@ use native.Mathlib.Numerals.{add-one}
 use native.Mathlib.Omega.{arith}
 use native.Mathlib.Decide.{ℕ_discrete, dec_lt}
 use Rattle.maps.specs.Dart.{rev}
-use Rattle.maps.specs.Orbit.{Orbit, lowest, orbitOf}
-use Rattle.maps.proofs.Darts.{rev-in, rev-rev}
-use Rattle.maps.proofs.Orbits.{orbit-decided}
+use Rattle.maps.specs.Orbit.{Orbit, lowest, orbit_of}
+use Rattle.maps.proofs.Darts.{rev_in, rev_rev}
+use Rattle.maps.proofs.Orbits.{orbit_decided}
 use Rattle.arrays.specs.At.{at}
-use Rattle.arrays.specs.Maps.{rightOf}
+use Rattle.arrays.specs.Maps.{right_of}
 use Rattle.grouping.specs.Grouped.{end_of, Grouped}
 use Rattle.grouping.specs.inner.InRounds.{Rounded, InRounds}
 use Rattle.traversal.specs.inner.Mark.{unmarked}
@@ -19,26 +19,26 @@ use Rattle.rotations.specs.inner.Marking.{Markable, Marked}
 use Rattle.rotations.specs.inner.Laying.{Laid}
 
 -- where the groups up to f end does not follow from where the group f starts
-ends-kept : (darts : ℕ) (starts starts' : ℕ → ℕ) (f : ℕ) → ((g : ℕ) → g ≢ f → starts' g ≡ starts g) → (g : ℕ) → g ≤ f
+ends_kept : (darts : ℕ) (starts starts' : ℕ → ℕ) (f : ℕ) → ((g : ℕ) → g ≢ f → starts' g ≡ starts g) → (g : ℕ) → g ≤ f
     → end_of darts starts' g ≡ end_of darts starts g
-ends-kept darts starts starts' f kept zero l = refl
-ends-kept darts starts starts' f kept (suc g) l = kept g (λ e. omega (arith, e, l))
+ends_kept darts starts starts' f kept zero l = refl
+ends_kept darts starts starts' f kept (suc g) l = kept g (λ e. omega (arith, e, l))
 
 -- f faces have their numbers and their groups, which fill the places from `low` on
 pub record Grouping (edges : ℕ) (label grouped starts : ℕ → ℕ) (f low : ℕ) : Type 0 where
   pub stands : (y : ℕ) → y < 2 * edges → label y ≢ unmarked
       → (label y < f) × ((j : ℕ) × (starts (label y) ≤ j) × (j < end_of (2 * edges) starts (label y)) × (grouped j ≡ rev y))
   pub ordered : (g : ℕ) → g < f → (low ≤ starts g) × (starts g ≤ end_of (2 * edges) starts g) × (end_of (2 * edges) starts g ≤ 2 * edges)
-  pub low-is : low ≡ end_of (2 * edges) starts f
+  pub low_is : low ≡ end_of (2 * edges) starts f
   pub room : low ≤ 2 * edges
   pub holds : (g j : ℕ) → g < f → starts g ≤ j → j < end_of (2 * edges) starts g → (grouped j < 2 * edges) × (label (rev (grouped j)) ≡ g)
 
-pub grouping-none : {edges : ℕ} {label grouped starts : ℕ → ℕ} → 2 * edges ≤ 1024 → ((y : ℕ) → y < 1024 → label y ≡ unmarked)
+pub grouping_none : {edges : ℕ} {label grouped starts : ℕ → ℕ} → 2 * edges ≤ 1024 → ((y : ℕ) → y < 1024 → label y ≡ unmarked)
     → Grouping edges label grouped starts 0 (2 * edges)
-grouping-none few none = record {
+grouping_none few none = record {
   stands = λ y l h. absurd (h (none y (omega arith)));
   ordered = λ g l. absurd (omega arith);
-  low-is = refl;
+  low_is = refl;
   room = omega arith;
   holds = λ g j l. absurd (omega arith);
 }
@@ -48,10 +48,10 @@ module _ {edges : ℕ} {next label label' grouped grouped' starts starts' : ℕ 
     (γ : Grouping edges label grouped starts f low) (μ : Markable (2 * edges) next label d f) (m : Marked (2 * edges) next label label' d f)
     (laid : Laid (2 * edges) next grouped grouped' d low' low) (begins : starts' f ≡ low') (starts-kept : (g : ℕ) → g ≢ f → starts' g ≡ starts g) where
   stops : end_of (2 * edges) starts' f ≡ low
-  stops = ends-kept (2 * edges) starts starts' f starts-kept f (omega arith) ∙ sym γ.low-is
+  stops = ends_kept (2 * edges) starts starts' f starts-kept f (omega arith) ∙ sym γ.low_is
 
   stopped : (g : ℕ) → g < f → end_of (2 * edges) starts' g ≡ end_of (2 * edges) starts g
-  stopped g l = ends-kept (2 * edges) starts starts' f starts-kept g (omega (arith, l))
+  stopped g l = ends_kept (2 * edges) starts starts' f starts-kept g (omega (arith, l))
 
   stands' : (y : ℕ) → y < 2 * edges → label' y ≢ unmarked → Dec (Orbit next d y)
       → (label' y < f + 1) × ((j : ℕ) × (starts' (label' y) ≤ j) × (j < end_of (2 * edges) starts' (label' y)) × (grouped' j ≡ rev y))
@@ -93,9 +93,9 @@ module _ {edges : ℕ} {next label label' grouped grouped' starts starts' : ℕ 
       let b' : j < end_of (2 * edges) starts g = omega (arith, b, stopped g l') in
       let r = γ.holds g j l' (omega (arith, a, starts-kept g p)) b' in
       let same = laid.kept j (omega (arith, a, starts-kept g p, (γ.ordered g l').0)) in
-      let inside : rev (grouped j) < 2 * edges = rev-in edges (grouped j) r.0 in (
+      let inside : rev (grouped j) < 2 * edges = rev_in edges (grouped j) r.0 in (
         omega (arith, same, r.0),
-        ap (λ x. label' (rev x)) same ∙ old (rev (grouped j)) inside r.1 l' (orbit-decided μ.permutes d (rev (grouped j)) μ.inside),
+        ap (λ x. label' (rev x)) same ∙ old (rev (grouped j)) inside r.1 l' (orbit_decided μ.permutes d (rev (grouped j)) μ.inside),
       )
     where
       -- a dart of another face is not in the orbit of d, none of which had a number
@@ -103,11 +103,11 @@ module _ {edges : ℕ} {next label label' grouped grouped' starts starts' : ℕ 
       old y l e less (yes o) = absurd (omega (arith, μ.free y o, e, less, μ.small))
       old y l e less (no far) = m.off y l far ∙ e
 
-  pub grouping-on : Grouping edges label' grouped' starts' (f + 1) low'
-  grouping-on = record {
-    stands = λ y l h. stands' y l h (orbit-decided μ.permutes d y μ.inside);
+  pub grouping_on : Grouping edges label' grouped' starts' (f + 1) low'
+  grouping_on = record {
+    stands = λ y l h. stands' y l h (orbit_decided μ.permutes d y μ.inside);
     ordered = λ g l. ordered' g l (ℕ_discrete g f);
-    low-is = sym begins ∙ ap (end_of (2 * edges) starts') (sym (add-one f));
+    low_is = sym begins ∙ ap (end_of (2 * edges) starts') (sym (add-one f));
     room = omega (arith, laid.some, γ.room);
     holds = λ g j l a b. holds' g j l a b (ℕ_discrete g f);
   }
@@ -116,23 +116,23 @@ module _ {edges : ℕ} {next label label' grouped grouped' starts starts' : ℕ 
 module _ {edges : ℕ} (lefts grouped starts : List ℕ) {f low : ℕ} (γ : Grouping edges (at lefts) (at grouped) (at starts) f low)
     (every : (y : ℕ) → y < 2 * edges → at lefts y ≢ unmarked) where
   spot : (d : ℕ) → Dec (d < 2 * edges) → ℕ
-  spot d (yes l) = (γ.stands (rev d) (rev-in edges d l) (every (rev d) (rev-in edges d l))).1.0
+  spot d (yes l) = (γ.stands (rev d) (rev_in edges d l) (every (rev d) (rev_in edges d l))).1.0
   spot d (no l) = 0
 
   spot_is : (d : ℕ) (q : Dec (d < 2 * edges)) → d < 2 * edges
-      → (at grouped (spot d q) ≡ d) × (at starts (rightOf lefts d) ≤ spot d q) × (spot d q < end_of (2 * edges) (at starts) (rightOf lefts d))
+      → (at grouped (spot d q) ≡ d) × (at starts (right_of lefts d) ≤ spot d q) × (spot d q < end_of (2 * edges) (at starts) (right_of lefts d))
   unfolding spot
-  spot_is d (yes l) m = let r = (γ.stands (rev d) (rev-in edges d l) (every (rev d) (rev-in edges d l))).1 in (r.3 ∙ rev-rev d, r.1, r.2)
+  spot_is d (yes l) m = let r = (γ.stands (rev d) (rev_in edges d l) (every (rev d) (rev_in edges d l))).1 in (r.3 ∙ rev_rev d, r.1, r.2)
   spot_is d (no l) m = absurd (l m)
 
-  pub grouping-end : Grouped (rightOf lefts) (2 * edges) f grouped starts
-  grouping-end = record {
+  pub grouping_end : Grouped (right_of lefts) (2 * edges) f grouped starts
+  grouping_end = record {
     place = λ d. spot d (dec_lt d (2 * edges));
     stands = λ d l. (spot_is d (dec_lt d (2 * edges)) l).0;
     from_start = λ d l. (spot_is d (dec_lt d (2 * edges)) l).1;
-    before-end = λ d l. (spot_is d (dec_lt d (2 * edges)) l).2;
+    before_end = λ d l. (spot_is d (dec_lt d (2 * edges)) l).2;
     ordered = λ g l. (γ.ordered g l).1;
-    ends-in = λ g l. (γ.ordered g l).2;
+    ends_in = λ g l. (γ.ordered g l).2;
     dart = λ g j l a b. (γ.holds g j l a b).0;
     right_is = λ g j l a b. (γ.holds g j l a b).1;
   }
@@ -141,45 +141,45 @@ module _ {edges : ℕ} (lefts grouped starts : List ℕ) {f low : ℕ} (γ : Gro
 -- the same on the way: f groups, the last of which begins at `low`
 pub record Rounding (darts : ℕ) (step : ℕ → ℕ) (grouped starts : ℕ → ℕ) (f low : ℕ) : Type 0 where
   pub so_far : InRounds darts step f grouped starts
-  pub low-most : (g : ℕ) → g < f → low ≤ starts g
+  pub low_most : (g : ℕ) → g < f → low ≤ starts g
 
-pub rounding-none : {darts : ℕ} {step grouped starts : ℕ → ℕ} → Rounding darts step grouped starts 0 darts
-rounding-none = record {
+pub rounding_none : {darts : ℕ} {step grouped starts : ℕ → ℕ} → Rounding darts step grouped starts 0 darts
+rounding_none = record {
   so_far = record {
     head = λ f. 0;
     head_in = λ f l. absurd (omega (arith, l));
-    lowest-is = λ f l. absurd (omega (arith, l));
+    lowest_is = λ f l. absurd (omega (arith, l));
     numbered = λ f l. absurd (omega (arith, l));
     rounded = λ f l. absurd (omega (arith, l));
   };
-  low-most = λ g l. absurd (omega (arith, l));
+  low_most = λ g l. absurd (omega (arith, l));
 }
 
 -- the face of d is laid before the others
 module _ {darts : ℕ} {step grouped grouped' starts starts' : ℕ → ℕ} {d f low low' : ℕ}
-    (γ : Rounding darts step grouped starts f low) (inside : d < darts) (first : lowest step darts d ≡ d) (number : orbitOf darts step d ≡ f)
+    (γ : Rounding darts step grouped starts f low) (inside : d < darts) (first : lowest step darts d ≡ d) (number : orbit_of darts step d ≡ f)
     (round : Rounded step grouped' d low' low) (kept : (i : ℕ) → low ≤ i → grouped' i ≡ grouped i)
     (begins : starts' f ≡ low') (starts-kept : (g : ℕ) → g ≢ f → starts' g ≡ starts g)
-    (low-is : low ≡ end_of darts starts f) where
-  kept-end : (g : ℕ) → g ≤ f → end_of darts starts' g ≡ end_of darts starts g
-  kept-end g l = ends-kept darts starts starts' f starts-kept g l
+    (low_is : low ≡ end_of darts starts f) where
+  kept_end : (g : ℕ) → g ≤ f → end_of darts starts' g ≡ end_of darts starts g
+  kept_end g l = ends_kept darts starts starts' f starts-kept g l
 
   pick : (g : ℕ) → Dec (g ≡ f) → ℕ
   pick g (yes p) = d
   pick g (no p) = γ.so_far.head g
 
   module _ (g : ℕ) (l : g < f + 1) where
-    head-in' : (q : Dec (g ≡ f)) → pick g q < darts
+    head_in' : (q : Dec (g ≡ f)) → pick g q < darts
     unfolding pick
-    head-in' (yes p) = inside
-    head-in' (no p) = γ.so_far.head_in g (omega (arith, l, p))
+    head_in' (yes p) = inside
+    head_in' (no p) = γ.so_far.head_in g (omega (arith, l, p))
 
-    lowest-is' : (q : Dec (g ≡ f)) → lowest step darts (pick g q) ≡ pick g q
+    lowest_is' : (q : Dec (g ≡ f)) → lowest step darts (pick g q) ≡ pick g q
     unfolding pick
-    lowest-is' (yes p) = first
-    lowest-is' (no p) = γ.so_far.lowest-is g (omega (arith, l, p))
+    lowest_is' (yes p) = first
+    lowest_is' (no p) = γ.so_far.lowest_is g (omega (arith, l, p))
 
-    numbered' : (q : Dec (g ≡ f)) → orbitOf darts step (pick g q) ≡ g
+    numbered' : (q : Dec (g ≡ f)) → orbit_of darts step (pick g q) ≡ g
     unfolding pick
     numbered' (yes p) = number ∙ sym p
     numbered' (no p) = γ.so_far.numbered g (omega (arith, l, p))
@@ -188,32 +188,32 @@ module _ {darts : ℕ} {step grouped grouped' starts starts' : ℕ → ℕ} {d f
     unfolding pick
     rounded' (yes p) =
         subst (λ b. Rounded step grouped' d b (end_of darts starts' g)) (sym begins ∙ ap starts' (sym p))
-        (subst (λ e. Rounded step grouped' d low' e) (low-is ∙ sym (kept-end f (omega arith)) ∙ ap (end_of darts starts') (sym p)) round)
+        (subst (λ e. Rounded step grouped' d low' e) (low_is ∙ sym (kept_end f (omega arith)) ∙ ap (end_of darts starts') (sym p)) round)
     rounded' (no p) =
         let less : g < f = omega (arith, l, p) in
         let r = γ.so_far.rounded g less in
-        let low-is = γ.low-most g less in
+        let low_is = γ.low_most g less in
         subst (λ b. Rounded step grouped' (γ.so_far.head g) b (end_of darts starts' g)) (sym (starts-kept g p))
-        (subst (λ e. Rounded step grouped' (γ.so_far.head g) (starts g) e) (sym (kept-end g (omega (arith, less))))
+        (subst (λ e. Rounded step grouped' (γ.so_far.head g) (starts g) e) (sym (kept_end g (omega (arith, less))))
         (record {
           some = r.some;
-          lays = λ i j a e. kept j (omega (arith, a, low-is)) ∙ r.lays i j a e;
+          lays = λ i j a e. kept j (omega (arith, a, low_is)) ∙ r.lays i j a e;
           closes = r.closes;
           opens = r.opens;
         }))
 
   most' : (g : ℕ) → g < f + 1 → Dec (g ≡ f) → low' ≤ starts' g
   most' g l (yes p) = omega (arith, ap starts' p, begins)
-  most' g l (no p) = omega (arith, γ.low-most g (omega (arith, l, p)), starts-kept g p, round.some)
+  most' g l (no p) = omega (arith, γ.low_most g (omega (arith, l, p)), starts-kept g p, round.some)
 
-  pub rounding-on : Rounding darts step grouped' starts' (f + 1) low'
-  rounding-on = record {
+  pub rounding_on : Rounding darts step grouped' starts' (f + 1) low'
+  rounding_on = record {
     so_far = record {
       head = λ g. pick g (ℕ_discrete g f);
-      head_in = λ g l. head-in' g l (ℕ_discrete g f);
-      lowest-is = λ g l. lowest-is' g l (ℕ_discrete g f);
+      head_in = λ g l. head_in' g l (ℕ_discrete g f);
+      lowest_is = λ g l. lowest_is' g l (ℕ_discrete g f);
       numbered = λ g l. numbered' g l (ℕ_discrete g f);
       rounded = λ g l. rounded' g l (ℕ_discrete g f);
     };
-    low-most = λ g l. most' g l (ℕ_discrete g f);
+    low_most = λ g l. most' g l (ℕ_discrete g f);
   }

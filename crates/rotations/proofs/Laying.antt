@@ -6,8 +6,8 @@ use native.Mathlib.Omega.{arith}
 use native.Mathlib.Decide.{ℕ_discrete}
 use Rattle.maps.specs.Dart.{rev}
 use Rattle.maps.specs.Orbit.{iter, Orbit, Permutes}
-use Rattle.maps.proofs.Darts.{rev-in, rev-rev}
-use Rattle.maps.proofs.Orbits.{iter-in}
+use Rattle.maps.proofs.Darts.{rev_in, rev_rev}
+use Rattle.maps.proofs.Orbits.{iter_in}
 use Rattle.grouping.specs.inner.InRounds.{Rounded}
 use Rattle.rotations.specs.inner.Laying.{Laid}
 use Rattle.rotations.proofs.Trail.{wrap}
@@ -18,14 +18,14 @@ pub record Laying (next before after : ℕ → ℕ) (start end k begin : ℕ) : 
   pub kept : (i : ℕ) → end ≤ i → after i ≡ before i
   pub lays : (i j : ℕ) → i < k → j + suc i ≡ end → after j ≡ rev (iter next i start)
 
-pub laying-none : (next before : ℕ → ℕ) (start end : ℕ) → Laying next before before start end 0 end
-laying-none next before start end = record { counted = omega arith; kept = λ i l. refl; lays = λ i j l e. absurd (omega arith) }
+pub laying_none : (next before : ℕ → ℕ) (start end : ℕ) → Laying next before before start end 0 end
+laying_none next before start end = record { counted = omega arith; kept = λ i l. refl; lays = λ i j l e. absurd (omega arith) }
 
 module _ {next before after : ℕ → ℕ} {start end k begin : ℕ} (λ₀ : Laying next before after start end k begin) where
   -- the place that the walk stands at is laid
-  pub laying-on : {x begin' : ℕ} (after' : ℕ → ℕ) → begin' + 1 ≡ begin → iter next k start ≡ x → after' begin' ≡ rev x
+  pub laying_on : {x begin' : ℕ} (after' : ℕ → ℕ) → begin' + 1 ≡ begin → iter next k start ≡ x → after' begin' ≡ rev x
       → ((i : ℕ) → i ≢ begin' → after' i ≡ after i) → Laying next before after' start end (suc k) begin'
-  laying-on {x} {begin'} after' one here put rest = record {
+  laying_on {x} {begin'} after' one here put rest = record {
     counted = omega (arith, λ₀.counted, one);
     kept = λ i l. rest i (λ e. omega (arith, e, λ₀.counted, one)) ∙ λ₀.kept i l;
     lays = λ i j l e. each i j l e (ℕ_discrete i k);
@@ -38,9 +38,9 @@ module _ {next before after : ℕ → ℕ} {start end k begin : ℕ} (λ₀ : La
       each i j l e (no p) = rest j (λ q. omega (arith, e, q, p, l, one, λ₀.counted)) ∙ λ₀.lays i j (omega (arith, p)) e
 
 -- once round
-pub laying-end : (edges : ℕ) {next before after : ℕ → ℕ} {start end k begin : ℕ} → Permutes (2 * edges) next → start < 2 * edges
+pub laying_end : (edges : ℕ) {next before after : ℕ → ℕ} {start end k begin : ℕ} → Permutes (2 * edges) next → start < 2 * edges
     → iter next (suc k) start ≡ start → Laying next before after start end (suc k) begin → Laid (2 * edges) next before after start begin end
-laying-end edges {next} {before} {after} {start} {end} {k} {begin} π inside round λ₁ = record {
+laying_end edges {next} {before} {after} {start} {end} {k} {begin} π inside round λ₁ = record {
   some = omega (arith, λ₁.counted);
   kept = λ₁.kept;
   has = has';
@@ -60,12 +60,12 @@ laying-end edges {next} {before} {after} {start} {end} {k} {begin} π inside rou
     holds' : (j i : ℕ) → j + suc i ≡ end → i < suc k → (after j < 2 * edges) × Orbit next start (rev (after j))
     holds' j i e l =
         let is = λ₁.lays i j l e in
-        (omega (arith, is, rev-in edges (iter next i start) (iter-in π i start inside)), (i, sym (rev-rev (iter next i start)) ∙ ap rev (sym is)))
+        (omega (arith, is, rev_in edges (iter next i start) (iter_in π i start inside)), (i, sym (rev_rev (iter next i start)) ∙ ap rev (sym is)))
 
 -- the same, place by place
-pub laying-rounded : {next before after : ℕ → ℕ} {start end k begin : ℕ} → Laying next before after start end (suc k) begin
+pub laying_rounded : {next before after : ℕ → ℕ} {start end k begin : ℕ} → Laying next before after start end (suc k) begin
     → iter next (suc k) start ≡ start → ((i : ℕ) → 0 < i → i ≤ k → iter next i start ≢ start) → Rounded next after start begin end
-laying-rounded {next} {start = start} {end} {k} {begin} λ₁ round away = record {
+laying_rounded {next} {start = start} {end} {k} {begin} λ₁ round away = record {
   some = omega (arith, λ₁.counted);
   lays = λ i j a e. λ₁.lays i j (omega (arith, a, e, λ₁.counted)) e;
   closes = λ i e. let n : i ≡ suc k = omega (arith, e, λ₁.counted) in ap (λ m. iter next m start) n ∙ round;

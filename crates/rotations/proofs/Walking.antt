@@ -5,7 +5,7 @@ use Prim.Native.Nat.{ℕ}
 use Rattle.refusals.specs.declared.Verdict.{Verdict}
 use Rattle.refusals.specs.declared.Verdict.TheVariants.{Passed, Refused}
 use Rattle.arrays.specs.At.{at}
-use Rattle.arrays.specs.Maps.{rightOf}
+use Rattle.arrays.specs.Maps.{right_of}
 use Rattle.traversal.specs.inner.Forest.{Forest}
 use Rattle.traversal.specs.inner.FirstCome.{FirstCome}
 use Rattle.grouping.specs.Grouped.{Grouped}
@@ -16,15 +16,15 @@ use Rattle.rotations.specs.inner.Passing.{IfPassed}
 
 module _ {darts outer parts : ℕ} (rotations order from : List ℕ) (𝓕 : Forest darts (at rotations) outer (at order) (at from) parts)
     (came : FirstCome (at rotations) outer (at order) (at from) darts) where
-  pub walked-if : (v : Verdict) (faces trees : ℕ) (lefts grouped starts : List ℕ)
-      → IfPassed v ((trees ≡ parts) × Grouped (rightOf lefts) darts faces grouped starts
+  pub walked_if : (v : Verdict) (faces trees : ℕ) (lefts grouped starts : List ℕ)
+      → IfPassed v ((trees ≡ parts) × Grouped (right_of lefts) darts faces grouped starts
       × InRounds darts (step_of rotations) faces (at grouped) (at starts))
       → IfPassed v (Walked darts faces outer trees (at rotations) lefts order from grouped starts)
-  walked-if Passed faces trees lefts grouped starts h =
+  walked_if Passed faces trees lefts grouped starts h =
       record {
         forest = subst (Forest darts (at rotations) outer (at order) (at from)) (sym h.0) 𝓕;
         groups = h.1;
-        first-come = came;
+        first_come = came;
         in-rounds = h.2;
       }
-  walked-if (Refused k p) faces trees lefts grouped starts h = tt
+  walked_if (Refused k p) faces trees lefts grouped starts h = tt

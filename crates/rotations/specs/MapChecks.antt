@@ -9,8 +9,8 @@ use Rattle.maps.specs.Map.{Map, darts}
 use Rattle.maps.specs.Face.{faces, left}
 use Rattle.maps.specs.Check.{RotationFault, NodeFault, NotFlat}
 
-unfoldable pub mapChecks : Map → List Check
-mapChecks 𝓜 =
+unfoldable pub map_checks : Map → List Check
+map_checks 𝓜 =
     (9 when RotationFault 𝓜)
     ∷ (10 when NodeFault 𝓜)
     ∷ (12 when NotFlat 𝓜)
@@ -18,5 +18,5 @@ mapChecks 𝓜 =
 
 -- passed: no check holds, each dart has the number of the face at its left, and the faces are counted; refused: by the first that holds
 abbrev pub MapJudged : Map → (lefts : ℕ → ℕ) → (count : ℕ) → Verdict → Type 0
-MapJudged 𝓜 lefts count Passed = NoneOf (mapChecks 𝓜) × ((d : ℕ) → d < darts 𝓜 → lefts d ≡ left 𝓜 d) × (count ≡ faces 𝓜)
-MapJudged 𝓜 lefts count (Refused k p) = FirstOf (mapChecks 𝓜) k p
+MapJudged 𝓜 lefts count Passed = NoneOf (map_checks 𝓜) × ((d : ℕ) → d < darts 𝓜 → lefts d ≡ left 𝓜 d) × (count ≡ faces 𝓜)
+MapJudged 𝓜 lefts count (Refused k p) = FirstOf (map_checks 𝓜) k p

@@ -2,11 +2,11 @@
 // Each is decided in work that grows as the number of darts, and check 12 leaves the faces numbered in order of their lowest darts.
 ghost use Rattle.std.specs.Prelude.{◌≡◌, ◌≢◌, ℕ, ◌+◌, ◌*◌, ◌<◌, ◌≤◌, length};
 ghost use Rattle.refusals.specs.Order.{Decides};
-ghost use Rattle.maps.specs.Orbit.{orbits, orbitOf, Permutes};
+ghost use Rattle.maps.specs.Orbit.{orbits, orbit_of, Permutes};
 ghost use Rattle.maps.specs.Walk.{Components};
 ghost use Rattle.maps.specs.Check.{InRange, RotationFault, NodeFault, Sound};
 ghost use Rattle.arrays.specs.At.{at};
-ghost use Rattle.arrays.specs.Maps.{mapOf, rightOf};
+ghost use Rattle.arrays.specs.Maps.{map_of, right_of};
 ghost use Rattle.traversal.specs.inner.Mark.{unmarked};
 ghost use Rattle.traversal.specs.inner.Forest.{Forest};
 ghost use Rattle.traversal.specs.inner.FirstCome.{FirstCome};
@@ -47,7 +47,7 @@ fn mark_orbit(next: &[u16; 1024], n: usize, start: usize, number: u16, label: &m
 fn number_orbits(next: &[u16; 1024], n: usize, label: &mut [u16; 1024]) -> usize
     requires { (length label.old ≡ 1024) × (n ≤ 1024) × Permutes n (at next.now) }
     ensures { (length label.new ≡ 1024) × (result ≡ orbits n (at next.now))
-        × ((d : ℕ) → d < n → at label.new d ≡ orbitOf n (at next.now) d) }
+        × ((d : ℕ) → d < n → at label.new d ≡ orbit_of n (at next.now) d) }
 {
     traversal::unmark_all(label);
     let mut f: usize = 0;
@@ -70,7 +70,7 @@ fn rotation_fault<'a>(
     edges: usize,
 ) -> bool
     requires { (edges ≤ 512) × ((d : ℕ) → d < 2 * edges → at rotations.now d < 2 * edges) }
-    ensures { Decides (RotationFault (mapOf nodes edges tails.now rotations.now)) result }
+    ensures { Decides (RotationFault (map_of nodes edges tails.now rotations.now)) result }
 {
     let darts = 2 * edges;
     let mut origin = [0u16; 1024];
@@ -140,9 +140,9 @@ fn node_fault<'a>(
     round: &mut [u16; 1024],
     owner: &mut [u16; 1024],
 ) -> bool
-    requires { (edges ≤ 512) × (nodes ≤ 1024) × InRange (mapOf nodes edges tails.now rotations.now)
-        × (RotationFault (mapOf nodes edges tails.now rotations.now) → ⊥) × (length round.old ≡ 1024) }
-    ensures { Decides (NodeFault (mapOf nodes edges tails.now rotations.now)) result
+    requires { (edges ≤ 512) × (nodes ≤ 1024) × InRange (map_of nodes edges tails.now rotations.now)
+        × (RotationFault (map_of nodes edges tails.now rotations.now) → ⊥) × (length round.old ≡ 1024) }
+    ensures { Decides (NodeFault (map_of nodes edges tails.now rotations.now)) result
         × (length round.new ≡ 1024) × (length owner.new ≡ 1024) }
 {
     let darts = 2 * edges;
@@ -206,8 +206,8 @@ fn number_faces(
     ensures { (length lefts.new ≡ 1024) × (length grouped.new ≡ 1024)
         × (length starts.new ≡ 1024)
         × (result ≡ orbits (2 * edges) (step_of rotations.now))
-        × ((d : ℕ) → d < 2 * edges → at lefts.new d ≡ orbitOf (2 * edges) (step_of rotations.now) d)
-        × Grouped (rightOf lefts.new) (2 * edges) result grouped.new starts.new
+        × ((d : ℕ) → d < 2 * edges → at lefts.new d ≡ orbit_of (2 * edges) (step_of rotations.now) d)
+        × Grouped (right_of lefts.new) (2 * edges) result grouped.new starts.new
         × InRounds (2 * edges) (step_of rotations.now) result (at grouped.new) (at starts.new) }
 {
     let darts = 2 * edges;
@@ -258,13 +258,13 @@ fn check_flat<'a>(
     starts: &mut [u16; 1024],
 ) -> Checked
     requires { (edges ≤ 512) × (nodes ≤ 1024) × (length lefts.old ≡ 1024) × (length grouped.old ≡ 1024)
-        × (length starts.old ≡ 1024) × Sound (mapOf nodes edges tails.now rotations.now)
-        × (parts ≤ 2 * edges) × ((part : ℕ → ℕ) × Components (mapOf nodes edges tails.now rotations.now) parts part) }
+        × (length starts.old ≡ 1024) × Sound (map_of nodes edges tails.now rotations.now)
+        × (parts ≤ 2 * edges) × ((part : ℕ → ℕ) × Components (map_of nodes edges tails.now rotations.now) parts part) }
     ensures { (length lefts.new ≡ 1024) × (length grouped.new ≡ 1024)
         × (length starts.new ≡ 1024)
-        × MapJudged (mapOf nodes edges tails.now rotations.now) (at lefts.new) result.faces result.verdict
+        × MapJudged (map_of nodes edges tails.now rotations.now) (at lefts.new) result.faces result.verdict
         × IfPassed result.verdict ((result.parts ≡ parts)
-        × Grouped (rightOf lefts.new) (2 * edges) result.faces grouped.new starts.new
+        × Grouped (right_of lefts.new) (2 * edges) result.faces grouped.new starts.new
         × InRounds (2 * edges) (step_of rotations.now) result.faces
         (at grouped.new) (at starts.new)) }
 {
@@ -292,12 +292,12 @@ fn walk_nodes<'a>(
     owner: &mut [u16; 1024],
 ) -> usize
     requires { (edges ≤ 512) × (nodes ≤ 1024) × (outer < 2 * edges) × (length order.old ≡ 1024) × (length from.old ≡ 1024)
-        × InRange (mapOf nodes edges tails.now rotations.now) × (length owner.old ≡ 1024) × ((v : ℕ) → at owner.old v ≡ 0) }
+        × InRange (map_of nodes edges tails.now rotations.now) × (length owner.old ≡ 1024) × ((v : ℕ) → at owner.old v ≡ 0) }
     ensures { (length order.new ≡ 1024) × (length from.new ≡ 1024)
-        × (result ≢ 0 → Sound (mapOf nodes edges tails.now rotations.now)
+        × (result ≢ 0 → Sound (map_of nodes edges tails.now rotations.now)
         × Forest (2 * edges) (at rotations.now) outer (at order.new) (at from.new) result
         × FirstCome (at rotations.now) outer (at order.new) (at from.new) (2 * edges))
-        × (result ≡ 0 → Sound (mapOf nodes edges tails.now rotations.now) → ⊥)
+        × (result ≡ 0 → Sound (map_of nodes edges tails.now rotations.now) → ⊥)
         × (length owner.new ≡ 1024) }
 {
     let darts = 2 * edges;
@@ -326,10 +326,10 @@ fn check_in_turn<'a>(
 ) -> Checked
     requires { (edges ≤ 512) × (nodes ≤ 1024) × (outer < 2 * edges) × (length lefts.old ≡ 1024) × (length order.old ≡ 1024)
         × (length from.old ≡ 1024) × (length grouped.old ≡ 1024) × (length starts.old ≡ 1024)
-        × InRange (mapOf nodes edges tails.now rotations.now) × (Sound (mapOf nodes edges tails.now rotations.now) → ⊥) }
+        × InRange (map_of nodes edges tails.now rotations.now) × (Sound (map_of nodes edges tails.now rotations.now) → ⊥) }
     ensures { (length lefts.new ≡ 1024) × (length order.new ≡ 1024) × (length from.new ≡ 1024)
         × (length grouped.new ≡ 1024) × (length starts.new ≡ 1024)
-        × MapJudged (mapOf nodes edges tails.now rotations.now) (at lefts.new) result.faces result.verdict
+        × MapJudged (map_of nodes edges tails.now rotations.now) (at lefts.new) result.faces result.verdict
         × IfPassed result.verdict (Walked (2 * edges) result.faces outer result.parts (at rotations.now) lefts.new
         order.new from.new grouped.new starts.new) }
 {
@@ -361,10 +361,10 @@ pub fn check_map<'a>(
 ) -> Checked
     requires { (edges ≤ 512) × (nodes ≤ 1024) × (outer < 2 * edges) × (length lefts.old ≡ 1024) × (length order.old ≡ 1024)
         × (length from.old ≡ 1024) × (length grouped.old ≡ 1024) × (length starts.old ≡ 1024)
-        × InRange (mapOf nodes edges tails.now rotations.now) × ((d : ℕ) → at lefts.old d ≡ 0) }
+        × InRange (map_of nodes edges tails.now rotations.now) × ((d : ℕ) → at lefts.old d ≡ 0) }
     ensures { (length lefts.new ≡ 1024) × (length order.new ≡ 1024) × (length from.new ≡ 1024)
         × (length grouped.new ≡ 1024) × (length starts.new ≡ 1024)
-        × MapJudged (mapOf nodes edges tails.now rotations.now) (at lefts.new) result.faces result.verdict
+        × MapJudged (map_of nodes edges tails.now rotations.now) (at lefts.new) result.faces result.verdict
         × IfPassed result.verdict (Walked (2 * edges) result.faces outer result.parts (at rotations.now) lefts.new
         order.new from.new grouped.new starts.new) }
 {

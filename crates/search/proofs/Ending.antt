@@ -11,40 +11,40 @@ use Rattle.arrays.specs.At.{atℤ}
 use Rattle.search.specs.Dual.{WellFormed, Joined}
 use Rattle.search.specs.inner.Settled.{Settled}
 use Rattle.search.specs.inner.Answer.{Answer}
-use Rattle.search.specs.Moves.{takenFrom, Begun}
+use Rattle.search.specs.Moves.{taken_from, Begun}
 use Rattle.search.specs.Given.{Given, dual, InGroups}
 use Rattle.search.specs.Configuration.{Tables, Configuration}
-use Rattle.search.specs.Trace.{period, firstLooks, start, Ends, Searches}
+use Rattle.search.specs.Trace.{period, first_looks, start, Ends, Searches}
 use Rattle.search.specs.declared.Outcome.{Outcome}
 use Rattle.search.specs.declared.Outcome.TheVariants as outcome
 use Rattle.search.proofs.Reached.{settled}
-use Rattle.search.proofs.Beginning.{begun-passing}
-use Rattle.search.proofs.Sweeping.{swept_none, swept-ring, swept-size}
-use Rattle.search.proofs.Run.{PassingAt, bound, bound-wide, bound-few, goes-passing}
+use Rattle.search.proofs.Beginning.{begun_passing}
+use Rattle.search.proofs.Sweeping.{swept_none, swept_ring, swept_size}
+use Rattle.search.proofs.Run.{PassingAt, bound, bound_wide, bound_few, goes_passing}
 
 module _ (G : Given) (roots : List ℕ) (sound : WellFormed (dual G roots)) where
   module _ (c : Configuration) (r : PassingAt (dual G roots) c) where
-    end-settled : Joined (dual G roots) → c.first ≡ c.tables.new → Settled (dual G roots) (atℤ c.tables.potentials)
-    end-settled joined e =
+    end_settled : Joined (dual G roots) → c.first ≡ c.tables.new → Settled (dual G roots) (atℤ c.tables.potentials)
+    end_settled joined e =
         settled sound joined r.passing.state r.passing.quiet
-        (λ f l h. let s = r.passing.line.stands f l h in omega (arith, s.1, s.2)) (bound-few G.faces c.left sound.few-faces)
+        (λ f l h. let s = r.passing.line.stands f l h in omega (arith, s.1, s.2)) (bound_few G.faces c.left sound.few_faces)
 
-    pub end-answer : Joined (dual G roots) → (u : Tables) (o : Outcome) → Ends G c u o → Answer (dual G roots) u.potentials u.parents o
-    end-answer joined u outcome.Settled h = rw h.2 (end-settled joined h.1)
-    end-answer joined u (outcome.Ring d) h =
-        swept-ring G.lefts G.lengths G.darts G.faces roots sound (bound-wide G.faces c.left)
-        (bound-few G.faces c.left sound.few-faces)
+    pub end_answer : Joined (dual G roots) → (u : Tables) (o : Outcome) → Ends G c u o → Answer (dual G roots) u.potentials u.parents o
+    end_answer joined u outcome.Settled h = rw h.2 (end_settled joined h.1)
+    end_answer joined u (outcome.Ring d) h =
+        swept_ring G.lefts G.lengths G.darts G.faces roots sound (bound_wide G.faces c.left)
+        (bound_few G.faces c.left sound.few_faces)
         (swept_none G.lefts G.lengths G.darts G.faces roots sound r.passing) h.1
 
-    pub end-sized : (u : Tables) (o : Outcome) → Ends G c u o → length u.parents ≡ 1024
-    end-sized u outcome.Settled h = ap (λ t. length t.parents) h.2 ∙ r.passing.size-parents
-    end-sized u (outcome.Ring d) h =
-        swept-size G.lefts G.lengths G.darts G.faces roots sound (bound-wide G.faces c.left)
-        (bound-few G.faces c.left sound.few-faces)
+    pub end_sized : (u : Tables) (o : Outcome) → Ends G c u o → length u.parents ≡ 1024
+    end_sized u outcome.Settled h = ap (λ t. length t.parents) h.2 ∙ r.passing.size_parents
+    end_sized u (outcome.Ring d) h =
+        swept_size G.lefts G.lengths G.darts G.faces roots sound (bound_wide G.faces c.left)
+        (bound_few G.faces c.left sound.few_faces)
         (swept_none G.lefts G.lengths G.darts G.faces roots sound r.passing) h.1
 
-first-in : (faces taken : ℕ) → firstLooks faces taken ≤ period faces
-first-in faces taken = by (eqb taken 0)
+first_in : (faces taken : ℕ) → first_looks faces taken ≤ period faces
+first_in faces taken = by (eqb taken 0)
   where
     by : (b : Bool) → cond b (period faces) 0 ≤ period faces
     by true = omega arith
@@ -53,27 +53,27 @@ first-in faces taken = by (eqb taken 0)
 module _ (G : Given) (queue : List ℕ) (roots : ℕ) (size : length queue ≡ 1024) (few : roots ≤ 1024)
     (sound : WellFormed (dual G (take roots queue))) (joined : Joined (dual G (take roots queue))) (g : InGroups G) where
   -- the beginning
-  pub start-passing : {proposal : List ℕ} {ρ : List ℤ} {parents waiting : List ℕ}
+  pub start_passing : {proposal : List ℕ} {ρ : List ℤ} {parents waiting : List ℕ}
       → Begun G.lefts G.darts G.faces proposal ρ parents waiting queue roots
       → PassingAt (dual G (take roots queue)) (start G proposal ρ parents waiting queue roots)
-  start-passing {proposal} b =
-      let taken = takenFrom G.lefts G.darts G.faces proposal in
+  start_passing {proposal} b =
+      let taken = taken_from G.lefts G.darts G.faces proposal in
       record {
-        in-period = first-in G.faces taken;
-        passing = begun-passing G queue roots size few sound joined b (bound G.faces (firstLooks G.faces taken));
+        in-period = first_in G.faces taken;
+        passing = begun_passing G queue roots size few sound joined b (bound G.faces (first_looks G.faces taken));
       }
 
   module _ {proposal : List ℕ} {potentials : List ℤ} {parents : List ℕ} {o : Outcome} (s : Searches G queue roots proposal potentials parents o) where
-    at-end : PassingAt (dual G (take roots queue)) s.end
-    at-end = goes-passing G (take roots queue) sound g (start-passing s.begun) s.run
+    at_end : PassingAt (dual G (take roots queue)) s.end
+    at_end = goes_passing G (take roots queue) sound g (start_passing s.begun) s.run
 
     pub answered : Answer (dual G (take roots queue)) potentials parents o
     answered =
-        subst (λ ρ. Answer (dual G (take roots queue)) ρ parents o) s.potentials-are
-        (subst (λ p. Answer (dual G (take roots queue)) s.left.potentials p o) s.parents-are
-        (end-answer G (take roots queue) sound s.end at-end joined s.left o s.ended))
+        subst (λ ρ. Answer (dual G (take roots queue)) ρ parents o) s.potentials_are
+        (subst (λ p. Answer (dual G (take roots queue)) s.left.potentials p o) s.parents_are
+        (end_answer G (take roots queue) sound s.end at_end joined s.left o s.ended))
 
     -- the parents are still an array of 1,024
-    pub parents-sized : length parents ≡ 1024
-    parents-sized =
-        subst (λ p. length p ≡ 1024) s.parents-are (end-sized G (take roots queue) sound s.end at-end s.left o s.ended)
+    pub parents_sized : length parents ≡ 1024
+    parents_sized =
+        subst (λ p. length p ≡ 1024) s.parents_are (end_sized G (take roots queue) sound s.end at_end s.left o s.ended)

@@ -7,11 +7,11 @@ use lib.IntN.{ℤ}
 use mir.Syntax.{w64}
 use mir.Val.{to_z, of_z, SFits}
 use mir.ValLaws.{to_z-of_z, to_z_pos}
-use Rattle.integers.proofs.Tests.{eqb-eq, eqb-ne}
+use Rattle.integers.proofs.Tests.{eqb_eq, eqb_ne}
 use Rattle.search.specs.Level.{far}
 
-pub same-far : (x : ℤ) → SFits w64 x → eqb (of_z w64 x) 2000000000000000 ≡ true → x ≡ far
-same-far x f e = sym (to_z-of_z w64 x f) ∙ ap (to_z w64) (eqb-eq (of_z w64 x) 2000000000000000 e) ∙ to_z_pos w64 2000000000000000 (omega arith)
+pub same_far : (x : ℤ) → SFits w64 x → eqb (of_z w64 x) 2000000000000000 ≡ true → x ≡ far
+same_far x f e = sym (to_z-of_z w64 x f) ∙ ap (to_z w64) (eqb_eq (of_z w64 x) 2000000000000000 e) ∙ to_z_pos w64 2000000000000000 (omega arith)
 
-pub apart-far : (x : ℤ) → eqb (of_z w64 x) 2000000000000000 ≡ false → x ≡ far → ⊥
-apart-far x e q = eqb-ne (of_z w64 x) 2000000000000000 e (ap (of_z w64) q)
+pub apart_far : (x : ℤ) → eqb (of_z w64 x) 2000000000000000 ≡ false → x ≡ far → ⊥
+apart_far x e q = eqb_ne (of_z w64 x) 2000000000000000 e (ap (of_z w64) q)

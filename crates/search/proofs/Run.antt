@@ -8,15 +8,15 @@ use Rattle.search.specs.Dual.{Dual, WellFormed}
 use Rattle.search.specs.Given.{Given, dual, InGroups, end_at}
 use lib.IntN.{ℤ}
 use Rattle.search.specs.Configuration.{Tables, tables_of, Configuration, configuration, front}
-use Rattle.search.specs.Look.{Crosses, done, keep, lower, takenUp, LookAt}
+use Rattle.search.specs.Look.{Crosses, done, keep, lower, taken_up, LookAt}
 use Rattle.search.specs.Straightening.{unmarked, Straightens, end, next}
 use Rattle.search.specs.declared.Straightened.{Straightened}
 use Rattle.search.specs.declared.Straightened.TheVariants as straightened
 use Rattle.search.specs.Trace.{period, Step, look, straighten, Goes, stay, go}
 use Rattle.search.specs.inner.Progress.{Passing}
-use Rattle.search.proofs.Stages.{stage-weaken}
-use Rattle.search.proofs.Trying.{Trying, begin-trying, try-keep, try-lower, tried}
-use Rattle.search.proofs.Sweeping.{swept_none, swept-straight}
+use Rattle.search.proofs.Stages.{stage_weaken}
+use Rattle.search.proofs.Trying.{Trying, begin_trying, try_keep, try_lower, tried}
+use Rattle.search.proofs.Sweeping.{swept_none, swept_straight}
 
 -- how many darts a level is long at most: each look may add as many as a face has
 abbrev pub bound : ℕ → ℕ → ℕ
@@ -26,54 +26,54 @@ pub record PassingAt (N : Dual) (c : Configuration) : Type 0 where
   pub in-period : c.left ≤ period N.faces
   pub passing : Passing N c.tables c.first (bound N.faces c.left)
 
-pub bound-wide : (faces left : ℕ) → 1024 ≤ bound faces left
-bound-wide faces left = omega arith
+pub bound_wide : (faces left : ℕ) → 1024 ≤ bound faces left
+bound_wide faces left = omega arith
 
-pub bound-few : (faces left : ℕ) → faces ≤ 1024 → bound faces left < 1600000
-bound-few faces left l = omega arith
+pub bound_few : (faces left : ℕ) → faces ≤ 1024 → bound faces left < 1600000
+bound_few faces left l = omega arith
 
-pub bound-look : (faces left : ℕ) → faces ≤ 1024 → 0 < left → left ≤ period faces → bound faces left + 1024 < 1600000
-bound-look faces left l s m = omega arith
+pub bound_look : (faces left : ℕ) → faces ≤ 1024 → 0 < left → left ≤ period faces → bound faces left + 1024 < 1600000
+bound_look faces left l s m = omega arith
 
 module _ (G : Given) (roots : List ℕ) (sound : WellFormed (dual G roots)) (g : InGroups G) where
-  crosses-passing : {first b i j : ℕ} {t u : Tables} → Trying (dual G roots) G.order G.starts t first b i j
+  crosses_passing : {first b i j : ℕ} {t u : Tables} → Trying (dual G roots) G.order G.starts t first b i j
       → Crosses G i (end_at G i) j t u → Passing (dual G roots) u (first + 1) (b + 1024)
-  crosses-passing r (done l) = tried sound g r l
-  crosses-passing {j = j} r (keep l a q) = crosses-passing (try-keep sound g r (at G.order j) l refl a.2) q
-  crosses-passing {j = j} r (lower {u = v} l a p q) = crosses-passing (try-lower sound g r (at G.order j) l refl v a.0 a.1 a.2 p) q
+  crosses_passing r (done l) = tried sound g r l
+  crosses_passing {j = j} r (keep l a q) = crosses_passing (try_keep sound g r (at G.order j) l refl a.2) q
+  crosses_passing {j = j} r (lower {u = v} l a p q) = crosses_passing (try_lower sound g r (at G.order j) l refl v a.0 a.1 a.2 p) q
 
   -- what a look begins with
-  pub look-trying : (c : Configuration) → PassingAt (dual G roots) c → 0 < c.left → c.first < c.tables.new
-      → Trying (dual G roots) G.order G.starts (takenUp (front c) c.tables) c.first (bound G.faces c.left) (front c)
+  pub look_trying : (c : Configuration) → PassingAt (dual G roots) c → 0 < c.left → c.first < c.tables.new
+      → Trying (dual G roots) G.order G.starts (taken_up (front c) c.tables) c.first (bound G.faces c.left) (front c)
       (at G.starts (front c))
-  look-trying c r l m = begin-trying sound g r.passing (bound-look G.faces c.left sound.few-faces l r.in-period) m (front c) refl
+  look_trying c r l m = begin_trying sound g r.passing (bound_look G.faces c.left sound.few_faces l r.in-period) m (front c) refl
 
-  pub step-passing : {c d : Configuration} → PassingAt (dual G roots) c → Step G c d → PassingAt (dual G roots) d
-  step-passing {c} r (look l m q) = record {
+  pub step_passing : {c d : Configuration} → PassingAt (dual G roots) c → Step G c d → PassingAt (dual G roots) d
+  step_passing {c} r (look l m q) = record {
     in-period = omega (arith, r.in-period);
     passing =
-        stage-weaken (λ d. ⊥) (λ d. ⊥) (bound G.faces (c.left - 1)) (omega (arith, r.in-period)) (λ d h e. e)
-        (crosses-passing (look-trying c r l m) q);
+        stage_weaken (λ d. ⊥) (λ d. ⊥) (bound G.faces (c.left - 1)) (omega (arith, r.in-period)) (λ d h e. e)
+        (crosses_passing (look_trying c r l m) q);
   }
-  step-passing {c} r (straighten l s) = record {
+  step_passing {c} r (straighten l s) = record {
     in-period = omega arith;
     passing =
-        stage-weaken (λ d. ⊥) (λ d. ⊥) (bound G.faces (period G.faces)) (omega arith) (λ d h e. e)
-        (swept-straight G.lefts G.lengths G.darts G.faces roots sound (bound-wide G.faces c.left)
-        (bound-few G.faces c.left sound.few-faces)
+        stage_weaken (λ d. ⊥) (λ d. ⊥) (bound G.faces (period G.faces)) (omega arith) (λ d h e. e)
+        (swept_straight G.lefts G.lengths G.darts G.faces roots sound (bound_wide G.faces c.left)
+        (bound_few G.faces c.left sound.few_faces)
         (swept_none G.lefts G.lengths G.darts G.faces roots sound r.passing) s).1;
   }
 
-  pub goes-passing : {c d : Configuration} → PassingAt (dual G roots) c → Goes G c d → PassingAt (dual G roots) d
-  goes-passing r stay = r
-  goes-passing r (go s p) = goes-passing (step-passing r s) p
+  pub goes_passing : {c d : Configuration} → PassingAt (dual G roots) c → Goes G c d → PassingAt (dual G roots) d
+  goes_passing r stay = r
+  goes_passing r (go s p) = goes_passing (step_passing r s) p
 
 -- ── the steps, as the code comes by them ──
 -- a straightening that ends straight tells the end of the queue
-straight-last : {lefts : List ℕ} {lengths : List ℤ} {darts faces f e : ℕ} {marks : List ℕ} {t u : Tables}
+straight_last : {lefts : List ℕ} {lengths : List ℤ} {darts faces f e : ℕ} {marks : List ℕ} {t u : Tables}
     → Straightens lefts lengths darts faces f marks t u (straightened.Straight e) → e ≡ u.last
-straight-last (end l q) = q
-straight-last (next count l a c q w) = straight-last w
+straight_last (end l q) = q
+straight_last (next count l a c q w) = straight_last w
 
 pub looks : {G : Given} {c : Configuration} {u : Tables} (i : ℕ) → i ≡ front c → 0 < c.left → c.first < c.tables.new → LookAt G i c.tables u
     → Step G c (configuration u (c.first + 1) (c.left - 1))
@@ -87,7 +87,7 @@ straightens G c l ρ parents waiting queue x e o is w =
     let v = subst (Straightens G.lefts G.lengths G.darts G.faces 0 unmarked c.tables (tables_of ρ parents waiting queue x)) is w in
     straighten l
     (subst (λ y. Straightens G.lefts G.lengths G.darts G.faces 0 unmarked c.tables (tables_of ρ parents waiting queue y)
-    (straightened.Straight e)) (sym (straight-last v)) v)
+    (straightened.Straight e)) (sym (straight_last v)) v)
 
 -- ── runs joined ──
 pub goes_then : {G : Given} {c d e : Configuration} → Goes G c d → Goes G d e → Goes G c e

@@ -9,26 +9,26 @@ use lib.ListN.{length, get_or-replicate}
 use lib.IntN.{ℤ}
 use lib.Signed.{mag}
 use Rattle.maps.specs.Orbit.{iter}
-use Rattle.maps.proofs.Orbits.{iter-zero, iter-suc, iter-add}
+use Rattle.maps.proofs.Orbits.{iter_zero, iter_suc, iter_add}
 use Rattle.arrays.specs.At.{at, atℤ}
-use Rattle.search.specs.Dual.{Dual, dualOf, WellFormed, longest}
+use Rattle.search.specs.Dual.{Dual, dual_of, WellFormed, longest}
 use Rattle.search.specs.inner.Walk.{Ring}
 use Rattle.search.specs.Parents.{ParentRing}
 use Rattle.search.specs.Level.{HasLevel}
 use Rattle.search.specs.Configuration.{Tables}
-use Rattle.search.specs.Straightening.{unmarked, marked, Ascent, Follows, Descends, done, down, upwardOf, Closes, Straightens, end, ring, next}
+use Rattle.search.specs.Straightening.{unmarked, marked, Ascent, Follows, Descends, done, down, upward_of, Closes, Straightens, end, ring, next}
 use Rattle.search.specs.declared.Straightened.{Straightened}
 use Rattle.search.specs.declared.Straightened.TheVariants as straightened
 use Rattle.search.specs.inner.Progress.{Passing, Descending}
 use Rattle.search.proofs.Turning.{bounded}
-use Rattle.search.proofs.Heights.{fresh, fresh-few}
-use Rattle.search.proofs.Chains.{ring_of, parent-ring}
-use Rattle.search.proofs.Marking.{marked-size, marked-cases, marked-new, marked-stays, ascent-inside, ascent-apart, ascent-few}
-use Rattle.search.proofs.Descent.{follow-on, follow-parents, follow-others}
+use Rattle.search.proofs.Heights.{fresh, fresh_few}
+use Rattle.search.proofs.Chains.{ring_of, parent_ring}
+use Rattle.search.proofs.Marking.{marked_size, marked_cases, marked_new, marked_stays, ascent_inside, ascent_apart, ascent_few}
+use Rattle.search.proofs.Descent.{follow_on, follow_parents, follow_others}
 
-module _ (lefts : List ℕ) (lengths : List ℤ) (darts faces : ℕ) (roots : List ℕ) (sound : WellFormed (dualOf lefts lengths darts faces roots)) where
+module _ (lefts : List ℕ) (lengths : List ℤ) (darts faces : ℕ) (roots : List ℕ) (sound : WellFormed (dual_of lefts lengths darts faces roots)) where
   abbrev N : Dual
-  N = dualOf lefts lengths darts faces roots
+  N = dual_of lefts lengths darts faces roots
 
   -- the faces before f are gone through: a face that is marked is no more than `deep` darts long
   pub record Swept (t : Tables) (first b f : ℕ) (marks : List ℕ) (deep : ℕ) : Type 0 where
@@ -43,22 +43,22 @@ module _ (lefts : List ℕ) (lengths : List ℤ) (darts faces : ℕ) (roots : Li
   swept_none r = record {
     passing = r;
     size = refl;
-    low = λ x l n. absurd (n (none-at x l));
-    near = λ x l n. absurd (n (none-at x l));
-    room = omega (arith, fresh-few faces unmarked);
+    low = λ x l n. absurd (n (none_at x l));
+    near = λ x l n. absurd (n (none_at x l));
+    room = omega (arith, fresh_few faces unmarked);
     gone = λ x l m. absurd (omega arith);
   }
     where
-      none-at : (x : ℕ) → x < faces → at unmarked x ≡ 1024
-      none-at x l = get_or-replicate 1024 x 1024 0 (omega (arith, sound.few-faces))
+      none_at : (x : ℕ) → x < faces → at unmarked x ≡ 1024
+      none_at x l = get_or-replicate 1024 x 1024 0 (omega (arith, sound.few_faces))
 
   -- all are gone through
   pub swept_all : {t : Tables} {first b f deep : ℕ} {marks : List ℕ} → Swept t first b f marks deep → faces ≤ f → Passing N t first 1024
   swept_all {t} {first} {b} {deep = deep} {marks} s l = record {
-    size-potentials = r.size-potentials;
-    size-parents = r.size-parents;
-    size-waiting = r.size-waiting;
-    size-queue = r.size-queue;
+    size_potentials = r.size_potentials;
+    size_parents = r.size_parents;
+    size_waiting = r.size_waiting;
+    size_queue = r.size_queue;
     ordered = r.ordered;
     spent = r.spent;
     state = bounded r.state 1024 (λ x m h. by x m h (s.gone x m (omega arith)));
@@ -71,35 +71,35 @@ module _ (lefts : List ℕ) (lengths : List ℤ) (darts faces : ℕ) (roots : Li
 
       by : (x : ℕ) → x < faces → HasLevel (atℤ t.potentials) x → (at marks x ≡ 1024 → ⊥) ⊎ (darts ≤ at t.parents x)
           → mag (atℤ t.potentials x) ≤ 1024 * longest
-      by x m h (inl n) = omega (arith, s.near x m n h, s.room, sound.few-faces)
+      by x m h (inl n) = omega (arith, s.near x m n h, s.room, sound.few_faces)
       by x m h (inr n) = omega (arith, ap mag (r.state.orphan x m n h))
 
   -- ── one ascent ──
   module _ {t : Tables} {first b f deep : ℕ} {marks : List ℕ} (s : Swept t first b f marks deep) (f-in : f < faces) {count : ℕ}
-      (a : Ascent (upwardOf lefts t) darts t.parents marks f count) where
+      (a : Ascent (upward_of lefts t) darts t.parents marks f count) where
     abbrev g : ℕ → ℕ
-    g = upwardOf lefts t
+    g = upward_of lefts t
 
     abbrev marks' : List ℕ
-    marks' = marked (upwardOf lefts t) f count marks
+    marks' = marked (upward_of lefts t) f count marks
 
     pub inside : (k : ℕ) → k ≤ count → iter g k f < faces
-    inside = ascent-inside faces sound.right-in sound.few-faces f-in s.size a
+    inside = ascent_inside faces sound.right_in sound.few_faces f-in s.size a
 
     apart : (i j : ℕ) → i < j → j < count → iter g i f ≡ iter g j f → ⊥
-    apart = ascent-apart faces sound.right-in sound.few-faces f-in s.size a
+    apart = ascent_apart faces sound.right_in sound.few_faces f-in s.size a
 
     left_over : fresh faces marks' + count ≡ fresh faces marks
-    left_over = ascent-few faces sound.right-in sound.few-faces f-in s.size a count (omega arith)
+    left_over = ascent_few faces sound.right_in sound.few_faces f-in s.size a count (omega arith)
 
     small : (k : ℕ) → k ≤ count → iter g k f < 1024
-    small k l = omega (arith, inside k l, sound.few-faces)
+    small k l = omega (arith, inside k l, sound.few_faces)
 
-    pub count-few : count ≤ faces
-    count-few = omega (arith, left_over, fresh-few faces marks)
+    pub count_few : count ≤ faces
+    count_few = omega (arith, left_over, fresh_few faces marks)
 
     met : (x : ℕ) (j : ℕ) → j < count → iter g j f ≡ x → at marks' x ≡ f
-    met x j l e = subst (λ y. at marks' y ≡ f) e (marked-new g f marks s.size count j l (small j (omega arith)))
+    met x j l e = subst (λ y. at marks' y ≡ f) e (marked_new g f marks s.size count j l (small j (omega arith)))
 
     -- it has come round
     module _ (c : Closes f (iter g count f) marks' t) where
@@ -108,32 +108,32 @@ module _ (lefts : List ℕ) (lengths : List ℤ) (darts faces : ℕ) (roots : Li
 
       -- where in the ascent the face was met
       place : (j : ℕ) × (j < count) × (iter g j f ≡ y)
-      place = by (marked-cases g f marks count y)
+      place = by (marked_cases g f marks count y)
         where
           by : (at marks' y ≡ at marks y) ⊎ ((j : ℕ) × (j < count) × (iter g j f ≡ y)) → (j : ℕ) × (j < count) × (iter g j f ≡ y)
           by (inl e) =
-              absurd (omega (arith, e, c.0, s.low y (inside count (omega arith)) (λ z. omega (arith, e, c.0, f-in, sound.few-faces))))
+              absurd (omega (arith, e, c.0, s.low y (inside count (omega arith)) (λ z. omega (arith, e, c.0, f-in, sound.few_faces))))
           by (inr r) = r
 
       abbrev j : ℕ
       j = place.0
 
-      from-there : (i : ℕ) → iter g i y ≡ iter g (i + j) f
-      from-there i = ap (iter g i) (sym place.2) ∙ sym (iter-add g i j f)
+      from_there : (i : ℕ) → iter g i y ≡ iter g (i + j) f
+      from_there i = ap (iter g i) (sym place.2) ∙ sym (iter_add g i j f)
 
       back : iter g (count - j) y ≡ y
-      back = from-there (count - j) ∙ ap (λ m. iter g m f) whole
+      back = from_there (count - j) ∙ ap (λ m. iter g m f) whole
         where
           whole : count - j + j ≡ count
           whole = omega (arith, place.1)
 
       steps : (i : ℕ) → i < count - j → at t.parents (iter g i y) < darts
-      steps i l = rw (from-there i) (a.onward (i + j) (omega (arith, place.1))).0
+      steps i l = rw (from_there i) (a.onward (i + j) (omega (arith, place.1))).0
 
       pub round : ParentRing N (at t.parents) y
       round =
-          parent-ring sound s.passing.state y (inside count (omega arith)) c.1 (count - j) (omega (arith, place.1))
-          (omega (arith, count-few)) back steps
+          parent_ring sound s.passing.state y (inside count (omega arith)) c.1 (count - j) (omega (arith, place.1))
+          (omega (arith, count_few)) back steps
 
     -- it has not: the way down begins
     module _ (open' : Closes f (iter g count f) marks' t → ⊥) where
@@ -142,7 +142,7 @@ module _ (lefts : List ℕ) (lengths : List ℤ) (darts faces : ℕ) (roots : Li
         passing = s.passing;
         inside = inside;
         onward = λ j l. (a.onward j l).0;
-        across = λ j l. sym (iter-suc g j f);
+        across = λ j l. sym (iter_suc g j f);
         apart = apart;
         near = λ has. by has (dec_lt (at t.parents (iter g count f)) darts);
         room = omega (arith, s.room, left_over);
@@ -159,7 +159,7 @@ module _ (lefts : List ℕ) (lengths : List ℤ) (darts faces : ℕ) (roots : Li
 
           by : HasLevel (atℤ t.potentials) (iter g count f) → Dec (at t.parents (iter g count f) < darts)
               → mag (atℤ t.potentials (iter g count f)) ≤ deep * longest
-          by has (yes l) = at_top has l (marked-cases g f marks count (iter g count f))
+          by has (yes l) = at_top has l (marked_cases g f marks count (iter g count f))
           by has (no n) = omega (arith, ap mag (s.passing.state.orphan (iter g count f) (inside count (omega arith)) (omega (arith, n)) has))
 
       module _ (wide : 1024 ≤ b) (thin : b < 1600000) where
@@ -175,9 +175,9 @@ module _ (lefts : List ℕ) (lengths : List ℤ) (darts faces : ℕ) (roots : Li
           near : (x : ℕ) → x < faces → Done k x → HasLevel (atℤ u.potentials) x → mag (atℤ u.potentials x) ≤ deep' * longest
           parentless : (x : ℕ) → darts ≤ at t.parents x → darts ≤ at u.parents x
 
-        falling-first : Falling t count deep
+        falling_first : Falling t count deep
         unfolding Done
-        falling-first = record {
+        falling_first = record {
           descending = begins;
           upto = omega arith;
           deeper = omega arith;
@@ -190,21 +190,21 @@ module _ (lefts : List ℕ) (lengths : List ℤ) (darts faces : ℕ) (roots : Li
             near' x l (inl n) = s.near x l n
             near' x l (inr r) = absurd (omega (arith, r.1, r.2))
 
-        falling-on : {u v : Tables} {k deep' : ℕ} → Falling u (suc k) deep' → Follows lefts lengths (iter g k f) u v → Falling v k (suc deep')
+        falling_on : {u v : Tables} {k deep' : ℕ} → Falling u (suc k) deep' → Follows lefts lengths (iter g k f) u v → Falling v k (suc deep')
         unfolding Done
-        falling-on {u} {v} {k} {deep'} h w = record {
+        falling_on {u} {v} {k} {deep'} h w = record {
           descending = below;
           upto = omega (arith, h.upto);
           deeper = omega (arith, h.deeper);
           near = λ x l d has. near' x l d has (ℕ_discrete x (iter g k f));
-          parentless = λ x l. follow-parents lefts lengths darts faces roots sound wide thin h.descending w x (h.parentless x l);
+          parentless = λ x l. follow_parents lefts lengths darts faces roots sound wide thin h.descending w x (h.parentless x l);
         }
           where
             below : Descending N v first b g f k (suc deep') (fresh faces marks')
-            below = follow-on lefts lengths darts faces roots sound wide thin h.descending w
+            below = follow_on lefts lengths darts faces roots sound wide thin h.descending w
 
             same : (x : ℕ) → (x ≡ iter g k f → ⊥) → atℤ v.potentials x ≡ atℤ u.potentials x
-            same = follow-others lefts lengths darts faces roots sound wide thin h.descending w
+            same = follow_others lefts lengths darts faces roots sound wide thin h.descending w
 
             earlier : (x : ℕ) → (x ≡ iter g k f → ⊥) → (at marks x ≡ 1024 → ⊥) ⊎ ((j : ℕ) × (k ≤ j) × (j < count) × (iter g j f ≡ x))
                 → (at marks x ≡ 1024 → ⊥) ⊎ ((j : ℕ) × (suc k ≤ j) × (j < count) × (iter g j f ≡ x))
@@ -220,23 +220,23 @@ module _ (lefts : List ℕ) (lengths : List ℤ) (darts faces : ℕ) (roots : Li
                 subst (λ z. mag (atℤ v.potentials z) ≤ suc deep' * longest) (sym e) (below.near (λ z. has (ap (atℤ v.potentials) e ∙ z)))
             near' x l d has (no n) = rw (same x n) (omega (arith, h.near x l (earlier x n d) (λ z. has (same x n ∙ z))))
 
-        falling-last : {u v : Tables} {k deep' : ℕ} → Falling u k deep' → Descends lefts lengths g f k u v → Falling v 0 (deep + count)
-        falling-last {u} {deep' = deep'} h done = let e : deep' ≡ deep + count = omega (arith, h.deeper) in subst (Falling u 0) e h
-        falling-last h (down w q) = falling-last (falling-on h w) q
+        falling_last : {u v : Tables} {k deep' : ℕ} → Falling u k deep' → Descends lefts lengths g f k u v → Falling v 0 (deep + count)
+        falling_last {u} {deep' = deep'} h done = let e : deep' ≡ deep + count = omega (arith, h.deeper) in subst (Falling u 0) e h
+        falling_last h (down w q) = falling_last (falling_on h w) q
 
-        pub swept-more : {u : Tables} → Descends lefts lengths g f count t u → Swept u first b (f + 1) marks' (deep + count)
+        pub swept_more : {u : Tables} → Descends lefts lengths g f count t u → Swept u first b (f + 1) marks' (deep + count)
         unfolding Done
-        swept-more {u} q = record {
+        swept_more {u} q = record {
           passing = h.descending.passing;
-          size = marked-size g f marks count ∙ s.size;
-          low = λ x l n. low' x l n (marked-cases g f marks count x);
-          near = λ x l n. h.near x l (done_at x n (marked-cases g f marks count x));
+          size = marked_size g f marks count ∙ s.size;
+          low = λ x l n. low' x l n (marked_cases g f marks count x);
+          near = λ x l n. h.near x l (done_at x n (marked_cases g f marks count x));
           room = omega (arith, s.room, left_over);
           gone = λ x l m. gone' x l (dec_lt x f) m;
         }
           where
             h : Falling u 0 (deep + count)
-            h = falling-last falling-first q
+            h = falling_last falling_first q
 
             low' : (x : ℕ) → x < faces → (at marks' x ≡ 1024 → ⊥) → (at marks' x ≡ at marks x) ⊎ ((j : ℕ) × (j < count) × (iter g j f ≡ x))
                 → at marks' x < f + 1
@@ -249,17 +249,17 @@ module _ (lefts : List ℕ) (lengths : List ℤ) (darts faces : ℕ) (roots : Li
             done_at x n (inr r) = inr (r.0, omega arith, r.1, r.2)
 
             kept : (x : ℕ) → x < faces → (at marks x ≡ 1024 → ⊥) ⊎ (darts ≤ at t.parents x) → (at marks' x ≡ 1024 → ⊥) ⊎ (darts ≤ at u.parents x)
-            kept x l (inl n) = inl (marked-stays g f marks s.size (omega (arith, f-in, sound.few-faces)) count x (omega (arith, sound.few-faces)) n)
+            kept x l (inl n) = inl (marked_stays g f marks s.size (omega (arith, f-in, sound.few_faces)) count x (omega (arith, sound.few_faces)) n)
             kept x l (inr n) = inr (h.parentless x n)
 
             -- the face f itself: it was met, or the ascent stopped there
             itself : Dec (0 < count) → Dec (at t.parents f < darts) → (at marks' f ≡ 1024 → ⊥) ⊎ (darts ≤ at u.parents f)
-            itself (yes some) p = inl (λ z. omega (arith, met f 0 some (iter-zero g f), z, f-in, sound.few-faces))
+            itself (yes some) p = inl (λ z. omega (arith, met f 0 some (iter_zero g f), z, f-in, sound.few_faces))
             itself (no n) (no p) = inr (h.parentless f (omega (arith, p)))
-            itself (no n) (yes p) = inl (λ z. a.stops (rw (top-is) p) (ap (at marks') top-is ∙ z))
+            itself (no n) (yes p) = inl (λ z. a.stops (rw (top_is) p) (ap (at marks') top_is ∙ z))
               where
-                top-is : iter g count f ≡ f
-                top-is = ap (λ m. iter g m f) (omega (arith, n)) ∙ iter-zero g f
+                top_is : iter g count f ≡ f
+                top_is = ap (λ m. iter g m f) (omega (arith, n)) ∙ iter_zero g f
 
             gone' : (x : ℕ) → x < faces → Dec (x < f) → x < f + 1 → (at marks' x ≡ 1024 → ⊥) ⊎ (darts ≤ at u.parents x)
             gone' x l (yes m) _ = kept x l (s.gone x l m)
@@ -268,38 +268,38 @@ module _ (lefts : List ℕ) (lengths : List ℤ) (darts faces : ℕ) (roots : Li
                 (itself (dec_lt 0 count) (dec_lt (at t.parents f) darts))
 
   -- ── the whole ──
-  first-left : {parent : ℕ → ℕ} {y : ℕ} → ParentRing N parent y → at lefts (parent y) ≡ y
+  first_left : {parent : ℕ → ℕ} {y : ℕ} → ParentRing N parent y → at lefts (parent y) ≡ y
   unfolding iter
-  first-left r = r.left_is 0
+  first_left r = r.left_is 0
 
-  first-dart : {parent : ℕ → ℕ} {y : ℕ} → ParentRing N parent y → parent y < darts
+  first_dart : {parent : ℕ → ℕ} {y : ℕ} → ParentRing N parent y → parent y < darts
   unfolding iter
-  first-dart r = r.dart 0
+  first_dart r = r.dart 0
 
   module _ {first b : ℕ} (wide : 1024 ≤ b) (thin : b < 1600000) where
-    pub swept-straight : {t u : Tables} {f deep last : ℕ} {marks : List ℕ} → Swept t first b f marks deep
+    pub swept_straight : {t u : Tables} {f deep last : ℕ} {marks : List ℕ} → Swept t first b f marks deep
         → Straightens lefts lengths darts faces f marks t u (straightened.Straight last) → (last ≡ u.last) × Passing N u first 1024
-    swept-straight s (end l e) = (e, swept_all s l)
-    swept-straight s (next count l a c q w) = swept-straight (swept-more s l a c wide thin q) w
+    swept_straight s (end l e) = (e, swept_all s l)
+    swept_straight s (next count l a c q w) = swept_straight (swept_more s l a c wide thin q) w
 
     -- what a ring is answered with
-    pub swept-ring : {t u : Tables} {f deep d : ℕ} {marks : List ℕ} → Swept t first b f marks deep
+    pub swept_ring : {t u : Tables} {f deep d : ℕ} {marks : List ℕ} → Swept t first b f marks deep
         → Straightens lefts lengths darts faces f marks t u (straightened.Ring d)
         → (d < darts) × (at u.parents (at lefts d) ≡ d) × ParentRing N (at u.parents) (at lefts d) × Ring N (at lefts d)
-    swept-ring {t} {f = f} {d = d} s (ring count l a c e) =
+    swept_ring {t} {f = f} {d = d} s (ring count l a c e) =
         let r = round s l a c in
-        let left : at lefts d ≡ iter (upwardOf lefts t) count f =
-        ap (at lefts) e ∙ first-left r in (
-          rw e (first-dart r),
+        let left : at lefts d ≡ iter (upward_of lefts t) count f =
+        ap (at lefts) e ∙ first_left r in (
+          rw e (first_dart r),
           ap (at t.parents) left ∙ sym e,
           subst (ParentRing N (at t.parents)) (sym left) r,
           subst (Ring N) (sym left) (ring_of r),
         )
-    swept-ring s (next count l a c q w) = swept-ring (swept-more s l a c wide thin q) w
+    swept_ring s (next count l a c q w) = swept_ring (swept_more s l a c wide thin q) w
 
     -- the arrays keep their lengths
-    pub swept-size : {t u : Tables} {f deep : ℕ} {marks : List ℕ} {r : Straightened} → Swept t first b f marks deep
+    pub swept_size : {t u : Tables} {f deep : ℕ} {marks : List ℕ} {r : Straightened} → Swept t first b f marks deep
         → Straightens lefts lengths darts faces f marks t u r → length u.parents ≡ 1024
-    swept-size s (end l e) = s.passing.size-parents
-    swept-size s (ring count l a c e) = s.passing.size-parents
-    swept-size s (next count l a c q w) = swept-size (swept-more s l a c wide thin q) w
+    swept_size s (end l e) = s.passing.size_parents
+    swept_size s (ring count l a c e) = s.passing.size_parents
+    swept_size s (next count l a c q w) = swept_size (swept_more s l a c wide thin q) w

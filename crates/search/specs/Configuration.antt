@@ -1,6 +1,6 @@
 -- How a search stands between two looks: its arrays, its queue and its counts.
 use Rattle.std.specs.Prelude.{List, ℕ, ℤ}
-use Rattle.search.specs.Queue.{faceAt}
+use Rattle.search.specs.Queue.{face_at}
 
 -- what a look or a straightening changes: the arrays, and the end of the queue
 pub record Tables : Type 0 where
@@ -25,4 +25,4 @@ configuration t first left = record { tables = t; first = first; left = left }
 
 -- the face that is to be looked at next
 abbrev pub front : Configuration → ℕ
-front c = faceAt c.tables.queue c.first
+front c = face_at c.tables.queue c.first

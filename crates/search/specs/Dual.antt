@@ -5,7 +5,7 @@ use Rattle.std.proofs.Math.ListN as list
 use Rattle.std.specs.Int.Signed.{mag}
 use Rattle.maps.specs.Dart.{rev}
 use Rattle.arrays.specs.At.{at, atℤ}
-use Rattle.arrays.specs.Maps.{rightOf}
+use Rattle.arrays.specs.Maps.{right_of}
 
 pub record Dual : Type 0 where
   pub darts : ℕ
@@ -22,11 +22,11 @@ longest = 1000000000
 
 -- numbers in range, and darts in pairs
 pub record WellFormed (N : Dual) : Type 0 where
-  pub few-darts : N.darts ≤ 1024
-  pub few-faces : N.faces ≤ 1024
+  pub few_darts : N.darts ≤ 1024
+  pub few_faces : N.faces ≤ 1024
   pub root_in : (m : ℕ) → m < N.roots → N.root m < N.faces
   pub left_in : (d : ℕ) → d < N.darts → N.left d < N.faces
-  pub right-in : (d : ℕ) → d < N.darts → N.right d < N.faces
+  pub right_in : (d : ℕ) → d < N.darts → N.right d < N.faces
   pub short : (d : ℕ) → d < N.darts → mag (N.length d) < longest
   -- the darts come in pairs, and what is right of one is left of the other
   pub even : N.darts % 2 ≡ 0
@@ -37,19 +37,19 @@ pub record WellFormed (N : Dual) : Type 0 where
 pub record Joined (N : Dual) : Type 0 where
   pub part : ℕ → ℕ
   pub part_in : (f : ℕ) → f < N.faces → part f < N.roots
-  pub part-root : (m : ℕ) → m < N.roots → part (N.root m) ≡ m
-  pub part-kept : (d : ℕ) → d < N.darts → part (N.left d) ≡ part (N.right d)
+  pub part_root : (m : ℕ) → m < N.roots → part (N.root m) ≡ m
+  pub part_kept : (d : ℕ) → d < N.darts → part (N.left d) ≡ part (N.right d)
   pub closed : (B : ℕ → Bool) → ((d : ℕ) → d < N.darts → B (N.left d) ≡ B (N.right d))
       → (f : ℕ) → f < N.faces → B f ≡ B (N.root (part f))
 
 -- the dual that the code's arrays hold, with the roots of a list
-abbrev pub dualOf : (lefts : List ℕ) (lengths : List ℤ) (darts faces : ℕ) (roots : List ℕ) → Dual
-dualOf lefts lengths darts faces roots = record {
+abbrev pub dual_of : (lefts : List ℕ) (lengths : List ℤ) (darts faces : ℕ) (roots : List ℕ) → Dual
+dual_of lefts lengths darts faces roots = record {
   darts = darts;
   faces = faces;
   roots = list.length roots;
   root = at roots;
   left = at lefts;
-  right = rightOf lefts;
+  right = right_of lefts;
   length = atℤ lengths;
 }

@@ -45,12 +45,12 @@ history stay past = past
 history (go s g) past = history g (stepped s past)
 
 -- at first each root falls to its level of 0
-unfoldable pub firstLevels : (queue : List ℕ) (roots : ℕ) → List Event
-firstLevels queue zero = []
-firstLevels queue (suc m) = fell (at queue m) ∷ firstLevels queue m
+unfoldable pub first_levels : (queue : List ℕ) (roots : ℕ) → List Event
+first_levels queue zero = []
+first_levels queue (suc m) = fell (at queue m) ∷ first_levels queue m
 
 -- of what happened to the face f, a fall is the latest: it fell since it was last looked at
 pub data FellSince (f : ℕ) : List Event → Type 0 where
   now : {g : ℕ} {past : List Event} → g ≡ f → FellSince f (fell g ∷ past)
-  before-fall : {g : ℕ} {past : List Event} → FellSince f past → FellSince f (fell g ∷ past)
-  before-look : {g : ℕ} {past : List Event} → (g ≡ f → ⊥) → FellSince f past → FellSince f (looked g ∷ past)
+  before_fall : {g : ℕ} {past : List Event} → FellSince f past → FellSince f (fell g ∷ past)
+  before_look : {g : ℕ} {past : List Event} → (g ≡ f → ⊥) → FellSince f past → FellSince f (looked g ∷ past)

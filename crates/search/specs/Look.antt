@@ -18,9 +18,9 @@ pub data Crosses (G : Given) (i e : ℕ) : ℕ → Tables → Tables → Type 0 
       → Crosses G i e (j + 1) u v → Crosses G i e j t v
 
 -- the face i waits no more
-abbrev pub takenUp : (i : ℕ) → Tables → Tables
-takenUp i t = tables_of t.potentials t.parents (set t.waiting i 0) t.queue t.last
+abbrev pub taken_up : (i : ℕ) → Tables → Tables
+taken_up i t = tables_of t.potentials t.parents (set t.waiting i 0) t.queue t.last
 
 -- the look at the face i: it waits no more, and the darts right of which it lies are crossed
 abbrev pub LookAt : (G : Given) (i : ℕ) → Tables → Tables → Type 0
-LookAt G i t u = Crosses G i (end_at G i) (at G.starts i) (takenUp i t) u
+LookAt G i t u = Crosses G i (end_at G i) (at G.starts i) (taken_up i t) u

@@ -9,22 +9,22 @@ abbrev pub sensible : (lefts : List ℕ) (darts f p : ℕ) → Bool
 sensible lefts darts f p = ltb p darts && eqb (at lefts p) f
 
 -- how many faces have a parent of the proposal
-abbrev pub takenFrom : (lefts : List ℕ) (darts faces : ℕ) (proposal : List ℕ) → ℕ
-takenFrom lefts darts faces proposal = count faces (λ f. sensible lefts darts f (at proposal f))
+abbrev pub taken_from : (lefts : List ℕ) (darts faces : ℕ) (proposal : List ℕ) → ℕ
+taken_from lefts darts faces proposal = count faces (λ f. sensible lefts darts f (at proposal f))
 
-abbrev pub parentFrom : (lefts : List ℕ) (darts : ℕ) (proposal : List ℕ) (f : ℕ) → ℕ
-parentFrom lefts darts proposal f = cond (sensible lefts darts f (at proposal f)) (at proposal f) 1024
+abbrev pub parent_from : (lefts : List ℕ) (darts : ℕ) (proposal : List ℕ) (f : ℕ) → ℕ
+parent_from lefts darts proposal f = cond (sensible lefts darts f (at proposal f)) (at proposal f) 1024
 
 -- at first the faces at the first places of the queue, the roots, are at 0 and wait, and have no parent; no other face has a level, and each has the parent
 -- that is proposed for it
 pub record Begun (lefts : List ℕ) (darts faces : ℕ) (proposal : List ℕ) (potentials : List ℤ) (parents waiting queue : List ℕ) (roots : ℕ) : Type 0 where
-  pub size-potentials : length potentials ≡ 1024
-  pub size-parents : length parents ≡ 1024
-  pub size-waiting : length waiting ≡ 1024
+  pub size_potentials : length potentials ≡ 1024
+  pub size_parents : length parents ≡ 1024
+  pub size_waiting : length waiting ≡ 1024
   pub zero : (m : ℕ) → m < roots → atℤ potentials (at queue m) ≡ pos 0
   pub others : (f : ℕ) → f < 1024 → ((m : ℕ) → m < roots → at queue m ≡ f → ⊥) → atℤ potentials f ≡ far
   pub none : (m : ℕ) → m < roots → at parents (at queue m) ≡ 1024
-  pub proposed : (f : ℕ) → f < faces → ((m : ℕ) → m < roots → at queue m ≡ f → ⊥) → at parents f ≡ parentFrom lefts darts proposal f
+  pub proposed : (f : ℕ) → f < faces → ((m : ℕ) → m < roots → at queue m ≡ f → ⊥) → at parents f ≡ parent_from lefts darts proposal f
   pub beyond : (f : ℕ) → faces ≤ f → f < 1024 → ((m : ℕ) → m < roots → at queue m ≡ f → ⊥) → at parents f ≡ at proposal f
   pub waits : (m : ℕ) → m < roots → at waiting (at queue m) ≡ 1
   pub rests : (f : ℕ) → f < 1024 → ((m : ℕ) → m < roots → at queue m ≡ f → ⊥) → at waiting f ≡ 0

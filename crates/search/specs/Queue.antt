@@ -3,12 +3,12 @@
 use Rattle.std.specs.Prelude.{◌≡◌, ◌⊎◌, List, ℕ, ◌+◌, ◌%◌, ◌≤◌, ◌<◌, set}
 use Rattle.arrays.specs.At.{at}
 
-abbrev pub faceAt : List ℕ → ℕ → ℕ
-faceAt queue i = at queue (i % 1024)
+abbrev pub face_at : List ℕ → ℕ → ℕ
+face_at queue i = at queue (i % 1024)
 
 -- the face f stands at a place from `first` up to `last`
 abbrev pub Stands : (queue : List ℕ) (first last f : ℕ) → Type 0
-Stands queue first last f = (i : ℕ) × (first ≤ i) × (i < last) × (faceAt queue i ≡ f)
+Stands queue first last f = (i : ℕ) × (first ≤ i) × (i < last) × (face_at queue i ≡ f)
 
 -- the face f comes to wait, behind all that do, unless it waits: a flag says so
 abbrev pub Pushed : (waiting queue waiting' queue' : List ℕ) (f last last' : ℕ) → Type 0

@@ -10,7 +10,7 @@ use Rattle.search.specs.Given.{Given, dual, InGroups}
 use Rattle.search.specs.Configuration.{Tables, Configuration, configuration, front}
 use Rattle.search.specs.Straightening.{unmarked, Within}
 use Rattle.search.specs.Trace.{Goes, start, Searches}
-use Rattle.search.specs.History.{Event, history, firstLevels, FellSince}
+use Rattle.search.specs.History.{Event, history, first_levels, FellSince}
 use Rattle.search.specs.Waiting.{WaitsAt, Waits}
 use Rattle.search.specs.declared.Outcome.{Outcome}
 
@@ -30,37 +30,37 @@ pub record ComesTo (G : Given) (queue : List ℕ) (roots : ℕ) (c : Configurati
 
 -- what happened until then, the latest first
 abbrev pub past : {G : Given} {queue : List ℕ} {roots : ℕ} {c : Configuration} → ComesTo G queue roots c → List Event
-past {queue = queue} {roots = roots} h = history h.run (firstLevels queue roots)
+past {queue = queue} {roots = roots} h = history h.run (first_levels queue roots)
 
 pub record WhereALevelFell : Type 0 where
   -- "take up only faces whose level fell since they were last looked at": of the face that is looked at next
-  pub taken-up-fell : (G : Given) (queue : List ℕ) (roots : ℕ) (c : Configuration) (h : ComesTo G queue roots c)
+  pub taken_up_fell : (G : Given) (queue : List ℕ) (roots : ℕ) (c : Configuration) (h : ComesTo G queue roots c)
       → c.first < c.tables.last → FellSince (front c) (past h)
   -- "first come first": who waits at c keeps his place until the looks have come to it, and looks go place by place; ..
-  pub keeps-place : (G : Given) (queue : List ℕ) (roots : ℕ) (c d : Configuration) → ComesTo G queue roots c → Goes G c d
+  pub keeps_place : (G : Given) (queue : List ℕ) (roots : ℕ) (c d : Configuration) → ComesTo G queue roots c → Goes G c d
       → (i f : ℕ) → WaitsAt c i f → d.first ≤ i → WaitsAt d i f
   -- .. and who comes later stands behind all that waited at c
-  pub comes-behind : (G : Given) (queue : List ℕ) (roots : ℕ) (c d : Configuration) → ComesTo G queue roots c → Goes G c d
+  pub comes_behind : (G : Given) (queue : List ℕ) (roots : ℕ) (c d : Configuration) → ComesTo G queue roots c → Goes G c d
       → (i f : ℕ) → WaitsAt d i f → WaitsAt c i f ⊎ (c.tables.last ≤ i)
   -- "between looks, no face waits twice"
-  pub waits-once : (G : Given) (queue : List ℕ) (roots : ℕ) (c : Configuration) → ComesTo G queue roots c
+  pub waits_once : (G : Given) (queue : List ℕ) (roots : ℕ) (c : Configuration) → ComesTo G queue roots c
       → (i j f : ℕ) → WaitsAt c i f → WaitsAt c j f → i ≡ j
   -- "and a dart can lower a level only from a face that waits"
-  pub lowers-from-waiting : (G : Given) (queue : List ℕ) (roots : ℕ) (c : Configuration) → ComesTo G queue roots c
+  pub lowers_from_waiting : (G : Given) (queue : List ℕ) (roots : ℕ) (c : Configuration) → ComesTo G queue roots c
       → (d : ℕ) → d < G.darts → CanLower (dual G (take roots queue)) (atℤ c.tables.potentials) d → Waits c ((dual G (take roots queue)).right d)
-  -- a face waits exactly when it fell since it was last looked at; "a first level counts as a fall" (`firstLevels`)
-  pub waits-exactly : (G : Given) (queue : List ℕ) (roots : ℕ) (c : Configuration) (h : ComesTo G queue roots c)
+  -- a face waits exactly when it fell since it was last looked at; "a first level counts as a fall" (`first_levels`)
+  pub waits_exactly : (G : Given) (queue : List ℕ) (roots : ℕ) (c : Configuration) (h : ComesTo G queue roots c)
       → (f : ℕ) → Waits c f ↔ FellSince f (past h)
   -- Within a straightening too, which is between two looks: at each of its moments u, first levels being laid or levels falling, no face waits twice, a dart
   -- can lower a level only from a face that waits, and who waited when it began waits where it stood.
-  pub straightening-once : (G : Given) (queue : List ℕ) (roots : ℕ) (c : Configuration) → ComesTo G queue roots c → c.left ≡ 0
+  pub straightening_once : (G : Given) (queue : List ℕ) (roots : ℕ) (c : Configuration) → ComesTo G queue roots c → c.left ≡ 0
       → (u : Tables) → Within G.lefts G.lengths G.darts G.faces 0 unmarked c.tables u
       → (i j f : ℕ) → WaitsAt (configuration u c.first 0) i f → WaitsAt (configuration u c.first 0) j f → i ≡ j
-  pub straightening-lowers : (G : Given) (queue : List ℕ) (roots : ℕ) (c : Configuration) → ComesTo G queue roots c → c.left ≡ 0
+  pub straightening_lowers : (G : Given) (queue : List ℕ) (roots : ℕ) (c : Configuration) → ComesTo G queue roots c → c.left ≡ 0
       → (u : Tables) → Within G.lefts G.lengths G.darts G.faces 0 unmarked c.tables u
       → (d : ℕ) → d < G.darts → CanLower (dual G (take roots queue)) (atℤ u.potentials) d
       → Waits (configuration u c.first 0) ((dual G (take roots queue)).right d)
-  pub straightening-keeps : (G : Given) (queue : List ℕ) (roots : ℕ) (c : Configuration) → ComesTo G queue roots c → c.left ≡ 0
+  pub straightening_keeps : (G : Given) (queue : List ℕ) (roots : ℕ) (c : Configuration) → ComesTo G queue roots c → c.left ≡ 0
       → (u : Tables) → Within G.lefts G.lengths G.darts G.faces 0 unmarked c.tables u
       → (i f : ℕ) → WaitsAt c i f → WaitsAt (configuration u c.first 0) i f
   -- what the search leaves follows from what it is given

@@ -3,7 +3,7 @@
 use Rattle.std.specs.Prelude.{◌≡◌, true, false, List, ℕ, zero, suc, ◌+◌, ◌≤◌, ◌<◌, set, replicate, ℤ}
 use Rattle.maps.specs.Orbit.{iter}
 use Rattle.arrays.specs.At.{at, atℤ}
-use Rattle.arrays.specs.Maps.{rightOf}
+use Rattle.arrays.specs.Maps.{right_of}
 use Rattle.search.specs.Parents.{up}
 use Rattle.search.specs.Level.{HasLevel, far}
 use Rattle.search.specs.Queue.{Pushed}
@@ -31,13 +31,13 @@ pub record Ascent (upward : ℕ → ℕ) (darts : ℕ) (parents marks : List ℕ
 -- the face y follows its parent: it falls to the level across it plus its length, and comes to wait, or it is there already; where the face across the parent
 -- has no level, y is left without a parent
 pub data Follows (lefts : List ℕ) (lengths : List ℤ) (y : ℕ) : Tables → Tables → Type 0 where
-  leaves : {t : Tables} → atℤ t.potentials (rightOf lefts (at t.parents y)) ≡ far
+  leaves : {t : Tables} → atℤ t.potentials (right_of lefts (at t.parents y)) ≡ far
       → Follows lefts lengths y t (tables_of t.potentials (set t.parents y 1024) t.waiting t.queue t.last)
-  keeps : {t : Tables} → HasLevel (atℤ t.potentials) (rightOf lefts (at t.parents y))
-      → Relaxed lefts lengths t.potentials t.parents t.potentials t.parents (rightOf lefts (at t.parents y)) (at t.parents y) false
+  keeps : {t : Tables} → HasLevel (atℤ t.potentials) (right_of lefts (at t.parents y))
+      → Relaxed lefts lengths t.potentials t.parents t.potentials t.parents (right_of lefts (at t.parents y)) (at t.parents y) false
       → Follows lefts lengths y t t
-  falls : {t u : Tables} → HasLevel (atℤ t.potentials) (rightOf lefts (at t.parents y))
-      → Relaxed lefts lengths t.potentials t.parents u.potentials u.parents (rightOf lefts (at t.parents y)) (at t.parents y) true
+  falls : {t u : Tables} → HasLevel (atℤ t.potentials) (right_of lefts (at t.parents y))
+      → Relaxed lefts lengths t.potentials t.parents u.potentials u.parents (right_of lefts (at t.parents y)) (at t.parents y) true
       → Pushed t.waiting t.queue u.waiting u.queue y t.last u.last
       → Follows lefts lengths y t u
 
@@ -49,8 +49,8 @@ pub data Descends (lefts : List ℕ) (lengths : List ℤ) (upward : ℕ → ℕ)
 
 -- ── the whole ──
 -- the face across the parent of a face
-abbrev pub upwardOf : List ℕ → Tables → ℕ → ℕ
-upwardOf lefts t = up (rightOf lefts) (at t.parents)
+abbrev pub upward_of : List ℕ → Tables → ℕ → ℕ
+upward_of lefts t = up (right_of lefts) (at t.parents)
 
 -- the ascent from f has come to the face y, which has a level and was met in this very ascent
 abbrev pub Closes : (f y : ℕ) (marks : List ℕ) → Tables → Type 0
@@ -60,13 +60,13 @@ Closes f y marks t = (at marks y ≡ f) × HasLevel (atℤ t.potentials) y
 pub data Straightens (lefts : List ℕ) (lengths : List ℤ) (darts faces : ℕ) : (f : ℕ) → List ℕ → Tables → Tables → Straightened → Type 0 where
   end : {f last : ℕ} {marks : List ℕ} {t : Tables} → faces ≤ f → last ≡ t.last
       → Straightens lefts lengths darts faces f marks t t (straightened.Straight last)
-  ring : {f d : ℕ} {marks : List ℕ} {t : Tables} (count : ℕ) → f < faces → Ascent (upwardOf lefts t) darts t.parents marks f count
-      → Closes f (iter (upwardOf lefts t) count f) (marked (upwardOf lefts t) f count marks) t → d ≡ at t.parents (iter (upwardOf lefts t) count f)
+  ring : {f d : ℕ} {marks : List ℕ} {t : Tables} (count : ℕ) → f < faces → Ascent (upward_of lefts t) darts t.parents marks f count
+      → Closes f (iter (upward_of lefts t) count f) (marked (upward_of lefts t) f count marks) t → d ≡ at t.parents (iter (upward_of lefts t) count f)
       → Straightens lefts lengths darts faces f marks t t (straightened.Ring d)
-  next : {f : ℕ} {marks : List ℕ} {t u v : Tables} {r : Straightened} (count : ℕ) → f < faces → Ascent (upwardOf lefts t) darts t.parents marks f count
-      → (Closes f (iter (upwardOf lefts t) count f) (marked (upwardOf lefts t) f count marks) t → ⊥)
-      → Descends lefts lengths (upwardOf lefts t) f count t u
-      → Straightens lefts lengths darts faces (f + 1) (marked (upwardOf lefts t) f count marks) u v r → Straightens lefts lengths darts faces f marks t v r
+  next : {f : ℕ} {marks : List ℕ} {t u v : Tables} {r : Straightened} (count : ℕ) → f < faces → Ascent (upward_of lefts t) darts t.parents marks f count
+      → (Closes f (iter (upward_of lefts t) count f) (marked (upward_of lefts t) f count marks) t → ⊥)
+      → Descends lefts lengths (upward_of lefts t) f count t u
+      → Straightens lefts lengths darts faces (f + 1) (marked (upward_of lefts t) f count marks) u v r → Straightens lefts lengths darts faces f marks t v r
 
 -- ── its moments ──
 -- some of the first k faces of the ascent from f have followed their parents, the last of them first
@@ -77,10 +77,10 @@ pub data Sinks (lefts : List ℕ) (lengths : List ℤ) (upward : ℕ → ℕ) (f
 -- the straightening of the faces from f on comes from the arrays t to the arrays u: before it, on some way down, or later
 pub data Within (lefts : List ℕ) (lengths : List ℤ) (darts faces : ℕ) : (f : ℕ) → List ℕ → Tables → Tables → Type 0 where
   before : {f : ℕ} {marks : List ℕ} {t : Tables} → Within lefts lengths darts faces f marks t t
-  under-way : {f : ℕ} {marks : List ℕ} {t u : Tables} (count : ℕ) → f < faces → Ascent (upwardOf lefts t) darts t.parents marks f count
-      → (Closes f (iter (upwardOf lefts t) count f) (marked (upwardOf lefts t) f count marks) t → ⊥)
-      → Sinks lefts lengths (upwardOf lefts t) f count t u → Within lefts lengths darts faces f marks t u
-  later : {f : ℕ} {marks : List ℕ} {t u v : Tables} (count : ℕ) → f < faces → Ascent (upwardOf lefts t) darts t.parents marks f count
-      → (Closes f (iter (upwardOf lefts t) count f) (marked (upwardOf lefts t) f count marks) t → ⊥)
-      → Descends lefts lengths (upwardOf lefts t) f count t u
-      → Within lefts lengths darts faces (f + 1) (marked (upwardOf lefts t) f count marks) u v → Within lefts lengths darts faces f marks t v
+  under_way : {f : ℕ} {marks : List ℕ} {t u : Tables} (count : ℕ) → f < faces → Ascent (upward_of lefts t) darts t.parents marks f count
+      → (Closes f (iter (upward_of lefts t) count f) (marked (upward_of lefts t) f count marks) t → ⊥)
+      → Sinks lefts lengths (upward_of lefts t) f count t u → Within lefts lengths darts faces f marks t u
+  later : {f : ℕ} {marks : List ℕ} {t u v : Tables} (count : ℕ) → f < faces → Ascent (upward_of lefts t) darts t.parents marks f count
+      → (Closes f (iter (upward_of lefts t) count f) (marked (upward_of lefts t) f count marks) t → ⊥)
+      → Descends lefts lengths (upward_of lefts t) f count t u
+      → Within lefts lengths darts faces (f + 1) (marked (upward_of lefts t) f count marks) u v → Within lefts lengths darts faces f marks t v

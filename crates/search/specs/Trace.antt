@@ -1,7 +1,7 @@
 -- How the search goes, look by look. What it leaves follows from what it is given: `one_end` of `specs/Statements.antt`. The configurations that a run comes to
 -- are the moments "between looks" of which document 02, Job 3, speaks.
 use Rattle.std.specs.Prelude.{◌≡◌, cond, List, ℕ, ◌+◌, ◌-◌, ◌/◌, ◌<◌, eqb, ℤ}
-use Rattle.search.specs.Moves.{takenFrom, Begun}
+use Rattle.search.specs.Moves.{taken_from, Begun}
 use Rattle.search.specs.Given.{Given}
 use Rattle.search.specs.Configuration.{Tables, tables_of, Configuration, configuration, front}
 use Rattle.search.specs.Look.{LookAt}
@@ -33,23 +33,23 @@ Ends G c u outcome.Settled = (0 < c.left) × (c.first ≡ c.tables.last) × (u �
 Ends G c u (outcome.Ring d) = (c.left ≡ 0) × Straightens G.lefts G.lengths G.darts G.faces 0 unmarked c.tables u (straightened.Ring d)
 
 -- the looks before the first straightening: none where some face has a parent of the proposal, so that the first levels are laid; else there is nothing to lay
-abbrev pub firstLooks : (faces taken : ℕ) → ℕ
-firstLooks faces taken = cond (eqb taken 0) (period faces) 0
+abbrev pub first_looks : (faces taken : ℕ) → ℕ
+first_looks faces taken = cond (eqb taken 0) (period faces) 0
 
 -- the roots stand at the first places of the queue
 abbrev pub start : Given → (proposal : List ℕ) (potentials : List ℤ) (parents waiting queue : List ℕ) (roots : ℕ) → Configuration
 start G proposal potentials parents waiting queue roots =
-    configuration (tables_of potentials parents waiting queue roots) 0 (firstLooks G.faces (takenFrom G.lefts G.darts G.faces proposal))
+    configuration (tables_of potentials parents waiting queue roots) 0 (first_looks G.faces (taken_from G.lefts G.darts G.faces proposal))
 
 -- the search as a whole, from the roots and the parents that are proposed to potentials, parents and an answer
 pub record Searches (G : Given) (queue : List ℕ) (roots : ℕ) (proposal : List ℕ) (potentials : List ℤ) (parents : List ℕ) (o : Outcome) : Type 0 where
-  pub first-potentials : List ℤ
-  pub first-parents : List ℕ
-  pub first-waiting : List ℕ
-  pub begun : Begun G.lefts G.darts G.faces proposal first-potentials first-parents first-waiting queue roots
+  pub first_potentials : List ℤ
+  pub first_parents : List ℕ
+  pub first_waiting : List ℕ
+  pub begun : Begun G.lefts G.darts G.faces proposal first_potentials first_parents first_waiting queue roots
   pub end : Configuration
-  pub run : Goes G (start G proposal first-potentials first-parents first-waiting queue roots) end
+  pub run : Goes G (start G proposal first_potentials first_parents first_waiting queue roots) end
   pub left : Tables
   pub ended : Ends G end left o
-  pub potentials-are : left.potentials ≡ potentials
-  pub parents-are : left.parents ≡ parents
+  pub potentials_are : left.potentials ≡ potentials
+  pub parents_are : left.parents ≡ parents

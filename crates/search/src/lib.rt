@@ -13,17 +13,17 @@ ghost use Rattle.std.specs.Prelude.{◌≡◌, true, false, List, ℕ, ◌+◌, 
 ghost use Rattle.std.specs.Int.Signed.{mag};
 ghost use Rattle.grouping.specs.Grouped.{end_of, Grouped};
 ghost use Rattle.arrays.specs.At.{at, atℤ};
-ghost use Rattle.arrays.specs.Maps.{rightOf};
-ghost use Rattle.search.specs.Dual.{dualOf, WellFormed, Joined};
+ghost use Rattle.arrays.specs.Maps.{right_of};
+ghost use Rattle.search.specs.Dual.{dual_of, WellFormed, Joined};
 ghost use Rattle.search.specs.Parents.{up};
 ghost use Rattle.search.specs.inner.Answer.{Answer};
 ghost use Rattle.search.specs.Queue.{Pushed};
-ghost use Rattle.search.specs.Moves.{sensible, takenFrom, Begun, Relaxed};
+ghost use Rattle.search.specs.Moves.{sensible, taken_from, Begun, Relaxed};
 ghost use Rattle.search.specs.Given.{given};
 ghost use Rattle.search.specs.Configuration.{tables_of};
 ghost use Rattle.search.specs.Look.{LookAt};
 ghost use Rattle.search.specs.Straightening.{unmarked, Follows, Descends, Straightens};
-ghost use Rattle.search.specs.Trace.{firstLooks, Searches};
+ghost use Rattle.search.specs.Trace.{first_looks, Searches};
 ghost use Rattle.search.specs.inner.Progress.{Looking, Lowering, Straightening};
 ghost use Rattle.search.specs.inner.Ascending.{Matched, Ascended, Unlinked};
 ghost use Rattle.search.specs.inner.Taking.{Taking};
@@ -170,7 +170,7 @@ fn begin(
         × ((m : ℕ) → m < roots → at queue.now m < 1024) × (darts ≤ 1024) × (faces ≤ 1024)
         × ((f : ℕ) → f < 1024 → atℤ potentials.old f ≡ far) × ((f : ℕ) → f < 1024 → at waiting.old f ≡ 0) }
     ensures { Begun lefts.now darts faces parents.old potentials.new parents.new waiting.new
-        queue.now roots × (result ≡ takenFrom lefts.now darts faces parents.old) }
+        queue.now roots × (result ≡ taken_from lefts.now darts faces parents.old) }
 {
     let taken = take_proposed(lefts, darts, faces, &mut *parents);
     for m in 0..roots {
@@ -185,7 +185,7 @@ fn begin(
 // The looks before the first straightening: none where parents were taken, along which it lays the first levels.
 fn first_looks(faces: usize, taken: usize) -> usize
     requires { faces ≤ 1024 }
-    ensures { result ≡ firstLooks faces taken }
+    ensures { result ≡ first_looks faces taken }
 {
     if taken == 0 {
         return faces + faces / 2 + 1;
@@ -203,9 +203,9 @@ fn ascend(
     links: &mut [u16; 1024],
 ) -> Risen
     requires { (length links.old ≡ 1024) × (darts ≤ 1024) × (faces ≤ 1024) × (f < faces)
-        × ((d : ℕ) → d < darts → rightOf lefts.now d < faces) }
+        × ((d : ℕ) → d < darts → right_of lefts.now d < faces) }
     ensures { (marks : List ℕ) → Matched marks links.old
-        → Ascended (up (rightOf lefts.now) (at parents.now)) darts faces parents.now f marks
+        → Ascended (up (right_of lefts.now) (at parents.now)) darts faces parents.now f marks
         links.old links.new result.count result.last result.top }
 {
     let mut y = f;
@@ -255,10 +255,10 @@ fn follow(
     last: usize,
 ) -> usize
     requires { (length potentials.old ≡ 1024) × (length parents.old ≡ 1024) × (length waiting.old ≡ 1024) × (length queue.old ≡ 1024)
-        × (y < 1024) × (at parents.old y < 1024) × (at lefts.now (at parents.old y) < 1024) × (rightOf lefts.now (at parents.old y) < 1024)
+        × (y < 1024) × (at parents.old y < 1024) × (at lefts.now (at parents.old y) < 1024) × (right_of lefts.now (at parents.old y) < 1024)
         × (last ≤ 4000000000000000000)
-        × ((atℤ potentials.old (rightOf lefts.now (at parents.old y)) ≡ far → ⊥)
-        → mag (atℤ potentials.old (rightOf lefts.now (at parents.old y))) + mag (atℤ lengths.now (at parents.old y)) + 1 < 9223372036854775808) }
+        × ((atℤ potentials.old (right_of lefts.now (at parents.old y)) ≡ far → ⊥)
+        → mag (atℤ potentials.old (right_of lefts.now (at parents.old y))) + mag (atℤ lengths.now (at parents.old y)) + 1 < 9223372036854775808) }
     ensures { Follows lefts.now lengths.now y
         (tables_of potentials.old parents.old waiting.old queue.old last)
         (tables_of potentials.new parents.new waiting.new queue.new result) }
@@ -291,12 +291,12 @@ fn descend(
     queue: &mut [u16; 1024],
     last: usize,
 ) -> usize
-    requires { Lowering (dualOf lefts.now lengths.now darts faces)
+    requires { Lowering (dual_of lefts.now lengths.now darts faces)
         (tables_of potentials.old parents.old waiting.old queue.old last) f count from links.old }
-    ensures { Descends lefts.now lengths.now (up (rightOf lefts.now) (at parents.old))
+    ensures { Descends lefts.now lengths.now (up (right_of lefts.now) (at parents.old))
         f count (tables_of potentials.old parents.old waiting.old queue.old last)
         (tables_of potentials.new parents.new waiting.new queue.new result)
-        × Unlinked (up (rightOf lefts.now) (at parents.old)) f 0 count links.old links.new }
+        × Unlinked (up (right_of lefts.now) (at parents.old)) f 0 count links.old links.new }
 {
     let mut k = count;
     let mut y = from;
@@ -345,7 +345,7 @@ fn straighten(
     queue: &mut [u16; 1024],
     last: usize,
 ) -> Straightened
-    requires { Straightening (dualOf lefts.now lengths.now darts faces)
+    requires { Straightening (dual_of lefts.now lengths.now darts faces)
         (tables_of potentials.old parents.old waiting.old queue.old last) }
     ensures { (end : ℕ) × Straightens lefts.now lengths.now darts faces 0 unmarked
         (tables_of potentials.old parents.old waiting.old queue.old last)
@@ -407,9 +407,9 @@ fn look(
     last: usize,
     i: usize,
 ) -> usize
-    requires { Looking (dualOf lefts.now lengths.now darts faces)
+    requires { Looking (dual_of lefts.now lengths.now darts faces)
         (tables_of potentials.old parents.old waiting.old queue.old last) i
-        × Grouped (rightOf lefts.now) darts faces order.now starts.now }
+        × Grouped (right_of lefts.now) darts faces order.now starts.now }
     ensures { LookAt (given lefts.now lengths.now order.now starts.now darts faces) i
         (tables_of potentials.old parents.old waiting.old queue.old last)
         (tables_of potentials.new parents.new waiting.new queue.new result) }
@@ -447,12 +447,12 @@ pub fn search(
     waiting: &mut [u8; 1024],
     queue: &mut [u16; 1024],
 ) -> Outcome
-    requires { WellFormed (dualOf lefts.now lengths.now darts faces (take roots queue.old))
-        × Joined (dualOf lefts.now lengths.now darts faces (take roots queue.old))
-        × Grouped (rightOf lefts.now) darts faces order.now starts.now
+    requires { WellFormed (dual_of lefts.now lengths.now darts faces (take roots queue.old))
+        × Joined (dual_of lefts.now lengths.now darts faces (take roots queue.old))
+        × Grouped (right_of lefts.now) darts faces order.now starts.now
         × (length potentials.old ≡ 1024) × (length parents.old ≡ 1024) × (length waiting.old ≡ 1024) × (length queue.old ≡ 1024)
         × (roots ≤ 1024) × ((f : ℕ) → f < 1024 → atℤ potentials.old f ≡ far) × ((f : ℕ) → f < 1024 → at waiting.old f ≡ 0) }
-    ensures { Answer (dualOf lefts.now lengths.now darts faces (take roots queue.old))
+    ensures { Answer (dual_of lefts.now lengths.now darts faces (take roots queue.old))
         potentials.new parents.new result
         × Searches (given lefts.now lengths.now order.now starts.now darts faces)
         queue.old roots parents.old potentials.new parents.new result }

@@ -11,35 +11,35 @@ use lib.IntN.{ℤ}
 use Rattle.refusals.specs.Order.{Check, NoneOf, FirstOf}
 use Rattle.refusals.specs.declared.Verdict.{Verdict}
 use Rattle.refusals.specs.declared.Verdict.TheVariants as verdict
-use Rattle.refusals.proofs.Order.{first-none}
-use Rattle.refusals.proofs.Same.{Same, same_refl, same-sym, none-same, first-same}
+use Rattle.refusals.proofs.Order.{first_none}
+use Rattle.refusals.proofs.Same.{Same, same_refl, same_sym, none_same, first_same}
 use Rattle.maps.specs.Map.{darts}
 use Rattle.maps.specs.Face.{faces, left}
 use Rattle.maps.specs.Drawing.{Drawing}
-use Rattle.arrays.specs.Maps.{drawingOf}
-use Rattle.rotations.specs.MapChecks.{mapChecks, MapJudged}
-use Rattle.questions.specs.Question.{endChecks, valueChecks, roomChecks}
-use Rattle.questions.specs.Solve.{questionChecks, Solved}
+use Rattle.arrays.specs.Maps.{drawing_of}
+use Rattle.rotations.specs.MapChecks.{map_checks, MapJudged}
+use Rattle.questions.specs.Question.{end_checks, value_checks, room_checks}
+use Rattle.questions.specs.Solve.{question_checks, Solved}
 use Rattle.questions.specs.inner.Named.{SetNamed}
 use Rattle.questions.specs.declared.SolveAnswer.{SolveAnswer}
 use Rattle.questions.specs.declared.SolveAnswer.TheVariants.{Can, Cannot, Refused}
 use Rattle.sessions.specs.Fit.{Fit, OnFit}
-use Rattle.sessions.specs.Ask.{askChecks}
+use Rattle.sessions.specs.Ask.{ask_checks}
 
 module _ (𝓓 : Drawing) (source sink : ℕ) (value : ℤ) (flows : List ℤ) (set : List ℕ) where
   abbrev asked : List Check
-  asked = askChecks 𝓓 source sink value flows set
+  asked = ask_checks 𝓓 source sink value flows set
 
   abbrev question : List Check
-  question = questionChecks 𝓓.map.nodes 𝓓.map.edges source sink value flows set
+  question = question_checks 𝓓.map.nodes 𝓓.map.edges source sink value flows set
 
-  pub unfit-refused : (Fit 𝓓 → ⊥) → FirstOf (askChecks 𝓓 source sink value flows set) 13 0
-  unfolding FirstOf askChecks
-  unfit-refused h = inl (inr (inr h), refl, refl)
+  pub unfit_refused : (Fit 𝓓 → ⊥) → FirstOf (ask_checks 𝓓 source sink value flows set) 13 0
+  unfolding FirstOf ask_checks
+  unfit_refused h = inl (inr (inr h), refl, refl)
 
   -- on a fit drawing the list is that of a question
-  pub fit_same : Fit 𝓓 → Same (askChecks 𝓓 source sink value flows set) (questionChecks 𝓓.map.nodes 𝓓.map.edges source sink value flows set)
-  unfolding Same askChecks questionChecks endChecks
+  pub fit_same : Fit 𝓓 → Same (ask_checks 𝓓 source sink value flows set) (question_checks 𝓓.map.nodes 𝓓.map.edges source sink value flows set)
+  unfolding Same ask_checks question_checks end_checks
   fit_same fit = (
     refl,
     refl,
@@ -51,7 +51,7 @@ module _ (𝓓 : Drawing) (source sink : ℕ) (value : ℤ) (flows : List ℤ) (
       (λ h. h),
       (λ h. h),
       same_refl
-          (valueChecks value ++ roomChecks 𝓓.map.nodes 𝓓.map.edges (length flows) (length set)),
+          (value_checks value ++ room_checks 𝓓.map.nodes 𝓓.map.edges (length flows) (length set)),
     ),
   )
     where
@@ -65,71 +65,71 @@ module _ (𝓓 : Drawing) (source sink : ℕ) (value : ℤ) (flows : List ℤ) (
       back (inr h) = inr (inl h)
 
 -- an answer stands under a list with the same verdict
-pub solved-same : (𝓓 : Drawing) (cs ds : List Check) → Same cs ds → (source sink : ℕ) (value : ℤ) (flows flows' : List ℤ) (set set' : List ℕ) (r : SolveAnswer)
+pub solved_same : (𝓓 : Drawing) (cs ds : List Check) → Same cs ds → (source sink : ℕ) (value : ℤ) (flows flows' : List ℤ) (set set' : List ℕ) (r : SolveAnswer)
     → Solved 𝓓 cs source sink value flows flows' set set' r → Solved 𝓓 ds source sink value flows flows' set set' r
-solved-same 𝓓 cs ds s source sink value flows flows' set set' Can h = (none-same cs ds s h.0, h.1, h.2)
-solved-same 𝓓 cs ds s source sink value flows flows' set set' (Cannot n) h = (none-same cs ds s h.0, h.1, h.2)
-solved-same 𝓓 cs ds s source sink value flows flows' set set' (Refused k p) h = (first-same cs ds k p s h.0, h.1, h.2)
+solved_same 𝓓 cs ds s source sink value flows flows' set set' Can h = (none_same cs ds s h.0, h.1, h.2)
+solved_same 𝓓 cs ds s source sink value flows flows' set set' (Cannot n) h = (none_same cs ds s h.0, h.1, h.2)
+solved_same 𝓓 cs ds s source sink value flows flows' set set' (Refused k p) h = (first_same cs ds k p s h.0, h.1, h.2)
 
 -- the counts at the width of an index
-pub drawings-same : {n m o nodes edges outer : ℕ} → n ≡ nodes → m ≡ edges → o ≡ outer → (tails rotations : List ℕ) (left : List ℤ)
-    → drawingOf n m o tails rotations left ≡ drawingOf nodes edges outer tails rotations left
-drawings-same {m = m} {o = o} {nodes = nodes} {edges = edges} p q r tails rotations left =
-    ap (λ k. drawingOf k m o tails rotations left) p
-    ∙ ap (λ k. drawingOf nodes k o tails rotations left) q
-    ∙ ap (λ k. drawingOf nodes edges k tails rotations left) r
+pub drawings_same : {n m o nodes edges outer : ℕ} → n ≡ nodes → m ≡ edges → o ≡ outer → (tails rotations : List ℕ) (left : List ℤ)
+    → drawing_of n m o tails rotations left ≡ drawing_of nodes edges outer tails rotations left
+drawings_same {m = m} {o = o} {nodes = nodes} {edges = edges} p q r tails rotations left =
+    ap (λ k. drawing_of k m o tails rotations left) p
+    ∙ ap (λ k. drawing_of nodes k o tails rotations left) q
+    ∙ ap (λ k. drawing_of nodes edges k tails rotations left) r
 
 -- what was answered on a fit drawing, said of the session's
 pub answered : (𝓓 𝓔 : Drawing) → 𝓓 ≡ 𝓔 → Fit 𝓓 → {s source t sink : ℕ} {v value : ℤ} → s ≡ source → t ≡ sink → v ≡ value
     → (flows flows' : List ℤ) (set set' : List ℕ) (r : SolveAnswer)
-    → Solved 𝓓 (questionChecks 𝓓.map.nodes 𝓓.map.edges s t v flows set) s t v flows flows' set set' r
-    → Solved 𝓔 (askChecks 𝓔 source sink value flows set) source sink value flows flows' set set' r
+    → Solved 𝓓 (question_checks 𝓓.map.nodes 𝓓.map.edges s t v flows set) s t v flows flows' set set' r
+    → Solved 𝓔 (ask_checks 𝓔 source sink value flows set) source sink value flows flows' set set' r
 answered 𝓓 𝓔 e fit {source = source} {sink = sink} {value = value} from to q flows flows' set set' r h =
-    subst (λ 𝓕. Solved 𝓕 (askChecks 𝓕 source sink value flows set) source sink value flows flows' set set' r) e
-    (solved-same 𝓓 _ _ (same-sym _ _ (fit_same 𝓓 source sink value flows set fit)) source sink value flows flows' set set' r (rw (from, to, q) at h))
+    subst (λ 𝓕. Solved 𝓕 (ask_checks 𝓕 source sink value flows set) source sink value flows flows' set set' r) e
+    (solved_same 𝓓 _ _ (same_sym _ _ (fit_same 𝓓 source sink value flows set fit)) source sink value flows flows' set set' r (rw (from, to, q) at h))
 
 -- the set that the search names, said of the session's drawing; and that this is fit
-pub named-answered : (𝓓 𝓔 : Drawing) → 𝓓 ≡ 𝓔 → {s source t sink : ℕ} {v value : ℤ} → s ≡ source → t ≡ sink → v ≡ value → (set' : List ℕ) (r : SolveAnswer)
+pub named_answered : (𝓓 𝓔 : Drawing) → 𝓓 ≡ 𝓔 → {s source t sink : ℕ} {v value : ℤ} → s ≡ source → t ≡ sink → v ≡ value → (set' : List ℕ) (r : SolveAnswer)
     → SetNamed 𝓓 s t v set' r → SetNamed 𝓔 source sink value set' r
-named-answered 𝓓 𝓔 e {source = source} {sink = sink} {value = value} from to q set' r h =
+named_answered 𝓓 𝓔 e {source = source} {sink = sink} {value = value} from to q set' r h =
     subst (λ 𝓕. SetNamed 𝓕 source sink value set' r) e (rw (from, to, q) at h)
 
-pub fit-answered : (𝓓 𝓔 : Drawing) → 𝓓 ≡ 𝓔 → Fit 𝓓 → (r : SolveAnswer) → OnFit 𝓔 r
-fit-answered 𝓓 𝓔 e fit Can = subst Fit e fit
-fit-answered 𝓓 𝓔 e fit (Cannot n) = subst Fit e fit
-fit-answered 𝓓 𝓔 e fit (Refused k p) = tt
+pub fit_answered : (𝓓 𝓔 : Drawing) → 𝓓 ≡ 𝓔 → Fit 𝓓 → (r : SolveAnswer) → OnFit 𝓔 r
+fit_answered 𝓓 𝓔 e fit Can = subst Fit e fit
+fit_answered 𝓓 𝓔 e fit (Cannot n) = subst Fit e fit
+fit_answered 𝓓 𝓔 e fit (Refused k p) = tt
 
-pub unfit-answered : (𝓓 𝓔 : Drawing) → 𝓓 ≡ 𝓔 → (Fit 𝓓 → ⊥) → (source sink : ℕ) (value : ℤ) (flows : List ℤ) (set : List ℕ)
-    → FirstOf (askChecks 𝓔 source sink value flows set) 13 0
-unfit-answered 𝓓 𝓔 e unfit source sink value flows set = unfit-refused 𝓔 source sink value flows set (λ f. unfit (subst Fit (sym e) f))
+pub unfit_answered : (𝓓 𝓔 : Drawing) → 𝓓 ≡ 𝓔 → (Fit 𝓓 → ⊥) → (source sink : ℕ) (value : ℤ) (flows : List ℤ) (set : List ℕ)
+    → FirstOf (ask_checks 𝓔 source sink value flows set) 13 0
+unfit_answered 𝓓 𝓔 e unfit source sink value flows set = unfit_refused 𝓔 source sink value flows set (λ f. unfit (subst Fit (sym e) f))
 
 -- the map checks refused: the drawing is not fit
-pub map-refused : (𝓓 : Drawing) (lefts : ℕ → ℕ) (count k p : ℕ) {v : Verdict} → v ≡ verdict.Refused k p → MapJudged 𝓓.map lefts count v → Fit 𝓓 → ⊥
-map-refused 𝓓 lefts count k p e h fit = first-none (mapChecks 𝓓.map) k p (subst (MapJudged 𝓓.map lefts count) e h) fit.passes
+pub map_refused : (𝓓 : Drawing) (lefts : ℕ → ℕ) (count k p : ℕ) {v : Verdict} → v ≡ verdict.Refused k p → MapJudged 𝓓.map lefts count v → Fit 𝓓 → ⊥
+map_refused 𝓓 lefts count k p e h fit = first_none (map_checks 𝓓.map) k p (subst (MapJudged 𝓓.map lefts count) e h) fit.passes
 
-pub map-passed : (𝓓 : Drawing) (lefts : ℕ → ℕ) (count : ℕ) {v : Verdict} → v ≡ verdict.Passed → MapJudged 𝓓.map lefts count v
-    → NoneOf (mapChecks 𝓓.map) × ((d : ℕ) → d < darts 𝓓.map → lefts d ≡ left 𝓓.map d) × (count ≡ faces 𝓓.map)
-map-passed 𝓓 lefts count e h = subst (MapJudged 𝓓.map lefts count) e h
+pub map_passed : (𝓓 : Drawing) (lefts : ℕ → ℕ) (count : ℕ) {v : Verdict} → v ≡ verdict.Passed → MapJudged 𝓓.map lefts count v
+    → NoneOf (map_checks 𝓓.map) × ((d : ℕ) → d < darts 𝓓.map → lefts d ≡ left 𝓓.map d) × (count ≡ faces 𝓓.map)
+map_passed 𝓓 lefts count e h = subst (MapJudged 𝓓.map lefts count) e h
 
 -- ── where it can: there is room for the settings, and the edges are few ──
-module _ (𝓓 : Drawing) (source sink : ℕ) (value : ℤ) (flows : List ℤ) (set : List ℕ) (asked : NoneOf (askChecks 𝓓 source sink value flows set)) where
-  pub asked-few : 𝓓.map.edges ≤ 512
-  unfolding NoneOf askChecks
-  asked-few = go (dec_lt 512 𝓓.map.edges)
+module _ (𝓓 : Drawing) (source sink : ℕ) (value : ℤ) (flows : List ℤ) (set : List ℕ) (asked : NoneOf (ask_checks 𝓓 source sink value flows set)) where
+  pub asked_few : 𝓓.map.edges ≤ 512
+  unfolding NoneOf ask_checks
+  asked_few = go (dec_lt 512 𝓓.map.edges)
     where
       go : Dec (512 < 𝓓.map.edges) → 𝓓.map.edges ≤ 512
-      go (yes l) = absurd (asked.0 (inr (inr (λ f. omega (arith, f.bounds.few-edges, l)))))
+      go (yes l) = absurd (asked.0 (inr (inr (λ f. omega (arith, f.bounds.few_edges, l)))))
       go (no l) = omega (arith, l)
 
-  pub asked-room : 𝓓.map.edges ≤ length flows
-  unfolding NoneOf askChecks valueChecks roomChecks
-  asked-room = let h : length flows < 𝓓.map.edges → ⊥ = λ l. asked.1.1.1.0 (inl l) in omega (arith, h)
+  pub asked_room : 𝓓.map.edges ≤ length flows
+  unfolding NoneOf ask_checks value_checks room_checks
+  asked_room = let h : length flows < 𝓓.map.edges → ⊥ = λ l. asked.1.1.1.0 (inl l) in omega (arith, h)
 
 -- a test that is turned over
-pub unless-taken : (b : Bool) → not b ≡ true → b ≡ false
-unless-taken true e = sym e
-unless-taken false e = refl
+pub unless_taken : (b : Bool) → not b ≡ true → b ≡ false
+unless_taken true e = sym e
+unless_taken false e = refl
 
-pub unless-left : (b : Bool) → not b ≡ false → b ≡ true
-unless-left true e = refl
-unless-left false e = sym e
+pub unless_left : (b : Bool) → not b ≡ false → b ≡ true
+unless_left true e = refl
+unless_left false e = sym e

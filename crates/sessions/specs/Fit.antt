@@ -5,8 +5,8 @@ use Rattle.refusals.specs.Order.{NoneOf}
 use Rattle.maps.specs.Map.{darts}
 use Rattle.maps.specs.Drawing.{Drawing}
 use Rattle.maps.specs.Check.{InRange}
-use Rattle.flows.specs.Settings.{onDarts}
-use Rattle.rotations.specs.MapChecks.{mapChecks}
+use Rattle.flows.specs.Settings.{on_darts}
+use Rattle.rotations.specs.MapChecks.{map_checks}
 use Rattle.questions.specs.declared.SolveAnswer.{SolveAnswer}
 use Rattle.questions.specs.declared.SolveAnswer.TheVariants.{Can, Cannot, Refused}
 
@@ -19,16 +19,16 @@ LimitsFit edges left = (e : ℕ) → e < edges → PairFits (left (2 * e)) (left
 
 -- the counts and the outer dart are in range, and so is each tail and each rotation; the limits left fit
 pub record InBounds (𝓓 : Drawing) : Type 0 where
-  pub few-nodes : 𝓓.map.nodes ≤ 1024
-  pub few-edges : 𝓓.map.edges ≤ 512
-  pub outer-in : 𝓓.outer < darts 𝓓.map
+  pub few_nodes : 𝓓.map.nodes ≤ 1024
+  pub few_edges : 𝓓.map.edges ≤ 512
+  pub outer_in : 𝓓.outer < darts 𝓓.map
   pub range : InRange 𝓓.map
   pub limits : LimitsFit 𝓓.map.edges 𝓓.capacity
 
 -- and no map check holds, 9 to 12: the drawing is flat
 pub record Fit (𝓓 : Drawing) : Type 0 where
   pub bounds : InBounds 𝓓
-  pub passes : NoneOf (mapChecks 𝓓.map)
+  pub passes : NoneOf (map_checks 𝓓.map)
 
 -- what was not refused was asked of a fit drawing
 abbrev pub OnFit : Drawing → SolveAnswer → Type 0
@@ -38,6 +38,6 @@ OnFit 𝓓 (Refused k p) = Unit
 
 -- the limits left of so many edges can be lowered by an offer: it keeps within them
 pub record Lowerable (edges : ℕ) (left offer : ℕ → ℤ) : Type 0 where
-  pub few-edges : edges ≤ 512
+  pub few_edges : edges ≤ 512
   pub limits : LimitsFit edges left
-  pub within : (d : ℕ) → d < 2 * edges → onDarts offer d ≤ℤ left d
+  pub within : (d : ℕ) → d < 2 * edges → on_darts offer d ≤ℤ left d

@@ -5,14 +5,14 @@ ghost use Rattle.std.specs.Int.{w32};
 ghost use Rattle.std.proofs.Common.{SFits};
 ghost use Rattle.refusals.specs.Order.{Decides};
 ghost use Rattle.maps.specs.Check.{InRange};
-ghost use Rattle.flows.specs.Settings.{onDarts};
+ghost use Rattle.flows.specs.Settings.{on_darts};
 ghost use Rattle.arrays.specs.At.{atℤ};
-ghost use Rattle.arrays.specs.Maps.{mapOf, drawingOf};
+ghost use Rattle.arrays.specs.Maps.{map_of, drawing_of};
 ghost use Rattle.arrays.specs.Filled.{filled};
 ghost use Rattle.questions.specs.Solve.{Solved};
 ghost use Rattle.questions.specs.inner.Named.{SetNamed};
 ghost use Rattle.sessions.specs.Fit.{PairFits, LimitsFit, InBounds, OnFit, Lowerable};
-ghost use Rattle.sessions.specs.Ask.{askChecks};
+ghost use Rattle.sessions.specs.Ask.{ask_checks};
 
 use arrays::{Demand, Sizes, wide};
 use questions::SolveAnswer;
@@ -26,7 +26,7 @@ fn in_range<'a>(
     edges: usize,
 ) -> bool
     requires { edges ≤ 512 }
-    ensures { Decides (InRange (mapOf nodes edges tails.now rotations.now)) result }
+    ensures { Decides (InRange (map_of nodes edges tails.now rotations.now)) result }
 {
     let darts = 2 * edges;
     let mut d: usize = 0;
@@ -79,7 +79,7 @@ fn in_bounds<'a>(
     edges: usize,
     outer: usize,
 ) -> bool
-    ensures { Decides (InBounds (drawingOf nodes edges outer tails.now rotations.now left.now)) result }
+    ensures { Decides (InBounds (drawing_of nodes edges outer tails.now rotations.now left.now)) result }
 {
     if nodes > 1024 {
         return false;
@@ -110,12 +110,12 @@ pub fn answer_left<'a>(
     flows: &mut [i32],
     set: &mut [u64],
 ) -> SolveAnswer
-    ensures { Solved (drawingOf nodes edges outer tails.now rotations.now left.now)
-        (askChecks (drawingOf nodes edges outer tails.now rotations.now left.now) source sink value
+    ensures { Solved (drawing_of nodes edges outer tails.now rotations.now left.now)
+        (ask_checks (drawing_of nodes edges outer tails.now rotations.now left.now) source sink value
         flows.old set.old)
         source sink value flows.old flows.new set.old set.new result
-        × SetNamed (drawingOf nodes edges outer tails.now rotations.now left.now) source sink value set.new result
-        × OnFit (drawingOf nodes edges outer tails.now rotations.now left.now) result }
+        × SetNamed (drawing_of nodes edges outer tails.now rotations.now left.now) source sink value set.new result
+        × OnFit (drawing_of nodes edges outer tails.now rotations.now left.now) result }
 {
     let n = wide(nodes);
     let m = wide(edges);
@@ -205,9 +205,9 @@ fn lowered_by(limit: i32, flow: i32, dart: usize) -> i32
 // Lowers each dart's limit left once, by its own flow.
 pub fn lower(left: &mut [i32], offer: &[i32; 512], edges: usize)
     requires { (length left.old ≡ 1024) × (edges ≤ 512)
-        × ((d : ℕ) → d < 2 * edges → SFits w32 (atℤ left.old d -ℤ onDarts (atℤ offer.now) d)) }
+        × ((d : ℕ) → d < 2 * edges → SFits w32 (atℤ left.old d -ℤ on_darts (atℤ offer.now) d)) }
     ensures { (length left.new ≡ 1024)
-        × (left.new ≡ filled (2 * edges) (λ d. atℤ left.old d -ℤ onDarts (atℤ offer.now) d) left.old) }
+        × (left.new ≡ filled (2 * edges) (λ d. atℤ left.old d -ℤ on_darts (atℤ offer.now) d) left.old) }
 {
     let darts = 2 * edges;
     let mut d: usize = 0;

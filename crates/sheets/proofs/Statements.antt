@@ -7,13 +7,13 @@ use lib.ListN.{take, drop}
 use lib.Seq.{take_at}
 use lib.IntN.{ℤ}
 use Rattle.refusals.specs.Order.{NoneOf}
-use Rattle.refusals.proofs.Order.{append-none}
+use Rattle.refusals.proofs.Order.{append_none}
 use Rattle.arrays.specs.Filled.{tabulate, filled}
-use Rattle.arrays.proofs.Tabulate.{length-tabulate}
-use Rattle.records.specs.Sheet.{kind_of, nodesOf, edgesOf, outerOf, tailOf, rotationOf, capacityOf}
-use Rattle.records.proofs.Head.{kind-one-outer}
-use Rattle.sheets.specs.Open.{sheetChecks}
-use Rattle.sheets.specs.Read.{readChecks, Reads}
+use Rattle.arrays.proofs.Tabulate.{length_tabulate}
+use Rattle.records.specs.Sheet.{kind_of, nodes_of, edges_of, outer_of, tail_of, rotation_of, capacity_of}
+use Rattle.records.proofs.Head.{kind_one_outer}
+use Rattle.sheets.specs.Open.{sheet_checks}
+use Rattle.sheets.specs.Read.{read_checks, Reads}
 use Rattle.sheets.specs.Write.{Writes}
 use Rattle.sheets.specs.declared.ReadAnswer.TheVariants.{Counts}
 use Rattle.sheets.specs.declared.WriteAnswer.{WriteAnswer}
@@ -22,48 +22,48 @@ use Rattle.sheets.proofs.ThereAndBack as back
 
 -- the first elements of a filled slice are the table
 front_of : {A : Type 0} (n m : ℕ) (f : ℕ → A) (old new : List A) → new ≡ filled m f old → n ≡ m → take n new ≡ tabulate m f
-front_of n m f old new h e = ap (take n) h ∙ take_at (tabulate m f) (drop m old) n (length-tabulate m f ∙ sym e)
+front_of n m f old new h e = ap (take n) h ∙ take_at (tabulate m f) (drop m old) n (length_tabulate m f ∙ sym e)
 
 -- a sheet that Read read is accepted
-read-accepted : (s tails rotations : List ℕ) (capacities : List ℤ) → NoneOf (readChecks s tails rotations capacities) → NoneOf (sheetChecks s)
-unfolding readChecks
-read-accepted s tails rotations capacities h = (append-none (sheetChecks s) _ h).0
+read_accepted : (s tails rotations : List ℕ) (capacities : List ℤ) → NoneOf (read_checks s tails rotations capacities) → NoneOf (sheet_checks s)
+unfolding read_checks
+read_accepted s tails rotations capacities h = (append_none (sheet_checks s) _ h).0
 
 -- Write of what Read left is Write of the tables
 module _ (s tails rotations tails' rotations' : List ℕ) (capacities capacities' : List ℤ) (nodes edges outer : ℕ)
     (read : Reads s tails rotations capacities tails' rotations' capacities' (Counts nodes edges outer)) (out out' : List ℕ) (a : WriteAnswer) where
   abbrev m : ℕ
-  m = 2 * edgesOf s
+  m = 2 * edges_of s
 
-  all : 2 * edges ≡ 2 * edgesOf s
+  all : 2 * edges ≡ 2 * edges_of s
   all = ap (λ e. 2 * e) read.2
 
-  of-tables : Writes nodes outer (take (2 * edges) tails') (take (2 * edges) rotations') (take (2 * edges) capacities') out out' a
-      → Writes (nodesOf s) (outerOf s) (tabulate (2 * edgesOf s) (tailOf s)) (tabulate (2 * edgesOf s) (rotationOf s))
-      (tabulate (2 * edgesOf s) (capacityOf s)) out out' a
-  of-tables h =
-      let t = front_of (2 * edges) m (tailOf s) tails tails' read.4 all in
-      let r = front_of (2 * edges) m (rotationOf s) rotations rotations' read.5 all in
-      let c = front_of (2 * edges) m (capacityOf s) capacities capacities' read.6 all in
-      subst (λ n. Writes n (outerOf s) (tabulate m (tailOf s)) (tabulate m (rotationOf s)) (tabulate m (capacityOf s)) out out' a) read.1
-      (subst (λ o. Writes nodes o (tabulate m (tailOf s)) (tabulate m (rotationOf s)) (tabulate m (capacityOf s)) out out' a) read.3
-      (subst (λ l. Writes nodes outer l (tabulate m (rotationOf s)) (tabulate m (capacityOf s)) out out' a) t
-      (subst (λ l. Writes nodes outer (take (2 * edges) tails') l (tabulate m (capacityOf s)) out out' a) r
+  of_tables : Writes nodes outer (take (2 * edges) tails') (take (2 * edges) rotations') (take (2 * edges) capacities') out out' a
+      → Writes (nodes_of s) (outer_of s) (tabulate (2 * edges_of s) (tail_of s)) (tabulate (2 * edges_of s) (rotation_of s))
+      (tabulate (2 * edges_of s) (capacity_of s)) out out' a
+  of_tables h =
+      let t = front_of (2 * edges) m (tail_of s) tails tails' read.4 all in
+      let r = front_of (2 * edges) m (rotation_of s) rotations rotations' read.5 all in
+      let c = front_of (2 * edges) m (capacity_of s) capacities capacities' read.6 all in
+      subst (λ n. Writes n (outer_of s) (tabulate m (tail_of s)) (tabulate m (rotation_of s)) (tabulate m (capacity_of s)) out out' a) read.1
+      (subst (λ o. Writes nodes o (tabulate m (tail_of s)) (tabulate m (rotation_of s)) (tabulate m (capacity_of s)) out out' a) read.3
+      (subst (λ l. Writes nodes outer l (tabulate m (rotation_of s)) (tabulate m (capacity_of s)) out out' a) t
+      (subst (λ l. Writes nodes outer (take (2 * edges) tails') l (tabulate m (capacity_of s)) out out' a) r
       (subst (λ l. Writes nodes outer (take (2 * edges) tails') (take (2 * edges) rotations') l out out' a) c h))))
 
-pub read-and-write : ReadAndWrite
-read-and-write = record {
-  write-undoes-read = λ s tails rotations tails' rotations' capacities capacities' nodes edges outer bytes four read out out' a room h.
-      back.write-undoes-read s (read-accepted s tails rotations capacities read.0) bytes four out out' room a
-      (of-tables s tails rotations tails' rotations' capacities capacities' nodes edges outer read out out' a h);
-  kind-one-again = λ s tails rotations tails' rotations' capacities capacities' nodes edges outer bytes one read out out' a room h.
-      let w = back.kind-one-again s (read-accepted s tails rotations capacities read.0) bytes one out out' room a
-      (of-tables s tails rotations tails' rotations' capacities capacities' nodes edges outer read out out' a h) in
-      (read.3 ∙ kind-one-outer s one, w.0, w.1, w.2);
-  written-accepted = λ nodes outer tails rotations capacities out out' n h.
-      subst (λ s. NoneOf (sheetChecks s) × (kind_of s ≡ 4)) (sym (back.written-front nodes outer tails rotations capacities out h.0 out' n h))
-      (back.written-accepted nodes outer tails rotations capacities out h.0, back.written-kind nodes outer tails rotations capacities out h.0);
-  read-undoes-write = λ nodes outer tails rotations capacities out out' n h t r t' r' c c' a room-t room-r room-c read.
-      back.read-undoes-write nodes outer tails rotations capacities out h.0 t r t' r' c c' room-t room-r room-c a
-      (subst (λ s. Reads s t r c t' r' c' a) (back.written-front nodes outer tails rotations capacities out h.0 out' n h) read);
+pub read_and_write : ReadAndWrite
+read_and_write = record {
+  write_undoes_read = λ s tails rotations tails' rotations' capacities capacities' nodes edges outer bytes four read out out' a room h.
+      back.write_undoes_read s (read_accepted s tails rotations capacities read.0) bytes four out out' room a
+      (of_tables s tails rotations tails' rotations' capacities capacities' nodes edges outer read out out' a h);
+  kind_one_again = λ s tails rotations tails' rotations' capacities capacities' nodes edges outer bytes one read out out' a room h.
+      let w = back.kind_one_again s (read_accepted s tails rotations capacities read.0) bytes one out out' room a
+      (of_tables s tails rotations tails' rotations' capacities capacities' nodes edges outer read out out' a h) in
+      (read.3 ∙ kind_one_outer s one, w.0, w.1, w.2);
+  written_accepted = λ nodes outer tails rotations capacities out out' n h.
+      subst (λ s. NoneOf (sheet_checks s) × (kind_of s ≡ 4)) (sym (back.written_front nodes outer tails rotations capacities out h.0 out' n h))
+      (back.written_accepted nodes outer tails rotations capacities out h.0, back.written_kind nodes outer tails rotations capacities out h.0);
+  read_undoes_write = λ nodes outer tails rotations capacities out out' n h t r t' r' c c' a room-t room-r room-c read.
+      back.read_undoes_write nodes outer tails rotations capacities out h.0 t r t' r' c c' room-t room-r room-c a
+      (subst (λ s. Reads s t r c t' r' c' a) (back.written_front nodes outer tails rotations capacities out h.0 out' n h) read);
 }

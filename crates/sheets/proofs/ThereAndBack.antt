@@ -11,33 +11,33 @@ use lib.ListN.{length, get_or, take, drop, get_or-eq_default}
 use lib.Seq.{take_at}
 use lib.IntN.{ℤ, pos}
 use Rattle.refusals.specs.Order.{NoneOf, in_turn}
-use Rattle.refusals.proofs.Order.{none-append, none-in-turn, first-none}
-use Rattle.rotations.specs.MapChecks.{mapChecks}
+use Rattle.refusals.proofs.Order.{none_append, none_in_turn, first_none}
+use Rattle.rotations.specs.MapChecks.{map_checks}
 use Rattle.maps.specs.Drawing.{Drawing}
-use Rattle.records.specs.Check.{numberChecks, edgeChecks}
-use Rattle.records.specs.Sheet.{kind_of, nodesOf, edgesOf, outerOf, tailOf, rotationOf, capacityOf, sheetMap, sheetDrawing, byteChecks}
-use Rattle.records.specs.Encode.{encodeHead, encode, encodeLength}
+use Rattle.records.specs.Check.{number_checks, edge_checks}
+use Rattle.records.specs.Sheet.{kind_of, nodes_of, edges_of, outer_of, tail_of, rotation_of, capacity_of, sheet_map, sheet_drawing, byte_checks}
+use Rattle.records.specs.Encode.{encode_head, encode, encode_length}
 use Rattle.arrays.specs.Filled.{tabulate}
-use Rattle.arrays.proofs.Tabulate.{length-tabulate, get_d_tabulate, get_d_past, tabulate-getD}
-use Rattle.records.proofs.Fields.{tail-past, rotation-past, capacity-past}
-use Rattle.records.proofs.Bytes.{bytes-length, bytes-head, head-range, bytes-drawn}
-use Rattle.records.proofs.Head.{head-long}
-use Rattle.records.proofs.SheetAgain.{encode-sheet, kind-one-encoded}
-use Rattle.records.proofs.Encodable.{ZeroPast, Encodable, sheet-zero-past, encodable-of-checks}
+use Rattle.arrays.proofs.Tabulate.{length_tabulate, get_d_tabulate, get_d_past, tabulate_get_d}
+use Rattle.records.proofs.Fields.{tail_past, rotation_past, capacity_past}
+use Rattle.records.proofs.Bytes.{bytes_length, bytes_head, head_range, bytes_drawn}
+use Rattle.records.proofs.Head.{head_long}
+use Rattle.records.proofs.SheetAgain.{encode_sheet, kind_one_encoded}
+use Rattle.records.proofs.Encodable.{ZeroPast, Encodable, sheet_zero_past, encodable_of_checks}
 use Rattle.records.proofs.Places.{encode-length}
-use Rattle.records.proofs.Decode.{sheet-encode}
-use Rattle.records.proofs.EncodeAccepted.{encode-accepted}
-use Rattle.sheets.specs.Open.{sheetChecks}
-use Rattle.sheets.specs.Read.{readChecks, Reads}
-use Rattle.sheets.specs.Write.{edgesIn, slicesDrawing, drawingChecks, writeChecks, Writes}
-use Rattle.sheets.specs.Statements.{asKindFour}
+use Rattle.records.proofs.Decode.{sheet_encode}
+use Rattle.records.proofs.EncodeAccepted.{encode_accepted}
+use Rattle.sheets.specs.Open.{sheet_checks}
+use Rattle.sheets.specs.Read.{read_checks, Reads}
+use Rattle.sheets.specs.Write.{edges_in, slices_drawing, drawing_checks, write_checks, Writes}
+use Rattle.sheets.specs.Statements.{as_kind_four}
 use Rattle.sheets.specs.declared.ReadAnswer.{ReadAnswer}
 use Rattle.sheets.specs.declared.ReadAnswer.TheVariants as read
 use Rattle.sheets.specs.declared.WriteAnswer.{WriteAnswer}
 use Rattle.sheets.specs.declared.WriteAnswer.TheVariants as write
 use Rattle.sheets.proofs.Reading.{read_whole}
-use Rattle.sheets.proofs.Accepted.{sheet-bytes, sheet-map}
-use Rattle.sheets.proofs.Writing.{drawing-parts, write-whole}
+use Rattle.sheets.proofs.Accepted.{sheet_bytes, sheet-map}
+use Rattle.sheets.proofs.Writing.{drawing_parts, write_whole}
 
 -- ── from bytes to slices to bytes ──
 -- a table of a function that is z past n is that function
@@ -50,100 +50,100 @@ table_at z n f past d = go (dec_lt d n)
 
 module _ (s : List ℕ) where
   abbrev m : ℕ
-  m = 2 * edgesOf s
+  m = 2 * edges_of s
 
   abbrev tails : List ℕ
-  tails = tabulate m (tailOf s)
+  tails = tabulate m (tail_of s)
 
   abbrev rotations : List ℕ
-  rotations = tabulate m (rotationOf s)
+  rotations = tabulate m (rotation_of s)
 
   abbrev capacities : List ℤ
-  capacities = tabulate m (capacityOf s)
+  capacities = tabulate m (capacity_of s)
 
-  half : edgesIn tails ≡ edgesOf s
-  half = omega (arith, length-tabulate m (tailOf s))
+  half : edges_in tails ≡ edges_of s
+  half = omega (arith, length_tabulate m (tail_of s))
 
   -- the slices that Read fills describe the sheet's drawing
-  slices-are : slicesDrawing (nodesOf s) (outerOf s) tails rotations capacities ≡ sheetDrawing s
-  slices-are = λ i. record {
+  slices_are : slices_drawing (nodes_of s) (outer_of s) tails rotations capacities ≡ sheet_drawing s
+  slices_are = λ i. record {
     map = record {
-      nodes = nodesOf s;
+      nodes = nodes_of s;
       edges = half i;
-      tail = fun_ext (table_at 0 m (tailOf s) (tail-past s)) i;
-      rotation = fun_ext (table_at 0 m (rotationOf s) (rotation-past s)) i;
+      tail = fun_ext (table_at 0 m (tail_of s) (tail_past s)) i;
+      rotation = fun_ext (table_at 0 m (rotation_of s) (rotation_past s)) i;
     };
-    capacity = fun_ext (table_at (pos 0) m (capacityOf s) (capacity-past s)) i;
-    outer = outerOf s;
+    capacity = fun_ext (table_at (pos 0) m (capacity_of s) (capacity_past s)) i;
+    outer = outer_of s;
   }
 
-  module _ (accepted : NoneOf (sheetChecks s)) where
-    passed : NoneOf (byteChecks s)
-    passed = sheet-bytes s accepted
+  module _ (accepted : NoneOf (sheet_checks s)) where
+    passed : NoneOf (byte_checks s)
+    passed = sheet_bytes s accepted
 
-    drawn : NoneOf (drawingChecks (sheetDrawing s))
-    unfolding drawingChecks
+    drawn : NoneOf (drawing_checks (sheet_drawing s))
+    unfolding drawing_checks
     drawn =
-        none-append (numberChecks (nodesOf s) (edgesOf s) (outerOf s))
-        (in_turn (edgesOf s) (edgeChecks (sheetDrawing s)) ++ mapChecks (sheetMap s)) (head-range s (bytes-head s passed))
-        (none-append (in_turn (edgesOf s) (edgeChecks (sheetDrawing s))) (mapChecks (sheetMap s))
-        (none-in-turn (edgesOf s) (edgeChecks (sheetDrawing s)) (bytes-drawn s passed)) (sheet-map s accepted))
+        none_append (number_checks (nodes_of s) (edges_of s) (outer_of s))
+        (in_turn (edges_of s) (edge_checks (sheet_drawing s)) ++ map_checks (sheet_map s)) (head_range s (bytes_head s passed))
+        (none_append (in_turn (edges_of s) (edge_checks (sheet_drawing s))) (map_checks (sheet_map s))
+        (none_in_turn (edges_of s) (edge_checks (sheet_drawing s)) (bytes_drawn s passed)) (sheet-map s accepted))
 
-    size : encodeLength (edgesIn tails) ≡ encodeLength (edgesOf s)
-    size = ap encodeLength half
+    size : encode_length (edges_in tails) ≡ encode_length (edges_of s)
+    size = ap encode_length half
 
     -- Write, given what Read gave, writes the bytes of the sheet's drawing
-    written-again : (out out' : List ℕ) → encodeLength (edgesOf s) ≤ length out → (a : WriteAnswer)
-        → Writes (nodesOf s) (outerOf s) tails rotations capacities out out' a
-        → (a ≡ write.Bytes (encodeLength (edgesOf s))) × (out' ≡ encode (sheetDrawing s) ++ drop (encodeLength (edgesOf s)) out)
-    written-again out out' room (write.Refused k p) h =
-        absurd (first-none (writeChecks (nodesOf s) (outerOf s) tails rotations capacities out) k p h.0 whole)
+    written_again : (out out' : List ℕ) → encode_length (edges_of s) ≤ length out → (a : WriteAnswer)
+        → Writes (nodes_of s) (outer_of s) tails rotations capacities out out' a
+        → (a ≡ write.Bytes (encode_length (edges_of s))) × (out' ≡ encode (sheet_drawing s) ++ drop (encode_length (edges_of s)) out)
+    written_again out out' room (write.Refused k p) h =
+        absurd (first_none (write_checks (nodes_of s) (outer_of s) tails rotations capacities out) k p h.0 whole)
       where
-        whole : NoneOf (writeChecks (nodesOf s) (outerOf s) tails rotations capacities out)
+        whole : NoneOf (write_checks (nodes_of s) (outer_of s) tails rotations capacities out)
         whole =
-            write-whole (nodesOf s) (outerOf s) tails rotations capacities out
-            (length-tabulate m (rotationOf s) ∙ sym (length-tabulate m (tailOf s)))
-            (length-tabulate m (capacityOf s) ∙ sym (length-tabulate m (tailOf s)))
-            (omega (arith, length-tabulate m (tailOf s)))
-            (subst (λ 𝓓. NoneOf (drawingChecks 𝓓)) (sym slices-are) drawn)
+            write_whole (nodes_of s) (outer_of s) tails rotations capacities out
+            (length_tabulate m (rotation_of s) ∙ sym (length_tabulate m (tail_of s)))
+            (length_tabulate m (capacity_of s) ∙ sym (length_tabulate m (tail_of s)))
+            (omega (arith, length_tabulate m (tail_of s)))
+            (subst (λ 𝓓. NoneOf (drawing_checks 𝓓)) (sym slices_are) drawn)
             (omega (arith, size))
-    written-again out out' room (write.Bytes n) h =
-        (ap write.Bytes (h.1 ∙ size), h.2 ∙ ap₂ (λ b k. b ++ drop k out) (ap encode slices-are) (h.1 ∙ size))
+    written_again out out' room (write.Bytes n) h =
+        (ap write.Bytes (h.1 ∙ size), h.2 ∙ ap₂ (λ b k. b ++ drop k out) (ap encode slices_are) (h.1 ∙ size))
 
     -- those are the sheet, where its head is of kind 4
-    pub write-undoes-read : ((i : ℕ) → get_or s i 0 < 256) → kind_of s ≡ 4 → (out out' : List ℕ) → length s ≤ length out → (a : WriteAnswer)
-        → Writes (nodesOf s) (outerOf s) tails rotations capacities out out' a
+    pub write_undoes_read : ((i : ℕ) → get_or s i 0 < 256) → kind_of s ≡ 4 → (out out' : List ℕ) → length s ≤ length out → (a : WriteAnswer)
+        → Writes (nodes_of s) (outer_of s) tails rotations capacities out out' a
         → (a ≡ write.Bytes (length s)) × (out' ≡ s ++ drop (length s) out)
-    write-undoes-read bytes four out out' room a h =
-        let long : encodeLength (edgesOf s) ≡ length s = omega (arith, bytes-length s passed, head-long s 4 four) in
-        let w = written-again out out' (omega arith) a h in
-        (w.0 ∙ ap write.Bytes long, w.1 ∙ ap₂ (λ b k. b ++ drop k out) (encode-sheet s bytes passed four) long)
+    write_undoes_read bytes four out out' room a h =
+        let long : encode_length (edges_of s) ≡ length s = omega (arith, bytes_length s passed, head_long s 4 four) in
+        let w = written_again out out' (omega arith) a h in
+        (w.0 ∙ ap write.Bytes long, w.1 ∙ ap₂ (λ b k. b ++ drop k out) (encode_sheet s bytes passed four) long)
 
     -- and the sheet with a head of kind 4 that names dart 0, where it is of kind 1: the same drawing
-    fits-sheet : Encodable (sheetDrawing s)
-    fits-sheet = encodable-of-checks (sheetDrawing s) (head-range s (bytes-head s passed)) (bytes-drawn s passed) (sheet-zero-past s)
+    fits_sheet : Encodable (sheet_drawing s)
+    fits_sheet = encodable_of_checks (sheet_drawing s) (head_range s (bytes_head s passed)) (bytes_drawn s passed) (sheet_zero_past s)
 
-    pub kind-one-again : ((i : ℕ) → get_or s i 0 < 256) → kind_of s ≡ 1 → (out out' : List ℕ) → length s + 2 ≤ length out → (a : WriteAnswer)
-        → Writes (nodesOf s) (outerOf s) tails rotations capacities out out' a
-        → (a ≡ write.Bytes (length s + 2)) × (out' ≡ asKindFour s ++ drop (length s + 2) out) × (sheetDrawing (asKindFour s) ≡ sheetDrawing s)
-    kind-one-again bytes one out out' room a h =
-        let long : encodeLength (edgesOf s) ≡ length s + 2 = omega (arith, bytes-length s passed, head-long s 1 one) in
-        let w = written-again out out' (omega arith) a h in
-        let again = kind-one-encoded s bytes passed one in (
+    pub kind_one_again : ((i : ℕ) → get_or s i 0 < 256) → kind_of s ≡ 1 → (out out' : List ℕ) → length s + 2 ≤ length out → (a : WriteAnswer)
+        → Writes (nodes_of s) (outer_of s) tails rotations capacities out out' a
+        → (a ≡ write.Bytes (length s + 2)) × (out' ≡ as_kind_four s ++ drop (length s + 2) out) × (sheet_drawing (as_kind_four s) ≡ sheet_drawing s)
+    kind_one_again bytes one out out' room a h =
+        let long : encode_length (edges_of s) ≡ length s + 2 = omega (arith, bytes_length s passed, head_long s 1 one) in
+        let w = written_again out out' (omega arith) a h in
+        let again = kind_one_encoded s bytes passed one in (
           w.0 ∙ ap write.Bytes long,
           w.1 ∙ ap₂ (λ b k. b ++ drop k out) again long,
-          subst (λ b. sheetDrawing b ≡ sheetDrawing s) again (sheet-encode (sheetDrawing s) fits-sheet),
+          subst (λ b. sheet_drawing b ≡ sheet_drawing s) again (sheet_encode (sheet_drawing s) fits_sheet),
         )
 
 -- ── from slices to bytes to slices ──
 module _ (nodes outer : ℕ) (tails rotations : List ℕ) (capacities : List ℤ) (out : List ℕ)
-    (accepted : NoneOf (writeChecks nodes outer tails rotations capacities out)) where
+    (accepted : NoneOf (write_checks nodes outer tails rotations capacities out)) where
   abbrev drawing : Drawing
-  drawing = slicesDrawing nodes outer tails rotations capacities
+  drawing = slices_drawing nodes outer tails rotations capacities
 
-  same-lengths : (length rotations ≡ length tails) × (length capacities ≡ length tails) × (length tails % 2 ≡ 0)
-  unfolding writeChecks NoneOf
-  same-lengths = (
+  same_lengths : (length rotations ≡ length tails) × (length capacities ≡ length tails) × (length tails % 2 ≡ 0)
+  unfolding write_checks NoneOf
+  same_lengths = (
     stable (native.Mathlib.Decide.ℕ_discrete (length rotations) (length tails)) (λ h. accepted.0 (inl h)),
     stable (native.Mathlib.Decide.ℕ_discrete (length capacities) (length tails)) (λ h. accepted.0 (inr (inl h))),
     stable (native.Mathlib.Decide.ℕ_discrete (length tails % 2) 0) (λ h. accepted.0 (inr (inr h))),
@@ -153,71 +153,71 @@ module _ (nodes outer : ℕ) (tails rotations : List ℕ) (capacities : List ℤ
       stable (yes p) h = p
       stable (no p) h = absurd (h p)
 
-  checked : NoneOf (drawingChecks drawing)
-  unfolding writeChecks NoneOf
-  checked = (Rattle.refusals.proofs.Order.append-none (drawingChecks drawing) _ accepted.1).0
+  checked : NoneOf (drawing_checks drawing)
+  unfolding write_checks NoneOf
+  checked = (Rattle.refusals.proofs.Order.append_none (drawing_checks drawing) _ accepted.1).0
 
-  whole_length : 2 * edgesIn tails ≡ length tails
-  whole_length = omega (arith, same-lengths.2)
+  whole_length : 2 * edges_in tails ≡ length tails
+  whole_length = omega (arith, same_lengths.2)
 
-  zero-past : ZeroPast drawing
-  zero-past = record {
-    tail-zero = λ d l. get_or-eq_default tails 0 {n = d} (omega (arith, whole_length));
-    rotation-zero = λ d l. get_or-eq_default rotations 0 {n = d} (omega (arith, whole_length, same-lengths.0));
-    capacity-zero = λ d l. get_or-eq_default capacities (pos 0) {n = d} (omega (arith, whole_length, same-lengths.1));
+  zero_past : ZeroPast drawing
+  zero_past = record {
+    tail_zero = λ d l. get_or-eq_default tails 0 {n = d} (omega (arith, whole_length));
+    rotation_zero = λ d l. get_or-eq_default rotations 0 {n = d} (omega (arith, whole_length, same_lengths.0));
+    capacity_zero = λ d l. get_or-eq_default capacities (pos 0) {n = d} (omega (arith, whole_length, same_lengths.1));
   }
 
   fits : Encodable drawing
-  fits = let p = drawing-parts drawing checked in encodable-of-checks drawing p.0 p.1 zero-past
+  fits = let p = drawing_parts drawing checked in encodable_of_checks drawing p.0 p.1 zero_past
 
   -- what Write writes is a sheet that the checks accept
-  pub written-accepted : NoneOf (sheetChecks (encode drawing))
-  unfolding sheetChecks
-  written-accepted =
-      let p = drawing-parts drawing checked in
-      none-append (byteChecks (encode drawing)) (mapChecks (sheetMap (encode drawing)))
-      (encode-accepted drawing fits p.0 p.1)
-      (subst (λ 𝓓. NoneOf (mapChecks 𝓓.map)) (sym (sheet-encode drawing fits)) p.2)
+  pub written_accepted : NoneOf (sheet_checks (encode drawing))
+  unfolding sheet_checks
+  written_accepted =
+      let p = drawing_parts drawing checked in
+      none_append (byte_checks (encode drawing)) (map_checks (sheet_map (encode drawing)))
+      (encode_accepted drawing fits p.0 p.1)
+      (subst (λ 𝓓. NoneOf (map_checks 𝓓.map)) (sym (sheet_encode drawing fits)) p.2)
 
   -- of kind 4
-  pub written-kind : kind_of (encode drawing) ≡ 4
-  unfolding encode encodeHead
-  written-kind = refl
+  pub written_kind : kind_of (encode drawing) ≡ 4
+  unfolding encode encode_head
+  written_kind = refl
 
   -- and it stands at the front of the output
-  pub written-front : (out' : List ℕ) (n : ℕ) → Writes nodes outer tails rotations capacities out out' (write.Bytes n) → take n out' ≡ encode drawing
-  written-front out' n h = ap (take n) h.2 ∙ take_at (encode drawing) (drop n out) n (encode-length drawing ∙ sym h.1)
+  pub written_front : (out' : List ℕ) (n : ℕ) → Writes nodes outer tails rotations capacities out out' (write.Bytes n) → take n out' ≡ encode drawing
+  written_front out' n h = ap (take n) h.2 ∙ take_at (encode drawing) (drop n out) n (encode-length drawing ∙ sym h.1)
 
   -- Read, given those bytes, fills the slices that Write was given
   module _ (t r t' r' : List ℕ) (c c' : List ℤ) (room-t : length tails ≤ length t) (room-r : length tails ≤ length r) (room-c : length tails ≤ length c) where
-    read_again : sheetDrawing (encode drawing) ≡ drawing
-    read_again = sheet-encode drawing fits
+    read_again : sheet_drawing (encode drawing) ≡ drawing
+    read_again = sheet_encode drawing fits
 
-    same_edges : 2 * edgesOf (encode drawing) ≡ length tails
+    same_edges : 2 * edges_of (encode drawing) ≡ length tails
     same_edges = ap (λ 𝓓. 2 * 𝓓.map.edges) read_again ∙ whole_length
 
-    table-again : {A : Type 0} (z : A) (n : ℕ) (l : List A) (f : ℕ → A) → f ≡ (λ d. get_or l d z) → n ≡ length l → tabulate n f ≡ l
-    table-again z n l f e h = ap₂ tabulate h e ∙ tabulate-getD (length l) l z refl
+    table_again : {A : Type 0} (z : A) (n : ℕ) (l : List A) (f : ℕ → A) → f ≡ (λ d. get_or l d z) → n ≡ length l → tabulate n f ≡ l
+    table_again z n l f e h = ap₂ tabulate h e ∙ tabulate_get_d (length l) l z refl
 
-    counts-are : {n n' e e' o o' : ℕ} → n ≡ n' → e ≡ e' → o ≡ o' → read.Counts n e o ≡ read.Counts n' e' o'
-    counts-are p q r = λ i. read.Counts (p i) (q i) (r i)
+    counts_are : {n n' e e' o o' : ℕ} → n ≡ n' → e ≡ e' → o ≡ o' → read.Counts n e o ≡ read.Counts n' e' o'
+    counts_are p q r = λ i. read.Counts (p i) (q i) (r i)
 
-    pub read-undoes-write : (a : ReadAnswer) → Reads (encode drawing) t r c t' r' c' a
-        → (a ≡ read.Counts nodes (edgesIn tails) outer)
+    pub read_undoes_write : (a : ReadAnswer) → Reads (encode drawing) t r c t' r' c' a
+        → (a ≡ read.Counts nodes (edges_in tails) outer)
         × (t' ≡ tails ++ drop (length tails) t) × (r' ≡ rotations ++ drop (length rotations) r) × (c' ≡ capacities ++ drop (length capacities) c)
-    read-undoes-write (read.Refused k p) h = absurd (first-none (readChecks (encode drawing) t r c) k p h.0 whole)
+    read_undoes_write (read.Refused k p) h = absurd (first_none (read_checks (encode drawing) t r c) k p h.0 whole)
       where
-        whole : NoneOf (readChecks (encode drawing) t r c)
-        whole = read_whole (encode drawing) t r c written-accepted (omega (arith, same_edges)) (omega (arith, same_edges)) (omega (arith, same_edges))
-    read-undoes-write (read.Counts n e o) h = (
-      counts-are (h.1 ∙ ap (λ 𝓓. 𝓓.map.nodes) read_again) (h.2 ∙ ap (λ 𝓓. 𝓓.map.edges) read_again) (h.3 ∙ ap (λ 𝓓. 𝓓.outer) read_again),
-      h.4 ∙ ap₂ (λ x k. x ++ drop k t) (table-again 0 _ tails (tailOf (encode drawing)) (ap (λ 𝓓. 𝓓.map.tail) read_again) same_edges) same_edges,
+        whole : NoneOf (read_checks (encode drawing) t r c)
+        whole = read_whole (encode drawing) t r c written_accepted (omega (arith, same_edges)) (omega (arith, same_edges)) (omega (arith, same_edges))
+    read_undoes_write (read.Counts n e o) h = (
+      counts_are (h.1 ∙ ap (λ 𝓓. 𝓓.map.nodes) read_again) (h.2 ∙ ap (λ 𝓓. 𝓓.map.edges) read_again) (h.3 ∙ ap (λ 𝓓. 𝓓.outer) read_again),
+      h.4 ∙ ap₂ (λ x k. x ++ drop k t) (table_again 0 _ tails (tail_of (encode drawing)) (ap (λ 𝓓. 𝓓.map.tail) read_again) same_edges) same_edges,
       h.5
           ∙ ap₂ (λ x k. x ++ drop k r)
-          (table-again 0 _ rotations (rotationOf (encode drawing)) (ap (λ 𝓓. 𝓓.map.rotation) read_again) (same_edges ∙ sym same-lengths.0))
-          (same_edges ∙ sym same-lengths.0),
+          (table_again 0 _ rotations (rotation_of (encode drawing)) (ap (λ 𝓓. 𝓓.map.rotation) read_again) (same_edges ∙ sym same_lengths.0))
+          (same_edges ∙ sym same_lengths.0),
       h.6
           ∙ ap₂ (λ x k. x ++ drop k c)
-          (table-again (pos 0) _ capacities (capacityOf (encode drawing)) (ap (λ 𝓓. 𝓓.capacity) read_again) (same_edges ∙ sym same-lengths.1))
-          (same_edges ∙ sym same-lengths.1),
+          (table_again (pos 0) _ capacities (capacity_of (encode drawing)) (ap (λ 𝓓. 𝓓.capacity) read_again) (same_edges ∙ sym same_lengths.1))
+          (same_edges ∙ sym same_lengths.1),
     )

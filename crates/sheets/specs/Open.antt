@@ -4,26 +4,26 @@ use Rattle.refusals.specs.Order.{Check, NoneOf, FirstOf}
 use Rattle.maps.specs.Map.{darts}
 use Rattle.maps.specs.Face.{faces, left}
 use Rattle.arrays.specs.At.{at, atℤ}
-use Rattle.rotations.specs.MapChecks.{mapChecks}
-use Rattle.records.specs.Sheet.{nodesOf, edgesOf, outerOf, tailOf, rotationOf, capacityOf, sheetMap, byteChecks}
+use Rattle.rotations.specs.MapChecks.{map_checks}
+use Rattle.records.specs.Sheet.{nodes_of, edges_of, outer_of, tail_of, rotation_of, capacity_of, sheet_map, byte_checks}
 use Rattle.sheets.specs.declared.Network.{Network}
 
 -- 1 to 8 on the bytes, then 9 to 12 on the map
-unfoldable pub sheetChecks : List ℕ → List Check
-sheetChecks s = byteChecks s ++ mapChecks (sheetMap s)
+unfoldable pub sheet_checks : List ℕ → List Check
+sheet_checks s = byte_checks s ++ map_checks (sheet_map s)
 
 -- the network record holds the sheet's drawing, and the face at the left of each dart
 pub record Holds (s : List ℕ) (n : Network) : Type 0 where
-  pub nodes-are : n.sizes.nodes ≡ nodesOf s
-  pub edges_are : n.sizes.edges ≡ edgesOf s
-  pub faces-are : n.sizes.faces ≡ faces (sheetMap s)
-  pub outer-is : n.sizes.outer ≡ outerOf s
-  pub tails-are : at n.tails ≡ tailOf s
-  pub rotations-are : at n.rotations ≡ rotationOf s
-  pub capacities-are : atℤ n.capacities ≡ capacityOf s
-  pub lefts-are : (d : ℕ) → d < darts (sheetMap s) → at n.lefts d ≡ left (sheetMap s) d
+  pub nodes_are : n.sizes.nodes ≡ nodes_of s
+  pub edges_are : n.sizes.edges ≡ edges_of s
+  pub faces_are : n.sizes.faces ≡ faces (sheet_map s)
+  pub outer_is : n.sizes.outer ≡ outer_of s
+  pub tails_are : at n.tails ≡ tail_of s
+  pub rotations_are : at n.rotations ≡ rotation_of s
+  pub capacities_are : atℤ n.capacities ≡ capacity_of s
+  pub lefts_are : (d : ℕ) → d < darts (sheet_map s) → at n.lefts d ≡ left (sheet_map s) d
 
 -- the record of an accepted sheet holds it; that of a refused one names the first check that holds
 abbrev pub Opens : List ℕ → (n : Network) → (accepted : Bool) → Type 0
-Opens s n true = NoneOf (sheetChecks s) × Holds s n
-Opens s n false = FirstOf (sheetChecks s) n.refusal n.place
+Opens s n true = NoneOf (sheet_checks s) × Holds s n
+Opens s n false = FirstOf (sheet_checks s) n.refusal n.place

@@ -4,10 +4,10 @@
 use Rattle.std.specs.Prelude.{ℕ, ◌+◌, ◌*◌, ◌≤◌, ◌<◌, ◌≡◌, List, ◌∷◌, ◌++◌, length, take, drop, ℤ}
 use Rattle.refusals.specs.Order.{NoneOf}
 use Rattle.arrays.specs.At.{at}
-use Rattle.records.specs.Sheet.{kind_of, sheetDrawing}
-use Rattle.sheets.specs.Open.{sheetChecks}
+use Rattle.records.specs.Sheet.{kind_of, sheet_drawing}
+use Rattle.sheets.specs.Open.{sheet_checks}
 use Rattle.sheets.specs.Read.{Reads}
-use Rattle.sheets.specs.Write.{edgesIn, Writes}
+use Rattle.sheets.specs.Write.{edges_in, Writes}
 use Rattle.sheets.specs.declared.ReadAnswer.{ReadAnswer}
 use Rattle.sheets.specs.declared.ReadAnswer.TheVariants.{Counts}
 use Rattle.sheets.specs.declared.WriteAnswer.{WriteAnswer}
@@ -18,37 +18,37 @@ abbrev pub AreBytes : List ℕ → Type 0
 AreBytes s = (i : ℕ) → at s i < 256
 
 -- a sheet of kind 1 with a head of kind 4 in its place: that kind, the same counts, dart 0 in two bytes, and the same edges
-abbrev pub asKindFour : List ℕ → List ℕ
-asKindFour s = 4 ∷ (take 4 (drop 1 s) ++ (0 ∷ 0 ∷ drop 5 s))
+abbrev pub as_kind_four : List ℕ → List ℕ
+as_kind_four s = 4 ∷ (take 4 (drop 1 s) ++ (0 ∷ 0 ∷ drop 5 s))
 
 pub record ReadAndWrite : Type 0 where
   -- of a sheet of kind 4: Write, given the node count, the outer dart and the slices that Read left, writes the sheet again and gives its length: its bytes in
   -- front of the output, the rest as it was. The slices are as long as what Read filled, two elements per edge; the output has room
-  pub write-undoes-read : (s tails rotations tails' rotations' : List ℕ) (capacities capacities' : List ℤ) (nodes edges outer : ℕ)
+  pub write_undoes_read : (s tails rotations tails' rotations' : List ℕ) (capacities capacities' : List ℤ) (nodes edges outer : ℕ)
       → AreBytes s → kind_of s ≡ 4 → Reads s tails rotations capacities tails' rotations' capacities' (Counts nodes edges outer)
       → (out out' : List ℕ) (answer : WriteAnswer) → length s ≤ length out
       → Writes nodes outer (take (2 * edges) tails') (take (2 * edges) rotations') (take (2 * edges) capacities') out out' answer
       → (answer ≡ Bytes (length s)) × (out' ≡ s ++ drop (length s) out)
   -- of a sheet of kind 1: Read gives dart 0, and Write, given all that, writes the sheet as one of kind 4 that names dart 0, two bytes longer; the drawing is
   -- the same
-  pub kind-one-again : (s tails rotations tails' rotations' : List ℕ) (capacities capacities' : List ℤ) (nodes edges outer : ℕ)
+  pub kind_one_again : (s tails rotations tails' rotations' : List ℕ) (capacities capacities' : List ℤ) (nodes edges outer : ℕ)
       → AreBytes s → kind_of s ≡ 1 → Reads s tails rotations capacities tails' rotations' capacities' (Counts nodes edges outer)
       → (out out' : List ℕ) (answer : WriteAnswer) → length s + 2 ≤ length out
       → Writes nodes outer (take (2 * edges) tails') (take (2 * edges) rotations') (take (2 * edges) capacities') out out' answer
       → (outer ≡ 0)
       × (answer ≡ Bytes (length s + 2))
-      × (out' ≡ asKindFour s ++ drop (length s + 2) out)
-      × (sheetDrawing (asKindFour s) ≡ sheetDrawing s)
+      × (out' ≡ as_kind_four s ++ drop (length s + 2) out)
+      × (sheet_drawing (as_kind_four s) ≡ sheet_drawing s)
   -- what Write wrote is a sheet that the checks accept, and of kind 4
-  pub written-accepted : (nodes outer : ℕ) (tails rotations : List ℕ) (capacities : List ℤ) (out out' : List ℕ) (n : ℕ)
-      → Writes nodes outer tails rotations capacities out out' (Bytes n) → NoneOf (sheetChecks (take n out')) × (kind_of (take n out') ≡ 4)
+  pub written_accepted : (nodes outer : ℕ) (tails rotations : List ℕ) (capacities : List ℤ) (out out' : List ℕ) (n : ℕ)
+      → Writes nodes outer tails rotations capacities out out' (Bytes n) → NoneOf (sheet_checks (take n out')) × (kind_of (take n out') ≡ 4)
   -- and Read, given it, gives the counts and the outer dart and fills in the slices that Write was given: in front of those it is lent, which have room, the
   -- rest as it was
-  pub read-undoes-write : (nodes outer : ℕ) (tails rotations : List ℕ) (capacities : List ℤ) (out out' : List ℕ) (n : ℕ)
+  pub read_undoes_write : (nodes outer : ℕ) (tails rotations : List ℕ) (capacities : List ℤ) (out out' : List ℕ) (n : ℕ)
       → Writes nodes outer tails rotations capacities out out' (Bytes n)
       → (t r t' r' : List ℕ) (c c' : List ℤ) (answer : ReadAnswer) → length tails ≤ length t → length tails ≤ length r → length tails ≤ length c
       → Reads (take n out') t r c t' r' c' answer
-      → (answer ≡ Counts nodes (edgesIn tails) outer)
+      → (answer ≡ Counts nodes (edges_in tails) outer)
       × (t' ≡ tails ++ drop (length tails) t)
       × (r' ≡ rotations ++ drop (length rotations) r)
       × (c' ≡ capacities ++ drop (length capacities) c)

@@ -5,14 +5,14 @@ ghost use Rattle.fields.specs.Fields.{put};
 ghost use Rattle.arrays.specs.At.{at, atℤ};
 ghost use Rattle.arrays.specs.Filled.{tabulate};
 ghost use Rattle.grouping.specs.inner.Walked.{Walked};
-ghost use Rattle.records.specs.Record.{recordLength};
-ghost use Rattle.records.specs.Sheet.{headLength, nodesOf, edgesOf, headChecks};
-ghost use Rattle.records.specs.Check.{edgeChecks};
-ghost use Rattle.records.specs.Encode.{outerHeadBytes, edgeBytes, encodeHead, encode, encodeLength};
+ghost use Rattle.records.specs.Record.{record_length};
+ghost use Rattle.records.specs.Sheet.{headLength, nodes_of, edges_of, head_checks};
+ghost use Rattle.records.specs.Check.{edge_checks};
+ghost use Rattle.records.specs.Encode.{outer_head_bytes, edge_bytes, encode_head, encode, encode_length};
 ghost use Rattle.sheets.specs.Open.{Opens};
-ghost use Rattle.sheets.specs.inner.Reading.{EdgesRead, networkOf};
+ghost use Rattle.sheets.specs.inner.Reading.{EdgesRead, network_of};
 ghost use Rattle.sheets.specs.Read.{Reads};
-ghost use Rattle.sheets.specs.Write.{edgesIn, slicesDrawing, drawingChecks, Writes};
+ghost use Rattle.sheets.specs.Write.{edges_in, slices_drawing, drawing_checks, Writes};
 
 use arrays::Sizes;
 use refusals::Verdict;
@@ -68,7 +68,7 @@ fn read_edges(
     rotations: &mut [u16; 1024],
     capacities: &mut [i32; 1024],
 ) -> Verdict
-    requires { NoneOf (headChecks s.now) × (head ≡ headLength s.now) × (nodes ≡ nodesOf s.now) × (edges ≡ edgesOf s.now)
+    requires { NoneOf (head_checks s.now) × (head ≡ headLength s.now) × (nodes ≡ nodes_of s.now) × (edges ≡ edges_of s.now)
         × (length tails.old ≡ 1024) × ((d : ℕ) → at tails.old d ≡ 0) × (length rotations.old ≡ 1024) × ((d : ℕ) → at rotations.old d ≡ 0)
         × (length capacities.old ≡ 1024) × ((d : ℕ) → atℤ capacities.old d ≡ pos 0) }
     ensures { (length tails.new ≡ 1024) × (length rotations.new ≡ 1024) × (length capacities.new ≡ 1024)
@@ -117,7 +117,7 @@ fn read_sheet(
         × (length capacities.new ≡ 1024) × (length lefts.new ≡ 1024)
         × (length order.new ≡ 1024) × (length from.new ≡ 1024)
         × (length grouped.new ≡ 1024) × (length starts.new ≡ 1024)
-        × Opens s.now (networkOf result tails.new rotations.new capacities.new lefts.new) result.accepted
+        × Opens s.now (network_of result tails.new rotations.new capacities.new lefts.new) result.accepted
         × (result.accepted ≡ true → Walked (2 * result.sizes.edges) result.sizes.faces result.sizes.outer result.sizes.parts
         (at rotations.new) lefts.new order.new from.new grouped.new starts.new) }
 {
@@ -316,8 +316,8 @@ fn check_edge(
     e: usize,
 ) -> Verdict
     requires { (length rotations.now ≡ length tails.now) × (length capacities.now ≡ length tails.now)
-        × (length tails.now ≤ 1024) × (e < edgesIn tails.now) }
-    ensures { Judged (edgeChecks (slicesDrawing nodes outer tails.now rotations.now capacities.now) e) result }
+        × (length tails.now ≤ 1024) × (e < edges_in tails.now) }
+    ensures { Judged (edge_checks (slices_drawing nodes outer tails.now rotations.now capacities.now) e) result }
 {
     let edges = tails.len() / 2;
     let tail = arrays::wide(tails[2 * e]);
@@ -347,8 +347,8 @@ fn check_edges(
     capacities: &[i32],
 ) -> Verdict
     requires { (length rotations.now ≡ length tails.now) × (length capacities.now ≡ length tails.now) × (length tails.now ≤ 1024) }
-    ensures { Judged (in_turn (edgesIn tails.now)
-        (edgeChecks (slicesDrawing nodes outer tails.now rotations.now capacities.now))) result }
+    ensures { Judged (in_turn (edges_in tails.now)
+        (edge_checks (slices_drawing nodes outer tails.now rotations.now capacities.now))) result }
 {
     let edges = tails.len() / 2;
     let mut e: usize = 0;
@@ -371,7 +371,7 @@ fn check_slices(
     capacities: &[i32],
 ) -> Verdict
     requires { (length rotations.now ≡ length tails.now) × (length capacities.now ≡ length tails.now) × (length tails.now % 2 ≡ 0) }
-    ensures { Judged (drawingChecks (slicesDrawing nodes outer tails.now rotations.now capacities.now)) result }
+    ensures { Judged (drawing_checks (slices_drawing nodes outer tails.now rotations.now capacities.now)) result }
 {
     let edges = tails.len() / 2;
     let numbers = records::check_numbers(nodes, edges, outer);
@@ -409,8 +409,8 @@ fn check_slices(
 
 // The head of a sheet, of kind 4.
 fn write_head(out: &mut [u8], nodes: u16, edges: u16, outer: u16)
-    requires { recordLength 4 ≤ length out.old }
-    ensures { out.new ≡ put 0 (outerHeadBytes nodes edges outer) out.old }
+    requires { record_length 4 ≤ length out.old }
+    ensures { out.new ≡ put 0 (outer_head_bytes nodes edges outer) out.old }
 {
     fields::write_u8(out, 0, 4);
     fields::write_u16(out, 1, nodes);
@@ -429,8 +429,8 @@ fn write_edge(
     forward: i32,
     backward: i32,
 )
-    requires { (place ≤ 100000) × (place + recordLength 2 ≤ length out.old) }
-    ensures { out.new ≡ put place (edgeBytes tail head rotation back_rotation forward backward) out.old }
+    requires { (place ≤ 100000) × (place + record_length 2 ≤ length out.old) }
+    ensures { out.new ≡ put place (edge_bytes tail head rotation back_rotation forward backward) out.old }
 {
     fields::write_u8(out, place, 2);
     fields::write_u16(out, place + 1, tail);
@@ -444,12 +444,12 @@ fn write_edge(
 // The records of all edges, after the head.
 fn write_edges(out: &mut [u8], tails: &[u16], rotations: &[u16], capacities: &[i32])
     requires { (length rotations.now ≡ length tails.now) × (length capacities.now ≡ length tails.now)
-        × (length tails.now ≤ 1024) × (encodeLength (edgesIn tails.now) ≤ length out.old) }
+        × (length tails.now ≤ 1024) × (encode_length (edges_in tails.now) ≤ length out.old) }
     ensures { (nodes outer : ℕ) (old : List ℕ)
-        → out.old ≡ encodeHead (slicesDrawing nodes outer tails.now rotations.now capacities.now)
-        ++ drop (recordLength 4) old
-        → out.new ≡ encode (slicesDrawing nodes outer tails.now rotations.now capacities.now)
-        ++ drop (encodeLength (edgesIn tails.now)) old }
+        → out.old ≡ encode_head (slices_drawing nodes outer tails.now rotations.now capacities.now)
+        ++ drop (record_length 4) old
+        → out.new ≡ encode (slices_drawing nodes outer tails.now rotations.now capacities.now)
+        ++ drop (encode_length (edges_in tails.now)) old }
 {
     let head = records::record_length(4);
     let edges = tails.len() / 2;

@@ -16,36 +16,36 @@ use Rattle.search.specs.declared.Outcome.{Outcome}
 use Rattle.solver.specs.inner.Named.{ApartBy, MeasuredBy, NamedBy, Named}
 
 -- by the lengths filled, of the value's bits
-pub measured-by : {𝓜 : Map} {start finish : ℕ} {order from : ℕ → ℕ} {c : ℕ → ℤ} {value asked : ℤ} {length : ℕ → ℤ} {joined : Bool} {S : ℕ → Bool} {b : Bool}
+pub measured_by : {𝓜 : Map} {start finish : ℕ} {order from : ℕ → ℕ} {c : ℕ → ℤ} {value asked : ℤ} {length : ℕ → ℤ} {joined : Bool} {S : ℕ → Bool} {b : Bool}
     → value ≡ asked → Filled (darts 𝓜) start finish order from c value length joined → ApartBy 𝓜 start finish asked joined S b
     → MeasuredBy 𝓜 start finish from c asked length S b
-measured-by {𝓜} {start} {finish} {order} {from} {c} {value} {asked} {length} {joined} e h w =
+measured_by {𝓜} {start} {finish} {order} {from} {c} {value} {asked} {length} {joined} e h w =
     record { joined = joined; along = subst (λ v. Along (darts 𝓜) start finish from c v length joined) e h.way; way = w }
 
 -- for an equal value
-pub measured-by-for : (𝓜 : Map) {start finish : ℕ} (from : ℕ → ℕ) (c : ℕ → ℤ) {v v' : ℤ} (length : ℕ → ℤ) (S : ℕ → Bool) (b : Bool)
+pub measured_by_for : (𝓜 : Map) {start finish : ℕ} (from : ℕ → ℕ) (c : ℕ → ℤ) {v v' : ℤ} (length : ℕ → ℤ) (S : ℕ → Bool) (b : Bool)
     → v' ≡ v → MeasuredBy 𝓜 start finish from c v' length S b → MeasuredBy 𝓜 start finish from c v length S b
-measured-by-for 𝓜 from c length S b e h = rw (← e) h
+measured_by_for 𝓜 from c length S b e h = rw (← e) h
 
 -- of a known outcome
-pub searches-known : {G : Given} {queue : List ℕ} {roots : ℕ} {proposal : List ℕ} {ρ : List ℤ} {parents : List ℕ} {o p : Outcome} → o ≡ p
+pub searches_known : {G : Given} {queue : List ℕ} {roots : ℕ} {proposal : List ℕ} {ρ : List ℤ} {parents : List ℕ} {o p : Outcome} → o ≡ p
     → Searches G queue roots proposal ρ parents o → Searches G queue roots proposal ρ parents p
-searches-known e h = rw (← e) h
+searches_known e h = rw (← e) h
 
 -- where the ends are not apart, the flags tell nothing
-pub measured-other : {𝓜 : Map} {start finish : ℕ} {from : ℕ → ℕ} {c : ℕ → ℤ} {value : ℤ} {length : ℕ → ℤ} {S S' : ℕ → Bool}
+pub measured_other : {𝓜 : Map} {start finish : ℕ} {from : ℕ → ℕ} {c : ℕ → ℤ} {value : ℤ} {length : ℕ → ℤ} {S S' : ℕ → Bool}
     → MeasuredBy 𝓜 start finish from c value length S false → MeasuredBy 𝓜 start finish from c value length S' false
-measured-other m = record { joined = m.joined; along = m.along; way = m.way }
+measured_other m = record { joined = m.joined; along = m.along; way = m.way }
 
 -- ── the set named ──
-pub named-of : {𝓜 : Map} {outer count parts : ℕ} {c : ℕ → ℤ} (lefts order from grouped starts : List ℕ)
+pub named_of : {𝓜 : Map} {outer count parts : ℕ} {c : ℕ → ℤ} (lefts order from grouped starts : List ℕ)
     → Drawn 𝓜 (at lefts) count outer c → Walked (darts 𝓜) count outer parts 𝓜.rotation lefts order from grouped starts
     → {s t start finish : ℕ} {value : ℤ}
     → (start < darts 𝓜) × (𝓜.tail start ≡ s) × ((e : ℕ) → e < start → 𝓜.tail e ≢ s)
     → (finish < darts 𝓜) × (𝓜.tail finish ≡ t) × ((e : ℕ) → e < finish → 𝓜.tail e ≢ t)
     → (proposal : List ℕ) {S : ℕ → Bool} (lengths : List ℤ) (apart : Bool) → MeasuredBy 𝓜 start finish (at from) c value (atℤ lengths) S apart
     → NamedBy 𝓜 outer count parts lefts order from grouped starts lengths proposal S apart → Named 𝓜 outer c s t value proposal S
-named-of {𝓜} {outer} {count} {parts} lefts order from grouped starts drawn walked {s} {t} {start} {finish} a b proposal lengths apart m n = record {
+named_of {𝓜} {outer} {count} {parts} lefts order from grouped starts drawn walked {s} {t} {start} {finish} a b proposal lengths apart m n = record {
   sound = drawn.plane.sound;
   lefts = lefts;
   order = order;
@@ -60,7 +60,7 @@ named-of {𝓜} {outer} {count} {parts} lefts order from grouped starts drawn wa
   start = start;
   finish = finish;
   start_first = record { inside = a.0; leaves = a.1; none_before = a.2 };
-  finish-first = record { inside = b.0; leaves = b.1; none_before = b.2 };
+  finish_first = record { inside = b.0; leaves = b.1; none_before = b.2 };
   lengths = lengths;
   apart = apart;
   measured = m;

@@ -10,12 +10,12 @@ ghost use Rattle.maps.specs.Cut.{cut};
 ghost use Rattle.lengths.specs.inner.Lengths.{Treed};
 ghost use Rattle.arrays.specs.At.{at, atℤ};
 ghost use Rattle.traversal.specs.inner.Forest.{Forest, RootsOf, RootsHere};
-ghost use Rattle.search.specs.Dual.{dualOf};
+ghost use Rattle.search.specs.Dual.{dual_of};
 ghost use Rattle.search.specs.Given.{given};
 ghost use Rattle.search.specs.Trace.{Searches};
 ghost use Rattle.solver.specs.inner.Lent.{Lent, LentRoots, LentSearch, LentWalk};
-ghost use Rattle.arrays.specs.Maps.{mapOf, rightOf};
-ghost use Rattle.arrays.specs.inner.Sizes.{mostCapacity, mostValue};
+ghost use Rattle.arrays.specs.Maps.{map_of, right_of};
+ghost use Rattle.arrays.specs.inner.Sizes.{most_capacity, most_value};
 ghost use Rattle.solver.specs.inner.Search.{PartFlagged, Measured, Searched, Ringed};
 ghost use Rattle.solver.specs.inner.Decision.{Decided};
 ghost use Rattle.solver.specs.inner.Named.{MeasuredBy, MadeOfRing, Named};
@@ -33,9 +33,9 @@ fn flag_part(
     d: usize,
     inside: &mut [u8; 1024],
 )
-    requires { (length inside.old ≡ 1024) × (edges ≤ 512) × (nodes ≤ 1024) × (d < 2 * edges) × Sound (mapOf nodes edges tails.now rotations.now) }
+    requires { (length inside.old ≡ 1024) × (edges ≤ 512) × (nodes ≤ 1024) × (d < 2 * edges) × Sound (map_of nodes edges tails.now rotations.now) }
     ensures { (length inside.new ≡ 1024)
-        × PartFlagged (mapOf nodes edges tails.now rotations.now) d (flagged inside.new) }
+        × PartFlagged (map_of nodes edges tails.now rotations.now) d (flagged inside.new) }
 {
     let mut order = [0u16; 1024];
     let mut from = [0u16; 1024];
@@ -61,12 +61,12 @@ fn cut_apart(
     inside: &mut [u8; 1024],
 ) -> bool
     requires { (length lengths.old ≡ 1024) × (length inside.old ≡ 1024) × (edges ≤ 512) × (nodes ≤ 1024) × (start < 2 * edges) × (finish < 2 * edges)
-        × Treed (mapOf nodes edges tails.now rotations.now) (2 * edges) (at order.now) (at from.now)
-        × ((d : ℕ) → d < 2 * edges → Limited mostCapacity (atℤ capacities.now d)) × Limited mostValue value }
+        × Treed (map_of nodes edges tails.now rotations.now) (2 * edges) (at order.now) (at from.now)
+        × ((d : ℕ) → d < 2 * edges → Limited most_capacity (atℤ capacities.now d)) × Limited most_value value }
     ensures { (length lengths.new ≡ 1024) × (length inside.new ≡ 1024)
-        × Measured (mapOf nodes edges tails.now rotations.now) (at tails.now start) (at tails.now finish)
+        × Measured (map_of nodes edges tails.now rotations.now) (at tails.now start) (at tails.now finish)
         (atℤ capacities.now) value (atℤ lengths.new) inside.new result
-        × MeasuredBy (mapOf nodes edges tails.now rotations.now) start finish (at from.now)
+        × MeasuredBy (map_of nodes edges tails.now rotations.now) start finish (at from.now)
         (atℤ capacities.now) value (atℤ lengths.new) (flagged inside.new) result }
 {
     if lengths::fill_lengths(
@@ -109,7 +109,7 @@ fn settle(
 ) -> Outcome
     requires { LentSearch lefts.now capacities.now lengths.now grouped.now starts.now edges faces roots parents.old queue.old flows.old }
     ensures { (length parents.new ≡ 1024)
-        × Searched (dualOf lefts.now lengths.now (2 * edges) faces (take roots queue.old)) edges
+        × Searched (dual_of lefts.now lengths.now (2 * edges) faces (take roots queue.old)) edges
         (atℤ capacities.now)
         flows.old flows.new (at parents.new) result
         × ((ρ : List ℤ) × Searches (given lefts.now lengths.now grouped.now starts.now
@@ -158,7 +158,7 @@ fn settle_all<'a>(
     ensures { (length parents.new ≡ 1024)
         × ((queue : List ℕ) × (length queue ≡ 1024)
         × RootsOf (2 * sizes.edges) (at rotations.now) sizes.outer (at lefts.now) (at queue) sizes.parts
-        × Searched (dualOf lefts.now lengths.now (2 * sizes.edges) sizes.faces (take sizes.parts queue)) sizes.edges
+        × Searched (dual_of lefts.now lengths.now (2 * sizes.edges) sizes.faces (take sizes.parts queue)) sizes.edges
         (atℤ capacities.now) flows.old flows.new (at parents.new) result
         × RootsHere (2 * sizes.edges) (at rotations.now) sizes.outer (at lefts.now) (at order.now) (at from.now)
         (λ i. 0) (at queue) sizes.parts
@@ -208,11 +208,11 @@ fn cut_of_ring(
     inside: &mut [u8; 1024],
 )
     requires { (length inside.old ≡ 1024)
-        × Treed (mapOf nodes edges tails.now rotations.now) (2 * edges) (at order.now) (at from.now)
-        × Ringed (mapOf nodes edges tails.now rotations.now) (dualOf lefts.now lengths.now (2 * edges) faces []) (at parents.now) y }
+        × Treed (map_of nodes edges tails.now rotations.now) (2 * edges) (at order.now) (at from.now)
+        × Ringed (map_of nodes edges tails.now rotations.now) (dual_of lefts.now lengths.now (2 * edges) faces []) (at parents.now) y }
     ensures { (length inside.new ≡ 1024)
-        × (cut (mapOf nodes edges tails.now rotations.now) (atℤ lengths.now) (flagged inside.new) <ℤ pos 0)
-        × MadeOfRing (mapOf nodes edges tails.now rotations.now) (rightOf lefts.now) (atℤ lengths.now)
+        × (cut (map_of nodes edges tails.now rotations.now) (atℤ lengths.now) (flagged inside.new) <ℤ pos 0)
+        × MadeOfRing (map_of nodes edges tails.now rotations.now) (right_of lefts.now) (atℤ lengths.now)
         (at order.now) (at from.now) (at parents.now) y (flagged inside.new) }
 {
     let mut winding = [0i16; 1024];
@@ -242,12 +242,12 @@ pub fn decide<'a>(
     inside: &mut [u8; 1024],
 ) -> bool
     requires { Lent sizes demand.source demand.sink tails.now rotations.now lefts.now capacities.now order.now from.now grouped.now
-        starts.now flows.old × Limited mostValue demand.value × (length parents.old ≡ 1024) × (length inside.old ≡ 1024) }
+        starts.now flows.old × Limited most_value demand.value × (length parents.old ≡ 1024) × (length inside.old ≡ 1024) }
     ensures { (length inside.new ≡ 1024)
-        × Decided (mapOf sizes.nodes sizes.edges tails.now rotations.now) sizes.outer (atℤ capacities.now)
+        × Decided (map_of sizes.nodes sizes.edges tails.now rotations.now) sizes.outer (atℤ capacities.now)
         demand.source demand.sink demand.value flows.old flows.new inside.new result
         × (length parents.new ≡ 1024)
-        × (result ≡ false → Named (mapOf sizes.nodes sizes.edges tails.now rotations.now) sizes.outer (atℤ capacities.now)
+        × (result ≡ false → Named (map_of sizes.nodes sizes.edges tails.now rotations.now) sizes.outer (atℤ capacities.now)
         demand.source demand.sink demand.value parents.old (flagged inside.new)) }
 {
     let start = traversal::dart_at(tails, 2 * sizes.edges, demand.source);
@@ -354,9 +354,9 @@ fn decide_at<'a>(
     inside: &mut [u8; 1024],
 ) -> bool
     requires { LentRoots sizes demand.source demand.sink tails.now rotations.now lefts.now capacities.now order.now from.now grouped.now
-        starts.now queue.old flows.old × Limited mostValue demand.value × (length queue.old ≡ 1024) × (length inside.old ≡ 1024) }
+        starts.now queue.old flows.old × Limited most_value demand.value × (length queue.old ≡ 1024) × (length inside.old ≡ 1024) }
     ensures { (length inside.new ≡ 1024)
-        × Decided (mapOf sizes.nodes sizes.edges tails.now rotations.now) sizes.outer (atℤ capacities.now)
+        × Decided (map_of sizes.nodes sizes.edges tails.now rotations.now) sizes.outer (atℤ capacities.now)
         demand.source demand.sink demand.value flows.old flows.new inside.new result }
 {
     let start = traversal::dart_at(tails, 2 * sizes.edges, demand.source);
@@ -432,9 +432,9 @@ pub fn decide_from<'a>(
     inside: &mut [u8; 1024],
 ) -> bool
     requires { Lent sizes demand.source demand.sink tails.now rotations.now lefts.now capacities.now order.now from.now grouped.now
-        starts.now flows.old × Limited mostValue demand.value × (first < 2 * sizes.edges) × (length inside.old ≡ 1024) }
+        starts.now flows.old × Limited most_value demand.value × (first < 2 * sizes.edges) × (length inside.old ≡ 1024) }
     ensures { (length inside.new ≡ 1024)
-        × Decided (mapOf sizes.nodes sizes.edges tails.now rotations.now) first (atℤ capacities.now)
+        × Decided (map_of sizes.nodes sizes.edges tails.now rotations.now) first (atℤ capacities.now)
         demand.source demand.sink demand.value flows.old flows.new inside.new result }
 {
     let mut queue = [0u16; 1024];

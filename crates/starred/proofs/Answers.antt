@@ -11,7 +11,7 @@ use lib.Signed.{◌≤ℤ◌, ◌<ℤ◌}
 use Rattle.integers.proofs.Laws.{le_trans, le_antisym}
 use Rattle.refusals.specs.Order.{NoneOf, FirstOf}
 use Rattle.refusals.specs.declared.Verdict.TheVariants as verdict
-use Rattle.refusals.proofs.Order.{first-none, first_one, neither}
+use Rattle.refusals.proofs.Order.{first_none, first_one, neither}
 use Rattle.maps.specs.Map.{darts}
 use Rattle.maps.specs.Face.{faces, left}
 use Rattle.maps.specs.Cut.{cut}
@@ -19,49 +19,49 @@ use Rattle.flows.specs.Settings.{Within, Balanced}
 use Rattle.flows.specs.Levels.{Levels}
 use Rattle.flows.specs.Highest.{Highest}
 use Rattle.flows.specs.ProvingSet.{Proves, member, size, SetOf}
-use Rattle.flows.proofs.Interval.{source-limits}
+use Rattle.flows.proofs.Interval.{source_limits}
 use Rattle.flows.specs.inner.Sides.{AtSource}
 use Rattle.balance.proofs.Within.{within_none}
-use Rattle.balance.proofs.Balance.{circulation-none}
+use Rattle.balance.proofs.Balance.{circulation_none}
 use Rattle.maps.specs.Drawing.{Drawing}
-use Rattle.arrays.proofs.Tabulate.{tabulate-ext, tabulate-getD}
-use Rattle.records.specs.Sheet.{nodesOf, edgesOf, capacityOf, sheetMap, sheetDrawing, outerOf}
+use Rattle.arrays.proofs.Tabulate.{tabulate_ext, tabulate_get_d}
+use Rattle.records.specs.Sheet.{nodes_of, edges_of, capacity_of, sheet_map, sheet_drawing, outer_of}
 use Rattle.sheets.specs.declared.Network.{Network}
 use Rattle.arrays.specs.At.{atℤ}
-use Rattle.sheets.specs.Open.{sheetChecks, Opens}
+use Rattle.sheets.specs.Open.{sheet_checks, Opens}
 use Rattle.arrays.specs.Filled.{filled}
-use Rattle.questions.specs.Question.{endChecks, valueChecks, roomChecks, SetWritten}
-use Rattle.analyser.specs.Solve.{solveChecks, Solves}
+use Rattle.questions.specs.Question.{end_checks, value_checks, room_checks, SetWritten}
+use Rattle.analyser.specs.Solve.{solve_checks, Solves}
 use Rattle.questions.specs.declared.SolveAnswer.{SolveAnswer}
 use Rattle.questions.specs.declared.SolveAnswer.TheVariants.{Can, Cannot, Refused}
-use Rattle.analyser.specs.Largest.{largestChecks, FindsLargest}
+use Rattle.analyser.specs.Largest.{largest_checks, FindsLargest}
 use Rattle.questions.specs.declared.LargestAnswer.{LargestAnswer}
 use Rattle.questions.specs.declared.LargestAnswer.TheVariants.{Value, None}
 use Rattle.questions.specs.declared.LargestAnswer.TheVariants as largest
-use Rattle.analyser.specs.LevelsOf.{levelsChecks, GivesLevels}
+use Rattle.analyser.specs.LevelsOf.{levels_checks, GivesLevels}
 use Rattle.levels.specs.declared.LevelAnswer.{LevelAnswer}
 use Rattle.levels.specs.declared.LevelAnswer.TheVariants.{Done}
 use Rattle.levels.specs.declared.LevelAnswer.TheVariants as level
-use Rattle.questions.proofs.Asked.{ends-in, ends-differ}
-use Rattle.analyser.proofs.SheetPlane.{plane, levels-unique}
-use Rattle.analyser.proofs.Accepted.{solve-none, largest-none, levels-none}
+use Rattle.questions.proofs.Asked.{ends_in, ends_differ}
+use Rattle.analyser.proofs.SheetPlane.{plane, levels_unique}
+use Rattle.analyser.proofs.Accepted.{solve_none, largest_none, levels_none}
 use Rattle.analyser.proofs.Opened as with-sheet
-use Rattle.levels.proofs.Given.{balanced-none}
-use Rattle.analyser.proofs.Asked.{excludes, one-highest}
-use Rattle.analyser.proofs.Demand3.{never-refused, largest-answered, nothing-greater, none-delivered}
+use Rattle.levels.proofs.Given.{balanced_none}
+use Rattle.analyser.proofs.Asked.{excludes, one_highest}
+use Rattle.analyser.proofs.Demand3.{never_refused, largest_answered, nothing_greater, none_delivered}
 use Rattle.starred.specs.Table.{front, Room, SolveCan, SolveCannot, SolveRefused, LargestIs, LargestNone, LevelsAre, InFace}
 use Rattle.starred.proofs.Sheets.{Good}
 
 -- ── what a drawing is known by ──
 -- these settings are the highest answer for the value
 pub record CanBy (source sink : ℕ) (value : ℤ) (settings : List ℤ) (𝓓 : Drawing) : Type 0 where
-  pub ends : NoneOf (endChecks 𝓓.map.nodes source sink)
+  pub ends : NoneOf (end_checks 𝓓.map.nodes source sink)
   pub long : length settings ≡ 𝓓.map.edges
   pub highest : Highest 𝓓.map 𝓓.outer 𝓓.capacity source sink value (atℤ settings)
 
 -- this set proves the value impossible, and no other does
 pub record CannotBy (source sink : ℕ) (value : ℤ) (words : List ℕ) (𝓓 : Drawing) : Type 0 where
-  pub ends : NoneOf (endChecks 𝓓.map.nodes source sink)
+  pub ends : NoneOf (end_checks 𝓓.map.nodes source sink)
   pub proves : Proves 𝓓.map 𝓓.capacity source sink value (member words)
   pub only : (ws : List ℕ) → SetOf 𝓓.map.nodes ws → Proves 𝓓.map 𝓓.capacity source sink value (member ws) → ws ≡ words
 
@@ -71,168 +71,168 @@ Full source sink value words 𝓓 = AtSource source sink (member words) × (cut 
 
 -- this set, which holds both ends or neither, has an outward total below 0, and no other does
 pub record NoneBy (source sink : ℕ) (words : List ℕ) (𝓓 : Drawing) : Type 0 where
-  pub ends : NoneOf (endChecks 𝓓.map.nodes source sink)
+  pub ends : NoneOf (end_checks 𝓓.map.nodes source sink)
   pub proves : (value : ℤ) → Proves 𝓓.map 𝓓.capacity source sink value (member words)
   pub only : (ws : List ℕ) → SetOf 𝓓.map.nodes ws → member ws source ≡ member ws sink → cut 𝓓.map 𝓓.capacity (member ws) <ℤ pos 0 → ws ≡ words
 
 -- these are the levels of the settings, one for each face
 pub record LevelsBy (settings : List ℤ) (found : List ℤ) (𝓓 : Drawing) : Type 0 where
-  pub settings-long : 𝓓.map.edges ≤ length settings
-  pub found-long : length found ≡ faces 𝓓.map
+  pub settings_long : 𝓓.map.edges ≤ length settings
+  pub found_long : length found ≡ faces 𝓓.map
   pub within : Within 𝓓.map 𝓓.capacity (atℤ settings)
   pub balanced : Balanced 𝓓.map (atℤ settings)
   pub levels : Levels 𝓓.map 𝓓.outer (atℤ settings) (atℤ found)
 
 -- what is known of the drawing is known of the sheet's
-pub on-sheet : {s : List ℕ} {𝓓 : Drawing} → Good s 𝓓 → (P : Drawing → Type 0) → P 𝓓 → P (sheetDrawing s)
-on-sheet good P h = subst P (sym good.drawing) h
+pub on_sheet : {s : List ℕ} {𝓓 : Drawing} → Good s 𝓓 → (P : Drawing → Type 0) → P 𝓓 → P (sheet_drawing s)
+on_sheet good P h = subst P (sym good.drawing) h
 
 -- ── slices ──
 -- a slice filled with the numbers of a list has the list in front
-filled-front : {E : Type 0} (z : E) (n : ℕ) (f : ℕ → E) (new old now' : List E) → length new ≡ n
+filled_front : {E : Type 0} (z : E) (n : ℕ) (f : ℕ → E) (new old now' : List E) → length new ≡ n
     → ((i : ℕ) → i < n → f i ≡ get_or new i z) → now' ≡ filled n f old → now' ≡ front new old
-filled-front z n f new old now' long same e =
-    e ∙ ap₂ (λ (a b : List _). a ++ b) (tabulate-ext n f (λ i. get_or new i z) same ∙ tabulate-getD n new z long) (ap (λ (k : ℕ). drop k old) (sym long))
+filled_front z n f new old now' long same e =
+    e ∙ ap₂ (λ (a b : List _). a ++ b) (tabulate_ext n f (λ i. get_or new i z) same ∙ tabulate_get_d n new z long) (ap (λ (k : ℕ). drop k old) (sym long))
 
 set_front : {nodes : ℕ} {ws words set set' : List ℕ} → SetWritten nodes ws set set' → ws ≡ words → set' ≡ front words set
 set_front {nodes} {ws} {words} {set} w e = w.placed ∙ ap (λ (k : ℕ). ws ++ drop k set) (sym w.is-set.long) ∙ ap (λ (l : List ℕ). front l set) e
 
-has_room : (s : List ℕ) (flows : List ℤ) (set : List ℕ) → Room s flows set → NoneOf (roomChecks (nodesOf s) (edgesOf s) (length flows) (length set))
-unfolding NoneOf roomChecks
+has_room : (s : List ℕ) (flows : List ℤ) (set : List ℕ) → Room s flows set → NoneOf (room_checks (nodes_of s) (edges_of s) (length flows) (length set))
+unfolding NoneOf room_checks
 has_room s flows set room = (neither (λ h. omega (arith, room.0)) (λ h. omega (arith, room.1)), tt)
 
 -- ── Solve ──
-module _ {s : List ℕ} {𝓓 : Drawing} (good : Good s 𝓓) (source sink : ℕ) (value : ℤ) (inside : NoneOf (valueChecks value)) where
-  asked : (flows : List ℤ) (set : List ℕ) → NoneOf (endChecks (nodesOf s) source sink) → Room s flows set → NoneOf (solveChecks s source sink value flows set)
+module _ {s : List ℕ} {𝓓 : Drawing} (good : Good s 𝓓) (source sink : ℕ) (value : ℤ) (inside : NoneOf (value_checks value)) where
+  asked : (flows : List ℤ) (set : List ℕ) → NoneOf (end_checks (nodes_of s) source sink) → Room s flows set → NoneOf (solve_checks s source sink value flows set)
   asked flows set two room =
-      solve-none s source sink value flows set (record { sheet = good.accepted; ends-two = two; value-inside = inside; has_room = has_room s flows set room })
+      solve_none s source sink value flows set (record { sheet = good.accepted; ends_two = two; value_inside = inside; has_room = has_room s flows set room })
 
-  pub solve-can : (settings : List ℤ) → CanBy source sink value settings 𝓓 → SolveCan s source sink value settings
-  solve-can settings by flows flows' set set' answer room solved = go answer solved
+  pub solve_can : (settings : List ℤ) → CanBy source sink value settings 𝓓 → SolveCan s source sink value settings
+  solve_can settings by flows flows' set set' answer room solved = go answer solved
     where
-      k : CanBy source sink value settings (sheetDrawing s)
-      k = on-sheet good (CanBy source sink value settings) by
+      k : CanBy source sink value settings (sheet_drawing s)
+      k = on_sheet good (CanBy source sink value settings) by
 
       go : (a : SolveAnswer) → Solves s source sink value flows flows' set set' a → (a ≡ Can) × (flows' ≡ front settings flows) × (set' ≡ set)
       go Can h = (
         refl,
-        filled-front (pos 0) (edgesOf s) h.1.0 settings flows flows' k.long
-            (one-highest s good.accepted source sink k.ends value h.1.0 (atℤ settings) h.1.1 k.highest)
+        filled_front (pos 0) (edges_of s) h.1.0 settings flows flows' k.long
+            (one_highest s good.accepted source sink k.ends value h.1.0 (atℤ settings) h.1.1 k.highest)
             h.1.2,
         h.2,
       )
       go (Cannot n) h = absurd (excludes s good.accepted source sink k.ends value (member h.1.0) h.1.2 (atℤ settings) k.highest.carries)
-      go (Refused j p) h = absurd (never-refused s source sink value flows flows' set set' (asked flows set k.ends room) j p h)
+      go (Refused j p) h = absurd (never_refused s source sink value flows flows' set set' (asked flows set k.ends room) j p h)
 
-  pub solve-cannot : (words : List ℕ) (n : ℕ) → size words ≡ n → CannotBy source sink value words 𝓓 → SolveCannot s source sink value words n
-  solve-cannot words n ones by flows flows' set set' answer room solved = go answer solved
+  pub solve_cannot : (words : List ℕ) (n : ℕ) → size words ≡ n → CannotBy source sink value words 𝓓 → SolveCannot s source sink value words n
+  solve_cannot words n ones by flows flows' set set' answer room solved = go answer solved
     where
-      k : CannotBy source sink value words (sheetDrawing s)
-      k = on-sheet good (CannotBy source sink value words) by
+      k : CannotBy source sink value words (sheet_drawing s)
+      k = on_sheet good (CannotBy source sink value words) by
 
       go : (a : SolveAnswer) → Solves s source sink value flows flows' set set' a → (a ≡ Cannot n) × (set' ≡ front words set) × (flows' ≡ flows)
       go Can h = absurd (excludes s good.accepted source sink k.ends value (member words) k.proves h.1.0 h.1.1.carries)
       go (Cannot m) h =
           let same : h.1.0 ≡ words = k.only h.1.0 h.1.1.is_set h.1.2 in
           (ap Cannot (h.1.3 ∙ ap size same ∙ ones), set_front h.1.1 same, h.2)
-      go (Refused j p) h = absurd (never-refused s source sink value flows flows' set set' (asked flows set k.ends room) j p h)
+      go (Refused j p) h = absurd (never_refused s source sink value flows flows' set set' (asked flows set k.ends room) j p h)
 
-pub solve-refused : (s : List ℕ) (n : ℕ) → FirstOf (sheetChecks s) n 0 → (source sink : ℕ) (value : ℤ) → SolveRefused s source sink value n
-solve-refused s n bad source sink value flows flows' set set' answer solved = go answer solved
+pub solve_refused : (s : List ℕ) (n : ℕ) → FirstOf (sheet_checks s) n 0 → (source sink : ℕ) (value : ℤ) → SolveRefused s source sink value n
+solve_refused s n bad source sink value flows flows' set set' answer solved = go answer solved
   where
-    first : FirstOf (solveChecks s source sink value flows set) n 0
-    first = with-sheet.solve-refused s n 0 bad source sink value flows set
+    first : FirstOf (solve_checks s source sink value flows set) n 0
+    first = with-sheet.solve_refused s n 0 bad source sink value flows set
 
     go : (a : SolveAnswer) → Solves s source sink value flows flows' set set' a → (a ≡ Refused n 0) × (flows' ≡ flows) × (set' ≡ set)
-    go Can h = absurd (first-none (solveChecks s source sink value flows set) n 0 first h.0)
-    go (Cannot m) h = absurd (first-none (solveChecks s source sink value flows set) n 0 first h.0)
-    go (Refused j p) h = let e = first_one (solveChecks s source sink value flows set) j p n 0 h.0 first in (ap₂ Refused e.0 e.1, h.1, h.2)
+    go Can h = absurd (first_none (solve_checks s source sink value flows set) n 0 first h.0)
+    go (Cannot m) h = absurd (first_none (solve_checks s source sink value flows set) n 0 first h.0)
+    go (Refused j p) h = let e = first_one (solve_checks s source sink value flows set) j p n 0 h.0 first in (ap₂ Refused e.0 e.1, h.1, h.2)
 
 -- ── Largest ──
 module _ {s : List ℕ} {𝓓 : Drawing} (good : Good s 𝓓) (source sink : ℕ) where
-  sought : (flows : List ℤ) (set : List ℕ) → NoneOf (endChecks (nodesOf s) source sink) → Room s flows set → NoneOf (largestChecks s source sink flows set)
-  sought flows set two room = largest-none s source sink flows set (record { sheet = good.accepted; ends-two = two; has_room = has_room s flows set room })
+  sought : (flows : List ℤ) (set : List ℕ) → NoneOf (end_checks (nodes_of s) source sink) → Room s flows set → NoneOf (largest_checks s source sink flows set)
+  sought flows set two room = largest_none s source sink flows set (record { sheet = good.accepted; ends_two = two; has_room = has_room s flows set room })
 
   -- the settings carry the value, and the set lets no more out; the next value has one proving set
-  pub largest-is : (value : ℤ) (settings : List ℤ) (words : List ℕ) → CanBy source sink value settings 𝓓 → Full source sink value words 𝓓
+  pub largest_is : (value : ℤ) (settings : List ℤ) (words : List ℕ) → CanBy source sink value settings 𝓓 → Full source sink value words 𝓓
       → CannotBy source sink (value +ℤ pos 1) words 𝓓 → LargestIs s source sink value settings words
-  largest-is value settings words by full next flows flows' set set' answer room found = go answer found
+  largest_is value settings words by full next flows flows' set set' answer room found = go answer found
     where
-      k : CanBy source sink value settings (sheetDrawing s)
-      k = on-sheet good (CanBy source sink value settings) by
+      k : CanBy source sink value settings (sheet_drawing s)
+      k = on_sheet good (CanBy source sink value settings) by
 
-      f : Full source sink value words (sheetDrawing s)
-      f = on-sheet good (Full source sink value words) full
+      f : Full source sink value words (sheet_drawing s)
+      f = on_sheet good (Full source sink value words) full
 
-      n : CannotBy source sink (value +ℤ pos 1) words (sheetDrawing s)
-      n = on-sheet good (CannotBy source sink (value +ℤ pos 1) words) next
+      n : CannotBy source sink (value +ℤ pos 1) words (sheet_drawing s)
+      n = on_sheet good (CannotBy source sink (value +ℤ pos 1) words) next
 
-      whole : NoneOf (largestChecks s source sink flows set)
+      whole : NoneOf (largest_checks s source sink flows set)
       whole = sought flows set k.ends room
 
-      ends : (source < nodesOf s) × (sink < nodesOf s)
-      ends = ends-in (nodesOf s) source sink k.ends
+      ends : (source < nodes_of s) × (sink < nodes_of s)
+      ends = ends_in (nodes_of s) source sink k.ends
 
       go : (a : LargestAnswer) → FindsLargest s source sink flows flows' set set' a
           → (a ≡ Value value) × (flows' ≡ front settings flows) × (set' ≡ front words set)
       go (Value v) h =
-          let above : value ≤ℤ v = nothing-greater s source sink flows flows' set set' whole v h value (atℤ settings) k.highest.carries in
+          let above : value ≤ℤ v = nothing_greater s source sink flows flows' set set' whole v h value (atℤ settings) k.highest.carries in
           let below : v ≤ℤ value =
           le_trans
-          (source-limits (plane s good.accepted).sound.range ends.0 ends.1
-          (ends-differ (nodesOf s) source sink k.ends) (capacityOf s) (member words) f.0 v h.1.0 h.1.1.carries)
+          (source_limits (plane s good.accepted).sound.range ends.0 ends.1
+          (ends_differ (nodes_of s) source sink k.ends) (capacity_of s) (member words) f.0 v h.1.0 h.1.1.carries)
           f.1 in
           let e : v ≡ value = le_antisym below above in
           let x = h.1.0 in
           let ws = h.2.0 in (
             ap Value e,
-            filled-front (pos 0) (edgesOf s) x settings flows flows' k.long
-                (one-highest s good.accepted source sink k.ends value x (atℤ settings)
-                (subst (λ (w : ℤ). Highest (sheetMap s) (outerOf s) (capacityOf s) source sink w x) e h.1.1) k.highest)
+            filled_front (pos 0) (edges_of s) x settings flows flows' k.long
+                (one_highest s good.accepted source sink k.ends value x (atℤ settings)
+                (subst (λ (w : ℤ). Highest (sheet_map s) (outer_of s) (capacity_of s) source sink w x) e h.1.1) k.highest)
                 h.1.2,
             set_front h.2.1
-                (n.only ws h.2.1.is_set (subst (λ (w : ℤ). Proves (sheetMap s) (capacityOf s) source sink (w +ℤ pos 1) (member ws)) e h.2.2)),
+                (n.only ws h.2.1.is_set (subst (λ (w : ℤ). Proves (sheet_map s) (capacity_of s) source sink (w +ℤ pos 1) (member ws)) e h.2.2)),
           )
-      go None h = absurd (none-delivered s source sink flows flows' set set' whole h value (atℤ settings) k.highest.carries)
-      go (largest.Refused j p) h = absurd (largest-answered s source sink flows flows' set set' whole j p h)
+      go None h = absurd (none_delivered s source sink flows flows' set set' whole h value (atℤ settings) k.highest.carries)
+      go (largest.Refused j p) h = absurd (largest_answered s source sink flows flows' set set' whole j p h)
 
-  pub largest-is-none : (words : List ℕ) → NoneBy source sink words 𝓓 → LargestNone s source sink words
-  largest-is-none words by flows flows' set set' answer room found = go answer found
+  pub largest_is_none : (words : List ℕ) → NoneBy source sink words 𝓓 → LargestNone s source sink words
+  largest_is_none words by flows flows' set set' answer room found = go answer found
     where
-      k : NoneBy source sink words (sheetDrawing s)
-      k = on-sheet good (NoneBy source sink words) by
+      k : NoneBy source sink words (sheet_drawing s)
+      k = on_sheet good (NoneBy source sink words) by
 
       go : (a : LargestAnswer) → FindsLargest s source sink flows flows' set set' a → (a ≡ None) × (flows' ≡ flows) × (set' ≡ front words set)
       go (Value v) h = absurd (excludes s good.accepted source sink k.ends v (member words) (k.proves v) h.1.0 h.1.1.carries)
       go None h = (refl, h.1, set_front h.2.1 (k.only h.2.0 h.2.1.is_set h.2.2.0 h.2.2.1))
-      go (largest.Refused j p) h = absurd (largest-answered s source sink flows flows' set set' (sought flows set k.ends room) j p h)
+      go (largest.Refused j p) h = absurd (largest_answered s source sink flows flows' set set' (sought flows set k.ends room) j p h)
 
 -- ── Levels from settings ──
-pub levels-are : {s : List ℕ} {𝓓 : Drawing} → Good s 𝓓 → (settings found : List ℤ)
+pub levels_are : {s : List ℕ} {𝓓 : Drawing} → Good s 𝓓 → (settings found : List ℤ)
     → ((more : List ℤ) → LevelsBy (settings ++ more) found 𝓓) → LevelsAre s settings found
-levels-are {s} good settings found by more levels levels' answer room given = go answer given
+levels_are {s} good settings found by more levels levels' answer room given = go answer given
   where
     flows : List ℤ
     flows = settings ++ more
 
-    k : LevelsBy (settings ++ more) found (sheetDrawing s)
-    k = on-sheet good (LevelsBy (settings ++ more) found) (by more)
+    k : LevelsBy (settings ++ more) found (sheet_drawing s)
+    k = on_sheet good (LevelsBy (settings ++ more) found) (by more)
 
-    whole : NoneOf (levelsChecks s (settings ++ more) levels)
+    whole : NoneOf (levels_checks s (settings ++ more) levels)
     whole =
-        levels-none s (settings ++ more) levels good.accepted
-        (balanced-none (sheetDrawing s) (settings ++ more) levels k.settings-long (omega (arith, k.found-long))
-        (within_none (sheetMap s) (capacityOf s) (atℤ (settings ++ more)) k.within)
-        (circulation-none (sheetMap s) (atℤ (settings ++ more)) k.balanced))
+        levels_none s (settings ++ more) levels good.accepted
+        (balanced_none (sheet_drawing s) (settings ++ more) levels k.settings_long (omega (arith, k.found_long))
+        (within_none (sheet_map s) (capacity_of s) (atℤ (settings ++ more)) k.within)
+        (circulation_none (sheet_map s) (atℤ (settings ++ more)) k.balanced))
 
     go : (a : LevelAnswer) → GivesLevels s (settings ++ more) levels levels' a → (a ≡ Done) × (levels' ≡ front found levels)
     go Done h = (
       refl,
-      filled-front (pos 0) (faces (sheetMap s)) h.1.0 found levels levels' k.found-long
-          (levels-unique s good.accepted (atℤ (settings ++ more)) h.1.0 (atℤ found) h.1.1 k.levels)
+      filled_front (pos 0) (faces (sheet_map s)) h.1.0 found levels levels' k.found_long
+          (levels_unique s good.accepted (atℤ (settings ++ more)) h.1.0 (atℤ found) h.1.1 k.levels)
           h.1.2,
     )
-    go (level.Refused j p) h = absurd (first-none (levelsChecks s (settings ++ more) levels) j p h.0 whole)
+    go (level.Refused j p) h = absurd (first_none (levels_checks s (settings ++ more) levels) j p h.0 whole)
 
 -- ── opening a sheet ──
 pub opened : {s : List ℕ} {𝓓 : Drawing} → Good s 𝓓 → (n : Network) → Opens s n n.accepted
@@ -240,14 +240,14 @@ pub opened : {s : List ℕ} {𝓓 : Drawing} → Good s 𝓓 → (n : Network) �
 opened {s} {𝓓} good n h =
     subst (λ (𝓔 : Drawing). (n.accepted ≡ true) × ((d : ℕ) → d < darts 𝓔.map → InFace n.lefts (left 𝓔.map d) d)) good.drawing (go n.accepted h)
   where
-    go : (b : Bool) → Opens s n b → (b ≡ true) × ((d : ℕ) → d < darts (sheetMap s) → InFace n.lefts (left (sheetMap s) d) d)
-    go true h = (refl, h.1.lefts-are)
-    go false h = absurd (first-none (sheetChecks s) n.refusal n.place h good.accepted)
+    go : (b : Bool) → Opens s n b → (b ≡ true) × ((d : ℕ) → d < darts (sheet_map s) → InFace n.lefts (left (sheet_map s) d) d)
+    go true h = (refl, h.1.lefts_are)
+    go false h = absurd (first_none (sheet_checks s) n.refusal n.place h good.accepted)
 
-pub refused-open : (s : List ℕ) (k : ℕ) → FirstOf (sheetChecks s) k 0
+pub refused_open : (s : List ℕ) (k : ℕ) → FirstOf (sheet_checks s) k 0
     → (n : Network) → Opens s n n.accepted → (n.accepted ≡ false) × (n.refusal ≡ k) × (n.place ≡ 0)
-refused-open s k bad n h = go n.accepted h
+refused_open s k bad n h = go n.accepted h
   where
     go : (b : Bool) → Opens s n b → (b ≡ false) × (n.refusal ≡ k) × (n.place ≡ 0)
-    go true h = absurd (first-none (sheetChecks s) k 0 bad h.0)
-    go false h = let e = first_one (sheetChecks s) n.refusal n.place k 0 h bad in (refl, e.0, e.1)
+    go true h = absurd (first_none (sheet_checks s) k 0 bad h.0)
+    go false h = let e = first_one (sheet_checks s) n.refusal n.place k 0 h bad in (refl, e.0, e.1)

@@ -9,15 +9,15 @@ use native.Mathlib.Nat.{mod-lt}
 use lib.Dec.{eqb}
 use lib.ListN.{get_or}
 use lib.Pow.{pow_pos, shr_lt, split}
-use Rattle.integers.proofs.Tests.{eqb-eq, eqb-ne, implied, every, every-at}
+use Rattle.integers.proofs.Tests.{eqb_eq, eqb_ne, implied, every, every_at}
 use Rattle.flows.specs.ProvingSet.{SetOf}
 
 -- a number of n + 1 bits whose bit n is not set has n bits
-top-clear : (n w : ℕ) → w < 2 ^ suc n → eqb (w / 2 ^ n % 2) 1 ≡ false → w < 2 ^ n
-top-clear n w h clear =
+top_clear : (n w : ℕ) → w < 2 ^ suc n → eqb (w / 2 ^ n % 2) 1 ≡ false → w < 2 ^ n
+top_clear n w h clear =
     let q = w / 2 ^ n in
     let small : q < 2 = shr_lt 1 n (subst (λ (x : ℕ). w < 2 ^ x) (omega arith) h) in
-    let none : q ≡ 0 = omega (arith, eqb-ne (q % 2) 1 clear) in
+    let none : q ≡ 0 = omega (arith, eqb_ne (q % 2) 1 clear) in
     let rest : w % 2 ^ n < 2 ^ n = mod-lt w (pow_pos n) in
     let whole : 0 * 2 ^ n + w % 2 ^ n ≡ w = subst (λ (x : ℕ). x * 2 ^ n + w % 2 ^ n ≡ w) none (split w n) in
     omega (arith, rest, whole)
@@ -31,7 +31,7 @@ bits_below (suc n) m w l h clear = go (ℕ_discrete m (suc n)) (bits_below n m w
     go (yes e) ih = subst (λ (x : ℕ). w < 2 ^ x) (sym e) h
     go (no e) ih =
         let less : m ≤ n = omega (arith, e) in
-        ih less (top-clear n w h (clear n less (omega arith))) (λ k a b. clear k a (omega arith))
+        ih less (top_clear n w h (clear n less (omega arith))) (λ k a b. clear k a (omega arith))
 
 -- a set of at most 64 nodes is one word with no more bits than nodes
 one_word : (nodes : ℕ) (words : List ℕ) → 1 ≤ nodes → nodes ≤ 64 → SetOf nodes words → (w : ℕ) × (words ≡ w ∷ []) × (w < 2 ^ nodes)
@@ -53,4 +53,4 @@ pub only_one : (nodes : ℕ) → 1 ≤ nodes → nodes ≤ 64 → (w : ℕ) (P :
 only_one nodes some few w P test seen tried words s h =
     let r = one_word nodes words some few s in
     let passed : test r.0 ≡ true = seen r.0 (subst P r.1 h) in
-    r.1 ∙ ap (λ (v : ℕ). v ∷ []) (eqb-eq r.0 w (implied (test r.0) (every-at (2 ^ nodes) (λ v. not (test v) || eqb v w) tried r.0 r.2) passed))
+    r.1 ∙ ap (λ (v : ℕ). v ∷ []) (eqb_eq r.0 w (implied (test r.0) (every_at (2 ^ nodes) (λ v. not (test v) || eqb v w) tried r.0 r.2) passed))

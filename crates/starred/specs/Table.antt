@@ -2,8 +2,8 @@
 -- order. Each says what an operation answers, and what it leaves in the slices that it is lent, of whatever
 -- length; so each is about every run of the operation, by its contract. In all of them "Headgate 0, outfall 1".
 use Rattle.std.specs.Prelude.{ℕ, ◌≤◌, ◌≡◌, true, false, List, [], ◌∷◌, ◌++◌, length, drop, ℤ, pos, negsuc}
-use Rattle.flows.specs.ProvingSet.{wordsFor}
-use Rattle.records.specs.Sheet.{nodesOf, edgesOf}
+use Rattle.flows.specs.ProvingSet.{words_for}
+use Rattle.records.specs.Sheet.{nodes_of, edges_of}
 use Rattle.sheets.specs.declared.Network.{Network}
 use Rattle.arrays.specs.At.{at}
 use Rattle.sheets.specs.Open.{Opens}
@@ -17,8 +17,8 @@ use Rattle.analyser.specs.LevelsOf.{GivesLevels}
 use Rattle.levels.specs.declared.LevelAnswer.{LevelAnswer}
 use Rattle.levels.specs.declared.LevelAnswer.TheVariants.{Done}
 use Rattle.key_text.specs.Key.{Prints}
-use Rattle.starred.specs.Drawings.{A, leastTwo, allFive, twisted, B, question}
-use Rattle.starred.specs.Texts.{canSix, cannotThirteen, refusedTwelve}
+use Rattle.starred.specs.Drawings.{A, least_two, all_five, twisted, B, question}
+use Rattle.starred.specs.Texts.{can_six, cannot_thirteen, refused_twelve}
 
 -- ── the forms of a line ──
 -- a lent slice with these elements in front, and the others as they were
@@ -27,7 +27,7 @@ front new old = new ++ drop (length new) old
 
 -- the lent slices are long enough for the sheet: a flow for each edge, and the words of a set of nodes
 abbrev pub Room : List ℕ → List ℤ → List ℕ → Type 0
-Room s flows set = (edgesOf s ≤ length flows) × (wordsFor (nodesOf s) ≤ length set)
+Room s flows set = (edges_of s ≤ length flows) × (words_for (nodes_of s) ≤ length set)
 
 -- Solve says "can" and writes these settings; the set is as it was
 abbrev pub SolveCan : List ℕ → (source sink : ℕ) → ℤ → List ℤ → Type 0
@@ -76,31 +76,31 @@ KeyPrints bytes t = (text text' : List ℕ) (n : ℕ) → Prints bytes text text
 -- ── the table ──
 pub record Starred : Type 0 where
   -- "faces {0,5}, {1,2}, {3,4}"
-  pub faces-of-A : (n : Network) → Opens A n n.accepted
+  pub faces_of_a : (n : Network) → Opens A n n.accepted
       → (n.accepted ≡ true) × (InFace n.lefts 0 0 × InFace n.lefts 0 5) × (InFace n.lefts 1 1 × InFace n.lefts 1 2)
       × (InFace n.lefts 2 3 × InFace n.lefts 2 4)
   -- "6: settings 0, 2, 4; key prints `can 6`, `0 0`, `1 2`, `2 4`, one per line"
   pub six : SolveCan A 0 1 (pos 6) (pos 0 ∷ pos 2 ∷ pos 4 ∷ [])
-  pub six-key : KeyPrints (question 0 1 (pos 6) ++ A) canSix
+  pub six_key : KeyPrints (question 0 1 (pos 6) ++ A) can_six
   -- "12: 5, 3, 4."
   pub twelve : SolveCan A 0 1 (pos 12) (pos 5 ∷ pos 3 ∷ pos 4 ∷ [])
   -- "13: cannot, set {0}, size 1; key prints `cannot 13 1`, `0`"; the set {0} is bit 0 of the one word
   pub thirteen : SolveCannot A 0 1 (pos 13) (1 ∷ []) 1
-  pub thirteen-key : KeyPrints (question 0 1 (pos 13) ++ A) cannotThirteen
+  pub thirteen_key : KeyPrints (question 0 1 (pos 13) ++ A) cannot_thirteen
   -- "0: 0, 0, 0."
   pub zero : SolveCan A 0 1 (pos 0) (pos 0 ∷ pos 0 ∷ pos 0 ∷ [])
   -- "−1: cannot, set {1}"; negsuc 0 is −1, and {1} is bit 1
   pub minus_one : SolveCannot A 0 1 (negsuc 0) (2 ∷ []) 1
   -- "largest 12, set {0}", with the settings of 12
-  pub largest-of-A : LargestIs A 0 1 (pos 12) (pos 5 ∷ pos 3 ∷ pos 4 ∷ []) (1 ∷ [])
+  pub largest_of_a : LargestIs A 0 1 (pos 12) (pos 5 ∷ pos 3 ∷ pos 4 ∷ []) (1 ∷ [])
   -- "A with back limit −2 on channel 1: 2 gives 0, 2, 0; 1: cannot, set {1}"
-  pub least-two : SolveCan leastTwo 0 1 (pos 2) (pos 0 ∷ pos 2 ∷ pos 0 ∷ [])
-  pub least-one : SolveCannot leastTwo 0 1 (pos 1) (2 ∷ []) 1
+  pub least-two : SolveCan least_two 0 1 (pos 2) (pos 0 ∷ pos 2 ∷ pos 0 ∷ [])
+  pub least_one : SolveCannot least_two 0 1 (pos 1) (2 ∷ []) 1
   -- "A with all limits 5: settings 2, 1, −3 have levels 0, −2, −3"
-  pub levels-of-five : LevelsAre allFive (pos 2 ∷ pos 1 ∷ negsuc 2 ∷ []) (pos 0 ∷ negsuc 1 ∷ negsuc 2 ∷ [])
+  pub levels_of_five : LevelsAre all_five (pos 2 ∷ pos 1 ∷ negsuc 2 ∷ []) (pos 0 ∷ negsuc 1 ∷ negsuc 2 ∷ [])
   -- "A with turns 1→3→5→1 at node 1: refused 12; key prints `refused 12`", whatever is asked of it
-  pub twisted-opened : (n : Network) → Opens twisted n n.accepted → (n.accepted ≡ false) × (n.refusal ≡ 12) × (n.place ≡ 0)
-  pub twisted-refused : (source sink : ℕ) (value : ℤ) → SolveRefused twisted source sink value 12
-  pub twisted-key : (source sink : ℕ) (value : ℤ) → KeyPrints (question source sink value ++ twisted) refusedTwelve
+  pub twisted_opened : (n : Network) → Opens twisted n n.accepted → (n.accepted ≡ false) × (n.refusal ≡ 12) × (n.place ≡ 0)
+  pub twisted_refused : (source sink : ℕ) (value : ℤ) → SolveRefused twisted source sink value 12
+  pub twisted_key : (source sink : ℕ) (value : ℤ) → KeyPrints (question source sink value ++ twisted) refused_twelve
   -- "B, 3 nodes: ..; headgate 0, outfall 1: largest is none, set {2}"; {2} is bit 2
-  pub largest-of-B : LargestNone B 0 1 (4 ∷ [])
+  pub largest_of_b : LargestNone B 0 1 (4 ∷ [])

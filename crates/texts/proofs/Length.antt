@@ -7,41 +7,41 @@ use native.Mathlib.Omega.{arith}
 use lib.ListN.{length, length-append}
 use lib.IntN.{ℤ, pos, negsuc}
 use Rattle.integers.specs.inner.Limited.{Limited}
-use Rattle.integers.proofs.Omega.{parts, from-at-most}
+use Rattle.integers.proofs.Omega.{parts, from_at_most}
 use Rattle.texts.specs.Decimal.{digit, decimal, number}
-use Rattle.texts.proofs.Digits.{decimal-one, decimal-more, by_digits, below_or_not, tenth-below}
+use Rattle.texts.proofs.Digits.{decimal_one, decimal_more, by_digits, below_or_not, tenth_below}
 
-pub length-one : (n : ℕ) → n < 10 → length (decimal n) ≡ 1
-length-one n h = ap length (decimal-one n h)
+pub length_one : (n : ℕ) → n < 10 → length (decimal n) ≡ 1
+length_one n h = ap length (decimal_one n h)
 
 pub length_more : (n : ℕ) → 10 ≤ n → length (decimal n) ≡ length (decimal (n / 10)) + 1
-length_more n h = ap length (decimal-more n h) ∙ length-append (decimal (n / 10)) (digit (n % 10) ∷ [])
+length_more n h = ap length (decimal_more n h) ∙ length-append (decimal (n / 10)) (digit (n % 10) ∷ [])
 
-pub decimal-positive : (n : ℕ) → 0 < length (decimal n)
-decimal-positive = by_digits (λ n. 0 < length (decimal n)) (λ n h. omega (arith, length-one n h)) (λ n h ih. omega (arith, length_more n h))
+pub decimal_positive : (n : ℕ) → 0 < length (decimal n)
+decimal_positive = by_digits (λ n. 0 < length (decimal n)) (λ n h. omega (arith, length_one n h)) (λ n h ih. omega (arith, length_more n h))
 
-pub decimal-length : (k n : ℕ) → n < 10 ^ suc k → length (decimal n) ≤ suc k
-decimal-length zero n h = omega (arith, length-one n h)
-decimal-length (suc k) n h =
+pub decimal_length : (k n : ℕ) → n < 10 ^ suc k → length (decimal n) ≤ suc k
+decimal_length zero n h = omega (arith, length_one n h)
+decimal_length (suc k) n h =
     ⊎_elim
-    (λ l. omega (arith, length-one n l))
-    (λ l. omega (arith, length_more n l, decimal-length k (n / 10) (tenth-below k n h)))
+    (λ l. omega (arith, length_one n l))
+    (λ l. omega (arith, length_more n l, decimal_length k (n / 10) (tenth_below k n h)))
     (below_or_not n 10)
 
-pub number-positive : (x : ℤ) → 0 < length (number x)
+pub number_positive : (x : ℤ) → 0 < length (number x)
 unfolding number
-number-positive (pos n) = decimal-positive n
-number-positive (negsuc n) = omega arith
+number_positive (pos n) = decimal_positive n
+number_positive (negsuc n) = omega arith
 
 -- from −bound to bound
-pub number-length : (k bound : ℕ) (x : ℤ) → bound < 10 ^ suc k → Limited bound x → length (number x) ≤ suc (suc k)
+pub number_length : (k bound : ℕ) (x : ℤ) → bound < 10 ^ suc k → Limited bound x → length (number x) ≤ suc (suc k)
 unfolding number
-number-length k bound (pos n) b l = omega (arith, decimal-length k n (omega (arith, from-at-most l.high (search parts))))
-number-length k bound (negsuc n) b l = omega (arith, decimal-length k (suc n) (omega (arith, from-at-most l.low (search parts))))
+number_length k bound (pos n) b l = omega (arith, decimal_length k n (omega (arith, from_at_most l.high (search parts))))
+number_length k bound (negsuc n) b l = omega (arith, decimal_length k (suc n) (omega (arith, from_at_most l.low (search parts))))
 
 -- two uses, as a caller shows that a text fits
-ten-bytes : (x : ℤ) → Limited 600000000 x → length (number x) ≤ 10
-ten-bytes x h = number-length 8 600000000 x (omega arith) h
+ten_bytes : (x : ℤ) → Limited 600000000 x → length (number x) ≤ 10
+ten_bytes x h = number_length 8 600000000 x (omega arith) h
 
-eight-bytes : (x : ℤ) → Limited 1000000 x → length (number x) ≤ 8
-eight-bytes x h = number-length 6 1000000 x (omega arith) h
+eight_bytes : (x : ℤ) → Limited 1000000 x → length (number x) ≤ 8
+eight_bytes x h = number_length 6 1000000 x (omega arith) h

@@ -8,30 +8,30 @@ use native.Mathlib.Omega.{arith}
 use lib.ListN.{length, get_or, set, take, drop, length-append, take-append-drop}
 use lib.Seq.{take-suc, append_snoc, set_at, length-take-le, sets, length-sets}
 use Rattle.fields.specs.Fields.{put}
-use Rattle.fields.proofs.Laws.{put-length, put-sets}
+use Rattle.fields.proofs.Laws.{put_length, put_sets}
 
-sets-append : (xs ys l : List ℕ) (at : ℕ) → sets l at (xs ++ ys) ≡ sets (sets l at xs) (at + length xs) ys
-sets-append [] ys l at = ap (λ k. sets l k ys) (sym (add-zero at))
-sets-append (a ∷ xs) ys l at =
+sets_append : (xs ys l : List ℕ) (at : ℕ) → sets l at (xs ++ ys) ≡ sets (sets l at xs) (at + length xs) ys
+sets_append [] ys l at = ap (λ k. sets l k ys) (sym (add-zero at))
+sets_append (a ∷ xs) ys l at =
     let place : suc at + length xs ≡ at + suc (length xs) = omega arith in
-    sets-append xs ys (set l at a) (suc at) ∙ ap (λ k. sets (sets (set l at a) (suc at) xs) k ys) place
+    sets_append xs ys (set l at a) (suc at) ∙ ap (λ k. sets (sets (set l at a) (suc at) xs) k ys) place
 
 -- put at a place, then at the place behind
-pub put-append : (at : ℕ) (xs ys l : List ℕ) → at + length xs + length ys ≤ length l → put at (xs ++ ys) l ≡ put (at + length xs) ys (put at xs l)
-put-append at xs ys l h =
-    sym (put-sets at (xs ++ ys) l (simp length-append (omega arith)))
-    ∙ sets-append xs ys l at
-    ∙ put-sets (at + length xs) ys (sets l at xs) (omega (arith, length-sets l at xs))
-    ∙ ap (put (at + length xs) ys) (put-sets at xs l (omega arith))
+pub put_append : (at : ℕ) (xs ys l : List ℕ) → at + length xs + length ys ≤ length l → put at (xs ++ ys) l ≡ put (at + length xs) ys (put at xs l)
+put_append at xs ys l h =
+    sym (put_sets at (xs ++ ys) l (simp length-append (omega arith)))
+    ∙ sets_append xs ys l at
+    ∙ put_sets (at + length xs) ys (sets l at xs) (omega (arith, length-sets l at xs))
+    ∙ ap (put (at + length xs) ys) (put_sets at xs l (omega arith))
 
-pub put-none : (at : ℕ) (l : List ℕ) → put at [] l ≡ l
+pub put_none : (at : ℕ) (l : List ℕ) → put at [] l ≡ l
 unfolding put
-put-none at l = ap (λ k. take at l ++ drop k l) (add-zero at) ∙ take-append-drop at l
+put_none at l = ap (λ k. take at l ++ drop k l) (add-zero at) ∙ take-append-drop at l
 
 -- a store before what is put
-pub put-before : (at a : ℕ) (bs l : List ℕ) → at < length l → set (put (at + 1) bs l) at a ≡ put at (a ∷ bs) l
+pub put_before : (at a : ℕ) (bs l : List ℕ) → at < length l → set (put (at + 1) bs l) at a ≡ put at (a ∷ bs) l
 unfolding put
-put-before at a bs l h =
+put_before at a bs l h =
     let rest = bs ++ drop (at + 1 + length bs) l in
     let behind : at + 1 + length bs ≡ at + suc (length bs) = omega arith in
     ap (λ t. set (t ++ rest) at a) (ap (λ k. take k l) (add-one at) ∙ take-suc l at 0 h)
@@ -45,11 +45,11 @@ put_next at i bs l h g =
     let b = get_or bs i 0 in
     let size : length (take i bs) ≡ i = length-take-le i bs (omega arith) in
     let fits : at + length (take i bs) + 1 ≤ length l = omega arith in
-    put-sets (at + i) (b ∷ []) (put at (take i bs) l) (omega (arith, put-length at (take i bs) l (omega arith)))
+    put_sets (at + i) (b ∷ []) (put at (take i bs) l) (omega (arith, put_length at (take i bs) l (omega arith)))
     ∙ ap (λ k. put (at + k) (b ∷ []) (put at (take i bs) l)) (sym size)
-    ∙ sym (put-append at (take i bs) (b ∷ []) l fits)
+    ∙ sym (put_append at (take i bs) (b ∷ []) l fits)
     ∙ ap (λ s. put at s l) (sym (ap (λ k. take k bs) (add-one i) ∙ take-suc bs i 0 g))
 
 -- a store, and the bytes behind it
-pub put-behind : (at a : ℕ) (bs l : List ℕ) → at + 1 + length bs ≤ length l → put (at + 1) bs (set l at a) ≡ put at (a ∷ bs) l
-put-behind at a bs l h = ap (put (at + 1) bs) (put-sets at (a ∷ []) l (omega arith)) ∙ sym (put-append at (a ∷ []) bs l h)
+pub put_behind : (at a : ℕ) (bs l : List ℕ) → at + 1 + length bs ≤ length l → put (at + 1) bs (set l at a) ≡ put at (a ∷ bs) l
+put_behind at a bs l h = ap (put (at + 1) bs) (put_sets at (a ∷ []) l (omega arith)) ∙ sym (put_append at (a ∷ []) bs l h)

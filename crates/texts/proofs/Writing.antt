@@ -7,11 +7,11 @@ use native.Mathlib.Omega.{arith}
 use lib.ListN.{length, set, length-append}
 use lib.Seq.{append_snoc}
 use Rattle.fields.specs.Fields.{put}
-use Rattle.fields.proofs.Laws.{put-length}
+use Rattle.fields.proofs.Laws.{put_length}
 use Rattle.texts.specs.Decimal.{digit, decimal}
-use Rattle.texts.proofs.Digits.{decimal-one, decimal-more}
-use Rattle.texts.proofs.Length.{length-one, length_more, decimal-positive}
-use Rattle.texts.proofs.Pieces.{put-none, put-before}
+use Rattle.texts.proofs.Digits.{decimal_one, decimal_more}
+use Rattle.texts.proofs.Length.{length_one, length_more, decimal_positive}
+use Rattle.texts.proofs.Pieces.{put_none, put_before}
 
 -- of the digits of n those of m are left to write, the last of them at i; `done` stands behind it
 pub record FromRight (n at : ℕ) (old : List ℕ) (m i : ℕ) (now : List ℕ) : Type 0 where
@@ -20,35 +20,35 @@ pub record FromRight (n at : ℕ) (old : List ℕ) (m i : ℕ) (now : List ℕ) 
   pub last : at + length (decimal m) ≡ i + 1
   pub bytes : now ≡ put (i + 1) done old
 
-pub right-start : (n at i : ℕ) (old : List ℕ) → at + length (decimal n) ≡ i + 1 → FromRight n at old n i old
-right-start n at i old e = record { done = []; all = append-nil (decimal n); last = e; bytes = sym (put-none (i + 1) old) }
+pub right_start : (n at i : ℕ) (old : List ℕ) → at + length (decimal n) ≡ i + 1 → FromRight n at old n i old
+right_start n at i old e = record { done = []; all = append-nil (decimal n); last = e; bytes = sym (put_none (i + 1) old) }
 
 module _ (n at : ℕ) (old : List ℕ) (fits : at + length (decimal n) ≤ length old) (m i : ℕ) (now : List ℕ) (w : FromRight n at old m i now) where
   room : i + 1 + length w.done ≤ length old
   room = omega (arith, w.last, simp length-append at (ap length w.all))
 
-  pub right-length : length now ≡ length old
-  right-length = ap length w.bytes ∙ put-length (i + 1) w.done old room
+  pub right_length : length now ≡ length old
+  right_length = ap length w.bytes ∙ put_length (i + 1) w.done old room
 
-  pub right-inside : i < length now
-  right-inside = omega (arith, right-length, room)
+  pub right_inside : i < length now
+  right_inside = omega (arith, right_length, room)
 
   -- another digit stands before the last
-  pub right-before : 10 ≤ m → at + 1 ≤ i
-  right-before h = omega (arith, w.last, length_more m h, decimal-positive (m / 10))
+  pub right_before : 10 ≤ m → at + 1 ≤ i
+  right_before h = omega (arith, w.last, length_more m h, decimal_positive (m / 10))
 
   store : (b : ℕ) → set now i b ≡ put i (b ∷ w.done) old
-  store b = ap (λ s. set s i b) w.bytes ∙ put-before i b w.done old (omega (arith, room))
+  store b = ap (λ s. set s i b) w.bytes ∙ put_before i b w.done old (omega (arith, room))
 
-  pub right-step : (b : ℕ) → b ≡ digit (m % 10) → 10 ≤ m → FromRight n at old (m / 10) (i - 1) (set now i b)
-  right-step b e h =
-      let back : i ≡ i - 1 + 1 = omega (arith, right-before h) in
+  pub right_step : (b : ℕ) → b ≡ digit (m % 10) → 10 ≤ m → FromRight n at old (m / 10) (i - 1) (set now i b)
+  right_step b e h =
+      let back : i ≡ i - 1 + 1 = omega (arith, right_before h) in
       record {
         done = b ∷ w.done;
         all =
             sym (append_snoc (decimal (m / 10)) b w.done)
             ∙ ap (λ d. decimal (m / 10) ++ (d ∷ []) ++ w.done) e
-            ∙ ap (λ s. s ++ w.done) (sym (decimal-more m h))
+            ∙ ap (λ s. s ++ w.done) (sym (decimal_more m h))
             ∙ w.all;
         last = omega (arith, w.last, length_more m h);
         bytes = store b ∙ ap (λ k. put k (b ∷ w.done) old) back;
@@ -56,8 +56,8 @@ module _ (n at : ℕ) (old : List ℕ) (fits : at + length (decimal n) ≤ lengt
 
   pub right_end : (b : ℕ) → b ≡ digit (m % 10) → m < 10 → set now i b ≡ put at (decimal n) old
   right_end b e h =
-      let place : i ≡ at = omega (arith, w.last, length-one m h) in
+      let place : i ≡ at = omega (arith, w.last, length_one m h) in
       store b
       ∙ ap (λ d. put i (d ∷ w.done) old) (e ∙ ap digit (mod-eq_of_lt h))
-      ∙ ap (λ s. put i s old) (ap (λ s. s ++ w.done) (sym (decimal-one m h)) ∙ w.all)
+      ∙ ap (λ s. put i s old) (ap (λ s. s ++ w.done) (sym (decimal_one m h)) ∙ w.all)
       ∙ ap (λ k. put k (decimal n) old) place

@@ -2,9 +2,9 @@
 use Rattle.std.specs.Prelude.{ℕ, ◌+◌, ◌-◌, ◌*◌, List, [], ◌∷◌}
 
 -- each byte is a digit more on the right of what was read before it; 48 is the digit 0
-unfoldable pub numeralOn : ℕ → List ℕ → ℕ
-numeralOn n [] = n
-numeralOn n (b ∷ bs) = numeralOn (n * 10 + (b - 48)) bs
+unfoldable pub numeral_on : ℕ → List ℕ → ℕ
+numeral_on n [] = n
+numeral_on n (b ∷ bs) = numeral_on (n * 10 + (b - 48)) bs
 
 unfoldable pub numeral : List ℕ → ℕ
-numeral bs = numeralOn 0 bs
+numeral bs = numeral_on 0 bs

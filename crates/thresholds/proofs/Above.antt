@@ -9,10 +9,10 @@ use Rattle.cuts.specs.inner.Cut.{cut_of}
 use Rattle.thresholds.specs.inner.Above.{above}
 
 -- node 0 has height 5 and node 1 has 4: at the threshold 4 the set is node 0, and at 3 it is both
-pub above-four : cut_of 2 (at (0 ∷ 1 ∷ [])) (atℤ (negsuc 0 ∷ pos 3 ∷ [])) (above (atℤ (pos 5 ∷ pos 4 ∷ [])) (pos 4)) ≡ negsuc 0
+pub above_four : cut_of 2 (at (0 ∷ 1 ∷ [])) (atℤ (negsuc 0 ∷ pos 3 ∷ [])) (above (atℤ (pos 5 ∷ pos 4 ∷ [])) (pos 4)) ≡ negsuc 0
 unfolding cut_of sum rev
-above-four = refl
+above_four = refl
 
-pub above-three : cut_of 2 (at (0 ∷ 1 ∷ [])) (atℤ (negsuc 0 ∷ pos 3 ∷ [])) (above (atℤ (pos 5 ∷ pos 4 ∷ [])) (pos 3)) ≡ pos 0
+pub above_three : cut_of 2 (at (0 ∷ 1 ∷ [])) (atℤ (negsuc 0 ∷ pos 3 ∷ [])) (above (atℤ (pos 5 ∷ pos 4 ∷ [])) (pos 3)) ≡ pos 0
 unfolding cut_of sum rev
-above-three = refl
+above_three = refl

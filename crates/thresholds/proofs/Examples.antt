@@ -4,29 +4,29 @@ use mathlib.Core.List.{[], ◌∷◌}
 use native.Mathlib.Omega.{arith}
 use lib.IntN.{pos, negsuc, neg_ℤ}
 use lib.Signed.{lt_z_yes}
-use Rattle.integers.proofs.Tests.{every, every-below, every-at-most}
+use Rattle.integers.proofs.Tests.{every, every_below, every_at_most}
 use Rattle.arrays.specs.At.{at, atℤ}
 use Rattle.thresholds.specs.inner.Choice.{Choosable}
-use Rattle.arrays.specs.inner.Sizes.{mostLength, mostHeight}
-use Rattle.thresholds.proofs.Above.{above-four}
+use Rattle.arrays.specs.inner.Sizes.{most_length, most_height}
+use Rattle.thresholds.proofs.Above.{above_four}
 
-heights-meet : Choosable 2 2 (at (0 ∷ 1 ∷ [])) (atℤ (negsuc 0 ∷ pos 3 ∷ [])) (atℤ (pos 5 ∷ pos 4 ∷ []))
+heights_meet : Choosable 2 2 (at (0 ∷ 1 ∷ [])) (atℤ (negsuc 0 ∷ pos 3 ∷ [])) (atℤ (pos 5 ∷ pos 4 ∷ []))
 unfolding every
-heights-meet =
+heights_meet =
     record {
-      few-nodes = omega arith;
-      some-node = omega arith;
-      few-darts = omega arith;
+      few_nodes = omega arith;
+      some_node = omega arith;
+      few_darts = omega arith;
       even = refl;
-      tail-in = every-below 2 (at (0 ∷ 1 ∷ [])) (λ d. 2) refl;
+      tail_in = every_below 2 (at (0 ∷ 1 ∷ [])) (λ d. 2) refl;
       short = λ d l. record {
-        low = every-at-most 2 (λ d. neg_ℤ (pos mostLength)) (atℤ (negsuc 0 ∷ pos 3 ∷ [])) refl d l;
-        high = every-at-most 2 (atℤ (negsuc 0 ∷ pos 3 ∷ [])) (λ d. pos mostLength) refl d l;
+        low = every_at_most 2 (λ d. neg_ℤ (pos most_length)) (atℤ (negsuc 0 ∷ pos 3 ∷ [])) refl d l;
+        high = every_at_most 2 (atℤ (negsuc 0 ∷ pos 3 ∷ [])) (λ d. pos most_length) refl d l;
       };
       low = λ v l. record {
-        low = every-at-most 2 (λ v. neg_ℤ (pos mostHeight)) (atℤ (pos 5 ∷ pos 4 ∷ [])) refl v l;
-        high = every-at-most 2 (atℤ (pos 5 ∷ pos 4 ∷ [])) (λ v. pos mostHeight) refl v l;
+        low = every_at_most 2 (λ v. neg_ℤ (pos most_height)) (atℤ (pos 5 ∷ pos 4 ∷ [])) refl v l;
+        high = every_at_most 2 (atℤ (pos 5 ∷ pos 4 ∷ [])) (λ v. pos most_height) refl v l;
       };
       threshold = pos 4;
-      negative = rw above-four (lt_z_yes tt);
+      negative = rw above_four (lt_z_yes tt);
     }

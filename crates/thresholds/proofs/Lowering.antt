@@ -14,8 +14,8 @@ pub record Low (nodes : ℕ) (height : ℕ → ℤ) (v : ℕ) (x : ℤ) : Type 0
   pub one : (u : ℕ) × (u < nodes) × (x ≡ height u)
 
 module _ (nodes : ℕ) (height : ℕ → ℤ) where
-  pub low-start : (x : ℤ) → 0 < nodes → x ≡ height 0 → Low nodes height 0 x
-  low-start x l e = record { all = λ u m. absurd (omega arith); one = (0, l, e) }
+  pub low_start : (x : ℤ) → 0 < nodes → x ≡ height 0 → Low nodes height 0 x
+  low_start x l e = record { all = λ u m. absurd (omega arith); one = (0, l, e) }
 
   -- the lower of x and the next height
   pub low_step : (v : ℕ) (x y z : ℤ) → v < nodes → Low nodes height v x → y ≡ height v → (z ≤ℤ x) × (z ≤ℤ y) × ((z ≡ x) ⊎ (z ≡ y)) → Low nodes height (v + 1) z

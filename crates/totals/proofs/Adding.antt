@@ -11,22 +11,22 @@ use mir.Syntax.{w32}
 use mir.Val.{SFits}
 use Rattle.integers.specs.Sum.{Integers, sumℤ}
 use Rattle.integers.specs.inner.Limited.{Limited}
-use Rattle.integers.proofs.Tests.{eqb-true, eqb-eq}
-use Rattle.integers.proofs.Sums.{sum-zero, sum-suc}
-use Rattle.integers.proofs.Limits.{limited-when, limited-sum}
-use Rattle.signed.proofs.Limits.{limited-fits}
+use Rattle.integers.proofs.Tests.{eqb_true, eqb_eq}
+use Rattle.integers.proofs.Sums.{sum_zero, sum_suc}
+use Rattle.integers.proofs.Limits.{limited_when, limited_sum}
+use Rattle.signed.proofs.Limits.{limited_fits}
 use Rattle.maps.specs.Orbit.{iter, Permutes}
 use Rattle.maps.specs.Map.{Map, darts, head}
 use Rattle.maps.specs.Check.{Sound}
-use Rattle.maps.proofs.Orbits.{iter-zero, iter-suc, iter-in, iter-keeps}
-use Rattle.arrays.specs.inner.Sizes.{mostOnSheet}
+use Rattle.maps.proofs.Orbits.{iter_zero, iter_suc, iter_in, iter_keeps}
+use Rattle.arrays.specs.inner.Sizes.{most_on_sheet}
 use Rattle.totals.specs.Subtotal.{subtotal}
-use Rattle.totals.proofs.Rounds.{Round, round-of, ahead, ahead-is, round-sum}
-use Rattle.totals.proofs.Cutting.{outward, subtotal-at}
+use Rattle.totals.proofs.Rounds.{Round, round_of, ahead, ahead_is, round_sum}
+use Rattle.totals.proofs.Cutting.{outward, subtotal_at}
 
 -- the rotation of a sound map loses no dart
 permutes : {𝓜 : Map} → Sound 𝓜 → Permutes (darts 𝓜) 𝓜.rotation
-permutes σ = record { stays = σ.range.rotation-in; apart = σ.injective }
+permutes σ = record { stays = σ.range.rotation_in; apart = σ.injective }
 
 module _ (𝓜 : Map) (c : ℕ → ℤ) (S : ℕ → Bool) (start : ℕ) where
   abbrev place : ℕ → ℕ
@@ -40,33 +40,33 @@ module _ (𝓜 : Map) (c : ℕ → ℤ) (S : ℕ → Bool) (start : ℕ) where
     pub here : place turns ≡ d
     pub added : total ≡ sumℤ turns (λ i. outward 𝓜 c S (place i))
 
-module _ {𝓜 : Map} (σ : Sound 𝓜) (c : ℕ → ℤ) (S : ℕ → Bool) {start : ℕ} (start-in : start < darts 𝓜) where
+module _ {𝓜 : Map} (σ : Sound 𝓜) (c : ℕ → ℤ) (S : ℕ → Bool) {start : ℕ} (start_in : start < darts 𝓜) where
   π : Permutes (darts 𝓜) 𝓜.rotation
   π = permutes σ
 
   round : Round (darts 𝓜) 𝓜.rotation start
-  round = round-of π start start-in
+  round = round_of π start start_in
 
-  pub set-off : {total : ℤ} {d : ℕ} → total ≡ outward 𝓜 c S start → d ≡ 𝓜.rotation start → Turning 𝓜 c S start total d
-  set-off e h = record {
+  pub set_off : {total : ℤ} {d : ℕ} → total ≡ outward 𝓜 c S start → d ≡ 𝓜.rotation start → Turning 𝓜 c S start total d
+  set_off e h = record {
     turns = 1;
     some = omega arith;
     before = λ r. r.some;
-    here = iter-suc 𝓜.rotation 0 start ∙ ap 𝓜.rotation (iter-zero 𝓜.rotation start) ∙ sym h;
+    here = iter_suc 𝓜.rotation 0 start ∙ ap 𝓜.rotation (iter_zero 𝓜.rotation start) ∙ sym h;
     added = e
-        ∙ ap (outward 𝓜 c S) (sym (iter-zero 𝓜.rotation start))
+        ∙ ap (outward 𝓜 c S) (sym (iter_zero 𝓜.rotation start))
         ∙ sym (+ℤ_idl (outward 𝓜 c S (place 𝓜 c S start 0)))
-        ∙ ap (λ z. z +ℤ outward 𝓜 c S (place 𝓜 c S start 0)) (sym (sum-zero Integers (λ i. outward 𝓜 c S (place 𝓜 c S start i))))
-        ∙ sym (sum-suc Integers 0 (λ i. outward 𝓜 c S (place 𝓜 c S start i)));
+        ∙ ap (λ z. z +ℤ outward 𝓜 c S (place 𝓜 c S start 0)) (sym (sum_zero Integers (λ i. outward 𝓜 c S (place 𝓜 c S start i))))
+        ∙ sym (sum_suc Integers 0 (λ i. outward 𝓜 c S (place 𝓜 c S start i)));
   }
 
   module _ {total : ℤ} {d : ℕ} (τ : Turning 𝓜 c S start total d) where
-    pub dart-in : d < darts 𝓜
-    dart-in = rw τ.here at (iter-in π τ.turns start start-in)
+    pub dart_in : d < darts 𝓜
+    dart_in = rw τ.here at (iter_in π τ.turns start start_in)
 
     added_more : total +ℤ outward 𝓜 c S d ≡ sumℤ (suc τ.turns) (λ i. outward 𝓜 c S (place 𝓜 c S start i))
     added_more =
-        ap₂ ◌+ℤ◌ τ.added (ap (outward 𝓜 c S) (sym τ.here)) ∙ sym (sum-suc Integers τ.turns (λ i. outward 𝓜 c S (place 𝓜 c S start i)))
+        ap₂ ◌+ℤ◌ τ.added (ap (outward 𝓜 c S) (sym τ.here)) ∙ sym (sum_suc Integers τ.turns (λ i. outward 𝓜 c S (place 𝓜 c S start i)))
 
     -- not back yet: the round goes on
     on : d ≢ start → (r : Round (darts 𝓜) 𝓜.rotation start) → τ.turns < r.size
@@ -75,16 +75,16 @@ module _ {𝓜 : Map} (σ : Sound 𝓜) (c : ℕ → ℤ) (S : ℕ → Bool) {st
         omega (arith, τ.before r, other)
 
     -- every sum on the way fits: 1,024 darts of at most 1,000,000
-    pub more-fits : d ≢ start → 𝓜.edges ≤ 512 → ((i : ℕ) → i < darts 𝓜 → Limited mostOnSheet (c i)) → SFits w32 (total +ℤ outward 𝓜 c S d)
-    more-fits ne few small =
+    pub more_fits : d ≢ start → 𝓜.edges ≤ 512 → ((i : ℕ) → i < darts 𝓜 → Limited most_on_sheet (c i)) → SFits w32 (total +ℤ outward 𝓜 c S d)
+    more_fits ne few small =
         rw added_more
-        (limited-fits (suc τ.turns * mostOnSheet) _ (omega (arith, on ne round, round.few, few))
-        (limited-sum (suc τ.turns) mostOnSheet _
-        (λ i l. limited-when (not (S (head 𝓜 (place 𝓜 c S start i)))) (small (place 𝓜 c S start i) (iter-in π i start start-in)))))
+        (limited_fits (suc τ.turns * most_on_sheet) _ (omega (arith, on ne round, round.few, few))
+        (limited_sum (suc τ.turns) most_on_sheet _
+        (λ i l. limited_when (not (S (head 𝓜 (place 𝓜 c S start i)))) (small (place 𝓜 c S start i) (iter_in π i start start_in)))))
 
-    module _ (ne : d ≢ start) {total' : ℤ} {d' : ℕ} (sum_is_lem : total' ≡ total +ℤ outward 𝓜 c S d) (next-is : d' ≡ 𝓜.rotation d) where
+    module _ (ne : d ≢ start) {total' : ℤ} {d' : ℕ} (sum_is_lem : total' ≡ total +ℤ outward 𝓜 c S d) (next_is : d' ≡ 𝓜.rotation d) where
       next_here : place 𝓜 c S start (suc τ.turns) ≡ d'
-      next_here = iter-suc 𝓜.rotation τ.turns start ∙ ap 𝓜.rotation τ.here ∙ sym next-is
+      next_here = iter_suc 𝓜.rotation τ.turns start ∙ ap 𝓜.rotation τ.here ∙ sym next_is
 
       pub turn_on : Turning 𝓜 c S start total' d'
       turn_on = record { turns = suc τ.turns; some = omega arith; before = λ r. on ne r; here = next_here; added = sum_is_lem ∙ added_more }
@@ -95,20 +95,20 @@ module _ {𝓜 : Map} (σ : Sound 𝓜) (c : ℕ → ℤ) (S : ℕ → Bool) {st
           now : ahead 𝓜.rotation start (darts 𝓜) d ≡ round.size - τ.turns
           now =
               ap (ahead 𝓜.rotation start (darts 𝓜)) (sym τ.here)
-              ∙ ahead-is round (darts 𝓜) τ.turns τ.some (τ.before round) (omega (arith, round.few))
+              ∙ ahead_is round (darts 𝓜) τ.turns τ.some (τ.before round) (omega (arith, round.few))
 
           then : ahead 𝓜.rotation start (darts 𝓜) d' ≡ round.size - suc τ.turns
           then =
               ap (ahead 𝓜.rotation start (darts 𝓜)) (sym next_here)
-              ∙ ahead-is round (darts 𝓜) (suc τ.turns) (omega arith) (on ne round) (omega (arith, round.few))
+              ∙ ahead_is round (darts 𝓜) (suc τ.turns) (omega arith) (on ne round) (omega (arith, round.few))
 
     -- back at `start` the node's darts are all added, each once
     pub turned : d ≡ start → total ≡ subtotal 𝓜 c S (𝓜.tail start)
     turned e =
         τ.added
         ∙ ap (λ k. sumℤ k (λ i. outward 𝓜 c S (place 𝓜 c S start i))) whole
-        ∙ round-sum round π start-in (λ x. eqb (𝓜.tail start) (𝓜.tail x)) members others (outward 𝓜 c S)
-        ∙ sym (subtotal-at 𝓜 c S (𝓜.tail start))
+        ∙ round_sum round π start_in (λ x. eqb (𝓜.tail start) (𝓜.tail x)) members others (outward 𝓜 c S)
+        ∙ sym (subtotal_at 𝓜 c S (𝓜.tail start))
       where
         whole : τ.turns ≡ round.size
         whole = go (ℕ_discrete τ.turns round.size)
@@ -118,9 +118,9 @@ module _ {𝓜 : Map} (σ : Sound 𝓜) (c : ℕ → ℤ) (S : ℕ → Bool) {st
             go (no q) = absurd (round.first τ.turns τ.some (omega (arith, τ.before round, q)) (τ.here ∙ e))
 
         members : (x : ℕ) → x < darts 𝓜 → eqb (𝓜.tail start) (𝓜.tail x) ≡ true → (j : ℕ) × (iter 𝓜.rotation j start ≡ x)
-        members x l h = σ.one-round start x start-in l (eqb-eq (𝓜.tail start) (𝓜.tail x) h)
+        members x l h = σ.one_round start x start_in l (eqb_eq (𝓜.tail start) (𝓜.tail x) h)
 
         others : (j : ℕ) → eqb (𝓜.tail start) (𝓜.tail (iter 𝓜.rotation j start)) ≡ true
         others j =
-            eqb-true (𝓜.tail start) (𝓜.tail (iter 𝓜.rotation j start))
-            (sym (iter-keeps (darts 𝓜) 𝓜.rotation σ.range.rotation-in 𝓜.tail σ.same-tail j start start-in))
+            eqb_true (𝓜.tail start) (𝓜.tail (iter 𝓜.rotation j start))
+            (sym (iter_keeps (darts 𝓜) 𝓜.rotation σ.range.rotation_in 𝓜.tail σ.same_tail j start start_in))

@@ -9,55 +9,55 @@ use Rattle.maps.specs.Map.{Map}
 use Rattle.maps.specs.Cut.{cut}
 use Rattle.flows.specs.ProvingSet.{member}
 use Rattle.arrays.specs.At.{atℤ}
-use Rattle.arrays.specs.Maps.{mapOf}
+use Rattle.arrays.specs.Maps.{map_of}
 use Rattle.totals.specs.Subtotal.{subtotal, total, listed}
 use Rattle.totals.specs.Totals.{subtotaled}
 
 abbrev B : Map
-B = mapOf 3 2 (0 ∷ 1 ∷ 0 ∷ 2 ∷ []) (2 ∷ 1 ∷ 0 ∷ 3 ∷ [])
+B = map_of 3 2 (0 ∷ 1 ∷ 0 ∷ 2 ∷ []) (2 ∷ 1 ∷ 0 ∷ 3 ∷ [])
 
-abbrev of-B : List ℤ
-of-B = pos 5 ∷ pos 0 ∷ pos 3 ∷ negsuc 0 ∷ []
+abbrev of_b : List ℤ
+of_b = pos 5 ∷ pos 0 ∷ pos 3 ∷ negsuc 0 ∷ []
 
 abbrev path : Map
-path = mapOf 3 3 (1 ∷ 2 ∷ 0 ∷ 1 ∷ 1 ∷ 1 ∷ []) (3 ∷ 1 ∷ 2 ∷ 4 ∷ 5 ∷ 0 ∷ [])
+path = map_of 3 3 (1 ∷ 2 ∷ 0 ∷ 1 ∷ 1 ∷ 1 ∷ []) (3 ∷ 1 ∷ 2 ∷ 4 ∷ 5 ∷ 0 ∷ [])
 
-abbrev of-path : List ℤ
-of-path = pos 1 ∷ negsuc 0 ∷ pos 2 ∷ pos 4 ∷ pos 7 ∷ pos 9 ∷ []
+abbrev of_path : List ℤ
+of_path = pos 1 ∷ negsuc 0 ∷ pos 2 ∷ pos 4 ∷ pos 7 ∷ pos 9 ∷ []
 
 abbrev lent : List ℤ
 lent = pos 90 ∷ pos 91 ∷ pos 92 ∷ pos 93 ∷ []
 
 -- nodes 0 and 2 of B: 5 leave the one, the dart between them counts for neither
-pub B-subtotals : subtotaled B (atℤ of-B) (member (5 ∷ [])) lent ≡ pos 5 ∷ pos 0 ∷ pos 92 ∷ pos 93 ∷ []
+pub b_subtotals : subtotaled B (atℤ of_b) (member (5 ∷ [])) lent ≡ pos 5 ∷ pos 0 ∷ pos 92 ∷ pos 93 ∷ []
 unfolding subtotal listed sum rev
-B-subtotals = refl
+b_subtotals = refl
 
 -- node 2 of B: a limit below zero counts as it is
-pub B-below-zero : total B (atℤ of-B) (member (4 ∷ [])) ≡ negsuc 0
+pub b_below_zero : total B (atℤ of_b) (member (4 ∷ [])) ≡ negsuc 0
 unfolding total subtotal sum rev
-B-below-zero = refl
+b_below_zero = refl
 
 -- nodes 0 and 2 of the path: nodes rise, neither the subtotals nor the lowest darts
-pub path-subtotals : subtotaled path (atℤ of-path) (member (5 ∷ [])) lent ≡ pos 2 ∷ negsuc 0 ∷ pos 92 ∷ pos 93 ∷ []
+pub path_subtotals : subtotaled path (atℤ of_path) (member (5 ∷ [])) lent ≡ pos 2 ∷ negsuc 0 ∷ pos 92 ∷ pos 93 ∷ []
 unfolding subtotal listed sum rev
-path-subtotals = refl
+path_subtotals = refl
 
 -- its node 1: both other darts, and neither of the loop
-pub path-loop : total path (atℤ of-path) (member (2 ∷ [])) ≡ pos 5
+pub path_loop : total path (atℤ of_path) (member (2 ∷ [])) ≡ pos 5
 unfolding total subtotal sum rev
-path-loop = refl
+path_loop = refl
 
 -- the same sum dart by dart
-pub path-cut : cut path (atℤ of-path) (member (2 ∷ [])) ≡ pos 5
+pub path_cut : cut path (atℤ of_path) (member (2 ∷ [])) ≡ pos 5
 unfolding cut sum rev
-path-cut = refl
+path_cut = refl
 
 -- every bit past the last node: no node is in the set, and nothing is written
-pub past-the-last : subtotaled path (atℤ of-path) (member (18446744073709551608 ∷ [])) lent ≡ lent
+pub past_the_last : subtotaled path (atℤ of_path) (member (18446744073709551608 ∷ [])) lent ≡ lent
 unfolding subtotal listed sum rev
-past-the-last = refl
+past_the_last = refl
 
-pub past-needs-none : count 3 (member (18446744073709551608 ∷ [])) ≡ 0
+pub past_needs_none : count 3 (member (18446744073709551608 ∷ [])) ≡ 0
 unfolding sum
-past-needs-none = refl
+past_needs_none = refl

@@ -11,16 +11,16 @@ use mir.Val.{SFits}
 use Rattle.integers.specs.Sum.{Integers, sum, sumℤ, when, bit, count}
 use Rattle.integers.specs.inner.Limited.{Limited}
 use Rattle.integers.proofs.Sums.{sum_more}
-use Rattle.integers.proofs.Limits.{limited-more, limited-when, limited-sum}
-use Rattle.integers.proofs.Counting.{bit_le, sum-le-size, count-le, count-lt}
-use Rattle.signed.proofs.Limits.{limited-fits, limited-fits64}
+use Rattle.integers.proofs.Limits.{limited_more, limited_when, limited_sum}
+use Rattle.integers.proofs.Counting.{bit_le, sum_le_size, count_le, count_lt}
+use Rattle.signed.proofs.Limits.{limited_fits, limited_fits64}
 use Rattle.maps.specs.Map.{Map, darts}
 use Rattle.maps.specs.Check.{InRange}
-use Rattle.arrays.specs.inner.Sizes.{mostOnSheet}
+use Rattle.arrays.specs.inner.Sizes.{most_on_sheet}
 use Rattle.totals.specs.Subtotal.{subtotal, total, listed}
 use Rattle.totals.specs.inner.Given.{Subtotaled}
-use Rattle.totals.proofs.Cutting.{subtotal-limited, total-limited}
-use Rattle.totals.proofs.Listing.{count-in, count-out, Listed, list-start, list_put, list-pass, listed-length}
+use Rattle.totals.proofs.Cutting.{subtotal_limited, total_limited}
+use Rattle.totals.proofs.Listing.{count_in, count_out, Listed, list_start, list_put, list_pass, listed_length}
 
 module _ (𝓜 : Map) (c : ℕ → ℤ) (S : ℕ → Bool) (old : List ℤ) where
   abbrev share : ℕ → ℤ
@@ -34,34 +34,34 @@ module _ (𝓜 : Map) (c : ℕ → ℤ) (S : ℕ → Bool) (old : List ℤ) wher
 
   pub fill_start : Filling old (pos 0) 0 0
   unfolding sum
-  fill_start = record { placed = refl; added = refl; written = list-start S (subtotal 𝓜 c S) old }
+  fill_start = record { placed = refl; added = refl; written = list_start S (subtotal 𝓜 c S) old }
 
   module _ {now : List ℤ} {sum : ℤ} {place n : ℕ} (φ : Filling now sum place n) where
-    pub fill-put : {now' : List ℤ} {sum' x : ℤ} → S n ≡ true → n < 𝓜.nodes → count 𝓜.nodes S ≤ length old → x ≡ subtotal 𝓜 c S n → sum' ≡ sum +ℤ x
+    pub fill_put : {now' : List ℤ} {sum' x : ℤ} → S n ≡ true → n < 𝓜.nodes → count 𝓜.nodes S ≤ length old → x ≡ subtotal 𝓜 c S n → sum' ≡ sum +ℤ x
         → now' ≡ set now place x → Filling now' sum' (place + 1) (n + 1)
-    fill-put {x = x} h l room e s p = record {
-      placed = ap (λ (k : ℕ). k + 1) φ.placed ∙ sym (count-in n S h);
+    fill_put {x = x} h l room e s p = record {
+      placed = ap (λ (k : ℕ). k + 1) φ.placed ∙ sym (count_in n S h);
       added = s ∙ ap₂ ◌+ℤ◌ φ.added (e ∙ ap (λ b. when b (subtotal 𝓜 c S n)) (sym h)) ∙ sym (sum_more Integers n share);
-      written = p ∙ list_put S (subtotal 𝓜 c S) old n now place x φ.written h φ.placed (omega (arith, room, count-lt n 𝓜.nodes S l h)) e;
+      written = p ∙ list_put S (subtotal 𝓜 c S) old n now place x φ.written h φ.placed (omega (arith, room, count_lt n 𝓜.nodes S l h)) e;
     }
 
-    pub fill-pass : S n ≡ false → Filling now sum place (n + 1)
-    fill-pass h = record {
-      placed = φ.placed ∙ sym (count-out n S h);
+    pub fill_pass : S n ≡ false → Filling now sum place (n + 1)
+    fill_pass h = record {
+      placed = φ.placed ∙ sym (count_out n S h);
       added =
           φ.added ∙ sym (+ℤ_idr (sumℤ n share)) ∙ ap (λ z. sumℤ n share +ℤ z) (ap (λ b. when b (subtotal 𝓜 c S n)) (sym h)) ∙ sym (sum_more Integers n share);
-      written = list-pass S (subtotal 𝓜 c S) old n now φ.written h;
+      written = list_pass S (subtotal 𝓜 c S) old n now φ.written h;
     }
 
-    pub place-few : place ≤ n
-    place-few = omega (arith, φ.placed, sum-le-size n (λ v. bit (S v)) (λ v l. bit_le (S v)))
+    pub place_few : place ≤ n
+    place_few = omega (arith, φ.placed, sum_le_size n (λ v. bit (S v)) (λ v l. bit_le (S v)))
 
     -- there is room for the next
     pub place_in : S n ≡ true → n < 𝓜.nodes → count 𝓜.nodes S ≤ length old → place < length old
-    place_in h l room = omega (arith, φ.placed, room, count-lt n 𝓜.nodes S l h)
+    place_in h l room = omega (arith, φ.placed, room, count_lt n 𝓜.nodes S l h)
 
-    pub same-long : n ≤ 𝓜.nodes → count 𝓜.nodes S ≤ length old → length now ≡ length old
-    same-long l room = listed-length S (subtotal 𝓜 c S) old n now φ.written (omega (arith, room, count-le n 𝓜.nodes S l))
+    pub same_long : n ≤ 𝓜.nodes → count 𝓜.nodes S ≤ length old → length now ≡ length old
+    same_long l room = listed_length S (subtotal 𝓜 c S) old n now φ.written (omega (arith, room, count_le n 𝓜.nodes S l))
 
     pub fill_end : n ≡ 𝓜.nodes → Subtotaled 𝓜 c S old now sum
     unfolding total
@@ -71,15 +71,15 @@ module _ (𝓜 : Map) (c : ℕ → ℤ) (S : ℕ → Bool) (old : List ℤ) wher
     )
 
     -- ── 1,024 subtotals, each of 1,024 darts of at most 1,000,000, fit 64 bits ──
-    module _ (few : 𝓜.edges ≤ 512) (small : (d : ℕ) → d < darts 𝓜 → Limited mostOnSheet (c d)) where
+    module _ (few : 𝓜.edges ≤ 512) (small : (d : ℕ) → d < darts 𝓜 → Limited most_on_sheet (c d)) where
       pub sum_fits : n < 𝓜.nodes → 𝓜.nodes ≤ 1024 → {x : ℤ} → S n ≡ true → x ≡ subtotal 𝓜 c S n → SFits w64 (sum +ℤ x)
-      sum_fits l few-nodes {x} h e =
+      sum_fits l few_nodes {x} h e =
           rw (ap₂ ◌+ℤ◌ φ.added (e ∙ ap (λ b. when b (subtotal 𝓜 c S n)) (sym h)) ∙ sym (sum_more Integers n share))
-          (limited-fits64 ((n + 1) * 1024000000) _ (omega arith)
-          (limited-sum (n + 1) 1024000000 share
-          (λ v m. limited-when (S v) (limited-more (omega (arith, few)) (subtotal-limited 𝓜 c S mostOnSheet small v)))))
+          (limited_fits64 ((n + 1) * 1024000000) _ (omega arith)
+          (limited_sum (n + 1) 1024000000 share
+          (λ v m. limited_when (S v) (limited_more (omega (arith, few)) (subtotal_limited 𝓜 c S most_on_sheet small v)))))
 
 -- the total fits 32
-pub total-fits : {𝓜 : Map} → InRange 𝓜 → (c : ℕ → ℤ) (S : ℕ → Bool) → 𝓜.edges ≤ 512 → ((d : ℕ) → d < darts 𝓜 → Limited mostOnSheet (c d))
+pub total_fits : {𝓜 : Map} → InRange 𝓜 → (c : ℕ → ℤ) (S : ℕ → Bool) → 𝓜.edges ≤ 512 → ((d : ℕ) → d < darts 𝓜 → Limited most_on_sheet (c d))
     → SFits w32 (total 𝓜 c S)
-total-fits {𝓜} range c S few small = limited-fits (darts 𝓜 * mostOnSheet) _ (omega (arith, few)) (total-limited 𝓜 c S mostOnSheet small range)
+total_fits {𝓜} range c S few small = limited_fits (darts 𝓜 * most_on_sheet) _ (omega (arith, few)) (total_limited 𝓜 c S most_on_sheet small range)

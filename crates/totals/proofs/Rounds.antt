@@ -9,10 +9,10 @@ use native.Mathlib.Decide.{dec_lt, ℕ_discrete}
 use lib.Dec.{eqb}
 use lib.IntN.{ℤ}
 use Rattle.integers.specs.Sum.{Integers, sumℤ, when}
-use Rattle.integers.proofs.Tests.{either, eqb-true, eqb-false}
-use Rattle.integers.proofs.Sums.{sum-ext, sum-swap, sum-pick, sum_one, sum-nil}
+use Rattle.integers.proofs.Tests.{either, eqb_true, eqb_false}
+use Rattle.integers.proofs.Sums.{sum_ext, sum_swap, sum_pick, sum_one, sum_nil}
 use Rattle.maps.specs.Orbit.{iter, Orbit, Permutes}
-use Rattle.maps.proofs.Orbits.{iter-zero, iter-suc, iter-add, iter-in, closes}
+use Rattle.maps.proofs.Orbits.{iter_zero, iter_suc, iter_add, iter_in, closes}
 
 pub record Round (n : ℕ) (next : ℕ → ℕ) (start : ℕ) : Type 0 where
   pub size : ℕ
@@ -27,8 +27,8 @@ ahead next start zero x = 0
 ahead next start (suc n) x = cond (eqb x start) 0 (suc (ahead next start n (next x)))
 
 -- every step that loses no place has a round: of the steps that come back there is a first
-pub round-of : {n : ℕ} {next : ℕ → ℕ} → Permutes n next → (start : ℕ) → start < n → Round n next start
-round-of {n} {next} π start l = let r = closes π start l in found (seek r.0) r.0 r.1 r.2 r.3
+pub round_of : {n : ℕ} {next : ℕ → ℕ} → Permutes n next → (start : ℕ) → start < n → Round n next start
+round_of {n} {next} π start l = let r = closes π start l in found (seek r.0) r.0 r.1 r.2 r.3
   where
     -- within m steps it comes back for the first time, or not at all
     Seen : ℕ → Type 0
@@ -54,20 +54,20 @@ round-of {n} {next} π start l = let r = closes π start l in found (seek r.0) r
 
 module _ {n : ℕ} {next : ℕ → ℕ} {start : ℕ} (r : Round n next start) where
   -- k steps on, what is left of the round is ahead
-  pub ahead-is : (m k : ℕ) → 0 < k → k ≤ r.size → r.size ≤ m + k → ahead next start m (iter next k start) ≡ r.size - k
+  pub ahead_is : (m k : ℕ) → 0 < k → k ≤ r.size → r.size ≤ m + k → ahead next start m (iter next k start) ≡ r.size - k
   unfolding ahead
-  ahead-is zero k a b c = omega arith
-  ahead-is (suc m) k a b c = go (ℕ_discrete k r.size) (ahead-is m (suc k))
+  ahead_is zero k a b c = omega arith
+  ahead_is (suc m) k a b c = go (ℕ_discrete k r.size) (ahead_is m (suc k))
     where
       x : ℕ
       x = iter next k start
 
       go : Dec (k ≡ r.size) → (0 < suc k → suc k ≤ r.size → r.size ≤ m + suc k → ahead next start m (iter next (suc k) start) ≡ r.size - suc k)
           → cond (eqb x start) 0 (suc (ahead next start m (next x))) ≡ r.size - k
-      go (yes e) ih = rw (eqb-true x start (ap (λ i. iter next i start) e ∙ r.back)) (omega arith)
+      go (yes e) ih = rw (eqb_true x start (ap (λ i. iter next i start) e ∙ r.back)) (omega arith)
       go (no e) ih =
-          rw (eqb-false x start (r.first k a (omega (arith, e))))
-          (omega (arith, e, ap (ahead next start m) (iter-suc next k start), ih (omega arith) (omega (arith, e)) (omega arith)))
+          rw (eqb_false x start (r.first k a (omega (arith, e))))
+          (omega (arith, e, ap (ahead next start m) (iter_suc next k start), ih (omega arith) (omega (arith, e)) (omega arith)))
 
   -- whatever the number of steps, the place is one of the first round
   pub wrap : (i : ℕ) → (m : ℕ) × (m < r.size) × (iter next i start ≡ iter next m start)
@@ -78,10 +78,10 @@ module _ {n : ℕ} {next : ℕ → ℕ} {start : ℕ} (r : Round n next start) w
       go w = on (ℕ_discrete (suc w.0) r.size)
         where
           stepped : iter next (suc i) start ≡ iter next (suc w.0) start
-          stepped = iter-suc next i start ∙ ap next w.2 ∙ sym (iter-suc next w.0 start)
+          stepped = iter_suc next i start ∙ ap next w.2 ∙ sym (iter_suc next w.0 start)
 
           on : Dec (suc w.0 ≡ r.size) → (m : ℕ) × (m < r.size) × (iter next (suc i) start ≡ iter next m start)
-          on (yes e) = (0, r.some, stepped ∙ ap (λ k. iter next k start) e ∙ r.back ∙ sym (iter-zero next start))
+          on (yes e) = (0, r.some, stepped ∙ ap (λ k. iter next k start) e ∙ r.back ∙ sym (iter_zero next start))
           on (no e) = (suc w.0, omega (arith, w.1, e), stepped)
 
   -- two places of the way round are two: from equal places the rest of the way would lead back too soon
@@ -89,7 +89,7 @@ module _ {n : ℕ} {next : ℕ → ℕ} {start : ℕ} (r : Round n next start) w
   apart i j l m e = r.first (r.size - (j - i)) (omega arith) (omega arith) (sym early ∙ r.back)
     where
       from : (k : ℕ) → iter next (r.size - j) (iter next k start) ≡ iter next ((r.size - j) + k) start
-      from k = sym (iter-add next (r.size - j) k start)
+      from k = sym (iter_add next (r.size - j) k start)
 
       early : iter next r.size start ≡ iter next (r.size - (j - i)) start
       early =
@@ -106,14 +106,14 @@ module _ {n : ℕ} {next : ℕ → ℕ} {start : ℕ} (r : Round n next start) w
       go (no l) (no m) = omega (arith, l, m)
 
   -- `b` tells the members of the orbit
-  module _ (π : Permutes n next) (start-in : start < n) (b : ℕ → Bool)
+  module _ (π : Permutes n next) (start_in : start < n) (b : ℕ → Bool)
       (members : (x : ℕ) → x < n → b x ≡ true → Orbit next start x) (others : (j : ℕ) → b (iter next j start) ≡ true) where
-    pub round-sum : (f : ℕ → ℤ) → sumℤ r.size (λ j. f (iter next j start)) ≡ sumℤ n (λ x. when (b x) (f x))
-    round-sum f =
-        sum-ext Integers r.size (λ j. f (iter next j start)) (λ j. sumℤ n (λ x. when (eqb x (iter next j start)) (f x)))
-        (λ j l. sym (sum-pick Integers n (iter next j start) f (iter-in π j start start-in)))
-        ∙ sum-swap Integers r.size n (λ j x. when (eqb x (iter next j start)) (f x))
-        ∙ sum-ext Integers n (λ x. sumℤ r.size (λ j. when (eqb x (iter next j start)) (f x))) (λ x. when (b x) (f x)) (λ x l. at x l (either (b x)))
+    pub round_sum : (f : ℕ → ℤ) → sumℤ r.size (λ j. f (iter next j start)) ≡ sumℤ n (λ x. when (b x) (f x))
+    round_sum f =
+        sum_ext Integers r.size (λ j. f (iter next j start)) (λ j. sumℤ n (λ x. when (eqb x (iter next j start)) (f x)))
+        (λ j l. sym (sum_pick Integers n (iter next j start) f (iter_in π j start start_in)))
+        ∙ sum_swap Integers r.size n (λ j x. when (eqb x (iter next j start)) (f x))
+        ∙ sum_ext Integers n (λ x. sumℤ r.size (λ j. when (eqb x (iter next j start)) (f x))) (λ x. when (b x) (f x)) (λ x l. at x l (either (b x)))
       where
         at : (x : ℕ) → x < n → (b x ≡ true) ⊎ (b x ≡ false) → sumℤ r.size (λ j. when (eqb x (iter next j start)) (f x)) ≡ when (b x) (f x)
         at x l (inl h) =
@@ -121,9 +121,9 @@ module _ {n : ℕ} {next : ℕ → ℕ} {start : ℕ} (r : Round n next start) w
             let w = wrap o.0 in
             let is : iter next w.0 start ≡ x = sym w.2 ∙ o.1 in
             sum_one Integers r.size w.0 (λ j. when (eqb x (iter next j start)) (f x)) w.1
-            (λ i m c. rw (eqb-false x (iter next i start) (λ e. c (one_place i w.0 m w.1 (sym e ∙ sym is)))))
-            ∙ rw (eqb-true x (iter next w.0 start) (sym is), h)
+            (λ i m c. rw (eqb_false x (iter next i start) (λ e. c (one_place i w.0 m w.1 (sym e ∙ sym is)))))
+            ∙ rw (eqb_true x (iter next w.0 start) (sym is), h)
         at x l (inr h) =
-            sum-nil Integers r.size (λ j. when (eqb x (iter next j start)) (f x))
-            (λ i m. rw (eqb-false x (iter next i start) (λ e. true≢false (sym (others i) ∙ ap b (sym e) ∙ h))))
+            sum_nil Integers r.size (λ j. when (eqb x (iter next j start)) (f x))
+            (λ i m. rw (eqb_false x (iter next i start) (λ e. true≢false (sym (others i) ∙ ap b (sym e) ∙ h))))
             ∙ rw h

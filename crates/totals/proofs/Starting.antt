@@ -13,9 +13,9 @@ starts_more {n} {tail} {start} {start'} σ put keep d l = go (ℕ_discrete (tail
     go : Dec (tail d ≡ tail n) → (start' (tail d) < n + 1) × (tail (start' (tail d)) ≡ tail d)
     go (yes e) = let is = ap start' e ∙ put in (omega (arith, is), ap tail is ∙ sym e)
     go (no e) =
-        let old : d < n = omega (arith, ap-ne) in
+        let old : d < n = omega (arith, ap_ne) in
         let is = keep (tail d) e in
         (omega (arith, is, (σ d old).0), ap tail is ∙ (σ d old).1)
       where
-        ap-ne : d ≡ n → ⊥
-        ap-ne q = e (ap tail q)
+        ap_ne : d ≡ n → ⊥
+        ap_ne q = e (ap tail q)

@@ -4,14 +4,14 @@ use Rattle.std.specs.Prelude.{ℕ, ◌<◌, ◌≡◌, ◌⊎◌, Bool, List, []
 use Rattle.refusals.specs.Order.{Check, ◌when◌, NoneOf, FirstOf}
 use Rattle.integers.specs.Sum.{count}
 use Rattle.maps.specs.Map.{Map}
-use Rattle.flows.specs.ProvingSet.{wordsFor, member}
+use Rattle.flows.specs.ProvingSet.{words_for, member}
 use Rattle.totals.specs.Subtotal.{subtotal, total, listed}
 use Rattle.totals.specs.declared.TotalsAnswer.{TotalsAnswer}
 use Rattle.totals.specs.declared.TotalsAnswer.TheVariants.{Total, Refused}
 
 -- 16: the set's slice is shorter than its words, or the other than the nodes in the set; bits past the last node are not counted
-unfoldable pub totalChecks : ℕ → List ℕ → List ℤ → List Check
-totalChecks nodes set out = (16 when (length set < wordsFor nodes) ⊎ (length out < count nodes (member set))) ∷ []
+unfoldable pub total_checks : ℕ → List ℕ → List ℤ → List Check
+total_checks nodes set out = (16 when (length set < words_for nodes) ⊎ (length out < count nodes (member set))) ∷ []
 
 -- what `out` is left with: the subtotals of the nodes in S, nodes rising, in its first places, and further on what was there
 abbrev pub subtotaled : Map → (ℕ → ℤ) → (ℕ → Bool) → List ℤ → List ℤ

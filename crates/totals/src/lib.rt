@@ -8,10 +8,10 @@ ghost use Rattle.maps.specs.Check.{Sound};
 ghost use Rattle.flows.specs.ProvingSet.{member};
 ghost use Rattle.node_sets.specs.inner.Words.{WordsLent};
 ghost use Rattle.arrays.specs.At.{at, atℤ};
-ghost use Rattle.arrays.specs.Maps.{mapOf};
-ghost use Rattle.arrays.specs.inner.Sizes.{mostOnSheet};
+ghost use Rattle.arrays.specs.Maps.{map_of};
+ghost use Rattle.arrays.specs.inner.Sizes.{most_on_sheet};
 ghost use Rattle.totals.specs.Subtotal.{subtotal};
-ghost use Rattle.totals.specs.Totals.{totalChecks, TotalGiven};
+ghost use Rattle.totals.specs.Totals.{total_checks, TotalGiven};
 ghost use Rattle.totals.specs.inner.Starts.{Starts};
 ghost use Rattle.totals.specs.inner.Given.{Subtotaled};
 ghost use Rattle.totals.specs.inner.Lent.{TotalsLent};
@@ -56,7 +56,7 @@ fn round_total<'a>(
     start: usize,
 ) -> i32
     requires { TotalsLent nodes edges tails.now rotations.now capacities.now set.now × (start < 2 * edges) }
-    ensures { result ≡ subtotal (mapOf nodes edges tails.now rotations.now) (atℤ capacities.now)
+    ensures { result ≡ subtotal (map_of nodes edges tails.now rotations.now) (atℤ capacities.now)
         (member set.now) (at tails.now start) }
 {
     let first = share(tails, capacities, set, start);
@@ -93,7 +93,7 @@ fn fill_subtotals<'a>(
 ) -> i64
     requires { TotalsLent nodes edges tails.now rotations.now capacities.now set.now
         × Starts (2 * edges) (at tails.now) (at starts.now) × (length subtotals.old ≡ count nodes (member set.now)) }
-    ensures { Subtotaled (mapOf nodes edges tails.now rotations.now) (atℤ capacities.now)
+    ensures { Subtotaled (map_of nodes edges tails.now rotations.now) (atℤ capacities.now)
         (member set.now) subtotals.old subtotals.new result }
 {
     let mut total: i64 = 0;
@@ -130,10 +130,10 @@ pub fn totals_of<'a>(
     set: &[u64],
     subtotals: &mut [i32],
 ) -> TotalsAnswer
-    requires { (nodes ≤ 1024) × (edges ≤ 512) × Sound (mapOf nodes edges tails.now rotations.now)
-        × ((d : ℕ) → d < 2 * edges → Limited mostOnSheet (atℤ capacities.now d)) }
-    ensures { TotalGiven (mapOf nodes edges tails.now rotations.now) (atℤ capacities.now)
-        (totalChecks nodes set.now subtotals.old)
+    requires { (nodes ≤ 1024) × (edges ≤ 512) × Sound (map_of nodes edges tails.now rotations.now)
+        × ((d : ℕ) → d < 2 * edges → Limited most_on_sheet (atℤ capacities.now d)) }
+    ensures { TotalGiven (map_of nodes edges tails.now rotations.now) (atℤ capacities.now)
+        (total_checks nodes set.now subtotals.old)
         set.now subtotals.old subtotals.new result }
 {
     let words = node_sets::words_for(nodes);

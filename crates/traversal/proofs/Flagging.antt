@@ -7,12 +7,12 @@ use native.Mathlib.Decide.{ℕ_discrete}
 use Rattle.traversal.specs.inner.Mark.{unmarked}
 use Rattle.traversal.specs.inner.Spread.{FlagsMet}
 
-pub flags-none : {tail from flag : ℕ → ℕ} → ((v : ℕ) → v < 1024 → flag v ≡ 0) → FlagsMet 0 tail from flag
-flags-none none = record { set = λ d l. absurd (omega arith); only = λ v l e. absurd (omega (arith, none v l, e)) }
+pub flags_none : {tail from flag : ℕ → ℕ} → ((v : ℕ) → v < 1024 → flag v ≡ 0) → FlagsMet 0 tail from flag
+flags_none none = record { set = λ d l. absurd (omega arith); only = λ v l e. absurd (omega (arith, none v l, e)) }
 
 module _ {n : ℕ} {tail from flag : ℕ → ℕ} (ξ : FlagsMet n tail from flag) where
-  pub flags-set : {flag' : ℕ → ℕ} → from n ≢ unmarked → flag' (tail n) ≡ 1 → ((v : ℕ) → v ≢ tail n → flag' v ≡ flag v) → FlagsMet (n + 1) tail from flag'
-  flags-set {flag'} marked put keep = record {
+  pub flags_set : {flag' : ℕ → ℕ} → from n ≢ unmarked → flag' (tail n) ≡ 1 → ((v : ℕ) → v ≢ tail n → flag' v ≡ flag v) → FlagsMet (n + 1) tail from flag'
+  flags_set {flag'} marked put keep = record {
     set = λ d l m. on d l m (ℕ_discrete d n) (ℕ_discrete (tail d) (tail n));
     only = λ v l e. of v l e (ℕ_discrete v (tail n));
   }
@@ -26,8 +26,8 @@ module _ {n : ℕ} {tail from flag : ℕ → ℕ} (ξ : FlagsMet n tail from fla
       of v l e (yes p) = (n, omega arith, sym p, marked)
       of v l e (no p) = let r = ξ.only v l (sym (keep v p) ∙ e) in (r.0, omega (arith, r.1), r.2, r.3)
 
-  pub flags-passed : from n ≡ unmarked → FlagsMet (n + 1) tail from flag
-  flags-passed none = record {
+  pub flags_passed : from n ≡ unmarked → FlagsMet (n + 1) tail from flag
+  flags_passed none = record {
     set = λ d l m. on d l m (ℕ_discrete d n);
     only = λ v l e. let r = ξ.only v l e in (r.0, omega (arith, r.1), r.2, r.3);
   }

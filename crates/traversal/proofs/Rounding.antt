@@ -6,17 +6,17 @@ use native.Mathlib.Omega.{arith}
 use native.Mathlib.Decide.{ℕ_discrete}
 use Rattle.maps.specs.Dart.{rev}
 use Rattle.maps.specs.Orbit.{Orbit}
-use Rattle.maps.proofs.Orbits.{iter-zero, iter-suc}
+use Rattle.maps.proofs.Orbits.{iter_zero, iter_suc}
 use Rattle.traversal.specs.inner.Mark.{unmarked}
 use Rattle.traversal.specs.inner.Spread.{Added}
 use Rattle.traversal.specs.inner.Forest.{Growing}
 use Rattle.traversal.specs.inner.Rounds.{Rounds}
 use Rattle.traversal.specs.inner.FirstCome.{Unround, astray, merged}
-use Rattle.traversal.proofs.Spreading.{growing-passed}
+use Rattle.traversal.proofs.Spreading.{growing_passed}
 
 -- the round of d is listed as far as p: every marked dart but p has its rotation marked, and every one but d is the rotation of a marked dart that is not p
 pub record Rounding (darts : ℕ) (tail rotation from owner : ℕ → ℕ) (d p : ℕ) : Type 0 where
-  pub first-in : d < darts
+  pub first_in : d < darts
   pub inside : p < darts
   pub met : Orbit rotation d p
   pub same : tail p ≡ tail d
@@ -28,9 +28,9 @@ pub record Rounding (darts : ℕ) (tail rotation from owner : ℕ → ℕ) (d p 
   pub came : (y : ℕ) → y < darts → from y ≢ unmarked → (y ≡ d) ⊎ ((x : ℕ) × (x < darts) × (rotation x ≡ y) × (from x ≢ unmarked) × (x ≢ p))
   pub leaves : (v : ℕ) → owner v ≢ 0 → (e : ℕ) × (e < darts) × (tail e ≡ v) × (from e ≢ unmarked)
 
-pub rounds-none : {darts : ℕ} {tail rotation from owner : ℕ → ℕ} → darts ≤ 1024 → ((y : ℕ) → y < 1024 → from y ≡ unmarked) → ((v : ℕ) → owner v ≡ 0)
+pub rounds_none : {darts : ℕ} {tail rotation from owner : ℕ → ℕ} → darts ≤ 1024 → ((y : ℕ) → y < 1024 → from y ≡ unmarked) → ((v : ℕ) → owner v ≡ 0)
     → Rounds darts tail rotation from owner
-rounds-none few none zeros = record {
+rounds_none few none zeros = record {
   held = λ y m h. absurd (h (none y (omega arith)));
   turns = λ y m h. absurd (h (none y (omega arith)));
   came = λ y m h. absurd (h (none y (omega arith)));
@@ -48,13 +48,13 @@ stay a y h e = h (sym (a.grew y h) ∙ e)
 
 module _ {darts : ℕ} {tail rotation : ℕ → ℕ} where
   -- d is listed, and its node had no round
-  pub rounding-start : {d origin end end' : ℕ} {from from' order order' owner owner' : ℕ → ℕ} → Rounds darts tail rotation from owner
+  pub rounding_start : {d origin end end' : ℕ} {from from' order order' owner owner' : ℕ → ℕ} → Rounds darts tail rotation from owner
       → d < darts → Added d origin from from' order order' end end' → from d ≡ unmarked → owner (tail d) ≡ 0 → owner' (tail d) ≡ d + 1
       → ((v : ℕ) → v ≢ tail d → owner' v ≡ owner v) → Rounding darts tail rotation from' owner' d d
-  rounding-start {d} {origin} {end} {end'} {from} {from'} {order} {order'} {owner} {owner'} ρ l a fresh none put kept = record {
-    first-in = l;
+  rounding_start {d} {origin} {end} {end'} {from} {from'} {order} {order'} {owner} {owner'} ρ l a fresh none put kept = record {
+    first_in = l;
     inside = l;
-    met = (0, iter-zero rotation d);
+    met = (0, iter_zero rotation d);
     same = refl;
     begun = a.has;
     owned = put;
@@ -69,7 +69,7 @@ module _ {darts : ℕ} {tail rotation : ℕ → ℕ} where
       held' y m (inl h) =
           let r = ρ.held y m h in
           (r.0, r.1, kept (tail y) (λ e. omega (arith, r.2, none, ap owner e)) ∙ r.2, r.3)
-      held' y m (inr e) = (d, l, ap (λ x. owner' (tail x)) e.0 ∙ put, (0, iter-zero rotation d ∙ sym e.0))
+      held' y m (inr e) = (d, l, ap (λ x. owner' (tail x)) e.0 ∙ put, (0, iter_zero rotation d ∙ sym e.0))
 
       turns' : (y : ℕ) → y < darts → Had from d end end' y → (y ≡ d) ⊎ ((from' (rotation y) ≢ unmarked) × (tail (rotation y) ≡ tail y))
       turns' y m (inl h) = let r = ρ.turns y m h in inr (stay a (rotation y) r.0, r.1)
@@ -86,10 +86,10 @@ module _ {darts : ℕ} {tail rotation : ℕ → ℕ} where
 
   module _ {d p : ℕ} {from owner : ℕ → ℕ} (ρ : Rounding darts tail rotation from owner d p) where
     -- the rotation of p is listed: it leaves the same node
-    pub rounding-on : {x end end' : ℕ} {from' order order' : ℕ → ℕ} → Added x p from from' order order' end end' → from x ≡ unmarked → x ≡ rotation p
+    pub rounding_on : {x end end' : ℕ} {from' order order' : ℕ → ℕ} → Added x p from from' order order' end end' → from x ≡ unmarked → x ≡ rotation p
         → x < darts → tail x ≡ tail d → Rounding darts tail rotation from' owner d x
-    rounding-on {x} {end} {end'} {from'} a fresh is l leave = record {
-      first-in = ρ.first-in;
+    rounding_on {x} {end} {end'} {from'} a fresh is l leave = record {
+      first_in = ρ.first_in;
       inside = l;
       met = met';
       same = leave;
@@ -103,11 +103,11 @@ module _ {darts : ℕ} {tail rotation : ℕ → ℕ} where
     }
       where
         met' : Orbit rotation d x
-        met' = let r = ρ.met in (suc r.0, iter-suc rotation r.0 d ∙ ap rotation r.1 ∙ sym is)
+        met' = let r = ρ.met in (suc r.0, iter_suc rotation r.0 d ∙ ap rotation r.1 ∙ sym is)
 
         held' : (y : ℕ) → y < darts → Had from x end end' y → (l : ℕ) × (l < darts) × (owner (tail y) ≡ l + 1) × Orbit rotation l y
         held' y m (inl h) = ρ.held y m h
-        held' y m (inr e) = (d, ρ.first-in, ap owner (ap tail e.0 ∙ leave) ∙ ρ.owned, (met'.0, met'.1 ∙ sym e.0))
+        held' y m (inr e) = (d, ρ.first_in, ap owner (ap tail e.0 ∙ leave) ∙ ρ.owned, (met'.0, met'.1 ∙ sym e.0))
 
         turns' : (y : ℕ) → y < darts → Had from x end end' y → (y ≡ x) ⊎ ((from' (rotation y) ≢ unmarked) × (tail (rotation y) ≡ tail y))
         turns' y m (inr e) = inl e.0
@@ -131,8 +131,8 @@ module _ {darts : ℕ} {tail rotation : ℕ → ℕ} where
         came' y m (inr e) = inr (p, ρ.inside, sym is ∙ sym e.0, stay a p ρ.marked, λ e. ρ.marked (ap from e ∙ fresh))
 
     -- back at d
-    pub rounding-end : rotation p ≡ d → Rounds darts tail rotation from owner
-    rounding-end back = record {
+    pub rounding_end : rotation p ≡ d → Rounds darts tail rotation from owner
+    rounding_end back = record {
       held = ρ.held;
       turns = λ y m h. turns' y (ρ.turns y m h);
       came = λ y m h. came' y (ρ.came y m h);
@@ -152,20 +152,20 @@ module _ {darts : ℕ} {tail rotation : ℕ → ℕ} where
         came' y (inr r) = (r.0, r.1, r.2, r.3)
 
     -- the rotation of p is marked, and is not d: two darts lead to it
-    pub rounding-merged : {next : ℕ} → next ≡ rotation p → next < darts → from next ≢ unmarked → (next ≡ d → ⊥) → Unround darts tail rotation
-    rounding-merged {next} is l h other = by (ρ.came next l h)
+    pub rounding_merged : {next : ℕ} → next ≡ rotation p → next < darts → from next ≢ unmarked → (next ≡ d → ⊥) → Unround darts tail rotation
+    rounding_merged {next} is l h other = by (ρ.came next l h)
       where
         by : (next ≡ d) ⊎ ((x : ℕ) × (x < darts) × (rotation x ≡ next) × (from x ≢ unmarked) × (x ≢ p)) → Unround darts tail rotation
         by (inl e) = absurd (other e)
         by (inr r) = merged r.0 p r.1 ρ.inside r.4 (r.2 ∙ is)
 
     -- the rotation of p leaves another node
-    pub rounding-astray : {next : ℕ} → next ≡ rotation p → (tail next ≡ tail d → ⊥) → Unround darts tail rotation
-    rounding-astray is other = astray p ρ.inside (λ e. other (ap tail is ∙ e ∙ ρ.same))
+    pub rounding_astray : {next : ℕ} → next ≡ rotation p → (tail next ≡ tail d → ⊥) → Unround darts tail rotation
+    rounding_astray is other = astray p ρ.inside (λ e. other (ap tail is ∙ e ∙ ρ.same))
 
 -- among whole rounds the dart at the front is passed, once its reverse is listed
-pub growing-turned : {darts : ℕ} {tail rotation : ℕ → ℕ} {first : ℕ} {order from owner : ℕ → ℕ} {front end trees back : ℕ}
+pub growing_turned : {darts : ℕ} {tail rotation : ℕ → ℕ} {first : ℕ} {order from owner : ℕ → ℕ} {front end trees back : ℕ}
     → Growing darts rotation first order from front end trees → Rounds darts tail rotation from owner → front < end
     → back ≡ rev (order front) → from back ≢ unmarked → Growing darts rotation first order from (front + 1) end trees
-growing-turned {order = order} {from = from} {front = front} ξ ρ l e h =
-    growing-passed ξ l (ρ.turns (order front) (ξ.inside front l) (ξ.marked front l)).0 (λ z. h (ap from e ∙ z))
+growing_turned {order = order} {from = from} {front = front} ξ ρ l e h =
+    growing_passed ξ l (ρ.turns (order front) (ξ.inside front l) (ξ.marked front l)).0 (λ z. h (ap from e ∙ z))

@@ -10,35 +10,35 @@ use lib.Seq.{get_or-set_same, get_or-set_other}
 use mir.Syntax.{w16}
 use mir.Val.{to_z, of_z, SFits}
 use Rattle.integers.specs.inner.Limited.{Limited}
-use Rattle.integers.proofs.Limits.{limited-plus, limited-minus}
+use Rattle.integers.proofs.Limits.{limited_plus, limited_minus}
 use Rattle.integers.proofs.Omega.{atoms₁, parts, equal, at_most}
-use Rattle.integers.proofs.Tests.{eqb-true, eqb-false}
-use Rattle.signed.proofs.Limits.{limited-fits16, same-bits16}
+use Rattle.integers.proofs.Tests.{eqb_true, eqb_false}
+use Rattle.signed.proofs.Limits.{limited_fits16, same_bits16}
 use Rattle.maps.specs.Dart.{rev}
-use Rattle.maps.proofs.Darts.{rev-apart}
+use Rattle.maps.proofs.Darts.{rev_apart}
 use Rattle.flows.specs.inner.UnitFlow.{single}
 use Rattle.arrays.specs.At.{atℤ}
 
-limited-one : Limited 1 (pos 1)
-limited-one = record { low = at_most (search parts) (omega arith); high = at_most (search parts) (omega arith) }
+limited_one : Limited 1 (pos 1)
+limited_one = record { low = at_most (search parts) (omega arith); high = at_most (search parts) (omega arith) }
 
 -- one step of the machine, on a winding so far
 module _ {x : ℤ} (h : Limited 1024 x) where
-  pub plus-read : to_z w16 (of_z w16 x) +ℤ pos 1 ≡ x +ℤ pos 1
-  plus-read = ap (λ a. a +ℤ pos 1) (same-bits16 (omega arith) h)
+  pub plus_read : to_z w16 (of_z w16 x) +ℤ pos 1 ≡ x +ℤ pos 1
+  plus_read = ap (λ a. a +ℤ pos 1) (same_bits16 (omega arith) h)
 
-  pub minus-read : to_z w16 (of_z w16 x) -ℤ pos 1 ≡ x -ℤ pos 1
-  minus-read = ap (λ a. a -ℤ pos 1) (same-bits16 (omega arith) h)
+  pub minus_read : to_z w16 (of_z w16 x) -ℤ pos 1 ≡ x -ℤ pos 1
+  minus_read = ap (λ a. a -ℤ pos 1) (same_bits16 (omega arith) h)
 
-  pub plus-fits : SFits w16 (to_z w16 (of_z w16 x) +ℤ pos 1)
-  plus-fits = subst (SFits w16) (sym plus-read) (limited-fits16 1025 (x +ℤ pos 1) (omega arith) (limited-plus h limited-one))
+  pub plus_fits : SFits w16 (to_z w16 (of_z w16 x) +ℤ pos 1)
+  plus_fits = subst (SFits w16) (sym plus_read) (limited_fits16 1025 (x +ℤ pos 1) (omega arith) (limited_plus h limited_one))
 
-  pub minus-fits : SFits w16 (to_z w16 (of_z w16 x) -ℤ pos 1)
-  minus-fits = subst (SFits w16) (sym minus-read) (limited-fits16 1025 (x -ℤ pos 1) (omega arith) (limited-minus h limited-one))
+  pub minus_fits : SFits w16 (to_z w16 (of_z w16 x) -ℤ pos 1)
+  minus_fits = subst (SFits w16) (sym minus_read) (limited_fits16 1025 (x -ℤ pos 1) (omega arith) (limited_minus h limited_one))
 
-pub crossed-once : (l : List ℤ) (p x : ℕ) (a b : ℤ) → length l ≡ 1024 → p < 1024 → x < 1024 → x ≡ rev p → a ≡ atℤ l p +ℤ pos 1 → b ≡ atℤ l x -ℤ pos 1
+pub crossed_once : (l : List ℤ) (p x : ℕ) (a b : ℤ) → length l ≡ 1024 → p < 1024 → x < 1024 → x ≡ rev p → a ≡ atℤ l p +ℤ pos 1 → b ≡ atℤ l x -ℤ pos 1
     → (length (set (set l p a) x b) ≡ 1024) × ((d : ℕ) → atℤ (set (set l p a) x b) d ≡ single p d +ℤ atℤ l d)
-crossed-once l p x a b long p-in x-in is_x is-a is_b = (long₂, λ d. go d (ℕ_discrete d x) (ℕ_discrete d p))
+crossed_once l p x a b long p_in x-in is_x is-a is_b = (long₂, λ d. go d (ℕ_discrete d x) (ℕ_discrete d p))
   where
     long₁ : length (set l p a) ≡ 1024
     long₁ = length-set l p a ∙ long
@@ -62,7 +62,7 @@ crossed-once l p x a b long p-in x-in is_x is-a is_b = (long₂, λ d. go d (ℕ
         ∙ is_b
         ∙ ap (λ y. atℤ l y -ℤ pos 1) (sym e)
         ∙ fewer (atℤ l d)
-        ∙ (rw (eqb-false d p (λ r. rev-apart p (sym is_x ∙ sym e ∙ r)), eqb-true d (rev p) (e ∙ is_x)) refl)
+        ∙ (rw (eqb_false d p (λ r. rev_apart p (sym is_x ∙ sym e ∙ r)), eqb_true d (rev p) (e ∙ is_x)) refl)
     go d (no e) (yes q) =
         get_or-set_other (set l p a) x d b (pos 0) e
         ∙ ap (atℤ (set l p a)) q
@@ -70,9 +70,9 @@ crossed-once l p x a b long p-in x-in is_x is-a is_b = (long₂, λ d. go d (ℕ
         ∙ is-a
         ∙ ap (λ y. atℤ l y +ℤ pos 1) (sym q)
         ∙ more (atℤ l d)
-        ∙ (rw (eqb-true d p q, eqb-false d (rev p) (λ r. e (r ∙ sym is_x))) refl)
+        ∙ (rw (eqb_true d p q, eqb_false d (rev p) (λ r. e (r ∙ sym is_x))) refl)
     go d (no e) (no q) =
         get_or-set_other (set l p a) x d b (pos 0) e
         ∙ get_or-set_other l p d a (pos 0) q
         ∙ same (atℤ l d)
-        ∙ (rw (eqb-false d p q, eqb-false d (rev p) (λ r. e (r ∙ sym is_x))) refl)
+        ∙ (rw (eqb_false d p q, eqb_false d (rev p) (λ r. e (r ∙ sym is_x))) refl)

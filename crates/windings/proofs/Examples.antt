@@ -16,24 +16,24 @@ right = at (1 ∷ 0 ∷ 0 ∷ 1 ∷ [])
 abbrev pub parent : ℕ → ℕ
 parent = at (0 ∷ 2 ∷ [])
 
-pub back-after-two : iter (up right parent) 2 0 ≡ 0
+pub back_after_two : iter (up right parent) 2 0 ≡ 0
 unfolding iter
-back-after-two = refl
+back_after_two = refl
 
 -- each of the two darts is crossed once, and so its reverse minus once
-pub first-forth : crossings (down right parent 2 0) 0 ≡ pos 1
+pub first_forth : crossings (down right parent 2 0) 0 ≡ pos 1
 unfolding crossings down iter rev
-first-forth = refl
+first_forth = refl
 
 pub first_back : crossings (down right parent 2 0) 1 ≡ negsuc 0
 unfolding crossings down iter rev
 first_back = refl
 
-pub second-forth : crossings (down right parent 2 0) 2 ≡ pos 1
+pub second_forth : crossings (down right parent 2 0) 2 ≡ pos 1
 unfolding crossings down iter rev
-second-forth = refl
+second_forth = refl
 
 -- a dart crossed twice, with its reverse crossed once between: 2 − 1
-pub forth-back-forth : crossings (0 ∷ 1 ∷ 0 ∷ []) 0 ≡ pos 1
+pub forth_back_forth : crossings (0 ∷ 1 ∷ 0 ∷ []) 0 ≡ pos 1
 unfolding crossings rev
-forth-back-forth = refl
+forth_back_forth = refl

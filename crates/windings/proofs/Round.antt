@@ -10,26 +10,26 @@ use lib.Dec.{eqb}
 use lib.IntN.{ℤ, pos, ◌+ℤ◌, ◌-ℤ◌}
 use Rattle.integers.specs.Sum.{when}
 use Rattle.integers.specs.inner.Limited.{Limited}
-use Rattle.integers.proofs.Limits.{limited-plus, limited-more, limited-zero}
+use Rattle.integers.proofs.Limits.{limited_plus, limited_more, limited_zero}
 use Rattle.integers.proofs.Omega.{parts, at_most}
-use Rattle.integers.proofs.Tests.{eqb-true, eqb-false}
+use Rattle.integers.proofs.Tests.{eqb_true, eqb_false}
 use Rattle.maps.specs.Dart.{rev}
 use Rattle.maps.specs.Orbit.{iter}
-use Rattle.maps.proofs.Darts.{rev-in}
+use Rattle.maps.proofs.Darts.{rev_in}
 use Rattle.flows.specs.inner.UnitFlow.{single}
 use Rattle.search.specs.Parents.{up, down}
 use Rattle.windings.specs.inner.Winding.{crossings, Round, Wound}
 
 -- one crossing changes a winding by one at most
-two-tests : (p q : Bool) → Limited 1 (when p (pos 1) -ℤ when q (pos 1))
-two-tests true true = limited-zero 1
-two-tests true false = record { low = at_most (search parts) (omega arith); high = at_most (search parts) (omega arith) }
-two-tests false true = record { low = at_most (search parts) (omega arith); high = at_most (search parts) (omega arith) }
-two-tests false false = limited-zero 1
+two_tests : (p q : Bool) → Limited 1 (when p (pos 1) -ℤ when q (pos 1))
+two_tests true true = limited_zero 1
+two_tests true false = record { low = at_most (search parts) (omega arith); high = at_most (search parts) (omega arith) }
+two_tests false true = record { low = at_most (search parts) (omega arith); high = at_most (search parts) (omega arith) }
+two_tests false false = limited_zero 1
 
 -- the darts come in pairs
-pub rev-below : (n d : ℕ) → n % 2 ≡ 0 → d < n → rev d < n
-rev-below n d even l = omega (arith, even, rev-in (n / 2) d (omega (arith, even)))
+pub rev_below : (n d : ℕ) → n % 2 ≡ 0 → d < n → rev d < n
+rev_below n d even l = omega (arith, even, rev_in (n / 2) d (omega (arith, even)))
 
 -- how many faces lie between x and y on the way up, looked for along n steps: the number of passes is no variable of the code, so the measure is found from x
 unfoldable pub between : (ℕ → ℕ) → ℕ → ℕ → ℕ → ℕ
@@ -39,18 +39,18 @@ between next y (suc n) x = cond (eqb (next x) y) 0 (suc (between next y n (next 
 pub record Walking (right parent : ℕ → ℕ) (darts y : ℕ) (winding : ℕ → ℤ) (x : ℕ) : Type 0 where
   pub passes : ℕ
   pub before : (r : Round right parent darts y) → passes < r.size
-  pub x-is : x ≡ iter (up right parent) passes y
+  pub x_is : x ≡ iter (up right parent) passes y
   pub crossed : (d : ℕ) → d < darts → winding d ≡ crossings (down right parent passes y) d
   pub limited : (d : ℕ) → d < darts → Limited passes (winding d)
 
-pub set-off : {right parent : ℕ → ℕ} {darts y : ℕ} {winding : ℕ → ℤ} → ((d : ℕ) → d < darts → winding d ≡ pos 0) → Walking right parent darts y winding y
+pub set_off : {right parent : ℕ → ℕ} {darts y : ℕ} {winding : ℕ → ℤ} → ((d : ℕ) → d < darts → winding d ≡ pos 0) → Walking right parent darts y winding y
 unfolding iter down crossings
-set-off clear = record {
+set_off clear = record {
   passes = 0;
   before = λ r. r.some;
-  x-is = refl;
+  x_is = refl;
   crossed = clear;
-  limited = λ d l. subst (Limited 0) (sym (clear d l)) (limited-zero 0);
+  limited = λ d l. subst (Limited 0) (sym (clear d l)) (limited_zero 0);
 }
 
 module _ {right parent : ℕ → ℕ} {darts y : ℕ} (r : Round right parent darts y) where
@@ -65,68 +65,68 @@ module _ {right parent : ℕ → ℕ} {darts y : ℕ} (r : Round right parent da
 
       go : Dec (suc k ≡ r.size) → (suc k < r.size → r.size ≤ n + suc k → between (up right parent) y n x ≡ r.size - suc (suc k))
           → cond (eqb x y) 0 (suc (between (up right parent) y n x)) ≡ r.size - suc k
-      go (yes e) rest = rw (eqb-true x y (ap (λ j. iter (up right parent) j y) e ∙ r.closes)) (omega arith)
+      go (yes e) rest = rw (eqb_true x y (ap (λ j. iter (up right parent) j y) e ∙ r.closes)) (omega arith)
       go (no e) rest =
-          rw (eqb-false x y (r.first (suc k) (omega arith) (omega (arith, e))))
+          rw (eqb_false x y (r.first (suc k) (omega arith) (omega (arith, e))))
           (omega (arith, e, rest (omega (arith, e)) (omega arith)))
 
   module _ {winding : ℕ → ℤ} {x : ℕ} (ω : Walking right parent darts y winding x) where
-    pub face-in : x < 1024
-    face-in = omega (arith, ω.x-is, r.inside ω.passes)
+    pub face_in : x < 1024
+    face_in = omega (arith, ω.x_is, r.inside ω.passes)
 
     pub parent_in : {p : ℕ} → p ≡ parent x → p < darts
-    parent_in e = omega (arith, e, ap parent ω.x-is, r.dart ω.passes)
+    parent_in e = omega (arith, e, ap parent ω.x_is, r.dart ω.passes)
 
-    pub few-yet : (d : ℕ) → d < darts → Limited 1024 (winding d)
-    few-yet d l = limited-more (omega (arith, ω.before r, r.few)) (ω.limited d l)
+    pub few_yet : (d : ℕ) → d < darts → Limited 1024 (winding d)
+    few_yet d l = limited_more (omega (arith, ω.before r, r.few)) (ω.limited d l)
 
     -- over the parent p of x, to the face right of it
     module _ {p x' : ℕ} (is-p : p ≡ parent x) (is_x : x' ≡ right p) where
-      next-is : x' ≡ iter (up right parent) (suc ω.passes) y
+      next_is : x' ≡ iter (up right parent) (suc ω.passes) y
       unfolding iter
-      next-is = is_x ∙ ap right is-p ∙ ap (up right parent) ω.x-is
+      next_is = is_x ∙ ap right is-p ∙ ap (up right parent) ω.x_is
 
       goes_on : x' ≢ y → (s : Round right parent darts y) → suc ω.passes < s.size
       goes_on other s =
-          let ne : suc ω.passes ≡ s.size → ⊥ = λ e. other (next-is ∙ ap (λ j. iter (up right parent) j y) e ∙ s.closes) in
+          let ne : suc ω.passes ≡ s.size → ⊥ = λ e. other (next_is ∙ ap (λ j. iter (up right parent) j y) e ∙ s.closes) in
           omega (arith, ω.before s, ne)
 
       module _ {winding' : ℕ → ℤ} (stepped : (d : ℕ) → winding' d ≡ single p d +ℤ winding d) where
-        crossed-more : (d : ℕ) → d < darts → winding' d ≡ crossings (down right parent (suc ω.passes) y) d
+        crossed_more : (d : ℕ) → d < darts → winding' d ≡ crossings (down right parent (suc ω.passes) y) d
         unfolding down crossings
-        crossed-more d l = stepped d ∙ ap₂ (λ q z. single q d +ℤ z) (is-p ∙ ap parent ω.x-is) (ω.crossed d l)
+        crossed_more d l = stepped d ∙ ap₂ (λ q z. single q d +ℤ z) (is-p ∙ ap parent ω.x_is) (ω.crossed d l)
 
-        limited-still : (d : ℕ) → d < darts → Limited (suc ω.passes) (winding' d)
-        limited-still d l =
+        limited_still : (d : ℕ) → d < darts → Limited (suc ω.passes) (winding' d)
+        limited_still d l =
             subst (Limited (suc ω.passes)) (sym (stepped d))
-            (limited-more (omega arith) (limited-plus (two-tests (eqb d p) (eqb d (rev p))) (ω.limited d l)))
+            (limited_more (omega arith) (limited_plus (two_tests (eqb d p) (eqb d (rev p))) (ω.limited d l)))
 
-        pub walk-on : x' ≢ y → Walking right parent darts y winding' x'
-        walk-on other = record {
+        pub walk_on : x' ≢ y → Walking right parent darts y winding' x'
+        walk_on other = record {
           passes = suc ω.passes;
           before = goes_on other;
-          x-is = next-is;
-          crossed = crossed-more;
-          limited = limited-still;
+          x_is = next_is;
+          crossed = crossed_more;
+          limited = limited_still;
         }
 
         -- back at y the round is whole, whichever way it is known to close
         pub walk_end : x' ≡ y → Wound right parent darts y winding'
         walk_end back = record {
-          crossed = λ s d l. crossed-more d l ∙ ap (λ j. crossings (down right parent j y) d) (whole s);
-          limited = λ d l. limited-more (omega (arith, ω.before r, r.few)) (limited-still d l);
+          crossed = λ s d l. crossed_more d l ∙ ap (λ j. crossings (down right parent j y) d) (whole s);
+          limited = λ d l. limited_more (omega (arith, ω.before r, r.few)) (limited_still d l);
         }
           where
             whole : (s : Round right parent darts y) → suc ω.passes ≡ s.size
             whole s =
-                let closed : suc ω.passes < s.size → ⊥ = λ l. s.first (suc ω.passes) (omega arith) l (sym next-is ∙ back) in
+                let closed : suc ω.passes < s.size → ⊥ = λ l. s.first (suc ω.passes) (omega arith) l (sym next_is ∙ back) in
                 omega (arith, ω.before s, closed)
 
       pub nearer : x' ≢ y → between (up right parent) y 1024 x' < between (up right parent) y 1024 x
       nearer other = omega (arith, here, there, goes_on other r)
         where
           here : between (up right parent) y 1024 x ≡ r.size - suc ω.passes
-          here = ap (between (up right parent) y 1024) ω.x-is ∙ between_is 1024 ω.passes (ω.before r) (omega (arith, r.few))
+          here = ap (between (up right parent) y 1024) ω.x_is ∙ between_is 1024 ω.passes (ω.before r) (omega (arith, r.few))
 
           there : between (up right parent) y 1024 x' ≡ r.size - suc (suc ω.passes)
-          there = ap (between (up right parent) y 1024) next-is ∙ between_is 1024 (suc ω.passes) (goes_on other r) (omega (arith, r.few))
+          there = ap (between (up right parent) y 1024) next_is ∙ between_is 1024 (suc ω.passes) (goes_on other r) (omega (arith, r.few))

@@ -14,7 +14,7 @@ use Rattle.maps.specs.Dart.{rev}
 use Rattle.maps.specs.Map.{Map, darts}
 use Rattle.maps.specs.inner.FaceWalk.{FaceWalk}
 use Rattle.maps.specs.inner.FaceWalk as faceWalk
-use Rattle.maps.proofs.Darts.{eqb-rev}
+use Rattle.maps.proofs.Darts.{eqb_rev}
 use Rattle.maps.proofs.Rings.{times, winding}
 use Rattle.flows.specs.inner.UnitFlow.{single}
 use Rattle.search.specs.Dual.{Dual}
@@ -26,7 +26,7 @@ use Rattle.windings.specs.inner.Winding.{crossings, Round, Wound}
 
 -- one crossing more, of d, as the dart i counts it: a times forth and b times back before
 one_more : (d i a b : ℕ) → pos (bit (eqb i d) + a) -ℤ pos (bit (eqb (rev i) d) + b) ≡ single d i +ℤ (pos a -ℤ pos b)
-one_more d i a b = ap (λ t. pos (bit (eqb i d) + a) -ℤ pos (bit t + b)) (eqb-rev i d) ∙ split (eqb i d) (eqb i (rev d))
+one_more d i a b = ap (λ t. pos (bit (eqb i d) + a) -ℤ pos (bit t + b)) (eqb_rev i d) ∙ split (eqb i d) (eqb i (rev d))
   where
     split : (p q : Bool) → pos (bit p + a) -ℤ pos (bit q + b) ≡ (when p (pos 1) -ℤ when q (pos 1)) +ℤ (pos a -ℤ pos b)
     split true true = equal (search parts) (omega arith)
@@ -35,21 +35,21 @@ one_more d i a b = ap (λ t. pos (bit (eqb i d) + a) -ℤ pos (bit t + b)) (eqb-
     split false false = equal (search parts) (omega arith)
 
 -- darts crossed in turn, as a walk over faces of the same length and winding
-crossed-walk : {N : Dual} {𝓜 : Map} → OfMap N 𝓜 → {e f g : ℕ} {ds : List ℕ} → e ≡ f → Crossing N f g ds
+crossed_walk : {N : Dual} {𝓜 : Map} → OfMap N 𝓜 → {e f g : ℕ} {ds : List ℕ} → e ≡ f → Crossing N f g ds
     → (w : FaceWalk 𝓜 e g) × (faceWalk.total N.length w ≡ total N.length ds) × ((i : ℕ) → winding w i ≡ crossings ds i)
 unfolding total faceWalk.total winding times crossings
-crossed-walk of q stay = rw q (faceWalk.stay, refl, λ i. refl)
-crossed-walk {N} {𝓜} of q (cross d l e r) =
-    let d-in : d < darts 𝓜 = omega (arith, of.darts-are) in
-    let w = crossed-walk of (sym (of.left_is d d-in)) r in (
-      faceWalk.cross d d-in (sym (of.right_is d d-in) ∙ e ∙ sym q) w.0,
+crossed_walk of q stay = rw q (faceWalk.stay, refl, λ i. refl)
+crossed_walk {N} {𝓜} of q (cross d l e r) =
+    let d_in : d < darts 𝓜 = omega (arith, of.darts_are) in
+    let w = crossed_walk of (sym (of.left_is d d_in)) r in (
+      faceWalk.cross d d_in (sym (of.right_is d d_in) ∙ e ∙ sym q) w.0,
       ap (λ z. N.length d +ℤ z) w.1,
       λ i. one_more d i (times w.0 i) (times w.0 (rev i)) ∙ ap (λ z. single d i +ℤ z) (w.2 i),
     )
 
 -- what `fill_winding` requires
-abbrev pub round-of : {N : Dual} {parent : ℕ → ℕ} {y : ℕ} → N.faces ≤ 1024 → ParentRing N parent y → Round N.right parent N.darts y
-round-of few ρ = record {
+abbrev pub round_of : {N : Dual} {parent : ℕ → ℕ} {y : ℕ} → N.faces ≤ 1024 → ParentRing N parent y → Round N.right parent N.darts y
+round_of few ρ = record {
   size = ρ.size;
   some = ρ.some;
   few = omega (arith, ρ.few);
@@ -60,9 +60,9 @@ round-of few ρ = record {
 }
 
 -- what it leaves
-pub ring-wound : {N : Dual} {𝓜 : Map} → OfMap N 𝓜 → N.faces ≤ 1024 → {parent : ℕ → ℕ} {y : ℕ} → ParentRing N parent y
+pub ring_wound : {N : Dual} {𝓜 : Map} → OfMap N 𝓜 → N.faces ≤ 1024 → {parent : ℕ → ℕ} {y : ℕ} → ParentRing N parent y
     → {wd : ℕ → ℤ} → Wound N.right parent N.darts y wd
     → (w : FaceWalk 𝓜 y y) × (faceWalk.total N.length w <ℤ pos 0) × ((d : ℕ) → d < N.darts → wd d ≡ winding w d)
-ring-wound of few ρ wound =
-    let r = crossed-walk of refl (ring_of ρ).closed in
-    (r.0, rw r.1 ρ.negative, λ d l. wound.crossed (round-of few ρ) d l ∙ sym (r.2 d))
+ring_wound of few ρ wound =
+    let r = crossed_walk of refl (ring_of ρ).closed in
+    (r.0, rw r.1 ρ.negative, λ d l. wound.crossed (round_of few ρ) d l ∙ sym (r.2 d))

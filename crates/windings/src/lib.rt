@@ -3,7 +3,7 @@ ghost use Rattle.std.specs.Prelude.{◌≡◌, ℕ, ◌<◌, ◌≤◌, ◌%◌,
 ghost use Rattle.integers.specs.inner.Limited.{Limited};
 ghost use Rattle.maps.specs.Dart.{rev};
 ghost use Rattle.flows.specs.inner.UnitFlow.{single};
-ghost use Rattle.arrays.specs.Maps.{rightOf};
+ghost use Rattle.arrays.specs.Maps.{right_of};
 ghost use Rattle.arrays.specs.At.{at, atℤ};
 ghost use Rattle.windings.specs.inner.Winding.{Round, Wound};
 
@@ -26,9 +26,9 @@ pub fn fill_winding(
     winding: &mut [i16; 1024],
 )
     requires { (length winding.old ≡ 1024) × (darts ≤ 1024) × (darts % 2 ≡ 0)
-        × Round (rightOf lefts.now) (at parents.now) darts y × ((d : ℕ) → atℤ winding.old d ≡ pos 0) }
+        × Round (right_of lefts.now) (at parents.now) darts y × ((d : ℕ) → atℤ winding.old d ≡ pos 0) }
     ensures { (length winding.new ≡ 1024)
-        × Wound (rightOf lefts.now) (at parents.now) darts y (atℤ winding.new) }
+        × Wound (right_of lefts.now) (at parents.now) darts y (atℤ winding.new) }
 {
     let mut x = y;
     loop {

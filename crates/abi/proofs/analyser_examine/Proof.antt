@@ -3,7 +3,7 @@ use mathlib.Core.Path.{◌≡◌, refl}
 use mathlib.Core.List.{List}
 use Prim.Native.Nat.{ℕ}
 use borrow.Author.Rules.{rules}
-use Rattle.signed.proofs.Laws.{number-of-bits}
+use Rattle.signed.proofs.Laws.{number_of_bits}
 use Rattle.desk.specs.Class.{Examines}
 use Rattle.desk.specs.declared.Class.{Class}
 use Rattle.desk.specs.declared.Class.TheVariants.{Empty, Marked, Refused}
@@ -20,27 +20,27 @@ points' c = c.examine.new.1.1.1.1.1.1.1.1.0
 found : (c : tie.After-examine) (answer : Class) → c.examine.result ≡ answer
     → Examines (start c).args.sheet.now (start c).args.source (start c).args.sink (start c).args.value (start c).args.claims.now
     (start c).args.kinds.now (start c).args.settings.now (start c).args.sets.now (start c).args.points.now (points' c) answer
-found c answer e = rw (number-of-bits _ (start c).ranges.value, e) at c.examine.ensures
+found c answer e = rw (number_of_bits _ (start c).ranges.value, e) at c.examine.ensures
 
 returns : tie.Need-returns
 returns c = (
   Empty,
   found c.before.before.before.before Empty c.enum_told.given.1,
-  record { result-told = refl; number-told = refl; sum_told = refl; least-told = refl; greatest-told = refl; place-told = refl },
+  record { result_told = refl; number-told = refl; sum_told = refl; least_told = refl; greatest_told = refl; place_told = refl },
 )
 
 returns-2 : tie.Need-returns-2
 returns-2 c = (
   Marked _ _ _ _,
   found c.before.before.before.before.before (Marked _ _ _ _) c.before.class.given.1,
-  record { result-told = refl; number-told = refl; sum_told = refl; least-told = refl; greatest-told = refl; place-told = refl },
+  record { result_told = refl; number-told = refl; sum_told = refl; least_told = refl; greatest_told = refl; place_told = refl },
 )
 
 returns-3 : tie.Need-returns-3
 returns-3 c = (
   Refused _ _,
   found c.before.before.before.before.before (Refused _ _) c.before.class2.given.1,
-  record { result-told = refl; number-told = refl; sum_told = refl; least-told = refl; greatest-told = refl; place-told = refl },
+  record { result_told = refl; number-told = refl; sum_told = refl; least_told = refl; greatest_told = refl; place_told = refl },
 )
 
 pub analyser-examine-spec : {M : Type 1} → statement M

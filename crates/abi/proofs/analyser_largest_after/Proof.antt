@@ -4,7 +4,7 @@ use mathlib.Core.List.{List}
 use Prim.Native.Nat.{ℕ}
 use lib.IntN.{ℤ}
 use borrow.Author.Rules.{rules}
-use Rattle.signed.proofs.Laws.{number-of-bits}
+use Rattle.signed.proofs.Laws.{number_of_bits}
 use Rattle.analyser.specs.After.{FindsAfter}
 use Rattle.questions.specs.declared.LargestAnswer.{LargestAnswer}
 use Rattle.questions.specs.declared.LargestAnswer.TheVariants.{Value, None, Refused}
@@ -33,7 +33,7 @@ returns : tie.Need-returns
 returns c = (
   Value _,
   found c.before.before.before.before.before.before.before (Value _) c.before.answer.given.1,
-  (refl, refl, number-of-bits _ (record { sfits = c.known-told.given.0.1 }), refl),
+  (refl, refl, number_of_bits _ (record { sfits = c.known-told.given.0.1 }), refl),
 )
 
 returns-2 : tie.Need-returns-2

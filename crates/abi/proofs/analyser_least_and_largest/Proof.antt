@@ -4,7 +4,7 @@ use mathlib.Core.List.{List}
 use Prim.Native.Nat.{ℕ}
 use lib.IntN.{ℤ}
 use borrow.Author.Rules.{rules}
-use Rattle.signed.proofs.Laws.{number-of-bits}
+use Rattle.signed.proofs.Laws.{number_of_bits}
 use Rattle.analyser.specs.Range.{FindsRange}
 use Rattle.ranges.specs.declared.RangeAnswer.{RangeAnswer}
 use Rattle.ranges.specs.declared.RangeAnswer.TheVariants.{Values, None, Refused}
@@ -15,21 +15,21 @@ abbrev start : tie.After-least-and-largest → tie.Start
 start c = c.before.before.before.before.before.before.before.before
 
 abbrev low' : tie.After-least-and-largest → List ℤ
-low' c = c.least-and-largest.last.1.1.1.0
+low' c = c.least_and_largest.last.1.1.1.0
 
 abbrev below' : tie.After-least-and-largest → List ℕ
-below' c = c.least-and-largest.last.1.1.1.1.0
+below' c = c.least_and_largest.last.1.1.1.1.0
 
 abbrev high' : tie.After-least-and-largest → List ℤ
-high' c = c.least-and-largest.last.1.1.1.1.1.0
+high' c = c.least_and_largest.last.1.1.1.1.1.0
 
 abbrev above' : tie.After-least-and-largest → List ℕ
-above' c = c.least-and-largest.last.1.1.1.1.1.1.0
+above' c = c.least_and_largest.last.1.1.1.1.1.1.0
 
-found : (c : tie.After-least-and-largest) (answer : RangeAnswer) → c.least-and-largest.result ≡ answer
+found : (c : tie.After-least-and-largest) (answer : RangeAnswer) → c.least_and_largest.result ≡ answer
     → FindsRange (start c).args.sheet.now (start c).args.source (start c).args.sink (start c).args.low.now (low' c)
     (start c).args.below.now (below' c) (start c).args.high.now (high' c) (start c).args.above.now (above' c) answer
-found c answer e = rw e at c.least-and-largest.ensures
+found c answer e = rw e at c.least_and_largest.ensures
 
 returns : tie.Need-returns
 returns c = (
@@ -38,8 +38,8 @@ returns c = (
   (
     refl,
     refl,
-    number-of-bits _ (record { sfits = c.known-told.given.0.1 }),
-    number-of-bits _ (record { sfits = c.known-told.given.1.0.1 }),
+    number_of_bits _ (record { sfits = c.known-told.given.0.1 }),
+    number_of_bits _ (record { sfits = c.known-told.given.1.0.1 }),
     refl,
   ),
 )

@@ -1,7 +1,7 @@
 -- Each arm of the match has what Mark ensures of its answer, and tells it. The value fits 32 bits, as a field of the answer does.
 use mathlib.Core.Path.{◌≡◌, refl}
 use borrow.Author.Rules.{rules}
-use Rattle.signed.proofs.Laws.{number-of-bits}
+use Rattle.signed.proofs.Laws.{number_of_bits}
 use Rattle.analyser.specs.Mark.{Marks}
 use Rattle.questions.specs.declared.MarkAnswer.{MarkAnswer}
 use Rattle.questions.specs.declared.MarkAnswer.TheVariants.{Value, Refused}
@@ -19,7 +19,7 @@ returns : tie.Need-returns
 returns c = (
   Value _,
   found c.before.before.before (Value _) c.before.answer.given.1,
-  (refl, number-of-bits _ (record { sfits = c.known-told.given.0.1 }), refl),
+  (refl, number_of_bits _ (record { sfits = c.known-told.given.0.1 }), refl),
 )
 
 returns-2 : tie.Need-returns-2

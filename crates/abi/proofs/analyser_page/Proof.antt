@@ -5,10 +5,10 @@ use native.Mathlib.Omega.{arith}
 use lib.IntN.{ℤ}
 use borrow.Author.Rules.{rules}
 use Rattle.analyser.specs.Page.{AnswersPage}
-use Rattle.pages.specs.Question.{questionIn}
+use Rattle.pages.specs.Question.{question_in}
 use Rattle.analyser.specs.inner.Named.{PageNamed}
-use Rattle.analyser.proofs.Lines.{page-listed, page-named-listed}
-use Rattle.abi.proofs.Paging.{page-few, told-passed, told-refused}
+use Rattle.analyser.proofs.Lines.{page_listed, page_named_listed}
+use Rattle.abi.proofs.Paging.{page_few, told_passed, told_refused}
 use Rattle.abi.proofs.analyser_page.Statement.{statement}
 use Rattle.abi.proofs.analyser_page.Tie as tie
 
@@ -23,37 +23,37 @@ sets' c = c.page-of.new.1.1.1.0
 
 -- what `page_of` ensures of the list is said of the questions in the arrays
 listed : (c : tie.After-page-of) → AnswersPage (begun c).args.sheet.now (begun c).args.count
-    (questionIn (begun c).args.sources.now (begun c).args.sinks.now (begun c).args.values.now) (begun c).args.flows.now (flows' c)
+    (question_in (begun c).args.sources.now (begun c).args.sinks.now (begun c).args.values.now) (begun c).args.flows.now (flows' c)
     (begun c).args.sets.now (sets' c) c.page-of.result
 listed c =
-    page-listed (begun c).args.sheet.now (begun c).args.count
-    (questionIn (begun c).args.sources.now (begun c).args.sinks.now (begun c).args.values.now)
+    page_listed (begun c).args.sheet.now (begun c).args.count
+    (question_in (begun c).args.sources.now (begun c).args.sinks.now (begun c).args.values.now)
     c.before.before.before.list-from.result c.before.before.before.list-from.ensures (begun c).args.flows.now (flows' c)
     (begun c).args.sets.now (sets' c) c.page-of.result c.page-of.ensures.0
 
 -- and its sets are those that the search names
 named : (c : tie.After-page-of) → PageNamed (begun c).args.sheet.now (begun c).args.count
-    (questionIn (begun c).args.sources.now (begun c).args.sinks.now (begun c).args.values.now) (sets' c) c.page-of.result
+    (question_in (begun c).args.sources.now (begun c).args.sinks.now (begun c).args.values.now) (sets' c) c.page-of.result
 named c =
-    page-named-listed (begun c).args.sheet.now (begun c).args.count
-    (questionIn (begun c).args.sources.now (begun c).args.sinks.now (begun c).args.values.now)
+    page_named_listed (begun c).args.sheet.now (begun c).args.count
+    (question_in (begun c).args.sources.now (begun c).args.sinks.now (begun c).args.values.now)
     c.before.before.before.list-from.result c.before.before.before.list-from.ensures (begun c).args.flows.now (flows' c)
     (begun c).args.sets.now (sets' c) c.page-of.result c.page-of.ensures.0 c.page-of.ensures.1
 
 returns : tie.Need-returns
 returns c =
     let k = c.before.before.before.before.before.before in
-    (k.page-of.result, listed k, named k, told-refused (begun k).args.count k.page-of.result _ _ c.before.verdict.given.1 _ _ _)
+    (k.page-of.result, listed k, named k, told_refused (begun k).args.count k.page-of.result _ _ c.before.verdict.given.1 _ _ _)
 
 tell-numbers-requires : tie.Need-tell-numbers-requires
 tell-numbers-requires c κs =
     let k = c.before.before.before.before.before.before in
-    (page-few _ _ _ _ _ _ _ k.page-of.result (listed k) c.before.enum_told.given.1, omega (arith, c.tell-numbers-arg.given.0.1))
+    (page_few _ _ _ _ _ _ _ k.page-of.result (listed k) c.before.enum_told.given.1, omega (arith, c.tell-numbers-arg.given.0.1))
 
 tell-sizes-requires : tie.Need-tell-sizes-requires
 tell-sizes-requires c κs =
     let k = c.before.before.before.before.before.before.before.before in
-    (page-few _ _ _ _ _ _ _ k.page-of.result (listed k) c.before.before.before.enum_told.given.1, omega (arith, c.tell-sizes-arg.given.0.1))
+    (page_few _ _ _ _ _ _ _ k.page-of.result (listed k) c.before.before.before.enum_told.given.1, omega (arith, c.tell-sizes-arg.given.0.1))
 
 returns-2 : tie.Need-returns-2
 returns-2 c =
@@ -61,7 +61,7 @@ returns-2 c =
       k.page-of.result,
       listed k,
       named k,
-      told-passed _ _ _ _ _ _ _ k.page-of.result (listed k) c.before.before.before.before.enum_told.given.1 _ _ _ _ _
+      told_passed _ _ _ _ _ _ _ k.page-of.result (listed k) c.before.before.before.before.enum_told.given.1 _ _ _ _ _
           c.before.before.tell-numbers.ensures c.tell-sizes.ensures,
     )
 

@@ -4,7 +4,7 @@ use mathlib.Core.List.{List}
 use Prim.Native.Nat.{ℕ}
 use lib.IntN.{ℤ}
 use borrow.Author.Rules.{rules}
-use Rattle.signed.proofs.Laws.{number-of-bits}
+use Rattle.signed.proofs.Laws.{number_of_bits}
 use Rattle.analyser.specs.Raise.{RaisesLimit}
 use Rattle.raising.specs.declared.RaiseAnswer.{RaiseAnswer}
 use Rattle.raising.specs.declared.RaiseAnswer.TheVariants.{Limit, None, Refused}
@@ -24,13 +24,13 @@ set' c = c.raise-limit.new.1.1.1.1.1.1.0
 found : (c : tie.After-raise-limit) (answer : RaiseAnswer) → c.raise-limit.result ≡ answer
     → RaisesLimit (start c).args.sheet.now (start c).args.source (start c).args.sink (start c).args.value (start c).args.edge
     (start c).args.flows.now (flows' c) (start c).args.set.now (set' c) answer
-found c answer e = rw (number-of-bits _ (start c).ranges.value, e) at c.raise-limit.ensures
+found c answer e = rw (number_of_bits _ (start c).ranges.value, e) at c.raise-limit.ensures
 
 returns : tie.Need-returns
 returns c = (
   Limit _,
   found c.before.before.before.before.before.before (Limit _) c.before.answer.given.1,
-  (refl, refl, number-of-bits _ (record { sfits = c.known-told.given.0.1 }), refl),
+  (refl, refl, number_of_bits _ (record { sfits = c.known-told.given.0.1 }), refl),
 )
 
 returns-2 : tie.Need-returns-2

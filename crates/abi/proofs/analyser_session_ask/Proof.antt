@@ -4,10 +4,10 @@ use mathlib.Core.List.{List}
 use Prim.Native.Nat.{ℕ}
 use lib.IntN.{ℤ}
 use borrow.Author.Rules.{rules}
-use Rattle.signed.proofs.Laws.{number-of-bits}
+use Rattle.signed.proofs.Laws.{number_of_bits}
 use Rattle.questions.specs.declared.SolveAnswer.{SolveAnswer}
 use Rattle.questions.specs.declared.SolveAnswer.TheVariants.{Can, Cannot, Refused}
-use Rattle.parties.specs.Shared.{Shared, sharedOf}
+use Rattle.parties.specs.Shared.{Shared, shared_of}
 use Rattle.parties.specs.Calls.{Asks}
 use Rattle.abi.proofs.analyser_session_ask.Statement.{statement}
 use Rattle.abi.proofs.analyser_session_ask.Tie as tie
@@ -18,13 +18,13 @@ begun c = c.before.before.before.before.before.before.before
 abbrev came : tie.After-ask → Shared
 came c =
     let a = (begun c).args in
-    sharedOf a.nodes a.edges a.outer a.tails.now a.rotations.now a.limits.now a.left.now a.standing.now a.first.now
+    shared_of a.nodes a.edges a.outer a.tails.now a.rotations.now a.limits.now a.left.now a.standing.now a.first.now
     a.second.now
 
 abbrev left' : tie.After-ask → Shared
 left' c =
     let a = (begun c).args in
-    sharedOf a.nodes a.edges a.outer a.tails.now a.rotations.now a.limits.now a.left.now
+    shared_of a.nodes a.edges a.outer a.tails.now a.rotations.now a.limits.now a.left.now
     c.ask.new.1.1.1.1.1.1.0
     c.ask.new.1.1.1.1.1.1.1.0
     c.ask.new.1.1.1.1.1.1.1.1.0
@@ -42,7 +42,7 @@ asked : (c : tie.After-ask) (answer : SolveAnswer) → c.ask.result ≡ answer
 asked c answer e =
     let a = (begun c).args in
     subst (λ v. Asks (came c) a.party a.source a.sink v a.flows.now (flows' c) a.set.now (set' c) (left' c) answer)
-    (number-of-bits _ (begun c).ranges.value)
+    (number_of_bits _ (begun c).ranges.value)
     (subst (Asks (came c) a.party a.source a.sink _ a.flows.now (flows' c) a.set.now (set' c) (left' c)) e c.ask.ensures)
 
 returns : tie.Need-returns

@@ -3,7 +3,7 @@ use mathlib.Core.Path.{◌≡◌, refl, subst}
 use borrow.Author.Rules.{rules}
 use Rattle.refusals.specs.declared.Verdict.{Verdict}
 use Rattle.refusals.specs.declared.Verdict.TheVariants.{Passed, Refused}
-use Rattle.parties.specs.Shared.{Shared, sharedOf}
+use Rattle.parties.specs.Shared.{Shared, shared_of}
 use Rattle.parties.specs.Calls.{Commits}
 use Rattle.abi.proofs.analyser_session_commit.Statement.{statement}
 use Rattle.abi.proofs.analyser_session_commit.Tie as tie
@@ -14,13 +14,13 @@ begun c = c.before.before.before
 abbrev came : tie.After-commit → Shared
 came c =
     let a = (begun c).args in
-    sharedOf a.nodes a.edges a.outer a.tails.now a.rotations.now a.limits.now a.left.now a.standing.now a.first.now
+    shared_of a.nodes a.edges a.outer a.tails.now a.rotations.now a.limits.now a.left.now a.standing.now a.first.now
     a.second.now
 
 abbrev left' : tie.After-commit → Shared
 left' c =
     let a = (begun c).args in
-    sharedOf a.nodes a.edges a.outer a.tails.now a.rotations.now a.limits.now c.commit.new.1.1.1.1.1.1.1.0
+    shared_of a.nodes a.edges a.outer a.tails.now a.rotations.now a.limits.now c.commit.new.1.1.1.1.1.1.1.0
     c.commit.new.1.1.1.1.1.1.1.1.0 a.first.now a.second.now
 
 committed : (c : tie.After-commit) (answer : Verdict) → c.commit.result ≡ answer → Commits (came c) (begun c).args.party (left' c) answer

@@ -3,7 +3,7 @@ use mathlib.Core.Path.{◌≡◌, refl, subst}
 use borrow.Author.Rules.{rules}
 use Rattle.refusals.specs.declared.Verdict.{Verdict}
 use Rattle.refusals.specs.declared.Verdict.TheVariants.{Passed, Refused}
-use Rattle.parties.specs.Shared.{Shared, sharedOf}
+use Rattle.parties.specs.Shared.{Shared, shared_of}
 use Rattle.parties.specs.Start.{Starts}
 use Rattle.abi.proofs.analyser_session_start.Statement.{statement}
 use Rattle.abi.proofs.analyser_session_start.Tie as tie
@@ -13,7 +13,7 @@ begun c = c.before.before.before.before.before.before.before.before.before.befor
 
 abbrev left' : tie.After-start → Shared
 left' c =
-    sharedOf
+    shared_of
     c.start.new.1.0
     c.start.new.1.1.0
     c.start.new.1.1.1.0

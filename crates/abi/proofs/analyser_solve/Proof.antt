@@ -4,8 +4,8 @@ use mathlib.Core.List.{List}
 use Prim.Native.Nat.{ℕ}
 use lib.IntN.{ℤ}
 use borrow.Author.Rules.{rules}
-use Rattle.signed.proofs.Laws.{number-of-bits}
-use Rattle.records.specs.Sheet.{sheetDrawing}
+use Rattle.signed.proofs.Laws.{number_of_bits}
+use Rattle.records.specs.Sheet.{sheet_drawing}
 use Rattle.analyser.specs.Solve.{Solves}
 use Rattle.questions.specs.inner.Named.{SetNamed}
 use Rattle.questions.specs.declared.SolveAnswer.{SolveAnswer}
@@ -26,12 +26,12 @@ set' c = c.solve.new.1.1.1.1.1.0
 solved : (c : tie.After-solve) (answer : SolveAnswer) → c.solve.result ≡ answer
     → Solves (start c).args.sheet.now (start c).args.source (start c).args.sink (start c).args.value
     (start c).args.flows.now (flows' c) (start c).args.set.now (set' c) answer
-solved c answer e = rw (number-of-bits _ (start c).ranges.value, e) at c.solve.ensures.0
+solved c answer e = rw (number_of_bits _ (start c).ranges.value, e) at c.solve.ensures.0
 
 -- and its set is the one that the search names
 named : (c : tie.After-solve) (answer : SolveAnswer) → c.solve.result ≡ answer
-    → SetNamed (sheetDrawing (start c).args.sheet.now) (start c).args.source (start c).args.sink (start c).args.value (set' c) answer
-named c answer e = rw (number-of-bits _ (start c).ranges.value, e) at c.solve.ensures.1
+    → SetNamed (sheet_drawing (start c).args.sheet.now) (start c).args.source (start c).args.sink (start c).args.value (set' c) answer
+named c answer e = rw (number_of_bits _ (start c).ranges.value, e) at c.solve.ensures.1
 
 returns : tie.Need-returns
 returns c =

@@ -3,7 +3,7 @@ use mathlib.Core.Path.{◌≡◌, refl}
 use mathlib.Core.List.{List}
 use lib.IntN.{ℤ}
 use borrow.Author.Rules.{rules}
-use Rattle.signed.proofs.Laws.{number-of-bits}
+use Rattle.signed.proofs.Laws.{number_of_bits}
 use Rattle.analyser.specs.Totals.{GivesTotals}
 use Rattle.totals.specs.declared.TotalsAnswer.{TotalsAnswer}
 use Rattle.totals.specs.declared.TotalsAnswer.TheVariants.{Total, Refused}
@@ -24,7 +24,7 @@ returns : tie.Need-returns
 returns c = (
   Total _,
   found c.before.before.before.before (Total _) c.before.answer.given.1,
-  (refl, number-of-bits _ (record { sfits = c.known-told.given.0.1 }), refl),
+  (refl, number_of_bits _ (record { sfits = c.known-told.given.0.1 }), refl),
 )
 
 returns-2 : tie.Need-returns-2

@@ -7,19 +7,19 @@ use lib.IntN.{ℤ, pos}
 use lib.ListN.{replicate, length-replicate}
 use borrow.Author.Rules.{rules}
 use Rattle.refusals.specs.Order.{NoneOf}
-use Rattle.sheets.specs.Open.{sheetChecks}
+use Rattle.sheets.specs.Open.{sheet_checks}
 use Rattle.totals.specs.declared.TotalsAnswer.{TotalsAnswer}
 use Rattle.totals.specs.declared.TotalsAnswer.TheVariants as totals
 use Rattle.analyser.specs.Totals.{GivesTotals}
-use Rattle.analyser.proofs.Counted.{head-counts, totals-passed, totals-refused}
+use Rattle.analyser.proofs.Counted.{head_counts, totals_passed, totals_refused}
 use Rattle.analyser.proofs.counts.Statement.{statement}
 use Rattle.analyser.proofs.counts.Tie as tie
 
-abbrev noSet : List ℕ
-noSet = replicate 9 0
+abbrev no_set : List ℕ
+no_set = replicate 9 0
 
-abbrev noTotals : List ℤ
-noTotals = replicate 513 (pos 0)
+abbrev no_totals : List ℤ
+no_totals = replicate 513 (pos 0)
 
 abbrev start : tie.After-totals → tie.Start
 start c = c.before.before.before.before
@@ -28,34 +28,34 @@ abbrev out' : tie.After-totals → List ℤ
 out' c = c.totals.new.1.1.0
 
 found : (c : tie.After-totals) (answer : TotalsAnswer) → c.totals.result ≡ answer
-    → GivesTotals (start c).args.sheet.now noSet noTotals (out' c) answer
+    → GivesTotals (start c).args.sheet.now no_set no_totals (out' c) answer
 found c answer e = rw e at c.totals.ensures
 
 -- ── the sheet is accepted ──
 abbrev asked : tie.After-enum-told → tie.After-totals
 asked c = c.before.before.before
 
-accepted : (c : tie.After-enum-told) → NoneOf (sheetChecks (start (asked c)).args.sheet.now)
-accepted c = totals-passed _ noSet noTotals (out' (asked c)) _ (found (asked c) (totals.Total _) c.enum_told.given.1)
+accepted : (c : tie.After-enum-told) → NoneOf (sheet_checks (start (asked c)).args.sheet.now)
+accepted c = totals_passed _ no_set no_totals (out' (asked c)) _ (found (asked c) (totals.Total _) c.enum_told.given.1)
 
 -- ── the needs, in the order of the code ──
 returns : tie.Need-returns
 returns c =
     let t = c.before.before.before.before in
-    totals-refused _ noSet noTotals (out' t) (omega (arith, length-replicate {A = ℕ} 9 0)) (omega (arith, length-replicate 513 (pos 0))) _ _
+    totals_refused _ no_set no_totals (out' t) (omega (arith, length-replicate {A = ℕ} 9 0)) (omega (arith, length-replicate 513 (pos 0))) _ _
     (found t (totals.Refused _ _) c.before.answer.given.1)
 
 nodes-of-requires : tie.Need-nodes-of-requires
-nodes-of-requires c κs = (head-counts _ (accepted c)).0
+nodes-of-requires c κs = (head_counts _ (accepted c)).0
 
 edges-of-requires : tie.Need-edges-of-requires
-edges-of-requires c κs = (head-counts _ (accepted c.before)).0
+edges-of-requires c κs = (head_counts _ (accepted c.before)).0
 
 narrow-requires : tie.Need-narrow-requires
-narrow-requires c κs = let n = c.before in omega (arith, n.nodes-of.ensures, (head-counts _ (accepted n.before)).1)
+narrow-requires c κs = let n = c.before in omega (arith, n.nodes-of.ensures, (head_counts _ (accepted n.before)).1)
 
 narrow-requires-2 : tie.Need-narrow-requires-2
-narrow-requires-2 c κs = let e = c.before in omega (arith, e.edges-of.ensures, (head-counts _ (accepted e.before.before)).2)
+narrow-requires-2 c κs = let e = c.before in omega (arith, e.edges-of.ensures, (head_counts _ (accepted e.before.before)).2)
 
 returns-2 : tie.Need-returns-2
 returns-2 c =

@@ -3,10 +3,10 @@ use mathlib.Core.List.{List}
 use Prim.Native.Nat.{ℕ}
 use borrow.Author.Rules.{rules}
 use Rattle.refusals.specs.Order.{NoneOf}
-use Rattle.sheets.specs.Open.{sheetChecks, Holds}
+use Rattle.sheets.specs.Open.{sheet_checks, Holds}
 use Rattle.sheets.specs.declared.Network.{Network}
-use Rattle.sheets.proofs.Opening.{opens-passed, opens-refused}
-use Rattle.analyser.proofs.Opened.{markable, mark-refused, marked-sheet}
+use Rattle.sheets.proofs.Opening.{opens_passed, opens_refused}
+use Rattle.analyser.proofs.Opened.{markable, mark_refused, marked_sheet}
 use Rattle.analyser.proofs.mark.Statement.{statement}
 use Rattle.analyser.proofs.mark.Tie as tie
 
@@ -25,12 +25,12 @@ returns : tie.Need-returns
 returns c =
     let o = c.before in
     let a = (begun o).args in
-    let first = opens-refused (sheet o) (net o) c.if1.true o.«open».ensures in
-    mark-refused (sheet o) _ _ first a.source a.sink a.flows.now
+    let first = opens_refused (sheet o) (net o) c.if1.true o.«open».ensures in
+    mark_refused (sheet o) _ _ first a.source a.sink a.flows.now
 
 -- ── it is accepted ──
-accepted : (c : tie.Else1) → NoneOf (sheetChecks (sheet c.before)) × Holds (sheet c.before) (net c.before)
-accepted c = let o = c.before in opens-passed (sheet o) (net o) c.if1.false o.«open».ensures
+accepted : (c : tie.Else1) → NoneOf (sheet_checks (sheet c.before)) × Holds (sheet c.before) (net c.before)
+accepted c = let o = c.before in opens_passed (sheet o) (net o) c.if1.false o.«open».ensures
 
 mark-requires : tie.Need-mark-requires
 mark-requires c κs =
@@ -47,7 +47,7 @@ returns-2 c =
     let t = k.before.before.before.before.before.before.before.before in
     let o = t.before in
     let a = (begun o).args in
-    marked-sheet (sheet o) (net o) (accepted t) from' to a.flows.now k.mark.result k.mark.ensures
+    marked_sheet (sheet o) (net o) (accepted t) from' to a.flows.now k.mark.result k.mark.ensures
 
 pub mark_spec : {M : Type 1} → statement M
 mark_spec =

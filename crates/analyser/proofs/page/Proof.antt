@@ -91,7 +91,7 @@ use denote.Triple.Table.{entered, cited}
 use denote.Triple.Walked.{says, Stays, stay_none_slice, gave_slice, walk_of, Goes-none_slice, Goes-gave_slice, Walks, ends_at, walked, walk_Meets}
 use denote.Triple.Clauses.{ensured, lasts}
 use denote.Exit.{yes}
-use Rattle.pages.specs.Question.{questionAt}
+use Rattle.pages.specs.Question.{question_at}
 use Rattle.pages.specs.inner.Listed.{list_of}
 use Rattle.pages.specs.declared.Question.{Question}
 use Rattle.pages.specs.declared.Listed.{Listed}
@@ -107,7 +107,7 @@ use Rattle.pages.proofs.list_of.Symbol.{name as #pages·list-of}
 use Rattle.pages.proofs.list_of.Met as list-of-thm
 use Rattle.analyser.specs.Page.{AnswersPage}
 use Rattle.analyser.specs.inner.Named.{PageNamed}
-use Rattle.analyser.proofs.Lines.{page-listed, page-named-listed}
+use Rattle.analyser.proofs.Lines.{page_listed, page_named_listed}
 use Rattle.analyser.specs.contracts.page_of as page-of
 use Rattle.analyser.proofs.page_of.Symbol as page-of-def
 use Rattle.analyser.proofs.page_of.Symbol.{name as #analyser·page-of}
@@ -144,9 +144,9 @@ module _ {M : Type 1} {𝓤 : Ura M} (𝓛 : Logic 𝓤) (mem : Memory → SProp
   PageOf = triple_of 𝓛 page-of.signature (page-of.spec 𝓛 mem run)
 
   list-said : (κ : Lft) (x : Bor (List Question)) (r : Listed)
-      → ent 𝓤 (ensured 𝓛 list_of.ended (list_of.clauses 𝓛 mem run) (κ, tt) (x, tt) tt r) (fact 𝓤 (r ≡ list_of (length x.now) (questionAt x.now)))
+      → ent 𝓤 (ensured 𝓛 list_of.ended (list_of.clauses 𝓛 mem run) (κ, tt) (x, tt) tt r) (fact 𝓤 (r ≡ list_of (length x.now) (question_at x.now)))
   list-said κ x r =
-      ex_e 𝓤 _ (λ ws. snd∗ 𝓤 (sem 𝓛 (lasts list_of.ended (κ, tt) (x, tt) ws)) (fact 𝓤 (r ≡ list_of (length x.now) (questionAt x.now))))
+      ex_e 𝓤 _ (λ ws. snd∗ 𝓤 (sem 𝓛 (lasts list_of.ended (κ, tt) (x, tt) ws)) (fact 𝓤 (r ≡ list_of (length x.now) (question_at x.now))))
 
 module _ {M : Type 1} {𝓤 : Ura M} (𝓛 : Logic 𝓤) (mem : Memory → SProp 𝓤) (run : Routine → Fun 𝓤)
     (κ₀ κ₁ κ₂ κ₃ : Lft) (q₀ q₁ q₂ q₃ : Share) (x₀ : Bor (List ℕ)) (x₁ : Bor (List Question)) (x₂ : Bor (List ℤ)) (x₃ : Bor (List ℕ)) where
@@ -159,7 +159,7 @@ module _ {M : Type 1} {𝓤 : Ura M} (𝓛 : Logic 𝓤) (mem : Memory → SProp
   n = length x₁.now
 
   abbrev list : Listed
-  list = list_of n (questionAt x₁.now)
+  list = list_of n (question_at x₁.now)
 
   -- the machine values
   abbrev s₀ : Val
@@ -240,8 +240,8 @@ module _ {M : Type 1} {𝓤 : Ura M} (𝓛 : Logic 𝓤) (mem : Memory → SProp
   abbrev Left : Page → Val → List ℤ → List ℕ → List (Item 𝓤)
   Left r w fs ss = ‵ (RP.own r (w ∷ [])) ∷ Others ∷ ‵ (finally u64 x₃.name ss) ∷ ‵ (finally i32 x₂.name fs) ∷ Token₁ ∷ ‵ O₀ ∷ ‵ O₁ ∷ []
 
-  exits : (r : Page) (w : Val) (fs : List ℤ) (ss : List ℕ) → AnswersPage x₀.now n (questionAt x₁.now) x₂.now fs x₃.now ss r
-      × PageNamed x₀.now n (questionAt x₁.now) ss r
+  exits : (r : Page) (w : Val) (fs : List ℤ) (ss : List ℕ) → AnswersPage x₀.now n (question_at x₁.now) x₂.now fs x₃.now ss r
+      × PageNamed x₀.now n (question_at x₁.now) ss r
       → length fs ≡ length x₂.now → length ss ≡ length x₃.now → ent 𝓤 (⋆ 𝓛 (Left r w fs ss)) (Post w)
   exits r w fs ss e lf ls =
       qed 𝓛 (Left r w fs ss) ∵ move ! (1 ∷ []) $ split ! $ move ! (5 ∷ []) $ split ! $ move ! (1 ∷ []) $ drop ! $
@@ -294,12 +294,12 @@ module _ {M : Type 1} {𝓤 : Ura M} (𝓛 : Logic 𝓤) (mem : Memory → SProp
         ⊛ raw (ensured 𝓛 page-of.ended (page-of.clauses 𝓛 mem run) κs' a' tt p)))) (id⊢ 𝓤 _) $ await ! tt $ pick ! (λ p.
         split ! $ move ! (1 ∷ []) $
         use1 𝓛 (some (λ (zs : Unit {0} × (Unit {0} × (List ℤ × (List ℕ × Unit {0})))). ‵ (lasts page-of.ended κs' a' zs)
-        ⊛ raw (fact 𝓤 (AnswersPage x₀.now list.count (questionAt list.questions) x₂.now zs.1.1.0 x₃.now zs.1.1.1.0 p
-        × PageNamed x₀.now list.count (questionAt list.questions) zs.1.1.1.0 p)))) (id⊢ 𝓤 _) $
+        ⊛ raw (fact 𝓤 (AnswersPage x₀.now list.count (question_at list.questions) x₂.now zs.1.1.0 x₃.now zs.1.1.1.0 p
+        × PageNamed x₀.now list.count (question_at list.questions) zs.1.1.1.0 p)))) (id⊢ 𝓤 _) $
         pick ! (λ zs.
         split ! $ move ! (1 ∷ []) $
-        heard ! (AnswersPage x₀.now list.count (questionAt list.questions) x₂.now zs.1.1.0 x₃.now zs.1.1.1.0 p
-        × PageNamed x₀.now list.count (questionAt list.questions) zs.1.1.1.0 p) (λ f.
+        heard ! (AnswersPage x₀.now list.count (question_at list.questions) x₂.now zs.1.1.0 x₃.now zs.1.1.1.0 p
+        × PageNamed x₀.now list.count (question_at list.questions) zs.1.1.1.0 p) (λ f.
         fsplit ! $ move ! (1 ∷ []) $ fsplit ! $ move ! (1 ∷ []) $ fsplit ! $ fsplit ! $ move ! (1 ∷ []) $ feq_l ! (λ lf.
         move ! (1 ∷ []) $ fsplit ! $ fsplit ! $ move ! (1 ∷ []) $ feq_l ! (λ ls.
         -- [sets' last list; true; flows' last list; true; true; the tokens and the page; token 1; what sheet and questions own; _9; …; .. room for _0; …]
@@ -311,8 +311,8 @@ module _ {M : Type 1} {𝓤 : Ura M} (𝓛 : Logic 𝓤) (mem : Memory → SProp
         move ! (20 ∷ 21 ∷ []) $ free1 ! $ move ! (18 ∷ 19 ∷ []) $ free1 ! $ move ! (16 ∷ 17 ∷ []) $ free1 ! $ move ! (14 ∷ 15 ∷ []) $ free1 ! $
         move ! (12 ∷ 13 ∷ []) $ free1 ! $ move ! (10 ∷ 11 ∷ []) $ free1 ! $ free0 ! $ keep ! (0 ∷ 1 ∷ 2 ∷ 4 ∷ 7 ∷ 8 ∷ 9 ∷ []) $
         by ! (exits p w zs.1.1.0 zs.1.1.1.0 (
-          page-listed x₀.now n (questionAt x₁.now) list refl x₂.now zs.1.1.0 x₃.now zs.1.1.1.0 p f.0,
-          page-named-listed x₀.now n (questionAt x₁.now) list refl x₂.now zs.1.1.0 x₃.now zs.1.1.1.0 p
+          page_listed x₀.now n (question_at x₁.now) list refl x₂.now zs.1.1.0 x₃.now zs.1.1.1.0 p f.0,
+          page_named_listed x₀.now n (question_at x₁.now) list refl x₂.now zs.1.1.0 x₃.now zs.1.1.1.0 p
               f.0 f.1,
         ) lf ls))))))))))))))))))))))
 

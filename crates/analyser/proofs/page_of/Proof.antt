@@ -3,17 +3,17 @@ use mathlib.Core.Path.{refl, sym, ◌∙◌, ap}
 use mathlib.Core.List.{List}
 use Prim.Native.Nat.{ℕ, ◌*◌}
 use borrow.Author.Rules.{rules}
-use Rattle.pages.specs.Question.{questionAt}
+use Rattle.pages.specs.Question.{question_at}
 use Rattle.pages.specs.declared.Page.{Page}
 use Rattle.refusals.specs.Order.{NoneOf}
 use Rattle.arrays.specs.At.{at}
 use Rattle.grouping.specs.inner.Walked.{Walked}
-use Rattle.sheets.specs.Open.{sheetChecks, Holds}
+use Rattle.sheets.specs.Open.{sheet_checks, Holds}
 use Rattle.sheets.specs.declared.Network.{Network}
-use Rattle.sheets.proofs.Opening.{opens-passed, opens-refused, is-accepted}
-use Rattle.analyser.proofs.Opened.{opened, page-refused, page-sheet, page-named}
-use Rattle.pages.proofs.Listing.{refused-so}
-use Rattle.analyser.proofs.Lines.{not-passed}
+use Rattle.sheets.proofs.Opening.{opens_passed, opens_refused, is_accepted}
+use Rattle.analyser.proofs.Opened.{opened, page_refused, page_sheet, page_named}
+use Rattle.pages.proofs.Listing.{refused_so}
+use Rattle.analyser.proofs.Lines.{not_passed}
 use Rattle.analyser.proofs.page_of.Statement.{statement}
 use Rattle.analyser.proofs.page_of.Tie as tie
 
@@ -35,15 +35,15 @@ returns : tie.Need-returns
 returns c =
     let o = c.before.before in
     let a = (begun o).args in
-    let first = opens-refused (sheet o) (net o) c.before.if1.true o.open-walked.ensures.4 in (
-      refused-so _ _ _ _ _ a.flows.now a.sets.now _ _ c.refused-page.result
-          (page-refused (sheet o) _ _ first a.list.count a.flows.now a.sets.now) c.refused-page.ensures,
-      λ e. absurd (not-passed (sym (ap (λ (p : Page). p.verdict) c.refused-page.ensures) ∙ e)),
+    let first = opens_refused (sheet o) (net o) c.before.if1.true o.open-walked.ensures.4 in (
+      refused_so _ _ _ _ _ a.flows.now a.sets.now _ _ c.refused-page.result
+          (page_refused (sheet o) _ _ first a.list.count a.flows.now a.sets.now) c.refused-page.ensures,
+      λ e. absurd (not_passed (sym (ap (λ (p : Page). p.verdict) c.refused-page.ensures) ∙ e)),
     )
 
 -- ── it is accepted ──
-accepted : (c : tie.Else1) → NoneOf (sheetChecks (sheet c.before)) × Holds (sheet c.before) (net c.before)
-accepted c = let o = c.before in opens-passed (sheet o) (net o) c.if1.false o.open-walked.ensures.4
+accepted : (c : tie.Else1) → NoneOf (sheet_checks (sheet c.before)) × Holds (sheet c.before) (net c.before)
+accepted c = let o = c.before in opens_passed (sheet o) (net o) c.if1.false o.open-walked.ensures.4
 
 abbrev order : tie.After-open-walked → List ℕ
 order c = c.open-walked.new.1.0
@@ -60,7 +60,7 @@ starts c = c.open-walked.new.1.1.1.1.0
 walked : (c : tie.Else1)
     → Walked (2 * (net c.before).sizes.edges) (net c.before).sizes.faces (net c.before).sizes.outer (net c.before).sizes.parts
     (at (net c.before).rotations) (net c.before).lefts (order c.before) (from c.before) (grouped c.before) (starts c.before)
-walked c = let o = c.before in (o.open-walked.ensures.5 (is-accepted (net o).accepted c.if1.false)).1
+walked c = let o = c.before in (o.open-walked.ensures.5 (is_accepted (net o).accepted c.if1.false)).1
 
 answer-list-requires : tie.Need-answer-list-requires
 answer-list-requires c κs =
@@ -75,9 +75,9 @@ returns-2 c =
     let o = t.before in
     let a = (begun o).args in
     let e = k.answer-list.ensures in (
-      page-sheet (sheet o) (net o) (accepted t) a.list.count (questionAt a.list.questions)
+      page_sheet (sheet o) (net o) (accepted t) a.list.count (question_at a.list.questions)
           a.flows.now _ a.sets.now _ k.answer-list.result e,
-      page-named (sheet o) (net o) (accepted t) a.list.count (questionAt a.list.questions)
+      page_named (sheet o) (net o) (accepted t) a.list.count (question_at a.list.questions)
           a.flows.now _ a.sets.now _ k.answer-list.result e,
     )
 

@@ -4,10 +4,10 @@ use mathlib.Core.List.{List}
 use Prim.Native.Nat.{ℕ}
 use borrow.Author.Rules.{rules}
 use Rattle.refusals.specs.Order.{NoneOf}
-use Rattle.sheets.specs.Open.{sheetChecks, Holds}
+use Rattle.sheets.specs.Open.{sheet_checks, Holds}
 use Rattle.sheets.specs.declared.Network.{Network}
-use Rattle.sheets.proofs.Opening.{opens-passed, opens-refused}
-use Rattle.analyser.proofs.Opened.{drawn, settings-refused, settings-sheet}
+use Rattle.sheets.proofs.Opening.{opens_passed, opens_refused}
+use Rattle.analyser.proofs.Opened.{drawn, settings_refused, settings_sheet}
 use Rattle.analyser.proofs.settings_from_levels.Statement.{statement}
 use Rattle.analyser.proofs.settings_from_levels.Tie as tie
 
@@ -26,12 +26,12 @@ returns : tie.Need-returns
 returns c =
     let o = c.before in
     let a = (begun o).args in
-    let first = opens-refused (sheet o) (net o) c.if1.true o.«open».ensures in
-    (settings-refused (sheet o) _ _ first a.levels.now a.flows.now, refl)
+    let first = opens_refused (sheet o) (net o) c.if1.true o.«open».ensures in
+    (settings_refused (sheet o) _ _ first a.levels.now a.flows.now, refl)
 
 -- ── it is accepted ──
-accepted : (c : tie.Else1) → NoneOf (sheetChecks (sheet c.before)) × Holds (sheet c.before) (net c.before)
-accepted c = let o = c.before in opens-passed (sheet o) (net o) c.if1.false o.«open».ensures
+accepted : (c : tie.Else1) → NoneOf (sheet_checks (sheet c.before)) × Holds (sheet c.before) (net c.before)
+accepted c = let o = c.before in opens_passed (sheet o) (net o) c.if1.false o.«open».ensures
 
 settings-of-requires : tie.Need-settings-of-requires
 settings-of-requires c κs =
@@ -45,7 +45,7 @@ returns-2 c =
     let t = k.before.before.before.before.before.before.before.before in
     let o = t.before in
     let a = (begun o).args in
-    settings-sheet (sheet o) (net o) (accepted t) a.levels.now a.flows.now _ k.settings-of.result k.settings-of.ensures
+    settings_sheet (sheet o) (net o) (accepted t) a.levels.now a.flows.now _ k.settings-of.result k.settings-of.ensures
 
 pub settings-from-levels-spec : {M : Type 1} → statement M
 settings-from-levels-spec =

@@ -3,14 +3,14 @@ use mathlib.Core.Path.{refl}
 use mathlib.Core.List.{List}
 use Prim.Native.Nat.{ℕ, ◌*◌}
 use borrow.Author.Rules.{rules}
-use Rattle.signed.proofs.Laws.{number-of-bits}
+use Rattle.signed.proofs.Laws.{number_of_bits}
 use Rattle.refusals.specs.Order.{NoneOf}
 use Rattle.arrays.specs.At.{at}
 use Rattle.grouping.specs.inner.Walked.{Walked}
-use Rattle.sheets.specs.Open.{sheetChecks, Holds}
+use Rattle.sheets.specs.Open.{sheet_checks, Holds}
 use Rattle.sheets.specs.declared.Network.{Network}
-use Rattle.sheets.proofs.Opening.{opens-passed, opens-refused, is-accepted}
-use Rattle.analyser.proofs.Opened.{opened, solve-refused, solved-sheet, named-sheet}
+use Rattle.sheets.proofs.Opening.{opens_passed, opens_refused, is_accepted}
+use Rattle.analyser.proofs.Opened.{opened, solve_refused, solved_sheet, named_sheet}
 use Rattle.analyser.proofs.solve.Statement.{statement}
 use Rattle.analyser.proofs.solve.Tie as tie
 
@@ -32,12 +32,12 @@ returns : tie.Need-returns
 returns c =
     let o = c.before in
     let a = (begun o).args in
-    let first = opens-refused (sheet o) (net o) c.if1.true o.open-walked.ensures.4 in
-    ((solve-refused (sheet o) _ _ first a.source a.sink a.value a.flows.now a.set.now, refl, refl), tt)
+    let first = opens_refused (sheet o) (net o) c.if1.true o.open-walked.ensures.4 in
+    ((solve_refused (sheet o) _ _ first a.source a.sink a.value a.flows.now a.set.now, refl, refl), tt)
 
 -- ── it is accepted ──
-accepted : (c : tie.Else1) → NoneOf (sheetChecks (sheet c.before)) × Holds (sheet c.before) (net c.before)
-accepted c = let o = c.before in opens-passed (sheet o) (net o) c.if1.false o.open-walked.ensures.4
+accepted : (c : tie.Else1) → NoneOf (sheet_checks (sheet c.before)) × Holds (sheet c.before) (net c.before)
+accepted c = let o = c.before in opens_passed (sheet o) (net o) c.if1.false o.open-walked.ensures.4
 
 abbrev order : tie.After-open-walked → List ℕ
 order c = c.open-walked.new.1.0
@@ -54,7 +54,7 @@ starts c = c.open-walked.new.1.1.1.1.0
 walked : (c : tie.Else1)
     → Walked (2 * (net c.before).sizes.edges) (net c.before).sizes.faces (net c.before).sizes.outer (net c.before).sizes.parts
     (at (net c.before).rotations) (net c.before).lefts (order c.before) (from c.before) (grouped c.before) (starts c.before)
-walked c = let o = c.before in (o.open-walked.ensures.5 (is-accepted (net o).accepted c.if1.false)).1
+walked c = let o = c.before in (o.open-walked.ensures.5 (is_accepted (net o).accepted c.if1.false)).1
 
 solve-requires : tie.Need-solve-requires
 solve-requires c κs =
@@ -71,9 +71,9 @@ returns-2 c =
     let t = k.before.before.before.before.before.before.before.before.before.before.before.before.before.before.before in
     let o = t.before in
     let a = (begun o).args in
-    let q = number-of-bits _ (begun o).ranges.value in (
-      solved-sheet (sheet o) (net o) (accepted t) from' to q a.flows.now _ a.set.now _ k.solve.result k.solve.ensures.0,
-      named-sheet (sheet o) (net o) (accepted t) from' to q _ k.solve.result k.solve.ensures.1,
+    let q = number_of_bits _ (begun o).ranges.value in (
+      solved_sheet (sheet o) (net o) (accepted t) from' to q a.flows.now _ a.set.now _ k.solve.result k.solve.ensures.0,
+      named_sheet (sheet o) (net o) (accepted t) from' to q _ k.solve.result k.solve.ensures.1,
     )
 
 pub solve-spec : {M : Type 1} → statement M

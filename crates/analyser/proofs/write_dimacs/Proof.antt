@@ -4,10 +4,10 @@ use mathlib.Core.List.{List}
 use Prim.Native.Nat.{ℕ}
 use borrow.Author.Rules.{rules}
 use Rattle.refusals.specs.Order.{NoneOf}
-use Rattle.sheets.specs.Open.{sheetChecks, Holds}
+use Rattle.sheets.specs.Open.{sheet_checks, Holds}
 use Rattle.sheets.specs.declared.Network.{Network}
-use Rattle.sheets.proofs.Opening.{opens-passed, opens-refused}
-use Rattle.analyser.proofs.Opened.{counts-small, dimacs-refused, dimacs-sheet}
+use Rattle.sheets.proofs.Opening.{opens_passed, opens_refused}
+use Rattle.analyser.proofs.Opened.{counts_small, dimacs_refused, dimacs_sheet}
 use Rattle.analyser.proofs.write_dimacs.Statement.{statement}
 use Rattle.analyser.proofs.write_dimacs.Tie as tie
 
@@ -26,18 +26,18 @@ returns : tie.Need-returns
 returns c =
     let o = c.before in
     let a = (begun o).args in
-    let first = opens-refused (sheet o) (net o) c.if1.true o.«open».ensures in
-    (dimacs-refused (sheet o) _ _ first a.source a.sink a.out.now, refl)
+    let first = opens_refused (sheet o) (net o) c.if1.true o.«open».ensures in
+    (dimacs_refused (sheet o) _ _ first a.source a.sink a.out.now, refl)
 
 -- ── it is accepted ──
-accepted : (c : tie.Else1) → NoneOf (sheetChecks (sheet c.before)) × Holds (sheet c.before) (net c.before)
-accepted c = let o = c.before in opens-passed (sheet o) (net o) c.if1.false o.«open».ensures
+accepted : (c : tie.Else1) → NoneOf (sheet_checks (sheet c.before)) × Holds (sheet c.before) (net c.before)
+accepted c = let o = c.before in opens_passed (sheet o) (net o) c.if1.false o.«open».ensures
 
 write-requires : tie.Need-write-requires
 write-requires c κs =
     let t = c.before.before.before.before.before.before in
     let o = t.before in
-    counts-small (sheet o) (net o) (accepted t)
+    counts_small (sheet o) (net o) (accepted t)
 
 returns-2 : tie.Need-returns-2
 returns-2 c =
@@ -45,7 +45,7 @@ returns-2 c =
     let t = k.before.before.before.before.before.before.before in
     let o = t.before in
     let a = (begun o).args in
-    dimacs-sheet (sheet o) (net o) (accepted t) a.source a.sink a.out.now _ k.write.result k.write.ensures
+    dimacs_sheet (sheet o) (net o) (accepted t) a.source a.sink a.out.now _ k.write.result k.write.ensures
 
 pub write-dimacs-spec : {M : Type 1} → statement M
 write-dimacs-spec =

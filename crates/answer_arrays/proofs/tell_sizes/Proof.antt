@@ -7,18 +7,18 @@ use lib.ListN.{length, drop, length-map}
 use denote.Struct.Laws as LL
 use borrow.Author.Rules.{rules}
 use Rattle.arrays.specs.Filled.{tabulate}
-use Rattle.arrays.proofs.FillLoops.{copy_start, copy_step, filled-length}
-use Rattle.pages.specs.Page.{answerAt}
+use Rattle.arrays.proofs.FillLoops.{copy_start, copy_step, filled_length}
+use Rattle.pages.specs.Page.{answer_at}
 use Rattle.pages.specs.declared.Answered.{Answered}
 use Rattle.pages.specs.contracts.Page as TP
 use Rattle.pages.proofs.Page.TheLaws as TP'
-use Rattle.answer_arrays.proofs.Defaults.{any-default}
-use Rattle.answer_arrays.specs.Told.{sizeTold}
+use Rattle.answer_arrays.proofs.Defaults.{any_default}
+use Rattle.answer_arrays.specs.Told.{size_told}
 use Rattle.answer_arrays.proofs.tell_sizes.Statement.{statement}
 use Rattle.answer_arrays.proofs.tell_sizes.Tie as tie
 
 abbrev invariant-loop : tie.invariant-loop
-invariant-loop sizes₀ page count i₀ sizes i = (i ≤ count) × (count ≡ page.count) × (sizes ≡ tabulate i (λ j. sizeTold (answerAt page j)) ++ drop i sizes₀)
+invariant-loop sizes₀ page count i₀ sizes i = (i ≤ count) × (count ≡ page.count) × (sizes ≡ tabulate i (λ j. size_told (answer_at page j)) ++ drop i sizes₀)
 
 abbrev decreases-loop : tie.decreases-loop
 decreases-loop sizes₀ page count i₀ sizes i = count - i
@@ -33,7 +33,7 @@ slice-write-sizes : tie.Need-slice-write-sizes invariant-loop decreases-loop
 slice-write-sizes c =
     let l = c.before.before.before.loop in
     let t = c.before.before.before.before.before in
-    omega (arith, filled-length _ _ _ _ l.invariant.2 (omega (arith, t.requires.0, t.requires.1)), t.requires.0, t.requires.1)
+    omega (arith, filled_length _ _ _ _ l.invariant.2 (omega (arith, t.requires.0, t.requires.1)), t.requires.0, t.requires.1)
 
 loop-again : tie.Need-loop-preserved invariant-loop decreases-loop
 loop-again c =
@@ -41,21 +41,21 @@ loop-again c =
     let t = c.before.before.before.before.before in
     let long : length t.args.t1.answers ≡ 64 =
     sym (length-map t.args.t1.answers _) ∙ (LL.owed TP.the_type TP'.the_laws t.args.t1 _ t.well-formed.0).1.1.0.1.0.1 in
-    let same = any-default t.args.t1.answers l.i _ _ (omega (arith, long, t.requires.0)) in
-    let said = c.size-told.ensures ∙ ap (λ (a : Answered). sizeTold a.answer) same in
+    let same = any_default t.args.t1.answers l.i _ _ (omega (arith, long, t.requires.0)) in
+    let said = c.size-told.ensures ∙ ap (λ (a : Answered). size_told a.answer) same in
     (omega arith, refl, copy_step _ l.i _ _ _ l.invariant.2 (omega (arith, t.requires.0, t.requires.1)) said)
 
 same_length : tie.Need-same-length invariant-loop decreases-loop
 same_length c =
     let t = c.before.before.before in
-    filled-length _ _ _ _ c.before.loop.invariant.2 (omega (arith, t.requires.0, t.requires.1))
+    filled_length _ _ _ _ c.before.loop.invariant.2 (omega (arith, t.requires.0, t.requires.1))
 
 returns : tie.Need-returns invariant-loop decreases-loop
 returns c =
     let l = c.before.loop in
     let a = c.before.before.before.args in
     let e : l.i ≡ a.t1.count = omega (arith, l.invariant.0, l.invariant.1, c.loop-test.false) in
-    l.invariant.2 ∙ ap (λ k. tabulate k (λ j. sizeTold (answerAt a.t1 j)) ++ drop k a.sizes.now) e
+    l.invariant.2 ∙ ap (λ k. tabulate k (λ j. size_told (answer_at a.t1 j)) ++ drop k a.sizes.now) e
 
 pub tell-sizes-spec : {M : Type 1} → statement M
 tell-sizes-spec =

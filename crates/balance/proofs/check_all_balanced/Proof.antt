@@ -5,14 +5,14 @@ use native.Mathlib.Omega.{arith}
 use borrow.Author.Rules.{rules}
 use Rattle.maps.specs.Map.{Map}
 use Rattle.arrays.specs.At.{at, atℤ}
-use Rattle.arrays.proofs.FillLoops.{same-everywhere}
-use Rattle.balance.proofs.Nets.{up-to-all}
-use Rattle.balance.proofs.Balance.{judged-all}
+use Rattle.arrays.proofs.FillLoops.{same_everywhere}
+use Rattle.balance.proofs.Nets.{up_to_all}
+use Rattle.balance.proofs.Balance.{judged_all}
 use Rattle.balance.proofs.check_all_balanced.Statement.{statement}
 use Rattle.balance.proofs.check_all_balanced.Tie as tie
 
 fill-nets-requires : tie.Need-fill-nets-requires
-fill-nets-requires c κs = let s = c.before in (s.requires.1, s.requires.2, refl, s.requires.3, s.requires.4, same-everywhere 1024 (pos 0))
+fill-nets-requires c κs = let s = c.before in (s.requires.1, s.requires.2, refl, s.requires.3, s.requires.4, same_everywhere 1024 (pos 0))
 
 returns : tie.Need-returns
 returns c rotation =
@@ -20,8 +20,8 @@ returns c rotation =
     let start = c.before.before.before.before in
     let a = start.args in
     let 𝓜 : Map = record { nodes = a.nodes; edges = a.edges; tail = at a.tails.now; rotation = rotation } in
-    judged-all 𝓜 (atℤ a.flows.now) (atℤ filled.new.1.1.1.0)
-    (λ v l. filled.ensures.1 v (omega (arith, l, start.requires.0)) ∙ up-to-all 𝓜 (atℤ a.flows.now) v)
+    judged_all 𝓜 (atℤ a.flows.now) (atℤ filled.new.1.1.1.0)
+    (λ v l. filled.ensures.1 v (omega (arith, l, start.requires.0)) ∙ up_to_all 𝓜 (atℤ a.flows.now) v)
     a.nodes a.nodes c.check-balance.result (omega arith) (omega arith) c.check-balance.ensures
 
 pub check-all-balanced-spec : {M : Type 1} → statement M

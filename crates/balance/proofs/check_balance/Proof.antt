@@ -3,12 +3,12 @@ use Prim.Native.Nat.{ℕ, ◌≤◌, ◌<◌, ◌-◌}
 use native.Mathlib.Omega.{arith}
 use borrow.Author.Count.{below_more}
 use borrow.Author.Rules.{rules}
-use Rattle.signed.proofs.Laws.{number-of-bits}
+use Rattle.signed.proofs.Laws.{number_of_bits}
 use Rattle.refusals.specs.Order.{Decides}
-use Rattle.refusals.proofs.Order.{said-yes, said-no}
+use Rattle.refusals.proofs.Order.{said_yes, said_no}
 use Rattle.arrays.specs.At.{atℤ}
-use Rattle.balance.specs.inner.Check.{Off, offChecks}
-use Rattle.balance.proofs.Lowest.{lowest, none-holds}
+use Rattle.balance.specs.inner.Check.{Off, off_checks}
+use Rattle.balance.proofs.Lowest.{lowest, none_holds}
 use Rattle.balance.proofs.check_balance.Statement.{statement}
 use Rattle.balance.proofs.check_balance.Tie as tie
 
@@ -30,27 +30,27 @@ at-loop c = c.before.before.before
 
 judged-here : (c : Tested) → Decides (OffAt (at-loop c).before (at-loop c).loop.v) c.off-balance.result
 judged-here c =
-    rw (number-of-bits (atℤ (at-loop c).before.args.nets.now (at-loop c).loop.v) (record { sfits = c.before.off-balance-arg.given }))
+    rw (number_of_bits (atℤ (at-loop c).before.args.nets.now (at-loop c).loop.v) (record { sfits = c.before.off-balance-arg.given }))
     at c.off-balance.ensures
 
 returns : tie.Need-returns invariant-loop decreases-loop
-unfolding offChecks
+unfolding off_checks
 returns c =
     let t = c.before.before in
     let l = at-loop t in
     let s = l.before in
     lowest s.args.nodes 18 (OffAt s) l.loop.v c.narrow.result (omega arith) l.loop.inv.1
-    (said-yes (judged-here t) c.before.if1.true) c.narrow.ensures
+    (said_yes (judged-here t) c.before.if1.true) c.narrow.ensures
 
 loop-again : tie.Need-loop-preserved invariant-loop decreases-loop
 loop-again c =
     let o = (at-loop c.before).loop in
-    (omega arith, below_more _ o.v o.inv.1 (said-no (judged-here c.before) c.if1.false))
+    (omega arith, below_more _ o.v o.inv.1 (said_no (judged-here c.before) c.if1.false))
 
 -- ── all nodes are tested ──
 returns-2 : tie.Need-returns-2 invariant-loop decreases-loop
-unfolding offChecks
-returns-2 c = let s = c.before.before in none-holds s.args.nodes 18 (OffAt s) (λ u l. c.before.loop.invariant.1 u (omega arith))
+unfolding off_checks
+returns-2 c = let s = c.before.before in none_holds s.args.nodes 18 (OffAt s) (λ u l. c.before.loop.invariant.1 u (omega arith))
 
 pub check-balance-spec : {M : Type 1} → statement M
 check-balance-spec =

@@ -3,12 +3,12 @@ use Prim.Native.Nat.{◌*◌, ℕ, ◌≤◌, ◌<◌, ◌-◌, ◌+◌}
 use native.Mathlib.Omega.{arith}
 use borrow.Author.Count.{below_more}
 use borrow.Author.Rules.{rules}
-use Rattle.signed.proofs.Laws.{number-of-bits}
-use Rattle.refusals.proofs.Order.{said-yes, said-no}
+use Rattle.signed.proofs.Laws.{number_of_bits}
+use Rattle.refusals.proofs.Order.{said_yes, said_no}
 use Rattle.refusals.specs.Order.{Decides}
-use Rattle.flows.specs.Check.{Exceeds, withinChecks}
+use Rattle.flows.specs.Check.{Exceeds, within_checks}
 use Rattle.arrays.specs.At.{atℤ}
-use Rattle.balance.proofs.Lowest.{lowest, none-holds}
+use Rattle.balance.proofs.Lowest.{lowest, none_holds}
 use Rattle.balance.proofs.check_within.Statement.{statement}
 use Rattle.balance.proofs.check_within.Tie as tie
 
@@ -36,30 +36,30 @@ judged-here c =
     let a = (at-loop c).before.args in
     let e = (at-loop c).loop.e in
     rw (
-      number-of-bits (atℤ a.capacities.now (2 * e)) (record { sfits = (read c).exceeds-arg.given }),
-      number-of-bits (atℤ a.capacities.now (2 * e + 1)) (record { sfits = c.before.before.exceeds-arg2.given }),
-      number-of-bits (atℤ a.flows.now e) (record { sfits = c.before.exceeds-arg3.given }),
+      number_of_bits (atℤ a.capacities.now (2 * e)) (record { sfits = (read c).exceeds-arg.given }),
+      number_of_bits (atℤ a.capacities.now (2 * e + 1)) (record { sfits = c.before.before.exceeds-arg2.given }),
+      number_of_bits (atℤ a.flows.now e) (record { sfits = c.before.exceeds-arg3.given }),
     ) at c.exceeds.ensures
 
 -- it exceeds, and no edge below it does
 returns : tie.Need-returns invariant-loop decreases-loop
-unfolding withinChecks
+unfolding within_checks
 returns c =
     let t = c.before.before in
     let l = at-loop t in
     let s = l.before in
     lowest s.args.edges 17 (Exceeding s) l.loop.e c.narrow.result (omega arith) l.loop.inv.1
-    (said-yes (judged-here t) c.before.if1.true) c.narrow.ensures
+    (said_yes (judged-here t) c.before.if1.true) c.narrow.ensures
 
 loop-again : tie.Need-loop-preserved invariant-loop decreases-loop
 loop-again c =
     let o = (at-loop c.before).loop in
-    (omega arith, below_more _ o.e o.inv.1 (said-no (judged-here c.before) c.if1.false))
+    (omega arith, below_more _ o.e o.inv.1 (said_no (judged-here c.before) c.if1.false))
 
 -- ── all edges are tested ──
 returns-2 : tie.Need-returns-2 invariant-loop decreases-loop
-unfolding withinChecks
-returns-2 c = let s = c.before.before in none-holds s.args.edges 17 (Exceeding s) (λ k l. c.before.loop.invariant.1 k (omega arith))
+unfolding within_checks
+returns-2 c = let s = c.before.before in none_holds s.args.edges 17 (Exceeding s) (λ k l. c.before.loop.invariant.1 k (omega arith))
 
 pub check-within-spec : {M : Type 1} → statement M
 check-within-spec =

@@ -6,28 +6,28 @@ use mir.Syntax.{w64}
 use mir.Val.{to_z, of_z}
 use mir.ValLaws.{to_z-of_z}
 use borrow.Author.Rules.{rules}
-use Rattle.integers.proofs.Laws.{lt-of-test, ge-of-test, lt-le-clash}
-use Rattle.signed.proofs.Laws.{number-of-bits}
+use Rattle.integers.proofs.Laws.{lt_of_test, ge_of_test, lt_le_clash}
+use Rattle.signed.proofs.Laws.{number_of_bits}
 use Rattle.refusals.proofs.Order.{neither}
-use Rattle.refusals.proofs.Decisions.{decides-by}
-use Rattle.balance.proofs.Tests.{below-against, against-below}
+use Rattle.refusals.proofs.Decisions.{decides_by}
+use Rattle.balance.proofs.Tests.{below_against, against_below}
 use Rattle.balance.proofs.exceeds.Statement.{statement}
 use Rattle.balance.proofs.exceeds.Tie as tie
 
 returns : tie.Need-returns
-returns c = inl (lt-of-test _ _ (rw (number-of-bits _ c.before.ranges.forward, number-of-bits _ c.before.ranges.x) at c.if1.true))
+returns c = inl (lt_of_test _ _ (rw (number_of_bits _ c.before.ranges.forward, number_of_bits _ c.before.ranges.x) at c.if1.true))
 
 returns-2 : tie.Need-returns-2
 returns-2 c =
     let a = c.before.before.before.args in
     let f = c.before.before.before.ranges in
-    let left = ge-of-test _ _ (rw (number-of-bits _ f.forward, number-of-bits _ f.x) at c.before.before.if1.false) in
+    let left = ge_of_test _ _ (rw (number_of_bits _ f.forward, number_of_bits _ f.x) at c.before.before.if1.false) in
     let sum : to_z w64 (of_z w64 c.before.add32.result) ≡ a.x +ℤ a.backward =
-    to_z-of_z w64 _ (record { sfits = c.before.add32.type-inv }) ∙ c.before.add32.ensures ∙ ap₂ ◌+ℤ◌ (number-of-bits _ f.x) (number-of-bits _ f.backward) in
-    decides-by c.below-zero.result
-    (λ h. inr (below-against a.x a.backward h))
-    (λ h. neither (λ g. lt-le-clash g left) (λ g. h (against-below a.x a.backward g)))
-    (rw sum at c.below-zero.ensures)
+    to_z-of_z w64 _ (record { sfits = c.before.add32.type-inv }) ∙ c.before.add32.ensures ∙ ap₂ ◌+ℤ◌ (number_of_bits _ f.x) (number_of_bits _ f.backward) in
+    decides_by c.below_zero.result
+    (λ h. inr (below_against a.x a.backward h))
+    (λ h. neither (λ g. lt_le_clash g left) (λ g. h (against_below a.x a.backward g)))
+    (rw sum at c.below_zero.ensures)
 
 pub exceeds-spec : {M : Type 1} → statement M
 exceeds-spec = tie.close (tie.spec returns (λ c κs. search rules) (λ c κs. search rules) returns-2)

@@ -8,22 +8,22 @@ use lib.IntN.{ℤ}
 use mir.Syntax.{w32}
 use mir.Val.{to_z, of_z}
 use borrow.Author.Rules.{rules}
-use Rattle.signed.proofs.Laws.{number-of-bits}
+use Rattle.signed.proofs.Laws.{number_of_bits}
 use Rattle.arrays.specs.At.{at, atℤ}
-use Rattle.balance.specs.inner.NetUpTo.{netUpTo}
-use Rattle.balance.proofs.Nets.{net-none, net-stepped, added-fits, taken-fits}
+use Rattle.balance.specs.inner.NetUpTo.{net_up_to}
+use Rattle.balance.proofs.Nets.{net_none, net_stepped, added_fits, taken_fits}
 use Rattle.balance.proofs.fill_nets.Statement.{statement}
 use Rattle.balance.proofs.fill_nets.Tie as tie
 
 abbrev invariant-loop : tie.invariant-loop
 invariant-loop tails edges flows nets₀ e₀ nets e =
-    (e ≤ edges) × (length nets ≡ 1024) × ((v : ℕ) → v < 1024 → atℤ nets v ≡ netUpTo (at tails) (atℤ flows) (2 * e) v)
+    (e ≤ edges) × (length nets ≡ 1024) × ((v : ℕ) → v < 1024 → atℤ nets v ≡ net_up_to (at tails) (atℤ flows) (2 * e) v)
 
 abbrev decreases-loop : tie.decreases-loop
 decreases-loop tails edges flows nets₀ e₀ nets e = edges - e
 
 loop-holds : tie.Need-loop-init invariant-loop decreases-loop
-loop-holds c = (omega arith, c.requires.2, λ v l. c.requires.5 v ∙ sym (net-none _ _ v))
+loop-holds c = (omega arith, c.requires.2, λ v l. c.requires.5 v ∙ sym (net_none _ _ v))
 
 -- ── the head of the loop ──
 abbrev At-loop : Type 0
@@ -60,8 +60,8 @@ add-at-requires c κs =
     let v = t.wide.result in (
       l.loop.inv.1,
       tail-below t,
-      rw (number-of-bits (flow l) (record { sfits = c.add-at-arg2.given }), l.loop.inv.2 v (tail-below t))
-          (added-fits (tailsAt l) (flowsAt l) s.args.edges s.pre.4 l.loop.e v (omega arith) s.pre.0),
+      rw (number_of_bits (flow l) (record { sfits = c.add-at-arg2.given }), l.loop.inv.2 v (tail-below t))
+          (added_fits (tailsAt l) (flowsAt l) s.args.edges s.pre.4 l.loop.e v (omega arith) s.pre.0),
     )
 
 -- ── the head is read: the flow is taken away there ──
@@ -81,8 +81,8 @@ head-below : (c : Head) → c.wide2.result < 1024
 head-below c = let l = round c in omega (arith, c.wide2.ensures, (begun l).pre.3 (2 * l.loop.e + 1) (omega arith))
 
 -- the flow is the number of its bits
-flow-is : (c : tie.After-sub-at-arg2 invariant-loop decreases-loop) → to_z w32 (of_z w32 (flow (round c.before))) ≡ flow (round c.before)
-flow-is c = number-of-bits (flow (round c.before)) (record { sfits = c.sub-at-arg2.given })
+flow_is : (c : tie.After-sub-at-arg2 invariant-loop decreases-loop) → to_z w32 (of_z w32 (flow (round c.before))) ≡ flow (round c.before)
+flow_is c = number_of_bits (flow (round c.before)) (record { sfits = c.sub-at-arg2.given })
 
 sub-at-requires : tie.Need-sub-at-requires invariant-loop decreases-loop
 sub-at-requires c κs =
@@ -94,8 +94,8 @@ sub-at-requires c κs =
     let at_tail = eqb v (tail h).wide.result in (
       sums.0,
       head-below h,
-      rw (flow-is c, sums.1 v, flow-is c, l.loop.inv.2 v (head-below h))
-          (taken-fits (tailsAt l) (flowsAt l) s.args.edges s.pre.4 l.loop.e v at_tail (omega arith) s.pre.0),
+      rw (flow_is c, sums.1 v, flow_is c, l.loop.inv.2 v (head-below h))
+          (taken_fits (tailsAt l) (flowsAt l) s.args.edges s.pre.4 l.loop.e v at_tail (omega arith) s.pre.0),
     )
 
 -- ── both sums are done ──
@@ -108,8 +108,8 @@ loop-again c =
     let second = h.wide2 in (
       omega arith,
       c.sub_at.ensures.0,
-      λ v k. net-stepped (tailsAt l) (flowsAt l) l.loop.e v first.result second.result first.ensures second.ensures (l.loop.inv.2 v k)
-          (rw (flow-is b) at ((added h).add_at.ensures.1 v)) (rw (flow-is b) at (c.sub_at.ensures.1 v)),
+      λ v k. net_stepped (tailsAt l) (flowsAt l) l.loop.e v first.result second.result first.ensures second.ensures (l.loop.inv.2 v k)
+          (rw (flow_is b) at ((added h).add_at.ensures.1 v)) (rw (flow_is b) at (c.sub_at.ensures.1 v)),
     )
 
 returns : tie.Need-returns invariant-loop decreases-loop

@@ -3,8 +3,8 @@ use mathlib.Core.Logic.{inl, inr}
 use mir.Syntax.{w32}
 use mir.Val.{of_z}
 use Rattle.refusals.proofs.Order.{neither}
-use Rattle.refusals.proofs.Decisions.{decides-ne}
-use Rattle.balance.proofs.Tests.{bits-not-zero, bits-zero}
+use Rattle.refusals.proofs.Decisions.{decides_ne}
+use Rattle.balance.proofs.Tests.{bits_not_zero, bits_zero}
 use Rattle.balance.proofs.off_balance.Statement.{statement}
 use Rattle.balance.proofs.off_balance.Tie as tie
 
@@ -17,9 +17,9 @@ returns-2 c = λ p. p.0 (inr c.if2.true)
 returns-3 : tie.Need-returns-3
 returns-3 c =
     let x = c.before.before.args.sum in
-    decides-ne (of_z w32 x) 0
-    (λ h. (neither c.before.if1.false c.if2.false, bits-not-zero x h))
-    (λ h p. p.1 (bits-zero x c.before.before.ranges.sum h))
+    decides_ne (of_z w32 x) 0
+    (λ h. (neither c.before.if1.false c.if2.false, bits_not_zero x h))
+    (λ h p. p.1 (bits_zero x c.before.before.ranges.sum h))
 
 pub off-balance-spec : {M : Type 1} → statement M
 off-balance-spec = tie.close (tie.spec returns returns-2 returns-3)

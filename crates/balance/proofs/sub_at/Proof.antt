@@ -6,9 +6,9 @@ use lib.IntN.{neg_ℤ, ◌-ℤ◌}
 use mir.Syntax.{w32}
 use mir.Val.{to_z, of_z}
 use borrow.Author.Rules.{rules}
-use Rattle.signed.proofs.Laws.{number-of-bits}
+use Rattle.signed.proofs.Laws.{number_of_bits}
 use Rattle.arrays.specs.At.{atℤ}
-use Rattle.balance.proofs.Nets.{set-added}
+use Rattle.balance.proofs.Nets.{set_added}
 use Rattle.balance.proofs.sub_at.Statement.{statement}
 use Rattle.balance.proofs.sub_at.Tie as tie
 
@@ -18,9 +18,9 @@ returns c =
     let v = c.before.before.args.v in
     let x = c.before.before.args.x in
     let r : to_z w32 (of_z w32 c.minus.result) ≡ atℤ l v -ℤ x =
-    number-of-bits _ (record { sfits = c.minus.type-inv }) ∙ c.minus.ensures
-    ∙ ap₂ ◌-ℤ◌ (number-of-bits (atℤ l v) (record { sfits = c.before.minus-arg.given })) (number-of-bits x c.before.before.ranges.x) in
-    (simp length-set c.before.before.requires.0, set-added l v (neg_ℤ x) _ (omega (arith, c.before.before.requires.0)) r)
+    number_of_bits _ (record { sfits = c.minus.type-inv }) ∙ c.minus.ensures
+    ∙ ap₂ ◌-ℤ◌ (number_of_bits (atℤ l v) (record { sfits = c.before.minus-arg.given })) (number_of_bits x c.before.before.ranges.x) in
+    (simp length-set c.before.before.requires.0, set_added l v (neg_ℤ x) _ (omega (arith, c.before.before.requires.0)) r)
 
 pub sub-at-spec : {M : Type 1} → statement M
 sub-at-spec =

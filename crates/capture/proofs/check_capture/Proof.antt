@@ -52,13 +52,13 @@ use Rattle.refusals.specs.Order.{Judged}
 use Rattle.refusals.specs.declared.Verdict.{Verdict}
 use Rattle.refusals.specs.contracts.Verdict as TV
 use Rattle.refusals.proofs.Verdict.TheLaws as TV'
-use Rattle.capture.specs.Capture.{recordsChecks}
-use Rattle.capture.specs.inner.Taken.{Passing, Stands, goesOn, placeBehind, verdictOf}
+use Rattle.capture.specs.Capture.{records_checks}
+use Rattle.capture.specs.inner.Taken.{Passing, Stands, goesOn, place_behind, verdict_of}
 use Rattle.capture.specs.declared.Checked.{Checked}
 use Rattle.capture.specs.contracts.Reader as T
 use Rattle.capture.specs.contracts.Checked as C
 use Rattle.capture.proofs.Checked.TheLaws as C'
-use Rattle.capture.proofs.Checking.{behind-farther, goes-more, stands-start, stands-passing, stands-judged}
+use Rattle.capture.proofs.Checking.{behind_farther, goes_more, stands_start, stands_passing, stands_judged}
 use Rattle.capture.specs.contracts.goes_on as goes
 use Rattle.capture.proofs.goes_on.Symbol as goes-def
 use Rattle.capture.proofs.goes_on.Symbol.{name as #capture·goes-on}
@@ -171,7 +171,7 @@ module _ {M : Type 1} {𝓤 : Ura M} (𝓛 : Logic 𝓤) (mem : Memory → SProp
   abbrev Token : Item 𝓤
   Token = ‵ (flft κ q) ⊛ ‵ ftrue
 
-  exits : (d : Verdict) (u : Val) → Judged (recordsChecks edges b) d → ent 𝓤 (⋆ 𝓛 (‵ (RV.own d (u ∷ [])) ∷ Token ∷ ‵ Own ∷ [])) (Post u)
+  exits : (d : Verdict) (u : Val) → Judged (records_checks edges b) d → ent 𝓤 (⋆ 𝓛 (‵ (RV.own d (u ∷ [])) ∷ Token ∷ ‵ Own ∷ [])) (Post u)
   exits d u j =
       qed 𝓛 (‵ (RV.own d (u ∷ [])) ∷ Token ∷ ‵ Own ∷ []) ∵
       suffices ! _ (ends_at 𝓛 whole-capture.ended stayed (whole-capture.clauses 𝓛 mem run) (((κ, tt), (q, tt), tt, (s, (edges, tt)), at), tt) u d (
@@ -208,7 +208,7 @@ module _ {M : Type 1} {𝓤 : Ura M} (𝓛 : Logic 𝓤) (mem : Memory → SProp
         frame ! $ done !
 
     abbrev Checks : Checked → Type 0
-    Checks r' = Stands edges b (placeBehind b p) r'.refusal r'.last
+    Checks r' = Stands edges b (place_behind b p) r'.refusal r'.last
 
     check-said : (r' : Checked) → ent 𝓤 (ensured 𝓛 check.ended (check.clauses 𝓛 mem run) (κ, tt) (s, (p, (edges, (r, tt)))) tt r') (fact 𝓤 (Checks r'))
     check-said r' = ex_e 𝓤 _ (λ ws. snd∗ 𝓤 (sem 𝓛 (lasts check.ended (κ, tt) (s, (p, (edges, (r, tt)))) ws)) (fact 𝓤 (Checks r')))
@@ -221,8 +221,8 @@ module _ {M : Type 1} {𝓤 : Ura M} (𝓛 : Logic 𝓤) (mem : Memory → SProp
         qed 𝓛 (‵ Own ∷ Token ∷ []) ∵ nothing ! $ owned ! usize (Is usize) (uint_Makes 𝓛 w64) p _ (refl, fits) $ fjoin ! $ move ! (1 ∷ 0 ∷ []) $ fjoin ! $
         move ! (1 ∷ 0 ∷ []) $ join ! $ frame ! $ done !
 
-    behind-said : (n : ℕ) → ent 𝓤 (ensured 𝓛 behind.ended (behind.clauses 𝓛 mem run) (κ, tt) (s, (p, tt)) tt n) (fact 𝓤 (n ≡ placeBehind b p))
-    behind-said n = ex_e 𝓤 _ (λ ws. snd∗ 𝓤 (sem 𝓛 (lasts behind.ended (κ, tt) (s, (p, tt)) ws)) (fact 𝓤 (n ≡ placeBehind b p)))
+    behind-said : (n : ℕ) → ent 𝓤 (ensured 𝓛 behind.ended (behind.clauses 𝓛 mem run) (κ, tt) (s, (p, tt)) tt n) (fact 𝓤 (n ≡ place_behind b p))
+    behind-said n = ex_e 𝓤 _ (λ ws. snd∗ 𝓤 (sem 𝓛 (lasts behind.ended (κ, tt) (s, (p, tt)) ws)) (fact 𝓤 (n ≡ place_behind b p)))
 
     abbrev to-say : (SaysAll 𝓛 mem run).Ghost
     to-say = ((tt, tt, tt, (r, tt), (u ∷ [], tt)), tt)
@@ -230,8 +230,8 @@ module _ {M : Type 1} {𝓤 : Ura M} (𝓛 : Logic 𝓤) (mem : Memory → SProp
     say-asked : ent 𝓤 (⋆ 𝓛 (‵ (RC.own r (u ∷ [])) ∷ [])) ((SaysAll 𝓛 mem run).pre to-say)
     say-asked = qed 𝓛 (‵ (RC.own r (u ∷ [])) ∷ []) ∵ nothing ! $ move ! (1 ∷ 0 ∷ []) $ fjoin ! $ nothing ! $ join ! $ frame ! $ done !
 
-    say-said : (d : Verdict) → ent 𝓤 (ensured 𝓛 Says-All.ended (Says-All.clauses 𝓛 mem run) tt (r, tt) tt d) (fact 𝓤 (d ≡ verdictOf r.refusal))
-    say-said d = ex_e 𝓤 _ (λ ws. snd∗ 𝓤 (sem 𝓛 (lasts Says-All.ended tt (r, tt) ws)) (fact 𝓤 (d ≡ verdictOf r.refusal)))
+    say-said : (d : Verdict) → ent 𝓤 (ensured 𝓛 Says-All.ended (Says-All.clauses 𝓛 mem run) tt (r, tt) tt d) (fact 𝓤 (d ≡ verdict_of r.refusal))
+    say-said d = ex_e 𝓤 _ (λ ws. snd∗ 𝓤 (sem 𝓛 (lasts Says-All.ended tt (r, tt) ws)) (fact 𝓤 (d ≡ verdict_of r.refusal)))
 
   module _ (𝓣 : Tables 𝓤 H) (known : Known 𝓛 mem run 𝓣) (is : Is (ShrSlice (named 0) κ u8) s (v ∷ [])) (long : length b < 2 ^ 64)
       (l₀ l₁ l₂ l₃ l₄ l₅ l₆ l₇ l₈ l₉ l₁₀ l₁₁ : ℕ) where
@@ -274,7 +274,7 @@ module _ {M : Type 1} {𝓤 : Ura M} (𝓛 : Logic 𝓤) (mem : Memory → SProp
 
     -- a turn in which a record is checked
     more : (p : ℕ) (r : Checked) (u : Val) (X : SProp 𝓤) → p < 2 ^ 64 → goesOn b p r.refusal ≡ true → (p < length b) × Passing edges b p r.last
-        → ((r' : Checked) (u' : Val) → Stands edges b (placeBehind b p) r'.refusal r'.last → ent 𝓤 (⋆ 𝓛 (At (placeBehind b p) r' u')) X)
+        → ((r' : Checked) (u' : Val) → Stands edges b (place_behind b p) r'.refusal r'.last → ent 𝓤 (⋆ 𝓛 (At (place_behind b p) r' u')) X)
         → ent 𝓤 (⋆ 𝓛 (At p r u)) (Wp 𝓤 H Cs Λ En mirs.turn-1 (after_turn 𝓤 H X Left))
     unfolding after_turn
     more p r u X fits on φ k =
@@ -327,8 +327,8 @@ module _ {M : Type 1} {𝓤 : Ura M} (𝓛 : Logic 𝓤) (mem : Memory → SProp
         (look ! 10 refl)) (and_then ! (load ! (from ! (stop !)) (look ! 11 refl)) (no_more !))) (λ u₃.
         use1 𝓛 (later (some (λ (n : ℕ). (Token ⊛ ‵ (usize.own_val n (u₃ ∷ []))) ⊛ raw (ensured 𝓛 behind.ended (behind.clauses 𝓛 mem run) (κ, tt)
         (s, (p, tt)) tt n)))) (id⊢ 𝓤 _) $ await ! tt $ pick ! (λ n.
-        split ! $ move ! (1 ∷ []) $ use1 𝓛 (raw (fact 𝓤 (n ≡ placeBehind b p))) (behind-said p r u n) $
-        heard ! (n ≡ placeBehind b p) (λ e₃. split ! $ move ! (1 ∷ []) $ facts ! usize (Is usize) (shows 𝓛 usize) n (u₃ ∷ []) (λ is₃.
+        split ! $ move ! (1 ∷ []) $ use1 𝓛 (raw (fact 𝓤 (n ≡ place_behind b p))) (behind-said p r u n) $
+        heard ! (n ≡ place_behind b p) (λ e₃. split ! $ move ! (1 ∷ []) $ facts ! usize (Is usize) (shows 𝓛 usize) n (u₃ ∷ []) (λ is₃.
         -- [the token; what the slice owns; what is checked owns; _3; …]
         land_last ! (from ! (fld ! refl (stop !))) (store_in ! 3 (sub ! 1 refl (whole !)) ((uint_Lawful 𝓛 w64).typed n (u₃ ∷ []) is₃).0) $
         rewrite ! 3 (λ (w : Val). ‵ (fat full_share readerTy l₃ 0 (vstruct (vcons v (vcons w vnil))))) (ap only (uint_Tells w64 n (u₃ ∷ []) is₃)
@@ -364,8 +364,8 @@ module _ {M : Type 1} {𝓤 : Ura M} (𝓛 : Logic 𝓤) (mem : Memory → SProp
         (no_more !)) (λ u₂.
         use1 𝓛 (later (some (λ (d : Verdict). (‵ ftrue ⊛ ‵ (RV.own d (u₂ ∷ []))) ⊛ raw (ensured 𝓛 Says-All.ended (Says-All.clauses 𝓛 mem run) tt
         (r, tt) tt d)))) (id⊢ 𝓤 _) $ await ! tt $ pick ! (λ d.
-        split ! $ move ! (1 ∷ []) $ use1 𝓛 (raw (fact 𝓤 (d ≡ verdictOf r.refusal))) (say-said p r u d) $
-        heard ! (d ≡ verdictOf r.refusal) (λ e₂. split ! $ drop ! $ peeks ! RV (Is RV) (shows 𝓛 RV) d (u₂ ∷ []) (λ is₂.
+        split ! $ move ! (1 ∷ []) $ use1 𝓛 (raw (fact 𝓤 (d ≡ verdict_of r.refusal))) (say-said p r u d) $
+        heard ! (d ≡ verdict_of r.refusal) (λ e₂. split ! $ drop ! $ peeks ! RV (Is RV) (shows 𝓛 RV) d (u₂ ∷ []) (λ is₂.
         -- [the verdict; the token; what the slice owns; _3; _4; _5; …; _11; _1; _2; _0; and that each local dies]
         land ! (from ! (stop !)) (init ! 14 refl ((EL.lawful TV.the_type TV'.the_laws 𝓛 tt).typed d _ is₂).0) $
         returns ! (look ! 14 refl) $ forget ! 3 refl $ forget ! 4 refl $ forget ! 5 refl $ forget ! 6 refl $ forget ! 7 refl $ forget ! 12 refl $
@@ -373,7 +373,7 @@ module _ {M : Type 1} {𝓤 : Ura M} (𝓛 : Logic 𝓤) (mem : Memory → SProp
         move ! (14 ∷ 15 ∷ []) $ free1 ! $ move ! (12 ∷ 14 ∷ []) $ free1 ! $ move ! (12 ∷ 13 ∷ []) $ free1 ! $ move ! (3 ∷ 12 ∷ []) $ free1 ! $
         move ! (3 ∷ 11 ∷ []) $ free1 ! $ move ! (3 ∷ 10 ∷ []) $ free1 ! $ move ! (3 ∷ 9 ∷ []) $ free1 ! $ move ! (3 ∷ 8 ∷ []) $ free1 ! $
         move ! (3 ∷ 7 ∷ []) $ free1 ! $ move ! (3 ∷ 6 ∷ []) $ free1 ! $ move ! (3 ∷ 5 ∷ []) $ free1 ! $ move ! (3 ∷ 4 ∷ []) $ free1 ! $ free0 ! $
-        by ! (exits d u₂ (subst (Judged (recordsChecks edges b)) (sym e₂) (stands-judged stands off)))))))))))
+        by ! (exits d u₂ (subst (Judged (records_checks edges b)) (sym e₂) (stands_judged stands off)))))))))))
 
     into : (t p : ℕ) (r : Checked) (u : Val) → Holds t p r → ent 𝓤 (⋆ 𝓛 (At p r u)) (Inv t)
     into t p r u h =
@@ -392,11 +392,11 @@ module _ {M : Type 1} {𝓤 : Ura M} (𝓛 : Logic 𝓤) (mem : Memory → SProp
         go : (on : Bool) → goesOn b p r.refusal ≡ on → ent 𝓤 (⋆ 𝓛 (At p r u)) (Wp 𝓤 H Cs Λ En mirs.turn-1 (after_turn 𝓤 H (Below t) Left))
         go false off = ends p r u (Below t) fits off h.1
         go true on =
-            let m = goes-more b p r.refusal on in
-            let f = behind-farther b p m.1 in
-            let left = length b - placeBehind b p in
-            more p r u (Below t) fits on (m.1, stands-passing h.1 m.0) (λ r' u' stands.
-            via 𝓤 (Inv left) (into left (placeBehind b p) r' u' (omega (arith, f.1), stands))
+            let m = goes_more b p r.refusal on in
+            let f = behind_farther b p m.1 in
+            let left = length b - place_behind b p in
+            more p r u (Below t) fits on (m.1, stands_passing h.1 m.0) (λ r' u' stands.
+            via 𝓤 (Inv left) (into left (place_behind b p) r' u' (omega (arith, f.1), stands))
             (via 𝓤 (guard 𝓤 (left < t) (Inv left)) (guard_i 𝓤 (left < t) (Inv left) (omega (arith, h.0, f.0, f.1)))
             (ex_i 𝓤 (λ (t' : ℕ). guard 𝓤 (t' < t) (Inv t')) left)))
 
@@ -408,7 +408,7 @@ module _ {M : Type 1} {𝓤 : Ura M} (𝓛 : Logic 𝓤) (mem : Memory → SProp
 
     loops : ent 𝓤 (⋆ 𝓛 (At 0 start (C'.lowered start))) (Wp 𝓤 H Cs Λ En (mir.Syntax.loop mirs.turn-1) Left)
     loops =
-        via 𝓤 (Inv (length b)) (into (length b) 0 start (C'.lowered start) (omega arith, stands-start edges b))
+        via 𝓤 (Inv (length b)) (into (length b) 0 start (C'.lowered start) (omega arith, stands_start edges b))
         (loop_rule 𝓤 H 𝓛.laws 𝓣 ◌<◌ lt-wf_rel.wf En mirs.turn-1 Left Inv turns (length b))
 
     -- the locals as they are passed

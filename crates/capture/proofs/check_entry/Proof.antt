@@ -3,7 +3,7 @@ use mathlib.Core.Path.{sym, ◌∙◌}
 use mathlib.Core.Logic.{inr}
 use native.Mathlib.Omega.{arith}
 use borrow.Author.Rules.{rules}
-use Rattle.capture.proofs.Checking.{out-wrong, out-cut, out-channel, out-tick, stands-step}
+use Rattle.capture.proofs.Checking.{out_wrong, out_cut, out_channel, out_tick, stands_step}
 use Rattle.capture.proofs.check_entry.Statement.{statement}
 use Rattle.capture.proofs.check_entry.Tie as tie
 
@@ -14,7 +14,7 @@ returns c =
     let k = e.before.before in
     let s = k.before.before in
     let found = sym k.entry_at.ensures ∙ e.entry.given.1 in
-    inr (omega arith, out-channel s.requires.1 s.requires.0 _ _ _ found (omega (arith, w.wide.ensures, c.if1.true)))
+    inr (omega arith, out_channel s.requires.1 s.requires.0 _ _ _ found (omega (arith, w.wide.ensures, c.if1.true)))
 
 returns-2 : tie.Need-returns-2
 returns-2 c =
@@ -24,19 +24,19 @@ returns-2 c =
     let k = e.before.before in
     let s = k.before.before in
     let found = sym k.entry_at.ensures ∙ e.entry.given.1 in
-    inr (omega arith, out-tick s.requires.1 s.requires.0 _ _ _ found (omega (arith, w.wide.ensures, left.if1.false)) c.if2.true)
+    inr (omega arith, out_tick s.requires.1 s.requires.0 _ _ _ found (omega (arith, w.wide.ensures, left.if1.false)) c.if2.true)
 
 returns-3 : tie.Need-returns-3
 returns-3 c =
     let k = c.before.before in
     let s = k.before.before in
-    inr (omega arith, out-wrong s.requires.1 s.requires.0 (sym k.entry_at.ensures ∙ c.enum_told.given.1))
+    inr (omega arith, out_wrong s.requires.1 s.requires.0 (sym k.entry_at.ensures ∙ c.enum_told.given.1))
 
 returns-4 : tie.Need-returns-4
 returns-4 c =
     let k = c.before.before in
     let s = k.before.before in
-    inr (omega arith, out-cut s.requires.1 s.requires.0 (sym k.entry_at.ensures ∙ c.enum-told2.given.1))
+    inr (omega arith, out_cut s.requires.1 s.requires.0 (sym k.entry_at.ensures ∙ c.enum-told2.given.1))
 
 returns-5 : tie.Need-returns-5
 returns-5 c =
@@ -46,7 +46,7 @@ returns-5 c =
     let k = e.before.before in
     let s = k.before.before in
     let found = sym k.entry_at.ensures ∙ e.entry.given.1 in
-    stands-step s.requires.1 s.requires.0 _ _ _ found (omega (arith, w.wide.ensures, left.if1.false)) c.if2.false
+    stands_step s.requires.1 s.requires.0 _ _ _ found (omega (arith, w.wide.ensures, left.if1.false)) c.if2.false
 
 pub check-entry-spec : {M : Type 1} → statement M
 check-entry-spec =

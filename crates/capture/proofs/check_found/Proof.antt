@@ -4,18 +4,18 @@ use Prim.Native.Nat.{ℕ, ◌-◌, ◌*◌, ◌+◌, ◌≤◌, ◌<◌}
 use native.Mathlib.Omega.{arith}
 use borrow.Author.Count.{below_more}
 use borrow.Author.Rules.{rules}
-use Rattle.signed.proofs.Laws.{number-of-bits}
+use Rattle.signed.proofs.Laws.{number_of_bits}
 use Rattle.refusals.specs.Order.{NoneOf, Judged}
-use Rattle.refusals.proofs.Order.{first-in-turn, none-in-turn}
+use Rattle.refusals.proofs.Order.{first_in_turn, none_in_turn}
 use Rattle.arrays.specs.At.{atℤ}
-use Rattle.records.specs.Check.{capacityChecks}
-use Rattle.capture.specs.Capture.{limitsChecks}
+use Rattle.records.specs.Check.{capacity_checks}
+use Rattle.capture.specs.Capture.{limits_checks}
 use Rattle.capture.proofs.check_found.Statement.{statement}
 use Rattle.capture.proofs.check_found.Tie as tie
 
 abbrev invariant-loop : tie.invariant-loop
 invariant-loop capacities edges e₀ e =
-    (e ≤ edges) × (edges ≤ 512) × ((i : ℕ) → i < e → NoneOf (capacityChecks (atℤ capacities (2 * i)) (atℤ capacities (2 * i + 1))))
+    (e ≤ edges) × (edges ≤ 512) × ((i : ℕ) → i < e → NoneOf (capacity_checks (atℤ capacities (2 * i)) (atℤ capacities (2 * i + 1))))
 
 abbrev decreases-loop : tie.decreases-loop
 decreases-loop capacities edges e₀ e = edges - e
@@ -25,13 +25,13 @@ abbrev turn : tie.After-check-capacities invariant-loop decreases-loop → tie.A
 turn k = k.before.before.before.before
 
 judged : (k : tie.After-check-capacities invariant-loop decreases-loop)
-    → Judged (capacityChecks (atℤ (turn k).before.args.capacities.now (2 * (turn k).loop.e)) (atℤ (turn k).before.args.capacities.now
+    → Judged (capacity_checks (atℤ (turn k).before.args.capacities.now (2 * (turn k).loop.e)) (atℤ (turn k).before.args.capacities.now
     (2 * (turn k).loop.e + 1)))
     k.check-capacities.result
 judged k =
     rw (
-      number-of-bits _ (record { sfits = k.before.before.check-capacities-arg.given }),
-      number-of-bits _ (record { sfits = k.before.check-capacities-arg2.given }),
+      number_of_bits _ (record { sfits = k.before.before.check-capacities-arg.given }),
+      number_of_bits _ (record { sfits = k.before.check-capacities-arg2.given }),
     ) at k.check-capacities.ensures
 
 -- ── the needs, in the order of the code ──
@@ -39,11 +39,11 @@ loop-holds : tie.Need-loop-init invariant-loop decreases-loop
 loop-holds c = (omega arith, omega arith, λ i l. absurd (omega arith))
 
 returns : tie.Need-returns invariant-loop decreases-loop
-unfolding limitsChecks
+unfolding limits_checks
 returns c =
     let k = c.before.before.before in
     let i = (turn k).loop in
-    first-in-turn _ _ i.e _ _ (omega arith) i.inv.2 (subst (Judged _) c.before.channel.given.1 (judged k))
+    first_in_turn _ _ i.e _ _ (omega arith) i.inv.2 (subst (Judged _) c.before.channel.given.1 (judged k))
 
 loop-again : tie.Need-loop-preserved invariant-loop decreases-loop
 loop-again c =
@@ -52,8 +52,8 @@ loop-again c =
     (omega arith, i.inv.1, below_more _ i.e i.inv.2 (subst (Judged _) c.enum_told.given.1 (judged k)))
 
 returns-2 : tie.Need-returns-2 invariant-loop decreases-loop
-unfolding limitsChecks
-returns-2 c = let i = c.before.loop in none-in-turn _ _ (λ e l. i.invariant.2 e (omega arith))
+unfolding limits_checks
+returns-2 c = let i = c.before.loop in none_in_turn _ _ (λ e l. i.invariant.2 e (omega arith))
 
 pub check-found-spec : {M : Type 1} → statement M
 check-found-spec =

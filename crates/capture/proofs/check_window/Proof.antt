@@ -4,24 +4,24 @@ use mathlib.Core.Logic.{inl, inr}
 use native.Mathlib.Omega.{arith}
 use Rattle.refusals.specs.Order.{FirstOf, NoneOf}
 use Rattle.refusals.proofs.Order.{neither}
-use Rattle.capture.specs.Capture.{windowChecks}
+use Rattle.capture.specs.Capture.{window_checks}
 use Rattle.capture.proofs.check_window.Statement.{statement}
 use Rattle.capture.proofs.check_window.Tie as tie
 
 returns : tie.Need-returns
-unfolding FirstOf windowChecks
+unfolding FirstOf window_checks
 returns c = inl (inl (inl (omega arith)), refl, refl)
 
 returns-2 : tie.Need-returns-2
-unfolding FirstOf windowChecks
+unfolding FirstOf window_checks
 returns-2 c = inl (inl (inr (omega arith)), refl, refl)
 
 returns-3 : tie.Need-returns-3
-unfolding FirstOf windowChecks
+unfolding FirstOf window_checks
 returns-3 c = inl (inr (omega arith), refl, refl)
 
 returns-4 : tie.Need-returns-4
-unfolding NoneOf windowChecks
+unfolding NoneOf window_checks
 returns-4 c = (neither (neither (λ h. omega arith) (λ h. omega arith)) (λ h. omega arith), tt)
 
 pub check-window-spec : {M : Type 1} → statement M

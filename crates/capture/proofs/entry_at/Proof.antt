@@ -4,14 +4,14 @@ use Prim.Native.Nat.{◌+◌, ◌≤◌}
 use native.Mathlib.Omega.{arith}
 use lib.ListN.{length}
 use borrow.Author.Rules.{rules}
-use Rattle.signed.proofs.Laws.{number-of-bits}
-use Rattle.records.specs.Record.{recordLength}
-use Rattle.capture.proofs.Reading.{reads_nothing, reads-wrong, reads-cut, reads-full, full-of}
+use Rattle.signed.proofs.Laws.{number_of_bits}
+use Rattle.records.specs.Record.{record_length}
+use Rattle.capture.proofs.Reading.{reads_nothing, reads_wrong, reads_cut, reads_full, full_of}
 use Rattle.capture.proofs.entry_at.Statement.{statement}
 use Rattle.capture.proofs.entry_at.Tie as tie
 
 -- ── what is known once the length is enough ──
-whole : (c : tie.Else3) → c.before.before.before.before.before.before.args.at + recordLength 5
+whole : (c : tie.Else3) → c.before.before.before.before.before.before.args.at + record_length 5
     ≤ length c.before.before.before.before.before.before.args.capture.now
 whole c = omega (arith, c.before.record-length.ensures.0)
 
@@ -20,10 +20,10 @@ returns : tie.Need-returns
 returns c = sym (reads_nothing _ _ (omega arith))
 
 returns-2 : tie.Need-returns-2
-returns-2 c = sym (reads-wrong _ _ c.if2.true)
+returns-2 c = sym (reads_wrong _ _ c.if2.true)
 
 returns-3 : tie.Need-returns-3
-returns-3 c = sym (reads-cut _ _ c.before.before.if2.false (omega (arith, c.before.record-length.ensures.0)))
+returns-3 c = sym (reads_cut _ _ c.before.before.if2.false (omega (arith, c.before.record-length.ensures.0)))
 
 add-read-u32 : tie.Need-overflow-add-read-u32
 add-read-u32 c = omega (arith, whole c)
@@ -48,8 +48,8 @@ returns-4 c =
     let edge = c.before in
     let tick = edge.before in
     let long = tick.before in
-    full-of tick.read_u32.ensures edge.read-u16.ensures (number-of-bits _ (record { sfits = c.read-i32.type-inv }) ∙ c.read-i32.ensures)
-    (sym (reads-full _ _ long.before.before.if2.false (whole long)))
+    full_of tick.read_u32.ensures edge.read-u16.ensures (number_of_bits _ (record { sfits = c.read-i32.type-inv }) ∙ c.read-i32.ensures)
+    (sym (reads_full _ _ long.before.before.if2.false (whole long)))
 
 pub entry-at-spec : {M : Type 1} → statement M
 entry-at-spec =

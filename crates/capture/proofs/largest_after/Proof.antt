@@ -12,17 +12,17 @@ use Rattle.refusals.specs.declared.Verdict.{Verdict}
 use Rattle.refusals.specs.declared.Verdict.TheVariants.{Passed, Refused}
 use Rattle.maps.specs.Drawing.{Drawing}
 use Rattle.arrays.specs.At.{at, atℤ}
-use Rattle.arrays.specs.Maps.{mapOf, drawingOf}
+use Rattle.arrays.specs.Maps.{map_of, drawing_of}
 use Rattle.arrays.specs.inner.Drawn.{Drawn}
-use Rattle.arrays.specs.inner.Sizes.{mostOnSheet}
+use Rattle.arrays.specs.inner.Sizes.{most_on_sheet}
 use Rattle.balance.proofs.Parts.{part_length, part_filled}
-use Rattle.questions.specs.Largest.{searchChecks}
+use Rattle.questions.specs.Largest.{search_checks}
 use Rattle.capture.specs.Window.{found}
-use Rattle.capture.specs.Capture.{lastChecks}
+use Rattle.capture.specs.Capture.{last_checks}
 use Rattle.capture.specs.inner.Taken.{LimitsTaken}
-use Rattle.capture.proofs.Lasting.{last-search}
-use Rattle.capture.proofs.Finding.{taken-widened, found-limited, found-drawn, taking-refused, last-refused, largest-given}
-use Rattle.capture.proofs.Lending.{flows-in, words-in, largest-back}
+use Rattle.capture.proofs.Lasting.{last_search}
+use Rattle.capture.proofs.Finding.{taken_widened, found_limited, found_drawn, taking_refused, last_refused, largest_given}
+use Rattle.capture.proofs.Lending.{flows_in, words_in, largest_back}
 use Rattle.capture.proofs.largest_after.Statement.{statement}
 use Rattle.capture.proofs.largest_after.Tie as tie
 
@@ -33,7 +33,7 @@ begun c = c.before.before.before.before.before.before
 abbrev drawing : tie.Start → Drawing
 drawing s =
     let a = s.args in
-    drawingOf a.sizes.nodes a.sizes.edges a.sizes.outer a.tails.now a.rotations.now a.capacities.now
+    drawing_of a.sizes.nodes a.sizes.edges a.sizes.outer a.tails.now a.rotations.now a.capacities.now
 
 abbrev capacities' : tie.After-take-limits → List ℤ
 capacities' c = c.take-limits.new.1.1.1.1.0
@@ -42,7 +42,7 @@ taken_as : (c : tie.After-take-limits) (v : Verdict) → c.take-limits.result �
     → LimitsTaken (begun c).args.sizes.edges (atℤ (begun c).args.capacities.now) (atℤ (capacities' c)) (begun c).args.capture.now
     (begun c).args.after.window (begun c).args.after.named v
 taken_as c v e =
-    taken-widened (begun c).args.sizes.edges (atℤ (begun c).args.capacities.now) (atℤ (capacities' c)) (begun c).args.capture.now
+    taken_widened (begun c).args.sizes.edges (atℤ (begun c).args.capacities.now) (atℤ (capacities' c)) (begun c).args.capture.now
     c.before.before.before.wide.ensures c.before.before.wide64.ensures e c.take-limits.ensures.1
 
 -- ── they passed ──
@@ -63,7 +63,7 @@ told c = c.before.before.before.before
 
 last_as : (c : tie.After-check-last) (v : Verdict) → c.check-last.result ≡ v →
     let a = (start (told c)).args in
-    Judged (lastChecks a.sizes.nodes a.sizes.edges a.after.source a.after.sink a.limits.now a.flows.now a.set.now) v
+    Judged (last_checks a.sizes.nodes a.sizes.edges a.after.source a.after.sink a.limits.now a.flows.now a.set.now) v
 last_as c v e = rw e at c.check-last.ensures
 
 -- ── all passed ──
@@ -75,17 +75,17 @@ home c = start (checked c.before)
 
 last : (c : tie.After-enum-told2) →
     let a = (start (checked c)).args in
-    NoneOf (lastChecks a.sizes.nodes a.sizes.edges a.after.source a.after.sink a.limits.now a.flows.now a.set.now)
+    NoneOf (last_checks a.sizes.nodes a.sizes.edges a.after.source a.after.sink a.limits.now a.flows.now a.set.now)
 last c = last_as c.before.before Passed c.enum-told2.given.1
 
 -- the checks of Largest, and room for the limits
 roomy : (c : tie.After-words-for) →
     let a = (home c).args in
-    NoneOf (searchChecks a.sizes.nodes a.sizes.edges a.after.source a.after.sink a.flows.now a.set.now)
+    NoneOf (search_checks a.sizes.nodes a.sizes.edges a.after.source a.after.sink a.flows.now a.set.now)
     × (a.sizes.edges ≤ length a.limits.now)
 roomy c =
     let a = (home c).args in
-    last-search a.sizes.nodes a.sizes.edges a.after.source a.after.sink a.limits.now a.flows.now a.set.now (last c.before)
+    last_search a.sizes.nodes a.sizes.edges a.after.source a.after.sink a.limits.now a.flows.now a.set.now (last c.before)
 
 -- the capacities are those found
 are : (c : tie.After-enum-told2) →
@@ -97,11 +97,11 @@ are c = fun_ext (taken (checked c)).1
 abbrev found_at : tie.After-words-for → Drawing
 found_at c =
     let a = (home c).args in
-    drawingOf a.sizes.nodes a.sizes.edges a.sizes.outer a.tails.now a.rotations.now (capacities' (limited (checked c.before)))
+    drawing_of a.sizes.nodes a.sizes.edges a.sizes.outer a.tails.now a.rotations.now (capacities' (limited (checked c.before)))
 
 -- ── the needs, in the order of the code ──
 take-limits-requires : tie.Need-take-limits-requires
-take-limits-requires c κs = let p = c.before.before.before.before.before.requires in (p.0, p.1.drawn.few-edges)
+take-limits-requires c κs = let p = c.before.before.before.before.before.requires in (p.0, p.1.drawn.few_edges)
 
 returns : tie.Need-returns
 returns c =
@@ -109,7 +109,7 @@ returns c =
     let a = (begun k).args in (
       refl,
       (
-        taking-refused (drawing (begun k)) a.capture.now a.after.window a.after.named a.after.source a.after.sink a.limits.now
+        taking_refused (drawing (begun k)) a.capture.now a.after.window a.after.named a.after.source a.after.sink a.limits.now
             a.flows.now a.set.now _ _
             (taken_as k (Refused _ _) c.before.taken.given.1),
         refl,
@@ -118,7 +118,7 @@ returns c =
     )
 
 check-last-requires : tie.Need-check-last-requires
-check-last-requires c κs = (start c.before.before.before).requires.1.drawn.few-nodes
+check-last-requires c κs = (start c.before.before.before).requires.1.drawn.few_nodes
 
 returns-2 : tie.Need-returns-2
 returns-2 c =
@@ -127,7 +127,7 @@ returns-2 c =
     let a = (start t).args in (
       refl,
       (
-        last-refused (drawing (start t)) a.capture.now a.after.window a.after.named a.after.source a.after.sink a.limits.now
+        last_refused (drawing (start t)) a.capture.now a.after.window a.after.named a.after.source a.after.sink a.limits.now
             a.flows.now a.set.now
             (taken t).0 _ _ (last_as k (Refused _ _) c.before.last.given.1),
         refl,
@@ -136,7 +136,7 @@ returns-2 c =
     )
 
 words-for-requires : tie.Need-words-for-requires
-words-for-requires c κs = (start (checked c)).requires.1.drawn.few-nodes
+words-for-requires c κs = (start (checked c)).requires.1.drawn.few_nodes
 
 part-write-limits-end : tie.Need-slice-bounds-write-limits-end
 part-write-limits-end c = (roomy c.before).1
@@ -145,7 +145,7 @@ write-limits-requires : tie.Need-write-limits-requires
 write-limits-requires c κs =
     let h = c.before.before in
     let s = home h in
-    (s.pre.1.drawn.few-edges, part_length s.args.sizes.edges s.args.limits.now (roomy h).1)
+    (s.pre.1.drawn.few_edges, part_length s.args.sizes.edges s.args.limits.now (roomy h).1)
 
 -- ── Largest on them ──
 abbrev wrote : tie.After-write-limits → tie.After-words-for
@@ -155,30 +155,30 @@ part-largest-end : tie.Need-slice-bounds-largest-end
 part-largest-end c =
     let h = wrote c.before.before in
     let a = (home h).args in
-    flows-in (found_at h) a.after.source a.after.sink a.flows.now a.set.now (roomy h).0
+    flows_in (found_at h) a.after.source a.after.sink a.flows.now a.set.now (roomy h).0
 
 part-largest-end-2 : tie.Need-slice-bounds-largest-end-2
 part-largest-end-2 c =
     let h = wrote c.before.before.before in
     let a = (home h).args in
-    omega (arith, words-in (found_at h) a.after.source a.after.sink a.flows.now a.set.now (roomy h).0, h.words-for.ensures)
+    omega (arith, words_in (found_at h) a.after.source a.after.sink a.flows.now a.set.now (roomy h).0, h.words-for.ensures)
 
 largest-requires : tie.Need-largest-requires
 largest-requires c κs =
     let t = (wrote c.before.before.before.before).before in
     let s = start (checked t) in
     let a = s.args in
-    let 𝓜 = mapOf a.sizes.nodes a.sizes.edges a.tails.now a.rotations.now in
+    let 𝓜 = map_of a.sizes.nodes a.sizes.edges a.tails.now a.rotations.now in
     let passed = (taken (checked t)).0 in
     record {
       opened = record {
         drawn = subst (Drawn 𝓜 (at a.lefts.now) a.sizes.faces a.sizes.outer) (sym (are t))
-            (found-drawn 𝓜 (atℤ a.capacities.now) a.capture.now a.after.window a.after.named passed
+            (found_drawn 𝓜 (atℤ a.capacities.now) a.capture.now a.after.window a.after.named passed
             (at a.lefts.now) a.sizes.faces a.sizes.outer s.pre.1.drawn);
         walked = s.pre.1.walked;
       };
-      small = subst (λ f. (d : ℕ) → d < 2 * a.sizes.edges → Limited mostOnSheet (f d)) (sym (are t))
-          (found-limited 𝓜 (atℤ a.capacities.now) a.capture.now a.after.window a.after.named passed);
+      small = subst (λ f. (d : ℕ) → d < 2 * a.sizes.edges → Limited most_on_sheet (f d)) (sym (are t))
+          (found_limited 𝓜 (atℤ a.capacities.now) a.capture.now a.after.window a.after.named passed);
     }
 
 returns-3 : tie.Need-returns-3
@@ -189,11 +189,11 @@ returns-3 c =
     let t = h.before in
     let s = start (checked t) in
     let a = s.args in
-    largest-given (drawing s) a.capture.now a.after.window a.after.named a.after.source a.after.sink a.limits.now
+    largest_given (drawing s) a.capture.now a.after.window a.after.named a.after.source a.after.sink a.limits.now
     a.flows.now a.set.now
     (taken (checked t)).0 (atℤ (capacities' (limited (checked t)))) (taken (checked t)).1 (last t) _ _ _ k.largest.result
     (part_filled a.sizes.edges a.limits.now _ _ w.write-limits.ensures)
-    (largest-back (found_at h) a.after.source a.after.sink a.flows.now a.set.now (roomy h).0 h.words-for.result h.words-for.ensures
+    (largest_back (found_at h) a.after.source a.after.sink a.flows.now a.set.now (roomy h).0 h.words-for.result h.words-for.ensures
     _ _ k.largest.result k.largest.ensures)
 
 pub largest-after-spec : {M : Type 1} → statement M

@@ -3,7 +3,7 @@ use mathlib.Core.Path.{refl, ◌∙◌, ap, ap₂}
 use Prim.Native.Nat.{◌*◌}
 use lib.ListN.{set}
 use borrow.Author.Rules.{rules}
-use Rattle.signed.proofs.Laws.{number-of-bits}
+use Rattle.signed.proofs.Laws.{number_of_bits}
 use Rattle.arrays.specs.At.{at, atℤ}
 use Rattle.capture.specs.inner.Taken.{lowered}
 use Rattle.capture.proofs.take_limit.Statement.{statement}
@@ -15,9 +15,9 @@ returns c =
     let start = present.before.before in (
       refl,
       ap (set start.args.capacities.now (2 * start.args.edge))
-          (number-of-bits _ (record { sfits = c.Lowered-by.type-inv }) ∙ c.Lowered-by.ensures
+          (number_of_bits _ (record { sfits = c.Lowered-by.type-inv }) ∙ c.Lowered-by.ensures
           ∙ ap₂ (lowered (at start.args.seen.now start.args.edge))
-          (number-of-bits (atℤ start.args.capacities.now (2 * start.args.edge)) (record { sfits = present.present.given })) (number-of-bits _
+          (number_of_bits (atℤ start.args.capacities.now (2 * start.args.edge)) (record { sfits = present.present.given })) (number_of_bits _
           start.ranges.limit)),
     )
 

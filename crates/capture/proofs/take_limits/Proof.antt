@@ -6,8 +6,8 @@ use lib.ListN.{length}
 use borrow.Author.Rules.{rules}
 use Rattle.refusals.specs.Order.{NoneOf}
 use Rattle.arrays.specs.At.{atℤ}
-use Rattle.capture.specs.Capture.{windowChecks, recordsChecks}
-use Rattle.capture.proofs.Limits.{window-inside, window-passed, window-refused, records-refused, limits-judged}
+use Rattle.capture.specs.Capture.{window_checks, records_checks}
+use Rattle.capture.proofs.Limits.{window_inside, window_passed, window_refused, records_refused, limits_judged}
 use Rattle.capture.proofs.take_limits.Statement.{statement}
 use Rattle.capture.proofs.take_limits.Tie as tie
 
@@ -15,18 +15,18 @@ use Rattle.capture.proofs.take_limits.Tie as tie
 abbrev start : tie.After-enum-told → tie.Start
 start c = c.before.before.before.before
 
-ranged : (c : tie.After-enum-told) → NoneOf (windowChecks (start c).args.capture.now (start c).args.window (start c).args.named)
+ranged : (c : tie.After-enum-told) → NoneOf (window_checks (start c).args.capture.now (start c).args.window (start c).args.named)
 ranged c = rw c.enum_told.given.1 at c.before.before.check-window.ensures
 
 inside : (c : tie.After-enum-told)
     → (1 ≤ (start c).args.window) × ((start c).args.window ≤ 256) × (11 * ((start c).args.named + 1) ≤ length (start c).args.capture.now)
-inside c = window-inside (start c).args.capture.now (start c).args.window (start c).args.named (ranged c)
+inside c = window_inside (start c).args.capture.now (start c).args.window (start c).args.named (ranged c)
 
 -- ── the capture is whole ──
 abbrev in-range : tie.After-enum-told2 → tie.After-enum-told
 in-range c = c.before.before.before
 
-whole : (c : tie.After-enum-told2) → NoneOf (recordsChecks (start (in-range c)).args.edges (start (in-range c)).args.capture.now)
+whole : (c : tie.After-enum-told2) → NoneOf (records_checks (start (in-range c)).args.edges (start (in-range c)).args.capture.now)
 whole c = rw c.enum-told2.given.1 at c.before.before.check-capture.ensures
 
 -- ── the needs, in the order of the code ──
@@ -34,14 +34,14 @@ returns : tie.Need-returns
 returns c =
     let k = c.before.before.before in
     let s = k.before.before in
-    (s.requires.0, window-refused _ _ (atℤ s.args.capacities.now) _ _ _ _ _ (rw c.before.ranged.given.1 at k.check-window.ensures))
+    (s.requires.0, window_refused _ _ (atℤ s.args.capacities.now) _ _ _ _ _ (rw c.before.ranged.given.1 at k.check-window.ensures))
 
 returns-2 : tie.Need-returns-2
 returns-2 c =
     let k = c.before.before.before in
     let s = start k.before in (
       s.pre.0,
-      records-refused _ _ (atℤ s.args.capacities.now) _ _ _ (ranged k.before) _ _ (rw c.before.whole.given.1 at
+      records_refused _ _ (atℤ s.args.capacities.now) _ _ _ (ranged k.before) _ _ (rw c.before.whole.given.1 at
           k.check-capture.ensures),
     )
 
@@ -60,7 +60,7 @@ take-window-requires c κs =
       s.pre.0,
       s.pre.1,
       omega (arith, b.window-start.ensures, long),
-      λ j l. window-passed _ _ s.args.named (whole b.before) long j (omega (arith, b.window-start.ensures, l)),
+      λ j l. window_passed _ _ s.args.named (whole b.before) long j (omega (arith, b.window-start.ensures, l)),
     )
 
 check-found-requires : tie.Need-check-found-requires
@@ -72,7 +72,7 @@ returns-3 c =
     let b = t.before.before in
     let i = in-range b.before in (
       t.take-window.ensures.0,
-      limits-judged _ _ _ _ _ _ (ranged i) (whole b.before) b.window-start.result _ b.window-start.ensures refl t.take-window.ensures.1
+      limits_judged _ _ _ _ _ _ (ranged i) (whole b.before) b.window-start.result _ b.window-start.ensures refl t.take-window.ensures.1
           c.check-found.result c.check-found.ensures,
     )
 

@@ -9,18 +9,18 @@ use lib.IntN.{ℤ}
 use types.Run.{OneOf}
 use denote.Enum.Declared.{tag_of}
 use borrow.Author.Rules.{rules}
-use Rattle.signed.proofs.Laws.{number-of-bits}
+use Rattle.signed.proofs.Laws.{number_of_bits}
 use Rattle.refusals.specs.Order.{NoneOf}
 use Rattle.arrays.specs.At.{atℤ}
-use Rattle.capture.specs.Entry.{entryPlace, tickOf, channelOf, limitOf, entryChecks}
+use Rattle.capture.specs.Entry.{entry_place, tick_of, channel_of, limit_of, entry_checks}
 use Rattle.capture.specs.Window.{laid}
-use Rattle.capture.specs.inner.Read.{entryAt}
+use Rattle.capture.specs.inner.Read.{entry_at}
 use Rattle.capture.specs.inner.Taken.{Taken}
 use Rattle.capture.specs.declared.Entry.{Entry}
 use Rattle.capture.specs.declared.Entry.TheVariants.{Wrong, Cut, Full}
 use Rattle.capture.specs.contracts.Entry as tags
-use Rattle.capture.proofs.Reading.{full-apart, full-channel, full-limit}
-use Rattle.capture.proofs.Checking.{passed-full, passed-channel}
+use Rattle.capture.proofs.Reading.{full_apart, full_channel, full_limit}
+use Rattle.capture.proofs.Checking.{passed_full, passed_channel}
 use Rattle.capture.proofs.Taking.{taken_start, taken_step}
 use Rattle.capture.proofs.take_window.Statement.{statement}
 use Rattle.capture.proofs.take_window.Tie as tie
@@ -29,8 +29,8 @@ abbrev invariant-loop : tie.invariant-loop
 invariant-loop capture first count edges capacities₀ seen₀ i₀ capacities seen i =
     (i ≤ count)
     × (edges ≤ 512)
-    × (entryPlace (first + count) ≤ length capture)
-    × ((j : ℕ) → j < first + count → NoneOf (entryChecks edges capture j))
+    × (entry_place (first + count) ≤ length capture)
+    × ((j : ℕ) → j < first + count → NoneOf (entry_checks edges capture j))
     × Taken (atℤ capacities₀) capture first i seen capacities
 
 abbrev decreases-loop : tie.decreases-loop
@@ -46,36 +46,36 @@ begin k = (turn k).before.before
 abbrev number : tie.After-entry-at invariant-loop decreases-loop → ℕ
 number k = (begin k).args.first + (turn k).loop.i
 
-passed : (k : tie.After-entry-at invariant-loop decreases-loop) → NoneOf (entryChecks (begin k).args.edges (begin k).args.capture.now (number k))
+passed : (k : tie.After-entry-at invariant-loop decreases-loop) → NoneOf (entry_checks (begin k).args.edges (begin k).args.capture.now (number k))
 passed k = (turn k).loop.invariant.3 (number k) (omega arith)
 
 -- what is found stands at its place, by the table of lengths
-found : (k : tie.After-entry-at invariant-loop decreases-loop) → entryAt (begin k).args.capture.now (entryPlace (number k)) ≡ k.entry_at.result
+found : (k : tie.After-entry-at invariant-loop decreases-loop) → entry_at (begin k).args.capture.now (entry_place (number k)) ≡ k.entry_at.result
 found k =
-    sym (k.entry_at.ensures ∙ ap (λ n. entryAt (begin k).args.capture.now (n * number k)) k.before.record-length.ensures.0)
+    sym (k.entry_at.ensures ∙ ap (λ n. entry_at (begin k).args.capture.now (n * number k)) k.before.record-length.ensures.0)
 
 -- so it is found whole, and nothing else is
 whole : (k : tie.After-entry-at invariant-loop decreases-loop)
     → k.entry_at.result
-    ≡ Full (tickOf (begin k).args.capture.now (number k)) (channelOf (begin k).args.capture.now (number k)) (limitOf (begin k).args.capture.now
+    ≡ Full (tick_of (begin k).args.capture.now (number k)) (channel_of (begin k).args.capture.now (number k)) (limit_of (begin k).args.capture.now
     (number k))
-whole k = sym (found k) ∙ passed-full (begin k).args.edges (begin k).args.capture.now (number k) (passed k)
+whole k = sym (found k) ∙ passed_full (begin k).args.edges (begin k).args.capture.now (number k) (passed k)
 
 not_full : (r : Entry) (t e : ℕ) (x : ℤ) → OneOf (0 ∷ 1 ∷ []) (tag_of tags.the_type r) → r ≡ Full t e x → ⊥
-not_full Wrong t e x one h = full-apart t e x (inl h)
-not_full Cut t e x one h = full-apart t e x (inr h)
+not_full Wrong t e x one h = full_apart t e x (inl h)
+not_full Cut t e x one h = full_apart t e x (inr h)
 not_full (Full t' e' x') t e x (inl one) h = omega arith
 not_full (Full t' e' x') t e x (inr one) h = omega arith
 
 -- its edge
 channel : (e : tie.After-entry invariant-loop decreases-loop)
-    → e.entry.given.0.1.0 ≡ channelOf (begin e.before.before).args.capture.now (number e.before.before)
-channel e = let k = e.before.before in full-channel _ _ _ _ _ (found k ∙ e.entry.given.1)
+    → e.entry.given.0.1.0 ≡ channel_of (begin e.before.before).args.capture.now (number e.before.before)
+channel e = let k = e.before.before in full_channel _ _ _ _ _ (found k ∙ e.entry.given.1)
 
 few : (e : tie.After-entry invariant-loop decreases-loop) → e.entry.given.0.1.0 < 512
 few e =
     let k = e.before.before in
-    omega (arith, channel e, passed-channel (begin k).args.edges (begin k).args.capture.now (number k) (passed k), (turn k).loop.invariant.1)
+    omega (arith, channel e, passed_channel (begin k).args.edges (begin k).args.capture.now (number k) (passed k), (turn k).loop.invariant.1)
 
 -- ── the needs, in the order of the code ──
 loop-holds : tie.Need-loop-init invariant-loop decreases-loop
@@ -84,14 +84,14 @@ loop-holds c = let p = c.before.requires in (omega arith, p.1, p.2, p.3, taken_s
 mul-entry-at : tie.Need-overflow-mul-entry-at invariant-loop decreases-loop
 mul-entry-at c =
     let i = c.before.before.loop in
-    let length-is = c.record-length.ensures.0 in
-    omega (arith, ap (λ n. n * (c.before.before.before.before.args.first + i.i)) length-is, i.invariant.2)
+    let length_is = c.record-length.ensures.0 in
+    omega (arith, ap (λ n. n * (c.before.before.before.before.args.first + i.i)) length_is, i.invariant.2)
 
 take-limit-requires : tie.Need-take-limit-requires invariant-loop decreases-loop
 take-limit-requires c κs =
     let e = c.before.before.before.before in
     let τ = (turn e.before.before).loop.inv.4 in
-    (τ.marks-long, τ.long, omega (arith, c.wide.ensures, few e))
+    (τ.marks_long, τ.long, omega (arith, c.wide.ensures, few e))
 
 loop-less : tie.Need-loop-smaller invariant-loop decreases-loop
 loop-less c = omega arith
@@ -108,7 +108,7 @@ loop-again c =
       i.inv.2,
       i.inv.3,
       taken_step _ _ _ i.inv.4 w.wide.result _ (w.wide.ensures ∙ channel e) (omega (arith, w.wide.ensures, few e))
-          (number-of-bits _ (record { sfits = told.known-told.given.1.1.0.1 }) ∙ full-limit _ _ _ _ _ (found k ∙ e.entry.given.1))
+          (number_of_bits _ (record { sfits = told.known-told.given.1.1.0.1 }) ∙ full_limit _ _ _ _ _ (found k ∙ e.entry.given.1))
           c.take_limit.ensures.0 c.take_limit.ensures.1,
     )
 
@@ -123,7 +123,7 @@ returns c =
     let i = c.before.loop in
     let done : i.i ≡ c.before.before.before.args.count = omega arith in (
       i.invariant.4.long,
-      λ d. i.invariant.4.capacities-are d
+      λ d. i.invariant.4.capacities_are d
           ∙ ap (λ n. laid (atℤ c.before.before.before.args.capacities.now) c.before.before.before.args.capture.now
           c.before.before.before.args.first n d) done,
     )

@@ -4,10 +4,10 @@ use Prim.Native.Nat.{◌-◌, ◌*◌, ◌≤◌}
 use native.Mathlib.Omega.{arith}
 use lib.ListN.{length}
 use borrow.Author.Rules.{rules}
-use Rattle.signed.proofs.Laws.{number-of-bits}
+use Rattle.signed.proofs.Laws.{number_of_bits}
 use Rattle.arrays.specs.At.{atℤ}
 use Rattle.arrays.specs.Filled.{filled}
-use Rattle.arrays.proofs.FillLoops.{copy_start, copy_step, filled-length}
+use Rattle.arrays.proofs.FillLoops.{copy_start, copy_step, filled_length}
 use Rattle.capture.proofs.write_limits.Statement.{statement}
 use Rattle.capture.proofs.write_limits.Tie as tie
 
@@ -22,7 +22,7 @@ loop-holds : tie.Need-loop-init invariant-loop decreases-loop
 loop-holds c = (omega arith, omega arith, omega arith, copy_start _ _)
 
 slice-set-from-limits : tie.Need-slice-set-from-limits invariant-loop decreases-loop
-slice-set-from-limits c = let i = c.before.before.loop in omega (arith, filled-length _ _ _ _ i.invariant.3 (omega (arith, i.invariant.0, i.invariant.2)), i.invariant.2)
+slice-set-from-limits c = let i = c.before.before.loop in omega (arith, filled_length _ _ _ _ i.invariant.3 (omega (arith, i.invariant.0, i.invariant.2)), i.invariant.2)
 
 loop-again : tie.Need-loop-preserved invariant-loop decreases-loop
 loop-again c =
@@ -31,11 +31,11 @@ loop-again c =
       omega arith,
       i.invariant.1,
       i.invariant.2,
-      copy_step _ i.e _ _ _ i.invariant.3 (omega (arith, i.invariant.2)) (number-of-bits _ (record { sfits = c.limits.given })),
+      copy_step _ i.e _ _ _ i.invariant.3 (omega (arith, i.invariant.2)) (number_of_bits _ (record { sfits = c.limits.given })),
     )
 
 same_length : tie.Need-same-length invariant-loop decreases-loop
-same_length c = let i = c.before.loop in filled-length _ _ _ _ i.invariant.3 (omega (arith, i.invariant.0, i.invariant.2))
+same_length c = let i = c.before.loop in filled_length _ _ _ _ i.invariant.3 (omega (arith, i.invariant.0, i.invariant.2))
 
 returns : tie.Need-returns invariant-loop decreases-loop
 returns c =

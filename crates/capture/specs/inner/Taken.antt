@@ -4,34 +4,34 @@ use Rattle.refusals.specs.Order.{NoneOf, FirstOf}
 use Rattle.refusals.specs.declared.Verdict.{Verdict}
 use Rattle.refusals.specs.declared.Verdict.TheVariants.{Passed, Refused}
 use Rattle.arrays.specs.At.{at, atℤ}
-use Rattle.records.specs.Record.{recordLength}
-use Rattle.capture.specs.Entry.{entryPlace, tickBefore, entryChecks}
-use Rattle.capture.specs.Window.{Seen, unseen, least, lesser, seenIn, laid, found}
-use Rattle.capture.specs.Capture.{recordsChecks, takingChecks}
+use Rattle.records.specs.Record.{record_length}
+use Rattle.capture.specs.Entry.{entry_place, tick_before, entry_checks}
+use Rattle.capture.specs.Window.{Seen, unseen, least, lesser, seen_in, laid, found}
+use Rattle.capture.specs.Capture.{records_checks, taking_checks}
 
 -- the records before `place` passed, and `tick` is that of the last of them
 pub record Passing (edges : ℕ) (b : List ℕ) (place tick : ℕ) : Type 0 where
   pub count : ℕ
-  pub placed : place ≡ entryPlace count
+  pub placed : place ≡ entry_place count
   pub inside : place ≤ length b
-  pub last : tick ≡ tickBefore b count
-  pub passed : (i : ℕ) → i < count → NoneOf (entryChecks edges b i)
+  pub last : tick ≡ tick_before b count
+  pub passed : (i : ℕ) → i < count → NoneOf (entry_checks edges b i)
 
 -- what the records before `place` come to: they have passed, or one of them is refused, by this number
 abbrev pub Stands : (edges : ℕ) → List ℕ → (place refusal tick : ℕ) → Type 0
-Stands edges b place refusal tick = ((refusal ≡ 0) × Passing edges b place tick) ⊎ ((0 < refusal) × FirstOf (recordsChecks edges b) refusal 0)
+Stands edges b place refusal tick = ((refusal ≡ 0) × Passing edges b place tick) ⊎ ((0 < refusal) × FirstOf (records_checks edges b) refusal 0)
 
 -- whether another record is to be checked: none was refused, and bytes are left
 unfoldable pub goesOn : List ℕ → (place refusal : ℕ) → Bool
 goesOn b place refusal = eqb refusal 0 && ltb place (length b)
 
 -- the place behind the record at `place`: a record's length farther, or the end of the capture where that is nearer
-unfoldable pub placeBehind : List ℕ → ℕ → ℕ
-placeBehind b place = cond (ltb (length b) (place + recordLength 5)) (length b) (place + recordLength 5)
+unfoldable pub place_behind : List ℕ → ℕ → ℕ
+place_behind b place = cond (ltb (length b) (place + record_length 5)) (length b) (place + record_length 5)
 
 -- what is said of all records
-unfoldable pub verdictOf : ℕ → Verdict
-verdictOf k = cond (eqb k 0) Passed (Refused k 0)
+unfoldable pub verdict_of : ℕ → Verdict
+verdict_of k = cond (eqb k 0) Passed (Refused k 0)
 
 -- the mark of a channel: 1 once it is seen
 abbrev pub mark : Seen → ℕ
@@ -44,12 +44,12 @@ lowered m present limit = cond (eqb m 0) limit (lesser limit present)
 
 -- k records from `first` on are taken: the marks of the channels, and the capacities, which were c
 pub record Taken (c : ℕ → ℤ) (b : List ℕ) (first k : ℕ) (marks : List ℕ) (capacities : List ℤ) : Type 0 where
-  pub marks-long : length marks ≡ 512
+  pub marks_long : length marks ≡ 512
   pub long : length capacities ≡ 1024
-  pub marked : (e : ℕ) → e < 512 → at marks e ≡ mark (seenIn b e first k)
-  pub capacities-are : (d : ℕ) → atℤ capacities d ≡ laid c b first k d
+  pub marked : (e : ℕ) → e < 512 → at marks e ≡ mark (seen_in b e first k)
+  pub capacities_are : (d : ℕ) → atℤ capacities d ≡ laid c b first k d
 
 -- what comes of the checks on a capture and on the limits found: they are judged in order, and where none holds the capacities are those found
 abbrev pub LimitsTaken : (edges : ℕ) → (c c' : ℕ → ℤ) → List ℕ → (w n : ℕ) → Verdict → Type 0
-LimitsTaken edges c c' b w n Passed = NoneOf (takingChecks edges c b w n) × ((d : ℕ) → c' d ≡ found c b w n d)
-LimitsTaken edges c c' b w n (Refused k p) = FirstOf (takingChecks edges c b w n) k p
+LimitsTaken edges c c' b w n Passed = NoneOf (taking_checks edges c b w n) × ((d : ℕ) → c' d ≡ found c b w n d)
+LimitsTaken edges c c' b w n (Refused k p) = FirstOf (taking_checks edges c b w n) k p

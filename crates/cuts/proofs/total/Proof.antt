@@ -8,11 +8,11 @@ use mir.ValLaws.{to_z-of_z}
 use mir.Syntax.{w32, w64}
 use mir.Val.{to_z, of_z}
 use borrow.Author.Rules.{rules}
-use Rattle.signed.proofs.Laws.{number-of-bits}
+use Rattle.signed.proofs.Laws.{number_of_bits}
 use Rattle.arrays.specs.At.{at, atℤ}
 use Rattle.arrays.specs.inner.Flags.{flagged}
 use Rattle.cuts.specs.inner.Cut.{cut_of}
-use Rattle.cuts.proofs.Adding.{zero_right, cut-none, cut_edge, cut_fits}
+use Rattle.cuts.proofs.Adding.{zero_right, cut_none, cut_edge, cut_fits}
 use Rattle.cuts.proofs.total.Statement.{statement}
 use Rattle.cuts.proofs.total.Tie as tie
 
@@ -34,24 +34,24 @@ abbrev cut_to : tie.At-loop invariant-loop decreases-loop → ℕ → ℤ
 cut_to l n = cut_of (2 * n) (at l.before.args.tails.now) (atℤ l.before.args.lengths.now) (flagged l.before.args.inside.now)
 
 -- the share of edge e is added: the sum is the cut over the darts of the edges to e
-sum-next : (c : tie.After-widen invariant-loop decreases-loop)
+sum_next : (c : tie.After-widen invariant-loop decreases-loop)
     → to_z w64 (turn (share c)).loop.sum +ℤ to_z w64 (of_z w64 c.widen.result) ≡ cut_to (turn (share c)) ((turn (share c)).loop.e + 1)
-sum-next c =
+sum_next c =
     ap₂ ◌+ℤ◌ (turn (share c)).loop.inv.1
     (to_z-of_z w64 _ (record { sfits = c.widen.type-inv }) ∙ c.widen.ensures
-    ∙ number-of-bits _ (record { sfits = (share c).edge-share.type-inv }) ∙ (share c).edge-share.ensures)
+    ∙ number_of_bits _ (record { sfits = (share c).edge-share.type-inv }) ∙ (share c).edge-share.ensures)
     ∙ cut_edge _ _ _ _
 
 -- a share of 0 is left out
 sum-stays : (c : tie.After-edge-share invariant-loop decreases-loop) → of_z w32 c.edge-share.result ≡ 0
     → cut_to (turn c) (turn c).loop.e ≡ cut_to (turn c) ((turn c).loop.e + 1)
 sum-stays c z =
-    let none : pos 0 ≡ c.edge-share.result = sym (ap (to_z w32) z) ∙ number-of-bits _ (record { sfits = c.edge-share.type-inv }) in
+    let none : pos 0 ≡ c.edge-share.result = sym (ap (to_z w32) z) ∙ number_of_bits _ (record { sfits = c.edge-share.type-inv }) in
     zero_right _ ∙ ap (λ x. cut_to (turn c) (turn c).loop.e +ℤ x) (none ∙ c.edge-share.ensures) ∙ cut_edge _ _ _ _
 
 -- ── the needs, in the order of the code ──
 loop-holds : tie.Need-loop-init invariant-loop decreases-loop
-loop-holds c = (omega arith, sym (cut-none _ _ _))
+loop-holds c = (omega arith, sym (cut_none _ _ _))
 
 edge-share-requires : tie.Need-edge-share-requires invariant-loop decreases-loop
 edge-share-requires c κs =
@@ -65,7 +65,7 @@ plus64-requires c κs =
     let l = turn (share c) in
     let p = l.before.pre in
     let t = (share c).before.loop-test.true in
-    rw (sum-next c) (cut_fits (2 * (l.loop.e + 1)) _ _ _ (omega (arith, p.0)) (λ i m. p.3 i (omega (arith, p.1))))
+    rw (sum_next c) (cut_fits (2 * (l.loop.e + 1)) _ _ _ (omega (arith, p.0)) (λ i m. p.3 i (omega (arith, p.1))))
 
 loop-again : tie.Need-loop-preserved invariant-loop decreases-loop
 loop-again c =
@@ -73,7 +73,7 @@ loop-again c =
       omega arith,
       ⊎_elim
           (λ w. ap (to_z w64) w.3 ∙ to_z-of_z w64 _ (record { sfits = w.2.ok }) ∙ w.2.ensures
-          ∙ sum-next (record { before = record { before = c.before; if1 = w.0 }; widen = w.1 }))
+          ∙ sum_next (record { before = record { before = c.before; if1 = w.0 }; widen = w.1 }))
           (λ w. ap (to_z w64) w.1 ∙ (turn c.before).loop.inv.1 ∙ sum-stays c.before w.0.left)
           c.if1.branch,
     )

@@ -5,8 +5,8 @@ use Rattle.integers.specs.Sum.{sumℤ, when}
 use Rattle.maps.specs.Dart.{rev}
 
 -- the dart d leaves the set S
-abbrev pub leavesOf : (ℕ → ℕ) → (ℕ → Bool) → ℕ → Bool
-leavesOf tail S d = S (tail d) && not (S (tail (rev d)))
+abbrev pub leaves_of : (ℕ → ℕ) → (ℕ → Bool) → ℕ → Bool
+leaves_of tail S d = S (tail d) && not (S (tail (rev d)))
 
 unfoldable pub cut_of : ℕ → (ℕ → ℕ) → (ℕ → ℤ) → (ℕ → Bool) → ℤ
-cut_of darts tail length S = sumℤ darts (λ d. when (leavesOf tail S d) (length d))
+cut_of darts tail length S = sumℤ darts (λ d. when (leaves_of tail S d) (length d))

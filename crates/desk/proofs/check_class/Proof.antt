@@ -7,16 +7,16 @@ use native.Mathlib.Nat.{mul-le-mul}
 use borrow.Author.Rules.{rules}
 use Rattle.refusals.specs.Order.{FirstOf, NoneOf}
 use Rattle.refusals.proofs.Order.{neither}
-use Rattle.desk.specs.Class.{classChecks}
+use Rattle.desk.specs.Class.{class_checks}
 use Rattle.desk.proofs.check_class.Statement.{statement}
 use Rattle.desk.proofs.check_class.Tie as tie
 
 returns : tie.Need-returns
-unfolding classChecks FirstOf
+unfolding class_checks FirstOf
 returns c = inl (omega arith, refl, refl)
 
 returns-2 : tie.Need-returns-2
-unfolding classChecks FirstOf
+unfolding class_checks FirstOf
 returns-2 c = inr (λ h. omega arith, inl (inl (omega arith), refl, refl))
 
 mul-if3 : tie.Need-overflow-mul-if3
@@ -25,7 +25,7 @@ mul-if3 c =
     record { fits = omega (arith, mul-le-mul few c.before.before.requires.1) }
 
 returns-3 : tie.Need-returns-3
-unfolding classChecks FirstOf
+unfolding class_checks FirstOf
 returns-3 c = inr (λ h. omega arith, inl (inr (inl (omega arith)), refl, refl))
 
 mul-if4 : tie.Need-overflow-mul-if4
@@ -34,18 +34,18 @@ mul-if4 c =
     record { fits = omega (arith, mul-le-mul few c.words-for.ensures.1) }
 
 returns-4 : tie.Need-returns-4
-unfolding classChecks FirstOf
+unfolding class_checks FirstOf
 returns-4 c =
     let a = c.before.before.before.before.before.args in
     let short = subst (λ k. a.sets < a.n * k) c.before.words-for.ensures.0 c.if4.true in
     inr (λ h. omega arith, inl (inr (inr (inl short)), refl, refl))
 
 returns-5 : tie.Need-returns-5
-unfolding classChecks FirstOf
+unfolding class_checks FirstOf
 returns-5 c = inr (λ h. omega arith, inl (inr (inr (inr (omega arith))), refl, refl))
 
 returns-6 : tie.Need-returns-6
-unfolding classChecks NoneOf
+unfolding class_checks NoneOf
 returns-6 c =
     let a = c.before.before.before.before.before.before.args in
     let f : a.kinds < a.n → ⊥ = λ l. omega arith in

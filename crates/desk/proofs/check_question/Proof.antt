@@ -2,47 +2,47 @@
 use mathlib.Core.Path.{refl}
 use mathlib.Core.Logic.{inl, inr}
 use native.Mathlib.Omega.{arith}
-use Rattle.integers.proofs.Laws.{lt-of-test, ge-of-test, lt-le-clash}
-use Rattle.signed.proofs.Laws.{number-of-bits}
+use Rattle.integers.proofs.Laws.{lt_of_test, ge_of_test, lt_le_clash}
+use Rattle.signed.proofs.Laws.{number_of_bits}
 use Rattle.refusals.specs.Order.{NoneOf, FirstOf}
 use Rattle.refusals.proofs.Order.{neither}
-use Rattle.questions.specs.Question.{endChecks, valueChecks}
+use Rattle.questions.specs.Question.{end_checks, value_checks}
 use Rattle.desk.proofs.check_question.Statement.{statement}
 use Rattle.desk.proofs.check_question.Tie as tie
 
 returns : tie.Need-returns
-unfolding endChecks valueChecks FirstOf
+unfolding end_checks value_checks FirstOf
 returns c = inl (inl (omega arith), refl, refl)
 
 returns-2 : tie.Need-returns-2
-unfolding endChecks valueChecks FirstOf
+unfolding end_checks value_checks FirstOf
 returns-2 c = inl (inr (omega arith), refl, refl)
 
 returns-3 : tie.Need-returns-3
-unfolding endChecks valueChecks FirstOf
+unfolding end_checks value_checks FirstOf
 returns-3 c = inr (neither (λ l. omega arith) (λ l. omega arith), inl (omega arith, refl, refl))
 
 returns-4 : tie.Need-returns-4
-unfolding endChecks valueChecks FirstOf
+unfolding end_checks value_checks FirstOf
 returns-4 c =
     let f = c.before.before.before.before.ranges.value in
-    let low = lt-of-test _ _ (rw (number-of-bits _ f) at c.if4.true) in
+    let low = lt_of_test _ _ (rw (number_of_bits _ f) at c.if4.true) in
     inr (neither (λ l. omega arith) (λ l. omega arith), inr (λ e. omega arith, inl (inl low, refl, refl)))
 
 returns-5 : tie.Need-returns-5
-unfolding endChecks valueChecks FirstOf
+unfolding end_checks value_checks FirstOf
 returns-5 c =
     let f = c.before.before.before.before.before.ranges.value in
-    let high = lt-of-test _ _ (rw (number-of-bits _ f) at c.if5.true) in
+    let high = lt_of_test _ _ (rw (number_of_bits _ f) at c.if5.true) in
     inr (neither (λ l. omega arith) (λ l. omega arith), inr (λ e. omega arith, inl (inr high, refl, refl)))
 
 returns-6 : tie.Need-returns-6
-unfolding endChecks valueChecks NoneOf
+unfolding end_checks value_checks NoneOf
 returns-6 c =
     let f = c.before.before.before.before.before.ranges.value in
-    let low = ge-of-test _ _ (rw (number-of-bits _ f) at c.before.if4.false) in
-    let high = ge-of-test _ _ (rw (number-of-bits _ f) at c.if5.false) in
-    (neither (λ l. omega arith) (λ l. omega arith), (λ e. omega arith, (neither (λ h. lt-le-clash h low) (λ h. lt-le-clash h high), tt)))
+    let low = ge_of_test _ _ (rw (number_of_bits _ f) at c.before.if4.false) in
+    let high = ge_of_test _ _ (rw (number_of_bits _ f) at c.if5.false) in
+    (neither (λ l. omega arith) (λ l. omega arith), (λ e. omega arith, (neither (λ h. lt_le_clash h low) (λ h. lt_le_clash h high), tt)))
 
 pub check-question-spec : {M : Type 1} → statement M
 check-question-spec =

@@ -1,17 +1,17 @@
 -- A claim: kind 1 is none.
 use mathlib.Core.Path.{◌∙◌, ap}
 use native.Mathlib.Omega.{arith}
-use Rattle.signed.proofs.Laws.{number-of-bits}
+use Rattle.signed.proofs.Laws.{number_of_bits}
 use Rattle.desk.specs.declared.Delivery.TheVariants.{Value}
-use Rattle.desk.proofs.Judging.{claim-none, claim-value}
+use Rattle.desk.proofs.Judging.{claim_none, claim_value}
 use Rattle.desk.proofs.claim_of.Statement.{statement}
 use Rattle.desk.proofs.claim_of.Tie as tie
 
 returns : tie.Need-returns
-returns c = claim-none _ _ (omega arith)
+returns c = claim_none _ _ (omega arith)
 
 returns-2 : tie.Need-returns-2
-returns-2 c = ap Value (number-of-bits _ c.before.ranges.number) ∙ claim-value _ _ (λ e. omega arith)
+returns-2 c = ap Value (number_of_bits _ c.before.ranges.number) ∙ claim_value _ _ (λ e. omega arith)
 
 pub claim-of-spec : {M : Type 1} → statement M
 claim-of-spec = tie.close (tie.spec returns returns-2)

@@ -1,14 +1,14 @@
 -- Whether a claim is a value: its number, bit by bit.
 use mathlib.Core.Path.{refl, sym, ◌∙◌}
 use borrow.Author.Rules.{rules}
-use Rattle.desk.proofs.Judging.{no_value, claim-decides}
+use Rattle.desk.proofs.Judging.{no_value, claim_decides}
 use Rattle.desk.proofs.claims_value.Statement.{statement}
 use Rattle.desk.proofs.claims_value.Tie as tie
 
 returns : tie.Need-returns
 returns c =
     let s = c.before.before.before in
-    claim-decides _ _ s.args.claim _ c.before.claim.given.1 (record { sfits = c.known-told.given.0.1 }) s.ranges.v refl
+    claim_decides _ _ s.args.claim _ c.before.claim.given.1 (record { sfits = c.known-told.given.0.1 }) s.ranges.v refl
 
 returns-2 : tie.Need-returns-2
 returns-2 c = λ e. no_value _ (sym c.enum_told.given.1 ∙ e)

@@ -1,11 +1,11 @@
 -- The exam desk: the sheet's own refusal, or the class on its counts.
 use mathlib.Core.Path.{◌≡◌, refl, ◌∙◌}
 use borrow.Author.Rules.{rules}
-use Rattle.signed.proofs.Laws.{number-of-bits}
+use Rattle.signed.proofs.Laws.{number_of_bits}
 use Rattle.analyser.specs.Counts.{GivesCounts}
 use Rattle.analyser.specs.declared.CountsAnswer.{CountsAnswer}
 use Rattle.analyser.specs.declared.CountsAnswer.TheVariants.{Counts, Refused}
-use Rattle.desk.proofs.Asking.{sheet-refused, examined-as}
+use Rattle.desk.proofs.Asking.{sheet_refused, examined_as}
 use Rattle.desk.proofs.examine.Statement.{statement}
 use Rattle.desk.proofs.examine.Tie as tie
 
@@ -29,7 +29,7 @@ returns : tie.Need-returns
 returns c =
     let k = c.before.before.before in
     let a = (start k).args in
-    (sheet-refused a.sheet.now a.source a.sink a.value _ _ _ _ _ _ _ (said k (Refused _ _) c.before.counted.given.1), refl)
+    (sheet_refused a.sheet.now a.source a.sink a.value _ _ _ _ _ _ _ (said k (Refused _ _) c.before.counted.given.1), refl)
 
 returns-2 : tie.Need-returns-2
 returns-2 c =
@@ -37,8 +37,8 @@ returns-2 c =
     let e = x.before.before.before.before.before in
     let s = start e.before.before in
     let a = s.args in
-    examined-as a.sheet.now a.source a.sink a.value _ a.claims.now a.kinds.now a.settings.now a.sets.now a.points.now
-    x.examine-counted.new.1.1.1.1.1.1.1.1.1.1.0 x.examine-counted.result (number-of-bits _ s.fits.value) x.examine-counted.ensures
+    examined_as a.sheet.now a.source a.sink a.value _ a.claims.now a.kinds.now a.settings.now a.sets.now a.points.now
+    x.examine-counted.new.1.1.1.1.1.1.1.1.1.1.0 x.examine-counted.result (number_of_bits _ s.fits.value) x.examine-counted.ensures
 
 pub examine-spec : {M : Type 1} → statement M
 examine-spec =

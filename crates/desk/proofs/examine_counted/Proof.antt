@@ -5,18 +5,18 @@ use mathlib.Core.List.{List, ◌++◌}
 use native.Mathlib.Omega.{arith}
 use lib.ListN.{length}
 use borrow.Author.Rules.{rules}
-use Rattle.signed.proofs.Laws.{number-of-bits}
+use Rattle.signed.proofs.Laws.{number_of_bits}
 use Rattle.refusals.specs.Order.{NoneOf, Judged}
 use Rattle.refusals.specs.declared.Verdict.{Verdict}
 use Rattle.refusals.specs.declared.Verdict.TheVariants.{Passed, Refused}
-use Rattle.flows.specs.ProvingSet.{wordsFor}
+use Rattle.flows.specs.ProvingSet.{words_for}
 use Rattle.arrays.specs.At.{at}
-use Rattle.records.specs.Sheet.{nodesOf, edgesOf}
-use Rattle.questions.specs.Question.{endChecks, valueChecks}
-use Rattle.desk.specs.Paper.{paperOf, Points}
-use Rattle.desk.specs.Class.{classChecks}
+use Rattle.records.specs.Sheet.{nodes_of, edges_of}
+use Rattle.questions.specs.Question.{end_checks, value_checks}
+use Rattle.desk.specs.Paper.{paper_of, Points}
+use Rattle.desk.specs.Class.{class_checks}
 use Rattle.desk.specs.inner.Asked.{Asked}
-use Rattle.desk.proofs.Asking.{counts-fit, question-refused, class-refused, class-accepted, asked_of, class-room, question-as, class-as}
+use Rattle.desk.proofs.Asking.{counts_fit, question_refused, class_refused, class_accepted, asked_of, class_room, question_as, class_as}
 use Rattle.desk.proofs.examine_counted.Statement.{statement}
 use Rattle.desk.proofs.examine_counted.Tie as tie
 
@@ -25,17 +25,17 @@ abbrev begun : tie.After-check-question → tie.Start
 begun c = c.before.before.before.before.before.before.before
 
 asked : (c : tie.After-check-question) (v : Verdict) → c.check-question.result ≡ v
-    → Judged (endChecks (nodesOf (begun c).args.sheet.now) (begun c).args.source (begun c).args.sink ++ valueChecks (begun c).args.value) v
+    → Judged (end_checks (nodes_of (begun c).args.sheet.now) (begun c).args.source (begun c).args.sink ++ value_checks (begun c).args.value) v
 asked c v e =
-    question-as _ _ _ _ _ _ _ _ _ v c.check-question.ensures (begun c).requires.1 c.before.before.wide.ensures c.before.wide2.ensures
-    (number-of-bits _ (begun c).ranges.value) e
+    question_as _ _ _ _ _ _ _ _ _ v c.check-question.ensures (begun c).requires.1 c.before.before.wide.ensures c.before.wide2.ensures
+    (number_of_bits _ (begun c).ranges.value) e
 
 returns : tie.Need-returns
 returns c =
     let q = c.before.before.before in
     let s = begun q in
     let a = s.args in
-    (question-refused a.sheet.now a.source a.sink a.value _ _ _ _ _ s.pre.0 _ _ (asked q (Refused _ _) c.before.asked.given.1), refl)
+    (question_refused a.sheet.now a.source a.sink a.value _ _ _ _ _ s.pre.0 _ _ (asked q (Refused _ _) c.before.asked.given.1), refl)
 
 -- ── 32 and 16 ──
 abbrev first : tie.After-check-class → tie.After-check-question
@@ -47,11 +47,11 @@ start c = begun (first c)
 check-class-requires : tie.Need-check-class-requires
 check-class-requires c κs =
     let s = begun c.before.before in
-    let few = counts-fit _ s.pre.0 in
+    let few = counts_fit _ s.pre.0 in
     (omega (arith, few.0, s.pre.1), omega (arith, few.1, s.pre.2))
 
 passed : (c : tie.After-check-class)
-    → NoneOf (endChecks (nodesOf (start c).args.sheet.now) (start c).args.source (start c).args.sink ++ valueChecks (start c).args.value)
+    → NoneOf (end_checks (nodes_of (start c).args.sheet.now) (start c).args.source (start c).args.sink ++ value_checks (start c).args.value)
 passed c = asked (first c) Passed c.before.enum_told.given.1
 
 returns-2 : tie.Need-returns-2
@@ -59,8 +59,8 @@ returns-2 c =
     let k = c.before.before.before in
     let s = start k in
     let a = s.args in (
-      class-refused a.sheet.now a.source a.sink a.value _ _ _ _ _ s.pre.0 (passed k) _ _
-          (class-as _ _ _ _ _ _ _ _ _ _ (Refused _ _) k.check-class.ensures s.pre.1 s.pre.2 c.before.room.given.1),
+      class_refused a.sheet.now a.source a.sink a.value _ _ _ _ _ s.pre.0 (passed k) _ _
+          (class_as _ _ _ _ _ _ _ _ _ _ (Refused _ _) k.check-class.ensures s.pre.1 s.pre.2 c.before.room.given.1),
       refl,
     )
 
@@ -72,17 +72,17 @@ abbrev base : tie.After-enum-told2 → tie.Start
 base c = start (checked c)
 
 accepted : (c : tie.After-enum-told2)
-    → NoneOf (classChecks (nodesOf (base c).args.sheet.now) (edgesOf (base c).args.sheet.now) (length (base c).args.claims.now)
+    → NoneOf (class_checks (nodes_of (base c).args.sheet.now) (edges_of (base c).args.sheet.now) (length (base c).args.claims.now)
     (length (base c).args.kinds.now) (length (base c).args.settings.now) (length (base c).args.sets.now) (length (base c).args.points.now))
 accepted c =
-    class-as _ _ _ _ _ _ _ _ _ _ Passed (checked c).check-class.ensures (base c).requires.1 (base c).requires.2 c.enum-told2.given.1
+    class_as _ _ _ _ _ _ _ _ _ _ Passed (checked c).check-class.ensures (base c).requires.1 (base c).requires.2 c.enum-told2.given.1
 
 returns-3 : tie.Need-returns-3
 returns-3 c =
     let t = c.before in
     let s = base t in
     let a = s.args in
-    (class-accepted a.sheet.now a.source a.sink a.value _ _ _ _ _ s.pre.0 (passed (checked t)) (accepted t), c.if1.true, refl)
+    (class_accepted a.sheet.now a.source a.sink a.value _ _ _ _ _ s.pre.0 (passed (checked t)) (accepted t), c.if1.true, refl)
 
 whole : (c : tie.After-enum-told2) → Asked (base c).args.sheet.now (base c).args.source (base c).args.sink
 whole c =
@@ -96,9 +96,9 @@ find-largest-requires c κs = whole c.before
 room : (c : tie.After-enum-told2)
     → (length (base c).args.claims.now ≤ 1000) × (length (base c).args.claims.now ≤ length (base c).args.kinds.now)
     × (length (base c).args.claims.now * (base c).args.edges ≤ length (base c).args.settings.now)
-    × (length (base c).args.claims.now * wordsFor (base c).args.nodes ≤ length (base c).args.sets.now)
+    × (length (base c).args.claims.now * words_for (base c).args.nodes ≤ length (base c).args.sets.now)
     × (length (base c).args.claims.now ≤ length (base c).args.points.now)
-room c = class-room _ _ _ _ _ _ _ (class-as _ _ _ _ _ _ _ _ _ _ Passed (checked c).check-class.ensures refl refl c.enum-told2.given.1)
+room c = class_room _ _ _ _ _ _ _ (class_as _ _ _ _ _ _ _ _ _ _ Passed (checked c).check-class.ensures refl refl c.enum-told2.given.1)
 
 mark-papers-requires : tie.Need-mark-papers-requires
 mark-papers-requires c κs =
@@ -149,7 +149,7 @@ narrow-requires-2 c κs = (added c.before).sum_of.ensures.1
 slice-read-t40 : tie.Need-slice-read-t40
 slice-read-t40 c =
     let g = c.before.before.before in
-    omega (arith, (lowest g).least-of.ensures.0, places (marked g))
+    omega (arith, (lowest g).least_of.ensures.0, places (marked g))
 
 slice-read-t42 : tie.Need-slice-read-t42
 slice-read-t42 c =
@@ -168,23 +168,23 @@ returns-4 c =
     let s = base t in
     let a = s.args in
     let f = m.before.before in (
-      class-accepted a.sheet.now a.source a.sink a.value _ _ _ _ _ s.pre.0 (passed (checked t)) (accepted t),
+      class_accepted a.sheet.now a.source a.sink a.value _ _ _ _ _ s.pre.0 (passed (checked t)) (accepted t),
       (
         f.find-largest.result,
         f.find-largest.ensures,
         λ q l. subst
             (λ v. Points a.sheet.now a.source a.sink v f.find-largest.result
-            (paperOf a.sheet.now a.claims.now a.kinds.now a.settings.now a.sets.now q) (at (points' m) q))
-            (number-of-bits _ s.fits.value) (m.mark-papers.ensures.0 q l),
+            (paper_of a.sheet.now a.claims.now a.kinds.now a.settings.now a.sets.now q) (at (points' m) q))
+            (number_of_bits _ s.fits.value) (m.mark-papers.ensures.0 q l),
       ),
       m.mark-papers.ensures.2,
       record {
         number_is = n.narrow.ensures;
         sum_is = c.before.before.narrow2.ensures ∙ (added g).sum_of.ensures.0;
-        least-reached = ((lowest g).least-of.result, (lowest g).least-of.ensures.0, refl);
-        least-below = (lowest g).least-of.ensures.1;
-        greatest-reached = (g.greatest-of.result, g.greatest-of.ensures.0, refl);
-        greatest-above = g.greatest-of.ensures.1;
+        least_reached = ((lowest g).least_of.result, (lowest g).least_of.ensures.0, refl);
+        least_below = (lowest g).least_of.ensures.1;
+        greatest_reached = (g.greatest-of.result, g.greatest-of.ensures.0, refl);
+        greatest_above = g.greatest-of.ensures.1;
       },
     )
 

@@ -5,13 +5,13 @@ use Prim.Native.Nat.{ℕ}
 use lib.IntN.{ℤ, pos}
 use lib.ListN.{replicate}
 use borrow.Author.Rules.{rules}
-use Rattle.signed.proofs.Laws.{number-of-bits}
+use Rattle.signed.proofs.Laws.{number_of_bits}
 use Rattle.analyser.specs.Largest.{FindsLargest}
 use Rattle.questions.specs.declared.LargestAnswer.{LargestAnswer}
 use Rattle.questions.specs.declared.LargestAnswer.TheVariants as largest
 use Rattle.desk.specs.Paper.{IsLargest}
 use Rattle.desk.specs.declared.Delivery.TheVariants.{Value}
-use Rattle.desk.proofs.Asking.{value-largest, none-largest, never-refused}
+use Rattle.desk.proofs.Asking.{value_largest, none_largest, never_refused}
 use Rattle.desk.proofs.find_largest.Statement.{statement}
 use Rattle.desk.proofs.find_largest.Tie as tie
 
@@ -34,18 +34,18 @@ returns c =
     let l = c.before.before.before.before.before in
     let s = start l in
     subst (λ v. IsLargest s.args.sheet.now s.args.source s.args.sink (Value v))
-    (sym (number-of-bits _ (record { sfits = c.known-told.given.0.1 })))
-    (value-largest _ _ _ s.pre _ (flows' l) (set' l) (found l (largest.Value _) c.before.answer.given.1))
+    (sym (number_of_bits _ (record { sfits = c.known-told.given.0.1 })))
+    (value_largest _ _ _ s.pre _ (flows' l) (set' l) (found l (largest.Value _) c.before.answer.given.1))
 
 returns-2 : tie.Need-returns-2
 returns-2 c =
     let l = c.before.before.before.before in
-    none-largest _ _ _ (start l).requires (flows' l) (set' l) (found l largest.None c.enum_told.given.1)
+    none_largest _ _ _ (start l).requires (flows' l) (set' l) (found l largest.None c.enum_told.given.1)
 
 returns-3 : tie.Need-returns-3
 returns-3 c =
     let l = c.before.before.before.before.before in
-    absurd (never-refused _ _ _ (start l).requires _ _ (flows' l) (set' l) (found l (largest.Refused _ _) c.before.answer2.given.1))
+    absurd (never_refused _ _ _ (start l).requires _ _ (flows' l) (set' l) (found l (largest.Refused _ _) c.before.answer2.given.1))
 
 pub find-largest-spec : {M : Type 1} → statement M
 find-largest-spec =

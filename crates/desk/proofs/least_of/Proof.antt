@@ -4,7 +4,7 @@ use mathlib.Core.Path.{◌≡◌, subst}
 use native.Mathlib.Omega.{arith}
 use borrow.Author.Rules.{rules}
 use Rattle.arrays.specs.At.{at}
-use Rattle.desk.proofs.Marking.{next-below}
+use Rattle.desk.proofs.Marking.{next_below}
 use Rattle.desk.proofs.least_of.Statement.{statement}
 use Rattle.desk.proofs.least_of.Tie as tie
 
@@ -28,7 +28,7 @@ loop-again c =
       omega (arith, t.loop-test.true),
       omega arith,
       omega arith,
-      next-below (λ j. at p l.q ≤ at p j) l.q (λ j m. omega (arith, l.invariant.3 j m, c.if1.true)) (omega arith),
+      next_below (λ j. at p l.q ≤ at p j) l.q (λ j m. omega (arith, l.invariant.3 j m, c.if1.true)) (omega arith),
     )
 
 loop-again-2 : tie.Need-loop-preserved-2 invariant-loop decreases-loop
@@ -39,7 +39,7 @@ loop-again-2 c =
       omega (arith, t.loop-test.true),
       omega arith,
       omega (arith, l.invariant.2),
-      next-below (λ j. at p l.best ≤ at p j) l.q l.invariant.3 (omega (arith, c.if1.false)),
+      next_below (λ j. at p l.best ≤ at p j) l.q l.invariant.3 (omega (arith, c.if1.false)),
     )
 
 returns : tie.Need-returns invariant-loop decreases-loop

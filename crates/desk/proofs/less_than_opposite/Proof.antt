@@ -5,7 +5,7 @@ use lib.IntN.{negsuc, ◌+ℤ◌}
 use lib.Signed.{lt_z}
 use mir.Syntax.{w64}
 use mir.ValLaws.{to_z-of_z}
-use Rattle.signed.proofs.Laws.{number-of-bits}
+use Rattle.signed.proofs.Laws.{number_of_bits}
 use Rattle.desk.proofs.less_than_opposite.Statement.{statement}
 use Rattle.desk.proofs.less_than_opposite.Tie as tie
 
@@ -13,7 +13,7 @@ returns : tie.Need-returns
 returns c =
     let f = c.before.ranges in
     ap (λ x. lt_z x (negsuc 0))
-    (to_z-of_z w64 _ (record { sfits = c.add32.type-inv }) ∙ c.add32.ensures ∙ ap₂ ◌+ℤ◌ (number-of-bits _ f.x) (number-of-bits _ f.v))
+    (to_z-of_z w64 _ (record { sfits = c.add32.type-inv }) ∙ c.add32.ensures ∙ ap₂ ◌+ℤ◌ (number_of_bits _ f.x) (number_of_bits _ f.v))
 
 pub less-than-opposite-spec : {M : Type 1} → statement M
 less-than-opposite-spec = tie.close (tie.spec (λ c κs. search rules) returns)

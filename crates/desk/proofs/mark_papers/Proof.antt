@@ -6,20 +6,20 @@ use lib.ListN.{length}
 use borrow.Author.Rules.{rules}
 use mir.Syntax.{w32}
 use mir.Val.{to_z}
-use Rattle.signed.proofs.Laws.{number-of-bits}
-use Rattle.flows.specs.ProvingSet.{wordsFor}
+use Rattle.signed.proofs.Laws.{number_of_bits}
+use Rattle.flows.specs.ProvingSet.{words_for}
 use Rattle.arrays.specs.At.{at, atℤ}
-use Rattle.records.specs.Sheet.{nodesOf, edgesOf}
-use Rattle.desk.specs.Paper.{claim_of, paperOf, Points}
-use Rattle.desk.proofs.Asking.{counts-fit}
-use Rattle.desk.proofs.Marking.{ends-before, small-end, part-long, Halfway, halfway-start, halfway-turn, turned, all-marked}
+use Rattle.records.specs.Sheet.{nodes_of, edges_of}
+use Rattle.desk.specs.Paper.{claim_of, paper_of, Points}
+use Rattle.desk.proofs.Asking.{counts_fit}
+use Rattle.desk.proofs.Marking.{ends_before, small_end, part_long, Halfway, halfway_start, halfway_turn, turned, all_marked}
 use Rattle.desk.proofs.mark_papers.Statement.{statement}
 use Rattle.desk.proofs.mark_papers.Tie as tie
 
 abbrev invariant-loop : tie.invariant-loop
 invariant-loop sheet nodes edges source sink value largest claims kinds settings sets points₀ n words q₀ points q =
-    (q ≤ n) × (n ≡ length claims) × (words ≡ wordsFor nodes) × (words ≤ 9)
-    × Halfway (λ j m. Points sheet source sink (to_z w32 value) largest (paperOf sheet claims kinds settings sets j) m) points₀ q points
+    (q ≤ n) × (n ≡ length claims) × (words ≡ words_for nodes) × (words ≤ 9)
+    × Halfway (λ j m. Points sheet source sink (to_z w32 value) largest (paper_of sheet claims kinds settings sets j) m) points₀ q points
 
 abbrev decreases-loop : tie.decreases-loop
 decreases-loop sheet nodes edges source sink value largest claims kinds settings sets points₀ n words q₀ points q =
@@ -28,10 +28,10 @@ decreases-loop sheet nodes edges source sink value largest claims kinds settings
 words-for-requires : tie.Need-words-for-requires invariant-loop decreases-loop
 words-for-requires c κs =
     let s = c.before.before.before.before in
-    omega (arith, s.requires.1, (counts-fit _ s.requires.0.sheet).0)
+    omega (arith, s.requires.1, (counts_fit _ s.requires.0.sheet).0)
 
 loop-holds : tie.Need-loop-init invariant-loop decreases-loop
-loop-holds c = (omega arith, refl, c.words-for.ensures.0, c.words-for.ensures.1, halfway-start _ _)
+loop-holds c = (omega arith, refl, c.words-for.ensures.0, c.words-for.ensures.1, halfway_start _ _)
 
 -- ── where the stretches of paper q end ──
 abbrev begun : tie.In-loop invariant-loop decreases-loop → tie.Start invariant-loop decreases-loop
@@ -41,28 +41,28 @@ abbrev words-at : tie.In-loop invariant-loop decreases-loop → ℕ
 words-at c = c.before.before.words-for.result
 
 edges_few : (c : tie.In-loop invariant-loop decreases-loop) → (begun c).args.edges ≤ 512
-edges_few c = let s = begun c in omega (arith, s.pre.2, (counts-fit _ s.pre.0.sheet).1)
+edges_few c = let s = begun c in omega (arith, s.pre.2, (counts_fit _ s.pre.0.sheet).1)
 
-settings-small : (c : tie.In-loop invariant-loop decreases-loop) → c.before.loop.q * (begun c).args.edges + (begun c).args.edges ≤ 512000
-settings-small c = small-end _ _ _ c.loop-test.true (begun c).requires.3 (edges_few c)
+settings_small : (c : tie.In-loop invariant-loop decreases-loop) → c.before.loop.q * (begun c).args.edges + (begun c).args.edges ≤ 512000
+settings_small c = small_end _ _ _ c.loop-test.true (begun c).requires.3 (edges_few c)
 
 sets-small : (c : tie.In-loop invariant-loop decreases-loop) → c.before.loop.q * words-at c + words-at c ≤ 512000
-sets-small c = small-end _ _ _ c.loop-test.true (begun c).requires.3 (omega (arith, c.before.loop.invariant.3))
+sets-small c = small_end _ _ _ c.loop-test.true (begun c).requires.3 (omega (arith, c.before.loop.invariant.3))
 
 settings-room : (c : tie.In-loop invariant-loop decreases-loop) → c.before.loop.q * (begun c).args.edges + (begun c).args.edges ≤ length (begun c).args.settings.now
 settings-room c =
-    omega (arith, ends-before (begun c).args.edges c.before.loop.q (length (begun c).args.claims.now) c.loop-test.true, (begun c).requires.5)
+    omega (arith, ends_before (begun c).args.edges c.before.loop.q (length (begun c).args.claims.now) c.loop-test.true, (begun c).requires.5)
 
-sets-room : (c : tie.In-loop invariant-loop decreases-loop) → c.before.loop.q * words-at c + words-at c ≤ length (begun c).args.sets.now
-sets-room c =
+sets_room : (c : tie.In-loop invariant-loop decreases-loop) → c.before.loop.q * words-at c + words-at c ≤ length (begun c).args.sets.now
+sets_room c =
     let all = subst (λ w. length (begun c).args.claims.now * w ≤ length (begun c).args.sets.now) (sym c.before.loop.invariant.2) (begun c).requires.6 in
-    omega (arith, ends-before (words-at c) c.before.loop.q (length (begun c).args.claims.now) c.loop-test.true, all)
+    omega (arith, ends_before (words-at c) c.before.loop.q (length (begun c).args.claims.now) c.loop-test.true, all)
 
 mul-start : tie.Need-overflow-mul-start invariant-loop decreases-loop
-mul-start c = record { fits = omega (arith, settings-small c) }
+mul-start c = record { fits = omega (arith, settings_small c) }
 
 add-end : tie.Need-overflow-add-end invariant-loop decreases-loop
-add-end c = record { fits = omega (arith, settings-small c) }
+add-end c = record { fits = omega (arith, settings_small c) }
 
 mul-word : tie.Need-overflow-mul-word invariant-loop decreases-loop
 mul-word c = record { fits = omega (arith, sets-small c) }
@@ -74,7 +74,7 @@ shared-slice-read-claim-of : tie.Need-shared-slice-read-claim-of invariant-loop 
 shared-slice-read-claim-of c = omega (arith, c.before.loop-test.true, (begun c.before).pre.4)
 
 mul-paper-points : tie.Need-overflow-mul-paper-points invariant-loop decreases-loop
-mul-paper-points c = record { fits = omega (arith, settings-small c.before.before.before) }
+mul-paper-points c = record { fits = omega (arith, settings_small c.before.before.before) }
 
 part-paper-points-end : tie.Need-slice-bounds-paper-points-end invariant-loop decreases-loop
 part-paper-points-end c = settings-room c.before.before.before
@@ -83,7 +83,7 @@ mul-paper-points-2 : tie.Need-overflow-mul-paper-points-2 invariant-loop decreas
 mul-paper-points-2 c = record { fits = omega (arith, sets-small c.before.before.before.before) }
 
 part-paper-points-end-2 : tie.Need-slice-bounds-paper-points-end-2 invariant-loop decreases-loop
-part-paper-points-end-2 c = sets-room c.before.before.before.before
+part-paper-points-end-2 c = sets_room c.before.before.before.before
 
 paper-points-requires : tie.Need-paper-points-requires invariant-loop decreases-loop
 paper-points-requires c κs =
@@ -93,9 +93,9 @@ paper-points-requires c κs =
     let w = words-at t in
     let q = t.before.loop.q in (
       s.pre.0,
-      part-long q e (q * e + e - q * e) s.args.settings.now (edgesOf s.args.sheet.now) s.pre.2 (omega arith) (settings-room t),
-      part-long q w (q * w + w - q * w) s.args.sets.now (wordsFor (nodesOf s.args.sheet.now))
-          (t.before.loop.invariant.2 ∙ ap wordsFor s.pre.1) (omega arith) (sets-room t),
+      part_long q e (q * e + e - q * e) s.args.settings.now (edges_of s.args.sheet.now) s.pre.2 (omega arith) (settings-room t),
+      part_long q w (q * w + w - q * w) s.args.sets.now (words_for (nodes_of s.args.sheet.now))
+          (t.before.loop.invariant.2 ∙ ap words_for s.pre.1) (omega arith) (sets_room t),
     )
 
 slice-write-points : tie.Need-slice-write-points invariant-loop decreases-loop
@@ -110,7 +110,7 @@ claimed : (c : tie.After-claim-of invariant-loop decreases-loop)
 claimed c =
     c.claim-of.ensures
     ∙ ap (claim_of (at (begun c.before.before.before).args.kinds.now c.before.before.before.before.loop.q))
-    (number-of-bits _ (record { sfits = c.before.claim-of-arg.given }))
+    (number_of_bits _ (record { sfits = c.before.claim-of-arg.given }))
 
 loop-again : tie.Need-loop-preserved invariant-loop decreases-loop
 loop-again c =
@@ -125,10 +125,10 @@ loop-again c =
       l.invariant.1,
       l.invariant.2,
       l.invariant.3,
-      halfway-turn _ s.args.points.now q l.points c.paper-points.result l.invariant.4 (omega (arith, t.loop-test.true, s.pre.7))
+      halfway_turn _ s.args.points.now q l.points c.paper-points.result l.invariant.4 (omega (arith, t.loop-test.true, s.pre.7))
           (turned s.args.sheet.now _ _ _ _ s.args.largest s.args.claims.now s.args.kinds.now s.args.settings.now
           s.args.sets.now q e w (q * e + e - q * e) (q * w + w - q * w) k.claim-of.result _
-          s.pre.2 (l.invariant.2 ∙ ap wordsFor s.pre.1) (omega arith) (omega arith) (claimed k) refl
+          s.pre.2 (l.invariant.2 ∙ ap words_for s.pre.1) (omega arith) (omega arith) (claimed k) refl
           c.paper-points.ensures.0)
           c.paper-points.ensures.1,
     )
@@ -141,8 +141,8 @@ returns c =
     let l = c.before.loop in
     let s = c.before.before.before.before.before.before.before in
     let a = s.args in
-    all-marked a.sheet.now a.source a.sink a.value _ a.largest a.claims.now a.kinds.now a.settings.now a.sets.now
-    a.points.now l.points l.q (omega (arith, c.loop-test.false, l.invariant.0)) (number-of-bits _ s.ranges.value) l.invariant.4
+    all_marked a.sheet.now a.source a.sink a.value _ a.largest a.claims.now a.kinds.now a.settings.now a.sets.now
+    a.points.now l.points l.q (omega (arith, c.loop-test.false, l.invariant.0)) (number_of_bits _ s.ranges.value) l.invariant.4
 
 pub mark-papers-spec : {M : Type 1} → statement M
 mark-papers-spec =

@@ -1,8 +1,8 @@
 -- Claim and set together: 6 or nothing.
 use borrow.Author.Rules.{rules}
-use Rattle.signed.proofs.Laws.{number-of-bits}
+use Rattle.signed.proofs.Laws.{number_of_bits}
 use Rattle.refusals.specs.Order.{Decides}
-use Rattle.refusals.proofs.Order.{said-yes, said-no}
+use Rattle.refusals.proofs.Order.{said_yes, said_no}
 use Rattle.desk.specs.inner.Judged.{NoneBy}
 use Rattle.desk.proofs.Judging.{earned, missed}
 use Rattle.desk.proofs.none_points.Statement.{statement}
@@ -12,18 +12,18 @@ abbrev begun : tie.After-proves-none → tie.Start
 begun c = c.before.before.before
 
 proved : (c : tie.After-proves-none) → Decides (NoneBy (begun c).args.total (begun c).args.from (begun c).args.into) c.proves-none.result
-proved c = rw (number-of-bits _ (begun c).ranges.total) at c.proves-none.ensures
+proved c = rw (number_of_bits _ (begun c).ranges.total) at c.proves-none.ensures
 
 returns : tie.Need-returns
 returns c =
     let p = c.before in
-    earned 6 (said-yes p.before.before.claims-none.ensures p.before.if1.true, said-yes (proved p) c.if2.true)
+    earned 6 (said_yes p.before.before.claims-none.ensures p.before.if1.true, said_yes (proved p) c.if2.true)
 
 returns-2 : tie.Need-returns-2
-returns-2 c = missed 6 (λ h. said-no (proved c.before) c.if2.false h.1)
+returns-2 c = missed 6 (λ h. said_no (proved c.before) c.if2.false h.1)
 
 returns-3 : tie.Need-returns-3
-returns-3 c = missed 6 (λ h. said-no c.before.claims-none.ensures c.if1.false h.0)
+returns-3 c = missed 6 (λ h. said_no c.before.claims-none.ensures c.if1.false h.0)
 
 pub none-points-spec : {M : Type 1} → statement M
 none-points-spec =

@@ -4,11 +4,11 @@ use mathlib.Core.List.{List}
 use lib.IntN.{ℤ, pos}
 use lib.ListN.{replicate}
 use borrow.Author.Rules.{rules}
-use Rattle.signed.proofs.Laws.{number-of-bits}
+use Rattle.signed.proofs.Laws.{number_of_bits}
 use Rattle.analyser.specs.Totals.{GivesTotals}
 use Rattle.totals.specs.declared.TotalsAnswer.{TotalsAnswer}
 use Rattle.totals.specs.declared.TotalsAnswer.TheVariants as totals
-use Rattle.desk.proofs.Asking.{total-is, total-never-refused}
+use Rattle.desk.proofs.Asking.{total_is, total_never_refused}
 use Rattle.desk.proofs.outward_total.Statement.{statement}
 use Rattle.desk.proofs.outward_total.Tie as tie
 
@@ -26,14 +26,14 @@ returns : tie.Need-returns
 returns c =
     let t = c.before.before.before.before in
     let s = start t in
-    number-of-bits _ (record { sfits = c.known-told.given.0.1 })
-    ∙ total-is _ _ s.pre.0 s.pre.1 (out' t) _ (found t (totals.Total _) c.before.answer.given.1)
+    number_of_bits _ (record { sfits = c.known-told.given.0.1 })
+    ∙ total_is _ _ s.pre.0 s.pre.1 (out' t) _ (found t (totals.Total _) c.before.answer.given.1)
 
 returns-2 : tie.Need-returns-2
 returns-2 c =
     let t = c.before.before.before.before in
     let s = start t in
-    absurd (total-never-refused _ _ s.pre.0 s.pre.1 (out' t) _ _ (found t (totals.Refused _ _) c.before.answer2.given.1))
+    absurd (total_never_refused _ _ s.pre.0 s.pre.1 (out' t) _ _ (found t (totals.Refused _ _) c.before.answer2.given.1))
 
 pub outward-total-spec : {M : Type 1} → statement M
 outward-total-spec =

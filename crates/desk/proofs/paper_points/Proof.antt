@@ -3,14 +3,14 @@ use Prim.Native.Nat.{ℕ, ◌≤◌, ◌<◌, ◌/◌}
 use mathlib.Core.Path.{◌≡◌, ◌∙◌, ap}
 use native.Mathlib.Omega.{arith}
 use borrow.Author.Rules.{rules}
-use Rattle.signed.proofs.Laws.{number-of-bits}
-use Rattle.flows.specs.ProvingSet.{wordsFor, member}
+use Rattle.signed.proofs.Laws.{number_of_bits}
+use Rattle.flows.specs.ProvingSet.{words_for, member}
 use Rattle.arrays.specs.At.{atℤ}
 use Rattle.analyser.specs.Statements.{Delivers}
 use Rattle.desk.specs.Paper.{Earns}
 use Rattle.desk.specs.inner.Judged.{LastSixBy}
-use Rattle.desk.proofs.Judging.{earns-at-most, judged-at-most}
-use Rattle.desk.proofs.Asking.{ends-inside, paper-earns}
+use Rattle.desk.proofs.Judging.{earns_at_most, judged_at_most}
+use Rattle.desk.proofs.Asking.{ends_inside, paper_earns}
 use Rattle.desk.proofs.paper_points.Statement.{statement}
 use Rattle.desk.proofs.paper_points.Tie as tie
 
@@ -21,18 +21,18 @@ outward-total-requires : tie.Need-outward-total-requires
 outward-total-requires c κs = let p = c.before.before.before.requires in (p.0.sheet, p.2)
 
 -- a node's word is one of the set's
-word_in : (nodes words v w : ℕ) → wordsFor nodes ≤ words → w ≡ v → v < nodes → w / 64 < words
+word_in : (nodes words v w : ℕ) → words_for nodes ≤ words → w ≡ v → v < nodes → w / 64 < words
 word_in nodes words v w long e l = omega arith
 
 holds-requires : tie.Need-holds-requires
 holds-requires c κs =
     let s = c.before.before.before.before.before in
-    word_in _ _ _ _ s.requires.2 c.wide.ensures (ends-inside _ _ _ s.requires.0.ends).0
+    word_in _ _ _ _ s.requires.2 c.wide.ensures (ends_inside _ _ _ s.requires.0.ends).0
 
 holds-requires-2 : tie.Need-holds-requires-2
 holds-requires-2 c κs =
     let s = c.before.before.before.before.before.before.before in
-    word_in _ _ _ _ s.requires.2 c.wide2.ensures (ends-inside _ _ _ s.requires.0.ends).1
+    word_in _ _ _ _ s.requires.2 c.wide2.ensures (ends_inside _ _ _ s.requires.0.ends).1
 
 -- ── the places ──
 abbrev total-at : tie.After-last-six → tie.After-outward-total
@@ -44,19 +44,19 @@ begun c = (total-at c).before.before.before.before
 first : (c : tie.After-last-six)
     → Earns (Delivers (begun c).args.sheet.now (begun c).args.source (begun c).args.sink (begun c).args.value (atℤ (begun c).args.settings.now)) 4
     (total-at c).before.settings-points.result
-first c = rw (number-of-bits _ (begun c).ranges.value) at (total-at c).before.settings-points.ensures
+first c = rw (number_of_bits _ (begun c).ranges.value) at (total-at c).before.settings-points.ensures
 
 rest : (c : tie.After-last-six)
     → LastSixBy (begun c).args.largest (begun c).args.claim (total-at c).outward-total.result c.before.before.before.holds.result
     c.before.holds2.result c.last-six.result
-rest c = rw (number-of-bits _ (record { sfits = (total-at c).outward-total.type-inv })) at c.last-six.ensures
+rest c = rw (number_of_bits _ (record { sfits = (total-at c).outward-total.type-inv })) at c.last-six.ensures
 
 add-result : tie.Need-overflow-add-result
 add-result c = record {
   fits = omega (
     arith,
-    earns-at-most 4 _ (first c),
-    judged-at-most (begun c).args.largest (begun c).args.claim (total-at c).outward-total.result c.before.before.before.holds.result
+    earns_at_most 4 _ (first c),
+    judged_at_most (begun c).args.largest (begun c).args.claim (total-at c).outward-total.result c.before.before.before.holds.result
         c.before.holds2.result c.last-six.result (rest c),
   );
 }
@@ -64,7 +64,7 @@ add-result c = record {
 returns : tie.Need-returns
 returns c =
     let s = begun c in
-    paper-earns _ _ _ s.args.value s.args.largest s.args.claim s.args.settings.now s.args.set.now (total-at c).outward-total.result
+    paper_earns _ _ _ s.args.value s.args.largest s.args.claim s.args.settings.now s.args.set.now (total-at c).outward-total.result
     _ _ _ _ s.pre.0 (first c) (total-at c).outward-total.ensures
     (c.before.before.before.holds.ensures ∙ ap (member s.args.set.now) c.before.before.before.before.wide.ensures)
     (c.before.holds2.ensures ∙ ap (member s.args.set.now) c.before.before.wide2.ensures)

@@ -3,8 +3,8 @@ use mathlib.Core.Path.{◌∙◌, ap, ap₂}
 use borrow.Author.Rules.{rules}
 use lib.IntN.{pos, negsuc, ◌+ℤ◌}
 use lib.Signed.{lt_z}
-use Rattle.signed.proofs.Laws.{number-of-bits}
-use Rattle.desk.proofs.Judging.{next_both, next-source, next-sink, next-neither}
+use Rattle.signed.proofs.Laws.{number_of_bits}
+use Rattle.desk.proofs.Judging.{next_both, next_source, next_sink, next_neither}
 use Rattle.desk.proofs.proves_next.Statement.{statement}
 use Rattle.desk.proofs.proves_next.Tie as tie
 
@@ -13,28 +13,28 @@ returns c =
     let s = c.before.before.before in
     let a = s.args in
     next_both a.total a.v a.from a.into c.less.result c.before.before.if1.true c.before.if2.true
-    (c.less.ensures ∙ ap (λ x. lt_z x (pos 0)) (number-of-bits _ s.ranges.total))
+    (c.less.ensures ∙ ap (λ x. lt_z x (pos 0)) (number_of_bits _ s.ranges.total))
 
 returns-2 : tie.Need-returns-2
 returns-2 c =
     let s = c.before.before.before in
     let a = s.args in
-    next-source a.total a.v a.from a.into c.less2.result c.before.before.if1.true c.before.if2.false
-    (c.less2.ensures ∙ ap₂ lt_z (number-of-bits _ s.ranges.v) (number-of-bits _ s.ranges.total))
+    next_source a.total a.v a.from a.into c.less2.result c.before.before.if1.true c.before.if2.false
+    (c.less2.ensures ∙ ap₂ lt_z (number_of_bits _ s.ranges.v) (number_of_bits _ s.ranges.total))
 
 returns-3 : tie.Need-returns-3
 returns-3 c =
     let s = c.before.before.before in
     let a = s.args in
-    next-sink a.total a.v a.from a.into c.less-than-opposite.result c.before.before.if1.false c.before.if3.true
-    (c.less-than-opposite.ensures ∙ ap₂ (λ x y. lt_z (x +ℤ y) (negsuc 0)) (number-of-bits _ s.ranges.total) (number-of-bits _ s.ranges.v))
+    next_sink a.total a.v a.from a.into c.less-than-opposite.result c.before.before.if1.false c.before.if3.true
+    (c.less-than-opposite.ensures ∙ ap₂ (λ x y. lt_z (x +ℤ y) (negsuc 0)) (number_of_bits _ s.ranges.total) (number_of_bits _ s.ranges.v))
 
 returns-4 : tie.Need-returns-4
 returns-4 c =
     let s = c.before.before.before in
     let a = s.args in
-    next-neither a.total a.v a.from a.into c.less3.result c.before.before.if1.false c.before.if3.false
-    (c.less3.ensures ∙ ap (λ x. lt_z x (pos 0)) (number-of-bits _ s.ranges.total))
+    next_neither a.total a.v a.from a.into c.less3.result c.before.before.if1.false c.before.if3.false
+    (c.less3.ensures ∙ ap (λ x. lt_z x (pos 0)) (number_of_bits _ s.ranges.total))
 
 pub proves-next-spec : {M : Type 1} → statement M
 proves-next-spec =

@@ -1,12 +1,12 @@
 -- The points for settings: Mark gives the value asked exactly where they carry it.
 use mathlib.Core.Path.{◌≡◌}
 use borrow.Author.Rules.{rules}
-use Rattle.signed.proofs.Laws.{number-of-bits}
+use Rattle.signed.proofs.Laws.{number_of_bits}
 use Rattle.analyser.specs.Mark.{Marks}
 use Rattle.questions.specs.declared.MarkAnswer.{MarkAnswer}
 use Rattle.questions.specs.declared.MarkAnswer.TheVariants as mark
-use Rattle.desk.proofs.Judging.{earns-same}
-use Rattle.desk.proofs.Asking.{marked-earns, refused-earns}
+use Rattle.desk.proofs.Judging.{earns_same}
+use Rattle.desk.proofs.Asking.{marked_earns, refused_earns}
 use Rattle.desk.proofs.settings_points.Statement.{statement}
 use Rattle.desk.proofs.settings_points.Tie as tie
 
@@ -22,14 +22,14 @@ returns c =
     let t = c.before in
     let m = t.before.before.before in
     let s = start m in
-    marked-earns _ _ _ s.pre.0 s.args.value _ s.args.settings.now _ s.pre.1 (found m (mark.Value _) t.before.answer.given.1)
-    (earns-same _ _ _ _ _ (number-of-bits _ (record { sfits = t.known-told.given.0.1 })) (number-of-bits _ s.fits.value) c.value-asked.ensures)
+    marked_earns _ _ _ s.pre.0 s.args.value _ s.args.settings.now _ s.pre.1 (found m (mark.Value _) t.before.answer.given.1)
+    (earns_same _ _ _ _ _ (number_of_bits _ (record { sfits = t.known-told.given.0.1 })) (number_of_bits _ s.fits.value) c.value-asked.ensures)
 
 returns-2 : tie.Need-returns-2
 returns-2 c =
     let m = c.before.before.before in
     let s = start m in
-    refused-earns _ _ _ s.pre.0 s.args.value _ _ s.args.settings.now s.pre.1 (found m (mark.Refused _ _) c.before.answer2.given.1)
+    refused_earns _ _ _ s.pre.0 s.args.value _ _ s.args.settings.now s.pre.1 (found m (mark.Refused _ _) c.before.answer2.given.1)
 
 pub settings-points-spec : {M : Type 1} → statement M
 settings-points-spec =

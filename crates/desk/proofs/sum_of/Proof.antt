@@ -5,7 +5,7 @@ use native.Mathlib.Omega.{arith}
 use borrow.Author.Rules.{rules}
 use Rattle.integers.specs.Sum.{sum, sumℕ}
 use Rattle.arrays.specs.At.{at}
-use Rattle.desk.proofs.Marking.{sum-next}
+use Rattle.desk.proofs.Marking.{sum_next}
 use Rattle.desk.proofs.sum_of.Statement.{statement}
 use Rattle.desk.proofs.sum_of.Tie as tie
 
@@ -38,7 +38,7 @@ loop-again c =
     let t = c.before.before in
     let l = t.before.loop in (
       omega (arith, t.loop-test.true),
-      ap₂ ◌+◌ l.invariant.1 c.wide-points.ensures ∙ sym (sum-next l.q (at t.before.before.before.args.points.now)),
+      ap₂ ◌+◌ l.invariant.1 c.wide-points.ensures ∙ sym (sum_next l.q (at t.before.before.before.args.points.now)),
       omega (arith, few c, l.invariant.2),
     )
 

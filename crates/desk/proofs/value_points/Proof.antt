@@ -2,9 +2,9 @@
 use mathlib.Core.Path.{refl}
 use borrow.Author.Rules.{rules}
 use lib.IntN.{pos, ◌+ℤ◌}
-use Rattle.signed.proofs.Laws.{number-of-bits}
+use Rattle.signed.proofs.Laws.{number_of_bits}
 use Rattle.refusals.specs.Order.{Decides}
-use Rattle.refusals.proofs.Order.{said-yes, said-no}
+use Rattle.refusals.proofs.Order.{said_yes, said_no}
 use Rattle.desk.specs.inner.Judged.{IsValue, ProvesBy}
 use Rattle.desk.proofs.Judging.{earned, missed}
 use Rattle.desk.proofs.value_points.Statement.{statement}
@@ -14,31 +14,31 @@ abbrev begun : tie.After-proves-next → tie.Start
 begun c = c.before.before
 
 claimed : (c : tie.After-proves-next) → Decides (IsValue (begun c).args.claim (begun c).args.v) c.before.claims-value.result
-claimed c = rw (number-of-bits _ (begun c).ranges.v) at c.before.claims-value.ensures
+claimed c = rw (number_of_bits _ (begun c).ranges.v) at c.before.claims-value.ensures
 
 proved : (c : tie.After-proves-next)
     → Decides (ProvesBy (begun c).args.total ((begun c).args.v +ℤ pos 1) (begun c).args.from (begun c).args.into) c.proves-next.result
-proved c = rw (number-of-bits _ (begun c).ranges.v, number-of-bits _ (begun c).ranges.total) at c.proves-next.ensures
+proved c = rw (number_of_bits _ (begun c).ranges.v, number_of_bits _ (begun c).ranges.total) at c.proves-next.ensures
 
 returns : tie.Need-returns
 returns c =
     let p = c.before.before in
-    (3, 3, earned 3 (said-yes (claimed p) c.before.if1.true), earned 3 (said-yes (proved p) c.if2.true), refl)
+    (3, 3, earned 3 (said_yes (claimed p) c.before.if1.true), earned 3 (said_yes (proved p) c.if2.true), refl)
 
 returns-2 : tie.Need-returns-2
 returns-2 c =
     let p = c.before.before in
-    (3, 0, earned 3 (said-yes (claimed p) c.before.if1.true), missed 3 (said-no (proved p) c.if2.false), refl)
+    (3, 0, earned 3 (said_yes (claimed p) c.before.if1.true), missed 3 (said_no (proved p) c.if2.false), refl)
 
 returns-3 : tie.Need-returns-3
 returns-3 c =
     let p = c.before.before in
-    (0, 3, missed 3 (said-no (claimed p) c.before.if1.false), earned 3 (said-yes (proved p) c.if3.true), refl)
+    (0, 3, missed 3 (said_no (claimed p) c.before.if1.false), earned 3 (said_yes (proved p) c.if3.true), refl)
 
 returns-4 : tie.Need-returns-4
 returns-4 c =
     let p = c.before.before in
-    (0, 0, missed 3 (said-no (claimed p) c.before.if1.false), missed 3 (said-no (proved p) c.if3.false), refl)
+    (0, 0, missed 3 (said_no (claimed p) c.before.if1.false), missed 3 (said_no (proved p) c.if3.false), refl)
 
 pub value-points-spec : {M : Type 1} → statement M
 value-points-spec =

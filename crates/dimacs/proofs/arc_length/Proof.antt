@@ -3,9 +3,9 @@ use mathlib.Core.Path.{◌≡◌, ◌∙◌, ap}
 use Prim.Native.Nat.{◌+◌, ◌≤◌}
 use native.Mathlib.Omega.{arith}
 use borrow.Author.Rules.{rules}
-use Rattle.signed.proofs.Laws.{number-of-bits}
+use Rattle.signed.proofs.Laws.{number_of_bits}
 use Rattle.dimacs.specs.Text.{natural}
-use Rattle.dimacs.proofs.Length.{long, counted, arc-length}
+use Rattle.dimacs.proofs.Length.{long, counted, arc_length}
 use Rattle.dimacs.proofs.arc_length.Statement.{statement}
 use Rattle.dimacs.proofs.arc_length.Tie as tie
 
@@ -23,7 +23,7 @@ start c = c.before.before.before.before.before.before
 capacity-digits : (c : tie.After-digit-count3) → (c.digit-count3.result ≡ long (natural (start c).args.capacity)) × (c.digit-count3.result ≤ 10)
 capacity-digits c =
     let n = c.before.capacity-number in
-    counted c.digit-count3.ensures (n.ensures ∙ ap natural (number-of-bits _ (start c).ranges.capacity)) (omega (arith, n.type-inv))
+    counted c.digit-count3.ensures (n.ensures ∙ ap natural (number_of_bits _ (start c).ranges.capacity)) (omega (arith, n.type-inv))
 
 -- ── the needs, in the order of the code ──
 add-ends : tie.Need-overflow-add-ends
@@ -41,7 +41,7 @@ returns c =
     let a = tail-digits c.before.before.before.before in
     let b = head-digits c.before.before in
     let k = capacity-digits c in
-    (omega (arith, a.0, b.0, k.0, arc-length s.args.tail s.args.head s.args.capacity), omega (arith, a.1, b.1, k.1))
+    (omega (arith, a.0, b.0, k.0, arc_length s.args.tail s.args.head s.args.capacity), omega (arith, a.1, b.1, k.1))
 
 pub arc-length-spec : {M : Type 1} → statement M
 arc-length-spec =

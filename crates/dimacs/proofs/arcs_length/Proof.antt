@@ -7,17 +7,17 @@ use native.Mathlib.Nat.{le_antisymm}
 use lib.ListN.{length}
 use lib.IntN.{ℤ}
 use borrow.Author.Rules.{rules}
-use Rattle.signed.proofs.Laws.{number-of-bits}
+use Rattle.signed.proofs.Laws.{number_of_bits}
 use Rattle.arrays.specs.At.{at, atℤ}
 use Rattle.texts.specs.Lines.{lines}
 use Rattle.texts.proofs.Joined.{lines_next}
-use Rattle.dimacs.specs.Text.{arcLine}
-use Rattle.dimacs.specs.inner.ArcLines.{line_of, arcLines}
+use Rattle.dimacs.specs.Text.{arc_line}
+use Rattle.dimacs.specs.inner.ArcLines.{line_of, arc_lines}
 use Rattle.dimacs.proofs.arcs_length.Statement.{statement}
 use Rattle.dimacs.proofs.arcs_length.Tie as tie
 
 abbrev invariant-loop : tie.invariant-loop
-invariant-loop tails capacities darts sum₀ d₀ sum d = (d ≤ darts) × (sum ≡ length (arcLines tails capacities d)) × (sum ≤ 35 * d)
+invariant-loop tails capacities darts sum₀ d₀ sum d = (d ≤ darts) × (sum ≡ length (arc_lines tails capacities d)) × (sum ≤ 35 * d)
 
 abbrev decreases-loop : tie.decreases-loop
 decreases-loop tails capacities darts sum₀ d₀ sum d = darts - d
@@ -35,13 +35,13 @@ capacities c = (turn c).before.before.args.capacities.now
 abbrev dart : tie.After-arc-length invariant-loop decreases-loop → ℕ
 dart c = (turn c).before.loop.d
 
-one : (c : tie.After-arc-length invariant-loop decreases-loop) → c.arc-length.result ≡ length (line_of (tails c) (capacities c) (dart c))
+one : (c : tie.After-arc-length invariant-loop decreases-loop) → c.arc_length.result ≡ length (line_of (tails c) (capacities c) (dart c))
 one c =
     let b = c.before.before.before.before.reverse in
-    c.arc-length.ensures.0
-    ∙ ap (λ x. length (arcLine (at (tails c) (dart c)) (at (tails c) b.result) x))
-    (number-of-bits (atℤ (capacities c) (dart c)) (record { sfits = c.before.arc-length-arg3.given }))
-    ∙ ap (λ k. length (arcLine (at (tails c) (dart c)) (at (tails c) k) (atℤ (capacities c) (dart c)))) b.ensures.0
+    c.arc_length.ensures.0
+    ∙ ap (λ x. length (arc_line (at (tails c) (dart c)) (at (tails c) b.result) x))
+    (number_of_bits (atℤ (capacities c) (dart c)) (record { sfits = c.before.arc-length-arg3.given }))
+    ∙ ap (λ k. length (arc_line (at (tails c) (dart c)) (at (tails c) k) (atℤ (capacities c) (dart c)))) b.ensures.0
 
 -- ── the needs, in the order of the code ──
 loop-holds : tie.Need-loop-init invariant-loop decreases-loop
@@ -54,14 +54,14 @@ reverse-requires c κs = omega (arith, c.before.before.requires, c.loop-test.tru
 add-sum : tie.Need-overflow-add-sum invariant-loop decreases-loop
 add-sum c =
     let t = turn c in
-    record { fits = omega (arith, t.before.loop.inv.2, c.arc-length.ensures.1, t.loop-test.taken, t.before.before.pre) }
+    record { fits = omega (arith, t.before.loop.inv.2, c.arc_length.ensures.1, t.loop-test.taken, t.before.before.pre) }
 
 loop-again : tie.Need-loop-preserved invariant-loop decreases-loop
 loop-again c =
     let o = (turn c).before.loop in (
       omega (arith, (turn c).loop-test.true),
       omega (arith, o.inv.1, one c, lines_next o.d (line_of (tails c) (capacities c))),
-      omega (arith, o.inv.2, c.arc-length.ensures.1),
+      omega (arith, o.inv.2, c.arc_length.ensures.1),
     )
 
 returns : tie.Need-returns invariant-loop decreases-loop
@@ -69,7 +69,7 @@ returns c =
     let o = c.before.loop in
     let s = c.before.before in
     let all : o.d ≡ s.args.darts = le_antisymm o.invariant.0 c.loop-test.false in
-    (o.invariant.1 ∙ ap (λ k. length (arcLines s.args.tails.now s.args.capacities.now k)) all, omega (arith, o.invariant.2, all, s.requires))
+    (o.invariant.1 ∙ ap (λ k. length (arc_lines s.args.tails.now s.args.capacities.now k)) all, omega (arith, o.invariant.2, all, s.requires))
 
 pub arcs-length-spec : {M : Type 1} → statement M
 arcs-length-spec =

@@ -5,38 +5,38 @@ use Prim.Native.Nat.{◌<◌}
 use native.Mathlib.Omega.{arith}
 use lib.IntN.{ℤ, pos, negsuc, nat_abs}
 use lib.Signed.{lt_z}
-use borrow.Author.Tests.{ltb-true}
-use Rattle.integers.proofs.Omega.{parts, from-at-most}
-use Rattle.integers.proofs.Laws.{ge-of-test}
-use Rattle.signed.proofs.Laws.{number-of-bits, bits_below, not-below}
+use borrow.Author.Tests.{ltb_true}
+use Rattle.integers.proofs.Omega.{parts, from_at_most}
+use Rattle.integers.proofs.Laws.{ge_of_test}
+use Rattle.signed.proofs.Laws.{number_of_bits, bits_below, not_below}
 use Rattle.dimacs.specs.Text.{natural}
 use Rattle.dimacs.proofs.capacity_number.Statement.{statement}
 use Rattle.dimacs.proofs.capacity_number.Tie as tie
 
 below_none : (x : ℤ) → lt_z x (pos 0) ≡ true → 0 ≡ natural x
 unfolding natural
-below_none (pos n) h = let b : n < 0 = ltb-true n 0 h in absurd (omega arith)
+below_none (pos n) h = let b : n < 0 = ltb_true n 0 h in absurd (omega arith)
 below_none (negsuc k) h = omega arith
 
 own-size : (x : ℤ) → lt_z x (pos 0) ≡ false → nat_abs x ≡ natural x
 unfolding natural
 own-size (pos n) h = refl
-own-size (negsuc k) h = absurd (omega (arith, from-at-most (ge-of-test (negsuc k) (pos 0) h) (search parts)))
+own-size (negsuc k) h = absurd (omega (arith, from_at_most (ge_of_test (negsuc k) (pos 0) h) (search parts)))
 
 cast-result : tie.Need-overflow-cast-result
 cast-result c =
     let x = c.before.args.c in
     let f = c.before.ranges.c in
-    let b : lt_z x (pos 0) ≡ false = rw (number-of-bits x f) at c.if1.false in
-    rw (number-of-bits x f) ((not-below x b).0, record { fits = omega (arith, (not-below x b).1, bits_below x f) })
+    let b : lt_z x (pos 0) ≡ false = rw (number_of_bits x f) at c.if1.false in
+    rw (number_of_bits x f) ((not_below x b).0, record { fits = omega (arith, (not_below x b).1, bits_below x f) })
 
 returns : tie.Need-returns
-returns c = below_none c.before.args.c (rw (number-of-bits c.before.args.c c.before.ranges.c) at c.if1.true)
+returns c = below_none c.before.args.c (rw (number_of_bits c.before.args.c c.before.ranges.c) at c.if1.true)
 
 returns-2 : tie.Need-returns-2
 returns-2 c =
     let x = c.before.args.c in
-    let e = number-of-bits x c.before.ranges.c in
+    let e = number_of_bits x c.before.ranges.c in
     ap nat_abs e ∙ own-size x (rw e at c.if1.false)
 
 pub capacity-number-spec : {M : Type 1} → statement M

@@ -4,12 +4,12 @@ use Prim.Native.Nat.{ℕ, ◌+◌, ◌≤◌}
 use native.Mathlib.Omega.{arith}
 use lib.ListN.{length}
 use borrow.Author.Rules.{rules}
-use Rattle.signed.proofs.Laws.{number-of-bits}
+use Rattle.signed.proofs.Laws.{number_of_bits}
 use Rattle.texts.specs.inner.Placed.{Placed}
-use Rattle.texts.proofs.Joined.{placed-as, placed-room, four-placed}
+use Rattle.texts.proofs.Joined.{placed_as, placed_room, four_placed}
 use Rattle.dimacs.specs.Text.{natural}
-use Rattle.dimacs.proofs.Length.{long, arc-length}
-use Rattle.dimacs.proofs.Joined.{ended, ended-length, arc-joined}
+use Rattle.dimacs.proofs.Length.{long, arc_length}
+use Rattle.dimacs.proofs.Joined.{ended, ended_length, arc_joined}
 use Rattle.dimacs.proofs.put_arc.Statement.{statement}
 use Rattle.dimacs.proofs.put_arc.Tie as tie
 
@@ -20,14 +20,14 @@ abbrev headRoom : tie.Start → ℕ
 headRoom s = long (s.args.head + 1) + 1 + lastRoom s
 
 room : (s : tie.Start) → s.args.at + (2 + (long (s.args.tail + 1) + 1 + headRoom s)) ≤ length s.args.text.now
-room s = omega (arith, s.requires, arc-length s.args.tail s.args.head s.args.capacity)
+room s = omega (arith, s.requires, arc_length s.args.tail s.args.head s.args.capacity)
 
 -- ── the word ──
 abbrev start : tie.After-put-bytes → tie.Start
 start c = c.before.before.before.before
 
 word_room : (c : tie.After-put-bytes) → c.put-bytes.result + (long ((start c).args.tail + 1) + 1 + headRoom (start c)) ≤ length c.put-bytes.new.0
-word_room c = placed-room 2 _ _ _ _ _ _ c.put-bytes.ensures (omega arith) (room (start c))
+word_room c = placed_room 2 _ _ _ _ _ _ c.put-bytes.ensures (omega arith) (room (start c))
 
 -- ── the tail ──
 abbrev word : tie.After-put-field → tie.After-put-bytes
@@ -38,12 +38,12 @@ begun c = start (word c)
 
 tail-placed : (c : tie.After-put-field)
     → Placed (word c).put-bytes.result (ended ((begun c).args.tail + 1) 32) (word c).put-bytes.new.0 c.put-field.new.0 c.put-field.result
-tail-placed c = placed-as (λ k. ended k 32) _ _ _ _ c.before.before.node-number.ensures c.put-field.ensures
+tail-placed c = placed_as (λ k. ended k 32) _ _ _ _ c.before.before.node-number.ensures c.put-field.ensures
 
 tail-room : (c : tie.After-put-field) → c.put-field.result + headRoom (begun c) ≤ length c.put-field.new.0
 tail-room c =
-    placed-room (long ((begun c).args.tail + 1) + 1) _ _ _ _ _ _ (tail-placed c)
-    (omega (arith, ended-length ((begun c).args.tail + 1) 32)) (word_room (word c))
+    placed_room (long ((begun c).args.tail + 1) + 1) _ _ _ _ _ _ (tail-placed c)
+    (omega (arith, ended_length ((begun c).args.tail + 1) 32)) (word_room (word c))
 
 -- ── the head ──
 abbrev tailed : tie.After-put-field2 → tie.After-put-field
@@ -52,21 +52,21 @@ tailed c = c.before.before.before.before.before.before
 abbrev base : tie.After-put-field2 → tie.Start
 base c = begun (tailed c)
 
-head-placed : (c : tie.After-put-field2)
+head_placed : (c : tie.After-put-field2)
     → Placed (tailed c).put-field.result (ended ((base c).args.head + 1) 32) (tailed c).put-field.new.0 c.put-field2.new.0 c.put-field2.result
-head-placed c = placed-as (λ k. ended k 32) _ _ _ _ c.before.before.node-number2.ensures c.put-field2.ensures
+head_placed c = placed_as (λ k. ended k 32) _ _ _ _ c.before.before.node-number2.ensures c.put-field2.ensures
 
 head-room : (c : tie.After-put-field2) → c.put-field2.result + lastRoom (base c) ≤ length c.put-field2.new.0
 head-room c =
-    placed-room (long ((base c).args.head + 1) + 1) _ _ _ _ _ _ (head-placed c)
-    (omega (arith, ended-length ((base c).args.head + 1) 32)) (tail-room (tailed c))
+    placed_room (long ((base c).args.head + 1) + 1) _ _ _ _ _ _ (head_placed c)
+    (omega (arith, ended_length ((base c).args.head + 1) 32)) (tail-room (tailed c))
 
 -- ── the capacity ──
 abbrev headed : tie.After-capacity-number → tie.After-put-field2
 headed c = c.before.before.before.before
 
 capacity-is : (c : tie.After-capacity-number) → c.capacity-number.result ≡ natural (base (headed c)).args.capacity
-capacity-is c = c.capacity-number.ensures ∙ ap natural (number-of-bits _ (base (headed c)).ranges.capacity)
+capacity-is c = c.capacity-number.ensures ∙ ap natural (number_of_bits _ (base (headed c)).ranges.capacity)
 
 -- ── the needs, in the order of the code ──
 put-bytes-requires : tie.Need-put-bytes-requires
@@ -89,10 +89,10 @@ returns c =
     let k = last.before.before in
     let h = headed k in
     let s = base h in
-    placed-as (λ r. r) _ _ _ _ (arc-joined s.args.tail s.args.head s.args.capacity)
-    (four-placed _ _ _ _ _ _ _ _ _ _ _ _ _ _ (word (tailed h)).put-bytes.ensures (tail-placed (tailed h)) (head-placed h)
-    (placed-as (λ k. ended k 10) _ _ _ _ (capacity-is k) last.put-field3.ensures)
-    (omega (arith, room s, ended-length (s.args.tail + 1) 32, ended-length (s.args.head + 1) 32, ended-length (natural s.args.capacity) 10)))
+    placed_as (λ r. r) _ _ _ _ (arc_joined s.args.tail s.args.head s.args.capacity)
+    (four_placed _ _ _ _ _ _ _ _ _ _ _ _ _ _ (word (tailed h)).put-bytes.ensures (tail-placed (tailed h)) (head_placed h)
+    (placed_as (λ k. ended k 10) _ _ _ _ (capacity-is k) last.put-field3.ensures)
+    (omega (arith, room s, ended_length (s.args.tail + 1) 32, ended_length (s.args.head + 1) 32, ended_length (natural s.args.capacity) 10)))
 
 pub put-arc-spec : {M : Type 1} → statement M
 put-arc-spec =

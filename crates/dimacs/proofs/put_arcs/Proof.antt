@@ -8,18 +8,18 @@ use lib.ListN.{length}
 use borrow.Author.Rules.{rules}
 use mir.Syntax.{w32}
 use mir.Val.{to_z, of_z}
-use Rattle.signed.proofs.Laws.{number-of-bits}
+use Rattle.signed.proofs.Laws.{number_of_bits}
 use Rattle.arrays.specs.At.{at, atℤ}
 use Rattle.texts.specs.Lines.{lines}
 use Rattle.texts.specs.inner.Placed.{Placed}
-use Rattle.texts.proofs.Joined.{placed-none, placed-as, placed-length, lines_more, lines_next, lines-within}
-use Rattle.dimacs.specs.Text.{arcLine}
-use Rattle.dimacs.specs.inner.ArcLines.{line_of, arcLines}
+use Rattle.texts.proofs.Joined.{placed_none, placed_as, placed_length, lines_more, lines_next, lines_within}
+use Rattle.dimacs.specs.Text.{arc_line}
+use Rattle.dimacs.specs.inner.ArcLines.{line_of, arc_lines}
 use Rattle.dimacs.proofs.put_arcs.Statement.{statement}
 use Rattle.dimacs.proofs.put_arcs.Tie as tie
 
 abbrev invariant-loop : tie.invariant-loop
-invariant-loop text₀ first tails capacities darts end₀ d₀ text end d = (d ≤ darts) × Placed first (arcLines tails capacities d) text₀ text end
+invariant-loop text₀ first tails capacities darts end₀ d₀ text end d = (d ≤ darts) × Placed first (arc_lines tails capacities d) text₀ text end
 
 abbrev decreases-loop : tie.decreases-loop
 decreases-loop text₀ first tails capacities darts end₀ d₀ text end d = darts - d
@@ -33,7 +33,7 @@ line_at c = line_of (started c).args.tails.now (started c).args.capacities.now
 
 -- ── the lines so far keep within the room, and so does the next ──
 so_far : (c : tie.At-loop invariant-loop decreases-loop) → (started c).args.first + length (lines c.loop.d (line_at c)) ≤ length (started c).args.text.now
-so_far c = let s = started c in omega (arith, s.pre.1, lines-within s.args.darts c.loop.d (line_at c) c.loop.invariant.0)
+so_far c = let s = started c in omega (arith, s.pre.1, lines_within s.args.darts c.loop.d (line_at c) c.loop.invariant.0)
 
 next : (c : tie.In-loop invariant-loop decreases-loop)
     → (started c.before).args.first + length (lines c.before.loop.d (line_at c.before)) + length (line_at c.before c.before.loop.d)
@@ -44,12 +44,12 @@ next c =
     omega (
       arith,
       s.pre.1,
-      lines-within s.args.darts (o.loop.d + 1) (line_at o) (omega (arith, c.loop-test.true)),
+      lines_within s.args.darts (o.loop.d + 1) (line_at o) (omega (arith, c.loop-test.true)),
       lines_next o.loop.d (line_at o),
     )
 
 length-now : (c : tie.At-loop invariant-loop decreases-loop) → length c.loop.text ≡ length (started c).args.text.now
-length-now c = placed-length _ _ _ _ _ c.loop.invariant.1 (omega (arith, c.loop.invariant.1.1, so_far c))
+length-now c = placed_length _ _ _ _ _ c.loop.invariant.1 (omega (arith, c.loop.invariant.1.1, so_far c))
 
 -- ── what is handed on is what the arrays have ──
 abbrev turn : tie.After-put-arc-arg4 invariant-loop decreases-loop → tie.In-loop invariant-loop decreases-loop
@@ -59,28 +59,28 @@ abbrev dart : tie.After-put-arc-arg4 invariant-loop decreases-loop → ℕ
 dart c = (turn c).before.loop.d
 
 handed : (c : tie.After-put-arc-arg4 invariant-loop decreases-loop)
-    → arcLine (at (started (turn c).before).args.tails.now (dart c))
+    → arc_line (at (started (turn c).before).args.tails.now (dart c))
     (at (started (turn c).before).args.tails.now c.before.before.before.before.reverse.result)
     (to_z w32 (of_z w32 (atℤ (started (turn c).before).args.capacities.now (dart c))))
     ≡ line_at (turn c).before (dart c)
 handed c =
     let s = started (turn c).before in
     let b = c.before.before.before.before.reverse in
-    ap (arcLine (at s.args.tails.now (dart c)) (at s.args.tails.now b.result))
-    (number-of-bits (atℤ s.args.capacities.now (dart c)) (record { sfits = c.put-arc-arg4.given }))
-    ∙ ap (λ k. arcLine (at s.args.tails.now (dart c)) (at s.args.tails.now k) (atℤ s.args.capacities.now (dart c))) b.ensures.0
+    ap (arc_line (at s.args.tails.now (dart c)) (at s.args.tails.now b.result))
+    (number_of_bits (atℤ s.args.capacities.now (dart c)) (record { sfits = c.put-arc-arg4.given }))
+    ∙ ap (λ k. arc_line (at s.args.tails.now (dart c)) (at s.args.tails.now k) (atℤ s.args.capacities.now (dart c))) b.ensures.0
 
 abbrev loop-of : tie.After-put-arc invariant-loop decreases-loop → tie.At-loop invariant-loop decreases-loop
 loop-of c = (turn c.before).before
 
 written : (c : tie.After-put-arc invariant-loop decreases-loop)
     → Placed (loop-of c).loop.end (line_at (loop-of c) (loop-of c).loop.d) (loop-of c).loop.text c.put-arc.new.0 c.put-arc.result
-written c = placed-as (λ r. r) _ _ _ _ (handed c.before) c.put-arc.ensures
+written c = placed_as (λ r. r) _ _ _ _ (handed c.before) c.put-arc.ensures
 
 -- ── the needs, in the order of the code ──
 loop-holds : tie.Need-loop-init invariant-loop decreases-loop
 unfolding lines
-loop-holds c = (omega arith, placed-none _ _)
+loop-holds c = (omega arith, placed_none _ _)
 
 reverse-requires : tie.Need-reverse-requires invariant-loop decreases-loop
 reverse-requires c κs = omega (arith, (started c.before).pre.0, c.loop-test.true)
@@ -103,7 +103,7 @@ same_length c = length-now c.before
 returns : tie.Need-returns invariant-loop decreases-loop
 returns c =
     let o = c.before in
-    placed-as (λ k. lines k (line_at o)) _ _ _ _ (le_antisymm o.loop.invariant.0 c.loop-test.false) o.loop.invariant.1
+    placed_as (λ k. lines k (line_at o)) _ _ _ _ (le_antisymm o.loop.invariant.0 c.loop-test.false) o.loop.invariant.1
 
 pub put-arcs-spec : {M : Type 1} → statement M
 put-arcs-spec =

@@ -1,6 +1,6 @@
 -- A number, and the bytes behind it.
 use borrow.Author.Rules.{rules}
-use Rattle.texts.proofs.Joined.{placed-then}
+use Rattle.texts.proofs.Joined.{placed_then}
 use Rattle.dimacs.proofs.put_field.Statement.{statement}
 use Rattle.dimacs.proofs.put_field.Tie as tie
 
@@ -8,7 +8,7 @@ returns : tie.Need-returns
 returns c =
     let p = c.before.before in
     let d = p.before.before.before.before in
-    placed-then _ _ _ _ _ _ _ _ d.put-decimal.ensures p.put-bytes.ensures d.before.before.before.before.requires
+    placed_then _ _ _ _ _ _ _ _ d.put-decimal.ensures p.put-bytes.ensures d.before.before.before.before.requires
 
 pub put-field-spec : {M : Type 1} → statement M
 put-field-spec = tie.close (tie.spec (λ c κs. search rules) (λ c κs. search rules) (λ c. search rules) returns)

@@ -6,7 +6,7 @@ use native.Mathlib.Omega.{arith}
 use lib.ListN.{length, length-append}
 use borrow.Author.Rules.{rules}
 use Rattle.texts.specs.Decimal.{decimal}
-use Rattle.texts.proofs.Joined.{placed-as, placed-room, placed-then}
+use Rattle.texts.proofs.Joined.{placed_as, placed_room, placed_then}
 use Rattle.dimacs.proofs.Length.{long}
 use Rattle.dimacs.proofs.put_node.Statement.{statement}
 use Rattle.dimacs.proofs.put_node.Tie as tie
@@ -19,7 +19,7 @@ start c = c.before.before.before.before.before
 
 word_room : (c : tie.After-put-bytes)
     → c.put-bytes.result + (long ((start c).args.v + 1) + length (start c).args.role.now) ≤ length c.put-bytes.new.0
-word_room c = placed-room 2 _ _ _ _ _ _ c.put-bytes.ensures (omega arith) (room (start c))
+word_room c = placed_room 2 _ _ _ _ _ _ c.put-bytes.ensures (omega arith) (room (start c))
 
 -- ── the needs, in the order of the code ──
 put-bytes-requires : tie.Need-put-bytes-requires
@@ -33,8 +33,8 @@ returns c =
     let last = c.before.before in
     let w = last.before.before.before.before.before in
     let s = start w in
-    placed-then _ _ _ _ _ _ _ _ w.put-bytes.ensures
-    (placed-as (λ k. decimal k ++ s.args.role.now) _ _ _ _ last.before.node-number.ensures last.put-field.ensures)
+    placed_then _ _ _ _ _ _ _ _ w.put-bytes.ensures
+    (placed_as (λ k. decimal k ++ s.args.role.now) _ _ _ _ last.before.node-number.ensures last.put-field.ensures)
     (omega (arith, room s, length-append (decimal (s.args.v + 1)) s.args.role.now))
 
 pub put-node-spec : {M : Type 1} → statement M

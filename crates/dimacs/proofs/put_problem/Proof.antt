@@ -5,14 +5,14 @@ use native.Mathlib.Omega.{arith}
 use lib.ListN.{length}
 use borrow.Author.Rules.{rules}
 use Rattle.texts.specs.inner.Placed.{Placed}
-use Rattle.texts.proofs.Joined.{placed-as, placed-room, three-placed}
-use Rattle.dimacs.proofs.Length.{long, problem-length}
-use Rattle.dimacs.proofs.Joined.{ended, ended-length, problem-joined}
+use Rattle.texts.proofs.Joined.{placed_as, placed_room, three_placed}
+use Rattle.dimacs.proofs.Length.{long, problem_length}
+use Rattle.dimacs.proofs.Joined.{ended, ended_length, problem_joined}
 use Rattle.dimacs.proofs.put_problem.Statement.{statement}
 use Rattle.dimacs.proofs.put_problem.Tie as tie
 
 room : (s : tie.Start) → 8 + (long s.args.nodes + long s.args.arcs) ≤ length s.args.text.now
-room s = omega (arith, s.requires.2, problem-length s.args.nodes s.args.arcs)
+room s = omega (arith, s.requires.2, problem_length s.args.nodes s.args.arcs)
 
 -- ── the word ──
 abbrev start : tie.After-put-bytes → tie.Start
@@ -20,7 +20,7 @@ start c = c.before.before.before.before
 
 word_room : (c : tie.After-put-bytes)
     → c.put-bytes.result + (long (start c).args.nodes + 1 + (long (start c).args.arcs + 1)) ≤ length c.put-bytes.new.0
-word_room c = placed-room 6 _ 0 _ _ _ _ c.put-bytes.ensures (omega arith) (omega (arith, room (start c)))
+word_room c = placed_room 6 _ 0 _ _ _ _ c.put-bytes.ensures (omega arith) (omega (arith, room (start c)))
 
 -- ── the number of nodes ──
 abbrev word : tie.After-put-field → tie.After-put-bytes
@@ -28,12 +28,12 @@ word c = c.before.before.before.before.before.before
 
 nodes-placed : (c : tie.After-put-field)
     → Placed (word c).put-bytes.result (ended (start (word c)).args.nodes 32) (word c).put-bytes.new.0 c.put-field.new.0 c.put-field.result
-nodes-placed c = placed-as (λ k. ended k 32) _ _ _ _ c.before.before.count.ensures c.put-field.ensures
+nodes-placed c = placed_as (λ k. ended k 32) _ _ _ _ c.before.before.count.ensures c.put-field.ensures
 
 nodes-room : (c : tie.After-put-field) → c.put-field.result + (long (start (word c)).args.arcs + 1) ≤ length c.put-field.new.0
 nodes-room c =
-    placed-room (long (start (word c)).args.nodes + 1) _ _ _ _ _ _ (nodes-placed c)
-    (omega (arith, ended-length (start (word c)).args.nodes 32)) (word_room (word c))
+    placed_room (long (start (word c)).args.nodes + 1) _ _ _ _ _ _ (nodes-placed c)
+    (omega (arith, ended_length (start (word c)).args.nodes 32)) (word_room (word c))
 
 -- ── the needs, in the order of the code ──
 put-bytes-requires : tie.Need-put-bytes-requires
@@ -52,10 +52,10 @@ returns c =
     let last = c.before.before in
     let f = last.before.before.before.before.before.before in
     let s = start (word f) in
-    placed-as (λ r. r) _ _ _ _ (problem-joined s.args.nodes s.args.arcs)
-    (three-placed _ _ _ _ _ _ _ _ _ _ _ (word f).put-bytes.ensures (nodes-placed f)
-    (placed-as (λ k. ended k 10) _ _ _ _ last.before.before.count2.ensures last.put-field2.ensures)
-    (omega (arith, room s, ended-length s.args.nodes 32, ended-length s.args.arcs 10)))
+    placed_as (λ r. r) _ _ _ _ (problem_joined s.args.nodes s.args.arcs)
+    (three_placed _ _ _ _ _ _ _ _ _ _ _ (word f).put-bytes.ensures (nodes-placed f)
+    (placed_as (λ k. ended k 10) _ _ _ _ last.before.before.count2.ensures last.put-field2.ensures)
+    (omega (arith, room s, ended_length s.args.nodes 32, ended_length s.args.arcs 10)))
 
 pub put-problem-spec : {M : Type 1} → statement M
 put-problem-spec =

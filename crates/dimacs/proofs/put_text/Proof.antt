@@ -5,27 +5,27 @@ use native.Mathlib.Omega.{arith}
 use lib.ListN.{length}
 use borrow.Author.Rules.{rules}
 use Rattle.arrays.specs.At.{atℤ}
-use Rattle.arrays.specs.Maps.{mapOf}
+use Rattle.arrays.specs.Maps.{map_of}
 use Rattle.texts.specs.inner.Placed.{Placed}
-use Rattle.texts.proofs.Joined.{placed-room, four-placed}
-use Rattle.dimacs.specs.Text.{problemLine, nodeLine, dimacsText}
-use Rattle.dimacs.specs.inner.ArcLines.{arcLines}
-use Rattle.dimacs.proofs.Length.{text-lines}
+use Rattle.texts.proofs.Joined.{placed_room, four_placed}
+use Rattle.dimacs.specs.Text.{problem_line, node_line, dimacs_text}
+use Rattle.dimacs.specs.inner.ArcLines.{arc_lines}
+use Rattle.dimacs.proofs.Length.{text_lines}
 use Rattle.dimacs.proofs.put_text.Statement.{statement}
 use Rattle.dimacs.proofs.put_text.Tie as tie
 
 -- ── how long each is ──
 abbrev problem : tie.Start → List ℕ
-problem s = problemLine s.args.nodes (2 * s.args.edges)
+problem s = problem_line s.args.nodes (2 * s.args.edges)
 
 abbrev source : tie.Start → List ℕ
-source s = nodeLine s.args.source 115
+source s = node_line s.args.source 115
 
 abbrev sink : tie.Start → List ℕ
-sink s = nodeLine s.args.sink 116
+sink s = node_line s.args.sink 116
 
 abbrev arcs : tie.Start → List ℕ
-arcs s = arcLines s.args.tails.now s.args.capacities.now (2 * s.args.edges)
+arcs s = arc_lines s.args.tails.now s.args.capacities.now (2 * s.args.edges)
 
 room : (s : tie.Start) → 0 + (length (problem s) + (length (source s) + (length (sink s) + length (arcs s)))) ≤ length s.args.text.now
 room s =
@@ -33,7 +33,7 @@ room s =
     omega (
       arith,
       s.requires.2,
-      text-lines (mapOf a.nodes a.edges a.tails.now a.rotations.now) (atℤ a.capacities.now) a.source a.sink,
+      text_lines (map_of a.nodes a.edges a.tails.now a.rotations.now) (atℤ a.capacities.now) a.source a.sink,
     )
 
 -- ── the problem line ──
@@ -42,7 +42,7 @@ start c = c.before.before.before
 
 problem-room : (c : tie.After-put-problem)
     → c.put-problem.result + (length (source (start c)) + (length (sink (start c)) + length (arcs (start c)))) ≤ length c.put-problem.new.0
-problem-room c = placed-room (length (problem (start c))) _ 0 _ _ _ _ c.put-problem.ensures (omega arith) (room (start c))
+problem-room c = placed_room (length (problem (start c))) _ 0 _ _ _ _ c.put-problem.ensures (omega arith) (room (start c))
 
 -- ── the source ──
 abbrev posed : tie.After-put-node → tie.After-put-problem
@@ -50,12 +50,12 @@ posed c = c.before.before.before.before.before
 
 source-placed : (c : tie.After-put-node)
     → Placed (posed c).put-problem.result (source (start (posed c))) (posed c).put-problem.new.0 c.put-node.new.0 c.put-node.result
-unfolding nodeLine
+unfolding node_line
 source-placed c = c.put-node.ensures
 
 source-room : (c : tie.After-put-node)
     → c.put-node.result + (length (sink (start (posed c))) + length (arcs (start (posed c)))) ≤ length c.put-node.new.0
-source-room c = placed-room (length (source (start (posed c)))) _ _ _ _ _ _ (source-placed c) (omega arith) (problem-room (posed c))
+source-room c = placed_room (length (source (start (posed c)))) _ _ _ _ _ _ (source-placed c) (omega arith) (problem-room (posed c))
 
 -- ── the sink ──
 abbrev sourced : tie.After-put-node2 → tie.After-put-node
@@ -66,11 +66,11 @@ begun c = start (posed (sourced c))
 
 sink-placed : (c : tie.After-put-node2)
     → Placed (sourced c).put-node.result (sink (begun c)) (sourced c).put-node.new.0 c.put-node2.new.0 c.put-node2.result
-unfolding nodeLine
+unfolding node_line
 sink-placed c = c.put-node2.ensures
 
 sink-room : (c : tie.After-put-node2) → c.put-node2.result + length (arcs (begun c)) ≤ length c.put-node2.new.0
-sink-room c = placed-room (length (sink (begun c))) _ _ _ _ _ _ (sink-placed c) (omega arith) (source-room (sourced c))
+sink-room c = placed_room (length (sink (begun c))) _ _ _ _ _ _ (sink-placed c) (omega arith) (source-room (sourced c))
 
 -- ── the needs, in the order of the code ──
 put-problem-requires : tie.Need-put-problem-requires
@@ -79,11 +79,11 @@ put-problem-requires c κs =
     (s.requires.0, omega (arith, s.requires.1), omega (arith, room s))
 
 put-node-requires : tie.Need-put-node-requires
-unfolding nodeLine
+unfolding node_line
 put-node-requires c κs = omega (arith, problem-room c.before.before.before.before)
 
 put-node-requires-2 : tie.Need-put-node-requires-2
-unfolding nodeLine
+unfolding node_line
 put-node-requires-2 c κs = omega (arith, source-room c.before.before.before.before)
 
 put-arcs-requires : tie.Need-put-arcs-requires
@@ -92,12 +92,12 @@ put-arcs-requires c κs =
     (omega (arith, (begun n).requires.1), sink-room n)
 
 returns : tie.Need-returns
-unfolding dimacsText
+unfolding dimacs_text
 returns c =
     let last = c.before.before in
     let n = last.before.before.before.before in
     let s = begun n in
-    four-placed _ _ _ _ _ _ _ _ _ _ _ _ _ _ (posed (sourced n)).put-problem.ensures (source-placed (sourced n)) (sink-placed n)
+    four_placed _ _ _ _ _ _ _ _ _ _ _ _ _ _ (posed (sourced n)).put-problem.ensures (source-placed (sourced n)) (sink-placed n)
     last.put-arcs.ensures (omega (arith, room s))
 
 pub put-text-spec : {M : Type 1} → statement M

@@ -5,9 +5,9 @@ use lib.IntN.{pos}
 use lib.Signed.{◌<ℤ◌}
 use borrow.Author.Count.{below_more}
 use borrow.Author.Rules.{rules}
-use Rattle.signed.proofs.Laws.{number-of-bits}
+use Rattle.signed.proofs.Laws.{number_of_bits}
 use Rattle.refusals.specs.Order.{Decides}
-use Rattle.refusals.proofs.Order.{said-yes, said-no}
+use Rattle.refusals.proofs.Order.{said_yes, said_no}
 use Rattle.arrays.specs.At.{atℤ}
 use Rattle.dimacs.proofs.some_negative.Statement.{statement}
 use Rattle.dimacs.proofs.some_negative.Tie as tie
@@ -25,19 +25,19 @@ loop-holds c = (omega arith, λ i l. absurd (omega arith))
 judged-here : (c : tie.After-negative invariant-loop decreases-loop)
     → Decides (atℤ c.before.before.before.before.args.capacities.now c.before.before.before.loop.d <ℤ pos 0) c.negative.result
 judged-here c =
-    rw (number-of-bits (atℤ c.before.before.before.before.args.capacities.now c.before.before.before.loop.d)
+    rw (number_of_bits (atℤ c.before.before.before.before.args.capacities.now c.before.before.before.loop.d)
     (record { sfits = c.before.negative-arg.given }))
     at c.negative.ensures
 
 returns : tie.Need-returns invariant-loop decreases-loop
 returns c =
     let o = c.before.before.before.before.loop in
-    (o.d, omega (arith, c.before.before.before.loop-test.true), said-yes (judged-here c.before) c.if1.true)
+    (o.d, omega (arith, c.before.before.before.loop-test.true), said_yes (judged-here c.before) c.if1.true)
 
 loop-again : tie.Need-loop-preserved invariant-loop decreases-loop
 loop-again c =
     let o = c.before.before.before.before.loop in
-    (omega arith, below_more _ o.d o.invariant.1 (said-no (judged-here c.before) c.if1.false))
+    (omega arith, below_more _ o.d o.invariant.1 (said_no (judged-here c.before) c.if1.false))
 
 returns-2 : tie.Need-returns-2 invariant-loop decreases-loop
 returns-2 c = λ h. c.before.loop.invariant.1 h.0 (omega (arith, h.1, c.loop-test.false)) h.2

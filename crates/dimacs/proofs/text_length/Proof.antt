@@ -4,7 +4,7 @@ use Prim.Native.Nat.{◌+◌, ◌*◌, ◌≤◌}
 use native.Mathlib.Omega.{arith}
 use borrow.Author.Rules.{rules}
 use Rattle.arrays.specs.At.{atℤ}
-use Rattle.arrays.specs.Maps.{mapOf}
+use Rattle.arrays.specs.Maps.{map_of}
 use Rattle.dimacs.proofs.Length as measure
 use Rattle.dimacs.proofs.Length.{long, counted}
 use Rattle.dimacs.proofs.text_length.Statement.{statement}
@@ -73,7 +73,7 @@ returns c =
       (source-digits k.before.before).0,
       (sink-digits k).0,
       c.arcs-length.ensures.0,
-      measure.text-length (mapOf a.nodes a.edges a.tails.now a.rotations.now) (atℤ a.capacities.now) a.source a.sink,
+      measure.text_length (map_of a.nodes a.edges a.tails.now a.rotations.now) (atℤ a.capacities.now) a.source a.sink,
     )
 
 pub text-length-spec : {M : Type 1} → statement M

@@ -8,40 +8,40 @@ use borrow.Author.Rules.{rules}
 use Rattle.refusals.specs.Order.{NoneOf, Judged}
 use Rattle.refusals.specs.declared.Verdict.{Verdict}
 use Rattle.refusals.specs.declared.Verdict.TheVariants.{Passed, Refused}
-use Rattle.refusals.proofs.Order.{said-yes, said-no}
+use Rattle.refusals.proofs.Order.{said_yes, said_no}
 use Rattle.maps.specs.Drawing.{Drawing}
 use Rattle.arrays.specs.At.{atℤ}
-use Rattle.arrays.specs.Maps.{drawingOf}
-use Rattle.balance.proofs.Parts.{part_length, part-written}
-use Rattle.questions.specs.Question.{endChecks}
+use Rattle.arrays.specs.Maps.{drawing_of}
+use Rattle.balance.proofs.Parts.{part_length, part_written}
+use Rattle.questions.specs.Question.{end_checks}
 use Rattle.questions.proofs.Solving.{ends_as}
 use Rattle.texts.specs.inner.Placed.{Placed}
-use Rattle.texts.proofs.Joined.{placed-front}
+use Rattle.texts.proofs.Joined.{placed_front}
 use Rattle.dimacs.specs.Write.{BelowZero, text_of}
-use Rattle.dimacs.proofs.Writing.{text-ends, text-negative, text-short, text-none}
+use Rattle.dimacs.proofs.Writing.{text_ends, text_negative, text_short, text_none}
 use Rattle.dimacs.proofs.write.Statement.{statement}
 use Rattle.dimacs.proofs.write.Tie as tie
 
 abbrev drawing : tie.Start → Drawing
-drawing s = drawingOf s.args.nodes s.args.edges s.args.outer s.args.tails.now s.args.rotations.now s.args.capacities.now
+drawing s = drawing_of s.args.nodes s.args.edges s.args.outer s.args.tails.now s.args.rotations.now s.args.capacities.now
 
 -- ── 13 and 14 ──
 abbrev start : tie.After-check-ends → tie.Start
 start c = c.before.before.before.before
 
 ends-judged : (c : tie.After-check-ends) (v : Verdict) → c.check-ends.result ≡ v
-    → Judged (endChecks (start c).args.nodes (start c).args.source (start c).args.sink) v
+    → Judged (end_checks (start c).args.nodes (start c).args.source (start c).args.sink) v
 ends-judged c v e = ends_as c.before.before.wide.ensures c.before.wide2.ensures (start c).args.nodes v (rw e at c.check-ends.ensures)
 
 abbrev base : tie.After-enum-told → tie.Start
 base c = start c.before.before
 
-two : (c : tie.After-enum-told) → NoneOf (endChecks (base c).args.nodes (base c).args.source (base c).args.sink)
+two : (c : tie.After-enum-told) → NoneOf (end_checks (base c).args.nodes (base c).args.source (base c).args.sink)
 two c = ends-judged c.before.before Passed c.enum_told.given.1
 
 -- ── 22 ──
 none : (c : tie.Else1) → BelowZero (2 * (base c.before.before).args.edges) (atℤ (base c.before.before).args.capacities.now) → ⊥
-none c = said-no c.before.some-negative.ensures c.if1.false
+none c = said_no c.before.some-negative.ensures c.if1.false
 
 -- ── 16 ──
 abbrev begun : tie.After-text-length → tie.Start
@@ -49,20 +49,20 @@ begun c = base c.before.before.before
 
 enough : (c : tie.Else2) → length (text_of (drawing (begun c.before)) (begun c.before).args.source (begun c.before).args.sink)
     ≤ length (begun c.before).args.out.now
-enough c = omega (arith, c.before.text-length.ensures, c.if2.false)
+enough c = omega (arith, c.before.text_length.ensures, c.if2.false)
 
 -- the text laid into the part that is as long as it is, which is then given back
 text-back : (n : ℕ) (out text y : List ℕ) (end : ℕ) → n ≡ length text → Placed 0 text (take (n - 0) out) y end → y ++ drop (n - 0) out ≡ text ++ drop end out
 text-back n out text y end e h =
     let same : end ≡ n = omega (arith, h.1, e) in
-    part-written n out text y (placed-front _ _ _ _ h ∙ ap (λ k. text ++ drop k (take (n - 0) out)) same) ∙ ap (λ k. text ++ drop k out) (sym same)
+    part_written n out text y (placed_front _ _ _ _ h ∙ ap (λ k. text ++ drop k (take (n - 0) out)) same) ∙ ap (λ k. text ++ drop k out) (sym same)
 
 -- ── the needs, in the order of the code ──
 returns : tie.Need-returns
 returns c =
     let e = c.before.before.before in
     let s = start e in
-    (text-ends (drawing s) s.args.source s.args.sink s.args.out.now _ _ (ends-judged e (Refused _ _) c.before.ends.given.1), refl)
+    (text_ends (drawing s) s.args.source s.args.sink s.args.out.now _ _ (ends-judged e (Refused _ _) c.before.ends.given.1), refl)
 
 some-negative-requires : tie.Need-some-negative-requires
 some-negative-requires c κs = omega (arith, (base c).requires.1)
@@ -71,7 +71,7 @@ returns-2 : tie.Need-returns-2
 returns-2 c =
     let t = c.before.before in
     let s = base t in (
-      text-negative (drawing s) s.args.source s.args.sink s.args.out.now (two t) (said-yes c.before.some-negative.ensures c.if1.true),
+      text_negative (drawing s) s.args.source s.args.sink s.args.out.now (two t) (said_yes c.before.some-negative.ensures c.if1.true),
       refl,
     )
 
@@ -83,15 +83,15 @@ returns-3 c =
     let n = c.before.before in
     let t = n.before.before in
     let s = base t in (
-      text-short (drawing s) s.args.source s.args.sink s.args.out.now (two t) (none n)
-          (omega (arith, c.before.text-length.ensures, c.if2.true)),
+      text_short (drawing s) s.args.source s.args.sink s.args.out.now (two t) (none n)
+          (omega (arith, c.before.text_length.ensures, c.if2.true)),
       refl,
     )
 
 put-text-requires : tie.Need-put-text-requires
 put-text-requires c κs =
     let e = c.before in
-    let n = e.before.text-length in
+    let n = e.before.text_length in
     let s = begun e.before in
     (s.pre.0, s.pre.1, part_length n.result s.args.out.now e.if2.false ∙ n.ensures)
 
@@ -102,9 +102,9 @@ returns-4 c =
     let n = e.before.before in
     let t = n.before.before in
     let s = base t in (
-      text-none (drawing s) s.args.source s.args.sink s.args.out.now (two t) (none n) (enough e),
+      text_none (drawing s) s.args.source s.args.sink s.args.out.now (two t) (none n) (enough e),
       omega (arith, p.put-text.ensures.1),
-      text-back e.before.text-length.result s.args.out.now _ _ _ e.before.text-length.ensures p.put-text.ensures,
+      text-back e.before.text_length.result s.args.out.now _ _ _ e.before.text_length.ensures p.put-text.ensures,
     )
 
 pub write_spec : {M : Type 1} → statement M

@@ -6,7 +6,7 @@ use lib.IntN.{◌-ℤ◌}
 use mir.Syntax.{w64}
 use mir.ValLaws.{to_z-of_z}
 use borrow.Author.Rules.{rules}
-use Rattle.maps.proofs.Darts.{rev-even}
+use Rattle.maps.proofs.Darts.{rev_even}
 use Rattle.signed.proofs.minus64.Reads as minus64-reads
 use Rattle.arrays.specs.At.{at, atℤ}
 use Rattle.arrays.proofs.wide.Reads as wide-reads
@@ -19,16 +19,16 @@ use Rattle.edge_flows.proofs.drop_over.Tie as tie
 abbrev Place : Type 0
 Place = lts.After-wide2 (wide-reads.Asked, wide-reads.Learnt, minus64-reads.Asked, minus64-reads.Learnt) reads.Pre reads.Post
 
-right-in : (c : Place) → c.wide2.result < 1024
-right-in c =
+right_in : (c : Place) → c.wide2.result < 1024
+right_in c =
     let s = c.before.before.before.before in
-    rw (c.wide2.ensures, sym (rev-even s.args.e)) s.requires.2
+    rw (c.wide2.ensures, sym (rev_even s.args.e)) s.requires.2
 
 mul-minus64-2 : tie.Need-overflow-mul-minus64-2
-mul-minus64-2 c = omega (arith, right-in c.before)
+mul-minus64-2 c = omega (arith, right_in c.before)
 
 element-copy-out-minus64-2 : tie.Need-element-copy-out-minus64-2
-element-copy-out-minus64-2 c = omega (arith, right-in c.before)
+element-copy-out-minus64-2 c = omega (arith, right_in c.before)
 
 minus64-requires : tie.Need-minus64-requires
 minus64-requires c κs =
@@ -39,7 +39,7 @@ minus64-requires c κs =
       to_z-of_z w64 (ρ c.before.before.wide2.result) (record { sfits = c.minus64-arg2.given }),
       c.before.before.before.before.wide.ensures,
       c.before.before.wide2.ensures,
-      sym (rev-even s.args.e),
+      sym (rev_even s.args.e),
     ) s.requires.3
 
 returns : tie.Need-returns
@@ -52,7 +52,7 @@ returns c =
     ∙ ap₂ ◌-ℤ◌
     (to_z-of_z w64 _ (record { sfits = c.before.before.minus64-arg.given }) ∙ ap ρ c.before.before.before.before.before.wide.ensures)
     (to_z-of_z w64 _ (record { sfits = c.before.minus64-arg2.given })
-    ∙ ap ρ (c.before.before.before.wide2.ensures ∙ ap left (sym (rev-even s.args.e))))
+    ∙ ap ρ (c.before.before.before.wide2.ensures ∙ ap left (sym (rev_even s.args.e))))
 
 pub drop-over-spec : {M : Type 1} → statement M
 drop-over-spec =

@@ -5,10 +5,10 @@ use Prim.Native.Nat.{◌≤◌, ◌-◌}
 use native.Mathlib.Omega.{arith}
 use lib.ListN.{drop}
 use borrow.Author.Rules.{rules}
-use Rattle.signed.proofs.Laws.{number-of-bits}
+use Rattle.signed.proofs.Laws.{number_of_bits}
 use Rattle.arrays.specs.At.{at, atℤ}
 use Rattle.arrays.specs.Filled.{tabulate}
-use Rattle.arrays.proofs.FillLoops.{copy_start, copy_step, filled-length}
+use Rattle.arrays.proofs.FillLoops.{copy_start, copy_step, filled_length}
 use Rattle.edge_flows.specs.inner.Flow.{flow_of}
 use Rattle.edge_flows.proofs.fill_flows.Statement.{statement}
 use Rattle.edge_flows.proofs.fill_flows.Tie as tie
@@ -27,15 +27,15 @@ flow-of-requires : tie.Need-flow-of-requires invariant-loop decreases-loop
 flow-of-requires c κs = let s = c.before.before in (s.requires.0, c.loop-test.true, s.requires.2)
 
 slice-set-from-flows : tie.Need-slice-set-from-flows invariant-loop decreases-loop
-slice-set-from-flows c = omega (arith, filled-length _ _ _ _ c.before.before.loop.invariant.1 (omega arith))
+slice-set-from-flows c = omega (arith, filled_length _ _ _ _ c.before.before.loop.invariant.1 (omega arith))
 
 loop-again : tie.Need-loop-preserved invariant-loop decreases-loop
 loop-again c =
     let o = c.before.before.loop in
-    (omega arith, copy_step _ o.e _ _ _ o.invariant.1 (omega arith) (number-of-bits _ (record { sfits = c.flow-of.type-inv }) ∙ c.flow-of.ensures))
+    (omega arith, copy_step _ o.e _ _ _ o.invariant.1 (omega arith) (number_of_bits _ (record { sfits = c.flow-of.type-inv }) ∙ c.flow-of.ensures))
 
 same_length : tie.Need-same-length invariant-loop decreases-loop
-same_length c = filled-length _ _ _ _ c.before.loop.invariant.1 (omega arith)
+same_length c = filled_length _ _ _ _ c.before.loop.invariant.1 (omega arith)
 
 returns : tie.Need-returns invariant-loop decreases-loop
 returns c =

@@ -7,13 +7,13 @@ use mir.Syntax.{w64}
 use mir.Val.{to_z, of_z}
 use mir.ValLaws.{to_z-of_z}
 use borrow.Author.Rules.{rules}
-use Rattle.signed.proofs.Laws.{number-of-bits}
+use Rattle.signed.proofs.Laws.{number_of_bits}
 use Rattle.signed.proofs.narrow.Reads as narrow-reads
 use Rattle.signed.proofs.plus64.Reads as plus64-reads
 use Rattle.signed.proofs.sub32.Reads as sub32-reads
 use Rattle.arrays.specs.At.{at, atℤ}
 use Rattle.edge_flows.specs.inner.Flow.{flow_of}
-use Rattle.edge_flows.proofs.Fitting.{left_in, right-in, drop-fits, flow-fits64, flow-fits}
+use Rattle.edge_flows.proofs.Fitting.{left_in, right_in, drop_fits, flow_fits64, flow_fits}
 use Rattle.edge_flows.proofs.drop_over.Reads as drop-over-reads
 use Rattle.edge_flows.proofs.flow_of.Lts as lts
 use Rattle.edge_flows.proofs.flow_of.Reads as reads
@@ -24,7 +24,7 @@ drop-over-requires : tie.Need-drop-over-requires
 drop-over-requires c κs =
     let φ = c.requires.2 in
     let l = c.requires.1 in
-    (omega (arith, c.requires.0), left_in φ c.args.e l, right-in φ c.args.e l, drop-fits φ c.args.e l)
+    (omega (arith, c.requires.0), left_in φ c.args.e l, right_in φ c.args.e l, drop_fits φ c.args.e l)
 
 -- the places after both terms are computed, and after their sum is
 abbrev Place : Type 0
@@ -70,8 +70,8 @@ flow-here c =
     (to_z-of_z w64 _ (record { sfits = c.sub32.type-inv })
     ∙ c.sub32.ensures
     ∙ ap₂ ◌-ℤ◌
-    (number-of-bits (atℤ a.capacities.now d) (record { sfits = c.before.before.sub32-arg.given }))
-    (number-of-bits (atℤ a.lengths.now d) (record { sfits = c.before.sub32-arg2.given })))
+    (number_of_bits (atℤ a.capacities.now d) (record { sfits = c.before.before.sub32-arg.given }))
+    (number_of_bits (atℤ a.lengths.now d) (record { sfits = c.before.sub32-arg2.given })))
 
 -- the sum as it is held in 64 bits is the sum of the two terms
 sum-here : (c : Sum)
@@ -82,15 +82,15 @@ sum-here c = to_z-of_z w64 _ (record { sfits = c.plus64.type-inv }) ∙ c.plus64
 plus64-requires : tie.Need-plus64-requires
 plus64-requires c κs =
     let s = c.before.before.before.before in
-    rw (flow-here c) (flow-fits64 s.requires.2 s.args.e s.requires.1)
+    rw (flow-here c) (flow_fits64 s.requires.2 s.args.e s.requires.1)
 
 narrow-requires : tie.Need-narrow-requires
 narrow-requires c κs =
     let s = c.before.before.before.before.before in
-    rw (sum-here c ∙ flow-here c.before) (flow-fits s.requires.2 s.args.e s.requires.1)
+    rw (sum-here c ∙ flow-here c.before) (flow_fits s.requires.2 s.args.e s.requires.1)
 
 returns : tie.Need-returns
-returns c = number-of-bits _ (record { sfits = c.narrow.type-inv }) ∙ c.narrow.ensures ∙ sum-here c.before ∙ flow-here c.before.before
+returns c = number_of_bits _ (record { sfits = c.narrow.type-inv }) ∙ c.narrow.ensures ∙ sum-here c.before ∙ flow-here c.before.before
 
 pub flow-of-spec : {M : Type 1} → statement M
 flow-of-spec =

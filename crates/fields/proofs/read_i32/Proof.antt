@@ -2,15 +2,15 @@
 use mathlib.Core.Path.{◌∙◌, ap}
 use mir.Syntax.{w32}
 use mir.Val.{to_z}
-use Rattle.fields.specs.Fields.{i32At}
-use Rattle.signed.proofs.Laws.{number-of-bits}
+use Rattle.fields.specs.Fields.{i32_at}
+use Rattle.signed.proofs.Laws.{number_of_bits}
 use borrow.Author.Rules.{rules}
 use Rattle.fields.proofs.read_i32.Statement.{statement}
 use Rattle.fields.proofs.read_i32.Tie as tie
 
 returns : tie.Need-returns
-unfolding i32At
-returns c = number-of-bits c.of-bits.result (record { sfits = c.of-bits.type-inv }) ∙ c.of-bits.ensures ∙ ap (to_z w32) c.before.read_u32.ensures
+unfolding i32_at
+returns c = number_of_bits c.of-bits.result (record { sfits = c.of-bits.type-inv }) ∙ c.of-bits.ensures ∙ ap (to_z w32) c.before.read_u32.ensures
 
 pub read-i32-spec : {M : Type 1} → statement M
 read-i32-spec = tie.close (tie.spec (λ c κs. search rules) (λ c κs. search rules) returns)

@@ -1,11 +1,11 @@
 -- `fields::read_u16` meets its contract: the two bytes are widened, and their sum fits 16 bits.
-use Rattle.fields.specs.Fields.{u16At}
+use Rattle.fields.specs.Fields.{u16_at}
 use borrow.Author.Rules.{rules}
 use Rattle.fields.proofs.read_u16.Statement.{statement}
 use Rattle.fields.proofs.read_u16.Tie as tie
 
 returns : tie.Need-returns
-unfolding u16At
+unfolding u16_at
 returns c = search rules
 
 pub read-u16-spec : {M : Type 1} → statement M

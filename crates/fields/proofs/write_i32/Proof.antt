@@ -2,8 +2,8 @@
 use mathlib.Core.Path.{◌∙◌, ap}
 use mir.Syntax.{w32}
 use mir.Val.{of_z}
-use Rattle.fields.specs.Fields.{leBits, le32, put}
-use Rattle.signed.proofs.Laws.{number-of-bits}
+use Rattle.fields.specs.Fields.{le_bits, le32, put}
+use Rattle.signed.proofs.Laws.{number_of_bits}
 use borrow.Author.Rules.{rules}
 use Rattle.fields.proofs.write_i32.Statement.{statement}
 use Rattle.fields.proofs.write_i32.Tie as tie
@@ -13,8 +13,8 @@ unfolding le32
 returns c =
     let s = c.before.before.before.before.before.before in
     c.before.before.write-u32.ensures
-    ∙ ap (λ n. put s.args.at (leBits n) s.args.s.now)
-    (c.before.before.before.to-bits.ensures ∙ ap (of_z w32) (number-of-bits s.args.x s.ranges.x))
+    ∙ ap (λ n. put s.args.at (le_bits n) s.args.s.now)
+    (c.before.before.before.to-bits.ensures ∙ ap (of_z w32) (number_of_bits s.args.x s.ranges.x))
 
 pub write-i32-spec : {M : Type 1} → statement M
 write-i32-spec = tie.close (tie.spec (λ c κs. search rules) (λ c κs. search rules) (λ c. search rules) returns)

@@ -2,7 +2,7 @@
 use Prim.Native.Nat.{◌/◌, ◌%◌}
 use native.Mathlib.Omega.{arith}
 use lib.ListN.{length-set}
-use Rattle.fields.specs.Fields.{leBits}
+use Rattle.fields.specs.Fields.{le_bits}
 use Rattle.fields.proofs.Laws.{put_four}
 use borrow.Author.Rules.{rules}
 use Rattle.fields.proofs.write_u32.Statement.{statement}
@@ -18,7 +18,7 @@ slice-write-s-4 : tie.Need-slice-write-s-4
 slice-write-s-4 c = simp length-set (omega arith)
 
 returns : tie.Need-returns
-unfolding leBits
+unfolding le_bits
 returns c = let n = c.args.bits in put_four c.args.at (n % 256) (n / 256 % 256) (n / 65536 % 256) (n / 16777216 % 256) c.args.s.now c.requires
 
 pub write-u32-spec : {M : Type 1} → statement M

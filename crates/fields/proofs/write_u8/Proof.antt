@@ -1,12 +1,12 @@
 -- `fields::write_u8` meets its contract: one store puts one byte.
 use mathlib.Core.List.{[], ◌∷◌}
-use Rattle.fields.proofs.Laws.{put-sets}
+use Rattle.fields.proofs.Laws.{put_sets}
 use borrow.Author.Rules.{rules}
 use Rattle.fields.proofs.write_u8.Statement.{statement}
 use Rattle.fields.proofs.write_u8.Tie as tie
 
 returns : tie.Need-returns
-returns c = put-sets c.args.at (c.args.n ∷ []) c.args.s.now c.requires
+returns c = put_sets c.args.at (c.args.n ∷ []) c.args.s.now c.requires
 
 pub write-u8-spec : {M : Type 1} → statement M
 write-u8-spec = tie.close (tie.spec (λ c. search rules) (λ c. search rules) returns)

@@ -6,8 +6,8 @@ use Rattle.maps.specs.Face.{left, right}
 use Rattle.maps.specs.Potential.{difference}
 
 -- the length of a dart
-abbrev pub lengthFor : (ℕ → ℤ) → (ℕ → ℤ) → ℤ → ℕ → ℤ
-lengthFor c π value d = c d -ℤ value *ℤ π d
+abbrev pub length_for : (ℕ → ℤ) → (ℕ → ℤ) → ℤ → ℕ → ℤ
+length_for c π value d = c d -ℤ value *ℤ π d
 
 -- no dart can lower a potential
 abbrev pub Feasible : Map → (ℕ → ℤ) → (ℕ → ℤ) → Type 0
@@ -17,5 +17,5 @@ Feasible 𝓜 length ρ = (d : ℕ) → d < darts 𝓜 → ρ (left 𝓜 d) ≤�
 abbrev pub made : Map → (ℕ → ℤ) → ℤ → (ℕ → ℤ) → ℕ → ℤ
 made 𝓜 π value ρ d = difference 𝓜 ρ d +ℤ value *ℤ π d
 
-abbrev pub edgeFlow : Map → (ℕ → ℤ) → ℤ → (ℕ → ℤ) → ℕ → ℤ
-edgeFlow 𝓜 π value ρ e = made 𝓜 π value ρ (2 * e)
+abbrev pub edge_flow : Map → (ℕ → ℤ) → ℤ → (ℕ → ℤ) → ℕ → ℤ
+edge_flow 𝓜 π value ρ e = made 𝓜 π value ρ (2 * e)

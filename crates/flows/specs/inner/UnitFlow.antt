@@ -21,6 +21,6 @@ abbrev pub single : ℕ → ℕ → ℤ
 single d i = when (eqb i d) (pos 1) -ℤ when (eqb i (rev d)) (pos 1)
 
 -- one along each dart of a walk
-unfoldable pub walkFlow : {𝓜 : Map} {v w : ℕ} → Walk 𝓜 v w → ℕ → ℤ
-walkFlow here i = pos 0
-walkFlow (along d l e r) i = single d i +ℤ walkFlow r i
+unfoldable pub walk_flow : {𝓜 : Map} {v w : ℕ} → Walk 𝓜 v w → ℕ → ℤ
+walk_flow here i = pos 0
+walk_flow (along d l e r) i = single d i +ℤ walk_flow r i

@@ -9,8 +9,8 @@ use lib.Seq.{get_or-set_same}
 use borrow.Author.Rules.{rules}
 use Rattle.maps.specs.Dart.{rev}
 use Rattle.arrays.specs.At.{at, atℤ}
-use Rattle.heights.proofs.FillingHeights.{Filling, dart-in, some-dart, first-own, origin-in, node_in}
-use Rattle.heights.proofs.FillingHeights.{filling-start, filling-turned, filling-rooted, new-fits, filling-stored, filled, filled-rooted}
+use Rattle.heights.proofs.FillingHeights.{Filling, dart_in, some-dart, first_own, origin_in, node_in}
+use Rattle.heights.proofs.FillingHeights.{filling_start, filling_turned, filling_rooted, new_fits, filling_stored, filled, filled_rooted}
 use Rattle.heights.proofs.fill_heights.Statement.{statement}
 use Rattle.heights.proofs.fill_heights.Tie as tie
 
@@ -25,14 +25,14 @@ decreases-loop tails order from darts winding heights₀ start root i₀ heights
 abbrev begun : tie.After-wide invariant-loop decreases-loop → tie.Start invariant-loop decreases-loop
 begun c = c.before.before
 
-first-in : (c : tie.After-wide invariant-loop decreases-loop) → c.wide.result < (begun c).args.darts
-first-in c = let p = (begun c).requires.1 in dart-in p (some-dart p) c.wide.ensures
+first_in : (c : tie.After-wide invariant-loop decreases-loop) → c.wide.result < (begun c).args.darts
+first_in c = let p = (begun c).requires.1 in dart_in p (some-dart p) c.wide.ensures
 
 abbrev rooted : tie.After-wide2 invariant-loop decreases-loop → tie.After-wide invariant-loop decreases-loop
 rooted c = c.before.before
 
 root_in : (c : tie.After-wide2 invariant-loop decreases-loop) → c.wide2.result < 1024
-root_in c = let w = rooted c in node_in (begun w).pre.1 (first-in w) c.wide2.ensures
+root_in c = let w = rooted c in node_in (begun w).pre.1 (first_in w) c.wide2.ensures
 
 -- ── the turn of the loop: its dart d ──
 abbrev start : tie.In-loop invariant-loop decreases-loop → tie.Start invariant-loop decreases-loop
@@ -45,7 +45,7 @@ abbrev turn : tie.After-wide3 invariant-loop decreases-loop → tie.In-loop inva
 turn c = c.before.before
 
 dart-below : (c : tie.After-wide3 invariant-loop decreases-loop) → c.wide3.result < (start (turn c)).args.darts
-dart-below c = dart-in (start (turn c)).pre.1 (turn c).loop-test.true c.wide3.ensures
+dart-below c = dart_in (start (turn c)).pre.1 (turn c).loop-test.true c.wide3.ensures
 
 -- ── the dart p from which d was met ──
 abbrev met : tie.After-wide4 invariant-loop decreases-loop → tie.After-wide3 invariant-loop decreases-loop
@@ -54,7 +54,7 @@ met c = c.before.before
 origin-below : (c : tie.After-wide4 invariant-loop decreases-loop) → c.wide4.result < (start (turn (met c))).args.darts
 origin-below c =
     let t = turn (met c) in
-    origin-in (start t).pre.1 t.loop-test.taken (met c).wide3.ensures c.wide4.ensures
+    origin_in (start t).pre.1 t.loop-test.taken (met c).wide3.ensures c.wide4.ensures
 
 -- ── d is the reverse of p: both nodes ──
 abbrev origin : tie.After-wide5 invariant-loop decreases-loop → tie.After-wide4 invariant-loop decreases-loop
@@ -77,10 +77,10 @@ both c = c.before.before.before
 
 -- ── the needs, in the order of the code ──
 mul_wide : tie.Need-overflow-mul-wide invariant-loop decreases-loop
-mul_wide c = omega (arith, (begun c).requires.1.few, first-in c)
+mul_wide c = omega (arith, (begun c).requires.1.few, first_in c)
 
 element-copy-out-wide-2 : tie.Need-element-copy-out-wide-2 invariant-loop decreases-loop
-element-copy-out-wide-2 c = omega (arith, (begun c).requires.1.few, first-in c)
+element-copy-out-wide-2 c = omega (arith, (begun c).requires.1.few, first_in c)
 
 mul-heights : tie.Need-overflow-mul-heights invariant-loop decreases-loop
 mul-heights c = omega (arith, root_in c)
@@ -97,7 +97,7 @@ loop-holds c =
     let same : at a.tails.now (at a.order.now 0) ≡ root = ap (at a.tails.now) (sym w.wide.ensures) ∙ sym c.wide2.ensures in
     let zero = get_or-set_same a.heights.now root (pos 0) (pos 0) (omega (arith, p.0, root_in c)) in (
       length-set a.heights.now root (pos 0) ∙ p.0,
-      filling-start (some-dart p.1) p.1.based (first-own p.1) (ap (atℤ (set a.heights.now root (pos 0))) same ∙ zero),
+      filling_start (some-dart p.1) p.1.based (first_own p.1) (ap (atℤ (set a.heights.now root (pos 0))) same ∙ zero),
     )
 
 mul-wide-2 : tie.Need-overflow-mul-wide-2 invariant-loop decreases-loop
@@ -148,7 +148,7 @@ minus-small-requires c κs =
     let f = origin k in
     let t = turn (met f) in
     let o = t.before.loop in
-    new-fits (start t).pre.1 o.heights o.inv.1 t.loop-test.taken (met f).wide3.ensures f.wide4.ensures k.wide5.ensures (turned-back k)
+    new_fits (start t).pre.1 o.heights o.inv.1 t.loop-test.taken (met f).wide3.ensures f.wide4.ensures k.wide5.ensures (turned-back k)
 
 mul-t45 : tie.Need-overflow-mul-t45 invariant-loop decreases-loop
 mul-t45 c = omega (arith, next-in (both c))
@@ -165,7 +165,7 @@ loop-again c =
     let f = origin k in
     let t = turn (met f) in
     let o = t.before.loop in
-    filling-stored (start t).pre.1 o.heights o.inv.1 t.loop-test.taken (met f).wide3.ensures f.wide4.ensures k.wide5.ensures
+    filling_stored (start t).pre.1 o.heights o.inv.1 t.loop-test.taken (met f).wide3.ensures f.wide4.ensures k.wide5.ensures
     (turned-back k)
     o.inv.0 (both c).wide6.ensures c.minus-small.ensures
 
@@ -200,7 +200,7 @@ loop-again-2 c =
     let d = met f in
     let t = turn d in
     let o = t.before.loop in
-    filling-rooted (start t).pre.1 o.heights o.inv.1 t.loop-test.taken d.wide3.ensures f.wide4.ensures b.if2.taken
+    filling_rooted (start t).pre.1 o.heights o.inv.1 t.loop-test.taken d.wide3.ensures f.wide4.ensures b.if2.taken
     c.wide7.ensures o.inv.0
 
 loop-less-3 : tie.Need-loop-smaller-3 invariant-loop decreases-loop
@@ -213,7 +213,7 @@ loop-again-3 c =
     let o = t.before.loop in
     let back = c.before.before.reverse.ensures.0 in (
       o.inv.0,
-      filling-turned (start t).pre.1 o.inv.1 t.loop-test.taken (met f).wide3.ensures f.wide4.ensures c.if2.false
+      filling_turned (start t).pre.1 o.inv.1 t.loop-test.taken (met f).wide3.ensures f.wide4.ensures c.if2.false
           (λ e. c.before.if1.false (e ∙ sym back)),
     )
 
@@ -221,7 +221,7 @@ returns : tie.Need-returns invariant-loop decreases-loop
 returns c =
     let o = c.before in
     let ok = (begun (rooted o.before)).pre.1 in
-    (o.loop.invariant.0, filled ok o.loop.invariant.1 c.loop-test.false, filled-rooted ok o.loop.invariant.1 c.loop-test.false)
+    (o.loop.invariant.0, filled ok o.loop.invariant.1 c.loop-test.false, filled_rooted ok o.loop.invariant.1 c.loop-test.false)
 
 pub fill-heights-spec : {M : Type 1} → statement M
 fill-heights-spec =

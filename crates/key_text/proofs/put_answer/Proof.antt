@@ -8,16 +8,16 @@ use lib.IntN.{ℤ, pos}
 use borrow.Author.Rules.{rules}
 use mir.Syntax.{w32}
 use mir.Val.{to_z, of_z}
-use Rattle.signed.proofs.Laws.{number-of-bits}
+use Rattle.signed.proofs.Laws.{number_of_bits}
 use Rattle.integers.specs.inner.Limited.{Limited}
 use Rattle.refusals.specs.Order.{NoneOf}
-use Rattle.records.specs.Record.{recordChecks}
-use Rattle.records.specs.Sheet.{nodesOf, edgesOf}
+use Rattle.records.specs.Record.{record_checks}
+use Rattle.records.specs.Sheet.{nodes_of, edges_of}
 use Rattle.questions.specs.declared.SolveAnswer.{SolveAnswer}
 use Rattle.questions.specs.declared.SolveAnswer.TheVariants.{Can, Cannot, Refused}
-use Rattle.key_text.specs.Question.{source_of, sinkOf, value_of, sheetOf}
-use Rattle.key_text.proofs.Answering.{Answered, of-bytes, head-there, few-nodes, few-edges, value-fits, flows-fit}
-use Rattle.key_text.proofs.Answering.{can-printed, cannot-printed, refused-printed}
+use Rattle.key_text.specs.Question.{source_of, sink_of, value_of, sheet_of}
+use Rattle.key_text.proofs.Answering.{Answered, of_bytes, head_there, few_nodes, few_edges, value_fits, flows_fit}
+use Rattle.key_text.proofs.Answering.{can_printed, cannot_printed, refused_printed}
 use Rattle.key_text.proofs.put_answer.Statement.{statement}
 use Rattle.key_text.proofs.put_answer.Tie as tie
 
@@ -32,32 +32,32 @@ abbrev set' : tie.After-solve → List ℕ
 set' c = c.solve.new.1.1.1.1.1.0
 
 -- the key's own slices, before Solve
-abbrev noFlows : List ℤ
-noFlows = replicate 512 (pos 0)
+abbrev no_flows : List ℤ
+no_flows = replicate 512 (pos 0)
 
-abbrev noSet : List ℕ
-noSet = replicate 9 0
+abbrev no_set : List ℕ
+no_set = replicate 9 0
 
-long : 512 ≤ length noFlows
+long : 512 ≤ length no_flows
 long = omega (arith, length-replicate 512 (pos 0))
 
-wide : 9 ≤ length noSet
+wide : 9 ≤ length no_set
 wide = omega (arith, length-replicate {A = ℕ} 9 0)
 
 -- the value that is handed on is the one that came in
 value-is : (c : tie.After-solve) → to_z w32 (of_z w32 (start c).args.value) ≡ (start c).args.value
-value-is c = number-of-bits _ (start c).ranges.value
+value-is c = number_of_bits _ (start c).ranges.value
 
 solved : (c : tie.After-solve) (answer : SolveAnswer) → c.solve.result ≡ answer
-    → Answered (start c).args.sheet.now (start c).args.source (start c).args.sink (start c).args.value noFlows (flows' c) noSet (set' c) answer
-solved c answer e = rw (number-of-bits _ (start c).ranges.value, e) at c.solve.ensures
+    → Answered (start c).args.sheet.now (start c).args.source (start c).args.sink (start c).args.value no_flows (flows' c) no_set (set' c) answer
+solved c answer e = rw (number_of_bits _ (start c).ranges.value, e) at c.solve.ensures
 
 -- of whichever bytes the sheet and the question were read
-module _ (c : tie.After-solve) (b : List ℕ) (question : NoneOf (recordChecks b 3 0)) (sheet : sheetOf b ≡ (start c).args.sheet.now)
-    (source : source_of b ≡ (start c).args.source) (sink : sinkOf b ≡ (start c).args.sink) (value : value_of b ≡ (start c).args.value) where
+module _ (c : tie.After-solve) (b : List ℕ) (question : NoneOf (record_checks b 3 0)) (sheet : sheet_of b ≡ (start c).args.sheet.now)
+    (source : source_of b ≡ (start c).args.source) (sink : sink_of b ≡ (start c).args.sink) (value : value_of b ≡ (start c).args.value) where
   solved-of : (answer : SolveAnswer) → c.solve.result ≡ answer
-      → Answered (sheetOf b) (source_of b) (sinkOf b) (value_of b) noFlows (flows' c) noSet (set' c) answer
-  solved-of answer e = of-bytes (sym sheet) (sym source) (sym sink) (sym value) noFlows (flows' c) noSet (set' c) answer (solved c answer e)
+      → Answered (sheet_of b) (source_of b) (sink_of b) (value_of b) no_flows (flows' c) no_set (set' c) answer
+  solved-of answer e = of_bytes (sym sheet) (sym source) (sym sink) (sym value) no_flows (flows' c) no_set (set' c) answer (solved c answer e)
 
 -- ── the places: where each answer is told, and where its numbers are read ──
 abbrev can : tie.After-enum-told → tie.After-solve
@@ -80,19 +80,19 @@ edges-of-requires : tie.Need-edges-of-requires
 edges-of-requires c κs =
     let t = c.before in
     let a = can t in
-    head-there _ _ _ _ _ (flows' a) _ (set' a) (solved a Can t.enum_told.given.1).0.0
+    head_there _ _ _ _ _ (flows' a) _ (set' a) (solved a Can t.enum_told.given.1).0.0
 
 put-can-requires : tie.Need-put-can-requires
 put-can-requires c κs =
     let t = can-told c.before in
     let a = can t in
     let h = (solved a Can t.enum_told.given.1).0 in
-    let few = few-edges _ _ _ _ _ (flows' a) _ (set' a) h.0 in
+    let few = few_edges _ _ _ _ _ (flows' a) _ (set' a) h.0 in
     let e = c.before.edges-of.ensures in (
       omega (arith, few, e, (start a).pre),
-      subst (Limited 600000000) (sym (value-is a)) (value-fits _ _ _ _ _ (flows' a) _ (set' a) h.0),
+      subst (Limited 600000000) (sym (value-is a)) (value_fits _ _ _ _ _ (flows' a) _ (set' a) h.0),
       omega (arith, few, e),
-      λ i l. flows-fit _ _ _ _ _ (flows' a) _ (set' a) h i (subst (λ k. i < k) e l),
+      λ i l. flows_fit _ _ _ _ _ (flows' a) _ (set' a) h i (subst (λ k. i < k) e l),
     )
 
 returns : tie.Need-returns
@@ -102,11 +102,11 @@ returns c b question sheet source sink value =
     let t = can-told edges in
     let a = can t in
     let s = start a in
-    can-printed b question noFlows (flows' a) noSet (set' a) long wide s.args.text.now p.put-can.new.0 s.pre p.put-can.result _
+    can_printed b question no_flows (flows' a) no_set (set' a) long wide s.args.text.now p.put-can.new.0 s.pre p.put-can.result _
     (value-is a ∙ sym value)
     (solved-of a b question sheet source sink value Can t.enum_told.given.1)
     _
-    (edges.edges-of.ensures ∙ ap edgesOf (sym sheet))
+    (edges.edges-of.ensures ∙ ap edges_of (sym sheet))
     p.put-can.ensures
 
 -- ── it cannot ──
@@ -114,17 +114,17 @@ nodes-of-requires : tie.Need-nodes-of-requires
 nodes-of-requires c κs =
     let t = c.before.before in
     let a = cannot t in
-    head-there _ _ _ _ _ (flows' a) _ (set' a) (solved a (Cannot _) t.answer.given.1).0.0
+    head_there _ _ _ _ _ (flows' a) _ (set' a) (solved a (Cannot _) t.answer.given.1).0.0
 
 put-cannot-requires : tie.Need-put-cannot-requires
 put-cannot-requires c κs =
     let t = cannot-told c.before in
     let a = cannot t in
     let h = (solved a (Cannot _) t.answer.given.1).0 in
-    let few = few-nodes _ _ _ _ _ (flows' a) _ (set' a) h.0 in
+    let few = few_nodes _ _ _ _ _ (flows' a) _ (set' a) h.0 in
     let e = c.before.nodes-of.ensures in (
       omega (arith, few, e, (start a).pre),
-      subst (Limited 600000000) (sym (value-is a)) (value-fits _ _ _ _ _ (flows' a) _ (set' a) h.0),
+      subst (Limited 600000000) (sym (value-is a)) (value_fits _ _ _ _ _ (flows' a) _ (set' a) h.0),
       omega (arith, few, e),
     )
 
@@ -135,13 +135,13 @@ returns-2 c b question sheet source sink value =
     let t = cannot-told nodes in
     let a = cannot t in
     let s = start a in
-    cannot-printed b question noFlows (flows' a) noSet (set' a) long wide s.args.text.now p.put-cannot.new.0 s.pre p.put-cannot.result _
+    cannot_printed b question no_flows (flows' a) no_set (set' a) long wide s.args.text.now p.put-cannot.new.0 s.pre p.put-cannot.result _
     (value-is a ∙ sym value)
     _
     nodes.before.before.known-told.given.0.1
     (solved-of a b question sheet source sink value (Cannot _) t.answer.given.1)
     _
-    (nodes.nodes-of.ensures ∙ ap nodesOf (sym sheet))
+    (nodes.nodes-of.ensures ∙ ap nodes_of (sym sheet))
     p.put-cannot.ensures
 
 -- ── refused ──
@@ -155,7 +155,7 @@ returns-3 c b question sheet source sink value =
     let t = known.before in
     let a = refused t in
     let s = start a in
-    refused-printed b question noFlows (flows' a) noSet (set' a) long wide s.args.text.now p.Put-refused.new.0 s.pre p.Put-refused.result _ _
+    refused_printed b question no_flows (flows' a) no_set (set' a) long wide s.args.text.now p.Put-refused.new.0 s.pre p.Put-refused.result _ _
     known.known-told2.given.0.1
     (solved-of a b question sheet source sink value (Refused _ _) t.answer2.given.1)
     p.Put-refused.ensures

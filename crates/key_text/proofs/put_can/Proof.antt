@@ -6,12 +6,12 @@ use native.Mathlib.Omega.{arith}
 use lib.ListN.{length}
 use borrow.Author.Rules.{rules}
 use Rattle.integers.specs.inner.Limited.{Limited}
-use Rattle.signed.proofs.Laws.{number-of-bits}
+use Rattle.signed.proofs.Laws.{number_of_bits}
 use Rattle.arrays.specs.At.{atℤ}
 use Rattle.texts.specs.inner.Placed.{Placed}
-use Rattle.texts.proofs.Joined.{placed-room, placed-then, lines-length, placed-as}
-use Rattle.key_text.specs.Text.{edgeLine, canLine, canText}
-use Rattle.key_text.proofs.Length.{can-line-length, edge-line-length}
+use Rattle.texts.proofs.Joined.{placed_room, placed_then, lines_length, placed_as}
+use Rattle.key_text.specs.Text.{edge_line, can_line, can_text}
+use Rattle.key_text.proofs.Length.{can_line_length, edge_line_length}
 use Rattle.key_text.proofs.put_can.Statement.{statement}
 use Rattle.key_text.proofs.put_can.Tie as tie
 
@@ -19,13 +19,13 @@ use Rattle.key_text.proofs.put_can.Tie as tie
 abbrev begin : tie.After-put-can-line → tie.Start
 begin c = c.before.before.before
 
-first : (c : tie.After-put-can-line) → Placed 0 (canLine (begin c).args.value) (begin c).args.text.now c.put-can-line.new.0 c.put-can-line.result
-first c = placed-as canLine _ _ _ _ (number-of-bits _ (begin c).ranges.value) c.put-can-line.ensures
+first : (c : tie.After-put-can-line) → Placed 0 (can_line (begin c).args.value) (begin c).args.text.now c.put-can-line.new.0 c.put-can-line.result
+first c = placed_as can_line _ _ _ _ (number_of_bits _ (begin c).ranges.value) c.put-can-line.ensures
 
 first-room : (c : tie.After-put-can-line) → c.put-can-line.result + 13 * (begin c).args.edges ≤ length c.put-can-line.new.0
 first-room c =
     let s = begin c in
-    placed-room 15 (13 * s.args.edges) _ _ _ _ _ (first c) (can-line-length s.args.value s.pre.1) (omega (arith, s.pre.0))
+    placed_room 15 (13 * s.args.edges) _ _ _ _ _ (first c) (can_line_length s.args.value s.pre.1) (omega (arith, s.pre.0))
 
 -- ── the lines of the edges ──
 abbrev led : tie.After-put-edges → tie.After-put-can-line
@@ -35,7 +35,7 @@ led c = c.before.before.before.before
 put-can-line-requires : tie.Need-put-can-line-requires
 put-can-line-requires c κs =
     let s = c.before.before in
-    (omega (arith, s.requires.0), subst (Limited 600000000) (sym (number-of-bits _ s.ranges.value)) s.requires.1)
+    (omega (arith, s.requires.0), subst (Limited 600000000) (sym (number_of_bits _ s.ranges.value)) s.requires.1)
 
 put-edges-requires : tie.Need-put-edges-requires
 put-edges-requires c κs =
@@ -44,15 +44,15 @@ put-edges-requires c κs =
     (first-room f, s.pre.2, s.pre.3)
 
 returns : tie.Need-returns
-unfolding canText
+unfolding can_text
 returns c =
     let all_lines = c.before.before in
     let f = led all_lines in
     let s = begin f in
     let flow = atℤ s.args.flows.now in
-    let line : ℕ → List ℕ = λ e. edgeLine e (flow e) in
-    let all = lines-length 13 s.args.edges line (λ i h. edge-line-length i (flow i) (omega (arith, s.pre.2)) (s.pre.3 i h)) in
-    placed-then _ _ _ _ _ _ _ _ (first f) all_lines.put-edges.ensures (omega (arith, all, can-line-length s.args.value s.pre.1, s.pre.0))
+    let line : ℕ → List ℕ = λ e. edge_line e (flow e) in
+    let all = lines_length 13 s.args.edges line (λ i h. edge_line_length i (flow i) (omega (arith, s.pre.2)) (s.pre.3 i h)) in
+    placed_then _ _ _ _ _ _ _ _ (first f) all_lines.put-edges.ensures (omega (arith, all, can_line_length s.args.value s.pre.1, s.pre.0))
 
 pub put-can-spec : {M : Type 1} → statement M
 put-can-spec = tie.close (tie.spec put-can-line-requires put-edges-requires (λ c. search rules) returns)

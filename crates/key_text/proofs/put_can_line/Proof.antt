@@ -4,27 +4,27 @@ use Prim.Native.Nat.{◌≤◌, ◌+◌}
 use native.Mathlib.Omega.{arith}
 use lib.ListN.{length}
 use borrow.Author.Rules.{rules}
-use Rattle.signed.proofs.Laws.{number-of-bits}
+use Rattle.signed.proofs.Laws.{number_of_bits}
 use Rattle.texts.specs.Decimal.{number}
 use Rattle.texts.specs.inner.Placed.{Placed}
-use Rattle.texts.proofs.Length.{number-length}
-use Rattle.texts.proofs.Joined.{placed-room, three-placed, placed-as}
-use Rattle.key_text.specs.Text.{canWord, canLine}
+use Rattle.texts.proofs.Length.{number_length}
+use Rattle.texts.proofs.Joined.{placed_room, three_placed, placed_as}
+use Rattle.key_text.specs.Text.{can_word, can_line}
 use Rattle.key_text.proofs.put_can_line.Statement.{statement}
 use Rattle.key_text.proofs.put_can_line.Tie as tie
 
 nine-digits : (c : tie.Start) → length (number c.args.value) ≤ 10
-nine-digits c = number-length 8 600000000 c.args.value (omega arith) c.requires.1
+nine-digits c = number_length 8 600000000 c.args.value (omega arith) c.requires.1
 
 -- ── the word ──
 abbrev begin : tie.After-put-bytes → tie.Start
 begin c = c.before.before.before.before
 
-word : (c : tie.After-put-bytes) → Placed 0 canWord (begin c).args.text.now c.put-bytes.new.0 c.put-bytes.result
+word : (c : tie.After-put-bytes) → Placed 0 can_word (begin c).args.text.now c.put-bytes.new.0 c.put-bytes.result
 word c = c.put-bytes.ensures
 
 word_room : (c : tie.After-put-bytes) → c.put-bytes.result + 11 ≤ length c.put-bytes.new.0
-word_room c = placed-room 4 11 _ _ _ _ _ (word c) (omega arith) (begin c).requires.0
+word_room c = placed_room 4 11 _ _ _ _ _ (word c) (omega arith) (begin c).requires.0
 
 -- ── the value ──
 abbrev said : tie.After-put-number → tie.After-put-bytes
@@ -32,10 +32,10 @@ said c = c.before.before.before.before
 
 valued : (c : tie.After-put-number)
     → Placed (said c).put-bytes.result (number (begin (said c)).args.value) (said c).put-bytes.new.0 c.put-number.new.0 c.put-number.result
-valued c = placed-as number _ _ _ _ (number-of-bits _ (begin (said c)).ranges.value) c.put-number.ensures
+valued c = placed_as number _ _ _ _ (number_of_bits _ (begin (said c)).ranges.value) c.put-number.ensures
 
 value_room : (c : tie.After-put-number) → c.put-number.result + 1 ≤ length c.put-number.new.0
-value_room c = placed-room 10 1 _ _ _ _ _ (valued c) (nine-digits (begin (said c))) (word_room (said c))
+value_room c = placed_room 10 1 _ _ _ _ _ (valued c) (nine-digits (begin (said c))) (word_room (said c))
 
 -- ── a line feed ──
 abbrev told : tie.After-put-bytes2 → tie.After-put-number
@@ -49,18 +49,18 @@ put-number-requires : tie.Need-put-number-requires
 put-number-requires c κs =
     let b = c.before.before.before in
     let s = begin b in
-    omega (arith, subst (λ x. length (number x) ≤ 10) (sym (number-of-bits _ s.fits.value)) (nine-digits s), word_room b)
+    omega (arith, subst (λ x. length (number x) ≤ 10) (sym (number_of_bits _ s.fits.value)) (nine-digits s), word_room b)
 
 put-bytes-requires-2 : tie.Need-put-bytes-requires-2
 put-bytes-requires-2 c κs = value_room c.before.before.before.before
 
 returns : tie.Need-returns
-unfolding canLine
+unfolding can_line
 returns c =
     let last = c.before.before in
     let n = told last in
     let s = begin (said n) in
-    three-placed _ _ _ _ _ _ _ _ _ _ _ (word (said n)) (valued n) last.put-bytes2.ensures (omega (arith, nine-digits s, s.pre.0))
+    three_placed _ _ _ _ _ _ _ _ _ _ _ (word (said n)) (valued n) last.put-bytes2.ensures (omega (arith, nine-digits s, s.pre.0))
 
 pub put-can-line-spec : {M : Type 1} → statement M
 put-can-line-spec =

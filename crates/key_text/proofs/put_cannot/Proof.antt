@@ -5,11 +5,11 @@ use native.Mathlib.Omega.{arith}
 use lib.ListN.{length}
 use borrow.Author.Rules.{rules}
 use Rattle.integers.specs.inner.Limited.{Limited}
-use Rattle.signed.proofs.Laws.{number-of-bits}
+use Rattle.signed.proofs.Laws.{number_of_bits}
 use Rattle.texts.specs.inner.Placed.{Placed}
-use Rattle.texts.proofs.Joined.{placed-room, placed-then, lines-length, placed-as}
-use Rattle.key_text.specs.Text.{nodeLine, cannotLine, cannotText}
-use Rattle.key_text.proofs.Length.{cannot-line-length, node-line-length}
+use Rattle.texts.proofs.Joined.{placed_room, placed_then, lines_length, placed_as}
+use Rattle.key_text.specs.Text.{node_line, cannot_line, cannot_text}
+use Rattle.key_text.proofs.Length.{cannot_line_length, node_line_length}
 use Rattle.key_text.proofs.put_cannot.Statement.{statement}
 use Rattle.key_text.proofs.put_cannot.Tie as tie
 
@@ -18,14 +18,14 @@ abbrev begin : tie.After-put-cannot-line → tie.Start
 begin c = c.before.before.before
 
 first : (c : tie.After-put-cannot-line)
-    → Placed 0 (cannotLine (begin c).args.value (begin c).args.size) (begin c).args.text.now c.put-cannot-line.new.0 c.put-cannot-line.result
-first c = placed-as (λ x. cannotLine x (begin c).args.size) _ _ _ _ (number-of-bits _ (begin c).ranges.value) c.put-cannot-line.ensures
+    → Placed 0 (cannot_line (begin c).args.value (begin c).args.size) (begin c).args.text.now c.put-cannot-line.new.0 c.put-cannot-line.result
+first c = placed_as (λ x. cannot_line x (begin c).args.size) _ _ _ _ (number_of_bits _ (begin c).ranges.value) c.put-cannot-line.ensures
 
-short-line : (c : tie.After-put-cannot-line) → length (cannotLine (begin c).args.value (begin c).args.size) ≤ 24
-short-line c = cannot-line-length (begin c).args.value (begin c).args.size (begin c).ranges.size.fits (begin c).requires.1
+short-line : (c : tie.After-put-cannot-line) → length (cannot_line (begin c).args.value (begin c).args.size) ≤ 24
+short-line c = cannot_line_length (begin c).args.value (begin c).args.size (begin c).ranges.size.fits (begin c).requires.1
 
 first-room : (c : tie.After-put-cannot-line) → c.put-cannot-line.result + 4 * (begin c).args.nodes ≤ length c.put-cannot-line.new.0
-first-room c = placed-room 24 (4 * (begin c).args.nodes) _ _ _ _ _ (first c) (short-line c) (omega (arith, (begin c).requires.0))
+first-room c = placed_room 24 (4 * (begin c).args.nodes) _ _ _ _ _ (first c) (short-line c) (omega (arith, (begin c).requires.0))
 
 -- ── the lines of the nodes ──
 abbrev led : tie.After-put-nodes → tie.After-put-cannot-line
@@ -35,19 +35,19 @@ led c = c.before.before.before.before
 put-cannot-line-requires : tie.Need-put-cannot-line-requires
 put-cannot-line-requires c κs =
     let s = c.before.before in
-    (omega (arith, s.requires.0), subst (Limited 600000000) (sym (number-of-bits _ s.ranges.value)) s.requires.1)
+    (omega (arith, s.requires.0), subst (Limited 600000000) (sym (number_of_bits _ s.ranges.value)) s.requires.1)
 
 put-nodes-requires : tie.Need-put-nodes-requires
 put-nodes-requires c κs = let f = c.before.before.before in (first-room f, (begin f).requires.2)
 
 returns : tie.Need-returns
-unfolding cannotText
+unfolding cannot_text
 returns c =
     let all_lines = c.before.before in
     let f = led all_lines in
     let s = begin f in
-    let all = lines-length 4 s.args.nodes (nodeLine s.args.set.now) (λ i h. node-line-length s.args.set.now i (omega (arith, s.pre.2))) in
-    placed-then _ _ _ _ _ _ _ _ (first f) all_lines.put-nodes.ensures (omega (arith, all, short-line f, s.pre.0))
+    let all = lines_length 4 s.args.nodes (node_line s.args.set.now) (λ i h. node_line_length s.args.set.now i (omega (arith, s.pre.2))) in
+    placed_then _ _ _ _ _ _ _ _ (first f) all_lines.put-nodes.ensures (omega (arith, all, short-line f, s.pre.0))
 
 pub put-cannot-spec : {M : Type 1} → statement M
 put-cannot-spec = tie.close (tie.spec put-cannot-line-requires put-nodes-requires (λ c. search rules) returns)

@@ -5,27 +5,27 @@ use Prim.Native.Nat.{◌≤◌, ◌+◌}
 use native.Mathlib.Omega.{arith}
 use lib.ListN.{length, length-append}
 use borrow.Author.Rules.{rules}
-use Rattle.signed.proofs.Laws.{number-of-bits}
+use Rattle.signed.proofs.Laws.{number_of_bits}
 use Rattle.texts.specs.Decimal.{decimal, number}
 use Rattle.texts.specs.inner.Placed.{Placed}
-use Rattle.texts.proofs.Length.{decimal-length, number-length}
-use Rattle.texts.proofs.Joined.{placed-room, three-placed, placed-as}
-use Rattle.key_text.specs.Text.{cannotWord, cannotLine}
+use Rattle.texts.proofs.Length.{decimal_length, number_length}
+use Rattle.texts.proofs.Joined.{placed_room, three_placed, placed_as}
+use Rattle.key_text.specs.Text.{cannot_word, cannot_line}
 use Rattle.key_text.proofs.put_cannot_line.Statement.{statement}
 use Rattle.key_text.proofs.put_cannot_line.Tie as tie
 
 nine-digits : (c : tie.Start) → length (number c.args.value) ≤ 10
-nine-digits c = number-length 8 600000000 c.args.value (omega arith) c.requires.1
+nine-digits c = number_length 8 600000000 c.args.value (omega arith) c.requires.1
 
 -- ── the word ──
 abbrev begin : tie.After-put-bytes → tie.Start
 begin c = c.before.before.before.before
 
-word : (c : tie.After-put-bytes) → Placed 0 cannotWord (begin c).args.text.now c.put-bytes.new.0 c.put-bytes.result
+word : (c : tie.After-put-bytes) → Placed 0 cannot_word (begin c).args.text.now c.put-bytes.new.0 c.put-bytes.result
 word c = c.put-bytes.ensures
 
 word_room : (c : tie.After-put-bytes) → c.put-bytes.result + 17 ≤ length c.put-bytes.new.0
-word_room c = placed-room 7 17 _ _ _ _ _ (word c) (omega arith) (begin c).requires.0
+word_room c = placed_room 7 17 _ _ _ _ _ (word c) (omega arith) (begin c).requires.0
 
 -- ── the value ──
 abbrev said : tie.After-put-number → tie.After-put-bytes
@@ -33,10 +33,10 @@ said c = c.before.before.before.before
 
 valued : (c : tie.After-put-number)
     → Placed (said c).put-bytes.result (number (begin (said c)).args.value) (said c).put-bytes.new.0 c.put-number.new.0 c.put-number.result
-valued c = placed-as number _ _ _ _ (number-of-bits _ (begin (said c)).ranges.value) c.put-number.ensures
+valued c = placed_as number _ _ _ _ (number_of_bits _ (begin (said c)).ranges.value) c.put-number.ensures
 
 value_room : (c : tie.After-put-number) → c.put-number.result + 7 ≤ length c.put-number.new.0
-value_room c = placed-room 10 7 _ _ _ _ _ (valued c) (nine-digits (begin (said c))) (word_room (said c))
+value_room c = placed_room 10 7 _ _ _ _ _ (valued c) (nine-digits (begin (said c))) (word_room (said c))
 
 -- ── a blank ──
 abbrev told : tie.After-put-bytes2 → tie.After-put-number
@@ -47,7 +47,7 @@ blank : (c : tie.After-put-bytes2)
 blank c = c.put-bytes2.ensures
 
 blank-room : (c : tie.After-put-bytes2) → c.put-bytes2.result + 6 ≤ length c.put-bytes2.new.0
-blank-room c = placed-room 1 6 _ _ _ _ _ (blank c) (omega arith) (value_room (told c))
+blank-room c = placed_room 1 6 _ _ _ _ _ (blank c) (omega arith) (value_room (told c))
 
 -- ── the size ──
 abbrev parted : tie.After-short → tie.After-put-bytes2
@@ -57,7 +57,7 @@ abbrev begun : tie.After-short → tie.Start
 begun c = begin (said (told (parted c)))
 
 five-digits : (c : tie.After-short) → length (decimal c.short.result) ≤ 5
-five-digits c = decimal-length 4 c.short.result (omega (arith, c.short.ensures.1))
+five-digits c = decimal_length 4 c.short.result (omega (arith, c.short.ensures.1))
 
 size-digits : (c : tie.After-short) → length (decimal (begun c).args.size) ≤ 5
 size-digits c = subst (λ n. length (decimal n) ≤ 5) c.short.ensures.0 (five-digits c)
@@ -68,10 +68,10 @@ measured c = parted c.before
 sized : (c : tie.After-put-decimal)
     → Placed (measured c).put-bytes2.result (decimal (begun c.before).args.size) (measured c).put-bytes2.new.0
     c.put-decimal.new.0 c.put-decimal.result
-sized c = placed-as decimal _ _ _ _ c.before.short.ensures.0 c.put-decimal.ensures
+sized c = placed_as decimal _ _ _ _ c.before.short.ensures.0 c.put-decimal.ensures
 
 size_room : (c : tie.After-put-decimal) → c.put-decimal.result + 1 ≤ length c.put-decimal.new.0
-size_room c = placed-room 5 1 _ _ _ _ _ (sized c) (size-digits c.before) (blank-room (measured c))
+size_room c = placed_room 5 1 _ _ _ _ _ (sized c) (size-digits c.before) (blank-room (measured c))
 
 -- ── a line feed ──
 abbrev counted : tie.After-put-bytes3 → tie.After-put-decimal
@@ -85,7 +85,7 @@ put-number-requires : tie.Need-put-number-requires
 put-number-requires c κs =
     let b = c.before.before.before in
     let s = begin b in
-    omega (arith, subst (λ x. length (number x) ≤ 10) (sym (number-of-bits _ s.fits.value)) (nine-digits s), word_room b)
+    omega (arith, subst (λ x. length (number x) ≤ 10) (sym (number_of_bits _ s.fits.value)) (nine-digits s), word_room b)
 
 put-bytes-requires-2 : tie.Need-put-bytes-requires-2
 put-bytes-requires-2 c κs = omega (arith, value_room c.before.before.before.before)
@@ -97,7 +97,7 @@ put-bytes-requires-3 : tie.Need-put-bytes-requires-3
 put-bytes-requires-3 c κs = size_room c.before.before.before.before
 
 returns : tie.Need-returns
-unfolding cannotLine
+unfolding cannot_line
 returns c =
     let last = c.before.before in
     let d = counted last in
@@ -105,9 +105,9 @@ returns c =
     let n = told p in
     let s = begin (said n) in
     let five = size-digits d.before in
-    let rest = three-placed _ _ _ _ _ _ _ _ _ _ _ (blank p) (sized d) last.put-bytes3.ensures (omega (arith, five, value_room n)) in
+    let rest = three_placed _ _ _ _ _ _ _ _ _ _ _ (blank p) (sized d) last.put-bytes3.ensures (omega (arith, five, value_room n)) in
     let more = length-append (decimal s.args.size) (10 ∷ []) in
-    three-placed _ _ _ _ _ _ _ _ _ _ _ (word (said n)) (valued n) rest (omega (arith, nine-digits s, five, more, s.pre.0))
+    three_placed _ _ _ _ _ _ _ _ _ _ _ (word (said n)) (valued n) rest (omega (arith, nine-digits s, five, more, s.pre.0))
 
 pub put-cannot-line-spec : {M : Type 1} → statement M
 put-cannot-line-spec =

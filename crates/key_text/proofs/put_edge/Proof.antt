@@ -5,12 +5,12 @@ use Prim.Native.Nat.{◌≤◌, ◌+◌}
 use native.Mathlib.Omega.{arith}
 use lib.ListN.{length}
 use borrow.Author.Rules.{rules}
-use Rattle.signed.proofs.Laws.{number-of-bits}
+use Rattle.signed.proofs.Laws.{number_of_bits}
 use Rattle.texts.specs.Decimal.{decimal, number}
 use Rattle.texts.specs.inner.Placed.{Placed}
-use Rattle.texts.proofs.Length.{decimal-length, number-length}
-use Rattle.texts.proofs.Joined.{placed-room, four-placed, placed-as}
-use Rattle.key_text.specs.Text.{edgeLine}
+use Rattle.texts.proofs.Length.{decimal_length, number_length}
+use Rattle.texts.proofs.Joined.{placed_room, four_placed, placed_as}
+use Rattle.key_text.specs.Text.{edge_line}
 use Rattle.key_text.proofs.put_edge.Statement.{statement}
 use Rattle.key_text.proofs.put_edge.Tie as tie
 
@@ -20,13 +20,13 @@ begin c = c.before.before.before.before
 
 edge : (c : tie.After-put-decimal)
     → Placed (begin c).args.at (decimal (begin c).args.e) (begin c).args.text.now c.put-decimal.new.0 c.put-decimal.result
-edge c = placed-as decimal _ _ _ _ c.before.index.ensures c.put-decimal.ensures
+edge c = placed_as decimal _ _ _ _ c.before.index.ensures c.put-decimal.ensures
 
 three-digits : (c : tie.Start) → length (decimal c.args.e) ≤ 3
-three-digits c = decimal-length 2 c.args.e (omega (arith, c.requires.1))
+three-digits c = decimal_length 2 c.args.e (omega (arith, c.requires.1))
 
 edge-room : (c : tie.After-put-decimal) → c.put-decimal.result + 10 ≤ length c.put-decimal.new.0
-edge-room c = placed-room 3 10 _ _ _ _ _ (edge c) (three-digits (begin c)) (begin c).requires.0
+edge-room c = placed_room 3 10 _ _ _ _ _ (edge c) (three-digits (begin c)) (begin c).requires.0
 
 -- ── a blank ──
 abbrev named : tie.After-put-bytes → tie.After-put-decimal
@@ -37,7 +37,7 @@ blank : (c : tie.After-put-bytes)
 blank c = c.put-bytes.ensures
 
 blank-room : (c : tie.After-put-bytes) → c.put-bytes.result + 9 ≤ length c.put-bytes.new.0
-blank-room c = placed-room 1 9 _ _ _ _ _ (blank c) (omega arith) (edge-room (named c))
+blank-room c = placed_room 1 9 _ _ _ _ _ (blank c) (omega arith) (edge-room (named c))
 
 -- ── the flow ──
 abbrev parted : tie.After-put-number → tie.After-put-bytes
@@ -48,13 +48,13 @@ begun c = begin (named (parted c))
 
 flow : (c : tie.After-put-number)
     → Placed (parted c).put-bytes.result (number (begun c).args.flow) (parted c).put-bytes.new.0 c.put-number.new.0 c.put-number.result
-flow c = placed-as number _ _ _ _ (number-of-bits _ (begun c).ranges.flow) c.put-number.ensures
+flow c = placed_as number _ _ _ _ (number_of_bits _ (begun c).ranges.flow) c.put-number.ensures
 
 seven-digits : (c : tie.Start) → length (number c.args.flow) ≤ 8
-seven-digits c = number-length 6 1000000 c.args.flow (omega arith) c.requires.2
+seven-digits c = number_length 6 1000000 c.args.flow (omega arith) c.requires.2
 
 flow-room : (c : tie.After-put-number) → c.put-number.result + 1 ≤ length c.put-number.new.0
-flow-room c = placed-room 8 1 _ _ _ _ _ (flow c) (seven-digits (begun c)) (blank-room (parted c))
+flow-room c = placed_room 8 1 _ _ _ _ _ (flow c) (seven-digits (begun c)) (blank-room (parted c))
 
 -- ── a line feed ──
 abbrev valued : tie.After-put-bytes2 → tie.After-put-number
@@ -73,18 +73,18 @@ put-number-requires : tie.Need-put-number-requires
 put-number-requires c κs =
     let b = c.before.before.before in
     let s = begin (named b) in
-    omega (arith, subst (λ x. length (number x) ≤ 8) (sym (number-of-bits _ s.fits.flow)) (seven-digits s), blank-room b)
+    omega (arith, subst (λ x. length (number x) ≤ 8) (sym (number_of_bits _ s.fits.flow)) (seven-digits s), blank-room b)
 
 put-bytes-requires-2 : tie.Need-put-bytes-requires-2
 put-bytes-requires-2 c κs = flow-room c.before.before.before.before
 
 returns : tie.Need-returns
-unfolding edgeLine
+unfolding edge_line
 returns c =
     let last = c.before.before in
     let f = valued last in
     let s = begun f in
-    four-placed _ _ _ _ _ _ _ _ _ _ _ _ _ _ (edge (named (parted f))) (blank (parted f)) (flow f) last.put-bytes2.ensures
+    four_placed _ _ _ _ _ _ _ _ _ _ _ _ _ _ (edge (named (parted f))) (blank (parted f)) (flow f) last.put-bytes2.ensures
     (omega (arith, three-digits s, seven-digits s, s.pre.0))
 
 pub put-edge-spec : {M : Type 1} → statement M

@@ -10,18 +10,18 @@ use borrow.Author.Rules.{rules}
 use Rattle.integers.specs.inner.Limited.{Limited}
 use mir.Syntax.{w32}
 use mir.Val.{to_z, of_z}
-use Rattle.signed.proofs.Laws.{number-of-bits}
+use Rattle.signed.proofs.Laws.{number_of_bits}
 use Rattle.arrays.specs.At.{atℤ}
 use Rattle.texts.specs.inner.Placed.{Placed}
 use Rattle.texts.specs.Lines.{lines}
-use Rattle.texts.proofs.Joined.{placed-none, placed-length, lines_more, lines-length, placed-as}
-use Rattle.key_text.specs.Text.{edgeLine}
-use Rattle.key_text.proofs.Length.{edge-line-length}
+use Rattle.texts.proofs.Joined.{placed_none, placed_length, lines_more, lines_length, placed_as}
+use Rattle.key_text.specs.Text.{edge_line}
+use Rattle.key_text.proofs.Length.{edge_line_length}
 use Rattle.key_text.proofs.put_edges.Statement.{statement}
 use Rattle.key_text.proofs.put_edges.Tie as tie
 
 abbrev line : List ℤ → ℕ → List ℕ
-line flows e = edgeLine e (atℤ flows e)
+line flows e = edge_line e (atℤ flows e)
 
 abbrev invariant-loop : tie.invariant-loop
 invariant-loop text₀ at edges flows end₀ e₀ text end e = (e ≤ edges) × Placed at (lines e (line flows)) text₀ text end
@@ -38,13 +38,13 @@ line_at c = line (started c).args.flows.now
 
 -- ── a line is at most 13 bytes, and the lines so far keep within the room ──
 short-line : (c : tie.At-loop invariant-loop decreases-loop) (i : ℕ) → i < (started c).args.edges → length (line_at c i) ≤ 13
-short-line c i l = let s = started c in edge-line-length i (atℤ s.args.flows.now i) (omega (arith, s.pre.1)) (s.pre.2 i l)
+short-line c i l = let s = started c in edge_line_length i (atℤ s.args.flows.now i) (omega (arith, s.pre.1)) (s.pre.2 i l)
 
 so_far : (c : tie.At-loop invariant-loop decreases-loop) → length (lines c.loop.e (line_at c)) ≤ 13 * c.loop.e
-so_far c = lines-length 13 c.loop.e (line_at c) (λ i l. short-line c i (omega (arith, c.loop.invariant.0)))
+so_far c = lines_length 13 c.loop.e (line_at c) (λ i l. short-line c i (omega (arith, c.loop.invariant.0)))
 
 length-now : (c : tie.At-loop invariant-loop decreases-loop) → length c.loop.text ≡ length (started c).args.text.now
-length-now c = placed-length _ _ _ _ _ c.loop.invariant.1 (omega (arith, c.loop.invariant.1.1, so_far c, (started c).requires.0, c.loop.invariant.0))
+length-now c = placed_length _ _ _ _ _ c.loop.invariant.1 (omega (arith, c.loop.invariant.1.1, so_far c, (started c).requires.0, c.loop.invariant.0))
 
 -- ── the flow that is handed on is the one that the array has ──
 abbrev turn : tie.After-put-edge-arg2 invariant-loop decreases-loop → tie.In-loop invariant-loop decreases-loop
@@ -53,19 +53,19 @@ turn c = c.before.before
 handed : (c : tie.After-put-edge-arg2 invariant-loop decreases-loop)
     → to_z w32 (of_z w32 (atℤ (started (turn c).before).args.flows.now (turn c).before.loop.e))
     ≡ atℤ (started (turn c).before).args.flows.now (turn c).before.loop.e
-handed c = number-of-bits _ (record { sfits = c.put-edge-arg2.given })
+handed c = number_of_bits _ (record { sfits = c.put-edge-arg2.given })
 
 abbrev loop-of : tie.After-put-edge invariant-loop decreases-loop → tie.At-loop invariant-loop decreases-loop
 loop-of c = (turn c.before).before
 
 written : (c : tie.After-put-edge invariant-loop decreases-loop)
     → Placed (loop-of c).loop.end (line_at (loop-of c) (loop-of c).loop.e) (loop-of c).loop.text c.put-edge.new.0 c.put-edge.result
-written c = placed-as (edgeLine (loop-of c).loop.e) _ _ _ _ (handed c.before) c.put-edge.ensures
+written c = placed_as (edge_line (loop-of c).loop.e) _ _ _ _ (handed c.before) c.put-edge.ensures
 
 -- ── the needs, in the order of the code ──
 loop-holds : tie.Need-loop-init invariant-loop decreases-loop
 unfolding lines
-loop-holds c = (omega arith, placed-none _ _)
+loop-holds c = (omega arith, placed_none _ _)
 
 put-edge-requires : tie.Need-put-edge-requires invariant-loop decreases-loop
 put-edge-requires c κs =
@@ -95,7 +95,7 @@ same_length c = length-now c.before
 returns : tie.Need-returns invariant-loop decreases-loop
 returns c =
     let o = c.before in
-    placed-as (λ k. lines k (line_at o)) _ _ _ _ (le_antisymm o.loop.invariant.0 c.loop-test.false) o.loop.invariant.1
+    placed_as (λ k. lines k (line_at o)) _ _ _ _ (le_antisymm o.loop.invariant.0 c.loop-test.false) o.loop.invariant.1
 
 pub put-edges-spec : {M : Type 1} → statement M
 put-edges-spec =

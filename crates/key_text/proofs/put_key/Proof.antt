@@ -4,14 +4,14 @@ use Prim.Native.Nat.{◌≤◌}
 use native.Mathlib.Omega.{arith}
 use lib.ListN.{length}
 use borrow.Author.Rules.{rules}
-use Rattle.signed.proofs.Laws.{number-of-bits}
+use Rattle.signed.proofs.Laws.{number_of_bits}
 use Rattle.refusals.specs.Order.{NoneOf, Judged}
 use Rattle.refusals.specs.declared.Verdict.{Verdict}
 use Rattle.refusals.specs.declared.Verdict.TheVariants.{Passed, Refused}
-use Rattle.records.specs.Record.{recordChecks}
-use Rattle.key_text.proofs.Length.{refused-text-length}
+use Rattle.records.specs.Record.{record_checks}
+use Rattle.key_text.proofs.Length.{refused_text_length}
 use Rattle.key_text.proofs.Pieces.{rest}
-use Rattle.key_text.proofs.Answering.{question-whole, question-refused}
+use Rattle.key_text.proofs.Answering.{question_whole, question_refused}
 use Rattle.key_text.proofs.put_key.Statement.{statement}
 use Rattle.key_text.proofs.put_key.Tie as tie
 
@@ -19,18 +19,18 @@ use Rattle.key_text.proofs.put_key.Tie as tie
 abbrev begin : tie.After-check-record → tie.Start
 begin c = c.before.before.before
 
-judged : (c : tie.After-check-record) (v : Verdict) → c.check-record.result ≡ v → Judged (recordChecks (begin c).args.input.now 3 0) v
+judged : (c : tie.After-check-record) (v : Verdict) → c.check-record.result ≡ v → Judged (record_checks (begin c).args.input.now 3 0) v
 judged c v e = rw e at c.check-record.ensures
 
 -- ── the question is whole ──
 abbrev asked : tie.After-enum-told → tie.After-check-record
 asked c = c.before.before
 
-passed : (c : tie.After-enum-told) → NoneOf (recordChecks (begin (asked c)).args.input.now 3 0)
+passed : (c : tie.After-enum-told) → NoneOf (record_checks (begin (asked c)).args.input.now 3 0)
 passed c = judged (asked c) Passed c.enum_told.given.1
 
 whole : (c : tie.After-enum-told) → 9 ≤ length (begin (asked c)).args.input.now
-whole c = question-whole (begin (asked c)).args.input.now (passed c)
+whole c = question_whole (begin (asked c)).args.input.now (passed c)
 
 -- ── the needs, in the order of the code ──
 returns : tie.Need-returns
@@ -38,8 +38,8 @@ returns c =
     let p = c.before.before in
     let w = p.before.before.before in
     let s = begin w.before.before in
-    let fits = refused-text-length _ p.before.before.known-told.given.0.1 in
-    question-refused s.args.input.now s.args.text.now p.Put-refused.new.0 p.Put-refused.result _ _
+    let fits = refused_text_length _ p.before.before.known-told.given.0.1 in
+    question_refused s.args.input.now s.args.text.now p.Put-refused.new.0 p.Put-refused.result _ _
     (judged w.before.before (Refused _ _) w.whole.given.1)
     p.Put-refused.ensures
     (omega (arith, fits, s.pre))
@@ -69,7 +69,7 @@ returns-2 c =
     let t = source.before in
     let b = (begin (asked t)).args.input.now in
     p.put-answer.ensures b (passed t) (rest b _ r.record-length.ensures.0) (sym source.read-u16.ensures) (sym sink.read-u162.ensures)
-    (sym (number-of-bits _ (record { sfits = value.read-i32.type-inv }) ∙ value.read-i32.ensures))
+    (sym (number_of_bits _ (record { sfits = value.read-i32.type-inv }) ∙ value.read-i32.ensures))
 
 pub put-key-spec : {M : Type 1} → statement M
 put-key-spec =

@@ -6,9 +6,9 @@ use lib.ListN.{length}
 use borrow.Author.Rules.{rules}
 use Rattle.texts.specs.Decimal.{decimal}
 use Rattle.texts.specs.inner.Placed.{Placed}
-use Rattle.texts.proofs.Length.{decimal-length}
-use Rattle.texts.proofs.Joined.{placed-none, placed-room, placed-then, placed-as}
-use Rattle.key_text.proofs.Pieces.{in-set, not-in-set}
+use Rattle.texts.proofs.Length.{decimal_length}
+use Rattle.texts.proofs.Joined.{placed_none, placed_room, placed_then, placed_as}
+use Rattle.key_text.proofs.Pieces.{in-set, not_in_set}
 use Rattle.key_text.proofs.put_node.Statement.{statement}
 use Rattle.key_text.proofs.put_node.Tie as tie
 
@@ -17,7 +17,7 @@ abbrev begin : tie.After-contains → tie.Start
 begin c = c.before.before.before
 
 three-digits : (c : tie.Start) → length (decimal c.args.v) ≤ 3
-three-digits c = decimal-length 2 c.args.v (omega (arith, c.requires.1))
+three-digits c = decimal_length 2 c.args.v (omega (arith, c.requires.1))
 
 abbrev asked : tie.After-put-decimal → tie.After-contains
 asked c = c.before.before.before.before
@@ -27,10 +27,10 @@ start c = begin (asked c)
 
 numbered : (c : tie.After-put-decimal)
     → Placed (start c).args.at (decimal (start c).args.v) (start c).args.text.now c.put-decimal.new.0 c.put-decimal.result
-numbered c = placed-as decimal _ _ _ _ c.before.index.ensures c.put-decimal.ensures
+numbered c = placed_as decimal _ _ _ _ c.before.index.ensures c.put-decimal.ensures
 
 number-room : (c : tie.After-put-decimal) → c.put-decimal.result + 1 ≤ length c.put-decimal.new.0
-number-room c = placed-room 3 1 _ _ _ _ _ (numbered c) (three-digits (start c)) (start c).requires.0
+number-room c = placed_room 3 1 _ _ _ _ _ (numbered c) (three-digits (start c)) (start c).requires.0
 
 abbrev counted : tie.After-put-bytes → tie.After-put-decimal
 counted c = c.before.before.before.before.before
@@ -52,16 +52,16 @@ returns c =
     let last = c.before.before in
     let d = counted last in
     let s = start d in
-    placed-as (λ t. t) _ _ _ _
+    placed_as (λ t. t) _ _ _ _
     (in-set s.args.set.now s.args.v (sym (asked d).contains.ensures ∙ d.before.before.before.if1.taken))
-    (placed-then _ _ _ _ _ _ _ _ (numbered d) last.put-bytes.ensures (omega (arith, three-digits s, s.pre.0)))
+    (placed_then _ _ _ _ _ _ _ _ (numbered d) last.put-bytes.ensures (omega (arith, three-digits s, s.pre.0)))
 
 returns-2 : tie.Need-returns-2
 returns-2 c =
     let s = begin c.before in
-    placed-as (λ t. t) _ _ _ _
-    (not-in-set s.args.set.now s.args.v (sym c.before.contains.ensures ∙ c.if1.false))
-    (placed-none s.args.at s.args.text.now)
+    placed_as (λ t. t) _ _ _ _
+    (not_in_set s.args.set.now s.args.v (sym c.before.contains.ensures ∙ c.if1.false))
+    (placed_none s.args.at s.args.text.now)
 
 pub put-node-spec : {M : Type 1} → statement M
 put-node-spec =

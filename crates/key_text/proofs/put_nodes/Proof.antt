@@ -7,14 +7,14 @@ use lib.ListN.{length}
 use borrow.Author.Rules.{rules}
 use Rattle.texts.specs.inner.Placed.{Placed}
 use Rattle.texts.specs.Lines.{lines}
-use Rattle.texts.proofs.Joined.{placed-none, placed-length, lines_more, lines-length, placed-as}
-use Rattle.key_text.specs.Text.{nodeLine}
-use Rattle.key_text.proofs.Length.{node-line-length}
+use Rattle.texts.proofs.Joined.{placed_none, placed_length, lines_more, lines_length, placed_as}
+use Rattle.key_text.specs.Text.{node_line}
+use Rattle.key_text.proofs.Length.{node_line_length}
 use Rattle.key_text.proofs.put_nodes.Statement.{statement}
 use Rattle.key_text.proofs.put_nodes.Tie as tie
 
 abbrev invariant-loop : tie.invariant-loop
-invariant-loop text₀ at nodes set end₀ v₀ text end v = (v ≤ nodes) × Placed at (lines v (nodeLine set)) text₀ text end
+invariant-loop text₀ at nodes set end₀ v₀ text end v = (v ≤ nodes) × Placed at (lines v (node_line set)) text₀ text end
 
 abbrev decreases-loop : tie.decreases-loop
 decreases-loop text₀ at nodes set end₀ v₀ text end v = nodes - v
@@ -23,13 +23,13 @@ decreases-loop text₀ at nodes set end₀ v₀ text end v = nodes - v
 abbrev started : tie.At-loop invariant-loop decreases-loop → tie.Start invariant-loop decreases-loop
 started c = c.before.before
 
-so_far : (c : tie.At-loop invariant-loop decreases-loop) → length (lines c.loop.v (nodeLine (started c).args.set.now)) ≤ 4 * c.loop.v
+so_far : (c : tie.At-loop invariant-loop decreases-loop) → length (lines c.loop.v (node_line (started c).args.set.now)) ≤ 4 * c.loop.v
 so_far c =
     let set = (started c).args.set.now in
-    lines-length 4 c.loop.v (nodeLine set) (λ i g. node-line-length set i (omega (arith, (started c).requires.1, c.loop.invariant.0)))
+    lines_length 4 c.loop.v (node_line set) (λ i g. node_line_length set i (omega (arith, (started c).requires.1, c.loop.invariant.0)))
 
 length-now : (c : tie.At-loop invariant-loop decreases-loop) → length c.loop.text ≡ length (started c).args.text.now
-length-now c = placed-length _ _ _ _ _ c.loop.invariant.1 (omega (arith, c.loop.invariant.1.1, so_far c, (started c).requires.0, c.loop.invariant.0))
+length-now c = placed_length _ _ _ _ _ c.loop.invariant.1 (omega (arith, c.loop.invariant.1.1, so_far c, (started c).requires.0, c.loop.invariant.0))
 
 abbrev turn : tie.After-put-node invariant-loop decreases-loop → tie.In-loop invariant-loop decreases-loop
 turn c = c.before.before
@@ -37,7 +37,7 @@ turn c = c.before.before
 -- ── the needs, in the order of the code ──
 loop-holds : tie.Need-loop-init invariant-loop decreases-loop
 unfolding lines
-loop-holds c = (omega arith, placed-none _ _)
+loop-holds c = (omega arith, placed_none _ _)
 
 put-node-requires : tie.Need-put-node-requires invariant-loop decreases-loop
 put-node-requires c κs =
@@ -54,8 +54,8 @@ loop-again c =
     let s = started a in
     let t = (turn w).loop-test.true in (
       omega arith,
-      lines_more _ _ _ a.loop.v (nodeLine s.args.set.now) _ _ _ a.loop.inv.1 w.put-node.ensures
-          (omega (arith, so_far a, node-line-length s.args.set.now a.loop.v (omega (arith, s.pre.1, t)), s.pre.0, t)),
+      lines_more _ _ _ a.loop.v (node_line s.args.set.now) _ _ _ a.loop.inv.1 w.put-node.ensures
+          (omega (arith, so_far a, node_line_length s.args.set.now a.loop.v (omega (arith, s.pre.1, t)), s.pre.0, t)),
     )
 
 same_length : tie.Need-same-length invariant-loop decreases-loop
@@ -65,7 +65,7 @@ returns : tie.Need-returns invariant-loop decreases-loop
 returns c =
     let o = c.before in
     let set = (started o).args.set.now in
-    placed-as (λ k. lines k (nodeLine set)) _ _ _ _ (le_antisymm o.loop.invariant.0 c.loop-test.false) o.loop.invariant.1
+    placed_as (λ k. lines k (node_line set)) _ _ _ _ (le_antisymm o.loop.invariant.0 c.loop-test.false) o.loop.invariant.1
 
 pub put-nodes-spec : {M : Type 1} → statement M
 put-nodes-spec = tie.close (tie.spec invariant-loop decreases-loop loop-holds put-node-requires (λ c. search rules) (λ c. search rules) loop-again same_length returns)

@@ -6,9 +6,9 @@ use lib.ListN.{length}
 use borrow.Author.Rules.{rules}
 use Rattle.texts.specs.Decimal.{decimal}
 use Rattle.texts.specs.inner.Placed.{Placed}
-use Rattle.texts.proofs.Length.{decimal-length}
-use Rattle.texts.proofs.Joined.{placed-room, three-placed, placed-as}
-use Rattle.key_text.specs.Text.{refusedWord, refusedText}
+use Rattle.texts.proofs.Length.{decimal_length}
+use Rattle.texts.proofs.Joined.{placed_room, three_placed, placed_as}
+use Rattle.key_text.specs.Text.{refused_word, refused_text}
 use Rattle.key_text.proofs.put_refused.Statement.{statement}
 use Rattle.key_text.proofs.put_refused.Tie as tie
 
@@ -16,18 +16,18 @@ use Rattle.key_text.proofs.put_refused.Tie as tie
 abbrev begin : tie.After-put-bytes → tie.Start
 begin c = c.before.before.before.before
 
-word : (c : tie.After-put-bytes) → Placed 0 refusedWord (begin c).args.text.now c.put-bytes.new.0 c.put-bytes.result
+word : (c : tie.After-put-bytes) → Placed 0 refused_word (begin c).args.text.now c.put-bytes.new.0 c.put-bytes.result
 word c = c.put-bytes.ensures
 
 word_room : (c : tie.After-put-bytes) → c.put-bytes.result + 4 ≤ length c.put-bytes.new.0
-word_room c = placed-room 8 4 _ _ _ _ _ (word c) (omega arith) (begin c).requires
+word_room c = placed_room 8 4 _ _ _ _ _ (word c) (omega arith) (begin c).requires
 
 -- ── the number ──
 abbrev said : tie.After-byte → tie.After-put-bytes
 said c = c.before.before.before.before
 
 three-digits : (c : tie.After-byte) → length (decimal c.byte.result) ≤ 3
-three-digits c = decimal-length 2 c.byte.result (omega (arith, c.byte.ensures.1))
+three-digits c = decimal_length 2 c.byte.result (omega (arith, c.byte.ensures.1))
 
 abbrev worded : tie.After-put-decimal → tie.After-put-bytes
 worded c = said c.before
@@ -35,13 +35,13 @@ worded c = said c.before
 numbered : (c : tie.After-put-decimal)
     → Placed (worded c).put-bytes.result (decimal (begin (worded c)).args.k) (worded c).put-bytes.new.0
     c.put-decimal.new.0 c.put-decimal.result
-numbered c = placed-as decimal _ _ _ _ c.before.byte.ensures.0 c.put-decimal.ensures
+numbered c = placed_as decimal _ _ _ _ c.before.byte.ensures.0 c.put-decimal.ensures
 
 few-digits : (c : tie.After-byte) → length (decimal (begin (said c)).args.k) ≤ 3
 few-digits c = subst (λ n. length (decimal n) ≤ 3) c.byte.ensures.0 (three-digits c)
 
 number-room : (c : tie.After-put-decimal) → c.put-decimal.result + 1 ≤ length c.put-decimal.new.0
-number-room c = placed-room 3 1 _ _ _ _ _ (numbered c) (few-digits c.before) (word_room (worded c))
+number-room c = placed_room 3 1 _ _ _ _ _ (numbered c) (few-digits c.before) (word_room (worded c))
 
 -- ── a line feed ──
 abbrev counted : tie.After-put-bytes2 → tie.After-put-decimal
@@ -58,11 +58,11 @@ put-bytes-requires-2 : tie.Need-put-bytes-requires-2
 put-bytes-requires-2 c κs = number-room c.before.before.before.before
 
 returns : tie.Need-returns
-unfolding refusedText
+unfolding refused_text
 returns c =
     let last = c.before.before in
     let d = counted last in
-    three-placed _ _ _ _ _ _ _ _ _ _ _ (word (worded d)) (numbered d) last.put-bytes2.ensures (omega (arith, few-digits d.before, (begin (worded d)).requires))
+    three_placed _ _ _ _ _ _ _ _ _ _ _ (word (worded d)) (numbered d) last.put-bytes2.ensures (omega (arith, few-digits d.before, (begin (worded d)).requires))
 
 pub put-refused-spec : {M : Type 1} → statement M
 put-refused-spec =

@@ -2,21 +2,21 @@
 use Rattle.std.specs.Prelude.{ℕ, ◌≡◌, List, take}
 use Rattle.refusals.specs.Order.{NoneOf}
 use Rattle.flows.specs.ProvingSet.{Proves, SetOf, member, size}
-use Rattle.records.specs.Sheet.{nodesOf, capacityOf, sheetMap, sheetDrawing}
+use Rattle.records.specs.Sheet.{nodes_of, capacity_of, sheet_map, sheet_drawing}
 use Rattle.questions.specs.inner.Named.{NamedSet}
-use Rattle.key_text.specs.Question.{source_of, sinkOf, value_of, sheetOf, keyChecks}
-use Rattle.key_text.specs.Text.{cannotText}
+use Rattle.key_text.specs.Question.{source_of, sink_of, value_of, sheet_of, key_checks}
+use Rattle.key_text.specs.Text.{cannot_text}
 use Rattle.key_text.specs.declared.KeyAnswer.{KeyAnswer}
 use Rattle.key_text.specs.declared.KeyAnswer.TheVariants.{Bytes, Refused}
 
 -- where the bytes are not refused and some set proves the delivery impossible, t is the text of the set that the search names
 abbrev pub NamedText : (b t : List ℕ) → Type 0
 NamedText b t =
-    NoneOf (keyChecks b)
-    → (some : List ℕ) → Proves (sheetMap (sheetOf b)) (capacityOf (sheetOf b)) (source_of b) (sinkOf b) (value_of b) (member some)
-    → (words : List ℕ) × SetOf (nodesOf (sheetOf b)) words
-    × NamedSet (sheetDrawing (sheetOf b)) (source_of b) (sinkOf b) (value_of b) words
-    × (t ≡ cannotText (value_of b) (size words) (nodesOf (sheetOf b)) words)
+    NoneOf (key_checks b)
+    → (some : List ℕ) → Proves (sheet_map (sheet_of b)) (capacity_of (sheet_of b)) (source_of b) (sink_of b) (value_of b) (member some)
+    → (words : List ℕ) × SetOf (nodes_of (sheet_of b)) words
+    × NamedSet (sheet_drawing (sheet_of b)) (source_of b) (sink_of b) (value_of b) words
+    × (t ≡ cannot_text (value_of b) (size words) (nodes_of (sheet_of b)) words)
 
 -- the first n bytes are such a text
 abbrev pub KeyNamed : (b text' : List ℕ) → ℕ → Type 0

@@ -10,13 +10,13 @@ use Rattle.arrays.specs.At.{at, atℤ}
 use Rattle.traversal.proofs.Spreading.{place}
 use Rattle.lengths.proofs.Climbing.{
   Climbing,
-  climbing-start,
-  climbing-end,
-  origin-in,
+  climbing_start,
+  climbing_end,
+  origin_in,
   nearer,
-  climbing-turned,
+  climbing_turned,
   edge_fresh,
-  climbing-carried,
+  climbing_carried,
   by_bits,
   from_bits,
 }
@@ -38,7 +38,7 @@ element-copy-out-wide : tie.Need-element-copy-out-wide invariant-loop decreases-
 element-copy-out-wide c = omega (arith, c.requires.1.below, c.requires.1.few)
 
 loop-holds : tie.Need-loop-init invariant-loop decreases-loop
-loop-holds c = let p = c.before.before.requires in (p.0, c.wide.ensures, climbing-start (by_bits p.1))
+loop-holds c = let p = c.before.before.requires in (p.0, c.wide.ensures, climbing_start (by_bits p.1))
 
 -- ── one step up ──
 abbrev begun : tie.At-loop invariant-loop decreases-loop → tie.Start invariant-loop decreases-loop
@@ -48,7 +48,7 @@ step_in : (c : tie.In-loop invariant-loop decreases-loop) → c.before.loop.p < 
 step_in c =
     let ok = by_bits (begun c.before).pre.1 in
     let o = c.before.loop in
-    omega (arith, origin-in ok o.invariant.2 o.invariant.1 c.loop-test.true, ok.few)
+    omega (arith, origin_in ok o.invariant.2 o.invariant.1 c.loop-test.true, ok.few)
 
 step_less : (c : tie.In-loop invariant-loop decreases-loop)
     → place (at (begun c.before).args.order.now) (begun c.before).args.darts c.before.loop.p
@@ -92,7 +92,7 @@ loop-again c =
     let e = c.carry.ensures in (
       e.0,
       w.wide2.ensures,
-      climbing-carried ok o.inv.2 o.inv.1 i.loop-test.taken (t.if1.true ∙ t.before.reverse.ensures.0) e.1,
+      climbing_carried ok o.inv.2 o.inv.1 i.loop-test.taken (t.if1.true ∙ t.before.reverse.ensures.0) e.1,
     )
 
 loop-less-2 : tie.Need-loop-smaller-2 invariant-loop decreases-loop
@@ -106,14 +106,14 @@ loop-again-2 c =
     let ok = by_bits (begun i.before).pre.1 in (
       o.inv.0,
       w.wide2.ensures,
-      climbing-turned ok o.inv.2 o.inv.1 i.loop-test.taken (λ e. c.if1.false (e ∙ sym c.before.reverse.ensures.0)),
+      climbing_turned ok o.inv.2 o.inv.1 i.loop-test.taken (λ e. c.if1.false (e ∙ sym c.before.reverse.ensures.0)),
     )
 
 returns : tie.Need-returns invariant-loop decreases-loop
 returns c =
     let o = c.before.loop in
     let p = (begun c.before).pre in
-    (o.invariant.0, from_bits p.1.small (climbing-end (by_bits p.1) o.invariant.2 o.invariant.1 c.loop-test.false))
+    (o.invariant.0, from_bits p.1.small (climbing_end (by_bits p.1) o.invariant.2 o.invariant.1 c.loop-test.false))
 
 pub climb-spec : {M : Type 1} → statement M
 climb-spec =

@@ -9,7 +9,7 @@ use borrow.Author.Count.{below_more}
 use borrow.Author.Rules.{read_below, rules}
 use mir.Syntax.{w32}
 use mir.Val.{to_z, of_z}
-use Rattle.signed.proofs.Laws.{number-of-bits}
+use Rattle.signed.proofs.Laws.{number_of_bits}
 use Rattle.arrays.specs.At.{atℤ}
 use Rattle.lengths.proofs.copy_capacities.Statement.{statement}
 use Rattle.lengths.proofs.copy_capacities.Tie as tie
@@ -33,7 +33,7 @@ loop-again c =
       o.invariant.1,
       length-set o.lengths o.d v ∙ o.invariant.2,
       below_more (λ k. atℤ (set o.lengths o.d v) k ≡ atℤ t k) o.d (λ k l. read_below _ o.lengths o.d k v (pos 0) (atℤ t k) l (o.invariant.3 k l))
-          (get_or-set_same o.lengths o.d v (pos 0) (omega (arith, o.invariant.2)) ∙ number-of-bits (atℤ t o.d) (record { sfits = c.lengths.given })),
+          (get_or-set_same o.lengths o.d v (pos 0) (omega (arith, o.invariant.2)) ∙ number_of_bits (atℤ t o.d) (record { sfits = c.lengths.given })),
     )
 
 returns : tie.Need-returns invariant-loop decreases-loop

@@ -3,8 +3,8 @@ use mathlib.Core.Path.{◌≡◌, ◌∙◌}
 use lib.IntN.{pos, ◌-ℤ◌}
 use mir.Syntax.{w32}
 use mir.Val.{to_z, of_z}
-use Rattle.signed.proofs.Laws.{number-of-bits}
-use Rattle.lengths.proofs.Filling.{fill-by-bits, fill-from-bits, turn-fits, down-climbable, up-climbable, both-filled}
+use Rattle.signed.proofs.Laws.{number_of_bits}
+use Rattle.lengths.proofs.Filling.{fill_by_bits, fill_from_bits, turn_fits, down_climbable, up_climbable, both_filled}
 use Rattle.lengths.proofs.fill_lengths.Statement.{statement}
 use Rattle.lengths.proofs.fill_lengths.Tie as tie
 
@@ -18,24 +18,24 @@ climb-requires : tie.Need-climb-requires
 climb-requires c κs =
     let w = c.before in
     let e = w.copy-capacities.ensures in
-    (e.0, down-climbable (fill-by-bits (begun w).requires.1) e.1)
+    (e.0, down_climbable (fill_by_bits (begun w).requires.1) e.1)
 
 abbrev copied : tie.After-climb → tie.After-copy-capacities
 copied c = c.before.before
 
 minus-requires : tie.Need-minus-requires
-minus-requires c κs = turn-fits (fill-by-bits (begun (copied c)).requires.1).small
+minus-requires c κs = turn_fits (fill_by_bits (begun (copied c)).requires.1).small
 
 turned : (c : tie.After-minus)
     → to_z w32 (of_z w32 c.minus.result) ≡ pos 0 -ℤ to_z w32 (of_z w32 (begun (copied c.before)).args.value)
-turned c = number-of-bits _ (record { sfits = c.minus.type-inv }) ∙ c.minus.ensures
+turned c = number_of_bits _ (record { sfits = c.minus.type-inv }) ∙ c.minus.ensures
 
 climb-requires-2 : tie.Need-climb-requires-2
 climb-requires-2 c κs =
     let m = c.before in
     let d = m.before in
     let w = copied d in
-    (d.climb.ensures.0, up-climbable (fill-by-bits (begun w).pre.1) w.copy-capacities.ensures.1 d.climb.ensures.1 (turned m))
+    (d.climb.ensures.0, up_climbable (fill_by_bits (begun w).pre.1) w.copy-capacities.ensures.1 d.climb.ensures.1 (turned m))
 
 returns : tie.Need-returns
 returns c =
@@ -44,7 +44,7 @@ returns c =
     let w = copied d in
     let p = (begun w).pre.1 in
     let e = c.climb2.ensures in
-    (e.0, fill-from-bits p.small (both-filled (fill-by-bits p) w.copy-capacities.ensures.1 d.climb.ensures.1 (turned m) e.1))
+    (e.0, fill_from_bits p.small (both_filled (fill_by_bits p) w.copy-capacities.ensures.1 d.climb.ensures.1 (turned m) e.1))
 
 pub fill-lengths-spec : {M : Type 1} → statement M
 fill-lengths-spec =

@@ -9,14 +9,14 @@ use Rattle.maps.specs.Map.{Map, darts}
 use Rattle.maps.specs.Check.{Sound}
 use Rattle.maps.specs.Flow.{Antisymmetric}
 use Rattle.maps.specs.Walk.{Walk}
-use Rattle.flows.specs.inner.UnitFlow.{UnitFlow, single, walkFlow}
-use Rattle.flows.specs.inner.Lengths.{lengthFor}
+use Rattle.flows.specs.inner.UnitFlow.{UnitFlow, single, walk_flow}
+use Rattle.flows.specs.inner.Lengths.{length_for}
 use Rattle.traversal.specs.inner.Forest.{Forest}
-use Rattle.arrays.specs.inner.Sizes.{mostCapacity, mostValue, mostLength}
+use Rattle.arrays.specs.inner.Sizes.{most_capacity, most_value, most_length}
 
 -- `order` and `from` are what a walk over all n darts of the map left
 pub record Treed (𝓜 : Map) (n : ℕ) (order from : ℕ → ℕ) : Type 0 where
-  pub all-darts : darts 𝓜 ≡ n
+  pub all_darts : darts 𝓜 ≡ n
   pub sound : Sound 𝓜
   pub first : ℕ
   pub trees : ℕ
@@ -52,8 +52,8 @@ pub record Climbable (n x : ℕ) (order from : ℕ → ℕ) (length : ℕ → �
   pub map : Map
   pub treed : Treed map n order from
   pub below : x < n
-  pub short : (d : ℕ) → d < n → Limited mostLength (length d)
-  pub small : Limited mostValue value
+  pub short : (d : ℕ) → d < n → Limited most_length (length d)
+  pub small : Limited most_value value
 
 -- `top` is the first dart of the tree of x; in every such map, the value was taken along one walk from the node of `top` to the node of x
 pub record Climbed (n x : ℕ) (order from : ℕ → ℕ) (value : ℤ) (length length' : ℕ → ℤ) (top : ℕ) : Type 0 where
@@ -62,28 +62,28 @@ pub record Climbed (n x : ℕ) (order from : ℕ → ℕ) (value : ℤ) (length 
   pub flow : ℕ → ℤ
   pub once : (d : ℕ) → Once from d (flow d)
   pub lengths : (d : ℕ) → d < n → length' d ≡ length d -ℤ value *ℤ flow d
-  pub along : (𝓜 : Map) → Treed 𝓜 n order from → (w : Walk 𝓜 (𝓜.tail top) (𝓜.tail x)) × ((d : ℕ) → walkFlow w d ≡ flow d)
+  pub along : (𝓜 : Map) → Treed 𝓜 n order from → (w : Walk 𝓜 (𝓜.tail top) (𝓜.tail x)) × ((d : ℕ) → walk_flow w d ≡ flow d)
   pub steps : ℕ
   pub stops : Top from x steps
-  pub top-is : top ≡ iter from steps x
-  pub flow-is : (d : ℕ) → flow d ≡ taken from steps x d
+  pub top_is : top ≡ iter from steps x
+  pub flow_is : (d : ℕ) → flow d ≡ taken from steps x d
 
 -- ── both ──
 pub record Fillable (n start finish : ℕ) (order from : ℕ → ℕ) (capacity : ℕ → ℤ) (value : ℤ) : Type 0 where
   pub few : n ≤ 1024
   pub map : Map
   pub treed : Treed map n order from
-  pub start-in : start < n
-  pub finish-in : finish < n
-  pub capacities : (d : ℕ) → d < n → Limited mostCapacity (capacity d)
-  pub small : Limited mostValue value
+  pub start_in : start < n
+  pub finish_in : finish < n
+  pub capacities : (d : ℕ) → d < n → Limited most_capacity (capacity d)
+  pub small : Limited most_value value
 
 -- in every such map: where start and finish are in one tree, the lengths are those of the value along a unit flow from the node of the one to the node of the
 -- other; where they are in two, no walk joins their nodes
 pub record Filled (n start finish : ℕ) (order from : ℕ → ℕ) (capacity : ℕ → ℤ) (value : ℤ) (length : ℕ → ℤ) (joined : Bool) : Type 0 where
   pub flow : ℕ → ℤ
-  pub lengths : (d : ℕ) → d < n → length d ≡ lengthFor capacity flow value d
-  pub limited : (d : ℕ) → d < n → Limited mostLength (length d)
+  pub lengths : (d : ℕ) → d < n → length d ≡ length_for capacity flow value d
+  pub limited : (d : ℕ) → d < n → Limited most_length (length d)
   pub against : (𝓜 : Map) → Treed 𝓜 n order from → Antisymmetric 𝓜 flow
   pub unit : joined ≡ true → (𝓜 : Map) → Treed 𝓜 n order from → UnitFlow 𝓜 (𝓜.tail start) (𝓜.tail finish) flow
   pub apart : joined ≡ false → (𝓜 : Map) → Treed 𝓜 n order from → Walk 𝓜 (𝓜.tail start) (𝓜.tail finish) → ⊥

@@ -3,12 +3,12 @@ use Prim.Native.Nat.{ℕ, ◌*◌, ◌≤◌, ◌<◌, ◌-◌, ◌+◌}
 use native.Mathlib.Omega.{arith}
 use borrow.Author.Count.{below_more}
 use borrow.Author.Rules.{rules}
-use Rattle.signed.proofs.Laws.{number-of-bits}
+use Rattle.signed.proofs.Laws.{number_of_bits}
 use Rattle.refusals.specs.Order.{Decides}
-use Rattle.refusals.proofs.Order.{said-yes, said-no}
-use Rattle.flows.specs.Check.{Exceeds, withinChecks}
+use Rattle.refusals.proofs.Order.{said_yes, said_no}
+use Rattle.flows.specs.Check.{Exceeds, within_checks}
 use Rattle.arrays.specs.At.{at, atℤ}
-use Rattle.balance.proofs.Lowest.{lowest, none-holds}
+use Rattle.balance.proofs.Lowest.{lowest, none_holds}
 use Rattle.balance.proofs.exceeds.Reads as exceeds-reads
 use Rattle.levels.specs.inner.Across.{across}
 use Rattle.levels.proofs.check_differences.Lts as lts
@@ -56,31 +56,31 @@ judged-here c =
     let e = c.before.before.before.before.before.loop.e in
     let drop = c.before.before.before.drop-across in
     rw (
-      number-of-bits (capacity (2 * e)) (record { sfits = c.before.before.exceeds-arg.given }),
-      number-of-bits (capacity (2 * e + 1)) (record { sfits = c.before.exceeds-arg2.given }),
-      number-of-bits drop.result (record { sfits = drop.type-inv }),
+      number_of_bits (capacity (2 * e)) (record { sfits = c.before.before.exceeds-arg.given }),
+      number_of_bits (capacity (2 * e + 1)) (record { sfits = c.before.exceeds-arg2.given }),
+      number_of_bits drop.result (record { sfits = drop.type-inv }),
       drop.ensures,
     ) at c.exceeds.ensures
 
 returns : tie.Need-returns invariant-loop decreases-loop
-unfolding withinChecks
+unfolding within_checks
 returns c =
     let s = c.before.before.before.before.before.before.before.before in
     let o = c.before.before.before.before.before.before.before.loop in
     lowest s.args.edges 17 (Exceeds (atℤ s.args.capacities.now) (across (at s.args.lefts.now) (atℤ s.args.levels.now)))
     o.e c.narrow.result (omega arith) o.invariant.1
-    (said-yes (judged-here c.before.before) c.before.if1.true) c.narrow.ensures
+    (said_yes (judged-here c.before.before) c.before.if1.true) c.narrow.ensures
 
 loop-again : tie.Need-loop-preserved invariant-loop decreases-loop
 loop-again c =
     let o = c.before.before.before.before.before.before.loop in
-    (omega arith, below_more _ o.e o.invariant.1 (said-no (judged-here c.before) c.if1.false))
+    (omega arith, below_more _ o.e o.invariant.1 (said_no (judged-here c.before) c.if1.false))
 
 returns-2 : tie.Need-returns-2 invariant-loop decreases-loop
-unfolding withinChecks
+unfolding within_checks
 returns-2 c =
     let s = c.before.before in
-    none-holds s.args.edges 17 (Exceeds (atℤ s.args.capacities.now) (across (at s.args.lefts.now) (atℤ s.args.levels.now)))
+    none_holds s.args.edges 17 (Exceeds (atℤ s.args.capacities.now) (across (at s.args.lefts.now) (atℤ s.args.levels.now)))
     (λ k l. c.before.loop.invariant.1 k (omega arith))
 
 pub check-differences-spec : {M : Type 1} → statement M

@@ -6,14 +6,14 @@ use Prim.Native.Nat.{ℕ, ◌≤◌, ◌<◌, ◌-◌}
 use native.Mathlib.Omega.{arith}
 use borrow.Author.Count.{below_more}
 use borrow.Author.Rules.{rules}
-use Rattle.signed.proofs.Laws.{number-of-bits}
+use Rattle.signed.proofs.Laws.{number_of_bits}
 use Rattle.refusals.specs.Order.{Decides}
-use Rattle.refusals.proofs.Order.{said-yes, said-no}
+use Rattle.refusals.proofs.Order.{said_yes, said_no}
 use Rattle.arrays.specs.At.{at, atℤ}
 use Rattle.levels.specs.inner.Across.{OneOf}
-use Rattle.balance.proofs.Tests.{bits-not-zero, bits-zero}
+use Rattle.balance.proofs.Tests.{bits_not_zero, bits_zero}
 use Rattle.levels.specs.Level.{LevelOutside}
-use Rattle.levels.proofs.Level.{levels-outside, levels-off, levels-none}
+use Rattle.levels.proofs.Level.{levels_outside, levels_off, levels_none}
 use Rattle.levels.proofs.check_levels.Statement.{statement}
 use Rattle.levels.proofs.check_levels.Tie as tie
 
@@ -35,17 +35,17 @@ loop-holds c = (omega arith, λ k l. absurd (omega arith))
 -- the test of face f, on the number in the slice
 judged-here : (c : tie.After-level-outside invariant-loop decreases-loop invariant-loop2 decreases-loop2)
     → Decides (LevelOutside (atℤ c.before.before.before.before.args.levels.now c.before.before.before.loop.f)) c.level-outside.result
-judged-here c = rw (number-of-bits _ (record { sfits = c.before.level-outside-arg.given })) at c.level-outside.ensures
+judged-here c = rw (number_of_bits _ (record { sfits = c.before.level-outside-arg.given })) at c.level-outside.ensures
 
 returns : tie.Need-returns invariant-loop decreases-loop invariant-loop2 decreases-loop2
 returns c =
     let o = c.before.before.before.before.loop in
-    levels-outside _ _ _ o.f (omega arith) (said-yes (judged-here c.before) c.if1.true)
+    levels_outside _ _ _ o.f (omega arith) (said_yes (judged-here c.before) c.if1.true)
 
 loop-again : tie.Need-loop-preserved invariant-loop decreases-loop invariant-loop2 decreases-loop2
 loop-again c =
     let o = c.before.before.before.before.loop in
-    (omega arith, below_more _ o.f o.invariant.1 (said-no (judged-here c.before) c.if1.false))
+    (omega arith, below_more _ o.f o.invariant.1 (said_no (judged-here c.before) c.if1.false))
 
 -- ── the roots ──
 loop2-holds : tie.Need-loop2-init invariant-loop decreases-loop invariant-loop2 decreases-loop2
@@ -83,8 +83,8 @@ returns-2 c =
     let w = c.before.before in
     let t = turn w in
     let a = (begun t.before).args in
-    levels-off a.faces (OneOf (at a.roots.now) a.count) (atℤ a.levels.now) (all-inside t.before)
-    w.wide.result (t.before.loop2.m, t.loop2-test.taken, sym w.wide.ensures) (bits-not-zero _ c.if2.true)
+    levels_off a.faces (OneOf (at a.roots.now) a.count) (atℤ a.levels.now) (all-inside t.before)
+    w.wide.result (t.before.loop2.m, t.loop2-test.taken, sym w.wide.ensures) (bits_not_zero _ c.if2.true)
 
 add-m : tie.Need-overflow-add-m invariant-loop decreases-loop invariant-loop2 decreases-loop2
 add-m c = let t = turn c.before.before in omega (arith, (begun t.before).pre.0, t.loop2-test.taken)
@@ -99,14 +99,14 @@ loop2-again c =
     let o = t.before.loop2 in (
       omega (arith, t.loop2-test.taken),
       below_more _ o.m o.inv.1
-          (ap (atℤ (begun t.before).args.levels.now) (sym w.wide.ensures) ∙ bits-zero _ (record { sfits = c.before.if22.given }) c.if2.false),
+          (ap (atℤ (begun t.before).args.levels.now) (sym w.wide.ensures) ∙ bits_zero _ (record { sfits = c.before.if22.given }) c.if2.false),
     )
 
 returns-3 : tie.Need-returns-3 invariant-loop decreases-loop invariant-loop2 decreases-loop2
 returns-3 c =
     let l = c.before in
     let a = (begun l).args in
-    levels-none a.faces (OneOf (at a.roots.now) a.count) (atℤ a.levels.now) (all-inside l)
+    levels_none a.faces (OneOf (at a.roots.now) a.count) (atℤ a.levels.now) (all-inside l)
     (λ f r. ap (atℤ a.levels.now) (sym r.2) ∙ l.loop2.invariant.1 r.0 (omega (arith, r.1, c.loop2-test.false)))
 
 pub check-levels-spec : {M : Type 1} → statement M

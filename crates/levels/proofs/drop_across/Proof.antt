@@ -2,10 +2,10 @@
 use mathlib.Core.Path.{sym, ◌∙◌, ap, ap₂}
 use lib.IntN.{◌-ℤ◌}
 use borrow.Author.Rules.{rules}
-use Rattle.signed.proofs.Laws.{number-of-bits}
-use Rattle.maps.proofs.Darts.{rev-even}
+use Rattle.signed.proofs.Laws.{number_of_bits}
+use Rattle.maps.proofs.Darts.{rev_even}
 use Rattle.arrays.specs.At.{at, atℤ}
-use Rattle.levels.proofs.Level.{difference-fits}
+use Rattle.levels.proofs.Level.{difference_fits}
 use Rattle.levels.proofs.drop_across.Statement.{statement}
 use Rattle.levels.proofs.drop_across.Tie as tie
 
@@ -14,23 +14,23 @@ minus-requires c κs =
     let s = c.before.before.before.before.before.before in
     let ρ = atℤ s.args.levels.now in
     rw (
-      number-of-bits (ρ c.before.before.before.before.wide.result) (record { sfits = c.before.minus-arg.given }),
-      number-of-bits (ρ c.before.before.wide2.result) (record { sfits = c.minus-arg2.given }),
+      number_of_bits (ρ c.before.before.before.before.wide.result) (record { sfits = c.before.minus-arg.given }),
+      number_of_bits (ρ c.before.before.wide2.result) (record { sfits = c.minus-arg2.given }),
       c.before.before.before.before.wide.ensures,
       c.before.before.wide2.ensures,
-    ) (difference-fits _ _ s.requires.1.inside s.requires.2.inside)
+    ) (difference_fits _ _ s.requires.1.inside s.requires.2.inside)
 
 returns : tie.Need-returns
 returns c =
     let s = c.before.before.before.before.before.before.before in
     let ρ = atℤ s.args.levels.now in
     let lefts = at s.args.lefts.now in
-    number-of-bits _ (record { sfits = c.minus.type-inv })
+    number_of_bits _ (record { sfits = c.minus.type-inv })
     ∙ c.minus.ensures
     ∙ ap₂ ◌-ℤ◌
-    (number-of-bits _ (record { sfits = c.before.before.minus-arg.given }) ∙ ap ρ c.before.before.before.before.before.wide.ensures)
-    (number-of-bits _ (record { sfits = c.before.minus-arg2.given })
-    ∙ ap ρ (c.before.before.before.wide2.ensures ∙ ap lefts (sym (rev-even s.args.e))))
+    (number_of_bits _ (record { sfits = c.before.before.minus-arg.given }) ∙ ap ρ c.before.before.before.before.before.wide.ensures)
+    (number_of_bits _ (record { sfits = c.before.minus-arg2.given })
+    ∙ ap ρ (c.before.before.before.wide2.ensures ∙ ap lefts (sym (rev_even s.args.e))))
 
 pub drop-across-spec : {M : Type 1} → statement M
 drop-across-spec =

@@ -5,10 +5,10 @@ use Prim.Native.Nat.{◌*◌, ◌≤◌, ◌-◌, ◌+◌}
 use native.Mathlib.Omega.{arith}
 use lib.ListN.{drop}
 use borrow.Author.Rules.{rules}
-use Rattle.signed.proofs.Laws.{number-of-bits}
+use Rattle.signed.proofs.Laws.{number_of_bits}
 use Rattle.arrays.specs.At.{at, atℤ}
 use Rattle.arrays.specs.Filled.{tabulate}
-use Rattle.arrays.proofs.FillLoops.{copy_start, copy_step, filled-length}
+use Rattle.arrays.proofs.FillLoops.{copy_start, copy_step, filled_length}
 use Rattle.levels.specs.inner.Across.{across}
 use Rattle.levels.proofs.fill_differences.Statement.{statement}
 use Rattle.levels.proofs.fill_differences.Tie as tie
@@ -29,15 +29,15 @@ drop-across-requires c κs =
     (omega (arith, s.requires.0), s.requires.2 (2 * o.e) (omega arith), s.requires.2 (2 * o.e + 1) (omega arith))
 
 slice-set-from-flows : tie.Need-slice-set-from-flows invariant-loop decreases-loop
-slice-set-from-flows c = omega (arith, filled-length _ _ _ _ c.before.before.loop.invariant.1 (omega arith))
+slice-set-from-flows c = omega (arith, filled_length _ _ _ _ c.before.before.loop.invariant.1 (omega arith))
 
 loop-again : tie.Need-loop-preserved invariant-loop decreases-loop
 loop-again c =
     let o = c.before.before.loop in
-    (omega arith, copy_step _ o.e _ _ _ o.invariant.1 (omega arith) (number-of-bits _ (record { sfits = c.drop-across.type-inv }) ∙ c.drop-across.ensures))
+    (omega arith, copy_step _ o.e _ _ _ o.invariant.1 (omega arith) (number_of_bits _ (record { sfits = c.drop-across.type-inv }) ∙ c.drop-across.ensures))
 
 same_length : tie.Need-same-length invariant-loop decreases-loop
-same_length c = filled-length _ _ _ _ c.before.loop.invariant.1 (omega arith)
+same_length c = filled_length _ _ _ _ c.before.loop.invariant.1 (omega arith)
 
 returns : tie.Need-returns invariant-loop decreases-loop
 returns c =

@@ -9,8 +9,8 @@ use lib.Seq.{get_or-set_same}
 use borrow.Author.Rules.{rules}
 use Rattle.arrays.specs.At.{at, atℤ}
 use Rattle.levels.specs.inner.Laying.{Kept}
-use Rattle.levels.proofs.FillingLevels.{Filling, dart-in, origin-in, face-in, filling-start}
-use Rattle.levels.proofs.FillingLevels.{new-fits, kept-stored, filling-stored, filling-rooted, filled}
+use Rattle.levels.proofs.FillingLevels.{Filling, dart_in, origin_in, face_in, filling_start}
+use Rattle.levels.proofs.FillingLevels.{new_fits, kept_stored, filling_stored, filling_rooted, filled}
 use Rattle.levels.proofs.fill_levels.Statement.{statement}
 use Rattle.levels.proofs.fill_levels.Tie as tie
 
@@ -25,17 +25,17 @@ decreases-loop lefts order from darts flows levels₀ start root i₀ levels i =
 abbrev begun : tie.After-wide invariant-loop decreases-loop → tie.Start invariant-loop decreases-loop
 begun c = c.before.before
 
-first-in : (c : tie.After-wide invariant-loop decreases-loop) → c.wide.result < (begun c).args.darts
-first-in c = let p = (begun c).requires in dart-in p p.some c.wide.ensures
+first_in : (c : tie.After-wide invariant-loop decreases-loop) → c.wide.result < (begun c).args.darts
+first_in c = let p = (begun c).requires in dart_in p p.some c.wide.ensures
 
 root_in : (c : tie.After-wide2 invariant-loop decreases-loop) → c.wide2.result < length (begun c.before.before).args.levels.now
-root_in c = let w = c.before.before in face-in (begun w).requires (first-in w) c.wide2.ensures
+root_in c = let w = c.before.before in face_in (begun w).requires (first_in w) c.wide2.ensures
 
 mul_wide : tie.Need-overflow-mul-wide invariant-loop decreases-loop
-mul_wide c = omega (arith, (begun c).requires.few, first-in c)
+mul_wide c = omega (arith, (begun c).requires.few, first_in c)
 
 element-copy-out-wide-2 : tie.Need-element-copy-out-wide-2 invariant-loop decreases-loop
-element-copy-out-wide-2 c = omega (arith, (begun c).requires.few, first-in c)
+element-copy-out-wide-2 c = omega (arith, (begun c).requires.few, first_in c)
 
 mul-levels : tie.Need-overflow-mul-levels invariant-loop decreases-loop
 mul-levels c = omega (arith, root_in c)
@@ -51,7 +51,7 @@ loop-holds c =
     let root = c.wide2.result in
     let same : at a.lefts.now (at a.order.now 0) ≡ root = ap (at a.lefts.now) (sym w.wide.ensures) ∙ sym c.wide2.ensures in (
       refl,
-      filling-start p.some p.crossing.first-own
+      filling_start p.some p.crossing.first_own
           (ap (atℤ (set a.levels.now root (pos 0))) same ∙ get_or-set_same a.levels.now root (pos 0) (pos 0) (root_in c)),
       λ f n. refl,
     )
@@ -74,7 +74,7 @@ abbrev turn : tie.After-wide3 invariant-loop decreases-loop → tie.In-loop inva
 turn c = c.before.before
 
 dart-below : (c : tie.After-wide3 invariant-loop decreases-loop) → c.wide3.result < (start (turn c).before).args.darts
-dart-below c = dart-in (start (turn c).before).pre (turn c).loop-test.true c.wide3.ensures
+dart-below c = dart_in (start (turn c).before).pre (turn c).loop-test.true c.wide3.ensures
 
 mul-wide-2 : tie.Need-overflow-mul-wide-2 invariant-loop decreases-loop
 mul-wide-2 c = omega (arith, (start c.before).pre.few, c.loop-test.true)
@@ -98,7 +98,7 @@ met c = c.before.before
 origin-below : (c : tie.After-wide4 invariant-loop decreases-loop) → c.wide4.result < (start (turn (met c)).before).args.darts
 origin-below c =
     let t = turn (met c) in
-    origin-in (start t.before).pre t.loop-test.taken (met c).wide3.ensures c.wide4.ensures
+    origin_in (start t.before).pre t.loop-test.taken (met c).wide3.ensures c.wide4.ensures
 
 mul-wide-4 : tie.Need-overflow-mul-wide-4 invariant-loop decreases-loop
 mul-wide-4 c = let d = met c in omega (arith, (start (turn d).before).pre.few, dart-below d)
@@ -113,14 +113,14 @@ origin c = c.before.before
 abbrev looped : tie.After-wide5 invariant-loop decreases-loop → tie.At-loop invariant-loop decreases-loop
 looped c = (turn (met (origin c))).before
 
-across-in : (c : tie.After-wide5 invariant-loop decreases-loop) → c.wide5.result < length (given (looped c))
-across-in c = face-in (start (looped c)).pre (dart-below (met (origin c))) c.wide5.ensures
+across_in : (c : tie.After-wide5 invariant-loop decreases-loop) → c.wide5.result < length (given (looped c))
+across_in c = face_in (start (looped c)).pre (dart-below (met (origin c))) c.wide5.ensures
 
 mul-levels-2 : tie.Need-overflow-mul-levels-2 invariant-loop decreases-loop
-mul-levels-2 c = let a = c.before in let s = start (looped a) in omega (arith, across-in a)
+mul-levels-2 c = let a = c.before in let s = start (looped a) in omega (arith, across_in a)
 
 slice-set-of-levels-2 : tie.Need-slice-set-of-levels-2 invariant-loop decreases-loop
-slice-set-of-levels-2 c = let a = c.before in omega (arith, across-in a, long (looped a))
+slice-set-of-levels-2 c = let a = c.before in omega (arith, across_in a, long (looped a))
 
 loop-less : tie.Need-loop-smaller invariant-loop decreases-loop
 loop-less c = omega (arith, (turn (met (origin c.before))).loop-test.taken)
@@ -135,8 +135,8 @@ loop-again c =
     let o = l.loop in
     let p = (start l).pre in (
       length-set o.levels a.wide5.result (pos 0) ∙ o.inv.0,
-      filling-rooted p o.levels o.inv.1 t.loop-test.taken d.wide3.ensures f.wide4.ensures c.if1.true (long l) a.wide5.ensures,
-      kept-stored (rooted l) o.levels (pos 0) (dart-below d) a.wide5.ensures o.inv.2,
+      filling_rooted p o.levels o.inv.1 t.loop-test.taken d.wide3.ensures f.wide4.ensures c.if1.true (long l) a.wide5.ensures,
+      kept_stored (rooted l) o.levels (pos 0) (dart-below d) a.wide5.ensures o.inv.2,
     )
 
 -- ── met from p: the level left of p is known ──
@@ -144,7 +144,7 @@ abbrev faced : tie.After-wide6 invariant-loop decreases-loop → tie.After-wide5
 faced c = c.before.before.before
 
 known_in : (c : tie.After-wide6 invariant-loop decreases-loop) → c.wide6.result < length (given (looped (faced c)))
-known_in c = face-in (start (looped (faced c))).pre (origin-below (origin (faced c))) c.wide6.ensures
+known_in c = face_in (start (looped (faced c))).pre (origin-below (origin (faced c))) c.wide6.ensures
 
 mul-wide-5 : tie.Need-overflow-mul-wide-5 invariant-loop decreases-loop
 mul-wide-5 c = let f = origin c.before in omega (arith, (start (looped c.before)).pre.few, origin-below f)
@@ -174,17 +174,17 @@ minus-requires c κs =
     let d = met f in
     let o = (looped a).loop in
     let flow = w.dart-flow.ensures in
-    new-fits (start (looped a)).pre o.levels o.inv.1 (turn d).loop-test.taken d.wide3.ensures f.wide4.ensures k.wide6.ensures
+    new_fits (start (looped a)).pre o.levels o.inv.1 (turn d).loop-test.taken d.wide3.ensures f.wide4.ensures k.wide6.ensures
     flow.0 flow.1 k.before.before.if1.false
 
 abbrev flowed : tie.After-minus invariant-loop decreases-loop → tie.After-dart-flow invariant-loop decreases-loop
 flowed c = c.before.before
 
 mul-t40 : tie.Need-overflow-mul-t40 invariant-loop decreases-loop
-mul-t40 c = let a = faced (flowed c).before in let s = start (looped a) in omega (arith, across-in a)
+mul-t40 c = let a = faced (flowed c).before in let s = start (looped a) in omega (arith, across_in a)
 
 slice-set-from-levels : tie.Need-slice-set-from-levels invariant-loop decreases-loop
-slice-set-from-levels c = let a = faced (flowed c).before in omega (arith, long (looped a), across-in a)
+slice-set-from-levels c = let a = faced (flowed c).before in omega (arith, long (looped a), across_in a)
 
 loop-less-2 : tie.Need-loop-smaller-2 invariant-loop decreases-loop
 loop-less-2 c = omega (arith, (turn (met (origin (faced (flowed c).before)))).loop-test.taken)
@@ -200,9 +200,9 @@ loop-again-2 c =
     let o = l.loop in
     let flow = w.dart-flow.ensures in (
       length-set o.levels a.wide5.result _ ∙ o.inv.0,
-      filling-stored (start l).pre o.levels o.inv.1 (turn d).loop-test.taken d.wide3.ensures f.wide4.ensures k.wide6.ensures
+      filling_stored (start l).pre o.levels o.inv.1 (turn d).loop-test.taken d.wide3.ensures f.wide4.ensures k.wide6.ensures
           flow.0 flow.1 k.before.before.if1.left (long l) a.wide5.ensures c.minus.ensures,
-      kept-stored (rooted l) o.levels _ (dart-below d) a.wide5.ensures o.inv.2,
+      kept_stored (rooted l) o.levels _ (dart-below d) a.wide5.ensures o.inv.2,
     )
 
 same_length : tie.Need-same-length invariant-loop decreases-loop
@@ -214,8 +214,8 @@ returns c =
     let o = l.loop in
     let p = (start l).requires in
     let w = l.before.before.before in
-    let at-root = kept-stored (given l) (given l) (pos 0) (first-in w) l.before.wide2.ensures (λ f n. refl) in
-    record { as_long = long l; filled = filled p.crossing o.invariant.1 c.loop-test.false; kept = λ f n. o.invariant.2 f n ∙ at-root f n }
+    let at_root = kept_stored (given l) (given l) (pos 0) (first_in w) l.before.wide2.ensures (λ f n. refl) in
+    record { as_long = long l; filled = filled p.crossing o.invariant.1 c.loop-test.false; kept = λ f n. o.invariant.2 f n ∙ at_root f n }
 
 pub fill-levels-spec : {M : Type 1} → statement M
 fill-levels-spec =

@@ -12,23 +12,23 @@ use Rattle.refusals.specs.declared.Verdict.{Verdict}
 use Rattle.refusals.specs.declared.Verdict.TheVariants.{Passed, Refused}
 use Rattle.maps.specs.Drawing.{Drawing}
 use Rattle.maps.specs.Face.{faces}
-use Rattle.flows.specs.Check.{withinChecks, balanceChecks, NoNode}
+use Rattle.flows.specs.Check.{within_checks, balance_checks, NoNode}
 use Rattle.arrays.specs.At.{atℤ}
-use Rattle.arrays.specs.Maps.{drawingOf}
+use Rattle.arrays.specs.Maps.{drawing_of}
 use Rattle.arrays.specs.Filled.{filled}
 use Rattle.balance.specs.inner.SmallFlows.{SmallFlows}
-use Rattle.balance.proofs.Parts.{part_length, part_filled, part-flows, part-within, part-balance}
-use Rattle.levels.proofs.Given.{balanced-short, balanced-within, balanced-balance, balanced-none}
-use Rattle.levels.proofs.LevelsFound.{tails-small, settings-small, levels-agree, levelable, found, in_place}
+use Rattle.balance.proofs.Parts.{part_length, part_filled, part_flows, part_within, part_balance}
+use Rattle.levels.proofs.Given.{balanced_short, balanced_within, balanced_balance, balanced_none}
+use Rattle.levels.proofs.LevelsFound.{tails_small, settings_small, levels_agree, levelable, found, in_place}
 use Rattle.levels.proofs.levels_of.Statement.{statement}
 use Rattle.levels.proofs.levels_of.Tie as tie
 
 -- ── what is given ──
 abbrev drawing : tie.Start → Drawing
-drawing s = drawingOf s.args.nodes s.args.edges s.args.outer s.args.tails.now s.args.rotations.now s.args.capacities.now
+drawing s = drawing_of s.args.nodes s.args.edges s.args.outer s.args.tails.now s.args.rotations.now s.args.capacities.now
 
-abbrev flowsOf : tie.Start → List ℤ
-flowsOf s = s.args.flows.now
+abbrev flows_of : tie.Start → List ℤ
+flows_of s = s.args.flows.now
 
 abbrev levelsOf : tie.Start → List ℤ
 levelsOf s = s.args.levels.now
@@ -37,7 +37,7 @@ levelsOf s = s.args.levels.now
 abbrev given : tie.Else2 → tie.Start
 given c = c.before.before
 
-room-edges : (c : tie.Else2) → (drawing (given c)).map.edges ≤ length (flowsOf (given c))
+room-edges : (c : tie.Else2) → (drawing (given c)).map.edges ≤ length (flows_of (given c))
 room-edges c = omega (arith, c.before.if1.false)
 
 room-faces : (c : tie.Else2) → faces (drawing (given c)).map ≤ length (levelsOf (given c))
@@ -45,13 +45,13 @@ room-faces c = omega (arith, c.if2.false, (given c).requires.0.counted)
 
 -- ── the parts lent ──
 abbrev lentFlows : tie.Start → List ℤ
-lentFlows s = take (s.args.edges - 0) (flowsOf s)
+lentFlows s = take (s.args.edges - 0) (flows_of s)
 
 abbrev lentLevels : tie.Start → List ℤ
 lentLevels s = take (s.args.faces - 0) (levelsOf s)
 
 lent-edges : (c : tie.Else2) → length (lentFlows (given c)) ≡ (drawing (given c)).map.edges
-lent-edges c = part_length (given c).args.edges (flowsOf (given c)) (room-edges c)
+lent-edges c = part_length (given c).args.edges (flows_of (given c)) (room-edges c)
 
 lent-faces : (c : tie.Else2) → length (lentLevels (given c)) ≡ faces (drawing (given c)).map
 lent-faces c = let s = given c in part_length s.args.faces (levelsOf s) c.if2.false ∙ s.pre.0.counted
@@ -61,33 +61,33 @@ abbrev roomy : tie.After-enum-told → tie.Else2
 roomy c = c.before.before.before.before
 
 within-lent : (c : tie.After-enum-told)
-    → NoneOf (withinChecks (drawing (given (roomy c))).map.edges (drawing (given (roomy c))).capacity (atℤ (lentFlows (given (roomy c)))))
+    → NoneOf (within_checks (drawing (given (roomy c))).map.edges (drawing (given (roomy c))).capacity (atℤ (lentFlows (given (roomy c)))))
 within-lent c = rw c.enum_told.given.1 at c.before.before.check-within.ensures
 
 within : (c : tie.After-enum-told)
-    → NoneOf (withinChecks (drawing (given (roomy c))).map.edges (drawing (given (roomy c))).capacity (atℤ (flowsOf (given (roomy c)))))
-within c = let s = given (roomy c) in part-within (drawing s).map (flowsOf s) (drawing s).capacity Passed (within-lent c)
+    → NoneOf (within_checks (drawing (given (roomy c))).map.edges (drawing (given (roomy c))).capacity (atℤ (flows_of (given (roomy c)))))
+within c = let s = given (roomy c) in part_within (drawing s).map (flows_of s) (drawing s).capacity Passed (within-lent c)
 
 small : (c : tie.After-enum-told) → SmallFlows (drawing (given (roomy c))).map.edges (atℤ (lentFlows (given (roomy c))))
-small c = let s = given (roomy c) in settings-small s.pre.0 s.pre.1 (atℤ (lentFlows s)) (within-lent c)
+small c = let s = given (roomy c) in settings_small s.pre.0 s.pre.1 (atℤ (lentFlows s)) (within-lent c)
 
 -- ── 18 did not refuse ──
 abbrev limited : tie.After-check-all-balanced → tie.After-enum-told
 limited c = c.before
 
 judged-lent : (c : tie.After-check-all-balanced) (v : Verdict) → c.check-all-balanced.result ≡ v
-    → Judged (balanceChecks (drawing (given (roomy (limited c)))).map NoNode (atℤ (lentFlows (given (roomy (limited c)))))) v
+    → Judged (balance_checks (drawing (given (roomy (limited c)))).map NoNode (atℤ (lentFlows (given (roomy (limited c)))))) v
 judged-lent c v e = (rw e at c.check-all-balanced.ensures) (drawing (given (roomy (limited c)))).map.rotation
 
 judged : (c : tie.After-check-all-balanced) (v : Verdict) → c.check-all-balanced.result ≡ v
-    → Judged (balanceChecks (drawing (given (roomy (limited c)))).map NoNode (atℤ (flowsOf (given (roomy (limited c)))))) v
-judged c v e = let s = given (roomy (limited c)) in part-balance (drawing s).map (flowsOf s) NoNode v (judged-lent c v e)
+    → Judged (balance_checks (drawing (given (roomy (limited c)))).map NoNode (atℤ (flows_of (given (roomy (limited c)))))) v
+judged c v e = let s = given (roomy (limited c)) in part_balance (drawing s).map (flows_of s) NoNode v (judged-lent c v e)
 
 abbrev asked : tie.After-enum-told2 → tie.After-check-all-balanced
 asked c = c.before.before
 
 balanced : (c : tie.After-enum-told2)
-    → NoneOf (balanceChecks (drawing (given (roomy (limited (asked c))))).map NoNode (atℤ (flowsOf (given (roomy (limited (asked c)))))))
+    → NoneOf (balance_checks (drawing (given (roomy (limited (asked c))))).map NoNode (atℤ (flows_of (given (roomy (limited (asked c)))))))
 balanced c = judged (asked c) Passed c.enum-told2.given.1
 
 -- the faces that the code counts are those of the map
@@ -97,23 +97,23 @@ written_back {n} m l x y e h =
 
 -- ── the needs, in the order of the code ──
 returns : tie.Need-returns
-returns c = let s = c.before in (balanced-short (drawing s) (flowsOf s) (levelsOf s) (inl (omega (arith, c.if1.true))), refl)
+returns c = let s = c.before in (balanced_short (drawing s) (flows_of s) (levelsOf s) (inl (omega (arith, c.if1.true))), refl)
 
 returns-2 : tie.Need-returns-2
 returns-2 c =
     let s = c.before.before in
-    (balanced-short (drawing s) (flowsOf s) (levelsOf s) (inr (omega (arith, c.if2.true, s.requires.0.counted))), refl)
+    (balanced_short (drawing s) (flows_of s) (levelsOf s) (inr (omega (arith, c.if2.true, s.requires.0.counted))), refl)
 
 check-within-requires : tie.Need-check-within-requires
-check-within-requires c κs = let r = c.before in ((given r).requires.0.few-edges, omega (arith, lent-edges r))
+check-within-requires c κs = let r = c.before in ((given r).requires.0.few_edges, omega (arith, lent-edges r))
 
 returns-3 : tie.Need-returns-3
 returns-3 c =
     let w = c.before.before.before in
     let r = w.before.before in
     let s = given r in (
-      balanced-within (drawing s) (flowsOf s) (levelsOf s) (room-edges r) (room-faces r) _ _
-          (part-within (drawing s).map (flowsOf s) (drawing s).capacity (Refused _ _) (rw c.before.within.given.1 at w.check-within.ensures)),
+      balanced_within (drawing s) (flows_of s) (levelsOf s) (room-edges r) (room-faces r) _ _
+          (part_within (drawing s).map (flows_of s) (drawing s).capacity (Refused _ _) (rw c.before.within.given.1 at w.check-within.ensures)),
       refl,
     )
 
@@ -121,7 +121,7 @@ check-all-balanced-requires : tie.Need-check-all-balanced-requires
 check-all-balanced-requires c κs =
     let r = roomy c in
     let p = (given r).pre.0 in
-    (p.few-nodes, p.few-edges, omega (arith, lent-edges r), tails-small p, small c)
+    (p.few_nodes, p.few_edges, omega (arith, lent-edges r), tails_small p, small c)
 
 returns-4 : tie.Need-returns-4
 returns-4 c =
@@ -129,7 +129,7 @@ returns-4 c =
     let t = limited b in
     let r = roomy t in
     let s = given r in (
-      balanced-balance (drawing s) (flowsOf s) (levelsOf s) (room-edges r) (room-faces r) (within t) _ _
+      balanced_balance (drawing s) (flows_of s) (levelsOf s) (room-edges r) (room-faces r) (within t) _ _
           (judged b (Refused _ _) c.before.balanced.given.1),
       refl,
     )
@@ -152,10 +152,10 @@ returns-5 c =
     let s = given r in
     let w = c.before.write-levels in
     let lent' = w.new.1.1.1.1.1.0 in (
-      balanced-none (drawing s) (flowsOf s) (levelsOf s) (room-edges r) (room-faces r) (within t) (balanced m),
+      balanced_none (drawing s) (flows_of s) (levelsOf s) (room-edges r) (room-faces r) (within t) (balanced m),
       (
         atℤ lent',
-        levels-agree (drawing s).map s.args.outer (atℤ (lentFlows s)) (atℤ (flowsOf s)) (atℤ lent') (part-flows (drawing s).map (flowsOf s))
+        levels_agree (drawing s).map s.args.outer (atℤ (lentFlows s)) (atℤ (flows_of s)) (atℤ lent') (part_flows (drawing s).map (flows_of s))
             (found s.pre.0 (lentFlows s) (lentLevels s) lent' w.ensures (judged-lent (asked m) Passed m.enum-told2.given.1)),
         written_back s.args.faces (levelsOf s) (atℤ lent') lent' s.pre.0.counted
             (in_place s.pre.0 (lentFlows s) (lentLevels s) lent' w.ensures (omega (arith, lent-faces r))),

@@ -13,33 +13,33 @@ use Rattle.refusals.specs.declared.Verdict.TheVariants.{Passed, Refused}
 use Rattle.maps.specs.Drawing.{Drawing}
 use Rattle.maps.specs.Face.{faces}
 use Rattle.flows.specs.ZeroFace.{ZeroFace}
-use Rattle.flows.specs.Check.{withinChecks}
+use Rattle.flows.specs.Check.{within_checks}
 use Rattle.arrays.specs.At.{at, atℤ}
-use Rattle.arrays.specs.Maps.{drawingOf}
+use Rattle.arrays.specs.Maps.{drawing_of}
 use Rattle.balance.proofs.Parts.{part_length, part_at, part_filled}
-use Rattle.levels.specs.Level.{levelChecks}
+use Rattle.levels.specs.Level.{level_checks}
 use Rattle.levels.specs.inner.Across.{HaveLevels}
-use Rattle.levels.specs.SettingsOf.{fromLevels}
-use Rattle.levels.proofs.Given.{leveled-short, leveled-levels, leveled-within, leveled-none}
-use Rattle.levels.proofs.SettingsFound.{few-roots, roots-in, levels-judged, levels-ready, differences-within, differences-filled}
+use Rattle.levels.specs.SettingsOf.{from_levels}
+use Rattle.levels.proofs.Given.{leveled_short, leveled_levels, leveled_within, leveled_none}
+use Rattle.levels.proofs.SettingsFound.{few_roots, roots_in, levels_judged, levels_ready, differences_within, differences_filled}
 use Rattle.levels.proofs.settings_of.Statement.{statement}
 use Rattle.levels.proofs.settings_of.Tie as tie
 
 -- ── what is given ──
 abbrev drawing : tie.Start → Drawing
-drawing s = drawingOf s.args.nodes s.args.edges s.args.outer s.args.tails.now s.args.rotations.now s.args.capacities.now
+drawing s = drawing_of s.args.nodes s.args.edges s.args.outer s.args.tails.now s.args.rotations.now s.args.capacities.now
 
 abbrev levelsOf : tie.Start → List ℤ
 levelsOf s = s.args.levels.now
 
-abbrev flowsOf : tie.Start → List ℤ
-flowsOf s = s.args.flows.now
+abbrev flows_of : tie.Start → List ℤ
+flows_of s = s.args.flows.now
 
 -- ── 16 did not refuse ──
 abbrev given : tie.Else2 → tie.Start
 given c = c.before.before
 
-room-edges : (c : tie.Else2) → (drawing (given c)).map.edges ≤ length (flowsOf (given c))
+room-edges : (c : tie.Else2) → (drawing (given c)).map.edges ≤ length (flows_of (given c))
 room-edges c = omega (arith, c.before.if1.false)
 
 room-faces : (c : tie.Else2) → faces (drawing (given c)).map ≤ length (levelsOf (given c))
@@ -55,8 +55,8 @@ lent-faces c = part_length (given c).args.faces (levelsOf (given c)) c.if2.false
 same : (s : tie.Start) (f : ℕ) → f < s.args.faces → atℤ (lentLevels s) f ≡ atℤ (levelsOf s) f
 same s f l = part_at s.args.faces (levelsOf s) (pos 0) f l
 
-same-face : (s : tie.Start) (f : ℕ) → f < faces (drawing s).map → atℤ (lentLevels s) f ≡ atℤ (levelsOf s) f
-same-face s f l = same s f (omega (arith, l, s.requires.counted))
+same_face : (s : tie.Start) (f : ℕ) → f < faces (drawing s).map → atℤ (lentLevels s) f ≡ atℤ (levelsOf s) f
+same_face s f l = same s f (omega (arith, l, s.requires.counted))
 
 -- ── 19 and 20 did not refuse ──
 abbrev walked : tie.After-check-levels → tie.After-roots-of
@@ -66,17 +66,17 @@ abbrev roomy : tie.After-check-levels → tie.Else2
 roomy c = (walked c).before.before
 
 judged : (c : tie.After-check-levels) (v : Verdict) → c.check-levels.result ≡ v
-    → Judged (levelChecks (faces (drawing (given (roomy c))).map) (ZeroFace (drawing (given (roomy c))).map (given (roomy c)).args.outer)
+    → Judged (level_checks (faces (drawing (given (roomy c))).map) (ZeroFace (drawing (given (roomy c))).map (given (roomy c)).args.outer)
     (atℤ (levelsOf (given (roomy c))))) v
 judged c v e =
     let s = given (roomy c) in
-    levels-judged s.pre (walked c).roots-of.ensures.1 (atℤ (lentLevels s)) (atℤ (levelsOf s)) (same s) v (rw e at c.check-levels.ensures)
+    levels_judged s.pre (walked c).roots-of.ensures.1 (atℤ (lentLevels s)) (atℤ (levelsOf s)) (same s) v (rw e at c.check-levels.ensures)
 
 abbrev levelled : tie.After-enum-told → tie.Else2
 levelled c = roomy c.before.before
 
 inside : (c : tie.After-enum-told)
-    → NoneOf (levelChecks (faces (drawing (given (levelled c))).map) (ZeroFace (drawing (given (levelled c))).map (given (levelled c)).args.outer)
+    → NoneOf (level_checks (faces (drawing (given (levelled c))).map) (ZeroFace (drawing (given (levelled c))).map (given (levelled c)).args.outer)
     (atℤ (levelsOf (given (levelled c)))))
 inside c = judged c.before.before Passed c.enum_told.given.1
 
@@ -85,8 +85,8 @@ ready c =
     let k = c.before.before in
     let r = levelled c in
     let s = given r in
-    levels-ready s.pre (lentLevels s) (omega (arith, lent-faces r, s.pre.counted))
-    (levels-judged s.pre (walked k).roots-of.ensures.1 (atℤ (lentLevels s)) (atℤ (lentLevels s)) (λ f l. refl) Passed
+    levels_ready s.pre (lentLevels s) (omega (arith, lent-faces r, s.pre.counted))
+    (levels_judged s.pre (walked k).roots-of.ensures.1 (atℤ (lentLevels s)) (atℤ (lentLevels s)) (λ f l. refl) Passed
     (rw c.enum_told.given.1 at k.check-levels.ensures))
 
 -- ── 17 did not refuse ──
@@ -94,28 +94,28 @@ abbrev limited : tie.After-check-differences → tie.After-enum-told
 limited c = c.before
 
 kept : (c : tie.After-check-differences) (v : Verdict) → c.check-differences.result ≡ v
-    → Judged (withinChecks (given (levelled (limited c))).args.edges (drawing (given (levelled (limited c)))).capacity
-    (fromLevels (drawing (given (levelled (limited c)))).map (atℤ (levelsOf (given (levelled (limited c))))))) v
+    → Judged (within_checks (given (levelled (limited c))).args.edges (drawing (given (levelled (limited c)))).capacity
+    (from_levels (drawing (given (levelled (limited c)))).map (atℤ (levelsOf (given (levelled (limited c))))))) v
 kept c v e =
     let s = given (levelled (limited c)) in
-    differences-within s.pre (atℤ (lentLevels s)) (atℤ (levelsOf s)) (same-face s) v (rw e at c.check-differences.ensures)
+    differences_within s.pre (atℤ (lentLevels s)) (atℤ (levelsOf s)) (same_face s) v (rw e at c.check-differences.ensures)
 
 -- ── the needs, in the order of the code ──
 returns : tie.Need-returns
-returns c = let s = c.before in (leveled-short (drawing s) (levelsOf s) (flowsOf s) (inl (omega (arith, c.if1.true))), refl)
+returns c = let s = c.before in (leveled_short (drawing s) (levelsOf s) (flows_of s) (inl (omega (arith, c.if1.true))), refl)
 
 returns-2 : tie.Need-returns-2
 returns-2 c =
     let s = c.before.before in
-    (leveled-short (drawing s) (levelsOf s) (flowsOf s) (inr (omega (arith, c.if2.true, s.requires.counted))), refl)
+    (leveled_short (drawing s) (levelsOf s) (flows_of s) (inr (omega (arith, c.if2.true, s.requires.counted))), refl)
 
 mul-roots-of : tie.Need-overflow-mul-roots-of
-mul-roots-of c = omega (arith, (given c).requires.few-edges)
+mul-roots-of c = omega (arith, (given c).requires.few_edges)
 
 roots-of-requires : tie.Need-roots-of-requires
 roots-of-requires c κs =
     let p = (given c.before).requires in
-    (refl, omega (arith, p.few-edges), omega arith, p.outer-in, p.plane.sound.range.rotation-in)
+    (refl, omega (arith, p.few_edges), omega arith, p.outer_in, p.plane.sound.range.rotation_in)
 
 part-given-end : tie.Need-slice-bounds-given-end
 part-given-end c = c.before.before.if2.false
@@ -125,19 +125,19 @@ check-levels-requires c κs =
     let w = c.before.before in
     let r = w.before.before in
     let e = w.roots-of.ensures.1 in
-    (few-roots (given r).requires e, roots-in (given r).requires e, lent-faces r)
+    (few_roots (given r).requires e, roots_in (given r).requires e, lent-faces r)
 
 returns-3 : tie.Need-returns-3
 returns-3 c =
     let l = c.before.before.before in
     let r = roomy l in
     let s = given r in (
-      leveled-levels (drawing s) (levelsOf s) (flowsOf s) (room-edges r) (room-faces r) _ _ (judged l (Refused _ _) c.before.judged.given.1),
+      leveled_levels (drawing s) (levelsOf s) (flows_of s) (room-edges r) (room-faces r) _ _ (judged l (Refused _ _) c.before.judged.given.1),
       refl,
     )
 
 check-differences-requires : tie.Need-check-differences-requires
-check-differences-requires c κs = ((given (levelled c)).requires.few-edges, ready c)
+check-differences-requires c κs = ((given (levelled c)).requires.few_edges, ready c)
 
 returns-4 : tie.Need-returns-4
 returns-4 c =
@@ -145,7 +145,7 @@ returns-4 c =
     let t = limited d in
     let r = levelled t in
     let s = given r in (
-      leveled-within (drawing s) (levelsOf s) (flowsOf s) (room-edges r) (room-faces r) (inside t) _ _ (kept d (Refused _ _) c.before.within.given.1),
+      leveled_within (drawing s) (levelsOf s) (flows_of s) (room-edges r) (room-faces r) (inside t) _ _ (kept d (Refused _ _) c.before.within.given.1),
       refl,
     )
 
@@ -157,7 +157,7 @@ fill-differences-requires c κs =
     let t = limited c.before.before.before in
     let r = levelled t in
     let s = given r in
-    (s.pre.few-edges, part_length s.args.edges (flowsOf s) (room-edges r), ready t)
+    (s.pre.few_edges, part_length s.args.edges (flows_of s) (room-edges r), ready t)
 
 returns-5 : tie.Need-returns-5
 returns-5 c =
@@ -166,9 +166,9 @@ returns-5 c =
     let t = limited d in
     let r = levelled t in
     let s = given r in (
-      leveled-none (drawing s) (levelsOf s) (flowsOf s) (room-edges r) (room-faces r) (inside t) (kept d Passed m.enum-told2.given.1),
-      differences-filled s.pre (atℤ (lentLevels s)) (atℤ (levelsOf s)) (same-face s) (flowsOf s) _
-          (part_filled s.args.edges (flowsOf s) _ _ c.before.fill-differences.ensures),
+      leveled_none (drawing s) (levelsOf s) (flows_of s) (room-edges r) (room-faces r) (inside t) (kept d Passed m.enum-told2.given.1),
+      differences_filled s.pre (atℤ (lentLevels s)) (atℤ (levelsOf s)) (same_face s) (flows_of s) _
+          (part_filled s.args.edges (flows_of s) _ _ c.before.fill-differences.ensures),
     )
 
 pub settings-of-spec : {M : Type 1} → statement M

@@ -11,7 +11,7 @@ mul-spread-all c = omega (arith, c.requires.few)
 spread-all-requires : tie.Need-spread-all-requires
 spread-all-requires c κs =
     let p = c.before.before.requires in
-    (refl, refl, omega (arith, p.few), omega arith, p.outer-in, p.rotation-in)
+    (refl, refl, omega (arith, p.few), omega arith, p.outer_in, p.rotation_in)
 
 mul-fill-levels : tie.Need-overflow-mul-fill-levels
 mul-fill-levels c = omega (arith, c.before.before.before.before.before.requires.few)

@@ -1,7 +1,7 @@
 -- `maximum::begin` meets its contract: a set that does not lie at the source gives way to the source alone.
 use mathlib.Core.Path.{refl, sym, ◌∙◌, subst}
 use borrow.Author.Rules.{rules}
-use Rattle.integers.proofs.Tests.{eqb-true, eqb-false}
+use Rattle.integers.proofs.Tests.{eqb_true, eqb_false}
 use Rattle.arrays.specs.inner.Flags.{flagged}
 use Rattle.node_flags.specs.inner.Flags.{Sided}
 use Rattle.maximum.proofs.begin.Statement.{statement}
@@ -22,7 +22,7 @@ returns-2 c =
     let f = c.flag_one.ensures in
     let u = s.args.source in
     let w = s.args.sink in
-    (f.0, (f.1 u s.requires.2 ∙ eqb-true u u refl, f.1 w s.requires.3 ∙ eqb-false w u (λ e. s.requires.4 (sym e))))
+    (f.0, (f.1 u s.requires.2 ∙ eqb_true u u refl, f.1 w s.requires.3 ∙ eqb_false w u (λ e. s.requires.4 (sym e))))
 
 pub begin-spec : {M : Type 1} → statement M
 begin-spec =

@@ -10,35 +10,35 @@ use lib.Signed.{◌≤ℤ◌, ◌<ℤ◌}
 use mir.Syntax.{w32}
 use mir.Val.{to_z, of_z}
 use borrow.Author.Rules.{rules}
-use Rattle.integers.proofs.Laws.{ge-of-test, lt-of-test}
+use Rattle.integers.proofs.Laws.{ge_of_test, lt_of_test}
 use Rattle.signed.proofs.Limits.{same_bits}
 use Rattle.maps.specs.Map.{Map}
 use Rattle.arrays.specs.At.{atℤ}
 use Rattle.arrays.specs.inner.Flags.{flagged}
-use Rattle.arrays.specs.Maps.{mapOf}
+use Rattle.arrays.specs.Maps.{map_of}
 use Rattle.maximum.specs.inner.Bracket.{Bracket}
 use Rattle.maximum.specs.declared.Maximum.TheVariants as maximum
-use Rattle.maximum.proofs.Gap.{gap, gap-closer}
+use Rattle.maximum.proofs.Gap.{gap, gap_closer}
 use Rattle.maximum.proofs.Bracketing.{
   Ground,
-  ground-of,
-  tails-few,
-  capacities-few,
+  ground_of,
+  tails_few,
+  capacities_few,
   Probing,
   high_small,
   low_small,
   above_low,
   met,
   passed,
-  bits-bracket,
-  bracket-length,
+  bits_bracket,
+  bracket_length,
 }
 use Rattle.maximum.proofs.close_in.Statement.{statement}
 use Rattle.maximum.proofs.close_in.Tie as tie
 
 abbrev invariant-loop : tie.invariant-loop
 invariant-loop tails rotations lefts capacities order from grouped starts sizes flows₀ parents₀ a₀ b₀ terminals bounds₀ flows parents a b bounds =
-    Probing (mapOf sizes.nodes sizes.edges tails rotations) sizes.outer (atℤ capacities) terminals.source terminals.sink flows₀ flows a b parents
+    Probing (map_of sizes.nodes sizes.edges tails rotations) sizes.outer (atℤ capacities) terminals.source terminals.sink flows₀ flows a b parents
     bounds.low bounds.high bounds.found
 
 abbrev decreases-loop : tie.decreases-loop
@@ -47,18 +47,18 @@ decreases-loop tails rotations lefts capacities order from grouped starts sizes 
 
 -- ── what the function is given ──
 abbrev 𝓜 : tie.Start invariant-loop decreases-loop → Map
-𝓜 c = mapOf c.args.sizes.nodes c.args.sizes.edges c.args.tails.now c.args.rotations.now
+𝓜 c = map_of c.args.sizes.nodes c.args.sizes.edges c.args.tails.now c.args.rotations.now
 
 abbrev caps : tie.Start invariant-loop decreases-loop → ℕ → ℤ
 caps c = atℤ c.args.capacities.now
 
 ground : (c : tie.Start invariant-loop decreases-loop) → Ground (𝓜 c) (caps c) c.args.begun.terminals.source c.args.begun.terminals.sink
-ground c = ground-of c.requires.0.lent c.requires.0.small
+ground c = ground_of c.requires.0.lent c.requires.0.small
 
 loop-holds : tie.Need-loop-init invariant-loop decreases-loop
 loop-holds c =
     let p = c.before.before.requires in
-    record { size-a = p.0.size-a; size-b = p.0.size-b; size-parents = p.1; bracket = p.0.bracket }
+    record { size_a = p.0.size_a; size_b = p.0.size_b; size_parents = p.1; bracket = p.0.bracket }
 
 -- ── in the loop ──
 abbrev start : tie.At-loop invariant-loop decreases-loop → tie.Start invariant-loop decreases-loop
@@ -86,24 +86,24 @@ at_bits : (c : tie.At-loop invariant-loop decreases-loop)
     → Bracket (𝓜 (start c)) (start c).args.sizes.outer (caps (start c)) (start c).args.begun.terminals.source (start c).args.begun.terminals.sink
     (entered c) c.loop.flows c.loop.a c.loop.b (lo c) (hi c) c.loop.bounds.found
 at_bits c =
-    bits-bracket (start c).args.sizes.outer (ground (start c)) (entered c) c.loop.flows c.loop.a c.loop.b _ _ c.loop.bounds.found
+    bits_bracket (start c).args.sizes.outer (ground (start c)) (entered c) c.loop.flows c.loop.a c.loop.b _ _ c.loop.bounds.found
     c.loop.invariant.bracket
 
 as_long : (c : tie.At-loop invariant-loop decreases-loop) → length c.loop.flows ≡ length (entered c)
-as_long c = bracket-length c.loop.bounds.found (omega (arith, (start c).requires.0.lent.exact)) c.loop.invariant.bracket
+as_long c = bracket_length c.loop.bounds.found (omega (arith, (start c).requires.0.lent.exact)) c.loop.invariant.bracket
 
 -- ── the bounds have passed each other ──
 abbrev looping : tie.After-is-less invariant-loop decreases-loop → tie.At-loop invariant-loop decreases-loop
 looping c = c.before.before.before
 
 mul-join : tie.Need-overflow-mul-join invariant-loop decreases-loop
-mul-join c = omega (arith, (ground (start (looping c.before.before))).few-edges)
+mul-join c = omega (arith, (ground (start (looping c.before.before))).few_edges)
 
 join-requires : tie.Need-join-requires invariant-loop decreases-loop
 join-requires c κs =
     let l = looping c.before.before.before.before in
     let b = start l in
-    (l.loop.inv.size-a, l.loop.inv.size-b, omega (arith, (ground b).few-edges), omega arith, tails-few (ground b), capacities-few (ground b))
+    (l.loop.inv.size_a, l.loop.inv.size_b, omega (arith, (ground b).few_edges), omega arith, tails_few (ground b), capacities_few (ground b))
 
 same_length : tie.Need-same-length invariant-loop decreases-loop
 same_length c = as_long (looping c.before.before.before.before.before)
@@ -113,10 +113,10 @@ returns c =
     let t = c.before.before.before.before in
     let l = looping t.before in
     let b = start l in (
-      l.loop.inv.size-parents,
+      l.loop.inv.size_parents,
       c.join.ensures.0,
       passed b.args.sizes.outer (ground b) (entered l) l.loop.flows l.loop.a l.loop.b (lo l) (hi l) l.loop.bounds.found (at_bits l)
-          (lt-of-test _ _ (sym t.before.is-less.ensures ∙ t.if1.true)) c.join.new.1.1.1.0 c.join.ensures.1,
+          (lt_of_test _ _ (sym t.before.is-less.ensures ∙ t.if1.true)) c.join.new.1.1.1.0 c.join.ensures.1,
     )
 
 -- ── they have met ──
@@ -131,15 +131,15 @@ returns-2 c =
     let l = ordered c.before in
     let b = start l in
     let r = c.before.finished.ensures.0 c.if2.true in (
-      l.loop.inv.size-parents,
-      l.loop.inv.size-a,
+      l.loop.inv.size_parents,
+      l.loop.inv.size_a,
       met b.args.sizes.outer (ground b) (entered l) l.loop.flows l.loop.a l.loop.b (lo l) (hi l) l.loop.bounds.found (at_bits l)
           r.0 r.1,
     )
 
 -- ── a probe between them ──
 in_order : (c : tie.After-finished invariant-loop decreases-loop) → lo (ordered c) ≤ℤ hi (ordered c)
-in_order c = let e = c.before in ge-of-test _ _ (sym e.before.is-less.ensures ∙ e.if1.false)
+in_order c = let e = c.before in ge_of_test _ _ (sym e.before.is-less.ensures ∙ e.if1.false)
 
 in-turn : (c : tie.After-finished invariant-loop decreases-loop) → (ordered c).loop.bounds.low ≤ℤ (ordered c).loop.bounds.high
 in-turn c = let l = ordered c in subst (λ h. l.loop.bounds.low ≤ℤ h) (same-hi l) (subst (λ x. x ≤ℤ hi l) (same-lo l) (in_order c))
@@ -163,12 +163,12 @@ probe-requires c κs =
         record {
           lent = record { opened = p.lent.opened; ends = p.lent.ends; exact = as_long l ∙ p.lent.exact };
           small = p.small;
-          size-a = v.size-a;
-          size-b = v.size-b;
+          size_a = v.size_a;
+          size_b = v.size_b;
           bracket = v.bracket;
         },
       ),
-      v.size-parents,
+      v.size_parents,
       in-turn q.before,
       apart q,
     )
@@ -194,7 +194,7 @@ loop-less c =
     let k = c.before.before in
     let l = ordered (probed k) in
     let r = k.probe.result in
-    gap-closer l.loop.bounds.low l.loop.bounds.high l.loop.bounds.found r.low r.high r.found (in-turn (probed k))
+    gap_closer l.loop.bounds.low l.loop.bounds.high l.loop.bounds.found r.low r.high r.found (in-turn (probed k))
     (k.probe.ensures.3 c.if3.false)
 
 loop-again : tie.Need-loop-preserved invariant-loop decreases-loop
@@ -203,9 +203,9 @@ loop-again c =
     let l = ordered (probed k) in
     let e = k.probe.ensures in
     record {
-      size-a = e.1;
-      size-b = e.2;
-      size-parents = e.0;
+      size_a = e.1;
+      size_b = e.2;
+      size_parents = e.0;
       bracket = (e.4 (entered l) l.loop.inv.bracket).1 c.if3.false;
     }
 

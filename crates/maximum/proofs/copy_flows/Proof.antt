@@ -8,7 +8,7 @@ use borrow.Author.Rules.{rules}
 use Rattle.signed.proofs.Limits.{same_bits}
 use Rattle.arrays.specs.At.{atℤ}
 use Rattle.arrays.specs.Filled.{tabulate}
-use Rattle.arrays.proofs.FillLoops.{copy_start, copy_step, filled-length}
+use Rattle.arrays.proofs.FillLoops.{copy_start, copy_step, filled_length}
 use Rattle.maximum.proofs.copy_flows.Statement.{statement}
 use Rattle.maximum.proofs.copy_flows.Tie as tie
 
@@ -22,7 +22,7 @@ loop-holds : tie.Need-loop-init invariant-loop decreases-loop
 loop-holds c = (omega arith, copy_start _ _)
 
 slice-set-from-to : tie.Need-slice-set-from-to invariant-loop decreases-loop
-slice-set-from-to c = omega (arith, filled-length _ _ _ _ c.before.before.loop.invariant.1 (omega arith))
+slice-set-from-to c = omega (arith, filled_length _ _ _ _ c.before.before.loop.invariant.1 (omega arith))
 
 loop-again : tie.Need-loop-preserved invariant-loop decreases-loop
 loop-again c =
@@ -30,7 +30,7 @@ loop-again c =
     (omega arith, copy_step _ o.e _ _ _ o.invariant.1 (omega arith) (same_bits (omega arith) (c.before.before.before.requires.2 o.e (omega arith))))
 
 same_length : tie.Need-same-length invariant-loop decreases-loop
-same_length c = filled-length _ _ _ _ c.before.loop.invariant.1 (omega arith)
+same_length c = filled_length _ _ _ _ c.before.loop.invariant.1 (omega arith)
 
 returns : tie.Need-returns invariant-loop decreases-loop
 returns c =

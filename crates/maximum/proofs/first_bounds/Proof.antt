@@ -6,11 +6,11 @@ use mir.Syntax.{w32}
 use mir.Val.{to_z, of_z}
 use borrow.Author.Rules.{rules}
 use Rattle.integers.specs.inner.Limited.{Limited}
-use Rattle.signed.proofs.Laws.{number-of-bits}
+use Rattle.signed.proofs.Laws.{number_of_bits}
 use Rattle.arrays.specs.At.{at, atℤ}
 use Rattle.arrays.specs.inner.Flags.{flagged}
 use Rattle.cuts.specs.inner.Cut.{cut_of}
-use Rattle.maximum.proofs.Joining.{cut-limited}
+use Rattle.maximum.proofs.Joining.{cut_limited}
 use Rattle.maximum.proofs.first_bounds.Statement.{statement}
 use Rattle.maximum.proofs.first_bounds.Tie as tie
 
@@ -18,15 +18,15 @@ use Rattle.maximum.proofs.first_bounds.Tie as tie
 high_is : (c : tie.After-capacity)
     → to_z w32 (of_z w32 c.capacity.result) ≡ cut_of c.before.args.darts (at c.before.args.tails.now)
     (atℤ c.before.args.capacities.now) (flagged c.before.args.a.now)
-high_is c = number-of-bits _ (record { sfits = c.capacity.type-inv }) ∙ c.capacity.ensures
+high_is c = number_of_bits _ (record { sfits = c.capacity.type-inv }) ∙ c.capacity.ensures
 
 abbrev given : tie.After-capacity2 → tie.Start
 given c = c.before.before.before
 
-low-is : (c : tie.After-capacity2)
+low_is : (c : tie.After-capacity2)
     → to_z w32 (of_z w32 c.capacity2.result) ≡ cut_of (given c).args.darts (at (given c).args.tails.now)
     (atℤ (given c).args.capacities.now) (flagged (given c).args.b.now)
-low-is c = number-of-bits _ (record { sfits = c.capacity2.type-inv }) ∙ c.capacity2.ensures
+low_is c = number_of_bits _ (record { sfits = c.capacity2.type-inv }) ∙ c.capacity2.ensures
 
 returns : tie.Need-returns
 returns c = (refl, high_is c.before, inl refl)
@@ -34,11 +34,11 @@ returns c = (refl, high_is c.before, inl refl)
 negate-requires : tie.Need-negate-requires
 negate-requires c κs =
     let p = (given c).requires in
-    subst (Limited 2048000000) (sym (low-is c)) (cut-limited _ _ _ _ p.0 p.3)
+    subst (Limited 2048000000) (sym (low_is c)) (cut_limited _ _ _ _ p.0 p.3)
 
 returns-2 : tie.Need-returns-2
 returns-2 c =
-    (refl, high_is c.before.before.before, inr (number-of-bits _ (record { sfits = c.negate.type-inv }) ∙ c.negate.ensures ∙ ap neg_ℤ (low-is c.before)))
+    (refl, high_is c.before.before.before, inr (number_of_bits _ (record { sfits = c.negate.type-inv }) ∙ c.negate.ensures ∙ ap neg_ℤ (low_is c.before)))
 
 pub first-bounds-spec : {M : Type 1} → statement M
 first-bounds-spec = tie.close (tie.spec (λ c κs. search rules) returns (λ c κs. search rules) negate-requires returns-2)

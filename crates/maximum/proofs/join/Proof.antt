@@ -6,13 +6,13 @@ use lib.Signed.{◌≤ℤ◌, ◌<ℤ◌}
 use mir.Syntax.{w32}
 use mir.Val.{to_z, of_z}
 use borrow.Author.Rules.{rules}
-use Rattle.integers.proofs.Laws.{lt-of-test, ge-of-test}
-use Rattle.signed.proofs.Laws.{number-of-bits}
+use Rattle.integers.proofs.Laws.{lt_of_test, ge_of_test}
+use Rattle.signed.proofs.Laws.{number_of_bits}
 use Rattle.maps.specs.Cut.{union}
 use Rattle.arrays.specs.At.{at, atℤ}
 use Rattle.cuts.specs.inner.Cut.{cut_of}
 use Rattle.arrays.specs.inner.Flags.{flagged}
-use Rattle.maximum.proofs.Joining.{cut-flags}
+use Rattle.maximum.proofs.Joining.{cut_flags}
 use Rattle.maximum.proofs.join.Statement.{statement}
 use Rattle.maximum.proofs.join.Tie as tie
 
@@ -26,14 +26,14 @@ UnionTotal c =
 union-total : (c : tie.After-capacity) → UnionTotal c
 union-total c =
     let s = c.before.before.before.before.before in
-    number-of-bits _ (record { sfits = c.capacity.type-inv }) ∙ c.capacity.ensures
-    ∙ cut-flags _ _ _ _ _ s.requires.3 s.requires.4 c.before.before.either-and-both.ensures.2
+    number_of_bits _ (record { sfits = c.capacity.type-inv }) ∙ c.capacity.ensures
+    ∙ cut_flags _ _ _ _ _ s.requires.3 s.requires.4 c.before.before.either-and-both.ensures.2
 
 returns : tie.Need-returns
 returns c =
     let tested = c.before in
     let e = tested.before.before.before.either-and-both.ensures in
-    (e.0, inl (e.2, subst (λ t. t <ℤ pos 0) (union-total tested.before) (lt-of-test _ _ (sym tested.is-less.ensures ∙ c.if1.true))))
+    (e.0, inl (e.2, subst (λ t. t <ℤ pos 0) (union-total tested.before) (lt_of_test _ _ (sym tested.is-less.ensures ∙ c.if1.true))))
 
 returns-2 : tie.Need-returns-2
 returns-2 c =
@@ -43,7 +43,7 @@ returns-2 c =
       c.copy-flags.ensures.0,
       inr (
         λ u l. c.copy-flags.ensures.1 u l ∙ e.3 u l,
-        subst (λ t. pos 0 ≤ℤ t) (union-total tested.before) (ge-of-test _ _ (sym tested.is-less.ensures ∙ left.if1.false)),
+        subst (λ t. pos 0 ≤ℤ t) (union-total tested.before) (ge_of_test _ _ (sym tested.is-less.ensures ∙ left.if1.false)),
       ),
     )
 

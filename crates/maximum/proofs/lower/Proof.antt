@@ -4,8 +4,8 @@ use lib.Signed.{◌<ℤ◌}
 use mir.Syntax.{w32}
 use mir.Val.{to_z, of_z}
 use borrow.Author.Rules.{rules}
-use Rattle.integers.proofs.Laws.{lt-of-test}
-use Rattle.signed.proofs.Laws.{number-of-bits}
+use Rattle.integers.proofs.Laws.{lt_of_test}
+use Rattle.signed.proofs.Laws.{number_of_bits}
 use Rattle.arrays.specs.inner.Flags.{flagged}
 use Rattle.node_flags.specs.inner.Flags.{Sided}
 use Rattle.node_flags.specs.declared.Side.TheVariants as side
@@ -21,25 +21,25 @@ returns c =
     let tested = less.before in
     let added = tested.before in
     let s = added.before in
-    let total = number-of-bits added.capacity.result (record { sfits = added.capacity.type-inv }) in (
+    let total = number_of_bits added.capacity.result (record { sfits = added.capacity.type-inv }) in (
       c.copy-flags.ensures.0,
       falls
           (subst (Sided s.args.source s.args.sink (flagged s.args.inside.now)) told.enum_told.given.1 sided.side-of.ensures)
           (total ∙ added.capacity.ensures)
-          (subst (λ h. to_z w32 (of_z w32 added.capacity.result) <ℤ h) (number-of-bits _ s.ranges.high)
-          (lt-of-test _ _ (sym tested.is-less.ensures ∙ less.if1.true)))
+          (subst (λ h. to_z w32 (of_z w32 added.capacity.result) <ℤ h) (number_of_bits _ s.ranges.high)
+          (lt_of_test _ _ (sym tested.is-less.ensures ∙ less.if1.true)))
           c.copy-flags.ensures.1,
     )
 
 returns-2 : tie.Need-returns-2
 returns-2 c =
     let s = c.before.before.before.before.before in
-    (s.requires.0, stays (number-of-bits _ s.ranges.high) refl)
+    (s.requires.0, stays (number_of_bits _ s.ranges.high) refl)
 
 returns-3 : tie.Need-returns-3
 returns-3 c =
     let s = c.before.before.before in
-    (s.requires.0, stays (number-of-bits _ s.ranges.high) refl)
+    (s.requires.0, stays (number_of_bits _ s.ranges.high) refl)
 
 pub lower_spec : {M : Type 1} → statement M
 lower_spec =

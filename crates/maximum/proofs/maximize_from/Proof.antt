@@ -6,38 +6,38 @@ use lib.IntN.{ℤ}
 use borrow.Author.Rules.{rules}
 use Rattle.maps.specs.Map.{Map}
 use Rattle.arrays.specs.At.{atℤ}
-use Rattle.arrays.specs.Maps.{mapOf}
+use Rattle.arrays.specs.Maps.{map_of}
 use Rattle.maximum.specs.inner.Bracket.{Bracket}
-use Rattle.maximum.proofs.Bracketing.{Ground, ground-of, source-few, sink-few, tails-few, capacities-few, begins}
+use Rattle.maximum.proofs.Bracketing.{Ground, ground_of, source_few, sink_few, tails_few, capacities_few, begins}
 use Rattle.maximum.proofs.maximize_from.Statement.{statement}
 use Rattle.maximum.proofs.maximize_from.Tie as tie
 
 abbrev 𝓜 : tie.Start → Map
-𝓜 c = mapOf c.args.sizes.nodes c.args.sizes.edges c.args.tails.now c.args.rotations.now
+𝓜 c = map_of c.args.sizes.nodes c.args.sizes.edges c.args.tails.now c.args.rotations.now
 
 abbrev caps : tie.Start → ℕ → ℤ
 caps c = atℤ c.args.capacities.now
 
 ground : (c : tie.Start) → Ground (𝓜 c) (caps c) c.args.terminals.source c.args.terminals.sink
-ground c = ground-of c.requires.0 c.requires.1
+ground c = ground_of c.requires.0 c.requires.1
 
 begin-requires : tie.Need-begin-requires
 begin-requires c κs =
     let p = c.before.requires in
     let g = ground c.before in (
       p.2,
-      g.few-edges,
-      source-few g,
-      sink-few g,
+      g.few_edges,
+      source_few g,
+      sink_few g,
       g.two.two,
-      g.plane.sound.has-dart _ g.two.source_in,
+      g.plane.sound.has_dart _ g.two.source_in,
     )
 
 flag-one-requires : tie.Need-flag-one-requires
-flag-one-requires c κs = (refl, sink-few (ground c.before.before.before))
+flag-one-requires c κs = (refl, sink_few (ground c.before.before.before))
 
 mul-first-bounds : tie.Need-overflow-mul-first-bounds
-mul-first-bounds c = omega (arith, c.before.before.before.before.before.requires.0.opened.drawn.few-edges)
+mul-first-bounds c = omega (arith, c.before.before.before.before.before.requires.0.opened.drawn.few_edges)
 
 abbrev given : tie.After-flag-one → tie.Start
 given c = c.before.before.before.before
@@ -45,7 +45,7 @@ given c = c.before.before.before.before
 first-bounds-requires : tie.Need-first-bounds-requires
 first-bounds-requires c κs =
     let s = given c.before.before.before in
-    (omega (arith, s.pre.0.opened.drawn.few-edges), omega arith, tails-few (ground s), capacities-few (ground s))
+    (omega (arith, s.pre.0.opened.drawn.few_edges), omega arith, tails_few (ground s), capacities_few (ground s))
 
 -- the bounds to begin with
 abbrev flagged-sink : tie.After-first-bounds → tie.After-flag-one
@@ -77,8 +77,8 @@ close-in-requires c κs =
       record {
         lent = p.0;
         small = p.1;
-        size-a = (first-set m).begin.ensures.0;
-        size-b = (flagged-sink m).flag_one.ensures.0;
+        size_a = (first-set m).begin.ensures.0;
+        size_b = (flagged-sink m).flag_one.ensures.0;
         bracket = bounds m;
       },
       p.3,

@@ -10,47 +10,47 @@ use lib.IntN.{ℤ}
 use mir.Syntax.{w32}
 use mir.Val.{to_z, of_z}
 use Rattle.integers.specs.inner.Limited.{Limited}
-use Rattle.signed.proofs.Laws.{number-of-bits}
+use Rattle.signed.proofs.Laws.{number_of_bits}
 use Rattle.signed.proofs.Limits.{same_bits}
 use Rattle.maps.specs.Map.{Map}
 use Rattle.flows.specs.Highest.{Highest}
 use Rattle.arrays.specs.At.{atℤ}
 use Rattle.arrays.specs.Filled.{filled}
-use Rattle.arrays.specs.Maps.{mapOf}
-use Rattle.arrays.proofs.FillLoops.{filled-length}
+use Rattle.arrays.specs.Maps.{map_of}
+use Rattle.arrays.proofs.FillLoops.{filled_length}
 use Rattle.maximum.specs.inner.Bracket.{Bracket}
 use Rattle.maximum.proofs.Bracketing.{
   Ground,
-  ground-of,
-  lent-pivots,
-  source-few,
-  sink-few,
-  tails-few,
-  capacities-few,
+  ground_of,
+  lent_pivots,
+  source_few,
+  sink_few,
+  tails_few,
+  capacities_few,
   read_back,
   copied,
-  flow-small,
+  flow_small,
   high_small,
   low_small,
-  begins-on,
+  begins_on,
   lowered,
-  bits-bracket,
-  bracket-length,
-  maximized-length,
+  bits_bracket,
+  bracket_length,
+  maximized_length,
   anew,
-  told-before,
+  told_before,
 }
 use Rattle.maximum.proofs.maximize_on.Statement.{statement}
 use Rattle.maximum.proofs.maximize_on.Tie as tie
 
 abbrev 𝓜 : tie.Start → Map
-𝓜 c = mapOf c.args.sizes.nodes c.args.sizes.edges c.args.tails.now c.args.rotations.now
+𝓜 c = map_of c.args.sizes.nodes c.args.sizes.edges c.args.tails.now c.args.rotations.now
 
 abbrev caps : tie.Start → ℕ → ℤ
 caps c = atℤ c.args.capacities.now
 
 ground : (c : tie.Start) → Ground (𝓜 c) (caps c) c.args.demand.source c.args.demand.sink
-ground c = ground-of c.requires.0 c.requires.1
+ground c = ground_of c.requires.0 c.requires.1
 
 copy-flows-requires : tie.Need-copy-flows-requires
 copy-flows-requires c κs =
@@ -59,10 +59,10 @@ copy-flows-requires c κs =
     let x = k.0 in
     let a = s.args in
     let room : a.sizes.edges ≤ length k.1 = omega (arith, k.4) in (
-      filled-length a.sizes.edges x k.1 a.known.now k.3 room ∙ k.4,
+      filled_length a.sizes.edges x k.1 a.known.now k.3 room ∙ k.4,
       s.requires.0.exact,
       λ e l. subst (Limited 1000000) (sym (read_back a.sizes.edges x k.1 a.known.now k.3 room e l))
-          (flow-small a.sizes.outer (ground s) a.demand.value x k.2 e l),
+          (flow_small a.sizes.outer (ground s) a.demand.value x k.2 e l),
     )
 
 -- the value that is known, as the number of its bits
@@ -88,18 +88,18 @@ is-since c =
 same-room : (c : tie.After-copy-flows) → length (since c) ≡ length (given c).args.flows.now
 same-room c =
     let s = given c in
-    filled-length s.args.sizes.edges s.pre.4.0 s.args.flows.now (since c) (is-since c) (omega (arith, s.pre.0.exact))
+    filled_length s.args.sizes.edges s.pre.4.0 s.args.flows.now (since c) (is-since c) (omega (arith, s.pre.0.exact))
 
 begin-requires : tie.Need-begin-requires
 begin-requires c κs =
     let s = given c.before.before in
     let g = ground s in (
       s.pre.2,
-      g.few-edges,
-      source-few g,
-      sink-few g,
+      g.few_edges,
+      source_few g,
+      sink_few g,
       g.two.two,
-      g.plane.sound.has-dart _ g.two.source_in,
+      g.plane.sound.has_dart _ g.two.source_in,
     )
 
 abbrev copy : tie.After-begin → tie.After-copy-flows
@@ -109,12 +109,12 @@ abbrev base : tie.After-begin → tie.Start
 base c = given (copy c)
 
 mul-capacity : tie.Need-overflow-mul-capacity
-mul-capacity c = omega (arith, (base c.before.before).requires.0.opened.drawn.few-edges)
+mul-capacity c = omega (arith, (base c.before.before).requires.0.opened.drawn.few_edges)
 
 capacity-requires : tie.Need-capacity-requires
 capacity-requires c κs =
     let s = base c.before.before in
-    (omega (arith, s.pre.0.opened.drawn.few-edges), omega arith, tails-few (ground s), capacities-few (ground s))
+    (omega (arith, s.pre.0.opened.drawn.few_edges), omega arith, tails_few (ground s), capacities_few (ground s))
 
 -- ── the bounds to begin with ──
 abbrev first-set : tie.After-capacity → tie.After-begin
@@ -133,8 +133,8 @@ bounds : (c : tie.After-capacity) (B : List ℕ)
 bounds c B =
     let s = start c in
     let k = s.pre.4 in
-    begins-on s.args.sizes.outer (ground s) s.args.flows.now (since (copy (first-set c))) (a₀ c) B _ _ k.0 (first-set c).begin.ensures.1
-    (number-of-bits _ (record { sfits = c.capacity.type-inv }) ∙ c.capacity.ensures)
+    begins_on s.args.sizes.outer (ground s) s.args.flows.now (since (copy (first-set c))) (a₀ c) B _ _ k.0 (first-set c).begin.ensures.1
+    (number_of_bits _ (record { sfits = c.capacity.type-inv }) ∙ c.capacity.ensures)
     (subst (λ v. Highest (𝓜 s) s.args.sizes.outer (caps s) s.args.demand.source s.args.demand.sink v k.0) (sym (same-carried s)) k.2)
     (is-since (copy (first-set c)))
 
@@ -148,8 +148,8 @@ try-likely-requires c κs =
         record {
           lent = record { opened = p.0.opened; ends = p.0.ends; exact = same-room (copy (first-set q)) ∙ p.0.exact };
           small = p.1;
-          size-a = (first-set q).begin.ensures.0;
-          size-b = refl;
+          size_a = (first-set q).begin.ensures.0;
+          size_b = refl;
           bracket = bounds q _;
         },
       ),
@@ -195,20 +195,20 @@ still : (c : tie.Else1)
 still c =
     let t = tried c in
     let s = origin t in
-    bits-bracket s.args.sizes.outer (ground s) s.args.flows.now (flows₁ t) (a₁ t) (b₁ t) _ _ t.try-likely.result.found
+    bits_bracket s.args.sizes.outer (ground s) s.args.flows.now (flows₁ t) (a₁ t) (b₁ t) _ _ t.try-likely.result.found
     ((t.try-likely.ensures.2 s.args.flows.now (bounds (measured t) _)).1 c.if1.false)
 
 room : (c : tie.Else1) → length (flows₁ (tried c)) ≡ (origin (tried c)).args.sizes.edges
 room c =
     let exact = (origin (tried c)).requires.0.exact in
-    bracket-length (tried c).try-likely.result.found (omega (arith, exact)) (still c) ∙ exact
+    bracket_length (tried c).try-likely.result.found (omega (arith, exact)) (still c) ∙ exact
 
 propose-requires : tie.Need-propose-requires
 propose-requires c κs =
     let l = c.before.before.before.before.before in
     let t = tried l in
     let s = origin t in
-    lent-pivots s.args.rotations.now (ground s) s.pre.3 t.try-likely.ensures.0 (room l)
+    lent_pivots s.args.rotations.now (ground s) s.pre.3 t.try-likely.ensures.0 (room l)
 
 -- ── and lowered by the pivots ──
 abbrev left : tie.After-propose → tie.Else1
@@ -238,8 +238,8 @@ close-in-requires c κs =
       record {
         lent = record { opened = p.0.opened; ends = p.0.ends; exact = room (left w) };
         small = p.1;
-        size-a = e.1;
-        size-b = t.try-likely.ensures.1;
+        size_a = e.1;
+        size_b = t.try-likely.ensures.1;
         bracket = anew t.try-likely.result.found (begun w);
       },
       e.0,
@@ -261,10 +261,10 @@ same-length-2 c =
     let l = left (proposed z) in
     let t = tried l in
     let s = origin t in
-    maximized-length (𝓜 s) s.args.sizes.outer (caps s) s.args.demand.source s.args.demand.sink (flows₁ t) (flows₂ z) (a₃ z) z.close-in.result
+    maximized_length (𝓜 s) s.args.sizes.outer (caps s) s.args.demand.source s.args.demand.sink (flows₁ t) (flows₂ z) (a₃ z) z.close-in.result
     (omega (arith, room l))
     z.close-in.ensures.2
-    ∙ bracket-length t.try-likely.result.found (omega (arith, s.pre.0.exact)) (still l)
+    ∙ bracket_length t.try-likely.result.found (omega (arith, s.pre.0.exact)) (still l)
 
 returns-2 : tie.Need-returns-2
 returns-2 c =
@@ -273,7 +273,7 @@ returns-2 c =
     let t = tried (left w) in
     let s = origin t in (
       z.close-in.ensures.1,
-      told-before s.args.sizes.outer (ground s) s.args.flows.now (flows₁ t) (a₂ w) (b₁ t) _ _ t.try-likely.result.found (begun w) (flows₂ z)
+      told_before s.args.sizes.outer (ground s) s.args.flows.now (flows₁ t) (a₂ w) (b₁ t) _ _ t.try-likely.result.found (begun w) (flows₂ z)
           (a₃ z) z.close-in.result z.close-in.ensures.2,
     )
 

@@ -4,8 +4,8 @@ use lib.IntN.{pos, ◌-ℤ◌}
 use lib.Signed.{◌≤ℤ◌, ◌<ℤ◌}
 use mir.Syntax.{w32}
 use mir.Val.{to_z, of_z, SFits}
-use Rattle.signed.proofs.Laws.{number-of-bits}
-use Rattle.maximum.proofs.Stepping.{half_of, between_is, between-fits, between-positive, at-middle, middle-fits}
+use Rattle.signed.proofs.Laws.{number_of_bits}
+use Rattle.maximum.proofs.Stepping.{half_of, between_is, between_fits, between_positive, at_middle, middle_fits}
 use Rattle.maximum.proofs.middle.Statement.{statement}
 use Rattle.maximum.proofs.middle.Tie as tie
 
@@ -13,42 +13,42 @@ use Rattle.maximum.proofs.middle.Tie as tie
 between : (c : tie.After-minus) → to_z w32 (of_z w32 c.minus.result) ≡ c.before.args.high -ℤ c.before.args.low
 between c =
     let h = c.before.requires in
-    number-of-bits _ (record { sfits = c.minus.type-inv }) ∙ c.minus.ensures ∙ between_is h.0 h.1 h.2
+    number_of_bits _ (record { sfits = c.minus.type-inv }) ∙ c.minus.ensures ∙ between_is h.0 h.1 h.2
 
 -- the half, read back from its bits
 half : (c : tie.After-halve) → to_z w32 (of_z w32 c.halve.result) ≡ c.halve.result
-half c = number-of-bits _ (record { sfits = c.halve.type-inv })
+half c = number_of_bits _ (record { sfits = c.halve.type-inv })
 
 halves : (c : tie.After-halve)
     → (pos 0 ≤ℤ c.halve.result) × (c.halve.result ≤ℤ to_z w32 (of_z w32 c.before.minus.result))
     × (pos 0 <ℤ to_z w32 (of_z w32 c.before.minus.result) → c.halve.result <ℤ to_z w32 (of_z w32 c.before.minus.result))
 halves c =
     let h = c.before.before.requires in
-    half_of (between-positive h.0 h.1 h.2 _ (between c.before)) c.halve.ensures
+    half_of (between_positive h.0 h.1 h.2 _ (between c.before)) c.halve.ensures
 
 minus-requires : tie.Need-minus-requires
 minus-requires c κs =
     let h = c.requires in
-    between-fits h.0 h.1 h.2
+    between_fits h.0 h.1 h.2
 
 halve-requires : tie.Need-halve-requires
 halve-requires c κs =
     let h = c.before.requires in
-    between-positive h.0 h.1 h.2 _ (between c)
+    between_positive h.0 h.1 h.2 _ (between c)
 
 minus-requires-2 : tie.Need-minus-requires-2
 minus-requires-2 c κs =
     let s = c.before.before in
     let h = s.requires in
     subst (λ y. SFits w32 (to_z w32 (of_z w32 s.args.high) -ℤ y)) (sym (half c))
-    (middle-fits h.0 h.1 h.2 _ _ (between c.before) (halves c))
+    (middle_fits h.0 h.1 h.2 _ _ (between c.before) (halves c))
 
 returns : tie.Need-returns
 returns c =
     let s = c.before.before.before in
     let h = s.requires in
-    at-middle h.0 h.1 h.2 _ _ (between c.before.before) (halves c.before) _
-    (number-of-bits _ (record { sfits = c.minus2.type-inv }) ∙ c.minus2.ensures ∙ ap₂ (λ x y. x -ℤ y) (number-of-bits _ s.ranges.high) (half c.before))
+    at_middle h.0 h.1 h.2 _ _ (between c.before.before) (halves c.before) _
+    (number_of_bits _ (record { sfits = c.minus2.type-inv }) ∙ c.minus2.ensures ∙ ap₂ (λ x y. x -ℤ y) (number_of_bits _ s.ranges.high) (half c.before))
 
 pub middle-spec : {M : Type 1} → statement M
 middle-spec = tie.close (tie.spec minus-requires halve-requires minus-requires-2 returns)

@@ -10,7 +10,7 @@ use types.Run.{OneOf}
 use denote.Enum.Declared.{tag_of}
 use borrow.Author.Rules.{rules}
 use Rattle.integers.specs.inner.Limited.{Limited}
-use Rattle.signed.proofs.Laws.{number-of-bits}
+use Rattle.signed.proofs.Laws.{number_of_bits}
 use Rattle.arrays.specs.At.{at, atℤ}
 use Rattle.cuts.specs.inner.Cut.{cut_of}
 use Rattle.node_flags.specs.inner.Flags.{Sided}
@@ -18,7 +18,7 @@ use Rattle.arrays.specs.inner.Flags.{flagged}
 use Rattle.node_flags.specs.declared.Side.{Side}
 use Rattle.node_flags.specs.declared.Side.TheVariants as side
 use Rattle.node_flags.specs.contracts.Side as tags
-use Rattle.maximum.proofs.Joining.{cut-limited}
+use Rattle.maximum.proofs.Joining.{cut_limited}
 use Rattle.maximum.proofs.narrow_by.Statement.{statement}
 use Rattle.maximum.proofs.narrow_by.Tie as tie
 
@@ -37,8 +37,8 @@ Total c =
     to_z w32 (of_z w32 c.capacity.result)
     ≡ cut_of s.args.darts (at s.args.tails.now) (atℤ s.args.capacities.now) (flagged s.args.inside.now)
 
-total-is : (c : tie.After-capacity) → Total c
-total-is c = number-of-bits _ (record { sfits = c.capacity.type-inv }) ∙ c.capacity.ensures
+total_is : (c : tie.After-capacity) → Total c
+total_is c = number_of_bits _ (record { sfits = c.capacity.type-inv }) ∙ c.capacity.ensures
 
 -- the set lies on the side that was told
 abbrev OnSide : tie.After-side-of → Side → Type 0
@@ -59,7 +59,7 @@ returns c =
       (
         side.Source,
         on-side sided side.Source told.enum_told.given.1,
-        (refl, number-of-bits _ s.ranges.low, total-is sided.before, c.copy-flags.ensures.1, refl),
+        (refl, number_of_bits _ s.ranges.low, total_is sided.before, c.copy-flags.ensures.1, refl),
       ),
     )
 
@@ -67,7 +67,7 @@ negate-requires : tie.Need-negate-requires
 negate-requires c κs =
     let total = c.before.before.before.before.before.before in
     let h = total.before.requires in
-    subst (Limited 2048000000) (sym (total-is total)) (cut-limited _ _ _ _ h.4 h.7)
+    subst (Limited 2048000000) (sym (total_is total)) (cut_limited _ _ _ _ h.4 h.7)
 
 returns-2 : tie.Need-returns-2
 returns-2 c =
@@ -81,8 +81,8 @@ returns-2 c =
         on-side sided side.Sink told.enum-told2.given.1,
         (
           refl,
-          number-of-bits _ (record { sfits = c.negate.type-inv }) ∙ c.negate.ensures ∙ ap neg_ℤ (total-is sided.before),
-          number-of-bits _ s.ranges.high,
+          number_of_bits _ (record { sfits = c.negate.type-inv }) ∙ c.negate.ensures ∙ ap neg_ℤ (total_is sided.before),
+          number_of_bits _ s.ranges.high,
           refl,
           c.before.copy-flags2.ensures.1,
         ),

@@ -7,9 +7,9 @@ use lib.Signed.{◌≤ℤ◌, lt_z}
 use mir.Syntax.{w32}
 use mir.Val.{to_z, of_z, SFits}
 use borrow.Author.Rules.{rules}
-use Rattle.integers.proofs.Laws.{ge-of-test}
+use Rattle.integers.proofs.Laws.{ge_of_test}
 use Rattle.integers.proofs.Omega.{atoms₁, parts, at_most}
-use Rattle.signed.proofs.Laws.{number-of-bits}
+use Rattle.signed.proofs.Laws.{number_of_bits}
 use Rattle.maximum.proofs.nearest_zero.Statement.{statement}
 use Rattle.maximum.proofs.nearest_zero.Tie as tie
 
@@ -17,22 +17,22 @@ at-itself : (x : ℤ) → x ≤ℤ x
 at-itself x = let a = atoms₁ x in at_most (search parts) (omega arith)
 
 -- the tests, on numbers that the machine holds as bits
-not-above : (x : ℤ) → SFits w32 x → lt_z (pos 0) (to_z w32 (of_z w32 x)) ≡ false → x ≤ℤ pos 0
-not-above x f e = subst (λ y. y ≤ℤ pos 0) (number-of-bits x f) (ge-of-test _ _ e)
+not_above : (x : ℤ) → SFits w32 x → lt_z (pos 0) (to_z w32 (of_z w32 x)) ≡ false → x ≤ℤ pos 0
+not_above x f e = subst (λ y. y ≤ℤ pos 0) (number_of_bits x f) (ge_of_test _ _ e)
 
-not-below : (x : ℤ) → SFits w32 x → lt_z (to_z w32 (of_z w32 x)) (pos 0) ≡ false → pos 0 ≤ℤ x
-not-below x f e = subst (λ y. pos 0 ≤ℤ y) (number-of-bits x f) (ge-of-test _ _ e)
+not_below : (x : ℤ) → SFits w32 x → lt_z (to_z w32 (of_z w32 x)) (pos 0) ≡ false → pos 0 ≤ℤ x
+not_below x f e = subst (λ y. pos 0 ≤ℤ y) (number_of_bits x f) (ge_of_test _ _ e)
 
 returns : tie.Need-returns
 returns c =
     let s = c.before.before in
-    let e = number-of-bits _ s.ranges.low in
+    let e = number_of_bits _ s.ranges.low in
     rw e (at-itself _, s.requires)
 
 returns-2 : tie.Need-returns-2
 returns-2 c =
     let s = c.before.before.before.before in
-    let e = number-of-bits _ s.ranges.high in
+    let e = number_of_bits _ s.ranges.high in
     rw e (s.requires, at-itself _)
 
 returns-3 : tie.Need-returns-3
@@ -40,8 +40,8 @@ returns-3 c =
     let h = c.before in
     let l = h.before.before in
     let s = l.before in (
-      not-above s.args.low s.ranges.low (sym l.is-less.ensures ∙ h.before.if1.false),
-      not-below s.args.high s.ranges.high (sym h.is-less2.ensures ∙ c.if2.false),
+      not_above s.args.low s.ranges.low (sym l.is-less.ensures ∙ h.before.if1.false),
+      not_below s.args.high s.ranges.high (sym h.is-less2.ensures ∙ c.if2.false),
     )
 
 pub nearest-zero-spec : {M : Type 1} → statement M

@@ -10,43 +10,43 @@ use mir.Syntax.{w32}
 use mir.Val.{to_z, of_z}
 use borrow.Author.Rules.{rules}
 use Rattle.integers.specs.inner.Limited.{Limited}
-use Rattle.integers.proofs.Limits.{limited-more}
+use Rattle.integers.proofs.Limits.{limited_more}
 use Rattle.signed.proofs.Limits.{same_bits}
 use Rattle.maps.specs.Map.{Map}
 use Rattle.arrays.specs.At.{atℤ}
 use Rattle.arrays.specs.inner.Flags.{flagged}
-use Rattle.arrays.specs.Maps.{mapOf}
-use Rattle.arrays.proofs.FillLoops.{filled-length}
+use Rattle.arrays.specs.Maps.{map_of}
+use Rattle.arrays.proofs.FillLoops.{filled_length}
 use Rattle.solver.specs.inner.Decision.{Decided}
 use Rattle.maximum.specs.inner.Bracket.{Bracket, Closer}
 use Rattle.maximum.proofs.Bracketing.{
   Ground,
-  ground-of,
-  lent-pivots,
-  source-few,
-  sink-few,
-  tails-few,
-  capacities-few,
+  ground_of,
+  lent_pivots,
+  source_few,
+  sink_few,
+  tails_few,
+  capacities_few,
   high_small,
   low_small,
-  between-limited,
+  between_limited,
   carried,
-  carried-closer,
+  carried_closer,
   lowered,
   nothing,
   narrowed,
-  narrowed-closer,
-  bits-bracket,
-  bits-closer,
+  narrowed_closer,
+  bits_bracket,
+  bits_closer,
   same_bracket,
-  nothing-here,
+  nothing_here,
 }
 use Rattle.maximum.proofs.probe.Statement.{statement}
 use Rattle.maximum.proofs.probe.Tie as tie
 
 -- ── what the function is given ──
 abbrev 𝓜 : tie.Start → Map
-𝓜 c = mapOf c.args.sizes.nodes c.args.sizes.edges c.args.tails.now c.args.rotations.now
+𝓜 c = map_of c.args.sizes.nodes c.args.sizes.edges c.args.tails.now c.args.rotations.now
 
 abbrev caps : tie.Start → ℕ → ℤ
 caps c = atℤ c.args.capacities.now
@@ -65,7 +65,7 @@ abbrev hi : tie.Start → ℤ
 hi c = to_z w32 (of_z w32 c.args.pending.bounds.high)
 
 ground : (c : tie.Start) → Ground (𝓜 c) (caps c) (src c) (snk c)
-ground c = let u = c.requires.0.1 in ground-of u.lent u.small
+ground c = let u = c.requires.0.1 in ground_of u.lent u.small
 
 -- they are small
 lo_small : (c : tie.Start) → Limited 512000000 c.args.pending.bounds.low
@@ -97,7 +97,7 @@ at_bits : (c : tie.Start) (before : List ℤ)
     → Bracket (𝓜 c) c.args.sizes.outer (caps c) (src c) (snk c) before c.args.flows.now c.args.a.now c.args.b.now
     (lo c) (hi c) c.args.pending.bounds.found
 at_bits c before b =
-    bits-bracket c.args.sizes.outer (ground c) before c.args.flows.now c.args.a.now c.args.b.now _ _ c.args.pending.bounds.found b
+    bits_bracket c.args.sizes.outer (ground c) before c.args.flows.now c.args.a.now c.args.b.now _ _ c.args.pending.bounds.found b
 
 closer-of-bits : (c : tie.Start) {low' high' : ℤ} {found' : Bool} → Closer (lo c) (hi c) c.args.pending.bounds.found low' high' found'
     → Closer c.args.pending.bounds.low c.args.pending.bounds.high c.args.pending.bounds.found low' high' found'
@@ -109,7 +109,7 @@ closer-of-bits c {low'} {high'} {found'} h =
 next-value-requires : tie.Need-next-value-requires
 next-value-requires c κs =
     let s = c.before.before.before.before in
-    (in_order s, limited-more (omega arith) (bits-limited (omega arith) (lo_small s)), limited-more (omega arith) (bits-limited (omega arith) (hi_small s)))
+    (in_order s, limited_more (omega arith) (bits-limited (omega arith) (lo_small s)), limited_more (omega arith) (bits-limited (omega arith) (hi_small s)))
 
 abbrev given : tie.After-next-value → tie.Start
 given c = c.before.before.before.before.before
@@ -117,31 +117,31 @@ given c = c.before.before.before.before.before
 abbrev value : tie.After-next-value → ℤ
 value c = to_z w32 (of_z w32 c.next-value.result)
 
-value-small : (c : tie.After-next-value) → Limited 512000000 c.next-value.result
-value-small c =
+value_small : (c : tie.After-next-value) → Limited 512000000 c.next-value.result
+value_small c =
     let e = c.next-value.ensures in
     let s = given c in
-    between-limited 512000000 _ _ _ e.0 e.1 (bits-limited (omega arith) (lo_small s)) (bits-limited (omega arith) (hi_small s))
+    between_limited 512000000 _ _ _ e.0 e.1 (bits-limited (omega arith) (lo_small s)) (bits-limited (omega arith) (hi_small s))
 
-same-value : (c : tie.After-next-value) → value c ≡ c.next-value.result
-same-value c = same_bits (omega arith) (value-small c)
+same_value : (c : tie.After-next-value) → value c ≡ c.next-value.result
+same_value c = same_bits (omega arith) (value_small c)
 
 at_least : (c : tie.After-next-value) → lo (given c) ≤ℤ value c
-at_least c = subst (λ v. lo (given c) ≤ℤ v) (sym (same-value c)) c.next-value.ensures.0
+at_least c = subst (λ v. lo (given c) ≤ℤ v) (sym (same_value c)) c.next-value.ensures.0
 
 at_most : (c : tie.After-next-value) → value c ≤ℤ hi (given c)
-at_most c = subst (λ v. v ≤ℤ hi (given c)) (sym (same-value c)) c.next-value.ensures.1
+at_most c = subst (λ v. v ≤ℤ hi (given c)) (sym (same_value c)) c.next-value.ensures.1
 
 above : (c : tie.After-next-value) → (given c).args.pending.bounds.found ≡ true → lo (given c) <ℤ value c
 above c e =
     let s = given c in
-    subst (λ v. lo s <ℤ v) (sym (same-value c)) (c.next-value.ensures.2 e (rw (same-lo s, same-hi s) (s.pre.3 e)))
+    subst (λ v. lo s <ℤ v) (sym (same_value c)) (c.next-value.ensures.2 e (rw (same-lo s, same-hi s) (s.pre.3 e)))
 
 decide-requires : tie.Need-decide-requires
 decide-requires c κs =
     let n = c.before.before.before in
     let p = (given n).requires in
-    (p.0.1.lent, limited-more (omega arith) (bits-limited (omega arith) (value-small n)), p.1, refl)
+    (p.0.1.lent, limited_more (omega arith) (bits-limited (omega arith) (value_small n)), p.1, refl)
 
 -- ── the decision ──
 abbrev asked : tie.After-decide → tie.After-next-value
@@ -175,8 +175,8 @@ propose-requires c κs =
     let b = base k in
     let g = ground b in
     let exact = b.pre.0.1.lent.exact in
-    lent-pivots b.args.rotations.now g k.decide.ensures.2 b.pre.0.1.size-a
-    (filled-length _ _ b.args.flows.now (flows' k) (decided k t.if1.true).2 (omega (arith, exact)) ∙ exact)
+    lent_pivots b.args.rotations.now g k.decide.ensures.2 b.pre.0.1.size_a
+    (filled_length _ _ b.args.flows.now (flows' k) (decided k t.if1.true).2 (omega (arith, exact)) ∙ exact)
 
 abbrev taken : tie.After-propose → tie.Then1
 taken c = c.before.before.before.before
@@ -221,29 +221,29 @@ returns c =
     let e = c.propose.ensures in (
       e.0,
       e.1,
-      b.pre.0.1.size-b,
+      b.pre.0.1.size_b,
       λ _. closer-of-bits b
-          (carried-closer b.args.sizes.outer (ground b) (lo b) (hi b) (value n) b.args.pending.bounds.found (at_least n) (at_most n) _
+          (carried_closer b.args.sizes.outer (ground b) (lo b) (hi b) (value n) b.args.pending.bounds.found (at_least n) (at_most n) _
           (rw (new-high c) (proposed c w.0 w.1.bracket).1) (above n)),
       λ before h. (λ none. absurd (false≢true none), λ _. rw (new-high c) (proposed c before h).0),
     )
 
 -- ── it cannot be: the set moves a bound, or shows that there is nothing ──
 mul-narrow-by : tie.Need-overflow-mul-narrow-by
-mul-narrow-by c = omega (arith, (ground (base c.before.before.before.before)).few-edges)
+mul-narrow-by c = omega (arith, (ground (base c.before.before.before.before)).few_edges)
 
 narrow-by-requires : tie.Need-narrow-by-requires
 narrow-by-requires c κs =
     let b = base c.before.before.before.before.before.before in
     let g = ground b in (
-      b.pre.0.1.size-a,
-      b.pre.0.1.size-b,
-      source-few g,
-      sink-few g,
-      omega (arith, g.few-edges),
+      b.pre.0.1.size_a,
+      b.pre.0.1.size_b,
+      source_few g,
+      sink_few g,
+      omega (arith, g.few_edges),
       omega arith,
-      tails-few g,
-      capacities-few g,
+      tails_few g,
+      capacities_few g,
     )
 
 abbrev probed : tie.After-narrow-by → tie.After-decide
@@ -290,14 +290,14 @@ returns-2 c =
       m.narrow-by.ensures.0,
       m.narrow-by.ensures.1,
       λ e. closer-of-bits b
-          (bits-closer o g w.0 x (a' m) (b' m) _ _ f (moved m w.0 w.1.bracket e)
-          (narrowed-closer o g (lo b) (hi b) (value n) f (at_least n) (at_most n) (inside' k) d.1 b.args.a.now (a' m) b.args.b.now (b' m)
+          (bits_closer o g w.0 x (a' m) (b' m) _ _ f (moved m w.0 w.1.bracket e)
+          (narrowed_closer o g (lo b) (hi b) (value n) f (at_least n) (at_most n) (inside' k) d.1 b.args.a.now (a' m) b.args.b.now (b' m)
           m.narrow-by.result r.0 r.1 r.2 e)),
       λ before h. (
-        λ e. nothing-here (𝓜 b) o (caps b) (src b) (snk b) before x (flows' k) (a' m) d.0
+        λ e. nothing_here (𝓜 b) o (caps b) (src b) (snk b) before x (flows' k) (a' m) d.0
             (nothing o g before x b.args.a.now b.args.b.now (lo b) (hi b) f (at_bits b before h) (value n) (at_least n) (at_most n)
             (inside' k) d.1 (a' m) (b' m) m.narrow-by.result r.0 r.1 r.2 e),
-        λ e. same_bracket d.0 (bits-bracket o g before x (a' m) (b' m) _ _ f (moved m before h e)),
+        λ e. same_bracket d.0 (bits_bracket o g before x (a' m) (b' m) _ _ f (moved m before h e)),
       ),
     )
 

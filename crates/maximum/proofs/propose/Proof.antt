@@ -4,7 +4,7 @@ use mathlib.Core.List.{List, []}
 use Prim.Native.Nat.{ℕ}
 use lib.IntN.{ℤ}
 use borrow.Author.Rules.{rules}
-use Rattle.signed.proofs.Laws.{number-of-bits}
+use Rattle.signed.proofs.Laws.{number_of_bits}
 use Rattle.maximum.specs.inner.Narrowing.{Lowers, stays}
 use Rattle.maximum.proofs.propose.Statement.{statement}
 use Rattle.maximum.proofs.propose.Tie as tie
@@ -12,7 +12,7 @@ use Rattle.maximum.proofs.propose.Tie as tie
 returns : tie.Need-returns
 returns c =
     let s = c.before.before in
-    (s.requires.size-parents, s.requires.size-a, ([], stays (number-of-bits _ s.ranges.high) refl))
+    (s.requires.size_parents, s.requires.size_a, ([], stays (number_of_bits _ s.ranges.high) refl))
 
 -- bounds that the machine holds as bits
 same-bounds : {s t : ℕ} {total high high₁ low low₁ : ℤ} {inside A A' : List ℕ} → high ≡ high₁ → low ≡ low₁ → Lowers s t total high low inside A A'
@@ -26,7 +26,7 @@ returns-2 c =
     let s = c.before.before.before.before.before.before.before.before.before in (
       search rules,
       e.0,
-      (_, same-bounds (number-of-bits _ s.ranges.high) (sym (number-of-bits _ (record { sfits = c.lower.type-inv }))) e.1),
+      (_, same-bounds (number_of_bits _ s.ranges.high) (sym (number_of_bits _ (record { sfits = c.lower.type-inv }))) e.1),
     )
 
 pub propose-spec : {M : Type 1} → statement M

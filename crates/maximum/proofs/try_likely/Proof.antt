@@ -8,24 +8,24 @@ use lib.Signed.{◌<ℤ◌}
 use mir.Syntax.{w32}
 use mir.Val.{to_z, of_z}
 use borrow.Author.Rules.{rules}
-use Rattle.integers.proofs.Laws.{le_of_lt, lt-of-test}
+use Rattle.integers.proofs.Laws.{le_of_lt, lt_of_test}
 use Rattle.signed.proofs.Limits.{same_bits}
 use Rattle.maps.specs.Map.{Map}
 use Rattle.arrays.specs.At.{atℤ}
 use Rattle.arrays.specs.inner.Flags.{flagged}
-use Rattle.arrays.specs.Maps.{mapOf}
-use Rattle.maximum.proofs.Bracketing.{Ground, ground-of, high_small, low_small}
+use Rattle.arrays.specs.Maps.{map_of}
+use Rattle.maximum.proofs.Bracketing.{Ground, ground_of, high_small, low_small}
 use Rattle.maximum.proofs.try_likely.Statement.{statement}
 use Rattle.maximum.proofs.try_likely.Tie as tie
 
 abbrev 𝓜 : tie.Start → Map
-𝓜 c = mapOf c.args.sizes.nodes c.args.sizes.edges c.args.tails.now c.args.rotations.now
+𝓜 c = map_of c.args.sizes.nodes c.args.sizes.edges c.args.tails.now c.args.rotations.now
 
 abbrev caps : tie.Start → ℕ → ℤ
 caps c = atℤ c.args.capacities.now
 
 ground : (c : tie.Start) → Ground (𝓜 c) (caps c) c.args.given.terminals.source c.args.given.terminals.sink
-ground c = let u = c.requires.0.1 in ground-of u.lent u.small
+ground c = let u = c.requires.0.1 in ground_of u.lent u.small
 
 same-lo : (c : tie.Start) → to_z w32 (of_z w32 c.args.given.bounds.low) ≡ c.args.given.bounds.low
 same-lo c =
@@ -40,7 +40,7 @@ same-hi c = same_bits (omega arith) (high_small c.args.sizes.outer (ground c) c.
 returns : tie.Need-returns
 returns c =
     let p = c.before.before.requires in
-    (p.0.1.size-a, p.0.1.size-b, λ before h. (λ none. absurd (true≢false (sym none ∙ p.1)), λ _. h))
+    (p.0.1.size_a, p.0.1.size_b, λ before h. (λ none. absurd (true≢false (sym none ∙ p.1)), λ _. h))
 
 abbrev begun : tie.Then2 → tie.Start
 begun c = c.before.before.before.before.before.before
@@ -49,7 +49,7 @@ below : (c : tie.Then2) → (begun c).args.given.bounds.low <ℤ (begun c).args.
 below c =
     let s = begun c in
     subst (λ h. s.args.given.bounds.low <ℤ h) (same-hi s)
-    (subst (λ l. l <ℤ to_z w32 (of_z w32 s.args.given.bounds.high)) (same-lo s) (lt-of-test _ _ (sym c.before.is-less.ensures ∙ c.if2.true)))
+    (subst (λ l. l <ℤ to_z w32 (of_z w32 s.args.given.bounds.high)) (same-lo s) (lt_of_test _ _ (sym c.before.is-less.ensures ∙ c.if2.true)))
 
 probe-requires : tie.Need-probe-requires
 probe-requires c κs =
@@ -60,7 +60,7 @@ probe-requires c κs =
 returns-3 : tie.Need-returns-3
 returns-3 c =
     let p = c.before.before.before.before.before.before.requires in
-    (p.0.1.size-a, p.0.1.size-b, λ before h. (λ none. absurd (true≢false (sym none ∙ p.1)), λ _. h))
+    (p.0.1.size_a, p.0.1.size_b, λ before h. (λ none. absurd (true≢false (sym none ∙ p.1)), λ _. h))
 
 pub try-likely-spec : {M : Type 1} → statement M
 try-likely-spec = tie.close (tie.spec returns (λ c κs. search rules) probe-requires (λ c. search rules) (λ c. search rules) returns-3)

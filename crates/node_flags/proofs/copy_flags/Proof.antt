@@ -4,7 +4,7 @@ use Prim.Native.Nat.{◌-◌}
 use native.Mathlib.Omega.{arith}
 use borrow.Author.Rules.{rules}
 use Rattle.arrays.specs.inner.Flags.{flagged}
-use Rattle.node_flags.proofs.FillingFlags.{Filled, filled-start, filled-step, filled-all}
+use Rattle.node_flags.proofs.FillingFlags.{Filled, filled_start, filled_step, filled_all}
 use Rattle.node_flags.proofs.copy_flags.Statement.{statement}
 use Rattle.node_flags.proofs.copy_flags.Tie as tie
 
@@ -15,17 +15,17 @@ abbrev decreases-loop : tie.decreases-loop
 decreases-loop from to₀ u₀ to u = 1024 - u
 
 loop-holds : tie.Need-loop-init invariant-loop decreases-loop
-loop-holds c = filled-start _ _ c.requires
+loop-holds c = filled_start _ _ c.requires
 
 loop-again : tie.Need-loop-preserved invariant-loop decreases-loop
 loop-again c =
     let o = c.before.before.loop in
-    filled-step _ o.to o.u _ (omega arith) o.invariant refl
+    filled_step _ o.to o.u _ (omega arith) o.invariant refl
 
 returns : tie.Need-returns invariant-loop decreases-loop
 returns c =
     let o = c.before.loop in
-    (o.invariant.long, filled-all _ (omega arith) o.invariant)
+    (o.invariant.long, filled_all _ (omega arith) o.invariant)
 
 pub copy-flags-spec : {M : Type 1} → statement M
 copy-flags-spec =

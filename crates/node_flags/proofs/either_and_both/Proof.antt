@@ -2,7 +2,7 @@
 use Prim.Native.Nat.{◌-◌}
 use native.Mathlib.Omega.{arith}
 use borrow.Author.Rules.{rules}
-use Rattle.node_flags.proofs.FillingFlags.{Joining, joining-start, joining-step, filled-all}
+use Rattle.node_flags.proofs.FillingFlags.{Joining, joining_start, joining_step, filled_all}
 use Rattle.node_flags.proofs.either_and_both.Statement.{statement}
 use Rattle.node_flags.proofs.either_and_both.Tie as tie
 
@@ -13,18 +13,18 @@ abbrev decreases-loop : tie.decreases-loop
 decreases-loop a₀ b₀ u₀ a b u = 1024 - u
 
 loop-holds : tie.Need-loop-init invariant-loop decreases-loop
-loop-holds c = joining-start _ _ c.requires.0 c.requires.1
+loop-holds c = joining_start _ _ c.requires.0 c.requires.1
 
 loop-again : tie.Need-loop-preserved invariant-loop decreases-loop
 loop-again c =
     let e = c.before in
     let o = e.before.before.before.before.loop in
-    joining-step e.either.result c.both.result (omega arith) o.invariant e.either.ensures c.both.ensures
+    joining_step e.either.result c.both.result (omega arith) o.invariant e.either.ensures c.both.ensures
 
 returns : tie.Need-returns invariant-loop decreases-loop
 returns c =
     let i = c.before.loop.invariant in
-    (i.united.long, i.common.long, filled-all _ (omega arith) i.united, filled-all _ (omega arith) i.common)
+    (i.united.long, i.common.long, filled_all _ (omega arith) i.united, filled_all _ (omega arith) i.common)
 
 pub either-and-both-spec : {M : Type 1} → statement M
 either-and-both-spec =

@@ -5,7 +5,7 @@ use Prim.Native.Nat.{◌-◌}
 use native.Mathlib.Omega.{arith}
 use lib.ListN.{length-set}
 use borrow.Author.Rules.{rules}
-use Rattle.node_flags.proofs.FillingFlags.{Filled, filled-start, filled-step, one-flagged}
+use Rattle.node_flags.proofs.FillingFlags.{Filled, filled_start, filled_step, one_flagged}
 use Rattle.node_flags.proofs.flag_one.Statement.{statement}
 use Rattle.node_flags.proofs.flag_one.Tie as tie
 
@@ -16,18 +16,18 @@ abbrev decreases-loop : tie.decreases-loop
 decreases-loop v inside₀ u₀ inside u = 1024 - u
 
 loop-holds : tie.Need-loop-init invariant-loop decreases-loop
-loop-holds c = filled-start _ _ c.requires.0
+loop-holds c = filled_start _ _ c.requires.0
 
 loop-again : tie.Need-loop-preserved invariant-loop decreases-loop
 loop-again c =
     let o = c.before.loop in
-    filled-step (λ w. false) o.inside o.u 0 (omega arith) o.invariant refl
+    filled_step (λ w. false) o.inside o.u 0 (omega arith) o.invariant refl
 
 returns : tie.Need-returns invariant-loop decreases-loop
 returns c =
     let s = c.before.before in
     let o = c.before.loop in
-    (simp length-set o.invariant.long, one-flagged s.args.v s.requires.1 (omega arith) o.invariant)
+    (simp length-set o.invariant.long, one_flagged s.args.v s.requires.1 (omega arith) o.invariant)
 
 pub flag-one-spec : {M : Type 1} → statement M
 flag-one-spec =

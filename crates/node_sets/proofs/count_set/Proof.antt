@@ -3,28 +3,28 @@ use Prim.Native.Nat.{ℕ, ◌-◌, ◌*◌, ◌≤◌}
 use mathlib.Core.Path.{◌≡◌, refl, ap, ◌∙◌}
 use native.Mathlib.Omega.{arith}
 use lib.ListN.{length, take}
-use Rattle.flows.specs.ProvingSet.{wordsFor, size}
-use Rattle.node_sets.proofs.Size.{size-more}
+use Rattle.flows.specs.ProvingSet.{words_for, size}
+use Rattle.node_sets.proofs.Size.{size_more}
 use borrow.Author.Rules.{rules}
 use Rattle.node_sets.proofs.count_set.Statement.{statement}
 use Rattle.node_sets.proofs.count_set.Tie as tie
 
 abbrev invariant-loop : tie.invariant-loop
 invariant-loop words nodes n total₀ i₀ total i =
-    (i ≤ n) × (n ≤ length words) × (n ≤ 16) × (n ≡ wordsFor nodes) × (total ≤ 64 * i) × (total ≡ size (take i words))
+    (i ≤ n) × (n ≤ length words) × (n ≤ 16) × (n ≡ words_for nodes) × (total ≤ 64 * i) × (total ≡ size (take i words))
 
 abbrev decreases-loop : tie.decreases-loop
 decreases-loop words nodes n total₀ i₀ total i = n - i
 
 words-for-requires : tie.Need-words-for-requires invariant-loop decreases-loop
-words-for-requires c κs = c.before.requires.few-nodes
+words-for-requires c κs = c.before.requires.few_nodes
 
 loop-holds : tie.Need-loop-init invariant-loop decreases-loop
 unfolding size
 loop-holds c =
     let p = c.before.before.requires in
     let e = c.words-for.ensures in
-    (omega arith, omega (arith, e, p.exact), omega (arith, e, p.few-nodes), e, omega arith, refl)
+    (omega arith, omega (arith, e, p.exact), omega (arith, e, p.few_nodes), e, omega arith, refl)
 
 count-word-requires : tie.Need-count-word-requires invariant-loop decreases-loop
 count-word-requires c κs = tt
@@ -33,7 +33,7 @@ loop-again : tie.Need-loop-preserved invariant-loop decreases-loop
 loop-again c =
     let o = c.before.before.before.loop in
     let words = c.before.before.before.before.before.before.args.words.now in
-    let m = size-more words o.i (omega (arith, o.invariant.1)) in
+    let m = size_more words o.i (omega (arith, o.invariant.1)) in
     let e = c.count_word.ensures in
     (omega arith, o.invariant.1, o.invariant.2, o.invariant.3, omega (arith, e.1, o.invariant.4), omega (arith, m, e.0, o.invariant.5))
 
@@ -41,7 +41,7 @@ returns : tie.Need-returns invariant-loop decreases-loop
 returns c =
     let o = c.before.loop in
     let words = c.before.before.before.before.args.words.now in
-    let e : o.i ≡ wordsFor c.before.before.before.before.args.nodes = omega (arith, o.invariant.3, o.invariant.0) in
+    let e : o.i ≡ words_for c.before.before.before.before.args.nodes = omega (arith, o.invariant.3, o.invariant.0) in
     o.invariant.5 ∙ ap (λ (x : ℕ). size (take x words)) e
 
 pub count-set-spec : {M : Type 1} → statement M

@@ -1,18 +1,18 @@
 -- The flag of a node is read; past the last node it is no.
 use mathlib.Core.Path.{sym, ◌∙◌}
-use Rattle.integers.proofs.Tests.{ltb-false}
-use Rattle.node_sets.proofs.Writing.{flag-inside, flag-outside}
+use Rattle.integers.proofs.Tests.{ltb_false}
+use Rattle.node_sets.proofs.Writing.{flag_inside, flag_outside}
 use borrow.Author.Rules.{rules}
 use Rattle.node_sets.proofs.flagged.Statement.{statement}
 use Rattle.node_sets.proofs.flagged.Tie as tie
 
 returns : tie.Need-returns
-returns c = sym (flag-inside c.before.before.args.inside.now c.before.before.args.nodes c.before.before.args.v c.before.if1.true)
+returns c = sym (flag_inside c.before.before.args.inside.now c.before.before.args.nodes c.before.before.args.v c.before.if1.true)
 
 returns-2 : tie.Need-returns-2
 returns-2 c =
-    ltb-false c.before.args.v c.before.args.nodes c.if1.false
-    ∙ sym (flag-outside c.before.args.inside.now c.before.args.nodes c.before.args.v c.if1.false)
+    ltb_false c.before.args.v c.before.args.nodes c.if1.false
+    ∙ sym (flag_outside c.before.args.inside.now c.before.args.nodes c.before.args.v c.if1.false)
 
 pub flagged-spec : {M : Type 1} → statement M
 flagged-spec = tie.close (tie.spec (λ c. search rules) returns returns-2)

@@ -6,7 +6,7 @@ use mathlib.Core.Bool.{Bool}
 use mathlib.Core.List.{List}
 use native.Mathlib.Omega.{arith}
 use Rattle.node_sets.specs.inner.Words.{word, flag}
-use Rattle.node_sets.proofs.Bits.{word_below, word-with, word-without}
+use Rattle.node_sets.proofs.Bits.{word_below, word_with, word_without}
 use borrow.Author.Rules.{rules}
 use Rattle.node_sets.proofs.word_of.Statement.{statement}
 use Rattle.node_sets.proofs.word_of.Tie as tie
@@ -38,8 +38,8 @@ loop-again c =
     let b = tests a.inside.now a.nodes a.j in
     let t = c.before.flagged.ensures in
     ⊎_elim
-    (λ w. (omega arith, w.2 ∙ w.1.ensures ∙ ap (λ (x : ℕ). 2 ^ o.k + x) o.invariant.1 ∙ sym (word-with b o.k (sym t ∙ w.0.taken))))
-    (λ w. (omega arith, w.1 ∙ o.invariant.1 ∙ sym (word-without b o.k (sym t ∙ w.0.left))))
+    (λ w. (omega arith, w.2 ∙ w.1.ensures ∙ ap (λ (x : ℕ). 2 ^ o.k + x) o.invariant.1 ∙ sym (word_with b o.k (sym t ∙ w.0.taken))))
+    (λ w. (omega arith, w.1 ∙ o.invariant.1 ∙ sym (word_without b o.k (sym t ∙ w.0.left))))
     c.if1.branch
 
 returns : tie.Need-returns invariant-loop decreases-loop

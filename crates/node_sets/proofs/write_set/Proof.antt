@@ -4,34 +4,34 @@ use mathlib.Core.Path.{◌≡◌, subst}
 use native.Mathlib.Omega.{arith}
 use lib.ListN.{length, length-set}
 use borrow.Author.Rules.{rules}
-use Rattle.flows.specs.ProvingSet.{wordsFor}
-use Rattle.node_sets.proofs.Writing.{Writing, writing_start, writing_step, writing-end}
+use Rattle.flows.specs.ProvingSet.{words_for}
+use Rattle.node_sets.proofs.Writing.{Writing, writing_start, writing_step, writing_end}
 use Rattle.node_sets.proofs.write_set.Statement.{statement}
 use Rattle.node_sets.proofs.write_set.Tie as tie
 
 abbrev invariant-loop : tie.invariant-loop
 invariant-loop inside nodes words₀ n j₀ words j =
-    (j ≤ n) × (n ≤ 16) × (n ≡ wordsFor nodes) × (n ≤ length words) × Writing inside nodes words₀ words j
+    (j ≤ n) × (n ≤ 16) × (n ≡ words_for nodes) × (n ≤ length words) × Writing inside nodes words₀ words j
 
 abbrev decreases-loop : tie.decreases-loop
 decreases-loop inside nodes words₀ n j₀ words j = n - j
 
 words-for-requires : tie.Need-words-for-requires invariant-loop decreases-loop
-words-for-requires c κs = c.before.requires.few-nodes
+words-for-requires c κs = c.before.requires.few_nodes
 
 loop-holds : tie.Need-loop-init invariant-loop decreases-loop
 loop-holds c =
     let s = c.before.before in
     let e = c.words-for.ensures in (
       omega arith,
-      omega (arith, e, s.requires.few-nodes),
+      omega (arith, e, s.requires.few_nodes),
       e,
       omega (arith, e, s.requires.exact),
       writing_start s.args.inside.now s.args.nodes s.args.words.now,
     )
 
 word-of-requires : tie.Need-word-of-requires invariant-loop decreases-loop
-word-of-requires c κs = (c.before.before.before.before.requires.few-nodes, omega (arith, c.before.loop.invariant.1))
+word-of-requires c κs = (c.before.before.before.before.requires.few_nodes, omega (arith, c.before.loop.invariant.1))
 
 loop-again : tie.Need-loop-preserved invariant-loop decreases-loop
 loop-again c =
@@ -48,14 +48,14 @@ loop-again c =
     )
 
 same_length : tie.Need-same-length invariant-loop decreases-loop
-same_length c = c.before.loop.invariant.4.length-kept
+same_length c = c.before.loop.invariant.4.length_kept
 
 returns : tie.Need-returns invariant-loop decreases-loop
 returns c =
     let o = c.before.loop in
     let s = c.before.before.before.before in
-    let e : o.j ≡ wordsFor s.args.nodes = omega (arith, o.invariant.2, o.invariant.0) in
-    writing-end s.args.inside.now s.args.nodes s.args.words.now o.words
+    let e : o.j ≡ words_for s.args.nodes = omega (arith, o.invariant.2, o.invariant.0) in
+    writing_end s.args.inside.now s.args.nodes s.args.words.now o.words
     (subst (λ (x : ℕ). Writing s.args.inside.now s.args.nodes s.args.words.now o.words x) e o.invariant.4) (omega (arith, s.requires.exact))
 
 pub write-set-spec : {M : Type 1} → statement M

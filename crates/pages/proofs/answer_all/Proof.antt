@@ -4,22 +4,22 @@ use mathlib.Core.Path.{◌≡◌, refl, ◌∙◌}
 use native.Mathlib.Omega.{arith}
 use lib.ListN.{length}
 use borrow.Author.Rules.{rules}
-use Rattle.flows.specs.ProvingSet.{wordsFor}
-use Rattle.arrays.specs.Maps.{drawingOf}
-use Rattle.pages.specs.Question.{questionAt}
-use Rattle.pages.specs.inner.Listed.{solvedAlone}
-use Rattle.pages.proofs.Listing.{words-few}
-use Rattle.pages.proofs.Stretches.{small-end, stretch-room, stretch-exact}
-use Rattle.pages.proofs.Answering.{Halfway, halfway-start, halfway-turn, all-answered}
+use Rattle.flows.specs.ProvingSet.{words_for}
+use Rattle.arrays.specs.Maps.{drawing_of}
+use Rattle.pages.specs.Question.{question_at}
+use Rattle.pages.specs.inner.Listed.{solved_alone}
+use Rattle.pages.proofs.Listing.{words_few}
+use Rattle.pages.proofs.Stretches.{small_end, stretch_room, stretch_exact}
+use Rattle.pages.proofs.Answering.{Halfway, halfway_start, halfway_turn, all_answered}
 use Rattle.pages.proofs.answer_all.Statement.{statement}
 use Rattle.pages.proofs.answer_all.Tie as tie
 
 abbrev invariant-loop : tie.invariant-loop
 invariant-loop tails rotations lefts capacities order from grouped starts sizes flows₀ sets₀
     list count edges words answers₀ i₀ flows sets answers i =
-    (i ≤ count) × (count ≡ list.count) × (words ≡ wordsFor sizes.nodes)
-    × Halfway edges words (λ j. solvedAlone (drawingOf sizes.nodes sizes.edges sizes.outer tails rotations capacities)
-    (questionAt list.questions j))
+    (i ≤ count) × (count ≡ list.count) × (words ≡ words_for sizes.nodes)
+    × Halfway edges words (λ j. solved_alone (drawing_of sizes.nodes sizes.edges sizes.outer tails rotations capacities)
+    (question_at list.questions j))
     flows₀ sets₀ i flows sets answers
 
 abbrev decreases-loop : tie.decreases-loop
@@ -31,35 +31,35 @@ decreases-loop tails rotations lefts capacities order from grouped starts sizes 
 abbrev begun : tie.In-loop invariant-loop decreases-loop → tie.Start invariant-loop decreases-loop
 begun c = c.before.before.before.before
 
-flows-small : (c : tie.In-loop invariant-loop decreases-loop) → c.before.loop.i * (begun c).args.sizes.edges + (begun c).args.sizes.edges ≤ 32768
-flows-small c = small-end _ _ _ c.loop-test.true (begun c).requires.1.few (begun c).requires.0.drawn.few-edges
+flows_small : (c : tie.In-loop invariant-loop decreases-loop) → c.before.loop.i * (begun c).args.sizes.edges + (begun c).args.sizes.edges ≤ 32768
+flows_small c = small_end _ _ _ c.loop-test.true (begun c).requires.1.few (begun c).requires.0.drawn.few_edges
 
 sets-small : (c : tie.In-loop invariant-loop decreases-loop) → c.before.loop.i * c.before.before.words-for.result + c.before.before.words-for.result ≤ 32768
 sets-small c =
-    let w = words-few _ (begun c).requires.0.drawn.few-nodes in
-    small-end _ _ _ c.loop-test.true (begun c).requires.1.few (omega (arith, w, c.before.before.words-for.ensures))
+    let w = words_few _ (begun c).requires.0.drawn.few_nodes in
+    small_end _ _ _ c.loop-test.true (begun c).requires.1.few (omega (arith, w, c.before.before.words-for.ensures))
 
-flows-room : (c : tie.In-loop invariant-loop decreases-loop)
+flows_room : (c : tie.In-loop invariant-loop decreases-loop)
     → c.before.loop.i * (begun c).args.sizes.edges + (begun c).args.sizes.edges ≤ length c.before.loop.flows
-flows-room c = stretch-room _ _ _ _ _ c.loop-test.true (begun c).requires.1.flows-room c.before.loop.invariant.3.flows-behind
+flows_room c = stretch_room _ _ _ _ _ c.loop-test.true (begun c).requires.1.flows_room c.before.loop.invariant.3.flows_behind
 
-sets-room : (c : tie.In-loop invariant-loop decreases-loop)
+sets_room : (c : tie.In-loop invariant-loop decreases-loop)
     → c.before.loop.i * c.before.before.words-for.result + c.before.before.words-for.result ≤ length c.before.loop.sets
-sets-room c =
-    stretch-room _ _ _ _ _ c.loop-test.true (rw c.before.before.words-for.ensures (begun c).requires.1.sets-room)
+sets_room c =
+    stretch_room _ _ _ _ _ c.loop-test.true (rw c.before.before.words-for.ensures (begun c).requires.1.sets_room)
     c.before.loop.invariant.3.sets_behind
 
 words-for-requires : tie.Need-words-for-requires invariant-loop decreases-loop
-words-for-requires c κs = c.before.requires.0.drawn.few-nodes
+words-for-requires c κs = c.before.requires.0.drawn.few_nodes
 
 loop-holds : tie.Need-loop-init invariant-loop decreases-loop
-loop-holds c = (omega arith, refl, c.words-for.ensures, halfway-start _ _ _ _ _)
+loop-holds c = (omega arith, refl, c.words-for.ensures, halfway_start _ _ _ _ _)
 
 mul-start : tie.Need-overflow-mul-start invariant-loop decreases-loop
-mul-start c = record { fits = omega (arith, flows-small c) }
+mul-start c = record { fits = omega (arith, flows_small c) }
 
 add-end : tie.Need-overflow-add-end invariant-loop decreases-loop
-add-end c = record { fits = omega (arith, flows-small c) }
+add-end c = record { fits = omega (arith, flows_small c) }
 
 mul-word : tie.Need-overflow-mul-word invariant-loop decreases-loop
 mul-word c = record { fits = omega (arith, sets-small c) }
@@ -68,16 +68,16 @@ add-past : tie.Need-overflow-add-past invariant-loop decreases-loop
 add-past c = record { fits = omega (arith, sets-small c) }
 
 mul-ask : tie.Need-overflow-mul-ask invariant-loop decreases-loop
-mul-ask c = record { fits = omega (arith, flows-small c.before) }
+mul-ask c = record { fits = omega (arith, flows_small c.before) }
 
 part-ask-end : tie.Need-slice-bounds-ask-end invariant-loop decreases-loop
-part-ask-end c = flows-room c.before
+part-ask-end c = flows_room c.before
 
 mul-ask-2 : tie.Need-overflow-mul-ask-2 invariant-loop decreases-loop
 mul-ask-2 c = record { fits = omega (arith, sets-small c.before.before) }
 
 part-ask-end-2 : tie.Need-slice-bounds-ask-end-2 invariant-loop decreases-loop
-part-ask-end-2 c = sets-room c.before.before
+part-ask-end-2 c = sets_room c.before.before
 
 ask-requires : tie.Need-ask-requires invariant-loop decreases-loop
 ask-requires c κs =
@@ -86,8 +86,8 @@ ask-requires c κs =
     let w = t.before.before.words-for in (
       (begun t).requires.0,
       record {
-        flows-exact = stretch-exact e t.before.loop.i t.before.loop.flows (flows-room t);
-        set-exact = stretch-exact w.result t.before.loop.i t.before.loop.sets (sets-room t) ∙ w.ensures;
+        flows_exact = stretch_exact e t.before.loop.i t.before.loop.flows (flows_room t);
+        set_exact = stretch_exact w.result t.before.loop.i t.before.loop.sets (sets_room t) ∙ w.ensures;
       },
     )
 
@@ -101,15 +101,15 @@ loop-again c =
       omega arith,
       refl,
       l.invariant.2,
-      halfway-turn e w _ _ _ l.i l.flows l.sets l.answers l.invariant.3
-          (flows-room t) (sets-room t) (omega (arith, t.loop-test.true, (begun t).requires.1.few))
+      halfway_turn e w _ _ _ l.i l.flows l.sets l.answers l.invariant.3
+          (flows_room t) (sets_room t) (omega (arith, t.loop-test.true, (begun t).requires.1.few))
           (l.i * e + e - l.i * e) (l.i * w + w - l.i * w) (omega arith) (omega arith)
           k.ask.new.1.1.1.1.1.1.1.1.1.1.0 k.ask.new.1.1.1.1.1.1.1.1.1.1.1.0 k.ask.result
           c.before.before.flows.given.0 c.before.sets.given.0 k.ask.ensures,
     )
 
 same_length : tie.Need-same-length invariant-loop decreases-loop
-same_length c = c.before.loop.invariant.3.flows-behind.0
+same_length c = c.before.loop.invariant.3.flows_behind.0
 
 same-length-2 : tie.Need-same-length-2 invariant-loop decreases-loop
 same-length-2 c = c.before.loop.invariant.3.sets_behind.0
@@ -118,9 +118,9 @@ returns : tie.Need-returns invariant-loop decreases-loop
 returns c =
     let s = c.before.before.before.before in
     let l = c.before.loop in
-    all-answered s.args.sizes.nodes s.args.sizes.edges s.args.t10.count _ l.i _ s.args.flows.now l.flows
+    all_answered s.args.sizes.nodes s.args.sizes.edges s.args.t10.count _ l.i _ s.args.flows.now l.flows
     s.args.sets.now l.sets l.answers
-    l.invariant.2 l.invariant.3 (omega (arith, l.invariant.0, c.loop-test.false)) s.requires.1.few s.requires.1.flows-room s.requires.1.sets-room
+    l.invariant.2 l.invariant.3 (omega (arith, l.invariant.0, c.loop-test.false)) s.requires.1.few s.requires.1.flows_room s.requires.1.sets_room
 
 pub answer-all-spec : {M : Type 1} → statement M
 answer-all-spec =

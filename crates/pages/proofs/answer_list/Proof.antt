@@ -1,6 +1,6 @@
 -- A list of questions: the way out by each check, and then the answers.
 use borrow.Author.Rules.{rules}
-use Rattle.pages.proofs.Listing.{refused-so, list-accepted}
+use Rattle.pages.proofs.Listing.{refused_so, list_accepted}
 use Rattle.pages.proofs.answer_list.Statement.{statement}
 use Rattle.pages.proofs.answer_list.Tie as tie
 
@@ -8,16 +8,16 @@ returns : tie.Need-returns
 returns c =
     let k = c.before.before.before.before in
     let a = k.before.before.before.before.args in
-    refused-so _ a.sizes.edges _ _ _ a.flows.now a.sets.now _ _ c.refused-page.result
+    refused_so _ a.sizes.edges _ _ _ a.flows.now a.sets.now _ _ c.refused-page.result
     (rw c.before.before.verdict.given.1 at k.check-list.ensures) c.refused-page.ensures
 
 answer-all-requires : tie.Need-answer-all-requires
 answer-all-requires c κs =
     let k = c.before.before.before.before in
     let s = k.before.before.before.before in
-    let h = list-accepted s.args.sizes.nodes s.args.sizes.edges s.args.list.count s.args.flows.now s.args.sets.now
+    let h = list_accepted s.args.sizes.nodes s.args.sizes.edges s.args.list.count s.args.flows.now s.args.sets.now
     (rw c.before.before.enum_told.given.1 at k.check-list.ensures) in
-    (s.requires, record { few = h.0; flows-room = h.1; sets-room = h.2 })
+    (s.requires, record { few = h.0; flows_room = h.1; sets_room = h.2 })
 
 pub answer-list-spec : {M : Type 1} → statement M
 answer-list-spec =

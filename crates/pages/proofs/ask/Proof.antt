@@ -4,13 +4,13 @@ use mathlib.Core.List.{List}
 use Prim.Native.Nat.{ℕ}
 use lib.IntN.{ℤ}
 use borrow.Author.Rules.{rules}
-use Rattle.signed.proofs.Laws.{number-of-bits}
+use Rattle.signed.proofs.Laws.{number_of_bits}
 use Rattle.maps.specs.Drawing.{Drawing}
-use Rattle.arrays.specs.Maps.{drawingOf}
-use Rattle.questions.specs.Solve.{questionChecks, Solved}
+use Rattle.arrays.specs.Maps.{drawing_of}
+use Rattle.questions.specs.Solve.{question_checks, Solved}
 use Rattle.questions.specs.inner.Named.{SetNamed}
 use Rattle.questions.specs.declared.SolveAnswer.{SolveAnswer}
-use Rattle.pages.specs.inner.Listed.{solvedAlone}
+use Rattle.pages.specs.inner.Listed.{solved_alone}
 use Rattle.pages.specs.declared.Question.{Question}
 use Rattle.pages.proofs.ask.Statement.{statement}
 use Rattle.pages.proofs.ask.Tie as tie
@@ -18,8 +18,8 @@ use Rattle.pages.proofs.ask.Tie as tie
 -- the question's ends at the width of an index, and its value as the number of its bits
 alone-as : (𝓓 : Drawing) (q : Question) {a b : ℕ} {v : ℤ} → a ≡ q.source → b ≡ q.sink → v ≡ q.value
     → (flows flows' : List ℤ) (set set' : List ℕ) (r : SolveAnswer)
-    → Solved 𝓓 (questionChecks 𝓓.map.nodes 𝓓.map.edges a b v flows set) a b v flows flows' set set' r × SetNamed 𝓓 a b v set' r
-    → solvedAlone 𝓓 q flows flows' set set' r
+    → Solved 𝓓 (question_checks 𝓓.map.nodes 𝓓.map.edges a b v flows set) a b v flows flows' set set' r × SetNamed 𝓓 a b v set' r
+    → solved_alone 𝓓 q flows flows' set set' r
 alone-as 𝓓 q p e f flows flows' set set' r h = rw (← p, ← e, ← f) h
 
 returns : tie.Need-returns
@@ -28,8 +28,8 @@ returns c =
     let t = k.before.before.before in
     let w = t.before in
     let a = w.before.before.before.args in
-    alone-as (drawingOf a.sizes.nodes a.sizes.edges a.sizes.outer a.tails.now a.rotations.now a.capacities.now) a.q
-    w.before.wide.ensures w.wide2.ensures (number-of-bits a.q.value (record { sfits = t.struct_told.given.1.1.0.1 }))
+    alone-as (drawing_of a.sizes.nodes a.sizes.edges a.sizes.outer a.tails.now a.rotations.now a.capacities.now) a.q
+    w.before.wide.ensures w.wide2.ensures (number_of_bits a.q.value (record { sfits = t.struct_told.given.1.1.0.1 }))
     a.flows.now _ a.set.now _ k.solve.result k.solve.ensures
 
 pub ask-spec : {M : Type 1} → statement M

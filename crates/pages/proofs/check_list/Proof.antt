@@ -8,13 +8,13 @@ use native.Mathlib.Nat.{mul-le-mul}
 use borrow.Author.Rules.{rules}
 use Rattle.refusals.specs.Order.{FirstOf, NoneOf}
 use Rattle.refusals.proofs.Order.{neither}
-use Rattle.pages.specs.Page.{listChecks}
-use Rattle.pages.proofs.Listing.{words-few}
+use Rattle.pages.specs.Page.{list_checks}
+use Rattle.pages.proofs.Listing.{words_few}
 use Rattle.pages.proofs.check_list.Statement.{statement}
 use Rattle.pages.proofs.check_list.Tie as tie
 
 returns : tie.Need-returns
-unfolding listChecks FirstOf
+unfolding list_checks FirstOf
 returns c = inl (omega arith, refl, refl)
 
 mul-if2 : tie.Need-overflow-mul-if2
@@ -23,24 +23,24 @@ mul-if2 c =
     record { fits = omega (arith, mul-le-mul few c.before.before.requires.1) }
 
 returns-2 : tie.Need-returns-2
-unfolding listChecks FirstOf
+unfolding list_checks FirstOf
 returns-2 c = inr (λ h. omega arith, inl (inl (omega arith), refl, refl))
 
 mul-if3 : tie.Need-overflow-mul-if3
 mul-if3 c =
     let few : c.before.before.before.before.args.n ≤ 64 = omega arith in
-    let words : c.words-for.result ≤ 16 = omega (arith, c.words-for.ensures, words-few _ c.before.before.before.before.requires.0) in
+    let words : c.words-for.result ≤ 16 = omega (arith, c.words-for.ensures, words_few _ c.before.before.before.before.requires.0) in
     record { fits = omega (arith, mul-le-mul few words) }
 
 returns-3 : tie.Need-returns-3
-unfolding listChecks FirstOf
+unfolding list_checks FirstOf
 returns-3 c =
     let a = c.before.before.before.before.before.args in
     let short = subst (λ k. length a.sets.now < a.n * k) c.before.words-for.ensures c.if3.true in
     inr (λ h. omega arith, inl (inr short, refl, refl))
 
 returns-4 : tie.Need-returns-4
-unfolding listChecks NoneOf
+unfolding list_checks NoneOf
 returns-4 c =
     let a = c.before.before.before.before.before.args in
     let f : length a.flows.now < a.n * a.edges → ⊥ = λ l. omega arith in

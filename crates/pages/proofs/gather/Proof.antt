@@ -107,7 +107,7 @@ use denote.Triple.Table.{entered, cited}
 use denote.Triple.Walked.{says, needs, Stays, stay_none_slice, stay_none, walk_of, Goes-none_slice, Goes-none, Walks, ends_at, walked, walk_Meets}
 use denote.Triple.Clauses.{ensured, lasts}
 use denote.Exit.{yes}
-use Rattle.pages.specs.Question.{blank, questionAt}
+use Rattle.pages.specs.Question.{blank, question_at}
 use Rattle.pages.specs.inner.Listed.{listed_at, gathered}
 use Rattle.pages.specs.declared.Question.{Question}
 use Rattle.pages.specs.declared.Listed.{Listed}
@@ -179,7 +179,7 @@ module _ {M : Type 1} {𝓤 : Ura M} (𝓛 : Logic 𝓤) (mem : Memory → SProp
   x = (record { ref_ptr = (b, o); now = ys }, (n, (list, tt)))
 
   abbrev g : ℕ → Listed
-  g i = gathered (questionAt ys) i list
+  g i = gathered (question_at ys) i list
 
   abbrev m : Val
   m = only (LL.vals TL.the_type TL'.the_laws list)

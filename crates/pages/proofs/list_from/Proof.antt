@@ -7,23 +7,23 @@ use mir.Syntax.{w32}
 use mir.Val.{to_z, of_z}
 use borrow.Author.Rules.{rules}
 use Rattle.arrays.specs.At.{at, atℤ}
-use Rattle.signed.proofs.Laws.{number-of-bits}
-use Rattle.pages.specs.Question.{questionIn}
+use Rattle.signed.proofs.Laws.{number_of_bits}
+use Rattle.pages.specs.Question.{question_in}
 use Rattle.pages.specs.inner.Listed.{emptyList, gathered}
 use Rattle.pages.specs.declared.Question.{Question}
-use Rattle.pages.proofs.Listing.{gathered-start, gathered_next}
+use Rattle.pages.proofs.Listing.{gathered_start, gathered_next}
 use Rattle.pages.proofs.list_from.Statement.{statement}
 use Rattle.pages.proofs.list_from.Tie as tie
 
 abbrev invariant-loop : tie.invariant-loop
 invariant-loop count sources sinks values few next₀ i₀ next i =
-    (i ≤ few) × (few ≡ min count 64) × (next ≡ gathered (questionIn sources sinks values) i (emptyList count))
+    (i ≤ few) × (few ≡ min count 64) × (next ≡ gathered (question_in sources sinks values) i (emptyList count))
 
 abbrev decreases-loop : tie.decreases-loop
 decreases-loop count sources sinks values few next₀ i₀ next i = few - i
 
 loop-holds : tie.Need-loop-init invariant-loop decreases-loop
-loop-holds c = (omega arith, c.before.held.ensures, c.empty-list.ensures ∙ gathered-start _ _)
+loop-holds c = (omega arith, c.before.held.ensures, c.empty-list.ensures ∙ gathered_start _ _)
 
 with-question-requires : tie.Need-with-question-requires invariant-loop decreases-loop
 with-question-requires c κs =
@@ -38,8 +38,8 @@ loop-again c =
     let q : ℤ → Question = λ w. record { source = at a.sources.now l.i; sink = at a.sinks.now l.i; value = w } in (
       omega arith,
       l.invariant.1,
-      gathered_next (questionIn a.sources.now a.sinks.now a.values.now) (emptyList a.count) l.next _ l.i (q (to_z w32 (of_z w32 v)))
-          l.invariant.2 (ap q (number-of-bits v (record { sfits = c.before.t21.given }))) c.with-question.ensures,
+      gathered_next (question_in a.sources.now a.sinks.now a.values.now) (emptyList a.count) l.next _ l.i (q (to_z w32 (of_z w32 v)))
+          l.invariant.2 (ap q (number_of_bits v (record { sfits = c.before.t21.given }))) c.with-question.ensures,
     )
 
 returns : tie.Need-returns invariant-loop decreases-loop
@@ -47,7 +47,7 @@ returns c =
     let l = c.before.loop in
     let a = c.before.before.before.before.args in
     let e : l.i ≡ min a.count 64 = omega (arith, l.invariant.0, l.invariant.1, c.loop-test.false) in
-    l.invariant.2 ∙ ap (λ (k : ℕ). gathered (questionIn a.sources.now a.sinks.now a.values.now) k (emptyList a.count)) e
+    l.invariant.2 ∙ ap (λ (k : ℕ). gathered (question_in a.sources.now a.sinks.now a.values.now) k (emptyList a.count)) e
 
 pub list-from-spec : {M : Type 1} → statement M
 list-from-spec =

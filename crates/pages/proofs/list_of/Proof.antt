@@ -88,7 +88,7 @@ use denote.Triple.Table.{entered, cited}
 use denote.Triple.Walked.{says, Stays, stay_none_slice, walk_of, Goes-none_slice, Walks, ends_at, walked, walk_Meets}
 use denote.Triple.Clauses.{ensured, lasts}
 use denote.Exit.{yes}
-use Rattle.pages.specs.Question.{questionAt}
+use Rattle.pages.specs.Question.{question_at}
 use Rattle.pages.specs.inner.Listed.{emptyList, gathered, list_of}
 use Rattle.pages.specs.declared.Question.{Question}
 use Rattle.pages.specs.declared.Listed.{Listed}
@@ -139,9 +139,9 @@ module _ {M : Type 1} {𝓤 : Ura M} (𝓛 : Logic 𝓤) (mem : Memory → SProp
   held-said n r = ex_e 𝓤 _ (λ ws. snd∗ 𝓤 (sem 𝓛 (lasts held.ended tt (n, tt) ws)) (fact 𝓤 (r ≡ min n 64)))
 
   gather-said : (κ : Lft) (x : Bor (List Question)) (n : ℕ) (list r : Listed)
-      → ent 𝓤 (ensured 𝓛 gather.ended (gather.clauses 𝓛 mem run) (κ, tt) (x, (n, (list, tt))) tt r) (fact 𝓤 (r ≡ gathered (questionAt x.now) n list))
+      → ent 𝓤 (ensured 𝓛 gather.ended (gather.clauses 𝓛 mem run) (κ, tt) (x, (n, (list, tt))) tt r) (fact 𝓤 (r ≡ gathered (question_at x.now) n list))
   gather-said κ x n list r =
-      ex_e 𝓤 _ (λ ws. snd∗ 𝓤 (sem 𝓛 (lasts gather.ended (κ, tt) (x, (n, (list, tt))) ws)) (fact 𝓤 (r ≡ gathered (questionAt x.now) n list)))
+      ex_e 𝓤 _ (λ ws. snd∗ 𝓤 (sem 𝓛 (lasts gather.ended (κ, tt) (x, (n, (list, tt))) ws)) (fact 𝓤 (r ≡ gathered (question_at x.now) n list)))
 
 module _ {M : Type 1} {𝓤 : Ura M} (𝓛 : Logic 𝓤) (mem : Memory → SProp 𝓤) (run : Routine → Fun 𝓤)
     (κ : Lft) (q : Share) (b o : ℕ) (γ : GName) (ys : List Question) (room : Room RQ (length ys)) where
@@ -200,7 +200,7 @@ module _ {M : Type 1} {𝓤 : Ura M} (𝓛 : Logic 𝓤) (mem : Memory → SProp
       qed 𝓛 ((‵ (flft κ q) ⊛ ‵ ftrue) ∷ ‵ Own ∷ ‵ (usize.own_val (min n 64) (w ∷ [])) ∷ ‵ (RL.own (emptyList n) (u ∷ [])) ∷ []) ∵ says ! (few, few') $ frame ! $
       nothing ! $ move ! (3 ∷ 0 ∷ []) $ fjoin ! $ move ! (2 ∷ 0 ∷ []) $ fjoin ! $ move ! (1 ∷ 0 ∷ []) $ fjoin ! $ done !
 
-  exits : (r : Listed) (u : Val) → r ≡ list_of n (questionAt ys) → ent 𝓤 (⋆ 𝓛 (‵ (RL.own r (u ∷ [])) ∷ (‵ (flft κ q) ⊛ ‵ ftrue) ∷ ‵ Own ∷ [])) (Post u)
+  exits : (r : Listed) (u : Val) → r ≡ list_of n (question_at ys) → ent 𝓤 (⋆ 𝓛 (‵ (RL.own r (u ∷ [])) ∷ (‵ (flft κ q) ⊛ ‵ ftrue) ∷ ‵ Own ∷ [])) (Post u)
   exits r u e =
       qed 𝓛 (‵ (RL.own r (u ∷ [])) ∷ (‵ (flft κ q) ⊛ ‵ ftrue) ∷ ‵ Own ∷ []) ∵
       suffices ! _ (ends_at 𝓛 list_of.ended stayed (list_of.clauses 𝓛 mem run) (((κ, tt), (q, tt), tt, (x, tt), at), tt) u r (tt, tt) (tt, tt)) $
@@ -243,8 +243,8 @@ module _ {M : Type 1} {𝓤 : Ura M} (𝓛 : Logic 𝓤) (mem : Memory → SProp
         use1 𝓛 (later (some (λ (t : Listed). ((‵ (flft κ q) ⊛ ‵ ftrue) ⊛ ‵ (RL.own t (v ∷ [])))
         ⊛ raw (ensured 𝓛 gather.ended (gather.clauses 𝓛 mem run) (κ, tt) (x, (min n 64, (emptyList n, tt))) tt t)))) (id⊢ 𝓤 _) $
         await ! tt $ pick ! (λ t.
-        split ! $ move ! (1 ∷ []) $ use1 𝓛 (raw (fact 𝓤 (t ≡ list_of n (questionAt ys)))) (gather-said 𝓛 mem run κ x (min n 64) (emptyList n) t) $
-        heard ! (t ≡ list_of n (questionAt ys)) (λ g.
+        split ! $ move ! (1 ∷ []) $ use1 𝓛 (raw (fact 𝓤 (t ≡ list_of n (question_at ys)))) (gather-said 𝓛 mem run κ x (min n 64) (emptyList n) t) $
+        heard ! (t ≡ list_of n (question_at ys)) (λ g.
         split ! $ move ! (1 ∷ []) $ peeks ! RL (Is RL) (shows 𝓛 RL) t (v ∷ []) (λ ks.
         -- [the result; the token; what questions owns; _4; …; _3; …; _2; …; _1; …; room for _0; …]
         land ! (from ! (stop !)) (init ! 11 refl ((LL.lawful TL.the_type TL'.the_laws 𝓛).typed t (v ∷ []) ks).0) $

@@ -2,7 +2,7 @@
 use Rattle.std.specs.Prelude.{ℕ, zero, suc, min, set, replicate}
 use Rattle.refusals.specs.declared.Verdict.TheVariants as verdict
 use Rattle.maps.specs.Drawing.{Drawing}
-use Rattle.questions.specs.Solve.{questionChecks, Solved}
+use Rattle.questions.specs.Solve.{question_checks, Solved}
 use Rattle.questions.specs.inner.Named.{SetNamed}
 use Rattle.questions.specs.declared.SolveAnswer.TheVariants.{Refused}
 use Rattle.pages.specs.Question.{blank}
@@ -29,12 +29,12 @@ abbrev pub list_of : ℕ → (ℕ → Question) → Listed
 list_of n question = gathered question (min n 64) (emptyList n)
 
 -- Solve's contract on a drawing, of question q and the slices lent for it: what is answered, and that its set is the one that the search names
-abbrev pub solvedAlone : Drawing → Question → Alone
-solvedAlone 𝓓 q flows flows' set set' answer =
-    Solved 𝓓 (questionChecks 𝓓.map.nodes 𝓓.map.edges q.source q.sink q.value flows set)
+abbrev pub solved_alone : Drawing → Question → Alone
+solved_alone 𝓓 q flows flows' set set' answer =
+    Solved 𝓓 (question_checks 𝓓.map.nodes 𝓓.map.edges q.source q.sink q.value flows set)
     q.source q.sink q.value flows flows' set set' answer
     × SetNamed 𝓓 q.source q.sink q.value set' answer
 
 -- a page without answers
-abbrev pub refusedPage : (number place : ℕ) → Page
-refusedPage number place = record { verdict = verdict.Refused number place; count = 0; answers = replicate 64 (record { answer = Refused 0 0 }) }
+abbrev pub refused_page : (number place : ℕ) → Page
+refused_page number place = record { verdict = verdict.Refused number place; count = 0; answers = replicate 64 (record { answer = Refused 0 0 }) }

@@ -3,12 +3,12 @@ use Prim.Native.Nat.{◌≤◌}
 use mathlib.Core.Path.{refl, sym, ◌∙◌, ap}
 use mathlib.Core.Logic.{◌≢◌}
 use native.Mathlib.Omega.{arith}
-use Rattle.signed.proofs.Laws.{number-of-bits}
-use Rattle.arrays.proofs.FillLoops.{filled-length}
+use Rattle.signed.proofs.Laws.{number_of_bits}
+use Rattle.arrays.proofs.FillLoops.{filled_length}
 use Rattle.questions.specs.declared.SolveAnswer.TheVariants.{Can}
-use Rattle.sessions.proofs.Asking.{asked-few, asked-room}
-use Rattle.parties.specs.Shared.{committed, Shared, sharedOf, sharedDrawing}
-use Rattle.parties.proofs.Asking.{no-party, has-committed, Left, left_as, told-as, after-can, after-cannot}
+use Rattle.sessions.proofs.Asking.{asked_few, asked_room}
+use Rattle.parties.specs.Shared.{committed, Shared, shared_of, shared_drawing}
+use Rattle.parties.proofs.Asking.{no_party, has_committed, Left, left_as, told_as, after_can, after_cannot}
 use borrow.Author.Rules.{rules}
 use Rattle.parties.proofs.ask.Statement.{statement}
 use Rattle.parties.proofs.ask.Tie as tie
@@ -17,13 +17,13 @@ use Rattle.parties.proofs.ask.Tie as tie
 abbrev shared : tie.Start → Shared
 shared s =
     let a = s.args in
-    sharedOf a.sizes.nodes a.sizes.edges a.sizes.outer a.tails.now a.rotations.now a.limits.now a.left.now a.standing.now
+    shared_of a.sizes.nodes a.sizes.edges a.sizes.outer a.tails.now a.rotations.now a.limits.now a.left.now a.standing.now
     a.first.now a.second.now
 
 returns : tie.Need-returns
 returns c =
     let s = c.before.before in
-    no-party (shared s) s.args.party _ _ _ _ _ c.if1.true
+    no_party (shared s) s.args.party _ _ _ _ _ c.if1.true
 
 -- ── the party ──
 abbrev begun : tie.After-wide → tie.Start
@@ -36,7 +36,7 @@ returns-2 : tie.Need-returns-2
 returns-2 c =
     let w = c.before.before in
     let s = begun w in
-    has-committed (shared s) s.args.party _ _ _ _ _ (is-party w) (ap (shared s).standing (sym w.wide.ensures) ∙ c.if2.true)
+    has_committed (shared s) s.args.party _ _ _ _ _ (is-party w) (ap (shared s).standing (sym w.wide.ensures) ∙ c.if2.true)
 
 may-ask : (c : tie.Else2) → (shared (begun c.before.before)).standing (begun c.before.before).args.party ≢ committed
 may-ask c e = c.if2.false (ap (shared (begun c.before.before)).standing c.before.before.wide.ensures ∙ e)
@@ -62,7 +62,7 @@ can : (c : tie.After-enum-told)
 can c =
     let k = answer c.before.before in
     let s = start k in
-    left_as (shared s) s.args.party s.args.source s.args.sink (number-of-bits _ s.fits.value) s.args.flows.now
+    left_as (shared s) s.args.party s.args.source s.args.sink (number_of_bits _ s.fits.value) s.args.flows.now
     k.answer-left.last.1.1.1.1.1.1.1.1.1.0 s.args.set.now k.answer-left.last.1.1.1.1.1.1.1.1.1.1.0 c.enum_told.given.1
     k.answer-left.ensures
 
@@ -73,10 +73,10 @@ keep-offer-requires c κs =
     let k = answer t.before.before in
     let S = shared (start k) in
     let h = (can t).0 in
-    let few = asked-few (sharedDrawing S) _ _ _ _ _ h.0 in
-    let room = asked-room (sharedDrawing S) _ _ _ _ _ h.0 in (
+    let few = asked_few (shared_drawing S) _ _ _ _ _ h.0 in
+    let room = asked_room (shared_drawing S) _ _ _ _ _ h.0 in (
       omega (arith, (widened k).wide.ensures, is-party (widened k)),
-      omega (arith, w.wide2.ensures, filled-length _ _ _ _ h.1.2 room, room),
+      omega (arith, w.wide2.ensures, filled_length _ _ _ _ h.1.2 room, room),
       omega (arith, w.wide2.ensures, few, c.before.keep-offer-arg2.given.0.1),
       omega (arith, w.wide2.ensures, few, c.keep-offer-arg3.given.0.1),
     )
@@ -88,10 +88,10 @@ returns-3 c =
     let t = w.before.before in
     let k = answer t.before.before in
     let s = start k in
-    told-as (shared s) s.args.party s.args.source s.args.sink (number-of-bits _ s.fits.value) s.args.flows.now
+    told_as (shared s) s.args.party s.args.source s.args.sink (number_of_bits _ s.fits.value) s.args.flows.now
     k.answer-left.last.1.1.1.1.1.1.1.1.1.0 s.args.set.now k.answer-left.last.1.1.1.1.1.1.1.1.1.1.0 t.enum_told.given.1
     (is-party (widened k)) (may-ask (uncommitted k)) _
-    (after-can (shared s) (widened k).wide.ensures _ w.wide2.ensures k.answer-left.last.1.1.1.1.1.1.1.1.1.0 _ c.stand.ensures
+    (after_can (shared s) (widened k).wide.ensures _ w.wide2.ensures k.answer-left.last.1.1.1.1.1.1.1.1.1.0 _ c.stand.ensures
     o.keep-offer.ensures)
     k.answer-left.ensures
 
@@ -100,10 +100,10 @@ returns-4 c =
     let t = c.before.before.before in
     let k = answer t.before.before in
     let s = start k in
-    told-as (shared s) s.args.party s.args.source s.args.sink (number-of-bits _ s.fits.value) s.args.flows.now
+    told_as (shared s) s.args.party s.args.source s.args.sink (number_of_bits _ s.fits.value) s.args.flows.now
     k.answer-left.last.1.1.1.1.1.1.1.1.1.0 s.args.set.now k.answer-left.last.1.1.1.1.1.1.1.1.1.1.0 t.answer.given.1
     (is-party (widened k)) (may-ask (uncommitted k)) _
-    (after-cannot (shared s) (widened k).wide.ensures _ c.stand2.ensures)
+    (after_cannot (shared s) (widened k).wide.ensures _ c.stand2.ensures)
     k.answer-left.ensures
 
 returns-5 : tie.Need-returns-5
@@ -111,7 +111,7 @@ returns-5 c =
     let t = c.before in
     let k = answer t.before.before in
     let s = start k in
-    told-as (shared s) s.args.party s.args.source s.args.sink (number-of-bits _ s.fits.value) s.args.flows.now
+    told_as (shared s) s.args.party s.args.source s.args.sink (number_of_bits _ s.fits.value) s.args.flows.now
     k.answer-left.last.1.1.1.1.1.1.1.1.1.0 s.args.set.now k.answer-left.last.1.1.1.1.1.1.1.1.1.1.0 t.answer2.given.1
     (is-party (widened k)) (may-ask (uncommitted k)) _ refl k.answer-left.ensures
 

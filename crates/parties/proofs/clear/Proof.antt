@@ -1,13 +1,13 @@
 -- The limits restored, then both parties idle.
-use Rattle.parties.specs.Shared.{Shared, sharedOf}
-use Rattle.parties.proofs.Taking.{after-clear}
+use Rattle.parties.specs.Shared.{Shared, shared_of}
+use Rattle.parties.proofs.Taking.{after_clear}
 use Rattle.parties.proofs.clear.Statement.{statement}
 use Rattle.parties.proofs.clear.Tie as tie
 
 abbrev session : tie.Start → Shared
 session s =
     let a = s.args in
-    sharedOf a.nodes a.edges a.outer a.tails.now a.rotations.now a.limits.now a.left.now a.standing.now
+    shared_of a.nodes a.edges a.outer a.tails.now a.rotations.now a.limits.now a.left.now a.standing.now
     a.first.now a.second.now
 
 restore-requires : tie.Need-restore-requires
@@ -19,7 +19,7 @@ stand-idle-requires c κs = c.stand-idle-arg.given.0.1
 returns : tie.Need-returns
 returns c =
     let r = c.before.before in
-    after-clear (session r.before.before.before) _ _ r.restore.ensures c.stand-idle.ensures.1
+    after_clear (session r.before.before.before) _ _ r.restore.ensures c.stand-idle.ensures.1
 
 pub clear_spec : {M : Type 1} → statement M
 clear_spec = tie.close (tie.spec restore-requires stand-idle-requires returns)

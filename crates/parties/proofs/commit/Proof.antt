@@ -4,21 +4,21 @@ use native.Mathlib.Omega.{arith}
 use borrow.Author.Rules.{rules}
 use Prim.Native.Nat.{◌≤◌}
 use Rattle.arrays.specs.At.{at}
-use Rattle.parties.specs.Shared.{Shared, sharedOf}
+use Rattle.parties.specs.Shared.{Shared, shared_of}
 use Rattle.parties.proofs.Taking.{
-  no-party,
-  has-committed,
-  no-offer,
-  stale-offer,
+  no_party,
+  has_committed,
+  no_offer,
+  stale_offer,
   too_much,
-  lets-in,
-  after-commit,
-  own-offer,
+  lets_in,
+  after_commit,
+  own_offer,
   taken_yes,
-  taken-no,
-  offer-lowerable,
-  lowerable-offer,
-  lowered-offer,
+  taken_no,
+  offer_lowerable,
+  lowerable_offer,
+  lowered_offer,
   left_alone,
 }
 use Rattle.parties.proofs.commit.Statement.{statement}
@@ -27,11 +27,11 @@ use Rattle.parties.proofs.commit.Tie as tie
 abbrev session : tie.Start → Shared
 session s =
     let a = s.args in
-    sharedOf a.nodes a.edges a.outer a.tails.now a.rotations.now a.limits.now a.left.now a.standing.now
+    shared_of a.nodes a.edges a.outer a.tails.now a.rotations.now a.limits.now a.left.now a.standing.now
     a.first.now a.second.now
 
 returns : tie.Need-returns
-returns c = (no-party (session c.before) c.before.args.party c.if1.true, refl)
+returns c = (no_party (session c.before) c.before.args.party c.if1.true, refl)
 
 -- ── where the party stands ──
 abbrev start : tie.After-stands → tie.Start
@@ -46,17 +46,17 @@ stood c = ap (at (start c).args.standing.now) c.before.wide.ensures
 returns-2 : tie.Need-returns-2
 returns-2 c =
     let t = c.before in
-    (has-committed (session (start t)) (start t).args.party (known t) (sym (stood t) ∙ c.if2.true), refl)
+    (has_committed (session (start t)) (start t).args.party (known t) (sym (stood t) ∙ c.if2.true), refl)
 
 returns-3 : tie.Need-returns-3
 returns-3 c =
     let t = c.before.before in
-    (stale-offer (session (start t)) (start t).args.party (known t) (λ e. c.before.if2.false (stood t ∙ e)) (sym (stood t) ∙ c.if3.true), refl)
+    (stale_offer (session (start t)) (start t).args.party (known t) (λ e. c.before.if2.false (stood t ∙ e)) (sym (stood t) ∙ c.if3.true), refl)
 
 returns-4 : tie.Need-returns-4
 returns-4 c =
     let t = c.before.before.before in (
-      no-offer (session (start t)) (start t).args.party (known t) (λ e. c.before.before.if2.false (stood t ∙ e))
+      no_offer (session (start t)) (start t).args.party (known t) (λ e. c.before.before.if2.false (stood t ∙ e))
           (λ e. c.before.if3.false (stood t ∙ e)) (λ e. c.if4.true (stood t ∙ e)),
       refl,
     )
@@ -75,9 +75,9 @@ returns-5 c =
     let S = session (start t) in
     let a = (start t).args in
     let h = taken_yes k.take-of.ensures c.before.before.if5.true in
-    let e = own-offer a.party a.first.now a.second.now (known t) in (
-      lets-in S a.party (known t) (sym (stood t) ∙ k.before.before.if4.false) (offer-lowerable S a.party _ e h.0),
-      after-commit S a.party _ _ (lowered-offer S a.party _ e _ h.1) c.stand-committed.ensures.1,
+    let e = own_offer a.party a.first.now a.second.now (known t) in (
+      lets_in S a.party (known t) (sym (stood t) ∙ k.before.before.if4.false) (offer_lowerable S a.party _ e h.0),
+      after_commit S a.party _ _ (lowered_offer S a.party _ e _ h.1) c.stand-committed.ensures.1,
     )
 
 returns-6 : tie.Need-returns-6
@@ -86,9 +86,9 @@ returns-6 c =
     let t = stands k in
     let S = session (start t) in
     let a = (start t).args in
-    let h = taken-no k.take-of.ensures c.if5.false in
-    let e = own-offer a.party a.first.now a.second.now (known t) in (
-      too_much S a.party (known t) (sym (stood t) ∙ k.before.before.if4.false) (λ l. h.0 (lowerable-offer S a.party _ e l)),
+    let h = taken_no k.take-of.ensures c.if5.false in
+    let e = own_offer a.party a.first.now a.second.now (known t) in (
+      too_much S a.party (known t) (sym (stood t) ∙ k.before.before.if4.false) (λ l. h.0 (lowerable_offer S a.party _ e l)),
       left_alone S _ h.1,
     )
 

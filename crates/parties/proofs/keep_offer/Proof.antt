@@ -1,6 +1,6 @@
 -- The flows are kept in the array of the party; the other's is as it was.
 use native.Mathlib.Omega.{arith}
-use Rattle.parties.proofs.Asking.{kept-first, kept_second}
+use Rattle.parties.proofs.Asking.{kept_first, kept_second}
 use borrow.Author.Rules.{rules}
 use Rattle.parties.proofs.keep_offer.Statement.{statement}
 use Rattle.parties.proofs.keep_offer.Tie as tie
@@ -9,7 +9,7 @@ returns : tie.Need-returns
 returns c =
     let t = c.before.before.before in
     let a = t.before.args in
-    kept-first a.edges a.flows.now a.first.now a.second.now _ t.if1.true c.before.keep.ensures
+    kept_first a.edges a.flows.now a.first.now a.second.now _ t.if1.true c.before.keep.ensures
 
 returns-2 : tie.Need-returns-2
 returns-2 c =

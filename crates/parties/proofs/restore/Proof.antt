@@ -5,11 +5,11 @@ use Prim.Native.Nat.{◌≤◌, ◌-◌}
 use native.Mathlib.Omega.{arith}
 use lib.ListN.{drop}
 use borrow.Author.Rules.{rules}
-use Rattle.signed.proofs.Laws.{number-of-bits}
+use Rattle.signed.proofs.Laws.{number_of_bits}
 use Rattle.arrays.specs.At.{atℤ}
 use Rattle.arrays.specs.Filled.{tabulate}
-use Rattle.arrays.proofs.FillLoops.{copy_start, copy_step, filled-length}
-use Rattle.parties.proofs.Taking.{copied-whole}
+use Rattle.arrays.proofs.FillLoops.{copy_start, copy_step, filled_length}
+use Rattle.parties.proofs.Taking.{copied_whole}
 use Rattle.parties.proofs.restore.Statement.{statement}
 use Rattle.parties.proofs.restore.Tie as tie
 
@@ -25,17 +25,17 @@ loop-holds c = (omega arith, copy_start _ _)
 slice-set-from-left : tie.Need-slice-set-from-left invariant-loop decreases-loop
 slice-set-from-left c =
     let s = c.before.before.before in
-    omega (arith, filled-length _ _ _ _ c.before.before.loop.invariant.1 (omega (arith, s.requires.1)), s.requires.1)
+    omega (arith, filled_length _ _ _ _ c.before.before.loop.invariant.1 (omega (arith, s.requires.1)), s.requires.1)
 
 loop-again : tie.Need-loop-preserved invariant-loop decreases-loop
 loop-again c =
     let o = c.before.before.loop in (
       omega arith,
-      copy_step _ o.dart _ _ _ o.invariant.1 (omega (arith, c.before.before.before.requires.1)) (number-of-bits _ (record { sfits = c.left.given })),
+      copy_step _ o.dart _ _ _ o.invariant.1 (omega (arith, c.before.before.before.requires.1)) (number_of_bits _ (record { sfits = c.left.given })),
     )
 
 same_length : tie.Need-same-length invariant-loop decreases-loop
-same_length c = filled-length _ _ _ _ c.before.loop.invariant.1 (omega (arith, c.before.before.requires.1))
+same_length c = filled_length _ _ _ _ c.before.loop.invariant.1 (omega (arith, c.before.before.requires.1))
 
 returns : tie.Need-returns invariant-loop decreases-loop
 returns c =
@@ -43,7 +43,7 @@ returns c =
     let s = c.before.before in
     let a = s.args in
     let all : o.dart ≡ 1024 = omega arith in
-    copied-whole 1024 a.limits.now a.left.now o.left s.requires.0 s.requires.1
+    copied_whole 1024 a.limits.now a.left.now o.left s.requires.0 s.requires.1
     (o.invariant.1 ∙ ap (λ k. tabulate k (atℤ a.limits.now) ++ drop k a.left.now) all)
 
 pub restore-spec : {M : Type 1} → statement M

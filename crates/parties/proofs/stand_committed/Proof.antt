@@ -1,18 +1,18 @@
 -- One place is written with 3, the other with what the commit makes of it.
 use borrow.Author.Rules.{rules}
-use Rattle.parties.proofs.Taking.{first-commits, second-commits}
+use Rattle.parties.proofs.Taking.{first_commits, second_commits}
 use Rattle.parties.proofs.stand_committed.Statement.{statement}
 use Rattle.parties.proofs.stand_committed.Tie as tie
 
 returns : tie.Need-returns
 returns c =
     let s = c.before.before.before.before in
-    first-commits s.args.standing.now s.requires.1 s.args.party s.requires.0 _ c.before.before.if1.true c.staled-by.ensures
+    first_commits s.args.standing.now s.requires.1 s.args.party s.requires.0 _ c.before.before.if1.true c.staled-by.ensures
 
 returns-2 : tie.Need-returns-2
 returns-2 c =
     let s = c.before.before.before.before in
-    second-commits s.args.standing.now s.requires.1 s.args.party s.requires.0 _ c.before.before.if1.false c.staled-by2.ensures
+    second_commits s.args.standing.now s.requires.1 s.args.party s.requires.0 _ c.before.before.if1.false c.staled-by2.ensures
 
 pub stand-committed-spec : {M : Type 1} → statement M
 stand-committed-spec =

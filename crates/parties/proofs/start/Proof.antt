@@ -6,13 +6,13 @@ use native.Mathlib.Omega.{arith}
 use lib.IntN.{pos}
 use lib.ListN.{length}
 use Rattle.refusals.specs.Order.{NoneOf}
-use Rattle.sheets.specs.Open.{sheetChecks, Holds}
+use Rattle.sheets.specs.Open.{sheet_checks, Holds}
 use Rattle.sheets.specs.declared.Network.{Network}
-use Rattle.sheets.proofs.Accepted.{sheet-counts, sheet-outer}
-use Rattle.sheets.proofs.Opening.{opens-passed, opens-refused}
+use Rattle.sheets.proofs.Accepted.{sheet_counts, sheet_outer}
+use Rattle.sheets.proofs.Opening.{opens_passed, opens_refused}
 use borrow.Author.Rules.{rules}
 use Rattle.parties.specs.Shared.{Shared}
-use Rattle.parties.proofs.Starting.{zeros-read, array_copied, after-start}
+use Rattle.parties.proofs.Starting.{zeros_read, array_copied, after_start}
 use Rattle.parties.proofs.start.Statement.{statement}
 use Rattle.parties.proofs.start.Tie as tie
 
@@ -30,38 +30,38 @@ open-walked-requires : tie.Need-open-walked-requires
 open-walked-requires c κs = (refl, refl, refl, refl)
 
 -- it was accepted
-accepted : (t : tie.Else1) → NoneOf (sheetChecks (sheet (opening t.before))) × Holds (sheet (opening t.before)) (net (opening t.before))
-accepted t = let o = opening t.before in opens-passed (sheet o) (net o) t.if1.false o.open-walked.ensures.4
+accepted : (t : tie.Else1) → NoneOf (sheet_checks (sheet (opening t.before))) × Holds (sheet (opening t.before)) (net (opening t.before))
+accepted t = let o = opening t.before in opens_passed (sheet o) (net o) t.if1.false o.open-walked.ensures.4
 
 -- ── it is refused ──
 returns : tie.Need-returns
-returns c = let o = opening c.before in (opens-refused (sheet o) (net o) c.if1.true o.open-walked.ensures.4, c.before.erase.ensures)
+returns c = let o = opening c.before in (opens_refused (sheet o) (net o) c.if1.true o.open-walked.ensures.4, c.before.erase.ensures)
 
 -- ── it is accepted ──
 narrow-requires : tie.Need-narrow-requires
-narrow-requires c κs = let a = accepted c.before in omega (arith, a.1.nodes-are, (sheet-counts _ a.0).1)
+narrow-requires c κs = let a = accepted c.before in omega (arith, a.1.nodes_are, (sheet_counts _ a.0).1)
 
 narrow-requires-2 : tie.Need-narrow-requires-2
-narrow-requires-2 c κs = let a = accepted c.before.before in omega (arith, a.1.edges_are, (sheet-counts _ a.0).3)
+narrow-requires-2 c κs = let a = accepted c.before.before in omega (arith, a.1.edges_are, (sheet_counts _ a.0).3)
 
 narrow-requires-3 : tie.Need-narrow-requires-3
-narrow-requires-3 c κs = let a = accepted c.before.before.before in omega (arith, a.1.outer-is, sheet-outer _ a.0, (sheet-counts _ a.0).3)
+narrow-requires-3 c κs = let a = accepted c.before.before.before in omega (arith, a.1.outer_is, sheet_outer _ a.0, (sheet_counts _ a.0).3)
 
 abbrev told : tie.After-narrow3 → tie.Else1
 told c = c.before.before.before.before
 
 -- each array has its 1,024 places
 tails-long : (t : tie.Else1) → length t.before.erase.new.1.1.1.0 ≡ 1024
-tails-long t = (zeros-read 0 1024 _ (ap (λ (S : Shared). S.tails) t.before.erase.ensures)).0
+tails-long t = (zeros_read 0 1024 _ (ap (λ (S : Shared). S.tails) t.before.erase.ensures)).0
 
 rotations-long : (t : tie.Else1) → length t.before.erase.new.1.1.1.1.0 ≡ 1024
-rotations-long t = (zeros-read 0 1024 _ (ap (λ (S : Shared). S.rotations) t.before.erase.ensures)).0
+rotations-long t = (zeros_read 0 1024 _ (ap (λ (S : Shared). S.rotations) t.before.erase.ensures)).0
 
 limits-long : (t : tie.Else1) → length t.before.erase.new.1.1.1.1.1.0 ≡ 1024
-limits-long t = (zeros-read (pos 0) 1024 _ (ap (λ (S : Shared). S.limits) t.before.erase.ensures)).0
+limits-long t = (zeros_read (pos 0) 1024 _ (ap (λ (S : Shared). S.limits) t.before.erase.ensures)).0
 
 left-long : (t : tie.Else1) → length t.before.erase.new.1.1.1.1.1.1.0 ≡ 1024
-left-long t = (zeros-read (pos 0) 1024 _ (ap (λ (S : Shared). S.left) t.before.erase.ensures)).0
+left-long t = (zeros_read (pos 0) 1024 _ (ap (λ (S : Shared). S.left) t.before.erase.ensures)).0
 
 abbrev tails-copied : tie.After-copy-darts → tie.After-narrow3
 tails-copied c = c.before.before.before.before
@@ -92,14 +92,14 @@ returns-2 c =
     let n = tails-copied d in
     let t = told n in
     let a = accepted t in
-    let nodes-are = n.before.before.narrow.ensures ∙ a.1.nodes-are in
+    let nodes_are = n.before.before.narrow.ensures ∙ a.1.nodes_are in
     let edges_are = n.before.narrow2.ensures ∙ a.1.edges_are in (
       a.0,
-      after-start _ _ _ t.before.erase.ensures nodes-are edges_are (n.narrow3.ensures ∙ a.1.outer-is)
-          (array_copied 1024 _ _ _ d.copy-darts.ensures (tails-long t) a.1.tails-are)
-          (array_copied 1024 _ _ _ r.copy-darts2.ensures (rotations-long t) a.1.rotations-are)
-          (array_copied 1024 _ _ _ l.copy-capacities.ensures (limits-long t) a.1.capacities-are)
-          (array_copied 1024 _ _ _ c.copy-capacities2.ensures (left-long t) a.1.capacities-are) refl refl,
+      after_start _ _ _ t.before.erase.ensures nodes_are edges_are (n.narrow3.ensures ∙ a.1.outer_is)
+          (array_copied 1024 _ _ _ d.copy-darts.ensures (tails-long t) a.1.tails_are)
+          (array_copied 1024 _ _ _ r.copy-darts2.ensures (rotations-long t) a.1.rotations_are)
+          (array_copied 1024 _ _ _ l.copy-capacities.ensures (limits-long t) a.1.capacities_are)
+          (array_copied 1024 _ _ _ c.copy-capacities2.ensures (left-long t) a.1.capacities_are) refl refl,
     )
 
 pub start_spec : {M : Type 1} → statement M

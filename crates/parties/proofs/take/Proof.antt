@@ -1,11 +1,11 @@
 -- The test of the offer, then the limits lowered by it.
 use mathlib.Core.Path.{◌≡◌, refl, sym, subst}
 use borrow.Author.Rules.{rules}
-use Rattle.refusals.proofs.Order.{said-yes, said-no}
+use Rattle.refusals.proofs.Order.{said_yes, said_no}
 use Rattle.arrays.specs.At.{atℤ}
 use Rattle.sessions.specs.Fit.{Lowerable}
-use Rattle.sessions.proofs.Lowering.{lowerable-fits}
-use Rattle.parties.proofs.Taking.{lowered-by-flows}
+use Rattle.sessions.proofs.Lowering.{lowerable_fits}
+use Rattle.parties.proofs.Taking.{lowered_by_flows}
 use Rattle.parties.proofs.take.Statement.{statement}
 use Rattle.parties.proofs.take.Tie as tie
 
@@ -17,13 +17,13 @@ width c = c.before.before.before.wide.ensures
 
 tested : (c : tie.Then1) → Lowerable c.before.before.before.before.wide.result (atℤ (start c.before).args.left.now)
     (atℤ (start c.before).args.offer.now)
-tested c = said-yes c.before.lowerable.ensures c.if1.true
+tested c = said_yes c.before.lowerable.ensures c.if1.true
 
 lower-requires : tie.Need-lower-requires
 lower-requires c κs =
     let h = tested c.before in
     let s = start c.before.before in
-    (c.lower-arg.given.0.1, h.few-edges, lowerable-fits _ (atℤ s.args.left.now) (atℤ s.args.offer.now) h)
+    (c.lower-arg.given.0.1, h.few_edges, lowerable_fits _ (atℤ s.args.left.now) (atℤ s.args.offer.now) h)
 
 returns : tie.Need-returns
 returns c =
@@ -32,14 +32,14 @@ returns c =
     let e = width t.before in
     record {
       tested = subst (λ k. Lowerable k (atℤ a.left.now) (atℤ a.offer.now)) e (tested t);
-      after = lowered-by-flows _ a.edges a.left.now a.offer.now _ e c.lower.ensures.1;
+      after = lowered_by_flows _ a.edges a.left.now a.offer.now _ e c.lower.ensures.1;
     }
 
 returns-2 : tie.Need-returns-2
 returns-2 c =
     let a = (start c.before).args in
     record {
-      tested = λ h. said-no c.before.lowerable.ensures c.if1.false
+      tested = λ h. said_no c.before.lowerable.ensures c.if1.false
           (subst (λ k. Lowerable k (atℤ a.left.now) (atℤ a.offer.now)) (sym (width c.before)) h);
       after = refl;
     }

@@ -1,6 +1,6 @@
 -- The first party's offer, or the second's.
 use borrow.Author.Rules.{rules}
-use Rattle.parties.proofs.Taking.{taken_as, first_of, second-of}
+use Rattle.parties.proofs.Taking.{taken_as, first_of, second_of}
 use Rattle.parties.proofs.take_of.Statement.{statement}
 use Rattle.parties.proofs.take_of.Tie as tie
 
@@ -12,7 +12,7 @@ returns c =
 returns-2 : tie.Need-returns-2
 returns-2 c =
     let a = c.before.before.before.args in
-    taken_as c.take2.ensures (second-of a.party a.first.now a.second.now c.before.before.if1.false)
+    taken_as c.take2.ensures (second_of a.party a.first.now a.second.now c.before.before.if1.false)
 
 pub take-of-spec : {M : Type 1} → statement M
 take-of-spec = tie.close (tie.spec (λ c κs. search rules) returns (λ c κs. search rules) returns-2)

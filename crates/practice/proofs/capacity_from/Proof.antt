@@ -6,18 +6,18 @@ use lib.IntN.{pos}
 use mir.Syntax.{w32}
 use mir.Val.{to_z, of_z}
 use mir.ValLaws.{to_z_pos}
-use Rattle.signed.proofs.Laws.{number-of-bits, number_fits}
+use Rattle.signed.proofs.Laws.{number_of_bits, number_fits}
 use native.Mathlib.Nat.{mod-lt}
-use Rattle.practice.specs.Seed.{capacityFrom}
+use Rattle.practice.specs.Seed.{capacity_from}
 use borrow.Author.Rules.{rules}
 use Rattle.practice.proofs.capacity_from.Statement.{statement}
 use Rattle.practice.proofs.capacity_from.Tie as tie
 
 small-number : (n : ℕ) → n < 100 → to_z w32 (of_z w32 (to_z w32 n)) ≡ pos n
-small-number n l = number-of-bits (to_z w32 n) (number_fits n (omega arith)) ∙ to_z_pos w32 n (omega arith)
+small-number n l = number_of_bits (to_z w32 n) (number_fits n (omega arith)) ∙ to_z_pos w32 n (omega arith)
 
 returns : tie.Need-returns
-unfolding capacityFrom
+unfolding capacity_from
 returns c =
     let n = c.before.args.state / 65536 in
     ap (λ x. to_z w32 (of_z w32 x)) c.of-bits.ensures ∙ small-number (n % 100) (mod-lt n (omega arith))

@@ -1,7 +1,7 @@
 -- Whether a node has a side: a test for each number.
 use Rattle.practice.specs.Grid.{present}
 use Rattle.practice.specs.inner.Numbered.{side}
-use Rattle.practice.proofs.Numbered.{side-west}
+use Rattle.practice.proofs.Numbered.{side_west}
 use borrow.Author.Rules.{rules}
 use Rattle.practice.proofs.has_side.Statement.{statement}
 use Rattle.practice.proofs.has_side.Tie as tie
@@ -20,7 +20,7 @@ returns-3 c = rw c.if3.true
 
 returns-4 : tie.Need-returns-4
 unfolding present
-returns-4 c = rw (side-west _ c.before.before.if1.false c.before.if2.false c.if3.false)
+returns-4 c = rw (side_west _ c.before.before.if1.false c.before.if2.false c.if3.false)
 
 pub has-side-spec : {M : Type 1} → statement M
 has-side-spec = tie.close (tie.spec returns (λ c. search rules) returns-2 (λ c. search rules) returns-3 returns-4)

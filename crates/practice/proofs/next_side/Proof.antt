@@ -4,7 +4,7 @@ use mathlib.Core.Bool.{Bool}
 use Rattle.practice.specs.Side.{Side, turn}
 use Rattle.practice.specs.Grid.{present}
 use Rattle.practice.specs.inner.Numbered.{side}
-use Rattle.practice.proofs.Numbered.{one-turn, two-turns, three-turns, next-first, next-second, next-third, next-none}
+use Rattle.practice.proofs.Numbered.{one_turn, two_turns, three_turns, next_first, next_second, next_third, next_none}
 use borrow.Author.Rules.{rules}
 use Rattle.practice.proofs.next_side.Statement.{statement}
 use Rattle.practice.proofs.next_side.Tie as tie
@@ -14,38 +14,38 @@ has s = present s.args.rows s.args.columns s.args.r s.args.c
 
 -- ── what each test says of the sides in their order ──
 first : (c : tie.After-has-side) → has c.before (turn (side c.before.args.s)) ≡ c.has-side.result
-first c = let s = c.before in ap (has s) (sym (one-turn s.args.s s.requires.2)) ∙ sym c.has-side.ensures
+first c = let s = c.before in ap (has s) (sym (one_turn s.args.s s.requires.2)) ∙ sym c.has-side.ensures
 
 second : (c : tie.After-has-side2)
     → has c.before.before.before (turn (turn (side c.before.before.before.args.s))) ≡ c.has-side2.result
-second c = let s = c.before.before.before in ap (has s) (sym (two-turns s.args.s s.requires.2)) ∙ sym c.has-side2.ensures
+second c = let s = c.before.before.before in ap (has s) (sym (two_turns s.args.s s.requires.2)) ∙ sym c.has-side2.ensures
 
 third : (c : tie.After-has-side3)
     → has c.before.before.before.before.before (turn (turn (turn (side c.before.before.before.before.before.args.s)))) ≡ c.has-side3.result
-third c = let s = c.before.before.before.before.before in ap (has s) (sym (three-turns s.args.s s.requires.2)) ∙ sym c.has-side3.ensures
+third c = let s = c.before.before.before.before.before in ap (has s) (sym (three_turns s.args.s s.requires.2)) ∙ sym c.has-side3.ensures
 
 -- ── the needs, in the order of the code ──
 returns : tie.Need-returns
 returns c = let s = c.before.before in
-    one-turn s.args.s s.requires.2 ∙ sym (next-first (has s) (side s.args.s) (first c.before ∙ c.if1.true))
+    one_turn s.args.s s.requires.2 ∙ sym (next_first (has s) (side s.args.s) (first c.before ∙ c.if1.true))
 
 returns-2 : tie.Need-returns-2
 returns-2 c = let b = c.before.before in
     let s = b.before.before in
-    two-turns s.args.s s.requires.2 ∙ sym (next-second (has s) (side s.args.s) (first b.before ∙ b.if1.false) (second c.before ∙ c.if2.true))
+    two_turns s.args.s s.requires.2 ∙ sym (next_second (has s) (side s.args.s) (first b.before ∙ b.if1.false) (second c.before ∙ c.if2.true))
 
 returns-3 : tie.Need-returns-3
 returns-3 c = let b = c.before.before in
     let a = b.before.before in
     let s = a.before.before in
-    three-turns s.args.s s.requires.2
-    ∙ sym (next-third (has s) (side s.args.s) (first a.before ∙ a.if1.false) (second b.before ∙ b.if2.false) (third c.before ∙ c.if3.true))
+    three_turns s.args.s s.requires.2
+    ∙ sym (next_third (has s) (side s.args.s) (first a.before ∙ a.if1.false) (second b.before ∙ b.if2.false) (third c.before ∙ c.if3.true))
 
 returns-4 : tie.Need-returns-4
 returns-4 c = let b = c.before.before in
     let a = b.before.before in
     let s = a.before.before in
-    sym (next-none (has s) (side s.args.s) (first a.before ∙ a.if1.false) (second b.before ∙ b.if2.false) (third c.before ∙ c.if3.false))
+    sym (next_none (has s) (side s.args.s) (first a.before ∙ a.if1.false) (second b.before ∙ b.if2.false) (third c.before ∙ c.if3.false))
 
 pub next-side-spec : {M : Type 1} → statement M
 next-side-spec =

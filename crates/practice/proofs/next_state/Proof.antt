@@ -2,13 +2,13 @@
 use mathlib.Core.Path.{refl}
 use native.Mathlib.Omega.{arith}
 use native.Mathlib.Nat.{mod-lt}
-use Rattle.practice.specs.Seed.{nextState}
+use Rattle.practice.specs.Seed.{next_state}
 use borrow.Author.Rules.{rules}
 use Rattle.practice.proofs.next_state.Statement.{statement}
 use Rattle.practice.proofs.next_state.Tie as tie
 
 returns : tie.Need-returns
-unfolding nextState
+unfolding next_state
 returns c = (refl, mod-lt _ (omega arith))
 
 pub next-state-spec : {M : Type 1} → statement M

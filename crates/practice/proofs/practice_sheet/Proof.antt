@@ -8,30 +8,30 @@ use native.Mathlib.Omega.{arith}
 use lib.ListN.{length, drop}
 use Rattle.refusals.specs.Order.{Decides}
 use Rattle.maps.specs.Drawing.{Drawing}
-use Rattle.records.specs.Record.{recordLength}
-use Rattle.records.specs.Sheet.{edgeAfter}
+use Rattle.records.specs.Record.{record_length}
+use Rattle.records.specs.Sheet.{edge_after}
 use Rattle.records.specs.Check.{Outside}
-use Rattle.records.specs.Encode.{plainHead, encodePlain}
-use Rattle.practice.specs.Grid.{gridNodes, gridEdges}
-use Rattle.practice.specs.Practice.{gridDrawing, practiceLength}
-use Rattle.practice.proofs.Writing.{head-kept, head-written, practice-refused, practice-short, practice-passes, made-sizes}
+use Rattle.records.specs.Encode.{plain_head, encode_plain}
+use Rattle.practice.specs.Grid.{grid_nodes, grid_edges}
+use Rattle.practice.specs.Practice.{grid_drawing, practice_length}
+use Rattle.practice.proofs.Writing.{head_kept, head_written, practice_refused, practice_short, practice_passes, made_sizes}
 use borrow.Author.Rules.{rules}
 use Rattle.practice.proofs.practice_sheet.Statement.{statement}
 use Rattle.practice.proofs.practice_sheet.Tie as tie
 
 -- what the edges' contract says of the numbers as they were widened, of those given
 widened : {r r' c c' : ℕ} (seed : ℕ) (l l' : List ℕ) → r ≡ r' → c ≡ c'
-    → ((old : List ℕ) → l ≡ plainHead (gridDrawing r c seed) ++ drop (recordLength 1) old
-    → l' ≡ encodePlain (gridDrawing r c seed) ++ drop (practiceLength r c) old)
-    → (old : List ℕ) → l ≡ plainHead (gridDrawing r' c' seed) ++ drop (recordLength 1) old
-    → l' ≡ encodePlain (gridDrawing r' c' seed) ++ drop (practiceLength r' c') old
+    → ((old : List ℕ) → l ≡ plain_head (grid_drawing r c seed) ++ drop (record_length 1) old
+    → l' ≡ encode_plain (grid_drawing r c seed) ++ drop (practice_length r c) old)
+    → (old : List ℕ) → l ≡ plain_head (grid_drawing r' c' seed) ++ drop (record_length 1) old
+    → l' ≡ encode_plain (grid_drawing r' c' seed) ++ drop (practice_length r' c') old
 widened seed l l' p q h = rw (p, q) at h
 
 abbrev Unmade : tie.Start → Type 0
 Unmade s = Outside 2 16 s.args.rows ⊎ (Outside 2 16 s.args.columns ⊎ (2147483648 ≤ s.args.seed))
 
 abbrev drawn : tie.Start → Drawing
-drawn s = gridDrawing s.args.rows s.args.columns s.args.seed
+drawn s = grid_drawing s.args.rows s.args.columns s.args.seed
 
 -- ── 23, or not ──
 abbrev begun : tie.After-out-of-range → tie.Start
@@ -55,7 +55,7 @@ sizes : (c : tie.Else1)
     × ((start c).args.seed < 2147483648)
 sizes c =
     let a = (start c).args in
-    let p = made-sizes a.rows a.columns a.seed a.out.now (made c) in
+    let p = made_sizes a.rows a.columns a.seed a.out.now (made c) in
     let r = c.before.before.before.wide.ensures in
     let w = c.before.before.wide2.ensures in
     (omega (arith, p.0, r), omega (arith, p.1, r), omega (arith, p.2, w), omega (arith, p.3, w), p.4)
@@ -64,14 +64,14 @@ sizes c =
 abbrev ranged : tie.After-edge-at → tie.Else1
 ranged c = c.before.before.before
 
-edges_are : (c : tie.After-edge-count) → c.IsEdge-count.result ≡ gridEdges (start c.before).args.rows (start c.before).args.columns
+edges_are : (c : tie.After-edge-count) → c.IsEdge-count.result ≡ grid_edges (start c.before).args.rows (start c.before).args.columns
 edges_are c = rw (c.before.before.before.before.wide.ensures, c.before.before.before.wide2.ensures) at c.IsEdge-count.ensures.0
 
-long : (c : tie.After-edge-at) → c.edge-at.result ≡ practiceLength (start (ranged c)).args.rows (start (ranged c)).args.columns
+long : (c : tie.After-edge-at) → c.edge-at.result ≡ practice_length (start (ranged c)).args.rows (start (ranged c)).args.columns
 long c =
     c.edge-at.ensures
-    ∙ ap (λ n. edgeAfter n c.before.before.IsEdge-count.result) c.before.record-length.ensures.0
-    ∙ ap (edgeAfter (recordLength 1)) (edges_are c.before.before)
+    ∙ ap (λ n. edge_after n c.before.before.IsEdge-count.result) c.before.record-length.ensures.0
+    ∙ ap (edge_after (record_length 1)) (edges_are c.before.before)
 
 -- ── the head is written ──
 abbrev roomy : tie.After-write-head → tie.Else2
@@ -82,25 +82,25 @@ base c = start (ranged (roomy c).before)
 
 head-length : (c : tie.After-write-head) → length c.write-head.new.0 ≡ length (base c).args.out.now
 head-length c =
-    head-kept c.before.before.narrow.result c.before.narrow2.result (base c).args.out.now _ c.write-head.ensures
+    head_kept c.before.before.narrow.result c.before.narrow2.result (base c).args.out.now _ c.write-head.ensures
     (omega (arith, (roomy c).if2.false, long (roomy c).before))
 
-nodes-are : (c : tie.After-write-head) → c.before.before.narrow.result ≡ gridNodes (base c).args.rows (base c).args.columns
-nodes-are c =
+nodes_are : (c : tie.After-write-head) → c.before.before.narrow.result ≡ grid_nodes (base c).args.rows (base c).args.columns
+nodes_are c =
     let t = c.before.before.before.before in
     let o = (ranged t.before.before).before in
     c.before.before.narrow.ensures ∙ t.times.ensures.0 ∙ ap₂ ◌*◌ o.before.before.wide.ensures o.before.wide2.ensures
 
-headed : (c : tie.After-write-head) → c.write-head.new.0 ≡ plainHead (drawn (base c)) ++ drop (recordLength 1) (base c).args.out.now
+headed : (c : tie.After-write-head) → c.write-head.new.0 ≡ plain_head (drawn (base c)) ++ drop (record_length 1) (base c).args.out.now
 headed c =
-    head-written (drawn (base c)) (base c).args.out.now _ c.before.before.narrow.result c.before.narrow2.result (nodes-are c)
+    head_written (drawn (base c)) (base c).args.out.now _ c.before.before.narrow.result c.before.narrow2.result (nodes_are c)
     (c.before.narrow2.ensures ∙ edges_are (roomy c).before.before.before) c.write-head.ensures
 
 -- ── the needs, in the order of the code ──
 returns : tie.Need-returns
 returns c =
     let a = (begun c.before).args in
-    (practice-refused a.rows a.columns a.seed a.out.now (judged c.before true c.if1.true), refl)
+    (practice_refused a.rows a.columns a.seed a.out.now (judged c.before true c.if1.true), refl)
 
 edge-count-requires : tie.Need-edge-count-requires
 edge-count-requires c κs = let p = sizes c in (omega (arith, p.0), p.1, omega (arith, p.2), p.3)
@@ -109,7 +109,7 @@ returns-2 : tie.Need-returns-2
 returns-2 c =
     let e = ranged c.before in
     let a = (start e).args in
-    (practice-short a.rows a.columns a.seed a.out.now (made e) (omega (arith, c.if2.true, long c.before)), refl)
+    (practice_short a.rows a.columns a.seed a.out.now (made e) (omega (arith, c.if2.true, long c.before)), refl)
 
 times-requires : tie.Need-times-requires
 times-requires c κs = let p = sizes (ranged c.before) in (p.1, p.3)
@@ -119,7 +119,7 @@ write-edges-requires c κs =
     let h = c.before.before.before in
     let o = (ranged (roomy h).before).before in
     let p = sizes (ranged (roomy h).before) in
-    let same = ap₂ practiceLength o.before.before.wide.ensures o.before.wide2.ensures in (
+    let same = ap₂ practice_length o.before.before.wide.ensures o.before.wide2.ensures in (
       p.0,
       p.1,
       p.2,
@@ -136,10 +136,10 @@ returns-3 c =
     let o = e.before in
     let a = (base h).args in
     let n = long (roomy h).before in (
-      practice-passes a.rows a.columns a.seed a.out.now (made e) (omega (arith, (roomy h).if2.false, n)),
+      practice_passes a.rows a.columns a.seed a.out.now (made e) (omega (arith, (roomy h).if2.false, n)),
       n,
       widened a.seed _ _ o.before.before.wide.ensures o.before.wide2.ensures w.write-edges.ensures a.out.now (headed h)
-          ∙ ap (λ k. encodePlain (drawn (base h)) ++ drop k a.out.now) (sym n),
+          ∙ ap (λ k. encode_plain (drawn (base h)) ++ drop k a.out.now) (sym n),
     )
 
 pub practice-sheet-spec : {M : Type 1} → statement M

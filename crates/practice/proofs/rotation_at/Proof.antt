@@ -3,11 +3,11 @@ use mathlib.Core.Path.{◌≡◌, ◌∙◌, ap}
 use mathlib.Core.Bool.{true}
 use Prim.Native.Nat.{◌<◌}
 use native.Mathlib.Omega.{arith}
-use Rattle.practice.specs.Grid.{present, dartAt}
+use Rattle.practice.specs.Grid.{present, dart_at}
 use Rattle.practice.specs.inner.Numbered.{side}
-use Rattle.practice.proofs.Coordinates.{dart-in}
+use Rattle.practice.proofs.Coordinates.{dart_in}
 use Rattle.practice.proofs.GridSound.{next_here}
-use Rattle.practice.proofs.Accepted.{few-edges}
+use Rattle.practice.proofs.Accepted.{few_edges}
 use borrow.Author.Rules.{rules}
 use Rattle.practice.proofs.rotation_at.Statement.{statement}
 use Rattle.practice.proofs.rotation_at.Tie as tie
@@ -29,8 +29,8 @@ small c =
     omega (
       arith,
       c.dart-at.ensures,
-      dart-in a.rows a.columns a.r a.c p.2 p.3 (side n.next-side.result) (turned n),
-      few-edges a.rows a.columns p.0 p.1,
+      dart_in a.rows a.columns a.r a.c p.2 p.3 (side n.next-side.result) (turned n),
+      few_edges a.rows a.columns p.0 p.1,
     )
 
 dart-at-requires : tie.Need-dart-at-requires
@@ -42,7 +42,7 @@ narrow-requires c κs = small c
 returns : tie.Need-returns
 returns c =
     let a = c.before.before.before.args in
-    c.narrow.ensures ∙ c.before.dart-at.ensures ∙ ap (dartAt a.rows a.columns a.r a.c) c.before.before.next-side.ensures
+    c.narrow.ensures ∙ c.before.dart-at.ensures ∙ ap (dart_at a.rows a.columns a.r a.c) c.before.before.next-side.ensures
 
 pub rotation-at-spec : {M : Type 1} → statement M
 rotation-at-spec = tie.close (tie.spec (λ c κs. search rules) dart-at-requires narrow-requires returns)

@@ -1,9 +1,9 @@
 -- The record between two nodes: what the four numbers are is what the record says.
 use mathlib.Core.Path.{◌∙◌}
 use lib.IntN.{pos}
-use Rattle.signed.proofs.Laws.{number-of-bits}
+use Rattle.signed.proofs.Laws.{number_of_bits}
 use Rattle.fields.specs.Fields.{put}
-use Rattle.records.specs.Encode.{edgeBytes}
+use Rattle.records.specs.Encode.{edge_bytes}
 use borrow.Author.Rules.{rules}
 use Rattle.practice.proofs.write_between.Statement.{statement}
 use Rattle.practice.proofs.write_between.Tie as tie
@@ -19,8 +19,8 @@ returns c =
     let a = s.args in
     w.write-record.ensures
     ∙ (λ i. put a.place
-    (edgeBytes (tail.Node-at.ensures i) (head.node-at2.ensures i) (rotation.rotation-at.ensures i) (back.rotation-at2.ensures i)
-    (number-of-bits a.forward s.ranges.forward i) (pos 0)) a.out.now)
+    (edge_bytes (tail.Node-at.ensures i) (head.node-at2.ensures i) (rotation.rotation-at.ensures i) (back.rotation-at2.ensures i)
+    (number_of_bits a.forward s.ranges.forward i) (pos 0)) a.out.now)
 
 pub write-between-spec : {M : Type 1} → statement M
 write-between-spec =

@@ -4,24 +4,24 @@ use Prim.Native.Nat.{ℕ, ◌+◌, ◌*◌, ◌-◌, ◌/◌, ◌%◌, ◌≤◌
 use native.Mathlib.Omega.{arith}
 use lib.IntN.{ℤ, pos}
 use mathlib.Core.List.{List}
-use Rattle.integers.proofs.Tests.{ltb-true}
-use Rattle.signed.proofs.Laws.{number-of-bits}
+use Rattle.integers.proofs.Tests.{ltb_true}
+use Rattle.signed.proofs.Laws.{number_of_bits}
 use Rattle.fields.specs.Fields.{put}
-use Rattle.records.specs.Encode.{edgeBytes}
-use Rattle.practice.specs.Grid.{Place, placed, present, nodeAt, rotationAt}
+use Rattle.records.specs.Encode.{edge_bytes}
+use Rattle.practice.specs.Grid.{Place, placed, present, node_at, rotation_at}
 use Rattle.practice.specs.inner.Numbered.{side}
 use Rattle.practice.proofs.Coordinates.{row_of}
-use Rattle.practice.proofs.Writing.{begins-across, ends-across, begins-down, ends-down}
+use Rattle.practice.proofs.Writing.{begins_across, ends_across, begins_down, ends_down}
 use borrow.Author.Rules.{rules}
 use Rattle.practice.proofs.write_edge.Statement.{statement}
 use Rattle.practice.proofs.write_edge.Tie as tie
 
 -- the same ends and the same capacity make the same record
 same-record : (rows columns place : ℕ) (old : List ℕ) {p p' q q' : Place} {x x' : ℤ} → p ≡ p' → q ≡ q' → x ≡ x'
-    → put place (edgeBytes (nodeAt rows columns p) (nodeAt rows columns q) (rotationAt rows columns p) (rotationAt rows columns q) x (pos 0)) old
-    ≡ put place (edgeBytes (nodeAt rows columns p') (nodeAt rows columns q') (rotationAt rows columns p') (rotationAt rows columns q') x' (pos 0)) old
+    → put place (edge_bytes (node_at rows columns p) (node_at rows columns q) (rotation_at rows columns p) (rotation_at rows columns q) x (pos 0)) old
+    ≡ put place (edge_bytes (node_at rows columns p') (node_at rows columns q') (rotation_at rows columns p') (rotation_at rows columns q') x' (pos 0)) old
 same-record rows columns place old b e f = λ i. put place
-    (edgeBytes (nodeAt rows columns (b i)) (nodeAt rows columns (e i)) (rotationAt rows columns (b i)) (rotationAt rows columns (e i)) (f i) (pos 0)) old
+    (edge_bytes (node_at rows columns (b i)) (node_at rows columns (e i)) (rotation_at rows columns (b i)) (rotation_at rows columns (e i)) (f i) (pos 0)) old
 
 abbrev start : tie.After-times → tie.Start
 start c = c.before.before
@@ -76,11 +76,11 @@ write-between-requires c κs =
       q.0,
       omega (arith, q.1),
       omega arith,
-      ltb-true (column + 1) a.columns q.1,
+      ltb_true (column + 1) a.columns q.1,
       q.0,
       q.1,
       omega arith,
-      ltb-true 0 (column + 1) (omega arith),
+      ltb_true 0 (column + 1) (omega arith),
     )
 
 returns : tie.Need-returns
@@ -90,8 +90,8 @@ returns c =
     let s = eastward t in
     let a = s.args in
     w.write-between.ensures
-    ∙ same-record a.rows a.columns a.place a.out.now (sym (begins-across a.rows a.columns a.e (first t)))
-    (sym (ends-across a.rows a.columns a.e (first t))) (number-of-bits a.forward s.fits.forward)
+    ∙ same-record a.rows a.columns a.place a.out.now (sym (begins_across a.rows a.columns a.e (first t)))
+    (sym (ends_across a.rows a.columns a.e (first t))) (number_of_bits a.forward s.fits.forward)
 
 add-write-between-2 : tie.Need-overflow-add-write-between-2
 add-write-between-2 c = omega (arith, (in-column c.before).0, (southward c.before).requires.2)
@@ -110,11 +110,11 @@ write-between-requires-2 c κs =
       omega (arith, q.0),
       q.1,
       omega arith,
-      ltb-true (row + 1) a.rows q.0,
+      ltb_true (row + 1) a.rows q.0,
       q.0,
       q.1,
       omega arith,
-      ltb-true 0 (row + 1) (omega arith),
+      ltb_true 0 (row + 1) (omega arith),
     )
 
 returns-2 : tie.Need-returns-2
@@ -126,9 +126,9 @@ returns-2 c =
     let k = c.before.before.before.before.before.times.ensures.0 in
     w.write-between2.ensures
     ∙ same-record a.rows a.columns a.place a.out.now
-    (ap (λ n. placed ((a.e - n) / a.columns) ((a.e - n) % a.columns) (side 2)) k ∙ sym (begins-down a.rows a.columns a.e (second t)))
-    (ap (λ n. placed ((a.e - n) / a.columns + 1) ((a.e - n) % a.columns) (side 0)) k ∙ sym (ends-down a.rows a.columns a.e (second t)))
-    (number-of-bits a.forward s.fits.forward)
+    (ap (λ n. placed ((a.e - n) / a.columns) ((a.e - n) % a.columns) (side 2)) k ∙ sym (begins_down a.rows a.columns a.e (second t)))
+    (ap (λ n. placed ((a.e - n) / a.columns + 1) ((a.e - n) % a.columns) (side 0)) k ∙ sym (ends_down a.rows a.columns a.e (second t)))
+    (number_of_bits a.forward s.fits.forward)
 
 pub write-edge-spec : {M : Type 1} → statement M
 write-edge-spec =

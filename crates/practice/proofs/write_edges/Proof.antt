@@ -10,35 +10,35 @@ use lib.ListN.{length, drop}
 use mir.Syntax.{w32}
 use mir.Val.{to_z, of_z}
 use borrow.Author.Rules.{rules}
-use Rattle.signed.proofs.Laws.{number-of-bits}
+use Rattle.signed.proofs.Laws.{number_of_bits}
 use Rattle.fields.specs.Fields.{put}
 use Rattle.maps.specs.Drawing.{Drawing}
-use Rattle.records.specs.Record.{recordLength}
-use Rattle.records.specs.Sheet.{edgeAfter}
-use Rattle.records.specs.Encode.{edgeBytes, plainHead, encodeEdge}
-use Rattle.records.proofs.Places.{edge-length}
-use Rattle.sheets.proofs.Placing.{placed_first, placed-length}
-use Rattle.practice.specs.Grid.{gridEdges, beginning, ending, nodeAt, rotationAt}
-use Rattle.practice.specs.Seed.{nextState, stateAfter, capacityFrom, forwardOf}
-use Rattle.practice.specs.Practice.{gridDrawing}
-use Rattle.practice.proofs.Accepted.{forward-small}
-use Rattle.practice.proofs.Writing.{Front, front-start, front-step, front-end, grid-record}
+use Rattle.records.specs.Record.{record_length}
+use Rattle.records.specs.Sheet.{edge_after}
+use Rattle.records.specs.Encode.{edge_bytes, plain_head, encode_edge}
+use Rattle.records.proofs.Places.{edge_length}
+use Rattle.sheets.proofs.Placing.{placed_first, placed_length}
+use Rattle.practice.specs.Grid.{grid_edges, beginning, ending, node_at, rotation_at}
+use Rattle.practice.specs.Seed.{next_state, state_after, capacity_from, forward_of}
+use Rattle.practice.specs.Practice.{grid_drawing}
+use Rattle.practice.proofs.Accepted.{forward_small}
+use Rattle.practice.proofs.Writing.{Front, front_start, front_step, front_end, grid_record}
 use Rattle.practice.proofs.write_edges.Statement.{statement}
 use Rattle.practice.proofs.write_edges.Tie as tie
 
 abbrev invariant-loop : tie.invariant-loop
 invariant-loop out₀ rows columns seed head edges state₀ e₀ out state e =
     (e ≤ edges)
-    × (state ≡ stateAfter seed e)
+    × (state ≡ state_after seed e)
     × (state < 2147483648)
     × (length out ≡ length out₀)
-    × ((old : List ℕ) → out₀ ≡ plainHead (gridDrawing rows columns seed) ++ drop (recordLength 1) old → Front (gridDrawing rows columns seed) e old out)
+    × ((old : List ℕ) → out₀ ≡ plain_head (grid_drawing rows columns seed) ++ drop (record_length 1) old → Front (grid_drawing rows columns seed) e old out)
 
 abbrev decreases-loop : tie.decreases-loop
 decreases-loop out₀ rows columns seed head edges state₀ e₀ out state e = edges - e
 
 abbrev drawn : tie.Start invariant-loop decreases-loop → Drawing
-drawn s = gridDrawing s.args.rows s.args.columns s.args.seed
+drawn s = grid_drawing s.args.rows s.args.columns s.args.seed
 
 -- ── the places: the turn of the loop, the start ──
 abbrev begun : tie.At-loop invariant-loop decreases-loop → tie.Start invariant-loop decreases-loop
@@ -47,39 +47,39 @@ begun o = o.before.before.before.before
 abbrev turn : tie.After-edge-at invariant-loop decreases-loop → tie.At-loop invariant-loop decreases-loop
 turn c = c.before.before.before.before
 
-inside : (c : tie.After-edge-at invariant-loop decreases-loop) → (turn c).loop.e < gridEdges (begun (turn c)).args.rows (begun (turn c)).args.columns
+inside : (c : tie.After-edge-at invariant-loop decreases-loop) → (turn c).loop.e < grid_edges (begun (turn c)).args.rows (begun (turn c)).args.columns
 inside c = omega (arith, c.before.before.before.loop-test.true, (turn c).before.IsEdge-count.ensures.0)
 
 -- ── the state and the capacity of this turn ──
 stepped : (c : tie.After-next-state invariant-loop decreases-loop)
-    → c.next-state.result ≡ stateAfter (begun c.before.before).args.seed (c.before.before.loop.e + 1)
-unfolding stateAfter
+    → c.next-state.result ≡ state_after (begun c.before.before).args.seed (c.before.before.loop.e + 1)
+unfolding state_after
 stepped c =
     let o = c.before.before in
-    c.next-state.ensures.0 ∙ ap nextState o.loop.invariant.1 ∙ ap (stateAfter (begun o).args.seed) (sym (add-one o.loop.e))
+    c.next-state.ensures.0 ∙ ap next_state o.loop.invariant.1 ∙ ap (state_after (begun o).args.seed) (sym (add-one o.loop.e))
 
 capacity : (c : tie.After-capacity-from invariant-loop decreases-loop)
-    → c.capacity-from.result ≡ pos (forwardOf (begun c.before.before.before).args.seed c.before.before.before.loop.e)
-unfolding forwardOf
+    → c.capacity-from.result ≡ pos (forward_of (begun c.before.before.before).args.seed c.before.before.before.loop.e)
+unfolding forward_of
 capacity c =
     let o = c.before.before.before in
     c.capacity-from.ensures
-    ∙ ap (λ x. pos (capacityFrom x)) (stepped c.before ∙ ap (stateAfter (begun o).args.seed) (add-one o.loop.e))
+    ∙ ap (λ x. pos (capacity_from x)) (stepped c.before ∙ ap (state_after (begun o).args.seed) (add-one o.loop.e))
 
 bits : (c : tie.After-capacity-from invariant-loop decreases-loop)
-    → to_z w32 (of_z w32 c.capacity-from.result) ≡ pos (forwardOf (begun c.before.before.before).args.seed c.before.before.before.loop.e)
+    → to_z w32 (of_z w32 c.capacity-from.result) ≡ pos (forward_of (begun c.before.before.before).args.seed c.before.before.before.loop.e)
 bits c =
     let o = c.before.before.before in
-    let n = forwardOf (begun o).args.seed o.loop.e in
-    ap (λ x. to_z w32 (of_z w32 x)) (capacity c) ∙ number-of-bits (pos n) (record { sfits = omega (arith, forward-small (begun o).args.seed o.loop.e) })
+    let n = forward_of (begun o).args.seed o.loop.e in
+    ap (λ x. to_z w32 (of_z w32 x)) (capacity c) ∙ number_of_bits (pos n) (record { sfits = omega (arith, forward_small (begun o).args.seed o.loop.e) })
 
 -- ── an edge is written ──
-place : (c : tie.After-edge-at invariant-loop decreases-loop) → c.edge-at.result ≡ edgeAfter (recordLength 1) (turn c).loop.e
-place c = c.edge-at.ensures ∙ ap (λ n. edgeAfter n (turn c).loop.e) (turn c).before.before.record-length.ensures.0
+place : (c : tie.After-edge-at invariant-loop decreases-loop) → c.edge-at.result ≡ edge_after (record_length 1) (turn c).loop.e
+place c = c.edge-at.ensures ∙ ap (λ n. edge_after n (turn c).loop.e) (turn c).before.before.record-length.ensures.0
 
 written : (c : tie.After-write-edge invariant-loop decreases-loop)
-    → c.write-edge.new.0 ≡ put (edgeAfter (recordLength 1) (turn c.before.before).loop.e)
-    (encodeEdge (drawn (begun (turn c.before.before))) (turn c.before.before).loop.e) (turn c.before.before).loop.out
+    → c.write-edge.new.0 ≡ put (edge_after (record_length 1) (turn c.before.before).loop.e)
+    (encode_edge (drawn (begun (turn c.before.before))) (turn c.before.before).loop.e) (turn c.before.before).loop.out
 written c =
     let l = c.before.before in
     let o = turn l in
@@ -87,23 +87,23 @@ written c =
     let e = o.loop.e in
     c.write-edge.ensures
     ∙ (λ i. put (place l i)
-    (edgeBytes (nodeAt a.rows a.columns (beginning a.rows a.columns e)) (nodeAt a.rows a.columns (ending a.rows a.columns e))
-    (rotationAt a.rows a.columns (beginning a.rows a.columns e)) (rotationAt a.rows a.columns (ending a.rows a.columns e))
+    (edge_bytes (node_at a.rows a.columns (beginning a.rows a.columns e)) (node_at a.rows a.columns (ending a.rows a.columns e))
+    (rotation_at a.rows a.columns (beginning a.rows a.columns e)) (rotation_at a.rows a.columns (ending a.rows a.columns e))
     (bits l.before i) (pos 0)) o.loop.out)
-    ∙ ap (λ b. put (edgeAfter (recordLength 1) e) b o.loop.out) (sym (grid-record a.rows a.columns a.seed e (inside l)))
+    ∙ ap (λ b. put (edge_after (record_length 1) e) b o.loop.out) (sym (grid_record a.rows a.columns a.seed e (inside l)))
 
 -- so the length is kept
 kept : (c : tie.After-write-edge invariant-loop decreases-loop) → length c.write-edge.new.0 ≡ length (turn c.before.before).loop.out
 kept c =
     let o = turn c.before.before in
     let s = begun o in
-    placed-length (placed_first {bs = encodeEdge (drawn s) o.loop.e} (written c) (edge-length (drawn s) o.loop.e))
+    placed_length (placed_first {bs = encode_edge (drawn s) o.loop.e} (written c) (edge_length (drawn s) o.loop.e))
     (omega (arith, o.loop.inv.3, s.pre.5, inside c.before.before))
 
 -- ── the needs, in the order of the code ──
 loop-holds : tie.Need-loop-init invariant-loop decreases-loop
-unfolding stateAfter
-loop-holds c = let s = c.before.before.before in (omega arith, refl, s.requires.4, refl, λ old e. front-start (drawn s) old _ e)
+unfolding state_after
+loop-holds c = let s = c.before.before.before in (omega arith, refl, s.requires.4, refl, λ old e. front_start (drawn s) old _ e)
 
 next-state-requires : tie.Need-next-state-requires invariant-loop decreases-loop
 next-state-requires c κs = c.before.loop.invariant.2
@@ -132,13 +132,13 @@ loop-again c =
       stepped n,
       n.next-state.ensures.1,
       kept w ∙ o.loop.inv.3,
-      λ old e. front-step (drawn (begun o)) old o.loop.e o.loop.out _ (o.loop.inv.4 old e) (written w),
+      λ old e. front_step (drawn (begun o)) old o.loop.e o.loop.out _ (o.loop.inv.4 old e) (written w),
     )
 
 returns : tie.Need-returns invariant-loop decreases-loop
 returns c = λ old e.
     let o = c.before in
-    front-end (drawn (begun o)) old o.loop.e _ (omega (arith, o.before.IsEdge-count.ensures.0)) (o.loop.invariant.4 old e)
+    front_end (drawn (begun o)) old o.loop.e _ (omega (arith, o.before.IsEdge-count.ensures.0)) (o.loop.invariant.4 old e)
 
 pub write-edges-spec : {M : Type 1} → statement M
 write-edges-spec =

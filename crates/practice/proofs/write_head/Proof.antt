@@ -1,5 +1,5 @@
--- The head of a sheet is written field by field: at each place a field stands behind the one before, and `head-placed` joins them into one piece.
-use Rattle.practice.proofs.Writing.{head-placed}
+-- The head of a sheet is written field by field: at each place a field stands behind the one before, and `head_placed` joins them into one piece.
+use Rattle.practice.proofs.Writing.{head_placed}
 use borrow.Author.Rules.{rules}
 use Rattle.practice.proofs.write_head.Statement.{statement}
 use Rattle.practice.proofs.write_head.Tie as tie
@@ -10,7 +10,7 @@ returns c =
     let nodes = edges.before.before.before.before in
     let kind = nodes.before.before.before.before in
     let s = kind.before.before.before in
-    head-placed s.args.out.now s.args.nodes s.args.edges s.requires
+    head_placed s.args.out.now s.args.nodes s.args.edges s.requires
     kind.write-u8.ensures nodes.write-u16.ensures edges.write-u162.ensures
 
 pub write-head-spec : {M : Type 1} → statement M

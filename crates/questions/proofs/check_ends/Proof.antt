@@ -4,24 +4,24 @@ use mathlib.Core.Logic.{inl, inr}
 use native.Mathlib.Omega.{arith}
 use Rattle.refusals.specs.Order.{NoneOf, FirstOf}
 use Rattle.refusals.proofs.Order.{neither}
-use Rattle.questions.specs.Question.{endChecks}
+use Rattle.questions.specs.Question.{end_checks}
 use Rattle.questions.proofs.check_ends.Statement.{statement}
 use Rattle.questions.proofs.check_ends.Tie as tie
 
 returns : tie.Need-returns
-unfolding endChecks FirstOf
+unfolding end_checks FirstOf
 returns c = inl (inl (omega arith), refl, refl)
 
 returns-2 : tie.Need-returns-2
-unfolding endChecks FirstOf
+unfolding end_checks FirstOf
 returns-2 c = inl (inr (omega arith), refl, refl)
 
 returns-3 : tie.Need-returns-3
-unfolding endChecks FirstOf
+unfolding end_checks FirstOf
 returns-3 c = inr (neither (λ l. omega arith) (λ l. omega arith), inl (omega arith, refl, refl))
 
 returns-4 : tie.Need-returns-4
-unfolding endChecks NoneOf
+unfolding end_checks NoneOf
 returns-4 c = (neither (λ l. omega arith) (λ l. omega arith), ((λ e. omega arith), tt))
 
 pub check-ends-spec : {M : Type 1} → statement M

@@ -10,39 +10,39 @@ use Rattle.refusals.specs.Order.{Check, NoneOf, Judged}
 use Rattle.refusals.specs.declared.Verdict.{Verdict}
 use Rattle.refusals.specs.declared.Verdict.TheVariants.{Passed, Refused}
 use Rattle.maps.specs.Map.{Map}
-use Rattle.flows.specs.ProvingSet.{wordsFor}
+use Rattle.flows.specs.ProvingSet.{words_for}
 use Rattle.arrays.specs.At.{atℤ}
-use Rattle.arrays.specs.Maps.{mapOf}
+use Rattle.arrays.specs.Maps.{map_of}
 use Rattle.node_sets.specs.inner.Words.{Written}
 use Rattle.balance.proofs.Parts.{part_length}
 use Rattle.maximum.specs.inner.Maximum.{Maximized}
 use Rattle.maximum.specs.declared.Maximum.{Maximum}
-use Rattle.questions.specs.Question.{endChecks, roomChecks}
-use Rattle.questions.specs.Largest.{searchChecks}
-use Rattle.questions.proofs.Asked.{room-flows}
-use Rattle.questions.proofs.Sets.{words-lent, written_back, set-written, next-proved, none_written}
-use Rattle.questions.proofs.Solving.{ends-for}
-use Rattle.questions.proofs.Finding.{largest-ends, largest-room, largest-none, told-value, highest-as, maximized-back}
+use Rattle.questions.specs.Question.{end_checks, room_checks}
+use Rattle.questions.specs.Largest.{search_checks}
+use Rattle.questions.proofs.Asked.{room_flows}
+use Rattle.questions.proofs.Sets.{words_lent, written_back, set_written, next_proved, none_written}
+use Rattle.questions.proofs.Solving.{ends_for}
+use Rattle.questions.proofs.Finding.{largest_ends, largest_room, largest_none, told_value, highest_as, maximized_back}
 use Rattle.questions.proofs.largest.Statement.{statement}
 use Rattle.questions.proofs.largest.Tie as tie
 
 -- ── the drawing and the checks, of what the function is given ──
 abbrev mapAt : tie.Start → Map
-mapAt s = mapOf s.args.sizes.nodes s.args.sizes.edges s.args.tails.now s.args.rotations.now
+mapAt s = map_of s.args.sizes.nodes s.args.sizes.edges s.args.tails.now s.args.rotations.now
 
 abbrev capacityAt : tie.Start → ℕ → ℤ
 capacityAt s = atℤ s.args.capacities.now
 
 abbrev ends_at : tie.Start → List Check
-ends_at s = endChecks s.args.sizes.nodes s.args.terminals.source s.args.terminals.sink
+ends_at s = end_checks s.args.sizes.nodes s.args.terminals.source s.args.terminals.sink
 
 abbrev room_at : tie.Start → List Check
-room_at s = roomChecks s.args.sizes.nodes s.args.sizes.edges (length s.args.flows.now) (length s.args.set.now)
+room_at s = room_checks s.args.sizes.nodes s.args.sizes.edges (length s.args.flows.now) (length s.args.set.now)
 
 abbrev checksAt : tie.Start → List Check
 checksAt s =
     let a = s.args in
-    searchChecks a.sizes.nodes a.sizes.edges a.terminals.source a.terminals.sink a.flows.now a.set.now
+    search_checks a.sizes.nodes a.sizes.edges a.terminals.source a.terminals.sink a.flows.now a.set.now
 
 -- ── 13 and 14 did not refuse ──
 abbrev begun : tie.After-check-ends → tie.Start
@@ -61,14 +61,14 @@ two : (c : tie.After-enum-told) → NoneOf (ends_at (base c))
 two c = ends-judged (checked c) Passed c.enum_told.given.1
 
 -- ── 16 did not refuse ──
-room-judged : (c : tie.After-check-room) (v : Verdict) → c.check-room.result ≡ v → Judged (room_at (base c.before)) v
-room-judged c v e = rw e at c.check-room.ensures
+room_judged : (c : tie.After-check-room) (v : Verdict) → c.check-room.result ≡ v → Judged (room_at (base c.before)) v
+room_judged c v e = rw e at c.check-room.ensures
 
 abbrev asked : tie.After-enum-told2 → tie.After-enum-told
 asked c = c.before.before.before
 
 room : (c : tie.After-enum-told2) → NoneOf (room_at (base (asked c)))
-room c = room-judged c.before.before Passed c.enum-told2.given.1
+room c = room_judged c.before.before Passed c.enum-told2.given.1
 
 -- ── the needs, in the order of the code ──
 returns : tie.Need-returns
@@ -76,25 +76,25 @@ returns c =
     let e = c.before.before.before in
     let a = (begun e).args in
     let j = ends-judged e (Refused _ _) c.before.named.given.1 in
-    (largest-ends a.sizes.nodes a.sizes.edges a.terminals.source a.terminals.sink a.flows.now a.set.now _ _ j, refl, refl)
+    (largest_ends a.sizes.nodes a.sizes.edges a.terminals.source a.terminals.sink a.flows.now a.set.now _ _ j, refl, refl)
 
 check-room-requires : tie.Need-check-room-requires
-check-room-requires c κs = (base c).requires.opened.drawn.few-nodes
+check-room-requires c κs = (base c).requires.opened.drawn.few_nodes
 
 returns-2 : tie.Need-returns-2
 returns-2 c =
     let r = c.before.before.before in
     let e = r.before in
     let a = (base e).args in
-    let j = room-judged r (Refused _ _) c.before.room.given.1 in
-    (largest-room a.sizes.nodes a.sizes.edges a.terminals.source a.terminals.sink a.flows.now a.set.now (two e) _ _ j, refl, refl)
+    let j = room_judged r (Refused _ _) c.before.room.given.1 in
+    (largest_room a.sizes.nodes a.sizes.edges a.terminals.source a.terminals.sink a.flows.now a.set.now (two e) _ _ j, refl, refl)
 
 -- the flows of the edges are there to be lent
-flows-in : (c : tie.After-enum-told2) → (base (asked c)).args.sizes.edges ≤ length (base (asked c)).args.flows.now
-flows-in c = (room-flows _ _ _ _ (room c)).0
+flows_in : (c : tie.After-enum-told2) → (base (asked c)).args.sizes.edges ≤ length (base (asked c)).args.flows.now
+flows_in c = (room_flows _ _ _ _ (room c)).0
 
 part-maximize-end : tie.Need-slice-bounds-maximize-end
-part-maximize-end c = flows-in c
+part-maximize-end c = flows_in c
 
 maximize-requires : tie.Need-maximize-requires
 maximize-requires c κs =
@@ -104,8 +104,8 @@ maximize-requires c κs =
     let a = s.args in (
       record {
         opened = s.pre.opened;
-        ends = ends-for (mapAt s) a.terminals.source a.terminals.sink (two e);
-        exact = part_length a.sizes.edges a.flows.now (flows-in m);
+        ends = ends_for (mapAt s) a.terminals.source a.terminals.sink (two e);
+        exact = part_length a.sizes.edges a.flows.now (flows_in m);
       },
       s.pre.small,
       refl,
@@ -134,33 +134,33 @@ found : (c : tie.After-maximize) {answer : Maximum} → c.maximize.result ≡ an
 found c same =
     let s = start c in
     let a = s.args in
-    maximized-back (mapAt s) a.sizes.outer (capacityAt s) a.terminals.source a.terminals.sink a.flows.now (lent' c) (inside' c) same
+    maximized_back (mapAt s) a.sizes.outer (capacityAt s) a.terminals.source a.terminals.sink a.flows.now (lent' c) (inside' c) same
     c.maximize.ensures.1
 
 none : (c : tie.After-maximize) → NoneOf (checksAt (start c))
 none c =
     let a = (start c).args in
-    largest-none a.sizes.nodes a.sizes.edges a.terminals.source a.terminals.sink a.flows.now a.set.now (two (asked (roomy c)))
+    largest_none a.sizes.nodes a.sizes.edges a.terminals.source a.terminals.sink a.flows.now a.set.now (two (asked (roomy c)))
     (room (roomy c))
 
 -- ── the set written ──
 abbrev found_at : tie.After-words-for → tie.After-maximize
 found_at c = c.before.before
 
-words-in : (c : tie.After-words-for) → wordsFor (start (found_at c)).args.sizes.nodes ≤ length (start (found_at c)).args.set.now
-words-in c = (room-flows _ _ _ _ (room (roomy (found_at c)))).1
+words_in : (c : tie.After-words-for) → words_for (start (found_at c)).args.sizes.nodes ≤ length (start (found_at c)).args.set.now
+words_in c = (room_flows _ _ _ _ (room (roomy (found_at c)))).1
 
 words-for-requires : tie.Need-words-for-requires
-words-for-requires c κs = (start c.before).requires.opened.drawn.few-nodes
+words-for-requires c κs = (start c.before).requires.opened.drawn.few_nodes
 
 part-write-set-end : tie.Need-slice-bounds-write-set-end
-part-write-set-end c = let n = c.before in omega (arith, n.words-for.ensures, words-in n)
+part-write-set-end c = let n = c.before in omega (arith, n.words-for.ensures, words_in n)
 
 write-set-requires : tie.Need-write-set-requires
 write-set-requires c κs =
     let n = c.before.before in
     let s = start (found_at n) in
-    words-lent s.args.set.now n.words-for.ensures (words-in n) s.pre.opened.drawn.few-nodes
+    words_lent s.args.set.now n.words-for.ensures (words_in n) s.pre.opened.drawn.few_nodes
 
 abbrev counted : tie.After-write-set → tie.After-words-for
 counted c = c.before.before.before
@@ -173,7 +173,7 @@ written : (c : tie.After-write-set)
     → Written (inside' (found_at (counted c))) (start (found_at (counted c))).args.sizes.nodes (start (found_at (counted c))).args.set.now (set' c)
 written c =
     let n = counted c in
-    written_back (start (found_at n)).args.set.now n.words-for.ensures (words-in n) c.write-set.ensures
+    written_back (start (found_at n)).args.set.now n.words-for.ensures (words_in n) c.write-set.ensures
 
 returns-3 : tie.Need-returns-3
 returns-3 c =
@@ -183,14 +183,14 @@ returns-3 c =
     let a = s.args in
     let p = s.pre in
     let r = found m c.before.most.given.1 in
-    let v = told-value (mapAt s) (capacityAt s) p.opened.drawn.few-edges p.small _ (inside' m) r.2 in
+    let v = told_value (mapAt s) (capacityAt s) p.opened.drawn.few_edges p.small _ (inside' m) r.2 in
     let ends = two (asked (roomy m)) in (
       none m,
-      (r.0.0, highest-as (sym v) r.0.1, r.0.2),
+      (r.0.0, highest_as (sym v) r.0.1, r.0.2),
       (
-        take (wordsFor a.sizes.nodes) (set' w),
-        set-written (written w),
-        next-proved p.opened.drawn.plane.sound.range (capacityAt s) (written w) a.terminals.source a.terminals.sink ends _ r.1 (v ∙ r.2),
+        take (words_for a.sizes.nodes) (set' w),
+        set_written (written w),
+        next_proved p.opened.drawn.plane.sound.range (capacityAt s) (written w) a.terminals.source a.terminals.sink ends _ r.1 (v ∙ r.2),
       ),
     )
 
@@ -204,7 +204,7 @@ returns-4 c =
     let ends = two (asked (roomy m)) in
     let k = none_written s.pre.opened.drawn.plane.sound.range (capacityAt s) (written w) a.terminals.source a.terminals.sink ends
     r.1 r.2 in
-    (none m, r.0, (take (wordsFor a.sizes.nodes) (set' w), set-written (written w), k))
+    (none m, r.0, (take (words_for a.sizes.nodes) (set' w), set_written (written w), k))
 
 pub largest-spec : {M : Type 1} → statement M
 largest-spec =

@@ -9,16 +9,16 @@ use borrow.Author.Rules.{rules}
 use Rattle.refusals.specs.Order.{Check, NoneOf, Judged}
 use Rattle.refusals.specs.declared.Verdict.{Verdict}
 use Rattle.refusals.specs.declared.Verdict.TheVariants.{Passed, Refused}
-use Rattle.signed.proofs.Laws.{number-of-bits}
+use Rattle.signed.proofs.Laws.{number_of_bits}
 use Rattle.maps.specs.Drawing.{Drawing}
-use Rattle.flows.specs.Check.{withinChecks, balanceChecks, EndOf}
+use Rattle.flows.specs.Check.{within_checks, balance_checks, EndOf}
 use Rattle.arrays.specs.At.{atℤ}
-use Rattle.arrays.specs.Maps.{drawingOf}
-use Rattle.arrays.proofs.FillLoops.{same-everywhere}
-use Rattle.balance.proofs.Parts.{part_length, part-net, part-within, part-balance}
-use Rattle.questions.specs.Question.{endChecks}
-use Rattle.questions.proofs.Asked.{ends-in}
-use Rattle.questions.proofs.Marking.{mark-ends, mark-short, mark-within, mark-balance, mark-none, flows-small, net-of, ends-balanced}
+use Rattle.arrays.specs.Maps.{drawing_of}
+use Rattle.arrays.proofs.FillLoops.{same_everywhere}
+use Rattle.balance.proofs.Parts.{part_length, part_net, part_within, part_balance}
+use Rattle.questions.specs.Question.{end_checks}
+use Rattle.questions.proofs.Asked.{ends_in}
+use Rattle.questions.proofs.Marking.{mark_ends, mark_short, mark_within, mark_balance, mark_none, flows_small, net_of, ends_balanced}
 use Rattle.questions.proofs.mark.Statement.{statement}
 use Rattle.questions.proofs.mark.Tie as tie
 
@@ -26,16 +26,16 @@ use Rattle.questions.proofs.mark.Tie as tie
 abbrev drawingAt : tie.Start → Drawing
 drawingAt s =
     let a = s.args in
-    drawingOf a.sizes.nodes a.sizes.edges a.sizes.outer a.tails.now a.rotations.now a.capacities.now
+    drawing_of a.sizes.nodes a.sizes.edges a.sizes.outer a.tails.now a.rotations.now a.capacities.now
 
 abbrev ends_at : tie.Start → List Check
-ends_at s = endChecks s.args.sizes.nodes s.args.terminals.source s.args.terminals.sink
+ends_at s = end_checks s.args.sizes.nodes s.args.terminals.source s.args.terminals.sink
 
 abbrev withinAt : tie.Start → List Check
-withinAt s = withinChecks s.args.sizes.edges (atℤ s.args.capacities.now) (atℤ s.args.flows.now)
+withinAt s = within_checks s.args.sizes.edges (atℤ s.args.capacities.now) (atℤ s.args.flows.now)
 
 abbrev balanceAt : tie.Start → List Check
-balanceAt s = balanceChecks (drawingAt s).map (EndOf s.args.terminals.source s.args.terminals.sink) (atℤ s.args.flows.now)
+balanceAt s = balance_checks (drawingAt s).map (EndOf s.args.terminals.source s.args.terminals.sink) (atℤ s.args.flows.now)
 
 -- ── 13 and 14 did not refuse ──
 abbrev begun : tie.After-check-ends → tie.Start
@@ -62,13 +62,13 @@ abbrev given : tie.Start → List ℤ
 given s = take (s.args.sizes.edges - 0) s.args.flows.now
 
 within-given : (c : tie.After-check-within) (v : Verdict) → c.check-within.result ≡ v
-    → Judged (withinChecks (base (long c)).args.sizes.edges (atℤ (base (long c)).args.capacities.now) (atℤ (given (base (long c))))) v
+    → Judged (within_checks (base (long c)).args.sizes.edges (atℤ (base (long c)).args.capacities.now) (atℤ (given (base (long c))))) v
 within-given c v e = rw e at c.check-within.ensures
 
 within-judged : (c : tie.After-check-within) (v : Verdict) → c.check-within.result ≡ v → Judged (withinAt (base (long c))) v
 within-judged c v e =
     let s = base (long c) in
-    part-within (drawingAt s).map s.args.flows.now (atℤ s.args.capacities.now) v (within-given c v e)
+    part_within (drawingAt s).map s.args.flows.now (atℤ s.args.capacities.now) v (within-given c v e)
 
 abbrev roomy : tie.After-enum-told2 → tie.After-enum-told
 roomy c = long c.before.before
@@ -93,28 +93,28 @@ balance-judged : (c : tie.After-check-balance) (v : Verdict) → c.check-balance
 balance-judged c v e =
     let n = filled c in
     let s = start n in
-    part-balance (drawingAt s).map s.args.flows.now (EndOf s.args.terminals.source s.args.terminals.sink) v
-    (ends-balanced (drawingAt s).map (atℤ (given s)) s.pre.few-nodes (nets' n) n.fill-nets.ensures.1 _ _ v (rw e at c.check-balance.ensures))
+    part_balance (drawingAt s).map s.args.flows.now (EndOf s.args.terminals.source s.args.terminals.sink) v
+    (ends_balanced (drawingAt s).map (atℤ (given s)) s.pre.few_nodes (nets' n) n.fill-nets.ensures.1 _ _ v (rw e at c.check-balance.ensures))
 
 -- ── the needs, in the order of the code ──
 returns : tie.Need-returns
 returns c =
     let e = c.before.before.before in
     let s = begun e in
-    mark-ends (drawingAt s) s.args.terminals.source s.args.terminals.sink s.args.flows.now _ _
+    mark_ends (drawingAt s) s.args.terminals.source s.args.terminals.sink s.args.flows.now _ _
     (ends-judged e (Refused _ _) c.before.ends.given.1)
 
 returns-2 : tie.Need-returns-2
 returns-2 c =
     let e = c.before in
     let s = base e in
-    mark-short (drawingAt s) s.args.terminals.source s.args.terminals.sink s.args.flows.now (two e) c.if1.true
+    mark_short (drawingAt s) s.args.terminals.source s.args.terminals.sink s.args.flows.now (two e) c.if1.true
 
 check-within-requires : tie.Need-check-within-requires
 check-within-requires c κs =
     let e = c.before in
     let s = base e.before in
-    (s.pre.few-edges, omega (arith, part_length s.args.sizes.edges s.args.flows.now e.if1.false))
+    (s.pre.few_edges, omega (arith, part_length s.args.sizes.edges s.args.flows.now e.if1.false))
 
 returns-3 : tie.Need-returns-3
 returns-3 c =
@@ -122,31 +122,31 @@ returns-3 c =
     let e = long w in
     let s = base e in
     let j = within-judged w (Refused _ _) c.before.within.given.1 in
-    mark-within (drawingAt s) s.args.terminals.source s.args.terminals.sink s.args.flows.now (two e) w.before.before.if1.false _ _ j
+    mark_within (drawingAt s) s.args.terminals.source s.args.terminals.sink s.args.flows.now (two e) w.before.before.if1.false _ _ j
 
 fill-nets-requires : tie.Need-fill-nets-requires
 fill-nets-requires c κs =
     let t = c.before in
     let s = base (roomy t) in
     let p = s.pre in (
-      p.few-edges,
+      p.few_edges,
       omega (arith, part_length s.args.sizes.edges s.args.flows.now t.before.before.before.before.if1.false),
       refl,
-      (λ d l. omega (arith, p.tails-in d l, p.few-nodes)),
-      flows-small (drawingAt s).map (atℤ (given s)) (atℤ s.args.capacities.now) p.small
+      (λ d l. omega (arith, p.tails_in d l, p.few_nodes)),
+      flows_small (drawingAt s).map (atℤ (given s)) (atℤ s.args.capacities.now) p.small
           (within-given t.before.before Passed t.enum-told2.given.1),
-      same-everywhere 1024 (pos 0),
+      same_everywhere 1024 (pos 0),
     )
 
 check-balance-requires : tie.Need-check-balance-requires
-check-balance-requires c κs = (start c.before).requires.few-nodes
+check-balance-requires c κs = (start c.before).requires.few_nodes
 
 returns-4 : tie.Need-returns-4
 returns-4 c =
     let b = c.before.before.before in
     let t = fitting (filled b) in
     let s = base (roomy t) in
-    mark-balance (drawingAt s) s.args.terminals.source s.args.terminals.sink s.args.flows.now (two (roomy t))
+    mark_balance (drawingAt s) s.args.terminals.source s.args.terminals.sink s.args.flows.now (two (roomy t))
     t.before.before.before.before.if1.left (within t) _ _
     (balance-judged b (Refused _ _) c.before.balanced.given.1)
 
@@ -155,13 +155,13 @@ abbrev sums : tie.After-enum-told3 → tie.After-fill-nets
 sums c = filled c.before.before
 
 source_in : (c : tie.After-fill-nets) → (start c).args.terminals.source < (start c).args.sizes.nodes
-source_in c = (ends-in _ _ _ (two (roomy (fitting c)))).0
+source_in c = (ends_in _ _ _ (two (roomy (fitting c)))).0
 
 mul-t20 : tie.Need-overflow-mul-t20
-mul-t20 c = let n = sums c in record { fits = omega (arith, source_in n, (start n).pre.few-nodes) }
+mul-t20 c = let n = sums c in record { fits = omega (arith, source_in n, (start n).pre.few_nodes) }
 
 array-copy-out-t29 : tie.Need-array-copy-out-t29
-array-copy-out-t29 c = let n = sums c in omega (arith, source_in n, (start n).pre.few-nodes)
+array-copy-out-t29 c = let n = sums c in omega (arith, source_in n, (start n).pre.few_nodes)
 
 returns-5 : tie.Need-returns-5
 returns-5 c =
@@ -170,12 +170,12 @@ returns-5 c =
     let t = fitting n in
     let s = start n in
     let x = s.args.flows.now in (
-      mark-none (drawingAt s) s.args.terminals.source s.args.terminals.sink x (two (roomy t)) t.before.before.before.before.if1.left
+      mark_none (drawingAt s) s.args.terminals.source s.args.terminals.sink x (two (roomy t)) t.before.before.before.before.if1.left
           (within t)
           (balance-judged e.before.before Passed e.enum-told3.given.1),
-      number-of-bits _ (record { sfits = c.t29.given })
-          ∙ net-of (drawingAt s).map (atℤ (given s)) s.pre.few-nodes (nets' n) n.fill-nets.ensures.1 s.args.terminals.source (source_in n)
-          ∙ part-net (drawingAt s).map x s.args.terminals.source,
+      number_of_bits _ (record { sfits = c.t29.given })
+          ∙ net_of (drawingAt s).map (atℤ (given s)) s.pre.few_nodes (nets' n) n.fill-nets.ensures.1 s.args.terminals.source (source_in n)
+          ∙ part_net (drawingAt s).map x s.args.terminals.source,
     )
 
 pub mark_spec : {M : Type 1} → statement M

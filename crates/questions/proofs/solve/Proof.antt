@@ -13,41 +13,41 @@ use borrow.Author.Rules.{rules}
 use Rattle.refusals.specs.Order.{Check, NoneOf, FirstOf, Judged}
 use Rattle.refusals.specs.declared.Verdict.{Verdict}
 use Rattle.refusals.specs.declared.Verdict.TheVariants.{Passed, Refused}
-use Rattle.refusals.proofs.Order.{said-yes, said-no}
-use Rattle.signed.proofs.Laws.{number-of-bits}
+use Rattle.refusals.proofs.Order.{said_yes, said_no}
+use Rattle.signed.proofs.Laws.{number_of_bits}
 use Rattle.maps.specs.Map.{Map}
-use Rattle.flows.specs.ProvingSet.{wordsFor, size}
+use Rattle.flows.specs.ProvingSet.{words_for, size}
 use Rattle.arrays.specs.At.{atℤ}
-use Rattle.arrays.specs.Maps.{mapOf}
+use Rattle.arrays.specs.Maps.{map_of}
 use Rattle.arrays.specs.inner.Flags.{flagged}
 use Rattle.node_sets.specs.inner.Words.{Written}
 use Rattle.balance.proofs.Parts.{part_length}
 use Rattle.solver.specs.inner.Decision.{Decided}
-use Rattle.questions.specs.Question.{endChecks, valueChecks, roomChecks}
-use Rattle.questions.specs.Solve.{questionChecks}
-use Rattle.questions.proofs.Asked.{value-limited, room-flows}
-use Rattle.questions.proofs.Sets.{words-lent, written_back, words-again, set-written, size_small, proves-written}
-use Rattle.questions.proofs.Solving.{solve-ends, solve-value, solve-room, solve-none, ends-for, decided-back}
+use Rattle.questions.specs.Question.{end_checks, value_checks, room_checks}
+use Rattle.questions.specs.Solve.{question_checks}
+use Rattle.questions.proofs.Asked.{value_limited, room_flows}
+use Rattle.questions.proofs.Sets.{words_lent, written_back, words_again, set_written, size_small, proves_written}
+use Rattle.questions.proofs.Solving.{solve_ends, solve_value, solve_room, solve_none, ends_for, decided_back}
 use Rattle.questions.proofs.solve.Statement.{statement}
 use Rattle.questions.proofs.solve.Tie as tie
 
 -- ── the drawing and the checks, of what the function is given ──
 abbrev mapAt : tie.Start → Map
-mapAt s = mapOf s.args.sizes.nodes s.args.sizes.edges s.args.tails.now s.args.rotations.now
+mapAt s = map_of s.args.sizes.nodes s.args.sizes.edges s.args.tails.now s.args.rotations.now
 
 abbrev capacityAt : tie.Start → ℕ → ℤ
 capacityAt s = atℤ s.args.capacities.now
 
 abbrev ends_at : tie.Start → List Check
-ends_at s = endChecks s.args.sizes.nodes s.args.demand.source s.args.demand.sink
+ends_at s = end_checks s.args.sizes.nodes s.args.demand.source s.args.demand.sink
 
 abbrev room_at : tie.Start → List Check
-room_at s = roomChecks s.args.sizes.nodes s.args.sizes.edges (length s.args.flows.now) (length s.args.set.now)
+room_at s = room_checks s.args.sizes.nodes s.args.sizes.edges (length s.args.flows.now) (length s.args.set.now)
 
 abbrev checksAt : tie.Start → List Check
 checksAt s =
     let a = s.args in
-    questionChecks a.sizes.nodes a.sizes.edges a.demand.source a.demand.sink a.demand.value a.flows.now a.set.now
+    question_checks a.sizes.nodes a.sizes.edges a.demand.source a.demand.sink a.demand.value a.flows.now a.set.now
 
 -- ── 13 and 14 did not refuse ──
 abbrev begun : tie.After-check-ends → tie.Start
@@ -71,21 +71,21 @@ base c = begun (checked (ended c))
 
 -- the value is the number of its bits
 value-is : (c : tie.After-struct-told) → to_z w32 (of_z w32 (begun (checked c.before)).args.demand.value) ≡ (begun (checked c.before)).args.demand.value
-value-is c = number-of-bits _ (record { sfits = c.struct_told.given.1.1.0.1 })
+value-is c = number_of_bits _ (record { sfits = c.struct_told.given.1.1.0.1 })
 
-inside : (c : tie.Else1) → NoneOf (valueChecks (base c).args.demand.value)
-unfolding NoneOf valueChecks
-inside c = ((λ h. said-no c.before.value-outside.ensures c.if1.false (rw (value-is c.before.before) h)), tt)
+inside : (c : tie.Else1) → NoneOf (value_checks (base c).args.demand.value)
+unfolding NoneOf value_checks
+inside c = ((λ h. said_no c.before.value-outside.ensures c.if1.false (rw (value-is c.before.before) h)), tt)
 
 -- ── 16 did not refuse ──
-room-judged : (c : tie.After-check-room) (v : Verdict) → c.check-room.result ≡ v → Judged (room_at (base c.before)) v
-room-judged c v e = rw e at c.check-room.ensures
+room_judged : (c : tie.After-check-room) (v : Verdict) → c.check-room.result ≡ v → Judged (room_at (base c.before)) v
+room_judged c v e = rw e at c.check-room.ensures
 
 abbrev asked : tie.After-enum-told2 → tie.Else1
 asked c = c.before.before.before
 
 room : (c : tie.After-enum-told2) → NoneOf (room_at (base (asked c)))
-room c = room-judged c.before.before Passed c.enum-told2.given.1
+room c = room_judged c.before.before Passed c.enum-told2.given.1
 
 -- ── the needs, in the order of the code ──
 returns : tie.Need-returns
@@ -94,7 +94,7 @@ returns c =
     let a = (begun e).args in
     let j = ends-judged e (Refused _ _) c.before.named.given.1 in (
       (
-        solve-ends a.sizes.nodes a.sizes.edges a.demand.source a.demand.sink a.demand.value a.flows.now a.set.now _ _ j,
+        solve_ends a.sizes.nodes a.sizes.edges a.demand.source a.demand.sink a.demand.value a.flows.now a.set.now _ _ j,
         refl,
         refl,
       ),
@@ -102,27 +102,27 @@ returns c =
     )
 
 returns-2 : tie.Need-returns-2
-unfolding FirstOf valueChecks
+unfolding FirstOf value_checks
 returns-2 c =
     let e = c.before.before.before in
     let s = begun (checked e) in
     let a = s.args in
-    let out = rw (value-is c.before.before) at (said-yes c.before.value-outside.ensures c.if1.true) in
-    let first = solve-value a.sizes.nodes a.sizes.edges a.demand.source a.demand.sink a.demand.value a.flows.now a.set.now
+    let out = rw (value-is c.before.before) at (said_yes c.before.value-outside.ensures c.if1.true) in
+    let first = solve_value a.sizes.nodes a.sizes.edges a.demand.source a.demand.sink a.demand.value a.flows.now a.set.now
     (two e) 15 0 (inl (out, refl, refl)) in
     ((first, refl, refl), tt)
 
 check-room-requires : tie.Need-check-room-requires
-check-room-requires c κs = (base c).requires.drawn.few-nodes
+check-room-requires c κs = (base c).requires.drawn.few_nodes
 
 returns-3 : tie.Need-returns-3
 returns-3 c =
     let r = c.before.before.before in
     let e = r.before in
     let a = (base e).args in
-    let j = room-judged r (Refused _ _) c.before.room.given.1 in (
+    let j = room_judged r (Refused _ _) c.before.room.given.1 in (
       (
-        solve-room a.sizes.nodes a.sizes.edges a.demand.source a.demand.sink a.demand.value a.flows.now a.set.now
+        solve_room a.sizes.nodes a.sizes.edges a.demand.source a.demand.sink a.demand.value a.flows.now a.set.now
             (two (ended e)) (inside e) _ _ j,
         refl,
         refl,
@@ -131,11 +131,11 @@ returns-3 c =
     )
 
 -- the flows of the edges are there to be lent
-flows-in : (c : tie.After-enum-told2) → (base (asked c)).args.sizes.edges ≤ length (base (asked c)).args.flows.now
-flows-in c = (room-flows _ _ _ _ (room c)).0
+flows_in : (c : tie.After-enum-told2) → (base (asked c)).args.sizes.edges ≤ length (base (asked c)).args.flows.now
+flows_in c = (room_flows _ _ _ _ (room c)).0
 
 part-decide-end : tie.Need-slice-bounds-decide-end
-part-decide-end c = flows-in c.before
+part-decide-end c = flows_in c.before
 
 decide-requires : tie.Need-decide-requires
 decide-requires c κs =
@@ -145,10 +145,10 @@ decide-requires c κs =
     let a = s.args in (
       record {
         opened = s.pre;
-        ends = ends-for (mapAt s) a.demand.source a.demand.sink (two (ended e));
-        exact = part_length a.sizes.edges a.flows.now (flows-in m);
+        ends = ends_for (mapAt s) a.demand.source a.demand.sink (two (ended e));
+        exact = part_length a.sizes.edges a.flows.now (flows_in m);
       },
-      value-limited _ (inside e),
+      value_limited _ (inside e),
       refl,
       refl,
     )
@@ -176,14 +176,14 @@ decided : (c : tie.After-decide) {answer : Bool} → c.decide.result ≡ answer
 decided c same =
     let s = start c in
     let a = s.args in
-    decided-back (mapAt s) a.sizes.outer (capacityAt s) a.demand.source a.demand.sink a.demand.value a.flows.now (lent' c) (inside' c) same
+    decided_back (mapAt s) a.sizes.outer (capacityAt s) a.demand.source a.demand.sink a.demand.value a.flows.now (lent' c) (inside' c) same
     c.decide.ensures.1
 
 none : (c : tie.After-decide) → NoneOf (checksAt (start c))
 none c =
     let e = asked (roomy c) in
     let a = (start c).args in
-    solve-none a.sizes.nodes a.sizes.edges a.demand.source a.demand.sink a.demand.value a.flows.now a.set.now
+    solve_none a.sizes.nodes a.sizes.edges a.demand.source a.demand.sink a.demand.value a.flows.now a.set.now
     (two (ended e)) (inside e) (room (roomy c))
 
 returns-4 : tie.Need-returns-4
@@ -193,20 +193,20 @@ returns-4 c = let d = c.before.before in ((none d, decided d c.if2.true, refl), 
 abbrev decision : tie.After-words-for → tie.After-decide
 decision c = c.before.before.before
 
-words-in : (c : tie.After-words-for) → wordsFor (start (decision c)).args.sizes.nodes ≤ length (start (decision c)).args.set.now
-words-in c = (room-flows _ _ _ _ (room (roomy (decision c)))).1
+words_in : (c : tie.After-words-for) → words_for (start (decision c)).args.sizes.nodes ≤ length (start (decision c)).args.set.now
+words_in c = (room_flows _ _ _ _ (room (roomy (decision c)))).1
 
 words-for-requires : tie.Need-words-for-requires
-words-for-requires c κs = (start c.before.before).requires.drawn.few-nodes
+words-for-requires c κs = (start c.before.before).requires.drawn.few_nodes
 
 part-write-set-end : tie.Need-slice-bounds-write-set-end
-part-write-set-end c = let n = c.before in omega (arith, n.words-for.ensures, words-in n)
+part-write-set-end c = let n = c.before in omega (arith, n.words-for.ensures, words_in n)
 
 write-set-requires : tie.Need-write-set-requires
 write-set-requires c κs =
     let n = c.before.before in
     let s = start (decision n) in
-    words-lent s.args.set.now n.words-for.ensures (words-in n) s.pre.drawn.few-nodes
+    words_lent s.args.set.now n.words-for.ensures (words_in n) s.pre.drawn.few_nodes
 
 abbrev counted : tie.After-write-set → tie.After-words-for
 counted c = c.before.before.before
@@ -219,10 +219,10 @@ written : (c : tie.After-write-set)
     → Written (inside' (decision (counted c))) (start (decision (counted c))).args.sizes.nodes (start (decision (counted c))).args.set.now (set' c)
 written c =
     let n = counted c in
-    written_back (start (decision n)).args.set.now n.words-for.ensures (words-in n) c.write-set.ensures
+    written_back (start (decision n)).args.set.now n.words-for.ensures (words_in n) c.write-set.ensures
 
-words-kept : (c : tie.After-write-set) → wordsFor (start (decision (counted c))).args.sizes.nodes ≤ length (set' c)
-words-kept c = omega (arith, words-in (counted c), (written c).length-kept)
+words-kept : (c : tie.After-write-set) → words_for (start (decision (counted c))).args.sizes.nodes ≤ length (set' c)
+words-kept c = omega (arith, words_in (counted c), (written c).length_kept)
 
 part-count-set-end : tie.Need-slice-bounds-count-set-end
 part-count-set-end c = let w = c.before.before.before in omega (arith, (counted w).words-for.ensures, words-kept w)
@@ -231,22 +231,22 @@ count-set-requires : tie.Need-count-set-requires
 count-set-requires c κs =
     let w = c.before.before.before.before in
     let n = counted w in
-    words-lent (set' w) n.words-for.ensures (words-kept w) (start (decision n)).requires.drawn.few-nodes
+    words_lent (set' w) n.words-for.ensures (words-kept w) (start (decision n)).requires.drawn.few_nodes
 
 abbrev wrote : tie.After-count-set → tie.After-write-set
 wrote c = c.before.before.before.before.before
 
 -- the number of ones in the words
-size_is : (c : tie.After-count-set) → c.count_set.result ≡ size (take (wordsFor (start (decision (counted (wrote c)))).args.sizes.nodes) (set' (wrote c)))
+size_is : (c : tie.After-count-set) → c.count_set.result ≡ size (take (words_for (start (decision (counted (wrote c)))).args.sizes.nodes) (set' (wrote c)))
 size_is c =
     let w = wrote c in
     let n = counted w in
-    c.count_set.ensures ∙ words-again (start (decision n)).args.set.now n.words-for.ensures (words-in n) w.write-set.ensures
+    c.count_set.ensures ∙ words_again (start (decision n)).args.set.now n.words-for.ensures (words_in n) w.write-set.ensures
 
 narrow-requires : tie.Need-narrow-requires
 narrow-requires c κs =
     let w = wrote c in
-    size_small (written w) (start (decision (counted w))).requires.drawn.few-nodes _ (size_is c)
+    size_small (written w) (start (decision (counted w))).requires.drawn.few_nodes _ (size_is c)
 
 returns-5 : tie.Need-returns-5
 returns-5 c =
@@ -262,9 +262,9 @@ returns-5 c =
       (
         none d,
         (
-          take (wordsFor a.sizes.nodes) (set' w),
-          set-written (written w),
-          proves-written s.pre.drawn.plane.sound.range (capacityAt s) (written w) a.demand.source a.demand.sink ends a.demand.value r.1,
+          take (words_for a.sizes.nodes) (set' w),
+          set_written (written w),
+          proves_written s.pre.drawn.plane.sound.range (capacityAt s) (written w) a.demand.source a.demand.sink ends a.demand.value r.1,
           c.narrow.ensures ∙ size_is k,
         ),
         r.0,

@@ -2,19 +2,19 @@
 -- from what it sees. Nobody need believe what `Named` says: it is a relation of which all that is used is that it has one end (`proofs/OneAnswer.antt`).
 use Rattle.std.specs.Prelude.{◌≡◌, Bool, List, ℕ, ◌<◌, take, ℤ}
 use Rattle.maps.specs.Drawing.{Drawing}
-use Rattle.flows.specs.ProvingSet.{wordsFor, member}
-use Rattle.solver.specs.inner.Named.{noParents, Named}
+use Rattle.flows.specs.ProvingSet.{words_for, member}
+use Rattle.solver.specs.inner.Named.{no_parents, Named}
 use Rattle.questions.specs.declared.SolveAnswer.{SolveAnswer}
 use Rattle.questions.specs.declared.SolveAnswer.TheVariants.{Can, Cannot, Refused}
 
 -- the words hold the nodes that the search names for the value from source to sink
 pub record NamedSet (𝓓 : Drawing) (source sink : ℕ) (value : ℤ) (words : List ℕ) : Type 0 where
   pub inside : ℕ → Bool
-  pub named : Named 𝓓.map 𝓓.outer 𝓓.capacity source sink value noParents inside
+  pub named : Named 𝓓.map 𝓓.outer 𝓓.capacity source sink value no_parents inside
   pub holds : (v : ℕ) → v < 𝓓.map.nodes → member words v ≡ inside v
 
 -- where the answer is "cannot", the words in front of the slice
 abbrev pub SetNamed : Drawing → (source sink : ℕ) → ℤ → (set' : List ℕ) → SolveAnswer → Type 0
 SetNamed 𝓓 source sink value set' Can = Unit
-SetNamed 𝓓 source sink value set' (Cannot n) = NamedSet 𝓓 source sink value (take (wordsFor 𝓓.map.nodes) set')
+SetNamed 𝓓 source sink value set' (Cannot n) = NamedSet 𝓓 source sink value (take (words_for 𝓓.map.nodes) set')
 SetNamed 𝓓 source sink value set' (Refused k p) = Unit

@@ -9,23 +9,23 @@ use lib.IntN.{ℤ}
 use borrow.Author.Rules.{rules}
 use Rattle.signed.proofs.Limits.{same_bits}
 use Rattle.maps.specs.Drawing.{Drawing}
-use Rattle.arrays.specs.Maps.{drawingOf}
+use Rattle.arrays.specs.Maps.{drawing_of}
 use Rattle.solver.specs.inner.Decision.{Decided}
 use Rattle.raising.specs.declared.Found.TheVariants.{At}
-use Rattle.raising.proofs.Seeking.{present-serves, present-fails, decided-as, sought-as}
+use Rattle.raising.proofs.Seeking.{present_serves, present_fails, decided_as, sought_as}
 use Rattle.raising.proofs.find_limit.Statement.{statement}
 use Rattle.raising.proofs.find_limit.Tie as tie
 
 abbrev drawing : tie.Start → Drawing
 drawing c =
     let a = c.args in
-    drawingOf a.sizes.nodes a.sizes.edges a.sizes.outer a.tails.now a.rotations.now a.capacities.now
+    drawing_of a.sizes.nodes a.sizes.edges a.sizes.outer a.tails.now a.rotations.now a.capacities.now
 
-dart-in : (c : tie.Start) → 2 * c.args.edge < 1024
-dart-in c = omega (arith, c.requires.edge_in, c.requires.lent.opened.drawn.few-edges)
+dart_in : (c : tie.Start) → 2 * c.args.edge < 1024
+dart_in c = omega (arith, c.requires.edge_in, c.requires.lent.opened.drawn.few_edges)
 
 decide-from-requires : tie.Need-decide-from-requires
-decide-from-requires c κs = let p = c.before.before.before.requires in (p.lent, p.limited, p.lent.opened.drawn.outer-in, p.inside-long)
+decide-from-requires c κs = let p = c.before.before.before.requires in (p.lent, p.limited, p.lent.opened.drawn.outer_in, p.inside_long)
 
 -- ── what was decided of the present capacity ──
 abbrev begun : tie.After-flows → tie.Start
@@ -43,17 +43,17 @@ decided : (c : tie.After-flows) {r : Bool} → c.before.decide-from.result ≡ r
 decided c e =
     let s = begun c in
     let a = s.args in
-    decided-as (drawing s).map a.sizes.outer {c = (drawing s).capacity} refl a.demand.source a.demand.sink a.demand.value a.flows.now
+    decided_as (drawing s).map a.sizes.outer {c = (drawing s).capacity} refl a.demand.source a.demand.sink a.demand.value a.flows.now
     (flows' c) (inside' c) e c.before.decide-from.ensures.1
 
 mul-t19 : tie.Need-overflow-mul-t19
-mul-t19 c = omega (arith, dart-in (begun c.before))
+mul-t19 c = omega (arith, dart_in (begun c.before))
 
 mul-t20 : tie.Need-overflow-mul-t20
-mul-t20 c = omega (arith, dart-in (begun c.before))
+mul-t20 c = omega (arith, dart_in (begun c.before))
 
 element-copy-out-t23 : tie.Need-element-copy-out-t23
-element-copy-out-t23 c = omega (arith, dart-in (begun c.before), (begun c.before).requires.capacities-long)
+element-copy-out-t23 c = omega (arith, dart_in (begun c.before), (begun c.before).requires.capacities_long)
 
 -- ── it serves ──
 returns : tie.Need-returns
@@ -63,9 +63,9 @@ returns c =
     let s = begun d in
     let a = s.args in (
       d.before.decide-from.ensures.0,
-      sought-as (drawing s) a.demand.source a.demand.sink a.demand.value a.edge {old = a.flows.now} refl (flows' d) (inside' d)
+      sought_as (drawing s) a.demand.source a.demand.sink a.demand.value a.edge {old = a.flows.now} refl (flows' d) (inside' d)
           {r = At ((drawing s).capacity (2 * a.edge))} (ap At (sym (same_bits (omega arith) s.pre.present)))
-          (present-serves (drawing s) a.demand.source a.demand.sink a.demand.value a.edge a.flows.now s.pre.present.high
+          (present_serves (drawing s) a.demand.source a.demand.sink a.demand.value a.edge a.flows.now s.pre.present.high
           (flows' d) (inside' d) (decided d t.if1.true)),
     )
 
@@ -79,14 +79,14 @@ least-limit-requires c κs =
     let p = s.pre in
     let q = decided d e.if1.false in (
       record {
-        capacities-long = p.capacities-long;
-        inside-long = d.before.decide-from.ensures.0;
+        capacities_long = p.capacities_long;
+        inside_long = d.before.decide-from.ensures.0;
         lent = record { opened = p.lent.opened; ends = p.lent.ends; exact = ap length q.0 ∙ p.lent.exact };
         edge_in = p.edge_in;
         limited = p.limited;
         present = p.present;
       },
-      present-fails (drawing s) a.demand.source a.demand.sink a.demand.value a.edge a.flows.now p.lent.opened.drawn.plane.sound.range
+      present_fails (drawing s) a.demand.source a.demand.sink a.demand.value a.edge a.flows.now p.lent.opened.drawn.plane.sound.range
           p.lent.ends (flows' d) (inside' d) q,
     )
 
@@ -99,7 +99,7 @@ returns-2 c =
     let a = s.args in
     let last = l.least-limit.new in (
       l.least-limit.ensures.0,
-      sought-as (drawing s) a.demand.source a.demand.sink a.demand.value a.edge (decided d e.if1.false).0
+      sought_as (drawing s) a.demand.source a.demand.sink a.demand.value a.edge (decided d e.if1.false).0
           last.1.1.1.1.1.1.1.1.1.1.1.0 last.1.1.1.1.1.1.1.1.1.1.1.1.0 {r = l.least-limit.result} refl
           l.least-limit.ensures.1,
     )

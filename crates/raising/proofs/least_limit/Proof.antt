@@ -15,41 +15,41 @@ use Rattle.integers.proofs.Laws.{le_trans, le_of_lt}
 use Rattle.signed.proofs.Limits.{same_bits}
 use Rattle.maps.specs.Drawing.{Drawing}
 use Rattle.arrays.specs.At.{atℤ}
-use Rattle.arrays.specs.Maps.{drawingOf}
-use Rattle.arrays.proofs.FillLoops.{filled-front, filled-length}
+use Rattle.arrays.specs.Maps.{drawing_of}
+use Rattle.arrays.proofs.FillLoops.{filled_front, filled_length}
 use Rattle.solver.specs.inner.Decision.{Decided}
 use Rattle.raising.specs.Raised.{raised}
-use Rattle.raising.specs.inner.Sought.{mostLimit}
+use Rattle.raising.specs.inner.Sought.{most_limit}
 use Rattle.raising.specs.declared.Found.TheVariants.{At}
-use Rattle.raising.proofs.Raised.{le_same, stored, stored-elsewhere, raised-drawn}
-use Rattle.raising.proofs.Seeking.{under-most, above-present, least-serves, decided-as, sought-as}
+use Rattle.raising.proofs.Raised.{le_same, stored, stored_elsewhere, raised_drawn}
+use Rattle.raising.proofs.Seeking.{under_most, above_present, least_serves, decided_as, sought_as}
 use Rattle.raising.proofs.least_limit.Statement.{statement}
 use Rattle.raising.proofs.least_limit.Tie as tie
 
 abbrev drawing : tie.Start → Drawing
 drawing c =
     let a = c.args in
-    drawingOf a.sizes.nodes a.sizes.edges a.sizes.outer a.tails.now a.rotations.now a.capacities.now
+    drawing_of a.sizes.nodes a.sizes.edges a.sizes.outer a.tails.now a.rotations.now a.capacities.now
 
-dart-in : (c : tie.Start) → 2 * c.args.edge < 1024
-dart-in c = omega (arith, c.requires.0.edge_in, c.requires.0.lent.opened.drawn.few-edges)
+dart_in : (c : tie.Start) → 2 * c.args.edge < 1024
+dart_in c = omega (arith, c.requires.0.edge_in, c.requires.0.lent.opened.drawn.few_edges)
 
 mul-dart : tie.Need-overflow-mul-dart
-mul-dart c = omega (arith, dart-in c)
+mul-dart c = omega (arith, dart_in c)
 
 mul-capacities : tie.Need-overflow-mul-capacities
-mul-capacities c = omega (arith, dart-in c)
+mul-capacities c = omega (arith, dart_in c)
 
 element-set-of-capacities : tie.Need-element-set-of-capacities
-element-set-of-capacities c = omega (arith, dart-in c, c.requires.0.capacities-long)
+element-set-of-capacities c = omega (arith, dart_in c, c.requires.0.capacities_long)
 
 -- ── the greatest capacity is stored ──
 abbrev greatest : tie.Start → List ℤ
-greatest c = set c.args.capacities.now (2 * c.args.edge) mostLimit
+greatest c = set c.args.capacities.now (2 * c.args.edge) most_limit
 
-greatest-is : (c : tie.Start) → atℤ (greatest c) ≡ raised (atℤ c.args.capacities.now) c.args.edge mostLimit
+greatest-is : (c : tie.Start) → atℤ (greatest c) ≡ raised (atℤ c.args.capacities.now) c.args.edge most_limit
 greatest-is c =
-    stored c.args.edge c.args.capacities.now c.args.capacities.now (λ d n. refl) mostLimit (omega (arith, dart-in c, c.requires.0.capacities-long))
+    stored c.args.edge c.args.capacities.now c.args.capacities.now (λ d n. refl) most_limit (omega (arith, dart_in c, c.requires.0.capacities_long))
 
 decide-from-requires : tie.Need-decide-from-requires
 decide-from-requires c κs =
@@ -58,7 +58,7 @@ decide-from-requires c κs =
     let p = s.requires.0 in (
       record {
         opened = record {
-          drawn = rw (greatest-is s) (raised-drawn a.edge p.present.high (le_same mostLimit) p.lent.opened.drawn);
+          drawn = rw (greatest-is s) (raised_drawn a.edge p.present.high (le_same most_limit) p.lent.opened.drawn);
           walked = p.lent.opened.walked;
         };
         ends = p.lent.ends;
@@ -66,7 +66,7 @@ decide-from-requires c κs =
       },
       p.limited,
       omega (arith, p.edge_in),
-      p.inside-long,
+      p.inside_long,
     )
 
 abbrev begun : tie.After-flows → tie.Start
@@ -79,12 +79,12 @@ abbrev first : tie.After-flows → List ℕ
 first c = c.before.decide-from.new.1.1.1.1.1.1.1.1.1.1.1.1.0
 
 decided : (c : tie.After-flows) {r : Bool} → c.before.decide-from.result ≡ r
-    → Decided (drawing (begun c)).map (2 * (begun c).args.edge) (raised (drawing (begun c)).capacity (begun c).args.edge mostLimit)
+    → Decided (drawing (begun c)).map (2 * (begun c).args.edge) (raised (drawing (begun c)).capacity (begun c).args.edge most_limit)
     (begun c).args.demand.source (begun c).args.demand.sink (begun c).args.demand.value (begun c).args.flows.now (between c) (first c) r
 decided c e =
     let s = begun c in
     let a = s.args in
-    decided-as (drawing s).map (2 * a.edge) (greatest-is s) a.demand.source a.demand.sink a.demand.value a.flows.now (between c) (first c) e
+    decided_as (drawing s).map (2 * a.edge) (greatest-is s) a.demand.source a.demand.sink a.demand.value a.flows.now (between c) (first c) e
     c.before.decide-from.ensures.1
 
 -- ── it serves: the flow on the edge is above the present capacity, so 32 bits hold it ──
@@ -103,19 +103,19 @@ small c =
     record {
       low =
           le_trans s.pre.0.present.low
-          (le_of_lt (above-present (drawing s) a.demand.source a.demand.sink a.demand.value a.edge a.flows.now σ.range
+          (le_of_lt (above_present (drawing s) a.demand.source a.demand.sink a.demand.value a.edge a.flows.now σ.range
           s.pre.0.lent.ends σ
           (omega (arith, s.pre.0.edge_in)) s.pre.1 d.0 d.1));
       high =
-          under-most (drawing s) a.demand.source a.demand.sink a.demand.value a.edge a.flows.now σ.range s.pre.0.lent.ends σ
+          under_most (drawing s) a.demand.source a.demand.sink a.demand.value a.edge a.flows.now σ.range s.pre.0.lent.ends σ
           (omega (arith, s.pre.0.edge_in)) s.pre.1 d.0 d.1;
     }
 
 mul-limit : tie.Need-overflow-mul-limit
-mul-limit c = omega (arith, dart-in (start c))
+mul-limit c = omega (arith, dart_in (start c))
 
 sized : (c : tie.Then1) → length (between c.before) ≡ length (start c).args.flows.now
-sized c = filled-length _ _ _ _ (decided c.before c.if1.true).2 (omega (arith, (start c).requires.0.lent.exact))
+sized c = filled_length _ _ _ _ (decided c.before c.if1.true).2 (omega (arith, (start c).requires.0.lent.exact))
 
 slice-copy-out-limit : tie.Need-slice-copy-out-limit
 slice-copy-out-limit c = omega (arith, sized c, (start c).requires.0.lent.exact, (start c).requires.0.edge_in)
@@ -126,25 +126,25 @@ bits c = to_z w32 (of_z w32 (atℤ (between c.before) (start c).args.edge))
 bits_are : (c : tie.Then1) → bits c ≡ limit c
 bits_are c =
     ap (λ z. to_z w32 (of_z w32 z))
-    (filled-front (pos 0) (start c).args.sizes.edges (decided c.before c.if1.true).0 (start c).args.flows.now (between c.before)
+    (filled_front (pos 0) (start c).args.sizes.edges (decided c.before c.if1.true).0 (start c).args.flows.now (between c.before)
     (decided c.before c.if1.true).2 (start c).args.edge (start c).requires.0.edge_in)
     ∙ same_bits (omega arith) (small c)
 
 mul-limit-2 : tie.Need-overflow-mul-limit-2
-mul-limit-2 c = omega (arith, dart-in (start c.before))
+mul-limit-2 c = omega (arith, dart_in (start c.before))
 
 element-set-from-limit : tie.Need-element-set-from-limit
 element-set-from-limit c =
-    let s = start c.before in omega (arith, dart-in s, s.pre.0.capacities-long, length-set s.args.capacities.now (2 * s.args.edge) mostLimit)
+    let s = start c.before in omega (arith, dart_in s, s.pre.0.capacities_long, length-set s.args.capacities.now (2 * s.args.edge) most_limit)
 
 -- ── it is stored, and its highest flow written ──
-capacities-are : (c : tie.Then1)
+capacities_are : (c : tie.Then1)
     → atℤ (set (greatest (start c)) (2 * (start c).args.edge) (bits c)) ≡ raised (atℤ (start c).args.capacities.now) (start c).args.edge (limit c)
-capacities-are c =
+capacities_are c =
     let s = start c in
     let a = s.args in
-    stored a.edge (greatest s) a.capacities.now (stored-elsewhere a.edge a.capacities.now a.capacities.now (λ d n. refl) mostLimit) (bits c)
-    (omega (arith, dart-in s, s.pre.0.capacities-long, length-set a.capacities.now (2 * a.edge) mostLimit))
+    stored a.edge (greatest s) a.capacities.now (stored_elsewhere a.edge a.capacities.now a.capacities.now (λ d n. refl) most_limit) (bits c)
+    (omega (arith, dart_in s, s.pre.0.capacities_long, length-set a.capacities.now (2 * a.edge) most_limit))
     ∙ ap (raised (atℤ a.capacities.now) a.edge) (bits_are c)
 
 decide-from-requires-2 : tie.Need-decide-from-requires-2
@@ -157,9 +157,9 @@ decide-from-requires-2 c κs =
     let σ = p.lent.opened.drawn.plane.sound in (
       record {
         opened = record {
-          drawn = rw (capacities-are t)
-              (raised-drawn a.edge
-              (le_of_lt (above-present (drawing s) a.demand.source a.demand.sink a.demand.value a.edge a.flows.now σ.range
+          drawn = rw (capacities_are t)
+              (raised_drawn a.edge
+              (le_of_lt (above_present (drawing s) a.demand.source a.demand.sink a.demand.value a.edge a.flows.now σ.range
               p.lent.ends σ
               (omega (arith, p.edge_in)) s.pre.1 d.0 d.1)) (small t).high p.lent.opened.drawn);
           walked = p.lent.opened.walked;
@@ -168,7 +168,7 @@ decide-from-requires-2 c κs =
         exact = sized t ∙ p.lent.exact;
       },
       p.limited,
-      p.lent.opened.drawn.outer-in,
+      p.lent.opened.drawn.outer_in,
       t.before.before.decide-from.ensures.0,
     )
 
@@ -184,11 +184,11 @@ returns c =
     let flows' = e.decide-from2.new.1.1.1.1.1.1.1.1.1.1.1.0 in
     let inside' = e.decide-from2.new.1.1.1.1.1.1.1.1.1.1.1.1.0 in (
       e.decide-from2.ensures.0,
-      sought-as (drawing s) a.demand.source a.demand.sink a.demand.value a.edge {old = a.flows.now} refl flows' inside'
+      sought_as (drawing s) a.demand.source a.demand.sink a.demand.value a.edge {old = a.flows.now} refl flows' inside'
           {r = At (limit t)} (ap At (sym (bits_are t)))
-          (least-serves (drawing s) a.demand.source a.demand.sink a.demand.value a.edge a.flows.now σ.range p.lent.ends σ
+          (least_serves (drawing s) a.demand.source a.demand.sink a.demand.value a.edge a.flows.now σ.range p.lent.ends σ
           (omega (arith, p.edge_in)) s.pre.1 d.0 d.1 (between t.before) flows' inside' e.decide-from2.result d.2
-          (decided-as (drawing s).map a.sizes.outer (capacities-are t) a.demand.source a.demand.sink a.demand.value (between t.before)
+          (decided_as (drawing s).map a.sizes.outer (capacities_are t) a.demand.source a.demand.sink a.demand.value (between t.before)
           flows' inside' {r = e.decide-from2.result} refl e.decide-from2.ensures.1)),
     )
 

@@ -14,21 +14,21 @@ use Rattle.integers.specs.inner.Limited.{Limited}
 use Rattle.refusals.specs.Order.{Check, NoneOf, FirstOf, Judged}
 use Rattle.refusals.specs.declared.Verdict.{Verdict}
 use Rattle.refusals.specs.declared.Verdict.TheVariants.{Passed, Refused}
-use Rattle.refusals.proofs.Order.{said-yes, said-no}
-use Rattle.signed.proofs.Laws.{number-of-bits}
+use Rattle.refusals.proofs.Order.{said_yes, said_no}
+use Rattle.signed.proofs.Laws.{number_of_bits}
 use Rattle.maps.specs.Drawing.{Drawing}
-use Rattle.flows.specs.ProvingSet.{wordsFor}
-use Rattle.arrays.specs.Maps.{drawingOf}
+use Rattle.flows.specs.ProvingSet.{words_for}
+use Rattle.arrays.specs.Maps.{drawing_of}
 use Rattle.balance.proofs.Parts.{part_length}
-use Rattle.questions.specs.Question.{endChecks, valueChecks, roomChecks}
-use Rattle.questions.proofs.Asked.{value-limited, room-flows}
-use Rattle.questions.proofs.Sets.{words-lent, written_back, set-written, proves-written}
-use Rattle.questions.proofs.Solving.{ends-for}
+use Rattle.questions.specs.Question.{end_checks, value_checks, room_checks}
+use Rattle.questions.proofs.Asked.{value_limited, room_flows}
+use Rattle.questions.proofs.Sets.{words_lent, written_back, set_written, proves_written}
+use Rattle.questions.proofs.Solving.{ends_for}
 use Rattle.raising.specs.Raised.{raised}
-use Rattle.raising.specs.Raise.{edgeChecks, limitChecks}
-use Rattle.raising.specs.inner.Sought.{mostLimit, Sought}
+use Rattle.raising.specs.Raise.{edge_checks, limit_checks}
+use Rattle.raising.specs.inner.Sought.{most_limit, Sought}
 use Rattle.raising.specs.declared.Found.{Found}
-use Rattle.raising.proofs.Raising.{edge_in, raise-ends, raise-value, raise-edge, raise-room, raise-none, sought-back, told-limit, limit-as}
+use Rattle.raising.proofs.Raising.{edge_in, raise_ends, raise_value, raise_edge, raise_room, raise_none, sought_back, told_limit, limit_as}
 use Rattle.raising.proofs.raise_limit.Statement.{statement}
 use Rattle.raising.proofs.raise_limit.Tie as tie
 
@@ -36,18 +36,18 @@ use Rattle.raising.proofs.raise_limit.Tie as tie
 abbrev drawing : tie.Start → Drawing
 drawing s =
     let a = s.args in
-    drawingOf a.sizes.nodes a.sizes.edges a.sizes.outer a.tails.now a.rotations.now a.capacities.now
+    drawing_of a.sizes.nodes a.sizes.edges a.sizes.outer a.tails.now a.rotations.now a.capacities.now
 
 abbrev ends_at : tie.Start → List Check
-ends_at s = endChecks s.args.sizes.nodes s.args.demand.source s.args.demand.sink
+ends_at s = end_checks s.args.sizes.nodes s.args.demand.source s.args.demand.sink
 
 abbrev room_at : tie.Start → List Check
-room_at s = roomChecks s.args.sizes.nodes s.args.sizes.edges (length s.args.flows.now) (length s.args.set.now)
+room_at s = room_checks s.args.sizes.nodes s.args.sizes.edges (length s.args.flows.now) (length s.args.set.now)
 
 abbrev checksAt : tie.Start → List Check
 checksAt s =
     let a = s.args in
-    limitChecks a.sizes.nodes a.sizes.edges a.demand.source a.demand.sink a.demand.value a.edge a.flows.now a.set.now
+    limit_checks a.sizes.nodes a.sizes.edges a.demand.source a.demand.sink a.demand.value a.edge a.flows.now a.set.now
 
 -- ── 13 and 14 did not refuse ──
 abbrev begun : tie.After-check-ends → tie.Start
@@ -71,23 +71,23 @@ base c = begun (checked (ended c))
 
 -- the value is the number of its bits
 value-is : (c : tie.After-struct-told) → to_z w32 (of_z w32 (begun (checked c.before)).args.demand.value) ≡ (begun (checked c.before)).args.demand.value
-value-is c = number-of-bits _ (record { sfits = c.struct_told.given.1.1.0.1 })
+value-is c = number_of_bits _ (record { sfits = c.struct_told.given.1.1.0.1 })
 
-inside : (c : tie.Else1) → NoneOf (valueChecks (base c).args.demand.value)
-unfolding NoneOf valueChecks
-inside c = ((λ h. said-no c.before.value-outside.ensures c.if1.false (rw (value-is c.before.before) h)), tt)
+inside : (c : tie.Else1) → NoneOf (value_checks (base c).args.demand.value)
+unfolding NoneOf value_checks
+inside c = ((λ h. said_no c.before.value-outside.ensures c.if1.false (rw (value-is c.before.before) h)), tt)
 
 -- ── 25 did not refuse ──
 abbrev valued : tie.Else2 → tie.Else1
 valued c = c.before.before
 
-is-edge : (c : tie.Else2) → NoneOf (edgeChecks (base (valued c)).args.sizes.edges (base (valued c)).args.edge)
-unfolding NoneOf edgeChecks
-is-edge c = ((λ h. omega (arith, c.if2.false, h)), tt)
+is_edge : (c : tie.Else2) → NoneOf (edge_checks (base (valued c)).args.sizes.edges (base (valued c)).args.edge)
+unfolding NoneOf edge_checks
+is_edge c = ((λ h. omega (arith, c.if2.false, h)), tt)
 
 -- ── 16 did not refuse ──
-room-judged : (c : tie.After-check-room) (v : Verdict) → c.check-room.result ≡ v → Judged (room_at (base (valued c.before))) v
-room-judged c v e = rw e at c.check-room.ensures
+room_judged : (c : tie.After-check-room) (v : Verdict) → c.check-room.result ≡ v → Judged (room_at (base (valued c.before))) v
+room_judged c v e = rw e at c.check-room.ensures
 
 abbrev asked : tie.After-enum-told2 → tie.Else2
 asked c = c.before.before.before
@@ -96,14 +96,14 @@ abbrev start : tie.After-enum-told2 → tie.Start
 start c = base (valued (asked c))
 
 room : (c : tie.After-enum-told2) → NoneOf (room_at (start c))
-room c = room-judged c.before.before Passed c.enum-told2.given.1
+room c = room_judged c.before.before Passed c.enum-told2.given.1
 
 none : (c : tie.After-enum-told2) → NoneOf (checksAt (start c))
 none c =
     let e = asked c in
     let a = (start c).args in
-    raise-none a.sizes.nodes a.sizes.edges a.demand.source a.demand.sink a.demand.value a.edge a.flows.now a.set.now
-    (two (ended (valued e))) (inside (valued e)) (is-edge e) (room c)
+    raise_none a.sizes.nodes a.sizes.edges a.demand.source a.demand.sink a.demand.value a.edge a.flows.now a.set.now
+    (two (ended (valued e))) (inside (valued e)) (is_edge e) (room c)
 
 -- ── the needs, in the order of the code ──
 returns : tie.Need-returns
@@ -111,32 +111,32 @@ returns c =
     let e = c.before.before.before in
     let a = (begun e).args in
     let j = ends-judged e (Refused _ _) c.before.named.given.1 in (
-      raise-ends a.sizes.nodes a.sizes.edges a.demand.source a.demand.sink a.demand.value a.edge a.flows.now a.set.now
+      raise_ends a.sizes.nodes a.sizes.edges a.demand.source a.demand.sink a.demand.value a.edge a.flows.now a.set.now
           _ _ j,
       refl,
       refl,
     )
 
 returns-2 : tie.Need-returns-2
-unfolding FirstOf valueChecks
+unfolding FirstOf value_checks
 returns-2 c =
     let e = c.before.before.before in
     let s = begun (checked e) in
     let a = s.args in
-    let out = rw (value-is c.before.before) at (said-yes c.before.value-outside.ensures c.if1.true) in (
-      raise-value a.sizes.nodes a.sizes.edges a.demand.source a.demand.sink a.demand.value a.edge a.flows.now a.set.now
+    let out = rw (value-is c.before.before) at (said_yes c.before.value-outside.ensures c.if1.true) in (
+      raise_value a.sizes.nodes a.sizes.edges a.demand.source a.demand.sink a.demand.value a.edge a.flows.now a.set.now
           (two e) 15 0 (inl (out, refl, refl)),
       refl,
       refl,
     )
 
 returns-3 : tie.Need-returns-3
-unfolding FirstOf edgeChecks
+unfolding FirstOf edge_checks
 returns-3 c =
     let e = c.before.before in
     let a = (base e).args in
     let out : a.sizes.edges ≤ a.edge = omega (arith, c.if2.true) in (
-      raise-edge a.sizes.nodes a.sizes.edges a.demand.source a.demand.sink a.demand.value a.edge a.flows.now a.set.now
+      raise_edge a.sizes.nodes a.sizes.edges a.demand.source a.demand.sink a.demand.value a.edge a.flows.now a.set.now
           (two (ended e)) (inside e)
           25 0 (inl (out, refl, refl)),
       refl,
@@ -144,32 +144,32 @@ returns-3 c =
     )
 
 check-room-requires : tie.Need-check-room-requires
-check-room-requires c κs = (base (valued c)).requires.1.opened.drawn.few-nodes
+check-room-requires c κs = (base (valued c)).requires.1.opened.drawn.few_nodes
 
 returns-4 : tie.Need-returns-4
 returns-4 c =
     let r = c.before.before.before in
     let e = r.before in
     let a = (base (valued e)).args in
-    let j = room-judged r (Refused _ _) c.before.room.given.1 in (
-      raise-room a.sizes.nodes a.sizes.edges a.demand.source a.demand.sink a.demand.value a.edge a.flows.now a.set.now
-          (two (ended (valued e))) (inside (valued e)) (is-edge e) _ _ j,
+    let j = room_judged r (Refused _ _) c.before.room.given.1 in (
+      raise_room a.sizes.nodes a.sizes.edges a.demand.source a.demand.sink a.demand.value a.edge a.flows.now a.set.now
+          (two (ended (valued e))) (inside (valued e)) (is_edge e) _ _ j,
       refl,
       refl,
     )
 
 -- ── what was found ──
 edge-at : (c : tie.After-enum-told2) → (start c).args.edge < (start c).args.sizes.edges
-edge-at c = edge_in _ _ (is-edge (asked c))
+edge-at c = edge_in _ _ (is_edge (asked c))
 
 present : (c : tie.After-enum-told2) → Limited 1000000 ((drawing (start c)).capacity (2 * (start c).args.edge))
 present c = (start c).requires.1.small _ (omega (arith, edge-at c))
 
-flows-in : (c : tie.After-enum-told2) → (start c).args.sizes.edges ≤ length (start c).args.flows.now
-flows-in c = (room-flows _ _ _ _ (room c)).0
+flows_in : (c : tie.After-enum-told2) → (start c).args.sizes.edges ≤ length (start c).args.flows.now
+flows_in c = (room_flows _ _ _ _ (room c)).0
 
 part-find-limit-end : tie.Need-slice-bounds-find-limit-end
-part-find-limit-end c = flows-in c.before
+part-find-limit-end c = flows_in c.before
 
 abbrev roomy : tie.After-inside → tie.After-enum-told2
 roomy c = c.before.before.before
@@ -180,15 +180,15 @@ find-limit-requires c κs =
     let s = start m in
     let a = s.args in
     record {
-      capacities-long = s.pre.0;
-      inside-long = refl;
+      capacities_long = s.pre.0;
+      inside_long = refl;
       lent = record {
         opened = s.pre.1.opened;
-        ends = ends-for (drawing s).map a.demand.source a.demand.sink (two (ended (valued (asked m))));
-        exact = part_length a.sizes.edges a.flows.now (flows-in m);
+        ends = ends_for (drawing s).map a.demand.source a.demand.sink (two (ended (valued (asked m))));
+        exact = part_length a.sizes.edges a.flows.now (flows_in m);
       };
       edge_in = edge-at m;
-      limited = value-limited _ (inside (valued (asked m)));
+      limited = value_limited _ (inside (valued (asked m)));
       present = present m;
     }
 
@@ -211,7 +211,7 @@ sought : (c : tie.After-find-limit) {answer : Found} → c.find-limit.result ≡
 sought c same =
     let s = start (known c) in
     let a = s.args in
-    sought-back (drawing s) a.demand.source a.demand.sink a.demand.value a.edge a.flows.now (lent' c) (inside' c) same
+    sought_back (drawing s) a.demand.source a.demand.sink a.demand.value a.edge a.flows.now (lent' c) (inside' c) same
     c.find-limit.ensures.1
 
 -- ── a capacity serves ──
@@ -222,8 +222,8 @@ returns-5 c =
     let s = start m in
     let a = s.args in
     let h = sought f c.before.least.given.1 in
-    limit-as (drawing s) (checksAt s) a.demand.source a.demand.sink a.demand.value a.edge a.flows.now (flows' f) a.set.now a.set.now
-    (told-limit (drawing s) a.demand.source a.demand.sink a.demand.value a.edge a.flows.now (flows' f) (inside' f) _ (present m) h)
+    limit_as (drawing s) (checksAt s) a.demand.source a.demand.sink a.demand.value a.edge a.flows.now (flows' f) a.set.now a.set.now
+    (told_limit (drawing s) a.demand.source a.demand.sink a.demand.value a.edge a.flows.now (flows' f) (inside' f) _ (present m) h)
     (none m, h.0, h.1, h.2, h.3, refl)
 
 -- ── none does: the set is written ──
@@ -233,20 +233,20 @@ ending c = c.before.before.before.before
 abbrev home : tie.After-words-for → tie.After-enum-told2
 home c = known (ending c)
 
-words-in : (c : tie.After-words-for) → wordsFor (start (home c)).args.sizes.nodes ≤ length (start (home c)).args.set.now
-words-in c = (room-flows _ _ _ _ (room (home c))).1
+words_in : (c : tie.After-words-for) → words_for (start (home c)).args.sizes.nodes ≤ length (start (home c)).args.set.now
+words_in c = (room_flows _ _ _ _ (room (home c))).1
 
 words-for-requires : tie.Need-words-for-requires
-words-for-requires c κs = (start (known c.before.before.before)).requires.1.opened.drawn.few-nodes
+words-for-requires c κs = (start (known c.before.before.before)).requires.1.opened.drawn.few_nodes
 
 part-write-set-end : tie.Need-slice-bounds-write-set-end
-part-write-set-end c = let n = c.before in omega (arith, n.words-for.ensures, words-in n)
+part-write-set-end c = let n = c.before in omega (arith, n.words-for.ensures, words_in n)
 
 write-set-requires : tie.Need-write-set-requires
 write-set-requires c κs =
     let n = c.before.before in
     let s = start (home n) in
-    words-lent s.args.set.now n.words-for.ensures (words-in n) s.pre.1.opened.drawn.few-nodes
+    words_lent s.args.set.now n.words-for.ensures (words_in n) s.pre.1.opened.drawn.few_nodes
 
 returns-6 : tie.Need-returns-6
 returns-6 c =
@@ -256,13 +256,13 @@ returns-6 c =
     let s = start m in
     let a = s.args in
     let h = sought (ending n) n.before.enum-told3.given.1 in
-    let written = written_back a.set.now n.words-for.ensures (words-in n) w.write-set.ensures in (
+    let written = written_back a.set.now n.words-for.ensures (words_in n) w.write-set.ensures in (
       none m,
       h.0,
       (
-        take (wordsFor a.sizes.nodes) (w.write-set.new.1.1.0 ++ drop (n.words-for.result - 0) a.set.now),
-        set-written written,
-        proves-written s.pre.1.opened.drawn.plane.sound.range (raised (drawing s).capacity a.edge mostLimit) written
+        take (words_for a.sizes.nodes) (w.write-set.new.1.1.0 ++ drop (n.words-for.result - 0) a.set.now),
+        set_written written,
+        proves_written s.pre.1.opened.drawn.plane.sound.range (raised (drawing s).capacity a.edge most_limit) written
             a.demand.source a.demand.sink (two (ended (valued (asked m)))) a.demand.value h.1,
       ),
     )

@@ -4,14 +4,14 @@ use Rattle.std.specs.Prelude.{◌≡◌, List, ℕ, ◌*◌, ◌<◌, length, �
 use Rattle.integers.specs.inner.Limited.{Limited}
 use Rattle.arrays.specs.At.{atℤ}
 use Rattle.arrays.specs.declared.Sizes.{Sizes}
-use Rattle.arrays.specs.inner.Sizes.{mostOnSheet, mostValue}
+use Rattle.arrays.specs.inner.Sizes.{most_on_sheet, most_value}
 use Rattle.solver.specs.inner.Lent.{Lent}
 
 pub record Liftable (n : Sizes) (source sink : ℕ) (value : ℤ) (edge : ℕ) (tails rotations lefts : List ℕ) (capacities : List ℤ)
     (order from grouped starts : List ℕ) (flows : List ℤ) (inside : List ℕ) : Type 0 where
-  pub capacities-long : length capacities ≡ 1024
-  pub inside-long : length inside ≡ 1024
+  pub capacities_long : length capacities ≡ 1024
+  pub inside_long : length inside ≡ 1024
   pub lent : Lent n source sink tails rotations lefts capacities order from grouped starts flows
   pub edge_in : edge < n.edges
-  pub limited : Limited mostValue value
-  pub present : Limited mostOnSheet (atℤ capacities (2 * edge))
+  pub limited : Limited most_value value
+  pub present : Limited most_on_sheet (atℤ capacities (2 * edge))

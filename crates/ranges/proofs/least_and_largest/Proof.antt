@@ -12,56 +12,56 @@ use Rattle.refusals.specs.Order.{Check, NoneOf, Judged}
 use Rattle.refusals.specs.declared.Verdict.{Verdict}
 use Rattle.refusals.specs.declared.Verdict.TheVariants.{Passed, Refused}
 use Rattle.maps.specs.Map.{Map}
-use Rattle.flows.specs.ProvingSet.{wordsFor}
+use Rattle.flows.specs.ProvingSet.{words_for}
 use Rattle.arrays.specs.At.{atℤ}
-use Rattle.arrays.specs.Maps.{mapOf}
-use Rattle.arrays.proofs.FillLoops.{filled-length}
+use Rattle.arrays.specs.Maps.{map_of}
+use Rattle.arrays.proofs.FillLoops.{filled_length}
 use Rattle.balance.proofs.Parts.{part_length}
 use Rattle.node_sets.specs.inner.Words.{Written}
 use Rattle.maximum.specs.inner.Maximum.{Maximized}
 use Rattle.maximum.specs.declared.Maximum.{Maximum}
 use Rattle.maximum.specs.declared.Maximum.TheVariants.{Value}
-use Rattle.questions.specs.Question.{endChecks, roomChecks}
-use Rattle.questions.proofs.Asked.{room-flows}
-use Rattle.questions.proofs.Sets.{words-lent, written_back, set-written, next-proved, none_written}
-use Rattle.questions.proofs.Solving.{ends-for}
-use Rattle.questions.proofs.Finding.{told-value, highest-as, maximized-back}
-use Rattle.ranges.specs.Range.{spanChecks}
+use Rattle.questions.specs.Question.{end_checks, room_checks}
+use Rattle.questions.proofs.Asked.{room_flows}
+use Rattle.questions.proofs.Sets.{words_lent, written_back, set_written, next_proved, none_written}
+use Rattle.questions.proofs.Solving.{ends_for}
+use Rattle.questions.proofs.Finding.{told_value, highest_as, maximized_back}
+use Rattle.ranges.specs.Range.{span_checks}
 use Rattle.ranges.proofs.Exchanged.{
-  ends-exchanged,
+  ends_exchanged,
   negatable,
-  told-least,
-  least-highest,
-  known-back,
-  next-lower,
-  never-nothing,
-  also-written,
-  filled-again,
+  told_least,
+  least_highest,
+  known_back,
+  next_lower,
+  never_nothing,
+  also_written,
+  filled_again,
 }
-use Rattle.ranges.proofs.Ranging.{range-ends, range-lower, range-upper, range_none}
+use Rattle.ranges.proofs.Ranging.{range_ends, range_lower, range_upper, range_none}
 use Rattle.ranges.proofs.least_and_largest.Statement.{statement}
 use Rattle.ranges.proofs.least_and_largest.Tie as tie
 
 -- ── the drawing and the checks, of what the function is given ──
 abbrev mapAt : tie.Start → Map
-mapAt s = mapOf s.args.sizes.nodes s.args.sizes.edges s.args.tails.now s.args.rotations.now
+mapAt s = map_of s.args.sizes.nodes s.args.sizes.edges s.args.tails.now s.args.rotations.now
 
 abbrev capacityAt : tie.Start → ℕ → ℤ
 capacityAt s = atℤ s.args.capacities.now
 
 abbrev ends_at : tie.Start → List Check
-ends_at s = endChecks s.args.sizes.nodes s.args.terminals.source s.args.terminals.sink
+ends_at s = end_checks s.args.sizes.nodes s.args.terminals.source s.args.terminals.sink
 
 abbrev lowerAt : tie.Start → List Check
-lowerAt s = roomChecks s.args.sizes.nodes s.args.sizes.edges (length s.args.low.now) (length s.args.below.now)
+lowerAt s = room_checks s.args.sizes.nodes s.args.sizes.edges (length s.args.low.now) (length s.args.below.now)
 
 abbrev upperAt : tie.Start → List Check
-upperAt s = roomChecks s.args.sizes.nodes s.args.sizes.edges (length s.args.high.now) (length s.args.above.now)
+upperAt s = room_checks s.args.sizes.nodes s.args.sizes.edges (length s.args.high.now) (length s.args.above.now)
 
 abbrev checksAt : tie.Start → List Check
 checksAt s =
     let a = s.args in
-    spanChecks a.sizes.nodes a.sizes.edges a.terminals.source a.terminals.sink a.low.now a.below.now a.high.now a.above.now
+    span_checks a.sizes.nodes a.sizes.edges a.terminals.source a.terminals.sink a.low.now a.below.now a.high.now a.above.now
 
 -- ── 13 and 14 did not refuse ──
 abbrev begun : tie.After-check-ends → tie.Start
@@ -99,8 +99,8 @@ half c = c.before.before.before.before
 abbrev start : tie.After-words-for → tie.Start
 start c = base (asked (half c))
 
-ends-two : (c : tie.After-words-for) → NoneOf (ends_at (start c))
-ends-two c = two (asked (half c))
+ends_two : (c : tie.After-words-for) → NoneOf (ends_at (start c))
+ends_two c = two (asked (half c))
 
 upper : (c : tie.After-words-for) → NoneOf (upperAt (start c))
 upper c = let t = c.before in upper-judged t.before.before Passed t.enum-told3.given.1
@@ -109,20 +109,20 @@ none : (c : tie.After-words-for) → NoneOf (checksAt (start c))
 none c =
     let a = (start c).args in
     range_none a.sizes.nodes a.sizes.edges a.terminals.source a.terminals.sink a.low.now a.below.now a.high.now a.above.now
-    (ends-two c) (lower (half c)) (upper c)
+    (ends_two c) (lower (half c)) (upper c)
 
 -- ── what is there to be lent ──
-low-in : (c : tie.After-words-for) → (start c).args.sizes.edges ≤ length (start c).args.low.now
-low-in c = (room-flows _ _ _ _ (lower (half c))).0
+low_in : (c : tie.After-words-for) → (start c).args.sizes.edges ≤ length (start c).args.low.now
+low_in c = (room_flows _ _ _ _ (lower (half c))).0
 
-below_in : (c : tie.After-words-for) → wordsFor (start c).args.sizes.nodes ≤ length (start c).args.below.now
-below_in c = (room-flows _ _ _ _ (lower (half c))).1
+below_in : (c : tie.After-words-for) → words_for (start c).args.sizes.nodes ≤ length (start c).args.below.now
+below_in c = (room_flows _ _ _ _ (lower (half c))).1
 
 high-in : (c : tie.After-words-for) → (start c).args.sizes.edges ≤ length (start c).args.high.now
-high-in c = (room-flows _ _ _ _ (upper c)).0
+high-in c = (room_flows _ _ _ _ (upper c)).0
 
-above_in : (c : tie.After-words-for) → wordsFor (start c).args.sizes.nodes ≤ length (start c).args.above.now
-above_in c = (room-flows _ _ _ _ (upper c)).1
+above_in : (c : tie.After-words-for) → words_for (start c).args.sizes.nodes ≤ length (start c).args.above.now
+above_in c = (room_flows _ _ _ _ (upper c)).1
 
 -- ── the needs, in the order of the code ──
 returns : tie.Need-returns
@@ -130,7 +130,7 @@ returns c =
     let e = c.before.before.before in
     let a = (begun e).args in
     let j = ends-judged e (Refused _ _) c.before.named.given.1 in (
-      range-ends a.sizes.nodes a.sizes.edges a.terminals.source a.terminals.sink a.low.now a.below.now a.high.now
+      range_ends a.sizes.nodes a.sizes.edges a.terminals.source a.terminals.sink a.low.now a.below.now a.high.now
           a.above.now _ _ j,
       refl,
       refl,
@@ -139,15 +139,15 @@ returns c =
     )
 
 check-room-requires : tie.Need-check-room-requires
-check-room-requires c κs = (base c).pre.opened.drawn.few-nodes
+check-room-requires c κs = (base c).pre.opened.drawn.few_nodes
 
 returns-2 : tie.Need-returns-2
 returns-2 c =
     let r = c.before.before.before in
     let e = r.before in
     let a = (base e).args in
-    let j = lower-judged r (Refused _ _) c.before.low-room.given.1 in (
-      range-lower a.sizes.nodes a.sizes.edges a.terminals.source a.terminals.sink a.low.now a.below.now a.high.now
+    let j = lower-judged r (Refused _ _) c.before.low_room.given.1 in (
+      range_lower a.sizes.nodes a.sizes.edges a.terminals.source a.terminals.sink a.low.now a.below.now a.high.now
           a.above.now (two e) _ _ j,
       refl,
       refl,
@@ -156,15 +156,15 @@ returns-2 c =
     )
 
 check-room-requires-2 : tie.Need-check-room-requires-2
-check-room-requires-2 c κs = (base (asked c)).pre.opened.drawn.few-nodes
+check-room-requires-2 c κs = (base (asked c)).pre.opened.drawn.few_nodes
 
 returns-3 : tie.Need-returns-3
 returns-3 c =
     let r = c.before.before.before in
     let e = r.before in
     let a = (base (asked e)).args in
-    let j = upper-judged r (Refused _ _) c.before.high-room.given.1 in (
-      range-upper a.sizes.nodes a.sizes.edges a.terminals.source a.terminals.sink a.low.now a.below.now a.high.now
+    let j = upper-judged r (Refused _ _) c.before.high_room.given.1 in (
+      range_upper a.sizes.nodes a.sizes.edges a.terminals.source a.terminals.sink a.low.now a.below.now a.high.now
           a.above.now (two (asked e)) (lower e)
           _ _ j,
       refl,
@@ -174,7 +174,7 @@ returns-3 c =
     )
 
 words-for-requires : tie.Need-words-for-requires
-words-for-requires c κs = (base (asked c.before.before.before)).pre.opened.drawn.few-nodes
+words-for-requires c κs = (base (asked c.before.before.before)).pre.opened.drawn.few_nodes
 
 -- ── there ──
 part-maximize-from-end : tie.Need-part-maximize-from-end
@@ -187,7 +187,7 @@ maximize-from-requires c κs =
     let a = s.args in (
       record {
         opened = s.pre.opened;
-        ends = ends-for (mapAt s) a.terminals.source a.terminals.sink (ends-two m);
+        ends = ends_for (mapAt s) a.terminals.source a.terminals.sink (ends_two m);
         exact = part_length a.sizes.edges a.high.now (high-in m);
       },
       s.pre.small,
@@ -224,7 +224,7 @@ there : (c : tie.After-maximize-from) {answer : Maximum} → c.maximize-from.res
 there c same =
     let s = start (passed c) in
     let a = s.args in
-    maximized-back (mapAt s) a.sizes.outer (capacityAt s) a.terminals.source a.terminals.sink a.high.now (lentHigh' c) (inside' c) same
+    maximized_back (mapAt s) a.sizes.outer (capacityAt s) a.terminals.source a.terminals.sink a.high.now (lentHigh' c) (inside' c) same
     c.maximize-from.ensures.2
 
 part-write-set-end : tie.Need-part-write-set-end
@@ -233,7 +233,7 @@ part-write-set-end c = let m = passed c.before.before in omega (arith, m.words-f
 write-set-requires : tie.Need-write-set-requires
 write-set-requires c κs =
     let m = passed c.before.before.before in
-    words-lent (start m).args.above.now m.words-for.ensures (above_in m) (start m).pre.opened.drawn.few-nodes
+    words_lent (start m).args.above.now m.words-for.ensures (above_in m) (start m).pre.opened.drawn.few_nodes
 
 abbrev found : tie.After-write-set → tie.After-maximize-from
 found c = c.before.before.before.before
@@ -257,7 +257,7 @@ part-write-set-end-2 c = let m = origin (written c.before) in omega (arith, m.wo
 write-set-requires-2 : tie.Need-write-set-requires-2
 write-set-requires-2 c κs =
     let m = origin (written c.before.before) in
-    words-lent (start m).args.below.now m.words-for.ensures (below_in m) (start m).pre.opened.drawn.few-nodes
+    words_lent (start m).args.below.now m.words-for.ensures (below_in m) (start m).pre.opened.drawn.few_nodes
 
 returns-4 : tie.Need-returns-4
 returns-4 c =
@@ -270,14 +270,14 @@ returns-4 c =
     let a = s.args in
     let r = there m e.enum-told4.given.1 in
     let k = none_written s.pre.opened.drawn.plane.sound.range (capacityAt s) (above-written w) a.terminals.source a.terminals.sink
-    (ends-two o) r.1 r.2 in (
+    (ends_two o) r.1 r.2 in (
       none o,
       refl,
       r.0,
       (
-        take (wordsFor a.sizes.nodes) (above' w),
-        also-written (written_back a.below.now o.words-for.ensures (below_in o) b.write-set2.ensures) (above-written w),
-        set-written (above-written w),
+        take (words_for a.sizes.nodes) (above' w),
+        also_written (written_back a.below.now o.words-for.ensures (below_in o) b.write-set2.ensures) (above-written w),
+        set_written (above-written w),
         k,
       ),
     )
@@ -297,19 +297,19 @@ negate-requires : tie.Need-negate-requires
 negate-requires c κs =
     let m = found (given c) in
     let s = start (passed m) in
-    negatable (mapAt s) (capacityAt s) s.pre.opened.drawn.few-edges s.pre.small (inside' m) (value_there c).2
+    negatable (mapAt s) (capacityAt s) s.pre.opened.drawn.few_edges s.pre.small (inside' m) (value_there c).2
 
 -- the slice that the way there filled is as long as it was
 high-kept : (c : tie.After-known-told4) → (start (origin (given c))).args.sizes.edges ≤ length (high' (found (given c)))
 high-kept c =
     let o = origin (given c) in
-    omega (arith, filled-length _ _ (start o).args.high.now _ (value_there c).0.2 (high-in o), high-in o)
+    omega (arith, filled_length _ _ (start o).args.high.now _ (value_there c).0.2 (high-in o), high-in o)
 
 part-maximize-on-end : tie.Need-part-maximize-on-end
 part-maximize-on-end c = high-kept c.before.before
 
 part-maximize-on-end-2 : tie.Need-part-maximize-on-end-2
-part-maximize-on-end-2 c = low-in (origin (given c.before.before.before))
+part-maximize-on-end-2 c = low_in (origin (given c.before.before.before))
 
 maximize-on-requires : tie.Need-maximize-on-requires
 maximize-on-requires c κs =
@@ -320,13 +320,13 @@ maximize-on-requires c κs =
     let s = start m in
     let a = s.args in
     let h = there-lent f k.before.most.given.1 in
-    let ends = ends-two m in
-    let back = told-least (mapAt s) (capacityAt s) s.pre.opened.drawn.few-edges s.pre.small (inside' f) h.2
+    let ends = ends_two m in
+    let back = told_least (mapAt s) (capacityAt s) s.pre.opened.drawn.few_edges s.pre.small (inside' f) h.2
     n.negate.result n.negate.ensures in (
       record {
         opened = s.pre.opened;
-        ends = ends-for (mapAt s) a.terminals.sink a.terminals.source (ends-exchanged _ _ _ ends);
-        exact = part_length a.sizes.edges a.low.now (low-in m);
+        ends = ends_for (mapAt s) a.terminals.sink a.terminals.source (ends_exchanged _ _ _ ends);
+        exact = part_length a.sizes.edges a.low.now (low_in m);
       },
       s.pre.small,
       f.maximize-from.ensures.0,
@@ -334,9 +334,9 @@ maximize-on-requires c κs =
       (
         h.0.0,
         take (a.sizes.edges - 0) a.high.now,
-        known-back s.pre.opened.drawn.plane.sound.range (capacityAt s) a.terminals.source a.terminals.sink ends a.sizes.outer back
+        known_back s.pre.opened.drawn.plane.sound.range (capacityAt s) a.terminals.source a.terminals.sink ends a.sizes.outer back
             h.0.1,
-        filled-again a.sizes.edges h.0.0 a.high.now (lentHigh' f) (high-in m) h.0.2,
+        filled_again a.sizes.edges h.0.0 a.high.now (lentHigh' f) (high-in m) h.0.2,
         part_length a.sizes.edges a.high.now (high-in m),
       ),
     )
@@ -363,7 +363,7 @@ back : (c : tie.After-maximize-on) {answer : Maximum} → c.maximize-on.result �
 back c same =
     let s = start (origin (first c)) in
     let a = s.args in
-    maximized-back (mapAt s) a.sizes.outer (capacityAt s) a.terminals.sink a.terminals.source a.low.now (lentLow' c) (inside2' c) same
+    maximized_back (mapAt s) a.sizes.outer (capacityAt s) a.terminals.sink a.terminals.source a.low.now (lentLow' c) (inside2' c) same
     c.maximize-on.ensures.1
 
 part-write-set-end-3 : tie.Need-part-write-set-end-3
@@ -372,7 +372,7 @@ part-write-set-end-3 c = let m = origin (first c.before.before) in omega (arith,
 write-set-requires-3 : tie.Need-write-set-requires-3
 write-set-requires-3 c κs =
     let m = origin (first c.before.before.before) in
-    words-lent (start m).args.below.now m.words-for.ensures (below_in m) (start m).pre.opened.drawn.few-nodes
+    words_lent (start m).args.below.now m.words-for.ensures (below_in m) (start m).pre.opened.drawn.few_nodes
 
 -- the set of the least value written
 abbrev returned : tie.After-write-set3 → tie.After-maximize-on
@@ -399,7 +399,7 @@ value-back c = back (returned (least c)) c.before.back.given.1
 negate-requires-2 : tie.Need-negate-requires-2
 negate-requires-2 c κs =
     let s = start (home (least c)) in
-    negatable (mapAt s) (capacityAt s) s.pre.opened.drawn.few-edges s.pre.small (inside2' (returned (least c))) (value-back c).2
+    negatable (mapAt s) (capacityAt s) s.pre.opened.drawn.few_edges s.pre.small (inside2' (returned (least c))) (value-back c).2
 
 returns-5 : tie.Need-returns-5
 returns-5 c =
@@ -411,24 +411,24 @@ returns-5 c =
     let a = s.args in
     let p = s.pre in
     let range = p.opened.drawn.plane.sound.range in
-    let ends = ends-two (home w) in
+    let ends = ends_two (home w) in
     let h = value_there (told m) in
-    let v = told-value (mapAt s) (capacityAt s) p.opened.drawn.few-edges p.small _ (inside' (found f)) h.2 in
+    let v = told_value (mapAt s) (capacityAt s) p.opened.drawn.few_edges p.small _ (inside' (found f)) h.2 in
     let l = value-back q in
-    let n = told-least (mapAt s) (capacityAt s) p.opened.drawn.few-edges p.small (inside2' m) l.2 c.negate2.result c.negate2.ensures in (
+    let n = told_least (mapAt s) (capacityAt s) p.opened.drawn.few_edges p.small (inside2' m) l.2 c.negate2.result c.negate2.ensures in (
       none (home w),
-      (l.0.0, least-highest range (capacityAt s) a.terminals.source a.terminals.sink ends a.sizes.outer n l.0.1, l.0.2),
+      (l.0.0, least_highest range (capacityAt s) a.terminals.source a.terminals.sink ends a.sizes.outer n l.0.1, l.0.2),
       (
-        take (wordsFor a.sizes.nodes) (below' w),
-        set-written (below-written w),
-        next-lower range (capacityAt s) a.terminals.source a.terminals.sink ends q.before.back.given.0.0 _ n
-            (next-proved range (capacityAt s) (below-written w) a.terminals.sink a.terminals.source (ends-exchanged _ _ _ ends) _ l.1 l.2),
+        take (words_for a.sizes.nodes) (below' w),
+        set_written (below-written w),
+        next_lower range (capacityAt s) a.terminals.source a.terminals.sink ends q.before.back.given.0.0 _ n
+            (next_proved range (capacityAt s) (below-written w) a.terminals.sink a.terminals.source (ends_exchanged _ _ _ ends) _ l.1 l.2),
       ),
-      (h.0.0, highest-as (sym v) h.0.1, h.0.2),
+      (h.0.0, highest_as (sym v) h.0.1, h.0.2),
       (
-        take (wordsFor a.sizes.nodes) (above' f),
-        set-written (above-written f),
-        next-proved range (capacityAt s) (above-written f) a.terminals.source a.terminals.sink ends _ h.1 (v ∙ h.2),
+        take (words_for a.sizes.nodes) (above' f),
+        set_written (above-written f),
+        next_proved range (capacityAt s) (above-written f) a.terminals.source a.terminals.sink ends _ h.1 (v ∙ h.2),
       ),
     )
 
@@ -441,7 +441,7 @@ returns-6 c =
     let a = s.args in
     let h = value_there (told m) in
     let r = back m c.enum-told5.given.1 in
-    absurd (never-nothing s.pre.opened.drawn.plane.sound.range (capacityAt s) a.terminals.source a.terminals.sink (ends-two (home w))
+    absurd (never_nothing s.pre.opened.drawn.plane.sound.range (capacityAt s) a.terminals.source a.terminals.sink (ends_two (home w))
     _ r.1 r.2 _ h.0.0 h.0.1.carries)
 
 -- the slice of the way there is as long as it was

@@ -3,8 +3,8 @@ use mathlib.Core.Path.{◌≡◌}
 use lib.IntN.{◌+ℤ◌}
 use borrow.Author.Rules.{rules}
 use mir.ValLaws.{to_z-of_z}
-use Rattle.integers.proofs.Laws.{lt-of-test, ge-of-test, lt-le-clash}
-use Rattle.signed.proofs.Laws.{number-of-bits}
+use Rattle.integers.proofs.Laws.{lt_of_test, ge_of_test, lt_le_clash}
+use Rattle.signed.proofs.Laws.{number_of_bits}
 use Rattle.records.proofs.below_zero.Statement.{statement}
 use Rattle.records.proofs.below_zero.Tie as tie
 
@@ -13,13 +13,13 @@ abbrev begun : tie.After-add32 → tie.Start
 begun c = c.before
 
 exact : (c : tie.After-add32) → c.add32.result ≡ (begun c).args.x +ℤ (begun c).args.y
-exact c = let f = (begun c).ranges in rw (number-of-bits _ f.x, number-of-bits _ f.y) at c.add32.ensures
+exact c = let f = (begun c).ranges in rw (number_of_bits _ f.x, number_of_bits _ f.y) at c.add32.ensures
 
 returns : tie.Need-returns
-returns c = let s = c.before in lt-of-test _ _ (rw (to_z-of_z _ _ (record { sfits = s.add32.type-inv }), exact s) at c.if1.true)
+returns c = let s = c.before in lt_of_test _ _ (rw (to_z-of_z _ _ (record { sfits = s.add32.type-inv }), exact s) at c.if1.true)
 
 returns-2 : tie.Need-returns-2
-returns-2 c = let s = c.before in λ h. lt-le-clash h (ge-of-test _ _ (rw (to_z-of_z _ _ (record { sfits = s.add32.type-inv }), exact s) at c.if1.false))
+returns-2 c = let s = c.before in λ h. lt_le_clash h (ge_of_test _ _ (rw (to_z-of_z _ _ (record { sfits = s.add32.type-inv }), exact s) at c.if1.false))
 
 pub below-zero-spec : {M : Type 1} → statement M
 below-zero-spec = tie.close (tie.spec (λ c κs. search rules) returns returns-2)

@@ -1,11 +1,11 @@
 -- Whether one of two capacities is outside: the first is outside, or the second decides.
 use mathlib.Core.Logic.{inl}
 use borrow.Author.Rules.{rules}
-use Rattle.signed.proofs.Laws.{number-of-bits}
+use Rattle.signed.proofs.Laws.{number_of_bits}
 use Rattle.refusals.specs.Order.{Decides}
-use Rattle.refusals.proofs.Order.{said-yes, said-no}
+use Rattle.refusals.proofs.Order.{said_yes, said_no}
 use Rattle.records.specs.Check.{CapacityOutside}
-use Rattle.records.proofs.Deciding.{second-decides}
+use Rattle.records.proofs.Deciding.{second_decides}
 use Rattle.records.proofs.capacities_outside.Statement.{statement}
 use Rattle.records.proofs.capacities_outside.Tie as tie
 
@@ -14,22 +14,22 @@ begun c = c.before
 
 -- ── what each test says of the numbers given ──
 first : (c : tie.After-capacity-outside) → Decides (CapacityOutside (begun c).args.x) c.capacity-outside.result
-first c = rw (number-of-bits _ (begun c).ranges.x) at c.capacity-outside.ensures
+first c = rw (number_of_bits _ (begun c).ranges.x) at c.capacity-outside.ensures
 
 abbrev tested : tie.After-capacity-outside2 → tie.After-capacity-outside
 tested c = c.before.before
 
 second : (c : tie.After-capacity-outside2) → Decides (CapacityOutside (begun (tested c)).args.y) c.capacity-outside2.result
-second c = rw (number-of-bits _ (begun (tested c)).ranges.y) at c.capacity-outside2.ensures
+second c = rw (number_of_bits _ (begun (tested c)).ranges.y) at c.capacity-outside2.ensures
 
 -- ── the needs, in the order of the code ──
 returns : tie.Need-returns
-returns c = let t = c.before in inl (said-yes {b = t.capacity-outside.result} (first t) c.if1.true)
+returns c = let t = c.before in inl (said_yes {b = t.capacity-outside.result} (first t) c.if1.true)
 
 returns-2 : tie.Need-returns-2
 returns-2 c =
     let t = tested c in
-    second-decides _ c.capacity-outside2.result (said-no {b = t.capacity-outside.result} (first t) c.before.if1.false) (second c)
+    second_decides _ c.capacity-outside2.result (said_no {b = t.capacity-outside.result} (first t) c.before.if1.false) (second c)
 
 pub capacities-outside-spec : {M : Type 1} → statement M
 capacities-outside-spec = tie.close (tie.spec (λ c κs. search rules) returns (λ c κs. search rules) returns-2)

@@ -1,23 +1,23 @@
 -- `records::capacity_outside` meets its contract: two tests, one for each side of the range, on the number that the 32 bits are.
 use mathlib.Core.Logic.{inl, inr}
-use Rattle.integers.proofs.Laws.{lt-of-test, ge-of-test, lt-le-clash}
-use Rattle.signed.proofs.Laws.{number-of-bits}
+use Rattle.integers.proofs.Laws.{lt_of_test, ge_of_test, lt_le_clash}
+use Rattle.signed.proofs.Laws.{number_of_bits}
 use Rattle.refusals.proofs.Order.{neither}
 use Rattle.records.proofs.capacity_outside.Statement.{statement}
 use Rattle.records.proofs.capacity_outside.Tie as tie
 
 returns : tie.Need-returns
-returns c = inl (lt-of-test _ _ (rw (number-of-bits _ c.before.ranges.c) at c.if1.true))
+returns c = inl (lt_of_test _ _ (rw (number_of_bits _ c.before.ranges.c) at c.if1.true))
 
 returns-2 : tie.Need-returns-2
-returns-2 c = inr (lt-of-test _ _ (rw (number-of-bits _ c.before.before.ranges.c) at c.if2.true))
+returns-2 c = inr (lt_of_test _ _ (rw (number_of_bits _ c.before.before.ranges.c) at c.if2.true))
 
 returns-3 : tie.Need-returns-3
 returns-3 c =
     let f = c.before.before.ranges.c in
     neither
-    (λ h. lt-le-clash h (ge-of-test _ _ (rw (number-of-bits _ f) at c.before.if1.false)))
-    (λ h. lt-le-clash h (ge-of-test _ _ (rw (number-of-bits _ f) at c.if2.false)))
+    (λ h. lt_le_clash h (ge_of_test _ _ (rw (number_of_bits _ f) at c.before.if1.false)))
+    (λ h. lt_le_clash h (ge_of_test _ _ (rw (number_of_bits _ f) at c.if2.false)))
 
 pub capacity-outside-spec : {M : Type 1} → statement M
 capacity-outside-spec = tie.close (tie.spec returns returns-2 returns-3)

@@ -4,10 +4,10 @@ use mathlib.Core.Logic.{◌⊎◌, inl, inr}
 use mathlib.Core.List.{[], ◌∷◌}
 use Prim.Native.Nat.{◌*◌, ◌≤◌}
 use borrow.Author.Rules.{rules}
-use Rattle.signed.proofs.Laws.{number-of-bits}
+use Rattle.signed.proofs.Laws.{number_of_bits}
 use Rattle.refusals.specs.Order.{FirstOf, NoneOf, ◌when◌}
-use Rattle.refusals.proofs.Order.{said-yes, said-no, judged-right}
-use Rattle.records.specs.Check.{capacityChecks, fieldChecks}
+use Rattle.refusals.proofs.Order.{said_yes, said_no, judged_right}
+use Rattle.records.specs.Check.{capacity_checks, field_checks}
 use Rattle.records.proofs.check_fields.Statement.{statement}
 use Rattle.records.proofs.check_fields.Tie as tie
 
@@ -16,7 +16,7 @@ abbrev start : tie.Else1 → tie.Start
 start c = c.before.before
 
 ends : (c : tie.Else1) → ((start c).args.nodes ≤ (start c).args.tail) ⊎ ((start c).args.nodes ≤ (start c).args.head) → ⊥
-ends c = said-no c.before.names-none.ensures c.if1.false
+ends c = said_no c.before.names-none.ensures c.if1.false
 
 -- ── 5 did not refuse ──
 abbrev ended : tie.Else2 → tie.Else1
@@ -24,25 +24,25 @@ ended c = c.before.before
 
 rotations : (c : tie.Else2)
     → (2 * (start (ended c)).args.edges ≤ (start (ended c)).args.rotation) ⊎ (2 * (start (ended c)).args.edges ≤ (start (ended c)).args.back-rotation) → ⊥
-rotations c = said-no c.before.names-none2.ensures c.if2.false
+rotations c = said_no c.before.names-none2.ensures c.if2.false
 
 -- ── the needs, in the order of the code ──
 returns : tie.Need-returns
-unfolding FirstOf fieldChecks
-returns c = inl (said-yes c.before.names-none.ensures c.if1.true, refl, refl)
+unfolding FirstOf field_checks
+returns c = inl (said_yes c.before.names-none.ensures c.if1.true, refl, refl)
 
 returns-2 : tie.Need-returns-2
-unfolding FirstOf fieldChecks
-returns-2 c = inr (ends c.before.before, inl (said-yes c.before.names-none2.ensures c.if2.true, refl, refl))
+unfolding FirstOf field_checks
+returns-2 c = inr (ends c.before.before, inl (said_yes c.before.names-none2.ensures c.if2.true, refl, refl))
 
 -- ── 6 and 7 decide ──
 returns-3 : tie.Need-returns-3
-unfolding FirstOf NoneOf fieldChecks
+unfolding FirstOf NoneOf field_checks
 returns-3 c =
     let e = c.before in
     let f = (start (ended e)).ranges in
-    judged-right ((4 when _) ∷ (5 when _) ∷ []) (capacityChecks _ _) c.check-capacities.result (ends (ended e), (rotations e, tt))
-    (rw (number-of-bits _ f.forward, number-of-bits _ f.backward) at c.check-capacities.ensures)
+    judged_right ((4 when _) ∷ (5 when _) ∷ []) (capacity_checks _ _) c.check-capacities.result (ends (ended e), (rotations e, tt))
+    (rw (number_of_bits _ f.forward, number_of_bits _ f.backward) at c.check-capacities.ensures)
 
 pub check-fields-spec : {M : Type 1} → statement M
 check-fields-spec =

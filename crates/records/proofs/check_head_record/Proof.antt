@@ -4,31 +4,31 @@ use mathlib.Core.Logic.{inl, inr}
 use native.Mathlib.Omega.{arith}
 use borrow.Author.Rules.{rules}
 use Rattle.refusals.specs.Order.{FirstOf, NoneOf}
-use Rattle.refusals.proofs.Order.{said-yes, said-no}
-use Rattle.records.specs.Sheet.{headRecordChecks}
+use Rattle.refusals.proofs.Order.{said_yes, said_no}
+use Rattle.records.specs.Sheet.{head_record_checks}
 use Rattle.records.proofs.check_head_record.Statement.{statement}
 use Rattle.records.proofs.check_head_record.Tie as tie
 
 returns : tie.Need-returns
-unfolding FirstOf headRecordChecks
+unfolding FirstOf head_record_checks
 returns c = inl (omega arith, refl, refl)
 
 returns-2 : tie.Need-returns-2
-unfolding FirstOf headRecordChecks
-returns-2 c = inr (λ h. omega arith, inl (said-yes c.before.no-head.ensures c.if2.true, refl, refl))
+unfolding FirstOf head_record_checks
+returns-2 c = inr (λ h. omega arith, inl (said_yes c.before.no-head.ensures c.if2.true, refl, refl))
 
 returns-3 : tie.Need-returns-3
-unfolding FirstOf headRecordChecks
+unfolding FirstOf head_record_checks
 returns-3 c =
     let kind = c.before.before in
     let long = c.before.head-length.ensures.0 in
-    inr (λ h. omega arith, inr (said-no kind.before.no-head.ensures kind.if2.false, inl (omega (arith, long), refl, refl)))
+    inr (λ h. omega arith, inr (said_no kind.before.no-head.ensures kind.if2.false, inl (omega (arith, long), refl, refl)))
 
 returns-4 : tie.Need-returns-4
-unfolding NoneOf headRecordChecks
+unfolding NoneOf head_record_checks
 returns-4 c =
     let kind = c.before.before in
-    (λ h. omega arith, (said-no kind.before.no-head.ensures kind.if2.false, (λ h. omega (arith, c.before.head-length.ensures.0), tt)))
+    (λ h. omega arith, (said_no kind.before.no-head.ensures kind.if2.false, (λ h. omega (arith, c.before.head-length.ensures.0), tt)))
 
 pub check-head-record-spec : {M : Type 1} → statement M
 check-head-record-spec =

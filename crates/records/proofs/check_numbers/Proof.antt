@@ -4,19 +4,19 @@ use mathlib.Core.Logic.{◌⊎◌, inl, inr}
 use native.Mathlib.Omega.{arith}
 use borrow.Author.Rules.{rules}
 use Rattle.refusals.specs.Order.{FirstOf, NoneOf}
-use Rattle.refusals.proofs.Order.{neither, said-yes, said-no}
-use Rattle.records.specs.Check.{Outside, numberChecks}
+use Rattle.refusals.proofs.Order.{neither, said_yes, said_no}
+use Rattle.records.specs.Check.{Outside, number_checks}
 use Rattle.records.proofs.Drawing.{not_right}
 use Rattle.records.proofs.check_numbers.Statement.{statement}
 use Rattle.records.proofs.check_numbers.Tie as tie
 
 returns : tie.Need-returns
-unfolding FirstOf numberChecks
-returns c = inl (inl (said-yes c.before.outside.ensures c.if1.true), refl, refl)
+unfolding FirstOf number_checks
+returns c = inl (inl (said_yes c.before.outside.ensures c.if1.true), refl, refl)
 
 returns-2 : tie.Need-returns-2
-unfolding FirstOf numberChecks
-returns-2 c = inl (inr (said-yes c.before.outside2.ensures c.if2.true), refl, refl)
+unfolding FirstOf number_checks
+returns-2 c = inl (inr (said_yes c.before.outside2.ensures c.if2.true), refl, refl)
 
 -- ── both counts are in range ──
 abbrev start : tie.Else2 → tie.Start
@@ -25,17 +25,17 @@ start c = c.before.before.before.before
 in-range : (c : tie.Else2) → Outside 2 513 (start c).args.nodes ⊎ Outside 1 512 (start c).args.edges → ⊥
 in-range c =
     let nodes = c.before.before in
-    neither (said-no nodes.before.outside.ensures nodes.if1.false) (said-no c.before.outside2.ensures c.if2.false)
+    neither (said_no nodes.before.outside.ensures nodes.if1.false) (said_no c.before.outside2.ensures c.if2.false)
 
 mul-if3 : tie.Need-overflow-mul-if3
 mul-if3 c = omega (arith, not_right (not_right (in-range c)))
 
 returns-3 : tie.Need-returns-3
-unfolding FirstOf numberChecks
+unfolding FirstOf number_checks
 returns-3 c = inr (in-range c.before, inl (c.if3.true, refl, refl))
 
 returns-4 : tie.Need-returns-4
-unfolding NoneOf numberChecks
+unfolding NoneOf number_checks
 returns-4 c = (in-range c.before, ((λ h. omega arith), tt))
 
 pub check-numbers-spec : {M : Type 1} → statement M

@@ -1,18 +1,18 @@
 -- `outer_of` meets its contract: a head of kind 4 that is whole has a field at 5, and no other head names a dart.
 use mathlib.Core.Path.{sym, ◌∙◌}
 use native.Mathlib.Omega.{arith}
-use Rattle.records.proofs.Head.{head-some, head-long, kind-four-outer, no_outer}
+use Rattle.records.proofs.Head.{head_some, head_long, kind_four_outer, no_outer}
 use Rattle.records.proofs.outer_of.Statement.{statement}
 use Rattle.records.proofs.outer_of.Tie as tie
 
 shared-slice-read-if1 : tie.Need-shared-slice-read-if1
-shared-slice-read-if1 c = let s = c.before.before in omega (arith, s.requires, head-some s.args.s.now)
+shared-slice-read-if1 c = let s = c.before.before in omega (arith, s.requires, head_some s.args.s.now)
 
 read-wide-requires : tie.Need-read-wide-requires
-read-wide-requires c κs = let s = c.before.before.before in omega (arith, s.requires, head-long s.args.s.now 4 c.if1.true)
+read-wide-requires c κs = let s = c.before.before.before in omega (arith, s.requires, head_long s.args.s.now 4 c.if1.true)
 
 returns : tie.Need-returns
-returns c = c.read_wide.ensures ∙ sym (kind-four-outer _ c.before.if1.true)
+returns c = c.read_wide.ensures ∙ sym (kind_four_outer _ c.before.if1.true)
 
 returns-2 : tie.Need-returns-2
 returns-2 c = sym (no_outer _ c.if1.false)

@@ -2,16 +2,16 @@
 use mathlib.Core.Path.{◌≡◌, ◌∙◌, ap, subst}
 use Prim.Native.Nat.{◌+◌, ◌≤◌}
 use lib.ListN.{length}
-use Rattle.fields.specs.Fields.{u16At, i32At}
+use Rattle.fields.specs.Fields.{u16_at, i32_at}
 use Rattle.refusals.specs.Order.{Judged}
 use Rattle.refusals.specs.declared.Verdict.{Verdict}
-use Rattle.records.specs.Record.{recordChecks}
+use Rattle.records.specs.Record.{record_checks}
 use native.Mathlib.Omega.{arith}
-use Rattle.signed.proofs.Laws.{number-of-bits}
-use Rattle.refusals.proofs.Order.{first-left, judged-right}
-use Rattle.records.specs.Sheet.{edgeAfter, edge_at, edgeRecordChecks}
-use Rattle.records.proofs.Record.{edge-body}
-use Rattle.records.proofs.EdgeRead.{edge-read, edge-told}
+use Rattle.signed.proofs.Laws.{number_of_bits}
+use Rattle.refusals.proofs.Order.{first_left, judged_right}
+use Rattle.records.specs.Sheet.{edge_after, edge_at, edge_record_checks}
+use Rattle.records.proofs.Record.{edge_body}
+use Rattle.records.proofs.EdgeRead.{edge_read, edge_told}
 use borrow.Author.Rules.{rules}
 use Rattle.records.proofs.read_edge.Statement.{statement}
 use Rattle.records.proofs.read_edge.Tie as tie
@@ -21,11 +21,11 @@ abbrev begun : tie.After-check-record → tie.Start
 begun c = c.before.before.before
 
 place : (c : tie.After-check-record) → c.before.edge-at.result ≡ edge_at (begun c).args.s.now (begun c).args.e
-place c = c.before.edge-at.ensures ∙ ap (λ n. edgeAfter n (begun c).args.e) (begun c).requires.3
+place c = c.before.edge-at.ensures ∙ ap (λ n. edge_after n (begun c).args.e) (begun c).requires.3
 
 judged : (c : tie.After-check-record) (v : Verdict) → c.check-record.result ≡ v
-    → Judged (recordChecks (begun c).args.s.now 2 (edge_at (begun c).args.s.now (begun c).args.e)) v
-judged c v e = subst (λ n. Judged (recordChecks (begun c).args.s.now 2 n) v) (place c) (subst (Judged _) e c.check-record.ensures)
+    → Judged (record_checks (begun c).args.s.now 2 (edge_at (begun c).args.s.now (begun c).args.e)) v
+judged c v e = subst (λ n. Judged (record_checks (begun c).args.s.now 2 n) v) (place c) (subst (Judged _) e c.check-record.ensures)
 
 -- ── and is whole ──
 abbrev checked : tie.After-enum-told → tie.After-check-record
@@ -34,14 +34,14 @@ checked c = c.before.before
 whole : (c : tie.After-enum-told) → (checked c).before.edge-at.result + 17 ≤ length (begun (checked c)).args.s.now
 whole c =
     let k = checked c in
-    omega (arith, place k, edge-body _ (begun k).args.e (judged k _ c.enum_told.given.1))
+    omega (arith, place k, edge_body _ (begun k).args.e (judged k _ c.enum_told.given.1))
 
 -- ── the needs, in the order of the code ──
 returns : tie.Need-returns
-unfolding edgeRecordChecks
+unfolding edge_record_checks
 returns c =
     let k = c.before.before.before.before in
-    rw c.refused-edge.ensures (first-left _ _ _ _ (judged k _ c.before.before.whole.given.1))
+    rw c.refused_edge.ensures (first_left _ _ _ _ (judged k _ c.before.before.whole.given.1))
 
 read-u16-requires : tie.Need-read-u16-requires
 read-u16-requires c κs = omega (arith, whole c)
@@ -62,7 +62,7 @@ read-i32-requires-2 : tie.Need-read-i32-requires-2
 read-i32-requires-2 c κs = omega (arith, whole c.before.before.before.before.before)
 
 returns-2 : tie.Need-returns-2
-unfolding edgeRecordChecks
+unfolding edge_record_checks
 returns-2 c =
     let backward = c.before in
     let forward = backward.before in
@@ -75,20 +75,20 @@ returns-2 c =
     let a = (begun k).args in
     let s = a.s.now in
     let v = c.check-fields.result in
-    let forward-is = number-of-bits forward.read-i32.result (record { sfits = forward.read-i32.type-inv }) ∙ forward.read-i32.ensures in
-    let backward-is = number-of-bits backward.read-i322.result (record { sfits = backward.read-i322.type-inv }) ∙ backward.read-i322.ensures in
-    edge-told s a.e _ v
-    (judged-right _ _ v (judged k _ told.enum_told.given.1)
-    (edge-read s a.e v (begun k).pre.1 (begun k).pre.4 (begun k).pre.5 (place k)
-    tail.read-u16.ensures head.read-u162.ensures rotation.read-u163.ensures back.read-u164.ensures forward-is backward-is
+    let forward_is = number_of_bits forward.read-i32.result (record { sfits = forward.read-i32.type-inv }) ∙ forward.read-i32.ensures in
+    let backward_is = number_of_bits backward.read-i322.result (record { sfits = backward.read-i322.type-inv }) ∙ backward.read-i322.ensures in
+    edge_told s a.e _ v
+    (judged_right _ _ v (judged k _ told.enum_told.given.1)
+    (edge_read s a.e v (begun k).pre.1 (begun k).pre.4 (begun k).pre.5 (place k)
+    tail.read-u16.ensures head.read-u162.ensures rotation.read-u163.ensures back.read-u164.ensures forward_is backward_is
     c.check-fields.ensures))
     (record {
-      tail-is = tail.read-u16.ensures ∙ ap (u16At s) (omega (arith, place k));
-      head-is = head.read-u162.ensures ∙ ap (u16At s) (omega (arith, place k));
-      rotation-is = rotation.read-u163.ensures ∙ ap (u16At s) (omega (arith, place k));
-      back_is = back.read-u164.ensures ∙ ap (u16At s) (omega (arith, place k));
-      forward-is = forward-is ∙ ap (i32At s) (omega (arith, place k));
-      backward-is = backward-is ∙ ap (i32At s) (omega (arith, place k));
+      tail_is = tail.read-u16.ensures ∙ ap (u16_at s) (omega (arith, place k));
+      head_is = head.read-u162.ensures ∙ ap (u16_at s) (omega (arith, place k));
+      rotation_is = rotation.read-u163.ensures ∙ ap (u16_at s) (omega (arith, place k));
+      back_is = back.read-u164.ensures ∙ ap (u16_at s) (omega (arith, place k));
+      forward_is = forward_is ∙ ap (i32_at s) (omega (arith, place k));
+      backward_is = backward_is ∙ ap (i32_at s) (omega (arith, place k));
     })
 
 pub read-edge-spec : {M : Type 1} → statement M

@@ -1,52 +1,52 @@
 -- Checks 1 to 3 and 24 of the head: the record is whole; then its numbers are read and judged as they stand in it.
 use native.Mathlib.Omega.{arith}
 use Rattle.refusals.specs.Order.{NoneOf}
-use Rattle.refusals.proofs.Order.{first-left, judged-right}
-use Rattle.records.specs.Sheet.{headRecordChecks, headChecks}
-use Rattle.records.proofs.Head.{head-body, head-counted}
-use Rattle.records.proofs.EdgeRead.{head-told}
+use Rattle.refusals.proofs.Order.{first_left, judged_right}
+use Rattle.records.specs.Sheet.{head_record_checks, head_checks}
+use Rattle.records.proofs.Head.{head_body, head_counted}
+use Rattle.records.proofs.EdgeRead.{head_told}
 use borrow.Author.Rules.{rules}
 use Rattle.records.proofs.read_head.Statement.{statement}
 use Rattle.records.proofs.read_head.Tie as tie
 
 -- ── the head is whole, and of one of the two kinds ──
-whole : (c : tie.After-enum-told) → NoneOf (headRecordChecks c.before.before.before.before.args.s.now)
+whole : (c : tie.After-enum-told) → NoneOf (head_record_checks c.before.before.before.before.args.s.now)
 whole c = rw c.enum_told.given.1 at c.before.before.check-head-record.ensures
 
 -- ── the needs, in the order of the code ──
 returns : tie.Need-returns
-unfolding headChecks
+unfolding head_checks
 returns c =
-    rw c.refused-head.ensures
-    (first-left _ _ _ _ (rw c.before.before.whole.given.1 at c.before.before.before.before.check-head-record.ensures))
+    rw c.refused_head.ensures
+    (first_left _ _ _ _ (rw c.before.before.whole.given.1 at c.before.before.before.before.check-head-record.ensures))
 
 head-length-requires : tie.Need-head-length-requires
-head-length-requires c κs = omega (arith, head-counted _ (whole c))
+head-length-requires c κs = omega (arith, head_counted _ (whole c))
 
 read-wide-requires : tie.Need-read-wide-requires
-read-wide-requires c κs = omega (arith, head-counted _ (whole c.before))
+read-wide-requires c κs = omega (arith, head_counted _ (whole c.before))
 
 read-wide-requires-2 : tie.Need-read-wide-requires-2
-read-wide-requires-2 c κs = omega (arith, head-counted _ (whole c.before.before))
+read-wide-requires-2 c κs = omega (arith, head_counted _ (whole c.before.before))
 
 outer-of-requires : tie.Need-outer-of-requires
-outer-of-requires c κs = head-body _ (whole c.before.before.before)
+outer-of-requires c κs = head_body _ (whole c.before.before.before)
 
 returns-2 : tie.Need-returns-2
-unfolding headChecks
+unfolding head_checks
 returns-2 c =
     let outer = c.before in
     let edges = outer.before in
     let nodes = edges.before in
     let length = nodes.before in
-    head-told _ _ c.check-numbers.result
-    (judged-right _ _ c.check-numbers.result (whole length.before)
+    head_told _ _ c.check-numbers.result
+    (judged_right _ _ c.check-numbers.result (whole length.before)
     (rw (nodes.read_wide.ensures, edges.read-wide2.ensures, outer.outer-of.ensures) at c.check-numbers.ensures))
     (record {
-      length-is = length.head-length.ensures.0;
-      nodes-are = nodes.read_wide.ensures;
+      length_is = length.head-length.ensures.0;
+      nodes_are = nodes.read_wide.ensures;
       edges_are = edges.read-wide2.ensures;
-      outer-is = outer.outer-of.ensures;
+      outer_is = outer.outer-of.ensures;
     })
 
 pub read-head-spec : {M : Type 1} → statement M

@@ -4,31 +4,31 @@ use native.Mathlib.Omega.{arith}
 use borrow.Author.Rules.{rules}
 use Rattle.maps.specs.Map.{Map}
 use Rattle.maps.specs.Face.{faces}
-use Rattle.maps.proofs.Faces.{step-permutes}
-use Rattle.arrays.specs.Maps.{mapOf}
-use Rattle.rotations.proofs.Accepted.{no-rotation-fault, no-node-fault}
-use Rattle.rotations.proofs.Steps.{faces-le, faces-are, lefts-are}
-use Rattle.rotations.proofs.Order.{refused-12, none-refused}
+use Rattle.maps.proofs.Faces.{step_permutes}
+use Rattle.arrays.specs.Maps.{map_of}
+use Rattle.rotations.proofs.Accepted.{no_rotation_fault, no_node_fault}
+use Rattle.rotations.proofs.Steps.{faces_le, faces_are, lefts_are}
+use Rattle.rotations.proofs.Order.{refused_12, none_refused}
 use Rattle.rotations.proofs.check_flat.Statement.{statement}
 use Rattle.rotations.proofs.check_flat.Tie as tie
 
 abbrev mapAt : tie.Start → Map
-mapAt c = mapOf c.args.nodes c.args.edges c.args.tails.now c.args.rotations.now
+mapAt c = map_of c.args.nodes c.args.edges c.args.tails.now c.args.rotations.now
 
 number-faces-requires : tie.Need-number-faces-requires
 number-faces-requires c κs =
     let p = c.before.before.before.requires in
-    (p.0, p.2, p.3, p.4, step-permutes p.5)
+    (p.0, p.2, p.3, p.4, step_permutes p.5)
 
 -- ── the faces are numbered ──
 abbrev begun : tie.After-number-faces → tie.Start
 begun c = c.before.before.before.before
 
 counted : (c : tie.After-number-faces) → c.number-faces.result ≡ faces (mapAt (begun c))
-counted c = faces-are (mapAt (begun c)) c.number-faces.ensures.3
+counted c = faces_are (mapAt (begun c)) c.number-faces.ensures.3
 
 add-if1 : tie.Need-overflow-add-if1
-add-if1 c = let p = (begun c).requires in omega (arith, p.0, p.1, counted c, faces-le (mapAt (begun c)))
+add-if1 c = let p = (begun c).requires in omega (arith, p.0, p.1, counted c, faces_le (mapAt (begun c)))
 
 mul-if1 : tie.Need-overflow-mul-if1
 mul-if1 c = let p = (begun c).requires in omega (arith, p.0, p.6)
@@ -42,7 +42,7 @@ returns c =
     let s = begun n in
     let σ = s.pre.5 in
     let e = n.number-faces.ensures in
-    let far = refused-12 (mapAt s) (no-rotation-fault σ) (no-node-fault σ) σ s.pre.7.1 (counted n) c.before.if1.true in
+    let far = refused_12 (mapAt s) (no_rotation_fault σ) (no_node_fault σ) σ s.pre.7.1 (counted n) c.before.if1.true in
     (e.0, e.1, e.2, rw c.refused.ensures far, rw c.refused.ensures tt)
 
 returns-2 : tie.Need-returns-2
@@ -55,8 +55,8 @@ returns-2 c =
       e.1,
       e.2,
       (
-        none-refused (mapAt s) (no-rotation-fault σ) (no-node-fault σ) σ s.pre.7.1 (counted n) c.if1.false,
-        lefts-are (mapAt s) e.4,
+        none_refused (mapAt s) (no_rotation_fault σ) (no_node_fault σ) σ s.pre.7.1 (counted n) c.if1.false,
+        lefts_are (mapAt s) e.4,
         counted n,
       ),
       (refl, e.5, e.6),

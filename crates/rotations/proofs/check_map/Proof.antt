@@ -1,7 +1,7 @@
 -- Either the walk found the map sound, and its trees are the parts; or the checks are made in turn.
-use Rattle.traversal.proofs.Forests.{tree_of, trees-components}
-use Rattle.traversal.proofs.Rooting.{trees-few}
-use Rattle.rotations.proofs.Walking.{walked-if}
+use Rattle.traversal.proofs.Forests.{tree_of, trees_components}
+use Rattle.traversal.proofs.Rooting.{trees_few}
+use Rattle.rotations.proofs.Walking.{walked_if}
 use Rattle.rotations.proofs.check_map.Statement.{statement}
 use Rattle.rotations.proofs.check_map.Tie as tie
 
@@ -27,7 +27,7 @@ check-flat-requires c κs =
     let w = d.before in
     let p = (begun w).requires in
     let e = w.walk-nodes.ensures.2 d.if1.false in
-    (p.0, p.1, w.walk-nodes.ensures.4, p.6, p.7, e.0, trees-few e.1, (tree_of e.0 e.1, trees-components e.0 e.1))
+    (p.0, p.1, w.walk-nodes.ensures.4, p.6, p.7, e.0, trees_few e.1, (tree_of e.0 e.1, trees_components e.0 e.1))
 
 returns-2 : tie.Need-returns-2
 returns-2 c =
@@ -41,7 +41,7 @@ returns-2 c =
       flat.1,
       flat.2,
       flat.3,
-      walked-if (begun d.before).args.rotations.now _ _ found.1 found.2 c.check-flat.result.verdict _ _ _ _ _ flat.4,
+      walked_if (begun d.before).args.rotations.now _ _ found.1 found.2 c.check-flat.result.verdict _ _ _ _ _ flat.4,
     )
 
 pub check-map-spec : {M : Type 1} → statement M

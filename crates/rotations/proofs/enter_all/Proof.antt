@@ -7,7 +7,7 @@ use lib.ListN.{length, length-set}
 use borrow.Author.Rules.{rules}
 use Rattle.arrays.specs.At.{at}
 use Rattle.rotations.specs.inner.Register.{Register}
-use Rattle.rotations.proofs.Register.{register-none, register-same, register-new, clash}
+use Rattle.rotations.proofs.Register.{register_none, register_same, register_new, clash}
 use Rattle.rotations.proofs.enter_all.Statement.{statement}
 use Rattle.rotations.proofs.enter_all.Tie as tie
 
@@ -18,7 +18,7 @@ abbrev decreases-loop : tie.decreases-loop
 decreases-loop keys values n table₀ d₀ table d = n - d
 
 loop-holds : tie.Need-loop-init invariant-loop decreases-loop
-loop-holds c = (omega arith, c.requires.1, register-none _ _ _ c.requires.2)
+loop-holds c = (omega arith, c.requires.1, register_none _ _ _ c.requires.2)
 
 -- ── the places: where it starts, and where a key, a value and an old entry are read ──
 few : (s : tie.Start invariant-loop decreases-loop) → s.args.n ≤ 1024
@@ -122,9 +122,9 @@ loop-again c =
     (λ w. rw w.2 (
       omega arith,
       length-set o.table key.result w.1.result ∙ o.inv.1,
-      register-new o.table key.result w.1.result o.inv.2 l key.ensures (w.1.ensures ∙ entry) (sym k.wide3.ensures ∙ w.0.taken),
+      register_new o.table key.result w.1.result o.inv.2 l key.ensures (w.1.ensures ∙ entry) (sym k.wide3.ensures ∙ w.0.taken),
     ))
-    (λ w. rw w.2 (omega arith, o.inv.1, register-same o.inv.2 (sym (old-is k) ∙ w.1.left ∙ entry)))
+    (λ w. rw w.2 (omega arith, o.inv.1, register_same o.inv.2 (sym (old-is k) ∙ w.1.left ∙ entry)))
     c.if1.branch
 
 returns-2 : tie.Need-returns-2 invariant-loop decreases-loop

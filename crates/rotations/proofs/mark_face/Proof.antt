@@ -5,14 +5,14 @@ use native.Mathlib.Omega.{arith}
 use lib.ListN.{length, set, length-set}
 use lib.Seq.{get_or-set_same, get_or-set_other}
 use borrow.Author.Rules.{rules}
-use Rattle.maps.proofs.Darts.{rev-in}
+use Rattle.maps.proofs.Darts.{rev_in}
 use Rattle.arrays.specs.At.{at}
 use Rattle.rotations.specs.inner.Holding.{holding}
 use Rattle.rotations.specs.inner.Marking.{Markable}
 use Rattle.rotations.specs.inner.Laying.{step_of}
 use Rattle.traversal.specs.inner.Mark.{unmarked}
-use Rattle.rotations.proofs.Trail.{Walking, set-off, still-in, walk-on, walk_end, walk-round, fewer}
-use Rattle.rotations.proofs.Laying.{Laying, laying-none, laying-on, laying-end, laying-rounded}
+use Rattle.rotations.proofs.Trail.{Walking, set_off, still_in, walk_on, walk_end, walk_round, fewer}
+use Rattle.rotations.proofs.Laying.{Laying, laying_none, laying_on, laying_end, laying_rounded}
 use Rattle.rotations.proofs.mark_face.Statement.{statement}
 use Rattle.rotations.proofs.mark_face.Tie as tie
 
@@ -26,11 +26,11 @@ abbrev decreases-loop : tie.decreases-loop
 decreases-loop rotations edges start number lefts₀ grouped₀ end x₀ begin₀ lefts grouped x begin = holding unmarked (2 * edges) (at lefts)
 
 loop-holds : tie.Need-loop-init invariant-loop decreases-loop
-loop-holds c = (c.requires.0, c.requires.1, c.requires.2, (0, set-off _ _ _ _, laying-none _ _ _ _), c.requires.3, c.requires.4)
+loop-holds c = (c.requires.0, c.requires.1, c.requires.2, (0, set_off _ _ _ _, laying_none _ _ _ _), c.requires.3, c.requires.4)
 
 -- ── in the loop ──
 below : (c : tie.At-loop invariant-loop decreases-loop) → c.loop.x < 2 * c.before.args.edges
-below c = let i = c.loop.invariant in still-in i.2 i.3.1
+below c = let i = c.loop.invariant in still_in i.2 i.3.1
 
 -- a place is left for it
 some : (c : tie.At-loop invariant-loop decreases-loop) → 0 < c.loop.begin
@@ -46,7 +46,7 @@ reverse-requires : tie.Need-reverse-requires invariant-loop decreases-loop
 reverse-requires c κs = omega (arith, below c, c.loop.invariant.2.few)
 
 back_below : (c : tie.After-reverse invariant-loop decreases-loop) → c.reverse.result < 2 * c.before.before.args.edges
-back_below c = let l = c.before in omega (arith, c.reverse.ensures.0, rev-in l.before.args.edges l.loop.x (below l))
+back_below c = let l = c.before in omega (arith, c.reverse.ensures.0, rev_in l.before.args.edges l.loop.x (below l))
 
 sub-begin : tie.Need-overflow-sub-begin invariant-loop decreases-loop
 sub-begin c = omega (arith, some c.before)
@@ -91,7 +91,7 @@ one_more : (c : tie.After-wide invariant-loop decreases-loop) → let o = (over 
 one_more c =
     let o = (over c).loop in
     let n = (laid c).narrow in
-    laying-on o.inv.3.2 (at (set o.grouped (o.begin - 1) n.result)) (omega (arith, some (over c))) o.inv.3.1.trail.here
+    laying_on o.inv.3.2 (at (set o.grouped (o.begin - 1) n.result)) (omega (arith, some (over c))) o.inv.3.1.trail.here
     (get_or-set_same o.grouped (o.begin - 1) n.result 0 (omega (arith, some (over c), o.inv.5, o.inv.2.few, o.inv.1))
     ∙ n.ensures ∙ (laid c).before.reverse.ensures.0)
     (λ i h. get_or-set_other o.grouped (o.begin - 1) i n.result 0 h)
@@ -110,7 +110,7 @@ loop-again c =
     let i = o.inv in
     let a = (over w).before.args in
     let at_x = stepped w in
-    let on = walk-on o.lefts i.0 i.2 i.3.1 (λ e. c.if1.false (at_x ∙ e)) in (
+    let on = walk_on o.lefts i.0 i.2 i.3.1 (λ e. c.if1.false (at_x ∙ e)) in (
       long w,
       long-grouped w,
       i.2,
@@ -130,13 +130,13 @@ returns c =
     let o = (over w).loop in
     let i = o.inv in
     let back = sym (stepped w) ∙ c.if1.true in
-    let round = walk-round o.lefts i.0 i.2 i.3.1 back in (
+    let round = walk_round o.lefts i.0 i.2 i.3.1 back in (
       long w,
       long-grouped w,
       walk_end o.lefts i.0 i.2 i.3.1 back,
-      laying-end (over w).before.args.edges i.2.permutes i.2.inside round (one_more w),
+      laying_end (over w).before.args.edges i.2.permutes i.2.inside round (one_more w),
       counted w,
-      laying-rounded (one_more w) round i.3.1.away,
+      laying_rounded (one_more w) round i.3.1.away,
     )
 
 pub mark-face-spec : {M : Type 1} → statement M

@@ -8,7 +8,7 @@ use Rattle.arrays.specs.At.{at}
 use Rattle.rotations.specs.inner.Holding.{holding}
 use Rattle.rotations.specs.inner.Marking.{Markable}
 use Rattle.traversal.specs.inner.Mark.{unmarked}
-use Rattle.rotations.proofs.Trail.{Walking, set-off, still-in, walk-on, walk_end, fewer}
+use Rattle.rotations.proofs.Trail.{Walking, set_off, still_in, walk_on, walk_end, fewer}
 use Rattle.rotations.proofs.mark_orbit.Statement.{statement}
 use Rattle.rotations.proofs.mark_orbit.Tie as tie
 
@@ -20,11 +20,11 @@ abbrev decreases-loop : tie.decreases-loop
 decreases-loop next n start number label₀ x₀ label x = holding unmarked n (at label)
 
 loop-holds : tie.Need-loop-init invariant-loop decreases-loop
-loop-holds c = (c.requires.0, c.requires.1, (0, set-off _ _ _ _))
+loop-holds c = (c.requires.0, c.requires.1, (0, set_off _ _ _ _))
 
 -- ── in the loop ──
 below : (l : tie.At-loop invariant-loop decreases-loop) → l.loop.x < l.before.args.n
-below l = let i = l.loop.invariant in still-in i.1 i.2.1
+below l = let i = l.loop.invariant in still_in i.1 i.2.1
 
 mul-label : tie.Need-overflow-mul-label invariant-loop decreases-loop
 mul-label c = omega (arith, below c, c.loop.invariant.1.few)
@@ -55,7 +55,7 @@ loop-again c =
     let i = o.inv in
     let a = (over w).before.args in
     let at_x = w.wide.ensures in
-    let on = walk-on o.label i.0 i.1 i.2.1 (λ e. c.if1.false (at_x ∙ e)) in (
+    let on = walk_on o.label i.0 i.1 i.2.1 (λ e. c.if1.false (at_x ∙ e)) in (
       long w,
       i.1,
       (

@@ -3,18 +3,18 @@ use Prim.Native.Nat.{ℕ}
 use native.Mathlib.Omega.{arith}
 use lib.ListN.{length-replicate}
 use borrow.Author.Rules.{rules}
-use Rattle.maps.proofs.Checks.{rotation-permutes}
+use Rattle.maps.proofs.Checks.{rotation_permutes}
 use Rattle.rotations.proofs.Holding.{zeros}
 use Rattle.rotations.proofs.Numbering.{number_small}
-use Rattle.rotations.proofs.Register.{two-rounds, no-dart, nodes-good}
-use Rattle.refusals.proofs.Decisions.{decides-by}
+use Rattle.rotations.proofs.Register.{two_rounds, no_dart, nodes_good}
+use Rattle.refusals.proofs.Decisions.{decides_by}
 use Rattle.rotations.proofs.node_fault.Statement.{statement}
 use Rattle.rotations.proofs.node_fault.Tie as tie
 
 number-orbits-requires : tie.Need-number-orbits-requires
 number-orbits-requires c κs =
     let p = c.before.requires in
-    (p.4, omega (arith, p.0), rotation-permutes p.2 p.3)
+    (p.4, omega (arith, p.0), rotation_permutes p.2 p.3)
 
 enter-all-requires : tie.Need-enter-all-requires
 enter-all-requires c κs =
@@ -23,8 +23,8 @@ enter-all-requires c κs =
       omega (arith, p.0),
       length-replicate {A = ℕ} 1024 0,
       zeros,
-      (λ d l. omega (arith, p.1, p.2.tail-in d l)),
-      (λ d l. omega (arith, n.2 d l, number_small (omega (arith, p.0)) (rotation-permutes p.2 p.3) d l)),
+      (λ d l. omega (arith, p.1, p.2.tail_in d l)),
+      (λ d l. omega (arith, n.2 d l, number_small (omega (arith, p.0)) (rotation_permutes p.2 p.3) d l)),
     )
 
 returns : tie.Need-returns
@@ -32,17 +32,17 @@ returns c =
     let p = c.before.before.before.before.before.before.before.requires in
     let n = c.before.before.before.before.before.number-orbits.ensures in
     let e = c.before.enter-all.ensures in
-    (two-rounds p.2 (rotation-permutes p.2 p.3) n.2 (rw c.if1.true at e.1), n.0, e.0)
+    (two_rounds p.2 (rotation_permutes p.2 p.3) n.2 (rw c.if1.true at e.1), n.0, e.0)
 
 returns-2 : tie.Need-returns-2
 returns-2 c =
     let p = c.before.before.before.before.before.before.before.before.before.requires in
     let n = c.before.before.before.before.before.before.before.number-orbits.ensures in
     let e = c.before.before.before.enter-all.ensures in
-    let π = rotation-permutes p.2 p.3 in
+    let π = rotation_permutes p.2 p.3 in
     let rounds = n.2 in
     let ρ = rw c.before.before.if1.false at e.1 in
-    (decides-by c.some-empty.result (no-dart p.2 π rounds ρ) (nodes-good p.2 π rounds ρ) c.some-empty.ensures, n.0, e.0)
+    (decides_by c.some-empty.result (no_dart p.2 π rounds ρ) (nodes_good p.2 π rounds ρ) c.some-empty.ensures, n.0, e.0)
 
 pub node-fault-spec : {M : Type 1} → statement M
 node-fault-spec =

@@ -13,10 +13,10 @@ use Rattle.rotations.specs.inner.Holding.{holding}
 use Rattle.rotations.specs.inner.Marking.{Markable, Marked}
 use Rattle.rotations.specs.inner.Laying.{step_of}
 use Rattle.traversal.specs.inner.Mark.{unmarked}
-use Rattle.rotations.proofs.Holding.{holding-all, holding-none, none-holds}
-use Rattle.rotations.proofs.Numbering.{Numbering, numbering_start, numbering-end, number_small, used-few, pass, pass_all}
+use Rattle.rotations.proofs.Holding.{holding_all, holding_none, none_holds}
+use Rattle.rotations.proofs.Numbering.{Numbering, numbering_start, numbering_end, number_small, used_few, pass, pass_all}
 use Rattle.rotations.proofs.Numbering.{markable, mark, is-lowest, number_is}
-use Rattle.rotations.proofs.Grouping.{Grouping, grouping-none, grouping-on, grouping-end, Rounding, rounding-none, rounding-on}
+use Rattle.rotations.proofs.Grouping.{Grouping, grouping_none, grouping_on, grouping_end, Rounding, rounding_none, rounding_on}
 use Rattle.rotations.proofs.number_faces.Statement.{statement}
 use Rattle.rotations.proofs.number_faces.Tie as tie
 
@@ -34,7 +34,7 @@ few : (c : tie.Start invariant-loop decreases-loop) → 2 * c.args.edges ≤ 102
 few c = omega (arith, c.requires.0)
 
 none_yet : (n : ℕ) (g : ℕ → ℕ) → ((y : ℕ) → y < n → g y ≡ unmarked) → n ≡ holding unmarked n g
-none_yet n g h = omega (arith, holding-all unmarked n g h)
+none_yet n g h = omega (arith, holding_all unmarked n g h)
 
 unmark-all-requires : tie.Need-unmark-all-requires invariant-loop decreases-loop
 unmark-all-requires c κs = c.before.requires.1
@@ -48,9 +48,9 @@ loop-holds c =
       p.2,
       p.3,
       numbering_start (few s) p.4 e.1,
-      grouping-none (few s) e.1,
+      grouping_none (few s) e.1,
       none_yet _ _ (λ y l. e.1 y (omega (arith, few s))),
-      rounding-none,
+      rounding_none,
     )
 
 -- ── in the loop ──
@@ -68,8 +68,8 @@ next-in c = go (dec_lt c.before.loop.next (2 * (begun c).args.edges))
     none m =
         let s = begun c in
         let i = c.before.loop.invariant in
-        let done = numbering-end (few s) s.pre.4 i.3 (omega (arith, i.3.upto, m)) in
-        holding-none unmarked _ _ (λ y l e. omega (arith, done.1 y l, number_small (few s) s.pre.4 y l, e))
+        let done = numbering_end (few s) s.pre.4 i.3 (omega (arith, i.3.upto, m)) in
+        holding_none unmarked _ _ (λ y l e. omega (arith, done.1 y l, number_small (few s) s.pre.4 y l, e))
 
     go : Dec (c.before.loop.next < 2 * (begun c).args.edges) → c.before.loop.next < 2 * (begun c).args.edges
     go (yes l) = l
@@ -88,14 +88,14 @@ abbrev turn : tie.Then1 invariant-loop decreases-loop → tie.In-loop invariant-
 turn c = c.before.before
 
 -- the next number fits the arrays
-number-below : (c : tie.Then1 invariant-loop decreases-loop) → (turn c).before.loop.f < 1024
-number-below c =
+number_below : (c : tie.Then1 invariant-loop decreases-loop) → (turn c).before.loop.f < 1024
+number_below c =
     let t = turn c in
     let s = begun t in
-    omega (arith, few s, used-few (few s) s.pre.4 t.before.loop.inv.3, next-in t)
+    omega (arith, few s, used_few (few s) s.pre.4 t.before.loop.inv.3, next-in t)
 
 narrow-requires : tie.Need-narrow-requires invariant-loop decreases-loop
-narrow-requires c κs = omega (arith, number-below c)
+narrow-requires c κs = omega (arith, number_below c)
 
 -- the face may be numbered
 abbrev free : tie.After-narrow invariant-loop decreases-loop → tie.Then1 invariant-loop decreases-loop
@@ -137,15 +137,15 @@ narrow-requires-2 : tie.Need-narrow-requires-2 invariant-loop decreases-loop
 narrow-requires-2 c κs = omega (arith, laid-below c)
 
 mul-starts : tie.Need-overflow-mul-starts invariant-loop decreases-loop
-mul-starts c = omega (arith, number-below (marking c.before))
+mul-starts c = omega (arith, number_below (marking c.before))
 
 element-write-starts : tie.Need-element-write-starts invariant-loop decreases-loop
 element-write-starts c =
     let b = marking c.before in
-    omega (arith, number-below b, (turn b).before.loop.inv.2)
+    omega (arith, number_below b, (turn b).before.loop.inv.2)
 
 add-f : tie.Need-overflow-add-f invariant-loop decreases-loop
-add-f c = omega (arith, number-below (marking c.before))
+add-f c = omega (arith, number_below (marking c.before))
 
 loop-less : tie.Need-loop-smaller invariant-loop decreases-loop
 loop-less c = omega (arith, next-in (turn (marking c.before)))
@@ -163,17 +163,17 @@ loop-again c =
     let e = m.mark-face.ensures in
     let last = c.narrow2 in
     let marked = subst (Marked (2 * a.edges) (step_of a.rotations.now) (at o.lefts) (lefts-after m) o.next) n.narrow.ensures e.2 in
-    let begins = get_or-set_same o.starts o.f last.result 0 (omega (arith, number-below b, i.2)) ∙ last.ensures in
+    let begins = get_or-set_same o.starts o.f last.result 0 (omega (arith, number_below b, i.2)) ∙ last.ensures in
     let starts-kept : (g : ℕ) → g ≢ o.f → at (set o.starts o.f last.result) g ≡ at o.starts g =
     λ g h. get_or-set_other o.starts o.f g last.result 0 h in (
       e.0,
       e.1,
       length-set o.starts o.f last.result ∙ i.2,
       mark (few s) s.pre.4 i.3 (next-in t) b.if1.taken marked,
-      grouping-on i.4 (face b) marked e.3 begins starts-kept,
+      grouping_on i.4 (face b) marked e.3 begins starts-kept,
       e.4,
-      rounding-on i.6 (next-in t) (is-lowest (few s) s.pre.4 i.3 (next-in t) b.if1.taken)
-          (number_is (few s) s.pre.4 i.3 (next-in t) b.if1.taken) e.5 e.3.kept begins starts-kept i.4.low-is,
+      rounding_on i.6 (next-in t) (is-lowest (few s) s.pre.4 i.3 (next-in t) b.if1.taken)
+          (number_is (few s) s.pre.4 i.3 (next-in t) b.if1.taken) e.5 e.3.kept begins starts-kept i.4.low_is,
     )
 
 -- ── the dart has a number already ──
@@ -198,14 +198,14 @@ returns c =
     let i = o.invariant in
     let π = s.pre.4 in
     let n = 2 * s.args.edges in
-    let all = none-holds unmarked n (at o.lefts) (omega (arith, i.5, c.loop-test.false)) in
-    let done = numbering-end (few s) π (pass_all (few s) π (n - o.next) o.next i.3 (omega (arith, i.3.upto)) all) refl in (
+    let all = none_holds unmarked n (at o.lefts) (omega (arith, i.5, c.loop-test.false)) in
+    let done = numbering_end (few s) π (pass_all (few s) π (n - o.next) o.next i.3 (omega (arith, i.3.upto)) all) refl in (
       i.0,
       i.1,
       i.2,
       done.0,
       done.1,
-      grouping-end o.lefts o.grouped o.starts i.4
+      grouping_end o.lefts o.grouped o.starts i.4
           (λ y l e. omega (arith, done.1 y l, number_small (few s) π y l, e)),
       i.6.so_far,
     )

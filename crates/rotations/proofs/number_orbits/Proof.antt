@@ -6,7 +6,7 @@ use native.Mathlib.Omega.{arith}
 use lib.ListN.{length}
 use Rattle.maps.specs.Orbit.{Permutes}
 use Rattle.arrays.specs.At.{at}
-use Rattle.rotations.proofs.Numbering.{Numbering, numbering_start, numbering-end, used-few, pass, markable, mark}
+use Rattle.rotations.proofs.Numbering.{Numbering, numbering_start, numbering_end, used_few, pass, markable, mark}
 use Rattle.rotations.proofs.number_orbits.Statement.{statement}
 use Rattle.rotations.proofs.number_orbits.Tie as tie
 
@@ -40,7 +40,7 @@ permutes l = (begun l).requires.2
 
 -- no more numbers than places are used
 used : (l : At-loop) → l.loop.f ≤ l.loop.d
-used l = used-few (few l) (permutes l) l.loop.invariant.1
+used l = used_few (few l) (permutes l) l.loop.invariant.1
 
 mul-if1 : tie.Need-overflow-mul-if1 invariant-loop decreases-loop
 mul-if1 c = omega (arith, few c.before)
@@ -93,7 +93,7 @@ returns : tie.Need-returns invariant-loop decreases-loop
 returns c =
     let l = c.before in
     let i = l.loop.invariant in
-    let e = numbering-end (few l) (permutes l) i.1 (omega (arith, i.1.upto)) in
+    let e = numbering_end (few l) (permutes l) i.1 (omega (arith, i.1.upto)) in
     (i.0, e.0, e.1)
 
 pub number-orbits-spec : {M : Type 1} → statement M

@@ -8,10 +8,10 @@ use borrow.Author.Count.{below_more}
 use borrow.Author.Rules.{rules}
 use Rattle.maps.specs.Map.{Map}
 use Rattle.arrays.specs.At.{at}
-use Rattle.arrays.specs.Maps.{mapOf}
+use Rattle.arrays.specs.Maps.{map_of}
 use Rattle.rotations.specs.inner.Register.{Register}
 use Rattle.rotations.proofs.Holding.{zeros}
-use Rattle.rotations.proofs.Register.{register-none, register-new, rotation-twice, rotation-good}
+use Rattle.rotations.proofs.Register.{register_none, register_new, rotation_twice, rotation_good}
 use Rattle.rotations.proofs.rotation_fault.Statement.{statement}
 use Rattle.rotations.proofs.rotation_fault.Tie as tie
 
@@ -24,7 +24,7 @@ abbrev decreases-loop : tie.decreases-loop
 decreases-loop tails rotations nodes edges darts origin₀ d₀ origin d = 2 * edges - d
 
 loop-holds : tie.Need-loop-init invariant-loop decreases-loop
-loop-holds c = (omega arith, length-replicate {A = ℕ} 1024 0, register-none _ _ _ zeros, λ k l. absurd (omega arith))
+loop-holds c = (omega arith, length-replicate {A = ℕ} 1024 0, register_none _ _ _ zeros, λ k l. absurd (omega arith))
 
 -- ── the places: where it starts, and where a dart's rotation is read ──
 few : (s : tie.Start invariant-loop decreases-loop) → 2 * s.args.edges ≤ 1024
@@ -40,7 +40,7 @@ abbrev begun : Read → tie.Start invariant-loop decreases-loop
 begun c = (turn c).before
 
 abbrev mapAt : tie.Start invariant-loop decreases-loop → Map
-mapAt s = let a = s.args in mapOf a.nodes a.edges a.tails.now a.rotations.now
+mapAt s = let a = s.args in map_of a.nodes a.edges a.tails.now a.rotations.now
 
 dart-below : (c : Read) → (turn c).loop.d < 2 * (begun c).args.edges
 dart-below c = omega arith
@@ -88,7 +88,7 @@ returns-2 : tie.Need-returns-2 invariant-loop decreases-loop
 returns-2 c =
     let r = read c.before in
     let o = (turn r).loop in
-    rotation-twice (mapAt (begun r)) o.inv.2 (dart-below r) (λ e. c.if2.true (ap (at o.origin) r.wide.ensures ∙ e))
+    rotation_twice (mapAt (begun r)) o.inv.2 (dart-below r) (λ e. c.if2.true (ap (at o.origin) r.wide.ensures ∙ e))
 
 -- ── and no other dart has it: it is entered ──
 abbrev alone : tie.Else2 invariant-loop decreases-loop → Read
@@ -113,9 +113,9 @@ add-d : tie.Need-overflow-add-d invariant-loop decreases-loop
 add-d c = omega (arith, few (begun (entered c)), dart-below (entered c))
 
 -- the rotation's tail is the dart's
-same-tail : (c : tie.Else1 invariant-loop decreases-loop) → let r = read c in let a = (begun r).args in
+same_tail : (c : tie.Else1 invariant-loop decreases-loop) → let r = read c in let a = (begun r).args in
     at a.tails.now (at a.rotations.now (turn r).loop.d) ≡ at a.tails.now (turn r).loop.d
-same-tail c = let r = read c in ap (at (begun r).args.tails.now) (sym r.wide.ensures) ∙ c.if1.false
+same_tail c = let r = read c in ap (at (begun r).args.tails.now) (sym r.wide.ensures) ∙ c.if1.false
 
 loop-again : tie.Need-loop-preserved invariant-loop decreases-loop
 loop-again c =
@@ -126,8 +126,8 @@ loop-again c =
     let l : w.result < length o.origin = omega (arith, rotation-below r, o.inv.1) in (
       omega (arith, dart-below r),
       length-set o.origin w.result n.result ∙ o.inv.1,
-      register-new o.origin w.result n.result o.inv.2 l w.ensures n.ensures c.before.if2.false,
-      below_more _ o.d o.inv.3 (same-tail c.before.before),
+      register_new o.origin w.result n.result o.inv.2 l w.ensures n.ensures c.before.if2.false,
+      below_more _ o.d o.inv.3 (same_tail c.before.before),
     )
 
 -- ── all darts are entered ──
@@ -136,7 +136,7 @@ returns-3 c =
     let o = c.before.loop in
     let s = c.before.before in
     let e : o.d ≡ 2 * s.args.edges = omega arith in
-    rotation-good (mapAt s) (rw e at o.invariant.2) (rw e at o.invariant.3)
+    rotation_good (mapAt s) (rw e at o.invariant.2) (rw e at o.invariant.3)
 
 pub rotation-fault-spec : {M : Type 1} → statement M
 rotation-fault-spec =

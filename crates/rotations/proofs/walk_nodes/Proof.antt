@@ -2,8 +2,8 @@
 use mathlib.Core.Path.{refl}
 use native.Mathlib.Omega.{arith}
 use borrow.Author.Rules.{rules}
-use Rattle.refusals.proofs.Order.{said-yes, said-no}
-use Rattle.rotations.proofs.Whole.{rounds-sound, unround-unsound, empty-unsound}
+use Rattle.refusals.proofs.Order.{said_yes, said_no}
+use Rattle.rotations.proofs.Whole.{rounds_sound, unround_unsound, empty_unsound}
 use Rattle.rotations.proofs.walk_nodes.Statement.{statement}
 use Rattle.rotations.proofs.walk_nodes.Tie as tie
 
@@ -15,8 +15,8 @@ spread-rounds-requires c κs =
       p.6,
       omega (arith, p.0),
       omega arith,
-      p.5.rotation-in,
-      (λ d l. omega (arith, p.1, p.5.tail-in d l)),
+      p.5.rotation_in,
+      (λ d l. omega (arith, p.1, p.5.tail_in d l)),
       p.2,
       p.7,
     )
@@ -24,14 +24,14 @@ spread-rounds-requires c κs =
 returns : tie.Need-returns
 returns c =
     let e = c.before.spread-rounds.ensures in
-    (e.0, e.1, (λ h. absurd (h refl)), (λ z σ. unround-unsound σ (e.4 c.if1.true)), e.2)
+    (e.0, e.1, (λ h. absurd (h refl)), (λ z σ. unround_unsound σ (e.4 c.if1.true)), e.2)
 
 returns-2 : tie.Need-returns-2
 returns-2 c =
     let s = c.before.before.before.before in
     let e = s.spread-rounds.ensures in
     let g = e.3 c.before.before.before.if1.false in
-    (e.0, e.1, (λ h. absurd (h refl)), (λ z σ. empty-unsound σ g.1 g.2 (said-yes c.before.some-empty.ensures c.if2.true)), e.2)
+    (e.0, e.1, (λ h. absurd (h refl)), (λ z σ. empty_unsound σ g.1 g.2 (said_yes c.before.some-empty.ensures c.if2.true)), e.2)
 
 returns-3 : tie.Need-returns-3
 returns-3 c =
@@ -42,7 +42,7 @@ returns-3 c =
       e.1,
       (λ h.
           let g = e.3 h in
-          (rounds-sound p.5 g.1 g.2 (said-no c.before.some-empty.ensures c.if2.false), g.0, g.3)),
+          (rounds_sound p.5 g.1 g.2 (said_no c.before.some-empty.ensures c.if2.false), g.0, g.3)),
       (λ z. absurd (c.before.before.before.if1.false z)),
       e.2,
     )

@@ -6,7 +6,7 @@ use native.Mathlib.Omega.{arith}
 use borrow.Author.Rules.{rules}
 use Rattle.search.specs.Moves.{Begun}
 use Rattle.search.specs.inner.Taking.{Taking}
-use Rattle.search.proofs.Beginning.{begun-none, begun_more}
+use Rattle.search.proofs.Beginning.{begun_none, begun_more}
 use Rattle.search.proofs.begin.Statement.{statement}
 use Rattle.search.proofs.begin.Tie as tie
 
@@ -23,7 +23,7 @@ loop-holds : tie.Need-loop-init invariant-loop decreases-loop
 loop-holds c =
     let s = c.before.before in
     let p = s.requires in
-    (λ proposal number t. begun-none s.args.queue.now p.0 t.size p.2 p.7 t.taken t.rest p.8, omega arith)
+    (λ proposal number t. begun_none s.args.queue.now p.0 t.size p.2 p.7 t.taken t.rest p.8, omega arith)
 
 abbrev start : tie.After-wide invariant-loop decreases-loop → tie.Start invariant-loop decreases-loop
 start c = c.before.before.before.before.before.before

@@ -3,7 +3,7 @@ use Prim.Native.Nat.{◌<◌}
 use native.Mathlib.Omega.{arith}
 use borrow.Author.Rules.{rules}
 use Rattle.search.specs.Configuration.{tables_of}
-use Rattle.search.proofs.Falling.{Falling, falling-first, falling-on, falling-last, face-in, dart-in, left_in, right-in, right_near, length-near}
+use Rattle.search.proofs.Falling.{Falling, falling_first, falling_on, falling_last, face_in, dart_in, left_in, right_in, right_near, length_near}
 use Rattle.search.proofs.descend.Statement.{statement}
 use Rattle.search.proofs.descend.Tie as tie
 
@@ -16,7 +16,7 @@ abbrev decreases-loop : tie.decreases-loop
 decreases-loop lefts lengths darts faces f count from links₀ potentials₀ parents₀ waiting₀ queue₀ last k₀ y₀ end₀ links potentials parents waiting queue k y end = k
 
 y-small : (c : tie.In-loop invariant-loop decreases-loop) → c.before.loop.y < 1024
-y-small c = let i = c.before.loop.invariant in omega (arith, face-in i c.loop-test.true, i.sound.few-faces)
+y-small c = let i = c.before.loop.invariant in omega (arith, face_in i c.loop-test.true, i.sound.few_faces)
 
 follow-requires : tie.Need-follow-requires invariant-loop decreases-loop
 follow-requires c κs =
@@ -25,24 +25,24 @@ follow-requires c κs =
     let i = n.before.loop.invariant in
     let some = n.loop-test.true in
     let r = i.descending.passing in
-    let few = i.sound.few-faces in (
-      r.size-potentials,
-      r.size-parents,
-      r.size-waiting,
-      r.size-queue,
+    let few = i.sound.few_faces in (
+      r.size_potentials,
+      r.size_parents,
+      r.size_waiting,
+      r.size_queue,
       y-small n,
-      omega (arith, dart-in i some, i.sound.few-darts),
+      omega (arith, dart_in i some, i.sound.few_darts),
       omega (arith, left_in i some),
-      omega (arith, right-in i some),
+      omega (arith, right_in i some),
       omega (arith, r.spent),
-      λ has. omega (arith, right_near i some has, length-near i some),
+      λ has. omega (arith, right_near i some has, length_near i some),
     )
 
 loop-again : tie.Need-loop-preserved invariant-loop decreases-loop
 loop-again c =
     let w = c.before.before.before.before.before in
     let n = w.before.before in
-    falling-on n.before.loop.invariant n.loop-test.true w.wide.result w.wide.ensures c.follow.ensures
+    falling_on n.before.loop.invariant n.loop-test.true w.wide.result w.wide.ensures c.follow.ensures
 
 pub descend-spec : {M : Type 1} → statement M
 descend-spec =
@@ -50,7 +50,7 @@ descend-spec =
     (tie.spec
     invariant-loop
     decreases-loop
-    (λ c. falling-first c.requires)
+    (λ c. falling_first c.requires)
     (λ c. search rules)
     (λ c. record { fits = omega (arith, y-small c) })
     (λ c. y-small c)
@@ -60,4 +60,4 @@ descend-spec =
     follow-requires
     (λ c. omega (arith, c.before.before.before.before.before.before.before.loop-test.true))
     loop-again
-    (λ c. falling-last c.before.loop.invariant (omega (arith, c.loop-test.false))))
+    (λ c. falling_last c.before.loop.invariant (omega (arith, c.loop-test.false))))

@@ -5,10 +5,10 @@ use native.Mathlib.Omega.{arith}
 use lib.Signed.{mag}
 use borrow.Author.Rules.{rules}
 use Rattle.arrays.specs.At.{at, atℤ}
-use Rattle.arrays.specs.Maps.{rightOf}
+use Rattle.arrays.specs.Maps.{right_of}
 use Rattle.search.specs.Level.{HasLevel}
 use Rattle.search.specs.Configuration.{Tables, tables_of}
-use Rattle.search.proofs.Following.{follow-leaves, follow-keeps, follow-falls}
+use Rattle.search.proofs.Following.{follow_leaves, follow_keeps, follow_falls}
 use Rattle.search.proofs.follow.Statement.{statement}
 use Rattle.search.proofs.follow.Tie as tie
 
@@ -18,8 +18,8 @@ tablesAt s = let a = s.args in tables_of a.potentials.now a.parents.now a.waitin
 abbrev base : tie.After-right → tie.Start
 base c = c.before.before.before
 
-across : (c : tie.After-right) → c.right.result ≡ rightOf (base c).args.lefts.now (at (base c).args.parents.now (base c).args.y)
-across c = c.right.ensures ∙ ap (rightOf (base c).args.lefts.now) c.before.wide.ensures
+across : (c : tie.After-right) → c.right.result ≡ right_of (base c).args.lefts.now (at (base c).args.parents.now (base c).args.y)
+across c = c.right.ensures ∙ ap (right_of (base c).args.lefts.now) c.before.wide.ensures
 
 w-small : (c : tie.After-right) → c.right.result < 1024
 w-small c = omega (arith, across c, (base c).requires.7)
@@ -28,7 +28,7 @@ returns : tie.Need-returns
 returns c =
     let k = c.before in
     let r = k.before.before in
-    follow-leaves _ _ (tablesAt (base r)) _ r.before.wide.result r.right.result r.before.wide.ensures r.right.ensures
+    follow_leaves _ _ (tablesAt (base r)) _ r.before.wide.result r.right.result r.before.wide.ensures r.right.ensures
     (k.is-far.ensures.0 c.if1.true)
 
 -- ── the face across has a level ──
@@ -60,7 +60,7 @@ returns-2 c =
     let x = t.before.relax in
     let e = t.before.before.before.before in
     let r = crossing e in
-    follow-falls _ _ (tablesAt (base r)) _ r.before.wide.result r.right.result r.before.wide.ensures r.right.ensures (has e) _
+    follow_falls _ _ (tablesAt (base r)) _ r.before.wide.result r.right.result r.before.wide.ensures r.right.ensures (has e) _
     x.result t.if2.true x.ensures c.push.ensures
 
 returns-3 : tie.Need-returns-3
@@ -68,7 +68,7 @@ returns-3 c =
     let x = c.before.relax in
     let e = c.before.before.before.before in
     let r = crossing e in
-    follow-keeps _ _ (tablesAt (base r)) _ r.before.wide.result r.right.result r.before.wide.ensures r.right.ensures (has e) _ _
+    follow_keeps _ _ (tablesAt (base r)) _ r.before.wide.result r.right.result r.before.wide.ensures r.right.ensures (has e) _ _
     x.result c.if2.false x.ensures
 
 pub follow-spec : {M : Type 1} → statement M

@@ -1,11 +1,11 @@
 -- The level has the bits of the mark, or not.
 use borrow.Author.Rules.{rules}
-use Rattle.search.proofs.Far.{same-far, apart-far}
+use Rattle.search.proofs.Far.{same_far, apart_far}
 use Rattle.search.proofs.is_far.Statement.{statement}
 use Rattle.search.proofs.is_far.Tie as tie
 
 returns : tie.Need-returns
-returns c = (λ e. same-far _ (record { sfits = c.result.given }) e, λ e. apart-far _ e)
+returns c = (λ e. same_far _ (record { sfits = c.result.given }) e, λ e. apart_far _ e)
 
 pub is-far-spec : {M : Type 1} → statement M
 is-far-spec = tie.close (tie.spec (λ c. search rules) (λ c. search rules) returns)

@@ -5,8 +5,8 @@ use borrow.Author.Rules.{rules}
 use Rattle.arrays.specs.At.{at}
 use Rattle.search.specs.Given.{Given, given, end_at}
 use Rattle.search.specs.Configuration.{tables_of}
-use Rattle.search.proofs.Trying.{looked-in, try-in, try-left, try-near}
-use Rattle.search.proofs.Halfway.{Halfway, look-begins, look-keeps, look-lowers, look-ends}
+use Rattle.search.proofs.Trying.{looked_in, try_in, try_left, try_near}
+use Rattle.search.proofs.Halfway.{Halfway, look_begins, look_keeps, look_lowers, look_ends}
 use Rattle.search.proofs.look.Statement.{statement}
 use Rattle.search.proofs.look.Tie as tie
 
@@ -23,11 +23,11 @@ abbrev givenAt : tie.Start invariant-loop decreases-loop → Given
 givenAt s =
     given s.args.lefts.now s.args.lengths.now s.args.order.now s.args.starts.now s.args.darts s.args.faces
 
-face-in : (s : tie.Start invariant-loop decreases-loop) → s.args.i < s.args.faces
-face-in s = let h = s.requires.0 in looked-in h.sound s.requires.1 h.passing h.few h.some s.args.i h.front-is
+face_in : (s : tie.Start invariant-loop decreases-loop) → s.args.i < s.args.faces
+face_in s = let h = s.requires.0 in looked_in h.sound s.requires.1 h.passing h.few h.some s.args.i h.front_is
 
 face-small : (s : tie.Start invariant-loop decreases-loop) → s.args.i < 1024
-face-small s = omega (arith, face-in s, s.requires.0.sound.few-faces)
+face-small s = omega (arith, face_in s, s.requires.0.sound.few_faces)
 
 element-write-waiting : tie.Need-element-write-waiting invariant-loop decreases-loop
 element-write-waiting c = face-small c
@@ -45,23 +45,23 @@ loop-holds : tie.Need-loop-init invariant-loop decreases-loop
 loop-holds c =
     let s = c.before.before.before in
     let w = c.before.wide in
-    look-begins (givenAt s) s.requires.1 s.args.i w.result s.requires.0 w.ensures
+    look_begins (givenAt s) s.requires.1 s.args.i w.result s.requires.0 w.ensures
 
 -- ── in the loop ──
 abbrev base : tie.At-loop invariant-loop decreases-loop → tie.Start invariant-loop decreases-loop
 base c = c.before.before.before.before
 
-ends-in : (c : tie.In-loop invariant-loop decreases-loop) → c.before.loop.j < 1024
-ends-in c = omega (arith, c.loop-test.true, c.before.before.group-end.ensures, c.before.loop.invariant.trying.end-in)
+ends_in : (c : tie.In-loop invariant-loop decreases-loop) → c.before.loop.j < 1024
+ends_in c = omega (arith, c.loop-test.true, c.before.before.group-end.ensures, c.before.loop.invariant.trying.end_in)
 
 mul-wide-2 : tie.Need-overflow-mul-wide-2 invariant-loop decreases-loop
-mul-wide-2 c = record { fits = omega (arith, ends-in c) }
+mul-wide-2 c = record { fits = omega (arith, ends_in c) }
 
 element-copy-out-wide-2 : tie.Need-element-copy-out-wide-2 invariant-loop decreases-loop
-element-copy-out-wide-2 c = ends-in c
+element-copy-out-wide-2 c = ends_in c
 
 add-j : tie.Need-overflow-add-j invariant-loop decreases-loop
-add-j c = record { fits = omega (arith, ends-in c.before.before) }
+add-j c = record { fits = omega (arith, ends_in c.before.before) }
 
 -- ── the dart at place j ──
 abbrev looping : tie.After-wide2 invariant-loop decreases-loop → tie.At-loop invariant-loop decreases-loop
@@ -70,18 +70,18 @@ looping c = c.before.before.before
 more : (c : tie.After-wide2 invariant-loop decreases-loop) → (looping c).loop.j < end_at (givenAt (base (looping c))) (base (looping c)).args.i
 more c = omega (arith, c.before.before.loop-test.true, (looping c).before.group-end.ensures)
 
-dart-in : (c : tie.After-wide2 invariant-loop decreases-loop) → c.wide2.result < (base (looping c)).args.darts
-dart-in c =
+dart_in : (c : tie.After-wide2 invariant-loop decreases-loop) → c.wide2.result < (base (looping c)).args.darts
+dart_in c =
     let h = (looping c).loop.invariant in
-    try-in h.sound (base (looping c)).pre.1 h.trying c.wide2.result (more c) c.wide2.ensures
+    try_in h.sound (base (looping c)).pre.1 h.trying c.wide2.result (more c) c.wide2.ensures
 
 dart-small : (c : tie.After-wide2 invariant-loop decreases-loop) → c.wide2.result < 1024
-dart-small c = omega (arith, dart-in c, (looping c).loop.invariant.sound.few-darts)
+dart-small c = omega (arith, dart_in c, (looping c).loop.invariant.sound.few_darts)
 
-left-small : (c : tie.After-wide2 invariant-loop decreases-loop) → at (base (looping c)).args.lefts.now c.wide2.result < 1024
-left-small c =
+left_small : (c : tie.After-wide2 invariant-loop decreases-loop) → at (base (looping c)).args.lefts.now c.wide2.result < 1024
+left_small c =
     let h = (looping c).loop.invariant in
-    omega (arith, try-left h.sound (base (looping c)).pre.1 h.trying c.wide2.result (more c) c.wide2.ensures, h.sound.few-faces)
+    omega (arith, try_left h.sound (base (looping c)).pre.1 h.trying c.wide2.result (more c) c.wide2.ensures, h.sound.few_faces)
 
 mul-wide-3 : tie.Need-overflow-mul-wide-3 invariant-loop decreases-loop
 mul-wide-3 c = record { fits = omega (arith, dart-small c) }
@@ -97,12 +97,12 @@ relax-requires : tie.Need-relax-requires invariant-loop decreases-loop
 relax-requires c κs =
     let d = crossed c.before.before in
     let h = (looping d).loop.inv in (
-      h.trying.stage.size-potentials,
-      h.trying.stage.size-parents,
-      omega (arith, h.trying.i-in, h.sound.few-faces),
+      h.trying.stage.size_potentials,
+      h.trying.stage.size_parents,
+      omega (arith, h.trying.i_in, h.sound.few_faces),
       dart-small d,
-      left-small d,
-      try-near h.sound (base (looping d)).pre.1 h.trying d.wide2.result (more d) d.wide2.ensures,
+      left_small d,
+      try_near h.sound (base (looping d)).pre.1 h.trying d.wide2.result (more d) d.wide2.ensures,
     )
 
 -- ── it lowered ──
@@ -117,9 +117,9 @@ push-requires c κs =
     let r = c.before.before.before in
     let d = dart r in
     let h = (looping d).loop.inv in (
-      h.trying.stage.size-waiting,
-      h.trying.stage.size-queue,
-      omega (arith, (leftward r).wide3.ensures, left-small d),
+      h.trying.stage.size_waiting,
+      h.trying.stage.size_queue,
+      omega (arith, (leftward r).wide3.ensures, left_small d),
       omega (arith, h.trying.stage.spent),
     )
 
@@ -133,7 +133,7 @@ loop-again c =
     let w = (leftward r).wide3 in
     let d = dart r in
     let s = base (looping d) in
-    look-lowers (givenAt s) s.pre.1 (looping d).loop.inv d.wide2.result (more d) d.wide2.ensures _ w.result w.ensures r.relax.result
+    look_lowers (givenAt s) s.pre.1 (looping d).loop.inv d.wide2.result (more d) d.wide2.ensures _ w.result w.ensures r.relax.result
     t.if1.true r.relax.ensures c.push.ensures
 
 -- ── it could not ──
@@ -145,12 +145,12 @@ loop-again-2 c =
     let d = dart c.before in
     let s = base (looping d) in
     let r = c.before.relax in
-    look-keeps (givenAt s) s.pre.1 (looping d).loop.inv d.wide2.result (more d) d.wide2.ensures _ _ r.result c.if1.false r.ensures
+    look_keeps (givenAt s) s.pre.1 (looping d).loop.inv d.wide2.result (more d) d.wide2.ensures _ _ r.result c.if1.false r.ensures
 
 returns : tie.Need-returns invariant-loop decreases-loop
 returns c =
     let s = base c.before in
-    look-ends (givenAt s) s.pre.1 c.before.loop.invariant (omega (arith, c.loop-test.false, c.before.before.group-end.ensures))
+    look_ends (givenAt s) s.pre.1 c.before.loop.invariant (omega (arith, c.loop-test.false, c.before.before.group-end.ensures))
     c.before.before.before.wide.ensures
 
 pub look_spec : {M : Type 1} → statement M

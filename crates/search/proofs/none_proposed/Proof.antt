@@ -6,7 +6,7 @@ use native.Mathlib.Omega.{arith}
 use borrow.Author.Rules.{rules}
 use native.Mathlib.Decide.{ℕ_discrete}
 use Rattle.arrays.specs.At.{at}
-use Rattle.integers.proofs.Tests.{eqb-eq}
+use Rattle.integers.proofs.Tests.{eqb_eq}
 use Rattle.search.proofs.none_proposed.Statement.{statement}
 use Rattle.search.proofs.none_proposed.Tie as tie
 
@@ -40,7 +40,7 @@ loop-again c =
 returns : tie.Need-returns invariant-loop decreases-loop
 returns c t x l =
     let k = c.before.loop in
-    k.invariant.2 (eqb-eq k.some 0 t) x (omega (arith, c.loop-test.false))
+    k.invariant.2 (eqb_eq k.some 0 t) x (omega (arith, c.loop-test.false))
 
 pub none-proposed-spec : {M : Type 1} → statement M
 none-proposed-spec =

@@ -9,7 +9,7 @@ use mir.ValLaws.{to_z-of_z}
 use borrow.Author.Rules.{rules}
 use Rattle.arrays.proofs.wide.Reads as wide-reads
 use Rattle.arrays.specs.At.{atℤ, at}
-use Rattle.search.proofs.Order.{test-yes, test-no, mag-add}
+use Rattle.search.proofs.Order.{test_yes, test_no, mag_add}
 use Rattle.search.proofs.relax.Statement.{statement}
 use Rattle.search.proofs.relax.Tie as tie
 use Rattle.search.proofs.relax.Reads as reads
@@ -23,7 +23,7 @@ plus-wide-requires c κs =
       to_z-of_z w64 (atℤ a.potentials.now a.i) (record { sfits = c.before.plus-wide-arg.given }),
       to_z-of_z w32 (atℤ a.lengths.now a.d) (record { sfits = c.plus-wide-arg2.given }),
     )
-    (record { sfits = omega (arith, mag-add (atℤ a.potentials.now a.i) (atℤ a.lengths.now a.d), c.before.before.before.before.requires.5) })
+    (record { sfits = omega (arith, mag_add (atℤ a.potentials.now a.i) (atℤ a.lengths.now a.d), c.before.before.before.before.requires.5) })
 
 abbrev Place : Type 0
 Place = lts.After-if12 (wide-reads.Asked, wide-reads.Learnt, plus-wide-reads.Asked, plus-wide-reads.Learnt) reads.Pre reads.Post
@@ -59,12 +59,12 @@ returns c =
     let w = c.before.before.before.before.before.wide.ensures in (
       ap₂ (set a.potentials.now) w (new_is c.before),
       ap (λ f. set a.parents.now f a.d) w,
-      test-yes _ _ _ _ (new_is c.before) (old-is c.before) c.if1.true,
+      test_yes _ _ _ _ (new_is c.before) (old-is c.before) c.if1.true,
     )
 
 returns-2 : tie.Need-returns-2
 unfolding new old
-returns-2 c = (refl, refl, test-no _ _ _ _ (new_is c.before) (old-is c.before) c.if1.false)
+returns-2 c = (refl, refl, test_no _ _ _ _ (new_is c.before) (old-is c.before) c.if1.false)
 
 pub relax-spec : {M : Type 1} → statement M
 relax-spec =

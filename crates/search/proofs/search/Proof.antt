@@ -14,14 +14,14 @@ use Rattle.search.specs.inner.Progress.{heights}
 use Rattle.search.specs.Given.{Given, given, dual}
 use Rattle.search.specs.Configuration.{tables_of, Configuration, configuration}
 use Rattle.search.specs.Straightening.{unmarked, Straightens}
-use Rattle.search.specs.Moves.{takenFrom}
-use Rattle.search.specs.Trace.{Goes, stay, firstLooks, start, Searches}
+use Rattle.search.specs.Moves.{taken_from}
+use Rattle.search.specs.Trace.{Goes, stay, first_looks, start, Searches}
 use Rattle.search.specs.declared.Outcome.{Outcome}
 use Rattle.search.specs.declared.Outcome.TheVariants as outcome
-use Rattle.search.proofs.Beginning.{root-face}
-use Rattle.search.proofs.Run.{PassingAt, bound, bound-wide, bound-few, bound-look, goes-passing, looks, straightens, goes_then, goes_on}
+use Rattle.search.proofs.Beginning.{root_face}
+use Rattle.search.proofs.Run.{PassingAt, bound, bound_wide, bound_few, bound_look, goes_passing, looks, straightens, goes_then, goes_on}
 use Rattle.search.proofs.Between.{goes_kept}
-use Rattle.search.proofs.Ending.{start-passing, answered}
+use Rattle.search.proofs.Ending.{start_passing, answered}
 use Rattle.search.proofs.search.Statement.{statement}
 use Rattle.search.proofs.search.Tie as tie
 
@@ -65,12 +65,12 @@ begin-requires : tie.Need-begin-requires invariant-loop decreases-loop invariant
 begin-requires c κs =
     let s = c.before.before.before.before in
     let p = s.requires in
-    let roots-in : (m : ℕ) → m < s.args.roots → at s.args.queue.now m < 1024 =
-    λ m l. omega (arith, root-face (givenAt s) s.args.queue.now s.args.roots p.6 p.7 p.0 m l, p.0.few-faces) in
-    (p.3, p.4, p.5, p.7, roots-in, p.0.few-darts, p.0.few-faces, p.8, p.9)
+    let roots_in : (m : ℕ) → m < s.args.roots → at s.args.queue.now m < 1024 =
+    λ m l. omega (arith, root_face (givenAt s) s.args.queue.now s.args.roots p.6 p.7 p.0 m l, p.0.few_faces) in
+    (p.3, p.4, p.5, p.7, roots_in, p.0.few_darts, p.0.few_faces, p.8, p.9)
 
 from_start : (proposal : List ℕ) {G : Given} {potentials : List ℤ} {parents waiting queue : List ℕ} {roots left : ℕ} {c : Configuration}
-    → left ≡ firstLooks G.faces (takenFrom G.lefts G.darts G.faces proposal)
+    → left ≡ first_looks G.faces (taken_from G.lefts G.darts G.faces proposal)
     → Goes G (configuration (tables_of potentials parents waiting queue roots) 0 left) c
     → Goes G (start G proposal potentials parents waiting queue roots) c
 from_start proposal {G} {potentials} {parents} {waiting} {queue} {roots} {c = c} e p =
@@ -88,17 +88,17 @@ here c =
     configuration (tables_of c.search.potentials c.search.parents c.search.waiting c.search.queue c.search.new)
     c.search.first c.search.left
 
-first-left : (c : At-search) → c.before.first-looks.result
-    ≡ firstLooks (base c).args.faces (takenFrom (base c).args.lefts.now (base c).args.darts (base c).args.faces (base c).args.parents.now)
-first-left c = c.before.first-looks.ensures ∙ ap (firstLooks (base c).args.faces) c.before.before.begin.ensures.1
+first_left : (c : At-search) → c.before.first-looks.result
+    ≡ first_looks (base c).args.faces (taken_from (base c).args.lefts.now (base c).args.darts (base c).args.faces (base c).args.parents.now)
+first_left c = c.before.first-looks.ensures ∙ ap (first_looks (base c).args.faces) c.before.before.begin.ensures.1
 
 here-passing : (c : At-search) → PassingAt (dual (givenAt (base c)) (rootsAt (base c))) (here c)
 here-passing c =
     let s = base c in
     let p = s.pre in
-    goes-passing (givenAt s) (rootsAt s) p.0 p.2
-    (start-passing (givenAt s) s.args.queue.now s.args.roots p.6 p.7 p.0 p.1 p.2 c.before.before.begin.ensures.0)
-    (from_start s.args.parents.now (first-left c) c.search.invariant)
+    goes_passing (givenAt s) (rootsAt s) p.0 p.2
+    (start_passing (givenAt s) s.args.queue.now s.args.roots p.6 p.7 p.0 p.1 p.2 c.before.before.begin.ensures.0)
+    (from_start s.args.parents.now (first_left c) c.search.invariant)
 
 -- ── looks ──
 abbrev At-loop : Type 0
@@ -115,7 +115,7 @@ now c =
     configuration (tables_of c.loop.potentials c.loop.parents c.loop.waiting c.loop.queue c.loop.last) c.loop.first c.loop.left
 
 passing : (c : At-loop) → PassingAt (dual (givenAt (begun c)) (rootsAt (begun c))) (now c)
-passing c = let s = begun c in goes-passing (givenAt s) (rootsAt s) s.pre.0 s.pre.2 (here-passing (round c)) c.loop.invariant.0
+passing c = let s = begun c in goes_passing (givenAt s) (rootsAt s) s.pre.0 s.pre.2 (here-passing (round c)) c.loop.invariant.0
 
 abbrev Look : Type 0
 Look = tie.After-wide invariant-loop decreases-loop invariant-search decreases-search
@@ -140,9 +140,9 @@ look-requires c κs =
         sound = s.pre.0;
         first = (now l).first;
         bound = bound n (now l).left;
-        few = bound-look n (now l).left s.pre.0.few-faces (left-some w) (passing l).in-period;
+        few = bound_look n (now l).left s.pre.0.few_faces (left-some w) (passing l).in-period;
         some = some w;
-        front-is = w.wide.ensures;
+        front_is = w.wide.ensures;
         passing = (passing l).passing;
       },
       s.pre.2,
@@ -171,8 +171,8 @@ straighten-requires c κs =
       sound = s.pre.0;
       first = (now l).first;
       bound = bound n (now l).left;
-      wide = bound-wide n (now l).left;
-      few = bound-few n (now l).left s.pre.0.few-faces;
+      wide = bound_wide n (now l).left;
+      few = bound_few n (now l).left s.pre.0.few_faces;
       passing = (passing l).passing;
     }
 
@@ -194,7 +194,7 @@ search-less c =
     let p =
     goes_on l.loop.inv.0 (straightens (givenAt s) (now l) (none_left c) _ _ _ _ _ _ w.result c.before.pass2.given.1 w.ensures.1) in
     let k = (goes_kept (givenAt s) (rootsAt s) s.pre.0 s.pre.2 (here-passing (round l)) p).1 in
-    let r = goes-passing (givenAt s) (rootsAt s) s.pre.0 s.pre.2 (here-passing (round l)) p in
+    let r = goes_passing (givenAt s) (rootsAt s) s.pre.0 s.pre.2 (here-passing (round l)) p in
     omega (arith, none_left c, l.loop.inv.1, k.longer, k.spends, r.passing.ordered, (here-passing (round l)).passing.ordered)
 
 search-again : tie.Need-search-preserved invariant-loop decreases-loop invariant-search decreases-search
@@ -219,16 +219,16 @@ returns c =
     let r = round l in
     let s = base r in
     answers s outcome.Settled (record {
-      first-potentials = _;
-      first-parents = _;
-      first-waiting = _;
+      first_potentials = _;
+      first_parents = _;
+      first_waiting = _;
       begun = r.before.before.begin.ensures.0;
       end = now l;
-      run = from_start s.args.parents.now (first-left r) (goes_then r.search.inv l.loop.invariant.0);
+      run = from_start s.args.parents.now (first_left r) (goes_then r.search.inv l.loop.invariant.0);
       left = (now l).tables;
       ended = (c.before.loop-test.true, c.if1.true, refl);
-      potentials-are = refl;
-      parents-are = refl;
+      potentials_are = refl;
+      parents_are = refl;
     })
 
 returns-2 : tie.Need-returns-2 invariant-loop decreases-loop invariant-search decreases-search
@@ -240,24 +240,24 @@ returns-2 c =
     let r = round l in
     let s = base r in
     answers s (outcome.Ring p.pass.given.0.0) (record {
-      first-potentials = _;
-      first-parents = _;
-      first-waiting = _;
+      first_potentials = _;
+      first_parents = _;
+      first_waiting = _;
       begun = r.before.before.begin.ensures.0;
       end = now l;
-      run = from_start s.args.parents.now (first-left r) (goes_then r.search.inv l.loop.invariant.0);
+      run = from_start s.args.parents.now (first_left r) (goes_then r.search.inv l.loop.invariant.0);
       left = tables_of _ _ _ _ w.ensures.0;
       ended = (
         omega (arith, o.loop-test.false),
         subst (Straightens s.args.lefts.now s.args.lengths.now s.args.darts s.args.faces 0 unmarked (now l).tables _)
             p.pass.given.1 w.ensures.1,
       );
-      potentials-are = refl;
-      parents-are = refl;
+      potentials_are = refl;
+      parents_are = refl;
     })
 
-few-faces : (c : Straight) → (begun (over c)).args.faces ≤ 1024
-few-faces c = (begun (over c)).requires.0.few-faces
+few_faces : (c : Straight) → (begun (over c)).args.faces ≤ 1024
+few_faces c = (begun (over c)).requires.0.few_faces
 
 pub search-spec : {M : Type 1} → statement M
 search-spec =
@@ -268,7 +268,7 @@ search-spec =
     invariant-search
     decreases-search
     begin-requires
-    (λ c κs. c.before.before.before.before.before.requires.0.few-faces)
+    (λ c κs. c.before.before.before.before.before.requires.0.few_faces)
     (λ c. stay)
     (λ c. (stay, refl))
     (λ c. search rules)
@@ -282,8 +282,8 @@ search-spec =
     straighten-requires
     (λ c. search rules)
     (λ c. search rules)
-    (λ c. record { fits = omega (arith, few-faces c) })
-    (λ c. record { fits = omega (arith, few-faces c) })
+    (λ c. record { fits = omega (arith, few_faces c) })
+    (λ c. record { fits = omega (arith, few_faces c) })
     search-less
     search-again
     returns

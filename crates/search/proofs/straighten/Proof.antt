@@ -5,7 +5,7 @@ use Prim.Native.Nat.{◌-◌, ◌<◌}
 use native.Mathlib.Omega.{arith}
 use borrow.Author.Rules.{rules}
 use Rattle.search.specs.Configuration.{tables_of}
-use Rattle.search.proofs.Passes.{Pass, pass-first, pass-last, pass-ring, pass-down, pass-next, pass-none}
+use Rattle.search.proofs.Passes.{Pass, pass_first, pass_last, pass_ring, pass_down, pass_next, pass_none}
 use Rattle.search.proofs.straighten.Statement.{statement}
 use Rattle.search.proofs.straighten.Tie as tie
 
@@ -17,19 +17,19 @@ abbrev decreases-loop : tie.decreases-loop
 decreases-loop lefts lengths darts faces potentials₀ parents₀ waiting₀ queue₀ last links₀ end₀ f₀ potentials parents waiting queue links end f = faces - f
 
 loop-holds : tie.Need-loop-init invariant-loop decreases-loop
-loop-holds c = pass-first c.requires
+loop-holds c = pass_first c.requires
 
 abbrev Turn : Type 0
 Turn = tie.In-loop invariant-loop decreases-loop
 
 f-small : (c : Turn) → c.before.loop.f < 1024
-f-small c = omega (arith, c.loop-test.true, c.before.loop.invariant.sound.few-faces)
+f-small c = omega (arith, c.loop-test.true, c.before.loop.invariant.sound.few_faces)
 
 ascend-requires : tie.Need-ascend-requires invariant-loop decreases-loop
 ascend-requires c κs =
     let n = c.before.before in
     let i = n.before.loop.invariant in
-    (i.size-links, i.sound.few-darts, i.sound.few-faces, n.loop-test.true, i.sound.right-in)
+    (i.size_links, i.sound.few_darts, i.sound.few_faces, n.loop-test.true, i.sound.right_in)
 
 -- ── the ascent has come to a face ──
 abbrev Up : Type 0
@@ -42,7 +42,7 @@ top_in : (c : Up) → c.ascend.result.top < (turn c).before.before.args.faces
 top_in c = let i = (turn c).before.loop.invariant in (c.ascend.ensures i.marks i.matched).top_in
 
 top_small : (c : Up) → c.ascend.result.top < 1024
-top_small c = omega (arith, top_in c, (turn c).before.loop.invariant.sound.few-faces)
+top_small c = omega (arith, top_in c, (turn c).before.loop.invariant.sound.few_faces)
 
 is-round-requires : tie.Need-is-round-requires invariant-loop decreases-loop
 is-round-requires c κs = top_small c.before.before.before.before
@@ -54,7 +54,7 @@ returns c =
     let u = t.before.before.before.before.before.before in
     let n = turn u in
     let i = n.before.loop.inv in
-    (_, pass-ring i n.loop-test.taken (u.ascend.ensures i.marks i.matched) r.0 r.1 c.wide.result c.wide.ensures)
+    (_, pass_ring i n.loop-test.taken (u.ascend.ensures i.marks i.matched) r.0 r.1 c.wide.result c.wide.ensures)
 
 -- ── it has not come round ──
 descend-requires : tie.Need-descend-requires invariant-loop decreases-loop
@@ -64,7 +64,7 @@ descend-requires c κs =
     let u = o.before.before in
     let n = turn u in
     let i = n.before.loop.inv in
-    pass-down i n.loop-test.taken (u.ascend.ensures i.marks i.matched) (t.before.is-round.ensures.1 t.if2.false)
+    pass_down i n.loop-test.taken (u.ascend.ensures i.marks i.matched) (t.before.is-round.ensures.1 t.if2.false)
 
 loop-again : tie.Need-loop-preserved invariant-loop decreases-loop
 loop-again c =
@@ -75,12 +75,12 @@ loop-again c =
     ⊎_elim
     (λ d.
     rw (d.11, d.12, d.13, d.14, d.15, d.16)
-    (let q = d.10.ensures in pass-next i n.loop-test.taken a (d.3.ensures.1 d.4.left) q.1 q.0))
-    (λ d. rw (d.1, d.2, d.3, d.4, d.5, d.6) (pass-none i n.loop-test.taken a (omega (arith, d.0.left))))
+    (let q = d.10.ensures in pass_next i n.loop-test.taken a (d.3.ensures.1 d.4.left) q.1 q.0))
+    (λ d. rw (d.1, d.2, d.3, d.4, d.5, d.6) (pass_none i n.loop-test.taken a (omega (arith, d.0.left))))
     c.if1.branch
 
 returns-2 : tie.Need-returns-2 invariant-loop decreases-loop
-returns-2 c = (_, pass-last _ c.before.loop.invariant (omega (arith, c.loop-test.false)) refl)
+returns-2 c = (_, pass_last _ c.before.loop.invariant (omega (arith, c.loop-test.false)) refl)
 
 pub straighten-spec : {M : Type 1} → statement M
 straighten-spec =

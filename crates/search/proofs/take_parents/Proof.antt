@@ -5,9 +5,9 @@ use Prim.Native.Nat.{◌-◌, ◌≤◌, ◌<◌}
 use native.Mathlib.Omega.{arith}
 use borrow.Author.Rules.{rules}
 use Rattle.integers.specs.Sum.{Naturals}
-use Rattle.integers.proofs.Sums.{sum-zero}
+use Rattle.integers.proofs.Sums.{sum_zero}
 use Rattle.search.specs.inner.Taking.{Taking}
-use Rattle.search.proofs.Taking.{taking-keep, taking-drop}
+use Rattle.search.proofs.Taking.{taking_keep, taking_drop}
 use Rattle.search.proofs.take_parents.Statement.{statement}
 use Rattle.search.proofs.take_parents.Tie as tie
 
@@ -19,7 +19,7 @@ decreases-loop lefts darts faces parents₀ taken₀ f₀ parents taken f = face
 
 loop-holds : tie.Need-loop-init invariant-loop decreases-loop
 loop-holds c = (
-  record { size = c.requires.0; taken = λ x l. absurd (omega arith); rest = λ x l. refl; counted = sym (sum-zero Naturals _) },
+  record { size = c.requires.0; taken = λ x l. absurd (omega arith); rest = λ x l. refl; counted = sym (sum_zero Naturals _) },
   omega arith,
   omega arith,
 )
@@ -35,8 +35,8 @@ loop-again c =
     let s = small k.before.before.before in
     let b = k.is-sensible in (
       ⊎_elim
-          (λ u. taking-keep l.invariant.0 s w.result w.ensures b.result b.ensures u.0.taken _ u.1 _ u.2)
-          (λ u. taking-drop l.invariant.0 s w.result w.ensures b.result b.ensures u.0.left _ u.1 _ u.2)
+          (λ u. taking_keep l.invariant.0 s w.result w.ensures b.result b.ensures u.0.taken _ u.1 _ u.2)
+          (λ u. taking_drop l.invariant.0 s w.result w.ensures b.result b.ensures u.0.left _ u.1 _ u.2)
           c.if1.branch,
       omega (arith, k.before.before.before.loop-test.true),
       ⊎_elim (λ u. omega (arith, u.2, l.invariant.2)) (λ u. omega (arith, u.2, l.invariant.2)) c.if1.branch,

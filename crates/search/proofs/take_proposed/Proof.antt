@@ -1,6 +1,6 @@
 -- `take_proposed` meets its contract.
 use borrow.Author.Rules.{rules}
-use Rattle.search.proofs.Taking.{taking-none}
+use Rattle.search.proofs.Taking.{taking_none}
 use Rattle.search.proofs.take_proposed.Statement.{statement}
 use Rattle.search.proofs.take_proposed.Tie as tie
 
@@ -9,7 +9,7 @@ returns c =
     let n = c.before in
     let s = n.before.before in
     let p = s.requires in
-    taking-none s.args.lefts.now s.args.parents.now p.1 (n.none-proposed.ensures c.if1.true) p.0
+    taking_none s.args.lefts.now s.args.parents.now p.1 (n.none-proposed.ensures c.if1.true) p.0
 
 pub take-proposed-spec : {M : Type 1} → statement M
 take-proposed-spec = tie.close (tie.spec (λ c κs. search rules) returns (λ c κs. search rules) (λ c. search rules))

@@ -14,17 +14,17 @@ pub record Matched (marks links : List ℕ) : Type 0 where
 -- the faces of the ascent from f, which were not met, have their links; all others keep theirs
 pub record Ascended (upward : ℕ → ℕ) (darts faces : ℕ) (parents : List ℕ) (f : ℕ) (marks links links' : List ℕ) (count last top : ℕ) : Type 0 where
   pub ascent : Ascent upward darts parents marks f count
-  pub size-links : length links' ≡ 1024
+  pub size_links : length links' ≡ 1024
   pub unmet : (k : ℕ) → k < count → at links (iter upward k f) ≡ 1024
   pub linked : (k : ℕ) → k < count → at links' (iter upward k f) ≡ iter upward (k - 1) f
   pub others : (x : ℕ) → ((k : ℕ) → k < count → iter upward k f ≡ x → ⊥) → at links' x ≡ at links x
-  pub last-is : last ≡ iter upward (count - 1) f
-  pub top-is : top ≡ iter upward count f
+  pub last_is : last ≡ iter upward (count - 1) f
+  pub top_is : top ≡ iter upward count f
   pub top_in : top < faces
 
 -- the faces of the ascent from place k on are done
 pub record Unlinked (upward : ℕ → ℕ) (f k count : ℕ) (links links' : List ℕ) : Type 0 where
-  pub size-links : length links' ≡ 1024
+  pub size_links : length links' ≡ 1024
   pub gone : (j : ℕ) → k ≤ j → j < count → at links' (iter upward j f) ≡ 1025
   pub still : (j : ℕ) → j < k → at links' (iter upward j f) ≡ at links (iter upward j f)
   pub others : (x : ℕ) → ((j : ℕ) → j < count → iter upward j f ≡ x → ⊥) → at links' x ≡ at links x

@@ -6,7 +6,7 @@ use Rattle.search.specs.Dual.{Dual}
 
 -- it has the darts and the faces of the map
 pub record OfMap (N : Dual) (𝓜 : Map) : Type 0 where
-  pub darts-are : N.darts ≡ darts 𝓜
-  pub faces-are : N.faces ≡ faces 𝓜
+  pub darts_are : N.darts ≡ darts 𝓜
+  pub faces_are : N.faces ≡ faces 𝓜
   pub left_is : (d : ℕ) → d < darts 𝓜 → N.left d ≡ left 𝓜 d
   pub right_is : (d : ℕ) → d < darts 𝓜 → N.right d ≡ right 𝓜 d

@@ -8,14 +8,14 @@ use Rattle.search.specs.Dual.{Dual, WellFormed, longest}
 use Rattle.search.specs.Parents.{up}
 use Rattle.search.specs.inner.Walk.{Walk}
 use Rattle.search.specs.Level.{HasLevel}
-use Rattle.search.specs.Queue.{faceAt, Stands}
+use Rattle.search.specs.Queue.{face_at, Stands}
 use Rattle.search.specs.Configuration.{Tables}
 
 -- No level is longer than b darts. There are numbers for each face, which no array holds: when it last fell.
 pub record State (N : Dual) (ρ : ℕ → ℤ) (parent waiting : ℕ → ℕ) (b : ℕ) : Type 0 where
   pub time : ℕ
   pub fell : ℕ → ℕ
-  pub fell-by : (f : ℕ) → fell f ≤ time
+  pub fell_by : (f : ℕ) → fell f ≤ time
   -- a parent leads to its face; of a face with a level the face across the parent has one too; the face is no lower than the parent would have it, and where it
   -- is just as low it fell later
   pub left_is : (f : ℕ) → f < N.faces → parent f < N.darts → N.left (parent f) ≡ f
@@ -27,7 +27,7 @@ pub record State (N : Dual) (ρ : ℕ → ℤ) (parent waiting : ℕ → ℕ) (b
   pub orphan : (f : ℕ) → f < N.faces → N.darts ≤ parent f → HasLevel ρ f → ρ f ≡ pos 0
   pub reached : (f : ℕ) → f < N.faces → HasLevel ρ f → (mag (ρ f) ≤ b * longest) × Walk N f (ρ f)
   pub waits : (f : ℕ) → f < N.faces → waiting f ≡ 1 → HasLevel ρ f
-  pub root-low : (m : ℕ) → m < N.roots → ρ (N.root m) ≤ℤ pos 0
+  pub root_low : (m : ℕ) → m < N.roots → ρ (N.root m) ≤ℤ pos 0
 
 -- a dart that can lower a potential is among those still open, or its right face waits or is not reached
 pub record Quiet (N : Dual) (ρ : ℕ → ℤ) (waiting : ℕ → ℕ) (still_Open : ℕ → Type 0) : Type 0 where
@@ -36,9 +36,9 @@ pub record Quiet (N : Dual) (ρ : ℕ → ℤ) (waiting : ℕ → ℕ) (still_Op
 
 -- what stands in the queue: faces, each once, and just those that are flagged as waiting
 pub record Line (faces : ℕ) (waiting queue : List ℕ) (first last : ℕ) : Type 0 where
-  pub inside : (i : ℕ) → first ≤ i → i < last → faceAt queue i < faces
-  pub once : (i j : ℕ) → first ≤ i → i < j → j < last → faceAt queue i ≡ faceAt queue j → ⊥
-  pub flagged : (i : ℕ) → first ≤ i → i < last → at waiting (faceAt queue i) ≡ 1
+  pub inside : (i : ℕ) → first ≤ i → i < last → face_at queue i < faces
+  pub once : (i j : ℕ) → first ≤ i → i < j → j < last → face_at queue i ≡ face_at queue j → ⊥
+  pub flagged : (i : ℕ) → first ≤ i → i < last → at waiting (face_at queue i) ≡ 1
   pub stands : (f : ℕ) → f < faces → at waiting f ≡ 1 → Stands queue first last f
 
 -- ── what a search has left to fall: each fall takes one of it at least, and brings one face to wait at most ──
@@ -57,10 +57,10 @@ most = 4000000000000000000
 
 -- how the arrays stand: the faces at the places from `first` on wait, and only the darts that are still open and those of the faces that wait can lower
 pub record Stage (N : Dual) (t : Tables) (first b : ℕ) (still_Open : ℕ → Type 0) : Type 0 where
-  pub size-potentials : length t.potentials ≡ 1024
-  pub size-parents : length t.parents ≡ 1024
-  pub size-waiting : length t.waiting ≡ 1024
-  pub size-queue : length t.queue ≡ 1024
+  pub size_potentials : length t.potentials ≡ 1024
+  pub size_parents : length t.parents ≡ 1024
+  pub size_waiting : length t.waiting ≡ 1024
+  pub size_queue : length t.queue ≡ 1024
   pub ordered : first ≤ t.last
   pub spent : t.last + heights N.faces t.potentials ≤ most
   pub state : State N (atℤ t.potentials) (at t.parents) (at t.waiting) b
@@ -79,7 +79,7 @@ pub record Looking (dual : List ℕ → Dual) (t : Tables) (i : ℕ) : Type 0 wh
   pub bound : ℕ
   pub few : bound + 1024 < 1600000
   pub some : first < t.last
-  pub front-is : i ≡ faceAt t.queue first
+  pub front_is : i ≡ face_at t.queue first
   pub passing : Passing (dual roots) t first bound
 
 -- On the way down the ascent from f: the faces before place k have not followed their parents yet, and the one at place k is no more than `deep` darts long.
@@ -104,7 +104,7 @@ pub record Lowering (dual : List ℕ → Dual) (t : Tables) (f count from : ℕ)
   pub deep : ℕ
   pub rest : ℕ
   pub descending : Descending (dual roots) t first bound (up (dual roots).right (at t.parents)) f count deep rest
-  pub size-links : length links ≡ 1024
+  pub size_links : length links ≡ 1024
   pub linked : (k : ℕ) → k < count → at links (iter (up (dual roots).right (at t.parents)) k f) ≡ iter (up (dual roots).right (at t.parents)) (k - 1) f
   pub from_is : from ≡ iter (up (dual roots).right (at t.parents)) (count - 1) f
 

@@ -2,28 +2,28 @@
 use mathlib.Core.Path.{◌≡◌, refl}
 use Prim.Native.Nat.{ℕ, ◌<◌}
 use Rattle.refusals.specs.Order.{NoneOf}
-use Rattle.refusals.proofs.Order.{said-yes, said-no}
+use Rattle.refusals.proofs.Order.{said_yes, said_no}
 use Rattle.maps.specs.Map.{darts}
 use Rattle.maps.specs.Face.{faces, left}
 use Rattle.maps.specs.Drawing.{Drawing}
-use Rattle.signed.proofs.Laws.{number-of-bits}
+use Rattle.signed.proofs.Laws.{number_of_bits}
 use Rattle.arrays.specs.At.{at}
-use Rattle.arrays.specs.Maps.{drawingOf}
-use Rattle.arrays.proofs.FillLoops.{same-everywhere}
-use Rattle.rotations.specs.MapChecks.{mapChecks}
+use Rattle.arrays.specs.Maps.{drawing_of}
+use Rattle.arrays.proofs.FillLoops.{same_everywhere}
+use Rattle.rotations.specs.MapChecks.{map_checks}
 use Rattle.sheets.proofs.Opening.{if-passed}
 use Rattle.sessions.specs.Fit.{InBounds, Fit}
-use Rattle.sessions.proofs.Fitting.{fit-drawn}
+use Rattle.sessions.proofs.Fitting.{fit_drawn}
 use Rattle.sessions.proofs.Asking.{
-  drawings-same,
+  drawings_same,
   answered,
-  named-answered,
-  fit-answered,
-  unfit-answered,
-  map-refused,
-  map-passed,
-  unless-taken,
-  unless-left,
+  named_answered,
+  fit_answered,
+  unfit_answered,
+  map_refused,
+  map_passed,
+  unless_taken,
+  unless_left,
 }
 use borrow.Author.Rules.{rules}
 use Rattle.sessions.proofs.answer_left.Statement.{statement}
@@ -36,23 +36,23 @@ begun c = c.before.before.before.before.before
 abbrev held : tie.After-in-bounds → Drawing
 held c =
     let a = (begun c).args in
-    drawingOf c.before.before.before.wide.result c.before.before.wide2.result c.before.wide3.result a.tails.now a.rotations.now
+    drawing_of c.before.before.before.wide.result c.before.before.wide2.result c.before.wide3.result a.tails.now a.rotations.now
     a.left.now
 
 abbrev given : tie.After-in-bounds → Drawing
-given c = let a = (begun c).args in drawingOf a.nodes a.edges a.outer a.tails.now a.rotations.now a.left.now
+given c = let a = (begun c).args in drawing_of a.nodes a.edges a.outer a.tails.now a.rotations.now a.left.now
 
 same : (c : tie.After-in-bounds) → held c ≡ given c
 same c =
     let a = (begun c).args in
-    drawings-same c.before.before.before.wide.ensures c.before.before.wide2.ensures c.before.wide3.ensures a.tails.now
+    drawings_same c.before.before.before.wide.ensures c.before.before.wide2.ensures c.before.wide3.ensures a.tails.now
     a.rotations.now a.left.now
 
 returns : tie.Need-returns
 returns c =
     let b = c.before in (
       (
-        unfit-answered (held b) (given b) (same b) (λ f. said-no b.in_bounds.ensures (unless-taken b.in_bounds.result c.if1.true) f.bounds) _ _
+        unfit_answered (held b) (given b) (same b) (λ f. said_no b.in_bounds.ensures (unless_taken b.in_bounds.result c.if1.true) f.bounds) _ _
             _ _ _,
         refl,
         refl,
@@ -63,7 +63,7 @@ returns c =
 
 -- ── in bounds ──
 bounded : (c : tie.Else1) → InBounds (held c.before)
-bounded c = said-yes c.before.in_bounds.ensures (unless-left c.before.in_bounds.result c.if1.false)
+bounded c = said_yes c.before.in_bounds.ensures (unless_left c.before.in_bounds.result c.if1.false)
 
 abbrev within : tie.After-check-map → tie.Else1
 within c = c.before.before.before.before.before.before
@@ -71,24 +71,24 @@ within c = c.before.before.before.before.before.before
 check-map-requires : tie.Need-check-map-requires
 check-map-requires c κs =
     let b = bounded c.before.before.before.before.before in
-    (b.few-edges, b.few-nodes, b.outer-in, refl, refl, refl, refl, refl, b.range, same-everywhere 1024 0)
+    (b.few_edges, b.few_nodes, b.outer_in, refl, refl, refl, refl, refl, b.range, same_everywhere 1024 0)
 
 returns-2 : tie.Need-returns-2
 returns-2 c =
     let m = c.before.before.before in
     let b = (within (m)).before in
-    let r = map-refused (held b) _ _ _ _ c.before.verdict.given.1 m.check-map.ensures.5 in
-    ((unfit-answered (held b) (given b) (same b) r _ _ _ _ _, refl, refl), tt, tt)
+    let r = map_refused (held b) _ _ _ _ c.before.verdict.given.1 m.check-map.ensures.5 in
+    ((unfit_answered (held b) (given b) (same b) r _ _ _ _ _, refl, refl), tt, tt)
 
 -- ── fit ──
 passed : (c : tie.After-enum-told)
-    → NoneOf (mapChecks (held (within c.before.before).before).map)
+    → NoneOf (map_checks (held (within c.before.before).before).map)
     × ((d : ℕ) → d < darts (held (within c.before.before).before).map
     → at c.before.before.check-map.new.1.1.1.1.1.0 d ≡ left (held (within c.before.before).before).map d)
     × (c.before.before.check-map.result.faces ≡ faces (held (within c.before.before).before).map)
 passed c =
     let m = c.before.before in
-    map-passed (held (within m).before) (at m.check-map.new.1.1.1.1.1.0) m.check-map.result.faces c.enum_told.given.1
+    map_passed (held (within m).before) (at m.check-map.new.1.1.1.1.1.0) m.check-map.result.faces c.enum_told.given.1
     m.check-map.ensures.5
 
 fit : (c : tie.After-enum-told) → Fit (held (within c.before.before).before)
@@ -99,7 +99,7 @@ solve-requires c κs =
     let t = c.before.before.before.before.before.before.before.before.before in
     let m = t.before.before in
     let p = passed t in record {
-      drawn = fit-drawn (held (within m).before) (fit t) _ _ p.1 p.2;
+      drawn = fit_drawn (held (within m).before) (fit t) _ _ p.1 p.2;
       walked = if-passed t.enum_told.given.1 m.check-map.ensures.6;
     }
 
@@ -110,12 +110,12 @@ returns-3 c =
     let t = w.before.before in
     let b = (within t.before.before).before in
     let s = begun b in
-    let q = number-of-bits _ s.fits.value in
+    let q = number_of_bits _ s.fits.value in
     let from = w.before.wide4.ensures in
     let to = w.wide5.ensures in (
       answered (held b) (given b) (same b) (fit t) from to q _ _ _ _ k.solve.result k.solve.ensures.0,
-      named-answered (held b) (given b) (same b) from to q _ k.solve.result k.solve.ensures.1,
-      fit-answered (held b) (given b) (same b) (fit t) k.solve.result,
+      named_answered (held b) (given b) (same b) from to q _ k.solve.result k.solve.ensures.1,
+      fit_answered (held b) (given b) (same b) (fit t) k.solve.result,
     )
 
 pub answer-left-spec : {M : Type 1} → statement M

@@ -19,13 +19,13 @@ loop-holds : tie.Need-loop-init invariant-loop decreases-loop
 loop-holds c = (omega arith, refl, c.requires, λ k l. absurd (omega arith))
 
 returns : tie.Need-returns invariant-loop decreases-loop
-returns c = λ h. omega (arith, h.tail-in c.before.before.before.before.loop.d (omega arith), c.if1.true, c.before.wide.ensures)
+returns c = λ h. omega (arith, h.tail_in c.before.before.before.before.loop.d (omega arith), c.if1.true, c.before.wide.ensures)
 
 returns-2 : tie.Need-returns-2 invariant-loop decreases-loop
 returns-2 c =
     λ h. omega (
       arith,
-      h.rotation-in c.before.before.before.before.before.before.before.loop.d (omega arith),
+      h.rotation_in c.before.before.before.before.before.before.before.loop.d (omega arith),
       c.if2.true,
       c.before.wide2.ensures,
     )
@@ -44,7 +44,7 @@ loop-again c =
     )
 
 returns-3 : tie.Need-returns-3 invariant-loop decreases-loop
-returns-3 c = let o = c.before.loop in record { tail-in = λ k l. (o.invariant.3 k (omega arith)).0; rotation-in = λ k l. (o.invariant.3 k (omega arith)).1 }
+returns-3 c = let o = c.before.loop in record { tail_in = λ k l. (o.invariant.3 k (omega arith)).0; rotation_in = λ k l. (o.invariant.3 k (omega arith)).1 }
 
 pub in-range-spec : {M : Type 1} → statement M
 in-range-spec =

@@ -5,10 +5,10 @@ use Prim.Native.Nat.{◌≤◌, ◌-◌}
 use native.Mathlib.Omega.{arith}
 use lib.ListN.{drop}
 use borrow.Author.Rules.{rules}
-use Rattle.signed.proofs.Laws.{number-of-bits}
+use Rattle.signed.proofs.Laws.{number_of_bits}
 use Rattle.arrays.specs.At.{atℤ}
 use Rattle.arrays.specs.Filled.{tabulate}
-use Rattle.arrays.proofs.FillLoops.{copy_start, copy_step, filled-length}
+use Rattle.arrays.proofs.FillLoops.{copy_start, copy_step, filled_length}
 use Rattle.sessions.proofs.keep.Statement.{statement}
 use Rattle.sessions.proofs.keep.Tie as tie
 
@@ -23,18 +23,18 @@ loop-holds c = (omega arith, copy_start _ _)
 
 slice-set-from-offer : tie.Need-slice-set-from-offer invariant-loop decreases-loop
 slice-set-from-offer c =
-    omega (arith, filled-length _ _ _ _ c.before.before.loop.invariant.1 (omega (arith, c.before.before.before.requires.1)), c.before.before.before.requires.1)
+    omega (arith, filled_length _ _ _ _ c.before.before.loop.invariant.1 (omega (arith, c.before.before.before.requires.1)), c.before.before.before.requires.1)
 
 loop-again : tie.Need-loop-preserved invariant-loop decreases-loop
 loop-again c =
     let o = c.before.before.loop in (
       omega arith,
       copy_step _ o.e _ _ _ o.invariant.1 (omega (arith, c.before.before.before.requires.1))
-          (number-of-bits _ (record { sfits = c.offer.given })),
+          (number_of_bits _ (record { sfits = c.offer.given })),
     )
 
 same_length : tie.Need-same-length invariant-loop decreases-loop
-same_length c = filled-length _ _ _ _ c.before.loop.invariant.1 (omega (arith, c.before.before.requires.1))
+same_length c = filled_length _ _ _ _ c.before.loop.invariant.1 (omega (arith, c.before.before.requires.1))
 
 returns : tie.Need-returns invariant-loop decreases-loop
 returns c =

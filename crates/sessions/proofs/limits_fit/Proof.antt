@@ -4,8 +4,8 @@ use native.Mathlib.Omega.{arith}
 use borrow.Author.Count.{below_more}
 use borrow.Author.Rules.{rules}
 use Rattle.refusals.specs.Order.{Decides}
-use Rattle.refusals.proofs.Order.{said-yes, said-no}
-use Rattle.signed.proofs.Laws.{number-of-bits}
+use Rattle.refusals.proofs.Order.{said_yes, said_no}
+use Rattle.signed.proofs.Laws.{number_of_bits}
 use Rattle.arrays.specs.At.{atℤ}
 use Rattle.sessions.specs.Fit.{PairFits}
 use Rattle.sessions.proofs.limits_fit.Lts as lts
@@ -31,8 +31,8 @@ judged-here c =
     let limit = atℤ c.before.before.before.before.before.args.left.now in
     let e = c.before.before.before.before.loop.e in
     rw (
-      number-of-bits (limit (2 * e)) (record { sfits = c.before.before.pair-fits-arg.given }),
-      number-of-bits (limit (2 * e + 1)) (record { sfits = c.before.pair-fits-arg2.given }),
+      number_of_bits (limit (2 * e)) (record { sfits = c.before.before.pair-fits-arg.given }),
+      number_of_bits (limit (2 * e + 1)) (record { sfits = c.before.pair-fits-arg2.given }),
     ) at c.pair_Fits.ensures
 
 loop-holds : tie.Need-loop-init invariant-loop decreases-loop
@@ -41,10 +41,10 @@ loop-holds c = (omega arith, c.requires, λ k l. absurd (omega arith))
 loop-again : tie.Need-loop-preserved invariant-loop decreases-loop
 loop-again c =
     let o = c.before.before.before.before.before.loop in
-    (omega arith, o.invariant.1, below_more _ o.e o.invariant.2 (said-yes (judged-here c.before) c.if1.true))
+    (omega arith, o.invariant.1, below_more _ o.e o.invariant.2 (said_yes (judged-here c.before) c.if1.true))
 
 returns : tie.Need-returns invariant-loop decreases-loop
-returns c = λ h. said-no (judged-here c.before) c.if1.false (h c.before.before.before.before.before.loop.e (omega arith))
+returns c = λ h. said_no (judged-here c.before) c.if1.false (h c.before.before.before.before.before.loop.e (omega arith))
 
 returns-2 : tie.Need-returns-2 invariant-loop decreases-loop
 returns-2 c = λ e l. c.before.loop.invariant.2 e (omega arith)

@@ -1,28 +1,28 @@
 -- Each test in turn.
 use native.Mathlib.Omega.{arith}
-use Rattle.refusals.proofs.Order.{said-yes, said-no, first-none}
+use Rattle.refusals.proofs.Order.{said_yes, said_no, first_none}
 use borrow.Author.Rules.{rules}
-use Rattle.sessions.proofs.Lowering.{tested-lowerable, lowerable-none}
+use Rattle.sessions.proofs.Lowering.{tested_lowerable, lowerable_none}
 use Rattle.sessions.proofs.lowerable.Statement.{statement}
 use Rattle.sessions.proofs.lowerable.Tie as tie
 
 returns : tie.Need-returns
-returns c = λ h. omega (arith, h.few-edges, c.if1.true)
+returns c = λ h. omega (arith, h.few_edges, c.if1.true)
 
 returns-2 : tie.Need-returns-2
 returns-2 c =
     let w = c.before.before.before in
-    λ h. first-none _ _ _ (rw c.before.within.given.1 at w.check-within.ensures) (lowerable-none _ _ _ h)
+    λ h. first_none _ _ _ (rw c.before.within.given.1 at w.check-within.ensures) (lowerable_none _ _ _ h)
 
 returns-3 : tie.Need-returns-3
 returns-3 c =
     let w = c.before.before in
     let l = w.before.before in
-    tested-lowerable _ _ _ (omega (arith, l.before.if1.false)) (said-yes l.limits-fit.ensures w.before.if2.true)
+    tested_lowerable _ _ _ (omega (arith, l.before.if1.false)) (said_yes l.limits-fit.ensures w.before.if2.true)
     (rw c.enum_told.given.1 at w.check-within.ensures)
 
 returns-4 : tie.Need-returns-4
-returns-4 c = λ h. said-no c.before.limits-fit.ensures c.if2.false h.limits
+returns-4 c = λ h. said_no c.before.limits-fit.ensures c.if2.false h.limits
 
 pub lowerable-spec : {M : Type 1} → statement M
 lowerable-spec =

@@ -1,25 +1,25 @@
 -- Each test that fails says which part does not hold.
 use borrow.Author.Rules.{rules}
-use Rattle.integers.proofs.Laws.{lt-of-test, ge-of-test, lt-le-clash}
-use Rattle.refusals.proofs.Order.{said-yes, said-no}
-use Rattle.signed.proofs.Laws.{number-of-bits}
-use Rattle.sessions.proofs.Pairs.{too-great, fits-pair}
+use Rattle.integers.proofs.Laws.{lt_of_test, ge_of_test, lt_le_clash}
+use Rattle.refusals.proofs.Order.{said_yes, said_no}
+use Rattle.signed.proofs.Laws.{number_of_bits}
+use Rattle.sessions.proofs.Pairs.{too_great, fits_pair}
 use Rattle.sessions.proofs.pair_fits.Statement.{statement}
 use Rattle.sessions.proofs.pair_fits.Tie as tie
 
 returns : tie.Need-returns
-returns c = λ h. lt-le-clash (lt-of-test _ _ (rw (number-of-bits _ c.before.ranges.back) at c.if1.true)) h.1
+returns c = λ h. lt_le_clash (lt_of_test _ _ (rw (number_of_bits _ c.before.ranges.back) at c.if1.true)) h.1
 
 returns-2 : tie.Need-returns-2
 returns-2 c =
     let f = c.before.before.before.ranges in
-    too-great _ _ (rw (number-of-bits _ f.forward, number-of-bits _ f.back) at (said-yes c.before.exceeds.ensures c.if2.true))
+    too_great _ _ (rw (number_of_bits _ f.forward, number_of_bits _ f.back) at (said_yes c.before.exceeds.ensures c.if2.true))
 
 returns-3 : tie.Need-returns-3
 returns-3 c =
     let s = c.before.before.before in
-    fits-pair _ _ (ge-of-test _ _ (rw (number-of-bits _ s.ranges.back) at c.before.before.if1.false))
-    (rw (number-of-bits _ s.ranges.forward, number-of-bits _ s.ranges.back) at (said-no c.before.exceeds.ensures c.if2.false))
+    fits_pair _ _ (ge_of_test _ _ (rw (number_of_bits _ s.ranges.back) at c.before.before.if1.false))
+    (rw (number_of_bits _ s.ranges.forward, number_of_bits _ s.ranges.back) at (said_no c.before.exceeds.ensures c.if2.false))
 
 pub pair-fits-spec : {M : Type 1} → statement M
 pair-fits-spec = tie.close (tie.spec returns (λ c κs. search rules) returns-2 returns-3)

@@ -6,15 +6,15 @@ use lib.IntN.{pos}
 use borrow.Author.Rules.{rules}
 use mir.Syntax.{w32}
 use mir.Val.{to_z, of_z}
-use Rattle.signed.proofs.Laws.{number-of-bits}
+use Rattle.signed.proofs.Laws.{number_of_bits}
 use Rattle.maps.specs.Drawing.{Drawing}
-use Rattle.sheets.specs.Write.{slicesDrawing}
-use Rattle.sheets.proofs.EdgeOfSlices.{edge-judged}
+use Rattle.sheets.specs.Write.{slices_drawing}
+use Rattle.sheets.proofs.EdgeOfSlices.{edge_judged}
 use Rattle.sheets.proofs.check_edge.Statement.{statement}
 use Rattle.sheets.proofs.check_edge.Tie as tie
 
 abbrev drawn : tie.Start → Drawing
-drawn s = slicesDrawing s.args.nodes s.args.outer s.args.tails.now s.args.rotations.now s.args.capacities.now
+drawn s = slices_drawing s.args.nodes s.args.outer s.args.tails.now s.args.rotations.now s.args.capacities.now
 
 -- ── the places, from the last field to the first ──
 abbrev back-rotation-at : tie.After-forward → tie.After-wide4
@@ -36,15 +36,15 @@ abbrev start : tie.After-forward → tie.Start
 start c = begun (tail_at (head_at (rotation-at (back-rotation-at c))))
 
 -- ── the capacities, whose bits are the numbers in the slice ──
-forward-is : (c : tie.After-forward)
+forward_is : (c : tie.After-forward)
     → to_z w32 (of_z w32 (get_or (start c).args.capacities.now (2 * (start c).args.e) (pos 0)))
     ≡ get_or (start c).args.capacities.now (2 * (start c).args.e) (pos 0)
-forward-is c = number-of-bits _ (record { sfits = c.forward.given })
+forward_is c = number_of_bits _ (record { sfits = c.forward.given })
 
-backward-is : (c : tie.After-backward)
+backward_is : (c : tie.After-backward)
     → to_z w32 (of_z w32 (get_or (start c.before).args.capacities.now (2 * (start c.before).args.e + 1) (pos 0)))
     ≡ get_or (start c.before).args.capacities.now (2 * (start c.before).args.e + 1) (pos 0)
-backward-is c = number-of-bits _ (record { sfits = c.backward.given })
+backward_is c = number_of_bits _ (record { sfits = c.backward.given })
 
 -- ── the verdict on the fields is the verdict on the edge ──
 returns : tie.Need-returns
@@ -56,8 +56,8 @@ returns c =
     let head = head_at rotation in
     let tail = tail_at head in
     let s = begun tail in
-    edge-judged (drawn s) s.args.e c.check-fields.result
-    tail.wide.ensures head.wide2.ensures rotation.wide3.ensures back.wide4.ensures (forward-is forward) (backward-is backward)
+    edge_judged (drawn s) s.args.e c.check-fields.result
+    tail.wide.ensures head.wide2.ensures rotation.wide3.ensures back.wide4.ensures (forward_is forward) (backward_is backward)
     c.check-fields.ensures
 
 pub check-edge-spec : {M : Type 1} → statement M

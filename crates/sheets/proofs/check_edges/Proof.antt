@@ -4,15 +4,15 @@ use native.Mathlib.Omega.{arith}
 use borrow.Author.Rules.{rules}
 use borrow.Author.Count.{below_more}
 use Rattle.refusals.specs.Order.{NoneOf}
-use Rattle.refusals.proofs.Order.{first-in-turn, none-in-turn}
-use Rattle.records.specs.Check.{edgeChecks}
-use Rattle.sheets.specs.Write.{slicesDrawing}
+use Rattle.refusals.proofs.Order.{first_in_turn, none_in_turn}
+use Rattle.records.specs.Check.{edge_checks}
+use Rattle.sheets.specs.Write.{slices_drawing}
 use Rattle.sheets.proofs.check_edges.Statement.{statement}
 use Rattle.sheets.proofs.check_edges.Tie as tie
 
 abbrev invariant-loop : tie.invariant-loop
 invariant-loop nodes outer tails rotations capacities edges e₀ e =
-    (e ≤ edges) × ((i : ℕ) → i < e → NoneOf (edgeChecks (slicesDrawing nodes outer tails rotations capacities) i))
+    (e ≤ edges) × ((i : ℕ) → i < e → NoneOf (edge_checks (slices_drawing nodes outer tails rotations capacities) i))
 
 abbrev decreases-loop : tie.decreases-loop
 decreases-loop nodes outer tails rotations capacities edges e₀ e = edges - e
@@ -29,7 +29,7 @@ returns : tie.Need-returns invariant-loop decreases-loop
 returns c =
     let edge = c.before.before.before in
     let o = (turn edge).loop in
-    first-in-turn _ _ o.e _ _ (omega arith) o.inv.1 (rw c.before.edge.given.1 at edge.check-edge.ensures)
+    first_in_turn _ _ o.e _ _ (omega arith) o.inv.1 (rw c.before.edge.given.1 at edge.check-edge.ensures)
 
 loop-again : tie.Need-loop-preserved invariant-loop decreases-loop
 loop-again c =
@@ -37,7 +37,7 @@ loop-again c =
     (omega arith, below_more _ _ (turn edge).loop.invariant.1 (rw c.enum_told.given.1 at edge.check-edge.ensures))
 
 returns-2 : tie.Need-returns-2 invariant-loop decreases-loop
-returns-2 c = none-in-turn _ _ (λ i l. c.before.loop.invariant.1 i (omega arith))
+returns-2 c = none_in_turn _ _ (λ i l. c.before.loop.invariant.1 i (omega arith))
 
 pub check-edges-spec : {M : Type 1} → statement M
 check-edges-spec =

@@ -6,8 +6,8 @@ use lib.ListN.{length}
 use borrow.Author.Rules.{rules}
 use Rattle.arrays.specs.At.{at}
 use Rattle.arrays.specs.Filled.{filled}
-use Rattle.arrays.proofs.FillLoops.{copy_start, copy_step, filled-length}
-use Rattle.sheets.proofs.Reading.{filled-all}
+use Rattle.arrays.proofs.FillLoops.{copy_start, copy_step, filled_length}
+use Rattle.sheets.proofs.Reading.{filled_all}
 use Rattle.sheets.proofs.copy_darts.Statement.{statement}
 use Rattle.sheets.proofs.copy_darts.Tie as tie
 
@@ -25,14 +25,14 @@ loop-again : tie.Need-loop-preserved invariant-loop decreases-loop
 loop-again c =
     let o = c.before.before.loop in
     let more = copy_step _ o.d _ _ _ o.invariant.3 (omega (arith, o.invariant.2)) refl in
-    (omega arith, o.invariant.1, filled-length _ _ _ _ more (omega (arith, o.invariant.2)), more)
+    (omega arith, o.invariant.1, filled_length _ _ _ _ more (omega (arith, o.invariant.2)), more)
 
 returns : tie.Need-returns invariant-loop decreases-loop
 returns c =
     let o = c.before.loop in
     let old = c.before.before.args.to.now in
     let all : o.d ≡ length old = omega (arith, o.invariant.2) in
-    o.invariant.3 ∙ filled-all _ _ old all
+    o.invariant.3 ∙ filled_all _ _ old all
 
 pub copy-darts-spec : {M : Type 1} → statement M
 copy-darts-spec =

@@ -4,7 +4,7 @@ use Prim.Native.Nat.{◌≤◌, ◌-◌}
 use native.Mathlib.Omega.{arith}
 use lib.ListN.{length, get_or}
 use borrow.Author.Rules.{rules}
-use Rattle.arrays.proofs.FillLoops.{Filling, filling-start, filling_step}
+use Rattle.arrays.proofs.FillLoops.{Filling, filling_start, filling_step}
 use Rattle.sheets.proofs.Writing.{loaded}
 use Rattle.sheets.proofs.load.Statement.{statement}
 use Rattle.sheets.proofs.load.Tie as tie
@@ -24,7 +24,7 @@ begun c = c.before
 
 -- ── the needs, in the order of the code ──
 loop-holds : tie.Need-loop-init invariant-loop decreases-loop
-loop-holds c = (omega arith, filling-start _ c.requires.0 c.requires.2)
+loop-holds c = (omega arith, filling_start _ c.requires.0 c.requires.2)
 
 loop-again : tie.Need-loop-preserved invariant-loop decreases-loop
 loop-again c = let o = turn c in (omega arith, filling_step o.loop.inv.1 _ (omega (arith, (begun o).pre.1)) refl)

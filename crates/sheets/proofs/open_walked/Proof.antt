@@ -1,7 +1,7 @@
 -- The record is made of what the checks found and of the arrays that they filled.
 use mathlib.Core.Path.{refl}
 use lib.IntN.{pos}
-use Rattle.arrays.proofs.FillLoops.{same-everywhere}
+use Rattle.arrays.proofs.FillLoops.{same_everywhere}
 use Rattle.sheets.proofs.open_walked.Statement.{statement}
 use Rattle.sheets.proofs.open_walked.Tie as tie
 
@@ -9,13 +9,13 @@ read-sheet-requires : tie.Need-read-sheet-requires
 read-sheet-requires c κs =
     let p = c.before.before.before.before.before.before.before.before.before.requires in (
       refl,
-      same-everywhere 1024 0,
+      same_everywhere 1024 0,
       refl,
-      same-everywhere 1024 0,
+      same_everywhere 1024 0,
       refl,
-      same-everywhere 1024 (pos 0),
+      same_everywhere 1024 (pos 0),
       refl,
-      same-everywhere 1024 0,
+      same_everywhere 1024 0,
       p.0,
       p.1,
       p.2,

@@ -8,11 +8,11 @@ use native.Mathlib.Omega.{arith}
 use lib.ListN.{length, take}
 use borrow.Author.Rules.{rules}
 use Rattle.refusals.specs.Order.{NoneOf}
-use Rattle.sheets.specs.Open.{sheetChecks, Holds}
+use Rattle.sheets.specs.Open.{sheet_checks, Holds}
 use Rattle.sheets.specs.declared.Network.{Network}
-use Rattle.sheets.proofs.Accepted.{sheet-counts, sheet-outer}
-use Rattle.sheets.proofs.Opening.{opens-passed, opens-refused}
-use Rattle.sheets.proofs.Reading.{read-refused, read_short, read_whole, part-short, part-copied}
+use Rattle.sheets.proofs.Accepted.{sheet_counts, sheet_outer}
+use Rattle.sheets.proofs.Opening.{opens_passed, opens_refused}
+use Rattle.sheets.proofs.Reading.{read_refused, read_short, read_whole, part_short, part_copied}
 use Rattle.sheets.proofs.read.Statement.{statement}
 use Rattle.sheets.proofs.read.Tie as tie
 
@@ -23,15 +23,15 @@ sheet c = c.before.before.before.before.before.before.before.before.args.sheet.n
 abbrev net : tie.After-open-walked → Network
 net c = c.open-walked.result
 
-accepted : (c : tie.Else1) → NoneOf (sheetChecks (sheet c.before)) × Holds (sheet c.before) (net c.before)
-accepted c = opens-passed (sheet c.before) (net c.before) c.if1.false c.before.open-walked.ensures.4
+accepted : (c : tie.Else1) → NoneOf (sheet_checks (sheet c.before)) × Holds (sheet c.before) (net c.before)
+accepted c = opens_passed (sheet c.before) (net c.before) c.if1.false c.before.open-walked.ensures.4
 
 few : (c : tie.Else1) → ((net c.before).sizes.edges ≤ 512) × ((net c.before).sizes.nodes ≤ 513) × ((net c.before).sizes.outer ≤ 1023)
 few c =
     let s = sheet c.before in
     let a = accepted c in
-    let n = sheet-counts s a.0 in
-    (omega (arith, a.1.edges_are, n.3), omega (arith, a.1.nodes-are, n.1), omega (arith, a.1.outer-is, sheet-outer s a.0, n.3))
+    let n = sheet_counts s a.0 in
+    (omega (arith, a.1.edges_are, n.3), omega (arith, a.1.nodes_are, n.1), omega (arith, a.1.outer_is, sheet_outer s a.0, n.3))
 
 -- ── there is room in all three slices ──
 abbrev told : tie.Else4 → tie.Else1
@@ -57,7 +57,7 @@ open-walked-requires c κs = (refl, refl, refl, refl)
 returns : tie.Need-returns
 returns c =
     let o = c.before in
-    (read-refused _ _ _ _ _ _ (opens-refused (sheet o) (net o) c.if1.true o.open-walked.ensures.4), refl, refl, refl)
+    (read_refused _ _ _ _ _ _ (opens_refused (sheet o) (net o) c.if1.true o.open-walked.ensures.4), refl, refl, refl)
 
 mul-darts : tie.Need-overflow-mul-darts
 mul-darts c = omega (arith, (few c.before.before).0)
@@ -75,7 +75,7 @@ returns-4 c =
 
 -- the part of a slice that is lent has room for every dart and no more
 lent : {A : Type 0} (c : tie.Else1) (l : List A) → length (take (2 * (net c.before).sizes.edges - 0) l) ≤ 1024
-lent c l = omega (arith, part-short (2 * (net c.before).sizes.edges) l, (few c).0)
+lent c l = omega (arith, part_short (2 * (net c.before).sizes.edges) l, (few c).0)
 
 copy-darts-requires : tie.Need-copy-darts-requires
 copy-darts-requires c κs = lent (told c.before.before.before) _
@@ -107,12 +107,12 @@ returns-5 c =
     let all : 2 * (net t.before).sizes.edges ≡ _ = ap (λ m. 2 * m) e in (
       read_whole (sheet t.before) _ _ _ a.0
           (omega (arith, e, r.before.before.if2.left)) (omega (arith, e, r.before.if3.left)) (omega (arith, e, r.if4.left)),
-      c.before.before.narrow.ensures ∙ a.1.nodes-are,
+      c.before.before.narrow.ensures ∙ a.1.nodes_are,
       c.before.narrow2.ensures ∙ e,
-      c.narrow3.ensures ∙ a.1.outer-is,
-      part-copied _ _ _ _ _ _ r.before.before.if2.left all a.1.tails-are tails.copy-darts.ensures,
-      part-copied _ _ _ _ _ _ r.before.if3.left all a.1.rotations-are rotations.copy-darts2.ensures,
-      part-copied _ _ _ _ _ _ r.if4.left all a.1.capacities-are k.copy-capacities.ensures,
+      c.narrow3.ensures ∙ a.1.outer_is,
+      part_copied _ _ _ _ _ _ r.before.before.if2.left all a.1.tails_are tails.copy-darts.ensures,
+      part_copied _ _ _ _ _ _ r.before.if3.left all a.1.rotations_are rotations.copy-darts2.ensures,
+      part_copied _ _ _ _ _ _ r.if4.left all a.1.capacities_are k.copy-capacities.ensures,
     )
 
 pub read_spec : {M : Type 1} → statement M

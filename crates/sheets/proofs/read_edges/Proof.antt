@@ -8,12 +8,12 @@ use lib.IntN.{pos}
 use borrow.Author.Count.{below_more}
 use borrow.Author.Rules.{rules}
 use Rattle.refusals.specs.Order.{NoneOf, FirstOf}
-use Rattle.signed.proofs.Laws.{number-of-bits}
-use Rattle.arrays.proofs.FillLoops.{Filling, filling-start, filling_step}
-use Rattle.records.specs.Sheet.{edgesOf, field16, field32, edgeRecordChecks}
+use Rattle.signed.proofs.Laws.{number_of_bits}
+use Rattle.arrays.proofs.FillLoops.{Filling, filling_start, filling_step}
+use Rattle.records.specs.Sheet.{edges_of, field16, field32, edge_record_checks}
 use Rattle.records.specs.inner.Reading.{FieldsOf, EdgeRead}
-use Rattle.records.proofs.Bytes.{head-whole, head-counts, refused-edge, refused-left, all-passed}
-use Rattle.sheets.proofs.Opening.{tails-are, rotations-are, capacities-are}
+use Rattle.records.proofs.Bytes.{head_whole, head_counts, refused_edge, refused_left, all_passed}
+use Rattle.sheets.proofs.Opening.{tails_are, rotations_are, capacities_are}
 use Rattle.sheets.proofs.read_edges.Statement.{statement}
 use Rattle.sheets.proofs.read_edges.Tie as tie
 
@@ -21,7 +21,7 @@ abbrev invariant-loop : tie.invariant-loop
 invariant-loop s head nodes edges tails₀ rotations₀ capacities₀ e₀ tails rotations capacities e =
     (e ≤ edges)
     × (edges ≤ 512)
-    × ((i : ℕ) → i < e → NoneOf (edgeRecordChecks s i))
+    × ((i : ℕ) → i < e → NoneOf (edge_record_checks s i))
     × Filling 0 (field16 s 1) (2 * e) tails
     × Filling 0 (field16 s 5) (2 * e) rotations
     × Filling (pos 0) (field32 s 9) (2 * e) capacities
@@ -41,7 +41,7 @@ read c = c.before.before.before.before
 
 -- ── the edge that was read passed ──
 passed : (c : tie.After-struct-told2 invariant-loop decreases-loop)
-    → NoneOf (edgeRecordChecks (begun (turn (read c))).args.s.now (turn (read c)).loop.e)
+    → NoneOf (edge_record_checks (begun (turn (read c))).args.s.now (turn (read c)).loop.e)
     × FieldsOf (begun (turn (read c))).args.s.now (turn (read c)).loop.e (read c).read-edge.result
 passed c =
     subst (EdgeRead (begun (turn (read c))).args.s.now (turn (read c)).loop.e (read c).read-edge.result) c.before.before.enum_told.given.1
@@ -56,17 +56,17 @@ loop-holds : tie.Need-loop-init invariant-loop decreases-loop
 loop-holds c =
     let p = c.before.requires in (
       omega arith,
-      omega (arith, p.3, (head-counts _ p.0).3),
+      omega (arith, p.3, (head_counts _ p.0).3),
       λ i l. absurd (omega arith),
-      filling-start _ p.4 p.5,
-      filling-start _ p.6 p.7,
-      filling-start _ p.8 p.9,
+      filling_start _ p.4 p.5,
+      filling_start _ p.6 p.7,
+      filling_start _ p.8 p.9,
     )
 
 read-edge-requires : tie.Need-read-edge-requires invariant-loop decreases-loop
 read-edge-requires c κs =
     let p = (begun c.before).pre in
-    (c.before.loop.invariant.1, omega arith, omega (arith, p.1, head-whole _ p.0), p.1, p.2, p.3)
+    (c.before.loop.invariant.1, omega arith, omega (arith, p.1, head_whole _ p.0), p.1, p.2, p.3)
 
 returns : tie.Need-returns invariant-loop decreases-loop
 returns c =
@@ -76,7 +76,7 @@ returns c =
       o.inv.3.long,
       o.inv.4.long,
       o.inv.5.long,
-      refused-edge _ p.0 o.e _ _ (omega (arith, p.3)) o.inv.2
+      refused_edge _ p.0 o.e _ _ (omega (arith, p.3)) o.inv.2
           (subst (EdgeRead (begun (turn edge)).args.s.now o.e edge.read-edge.result) c.before.verdict.given.1 edge.read-edge.ensures),
     )
 
@@ -91,17 +91,17 @@ loop-again c =
       omega arith,
       few,
       below_more _ e o.inv.2 (passed c).0,
-      two-more e _ (filling_step (filling_step o.inv.3 r.tail (omega (arith, few)) f.tail-is) r.head (omega (arith, few)) f.head-is),
+      two-more e _ (filling_step (filling_step o.inv.3 r.tail (omega (arith, few)) f.tail_is) r.head (omega (arith, few)) f.head_is),
       two-more e _
-          (filling_step (filling_step o.inv.4 r.rotation (omega (arith, few)) f.rotation-is) r.back_rotation (omega (arith, few)) f.back_is),
+          (filling_step (filling_step o.inv.4 r.rotation (omega (arith, few)) f.rotation_is) r.back_rotation (omega (arith, few)) f.back_is),
       two-more e _
           (filling_step
-          (filling_step o.inv.5 _ (omega (arith, few)) (number-of-bits r.forward (record { sfits = told.1.1.1.1.1.0.1 }) ∙ f.forward-is))
-          _ (omega (arith, few)) (number-of-bits r.backward (record { sfits = told.1.1.1.1.1.1.0.1 }) ∙ f.backward-is)),
+          (filling_step o.inv.5 _ (omega (arith, few)) (number_of_bits r.forward (record { sfits = told.1.1.1.1.1.0.1 }) ∙ f.forward_is))
+          _ (omega (arith, few)) (number_of_bits r.backward (record { sfits = told.1.1.1.1.1.1.0.1 }) ∙ f.backward_is)),
     )
 
 edge-at-requires : tie.Need-edge-at-requires invariant-loop decreases-loop
-edge-at-requires c κs = let p = (begun c.before).pre in (omega (arith, p.1, head-whole _ p.0), c.before.loop.invariant.1)
+edge-at-requires c κs = let p = (begun c.before).pre in (omega (arith, p.1, head_whole _ p.0), c.before.loop.invariant.1)
 
 returns-2 : tie.Need-returns-2 invariant-loop decreases-loop
 unfolding FirstOf
@@ -111,7 +111,7 @@ returns-2 c =
       o.invariant.3.long,
       o.invariant.4.long,
       o.invariant.5.long,
-      refused-left _ p.0 (λ k l. o.invariant.2 k (omega (arith, p.3))) (inl (omega (arith, c.before.edge-at.ensures, p.1, p.3), refl, refl)),
+      refused_left _ p.0 (λ k l. o.invariant.2 k (omega (arith, p.3))) (inl (omega (arith, c.before.edge-at.ensures, p.1, p.3), refl, refl)),
     )
 
 returns-3 : tie.Need-returns-3 invariant-loop decreases-loop
@@ -120,16 +120,16 @@ returns-3 c =
     let o = c.before.before.before.loop in
     let p = (begun c.before.before.before).pre in
     let s = (begun c.before.before.before).args.s.now in
-    let all : 2 * o.e ≡ 2 * edgesOf s = omega (arith, p.3) in (
+    let all : 2 * o.e ≡ 2 * edges_of s = omega (arith, p.3) in (
       o.invariant.3.long,
       o.invariant.4.long,
       o.invariant.5.long,
       (
-        all-passed _ p.0 (λ k l. o.invariant.2 k (omega (arith, p.3))) (λ l. omega (arith, c.before.edge-at.ensures, p.1, p.3), tt),
+        all_passed _ p.0 (λ k l. o.invariant.2 k (omega (arith, p.3))) (λ l. omega (arith, c.before.edge-at.ensures, p.1, p.3), tt),
         record {
-          tails-are = tails-are s _ all _ o.invariant.3;
-          rotations-are = rotations-are s _ all _ o.invariant.4;
-          capacities-are = capacities-are s _ all _ o.invariant.5;
+          tails_are = tails_are s _ all _ o.invariant.3;
+          rotations_are = rotations_are s _ all _ o.invariant.4;
+          capacities_are = capacities_are s _ all _ o.invariant.5;
         },
       ),
     )

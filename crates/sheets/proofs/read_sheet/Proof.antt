@@ -10,13 +10,13 @@ use Rattle.refusals.specs.declared.Verdict.{Verdict}
 use Rattle.maps.specs.Map.{Map}
 use Rattle.maps.specs.Check.{InRange}
 use Rattle.arrays.specs.At.{at}
-use Rattle.arrays.specs.Maps.{mapOf}
+use Rattle.arrays.specs.Maps.{map_of}
 use Rattle.rotations.specs.MapChecks.{MapJudged}
-use Rattle.records.specs.Sheet.{sheetMap, headChecks, byteChecks}
+use Rattle.records.specs.Sheet.{sheet_map, head_checks, byte_checks}
 use Rattle.records.specs.inner.Reading.{HeadOf, HeadRead}
-use Rattle.records.proofs.Bytes.{bytes-range, bytes-outer, refused-head}
-use Rattle.sheets.specs.inner.Reading.{FieldsRead, EdgesRead, networkOf}
-use Rattle.sheets.proofs.Opening.{maps-are, bytes-room, opens-bytes, opens-map, not-accepted, sheet-passed, if-passed}
+use Rattle.records.proofs.Bytes.{bytes_range, bytes_outer, refused_head}
+use Rattle.sheets.specs.inner.Reading.{FieldsRead, EdgesRead, network_of}
+use Rattle.sheets.proofs.Opening.{maps_are, bytes_room, opens_bytes, opens_map, not_accepted, sheet_passed, if-passed}
 use Rattle.sheets.proofs.read_sheet.Statement.{statement}
 use Rattle.sheets.proofs.read_sheet.Tie as tie
 
@@ -31,7 +31,7 @@ abbrev headed : tie.After-enum-told → tie.After-read-head
 headed c = c.before.before
 
 head_passed : (c : tie.After-enum-told)
-    → NoneOf (headChecks (begun (headed c)).args.s.now) × HeadOf (begun (headed c)).args.s.now (headed c).read_head.result
+    → NoneOf (head_checks (begun (headed c)).args.s.now) × HeadOf (begun (headed c)).args.s.now (headed c).read_head.result
 head_passed c = head_read (headed c) _ c.enum_told.given.1
 
 -- ── the edges passed ──
@@ -60,7 +60,7 @@ abbrev read : tie.After-enum-told2 → tie.After-read-edges
 read c = c.before.before
 
 edges-passed : (c : tie.After-enum-told2)
-    → NoneOf (byteChecks (sheet (read c))) × FieldsRead (sheet (read c)) (tails (read c)) (rotations (read c)) (capacities (read c))
+    → NoneOf (byte_checks (sheet (read c))) × FieldsRead (sheet (read c)) (tails (read c)) (rotations (read c)) (capacities (read c))
 edges-passed c = edges-read (read c) _ c.enum-told2.given.1
 
 -- ── the map that the arrays hold is the sheet's ──
@@ -68,12 +68,12 @@ abbrev head : (c : tie.After-enum-told2) → HeadOf (sheet (read c)) (headed (to
 head c = (head_passed (told (read c))).1
 
 abbrev map' : tie.After-enum-told2 → Map
-map' c = let h = (headed (told (read c))).read_head.result in mapOf h.nodes h.edges (tails (read c)) (rotations (read c))
+map' c = let h = (headed (told (read c))).read_head.result in map_of h.nodes h.edges (tails (read c)) (rotations (read c))
 
-map_is : (c : tie.After-enum-told2) → map' c ≡ sheetMap (sheet (read c))
+map_is : (c : tie.After-enum-told2) → map' c ≡ sheet_map (sheet (read c))
 map_is c =
     let f = (edges-passed c).1 in
-    maps-are (sheet (read c)) _ _ (tails (read c)) (rotations (read c)) (head c).nodes-are (head c).edges_are f.tails-are f.rotations-are
+    maps_are (sheet (read c)) _ _ (tails (read c)) (rotations (read c)) (head c).nodes_are (head c).edges_are f.tails_are f.rotations_are
 
 abbrev lent : tie.After-check-map → tie.After-enum-told2
 lent c = c.before.before.before.before.before.before.before.before
@@ -82,9 +82,9 @@ abbrev lefts : tie.After-check-map → List ℕ
 lefts c = c.check-map.new.1.1.1.1.1.0
 
 judged : (c : tie.After-check-map) (v : Verdict) → c.check-map.result.verdict ≡ v
-    → MapJudged (sheetMap (sheet (read (lent c)))) (at (lefts c)) c.check-map.result.faces v
+    → MapJudged (sheet_map (sheet (read (lent c)))) (at (lefts c)) c.check-map.result.faces v
 judged c v e =
-    subst (MapJudged (sheetMap (sheet (read (lent c)))) (at (lefts c)) c.check-map.result.faces) e
+    subst (MapJudged (sheet_map (sheet (read (lent c)))) (at (lefts c)) c.check-map.result.faces) e
     (subst (λ 𝓜. MapJudged 𝓜 (at (lefts c)) c.check-map.result.faces c.check-map.result.verdict) (map_is (lent c)) c.check-map.ensures.5)
 
 -- ── the needs, in the order of the code ──
@@ -94,7 +94,7 @@ returns c =
     let a = (begun h).args in
     let p = (begun h).requires in
     let r = c.refused.ensures in
-    let n = networkOf c.refused.result a.tails.now a.rotations.now a.capacities.now a.lefts.now in (
+    let n = network_of c.refused.result a.tails.now a.rotations.now a.capacities.now a.lefts.now in (
       p.0,
       p.2,
       p.4,
@@ -103,8 +103,8 @@ returns c =
       p.9,
       p.10,
       p.11,
-      opens-bytes a.s.now n _ _ r (refused-head _ _ _ (head_read h _ c.before.before.whole.given.1)),
-      not-accepted r.0,
+      opens_bytes a.s.now n _ _ r (refused_head _ _ _ (head_read h _ c.before.before.whole.given.1)),
+      not_accepted r.0,
     )
 
 read-edges-requires : tie.Need-read-edges-requires
@@ -112,7 +112,7 @@ read-edges-requires c κs =
     let t = c.before.before.before in
     let h = head_passed t in
     let p = (begun (headed t)).requires in
-    (h.0, h.1.length-is, h.1.nodes-are, h.1.edges_are, p.0, p.1, p.2, p.3, p.4, p.5)
+    (h.0, h.1.length_is, h.1.nodes_are, h.1.edges_are, p.0, p.1, p.2, p.3, p.4, p.5)
 
 returns-2 : tie.Need-returns-2
 returns-2 c =
@@ -120,7 +120,7 @@ returns-2 c =
     let p = (start e).requires in
     let l = e.read-edges.ensures in
     let r = c.refused2.ensures in
-    let n = networkOf c.refused2.result (tails e) (rotations e) (capacities e) (start e).args.lefts.now in (
+    let n = network_of c.refused2.result (tails e) (rotations e) (capacities e) (start e).args.lefts.now in (
       l.0,
       l.1,
       l.2,
@@ -129,8 +129,8 @@ returns-2 c =
       p.9,
       p.10,
       p.11,
-      opens-bytes (sheet e) n _ _ r (edges-read e _ c.before.before.read.given.1),
-      not-accepted r.0,
+      opens_bytes (sheet e) n _ _ r (edges-read e _ c.before.before.read.given.1),
+      not_accepted r.0,
     )
 
 check-map-requires : tie.Need-check-map-requires
@@ -138,18 +138,18 @@ check-map-requires c κs =
     let e = c.before.before.before.before.before.before.before in
     let s = sheet (read e) in
     let b = (edges-passed e).0 in
-    let room = bytes-room s b in
+    let room = bytes_room s b in
     let h = head e in
     let p = (start (read e)).requires in (
       omega (arith, h.edges_are, room.4),
-      omega (arith, h.nodes-are, room.2),
-      omega (arith, h.edges_are, h.outer-is, bytes-outer s b),
+      omega (arith, h.nodes_are, room.2),
+      omega (arith, h.edges_are, h.outer_is, bytes_outer s b),
       p.6,
       p.8,
       p.9,
       p.10,
       p.11,
-      subst InRange (sym (map_is e)) (bytes-range s b),
+      subst InRange (sym (map_is e)) (bytes_range s b),
       p.7,
     )
 
@@ -160,7 +160,7 @@ returns-3 c =
     let l = k.read-edges.ensures in
     let e = m.check-map.ensures in
     let r = c.refused3.ensures in
-    let n = networkOf c.refused3.result (tails k) (rotations k) (capacities k) (lefts m) in (
+    let n = network_of c.refused3.result (tails k) (rotations k) (capacities k) (lefts m) in (
       l.0,
       l.1,
       l.2,
@@ -169,8 +169,8 @@ returns-3 c =
       e.2,
       e.3,
       e.4,
-      opens-map (sheet k) n _ _ r (edges-passed (lent m)).0 (judged m _ c.before.before.verdict.given.1),
-      not-accepted r.0,
+      opens_map (sheet k) n _ _ r (edges-passed (lent m)).0 (judged m _ c.before.before.verdict.given.1),
+      not_accepted r.0,
     )
 
 returns-4 : tie.Need-returns-4
@@ -191,16 +191,16 @@ returns-4 c =
       e.3,
       e.4,
       (
-        sheet-passed (sheet (read l)) (edges-passed l).0 j.0,
+        sheet_passed (sheet (read l)) (edges-passed l).0 j.0,
         record {
-          nodes-are = h.nodes-are;
+          nodes_are = h.nodes_are;
           edges_are = h.edges_are;
-          faces-are = j.2;
-          outer-is = h.outer-is;
-          tails-are = f.tails-are;
-          rotations-are = f.rotations-are;
-          capacities-are = f.capacities-are;
-          lefts-are = j.1;
+          faces_are = j.2;
+          outer_is = h.outer_is;
+          tails_are = f.tails_are;
+          rotations_are = f.rotations_are;
+          capacities_are = f.capacities_are;
+          lefts_are = j.1;
         },
       ),
       λ _. if-passed c.enum-told3.given.1 e.6,

@@ -11,26 +11,26 @@ use Rattle.refusals.specs.Order.{NoneOf, FirstOf, Judged}
 use Rattle.refusals.specs.declared.Verdict.{Verdict}
 use Rattle.refusals.specs.declared.Verdict.TheVariants.{Passed, Refused}
 use Rattle.maps.specs.Drawing.{Drawing}
-use Rattle.records.specs.Record.{recordLength}
-use Rattle.records.specs.Sheet.{edgeAfter}
-use Rattle.records.specs.Encode.{encodeHead, encode, encodeLength}
-use Rattle.records.proofs.Drawing.{counts-range}
-use Rattle.sheets.specs.Write.{edgesIn, slicesDrawing, drawingChecks, writeChecks}
-use Rattle.sheets.proofs.PlacedRecords.{head-kept}
-use Rattle.sheets.proofs.Writing.{drawing-parts, head-written, write-uneven, write-refused, write-short, write-whole}
+use Rattle.records.specs.Record.{record_length}
+use Rattle.records.specs.Sheet.{edge_after}
+use Rattle.records.specs.Encode.{encode_head, encode, encode_length}
+use Rattle.records.proofs.Drawing.{counts_range}
+use Rattle.sheets.specs.Write.{edges_in, slices_drawing, drawing_checks, write_checks}
+use Rattle.sheets.proofs.PlacedRecords.{head_kept}
+use Rattle.sheets.proofs.Writing.{drawing_parts, head_written, write_uneven, write_refused, write_short, write_whole}
 use Rattle.sheets.proofs.write.Statement.{statement}
 use Rattle.sheets.proofs.write.Tie as tie
 
 abbrev drawn : tie.Start → Drawing
-drawn s = slicesDrawing s.args.nodes s.args.outer s.args.tails.now s.args.rotations.now s.args.capacities.now
+drawn s = slices_drawing s.args.nodes s.args.outer s.args.tails.now s.args.rotations.now s.args.capacities.now
 
 -- ── the slices are of one even length, or not ──
 uneven : (s : tie.Start)
     → (length s.args.rotations.now ≢ length s.args.tails.now)
     ⊎ ((length s.args.capacities.now ≢ length s.args.tails.now) ⊎ (length s.args.tails.now % 2 ≢ 0))
-    → FirstOf (writeChecks s.args.nodes s.args.outer s.args.tails.now s.args.rotations.now s.args.capacities.now
+    → FirstOf (write_checks s.args.nodes s.args.outer s.args.tails.now s.args.rotations.now s.args.capacities.now
     s.args.out.now) 16 0
-uneven s = write-uneven s.args.nodes s.args.outer s.args.tails.now s.args.rotations.now s.args.capacities.now s.args.out.now
+uneven s = write_uneven s.args.nodes s.args.outer s.args.tails.now s.args.rotations.now s.args.capacities.now s.args.out.now
 
 abbrev begun : tie.Else3 → tie.Start
 begun c = c.before.before.before.before.before.before
@@ -45,7 +45,7 @@ same-capacities c = c.before.if2.false
 abbrev even : tie.After-check-slices → tie.Else3
 even c = c.before.before.before
 
-judged : (c : tie.After-check-slices) (v : Verdict) → c.check-slices.result ≡ v → Judged (drawingChecks (drawn (begun (even c)))) v
+judged : (c : tie.After-check-slices) (v : Verdict) → c.check-slices.result ≡ v → Judged (drawing_checks (drawn (begun (even c)))) v
 judged c v e = rw (e, c.before.before.wide.ensures, c.before.wide2.ensures) at c.check-slices.ensures
 
 -- ── the drawing passed ──
@@ -55,20 +55,20 @@ sliced c = even c.before.before
 abbrev base : tie.After-enum-told → tie.Start
 base c = begun (sliced c)
 
-passed : (c : tie.After-enum-told) → NoneOf (drawingChecks (drawn (base c)))
+passed : (c : tie.After-enum-told) → NoneOf (drawing_checks (drawn (base c)))
 passed c = judged c.before.before Passed c.enum_told.given.1
 
-few : (c : tie.After-enum-told) → edgesIn (base c).args.tails.now ≤ 512
-few c = (counts-range _ _ _ (drawing-parts (drawn (base c)) (passed c)).0).3
+few : (c : tie.After-enum-told) → edges_in (base c).args.tails.now ≤ 512
+few c = (counts_range _ _ _ (drawing_parts (drawn (base c)) (passed c)).0).3
 
 -- ── there is room ──
 abbrev told : tie.Else4 → tie.After-enum-told
 told c = c.before.before.before
 
-end : (c : tie.After-edge-at) → c.edge-at.result ≡ encodeLength (edgesIn (base c.before.before).args.tails.now)
-end c = c.edge-at.ensures ∙ ap (λ n. edgeAfter n (edgesIn (base c.before.before).args.tails.now)) c.before.record-length.ensures.0
+end : (c : tie.After-edge-at) → c.edge-at.result ≡ encode_length (edges_in (base c.before.before).args.tails.now)
+end c = c.edge-at.ensures ∙ ap (λ n. edge_after n (edges_in (base c.before.before).args.tails.now)) c.before.record-length.ensures.0
 
-long : (c : tie.Else4) → c.before.edge-at.result ≡ encodeLength (edgesIn (base (told c)).args.tails.now)
+long : (c : tie.Else4) → c.before.edge-at.result ≡ encode_length (edges_in (base (told c)).args.tails.now)
 long c = end c.before
 
 -- ── the head is written ──
@@ -81,12 +81,12 @@ start c = base (told (roomy c))
 head-length : (c : tie.After-write-head) → length c.write-head.new.0 ≡ length (start c).args.out.now
 head-length c =
     let a = (start c).args in
-    head-kept a.nodes c.before.narrow.result a.outer a.out.now _ c.write-head.ensures (omega (arith, long (roomy c)))
+    head_kept a.nodes c.before.narrow.result a.outer a.out.now _ c.write-head.ensures (omega (arith, long (roomy c)))
 
-headed : (c : tie.After-write-head) → c.write-head.new.0 ≡ encodeHead (drawn (start c)) ++ drop (recordLength 4) (start c).args.out.now
+headed : (c : tie.After-write-head) → c.write-head.new.0 ≡ encode_head (drawn (start c)) ++ drop (record_length 4) (start c).args.out.now
 headed c =
     let n = c.before.narrow in
-    head-written (drawn (start c)) (start c).args.out.now _ n.result n.ensures c.write-head.ensures
+    head_written (drawn (start c)) (start c).args.out.now _ n.result n.ensures c.write-head.ensures
 
 -- ── the needs, in the order of the code ──
 returns : tie.Need-returns
@@ -106,7 +106,7 @@ returns-4 c =
     let j = c.before.before.before in
     let e = even j in
     let a = (begun e).args in (
-      write-refused a.nodes a.outer a.tails.now a.rotations.now a.capacities.now a.out.now
+      write_refused a.nodes a.outer a.tails.now a.rotations.now a.capacities.now a.out.now
           (same-rotations e) (same-capacities e) e.if3.left _ _ (judged j (Refused _ _) c.before.drawing.given.1),
       refl,
     )
@@ -119,7 +119,7 @@ returns-5 c =
     let t = c.before.before.before in
     let e = sliced t in
     let a = (begun e).args in (
-      write-short a.nodes a.outer a.tails.now a.rotations.now a.capacities.now a.out.now
+      write_short a.nodes a.outer a.tails.now a.rotations.now a.capacities.now a.out.now
           (same-rotations e) (same-capacities e) e.if3.left (passed t) (omega (arith, end c.before)),
       refl,
     )
@@ -146,7 +146,7 @@ returns-6 c =
     let s = start h in
     let a = s.args in
     let n = long (roomy h) in (
-      write-whole a.nodes a.outer a.tails.now a.rotations.now a.capacities.now a.out.now
+      write_whole a.nodes a.outer a.tails.now a.rotations.now a.capacities.now a.out.now
           (same-rotations e) (same-capacities e) e.if3.left (passed t) (omega (arith, n)),
       n,
       w.write-edges.ensures a.nodes a.outer a.out.now (headed h) ∙ ap (λ k. encode (drawn s) ++ drop k a.out.now) (sym n),

@@ -1,10 +1,10 @@
--- The record of an edge is written field by field: at seven places a field stands behind the one before, and `edge-placed` joins them into one piece.
+-- The record of an edge is written field by field: at seven places a field stands behind the one before, and `edge_placed` joins them into one piece.
 use mathlib.Core.Path.{◌≡◌}
 use Prim.Native.Nat.{◌+◌}
 use borrow.Author.Rules.{rules}
-use Rattle.signed.proofs.Laws.{number-of-bits}
+use Rattle.signed.proofs.Laws.{number_of_bits}
 use Rattle.fields.specs.Fields.{put, le32}
-use Rattle.sheets.proofs.PlacedRecords.{edge-placed}
+use Rattle.sheets.proofs.PlacedRecords.{edge_placed}
 use Rattle.sheets.proofs.write_edge.Statement.{statement}
 use Rattle.sheets.proofs.write_edge.Tie as tie
 
@@ -36,11 +36,11 @@ start c = begun (kind_at (tail_at (head_at (rotation-at (back-rotation-at c)))))
 -- ── the capacities, whose bits are the numbers given ──
 forward-put : (c : tie.After-write-i32)
     → c.write-i32.new.0 ≡ put ((start c).args.place + 9) (le32 (start c).args.forward) (back-rotation-at c).write-u164.new.0
-forward-put c = rw (number-of-bits (start c).args.forward (start c).ranges.forward) at c.write-i32.ensures
+forward-put c = rw (number_of_bits (start c).args.forward (start c).ranges.forward) at c.write-i32.ensures
 
 backward-put : (c : tie.After-write-i322)
     → c.write-i322.new.0 ≡ put ((start (forward-at c)).args.place + 13) (le32 (start (forward-at c)).args.backward) (forward-at c).write-i32.new.0
-backward-put c = rw (number-of-bits (start (forward-at c)).args.backward (start (forward-at c)).ranges.backward) at c.write-i322.ensures
+backward-put c = rw (number_of_bits (start (forward-at c)).args.backward (start (forward-at c)).ranges.backward) at c.write-i322.ensures
 
 -- ── all seven fields are one record ──
 returns : tie.Need-returns
@@ -53,7 +53,7 @@ returns c =
     let tail = tail_at head in
     let s = start forward in
     let a = s.args in
-    edge-placed a.out.now a.place a.tail a.head a.rotation a.back-rotation a.forward a.backward s.pre.1
+    edge_placed a.out.now a.place a.tail a.head a.rotation a.back-rotation a.forward a.backward s.pre.1
     (kind_at tail).write-u8.ensures tail.write-u16.ensures head.write-u162.ensures rotation.write-u163.ensures back.write-u164.ensures
     (forward-put forward) (backward-put last)
 

@@ -6,35 +6,35 @@ use native.Mathlib.Omega.{arith}
 use lib.IntN.{pos}
 use lib.ListN.{length, get_or, drop}
 use borrow.Author.Rules.{rules}
-use Rattle.signed.proofs.Laws.{number-of-bits}
+use Rattle.signed.proofs.Laws.{number_of_bits}
 use Rattle.fields.specs.Fields.{put}
 use Rattle.maps.specs.Drawing.{Drawing}
-use Rattle.records.specs.Record.{recordLength}
-use Rattle.records.specs.Sheet.{edgeAfter}
-use Rattle.records.specs.Encode.{encodeEdge, encodeHead, encodeEdges, encodeLength}
-use Rattle.records.proofs.Places.{edge-length}
-use Rattle.sheets.specs.Write.{slicesDrawing}
-use Rattle.sheets.proofs.Placing.{placed_first, placed-length}
-use Rattle.sheets.proofs.Writing.{write-start, write_step, write-end}
+use Rattle.records.specs.Record.{record_length}
+use Rattle.records.specs.Sheet.{edge_after}
+use Rattle.records.specs.Encode.{encode_edge, encode_head, encode_edges, encode_length}
+use Rattle.records.proofs.Places.{edge_length}
+use Rattle.sheets.specs.Write.{slices_drawing}
+use Rattle.sheets.proofs.Placing.{placed_first, placed_length}
+use Rattle.sheets.proofs.Writing.{write_start, write_step, write_end}
 use Rattle.sheets.proofs.write_edges.Statement.{statement}
 use Rattle.sheets.proofs.write_edges.Tie as tie
 
 -- the head and the records of n edges, in front of what the output held
 abbrev Front : Drawing → ℕ → (old l : List ℕ) → Type 0
-Front 𝓓 n old l = l ≡ (encodeHead 𝓓 ++ encodeEdges 𝓓 n) ++ drop (encodeLength n) old
+Front 𝓓 n old l = l ≡ (encode_head 𝓓 ++ encode_edges 𝓓 n) ++ drop (encode_length n) old
 
 abbrev invariant-loop : tie.invariant-loop
 invariant-loop out₀ tails rotations capacities head edges e₀ out e =
     (e ≤ edges)
     × (length out ≡ length out₀)
-    × ((nodes outer : ℕ) (old : List ℕ) → out₀ ≡ encodeHead (slicesDrawing nodes outer tails rotations capacities) ++ drop (recordLength 4) old
-    → Front (slicesDrawing nodes outer tails rotations capacities) e old out)
+    × ((nodes outer : ℕ) (old : List ℕ) → out₀ ≡ encode_head (slices_drawing nodes outer tails rotations capacities) ++ drop (record_length 4) old
+    → Front (slices_drawing nodes outer tails rotations capacities) e old out)
 
 abbrev decreases-loop : tie.decreases-loop
 decreases-loop out₀ tails rotations capacities head edges e₀ out e = edges - e
 
 abbrev drawn : (nodes outer : ℕ) → tie.Start invariant-loop decreases-loop → Drawing
-drawn nodes outer s = slicesDrawing nodes outer s.args.tails.now s.args.rotations.now s.args.capacities.now
+drawn nodes outer s = slices_drawing nodes outer s.args.tails.now s.args.rotations.now s.args.capacities.now
 
 -- ── the places: where the record's place is known, the turn of the loop, the start ──
 abbrev located : tie.After-write-edge-arg3 invariant-loop decreases-loop → tie.After-edge-at invariant-loop decreases-loop
@@ -48,27 +48,27 @@ begun c = (turn c).before.before.before.before.before
 
 -- ── an edge is written ──
 abbrev record_of : (nodes outer : ℕ) → tie.After-write-edge-arg3 invariant-loop decreases-loop → List ℕ
-record_of nodes outer c = encodeEdge (drawn nodes outer (begun c)) (turn c).loop.e
+record_of nodes outer c = encode_edge (drawn nodes outer (begun c)) (turn c).loop.e
 
 -- its record stands where the call was told; the nodes and the outer dart play no part in it
 put-there : (c : tie.After-write-edge invariant-loop decreases-loop) (nodes outer : ℕ)
     → c.write-edge.new.0 ≡ put (located c.before).edge-at.result (record_of nodes outer c.before) (turn c.before).loop.out
-unfolding encodeEdge
+unfolding encode_edge
 put-there c nodes outer =
     let a = c.before in
     let e = (turn a).loop.e in
     let capacities = (begun a).args.capacities.now in
     rw (
-      number-of-bits (get_or capacities (2 * e) (pos 0)) (record { sfits = a.before.write-edge-arg2.given }),
-      number-of-bits (get_or capacities (2 * e + 1) (pos 0)) (record { sfits = a.write-edge-arg3.given }),
+      number_of_bits (get_or capacities (2 * e) (pos 0)) (record { sfits = a.before.write-edge-arg2.given }),
+      number_of_bits (get_or capacities (2 * e + 1) (pos 0)) (record { sfits = a.write-edge-arg3.given }),
     ) at c.write-edge.ensures
 
 -- and that is where the table has it, behind a head of kind 4
-place : (c : tie.After-edge-at invariant-loop decreases-loop) → c.edge-at.result ≡ encodeLength c.before.before.loop.e
-place c = let o = c.before.before in c.edge-at.ensures ∙ ap (λ n. edgeAfter n o.loop.e) o.before.record-length.ensures.0
+place : (c : tie.After-edge-at invariant-loop decreases-loop) → c.edge-at.result ≡ encode_length c.before.before.loop.e
+place c = let o = c.before.before in c.edge-at.ensures ∙ ap (λ n. edge_after n o.loop.e) o.before.record-length.ensures.0
 
 written : (c : tie.After-write-edge invariant-loop decreases-loop) (nodes outer : ℕ)
-    → c.write-edge.new.0 ≡ put (encodeLength (turn c.before).loop.e) (record_of nodes outer c.before) (turn c.before).loop.out
+    → c.write-edge.new.0 ≡ put (encode_length (turn c.before).loop.e) (record_of nodes outer c.before) (turn c.before).loop.out
 written c nodes outer =
     let a = c.before in
     put-there c nodes outer ∙ ap (λ n. put n (record_of nodes outer a) (turn a).loop.out) (place (located a))
@@ -77,12 +77,12 @@ written c nodes outer =
 kept : (c : tie.After-write-edge invariant-loop decreases-loop) → length c.write-edge.new.0 ≡ length (turn c.before).loop.out
 kept c =
     let a = c.before in
-    placed-length (placed_first {bs = record_of 0 0 a} (written c 0 0) (edge-length (drawn 0 0 (begun a)) (turn a).loop.e))
+    placed_length (placed_first {bs = record_of 0 0 a} (written c 0 0) (edge_length (drawn 0 0 (begun a)) (turn a).loop.e))
     (omega (arith, (turn a).loop.invariant.1, (begun a).requires.3))
 
 -- ── the needs, in the order of the code ──
 loop-holds : tie.Need-loop-init invariant-loop decreases-loop
-loop-holds c = (omega arith, refl, λ nodes outer old e. write-start (drawn nodes outer c.before.before.before.before) old _ e)
+loop-holds c = (omega arith, refl, λ nodes outer old e. write_start (drawn nodes outer c.before.before.before.before) old _ e)
 
 write-edge-requires : tie.Need-write-edge-requires invariant-loop decreases-loop
 write-edge-requires c κs = omega (arith, place (located c), (turn c).loop.invariant.1, (begun c).requires.3)
@@ -101,7 +101,7 @@ returns : tie.Need-returns invariant-loop decreases-loop
 returns c = λ nodes outer old e.
     let o = c.before in
     let s = o.before.before.before.before.before in
-    write-end (drawn nodes outer s) old o.loop.e _ (omega arith) (o.loop.invariant.2 nodes outer old e)
+    write_end (drawn nodes outer s) old o.loop.e _ (omega arith) (o.loop.invariant.2 nodes outer old e)
 
 pub write-edges-spec : {M : Type 1} → statement M
 write-edges-spec =

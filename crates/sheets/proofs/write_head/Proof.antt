@@ -1,6 +1,6 @@
--- The head of a sheet is written field by field: at each place a field stands behind the one before, and `head-placed` joins them into one piece.
+-- The head of a sheet is written field by field: at each place a field stands behind the one before, and `head_placed` joins them into one piece.
 use borrow.Author.Rules.{rules}
-use Rattle.sheets.proofs.PlacedRecords.{head-placed}
+use Rattle.sheets.proofs.PlacedRecords.{head_placed}
 use Rattle.sheets.proofs.write_head.Statement.{statement}
 use Rattle.sheets.proofs.write_head.Tie as tie
 
@@ -25,7 +25,7 @@ returns c =
     let nodes = nodes-at edges in
     let kind = kind_at nodes in
     let s = begun kind in
-    head-placed s.args.out.now s.args.nodes s.args.edges s.args.outer s.pre
+    head_placed s.args.out.now s.args.nodes s.args.edges s.args.outer s.pre
     kind.write-u8.ensures nodes.write-u16.ensures edges.write-u162.ensures outer.write-u163.ensures
 
 pub write-head-spec : {M : Type 1} → statement M

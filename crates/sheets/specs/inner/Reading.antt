@@ -4,24 +4,24 @@ use Rattle.refusals.specs.Order.{NoneOf, FirstOf}
 use Rattle.refusals.specs.declared.Verdict.{Verdict}
 use Rattle.refusals.specs.declared.Verdict.TheVariants.{Passed, Refused}
 use Rattle.arrays.specs.At.{at, atℤ}
-use Rattle.records.specs.Sheet.{tailOf, rotationOf, capacityOf, byteChecks}
+use Rattle.records.specs.Sheet.{tail_of, rotation_of, capacity_of, byte_checks}
 use Rattle.sheets.specs.declared.Opened.{Opened}
 use Rattle.sheets.specs.declared.Network.{Network}
 
 -- the arrays hold the tails, the rotations and the capacities of the sheet's darts
 pub record FieldsRead (s tails rotations : List ℕ) (capacities : List ℤ) : Type 0 where
-  pub tails-are : at tails ≡ tailOf s
-  pub rotations-are : at rotations ≡ rotationOf s
-  pub capacities-are : atℤ capacities ≡ capacityOf s
+  pub tails_are : at tails ≡ tail_of s
+  pub rotations_are : at rotations ≡ rotation_of s
+  pub capacities_are : atℤ capacities ≡ capacity_of s
 
 -- the verdict is that of the checks 1 to 8
 abbrev pub EdgesRead : (s tails rotations : List ℕ) (capacities : List ℤ) → Verdict → Type 0
-EdgesRead s tails rotations capacities Passed = NoneOf (byteChecks s) × FieldsRead s tails rotations capacities
-EdgesRead s tails rotations capacities (Refused k p) = FirstOf (byteChecks s) k p
+EdgesRead s tails rotations capacities Passed = NoneOf (byte_checks s) × FieldsRead s tails rotations capacities
+EdgesRead s tails rotations capacities (Refused k p) = FirstOf (byte_checks s) k p
 
 -- the network record of what the checks found, with these arrays
-abbrev pub networkOf : Opened → (tails rotations : List ℕ) (capacities : List ℤ) (lefts : List ℕ) → Network
-networkOf o tails rotations capacities lefts = record {
+abbrev pub network_of : Opened → (tails rotations : List ℕ) (capacities : List ℤ) (lefts : List ℕ) → Network
+network_of o tails rotations capacities lefts = record {
   accepted = o.accepted;
   refusal = o.refusal;
   place = o.place;

@@ -3,7 +3,7 @@ use mathlib.Core.Path.{◌∙◌, ap}
 use borrow.Author.Rules.{rules}
 use mir.Syntax.{w32}
 use mir.Val.{of_z}
-use Rattle.signed.proofs.Laws.{number-of-bits, halved}
+use Rattle.signed.proofs.Laws.{number_of_bits, halved}
 use Rattle.signed.proofs.halve.Statement.{statement}
 use Rattle.signed.proofs.halve.Tie as tie
 
@@ -11,8 +11,8 @@ returns : tie.Need-returns
 returns c =
     let s = c.before.before in
     halved s.args.x _ c.before.to-bits.result s.ranges.x s.requires
-    (c.before.to-bits.ensures ∙ ap (of_z w32) (number-of-bits _ s.ranges.x))
-    (number-of-bits _ (record { sfits = c.of-bits.type-inv }) ∙ c.of-bits.ensures)
+    (c.before.to-bits.ensures ∙ ap (of_z w32) (number_of_bits _ s.ranges.x))
+    (number_of_bits _ (record { sfits = c.of-bits.type-inv }) ∙ c.of-bits.ensures)
 
 pub halve-spec : {M : Type 1} → statement M
 halve-spec = tie.close (tie.spec (λ c κs. search rules) (λ c κs. search rules) returns)

@@ -4,7 +4,7 @@ use lib.IntN.{pos}
 use lib.Signed.{lt_z}
 use mathlib.Core.Path.{◌≡◌}
 use mathlib.Core.Bool.{true, false}
-use Rattle.signed.proofs.Laws.{number-of-bits, bits_below, turned-over, not-below}
+use Rattle.signed.proofs.Laws.{number_of_bits, bits_below, turned_over, not_below}
 use Rattle.signed.proofs.to_bits.Statement.{statement}
 use Rattle.signed.proofs.to_bits.Tie as tie
 
@@ -12,36 +12,36 @@ cast-result : tie.Need-overflow-cast-result
 cast-result c =
     let x = c.before.args.x in
     let f = c.before.ranges.x in
-    let b : lt_z x (pos 0) ≡ true = rw (number-of-bits x f) at c.if1.true in
-    rw (turned-over x f b) (tt, record { fits = omega arith })
+    let b : lt_z x (pos 0) ≡ true = rw (number_of_bits x f) at c.if1.true in
+    rw (turned_over x f b) (tt, record { fits = omega arith })
 
 sub-result : tie.Need-overflow-sub-result
 sub-result c =
     let x = c.before.args.x in
     let f = c.before.ranges.x in
-    let b : lt_z x (pos 0) ≡ true = rw (number-of-bits x f) at c.if1.true in
-    rw (turned-over x f b) (omega arith)
+    let b : lt_z x (pos 0) ≡ true = rw (number_of_bits x f) at c.if1.true in
+    rw (turned_over x f b) (omega arith)
 
 cast-result-2 : tie.Need-overflow-cast-result-2
 cast-result-2 c =
     let x = c.before.args.x in
     let f = c.before.ranges.x in
-    let b : lt_z x (pos 0) ≡ false = rw (number-of-bits x f) at c.if1.false in
-    rw (number-of-bits x f) ((not-below x b).0, record { fits = omega (arith, (not-below x b).1, bits_below x f) })
+    let b : lt_z x (pos 0) ≡ false = rw (number_of_bits x f) at c.if1.false in
+    rw (number_of_bits x f) ((not_below x b).0, record { fits = omega (arith, (not_below x b).1, bits_below x f) })
 
 returns : tie.Need-returns
 returns c =
     let x = c.before.args.x in
     let f = c.before.ranges.x in
-    let b : lt_z x (pos 0) ≡ true = rw (number-of-bits x f) at c.if1.true in
-    rw (turned-over x f b) (omega (arith, bits_below x f))
+    let b : lt_z x (pos 0) ≡ true = rw (number_of_bits x f) at c.if1.true in
+    rw (turned_over x f b) (omega (arith, bits_below x f))
 
 returns-2 : tie.Need-returns-2
 returns-2 c =
     let x = c.before.args.x in
     let f = c.before.ranges.x in
-    let b : lt_z x (pos 0) ≡ false = rw (number-of-bits x f) at c.if1.false in
-    rw (number-of-bits x f) (not-below x b).1
+    let b : lt_z x (pos 0) ≡ false = rw (number_of_bits x f) at c.if1.false in
+    rw (number_of_bits x f) (not_below x b).1
 
 pub to-bits-spec : {M : Type 1} → statement M
 to-bits-spec = tie.close (tie.spec cast-result sub-result cast-result-2 returns returns-2)

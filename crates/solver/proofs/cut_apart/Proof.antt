@@ -3,11 +3,11 @@ use mathlib.Core.Logic.{inl, inr}
 use native.Mathlib.Omega.{arith}
 use lib.IntN.{pos}
 use lib.Signed.{◌≤ℤ◌, ◌<ℤ◌}
-use Rattle.integers.proofs.Laws.{lt-of-test, ge-of-test, le_antisym}
-use Rattle.signed.proofs.Laws.{number-of-bits}
+use Rattle.integers.proofs.Laws.{lt_of_test, ge_of_test, le_antisym}
+use Rattle.signed.proofs.Laws.{number_of_bits}
 use Rattle.arrays.specs.inner.Flags.{flagged}
-use Rattle.solver.proofs.Preparing.{same-value, small-value, lengths-fillable, lengthened, lengthened-none, source-part, sink-part}
-use Rattle.solver.proofs.Naming.{measured-by}
+use Rattle.solver.proofs.Preparing.{same_value, small_value, lengths_fillable, lengthened, lengthened_none, source_part, sink_part}
+use Rattle.solver.proofs.Naming.{measured_by}
 use Rattle.solver.proofs.cut_apart.Statement.{statement}
 use Rattle.solver.proofs.cut_apart.Tie as tie
 
@@ -17,7 +17,7 @@ mul-fill-lengths c = omega (arith, c.requires.2)
 fill-lengths-requires : tie.Need-fill-lengths-requires
 fill-lengths-requires c κs =
     let p = c.before.requires in
-    (p.0, lengths-fillable p.2 p.6 p.4 p.5 p.7 (small-value p.8))
+    (p.0, lengths_fillable p.2 p.6 p.4 p.5 p.7 (small_value p.8))
 
 -- ── in one tree ──
 abbrev begun : tie.After-fill-lengths → tie.Start
@@ -28,7 +28,7 @@ returns c =
     let w = c.before in
     let p = (begun w).requires in
     let e = w.fill-lengths.ensures in
-    (e.0, p.1, lengthened p.2 p.6 (same-value p.8) e.1 c.if1.true, measured-by (same-value p.8) e.1 (inl c.if1.true))
+    (e.0, p.1, lengthened p.2 p.6 (same_value p.8) e.1 c.if1.true, measured_by (same_value p.8) e.1 (inl c.if1.true))
 
 -- ── in two: above 0 ──
 flag-part-requires : tie.Need-flag-part-requires
@@ -45,12 +45,12 @@ returns-2 c =
     let p = s.pre in
     let f = w.fill-lengths.ensures in
     let e = c.flag-part.ensures in
-    let above : pos 0 <ℤ s.args.value = lt-of-test _ _ (rw (number-of-bits _ s.fits.value) at t.if2.true) in (
+    let above : pos 0 <ℤ s.args.value = lt_of_test _ _ (rw (number_of_bits _ s.fits.value) at t.if2.true) in (
       f.0,
       e.0,
-      source-part p.2 p.6 (same-value p.8) f.1 (flagged c.flag-part.new.1.1.1.1.1.0) o.if1.false p.5 e.1
+      source_part p.2 p.6 (same_value p.8) f.1 (flagged c.flag-part.new.1.1.1.1.1.0) o.if1.false p.5 e.1
           above,
-      measured-by (same-value p.8) f.1 (o.if1.false, inl (above, e.1)),
+      measured_by (same_value p.8) f.1 (o.if1.false, inl (above, e.1)),
     )
 
 -- ── below 0 ──
@@ -68,12 +68,12 @@ returns-3 c =
     let p = s.pre in
     let f = w.fill-lengths.ensures in
     let e = c.flag-part2.ensures in
-    let below : s.args.value <ℤ pos 0 = lt-of-test _ _ (rw (number-of-bits _ s.fits.value) at t.if3.true) in (
+    let below : s.args.value <ℤ pos 0 = lt_of_test _ _ (rw (number_of_bits _ s.fits.value) at t.if3.true) in (
       f.0,
       e.0,
-      sink-part p.2 p.6 (same-value p.8) f.1 (flagged c.flag-part2.new.1.1.1.1.1.0) o.if1.false p.4 e.1
+      sink_part p.2 p.6 (same_value p.8) f.1 (flagged c.flag-part2.new.1.1.1.1.1.0) o.if1.false p.4 e.1
           below,
-      measured-by (same-value p.8) f.1 (o.if1.false, inr (below, e.1)),
+      measured_by (same_value p.8) f.1 (o.if1.false, inr (below, e.1)),
     )
 
 -- ── 0: along no path ──
@@ -83,10 +83,10 @@ returns-4 c =
     let s = begun w in
     let p = s.pre in
     let e = w.fill-lengths.ensures in
-    let high : s.args.value ≤ℤ pos 0 = ge-of-test _ _ (rw (number-of-bits _ s.fits.value) at c.before.if2.false) in
-    let low : pos 0 ≤ℤ s.args.value = ge-of-test _ _ (rw (number-of-bits _ s.fits.value) at c.if3.false) in
+    let high : s.args.value ≤ℤ pos 0 = ge_of_test _ _ (rw (number_of_bits _ s.fits.value) at c.before.if2.false) in
+    let low : pos 0 ≤ℤ s.args.value = ge_of_test _ _ (rw (number_of_bits _ s.fits.value) at c.if3.false) in
     let none = le_antisym high low in
-    (e.0, p.1, lengthened-none p.2 p.6 (same-value p.8) e.1 none, measured-by (same-value p.8) e.1 (inr none))
+    (e.0, p.1, lengthened_none p.2 p.6 (same_value p.8) e.1 none, measured_by (same_value p.8) e.1 (inr none))
 
 pub cut-apart-spec : {M : Type 1} → statement M
 cut-apart-spec =

@@ -2,34 +2,34 @@
 use mathlib.Core.Path.{refl}
 use native.Mathlib.Omega.{arith}
 use lib.IntN.{pos}
-use Rattle.arrays.proofs.FillLoops.{same-everywhere}
-use Rattle.solver.proofs.Ringing.{few-darts, ring-round, heights-fillable, choosable, chosen, made-of-ring}
+use Rattle.arrays.proofs.FillLoops.{same_everywhere}
+use Rattle.solver.proofs.Ringing.{few_darts, ring_round, heights_fillable, choosable, chosen, made_of_ring}
 use Rattle.solver.proofs.cut_of_ring.Statement.{statement}
 use Rattle.solver.proofs.cut_of_ring.Tie as tie
 
 mul-fill-winding : tie.Need-overflow-mul-fill-winding
-mul-fill-winding c = omega (arith, c.requires.2.few-edges)
+mul-fill-winding c = omega (arith, c.requires.2.few_edges)
 
 fill-winding-requires : tie.Need-fill-winding-requires
-fill-winding-requires c κs = let q = c.before.requires.2 in (refl, few-darts q, omega arith, ring-round q, same-everywhere 1024 (pos 0))
+fill-winding-requires c κs = let q = c.before.requires.2 in (refl, few_darts q, omega arith, ring_round q, same_everywhere 1024 (pos 0))
 
 abbrev begun : tie.After-fill-winding → tie.Start
 begun c = c.before.before
 
 mul-fill-heights : tie.Need-overflow-mul-fill-heights
-mul-fill-heights c = omega (arith, (begun c).requires.2.few-edges)
+mul-fill-heights c = omega (arith, (begun c).requires.2.few_edges)
 
 fill-heights-requires : tie.Need-fill-heights-requires
 fill-heights-requires c κs =
     let w = c.before.before in
     let p = (begun w).requires in
-    (refl, heights-fillable p.2 p.1.forest w.fill-winding.ensures.1)
+    (refl, heights_fillable p.2 p.1.forest w.fill-winding.ensures.1)
 
 abbrev wound : tie.After-fill-heights → tie.After-fill-winding
 wound c = c.before.before.before
 
 mul-choose-set : tie.Need-overflow-mul-choose-set
-mul-choose-set c = omega (arith, (begun (wound c.before)).requires.2.few-edges)
+mul-choose-set c = omega (arith, (begun (wound c.before)).requires.2.few_edges)
 
 choose-set-requires : tie.Need-choose-set-requires
 choose-set-requires c κs =
@@ -45,7 +45,7 @@ returns c =
     let w = wound h in
     let p = (begun w).pre in
     let f = h.fill-heights.ensures in
-    (e.0, chosen p.2 _ e.1, made-of-ring p.2 p.1.forest w.fill-winding.ensures.1 f.1 refl f.2 e.2)
+    (e.0, chosen p.2 _ e.1, made_of_ring p.2 p.1.forest w.fill-winding.ensures.1 f.1 refl f.2 e.2)
 
 pub cut-of-ring-spec : {M : Type 1} → statement M
 cut-of-ring-spec =

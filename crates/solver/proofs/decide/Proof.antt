@@ -8,39 +8,39 @@ use lib.IntN.{ℤ}
 use borrow.Author.Rules.{rules}
 use Rattle.maps.specs.Map.{Map}
 use Rattle.arrays.specs.At.{at, atℤ}
-use Rattle.arrays.specs.Maps.{mapOf, rightOf}
+use Rattle.arrays.specs.Maps.{map_of, right_of}
 use Rattle.arrays.specs.inner.Flags.{flagged}
-use Rattle.lengths.proofs.PathFlow.{treed-of}
+use Rattle.lengths.proofs.PathFlow.{treed_of}
 use Rattle.solver.specs.inner.Search.{Lengthened, Measured}
-use Rattle.solver.proofs.Preparing.{same-value, small-value, measured-for}
-use Rattle.solver.proofs.SettledFlows.{searched-ring}
-use Rattle.solver.proofs.Deciding.{searchable, decided-can, ringed, decided-cannot, decided-apart, measured-long}
-use Rattle.traversal.proofs.Rooting.{trees-few}
+use Rattle.solver.proofs.Preparing.{same_value, small_value, measured_for}
+use Rattle.solver.proofs.SettledFlows.{searched_ring}
+use Rattle.solver.proofs.Deciding.{searchable, decided_can, ringed, decided_cannot, decided_apart, measured_long}
+use Rattle.traversal.proofs.Rooting.{trees_few}
 use Rattle.solver.specs.inner.Named.{MeasuredBy, MadeOfRing, Named}
-use Rattle.solver.proofs.Naming.{measured-by-for, measured-other, searches-known, named-of}
+use Rattle.solver.proofs.Naming.{measured_by_for, measured_other, searches_known, named_of}
 use Rattle.solver.proofs.decide.Statement.{statement}
 use Rattle.solver.proofs.decide.Tie as tie
 
 abbrev mapAt : tie.Start → Map
-mapAt s = mapOf s.args.sizes.nodes s.args.sizes.edges s.args.tails.now s.args.rotations.now
+mapAt s = map_of s.args.sizes.nodes s.args.sizes.edges s.args.tails.now s.args.rotations.now
 
 mul-dart-at : tie.Need-overflow-mul-dart-at
-mul-dart-at c = omega (arith, c.before.requires.0.opened.drawn.few-edges)
+mul-dart-at c = omega (arith, c.before.requires.0.opened.drawn.few_edges)
 
 dart-at-requires : tie.Need-dart-at-requires
 dart-at-requires c κs =
     let p = c.before.requires.0 in
     let n = p.opened.drawn in
-    (omega (arith, n.few-edges), n.plane.sound.has-dart _ p.ends.source_in)
+    (omega (arith, n.few_edges), n.plane.sound.has_dart _ p.ends.source_in)
 
 mul-dart-at-2 : tie.Need-overflow-mul-dart-at-2
-mul-dart-at-2 c = omega (arith, c.before.before.before.requires.0.opened.drawn.few-edges)
+mul-dart-at-2 c = omega (arith, c.before.before.before.requires.0.opened.drawn.few_edges)
 
 dart-at-requires-2 : tie.Need-dart-at-requires-2
 dart-at-requires-2 c κs =
     let p = c.before.before.before.requires.0 in
     let n = p.opened.drawn in
-    (omega (arith, n.few-edges), n.plane.sound.has-dart _ p.ends.sink-in)
+    (omega (arith, n.few_edges), n.plane.sound.has_dart _ p.ends.sink_in)
 
 cut-apart-requires : tie.Need-cut-apart-requires
 cut-apart-requires c κs =
@@ -49,13 +49,13 @@ cut-apart-requires c κs =
     let p = d.before.before.requires in (
       refl,
       p.3,
-      p.0.opened.drawn.few-edges,
-      p.0.opened.drawn.few-nodes,
+      p.0.opened.drawn.few_edges,
+      p.0.opened.drawn.few_nodes,
       d.dart-at.ensures.0,
       t.dart-at2.ensures.0,
-      treed-of p.0.opened.drawn.plane.sound p.0.opened.walked.forest,
+      treed_of p.0.opened.drawn.plane.sound p.0.opened.walked.forest,
       p.0.opened.drawn.small,
-      small-value p.1,
+      small_value p.1,
     )
 
 -- ── the lengths are known, or the ends are apart ──
@@ -78,8 +78,8 @@ measured : (c : tie.After-cut-apart)
     → Measured (mapAt (begun c)) (begun c).args.demand.source (begun c).args.demand.sink (atℤ (begun c).args.capacities.now)
     (begun c).args.demand.value (atℤ (row c)) (flags c) c.cut_apart.result
 measured c =
-    measured-for (mapAt (begun c)) (atℤ (begun c).args.capacities.now) (atℤ (row c)) (flags c) c.cut_apart.result (started c).dart-at.ensures.1
-    (finished c).dart-at2.ensures.1 (same-value (begun c).requires.1) c.cut_apart.ensures.2
+    measured_for (mapAt (begun c)) (atℤ (begun c).args.capacities.now) (atℤ (row c)) (flags c) c.cut_apart.result (started c).dart-at.ensures.1
+    (finished c).dart-at2.ensures.1 (same_value (begun c).requires.1) c.cut_apart.ensures.2
 
 -- how the lengths came about, and the set where the ends are apart
 measured-how : (c : tie.After-cut-apart) (b : Bool) → c.cut_apart.result ≡ b
@@ -88,15 +88,15 @@ measured-how : (c : tie.After-cut-apart) (b : Bool) → c.cut_apart.result ≡ b
 measured-how c b e =
     subst (MeasuredBy (mapAt (begun c)) (started c).dart-at.result (finished c).dart-at2.result
     (at (begun c).args.from.now) (atℤ (begun c).args.capacities.now) (begun c).args.demand.value (atℤ (row c)) (flagged (flags c))) e
-    (measured-by-for (mapAt (begun c)) (at (begun c).args.from.now) (atℤ (begun c).args.capacities.now) (atℤ (row c)) (flagged (flags c))
-    c.cut_apart.result (same-value (begun c).requires.1) c.cut_apart.ensures.3)
+    (measured_by_for (mapAt (begun c)) (at (begun c).args.from.now) (atℤ (begun c).args.capacities.now) (atℤ (row c)) (flagged (flags c))
+    c.cut_apart.result (same_value (begun c).requires.1) c.cut_apart.ensures.3)
 
 named-apart : (c : tie.After-cut-apart) → c.cut_apart.result ≡ true
     → Named (mapAt (begun c)) (begun c).args.sizes.outer (atℤ (begun c).args.capacities.now) (begun c).args.demand.source (begun c).args.demand.sink
     (begun c).args.demand.value (begun c).args.parents.now (flagged (flags c))
 named-apart c e =
     let s = begun c in
-    named-of s.args.lefts.now s.args.order.now s.args.from.now s.args.grouped.now s.args.starts.now
+    named_of s.args.lefts.now s.args.order.now s.args.from.now s.args.grouped.now s.args.starts.now
     s.pre.0.opened.drawn s.pre.0.opened.walked (started c).dart-at.ensures (finished c).dart-at2.ensures
     s.args.parents.now (row c) true (measured-how c true e) tt
 
@@ -105,7 +105,7 @@ returns c =
     let l = c.before in
     let s = begun l in (
       l.cut_apart.ensures.1,
-      decided-apart (mapAt s) s.args.sizes.outer (atℤ s.args.capacities.now) s.args.demand.source s.args.demand.sink
+      decided_apart (mapAt s) s.args.sizes.outer (atℤ s.args.capacities.now) s.args.demand.source s.args.demand.sink
           s.args.demand.value (atℤ (row l))
           s.args.flows.now (flags l) c.if1.true (measured l),
       s.pre.2,
@@ -117,7 +117,7 @@ known : (c : tie.Else1)
     (atℤ (begun c.before).args.capacities.now) (begun c.before).args.demand.value (atℤ (row c.before))
 known c =
     let s = begun c.before in
-    measured-long (mapAt s) s.args.demand.source s.args.demand.sink (atℤ s.args.capacities.now) s.args.demand.value
+    measured_long (mapAt s) s.args.demand.source s.args.demand.sink (atℤ s.args.capacities.now) s.args.demand.value
     (atℤ (row c.before)) (flags c.before) c.if1.false (measured c.before)
 
 -- ── the search from the faces at 0 ──
@@ -128,9 +128,9 @@ settle-all-requires c κs =
     let p = s.pre in
     let o = p.0.opened in
     record {
-      few-edges = o.drawn.few-edges;
-      few-parts = omega (arith, trees-few o.walked.forest, o.drawn.few-edges);
-      size-parents = p.2;
+      few_edges = o.drawn.few_edges;
+      few_parts = omega (arith, trees_few o.walked.forest, o.drawn.few_edges);
+      size_parents = p.2;
       forest = o.walked.forest;
       searchable = λ queue long roots. searchable s.args.lefts.now o.drawn p.0.ends (row e.before) (known e) queue long roots;
       groups = o.walked.groups;
@@ -148,7 +148,7 @@ closes : (c : tie.After-known-told) → c.before.outcome.given.0.0 < 1024
 closes c =
     let s = c.before.before.before.before in
     let p = (begun (lengthened s)).requires in
-    omega (arith, (searched-ring _ _ _ _ _ _ _ c.before.outcome.given.1 s.settle-all.ensures.1.3).1, p.0.opened.drawn.few-edges)
+    omega (arith, (searched_ring _ _ _ _ _ _ _ c.before.outcome.given.1 s.settle-all.ensures.1.3).1, p.0.opened.drawn.few_edges)
 
 mul_wide : tie.Need-overflow-mul-wide
 mul_wide c = omega (arith, closes c)
@@ -171,14 +171,14 @@ cut-of-ring-requires c κs =
     let f = lengthened s in
     let p = (begun f).pre in (
       f.cut_apart.ensures.1,
-      treed-of p.0.opened.drawn.plane.sound p.0.opened.walked.forest,
+      treed_of p.0.opened.drawn.plane.sound p.0.opened.walked.forest,
       ringed (begun f).args.lefts.now p.0.opened.drawn p.0.ends (row f) (known (joined s)) q.0 q.1 q.2
-          _ w.wide.ensures (searched-ring _ _ _ _ _ _ _ o.outcome.given.1 s.settle-all.ensures.1.3).2,
+          _ w.wide.ensures (searched_ring _ _ _ _ _ _ _ o.outcome.given.1 s.settle-all.ensures.1.3).2,
     )
 
 -- the set made from the ring
 named-ring : (c : tie.After-wide) (inside' : List ℕ) → let o = ringed-at c in let f = lengthened (settled o) in let s = begun f in
-    MadeOfRing (mapAt s) (rightOf s.args.lefts.now) (atℤ (row f)) (at s.args.order.now) (at s.args.from.now)
+    MadeOfRing (mapAt s) (right_of s.args.lefts.now) (atℤ (row f)) (at s.args.order.now) (at s.args.from.now)
     (at (settled o).settle-all.last.1.1.1.1.1.1.1.1.1.0) c.wide.result (flagged inside')
     → Named (mapAt s) s.args.sizes.outer (atℤ s.args.capacities.now) s.args.demand.source s.args.demand.sink s.args.demand.value
     s.args.parents.now (flagged inside')
@@ -191,21 +191,21 @@ named-ring c inside' made =
     let p = s.pre in
     let q = a.settle-all.ensures.1 in
     let ok = searchable s.args.lefts.now p.0.opened.drawn p.0.ends (row f) (known j) q.0 q.1 q.2 in
-    named-of s.args.lefts.now s.args.order.now s.args.from.now s.args.grouped.now s.args.starts.now
+    named_of s.args.lefts.now s.args.order.now s.args.from.now s.args.grouped.now s.args.starts.now
     p.0.opened.drawn p.0.opened.walked (started f).dart-at.ensures (finished f).dart-at2.ensures
-    s.args.parents.now (row f) false (measured-other (measured-how f false j.if1.left))
+    s.args.parents.now (row f) false (measured_other (measured-how f false j.if1.left))
     (record {
       queue = q.0;
       size = q.1;
-      few = omega (arith, trees-few p.0.opened.walked.forest, p.0.opened.drawn.few-edges);
+      few = omega (arith, trees_few p.0.opened.walked.forest, p.0.opened.drawn.few_edges);
       roots = q.4;
       sound = ok.sound;
       joined = ok.joined;
       potentials = q.5.0;
       parents = _;
       closing = _;
-      closing-in = (searched-ring _ _ _ _ _ _ _ o.outcome.given.1 q.3).1;
-      searched = searches-known o.outcome.given.1 q.5.1;
+      closing_in = (searched_ring _ _ _ _ _ _ _ o.outcome.given.1 q.3).1;
+      searched = searches_known o.outcome.given.1 q.5.1;
       made = rw (← c.wide.ensures) made;
     })
 
@@ -219,8 +219,8 @@ returns-2 c =
     let e = c.cut-of-ring.ensures in
     let inside' = c.cut-of-ring.new.1.1.1.1.1.1.1.1.1.1.1.0 in (
       e.0,
-      decided-cannot (begun f).args.lefts.now p.0.opened.drawn p.0.ends (row f) (known (joined s)) q.0 q.1 q.2
-          _ _ inside' (searched-ring _ _ _ _ _ _ _ o.outcome.given.1 s.settle-all.ensures.1.3).0 e.1,
+      decided_cannot (begun f).args.lefts.now p.0.opened.drawn p.0.ends (row f) (known (joined s)) q.0 q.1 q.2
+          _ _ inside' (searched_ring _ _ _ _ _ _ _ o.outcome.given.1 s.settle-all.ensures.1.3).0 e.1,
       s.settle-all.ensures.0,
       λ z. named-ring c.before.before.before.before inside' e.2,
     )
@@ -233,7 +233,7 @@ returns-3 c =
     let p = (begun f).pre in
     let r = rw c.enum_told.given.1 at s.settle-all.ensures.1.3 in (
       f.cut_apart.ensures.1,
-      decided-can (begun f).args.lefts.now p.0.opened.drawn p.0.ends (row f) (known (joined s)) q.0 q.1 q.2
+      decided_can (begun f).args.lefts.now p.0.opened.drawn p.0.ends (row f) (known (joined s)) q.0 q.1 q.2
           r.0 r.1 _ _ (flags f) r.2,
       s.settle-all.ensures.0,
       λ z. absurd (true≢false z),

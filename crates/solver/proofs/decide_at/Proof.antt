@@ -7,33 +7,33 @@ use lib.IntN.{ℤ}
 use borrow.Author.Rules.{rules}
 use Rattle.maps.specs.Map.{Map}
 use Rattle.arrays.specs.At.{atℤ}
-use Rattle.arrays.specs.Maps.{mapOf}
+use Rattle.arrays.specs.Maps.{map_of}
 use Rattle.traversal.proofs.Rooting.{roots_few}
 use Rattle.solver.specs.inner.Search.{Lengthened, Measured}
-use Rattle.solver.proofs.Preparing.{same-value, small-value, measured-for}
-use Rattle.solver.proofs.SettledFlows.{searched-ring}
-use Rattle.solver.proofs.Deciding.{searchable, decided-can, ringed, decided-cannot, decided-apart, measured-long}
+use Rattle.solver.proofs.Preparing.{same_value, small_value, measured_for}
+use Rattle.solver.proofs.SettledFlows.{searched_ring}
+use Rattle.solver.proofs.Deciding.{searchable, decided_can, ringed, decided_cannot, decided_apart, measured_long}
 use Rattle.solver.proofs.decide_at.Statement.{statement}
 use Rattle.solver.proofs.decide_at.Tie as tie
 
 abbrev mapAt : tie.Start → Map
-mapAt s = mapOf s.args.sizes.nodes s.args.sizes.edges s.args.tails.now s.args.rotations.now
+mapAt s = map_of s.args.sizes.nodes s.args.sizes.edges s.args.tails.now s.args.rotations.now
 
 mul-dart-at : tie.Need-overflow-mul-dart-at
-mul-dart-at c = omega (arith, c.before.requires.0.drawn.few-edges)
+mul-dart-at c = omega (arith, c.before.requires.0.drawn.few_edges)
 
 dart-at-requires : tie.Need-dart-at-requires
 dart-at-requires c κs =
     let p = c.before.requires.0 in
-    (omega (arith, p.drawn.few-edges), p.drawn.plane.sound.has-dart _ p.ends.source_in)
+    (omega (arith, p.drawn.few_edges), p.drawn.plane.sound.has_dart _ p.ends.source_in)
 
 mul-dart-at-2 : tie.Need-overflow-mul-dart-at-2
-mul-dart-at-2 c = omega (arith, c.before.before.before.requires.0.drawn.few-edges)
+mul-dart-at-2 c = omega (arith, c.before.before.before.requires.0.drawn.few_edges)
 
 dart-at-requires-2 : tie.Need-dart-at-requires-2
 dart-at-requires-2 c κs =
     let p = c.before.before.before.requires.0 in
-    (omega (arith, p.drawn.few-edges), p.drawn.plane.sound.has-dart _ p.ends.sink-in)
+    (omega (arith, p.drawn.few_edges), p.drawn.plane.sound.has_dart _ p.ends.sink_in)
 
 cut-apart-requires : tie.Need-cut-apart-requires
 cut-apart-requires c κs =
@@ -42,13 +42,13 @@ cut-apart-requires c κs =
     let p = d.before.before.requires in (
       refl,
       p.3,
-      p.0.drawn.few-edges,
-      p.0.drawn.few-nodes,
+      p.0.drawn.few_edges,
+      p.0.drawn.few_nodes,
       d.dart-at.ensures.0,
       t.dart-at2.ensures.0,
       p.0.treed,
       p.0.drawn.small,
-      small-value p.1,
+      small_value p.1,
     )
 
 -- ── the lengths are known, or the ends are apart ──
@@ -71,15 +71,15 @@ measured : (c : tie.After-cut-apart)
     → Measured (mapAt (begun c)) (begun c).args.demand.source (begun c).args.demand.sink (atℤ (begun c).args.capacities.now)
     (begun c).args.demand.value (atℤ (row c)) (flags c) c.cut_apart.result
 measured c =
-    measured-for (mapAt (begun c)) (atℤ (begun c).args.capacities.now) (atℤ (row c)) (flags c) c.cut_apart.result (started c).dart-at.ensures.1
-    (finished c).dart-at2.ensures.1 (same-value (begun c).requires.1) c.cut_apart.ensures.2
+    measured_for (mapAt (begun c)) (atℤ (begun c).args.capacities.now) (atℤ (row c)) (flags c) c.cut_apart.result (started c).dart-at.ensures.1
+    (finished c).dart-at2.ensures.1 (same_value (begun c).requires.1) c.cut_apart.ensures.2
 
 returns : tie.Need-returns
 returns c =
     let l = c.before in
     let s = begun l in (
       l.cut_apart.ensures.1,
-      decided-apart (mapAt s) s.args.sizes.outer (atℤ s.args.capacities.now) s.args.demand.source s.args.demand.sink
+      decided_apart (mapAt s) s.args.sizes.outer (atℤ s.args.capacities.now) s.args.demand.source s.args.demand.sink
           s.args.demand.value (atℤ (row l))
           s.args.flows.now (flags l) c.if1.true (measured l),
     )
@@ -89,7 +89,7 @@ known : (c : tie.Else1)
     (atℤ (begun c.before).args.capacities.now) (begun c.before).args.demand.value (atℤ (row c.before))
 known c =
     let s = begun c.before in
-    measured-long (mapAt s) s.args.demand.source s.args.demand.sink (atℤ s.args.capacities.now) s.args.demand.value
+    measured_long (mapAt s) s.args.demand.source s.args.demand.sink (atℤ s.args.capacities.now) s.args.demand.value
     (atℤ (row c.before)) (flags c.before) c.if1.false (measured c.before)
 
 -- ── the search from the roots ──
@@ -101,10 +101,10 @@ settle-requires c κs =
     let p = s.pre in
     let o = p.0 in
     record {
-      few-edges = o.drawn.few-edges;
-      few-roots = omega (arith, roots_few o.roots, o.drawn.few-edges);
-      size-parents = refl;
-      size-queue = p.2;
+      few_edges = o.drawn.few_edges;
+      few_roots = omega (arith, roots_few o.roots, o.drawn.few_edges);
+      size_parents = refl;
+      size_queue = p.2;
       searchable = searchable s.args.lefts.now o.drawn o.ends (row f) (known e) s.args.queue.now p.2 o.roots;
       groups = o.groups;
       exact = o.exact;
@@ -125,8 +125,8 @@ closes c =
     let s = settled c.before in
     omega (
       arith,
-      (searched-ring _ _ _ _ _ _ _ c.before.outcome.given.1 s.settle.ensures.1).1,
-      (begun (lengthened s)).requires.0.drawn.few-edges,
+      (searched_ring _ _ _ _ _ _ _ c.before.outcome.given.1 s.settle.ensures.1).1,
+      (begun (lengthened s)).requires.0.drawn.few_edges,
     )
 
 mul_wide : tie.Need-overflow-mul-wide
@@ -149,7 +149,7 @@ cut-of-ring-requires c κs =
       f.cut_apart.ensures.1,
       p.0.treed,
       ringed b.args.lefts.now p.0.drawn p.0.ends (row f) (known (joined s)) b.args.queue.now p.2 p.0.roots
-          _ w.wide.ensures (searched-ring _ _ _ _ _ _ _ o.outcome.given.1 s.settle.ensures.1).2,
+          _ w.wide.ensures (searched_ring _ _ _ _ _ _ _ o.outcome.given.1 s.settle.ensures.1).2,
     )
 
 returns-2 : tie.Need-returns-2
@@ -162,9 +162,9 @@ returns-2 c =
     let p = b.pre in
     let k = c.cut-of-ring.ensures in (
       k.0,
-      decided-cannot b.args.lefts.now p.0.drawn p.0.ends (row f) (known (joined s)) b.args.queue.now p.2 p.0.roots
+      decided_cannot b.args.lefts.now p.0.drawn p.0.ends (row f) (known (joined s)) b.args.queue.now p.2 p.0.roots
           _ _ c.cut-of-ring.new.1.1.1.1.1.1.1.1.1.1.1.0
-          (searched-ring _ _ _ _ _ _ _ o.outcome.given.1 s.settle.ensures.1).0 k.1,
+          (searched_ring _ _ _ _ _ _ _ o.outcome.given.1 s.settle.ensures.1).0 k.1,
     )
 
 -- ── settled ──
@@ -176,7 +176,7 @@ returns-3 c =
     let p = b.pre in
     let q = rw c.enum_told.given.1 at s.settle.ensures.1 in (
       f.cut_apart.ensures.1,
-      decided-can b.args.lefts.now p.0.drawn p.0.ends (row f) (known (joined s)) b.args.queue.now p.2 p.0.roots
+      decided_can b.args.lefts.now p.0.drawn p.0.ends (row f) (known (joined s)) b.args.queue.now p.2 p.0.roots
           q.0 q.1 _ _ (flags f) q.2,
     )
 

@@ -1,7 +1,7 @@
 -- The roots, and the decision from them.
 use mathlib.Core.Path.{refl}
 use borrow.Author.Rules.{rules}
-use Rattle.lengths.proofs.PathFlow.{treed-of}
+use Rattle.lengths.proofs.PathFlow.{treed_of}
 use Rattle.solver.proofs.Deciding.{redrawn}
 use Rattle.solver.proofs.decide_from.Statement.{statement}
 use Rattle.solver.proofs.decide_from.Tie as tie
@@ -10,7 +10,7 @@ fill-roots-requires : tie.Need-fill-roots-requires
 fill-roots-requires c κs =
     let p = c.before.requires in
     let o = p.0.opened in
-    (refl, o.drawn.few-edges, p.2, o.drawn.plane.sound.range.rotation-in, o.walked.forest)
+    (refl, o.drawn.few_edges, p.2, o.drawn.plane.sound.range.rotation_in, o.walked.forest)
 
 decide-at-requires : tie.Need-decide-at-requires
 decide-at-requires c κs =
@@ -20,7 +20,7 @@ decide-at-requires c κs =
     let e = r.fill-roots.ensures in (
       record {
         drawn = redrawn o.drawn p.2;
-        treed = treed-of o.drawn.plane.sound o.walked.forest;
+        treed = treed_of o.drawn.plane.sound o.walked.forest;
         groups = o.walked.groups;
         roots = e.1;
         ends = p.0.ends;

@@ -1,7 +1,7 @@
 -- A walk from the dart, and the nodes that it met: those of its part (`Preparing`).
 use mathlib.Core.Path.{refl}
 use native.Mathlib.Omega.{arith}
-use Rattle.solver.proofs.Preparing.{part-flagged}
+use Rattle.solver.proofs.Preparing.{part_flagged}
 use Rattle.solver.proofs.flag_part.Statement.{statement}
 use Rattle.solver.proofs.flag_part.Tie as tie
 
@@ -11,7 +11,7 @@ mul-spread c = omega (arith, c.requires.1)
 spread-requires : tie.Need-spread-requires
 spread-requires c κs =
     let p = c.before.before.requires in
-    (refl, refl, omega (arith, p.1), omega arith, p.3, p.4.range.rotation-in)
+    (refl, refl, omega (arith, p.1), omega arith, p.3, p.4.range.rotation_in)
 
 abbrev begun : tie.After-spread → tie.Start
 begun c = c.before.before.before
@@ -22,14 +22,14 @@ mul-flag-met c = omega (arith, (begun c.before).requires.1)
 flag-met-requires : tie.Need-flag-met-requires
 flag-met-requires c κs =
     let p = (begun c.before.before).requires in
-    (p.0, omega (arith, p.1), λ d l. omega (arith, p.4.range.tail-in d l, p.2))
+    (p.0, omega (arith, p.1), λ d l. omega (arith, p.4.range.tail_in d l, p.2))
 
 returns : tie.Need-returns
 returns c =
     let w = c.before.before.before in
     let p = (begun w).requires in
     let e = c.flag-met.ensures in
-    (e.0, part-flagged p.4 w.spread.ensures.2 p.2 c.flag-met.new.1.1.1.0 e.1)
+    (e.0, part_flagged p.4 w.spread.ensures.2 p.2 c.flag-met.new.1.1.1.0 e.1)
 
 pub flag-part-spec : {M : Type 1} → statement M
 flag-part-spec = tie.close (tie.spec mul-spread spread-requires mul-flag-met flag-met-requires returns)

@@ -5,9 +5,9 @@ use lib.ListN.{get_or-replicate}
 use lib.IntN.{pos}
 use borrow.Author.Rules.{rules}
 use Rattle.search.specs.Level.{far}
-use Rattle.search.proofs.Ending.{parents-sized}
-use Rattle.solver.proofs.SettledFlows.{ring-kept, flowing}
-use Rattle.solver.proofs.Naming.{searches-known}
+use Rattle.search.proofs.Ending.{parents_sized}
+use Rattle.solver.proofs.SettledFlows.{ring_kept, flowing}
+use Rattle.solver.proofs.Naming.{searches_known}
 use Rattle.solver.proofs.settle.Statement.{statement}
 use Rattle.solver.proofs.settle.Tie as tie
 
@@ -19,10 +19,10 @@ search-requires c κs =
       q.joined,
       p.groups,
       refl,
-      p.size-parents,
+      p.size_parents,
       refl,
-      p.size-queue,
-      p.few-roots,
+      p.size_queue,
+      p.few_roots,
       λ f l. get_or-replicate 1024 f far (pos 0) l,
       λ f l. get_or-replicate 1024 f 0 0 l,
     )
@@ -37,9 +37,9 @@ returns c =
     let p = (begun s).requires in
     let a = rw c.before.outcome.given.1 at s.search.ensures.0 in
     let went = s.search.ensures.1 in (
-      parents-sized _ _ _ p.size-queue p.few-roots p.searchable.sound p.searchable.joined p.groups went,
-      ring-kept _ a.0 a.2,
-      (_, searches-known c.before.outcome.given.1 went),
+      parents_sized _ _ _ p.size_queue p.few_roots p.searchable.sound p.searchable.joined p.groups went,
+      ring_kept _ a.0 a.2,
+      (_, searches_known c.before.outcome.given.1 went),
     )
 
 fill-flows-requires : tie.Need-fill-flows-requires
@@ -47,16 +47,16 @@ fill-flows-requires c κs =
     let t = c.before.before in
     let s = t.before.before in
     let p = (begun s).requires in
-    (p.few-edges, omega (arith, p.exact), flowing p.searchable _ (rw t.enum_told.given.1 at s.search.ensures.0))
+    (p.few_edges, omega (arith, p.exact), flowing p.searchable _ (rw t.enum_told.given.1 at s.search.ensures.0))
 
 returns-2 : tie.Need-returns-2
 returns-2 c =
     let t = c.before.before.before.before in
     let s = t.before.before in
     let p = (begun s).requires in (
-      parents-sized _ _ _ p.size-queue p.few-roots p.searchable.sound p.searchable.joined p.groups s.search.ensures.1,
+      parents_sized _ _ _ p.size_queue p.few_roots p.searchable.sound p.searchable.joined p.groups s.search.ensures.1,
       (_, (rw t.enum_told.given.1 at s.search.ensures.0), c.before.fill-flows.ensures),
-      (_, searches-known t.enum_told.given.1 s.search.ensures.1),
+      (_, searches_known t.enum_told.given.1 s.search.ensures.1),
     )
 
 pub settle-spec : {M : Type 1} → statement M

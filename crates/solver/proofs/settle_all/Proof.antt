@@ -2,14 +2,14 @@
 use mathlib.Core.Path.{refl, ◌∙◌}
 use native.Mathlib.Omega.{arith}
 use borrow.Author.Rules.{rules}
-use Rattle.arrays.proofs.FillLoops.{same-everywhere}
+use Rattle.arrays.proofs.FillLoops.{same_everywhere}
 use Rattle.solver.proofs.settle_all.Statement.{statement}
 use Rattle.solver.proofs.settle_all.Tie as tie
 
 first-faces-requires : tie.Need-first-faces-requires
 first-faces-requires c κs =
     let p = c.before.before.requires in
-    (refl, omega (arith, p.few-edges), p.forest)
+    (refl, omega (arith, p.few_edges), p.forest)
 
 settle-requires : tie.Need-settle-requires
 settle-requires c κs =
@@ -17,10 +17,10 @@ settle-requires c κs =
     let p = f.before.before.before.requires in
     let o = f.first-faces.ensures in
     record {
-      few-edges = p.few-edges;
-      few-roots = p.few-parts;
-      size-parents = p.size-parents;
-      size-queue = o.0;
+      few_edges = p.few_edges;
+      few_roots = p.few_parts;
+      size_parents = p.size_parents;
+      size_queue = o.0;
       searchable = p.searchable _ o.0 o.1;
       groups = p.groups;
       exact = p.exact;
@@ -31,7 +31,7 @@ returns c =
     let f = c.before.before.before.before.before in
     let o = f.first-faces.ensures in
     let e = c.before.settle.ensures in
-    (e.0, (_, o.0, o.1, e.1, record { are = o.2.are; kept = λ i l. o.2.kept i l ∙ same-everywhere 1024 0 i }, e.2))
+    (e.0, (_, o.0, o.1, e.1, record { are = o.2.are; kept = λ i l. o.2.kept i l ∙ same_everywhere 1024 0 i }, e.2))
 
 pub settle-all-spec : {M : Type 1} → statement M
 settle-all-spec = tie.close (tie.spec (λ c. search rules) first-faces-requires settle-requires (λ c. search rules) returns)

@@ -5,5 +5,5 @@ use Rattle.maps.specs.Map.{Map}
 -- source and sink are two nodes
 pub record Ends (𝓜 : Map) (source sink : ℕ) : Type 0 where
   pub source_in : source < 𝓜.nodes
-  pub sink-in : sink < 𝓜.nodes
+  pub sink_in : sink < 𝓜.nodes
   pub two : source ≢ sink

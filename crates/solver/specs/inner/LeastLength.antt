@@ -23,7 +23,7 @@ relengthed N d x = record {
 
 -- the face left of the dart d is a root: that of its part
 pub record RootedAt (N : Dual) (d : ℕ) : Type 0 where
-  pub dart-in : d < N.darts
+  pub dart_in : d < N.darts
   pub place : ℕ
   pub place_in : place < N.roots
   pub is : N.root place ≡ N.left d

@@ -1,5 +1,5 @@
 -- Which set of nodes a decision names: how it comes about, step by step, from the drawing, the capacities, the question and the parents that are proposed to
--- its search. Document 02, Job 12: what a party is answered follows from what it sees. That the set follows is `named-one` (proofs/OneSet.antt): the relation
+-- its search. Document 02, Job 12: what a party is answered follows from what it sees. That the set follows is `named_one` (proofs/OneSet.antt): the relation
 -- has one end, and nothing else is asked of it, so that nobody need believe it.
 use Rattle.std.specs.Prelude.{◌≡◌, ◌⊎◌, ◌≢◌, Bool, true, false, List, ℕ, ◌≤◌, ◌<◌, ℤ, pos, ◌<ℤ◌}
 use Rattle.std.proofs.Math.ListN as list
@@ -7,11 +7,11 @@ use Rattle.maps.specs.Map.{Map, darts}
 use Rattle.maps.specs.Face.{faces, left}
 use Rattle.maps.specs.Check.{Sound}
 use Rattle.arrays.specs.At.{at, atℤ}
-use Rattle.arrays.specs.Maps.{rightOf}
+use Rattle.arrays.specs.Maps.{right_of}
 use Rattle.traversal.specs.inner.Forest.{RootsHere}
 use Rattle.grouping.specs.inner.Walked.{Walked}
 use Rattle.lengths.specs.inner.Lengths.{Along}
-use Rattle.search.specs.Dual.{dualOf, WellFormed, Joined}
+use Rattle.search.specs.Dual.{dual_of, WellFormed, Joined}
 use Rattle.search.specs.Given.{given}
 use Rattle.search.specs.Trace.{Searches}
 use Rattle.search.specs.declared.Outcome.TheVariants as outcome
@@ -54,14 +54,14 @@ pub record RingNamed (𝓜 : Map) (outer count parts : ℕ) (lefts order from gr
   pub size : list.length queue ≡ 1024
   pub few : parts ≤ 1024
   pub roots : RootsHere (darts 𝓜) 𝓜.rotation outer (at lefts) (at order) (at from) (λ i. 0) (at queue) parts
-  pub sound : WellFormed (dualOf lefts lengths (darts 𝓜) count (list.take parts queue))
-  pub joined : Joined (dualOf lefts lengths (darts 𝓜) count (list.take parts queue))
+  pub sound : WellFormed (dual_of lefts lengths (darts 𝓜) count (list.take parts queue))
+  pub joined : Joined (dual_of lefts lengths (darts 𝓜) count (list.take parts queue))
   pub potentials : List ℤ
   pub parents : List ℕ
   pub closing : ℕ
-  pub closing-in : closing < darts 𝓜
+  pub closing_in : closing < darts 𝓜
   pub searched : Searches (given lefts lengths grouped starts (darts 𝓜) count) queue parts proposal potentials parents (outcome.Ring closing)
-  pub made : MadeOfRing 𝓜 (rightOf lefts) (atℤ lengths) (at order) (at from) (at parents) (at lefts closing) S
+  pub made : MadeOfRing 𝓜 (right_of lefts) (atℤ lengths) (at order) (at from) (at parents) (at lefts closing) S
 
 -- true: by the parts of source and sink; false: by a ring
 abbrev pub NamedBy : Map → (outer count parts : ℕ) → (lefts order from grouped starts : List ℕ) (lengths : List ℤ) (proposal : List ℕ)
@@ -71,8 +71,8 @@ NamedBy 𝓜 outer count parts lefts order from grouped starts lengths proposal 
     RingNamed 𝓜 outer count parts lefts order from grouped starts lengths proposal S
 
 -- no parents are proposed: each is 1024, which is no dart
-abbrev pub noParents : List ℕ
-noParents = list.replicate 1024 1024
+abbrev pub no_parents : List ℕ
+no_parents = list.replicate 1024 1024
 
 -- The set S is named for the value from s to t, of the drawing with this outer dart and these capacities, where these parents are proposed. The arrays are
 -- those that opening leaves.
@@ -91,7 +91,7 @@ pub record Named (𝓜 : Map) (outer : ℕ) (c : ℕ → ℤ) (s t : ℕ) (value
   pub start : ℕ
   pub finish : ℕ
   pub start_first : FirstDart 𝓜 s start
-  pub finish-first : FirstDart 𝓜 t finish
+  pub finish_first : FirstDart 𝓜 t finish
   pub lengths : List ℤ
   pub apart : Bool
   pub measured : MeasuredBy 𝓜 start finish (at from) c value (atℤ lengths) S apart

@@ -14,18 +14,18 @@ use Rattle.search.specs.declared.Outcome.TheVariants as outcome
 use Rattle.search.specs.inner.OfMap.{OfMap}
 use Rattle.flows.specs.inner.Plane.{Plane}
 use Rattle.flows.specs.inner.UnitFlow.{Carrier}
-use Rattle.flows.specs.inner.Lengths.{lengthFor}
+use Rattle.flows.specs.inner.Lengths.{length_for}
 use Rattle.edge_flows.specs.inner.Flow.{flow_of}
 use Rattle.flows.specs.ProvingSet.{Proves}
 use Rattle.arrays.specs.inner.Flags.{flagged}
-use Rattle.arrays.specs.inner.Sizes.{mostLength, mostCapacity}
+use Rattle.arrays.specs.inner.Sizes.{most_length, most_capacity}
 
 -- the lengths of the darts for a value from s to t: the capacity, less the value along what carries it
 pub record Lengthened (𝓜 : Map) (s t : ℕ) (capacity : ℕ → ℤ) (value : ℤ) (length : ℕ → ℤ) : Type 0 where
   pub along : ℕ → ℤ
   pub carrier : Carrier 𝓜 s t value along
-  pub is : (d : ℕ) → d < darts 𝓜 → length d ≡ lengthFor capacity along value d
-  pub short : (d : ℕ) → d < darts 𝓜 → Limited mostLength (length d)
+  pub is : (d : ℕ) → d < darts 𝓜 → length d ≡ length_for capacity along value d
+  pub short : (d : ℕ) → d < darts 𝓜 → Limited most_length (length d)
 
 -- the nodes of the part that the dart d is in are in S, and those of no other part: whole parts, the one of d, and no node that no walk leads to from there
 pub record PartFlagged (𝓜 : Map) (d : ℕ) (S : ℕ → Bool) : Type 0 where
@@ -37,8 +37,8 @@ pub record PartFlagged (𝓜 : Map) (d : ℕ) (S : ℕ → Bool) : Type 0 where
 pub record Searchable (N : Dual) (edges : ℕ) (capacity : ℕ → ℤ) : Type 0 where
   pub sound : WellFormed N
   pub joined : Joined N
-  pub darts-are : N.darts ≡ 2 * edges
-  pub small : (d : ℕ) → d < N.darts → Limited mostCapacity (capacity d)
+  pub darts_are : N.darts ≡ 2 * edges
+  pub small : (d : ℕ) → d < N.darts → Limited most_capacity (capacity d)
   pub sums : (d : ℕ) → d < N.darts → N.length d +ℤ N.length (rev d) ≡ capacity d +ℤ capacity (rev d)
 
 abbrev pub Searched : Dual → (edges : ℕ) → (ℕ → ℤ) → (flows flows' : List ℤ) → (parent : ℕ → ℕ) → Outcome → Type 0
@@ -49,11 +49,11 @@ Searched N edges capacity flows flows' parent (outcome.Ring d) = (flows' ≡ flo
 -- a ring of parents on the dual of a plane map
 pub record Ringed (𝓜 : Map) (N : Dual) (parent : ℕ → ℕ) (y : ℕ) : Type 0 where
   pub plane : Plane 𝓜
-  pub few-nodes : 𝓜.nodes ≤ 1024
-  pub few-edges : 𝓜.edges ≤ 512
+  pub few_nodes : 𝓜.nodes ≤ 1024
+  pub few_edges : 𝓜.edges ≤ 512
   pub of : OfMap N 𝓜
-  pub few-faces : N.faces ≤ 1024
-  pub short : (d : ℕ) → d < darts 𝓜 → Limited mostLength (N.length d)
+  pub few_faces : N.faces ≤ 1024
+  pub short : (d : ℕ) → d < darts 𝓜 → Limited most_length (N.length d)
   pub pairs : (d : ℕ) → d < darts 𝓜 → pos 0 ≤ℤ (N.length d +ℤ N.length (rev d))
   pub ring : ParentRing N parent y
 

@@ -4,7 +4,7 @@ use Prim.Native.Nat.{◌+◌, ◌≤◌}
 use native.Mathlib.Omega.{arith}
 use lib.ListN.{length}
 use Rattle.texts.specs.Decimal.{decimal}
-use Rattle.texts.proofs.Length.{length-one, length_more}
+use Rattle.texts.proofs.Length.{length_one, length_more}
 use Rattle.texts.proofs.digit_count.Statement.{statement}
 use Rattle.texts.proofs.digit_count.Tie as tie
 
@@ -27,7 +27,7 @@ loop-again : tie.Need-loop-preserved invariant-loop decreases-loop
 loop-again c = (omega (arith, length_more c.before.loop.left (omega arith)), omega arith)
 
 returns : tie.Need-returns invariant-loop decreases-loop
-returns c = omega (arith, length-one c.before.loop.left (omega arith))
+returns c = omega (arith, length_one c.before.loop.left (omega arith))
 
 pub digit-count-spec : {M : Type 1} → statement M
 digit-count-spec =

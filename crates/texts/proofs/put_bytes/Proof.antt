@@ -5,7 +5,7 @@ use native.Mathlib.Omega.{arith}
 use lib.ListN.{length, get_or, set, take, length-set}
 use lib.Seq.{take-length}
 use Rattle.fields.specs.Fields.{put}
-use Rattle.texts.proofs.Pieces.{put-none, put_next}
+use Rattle.texts.proofs.Pieces.{put_none, put_next}
 use borrow.Author.Rules.{rules}
 use Rattle.texts.proofs.put_bytes.Statement.{statement}
 use Rattle.texts.proofs.put_bytes.Tie as tie
@@ -17,7 +17,7 @@ abbrev decreases-loop : tie.decreases-loop
 decreases-loop text₀ at bytes i₀ text i = length bytes - i
 
 loop-holds : tie.Need-loop-init invariant-loop decreases-loop
-loop-holds c = (omega arith, refl, sym (put-none c.args.at c.args.text.now))
+loop-holds c = (omega arith, refl, sym (put_none c.args.at c.args.text.now))
 
 loop-again : tie.Need-loop-preserved invariant-loop decreases-loop
 loop-again c =

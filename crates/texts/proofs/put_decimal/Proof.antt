@@ -4,8 +4,8 @@ use Prim.Native.Nat.{◌+◌, ◌<◌}
 use native.Mathlib.Omega.{arith}
 use lib.ListN.{length, length-set}
 use borrow.Author.Rules.{rules}
-use Rattle.texts.proofs.Length.{decimal-positive}
-use Rattle.texts.proofs.Writing.{FromRight, right-start, right-length, right-inside, right-before, right-step, right_end}
+use Rattle.texts.proofs.Length.{decimal_positive}
+use Rattle.texts.proofs.Writing.{FromRight, right_start, right_length, right_inside, right_before, right_step, right_end}
 use Rattle.texts.proofs.put_decimal.Statement.{statement}
 use Rattle.texts.proofs.put_decimal.Tie as tie
 
@@ -19,15 +19,15 @@ inside : (l : tie.At-loop invariant-loop decreases-loop) → l.loop.i < length l
 inside l =
     let a = l.before.before.before.args in
     let o = l.loop in
-    right-inside a.n a.at a.text.now l.before.before.before.requires o.m o.i o.text o.invariant
+    right_inside a.n a.at a.text.now l.before.before.before.requires o.m o.i o.text o.invariant
 
 sub-i : tie.Need-overflow-sub-i invariant-loop decreases-loop
-sub-i c = omega (arith, c.digit-count.ensures, decimal-positive c.before.before.args.n)
+sub-i c = omega (arith, c.digit-count.ensures, decimal_positive c.before.before.args.n)
 
 loop-holds : tie.Need-loop-init invariant-loop decreases-loop
 loop-holds c =
     let a = c.before.before.args in
-    right-start a.n a.at _ a.text.now (omega (arith, c.digit-count.ensures, decimal-positive a.n))
+    right_start a.n a.at _ a.text.now (omega (arith, c.digit-count.ensures, decimal_positive a.n))
 
 slice-write-text : tie.Need-slice-write-text invariant-loop decreases-loop
 slice-write-text c = inside c.before.before
@@ -37,14 +37,14 @@ sub-i-2 c =
     let l = c.before.before in
     let a = l.before.before.before.args in
     let o = l.loop in
-    omega (arith, right-before a.n a.at a.text.now l.before.before.before.requires o.m o.i o.text o.invariant c.before.loop-test.true)
+    omega (arith, right_before a.n a.at a.text.now l.before.before.before.requires o.m o.i o.text o.invariant c.before.loop-test.true)
 
 loop-again : tie.Need-loop-preserved invariant-loop decreases-loop
 loop-again c =
     let l = c.before.before in
     let a = l.before.before.before.args in
     let o = l.loop in
-    right-step a.n a.at a.text.now l.before.before.before.requires o.m o.i o.text
+    right_step a.n a.at a.text.now l.before.before.before.requires o.m o.i o.text
     o.invariant c.last-digit.result c.last-digit.ensures c.before.loop-test.true
 
 slice-write-text-2 : tie.Need-slice-write-text-2 invariant-loop decreases-loop
@@ -56,7 +56,7 @@ same_length c =
     let a = l.before.before.before.args in
     let o = l.loop in
     length-set o.text o.i c.last-digit2.result
-    ∙ right-length a.n a.at a.text.now l.before.before.before.requires o.m o.i o.text o.invariant
+    ∙ right_length a.n a.at a.text.now l.before.before.before.requires o.m o.i o.text o.invariant
 
 returns : tie.Need-returns invariant-loop decreases-loop
 returns c =

@@ -8,29 +8,29 @@ use lib.ListN.{length, set, length-set}
 use lib.IntN.{pos, nat_abs}
 use lib.Signed.{lt_z}
 use borrow.Author.Rules.{rules}
-use Rattle.signed.proofs.Laws.{number-of-bits}
+use Rattle.signed.proofs.Laws.{number_of_bits}
 use Rattle.fields.specs.Fields.{put}
-use Rattle.fields.proofs.Laws.{put-length}
+use Rattle.fields.proofs.Laws.{put_length}
 use Rattle.texts.specs.Decimal.{decimal, number}
-use Rattle.texts.proofs.Pieces.{put-behind}
-use Rattle.texts.proofs.Sign.{number-below, number-not-below}
+use Rattle.texts.proofs.Pieces.{put_behind}
+use Rattle.texts.proofs.Sign.{number_below, number_not_below}
 use Rattle.texts.proofs.put_number.Statement.{statement}
 use Rattle.texts.proofs.put_number.Tie as tie
 
 size : (c : tie.After-magnitude) → c.magnitude.result ≡ nat_abs c.before.before.args.x
-size c = c.magnitude.ensures ∙ ap nat_abs (number-of-bits c.before.before.args.x c.before.before.ranges.x)
+size c = c.magnitude.ensures ∙ ap nat_abs (number_of_bits c.before.before.args.x c.before.before.ranges.x)
 
 with-minus : (c : tie.Then1) → 45 ∷ decimal c.before.magnitude.result ≡ number c.before.before.before.args.x
 with-minus c =
     let s = c.before.before.before in
-    let b : lt_z s.args.x (pos 0) ≡ true = rw (number-of-bits s.args.x s.ranges.x) at c.if1.true in
-    ap (λ n. 45 ∷ decimal n) (size c.before) ∙ sym (number-below s.args.x b)
+    let b : lt_z s.args.x (pos 0) ≡ true = rw (number_of_bits s.args.x s.ranges.x) at c.if1.true in
+    ap (λ n. 45 ∷ decimal n) (size c.before) ∙ sym (number_below s.args.x b)
 
 without : (c : tie.Else1) → decimal c.before.magnitude.result ≡ number c.before.before.before.args.x
 without c =
     let s = c.before.before.before in
-    let b : lt_z s.args.x (pos 0) ≡ false = rw (number-of-bits s.args.x s.ranges.x) at c.if1.false in
-    ap decimal (size c.before) ∙ sym (number-not-below s.args.x b)
+    let b : lt_z s.args.x (pos 0) ≡ false = rw (number_of_bits s.args.x s.ranges.x) at c.if1.false in
+    ap decimal (size c.before) ∙ sym (number_not_below s.args.x b)
 
 fits : (c : tie.Then1)
     → c.before.before.before.args.at + 1 + length (decimal c.before.magnitude.result) ≤ length c.before.before.before.args.text.now
@@ -44,7 +44,7 @@ written c =
     let behind : c.put-decimal.new.0 ≡ put (a.at + 1) (decimal t.before.magnitude.result) (set a.text.now a.at 45) =
     c.put-decimal.ensures.0 in
     behind
-    ∙ put-behind a.at 45 (decimal t.before.magnitude.result) a.text.now (fits t)
+    ∙ put_behind a.at 45 (decimal t.before.magnitude.result) a.text.now (fits t)
     ∙ ap (λ s. put a.at s a.text.now) (with-minus t)
 
 slice-write-text : tie.Need-slice-write-text
@@ -59,7 +59,7 @@ put-decimal-requires-2 c κs = omega (arith, ap length (without c.before), c.bef
 same_length : tie.Need-same-length
 same_length c =
     let s = c.before.before.before.before.before.before.before in
-    ap length (written c.before.before) ∙ put-length s.args.at (number s.args.x) s.args.text.now s.requires
+    ap length (written c.before.before) ∙ put_length s.args.at (number s.args.x) s.args.text.now s.requires
 
 returns : tie.Need-returns
 returns c =

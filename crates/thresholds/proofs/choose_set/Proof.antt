@@ -10,18 +10,18 @@ use mir.ValLaws.{to_z-of_z}
 use mir.Syntax.{w32, w64}
 use mir.Val.{to_z, of_z}
 use borrow.Author.Rules.{rules}
-use Rattle.integers.proofs.Tests.{not-true}
-use Rattle.integers.proofs.Laws.{lt-of-test}
-use Rattle.signed.proofs.Laws.{number-of-bits}
-use Rattle.signed.proofs.Limits.{limited-fits}
+use Rattle.integers.proofs.Tests.{not_true}
+use Rattle.integers.proofs.Laws.{lt_of_test}
+use Rattle.signed.proofs.Laws.{number_of_bits}
+use Rattle.signed.proofs.Limits.{limited_fits}
 use Rattle.arrays.specs.At.{at, atℤ}
 use Rattle.arrays.specs.inner.Flags.{flagged}
-use Rattle.arrays.specs.inner.Sizes.{mostHeight}
+use Rattle.arrays.specs.inner.Sizes.{most_height}
 use Rattle.cuts.specs.inner.Cut.{cut_of}
 use Rattle.thresholds.specs.inner.Above.{above}
 use Rattle.thresholds.specs.inner.Choice.{Choosable}
-use Rattle.thresholds.proofs.Choosing.{Trying, left-above, trying_start, trying-next, trying-step, trying-less, cut-same, not-false}
-use Rattle.thresholds.proofs.Choosing.{Tried, tried-start, tried-step, tried-serves}
+use Rattle.thresholds.proofs.Choosing.{Trying, left_above, trying_start, trying_next, trying_step, trying_less, cut_same, not_false}
+use Rattle.thresholds.proofs.Choosing.{Tried, tried_start, tried_step, tried_serves}
 use Rattle.thresholds.proofs.choose_set.Statement.{statement}
 use Rattle.thresholds.proofs.choose_set.Tie as tie
 
@@ -33,7 +33,7 @@ invariant-loop tails lengths heights nodes darts inside₀ threshold₀ inside t
     × Tried nodes darts (at tails) (atℤ lengths) (atℤ heights) (to_z w32 threshold)
 
 abbrev decreases-loop : tie.decreases-loop
-decreases-loop tails lengths heights nodes darts inside₀ threshold₀ inside threshold = left-above (to_z w32 threshold)
+decreases-loop tails lengths heights nodes darts inside₀ threshold₀ inside threshold = left_above (to_z w32 threshold)
 
 -- ── the places: where it starts, and the head of the loop ──
 abbrev Start : Type 0
@@ -59,19 +59,19 @@ cut-above l =
     cut_of a.darts (at a.tails.now) (atℤ a.lengths.now) (above (atℤ a.heights.now) (to_z w32 l.loop.threshold))
 
 -- the flags are those of the nodes above the threshold
-same-cut : (l : At-loop) → cut-flagged l ≡ cut-above l
-same-cut l = cut-same (choosable (begun l)) _ _ l.loop.invariant.1
+same_cut : (l : At-loop) → cut-flagged l ≡ cut-above l
+same_cut l = cut_same (choosable (begun l)) _ _ l.loop.invariant.1
 
 -- ── before the loop ──
 lowest-requires : tie.Need-lowest-requires invariant-loop decreases-loop
-lowest-requires c κs = ((choosable c).some-node, (choosable c).few-nodes)
+lowest-requires c κs = ((choosable c).some_node, (choosable c).few_nodes)
 
 flag-above-requires : tie.Need-flag-above-requires invariant-loop decreases-loop
-flag-above-requires c κs = let s = c.before.before in (s.requires.0, (choosable s).few-nodes)
+flag-above-requires c κs = let s = c.before.before in (s.requires.0, (choosable s).few_nodes)
 
 -- the first threshold is the lowest height
 first-is : (c : tie.After-lowest invariant-loop decreases-loop) → to_z w32 (of_z w32 c.lowest.result) ≡ c.lowest.result
-first-is c = number-of-bits _ (record { sfits = c.lowest.type-inv })
+first-is c = number_of_bits _ (record { sfits = c.lowest.type-inv })
 
 loop-holds : tie.Need-loop-init invariant-loop decreases-loop
 loop-holds c =
@@ -80,14 +80,14 @@ loop-holds c =
       c.flag-above.ensures.0,
       c.flag-above.ensures.1,
       rw (first-is f) (trying_start (choosable f.before) f.lowest.result least.0 least.1),
-      rw (first-is f) (tried-start f.lowest.result least.0 least.1),
+      rw (first-is f) (tried_start f.lowest.result least.0 least.1),
     )
 
 -- ── the test ──
 total-requires : tie.Need-total-requires invariant-loop decreases-loop
 total-requires c κs =
     let ok = choosable (begun c.before) in
-    (ok.few-darts, ok.even, (λ d l. omega (arith, ok.tail-in d l, ok.few-nodes)), ok.short)
+    (ok.few_darts, ok.even, (λ d l. omega (arith, ok.tail_in d l, ok.few_nodes)), ok.short)
 
 abbrev Tested : Type 0
 Tested = tie.After-is-negative invariant-loop decreases-loop
@@ -96,8 +96,8 @@ abbrev turn : Tested → At-loop
 turn c = c.before.before.before
 
 -- the test is whether the cut of the flags is below zero
-test-is : (c : Tested) → c.is_negative.result ≡ lt_z (cut-flagged (turn c)) (pos 0)
-test-is c =
+test_is : (c : Tested) → c.is_negative.result ≡ lt_z (cut-flagged (turn c)) (pos 0)
+test_is c =
     c.is_negative.ensures ∙ ap (λ z. lt_z z (pos 0)) (to_z-of_z w64 _ (record { sfits = c.before.total.type-inv }) ∙ c.before.total.ensures)
 
 -- ── the cut is not below zero: the threshold is raised ──
@@ -105,27 +105,27 @@ abbrev raising : tie.Then1 invariant-loop decreases-loop → At-loop
 raising c = turn c.before
 
 goes_on : (c : tie.Then1 invariant-loop decreases-loop) → lt_z (cut-above (raising c)) (pos 0) ≡ false
-goes_on c = ap (λ z. lt_z z (pos 0)) (sym (same-cut (raising c))) ∙ sym (test-is c.before) ∙ not-true _ c.if1.true
+goes_on c = ap (λ z. lt_z z (pos 0)) (sym (same_cut (raising c))) ∙ sym (test_is c.before) ∙ not_true _ c.if1.true
 
 plus-requires : tie.Need-plus-requires invariant-loop decreases-loop
-plus-requires c κs = limited-fits mostHeight _ (omega arith) (trying-next (raising c).loop.invariant.2 (goes_on c))
+plus-requires c κs = limited_fits most_height _ (omega arith) (trying_next (raising c).loop.invariant.2 (goes_on c))
 
 abbrev raised : tie.After-plus invariant-loop decreases-loop → At-loop
 raised c = raising c.before
 
 -- the next threshold is one more
-next-is : (c : tie.After-plus invariant-loop decreases-loop) → to_z w32 (of_z w32 c.plus.result) ≡ to_z w32 (raised c).loop.threshold +ℤ pos 1
-next-is c = number-of-bits _ (record { sfits = c.plus.type-inv }) ∙ c.plus.ensures
+next_is : (c : tie.After-plus invariant-loop decreases-loop) → to_z w32 (of_z w32 c.plus.result) ≡ to_z w32 (raised c).loop.threshold +ℤ pos 1
+next_is c = number_of_bits _ (record { sfits = c.plus.type-inv }) ∙ c.plus.ensures
 
 flag-above-requires-2 : tie.Need-flag-above-requires-2 invariant-loop decreases-loop
-flag-above-requires-2 c κs = let l = raised c.before in (l.loop.inv.0, (choosable (begun l)).few-nodes)
+flag-above-requires-2 c κs = let l = raised c.before in (l.loop.inv.0, (choosable (begun l)).few_nodes)
 
 -- ── the flags are set again ──
 abbrev stepped : tie.After-flag-above2 invariant-loop decreases-loop → tie.After-plus invariant-loop decreases-loop
 stepped c = c.before.before
 
 loop-less : tie.Need-loop-smaller invariant-loop decreases-loop
-loop-less c = let p = stepped c in rw (next-is p) (trying-less (raised p).loop.inv.2 (goes_on p.before))
+loop-less c = let p = stepped c in rw (next_is p) (trying_less (raised p).loop.inv.2 (goes_on p.before))
 
 loop-again : tie.Need-loop-preserved invariant-loop decreases-loop
 loop-again c =
@@ -133,8 +133,8 @@ loop-again c =
     let i = (raised p).loop.inv in (
       c.flag-above2.ensures.0,
       c.flag-above2.ensures.1,
-      rw (next-is p) (trying-step i.2 (goes_on p.before)),
-      rw (next-is p) (tried-step i.3 (goes_on p.before)),
+      rw (next_is p) (trying_step i.2 (goes_on p.before)),
+      rw (next_is p) (tried_step i.3 (goes_on p.before)),
     )
 
 -- ── the cut is below zero ──
@@ -142,13 +142,13 @@ abbrev found : tie.Else1 invariant-loop decreases-loop → At-loop
 found c = turn c.before
 
 negative : (c : tie.Else1 invariant-loop decreases-loop) → cut-flagged (found c) <ℤ pos 0
-negative c = lt-of-test _ _ (sym (test-is c.before) ∙ not-false _ c.if1.false)
+negative c = lt_of_test _ _ (sym (test_is c.before) ∙ not_false _ c.if1.false)
 
 returns : tie.Need-returns invariant-loop decreases-loop
 returns c =
     let l = found c in
     let i = l.loop.inv in
-    (i.0, negative c, tried-serves i.3 (subst (λ z. z <ℤ pos 0) (same-cut l) (negative c)) i.1)
+    (i.0, negative c, tried_serves i.3 (subst (λ z. z <ℤ pos 0) (same_cut l) (negative c)) i.1)
 
 pub choose-set-spec : {M : Type 1} → statement M
 choose-set-spec =

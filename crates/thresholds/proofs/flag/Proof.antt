@@ -2,19 +2,19 @@
 use mathlib.Core.Path.{sym, ◌∙◌, ap₂}
 use lib.Signed.{lt_z}
 use borrow.Author.Rules.{rules}
-use Rattle.signed.proofs.Laws.{number-of-bits}
+use Rattle.signed.proofs.Laws.{number_of_bits}
 use Rattle.thresholds.proofs.flag.Statement.{statement}
 use Rattle.thresholds.proofs.flag.Tie as tie
 
 returns : tie.Need-returns
 returns c =
     let s = c.before.before in
-    sym c.if1.true ∙ c.before.is-above.ensures ∙ ap₂ lt_z (number-of-bits _ s.ranges.threshold) (number-of-bits _ s.ranges.x)
+    sym c.if1.true ∙ c.before.is-above.ensures ∙ ap₂ lt_z (number_of_bits _ s.ranges.threshold) (number_of_bits _ s.ranges.x)
 
 returns-2 : tie.Need-returns-2
 returns-2 c =
     let s = c.before.before in
-    sym c.if1.false ∙ c.before.is-above.ensures ∙ ap₂ lt_z (number-of-bits _ s.ranges.threshold) (number-of-bits _ s.ranges.x)
+    sym c.if1.false ∙ c.before.is-above.ensures ∙ ap₂ lt_z (number_of_bits _ s.ranges.threshold) (number_of_bits _ s.ranges.x)
 
 pub flag-spec : {M : Type 1} → statement M
 flag-spec = tie.close (tie.spec (λ c κs. search rules) returns returns-2)

@@ -10,7 +10,7 @@ use mir.Syntax.{w32}
 use mir.Val.{to_z, of_z}
 use borrow.Author.Count.{below_more}
 use borrow.Author.Rules.{rules}
-use Rattle.signed.proofs.Laws.{number-of-bits}
+use Rattle.signed.proofs.Laws.{number_of_bits}
 use Rattle.arrays.specs.At.{at, atℤ}
 use Rattle.thresholds.specs.inner.Above.{above}
 use Rattle.thresholds.proofs.flag_above.Statement.{statement}
@@ -38,14 +38,14 @@ loop-again c =
       below_more (λ u. eqb (at (set o.inside o.v r) u) 1 ≡ above height t u) o.v
           (λ u l. ap (λ x. eqb x 1) (get_or-set_other o.inside o.v u r 0 (λ e. omega arith)) ∙ o.invariant.2 u l)
           (ap (λ x. eqb x 1) (get_or-set_same o.inside o.v r 0 (omega arith)) ∙ c.flag.ensures
-          ∙ ap (lt_z t) (number-of-bits _ (record { sfits = c.before.flag-arg.given }))),
+          ∙ ap (lt_z t) (number_of_bits _ (record { sfits = c.before.flag-arg.given }))),
     )
 
 returns : tie.Need-returns invariant-loop decreases-loop
 returns c =
     let s = c.before.before in
     let o = c.before.loop in
-    (o.invariant.1, λ v l. o.invariant.2 v (omega arith) ∙ ap (λ t. lt_z t (atℤ s.args.heights.now v)) (number-of-bits _ s.ranges.threshold))
+    (o.invariant.1, λ v l. o.invariant.2 v (omega arith) ∙ ap (λ t. lt_z t (atℤ s.args.heights.now v)) (number_of_bits _ s.ranges.threshold))
 
 pub flag-above-spec : {M : Type 1} → statement M
 flag-above-spec =

@@ -2,8 +2,8 @@
 use mathlib.Core.Logic.{inl, inr}
 use mathlib.Core.Path.{refl}
 use lib.Signed.{≤ℤ_refl}
-use Rattle.integers.proofs.Laws.{le_of_lt, lt-of-test, ge-of-test}
-use Rattle.signed.proofs.Laws.{number-of-bits}
+use Rattle.integers.proofs.Laws.{le_of_lt, lt_of_test, ge_of_test}
+use Rattle.signed.proofs.Laws.{number_of_bits}
 use Rattle.thresholds.proofs.lower.Statement.{statement}
 use Rattle.thresholds.proofs.lower.Tie as tie
 
@@ -11,17 +11,17 @@ returns : tie.Need-returns
 returns c =
     let x = c.before.args.x in
     let y = c.before.args.y in
-    let px = number-of-bits x c.before.ranges.x in
-    let py = number-of-bits y c.before.ranges.y in
-    rw px (≤ℤ_refl x, le_of_lt (lt-of-test x y (rw (px, py) at c.if1.true)), inl refl)
+    let px = number_of_bits x c.before.ranges.x in
+    let py = number_of_bits y c.before.ranges.y in
+    rw px (≤ℤ_refl x, le_of_lt (lt_of_test x y (rw (px, py) at c.if1.true)), inl refl)
 
 returns-2 : tie.Need-returns-2
 returns-2 c =
     let x = c.before.args.x in
     let y = c.before.args.y in
-    let px = number-of-bits x c.before.ranges.x in
-    let py = number-of-bits y c.before.ranges.y in
-    rw py (ge-of-test x y (rw (px, py) at c.if1.false), ≤ℤ_refl y, inr refl)
+    let px = number_of_bits x c.before.ranges.x in
+    let py = number_of_bits y c.before.ranges.y in
+    rw py (ge_of_test x y (rw (px, py) at c.if1.false), ≤ℤ_refl y, inr refl)
 
 pub lower_spec : {M : Type 1} → statement M
 lower_spec = tie.close (tie.spec returns returns-2)

@@ -4,9 +4,9 @@ use native.Mathlib.Omega.{arith}
 use mir.Syntax.{w32}
 use mir.Val.{to_z}
 use borrow.Author.Rules.{rules}
-use Rattle.signed.proofs.Laws.{number-of-bits}
+use Rattle.signed.proofs.Laws.{number_of_bits}
 use Rattle.arrays.specs.At.{atℤ}
-use Rattle.thresholds.proofs.Lowering.{Low, low-start, low_step}
+use Rattle.thresholds.proofs.Lowering.{Low, low_start, low_step}
 use Rattle.thresholds.proofs.lowest.Statement.{statement}
 use Rattle.thresholds.proofs.lowest.Tie as tie
 
@@ -18,15 +18,15 @@ decreases-loop heights nodes low₀ v₀ low v = nodes - v
 
 loop-holds : tie.Need-loop-init invariant-loop decreases-loop
 loop-holds c =
-    (omega arith, low-start _ _ _ c.before.requires.0 (number-of-bits _ (record { sfits = c.low.given })))
+    (omega arith, low_start _ _ _ c.before.requires.0 (number_of_bits _ (record { sfits = c.low.given })))
 
 loop-again : tie.Need-loop-preserved invariant-loop decreases-loop
 loop-again c =
     let s = c.before.before.before.before.before in
-    let height = number-of-bits _ (record { sfits = c.before.lower-arg.given }) in
+    let height = number_of_bits _ (record { sfits = c.before.lower-arg.given }) in
     let o = c.before.before.before.loop in (
       omega arith,
-      rw (number-of-bits _ (record { sfits = c.lower.type-inv }))
+      rw (number_of_bits _ (record { sfits = c.lower.type-inv }))
           (low_step s.args.nodes (atℤ s.args.heights.now) o.v _ _ _ (omega arith) o.invariant.1 height c.lower.ensures),
     )
 

@@ -3,17 +3,17 @@ use Rattle.std.specs.Prelude.{◌≡◌, Bool, ℕ, ◌%◌, ◌≤◌, ◌<◌,
 use Rattle.integers.specs.inner.Limited.{Limited}
 use Rattle.cuts.specs.inner.Cut.{cut_of}
 use Rattle.thresholds.specs.inner.Above.{above}
-use Rattle.arrays.specs.inner.Sizes.{mostLength, mostHeight}
+use Rattle.arrays.specs.inner.Sizes.{most_length, most_height}
 
 -- some threshold has a cut below zero
 pub record Choosable (nodes darts : ℕ) (tail : ℕ → ℕ) (length height : ℕ → ℤ) : Type 0 where
-  pub few-nodes : nodes ≤ 1024
-  pub some-node : 0 < nodes
-  pub few-darts : darts ≤ 1024
+  pub few_nodes : nodes ≤ 1024
+  pub some_node : 0 < nodes
+  pub few_darts : darts ≤ 1024
   pub even : darts % 2 ≡ 0
-  pub tail-in : (d : ℕ) → d < darts → tail d < nodes
-  pub short : (d : ℕ) → d < darts → Limited mostLength (length d)
-  pub low : (v : ℕ) → v < nodes → Limited mostHeight (height v)
+  pub tail_in : (d : ℕ) → d < darts → tail d < nodes
+  pub short : (d : ℕ) → d < darts → Limited most_length (length d)
+  pub low : (v : ℕ) → v < nodes → Limited most_height (height v)
   pub threshold : ℤ
   pub negative : cut_of darts tail length (above height threshold) <ℤ pos 0
 
@@ -24,6 +24,6 @@ pub record FirstServes (nodes darts : ℕ) (tail : ℕ → ℕ) (length height :
   pub reached : (v : ℕ) × (v < nodes) × (lowest ≡ height v)
   pub threshold : ℤ
   pub from_lowest : lowest ≤ℤ threshold
-  pub none-lower : (t : ℤ) → lowest ≤ℤ t → t <ℤ threshold → cut_of darts tail length (above height t) <ℤ pos 0 → ⊥
+  pub none_lower : (t : ℤ) → lowest ≤ℤ t → t <ℤ threshold → cut_of darts tail length (above height t) <ℤ pos 0 → ⊥
   pub serves : cut_of darts tail length (above height threshold) <ℤ pos 0
   pub flags : (v : ℕ) → v < nodes → S v ≡ above height threshold v

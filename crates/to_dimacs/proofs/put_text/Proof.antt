@@ -7,10 +7,10 @@ use borrow.Author.Rules.{rules}
 use Rattle.refusals.specs.Order.{NoneOf, Judged}
 use Rattle.refusals.specs.declared.Verdict.{Verdict}
 use Rattle.refusals.specs.declared.Verdict.TheVariants.{Passed, Refused}
-use Rattle.records.specs.Record.{recordChecks}
+use Rattle.records.specs.Record.{record_checks}
 use Rattle.key_text.proofs.Pieces.{rest}
-use Rattle.key_text.proofs.Answering.{question-whole}
-use Rattle.to_dimacs.proofs.Exporting.{question-refused, text-written, text-refused}
+use Rattle.key_text.proofs.Answering.{question_whole}
+use Rattle.to_dimacs.proofs.Exporting.{question_refused, text_written, text_refused}
 use Rattle.to_dimacs.proofs.put_text.Statement.{statement}
 use Rattle.to_dimacs.proofs.put_text.Tie as tie
 
@@ -18,14 +18,14 @@ use Rattle.to_dimacs.proofs.put_text.Tie as tie
 abbrev begin : tie.After-check-record → tie.Start
 begin c = c.before.before
 
-judged : (c : tie.After-check-record) (v : Verdict) → c.check-record.result ≡ v → Judged (recordChecks (begin c).args.input.now 3 0) v
+judged : (c : tie.After-check-record) (v : Verdict) → c.check-record.result ≡ v → Judged (record_checks (begin c).args.input.now 3 0) v
 judged c v e = rw e at c.check-record.ensures
 
-passed : (c : tie.After-enum-told) → NoneOf (recordChecks (begin c.before.before).args.input.now 3 0)
+passed : (c : tie.After-enum-told) → NoneOf (record_checks (begin c.before.before).args.input.now 3 0)
 passed c = judged c.before.before Passed c.enum_told.given.1
 
 whole : (c : tie.After-enum-told) → 9 ≤ length (begin c.before.before).args.input.now
-whole c = question-whole (begin c.before.before).args.input.now (passed c)
+whole c = question_whole (begin c.before.before).args.input.now (passed c)
 
 -- ── the needs, in the order of the code ──
 returns : tie.Need-returns
@@ -33,7 +33,7 @@ returns c =
     let w = c.before.before.before in
     let k = w.before.before in
     let s = begin k in
-    question-refused s.args.input.now s.args.text.now _ _ _ _ (judged k (Refused _ _) w.whole.given.1) c.Put-refused.ensures
+    question_refused s.args.input.now s.args.text.now _ _ _ _ (judged k (Refused _ _) w.whole.given.1) c.Put-refused.ensures
 
 read-u16-requires : tie.Need-read-u16-requires
 read-u16-requires c κs = omega (arith, whole c)
@@ -56,7 +56,7 @@ returns-2 c =
     let source = sink.before in
     let t = source.before in
     let s = begin t.before.before in
-    text-written s.args.input.now s.args.text.now (passed t) _ _ _ (sym (rest s.args.input.now _ r.record-length.ensures.0))
+    text_written s.args.input.now s.args.text.now (passed t) _ _ _ (sym (rest s.args.input.now _ r.record-length.ensures.0))
     source.read-u16.ensures sink.read-u162.ensures _ _ w.write-dimacs.result a.answer.given.1 w.write-dimacs.ensures
 
 returns-3 : tie.Need-returns-3
@@ -68,7 +68,7 @@ returns-3 c =
     let source = sink.before in
     let t = source.before in
     let s = begin t.before.before in
-    text-refused s.args.input.now s.args.text.now (passed t) _ _ _ (sym (rest s.args.input.now _ r.record-length.ensures.0))
+    text_refused s.args.input.now s.args.text.now (passed t) _ _ _ (sym (rest s.args.input.now _ r.record-length.ensures.0))
     source.read-u16.ensures sink.read-u162.ensures _ _ _ _ _ w.write-dimacs.result a.answer2.given.1 w.write-dimacs.ensures
     c.put-refused2.ensures
 

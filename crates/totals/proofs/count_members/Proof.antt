@@ -6,7 +6,7 @@ use native.Mathlib.Omega.{arith}
 use borrow.Author.Rules.{rules}
 use Rattle.integers.specs.Sum.{sum, count}
 use Rattle.flows.specs.ProvingSet.{member}
-use Rattle.totals.proofs.Listing.{count-in, count-out}
+use Rattle.totals.proofs.Listing.{count_in, count_out}
 use Rattle.totals.proofs.count_members.Statement.{statement}
 use Rattle.totals.proofs.count_members.Tie as tie
 
@@ -29,8 +29,8 @@ loop-again c =
     let set = c.before.before.before.before.before.args.set.now in
     let t = c.before.contains.ensures in
     ⊎_elim
-    (λ w. (omega arith, omega (arith, w.1, o.invariant.1), w.1 ∙ ap (λ (x : ℕ). x + 1) o.invariant.2 ∙ sym (count-in o.v (member set) (sym t ∙ w.0.taken))))
-    (λ w. (omega arith, omega (arith, w.1, o.invariant.1), w.1 ∙ o.invariant.2 ∙ sym (count-out o.v (member set) (sym t ∙ w.0.left))))
+    (λ w. (omega arith, omega (arith, w.1, o.invariant.1), w.1 ∙ ap (λ (x : ℕ). x + 1) o.invariant.2 ∙ sym (count_in o.v (member set) (sym t ∙ w.0.taken))))
+    (λ w. (omega arith, omega (arith, w.1, o.invariant.1), w.1 ∙ o.invariant.2 ∙ sym (count_out o.v (member set) (sym t ∙ w.0.left))))
     c.if1.branch
 
 returns : tie.Need-returns invariant-loop decreases-loop

@@ -32,16 +32,16 @@ element-copy-out-wide c = omega (arith, below c)
 narrow-requires : tie.Need-narrow-requires invariant-loop decreases-loop
 narrow-requires c κs = omega (arith, below c.before.before)
 
-node-below : (c : tie.After-wide invariant-loop decreases-loop) → c.wide.result < 1024
-node-below c =
+node_below : (c : tie.After-wide invariant-loop decreases-loop) → c.wide.result < 1024
+node_below c =
     let t = c.before.before in
     omega (arith, c.wide.ensures, t.before.before.requires.2 t.before.loop.d t.loop-test.true)
 
 mul-starts : tie.Need-overflow-mul-starts invariant-loop decreases-loop
-mul-starts c = omega (arith, node-below c.before)
+mul-starts c = omega (arith, node_below c.before)
 
 element-write-starts : tie.Need-element-write-starts invariant-loop decreases-loop
-element-write-starts c = omega (arith, node-below c.before, c.before.before.before.before.loop.invariant.1)
+element-write-starts c = omega (arith, node_below c.before, c.before.before.before.before.loop.invariant.1)
 
 add-d : tie.Need-overflow-add-d invariant-loop decreases-loop
 add-d c = omega (arith, below c.before.before.before)
@@ -59,7 +59,7 @@ loop-again c =
       length-set o.starts v c.narrow.result ∙ o.invariant.1,
       starts_more o.invariant.2
           (ap (at (set o.starts v c.narrow.result)) (sym is-v)
-          ∙ get_or-set_same o.starts v c.narrow.result 0 (omega (arith, node-below c.before, o.invariant.1)) ∙ c.narrow.ensures)
+          ∙ get_or-set_same o.starts v c.narrow.result 0 (omega (arith, node_below c.before, o.invariant.1)) ∙ c.narrow.ensures)
           (λ u h. get_or-set_other o.starts v u c.narrow.result 0 (λ e. h (e ∙ is-v))),
     )
 

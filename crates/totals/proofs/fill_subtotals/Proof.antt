@@ -7,19 +7,19 @@ use mir.Syntax.{w32, w64}
 use mir.Val.{to_z, of_z}
 use mir.ValLaws.{to_z-of_z}
 use borrow.Author.Rules.{rules}
-use Rattle.signed.proofs.Laws.{number-of-bits}
+use Rattle.signed.proofs.Laws.{number_of_bits}
 use Rattle.maps.specs.Map.{Map}
 use Rattle.flows.specs.ProvingSet.{member}
 use Rattle.arrays.specs.At.{at, atℤ}
-use Rattle.arrays.specs.Maps.{mapOf}
+use Rattle.arrays.specs.Maps.{map_of}
 use Rattle.totals.specs.Subtotal.{subtotal}
-use Rattle.totals.proofs.Filling.{Filling, fill_start, fill-put, fill-pass, fill_end, place-few, place_in, same-long, sum_fits}
+use Rattle.totals.proofs.Filling.{Filling, fill_start, fill_put, fill_pass, fill_end, place_few, place_in, same_long, sum_fits}
 use Rattle.totals.proofs.fill_subtotals.Statement.{statement}
 use Rattle.totals.proofs.fill_subtotals.Tie as tie
 
 abbrev invariant-loop : tie.invariant-loop
 invariant-loop tails rotations capacities nodes edges starts set subtotals₀ total₀ place₀ next₀ subtotals total place next =
-    (next ≤ nodes) × Filling (mapOf nodes edges tails rotations) (atℤ capacities) (member set) subtotals₀ subtotals (to_z w64 total) place next
+    (next ≤ nodes) × Filling (map_of nodes edges tails rotations) (atℤ capacities) (member set) subtotals₀ subtotals (to_z w64 total) place next
 
 abbrev decreases-loop : tie.decreases-loop
 decreases-loop tails rotations capacities nodes edges starts set subtotals₀ total₀ place₀ next₀ subtotals total place next = nodes - next
@@ -31,20 +31,20 @@ abbrev begun : tie.In-loop invariant-loop decreases-loop → tie.Start invariant
 begun c = c.before.before.before
 
 add-next : tie.Need-overflow-add-next invariant-loop decreases-loop
-add-next c = omega (arith, c.loop-test.true, (begun c).requires.0.few-nodes)
+add-next c = omega (arith, c.loop-test.true, (begun c).requires.0.few_nodes)
 
 contains-requires : tie.Need-contains-requires invariant-loop decreases-loop
 contains-requires c κs = omega (arith, c.loop-test.true, (begun c).requires.0.exact)
 
 -- ── a node of the set ──
 abbrev drawn : tie.In-loop invariant-loop decreases-loop → Map
-drawn c = let a = (begun c).args in mapOf a.nodes a.edges a.tails.now a.rotations.now
+drawn c = let a = (begun c).args in map_of a.nodes a.edges a.tails.now a.rotations.now
 
 mul_wide : tie.Need-overflow-mul-wide invariant-loop decreases-loop
-mul_wide c = let t = c.before.before in omega (arith, t.loop-test.true, (begun t).requires.0.few-nodes)
+mul_wide c = let t = c.before.before in omega (arith, t.loop-test.true, (begun t).requires.0.few_nodes)
 
 element-copy-out-wide : tie.Need-element-copy-out-wide invariant-loop decreases-loop
-element-copy-out-wide c = let t = c.before.before in omega (arith, t.loop-test.true, (begun t).requires.0.few-nodes)
+element-copy-out-wide c = let t = c.before.before in omega (arith, t.loop-test.true, (begun t).requires.0.few_nodes)
 
 -- its dart in the table is one of the darts, and leaves it
 start-at : (c : tie.After-wide invariant-loop decreases-loop)
@@ -53,7 +53,7 @@ start-at : (c : tie.After-wide invariant-loop decreases-loop)
 start-at c =
     let t = c.before.before.before.before in
     let p = (begun t).requires in
-    let d = p.0.sound.has-dart t.before.loop.next t.loop-test.true in
+    let d = p.0.sound.has_dart t.before.loop.next t.loop-test.true in
     let s = p.1 d.0 d.1 in
     let is : c.wide.result ≡ at (begun t).args.starts.now (at (begun t).args.tails.now d.0) =
     c.wide.ensures ∙ ap (at (begun t).args.starts.now) (sym d.2) in
@@ -73,7 +73,7 @@ sum_is : (c : tie.After-round-total invariant-loop decreases-loop)
     ≡ subtotal (drawn (turn c)) (atℤ (begun (turn c)).args.capacities.now) (member (begun (turn c)).args.set.now) (turn c).before.loop.next
 sum_is c =
     let a = (begun (turn c)).args in
-    number-of-bits _ (record { sfits = c.round-total.type-inv }) ∙ c.round-total.ensures
+    number_of_bits _ (record { sfits = c.round-total.type-inv }) ∙ c.round-total.ensures
     ∙ ap (subtotal (drawn (turn c)) (atℤ a.capacities.now) (member a.set.now)) (start-at c.before).1
 
 in-set : (c : tie.After-round-total invariant-loop decreases-loop) → member (begun (turn c)).args.set.now (turn c).before.loop.next ≡ true
@@ -83,10 +83,10 @@ plus-wide-requires : tie.Need-plus-wide-requires invariant-loop decreases-loop
 plus-wide-requires c κs =
     let t = turn c in
     let p = (begun t).pre in
-    sum_fits _ _ _ _ t.before.loop.inv.1 p.0.few-edges p.0.small t.loop-test.taken p.0.few-nodes (in-set c) (sum_is c)
+    sum_fits _ _ _ _ t.before.loop.inv.1 p.0.few_edges p.0.small t.loop-test.taken p.0.few_nodes (in-set c) (sum_is c)
 
 mul-sum : tie.Need-overflow-mul-sum invariant-loop decreases-loop
-mul-sum c = let t = turn c.before in omega (arith, place-few _ _ _ _ t.before.loop.inv.1, t.loop-test.taken, (begun t).pre.0.few-nodes)
+mul-sum c = let t = turn c.before in omega (arith, place_few _ _ _ _ t.before.loop.inv.1, t.loop-test.taken, (begun t).pre.0.few_nodes)
 
 slice-set-from-sum : tie.Need-slice-set-from-sum invariant-loop decreases-loop
 slice-set-from-sum c =
@@ -97,12 +97,12 @@ slice-set-from-sum c =
     omega (
       arith,
       place_in _ _ _ _ φ (in-set k) t.loop-test.taken (omega (arith, p.2)),
-      same-long _ _ _ _ φ t.before.loop.inv.0
+      same_long _ _ _ _ φ t.before.loop.inv.0
           (omega (arith, p.2)),
     )
 
 add-place : tie.Need-overflow-add-place invariant-loop decreases-loop
-add-place c = let t = turn c.before in omega (arith, place-few _ _ _ _ t.before.loop.inv.1, t.loop-test.taken, (begun t).pre.0.few-nodes)
+add-place c = let t = turn c.before in omega (arith, place_few _ _ _ _ t.before.loop.inv.1, t.loop-test.taken, (begun t).pre.0.few_nodes)
 
 loop-less : tie.Need-loop-smaller invariant-loop decreases-loop
 loop-less c = omega (arith, (turn c.before).loop-test.taken)
@@ -113,7 +113,7 @@ loop-again c =
     let t = turn k in
     let p = (begun t).pre in (
       omega (arith, t.loop-test.taken),
-      fill-put _ _ _ _ t.before.loop.inv.1 (in-set k) t.loop-test.taken (omega (arith, p.2)) (sum_is k)
+      fill_put _ _ _ _ t.before.loop.inv.1 (in-set k) t.loop-test.taken (omega (arith, p.2)) (sum_is k)
           (to_z-of_z w64 _ (record { sfits = c.plus-wide.type-inv }) ∙ c.plus-wide.ensures) refl,
     )
 
@@ -124,12 +124,12 @@ loop-less-2 c = omega (arith, c.before.before.loop-test.true)
 loop-again-2 : tie.Need-loop-preserved-2 invariant-loop decreases-loop
 loop-again-2 c =
     let t = c.before.before in
-    (omega (arith, t.loop-test.true), fill-pass _ _ _ _ t.before.loop.invariant.1 (sym c.before.contains.ensures ∙ c.if1.false))
+    (omega (arith, t.loop-test.true), fill_pass _ _ _ _ t.before.loop.invariant.1 (sym c.before.contains.ensures ∙ c.if1.false))
 
 same_length : tie.Need-same-length invariant-loop decreases-loop
 same_length c =
     let o = c.before.loop in
-    same-long _ _ _ _ o.invariant.1 o.invariant.0 (omega (arith, c.before.before.before.requires.2))
+    same_long _ _ _ _ o.invariant.1 o.invariant.0 (omega (arith, c.before.before.before.requires.2))
 
 returns : tie.Need-returns invariant-loop decreases-loop
 returns c =

@@ -6,76 +6,76 @@ use lib.IntN.{◌+ℤ◌}
 use mir.Syntax.{w32}
 use mir.Val.{to_z, of_z}
 use borrow.Author.Rules.{rules}
-use Rattle.signed.proofs.Laws.{number-of-bits}
+use Rattle.signed.proofs.Laws.{number_of_bits}
 use Rattle.maps.specs.Dart.{rev}
 use Rattle.maps.specs.Map.{Map, darts}
 use Rattle.maps.specs.Check.{Sound}
-use Rattle.maps.proofs.Darts.{rev-in}
-use Rattle.flows.specs.ProvingSet.{wordsFor, member}
+use Rattle.maps.proofs.Darts.{rev_in}
+use Rattle.flows.specs.ProvingSet.{words_for, member}
 use Rattle.arrays.specs.At.{at, atℤ}
-use Rattle.arrays.specs.Maps.{mapOf}
+use Rattle.arrays.specs.Maps.{map_of}
 use Rattle.totals.proofs.Rounds.{ahead}
 use Rattle.totals.proofs.Cutting.{outward}
-use Rattle.totals.proofs.Adding.{Turning, set-off, dart-in, more-fits, turn_on, nearer, turned}
+use Rattle.totals.proofs.Adding.{Turning, set_off, dart_in, more_fits, turn_on, nearer, turned}
 use Rattle.totals.proofs.round_total.Statement.{statement}
 use Rattle.totals.proofs.round_total.Tie as tie
 
 abbrev invariant-loop : tie.invariant-loop
 invariant-loop tails rotations capacities nodes edges set start first sum₀ d₀ sum d =
-    Turning (mapOf nodes edges tails rotations) (atℤ capacities) (member set) start (to_z w32 sum) d
+    Turning (map_of nodes edges tails rotations) (atℤ capacities) (member set) start (to_z w32 sum) d
 
 abbrev decreases-loop : tie.decreases-loop
 decreases-loop tails rotations capacities nodes edges set start first sum₀ d₀ sum d = ahead (at rotations) start (2 * edges) d
 
 -- the head of a dart is a node, and the set has the word of its bit
-head-word : {𝓜 : Map} → Sound 𝓜 → {n : ℕ} → wordsFor 𝓜.nodes ≤ n → (d : ℕ) → d < darts 𝓜 → 𝓜.tail (rev d) / 64 < n
-head-word {𝓜} σ room d l = omega (arith, σ.range.tail-in (rev d) (rev-in 𝓜.edges d l))
+head-word : {𝓜 : Map} → Sound 𝓜 → {n : ℕ} → words_for 𝓜.nodes ≤ n → (d : ℕ) → d < darts 𝓜 → 𝓜.tail (rev d) / 64 < n
+head-word {𝓜} σ room d l = omega (arith, σ.range.tail_in (rev d) (rev_in 𝓜.edges d l))
 
 share-requires : tie.Need-share-requires invariant-loop decreases-loop
-share-requires c κs = let p = c.before.requires in (omega (arith, p.0.few-edges, p.1), head-word p.0.sound (omega (arith, p.0.exact)) _ p.1)
+share-requires c κs = let p = c.before.requires in (omega (arith, p.0.few_edges, p.1), head-word p.0.sound (omega (arith, p.0.exact)) _ p.1)
 
 mul_wide : tie.Need-overflow-mul-wide invariant-loop decreases-loop
-mul_wide c = let p = c.before.before.requires in omega (arith, p.0.few-edges, p.1)
+mul_wide c = let p = c.before.before.requires in omega (arith, p.0.few_edges, p.1)
 
 element-copy-out-wide : tie.Need-element-copy-out-wide invariant-loop decreases-loop
-element-copy-out-wide c = let p = c.before.before.requires in omega (arith, p.0.few-edges, p.1)
+element-copy-out-wide c = let p = c.before.before.requires in omega (arith, p.0.few_edges, p.1)
 
 loop-holds : tie.Need-loop-init invariant-loop decreases-loop
 loop-holds c =
     let p = c.before.before.before.before.requires in
     let f = c.before.before.share in
-    set-off p.0.sound _ _ p.1 (number-of-bits _ (record { sfits = f.type-inv }) ∙ f.ensures) c.wide.ensures
+    set_off p.0.sound _ _ p.1 (number_of_bits _ (record { sfits = f.type-inv }) ∙ f.ensures) c.wide.ensures
 
 -- ── in the loop ──
 abbrev begun : tie.In-loop invariant-loop decreases-loop → tie.Start invariant-loop decreases-loop
 begun c = c.before.before.before.before.before.before
 
 below : (c : tie.In-loop invariant-loop decreases-loop) → c.before.loop.d < 2 * (begun c).args.edges
-below c = dart-in (begun c).requires.0.sound _ _ (begun c).requires.1 c.before.loop.invariant
+below c = dart_in (begun c).requires.0.sound _ _ (begun c).requires.1 c.before.loop.invariant
 
 share-requires-2 : tie.Need-share-requires-2 invariant-loop decreases-loop
-share-requires-2 c κs = let p = (begun c).requires in (omega (arith, p.0.few-edges, below c), head-word p.0.sound (omega (arith, p.0.exact)) _ (below c))
+share-requires-2 c κs = let p = (begun c).requires in (omega (arith, p.0.few_edges, below c), head-word p.0.sound (omega (arith, p.0.exact)) _ (below c))
 
 abbrev drawn : tie.In-loop invariant-loop decreases-loop → Map
-drawn c = let a = (begun c).args in mapOf a.nodes a.edges a.tails.now a.rotations.now
+drawn c = let a = (begun c).args in map_of a.nodes a.edges a.tails.now a.rotations.now
 
 -- what is added is what the dart adds
 share-is : (c : tie.After-share2 invariant-loop decreases-loop)
     → to_z w32 (of_z w32 c.share2.result)
     ≡ outward (drawn c.before) (atℤ (begun c.before).args.capacities.now) (member (begun c.before).args.set.now) c.before.before.loop.d
-share-is c = number-of-bits _ (record { sfits = c.share2.type-inv }) ∙ c.share2.ensures
+share-is c = number_of_bits _ (record { sfits = c.share2.type-inv }) ∙ c.share2.ensures
 
 plus-requires : tie.Need-plus-requires invariant-loop decreases-loop
 plus-requires c κs =
     let t = c.before in
     let p = (begun t).requires in
-    rw (share-is c) (more-fits p.0.sound _ _ p.1 t.before.loop.invariant t.loop-test.true p.0.few-edges p.0.small)
+    rw (share-is c) (more_fits p.0.sound _ _ p.1 t.before.loop.invariant t.loop-test.true p.0.few_edges p.0.small)
 
 mul-wide-2 : tie.Need-overflow-mul-wide-2 invariant-loop decreases-loop
-mul-wide-2 c = let t = c.before.before in omega (arith, (begun t).requires.0.few-edges, below t)
+mul-wide-2 c = let t = c.before.before in omega (arith, (begun t).requires.0.few_edges, below t)
 
 element-copy-out-wide-2 : tie.Need-element-copy-out-wide-2 invariant-loop decreases-loop
-element-copy-out-wide-2 c = let t = c.before.before in omega (arith, (begun t).requires.0.few-edges, below t)
+element-copy-out-wide-2 c = let t = c.before.before in omega (arith, (begun t).requires.0.few_edges, below t)
 
 loop-less : tie.Need-loop-smaller invariant-loop decreases-loop
 loop-less c =
@@ -89,7 +89,7 @@ loop-again c =
     let s = c.before.before in
     let p = (begun t).requires in
     turn_on p.0.sound _ _ p.1 t.before.loop.invariant t.loop-test.true
-    (number-of-bits _ (record { sfits = s.plus.type-inv }) ∙ s.plus.ensures ∙ ap (λ z. to_z w32 t.before.loop.sum +ℤ z) (share-is s.before))
+    (number_of_bits _ (record { sfits = s.plus.type-inv }) ∙ s.plus.ensures ∙ ap (λ z. to_z w32 t.before.loop.sum +ℤ z) (share-is s.before))
     c.wide2.ensures
 
 returns : tie.Need-returns invariant-loop decreases-loop

@@ -2,34 +2,34 @@
 use mathlib.Core.Path.{◌≡◌, sym, ◌∙◌, ap}
 use mathlib.Core.Bool.{not}
 use borrow.Author.Rules.{rules}
-use Rattle.signed.proofs.Laws.{number-of-bits}
+use Rattle.signed.proofs.Laws.{number_of_bits}
 use Rattle.maps.specs.Dart.{rev}
 use Rattle.flows.specs.ProvingSet.{member}
 use Rattle.arrays.specs.At.{at}
-use Rattle.cuts.proofs.Adding.{when-yes, when-no}
+use Rattle.cuts.proofs.Adding.{when_yes, when_no}
 use Rattle.totals.proofs.share.Statement.{statement}
 use Rattle.totals.proofs.share.Tie as tie
 
 -- the head is the tail of the reverse
-head-is : (c : tie.After-wide) → c.wide.result ≡ at c.before.before.before.before.args.tails.now (rev c.before.before.before.before.args.d)
-head-is c = c.wide.ensures ∙ ap (at c.before.before.before.before.args.tails.now) c.before.before.reverse.ensures.0
+head_is : (c : tie.After-wide) → c.wide.result ≡ at c.before.before.before.before.args.tails.now (rev c.before.before.before.before.args.d)
+head_is c = c.wide.ensures ∙ ap (at c.before.before.before.before.args.tails.now) c.before.before.reverse.ensures.0
 
 -- the test is whether the head is in the set
 inside_is : (c : tie.After-contains)
     → c.contains.result
     ≡ member c.before.before.before.before.before.before.args.set.now
     (at c.before.before.before.before.before.before.args.tails.now (rev c.before.before.before.before.before.before.args.d))
-inside_is c = c.contains.ensures ∙ ap (member c.before.before.before.before.before.before.args.set.now) (head-is c.before.before)
+inside_is c = c.contains.ensures ∙ ap (member c.before.before.before.before.before.before.args.set.now) (head_is c.before.before)
 
 contains-requires : tie.Need-contains-requires
-contains-requires c κs = let s = c.before.before.before.before.before in rw (head-is c.before) s.requires.1
+contains-requires c κs = let s = c.before.before.before.before.before in rw (head_is c.before) s.requires.1
 
 returns : tie.Need-returns
-returns c = when-no _ (ap not (sym (inside_is c.before) ∙ c.if1.true))
+returns c = when_no _ (ap not (sym (inside_is c.before) ∙ c.if1.true))
 
 returns-2 : tie.Need-returns-2
 returns-2 c =
-    number-of-bits _ (record { sfits = c.before.before.limit.given }) ∙ when-yes _ (ap not (sym (inside_is c.before) ∙ c.if1.false))
+    number_of_bits _ (record { sfits = c.before.before.limit.given }) ∙ when_yes _ (ap not (sym (inside_is c.before) ∙ c.if1.false))
 
 pub share-spec : {M : Type 1} → statement M
 share-spec =

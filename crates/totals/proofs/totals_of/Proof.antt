@@ -9,14 +9,14 @@ use mir.Val.{to_z, of_z}
 use mir.ValLaws.{to_z-of_z}
 use borrow.Author.Rules.{rules}
 use Rattle.integers.specs.Sum.{count}
-use Rattle.signed.proofs.Laws.{number-of-bits}
-use Rattle.flows.specs.ProvingSet.{wordsFor, member}
+use Rattle.signed.proofs.Laws.{number_of_bits}
+use Rattle.flows.specs.ProvingSet.{words_for, member}
 use Rattle.arrays.specs.At.{atℤ}
-use Rattle.arrays.specs.Maps.{mapOf}
+use Rattle.arrays.specs.Maps.{map_of}
 use Rattle.balance.proofs.Parts.{part_length}
 use Rattle.totals.specs.Subtotal.{total}
-use Rattle.totals.proofs.Filling.{total-fits}
-use Rattle.totals.proofs.Giving.{set-short, out-short, both_long, part-member, count-agrees, total-agrees, subtotaled-back}
+use Rattle.totals.proofs.Filling.{total_fits}
+use Rattle.totals.proofs.Giving.{set_short, out_short, both_long, part_member, count_agrees, total_agrees, subtotaled_back}
 use Rattle.totals.proofs.totals_of.Statement.{statement}
 use Rattle.totals.proofs.totals_of.Tie as tie
 
@@ -26,10 +26,10 @@ words-for-requires c κs = c.before.requires.0
 returns : tie.Need-returns
 returns c =
     let a = c.before.before.before.args in
-    (set-short a.nodes a.set.now a.subtotals.now (omega (arith, c.before.words-for.ensures, c.if1.true)), refl)
+    (set_short a.nodes a.set.now a.subtotals.now (omega (arith, c.before.words-for.ensures, c.if1.true)), refl)
 
 -- the set has its words
-long : (c : tie.Else1) → wordsFor c.before.before.before.args.nodes ≤ length c.before.before.before.args.set.now
+long : (c : tie.Else1) → words_for c.before.before.before.args.nodes ≤ length c.before.before.before.args.set.now
 long c = omega (arith, c.before.words-for.ensures, c.if1.false)
 
 -- the words lent
@@ -37,15 +37,15 @@ abbrev lentSet : tie.Else1 → List ℕ
 lentSet c = take (c.before.words-for.result - 0) c.before.before.before.args.set.now
 
 same : (c : tie.Else1) (v : ℕ) → v < c.before.before.before.args.nodes → member (lentSet c) v ≡ member c.before.before.before.args.set.now v
-same c v l = let a = c.before.before.before.args in part-member a.nodes c.before.words-for.result a.set.now c.before.words-for.ensures v l
+same c v l = let a = c.before.before.before.args in part_member a.nodes c.before.words-for.result a.set.now c.before.words-for.ensures v l
 
-words-lent : (c : tie.Else1) → length (lentSet c) ≡ wordsFor c.before.before.before.args.nodes
-words-lent c =
+words_lent : (c : tie.Else1) → length (lentSet c) ≡ words_for c.before.before.before.args.nodes
+words_lent c =
     let w = c.before in
     part_length w.words-for.result w.before.before.args.set.now (omega (arith, w.words-for.ensures, long c)) ∙ w.words-for.ensures
 
 count-members-requires : tie.Need-count-members-requires
-count-members-requires c κs = let e = c.before in record { few-nodes = e.before.before.before.requires.0; exact = words-lent e }
+count-members-requires c κs = let e = c.before in record { few_nodes = e.before.before.before.requires.0; exact = words_lent e }
 
 -- the nodes of the set, counted
 abbrev asked : tie.After-count-members → tie.Else1
@@ -55,13 +55,13 @@ members-are : (c : tie.After-count-members)
     → c.count-members.result ≡ count (asked c).before.before.before.args.nodes (member (asked c).before.before.before.args.set.now)
 members-are c =
     let e = asked c in
-    c.count-members.ensures ∙ count-agrees e.before.before.before.args.nodes (member (lentSet e)) _ (same e)
+    c.count-members.ensures ∙ count_agrees e.before.before.before.args.nodes (member (lentSet e)) _ (same e)
 
 returns-2 : tie.Need-returns-2
 returns-2 c =
     let k = c.before in
     let a = (asked k).before.before.before.args in
-    (out-short a.nodes a.set.now a.subtotals.now (omega (arith, members-are k, c.if2.true)), refl)
+    (out_short a.nodes a.set.now a.subtotals.now (omega (arith, members-are k, c.if2.true)), refl)
 
 -- there is room for the subtotals
 abbrev begun : tie.Else2 → tie.Start
@@ -76,7 +76,7 @@ mul-fill-starts c = omega (arith, (begun c).requires.1)
 fill-starts-requires : tie.Need-fill-starts-requires
 fill-starts-requires c κs =
     let p = (begun c.before).requires in
-    (omega (arith, p.1), refl, λ d l. omega (arith, p.0, p.2.range.tail-in d l))
+    (omega (arith, p.1), refl, λ d l. omega (arith, p.0, p.2.range.tail_in d l))
 
 part-fill-subtotals-end : tie.Need-slice-bounds-fill-subtotals-end
 part-fill-subtotals-end c = c.before.before.before.if2.false
@@ -88,7 +88,7 @@ fill-subtotals-requires c κs =
     let s = begun e in
     let p = s.pre in
     let k = e.before in (
-      record { few-nodes = p.0; few-edges = p.1; sound = p.2; small = p.3; exact = words-lent (asked k) },
+      record { few_nodes = p.0; few_edges = p.1; sound = p.2; small = p.3; exact = words_lent (asked k) },
       f.fill-starts.ensures.1,
       part_length k.count-members.result s.args.subtotals.now e.if2.false ∙ k.count-members.ensures,
     )
@@ -99,18 +99,18 @@ passed c = c.before.before.before.before.before
 sum_is : (c : tie.After-fill-subtotals)
     → to_z w64 (of_z w64 c.fill-subtotals.result)
     ≡ total
-    (mapOf (begun (passed c)).args.nodes (begun (passed c)).args.edges (begun (passed c)).args.tails.now (begun (passed c)).args.rotations.now)
+    (map_of (begun (passed c)).args.nodes (begun (passed c)).args.edges (begun (passed c)).args.tails.now (begun (passed c)).args.rotations.now)
     (atℤ (begun (passed c)).args.capacities.now) (member (begun (passed c)).args.set.now)
 sum_is c =
     let s = begun (passed c) in
     to_z-of_z w64 _ (record { sfits = c.fill-subtotals.type-inv })
     ∙ c.fill-subtotals.ensures.1
-    ∙ total-agrees s.pre.2.range (atℤ s.args.capacities.now) _ _ (same (asked (passed c).before))
+    ∙ total_agrees s.pre.2.range (atℤ s.args.capacities.now) _ _ (same (asked (passed c).before))
 
 narrow-requires : tie.Need-narrow-requires
 narrow-requires c κs =
     let p = (begun (passed c.before)).requires in
-    rw (sum_is c.before) (total-fits p.2.range _ _ p.1 p.3)
+    rw (sum_is c.before) (total_fits p.2.range _ _ p.1 p.3)
 
 returns-3 : tie.Need-returns-3
 returns-3 c =
@@ -120,9 +120,9 @@ returns-3 c =
     let a = s.args in
     let k = e.before in (
       both_long a.nodes a.set.now a.subtotals.now (long (asked k)) (room e),
-      subtotaled-back s.pre.2.range (atℤ a.capacities.now) (member (lentSet (asked k))) (member a.set.now) (same (asked k))
+      subtotaled_back s.pre.2.range (atℤ a.capacities.now) (member (lentSet (asked k))) (member a.set.now) (same (asked k))
           k.count-members.result a.subtotals.now _ k.count-members.ensures f.fill-subtotals.ensures.0,
-      number-of-bits _ (record { sfits = c.narrow.type-inv }) ∙ c.narrow.ensures ∙ sum_is f,
+      number_of_bits _ (record { sfits = c.narrow.type-inv }) ∙ c.narrow.ensures ∙ sum_is f,
     )
 
 pub totals-of-spec : {M : Type 1} → statement M

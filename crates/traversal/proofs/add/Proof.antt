@@ -4,12 +4,12 @@ use native.Mathlib.Omega.{arith}
 use lib.ListN.{length-set}
 use lib.Seq.{get_or-set_same, get_or-set_other}
 use borrow.Author.Rules.{rules}
-use Rattle.traversal.proofs.Spreading.{added-old, added_new}
+use Rattle.traversal.proofs.Spreading.{added_old, added_new}
 use Rattle.traversal.proofs.add.Statement.{statement}
 use Rattle.traversal.proofs.add.Tie as tie
 
 returns : tie.Need-returns
-returns c = let p = c.before.before.requires in (p.0, p.1, added-old c.if1.true)
+returns c = let p = c.before.before.requires in (p.0, p.1, added_old c.if1.true)
 
 mul-order : tie.Need-overflow-mul-order
 mul-order c = omega (arith, c.before.before.before.before.requires.4 c.before.before.if1.false)

@@ -10,9 +10,9 @@ use Rattle.arrays.specs.At.{at}
 use Rattle.traversal.specs.inner.Mark.{unmarked}
 use Rattle.traversal.specs.inner.Forest.{Growing}
 use Rattle.traversal.specs.inner.FirstCome.{FirstCome}
-use Rattle.traversal.proofs.Spreading.{room, added-grew, growing-added}
-use Rattle.traversal.proofs.Rounding.{Rounding, stay, rounding-start, rounding-on, rounding-end, rounding-merged, rounding-astray}
-use Rattle.traversal.proofs.Coming.{first-come-added, comes-turned, parted-owned}
+use Rattle.traversal.proofs.Spreading.{room, added_grew, growing_added}
+use Rattle.traversal.proofs.Rounding.{Rounding, stay, rounding_start, rounding_on, rounding_end, rounding_merged, rounding_astray}
+use Rattle.traversal.proofs.Coming.{first_come_added, comes_turned, parted_owned}
 use Rattle.traversal.proofs.add_round.Statement.{statement}
 use Rattle.traversal.proofs.add_round.Tie as tie
 
@@ -45,8 +45,8 @@ abbrev owned : tie.After-wide2 invariant-loop decreases-loop → tie.After-narro
 owned c = c.before.before
 
 -- the node is below 1,024
-node-below : (c : tie.After-wide invariant-loop decreases-loop) → c.wide.result < 1024
-node-below c = let p = (begun c).requires in omega (arith, c.wide.ensures, p.5 (begun c).args.d p.6)
+node_below : (c : tie.After-wide invariant-loop decreases-loop) → c.wide.result < 1024
+node_below c = let p = (begun c).requires in omega (arith, c.wide.ensures, p.5 (begun c).args.d p.6)
 
 mul_wide : tie.Need-overflow-mul-wide invariant-loop decreases-loop
 mul_wide c = omega (arith, c.requires.3, c.requires.6)
@@ -55,10 +55,10 @@ element-copy-out-wide : tie.Need-element-copy-out-wide invariant-loop decreases-
 element-copy-out-wide c = omega (arith, c.requires.3, c.requires.6)
 
 mul-if1 : tie.Need-overflow-mul-if1 invariant-loop decreases-loop
-mul-if1 c = omega (arith, node-below c)
+mul-if1 c = omega (arith, node_below c)
 
 element-copy-out-if1 : tie.Need-element-copy-out-if1 invariant-loop decreases-loop
-element-copy-out-if1 c = omega (arith, node-below c)
+element-copy-out-if1 c = omega (arith, node_below c)
 
 returns : tie.Need-returns invariant-loop decreases-loop
 returns c =
@@ -69,7 +69,7 @@ returns c =
       p.1,
       p.2,
       (λ h. absurd (h refl)),
-      λ z. parted-owned p.11 p.4 p.6 p.9 (λ e. c.if1.true (ap (at owner) w.wide.ensures ∙ e)),
+      λ z. parted_owned p.11 p.4 p.6 p.9 (λ e. c.if1.true (ap (at owner) w.wide.ensures ∙ e)),
     )
 
 add-narrow : tie.Need-overflow-add-narrow invariant-loop decreases-loop
@@ -79,10 +79,10 @@ narrow-requires : tie.Need-narrow-requires invariant-loop decreases-loop
 narrow-requires c κs = let p = (begun (named c)).pre in omega (arith, p.3, p.6)
 
 mul-owner : tie.Need-overflow-mul-owner invariant-loop decreases-loop
-mul-owner c = omega (arith, node-below (named (free c)))
+mul-owner c = omega (arith, node_below (named (free c)))
 
 element-write-owner : tie.Need-element-write-owner invariant-loop decreases-loop
-element-write-owner c = omega (arith, node-below (named (free c)))
+element-write-owner c = omega (arith, node_below (named (free c)))
 
 mul-wide-2 : tie.Need-overflow-mul-wide-2 invariant-loop decreases-loop
 mul-wide-2 c = let p = (begun (named (free c))).pre in omega (arith, p.3, p.6)
@@ -107,19 +107,19 @@ loop-holds c =
     let is-v = w.wide.ensures in
     let n = (owned t).narrow in
     let owner = a.owner.now in
-    let longer = added-grew e.2 p.9 in (
+    let longer = added_grew e.2 p.9 in (
       e.0,
       e.1,
       p.10 _ _ _ e.2,
-      rounding-start p.11 p.6 e.2 p.9 (ap (at owner) (sym is-v) ∙ f.if1.left)
-          (ap (at (set owner v n.result)) (sym is-v) ∙ get_or-set_same owner v n.result 0 (omega (arith, p.2, node-below w)) ∙ n.ensures)
+      rounding_start p.11 p.6 e.2 p.9 (ap (at owner) (sym is-v) ∙ f.if1.left)
+          (ap (at (set owner v n.result)) (sym is-v) ∙ get_or-set_same owner v n.result 0 (omega (arith, p.2, node_below w)) ∙ n.ensures)
           (λ u h. get_or-set_other owner v u n.result 0 (λ q. h (q ∙ is-v))),
       t.wide2.ensures,
       (a.end, omega (arith, e.2.by_one), (e.2.new (omega arith)).0),
       omega arith,
       (λ i l. refl),
       (λ y h. h),
-      first-come-added e.2 p.13 p.12 (p.14 _ _ _ e.2),
+      first_come_added e.2 p.13 p.12 (p.14 _ _ _ e.2),
     )
 
 -- ── in the loop ──
@@ -134,14 +134,14 @@ owner-long : (c : tie.At-loop invariant-loop decreases-loop)
 owner-long c =
     length-set (start c).args.owner.now (before-loop c).wide.result (owned (turned c.before)).narrow.result ∙ (start c).requires.2
 
-next-below : (c : tie.At-loop invariant-loop decreases-loop) → c.loop.next < (start c).args.darts
-next-below c = let i = c.loop.invariant in omega (arith, i.4, (start c).requires.4 c.loop.last i.3.inside)
+next_below : (c : tie.At-loop invariant-loop decreases-loop) → c.loop.next < (start c).args.darts
+next_below c = let i = c.loop.invariant in omega (arith, i.4, (start c).requires.4 c.loop.last i.3.inside)
 
 mul-if2 : tie.Need-overflow-mul-if2 invariant-loop decreases-loop
-mul-if2 c = omega (arith, next-below c.before, (start c.before).pre.3)
+mul-if2 c = omega (arith, next_below c.before, (start c.before).pre.3)
 
 element-copy-out-if2 : tie.Need-element-copy-out-if2 invariant-loop decreases-loop
-element-copy-out-if2 c = omega (arith, next-below c.before, (start c.before).pre.3, c.before.loop.invariant.1)
+element-copy-out-if2 c = omega (arith, next_below c.before, (start c.before).pre.3, c.before.loop.invariant.1)
 
 returns-2 : tie.Need-returns-2 invariant-loop decreases-loop
 returns-2 c =
@@ -151,17 +151,17 @@ returns-2 c =
       i.1,
       owner-long l,
       (λ h. absurd (h refl)),
-      λ z. rounding-merged i.3 i.4 (next-below l) c.if2.true c.before.before.loop-test.true,
+      λ z. rounding_merged i.3 i.4 (next_below l) c.if2.true c.before.before.loop-test.true,
     )
 
 abbrev at-loop : tie.Else2 invariant-loop decreases-loop → tie.At-loop invariant-loop decreases-loop
 at-loop c = c.before.before.before
 
 mul-wide-3 : tie.Need-overflow-mul-wide-3 invariant-loop decreases-loop
-mul-wide-3 c = omega (arith, next-below (at-loop c), (start (at-loop c)).pre.3)
+mul-wide-3 c = omega (arith, next_below (at-loop c), (start (at-loop c)).pre.3)
 
 element-copy-out-wide-3 : tie.Need-element-copy-out-wide-3 invariant-loop decreases-loop
-element-copy-out-wide-3 c = omega (arith, next-below (at-loop c), (start (at-loop c)).pre.3)
+element-copy-out-wide-3 c = omega (arith, next_below (at-loop c), (start (at-loop c)).pre.3)
 
 returns-3 : tie.Need-returns-3 invariant-loop decreases-loop
 returns-3 c =
@@ -171,7 +171,7 @@ returns-3 c =
       i.1,
       owner-long l,
       (λ h. absurd (h refl)),
-      λ z. rounding-astray i.3 i.4 (λ e. c.if3.true (c.before.wide3.ensures ∙ e ∙ sym (before-loop l).wide.ensures)),
+      λ z. rounding_astray i.3 i.4 (λ e. c.if3.true (c.before.wide3.ensures ∙ e ∙ sym (before-loop l).wide.ensures)),
     )
 
 -- the dart is new, and leaves the node
@@ -185,26 +185,26 @@ add-requires-2 c κs =
     let p = (start l).pre in (
       i.0,
       i.1,
-      omega (arith, next-below l, p.3),
+      omega (arith, next_below l, p.3),
       omega (arith, i.3.inside, p.3),
-      λ z. omega (arith, room i.2 l.loop.next (next-below l) z, p.3),
+      λ z. omega (arith, room i.2 l.loop.next (next_below l) z, p.3),
     )
 
 abbrev joined : tie.After-add2 invariant-loop decreases-loop → tie.Else3 invariant-loop decreases-loop
 joined c = c.before.before.before
 
 mul-wide-4 : tie.Need-overflow-mul-wide-4 invariant-loop decreases-loop
-mul-wide-4 c = let l = at-loop (fresh (joined c)) in omega (arith, next-below l, (start l).pre.3)
+mul-wide-4 c = let l = at-loop (fresh (joined c)) in omega (arith, next_below l, (start l).pre.3)
 
 element-copy-out-wide-4 : tie.Need-element-copy-out-wide-4 invariant-loop decreases-loop
-element-copy-out-wide-4 c = let l = at-loop (fresh (joined c)) in omega (arith, next-below l, (start l).pre.3)
+element-copy-out-wide-4 c = let l = at-loop (fresh (joined c)) in omega (arith, next_below l, (start l).pre.3)
 
 loop-less : tie.Need-loop-smaller invariant-loop decreases-loop
 loop-less c =
     let a = c.before.before in
     let f = fresh (joined a) in
     let l = at-loop f in
-    omega (arith, added-grew a.add2.ensures.2 f.if2.left, room l.loop.inv.2 l.loop.next (next-below l) f.if2.left)
+    omega (arith, added_grew a.add2.ensures.2 f.if2.left, room l.loop.inv.2 l.loop.next (next_below l) f.if2.left)
 
 loop-again : tie.Need-loop-preserved invariant-loop decreases-loop
 loop-again c =
@@ -215,19 +215,19 @@ loop-again c =
     let i = l.loop.inv in
     let q = a.add2.ensures in
     let w = before-loop l in
-    let longer = added-grew q.2 f.if2.left in
+    let longer = added_grew q.2 f.if2.left in
     let leave = sym j.before.wide3.ensures ∙ j.if3.left ∙ w.wide.ensures in (
       q.0,
       q.1,
-      growing-added i.2 (next-below l) q.2 (omega (arith, i.5.1)) (sym i.5.2)
+      growing_added i.2 (next_below l) q.2 (omega (arith, i.5.1)) (sym i.5.2)
           (inr (i.4 ∙ ap (at (start l).args.rotations.now) (sym i.5.2))),
-      rounding-on i.3 q.2 f.if2.left i.4 (next-below l) leave,
+      rounding_on i.3 q.2 f.if2.left i.4 (next_below l) leave,
       c.wide4.ensures,
       (l.loop.listed, omega (arith, q.2.by_one), (q.2.new (omega arith)).0),
       omega (arith, i.6),
       (λ k m. q.2.kept k (omega (arith, i.6)) ∙ i.7 k m),
       (λ y h. stay q.2 y (i.8 y h)),
-      first-come-added q.2 i.2.marked i.9 (comes-turned q.2 f.if2.left i.5.1 i.5.2 i.4),
+      first_come_added q.2 i.2.marked i.9 (comes_turned q.2 f.if2.left i.5.1 i.5.2 i.4),
     )
 
 -- the dart listed last leads back to the first
@@ -247,7 +247,7 @@ returns-4 c =
       owner-long l,
       λ h. (
         i.2,
-        rounding-end i.3 (sym i.4 ∙ c.loop-test.false),
+        rounding_end i.3 (sym i.4 ∙ c.loop-test.false),
         i.3.begun,
         (λ k m. i.7 k m ∙ e.kept k m),
         i.6,

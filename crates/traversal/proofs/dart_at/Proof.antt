@@ -6,7 +6,7 @@ use native.Mathlib.Omega.{arith}
 use borrow.Author.Rules.{rules}
 use borrow.Author.Count.{below_more}
 use Rattle.arrays.specs.At.{at}
-use Rattle.traversal.proofs.Ahead.{Ahead, ahead-start, ahead_step, ahead_in}
+use Rattle.traversal.proofs.Ahead.{Ahead, ahead_start, ahead_step, ahead_in}
 use Rattle.traversal.proofs.dart_at.Statement.{statement}
 use Rattle.traversal.proofs.dart_at.Tie as tie
 
@@ -17,7 +17,7 @@ abbrev decreases-loop : tie.decreases-loop
 decreases-loop tails darts v d₀ d = darts - d
 
 loop-holds : tie.Need-loop-init invariant-loop decreases-loop
-loop-holds c = (ahead-start c.requires.1.0 c.requires.1.1 c.requires.1.2, λ e l. absurd (omega (arith, l)))
+loop-holds c = (ahead_start c.requires.1.0 c.requires.1.1 c.requires.1.2, λ e l. absurd (omega (arith, l)))
 
 mul_wide : tie.Need-overflow-mul-wide invariant-loop decreases-loop
 mul_wide c = omega (arith, c.before.requires.0, ahead_in c.loop.invariant.0)

@@ -7,7 +7,7 @@ use lib.Seq.{get_or-set_same, get_or-set_other}
 use borrow.Author.Rules.{rules}
 use Rattle.arrays.specs.At.{at}
 use Rattle.traversal.specs.inner.Forest.{Forest}
-use Rattle.traversal.proofs.Rooting.{Rooting, rooting-start, rooting-ahead, trees-few, begins-here, rooting-written, rooting-passed, rooting-end}
+use Rattle.traversal.proofs.Rooting.{Rooting, rooting_start, rooting_ahead, trees_few, begins_here, rooting_written, rooting_passed, rooting_end}
 use Rattle.traversal.proofs.first_faces.Statement.{statement}
 use Rattle.traversal.proofs.first_faces.Tie as tie
 
@@ -30,10 +30,10 @@ treed c = (begun c).requires.2
 
 -- a tree not found yet is ahead
 place_in : (c : tie.In-loop invariant-loop decreases-loop) → c.before.loop.i < (begun c.before).args.darts
-place_in c = let 𝓕 = treed c.before in rooting-ahead 𝓕.planted (c.before.loop.invariant.1 𝓕) c.loop-test.true
+place_in c = let 𝓕 = treed c.before in rooting_ahead 𝓕.planted (c.before.loop.invariant.1 𝓕) c.loop-test.true
 
 loop-holds : tie.Need-loop-init invariant-loop decreases-loop
-loop-holds c = (c.requires.0, (λ 𝓕. rooting-start 𝓕.planted), λ u l. refl)
+loop-holds c = (c.requires.0, (λ 𝓕. rooting_start 𝓕.planted), λ u l. refl)
 
 mul_wide : tie.Need-overflow-mul-wide invariant-loop decreases-loop
 mul_wide c = omega (arith, (begun c.before).pre.1, place_in c)
@@ -77,8 +77,8 @@ room : (c : tie.Then1 invariant-loop decreases-loop) → (turn (met c.before)).b
 room c =
     let t = turn (met c.before) in
     let 𝓕 = treed t.before in
-    let b = begins-here 𝓕.planted (t.before.loop.inv.1 𝓕) (place_in t) 𝓕.apart (own c) in
-    omega (arith, trees-few 𝓕, b.0)
+    let b = begins_here 𝓕.planted (t.before.loop.inv.1 𝓕) (place_in t) 𝓕.apart (own c) in
+    omega (arith, trees_few 𝓕, b.0)
 
 mul-roots : tie.Need-overflow-mul-roots invariant-loop decreases-loop
 mul-roots c = omega (arith, dart-below (met c.before), few (turn (met c.before)))
@@ -107,7 +107,7 @@ loop-again c =
     let a = (begun t.before).args in
     let face = at a.lefts.now d.wide.result in (
       length-set o.roots o.count face ∙ o.inv.0,
-      (λ 𝓕. rooting-written 𝓕.planted (o.inv.1 𝓕) (place_in t) 𝓕.apart (own b)
+      (λ 𝓕. rooting_written 𝓕.planted (o.inv.1 𝓕) (place_in t) 𝓕.apart (own b)
           (get_or-set_same o.roots o.count face 0 (omega (arith, room b, few t, o.inv.0)) ∙ ap (at a.lefts.now) d.wide.ensures)
           (λ u h. get_or-set_other o.roots o.count u face 0 h)),
       λ u h. get_or-set_other o.roots o.count u face 0 (λ e. omega (arith, e, h)) ∙ o.inv.2 u (omega (arith, h)),
@@ -123,7 +123,7 @@ loop-again-2 c =
     let t = turn d in
     let o = t.before.loop in (
       o.inv.0,
-      (λ 𝓕. rooting-passed 𝓕.planted (o.inv.1 𝓕) (place_in t)
+      (λ 𝓕. rooting_passed 𝓕.planted (o.inv.1 𝓕) (place_in t)
           (λ e. c.if1.false (f.wide2.ensures ∙ ap (at (begun t.before).args.from.now) d.wide.ensures ∙ e ∙ sym d.wide.ensures))),
       o.inv.2,
     )
@@ -135,7 +135,7 @@ returns c =
     let all : (begun c.before).args.trees ≤ o.count = omega (arith, c.loop-test.false) in
     let no_more : (begun c.before).args.trees < o.count → ⊥ = λ l. omega (arith, ((o.invariant.1 𝓕).written _ l).0) in (
       o.invariant.0,
-      rooting-end 𝓕 all (o.invariant.1 𝓕),
+      rooting_end 𝓕 all (o.invariant.1 𝓕),
       record {
         are = λ 𝓖 t l. ((o.invariant.1 𝓖).written t (omega (arith, l, all))).2;
         kept = λ i l. o.invariant.2 i (omega (arith, l, no_more));

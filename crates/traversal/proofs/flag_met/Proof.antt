@@ -8,7 +8,7 @@ use borrow.Author.Rules.{rules, read_below}
 use borrow.Author.Count.{below_more}
 use Rattle.arrays.specs.At.{at}
 use Rattle.traversal.specs.inner.Spread.{FlagsMet}
-use Rattle.traversal.proofs.Flagging.{flags-none, flags-set, flags-passed}
+use Rattle.traversal.proofs.Flagging.{flags_none, flags_set, flags_passed}
 use Rattle.traversal.proofs.flag_met.Statement.{statement}
 use Rattle.traversal.proofs.flag_met.Tie as tie
 
@@ -38,7 +38,7 @@ loop-again c =
     )
 
 loop2-holds : tie.Need-loop2-init invariant-loop decreases-loop invariant-loop2 decreases-loop2
-loop2-holds c = (omega arith, c.before.loop.invariant.1, flags-none (λ v l. c.before.loop.invariant.2 v (omega arith)))
+loop2-holds c = (omega arith, c.before.loop.invariant.1, flags_none (λ v l. c.before.loop.invariant.2 v (omega arith)))
 
 -- ── the darts ──
 abbrev begun : tie.At-loop2 invariant-loop decreases-loop invariant-loop2 decreases-loop2 → tie.Start invariant-loop decreases-loop invariant-loop2 decreases-loop2
@@ -65,13 +65,13 @@ element-copy-out-wide c = omega (arith, below c.before.before)
 abbrev turn : tie.After-wide invariant-loop decreases-loop invariant-loop2 decreases-loop2 → tie.In-loop2 invariant-loop decreases-loop invariant-loop2 decreases-loop2
 turn c = c.before.before.before.before
 
-node-below : (c : tie.After-wide invariant-loop decreases-loop invariant-loop2 decreases-loop2) → c.wide.result < 1024
-node-below c =
+node_below : (c : tie.After-wide invariant-loop decreases-loop invariant-loop2 decreases-loop2) → c.wide.result < 1024
+node_below c =
     let t = turn c in
     omega (arith, c.wide.ensures, (begun t.before).pre.2 t.before.loop2.next t.loop2-test.taken)
 
 element-write-inside-2 : tie.Need-element-write-inside-2 invariant-loop decreases-loop invariant-loop2 decreases-loop2
-element-write-inside-2 c = omega (arith, node-below c, (turn c).before.loop2.invariant.1)
+element-write-inside-2 c = omega (arith, node_below c, (turn c).before.loop2.invariant.1)
 
 loop2-less : tie.Need-loop2-smaller invariant-loop decreases-loop invariant-loop2 decreases-loop2
 loop2-less c = omega (arith, (turn c).loop2-test.true)
@@ -84,8 +84,8 @@ loop2-again c =
     let is-v = c.wide.ensures in (
       omega (arith, t.loop2-test.taken),
       length-set o.inside v 1 ∙ o.inv.1,
-      flags-set o.inv.2 c.before.before.if1.true
-          (ap (at (set o.inside v 1)) (sym is-v) ∙ get_or-set_same o.inside v 1 0 (omega (arith, node-below c, o.inv.1)))
+      flags_set o.inv.2 c.before.before.if1.true
+          (ap (at (set o.inside v 1)) (sym is-v) ∙ get_or-set_same o.inside v 1 0 (omega (arith, node_below c, o.inv.1)))
           (λ u h. get_or-set_other o.inside v u 1 0 (λ e. h (e ∙ is-v))),
     )
 
@@ -96,7 +96,7 @@ loop2-again-2 : tie.Need-loop2-preserved-2 invariant-loop decreases-loop invaria
 loop2-again-2 c =
     let t = c.before.before in
     let o = t.before.loop2 in
-    (omega (arith, t.loop2-test.true), o.invariant.1, flags-passed o.invariant.2 c.if1.false)
+    (omega (arith, t.loop2-test.true), o.invariant.1, flags_passed o.invariant.2 c.if1.false)
 
 returns : tie.Need-returns invariant-loop decreases-loop invariant-loop2 decreases-loop2
 returns c =

@@ -6,11 +6,11 @@ use native.Mathlib.Omega.{arith}
 use lib.ListN.{length}
 use borrow.Author.Rules.{rules}
 use Rattle.maps.specs.Dart.{rev}
-use Rattle.maps.proofs.Darts.{rev-in}
+use Rattle.maps.proofs.Darts.{rev_in}
 use Rattle.arrays.specs.At.{at}
 use Rattle.traversal.specs.inner.Mark.{unmarked}
 use Rattle.traversal.specs.inner.Forest.{Growing}
-use Rattle.traversal.proofs.Spreading.{few, room, room-between, growing-planted, growing-on, marks_stay}
+use Rattle.traversal.proofs.Spreading.{few, room, room_between, growing_planted, growing_on, marks_stay}
 use Rattle.traversal.proofs.grow.Statement.{statement}
 use Rattle.traversal.proofs.grow.Tie as tie
 
@@ -31,7 +31,7 @@ loop-holds : tie.Need-loop-init invariant-loop decreases-loop
 loop-holds c =
     let p = c.before.before.before.requires in
     let e = c.add.ensures in
-    (e.0, e.1, growing-planted p.5 p.3 p.4 p.6 e.2, e.2.has, λ y h. h)
+    (e.0, e.1, growing_planted p.5 p.3 p.4 p.6 e.2, e.2.has, λ y h. h)
 
 -- ── in the loop ──
 abbrev begun : tie.At-loop invariant-loop decreases-loop → tie.Start invariant-loop decreases-loop
@@ -91,7 +91,7 @@ back_below c =
     let w = (turned c.before).before.before in
     let a = (begun (at-loop w)).args in
     let p = (begun (at-loop w)).pre in
-    let r : rev w.wide.result < 2 * (a.darts / 2) = rev-in (a.darts / 2) w.wide.result (omega (arith, dart-below w, p.3)) in
+    let r : rev w.wide.result < 2 * (a.darts / 2) = rev_in (a.darts / 2) w.wide.result (omega (arith, dart-below w, p.3)) in
     omega (arith, c.reverse.ensures.0, r)
 
 add-requires-3 : tie.Need-add-requires-3 invariant-loop decreases-loop
@@ -109,7 +109,7 @@ add-requires-3 c κs =
       λ z. omega (
         arith,
         p.2,
-        room-between o.inv.2 w.before.before.loop-test.taken (sym w.wide.ensures) (sym t.wide2.ensures) (turn_below t) q.2
+        room_between o.inv.2 w.before.before.loop-test.taken (sym w.wide.ensures) (sym t.wide2.ensures) (turn_below t) q.2
             v.reverse.result (back_below v) z,
       ),
     )
@@ -137,7 +137,7 @@ loop-again c =
     let r = c.add3.ensures in (
       r.0,
       r.1,
-      growing-on o.inv.2 w.before.before.loop-test.taken (sym w.wide.ensures) (sym t.wide2.ensures) (sym v.reverse.ensures.0)
+      growing_on o.inv.2 w.before.before.loop-test.taken (sym w.wide.ensures) (sym t.wide2.ensures) (sym v.reverse.ensures.0)
           (turn_below t) (back_below v) q.2 r.2,
       marks_stay q.2 r.2 _ o.inv.3,
       λ y h. marks_stay q.2 r.2 y (o.inv.4 y h),

@@ -6,15 +6,15 @@ use native.Mathlib.Omega.{arith}
 use lib.ListN.{length}
 use borrow.Author.Rules.{rules}
 use Rattle.maps.specs.Dart.{rev}
-use Rattle.maps.proofs.Darts.{rev-in}
+use Rattle.maps.proofs.Darts.{rev_in}
 use Rattle.arrays.specs.At.{at}
 use Rattle.traversal.specs.inner.Mark.{unmarked}
 use Rattle.traversal.specs.inner.Forest.{Growing}
 use Rattle.traversal.specs.inner.Rounds.{Rounds}
 use Rattle.traversal.specs.inner.FirstCome.{FirstCome, RoundedOff, Unround}
-use Rattle.traversal.proofs.Spreading.{few, room, growing-planted, growing-added}
-use Rattle.traversal.proofs.Rounding.{growing-turned}
-use Rattle.traversal.proofs.Coming.{back_in, comes-planted, comes-crossed}
+use Rattle.traversal.proofs.Spreading.{few, room, growing_planted, growing_added}
+use Rattle.traversal.proofs.Rounding.{growing_turned}
+use Rattle.traversal.proofs.Coming.{back_in, comes_planted, comes_crossed}
 use Rattle.traversal.proofs.grow_rounds.Statement.{statement}
 use Rattle.traversal.proofs.grow_rounds.Tie as tie
 
@@ -43,11 +43,11 @@ add-round-requires c κs =
       omega (arith, p.3, p.8.inside),
       omega (arith, p.3, room p.7 _ p.8.inside p.8.fresh),
       p.8.fresh,
-      (λ o f e a. growing-planted p.7 p.4 p.5 p.8 a),
+      (λ o f e a. growing_planted p.7 p.4 p.5 p.8 a),
       p.9,
       p.10,
       p.7.marked,
-      comes-planted p.7 p.8 (back_in p.4) p.11,
+      comes_planted p.7 p.8 (back_in p.4) p.11,
     )
 
 loop-holds : tie.Need-loop-init invariant-loop decreases-loop
@@ -88,7 +88,7 @@ back_below c =
     let w = c.before in
     let s = begun (in-loop w).before in
     let n = s.args.darts / 2 in
-    let r : rev w.wide.result < 2 * n = rev-in n w.wide.result (omega (arith, dart-below w, s.pre.4)) in
+    let r : rev w.wide.result < 2 * n = rev_in n w.wide.result (omega (arith, dart-below w, s.pre.4)) in
     omega (arith, c.reverse.ensures.0, r, s.pre.4)
 
 add-head : tie.Need-overflow-add-head invariant-loop decreases-loop
@@ -125,11 +125,11 @@ add-round-requires-2 c κs =
       omega (arith, dart-below w, p.3),
       omega (arith, room (grown i) v.reverse.result (back_below v) z, p.3),
       z,
-      (λ o f e a. growing-added (grown i) (back_below v) a i.loop-test.taken w.wide.ensures (inl (v.reverse.ensures.0 ∙ ap rev w.wide.ensures))),
+      (λ o f e a. growing_added (grown i) (back_below v) a i.loop-test.taken w.wide.ensures (inl (v.reverse.ensures.0 ∙ ap rev w.wide.ensures))),
       old.1,
       old.5,
       old.0.marked,
-      comes-crossed old.0 (back_in p.4) old.6 i.loop-test.taken (v.reverse.ensures.0 ∙ ap rev w.wide.ensures) w.wide.ensures z,
+      comes_crossed old.0 (back_in p.4) old.6 i.loop-test.taken (v.reverse.ensures.0 ∙ ap rev w.wide.ensures) w.wide.ensures z,
     )
 
 abbrev then : tie.After-add-round2 invariant-loop decreases-loop → tie.Then1 invariant-loop decreases-loop
@@ -157,7 +157,7 @@ loop-again c =
           let m : front < c.add-round2.result = omega (arith, i.loop-test.taken, g.4) in
           let same = g.3 front i.loop-test.taken in
           let at_front = v.reverse.ensures.0 ∙ ap rev (w.wide.ensures ∙ sym same) in (
-            growing-turned g.0 g.1 m at_front g.2,
+            growing_turned g.0 g.1 m at_front g.2,
             g.1,
             g.5 _ old.2,
             (λ y k. g.5 y (old.3 y k)),
@@ -186,7 +186,7 @@ loop-again-2 c =
       l.loop.inv.1,
       l.loop.inv.2,
       (λ h. (
-        growing-turned old.0 old.1 m at_front c.if1.false,
+        growing_turned old.0 old.1 m at_front c.if1.false,
         old.1,
         old.2,
         old.3,

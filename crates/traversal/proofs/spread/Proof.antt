@@ -2,7 +2,7 @@
 use mathlib.Core.Path.{refl}
 use mathlib.Core.Logic.{inl}
 use native.Mathlib.Omega.{arith}
-use Rattle.traversal.proofs.Spreading.{growing-none, finished}
+use Rattle.traversal.proofs.Spreading.{growing_none, finished}
 use Rattle.traversal.proofs.spread.Statement.{statement}
 use Rattle.traversal.proofs.spread.Tie as tie
 
@@ -19,7 +19,7 @@ grow-requires c κs =
       p.2,
       p.3,
       p.5,
-      growing-none p.2 e.1,
+      growing_none p.2 e.1,
       record { inside = p.4; fresh = e.1 _ (omega (arith, p.2, p.4)); next = inl (refl, refl, refl) },
     )
 

@@ -8,7 +8,7 @@ use borrow.Author.Count.{below_more}
 use Rattle.arrays.specs.At.{at}
 use Rattle.traversal.specs.inner.Mark.{unmarked}
 use Rattle.traversal.specs.inner.Forest.{Growing}
-use Rattle.traversal.proofs.Spreading.{few, trees-few, growing-none, all_grown}
+use Rattle.traversal.proofs.Spreading.{few, trees_few, growing_none, all_grown}
 use Rattle.traversal.proofs.spread_all.Statement.{statement}
 use Rattle.traversal.proofs.spread_all.Tie as tie
 
@@ -33,7 +33,7 @@ grow-requires c κs =
       p.2,
       p.3,
       p.5,
-      growing-none p.2 e.1,
+      growing_none p.2 e.1,
       record { inside = p.4; fresh = e.1 _ (omega (arith, p.2, p.4)); next = inl (refl, refl, refl) },
     )
 
@@ -76,7 +76,7 @@ turn c = c.before.before.before.before.before
 add-trees : tie.Need-overflow-add-trees invariant-loop decreases-loop
 add-trees c =
     let o = (turn c).before.loop in
-    omega (arith, trees-few o.inv.4, few o.inv.4, (begun (turn c).before).pre.2)
+    omega (arith, trees_few o.inv.4, few o.inv.4, (begun (turn c).before).pre.2)
 
 loop-less : tie.Need-loop-smaller invariant-loop decreases-loop
 loop-less c = omega (arith, (turn c).loop-test.true)

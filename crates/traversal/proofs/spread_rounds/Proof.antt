@@ -11,8 +11,8 @@ use Rattle.traversal.specs.inner.Mark.{unmarked}
 use Rattle.traversal.specs.inner.Forest.{Growing}
 use Rattle.traversal.specs.inner.Rounds.{Rounds}
 use Rattle.traversal.specs.inner.FirstCome.{FirstCome, RoundedOff}
-use Rattle.traversal.proofs.Spreading.{trees-few, growing-none, some_left, all-marked, all_grown}
-use Rattle.traversal.proofs.Rounding.{rounds-none}
+use Rattle.traversal.proofs.Spreading.{trees_few, growing_none, some_left, all_marked, all_grown}
+use Rattle.traversal.proofs.Rounding.{rounds_none}
 use Rattle.traversal.proofs.Coming.{none_came}
 use Rattle.traversal.proofs.spread_rounds.Statement.{statement}
 use Rattle.traversal.proofs.spread_rounds.Tie as tie
@@ -42,9 +42,9 @@ grow-rounds-requires c κs =
       p.4,
       p.5,
       p.6,
-      growing-none p.3 e.1,
+      growing_none p.3 e.1,
       record { inside = p.7; fresh = e.1 _ (omega (arith, p.3, p.7)); next = inl (refl, refl, refl) },
-      rounds-none p.3 e.1 p.8,
+      rounds_none p.3 e.1 p.8,
       none_came,
       λ h z. absurd (omega (arith, z)),
     )
@@ -107,7 +107,7 @@ turn c = c.before.before.before.before.before.before.before
 add-trees : tie.Need-overflow-add-trees invariant-loop decreases-loop
 add-trees c =
     let t = turn c in
-    omega (arith, trees-few t.before.loop.inv.4, t.loop-test.taken, (begun t.before).pre.3)
+    omega (arith, trees_few t.before.loop.inv.4, t.loop-test.taken, (begun t.before).pre.3)
 
 loop-less : tie.Need-loop-smaller invariant-loop decreases-loop
 loop-less c = omega (arith, dart-below (turn c))
@@ -131,7 +131,7 @@ loop-again-2 c =
 returns-3 : tie.Need-returns-3 invariant-loop decreases-loop
 returns-3 c =
     let i = c.before.loop.invariant in
-    let every = all-marked i.4 (omega (arith, c.loop-test.false)) in
+    let every = all_marked i.4 (omega (arith, c.loop-test.false)) in
     let came = i.7.came in (
       i.0,
       i.1,

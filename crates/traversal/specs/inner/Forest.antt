@@ -13,7 +13,7 @@ Reached rotation order from i = (j : ℕ) × (j < i) × (order j ≡ from (order
 -- they leave out its first is the lowest.
 pub record Trees (rotation : ℕ → ℕ) (first : ℕ) (order from : ℕ → ℕ) (end trees : ℕ) : Type 0 where
   pub begins : ℕ → ℕ
-  pub begins-in : (t : ℕ) → t < trees → begins t < end
+  pub begins_in : (t : ℕ) → t < trees → begins t < end
   pub at_first : 0 < trees → (begins 0 ≡ 0) × (order 0 ≡ first)
   pub rising : (t u : ℕ) → t < u → u < trees → begins t < begins u
   pub own : (t : ℕ) → t < trees → from (order (begins t)) ≡ order (begins t)

@@ -3,28 +3,28 @@ use mathlib.Core.Path.{◌≡◌}
 use native.Mathlib.Omega.{arith}
 use lib.ListN.{length}
 use borrow.Author.Rules.{rules}
-use Rattle.arrays.specs.Maps.{rightOf}
+use Rattle.arrays.specs.Maps.{right_of}
 use Rattle.arrays.specs.At.{at, atℤ}
 use Rattle.search.specs.Parents.{up}
-use Rattle.windings.proofs.Round.{rev-below, between, Walking, set-off, face-in, parent_in, few-yet, walk-on, walk_end, nearer}
+use Rattle.windings.proofs.Round.{rev_below, between, Walking, set_off, face_in, parent_in, few_yet, walk_on, walk_end, nearer}
 use Rattle.windings.proofs.fill_winding.Statement.{statement}
 use Rattle.windings.proofs.fill_winding.Tie as tie
 
 abbrev invariant-loop : tie.invariant-loop
 invariant-loop lefts parents darts y winding₀ x₀ winding x =
-    (length winding ≡ 1024) × Walking (rightOf lefts) (at parents) darts y (atℤ winding) x
+    (length winding ≡ 1024) × Walking (right_of lefts) (at parents) darts y (atℤ winding) x
 
 abbrev decreases-loop : tie.decreases-loop
-decreases-loop lefts parents darts y winding₀ x₀ winding x = between (up (rightOf lefts) (at parents)) y 1024 x
+decreases-loop lefts parents darts y winding₀ x₀ winding x = between (up (right_of lefts) (at parents)) y 1024 x
 
 loop-holds : tie.Need-loop-init invariant-loop decreases-loop
-loop-holds c = (c.requires.0, set-off (λ d l. c.requires.4 d))
+loop-holds c = (c.requires.0, set_off (λ d l. c.requires.4 d))
 
 mul_wide : tie.Need-overflow-mul-wide invariant-loop decreases-loop
-mul_wide c = let r = c.before.requires.3 in omega (arith, face-in r c.loop.invariant.1)
+mul_wide c = let r = c.before.requires.3 in omega (arith, face_in r c.loop.invariant.1)
 
 element-copy-out-wide : tie.Need-element-copy-out-wide invariant-loop decreases-loop
-element-copy-out-wide c = let r = c.before.requires.3 in face-in r c.loop.invariant.1
+element-copy-out-wide c = let r = c.before.requires.3 in face_in r c.loop.invariant.1
 
 cross-requires : tie.Need-cross-requires invariant-loop decreases-loop
 cross-requires c κs =
@@ -32,8 +32,8 @@ cross-requires c κs =
     let o = c.before.before.before.loop in
     let p = c.before.wide.result in
     let r = s.requires.3 in
-    let p-in = parent_in r o.invariant.1 c.before.wide.ensures in
-    (o.invariant.0, omega (arith, p-in, s.requires.1), few-yet r o.invariant.1 p p-in, few-yet r o.invariant.1 _ (rev-below s.args.darts p s.requires.2 p-in))
+    let p_in = parent_in r o.invariant.1 c.before.wide.ensures in
+    (o.invariant.0, omega (arith, p_in, s.requires.1), few_yet r o.invariant.1 p p_in, few_yet r o.invariant.1 _ (rev_below s.args.darts p s.requires.2 p_in))
 
 right-requires : tie.Need-right-requires invariant-loop decreases-loop
 right-requires c κs =
@@ -52,7 +52,7 @@ loop-again c =
     let s = c.before.before.before.before.before.before.before in
     let o = c.before.before.before.before.before.before.loop in
     let e = c.before.before.cross.ensures in
-    (e.0, walk-on s.requires.3 o.invariant.1 c.before.before.before.before.wide.ensures c.before.right.ensures e.1 c.if1.false)
+    (e.0, walk_on s.requires.3 o.invariant.1 c.before.before.before.before.wide.ensures c.before.right.ensures e.1 c.if1.false)
 
 returns : tie.Need-returns invariant-loop decreases-loop
 returns c =

@@ -6,14 +6,14 @@ use Rattle.io.specs.Counts.{IsPrefixLen}
 use Rattle.practice.specs.Practice.{Practises}
 use Rattle.practice.specs.declared.PracticeAnswer.{PracticeAnswer}
 use Rattle.practice.specs.declared.PracticeAnswer.TheVariants.{Bytes}
-use Rattle.practice.proofs.Statements.{front-counted}
+use Rattle.practice.proofs.Statements.{front_counted}
 use borrow.Author.Rules.{rules}
 use Rattle.worksheet.proofs.make.Statement.{statement}
 use Rattle.worksheet.proofs.make.Tie as tie
 
 told : (rows columns seed : ℕ) (out out' : List ℕ) (answer : PracticeAnswer) (n : ℕ)
     → Practises rows columns seed out out' answer → answer ≡ Bytes n → IsPrefixLen n out'
-told rows columns seed out out' answer n h e = front-counted rows columns seed out out' n (subst (λ a. Practises rows columns seed out out' a) e h)
+told rows columns seed out out' answer n h e = front_counted rows columns seed out out' n (subst (λ a. Practises rows columns seed out out' a) e h)
 
 returns-2 : tie.Need-returns-2
 returns-2 c =
