@@ -412,7 +412,7 @@ pub fn write_dimacs(sheet: &[u8], source: u16, sink: u16, out: &mut [u8]) -> Dim
 }
 
 // What Counts answers: how many nodes and edges a sheet has, or the number of a refusal and its place.
-#[derive(Drop)]
+#[derive(Clone, Copy)]
 pub enum CountsAnswer {
     Counts(u16, u16),
     Refused(u8, u16),

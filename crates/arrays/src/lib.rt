@@ -4,7 +4,7 @@ ghost use Rattle.maps.specs.Dart.{rev};
 ghost use Rattle.arrays.specs.Maps.{right_of};
 
 // The sizes of an open drawing: its nodes, edges, faces and parts (connected components), and a dart on its outer face.
-#[derive(Drop)]
+#[derive(Clone, Copy)]
 pub struct Sizes {
     pub nodes: usize,
     pub edges: usize,
@@ -14,14 +14,14 @@ pub struct Sizes {
 }
 
 // The nodes that a flow goes from and to.
-#[derive(Drop)]
+#[derive(Clone, Copy)]
 pub struct Terminals {
     pub source: usize,
     pub sink: usize,
 }
 
 // A question: the value that a flow from source to sink is to have.
-#[derive(Drop)]
+#[derive(Clone, Copy)]
 pub struct Demand {
     pub source: usize,
     pub sink: usize,

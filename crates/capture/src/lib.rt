@@ -17,14 +17,14 @@ use questions::LargestAnswer;
 use refusals::Verdict;
 
 // The capture and a place in it.
-#[derive(Drop)]
+#[derive(Clone, Copy)]
 pub struct Reader<'a> {
     pub capture: &'a [u8],
     pub at: usize,
 }
 
 // What stands at a place: no record of kind 5, one that is cut short, or a whole one with its tick, its edge and its limit.
-#[derive(Drop)]
+#[derive(Clone, Copy)]
 pub enum Entry {
     Wrong,
     Cut,
@@ -32,7 +32,7 @@ pub enum Entry {
 }
 
 // What the records looked at come to: the number of the refusal of one of them, 0 where all have passed, and the tick of the last.
-#[derive(Drop)]
+#[derive(Clone, Copy)]
 pub struct Checked {
     pub refusal: u8,
     pub last: u32,
@@ -304,7 +304,7 @@ fn take_limits(
 }
 
 // What is asked of a capture: how many records the window has, the record that it ends with, and the nodes that a flow goes from and to.
-#[derive(Drop)]
+#[derive(Clone, Copy)]
 pub struct After {
     pub window: u16,
     pub named: u64,

@@ -23,7 +23,7 @@ use refusals::Verdict;
 use totals::TotalsAnswer;
 
 // A delivery, or that there is none: what is the largest, and what a paper claims.
-#[derive(Drop)]
+#[derive(Clone, Copy)]
 pub enum Delivery {
     Value(i32),
     None,
@@ -31,7 +31,7 @@ pub enum Delivery {
 
 // What a class comes to: no papers and so no figures; the number of papers, the sum, the least and the greatest of their points; or the number of a refusal and
 // its place. The mean is the sum over the number.
-#[derive(Drop)]
+#[derive(Clone, Copy)]
 pub enum Class {
     Empty,
     Marked(u16, u16, u8, u8),

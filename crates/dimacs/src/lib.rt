@@ -187,7 +187,7 @@ fn put_text<'a>(
 }
 
 // What is answered: how many bytes the text has, or the number of a refusal and its place.
-#[derive(Drop)]
+#[derive(Clone, Copy)]
 pub enum DimacsAnswer {
     Bytes(usize),
     Refused(u8, u16),

@@ -187,7 +187,7 @@ pub fn key_of_input(buffer: &[u8], n: usize, text: &mut [u8; 6671]) -> usize
 }
 
 // How many bytes of the lent slice are the key, or the number of a refusal and its place.
-#[derive(Drop)]
+#[derive(Clone, Copy)]
 pub enum KeyAnswer {
     Bytes(usize),
     Refused(u8, u16),

@@ -163,7 +163,7 @@ fn write_levels<'a>(
 }
 
 // What the two level operations answer: done, or the number of a refusal and its place.
-#[derive(Drop)]
+#[derive(Clone, Copy)]
 pub enum LevelAnswer {
     Done,
     Refused(u8, u16),

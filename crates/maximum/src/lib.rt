@@ -31,7 +31,7 @@ use arrays::{Demand, Sizes, Terminals};
 use node_flags::Side;
 
 // Which value is probed next: the high bound, the one nearest to zero, the high bound again, or the middle of the two bounds.
-#[derive(Drop)]
+#[derive(Clone, Copy)]
 enum Next {
     High,
     Zero,
@@ -41,7 +41,7 @@ enum Next {
 
 // What is known between two probes: the two bounds, whether the low one is found, which means that it is carried, and which value is probed next. Or that
 // nothing at all can be carried.
-#[derive(Drop)]
+#[derive(Clone, Copy)]
 struct Bounds {
     low: i32,
     high: i32,
@@ -51,14 +51,14 @@ struct Bounds {
 }
 
 // A question that is not answered yet: its nodes, and the bounds of its answer.
-#[derive(Drop)]
+#[derive(Clone, Copy)]
 struct Pending {
     terminals: Terminals,
     bounds: Bounds,
 }
 
 // The two bounds after a proving set, or that it shows that there is nothing between any.
-#[derive(Drop)]
+#[derive(Clone, Copy)]
 struct Narrowed {
     low: i32,
     high: i32,
@@ -66,7 +66,7 @@ struct Narrowed {
 }
 
 // The largest value, or that nothing at all can be carried.
-#[derive(Drop)]
+#[derive(Clone, Copy)]
 pub enum Maximum {
     Value(i32),
     Nothing,

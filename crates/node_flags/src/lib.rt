@@ -5,7 +5,7 @@ ghost use Rattle.node_flags.specs.inner.Flags.{Sided};
 ghost use Rattle.arrays.specs.inner.Flags.{flagged};
 
 // On which side of a question a set of nodes lies: it holds the source only, the sink only, or both or neither.
-#[derive(Drop)]
+#[derive(Clone, Copy)]
 pub enum Side {
     Source,
     Sink,

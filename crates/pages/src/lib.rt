@@ -15,7 +15,7 @@ use questions::SolveAnswer;
 use refusals::Verdict;
 
 // A question: a source, a sink and a value.
-#[derive(Drop)]
+#[derive(Clone, Copy)]
 pub struct Question {
     pub source: u16,
     pub sink: u16,
@@ -30,13 +30,13 @@ pub struct Listed {
 }
 
 // An answer, as an element of an array.
-#[derive(Drop)]
+#[derive(Clone, Copy)]
 pub struct Answered {
     pub answer: SolveAnswer,
 }
 
 // A page: whether it was refused, how many answers there are, and the answers in the order of the questions. Where there is none, it is Refused(0, 0).
-#[derive(Drop)]
+#[derive(Clone, Copy)]
 pub struct Page {
     pub verdict: Verdict,
     pub count: usize,

@@ -124,7 +124,7 @@ fn keep_offer(party: usize, flows: &[i32], edges: usize, first: &mut [i32], seco
 }
 
 // The sizes of a session's drawing, as the session holds them: its nodes and edges, and a dart on its outer face.
-#[derive(Drop)]
+#[derive(Clone, Copy)]
 pub struct SessionSizes {
     pub nodes: u16,
     pub edges: u16,

@@ -417,7 +417,7 @@ pub fn propose(
 }
 
 // How far a set has spread: its cut, shifted by 2^31 so that a negative one is less, and where the list of its nodes and of those ahead ends.
-#[derive(Drop)]
+#[derive(Clone, Copy)]
 struct Grown {
     total: u32,
     end: usize,
@@ -549,14 +549,14 @@ fn keep_first(
 }
 
 // The least cut so far: its total, and how many of the listed nodes are in its set.
-#[derive(Drop)]
+#[derive(Clone, Copy)]
 struct Best {
     total: u32,
     size: usize,
 }
 
 // Where the list ended, with the least cut.
-#[derive(Drop)]
+#[derive(Clone, Copy)]
 struct Found {
     best: Best,
     end: usize,

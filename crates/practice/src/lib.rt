@@ -256,7 +256,7 @@ fn out_of_range(rows: usize, columns: usize, seed: u64) -> bool
 }
 
 // What is answered: the number of bytes, or the number of a refusal and its place.
-#[derive(Drop)]
+#[derive(Clone, Copy)]
 pub enum PracticeAnswer {
     Bytes(usize),
     Refused(u8, u16),

@@ -58,7 +58,7 @@ pub fn check_room(nodes: usize, edges: usize, flows: usize, set: usize) -> Verdi
 }
 
 // What Solve answers: it can, and the flows are written; it cannot, and a proving set of this size is written; or the number of a refusal and its place.
-#[derive(Drop)]
+#[derive(Clone, Copy)]
 pub enum SolveAnswer {
     Can,
     Cannot(u16),
@@ -126,7 +126,7 @@ pub fn solve<'a>(
 }
 
 // What Largest answers: the largest value that can be carried, that nothing at all can be, or the number of a refusal and its place.
-#[derive(Drop)]
+#[derive(Clone, Copy)]
 pub enum LargestAnswer {
     Value(i32),
     None,
@@ -188,7 +188,7 @@ pub fn largest<'a>(
 }
 
 // What Mark answers: the value, or the number of a refusal and its place.
-#[derive(Drop)]
+#[derive(Clone, Copy)]
 pub enum MarkAnswer {
     Value(i32),
     Refused(u8, u16),

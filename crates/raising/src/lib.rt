@@ -15,7 +15,7 @@ use arrays::{Demand, Sizes};
 use refusals::Verdict;
 
 // What is answered: the forward capacity, that none serves, or the number of a refusal and its place.
-#[derive(Drop)]
+#[derive(Clone, Copy)]
 pub enum RaiseAnswer {
     Limit(i32),
     None,
@@ -23,7 +23,7 @@ pub enum RaiseAnswer {
 }
 
 // The least capacity that serves, or that the greatest does not.
-#[derive(Drop)]
+#[derive(Clone, Copy)]
 enum Found {
     At(i32),
     Nowhere,

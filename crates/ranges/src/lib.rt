@@ -10,7 +10,7 @@ use maximum::Maximum;
 use refusals::Verdict;
 
 // What is answered: the least and the largest value, that nothing at all can be carried, or the number of a refusal and its place.
-#[derive(Drop)]
+#[derive(Clone, Copy)]
 pub enum RangeAnswer {
     Values(i32, i32),
     None,

@@ -163,7 +163,7 @@ fn check_head_record(s: &[u8]) -> Verdict
 }
 
 // The head of a sheet as it is read: the verdict on it and, where it passed, its length and its numbers.
-#[derive(Drop)]
+#[derive(Clone, Copy)]
 pub struct HeadRecord {
     pub verdict: Verdict,
     pub length: usize,
@@ -294,7 +294,7 @@ pub fn check_fields(
 }
 
 // The record of an edge as it is read: the verdict on it and, where it passed, its fields.
-#[derive(Drop)]
+#[derive(Clone, Copy)]
 pub struct EdgeRecord {
     pub verdict: Verdict,
     pub tail: u16,

@@ -1,7 +1,7 @@
 // What the checks of an operation found. The paper: "A refusal is its number, with a lowest channel (17) or node (18), else place 0."
 ghost use Rattle.std.specs.Prelude.{◌≡◌};
 
-#[derive(Drop)]
+#[derive(Clone, Copy)]
 pub enum Verdict {
     // No check holds.
     Passed,

@@ -228,7 +228,7 @@ fn number_faces(
 }
 
 // What the checks found and, where they passed, how many faces and parts there are.
-#[derive(Drop)]
+#[derive(Clone, Copy)]
 pub struct Checked {
     pub verdict: Verdict,
     pub faces: usize,

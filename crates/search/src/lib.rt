@@ -36,21 +36,21 @@ const FAR: i64 = 2000000000000000;
 const DONE: u16 = 1025;
 
 // Settled potentials, or the dart that closes a ring.
-#[derive(Drop)]
+#[derive(Clone, Copy)]
 pub enum Outcome {
     Settled,
     Ring(usize),
 }
 
 // No parents lead round, and the end of the queue; or the dart that closes a ring.
-#[derive(Drop)]
+#[derive(Clone, Copy)]
 enum Straightened {
     Straight(usize),
     Ring(usize),
 }
 
 // How many faces an ascent went through, the last of them, and the face that it came to.
-#[derive(Drop)]
+#[derive(Clone, Copy)]
 struct Risen {
     count: usize,
     last: usize,

@@ -32,7 +32,7 @@ pub struct Network {
 }
 
 // What the checks of a sheet found: whether it is accepted and its sizes, or the number of the refusal and its place.
-#[derive(Drop)]
+#[derive(Clone, Copy)]
 pub struct Opened {
     pub accepted: bool,
     pub refusal: u8,
@@ -249,7 +249,7 @@ pub fn copy_capacities(from: &[i32; 1024], to: &mut [i32])
 }
 
 // What Read answers: both counts and a dart on the outer face, or the number of a refusal and its place.
-#[derive(Drop)]
+#[derive(Clone, Copy)]
 pub enum ReadAnswer {
     Counts(u16, u16, u16),
     Refused(u8, u16),
@@ -471,7 +471,7 @@ fn write_edges(out: &mut [u8], tails: &[u16], rotations: &[u16], capacities: &[i
 }
 
 // What Write answers: the number of bytes, or the number of a refusal and its place.
-#[derive(Drop)]
+#[derive(Clone, Copy)]
 pub enum WriteAnswer {
     Bytes(usize),
     Refused(u8, u16),

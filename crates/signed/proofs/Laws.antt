@@ -7,7 +7,7 @@ use native.Mathlib.Omega.{arith}
 use lib.IntN.{ℤ, pos, negsuc, ◌+ℤ◌, ◌-ℤ◌, neg_ℤ, sub_ℕ, nat_abs}
 use lib.Signed.{mag, lt_z, non_neg, ◌≤ℤ◌}
 use lib.Dec.{T, eqb, ltb}
-use borrow.Author.Tests.{ltb_true}
+use borrow.Author.Tests.{ltb-true}
 use mir.Syntax.{Width, w16, w32, w64}
 use mir.Val.{SFits, to_z, of_z, hbits}
 use mir.ValLaws.{to_z_pos, to_z-of_z, to_z-Fits, of_z-to_z, of_z_fits}
@@ -85,7 +85,7 @@ sub_fits x y f g = record { sfits = omega (arith, f.sfits, g.sfits, mag_add x (n
 -- ── below 0, and not ──
 -- the bits of a number below 0, turned over, are those of a number that is not
 pub turned_over : (x : ℤ) → SFits w32 x → lt_z x (pos 0) ≡ true → to_z w32 (4294967295 - of_z w32 x) ≡ pos (4294967295 - of_z w32 x)
-turned_over (pos n) f h = let b : n < 0 = ltb_true n 0 h in absurd (omega arith)
+turned_over (pos n) f h = let b : n < 0 = ltb-true n 0 h in absurd (omega arith)
 turned_over (negsuc k) f h = to_z_pos w32 (4294967295 - (4294967296 - suc k)) (omega (arith, f.sfits))
 
 pub not_below : (x : ℤ) → lt_z x (pos 0) ≡ false → T (non_neg x) × (nat_abs x ≡ of_z w32 x)

@@ -2,7 +2,7 @@
 ghost use Rattle.streams.specs.inner.Input.{Filled};
 
 // The input ended after so many bytes, or filled the buffer; or a read failed, and errno says why.
-#[derive(Drop)]
+#[derive(Clone, Copy)]
 pub enum Input {
     Ended(usize),
     Full(usize),

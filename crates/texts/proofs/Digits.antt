@@ -8,15 +8,15 @@ use Prim.Native.Nat.{ℕ, zero, suc, ◌*◌, ◌/◌, ◌%◌, ◌^◌, ◌<◌
 use native.Mathlib.Nat.{pow-suc}
 use native.Mathlib.Omega.{arith}
 use lib.Dec.{ltb}
-use borrow.Author.Tests.{ltb_true, ltb_false, lt-ltb, le-ltb}
+use borrow.Author.Tests.{ltb-true, ltb-false, lt-ltb, le-ltb}
 use Rattle.texts.specs.Decimal.{digit, digits, decimal}
 
 pub below_or_not : (n k : ℕ) → (n < k) ⊎ (k ≤ n)
 below_or_not n k = go (ltb n k) refl
   where
     go : (t : Bool) → ltb n k ≡ t → (n < k) ⊎ (k ≤ n)
-    go true e = inl (ltb_true n k e)
-    go false e = inr (ltb_false n k e)
+    go true e = inl (ltb-true n k e)
+    go false e = inr (ltb-false n k e)
 
 digits_one : (depth n : ℕ) → n < 10 → digits (suc depth) n ≡ digit n ∷ []
 unfolding digits

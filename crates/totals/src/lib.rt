@@ -114,7 +114,7 @@ fn fill_subtotals<'a>(
 }
 
 // What is answered: the outward total of the set, or the number of a refusal and its place.
-#[derive(Drop)]
+#[derive(Clone, Copy)]
 pub enum TotalsAnswer {
     Total(i32),
     Refused(u8, u16),

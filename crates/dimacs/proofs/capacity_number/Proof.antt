@@ -5,7 +5,7 @@ use Prim.Native.Nat.{◌<◌}
 use native.Mathlib.Omega.{arith}
 use lib.IntN.{ℤ, pos, negsuc, nat_abs}
 use lib.Signed.{lt_z}
-use borrow.Author.Tests.{ltb_true}
+use borrow.Author.Tests.{ltb-true}
 use Rattle.integers.proofs.Omega.{parts, from_at_most}
 use Rattle.integers.proofs.Laws.{ge_of_test}
 use Rattle.signed.proofs.Laws.{number_of_bits, bits_below, not_below}
@@ -15,7 +15,7 @@ use Rattle.dimacs.proofs.capacity_number.Tie as tie
 
 below_none : (x : ℤ) → lt_z x (pos 0) ≡ true → 0 ≡ natural x
 unfolding natural
-below_none (pos n) h = let b : n < 0 = ltb_true n 0 h in absurd (omega arith)
+below_none (pos n) h = let b : n < 0 = ltb-true n 0 h in absurd (omega arith)
 below_none (negsuc k) h = omega arith
 
 own-size : (x : ℤ) → lt_z x (pos 0) ≡ false → nat_abs x ≡ natural x

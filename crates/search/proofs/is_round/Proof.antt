@@ -3,14 +3,14 @@ use mathlib.Core.Path.{sym}
 use mathlib.Core.Bool.{true≢false}
 use native.Mathlib.Omega.{arith}
 use borrow.Author.Rules.{rules}
-use borrow.Author.Tests.{not_true, not_false}
+use borrow.Author.Tests.{not-true, not-false}
 use Rattle.search.proofs.is_round.Statement.{statement}
 use Rattle.search.proofs.is_round.Tie as tie
 
 returns : tie.Need-returns
 returns c =
     let e = c.is-far.ensures in
-    (λ q. (c.before.if1.true, e.1 (not_true c.is-far.result q)), λ q m h. h (e.0 (not_false c.is-far.result q)))
+    (λ q. (c.before.if1.true, e.1 (not-true c.is-far.result q)), λ q m h. h (e.0 (not-false c.is-far.result q)))
 
 returns-2 : tie.Need-returns-2
 returns-2 c = (λ q. absurd (true≢false (sym q)), λ q m h. omega (arith, c.if1.false, m))

@@ -5,7 +5,7 @@ use Prim.Native.Nat.{◌+◌, ◌-◌, ◌<◌, ◌≤◌}
 use native.Mathlib.Omega.{arith}
 use lib.IntN.{ℤ, pos, negsuc, nat_abs}
 use lib.Signed.{lt_z}
-use borrow.Author.Tests.{ltb_true}
+use borrow.Author.Tests.{ltb-true}
 use mir.Syntax.{w32}
 use mir.Val.{SFits, of_z}
 use Rattle.signed.proofs.Laws.{number_of_bits, bits_below, turned_over, not_below}
@@ -13,7 +13,7 @@ use Rattle.texts.proofs.magnitude.Statement.{statement}
 use Rattle.texts.proofs.magnitude.Tie as tie
 
 turned : (x : ℤ) → SFits w32 x → lt_z x (pos 0) ≡ true → 4294967295 - of_z w32 x + 1 ≡ nat_abs x
-turned (pos n) f h = let b : n < 0 = ltb_true n 0 h in absurd (omega arith)
+turned (pos n) f h = let b : n < 0 = ltb-true n 0 h in absurd (omega arith)
 turned (negsuc k) f h = omega (arith, f.sfits)
 
 at_most : (x : ℤ) → SFits w32 x → nat_abs x ≤ 2147483648
