@@ -10,41 +10,41 @@ use Rattle.desk.specs.declared.Class.TheVariants.{Empty, Marked, Refused}
 use Rattle.abi.proofs.analyser_examine.Statement.{statement}
 use Rattle.abi.proofs.analyser_examine.Tie as tie
 
-abbrev start : tie.After-examine → tie.Start
+abbrev start : tie.After-examine-class → tie.Start
 start c = c.before.before.before.before.before.before
 
-abbrev points' : tie.After-examine → List ℕ
-points' c = c.examine.new.1.1.1.1.1.1.1.1.0
+abbrev points' : tie.After-examine-class → List ℕ
+points' c = c.examine-class.new.1.1.1.1.1.1.1.1.0
 
 -- the value that it is given is the one that came in
-found : (c : tie.After-examine) (answer : Class) → c.examine.result ≡ answer
+found : (c : tie.After-examine-class) (answer : Class) → c.examine-class.result ≡ answer
     → Examines (start c).args.sheet.now (start c).args.source (start c).args.sink (start c).args.value (start c).args.claims.now
-    (start c).args.kinds.now (start c).args.settings.now (start c).args.sets.now (start c).args.points.now (points' c) answer
-found c answer e = rw (number_of_bits _ (start c).ranges.value, e) at c.examine.ensures
+    (start c).args.kinds.now (start c).args.settings.now (start c).args.sets.now (start c).args.points-1.now (points' c) answer
+found c answer e = rw (number_of_bits _ (start c).ranges.value, e) at c.examine-class.ensures
 
-returns : tie.Need-returns
+returns : tie.Need-returns-in-Empty
 returns c = (
   Empty,
-  found c.before.before.before.before Empty c.enum_told.given.1,
+  found c.before.before.before.before Empty c.enum_told-1.given.1,
   record { result_told = refl; number-told = refl; sum_told = refl; least_told = refl; greatest_told = refl; place_told = refl },
 )
 
-returns-2 : tie.Need-returns-2
+returns-2 : tie.Need-returns-in-Marked
 returns-2 c = (
   Marked _ _ _ _,
-  found c.before.before.before.before.before (Marked _ _ _ _) c.before.class.given.1,
+  found c.before.before.before.before.before (Marked _ _ _ _) c.before.class-1.given.1,
   record { result_told = refl; number-told = refl; sum_told = refl; least_told = refl; greatest_told = refl; place_told = refl },
 )
 
-returns-3 : tie.Need-returns-3
+returns-3 : tie.Need-returns-in-Refused
 returns-3 c = (
   Refused _ _,
-  found c.before.before.before.before.before (Refused _ _) c.before.class2.given.1,
+  found c.before.before.before.before.before (Refused _ _) c.before.class-in-Refused-1.given.1,
   record { result_told = refl; number-told = refl; sum_told = refl; least_told = refl; greatest_told = refl; place_told = refl },
 )
 
-pub analyser-examine-spec : {M : Type 1} → statement M
-analyser-examine-spec =
+pub analyser_examine_spec : {M : Type 1} → statement M
+analyser_examine_spec =
     tie.close
     (tie.spec
     (λ c κs. search rules)

@@ -10,31 +10,31 @@ use Rattle.key_text.specs.declared.KeyAnswer.TheVariants.{Bytes, Refused}
 use Rattle.abi.proofs.analyser_key_text.Statement.{statement}
 use Rattle.abi.proofs.analyser_key_text.Tie as tie
 
-abbrev start : tie.After-write-key → tie.Start
+abbrev start : tie.After-write_key-answer → tie.Start
 start c = c.before.before.before.before
 
-abbrev text' : tie.After-write-key → List ℕ
-text' c = c.write-key.new.1.0
+abbrev text' : tie.After-write_key-answer → List ℕ
+text' c = c.write_key-answer.new.1.0
 
-found : (c : tie.After-write-key) (answer : KeyAnswer) → c.write-key.result ≡ answer
-    → Writes (start c).args.input.now (start c).args.text.now (text' c) answer
-found c answer e = rw e at c.write-key.ensures.0
+found : (c : tie.After-write_key-answer) (answer : KeyAnswer) → c.write_key-answer.result ≡ answer
+    → Writes (start c).args.input.now (start c).args.text-1.now (text' c) answer
+found c answer e = rw e at c.write_key-answer.ensures.0
 
-named : (c : tie.After-write-key) (answer : KeyAnswer) → c.write-key.result ≡ answer → WriteNamed (start c).args.input.now (text' c) answer
-named c answer e = rw e at c.write-key.ensures.1
+named : (c : tie.After-write_key-answer) (answer : KeyAnswer) → c.write_key-answer.result ≡ answer → WriteNamed (start c).args.input.now (text' c) answer
+named c answer e = rw e at c.write_key-answer.ensures.1
 
-returns : tie.Need-returns
+returns : tie.Need-returns-in-Bytes
 returns c =
     let k = c.before.before.before.before.before in
-    (Bytes _, found k (Bytes _) c.before.answer.given.1, named k (Bytes _) c.before.answer.given.1, (refl, refl, refl))
+    (Bytes _, found k (Bytes _) c.before.answer-1.given.1, named k (Bytes _) c.before.answer-1.given.1, (refl, refl, refl))
 
-returns-2 : tie.Need-returns-2
+returns-2 : tie.Need-returns-in-Refused
 returns-2 c =
     let k = c.before.before.before.before.before in
-    (Refused _ _, found k (Refused _ _) c.before.answer2.given.1, named k (Refused _ _) c.before.answer2.given.1, (refl, refl, refl))
+    (Refused _ _, found k (Refused _ _) c.before.answer-in-Refused-1.given.1, named k (Refused _ _) c.before.answer-in-Refused-1.given.1, (refl, refl, refl))
 
-pub analyser-key-text-spec : {M : Type 1} → statement M
-analyser-key-text-spec =
+pub analyser_key_text_spec : {M : Type 1} → statement M
+analyser_key_text_spec =
     tie.close
     (tie.spec
     (λ c κs. search rules)

@@ -11,35 +11,35 @@ use Rattle.questions.specs.declared.LargestAnswer.TheVariants.{Value, None, Refu
 use Rattle.abi.proofs.analyser_largest.Statement.{statement}
 use Rattle.abi.proofs.analyser_largest.Tie as tie
 
-abbrev start : tie.After-largest → tie.Start
+abbrev start : tie.After-largest-answer → tie.Start
 start c = c.before.before.before.before.before
 
-abbrev flows' : tie.After-largest → List ℤ
-flows' c = c.largest.new.1.1.1.0
+abbrev flows' : tie.After-largest-answer → List ℤ
+flows' c = c.largest-answer.new.1.1.1.0
 
-abbrev set' : tie.After-largest → List ℕ
-set' c = c.largest.new.1.1.1.1.0
+abbrev set' : tie.After-largest-answer → List ℕ
+set' c = c.largest-answer.new.1.1.1.1.0
 
-found : (c : tie.After-largest) (answer : LargestAnswer) → c.largest.result ≡ answer
+found : (c : tie.After-largest-answer) (answer : LargestAnswer) → c.largest-answer.result ≡ answer
     → FindsLargest (start c).args.sheet.now (start c).args.source (start c).args.sink
-    (start c).args.flows.now (flows' c) (start c).args.set.now (set' c) answer
-found c answer e = rw e at c.largest.ensures
+    (start c).args.flows-1.now (flows' c) (start c).args.set-1.now (set' c) answer
+found c answer e = rw e at c.largest-answer.ensures
 
-returns : tie.Need-returns
+returns : tie.Need-returns-in-Value
 returns c = (
   Value _,
-  found c.before.before.before.before.before.before (Value _) c.before.answer.given.1,
-  (refl, refl, number_of_bits _ (record { sfits = c.known-told.given.0.1 }), refl),
+  found c.before.before.before.before.before.before (Value _) c.before.answer-1.given.1,
+  (refl, refl, number_of_bits _ (record { sfits = c.known_told-1.given.0.1 }), refl),
 )
 
-returns-2 : tie.Need-returns-2
-returns-2 c = (None, found c.before.before.before.before.before None c.enum_told.given.1, (refl, refl, refl, refl))
+returns-2 : tie.Need-returns-in-None
+returns-2 c = (None, found c.before.before.before.before.before None c.enum_told-1.given.1, (refl, refl, refl, refl))
 
-returns-3 : tie.Need-returns-3
-returns-3 c = (Refused _ _, found c.before.before.before.before.before.before (Refused _ _) c.before.answer2.given.1, (refl, refl, refl, refl))
+returns-3 : tie.Need-returns-in-Refused
+returns-3 c = (Refused _ _, found c.before.before.before.before.before.before (Refused _ _) c.before.answer-in-Refused-1.given.1, (refl, refl, refl, refl))
 
-pub analyser-largest-spec : {M : Type 1} → statement M
-analyser-largest-spec =
+pub analyser_largest_spec : {M : Type 1} → statement M
+analyser_largest_spec =
     tie.close
     (tie.spec
     (λ c κs. search rules)

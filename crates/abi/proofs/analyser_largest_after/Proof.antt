@@ -11,40 +11,40 @@ use Rattle.questions.specs.declared.LargestAnswer.TheVariants.{Value, None, Refu
 use Rattle.abi.proofs.analyser_largest_after.Statement.{statement}
 use Rattle.abi.proofs.analyser_largest_after.Tie as tie
 
-abbrev start : tie.After-largest-after → tie.Start
+abbrev start : tie.After-largest_after-answer → tie.Start
 start c = c.before.before.before.before.before.before.before
 
-abbrev limits' : tie.After-largest-after → List ℤ
-limits' c = c.largest-after.new.1.1.1.1.1.1.0
+abbrev limits' : tie.After-largest_after-answer → List ℤ
+limits' c = c.largest_after-answer.new.1.1.1.1.1.1.0
 
-abbrev flows' : tie.After-largest-after → List ℤ
-flows' c = c.largest-after.new.1.1.1.1.1.1.1.0
+abbrev flows' : tie.After-largest_after-answer → List ℤ
+flows' c = c.largest_after-answer.new.1.1.1.1.1.1.1.0
 
-abbrev set' : tie.After-largest-after → List ℕ
-set' c = c.largest-after.new.1.1.1.1.1.1.1.1.0
+abbrev set' : tie.After-largest_after-answer → List ℕ
+set' c = c.largest_after-answer.new.1.1.1.1.1.1.1.1.0
 
-found : (c : tie.After-largest-after) (answer : LargestAnswer) → c.largest-after.result ≡ answer
+found : (c : tie.After-largest_after-answer) (answer : LargestAnswer) → c.largest_after-answer.result ≡ answer
     → FindsAfter (start c).args.sheet.now (start c).args.capture.now (start c).args.window (start c).args.named (start c).args.source
     (start c).args.sink
-    (start c).args.limits.now (limits' c) (start c).args.flows.now (flows' c) (start c).args.set.now (set' c) answer
-found c answer e = rw e at c.largest-after.ensures
+    (start c).args.limits-1.now (limits' c) (start c).args.flows-1.now (flows' c) (start c).args.set-1.now (set' c) answer
+found c answer e = rw e at c.largest_after-answer.ensures
 
-returns : tie.Need-returns
+returns : tie.Need-returns-in-Value
 returns c = (
   Value _,
-  found c.before.before.before.before.before.before.before (Value _) c.before.answer.given.1,
-  (refl, refl, number_of_bits _ (record { sfits = c.known-told.given.0.1 }), refl),
+  found c.before.before.before.before.before.before.before (Value _) c.before.answer-1.given.1,
+  (refl, refl, number_of_bits _ (record { sfits = c.known_told-1.given.0.1 }), refl),
 )
 
-returns-2 : tie.Need-returns-2
-returns-2 c = (None, found c.before.before.before.before.before.before None c.enum_told.given.1, (refl, refl, refl, refl))
+returns-2 : tie.Need-returns-in-None
+returns-2 c = (None, found c.before.before.before.before.before.before None c.enum_told-1.given.1, (refl, refl, refl, refl))
 
-returns-3 : tie.Need-returns-3
+returns-3 : tie.Need-returns-in-Refused
 returns-3 c =
-    (Refused _ _, found c.before.before.before.before.before.before.before (Refused _ _) c.before.answer2.given.1, (refl, refl, refl, refl))
+    (Refused _ _, found c.before.before.before.before.before.before.before (Refused _ _) c.before.answer-in-Refused-1.given.1, (refl, refl, refl, refl))
 
-pub analyser-largest-after-spec : {M : Type 1} → statement M
-analyser-largest-after-spec =
+pub analyser_largest_after_spec : {M : Type 1} → statement M
+analyser_largest_after_spec =
     tie.close
     (tie.spec
     (λ c κs. search rules)

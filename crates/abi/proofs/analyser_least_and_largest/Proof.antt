@@ -11,51 +11,51 @@ use Rattle.ranges.specs.declared.RangeAnswer.TheVariants.{Values, None, Refused}
 use Rattle.abi.proofs.analyser_least_and_largest.Statement.{statement}
 use Rattle.abi.proofs.analyser_least_and_largest.Tie as tie
 
-abbrev start : tie.After-least-and-largest → tie.Start
+abbrev start : tie.After-least_and_largest-answer → tie.Start
 start c = c.before.before.before.before.before.before.before.before
 
-abbrev low' : tie.After-least-and-largest → List ℤ
-low' c = c.least_and_largest.last.1.1.1.0
+abbrev low' : tie.After-least_and_largest-answer → List ℤ
+low' c = c.least_and_largest-answer.last.1.1.1.0
 
-abbrev below' : tie.After-least-and-largest → List ℕ
-below' c = c.least_and_largest.last.1.1.1.1.0
+abbrev below' : tie.After-least_and_largest-answer → List ℕ
+below' c = c.least_and_largest-answer.last.1.1.1.1.0
 
-abbrev high' : tie.After-least-and-largest → List ℤ
-high' c = c.least_and_largest.last.1.1.1.1.1.0
+abbrev high' : tie.After-least_and_largest-answer → List ℤ
+high' c = c.least_and_largest-answer.last.1.1.1.1.1.0
 
-abbrev above' : tie.After-least-and-largest → List ℕ
-above' c = c.least_and_largest.last.1.1.1.1.1.1.0
+abbrev above' : tie.After-least_and_largest-answer → List ℕ
+above' c = c.least_and_largest-answer.last.1.1.1.1.1.1.0
 
-found : (c : tie.After-least-and-largest) (answer : RangeAnswer) → c.least_and_largest.result ≡ answer
-    → FindsRange (start c).args.sheet.now (start c).args.source (start c).args.sink (start c).args.low.now (low' c)
-    (start c).args.below.now (below' c) (start c).args.high.now (high' c) (start c).args.above.now (above' c) answer
-found c answer e = rw e at c.least_and_largest.ensures
+found : (c : tie.After-least_and_largest-answer) (answer : RangeAnswer) → c.least_and_largest-answer.result ≡ answer
+    → FindsRange (start c).args.sheet.now (start c).args.source (start c).args.sink (start c).args.low-1.now (low' c)
+    (start c).args.below-1.now (below' c) (start c).args.high-1.now (high' c) (start c).args.above-1.now (above' c) answer
+found c answer e = rw e at c.least_and_largest-answer.ensures
 
-returns : tie.Need-returns
+returns : tie.Need-returns-in-Values
 returns c = (
   Values _ _,
-  found c.before.before.before.before.before.before.before.before.before (Values _ _) c.before.answer.given.1,
+  found c.before.before.before.before.before.before.before.before.before (Values _ _) c.before.answer-1.given.1,
   (
     refl,
     refl,
-    number_of_bits _ (record { sfits = c.known-told.given.0.1 }),
-    number_of_bits _ (record { sfits = c.known-told.given.1.0.1 }),
+    number_of_bits _ (record { sfits = c.known_told-1.given.0.1 }),
+    number_of_bits _ (record { sfits = c.known_told-1.given.1.0.1 }),
     refl,
   ),
 )
 
-returns-2 : tie.Need-returns-2
-returns-2 c = (None, found c.before.before.before.before.before.before.before.before None c.enum_told.given.1, (refl, refl, refl, refl, refl))
+returns-2 : tie.Need-returns-in-None
+returns-2 c = (None, found c.before.before.before.before.before.before.before.before None c.enum_told-1.given.1, (refl, refl, refl, refl, refl))
 
-returns-3 : tie.Need-returns-3
+returns-3 : tie.Need-returns-in-Refused
 returns-3 c = (
   Refused _ _,
-  found c.before.before.before.before.before.before.before.before.before (Refused _ _) c.before.answer2.given.1,
+  found c.before.before.before.before.before.before.before.before.before (Refused _ _) c.before.answer-in-Refused-1.given.1,
   (refl, refl, refl, refl, refl),
 )
 
-pub analyser-least-and-largest-spec : {M : Type 1} → statement M
-analyser-least-and-largest-spec =
+pub analyser_least_and_largest_spec : {M : Type 1} → statement M
+analyser_least_and_largest_spec =
     tie.close
     (tie.spec
     (λ c κs. search rules)

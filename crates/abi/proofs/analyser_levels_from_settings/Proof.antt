@@ -9,24 +9,24 @@ use Rattle.levels.specs.declared.LevelAnswer.TheVariants.{Done, Refused}
 use Rattle.abi.proofs.analyser_levels_from_settings.Statement.{statement}
 use Rattle.abi.proofs.analyser_levels_from_settings.Tie as tie
 
-abbrev start : tie.After-levels-from-settings → tie.Start
+abbrev start : tie.After-levels_from_settings-answer → tie.Start
 start c = c.before.before.before
 
-abbrev levels' : tie.After-levels-from-settings → List ℤ
-levels' c = c.levels-from-settings.new.1.1.0
+abbrev levels' : tie.After-levels_from_settings-answer → List ℤ
+levels' c = c.levels_from_settings-answer.new.1.1.0
 
-found : (c : tie.After-levels-from-settings) (answer : LevelAnswer) → c.levels-from-settings.result ≡ answer
-    → GivesLevels (start c).args.sheet.now (start c).args.flows.now (start c).args.levels.now (levels' c) answer
-found c answer e = rw e at c.levels-from-settings.ensures
+found : (c : tie.After-levels_from_settings-answer) (answer : LevelAnswer) → c.levels_from_settings-answer.result ≡ answer
+    → GivesLevels (start c).args.sheet.now (start c).args.flows.now (start c).args.levels-1.now (levels' c) answer
+found c answer e = rw e at c.levels_from_settings-answer.ensures
 
-returns : tie.Need-returns
-returns c = (Done, found c.before.before.before Done c.enum_told.given.1, (refl, refl))
+returns : tie.Need-returns-in-Done
+returns c = (Done, found c.before.before.before Done c.enum_told-1.given.1, (refl, refl))
 
-returns-2 : tie.Need-returns-2
-returns-2 c = (Refused _ _, found c.before.before.before.before (Refused _ _) c.before.answer.given.1, (refl, refl))
+returns-2 : tie.Need-returns-in-Refused
+returns-2 c = (Refused _ _, found c.before.before.before.before (Refused _ _) c.before.answer-1.given.1, (refl, refl))
 
-pub analyser-levels-from-settings-spec : {M : Type 1} → statement M
-analyser-levels-from-settings-spec =
+pub analyser_levels_from_settings_spec : {M : Type 1} → statement M
+analyser_levels_from_settings_spec =
     tie.close
     (tie.spec
     (λ c κs. search rules)

@@ -8,25 +8,25 @@ use Rattle.questions.specs.declared.MarkAnswer.TheVariants.{Value, Refused}
 use Rattle.abi.proofs.analyser_mark.Statement.{statement}
 use Rattle.abi.proofs.analyser_mark.Tie as tie
 
-abbrev start : tie.After-mark → tie.Start
+abbrev start : tie.After-mark-answer → tie.Start
 start c = c.before.before
 
-found : (c : tie.After-mark) (answer : MarkAnswer) → c.mark.result ≡ answer
+found : (c : tie.After-mark-answer) (answer : MarkAnswer) → c.mark-answer.result ≡ answer
     → Marks (start c).args.sheet.now (start c).args.source (start c).args.sink (start c).args.flows.now answer
-found c answer e = rw e at c.mark.ensures
+found c answer e = rw e at c.mark-answer.ensures
 
-returns : tie.Need-returns
+returns : tie.Need-returns-in-Value
 returns c = (
   Value _,
-  found c.before.before.before (Value _) c.before.answer.given.1,
-  (refl, number_of_bits _ (record { sfits = c.known-told.given.0.1 }), refl),
+  found c.before.before.before (Value _) c.before.answer-1.given.1,
+  (refl, number_of_bits _ (record { sfits = c.known_told-1.given.0.1 }), refl),
 )
 
-returns-2 : tie.Need-returns-2
-returns-2 c = (Refused _ _, found c.before.before.before (Refused _ _) c.before.answer2.given.1, (refl, refl, refl))
+returns-2 : tie.Need-returns-in-Refused
+returns-2 c = (Refused _ _, found c.before.before.before (Refused _ _) c.before.answer-in-Refused-1.given.1, (refl, refl, refl))
 
-pub analyser-mark-spec : {M : Type 1} → statement M
-analyser-mark-spec =
+pub analyser_mark_spec : {M : Type 1} → statement M
+analyser_mark_spec =
     tie.close
     (tie.spec
     (λ c κs. search rules)

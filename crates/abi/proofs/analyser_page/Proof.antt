@@ -12,61 +12,61 @@ use Rattle.abi.proofs.Paging.{page_few, told_passed, told_refused}
 use Rattle.abi.proofs.analyser_page.Statement.{statement}
 use Rattle.abi.proofs.analyser_page.Tie as tie
 
-abbrev begun : tie.After-page-of → tie.Start
+abbrev begun : tie.After-page_of-page → tie.Start
 begun c = c.before.before.before.before.before.before
 
-abbrev flows' : tie.After-page-of → List ℤ
-flows' c = c.page-of.new.1.1.0
+abbrev flows' : tie.After-page_of-page → List ℤ
+flows' c = c.page_of-page.new.1.1.0
 
-abbrev sets' : tie.After-page-of → List ℕ
-sets' c = c.page-of.new.1.1.1.0
+abbrev sets' : tie.After-page_of-page → List ℕ
+sets' c = c.page_of-page.new.1.1.1.0
 
 -- what `page_of` ensures of the list is said of the questions in the arrays
-listed : (c : tie.After-page-of) → AnswersPage (begun c).args.sheet.now (begun c).args.count
-    (question_in (begun c).args.sources.now (begun c).args.sinks.now (begun c).args.values.now) (begun c).args.flows.now (flows' c)
-    (begun c).args.sets.now (sets' c) c.page-of.result
+listed : (c : tie.After-page_of-page) → AnswersPage (begun c).args.sheet.now (begun c).args.count
+    (question_in (begun c).args.sources.now (begun c).args.sinks.now (begun c).args.values.now) (begun c).args.flows-1.now (flows' c)
+    (begun c).args.sets-1.now (sets' c) c.page_of-page.result
 listed c =
     page_listed (begun c).args.sheet.now (begun c).args.count
     (question_in (begun c).args.sources.now (begun c).args.sinks.now (begun c).args.values.now)
-    c.before.before.before.list-from.result c.before.before.before.list-from.ensures (begun c).args.flows.now (flows' c)
-    (begun c).args.sets.now (sets' c) c.page-of.result c.page-of.ensures.0
+    c.before.before.before.list_from-list.result c.before.before.before.list_from-list.ensures (begun c).args.flows-1.now (flows' c)
+    (begun c).args.sets-1.now (sets' c) c.page_of-page.result c.page_of-page.ensures.0
 
 -- and its sets are those that the search names
-named : (c : tie.After-page-of) → PageNamed (begun c).args.sheet.now (begun c).args.count
-    (question_in (begun c).args.sources.now (begun c).args.sinks.now (begun c).args.values.now) (sets' c) c.page-of.result
+named : (c : tie.After-page_of-page) → PageNamed (begun c).args.sheet.now (begun c).args.count
+    (question_in (begun c).args.sources.now (begun c).args.sinks.now (begun c).args.values.now) (sets' c) c.page_of-page.result
 named c =
     page_named_listed (begun c).args.sheet.now (begun c).args.count
     (question_in (begun c).args.sources.now (begun c).args.sinks.now (begun c).args.values.now)
-    c.before.before.before.list-from.result c.before.before.before.list-from.ensures (begun c).args.flows.now (flows' c)
-    (begun c).args.sets.now (sets' c) c.page-of.result c.page-of.ensures.0 c.page-of.ensures.1
+    c.before.before.before.list_from-list.result c.before.before.before.list_from-list.ensures (begun c).args.flows-1.now (flows' c)
+    (begun c).args.sets-1.now (sets' c) c.page_of-page.result c.page_of-page.ensures.0 c.page_of-page.ensures.1
 
-returns : tie.Need-returns
+returns : tie.Need-returns-in-Refused
 returns c =
     let k = c.before.before.before.before.before.before in
-    (k.page-of.result, listed k, named k, told_refused (begun k).args.count k.page-of.result _ _ c.before.verdict.given.1 _ _ _)
+    (k.page_of-page.result, listed k, named k, told_refused (begun k).args.count k.page_of-page.result _ _ c.before.verdict-1.given.1 _ _ _)
 
-tell-numbers-requires : tie.Need-tell-numbers-requires
+tell-numbers-requires : tie.Need-tell_numbers-requires
 tell-numbers-requires c κs =
     let k = c.before.before.before.before.before.before in
-    (page_few _ _ _ _ _ _ _ k.page-of.result (listed k) c.before.enum_told.given.1, omega (arith, c.tell-numbers-arg.given.0.1))
+    (page_few _ _ _ _ _ _ _ k.page_of-page.result (listed k) c.before.enum_told-1.given.1, omega (arith, c.tell_numbers-arg-1.given.0.1))
 
-tell-sizes-requires : tie.Need-tell-sizes-requires
+tell-sizes-requires : tie.Need-tell_sizes-requires
 tell-sizes-requires c κs =
     let k = c.before.before.before.before.before.before.before.before in
-    (page_few _ _ _ _ _ _ _ k.page-of.result (listed k) c.before.before.before.enum_told.given.1, omega (arith, c.tell-sizes-arg.given.0.1))
+    (page_few _ _ _ _ _ _ _ k.page_of-page.result (listed k) c.before.before.before.enum_told-1.given.1, omega (arith, c.tell_sizes-arg-1.given.0.1))
 
-returns-2 : tie.Need-returns-2
+returns-2 : tie.Need-returns
 returns-2 c =
     let k = c.before.before.before.before.before.before.before.before.before in (
-      k.page-of.result,
+      k.page_of-page.result,
       listed k,
       named k,
-      told_passed _ _ _ _ _ _ _ k.page-of.result (listed k) c.before.before.before.before.enum_told.given.1 _ _ _ _ _
-          c.before.before.tell-numbers.ensures c.tell-sizes.ensures,
+      told_passed _ _ _ _ _ _ _ k.page_of-page.result (listed k) c.before.before.before.before.enum_told-1.given.1 _ _ _ _ _
+          c.before.before.tell_numbers.ensures c.tell_sizes.ensures,
     )
 
-pub analyser-page-spec : {M : Type 1} → statement M
-analyser-page-spec =
+pub analyser_page_spec : {M : Type 1} → statement M
+analyser_page_spec =
     tie.close
     (tie.spec
     (λ c κs. search rules)

@@ -9,24 +9,24 @@ use Rattle.practice.specs.declared.PracticeAnswer.TheVariants.{Bytes, Refused}
 use Rattle.abi.proofs.analyser_practice_sheet.Statement.{statement}
 use Rattle.abi.proofs.analyser_practice_sheet.Tie as tie
 
-abbrev start : tie.After-practice-sheet → tie.Start
+abbrev start : tie.After-practice_sheet-answer → tie.Start
 start c = c.before.before.before
 
-abbrev sheet' : tie.After-practice-sheet → List ℕ
-sheet' c = c.practice-sheet.new.1.1.1.0
+abbrev sheet' : tie.After-practice_sheet-answer → List ℕ
+sheet' c = c.practice_sheet-answer.new.1.1.1.0
 
-found : (c : tie.After-practice-sheet) (answer : PracticeAnswer) → c.practice-sheet.result ≡ answer
-    → Practises (start c).args.rows (start c).args.columns (start c).args.seed (start c).args.sheet.now (sheet' c) answer
-found c answer e = rw e at c.practice-sheet.ensures
+found : (c : tie.After-practice_sheet-answer) (answer : PracticeAnswer) → c.practice_sheet-answer.result ≡ answer
+    → Practises (start c).args.rows (start c).args.columns (start c).args.seed (start c).args.sheet-1.now (sheet' c) answer
+found c answer e = rw e at c.practice_sheet-answer.ensures
 
-returns : tie.Need-returns
-returns c = (Bytes _, found c.before.before.before.before.before (Bytes _) c.before.answer.given.1, (refl, refl, refl))
+returns : tie.Need-returns-in-Bytes
+returns c = (Bytes _, found c.before.before.before.before.before (Bytes _) c.before.answer-1.given.1, (refl, refl, refl))
 
-returns-2 : tie.Need-returns-2
-returns-2 c = (Refused _ _, found c.before.before.before.before.before (Refused _ _) c.before.answer2.given.1, (refl, refl, refl))
+returns-2 : tie.Need-returns-in-Refused
+returns-2 c = (Refused _ _, found c.before.before.before.before.before (Refused _ _) c.before.answer-in-Refused-1.given.1, (refl, refl, refl))
 
-pub analyser-practice-sheet-spec : {M : Type 1} → statement M
-analyser-practice-sheet-spec =
+pub analyser_practice_sheet_spec : {M : Type 1} → statement M
+analyser_practice_sheet_spec =
     tie.close
     (tie.spec
     (λ c κs. search rules)

@@ -10,39 +10,39 @@ use Rattle.sheets.specs.declared.ReadAnswer.TheVariants.{Counts, Refused}
 use Rattle.abi.proofs.analyser_read.Statement.{statement}
 use Rattle.abi.proofs.analyser_read.Tie as tie
 
-abbrev start : tie.After-read → tie.Start
+abbrev start : tie.After-read-answer → tie.Start
 start c = c.before.before.before.before.before.before.before
 
-abbrev tails' : tie.After-read → List ℕ
-tails' c = c.read.new.1.0
+abbrev tails' : tie.After-read-answer → List ℕ
+tails' c = c.read-answer.new.1.0
 
-abbrev rotations' : tie.After-read → List ℕ
-rotations' c = c.read.new.1.1.0
+abbrev rotations' : tie.After-read-answer → List ℕ
+rotations' c = c.read-answer.new.1.1.0
 
-abbrev capacities' : tie.After-read → List ℤ
-capacities' c = c.read.new.1.1.1.0
+abbrev capacities' : tie.After-read-answer → List ℤ
+capacities' c = c.read-answer.new.1.1.1.0
 
-found : (c : tie.After-read) (answer : ReadAnswer) → c.read.result ≡ answer
-    → Reads (start c).args.sheet.now (start c).args.tails.now (start c).args.rotations.now
-    (start c).args.capacities.now (tails' c) (rotations' c) (capacities' c) answer
-found c answer e = rw e at c.read.ensures
+found : (c : tie.After-read-answer) (answer : ReadAnswer) → c.read-answer.result ≡ answer
+    → Reads (start c).args.sheet.now (start c).args.tails-1.now (start c).args.rotations-1.now
+    (start c).args.capacities-1.now (tails' c) (rotations' c) (capacities' c) answer
+found c answer e = rw e at c.read-answer.ensures
 
-returns : tie.Need-returns
+returns : tie.Need-returns-in-Counts
 returns c = (
   Counts _ _ _,
-  found c.before.before.before.before.before.before.before.before (Counts _ _ _) c.before.answer.given.1,
+  found c.before.before.before.before.before.before.before.before (Counts _ _ _) c.before.answer-1.given.1,
   (refl, refl, refl, refl, refl),
 )
 
-returns-2 : tie.Need-returns-2
+returns-2 : tie.Need-returns-in-Refused
 returns-2 c = (
   Refused _ _,
-  found c.before.before.before.before.before.before.before.before (Refused _ _) c.before.answer2.given.1,
+  found c.before.before.before.before.before.before.before.before (Refused _ _) c.before.answer-in-Refused-1.given.1,
   (refl, refl, refl, refl, refl),
 )
 
-pub analyser-read-spec : {M : Type 1} → statement M
-analyser-read-spec =
+pub analyser_read_spec : {M : Type 1} → statement M
+analyser_read_spec =
     tie.close
     (tie.spec
     (λ c κs. search rules)

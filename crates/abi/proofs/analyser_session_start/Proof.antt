@@ -8,31 +8,31 @@ use Rattle.parties.specs.Start.{Starts}
 use Rattle.abi.proofs.analyser_session_start.Statement.{statement}
 use Rattle.abi.proofs.analyser_session_start.Tie as tie
 
-abbrev begun : tie.After-start → tie.Start
+abbrev begun : tie.After-start-answer → tie.Start
 begun c = c.before.before.before.before.before.before.before.before.before.before.before.before
 
-abbrev left' : tie.After-start → Shared
+abbrev left' : tie.After-start-answer → Shared
 left' c =
     shared_of
-    c.start.new.1.0
-    c.start.new.1.1.0
-    c.start.new.1.1.1.0
-    c.start.new.1.1.1.1.0
-    c.start.new.1.1.1.1.1.0
-    c.start.new.1.1.1.1.1.1.0
-    c.start.new.1.1.1.1.1.1.1.0
-    c.start.new.1.1.1.1.1.1.1.1.0
-    c.start.new.1.1.1.1.1.1.1.1.1.0
-    c.start.new.1.1.1.1.1.1.1.1.1.1.0
+    c.start-answer.new.1.0
+    c.start-answer.new.1.1.0
+    c.start-answer.new.1.1.1.0
+    c.start-answer.new.1.1.1.1.0
+    c.start-answer.new.1.1.1.1.1.0
+    c.start-answer.new.1.1.1.1.1.1.0
+    c.start-answer.new.1.1.1.1.1.1.1.0
+    c.start-answer.new.1.1.1.1.1.1.1.1.0
+    c.start-answer.new.1.1.1.1.1.1.1.1.1.0
+    c.start-answer.new.1.1.1.1.1.1.1.1.1.1.0
 
-started : (c : tie.After-start) (answer : Verdict) → c.start.result ≡ answer → Starts (begun c).args.sheet.now (left' c) answer
-started c answer e = subst (Starts (begun c).args.sheet.now (left' c)) e c.start.ensures
+started : (c : tie.After-start-answer) (answer : Verdict) → c.start-answer.result ≡ answer → Starts (begun c).args.sheet.now (left' c) answer
+started c answer e = subst (Starts (begun c).args.sheet.now (left' c)) e c.start-answer.ensures
 
-returns : tie.Need-returns
-returns c = (Passed, started c.before.before Passed c.enum_told.given.1, (refl, refl))
+returns : tie.Need-returns-in-Passed
+returns c = (Passed, started c.before.before Passed c.enum_told-1.given.1, (refl, refl))
 
-returns-2 : tie.Need-returns-2
-returns-2 c = (Refused _ _, started c.before.before.before (Refused _ _) c.before.answer.given.1, (refl, refl))
+returns-2 : tie.Need-returns-in-Refused
+returns-2 c = (Refused _ _, started c.before.before.before (Refused _ _) c.before.answer-1.given.1, (refl, refl))
 
-pub analyser-session-start-spec : {M : Type 1} → statement M
-analyser-session-start-spec = tie.close (tie.spec (λ c κs. search rules) (λ c. search rules) (λ c. search rules) returns returns-2)
+pub analyser_session_start_spec : {M : Type 1} → statement M
+analyser_session_start_spec = tie.close (tie.spec (λ c κs. search rules) (λ c. search rules) (λ c. search rules) returns returns-2)

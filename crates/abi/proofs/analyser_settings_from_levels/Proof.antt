@@ -9,24 +9,24 @@ use Rattle.levels.specs.declared.LevelAnswer.TheVariants.{Done, Refused}
 use Rattle.abi.proofs.analyser_settings_from_levels.Statement.{statement}
 use Rattle.abi.proofs.analyser_settings_from_levels.Tie as tie
 
-abbrev start : tie.After-settings-from-levels → tie.Start
+abbrev start : tie.After-settings_from_levels-answer → tie.Start
 start c = c.before.before.before
 
-abbrev flows' : tie.After-settings-from-levels → List ℤ
-flows' c = c.settings-from-levels.new.1.1.0
+abbrev flows' : tie.After-settings_from_levels-answer → List ℤ
+flows' c = c.settings_from_levels-answer.new.1.1.0
 
-found : (c : tie.After-settings-from-levels) (answer : LevelAnswer) → c.settings-from-levels.result ≡ answer
-    → GivesSettings (start c).args.sheet.now (start c).args.levels.now (start c).args.flows.now (flows' c) answer
-found c answer e = rw e at c.settings-from-levels.ensures
+found : (c : tie.After-settings_from_levels-answer) (answer : LevelAnswer) → c.settings_from_levels-answer.result ≡ answer
+    → GivesSettings (start c).args.sheet.now (start c).args.levels.now (start c).args.flows-1.now (flows' c) answer
+found c answer e = rw e at c.settings_from_levels-answer.ensures
 
-returns : tie.Need-returns
-returns c = (Done, found c.before.before.before Done c.enum_told.given.1, (refl, refl))
+returns : tie.Need-returns-in-Done
+returns c = (Done, found c.before.before.before Done c.enum_told-1.given.1, (refl, refl))
 
-returns-2 : tie.Need-returns-2
-returns-2 c = (Refused _ _, found c.before.before.before.before (Refused _ _) c.before.answer.given.1, (refl, refl))
+returns-2 : tie.Need-returns-in-Refused
+returns-2 c = (Refused _ _, found c.before.before.before.before (Refused _ _) c.before.answer-1.given.1, (refl, refl))
 
-pub analyser-settings-from-levels-spec : {M : Type 1} → statement M
-analyser-settings-from-levels-spec =
+pub analyser_settings_from_levels_spec : {M : Type 1} → statement M
+analyser_settings_from_levels_spec =
     tie.close
     (tie.spec
     (λ c κs. search rules)

@@ -10,28 +10,28 @@ use Rattle.totals.specs.declared.TotalsAnswer.TheVariants.{Total, Refused}
 use Rattle.abi.proofs.analyser_totals.Statement.{statement}
 use Rattle.abi.proofs.analyser_totals.Tie as tie
 
-abbrev start : tie.After-totals → tie.Start
+abbrev start : tie.After-totals-answer → tie.Start
 start c = c.before.before.before.before
 
-abbrev subtotals' : tie.After-totals → List ℤ
-subtotals' c = c.totals.new.1.1.0
+abbrev subtotals' : tie.After-totals-answer → List ℤ
+subtotals' c = c.totals-answer.new.1.1.0
 
-found : (c : tie.After-totals) (answer : TotalsAnswer) → c.totals.result ≡ answer
-    → GivesTotals (start c).args.sheet.now (start c).args.set.now (start c).args.subtotals.now (subtotals' c) answer
-found c answer e = rw e at c.totals.ensures
+found : (c : tie.After-totals-answer) (answer : TotalsAnswer) → c.totals-answer.result ≡ answer
+    → GivesTotals (start c).args.sheet.now (start c).args.set.now (start c).args.subtotals-1.now (subtotals' c) answer
+found c answer e = rw e at c.totals-answer.ensures
 
-returns : tie.Need-returns
+returns : tie.Need-returns-in-Total
 returns c = (
   Total _,
-  found c.before.before.before.before (Total _) c.before.answer.given.1,
-  (refl, number_of_bits _ (record { sfits = c.known-told.given.0.1 }), refl),
+  found c.before.before.before.before (Total _) c.before.answer-1.given.1,
+  (refl, number_of_bits _ (record { sfits = c.known_told-1.given.0.1 }), refl),
 )
 
-returns-2 : tie.Need-returns-2
-returns-2 c = (Refused _ _, found c.before.before.before.before (Refused _ _) c.before.answer2.given.1, (refl, refl, refl))
+returns-2 : tie.Need-returns-in-Refused
+returns-2 c = (Refused _ _, found c.before.before.before.before (Refused _ _) c.before.answer-in-Refused-1.given.1, (refl, refl, refl))
 
-pub analyser-totals-spec : {M : Type 1} → statement M
-analyser-totals-spec =
+pub analyser_totals_spec : {M : Type 1} → statement M
+analyser_totals_spec =
     tie.close
     (tie.spec
     (λ c κs. search rules)

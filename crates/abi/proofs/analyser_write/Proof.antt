@@ -9,25 +9,25 @@ use Rattle.sheets.specs.declared.WriteAnswer.TheVariants.{Bytes, Refused}
 use Rattle.abi.proofs.analyser_write.Statement.{statement}
 use Rattle.abi.proofs.analyser_write.Tie as tie
 
-abbrev start : tie.After-write → tie.Start
+abbrev start : tie.After-write-answer → tie.Start
 start c = c.before.before.before.before.before
 
-abbrev sheet' : tie.After-write → List ℕ
-sheet' c = c.write.new.1.1.1.1.1.0
+abbrev sheet' : tie.After-write-answer → List ℕ
+sheet' c = c.write-answer.new.1.1.1.1.1.0
 
-found : (c : tie.After-write) (answer : WriteAnswer) → c.write.result ≡ answer
+found : (c : tie.After-write-answer) (answer : WriteAnswer) → c.write-answer.result ≡ answer
     → Writes (start c).args.nodes (start c).args.outer (start c).args.tails.now (start c).args.rotations.now
-    (start c).args.capacities.now (start c).args.sheet.now (sheet' c) answer
-found c answer e = rw e at c.write.ensures
+    (start c).args.capacities.now (start c).args.sheet-1.now (sheet' c) answer
+found c answer e = rw e at c.write-answer.ensures
 
-returns : tie.Need-returns
-returns c = (Bytes _, found c.before.before.before.before.before (Bytes _) c.before.answer.given.1, (refl, refl, refl))
+returns : tie.Need-returns-in-Bytes
+returns c = (Bytes _, found c.before.before.before.before.before (Bytes _) c.before.answer-1.given.1, (refl, refl, refl))
 
-returns-2 : tie.Need-returns-2
-returns-2 c = (Refused _ _, found c.before.before.before.before.before (Refused _ _) c.before.answer2.given.1, (refl, refl, refl))
+returns-2 : tie.Need-returns-in-Refused
+returns-2 c = (Refused _ _, found c.before.before.before.before.before (Refused _ _) c.before.answer-in-Refused-1.given.1, (refl, refl, refl))
 
-pub analyser-write-spec : {M : Type 1} → statement M
-analyser-write-spec =
+pub analyser_write_spec : {M : Type 1} → statement M
+analyser_write_spec =
     tie.close
     (tie.spec
     (λ c κs. search rules)

@@ -9,24 +9,24 @@ use Rattle.analyser.specs.Dimacs.{WritesDimacs}
 use Rattle.abi.proofs.analyser_write_dimacs.Statement.{statement}
 use Rattle.abi.proofs.analyser_write_dimacs.Tie as tie
 
-abbrev start : tie.After-write-dimacs → tie.Start
+abbrev start : tie.After-write_dimacs-answer → tie.Start
 start c = c.before.before.before.before
 
-abbrev text' : tie.After-write-dimacs → List ℕ
-text' c = c.write-dimacs.new.1.1.1.0
+abbrev text' : tie.After-write_dimacs-answer → List ℕ
+text' c = c.write_dimacs-answer.new.1.1.1.0
 
-found : (c : tie.After-write-dimacs) (answer : DimacsAnswer) → c.write-dimacs.result ≡ answer
-    → WritesDimacs (start c).args.sheet.now (start c).args.source (start c).args.sink (start c).args.text.now (text' c) answer
-found c answer e = rw e at c.write-dimacs.ensures
+found : (c : tie.After-write_dimacs-answer) (answer : DimacsAnswer) → c.write_dimacs-answer.result ≡ answer
+    → WritesDimacs (start c).args.sheet.now (start c).args.source (start c).args.sink (start c).args.text-1.now (text' c) answer
+found c answer e = rw e at c.write_dimacs-answer.ensures
 
-returns : tie.Need-returns
-returns c = (Bytes _, found c.before.before.before.before.before (Bytes _) c.before.answer.given.1, (refl, refl, refl))
+returns : tie.Need-returns-in-Bytes
+returns c = (Bytes _, found c.before.before.before.before.before (Bytes _) c.before.answer-1.given.1, (refl, refl, refl))
 
-returns-2 : tie.Need-returns-2
-returns-2 c = (Refused _ _, found c.before.before.before.before.before (Refused _ _) c.before.answer2.given.1, (refl, refl, refl))
+returns-2 : tie.Need-returns-in-Refused
+returns-2 c = (Refused _ _, found c.before.before.before.before.before (Refused _ _) c.before.answer-in-Refused-1.given.1, (refl, refl, refl))
 
-pub analyser-write-dimacs-spec : {M : Type 1} → statement M
-analyser-write-dimacs-spec =
+pub analyser_write_dimacs_spec : {M : Type 1} → statement M
+analyser_write_dimacs_spec =
     tie.close
     (tie.spec
     (λ c κs. search rules)

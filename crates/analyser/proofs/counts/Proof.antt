@@ -21,50 +21,50 @@ no_set = replicate 9 0
 abbrev no_totals : List ℤ
 no_totals = replicate 513 (pos 0)
 
-abbrev start : tie.After-totals → tie.Start
+abbrev start : tie.After-totals-answer → tie.Start
 start c = c.before.before.before.before
 
-abbrev out' : tie.After-totals → List ℤ
-out' c = c.totals.new.1.1.0
+abbrev out' : tie.After-totals-answer → List ℤ
+out' c = c.totals-answer.new.1.1.0
 
-found : (c : tie.After-totals) (answer : TotalsAnswer) → c.totals.result ≡ answer
+found : (c : tie.After-totals-answer) (answer : TotalsAnswer) → c.totals-answer.result ≡ answer
     → GivesTotals (start c).args.sheet.now no_set no_totals (out' c) answer
-found c answer e = rw e at c.totals.ensures
+found c answer e = rw e at c.totals-answer.ensures
 
 -- ── the sheet is accepted ──
-abbrev asked : tie.After-enum-told → tie.After-totals
+abbrev asked : tie.In_default → tie.After-totals-answer
 asked c = c.before.before.before
 
-accepted : (c : tie.After-enum-told) → NoneOf (sheet_checks (start (asked c)).args.sheet.now)
-accepted c = totals_passed _ no_set no_totals (out' (asked c)) _ (found (asked c) (totals.Total _) c.enum_told.given.1)
+accepted : (c : tie.In_default) → NoneOf (sheet_checks (start (asked c)).args.sheet.now)
+accepted c = totals_passed _ no_set no_totals (out' (asked c)) _ (found (asked c) (totals.Total _) c.enum_told-1.given.1)
 
 -- ── the needs, in the order of the code ──
-returns : tie.Need-returns
+returns : tie.Need-returns-in-Refused
 returns c =
     let t = c.before.before.before.before in
     totals_refused _ no_set no_totals (out' t) (omega (arith, length-replicate {A = ℕ} 9 0)) (omega (arith, length-replicate 513 (pos 0))) _ _
-    (found t (totals.Refused _ _) c.before.answer.given.1)
+    (found t (totals.Refused _ _) c.before.answer-1.given.1)
 
-nodes-of-requires : tie.Need-nodes-of-requires
+nodes-of-requires : tie.Need-nodes_of-nodes-requires
 nodes-of-requires c κs = (head_counts _ (accepted c)).0
 
-edges-of-requires : tie.Need-edges-of-requires
+edges-of-requires : tie.Need-edges_of-edges-requires
 edges-of-requires c κs = (head_counts _ (accepted c.before)).0
 
 narrow-requires : tie.Need-narrow-requires
-narrow-requires c κs = let n = c.before in omega (arith, n.nodes-of.ensures, (head_counts _ (accepted n.before)).1)
+narrow-requires c κs = let n = c.before in omega (arith, n.nodes_of-nodes.ensures, (head_counts _ (accepted n.before)).1)
 
 narrow-requires-2 : tie.Need-narrow-requires-2
-narrow-requires-2 c κs = let e = c.before in omega (arith, e.edges-of.ensures, (head_counts _ (accepted e.before.before)).2)
+narrow-requires-2 c κs = let e = c.before in omega (arith, e.edges_of-edges.ensures, (head_counts _ (accepted e.before.before)).2)
 
-returns-2 : tie.Need-returns-2
+returns-2 : tie.Need-returns
 returns-2 c =
     let e = c.before.before in
     let n = e.before in
-    (accepted n.before, c.before.narrow.ensures ∙ n.nodes-of.ensures, c.narrow2.ensures ∙ e.edges-of.ensures)
+    (accepted n.before, c.before.narrow.ensures ∙ n.nodes_of-nodes.ensures, c.narrow-2.ensures ∙ e.edges_of-edges.ensures)
 
-pub counts-spec : {M : Type 1} → statement M
-counts-spec =
+pub counts_spec : {M : Type 1} → statement M
+counts_spec =
     tie.close
     (tie.spec
     (λ c. search rules)

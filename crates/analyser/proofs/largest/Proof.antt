@@ -14,46 +14,46 @@ use Rattle.analyser.proofs.largest.Statement.{statement}
 use Rattle.analyser.proofs.largest.Tie as tie
 
 -- ── the sheet was opened ──
-abbrev begun : tie.After-open-walked → tie.Start
+abbrev begun : tie.After-open_walked-net → tie.Start
 begun c = c.before.before.before.before.before.before.before
 
-abbrev sheet : tie.After-open-walked → List ℕ
+abbrev sheet : tie.After-open_walked-net → List ℕ
 sheet c = (begun c).args.sheet.now
 
-abbrev net : tie.After-open-walked → Network
-net c = c.open-walked.result
+abbrev net : tie.After-open_walked-net → Network
+net c = c.open_walked-net.result
 
-open-walked-requires : tie.Need-open-walked-requires
+open-walked-requires : tie.Need-open_walked-net-requires
 open-walked-requires c κs = (refl, refl, refl, refl)
 
 -- ── it is refused ──
-returns : tie.Need-returns
+returns : tie.Need-returns-then-not-net
 returns c =
     let o = c.before in
     let a = (begun o).args in
-    let first = opens_refused (sheet o) (net o) c.if1.true o.open-walked.ensures.4 in
-    (largest_refused (sheet o) _ _ first a.source a.sink a.flows.now a.set.now, refl, refl)
+    let first = opens_refused (sheet o) (net o) c.if-not-net.true o.open_walked-net.ensures.4 in
+    (largest_refused (sheet o) _ _ first a.source a.sink a.flows-1.now a.set-1.now, refl, refl)
 
 -- ── it is accepted ──
-accepted : (c : tie.Else1) → NoneOf (sheet_checks (sheet c.before)) × Holds (sheet c.before) (net c.before)
-accepted c = let o = c.before in opens_passed (sheet o) (net o) c.if1.false o.open-walked.ensures.4
+accepted : (c : tie.Else-not-net) → NoneOf (sheet_checks (sheet c.before)) × Holds (sheet c.before) (net c.before)
+accepted c = let o = c.before in opens_passed (sheet o) (net o) c.if-not-net.false o.open_walked-net.ensures.4
 
-abbrev order : tie.After-open-walked → List ℕ
-order c = c.open-walked.new.1.0
+abbrev order : tie.After-open_walked-net → List ℕ
+order c = c.open_walked-net.new.1.0
 
-abbrev from : tie.After-open-walked → List ℕ
-from c = c.open-walked.new.1.1.0
+abbrev from : tie.After-open_walked-net → List ℕ
+from c = c.open_walked-net.new.1.1.0
 
-abbrev grouped : tie.After-open-walked → List ℕ
-grouped c = c.open-walked.new.1.1.1.0
+abbrev grouped : tie.After-open_walked-net → List ℕ
+grouped c = c.open_walked-net.new.1.1.1.0
 
-abbrev starts : tie.After-open-walked → List ℕ
-starts c = c.open-walked.new.1.1.1.1.0
+abbrev starts : tie.After-open_walked-net → List ℕ
+starts c = c.open_walked-net.new.1.1.1.1.0
 
-walked : (c : tie.Else1)
+walked : (c : tie.Else-not-net)
     → Walked (2 * (net c.before).sizes.edges) (net c.before).sizes.faces (net c.before).sizes.outer (net c.before).sizes.parts
     (at (net c.before).rotations) (net c.before).lefts (order c.before) (from c.before) (grouped c.before) (starts c.before)
-walked c = let o = c.before in (o.open-walked.ensures.5 (is_accepted (net o).accepted c.if1.false)).1
+walked c = let o = c.before in (o.open_walked-net.ensures.5 (is_accepted (net o).accepted c.if-not-net.false)).1
 
 largest-requires : tie.Need-largest-requires
 largest-requires c κs =
@@ -61,19 +61,19 @@ largest-requires c κs =
     let o = t.before in
     opened_sheet (sheet o) (net o) (accepted t) (order o) (from o) (grouped o) (starts o) (walked t)
 
-returns-2 : tie.Need-returns-2
+returns-2 : tie.Need-returns
 returns-2 c =
     let k = c.before.before.before in
     let w = k.before.before.before.before.before.before.before.before.before.before.before.before in
     let from' = w.before.wide.ensures in
-    let to = w.wide2.ensures in
+    let to = w.wide-2.ensures in
     let t = k.before.before.before.before.before.before.before.before.before.before.before.before.before.before.before in
     let o = t.before in
     let a = (begun o).args in
-    largest_sheet (sheet o) (net o) (accepted t) from' to a.flows.now _ a.set.now _ k.largest.result k.largest.ensures
+    largest_sheet (sheet o) (net o) (accepted t) from' to a.flows-1.now _ a.set-1.now _ k.largest.result k.largest.ensures
 
-pub largest-spec : {M : Type 1} → statement M
-largest-spec =
+pub largest_spec : {M : Type 1} → statement M
+largest_spec =
     tie.close
     (tie.spec
     open-walked-requires

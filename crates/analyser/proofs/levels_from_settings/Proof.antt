@@ -12,43 +12,43 @@ use Rattle.analyser.proofs.levels_from_settings.Statement.{statement}
 use Rattle.analyser.proofs.levels_from_settings.Tie as tie
 
 -- ── the sheet was opened ──
-abbrev begun : tie.After-open → tie.Start
+abbrev begun : tie.After-open-net → tie.Start
 begun c = c.before.before
 
-abbrev sheet : tie.After-open → List ℕ
+abbrev sheet : tie.After-open-net → List ℕ
 sheet c = (begun c).args.sheet.now
 
-abbrev net : tie.After-open → Network
+abbrev net : tie.After-open-net → Network
 net c = c.«open».result
 
 -- ── it is refused ──
-returns : tie.Need-returns
+returns : tie.Need-returns-then-not-net
 returns c =
     let o = c.before in
     let a = (begun o).args in
-    let first = opens_refused (sheet o) (net o) c.if1.true o.«open».ensures in
-    (levels_refused (sheet o) _ _ first a.flows.now a.levels.now, refl)
+    let first = opens_refused (sheet o) (net o) c.if-not-net.true o.«open».ensures in
+    (levels_refused (sheet o) _ _ first a.flows.now a.levels-1.now, refl)
 
 -- ── it is accepted ──
-accepted : (c : tie.Else1) → NoneOf (sheet_checks (sheet c.before)) × Holds (sheet c.before) (net c.before)
-accepted c = let o = c.before in opens_passed (sheet o) (net o) c.if1.false o.«open».ensures
+accepted : (c : tie.Else-not-net) → NoneOf (sheet_checks (sheet c.before)) × Holds (sheet c.before) (net c.before)
+accepted c = let o = c.before in opens_passed (sheet o) (net o) c.if-not-net.false o.«open».ensures
 
-levels-of-requires : tie.Need-levels-of-requires
+levels-of-requires : tie.Need-levels_of-requires
 levels-of-requires c κs =
     let t = c.before.before.before.before.before.before.before in
     let o = t.before in
     (drawn (sheet o) (net o) (accepted t), small (sheet o) (net o) (accepted t))
 
-returns-2 : tie.Need-returns-2
+returns-2 : tie.Need-returns
 returns-2 c =
     let k = c.before in
     let t = k.before.before.before.before.before.before.before.before in
     let o = t.before in
     let a = (begun o).args in
-    levels_sheet (sheet o) (net o) (accepted t) a.flows.now a.levels.now _ k.levels-of.result k.levels-of.ensures
+    levels_sheet (sheet o) (net o) (accepted t) a.flows.now a.levels-1.now _ k.levels_of.result k.levels_of.ensures
 
-pub levels-from-settings-spec : {M : Type 1} → statement M
-levels-from-settings-spec =
+pub levels_from_settings_spec : {M : Type 1} → statement M
+levels_from_settings_spec =
     tie.close
     (tie.spec
     (λ c κs. search rules)

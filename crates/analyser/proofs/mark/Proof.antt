@@ -11,26 +11,26 @@ use Rattle.analyser.proofs.mark.Statement.{statement}
 use Rattle.analyser.proofs.mark.Tie as tie
 
 -- ── the sheet was opened ──
-abbrev begun : tie.After-open → tie.Start
+abbrev begun : tie.After-open-net → tie.Start
 begun c = c.before.before
 
-abbrev sheet : tie.After-open → List ℕ
+abbrev sheet : tie.After-open-net → List ℕ
 sheet c = (begun c).args.sheet.now
 
-abbrev net : tie.After-open → Network
+abbrev net : tie.After-open-net → Network
 net c = c.«open».result
 
 -- ── it is refused ──
-returns : tie.Need-returns
+returns : tie.Need-returns-then-not-net
 returns c =
     let o = c.before in
     let a = (begun o).args in
-    let first = opens_refused (sheet o) (net o) c.if1.true o.«open».ensures in
+    let first = opens_refused (sheet o) (net o) c.if-not-net.true o.«open».ensures in
     mark_refused (sheet o) _ _ first a.source a.sink a.flows.now
 
 -- ── it is accepted ──
-accepted : (c : tie.Else1) → NoneOf (sheet_checks (sheet c.before)) × Holds (sheet c.before) (net c.before)
-accepted c = let o = c.before in opens_passed (sheet o) (net o) c.if1.false o.«open».ensures
+accepted : (c : tie.Else-not-net) → NoneOf (sheet_checks (sheet c.before)) × Holds (sheet c.before) (net c.before)
+accepted c = let o = c.before in opens_passed (sheet o) (net o) c.if-not-net.false o.«open».ensures
 
 mark-requires : tie.Need-mark-requires
 mark-requires c κs =
@@ -38,12 +38,12 @@ mark-requires c κs =
     let o = t.before in
     markable (sheet o) (net o) (accepted t)
 
-returns-2 : tie.Need-returns-2
+returns-2 : tie.Need-returns
 returns-2 c =
     let k = c in
     let w = k.before.before.before.before.before in
     let from' = w.before.wide.ensures in
-    let to = w.wide2.ensures in
+    let to = w.wide-2.ensures in
     let t = k.before.before.before.before.before.before.before.before in
     let o = t.before in
     let a = (begun o).args in

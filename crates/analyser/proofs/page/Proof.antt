@@ -344,9 +344,9 @@ module _ {M : Type 1} {𝓤 : Ura M} (𝓛 : Logic 𝓤) (mem : Memory → SProp
     ),
   ) (page.clauses 𝓛 mem run) (WpFn 𝓤 H 𝓣.C 𝓣.Λ code.function) (WpFn-mono 𝓤 H 𝓛.laws 𝓣 code.function) page-walks
 
-pub page-spec : {M : Type 1} → stated.statement M
+pub page_spec : {M : Type 1} → stated.statement M
 unfolding code.routine tables_of
-page-spec 𝓤 𝓛 𝓜 𝓡 =
+page_spec 𝓤 𝓛 𝓜 𝓡 =
     entered 𝓤 𝓛.H (triple_of 𝓛 page.signature (page.spec 𝓛 𝓜.mem 𝓡.run))
     (tables 𝓤 𝓛.H 𝓜 𝓡 code.env).C (tables 𝓤 𝓛.H 𝓜 𝓡 code.env).Λ #analyser·page code.function (code.unfolded 𝓤 𝓛.H 𝓜 𝓡)
     (page-meets 𝓛 𝓜.mem 𝓡.run (tables_of 𝓤 𝓛.H 𝓜 (tables 𝓤 𝓛.H 𝓜 𝓡 code.env))

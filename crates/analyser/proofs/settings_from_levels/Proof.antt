@@ -12,43 +12,43 @@ use Rattle.analyser.proofs.settings_from_levels.Statement.{statement}
 use Rattle.analyser.proofs.settings_from_levels.Tie as tie
 
 -- ── the sheet was opened ──
-abbrev begun : tie.After-open → tie.Start
+abbrev begun : tie.After-open-net → tie.Start
 begun c = c.before.before
 
-abbrev sheet : tie.After-open → List ℕ
+abbrev sheet : tie.After-open-net → List ℕ
 sheet c = (begun c).args.sheet.now
 
-abbrev net : tie.After-open → Network
+abbrev net : tie.After-open-net → Network
 net c = c.«open».result
 
 -- ── it is refused ──
-returns : tie.Need-returns
+returns : tie.Need-returns-then-not-net
 returns c =
     let o = c.before in
     let a = (begun o).args in
-    let first = opens_refused (sheet o) (net o) c.if1.true o.«open».ensures in
-    (settings_refused (sheet o) _ _ first a.levels.now a.flows.now, refl)
+    let first = opens_refused (sheet o) (net o) c.if-not-net.true o.«open».ensures in
+    (settings_refused (sheet o) _ _ first a.levels.now a.flows-1.now, refl)
 
 -- ── it is accepted ──
-accepted : (c : tie.Else1) → NoneOf (sheet_checks (sheet c.before)) × Holds (sheet c.before) (net c.before)
-accepted c = let o = c.before in opens_passed (sheet o) (net o) c.if1.false o.«open».ensures
+accepted : (c : tie.Else-not-net) → NoneOf (sheet_checks (sheet c.before)) × Holds (sheet c.before) (net c.before)
+accepted c = let o = c.before in opens_passed (sheet o) (net o) c.if-not-net.false o.«open».ensures
 
-settings-of-requires : tie.Need-settings-of-requires
+settings-of-requires : tie.Need-settings_of-requires
 settings-of-requires c κs =
     let t = c.before.before.before.before.before.before.before in
     let o = t.before in
     drawn (sheet o) (net o) (accepted t)
 
-returns-2 : tie.Need-returns-2
+returns-2 : tie.Need-returns
 returns-2 c =
     let k = c.before in
     let t = k.before.before.before.before.before.before.before.before in
     let o = t.before in
     let a = (begun o).args in
-    settings_sheet (sheet o) (net o) (accepted t) a.levels.now a.flows.now _ k.settings-of.result k.settings-of.ensures
+    settings_sheet (sheet o) (net o) (accepted t) a.levels.now a.flows-1.now _ k.settings_of.result k.settings_of.ensures
 
-pub settings-from-levels-spec : {M : Type 1} → statement M
-settings-from-levels-spec =
+pub settings_from_levels_spec : {M : Type 1} → statement M
+settings_from_levels_spec =
     tie.close
     (tie.spec
     (λ c κs. search rules)

@@ -12,43 +12,43 @@ use Rattle.analyser.proofs.totals.Statement.{statement}
 use Rattle.analyser.proofs.totals.Tie as tie
 
 -- ── the sheet was opened ──
-abbrev begun : tie.After-open → tie.Start
+abbrev begun : tie.After-open-net → tie.Start
 begun c = c.before.before.before
 
-abbrev sheet : tie.After-open → List ℕ
+abbrev sheet : tie.After-open-net → List ℕ
 sheet c = (begun c).args.sheet.now
 
-abbrev net : tie.After-open → Network
+abbrev net : tie.After-open-net → Network
 net c = c.«open».result
 
 -- ── it is refused ──
-returns : tie.Need-returns
+returns : tie.Need-returns-then-not-net
 returns c =
     let o = c.before in
     let a = (begun o).args in
-    let first = opens_refused (sheet o) (net o) c.if1.true o.«open».ensures in
-    (totals_refused (sheet o) _ _ first a.set.now a.subtotals.now, refl)
+    let first = opens_refused (sheet o) (net o) c.if-not-net.true o.«open».ensures in
+    (totals_refused (sheet o) _ _ first a.set.now a.subtotals-1.now, refl)
 
 -- ── it is accepted ──
-accepted : (c : tie.Else1) → NoneOf (sheet_checks (sheet c.before)) × Holds (sheet c.before) (net c.before)
-accepted c = let o = c.before in opens_passed (sheet o) (net o) c.if1.false o.«open».ensures
+accepted : (c : tie.Else-not-net) → NoneOf (sheet_checks (sheet c.before)) × Holds (sheet c.before) (net c.before)
+accepted c = let o = c.before in opens_passed (sheet o) (net o) c.if-not-net.false o.«open».ensures
 
-totals-of-requires : tie.Need-totals-of-requires
+totals-of-requires : tie.Need-totals_of-requires
 totals-of-requires c κs =
     let t = c.before.before.before.before.before.before in
     let o = t.before in
     roundable (sheet o) (net o) (accepted t)
 
-returns-2 : tie.Need-returns-2
+returns-2 : tie.Need-returns
 returns-2 c =
     let k = c.before in
     let t = k.before.before.before.before.before.before.before in
     let o = t.before in
     let a = (begun o).args in
-    totals_sheet (sheet o) (net o) (accepted t) a.set.now a.subtotals.now _ k.totals-of.result k.totals-of.ensures
+    totals_sheet (sheet o) (net o) (accepted t) a.set.now a.subtotals-1.now _ k.totals_of.result k.totals_of.ensures
 
-pub totals-spec : {M : Type 1} → statement M
-totals-spec =
+pub totals_spec : {M : Type 1} → statement M
+totals_spec =
     tie.close
     (tie.spec
     (λ c κs. search rules)

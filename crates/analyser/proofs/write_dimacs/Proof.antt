@@ -12,26 +12,26 @@ use Rattle.analyser.proofs.write_dimacs.Statement.{statement}
 use Rattle.analyser.proofs.write_dimacs.Tie as tie
 
 -- ── the sheet was opened ──
-abbrev begun : tie.After-open → tie.Start
+abbrev begun : tie.After-open-net → tie.Start
 begun c = c.before.before.before
 
-abbrev sheet : tie.After-open → List ℕ
+abbrev sheet : tie.After-open-net → List ℕ
 sheet c = (begun c).args.sheet.now
 
-abbrev net : tie.After-open → Network
+abbrev net : tie.After-open-net → Network
 net c = c.«open».result
 
 -- ── it is refused ──
-returns : tie.Need-returns
+returns : tie.Need-returns-then-not-net
 returns c =
     let o = c.before in
     let a = (begun o).args in
-    let first = opens_refused (sheet o) (net o) c.if1.true o.«open».ensures in
-    (dimacs_refused (sheet o) _ _ first a.source a.sink a.out.now, refl)
+    let first = opens_refused (sheet o) (net o) c.if-not-net.true o.«open».ensures in
+    (dimacs_refused (sheet o) _ _ first a.source a.sink a.out-1.now, refl)
 
 -- ── it is accepted ──
-accepted : (c : tie.Else1) → NoneOf (sheet_checks (sheet c.before)) × Holds (sheet c.before) (net c.before)
-accepted c = let o = c.before in opens_passed (sheet o) (net o) c.if1.false o.«open».ensures
+accepted : (c : tie.Else-not-net) → NoneOf (sheet_checks (sheet c.before)) × Holds (sheet c.before) (net c.before)
+accepted c = let o = c.before in opens_passed (sheet o) (net o) c.if-not-net.false o.«open».ensures
 
 write-requires : tie.Need-write-requires
 write-requires c κs =
@@ -39,16 +39,16 @@ write-requires c κs =
     let o = t.before in
     counts_small (sheet o) (net o) (accepted t)
 
-returns-2 : tie.Need-returns-2
+returns-2 : tie.Need-returns
 returns-2 c =
     let k = c.before.before in
     let t = k.before.before.before.before.before.before.before in
     let o = t.before in
     let a = (begun o).args in
-    dimacs_sheet (sheet o) (net o) (accepted t) a.source a.sink a.out.now _ k.write.result k.write.ensures
+    dimacs_sheet (sheet o) (net o) (accepted t) a.source a.sink a.out-1.now _ k.write.result k.write.ensures
 
-pub write-dimacs-spec : {M : Type 1} → statement M
-write-dimacs-spec =
+pub write_dimacs_spec : {M : Type 1} → statement M
+write_dimacs_spec =
     tie.close
     (tie.spec
     (λ c κs. search rules)

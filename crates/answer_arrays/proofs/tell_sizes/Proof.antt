@@ -17,48 +17,48 @@ use Rattle.answer_arrays.specs.Told.{size_told}
 use Rattle.answer_arrays.proofs.tell_sizes.Statement.{statement}
 use Rattle.answer_arrays.proofs.tell_sizes.Tie as tie
 
-abbrev invariant-loop : tie.invariant-loop
+abbrev invariant-loop : tie.invariant-loop-i
 invariant-loop sizes₀ page count i₀ sizes i = (i ≤ count) × (count ≡ page.count) × (sizes ≡ tabulate i (λ j. size_told (answer_at page j)) ++ drop i sizes₀)
 
-abbrev decreases-loop : tie.decreases-loop
+abbrev decreases-loop : tie.decreases-loop-i
 decreases-loop sizes₀ page count i₀ sizes i = count - i
 
-loop-holds : tie.Need-loop-init invariant-loop decreases-loop
+loop-holds : tie.Need-loop-i-init invariant-loop decreases-loop
 loop-holds c = (omega arith, refl, copy_start _ _)
 
-element-copy-out-answered : tie.Need-element-copy-out-answered invariant-loop decreases-loop
-element-copy-out-answered c = omega (arith, c.loop-test.true, c.before.before.before.requires.0)
+element-copy-out-answered : tie.Need-bounds-page-i invariant-loop decreases-loop
+element-copy-out-answered c = omega (arith, c.loop-i-test.true, c.before.before.before.requires.0)
 
-slice-write-sizes : tie.Need-slice-write-sizes invariant-loop decreases-loop
+slice-write-sizes : tie.Need-bounds-sizes-i invariant-loop decreases-loop
 slice-write-sizes c =
-    let l = c.before.before.before.loop in
+    let l = c.before.before.before.loop-i in
     let t = c.before.before.before.before.before in
     omega (arith, filled_length _ _ _ _ l.invariant.2 (omega (arith, t.requires.0, t.requires.1)), t.requires.0, t.requires.1)
 
-loop-again : tie.Need-loop-preserved invariant-loop decreases-loop
+loop-again : tie.Need-loop-i-preserved invariant-loop decreases-loop
 loop-again c =
-    let l = c.before.before.before.loop in
+    let l = c.before.before.before.loop-i in
     let t = c.before.before.before.before.before in
     let long : length t.args.t1.answers ≡ 64 =
-    sym (length-map t.args.t1.answers _) ∙ (LL.owed TP.the_type TP'.the_laws t.args.t1 _ t.well-formed.0).1.1.0.1.0.1 in
+    sym (length-map t.args.t1.answers _) ∙ (LL.owed TP.the_type TP'.the_laws t.args.t1 _ t.well_formed.0).1.1.0.1.0.1 in
     let same = any_default t.args.t1.answers l.i _ _ (omega (arith, long, t.requires.0)) in
-    let said = c.size-told.ensures ∙ ap (λ (a : Answered). size_told a.answer) same in
+    let said = c.size_told.ensures ∙ ap (λ (a : Answered). size_told a.answer) same in
     (omega arith, refl, copy_step _ l.i _ _ _ l.invariant.2 (omega (arith, t.requires.0, t.requires.1)) said)
 
-same_length : tie.Need-same-length invariant-loop decreases-loop
+same_length : tie.Need-shape_of-sizes invariant-loop decreases-loop
 same_length c =
     let t = c.before.before.before in
-    filled_length _ _ _ _ c.before.loop.invariant.2 (omega (arith, t.requires.0, t.requires.1))
+    filled_length _ _ _ _ c.before.loop-i.invariant.2 (omega (arith, t.requires.0, t.requires.1))
 
 returns : tie.Need-returns invariant-loop decreases-loop
 returns c =
-    let l = c.before.loop in
+    let l = c.before.loop-i in
     let a = c.before.before.before.args in
-    let e : l.i ≡ a.t1.count = omega (arith, l.invariant.0, l.invariant.1, c.loop-test.false) in
+    let e : l.i ≡ a.t1.count = omega (arith, l.invariant.0, l.invariant.1, c.loop-i-test.false) in
     l.invariant.2 ∙ ap (λ k. tabulate k (λ j. size_told (answer_at a.t1 j)) ++ drop k a.sizes.now) e
 
-pub tell-sizes-spec : {M : Type 1} → statement M
-tell-sizes-spec =
+pub tell_sizes_spec : {M : Type 1} → statement M
+tell_sizes_spec =
     tie.close
     (tie.spec
     invariant-loop

@@ -6,8 +6,8 @@ use Rattle.arrays.proofs.right.Statement.{statement}
 use Rattle.arrays.proofs.right.Tie as tie
 
 returns : tie.Need-returns
-returns c = c.wide.ensures ∙ ap (λ e. get_or c.before.before.before.args.lefts.now e 0) c.before.before.reverse.ensures.0
+returns c = c.wide.ensures ∙ ap (λ e. get_or c.before.before.before.args.lefts.now e 0) c.before.before.reverse-r.ensures.0
 
-pub right-spec : {M : Type 1} → statement M
-right-spec =
+pub right_spec : {M : Type 1} → statement M
+right_spec =
     tie.close (tie.spec (λ c κs. search rules) (λ c. search rules) (λ c. search rules) (λ c κs. search rules) returns)

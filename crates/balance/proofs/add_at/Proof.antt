@@ -18,11 +18,11 @@ returns c =
     let v = c.before.before.args.v in
     let x = c.before.before.args.x in
     let r : to_z w32 (of_z w32 c.plus.result) ≡ atℤ l v +ℤ x =
-    number_of_bits _ (record { sfits = c.plus.type-inv }) ∙ c.plus.ensures
-    ∙ ap₂ ◌+ℤ◌ (number_of_bits (atℤ l v) (record { sfits = c.before.plus-arg.given })) (number_of_bits x c.before.before.ranges.x) in
+    number_of_bits _ (record { sfits = c.plus.type_inv }) ∙ c.plus.ensures
+    ∙ ap₂ ◌+ℤ◌ (number_of_bits (atℤ l v) (record { sfits = c.before.plus-arg-1.given })) (number_of_bits x c.before.before.ranges.x) in
     (simp length-set c.before.before.requires.0, set_added l v x _ (omega (arith, c.before.before.requires.0)) r)
 
-pub add-at-spec : {M : Type 1} → statement M
-add-at-spec =
+pub add_at_spec : {M : Type 1} → statement M
+add_at_spec =
     tie.close
     (tie.spec (λ c. search rules) (λ c. search rules) (λ c κs. search rules) (λ c. search rules) (λ c. search rules) returns)

@@ -9,5 +9,5 @@ use Rattle.balance.proofs.below_zero.Tie as tie
 returns : tie.Need-returns
 returns c = rw (to_z-of_z w64 c.args.x c.ranges.x) (decides_less c.args.x (pos 0))
 
-pub below-zero-spec : {M : Type 1} → statement M
-below-zero-spec = tie.close (tie.spec returns)
+pub below_zero_spec : {M : Type 1} → statement M
+below_zero_spec = tie.close (tie.spec returns)

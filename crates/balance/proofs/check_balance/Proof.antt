@@ -12,10 +12,10 @@ use Rattle.balance.proofs.Lowest.{lowest, none_holds}
 use Rattle.balance.proofs.check_balance.Statement.{statement}
 use Rattle.balance.proofs.check_balance.Tie as tie
 
-abbrev invariant-loop : tie.invariant-loop
+abbrev invariant-loop : tie.invariant-loop-v
 invariant-loop nets nodes a b v₀ v = (v ≤ nodes) × ((u : ℕ) → u < v → Off a b (atℤ nets) u → ⊥)
 
-abbrev decreases-loop : tie.decreases-loop
+abbrev decreases-loop : tie.decreases-loop-v
 decreases-loop nets nodes a b v₀ v = nodes - v
 
 abbrev OffAt : tie.Start invariant-loop decreases-loop → ℕ → Type 0
@@ -23,37 +23,37 @@ OffAt s = Off s.args.a s.args.b (atℤ s.args.nets.now)
 
 -- ── node v is tested, on the number in the array ──
 abbrev Tested : Type 0
-Tested = tie.After-off-balance invariant-loop decreases-loop
+Tested = tie.After-off_balance invariant-loop decreases-loop
 
-abbrev at-loop : Tested → tie.At-loop invariant-loop decreases-loop
+abbrev at-loop : Tested → tie.At-loop-v invariant-loop decreases-loop
 at-loop c = c.before.before.before
 
-judged-here : (c : Tested) → Decides (OffAt (at-loop c).before (at-loop c).loop.v) c.off-balance.result
+judged-here : (c : Tested) → Decides (OffAt (at-loop c).before (at-loop c).loop.v) c.off_balance.result
 judged-here c =
-    rw (number_of_bits (atℤ (at-loop c).before.args.nets.now (at-loop c).loop.v) (record { sfits = c.before.off-balance-arg.given }))
-    at c.off-balance.ensures
+    rw (number_of_bits (atℤ (at-loop c).before.args.nets.now (at-loop c).loop.v) (record { sfits = c.before.off_balance-arg-1.given }))
+    at c.off_balance.ensures
 
-returns : tie.Need-returns invariant-loop decreases-loop
+returns : tie.Need-returns-then-off_balance invariant-loop decreases-loop
 unfolding off_checks
 returns c =
     let t = c.before.before in
     let l = at-loop t in
     let s = l.before in
-    lowest s.args.nodes 18 (OffAt s) l.loop.v c.narrow.result (omega arith) l.loop.inv.1
-    (said_yes (judged-here t) c.before.if1.true) c.narrow.ensures
+    lowest s.args.nodes 18 (OffAt s) l.loop-v.v c.narrow.result (omega arith) l.loop-v.inv.1
+    (said_yes (judged-here t) c.before.if-off_balance.true) c.narrow.ensures
 
-loop-again : tie.Need-loop-preserved invariant-loop decreases-loop
+loop-again : tie.Need-loop-v-preserved invariant-loop decreases-loop
 loop-again c =
     let o = (at-loop c.before).loop in
-    (omega arith, below_more _ o.v o.inv.1 (said_no (judged-here c.before) c.if1.false))
+    (omega arith, below_more _ o.v o.inv.1 (said_no (judged-here c.before) c.if-off_balance.false))
 
 -- ── all nodes are tested ──
-returns-2 : tie.Need-returns-2 invariant-loop decreases-loop
+returns-2 : tie.Need-returns-then-off_balance invariant-loop decreases-loop
 unfolding off_checks
-returns-2 c = let s = c.before.before in none_holds s.args.nodes 18 (OffAt s) (λ u l. c.before.loop.invariant.1 u (omega arith))
+returns-2 c = let s = c.before.before in none_holds s.args.nodes 18 (OffAt s) (λ u l. c.before.loop-v.invariant.1 u (omega arith))
 
-pub check-balance-spec : {M : Type 1} → statement M
-check-balance-spec =
+pub check_balance_spec : {M : Type 1} → statement M
+check_balance_spec =
     tie.close
     (tie.spec
     invariant-loop

@@ -12,10 +12,10 @@ use Rattle.balance.proofs.Lowest.{lowest, none_holds}
 use Rattle.balance.proofs.check_within.Statement.{statement}
 use Rattle.balance.proofs.check_within.Tie as tie
 
-abbrev invariant-loop : tie.invariant-loop
+abbrev invariant-loop : tie.invariant-loop-e
 invariant-loop capacities edges flows e₀ e = (e ≤ edges) × ((k : ℕ) → k < e → Exceeds (atℤ capacities) (atℤ flows) k → ⊥)
 
-abbrev decreases-loop : tie.decreases-loop
+abbrev decreases-loop : tie.decreases-loop-e
 decreases-loop capacities edges flows e₀ e = edges - e
 
 abbrev Exceeding : tie.Start invariant-loop decreases-loop → ℕ → Type 0
@@ -25,10 +25,10 @@ Exceeding s = Exceeds (atℤ s.args.capacities.now) (atℤ s.args.flows.now)
 abbrev Tested : Type 0
 Tested = tie.After-exceeds invariant-loop decreases-loop
 
-abbrev read : Tested → tie.After-exceeds-arg invariant-loop decreases-loop
+abbrev read : Tested → tie.After-exceeds-arg-1 invariant-loop decreases-loop
 read c = c.before.before.before
 
-abbrev at-loop : Tested → tie.At-loop invariant-loop decreases-loop
+abbrev at-loop : Tested → tie.At-loop-e invariant-loop decreases-loop
 at-loop c = (read c).before.before
 
 judged-here : (c : Tested) → Decides (Exceeding (at-loop c).before (at-loop c).loop.e) c.exceeds.result
@@ -37,32 +37,32 @@ judged-here c =
     let e = (at-loop c).loop.e in
     rw (
       number_of_bits (atℤ a.capacities.now (2 * e)) (record { sfits = (read c).exceeds-arg.given }),
-      number_of_bits (atℤ a.capacities.now (2 * e + 1)) (record { sfits = c.before.before.exceeds-arg2.given }),
-      number_of_bits (atℤ a.flows.now e) (record { sfits = c.before.exceeds-arg3.given }),
+      number_of_bits (atℤ a.capacities.now (2 * e + 1)) (record { sfits = c.before.before.exceeds-arg-in-loop-e-1.given }),
+      number_of_bits (atℤ a.flows.now e) (record { sfits = c.before.exceeds-arg-in-loop-e-2-1.given }),
     ) at c.exceeds.ensures
 
 -- it exceeds, and no edge below it does
-returns : tie.Need-returns invariant-loop decreases-loop
+returns : tie.Need-returns-then-exceeds invariant-loop decreases-loop
 unfolding within_checks
 returns c =
     let t = c.before.before in
     let l = at-loop t in
     let s = l.before in
-    lowest s.args.edges 17 (Exceeding s) l.loop.e c.narrow.result (omega arith) l.loop.inv.1
-    (said_yes (judged-here t) c.before.if1.true) c.narrow.ensures
+    lowest s.args.edges 17 (Exceeding s) l.loop-e.e c.narrow.result (omega arith) l.loop-e.inv.1
+    (said_yes (judged-here t) c.before.if-exceeds.true) c.narrow.ensures
 
-loop-again : tie.Need-loop-preserved invariant-loop decreases-loop
+loop-again : tie.Need-loop-e-preserved invariant-loop decreases-loop
 loop-again c =
     let o = (at-loop c.before).loop in
-    (omega arith, below_more _ o.e o.inv.1 (said_no (judged-here c.before) c.if1.false))
+    (omega arith, below_more _ o.e o.inv.1 (said_no (judged-here c.before) c.if-exceeds.false))
 
 -- ── all edges are tested ──
-returns-2 : tie.Need-returns-2 invariant-loop decreases-loop
+returns-2 : tie.Need-returns-then-exceeds invariant-loop decreases-loop
 unfolding within_checks
-returns-2 c = let s = c.before.before in none_holds s.args.edges 17 (Exceeding s) (λ k l. c.before.loop.invariant.1 k (omega arith))
+returns-2 c = let s = c.before.before in none_holds s.args.edges 17 (Exceeding s) (λ k l. c.before.loop-e.invariant.1 k (omega arith))
 
-pub check-within-spec : {M : Type 1} → statement M
-check-within-spec =
+pub check_within_spec : {M : Type 1} → statement M
+check_within_spec =
     tie.close
     (tie.spec
     invariant-loop

@@ -14,20 +14,20 @@ use Rattle.balance.proofs.Tests.{below_against, against_below}
 use Rattle.balance.proofs.exceeds.Statement.{statement}
 use Rattle.balance.proofs.exceeds.Tie as tie
 
-returns : tie.Need-returns
-returns c = inl (lt_of_test _ _ (rw (number_of_bits _ c.before.ranges.forward, number_of_bits _ c.before.ranges.x) at c.if1.true))
+returns : tie.Need-returns-then-forward-x
+returns c = inl (lt_of_test _ _ (rw (number_of_bits _ c.before.ranges.forward, number_of_bits _ c.before.ranges.x) at c.if-forward-x.true))
 
-returns-2 : tie.Need-returns-2
+returns-2 : tie.Need-returns-then-forward-x
 returns-2 c =
     let a = c.before.before.before.args in
     let f = c.before.before.before.ranges in
-    let left = ge_of_test _ _ (rw (number_of_bits _ f.forward, number_of_bits _ f.x) at c.before.before.if1.false) in
+    let left = ge_of_test _ _ (rw (number_of_bits _ f.forward, number_of_bits _ f.x) at c.before.before.if-forward-x.false) in
     let sum : to_z w64 (of_z w64 c.before.add32.result) ≡ a.x +ℤ a.backward =
-    to_z-of_z w64 _ (record { sfits = c.before.add32.type-inv }) ∙ c.before.add32.ensures ∙ ap₂ ◌+ℤ◌ (number_of_bits _ f.x) (number_of_bits _ f.backward) in
+    to_z-of_z w64 _ (record { sfits = c.before.add32.type_inv }) ∙ c.before.add32.ensures ∙ ap₂ ◌+ℤ◌ (number_of_bits _ f.x) (number_of_bits _ f.backward) in
     decides_by c.below_zero.result
     (λ h. inr (below_against a.x a.backward h))
     (λ h. neither (λ g. lt_le_clash g left) (λ g. h (against_below a.x a.backward g)))
     (rw sum at c.below_zero.ensures)
 
-pub exceeds-spec : {M : Type 1} → statement M
-exceeds-spec = tie.close (tie.spec returns (λ c κs. search rules) (λ c κs. search rules) returns-2)
+pub exceeds_spec : {M : Type 1} → statement M
+exceeds_spec = tie.close (tie.spec returns (λ c κs. search rules) (λ c κs. search rules) returns-2)

@@ -15,19 +15,19 @@ use Rattle.balance.proofs.Nets.{net_none, net_stepped, added_fits, taken_fits}
 use Rattle.balance.proofs.fill_nets.Statement.{statement}
 use Rattle.balance.proofs.fill_nets.Tie as tie
 
-abbrev invariant-loop : tie.invariant-loop
+abbrev invariant-loop : tie.invariant-loop-e
 invariant-loop tails edges flows nets₀ e₀ nets e =
     (e ≤ edges) × (length nets ≡ 1024) × ((v : ℕ) → v < 1024 → atℤ nets v ≡ net_up_to (at tails) (atℤ flows) (2 * e) v)
 
-abbrev decreases-loop : tie.decreases-loop
+abbrev decreases-loop : tie.decreases-loop-e
 decreases-loop tails edges flows nets₀ e₀ nets e = edges - e
 
-loop-holds : tie.Need-loop-init invariant-loop decreases-loop
+loop-holds : tie.Need-loop-e-init invariant-loop decreases-loop
 loop-holds c = (omega arith, c.requires.2, λ v l. c.requires.5 v ∙ sym (net_none _ _ v))
 
 -- ── the head of the loop ──
 abbrev At-loop : Type 0
-At-loop = tie.At-loop invariant-loop decreases-loop
+At-loop = tie.At-loop-e invariant-loop decreases-loop
 
 abbrev begun : At-loop → tie.Start invariant-loop decreases-loop
 begun l = l.before
@@ -40,7 +40,7 @@ flowsAt l = atℤ (begun l).args.flows.now
 
 -- the flow of the edge e
 abbrev flow : At-loop → ℤ
-flow l = flowsAt l l.loop.e
+flow l = flowsAt l l.loop-e.e
 
 -- ── the tail is read: the flow is added there ──
 abbrev Tail : Type 0
@@ -50,25 +50,25 @@ abbrev turn : Tail → At-loop
 turn c = c.before.before.before.before
 
 tail-below : (c : Tail) → c.wide.result < 1024
-tail-below c = let l = turn c in omega (arith, c.wide.ensures, (begun l).pre.3 (2 * l.loop.e) (omega arith))
+tail-below c = let l = turn c in omega (arith, c.wide.ensures, (begun l).pre.3 (2 * l.loop-e.e) (omega arith))
 
-add-at-requires : tie.Need-add-at-requires invariant-loop decreases-loop
+add-at-requires : tie.Need-add_at-requires invariant-loop decreases-loop
 add-at-requires c κs =
     let t = c.before in
     let l = turn t in
     let s = begun l in
     let v = t.wide.result in (
-      l.loop.inv.1,
+      l.loop-e.inv.1,
       tail-below t,
-      rw (number_of_bits (flow l) (record { sfits = c.add-at-arg2.given }), l.loop.inv.2 v (tail-below t))
-          (added_fits (tailsAt l) (flowsAt l) s.args.edges s.pre.4 l.loop.e v (omega arith) s.pre.0),
+      rw (number_of_bits (flow l) (record { sfits = c.add_at-arg-in-loop-e-1.given }), l.loop-e.inv.2 v (tail-below t))
+          (added_fits (tailsAt l) (flowsAt l) s.args.edges s.pre.4 l.loop-e.e v (omega arith) s.pre.0),
     )
 
 -- ── the head is read: the flow is taken away there ──
 abbrev Head : Type 0
-Head = tie.After-wide2 invariant-loop decreases-loop
+Head = tie.After-wide-in-loop-e invariant-loop decreases-loop
 
-abbrev added : Head → tie.After-add-at invariant-loop decreases-loop
+abbrev added : Head → tie.After-add_at invariant-loop decreases-loop
 added c = c.before.before.before
 
 abbrev tail : Head → Tail
@@ -77,49 +77,49 @@ tail c = (added c).before.before
 abbrev round : Head → At-loop
 round c = turn (tail c)
 
-head-below : (c : Head) → c.wide2.result < 1024
-head-below c = let l = round c in omega (arith, c.wide2.ensures, (begun l).pre.3 (2 * l.loop.e + 1) (omega arith))
+head-below : (c : Head) → c.wide-in-loop-e.result < 1024
+head-below c = let l = round c in omega (arith, c.wide-in-loop-e.ensures, (begun l).pre.3 (2 * l.loop-e.e + 1) (omega arith))
 
 -- the flow is the number of its bits
-flow_is : (c : tie.After-sub-at-arg2 invariant-loop decreases-loop) → to_z w32 (of_z w32 (flow (round c.before))) ≡ flow (round c.before)
-flow_is c = number_of_bits (flow (round c.before)) (record { sfits = c.sub-at-arg2.given })
+flow_is : (c : tie.After-sub_at-arg-in-loop-e-1 invariant-loop decreases-loop) → to_z w32 (of_z w32 (flow (round c.before))) ≡ flow (round c.before)
+flow_is c = number_of_bits (flow (round c.before)) (record { sfits = c.sub_at-arg-in-loop-e-1.given })
 
-sub-at-requires : tie.Need-sub-at-requires invariant-loop decreases-loop
+sub-at-requires : tie.Need-sub_at-requires invariant-loop decreases-loop
 sub-at-requires c κs =
     let h = c.before in
     let l = round h in
     let s = begun l in
     let sums = (added h).add_at.ensures in
-    let v = h.wide2.result in
+    let v = h.wide-in-loop-e.result in
     let at_tail = eqb v (tail h).wide.result in (
       sums.0,
       head-below h,
-      rw (flow_is c, sums.1 v, flow_is c, l.loop.inv.2 v (head-below h))
-          (taken_fits (tailsAt l) (flowsAt l) s.args.edges s.pre.4 l.loop.e v at_tail (omega arith) s.pre.0),
+      rw (flow_is c, sums.1 v, flow_is c, l.loop-e.inv.2 v (head-below h))
+          (taken_fits (tailsAt l) (flowsAt l) s.args.edges s.pre.4 l.loop-e.e v at_tail (omega arith) s.pre.0),
     )
 
 -- ── both sums are done ──
-loop-again : tie.Need-loop-preserved invariant-loop decreases-loop
+loop-again : tie.Need-loop-e-preserved invariant-loop decreases-loop
 loop-again c =
     let b = c.before in
     let h = b.before in
     let l = round h in
     let first = (tail h).wide in
-    let second = h.wide2 in (
+    let second = h.wide-in-loop-e in (
       omega arith,
       c.sub_at.ensures.0,
-      λ v k. net_stepped (tailsAt l) (flowsAt l) l.loop.e v first.result second.result first.ensures second.ensures (l.loop.inv.2 v k)
+      λ v k. net_stepped (tailsAt l) (flowsAt l) l.loop-e.e v first.result second.result first.ensures second.ensures (l.loop-e.inv.2 v k)
           (rw (flow_is b) at ((added h).add_at.ensures.1 v)) (rw (flow_is b) at (c.sub_at.ensures.1 v)),
     )
 
 returns : tie.Need-returns invariant-loop decreases-loop
 returns c =
-    let o = c.before.loop in
+    let o = c.before.loop-e in
     let all : o.e ≡ c.before.before.args.edges = omega arith in
     (o.invariant.1, λ v l. rw all at (o.invariant.2 v l))
 
-pub fill-nets-spec : {M : Type 1} → statement M
-fill-nets-spec =
+pub fill_nets_spec : {M : Type 1} → statement M
+fill_nets_spec =
     tie.close
     (tie.spec
     invariant-loop

@@ -8,18 +8,18 @@ use Rattle.balance.proofs.Tests.{bits_not_zero, bits_zero}
 use Rattle.balance.proofs.off_balance.Statement.{statement}
 use Rattle.balance.proofs.off_balance.Tie as tie
 
-returns : tie.Need-returns
-returns c = λ p. p.0 (inl c.if1.true)
+returns : tie.Need-returns-then-v-a
+returns c = λ p. p.0 (inl c.if-v-a.true)
 
-returns-2 : tie.Need-returns-2
-returns-2 c = λ p. p.0 (inr c.if2.true)
+returns-2 : tie.Need-returns-then-v-b
+returns-2 c = λ p. p.0 (inr c.if-v-b.true)
 
-returns-3 : tie.Need-returns-3
+returns-3 : tie.Need-returns-then-v-a
 returns-3 c =
     let x = c.before.before.args.sum in
     decides_ne (of_z w32 x) 0
-    (λ h. (neither c.before.if1.false c.if2.false, bits_not_zero x h))
+    (λ h. (neither c.before.if-v-a.false c.if-v-b.false, bits_not_zero x h))
     (λ h p. p.1 (bits_zero x c.before.before.ranges.sum h))
 
-pub off-balance-spec : {M : Type 1} → statement M
-off-balance-spec = tie.close (tie.spec returns returns-2 returns-3)
+pub off_balance_spec : {M : Type 1} → statement M
+off_balance_spec = tie.close (tie.spec returns returns-2 returns-3)

@@ -6,16 +6,16 @@ use Rattle.capture.proofs.Checking.{behind_end, behind_next}
 use Rattle.capture.proofs.behind.Statement.{statement}
 use Rattle.capture.proofs.behind.Tie as tie
 
-returns : tie.Need-returns
+returns : tie.Need-returns-then-capture-at
 returns c = sym (behind_end _ _ (omega arith))
 
-returns-2 : tie.Need-returns-2
-returns-2 c = sym (behind_end _ _ (omega (arith, c.before.record-length.ensures.0)))
+returns-2 : tie.Need-returns-then-left-record_length
+returns-2 c = sym (behind_end _ _ (omega (arith, c.before.record_length.ensures.0)))
 
-returns-3 : tie.Need-returns-3
+returns-3 : tie.Need-returns
 returns-3 c =
     let short = c.before.before in
-    sym (behind_next _ _ (omega (arith, short.record-length.ensures.0, c.before.if2.false)) ∙ omega (arith, c.record-length2.ensures.0))
+    sym (behind_next _ _ (omega (arith, short.record_length.ensures.0, c.before.if-left-record_length.false)) ∙ omega (arith, c.record_length-2.ensures.0))
 
-pub behind-spec : {M : Type 1} → statement M
-behind-spec = tie.close (tie.spec returns (λ c. search rules) (λ c κs. search rules) returns-2 (λ c κs. search rules) (λ c. search rules) returns-3)
+pub behind_spec : {M : Type 1} → statement M
+behind_spec = tie.close (tie.spec returns (λ c. search rules) (λ c κs. search rules) returns-2 (λ c κs. search rules) (λ c. search rules) returns-3)

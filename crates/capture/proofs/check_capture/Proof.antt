@@ -406,7 +406,7 @@ module _ {M : Type 1} {𝓤 : Ura M} (𝓛 : Logic 𝓤) (mem : Memory → SProp
         ex_e 𝓤 (λ (r : Checked). ex 𝓤 (λ (u : Val). guard 𝓤 (Holds t p r) (⋆ 𝓛 (At p r u)))) (λ r.
         ex_e 𝓤 (λ (u : Val). guard 𝓤 (Holds t p r) (⋆ 𝓛 (At p r u))) (λ u. guard_e 𝓤 (Holds t p r) (⋆ 𝓛 (At p r u)) (λ h. turn_at t p r u h))))
 
-    loops : ent 𝓤 (⋆ 𝓛 (At 0 start (C'.lowered start))) (Wp 𝓤 H Cs Λ En (mir.Syntax.loop mirs.turn-1) Left)
+    loops : ent 𝓤 (⋆ 𝓛 (At 0 start (C'.lowered start))) (Wp 𝓤 H Cs Λ En (mir.Syntax.loop-reader mirs.turn-1) Left)
     loops =
         via 𝓤 (Inv (length b)) (into (length b) 0 start (C'.lowered start) (omega arith, stands_start edges b))
         (loop_rule 𝓤 H 𝓛.laws 𝓣 ◌<◌ lt-wf_rel.wf En mirs.turn-1 Left Inv turns (length b))
@@ -468,9 +468,9 @@ module _ {M : Type 1} {𝓤 : Ura M} (𝓛 : Logic 𝓤) (mem : Memory → SProp
     (Goes-none 𝓛 1 (λ _. usize) yes (λ κs x f. refl), tt),
   ) (whole-capture.clauses 𝓛 mem run) (WpFn 𝓤 H 𝓣.C 𝓣.Λ code.function) (WpFn-mono 𝓤 H 𝓛.laws 𝓣 code.function) check-capture-walks
 
-pub check-capture-spec : {M : Type 1} → stated.statement M
+pub check_capture_spec : {M : Type 1} → stated.statement M
 unfolding code.routine tables_of
-check-capture-spec 𝓤 𝓛 𝓜 𝓡 =
+check_capture_spec 𝓤 𝓛 𝓜 𝓡 =
     entered 𝓤 𝓛.H (triple_of 𝓛 whole-capture.signature (whole-capture.spec 𝓛 𝓜.mem 𝓡.run))
     (tables 𝓤 𝓛.H 𝓜 𝓡 code.env).C (tables 𝓤 𝓛.H 𝓜 𝓡 code.env).Λ #capture·check-capture code.function (code.unfolded 𝓤 𝓛.H 𝓜 𝓡)
     (check-capture-meets 𝓛 𝓜.mem 𝓡.run (tables_of 𝓤 𝓛.H 𝓜 (tables 𝓤 𝓛.H 𝓜 𝓡 code.env)) record {

@@ -7,49 +7,49 @@ use Rattle.capture.proofs.Checking.{out_wrong, out_cut, out_channel, out_tick, s
 use Rattle.capture.proofs.check_entry.Statement.{statement}
 use Rattle.capture.proofs.check_entry.Tie as tie
 
-returns : tie.Need-returns
+returns : tie.Need-returns-then-edges-wide
 returns c =
     let w = c.before in
     let e = w.before.before in
     let k = e.before.before in
     let s = k.before.before in
-    let found = sym k.entry_at.ensures ∙ e.entry.given.1 in
-    inr (omega arith, out_channel s.requires.1 s.requires.0 _ _ _ found (omega (arith, w.wide.ensures, c.if1.true)))
+    let found = sym k.entry_at-entry.ensures ∙ e.entry-1.given.1 in
+    inr (omega arith, out_channel s.requires.1 s.requires.0 _ _ _ found (omega (arith, w.wide.ensures, c.if-edges-wide.true)))
 
-returns-2 : tie.Need-returns-2
+returns-2 : tie.Need-returns-then-tick-passed
 returns-2 c =
     let left = c.before.before in
     let w = left.before in
     let e = w.before.before in
     let k = e.before.before in
     let s = k.before.before in
-    let found = sym k.entry_at.ensures ∙ e.entry.given.1 in
-    inr (omega arith, out_tick s.requires.1 s.requires.0 _ _ _ found (omega (arith, w.wide.ensures, left.if1.false)) c.if2.true)
+    let found = sym k.entry_at-entry.ensures ∙ e.entry-1.given.1 in
+    inr (omega arith, out_tick s.requires.1 s.requires.0 _ _ _ found (omega (arith, w.wide.ensures, left.if-edges-wide.false)) c.if-tick-passed.true)
 
-returns-3 : tie.Need-returns-3
+returns-3 : tie.Need-returns-in-Wrong
 returns-3 c =
     let k = c.before.before in
     let s = k.before.before in
-    inr (omega arith, out_wrong s.requires.1 s.requires.0 (sym k.entry_at.ensures ∙ c.enum_told.given.1))
+    inr (omega arith, out_wrong s.requires.1 s.requires.0 (sym k.entry_at-entry.ensures ∙ c.enum_told-1.given.1))
 
-returns-4 : tie.Need-returns-4
+returns-4 : tie.Need-returns-in-Cut
 returns-4 c =
     let k = c.before.before in
     let s = k.before.before in
-    inr (omega arith, out_cut s.requires.1 s.requires.0 (sym k.entry_at.ensures ∙ c.enum-told2.given.1))
+    inr (omega arith, out_cut s.requires.1 s.requires.0 (sym k.entry_at-entry.ensures ∙ c.enum_told-in-Cut-1.given.1))
 
-returns-5 : tie.Need-returns-5
+returns-5 : tie.Need-returns-else-tick-passed
 returns-5 c =
     let left = c.before.before in
     let w = left.before in
     let e = w.before.before in
     let k = e.before.before in
     let s = k.before.before in
-    let found = sym k.entry_at.ensures ∙ e.entry.given.1 in
-    stands_step s.requires.1 s.requires.0 _ _ _ found (omega (arith, w.wide.ensures, left.if1.false)) c.if2.false
+    let found = sym k.entry_at-entry.ensures ∙ e.entry-1.given.1 in
+    stands_step s.requires.1 s.requires.0 _ _ _ found (omega (arith, w.wide.ensures, left.if-edges-wide.false)) c.if-tick-passed.false
 
-pub check-entry-spec : {M : Type 1} → statement M
-check-entry-spec =
+pub check_entry_spec : {M : Type 1} → statement M
+check_entry_spec =
     tie.close
     (tie.spec
     (λ c κs. search rules)

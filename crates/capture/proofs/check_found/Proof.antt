@@ -13,50 +13,50 @@ use Rattle.capture.specs.Capture.{limits_checks}
 use Rattle.capture.proofs.check_found.Statement.{statement}
 use Rattle.capture.proofs.check_found.Tie as tie
 
-abbrev invariant-loop : tie.invariant-loop
+abbrev invariant-loop : tie.invariant-loop-e
 invariant-loop capacities edges e₀ e =
     (e ≤ edges) × (edges ≤ 512) × ((i : ℕ) → i < e → NoneOf (capacity_checks (atℤ capacities (2 * i)) (atℤ capacities (2 * i + 1))))
 
-abbrev decreases-loop : tie.decreases-loop
+abbrev decreases-loop : tie.decreases-loop-e
 decreases-loop capacities edges e₀ e = edges - e
 
 -- ── the turn of the loop in which an edge is checked ──
-abbrev turn : tie.After-check-capacities invariant-loop decreases-loop → tie.At-loop invariant-loop decreases-loop
+abbrev turn : tie.After-check_capacities-channel invariant-loop decreases-loop → tie.At-loop-e invariant-loop decreases-loop
 turn k = k.before.before.before.before
 
-judged : (k : tie.After-check-capacities invariant-loop decreases-loop)
+judged : (k : tie.After-check_capacities-channel invariant-loop decreases-loop)
     → Judged (capacity_checks (atℤ (turn k).before.args.capacities.now (2 * (turn k).loop.e)) (atℤ (turn k).before.args.capacities.now
     (2 * (turn k).loop.e + 1)))
-    k.check-capacities.result
+    k.check_capacities-channel.result
 judged k =
     rw (
-      number_of_bits _ (record { sfits = k.before.before.check-capacities-arg.given }),
-      number_of_bits _ (record { sfits = k.before.check-capacities-arg2.given }),
-    ) at k.check-capacities.ensures
+      number_of_bits _ (record { sfits = k.before.before.check_capacities-arg-1.given }),
+      number_of_bits _ (record { sfits = k.before.check_capacities-arg-in-loop-e-1.given }),
+    ) at k.check_capacities-channel.ensures
 
 -- ── the needs, in the order of the code ──
-loop-holds : tie.Need-loop-init invariant-loop decreases-loop
+loop-holds : tie.Need-loop-e-init invariant-loop decreases-loop
 loop-holds c = (omega arith, omega arith, λ i l. absurd (omega arith))
 
-returns : tie.Need-returns invariant-loop decreases-loop
+returns : tie.Need-returns-in-Refused invariant-loop decreases-loop
 unfolding limits_checks
 returns c =
     let k = c.before.before.before in
     let i = (turn k).loop in
-    first_in_turn _ _ i.e _ _ (omega arith) i.inv.2 (subst (Judged _) c.before.channel.given.1 (judged k))
+    first_in_turn _ _ i.e _ _ (omega arith) i.inv.2 (subst (Judged _) c.before.channel-1.given.1 (judged k))
 
-loop-again : tie.Need-loop-preserved invariant-loop decreases-loop
+loop-again : tie.Need-loop-e-preserved invariant-loop decreases-loop
 loop-again c =
     let k = c.before.before in
     let i = (turn k).loop in
-    (omega arith, i.inv.1, below_more _ i.e i.inv.2 (subst (Judged _) c.enum_told.given.1 (judged k)))
+    (omega arith, i.inv.1, below_more _ i.e i.inv.2 (subst (Judged _) c.enum_told-1.given.1 (judged k)))
 
-returns-2 : tie.Need-returns-2 invariant-loop decreases-loop
+returns-2 : tie.Need-returns invariant-loop decreases-loop
 unfolding limits_checks
-returns-2 c = let i = c.before.loop in none_in_turn _ _ (λ e l. i.invariant.2 e (omega arith))
+returns-2 c = let i = c.before.loop-e in none_in_turn _ _ (λ e l. i.invariant.2 e (omega arith))
 
-pub check-found-spec : {M : Type 1} → statement M
-check-found-spec =
+pub check_found_spec : {M : Type 1} → statement M
+check_found_spec =
     tie.close
     (tie.spec
     invariant-loop

@@ -5,20 +5,20 @@ use Rattle.capture.proofs.Lasting.{ends_refused, limits_short, room_judged}
 use Rattle.capture.proofs.check_last.Statement.{statement}
 use Rattle.capture.proofs.check_last.Tie as tie
 
-returns : tie.Need-returns
-returns c = ends_refused _ _ _ _ _ _ _ _ _ (rw c.before.named.given.1 at c.before.before.before.check-ends.ensures)
+returns : tie.Need-returns-in-Refused
+returns c = ends_refused _ _ _ _ _ _ _ _ _ (rw c.before.named-1.given.1 at c.before.before.before.check_ends-named.ensures)
 
-returns-2 : tie.Need-returns-2
-returns-2 c = let e = c.before in limits_short _ _ _ _ _ _ _ (rw e.enum_told.given.1 at e.before.before.check-ends.ensures) (omega arith)
+returns-2 : tie.Need-returns-then-limits-edges
+returns-2 c = let e = c.before in limits_short _ _ _ _ _ _ _ (rw e.enum_told-1.given.1 at e.before.before.check_ends-named.ensures) (omega arith)
 
-returns-3 : tie.Need-returns-3
+returns-3 : tie.Need-returns
 returns-3 c =
     let e = c.before.before in
-    room_judged _ _ _ _ _ _ _ (rw e.enum_told.given.1 at e.before.before.check-ends.ensures) (omega arith) c.check-room.result
-    c.check-room.ensures
+    room_judged _ _ _ _ _ _ _ (rw e.enum_told-1.given.1 at e.before.before.check_ends-named.ensures) (omega arith) c.check_room.result
+    c.check_room.ensures
 
-pub check-last-spec : {M : Type 1} → statement M
-check-last-spec =
+pub check_last_spec : {M : Type 1} → statement M
+check_last_spec =
     tie.close
     (tie.spec
     (λ c κs. search rules)

@@ -11,48 +11,48 @@ use Rattle.capture.proofs.entry_at.Statement.{statement}
 use Rattle.capture.proofs.entry_at.Tie as tie
 
 -- ── what is known once the length is enough ──
-whole : (c : tie.Else3) → c.before.before.before.before.before.before.args.at + record_length 5
+whole : (c : tie.Else-capture-at-2) → c.before.before.before.before.before.before.args.at + record_length 5
     ≤ length c.before.before.before.before.before.before.args.capture.now
-whole c = omega (arith, c.before.record-length.ensures.0)
+whole c = omega (arith, c.before.record_length.ensures.0)
 
 -- ── the needs, in the order of the code ──
-returns : tie.Need-returns
+returns : tie.Need-returns-then-capture-at
 returns c = sym (reads_nothing _ _ (omega arith))
 
-returns-2 : tie.Need-returns-2
-returns-2 c = sym (reads_wrong _ _ c.if2.true)
+returns-2 : tie.Need-returns-then-capture-at-ne5
+returns-2 c = sym (reads_wrong _ _ c.if-capture-at-ne5.true)
 
-returns-3 : tie.Need-returns-3
-returns-3 c = sym (reads_cut _ _ c.before.before.if2.false (omega (arith, c.before.record-length.ensures.0)))
+returns-3 : tie.Need-returns-then-capture-at-2
+returns-3 c = sym (reads_cut _ _ c.before.before.if-capture-at-ne5.false (omega (arith, c.before.record_length.ensures.0)))
 
-add-read-u32 : tie.Need-overflow-add-read-u32
+add-read-u32 : tie.Need-overflow_add-at
 add-read-u32 c = omega (arith, whole c)
 
-read-u32-requires : tie.Need-read-u32-requires
+read-u32-requires : tie.Need-read_u32-tick-requires
 read-u32-requires c κs = omega (arith, whole c)
 
-add-read-u16 : tie.Need-overflow-add-read-u16
+add-read-u16 : tie.Need-overflow_add-at-2
 add-read-u16 c = omega (arith, whole c.before)
 
-read-u16-requires : tie.Need-read-u16-requires
+read-u16-requires : tie.Need-read_u16-edge-requires
 read-u16-requires c κs = omega (arith, whole c.before)
 
-add-read-i32 : tie.Need-overflow-add-read-i32
+add-read-i32 : tie.Need-overflow_add-at-3
 add-read-i32 c = omega (arith, whole c.before.before)
 
-read-i32-requires : tie.Need-read-i32-requires
+read-i32-requires : tie.Need-read_i32-limit-requires
 read-i32-requires c κs = omega (arith, whole c.before.before)
 
-returns-4 : tie.Need-returns-4
+returns-4 : tie.Need-returns
 returns-4 c =
     let edge = c.before in
     let tick = edge.before in
     let long = tick.before in
-    full_of tick.read_u32.ensures edge.read-u16.ensures (number_of_bits _ (record { sfits = c.read-i32.type-inv }) ∙ c.read-i32.ensures)
-    (sym (reads_full _ _ long.before.before.if2.false (whole long)))
+    full_of tick.read_u32-tick.ensures edge.read_u16-edge.ensures (number_of_bits _ (record { sfits = c.read_i32-limit.type_inv }) ∙ c.read_i32-limit.ensures)
+    (sym (reads_full _ _ long.before.before.if-capture-at-ne5.false (whole long)))
 
-pub entry-at-spec : {M : Type 1} → statement M
-entry-at-spec =
+pub entry_at_spec : {M : Type 1} → statement M
+entry_at_spec =
     tie.close
     (tie.spec
     returns

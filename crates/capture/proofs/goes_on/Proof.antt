@@ -4,11 +4,11 @@ use Rattle.capture.proofs.Checking.{goes_refused, goes_left}
 use Rattle.capture.proofs.goes_on.Statement.{statement}
 use Rattle.capture.proofs.goes_on.Tie as tie
 
-returns : tie.Need-returns
-returns c = sym (goes_refused _ _ _ c.if1.true)
+returns : tie.Need-returns-then-checked-ne0
+returns c = sym (goes_refused _ _ _ c.if-checked-ne0.true)
 
-returns-2 : tie.Need-returns-2
-returns-2 c = sym (goes_left _ _ _ c.if1.false)
+returns-2 : tie.Need-returns
+returns-2 c = sym (goes_left _ _ _ c.if-checked-ne0.false)
 
-pub goes-on-spec : {M : Type 1} → statement M
-goes-on-spec = tie.close (tie.spec returns returns-2)
+pub goes_on_spec : {M : Type 1} → statement M
+goes_on_spec = tie.close (tie.spec returns returns-2)

@@ -15,14 +15,14 @@ returns c =
     let start = present.before.before in (
       refl,
       ap (set start.args.capacities.now (2 * start.args.edge))
-          (number_of_bits _ (record { sfits = c.Lowered-by.type-inv }) ∙ c.Lowered-by.ensures
+          (number_of_bits _ (record { sfits = c.Lowered-by.type_inv }) ∙ c.Lowered-by.ensures
           ∙ ap₂ (lowered (at start.args.seen.now start.args.edge))
-          (number_of_bits (atℤ start.args.capacities.now (2 * start.args.edge)) (record { sfits = present.present.given })) (number_of_bits _
+          (number_of_bits (atℤ start.args.capacities.now (2 * start.args.edge)) (record { sfits = present.present-1.given })) (number_of_bits _
           start.ranges.limit)),
     )
 
-pub take-limit-spec : {M : Type 1} → statement M
-take-limit-spec =
+pub take_limit_spec : {M : Type 1} → statement M
+take_limit_spec =
     tie.close
     (tie.spec
     (λ c. search rules)

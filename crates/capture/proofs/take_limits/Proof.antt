@@ -12,46 +12,46 @@ use Rattle.capture.proofs.take_limits.Statement.{statement}
 use Rattle.capture.proofs.take_limits.Tie as tie
 
 -- ── the window is in range ──
-abbrev start : tie.After-enum-told → tie.Start
+abbrev start : tie.In_default → tie.Start
 start c = c.before.before.before.before
 
-ranged : (c : tie.After-enum-told) → NoneOf (window_checks (start c).args.capture.now (start c).args.window (start c).args.named)
-ranged c = rw c.enum_told.given.1 at c.before.before.check-window.ensures
+ranged : (c : tie.In_default) → NoneOf (window_checks (start c).args.capture.now (start c).args.window (start c).args.named)
+ranged c = rw c.enum_told-1.given.1 at c.before.before.check_window-ranged.ensures
 
-inside : (c : tie.After-enum-told)
+inside : (c : tie.In_default)
     → (1 ≤ (start c).args.window) × ((start c).args.window ≤ 256) × (11 * ((start c).args.named + 1) ≤ length (start c).args.capture.now)
 inside c = window_inside (start c).args.capture.now (start c).args.window (start c).args.named (ranged c)
 
 -- ── the capture is whole ──
-abbrev in-range : tie.After-enum-told2 → tie.After-enum-told
+abbrev in-range : tie.In_default-whole → tie.In_default
 in-range c = c.before.before.before
 
-whole : (c : tie.After-enum-told2) → NoneOf (records_checks (start (in-range c)).args.edges (start (in-range c)).args.capture.now)
-whole c = rw c.enum-told2.given.1 at c.before.before.check-capture.ensures
+whole : (c : tie.In_default-whole) → NoneOf (records_checks (start (in-range c)).args.edges (start (in-range c)).args.capture.now)
+whole c = rw c.enum_told-in_default-whole-1.given.1 at c.before.before.check_capture-whole.ensures
 
 -- ── the needs, in the order of the code ──
-returns : tie.Need-returns
+returns : tie.Need-returns-in-Refused
 returns c =
     let k = c.before.before.before in
     let s = k.before.before in
-    (s.requires.0, window_refused _ _ (atℤ s.args.capacities.now) _ _ _ _ _ (rw c.before.ranged.given.1 at k.check-window.ensures))
+    (s.requires.0, window_refused _ _ (atℤ s.args.capacities.now) _ _ _ _ _ (rw c.before.ranged-1.given.1 at k.check_window-ranged.ensures))
 
-returns-2 : tie.Need-returns-2
+returns-2 : tie.Need-returns-in-Refused-whole
 returns-2 c =
     let k = c.before.before.before in
     let s = start k.before in (
       s.pre.0,
-      records_refused _ _ (atℤ s.args.capacities.now) _ _ _ (ranged k.before) _ _ (rw c.before.whole.given.1 at
-          k.check-capture.ensures),
+      records_refused _ _ (atℤ s.args.capacities.now) _ _ _ (ranged k.before) _ _ (rw c.before.whole-1.given.1 at
+          k.check_capture-whole.ensures),
     )
 
-add-end : tie.Need-overflow-add-end
+add-end : tie.Need-overflow_add-end
 add-end c = omega (arith, (inside (in-range c)).2)
 
-sub-take-window : tie.Need-overflow-sub-take-window
-sub-take-window c = omega (arith, c.window-start.ensures)
+sub-take-window : tie.Need-overflow_sub-end
+sub-take-window c = omega (arith, c.window_start-first.ensures)
 
-take-window-requires : tie.Need-take-window-requires
+take-window-requires : tie.Need-take_window-requires
 take-window-requires c κs =
     let b = c.before in
     let i = in-range b.before in
@@ -59,25 +59,25 @@ take-window-requires c κs =
     let long = (inside i).2 in (
       s.pre.0,
       s.pre.1,
-      omega (arith, b.window-start.ensures, long),
-      λ j l. window_passed _ _ s.args.named (whole b.before) long j (omega (arith, b.window-start.ensures, l)),
+      omega (arith, b.window_start-first.ensures, long),
+      λ j l. window_passed _ _ s.args.named (whole b.before) long j (omega (arith, b.window_start-first.ensures, l)),
     )
 
-check-found-requires : tie.Need-check-found-requires
+check-found-requires : tie.Need-check_found-requires
 check-found-requires c κs = let t = c.before.before.before.before in (start (in-range t)).requires.1
 
-returns-3 : tie.Need-returns-3
+returns-3 : tie.Need-returns
 returns-3 c =
     let t = c.before.before in
     let b = t.before.before in
     let i = in-range b.before in (
-      t.take-window.ensures.0,
-      limits_judged _ _ _ _ _ _ (ranged i) (whole b.before) b.window-start.result _ b.window-start.ensures refl t.take-window.ensures.1
-          c.check-found.result c.check-found.ensures,
+      t.take_window.ensures.0,
+      limits_judged _ _ _ _ _ _ (ranged i) (whole b.before) b.window_start-first.result _ b.window_start-first.ensures refl t.take_window.ensures.1
+          c.check_found.result c.check_found.ensures,
     )
 
-pub take-limits-spec : {M : Type 1} → statement M
-take-limits-spec =
+pub take_limits_spec : {M : Type 1} → statement M
+take_limits_spec =
     tie.close
     (tie.spec
     (λ c κs. search rules)

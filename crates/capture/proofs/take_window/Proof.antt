@@ -25,7 +25,7 @@ use Rattle.capture.proofs.Taking.{taken_start, taken_step}
 use Rattle.capture.proofs.take_window.Statement.{statement}
 use Rattle.capture.proofs.take_window.Tie as tie
 
-abbrev invariant-loop : tie.invariant-loop
+abbrev invariant-loop : tie.invariant-loop-i
 invariant-loop capture first count edges capacities₀ seen₀ i₀ capacities seen i =
     (i ≤ count)
     × (edges ≤ 512)
@@ -33,30 +33,30 @@ invariant-loop capture first count edges capacities₀ seen₀ i₀ capacities s
     × ((j : ℕ) → j < first + count → NoneOf (entry_checks edges capture j))
     × Taken (atℤ capacities₀) capture first i seen capacities
 
-abbrev decreases-loop : tie.decreases-loop
+abbrev decreases-loop : tie.decreases-loop-i
 decreases-loop capture first count edges capacities₀ seen₀ i₀ capacities seen i = count - i
 
 -- ── the turn of the loop in which a record is read, and that the record passed ──
-abbrev turn : tie.After-entry-at invariant-loop decreases-loop → tie.At-loop invariant-loop decreases-loop
+abbrev turn : tie.After-entry_at-entry invariant-loop decreases-loop → tie.At-loop-i invariant-loop decreases-loop
 turn k = k.before.before.before
 
-abbrev begin : tie.After-entry-at invariant-loop decreases-loop → tie.Start invariant-loop decreases-loop
+abbrev begin : tie.After-entry_at-entry invariant-loop decreases-loop → tie.Start invariant-loop decreases-loop
 begin k = (turn k).before.before
 
-abbrev number : tie.After-entry-at invariant-loop decreases-loop → ℕ
+abbrev number : tie.After-entry_at-entry invariant-loop decreases-loop → ℕ
 number k = (begin k).args.first + (turn k).loop.i
 
-passed : (k : tie.After-entry-at invariant-loop decreases-loop) → NoneOf (entry_checks (begin k).args.edges (begin k).args.capture.now (number k))
+passed : (k : tie.After-entry_at-entry invariant-loop decreases-loop) → NoneOf (entry_checks (begin k).args.edges (begin k).args.capture.now (number k))
 passed k = (turn k).loop.invariant.3 (number k) (omega arith)
 
 -- what is found stands at its place, by the table of lengths
-found : (k : tie.After-entry-at invariant-loop decreases-loop) → entry_at (begin k).args.capture.now (entry_place (number k)) ≡ k.entry_at.result
+found : (k : tie.After-entry_at-entry invariant-loop decreases-loop) → entry_at (begin k).args.capture.now (entry_place (number k)) ≡ k.entry_at-entry.result
 found k =
-    sym (k.entry_at.ensures ∙ ap (λ n. entry_at (begin k).args.capture.now (n * number k)) k.before.record-length.ensures.0)
+    sym (k.entry_at-entry.ensures ∙ ap (λ n. entry_at (begin k).args.capture.now (n * number k)) k.before.record_length.ensures.0)
 
 -- so it is found whole, and nothing else is
-whole : (k : tie.After-entry-at invariant-loop decreases-loop)
-    → k.entry_at.result
+whole : (k : tie.After-entry_at-entry invariant-loop decreases-loop)
+    → k.entry_at-entry.result
     ≡ Full (tick_of (begin k).args.capture.now (number k)) (channel_of (begin k).args.capture.now (number k)) (limit_of (begin k).args.capture.now
     (number k))
 whole k = sym (found k) ∙ passed_full (begin k).args.edges (begin k).args.capture.now (number k) (passed k)
@@ -68,35 +68,35 @@ not_full (Full t' e' x') t e x (inl one) h = omega arith
 not_full (Full t' e' x') t e x (inr one) h = omega arith
 
 -- its edge
-channel : (e : tie.After-entry invariant-loop decreases-loop)
-    → e.entry.given.0.1.0 ≡ channel_of (begin e.before.before).args.capture.now (number e.before.before)
-channel e = let k = e.before.before in full_channel _ _ _ _ _ (found k ∙ e.entry.given.1)
+channel : (e : tie.In-Full-2 invariant-loop decreases-loop)
+    → e.entry-1.given.0.1.0 ≡ channel_of (begin e.before.before).args.capture.now (number e.before.before)
+channel e = let k = e.before.before in full_channel _ _ _ _ _ (found k ∙ e.entry-1.given.1)
 
-few : (e : tie.After-entry invariant-loop decreases-loop) → e.entry.given.0.1.0 < 512
+few : (e : tie.In-Full-2 invariant-loop decreases-loop) → e.entry-1.given.0.1.0 < 512
 few e =
     let k = e.before.before in
     omega (arith, channel e, passed_channel (begin k).args.edges (begin k).args.capture.now (number k) (passed k), (turn k).loop.invariant.1)
 
 -- ── the needs, in the order of the code ──
-loop-holds : tie.Need-loop-init invariant-loop decreases-loop
+loop-holds : tie.Need-loop-i-init invariant-loop decreases-loop
 loop-holds c = let p = c.before.requires in (omega arith, p.1, p.2, p.3, taken_start _ _ _ _ p.0 (λ d. refl))
 
-mul-entry-at : tie.Need-overflow-mul-entry-at invariant-loop decreases-loop
+mul-entry-at : tie.Need-overflow_mul-record_length invariant-loop decreases-loop
 mul-entry-at c =
-    let i = c.before.before.loop in
-    let length_is = c.record-length.ensures.0 in
+    let i = c.before.before.loop-i in
+    let length_is = c.record_length.ensures.0 in
     omega (arith, ap (λ n. n * (c.before.before.before.before.args.first + i.i)) length_is, i.invariant.2)
 
-take-limit-requires : tie.Need-take-limit-requires invariant-loop decreases-loop
+take-limit-requires : tie.Need-take_limit-requires invariant-loop decreases-loop
 take-limit-requires c κs =
     let e = c.before.before.before.before in
     let τ = (turn e.before.before).loop.inv.4 in
     (τ.marks_long, τ.long, omega (arith, c.wide.ensures, few e))
 
-loop-less : tie.Need-loop-smaller invariant-loop decreases-loop
+loop-less : tie.Need-loop-i-smaller-in-Full invariant-loop decreases-loop
 loop-less c = omega arith
 
-loop-again : tie.Need-loop-preserved invariant-loop decreases-loop
+loop-again : tie.Need-loop-i-preserved-in-Full invariant-loop decreases-loop
 loop-again c =
     let w = c.before in
     let told = w.before.before.before in
@@ -108,19 +108,19 @@ loop-again c =
       i.inv.2,
       i.inv.3,
       taken_step _ _ _ i.inv.4 w.wide.result _ (w.wide.ensures ∙ channel e) (omega (arith, w.wide.ensures, few e))
-          (number_of_bits _ (record { sfits = told.known-told.given.1.1.0.1 }) ∙ full_limit _ _ _ _ _ (found k ∙ e.entry.given.1))
+          (number_of_bits _ (record { sfits = told.known_told-1.given.1.1.0.1 }) ∙ full_limit _ _ _ _ _ (found k ∙ e.entry-1.given.1))
           c.take_limit.ensures.0 c.take_limit.ensures.1,
     )
 
-loop-less-2 : tie.Need-loop-smaller-2 invariant-loop decreases-loop
+loop-less-2 : tie.Need-loop-i-smaller invariant-loop decreases-loop
 loop-less-2 c = omega arith
 
-loop-again-2 : tie.Need-loop-preserved-2 invariant-loop decreases-loop
-loop-again-2 c = let k = c.before in absurd (not_full k.entry_at.result _ _ _ c.match.keys2 (whole k))
+loop-again-2 : tie.Need-loop-i-preserved invariant-loop decreases-loop
+loop-again-2 c = let k = c.before in absurd (not_full k.entry_at-entry.result _ _ _ c.in-Full.keys2 (whole k))
 
 returns : tie.Need-returns invariant-loop decreases-loop
 returns c =
-    let i = c.before.loop in
+    let i = c.before.loop-i in
     let done : i.i ≡ c.before.before.before.args.count = omega arith in (
       i.invariant.4.long,
       λ d. i.invariant.4.capacities_are d
@@ -128,8 +128,8 @@ returns c =
           c.before.before.before.args.first n d) done,
     )
 
-pub take-window-spec : {M : Type 1} → statement M
-take-window-spec =
+pub take_window_spec : {M : Type 1} → statement M
+take_window_spec =
     tie.close
     (tie.spec
     invariant-loop

@@ -5,17 +5,17 @@ use lib.ListN.{length-replicate}
 use Rattle.cases.proofs.main.Statement.{statement}
 use Rattle.cases.proofs.main.Tie as tie
 
-slice-aggregate-read-full : tie.Need-slice-aggregate-read-full
+slice-aggregate-read-full : tie.Need-slice_bounds-read_full-end
 slice-aggregate-read-full c = sym (length-replicate {A = ℕ} 1048576 0)
 
-read-full-requires : tie.Need-read-full-requires
+read-full-requires : tie.Need-read_full-n-requires
 read-full-requires c κs = tt
 
-array-share-prefix-input : tie.Need-array-share-prefix-input
-array-share-prefix-input c = c.before.read-full.ensures.0
+array-share-prefix-input : tie.Need-slice_bounds-input-end
+array-share-prefix-input c = c.before.read_full-n.ensures.0
 
-slice-aggregate-cases : tie.Need-slice-aggregate-cases
-slice-aggregate-cases c = c.before.before.read-full.ensures.1
+slice-aggregate-cases : tie.Need-slice_bounds-cases-end
+slice-aggregate-cases c = c.before.before.read_full-n.ensures.1
 
 cases-requires : tie.Need-cases-requires
 cases-requires c κs = tt

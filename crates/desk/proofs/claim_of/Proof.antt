@@ -7,11 +7,11 @@ use Rattle.desk.proofs.Judging.{claim_none, claim_value}
 use Rattle.desk.proofs.claim_of.Statement.{statement}
 use Rattle.desk.proofs.claim_of.Tie as tie
 
-returns : tie.Need-returns
+returns : tie.Need-returns-then-kind-eq1
 returns c = claim_none _ _ (omega arith)
 
-returns-2 : tie.Need-returns-2
+returns-2 : tie.Need-returns
 returns-2 c = ap Value (number_of_bits _ c.before.ranges.number) ∙ claim_value _ _ (λ e. omega arith)
 
-pub claim-of-spec : {M : Type 1} → statement M
-claim-of-spec = tie.close (tie.spec returns returns-2)
+pub claim_of_spec : {M : Type 1} → statement M
+claim_of_spec = tie.close (tie.spec returns returns-2)

@@ -5,11 +5,11 @@ use Rattle.desk.proofs.Judging.{no_value}
 use Rattle.desk.proofs.claims_none.Statement.{statement}
 use Rattle.desk.proofs.claims_none.Tie as tie
 
-returns : tie.Need-returns
-returns c = λ e. no_value _ (sym e ∙ c.before.claim.given.1)
+returns : tie.Need-returns-in-Value
+returns c = λ e. no_value _ (sym e ∙ c.before.claim-1.given.1)
 
-returns-2 : tie.Need-returns-2
-returns-2 c = c.enum_told.given.1
+returns-2 : tie.Need-returns-in-None
+returns-2 c = c.enum_told-1.given.1
 
-pub claims-none-spec : {M : Type 1} → statement M
-claims-none-spec = tie.close (tie.spec (λ c. search rules) (λ c. search rules) returns returns-2)
+pub claims_none_spec : {M : Type 1} → statement M
+claims_none_spec = tie.close (tie.spec (λ c. search rules) (λ c. search rules) returns returns-2)

@@ -10,38 +10,38 @@ use Rattle.desk.proofs.examine.Statement.{statement}
 use Rattle.desk.proofs.examine.Tie as tie
 
 -- ── what Counts says of the sheet ──
-abbrev start : tie.After-counts → tie.Start
+abbrev start : tie.After-counts-counted → tie.Start
 start c = c.before.before.before.before.before
 
-said : (c : tie.After-counts) (answer : CountsAnswer) → c.counts.result ≡ answer → GivesCounts (start c).args.sheet.now answer
-said c answer e = rw e at c.counts.ensures
+said : (c : tie.After-counts-counted) (answer : CountsAnswer) → c.counts-counted.result ≡ answer → GivesCounts (start c).args.sheet.now answer
+said c answer e = rw e at c.counts-counted.ensures
 
 -- ── the needs, in the order of the code ──
-examine-counted-requires : tie.Need-examine-counted-requires
+examine-counted-requires : tie.Need-examine_counted-requires
 examine-counted-requires c κs =
     let m = c.before in
     let n = m.before in
     let e = n.before.before in
-    let given = said e.before.before (Counts _ _) e.counted2.given.1 in
-    (given.0, n.wide.ensures ∙ given.1, m.wide2.ensures ∙ given.2)
+    let given = said e.before.before (Counts _ _) e.counted-in-Counts-1.given.1 in
+    (given.0, n.wide.ensures ∙ given.1, m.wide-in-Counts.ensures ∙ given.2)
 
-returns : tie.Need-returns
+returns : tie.Need-returns-in-Refused
 returns c =
     let k = c.before.before.before in
     let a = (start k).args in
-    (sheet_refused a.sheet.now a.source a.sink a.value _ _ _ _ _ _ _ (said k (Refused _ _) c.before.counted.given.1), refl)
+    (sheet_refused a.sheet.now a.source a.sink a.value _ _ _ _ _ _ _ (said k (Refused _ _) c.before.counted-1.given.1), refl)
 
-returns-2 : tie.Need-returns-2
+returns-2 : tie.Need-returns-in-Counts
 returns-2 c =
     let x = c.before.before in
     let e = x.before.before.before.before.before in
     let s = start e.before.before in
     let a = s.args in
-    examined_as a.sheet.now a.source a.sink a.value _ a.claims.now a.kinds.now a.settings.now a.sets.now a.points.now
-    x.examine-counted.new.1.1.1.1.1.1.1.1.1.1.0 x.examine-counted.result (number_of_bits _ s.fits.value) x.examine-counted.ensures
+    examined_as a.sheet.now a.source a.sink a.value _ a.claims.now a.kinds.now a.settings.now a.sets.now a.points-1.now
+    x.examine_counted.new.1.1.1.1.1.1.1.1.1.1.0 x.examine_counted.result (number_of_bits _ s.fits.value) x.examine_counted.ensures
 
-pub examine-spec : {M : Type 1} → statement M
-examine-spec =
+pub examine_spec : {M : Type 1} → statement M
+examine_spec =
     tie.close
     (tie.spec
     (λ c κs. search rules)

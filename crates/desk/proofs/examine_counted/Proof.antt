@@ -21,86 +21,86 @@ use Rattle.desk.proofs.examine_counted.Statement.{statement}
 use Rattle.desk.proofs.examine_counted.Tie as tie
 
 -- ── 13, 14 and 15 ──
-abbrev begun : tie.After-check-question → tie.Start
+abbrev begun : tie.After-check_question-asked → tie.Start
 begun c = c.before.before.before.before.before.before.before
 
-asked : (c : tie.After-check-question) (v : Verdict) → c.check-question.result ≡ v
+asked : (c : tie.After-check_question-asked) (v : Verdict) → c.check_question-asked.result ≡ v
     → Judged (end_checks (nodes_of (begun c).args.sheet.now) (begun c).args.source (begun c).args.sink ++ value_checks (begun c).args.value) v
 asked c v e =
-    question_as _ _ _ _ _ _ _ _ _ v c.check-question.ensures (begun c).requires.1 c.before.before.wide.ensures c.before.wide2.ensures
+    question_as _ _ _ _ _ _ _ _ _ v c.check_question-asked.ensures (begun c).requires.1 c.before.before.wide.ensures c.before.wide-2.ensures
     (number_of_bits _ (begun c).ranges.value) e
 
-returns : tie.Need-returns
+returns : tie.Need-returns-in-Refused
 returns c =
     let q = c.before.before.before in
     let s = begun q in
     let a = s.args in
-    (question_refused a.sheet.now a.source a.sink a.value _ _ _ _ _ s.pre.0 _ _ (asked q (Refused _ _) c.before.asked.given.1), refl)
+    (question_refused a.sheet.now a.source a.sink a.value _ _ _ _ _ s.pre.0 _ _ (asked q (Refused _ _) c.before.asked-1.given.1), refl)
 
 -- ── 32 and 16 ──
-abbrev first : tie.After-check-class → tie.After-check-question
+abbrev first : tie.After-check_class-room → tie.After-check_question-asked
 first c = c.before.before.before
 
-abbrev start : tie.After-check-class → tie.Start
+abbrev start : tie.After-check_class-room → tie.Start
 start c = begun (first c)
 
-check-class-requires : tie.Need-check-class-requires
+check-class-requires : tie.Need-check_class-room-requires
 check-class-requires c κs =
     let s = begun c.before.before in
     let few = counts_fit _ s.pre.0 in
     (omega (arith, few.0, s.pre.1), omega (arith, few.1, s.pre.2))
 
-passed : (c : tie.After-check-class)
+passed : (c : tie.After-check_class-room)
     → NoneOf (end_checks (nodes_of (start c).args.sheet.now) (start c).args.source (start c).args.sink ++ value_checks (start c).args.value)
-passed c = asked (first c) Passed c.before.enum_told.given.1
+passed c = asked (first c) Passed c.before.enum_told-1.given.1
 
-returns-2 : tie.Need-returns-2
+returns-2 : tie.Need-returns-in-Refused-room
 returns-2 c =
     let k = c.before.before.before in
     let s = start k in
     let a = s.args in (
       class_refused a.sheet.now a.source a.sink a.value _ _ _ _ _ s.pre.0 (passed k) _ _
-          (class_as _ _ _ _ _ _ _ _ _ _ (Refused _ _) k.check-class.ensures s.pre.1 s.pre.2 c.before.room.given.1),
+          (class_as _ _ _ _ _ _ _ _ _ _ (Refused _ _) k.check_class-room.ensures s.pre.1 s.pre.2 c.before.room-1.given.1),
       refl,
     )
 
 -- ── the class is accepted ──
-abbrev checked : tie.After-enum-told2 → tie.After-check-class
+abbrev checked : tie.In_default-room → tie.After-check_class-room
 checked c = c.before.before
 
-abbrev base : tie.After-enum-told2 → tie.Start
+abbrev base : tie.In_default-room → tie.Start
 base c = start (checked c)
 
-accepted : (c : tie.After-enum-told2)
+accepted : (c : tie.In_default-room)
     → NoneOf (class_checks (nodes_of (base c).args.sheet.now) (edges_of (base c).args.sheet.now) (length (base c).args.claims.now)
-    (length (base c).args.kinds.now) (length (base c).args.settings.now) (length (base c).args.sets.now) (length (base c).args.points.now))
+    (length (base c).args.kinds.now) (length (base c).args.settings.now) (length (base c).args.sets.now) (length (base c).args.points-1.now))
 accepted c =
-    class_as _ _ _ _ _ _ _ _ _ _ Passed (checked c).check-class.ensures (base c).requires.1 (base c).requires.2 c.enum-told2.given.1
+    class_as _ _ _ _ _ _ _ _ _ _ Passed (checked c).check-class.ensures (base c).requires.1 (base c).requires.2 c.enum_told-in_default-room-1.given.1
 
-returns-3 : tie.Need-returns-3
+returns-3 : tie.Need-returns-then-n-eq0
 returns-3 c =
     let t = c.before in
     let s = base t in
     let a = s.args in
-    (class_accepted a.sheet.now a.source a.sink a.value _ _ _ _ _ s.pre.0 (passed (checked t)) (accepted t), c.if1.true, refl)
+    (class_accepted a.sheet.now a.source a.sink a.value _ _ _ _ _ s.pre.0 (passed (checked t)) (accepted t), c.if-n-eq0.true, refl)
 
-whole : (c : tie.After-enum-told2) → Asked (base c).args.sheet.now (base c).args.source (base c).args.sink
+whole : (c : tie.In_default-room) → Asked (base c).args.sheet.now (base c).args.source (base c).args.sink
 whole c =
     let s = base c in
     let a = s.args in
     asked_of a.sheet.now a.source a.sink a.value 0 0 0 0 0 s.pre.0 (passed (checked c))
 
-find-largest-requires : tie.Need-find-largest-requires
+find-largest-requires : tie.Need-find_largest-largest-requires
 find-largest-requires c κs = whole c.before
 
-room : (c : tie.After-enum-told2)
+room : (c : tie.In_default-room)
     → (length (base c).args.claims.now ≤ 1000) × (length (base c).args.claims.now ≤ length (base c).args.kinds.now)
     × (length (base c).args.claims.now * (base c).args.edges ≤ length (base c).args.settings.now)
     × (length (base c).args.claims.now * words_for (base c).args.nodes ≤ length (base c).args.sets.now)
-    × (length (base c).args.claims.now ≤ length (base c).args.points.now)
-room c = class_room _ _ _ _ _ _ _ (class_as _ _ _ _ _ _ _ _ _ _ Passed (checked c).check-class.ensures refl refl c.enum-told2.given.1)
+    × (length (base c).args.claims.now ≤ length (base c).args.points-1.now)
+room c = class_room _ _ _ _ _ _ _ (class_as _ _ _ _ _ _ _ _ _ _ Passed (checked c).check-class.ensures refl refl c.enum_told-in_default-room-1.given.1)
 
-mark-papers-requires : tie.Need-mark-papers-requires
+mark-papers-requires : tie.Need-mark_papers-requires
 mark-papers-requires c κs =
     let t = c.before.before.before in
     let s = base t in
@@ -108,36 +108,36 @@ mark-papers-requires c κs =
     (whole t, s.pre.1, s.pre.2, r.0, r.1, r.2, r.3, r.4)
 
 -- ── the papers are marked ──
-abbrev settled : tie.After-mark-papers → tie.After-enum-told2
+abbrev settled : tie.After-mark_papers → tie.In_default-room
 settled c = c.before.before.before.before
 
-abbrev points' : tie.After-mark-papers → List ℕ
-points' c = c.mark-papers.new.1.1.1.1.1.1.1.1.1.1.1.0
+abbrev points' : tie.After-mark_papers → List ℕ
+points' c = c.mark_papers.new.1.1.1.1.1.1.1.1.1.1.1.0
 
 -- a place for each paper's points, and a paper
-places : (c : tie.After-mark-papers) → length (base (settled c)).args.claims.now ≤ length (points' c)
-places c = omega (arith, (room (settled c)).4, c.mark-papers.ensures.2.0)
+places : (c : tie.After-mark_papers) → length (base (settled c)).args.claims.now ≤ length (points' c)
+places c = omega (arith, (room (settled c)).4, c.mark_papers.ensures.2.0)
 
-some : (c : tie.After-mark-papers) → 0 < length (base (settled c)).args.claims.now
-some c = omega (arith, c.before.before.before.if1.false)
+some : (c : tie.After-mark_papers) → 0 < length (base (settled c)).args.claims.now
+some c = omega (arith, c.before.before.before.if-n-eq0.false)
 
-sum-of-requires : tie.Need-sum-of-requires
-sum-of-requires c κs = let m = c.before.before.before in (places m, (room (settled m)).0, m.mark-papers.ensures.1)
+sum-of-requires : tie.Need-sum_of-sum-requires
+sum-of-requires c κs = let m = c.before.before.before in (places m, (room (settled m)).0, m.mark_papers.ensures.1)
 
-least-of-requires : tie.Need-least-of-requires
+least-of-requires : tie.Need-least_of-least-requires
 least-of-requires c κs = let m = c.before.before.before.before.before in (places m, some m)
 
-greatest-of-requires : tie.Need-greatest-of-requires
+greatest-of-requires : tie.Need-greatest_of-greatest-requires
 greatest-of-requires c κs = let m = c.before.before.before.before.before.before.before in (places m, some m)
 
 -- the places of the figures
-abbrev lowest : tie.After-greatest-of → tie.After-least-of
+abbrev lowest : tie.After-greatest_of-greatest → tie.After-least_of-least
 lowest c = c.before.before
 
-abbrev added : tie.After-greatest-of → tie.After-sum-of
+abbrev added : tie.After-greatest_of-greatest → tie.After-sum_of-sum
 added c = (lowest c).before.before
 
-abbrev marked : tie.After-greatest-of → tie.After-mark-papers
+abbrev marked : tie.After-greatest_of-greatest → tie.After-mark_papers
 marked c = (added c).before.before.before.before
 
 narrow-requires : tie.Need-narrow-requires
@@ -146,20 +146,20 @@ narrow-requires c κs = omega (arith, (room (settled (marked c))).0)
 narrow-requires-2 : tie.Need-narrow-requires-2
 narrow-requires-2 c κs = (added c.before).sum_of.ensures.1
 
-slice-read-t40 : tie.Need-slice-read-t40
+slice-read-t40 : tie.Need-bounds-points-least
 slice-read-t40 c =
     let g = c.before.before.before in
     omega (arith, (lowest g).least_of.ensures.0, places (marked g))
 
-slice-read-t42 : tie.Need-slice-read-t42
+slice-read-t42 : tie.Need-bounds-points-greatest
 slice-read-t42 c =
     let g = c.before.before.before.before in
-    omega (arith, g.greatest-of.ensures.0, places (marked g))
+    omega (arith, g.greatest_of-greatest.ensures.0, places (marked g))
 
-same_length : tie.Need-same-length
+same_length : tie.Need-shape_of-points
 same_length c = let g = c.before.before.before.before in (marked g).mark-papers.ensures.2.0
 
-returns-4 : tie.Need-returns-4
+returns-4 : tie.Need-returns
 returns-4 c =
     let n = c.before.before.before in
     let g = n.before in
@@ -170,26 +170,26 @@ returns-4 c =
     let f = m.before.before in (
       class_accepted a.sheet.now a.source a.sink a.value _ _ _ _ _ s.pre.0 (passed (checked t)) (accepted t),
       (
-        f.find-largest.result,
-        f.find-largest.ensures,
+        f.find_largest-largest.result,
+        f.find_largest-largest.ensures,
         λ q l. subst
-            (λ v. Points a.sheet.now a.source a.sink v f.find-largest.result
+            (λ v. Points a.sheet.now a.source a.sink v f.find_largest-largest.result
             (paper_of a.sheet.now a.claims.now a.kinds.now a.settings.now a.sets.now q) (at (points' m) q))
-            (number_of_bits _ s.fits.value) (m.mark-papers.ensures.0 q l),
+            (number_of_bits _ s.fits.value) (m.mark_papers.ensures.0 q l),
       ),
-      m.mark-papers.ensures.2,
+      m.mark_papers.ensures.2,
       record {
         number_is = n.narrow.ensures;
-        sum_is = c.before.before.narrow2.ensures ∙ (added g).sum_of.ensures.0;
+        sum_is = c.before.before.narrow-2.ensures ∙ (added g).sum_of.ensures.0;
         least_reached = ((lowest g).least_of.result, (lowest g).least_of.ensures.0, refl);
         least_below = (lowest g).least_of.ensures.1;
-        greatest_reached = (g.greatest-of.result, g.greatest-of.ensures.0, refl);
-        greatest_above = g.greatest-of.ensures.1;
+        greatest_reached = (g.greatest_of-greatest.result, g.greatest_of-greatest.ensures.0, refl);
+        greatest_above = g.greatest_of-greatest.ensures.1;
       },
     )
 
-pub examine-counted-spec : {M : Type 1} → statement M
-examine-counted-spec =
+pub examine_counted_spec : {M : Type 1} → statement M
+examine_counted_spec =
     tie.close
     (tie.spec
     (λ c κs. search rules)

@@ -15,40 +15,40 @@ use Rattle.desk.proofs.Asking.{value_largest, none_largest, never_refused}
 use Rattle.desk.proofs.find_largest.Statement.{statement}
 use Rattle.desk.proofs.find_largest.Tie as tie
 
-abbrev start : tie.After-largest → tie.Start
+abbrev start : tie.After-largest-answer → tie.Start
 start c = c.before.before.before.before
 
-abbrev flows' : tie.After-largest → List ℤ
-flows' c = c.largest.new.1.1.1.0
+abbrev flows' : tie.After-largest-answer → List ℤ
+flows' c = c.largest-answer.new.1.1.1.0
 
-abbrev set' : tie.After-largest → List ℕ
-set' c = c.largest.new.1.1.1.1.0
+abbrev set' : tie.After-largest-answer → List ℕ
+set' c = c.largest-answer.new.1.1.1.1.0
 
-found : (c : tie.After-largest) (answer : LargestAnswer) → c.largest.result ≡ answer
+found : (c : tie.After-largest-answer) (answer : LargestAnswer) → c.largest-answer.result ≡ answer
     → FindsLargest (start c).args.sheet.now (start c).args.source (start c).args.sink
     (replicate 512 (pos 0)) (flows' c) (replicate 9 0) (set' c) answer
-found c answer e = rw e at c.largest.ensures
+found c answer e = rw e at c.largest-answer.ensures
 
-returns : tie.Need-returns
+returns : tie.Need-returns-in-Value
 returns c =
     let l = c.before.before.before.before.before in
     let s = start l in
     subst (λ v. IsLargest s.args.sheet.now s.args.source s.args.sink (Value v))
-    (sym (number_of_bits _ (record { sfits = c.known-told.given.0.1 })))
-    (value_largest _ _ _ s.pre _ (flows' l) (set' l) (found l (largest.Value _) c.before.answer.given.1))
+    (sym (number_of_bits _ (record { sfits = c.known_told-1.given.0.1 })))
+    (value_largest _ _ _ s.pre _ (flows' l) (set' l) (found l (largest.Value _) c.before.answer-1.given.1))
 
-returns-2 : tie.Need-returns-2
+returns-2 : tie.Need-returns-in-None
 returns-2 c =
     let l = c.before.before.before.before in
-    none_largest _ _ _ (start l).requires (flows' l) (set' l) (found l largest.None c.enum_told.given.1)
+    none_largest _ _ _ (start l).requires (flows' l) (set' l) (found l largest.None c.enum_told-1.given.1)
 
-returns-3 : tie.Need-returns-3
+returns-3 : tie.Need-returns-in-Refused
 returns-3 c =
     let l = c.before.before.before.before.before in
-    absurd (never_refused _ _ _ (start l).requires _ _ (flows' l) (set' l) (found l (largest.Refused _ _) c.before.answer2.given.1))
+    absurd (never_refused _ _ _ (start l).requires _ _ (flows' l) (set' l) (found l (largest.Refused _ _) c.before.answer-in-Refused-1.given.1))
 
-pub find-largest-spec : {M : Type 1} → statement M
-find-largest-spec =
+pub find_largest_spec : {M : Type 1} → statement M
+find_largest_spec =
     tie.close
     (tie.spec
     (λ c. search rules)

@@ -5,22 +5,22 @@ use Rattle.desk.proofs.Judging.{of_value, of_none}
 use Rattle.desk.proofs.last_six.Statement.{statement}
 use Rattle.desk.proofs.last_six.Tie as tie
 
-returns : tie.Need-returns
+returns : tie.Need-returns-in-Value
 returns c =
     let t = c.before in
     let a = t.before.before.before.args in
-    of_value a.largest _ _ a.claim _ _ a.from a.into _ t.before.largest.given.1
-    (number_of_bits _ (record { sfits = t.known-told.given.0.1 })) (number_of_bits _ t.before.before.before.ranges.total) c.value-points.ensures
+    of_value a.largest-1 _ _ a.claim _ _ a.from a.into _ t.before.largest-1.given.1
+    (number_of_bits _ (record { sfits = t.known_told-1.given.0.1 })) (number_of_bits _ t.before.before.before.ranges.total) c.value_points.ensures
 
-returns-2 : tie.Need-returns-2
+returns-2 : tie.Need-returns-in-None
 returns-2 c =
     let t = c.before in
     let a = t.before.before.args in
-    of_none a.largest a.claim _ _ a.from a.into _ t.enum_told.given.1
-    (number_of_bits _ t.before.before.ranges.total) c.none-points.ensures
+    of_none a.largest-1 a.claim _ _ a.from a.into _ t.enum_told-1.given.1
+    (number_of_bits _ t.before.before.ranges.total) c.none_points.ensures
 
-pub last-six-spec : {M : Type 1} → statement M
-last-six-spec =
+pub last_six_spec : {M : Type 1} → statement M
+last_six_spec =
     tie.close
     (tie.spec
     (λ c. search rules)

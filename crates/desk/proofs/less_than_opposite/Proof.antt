@@ -13,7 +13,7 @@ returns : tie.Need-returns
 returns c =
     let f = c.before.ranges in
     ap (λ x. lt_z x (negsuc 0))
-    (to_z-of_z w64 _ (record { sfits = c.add32.type-inv }) ∙ c.add32.ensures ∙ ap₂ ◌+ℤ◌ (number_of_bits _ f.x) (number_of_bits _ f.v))
+    (to_z-of_z w64 _ (record { sfits = c.add32.type_inv }) ∙ c.add32.ensures ∙ ap₂ ◌+ℤ◌ (number_of_bits _ f.x) (number_of_bits _ f.v))
 
-pub less-than-opposite-spec : {M : Type 1} → statement M
-less-than-opposite-spec = tie.close (tie.spec (λ c κs. search rules) returns)
+pub less_than_opposite_spec : {M : Type 1} → statement M
+less_than_opposite_spec = tie.close (tie.spec (λ c κs. search rules) returns)

@@ -16,136 +16,136 @@ use Rattle.desk.proofs.Marking.{ends_before, small_end, part_long, Halfway, half
 use Rattle.desk.proofs.mark_papers.Statement.{statement}
 use Rattle.desk.proofs.mark_papers.Tie as tie
 
-abbrev invariant-loop : tie.invariant-loop
+abbrev invariant-loop : tie.invariant-loop-q
 invariant-loop sheet nodes edges source sink value largest claims kinds settings sets points₀ n words q₀ points q =
     (q ≤ n) × (n ≡ length claims) × (words ≡ words_for nodes) × (words ≤ 9)
     × Halfway (λ j m. Points sheet source sink (to_z w32 value) largest (paper_of sheet claims kinds settings sets j) m) points₀ q points
 
-abbrev decreases-loop : tie.decreases-loop
+abbrev decreases-loop : tie.decreases-loop-q
 decreases-loop sheet nodes edges source sink value largest claims kinds settings sets points₀ n words q₀ points q =
     n - q
 
-words-for-requires : tie.Need-words-for-requires invariant-loop decreases-loop
+words-for-requires : tie.Need-words_for-words-requires invariant-loop decreases-loop
 words-for-requires c κs =
     let s = c.before.before.before.before in
     omega (arith, s.requires.1, (counts_fit _ s.requires.0.sheet).0)
 
-loop-holds : tie.Need-loop-init invariant-loop decreases-loop
-loop-holds c = (omega arith, refl, c.words-for.ensures.0, c.words-for.ensures.1, halfway_start _ _)
+loop-holds : tie.Need-loop-q-init invariant-loop decreases-loop
+loop-holds c = (omega arith, refl, c.words_for-words.ensures.0, c.words_for-words.ensures.1, halfway_start _ _)
 
 -- ── where the stretches of paper q end ──
-abbrev begun : tie.In-loop invariant-loop decreases-loop → tie.Start invariant-loop decreases-loop
+abbrev begun : tie.In-loop-q invariant-loop decreases-loop → tie.Start invariant-loop decreases-loop
 begun c = c.before.before.before.before.before.before.before
 
-abbrev words-at : tie.In-loop invariant-loop decreases-loop → ℕ
-words-at c = c.before.before.words-for.result
+abbrev words-at : tie.In-loop-q invariant-loop decreases-loop → ℕ
+words-at c = c.before.before.words_for-words.result
 
-edges_few : (c : tie.In-loop invariant-loop decreases-loop) → (begun c).args.edges ≤ 512
+edges_few : (c : tie.In-loop-q invariant-loop decreases-loop) → (begun c).args.edges ≤ 512
 edges_few c = let s = begun c in omega (arith, s.pre.2, (counts_fit _ s.pre.0.sheet).1)
 
-settings_small : (c : tie.In-loop invariant-loop decreases-loop) → c.before.loop.q * (begun c).args.edges + (begun c).args.edges ≤ 512000
-settings_small c = small_end _ _ _ c.loop-test.true (begun c).requires.3 (edges_few c)
+settings_small : (c : tie.In-loop-q invariant-loop decreases-loop) → c.before.loop-q.q * (begun c).args.edges + (begun c).args.edges ≤ 512000
+settings_small c = small_end _ _ _ c.loop-q-test.true (begun c).requires.3 (edges_few c)
 
-sets-small : (c : tie.In-loop invariant-loop decreases-loop) → c.before.loop.q * words-at c + words-at c ≤ 512000
-sets-small c = small_end _ _ _ c.loop-test.true (begun c).requires.3 (omega (arith, c.before.loop.invariant.3))
+sets-small : (c : tie.In-loop-q invariant-loop decreases-loop) → c.before.loop-q.q * words-at c + words-at c ≤ 512000
+sets-small c = small_end _ _ _ c.loop-q-test.true (begun c).requires.3 (omega (arith, c.before.loop-q.invariant.3))
 
-settings-room : (c : tie.In-loop invariant-loop decreases-loop) → c.before.loop.q * (begun c).args.edges + (begun c).args.edges ≤ length (begun c).args.settings.now
+settings-room : (c : tie.In-loop-q invariant-loop decreases-loop) → c.before.loop-q.q * (begun c).args.edges + (begun c).args.edges ≤ length (begun c).args.settings.now
 settings-room c =
-    omega (arith, ends_before (begun c).args.edges c.before.loop.q (length (begun c).args.claims.now) c.loop-test.true, (begun c).requires.5)
+    omega (arith, ends_before (begun c).args.edges c.before.loop-q.q (length (begun c).args.claims.now) c.loop-q-test.true, (begun c).requires.5)
 
-sets_room : (c : tie.In-loop invariant-loop decreases-loop) → c.before.loop.q * words-at c + words-at c ≤ length (begun c).args.sets.now
+sets_room : (c : tie.In-loop-q invariant-loop decreases-loop) → c.before.loop-q.q * words-at c + words-at c ≤ length (begun c).args.sets.now
 sets_room c =
-    let all = subst (λ w. length (begun c).args.claims.now * w ≤ length (begun c).args.sets.now) (sym c.before.loop.invariant.2) (begun c).requires.6 in
-    omega (arith, ends_before (words-at c) c.before.loop.q (length (begun c).args.claims.now) c.loop-test.true, all)
+    let all = subst (λ w. length (begun c).args.claims.now * w ≤ length (begun c).args.sets.now) (sym c.before.loop-q.invariant.2) (begun c).requires.6 in
+    omega (arith, ends_before (words-at c) c.before.loop-q.q (length (begun c).args.claims.now) c.loop-q-test.true, all)
 
-mul-start : tie.Need-overflow-mul-start invariant-loop decreases-loop
+mul-start : tie.Need-overflow_mul-start invariant-loop decreases-loop
 mul-start c = record { fits = omega (arith, settings_small c) }
 
-add-end : tie.Need-overflow-add-end invariant-loop decreases-loop
+add-end : tie.Need-overflow_add-end invariant-loop decreases-loop
 add-end c = record { fits = omega (arith, settings_small c) }
 
-mul-word : tie.Need-overflow-mul-word invariant-loop decreases-loop
+mul-word : tie.Need-overflow_mul-word invariant-loop decreases-loop
 mul-word c = record { fits = omega (arith, sets-small c) }
 
-add-past : tie.Need-overflow-add-past invariant-loop decreases-loop
+add-past : tie.Need-overflow_add-past invariant-loop decreases-loop
 add-past c = record { fits = omega (arith, sets-small c) }
 
-shared-slice-read-claim-of : tie.Need-shared-slice-read-claim-of invariant-loop decreases-loop
-shared-slice-read-claim-of c = omega (arith, c.before.loop-test.true, (begun c.before).pre.4)
+shared-slice-read-claim-of : tie.Need-bounds-kinds-q invariant-loop decreases-loop
+shared-slice-read-claim-of c = omega (arith, c.before.loop-q-test.true, (begun c.before).pre.4)
 
-mul-paper-points : tie.Need-overflow-mul-paper-points invariant-loop decreases-loop
+mul-paper-points : tie.Need-offset_bounds-settings-start invariant-loop decreases-loop
 mul-paper-points c = record { fits = omega (arith, settings_small c.before.before.before) }
 
-part-paper-points-end : tie.Need-slice-bounds-paper-points-end invariant-loop decreases-loop
+part-paper-points-end : tie.Need-slice_bounds-paper_points-end invariant-loop decreases-loop
 part-paper-points-end c = settings-room c.before.before.before
 
-mul-paper-points-2 : tie.Need-overflow-mul-paper-points-2 invariant-loop decreases-loop
+mul-paper-points-2 : tie.Need-offset_bounds-sets-word invariant-loop decreases-loop
 mul-paper-points-2 c = record { fits = omega (arith, sets-small c.before.before.before.before) }
 
 part-paper-points-end-2 : tie.Need-slice-bounds-paper-points-end-2 invariant-loop decreases-loop
 part-paper-points-end-2 c = sets_room c.before.before.before.before
 
-paper-points-requires : tie.Need-paper-points-requires invariant-loop decreases-loop
+paper-points-requires : tie.Need-paper_points-requires invariant-loop decreases-loop
 paper-points-requires c κs =
     let t = c.before.before.before.before.before in
     let s = begun t in
     let e = s.args.edges in
     let w = words-at t in
-    let q = t.before.loop.q in (
+    let q = t.before.loop-q.q in (
       s.pre.0,
       part_long q e (q * e + e - q * e) s.args.settings.now (edges_of s.args.sheet.now) s.pre.2 (omega arith) (settings-room t),
       part_long q w (q * w + w - q * w) s.args.sets.now (words_for (nodes_of s.args.sheet.now))
-          (t.before.loop.invariant.2 ∙ ap words_for s.pre.1) (omega arith) (sets_room t),
+          (t.before.loop-q.invariant.2 ∙ ap words_for s.pre.1) (omega arith) (sets_room t),
     )
 
-slice-write-points : tie.Need-slice-write-points invariant-loop decreases-loop
+slice-write-points : tie.Need-bounds-points-q invariant-loop decreases-loop
 slice-write-points c =
     let t = c.before.before.before.before.before.before in
-    omega (arith, t.loop-test.true, (begun t).requires.7, t.before.loop.invariant.4.behind.0)
+    omega (arith, t.loop-q-test.true, (begun t).requires.7, t.before.loop-q.invariant.4.behind.0)
 
 -- the claim of paper q
-claimed : (c : tie.After-claim-of invariant-loop decreases-loop)
-    → c.claim-of.result ≡ claim_of (at (begun c.before.before.before).args.kinds.now c.before.before.before.before.loop.q)
-    (atℤ (begun c.before.before.before).args.claims.now c.before.before.before.before.loop.q)
+claimed : (c : tie.After-claim_of-claim invariant-loop decreases-loop)
+    → c.claim_of-claim.result ≡ claim_of (at (begun c.before.before.before).args.kinds.now c.before.before.before.before.loop-q.q)
+    (atℤ (begun c.before.before.before).args.claims.now c.before.before.before.before.loop-q.q)
 claimed c =
-    c.claim-of.ensures
-    ∙ ap (claim_of (at (begun c.before.before.before).args.kinds.now c.before.before.before.before.loop.q))
-    (number_of_bits _ (record { sfits = c.before.claim-of-arg.given }))
+    c.claim_of-claim.ensures
+    ∙ ap (claim_of (at (begun c.before.before.before).args.kinds.now c.before.before.before.before.loop-q.q))
+    (number_of_bits _ (record { sfits = c.before.claim_of-arg-1.given }))
 
-loop-again : tie.Need-loop-preserved invariant-loop decreases-loop
+loop-again : tie.Need-loop-q-preserved invariant-loop decreases-loop
 loop-again c =
     let k = c.before.before.before in
     let t = k.before.before.before in
     let s = begun t in
-    let l = t.before.loop in
+    let l = t.before.loop-q in
     let e = s.args.edges in
     let w = words-at t in
     let q = l.q in (
-      omega (arith, t.loop-test.true),
+      omega (arith, t.loop-q-test.true),
       l.invariant.1,
       l.invariant.2,
       l.invariant.3,
-      halfway_turn _ s.args.points.now q l.points c.paper-points.result l.invariant.4 (omega (arith, t.loop-test.true, s.pre.7))
+      halfway_turn _ s.args.points.now q l.points c.paper_points.result l.invariant.4 (omega (arith, t.loop-q-test.true, s.pre.7))
           (turned s.args.sheet.now _ _ _ _ s.args.largest s.args.claims.now s.args.kinds.now s.args.settings.now
-          s.args.sets.now q e w (q * e + e - q * e) (q * w + w - q * w) k.claim-of.result _
+          s.args.sets.now q e w (q * e + e - q * e) (q * w + w - q * w) k.claim_of-claim.result _
           s.pre.2 (l.invariant.2 ∙ ap words_for s.pre.1) (omega arith) (omega arith) (claimed k) refl
-          c.paper-points.ensures.0)
-          c.paper-points.ensures.1,
+          c.paper_points.ensures.0)
+          c.paper_points.ensures.1,
     )
 
-same_length : tie.Need-same-length invariant-loop decreases-loop
-same_length c = c.before.loop.invariant.4.behind.0
+same_length : tie.Need-shape_of-points invariant-loop decreases-loop
+same_length c = c.before.loop-q.invariant.4.behind.0
 
 returns : tie.Need-returns invariant-loop decreases-loop
 returns c =
-    let l = c.before.loop in
+    let l = c.before.loop-q in
     let s = c.before.before.before.before.before.before.before in
     let a = s.args in
     all_marked a.sheet.now a.source a.sink a.value _ a.largest a.claims.now a.kinds.now a.settings.now a.sets.now
-    a.points.now l.points l.q (omega (arith, c.loop-test.false, l.invariant.0)) (number_of_bits _ s.ranges.value) l.invariant.4
+    a.points.now l.points l.q (omega (arith, c.loop-q-test.false, l.invariant.0)) (number_of_bits _ s.ranges.value) l.invariant.4
 
-pub mark-papers-spec : {M : Type 1} → statement M
-mark-papers-spec =
+pub mark_papers_spec : {M : Type 1} → statement M
+mark_papers_spec =
     tie.close
     (tie.spec
     invariant-loop

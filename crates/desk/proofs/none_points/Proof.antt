@@ -8,23 +8,23 @@ use Rattle.desk.proofs.Judging.{earned, missed}
 use Rattle.desk.proofs.none_points.Statement.{statement}
 use Rattle.desk.proofs.none_points.Tie as tie
 
-abbrev begun : tie.After-proves-none → tie.Start
+abbrev begun : tie.After-proves_none → tie.Start
 begun c = c.before.before.before
 
-proved : (c : tie.After-proves-none) → Decides (NoneBy (begun c).args.total (begun c).args.from (begun c).args.into) c.proves-none.result
-proved c = rw (number_of_bits _ (begun c).ranges.total) at c.proves-none.ensures
+proved : (c : tie.After-proves_none) → Decides (NoneBy (begun c).args.total (begun c).args.from (begun c).args.into) c.proves_none.result
+proved c = rw (number_of_bits _ (begun c).ranges.total) at c.proves_none.ensures
 
-returns : tie.Need-returns
+returns : tie.Need-returns-then-proves_none
 returns c =
     let p = c.before in
-    earned 6 (said_yes p.before.before.claims-none.ensures p.before.if1.true, said_yes (proved p) c.if2.true)
+    earned 6 (said_yes p.before.before.claims_none.ensures p.before.if-claims_none.true, said_yes (proved p) c.if-proves_none.true)
 
-returns-2 : tie.Need-returns-2
-returns-2 c = missed 6 (λ h. said_no (proved c.before) c.if2.false h.1)
+returns-2 : tie.Need-returns-else-proves_none
+returns-2 c = missed 6 (λ h. said_no (proved c.before) c.if-proves_none.false h.1)
 
-returns-3 : tie.Need-returns-3
-returns-3 c = missed 6 (λ h. said_no c.before.claims-none.ensures c.if1.false h.0)
+returns-3 : tie.Need-returns-else-claims_none
+returns-3 c = missed 6 (λ h. said_no c.before.claims_none.ensures c.if-claims_none.false h.0)
 
-pub none-points-spec : {M : Type 1} → statement M
-none-points-spec =
+pub none_points_spec : {M : Type 1} → statement M
+none_points_spec =
     tie.close (tie.spec (λ c κs. search rules) (λ c κs. search rules) returns returns-2 returns-3)

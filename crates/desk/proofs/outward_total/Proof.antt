@@ -12,31 +12,31 @@ use Rattle.desk.proofs.Asking.{total_is, total_never_refused}
 use Rattle.desk.proofs.outward_total.Statement.{statement}
 use Rattle.desk.proofs.outward_total.Tie as tie
 
-abbrev start : tie.After-totals → tie.Start
+abbrev start : tie.After-totals-answer → tie.Start
 start c = c.before.before.before.before
 
-abbrev out' : tie.After-totals → List ℤ
-out' c = c.totals.new.1.1.0
+abbrev out' : tie.After-totals-answer → List ℤ
+out' c = c.totals-answer.new.1.1.0
 
-found : (c : tie.After-totals) (answer : TotalsAnswer) → c.totals.result ≡ answer
+found : (c : tie.After-totals-answer) (answer : TotalsAnswer) → c.totals-answer.result ≡ answer
     → GivesTotals (start c).args.sheet.now (start c).args.set.now (replicate 513 (pos 0)) (out' c) answer
-found c answer e = rw e at c.totals.ensures
+found c answer e = rw e at c.totals-answer.ensures
 
-returns : tie.Need-returns
+returns : tie.Need-returns-in-Total
 returns c =
     let t = c.before.before.before.before in
     let s = start t in
-    number_of_bits _ (record { sfits = c.known-told.given.0.1 })
-    ∙ total_is _ _ s.pre.0 s.pre.1 (out' t) _ (found t (totals.Total _) c.before.answer.given.1)
+    number_of_bits _ (record { sfits = c.known_told-1.given.0.1 })
+    ∙ total_is _ _ s.pre.0 s.pre.1 (out' t) _ (found t (totals.Total _) c.before.answer-1.given.1)
 
-returns-2 : tie.Need-returns-2
+returns-2 : tie.Need-returns-in-Refused
 returns-2 c =
     let t = c.before.before.before.before in
     let s = start t in
-    absurd (total_never_refused _ _ s.pre.0 s.pre.1 (out' t) _ _ (found t (totals.Refused _ _) c.before.answer2.given.1))
+    absurd (total_never_refused _ _ s.pre.0 s.pre.1 (out' t) _ _ (found t (totals.Refused _ _) c.before.answer-in-Refused-1.given.1))
 
-pub outward-total-spec : {M : Type 1} → statement M
-outward-total-spec =
+pub outward_total_spec : {M : Type 1} → statement M
+outward_total_spec =
     tie.close
     (tie.spec
     (λ c. search rules)

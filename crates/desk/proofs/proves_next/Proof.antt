@@ -8,36 +8,36 @@ use Rattle.desk.proofs.Judging.{next_both, next_source, next_sink, next_neither}
 use Rattle.desk.proofs.proves_next.Statement.{statement}
 use Rattle.desk.proofs.proves_next.Tie as tie
 
-returns : tie.Need-returns
+returns : tie.Need-returns-then-into
 returns c =
     let s = c.before.before.before in
     let a = s.args in
-    next_both a.total a.v a.from a.into c.less.result c.before.before.if1.true c.before.if2.true
+    next_both a.total a.v a.from a.into c.less.result c.before.before.if-from.true c.before.if-into.true
     (c.less.ensures ∙ ap (λ x. lt_z x (pos 0)) (number_of_bits _ s.ranges.total))
 
-returns-2 : tie.Need-returns-2
+returns-2 : tie.Need-returns-then-from
 returns-2 c =
     let s = c.before.before.before in
     let a = s.args in
-    next_source a.total a.v a.from a.into c.less2.result c.before.before.if1.true c.before.if2.false
-    (c.less2.ensures ∙ ap₂ lt_z (number_of_bits _ s.ranges.v) (number_of_bits _ s.ranges.total))
+    next_source a.total a.v a.from a.into c.less-then-from.result c.before.before.if-from.true c.before.if-into.false
+    (c.less-then-from.ensures ∙ ap₂ lt_z (number_of_bits _ s.ranges.v) (number_of_bits _ s.ranges.total))
 
-returns-3 : tie.Need-returns-3
+returns-3 : tie.Need-returns-then-into-2
 returns-3 c =
     let s = c.before.before.before in
     let a = s.args in
-    next_sink a.total a.v a.from a.into c.less-than-opposite.result c.before.before.if1.false c.before.if3.true
-    (c.less-than-opposite.ensures ∙ ap₂ (λ x y. lt_z (x +ℤ y) (negsuc 0)) (number_of_bits _ s.ranges.total) (number_of_bits _ s.ranges.v))
+    next_sink a.total a.v a.from a.into c.less_than_opposite.result c.before.before.if-from.false c.before.if-into-2.true
+    (c.less_than_opposite.ensures ∙ ap₂ (λ x y. lt_z (x +ℤ y) (negsuc 0)) (number_of_bits _ s.ranges.total) (number_of_bits _ s.ranges.v))
 
-returns-4 : tie.Need-returns-4
+returns-4 : tie.Need-returns
 returns-4 c =
     let s = c.before.before.before in
     let a = s.args in
-    next_neither a.total a.v a.from a.into c.less3.result c.before.before.if1.false c.before.if3.false
-    (c.less3.ensures ∙ ap (λ x. lt_z x (pos 0)) (number_of_bits _ s.ranges.total))
+    next_neither a.total a.v a.from a.into c.less-2.result c.before.before.if-from.false c.before.if-into-2.false
+    (c.less-2.ensures ∙ ap (λ x. lt_z x (pos 0)) (number_of_bits _ s.ranges.total))
 
-pub proves-next-spec : {M : Type 1} → statement M
-proves-next-spec =
+pub proves_next_spec : {M : Type 1} → statement M
+proves_next_spec =
     tie.close
     (tie.spec
     (λ c κs. search rules)

@@ -9,26 +9,26 @@ use Rattle.desk.proofs.Judging.{none_same}
 use Rattle.desk.proofs.proves_none.Statement.{statement}
 use Rattle.desk.proofs.proves_none.Tie as tie
 
-returns : tie.Need-returns
+returns : tie.Need-returns-then-into
 returns c =
     let s = c.before.before.before in
     let a = s.args in
-    none_same a.total a.from a.into c.less.result (c.before.before.if1.true ∙ sym c.before.if2.true)
+    none_same a.total a.from a.into c.less.result (c.before.before.if-from.true ∙ sym c.before.if-into.true)
     (c.less.ensures ∙ ap (λ x. lt_z x (pos 0)) (number_of_bits _ s.ranges.total))
 
-returns-2 : tie.Need-returns-2
-returns-2 c = λ h. true≢false (sym c.before.if1.true ∙ h.0 ∙ c.if2.false)
+returns-2 : tie.Need-returns-then-from
+returns-2 c = λ h. true≢false (sym c.before.if-from.true ∙ h.0 ∙ c.if-into.false)
 
-returns-3 : tie.Need-returns-3
-returns-3 c = λ h. true≢false (sym c.if3.true ∙ sym h.0 ∙ c.before.if1.false)
+returns-3 : tie.Need-returns-then-into-2
+returns-3 c = λ h. true≢false (sym c.if-into-2.true ∙ sym h.0 ∙ c.before.if-from.false)
 
-returns-4 : tie.Need-returns-4
+returns-4 : tie.Need-returns
 returns-4 c =
     let s = c.before.before.before in
     let a = s.args in
-    none_same a.total a.from a.into c.less2.result (c.before.before.if1.false ∙ sym c.before.if3.false)
-    (c.less2.ensures ∙ ap (λ x. lt_z x (pos 0)) (number_of_bits _ s.ranges.total))
+    none_same a.total a.from a.into c.less-2.result (c.before.before.if-from.false ∙ sym c.before.if-into-2.false)
+    (c.less-2.ensures ∙ ap (λ x. lt_z x (pos 0)) (number_of_bits _ s.ranges.total))
 
-pub proves-none-spec : {M : Type 1} → statement M
-proves-none-spec =
+pub proves_none_spec : {M : Type 1} → statement M
+proves_none_spec =
     tie.close (tie.spec (λ c κs. search rules) returns returns-2 returns-3 (λ c κs. search rules) returns-4)

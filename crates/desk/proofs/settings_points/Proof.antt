@@ -10,29 +10,29 @@ use Rattle.desk.proofs.Asking.{marked_earns, refused_earns}
 use Rattle.desk.proofs.settings_points.Statement.{statement}
 use Rattle.desk.proofs.settings_points.Tie as tie
 
-abbrev start : tie.After-mark → tie.Start
+abbrev start : tie.After-mark-answer → tie.Start
 start c = c.before.before
 
-found : (c : tie.After-mark) (answer : MarkAnswer) → c.mark.result ≡ answer
+found : (c : tie.After-mark-answer) (answer : MarkAnswer) → c.mark-answer.result ≡ answer
     → Marks (start c).args.sheet.now (start c).args.source (start c).args.sink (start c).args.settings.now answer
-found c answer e = rw e at c.mark.ensures
+found c answer e = rw e at c.mark-answer.ensures
 
-returns : tie.Need-returns
+returns : tie.Need-returns-in-Value
 returns c =
     let t = c.before in
     let m = t.before.before.before in
     let s = start m in
-    marked_earns _ _ _ s.pre.0 s.args.value _ s.args.settings.now _ s.pre.1 (found m (mark.Value _) t.before.answer.given.1)
-    (earns_same _ _ _ _ _ (number_of_bits _ (record { sfits = t.known-told.given.0.1 })) (number_of_bits _ s.fits.value) c.value-asked.ensures)
+    marked_earns _ _ _ s.pre.0 s.args.value _ s.args.settings.now _ s.pre.1 (found m (mark.Value _) t.before.answer-1.given.1)
+    (earns_same _ _ _ _ _ (number_of_bits _ (record { sfits = t.known_told-1.given.0.1 })) (number_of_bits _ s.fits.value) c.value_asked.ensures)
 
-returns-2 : tie.Need-returns-2
+returns-2 : tie.Need-returns-in-Refused
 returns-2 c =
     let m = c.before.before.before in
     let s = start m in
-    refused_earns _ _ _ s.pre.0 s.args.value _ _ s.args.settings.now s.pre.1 (found m (mark.Refused _ _) c.before.answer2.given.1)
+    refused_earns _ _ _ s.pre.0 s.args.value _ _ s.args.settings.now s.pre.1 (found m (mark.Refused _ _) c.before.answer-in-Refused-1.given.1)
 
-pub settings-points-spec : {M : Type 1} → statement M
-settings-points-spec =
+pub settings_points_spec : {M : Type 1} → statement M
+settings_points_spec =
     tie.close
     (tie.spec
     (λ c κs. search rules)

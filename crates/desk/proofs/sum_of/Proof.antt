@@ -9,48 +9,48 @@ use Rattle.desk.proofs.Marking.{sum_next}
 use Rattle.desk.proofs.sum_of.Statement.{statement}
 use Rattle.desk.proofs.sum_of.Tie as tie
 
-abbrev invariant-loop : tie.invariant-loop
+abbrev invariant-loop : tie.invariant-loop-q
 invariant-loop points n sum₀ q₀ sum q = (q ≤ n) × (sum ≡ sumℕ q (at points)) × (sum ≤ 10 * q)
 
-abbrev decreases-loop : tie.decreases-loop
+abbrev decreases-loop : tie.decreases-loop-q
 decreases-loop points n sum₀ q₀ sum q = n - q
 
 none : (f : ℕ → ℕ) → 0 ≡ sumℕ 0 f
 unfolding sum
 none f = refl
 
-loop-holds : tie.Need-loop-init invariant-loop decreases-loop
+loop-holds : tie.Need-loop-q-init invariant-loop decreases-loop
 loop-holds c = (omega arith, none _, omega arith)
 
 -- the points of paper q
-few : (c : tie.After-wide-points invariant-loop decreases-loop) → c.wide-points.result ≤ 10
+few : (c : tie.After-wide_points-sum invariant-loop decreases-loop) → c.wide_points-sum.result ≤ 10
 few c =
     let t = c.before.before in
-    omega (arith, c.wide-points.ensures, t.before.before.before.requires.2 t.before.loop.q t.loop-test.true)
+    omega (arith, c.wide_points-sum.ensures, t.before.before.before.requires.2 t.before.loop-q.q t.loop-q-test.true)
 
-add-sum : tie.Need-overflow-add-sum invariant-loop decreases-loop
+add-sum : tie.Need-overflow_add-sum invariant-loop decreases-loop
 add-sum c =
     let t = c.before.before in
-    record { fits = omega (arith, few c, t.before.loop.invariant.2, t.loop-test.true, t.before.before.before.requires.1) }
+    record { fits = omega (arith, few c, t.before.loop-q.invariant.2, t.loop-q-test.true, t.before.before.before.requires.1) }
 
-loop-again : tie.Need-loop-preserved invariant-loop decreases-loop
+loop-again : tie.Need-loop-q-preserved invariant-loop decreases-loop
 loop-again c =
     let t = c.before.before in
-    let l = t.before.loop in (
-      omega (arith, t.loop-test.true),
-      ap₂ ◌+◌ l.invariant.1 c.wide-points.ensures ∙ sym (sum_next l.q (at t.before.before.before.args.points.now)),
+    let l = t.before.loop-q in (
+      omega (arith, t.loop-q-test.true),
+      ap₂ ◌+◌ l.invariant.1 c.wide_points-sum.ensures ∙ sym (sum_next l.q (at t.before.before.before.args.points.now)),
       omega (arith, few c, l.invariant.2),
     )
 
 returns : tie.Need-returns invariant-loop decreases-loop
 returns c =
-    let l = c.before.loop in
+    let l = c.before.loop-q in
     let s = c.before.before.before in
-    let whole : l.q ≡ s.args.n = omega (arith, c.loop-test.false, l.invariant.0) in
+    let whole : l.q ≡ s.args.n = omega (arith, c.loop-q-test.false, l.invariant.0) in
     (l.invariant.1 ∙ ap (λ k. sumℕ k (at s.args.points.now)) whole, omega (arith, l.invariant.2, l.invariant.0, s.requires.1))
 
-pub sum-of-spec : {M : Type 1} → statement M
-sum-of-spec =
+pub sum_of_spec : {M : Type 1} → statement M
+sum_of_spec =
     tie.close
     (tie.spec
     invariant-loop

@@ -10,29 +10,29 @@ use Rattle.dimacs.proofs.arc_length.Statement.{statement}
 use Rattle.dimacs.proofs.arc_length.Tie as tie
 
 -- ── the digits of each ──
-tail-digits : (c : tie.After-digit-count) → (c.digit-count.result ≡ long (c.before.before.args.tail + 1)) × (c.digit-count.result ≤ 10)
-tail-digits c = let n = c.before.node-number in counted c.digit-count.ensures n.ensures (omega (arith, n.type-inv))
+tail-digits : (c : tie.After-digit_count) → (c.digit_count.result ≡ long (c.before.before.args.tail + 1)) × (c.digit_count.result ≤ 10)
+tail-digits c = let n = c.before.node_number in counted c.digit_count.ensures n.ensures (omega (arith, n.type_inv))
 
-head-digits : (c : tie.After-digit-count2)
-    → (c.digit-count2.result ≡ long (c.before.before.before.before.args.head + 1)) × (c.digit-count2.result ≤ 10)
-head-digits c = let n = c.before.node-number2 in counted c.digit-count2.ensures n.ensures (omega (arith, n.type-inv))
+head-digits : (c : tie.After-digit_count-2)
+    → (c.digit_count-2.result ≡ long (c.before.before.before.before.args.head + 1)) × (c.digit_count-2.result ≤ 10)
+head-digits c = let n = c.before.node_number-2 in counted c.digit_count-2.ensures n.ensures (omega (arith, n.type_inv))
 
-abbrev start : tie.After-digit-count3 → tie.Start
+abbrev start : tie.After-digit_count-3 → tie.Start
 start c = c.before.before.before.before.before.before
 
-capacity-digits : (c : tie.After-digit-count3) → (c.digit-count3.result ≡ long (natural (start c).args.capacity)) × (c.digit-count3.result ≤ 10)
+capacity-digits : (c : tie.After-digit_count-3) → (c.digit_count-3.result ≡ long (natural (start c).args.capacity)) × (c.digit_count-3.result ≤ 10)
 capacity-digits c =
-    let n = c.before.capacity-number in
-    counted c.digit-count3.ensures (n.ensures ∙ ap natural (number_of_bits _ (start c).ranges.capacity)) (omega (arith, n.type-inv))
+    let n = c.before.capacity_number in
+    counted c.digit_count-3.ensures (n.ensures ∙ ap natural (number_of_bits _ (start c).ranges.capacity)) (omega (arith, n.type_inv))
 
 -- ── the needs, in the order of the code ──
-add-ends : tie.Need-overflow-add-ends
+add-ends : tie.Need-overflow_add-ends
 add-ends c = record { fits = omega (arith, (tail-digits c.before.before).1, (head-digits c).1) }
 
-add-result : tie.Need-overflow-add-result
+add-result : tie.Need-overflow_add-result
 add-result c = record { fits = omega (arith, (tail-digits c.before.before.before.before).1, (head-digits c.before.before).1, (capacity-digits c).1) }
 
-add-result-2 : tie.Need-overflow-add-result-2
+add-result-2 : tie.Need-overflow_add-result-2
 add-result-2 c = record { fits = omega (arith, (tail-digits c.before.before.before.before).1, (head-digits c.before.before).1, (capacity-digits c).1) }
 
 returns : tie.Need-returns
@@ -43,8 +43,8 @@ returns c =
     let k = capacity-digits c in
     (omega (arith, a.0, b.0, k.0, arc_length s.args.tail s.args.head s.args.capacity), omega (arith, a.1, b.1, k.1))
 
-pub arc-length-spec : {M : Type 1} → statement M
-arc-length-spec =
+pub arc_length_spec : {M : Type 1} → statement M
+arc_length_spec =
     tie.close
     (tie.spec
     (λ c κs. search rules)

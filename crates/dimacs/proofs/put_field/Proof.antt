@@ -8,7 +8,7 @@ returns : tie.Need-returns
 returns c =
     let p = c.before.before in
     let d = p.before.before.before.before in
-    placed_then _ _ _ _ _ _ _ _ d.put-decimal.ensures p.put-bytes.ensures d.before.before.before.before.requires
+    placed_then _ _ _ _ _ _ _ _ d.put_decimal-end.ensures p.put_bytes.ensures d.before.before.before.before.requires
 
-pub put-field-spec : {M : Type 1} → statement M
-put-field-spec = tie.close (tie.spec (λ c κs. search rules) (λ c κs. search rules) (λ c. search rules) returns)
+pub put_field_spec : {M : Type 1} → statement M
+put_field_spec = tie.close (tie.spec (λ c κs. search rules) (λ c κs. search rules) (λ c. search rules) returns)

@@ -27,7 +27,7 @@ sink s = node_line s.args.sink 116
 abbrev arcs : tie.Start → List ℕ
 arcs s = arc_lines s.args.tails.now s.args.capacities.now (2 * s.args.edges)
 
-room : (s : tie.Start) → 0 + (length (problem s) + (length (source s) + (length (sink s) + length (arcs s)))) ≤ length s.args.text.now
+room : (s : tie.Start) → 0 + (length (problem s) + (length (source s) + (length (sink s) + length (arcs s)))) ≤ length s.args.text-1.now
 room s =
     let a = s.args in
     omega (
@@ -37,56 +37,56 @@ room s =
     )
 
 -- ── the problem line ──
-abbrev start : tie.After-put-problem → tie.Start
+abbrev start : tie.After-put_problem-first → tie.Start
 start c = c.before.before.before
 
-problem-room : (c : tie.After-put-problem)
-    → c.put-problem.result + (length (source (start c)) + (length (sink (start c)) + length (arcs (start c)))) ≤ length c.put-problem.new.0
-problem-room c = placed_room (length (problem (start c))) _ 0 _ _ _ _ c.put-problem.ensures (omega arith) (room (start c))
+problem-room : (c : tie.After-put_problem-first)
+    → c.put_problem-first.result + (length (source (start c)) + (length (sink (start c)) + length (arcs (start c)))) ≤ length c.put_problem-first.new.0
+problem-room c = placed_room (length (problem (start c))) _ 0 _ _ _ _ c.put_problem-first.ensures (omega arith) (room (start c))
 
 -- ── the source ──
-abbrev posed : tie.After-put-node → tie.After-put-problem
+abbrev posed : tie.After-put_node-second → tie.After-put_problem-first
 posed c = c.before.before.before.before.before
 
-source-placed : (c : tie.After-put-node)
-    → Placed (posed c).put-problem.result (source (start (posed c))) (posed c).put-problem.new.0 c.put-node.new.0 c.put-node.result
+source-placed : (c : tie.After-put_node-second)
+    → Placed (posed c).put-problem.result (source (start (posed c))) (posed c).put-problem.new.0 c.put_node-second.new.0 c.put_node-second.result
 unfolding node_line
-source-placed c = c.put-node.ensures
+source-placed c = c.put_node-second.ensures
 
-source-room : (c : tie.After-put-node)
-    → c.put-node.result + (length (sink (start (posed c))) + length (arcs (start (posed c)))) ≤ length c.put-node.new.0
+source-room : (c : tie.After-put_node-second)
+    → c.put_node-second.result + (length (sink (start (posed c))) + length (arcs (start (posed c)))) ≤ length c.put_node-second.new.0
 source-room c = placed_room (length (source (start (posed c)))) _ _ _ _ _ _ (source-placed c) (omega arith) (problem-room (posed c))
 
 -- ── the sink ──
-abbrev sourced : tie.After-put-node2 → tie.After-put-node
+abbrev sourced : tie.After-put_node-third → tie.After-put_node-second
 sourced c = c.before.before.before.before.before
 
-abbrev begun : tie.After-put-node2 → tie.Start
+abbrev begun : tie.After-put_node-third → tie.Start
 begun c = start (posed (sourced c))
 
-sink-placed : (c : tie.After-put-node2)
-    → Placed (sourced c).put-node.result (sink (begun c)) (sourced c).put-node.new.0 c.put-node2.new.0 c.put-node2.result
+sink-placed : (c : tie.After-put_node-third)
+    → Placed (sourced c).put-node.result (sink (begun c)) (sourced c).put-node.new.0 c.put_node-third.new.0 c.put_node-third.result
 unfolding node_line
-sink-placed c = c.put-node2.ensures
+sink-placed c = c.put_node-third.ensures
 
-sink-room : (c : tie.After-put-node2) → c.put-node2.result + length (arcs (begun c)) ≤ length c.put-node2.new.0
+sink-room : (c : tie.After-put_node-third) → c.put_node-third.result + length (arcs (begun c)) ≤ length c.put_node-third.new.0
 sink-room c = placed_room (length (sink (begun c))) _ _ _ _ _ _ (sink-placed c) (omega arith) (source-room (sourced c))
 
 -- ── the needs, in the order of the code ──
-put-problem-requires : tie.Need-put-problem-requires
+put-problem-requires : tie.Need-put_problem-first-requires
 put-problem-requires c κs =
     let s = c.before.before in
     (s.requires.0, omega (arith, s.requires.1), omega (arith, room s))
 
-put-node-requires : tie.Need-put-node-requires
+put-node-requires : tie.Need-put_node-second-requires
 unfolding node_line
 put-node-requires c κs = omega (arith, problem-room c.before.before.before.before)
 
-put-node-requires-2 : tie.Need-put-node-requires-2
+put-node-requires-2 : tie.Need-put_node-third-requires
 unfolding node_line
 put-node-requires-2 c κs = omega (arith, source-room c.before.before.before.before)
 
-put-arcs-requires : tie.Need-put-arcs-requires
+put-arcs-requires : tie.Need-put_arcs-requires
 put-arcs-requires c κs =
     let n = c.before.before.before in
     (omega (arith, (begun n).requires.1), sink-room n)
@@ -98,10 +98,10 @@ returns c =
     let n = last.before.before.before.before in
     let s = begun n in
     four_placed _ _ _ _ _ _ _ _ _ _ _ _ _ _ (posed (sourced n)).put-problem.ensures (source-placed (sourced n)) (sink-placed n)
-    last.put-arcs.ensures (omega (arith, room s))
+    last.put_arcs.ensures (omega (arith, room s))
 
-pub put-text-spec : {M : Type 1} → statement M
-put-text-spec =
+pub put_text_spec : {M : Type 1} → statement M
+put_text_spec =
     tie.close
     (tie.spec
     (λ c. search rules)

@@ -12,38 +12,38 @@ use Rattle.arrays.specs.At.{atℤ}
 use Rattle.dimacs.proofs.some_negative.Statement.{statement}
 use Rattle.dimacs.proofs.some_negative.Tie as tie
 
-abbrev invariant-loop : tie.invariant-loop
+abbrev invariant-loop : tie.invariant-loop-d
 invariant-loop capacities darts d₀ d = (d ≤ darts) × ((i : ℕ) → i < d → atℤ capacities i <ℤ pos 0 → ⊥)
 
-abbrev decreases-loop : tie.decreases-loop
+abbrev decreases-loop : tie.decreases-loop-d
 decreases-loop capacities darts d₀ d = darts - d
 
-loop-holds : tie.Need-loop-init invariant-loop decreases-loop
+loop-holds : tie.Need-loop-d-init invariant-loop decreases-loop
 loop-holds c = (omega arith, λ i l. absurd (omega arith))
 
 -- the test of dart d, on the number in the array
 judged-here : (c : tie.After-negative invariant-loop decreases-loop)
-    → Decides (atℤ c.before.before.before.before.args.capacities.now c.before.before.before.loop.d <ℤ pos 0) c.negative.result
+    → Decides (atℤ c.before.before.before.before.args.capacities.now c.before.before.before.loop-d.d <ℤ pos 0) c.negative.result
 judged-here c =
-    rw (number_of_bits (atℤ c.before.before.before.before.args.capacities.now c.before.before.before.loop.d)
-    (record { sfits = c.before.negative-arg.given }))
+    rw (number_of_bits (atℤ c.before.before.before.before.args.capacities.now c.before.before.before.loop-d.d)
+    (record { sfits = c.before.negative-arg-1.given }))
     at c.negative.ensures
 
-returns : tie.Need-returns invariant-loop decreases-loop
+returns : tie.Need-returns-then-negative invariant-loop decreases-loop
 returns c =
-    let o = c.before.before.before.before.loop in
-    (o.d, omega (arith, c.before.before.before.loop-test.true), said_yes (judged-here c.before) c.if1.true)
+    let o = c.before.before.before.before.loop-d in
+    (o.d, omega (arith, c.before.before.before.loop-d-test.true), said_yes (judged-here c.before) c.if-negative.true)
 
-loop-again : tie.Need-loop-preserved invariant-loop decreases-loop
+loop-again : tie.Need-loop-d-preserved invariant-loop decreases-loop
 loop-again c =
-    let o = c.before.before.before.before.loop in
-    (omega arith, below_more _ o.d o.invariant.1 (said_no (judged-here c.before) c.if1.false))
+    let o = c.before.before.before.before.loop-d in
+    (omega arith, below_more _ o.d o.invariant.1 (said_no (judged-here c.before) c.if-negative.false))
 
-returns-2 : tie.Need-returns-2 invariant-loop decreases-loop
-returns-2 c = λ h. c.before.loop.invariant.1 h.0 (omega (arith, h.1, c.loop-test.false)) h.2
+returns-2 : tie.Need-returns invariant-loop decreases-loop
+returns-2 c = λ h. c.before.loop-d.invariant.1 h.0 (omega (arith, h.1, c.loop-d-test.false)) h.2
 
-pub some-negative-spec : {M : Type 1} → statement M
-some-negative-spec =
+pub some_negative_spec : {M : Type 1} → statement M
+some_negative_spec =
     tie.close
     (tie.spec
     invariant-loop

@@ -11,40 +11,40 @@ use Rattle.dimacs.proofs.text_length.Statement.{statement}
 use Rattle.dimacs.proofs.text_length.Tie as tie
 
 -- ── the digits of each ──
-nodes-digits : (c : tie.After-digit-count) → (c.digit-count.result ≡ long c.before.before.args.nodes) × (c.digit-count.result ≤ 10)
-nodes-digits c = let n = c.before.count in counted c.digit-count.ensures n.ensures (omega (arith, n.type-inv))
+nodes-digits : (c : tie.After-digit_count) → (c.digit_count.result ≡ long c.before.before.args.nodes) × (c.digit_count.result ≤ 10)
+nodes-digits c = let n = c.before.count in counted c.digit_count.ensures n.ensures (omega (arith, n.type_inv))
 
-arcs-digits : (c : tie.After-digit-count2)
-    → (c.digit-count2.result ≡ long (2 * c.before.before.before.before.args.edges)) × (c.digit-count2.result ≤ 10)
-arcs-digits c = let n = c.before.count2 in counted c.digit-count2.ensures n.ensures (omega (arith, n.type-inv))
+arcs-digits : (c : tie.After-digit_count-2)
+    → (c.digit_count-2.result ≡ long (2 * c.before.before.before.before.args.edges)) × (c.digit_count-2.result ≤ 10)
+arcs-digits c = let n = c.before.count-2 in counted c.digit_count-2.ensures n.ensures (omega (arith, n.type_inv))
 
-source-digits : (c : tie.After-digit-count3)
-    → (c.digit-count3.result ≡ long (c.before.before.before.before.before.before.args.source + 1)) × (c.digit-count3.result ≤ 10)
-source-digits c = let n = c.before.node-number in counted c.digit-count3.ensures n.ensures (omega (arith, n.type-inv))
+source-digits : (c : tie.After-digit_count-3)
+    → (c.digit_count-3.result ≡ long (c.before.before.before.before.before.before.args.source + 1)) × (c.digit_count-3.result ≤ 10)
+source-digits c = let n = c.before.node_number in counted c.digit_count-3.ensures n.ensures (omega (arith, n.type_inv))
 
-abbrev start : tie.After-digit-count4 → tie.Start
+abbrev start : tie.After-digit_count-4 → tie.Start
 start c = c.before.before.before.before.before.before.before.before
 
-sink-digits : (c : tie.After-digit-count4) → (c.digit-count4.result ≡ long ((start c).args.sink + 1)) × (c.digit-count4.result ≤ 10)
-sink-digits c = let n = c.before.node-number2 in counted c.digit-count4.ensures n.ensures (omega (arith, n.type-inv))
+sink-digits : (c : tie.After-digit_count-4) → (c.digit_count-4.result ≡ long ((start c).args.sink + 1)) × (c.digit_count-4.result ≤ 10)
+sink-digits c = let n = c.before.node_number-2 in counted c.digit_count-4.ensures n.ensures (omega (arith, n.type_inv))
 
 -- ── the needs, in the order of the code ──
-add-counts : tie.Need-overflow-add-counts
+add-counts : tie.Need-overflow_add-counts
 add-counts c = record { fits = omega (arith, (nodes-digits c.before.before).1, (arcs-digits c).1) }
 
-add-counts-2 : tie.Need-overflow-add-counts-2
+add-counts-2 : tie.Need-overflow_add-counts-2
 add-counts-2 c = record { fits = omega (arith, (nodes-digits c.before.before).1, (arcs-digits c).1) }
 
-add-ends : tie.Need-overflow-add-ends
+add-ends : tie.Need-overflow_add-ends
 add-ends c = record { fits = omega (arith, (source-digits c.before.before).1, (sink-digits c).1) }
 
-add-ends-2 : tie.Need-overflow-add-ends-2
+add-ends-2 : tie.Need-overflow_add-ends-2
 add-ends-2 c = record { fits = omega (arith, (source-digits c.before.before).1, (sink-digits c).1) }
 
 -- ── all of it ──
-small : (c : tie.After-arcs-length)
-    → c.before.before.before.before.before.before.before.digit-count.result + c.before.before.before.before.before.digit-count2.result + 8
-    + (c.before.before.before.digit-count3.result + c.before.digit-count4.result + 10) + c.arcs-length.result ≤ 40000
+small : (c : tie.After-arcs_length-arcs)
+    → c.before.before.before.before.before.before.before.digit_count.result + c.before.before.before.before.before.digit_count-2.result + 8
+    + (c.before.before.before.digit_count-3.result + c.before.digit_count-4.result + 10) + c.arcs_length-arcs.result ≤ 40000
 small c =
     let k = c.before in
     omega (
@@ -53,13 +53,13 @@ small c =
       (arcs-digits k.before.before.before.before).1,
       (source-digits k.before.before).1,
       (sink-digits k).1,
-      c.arcs-length.ensures.1,
+      c.arcs_length-arcs.ensures.1,
     )
 
-add-result : tie.Need-overflow-add-result
+add-result : tie.Need-overflow_add-result
 add-result c = record { fits = omega (arith, small c) }
 
-add-result-2 : tie.Need-overflow-add-result-2
+add-result-2 : tie.Need-overflow_add-result-2
 add-result-2 c = record { fits = omega (arith, small c) }
 
 returns : tie.Need-returns
@@ -72,12 +72,12 @@ returns c =
       (arcs-digits k.before.before.before.before).0,
       (source-digits k.before.before).0,
       (sink-digits k).0,
-      c.arcs-length.ensures.0,
+      c.arcs_length-arcs.ensures.0,
       measure.text_length (map_of a.nodes a.edges a.tails.now a.rotations.now) (atℤ a.capacities.now) a.source a.sink,
     )
 
-pub text-length-spec : {M : Type 1} → statement M
-text-length-spec =
+pub text_length_spec : {M : Type 1} → statement M
+text_length_spec =
     tie.close
     (tie.spec
     (λ c κs. search rules)

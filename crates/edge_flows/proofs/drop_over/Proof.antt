@@ -17,17 +17,17 @@ use Rattle.edge_flows.proofs.drop_over.Tie as tie
 
 -- the face on the right, as the code reads it: left of dart 2e + 1
 abbrev Place : Type 0
-Place = lts.After-wide2 (wide-reads.Asked, wide-reads.Learnt, minus64-reads.Asked, minus64-reads.Learnt) reads.Pre reads.Post
+Place = lts.After-wide-right (wide-reads.Asked, wide-reads.Learnt, minus64-reads.Asked, minus64-reads.Learnt) reads.Pre reads.Post
 
-right_in : (c : Place) → c.wide2.result < 1024
+right_in : (c : Place) → c.wide-right.result < 1024
 right_in c =
     let s = c.before.before.before.before in
-    rw (c.wide2.ensures, sym (rev_even s.args.e)) s.requires.2
+    rw (c.wide-right.ensures, sym (rev_even s.args.e)) s.requires.2
 
-mul-minus64-2 : tie.Need-overflow-mul-minus64-2
+mul-minus64-2 : tie.Need-offset_bounds-potentials-right
 mul-minus64-2 c = omega (arith, right_in c.before)
 
-element-copy-out-minus64-2 : tie.Need-element-copy-out-minus64-2
+element-copy-out-minus64-2 : tie.Need-bounds-potentials-right
 element-copy-out-minus64-2 c = omega (arith, right_in c.before)
 
 minus64-requires : tie.Need-minus64-requires
@@ -35,10 +35,10 @@ minus64-requires c κs =
     let s = c.before.before.before.before.before.before in
     let ρ = atℤ s.args.potentials.now in
     rw (
-      to_z-of_z w64 (ρ c.before.before.before.before.wide.result) (record { sfits = c.before.minus64-arg.given }),
-      to_z-of_z w64 (ρ c.before.before.wide2.result) (record { sfits = c.minus64-arg2.given }),
-      c.before.before.before.before.wide.ensures,
-      c.before.before.wide2.ensures,
+      to_z-of_z w64 (ρ c.before.before.before.before.wide-left.result) (record { sfits = c.before.minus64-arg-1.given }),
+      to_z-of_z w64 (ρ c.before.before.wide-right.result) (record { sfits = c.minus64-arg-2-1.given }),
+      c.before.before.before.before.wide-left.ensures,
+      c.before.before.wide-right.ensures,
       sym (rev_even s.args.e),
     ) s.requires.3
 
@@ -47,15 +47,15 @@ returns c =
     let s = c.before.before.before.before.before.before.before in
     let ρ = atℤ s.args.potentials.now in
     let left = at s.args.lefts.now in
-    to_z-of_z w64 _ (record { sfits = c.minus64.type-inv })
+    to_z-of_z w64 _ (record { sfits = c.minus64.type_inv })
     ∙ c.minus64.ensures
     ∙ ap₂ ◌-ℤ◌
-    (to_z-of_z w64 _ (record { sfits = c.before.before.minus64-arg.given }) ∙ ap ρ c.before.before.before.before.before.wide.ensures)
-    (to_z-of_z w64 _ (record { sfits = c.before.minus64-arg2.given })
-    ∙ ap ρ (c.before.before.before.wide2.ensures ∙ ap left (sym (rev_even s.args.e))))
+    (to_z-of_z w64 _ (record { sfits = c.before.before.minus64-arg-1.given }) ∙ ap ρ c.before.before.before.before.before.wide-left.ensures)
+    (to_z-of_z w64 _ (record { sfits = c.before.minus64-arg-2-1.given })
+    ∙ ap ρ (c.before.before.before.wide-right.ensures ∙ ap left (sym (rev_even s.args.e))))
 
-pub drop-over-spec : {M : Type 1} → statement M
-drop-over-spec =
+pub drop_over_spec : {M : Type 1} → statement M
+drop_over_spec =
     tie.close
     (tie.spec
     (λ c. search rules)

@@ -13,41 +13,41 @@ use Rattle.edge_flows.specs.inner.Flow.{flow_of}
 use Rattle.edge_flows.proofs.fill_flows.Statement.{statement}
 use Rattle.edge_flows.proofs.fill_flows.Tie as tie
 
-abbrev invariant-loop : tie.invariant-loop
+abbrev invariant-loop : tie.invariant-loop-e
 invariant-loop lefts capacities lengths potentials edges flows₀ e₀ flows e =
     (e ≤ edges) × (flows ≡ tabulate e (flow_of (at lefts) (atℤ capacities) (atℤ lengths) (atℤ potentials)) ++ drop e flows₀)
 
-abbrev decreases-loop : tie.decreases-loop
+abbrev decreases-loop : tie.decreases-loop-e
 decreases-loop lefts capacities lengths potentials edges flows₀ e₀ flows e = edges - e
 
-loop-holds : tie.Need-loop-init invariant-loop decreases-loop
+loop-holds : tie.Need-loop-e-init invariant-loop decreases-loop
 loop-holds c = (omega arith, copy_start _ _)
 
-flow-of-requires : tie.Need-flow-of-requires invariant-loop decreases-loop
-flow-of-requires c κs = let s = c.before.before in (s.requires.0, c.loop-test.true, s.requires.2)
+flow-of-requires : tie.Need-flow_of-requires invariant-loop decreases-loop
+flow-of-requires c κs = let s = c.before.before in (s.requires.0, c.loop-e-test.true, s.requires.2)
 
-slice-set-from-flows : tie.Need-slice-set-from-flows invariant-loop decreases-loop
-slice-set-from-flows c = omega (arith, filled_length _ _ _ _ c.before.before.loop.invariant.1 (omega arith))
+slice-set-from-flows : tie.Need-bounds-flows-e invariant-loop decreases-loop
+slice-set-from-flows c = omega (arith, filled_length _ _ _ _ c.before.before.loop-e.invariant.1 (omega arith))
 
-loop-again : tie.Need-loop-preserved invariant-loop decreases-loop
+loop-again : tie.Need-loop-e-preserved invariant-loop decreases-loop
 loop-again c =
-    let o = c.before.before.loop in
-    (omega arith, copy_step _ o.e _ _ _ o.invariant.1 (omega arith) (number_of_bits _ (record { sfits = c.flow-of.type-inv }) ∙ c.flow-of.ensures))
+    let o = c.before.before.loop-e in
+    (omega arith, copy_step _ o.e _ _ _ o.invariant.1 (omega arith) (number_of_bits _ (record { sfits = c.flow_of.type_inv }) ∙ c.flow_of.ensures))
 
-same_length : tie.Need-same-length invariant-loop decreases-loop
-same_length c = filled_length _ _ _ _ c.before.loop.invariant.1 (omega arith)
+same_length : tie.Need-shape_of-flows invariant-loop decreases-loop
+same_length c = filled_length _ _ _ _ c.before.loop-e.invariant.1 (omega arith)
 
 returns : tie.Need-returns invariant-loop decreases-loop
 returns c =
     let a = c.before.before.args in
     let flow = flow_of (at a.lefts.now) (atℤ a.capacities.now) (atℤ a.lengths.now) (atℤ a.potentials.now) in
-    c.before.loop.invariant.1 ∙ ap (λ k. tabulate k flow ++ drop k a.flows.now) same
+    c.before.loop-e.invariant.1 ∙ ap (λ k. tabulate k flow ++ drop k a.flows.now) same
   where
-    same : c.before.loop.e ≡ c.before.before.args.edges
+    same : c.before.loop-e.e ≡ c.before.before.args.edges
     same = omega arith
 
-pub fill-flows-spec : {M : Type 1} → statement M
-fill-flows-spec =
+pub fill_flows_spec : {M : Type 1} → statement M
+fill_flows_spec =
     tie.close
     (tie.spec
     invariant-loop

@@ -20,7 +20,7 @@ use Rattle.edge_flows.proofs.flow_of.Reads as reads
 use Rattle.edge_flows.proofs.flow_of.Statement.{statement}
 use Rattle.edge_flows.proofs.flow_of.Tie as tie
 
-drop-over-requires : tie.Need-drop-over-requires
+drop-over-requires : tie.Need-drop_over-fall-requires
 drop-over-requires c κs =
     let φ = c.requires.2 in
     let l = c.requires.1 in
@@ -29,7 +29,7 @@ drop-over-requires c κs =
 -- the places after both terms are computed, and after their sum is
 abbrev Place : Type 0
 Place =
-    lts.After-sub32 (
+    lts.After-sub32-along (
       drop-over-reads.Asked,
       drop-over-reads.Learnt,
       sub32-reads.Asked,
@@ -55,7 +55,7 @@ Sum =
 
 -- the sum of the two terms, as they are held in 64 bits, is the flow
 flow-here : (c : Place)
-    → to_z w64 (of_z w64 c.before.before.before.drop-over.result) +ℤ to_z w64 (of_z w64 c.sub32.result)
+    → to_z w64 (of_z w64 c.before.before.before.drop_over-fall.result) +ℤ to_z w64 (of_z w64 c.sub32-along.result)
     ≡ flow_of
     (at c.before.before.before.before.args.lefts.now)
     (atℤ c.before.before.before.before.args.capacities.now)
@@ -66,18 +66,18 @@ flow-here c =
     let a = c.before.before.before.before.args in
     let d = 2 * a.e in
     ap₂ ◌+ℤ◌
-    (to_z-of_z w64 _ (record { sfits = c.before.before.before.drop-over.type-inv }) ∙ c.before.before.before.drop-over.ensures)
-    (to_z-of_z w64 _ (record { sfits = c.sub32.type-inv })
-    ∙ c.sub32.ensures
+    (to_z-of_z w64 _ (record { sfits = c.before.before.before.drop_over-fall.type_inv }) ∙ c.before.before.before.drop_over-fall.ensures)
+    (to_z-of_z w64 _ (record { sfits = c.sub32-along.type_inv })
+    ∙ c.sub32-along.ensures
     ∙ ap₂ ◌-ℤ◌
-    (number_of_bits (atℤ a.capacities.now d) (record { sfits = c.before.before.sub32-arg.given }))
-    (number_of_bits (atℤ a.lengths.now d) (record { sfits = c.before.sub32-arg2.given })))
+    (number_of_bits (atℤ a.capacities.now d) (record { sfits = c.before.before.sub32-arg-1.given }))
+    (number_of_bits (atℤ a.lengths.now d) (record { sfits = c.before.sub32-arg-2-1.given })))
 
 -- the sum as it is held in 64 bits is the sum of the two terms
 sum-here : (c : Sum)
     → to_z w64 (of_z w64 c.plus64.result)
-    ≡ to_z w64 (of_z w64 c.before.before.before.before.drop-over.result) +ℤ to_z w64 (of_z w64 c.before.sub32.result)
-sum-here c = to_z-of_z w64 _ (record { sfits = c.plus64.type-inv }) ∙ c.plus64.ensures
+    ≡ to_z w64 (of_z w64 c.before.before.before.before.drop_over-fall.result) +ℤ to_z w64 (of_z w64 c.before.sub32-along.result)
+sum-here c = to_z-of_z w64 _ (record { sfits = c.plus64.type_inv }) ∙ c.plus64.ensures
 
 plus64-requires : tie.Need-plus64-requires
 plus64-requires c κs =
@@ -90,10 +90,10 @@ narrow-requires c κs =
     rw (sum-here c ∙ flow-here c.before) (flow_fits s.requires.2 s.args.e s.requires.1)
 
 returns : tie.Need-returns
-returns c = number_of_bits _ (record { sfits = c.narrow.type-inv }) ∙ c.narrow.ensures ∙ sum-here c.before ∙ flow-here c.before.before
+returns c = number_of_bits _ (record { sfits = c.narrow.type_inv }) ∙ c.narrow.ensures ∙ sum-here c.before ∙ flow-here c.before.before
 
-pub flow-of-spec : {M : Type 1} → statement M
-flow-of-spec =
+pub flow_of_spec : {M : Type 1} → statement M
+flow_of_spec =
     tie.close
     (tie.spec
     drop-over-requires

@@ -8,8 +8,8 @@ returns : tie.Need-returns
 unfolding u16_at
 returns c = search rules
 
-pub read-u16-spec : {M : Type 1} → statement M
-read-u16-spec =
+pub read_u16_spec : {M : Type 1} → statement M
+read_u16_spec =
     tie.close
     (tie.spec
     (λ c. search rules)

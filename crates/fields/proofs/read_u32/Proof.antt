@@ -8,8 +8,8 @@ returns : tie.Need-returns
 unfolding u32_at
 returns c = search rules
 
-pub read-u32-spec : {M : Type 1} → statement M
-read-u32-spec =
+pub read_u32_spec : {M : Type 1} → statement M
+read_u32_spec =
     tie.close
     (tie.spec
     (λ c. search rules)

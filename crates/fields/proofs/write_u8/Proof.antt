@@ -8,5 +8,5 @@ use Rattle.fields.proofs.write_u8.Tie as tie
 returns : tie.Need-returns
 returns c = put_sets c.args.at (c.args.n ∷ []) c.args.s.now c.requires
 
-pub write-u8-spec : {M : Type 1} → statement M
-write-u8-spec = tie.close (tie.spec (λ c. search rules) (λ c. search rules) returns)
+pub write_u8_spec : {M : Type 1} → statement M
+write_u8_spec = tie.close (tie.spec (λ c. search rules) (λ c. search rules) returns)

@@ -32,26 +32,26 @@ full-there : (buffer : List ℕ) (r : Input) (k n : ℕ) → Filled buffer r →
 full-there buffer r k n filled e p = omega (arith, subst (Filled buffer) e filled)
 
 -- where the two ways meet, by which the count came
-there : (c : tie.At-match-branch) → c.match.n ≤ length c.before.before.read-input.new.0
+there : (c : tie.Joined-read_input) → c.in-Ended.n-1 ≤ length c.before.before.read_input.new.0
 there c =
-    let filled = c.before.before.read-input.ensures in
-    ⊎_elim (λ w. ended-there _ _ _ _ filled w.1.given.1 w.3) (λ w. full-there _ _ _ _ filled w.1.given.1 w.3) c.match.branch
+    let filled = c.before.before.read_input.ensures in
+    ⊎_elim (λ w. ended-there _ _ _ _ filled w.1.given.1 w.3) (λ w. full-there _ _ _ _ filled w.1.given.1 w.3) c.in-Ended.branch
 
-abbrev text : tie.After-key-of-input → List ℕ
-text c = c.key-of-input.new.1.1.0
+abbrev text : tie.After-key_of_input-m → List ℕ
+text c = c.key_of_input-m.new.1.1.0
 
-front : (c : tie.After-key-of-input) → (t : List ℕ) × (length t ≡ c.key-of-input.result) × (text c ≡ t ++ drop c.key-of-input.result (replicate 6671 0))
+front : (c : tie.After-key_of_input-m) → (t : List ℕ) × (length t ≡ c.key_of_input-m.result) × (text c ≡ t ++ drop c.key_of_input-m.result (replicate 6671 0))
 front c =
-    let k = (c.key-of-input.ensures _ (bytes-begin _ _ (there c.before.before.before))).0 in
+    let k = (c.key_of_input-m.ensures _ (bytes-begin _ _ (there c.before.before.before))).0 in
     (k.0, k.2, k.4)
 
-key-of-input-requires : tie.Need-key-of-input-requires
+key-of-input-requires : tie.Need-key_of_input-m-requires
 key-of-input-requires c κs = (search rules, there c.before.before)
 
-array-share-prefix-text : tie.Need-array-share-prefix-text
+array-share-prefix-text : tie.Need-slice_bounds-text-end
 array-share-prefix-text c = let f = front c in front-there _ f.0 _ _ f.1 f.2
 
-slice-aggregate-write-text : tie.Need-slice-aggregate-write-text
+slice-aggregate-write-text : tie.Need-slice_bounds-write_text-end
 slice-aggregate-write-text c = let f = front c.before in front-taken _ f.0 _ _ f.1 f.2
 
 pub main_spec : {M : Type 1} → statement M

@@ -22,14 +22,14 @@ use Rattle.key_text.proofs.put_answer.Statement.{statement}
 use Rattle.key_text.proofs.put_answer.Tie as tie
 
 -- ── what Solve leaves ──
-abbrev start : tie.After-solve → tie.Start
+abbrev start : tie.After-solve-answer → tie.Start
 start c = c.before.before.before.before.before
 
-abbrev flows' : tie.After-solve → List ℤ
-flows' c = c.solve.new.1.1.1.1.0
+abbrev flows' : tie.After-solve-answer → List ℤ
+flows' c = c.solve-answer.new.1.1.1.1.0
 
-abbrev set' : tie.After-solve → List ℕ
-set' c = c.solve.new.1.1.1.1.1.0
+abbrev set' : tie.After-solve-answer → List ℕ
+set' c = c.solve-answer.new.1.1.1.1.1.0
 
 -- the key's own slices, before Solve
 abbrev no_flows : List ℤ
@@ -45,123 +45,123 @@ wide : 9 ≤ length no_set
 wide = omega (arith, length-replicate {A = ℕ} 9 0)
 
 -- the value that is handed on is the one that came in
-value-is : (c : tie.After-solve) → to_z w32 (of_z w32 (start c).args.value) ≡ (start c).args.value
+value-is : (c : tie.After-solve-answer) → to_z w32 (of_z w32 (start c).args.value) ≡ (start c).args.value
 value-is c = number_of_bits _ (start c).ranges.value
 
-solved : (c : tie.After-solve) (answer : SolveAnswer) → c.solve.result ≡ answer
+solved : (c : tie.After-solve-answer) (answer : SolveAnswer) → c.solve-answer.result ≡ answer
     → Answered (start c).args.sheet.now (start c).args.source (start c).args.sink (start c).args.value no_flows (flows' c) no_set (set' c) answer
-solved c answer e = rw (number_of_bits _ (start c).ranges.value, e) at c.solve.ensures
+solved c answer e = rw (number_of_bits _ (start c).ranges.value, e) at c.solve-answer.ensures
 
 -- of whichever bytes the sheet and the question were read
-module _ (c : tie.After-solve) (b : List ℕ) (question : NoneOf (record_checks b 3 0)) (sheet : sheet_of b ≡ (start c).args.sheet.now)
+module _ (c : tie.After-solve-answer) (b : List ℕ) (question : NoneOf (record_checks b 3 0)) (sheet : sheet_of b ≡ (start c).args.sheet.now)
     (source : source_of b ≡ (start c).args.source) (sink : sink_of b ≡ (start c).args.sink) (value : value_of b ≡ (start c).args.value) where
-  solved-of : (answer : SolveAnswer) → c.solve.result ≡ answer
+  solved-of : (answer : SolveAnswer) → c.solve-answer.result ≡ answer
       → Answered (sheet_of b) (source_of b) (sink_of b) (value_of b) no_flows (flows' c) no_set (set' c) answer
   solved-of answer e = of_bytes (sym sheet) (sym source) (sym sink) (sym value) no_flows (flows' c) no_set (set' c) answer (solved c answer e)
 
 -- ── the places: where each answer is told, and where its numbers are read ──
-abbrev can : tie.After-enum-told → tie.After-solve
+abbrev can : tie.In-Can → tie.After-solve-answer
 can c = c.before.before.before.before
 
-abbrev can-told : tie.After-edges-of → tie.After-enum-told
+abbrev can-told : tie.After-edges_of → tie.In-Can
 can-told c = c.before.before
 
-abbrev cannot : tie.After-answer → tie.After-solve
+abbrev cannot : tie.In-Cannot-2 → tie.After-solve-answer
 cannot c = c.before.before.before.before
 
-abbrev cannot-told : tie.After-nodes-of → tie.After-answer
+abbrev cannot-told : tie.After-nodes_of → tie.In-Cannot-2
 cannot-told c = c.before.before.before
 
-abbrev refused : tie.After-answer2 → tie.After-solve
+abbrev refused : tie.In-Refused-2 → tie.After-solve-answer
 refused c = c.before.before.before.before
 
 -- ── the needs, in the order of the code: it can ──
-edges-of-requires : tie.Need-edges-of-requires
+edges-of-requires : tie.Need-edges_of-requires
 edges-of-requires c κs =
     let t = c.before in
     let a = can t in
-    head_there _ _ _ _ _ (flows' a) _ (set' a) (solved a Can t.enum_told.given.1).0.0
+    head_there _ _ _ _ _ (flows' a) _ (set' a) (solved a Can t.enum_told-1.given.1).0.0
 
-put-can-requires : tie.Need-put-can-requires
+put-can-requires : tie.Need-put_can-requires
 put-can-requires c κs =
     let t = can-told c.before in
     let a = can t in
-    let h = (solved a Can t.enum_told.given.1).0 in
+    let h = (solved a Can t.enum_told-1.given.1).0 in
     let few = few_edges _ _ _ _ _ (flows' a) _ (set' a) h.0 in
-    let e = c.before.edges-of.ensures in (
+    let e = c.before.edges_of.ensures in (
       omega (arith, few, e, (start a).pre),
       subst (Limited 600000000) (sym (value-is a)) (value_fits _ _ _ _ _ (flows' a) _ (set' a) h.0),
       omega (arith, few, e),
       λ i l. flows_fit _ _ _ _ _ (flows' a) _ (set' a) h i (subst (λ k. i < k) e l),
     )
 
-returns : tie.Need-returns
+returns : tie.Need-returns-in-Can
 returns c b question sheet source sink value =
     let p = c.before.before in
     let edges = p.before.before in
     let t = can-told edges in
     let a = can t in
     let s = start a in
-    can_printed b question no_flows (flows' a) no_set (set' a) long wide s.args.text.now p.put-can.new.0 s.pre p.put-can.result _
+    can_printed b question no_flows (flows' a) no_set (set' a) long wide s.args.text-1.now p.put_can.new.0 s.pre p.put_can.result _
     (value-is a ∙ sym value)
-    (solved-of a b question sheet source sink value Can t.enum_told.given.1)
+    (solved-of a b question sheet source sink value Can t.enum_told-1.given.1)
     _
-    (edges.edges-of.ensures ∙ ap edges_of (sym sheet))
-    p.put-can.ensures
+    (edges.edges_of.ensures ∙ ap edges_of (sym sheet))
+    p.put_can.ensures
 
 -- ── it cannot ──
-nodes-of-requires : tie.Need-nodes-of-requires
+nodes-of-requires : tie.Need-nodes_of-requires
 nodes-of-requires c κs =
     let t = c.before.before in
     let a = cannot t in
-    head_there _ _ _ _ _ (flows' a) _ (set' a) (solved a (Cannot _) t.answer.given.1).0.0
+    head_there _ _ _ _ _ (flows' a) _ (set' a) (solved a (Cannot _) t.answer-1.given.1).0.0
 
-put-cannot-requires : tie.Need-put-cannot-requires
+put-cannot-requires : tie.Need-put_cannot-requires
 put-cannot-requires c κs =
     let t = cannot-told c.before in
     let a = cannot t in
-    let h = (solved a (Cannot _) t.answer.given.1).0 in
+    let h = (solved a (Cannot _) t.answer-1.given.1).0 in
     let few = few_nodes _ _ _ _ _ (flows' a) _ (set' a) h.0 in
-    let e = c.before.nodes-of.ensures in (
+    let e = c.before.nodes_of.ensures in (
       omega (arith, few, e, (start a).pre),
       subst (Limited 600000000) (sym (value-is a)) (value_fits _ _ _ _ _ (flows' a) _ (set' a) h.0),
       omega (arith, few, e),
     )
 
-returns-2 : tie.Need-returns-2
+returns-2 : tie.Need-returns-in-Cannot
 returns-2 c b question sheet source sink value =
     let p = c.before.before in
     let nodes = p.before.before in
     let t = cannot-told nodes in
     let a = cannot t in
     let s = start a in
-    cannot_printed b question no_flows (flows' a) no_set (set' a) long wide s.args.text.now p.put-cannot.new.0 s.pre p.put-cannot.result _
+    cannot_printed b question no_flows (flows' a) no_set (set' a) long wide s.args.text-1.now p.put_cannot.new.0 s.pre p.put_cannot.result _
     (value-is a ∙ sym value)
     _
-    nodes.before.before.known-told.given.0.1
-    (solved-of a b question sheet source sink value (Cannot _) t.answer.given.1)
+    nodes.before.before.known_told-1.given.0.1
+    (solved-of a b question sheet source sink value (Cannot _) t.answer-1.given.1)
     _
-    (nodes.nodes-of.ensures ∙ ap nodes_of (sym sheet))
-    p.put-cannot.ensures
+    (nodes.nodes_of.ensures ∙ ap nodes_of (sym sheet))
+    p.put_cannot.ensures
 
 -- ── refused ──
-put-refused-requires : tie.Need-put-refused-requires
+put-refused-requires : tie.Need-put_refused-requires
 put-refused-requires c κs = omega (arith, (start (refused c.before.before)).requires)
 
-returns-3 : tie.Need-returns-3
+returns-3 : tie.Need-returns-in-Refused
 returns-3 c b question sheet source sink value =
     let p = c.before.before in
     let known = p.before.before in
     let t = known.before in
     let a = refused t in
     let s = start a in
-    refused_printed b question no_flows (flows' a) no_set (set' a) long wide s.args.text.now p.Put-refused.new.0 s.pre p.Put-refused.result _ _
-    known.known-told2.given.0.1
-    (solved-of a b question sheet source sink value (Refused _ _) t.answer2.given.1)
+    refused_printed b question no_flows (flows' a) no_set (set' a) long wide s.args.text-1.now p.Put-refused.new.0 s.pre p.Put-refused.result _ _
+    known.known_told-in-Refused-1.given.0.1
+    (solved-of a b question sheet source sink value (Refused _ _) t.answer-in-Refused-1.given.1)
     p.Put-refused.ensures
 
-pub put-answer-spec : {M : Type 1} → statement M
-put-answer-spec =
+pub put_answer_spec : {M : Type 1} → statement M
+put_answer_spec =
     tie.close
     (tie.spec
     (λ c. search rules)

@@ -23,82 +23,82 @@ use Rattle.key_text.proofs.put_edges.Tie as tie
 abbrev line : List ℤ → ℕ → List ℕ
 line flows e = edge_line e (atℤ flows e)
 
-abbrev invariant-loop : tie.invariant-loop
+abbrev invariant-loop : tie.invariant-loop-e
 invariant-loop text₀ at edges flows end₀ e₀ text end e = (e ≤ edges) × Placed at (lines e (line flows)) text₀ text end
 
-abbrev decreases-loop : tie.decreases-loop
+abbrev decreases-loop : tie.decreases-loop-e
 decreases-loop text₀ at edges flows end₀ e₀ text end e = edges - e
 
 -- ── the turn of the loop, and the start ──
-abbrev started : tie.At-loop invariant-loop decreases-loop → tie.Start invariant-loop decreases-loop
+abbrev started : tie.At-loop-e invariant-loop decreases-loop → tie.Start invariant-loop decreases-loop
 started c = c.before.before
 
-abbrev line_at : tie.At-loop invariant-loop decreases-loop → ℕ → List ℕ
+abbrev line_at : tie.At-loop-e invariant-loop decreases-loop → ℕ → List ℕ
 line_at c = line (started c).args.flows.now
 
 -- ── a line is at most 13 bytes, and the lines so far keep within the room ──
-short-line : (c : tie.At-loop invariant-loop decreases-loop) (i : ℕ) → i < (started c).args.edges → length (line_at c i) ≤ 13
+short-line : (c : tie.At-loop-e invariant-loop decreases-loop) (i : ℕ) → i < (started c).args.edges → length (line_at c i) ≤ 13
 short-line c i l = let s = started c in edge_line_length i (atℤ s.args.flows.now i) (omega (arith, s.pre.1)) (s.pre.2 i l)
 
-so_far : (c : tie.At-loop invariant-loop decreases-loop) → length (lines c.loop.e (line_at c)) ≤ 13 * c.loop.e
-so_far c = lines_length 13 c.loop.e (line_at c) (λ i l. short-line c i (omega (arith, c.loop.invariant.0)))
+so_far : (c : tie.At-loop-e invariant-loop decreases-loop) → length (lines c.loop-e.e (line_at c)) ≤ 13 * c.loop-e.e
+so_far c = lines_length 13 c.loop-e.e (line_at c) (λ i l. short-line c i (omega (arith, c.loop-e.invariant.0)))
 
-length-now : (c : tie.At-loop invariant-loop decreases-loop) → length c.loop.text ≡ length (started c).args.text.now
-length-now c = placed_length _ _ _ _ _ c.loop.invariant.1 (omega (arith, c.loop.invariant.1.1, so_far c, (started c).requires.0, c.loop.invariant.0))
+length-now : (c : tie.At-loop-e invariant-loop decreases-loop) → length c.loop-e.text-1 ≡ length (started c).args.text-1.now
+length-now c = placed_length _ _ _ _ _ c.loop-e.invariant.1 (omega (arith, c.loop-e.invariant.1.1, so_far c, (started c).requires.0, c.loop-e.invariant.0))
 
 -- ── the flow that is handed on is the one that the array has ──
-abbrev turn : tie.After-put-edge-arg2 invariant-loop decreases-loop → tie.In-loop invariant-loop decreases-loop
+abbrev turn : tie.After-put_edge-arg-in-loop-e-1 invariant-loop decreases-loop → tie.In-loop-e invariant-loop decreases-loop
 turn c = c.before.before
 
-handed : (c : tie.After-put-edge-arg2 invariant-loop decreases-loop)
-    → to_z w32 (of_z w32 (atℤ (started (turn c).before).args.flows.now (turn c).before.loop.e))
-    ≡ atℤ (started (turn c).before).args.flows.now (turn c).before.loop.e
-handed c = number_of_bits _ (record { sfits = c.put-edge-arg2.given })
+handed : (c : tie.After-put_edge-arg-in-loop-e-1 invariant-loop decreases-loop)
+    → to_z w32 (of_z w32 (atℤ (started (turn c).before).args.flows.now (turn c).before.loop-e.e))
+    ≡ atℤ (started (turn c).before).args.flows.now (turn c).before.loop-e.e
+handed c = number_of_bits _ (record { sfits = c.put_edge-arg-in-loop-e-1.given })
 
-abbrev loop-of : tie.After-put-edge invariant-loop decreases-loop → tie.At-loop invariant-loop decreases-loop
+abbrev loop-of : tie.After-put_edge-end invariant-loop decreases-loop → tie.At-loop-e invariant-loop decreases-loop
 loop-of c = (turn c.before).before
 
-written : (c : tie.After-put-edge invariant-loop decreases-loop)
-    → Placed (loop-of c).loop.end (line_at (loop-of c) (loop-of c).loop.e) (loop-of c).loop.text c.put-edge.new.0 c.put-edge.result
-written c = placed_as (edge_line (loop-of c).loop.e) _ _ _ _ (handed c.before) c.put-edge.ensures
+written : (c : tie.After-put_edge-end invariant-loop decreases-loop)
+    → Placed (loop-of c).loop.end (line_at (loop-of c) (loop-of c).loop.e) (loop-of c).loop.text-1 c.put_edge-end.new.0 c.put_edge-end.result
+written c = placed_as (edge_line (loop-of c).loop.e) _ _ _ _ (handed c.before) c.put_edge-end.ensures
 
 -- ── the needs, in the order of the code ──
-loop-holds : tie.Need-loop-init invariant-loop decreases-loop
+loop-holds : tie.Need-loop-e-init invariant-loop decreases-loop
 unfolding lines
 loop-holds c = (omega arith, placed_none _ _)
 
-put-edge-requires : tie.Need-put-edge-requires invariant-loop decreases-loop
+put-edge-requires : tie.Need-put_edge-end-requires invariant-loop decreases-loop
 put-edge-requires c κs =
     let t = turn c in
     let o = t.before in
     let s = started o in
-    let l = t.loop-test.taken in (
-      omega (arith, o.loop.inv.1.1, so_far o, length-now o, s.pre.0, l),
+    let l = t.loop-e-test.taken in (
+      omega (arith, o.loop-e.inv.1.1, so_far o, length-now o, s.pre.0, l),
       omega (arith, s.pre.1, l),
-      subst (Limited 1000000) (sym (handed c)) (s.pre.2 o.loop.e l),
+      subst (Limited 1000000) (sym (handed c)) (s.pre.2 o.loop-e.e l),
     )
 
-loop-again : tie.Need-loop-preserved invariant-loop decreases-loop
+loop-again : tie.Need-loop-e-preserved invariant-loop decreases-loop
 loop-again c =
     let w = c.before.before in
     let t = turn w.before in
     let o = t.before in
-    let e = o.loop.e in
-    let l = t.loop-test.taken in (
+    let e = o.loop-e.e in
+    let l = t.loop-e-test.taken in (
       omega arith,
-      lines_more _ _ _ e (line_at o) _ _ _ o.loop.inv.1 (written w) (omega (arith, so_far o, short-line o e l, (started o).pre.0, l)),
+      lines_more _ _ _ e (line_at o) _ _ _ o.loop-e.inv.1 (written w) (omega (arith, so_far o, short-line o e l, (started o).pre.0, l)),
     )
 
-same_length : tie.Need-same-length invariant-loop decreases-loop
+same_length : tie.Need-shape_of-text invariant-loop decreases-loop
 same_length c = length-now c.before
 
 returns : tie.Need-returns invariant-loop decreases-loop
 returns c =
     let o = c.before in
-    placed_as (λ k. lines k (line_at o)) _ _ _ _ (le_antisymm o.loop.invariant.0 c.loop-test.false) o.loop.invariant.1
+    placed_as (λ k. lines k (line_at o)) _ _ _ _ (le_antisymm o.loop-e.invariant.0 c.loop-e-test.false) o.loop-e.invariant.1
 
-pub put-edges-spec : {M : Type 1} → statement M
-put-edges-spec =
+pub put_edges_spec : {M : Type 1} → statement M
+put_edges_spec =
     tie.close
     (tie.spec
     invariant-loop

@@ -16,50 +16,50 @@ use Rattle.key_text.proofs.put_key.Statement.{statement}
 use Rattle.key_text.proofs.put_key.Tie as tie
 
 -- ── the verdict on the question's record ──
-abbrev begin : tie.After-check-record → tie.Start
+abbrev begin : tie.After-check_record-whole → tie.Start
 begin c = c.before.before.before
 
-judged : (c : tie.After-check-record) (v : Verdict) → c.check-record.result ≡ v → Judged (record_checks (begin c).args.input.now 3 0) v
-judged c v e = rw e at c.check-record.ensures
+judged : (c : tie.After-check_record-whole) (v : Verdict) → c.check_record-whole.result ≡ v → Judged (record_checks (begin c).args.input.now 3 0) v
+judged c v e = rw e at c.check_record-whole.ensures
 
 -- ── the question is whole ──
-abbrev asked : tie.After-enum-told → tie.After-check-record
+abbrev asked : tie.In_default → tie.After-check_record-whole
 asked c = c.before.before
 
-passed : (c : tie.After-enum-told) → NoneOf (record_checks (begin (asked c)).args.input.now 3 0)
-passed c = judged (asked c) Passed c.enum_told.given.1
+passed : (c : tie.In_default) → NoneOf (record_checks (begin (asked c)).args.input.now 3 0)
+passed c = judged (asked c) Passed c.enum_told-1.given.1
 
-whole : (c : tie.After-enum-told) → 9 ≤ length (begin (asked c)).args.input.now
+whole : (c : tie.In_default) → 9 ≤ length (begin (asked c)).args.input.now
 whole c = question_whole (begin (asked c)).args.input.now (passed c)
 
 -- ── the needs, in the order of the code ──
-returns : tie.Need-returns
+returns : tie.Need-returns-in-Refused
 returns c =
     let p = c.before.before in
     let w = p.before.before.before in
     let s = begin w.before.before in
-    let fits = refused_text_length _ p.before.before.known-told.given.0.1 in
-    question_refused s.args.input.now s.args.text.now p.Put-refused.new.0 p.Put-refused.result _ _
-    (judged w.before.before (Refused _ _) w.whole.given.1)
+    let fits = refused_text_length _ p.before.before.known_told-1.given.0.1 in
+    question_refused s.args.input.now s.args.text-1.now p.Put-refused.new.0 p.Put-refused.result _ _
+    (judged w.before.before (Refused _ _) w.whole-1.given.1)
     p.Put-refused.ensures
     (omega (arith, fits, s.pre))
 
-read-u16-requires : tie.Need-read-u16-requires
+read-u16-requires : tie.Need-read_u16-source-requires
 read-u16-requires c κs = omega (arith, whole c)
 
-read-u16-requires-2 : tie.Need-read-u16-requires-2
+read-u16-requires-2 : tie.Need-read_u16-sink-requires
 read-u16-requires-2 c κs = omega (arith, whole c.before)
 
-read-i32-requires : tie.Need-read-i32-requires
+read-i32-requires : tie.Need-read_i32-value-requires
 read-i32-requires c κs = omega (arith, whole c.before.before)
 
-sub-put-answer : tie.Need-overflow-sub-put-answer
-sub-put-answer c = omega (arith, whole c.before.before.before.before, c.record-length.ensures.0)
+sub-put-answer : tie.Need-slice_bounds-put_answer-count
+sub-put-answer c = omega (arith, whole c.before.before.before.before, c.record_length-after.ensures.0)
 
-part-put-answer-start : tie.Need-slice-bounds-put-answer-start
-part-put-answer-start c = omega (arith, whole c.before.before.before.before, c.record-length.ensures.0)
+part-put-answer-start : tie.Need-slice_bounds-put_answer-start
+part-put-answer-start c = omega (arith, whole c.before.before.before.before, c.record_length-after.ensures.0)
 
-returns-2 : tie.Need-returns-2
+returns-2 : tie.Need-returns
 returns-2 c =
     let p = c.before.before in
     let r = p.before.before.before in
@@ -68,11 +68,11 @@ returns-2 c =
     let source = sink.before in
     let t = source.before in
     let b = (begin (asked t)).args.input.now in
-    p.put-answer.ensures b (passed t) (rest b _ r.record-length.ensures.0) (sym source.read-u16.ensures) (sym sink.read-u162.ensures)
-    (sym (number_of_bits _ (record { sfits = value.read-i32.type-inv }) ∙ value.read-i32.ensures))
+    p.put_answer.ensures b (passed t) (rest b _ r.record_length-after.ensures.0) (sym source.read_u16-source.ensures) (sym sink.read_u16-sink.ensures)
+    (sym (number_of_bits _ (record { sfits = value.read_i32-value.type_inv }) ∙ value.read_i32-value.ensures))
 
-pub put-key-spec : {M : Type 1} → statement M
-put-key-spec =
+pub put_key_spec : {M : Type 1} → statement M
+put_key_spec =
     tie.close
     (tie.spec
     (λ c κs. search rules)

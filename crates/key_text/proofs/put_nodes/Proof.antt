@@ -13,59 +13,59 @@ use Rattle.key_text.proofs.Length.{node_line_length}
 use Rattle.key_text.proofs.put_nodes.Statement.{statement}
 use Rattle.key_text.proofs.put_nodes.Tie as tie
 
-abbrev invariant-loop : tie.invariant-loop
+abbrev invariant-loop : tie.invariant-loop-v
 invariant-loop text₀ at nodes set end₀ v₀ text end v = (v ≤ nodes) × Placed at (lines v (node_line set)) text₀ text end
 
-abbrev decreases-loop : tie.decreases-loop
+abbrev decreases-loop : tie.decreases-loop-v
 decreases-loop text₀ at nodes set end₀ v₀ text end v = nodes - v
 
 -- ── the turn of the loop, and the start: the lines so far keep within the room ──
-abbrev started : tie.At-loop invariant-loop decreases-loop → tie.Start invariant-loop decreases-loop
+abbrev started : tie.At-loop-v invariant-loop decreases-loop → tie.Start invariant-loop decreases-loop
 started c = c.before.before
 
-so_far : (c : tie.At-loop invariant-loop decreases-loop) → length (lines c.loop.v (node_line (started c).args.set.now)) ≤ 4 * c.loop.v
+so_far : (c : tie.At-loop-v invariant-loop decreases-loop) → length (lines c.loop-v.v (node_line (started c).args.set.now)) ≤ 4 * c.loop-v.v
 so_far c =
     let set = (started c).args.set.now in
-    lines_length 4 c.loop.v (node_line set) (λ i g. node_line_length set i (omega (arith, (started c).requires.1, c.loop.invariant.0)))
+    lines_length 4 c.loop-v.v (node_line set) (λ i g. node_line_length set i (omega (arith, (started c).requires.1, c.loop-v.invariant.0)))
 
-length-now : (c : tie.At-loop invariant-loop decreases-loop) → length c.loop.text ≡ length (started c).args.text.now
-length-now c = placed_length _ _ _ _ _ c.loop.invariant.1 (omega (arith, c.loop.invariant.1.1, so_far c, (started c).requires.0, c.loop.invariant.0))
+length-now : (c : tie.At-loop-v invariant-loop decreases-loop) → length c.loop-v.text-1 ≡ length (started c).args.text-1.now
+length-now c = placed_length _ _ _ _ _ c.loop-v.invariant.1 (omega (arith, c.loop-v.invariant.1.1, so_far c, (started c).requires.0, c.loop-v.invariant.0))
 
-abbrev turn : tie.After-put-node invariant-loop decreases-loop → tie.In-loop invariant-loop decreases-loop
+abbrev turn : tie.After-put_node-end invariant-loop decreases-loop → tie.In-loop-v invariant-loop decreases-loop
 turn c = c.before.before
 
 -- ── the needs, in the order of the code ──
-loop-holds : tie.Need-loop-init invariant-loop decreases-loop
+loop-holds : tie.Need-loop-v-init invariant-loop decreases-loop
 unfolding lines
 loop-holds c = (omega arith, placed_none _ _)
 
-put-node-requires : tie.Need-put-node-requires invariant-loop decreases-loop
+put-node-requires : tie.Need-put_node-end-requires invariant-loop decreases-loop
 put-node-requires c κs =
     let a = c.before.before in
     let s = started a in (
-      omega (arith, a.loop.invariant.1.1, so_far a, length-now a, s.pre.0, c.before.loop-test.true),
-      omega (arith, s.pre.1, c.before.loop-test.true),
+      omega (arith, a.loop-v.invariant.1.1, so_far a, length-now a, s.pre.0, c.before.loop-v-test.true),
+      omega (arith, s.pre.1, c.before.loop-v-test.true),
     )
 
-loop-again : tie.Need-loop-preserved invariant-loop decreases-loop
+loop-again : tie.Need-loop-v-preserved invariant-loop decreases-loop
 loop-again c =
     let w = c.before.before in
     let a = (turn w).before in
     let s = started a in
     let t = (turn w).loop-test.true in (
       omega arith,
-      lines_more _ _ _ a.loop.v (node_line s.args.set.now) _ _ _ a.loop.inv.1 w.put-node.ensures
-          (omega (arith, so_far a, node_line_length s.args.set.now a.loop.v (omega (arith, s.pre.1, t)), s.pre.0, t)),
+      lines_more _ _ _ a.loop-v.v (node_line s.args.set.now) _ _ _ a.loop-v.inv.1 w.put_node-end.ensures
+          (omega (arith, so_far a, node_line_length s.args.set.now a.loop-v.v (omega (arith, s.pre.1, t)), s.pre.0, t)),
     )
 
-same_length : tie.Need-same-length invariant-loop decreases-loop
+same_length : tie.Need-shape_of-text invariant-loop decreases-loop
 same_length c = length-now c.before
 
 returns : tie.Need-returns invariant-loop decreases-loop
 returns c =
     let o = c.before in
     let set = (started o).args.set.now in
-    placed_as (λ k. lines k (node_line set)) _ _ _ _ (le_antisymm o.loop.invariant.0 c.loop-test.false) o.loop.invariant.1
+    placed_as (λ k. lines k (node_line set)) _ _ _ _ (le_antisymm o.loop-v.invariant.0 c.loop-v-test.false) o.loop-v.invariant.1
 
-pub put-nodes-spec : {M : Type 1} → statement M
-put-nodes-spec = tie.close (tie.spec invariant-loop decreases-loop loop-holds put-node-requires (λ c. search rules) (λ c. search rules) loop-again same_length returns)
+pub put_nodes_spec : {M : Type 1} → statement M
+put_nodes_spec = tie.close (tie.spec invariant-loop decreases-loop loop-holds put-node-requires (λ c. search rules) (λ c. search rules) loop-again same_length returns)

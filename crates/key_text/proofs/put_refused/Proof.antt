@@ -13,48 +13,48 @@ use Rattle.key_text.proofs.put_refused.Statement.{statement}
 use Rattle.key_text.proofs.put_refused.Tie as tie
 
 -- ── the word ──
-abbrev begin : tie.After-put-bytes → tie.Start
+abbrev begin : tie.After-put_bytes-at → tie.Start
 begin c = c.before.before.before.before
 
-word : (c : tie.After-put-bytes) → Placed 0 refused_word (begin c).args.text.now c.put-bytes.new.0 c.put-bytes.result
-word c = c.put-bytes.ensures
+word : (c : tie.After-put_bytes-at) → Placed 0 refused_word (begin c).args.text-1.now c.put_bytes-at.new.0 c.put_bytes-at.result
+word c = c.put_bytes-at.ensures
 
-word_room : (c : tie.After-put-bytes) → c.put-bytes.result + 4 ≤ length c.put-bytes.new.0
+word_room : (c : tie.After-put_bytes-at) → c.put_bytes-at.result + 4 ≤ length c.put_bytes-at.new.0
 word_room c = placed_room 8 4 _ _ _ _ _ (word c) (omega arith) (begin c).requires
 
 -- ── the number ──
-abbrev said : tie.After-byte → tie.After-put-bytes
+abbrev said : tie.After-byte → tie.After-put_bytes-at
 said c = c.before.before.before.before
 
 three-digits : (c : tie.After-byte) → length (decimal c.byte.result) ≤ 3
 three-digits c = decimal_length 2 c.byte.result (omega (arith, c.byte.ensures.1))
 
-abbrev worded : tie.After-put-decimal → tie.After-put-bytes
+abbrev worded : tie.After-put_decimal-end → tie.After-put_bytes-at
 worded c = said c.before
 
-numbered : (c : tie.After-put-decimal)
+numbered : (c : tie.After-put_decimal-end)
     → Placed (worded c).put-bytes.result (decimal (begin (worded c)).args.k) (worded c).put-bytes.new.0
-    c.put-decimal.new.0 c.put-decimal.result
-numbered c = placed_as decimal _ _ _ _ c.before.byte.ensures.0 c.put-decimal.ensures
+    c.put_decimal-end.new.0 c.put_decimal-end.result
+numbered c = placed_as decimal _ _ _ _ c.before.byte.ensures.0 c.put_decimal-end.ensures
 
 few-digits : (c : tie.After-byte) → length (decimal (begin (said c)).args.k) ≤ 3
 few-digits c = subst (λ n. length (decimal n) ≤ 3) c.byte.ensures.0 (three-digits c)
 
-number-room : (c : tie.After-put-decimal) → c.put-decimal.result + 1 ≤ length c.put-decimal.new.0
+number-room : (c : tie.After-put_decimal-end) → c.put_decimal-end.result + 1 ≤ length c.put_decimal-end.new.0
 number-room c = placed_room 3 1 _ _ _ _ _ (numbered c) (few-digits c.before) (word_room (worded c))
 
 -- ── a line feed ──
-abbrev counted : tie.After-put-bytes2 → tie.After-put-decimal
+abbrev counted : tie.After-put_bytes → tie.After-put_decimal-end
 counted c = c.before.before.before.before.before
 
 -- ── the needs, in the order of the code ──
-put-bytes-requires : tie.Need-put-bytes-requires
+put-bytes-requires : tie.Need-put_bytes-at-requires
 put-bytes-requires c κs = omega (arith, c.before.before.before.requires)
 
-put-decimal-requires : tie.Need-put-decimal-requires
+put-decimal-requires : tie.Need-put_decimal-end-requires
 put-decimal-requires c κs = omega (arith, three-digits c, word_room (said c))
 
-put-bytes-requires-2 : tie.Need-put-bytes-requires-2
+put-bytes-requires-2 : tie.Need-put_bytes-requires
 put-bytes-requires-2 c κs = number-room c.before.before.before.before
 
 returns : tie.Need-returns
@@ -62,10 +62,10 @@ unfolding refused_text
 returns c =
     let last = c.before.before in
     let d = counted last in
-    three_placed _ _ _ _ _ _ _ _ _ _ _ (word (worded d)) (numbered d) last.put-bytes2.ensures (omega (arith, few-digits d.before, (begin (worded d)).requires))
+    three_placed _ _ _ _ _ _ _ _ _ _ _ (word (worded d)) (numbered d) last.put_bytes.ensures (omega (arith, few-digits d.before, (begin (worded d)).requires))
 
-pub put-refused-spec : {M : Type 1} → statement M
-put-refused-spec =
+pub put_refused_spec : {M : Type 1} → statement M
+put_refused_spec =
     tie.close
     (tie.spec
     (λ c. search rules)

@@ -7,13 +7,13 @@ use Rattle.refusals.specs.Order.{NoneOf, FirstOf}
 use Rattle.key_text.proofs.write_key.Statement.{statement}
 use Rattle.key_text.proofs.write_key.Tie as tie
 
-returns : tie.Need-returns
+returns : tie.Need-returns-then-text-lt6671
 unfolding FirstOf
-returns c = ((inl (c.if1.true, refl, refl), refl), tt)
+returns c = ((inl (c.if-text-lt6671.true, refl, refl), refl), tt)
 
-returns-2 : tie.Need-returns-2
+returns-2 : tie.Need-returns
 unfolding NoneOf
-returns-2 c = let key = c.before.before.put-key.ensures in ((((λ l. omega arith), tt), key.0), key.1)
+returns-2 c = let key = c.before.before.put_key.ensures in ((((λ l. omega arith), tt), key.0), key.1)
 
-pub write-key-spec : {M : Type 1} → statement M
-write-key-spec = tie.close (tie.spec returns (λ c κs. search rules) (λ c. search rules) returns-2)
+pub write_key_spec : {M : Type 1} → statement M
+write_key_spec = tie.close (tie.spec returns (λ c κs. search rules) (λ c. search rules) returns-2)

@@ -38,14 +38,14 @@ returns c =
     let a = to_z w32 (of_z w32 less.result) in
     let b = to_z w32 (of_z w32 c.plus.result) in
     let same : atℤ (set l p a) x ≡ atℤ l x = get_or-set_other l p x a (pos 0) h.3 in
-    let is-a : a ≡ atℤ l p -ℤ value = number_of_bits _ (record { sfits = less.type-inv }) ∙ less.ensures ∙ minus_read h.4 h.6 in
+    let is-a : a ≡ atℤ l p -ℤ value = number_of_bits _ (record { sfits = less.type_inv }) ∙ less.ensures ∙ minus_read h.4 h.6 in
     let is_b : b ≡ atℤ l x +ℤ value =
-    number_of_bits _ (record { sfits = c.plus.type-inv }) ∙ c.plus.ensures
+    number_of_bits _ (record { sfits = c.plus.type_inv }) ∙ c.plus.ensures
     ∙ plus_read (subst (Limited most_length) (sym same) h.5) h.6 ∙ ap (λ y. y +ℤ value) same in
     carried l p x value a b h.0 h.1 h.2 h.3 is-a is_b
 
-pub carry-spec : {M : Type 1} → statement M
-carry-spec =
+pub carry_spec : {M : Type 1} → statement M
+carry_spec =
     tie.close
     (tie.spec
     (λ c. search rules)

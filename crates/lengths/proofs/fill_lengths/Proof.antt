@@ -8,34 +8,34 @@ use Rattle.lengths.proofs.Filling.{fill_by_bits, fill_from_bits, turn_fits, down
 use Rattle.lengths.proofs.fill_lengths.Statement.{statement}
 use Rattle.lengths.proofs.fill_lengths.Tie as tie
 
-copy-capacities-requires : tie.Need-copy-capacities-requires
+copy-capacities-requires : tie.Need-copy_capacities-requires
 copy-capacities-requires c κs = (c.before.requires.0, c.before.requires.1.few)
 
-abbrev begun : tie.After-copy-capacities → tie.Start
+abbrev begun : tie.After-copy_capacities → tie.Start
 begun c = c.before.before
 
-climb-requires : tie.Need-climb-requires
+climb-requires : tie.Need-climb-down-requires
 climb-requires c κs =
     let w = c.before in
-    let e = w.copy-capacities.ensures in
+    let e = w.copy_capacities.ensures in
     (e.0, down_climbable (fill_by_bits (begun w).requires.1) e.1)
 
-abbrev copied : tie.After-climb → tie.After-copy-capacities
+abbrev copied : tie.After-climb-down → tie.After-copy_capacities
 copied c = c.before.before
 
-minus-requires : tie.Need-minus-requires
+minus-requires : tie.Need-minus-against-requires
 minus-requires c κs = turn_fits (fill_by_bits (begun (copied c)).requires.1).small
 
-turned : (c : tie.After-minus)
-    → to_z w32 (of_z w32 c.minus.result) ≡ pos 0 -ℤ to_z w32 (of_z w32 (begun (copied c.before)).args.value)
-turned c = number_of_bits _ (record { sfits = c.minus.type-inv }) ∙ c.minus.ensures
+turned : (c : tie.After-minus-against)
+    → to_z w32 (of_z w32 c.minus-against.result) ≡ pos 0 -ℤ to_z w32 (of_z w32 (begun (copied c.before)).args.value)
+turned c = number_of_bits _ (record { sfits = c.minus-against.type_inv }) ∙ c.minus-against.ensures
 
-climb-requires-2 : tie.Need-climb-requires-2
+climb-requires-2 : tie.Need-climb-up-requires
 climb-requires-2 c κs =
     let m = c.before in
     let d = m.before in
     let w = copied d in
-    (d.climb.ensures.0, up_climbable (fill_by_bits (begun w).pre.1) w.copy-capacities.ensures.1 d.climb.ensures.1 (turned m))
+    (d.climb-down.ensures.0, up_climbable (fill_by_bits (begun w).pre.1) w.copy_capacities.ensures.1 d.climb-down.ensures.1 (turned m))
 
 returns : tie.Need-returns
 returns c =
@@ -43,11 +43,11 @@ returns c =
     let d = m.before in
     let w = copied d in
     let p = (begun w).pre.1 in
-    let e = c.climb2.ensures in
-    (e.0, fill_from_bits p.small (both_filled (fill_by_bits p) w.copy-capacities.ensures.1 d.climb.ensures.1 (turned m) e.1))
+    let e = c.climb-up.ensures in
+    (e.0, fill_from_bits p.small (both_filled (fill_by_bits p) w.copy_capacities.ensures.1 d.climb-down.ensures.1 (turned m) e.1))
 
-pub fill-lengths-spec : {M : Type 1} → statement M
-fill-lengths-spec =
+pub fill_lengths_spec : {M : Type 1} → statement M
+fill_lengths_spec =
     tie.close
     (tie.spec
     copy-capacities-requires

@@ -18,19 +18,19 @@ use Rattle.levels.proofs.check_differences.Tie as tie
 use Rattle.levels.proofs.drop_across.Reads as drop-across-reads
 use Rattle.arrays.proofs.narrow.Reads as narrow-reads
 
-abbrev invariant-loop : tie.invariant-loop
+abbrev invariant-loop : tie.invariant-loop-e
 invariant-loop lefts capacities edges levels e₀ e = (e ≤ edges) × ((k : ℕ) → k < e → Exceeds (atℤ capacities) (across (at lefts) (atℤ levels)) k → ⊥)
 
-abbrev decreases-loop : tie.decreases-loop
+abbrev decreases-loop : tie.decreases-loop-e
 decreases-loop lefts capacities edges levels e₀ e = edges - e
 
-loop-holds : tie.Need-loop-init invariant-loop decreases-loop
+loop-holds : tie.Need-loop-e-init invariant-loop decreases-loop
 loop-holds c = (omega arith, λ k l. absurd (omega arith))
 
-drop-across-requires : tie.Need-drop-across-requires invariant-loop decreases-loop
+drop-across-requires : tie.Need-drop_across-x-requires invariant-loop decreases-loop
 drop-across-requires c κs =
     let s = c.before.before in
-    let o = c.before.loop in
+    let o = c.before.loop-e in
     (omega (arith, s.requires.0), s.requires.1 (2 * o.e) (omega arith), s.requires.1 (2 * o.e + 1) (omega arith))
 
 -- the test of edge e, on the numbers in the arrays
@@ -50,41 +50,41 @@ judged-here : (c : Place)
     (atℤ c.before.before.before.before.before.before.args.capacities.now)
     (across (at c.before.before.before.before.before.before.args.lefts.now)
     (atℤ c.before.before.before.before.before.before.args.levels.now))
-    c.before.before.before.before.before.loop.e) c.exceeds.result
+    c.before.before.before.before.before.loop-e.e) c.exceeds.result
 judged-here c =
     let capacity = atℤ c.before.before.before.before.before.before.args.capacities.now in
-    let e = c.before.before.before.before.before.loop.e in
-    let drop = c.before.before.before.drop-across in
+    let e = c.before.before.before.before.before.loop-e.e in
+    let drop = c.before.before.before.drop_across-x in
     rw (
-      number_of_bits (capacity (2 * e)) (record { sfits = c.before.before.exceeds-arg.given }),
-      number_of_bits (capacity (2 * e + 1)) (record { sfits = c.before.exceeds-arg2.given }),
-      number_of_bits drop.result (record { sfits = drop.type-inv }),
+      number_of_bits (capacity (2 * e)) (record { sfits = c.before.before.exceeds-arg-1.given }),
+      number_of_bits (capacity (2 * e + 1)) (record { sfits = c.before.exceeds-arg-in-loop-e-1.given }),
+      number_of_bits drop.result (record { sfits = drop.type_inv }),
       drop.ensures,
     ) at c.exceeds.ensures
 
-returns : tie.Need-returns invariant-loop decreases-loop
+returns : tie.Need-returns-then-exceeds invariant-loop decreases-loop
 unfolding within_checks
 returns c =
     let s = c.before.before.before.before.before.before.before.before in
-    let o = c.before.before.before.before.before.before.before.loop in
+    let o = c.before.before.before.before.before.before.before.loop-e in
     lowest s.args.edges 17 (Exceeds (atℤ s.args.capacities.now) (across (at s.args.lefts.now) (atℤ s.args.levels.now)))
     o.e c.narrow.result (omega arith) o.invariant.1
-    (said_yes (judged-here c.before.before) c.before.if1.true) c.narrow.ensures
+    (said_yes (judged-here c.before.before) c.before.if-exceeds.true) c.narrow.ensures
 
-loop-again : tie.Need-loop-preserved invariant-loop decreases-loop
+loop-again : tie.Need-loop-e-preserved invariant-loop decreases-loop
 loop-again c =
-    let o = c.before.before.before.before.before.before.loop in
-    (omega arith, below_more _ o.e o.invariant.1 (said_no (judged-here c.before) c.if1.false))
+    let o = c.before.before.before.before.before.before.loop-e in
+    (omega arith, below_more _ o.e o.invariant.1 (said_no (judged-here c.before) c.if-exceeds.false))
 
-returns-2 : tie.Need-returns-2 invariant-loop decreases-loop
+returns-2 : tie.Need-returns invariant-loop decreases-loop
 unfolding within_checks
 returns-2 c =
     let s = c.before.before in
     none_holds s.args.edges 17 (Exceeds (atℤ s.args.capacities.now) (across (at s.args.lefts.now) (atℤ s.args.levels.now)))
-    (λ k l. c.before.loop.invariant.1 k (omega arith))
+    (λ k l. c.before.loop-e.invariant.1 k (omega arith))
 
-pub check-differences-spec : {M : Type 1} → statement M
-check-differences-spec =
+pub check_differences_spec : {M : Type 1} → statement M
+check_differences_spec =
     tie.close
     (tie.spec
     invariant-loop

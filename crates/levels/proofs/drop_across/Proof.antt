@@ -14,10 +14,10 @@ minus-requires c κs =
     let s = c.before.before.before.before.before.before in
     let ρ = atℤ s.args.levels.now in
     rw (
-      number_of_bits (ρ c.before.before.before.before.wide.result) (record { sfits = c.before.minus-arg.given }),
-      number_of_bits (ρ c.before.before.wide2.result) (record { sfits = c.minus-arg2.given }),
-      c.before.before.before.before.wide.ensures,
-      c.before.before.wide2.ensures,
+      number_of_bits (ρ c.before.before.before.before.wide-left.result) (record { sfits = c.before.minus-arg-1.given }),
+      number_of_bits (ρ c.before.before.wide-right.result) (record { sfits = c.minus-arg-2-1.given }),
+      c.before.before.before.before.wide-left.ensures,
+      c.before.before.wide-right.ensures,
     ) (difference_fits _ _ s.requires.1.inside s.requires.2.inside)
 
 returns : tie.Need-returns
@@ -25,15 +25,15 @@ returns c =
     let s = c.before.before.before.before.before.before.before in
     let ρ = atℤ s.args.levels.now in
     let lefts = at s.args.lefts.now in
-    number_of_bits _ (record { sfits = c.minus.type-inv })
+    number_of_bits _ (record { sfits = c.minus.type_inv })
     ∙ c.minus.ensures
     ∙ ap₂ ◌-ℤ◌
-    (number_of_bits _ (record { sfits = c.before.before.minus-arg.given }) ∙ ap ρ c.before.before.before.before.before.wide.ensures)
-    (number_of_bits _ (record { sfits = c.before.minus-arg2.given })
-    ∙ ap ρ (c.before.before.before.wide2.ensures ∙ ap lefts (sym (rev_even s.args.e))))
+    (number_of_bits _ (record { sfits = c.before.before.minus-arg-1.given }) ∙ ap ρ c.before.before.before.before.before.wide-left.ensures)
+    (number_of_bits _ (record { sfits = c.before.minus-arg-2-1.given })
+    ∙ ap ρ (c.before.before.before.wide-right.ensures ∙ ap lefts (sym (rev_even s.args.e))))
 
-pub drop-across-spec : {M : Type 1} → statement M
-drop-across-spec =
+pub drop_across_spec : {M : Type 1} → statement M
+drop_across_spec =
     tie.close
     (tie.spec
     (λ c. search rules)

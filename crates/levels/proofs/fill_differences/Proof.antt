@@ -13,42 +13,42 @@ use Rattle.levels.specs.inner.Across.{across}
 use Rattle.levels.proofs.fill_differences.Statement.{statement}
 use Rattle.levels.proofs.fill_differences.Tie as tie
 
-abbrev invariant-loop : tie.invariant-loop
+abbrev invariant-loop : tie.invariant-loop-e
 invariant-loop lefts edges levels flows₀ e₀ flows e = (e ≤ edges) × (flows ≡ tabulate e (across (at lefts) (atℤ levels)) ++ drop e flows₀)
 
-abbrev decreases-loop : tie.decreases-loop
+abbrev decreases-loop : tie.decreases-loop-e
 decreases-loop lefts edges levels flows₀ e₀ flows e = edges - e
 
-loop-holds : tie.Need-loop-init invariant-loop decreases-loop
+loop-holds : tie.Need-loop-e-init invariant-loop decreases-loop
 loop-holds c = (omega arith, copy_start _ _)
 
-drop-across-requires : tie.Need-drop-across-requires invariant-loop decreases-loop
+drop-across-requires : tie.Need-drop_across-requires invariant-loop decreases-loop
 drop-across-requires c κs =
     let s = c.before.before in
-    let o = c.before.loop in
+    let o = c.before.loop-e in
     (omega (arith, s.requires.0), s.requires.2 (2 * o.e) (omega arith), s.requires.2 (2 * o.e + 1) (omega arith))
 
-slice-set-from-flows : tie.Need-slice-set-from-flows invariant-loop decreases-loop
-slice-set-from-flows c = omega (arith, filled_length _ _ _ _ c.before.before.loop.invariant.1 (omega arith))
+slice-set-from-flows : tie.Need-bounds-flows-e invariant-loop decreases-loop
+slice-set-from-flows c = omega (arith, filled_length _ _ _ _ c.before.before.loop-e.invariant.1 (omega arith))
 
-loop-again : tie.Need-loop-preserved invariant-loop decreases-loop
+loop-again : tie.Need-loop-e-preserved invariant-loop decreases-loop
 loop-again c =
-    let o = c.before.before.loop in
-    (omega arith, copy_step _ o.e _ _ _ o.invariant.1 (omega arith) (number_of_bits _ (record { sfits = c.drop-across.type-inv }) ∙ c.drop-across.ensures))
+    let o = c.before.before.loop-e in
+    (omega arith, copy_step _ o.e _ _ _ o.invariant.1 (omega arith) (number_of_bits _ (record { sfits = c.drop_across.type_inv }) ∙ c.drop_across.ensures))
 
-same_length : tie.Need-same-length invariant-loop decreases-loop
-same_length c = filled_length _ _ _ _ c.before.loop.invariant.1 (omega arith)
+same_length : tie.Need-shape_of-flows invariant-loop decreases-loop
+same_length c = filled_length _ _ _ _ c.before.loop-e.invariant.1 (omega arith)
 
 returns : tie.Need-returns invariant-loop decreases-loop
 returns c =
     let a = c.before.before.args in
-    c.before.loop.invariant.1 ∙ ap (λ k. tabulate k (across (at a.lefts.now) (atℤ a.levels.now)) ++ drop k a.flows.now) same
+    c.before.loop-e.invariant.1 ∙ ap (λ k. tabulate k (across (at a.lefts.now) (atℤ a.levels.now)) ++ drop k a.flows.now) same
   where
-    same : c.before.loop.e ≡ c.before.before.args.edges
+    same : c.before.loop-e.e ≡ c.before.before.args.edges
     same = omega arith
 
-pub fill-differences-spec : {M : Type 1} → statement M
-fill-differences-spec =
+pub fill_differences_spec : {M : Type 1} → statement M
+fill_differences_spec =
     tie.close
     (tie.spec
     invariant-loop

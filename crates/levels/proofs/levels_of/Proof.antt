@@ -31,17 +31,17 @@ abbrev flows_of : tie.Start → List ℤ
 flows_of s = s.args.flows.now
 
 abbrev levelsOf : tie.Start → List ℤ
-levelsOf s = s.args.levels.now
+levelsOf s = s.args.levels-1.now
 
 -- ── 16 did not refuse ──
-abbrev given : tie.Else2 → tie.Start
+abbrev given : tie.Else-levels-faces → tie.Start
 given c = c.before.before
 
-room-edges : (c : tie.Else2) → (drawing (given c)).map.edges ≤ length (flows_of (given c))
-room-edges c = omega (arith, c.before.if1.false)
+room-edges : (c : tie.Else-levels-faces) → (drawing (given c)).map.edges ≤ length (flows_of (given c))
+room-edges c = omega (arith, c.before.if-flows-edges.false)
 
-room-faces : (c : tie.Else2) → faces (drawing (given c)).map ≤ length (levelsOf (given c))
-room-faces c = omega (arith, c.if2.false, (given c).requires.0.counted)
+room-faces : (c : tie.Else-levels-faces) → faces (drawing (given c)).map ≤ length (levelsOf (given c))
+room-faces c = omega (arith, c.if-levels-faces.false, (given c).requires.0.counted)
 
 -- ── the parts lent ──
 abbrev lentFlows : tie.Start → List ℤ
@@ -50,45 +50,45 @@ lentFlows s = take (s.args.edges - 0) (flows_of s)
 abbrev lentLevels : tie.Start → List ℤ
 lentLevels s = take (s.args.faces - 0) (levelsOf s)
 
-lent-edges : (c : tie.Else2) → length (lentFlows (given c)) ≡ (drawing (given c)).map.edges
+lent-edges : (c : tie.Else-levels-faces) → length (lentFlows (given c)) ≡ (drawing (given c)).map.edges
 lent-edges c = part_length (given c).args.edges (flows_of (given c)) (room-edges c)
 
-lent-faces : (c : tie.Else2) → length (lentLevels (given c)) ≡ faces (drawing (given c)).map
-lent-faces c = let s = given c in part_length s.args.faces (levelsOf s) c.if2.false ∙ s.pre.0.counted
+lent-faces : (c : tie.Else-levels-faces) → length (lentLevels (given c)) ≡ faces (drawing (given c)).map
+lent-faces c = let s = given c in part_length s.args.faces (levelsOf s) c.if-levels-faces.false ∙ s.pre.0.counted
 
 -- ── 17 did not refuse ──
-abbrev roomy : tie.After-enum-told → tie.Else2
+abbrev roomy : tie.In_default → tie.Else-levels-faces
 roomy c = c.before.before.before.before
 
-within-lent : (c : tie.After-enum-told)
+within-lent : (c : tie.In_default)
     → NoneOf (within_checks (drawing (given (roomy c))).map.edges (drawing (given (roomy c))).capacity (atℤ (lentFlows (given (roomy c)))))
-within-lent c = rw c.enum_told.given.1 at c.before.before.check-within.ensures
+within-lent c = rw c.enum_told-1.given-1.1 at c.before.before.check_within-within.ensures
 
-within : (c : tie.After-enum-told)
+within : (c : tie.In_default)
     → NoneOf (within_checks (drawing (given (roomy c))).map.edges (drawing (given (roomy c))).capacity (atℤ (flows_of (given (roomy c)))))
 within c = let s = given (roomy c) in part_within (drawing s).map (flows_of s) (drawing s).capacity Passed (within-lent c)
 
-small : (c : tie.After-enum-told) → SmallFlows (drawing (given (roomy c))).map.edges (atℤ (lentFlows (given (roomy c))))
+small : (c : tie.In_default) → SmallFlows (drawing (given (roomy c))).map.edges (atℤ (lentFlows (given (roomy c))))
 small c = let s = given (roomy c) in settings_small s.pre.0 s.pre.1 (atℤ (lentFlows s)) (within-lent c)
 
 -- ── 18 did not refuse ──
-abbrev limited : tie.After-check-all-balanced → tie.After-enum-told
+abbrev limited : tie.After-check_all_balanced-balanced → tie.In_default
 limited c = c.before
 
-judged-lent : (c : tie.After-check-all-balanced) (v : Verdict) → c.check-all-balanced.result ≡ v
+judged-lent : (c : tie.After-check_all_balanced-balanced) (v : Verdict) → c.check_all_balanced-balanced.result ≡ v
     → Judged (balance_checks (drawing (given (roomy (limited c)))).map NoNode (atℤ (lentFlows (given (roomy (limited c)))))) v
-judged-lent c v e = (rw e at c.check-all-balanced.ensures) (drawing (given (roomy (limited c)))).map.rotation
+judged-lent c v e = (rw e at c.check_all_balanced-balanced.ensures) (drawing (given (roomy (limited c)))).map.rotation
 
-judged : (c : tie.After-check-all-balanced) (v : Verdict) → c.check-all-balanced.result ≡ v
+judged : (c : tie.After-check_all_balanced-balanced) (v : Verdict) → c.check_all_balanced-balanced.result ≡ v
     → Judged (balance_checks (drawing (given (roomy (limited c)))).map NoNode (atℤ (flows_of (given (roomy (limited c)))))) v
 judged c v e = let s = given (roomy (limited c)) in part_balance (drawing s).map (flows_of s) NoNode v (judged-lent c v e)
 
-abbrev asked : tie.After-enum-told2 → tie.After-check-all-balanced
+abbrev asked : tie.In_default-balanced → tie.After-check_all_balanced-balanced
 asked c = c.before.before
 
-balanced : (c : tie.After-enum-told2)
+balanced : (c : tie.In_default-balanced)
     → NoneOf (balance_checks (drawing (given (roomy (limited (asked c))))).map NoNode (atℤ (flows_of (given (roomy (limited (asked c)))))))
-balanced c = judged (asked c) Passed c.enum-told2.given.1
+balanced c = judged (asked c) Passed c.enum_told-in_default-balanced-1.given-1.1
 
 -- the faces that the code counts are those of the map
 written_back : {n : ℕ} (m : ℕ) (l : List ℤ) (x : ℕ → ℤ) (y : List ℤ) → m ≡ n → y ≡ filled n x (take (m - 0) l) → y ++ drop (m - 0) l ≡ filled n x l
@@ -96,74 +96,74 @@ written_back {n} m l x y e h =
     subst (λ k. y ++ drop (m - 0) l ≡ filled k x l) e (part_filled m l x y (subst (λ k. y ≡ filled k x (take (m - 0) l)) (sym e) h))
 
 -- ── the needs, in the order of the code ──
-returns : tie.Need-returns
-returns c = let s = c.before in (balanced_short (drawing s) (flows_of s) (levelsOf s) (inl (omega (arith, c.if1.true))), refl)
+returns : tie.Need-returns-then-flows-edges
+returns c = let s = c.before in (balanced_short (drawing s) (flows_of s) (levelsOf s) (inl (omega (arith, c.if-flows-edges.true))), refl)
 
-returns-2 : tie.Need-returns-2
+returns-2 : tie.Need-returns-then-levels-faces
 returns-2 c =
     let s = c.before.before in
-    (balanced_short (drawing s) (flows_of s) (levelsOf s) (inr (omega (arith, c.if2.true, s.requires.0.counted))), refl)
+    (balanced_short (drawing s) (flows_of s) (levelsOf s) (inr (omega (arith, c.if-levels-faces.true, s.requires.0.counted))), refl)
 
-check-within-requires : tie.Need-check-within-requires
+check-within-requires : tie.Need-check_within-within-requires
 check-within-requires c κs = let r = c.before in ((given r).requires.0.few_edges, omega (arith, lent-edges r))
 
-returns-3 : tie.Need-returns-3
+returns-3 : tie.Need-returns-in-Refused
 returns-3 c =
     let w = c.before.before.before in
     let r = w.before.before in
     let s = given r in (
       balanced_within (drawing s) (flows_of s) (levelsOf s) (room-edges r) (room-faces r) _ _
-          (part_within (drawing s).map (flows_of s) (drawing s).capacity (Refused _ _) (rw c.before.within.given.1 at w.check-within.ensures)),
+          (part_within (drawing s).map (flows_of s) (drawing s).capacity (Refused _ _) (rw c.before.within-1.given-1.1 at w.check_within-within.ensures)),
       refl,
     )
 
-check-all-balanced-requires : tie.Need-check-all-balanced-requires
+check-all-balanced-requires : tie.Need-check_all_balanced-balanced-requires
 check-all-balanced-requires c κs =
     let r = roomy c in
     let p = (given r).pre.0 in
     (p.few_nodes, p.few_edges, omega (arith, lent-edges r), tails_small p, small c)
 
-returns-4 : tie.Need-returns-4
+returns-4 : tie.Need-returns-in-Refused-balanced
 returns-4 c =
     let b = c.before.before.before in
     let t = limited b in
     let r = roomy t in
     let s = given r in (
       balanced_balance (drawing s) (flows_of s) (levelsOf s) (room-edges r) (room-faces r) (within t) _ _
-          (judged b (Refused _ _) c.before.balanced.given.1),
+          (judged b (Refused _ _) c.before.balanced-1.given-1.1),
       refl,
     )
 
-part-write-levels-end : tie.Need-slice-bounds-write-levels-end
+part-write-levels-end : tie.Need-slice_bounds-write_levels-end
 part-write-levels-end c = (roomy (limited (asked c))).if2.false
 
-write-levels-requires : tie.Need-write-levels-requires
+write-levels-requires : tie.Need-write_levels-requires
 write-levels-requires c κs =
     let t = limited (asked c.before) in
     let r = roomy t in
     let s = given r in
     levelable s.pre.0 (lentFlows s) (lentLevels s) (lent-edges r) (omega (arith, lent-faces r)) (small t)
 
-returns-5 : tie.Need-returns-5
+returns-5 : tie.Need-returns
 returns-5 c =
     let m = c.before.before.before in
     let t = limited (asked m) in
     let r = roomy t in
     let s = given r in
-    let w = c.before.write-levels in
+    let w = c.before.write_levels in
     let lent' = w.new.1.1.1.1.1.0 in (
       balanced_none (drawing s) (flows_of s) (levelsOf s) (room-edges r) (room-faces r) (within t) (balanced m),
       (
         atℤ lent',
         levels_agree (drawing s).map s.args.outer (atℤ (lentFlows s)) (atℤ (flows_of s)) (atℤ lent') (part_flows (drawing s).map (flows_of s))
-            (found s.pre.0 (lentFlows s) (lentLevels s) lent' w.ensures (judged-lent (asked m) Passed m.enum-told2.given.1)),
+            (found s.pre.0 (lentFlows s) (lentLevels s) lent' w.ensures (judged-lent (asked m) Passed m.enum_told-in_default-balanced-1.given-1.1)),
         written_back s.args.faces (levelsOf s) (atℤ lent') lent' s.pre.0.counted
             (in_place s.pre.0 (lentFlows s) (lentLevels s) lent' w.ensures (omega (arith, lent-faces r))),
       ),
     )
 
-pub levels-of-spec : {M : Type 1} → statement M
-levels-of-spec =
+pub levels_of_spec : {M : Type 1} → statement M
+levels_of_spec =
     tie.close
     (tie.spec
     returns

@@ -33,24 +33,24 @@ abbrev levelsOf : tie.Start → List ℤ
 levelsOf s = s.args.levels.now
 
 abbrev flows_of : tie.Start → List ℤ
-flows_of s = s.args.flows.now
+flows_of s = s.args.flows-1.now
 
 -- ── 16 did not refuse ──
-abbrev given : tie.Else2 → tie.Start
+abbrev given : tie.Else-levels-faces → tie.Start
 given c = c.before.before
 
-room-edges : (c : tie.Else2) → (drawing (given c)).map.edges ≤ length (flows_of (given c))
-room-edges c = omega (arith, c.before.if1.false)
+room-edges : (c : tie.Else-levels-faces) → (drawing (given c)).map.edges ≤ length (flows_of (given c))
+room-edges c = omega (arith, c.before.if-flows-edges.false)
 
-room-faces : (c : tie.Else2) → faces (drawing (given c)).map ≤ length (levelsOf (given c))
-room-faces c = omega (arith, c.if2.false, (given c).requires.counted)
+room-faces : (c : tie.Else-levels-faces) → faces (drawing (given c)).map ≤ length (levelsOf (given c))
+room-faces c = omega (arith, c.if-levels-faces.false, (given c).requires.counted)
 
 -- ── the part lent ──
 abbrev lentLevels : tie.Start → List ℤ
 lentLevels s = take (s.args.faces - 0) (levelsOf s)
 
-lent-faces : (c : tie.Else2) → length (lentLevels (given c)) ≡ (given c).args.faces
-lent-faces c = part_length (given c).args.faces (levelsOf (given c)) c.if2.false
+lent-faces : (c : tie.Else-levels-faces) → length (lentLevels (given c)) ≡ (given c).args.faces
+lent-faces c = part_length (given c).args.faces (levelsOf (given c)) c.if-levels-faces.false
 
 same : (s : tie.Start) (f : ℕ) → f < s.args.faces → atℤ (lentLevels s) f ≡ atℤ (levelsOf s) f
 same s f l = part_at s.args.faces (levelsOf s) (pos 0) f l
@@ -59,120 +59,120 @@ same_face : (s : tie.Start) (f : ℕ) → f < faces (drawing s).map → atℤ (l
 same_face s f l = same s f (omega (arith, l, s.requires.counted))
 
 -- ── 19 and 20 did not refuse ──
-abbrev walked : tie.After-check-levels → tie.After-roots-of
+abbrev walked : tie.After-check_levels-judged → tie.After-roots_of-count
 walked c = c.before.before.before
 
-abbrev roomy : tie.After-check-levels → tie.Else2
+abbrev roomy : tie.After-check_levels-judged → tie.Else-levels-faces
 roomy c = (walked c).before.before
 
-judged : (c : tie.After-check-levels) (v : Verdict) → c.check-levels.result ≡ v
+judged : (c : tie.After-check_levels-judged) (v : Verdict) → c.check_levels-judged.result ≡ v
     → Judged (level_checks (faces (drawing (given (roomy c))).map) (ZeroFace (drawing (given (roomy c))).map (given (roomy c)).args.outer)
     (atℤ (levelsOf (given (roomy c))))) v
 judged c v e =
     let s = given (roomy c) in
-    levels_judged s.pre (walked c).roots-of.ensures.1 (atℤ (lentLevels s)) (atℤ (levelsOf s)) (same s) v (rw e at c.check-levels.ensures)
+    levels_judged s.pre (walked c).roots-of.ensures.1 (atℤ (lentLevels s)) (atℤ (levelsOf s)) (same s) v (rw e at c.check_levels-judged.ensures)
 
-abbrev levelled : tie.After-enum-told → tie.Else2
+abbrev levelled : tie.In_default → tie.Else-levels-faces
 levelled c = roomy c.before.before
 
-inside : (c : tie.After-enum-told)
+inside : (c : tie.In_default)
     → NoneOf (level_checks (faces (drawing (given (levelled c))).map) (ZeroFace (drawing (given (levelled c))).map (given (levelled c)).args.outer)
     (atℤ (levelsOf (given (levelled c)))))
-inside c = judged c.before.before Passed c.enum_told.given.1
+inside c = judged c.before.before Passed c.enum_told-1.given-1.1
 
-ready : (c : tie.After-enum-told) → HaveLevels (given (levelled c)).args.edges (at (given (levelled c)).args.lefts.now) (lentLevels (given (levelled c)))
+ready : (c : tie.In_default) → HaveLevels (given (levelled c)).args.edges (at (given (levelled c)).args.lefts.now) (lentLevels (given (levelled c)))
 ready c =
     let k = c.before.before in
     let r = levelled c in
     let s = given r in
     levels_ready s.pre (lentLevels s) (omega (arith, lent-faces r, s.pre.counted))
     (levels_judged s.pre (walked k).roots-of.ensures.1 (atℤ (lentLevels s)) (atℤ (lentLevels s)) (λ f l. refl) Passed
-    (rw c.enum_told.given.1 at k.check-levels.ensures))
+    (rw c.enum_told-1.given-1.1 at k.check_levels-judged.ensures))
 
 -- ── 17 did not refuse ──
-abbrev limited : tie.After-check-differences → tie.After-enum-told
+abbrev limited : tie.After-check_differences-within → tie.In_default
 limited c = c.before
 
-kept : (c : tie.After-check-differences) (v : Verdict) → c.check-differences.result ≡ v
+kept : (c : tie.After-check_differences-within) (v : Verdict) → c.check_differences-within.result ≡ v
     → Judged (within_checks (given (levelled (limited c))).args.edges (drawing (given (levelled (limited c)))).capacity
     (from_levels (drawing (given (levelled (limited c)))).map (atℤ (levelsOf (given (levelled (limited c))))))) v
 kept c v e =
     let s = given (levelled (limited c)) in
-    differences_within s.pre (atℤ (lentLevels s)) (atℤ (levelsOf s)) (same_face s) v (rw e at c.check-differences.ensures)
+    differences_within s.pre (atℤ (lentLevels s)) (atℤ (levelsOf s)) (same_face s) v (rw e at c.check_differences-within.ensures)
 
 -- ── the needs, in the order of the code ──
-returns : tie.Need-returns
-returns c = let s = c.before in (leveled_short (drawing s) (levelsOf s) (flows_of s) (inl (omega (arith, c.if1.true))), refl)
+returns : tie.Need-returns-then-flows-edges
+returns c = let s = c.before in (leveled_short (drawing s) (levelsOf s) (flows_of s) (inl (omega (arith, c.if-flows-edges.true))), refl)
 
-returns-2 : tie.Need-returns-2
+returns-2 : tie.Need-returns-then-levels-faces
 returns-2 c =
     let s = c.before.before in
-    (leveled_short (drawing s) (levelsOf s) (flows_of s) (inr (omega (arith, c.if2.true, s.requires.counted))), refl)
+    (leveled_short (drawing s) (levelsOf s) (flows_of s) (inr (omega (arith, c.if-levels-faces.true, s.requires.counted))), refl)
 
-mul-roots-of : tie.Need-overflow-mul-roots-of
+mul-roots-of : tie.Need-overflow_mul-edges
 mul-roots-of c = omega (arith, (given c).requires.few_edges)
 
-roots-of-requires : tie.Need-roots-of-requires
+roots-of-requires : tie.Need-roots_of-count-requires
 roots-of-requires c κs =
     let p = (given c.before).requires in
     (refl, omega (arith, p.few_edges), omega arith, p.outer_in, p.plane.sound.range.rotation_in)
 
-part-given-end : tie.Need-slice-bounds-given-end
-part-given-end c = c.before.before.if2.false
+part-given-end : tie.Need-slice_bounds-given-end
+part-given-end c = c.before.before.if-levels-faces.false
 
-check-levels-requires : tie.Need-check-levels-requires
+check-levels-requires : tie.Need-check_levels-judged-requires
 check-levels-requires c κs =
     let w = c.before.before in
     let r = w.before.before in
-    let e = w.roots-of.ensures.1 in
+    let e = w.roots_of-count.ensures.1 in
     (few_roots (given r).requires e, roots_in (given r).requires e, lent-faces r)
 
-returns-3 : tie.Need-returns-3
+returns-3 : tie.Need-returns-in-Refused
 returns-3 c =
     let l = c.before.before.before in
     let r = roomy l in
     let s = given r in (
-      leveled_levels (drawing s) (levelsOf s) (flows_of s) (room-edges r) (room-faces r) _ _ (judged l (Refused _ _) c.before.judged.given.1),
+      leveled_levels (drawing s) (levelsOf s) (flows_of s) (room-edges r) (room-faces r) _ _ (judged l (Refused _ _) c.before.judged-1.given-1.1),
       refl,
     )
 
-check-differences-requires : tie.Need-check-differences-requires
+check-differences-requires : tie.Need-check_differences-within-requires
 check-differences-requires c κs = ((given (levelled c)).requires.few_edges, ready c)
 
-returns-4 : tie.Need-returns-4
+returns-4 : tie.Need-returns-in-Refused-within
 returns-4 c =
     let d = c.before.before.before in
     let t = limited d in
     let r = levelled t in
     let s = given r in (
-      leveled_within (drawing s) (levelsOf s) (flows_of s) (room-edges r) (room-faces r) (inside t) _ _ (kept d (Refused _ _) c.before.within.given.1),
+      leveled_within (drawing s) (levelsOf s) (flows_of s) (room-edges r) (room-faces r) (inside t) _ _ (kept d (Refused _ _) c.before.within-1.given-1.1),
       refl,
     )
 
-part-fill-differences-end : tie.Need-slice-bounds-fill-differences-end
+part-fill-differences-end : tie.Need-slice_bounds-fill_differences-end
 part-fill-differences-end c = room-edges (levelled (limited c.before.before))
 
-fill-differences-requires : tie.Need-fill-differences-requires
+fill-differences-requires : tie.Need-fill_differences-requires
 fill-differences-requires c κs =
     let t = limited c.before.before.before in
     let r = levelled t in
     let s = given r in
     (s.pre.few_edges, part_length s.args.edges (flows_of s) (room-edges r), ready t)
 
-returns-5 : tie.Need-returns-5
+returns-5 : tie.Need-returns
 returns-5 c =
     let m = c.before.before.before in
     let d = m.before.before in
     let t = limited d in
     let r = levelled t in
     let s = given r in (
-      leveled_none (drawing s) (levelsOf s) (flows_of s) (room-edges r) (room-faces r) (inside t) (kept d Passed m.enum-told2.given.1),
+      leveled_none (drawing s) (levelsOf s) (flows_of s) (room-edges r) (room-faces r) (inside t) (kept d Passed m.enum_told-in_default-within-1.given-1.1),
       differences_filled s.pre (atℤ (lentLevels s)) (atℤ (levelsOf s)) (same_face s) (flows_of s) _
-          (part_filled s.args.edges (flows_of s) _ _ c.before.fill-differences.ensures),
+          (part_filled s.args.edges (flows_of s) _ _ c.before.fill_differences.ensures),
     )
 
-pub settings-of-spec : {M : Type 1} → statement M
-settings-of-spec =
+pub settings_of_spec : {M : Type 1} → statement M
+settings_of_spec =
     tie.close
     (tie.spec
     returns

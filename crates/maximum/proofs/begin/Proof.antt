@@ -7,16 +7,16 @@ use Rattle.node_flags.specs.inner.Flags.{Sided}
 use Rattle.maximum.proofs.begin.Statement.{statement}
 use Rattle.maximum.proofs.begin.Tie as tie
 
-returns : tie.Need-returns
+returns : tie.Need-returns-in-Source
 returns c =
     let sided = c.before.before in
     let s = sided.before.before.before.before.before in (
-      sided.before.before.spread.ensures,
-      subst (Sided s.args.source s.args.sink (flagged sided.before.before.spread.new.1.1.1.1.1.0)) c.enum_told.given.1
-          sided.side-of.ensures,
+      sided.before.before.spread-likely.ensures,
+      subst (Sided s.args.source s.args.sink (flagged sided.before.before.spread-likely.new.1.1.1.1.1.0)) c.enum_told-1.given.1
+          sided.side_of-side.ensures,
     )
 
-returns-2 : tie.Need-returns-2
+returns-2 : tie.Need-returns
 returns-2 c =
     let s = c.before.before.before.before.before.before.before.before in
     let f = c.flag_one.ensures in
@@ -24,8 +24,8 @@ returns-2 c =
     let w = s.args.sink in
     (f.0, (f.1 u s.requires.2 ∙ eqb_true u u refl, f.1 w s.requires.3 ∙ eqb_false w u (λ e. s.requires.4 (sym e))))
 
-pub begin-spec : {M : Type 1} → statement M
-begin-spec =
+pub begin_spec : {M : Type 1} → statement M
+begin_spec =
     tie.close
     (tie.spec
     (λ c. search rules)

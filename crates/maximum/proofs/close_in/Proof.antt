@@ -36,12 +36,12 @@ use Rattle.maximum.proofs.Bracketing.{
 use Rattle.maximum.proofs.close_in.Statement.{statement}
 use Rattle.maximum.proofs.close_in.Tie as tie
 
-abbrev invariant-loop : tie.invariant-loop
+abbrev invariant-loop : tie.invariant-loop-terminals
 invariant-loop tails rotations lefts capacities order from grouped starts sizes flows₀ parents₀ a₀ b₀ terminals bounds₀ flows parents a b bounds =
     Probing (map_of sizes.nodes sizes.edges tails rotations) sizes.outer (atℤ capacities) terminals.source terminals.sink flows₀ flows a b parents
     bounds.low bounds.high bounds.found
 
-abbrev decreases-loop : tie.decreases-loop
+abbrev decreases-loop : tie.decreases-loop-terminals
 decreases-loop tails rotations lefts capacities order from grouped starts sizes flows₀ parents₀ a₀ b₀ terminals bounds₀ flows parents a b bounds =
     gap bounds.low bounds.high bounds.found
 
@@ -52,112 +52,112 @@ abbrev 𝓜 : tie.Start invariant-loop decreases-loop → Map
 abbrev caps : tie.Start invariant-loop decreases-loop → ℕ → ℤ
 caps c = atℤ c.args.capacities.now
 
-ground : (c : tie.Start invariant-loop decreases-loop) → Ground (𝓜 c) (caps c) c.args.begun.terminals.source c.args.begun.terminals.sink
+ground : (c : tie.Start invariant-loop decreases-loop) → Ground (𝓜 c) (caps c) c.args.begun.terminals-1.source c.args.begun.terminals-1.sink
 ground c = ground_of c.requires.0.lent c.requires.0.small
 
-loop-holds : tie.Need-loop-init invariant-loop decreases-loop
+loop-holds : tie.Need-loop-terminals-init invariant-loop decreases-loop
 loop-holds c =
     let p = c.before.before.requires in
     record { size_a = p.0.size_a; size_b = p.0.size_b; size_parents = p.1; bracket = p.0.bracket }
 
 -- ── in the loop ──
-abbrev start : tie.At-loop invariant-loop decreases-loop → tie.Start invariant-loop decreases-loop
+abbrev start : tie.At-loop-terminals invariant-loop decreases-loop → tie.Start invariant-loop decreases-loop
 start c = c.before.before.before
 
-abbrev entered : tie.At-loop invariant-loop decreases-loop → List ℤ
-entered c = (start c).args.flows.now
+abbrev entered : tie.At-loop-terminals invariant-loop decreases-loop → List ℤ
+entered c = (start c).args.flows-1.now
 
 -- the bounds, as the numbers of their bits
-abbrev lo : tie.At-loop invariant-loop decreases-loop → ℤ
-lo c = to_z w32 (of_z w32 c.loop.bounds.low)
+abbrev lo : tie.At-loop-terminals invariant-loop decreases-loop → ℤ
+lo c = to_z w32 (of_z w32 c.loop-terminals.bounds-1.low)
 
-abbrev hi : tie.At-loop invariant-loop decreases-loop → ℤ
-hi c = to_z w32 (of_z w32 c.loop.bounds.high)
+abbrev hi : tie.At-loop-terminals invariant-loop decreases-loop → ℤ
+hi c = to_z w32 (of_z w32 c.loop-terminals.bounds-1.high)
 
-same-lo : (c : tie.At-loop invariant-loop decreases-loop) → lo c ≡ c.loop.bounds.low
+same-lo : (c : tie.At-loop-terminals invariant-loop decreases-loop) → lo c ≡ c.loop-terminals.bounds-1.low
 same-lo c =
-    same_bits (omega arith) (low_small (start c).args.sizes.outer (ground (start c)) (entered c) c.loop.flows (flagged c.loop.b)
-    c.loop.bounds.low c.loop.bounds.found c.loop.invariant.bracket.floor)
+    same_bits (omega arith) (low_small (start c).args.sizes.outer (ground (start c)) (entered c) c.loop-terminals.flows-1 (flagged c.loop-terminals.b)
+    c.loop-terminals.bounds-1.low c.loop-terminals.bounds-1.found c.loop-terminals.invariant.bracket.floor)
 
-same-hi : (c : tie.At-loop invariant-loop decreases-loop) → hi c ≡ c.loop.bounds.high
-same-hi c = same_bits (omega arith) (high_small (start c).args.sizes.outer (ground (start c)) c.loop.invariant.bracket.ceiling)
+same-hi : (c : tie.At-loop-terminals invariant-loop decreases-loop) → hi c ≡ c.loop-terminals.bounds-1.high
+same-hi c = same_bits (omega arith) (high_small (start c).args.sizes.outer (ground (start c)) c.loop-terminals.invariant.bracket.ceiling)
 
-at_bits : (c : tie.At-loop invariant-loop decreases-loop)
-    → Bracket (𝓜 (start c)) (start c).args.sizes.outer (caps (start c)) (start c).args.begun.terminals.source (start c).args.begun.terminals.sink
-    (entered c) c.loop.flows c.loop.a c.loop.b (lo c) (hi c) c.loop.bounds.found
+at_bits : (c : tie.At-loop-terminals invariant-loop decreases-loop)
+    → Bracket (𝓜 (start c)) (start c).args.sizes.outer (caps (start c)) (start c).args.begun.terminals-1.source (start c).args.begun.terminals-1.sink
+    (entered c) c.loop-terminals.flows-1 c.loop-terminals.a c.loop-terminals.b (lo c) (hi c) c.loop-terminals.bounds-1.found
 at_bits c =
-    bits_bracket (start c).args.sizes.outer (ground (start c)) (entered c) c.loop.flows c.loop.a c.loop.b _ _ c.loop.bounds.found
-    c.loop.invariant.bracket
+    bits_bracket (start c).args.sizes.outer (ground (start c)) (entered c) c.loop-terminals.flows-1 c.loop-terminals.a c.loop-terminals.b _ _ c.loop-terminals.bounds-1.found
+    c.loop-terminals.invariant.bracket
 
-as_long : (c : tie.At-loop invariant-loop decreases-loop) → length c.loop.flows ≡ length (entered c)
-as_long c = bracket_length c.loop.bounds.found (omega (arith, (start c).requires.0.lent.exact)) c.loop.invariant.bracket
+as_long : (c : tie.At-loop-terminals invariant-loop decreases-loop) → length c.loop-terminals.flows-1 ≡ length (entered c)
+as_long c = bracket_length c.loop-terminals.bounds-1.found (omega (arith, (start c).requires.0.lent.exact)) c.loop-terminals.invariant.bracket
 
 -- ── the bounds have passed each other ──
-abbrev looping : tie.After-is-less invariant-loop decreases-loop → tie.At-loop invariant-loop decreases-loop
+abbrev looping : tie.After-is_less invariant-loop decreases-loop → tie.At-loop-terminals invariant-loop decreases-loop
 looping c = c.before.before.before
 
-mul-join : tie.Need-overflow-mul-join invariant-loop decreases-loop
+mul-join : tie.Need-overflow_mul-sizes invariant-loop decreases-loop
 mul-join c = omega (arith, (ground (start (looping c.before.before))).few_edges)
 
 join-requires : tie.Need-join-requires invariant-loop decreases-loop
 join-requires c κs =
     let l = looping c.before.before.before.before in
     let b = start l in
-    (l.loop.inv.size_a, l.loop.inv.size_b, omega (arith, (ground b).few_edges), omega arith, tails_few (ground b), capacities_few (ground b))
+    (l.loop-terminals.inv.size_a, l.loop-terminals.inv.size_b, omega (arith, (ground b).few_edges), omega arith, tails_few (ground b), capacities_few (ground b))
 
-same_length : tie.Need-same-length invariant-loop decreases-loop
+same_length : tie.Need-shape_of-flows-then-is_less invariant-loop decreases-loop
 same_length c = as_long (looping c.before.before.before.before.before)
 
-returns : tie.Need-returns invariant-loop decreases-loop
+returns : tie.Need-returns-then-is_less invariant-loop decreases-loop
 returns c =
     let t = c.before.before.before.before in
     let l = looping t.before in
     let b = start l in (
-      l.loop.inv.size_parents,
+      l.loop-terminals.inv.size_parents,
       c.join.ensures.0,
-      passed b.args.sizes.outer (ground b) (entered l) l.loop.flows l.loop.a l.loop.b (lo l) (hi l) l.loop.bounds.found (at_bits l)
-          (lt_of_test _ _ (sym t.before.is-less.ensures ∙ t.if1.true)) c.join.new.1.1.1.0 c.join.ensures.1,
+      passed b.args.sizes.outer (ground b) (entered l) l.loop-terminals.flows-1 l.loop-terminals.a l.loop-terminals.b (lo l) (hi l) l.loop-terminals.bounds-1.found (at_bits l)
+          (lt_of_test _ _ (sym t.before.is_less.ensures ∙ t.if-is_less.true)) c.join.new.1.1.1.0 c.join.ensures.1,
     )
 
 -- ── they have met ──
-abbrev ordered : tie.After-finished invariant-loop decreases-loop → tie.At-loop invariant-loop decreases-loop
+abbrev ordered : tie.After-finished invariant-loop decreases-loop → tie.At-loop-terminals invariant-loop decreases-loop
 ordered c = looping c.before.before
 
-same-length-2 : tie.Need-same-length-2 invariant-loop decreases-loop
+same-length-2 : tie.Need-shape_of-flows-then-finished invariant-loop decreases-loop
 same-length-2 c = as_long (ordered c.before)
 
-returns-2 : tie.Need-returns-2 invariant-loop decreases-loop
+returns-2 : tie.Need-returns-then-finished invariant-loop decreases-loop
 returns-2 c =
     let l = ordered c.before in
     let b = start l in
-    let r = c.before.finished.ensures.0 c.if2.true in (
-      l.loop.inv.size_parents,
-      l.loop.inv.size_a,
-      met b.args.sizes.outer (ground b) (entered l) l.loop.flows l.loop.a l.loop.b (lo l) (hi l) l.loop.bounds.found (at_bits l)
+    let r = c.before.finished.ensures.0 c.if-finished.true in (
+      l.loop-terminals.inv.size_parents,
+      l.loop-terminals.inv.size_a,
+      met b.args.sizes.outer (ground b) (entered l) l.loop-terminals.flows-1 l.loop-terminals.a l.loop-terminals.b (lo l) (hi l) l.loop-terminals.bounds-1.found (at_bits l)
           r.0 r.1,
     )
 
 -- ── a probe between them ──
 in_order : (c : tie.After-finished invariant-loop decreases-loop) → lo (ordered c) ≤ℤ hi (ordered c)
-in_order c = let e = c.before in ge_of_test _ _ (sym e.before.is-less.ensures ∙ e.if1.false)
+in_order c = let e = c.before in ge_of_test _ _ (sym e.before.is_less.ensures ∙ e.if-is_less.false)
 
-in-turn : (c : tie.After-finished invariant-loop decreases-loop) → (ordered c).loop.bounds.low ≤ℤ (ordered c).loop.bounds.high
-in-turn c = let l = ordered c in subst (λ h. l.loop.bounds.low ≤ℤ h) (same-hi l) (subst (λ x. x ≤ℤ hi l) (same-lo l) (in_order c))
+in-turn : (c : tie.After-finished invariant-loop decreases-loop) → (ordered c).loop.bounds-1.low ≤ℤ (ordered c).loop.bounds-1.high
+in-turn c = let l = ordered c in subst (λ h. l.loop-terminals.bounds-1.low ≤ℤ h) (same-hi l) (subst (λ x. x ≤ℤ hi l) (same-lo l) (in_order c))
 
-apart : (c : tie.Else2 invariant-loop decreases-loop) → (ordered c.before).loop.bounds.found ≡ true
-    → (ordered c.before).loop.bounds.low <ℤ (ordered c.before).loop.bounds.high
+apart : (c : tie.Else-finished invariant-loop decreases-loop) → (ordered c.before).loop.bounds-1.found ≡ true
+    → (ordered c.before).loop.bounds-1.low <ℤ (ordered c.before).loop.bounds-1.high
 apart c e =
     let l = ordered c.before in
-    subst (λ h. l.loop.bounds.low <ℤ h) (same-hi l)
+    subst (λ h. l.loop-terminals.bounds-1.low <ℤ h) (same-hi l)
     (subst (λ x. x <ℤ hi l) (same-lo l)
-    (above_low (lo l) (hi l) (hi l) l.loop.bounds.found (in_order c.before) (c.before.finished.ensures.1 c.if2.false) (λ k. k) e))
+    (above_low (lo l) (hi l) (hi l) l.loop-terminals.bounds-1.found (in_order c.before) (c.before.finished.ensures.1 c.if-finished.false) (λ k. k) e))
 
-probe-requires : tie.Need-probe-requires invariant-loop decreases-loop
+probe-requires : tie.Need-probe-bounds-requires invariant-loop decreases-loop
 probe-requires c κs =
     let q = c.before.before.before.before in
     let l = ordered q.before in
     let p = (start l).pre.0 in
-    let v = l.loop.inv in (
+    let v = l.loop-terminals.inv in (
       (
         entered l,
         record {
@@ -173,44 +173,44 @@ probe-requires c κs =
       apart q,
     )
 
-abbrev probed : tie.After-probe invariant-loop decreases-loop → tie.After-finished invariant-loop decreases-loop
+abbrev probed : tie.After-probe-bounds invariant-loop decreases-loop → tie.After-finished invariant-loop decreases-loop
 probed c = c.before.before.before.before.before.before
 
-same-length-3 : tie.Need-same-length-3 invariant-loop decreases-loop
+same-length-3 : tie.Need-shape_of-flows-then-bounds invariant-loop decreases-loop
 same-length-3 c =
     let k = c.before.before in
     let l = ordered (probed k) in
-    ap length ((k.probe.ensures.4 (entered l) l.loop.inv.bracket).0 c.if3.true).0
+    ap length ((k.probe-bounds.ensures.4 (entered l) l.loop-terminals.inv.bracket).0 c.if-bounds.true).0
 
-returns-3 : tie.Need-returns-3 invariant-loop decreases-loop
+returns-3 : tie.Need-returns-then-bounds invariant-loop decreases-loop
 returns-3 c =
     let k = c.before.before in
     let l = ordered (probed k) in
-    let e = k.probe.ensures in
-    (e.0, e.1, (e.4 (entered l) l.loop.inv.bracket).0 c.if3.true)
+    let e = k.probe-bounds.ensures in
+    (e.0, e.1, (e.4 (entered l) l.loop-terminals.inv.bracket).0 c.if-bounds.true)
 
-loop-less : tie.Need-loop-smaller invariant-loop decreases-loop
+loop-less : tie.Need-loop-terminals-smaller invariant-loop decreases-loop
 loop-less c =
     let k = c.before.before in
     let l = ordered (probed k) in
-    let r = k.probe.result in
-    gap_closer l.loop.bounds.low l.loop.bounds.high l.loop.bounds.found r.low r.high r.found (in-turn (probed k))
-    (k.probe.ensures.3 c.if3.false)
+    let r = k.probe-bounds.result in
+    gap_closer l.loop-terminals.bounds-1.low l.loop-terminals.bounds-1.high l.loop-terminals.bounds-1.found r.low r.high r.found (in-turn (probed k))
+    (k.probe-bounds.ensures.3 c.if-bounds.false)
 
-loop-again : tie.Need-loop-preserved invariant-loop decreases-loop
+loop-again : tie.Need-loop-terminals-preserved invariant-loop decreases-loop
 loop-again c =
     let k = c.before.before in
     let l = ordered (probed k) in
-    let e = k.probe.ensures in
+    let e = k.probe-bounds.ensures in
     record {
       size_a = e.1;
       size_b = e.2;
       size_parents = e.0;
-      bracket = (e.4 (entered l) l.loop.inv.bracket).1 c.if3.false;
+      bracket = (e.4 (entered l) l.loop-terminals.inv.bracket).1 c.if-bounds.false;
     }
 
-pub close-in-spec : {M : Type 1} → statement M
-close-in-spec =
+pub close_in_spec : {M : Type 1} → statement M
+close_in_spec =
     tie.close
     (tie.spec
     invariant-loop

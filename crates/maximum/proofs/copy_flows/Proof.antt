@@ -12,36 +12,36 @@ use Rattle.arrays.proofs.FillLoops.{copy_start, copy_step, filled_length}
 use Rattle.maximum.proofs.copy_flows.Statement.{statement}
 use Rattle.maximum.proofs.copy_flows.Tie as tie
 
-abbrev invariant-loop : tie.invariant-loop
+abbrev invariant-loop : tie.invariant-loop-e
 invariant-loop from edges to₀ e₀ to e = (e ≤ edges) × (to ≡ tabulate e (atℤ from) ++ drop e to₀)
 
-abbrev decreases-loop : tie.decreases-loop
+abbrev decreases-loop : tie.decreases-loop-e
 decreases-loop from edges to₀ e₀ to e = edges - e
 
-loop-holds : tie.Need-loop-init invariant-loop decreases-loop
+loop-holds : tie.Need-loop-e-init invariant-loop decreases-loop
 loop-holds c = (omega arith, copy_start _ _)
 
-slice-set-from-to : tie.Need-slice-set-from-to invariant-loop decreases-loop
-slice-set-from-to c = omega (arith, filled_length _ _ _ _ c.before.before.loop.invariant.1 (omega arith))
+slice-set-from-to : tie.Need-bounds-to-e invariant-loop decreases-loop
+slice-set-from-to c = omega (arith, filled_length _ _ _ _ c.before.before.loop-e.invariant.1 (omega arith))
 
-loop-again : tie.Need-loop-preserved invariant-loop decreases-loop
+loop-again : tie.Need-loop-e-preserved invariant-loop decreases-loop
 loop-again c =
-    let o = c.before.before.loop in
+    let o = c.before.before.loop-e in
     (omega arith, copy_step _ o.e _ _ _ o.invariant.1 (omega arith) (same_bits (omega arith) (c.before.before.before.requires.2 o.e (omega arith))))
 
-same_length : tie.Need-same-length invariant-loop decreases-loop
-same_length c = filled_length _ _ _ _ c.before.loop.invariant.1 (omega arith)
+same_length : tie.Need-shape_of-to invariant-loop decreases-loop
+same_length c = filled_length _ _ _ _ c.before.loop-e.invariant.1 (omega arith)
 
 returns : tie.Need-returns invariant-loop decreases-loop
 returns c =
     let a = c.before.before.args in
-    c.before.loop.invariant.1 ∙ ap (λ k. tabulate k (atℤ a.from.now) ++ drop k a.to.now) same
+    c.before.loop-e.invariant.1 ∙ ap (λ k. tabulate k (atℤ a.from.now) ++ drop k a.to-1.now) same
   where
-    same : c.before.loop.e ≡ c.before.before.args.edges
+    same : c.before.loop-e.e ≡ c.before.before.args.edges
     same = omega arith
 
-pub copy-flows-spec : {M : Type 1} → statement M
-copy-flows-spec =
+pub copy_flows_spec : {M : Type 1} → statement M
+copy_flows_spec =
     tie.close
     (tie.spec
     invariant-loop

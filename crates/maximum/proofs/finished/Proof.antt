@@ -5,13 +5,13 @@ use Rattle.signed.proofs.Laws.{same_of_test, apart_of_test}
 use Rattle.maximum.proofs.finished.Statement.{statement}
 use Rattle.maximum.proofs.finished.Tie as tie
 
-returns : tie.Need-returns
+returns : tie.Need-returns-then-found
 returns c =
     let f = c.before.ranges in
-    (λ e. (c.if1.true, same_of_test f.low f.high e), λ e _. apart_of_test f.low f.high e)
+    (λ e. (c.if-found.true, same_of_test f.low f.high e), λ e _. apart_of_test f.low f.high e)
 
-returns-2 : tie.Need-returns-2
-returns-2 c = (λ e. absurd (false≢true e), λ _ found _. true≢false (sym found ∙ c.if1.false))
+returns-2 : tie.Need-returns
+returns-2 c = (λ e. absurd (false≢true e), λ _ found _. true≢false (sym found ∙ c.if-found.false))
 
-pub finished-spec : {M : Type 1} → statement M
-finished-spec = tie.close (tie.spec returns returns-2)
+pub finished_spec : {M : Type 1} → statement M
+finished_spec = tie.close (tie.spec returns returns-2)

@@ -15,20 +15,20 @@ use Rattle.maximum.proofs.first_bounds.Statement.{statement}
 use Rattle.maximum.proofs.first_bounds.Tie as tie
 
 -- the two cuts, as the machine holds them
-high_is : (c : tie.After-capacity)
-    → to_z w32 (of_z w32 c.capacity.result) ≡ cut_of c.before.args.darts (at c.before.args.tails.now)
+high_is : (c : tie.After-capacity-high)
+    → to_z w32 (of_z w32 c.capacity-high.result) ≡ cut_of c.before.args.darts (at c.before.args.tails.now)
     (atℤ c.before.args.capacities.now) (flagged c.before.args.a.now)
-high_is c = number_of_bits _ (record { sfits = c.capacity.type-inv }) ∙ c.capacity.ensures
+high_is c = number_of_bits _ (record { sfits = c.capacity-high.type_inv }) ∙ c.capacity-high.ensures
 
-abbrev given : tie.After-capacity2 → tie.Start
+abbrev given : tie.After-capacity → tie.Start
 given c = c.before.before.before
 
-low_is : (c : tie.After-capacity2)
-    → to_z w32 (of_z w32 c.capacity2.result) ≡ cut_of (given c).args.darts (at (given c).args.tails.now)
+low_is : (c : tie.After-capacity)
+    → to_z w32 (of_z w32 c.capacity.result) ≡ cut_of (given c).args.darts (at (given c).args.tails.now)
     (atℤ (given c).args.capacities.now) (flagged (given c).args.b.now)
-low_is c = number_of_bits _ (record { sfits = c.capacity2.type-inv }) ∙ c.capacity2.ensures
+low_is c = number_of_bits _ (record { sfits = c.capacity.type_inv }) ∙ c.capacity.ensures
 
-returns : tie.Need-returns
+returns : tie.Need-returns-then-likely
 returns c = (refl, high_is c.before, inl refl)
 
 negate-requires : tie.Need-negate-requires
@@ -36,9 +36,9 @@ negate-requires c κs =
     let p = (given c).requires in
     subst (Limited 2048000000) (sym (low_is c)) (cut_limited _ _ _ _ p.0 p.3)
 
-returns-2 : tie.Need-returns-2
+returns-2 : tie.Need-returns
 returns-2 c =
-    (refl, high_is c.before.before.before, inr (number_of_bits _ (record { sfits = c.negate.type-inv }) ∙ c.negate.ensures ∙ ap neg_ℤ (low_is c.before)))
+    (refl, high_is c.before.before.before, inr (number_of_bits _ (record { sfits = c.negate.type_inv }) ∙ c.negate.ensures ∙ ap neg_ℤ (low_is c.before)))
 
-pub first-bounds-spec : {M : Type 1} → statement M
-first-bounds-spec = tie.close (tie.spec (λ c κs. search rules) returns (λ c κs. search rules) negate-requires returns-2)
+pub first_bounds_spec : {M : Type 1} → statement M
+first_bounds_spec = tie.close (tie.spec (λ c κs. search rules) returns (λ c κs. search rules) negate-requires returns-2)

@@ -13,7 +13,7 @@ use Rattle.maximum.specs.inner.Narrowing.{stays, falls}
 use Rattle.maximum.proofs.lower.Statement.{statement}
 use Rattle.maximum.proofs.lower.Tie as tie
 
-returns : tie.Need-returns
+returns : tie.Need-returns-in-Source
 returns c =
     let told = c.before.before in
     let sided = told.before.before in
@@ -21,22 +21,22 @@ returns c =
     let tested = less.before in
     let added = tested.before in
     let s = added.before in
-    let total = number_of_bits added.capacity.result (record { sfits = added.capacity.type-inv }) in (
-      c.copy-flags.ensures.0,
+    let total = number_of_bits added.capacity-total.result (record { sfits = added.capacity-total.type_inv }) in (
+      c.copy_flags.ensures.0,
       falls
-          (subst (Sided s.args.source s.args.sink (flagged s.args.inside.now)) told.enum_told.given.1 sided.side-of.ensures)
-          (total ∙ added.capacity.ensures)
-          (subst (λ h. to_z w32 (of_z w32 added.capacity.result) <ℤ h) (number_of_bits _ s.ranges.high)
-          (lt_of_test _ _ (sym tested.is-less.ensures ∙ less.if1.true)))
-          c.copy-flags.ensures.1,
+          (subst (Sided s.args.source s.args.sink (flagged s.args.inside.now)) told.enum_told-1.given.1 sided.side_of-side.ensures)
+          (total ∙ added.capacity-total.ensures)
+          (subst (λ h. to_z w32 (of_z w32 added.capacity-total.result) <ℤ h) (number_of_bits _ s.ranges.high)
+          (lt_of_test _ _ (sym tested.is_less.ensures ∙ less.if-is_less.true)))
+          c.copy_flags.ensures.1,
     )
 
-returns-2 : tie.Need-returns-2
+returns-2 : tie.Need-returns-then-is_less
 returns-2 c =
     let s = c.before.before.before.before.before in
     (s.requires.0, stays (number_of_bits _ s.ranges.high) refl)
 
-returns-3 : tie.Need-returns-3
+returns-3 : tie.Need-returns
 returns-3 c =
     let s = c.before.before.before in
     (s.requires.0, stays (number_of_bits _ s.ranges.high) refl)

@@ -4,10 +4,10 @@ use borrow.Author.Rules.{rules}
 use Rattle.maximum.proofs.maximize.Statement.{statement}
 use Rattle.maximum.proofs.maximize.Tie as tie
 
-maximize-from-requires : tie.Need-maximize-from-requires
+maximize-from-requires : tie.Need-maximize_from-requires
 maximize-from-requires c κs =
     let p = c.before.before.before.requires in
     (p.0, p.1, p.2, refl)
 
-pub maximize-spec : {M : Type 1} → statement M
-maximize-spec = tie.close (tie.spec maximize-from-requires (λ c. search rules) (λ c. search rules))
+pub maximize_spec : {M : Type 1} → statement M
+maximize_spec = tie.close (tie.spec maximize-from-requires (λ c. search rules) (λ c. search rules))

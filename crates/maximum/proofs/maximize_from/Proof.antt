@@ -21,7 +21,7 @@ caps c = atℤ c.args.capacities.now
 ground : (c : tie.Start) → Ground (𝓜 c) (caps c) c.args.terminals.source c.args.terminals.sink
 ground c = ground_of c.requires.0 c.requires.1
 
-begin-requires : tie.Need-begin-requires
+begin-requires : tie.Need-begin-likely-requires
 begin-requires c κs =
     let p = c.before.requires in
     let g = ground c.before in (
@@ -33,44 +33,44 @@ begin-requires c κs =
       g.plane.sound.has_dart _ g.two.source_in,
     )
 
-flag-one-requires : tie.Need-flag-one-requires
+flag-one-requires : tie.Need-flag_one-requires
 flag-one-requires c κs = (refl, sink_few (ground c.before.before.before))
 
-mul-first-bounds : tie.Need-overflow-mul-first-bounds
+mul-first-bounds : tie.Need-overflow_mul-sizes
 mul-first-bounds c = omega (arith, c.before.before.before.before.before.requires.0.opened.drawn.few_edges)
 
-abbrev given : tie.After-flag-one → tie.Start
+abbrev given : tie.After-flag_one → tie.Start
 given c = c.before.before.before.before
 
-first-bounds-requires : tie.Need-first-bounds-requires
+first-bounds-requires : tie.Need-first_bounds-bounds-requires
 first-bounds-requires c κs =
     let s = given c.before.before.before in
     (omega (arith, s.pre.0.opened.drawn.few_edges), omega arith, tails_few (ground s), capacities_few (ground s))
 
 -- the bounds to begin with
-abbrev flagged-sink : tie.After-first-bounds → tie.After-flag-one
+abbrev flagged-sink : tie.After-first_bounds-bounds → tie.After-flag_one
 flagged-sink c = c.before.before.before.before
 
-abbrev first-set : tie.After-first-bounds → tie.After-begin
+abbrev first-set : tie.After-first_bounds-bounds → tie.After-begin-likely
 first-set c = (flagged-sink c).before.before
 
-bounds : (c : tie.After-first-bounds)
+bounds : (c : tie.After-first_bounds-bounds)
     → let s = given (flagged-sink c) in
-    Bracket (𝓜 s) s.args.sizes.outer (caps s) s.args.terminals.source s.args.terminals.sink s.args.flows.now s.args.flows.now
+    Bracket (𝓜 s) s.args.sizes.outer (caps s) s.args.terminals.source s.args.terminals.sink s.args.flows-1.now s.args.flows-1.now
     (first-set c).begin.new.1.1.1.1.1.1.0 (flagged-sink c).flag_one.new.1.0
-    c.first-bounds.result.low c.first-bounds.result.high c.first-bounds.result.found
+    c.first_bounds-bounds.result.low c.first_bounds-bounds.result.high c.first_bounds-bounds.result.found
 bounds c =
     let s = given (flagged-sink c) in
     let A = (first-set c).begin.new.1.1.1.1.1.1.0 in
     let B = (flagged-sink c).flag_one.new.1.0 in
-    let r = c.first-bounds.result in
-    let e = c.first-bounds.ensures in
-    subst (Bracket (𝓜 s) s.args.sizes.outer (caps s) s.args.terminals.source s.args.terminals.sink s.args.flows.now
-    s.args.flows.now A B r.low r.high) (sym e.0)
-    (begins s.args.sizes.outer (ground s) s.args.flows.now A B r.low r.high (first-set c).begin.ensures.1
+    let r = c.first_bounds-bounds.result in
+    let e = c.first_bounds-bounds.ensures in
+    subst (Bracket (𝓜 s) s.args.sizes.outer (caps s) s.args.terminals.source s.args.terminals.sink s.args.flows-1.now
+    s.args.flows-1.now A B r.low r.high) (sym e.0)
+    (begins s.args.sizes.outer (ground s) s.args.flows-1.now A B r.low r.high (first-set c).begin.ensures.1
     (flagged-sink c).flag_one.ensures.1 e.1 e.2)
 
-close-in-requires : tie.Need-close-in-requires
+close-in-requires : tie.Need-close_in-requires
 close-in-requires c κs =
     let m = c.before.before.before.before in
     let p = (given (flagged-sink m)).requires in (
@@ -85,10 +85,10 @@ close-in-requires c κs =
     )
 
 returns : tie.Need-returns
-returns c = let e = c.before.close-in.ensures in (e.1, e.0, e.2)
+returns c = let e = c.before.close_in.ensures in (e.1, e.0, e.2)
 
-pub maximize-from-spec : {M : Type 1} → statement M
-maximize-from-spec =
+pub maximize_from_spec : {M : Type 1} → statement M
+maximize_from_spec =
     tie.close
     (tie.spec
     begin-requires

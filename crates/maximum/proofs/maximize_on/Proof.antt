@@ -52,7 +52,7 @@ caps c = atℤ c.args.capacities.now
 ground : (c : tie.Start) → Ground (𝓜 c) (caps c) c.args.demand.source c.args.demand.sink
 ground c = ground_of c.requires.0 c.requires.1
 
-copy-flows-requires : tie.Need-copy-flows-requires
+copy-flows-requires : tie.Need-copy_flows-requires
 copy-flows-requires c κs =
     let s = c.before.before in
     let k = s.requires.4 in
@@ -73,24 +73,24 @@ same-carried s =
     (low_small s.args.sizes.outer (ground s) k.1 s.args.known.now (λ u. true) s.args.demand.value true (k.0, k.2, k.3))
 
 -- the slice after the copy
-abbrev given : tie.After-copy-flows → tie.Start
+abbrev given : tie.After-copy_flows → tie.Start
 given c = c.before.before.before
 
-abbrev since : tie.After-copy-flows → List ℤ
-since c = c.copy-flows.new.1.1.0
+abbrev since : tie.After-copy_flows → List ℤ
+since c = c.copy_flows.new.1.1.0
 
-is-since : (c : tie.After-copy-flows) → since c ≡ filled (given c).args.sizes.edges (given c).requires.4.0 (given c).args.flows.now
+is-since : (c : tie.After-copy_flows) → since c ≡ filled (given c).args.sizes.edges (given c).requires.4.0 (given c).args.flows-1.now
 is-since c =
     let s = given c in
     let k = s.pre.4 in
-    copied s.args.sizes.edges k.0 k.1 s.args.known.now k.3 (omega (arith, k.4)) s.args.flows.now (since c) c.copy-flows.ensures
+    copied s.args.sizes.edges k.0 k.1 s.args.known.now k.3 (omega (arith, k.4)) s.args.flows-1.now (since c) c.copy_flows.ensures
 
-same-room : (c : tie.After-copy-flows) → length (since c) ≡ length (given c).args.flows.now
+same-room : (c : tie.After-copy_flows) → length (since c) ≡ length (given c).args.flows-1.now
 same-room c =
     let s = given c in
-    filled_length s.args.sizes.edges s.pre.4.0 s.args.flows.now (since c) (is-since c) (omega (arith, s.pre.0.exact))
+    filled_length s.args.sizes.edges s.pre.4.0 s.args.flows-1.now (since c) (is-since c) (omega (arith, s.pre.0.exact))
 
-begin-requires : tie.Need-begin-requires
+begin-requires : tie.Need-begin-likely-requires
 begin-requires c κs =
     let s = given c.before.before in
     let g = ground s in (
@@ -102,13 +102,13 @@ begin-requires c κs =
       g.plane.sound.has_dart _ g.two.source_in,
     )
 
-abbrev copy : tie.After-begin → tie.After-copy-flows
+abbrev copy : tie.After-begin-likely → tie.After-copy_flows
 copy c = c.before.before.before
 
-abbrev base : tie.After-begin → tie.Start
+abbrev base : tie.After-begin-likely → tie.Start
 base c = given (copy c)
 
-mul-capacity : tie.Need-overflow-mul-capacity
+mul-capacity : tie.Need-overflow_mul-sizes
 mul-capacity c = omega (arith, (base c.before.before).requires.0.opened.drawn.few_edges)
 
 capacity-requires : tie.Need-capacity-requires
@@ -117,7 +117,7 @@ capacity-requires c κs =
     (omega (arith, s.pre.0.opened.drawn.few_edges), omega arith, tails_few (ground s), capacities_few (ground s))
 
 -- ── the bounds to begin with ──
-abbrev first-set : tie.After-capacity → tie.After-begin
+abbrev first-set : tie.After-capacity → tie.After-begin-likely
 first-set c = c.before.before.before
 
 abbrev start : tie.After-capacity → tie.Start
@@ -128,23 +128,23 @@ a₀ c = (first-set c).begin.new.1.1.1.1.1.1.0
 
 bounds : (c : tie.After-capacity) (B : List ℕ)
     → Bracket (𝓜 (start c)) (start c).args.sizes.outer (caps (start c)) (start c).args.demand.source (start c).args.demand.sink
-    (start c).args.flows.now (since (copy (first-set c))) (a₀ c) B (to_z w32 (of_z w32 (start c).args.demand.value))
+    (start c).args.flows-1.now (since (copy (first-set c))) (a₀ c) B (to_z w32 (of_z w32 (start c).args.demand.value))
     (to_z w32 (of_z w32 c.capacity.result)) true
 bounds c B =
     let s = start c in
     let k = s.pre.4 in
-    begins_on s.args.sizes.outer (ground s) s.args.flows.now (since (copy (first-set c))) (a₀ c) B _ _ k.0 (first-set c).begin.ensures.1
-    (number_of_bits _ (record { sfits = c.capacity.type-inv }) ∙ c.capacity.ensures)
+    begins_on s.args.sizes.outer (ground s) s.args.flows-1.now (since (copy (first-set c))) (a₀ c) B _ _ k.0 (first-set c).begin.ensures.1
+    (number_of_bits _ (record { sfits = c.capacity.type_inv }) ∙ c.capacity.ensures)
     (subst (λ v. Highest (𝓜 s) s.args.sizes.outer (caps s) s.args.demand.source s.args.demand.sink v k.0) (sym (same-carried s)) k.2)
     (is-since (copy (first-set c)))
 
-try-likely-requires : tie.Need-try-likely-requires
+try-likely-requires : tie.Need-try_likely-tried-requires
 try-likely-requires c κs =
     let q = c.before.before.before in
     let s = start q in
     let p = s.pre in (
       (
-        s.args.flows.now,
+        s.args.flows-1.now,
         record {
           lent = record { opened = p.0.opened; ends = p.0.ends; exact = same-room (copy (first-set q)) ∙ p.0.exact };
           small = p.1;
@@ -157,128 +157,128 @@ try-likely-requires c κs =
     )
 
 -- ── the high bound was tried ──
-abbrev measured : tie.After-try-likely → tie.After-capacity
+abbrev measured : tie.After-try_likely-tried → tie.After-capacity
 measured c = c.before.before.before.before
 
-abbrev origin : tie.After-try-likely → tie.Start
+abbrev origin : tie.After-try_likely-tried → tie.Start
 origin c = start (measured c)
 
-abbrev flows₁ : tie.After-try-likely → List ℤ
-flows₁ c = c.try-likely.new.1.1.1.1.1.1.1.1.1.1.1.0
+abbrev flows₁ : tie.After-try_likely-tried → List ℤ
+flows₁ c = c.try_likely-tried.new.1.1.1.1.1.1.1.1.1.1.1.0
 
-abbrev a₁ : tie.After-try-likely → List ℕ
-a₁ c = c.try-likely.new.1.1.1.1.1.1.1.1.1.1.1.1.0
+abbrev a₁ : tie.After-try_likely-tried → List ℕ
+a₁ c = c.try_likely-tried.new.1.1.1.1.1.1.1.1.1.1.1.1.0
 
-abbrev b₁ : tie.After-try-likely → List ℕ
-b₁ c = c.try-likely.new.1.1.1.1.1.1.1.1.1.1.1.1.1.0
+abbrev b₁ : tie.After-try_likely-tried → List ℕ
+b₁ c = c.try_likely-tried.new.1.1.1.1.1.1.1.1.1.1.1.1.1.0
 
-same_length : tie.Need-same-length
+same_length : tie.Need-shape_of-flows-then-tried
 same_length c =
     let t = c.before.before in
     let s = origin t in
-    ap length ((t.try-likely.ensures.2 s.args.flows.now (bounds (measured t) _)).0 c.if1.true).0
+    ap length ((t.try_likely-tried.ensures.2 s.args.flows-1.now (bounds (measured t) _)).0 c.if-tried.true).0
 
-returns : tie.Need-returns
+returns : tie.Need-returns-then-tried
 returns c =
     let t = c.before.before in
-    let e = t.try-likely.ensures in
-    (e.0, (e.2 (origin t).args.flows.now (bounds (measured t) _)).0 c.if1.true)
+    let e = t.try_likely-tried.ensures in
+    (e.0, (e.2 (origin t).args.flows-1.now (bounds (measured t) _)).0 c.if-tried.true)
 
-abbrev tried : tie.Else1 → tie.After-try-likely
+abbrev tried : tie.Else-tried → tie.After-try_likely-tried
 tried c = c.before.before
 
 -- the bounds then, as the numbers of their bits
-still : (c : tie.Else1)
+still : (c : tie.Else-tried)
     → let s = origin (tried c) in let r = (tried c).try-likely.result in
-    Bracket (𝓜 s) s.args.sizes.outer (caps s) s.args.demand.source s.args.demand.sink s.args.flows.now (flows₁ (tried c))
+    Bracket (𝓜 s) s.args.sizes.outer (caps s) s.args.demand.source s.args.demand.sink s.args.flows-1.now (flows₁ (tried c))
     (a₁ (tried c)) (b₁ (tried c)) (to_z w32 (of_z w32 r.low)) (to_z w32 (of_z w32 r.high)) r.found
 still c =
     let t = tried c in
     let s = origin t in
-    bits_bracket s.args.sizes.outer (ground s) s.args.flows.now (flows₁ t) (a₁ t) (b₁ t) _ _ t.try-likely.result.found
-    ((t.try-likely.ensures.2 s.args.flows.now (bounds (measured t) _)).1 c.if1.false)
+    bits_bracket s.args.sizes.outer (ground s) s.args.flows-1.now (flows₁ t) (a₁ t) (b₁ t) _ _ t.try_likely-tried.result.found
+    ((t.try_likely-tried.ensures.2 s.args.flows-1.now (bounds (measured t) _)).1 c.if-tried.false)
 
-room : (c : tie.Else1) → length (flows₁ (tried c)) ≡ (origin (tried c)).args.sizes.edges
+room : (c : tie.Else-tried) → length (flows₁ (tried c)) ≡ (origin (tried c)).args.sizes.edges
 room c =
     let exact = (origin (tried c)).requires.0.exact in
     bracket_length (tried c).try-likely.result.found (omega (arith, exact)) (still c) ∙ exact
 
-propose-requires : tie.Need-propose-requires
+propose-requires : tie.Need-propose-high-requires
 propose-requires c κs =
     let l = c.before.before.before.before.before in
     let t = tried l in
     let s = origin t in
-    lent_pivots s.args.rotations.now (ground s) s.pre.3 t.try-likely.ensures.0 (room l)
+    lent_pivots s.args.rotations.now (ground s) s.pre.3 t.try_likely-tried.ensures.0 (room l)
 
 -- ── and lowered by the pivots ──
-abbrev left : tie.After-propose → tie.Else1
+abbrev left : tie.After-propose-high → tie.Else-tried
 left c = c.before.before.before.before.before.before
 
-abbrev a₂ : tie.After-propose → List ℕ
-a₂ c = c.propose.new.1.1.1.1.1.1.1.1.1.0
+abbrev a₂ : tie.After-propose-high → List ℕ
+a₂ c = c.propose-high.new.1.1.1.1.1.1.1.1.1.0
 
-begun : (c : tie.After-propose)
-    → let t = tried (left c) in let s = origin t in let r = t.try-likely.result in
-    Bracket (𝓜 s) s.args.sizes.outer (caps s) s.args.demand.source s.args.demand.sink s.args.flows.now (flows₁ t) (a₂ c) (b₁ t)
-    (to_z w32 (of_z w32 r.low)) (to_z w32 (of_z w32 c.propose.result)) r.found
+begun : (c : tie.After-propose-high)
+    → let t = tried (left c) in let s = origin t in let r = t.try_likely-tried.result in
+    Bracket (𝓜 s) s.args.sizes.outer (caps s) s.args.demand.source s.args.demand.sink s.args.flows-1.now (flows₁ t) (a₂ c) (b₁ t)
+    (to_z w32 (of_z w32 r.low)) (to_z w32 (of_z w32 c.propose-high.result)) r.found
 begun c =
     let t = tried (left c) in
     let s = origin t in
-    let f = t.try-likely.result.found in
-    let l = (lowered s.args.sizes.outer (ground s) s.args.flows.now (flows₁ t) (a₁ t) (b₁ t) _ _ f (still (left c)) _ (a₂ c) c.propose.result
-    c.propose.ensures.2.1).0 in
+    let f = t.try_likely-tried.result.found in
+    let l = (lowered s.args.sizes.outer (ground s) s.args.flows-1.now (flows₁ t) (a₁ t) (b₁ t) _ _ f (still (left c)) _ (a₂ c) c.propose-high.result
+    c.propose-high.ensures.2.1).0 in
     rw (same_bits (omega arith) (high_small s.args.sizes.outer (ground s) l.ceiling)) l
 
-close-in-requires : tie.Need-close-in-requires
+close-in-requires : tie.Need-close_in-requires
 close-in-requires c κs =
     let w = c.before.before.before.before.before in
     let t = tried (left w) in
     let p = (origin t).pre in
-    let e = w.propose.ensures in (
+    let e = w.propose-high.ensures in (
       record {
         lent = record { opened = p.0.opened; ends = p.0.ends; exact = room (left w) };
         small = p.1;
         size_a = e.1;
-        size_b = t.try-likely.ensures.1;
-        bracket = anew t.try-likely.result.found (begun w);
+        size_b = t.try_likely-tried.ensures.1;
+        bracket = anew t.try_likely-tried.result.found (begun w);
       },
       e.0,
     )
 
 -- ── what is found from there, told of the slice that was lent ──
-abbrev proposed : tie.After-close-in → tie.After-propose
+abbrev proposed : tie.After-close_in → tie.After-propose-high
 proposed c = c.before.before.before.before.before.before
 
-abbrev flows₂ : tie.After-close-in → List ℤ
-flows₂ c = c.close-in.new.1.1.1.1.1.1.1.1.1.1.0
+abbrev flows₂ : tie.After-close_in → List ℤ
+flows₂ c = c.close_in.new.1.1.1.1.1.1.1.1.1.1.0
 
-abbrev a₃ : tie.After-close-in → List ℕ
-a₃ c = c.close-in.new.1.1.1.1.1.1.1.1.1.1.1.1.0
+abbrev a₃ : tie.After-close_in → List ℕ
+a₃ c = c.close_in.new.1.1.1.1.1.1.1.1.1.1.1.1.0
 
-same-length-2 : tie.Need-same-length-2
+same-length-2 : tie.Need-shape_of-flows
 same-length-2 c =
     let z = c.before in
     let l = left (proposed z) in
     let t = tried l in
     let s = origin t in
-    maximized_length (𝓜 s) s.args.sizes.outer (caps s) s.args.demand.source s.args.demand.sink (flows₁ t) (flows₂ z) (a₃ z) z.close-in.result
+    maximized_length (𝓜 s) s.args.sizes.outer (caps s) s.args.demand.source s.args.demand.sink (flows₁ t) (flows₂ z) (a₃ z) z.close_in.result
     (omega (arith, room l))
-    z.close-in.ensures.2
-    ∙ bracket_length t.try-likely.result.found (omega (arith, s.pre.0.exact)) (still l)
+    z.close_in.ensures.2
+    ∙ bracket_length t.try_likely-tried.result.found (omega (arith, s.pre.0.exact)) (still l)
 
-returns-2 : tie.Need-returns-2
+returns-2 : tie.Need-returns
 returns-2 c =
     let z = c.before in
     let w = proposed z in
     let t = tried (left w) in
     let s = origin t in (
-      z.close-in.ensures.1,
-      told_before s.args.sizes.outer (ground s) s.args.flows.now (flows₁ t) (a₂ w) (b₁ t) _ _ t.try-likely.result.found (begun w) (flows₂ z)
-          (a₃ z) z.close-in.result z.close-in.ensures.2,
+      z.close_in.ensures.1,
+      told_before s.args.sizes.outer (ground s) s.args.flows-1.now (flows₁ t) (a₂ w) (b₁ t) _ _ t.try_likely-tried.result.found (begun w) (flows₂ z)
+          (a₃ z) z.close_in.result z.close_in.ensures.2,
     )
 
-pub maximize-on-spec : {M : Type 1} → statement M
-maximize-on-spec =
+pub maximize_on_spec : {M : Type 1} → statement M
+maximize_on_spec =
     tie.close
     (tie.spec
     copy-flows-requires

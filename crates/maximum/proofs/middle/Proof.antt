@@ -13,11 +13,11 @@ use Rattle.maximum.proofs.middle.Tie as tie
 between : (c : tie.After-minus) → to_z w32 (of_z w32 c.minus.result) ≡ c.before.args.high -ℤ c.before.args.low
 between c =
     let h = c.before.requires in
-    number_of_bits _ (record { sfits = c.minus.type-inv }) ∙ c.minus.ensures ∙ between_is h.0 h.1 h.2
+    number_of_bits _ (record { sfits = c.minus.type_inv }) ∙ c.minus.ensures ∙ between_is h.0 h.1 h.2
 
 -- the half, read back from its bits
 half : (c : tie.After-halve) → to_z w32 (of_z w32 c.halve.result) ≡ c.halve.result
-half c = number_of_bits _ (record { sfits = c.halve.type-inv })
+half c = number_of_bits _ (record { sfits = c.halve.type_inv })
 
 halves : (c : tie.After-halve)
     → (pos 0 ≤ℤ c.halve.result) × (c.halve.result ≤ℤ to_z w32 (of_z w32 c.before.minus.result))
@@ -48,7 +48,7 @@ returns c =
     let s = c.before.before.before in
     let h = s.requires in
     at_middle h.0 h.1 h.2 _ _ (between c.before.before) (halves c.before) _
-    (number_of_bits _ (record { sfits = c.minus2.type-inv }) ∙ c.minus2.ensures ∙ ap₂ (λ x y. x -ℤ y) (number_of_bits _ s.ranges.high) (half c.before))
+    (number_of_bits _ (record { sfits = c.minus-2.type_inv }) ∙ c.minus-2.ensures ∙ ap₂ (λ x y. x -ℤ y) (number_of_bits _ s.ranges.high) (half c.before))
 
-pub middle-spec : {M : Type 1} → statement M
-middle-spec = tie.close (tie.spec minus-requires halve-requires minus-requires-2 returns)
+pub middle_spec : {M : Type 1} → statement M
+middle_spec = tie.close (tie.spec minus-requires halve-requires minus-requires-2 returns)

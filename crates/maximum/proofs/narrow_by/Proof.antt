@@ -31,35 +31,35 @@ third side.Sink g (inr e) = absurd (omega arith)
 third side.Beside g h = refl
 
 -- the total is the cut of the flagged nodes
-abbrev Total : tie.After-capacity → Type 0
+abbrev Total : tie.After-capacity-total → Type 0
 Total c =
     let s = c.before in
-    to_z w32 (of_z w32 c.capacity.result)
+    to_z w32 (of_z w32 c.capacity-total.result)
     ≡ cut_of s.args.darts (at s.args.tails.now) (atℤ s.args.capacities.now) (flagged s.args.inside.now)
 
-total_is : (c : tie.After-capacity) → Total c
-total_is c = number_of_bits _ (record { sfits = c.capacity.type-inv }) ∙ c.capacity.ensures
+total_is : (c : tie.After-capacity-total) → Total c
+total_is c = number_of_bits _ (record { sfits = c.capacity-total.type_inv }) ∙ c.capacity-total.ensures
 
 -- the set lies on the side that was told
-abbrev OnSide : tie.After-side-of → Side → Type 0
+abbrev OnSide : tie.After-side_of-side → Side → Type 0
 OnSide c r =
     let s = c.before.before in
     Sided s.args.source s.args.sink (flagged s.args.inside.now) r
 
-on-side : (c : tie.After-side-of) (r : Side) → c.side-of.result ≡ r → OnSide c r
-on-side c r e = subst (OnSide c) e c.side-of.ensures
+on-side : (c : tie.After-side_of-side) (r : Side) → c.side_of-side.result ≡ r → OnSide c r
+on-side c r e = subst (OnSide c) e c.side_of-side.ensures
 
-returns : tie.Need-returns
+returns : tie.Need-returns-in-Source
 returns c =
     let told = c.before.before in
     let sided = told.before.before in
     let s = sided.before.before in (
-      c.copy-flags.ensures.0,
+      c.copy_flags.ensures.0,
       s.requires.1,
       (
         side.Source,
-        on-side sided side.Source told.enum_told.given.1,
-        (refl, number_of_bits _ s.ranges.low, total_is sided.before, c.copy-flags.ensures.1, refl),
+        on-side sided side.Source told.enum_told-1.given.1,
+        (refl, number_of_bits _ s.ranges.low, total_is sided.before, c.copy_flags.ensures.1, refl),
       ),
     )
 
@@ -69,7 +69,7 @@ negate-requires c κs =
     let h = total.before.requires in
     subst (Limited 2048000000) (sym (total_is total)) (cut_limited _ _ _ _ h.4 h.7)
 
-returns-2 : tie.Need-returns-2
+returns-2 : tie.Need-returns-in-Sink
 returns-2 c =
     let told = c.before.before.before in
     let sided = told.before.before.before in
@@ -78,33 +78,33 @@ returns-2 c =
       search rules,
       (
         side.Sink,
-        on-side sided side.Sink told.enum-told2.given.1,
+        on-side sided side.Sink told.enum_told-in-Sink-1.given.1,
         (
           refl,
-          number_of_bits _ (record { sfits = c.negate.type-inv }) ∙ c.negate.ensures ∙ ap neg_ℤ (total_is sided.before),
+          number_of_bits _ (record { sfits = c.negate.type_inv }) ∙ c.negate.ensures ∙ ap neg_ℤ (total_is sided.before),
           number_of_bits _ s.ranges.high,
           refl,
-          c.before.copy-flags2.ensures.1,
+          c.before.copy_flags-in-Sink.ensures.1,
         ),
       ),
     )
 
-returns-3 : tie.Need-returns-3
+returns-3 : tie.Need-returns
 returns-3 c =
     let left = c.before.before in
     let sided = left.before.before in
     let s = sided.before.before in (
-      c.copy-flags3.ensures.0,
+      c.copy_flags-2.ensures.0,
       s.requires.1,
       (
         side.Beside,
-        on-side sided side.Beside (third sided.side-of.result left.before.match.keys2 left.match2.keys2),
-        (refl, c.copy-flags3.ensures.1),
+        on-side sided side.Beside (third sided.side_of-side.result left.before.in-Source.keys2 left.in-Sink.keys2),
+        (refl, c.copy_flags-2.ensures.1),
       ),
     )
 
-pub narrow-by-spec : {M : Type 1} → statement M
-narrow-by-spec =
+pub narrow_by_spec : {M : Type 1} → statement M
+narrow_by_spec =
     tie.close
     (tie.spec
     (λ c κs. search rules)

@@ -23,26 +23,26 @@ not_above x f e = subst (λ y. y ≤ℤ pos 0) (number_of_bits x f) (ge_of_test 
 not_below : (x : ℤ) → SFits w32 x → lt_z (to_z w32 (of_z w32 x)) (pos 0) ≡ false → pos 0 ≤ℤ x
 not_below x f e = subst (λ y. pos 0 ≤ℤ y) (number_of_bits x f) (ge_of_test _ _ e)
 
-returns : tie.Need-returns
+returns : tie.Need-returns-then-is_less
 returns c =
     let s = c.before.before in
     let e = number_of_bits _ s.ranges.low in
     rw e (at-itself _, s.requires)
 
-returns-2 : tie.Need-returns-2
+returns-2 : tie.Need-returns-then-is_less-2
 returns-2 c =
     let s = c.before.before.before.before in
     let e = number_of_bits _ s.ranges.high in
     rw e (s.requires, at-itself _)
 
-returns-3 : tie.Need-returns-3
+returns-3 : tie.Need-returns
 returns-3 c =
     let h = c.before in
     let l = h.before.before in
     let s = l.before in (
-      not_above s.args.low s.ranges.low (sym l.is-less.ensures ∙ h.before.if1.false),
-      not_below s.args.high s.ranges.high (sym h.is-less2.ensures ∙ c.if2.false),
+      not_above s.args.low s.ranges.low (sym l.is_less.ensures ∙ h.before.if-is_less.false),
+      not_below s.args.high s.ranges.high (sym h.is_less-2.ensures ∙ c.if-is_less-2.false),
     )
 
-pub nearest-zero-spec : {M : Type 1} → statement M
-nearest-zero-spec = tie.close (tie.spec (λ c κs. search rules) returns (λ c κs. search rules) returns-2 returns-3)
+pub nearest_zero_spec : {M : Type 1} → statement M
+nearest_zero_spec = tie.close (tie.spec (λ c κs. search rules) returns (λ c κs. search rules) returns-2 returns-3)

@@ -52,35 +52,35 @@ abbrev caps : tie.Start → ℕ → ℤ
 caps c = atℤ c.args.capacities.now
 
 abbrev src : tie.Start → ℕ
-src c = c.args.pending.terminals.source
+src c = c.args.pending.terminals-1.source
 
 abbrev snk : tie.Start → ℕ
-snk c = c.args.pending.terminals.sink
+snk c = c.args.pending.terminals-1.sink
 
 -- the bounds, as the numbers of their bits
 abbrev lo : tie.Start → ℤ
-lo c = to_z w32 (of_z w32 c.args.pending.bounds.low)
+lo c = to_z w32 (of_z w32 c.args.pending.bounds-1.low)
 
 abbrev hi : tie.Start → ℤ
-hi c = to_z w32 (of_z w32 c.args.pending.bounds.high)
+hi c = to_z w32 (of_z w32 c.args.pending.bounds-1.high)
 
 ground : (c : tie.Start) → Ground (𝓜 c) (caps c) (src c) (snk c)
 ground c = let u = c.requires.0.1 in ground_of u.lent u.small
 
 -- they are small
-lo_small : (c : tie.Start) → Limited 512000000 c.args.pending.bounds.low
+lo_small : (c : tie.Start) → Limited 512000000 c.args.pending.bounds-1.low
 lo_small c =
     let b = c.requires.0 in
-    low_small c.args.sizes.outer (ground c) b.0 c.args.flows.now (flagged c.args.b.now) c.args.pending.bounds.low
-    c.args.pending.bounds.found b.1.bracket.floor
+    low_small c.args.sizes.outer (ground c) b.0 c.args.flows-1.now (flagged c.args.b.now) c.args.pending.bounds-1.low
+    c.args.pending.bounds-1.found b.1.bracket.floor
 
-hi_small : (c : tie.Start) → Limited 512000000 c.args.pending.bounds.high
+hi_small : (c : tie.Start) → Limited 512000000 c.args.pending.bounds-1.high
 hi_small c = high_small c.args.sizes.outer (ground c) c.requires.0.1.bracket.ceiling
 
-same-lo : (c : tie.Start) → lo c ≡ c.args.pending.bounds.low
+same-lo : (c : tie.Start) → lo c ≡ c.args.pending.bounds-1.low
 same-lo c = same_bits (omega arith) (lo_small c)
 
-same-hi : (c : tie.Start) → hi c ≡ c.args.pending.bounds.high
+same-hi : (c : tie.Start) → hi c ≡ c.args.pending.bounds-1.high
 same-hi c = same_bits (omega arith) (hi_small c)
 
 bits-limited : {b : ℕ} {x : ℤ} → b < 2147483648 → Limited b x → Limited b (to_z w32 (of_z w32 x))
@@ -92,50 +92,50 @@ in_order c = rw (same-lo c, same-hi c) c.requires.2
 
 -- what holds of the bounds holds of the numbers of their bits
 at_bits : (c : tie.Start) (before : List ℤ)
-    → Bracket (𝓜 c) c.args.sizes.outer (caps c) (src c) (snk c) before c.args.flows.now c.args.a.now c.args.b.now
-    c.args.pending.bounds.low c.args.pending.bounds.high c.args.pending.bounds.found
-    → Bracket (𝓜 c) c.args.sizes.outer (caps c) (src c) (snk c) before c.args.flows.now c.args.a.now c.args.b.now
-    (lo c) (hi c) c.args.pending.bounds.found
+    → Bracket (𝓜 c) c.args.sizes.outer (caps c) (src c) (snk c) before c.args.flows-1.now c.args.a.now c.args.b.now
+    c.args.pending.bounds-1.low c.args.pending.bounds-1.high c.args.pending.bounds-1.found
+    → Bracket (𝓜 c) c.args.sizes.outer (caps c) (src c) (snk c) before c.args.flows-1.now c.args.a.now c.args.b.now
+    (lo c) (hi c) c.args.pending.bounds-1.found
 at_bits c before b =
-    bits_bracket c.args.sizes.outer (ground c) before c.args.flows.now c.args.a.now c.args.b.now _ _ c.args.pending.bounds.found b
+    bits_bracket c.args.sizes.outer (ground c) before c.args.flows-1.now c.args.a.now c.args.b.now _ _ c.args.pending.bounds-1.found b
 
-closer-of-bits : (c : tie.Start) {low' high' : ℤ} {found' : Bool} → Closer (lo c) (hi c) c.args.pending.bounds.found low' high' found'
-    → Closer c.args.pending.bounds.low c.args.pending.bounds.high c.args.pending.bounds.found low' high' found'
+closer-of-bits : (c : tie.Start) {low' high' : ℤ} {found' : Bool} → Closer (lo c) (hi c) c.args.pending.bounds-1.found low' high' found'
+    → Closer c.args.pending.bounds-1.low c.args.pending.bounds-1.high c.args.pending.bounds-1.found low' high' found'
 closer-of-bits c {low'} {high'} {found'} h =
-    subst (λ l. Closer l c.args.pending.bounds.high c.args.pending.bounds.found low' high' found') (same-lo c)
-    (subst (λ k. Closer (lo c) k c.args.pending.bounds.found low' high' found') (same-hi c) h)
+    subst (λ l. Closer l c.args.pending.bounds-1.high c.args.pending.bounds-1.found low' high' found') (same-lo c)
+    (subst (λ k. Closer (lo c) k c.args.pending.bounds-1.found low' high' found') (same-hi c) h)
 
 -- ── the value probed ──
-next-value-requires : tie.Need-next-value-requires
+next-value-requires : tie.Need-next_value-value-requires
 next-value-requires c κs =
     let s = c.before.before.before.before in
     (in_order s, limited_more (omega arith) (bits-limited (omega arith) (lo_small s)), limited_more (omega arith) (bits-limited (omega arith) (hi_small s)))
 
-abbrev given : tie.After-next-value → tie.Start
+abbrev given : tie.After-next_value-value → tie.Start
 given c = c.before.before.before.before.before
 
-abbrev value : tie.After-next-value → ℤ
-value c = to_z w32 (of_z w32 c.next-value.result)
+abbrev value : tie.After-next_value-value → ℤ
+value c = to_z w32 (of_z w32 c.next_value-value.result)
 
-value_small : (c : tie.After-next-value) → Limited 512000000 c.next-value.result
+value_small : (c : tie.After-next_value-value) → Limited 512000000 c.next_value-value.result
 value_small c =
-    let e = c.next-value.ensures in
+    let e = c.next_value-value.ensures in
     let s = given c in
     between_limited 512000000 _ _ _ e.0 e.1 (bits-limited (omega arith) (lo_small s)) (bits-limited (omega arith) (hi_small s))
 
-same_value : (c : tie.After-next-value) → value c ≡ c.next-value.result
+same_value : (c : tie.After-next_value-value) → value c ≡ c.next_value-value.result
 same_value c = same_bits (omega arith) (value_small c)
 
-at_least : (c : tie.After-next-value) → lo (given c) ≤ℤ value c
-at_least c = subst (λ v. lo (given c) ≤ℤ v) (sym (same_value c)) c.next-value.ensures.0
+at_least : (c : tie.After-next_value-value) → lo (given c) ≤ℤ value c
+at_least c = subst (λ v. lo (given c) ≤ℤ v) (sym (same_value c)) c.next_value-value.ensures.0
 
-at_most : (c : tie.After-next-value) → value c ≤ℤ hi (given c)
-at_most c = subst (λ v. v ≤ℤ hi (given c)) (sym (same_value c)) c.next-value.ensures.1
+at_most : (c : tie.After-next_value-value) → value c ≤ℤ hi (given c)
+at_most c = subst (λ v. v ≤ℤ hi (given c)) (sym (same_value c)) c.next_value-value.ensures.1
 
-above : (c : tie.After-next-value) → (given c).args.pending.bounds.found ≡ true → lo (given c) <ℤ value c
+above : (c : tie.After-next_value-value) → (given c).args.pending.bounds-1.found ≡ true → lo (given c) <ℤ value c
 above c e =
     let s = given c in
-    subst (λ v. lo s <ℤ v) (sym (same_value c)) (c.next-value.ensures.2 e (rw (same-lo s, same-hi s) (s.pre.3 e)))
+    subst (λ v. lo s <ℤ v) (sym (same_value c)) (c.next_value-value.ensures.2 e (rw (same-lo s, same-hi s) (s.pre.3 e)))
 
 decide-requires : tie.Need-decide-requires
 decide-requires c κs =
@@ -144,7 +144,7 @@ decide-requires c κs =
     (p.0.1.lent, limited_more (omega arith) (bits-limited (omega arith) (value_small n)), p.1, refl)
 
 -- ── the decision ──
-abbrev asked : tie.After-decide → tie.After-next-value
+abbrev asked : tie.After-decide → tie.After-next_value-value
 asked c = c.before.before.before.before
 
 abbrev base : tie.After-decide → tie.Start
@@ -157,15 +157,15 @@ abbrev inside' : tie.After-decide → List ℕ
 inside' c = c.decide.new.1.1.1.1.1.1.1.1.1.1.1.1.0
 
 decided : (c : tie.After-decide) {r : Bool} → c.decide.result ≡ r
-    → Decided (𝓜 (base c)) (base c).args.sizes.outer (caps (base c)) (src (base c)) (snk (base c)) (value (asked c)) (base c).args.flows.now (flows' c)
+    → Decided (𝓜 (base c)) (base c).args.sizes.outer (caps (base c)) (src (base c)) (snk (base c)) (value (asked c)) (base c).args.flows-1.now (flows' c)
     (inside' c) r
 decided c e =
     let b = base c in
-    subst (Decided (𝓜 b) b.args.sizes.outer (caps b) (src b) (snk b) (value (asked c)) b.args.flows.now (flows' c) (inside' c)) e
+    subst (Decided (𝓜 b) b.args.sizes.outer (caps b) (src b) (snk b) (value (asked c)) b.args.flows-1.now (flows' c) (inside' c)) e
     c.decide.ensures.1
 
 -- ── it is carried ──
-abbrev can : tie.Then1 → tie.After-decide
+abbrev can : tie.Then-decide → tie.After-decide
 can c = c.before.before
 
 propose-requires : tie.Need-propose-requires
@@ -176,9 +176,9 @@ propose-requires c κs =
     let g = ground b in
     let exact = b.pre.0.1.lent.exact in
     lent_pivots b.args.rotations.now g k.decide.ensures.2 b.pre.0.1.size_a
-    (filled_length _ _ b.args.flows.now (flows' k) (decided k t.if1.true).2 (omega (arith, exact)) ∙ exact)
+    (filled_length _ _ b.args.flows-1.now (flows' k) (decided k t.if-decide.true).2 (omega (arith, exact)) ∙ exact)
 
-abbrev taken : tie.After-propose → tie.Then1
+abbrev taken : tie.After-propose → tie.Then-decide
 taken c = c.before.before.before.before
 
 abbrev chosen : tie.After-propose → tie.After-decide
@@ -190,8 +190,8 @@ a'' c = c.propose.new.1.1.1.1.1.1.1.1.1.0
 -- the bounds then, before the high one is held as bits
 proposed : (c : tie.After-propose) (before : List ℤ)
     → Bracket (𝓜 (base (chosen c))) (base (chosen c)).args.sizes.outer (caps (base (chosen c))) (src (base (chosen c))) (snk (base (chosen c))) before
-    (base (chosen c)).args.flows.now (base (chosen c)).args.a.now (base (chosen c)).args.b.now
-    (base (chosen c)).args.pending.bounds.low (base (chosen c)).args.pending.bounds.high (base (chosen c)).args.pending.bounds.found
+    (base (chosen c)).args.flows-1.now (base (chosen c)).args.a.now (base (chosen c)).args.b.now
+    (base (chosen c)).args.pending.bounds-1.low (base (chosen c)).args.pending.bounds-1.high (base (chosen c)).args.pending.bounds-1.found
     → Bracket (𝓜 (base (chosen c))) (base (chosen c)).args.sizes.outer (caps (base (chosen c))) (src (base (chosen c))) (snk (base (chosen c))) before
     (flows' (chosen c)) (a'' c) (base (chosen c)).args.b.now (value (asked (chosen c))) c.propose.result true
     × (c.propose.result ≤ℤ hi (base (chosen c)))
@@ -202,7 +202,7 @@ proposed c before h =
     let g = ground b in
     let v = value (asked k) in
     lowered o g before (flows' k) b.args.a.now b.args.b.now v (hi b) true
-    (carried o g before b.args.flows.now b.args.a.now b.args.b.now (lo b) (hi b) b.args.pending.bounds.found (at_bits b before h)
+    (carried o g before b.args.flows-1.now b.args.a.now b.args.b.now (lo b) (hi b) b.args.pending.bounds-1.found (at_bits b before h)
     v (flows' k) (inside' k) (decided k (taken c).if1.true))
     _ (a'' c) c.propose.result c.propose.ensures.2.1
 
@@ -212,7 +212,7 @@ new-high c =
     let w = b.pre.0 in
     same_bits (omega arith) (high_small b.args.sizes.outer (ground b) (proposed c w.0 w.1.bracket).0.ceiling)
 
-returns : tie.Need-returns
+returns : tie.Need-returns-then-decide
 returns c =
     let k = chosen c in
     let n = asked k in
@@ -223,16 +223,16 @@ returns c =
       e.1,
       b.pre.0.1.size_b,
       λ _. closer-of-bits b
-          (carried_closer b.args.sizes.outer (ground b) (lo b) (hi b) (value n) b.args.pending.bounds.found (at_least n) (at_most n) _
+          (carried_closer b.args.sizes.outer (ground b) (lo b) (hi b) (value n) b.args.pending.bounds-1.found (at_least n) (at_most n) _
           (rw (new-high c) (proposed c w.0 w.1.bracket).1) (above n)),
       λ before h. (λ none. absurd (false≢true none), λ _. rw (new-high c) (proposed c before h).0),
     )
 
 -- ── it cannot be: the set moves a bound, or shows that there is nothing ──
-mul-narrow-by : tie.Need-overflow-mul-narrow-by
+mul-narrow-by : tie.Need-overflow_mul-sizes
 mul-narrow-by c = omega (arith, (ground (base c.before.before.before.before)).few_edges)
 
-narrow-by-requires : tie.Need-narrow-by-requires
+narrow-by-requires : tie.Need-narrow_by-n-requires
 narrow-by-requires c κs =
     let b = base c.before.before.before.before.before.before in
     let g = ground b in (
@@ -246,34 +246,34 @@ narrow-by-requires c κs =
       capacities_few g,
     )
 
-abbrev probed : tie.After-narrow-by → tie.After-decide
+abbrev probed : tie.After-narrow_by-n → tie.After-decide
 probed c = c.before.before.before.before.before.before.before
 
-refused : (c : tie.After-narrow-by) → (probed c).decide.result ≡ false
-refused c = c.before.before.before.before.before.if1.false
+refused : (c : tie.After-narrow_by-n) → (probed c).decide.result ≡ false
+refused c = c.before.before.before.before.before.if-decide.false
 
-abbrev a' : tie.After-narrow-by → List ℕ
-a' c = c.narrow-by.new.1.1.1.1.1.1.1.1.0
+abbrev a' : tie.After-narrow_by-n → List ℕ
+a' c = c.narrow_by-n.new.1.1.1.1.1.1.1.1.0
 
-abbrev b' : tie.After-narrow-by → List ℕ
-b' c = c.narrow-by.new.1.1.1.1.1.1.1.1.1.0
+abbrev b' : tie.After-narrow_by-n → List ℕ
+b' c = c.narrow_by-n.new.1.1.1.1.1.1.1.1.1.0
 
-moved : (c : tie.After-narrow-by) (before : List ℤ)
+moved : (c : tie.After-narrow_by-n) (before : List ℤ)
     → Bracket (𝓜 (base (probed c))) (base (probed c)).args.sizes.outer (caps (base (probed c))) (src (base (probed c))) (snk (base (probed c))) before
-    (base (probed c)).args.flows.now (base (probed c)).args.a.now (base (probed c)).args.b.now
-    (base (probed c)).args.pending.bounds.low (base (probed c)).args.pending.bounds.high (base (probed c)).args.pending.bounds.found
-    → c.narrow-by.result.none ≡ false
+    (base (probed c)).args.flows-1.now (base (probed c)).args.a.now (base (probed c)).args.b.now
+    (base (probed c)).args.pending.bounds-1.low (base (probed c)).args.pending.bounds-1.high (base (probed c)).args.pending.bounds-1.found
+    → c.narrow_by-n.result.none ≡ false
     → Bracket (𝓜 (base (probed c))) (base (probed c)).args.sizes.outer (caps (base (probed c))) (src (base (probed c))) (snk (base (probed c))) before
-    (base (probed c)).args.flows.now (a' c) (b' c) c.narrow-by.result.low c.narrow-by.result.high (base (probed c)).args.pending.bounds.found
+    (base (probed c)).args.flows-1.now (a' c) (b' c) c.narrow_by-n.result.low c.narrow_by-n.result.high (base (probed c)).args.pending.bounds-1.found
 moved c before h e =
     let k = probed c in
     let n = asked k in
     let b = base k in
-    let r = c.narrow-by.ensures.2 in
-    narrowed b.args.sizes.outer (ground b) before b.args.flows.now b.args.a.now b.args.b.now (lo b) (hi b) b.args.pending.bounds.found
-    (at_bits b before h) (value n) (at_least n) (at_most n) (inside' k) (decided k (refused c)).1 (a' c) (b' c) c.narrow-by.result r.0 r.1 r.2 e
+    let r = c.narrow_by-n.ensures.2 in
+    narrowed b.args.sizes.outer (ground b) before b.args.flows-1.now b.args.a.now b.args.b.now (lo b) (hi b) b.args.pending.bounds-1.found
+    (at_bits b before h) (value n) (at_least n) (at_most n) (inside' k) (decided k (refused c)).1 (a' c) (b' c) c.narrow_by-n.result r.0 r.1 r.2 e
 
-returns-2 : tie.Need-returns-2
+returns-2 : tie.Need-returns
 returns-2 c =
     let m = c.before.before in
     let k = probed m in
@@ -281,28 +281,28 @@ returns-2 c =
     let b = base k in
     let o = b.args.sizes.outer in
     let g = ground b in
-    let f = b.args.pending.bounds.found in
-    let x = b.args.flows.now in
+    let f = b.args.pending.bounds-1.found in
+    let x = b.args.flows-1.now in
     let w = b.pre.0 in
-    let r = m.narrow-by.ensures.2 in
+    let r = m.narrow_by-n.ensures.2 in
     let d = decided k (refused m) in (
       k.decide.ensures.2,
-      m.narrow-by.ensures.0,
-      m.narrow-by.ensures.1,
+      m.narrow_by-n.ensures.0,
+      m.narrow_by-n.ensures.1,
       λ e. closer-of-bits b
           (bits_closer o g w.0 x (a' m) (b' m) _ _ f (moved m w.0 w.1.bracket e)
           (narrowed_closer o g (lo b) (hi b) (value n) f (at_least n) (at_most n) (inside' k) d.1 b.args.a.now (a' m) b.args.b.now (b' m)
-          m.narrow-by.result r.0 r.1 r.2 e)),
+          m.narrow_by-n.result r.0 r.1 r.2 e)),
       λ before h. (
         λ e. nothing_here (𝓜 b) o (caps b) (src b) (snk b) before x (flows' k) (a' m) d.0
             (nothing o g before x b.args.a.now b.args.b.now (lo b) (hi b) f (at_bits b before h) (value n) (at_least n) (at_most n)
-            (inside' k) d.1 (a' m) (b' m) m.narrow-by.result r.0 r.1 r.2 e),
+            (inside' k) d.1 (a' m) (b' m) m.narrow_by-n.result r.0 r.1 r.2 e),
         λ e. same_bracket d.0 (bits_bracket o g before x (a' m) (b' m) _ _ f (moved m before h e)),
       ),
     )
 
-pub probe-spec : {M : Type 1} → statement M
-probe-spec =
+pub probe_spec : {M : Type 1} → statement M
+probe_spec =
     tie.close
     (tie.spec
     next-value-requires

@@ -8,27 +8,27 @@ use Rattle.node_flags.proofs.FillingFlags.{Filled, filled_start, filled_step, fi
 use Rattle.node_flags.proofs.copy_flags.Statement.{statement}
 use Rattle.node_flags.proofs.copy_flags.Tie as tie
 
-abbrev invariant-loop : tie.invariant-loop
+abbrev invariant-loop : tie.invariant-loop-u
 invariant-loop from to₀ u₀ to u = Filled (flagged from) to u
 
-abbrev decreases-loop : tie.decreases-loop
+abbrev decreases-loop : tie.decreases-loop-u
 decreases-loop from to₀ u₀ to u = 1024 - u
 
-loop-holds : tie.Need-loop-init invariant-loop decreases-loop
+loop-holds : tie.Need-loop-u-init invariant-loop decreases-loop
 loop-holds c = filled_start _ _ c.requires
 
-loop-again : tie.Need-loop-preserved invariant-loop decreases-loop
+loop-again : tie.Need-loop-u-preserved invariant-loop decreases-loop
 loop-again c =
-    let o = c.before.before.loop in
-    filled_step _ o.to o.u _ (omega arith) o.invariant refl
+    let o = c.before.before.loop-u in
+    filled_step _ o.to-1 o.u _ (omega arith) o.invariant refl
 
 returns : tie.Need-returns invariant-loop decreases-loop
 returns c =
-    let o = c.before.loop in
+    let o = c.before.loop-u in
     (o.invariant.long, filled_all _ (omega arith) o.invariant)
 
-pub copy-flags-spec : {M : Type 1} → statement M
-copy-flags-spec =
+pub copy_flags_spec : {M : Type 1} → statement M
+copy_flags_spec =
     tie.close
     (tie.spec
     invariant-loop

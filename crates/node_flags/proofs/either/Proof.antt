@@ -4,11 +4,11 @@ use Rattle.node_flags.proofs.Tested.{or_yes, or_no}
 use Rattle.node_flags.proofs.either.Statement.{statement}
 use Rattle.node_flags.proofs.either.Tie as tie
 
-returns : tie.Need-returns
-returns c = or_yes _ (eqb_true _ 1 c.if1.true)
+returns : tie.Need-returns-then-x-eq1
+returns c = or_yes _ (eqb_true _ 1 c.if-x-eq1.true)
 
-returns-2 : tie.Need-returns-2
-returns-2 c = or_no _ (eqb_false _ 1 c.if1.false)
+returns-2 : tie.Need-returns-else-x-eq1
+returns-2 c = or_no _ (eqb_false _ 1 c.if-x-eq1.false)
 
-pub either-spec : {M : Type 1} → statement M
-either-spec = tie.close (tie.spec returns returns-2)
+pub either_spec : {M : Type 1} → statement M
+either_spec = tie.close (tie.spec returns returns-2)

@@ -6,28 +6,28 @@ use Rattle.node_flags.proofs.FillingFlags.{Joining, joining_start, joining_step,
 use Rattle.node_flags.proofs.either_and_both.Statement.{statement}
 use Rattle.node_flags.proofs.either_and_both.Tie as tie
 
-abbrev invariant-loop : tie.invariant-loop
+abbrev invariant-loop : tie.invariant-loop-u
 invariant-loop a₀ b₀ u₀ a b u = Joining a₀ b₀ a b u
 
-abbrev decreases-loop : tie.decreases-loop
+abbrev decreases-loop : tie.decreases-loop-u
 decreases-loop a₀ b₀ u₀ a b u = 1024 - u
 
-loop-holds : tie.Need-loop-init invariant-loop decreases-loop
+loop-holds : tie.Need-loop-u-init invariant-loop decreases-loop
 loop-holds c = joining_start _ _ c.requires.0 c.requires.1
 
-loop-again : tie.Need-loop-preserved invariant-loop decreases-loop
+loop-again : tie.Need-loop-u-preserved invariant-loop decreases-loop
 loop-again c =
     let e = c.before in
-    let o = e.before.before.before.before.loop in
+    let o = e.before.before.before.before.loop-u in
     joining_step e.either.result c.both.result (omega arith) o.invariant e.either.ensures c.both.ensures
 
 returns : tie.Need-returns invariant-loop decreases-loop
 returns c =
-    let i = c.before.loop.invariant in
+    let i = c.before.loop-u.invariant in
     (i.united.long, i.common.long, filled_all _ (omega arith) i.united, filled_all _ (omega arith) i.common)
 
-pub either-and-both-spec : {M : Type 1} → statement M
-either-and-both-spec =
+pub either_and_both_spec : {M : Type 1} → statement M
+either_and_both_spec =
     tie.close
     (tie.spec
     invariant-loop

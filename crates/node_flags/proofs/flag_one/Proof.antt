@@ -9,28 +9,28 @@ use Rattle.node_flags.proofs.FillingFlags.{Filled, filled_start, filled_step, on
 use Rattle.node_flags.proofs.flag_one.Statement.{statement}
 use Rattle.node_flags.proofs.flag_one.Tie as tie
 
-abbrev invariant-loop : tie.invariant-loop
+abbrev invariant-loop : tie.invariant-loop-u
 invariant-loop v inside₀ u₀ inside u = Filled (λ w. false) inside u
 
-abbrev decreases-loop : tie.decreases-loop
+abbrev decreases-loop : tie.decreases-loop-u
 decreases-loop v inside₀ u₀ inside u = 1024 - u
 
-loop-holds : tie.Need-loop-init invariant-loop decreases-loop
+loop-holds : tie.Need-loop-u-init invariant-loop decreases-loop
 loop-holds c = filled_start _ _ c.requires.0
 
-loop-again : tie.Need-loop-preserved invariant-loop decreases-loop
+loop-again : tie.Need-loop-u-preserved invariant-loop decreases-loop
 loop-again c =
-    let o = c.before.loop in
+    let o = c.before.loop-u in
     filled_step (λ w. false) o.inside o.u 0 (omega arith) o.invariant refl
 
 returns : tie.Need-returns invariant-loop decreases-loop
 returns c =
     let s = c.before.before in
-    let o = c.before.loop in
+    let o = c.before.loop-u in
     (simp length-set o.invariant.long, one_flagged s.args.v s.requires.1 (omega arith) o.invariant)
 
-pub flag-one-spec : {M : Type 1} → statement M
-flag-one-spec =
+pub flag_one_spec : {M : Type 1} → statement M
+flag_one_spec =
     tie.close
     (tie.spec
     invariant-loop

@@ -9,43 +9,43 @@ use borrow.Author.Rules.{rules}
 use Rattle.node_sets.proofs.count_set.Statement.{statement}
 use Rattle.node_sets.proofs.count_set.Tie as tie
 
-abbrev invariant-loop : tie.invariant-loop
+abbrev invariant-loop : tie.invariant-loop-i
 invariant-loop words nodes n total₀ i₀ total i =
     (i ≤ n) × (n ≤ length words) × (n ≤ 16) × (n ≡ words_for nodes) × (total ≤ 64 * i) × (total ≡ size (take i words))
 
-abbrev decreases-loop : tie.decreases-loop
+abbrev decreases-loop : tie.decreases-loop-i
 decreases-loop words nodes n total₀ i₀ total i = n - i
 
-words-for-requires : tie.Need-words-for-requires invariant-loop decreases-loop
+words-for-requires : tie.Need-words_for-n-requires invariant-loop decreases-loop
 words-for-requires c κs = c.before.requires.few_nodes
 
-loop-holds : tie.Need-loop-init invariant-loop decreases-loop
+loop-holds : tie.Need-loop-i-init invariant-loop decreases-loop
 unfolding size
 loop-holds c =
     let p = c.before.before.requires in
-    let e = c.words-for.ensures in
+    let e = c.words_for-n.ensures in
     (omega arith, omega (arith, e, p.exact), omega (arith, e, p.few_nodes), e, omega arith, refl)
 
-count-word-requires : tie.Need-count-word-requires invariant-loop decreases-loop
+count-word-requires : tie.Need-count_word-total-requires invariant-loop decreases-loop
 count-word-requires c κs = tt
 
-loop-again : tie.Need-loop-preserved invariant-loop decreases-loop
+loop-again : tie.Need-loop-i-preserved invariant-loop decreases-loop
 loop-again c =
-    let o = c.before.before.before.loop in
+    let o = c.before.before.before.loop-i in
     let words = c.before.before.before.before.before.before.args.words.now in
     let m = size_more words o.i (omega (arith, o.invariant.1)) in
-    let e = c.count_word.ensures in
+    let e = c.count_word-total.ensures in
     (omega arith, o.invariant.1, o.invariant.2, o.invariant.3, omega (arith, e.1, o.invariant.4), omega (arith, m, e.0, o.invariant.5))
 
 returns : tie.Need-returns invariant-loop decreases-loop
 returns c =
-    let o = c.before.loop in
+    let o = c.before.loop-i in
     let words = c.before.before.before.before.args.words.now in
     let e : o.i ≡ words_for c.before.before.before.before.args.nodes = omega (arith, o.invariant.3, o.invariant.0) in
     o.invariant.5 ∙ ap (λ (x : ℕ). size (take x words)) e
 
-pub count-set-spec : {M : Type 1} → statement M
-count-set-spec =
+pub count_set_spec : {M : Type 1} → statement M
+count_set_spec =
     tie.close
     (tie.spec
     invariant-loop

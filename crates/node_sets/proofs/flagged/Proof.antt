@@ -6,13 +6,13 @@ use borrow.Author.Rules.{rules}
 use Rattle.node_sets.proofs.flagged.Statement.{statement}
 use Rattle.node_sets.proofs.flagged.Tie as tie
 
-returns : tie.Need-returns
-returns c = sym (flag_inside c.before.before.args.inside.now c.before.before.args.nodes c.before.before.args.v c.before.if1.true)
+returns : tie.Need-returns-then-v-nodes
+returns c = sym (flag_inside c.before.before.args.inside.now c.before.before.args.nodes c.before.before.args.v c.before.if-v-nodes.true)
 
-returns-2 : tie.Need-returns-2
+returns-2 : tie.Need-returns-else-v-nodes
 returns-2 c =
-    ltb_false c.before.args.v c.before.args.nodes c.if1.false
-    ∙ sym (flag_outside c.before.args.inside.now c.before.args.nodes c.before.args.v c.if1.false)
+    ltb_false c.before.args.v c.before.args.nodes c.if-v-nodes.false
+    ∙ sym (flag_outside c.before.args.inside.now c.before.args.nodes c.before.args.v c.if-v-nodes.false)
 
-pub flagged-spec : {M : Type 1} → statement M
-flagged-spec = tie.close (tie.spec (λ c. search rules) returns returns-2)
+pub flagged_spec : {M : Type 1} → statement M
+flagged_spec = tie.close (tie.spec (λ c. search rules) returns returns-2)

@@ -10,5 +10,5 @@ use Rattle.node_sets.proofs.set_bit.Tie as tie
 returns : tie.Need-returns
 returns c = ap (λ (x : ℕ). bit_or c.args.w x) (one_shl c.args.k c.requires.0) ∙ or_above c.args.w c.args.k c.requires.1
 
-pub set-bit-spec : {M : Type 1} → statement M
-set-bit-spec = tie.close (tie.spec (λ c. search rules) returns)
+pub set_bit_spec : {M : Type 1} → statement M
+set_bit_spec = tie.close (tie.spec (λ c. search rules) returns)

@@ -15,42 +15,42 @@ use Rattle.node_sets.proofs.word_of.Tie as tie
 abbrev tests : List ℕ → ℕ → ℕ → ℕ → Bool
 tests inside nodes j k = flag inside nodes (64 * j + k)
 
-abbrev invariant-loop : tie.invariant-loop
+abbrev invariant-loop : tie.invariant-loop-k
 invariant-loop inside nodes j w₀ k₀ w k = (k ≤ 64) × (w ≡ word (tests inside nodes j) k)
 
-abbrev decreases-loop : tie.decreases-loop
+abbrev decreases-loop : tie.decreases-loop-k
 decreases-loop inside nodes j w₀ k₀ w k = 64 - k
 
-loop-holds : tie.Need-loop-init invariant-loop decreases-loop
+loop-holds : tie.Need-loop-k-init invariant-loop decreases-loop
 unfolding word
 loop-holds c = (omega arith, refl)
 
-set-bit-requires : tie.Need-set-bit-requires invariant-loop decreases-loop
+set-bit-requires : tie.Need-set_bit-w-requires invariant-loop decreases-loop
 set-bit-requires c κs =
-    let o = c.before.before.before.loop in
+    let o = c.before.before.before.loop-k in
     let a = c.before.before.before.before.args in
     (omega arith, subst (λ (x : ℕ). x < 2 ^ o.k) (sym o.invariant.1) (word_below (tests a.inside.now a.nodes a.j) o.k))
 
-loop-again : tie.Need-loop-preserved invariant-loop decreases-loop
+loop-again : tie.Need-loop-k-preserved invariant-loop decreases-loop
 loop-again c =
-    let o = c.before.before.before.loop in
+    let o = c.before.before.before.loop-k in
     let a = c.before.before.before.before.args in
     let b = tests a.inside.now a.nodes a.j in
     let t = c.before.flagged.ensures in
     ⊎_elim
     (λ w. (omega arith, w.2 ∙ w.1.ensures ∙ ap (λ (x : ℕ). 2 ^ o.k + x) o.invariant.1 ∙ sym (word_with b o.k (sym t ∙ w.0.taken))))
     (λ w. (omega arith, w.1 ∙ o.invariant.1 ∙ sym (word_without b o.k (sym t ∙ w.0.left))))
-    c.if1.branch
+    c.if-flagged.branch
 
 returns : tie.Need-returns invariant-loop decreases-loop
 returns c =
-    let o = c.before.loop in
+    let o = c.before.loop-k in
     let a = c.before.before.args in
     let e : o.k ≡ 64 = omega arith in
     o.invariant.1 ∙ ap (word (tests a.inside.now a.nodes a.j)) e
 
-pub word-of-spec : {M : Type 1} → statement M
-word-of-spec =
+pub word_of_spec : {M : Type 1} → statement M
+word_of_spec =
     tie.close
     (tie.spec
     invariant-loop

@@ -9,20 +9,20 @@ use Rattle.node_sets.proofs.Writing.{Writing, writing_start, writing_step, writi
 use Rattle.node_sets.proofs.write_set.Statement.{statement}
 use Rattle.node_sets.proofs.write_set.Tie as tie
 
-abbrev invariant-loop : tie.invariant-loop
+abbrev invariant-loop : tie.invariant-loop-j
 invariant-loop inside nodes words₀ n j₀ words j =
     (j ≤ n) × (n ≤ 16) × (n ≡ words_for nodes) × (n ≤ length words) × Writing inside nodes words₀ words j
 
-abbrev decreases-loop : tie.decreases-loop
+abbrev decreases-loop : tie.decreases-loop-j
 decreases-loop inside nodes words₀ n j₀ words j = n - j
 
-words-for-requires : tie.Need-words-for-requires invariant-loop decreases-loop
+words-for-requires : tie.Need-words_for-n-requires invariant-loop decreases-loop
 words-for-requires c κs = c.before.requires.few_nodes
 
-loop-holds : tie.Need-loop-init invariant-loop decreases-loop
+loop-holds : tie.Need-loop-j-init invariant-loop decreases-loop
 loop-holds c =
     let s = c.before.before in
-    let e = c.words-for.ensures in (
+    let e = c.words_for-n.ensures in (
       omega arith,
       omega (arith, e, s.requires.few_nodes),
       e,
@@ -30,12 +30,12 @@ loop-holds c =
       writing_start s.args.inside.now s.args.nodes s.args.words.now,
     )
 
-word-of-requires : tie.Need-word-of-requires invariant-loop decreases-loop
-word-of-requires c κs = (c.before.before.before.before.requires.few_nodes, omega (arith, c.before.loop.invariant.1))
+word-of-requires : tie.Need-word_of-requires invariant-loop decreases-loop
+word-of-requires c κs = (c.before.before.before.before.requires.few_nodes, omega (arith, c.before.loop-j.invariant.1))
 
-loop-again : tie.Need-loop-preserved invariant-loop decreases-loop
+loop-again : tie.Need-loop-j-preserved invariant-loop decreases-loop
 loop-again c =
-    let o = c.before.before.loop in
+    let o = c.before.before.loop-j in
     let s = c.before.before.before.before.before in
     let w = c.word_of.result in
     let e = o.invariant.2 in (
@@ -47,19 +47,19 @@ loop-again c =
           o.j w o.invariant.4 (omega (arith, e)) (omega (arith, s.requires.exact)) c.word_of.ensures,
     )
 
-same_length : tie.Need-same-length invariant-loop decreases-loop
-same_length c = c.before.loop.invariant.4.length_kept
+same_length : tie.Need-shape_of-words invariant-loop decreases-loop
+same_length c = c.before.loop-j.invariant.4.length_kept
 
 returns : tie.Need-returns invariant-loop decreases-loop
 returns c =
-    let o = c.before.loop in
+    let o = c.before.loop-j in
     let s = c.before.before.before.before in
     let e : o.j ≡ words_for s.args.nodes = omega (arith, o.invariant.2, o.invariant.0) in
     writing_end s.args.inside.now s.args.nodes s.args.words.now o.words
     (subst (λ (x : ℕ). Writing s.args.inside.now s.args.nodes s.args.words.now o.words x) e o.invariant.4) (omega (arith, s.requires.exact))
 
-pub write-set-spec : {M : Type 1} → statement M
-write-set-spec =
+pub write_set_spec : {M : Type 1} → statement M
+write_set_spec =
     tie.close
     (tie.spec
     invariant-loop

@@ -14,7 +14,7 @@ use Rattle.pages.proofs.Answering.{Halfway, halfway_start, halfway_turn, all_ans
 use Rattle.pages.proofs.answer_all.Statement.{statement}
 use Rattle.pages.proofs.answer_all.Tie as tie
 
-abbrev invariant-loop : tie.invariant-loop
+abbrev invariant-loop : tie.invariant-loop-i
 invariant-loop tails rotations lefts capacities order from grouped starts sizes flows₀ sets₀
     list count edges words answers₀ i₀ flows sets answers i =
     (i ≤ count) × (count ≡ list.count) × (words ≡ words_for sizes.nodes)
@@ -22,108 +22,108 @@ invariant-loop tails rotations lefts capacities order from grouped starts sizes 
     (question_at list.questions j))
     flows₀ sets₀ i flows sets answers
 
-abbrev decreases-loop : tie.decreases-loop
+abbrev decreases-loop : tie.decreases-loop-i
 decreases-loop tails rotations lefts capacities order from grouped starts sizes flows₀ sets₀
     list count edges words answers₀ i₀ flows sets answers i =
     count - i
 
 -- ── where the stretches of question i end ──
-abbrev begun : tie.In-loop invariant-loop decreases-loop → tie.Start invariant-loop decreases-loop
+abbrev begun : tie.In-loop-i invariant-loop decreases-loop → tie.Start invariant-loop decreases-loop
 begun c = c.before.before.before.before
 
-flows_small : (c : tie.In-loop invariant-loop decreases-loop) → c.before.loop.i * (begun c).args.sizes.edges + (begun c).args.sizes.edges ≤ 32768
-flows_small c = small_end _ _ _ c.loop-test.true (begun c).requires.1.few (begun c).requires.0.drawn.few_edges
+flows_small : (c : tie.In-loop-i invariant-loop decreases-loop) → c.before.loop-i.i * (begun c).args.sizes.edges + (begun c).args.sizes.edges ≤ 32768
+flows_small c = small_end _ _ _ c.loop-i-test.true (begun c).requires.1.few (begun c).requires.0.drawn.few_edges
 
-sets-small : (c : tie.In-loop invariant-loop decreases-loop) → c.before.loop.i * c.before.before.words-for.result + c.before.before.words-for.result ≤ 32768
+sets-small : (c : tie.In-loop-i invariant-loop decreases-loop) → c.before.loop-i.i * c.before.before.words_for-words.result + c.before.before.words_for-words.result ≤ 32768
 sets-small c =
     let w = words_few _ (begun c).requires.0.drawn.few_nodes in
-    small_end _ _ _ c.loop-test.true (begun c).requires.1.few (omega (arith, w, c.before.before.words-for.ensures))
+    small_end _ _ _ c.loop-i-test.true (begun c).requires.1.few (omega (arith, w, c.before.before.words_for-words.ensures))
 
-flows_room : (c : tie.In-loop invariant-loop decreases-loop)
-    → c.before.loop.i * (begun c).args.sizes.edges + (begun c).args.sizes.edges ≤ length c.before.loop.flows
-flows_room c = stretch_room _ _ _ _ _ c.loop-test.true (begun c).requires.1.flows_room c.before.loop.invariant.3.flows_behind
+flows_room : (c : tie.In-loop-i invariant-loop decreases-loop)
+    → c.before.loop-i.i * (begun c).args.sizes.edges + (begun c).args.sizes.edges ≤ length c.before.loop-i.flows-1
+flows_room c = stretch_room _ _ _ _ _ c.loop-i-test.true (begun c).requires.1.flows_room c.before.loop-i.invariant.3.flows_behind
 
-sets_room : (c : tie.In-loop invariant-loop decreases-loop)
-    → c.before.loop.i * c.before.before.words-for.result + c.before.before.words-for.result ≤ length c.before.loop.sets
+sets_room : (c : tie.In-loop-i invariant-loop decreases-loop)
+    → c.before.loop-i.i * c.before.before.words_for-words.result + c.before.before.words_for-words.result ≤ length c.before.loop-i.sets-1
 sets_room c =
-    stretch_room _ _ _ _ _ c.loop-test.true (rw c.before.before.words-for.ensures (begun c).requires.1.sets_room)
-    c.before.loop.invariant.3.sets_behind
+    stretch_room _ _ _ _ _ c.loop-i-test.true (rw c.before.before.words_for-words.ensures (begun c).requires.1.sets_room)
+    c.before.loop-i.invariant.3.sets_behind
 
-words-for-requires : tie.Need-words-for-requires invariant-loop decreases-loop
+words-for-requires : tie.Need-words_for-words-requires invariant-loop decreases-loop
 words-for-requires c κs = c.before.requires.0.drawn.few_nodes
 
-loop-holds : tie.Need-loop-init invariant-loop decreases-loop
-loop-holds c = (omega arith, refl, c.words-for.ensures, halfway_start _ _ _ _ _)
+loop-holds : tie.Need-loop-i-init invariant-loop decreases-loop
+loop-holds c = (omega arith, refl, c.words_for-words.ensures, halfway_start _ _ _ _ _)
 
-mul-start : tie.Need-overflow-mul-start invariant-loop decreases-loop
+mul-start : tie.Need-overflow_mul-start invariant-loop decreases-loop
 mul-start c = record { fits = omega (arith, flows_small c) }
 
-add-end : tie.Need-overflow-add-end invariant-loop decreases-loop
+add-end : tie.Need-overflow_add-end invariant-loop decreases-loop
 add-end c = record { fits = omega (arith, flows_small c) }
 
-mul-word : tie.Need-overflow-mul-word invariant-loop decreases-loop
+mul-word : tie.Need-overflow_mul-word invariant-loop decreases-loop
 mul-word c = record { fits = omega (arith, sets-small c) }
 
-add-past : tie.Need-overflow-add-past invariant-loop decreases-loop
+add-past : tie.Need-overflow_add-past invariant-loop decreases-loop
 add-past c = record { fits = omega (arith, sets-small c) }
 
-mul-ask : tie.Need-overflow-mul-ask invariant-loop decreases-loop
+mul-ask : tie.Need-offset_bounds-flows-start invariant-loop decreases-loop
 mul-ask c = record { fits = omega (arith, flows_small c.before) }
 
-part-ask-end : tie.Need-slice-bounds-ask-end invariant-loop decreases-loop
+part-ask-end : tie.Need-slice_bounds-ask-end invariant-loop decreases-loop
 part-ask-end c = flows_room c.before
 
-mul-ask-2 : tie.Need-overflow-mul-ask-2 invariant-loop decreases-loop
+mul-ask-2 : tie.Need-offset_bounds-sets-word invariant-loop decreases-loop
 mul-ask-2 c = record { fits = omega (arith, sets-small c.before.before) }
 
 part-ask-end-2 : tie.Need-slice-bounds-ask-end-2 invariant-loop decreases-loop
 part-ask-end-2 c = sets_room c.before.before
 
-ask-requires : tie.Need-ask-requires invariant-loop decreases-loop
+ask-requires : tie.Need-ask-answer-requires invariant-loop decreases-loop
 ask-requires c κs =
     let t = c.before.before.before in
     let e = (begun t).args.sizes.edges in
-    let w = t.before.before.words-for in (
+    let w = t.before.before.words_for-words in (
       (begun t).requires.0,
       record {
-        flows_exact = stretch_exact e t.before.loop.i t.before.loop.flows (flows_room t);
-        set_exact = stretch_exact w.result t.before.loop.i t.before.loop.sets (sets_room t) ∙ w.ensures;
+        flows_exact = stretch_exact e t.before.loop-i.i t.before.loop-i.flows-1 (flows_room t);
+        set_exact = stretch_exact w.result t.before.loop-i.i t.before.loop-i.sets-1 (sets_room t) ∙ w.ensures;
       },
     )
 
-loop-again : tie.Need-loop-preserved invariant-loop decreases-loop
+loop-again : tie.Need-loop-i-preserved invariant-loop decreases-loop
 loop-again c =
     let k = c.before.before.before in
     let t = k.before.before.before.before in
-    let l = t.before.loop in
+    let l = t.before.loop-i in
     let e = (begun t).args.sizes.edges in
-    let w = t.before.before.words-for.result in (
+    let w = t.before.before.words_for-words.result in (
       omega arith,
       refl,
       l.invariant.2,
-      halfway_turn e w _ _ _ l.i l.flows l.sets l.answers l.invariant.3
-          (flows_room t) (sets_room t) (omega (arith, t.loop-test.true, (begun t).requires.1.few))
+      halfway_turn e w _ _ _ l.i l.flows-1 l.sets-1 l.answers l.invariant.3
+          (flows_room t) (sets_room t) (omega (arith, t.loop-i-test.true, (begun t).requires.1.few))
           (l.i * e + e - l.i * e) (l.i * w + w - l.i * w) (omega arith) (omega arith)
-          k.ask.new.1.1.1.1.1.1.1.1.1.1.0 k.ask.new.1.1.1.1.1.1.1.1.1.1.1.0 k.ask.result
-          c.before.before.flows.given.0 c.before.sets.given.0 k.ask.ensures,
+          k.ask-answer.new.1.1.1.1.1.1.1.1.1.1.0 k.ask-answer.new.1.1.1.1.1.1.1.1.1.1.1.0 k.ask-answer.result
+          c.before.before.flows-1.given.0 c.before.sets-1.given.0 k.ask-answer.ensures,
     )
 
-same_length : tie.Need-same-length invariant-loop decreases-loop
-same_length c = c.before.loop.invariant.3.flows_behind.0
+same_length : tie.Need-shape_of-flows invariant-loop decreases-loop
+same_length c = c.before.loop-i.invariant.3.flows_behind.0
 
-same-length-2 : tie.Need-same-length-2 invariant-loop decreases-loop
-same-length-2 c = c.before.loop.invariant.3.sets_behind.0
+same-length-2 : tie.Need-shape_of-sets invariant-loop decreases-loop
+same-length-2 c = c.before.loop-i.invariant.3.sets_behind.0
 
 returns : tie.Need-returns invariant-loop decreases-loop
 returns c =
     let s = c.before.before.before.before in
-    let l = c.before.loop in
-    all_answered s.args.sizes.nodes s.args.sizes.edges s.args.t10.count _ l.i _ s.args.flows.now l.flows
-    s.args.sets.now l.sets l.answers
-    l.invariant.2 l.invariant.3 (omega (arith, l.invariant.0, c.loop-test.false)) s.requires.1.few s.requires.1.flows_room s.requires.1.sets_room
+    let l = c.before.loop-i in
+    all_answered s.args.sizes.nodes s.args.sizes.edges s.args.t10.count _ l.i _ s.args.flows-1.now l.flows-1
+    s.args.sets-1.now l.sets-1 l.answers
+    l.invariant.2 l.invariant.3 (omega (arith, l.invariant.0, c.loop-i-test.false)) s.requires.1.few s.requires.1.flows_room s.requires.1.sets_room
 
-pub answer-all-spec : {M : Type 1} → statement M
-answer-all-spec =
+pub answer_all_spec : {M : Type 1} → statement M
+answer_all_spec =
     tie.close
     (tie.spec
     invariant-loop

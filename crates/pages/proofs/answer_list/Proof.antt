@@ -4,23 +4,23 @@ use Rattle.pages.proofs.Listing.{refused_so, list_accepted}
 use Rattle.pages.proofs.answer_list.Statement.{statement}
 use Rattle.pages.proofs.answer_list.Tie as tie
 
-returns : tie.Need-returns
+returns : tie.Need-returns-in-Refused
 returns c =
     let k = c.before.before.before.before in
     let a = k.before.before.before.before.args in
-    refused_so _ a.sizes.edges _ _ _ a.flows.now a.sets.now _ _ c.refused-page.result
-    (rw c.before.before.verdict.given.1 at k.check-list.ensures) c.refused-page.ensures
+    refused_so _ a.sizes.edges _ _ _ a.flows-1.now a.sets-1.now _ _ c.refused_page.result
+    (rw c.before.before.verdict-1.given.1 at k.check_list-verdict.ensures) c.refused_page.ensures
 
-answer-all-requires : tie.Need-answer-all-requires
+answer-all-requires : tie.Need-answer_all-requires
 answer-all-requires c κs =
     let k = c.before.before.before.before in
     let s = k.before.before.before.before in
-    let h = list_accepted s.args.sizes.nodes s.args.sizes.edges s.args.list.count s.args.flows.now s.args.sets.now
-    (rw c.before.before.enum_told.given.1 at k.check-list.ensures) in
+    let h = list_accepted s.args.sizes.nodes s.args.sizes.edges s.args.list.count s.args.flows-1.now s.args.sets-1.now
+    (rw c.before.before.enum_told-1.given.1 at k.check_list-verdict.ensures) in
     (s.requires, record { few = h.0; flows_room = h.1; sets_room = h.2 })
 
-pub answer-list-spec : {M : Type 1} → statement M
-answer-list-spec =
+pub answer_list_spec : {M : Type 1} → statement M
+answer_list_spec =
     tie.close
     (tie.spec
     (λ c κs. search rules)

@@ -29,8 +29,8 @@ returns c =
     let w = t.before in
     let a = w.before.before.before.args in
     alone-as (drawing_of a.sizes.nodes a.sizes.edges a.sizes.outer a.tails.now a.rotations.now a.capacities.now) a.q
-    w.before.wide.ensures w.wide2.ensures (number_of_bits a.q.value (record { sfits = t.struct_told.given.1.1.0.1 }))
-    a.flows.now _ a.set.now _ k.solve.result k.solve.ensures
+    w.before.wide.ensures w.wide-2.ensures (number_of_bits a.q.value (record { sfits = t.struct_told-1.given.1.1.0.1 }))
+    a.flows-1.now _ a.set-1.now _ k.solve.result k.solve.ensures
 
-pub ask-spec : {M : Type 1} → statement M
-ask-spec = tie.close (tie.spec (λ c κs. search rules) (λ c κs. search rules) (λ c κs. search rules) (λ c. search rules) (λ c. search rules) returns)
+pub ask_spec : {M : Type 1} → statement M
+ask_spec = tie.close (tie.spec (λ c κs. search rules) (λ c κs. search rules) (λ c κs. search rules) (λ c. search rules) (λ c. search rules) returns)

@@ -13,40 +13,40 @@ use Rattle.pages.proofs.Listing.{words_few}
 use Rattle.pages.proofs.check_list.Statement.{statement}
 use Rattle.pages.proofs.check_list.Tie as tie
 
-returns : tie.Need-returns
+returns : tie.Need-returns-then-n-gt64
 unfolding list_checks FirstOf
 returns c = inl (omega arith, refl, refl)
 
-mul-if2 : tie.Need-overflow-mul-if2
+mul-if2 : tie.Need-overflow_mul-n
 mul-if2 c =
     let few : c.before.before.args.n ≤ 64 = omega arith in
     record { fits = omega (arith, mul-le-mul few c.before.before.requires.1) }
 
-returns-2 : tie.Need-returns-2
+returns-2 : tie.Need-returns-then-flows-n
 unfolding list_checks FirstOf
 returns-2 c = inr (λ h. omega arith, inl (inl (omega arith), refl, refl))
 
-mul-if3 : tie.Need-overflow-mul-if3
+mul-if3 : tie.Need-overflow_mul-n-2
 mul-if3 c =
     let few : c.before.before.before.before.args.n ≤ 64 = omega arith in
-    let words : c.words-for.result ≤ 16 = omega (arith, c.words-for.ensures, words_few _ c.before.before.before.before.requires.0) in
+    let words : c.words_for.result ≤ 16 = omega (arith, c.words_for.ensures, words_few _ c.before.before.before.before.requires.0) in
     record { fits = omega (arith, mul-le-mul few words) }
 
-returns-3 : tie.Need-returns-3
+returns-3 : tie.Need-returns-then-sets-n
 unfolding list_checks FirstOf
 returns-3 c =
     let a = c.before.before.before.before.before.args in
-    let short = subst (λ k. length a.sets.now < a.n * k) c.before.words-for.ensures c.if3.true in
+    let short = subst (λ k. length a.sets.now < a.n * k) c.before.words_for.ensures c.if-sets-n.true in
     inr (λ h. omega arith, inl (inr short, refl, refl))
 
-returns-4 : tie.Need-returns-4
+returns-4 : tie.Need-returns
 unfolding list_checks NoneOf
 returns-4 c =
     let a = c.before.before.before.before.before.args in
     let f : length a.flows.now < a.n * a.edges → ⊥ = λ l. omega arith in
-    let g = subst (λ k. length a.sets.now < a.n * k → ⊥) c.before.words-for.ensures (λ l. omega (arith, c.if3.false)) in
+    let g = subst (λ k. length a.sets.now < a.n * k → ⊥) c.before.words_for.ensures (λ l. omega (arith, c.if-sets-n.false)) in
     (λ l. omega arith, (neither f g, tt))
 
-pub check-list-spec : {M : Type 1} → statement M
-check-list-spec =
+pub check_list_spec : {M : Type 1} → statement M
+check_list_spec =
     tie.close (tie.spec returns mul-if2 returns-2 (λ c κs. search rules) mul-if3 returns-3 returns-4)

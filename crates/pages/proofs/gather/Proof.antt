@@ -368,7 +368,7 @@ module _ {M : Type 1} {𝓤 : Ura M} (𝓛 : Logic 𝓤) (mem : Memory → SProp
     turns t = ex_e 𝓤 (λ (i : ℕ). ex 𝓤 (λ (u : Val). guard 𝓤 (i + t ≡ n) (⋆ 𝓛 (At i u)))) (λ i.
         ex_e 𝓤 (λ (u : Val). guard 𝓤 (i + t ≡ n) (⋆ 𝓛 (At i u))) (λ u. guard_e 𝓤 (i + t ≡ n) (⋆ 𝓛 (At i u)) (λ e. turn_at t i u e)))
 
-    loops : ent 𝓤 (⋆ 𝓛 (At 0 m)) (Wp 𝓤 H C Λ En (mir.Syntax.loop mirs.turn-1) Left)
+    loops : ent 𝓤 (⋆ 𝓛 (At 0 m)) (Wp 𝓤 H C Λ En (mir.Syntax.loop-i mirs.turn-1) Left)
     loops = via 𝓤 (Inv n) (into n 0 m (omega arith)) (loop_rule 𝓤 H 𝓛.laws 𝓣 ◌<◌ lt-wf_rel.wf En mirs.turn-1 Left Inv turns n)
 
   module _ (l₀ l₁ l₂ l₃ l₄ l₅ l₆ l₇ l₈ l₉ l₁₀ : ℕ) where
@@ -395,7 +395,7 @@ module _ {M : Type 1} {𝓤 : Ura M} (𝓛 : Logic 𝓤) (mem : Memory → SProp
       After = after_block 𝓤 H (after_seq 𝓤 H (Wp 𝓤 H 𝓣.C 𝓣.Λ Env₀ mirs.t-4 (at_return 𝓤 H Env₀ Post)) (at_return 𝓤 H Env₀ Post))
 
       abbrev Loop : SProp 𝓤
-      Loop = Wp 𝓤 H 𝓣.C 𝓣.Λ Env₀ (mir.Syntax.loop mirs.turn-1) After
+      Loop = Wp 𝓤 H 𝓣.C 𝓣.Λ Env₀ (mir.Syntax.loop-i mirs.turn-1) After
 
       sorted : (q' : Share) → ent 𝓤 (⋆ 𝓛 (‵ (row RQ q' ys b o) ∷ ‵ (fobor κ q ((arr_parts (shares RQ) (length ys)).part q' ys b o))
           ∷ ‵ (fshr_bor κ (λ s. (arr_parts (shares RQ) (length ys)).part s ys b o)) ∷ Facts)) Loop
@@ -410,7 +410,7 @@ module _ {M : Type 1} {𝓤 : Ura M} (𝓛 : Logic 𝓤) (mem : Memory → SProp
       looked : ent 𝓤 (⋆ 𝓛 (‵ (fshr_bor κ (λ s. (arr_parts (shares RQ) (length ys)).part s ys b o)) ∷ ‵ (flft κ q) ∷ Facts)) Loop
       looked =
           qed 𝓛 (‵ (fshr_bor κ (λ s. (arr_parts (shares RQ) (length ys)).part s ys b o)) ∷ ‵ (flft κ q)
-          ∷ Facts) ∵ exec ! 𝓣.C 𝓣.Λ Env₀ (mir.Syntax.loop mirs.turn-1) (any_q After) $
+          ∷ Facts) ∵ exec ! 𝓣.C 𝓣.Λ Env₀ (mir.Syntax.loop-i mirs.turn-1) (any_q After) $
           looks_slice ! tt RQ (Is RQ) (shows 𝓛 RQ) (LL.vals TQ.the_type TQ'.the_laws) (LL.tells TQ.the_type TQ'.the_laws) ((LL.copy TQ.the_type
           TQ'.the_copy) 𝓛) ys b o (λ q'. by ! (sorted q'))
 
@@ -486,9 +486,9 @@ module _ {M : Type 1} {𝓤 : Ura M} (𝓛 : Logic 𝓤) (mem : Memory → SProp
   )
       (gather.clauses 𝓛 mem run) (WpFn 𝓤 H 𝓣.C 𝓣.Λ code.function) (WpFn-mono 𝓤 H 𝓛.laws 𝓣 code.function) gather-walks
 
-pub gather-spec : {M : Type 1} → stated.statement M
+pub gather_spec : {M : Type 1} → stated.statement M
 unfolding code.routine tables_of
-gather-spec 𝓤 𝓛 𝓜 𝓡 =
+gather_spec 𝓤 𝓛 𝓜 𝓡 =
     entered 𝓤 𝓛.H (triple_of 𝓛 gather.signature (gather.spec 𝓛 𝓜.mem 𝓡.run))
     (tables 𝓤 𝓛.H 𝓜 𝓡 code.env).C (tables 𝓤 𝓛.H 𝓜 𝓡 code.env).Λ #pages·gather code.function (code.unfolded 𝓤 𝓛.H 𝓜 𝓡)
     (gather-meets 𝓛 𝓜.mem 𝓡.run (tables_of 𝓤 𝓛.H 𝓜 (tables 𝓤 𝓛.H 𝓜 𝓡 code.env))

@@ -268,9 +268,9 @@ module _ {M : Type 1} {𝓤 : Ura M} (𝓛 : Logic 𝓤) (mem : Memory → SProp
   list-of-meets = walk_Meets 𝓛 list_of.ended stayed (Goes-none_slice 𝓛 1 (0 ∷ []) tt (plain (λ _. TQ.the_row)) yes, tt)
       (list_of.clauses 𝓛 mem run) (WpFn 𝓤 H 𝓣.C 𝓣.Λ code.function) (WpFn-mono 𝓤 H 𝓛.laws 𝓣 code.function) list-of-walks
 
-pub list-of-spec : {M : Type 1} → stated.statement M
+pub list_of_spec : {M : Type 1} → stated.statement M
 unfolding code.routine tables_of
-list-of-spec 𝓤 𝓛 𝓜 𝓡 =
+list_of_spec 𝓤 𝓛 𝓜 𝓡 =
     entered 𝓤 𝓛.H (triple_of 𝓛 list_of.signature (list_of.spec 𝓛 𝓜.mem 𝓡.run))
     (tables 𝓤 𝓛.H 𝓜 𝓡 code.env).C (tables 𝓤 𝓛.H 𝓜 𝓡 code.env).Λ #pages·list-of code.function (code.unfolded 𝓤 𝓛.H 𝓜 𝓡)
     (list-of-meets 𝓛 𝓜.mem 𝓡.run (tables_of 𝓤 𝓛.H 𝓜 (tables 𝓤 𝓛.H 𝓜 𝓡 code.env))

@@ -30,70 +30,70 @@ session s =
     shared_of a.nodes a.edges a.outer a.tails.now a.rotations.now a.limits.now a.left.now a.standing.now
     a.first.now a.second.now
 
-returns : tie.Need-returns
-returns c = (no_party (session c.before) c.before.args.party c.if1.true, refl)
+returns : tie.Need-returns-then-party-ge2
+returns c = (no_party (session c.before) c.before.args.party c.if-party-ge2.true, refl)
 
 -- ── where the party stands ──
-abbrev start : tie.After-stands → tie.Start
+abbrev start : tie.After-stands-1 → tie.Start
 start c = c.before.before.before
 
-known : (c : tie.After-stands) → 2 ≤ (start c).args.party → ⊥
-known c l = absurd (omega (arith, l, c.before.before.if1.false))
+known : (c : tie.After-stands-1) → 2 ≤ (start c).args.party → ⊥
+known c l = absurd (omega (arith, l, c.before.before.if-party-ge2.false))
 
-stood : (c : tie.After-stands) → at (start c).args.standing.now c.before.wide.result ≡ at (start c).args.standing.now (start c).args.party
+stood : (c : tie.After-stands-1) → at (start c).args.standing.now c.before.wide.result ≡ at (start c).args.standing.now (start c).args.party
 stood c = ap (at (start c).args.standing.now) c.before.wide.ensures
 
-returns-2 : tie.Need-returns-2
+returns-2 : tie.Need-returns-then-stands-eq3
 returns-2 c =
     let t = c.before in
-    (has_committed (session (start t)) (start t).args.party (known t) (sym (stood t) ∙ c.if2.true), refl)
+    (has_committed (session (start t)) (start t).args.party (known t) (sym (stood t) ∙ c.if-stands-eq3.true), refl)
 
-returns-3 : tie.Need-returns-3
+returns-3 : tie.Need-returns-then-stands-eq2
 returns-3 c =
     let t = c.before.before in
-    (stale_offer (session (start t)) (start t).args.party (known t) (λ e. c.before.if2.false (stood t ∙ e)) (sym (stood t) ∙ c.if3.true), refl)
+    (stale_offer (session (start t)) (start t).args.party (known t) (λ e. c.before.if-stands-eq3.false (stood t ∙ e)) (sym (stood t) ∙ c.if-stands-eq2.true), refl)
 
-returns-4 : tie.Need-returns-4
+returns-4 : tie.Need-returns-then-stands-ne1
 returns-4 c =
     let t = c.before.before.before in (
-      no_offer (session (start t)) (start t).args.party (known t) (λ e. c.before.before.if2.false (stood t ∙ e))
-          (λ e. c.before.if3.false (stood t ∙ e)) (λ e. c.if4.true (stood t ∙ e)),
+      no_offer (session (start t)) (start t).args.party (known t) (λ e. c.before.before.if-stands-eq3.false (stood t ∙ e))
+          (λ e. c.before.if-stands-eq2.false (stood t ∙ e)) (λ e. c.if-stands-ne1.true (stood t ∙ e)),
       refl,
     )
 
 -- ── the offer ──
-abbrev stands : tie.After-take-of → tie.After-stands
+abbrev stands : tie.After-take_of → tie.After-stands-1
 stands c = c.before.before.before.before.before
 
-stand-committed-requires : tie.Need-stand-committed-requires
-stand-committed-requires c κs = ((stands c.before.before).before.before.if1.false, c.stand-committed-arg.given.0.1)
+stand-committed-requires : tie.Need-stand_committed-requires
+stand-committed-requires c κs = ((stands c.before.before).before.before.if-party-ge2.false, c.stand_committed-arg-1.given.0.1)
 
-returns-5 : tie.Need-returns-5
+returns-5 : tie.Need-returns-then-take_of
 returns-5 c =
     let k = c.before.before.before in
     let t = stands k in
     let S = session (start t) in
     let a = (start t).args in
-    let h = taken_yes k.take-of.ensures c.before.before.if5.true in
+    let h = taken_yes k.take_of.ensures c.before.before.if-take_of.true in
     let e = own_offer a.party a.first.now a.second.now (known t) in (
-      lets_in S a.party (known t) (sym (stood t) ∙ k.before.before.if4.false) (offer_lowerable S a.party _ e h.0),
-      after_commit S a.party _ _ (lowered_offer S a.party _ e _ h.1) c.stand-committed.ensures.1,
+      lets_in S a.party (known t) (sym (stood t) ∙ k.before.before.if-stands-ne1.false) (offer_lowerable S a.party _ e h.0),
+      after_commit S a.party _ _ (lowered_offer S a.party _ e _ h.1) c.stand_committed.ensures.1,
     )
 
-returns-6 : tie.Need-returns-6
+returns-6 : tie.Need-returns
 returns-6 c =
     let k = c.before in
     let t = stands k in
     let S = session (start t) in
     let a = (start t).args in
-    let h = taken_no k.take-of.ensures c.if5.false in
+    let h = taken_no k.take_of.ensures c.if-take_of.false in
     let e = own_offer a.party a.first.now a.second.now (known t) in (
-      too_much S a.party (known t) (sym (stood t) ∙ k.before.before.if4.false) (λ l. h.0 (lowerable_offer S a.party _ e l)),
+      too_much S a.party (known t) (sym (stood t) ∙ k.before.before.if-stands-ne1.false) (λ l. h.0 (lowerable_offer S a.party _ e l)),
       left_alone S _ h.1,
     )
 
-pub commit-spec : {M : Type 1} → statement M
-commit-spec =
+pub commit_spec : {M : Type 1} → statement M
+commit_spec =
     tie.close
     (tie.spec
     returns

@@ -6,5 +6,5 @@ use Rattle.parties.proofs.erase.Tie as tie
 returns : tie.Need-returns
 returns c = after_erase
 
-pub erase-spec : {M : Type 1} → statement M
-erase-spec = tie.close (tie.spec returns)
+pub erase_spec : {M : Type 1} → statement M
+erase_spec = tie.close (tie.spec returns)

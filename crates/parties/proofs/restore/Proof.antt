@@ -13,41 +13,41 @@ use Rattle.parties.proofs.Taking.{copied_whole}
 use Rattle.parties.proofs.restore.Statement.{statement}
 use Rattle.parties.proofs.restore.Tie as tie
 
-abbrev invariant-loop : tie.invariant-loop
+abbrev invariant-loop : tie.invariant-loop-dart
 invariant-loop limits left₀ dart₀ left dart = (dart ≤ 1024) × (left ≡ tabulate dart (atℤ limits) ++ drop dart left₀)
 
-abbrev decreases-loop : tie.decreases-loop
+abbrev decreases-loop : tie.decreases-loop-dart
 decreases-loop limits left₀ dart₀ left dart = 1024 - dart
 
-loop-holds : tie.Need-loop-init invariant-loop decreases-loop
+loop-holds : tie.Need-loop-dart-init invariant-loop decreases-loop
 loop-holds c = (omega arith, copy_start _ _)
 
-slice-set-from-left : tie.Need-slice-set-from-left invariant-loop decreases-loop
+slice-set-from-left : tie.Need-bounds-left-dart invariant-loop decreases-loop
 slice-set-from-left c =
     let s = c.before.before.before in
-    omega (arith, filled_length _ _ _ _ c.before.before.loop.invariant.1 (omega (arith, s.requires.1)), s.requires.1)
+    omega (arith, filled_length _ _ _ _ c.before.before.loop-dart.invariant.1 (omega (arith, s.requires.1)), s.requires.1)
 
-loop-again : tie.Need-loop-preserved invariant-loop decreases-loop
+loop-again : tie.Need-loop-dart-preserved invariant-loop decreases-loop
 loop-again c =
-    let o = c.before.before.loop in (
+    let o = c.before.before.loop-dart in (
       omega arith,
-      copy_step _ o.dart _ _ _ o.invariant.1 (omega (arith, c.before.before.before.requires.1)) (number_of_bits _ (record { sfits = c.left.given })),
+      copy_step _ o.dart _ _ _ o.invariant.1 (omega (arith, c.before.before.before.requires.1)) (number_of_bits _ (record { sfits = c.left-1.given })),
     )
 
-same_length : tie.Need-same-length invariant-loop decreases-loop
-same_length c = filled_length _ _ _ _ c.before.loop.invariant.1 (omega (arith, c.before.before.requires.1))
+same_length : tie.Need-shape_of-left invariant-loop decreases-loop
+same_length c = filled_length _ _ _ _ c.before.loop-dart.invariant.1 (omega (arith, c.before.before.requires.1))
 
 returns : tie.Need-returns invariant-loop decreases-loop
 returns c =
-    let o = c.before.loop in
+    let o = c.before.loop-dart in
     let s = c.before.before in
     let a = s.args in
     let all : o.dart ≡ 1024 = omega arith in
-    copied_whole 1024 a.limits.now a.left.now o.left s.requires.0 s.requires.1
-    (o.invariant.1 ∙ ap (λ k. tabulate k (atℤ a.limits.now) ++ drop k a.left.now) all)
+    copied_whole 1024 a.limits.now a.left-1.now o.left-1 s.requires.0 s.requires.1
+    (o.invariant.1 ∙ ap (λ k. tabulate k (atℤ a.limits.now) ++ drop k a.left-1.now) all)
 
-pub restore-spec : {M : Type 1} → statement M
-restore-spec =
+pub restore_spec : {M : Type 1} → statement M
+restore_spec =
     tie.close
     (tie.spec
     invariant-loop

@@ -4,18 +4,18 @@ use Rattle.parties.proofs.Taking.{first_commits, second_commits}
 use Rattle.parties.proofs.stand_committed.Statement.{statement}
 use Rattle.parties.proofs.stand_committed.Tie as tie
 
-returns : tie.Need-returns
+returns : tie.Need-returns-then-party-eq0
 returns c =
     let s = c.before.before.before.before in
-    first_commits s.args.standing.now s.requires.1 s.args.party s.requires.0 _ c.before.before.if1.true c.staled-by.ensures
+    first_commits s.args.standing.now s.requires.1 s.args.party s.requires.0 _ c.before.before.if-party-eq0.true c.staled_by.ensures
 
-returns-2 : tie.Need-returns-2
+returns-2 : tie.Need-returns-else-party-eq0
 returns-2 c =
     let s = c.before.before.before.before in
-    second_commits s.args.standing.now s.requires.1 s.args.party s.requires.0 _ c.before.before.if1.false c.staled-by2.ensures
+    second_commits s.args.standing.now s.requires.1 s.args.party s.requires.0 _ c.before.before.if-party-eq0.false c.staled_by-else-party-eq0.ensures
 
-pub stand-committed-spec : {M : Type 1} → statement M
-stand-committed-spec =
+pub stand_committed_spec : {M : Type 1} → statement M
+stand_committed_spec =
     tie.close
     (tie.spec
     (λ c. search rules)

@@ -10,5 +10,5 @@ returns c =
     let xs = c.args.standing.now in
     (written_long xs c.requires _ _, written_both xs c.requires _ _ (λ q. 0) refl refl (λ q l. refl))
 
-pub stand-idle-spec : {M : Type 1} → statement M
-stand-idle-spec = tie.close (tie.spec (λ c. search rules) (λ c. search rules) (λ c. search rules) returns)
+pub stand_idle_spec : {M : Type 1} → statement M
+stand_idle_spec = tie.close (tie.spec (λ c. search rules) (λ c. search rules) (λ c. search rules) returns)

@@ -12,20 +12,20 @@ use Rattle.parties.proofs.take.Tie as tie
 abbrev start : tie.After-lowerable → tie.Start
 start c = c.before.before.before.before
 
-width : (c : tie.After-lowerable) → c.before.before.before.wide.result ≡ (start c).args.edges
-width c = c.before.before.before.wide.ensures
+width : (c : tie.After-lowerable) → c.before.before.before.wide-m.result ≡ (start c).args.edges
+width c = c.before.before.before.wide-m.ensures
 
-tested : (c : tie.Then1) → Lowerable c.before.before.before.before.wide.result (atℤ (start c.before).args.left.now)
+tested : (c : tie.Then-lowerable) → Lowerable c.before.before.before.before.wide-m.result (atℤ (start c.before).args.left.now)
     (atℤ (start c.before).args.offer.now)
-tested c = said_yes c.before.lowerable.ensures c.if1.true
+tested c = said_yes c.before.lowerable.ensures c.if-lowerable.true
 
 lower-requires : tie.Need-lower-requires
 lower-requires c κs =
     let h = tested c.before in
     let s = start c.before.before in
-    (c.lower-arg.given.0.1, h.few_edges, lowerable_fits _ (atℤ s.args.left.now) (atℤ s.args.offer.now) h)
+    (c.lower-arg-1.given.0.1, h.few_edges, lowerable_fits _ (atℤ s.args.left.now) (atℤ s.args.offer.now) h)
 
-returns : tie.Need-returns
+returns : tie.Need-returns-then-lowerable
 returns c =
     let t = c.before.before in
     let a = (start t.before).args in
@@ -35,11 +35,11 @@ returns c =
       after = lowered_by_flows _ a.edges a.left.now a.offer.now _ e c.lower.ensures.1;
     }
 
-returns-2 : tie.Need-returns-2
+returns-2 : tie.Need-returns
 returns-2 c =
     let a = (start c.before).args in
     record {
-      tested = λ h. said_no c.before.lowerable.ensures c.if1.false
+      tested = λ h. said_no c.before.lowerable.ensures c.if-lowerable.false
           (subst (λ k. Lowerable k (atℤ a.left.now) (atℤ a.offer.now)) (sym (width c.before)) h);
       after = refl;
     }

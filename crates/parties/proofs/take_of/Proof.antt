@@ -4,15 +4,15 @@ use Rattle.parties.proofs.Taking.{taken_as, first_of, second_of}
 use Rattle.parties.proofs.take_of.Statement.{statement}
 use Rattle.parties.proofs.take_of.Tie as tie
 
-returns : tie.Need-returns
+returns : tie.Need-returns-then-party-eq0
 returns c =
     let a = c.before.before.before.args in
-    taken_as c.take.ensures (first_of a.party a.first.now a.second.now c.before.before.if1.true)
+    taken_as c.take.ensures (first_of a.party a.first.now a.second.now c.before.before.if-party-eq0.true)
 
-returns-2 : tie.Need-returns-2
+returns-2 : tie.Need-returns
 returns-2 c =
     let a = c.before.before.before.args in
-    taken_as c.take2.ensures (second_of a.party a.first.now a.second.now c.before.before.if1.false)
+    taken_as c.take-2.ensures (second_of a.party a.first.now a.second.now c.before.before.if-party-eq0.false)
 
-pub take-of-spec : {M : Type 1} → statement M
-take-of-spec = tie.close (tie.spec (λ c κs. search rules) returns (λ c κs. search rules) returns-2)
+pub take_of_spec : {M : Type 1} → statement M
+take_of_spec = tie.close (tie.spec (λ c κs. search rules) returns (λ c κs. search rules) returns-2)

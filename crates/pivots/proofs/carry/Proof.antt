@@ -3,15 +3,15 @@ use Rattle.std.proofs.Common.{◌≡◌, ◌-◌, ◌<◌, ◌≤◌, length, ru
 use Rattle.pivots.proofs.carry.Statement.{statement}
 use Rattle.pivots.proofs.carry.Tie as tie
 
-abbrev invariant-loop : tie.invariant-loop
+abbrev invariant-loop : tie.invariant-loop-i
 invariant-loop tails to source sink by slacks₀ v₀ i₀ slacks v i =
     (i ≤ 1024) × (v < 1024) × (length slacks ≡ 1024)
 
-abbrev decreases-loop : tie.decreases-loop
+abbrev decreases-loop : tie.decreases-loop-i
 decreases-loop tails to source sink by slacks₀ v₀ i₀ slacks v i = 1024 - i
 
-pub carry-spec : {M : Type 1} → statement M
-carry-spec =
+pub carry_spec : {M : Type 1} → statement M
+carry_spec =
     tie.close
     (tie.spec
     invariant-loop

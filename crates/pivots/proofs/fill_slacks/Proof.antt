@@ -3,15 +3,15 @@ use Rattle.std.proofs.Common.{◌≡◌, ◌-◌, ◌≤◌, length, rules}
 use Rattle.pivots.proofs.fill_slacks.Statement.{statement}
 use Rattle.pivots.proofs.fill_slacks.Tie as tie
 
-abbrev invariant-loop : tie.invariant-loop
+abbrev invariant-loop : tie.invariant-loop-e
 invariant-loop capacities edges flows slacks₀ e₀ slacks e =
     (e ≤ edges) × (length slacks ≡ 1024)
 
-abbrev decreases-loop : tie.decreases-loop
+abbrev decreases-loop : tie.decreases-loop-e
 decreases-loop capacities edges flows slacks₀ e₀ slacks e = edges - e
 
-pub fill-slacks-spec : {M : Type 1} → statement M
-fill-slacks-spec =
+pub fill_slacks_spec : {M : Type 1} → statement M
+fill_slacks_spec =
     tie.close
     (tie.spec
     invariant-loop

@@ -3,15 +3,15 @@ use Rattle.std.proofs.Common.{◌-◌, ◌<◌, ◌≤◌, rules}
 use Rattle.pivots.proofs.flag_ahead.Statement.{statement}
 use Rattle.pivots.proofs.flag_ahead.Tie as tie
 
-abbrev invariant-loop : tie.invariant-loop
+abbrev invariant-loop : tie.invariant-loop-i
 invariant-loop tails to inside v w₀ i₀ w i =
     (i ≤ 1024) × (w < 1024)
 
-abbrev decreases-loop : tie.decreases-loop
+abbrev decreases-loop : tie.decreases-loop-i
 decreases-loop tails to inside v w₀ i₀ w i = 1024 - i
 
-pub flag-ahead-spec : {M : Type 1} → statement M
-flag-ahead-spec =
+pub flag_ahead_spec : {M : Type 1} → statement M
+flag_ahead_spec =
     tie.close
     (tie.spec
     invariant-loop

@@ -3,15 +3,15 @@ use Rattle.std.proofs.Common.{◌≡◌, ◌-◌, length, rules}
 use Rattle.pivots.proofs.flag_listed.Statement.{statement}
 use Rattle.pivots.proofs.flag_listed.Tie as tie
 
-abbrev invariant-loop : tie.invariant-loop
+abbrev invariant-loop : tie.invariant-loop-i
 invariant-loop tails list from end flag inside₀ i₀ inside i =
     length inside ≡ 1024
 
-abbrev decreases-loop : tie.decreases-loop
+abbrev decreases-loop : tie.decreases-loop-i
 decreases-loop tails list from end flag inside₀ i₀ inside i = end - i
 
-pub flag-listed-spec : {M : Type 1} → statement M
-flag-listed-spec =
+pub flag_listed_spec : {M : Type 1} → statement M
+flag_listed_spec =
     tie.close
     (tie.spec
     invariant-loop

@@ -3,15 +3,15 @@ use Rattle.std.proofs.Common.{◌≡◌, ◌-◌, ◌<◌, ◌≤◌, length, ru
 use Rattle.pivots.proofs.flag_way.Statement.{statement}
 use Rattle.pivots.proofs.flag_way.Tie as tie
 
-abbrev invariant-loop : tie.invariant-loop
+abbrev invariant-loop : tie.invariant-loop-i
 invariant-loop tails to v flag inside₀ w₀ i₀ inside w i =
     (i ≤ 1024) × (w < 1024) × (length inside ≡ 1024)
 
-abbrev decreases-loop : tie.decreases-loop
+abbrev decreases-loop : tie.decreases-loop-i
 decreases-loop tails to v flag inside₀ w₀ i₀ inside w i = 1024 - i
 
-pub flag-way-spec : {M : Type 1} → statement M
-flag-way-spec =
+pub flag_way_spec : {M : Type 1} → statement M
+flag_way_spec =
     tie.close
     (tie.spec
     invariant-loop

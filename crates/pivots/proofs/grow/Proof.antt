@@ -3,11 +3,11 @@ use Rattle.std.proofs.Common.{◌≡◌, ◌-◌, ◌≤◌, length, rules}
 use Rattle.pivots.proofs.grow.Statement.{statement}
 use Rattle.pivots.proofs.grow.Tie as tie
 
-abbrev invariant-loop : tie.invariant-loop
+abbrev invariant-loop : tie.invariant-loop-v
 invariant-loop tails parents nodes edges faces source sink to₀ counts₀ v₀ to counts v =
     (v ≤ nodes) × (length to ≡ 1024) × (length counts ≡ 1024)
 
-abbrev decreases-loop : tie.decreases-loop
+abbrev decreases-loop : tie.decreases-loop-v
 decreases-loop tails parents nodes edges faces source sink to₀ counts₀ v₀ to counts v = nodes - v
 
 pub grow_spec : {M : Type 1} → statement M

@@ -3,15 +3,15 @@ use Rattle.std.proofs.Common.{◌-◌, ◌<◌, ◌≤◌, rules}
 use Rattle.pivots.proofs.passes.Statement.{statement}
 use Rattle.pivots.proofs.passes.Tie as tie
 
-abbrev invariant-loop : tie.invariant-loop
+abbrev invariant-loop : tie.invariant-loop-i
 invariant-loop tails to sink u v w₀ i₀ w i =
     (i ≤ 1024) × (w < 1024)
 
-abbrev decreases-loop : tie.decreases-loop
+abbrev decreases-loop : tie.decreases-loop-i
 decreases-loop tails to sink u v w₀ i₀ w i = 1024 - i
 
-pub passes-spec : {M : Type 1} → statement M
-passes-spec =
+pub passes_spec : {M : Type 1} → statement M
+passes_spec =
     tie.close
     (tie.spec
     invariant-loop

@@ -3,15 +3,15 @@ use Rattle.std.proofs.Common.{◌≡◌, ◌-◌, ◌≤◌, length, rules}
 use Rattle.pivots.proofs.spread_all.Statement.{statement}
 use Rattle.pivots.proofs.spread_all.Tie as tie
 
-abbrev invariant-loop : tie.invariant-loop
+abbrev invariant-loop : tie.invariant-loop-next
 invariant-loop tails rotations capacities first inside₀ list₀ grown₀ best₀ next₀ inside list grown best next =
     (next ≤ 512) × (length inside ≡ 1024) × (length list ≡ 512)
 
-abbrev decreases-loop : tie.decreases-loop
+abbrev decreases-loop : tie.decreases-loop-next
 decreases-loop tails rotations capacities first inside₀ list₀ grown₀ best₀ next₀ inside list grown best next = 512 - next
 
-pub spread-all-spec : {M : Type 1} → statement M
-spread-all-spec =
+pub spread_all_spec : {M : Type 1} → statement M
+spread_all_spec =
     tie.close
     (tie.spec
     invariant-loop

@@ -3,15 +3,15 @@ use Rattle.std.proofs.Common.{◌≡◌, ◌-◌, ◌<◌, ◌≤◌, length, ru
 use Rattle.pivots.proofs.strip.Statement.{statement}
 use Rattle.pivots.proofs.strip.Tie as tie
 
-abbrev invariant-loop : tie.invariant-loop
+abbrev invariant-loop : tie.invariant-loop-i
 invariant-loop tails v to₀ counts₀ w₀ i₀ to counts w i =
     (i ≤ 1024) × (w < 1024) × (length to ≡ 1024) × (length counts ≡ 1024)
 
-abbrev decreases-loop : tie.decreases-loop
+abbrev decreases-loop : tie.decreases-loop-i
 decreases-loop tails v to₀ counts₀ w₀ i₀ to counts w i = 1024 - i
 
-pub strip-spec : {M : Type 1} → statement M
-strip-spec =
+pub strip_spec : {M : Type 1} → statement M
+strip_spec =
     tie.close
     (tie.spec
     invariant-loop

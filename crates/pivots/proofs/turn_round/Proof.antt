@@ -3,15 +3,15 @@ use Rattle.std.proofs.Common.{◌≡◌, ◌-◌, ◌<◌, ◌≤◌, length, ru
 use Rattle.pivots.proofs.turn_round.Statement.{statement}
 use Rattle.pivots.proofs.turn_round.Tie as tie
 
-abbrev invariant-loop : tie.invariant-loop
+abbrev invariant-loop : tie.invariant-loop-i
 invariant-loop tails v by x to₀ w₀ d₀ i₀ to w d i =
     (i ≤ 1024) × (w < 1024) × (d < 1024) × (length to ≡ 1024)
 
-abbrev decreases-loop : tie.decreases-loop
+abbrev decreases-loop : tie.decreases-loop-i
 decreases-loop tails v by x to₀ w₀ d₀ i₀ to w d i = 1024 - i
 
-pub turn-round-spec : {M : Type 1} → statement M
-turn-round-spec =
+pub turn_round_spec : {M : Type 1} → statement M
+turn_round_spec =
     tie.close
     (tie.spec
     invariant-loop

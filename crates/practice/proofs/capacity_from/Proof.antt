@@ -20,7 +20,7 @@ returns : tie.Need-returns
 unfolding capacity_from
 returns c =
     let n = c.before.args.state / 65536 in
-    ap (λ x. to_z w32 (of_z w32 x)) c.of-bits.ensures ∙ small-number (n % 100) (mod-lt n (omega arith))
+    ap (λ x. to_z w32 (of_z w32 x)) c.of_bits.ensures ∙ small-number (n % 100) (mod-lt n (omega arith))
 
-pub capacity-from-spec : {M : Type 1} → statement M
-capacity-from-spec = tie.close (tie.spec (λ c. search rules) (λ c κs. search rules) returns)
+pub capacity_from_spec : {M : Type 1} → statement M
+capacity_from_spec = tie.close (tie.spec (λ c. search rules) (λ c κs. search rules) returns)

@@ -12,42 +12,42 @@ use Rattle.practice.proofs.dart_at.Statement.{statement}
 use Rattle.practice.proofs.dart_at.Tie as tie
 
 -- ── where there is an edge, the row or the column is not the first ──
-north-of : (c : tie.Then1) → 0 < c.before.args.r
+north-of : (c : tie.Then-s-eq0) → 0 < c.before.args.r
 unfolding present side
-north-of c = ltb_lt 0 c.before.args.r (rw c.if1.true at c.before.requires.4)
+north-of c = ltb_lt 0 c.before.args.r (rw c.if-s-eq0.true at c.before.requires.4)
 
-is-west : (c : tie.Else3) → side c.before.before.before.args.s ≡ west
-is-west c = side_west _ c.before.before.if1.false c.before.if2.false c.if3.false
+is-west : (c : tie.Else-s-eq2) → side c.before.before.before.args.s ≡ west
+is-west c = side_west _ c.before.before.if-s-eq0.false c.before.if-s-eq1.false c.if-s-eq2.false
 
-west-of : (c : tie.Else3) → 0 < c.before.before.before.args.c
+west-of : (c : tie.Else-s-eq2) → 0 < c.before.before.before.args.c
 unfolding present
 west-of c = ltb_lt 0 c.before.before.before.args.c (rw (is-west c) at c.before.before.before.requires.4)
 
 -- ── the needs, in the order of the code ──
-sub-edge-south : tie.Need-overflow-sub-edge-south
+sub-edge-south : tie.Need-overflow_sub-r
 sub-edge-south c = omega (arith, north-of c)
 
-returns : tie.Need-returns
+returns : tie.Need-returns-then-s-eq0
 unfolding dart_at side
-returns c = rw c.before.if1.true (ap (λ e. 2 * e + 1) c.edge-south.ensures.0)
+returns c = rw c.before.if-s-eq0.true (ap (λ e. 2 * e + 1) c.edge_south.ensures.0)
 
-returns-2 : tie.Need-returns-2
+returns-2 : tie.Need-returns-then-s-eq1
 unfolding dart_at side
-returns-2 c = rw c.before.if2.true (ap (λ e. 2 * e) c.edge-east.ensures.0)
+returns-2 c = rw c.before.if-s-eq1.true (ap (λ e. 2 * e) c.edge_east.ensures.0)
 
-returns-3 : tie.Need-returns-3
+returns-3 : tie.Need-returns-then-s-eq2
 unfolding dart_at side
-returns-3 c = rw c.before.if3.true (ap (λ e. 2 * e) c.edge-south2.ensures.0)
+returns-3 c = rw c.before.if-s-eq2.true (ap (λ e. 2 * e) c.edge_south-then-s-eq2.ensures.0)
 
-sub-edge-east : tie.Need-overflow-sub-edge-east
+sub-edge-east : tie.Need-overflow_sub-c
 sub-edge-east c = omega (arith, west-of c)
 
-returns-4 : tie.Need-returns-4
+returns-4 : tie.Need-returns
 unfolding dart_at
-returns-4 c = rw (is-west c.before) (ap (λ e. 2 * e + 1) c.edge-east2.ensures.0)
+returns-4 c = rw (is-west c.before) (ap (λ e. 2 * e + 1) c.edge_east-2.ensures.0)
 
-pub dart-at-spec : {M : Type 1} → statement M
-dart-at-spec =
+pub dart_at_spec : {M : Type 1} → statement M
+dart_at_spec =
     tie.close
     (tie.spec
     sub-edge-south

@@ -13,42 +13,42 @@ abbrev has : tie.Start → Side → Bool
 has s = present s.args.rows s.args.columns s.args.r s.args.c
 
 -- ── what each test says of the sides in their order ──
-first : (c : tie.After-has-side) → has c.before (turn (side c.before.args.s)) ≡ c.has-side.result
-first c = let s = c.before in ap (has s) (sym (one_turn s.args.s s.requires.2)) ∙ sym c.has-side.ensures
+first : (c : tie.After-has_side) → has c.before (turn (side c.before.args.s)) ≡ c.has_side.result
+first c = let s = c.before in ap (has s) (sym (one_turn s.args.s s.requires.2)) ∙ sym c.has_side.ensures
 
-second : (c : tie.After-has-side2)
-    → has c.before.before.before (turn (turn (side c.before.before.before.args.s))) ≡ c.has-side2.result
-second c = let s = c.before.before.before in ap (has s) (sym (two_turns s.args.s s.requires.2)) ∙ sym c.has-side2.ensures
+second : (c : tie.After-has_side-2)
+    → has c.before.before.before (turn (turn (side c.before.before.before.args.s))) ≡ c.has_side-2.result
+second c = let s = c.before.before.before in ap (has s) (sym (two_turns s.args.s s.requires.2)) ∙ sym c.has_side-2.ensures
 
-third : (c : tie.After-has-side3)
-    → has c.before.before.before.before.before (turn (turn (turn (side c.before.before.before.before.before.args.s)))) ≡ c.has-side3.result
-third c = let s = c.before.before.before.before.before in ap (has s) (sym (three_turns s.args.s s.requires.2)) ∙ sym c.has-side3.ensures
+third : (c : tie.After-has_side-3)
+    → has c.before.before.before.before.before (turn (turn (turn (side c.before.before.before.before.before.args.s)))) ≡ c.has_side-3.result
+third c = let s = c.before.before.before.before.before in ap (has s) (sym (three_turns s.args.s s.requires.2)) ∙ sym c.has_side-3.ensures
 
 -- ── the needs, in the order of the code ──
-returns : tie.Need-returns
+returns : tie.Need-returns-then-has_side
 returns c = let s = c.before.before in
-    one_turn s.args.s s.requires.2 ∙ sym (next_first (has s) (side s.args.s) (first c.before ∙ c.if1.true))
+    one_turn s.args.s s.requires.2 ∙ sym (next_first (has s) (side s.args.s) (first c.before ∙ c.if-has_side.true))
 
-returns-2 : tie.Need-returns-2
+returns-2 : tie.Need-returns-then-has_side-2
 returns-2 c = let b = c.before.before in
     let s = b.before.before in
-    two_turns s.args.s s.requires.2 ∙ sym (next_second (has s) (side s.args.s) (first b.before ∙ b.if1.false) (second c.before ∙ c.if2.true))
+    two_turns s.args.s s.requires.2 ∙ sym (next_second (has s) (side s.args.s) (first b.before ∙ b.if-has_side.false) (second c.before ∙ c.if-has_side-2.true))
 
-returns-3 : tie.Need-returns-3
+returns-3 : tie.Need-returns-then-has_side-3
 returns-3 c = let b = c.before.before in
     let a = b.before.before in
     let s = a.before.before in
     three_turns s.args.s s.requires.2
-    ∙ sym (next_third (has s) (side s.args.s) (first a.before ∙ a.if1.false) (second b.before ∙ b.if2.false) (third c.before ∙ c.if3.true))
+    ∙ sym (next_third (has s) (side s.args.s) (first a.before ∙ a.if-has_side.false) (second b.before ∙ b.if-has_side-2.false) (third c.before ∙ c.if-has_side-3.true))
 
-returns-4 : tie.Need-returns-4
+returns-4 : tie.Need-returns
 returns-4 c = let b = c.before.before in
     let a = b.before.before in
     let s = a.before.before in
-    sym (next_none (has s) (side s.args.s) (first a.before ∙ a.if1.false) (second b.before ∙ b.if2.false) (third c.before ∙ c.if3.false))
+    sym (next_none (has s) (side s.args.s) (first a.before ∙ a.if-has_side.false) (second b.before ∙ b.if-has_side-2.false) (third c.before ∙ c.if-has_side-3.false))
 
-pub next-side-spec : {M : Type 1} → statement M
-next-side-spec =
+pub next_side_spec : {M : Type 1} → statement M
+next_side_spec =
     tie.close
     (tie.spec
     (λ c. search rules)

@@ -11,5 +11,5 @@ returns : tie.Need-returns
 unfolding next_state
 returns c = (refl, mod-lt _ (omega arith))
 
-pub next-state-spec : {M : Type 1} → statement M
-next-state-spec = tie.close (tie.spec (λ c. search rules) (λ c. search rules) returns)
+pub next_state_spec : {M : Type 1} → statement M
+next_state_spec = tie.close (tie.spec (λ c. search rules) (λ c. search rules) returns)

@@ -13,27 +13,27 @@ use Rattle.practice.proofs.rotation_at.Statement.{statement}
 use Rattle.practice.proofs.rotation_at.Tie as tie
 
 -- the next side has an edge
-turned : (c : tie.After-next-side)
-    → present c.before.args.rows c.before.args.columns c.before.args.r c.before.args.c (side c.next-side.result) ≡ true
+turned : (c : tie.After-next_side-t)
+    → present c.before.args.rows c.before.args.columns c.before.args.r c.before.args.c (side c.next_side-t.result) ≡ true
 turned c =
     let a = c.before.args in
     let p = c.before.requires in
-    ap (present a.rows a.columns a.r a.c) c.next-side.ensures
+    ap (present a.rows a.columns a.r a.c) c.next_side-t.ensures
     ∙ next_here a.rows a.columns a.r a.c p.2 p.3 (side a.s) p.5
 
-small : (c : tie.After-dart-at) → c.dart-at.result < 65536
+small : (c : tie.After-dart_at-d) → c.dart_at-d.result < 65536
 small c =
     let n = c.before in
     let a = n.before.args in
     let p = n.before.requires in
     omega (
       arith,
-      c.dart-at.ensures,
-      dart_in a.rows a.columns a.r a.c p.2 p.3 (side n.next-side.result) (turned n),
+      c.dart_at-d.ensures,
+      dart_in a.rows a.columns a.r a.c p.2 p.3 (side n.next_side-t.result) (turned n),
       few_edges a.rows a.columns p.0 p.1,
     )
 
-dart-at-requires : tie.Need-dart-at-requires
+dart-at-requires : tie.Need-dart_at-d-requires
 dart-at-requires c κs = let p = c.before.requires in (p.0, p.1, p.2, p.3, turned c)
 
 narrow-requires : tie.Need-narrow-requires
@@ -42,7 +42,7 @@ narrow-requires c κs = small c
 returns : tie.Need-returns
 returns c =
     let a = c.before.before.before.args in
-    c.narrow.ensures ∙ c.before.dart-at.ensures ∙ ap (dart_at a.rows a.columns a.r a.c) c.before.before.next-side.ensures
+    c.narrow.ensures ∙ c.before.dart_at-d.ensures ∙ ap (dart_at a.rows a.columns a.r a.c) c.before.before.next_side-t.ensures
 
-pub rotation-at-spec : {M : Type 1} → statement M
-rotation-at-spec = tie.close (tie.spec (λ c κs. search rules) dart-at-requires narrow-requires returns)
+pub rotation_at_spec : {M : Type 1} → statement M
+rotation_at_spec = tie.close (tie.spec (λ c κs. search rules) dart-at-requires narrow-requires returns)

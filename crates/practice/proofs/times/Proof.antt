@@ -9,11 +9,11 @@ use Rattle.practice.proofs.times.Tie as tie
 at_most : (c : tie.Start) → c.args.a * c.args.b ≤ 256
 at_most c = omega (arith, mul-le-mul_right c.args.b c.requires.0, c.requires.1)
 
-mul-result : tie.Need-overflow-mul-result
+mul-result : tie.Need-overflow_mul-result
 mul-result c = let h = at_most c in omega arith
 
 returns : tie.Need-returns
 returns c = (refl, at_most c)
 
-pub times-spec : {M : Type 1} → statement M
-times-spec = tie.close (tie.spec mul-result returns)
+pub times_spec : {M : Type 1} → statement M
+times_spec = tie.close (tie.spec mul-result returns)

@@ -17,13 +17,13 @@ returns c =
     let tail = head.before in
     let s = tail.before.before in
     let a = s.args in
-    w.write-record.ensures
+    w.write_record.ensures
     ∙ (λ i. put a.place
-    (edge_bytes (tail.Node-at.ensures i) (head.node-at2.ensures i) (rotation.rotation-at.ensures i) (back.rotation-at2.ensures i)
-    (number_of_bits a.forward s.ranges.forward i) (pos 0)) a.out.now)
+    (edge_bytes (tail.Node-at.ensures i) (head.node_at-head.ensures i) (rotation.rotation_at-rotation.ensures i) (back.rotation_at-turned.ensures i)
+    (number_of_bits a.forward s.ranges.forward i) (pos 0)) a.out-1.now)
 
-pub write-between-spec : {M : Type 1} → statement M
-write-between-spec =
+pub write_between_spec : {M : Type 1} → statement M
+write_between_spec =
     tie.close
     (tie.spec
     (λ c κs. search rules)

@@ -23,17 +23,17 @@ same-record : (rows columns place : ℕ) (old : List ℕ) {p p' q q' : Place} {x
 same-record rows columns place old b e f = λ i. put place
     (edge_bytes (node_at rows columns (b i)) (node_at rows columns (e i)) (rotation_at rows columns (b i)) (rotation_at rows columns (e i)) (f i) (pos 0)) old
 
-abbrev start : tie.After-times → tie.Start
+abbrev start : tie.After-times-first → tie.Start
 start c = c.before.before
 
 -- ── the edges that run east ──
-abbrev eastward : tie.Then1 → tie.Start
+abbrev eastward : tie.Then-e-first → tie.Start
 eastward c = start c.before
 
-first : (c : tie.Then1) → (eastward c).args.e < (eastward c).args.rows * ((eastward c).args.columns - 1)
-first c = omega (arith, c.if1.true, c.before.times.ensures.0)
+first : (c : tie.Then-e-first) → (eastward c).args.e < (eastward c).args.rows * ((eastward c).args.columns - 1)
+first c = omega (arith, c.if-e-first.true, c.before.times-first.ensures.0)
 
-in_row : (c : tie.Then1)
+in_row : (c : tie.Then-e-first)
     → ((eastward c).args.e / ((eastward c).args.columns - 1) < (eastward c).args.rows)
     × ((eastward c).args.e % ((eastward c).args.columns - 1) + 1 < (eastward c).args.columns)
 in_row c =
@@ -42,27 +42,27 @@ in_row c =
     (q.0, omega (arith, q.1))
 
 -- ── the edges that run south ──
-abbrev southward : tie.Else1 → tie.Start
+abbrev southward : tie.Else-e-first → tie.Start
 southward c = start c.before
 
-abbrev rest : tie.Else1 → ℕ
-rest c = (southward c).args.e - c.before.times.result
+abbrev rest : tie.Else-e-first → ℕ
+rest c = (southward c).args.e - c.before.times-first.result
 
-second : (c : tie.Else1) → (southward c).args.rows * ((southward c).args.columns - 1) ≤ (southward c).args.e
-second c = omega (arith, c.if1.false, c.before.times.ensures.0)
+second : (c : tie.Else-e-first) → (southward c).args.rows * ((southward c).args.columns - 1) ≤ (southward c).args.e
+second c = omega (arith, c.if-e-first.false, c.before.times-first.ensures.0)
 
-in-column : (c : tie.Else1)
+in-column : (c : tie.Else-e-first)
     → (rest c / (southward c).args.columns + 1 < (southward c).args.rows) × (rest c % (southward c).args.columns < (southward c).args.columns)
 in-column c =
     let a = (southward c).args in
-    let q = row_of a.columns (a.rows - 1) (rest c) (omega (arith, (southward c).requires.5, second c, c.before.times.ensures.0)) in
+    let q = row_of a.columns (a.rows - 1) (rest c) (omega (arith, (southward c).requires.5, second c, c.before.times-first.ensures.0)) in
     (omega (arith, q.0), q.1)
 
 -- ── the needs, in the order of the code ──
-add-write-between : tie.Need-overflow-add-write-between
+add-write-between : tie.Need-overflow_add-c
 add-write-between c = omega (arith, (in_row c.before).1, (eastward c.before).requires.4)
 
-write-between-requires : tie.Need-write-between-requires
+write-between-requires : tie.Need-write_between-requires
 unfolding present side
 write-between-requires c κs =
     let a = (eastward c.before).args in
@@ -83,20 +83,20 @@ write-between-requires c κs =
       ltb_true 0 (column + 1) (omega arith),
     )
 
-returns : tie.Need-returns
+returns : tie.Need-returns-then-e-first
 returns c =
     let w = c.before.before in
     let t = w.before.before in
     let s = eastward t in
     let a = s.args in
-    w.write-between.ensures
-    ∙ same-record a.rows a.columns a.place a.out.now (sym (begins_across a.rows a.columns a.e (first t)))
+    w.write_between.ensures
+    ∙ same-record a.rows a.columns a.place a.out-1.now (sym (begins_across a.rows a.columns a.e (first t)))
     (sym (ends_across a.rows a.columns a.e (first t))) (number_of_bits a.forward s.fits.forward)
 
-add-write-between-2 : tie.Need-overflow-add-write-between-2
+add-write-between-2 : tie.Need-overflow_add-r
 add-write-between-2 c = omega (arith, (in-column c.before).0, (southward c.before).requires.2)
 
-write-between-requires-2 : tie.Need-write-between-requires-2
+write-between-requires-2 : tie.Need-write_between-requires-2
 unfolding present side
 write-between-requires-2 c κs =
     let a = (southward c.before).args in
@@ -117,21 +117,21 @@ write-between-requires-2 c κs =
       ltb_true 0 (row + 1) (omega arith),
     )
 
-returns-2 : tie.Need-returns-2
+returns-2 : tie.Need-returns
 returns-2 c =
     let w = c.before.before in
     let t = w.before.before in
     let s = southward t in
     let a = s.args in
-    let k = c.before.before.before.before.before.times.ensures.0 in
-    w.write-between2.ensures
-    ∙ same-record a.rows a.columns a.place a.out.now
+    let k = c.before.before.before.before.before.times-first.ensures.0 in
+    w.write_between-2.ensures
+    ∙ same-record a.rows a.columns a.place a.out-1.now
     (ap (λ n. placed ((a.e - n) / a.columns) ((a.e - n) % a.columns) (side 2)) k ∙ sym (begins_down a.rows a.columns a.e (second t)))
     (ap (λ n. placed ((a.e - n) / a.columns + 1) ((a.e - n) % a.columns) (side 0)) k ∙ sym (ends_down a.rows a.columns a.e (second t)))
     (number_of_bits a.forward s.fits.forward)
 
-pub write-edge-spec : {M : Type 1} → statement M
-write-edge-spec =
+pub write_edge_spec : {M : Type 1} → statement M
+write_edge_spec =
     tie.close
     (tie.spec
     (λ c. search rules)

@@ -10,10 +10,10 @@ returns c =
     let nodes = edges.before.before.before.before in
     let kind = nodes.before.before.before.before in
     let s = kind.before.before.before in
-    head_placed s.args.out.now s.args.nodes s.args.edges s.requires
-    kind.write-u8.ensures nodes.write-u16.ensures edges.write-u162.ensures
+    head_placed s.args.out-1.now s.args.nodes s.args.edges s.requires
+    kind.write_u8.ensures nodes.write_u16.ensures edges.write_u16-2.ensures
 
-pub write-head-spec : {M : Type 1} → statement M
-write-head-spec =
+pub write_head_spec : {M : Type 1} → statement M
+write_head_spec =
     tie.close
     (tie.spec (λ c κs. search rules) (λ c κs. search rules) (λ c κs. search rules) (λ c. search rules) returns)

@@ -38,143 +38,143 @@ abbrev balanceAt : tie.Start → List Check
 balanceAt s = balance_checks (drawingAt s).map (EndOf s.args.terminals.source s.args.terminals.sink) (atℤ s.args.flows.now)
 
 -- ── 13 and 14 did not refuse ──
-abbrev begun : tie.After-check-ends → tie.Start
+abbrev begun : tie.After-check_ends-ends → tie.Start
 begun c = c.before
 
-ends-judged : (c : tie.After-check-ends) (v : Verdict) → c.check-ends.result ≡ v → Judged (ends_at (begun c)) v
-ends-judged c v e = rw e at c.check-ends.ensures
+ends-judged : (c : tie.After-check_ends-ends) (v : Verdict) → c.check_ends-ends.result ≡ v → Judged (ends_at (begun c)) v
+ends-judged c v e = rw e at c.check_ends-ends.ensures
 
-abbrev checked : tie.After-enum-told → tie.After-check-ends
+abbrev checked : tie.In_default → tie.After-check_ends-ends
 checked c = c.before.before
 
-abbrev base : tie.After-enum-told → tie.Start
+abbrev base : tie.In_default → tie.Start
 base c = begun (checked c)
 
-two : (c : tie.After-enum-told) → NoneOf (ends_at (base c))
-two c = ends-judged (checked c) Passed c.enum_told.given.1
+two : (c : tie.In_default) → NoneOf (ends_at (base c))
+two c = ends-judged (checked c) Passed c.enum_told-1.given-1.1
 
 -- ── 17 did not refuse ──
-abbrev long : tie.After-check-within → tie.After-enum-told
+abbrev long : tie.After-check_within-within → tie.In_default
 long c = c.before.before.before
 
 -- the part lent
 abbrev given : tie.Start → List ℤ
 given s = take (s.args.sizes.edges - 0) s.args.flows.now
 
-within-given : (c : tie.After-check-within) (v : Verdict) → c.check-within.result ≡ v
+within-given : (c : tie.After-check_within-within) (v : Verdict) → c.check_within-within.result ≡ v
     → Judged (within_checks (base (long c)).args.sizes.edges (atℤ (base (long c)).args.capacities.now) (atℤ (given (base (long c))))) v
-within-given c v e = rw e at c.check-within.ensures
+within-given c v e = rw e at c.check_within-within.ensures
 
-within-judged : (c : tie.After-check-within) (v : Verdict) → c.check-within.result ≡ v → Judged (withinAt (base (long c))) v
+within-judged : (c : tie.After-check_within-within) (v : Verdict) → c.check_within-within.result ≡ v → Judged (withinAt (base (long c))) v
 within-judged c v e =
     let s = base (long c) in
     part_within (drawingAt s).map s.args.flows.now (atℤ s.args.capacities.now) v (within-given c v e)
 
-abbrev roomy : tie.After-enum-told2 → tie.After-enum-told
+abbrev roomy : tie.In_default-within → tie.In_default
 roomy c = long c.before.before
 
-within : (c : tie.After-enum-told2) → NoneOf (withinAt (base (roomy c)))
-within c = within-judged c.before.before Passed c.enum-told2.given.1
+within : (c : tie.In_default-within) → NoneOf (withinAt (base (roomy c)))
+within c = within-judged c.before.before Passed c.enum_told-in_default-within-1.given-1.1
 
 -- ── 18 did not refuse ──
-abbrev fitting : tie.After-fill-nets → tie.After-enum-told2
+abbrev fitting : tie.After-fill_nets → tie.In_default-within
 fitting c = c.before.before
 
-abbrev start : tie.After-fill-nets → tie.Start
+abbrev start : tie.After-fill_nets → tie.Start
 start c = base (roomy (fitting c))
 
-abbrev nets' : tie.After-fill-nets → List ℤ
-nets' c = c.fill-nets.new.1.1.1.0
+abbrev nets' : tie.After-fill_nets → List ℤ
+nets' c = c.fill_nets.new.1.1.1.0
 
-abbrev filled : tie.After-check-balance → tie.After-fill-nets
+abbrev filled : tie.After-check_balance-balanced → tie.After-fill_nets
 filled c = c.before.before
 
-balance-judged : (c : tie.After-check-balance) (v : Verdict) → c.check-balance.result ≡ v → Judged (balanceAt (start (filled c))) v
+balance-judged : (c : tie.After-check_balance-balanced) (v : Verdict) → c.check_balance-balanced.result ≡ v → Judged (balanceAt (start (filled c))) v
 balance-judged c v e =
     let n = filled c in
     let s = start n in
     part_balance (drawingAt s).map s.args.flows.now (EndOf s.args.terminals.source s.args.terminals.sink) v
-    (ends_balanced (drawingAt s).map (atℤ (given s)) s.pre.few_nodes (nets' n) n.fill-nets.ensures.1 _ _ v (rw e at c.check-balance.ensures))
+    (ends_balanced (drawingAt s).map (atℤ (given s)) s.pre.few_nodes (nets' n) n.fill_nets.ensures.1 _ _ v (rw e at c.check_balance-balanced.ensures))
 
 -- ── the needs, in the order of the code ──
-returns : tie.Need-returns
+returns : tie.Need-returns-in-Refused
 returns c =
     let e = c.before.before.before in
     let s = begun e in
     mark_ends (drawingAt s) s.args.terminals.source s.args.terminals.sink s.args.flows.now _ _
-    (ends-judged e (Refused _ _) c.before.ends.given.1)
+    (ends-judged e (Refused _ _) c.before.ends-1.given-1.1)
 
-returns-2 : tie.Need-returns-2
+returns-2 : tie.Need-returns-then-flows-many
 returns-2 c =
     let e = c.before in
     let s = base e in
-    mark_short (drawingAt s) s.args.terminals.source s.args.terminals.sink s.args.flows.now (two e) c.if1.true
+    mark_short (drawingAt s) s.args.terminals.source s.args.terminals.sink s.args.flows.now (two e) c.if-flows-many.true
 
-check-within-requires : tie.Need-check-within-requires
+check-within-requires : tie.Need-check_within-within-requires
 check-within-requires c κs =
     let e = c.before in
     let s = base e.before in
-    (s.pre.few_edges, omega (arith, part_length s.args.sizes.edges s.args.flows.now e.if1.false))
+    (s.pre.few_edges, omega (arith, part_length s.args.sizes.edges s.args.flows.now e.if-flows-many.false))
 
-returns-3 : tie.Need-returns-3
+returns-3 : tie.Need-returns-in-Refused-within
 returns-3 c =
     let w = c.before.before.before in
     let e = long w in
     let s = base e in
-    let j = within-judged w (Refused _ _) c.before.within.given.1 in
-    mark_within (drawingAt s) s.args.terminals.source s.args.terminals.sink s.args.flows.now (two e) w.before.before.if1.false _ _ j
+    let j = within-judged w (Refused _ _) c.before.within-1.given-1.1 in
+    mark_within (drawingAt s) s.args.terminals.source s.args.terminals.sink s.args.flows.now (two e) w.before.before.if-flows-many.false _ _ j
 
-fill-nets-requires : tie.Need-fill-nets-requires
+fill-nets-requires : tie.Need-fill_nets-requires
 fill-nets-requires c κs =
     let t = c.before in
     let s = base (roomy t) in
     let p = s.pre in (
       p.few_edges,
-      omega (arith, part_length s.args.sizes.edges s.args.flows.now t.before.before.before.before.if1.false),
+      omega (arith, part_length s.args.sizes.edges s.args.flows.now t.before.before.before.before.if-flows-many.false),
       refl,
       (λ d l. omega (arith, p.tails_in d l, p.few_nodes)),
       flows_small (drawingAt s).map (atℤ (given s)) (atℤ s.args.capacities.now) p.small
-          (within-given t.before.before Passed t.enum-told2.given.1),
+          (within-given t.before.before Passed t.enum_told-in_default-within-1.given-1.1),
       same_everywhere 1024 (pos 0),
     )
 
-check-balance-requires : tie.Need-check-balance-requires
+check-balance-requires : tie.Need-check_balance-balanced-requires
 check-balance-requires c κs = (start c.before).requires.few_nodes
 
-returns-4 : tie.Need-returns-4
+returns-4 : tie.Need-returns-in-Refused-balanced
 returns-4 c =
     let b = c.before.before.before in
     let t = fitting (filled b) in
     let s = base (roomy t) in
     mark_balance (drawingAt s) s.args.terminals.source s.args.terminals.sink s.args.flows.now (two (roomy t))
-    t.before.before.before.before.if1.left (within t) _ _
-    (balance-judged b (Refused _ _) c.before.balanced.given.1)
+    t.before.before.before.before.if-flows-many.left (within t) _ _
+    (balance-judged b (Refused _ _) c.before.balanced-1.given-1.1)
 
 -- ── the value is the sum at the source ──
-abbrev sums : tie.After-enum-told3 → tie.After-fill-nets
+abbrev sums : tie.In_default-balanced → tie.After-fill_nets
 sums c = filled c.before.before
 
-source_in : (c : tie.After-fill-nets) → (start c).args.terminals.source < (start c).args.sizes.nodes
+source_in : (c : tie.After-fill_nets) → (start c).args.terminals.source < (start c).args.sizes.nodes
 source_in c = (ends_in _ _ _ (two (roomy (fitting c)))).0
 
-mul-t20 : tie.Need-overflow-mul-t20
+mul-t20 : tie.Need-offset_bounds-nets-source
 mul-t20 c = let n = sums c in record { fits = omega (arith, source_in n, (start n).pre.few_nodes) }
 
-array-copy-out-t29 : tie.Need-array-copy-out-t29
+array-copy-out-t29 : tie.Need-bounds-nets-source
 array-copy-out-t29 c = let n = sums c in omega (arith, source_in n, (start n).pre.few_nodes)
 
-returns-5 : tie.Need-returns-5
+returns-5 : tie.Need-returns
 returns-5 c =
     let e = c.before in
     let n = sums e in
     let t = fitting n in
     let s = start n in
     let x = s.args.flows.now in (
-      mark_none (drawingAt s) s.args.terminals.source s.args.terminals.sink x (two (roomy t)) t.before.before.before.before.if1.left
+      mark_none (drawingAt s) s.args.terminals.source s.args.terminals.sink x (two (roomy t)) t.before.before.before.before.if-flows-many.left
           (within t)
-          (balance-judged e.before.before Passed e.enum-told3.given.1),
-      number_of_bits _ (record { sfits = c.t29.given })
-          ∙ net_of (drawingAt s).map (atℤ (given s)) s.pre.few_nodes (nets' n) n.fill-nets.ensures.1 s.args.terminals.source (source_in n)
+          (balance-judged e.before.before Passed e.enum_told-in_default-balanced-1.given-1.1),
+      number_of_bits _ (record { sfits = c.result-1.given-1 })
+          ∙ net_of (drawingAt s).map (atℤ (given s)) s.pre.few_nodes (nets' n) n.fill_nets.ensures.1 s.args.terminals.source (source_in n)
           ∙ part_net (drawingAt s).map x s.args.terminals.source,
     )
 

@@ -42,87 +42,87 @@ abbrev ends_at : tie.Start → List Check
 ends_at s = end_checks s.args.sizes.nodes s.args.demand.source s.args.demand.sink
 
 abbrev room_at : tie.Start → List Check
-room_at s = room_checks s.args.sizes.nodes s.args.sizes.edges (length s.args.flows.now) (length s.args.set.now)
+room_at s = room_checks s.args.sizes.nodes s.args.sizes.edges (length s.args.flows-1.now) (length s.args.set-1.now)
 
 abbrev checksAt : tie.Start → List Check
 checksAt s =
     let a = s.args in
-    question_checks a.sizes.nodes a.sizes.edges a.demand.source a.demand.sink a.demand.value a.flows.now a.set.now
+    question_checks a.sizes.nodes a.sizes.edges a.demand.source a.demand.sink a.demand.value a.flows-1.now a.set-1.now
 
 -- ── 13 and 14 did not refuse ──
-abbrev begun : tie.After-check-ends → tie.Start
+abbrev begun : tie.After-check_ends-named → tie.Start
 begun c = c.before.before
 
-ends-judged : (c : tie.After-check-ends) (v : Verdict) → c.check-ends.result ≡ v → Judged (ends_at (begun c)) v
-ends-judged c v e = rw e at c.check-ends.ensures
+ends-judged : (c : tie.After-check_ends-named) (v : Verdict) → c.check_ends-named.result ≡ v → Judged (ends_at (begun c)) v
+ends-judged c v e = rw e at c.check_ends-named.ensures
 
-abbrev checked : tie.After-enum-told → tie.After-check-ends
+abbrev checked : tie.In_default → tie.After-check_ends-named
 checked c = c.before.before
 
-two : (c : tie.After-enum-told) → NoneOf (ends_at (begun (checked c)))
-two c = ends-judged (checked c) Passed c.enum_told.given.1
+two : (c : tie.In_default) → NoneOf (ends_at (begun (checked c)))
+two c = ends-judged (checked c) Passed c.enum_told-1.given.1
 
 -- ── 15 did not refuse ──
-abbrev ended : tie.Else1 → tie.After-enum-told
+abbrev ended : tie.Else-value_outside → tie.In_default
 ended c = c.before.before.before
 
-abbrev base : tie.Else1 → tie.Start
+abbrev base : tie.Else-value_outside → tie.Start
 base c = begun (checked (ended c))
 
 -- the value is the number of its bits
-value-is : (c : tie.After-struct-told) → to_z w32 (of_z w32 (begun (checked c.before)).args.demand.value) ≡ (begun (checked c.before)).args.demand.value
-value-is c = number_of_bits _ (record { sfits = c.struct_told.given.1.1.0.1 })
+value-is : (c : tie.After-struct_told-1) → to_z w32 (of_z w32 (begun (checked c.before)).args.demand.value) ≡ (begun (checked c.before)).args.demand.value
+value-is c = number_of_bits _ (record { sfits = c.struct_told-1.given.1.1.0.1 })
 
-inside : (c : tie.Else1) → NoneOf (value_checks (base c).args.demand.value)
+inside : (c : tie.Else-value_outside) → NoneOf (value_checks (base c).args.demand.value)
 unfolding NoneOf value_checks
-inside c = ((λ h. said_no c.before.value-outside.ensures c.if1.false (rw (value-is c.before.before) h)), tt)
+inside c = ((λ h. said_no c.before.value_outside.ensures c.if-value_outside.false (rw (value-is c.before.before) h)), tt)
 
 -- ── 16 did not refuse ──
-room_judged : (c : tie.After-check-room) (v : Verdict) → c.check-room.result ≡ v → Judged (room_at (base c.before)) v
-room_judged c v e = rw e at c.check-room.ensures
+room_judged : (c : tie.After-check_room-room) (v : Verdict) → c.check_room-room.result ≡ v → Judged (room_at (base c.before)) v
+room_judged c v e = rw e at c.check_room-room.ensures
 
-abbrev asked : tie.After-enum-told2 → tie.Else1
+abbrev asked : tie.In_default-room → tie.Else-value_outside
 asked c = c.before.before.before
 
-room : (c : tie.After-enum-told2) → NoneOf (room_at (base (asked c)))
-room c = room_judged c.before.before Passed c.enum-told2.given.1
+room : (c : tie.In_default-room) → NoneOf (room_at (base (asked c)))
+room c = room_judged c.before.before Passed c.enum_told-in_default-room-1.given.1
 
 -- ── the needs, in the order of the code ──
-returns : tie.Need-returns
+returns : tie.Need-returns-in-Refused
 returns c =
     let e = c.before.before.before in
     let a = (begun e).args in
-    let j = ends-judged e (Refused _ _) c.before.named.given.1 in (
+    let j = ends-judged e (Refused _ _) c.before.named-1.given.1 in (
       (
-        solve_ends a.sizes.nodes a.sizes.edges a.demand.source a.demand.sink a.demand.value a.flows.now a.set.now _ _ j,
+        solve_ends a.sizes.nodes a.sizes.edges a.demand.source a.demand.sink a.demand.value a.flows-1.now a.set-1.now _ _ j,
         refl,
         refl,
       ),
       tt,
     )
 
-returns-2 : tie.Need-returns-2
+returns-2 : tie.Need-returns-then-value_outside
 unfolding FirstOf value_checks
 returns-2 c =
     let e = c.before.before.before in
     let s = begun (checked e) in
     let a = s.args in
-    let out = rw (value-is c.before.before) at (said_yes c.before.value-outside.ensures c.if1.true) in
-    let first = solve_value a.sizes.nodes a.sizes.edges a.demand.source a.demand.sink a.demand.value a.flows.now a.set.now
+    let out = rw (value-is c.before.before) at (said_yes c.before.value_outside.ensures c.if-value_outside.true) in
+    let first = solve_value a.sizes.nodes a.sizes.edges a.demand.source a.demand.sink a.demand.value a.flows-1.now a.set-1.now
     (two e) 15 0 (inl (out, refl, refl)) in
     ((first, refl, refl), tt)
 
-check-room-requires : tie.Need-check-room-requires
+check-room-requires : tie.Need-check_room-room-requires
 check-room-requires c κs = (base c).requires.drawn.few_nodes
 
-returns-3 : tie.Need-returns-3
+returns-3 : tie.Need-returns-in-Refused-room
 returns-3 c =
     let r = c.before.before.before in
     let e = r.before in
     let a = (base e).args in
-    let j = room_judged r (Refused _ _) c.before.room.given.1 in (
+    let j = room_judged r (Refused _ _) c.before.room-1.given.1 in (
       (
-        solve_room a.sizes.nodes a.sizes.edges a.demand.source a.demand.sink a.demand.value a.flows.now a.set.now
+        solve_room a.sizes.nodes a.sizes.edges a.demand.source a.demand.sink a.demand.value a.flows-1.now a.set-1.now
             (two (ended e)) (inside e) _ _ j,
         refl,
         refl,
@@ -131,10 +131,10 @@ returns-3 c =
     )
 
 -- the flows of the edges are there to be lent
-flows_in : (c : tie.After-enum-told2) → (base (asked c)).args.sizes.edges ≤ length (base (asked c)).args.flows.now
+flows_in : (c : tie.In_default-room) → (base (asked c)).args.sizes.edges ≤ length (base (asked c)).args.flows-1.now
 flows_in c = (room_flows _ _ _ _ (room c)).0
 
-part-decide-end : tie.Need-slice-bounds-decide-end
+part-decide-end : tie.Need-slice_bounds-decide-end
 part-decide-end c = flows_in c.before
 
 decide-requires : tie.Need-decide-requires
@@ -146,7 +146,7 @@ decide-requires c κs =
       record {
         opened = s.pre;
         ends = ends_for (mapAt s) a.demand.source a.demand.sink (two (ended e));
-        exact = part_length a.sizes.edges a.flows.now (flows_in m);
+        exact = part_length a.sizes.edges a.flows-1.now (flows_in m);
       },
       value_limited _ (inside e),
       refl,
@@ -154,7 +154,7 @@ decide-requires c κs =
     )
 
 -- ── what was decided ──
-abbrev roomy : tie.After-decide → tie.After-enum-told2
+abbrev roomy : tie.After-decide → tie.In_default-room
 roomy c = c.before.before.before.before
 
 abbrev start : tie.After-decide → tie.Start
@@ -165,90 +165,90 @@ abbrev lent' : tie.After-decide → List ℤ
 lent' c = c.decide.new.1.1.1.1.1.1.1.1.1.1.1.0
 
 abbrev flows' : tie.After-decide → List ℤ
-flows' c = lent' c ++ drop ((start c).args.sizes.edges - 0) (start c).args.flows.now
+flows' c = lent' c ++ drop ((start c).args.sizes.edges - 0) (start c).args.flows-1.now
 
 abbrev inside' : tie.After-decide → List ℕ
 inside' c = c.decide.new.1.1.1.1.1.1.1.1.1.1.1.1.0
 
 decided : (c : tie.After-decide) {answer : Bool} → c.decide.result ≡ answer
     → Decided (mapAt (start c)) (start c).args.sizes.outer (capacityAt (start c)) (start c).args.demand.source (start c).args.demand.sink
-    (start c).args.demand.value (start c).args.flows.now (flows' c) (inside' c) answer
+    (start c).args.demand.value (start c).args.flows-1.now (flows' c) (inside' c) answer
 decided c same =
     let s = start c in
     let a = s.args in
-    decided_back (mapAt s) a.sizes.outer (capacityAt s) a.demand.source a.demand.sink a.demand.value a.flows.now (lent' c) (inside' c) same
+    decided_back (mapAt s) a.sizes.outer (capacityAt s) a.demand.source a.demand.sink a.demand.value a.flows-1.now (lent' c) (inside' c) same
     c.decide.ensures.1
 
 none : (c : tie.After-decide) → NoneOf (checksAt (start c))
 none c =
     let e = asked (roomy c) in
     let a = (start c).args in
-    solve_none a.sizes.nodes a.sizes.edges a.demand.source a.demand.sink a.demand.value a.flows.now a.set.now
+    solve_none a.sizes.nodes a.sizes.edges a.demand.source a.demand.sink a.demand.value a.flows-1.now a.set-1.now
     (two (ended e)) (inside e) (room (roomy c))
 
-returns-4 : tie.Need-returns-4
-returns-4 c = let d = c.before.before in ((none d, decided d c.if2.true, refl), tt)
+returns-4 : tie.Need-returns-then-decide
+returns-4 c = let d = c.before.before in ((none d, decided d c.if-decide.true, refl), tt)
 
 -- ── it cannot: the set is written ──
-abbrev decision : tie.After-words-for → tie.After-decide
+abbrev decision : tie.After-words_for-words → tie.After-decide
 decision c = c.before.before.before
 
-words_in : (c : tie.After-words-for) → words_for (start (decision c)).args.sizes.nodes ≤ length (start (decision c)).args.set.now
+words_in : (c : tie.After-words_for-words) → words_for (start (decision c)).args.sizes.nodes ≤ length (start (decision c)).args.set-1.now
 words_in c = (room_flows _ _ _ _ (room (roomy (decision c)))).1
 
-words-for-requires : tie.Need-words-for-requires
+words-for-requires : tie.Need-words_for-words-requires
 words-for-requires c κs = (start c.before.before).requires.drawn.few_nodes
 
-part-write-set-end : tie.Need-slice-bounds-write-set-end
-part-write-set-end c = let n = c.before in omega (arith, n.words-for.ensures, words_in n)
+part-write-set-end : tie.Need-slice_bounds-write_set-end
+part-write-set-end c = let n = c.before in omega (arith, n.words_for-words.ensures, words_in n)
 
-write-set-requires : tie.Need-write-set-requires
+write-set-requires : tie.Need-write_set-requires
 write-set-requires c κs =
     let n = c.before.before in
     let s = start (decision n) in
-    words_lent s.args.set.now n.words-for.ensures (words_in n) s.pre.drawn.few_nodes
+    words_lent s.args.set-1.now n.words_for-words.ensures (words_in n) s.pre.drawn.few_nodes
 
-abbrev counted : tie.After-write-set → tie.After-words-for
+abbrev counted : tie.After-write_set → tie.After-words_for-words
 counted c = c.before.before.before
 
 -- the slice with the words that were lent
-abbrev set' : tie.After-write-set → List ℕ
-set' c = c.write-set.new.1.1.0 ++ drop ((counted c).words-for.result - 0) (start (decision (counted c))).args.set.now
+abbrev set' : tie.After-write_set → List ℕ
+set' c = c.write_set.new.1.1.0 ++ drop ((counted c).words-for.result - 0) (start (decision (counted c))).args.set-1.now
 
-written : (c : tie.After-write-set)
-    → Written (inside' (decision (counted c))) (start (decision (counted c))).args.sizes.nodes (start (decision (counted c))).args.set.now (set' c)
+written : (c : tie.After-write_set)
+    → Written (inside' (decision (counted c))) (start (decision (counted c))).args.sizes.nodes (start (decision (counted c))).args.set-1.now (set' c)
 written c =
     let n = counted c in
-    written_back (start (decision n)).args.set.now n.words-for.ensures (words_in n) c.write-set.ensures
+    written_back (start (decision n)).args.set-1.now n.words_for-words.ensures (words_in n) c.write_set.ensures
 
-words-kept : (c : tie.After-write-set) → words_for (start (decision (counted c))).args.sizes.nodes ≤ length (set' c)
+words-kept : (c : tie.After-write_set) → words_for (start (decision (counted c))).args.sizes.nodes ≤ length (set' c)
 words-kept c = omega (arith, words_in (counted c), (written c).length_kept)
 
-part-count-set-end : tie.Need-slice-bounds-count-set-end
+part-count-set-end : tie.Need-slice_bounds-count_set-end
 part-count-set-end c = let w = c.before.before.before in omega (arith, (counted w).words-for.ensures, words-kept w)
 
-count-set-requires : tie.Need-count-set-requires
+count-set-requires : tie.Need-count_set-size-requires
 count-set-requires c κs =
     let w = c.before.before.before.before in
     let n = counted w in
-    words_lent (set' w) n.words-for.ensures (words-kept w) (start (decision n)).requires.drawn.few_nodes
+    words_lent (set' w) n.words_for-words.ensures (words-kept w) (start (decision n)).requires.drawn.few_nodes
 
-abbrev wrote : tie.After-count-set → tie.After-write-set
+abbrev wrote : tie.After-count_set-size → tie.After-write_set
 wrote c = c.before.before.before.before.before
 
 -- the number of ones in the words
-size_is : (c : tie.After-count-set) → c.count_set.result ≡ size (take (words_for (start (decision (counted (wrote c)))).args.sizes.nodes) (set' (wrote c)))
+size_is : (c : tie.After-count_set-size) → c.count_set-size.result ≡ size (take (words_for (start (decision (counted (wrote c)))).args.sizes.nodes) (set' (wrote c)))
 size_is c =
     let w = wrote c in
     let n = counted w in
-    c.count_set.ensures ∙ words_again (start (decision n)).args.set.now n.words-for.ensures (words_in n) w.write-set.ensures
+    c.count_set-size.ensures ∙ words_again (start (decision n)).args.set-1.now n.words_for-words.ensures (words_in n) w.write_set.ensures
 
 narrow-requires : tie.Need-narrow-requires
 narrow-requires c κs =
     let w = wrote c in
     size_small (written w) (start (decision (counted w))).requires.drawn.few_nodes _ (size_is c)
 
-returns-5 : tie.Need-returns-5
+returns-5 : tie.Need-returns
 returns-5 c =
     let k = c.before in
     let w = wrote k in
@@ -256,7 +256,7 @@ returns-5 c =
     let d = decision n in
     let s = start d in
     let a = s.args in
-    let left = n.before.if2.left in
+    let left = n.before.if-decide.left in
     let r = decided d left in
     let ends = two (ended (asked (roomy d))) in (
       (
@@ -276,8 +276,8 @@ returns-5 c =
       },
     )
 
-pub solve-spec : {M : Type 1} → statement M
-solve-spec =
+pub solve_spec : {M : Type 1} → statement M
+solve_spec =
     tie.close
     (tie.spec
     (λ c κs. search rules)

@@ -6,18 +6,18 @@ use Rattle.refusals.proofs.Order.{neither}
 use Rattle.questions.proofs.value_outside.Statement.{statement}
 use Rattle.questions.proofs.value_outside.Tie as tie
 
-returns : tie.Need-returns
-returns c = inl (lt_of_test _ _ (rw (number_of_bits _ c.before.ranges.value) at c.if1.true))
+returns : tie.Need-returns-then-value-ltminus600000000
+returns c = inl (lt_of_test _ _ (rw (number_of_bits _ c.before.ranges.value) at c.if-value-ltminus600000000.true))
 
-returns-2 : tie.Need-returns-2
-returns-2 c = inr (lt_of_test _ _ (rw (number_of_bits _ c.before.before.ranges.value) at c.if2.true))
+returns-2 : tie.Need-returns-then-value-gt600000000
+returns-2 c = inr (lt_of_test _ _ (rw (number_of_bits _ c.before.before.ranges.value) at c.if-value-gt600000000.true))
 
-returns-3 : tie.Need-returns-3
+returns-3 : tie.Need-returns
 returns-3 c =
     let f = c.before.before.ranges.value in
     neither
-    (λ h. lt_le_clash h (ge_of_test _ _ (rw (number_of_bits _ f) at c.before.if1.false)))
-    (λ h. lt_le_clash h (ge_of_test _ _ (rw (number_of_bits _ f) at c.if2.false)))
+    (λ h. lt_le_clash h (ge_of_test _ _ (rw (number_of_bits _ f) at c.before.if-value-ltminus600000000.false)))
+    (λ h. lt_le_clash h (ge_of_test _ _ (rw (number_of_bits _ f) at c.if-value-gt600000000.false)))
 
-pub value-outside-spec : {M : Type 1} → statement M
-value-outside-spec = tie.close (tie.spec returns returns-2 returns-3)
+pub value_outside_spec : {M : Type 1} → statement M
+value_outside_spec = tie.close (tie.spec returns returns-2 returns-3)

@@ -24,87 +24,87 @@ drawing c =
 dart_in : (c : tie.Start) → 2 * c.args.edge < 1024
 dart_in c = omega (arith, c.requires.edge_in, c.requires.lent.opened.drawn.few_edges)
 
-decide-from-requires : tie.Need-decide-from-requires
+decide-from-requires : tie.Need-decide_from-requires
 decide-from-requires c κs = let p = c.before.before.before.requires in (p.lent, p.limited, p.lent.opened.drawn.outer_in, p.inside_long)
 
 -- ── what was decided of the present capacity ──
-abbrev begun : tie.After-flows → tie.Start
+abbrev begun : tie.After-flows-1 → tie.Start
 begun c = c.before.before.before.before.before
 
-abbrev flows' : tie.After-flows → List ℤ
-flows' c = c.before.decide-from.new.1.1.1.1.1.1.1.1.1.1.1.0
+abbrev flows' : tie.After-flows-1 → List ℤ
+flows' c = c.before.decide_from.new.1.1.1.1.1.1.1.1.1.1.1.0
 
-abbrev inside' : tie.After-flows → List ℕ
-inside' c = c.before.decide-from.new.1.1.1.1.1.1.1.1.1.1.1.1.0
+abbrev inside' : tie.After-flows-1 → List ℕ
+inside' c = c.before.decide_from.new.1.1.1.1.1.1.1.1.1.1.1.1.0
 
-decided : (c : tie.After-flows) {r : Bool} → c.before.decide-from.result ≡ r
+decided : (c : tie.After-flows-1) {r : Bool} → c.before.decide_from.result ≡ r
     → Decided (drawing (begun c)).map (begun c).args.sizes.outer (drawing (begun c)).capacity (begun c).args.demand.source (begun c).args.demand.sink
-    (begun c).args.demand.value (begun c).args.flows.now (flows' c) (inside' c) r
+    (begun c).args.demand.value (begun c).args.flows-1.now (flows' c) (inside' c) r
 decided c e =
     let s = begun c in
     let a = s.args in
-    decided_as (drawing s).map a.sizes.outer {c = (drawing s).capacity} refl a.demand.source a.demand.sink a.demand.value a.flows.now
-    (flows' c) (inside' c) e c.before.decide-from.ensures.1
+    decided_as (drawing s).map a.sizes.outer {c = (drawing s).capacity} refl a.demand.source a.demand.sink a.demand.value a.flows-1.now
+    (flows' c) (inside' c) e c.before.decide_from.ensures.1
 
-mul-t19 : tie.Need-overflow-mul-t19
+mul-t19 : tie.Need-overflow_mul-result
 mul-t19 c = omega (arith, dart_in (begun c.before))
 
-mul-t20 : tie.Need-overflow-mul-t20
+mul-t20 : tie.Need-offset_bounds-capacities-edge
 mul-t20 c = omega (arith, dart_in (begun c.before))
 
-element-copy-out-t23 : tie.Need-element-copy-out-t23
+element-copy-out-t23 : tie.Need-bounds-capacities-edge
 element-copy-out-t23 c = omega (arith, dart_in (begun c.before), (begun c.before).requires.capacities_long)
 
 -- ── it serves ──
-returns : tie.Need-returns
+returns : tie.Need-returns-then-decide_from
 returns c =
     let t = c.before in
     let d = t.before in
     let s = begun d in
     let a = s.args in (
-      d.before.decide-from.ensures.0,
-      sought_as (drawing s) a.demand.source a.demand.sink a.demand.value a.edge {old = a.flows.now} refl (flows' d) (inside' d)
+      d.before.decide_from.ensures.0,
+      sought_as (drawing s) a.demand.source a.demand.sink a.demand.value a.edge {old = a.flows-1.now} refl (flows' d) (inside' d)
           {r = At ((drawing s).capacity (2 * a.edge))} (ap At (sym (same_bits (omega arith) s.pre.present)))
-          (present_serves (drawing s) a.demand.source a.demand.sink a.demand.value a.edge a.flows.now s.pre.present.high
-          (flows' d) (inside' d) (decided d t.if1.true)),
+          (present_serves (drawing s) a.demand.source a.demand.sink a.demand.value a.edge a.flows-1.now s.pre.present.high
+          (flows' d) (inside' d) (decided d t.if-decide_from.true)),
     )
 
 -- ── it fails ──
-least-limit-requires : tie.Need-least-limit-requires
+least-limit-requires : tie.Need-least_limit-requires
 least-limit-requires c κs =
     let e = c.before.before.before in
     let d = e.before in
     let s = begun d in
     let a = s.args in
     let p = s.pre in
-    let q = decided d e.if1.false in (
+    let q = decided d e.if-decide_from.false in (
       record {
         capacities_long = p.capacities_long;
-        inside_long = d.before.decide-from.ensures.0;
+        inside_long = d.before.decide_from.ensures.0;
         lent = record { opened = p.lent.opened; ends = p.lent.ends; exact = ap length q.0 ∙ p.lent.exact };
         edge_in = p.edge_in;
         limited = p.limited;
         present = p.present;
       },
-      present_fails (drawing s) a.demand.source a.demand.sink a.demand.value a.edge a.flows.now p.lent.opened.drawn.plane.sound.range
+      present_fails (drawing s) a.demand.source a.demand.sink a.demand.value a.edge a.flows-1.now p.lent.opened.drawn.plane.sound.range
           p.lent.ends (flows' d) (inside' d) q,
     )
 
-returns-2 : tie.Need-returns-2
+returns-2 : tie.Need-returns
 returns-2 c =
     let l = c.before in
     let e = l.before.before.before.before in
     let d = e.before in
     let s = begun d in
     let a = s.args in
-    let last = l.least-limit.new in (
-      l.least-limit.ensures.0,
-      sought_as (drawing s) a.demand.source a.demand.sink a.demand.value a.edge (decided d e.if1.false).0
-          last.1.1.1.1.1.1.1.1.1.1.1.0 last.1.1.1.1.1.1.1.1.1.1.1.1.0 {r = l.least-limit.result} refl
-          l.least-limit.ensures.1,
+    let last = l.least_limit.new in (
+      l.least_limit.ensures.0,
+      sought_as (drawing s) a.demand.source a.demand.sink a.demand.value a.edge (decided d e.if-decide_from.false).0
+          last.1.1.1.1.1.1.1.1.1.1.1.0 last.1.1.1.1.1.1.1.1.1.1.1.1.0 {r = l.least_limit.result} refl
+          l.least_limit.ensures.1,
     )
 
-pub find-limit-spec : {M : Type 1} → statement M
-find-limit-spec =
+pub find_limit_spec : {M : Type 1} → statement M
+find_limit_spec =
     tie.close
     (tie.spec decide-from-requires mul-t19 mul-t20 element-copy-out-t23 (λ c. search rules) returns least-limit-requires (λ c. search rules) returns-2)

@@ -34,13 +34,13 @@ drawing c =
 dart_in : (c : tie.Start) → 2 * c.args.edge < 1024
 dart_in c = omega (arith, c.requires.0.edge_in, c.requires.0.lent.opened.drawn.few_edges)
 
-mul-dart : tie.Need-overflow-mul-dart
+mul-dart : tie.Need-overflow_mul-dart
 mul-dart c = omega (arith, dart_in c)
 
-mul-capacities : tie.Need-overflow-mul-capacities
+mul-capacities : tie.Need-offset_bounds-capacities-dart
 mul-capacities c = omega (arith, dart_in c)
 
-element-set-of-capacities : tie.Need-element-set-of-capacities
+element-set-of-capacities : tie.Need-bounds-capacities-dart
 element-set-of-capacities c = omega (arith, dart_in c, c.requires.0.capacities_long)
 
 -- ── the greatest capacity is stored ──
@@ -51,7 +51,7 @@ greatest-is : (c : tie.Start) → atℤ (greatest c) ≡ raised (atℤ c.args.ca
 greatest-is c =
     stored c.args.edge c.args.capacities.now c.args.capacities.now (λ d n. refl) most_limit (omega (arith, dart_in c, c.requires.0.capacities_long))
 
-decide-from-requires : tie.Need-decide-from-requires
+decide-from-requires : tie.Need-decide_from-requires
 decide-from-requires c κs =
     let s = c.before.before.before in
     let a = s.args in
@@ -69,76 +69,76 @@ decide-from-requires c κs =
       p.inside_long,
     )
 
-abbrev begun : tie.After-flows → tie.Start
+abbrev begun : tie.After-flows-1 → tie.Start
 begun c = c.before.before.before.before.before
 
-abbrev between : tie.After-flows → List ℤ
-between c = c.before.decide-from.new.1.1.1.1.1.1.1.1.1.1.1.0
+abbrev between : tie.After-flows-1 → List ℤ
+between c = c.before.decide_from.new.1.1.1.1.1.1.1.1.1.1.1.0
 
-abbrev first : tie.After-flows → List ℕ
-first c = c.before.decide-from.new.1.1.1.1.1.1.1.1.1.1.1.1.0
+abbrev first : tie.After-flows-1 → List ℕ
+first c = c.before.decide_from.new.1.1.1.1.1.1.1.1.1.1.1.1.0
 
-decided : (c : tie.After-flows) {r : Bool} → c.before.decide-from.result ≡ r
+decided : (c : tie.After-flows-1) {r : Bool} → c.before.decide_from.result ≡ r
     → Decided (drawing (begun c)).map (2 * (begun c).args.edge) (raised (drawing (begun c)).capacity (begun c).args.edge most_limit)
-    (begun c).args.demand.source (begun c).args.demand.sink (begun c).args.demand.value (begun c).args.flows.now (between c) (first c) r
+    (begun c).args.demand.source (begun c).args.demand.sink (begun c).args.demand.value (begun c).args.flows-1.now (between c) (first c) r
 decided c e =
     let s = begun c in
     let a = s.args in
-    decided_as (drawing s).map (2 * a.edge) (greatest-is s) a.demand.source a.demand.sink a.demand.value a.flows.now (between c) (first c) e
-    c.before.decide-from.ensures.1
+    decided_as (drawing s).map (2 * a.edge) (greatest-is s) a.demand.source a.demand.sink a.demand.value a.flows-1.now (between c) (first c) e
+    c.before.decide_from.ensures.1
 
 -- ── it serves: the flow on the edge is above the present capacity, so 32 bits hold it ──
-abbrev start : tie.Then1 → tie.Start
+abbrev start : tie.Then-decide_from → tie.Start
 start c = begun c.before
 
-abbrev limit : tie.Then1 → ℤ
-limit c = (decided c.before c.if1.true).0 (start c).args.edge
+abbrev limit : tie.Then-decide_from → ℤ
+limit c = (decided c.before c.if-decide_from.true).0 (start c).args.edge
 
-small : (c : tie.Then1) → Limited 1000000 (limit c)
+small : (c : tie.Then-decide_from) → Limited 1000000 (limit c)
 small c =
     let s = start c in
     let a = s.args in
-    let d = decided c.before c.if1.true in
+    let d = decided c.before c.if-decide_from.true in
     let σ = s.pre.0.lent.opened.drawn.plane.sound in
     record {
       low =
           le_trans s.pre.0.present.low
-          (le_of_lt (above_present (drawing s) a.demand.source a.demand.sink a.demand.value a.edge a.flows.now σ.range
+          (le_of_lt (above_present (drawing s) a.demand.source a.demand.sink a.demand.value a.edge a.flows-1.now σ.range
           s.pre.0.lent.ends σ
           (omega (arith, s.pre.0.edge_in)) s.pre.1 d.0 d.1));
       high =
-          under_most (drawing s) a.demand.source a.demand.sink a.demand.value a.edge a.flows.now σ.range s.pre.0.lent.ends σ
+          under_most (drawing s) a.demand.source a.demand.sink a.demand.value a.edge a.flows-1.now σ.range s.pre.0.lent.ends σ
           (omega (arith, s.pre.0.edge_in)) s.pre.1 d.0 d.1;
     }
 
-mul-limit : tie.Need-overflow-mul-limit
+mul-limit : tie.Need-offset_bounds-flows-edge
 mul-limit c = omega (arith, dart_in (start c))
 
-sized : (c : tie.Then1) → length (between c.before) ≡ length (start c).args.flows.now
-sized c = filled_length _ _ _ _ (decided c.before c.if1.true).2 (omega (arith, (start c).requires.0.lent.exact))
+sized : (c : tie.Then-decide_from) → length (between c.before) ≡ length (start c).args.flows-1.now
+sized c = filled_length _ _ _ _ (decided c.before c.if-decide_from.true).2 (omega (arith, (start c).requires.0.lent.exact))
 
-slice-copy-out-limit : tie.Need-slice-copy-out-limit
+slice-copy-out-limit : tie.Need-slice_copy_out-limit
 slice-copy-out-limit c = omega (arith, sized c, (start c).requires.0.lent.exact, (start c).requires.0.edge_in)
 
-abbrev bits : tie.Then1 → ℤ
+abbrev bits : tie.Then-decide_from → ℤ
 bits c = to_z w32 (of_z w32 (atℤ (between c.before) (start c).args.edge))
 
-bits_are : (c : tie.Then1) → bits c ≡ limit c
+bits_are : (c : tie.Then-decide_from) → bits c ≡ limit c
 bits_are c =
     ap (λ z. to_z w32 (of_z w32 z))
-    (filled_front (pos 0) (start c).args.sizes.edges (decided c.before c.if1.true).0 (start c).args.flows.now (between c.before)
-    (decided c.before c.if1.true).2 (start c).args.edge (start c).requires.0.edge_in)
+    (filled_front (pos 0) (start c).args.sizes.edges (decided c.before c.if-decide_from.true).0 (start c).args.flows-1.now (between c.before)
+    (decided c.before c.if-decide_from.true).2 (start c).args.edge (start c).requires.0.edge_in)
     ∙ same_bits (omega arith) (small c)
 
-mul-limit-2 : tie.Need-overflow-mul-limit-2
+mul-limit-2 : tie.Need-offset_bounds-capacities-dart-then-decide_from
 mul-limit-2 c = omega (arith, dart_in (start c.before))
 
-element-set-from-limit : tie.Need-element-set-from-limit
+element-set-from-limit : tie.Need-bounds-capacities-dart-then-decide_from
 element-set-from-limit c =
     let s = start c.before in omega (arith, dart_in s, s.pre.0.capacities_long, length-set s.args.capacities.now (2 * s.args.edge) most_limit)
 
 -- ── it is stored, and its highest flow written ──
-capacities_are : (c : tie.Then1)
+capacities_are : (c : tie.Then-decide_from)
     → atℤ (set (greatest (start c)) (2 * (start c).args.edge) (bits c)) ≡ raised (atℤ (start c).args.capacities.now) (start c).args.edge (limit c)
 capacities_are c =
     let s = start c in
@@ -147,19 +147,19 @@ capacities_are c =
     (omega (arith, dart_in s, s.pre.0.capacities_long, length-set a.capacities.now (2 * a.edge) most_limit))
     ∙ ap (raised (atℤ a.capacities.now) a.edge) (bits_are c)
 
-decide-from-requires-2 : tie.Need-decide-from-requires-2
+decide-from-requires-2 : tie.Need-decide_from-requires-then-decide_from
 decide-from-requires-2 c κs =
     let t = c.before.before.before.before in
     let s = start t in
     let a = s.args in
     let p = s.pre.0 in
-    let d = decided t.before t.if1.true in
+    let d = decided t.before t.if-decide_from.true in
     let σ = p.lent.opened.drawn.plane.sound in (
       record {
         opened = record {
           drawn = rw (capacities_are t)
               (raised_drawn a.edge
-              (le_of_lt (above_present (drawing s) a.demand.source a.demand.sink a.demand.value a.edge a.flows.now σ.range
+              (le_of_lt (above_present (drawing s) a.demand.source a.demand.sink a.demand.value a.edge a.flows-1.now σ.range
               p.lent.ends σ
               (omega (arith, p.edge_in)) s.pre.1 d.0 d.1)) (small t).high p.lent.opened.drawn);
           walked = p.lent.opened.walked;
@@ -169,35 +169,35 @@ decide-from-requires-2 c κs =
       },
       p.limited,
       p.lent.opened.drawn.outer_in,
-      t.before.before.decide-from.ensures.0,
+      t.before.before.decide_from.ensures.0,
     )
 
-returns : tie.Need-returns
+returns : tie.Need-returns-then-decide_from
 returns c =
     let e = c.before in
     let t = e.before.before.before.before.before in
     let s = start t in
     let a = s.args in
     let p = s.pre.0 in
-    let d = decided t.before t.if1.true in
+    let d = decided t.before t.if-decide_from.true in
     let σ = p.lent.opened.drawn.plane.sound in
-    let flows' = e.decide-from2.new.1.1.1.1.1.1.1.1.1.1.1.0 in
-    let inside' = e.decide-from2.new.1.1.1.1.1.1.1.1.1.1.1.1.0 in (
-      e.decide-from2.ensures.0,
-      sought_as (drawing s) a.demand.source a.demand.sink a.demand.value a.edge {old = a.flows.now} refl flows' inside'
+    let flows' = e.decide_from-then-decide_from.new.1.1.1.1.1.1.1.1.1.1.1.0 in
+    let inside' = e.decide_from-then-decide_from.new.1.1.1.1.1.1.1.1.1.1.1.1.0 in (
+      e.decide_from-then-decide_from.ensures.0,
+      sought_as (drawing s) a.demand.source a.demand.sink a.demand.value a.edge {old = a.flows-1.now} refl flows' inside'
           {r = At (limit t)} (ap At (sym (bits_are t)))
-          (least_serves (drawing s) a.demand.source a.demand.sink a.demand.value a.edge a.flows.now σ.range p.lent.ends σ
-          (omega (arith, p.edge_in)) s.pre.1 d.0 d.1 (between t.before) flows' inside' e.decide-from2.result d.2
+          (least_serves (drawing s) a.demand.source a.demand.sink a.demand.value a.edge a.flows-1.now σ.range p.lent.ends σ
+          (omega (arith, p.edge_in)) s.pre.1 d.0 d.1 (between t.before) flows' inside' e.decide_from-then-decide_from.result d.2
           (decided_as (drawing s).map a.sizes.outer (capacities_are t) a.demand.source a.demand.sink a.demand.value (between t.before)
-          flows' inside' {r = e.decide-from2.result} refl e.decide-from2.ensures.1)),
+          flows' inside' {r = e.decide_from-then-decide_from.result} refl e.decide_from-then-decide_from.ensures.1)),
     )
 
 -- ── none does ──
-returns-2 : tie.Need-returns-2
-returns-2 c = let f = c.before in (f.before.decide-from.ensures.0, decided f c.if1.false)
+returns-2 : tie.Need-returns
+returns-2 c = let f = c.before in (f.before.decide_from.ensures.0, decided f c.if-decide_from.false)
 
-pub least-limit-spec : {M : Type 1} → statement M
-least-limit-spec =
+pub least_limit_spec : {M : Type 1} → statement M
+least_limit_spec =
     tie.close
     (tie.spec
     mul-dart

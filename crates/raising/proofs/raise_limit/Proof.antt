@@ -42,139 +42,139 @@ abbrev ends_at : tie.Start → List Check
 ends_at s = end_checks s.args.sizes.nodes s.args.demand.source s.args.demand.sink
 
 abbrev room_at : tie.Start → List Check
-room_at s = room_checks s.args.sizes.nodes s.args.sizes.edges (length s.args.flows.now) (length s.args.set.now)
+room_at s = room_checks s.args.sizes.nodes s.args.sizes.edges (length s.args.flows-1.now) (length s.args.set-1.now)
 
 abbrev checksAt : tie.Start → List Check
 checksAt s =
     let a = s.args in
-    limit_checks a.sizes.nodes a.sizes.edges a.demand.source a.demand.sink a.demand.value a.edge a.flows.now a.set.now
+    limit_checks a.sizes.nodes a.sizes.edges a.demand.source a.demand.sink a.demand.value a.edge a.flows-1.now a.set-1.now
 
 -- ── 13 and 14 did not refuse ──
-abbrev begun : tie.After-check-ends → tie.Start
+abbrev begun : tie.After-check_ends-named → tie.Start
 begun c = c.before.before
 
-ends-judged : (c : tie.After-check-ends) (v : Verdict) → c.check-ends.result ≡ v → Judged (ends_at (begun c)) v
-ends-judged c v e = rw e at c.check-ends.ensures
+ends-judged : (c : tie.After-check_ends-named) (v : Verdict) → c.check_ends-named.result ≡ v → Judged (ends_at (begun c)) v
+ends-judged c v e = rw e at c.check_ends-named.ensures
 
-abbrev checked : tie.After-enum-told → tie.After-check-ends
+abbrev checked : tie.In_default → tie.After-check_ends-named
 checked c = c.before.before
 
-two : (c : tie.After-enum-told) → NoneOf (ends_at (begun (checked c)))
-two c = ends-judged (checked c) Passed c.enum_told.given.1
+two : (c : tie.In_default) → NoneOf (ends_at (begun (checked c)))
+two c = ends-judged (checked c) Passed c.enum_told-1.given.1
 
 -- ── 15 did not refuse ──
-abbrev ended : tie.Else1 → tie.After-enum-told
+abbrev ended : tie.Else-value_outside → tie.In_default
 ended c = c.before.before.before
 
-abbrev base : tie.Else1 → tie.Start
+abbrev base : tie.Else-value_outside → tie.Start
 base c = begun (checked (ended c))
 
 -- the value is the number of its bits
-value-is : (c : tie.After-struct-told) → to_z w32 (of_z w32 (begun (checked c.before)).args.demand.value) ≡ (begun (checked c.before)).args.demand.value
-value-is c = number_of_bits _ (record { sfits = c.struct_told.given.1.1.0.1 })
+value-is : (c : tie.After-struct_told-1) → to_z w32 (of_z w32 (begun (checked c.before)).args.demand.value) ≡ (begun (checked c.before)).args.demand.value
+value-is c = number_of_bits _ (record { sfits = c.struct_told-1.given.1.1.0.1 })
 
-inside : (c : tie.Else1) → NoneOf (value_checks (base c).args.demand.value)
+inside : (c : tie.Else-value_outside) → NoneOf (value_checks (base c).args.demand.value)
 unfolding NoneOf value_checks
-inside c = ((λ h. said_no c.before.value-outside.ensures c.if1.false (rw (value-is c.before.before) h)), tt)
+inside c = ((λ h. said_no c.before.value_outside.ensures c.if-value_outside.false (rw (value-is c.before.before) h)), tt)
 
 -- ── 25 did not refuse ──
-abbrev valued : tie.Else2 → tie.Else1
+abbrev valued : tie.Else-sizes-edge → tie.Else-value_outside
 valued c = c.before.before
 
-is_edge : (c : tie.Else2) → NoneOf (edge_checks (base (valued c)).args.sizes.edges (base (valued c)).args.edge)
+is_edge : (c : tie.Else-sizes-edge) → NoneOf (edge_checks (base (valued c)).args.sizes.edges (base (valued c)).args.edge)
 unfolding NoneOf edge_checks
-is_edge c = ((λ h. omega (arith, c.if2.false, h)), tt)
+is_edge c = ((λ h. omega (arith, c.if-sizes-edge.false, h)), tt)
 
 -- ── 16 did not refuse ──
-room_judged : (c : tie.After-check-room) (v : Verdict) → c.check-room.result ≡ v → Judged (room_at (base (valued c.before))) v
-room_judged c v e = rw e at c.check-room.ensures
+room_judged : (c : tie.After-check_room-room) (v : Verdict) → c.check_room-room.result ≡ v → Judged (room_at (base (valued c.before))) v
+room_judged c v e = rw e at c.check_room-room.ensures
 
-abbrev asked : tie.After-enum-told2 → tie.Else2
+abbrev asked : tie.In_default-room → tie.Else-sizes-edge
 asked c = c.before.before.before
 
-abbrev start : tie.After-enum-told2 → tie.Start
+abbrev start : tie.In_default-room → tie.Start
 start c = base (valued (asked c))
 
-room : (c : tie.After-enum-told2) → NoneOf (room_at (start c))
-room c = room_judged c.before.before Passed c.enum-told2.given.1
+room : (c : tie.In_default-room) → NoneOf (room_at (start c))
+room c = room_judged c.before.before Passed c.enum_told-in_default-room-1.given.1
 
-none : (c : tie.After-enum-told2) → NoneOf (checksAt (start c))
+none : (c : tie.In_default-room) → NoneOf (checksAt (start c))
 none c =
     let e = asked c in
     let a = (start c).args in
-    raise_none a.sizes.nodes a.sizes.edges a.demand.source a.demand.sink a.demand.value a.edge a.flows.now a.set.now
+    raise_none a.sizes.nodes a.sizes.edges a.demand.source a.demand.sink a.demand.value a.edge a.flows-1.now a.set-1.now
     (two (ended (valued e))) (inside (valued e)) (is_edge e) (room c)
 
 -- ── the needs, in the order of the code ──
-returns : tie.Need-returns
+returns : tie.Need-returns-in-Refused
 returns c =
     let e = c.before.before.before in
     let a = (begun e).args in
-    let j = ends-judged e (Refused _ _) c.before.named.given.1 in (
-      raise_ends a.sizes.nodes a.sizes.edges a.demand.source a.demand.sink a.demand.value a.edge a.flows.now a.set.now
+    let j = ends-judged e (Refused _ _) c.before.named-1.given.1 in (
+      raise_ends a.sizes.nodes a.sizes.edges a.demand.source a.demand.sink a.demand.value a.edge a.flows-1.now a.set-1.now
           _ _ j,
       refl,
       refl,
     )
 
-returns-2 : tie.Need-returns-2
+returns-2 : tie.Need-returns-then-value_outside
 unfolding FirstOf value_checks
 returns-2 c =
     let e = c.before.before.before in
     let s = begun (checked e) in
     let a = s.args in
-    let out = rw (value-is c.before.before) at (said_yes c.before.value-outside.ensures c.if1.true) in (
-      raise_value a.sizes.nodes a.sizes.edges a.demand.source a.demand.sink a.demand.value a.edge a.flows.now a.set.now
+    let out = rw (value-is c.before.before) at (said_yes c.before.value_outside.ensures c.if-value_outside.true) in (
+      raise_value a.sizes.nodes a.sizes.edges a.demand.source a.demand.sink a.demand.value a.edge a.flows-1.now a.set-1.now
           (two e) 15 0 (inl (out, refl, refl)),
       refl,
       refl,
     )
 
-returns-3 : tie.Need-returns-3
+returns-3 : tie.Need-returns-then-sizes-edge
 unfolding FirstOf edge_checks
 returns-3 c =
     let e = c.before.before in
     let a = (base e).args in
-    let out : a.sizes.edges ≤ a.edge = omega (arith, c.if2.true) in (
-      raise_edge a.sizes.nodes a.sizes.edges a.demand.source a.demand.sink a.demand.value a.edge a.flows.now a.set.now
+    let out : a.sizes.edges ≤ a.edge = omega (arith, c.if-sizes-edge.true) in (
+      raise_edge a.sizes.nodes a.sizes.edges a.demand.source a.demand.sink a.demand.value a.edge a.flows-1.now a.set-1.now
           (two (ended e)) (inside e)
           25 0 (inl (out, refl, refl)),
       refl,
       refl,
     )
 
-check-room-requires : tie.Need-check-room-requires
+check-room-requires : tie.Need-check_room-room-requires
 check-room-requires c κs = (base (valued c)).requires.1.opened.drawn.few_nodes
 
-returns-4 : tie.Need-returns-4
+returns-4 : tie.Need-returns-in-Refused-room
 returns-4 c =
     let r = c.before.before.before in
     let e = r.before in
     let a = (base (valued e)).args in
-    let j = room_judged r (Refused _ _) c.before.room.given.1 in (
-      raise_room a.sizes.nodes a.sizes.edges a.demand.source a.demand.sink a.demand.value a.edge a.flows.now a.set.now
+    let j = room_judged r (Refused _ _) c.before.room-1.given.1 in (
+      raise_room a.sizes.nodes a.sizes.edges a.demand.source a.demand.sink a.demand.value a.edge a.flows-1.now a.set-1.now
           (two (ended (valued e))) (inside (valued e)) (is_edge e) _ _ j,
       refl,
       refl,
     )
 
 -- ── what was found ──
-edge-at : (c : tie.After-enum-told2) → (start c).args.edge < (start c).args.sizes.edges
+edge-at : (c : tie.In_default-room) → (start c).args.edge < (start c).args.sizes.edges
 edge-at c = edge_in _ _ (is_edge (asked c))
 
-present : (c : tie.After-enum-told2) → Limited 1000000 ((drawing (start c)).capacity (2 * (start c).args.edge))
+present : (c : tie.In_default-room) → Limited 1000000 ((drawing (start c)).capacity (2 * (start c).args.edge))
 present c = (start c).requires.1.small _ (omega (arith, edge-at c))
 
-flows_in : (c : tie.After-enum-told2) → (start c).args.sizes.edges ≤ length (start c).args.flows.now
+flows_in : (c : tie.In_default-room) → (start c).args.sizes.edges ≤ length (start c).args.flows-1.now
 flows_in c = (room_flows _ _ _ _ (room c)).0
 
-part-find-limit-end : tie.Need-slice-bounds-find-limit-end
+part-find-limit-end : tie.Need-slice_bounds-find_limit-end
 part-find-limit-end c = flows_in c.before
 
-abbrev roomy : tie.After-inside → tie.After-enum-told2
+abbrev roomy : tie.After-inside-1 → tie.In_default-room
 roomy c = c.before.before.before
 
-find-limit-requires : tie.Need-find-limit-requires
+find-limit-requires : tie.Need-find_limit-least-requires
 find-limit-requires c κs =
     let m = roomy c in
     let s = start m in
@@ -185,90 +185,90 @@ find-limit-requires c κs =
       lent = record {
         opened = s.pre.1.opened;
         ends = ends_for (drawing s).map a.demand.source a.demand.sink (two (ended (valued (asked m))));
-        exact = part_length a.sizes.edges a.flows.now (flows_in m);
+        exact = part_length a.sizes.edges a.flows-1.now (flows_in m);
       };
       edge_in = edge-at m;
       limited = value_limited _ (inside (valued (asked m)));
       present = present m;
     }
 
-abbrev known : tie.After-find-limit → tie.After-enum-told2
+abbrev known : tie.After-find_limit-least → tie.In_default-room
 known c = roomy c.before
 
 -- the part lent, as it came back, and the slice with it
-abbrev lent' : tie.After-find-limit → List ℤ
-lent' c = c.find-limit.new.1.1.1.1.1.1.1.1.1.1.1.0
+abbrev lent' : tie.After-find_limit-least → List ℤ
+lent' c = c.find_limit-least.new.1.1.1.1.1.1.1.1.1.1.1.0
 
-abbrev flows' : tie.After-find-limit → List ℤ
-flows' c = lent' c ++ drop ((start (known c)).args.sizes.edges - 0) (start (known c)).args.flows.now
+abbrev flows' : tie.After-find_limit-least → List ℤ
+flows' c = lent' c ++ drop ((start (known c)).args.sizes.edges - 0) (start (known c)).args.flows-1.now
 
-abbrev inside' : tie.After-find-limit → List ℕ
-inside' c = c.find-limit.new.1.1.1.1.1.1.1.1.1.1.1.1.0
+abbrev inside' : tie.After-find_limit-least → List ℕ
+inside' c = c.find_limit-least.new.1.1.1.1.1.1.1.1.1.1.1.1.0
 
-sought : (c : tie.After-find-limit) {answer : Found} → c.find-limit.result ≡ answer
+sought : (c : tie.After-find_limit-least) {answer : Found} → c.find_limit-least.result ≡ answer
     → Sought (drawing (start (known c))) (start (known c)).args.demand.source (start (known c)).args.demand.sink (start (known c)).args.demand.value
-    (start (known c)).args.edge (start (known c)).args.flows.now (flows' c) (inside' c) answer
+    (start (known c)).args.edge (start (known c)).args.flows-1.now (flows' c) (inside' c) answer
 sought c same =
     let s = start (known c) in
     let a = s.args in
-    sought_back (drawing s) a.demand.source a.demand.sink a.demand.value a.edge a.flows.now (lent' c) (inside' c) same
-    c.find-limit.ensures.1
+    sought_back (drawing s) a.demand.source a.demand.sink a.demand.value a.edge a.flows-1.now (lent' c) (inside' c) same
+    c.find_limit-least.ensures.1
 
 -- ── a capacity serves ──
-returns-5 : tie.Need-returns-5
+returns-5 : tie.Need-returns-in-At
 returns-5 c =
     let f = c.before.before.before.before in
     let m = known f in
     let s = start m in
     let a = s.args in
-    let h = sought f c.before.least.given.1 in
-    limit_as (drawing s) (checksAt s) a.demand.source a.demand.sink a.demand.value a.edge a.flows.now (flows' f) a.set.now a.set.now
-    (told_limit (drawing s) a.demand.source a.demand.sink a.demand.value a.edge a.flows.now (flows' f) (inside' f) _ (present m) h)
+    let h = sought f c.before.least-1.given.1 in
+    limit_as (drawing s) (checksAt s) a.demand.source a.demand.sink a.demand.value a.edge a.flows-1.now (flows' f) a.set-1.now a.set-1.now
+    (told_limit (drawing s) a.demand.source a.demand.sink a.demand.value a.edge a.flows-1.now (flows' f) (inside' f) _ (present m) h)
     (none m, h.0, h.1, h.2, h.3, refl)
 
 -- ── none does: the set is written ──
-abbrev ending : tie.After-words-for → tie.After-find-limit
+abbrev ending : tie.After-words_for-words → tie.After-find_limit-least
 ending c = c.before.before.before.before
 
-abbrev home : tie.After-words-for → tie.After-enum-told2
+abbrev home : tie.After-words_for-words → tie.In_default-room
 home c = known (ending c)
 
-words_in : (c : tie.After-words-for) → words_for (start (home c)).args.sizes.nodes ≤ length (start (home c)).args.set.now
+words_in : (c : tie.After-words_for-words) → words_for (start (home c)).args.sizes.nodes ≤ length (start (home c)).args.set-1.now
 words_in c = (room_flows _ _ _ _ (room (home c))).1
 
-words-for-requires : tie.Need-words-for-requires
+words-for-requires : tie.Need-words_for-words-requires
 words-for-requires c κs = (start (known c.before.before.before)).requires.1.opened.drawn.few_nodes
 
-part-write-set-end : tie.Need-slice-bounds-write-set-end
-part-write-set-end c = let n = c.before in omega (arith, n.words-for.ensures, words_in n)
+part-write-set-end : tie.Need-slice_bounds-write_set-end
+part-write-set-end c = let n = c.before in omega (arith, n.words_for-words.ensures, words_in n)
 
-write-set-requires : tie.Need-write-set-requires
+write-set-requires : tie.Need-write_set-requires
 write-set-requires c κs =
     let n = c.before.before in
     let s = start (home n) in
-    words_lent s.args.set.now n.words-for.ensures (words_in n) s.pre.1.opened.drawn.few_nodes
+    words_lent s.args.set-1.now n.words_for-words.ensures (words_in n) s.pre.1.opened.drawn.few_nodes
 
-returns-6 : tie.Need-returns-6
+returns-6 : tie.Need-returns
 returns-6 c =
     let w = c.before.before in
     let n = w.before.before.before in
     let m = home n in
     let s = start m in
     let a = s.args in
-    let h = sought (ending n) n.before.enum-told3.given.1 in
-    let written = written_back a.set.now n.words-for.ensures (words_in n) w.write-set.ensures in (
+    let h = sought (ending n) n.before.enum_told-in_default-least-1.given.1 in
+    let written = written_back a.set-1.now n.words_for-words.ensures (words_in n) w.write_set.ensures in (
       none m,
       h.0,
       (
-        take (words_for a.sizes.nodes) (w.write-set.new.1.1.0 ++ drop (n.words-for.result - 0) a.set.now),
+        take (words_for a.sizes.nodes) (w.write_set.new.1.1.0 ++ drop (n.words_for-words.result - 0) a.set-1.now),
         set_written written,
         proves_written s.pre.1.opened.drawn.plane.sound.range (raised (drawing s).capacity a.edge most_limit) written
             a.demand.source a.demand.sink (two (ended (valued (asked m)))) a.demand.value h.1,
       ),
     )
 
-pub raise-limit-spec : {M : Type 1} → statement M
-raise-limit-spec =
+pub raise_limit_spec : {M : Type 1} → statement M
+raise_limit_spec =
     tie.close
     (tie.spec
     (λ c κs. search rules)

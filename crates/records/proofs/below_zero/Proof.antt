@@ -9,17 +9,17 @@ use Rattle.records.proofs.below_zero.Statement.{statement}
 use Rattle.records.proofs.below_zero.Tie as tie
 
 -- the sum of the numbers given
-abbrev begun : tie.After-add32 → tie.Start
+abbrev begun : tie.After-add32-sum → tie.Start
 begun c = c.before
 
-exact : (c : tie.After-add32) → c.add32.result ≡ (begun c).args.x +ℤ (begun c).args.y
-exact c = let f = (begun c).ranges in rw (number_of_bits _ f.x, number_of_bits _ f.y) at c.add32.ensures
+exact : (c : tie.After-add32-sum) → c.add32-sum.result ≡ (begun c).args.x +ℤ (begun c).args.y
+exact c = let f = (begun c).ranges in rw (number_of_bits _ f.x, number_of_bits _ f.y) at c.add32-sum.ensures
 
-returns : tie.Need-returns
-returns c = let s = c.before in lt_of_test _ _ (rw (to_z-of_z _ _ (record { sfits = s.add32.type-inv }), exact s) at c.if1.true)
+returns : tie.Need-returns-then-sum-lt0
+returns c = let s = c.before in lt_of_test _ _ (rw (to_z-of_z _ _ (record { sfits = s.add32-sum.type_inv }), exact s) at c.if-sum-lt0.true)
 
-returns-2 : tie.Need-returns-2
-returns-2 c = let s = c.before in λ h. lt_le_clash h (ge_of_test _ _ (rw (to_z-of_z _ _ (record { sfits = s.add32.type-inv }), exact s) at c.if1.false))
+returns-2 : tie.Need-returns
+returns-2 c = let s = c.before in λ h. lt_le_clash h (ge_of_test _ _ (rw (to_z-of_z _ _ (record { sfits = s.add32-sum.type_inv }), exact s) at c.if-sum-lt0.false))
 
-pub below-zero-spec : {M : Type 1} → statement M
-below-zero-spec = tie.close (tie.spec (λ c κs. search rules) returns returns-2)
+pub below_zero_spec : {M : Type 1} → statement M
+below_zero_spec = tie.close (tie.spec (λ c κs. search rules) returns returns-2)

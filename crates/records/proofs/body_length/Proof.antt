@@ -4,11 +4,11 @@ use borrow.Author.Tests.{lt-ltb, le-ltb}
 use Rattle.records.proofs.body_length.Statement.{statement}
 use Rattle.records.proofs.body_length.Tie as tie
 
-returns : tie.Need-returns
-returns c = simp (lt-ltb _ _ c.if1.true)
+returns : tie.Need-returns-then-k-lt6
+returns c = simp (lt-ltb _ _ c.if-k-lt6.true)
 
-returns-2 : tie.Need-returns-2
-returns-2 c = simp (le-ltb _ _ c.if1.false)
+returns-2 : tie.Need-returns-else-k-lt6
+returns-2 c = simp (le-ltb _ _ c.if-k-lt6.false)
 
-pub body-length-spec : {M : Type 1} → statement M
-body-length-spec = tie.close (tie.spec (λ c. search rules) returns returns-2)
+pub body_length_spec : {M : Type 1} → statement M
+body_length_spec = tie.close (tie.spec (λ c. search rules) returns returns-2)

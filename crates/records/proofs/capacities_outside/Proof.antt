@@ -9,27 +9,27 @@ use Rattle.records.proofs.Deciding.{second_decides}
 use Rattle.records.proofs.capacities_outside.Statement.{statement}
 use Rattle.records.proofs.capacities_outside.Tie as tie
 
-abbrev begun : tie.After-capacity-outside → tie.Start
+abbrev begun : tie.After-capacity_outside → tie.Start
 begun c = c.before
 
 -- ── what each test says of the numbers given ──
-first : (c : tie.After-capacity-outside) → Decides (CapacityOutside (begun c).args.x) c.capacity-outside.result
-first c = rw (number_of_bits _ (begun c).ranges.x) at c.capacity-outside.ensures
+first : (c : tie.After-capacity_outside) → Decides (CapacityOutside (begun c).args.x) c.capacity_outside.result
+first c = rw (number_of_bits _ (begun c).ranges.x) at c.capacity_outside.ensures
 
-abbrev tested : tie.After-capacity-outside2 → tie.After-capacity-outside
+abbrev tested : tie.After-capacity_outside-2 → tie.After-capacity_outside
 tested c = c.before.before
 
-second : (c : tie.After-capacity-outside2) → Decides (CapacityOutside (begun (tested c)).args.y) c.capacity-outside2.result
-second c = rw (number_of_bits _ (begun (tested c)).ranges.y) at c.capacity-outside2.ensures
+second : (c : tie.After-capacity_outside-2) → Decides (CapacityOutside (begun (tested c)).args.y) c.capacity_outside-2.result
+second c = rw (number_of_bits _ (begun (tested c)).ranges.y) at c.capacity_outside-2.ensures
 
 -- ── the needs, in the order of the code ──
-returns : tie.Need-returns
-returns c = let t = c.before in inl (said_yes {b = t.capacity-outside.result} (first t) c.if1.true)
+returns : tie.Need-returns-then-capacity_outside
+returns c = let t = c.before in inl (said_yes {b = t.capacity_outside.result} (first t) c.if-capacity_outside.true)
 
-returns-2 : tie.Need-returns-2
+returns-2 : tie.Need-returns
 returns-2 c =
     let t = tested c in
-    second_decides _ c.capacity-outside2.result (said_no {b = t.capacity-outside.result} (first t) c.before.if1.false) (second c)
+    second_decides _ c.capacity_outside-2.result (said_no {b = t.capacity_outside.result} (first t) c.before.if-capacity_outside.false) (second c)
 
-pub capacities-outside-spec : {M : Type 1} → statement M
-capacities-outside-spec = tie.close (tie.spec (λ c κs. search rules) returns (λ c κs. search rules) returns-2)
+pub capacities_outside_spec : {M : Type 1} → statement M
+capacities_outside_spec = tie.close (tie.spec (λ c κs. search rules) returns (λ c κs. search rules) returns-2)

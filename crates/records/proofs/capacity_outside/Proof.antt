@@ -6,18 +6,18 @@ use Rattle.refusals.proofs.Order.{neither}
 use Rattle.records.proofs.capacity_outside.Statement.{statement}
 use Rattle.records.proofs.capacity_outside.Tie as tie
 
-returns : tie.Need-returns
-returns c = inl (lt_of_test _ _ (rw (number_of_bits _ c.before.ranges.c) at c.if1.true))
+returns : tie.Need-returns-then-c-ltminus1000000
+returns c = inl (lt_of_test _ _ (rw (number_of_bits _ c.before.ranges.c) at c.if-c-ltminus1000000.true))
 
-returns-2 : tie.Need-returns-2
-returns-2 c = inr (lt_of_test _ _ (rw (number_of_bits _ c.before.before.ranges.c) at c.if2.true))
+returns-2 : tie.Need-returns-then-c-gt1000000
+returns-2 c = inr (lt_of_test _ _ (rw (number_of_bits _ c.before.before.ranges.c) at c.if-c-gt1000000.true))
 
-returns-3 : tie.Need-returns-3
+returns-3 : tie.Need-returns
 returns-3 c =
     let f = c.before.before.ranges.c in
     neither
-    (λ h. lt_le_clash h (ge_of_test _ _ (rw (number_of_bits _ f) at c.before.if1.false)))
-    (λ h. lt_le_clash h (ge_of_test _ _ (rw (number_of_bits _ f) at c.if2.false)))
+    (λ h. lt_le_clash h (ge_of_test _ _ (rw (number_of_bits _ f) at c.before.if-c-ltminus1000000.false)))
+    (λ h. lt_le_clash h (ge_of_test _ _ (rw (number_of_bits _ f) at c.if-c-gt1000000.false)))
 
-pub capacity-outside-spec : {M : Type 1} → statement M
-capacity-outside-spec = tie.close (tie.spec returns returns-2 returns-3)
+pub capacity_outside_spec : {M : Type 1} → statement M
+capacity_outside_spec = tie.close (tie.spec returns returns-2 returns-3)

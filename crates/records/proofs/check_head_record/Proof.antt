@@ -9,29 +9,29 @@ use Rattle.records.specs.Sheet.{head_record_checks}
 use Rattle.records.proofs.check_head_record.Statement.{statement}
 use Rattle.records.proofs.check_head_record.Tie as tie
 
-returns : tie.Need-returns
+returns : tie.Need-returns-then-s-eq0
 unfolding FirstOf head_record_checks
 returns c = inl (omega arith, refl, refl)
 
-returns-2 : tie.Need-returns-2
+returns-2 : tie.Need-returns-then-no_head
 unfolding FirstOf head_record_checks
-returns-2 c = inr (λ h. omega arith, inl (said_yes c.before.no-head.ensures c.if2.true, refl, refl))
+returns-2 c = inr (λ h. omega arith, inl (said_yes c.before.no_head.ensures c.if-no_head.true, refl, refl))
 
-returns-3 : tie.Need-returns-3
+returns-3 : tie.Need-returns-then-s-head_length
 unfolding FirstOf head_record_checks
 returns-3 c =
     let kind = c.before.before in
-    let long = c.before.head-length.ensures.0 in
-    inr (λ h. omega arith, inr (said_no kind.before.no-head.ensures kind.if2.false, inl (omega (arith, long), refl, refl)))
+    let long = c.before.head_length.ensures.0 in
+    inr (λ h. omega arith, inr (said_no kind.before.no_head.ensures kind.if-no_head.false, inl (omega (arith, long), refl, refl)))
 
-returns-4 : tie.Need-returns-4
+returns-4 : tie.Need-returns
 unfolding NoneOf head_record_checks
 returns-4 c =
     let kind = c.before.before in
-    (λ h. omega arith, (said_no kind.before.no-head.ensures kind.if2.false, (λ h. omega (arith, c.before.head-length.ensures.0), tt)))
+    (λ h. omega arith, (said_no kind.before.no_head.ensures kind.if-no_head.false, (λ h. omega (arith, c.before.head_length.ensures.0), tt)))
 
-pub check-head-record-spec : {M : Type 1} → statement M
-check-head-record-spec =
+pub check_head_record_spec : {M : Type 1} → statement M
+check_head_record_spec =
     tie.close
     (tie.spec
     returns

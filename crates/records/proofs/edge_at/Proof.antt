@@ -6,14 +6,14 @@ use borrow.Author.Rules.{rules}
 use Rattle.records.proofs.edge_at.Statement.{statement}
 use Rattle.records.proofs.edge_at.Tie as tie
 
-mul-result : tie.Need-overflow-mul-result
-mul-result c = rw c.record-length.ensures.0 (omega arith)
+mul-result : tie.Need-overflow_mul-result
+mul-result c = rw c.record_length.ensures.0 (omega arith)
 
-add-result : tie.Need-overflow-add-result
-add-result c = rw c.record-length.ensures.0 (omega (arith, c.before.requires.0))
+add-result : tie.Need-overflow_add-result
+add-result c = rw c.record_length.ensures.0 (omega (arith, c.before.requires.0))
 
 returns : tie.Need-returns
-returns c = let a = c.before.args in ap (λ n. a.head + n * a.e) c.record-length.ensures.0
+returns c = let a = c.before.args in ap (λ n. a.head + n * a.e) c.record_length.ensures.0
 
-pub edge-at-spec : {M : Type 1} → statement M
-edge-at-spec = tie.close (tie.spec (λ c κs. search rules) mul-result add-result returns)
+pub edge_at_spec : {M : Type 1} → statement M
+edge_at_spec = tie.close (tie.spec (λ c κs. search rules) mul-result add-result returns)

@@ -6,7 +6,7 @@ use Rattle.records.proofs.head_length.Tie as tie
 
 returns : tie.Need-returns
 unfolding headLength
-returns c = c.record-length.ensures
+returns c = c.record_length.ensures
 
-pub head-length-spec : {M : Type 1} → statement M
-head-length-spec = tie.close (tie.spec (λ c. search rules) (λ c κs. search rules) returns)
+pub head_length_spec : {M : Type 1} → statement M
+head_length_spec = tie.close (tie.spec (λ c. search rules) (λ c κs. search rules) returns)

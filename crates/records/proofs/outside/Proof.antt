@@ -5,14 +5,14 @@ use Rattle.refusals.proofs.Order.{neither}
 use Rattle.records.proofs.outside.Statement.{statement}
 use Rattle.records.proofs.outside.Tie as tie
 
-returns : tie.Need-returns
+returns : tie.Need-returns-then-x-low
 returns c = inl (omega arith)
 
-returns-2 : tie.Need-returns-2
+returns-2 : tie.Need-returns-then-high-x
 returns-2 c = inr (omega arith)
 
-returns-3 : tie.Need-returns-3
+returns-3 : tie.Need-returns
 returns-3 c = neither (λ h. omega arith) (λ h. omega arith)
 
-pub outside-spec : {M : Type 1} → statement M
-outside-spec = tie.close (tie.spec returns returns-2 returns-3)
+pub outside_spec : {M : Type 1} → statement M
+outside_spec = tie.close (tie.spec returns returns-2 returns-3)

@@ -17,51 +17,51 @@ use Rattle.records.proofs.read_edge.Statement.{statement}
 use Rattle.records.proofs.read_edge.Tie as tie
 
 -- ── the record begins behind the sheet's head and the records before it ──
-abbrev begun : tie.After-check-record → tie.Start
+abbrev begun : tie.After-check_record-whole → tie.Start
 begun c = c.before.before.before
 
-place : (c : tie.After-check-record) → c.before.edge-at.result ≡ edge_at (begun c).args.s.now (begun c).args.e
-place c = c.before.edge-at.ensures ∙ ap (λ n. edge_after n (begun c).args.e) (begun c).requires.3
+place : (c : tie.After-check_record-whole) → c.before.edge_at-at.result ≡ edge_at (begun c).args.s.now (begun c).args.e
+place c = c.before.edge_at-at.ensures ∙ ap (λ n. edge_after n (begun c).args.e) (begun c).requires.3
 
-judged : (c : tie.After-check-record) (v : Verdict) → c.check-record.result ≡ v
+judged : (c : tie.After-check_record-whole) (v : Verdict) → c.check_record-whole.result ≡ v
     → Judged (record_checks (begun c).args.s.now 2 (edge_at (begun c).args.s.now (begun c).args.e)) v
-judged c v e = subst (λ n. Judged (record_checks (begun c).args.s.now 2 n) v) (place c) (subst (Judged _) e c.check-record.ensures)
+judged c v e = subst (λ n. Judged (record_checks (begun c).args.s.now 2 n) v) (place c) (subst (Judged _) e c.check_record-whole.ensures)
 
 -- ── and is whole ──
-abbrev checked : tie.After-enum-told → tie.After-check-record
+abbrev checked : tie.In_default → tie.After-check_record-whole
 checked c = c.before.before
 
-whole : (c : tie.After-enum-told) → (checked c).before.edge-at.result + 17 ≤ length (begun (checked c)).args.s.now
+whole : (c : tie.In_default) → (checked c).before.edge_at-at.result + 17 ≤ length (begun (checked c)).args.s.now
 whole c =
     let k = checked c in
-    omega (arith, place k, edge_body _ (begun k).args.e (judged k _ c.enum_told.given.1))
+    omega (arith, place k, edge_body _ (begun k).args.e (judged k _ c.enum_told-1.given.1))
 
 -- ── the needs, in the order of the code ──
-returns : tie.Need-returns
+returns : tie.Need-returns-in-Refused
 unfolding edge_record_checks
 returns c =
     let k = c.before.before.before.before in
-    rw c.refused_edge.ensures (first_left _ _ _ _ (judged k _ c.before.before.whole.given.1))
+    rw c.refused_edge.ensures (first_left _ _ _ _ (judged k _ c.before.before.whole-1.given.1))
 
-read-u16-requires : tie.Need-read-u16-requires
+read-u16-requires : tie.Need-read_u16-tail-requires
 read-u16-requires c κs = omega (arith, whole c)
 
-read-u16-requires-2 : tie.Need-read-u16-requires-2
+read-u16-requires-2 : tie.Need-read_u16-other-requires
 read-u16-requires-2 c κs = omega (arith, whole c.before)
 
-read-u16-requires-3 : tie.Need-read-u16-requires-3
+read-u16-requires-3 : tie.Need-read_u16-rotation-requires
 read-u16-requires-3 c κs = omega (arith, whole c.before.before)
 
-read-u16-requires-4 : tie.Need-read-u16-requires-4
+read-u16-requires-4 : tie.Need-read_u16-back_rotation-requires
 read-u16-requires-4 c κs = omega (arith, whole c.before.before.before)
 
-read-i32-requires : tie.Need-read-i32-requires
+read-i32-requires : tie.Need-read_i32-forward-requires
 read-i32-requires c κs = omega (arith, whole c.before.before.before.before)
 
-read-i32-requires-2 : tie.Need-read-i32-requires-2
+read-i32-requires-2 : tie.Need-read_i32-backward-requires
 read-i32-requires-2 c κs = omega (arith, whole c.before.before.before.before.before)
 
-returns-2 : tie.Need-returns-2
+returns-2 : tie.Need-returns
 unfolding edge_record_checks
 returns-2 c =
     let backward = c.before in
@@ -74,25 +74,25 @@ returns-2 c =
     let k = checked told in
     let a = (begun k).args in
     let s = a.s.now in
-    let v = c.check-fields.result in
-    let forward_is = number_of_bits forward.read-i32.result (record { sfits = forward.read-i32.type-inv }) ∙ forward.read-i32.ensures in
-    let backward_is = number_of_bits backward.read-i322.result (record { sfits = backward.read-i322.type-inv }) ∙ backward.read-i322.ensures in
+    let v = c.check_fields-verdict.result in
+    let forward_is = number_of_bits forward.read_i32-forward.result (record { sfits = forward.read_i32-forward.type_inv }) ∙ forward.read_i32-forward.ensures in
+    let backward_is = number_of_bits backward.read_i32-backward.result (record { sfits = backward.read_i32-backward.type_inv }) ∙ backward.read_i32-backward.ensures in
     edge_told s a.e _ v
-    (judged_right _ _ v (judged k _ told.enum_told.given.1)
+    (judged_right _ _ v (judged k _ told.enum_told-1.given.1)
     (edge_read s a.e v (begun k).pre.1 (begun k).pre.4 (begun k).pre.5 (place k)
-    tail.read-u16.ensures head.read-u162.ensures rotation.read-u163.ensures back.read-u164.ensures forward_is backward_is
-    c.check-fields.ensures))
+    tail.read_u16-tail.ensures head.read_u16-other.ensures rotation.read_u16-rotation.ensures back.read_u16-back_rotation.ensures forward_is backward_is
+    c.check_fields-verdict.ensures))
     (record {
-      tail_is = tail.read-u16.ensures ∙ ap (u16_at s) (omega (arith, place k));
-      head_is = head.read-u162.ensures ∙ ap (u16_at s) (omega (arith, place k));
-      rotation_is = rotation.read-u163.ensures ∙ ap (u16_at s) (omega (arith, place k));
-      back_is = back.read-u164.ensures ∙ ap (u16_at s) (omega (arith, place k));
+      tail_is = tail.read_u16-tail.ensures ∙ ap (u16_at s) (omega (arith, place k));
+      head_is = head.read_u16-other.ensures ∙ ap (u16_at s) (omega (arith, place k));
+      rotation_is = rotation.read_u16-rotation.ensures ∙ ap (u16_at s) (omega (arith, place k));
+      back_is = back.read_u16-back_rotation.ensures ∙ ap (u16_at s) (omega (arith, place k));
       forward_is = forward_is ∙ ap (i32_at s) (omega (arith, place k));
       backward_is = backward_is ∙ ap (i32_at s) (omega (arith, place k));
     })
 
-pub read-edge-spec : {M : Type 1} → statement M
-read-edge-spec =
+pub read_edge_spec : {M : Type 1} → statement M
+read_edge_spec =
     tie.close
     (tie.spec
     (λ c κs. search rules)

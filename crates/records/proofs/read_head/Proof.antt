@@ -10,47 +10,47 @@ use Rattle.records.proofs.read_head.Statement.{statement}
 use Rattle.records.proofs.read_head.Tie as tie
 
 -- ── the head is whole, and of one of the two kinds ──
-whole : (c : tie.After-enum-told) → NoneOf (head_record_checks c.before.before.before.before.args.s.now)
-whole c = rw c.enum_told.given.1 at c.before.before.check-head-record.ensures
+whole : (c : tie.In_default) → NoneOf (head_record_checks c.before.before.before.before.args.s.now)
+whole c = rw c.enum_told-1.given.1 at c.before.before.check_head_record-whole.ensures
 
 -- ── the needs, in the order of the code ──
-returns : tie.Need-returns
+returns : tie.Need-returns-in-Refused
 unfolding head_checks
 returns c =
     rw c.refused_head.ensures
-    (first_left _ _ _ _ (rw c.before.before.whole.given.1 at c.before.before.before.before.check-head-record.ensures))
+    (first_left _ _ _ _ (rw c.before.before.whole-1.given.1 at c.before.before.before.before.check_head_record-whole.ensures))
 
-head-length-requires : tie.Need-head-length-requires
+head-length-requires : tie.Need-head_length-length-requires
 head-length-requires c κs = omega (arith, head_counted _ (whole c))
 
-read-wide-requires : tie.Need-read-wide-requires
+read-wide-requires : tie.Need-read_wide-nodes-requires
 read-wide-requires c κs = omega (arith, head_counted _ (whole c.before))
 
-read-wide-requires-2 : tie.Need-read-wide-requires-2
+read-wide-requires-2 : tie.Need-read_wide-edges-requires
 read-wide-requires-2 c κs = omega (arith, head_counted _ (whole c.before.before))
 
-outer-of-requires : tie.Need-outer-of-requires
+outer-of-requires : tie.Need-outer_of-outer-requires
 outer-of-requires c κs = head_body _ (whole c.before.before.before)
 
-returns-2 : tie.Need-returns-2
+returns-2 : tie.Need-returns
 unfolding head_checks
 returns-2 c =
     let outer = c.before in
     let edges = outer.before in
     let nodes = edges.before in
     let length = nodes.before in
-    head_told _ _ c.check-numbers.result
-    (judged_right _ _ c.check-numbers.result (whole length.before)
-    (rw (nodes.read_wide.ensures, edges.read-wide2.ensures, outer.outer-of.ensures) at c.check-numbers.ensures))
+    head_told _ _ c.check_numbers-verdict.result
+    (judged_right _ _ c.check_numbers-verdict.result (whole length.before)
+    (rw (nodes.read_wide-nodes.ensures, edges.read_wide-edges.ensures, outer.outer_of-outer.ensures) at c.check_numbers-verdict.ensures))
     (record {
-      length_is = length.head-length.ensures.0;
-      nodes_are = nodes.read_wide.ensures;
-      edges_are = edges.read-wide2.ensures;
-      outer_is = outer.outer-of.ensures;
+      length_is = length.head_length-length.ensures.0;
+      nodes_are = nodes.read_wide-nodes.ensures;
+      edges_are = edges.read_wide-edges.ensures;
+      outer_is = outer.outer_of-outer.ensures;
     })
 
-pub read-head-spec : {M : Type 1} → statement M
-read-head-spec =
+pub read_head_spec : {M : Type 1} → statement M
+read_head_spec =
     tie.close
     (tie.spec
     (λ c κs. search rules)

@@ -15,52 +15,52 @@ use Rattle.rotations.proofs.check_flat.Tie as tie
 abbrev mapAt : tie.Start → Map
 mapAt c = map_of c.args.nodes c.args.edges c.args.tails.now c.args.rotations.now
 
-number-faces-requires : tie.Need-number-faces-requires
+number-faces-requires : tie.Need-number_faces-faces-requires
 number-faces-requires c κs =
     let p = c.before.before.before.requires in
     (p.0, p.2, p.3, p.4, step_permutes p.5)
 
 -- ── the faces are numbered ──
-abbrev begun : tie.After-number-faces → tie.Start
+abbrev begun : tie.After-number_faces-faces → tie.Start
 begun c = c.before.before.before.before
 
-counted : (c : tie.After-number-faces) → c.number-faces.result ≡ faces (mapAt (begun c))
-counted c = faces_are (mapAt (begun c)) c.number-faces.ensures.3
+counted : (c : tie.After-number_faces-faces) → c.number_faces-faces.result ≡ faces (mapAt (begun c))
+counted c = faces_are (mapAt (begun c)) c.number_faces-faces.ensures.3
 
-add-if1 : tie.Need-overflow-add-if1
+add-if1 : tie.Need-overflow_add-nodes
 add-if1 c = let p = (begun c).requires in omega (arith, p.0, p.1, counted c, faces_le (mapAt (begun c)))
 
-mul-if1 : tie.Need-overflow-mul-if1
+mul-if1 : tie.Need-overflow_mul-parts
 mul-if1 c = let p = (begun c).requires in omega (arith, p.0, p.6)
 
-add-if1-2 : tie.Need-overflow-add-if1-2
+add-if1-2 : tie.Need-overflow_add-edges
 add-if1-2 c = let p = (begun c).requires in omega (arith, p.0, p.6)
 
-returns : tie.Need-returns
+returns : tie.Need-returns-then-nodes-faces
 returns c =
     let n = c.before.before in
     let s = begun n in
     let σ = s.pre.5 in
-    let e = n.number-faces.ensures in
-    let far = refused_12 (mapAt s) (no_rotation_fault σ) (no_node_fault σ) σ s.pre.7.1 (counted n) c.before.if1.true in
+    let e = n.number_faces-faces.ensures in
+    let far = refused_12 (mapAt s) (no_rotation_fault σ) (no_node_fault σ) σ s.pre.7.1 (counted n) c.before.if-nodes-faces.true in
     (e.0, e.1, e.2, rw c.refused.ensures far, rw c.refused.ensures tt)
 
-returns-2 : tie.Need-returns-2
+returns-2 : tie.Need-returns
 returns-2 c =
     let n = c.before in
     let s = begun n in
     let σ = s.pre.5 in
-    let e = n.number-faces.ensures in (
+    let e = n.number_faces-faces.ensures in (
       e.0,
       e.1,
       e.2,
       (
-        none_refused (mapAt s) (no_rotation_fault σ) (no_node_fault σ) σ s.pre.7.1 (counted n) c.if1.false,
+        none_refused (mapAt s) (no_rotation_fault σ) (no_node_fault σ) σ s.pre.7.1 (counted n) c.if-nodes-faces.false,
         lefts_are (mapAt s) e.4,
         counted n,
       ),
       (refl, e.5, e.6),
     )
 
-pub check-flat-spec : {M : Type 1} → statement M
-check-flat-spec = tie.close (tie.spec number-faces-requires add-if1 mul-if1 add-if1-2 (λ c κs. search rules) returns returns-2)
+pub check_flat_spec : {M : Type 1} → statement M
+check_flat_spec = tie.close (tie.spec number-faces-requires add-if1 mul-if1 add-if1-2 (λ c κs. search rules) returns returns-2)

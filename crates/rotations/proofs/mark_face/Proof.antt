@@ -16,76 +16,76 @@ use Rattle.rotations.proofs.Laying.{Laying, laying_none, laying_on, laying_end, 
 use Rattle.rotations.proofs.mark_face.Statement.{statement}
 use Rattle.rotations.proofs.mark_face.Tie as tie
 
-abbrev invariant-loop : tie.invariant-loop
+abbrev invariant-loop : tie.invariant-loop-x
 invariant-loop rotations edges start number lefts₀ grouped₀ end x₀ begin₀ lefts grouped x begin =
     (length lefts ≡ 1024) × (length grouped ≡ 1024) × Markable (2 * edges) (step_of rotations) (at lefts₀) start number
     × ((k : ℕ) × Walking (step_of rotations) (at lefts₀) (at lefts) start number k x × Laying (step_of rotations) (at grouped₀) (at grouped) start end k begin)
     × (begin ≡ holding unmarked (2 * edges) (at lefts)) × (begin ≤ 2 * edges)
 
-abbrev decreases-loop : tie.decreases-loop
+abbrev decreases-loop : tie.decreases-loop-x
 decreases-loop rotations edges start number lefts₀ grouped₀ end x₀ begin₀ lefts grouped x begin = holding unmarked (2 * edges) (at lefts)
 
-loop-holds : tie.Need-loop-init invariant-loop decreases-loop
+loop-holds : tie.Need-loop-x-init invariant-loop decreases-loop
 loop-holds c = (c.requires.0, c.requires.1, c.requires.2, (0, set_off _ _ _ _, laying_none _ _ _ _), c.requires.3, c.requires.4)
 
 -- ── in the loop ──
-below : (c : tie.At-loop invariant-loop decreases-loop) → c.loop.x < 2 * c.before.args.edges
-below c = let i = c.loop.invariant in still_in i.2 i.3.1
+below : (c : tie.At-loop-x invariant-loop decreases-loop) → c.loop-x.x < 2 * c.before.args.edges
+below c = let i = c.loop-x.invariant in still_in i.2 i.3.1
 
 -- a place is left for it
-some : (c : tie.At-loop invariant-loop decreases-loop) → 0 < c.loop.begin
-some c = let o = c.loop in let i = o.invariant in omega (arith, fewer o.lefts i.0 i.2 i.3.1, i.4)
+some : (c : tie.At-loop-x invariant-loop decreases-loop) → 0 < c.loop-x.begin
+some c = let o = c.loop-x in let i = o.invariant in omega (arith, fewer o.lefts i.0 i.2 i.3.1, i.4)
 
-mul-lefts : tie.Need-overflow-mul-lefts invariant-loop decreases-loop
-mul-lefts c = omega (arith, below c, c.loop.invariant.2.few)
+mul-lefts : tie.Need-offset_bounds-lefts-x invariant-loop decreases-loop
+mul-lefts c = omega (arith, below c, c.loop-x.invariant.2.few)
 
-element-write-lefts : tie.Need-element-write-lefts invariant-loop decreases-loop
-element-write-lefts c = omega (arith, below c, c.loop.invariant.2.few, c.loop.invariant.0)
+element-write-lefts : tie.Need-bounds-lefts-x invariant-loop decreases-loop
+element-write-lefts c = omega (arith, below c, c.loop-x.invariant.2.few, c.loop-x.invariant.0)
 
-reverse-requires : tie.Need-reverse-requires invariant-loop decreases-loop
-reverse-requires c κs = omega (arith, below c, c.loop.invariant.2.few)
+reverse-requires : tie.Need-reverse-back-requires invariant-loop decreases-loop
+reverse-requires c κs = omega (arith, below c, c.loop-x.invariant.2.few)
 
-back_below : (c : tie.After-reverse invariant-loop decreases-loop) → c.reverse.result < 2 * c.before.before.args.edges
-back_below c = let l = c.before in omega (arith, c.reverse.ensures.0, rev_in l.before.args.edges l.loop.x (below l))
+back_below : (c : tie.After-reverse-back invariant-loop decreases-loop) → c.reverse-back.result < 2 * c.before.before.args.edges
+back_below c = let l = c.before in omega (arith, c.reverse-back.ensures.0, rev_in l.before.args.edges l.loop-x.x (below l))
 
-sub-begin : tie.Need-overflow-sub-begin invariant-loop decreases-loop
+sub-begin : tie.Need-overflow_sub-begin invariant-loop decreases-loop
 sub-begin c = omega (arith, some c.before)
 
 narrow-requires : tie.Need-narrow-requires invariant-loop decreases-loop
-narrow-requires c κs = omega (arith, back_below c, c.before.loop.invariant.2.few)
+narrow-requires c κs = omega (arith, back_below c, c.before.loop-x.invariant.2.few)
 
-abbrev at-loop : tie.After-narrow invariant-loop decreases-loop → tie.At-loop invariant-loop decreases-loop
+abbrev at-loop : tie.After-narrow invariant-loop decreases-loop → tie.At-loop-x invariant-loop decreases-loop
 at-loop c = c.before.before
 
-mul-grouped : tie.Need-overflow-mul-grouped invariant-loop decreases-loop
+mul-grouped : tie.Need-offset_bounds-grouped-begin invariant-loop decreases-loop
 mul-grouped c = omega (arith, (at-loop c).loop.invariant.5, (at-loop c).loop.invariant.2.few)
 
-element-write-grouped : tie.Need-element-write-grouped invariant-loop decreases-loop
+element-write-grouped : tie.Need-bounds-grouped-begin invariant-loop decreases-loop
 element-write-grouped c = omega (arith, some (at-loop c), (at-loop c).loop.invariant.5, (at-loop c).loop.invariant.2.few, (at-loop c).loop.invariant.1)
 
-mul_wide : tie.Need-overflow-mul-wide invariant-loop decreases-loop
+mul_wide : tie.Need-offset_bounds-rotations-back invariant-loop decreases-loop
 mul_wide c = omega (arith, back_below c.before, (at-loop c).loop.invariant.2.few)
 
-element-copy-out-wide : tie.Need-element-copy-out-wide invariant-loop decreases-loop
+element-copy-out-wide : tie.Need-bounds-rotations-back invariant-loop decreases-loop
 element-copy-out-wide c = omega (arith, back_below c.before, (at-loop c).loop.invariant.2.few)
 
 -- ── the dart is marked, and the walk has stepped on ──
-abbrev laid : tie.After-wide invariant-loop decreases-loop → tie.After-narrow invariant-loop decreases-loop
+abbrev laid : tie.After-wide-x invariant-loop decreases-loop → tie.After-narrow invariant-loop decreases-loop
 laid c = c.before.before
 
-abbrev over : tie.After-wide invariant-loop decreases-loop → tie.At-loop invariant-loop decreases-loop
+abbrev over : tie.After-wide-x invariant-loop decreases-loop → tie.At-loop-x invariant-loop decreases-loop
 over c = at-loop (laid c)
 
-stepped : (c : tie.After-wide invariant-loop decreases-loop) → c.wide.result ≡ step_of (over c).before.args.rotations.now (over c).loop.x
-stepped c = c.wide.ensures ∙ ap (at (over c).before.args.rotations.now) (laid c).before.reverse.ensures.0
+stepped : (c : tie.After-wide-x invariant-loop decreases-loop) → c.wide-x.result ≡ step_of (over c).before.args.rotations.now (over c).loop.x
+stepped c = c.wide-x.ensures ∙ ap (at (over c).before.args.rotations.now) (laid c).before.reverse-back.ensures.0
 
-long : (c : tie.After-wide invariant-loop decreases-loop) → length (set (over c).loop.lefts (over c).loop.x (over c).before.args.number) ≡ 1024
+long : (c : tie.After-wide-x invariant-loop decreases-loop) → length (set (over c).loop.lefts (over c).loop.x (over c).before.args.number) ≡ 1024
 long c = let o = (over c).loop in length-set o.lefts o.x (over c).before.args.number ∙ o.inv.0
 
-long-grouped : (c : tie.After-wide invariant-loop decreases-loop) → length (set (over c).loop.grouped ((over c).loop.begin - 1) (laid c).narrow.result) ≡ 1024
+long-grouped : (c : tie.After-wide-x invariant-loop decreases-loop) → length (set (over c).loop.grouped ((over c).loop.begin - 1) (laid c).narrow.result) ≡ 1024
 long-grouped c = let o = (over c).loop in length-set o.grouped (o.begin - 1) (laid c).narrow.result ∙ o.inv.1
 
-one_more : (c : tie.After-wide invariant-loop decreases-loop) → let o = (over c).loop in let a = (over c).before.args in
+one_more : (c : tie.After-wide-x invariant-loop decreases-loop) → let o = (over c).loop in let a = (over c).before.args in
     Laying (step_of a.rotations.now) (at a.grouped.now) (at (set o.grouped (o.begin - 1) (laid c).narrow.result)) a.start a.end
     (suc o.inv.3.0) (o.begin - 1)
 one_more c =
@@ -93,24 +93,24 @@ one_more c =
     let n = (laid c).narrow in
     laying_on o.inv.3.2 (at (set o.grouped (o.begin - 1) n.result)) (omega (arith, some (over c))) o.inv.3.1.trail.here
     (get_or-set_same o.grouped (o.begin - 1) n.result 0 (omega (arith, some (over c), o.inv.5, o.inv.2.few, o.inv.1))
-    ∙ n.ensures ∙ (laid c).before.reverse.ensures.0)
+    ∙ n.ensures ∙ (laid c).before.reverse-back.ensures.0)
     (λ i h. get_or-set_other o.grouped (o.begin - 1) i n.result 0 h)
 
-counted : (c : tie.After-wide invariant-loop decreases-loop) → let o = (over c).loop in let a = (over c).before.args in
+counted : (c : tie.After-wide-x invariant-loop decreases-loop) → let o = (over c).loop in let a = (over c).before.args in
     o.begin - 1 ≡ holding unmarked (2 * a.edges) (at (set o.lefts o.x a.number))
 counted c = let o = (over c).loop in let i = o.inv in omega (arith, fewer o.lefts i.0 i.2 i.3.1, i.4)
 
-loop-less : tie.Need-loop-smaller invariant-loop decreases-loop
+loop-less : tie.Need-loop-x-smaller invariant-loop decreases-loop
 loop-less c = let o = (over c.before).loop in let i = o.inv in omega (arith, fewer o.lefts i.0 i.2 i.3.1)
 
-loop-again : tie.Need-loop-preserved invariant-loop decreases-loop
+loop-again : tie.Need-loop-x-preserved invariant-loop decreases-loop
 loop-again c =
     let w = c.before in
     let o = (over w).loop in
     let i = o.inv in
     let a = (over w).before.args in
     let at_x = stepped w in
-    let on = walk_on o.lefts i.0 i.2 i.3.1 (λ e. c.if1.false (at_x ∙ e)) in (
+    let on = walk_on o.lefts i.0 i.2 i.3.1 (λ e. c.if-x-start.false (at_x ∙ e)) in (
       long w,
       long-grouped w,
       i.2,
@@ -129,7 +129,7 @@ returns c =
     let w = c.before in
     let o = (over w).loop in
     let i = o.inv in
-    let back = sym (stepped w) ∙ c.if1.true in
+    let back = sym (stepped w) ∙ c.if-x-start.true in
     let round = walk_round o.lefts i.0 i.2 i.3.1 back in (
       long w,
       long-grouped w,
@@ -139,8 +139,8 @@ returns c =
       laying_rounded (one_more w) round i.3.1.away,
     )
 
-pub mark-face-spec : {M : Type 1} → statement M
-mark-face-spec =
+pub mark_face_spec : {M : Type 1} → statement M
+mark_face_spec =
     tie.close
     (tie.spec
     invariant-loop

@@ -12,50 +12,50 @@ use Rattle.rotations.proofs.Trail.{Walking, set_off, still_in, walk_on, walk_end
 use Rattle.rotations.proofs.mark_orbit.Statement.{statement}
 use Rattle.rotations.proofs.mark_orbit.Tie as tie
 
-abbrev invariant-loop : tie.invariant-loop
+abbrev invariant-loop : tie.invariant-loop-x
 invariant-loop next n start number label₀ x₀ label x =
     (length label ≡ 1024) × Markable n (at next) (at label₀) start number × ((k : ℕ) × Walking (at next) (at label₀) (at label) start number k x)
 
-abbrev decreases-loop : tie.decreases-loop
+abbrev decreases-loop : tie.decreases-loop-x
 decreases-loop next n start number label₀ x₀ label x = holding unmarked n (at label)
 
-loop-holds : tie.Need-loop-init invariant-loop decreases-loop
+loop-holds : tie.Need-loop-x-init invariant-loop decreases-loop
 loop-holds c = (c.requires.0, c.requires.1, (0, set_off _ _ _ _))
 
 -- ── in the loop ──
-below : (l : tie.At-loop invariant-loop decreases-loop) → l.loop.x < l.before.args.n
-below l = let i = l.loop.invariant in still_in i.1 i.2.1
+below : (l : tie.At-loop-x invariant-loop decreases-loop) → l.loop-x.x < l.before.args.n
+below l = let i = l.loop-x.invariant in still_in i.1 i.2.1
 
-mul-label : tie.Need-overflow-mul-label invariant-loop decreases-loop
-mul-label c = omega (arith, below c, c.loop.invariant.1.few)
+mul-label : tie.Need-offset_bounds-label-x invariant-loop decreases-loop
+mul-label c = omega (arith, below c, c.loop-x.invariant.1.few)
 
-element-write-label : tie.Need-element-write-label invariant-loop decreases-loop
-element-write-label c = omega (arith, below c, c.loop.invariant.1.few)
+element-write-label : tie.Need-bounds-label-x invariant-loop decreases-loop
+element-write-label c = omega (arith, below c, c.loop-x.invariant.1.few)
 
-mul_wide : tie.Need-overflow-mul-wide invariant-loop decreases-loop
-mul_wide c = omega (arith, below c, c.loop.invariant.1.few)
+mul_wide : tie.Need-offset_bounds-next-x invariant-loop decreases-loop
+mul_wide c = omega (arith, below c, c.loop-x.invariant.1.few)
 
-element-copy-out-wide : tie.Need-element-copy-out-wide invariant-loop decreases-loop
-element-copy-out-wide c = omega (arith, below c, c.loop.invariant.1.few)
+element-copy-out-wide : tie.Need-bounds-next-x invariant-loop decreases-loop
+element-copy-out-wide c = omega (arith, below c, c.loop-x.invariant.1.few)
 
 -- ── the place is marked, and the walk has stepped on ──
-abbrev over : tie.After-wide invariant-loop decreases-loop → tie.At-loop invariant-loop decreases-loop
+abbrev over : tie.After-wide-x invariant-loop decreases-loop → tie.At-loop-x invariant-loop decreases-loop
 over c = c.before.before
 
-long : (c : tie.After-wide invariant-loop decreases-loop) → length (set (over c).loop.label (over c).loop.x (over c).before.args.number) ≡ 1024
+long : (c : tie.After-wide-x invariant-loop decreases-loop) → length (set (over c).loop.label (over c).loop.x (over c).before.args.number) ≡ 1024
 long c = let o = (over c).loop in length-set o.label o.x (over c).before.args.number ∙ o.inv.0
 
-loop-less : tie.Need-loop-smaller invariant-loop decreases-loop
+loop-less : tie.Need-loop-x-smaller invariant-loop decreases-loop
 loop-less c = let o = (over c.before).loop in let i = o.inv in omega (arith, fewer o.label i.0 i.1 i.2.1)
 
-loop-again : tie.Need-loop-preserved invariant-loop decreases-loop
+loop-again : tie.Need-loop-x-preserved invariant-loop decreases-loop
 loop-again c =
     let w = c.before in
     let o = (over w).loop in
     let i = o.inv in
     let a = (over w).before.args in
-    let at_x = w.wide.ensures in
-    let on = walk_on o.label i.0 i.1 i.2.1 (λ e. c.if1.false (at_x ∙ e)) in (
+    let at_x = w.wide-x.ensures in
+    let on = walk_on o.label i.0 i.1 i.2.1 (λ e. c.if-x-start.false (at_x ∙ e)) in (
       long w,
       i.1,
       (
@@ -69,10 +69,10 @@ returns c =
     let w = c.before in
     let o = (over w).loop in
     let i = o.inv in
-    (long w, walk_end o.label i.0 i.1 i.2.1 (sym w.wide.ensures ∙ c.if1.true))
+    (long w, walk_end o.label i.0 i.1 i.2.1 (sym w.wide-x.ensures ∙ c.if-x-start.true))
 
-pub mark-orbit-spec : {M : Type 1} → statement M
-mark-orbit-spec =
+pub mark_orbit_spec : {M : Type 1} → statement M
+mark_orbit_spec =
     tie.close
     (tie.spec
     invariant-loop

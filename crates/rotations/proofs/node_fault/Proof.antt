@@ -11,15 +11,15 @@ use Rattle.refusals.proofs.Decisions.{decides_by}
 use Rattle.rotations.proofs.node_fault.Statement.{statement}
 use Rattle.rotations.proofs.node_fault.Tie as tie
 
-number-orbits-requires : tie.Need-number-orbits-requires
+number-orbits-requires : tie.Need-number_orbits-requires
 number-orbits-requires c κs =
     let p = c.before.requires in
     (p.4, omega (arith, p.0), rotation_permutes p.2 p.3)
 
-enter-all-requires : tie.Need-enter-all-requires
+enter-all-requires : tie.Need-enter_all-requires
 enter-all-requires c κs =
     let p = c.before.before.before.before.before.requires in
-    let n = c.before.before.before.number-orbits.ensures in (
+    let n = c.before.before.before.number_orbits.ensures in (
       omega (arith, p.0),
       length-replicate {A = ℕ} 1024 0,
       zeros,
@@ -27,25 +27,25 @@ enter-all-requires c κs =
       (λ d l. omega (arith, n.2 d l, number_small (omega (arith, p.0)) (rotation_permutes p.2 p.3) d l)),
     )
 
-returns : tie.Need-returns
+returns : tie.Need-returns-then-enter_all
 returns c =
     let p = c.before.before.before.before.before.before.before.requires in
-    let n = c.before.before.before.before.before.number-orbits.ensures in
-    let e = c.before.enter-all.ensures in
-    (two_rounds p.2 (rotation_permutes p.2 p.3) n.2 (rw c.if1.true at e.1), n.0, e.0)
+    let n = c.before.before.before.before.before.number_orbits.ensures in
+    let e = c.before.enter_all.ensures in
+    (two_rounds p.2 (rotation_permutes p.2 p.3) n.2 (rw c.if-enter_all.true at e.1), n.0, e.0)
 
-returns-2 : tie.Need-returns-2
+returns-2 : tie.Need-returns
 returns-2 c =
     let p = c.before.before.before.before.before.before.before.before.before.requires in
-    let n = c.before.before.before.before.before.before.before.number-orbits.ensures in
-    let e = c.before.before.before.enter-all.ensures in
+    let n = c.before.before.before.before.before.before.before.number_orbits.ensures in
+    let e = c.before.before.before.enter_all.ensures in
     let π = rotation_permutes p.2 p.3 in
     let rounds = n.2 in
-    let ρ = rw c.before.before.if1.false at e.1 in
-    (decides_by c.some-empty.result (no_dart p.2 π rounds ρ) (nodes_good p.2 π rounds ρ) c.some-empty.ensures, n.0, e.0)
+    let ρ = rw c.before.before.if-enter_all.false at e.1 in
+    (decides_by c.some_empty.result (no_dart p.2 π rounds ρ) (nodes_good p.2 π rounds ρ) c.some_empty.ensures, n.0, e.0)
 
-pub node-fault-spec : {M : Type 1} → statement M
-node-fault-spec =
+pub node_fault_spec : {M : Type 1} → statement M
+node_fault_spec =
     tie.close
     (tie.spec
     (λ c. search rules)

@@ -20,14 +20,14 @@ use Rattle.rotations.proofs.Grouping.{Grouping, grouping_none, grouping_on, grou
 use Rattle.rotations.proofs.number_faces.Statement.{statement}
 use Rattle.rotations.proofs.number_faces.Tie as tie
 
-abbrev invariant-loop : tie.invariant-loop
+abbrev invariant-loop : tie.invariant-loop-free
 invariant-loop rotations edges lefts₀ grouped₀ starts₀ darts f₀ free₀ next₀ lefts grouped starts f free next =
     (length lefts ≡ 1024) × (length grouped ≡ 1024) × (length starts ≡ 1024)
     × Numbering (2 * edges) (step_of rotations) (at lefts) next f × Grouping edges (at lefts) (at grouped) (at starts) f free
     × (free ≡ holding unmarked (2 * edges) (at lefts))
     × Rounding (2 * edges) (step_of rotations) (at grouped) (at starts) f free
 
-abbrev decreases-loop : tie.decreases-loop
+abbrev decreases-loop : tie.decreases-loop-free
 decreases-loop rotations edges lefts₀ grouped₀ starts₀ darts f₀ free₀ next₀ lefts grouped starts f free next = 2 * edges - next
 
 few : (c : tie.Start invariant-loop decreases-loop) → 2 * c.args.edges ≤ 1024
@@ -36,14 +36,14 @@ few c = omega (arith, c.requires.0)
 none_yet : (n : ℕ) (g : ℕ → ℕ) → ((y : ℕ) → y < n → g y ≡ unmarked) → n ≡ holding unmarked n g
 none_yet n g h = omega (arith, holding_all unmarked n g h)
 
-unmark-all-requires : tie.Need-unmark-all-requires invariant-loop decreases-loop
+unmark-all-requires : tie.Need-unmark_all-requires invariant-loop decreases-loop
 unmark-all-requires c κs = c.before.requires.1
 
-loop-holds : tie.Need-loop-init invariant-loop decreases-loop
+loop-holds : tie.Need-loop-free-init invariant-loop decreases-loop
 loop-holds c =
     let s = c.before.before in
     let p = s.requires in
-    let e = c.unmark-all.ensures in (
+    let e = c.unmark_all.ensures in (
       e.0,
       p.2,
       p.3,
@@ -54,63 +54,63 @@ loop-holds c =
     )
 
 -- ── in the loop ──
-abbrev start : tie.At-loop invariant-loop decreases-loop → tie.Start invariant-loop decreases-loop
+abbrev start : tie.At-loop-free invariant-loop decreases-loop → tie.Start invariant-loop decreases-loop
 start l = l.before.before.before
 
-abbrev begun : tie.In-loop invariant-loop decreases-loop → tie.Start invariant-loop decreases-loop
+abbrev begun : tie.In-loop-free invariant-loop decreases-loop → tie.Start invariant-loop decreases-loop
 begun c = start c.before
 
 -- some dart has no number, so there is a next one
-next-in : (c : tie.In-loop invariant-loop decreases-loop) → c.before.loop.next < 2 * (begun c).args.edges
-next-in c = go (dec_lt c.before.loop.next (2 * (begun c).args.edges))
+next-in : (c : tie.In-loop-free invariant-loop decreases-loop) → c.before.loop-free.next < 2 * (begun c).args.edges
+next-in c = go (dec_lt c.before.loop-free.next (2 * (begun c).args.edges))
   where
-    none : 2 * (begun c).args.edges ≤ c.before.loop.next → holding unmarked (2 * (begun c).args.edges) (at c.before.loop.lefts) ≡ 0
+    none : 2 * (begun c).args.edges ≤ c.before.loop-free.next → holding unmarked (2 * (begun c).args.edges) (at c.before.loop-free.lefts) ≡ 0
     none m =
         let s = begun c in
-        let i = c.before.loop.invariant in
+        let i = c.before.loop-free.invariant in
         let done = numbering_end (few s) s.pre.4 i.3 (omega (arith, i.3.upto, m)) in
         holding_none unmarked _ _ (λ y l e. omega (arith, done.1 y l, number_small (few s) s.pre.4 y l, e))
 
-    go : Dec (c.before.loop.next < 2 * (begun c).args.edges) → c.before.loop.next < 2 * (begun c).args.edges
+    go : Dec (c.before.loop-free.next < 2 * (begun c).args.edges) → c.before.loop-free.next < 2 * (begun c).args.edges
     go (yes l) = l
-    go (no l) = absurd (omega (arith, c.loop-test.true, c.before.loop.invariant.5, none (omega (arith, l))))
+    go (no l) = absurd (omega (arith, c.loop-free-test.true, c.before.loop-free.invariant.5, none (omega (arith, l))))
 
-add-next : tie.Need-overflow-add-next invariant-loop decreases-loop
+add-next : tie.Need-overflow_add-next invariant-loop decreases-loop
 add-next c = omega (arith, few (begun c), next-in c)
 
-mul-if1 : tie.Need-overflow-mul-if1 invariant-loop decreases-loop
+mul-if1 : tie.Need-offset_bounds-lefts-d invariant-loop decreases-loop
 mul-if1 c = omega (arith, few (begun c), next-in c)
 
-element-copy-out-if1 : tie.Need-element-copy-out-if1 invariant-loop decreases-loop
-element-copy-out-if1 c = omega (arith, few (begun c), next-in c, c.before.loop.invariant.0)
+element-copy-out-if1 : tie.Need-bounds-lefts-d invariant-loop decreases-loop
+element-copy-out-if1 c = omega (arith, few (begun c), next-in c, c.before.loop-free.invariant.0)
 
-abbrev turn : tie.Then1 invariant-loop decreases-loop → tie.In-loop invariant-loop decreases-loop
+abbrev turn : tie.Then-lefts-d invariant-loop decreases-loop → tie.In-loop-free invariant-loop decreases-loop
 turn c = c.before.before
 
 -- the next number fits the arrays
-number_below : (c : tie.Then1 invariant-loop decreases-loop) → (turn c).before.loop.f < 1024
+number_below : (c : tie.Then-lefts-d invariant-loop decreases-loop) → (turn c).before.loop-free.f < 1024
 number_below c =
     let t = turn c in
     let s = begun t in
-    omega (arith, few s, used_few (few s) s.pre.4 t.before.loop.inv.3, next-in t)
+    omega (arith, few s, used_few (few s) s.pre.4 t.before.loop-free.inv.3, next-in t)
 
 narrow-requires : tie.Need-narrow-requires invariant-loop decreases-loop
 narrow-requires c κs = omega (arith, number_below c)
 
 -- the face may be numbered
-abbrev free : tie.After-narrow invariant-loop decreases-loop → tie.Then1 invariant-loop decreases-loop
+abbrev free : tie.After-narrow invariant-loop decreases-loop → tie.Then-lefts-d invariant-loop decreases-loop
 free c = c.before
 
-face : (c : tie.Then1 invariant-loop decreases-loop) → let t = turn c in let o = t.before.loop in
+face : (c : tie.Then-lefts-d invariant-loop decreases-loop) → let t = turn c in let o = t.before.loop-free in
     Markable (2 * (begun t).args.edges) (step_of (begun t).args.rotations.now) (at o.lefts) o.next o.f
-face c = let t = turn c in let s = begun t in markable (few s) s.pre.4 t.before.loop.inv.3 (next-in t) c.if1.true
+face c = let t = turn c in let s = begun t in markable (few s) s.pre.4 t.before.loop-free.inv.3 (next-in t) c.if-lefts-d.true
 
-mark-face-requires : tie.Need-mark-face-requires invariant-loop decreases-loop
+mark-face-requires : tie.Need-mark_face-free-requires invariant-loop decreases-loop
 mark-face-requires c κs =
     let n = c.before.before in
     let b = free n in
     let t = turn b in
-    let o = t.before.loop in
+    let o = t.before.loop-free in
     let a = (begun t).args in (
       o.inv.0,
       o.inv.1,
@@ -120,37 +120,37 @@ mark-face-requires c κs =
     )
 
 -- ── the face is numbered ──
-abbrev numbered : tie.After-mark-face invariant-loop decreases-loop → tie.After-narrow invariant-loop decreases-loop
+abbrev numbered : tie.After-mark_face-free invariant-loop decreases-loop → tie.After-narrow invariant-loop decreases-loop
 numbered c = c.before.before.before
 
-abbrev marking : tie.After-mark-face invariant-loop decreases-loop → tie.Then1 invariant-loop decreases-loop
+abbrev marking : tie.After-mark_face-free invariant-loop decreases-loop → tie.Then-lefts-d invariant-loop decreases-loop
 marking c = free (numbered c)
 
 -- the darts' numbers afterwards
-abbrev lefts-after : tie.After-mark-face invariant-loop decreases-loop → ℕ → ℕ
-lefts-after c = at c.mark-face.new.1.1.1.1.0
+abbrev lefts-after : tie.After-mark_face-free invariant-loop decreases-loop → ℕ → ℕ
+lefts-after c = at c.mark_face-free.new.1.1.1.1.0
 
-laid-below : (c : tie.After-mark-face invariant-loop decreases-loop) → c.mark-face.result ≤ 1024
-laid-below c = let t = turn (marking c) in omega (arith, c.mark-face.ensures.3.some, few (begun t), t.before.loop.inv.4.room)
+laid-below : (c : tie.After-mark_face-free invariant-loop decreases-loop) → c.mark_face-free.result ≤ 1024
+laid-below c = let t = turn (marking c) in omega (arith, c.mark_face-free.ensures.3.some, few (begun t), t.before.loop-free.inv.4.room)
 
-narrow-requires-2 : tie.Need-narrow-requires-2 invariant-loop decreases-loop
+narrow-requires-2 : tie.Need-narrow-requires-then-lefts-d invariant-loop decreases-loop
 narrow-requires-2 c κs = omega (arith, laid-below c)
 
-mul-starts : tie.Need-overflow-mul-starts invariant-loop decreases-loop
+mul-starts : tie.Need-offset_bounds-starts-f invariant-loop decreases-loop
 mul-starts c = omega (arith, number_below (marking c.before))
 
-element-write-starts : tie.Need-element-write-starts invariant-loop decreases-loop
+element-write-starts : tie.Need-bounds-starts-f invariant-loop decreases-loop
 element-write-starts c =
     let b = marking c.before in
-    omega (arith, number_below b, (turn b).before.loop.inv.2)
+    omega (arith, number_below b, (turn b).before.loop-free.inv.2)
 
-add-f : tie.Need-overflow-add-f invariant-loop decreases-loop
+add-f : tie.Need-overflow_add-f invariant-loop decreases-loop
 add-f c = omega (arith, number_below (marking c.before))
 
-loop-less : tie.Need-loop-smaller invariant-loop decreases-loop
+loop-less : tie.Need-loop-free-smaller-then-lefts-d invariant-loop decreases-loop
 loop-less c = omega (arith, next-in (turn (marking c.before)))
 
-loop-again : tie.Need-loop-preserved invariant-loop decreases-loop
+loop-again : tie.Need-loop-free-preserved-then-lefts-d invariant-loop decreases-loop
 loop-again c =
     let m = c.before in
     let n = numbered m in
@@ -158,10 +158,10 @@ loop-again c =
     let t = turn b in
     let s = begun t in
     let a = s.args in
-    let o = t.before.loop in
+    let o = t.before.loop-free in
     let i = o.inv in
-    let e = m.mark-face.ensures in
-    let last = c.narrow2 in
+    let e = m.mark_face-free.ensures in
+    let last = c.narrow-then-lefts-d in
     let marked = subst (Marked (2 * a.edges) (step_of a.rotations.now) (at o.lefts) (lefts-after m) o.next) n.narrow.ensures e.2 in
     let begins = get_or-set_same o.starts o.f last.result 0 (omega (arith, number_below b, i.2)) ∙ last.ensures in
     let starts-kept : (g : ℕ) → g ≢ o.f → at (set o.starts o.f last.result) g ≡ at o.starts g =
@@ -169,36 +169,36 @@ loop-again c =
       e.0,
       e.1,
       length-set o.starts o.f last.result ∙ i.2,
-      mark (few s) s.pre.4 i.3 (next-in t) b.if1.taken marked,
+      mark (few s) s.pre.4 i.3 (next-in t) b.if-lefts-d.taken marked,
       grouping_on i.4 (face b) marked e.3 begins starts-kept,
       e.4,
-      rounding_on i.6 (next-in t) (is-lowest (few s) s.pre.4 i.3 (next-in t) b.if1.taken)
-          (number_is (few s) s.pre.4 i.3 (next-in t) b.if1.taken) e.5 e.3.kept begins starts-kept i.4.low_is,
+      rounding_on i.6 (next-in t) (is-lowest (few s) s.pre.4 i.3 (next-in t) b.if-lefts-d.taken)
+          (number_is (few s) s.pre.4 i.3 (next-in t) b.if-lefts-d.taken) e.5 e.3.kept begins starts-kept i.4.low_is,
     )
 
 -- ── the dart has a number already ──
-abbrev passed : tie.Else1 invariant-loop decreases-loop → tie.In-loop invariant-loop decreases-loop
+abbrev passed : tie.Else-lefts-d invariant-loop decreases-loop → tie.In-loop-free invariant-loop decreases-loop
 passed c = c.before.before
 
-loop-less-2 : tie.Need-loop-smaller-2 invariant-loop decreases-loop
+loop-less-2 : tie.Need-loop-free-smaller invariant-loop decreases-loop
 loop-less-2 c = omega (arith, next-in (passed c))
 
-loop-again-2 : tie.Need-loop-preserved-2 invariant-loop decreases-loop
+loop-again-2 : tie.Need-loop-free-preserved invariant-loop decreases-loop
 loop-again-2 c =
     let t = passed c in
     let s = begun t in
-    let i = t.before.loop.inv in
-    (i.0, i.1, i.2, pass (few s) s.pre.4 i.3 (next-in t) c.if1.false, i.4, i.5, i.6)
+    let i = t.before.loop-free.inv in
+    (i.0, i.1, i.2, pass (few s) s.pre.4 i.3 (next-in t) c.if-lefts-d.false, i.4, i.5, i.6)
 
 -- ── all darts have their numbers ──
 returns : tie.Need-returns invariant-loop decreases-loop
 returns c =
     let s = start c.before in
-    let o = c.before.loop in
+    let o = c.before.loop-free in
     let i = o.invariant in
     let π = s.pre.4 in
     let n = 2 * s.args.edges in
-    let all = none_holds unmarked n (at o.lefts) (omega (arith, i.5, c.loop-test.false)) in
+    let all = none_holds unmarked n (at o.lefts) (omega (arith, i.5, c.loop-free-test.false)) in
     let done = numbering_end (few s) π (pass_all (few s) π (n - o.next) o.next i.3 (omega (arith, i.3.upto)) all) refl in (
       i.0,
       i.1,
@@ -210,8 +210,8 @@ returns c =
       i.6.so_far,
     )
 
-pub number-faces-spec : {M : Type 1} → statement M
-number-faces-spec =
+pub number_faces_spec : {M : Type 1} → statement M
+number_faces_spec =
     tie.close
     (tie.spec
     invariant-loop

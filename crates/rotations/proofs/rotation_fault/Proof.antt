@@ -15,15 +15,15 @@ use Rattle.rotations.proofs.Register.{register_none, register_new, rotation_twic
 use Rattle.rotations.proofs.rotation_fault.Statement.{statement}
 use Rattle.rotations.proofs.rotation_fault.Tie as tie
 
-abbrev invariant-loop : tie.invariant-loop
+abbrev invariant-loop : tie.invariant-loop-d
 invariant-loop tails rotations nodes edges darts origin₀ d₀ origin d =
     (d ≤ 2 * edges) × (length origin ≡ 1024) × Register (at rotations) (λ c. c) (at origin) d
     × ((c : ℕ) → c < d → at tails (at rotations c) ≡ at tails c)
 
-abbrev decreases-loop : tie.decreases-loop
+abbrev decreases-loop : tie.decreases-loop-d
 decreases-loop tails rotations nodes edges darts origin₀ d₀ origin d = 2 * edges - d
 
-loop-holds : tie.Need-loop-init invariant-loop decreases-loop
+loop-holds : tie.Need-loop-d-init invariant-loop decreases-loop
 loop-holds c = (omega arith, length-replicate {A = ℕ} 1024 0, register_none _ _ _ zeros, λ k l. absurd (omega arith))
 
 -- ── the places: where it starts, and where a dart's rotation is read ──
@@ -31,9 +31,9 @@ few : (s : tie.Start invariant-loop decreases-loop) → 2 * s.args.edges ≤ 102
 few s = omega (arith, s.requires.0)
 
 abbrev Read : Type 0
-Read = tie.After-wide invariant-loop decreases-loop
+Read = tie.After-wide-t invariant-loop decreases-loop
 
-abbrev turn : Read → tie.At-loop invariant-loop decreases-loop
+abbrev turn : Read → tie.At-loop-d invariant-loop decreases-loop
 turn c = c.before.before.before
 
 abbrev begun : Read → tie.Start invariant-loop decreases-loop
@@ -45,56 +45,56 @@ mapAt s = let a = s.args in map_of a.nodes a.edges a.tails.now a.rotations.now
 dart-below : (c : Read) → (turn c).loop.d < 2 * (begun c).args.edges
 dart-below c = omega arith
 
-rotation-below : (c : Read) → c.wide.result < 1024
-rotation-below c = let s = begun c in omega (arith, few s, s.pre.1 (turn c).loop.d (dart-below c), c.wide.ensures)
+rotation-below : (c : Read) → c.wide-t.result < 1024
+rotation-below c = let s = begun c in omega (arith, few s, s.pre.1 (turn c).loop.d (dart-below c), c.wide-t.ensures)
 
 -- ── the needs, in the order of the code ──
-mul_wide : tie.Need-overflow-mul-wide invariant-loop decreases-loop
+mul_wide : tie.Need-offset_bounds-rotations-d invariant-loop decreases-loop
 mul_wide c = omega (arith, few c.before.before)
 
-element-copy-out-wide : tie.Need-element-copy-out-wide invariant-loop decreases-loop
+element-copy-out-wide : tie.Need-bounds-rotations-d invariant-loop decreases-loop
 element-copy-out-wide c = omega (arith, few c.before.before)
 
-mul-if1 : tie.Need-overflow-mul-if1 invariant-loop decreases-loop
+mul-if1 : tie.Need-offset_bounds-tails-t invariant-loop decreases-loop
 mul-if1 c = omega (arith, rotation-below c)
 
-element-copy-out-if1 : tie.Need-element-copy-out-if1 invariant-loop decreases-loop
+element-copy-out-if1 : tie.Need-bounds-tails-t invariant-loop decreases-loop
 element-copy-out-if1 c = omega (arith, rotation-below c)
 
-mul-if1-2 : tie.Need-overflow-mul-if1-2 invariant-loop decreases-loop
+mul-if1-2 : tie.Need-offset_bounds-tails-d invariant-loop decreases-loop
 mul-if1-2 c = omega (arith, few (begun c.before), dart-below c.before)
 
-element-copy-out-if1-2 : tie.Need-element-copy-out-if1-2 invariant-loop decreases-loop
+element-copy-out-if1-2 : tie.Need-bounds-tails-d invariant-loop decreases-loop
 element-copy-out-if1-2 c = omega (arith, few (begun c.before), dart-below c.before)
 
 -- it has another tail
-returns : tie.Need-returns invariant-loop decreases-loop
+returns : tie.Need-returns-then-tails-t invariant-loop decreases-loop
 returns c =
     let r = c.before.before.before in
-    inl ((turn r).loop.d, dart-below r, λ e. c.if1.true (ap (at (begun r).args.tails.now) r.wide.ensures ∙ e))
+    inl ((turn r).loop.d, dart-below r, λ e. c.if-tails-t.true (ap (at (begun r).args.tails.now) r.wide-t.ensures ∙ e))
 
 -- ── it has the same tail ──
-abbrev read : tie.Else1 invariant-loop decreases-loop → Read
+abbrev read : tie.Else-tails-t invariant-loop decreases-loop → Read
 read c = c.before.before.before
 
-mul-if2 : tie.Need-overflow-mul-if2 invariant-loop decreases-loop
+mul-if2 : tie.Need-offset_bounds-origin-t invariant-loop decreases-loop
 mul-if2 c = omega (arith, rotation-below (read c))
 
-array-read-if2 : tie.Need-array-read-if2 invariant-loop decreases-loop
+array-read-if2 : tie.Need-bounds-origin-t invariant-loop decreases-loop
 array-read-if2 c = omega (arith, rotation-below (read c))
 
 -- another dart has this rotation
-returns-2 : tie.Need-returns-2 invariant-loop decreases-loop
+returns-2 : tie.Need-returns-then-origin-t-ne0 invariant-loop decreases-loop
 returns-2 c =
     let r = read c.before in
     let o = (turn r).loop in
-    rotation_twice (mapAt (begun r)) o.inv.2 (dart-below r) (λ e. c.if2.true (ap (at o.origin) r.wide.ensures ∙ e))
+    rotation_twice (mapAt (begun r)) o.inv.2 (dart-below r) (λ e. c.if-origin-t-ne0.true (ap (at o.origin) r.wide-t.ensures ∙ e))
 
 -- ── and no other dart has it: it is entered ──
-abbrev alone : tie.Else2 invariant-loop decreases-loop → Read
+abbrev alone : tie.Else-origin-t-ne0 invariant-loop decreases-loop → Read
 alone c = read c.before
 
-add-narrow : tie.Need-overflow-add-narrow invariant-loop decreases-loop
+add-narrow : tie.Need-overflow_add-d invariant-loop decreases-loop
 add-narrow c = omega (arith, few (begun (alone c)), dart-below (alone c))
 
 narrow-requires : tie.Need-narrow-requires invariant-loop decreases-loop
@@ -103,43 +103,43 @@ narrow-requires c κs = omega (arith, few (begun (alone c)), dart-below (alone c
 abbrev entered : tie.After-narrow invariant-loop decreases-loop → Read
 entered c = alone c.before
 
-mul-origin : tie.Need-overflow-mul-origin invariant-loop decreases-loop
+mul-origin : tie.Need-offset_bounds-origin-t-in-loop-d invariant-loop decreases-loop
 mul-origin c = omega (arith, rotation-below (entered c))
 
-array-write-origin : tie.Need-array-write-origin invariant-loop decreases-loop
+array-write-origin : tie.Need-bounds-origin-t-in-loop-d invariant-loop decreases-loop
 array-write-origin c = omega (arith, rotation-below (entered c))
 
-add-d : tie.Need-overflow-add-d invariant-loop decreases-loop
+add-d : tie.Need-overflow_add-d-in-loop-d invariant-loop decreases-loop
 add-d c = omega (arith, few (begun (entered c)), dart-below (entered c))
 
 -- the rotation's tail is the dart's
-same_tail : (c : tie.Else1 invariant-loop decreases-loop) → let r = read c in let a = (begun r).args in
+same_tail : (c : tie.Else-tails-t invariant-loop decreases-loop) → let r = read c in let a = (begun r).args in
     at a.tails.now (at a.rotations.now (turn r).loop.d) ≡ at a.tails.now (turn r).loop.d
-same_tail c = let r = read c in ap (at (begun r).args.tails.now) (sym r.wide.ensures) ∙ c.if1.false
+same_tail c = let r = read c in ap (at (begun r).args.tails.now) (sym r.wide-t.ensures) ∙ c.if-tails-t.false
 
-loop-again : tie.Need-loop-preserved invariant-loop decreases-loop
+loop-again : tie.Need-loop-d-preserved invariant-loop decreases-loop
 loop-again c =
     let r = entered c in
     let o = (turn r).loop in
     let n = c.narrow in
-    let w = r.wide in
+    let w = r.wide-t in
     let l : w.result < length o.origin = omega (arith, rotation-below r, o.inv.1) in (
       omega (arith, dart-below r),
       length-set o.origin w.result n.result ∙ o.inv.1,
-      register_new o.origin w.result n.result o.inv.2 l w.ensures n.ensures c.before.if2.false,
+      register_new o.origin w.result n.result o.inv.2 l w.ensures n.ensures c.before.if-origin-t-ne0.false,
       below_more _ o.d o.inv.3 (same_tail c.before.before),
     )
 
 -- ── all darts are entered ──
-returns-3 : tie.Need-returns-3 invariant-loop decreases-loop
+returns-3 : tie.Need-returns invariant-loop decreases-loop
 returns-3 c =
-    let o = c.before.loop in
+    let o = c.before.loop-d in
     let s = c.before.before in
     let e : o.d ≡ 2 * s.args.edges = omega arith in
     rotation_good (mapAt s) (rw e at o.invariant.2) (rw e at o.invariant.3)
 
-pub rotation-fault-spec : {M : Type 1} → statement M
-rotation-fault-spec =
+pub rotation_fault_spec : {M : Type 1} → statement M
+rotation_fault_spec =
     tie.close
     (tie.spec
     invariant-loop

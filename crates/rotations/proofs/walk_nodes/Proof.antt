@@ -7,7 +7,7 @@ use Rattle.rotations.proofs.Whole.{rounds_sound, unround_unsound, empty_unsound}
 use Rattle.rotations.proofs.walk_nodes.Statement.{statement}
 use Rattle.rotations.proofs.walk_nodes.Tie as tie
 
-spread-rounds-requires : tie.Need-spread-rounds-requires
+spread-rounds-requires : tie.Need-spread_rounds-trees-requires
 spread-rounds-requires c κs =
     let p = c.before.before.before.requires in (
       p.3,
@@ -21,31 +21,31 @@ spread-rounds-requires c κs =
       p.7,
     )
 
-returns : tie.Need-returns
+returns : tie.Need-returns-then-trees-eq0
 returns c =
-    let e = c.before.spread-rounds.ensures in
-    (e.0, e.1, (λ h. absurd (h refl)), (λ z σ. unround_unsound σ (e.4 c.if1.true)), e.2)
+    let e = c.before.spread_rounds-trees.ensures in
+    (e.0, e.1, (λ h. absurd (h refl)), (λ z σ. unround_unsound σ (e.4 c.if-trees-eq0.true)), e.2)
 
-returns-2 : tie.Need-returns-2
+returns-2 : tie.Need-returns-then-some_empty
 returns-2 c =
     let s = c.before.before.before.before in
-    let e = s.spread-rounds.ensures in
-    let g = e.3 c.before.before.before.if1.false in
-    (e.0, e.1, (λ h. absurd (h refl)), (λ z σ. empty_unsound σ g.1 g.2 (said_yes c.before.some-empty.ensures c.if2.true)), e.2)
+    let e = s.spread_rounds-trees.ensures in
+    let g = e.3 c.before.before.before.if-trees-eq0.false in
+    (e.0, e.1, (λ h. absurd (h refl)), (λ z σ. empty_unsound σ g.1 g.2 (said_yes c.before.some_empty.ensures c.if-some_empty.true)), e.2)
 
-returns-3 : tie.Need-returns-3
+returns-3 : tie.Need-returns
 returns-3 c =
     let s = c.before.before.before.before in
     let p = s.before.before.before.before.requires in
-    let e = s.spread-rounds.ensures in (
+    let e = s.spread_rounds-trees.ensures in (
       e.0,
       e.1,
       (λ h.
           let g = e.3 h in
-          (rounds_sound p.5 g.1 g.2 (said_no c.before.some-empty.ensures c.if2.false), g.0, g.3)),
-      (λ z. absurd (c.before.before.before.if1.false z)),
+          (rounds_sound p.5 g.1 g.2 (said_no c.before.some_empty.ensures c.if-some_empty.false), g.0, g.3)),
+      (λ z. absurd (c.before.before.before.if-trees-eq0.false z)),
       e.2,
     )
 
-pub walk-nodes-spec : {M : Type 1} → statement M
-walk-nodes-spec = tie.close (tie.spec (λ c. search rules) spread-rounds-requires returns (λ c κs. search rules) returns-2 returns-3)
+pub walk_nodes_spec : {M : Type 1} → statement M
+walk_nodes_spec = tie.close (tie.spec (λ c. search rules) spread-rounds-requires returns (λ c κs. search rules) returns-2 returns-3)

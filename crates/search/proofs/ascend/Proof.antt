@@ -10,67 +10,67 @@ use Rattle.search.proofs.Rising.{Rising, y_in, last_in, rising_first, rising_roo
 use Rattle.search.proofs.ascend.Statement.{statement}
 use Rattle.search.proofs.ascend.Tie as tie
 
-abbrev invariant-loop : tie.invariant-loop
+abbrev invariant-loop : tie.invariant-loop-darts
 invariant-loop lefts parents darts faces f links₀ y₀ below₀ count₀ links y below count = Rising (right_of lefts) darts faces parents f links₀ links y below count
 
-abbrev decreases-loop : tie.decreases-loop
+abbrev decreases-loop : tie.decreases-loop-darts
 decreases-loop lefts parents darts faces f links₀ y₀ below₀ count₀ links y below count = fresh faces links
 
-loop-holds : tie.Need-loop-init invariant-loop decreases-loop
+loop-holds : tie.Need-loop-darts-init invariant-loop decreases-loop
 loop-holds c = let p = c.requires in rising_first _ _ _ _ _ _ p.0 p.3
 
 abbrev At-loop : Type 0
-At-loop = tie.At-loop invariant-loop decreases-loop
+At-loop = tie.At-loop-darts invariant-loop decreases-loop
 
-small : (c : At-loop) → c.loop.y < 1024
-small c = let p = c.before.requires in omega (arith, y_in _ _ _ _ _ p.2 p.3 c.loop.invariant, p.2)
+small : (c : At-loop) → c.loop-darts.y < 1024
+small c = let p = c.before.requires in omega (arith, y_in _ _ _ _ _ p.2 p.3 c.loop-darts.invariant, p.2)
 
 -- ── it stops ──
-returns : tie.Need-returns invariant-loop decreases-loop
+returns : tie.Need-returns-then-darts-p invariant-loop decreases-loop
 returns c =
     let k = c.before in
     let l = k.before.before in
-    rising_stops _ _ _ _ _ l.before.requires.2 l.before.requires.3 l.loop.invariant (λ h e. omega (arith, c.if1.true, k.wide.ensures))
+    rising_stops _ _ _ _ _ l.before.requires.2 l.before.requires.3 l.loop-darts.invariant (λ h e. omega (arith, c.if-darts-p.true, k.wide-p.ensures))
 
-abbrev at-link : tie.After-if22 invariant-loop decreases-loop → At-loop
+abbrev at-link : tie.After-t14-1 invariant-loop decreases-loop → At-loop
 at-link c = c.before.before.before.before
 
-returns-2 : tie.Need-returns-2 invariant-loop decreases-loop
-returns-2 c = let l = at-link c.before in rising_stops _ _ _ _ _ l.before.pre.2 l.before.pre.3 l.loop.inv (λ h e. c.if2.true e)
+returns-2 : tie.Need-returns-then-links-y-ne1024 invariant-loop decreases-loop
+returns-2 c = let l = at-link c.before in rising_stops _ _ _ _ _ l.before.pre.2 l.before.pre.3 l.loop-darts.inv (λ h e. c.if-links-y-ne1024.true e)
 
 -- ── it goes on ──
 abbrev Onward : Type 0
-Onward = tie.Else2 invariant-loop decreases-loop
+Onward = tie.Else-links-y-ne1024 invariant-loop decreases-loop
 
 abbrev there : Onward → At-loop
 there c = at-link c.before
 
 new : (c : Onward) → at (there c).loop.links (there c).loop.y ≡ 1024
-new c = c.if2.false
+new c = c.if-links-y-ne1024.false
 
-dart_in : (c : Onward) → c.before.before.before.wide.result < (there c).before.args.darts
-dart_in c = omega (arith, c.before.before.if1.false)
+dart_in : (c : Onward) → c.before.before.before.wide-p.result < (there c).before.args.darts
+dart_in c = omega (arith, c.before.before.if-darts-p.false)
 
 below-small : (c : Onward) → (there c).loop.below < 1024
-below-small c = let l = there c in let p = l.before.pre in omega (arith, last_in _ _ _ _ _ p.2 p.3 l.loop.inv, p.2)
+below-small c = let l = there c in let p = l.before.pre in omega (arith, last_in _ _ _ _ _ p.2 p.3 l.loop-darts.inv, p.2)
 
 room : (c : Onward) → (there c).loop.count < 1024
-room c = let l = there c in rising_room _ _ _ _ _ l.before.pre.2 l.before.pre.3 l.loop.inv (new c)
+room c = let l = there c in rising_room _ _ _ _ _ l.before.pre.2 l.before.pre.3 l.loop-darts.inv (new c)
 
-loop-less : tie.Need-loop-smaller invariant-loop decreases-loop
-loop-less c = let l = there c.before in rising_less _ _ _ _ _ l.before.pre.2 l.before.pre.3 l.loop.inv (new c.before)
+loop-less : tie.Need-loop-darts-smaller invariant-loop decreases-loop
+loop-less c = let l = there c.before in rising_less _ _ _ _ _ l.before.pre.2 l.before.pre.3 l.loop-darts.inv (new c.before)
 
-loop-again : tie.Need-loop-preserved invariant-loop decreases-loop
+loop-again : tie.Need-loop-darts-preserved invariant-loop decreases-loop
 loop-again c =
     let k = c.before in
-    let w = k.before.before.before.wide in
+    let w = k.before.before.before.wide-p in
     let l = there k in
-    rising_more _ _ _ _ _ l.before.pre.2 l.before.pre.3 l.loop.inv w.result c.right.result w.ensures
-    (dart_in k) (new k) c.right.ensures
-    (omega (arith, c.right.ensures, l.before.pre.4 w.result (dart_in k)))
+    rising_more _ _ _ _ _ l.before.pre.2 l.before.pre.3 l.loop-darts.inv w.result c.right-y.result w.ensures
+    (dart_in k) (new k) c.right-y.ensures
+    (omega (arith, c.right-y.ensures, l.before.pre.4 w.result (dart_in k)))
 
-pub ascend-spec : {M : Type 1} → statement M
-ascend-spec =
+pub ascend_spec : {M : Type 1} → statement M
+ascend_spec =
     tie.close
     (tie.spec
     invariant-loop

@@ -10,53 +10,53 @@ use Rattle.search.proofs.Beginning.{begun_none, begun_more}
 use Rattle.search.proofs.begin.Statement.{statement}
 use Rattle.search.proofs.begin.Tie as tie
 
-abbrev invariant-loop : tie.invariant-loop
+abbrev invariant-loop : tie.invariant-loop-m
 invariant-loop lefts darts faces potentials₀ parents₀ waiting₀ queue roots taken m₀ potentials parents waiting m =
     ((proposal : List ℕ) (number : ℕ) → Taking lefts darts proposal faces parents₀ number
     → Begun lefts darts faces proposal potentials parents waiting queue m)
     × (m ≤ roots)
 
-abbrev decreases-loop : tie.decreases-loop
+abbrev decreases-loop : tie.decreases-loop-m
 decreases-loop lefts darts faces potentials₀ parents₀ waiting₀ queue roots taken m₀ potentials parents waiting m = roots - m
 
-loop-holds : tie.Need-loop-init invariant-loop decreases-loop
+loop-holds : tie.Need-loop-m-init invariant-loop decreases-loop
 loop-holds c =
     let s = c.before.before in
     let p = s.requires in
     (λ proposal number t. begun_none s.args.queue.now p.0 t.size p.2 p.7 t.taken t.rest p.8, omega arith)
 
-abbrev start : tie.After-wide invariant-loop decreases-loop → tie.Start invariant-loop decreases-loop
+abbrev start : tie.After-wide-f invariant-loop decreases-loop → tie.Start invariant-loop decreases-loop
 start c = c.before.before.before.before.before.before
 
-m-in : (c : tie.In-loop invariant-loop decreases-loop) → c.before.loop.m < 1024
-m-in c = omega (arith, c.loop-test.true, c.before.before.before.before.requires.3)
+m-in : (c : tie.In-loop-m invariant-loop decreases-loop) → c.before.loop-m.m < 1024
+m-in c = omega (arith, c.loop-m-test.true, c.before.before.before.before.requires.3)
 
-root_in : (c : tie.After-wide invariant-loop decreases-loop) → c.wide.result < 1024
-root_in c = omega (arith, c.wide.ensures, (start c).requires.4 c.before.before.before.loop.m c.before.before.loop-test.true)
+root_in : (c : tie.After-wide-f invariant-loop decreases-loop) → c.wide-f.result < 1024
+root_in c = omega (arith, c.wide-f.ensures, (start c).requires.4 c.before.before.before.loop-m.m c.before.before.loop-m-test.true)
 
-loop-again : tie.Need-loop-preserved invariant-loop decreases-loop
+loop-again : tie.Need-loop-m-preserved invariant-loop decreases-loop
 loop-again c = (
   λ proposal number t.
-      begun_more (start c).args.queue.now c.wide.result c.wide.ensures (root_in c) (c.before.before.before.loop.invariant.0 proposal number t),
-  omega (arith, c.before.before.loop-test.true),
+      begun_more (start c).args.queue.now c.wide-f.result c.wide-f.ensures (root_in c) (c.before.before.before.loop-m.invariant.0 proposal number t),
+  omega (arith, c.before.before.loop-m-test.true),
 )
 
 returns : tie.Need-returns invariant-loop decreases-loop
 returns c =
-    let l = c.before.loop in
+    let l = c.before.loop-m in
     let k = c.before.before in
     let s = k.before.before in
-    let e = k.take-proposed.ensures in
-    let all : l.m ≡ s.args.roots = omega (arith, c.loop-test.false, l.invariant.1) in (
+    let e = k.take_proposed-taken.ensures in
+    let all : l.m ≡ s.args.roots = omega (arith, c.loop-m-test.false, l.invariant.1) in (
       subst
           (Begun s.args.lefts.now s.args.darts s.args.faces s.args.parents.now l.potentials l.parents l.waiting
           s.args.queue.now) all
-          (l.invariant.0 s.args.parents.now k.take-proposed.result e),
+          (l.invariant.0 s.args.parents.now k.take_proposed-taken.result e),
       e.counted,
     )
 
-pub begin-spec : {M : Type 1} → statement M
-begin-spec =
+pub begin_spec : {M : Type 1} → statement M
+begin_spec =
     tie.close
     (tie.spec
     invariant-loop
@@ -72,6 +72,6 @@ begin-spec =
     (λ c. root_in c)
     (λ c. root_in c)
     (λ c. record { fits = omega (arith, m-in c.before.before) })
-    (λ c. omega (arith, c.before.before.loop-test.true))
+    (λ c. omega (arith, c.before.before.loop-m-test.true))
     loop-again
     returns)

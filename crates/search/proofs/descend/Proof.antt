@@ -7,23 +7,23 @@ use Rattle.search.proofs.Falling.{Falling, falling_first, falling_on, falling_la
 use Rattle.search.proofs.descend.Statement.{statement}
 use Rattle.search.proofs.descend.Tie as tie
 
-abbrev invariant-loop : tie.invariant-loop
+abbrev invariant-loop : tie.invariant-loop-k
 invariant-loop lefts lengths darts faces f count from links₀ potentials₀ parents₀ waiting₀ queue₀ last k₀ y₀ end₀ links potentials parents waiting queue k y end =
     Falling lefts lengths darts faces (tables_of potentials₀ parents₀ waiting₀ queue₀ last) f count links₀ k y links
     (tables_of potentials parents waiting queue end)
 
-abbrev decreases-loop : tie.decreases-loop
+abbrev decreases-loop : tie.decreases-loop-k
 decreases-loop lefts lengths darts faces f count from links₀ potentials₀ parents₀ waiting₀ queue₀ last k₀ y₀ end₀ links potentials parents waiting queue k y end = k
 
-y-small : (c : tie.In-loop invariant-loop decreases-loop) → c.before.loop.y < 1024
-y-small c = let i = c.before.loop.invariant in omega (arith, face_in i c.loop-test.true, i.sound.few_faces)
+y-small : (c : tie.In-loop-k invariant-loop decreases-loop) → c.before.loop-k.y < 1024
+y-small c = let i = c.before.loop-k.invariant in omega (arith, face_in i c.loop-k-test.true, i.sound.few_faces)
 
-follow-requires : tie.Need-follow-requires invariant-loop decreases-loop
+follow-requires : tie.Need-follow-end-requires invariant-loop decreases-loop
 follow-requires c κs =
     let w = c.before.before.before.before in
     let n = w.before.before in
-    let i = n.before.loop.invariant in
-    let some = n.loop-test.true in
+    let i = n.before.loop-k.invariant in
+    let some = n.loop-k-test.true in
     let r = i.descending.passing in
     let few = i.sound.few_faces in (
       r.size_potentials,
@@ -38,14 +38,14 @@ follow-requires c κs =
       λ has. omega (arith, right_near i some has, length_near i some),
     )
 
-loop-again : tie.Need-loop-preserved invariant-loop decreases-loop
+loop-again : tie.Need-loop-k-preserved invariant-loop decreases-loop
 loop-again c =
     let w = c.before.before.before.before.before in
     let n = w.before.before in
-    falling_on n.before.loop.invariant n.loop-test.true w.wide.result w.wide.ensures c.follow.ensures
+    falling_on n.before.loop-k.invariant n.loop-k-test.true w.wide-below.result w.wide-below.ensures c.follow-end.ensures
 
-pub descend-spec : {M : Type 1} → statement M
-descend-spec =
+pub descend_spec : {M : Type 1} → statement M
+descend_spec =
     tie.close
     (tie.spec
     invariant-loop
@@ -58,6 +58,6 @@ descend-spec =
     (λ c. record { fits = omega (arith, y-small c.before.before) })
     (λ c. y-small c.before.before)
     follow-requires
-    (λ c. omega (arith, c.before.before.before.before.before.before.before.loop-test.true))
+    (λ c. omega (arith, c.before.before.before.before.before.before.before.loop-k-test.true))
     loop-again
-    (λ c. falling_last c.before.loop.invariant (omega (arith, c.loop-test.false))))
+    (λ c. falling_last c.before.loop-k.invariant (omega (arith, c.loop-k-test.false))))

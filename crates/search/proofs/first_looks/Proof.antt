@@ -4,14 +4,14 @@ use Rattle.integers.proofs.Tests.{eqb_true, eqb_false}
 use Rattle.search.proofs.first_looks.Statement.{statement}
 use Rattle.search.proofs.first_looks.Tie as tie
 
-returns : tie.Need-returns
-returns c = rw (eqb_true c.before.args.taken 0 c.if1.true)
+returns : tie.Need-returns-then-taken-eq0
+returns c = rw (eqb_true c.before.args.taken 0 c.if-taken-eq0.true)
 
-returns-2 : tie.Need-returns-2
-returns-2 c = rw (eqb_false c.before.args.taken 0 c.if1.false)
+returns-2 : tie.Need-returns
+returns-2 c = rw (eqb_false c.before.args.taken 0 c.if-taken-eq0.false)
 
-pub first-looks-spec : {M : Type 1} → statement M
-first-looks-spec =
+pub first_looks_spec : {M : Type 1} → statement M
+first_looks_spec =
     tie.close
     (tie.spec
     (λ c. record { fits = omega (arith, c.before.requires) })

@@ -12,15 +12,15 @@ before : (darts : ℕ) (starts : ℕ → ℕ) (f : ℕ) → (f ≡ 0 → ⊥) �
 before darts starts zero h = absurd (h (omega arith))
 before darts starts (suc f) h = let e : f ≡ suc f - 1 = omega arith in ap starts e
 
-returns : tie.Need-returns
-returns c = let s = c.before in sym (ap (end_of s.args.darts (at s.args.starts.now)) c.if1.true)
+returns : tie.Need-returns-then-f-eq0
+returns c = let s = c.before in sym (ap (end_of s.args.darts (at s.args.starts.now)) c.if-f-eq0.true)
 
-returns-2 : tie.Need-returns-2
+returns-2 : tie.Need-returns
 returns-2 c =
     let t = c.before.before in
     let a = t.before.args in
-    c.wide.ensures ∙ sym (before a.darts (at a.starts.now) a.f t.if1.false)
+    c.wide.ensures ∙ sym (before a.darts (at a.starts.now) a.f t.if-f-eq0.false)
 
-pub group-end-spec : {M : Type 1} → statement M
-group-end-spec =
+pub group_end_spec : {M : Type 1} → statement M
+group_end_spec =
     tie.close (tie.spec returns (λ c. search rules) (λ c. search rules) (λ c. search rules) (λ c κs. search rules) returns-2)

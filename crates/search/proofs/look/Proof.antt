@@ -10,12 +10,12 @@ use Rattle.search.proofs.Halfway.{Halfway, look_begins, look_keeps, look_lowers,
 use Rattle.search.proofs.look.Statement.{statement}
 use Rattle.search.proofs.look.Tie as tie
 
-abbrev invariant-loop : tie.invariant-loop
+abbrev invariant-loop : tie.invariant-loop-j
 invariant-loop lefts lengths order starts darts faces potentials₀ parents₀ waiting₀ queue₀ last i j₀ e end₀ potentials parents waiting queue j end =
     Halfway (given lefts lengths order starts darts faces) (tables_of potentials₀ parents₀ waiting₀ queue₀ end₀) i j₀ j
     (tables_of potentials parents waiting queue end)
 
-abbrev decreases-loop : tie.decreases-loop
+abbrev decreases-loop : tie.decreases-loop-j
 decreases-loop lefts lengths order starts darts faces potentials₀ parents₀ waiting₀ queue₀ last i j₀ e end₀ potentials parents waiting queue j end = e - j
 
 -- ── what is given ──
@@ -29,68 +29,68 @@ face_in s = let h = s.requires.0 in looked_in h.sound s.requires.1 h.passing h.f
 face-small : (s : tie.Start invariant-loop decreases-loop) → s.args.i < 1024
 face-small s = omega (arith, face_in s, s.requires.0.sound.few_faces)
 
-element-write-waiting : tie.Need-element-write-waiting invariant-loop decreases-loop
+element-write-waiting : tie.Need-bounds-waiting-i invariant-loop decreases-loop
 element-write-waiting c = face-small c
 
-mul_wide : tie.Need-overflow-mul-wide invariant-loop decreases-loop
+mul_wide : tie.Need-offset_bounds-starts-i invariant-loop decreases-loop
 mul_wide c = record { fits = omega (arith, face-small c) }
 
-element-copy-out-wide : tie.Need-element-copy-out-wide invariant-loop decreases-loop
+element-copy-out-wide : tie.Need-bounds-starts-i invariant-loop decreases-loop
 element-copy-out-wide c = face-small c
 
-group-end-requires : tie.Need-group-end-requires invariant-loop decreases-loop
+group-end-requires : tie.Need-group_end-e-requires invariant-loop decreases-loop
 group-end-requires c κs = face-small c.before.before
 
-loop-holds : tie.Need-loop-init invariant-loop decreases-loop
+loop-holds : tie.Need-loop-j-init invariant-loop decreases-loop
 loop-holds c =
     let s = c.before.before.before in
-    let w = c.before.wide in
+    let w = c.before.wide-j in
     look_begins (givenAt s) s.requires.1 s.args.i w.result s.requires.0 w.ensures
 
 -- ── in the loop ──
-abbrev base : tie.At-loop invariant-loop decreases-loop → tie.Start invariant-loop decreases-loop
+abbrev base : tie.At-loop-j invariant-loop decreases-loop → tie.Start invariant-loop decreases-loop
 base c = c.before.before.before.before
 
-ends_in : (c : tie.In-loop invariant-loop decreases-loop) → c.before.loop.j < 1024
-ends_in c = omega (arith, c.loop-test.true, c.before.before.group-end.ensures, c.before.loop.invariant.trying.end_in)
+ends_in : (c : tie.In-loop-j invariant-loop decreases-loop) → c.before.loop-j.j < 1024
+ends_in c = omega (arith, c.loop-j-test.true, c.before.before.group_end-e.ensures, c.before.loop-j.invariant.trying.end_in)
 
-mul-wide-2 : tie.Need-overflow-mul-wide-2 invariant-loop decreases-loop
+mul-wide-2 : tie.Need-offset_bounds-order-j invariant-loop decreases-loop
 mul-wide-2 c = record { fits = omega (arith, ends_in c) }
 
-element-copy-out-wide-2 : tie.Need-element-copy-out-wide-2 invariant-loop decreases-loop
+element-copy-out-wide-2 : tie.Need-bounds-order-j invariant-loop decreases-loop
 element-copy-out-wide-2 c = ends_in c
 
-add-j : tie.Need-overflow-add-j invariant-loop decreases-loop
+add-j : tie.Need-overflow_add-j invariant-loop decreases-loop
 add-j c = record { fits = omega (arith, ends_in c.before.before) }
 
 -- ── the dart at place j ──
-abbrev looping : tie.After-wide2 invariant-loop decreases-loop → tie.At-loop invariant-loop decreases-loop
+abbrev looping : tie.After-wide-d invariant-loop decreases-loop → tie.At-loop-j invariant-loop decreases-loop
 looping c = c.before.before.before
 
-more : (c : tie.After-wide2 invariant-loop decreases-loop) → (looping c).loop.j < end_at (givenAt (base (looping c))) (base (looping c)).args.i
-more c = omega (arith, c.before.before.loop-test.true, (looping c).before.group-end.ensures)
+more : (c : tie.After-wide-d invariant-loop decreases-loop) → (looping c).loop.j < end_at (givenAt (base (looping c))) (base (looping c)).args.i
+more c = omega (arith, c.before.before.loop-j-test.true, (looping c).before.group_end-e.ensures)
 
-dart_in : (c : tie.After-wide2 invariant-loop decreases-loop) → c.wide2.result < (base (looping c)).args.darts
+dart_in : (c : tie.After-wide-d invariant-loop decreases-loop) → c.wide-d.result < (base (looping c)).args.darts
 dart_in c =
     let h = (looping c).loop.invariant in
-    try_in h.sound (base (looping c)).pre.1 h.trying c.wide2.result (more c) c.wide2.ensures
+    try_in h.sound (base (looping c)).pre.1 h.trying c.wide-d.result (more c) c.wide-d.ensures
 
-dart-small : (c : tie.After-wide2 invariant-loop decreases-loop) → c.wide2.result < 1024
+dart-small : (c : tie.After-wide-d invariant-loop decreases-loop) → c.wide-d.result < 1024
 dart-small c = omega (arith, dart_in c, (looping c).loop.invariant.sound.few_darts)
 
-left_small : (c : tie.After-wide2 invariant-loop decreases-loop) → at (base (looping c)).args.lefts.now c.wide2.result < 1024
+left_small : (c : tie.After-wide-d invariant-loop decreases-loop) → at (base (looping c)).args.lefts.now c.wide-d.result < 1024
 left_small c =
     let h = (looping c).loop.invariant in
-    omega (arith, try_left h.sound (base (looping c)).pre.1 h.trying c.wide2.result (more c) c.wide2.ensures, h.sound.few_faces)
+    omega (arith, try_left h.sound (base (looping c)).pre.1 h.trying c.wide-d.result (more c) c.wide-d.ensures, h.sound.few_faces)
 
-mul-wide-3 : tie.Need-overflow-mul-wide-3 invariant-loop decreases-loop
+mul-wide-3 : tie.Need-offset_bounds-lefts-d invariant-loop decreases-loop
 mul-wide-3 c = record { fits = omega (arith, dart-small c) }
 
-element-copy-out-wide-3 : tie.Need-element-copy-out-wide-3 invariant-loop decreases-loop
+element-copy-out-wide-3 : tie.Need-bounds-lefts-d invariant-loop decreases-loop
 element-copy-out-wide-3 c = dart-small c
 
 -- the dart, seen from where the face left of it is read
-abbrev crossed : tie.After-wide3 invariant-loop decreases-loop → tie.After-wide2 invariant-loop decreases-loop
+abbrev crossed : tie.After-wide-f invariant-loop decreases-loop → tie.After-wide-d invariant-loop decreases-loop
 crossed c = c.before.before
 
 relax-requires : tie.Need-relax-requires invariant-loop decreases-loop
@@ -102,17 +102,17 @@ relax-requires c κs =
       omega (arith, h.trying.i_in, h.sound.few_faces),
       dart-small d,
       left_small d,
-      try_near h.sound (base (looping d)).pre.1 h.trying d.wide2.result (more d) d.wide2.ensures,
+      try_near h.sound (base (looping d)).pre.1 h.trying d.wide-d.result (more d) d.wide-d.ensures,
     )
 
 -- ── it lowered ──
-abbrev leftward : tie.After-relax invariant-loop decreases-loop → tie.After-wide3 invariant-loop decreases-loop
+abbrev leftward : tie.After-relax invariant-loop decreases-loop → tie.After-wide-f invariant-loop decreases-loop
 leftward c = c.before.before.before
 
-abbrev dart : tie.After-relax invariant-loop decreases-loop → tie.After-wide2 invariant-loop decreases-loop
+abbrev dart : tie.After-relax invariant-loop decreases-loop → tie.After-wide-d invariant-loop decreases-loop
 dart c = crossed (leftward c)
 
-push-requires : tie.Need-push-requires invariant-loop decreases-loop
+push-requires : tie.Need-push-end-requires invariant-loop decreases-loop
 push-requires c κs =
     let r = c.before.before.before in
     let d = dart r in
@@ -123,35 +123,35 @@ push-requires c κs =
       omega (arith, h.trying.stage.spent),
     )
 
-loop-less : tie.Need-loop-smaller invariant-loop decreases-loop
-loop-less c = omega (arith, (dart c.before.before.before.before).before.before.loop-test.taken)
+loop-less : tie.Need-loop-j-smaller-then-relax invariant-loop decreases-loop
+loop-less c = omega (arith, (dart c.before.before.before.before).before.before.loop-j-test.taken)
 
-loop-again : tie.Need-loop-preserved invariant-loop decreases-loop
+loop-again : tie.Need-loop-j-preserved-then-relax invariant-loop decreases-loop
 loop-again c =
     let t = c.before.before.before in
     let r = t.before in
     let w = (leftward r).wide3 in
     let d = dart r in
     let s = base (looping d) in
-    look_lowers (givenAt s) s.pre.1 (looping d).loop.inv d.wide2.result (more d) d.wide2.ensures _ w.result w.ensures r.relax.result
-    t.if1.true r.relax.ensures c.push.ensures
+    look_lowers (givenAt s) s.pre.1 (looping d).loop.inv d.wide-d.result (more d) d.wide-d.ensures _ w.result w.ensures r.relax.result
+    t.if-relax.true r.relax.ensures c.push-end.ensures
 
 -- ── it could not ──
-loop-less-2 : tie.Need-loop-smaller-2 invariant-loop decreases-loop
-loop-less-2 c = omega (arith, (dart c.before).before.before.loop-test.taken)
+loop-less-2 : tie.Need-loop-j-smaller invariant-loop decreases-loop
+loop-less-2 c = omega (arith, (dart c.before).before.before.loop-j-test.taken)
 
-loop-again-2 : tie.Need-loop-preserved-2 invariant-loop decreases-loop
+loop-again-2 : tie.Need-loop-j-preserved invariant-loop decreases-loop
 loop-again-2 c =
     let d = dart c.before in
     let s = base (looping d) in
     let r = c.before.relax in
-    look_keeps (givenAt s) s.pre.1 (looping d).loop.inv d.wide2.result (more d) d.wide2.ensures _ _ r.result c.if1.false r.ensures
+    look_keeps (givenAt s) s.pre.1 (looping d).loop.inv d.wide-d.result (more d) d.wide-d.ensures _ _ r.result c.if-relax.false r.ensures
 
 returns : tie.Need-returns invariant-loop decreases-loop
 returns c =
     let s = base c.before in
-    look_ends (givenAt s) s.pre.1 c.before.loop.invariant (omega (arith, c.loop-test.false, c.before.before.group-end.ensures))
-    c.before.before.before.wide.ensures
+    look_ends (givenAt s) s.pre.1 c.before.loop-j.invariant (omega (arith, c.loop-j-test.false, c.before.before.group_end-e.ensures))
+    c.before.before.before.wide-j.ensures
 
 pub look_spec : {M : Type 1} → statement M
 look_spec =

@@ -5,11 +5,11 @@ use borrow.Author.Rules.{rules}
 use Rattle.search.proofs.push.Statement.{statement}
 use Rattle.search.proofs.push.Tie as tie
 
-returns : tie.Need-returns
-returns c = inl (c.if1.true, refl, refl, refl)
+returns : tie.Need-returns-then-waiting-f-eq1
+returns c = inl (c.if-waiting-f-eq1.true, refl, refl, refl)
 
-returns-2 : tie.Need-returns-2
-returns-2 c = inr (c.if1.false, refl, refl, refl)
+returns-2 : tie.Need-returns
+returns-2 c = inr (c.if-waiting-f-eq1.false, refl, refl, refl)
 
 pub push_spec : {M : Type 1} → statement M
 push_spec =

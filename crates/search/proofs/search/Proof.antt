@@ -25,7 +25,7 @@ use Rattle.search.proofs.Ending.{start_passing, answered}
 use Rattle.search.proofs.search.Statement.{statement}
 use Rattle.search.proofs.search.Tie as tie
 
-abbrev invariant-loop : tie.invariant-loop
+abbrev invariant-loop : tie.invariant-loop-left
 invariant-loop lefts lengths order starts darts faces roots potentials₀ parents₀ waiting₀ queue₀ taken first₀ last₀ left₀
     potentials parents waiting queue first last left =
     Goes (given lefts lengths order starts darts faces)
@@ -33,7 +33,7 @@ invariant-loop lefts lengths order starts darts faces roots potentials₀ parent
     (configuration (tables_of potentials parents waiting queue last) first left)
     × (first + left ≡ first₀ + left₀)
 
-abbrev decreases-loop : tie.decreases-loop
+abbrev decreases-loop : tie.decreases-loop-left
 decreases-loop lefts lengths order starts darts faces roots potentials₀ parents₀ waiting₀ queue₀ taken first₀ last₀ left₀
     potentials parents waiting queue first last left = left
 
@@ -61,7 +61,7 @@ givenAt s =
 abbrev rootsAt : Start → List ℕ
 rootsAt s = take s.args.roots s.args.queue.now
 
-begin-requires : tie.Need-begin-requires invariant-loop decreases-loop invariant-search decreases-search
+begin-requires : tie.Need-begin-taken-requires invariant-loop decreases-loop invariant-search decreases-search
 begin-requires c κs =
     let s = c.before.before.before.before in
     let p = s.requires in
@@ -88,21 +88,21 @@ here c =
     configuration (tables_of c.search.potentials c.search.parents c.search.waiting c.search.queue c.search.new)
     c.search.first c.search.left
 
-first_left : (c : At-search) → c.before.first-looks.result
+first_left : (c : At-search) → c.before.first_looks-left.result
     ≡ first_looks (base c).args.faces (taken_from (base c).args.lefts.now (base c).args.darts (base c).args.faces (base c).args.parents.now)
-first_left c = c.before.first-looks.ensures ∙ ap (first_looks (base c).args.faces) c.before.before.begin.ensures.1
+first_left c = c.before.first_looks-left.ensures ∙ ap (first_looks (base c).args.faces) c.before.before.begin-taken.ensures.1
 
 here-passing : (c : At-search) → PassingAt (dual (givenAt (base c)) (rootsAt (base c))) (here c)
 here-passing c =
     let s = base c in
     let p = s.pre in
     goes_passing (givenAt s) (rootsAt s) p.0 p.2
-    (start_passing (givenAt s) s.args.queue.now s.args.roots p.6 p.7 p.0 p.1 p.2 c.before.before.begin.ensures.0)
+    (start_passing (givenAt s) s.args.queue.now s.args.roots p.6 p.7 p.0 p.1 p.2 c.before.before.begin-taken.ensures.0)
     (from_start s.args.parents.now (first_left c) c.search.invariant)
 
 -- ── looks ──
 abbrev At-loop : Type 0
-At-loop = tie.At-loop invariant-loop decreases-loop invariant-search decreases-search
+At-loop = tie.At-loop-left invariant-loop decreases-loop invariant-search decreases-search
 
 abbrev round : At-loop → At-search
 round c = c.before
@@ -112,24 +112,24 @@ begun c = base (round c)
 
 abbrev now : At-loop → Configuration
 now c =
-    configuration (tables_of c.loop.potentials c.loop.parents c.loop.waiting c.loop.queue c.loop.last) c.loop.first c.loop.left
+    configuration (tables_of c.loop-left.potentials c.loop-left.parents c.loop-left.waiting c.loop-left.queue c.loop-left.last) c.loop-left.first c.loop-left.left
 
 passing : (c : At-loop) → PassingAt (dual (givenAt (begun c)) (rootsAt (begun c))) (now c)
-passing c = let s = begun c in goes_passing (givenAt s) (rootsAt s) s.pre.0 s.pre.2 (here-passing (round c)) c.loop.invariant.0
+passing c = let s = begun c in goes_passing (givenAt s) (rootsAt s) s.pre.0 s.pre.2 (here-passing (round c)) c.loop-left.invariant.0
 
 abbrev Look : Type 0
-Look = tie.After-wide invariant-loop decreases-loop invariant-search decreases-search
+Look = tie.After-wide-i invariant-loop decreases-loop invariant-search decreases-search
 
 abbrev turn : Look → At-loop
 turn c = c.before.before.before.before
 
 left-some : (c : Look) → 0 < (now (turn c)).left
-left-some c = c.before.before.before.loop-test.true
+left-some c = c.before.before.before.loop-left-test.true
 
 some : (c : Look) → (now (turn c)).first < (now (turn c)).tables.last
-some c = omega (arith, c.before.before.if1.false, (passing (turn c)).passing.ordered)
+some c = omega (arith, c.before.before.if-first-last.false, (passing (turn c)).passing.ordered)
 
-look-requires : tie.Need-look-requires invariant-loop decreases-loop invariant-search decreases-search
+look-requires : tie.Need-look-last-requires invariant-loop decreases-loop invariant-search decreases-search
 look-requires c κs =
     let w = c.before.before.before.before in
     let l = turn w in
@@ -142,26 +142,26 @@ look-requires c κs =
         bound = bound n (now l).left;
         few = bound_look n (now l).left s.pre.0.few_faces (left-some w) (passing l).in-period;
         some = some w;
-        front_is = w.wide.ensures;
+        front_is = w.wide-i.ensures;
         passing = (passing l).passing;
       },
       s.pre.2,
     )
 
-abbrev looked : tie.After-look invariant-loop decreases-loop invariant-search decreases-search → Look
+abbrev looked : tie.After-look-last invariant-loop decreases-loop invariant-search decreases-search → Look
 looked c = c.before.before.before.before.before
 
-loop-again : tie.Need-loop-preserved invariant-loop decreases-loop invariant-search decreases-search
+loop-again : tie.Need-loop-left-preserved invariant-loop decreases-loop invariant-search decreases-search
 loop-again c =
     let w = looked c in
     let l = turn w in (
-      goes_on l.loop.inv.0
-          (looks {c = now l} w.wide.result w.wide.ensures (left-some w) (some w) c.look.ensures),
-      omega (arith, l.loop.inv.1, left-some w),
+      goes_on l.loop-left.inv.0
+          (looks {c = now l} w.wide-i.result w.wide-i.ensures (left-some w) (some w) c.look-last.ensures),
+      omega (arith, l.loop-left.inv.1, left-some w),
     )
 
 -- ── the period is over: a straightening ──
-straighten-requires : tie.Need-straighten-requires invariant-loop decreases-loop invariant-search decreases-search
+straighten-requires : tie.Need-straighten-pass-requires invariant-loop decreases-loop invariant-search decreases-search
 straighten-requires c κs =
     let l = c.before.before.before.before.before in
     let s = begun l in
@@ -178,32 +178,32 @@ straighten-requires c κs =
 
 -- it was straight
 abbrev Straight : Type 0
-Straight = tie.After-known-told2 invariant-loop decreases-loop invariant-search decreases-search
+Straight = tie.In-Straight invariant-loop decreases-loop invariant-search decreases-search
 
 abbrev over : Straight → At-loop
 over c = c.before.before.before.before.before.before.before.before.before
 
 none_left : (c : Straight) → (now (over c)).left ≡ 0
-none_left c = omega (arith, c.before.before.before.before.before.before.before.before.loop-test.false)
+none_left c = omega (arith, c.before.before.before.before.before.before.before.before.loop-left-test.false)
 
 search-less : tie.Need-search-smaller invariant-loop decreases-loop invariant-search decreases-search
 search-less c =
     let l = over c in
     let s = begun l in
-    let w = c.before.before.before.straighten in
+    let w = c.before.before.before.straighten-pass in
     let p =
-    goes_on l.loop.inv.0 (straightens (givenAt s) (now l) (none_left c) _ _ _ _ _ _ w.result c.before.pass2.given.1 w.ensures.1) in
+    goes_on l.loop-left.inv.0 (straightens (givenAt s) (now l) (none_left c) _ _ _ _ _ _ w.result c.before.pass-in-Straight-1.given.1 w.ensures.1) in
     let k = (goes_kept (givenAt s) (rootsAt s) s.pre.0 s.pre.2 (here-passing (round l)) p).1 in
     let r = goes_passing (givenAt s) (rootsAt s) s.pre.0 s.pre.2 (here-passing (round l)) p in
-    omega (arith, none_left c, l.loop.inv.1, k.longer, k.spends, r.passing.ordered, (here-passing (round l)).passing.ordered)
+    omega (arith, none_left c, l.loop-left.inv.1, k.longer, k.spends, r.passing.ordered, (here-passing (round l)).passing.ordered)
 
 search-again : tie.Need-search-preserved invariant-loop decreases-loop invariant-search decreases-search
 search-again c =
     let l = over c in
-    let w = c.before.before.before.straighten in
+    let w = c.before.before.before.straighten-pass in
     goes_then (round l).search.inv
-    (goes_on l.loop.inv.0
-    (straightens (givenAt (begun l)) (now l) (none_left c) _ _ _ _ _ _ w.result c.before.pass2.given.1 w.ensures.1))
+    (goes_on l.loop-left.inv.0
+    (straightens (givenAt (begun l)) (now l) (none_left c) _ _ _ _ _ _ w.result c.before.pass-in-Straight-1.given.1 w.ensures.1))
 
 -- ── the ways out ──
 answers : (s : Start) {potentials : List ℤ} {parents : List ℕ} (o : Outcome)
@@ -213,7 +213,7 @@ answers : (s : Start) {potentials : List ℤ} {parents : List ℕ} (o : Outcome)
 answers s o w =
     (answered (givenAt s) s.args.queue.now s.args.roots s.requires.6 s.requires.7 s.requires.0 s.requires.1 s.requires.2 w, w)
 
-returns : tie.Need-returns invariant-loop decreases-loop invariant-search decreases-search
+returns : tie.Need-returns-then-first-last invariant-loop decreases-loop invariant-search decreases-search
 returns c =
     let l = c.before.before in
     let r = round l in
@@ -222,35 +222,35 @@ returns c =
       first_potentials = _;
       first_parents = _;
       first_waiting = _;
-      begun = r.before.before.begin.ensures.0;
+      begun = r.before.before.begin-taken.ensures.0;
       end = now l;
-      run = from_start s.args.parents.now (first_left r) (goes_then r.search.inv l.loop.invariant.0);
+      run = from_start s.args.parents.now (first_left r) (goes_then r.search.inv l.loop-left.invariant.0);
       left = (now l).tables;
-      ended = (c.before.loop-test.true, c.if1.true, refl);
+      ended = (c.before.loop-left-test.true, c.if-first-last.true, refl);
       potentials_are = refl;
       parents_are = refl;
     })
 
-returns-2 : tie.Need-returns-2 invariant-loop decreases-loop invariant-search decreases-search
+returns-2 : tie.Need-returns-in-Ring invariant-loop decreases-loop invariant-search decreases-search
 returns-2 c =
     let p = c.before in
-    let w = p.before.before.straighten in
+    let w = p.before.before.straighten-pass in
     let o = p.before.before.before.before.before.before.before in
     let l = o.before in
     let r = round l in
     let s = base r in
-    answers s (outcome.Ring p.pass.given.0.0) (record {
+    answers s (outcome.Ring p.pass-1.given.0.0) (record {
       first_potentials = _;
       first_parents = _;
       first_waiting = _;
-      begun = r.before.before.begin.ensures.0;
+      begun = r.before.before.begin-taken.ensures.0;
       end = now l;
-      run = from_start s.args.parents.now (first_left r) (goes_then r.search.inv l.loop.invariant.0);
+      run = from_start s.args.parents.now (first_left r) (goes_then r.search.inv l.loop-left.invariant.0);
       left = tables_of _ _ _ _ w.ensures.0;
       ended = (
-        omega (arith, o.loop-test.false),
+        omega (arith, o.loop-left-test.false),
         subst (Straightens s.args.lefts.now s.args.lengths.now s.args.darts s.args.faces 0 unmarked (now l).tables _)
-            p.pass.given.1 w.ensures.1,
+            p.pass-1.given.1 w.ensures.1,
       );
       potentials_are = refl;
       parents_are = refl;
@@ -259,8 +259,8 @@ returns-2 c =
 few_faces : (c : Straight) → (begun (over c)).args.faces ≤ 1024
 few_faces c = (begun (over c)).requires.0.few_faces
 
-pub search-spec : {M : Type 1} → statement M
-search-spec =
+pub search_spec : {M : Type 1} → statement M
+search_spec =
     tie.close
     (tie.spec
     invariant-loop

@@ -9,81 +9,81 @@ use Rattle.search.proofs.Passes.{Pass, pass_first, pass_last, pass_ring, pass_do
 use Rattle.search.proofs.straighten.Statement.{statement}
 use Rattle.search.proofs.straighten.Tie as tie
 
-abbrev invariant-loop : tie.invariant-loop
+abbrev invariant-loop : tie.invariant-loop-f
 invariant-loop lefts lengths darts faces potentials₀ parents₀ waiting₀ queue₀ last links₀ end₀ f₀ potentials parents waiting queue links end f =
     Pass lefts lengths darts faces (tables_of potentials₀ parents₀ waiting₀ queue₀ last) f links (tables_of potentials parents waiting queue end)
 
-abbrev decreases-loop : tie.decreases-loop
+abbrev decreases-loop : tie.decreases-loop-f
 decreases-loop lefts lengths darts faces potentials₀ parents₀ waiting₀ queue₀ last links₀ end₀ f₀ potentials parents waiting queue links end f = faces - f
 
-loop-holds : tie.Need-loop-init invariant-loop decreases-loop
+loop-holds : tie.Need-loop-f-init invariant-loop decreases-loop
 loop-holds c = pass_first c.requires
 
 abbrev Turn : Type 0
-Turn = tie.In-loop invariant-loop decreases-loop
+Turn = tie.In-loop-f invariant-loop decreases-loop
 
-f-small : (c : Turn) → c.before.loop.f < 1024
-f-small c = omega (arith, c.loop-test.true, c.before.loop.invariant.sound.few_faces)
+f-small : (c : Turn) → c.before.loop-f.f < 1024
+f-small c = omega (arith, c.loop-f-test.true, c.before.loop-f.invariant.sound.few_faces)
 
-ascend-requires : tie.Need-ascend-requires invariant-loop decreases-loop
+ascend-requires : tie.Need-ascend-risen-requires invariant-loop decreases-loop
 ascend-requires c κs =
     let n = c.before.before in
-    let i = n.before.loop.invariant in
-    (i.size_links, i.sound.few_darts, i.sound.few_faces, n.loop-test.true, i.sound.right_in)
+    let i = n.before.loop-f.invariant in
+    (i.size_links, i.sound.few_darts, i.sound.few_faces, n.loop-f-test.true, i.sound.right_in)
 
 -- ── the ascent has come to a face ──
 abbrev Up : Type 0
-Up = tie.After-ascend invariant-loop decreases-loop
+Up = tie.After-ascend-risen invariant-loop decreases-loop
 
 abbrev turn : Up → Turn
 turn c = c.before.before.before
 
-top_in : (c : Up) → c.ascend.result.top < (turn c).before.before.args.faces
-top_in c = let i = (turn c).before.loop.invariant in (c.ascend.ensures i.marks i.matched).top_in
+top_in : (c : Up) → c.ascend-risen.result.top < (turn c).before.before.args.faces
+top_in c = let i = (turn c).before.loop-f.invariant in (c.ascend-risen.ensures i.marks i.matched).top_in
 
-top_small : (c : Up) → c.ascend.result.top < 1024
-top_small c = omega (arith, top_in c, (turn c).before.loop.invariant.sound.few_faces)
+top_small : (c : Up) → c.ascend-risen.result.top < 1024
+top_small c = omega (arith, top_in c, (turn c).before.loop-f.invariant.sound.few_faces)
 
-is-round-requires : tie.Need-is-round-requires invariant-loop decreases-loop
+is-round-requires : tie.Need-is_round-requires invariant-loop decreases-loop
 is-round-requires c κs = top_small c.before.before.before.before
 
-returns : tie.Need-returns invariant-loop decreases-loop
+returns : tie.Need-returns-then-is_round invariant-loop decreases-loop
 returns c =
     let t = c.before.before in
-    let r = t.before.is-round.ensures.0 t.if2.true in
+    let r = t.before.is_round.ensures.0 t.if-is_round.true in
     let u = t.before.before.before.before.before.before in
     let n = turn u in
-    let i = n.before.loop.inv in
-    (_, pass_ring i n.loop-test.taken (u.ascend.ensures i.marks i.matched) r.0 r.1 c.wide.result c.wide.ensures)
+    let i = n.before.loop-f.inv in
+    (_, pass_ring i n.loop-f-test.taken (u.ascend-risen.ensures i.marks i.matched) r.0 r.1 c.wide.result c.wide.ensures)
 
 -- ── it has not come round ──
-descend-requires : tie.Need-descend-requires invariant-loop decreases-loop
+descend-requires : tie.Need-descend-end-requires invariant-loop decreases-loop
 descend-requires c κs =
     let t = c.before.before.before.before.before in
     let o = t.before.before.before.before in
     let u = o.before.before in
     let n = turn u in
-    let i = n.before.loop.inv in
-    pass_down i n.loop-test.taken (u.ascend.ensures i.marks i.matched) (t.before.is-round.ensures.1 t.if2.false)
+    let i = n.before.loop-f.inv in
+    pass_down i n.loop-f-test.taken (u.ascend-risen.ensures i.marks i.matched) (t.before.is_round.ensures.1 t.if-is_round.false)
 
-loop-again : tie.Need-loop-preserved invariant-loop decreases-loop
+loop-again : tie.Need-loop-f-preserved invariant-loop decreases-loop
 loop-again c =
     let u = c.before.before in
     let n = turn u in
-    let i = n.before.loop.inv in
-    let a = u.ascend.ensures i.marks i.matched in
+    let i = n.before.loop-f.inv in
+    let a = u.ascend-risen.ensures i.marks i.matched in
     ⊎_elim
     (λ d.
     rw (d.11, d.12, d.13, d.14, d.15, d.16)
-    (let q = d.10.ensures in pass_next i n.loop-test.taken a (d.3.ensures.1 d.4.left) q.1 q.0))
-    (λ d. rw (d.1, d.2, d.3, d.4, d.5, d.6) (pass_none i n.loop-test.taken a (omega (arith, d.0.left))))
-    c.if1.branch
+    (let q = d.10.ensures in pass_next i n.loop-f-test.taken a (d.3.ensures.1 d.4.left) q.1 q.0))
+    (λ d. rw (d.1, d.2, d.3, d.4, d.5, d.6) (pass_none i n.loop-f-test.taken a (omega (arith, d.0.left))))
+    c.if-risen-gt0.branch
 
-returns-2 : tie.Need-returns-2 invariant-loop decreases-loop
-returns-2 c = (_, pass_last _ c.before.loop.invariant (omega (arith, c.loop-test.false)) refl)
+returns-2 : tie.Need-returns invariant-loop decreases-loop
+returns-2 c = (_, pass_last _ c.before.loop-f.invariant (omega (arith, c.loop-f-test.false)) refl)
 
-pub straighten-spec : {M : Type 1} → statement M
-straighten-spec =
+pub straighten_spec : {M : Type 1} → statement M
+straighten_spec =
     tie.close
     (tie.spec
     invariant-loop

@@ -11,46 +11,46 @@ use Rattle.search.proofs.Taking.{taking_keep, taking_drop}
 use Rattle.search.proofs.take_parents.Statement.{statement}
 use Rattle.search.proofs.take_parents.Tie as tie
 
-abbrev invariant-loop : tie.invariant-loop
+abbrev invariant-loop : tie.invariant-loop-f
 invariant-loop lefts darts faces parents₀ taken₀ f₀ parents taken f = Taking lefts darts parents₀ f parents taken × (f ≤ faces) × (taken ≤ f)
 
-abbrev decreases-loop : tie.decreases-loop
+abbrev decreases-loop : tie.decreases-loop-f
 decreases-loop lefts darts faces parents₀ taken₀ f₀ parents taken f = faces - f
 
-loop-holds : tie.Need-loop-init invariant-loop decreases-loop
+loop-holds : tie.Need-loop-f-init invariant-loop decreases-loop
 loop-holds c = (
   record { size = c.requires.0; taken = λ x l. absurd (omega arith); rest = λ x l. refl; counted = sym (sum_zero Naturals _) },
   omega arith,
   omega arith,
 )
 
-small : (c : tie.In-loop invariant-loop decreases-loop) → c.before.loop.f < 1024
-small c = omega (arith, c.loop-test.true, c.before.before.requires.2)
+small : (c : tie.In-loop-f invariant-loop decreases-loop) → c.before.loop-f.f < 1024
+small c = omega (arith, c.loop-f-test.true, c.before.before.requires.2)
 
-loop-again : tie.Need-loop-preserved invariant-loop decreases-loop
+loop-again : tie.Need-loop-f-preserved invariant-loop decreases-loop
 loop-again c =
     let k = c.before in
-    let w = k.before.wide in
-    let l = k.before.before.before.before.loop in
+    let w = k.before.wide-p in
+    let l = k.before.before.before.before.loop-f in
     let s = small k.before.before.before in
-    let b = k.is-sensible in (
+    let b = k.is_sensible in (
       ⊎_elim
           (λ u. taking_keep l.invariant.0 s w.result w.ensures b.result b.ensures u.0.taken _ u.1 _ u.2)
           (λ u. taking_drop l.invariant.0 s w.result w.ensures b.result b.ensures u.0.left _ u.1 _ u.2)
-          c.if1.branch,
-      omega (arith, k.before.before.before.loop-test.true),
-      ⊎_elim (λ u. omega (arith, u.2, l.invariant.2)) (λ u. omega (arith, u.2, l.invariant.2)) c.if1.branch,
+          c.if-is_sensible.branch,
+      omega (arith, k.before.before.before.loop-f-test.true),
+      ⊎_elim (λ u. omega (arith, u.2, l.invariant.2)) (λ u. omega (arith, u.2, l.invariant.2)) c.if-is_sensible.branch,
     )
 
 returns : tie.Need-returns invariant-loop decreases-loop
 returns c =
-    let l = c.before.loop in
+    let l = c.before.loop-f in
     let s = c.before.before in
-    let all : l.f ≡ s.args.faces = omega (arith, c.loop-test.false, l.invariant.1) in
+    let all : l.f ≡ s.args.faces = omega (arith, c.loop-f-test.false, l.invariant.1) in
     subst (λ f. Taking s.args.lefts.now s.args.darts s.args.parents.now f l.parents l.taken) all l.invariant.0
 
-pub take-parents-spec : {M : Type 1} → statement M
-take-parents-spec =
+pub take_parents_spec : {M : Type 1} → statement M
+take_parents_spec =
     tie.close
     (tie.spec
     invariant-loop
@@ -60,10 +60,10 @@ take-parents-spec =
     (λ c. small c)
     (λ c κs. search rules)
     (λ c κs. search rules)
-    (λ c. record { fits = omega (arith, c.before.before.before.before.before.loop.invariant.2, small c.before.before.before.before) })
+    (λ c. record { fits = omega (arith, c.before.before.before.before.before.loop-f.invariant.2, small c.before.before.before.before) })
     (λ c. record { fits = omega (arith, small c.before.before.before.before) })
     (λ c. small c.before.before.before.before)
     (λ c. record { fits = omega (arith, small c.before.before.before.before) })
-    (λ c. omega (arith, c.before.before.before.before.loop-test.true))
+    (λ c. omega (arith, c.before.before.before.before.loop-f-test.true))
     loop-again
     returns)

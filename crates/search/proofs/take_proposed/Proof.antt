@@ -4,12 +4,12 @@ use Rattle.search.proofs.Taking.{taking_none}
 use Rattle.search.proofs.take_proposed.Statement.{statement}
 use Rattle.search.proofs.take_proposed.Tie as tie
 
-returns : tie.Need-returns
+returns : tie.Need-returns-then-none_proposed
 returns c =
     let n = c.before in
     let s = n.before.before in
     let p = s.requires in
-    taking_none s.args.lefts.now s.args.parents.now p.1 (n.none-proposed.ensures c.if1.true) p.0
+    taking_none s.args.lefts.now s.args.parents.now p.1 (n.none_proposed.ensures c.if-none_proposed.true) p.0
 
-pub take-proposed-spec : {M : Type 1} → statement M
-take-proposed-spec = tie.close (tie.spec (λ c κs. search rules) returns (λ c κs. search rules) (λ c. search rules))
+pub take_proposed_spec : {M : Type 1} → statement M
+take_proposed_spec = tie.close (tie.spec (λ c κs. search rules) returns (λ c κs. search rules) (λ c. search rules))

@@ -30,29 +30,29 @@ use Rattle.sessions.proofs.answer_left.Statement.{statement}
 use Rattle.sessions.proofs.answer_left.Tie as tie
 
 -- ── the drawing at the width of an index, and as it is given ──
-abbrev begun : tie.After-in-bounds → tie.Start
+abbrev begun : tie.After-in_bounds → tie.Start
 begun c = c.before.before.before.before.before
 
-abbrev held : tie.After-in-bounds → Drawing
+abbrev held : tie.After-in_bounds → Drawing
 held c =
     let a = (begun c).args in
-    drawing_of c.before.before.before.wide.result c.before.before.wide2.result c.before.wide3.result a.tails.now a.rotations.now
+    drawing_of c.before.before.before.wide-n.result c.before.before.wide-m.result c.before.wide-o.result a.tails.now a.rotations.now
     a.left.now
 
-abbrev given : tie.After-in-bounds → Drawing
+abbrev given : tie.After-in_bounds → Drawing
 given c = let a = (begun c).args in drawing_of a.nodes a.edges a.outer a.tails.now a.rotations.now a.left.now
 
-same : (c : tie.After-in-bounds) → held c ≡ given c
+same : (c : tie.After-in_bounds) → held c ≡ given c
 same c =
     let a = (begun c).args in
-    drawings_same c.before.before.before.wide.ensures c.before.before.wide2.ensures c.before.wide3.ensures a.tails.now
+    drawings_same c.before.before.before.wide-n.ensures c.before.before.wide-m.ensures c.before.wide-o.ensures a.tails.now
     a.rotations.now a.left.now
 
-returns : tie.Need-returns
+returns : tie.Need-returns-then-not-in_bounds
 returns c =
     let b = c.before in (
       (
-        unfit_answered (held b) (given b) (same b) (λ f. said_no b.in_bounds.ensures (unless_taken b.in_bounds.result c.if1.true) f.bounds) _ _
+        unfit_answered (held b) (given b) (same b) (λ f. said_no b.in_bounds.ensures (unless_taken b.in_bounds.result c.if-not-in_bounds.true) f.bounds) _ _
             _ _ _,
         refl,
         refl,
@@ -62,36 +62,36 @@ returns c =
     )
 
 -- ── in bounds ──
-bounded : (c : tie.Else1) → InBounds (held c.before)
-bounded c = said_yes c.before.in_bounds.ensures (unless_left c.before.in_bounds.result c.if1.false)
+bounded : (c : tie.Else-not-in_bounds) → InBounds (held c.before)
+bounded c = said_yes c.before.in_bounds.ensures (unless_left c.before.in_bounds.result c.if-not-in_bounds.false)
 
-abbrev within : tie.After-check-map → tie.Else1
+abbrev within : tie.After-check_map-checked → tie.Else-not-in_bounds
 within c = c.before.before.before.before.before.before
 
-check-map-requires : tie.Need-check-map-requires
+check-map-requires : tie.Need-check_map-checked-requires
 check-map-requires c κs =
     let b = bounded c.before.before.before.before.before in
     (b.few_edges, b.few_nodes, b.outer_in, refl, refl, refl, refl, refl, b.range, same_everywhere 1024 0)
 
-returns-2 : tie.Need-returns-2
+returns-2 : tie.Need-returns-in-Refused
 returns-2 c =
     let m = c.before.before.before in
     let b = (within (m)).before in
-    let r = map_refused (held b) _ _ _ _ c.before.verdict.given.1 m.check-map.ensures.5 in
+    let r = map_refused (held b) _ _ _ _ c.before.verdict-1.given.1 m.check_map-checked.ensures.5 in
     ((unfit_answered (held b) (given b) (same b) r _ _ _ _ _, refl, refl), tt, tt)
 
 -- ── fit ──
-passed : (c : tie.After-enum-told)
+passed : (c : tie.In_default)
     → NoneOf (map_checks (held (within c.before.before).before).map)
     × ((d : ℕ) → d < darts (held (within c.before.before).before).map
-    → at c.before.before.check-map.new.1.1.1.1.1.0 d ≡ left (held (within c.before.before).before).map d)
-    × (c.before.before.check-map.result.faces ≡ faces (held (within c.before.before).before).map)
+    → at c.before.before.check_map-checked.new.1.1.1.1.1.0 d ≡ left (held (within c.before.before).before).map d)
+    × (c.before.before.check_map-checked.result.faces ≡ faces (held (within c.before.before).before).map)
 passed c =
     let m = c.before.before in
-    map_passed (held (within m).before) (at m.check-map.new.1.1.1.1.1.0) m.check-map.result.faces c.enum_told.given.1
-    m.check-map.ensures.5
+    map_passed (held (within m).before) (at m.check_map-checked.new.1.1.1.1.1.0) m.check_map-checked.result.faces c.enum_told-1.given.1
+    m.check_map-checked.ensures.5
 
-fit : (c : tie.After-enum-told) → Fit (held (within c.before.before).before)
+fit : (c : tie.In_default) → Fit (held (within c.before.before).before)
 fit c = record { bounds = bounded (within c.before.before); passes = (passed c).0 }
 
 solve-requires : tie.Need-solve-requires
@@ -100,10 +100,10 @@ solve-requires c κs =
     let m = t.before.before in
     let p = passed t in record {
       drawn = fit_drawn (held (within m).before) (fit t) _ _ p.1 p.2;
-      walked = if-passed t.enum_told.given.1 m.check-map.ensures.6;
+      walked = if-passed t.enum_told-1.given.1 m.check_map-checked.ensures.6;
     }
 
-returns-3 : tie.Need-returns-3
+returns-3 : tie.Need-returns
 returns-3 c =
     let k = c.before.before.before in
     let w = k.before.before.before.before.before.before.before.before in
@@ -111,15 +111,15 @@ returns-3 c =
     let b = (within t.before.before).before in
     let s = begun b in
     let q = number_of_bits _ s.fits.value in
-    let from = w.before.wide4.ensures in
-    let to = w.wide5.ensures in (
+    let from = w.before.wide.ensures in
+    let to = w.wide-2.ensures in (
       answered (held b) (given b) (same b) (fit t) from to q _ _ _ _ k.solve.result k.solve.ensures.0,
       named_answered (held b) (given b) (same b) from to q _ k.solve.result k.solve.ensures.1,
       fit_answered (held b) (given b) (same b) (fit t) k.solve.result,
     )
 
-pub answer-left-spec : {M : Type 1} → statement M
-answer-left-spec =
+pub answer_left_spec : {M : Type 1} → statement M
+answer_left_spec =
     tie.close
     (tie.spec
     (λ c κs. search rules)

@@ -6,25 +6,25 @@ use borrow.Author.Rules.{rules}
 use Rattle.sessions.proofs.in_bounds.Statement.{statement}
 use Rattle.sessions.proofs.in_bounds.Tie as tie
 
-returns-4 : tie.Need-returns-4
+returns-4 : tie.Need-returns-then-in_range
 returns-4 c =
     let r = c.before.before in
-    decides_by c.limits-fit.result
+    decides_by c.limits_fit.result
     (λ h. record {
-      few_nodes = omega (arith, r.before.before.before.if1.false);
-      few_edges = omega (arith, r.before.before.if2.false);
-      outer_in = omega (arith, r.before.if3.false);
-      range = said_yes r.in-range.ensures c.before.if4.true;
+      few_nodes = omega (arith, r.before.before.before.if-nodes-gt1024.false);
+      few_edges = omega (arith, r.before.before.if-edges-gt512.false);
+      outer_in = omega (arith, r.before.if-outer-edges.false);
+      range = said_yes r.in_range.ensures c.before.if-in_range.true;
       limits = h;
     })
     (λ none h. none h.limits)
-    c.limits-fit.ensures
+    c.limits_fit.ensures
 
-returns-5 : tie.Need-returns-5
-returns-5 c = λ h. said_no c.before.in-range.ensures c.if4.false h.range
+returns-5 : tie.Need-returns
+returns-5 c = λ h. said_no c.before.in_range.ensures c.if-in_range.false h.range
 
-pub in-bounds-spec : {M : Type 1} → statement M
-in-bounds-spec =
+pub in_bounds_spec : {M : Type 1} → statement M
+in_bounds_spec =
     tie.close
     (tie.spec
     (λ c. search rules)

@@ -14,43 +14,43 @@ use Rattle.sessions.proofs.pair_fits.Reads as pair-fits-reads
 use Rattle.sessions.proofs.limits_fit.Statement.{statement}
 use Rattle.sessions.proofs.limits_fit.Tie as tie
 
-abbrev invariant-loop : tie.invariant-loop
+abbrev invariant-loop : tie.invariant-loop-e
 invariant-loop left edges e₀ e = (e ≤ edges) × (edges ≤ 512) × ((k : ℕ) → k < e → PairFits (atℤ left (2 * k)) (atℤ left (2 * k + 1)))
 
-abbrev decreases-loop : tie.decreases-loop
+abbrev decreases-loop : tie.decreases-loop-e
 decreases-loop left edges e₀ e = edges - e
 
 -- the test of edge e, on the numbers in the array
 abbrev Place : Type 0
-Place = lts.After-pair-fits (pair-fits-reads.Asked, pair-fits-reads.Learnt) reads.Pre reads.Post invariant-loop decreases-loop
+Place = lts.After-pair_fits (pair-fits-reads.Asked, pair-fits-reads.Learnt) reads.Pre reads.Post invariant-loop decreases-loop
 
 judged-here : (c : Place)
-    → Decides (PairFits (atℤ c.before.before.before.before.before.args.left.now (2 * c.before.before.before.before.loop.e))
-    (atℤ c.before.before.before.before.before.args.left.now (2 * c.before.before.before.before.loop.e + 1))) c.pair_Fits.result
+    → Decides (PairFits (atℤ c.before.before.before.before.before.args.left.now (2 * c.before.before.before.before.loop-e.e))
+    (atℤ c.before.before.before.before.before.args.left.now (2 * c.before.before.before.before.loop-e.e + 1))) c.pair_Fits.result
 judged-here c =
     let limit = atℤ c.before.before.before.before.before.args.left.now in
-    let e = c.before.before.before.before.loop.e in
+    let e = c.before.before.before.before.loop-e.e in
     rw (
-      number_of_bits (limit (2 * e)) (record { sfits = c.before.before.pair-fits-arg.given }),
-      number_of_bits (limit (2 * e + 1)) (record { sfits = c.before.pair-fits-arg2.given }),
+      number_of_bits (limit (2 * e)) (record { sfits = c.before.before.pair_fits-arg-1.given }),
+      number_of_bits (limit (2 * e + 1)) (record { sfits = c.before.pair_fits-arg-in-loop-e-1.given }),
     ) at c.pair_Fits.ensures
 
-loop-holds : tie.Need-loop-init invariant-loop decreases-loop
+loop-holds : tie.Need-loop-e-init invariant-loop decreases-loop
 loop-holds c = (omega arith, c.requires, λ k l. absurd (omega arith))
 
-loop-again : tie.Need-loop-preserved invariant-loop decreases-loop
+loop-again : tie.Need-loop-e-preserved invariant-loop decreases-loop
 loop-again c =
-    let o = c.before.before.before.before.before.loop in
-    (omega arith, o.invariant.1, below_more _ o.e o.invariant.2 (said_yes (judged-here c.before) c.if1.true))
+    let o = c.before.before.before.before.before.loop-e in
+    (omega arith, o.invariant.1, below_more _ o.e o.invariant.2 (said_yes (judged-here c.before) c.if-pair_fits.true))
 
-returns : tie.Need-returns invariant-loop decreases-loop
-returns c = λ h. said_no (judged-here c.before) c.if1.false (h c.before.before.before.before.before.loop.e (omega arith))
+returns : tie.Need-returns-else-pair_fits invariant-loop decreases-loop
+returns c = λ h. said_no (judged-here c.before) c.if-pair_fits.false (h c.before.before.before.before.before.loop-e.e (omega arith))
 
-returns-2 : tie.Need-returns-2 invariant-loop decreases-loop
-returns-2 c = λ e l. c.before.loop.invariant.2 e (omega arith)
+returns-2 : tie.Need-returns invariant-loop decreases-loop
+returns-2 c = λ e l. c.before.loop-e.invariant.2 e (omega arith)
 
-pub limits-fit-spec : {M : Type 1} → statement M
-limits-fit-spec =
+pub limits_fit_spec : {M : Type 1} → statement M
+limits_fit_spec =
     tie.close
     (tie.spec
     invariant-loop

@@ -17,34 +17,34 @@ abbrev drawn : tie.Start → Drawing
 drawn s = slices_drawing s.args.nodes s.args.outer s.args.tails.now s.args.rotations.now s.args.capacities.now
 
 -- ── the places, from the last field to the first ──
-abbrev back-rotation-at : tie.After-forward → tie.After-wide4
+abbrev back-rotation-at : tie.After-forward-1 → tie.After-wide-back_rotation
 back-rotation-at c = c.before
 
-abbrev rotation-at : tie.After-wide4 → tie.After-wide3
+abbrev rotation-at : tie.After-wide-back_rotation → tie.After-wide-rotation
 rotation-at c = c.before.before
 
-abbrev head_at : tie.After-wide3 → tie.After-wide2
+abbrev head_at : tie.After-wide-rotation → tie.After-wide-head
 head_at c = c.before.before
 
-abbrev tail_at : tie.After-wide2 → tie.After-wide
+abbrev tail_at : tie.After-wide-head → tie.After-wide-tail
 tail_at c = c.before.before
 
-abbrev begun : tie.After-wide → tie.Start
+abbrev begun : tie.After-wide-tail → tie.Start
 begun c = c.before.before.before.before
 
-abbrev start : tie.After-forward → tie.Start
+abbrev start : tie.After-forward-1 → tie.Start
 start c = begun (tail_at (head_at (rotation-at (back-rotation-at c))))
 
 -- ── the capacities, whose bits are the numbers in the slice ──
-forward_is : (c : tie.After-forward)
+forward_is : (c : tie.After-forward-1)
     → to_z w32 (of_z w32 (get_or (start c).args.capacities.now (2 * (start c).args.e) (pos 0)))
     ≡ get_or (start c).args.capacities.now (2 * (start c).args.e) (pos 0)
-forward_is c = number_of_bits _ (record { sfits = c.forward.given })
+forward_is c = number_of_bits _ (record { sfits = c.forward-1.given })
 
-backward_is : (c : tie.After-backward)
+backward_is : (c : tie.After-backward-1)
     → to_z w32 (of_z w32 (get_or (start c.before).args.capacities.now (2 * (start c.before).args.e + 1) (pos 0)))
     ≡ get_or (start c.before).args.capacities.now (2 * (start c.before).args.e + 1) (pos 0)
-backward_is c = number_of_bits _ (record { sfits = c.backward.given })
+backward_is c = number_of_bits _ (record { sfits = c.backward-1.given })
 
 -- ── the verdict on the fields is the verdict on the edge ──
 returns : tie.Need-returns
@@ -56,12 +56,12 @@ returns c =
     let head = head_at rotation in
     let tail = tail_at head in
     let s = begun tail in
-    edge_judged (drawn s) s.args.e c.check-fields.result
-    tail.wide.ensures head.wide2.ensures rotation.wide3.ensures back.wide4.ensures (forward_is forward) (backward_is backward)
-    c.check-fields.ensures
+    edge_judged (drawn s) s.args.e c.check_fields.result
+    tail.wide-tail.ensures head.wide-head.ensures rotation.wide-rotation.ensures back.wide-back_rotation.ensures (forward_is forward) (backward_is backward)
+    c.check_fields.ensures
 
-pub check-edge-spec : {M : Type 1} → statement M
-check-edge-spec =
+pub check_edge_spec : {M : Type 1} → statement M
+check_edge_spec =
     tie.close
     (tie.spec
     (λ c. search rules)

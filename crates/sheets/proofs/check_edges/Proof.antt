@@ -10,37 +10,37 @@ use Rattle.sheets.specs.Write.{slices_drawing}
 use Rattle.sheets.proofs.check_edges.Statement.{statement}
 use Rattle.sheets.proofs.check_edges.Tie as tie
 
-abbrev invariant-loop : tie.invariant-loop
+abbrev invariant-loop : tie.invariant-loop-e
 invariant-loop nodes outer tails rotations capacities edges e₀ e =
     (e ≤ edges) × ((i : ℕ) → i < e → NoneOf (edge_checks (slices_drawing nodes outer tails rotations capacities) i))
 
-abbrev decreases-loop : tie.decreases-loop
+abbrev decreases-loop : tie.decreases-loop-e
 decreases-loop nodes outer tails rotations capacities edges e₀ e = edges - e
 
 -- ── the turn of the loop in which an edge is checked ──
-abbrev turn : tie.After-check-edge invariant-loop decreases-loop → tie.At-loop invariant-loop decreases-loop
+abbrev turn : tie.After-check_edge-edge invariant-loop decreases-loop → tie.At-loop-e invariant-loop decreases-loop
 turn c = c.before.before
 
 -- ── the needs, in the order of the code ──
-loop-holds : tie.Need-loop-init invariant-loop decreases-loop
+loop-holds : tie.Need-loop-e-init invariant-loop decreases-loop
 loop-holds c = (omega arith, λ i l. absurd (omega arith))
 
-returns : tie.Need-returns invariant-loop decreases-loop
+returns : tie.Need-returns-in-Refused invariant-loop decreases-loop
 returns c =
     let edge = c.before.before.before in
     let o = (turn edge).loop in
-    first_in_turn _ _ o.e _ _ (omega arith) o.inv.1 (rw c.before.edge.given.1 at edge.check-edge.ensures)
+    first_in_turn _ _ o.e _ _ (omega arith) o.inv.1 (rw c.before.edge-1.given.1 at edge.check_edge-edge.ensures)
 
-loop-again : tie.Need-loop-preserved invariant-loop decreases-loop
+loop-again : tie.Need-loop-e-preserved invariant-loop decreases-loop
 loop-again c =
     let edge = c.before.before in
-    (omega arith, below_more _ _ (turn edge).loop.invariant.1 (rw c.enum_told.given.1 at edge.check-edge.ensures))
+    (omega arith, below_more _ _ (turn edge).loop.invariant.1 (rw c.enum_told-1.given.1 at edge.check_edge-edge.ensures))
 
-returns-2 : tie.Need-returns-2 invariant-loop decreases-loop
-returns-2 c = none_in_turn _ _ (λ i l. c.before.loop.invariant.1 i (omega arith))
+returns-2 : tie.Need-returns invariant-loop decreases-loop
+returns-2 c = none_in_turn _ _ (λ i l. c.before.loop-e.invariant.1 i (omega arith))
 
-pub check-edges-spec : {M : Type 1} → statement M
-check-edges-spec =
+pub check_edges_spec : {M : Type 1} → statement M
+check_edges_spec =
     tie.close
     (tie.spec
     invariant-loop

@@ -11,31 +11,31 @@ use Rattle.sheets.proofs.Reading.{filled_all}
 use Rattle.sheets.proofs.copy_darts.Statement.{statement}
 use Rattle.sheets.proofs.copy_darts.Tie as tie
 
-abbrev invariant-loop : tie.invariant-loop
+abbrev invariant-loop : tie.invariant-loop-d
 invariant-loop from to₀ d₀ to d = (d ≤ length to₀) × (length to₀ ≤ 1024) × (length to ≡ length to₀) × (to ≡ filled d (at from) to₀)
 
-abbrev decreases-loop : tie.decreases-loop
+abbrev decreases-loop : tie.decreases-loop-d
 decreases-loop from to₀ d₀ to d = length to₀ - d
 
 -- ── the needs, in the order of the code ──
-loop-holds : tie.Need-loop-init invariant-loop decreases-loop
+loop-holds : tie.Need-loop-d-init invariant-loop decreases-loop
 loop-holds c = (omega arith, c.requires, refl, copy_start _ _)
 
-loop-again : tie.Need-loop-preserved invariant-loop decreases-loop
+loop-again : tie.Need-loop-d-preserved invariant-loop decreases-loop
 loop-again c =
-    let o = c.before.before.loop in
+    let o = c.before.before.loop-d in
     let more = copy_step _ o.d _ _ _ o.invariant.3 (omega (arith, o.invariant.2)) refl in
     (omega arith, o.invariant.1, filled_length _ _ _ _ more (omega (arith, o.invariant.2)), more)
 
 returns : tie.Need-returns invariant-loop decreases-loop
 returns c =
-    let o = c.before.loop in
-    let old = c.before.before.args.to.now in
+    let o = c.before.loop-d in
+    let old = c.before.before.args.to-1.now in
     let all : o.d ≡ length old = omega (arith, o.invariant.2) in
     o.invariant.3 ∙ filled_all _ _ old all
 
-pub copy-darts-spec : {M : Type 1} → statement M
-copy-darts-spec =
+pub copy_darts_spec : {M : Type 1} → statement M
+copy_darts_spec =
     tie.close
     (tie.spec
     invariant-loop

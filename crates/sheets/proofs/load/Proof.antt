@@ -9,32 +9,32 @@ use Rattle.sheets.proofs.Writing.{loaded}
 use Rattle.sheets.proofs.load.Statement.{statement}
 use Rattle.sheets.proofs.load.Tie as tie
 
-abbrev invariant-loop : tie.invariant-loop
+abbrev invariant-loop : tie.invariant-loop-d
 invariant-loop from to₀ d₀ to d = (d ≤ length from) × Filling 0 (λ k. get_or from k 0) d to
 
-abbrev decreases-loop : tie.decreases-loop
+abbrev decreases-loop : tie.decreases-loop-d
 decreases-loop from to₀ d₀ to d = length from - d
 
 -- ── the turn of the loop, and the start ──
-abbrev turn : tie.After-shared-slice-known invariant-loop decreases-loop → tie.At-loop invariant-loop decreases-loop
+abbrev turn : tie.After-shared_slice_known-1 invariant-loop decreases-loop → tie.At-loop-d invariant-loop decreases-loop
 turn c = c.before.before
 
-abbrev begun : tie.At-loop invariant-loop decreases-loop → tie.Start invariant-loop decreases-loop
+abbrev begun : tie.At-loop-d invariant-loop decreases-loop → tie.Start invariant-loop decreases-loop
 begun c = c.before
 
 -- ── the needs, in the order of the code ──
-loop-holds : tie.Need-loop-init invariant-loop decreases-loop
+loop-holds : tie.Need-loop-d-init invariant-loop decreases-loop
 loop-holds c = (omega arith, filling_start _ c.requires.0 c.requires.2)
 
-loop-again : tie.Need-loop-preserved invariant-loop decreases-loop
-loop-again c = let o = turn c in (omega arith, filling_step o.loop.inv.1 _ (omega (arith, (begun o).pre.1)) refl)
+loop-again : tie.Need-loop-d-preserved invariant-loop decreases-loop
+loop-again c = let o = turn c in (omega arith, filling_step o.loop-d.inv.1 _ (omega (arith, (begun o).pre.1)) refl)
 
 returns : tie.Need-returns invariant-loop decreases-loop
 returns c =
     let o = c.before in
     let from = (begun o).args.from.now in
-    let all : o.loop.d ≡ length from = omega arith in
-    (o.loop.invariant.1.long, λ d. loaded from (rw all at o.loop.invariant.1) d)
+    let all : o.loop-d.d ≡ length from = omega arith in
+    (o.loop-d.invariant.1.long, λ d. loaded from (rw all at o.loop-d.invariant.1) d)
 
 pub load_spec : {M : Type 1} → statement M
 load_spec =

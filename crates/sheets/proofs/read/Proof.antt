@@ -17,16 +17,16 @@ use Rattle.sheets.proofs.read.Statement.{statement}
 use Rattle.sheets.proofs.read.Tie as tie
 
 -- ── the sheet is accepted ──
-abbrev sheet : tie.After-open-walked → List ℕ
+abbrev sheet : tie.After-open_walked-net → List ℕ
 sheet c = c.before.before.before.before.before.before.before.before.args.sheet.now
 
-abbrev net : tie.After-open-walked → Network
-net c = c.open-walked.result
+abbrev net : tie.After-open_walked-net → Network
+net c = c.open_walked-net.result
 
-accepted : (c : tie.Else1) → NoneOf (sheet_checks (sheet c.before)) × Holds (sheet c.before) (net c.before)
-accepted c = opens_passed (sheet c.before) (net c.before) c.if1.false c.before.open-walked.ensures.4
+accepted : (c : tie.Else-not-net) → NoneOf (sheet_checks (sheet c.before)) × Holds (sheet c.before) (net c.before)
+accepted c = opens_passed (sheet c.before) (net c.before) c.if-not-net.false c.before.open_walked-net.ensures.4
 
-few : (c : tie.Else1) → ((net c.before).sizes.edges ≤ 512) × ((net c.before).sizes.nodes ≤ 513) × ((net c.before).sizes.outer ≤ 1023)
+few : (c : tie.Else-not-net) → ((net c.before).sizes.edges ≤ 512) × ((net c.before).sizes.nodes ≤ 513) × ((net c.before).sizes.outer ≤ 1023)
 few c =
     let s = sheet c.before in
     let a = accepted c in
@@ -34,56 +34,56 @@ few c =
     (omega (arith, a.1.edges_are, n.3), omega (arith, a.1.nodes_are, n.1), omega (arith, a.1.outer_is, sheet_outer s a.0, n.3))
 
 -- ── there is room in all three slices ──
-abbrev told : tie.Else4 → tie.Else1
+abbrev told : tie.Else-capacities-darts → tie.Else-not-net
 told c = c.before.before.before.before.before
 
 -- ── the slices are filled, one after another ──
-abbrev roomy : tie.After-copy-darts → tie.Else4
+abbrev roomy : tie.After-copy_darts → tie.Else-capacities-darts
 roomy c = c.before.before.before.before
 
-abbrev tails-copied : tie.After-copy-darts2 → tie.After-copy-darts
+abbrev tails-copied : tie.After-copy_darts-2 → tie.After-copy_darts
 tails-copied c = c.before.before.before.before.before.before
 
-abbrev rotations-copied : tie.After-copy-capacities → tie.After-copy-darts2
+abbrev rotations-copied : tie.After-copy_capacities → tie.After-copy_darts-2
 rotations-copied c = c.before.before.before.before.before.before
 
-abbrev copied : tie.After-copy-capacities → tie.Else4
+abbrev copied : tie.After-copy_capacities → tie.Else-capacities-darts
 copied c = roomy (tails-copied (rotations-copied c))
 
 -- ── the needs, in the order of the code ──
-open-walked-requires : tie.Need-open-walked-requires
+open-walked-requires : tie.Need-open_walked-net-requires
 open-walked-requires c κs = (refl, refl, refl, refl)
 
-returns : tie.Need-returns
+returns : tie.Need-returns-then-not-net
 returns c =
     let o = c.before in
-    (read_refused _ _ _ _ _ _ (opens_refused (sheet o) (net o) c.if1.true o.open-walked.ensures.4), refl, refl, refl)
+    (read_refused _ _ _ _ _ _ (opens_refused (sheet o) (net o) c.if-not-net.true o.open_walked-net.ensures.4), refl, refl, refl)
 
-mul-darts : tie.Need-overflow-mul-darts
+mul-darts : tie.Need-overflow_mul-darts
 mul-darts c = omega (arith, (few c.before.before).0)
 
-returns-2 : tie.Need-returns-2
+returns-2 : tie.Need-returns-then-tails-darts
 returns-2 c = let a = accepted c.before.before.before in (read_short _ _ _ _ a.0 (inl (omega (arith, a.1.edges_are))), refl, refl, refl)
 
-returns-3 : tie.Need-returns-3
+returns-3 : tie.Need-returns-then-rotations-darts
 returns-3 c = let a = accepted c.before.before.before.before in (read_short _ _ _ _ a.0 (inr (inl (omega (arith, a.1.edges_are)))), refl, refl, refl)
 
-returns-4 : tie.Need-returns-4
+returns-4 : tie.Need-returns-then-capacities-darts
 returns-4 c =
     let a = accepted c.before.before.before.before.before in
     (read_short _ _ _ _ a.0 (inr (inr (omega (arith, a.1.edges_are)))), refl, refl, refl)
 
 -- the part of a slice that is lent has room for every dart and no more
-lent : {A : Type 0} (c : tie.Else1) (l : List A) → length (take (2 * (net c.before).sizes.edges - 0) l) ≤ 1024
+lent : {A : Type 0} (c : tie.Else-not-net) (l : List A) → length (take (2 * (net c.before).sizes.edges - 0) l) ≤ 1024
 lent c l = omega (arith, part_short (2 * (net c.before).sizes.edges) l, (few c).0)
 
-copy-darts-requires : tie.Need-copy-darts-requires
+copy-darts-requires : tie.Need-copy_darts-requires
 copy-darts-requires c κs = lent (told c.before.before.before) _
 
-copy-darts-requires-2 : tie.Need-copy-darts-requires-2
+copy-darts-requires-2 : tie.Need-copy_darts-requires-2
 copy-darts-requires-2 c κs = lent (told (roomy c.before.before.before.before.before)) _
 
-copy-capacities-requires : tie.Need-copy-capacities-requires
+copy-capacities-requires : tie.Need-copy_capacities-requires
 copy-capacities-requires c κs = lent (told (roomy (tails-copied c.before.before.before.before.before))) _
 
 narrow-requires : tie.Need-narrow-requires
@@ -95,7 +95,7 @@ narrow-requires-2 c κs = omega (arith, (few (told (copied c.before.before))).0)
 narrow-requires-3 : tie.Need-narrow-requires-3
 narrow-requires-3 c κs = omega (arith, (few (told (copied c.before.before.before))).2)
 
-returns-5 : tie.Need-returns-5
+returns-5 : tie.Need-returns
 returns-5 c =
     let k = c.before.before.before.before in
     let rotations = rotations-copied k in
@@ -106,13 +106,13 @@ returns-5 c =
     let e = a.1.edges_are in
     let all : 2 * (net t.before).sizes.edges ≡ _ = ap (λ m. 2 * m) e in (
       read_whole (sheet t.before) _ _ _ a.0
-          (omega (arith, e, r.before.before.if2.left)) (omega (arith, e, r.before.if3.left)) (omega (arith, e, r.if4.left)),
+          (omega (arith, e, r.before.before.if-tails-darts.left)) (omega (arith, e, r.before.if-rotations-darts.left)) (omega (arith, e, r.if-capacities-darts.left)),
       c.before.before.narrow.ensures ∙ a.1.nodes_are,
-      c.before.narrow2.ensures ∙ e,
-      c.narrow3.ensures ∙ a.1.outer_is,
-      part_copied _ _ _ _ _ _ r.before.before.if2.left all a.1.tails_are tails.copy-darts.ensures,
-      part_copied _ _ _ _ _ _ r.before.if3.left all a.1.rotations_are rotations.copy-darts2.ensures,
-      part_copied _ _ _ _ _ _ r.if4.left all a.1.capacities_are k.copy-capacities.ensures,
+      c.before.narrow-2.ensures ∙ e,
+      c.narrow-3.ensures ∙ a.1.outer_is,
+      part_copied _ _ _ _ _ _ r.before.before.if-tails-darts.left all a.1.tails_are tails.copy_darts.ensures,
+      part_copied _ _ _ _ _ _ r.before.if-rotations-darts.left all a.1.rotations_are rotations.copy_darts-2.ensures,
+      part_copied _ _ _ _ _ _ r.if-capacities-darts.left all a.1.capacities_are k.copy_capacities.ensures,
     )
 
 pub read_spec : {M : Type 1} → statement M

@@ -17,7 +17,7 @@ use Rattle.sheets.proofs.Opening.{tails_are, rotations_are, capacities_are}
 use Rattle.sheets.proofs.read_edges.Statement.{statement}
 use Rattle.sheets.proofs.read_edges.Tie as tie
 
-abbrev invariant-loop : tie.invariant-loop
+abbrev invariant-loop : tie.invariant-loop-e
 invariant-loop s head nodes edges tails₀ rotations₀ capacities₀ e₀ tails rotations capacities e =
     (e ≤ edges)
     × (edges ≤ 512)
@@ -26,25 +26,25 @@ invariant-loop s head nodes edges tails₀ rotations₀ capacities₀ e₀ tails
     × Filling 0 (field16 s 5) (2 * e) rotations
     × Filling (pos 0) (field32 s 9) (2 * e) capacities
 
-abbrev decreases-loop : tie.decreases-loop
+abbrev decreases-loop : tie.decreases-loop-e
 decreases-loop s head nodes edges tails₀ rotations₀ capacities₀ e₀ tails rotations capacities e = edges - e
 
 -- ── the start, and a turn of the loop ──
-abbrev begun : tie.At-loop invariant-loop decreases-loop → tie.Start invariant-loop decreases-loop
+abbrev begun : tie.At-loop-e invariant-loop decreases-loop → tie.Start invariant-loop decreases-loop
 begun c = c.before.before
 
-abbrev turn : tie.After-read-edge invariant-loop decreases-loop → tie.At-loop invariant-loop decreases-loop
+abbrev turn : tie.After-read_edge-edge invariant-loop decreases-loop → tie.At-loop-e invariant-loop decreases-loop
 turn c = c.before.before
 
-abbrev read : tie.After-struct-told2 invariant-loop decreases-loop → tie.After-read-edge invariant-loop decreases-loop
+abbrev read : tie.After-struct_told-in-loop-e-1 invariant-loop decreases-loop → tie.After-read_edge-edge invariant-loop decreases-loop
 read c = c.before.before.before.before
 
 -- ── the edge that was read passed ──
-passed : (c : tie.After-struct-told2 invariant-loop decreases-loop)
+passed : (c : tie.After-struct_told-in-loop-e-1 invariant-loop decreases-loop)
     → NoneOf (edge_record_checks (begun (turn (read c))).args.s.now (turn (read c)).loop.e)
     × FieldsOf (begun (turn (read c))).args.s.now (turn (read c)).loop.e (read c).read-edge.result
 passed c =
-    subst (EdgeRead (begun (turn (read c))).args.s.now (turn (read c)).loop.e (read c).read-edge.result) c.before.before.enum_told.given.1
+    subst (EdgeRead (begun (turn (read c))).args.s.now (turn (read c)).loop.e (read c).read-edge.result) c.before.before.enum_told-1.given.1
     (read c).read-edge.ensures
 
 -- two places further
@@ -52,7 +52,7 @@ two-more : {A : Type 0} {z : A} {f : ℕ → A} (e : ℕ) (to : List A) → Fill
 two-more {z = z} {f = f} e to φ = subst (λ k. Filling z f k to) (omega arith) φ
 
 -- ── the needs, in the order of the code ──
-loop-holds : tie.Need-loop-init invariant-loop decreases-loop
+loop-holds : tie.Need-loop-e-init invariant-loop decreases-loop
 loop-holds c =
     let p = c.before.requires in (
       omega arith,
@@ -63,12 +63,12 @@ loop-holds c =
       filling_start _ p.8 p.9,
     )
 
-read-edge-requires : tie.Need-read-edge-requires invariant-loop decreases-loop
+read-edge-requires : tie.Need-read_edge-edge-requires invariant-loop decreases-loop
 read-edge-requires c κs =
     let p = (begun c.before).pre in
-    (c.before.loop.invariant.1, omega arith, omega (arith, p.1, head_whole _ p.0), p.1, p.2, p.3)
+    (c.before.loop-e.invariant.1, omega arith, omega (arith, p.1, head_whole _ p.0), p.1, p.2, p.3)
 
-returns : tie.Need-returns invariant-loop decreases-loop
+returns : tie.Need-returns-in-Refused invariant-loop decreases-loop
 returns c =
     let edge = c.before.before.before in
     let o = (turn edge).loop in
@@ -77,17 +77,17 @@ returns c =
       o.inv.4.long,
       o.inv.5.long,
       refused_edge _ p.0 o.e _ _ (omega (arith, p.3)) o.inv.2
-          (subst (EdgeRead (begun (turn edge)).args.s.now o.e edge.read-edge.result) c.before.verdict.given.1 edge.read-edge.ensures),
+          (subst (EdgeRead (begun (turn edge)).args.s.now o.e edge.read_edge-edge.result) c.before.verdict-1.given.1 edge.read_edge-edge.ensures),
     )
 
-loop-again : tie.Need-loop-preserved invariant-loop decreases-loop
+loop-again : tie.Need-loop-e-preserved invariant-loop decreases-loop
 loop-again c =
     let o = (turn (read c)).loop in
     let e = o.e in
     let few = o.inv.1 in
     let r = (read c).read-edge.result in
     let f = (passed c).1 in
-    let told = c.struct-told2.given in (
+    let told = c.struct_told-in-loop-e-1.given in (
       omega arith,
       few,
       below_more _ e o.inv.2 (passed c).0,
@@ -100,24 +100,24 @@ loop-again c =
           _ (omega (arith, few)) (number_of_bits r.backward (record { sfits = told.1.1.1.1.1.1.0.1 }) ∙ f.backward_is)),
     )
 
-edge-at-requires : tie.Need-edge-at-requires invariant-loop decreases-loop
-edge-at-requires c κs = let p = (begun c.before).pre in (omega (arith, p.1, head_whole _ p.0), c.before.loop.invariant.1)
+edge-at-requires : tie.Need-edge_at-requires invariant-loop decreases-loop
+edge-at-requires c κs = let p = (begun c.before).pre in (omega (arith, p.1, head_whole _ p.0), c.before.loop-e.invariant.1)
 
-returns-2 : tie.Need-returns-2 invariant-loop decreases-loop
+returns-2 : tie.Need-returns-then-edge_at-s invariant-loop decreases-loop
 unfolding FirstOf
 returns-2 c =
-    let o = c.before.before.before.loop in
+    let o = c.before.before.before.loop-e in
     let p = (begun c.before.before.before).pre in (
       o.invariant.3.long,
       o.invariant.4.long,
       o.invariant.5.long,
-      refused_left _ p.0 (λ k l. o.invariant.2 k (omega (arith, p.3))) (inl (omega (arith, c.before.edge-at.ensures, p.1, p.3), refl, refl)),
+      refused_left _ p.0 (λ k l. o.invariant.2 k (omega (arith, p.3))) (inl (omega (arith, c.before.edge_at.ensures, p.1, p.3), refl, refl)),
     )
 
-returns-3 : tie.Need-returns-3 invariant-loop decreases-loop
+returns-3 : tie.Need-returns invariant-loop decreases-loop
 unfolding NoneOf
 returns-3 c =
-    let o = c.before.before.before.loop in
+    let o = c.before.before.before.loop-e in
     let p = (begun c.before.before.before).pre in
     let s = (begun c.before.before.before).args.s.now in
     let all : 2 * o.e ≡ 2 * edges_of s = omega (arith, p.3) in (
@@ -125,7 +125,7 @@ returns-3 c =
       o.invariant.4.long,
       o.invariant.5.long,
       (
-        all_passed _ p.0 (λ k l. o.invariant.2 k (omega (arith, p.3))) (λ l. omega (arith, c.before.edge-at.ensures, p.1, p.3), tt),
+        all_passed _ p.0 (λ k l. o.invariant.2 k (omega (arith, p.3))) (λ l. omega (arith, c.before.edge_at.ensures, p.1, p.3), tt),
         record {
           tails_are = tails_are s _ all _ o.invariant.3;
           rotations_are = rotations_are s _ all _ o.invariant.4;
@@ -134,8 +134,8 @@ returns-3 c =
       ),
     )
 
-pub read-edges-spec : {M : Type 1} → statement M
-read-edges-spec =
+pub read_edges_spec : {M : Type 1} → statement M
+read_edges_spec =
     tie.close
     (tie.spec
     invariant-loop

@@ -21,74 +21,74 @@ use Rattle.sheets.proofs.read_sheet.Statement.{statement}
 use Rattle.sheets.proofs.read_sheet.Tie as tie
 
 -- ── the head passed ──
-abbrev begun : tie.After-read-head → tie.Start
+abbrev begun : tie.After-read_head-head → tie.Start
 begun c = c.before.before
 
-head_read : (c : tie.After-read-head) (v : Verdict) → c.read_head.result.verdict ≡ v → HeadRead (begun c).args.s.now c.read_head.result v
-head_read c v e = subst (HeadRead (begun c).args.s.now c.read_head.result) e c.read_head.ensures
+head_read : (c : tie.After-read_head-head) (v : Verdict) → c.read_head-head.result.verdict-1 ≡ v → HeadRead (begun c).args.s.now c.read_head-head.result v
+head_read c v e = subst (HeadRead (begun c).args.s.now c.read_head-head.result) e c.read_head-head.ensures
 
-abbrev headed : tie.After-enum-told → tie.After-read-head
+abbrev headed : tie.In_default → tie.After-read_head-head
 headed c = c.before.before
 
-head_passed : (c : tie.After-enum-told)
+head_passed : (c : tie.In_default)
     → NoneOf (head_checks (begun (headed c)).args.s.now) × HeadOf (begun (headed c)).args.s.now (headed c).read_head.result
-head_passed c = head_read (headed c) _ c.enum_told.given.1
+head_passed c = head_read (headed c) _ c.enum_told-1.given.1
 
 -- ── the edges passed ──
-abbrev told : tie.After-read-edges → tie.After-enum-told
+abbrev told : tie.After-read_edges-read → tie.In_default
 told c = c.before.before.before.before
 
-abbrev start : tie.After-read-edges → tie.Start
+abbrev start : tie.After-read_edges-read → tie.Start
 start c = begun (headed (told c))
 
-abbrev sheet : tie.After-read-edges → List ℕ
+abbrev sheet : tie.After-read_edges-read → List ℕ
 sheet c = (start c).args.s.now
 
-abbrev tails : tie.After-read-edges → List ℕ
-tails c = c.read-edges.new.1.1.1.1.0
+abbrev tails : tie.After-read_edges-read → List ℕ
+tails c = c.read_edges-read.new.1.1.1.1.0
 
-abbrev rotations : tie.After-read-edges → List ℕ
-rotations c = c.read-edges.new.1.1.1.1.1.0
+abbrev rotations : tie.After-read_edges-read → List ℕ
+rotations c = c.read_edges-read.new.1.1.1.1.1.0
 
-abbrev capacities : tie.After-read-edges → List ℤ
-capacities c = c.read-edges.new.1.1.1.1.1.1.0
+abbrev capacities : tie.After-read_edges-read → List ℤ
+capacities c = c.read_edges-read.new.1.1.1.1.1.1.0
 
-edges-read : (c : tie.After-read-edges) (v : Verdict) → c.read-edges.result ≡ v → EdgesRead (sheet c) (tails c) (rotations c) (capacities c) v
-edges-read c v e = subst (EdgesRead (sheet c) (tails c) (rotations c) (capacities c)) e c.read-edges.ensures.3
+edges-read : (c : tie.After-read_edges-read) (v : Verdict) → c.read_edges-read.result ≡ v → EdgesRead (sheet c) (tails c) (rotations c) (capacities c) v
+edges-read c v e = subst (EdgesRead (sheet c) (tails c) (rotations c) (capacities c)) e c.read_edges-read.ensures.3
 
-abbrev read : tie.After-enum-told2 → tie.After-read-edges
+abbrev read : tie.In_default-read → tie.After-read_edges-read
 read c = c.before.before
 
-edges-passed : (c : tie.After-enum-told2)
+edges-passed : (c : tie.In_default-read)
     → NoneOf (byte_checks (sheet (read c))) × FieldsRead (sheet (read c)) (tails (read c)) (rotations (read c)) (capacities (read c))
-edges-passed c = edges-read (read c) _ c.enum-told2.given.1
+edges-passed c = edges-read (read c) _ c.enum_told-in_default-read-1.given.1
 
 -- ── the map that the arrays hold is the sheet's ──
-abbrev head : (c : tie.After-enum-told2) → HeadOf (sheet (read c)) (headed (told (read c))).read_head.result
+abbrev head : (c : tie.In_default-read) → HeadOf (sheet (read c)) (headed (told (read c))).read_head.result
 head c = (head_passed (told (read c))).1
 
-abbrev map' : tie.After-enum-told2 → Map
+abbrev map' : tie.In_default-read → Map
 map' c = let h = (headed (told (read c))).read_head.result in map_of h.nodes h.edges (tails (read c)) (rotations (read c))
 
-map_is : (c : tie.After-enum-told2) → map' c ≡ sheet_map (sheet (read c))
+map_is : (c : tie.In_default-read) → map' c ≡ sheet_map (sheet (read c))
 map_is c =
     let f = (edges-passed c).1 in
     maps_are (sheet (read c)) _ _ (tails (read c)) (rotations (read c)) (head c).nodes_are (head c).edges_are f.tails_are f.rotations_are
 
-abbrev lent : tie.After-check-map → tie.After-enum-told2
+abbrev lent : tie.After-check_map-checked → tie.In_default-read
 lent c = c.before.before.before.before.before.before.before.before
 
-abbrev lefts : tie.After-check-map → List ℕ
-lefts c = c.check-map.new.1.1.1.1.1.0
+abbrev lefts : tie.After-check_map-checked → List ℕ
+lefts c = c.check_map-checked.new.1.1.1.1.1.0
 
-judged : (c : tie.After-check-map) (v : Verdict) → c.check-map.result.verdict ≡ v
-    → MapJudged (sheet_map (sheet (read (lent c)))) (at (lefts c)) c.check-map.result.faces v
+judged : (c : tie.After-check_map-checked) (v : Verdict) → c.check_map-checked.result.verdict-1 ≡ v
+    → MapJudged (sheet_map (sheet (read (lent c)))) (at (lefts c)) c.check_map-checked.result.faces v
 judged c v e =
-    subst (MapJudged (sheet_map (sheet (read (lent c)))) (at (lefts c)) c.check-map.result.faces) e
-    (subst (λ 𝓜. MapJudged 𝓜 (at (lefts c)) c.check-map.result.faces c.check-map.result.verdict) (map_is (lent c)) c.check-map.ensures.5)
+    subst (MapJudged (sheet_map (sheet (read (lent c)))) (at (lefts c)) c.check_map-checked.result.faces) e
+    (subst (λ 𝓜. MapJudged 𝓜 (at (lefts c)) c.check_map-checked.result.faces c.check_map-checked.result.verdict-1) (map_is (lent c)) c.check_map-checked.ensures.5)
 
 -- ── the needs, in the order of the code ──
-returns : tie.Need-returns
+returns : tie.Need-returns-in-Refused
 returns c =
     let h = c.before.before.before.before in
     let a = (begun h).args in
@@ -103,24 +103,24 @@ returns c =
       p.9,
       p.10,
       p.11,
-      opens_bytes a.s.now n _ _ r (refused_head _ _ _ (head_read h _ c.before.before.whole.given.1)),
+      opens_bytes a.s.now n _ _ r (refused_head _ _ _ (head_read h _ c.before.before.whole-1.given.1)),
       not_accepted r.0,
     )
 
-read-edges-requires : tie.Need-read-edges-requires
+read-edges-requires : tie.Need-read_edges-read-requires
 read-edges-requires c κs =
     let t = c.before.before.before in
     let h = head_passed t in
     let p = (begun (headed t)).requires in
     (h.0, h.1.length_is, h.1.nodes_are, h.1.edges_are, p.0, p.1, p.2, p.3, p.4, p.5)
 
-returns-2 : tie.Need-returns-2
+returns-2 : tie.Need-returns-in-Refused-read
 returns-2 c =
     let e = c.before.before.before.before in
     let p = (start e).requires in
-    let l = e.read-edges.ensures in
-    let r = c.refused2.ensures in
-    let n = network_of c.refused2.result (tails e) (rotations e) (capacities e) (start e).args.lefts.now in (
+    let l = e.read_edges-read.ensures in
+    let r = c.refused-in-Refused-read.ensures in
+    let n = network_of c.refused-in-Refused-read.result (tails e) (rotations e) (capacities e) (start e).args.lefts.now in (
       l.0,
       l.1,
       l.2,
@@ -129,11 +129,11 @@ returns-2 c =
       p.9,
       p.10,
       p.11,
-      opens_bytes (sheet e) n _ _ r (edges-read e _ c.before.before.read.given.1),
+      opens_bytes (sheet e) n _ _ r (edges-read e _ c.before.before.read-1.given.1),
       not_accepted r.0,
     )
 
-check-map-requires : tie.Need-check-map-requires
+check-map-requires : tie.Need-check_map-checked-requires
 check-map-requires c κs =
     let e = c.before.before.before.before.before.before.before in
     let s = sheet (read e) in
@@ -153,14 +153,14 @@ check-map-requires c κs =
       p.7,
     )
 
-returns-3 : tie.Need-returns-3
+returns-3 : tie.Need-returns-in-Refused-verdict
 returns-3 c =
     let m = c.before.before.before.before in
     let k = read (lent m) in
-    let l = k.read-edges.ensures in
-    let e = m.check-map.ensures in
-    let r = c.refused3.ensures in
-    let n = network_of c.refused3.result (tails k) (rotations k) (capacities k) (lefts m) in (
+    let l = k.read_edges-read.ensures in
+    let e = m.check_map-checked.ensures in
+    let r = c.refused-in-Refused-verdict.ensures in
+    let n = network_of c.refused-in-Refused-verdict.result (tails k) (rotations k) (capacities k) (lefts m) in (
       l.0,
       l.1,
       l.2,
@@ -169,19 +169,19 @@ returns-3 c =
       e.2,
       e.3,
       e.4,
-      opens_map (sheet k) n _ _ r (edges-passed (lent m)).0 (judged m _ c.before.before.verdict.given.1),
+      opens_map (sheet k) n _ _ r (edges-passed (lent m)).0 (judged m _ c.before.before.verdict-1.given.1),
       not_accepted r.0,
     )
 
-returns-4 : tie.Need-returns-4
+returns-4 : tie.Need-returns
 returns-4 c =
     let m = c.before.before in
     let l = lent m in
     let r = (read l).read-edges.ensures in
     let h = head l in
     let f = (edges-passed l).1 in
-    let j = judged m _ c.enum-told3.given.1 in
-    let e = m.check-map.ensures in (
+    let j = judged m _ c.enum_told-in_default-verdict-1.given.1 in
+    let e = m.check_map-checked.ensures in (
       r.0,
       r.1,
       r.2,
@@ -203,11 +203,11 @@ returns-4 c =
           lefts_are = j.1;
         },
       ),
-      λ _. if-passed c.enum-told3.given.1 e.6,
+      λ _. if-passed c.enum_told-in_default-verdict-1.given.1 e.6,
     )
 
-pub read-sheet-spec : {M : Type 1} → statement M
-read-sheet-spec =
+pub read_sheet_spec : {M : Type 1} → statement M
+read_sheet_spec =
     tie.close
     (tie.spec
     (λ c κs. search rules)

@@ -9,38 +9,38 @@ use Rattle.sheets.proofs.write_edge.Statement.{statement}
 use Rattle.sheets.proofs.write_edge.Tie as tie
 
 -- ── the places, from the last field to the first ──
-abbrev forward-at : tie.After-write-i322 → tie.After-write-i32
+abbrev forward-at : tie.After-write_i32-2 → tie.After-write_i32
 forward-at c = c.before.before.before.before
 
-abbrev back-rotation-at : tie.After-write-i32 → tie.After-write-u164
+abbrev back-rotation-at : tie.After-write_i32 → tie.After-write_u16-4
 back-rotation-at c = c.before.before.before.before
 
-abbrev rotation-at : tie.After-write-u164 → tie.After-write-u163
+abbrev rotation-at : tie.After-write_u16-4 → tie.After-write_u16-3
 rotation-at c = c.before.before.before.before
 
-abbrev head_at : tie.After-write-u163 → tie.After-write-u162
+abbrev head_at : tie.After-write_u16-3 → tie.After-write_u16-2
 head_at c = c.before.before.before.before
 
-abbrev tail_at : tie.After-write-u162 → tie.After-write-u16
+abbrev tail_at : tie.After-write_u16-2 → tie.After-write_u16
 tail_at c = c.before.before.before.before
 
-abbrev kind_at : tie.After-write-u16 → tie.After-write-u8
+abbrev kind_at : tie.After-write_u16 → tie.After-write_u8
 kind_at c = c.before.before.before.before
 
-abbrev begun : tie.After-write-u8 → tie.Start
+abbrev begun : tie.After-write_u8 → tie.Start
 begun c = c.before.before.before
 
-abbrev start : tie.After-write-i32 → tie.Start
+abbrev start : tie.After-write_i32 → tie.Start
 start c = begun (kind_at (tail_at (head_at (rotation-at (back-rotation-at c)))))
 
 -- ── the capacities, whose bits are the numbers given ──
-forward-put : (c : tie.After-write-i32)
-    → c.write-i32.new.0 ≡ put ((start c).args.place + 9) (le32 (start c).args.forward) (back-rotation-at c).write-u164.new.0
-forward-put c = rw (number_of_bits (start c).args.forward (start c).ranges.forward) at c.write-i32.ensures
+forward-put : (c : tie.After-write_i32)
+    → c.write_i32.new.0 ≡ put ((start c).args.place + 9) (le32 (start c).args.forward) (back-rotation-at c).write-u164.new.0
+forward-put c = rw (number_of_bits (start c).args.forward (start c).ranges.forward) at c.write_i32.ensures
 
-backward-put : (c : tie.After-write-i322)
-    → c.write-i322.new.0 ≡ put ((start (forward-at c)).args.place + 13) (le32 (start (forward-at c)).args.backward) (forward-at c).write-i32.new.0
-backward-put c = rw (number_of_bits (start (forward-at c)).args.backward (start (forward-at c)).ranges.backward) at c.write-i322.ensures
+backward-put : (c : tie.After-write_i32-2)
+    → c.write_i32-2.new.0 ≡ put ((start (forward-at c)).args.place + 13) (le32 (start (forward-at c)).args.backward) (forward-at c).write-i32.new.0
+backward-put c = rw (number_of_bits (start (forward-at c)).args.backward (start (forward-at c)).ranges.backward) at c.write_i32-2.ensures
 
 -- ── all seven fields are one record ──
 returns : tie.Need-returns
@@ -53,12 +53,12 @@ returns c =
     let tail = tail_at head in
     let s = start forward in
     let a = s.args in
-    edge_placed a.out.now a.place a.tail a.head a.rotation a.back-rotation a.forward a.backward s.pre.1
-    (kind_at tail).write-u8.ensures tail.write-u16.ensures head.write-u162.ensures rotation.write-u163.ensures back.write-u164.ensures
+    edge_placed a.out-1.now a.place a.tail a.head a.rotation a.back-rotation a.forward a.backward s.pre.1
+    (kind_at tail).write-u8.ensures tail.write_u16.ensures head.write_u16-2.ensures rotation.write_u16-3.ensures back.write_u16-4.ensures
     (forward-put forward) (backward-put last)
 
-pub write-edge-spec : {M : Type 1} → statement M
-write-edge-spec =
+pub write_edge_spec : {M : Type 1} → statement M
+write_edge_spec =
     tie.close
     (tie.spec
     (λ c κs. search rules)

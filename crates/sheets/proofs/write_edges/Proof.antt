@@ -23,88 +23,88 @@ use Rattle.sheets.proofs.write_edges.Tie as tie
 abbrev Front : Drawing → ℕ → (old l : List ℕ) → Type 0
 Front 𝓓 n old l = l ≡ (encode_head 𝓓 ++ encode_edges 𝓓 n) ++ drop (encode_length n) old
 
-abbrev invariant-loop : tie.invariant-loop
+abbrev invariant-loop : tie.invariant-loop-e
 invariant-loop out₀ tails rotations capacities head edges e₀ out e =
     (e ≤ edges)
     × (length out ≡ length out₀)
     × ((nodes outer : ℕ) (old : List ℕ) → out₀ ≡ encode_head (slices_drawing nodes outer tails rotations capacities) ++ drop (record_length 4) old
     → Front (slices_drawing nodes outer tails rotations capacities) e old out)
 
-abbrev decreases-loop : tie.decreases-loop
+abbrev decreases-loop : tie.decreases-loop-e
 decreases-loop out₀ tails rotations capacities head edges e₀ out e = edges - e
 
 abbrev drawn : (nodes outer : ℕ) → tie.Start invariant-loop decreases-loop → Drawing
 drawn nodes outer s = slices_drawing nodes outer s.args.tails.now s.args.rotations.now s.args.capacities.now
 
 -- ── the places: where the record's place is known, the turn of the loop, the start ──
-abbrev located : tie.After-write-edge-arg3 invariant-loop decreases-loop → tie.After-edge-at invariant-loop decreases-loop
+abbrev located : tie.After-write_edge-arg-in-loop-e-2-1 invariant-loop decreases-loop → tie.After-edge_at-place invariant-loop decreases-loop
 located c = c.before.before.before.before.before.before.before
 
-abbrev turn : tie.After-write-edge-arg3 invariant-loop decreases-loop → tie.At-loop invariant-loop decreases-loop
+abbrev turn : tie.After-write_edge-arg-in-loop-e-2-1 invariant-loop decreases-loop → tie.At-loop-e invariant-loop decreases-loop
 turn c = (located c).before.before
 
-abbrev begun : tie.After-write-edge-arg3 invariant-loop decreases-loop → tie.Start invariant-loop decreases-loop
+abbrev begun : tie.After-write_edge-arg-in-loop-e-2-1 invariant-loop decreases-loop → tie.Start invariant-loop decreases-loop
 begun c = (turn c).before.before.before.before.before
 
 -- ── an edge is written ──
-abbrev record_of : (nodes outer : ℕ) → tie.After-write-edge-arg3 invariant-loop decreases-loop → List ℕ
+abbrev record_of : (nodes outer : ℕ) → tie.After-write_edge-arg-in-loop-e-2-1 invariant-loop decreases-loop → List ℕ
 record_of nodes outer c = encode_edge (drawn nodes outer (begun c)) (turn c).loop.e
 
 -- its record stands where the call was told; the nodes and the outer dart play no part in it
-put-there : (c : tie.After-write-edge invariant-loop decreases-loop) (nodes outer : ℕ)
-    → c.write-edge.new.0 ≡ put (located c.before).edge-at.result (record_of nodes outer c.before) (turn c.before).loop.out
+put-there : (c : tie.After-write_edge invariant-loop decreases-loop) (nodes outer : ℕ)
+    → c.write_edge.new.0 ≡ put (located c.before).edge-at.result (record_of nodes outer c.before) (turn c.before).loop.out-1
 unfolding encode_edge
 put-there c nodes outer =
     let a = c.before in
     let e = (turn a).loop.e in
     let capacities = (begun a).args.capacities.now in
     rw (
-      number_of_bits (get_or capacities (2 * e) (pos 0)) (record { sfits = a.before.write-edge-arg2.given }),
-      number_of_bits (get_or capacities (2 * e + 1) (pos 0)) (record { sfits = a.write-edge-arg3.given }),
-    ) at c.write-edge.ensures
+      number_of_bits (get_or capacities (2 * e) (pos 0)) (record { sfits = a.before.write_edge-arg-in-loop-e-1.given }),
+      number_of_bits (get_or capacities (2 * e + 1) (pos 0)) (record { sfits = a.write_edge-arg-in-loop-e-2-1.given }),
+    ) at c.write_edge.ensures
 
 -- and that is where the table has it, behind a head of kind 4
-place : (c : tie.After-edge-at invariant-loop decreases-loop) → c.edge-at.result ≡ encode_length c.before.before.loop.e
-place c = let o = c.before.before in c.edge-at.ensures ∙ ap (λ n. edge_after n o.loop.e) o.before.record-length.ensures.0
+place : (c : tie.After-edge_at-place invariant-loop decreases-loop) → c.edge_at-place.result ≡ encode_length c.before.before.loop-e.e
+place c = let o = c.before.before in c.edge_at-place.ensures ∙ ap (λ n. edge_after n o.loop-e.e) o.before.record_length-head.ensures.0
 
-written : (c : tie.After-write-edge invariant-loop decreases-loop) (nodes outer : ℕ)
-    → c.write-edge.new.0 ≡ put (encode_length (turn c.before).loop.e) (record_of nodes outer c.before) (turn c.before).loop.out
+written : (c : tie.After-write_edge invariant-loop decreases-loop) (nodes outer : ℕ)
+    → c.write_edge.new.0 ≡ put (encode_length (turn c.before).loop.e) (record_of nodes outer c.before) (turn c.before).loop.out-1
 written c nodes outer =
     let a = c.before in
-    put-there c nodes outer ∙ ap (λ n. put n (record_of nodes outer a) (turn a).loop.out) (place (located a))
+    put-there c nodes outer ∙ ap (λ n. put n (record_of nodes outer a) (turn a).loop.out-1) (place (located a))
 
 -- so the length is kept
-kept : (c : tie.After-write-edge invariant-loop decreases-loop) → length c.write-edge.new.0 ≡ length (turn c.before).loop.out
+kept : (c : tie.After-write_edge invariant-loop decreases-loop) → length c.write_edge.new.0 ≡ length (turn c.before).loop.out-1
 kept c =
     let a = c.before in
     placed_length (placed_first {bs = record_of 0 0 a} (written c 0 0) (edge_length (drawn 0 0 (begun a)) (turn a).loop.e))
     (omega (arith, (turn a).loop.invariant.1, (begun a).requires.3))
 
 -- ── the needs, in the order of the code ──
-loop-holds : tie.Need-loop-init invariant-loop decreases-loop
+loop-holds : tie.Need-loop-e-init invariant-loop decreases-loop
 loop-holds c = (omega arith, refl, λ nodes outer old e. write_start (drawn nodes outer c.before.before.before.before) old _ e)
 
-write-edge-requires : tie.Need-write-edge-requires invariant-loop decreases-loop
+write-edge-requires : tie.Need-write_edge-requires invariant-loop decreases-loop
 write-edge-requires c κs = omega (arith, place (located c), (turn c).loop.invariant.1, (begun c).requires.3)
 
-loop-again : tie.Need-loop-preserved invariant-loop decreases-loop
+loop-again : tie.Need-loop-e-preserved invariant-loop decreases-loop
 loop-again c =
     let w = c.before.before in
     let a = w.before in
     let o = (turn a).loop in (
       omega arith,
       kept w ∙ o.inv.1,
-      λ nodes outer old e. write_step (drawn nodes outer (begun a)) old o.e o.out _ (o.inv.2 nodes outer old e) (written w nodes outer),
+      λ nodes outer old e. write_step (drawn nodes outer (begun a)) old o.e o.out-1 _ (o.inv.2 nodes outer old e) (written w nodes outer),
     )
 
 returns : tie.Need-returns invariant-loop decreases-loop
 returns c = λ nodes outer old e.
     let o = c.before in
     let s = o.before.before.before.before.before in
-    write_end (drawn nodes outer s) old o.loop.e _ (omega arith) (o.loop.invariant.2 nodes outer old e)
+    write_end (drawn nodes outer s) old o.loop-e.e _ (omega arith) (o.loop-e.invariant.2 nodes outer old e)
 
-pub write-edges-spec : {M : Type 1} → statement M
-write-edges-spec =
+pub write_edges_spec : {M : Type 1} → statement M
+write_edges_spec =
     tie.close
     (tie.spec
     invariant-loop

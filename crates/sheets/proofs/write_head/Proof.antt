@@ -5,16 +5,16 @@ use Rattle.sheets.proofs.write_head.Statement.{statement}
 use Rattle.sheets.proofs.write_head.Tie as tie
 
 -- ── the places, from the last field to the first ──
-abbrev edges_at : tie.After-write-u163 → tie.After-write-u162
+abbrev edges_at : tie.After-write_u16-3 → tie.After-write_u16-2
 edges_at c = c.before.before.before.before
 
-abbrev nodes-at : tie.After-write-u162 → tie.After-write-u16
+abbrev nodes-at : tie.After-write_u16-2 → tie.After-write_u16
 nodes-at c = c.before.before.before.before
 
-abbrev kind_at : tie.After-write-u16 → tie.After-write-u8
+abbrev kind_at : tie.After-write_u16 → tie.After-write_u8
 kind_at c = c.before.before.before.before
 
-abbrev begun : tie.After-write-u8 → tie.Start
+abbrev begun : tie.After-write_u8 → tie.Start
 begun c = c.before.before.before
 
 -- ── all four fields are one record ──
@@ -25,10 +25,10 @@ returns c =
     let nodes = nodes-at edges in
     let kind = kind_at nodes in
     let s = begun kind in
-    head_placed s.args.out.now s.args.nodes s.args.edges s.args.outer s.pre
-    kind.write-u8.ensures nodes.write-u16.ensures edges.write-u162.ensures outer.write-u163.ensures
+    head_placed s.args.out-1.now s.args.nodes s.args.edges s.args.outer s.pre
+    kind.write_u8.ensures nodes.write_u16.ensures edges.write_u16-2.ensures outer.write_u16-3.ensures
 
-pub write-head-spec : {M : Type 1} → statement M
-write-head-spec =
+pub write_head_spec : {M : Type 1} → statement M
+write_head_spec =
     tie.close
     (tie.spec (λ c κs. search rules) (λ c κs. search rules) (λ c κs. search rules) (λ c κs. search rules) (λ c. search rules) returns)

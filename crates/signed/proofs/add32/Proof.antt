@@ -6,17 +6,17 @@ use Rattle.signed.proofs.Laws.{number_of_bits, fits_wider, widened, add_fits}
 use Rattle.signed.proofs.add32.Statement.{statement}
 use Rattle.signed.proofs.add32.Tie as tie
 
-cast-result : tie.Need-overflow-cast-result
+cast-result : tie.Need-overflow_cast-result
 cast-result c = rw (number_of_bits c.args.a c.ranges.a) (fits_wider c.ranges.a)
 
-cast-result-2 : tie.Need-overflow-cast-result-2
+cast-result-2 : tie.Need-overflow_cast-result-2
 cast-result-2 c = rw (number_of_bits c.args.b c.ranges.b) (fits_wider c.ranges.b)
 
-add-result : tie.Need-overflow-add-result
+add-result : tie.Need-overflow_add-result
 add-result c = rw (widened c.args.a c.ranges.a, widened c.args.b c.ranges.b) (add_fits c.args.a c.args.b c.ranges.a c.ranges.b)
 
 returns : tie.Need-returns
 returns c = to_z-of_z w64 _ (add-result c) ∙ rw (widened c.args.a c.ranges.a, widened c.args.b c.ranges.b)
 
-pub add32-spec : {M : Type 1} → statement M
-add32-spec = tie.close (tie.spec cast-result cast-result-2 add-result returns)
+pub add32_spec : {M : Type 1} → statement M
+add32_spec = tie.close (tie.spec cast-result cast-result-2 add-result returns)

@@ -10,9 +10,9 @@ use Rattle.signed.proofs.halve.Tie as tie
 returns : tie.Need-returns
 returns c =
     let s = c.before.before in
-    halved s.args.x _ c.before.to-bits.result s.ranges.x s.requires
-    (c.before.to-bits.ensures ∙ ap (of_z w32) (number_of_bits _ s.ranges.x))
-    (number_of_bits _ (record { sfits = c.of-bits.type-inv }) ∙ c.of-bits.ensures)
+    halved s.args.x _ c.before.to_bits.result s.ranges.x s.requires
+    (c.before.to_bits.ensures ∙ ap (of_z w32) (number_of_bits _ s.ranges.x))
+    (number_of_bits _ (record { sfits = c.of_bits.type_inv }) ∙ c.of_bits.ensures)
 
-pub halve-spec : {M : Type 1} → statement M
-halve-spec = tie.close (tie.spec (λ c κs. search rules) (λ c κs. search rules) returns)
+pub halve_spec : {M : Type 1} → statement M
+halve_spec = tie.close (tie.spec (λ c κs. search rules) (λ c κs. search rules) returns)

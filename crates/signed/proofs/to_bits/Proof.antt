@@ -8,40 +8,40 @@ use Rattle.signed.proofs.Laws.{number_of_bits, bits_below, turned_over, not_belo
 use Rattle.signed.proofs.to_bits.Statement.{statement}
 use Rattle.signed.proofs.to_bits.Tie as tie
 
-cast-result : tie.Need-overflow-cast-result
+cast-result : tie.Need-overflow_cast-result
 cast-result c =
     let x = c.before.args.x in
     let f = c.before.ranges.x in
-    let b : lt_z x (pos 0) ≡ true = rw (number_of_bits x f) at c.if1.true in
+    let b : lt_z x (pos 0) ≡ true = rw (number_of_bits x f) at c.if-x-lt0.true in
     rw (turned_over x f b) (tt, record { fits = omega arith })
 
-sub-result : tie.Need-overflow-sub-result
+sub-result : tie.Need-overflow_sub-result
 sub-result c =
     let x = c.before.args.x in
     let f = c.before.ranges.x in
-    let b : lt_z x (pos 0) ≡ true = rw (number_of_bits x f) at c.if1.true in
+    let b : lt_z x (pos 0) ≡ true = rw (number_of_bits x f) at c.if-x-lt0.true in
     rw (turned_over x f b) (omega arith)
 
-cast-result-2 : tie.Need-overflow-cast-result-2
+cast-result-2 : tie.Need-overflow_cast-result-else-x-lt0
 cast-result-2 c =
     let x = c.before.args.x in
     let f = c.before.ranges.x in
-    let b : lt_z x (pos 0) ≡ false = rw (number_of_bits x f) at c.if1.false in
+    let b : lt_z x (pos 0) ≡ false = rw (number_of_bits x f) at c.if-x-lt0.false in
     rw (number_of_bits x f) ((not_below x b).0, record { fits = omega (arith, (not_below x b).1, bits_below x f) })
 
-returns : tie.Need-returns
+returns : tie.Need-returns-then-x-lt0
 returns c =
     let x = c.before.args.x in
     let f = c.before.ranges.x in
-    let b : lt_z x (pos 0) ≡ true = rw (number_of_bits x f) at c.if1.true in
+    let b : lt_z x (pos 0) ≡ true = rw (number_of_bits x f) at c.if-x-lt0.true in
     rw (turned_over x f b) (omega (arith, bits_below x f))
 
-returns-2 : tie.Need-returns-2
+returns-2 : tie.Need-returns-else-x-lt0
 returns-2 c =
     let x = c.before.args.x in
     let f = c.before.ranges.x in
-    let b : lt_z x (pos 0) ≡ false = rw (number_of_bits x f) at c.if1.false in
+    let b : lt_z x (pos 0) ≡ false = rw (number_of_bits x f) at c.if-x-lt0.false in
     rw (number_of_bits x f) (not_below x b).1
 
-pub to-bits-spec : {M : Type 1} → statement M
-to-bits-spec = tie.close (tie.spec cast-result sub-result cast-result-2 returns returns-2)
+pub to_bits_spec : {M : Type 1} → statement M
+to_bits_spec = tie.close (tie.spec cast-result sub-result cast-result-2 returns returns-2)

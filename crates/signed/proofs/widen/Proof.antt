@@ -3,7 +3,7 @@ use Rattle.signed.proofs.Laws.{number_of_bits, fits_wider, widened}
 use Rattle.signed.proofs.widen.Statement.{statement}
 use Rattle.signed.proofs.widen.Tie as tie
 
-cast-result : tie.Need-overflow-cast-result
+cast-result : tie.Need-overflow_cast-result
 cast-result c = rw (number_of_bits c.args.x c.ranges.x) (fits_wider c.ranges.x)
 
 returns : tie.Need-returns

@@ -7,48 +7,48 @@ use Rattle.solver.proofs.Ringing.{few_darts, ring_round, heights_fillable, choos
 use Rattle.solver.proofs.cut_of_ring.Statement.{statement}
 use Rattle.solver.proofs.cut_of_ring.Tie as tie
 
-mul-fill-winding : tie.Need-overflow-mul-fill-winding
+mul-fill-winding : tie.Need-overflow_mul-edges
 mul-fill-winding c = omega (arith, c.requires.2.few_edges)
 
-fill-winding-requires : tie.Need-fill-winding-requires
+fill-winding-requires : tie.Need-fill_winding-requires
 fill-winding-requires c κs = let q = c.before.requires.2 in (refl, few_darts q, omega arith, ring_round q, same_everywhere 1024 (pos 0))
 
-abbrev begun : tie.After-fill-winding → tie.Start
+abbrev begun : tie.After-fill_winding → tie.Start
 begun c = c.before.before
 
-mul-fill-heights : tie.Need-overflow-mul-fill-heights
+mul-fill-heights : tie.Need-overflow_mul-edges-2
 mul-fill-heights c = omega (arith, (begun c).requires.2.few_edges)
 
-fill-heights-requires : tie.Need-fill-heights-requires
+fill-heights-requires : tie.Need-fill_heights-requires
 fill-heights-requires c κs =
     let w = c.before.before in
     let p = (begun w).requires in
-    (refl, heights_fillable p.2 p.1.forest w.fill-winding.ensures.1)
+    (refl, heights_fillable p.2 p.1.forest w.fill_winding.ensures.1)
 
-abbrev wound : tie.After-fill-heights → tie.After-fill-winding
+abbrev wound : tie.After-fill_heights → tie.After-fill_winding
 wound c = c.before.before.before
 
-mul-choose-set : tie.Need-overflow-mul-choose-set
+mul-choose-set : tie.Need-overflow_mul-edges-3
 mul-choose-set c = omega (arith, (begun (wound c.before)).requires.2.few_edges)
 
-choose-set-requires : tie.Need-choose-set-requires
+choose-set-requires : tie.Need-choose_set-requires
 choose-set-requires c κs =
     let h = c.before.before in
     let w = wound h in
     let p = (begun w).pre in
-    (p.0, choosable p.2 p.1.forest w.fill-winding.ensures.1 h.fill-heights.ensures.1)
+    (p.0, choosable p.2 p.1.forest w.fill_winding.ensures.1 h.fill_heights.ensures.1)
 
 returns : tie.Need-returns
 returns c =
-    let e = c.choose-set.ensures in
+    let e = c.choose_set.ensures in
     let h = c.before.before.before in
     let w = wound h in
     let p = (begun w).pre in
-    let f = h.fill-heights.ensures in
-    (e.0, chosen p.2 _ e.1, made_of_ring p.2 p.1.forest w.fill-winding.ensures.1 f.1 refl f.2 e.2)
+    let f = h.fill_heights.ensures in
+    (e.0, chosen p.2 _ e.1, made_of_ring p.2 p.1.forest w.fill_winding.ensures.1 f.1 refl f.2 e.2)
 
-pub cut-of-ring-spec : {M : Type 1} → statement M
-cut-of-ring-spec =
+pub cut_of_ring_spec : {M : Type 1} → statement M
+cut_of_ring_spec =
     tie.close
     (tie.spec
     mul-fill-winding

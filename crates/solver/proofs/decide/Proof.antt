@@ -24,25 +24,25 @@ use Rattle.solver.proofs.decide.Tie as tie
 abbrev mapAt : tie.Start → Map
 mapAt s = map_of s.args.sizes.nodes s.args.sizes.edges s.args.tails.now s.args.rotations.now
 
-mul-dart-at : tie.Need-overflow-mul-dart-at
+mul-dart-at : tie.Need-overflow_mul-sizes
 mul-dart-at c = omega (arith, c.before.requires.0.opened.drawn.few_edges)
 
-dart-at-requires : tie.Need-dart-at-requires
+dart-at-requires : tie.Need-dart_at-start-requires
 dart-at-requires c κs =
     let p = c.before.requires.0 in
     let n = p.opened.drawn in
     (omega (arith, n.few_edges), n.plane.sound.has_dart _ p.ends.source_in)
 
-mul-dart-at-2 : tie.Need-overflow-mul-dart-at-2
+mul-dart-at-2 : tie.Need-overflow_mul-sizes-2
 mul-dart-at-2 c = omega (arith, c.before.before.before.requires.0.opened.drawn.few_edges)
 
-dart-at-requires-2 : tie.Need-dart-at-requires-2
+dart-at-requires-2 : tie.Need-dart_at-finish-requires
 dart-at-requires-2 c κs =
     let p = c.before.before.before.requires.0 in
     let n = p.opened.drawn in
     (omega (arith, n.few_edges), n.plane.sound.has_dart _ p.ends.sink_in)
 
-cut-apart-requires : tie.Need-cut-apart-requires
+cut-apart-requires : tie.Need-cut_apart-requires
 cut-apart-requires c κs =
     let t = c.before.before.before in
     let d = t.before.before in
@@ -51,30 +51,30 @@ cut-apart-requires c κs =
       p.3,
       p.0.opened.drawn.few_edges,
       p.0.opened.drawn.few_nodes,
-      d.dart-at.ensures.0,
-      t.dart-at2.ensures.0,
+      d.dart_at-start.ensures.0,
+      t.dart_at-finish.ensures.0,
       treed_of p.0.opened.drawn.plane.sound p.0.opened.walked.forest,
       p.0.opened.drawn.small,
       small_value p.1,
     )
 
 -- ── the lengths are known, or the ends are apart ──
-abbrev finished : tie.After-cut-apart → tie.After-dart-at2
+abbrev finished : tie.After-cut_apart → tie.After-dart_at-finish
 finished c = c.before.before.before.before
 
-abbrev started : tie.After-cut-apart → tie.After-dart-at
+abbrev started : tie.After-cut_apart → tie.After-dart_at-start
 started c = (finished c).before.before
 
-abbrev begun : tie.After-cut-apart → tie.Start
+abbrev begun : tie.After-cut_apart → tie.Start
 begun c = (started c).before.before
 
-abbrev row : tie.After-cut-apart → List ℤ
+abbrev row : tie.After-cut_apart → List ℤ
 row c = c.cut_apart.new.1.1.1.1.1.1.1.1.1.1.0
 
-abbrev flags : tie.After-cut-apart → List ℕ
+abbrev flags : tie.After-cut_apart → List ℕ
 flags c = c.cut_apart.new.1.1.1.1.1.1.1.1.1.1.1.0
 
-measured : (c : tie.After-cut-apart)
+measured : (c : tie.After-cut_apart)
     → Measured (mapAt (begun c)) (begun c).args.demand.source (begun c).args.demand.sink (atℤ (begun c).args.capacities.now)
     (begun c).args.demand.value (atℤ (row c)) (flags c) c.cut_apart.result
 measured c =
@@ -82,7 +82,7 @@ measured c =
     (finished c).dart-at2.ensures.1 (same_value (begun c).requires.1) c.cut_apart.ensures.2
 
 -- how the lengths came about, and the set where the ends are apart
-measured-how : (c : tie.After-cut-apart) (b : Bool) → c.cut_apart.result ≡ b
+measured-how : (c : tie.After-cut_apart) (b : Bool) → c.cut_apart.result ≡ b
     → MeasuredBy (mapAt (begun c)) (started c).dart-at.result (finished c).dart-at2.result
     (at (begun c).args.from.now) (atℤ (begun c).args.capacities.now) (begun c).args.demand.value (atℤ (row c)) (flagged (flags c)) b
 measured-how c b e =
@@ -91,7 +91,7 @@ measured-how c b e =
     (measured_by_for (mapAt (begun c)) (at (begun c).args.from.now) (atℤ (begun c).args.capacities.now) (atℤ (row c)) (flagged (flags c))
     c.cut_apart.result (same_value (begun c).requires.1) c.cut_apart.ensures.3)
 
-named-apart : (c : tie.After-cut-apart) → c.cut_apart.result ≡ true
+named-apart : (c : tie.After-cut_apart) → c.cut_apart.result ≡ true
     → Named (mapAt (begun c)) (begun c).args.sizes.outer (atℤ (begun c).args.capacities.now) (begun c).args.demand.source (begun c).args.demand.sink
     (begun c).args.demand.value (begun c).args.parents.now (flagged (flags c))
 named-apart c e =
@@ -100,28 +100,28 @@ named-apart c e =
     s.pre.0.opened.drawn s.pre.0.opened.walked (started c).dart-at.ensures (finished c).dart-at2.ensures
     s.args.parents.now (row c) true (measured-how c true e) tt
 
-returns : tie.Need-returns
+returns : tie.Need-returns-then-cut_apart
 returns c =
     let l = c.before in
     let s = begun l in (
       l.cut_apart.ensures.1,
       decided_apart (mapAt s) s.args.sizes.outer (atℤ s.args.capacities.now) s.args.demand.source s.args.demand.sink
           s.args.demand.value (atℤ (row l))
-          s.args.flows.now (flags l) c.if1.true (measured l),
+          s.args.flows-1.now (flags l) c.if-cut_apart.true (measured l),
       s.pre.2,
-      λ e. named-apart l c.if1.true,
+      λ e. named-apart l c.if-cut_apart.true,
     )
 
-known : (c : tie.Else1)
+known : (c : tie.Else-cut_apart)
     → Lengthened (mapAt (begun c.before)) (begun c.before).args.demand.source (begun c.before).args.demand.sink
     (atℤ (begun c.before).args.capacities.now) (begun c.before).args.demand.value (atℤ (row c.before))
 known c =
     let s = begun c.before in
     measured_long (mapAt s) s.args.demand.source s.args.demand.sink (atℤ s.args.capacities.now) s.args.demand.value
-    (atℤ (row c.before)) (flags c.before) c.if1.false (measured c.before)
+    (atℤ (row c.before)) (flags c.before) c.if-cut_apart.false (measured c.before)
 
 -- ── the search from the faces at 0 ──
-settle-all-requires : tie.Need-settle-all-requires
+settle-all-requires : tie.Need-settle_all-outcome-requires
 settle-all-requires c κs =
     let e = c.before.before.before in
     let s = begun e.before in
@@ -138,48 +138,48 @@ settle-all-requires c κs =
     }
 
 -- ── a ring: the dart that closes it ──
-abbrev joined : tie.After-settle-all → tie.Else1
+abbrev joined : tie.After-settle_all-outcome → tie.Else-cut_apart
 joined c = c.before.before.before.before
 
-abbrev lengthened : tie.After-settle-all → tie.After-cut-apart
+abbrev lengthened : tie.After-settle_all-outcome → tie.After-cut_apart
 lengthened c = (joined c).before
 
-closes : (c : tie.After-known-told) → c.before.outcome.given.0.0 < 1024
+closes : (c : tie.In-Ring) → c.before.outcome-1.given.0.0 < 1024
 closes c =
     let s = c.before.before.before.before in
     let p = (begun (lengthened s)).requires in
-    omega (arith, (searched_ring _ _ _ _ _ _ _ c.before.outcome.given.1 s.settle-all.ensures.1.3).1, p.0.opened.drawn.few_edges)
+    omega (arith, (searched_ring _ _ _ _ _ _ _ c.before.outcome-1.given.1 s.settle_all-outcome.ensures.1.3).1, p.0.opened.drawn.few_edges)
 
-mul_wide : tie.Need-overflow-mul-wide
+mul_wide : tie.Need-offset_bounds-lefts-d
 mul_wide c = omega (arith, closes c)
 
-element-copy-out-wide : tie.Need-element-copy-out-wide
+element-copy-out-wide : tie.Need-bounds-lefts-d
 element-copy-out-wide c = omega (arith, closes c)
 
-abbrev ringed-at : tie.After-wide → tie.After-outcome
+abbrev ringed-at : tie.After-wide-y → tie.In-Ring-2
 ringed-at c = c.before.before.before
 
-abbrev settled : tie.After-outcome → tie.After-settle-all
+abbrev settled : tie.In-Ring-2 → tie.After-settle_all-outcome
 settled c = c.before.before.before
 
-cut-of-ring-requires : tie.Need-cut-of-ring-requires
+cut-of-ring-requires : tie.Need-cut_of_ring-requires
 cut-of-ring-requires c κs =
     let w = c.before.before.before in
     let o = ringed-at w in
     let s = settled o in
-    let q = s.settle-all.ensures.1 in
+    let q = s.settle_all-outcome.ensures.1 in
     let f = lengthened s in
     let p = (begun f).pre in (
       f.cut_apart.ensures.1,
       treed_of p.0.opened.drawn.plane.sound p.0.opened.walked.forest,
       ringed (begun f).args.lefts.now p.0.opened.drawn p.0.ends (row f) (known (joined s)) q.0 q.1 q.2
-          _ w.wide.ensures (searched_ring _ _ _ _ _ _ _ o.outcome.given.1 s.settle-all.ensures.1.3).2,
+          _ w.wide-y.ensures (searched_ring _ _ _ _ _ _ _ o.outcome-1.given.1 s.settle_all-outcome.ensures.1.3).2,
     )
 
 -- the set made from the ring
-named-ring : (c : tie.After-wide) (inside' : List ℕ) → let o = ringed-at c in let f = lengthened (settled o) in let s = begun f in
+named-ring : (c : tie.After-wide-y) (inside' : List ℕ) → let o = ringed-at c in let f = lengthened (settled o) in let s = begun f in
     MadeOfRing (mapAt s) (right_of s.args.lefts.now) (atℤ (row f)) (at s.args.order.now) (at s.args.from.now)
-    (at (settled o).settle-all.last.1.1.1.1.1.1.1.1.1.0) c.wide.result (flagged inside')
+    (at (settled o).settle-all.last.1.1.1.1.1.1.1.1.1.0) c.wide-y.result (flagged inside')
     → Named (mapAt s) s.args.sizes.outer (atℤ s.args.capacities.now) s.args.demand.source s.args.demand.sink s.args.demand.value
     s.args.parents.now (flagged inside')
 named-ring c inside' made =
@@ -189,11 +189,11 @@ named-ring c inside' made =
     let f = lengthened a in
     let s = begun f in
     let p = s.pre in
-    let q = a.settle-all.ensures.1 in
+    let q = a.settle_all-outcome.ensures.1 in
     let ok = searchable s.args.lefts.now p.0.opened.drawn p.0.ends (row f) (known j) q.0 q.1 q.2 in
     named_of s.args.lefts.now s.args.order.now s.args.from.now s.args.grouped.now s.args.starts.now
     p.0.opened.drawn p.0.opened.walked (started f).dart-at.ensures (finished f).dart-at2.ensures
-    s.args.parents.now (row f) false (measured_other (measured-how f false j.if1.left))
+    s.args.parents.now (row f) false (measured_other (measured-how f false j.if-cut_apart.left))
     (record {
       queue = q.0;
       size = q.1;
@@ -204,43 +204,43 @@ named-ring c inside' made =
       potentials = q.5.0;
       parents = _;
       closing = _;
-      closing_in = (searched_ring _ _ _ _ _ _ _ o.outcome.given.1 q.3).1;
-      searched = searches_known o.outcome.given.1 q.5.1;
-      made = rw (← c.wide.ensures) made;
+      closing_in = (searched_ring _ _ _ _ _ _ _ o.outcome-1.given.1 q.3).1;
+      searched = searches_known o.outcome-1.given.1 q.5.1;
+      made = rw (← c.wide-y.ensures) made;
     })
 
-returns-2 : tie.Need-returns-2
+returns-2 : tie.Need-returns-in-Ring
 returns-2 c =
     let o = ringed-at c.before.before.before.before in
     let s = settled o in
-    let q = s.settle-all.ensures.1 in
+    let q = s.settle_all-outcome.ensures.1 in
     let f = lengthened s in
     let p = (begun f).pre in
-    let e = c.cut-of-ring.ensures in
-    let inside' = c.cut-of-ring.new.1.1.1.1.1.1.1.1.1.1.1.0 in (
+    let e = c.cut_of_ring.ensures in
+    let inside' = c.cut_of_ring.new.1.1.1.1.1.1.1.1.1.1.1.0 in (
       e.0,
       decided_cannot (begun f).args.lefts.now p.0.opened.drawn p.0.ends (row f) (known (joined s)) q.0 q.1 q.2
-          _ _ inside' (searched_ring _ _ _ _ _ _ _ o.outcome.given.1 s.settle-all.ensures.1.3).0 e.1,
-      s.settle-all.ensures.0,
+          _ _ inside' (searched_ring _ _ _ _ _ _ _ o.outcome-1.given.1 s.settle_all-outcome.ensures.1.3).0 e.1,
+      s.settle_all-outcome.ensures.0,
       λ z. named-ring c.before.before.before.before inside' e.2,
     )
 
-returns-3 : tie.Need-returns-3
+returns-3 : tie.Need-returns
 returns-3 c =
     let s = c.before.before.before in
-    let q = s.settle-all.ensures.1 in
+    let q = s.settle_all-outcome.ensures.1 in
     let f = lengthened s in
     let p = (begun f).pre in
-    let r = rw c.enum_told.given.1 at s.settle-all.ensures.1.3 in (
+    let r = rw c.enum_told-1.given.1 at s.settle_all-outcome.ensures.1.3 in (
       f.cut_apart.ensures.1,
       decided_can (begun f).args.lefts.now p.0.opened.drawn p.0.ends (row f) (known (joined s)) q.0 q.1 q.2
           r.0 r.1 _ _ (flags f) r.2,
-      s.settle-all.ensures.0,
+      s.settle_all-outcome.ensures.0,
       λ z. absurd (true≢false z),
     )
 
-pub decide-spec : {M : Type 1} → statement M
-decide-spec =
+pub decide_spec : {M : Type 1} → statement M
+decide_spec =
     tie.close
     (tie.spec
     mul-dart-at

@@ -19,23 +19,23 @@ use Rattle.solver.proofs.decide_at.Tie as tie
 abbrev mapAt : tie.Start → Map
 mapAt s = map_of s.args.sizes.nodes s.args.sizes.edges s.args.tails.now s.args.rotations.now
 
-mul-dart-at : tie.Need-overflow-mul-dart-at
+mul-dart-at : tie.Need-overflow_mul-sizes
 mul-dart-at c = omega (arith, c.before.requires.0.drawn.few_edges)
 
-dart-at-requires : tie.Need-dart-at-requires
+dart-at-requires : tie.Need-dart_at-start-requires
 dart-at-requires c κs =
     let p = c.before.requires.0 in
     (omega (arith, p.drawn.few_edges), p.drawn.plane.sound.has_dart _ p.ends.source_in)
 
-mul-dart-at-2 : tie.Need-overflow-mul-dart-at-2
+mul-dart-at-2 : tie.Need-overflow_mul-sizes-2
 mul-dart-at-2 c = omega (arith, c.before.before.before.requires.0.drawn.few_edges)
 
-dart-at-requires-2 : tie.Need-dart-at-requires-2
+dart-at-requires-2 : tie.Need-dart_at-finish-requires
 dart-at-requires-2 c κs =
     let p = c.before.before.before.requires.0 in
     (omega (arith, p.drawn.few_edges), p.drawn.plane.sound.has_dart _ p.ends.sink_in)
 
-cut-apart-requires : tie.Need-cut-apart-requires
+cut-apart-requires : tie.Need-cut_apart-requires
 cut-apart-requires c κs =
     let t = c.before.before.before in
     let d = t.before.before in
@@ -44,56 +44,56 @@ cut-apart-requires c κs =
       p.3,
       p.0.drawn.few_edges,
       p.0.drawn.few_nodes,
-      d.dart-at.ensures.0,
-      t.dart-at2.ensures.0,
+      d.dart_at-start.ensures.0,
+      t.dart_at-finish.ensures.0,
       p.0.treed,
       p.0.drawn.small,
       small_value p.1,
     )
 
 -- ── the lengths are known, or the ends are apart ──
-abbrev finished : tie.After-cut-apart → tie.After-dart-at2
+abbrev finished : tie.After-cut_apart → tie.After-dart_at-finish
 finished c = c.before.before.before.before
 
-abbrev started : tie.After-cut-apart → tie.After-dart-at
+abbrev started : tie.After-cut_apart → tie.After-dart_at-start
 started c = (finished c).before.before
 
-abbrev begun : tie.After-cut-apart → tie.Start
+abbrev begun : tie.After-cut_apart → tie.Start
 begun c = (started c).before.before
 
-abbrev row : tie.After-cut-apart → List ℤ
+abbrev row : tie.After-cut_apart → List ℤ
 row c = c.cut_apart.new.1.1.1.1.1.1.1.1.1.1.0
 
-abbrev flags : tie.After-cut-apart → List ℕ
+abbrev flags : tie.After-cut_apart → List ℕ
 flags c = c.cut_apart.new.1.1.1.1.1.1.1.1.1.1.1.0
 
-measured : (c : tie.After-cut-apart)
+measured : (c : tie.After-cut_apart)
     → Measured (mapAt (begun c)) (begun c).args.demand.source (begun c).args.demand.sink (atℤ (begun c).args.capacities.now)
     (begun c).args.demand.value (atℤ (row c)) (flags c) c.cut_apart.result
 measured c =
     measured_for (mapAt (begun c)) (atℤ (begun c).args.capacities.now) (atℤ (row c)) (flags c) c.cut_apart.result (started c).dart-at.ensures.1
     (finished c).dart-at2.ensures.1 (same_value (begun c).requires.1) c.cut_apart.ensures.2
 
-returns : tie.Need-returns
+returns : tie.Need-returns-then-cut_apart
 returns c =
     let l = c.before in
     let s = begun l in (
       l.cut_apart.ensures.1,
       decided_apart (mapAt s) s.args.sizes.outer (atℤ s.args.capacities.now) s.args.demand.source s.args.demand.sink
           s.args.demand.value (atℤ (row l))
-          s.args.flows.now (flags l) c.if1.true (measured l),
+          s.args.flows-1.now (flags l) c.if-cut_apart.true (measured l),
     )
 
-known : (c : tie.Else1)
+known : (c : tie.Else-cut_apart)
     → Lengthened (mapAt (begun c.before)) (begun c.before).args.demand.source (begun c.before).args.demand.sink
     (atℤ (begun c.before).args.capacities.now) (begun c.before).args.demand.value (atℤ (row c.before))
 known c =
     let s = begun c.before in
     measured_long (mapAt s) s.args.demand.source s.args.demand.sink (atℤ s.args.capacities.now) s.args.demand.value
-    (atℤ (row c.before)) (flags c.before) c.if1.false (measured c.before)
+    (atℤ (row c.before)) (flags c.before) c.if-cut_apart.false (measured c.before)
 
 -- ── the search from the roots ──
-settle-requires : tie.Need-settle-requires
+settle-requires : tie.Need-settle-outcome-requires
 settle-requires c κs =
     let e = c.before.before.before.before in
     let f = e.before in
@@ -110,35 +110,35 @@ settle-requires c κs =
       exact = o.exact;
     }
 
-abbrev joined : tie.After-settle → tie.Else1
+abbrev joined : tie.After-settle-outcome → tie.Else-cut_apart
 joined c = c.before.before.before.before.before
 
-abbrev lengthened : tie.After-settle → tie.After-cut-apart
+abbrev lengthened : tie.After-settle-outcome → tie.After-cut_apart
 lengthened c = (joined c).before
 
 -- ── a ring: the dart that closes it ──
-abbrev settled : tie.After-outcome → tie.After-settle
+abbrev settled : tie.In-Ring-2 → tie.After-settle-outcome
 settled c = c.before.before.before
 
-closes : (c : tie.After-known-told) → c.before.outcome.given.0.0 < 1024
+closes : (c : tie.In-Ring) → c.before.outcome-1.given.0.0 < 1024
 closes c =
     let s = settled c.before in
     omega (
       arith,
-      (searched_ring _ _ _ _ _ _ _ c.before.outcome.given.1 s.settle.ensures.1).1,
+      (searched_ring _ _ _ _ _ _ _ c.before.outcome-1.given.1 s.settle-outcome.ensures.1).1,
       (begun (lengthened s)).requires.0.drawn.few_edges,
     )
 
-mul_wide : tie.Need-overflow-mul-wide
+mul_wide : tie.Need-offset_bounds-lefts-d
 mul_wide c = omega (arith, closes c)
 
-element-copy-out-wide : tie.Need-element-copy-out-wide
+element-copy-out-wide : tie.Need-bounds-lefts-d
 element-copy-out-wide c = omega (arith, closes c)
 
-abbrev ringed-at : tie.After-wide → tie.After-outcome
+abbrev ringed-at : tie.After-wide-y → tie.In-Ring-2
 ringed-at c = c.before.before.before
 
-cut-of-ring-requires : tie.Need-cut-of-ring-requires
+cut-of-ring-requires : tie.Need-cut_of_ring-requires
 cut-of-ring-requires c κs =
     let w = c.before.before.before in
     let o = ringed-at w in
@@ -149,10 +149,10 @@ cut-of-ring-requires c κs =
       f.cut_apart.ensures.1,
       p.0.treed,
       ringed b.args.lefts.now p.0.drawn p.0.ends (row f) (known (joined s)) b.args.queue.now p.2 p.0.roots
-          _ w.wide.ensures (searched_ring _ _ _ _ _ _ _ o.outcome.given.1 s.settle.ensures.1).2,
+          _ w.wide-y.ensures (searched_ring _ _ _ _ _ _ _ o.outcome-1.given.1 s.settle-outcome.ensures.1).2,
     )
 
-returns-2 : tie.Need-returns-2
+returns-2 : tie.Need-returns-in-Ring
 returns-2 c =
     let w = c.before.before.before.before in
     let o = ringed-at w in
@@ -160,28 +160,28 @@ returns-2 c =
     let f = lengthened s in
     let b = begun f in
     let p = b.pre in
-    let k = c.cut-of-ring.ensures in (
+    let k = c.cut_of_ring.ensures in (
       k.0,
       decided_cannot b.args.lefts.now p.0.drawn p.0.ends (row f) (known (joined s)) b.args.queue.now p.2 p.0.roots
-          _ _ c.cut-of-ring.new.1.1.1.1.1.1.1.1.1.1.1.0
-          (searched_ring _ _ _ _ _ _ _ o.outcome.given.1 s.settle.ensures.1).0 k.1,
+          _ _ c.cut_of_ring.new.1.1.1.1.1.1.1.1.1.1.1.0
+          (searched_ring _ _ _ _ _ _ _ o.outcome-1.given.1 s.settle-outcome.ensures.1).0 k.1,
     )
 
 -- ── settled ──
-returns-3 : tie.Need-returns-3
+returns-3 : tie.Need-returns
 returns-3 c =
     let s = c.before.before.before in
     let f = lengthened s in
     let b = begun f in
     let p = b.pre in
-    let q = rw c.enum_told.given.1 at s.settle.ensures.1 in (
+    let q = rw c.enum_told-1.given.1 at s.settle-outcome.ensures.1 in (
       f.cut_apart.ensures.1,
       decided_can b.args.lefts.now p.0.drawn p.0.ends (row f) (known (joined s)) b.args.queue.now p.2 p.0.roots
           q.0 q.1 _ _ (flags f) q.2,
     )
 
-pub decide-at-spec : {M : Type 1} → statement M
-decide-at-spec =
+pub decide_at_spec : {M : Type 1} → statement M
+decide_at_spec =
     tie.close
     (tie.spec
     mul-dart-at

@@ -6,18 +6,18 @@ use Rattle.solver.proofs.Deciding.{redrawn}
 use Rattle.solver.proofs.decide_from.Statement.{statement}
 use Rattle.solver.proofs.decide_from.Tie as tie
 
-fill-roots-requires : tie.Need-fill-roots-requires
+fill-roots-requires : tie.Need-fill_roots-roots-requires
 fill-roots-requires c κs =
     let p = c.before.requires in
     let o = p.0.opened in
     (refl, o.drawn.few_edges, p.2, o.drawn.plane.sound.range.rotation_in, o.walked.forest)
 
-decide-at-requires : tie.Need-decide-at-requires
+decide-at-requires : tie.Need-decide_at-requires
 decide-at-requires c κs =
     let r = c.before.before.before in
     let p = r.before.before.requires in
     let o = p.0.opened in
-    let e = r.fill-roots.ensures in (
+    let e = r.fill_roots-roots.ensures in (
       record {
         drawn = redrawn o.drawn p.2;
         treed = treed_of o.drawn.plane.sound o.walked.forest;
@@ -32,7 +32,7 @@ decide-at-requires c κs =
     )
 
 returns : tie.Need-returns
-returns c = c.before.decide-at.ensures
+returns c = c.before.decide_at.ensures
 
-pub decide-from-spec : {M : Type 1} → statement M
-decide-from-spec = tie.close (tie.spec fill-roots-requires decide-at-requires (λ c. search rules) returns)
+pub decide_from_spec : {M : Type 1} → statement M
+decide_from_spec = tie.close (tie.spec fill-roots-requires decide-at-requires (λ c. search rules) returns)

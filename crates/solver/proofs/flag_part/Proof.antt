@@ -5,7 +5,7 @@ use Rattle.solver.proofs.Preparing.{part_flagged}
 use Rattle.solver.proofs.flag_part.Statement.{statement}
 use Rattle.solver.proofs.flag_part.Tie as tie
 
-mul-spread : tie.Need-overflow-mul-spread
+mul-spread : tie.Need-overflow_mul-edges
 mul-spread c = omega (arith, c.requires.1)
 
 spread-requires : tie.Need-spread-requires
@@ -16,10 +16,10 @@ spread-requires c κs =
 abbrev begun : tie.After-spread → tie.Start
 begun c = c.before.before.before
 
-mul-flag-met : tie.Need-overflow-mul-flag-met
+mul-flag-met : tie.Need-overflow_mul-edges-2
 mul-flag-met c = omega (arith, (begun c.before).requires.1)
 
-flag-met-requires : tie.Need-flag-met-requires
+flag-met-requires : tie.Need-flag_met-requires
 flag-met-requires c κs =
     let p = (begun c.before.before).requires in
     (p.0, omega (arith, p.1), λ d l. omega (arith, p.4.range.tail_in d l, p.2))
@@ -28,8 +28,8 @@ returns : tie.Need-returns
 returns c =
     let w = c.before.before.before in
     let p = (begun w).requires in
-    let e = c.flag-met.ensures in
-    (e.0, part_flagged p.4 w.spread.ensures.2 p.2 c.flag-met.new.1.1.1.0 e.1)
+    let e = c.flag_met.ensures in
+    (e.0, part_flagged p.4 w.spread.ensures.2 p.2 c.flag_met.new.1.1.1.0 e.1)
 
-pub flag-part-spec : {M : Type 1} → statement M
-flag-part-spec = tie.close (tie.spec mul-spread spread-requires mul-flag-met flag-met-requires returns)
+pub flag_part_spec : {M : Type 1} → statement M
+flag_part_spec = tie.close (tie.spec mul-spread spread-requires mul-flag-met flag-met-requires returns)

@@ -6,7 +6,7 @@ use Rattle.arrays.proofs.FillLoops.{same_everywhere}
 use Rattle.solver.proofs.settle_all.Statement.{statement}
 use Rattle.solver.proofs.settle_all.Tie as tie
 
-first-faces-requires : tie.Need-first-faces-requires
+first-faces-requires : tie.Need-first_faces-requires
 first-faces-requires c κs =
     let p = c.before.before.requires in
     (refl, omega (arith, p.few_edges), p.forest)
@@ -15,7 +15,7 @@ settle-requires : tie.Need-settle-requires
 settle-requires c κs =
     let f = c.before.before.before in
     let p = f.before.before.before.requires in
-    let o = f.first-faces.ensures in
+    let o = f.first_faces.ensures in
     record {
       few_edges = p.few_edges;
       few_roots = p.few_parts;
@@ -29,9 +29,9 @@ settle-requires c κs =
 returns : tie.Need-returns
 returns c =
     let f = c.before.before.before.before.before in
-    let o = f.first-faces.ensures in
+    let o = f.first_faces.ensures in
     let e = c.before.settle.ensures in
     (e.0, (_, o.0, o.1, e.1, record { are = o.2.are; kept = λ i l. o.2.kept i l ∙ same_everywhere 1024 0 i }, e.2))
 
-pub settle-all-spec : {M : Type 1} → statement M
-settle-all-spec = tie.close (tie.spec (λ c. search rules) first-faces-requires settle-requires (λ c. search rules) returns)
+pub settle_all_spec : {M : Type 1} → statement M
+settle_all_spec = tie.close (tie.spec (λ c. search rules) first-faces-requires settle-requires (λ c. search rules) returns)

@@ -5,14 +5,14 @@ use borrow.Author.Rules.{rules}
 use Rattle.streams.proofs.write_text.Statement.{statement}
 use Rattle.streams.proofs.write_text.Tie as tie
 
-abbrev invariant-loop : tie.invariant-loop
+abbrev invariant-loop : tie.invariant-loop-at
 invariant-loop text at₀ again₀ at again = at ≤ length text
 
-abbrev decreases-loop : tie.decreases-loop
+abbrev decreases-loop : tie.decreases-loop-at
 decreases-loop text at₀ again₀ at again = (length text - at) + again
 
-pub write-text-spec : {M : Type 1} → statement M
-write-text-spec =
+pub write_text_spec : {M : Type 1} → statement M
+write_text_spec =
     tie.close
     (tie.spec
     invariant-loop

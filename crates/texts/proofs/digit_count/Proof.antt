@@ -8,27 +8,27 @@ use Rattle.texts.proofs.Length.{length_one, length_more}
 use Rattle.texts.proofs.digit_count.Statement.{statement}
 use Rattle.texts.proofs.digit_count.Tie as tie
 
-abbrev invariant-loop : tie.invariant-loop
+abbrev invariant-loop : tie.invariant-loop-left
 invariant-loop n left₀ count₀ left count = (length (decimal left) + count ≡ length (decimal n) + 1) × (count + left ≤ n + 1)
 
-abbrev decreases-loop : tie.decreases-loop
+abbrev decreases-loop : tie.decreases-loop-left
 decreases-loop n left₀ count₀ left count = left
 
-loop-holds : tie.Need-loop-init invariant-loop decreases-loop
+loop-holds : tie.Need-loop-left-init invariant-loop decreases-loop
 loop-holds c = (refl, omega arith)
 
-add-count : tie.Need-overflow-add-count invariant-loop decreases-loop
+add-count : tie.Need-overflow_add-count invariant-loop decreases-loop
 add-count c = omega arith
 
-loop-less : tie.Need-loop-smaller invariant-loop decreases-loop
+loop-less : tie.Need-loop-left-smaller invariant-loop decreases-loop
 loop-less c = omega arith
 
-loop-again : tie.Need-loop-preserved invariant-loop decreases-loop
-loop-again c = (omega (arith, length_more c.before.loop.left (omega arith)), omega arith)
+loop-again : tie.Need-loop-left-preserved invariant-loop decreases-loop
+loop-again c = (omega (arith, length_more c.before.loop-left.left (omega arith)), omega arith)
 
 returns : tie.Need-returns invariant-loop decreases-loop
-returns c = omega (arith, length_one c.before.loop.left (omega arith))
+returns c = omega (arith, length_one c.before.loop-left.left (omega arith))
 
-pub digit-count-spec : {M : Type 1} → statement M
-digit-count-spec =
+pub digit_count_spec : {M : Type 1} → statement M
+digit_count_spec =
     tie.close (tie.spec invariant-loop decreases-loop loop-holds add-count loop-less loop-again returns)

@@ -10,18 +10,18 @@ use borrow.Author.Rules.{rules}
 use Rattle.texts.proofs.put_bytes.Statement.{statement}
 use Rattle.texts.proofs.put_bytes.Tie as tie
 
-abbrev invariant-loop : tie.invariant-loop
+abbrev invariant-loop : tie.invariant-loop-i
 invariant-loop text₀ at bytes i₀ text i = (i ≤ length bytes) × (length text ≡ length text₀) × (text ≡ put at (take i bytes) text₀)
 
-abbrev decreases-loop : tie.decreases-loop
+abbrev decreases-loop : tie.decreases-loop-i
 decreases-loop text₀ at bytes i₀ text i = length bytes - i
 
-loop-holds : tie.Need-loop-init invariant-loop decreases-loop
+loop-holds : tie.Need-loop-i-init invariant-loop decreases-loop
 loop-holds c = (omega arith, refl, sym (put_none c.args.at c.args.text.now))
 
-loop-again : tie.Need-loop-preserved invariant-loop decreases-loop
+loop-again : tie.Need-loop-i-preserved invariant-loop decreases-loop
 loop-again c =
-    let o = c.before.before.loop in
+    let o = c.before.before.loop-i in
     let a = c.before.before.before.args in
     let b = get_or a.bytes.now o.i 0 in (
       omega arith,
@@ -31,15 +31,15 @@ loop-again c =
 
 returns : tie.Need-returns invariant-loop decreases-loop
 returns c =
-    let o = c.before.loop in
+    let o = c.before.loop-i in
     let a = c.before.before.args in
     let all : o.i ≡ length a.bytes.now = omega arith in (
       o.invariant.2 ∙ ap (λ k. put a.at (take k a.bytes.now) a.text.now) all ∙ ap (λ s. put a.at s a.text.now) (take-length a.bytes.now),
       ap (λ k. a.at + k) all,
     )
 
-pub put-bytes-spec : {M : Type 1} → statement M
-put-bytes-spec =
+pub put_bytes_spec : {M : Type 1} → statement M
+put_bytes_spec =
     tie.close
     (tie.spec
     invariant-loop

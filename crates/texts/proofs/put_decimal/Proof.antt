@@ -9,67 +9,67 @@ use Rattle.texts.proofs.Writing.{FromRight, right_start, right_length, right_ins
 use Rattle.texts.proofs.put_decimal.Statement.{statement}
 use Rattle.texts.proofs.put_decimal.Tie as tie
 
-abbrev invariant-loop : tie.invariant-loop
+abbrev invariant-loop : tie.invariant-loop-m
 invariant-loop text₀ at n end m₀ i₀ text m i = FromRight n at text₀ m i text
 
-abbrev decreases-loop : tie.decreases-loop
+abbrev decreases-loop : tie.decreases-loop-m
 decreases-loop text₀ at n end m₀ i₀ text m i = m
 
-inside : (l : tie.At-loop invariant-loop decreases-loop) → l.loop.i < length l.loop.text
+inside : (l : tie.At-loop-m invariant-loop decreases-loop) → l.loop-m.i < length l.loop-m.text
 inside l =
     let a = l.before.before.before.args in
-    let o = l.loop in
+    let o = l.loop-m in
     right_inside a.n a.at a.text.now l.before.before.before.requires o.m o.i o.text o.invariant
 
-sub-i : tie.Need-overflow-sub-i invariant-loop decreases-loop
-sub-i c = omega (arith, c.digit-count.ensures, decimal_positive c.before.before.args.n)
+sub-i : tie.Need-overflow_sub-i invariant-loop decreases-loop
+sub-i c = omega (arith, c.digit_count.ensures, decimal_positive c.before.before.args.n)
 
-loop-holds : tie.Need-loop-init invariant-loop decreases-loop
+loop-holds : tie.Need-loop-m-init invariant-loop decreases-loop
 loop-holds c =
     let a = c.before.before.args in
-    right_start a.n a.at _ a.text.now (omega (arith, c.digit-count.ensures, decimal_positive a.n))
+    right_start a.n a.at _ a.text.now (omega (arith, c.digit_count.ensures, decimal_positive a.n))
 
-slice-write-text : tie.Need-slice-write-text invariant-loop decreases-loop
+slice-write-text : tie.Need-bounds-text-i invariant-loop decreases-loop
 slice-write-text c = inside c.before.before
 
-sub-i-2 : tie.Need-overflow-sub-i-2 invariant-loop decreases-loop
+sub-i-2 : tie.Need-overflow_sub-i-in-loop-m invariant-loop decreases-loop
 sub-i-2 c =
     let l = c.before.before in
     let a = l.before.before.before.args in
-    let o = l.loop in
-    omega (arith, right_before a.n a.at a.text.now l.before.before.before.requires o.m o.i o.text o.invariant c.before.loop-test.true)
+    let o = l.loop-m in
+    omega (arith, right_before a.n a.at a.text.now l.before.before.before.requires o.m o.i o.text o.invariant c.before.loop-m-test.true)
 
-loop-again : tie.Need-loop-preserved invariant-loop decreases-loop
+loop-again : tie.Need-loop-m-preserved invariant-loop decreases-loop
 loop-again c =
     let l = c.before.before in
     let a = l.before.before.before.args in
-    let o = l.loop in
+    let o = l.loop-m in
     right_step a.n a.at a.text.now l.before.before.before.requires o.m o.i o.text
-    o.invariant c.last-digit.result c.last-digit.ensures c.before.loop-test.true
+    o.invariant c.last_digit.result c.last_digit.ensures c.before.loop-m-test.true
 
-slice-write-text-2 : tie.Need-slice-write-text-2 invariant-loop decreases-loop
+slice-write-text-2 : tie.Need-bounds-text-i-2 invariant-loop decreases-loop
 slice-write-text-2 c = inside c.before.before
 
-same_length : tie.Need-same-length invariant-loop decreases-loop
+same_length : tie.Need-shape_of-text invariant-loop decreases-loop
 same_length c =
     let l = c.before.before in
     let a = l.before.before.before.args in
-    let o = l.loop in
-    length-set o.text o.i c.last-digit2.result
+    let o = l.loop-m in
+    length-set o.text o.i c.last_digit-2.result
     ∙ right_length a.n a.at a.text.now l.before.before.before.requires o.m o.i o.text o.invariant
 
 returns : tie.Need-returns invariant-loop decreases-loop
 returns c =
     let l = c.before.before in
     let a = l.before.before.before.args in
-    let o = l.loop in (
+    let o = l.loop-m in (
       right_end a.n a.at a.text.now l.before.before.before.requires o.m o.i o.text
-          o.invariant c.last-digit2.result c.last-digit2.ensures c.before.loop-test.false,
-      ap (λ k. a.at + k) l.before.digit-count.ensures,
+          o.invariant c.last_digit-2.result c.last_digit-2.ensures c.before.loop-m-test.false,
+      ap (λ k. a.at + k) l.before.digit_count.ensures,
     )
 
-pub put-decimal-spec : {M : Type 1} → statement M
-put-decimal-spec =
+pub put_decimal_spec : {M : Type 1} → statement M
+put_decimal_spec =
     tie.close
     (tie.spec
     invariant-loop

@@ -10,33 +10,33 @@ use Rattle.thresholds.proofs.Lowering.{Low, low_start, low_step}
 use Rattle.thresholds.proofs.lowest.Statement.{statement}
 use Rattle.thresholds.proofs.lowest.Tie as tie
 
-abbrev invariant-loop : tie.invariant-loop
+abbrev invariant-loop : tie.invariant-loop-v
 invariant-loop heights nodes low₀ v₀ low v = (v ≤ nodes) × Low nodes (atℤ heights) v (to_z w32 low)
 
-abbrev decreases-loop : tie.decreases-loop
+abbrev decreases-loop : tie.decreases-loop-v
 decreases-loop heights nodes low₀ v₀ low v = nodes - v
 
-loop-holds : tie.Need-loop-init invariant-loop decreases-loop
+loop-holds : tie.Need-loop-v-init invariant-loop decreases-loop
 loop-holds c =
-    (omega arith, low_start _ _ _ c.before.requires.0 (number_of_bits _ (record { sfits = c.low.given })))
+    (omega arith, low_start _ _ _ c.before.requires.0 (number_of_bits _ (record { sfits = c.low-1.given })))
 
-loop-again : tie.Need-loop-preserved invariant-loop decreases-loop
+loop-again : tie.Need-loop-v-preserved invariant-loop decreases-loop
 loop-again c =
     let s = c.before.before.before.before.before in
-    let height = number_of_bits _ (record { sfits = c.before.lower-arg.given }) in
-    let o = c.before.before.before.loop in (
+    let height = number_of_bits _ (record { sfits = c.before.lower-arg-1.given }) in
+    let o = c.before.before.before.loop-v in (
       omega arith,
-      rw (number_of_bits _ (record { sfits = c.lower.type-inv }))
-          (low_step s.args.nodes (atℤ s.args.heights.now) o.v _ _ _ (omega arith) o.invariant.1 height c.lower.ensures),
+      rw (number_of_bits _ (record { sfits = c.lower-low.type_inv }))
+          (low_step s.args.nodes (atℤ s.args.heights.now) o.v _ _ _ (omega arith) o.invariant.1 height c.lower-low.ensures),
     )
 
 returns : tie.Need-returns invariant-loop decreases-loop
 returns c =
-    let o = c.before.loop in
+    let o = c.before.loop-v in
     (λ v l. o.invariant.1.all v (omega arith), o.invariant.1.one)
 
-pub lowest-spec : {M : Type 1} → statement M
-lowest-spec =
+pub lowest_spec : {M : Type 1} → statement M
+lowest_spec =
     tie.close
     (tie.spec
     invariant-loop

@@ -15,39 +15,39 @@ use Rattle.to_dimacs.proofs.put_text.Statement.{statement}
 use Rattle.to_dimacs.proofs.put_text.Tie as tie
 
 -- ── the question is whole ──
-abbrev begin : tie.After-check-record → tie.Start
+abbrev begin : tie.After-check_record-whole → tie.Start
 begin c = c.before.before
 
-judged : (c : tie.After-check-record) (v : Verdict) → c.check-record.result ≡ v → Judged (record_checks (begin c).args.input.now 3 0) v
-judged c v e = rw e at c.check-record.ensures
+judged : (c : tie.After-check_record-whole) (v : Verdict) → c.check_record-whole.result ≡ v → Judged (record_checks (begin c).args.input.now 3 0) v
+judged c v e = rw e at c.check_record-whole.ensures
 
-passed : (c : tie.After-enum-told) → NoneOf (record_checks (begin c.before.before).args.input.now 3 0)
-passed c = judged c.before.before Passed c.enum_told.given.1
+passed : (c : tie.In_default) → NoneOf (record_checks (begin c.before.before).args.input.now 3 0)
+passed c = judged c.before.before Passed c.enum_told-1.given.1
 
-whole : (c : tie.After-enum-told) → 9 ≤ length (begin c.before.before).args.input.now
+whole : (c : tie.In_default) → 9 ≤ length (begin c.before.before).args.input.now
 whole c = question_whole (begin c.before.before).args.input.now (passed c)
 
 -- ── the needs, in the order of the code ──
-returns : tie.Need-returns
+returns : tie.Need-returns-in-Refused
 returns c =
     let w = c.before.before.before in
     let k = w.before.before in
     let s = begin k in
-    question_refused s.args.input.now s.args.text.now _ _ _ _ (judged k (Refused _ _) w.whole.given.1) c.Put-refused.ensures
+    question_refused s.args.input.now s.args.text.now _ _ _ _ (judged k (Refused _ _) w.whole-1.given.1) c.Put-refused.ensures
 
-read-u16-requires : tie.Need-read-u16-requires
+read-u16-requires : tie.Need-read_u16-source-requires
 read-u16-requires c κs = omega (arith, whole c)
 
-read-u16-requires-2 : tie.Need-read-u16-requires-2
+read-u16-requires-2 : tie.Need-read_u16-sink-requires
 read-u16-requires-2 c κs = omega (arith, whole c.before)
 
-sub-write-dimacs : tie.Need-overflow-sub-write-dimacs
-sub-write-dimacs c = omega (arith, whole c.before.before.before, c.record-length.ensures.0)
+sub-write-dimacs : tie.Need-slice_bounds-write_dimacs-count
+sub-write-dimacs c = omega (arith, whole c.before.before.before, c.record_length-after.ensures.0)
 
-part-write-dimacs-start : tie.Need-slice-bounds-write-dimacs-start
-part-write-dimacs-start c = omega (arith, whole c.before.before.before, c.record-length.ensures.0)
+part-write-dimacs-start : tie.Need-slice_bounds-write_dimacs-start
+part-write-dimacs-start c = omega (arith, whole c.before.before.before, c.record_length-after.ensures.0)
 
-returns-2 : tie.Need-returns-2
+returns-2 : tie.Need-returns-in-Bytes
 returns-2 c =
     let a = c.before in
     let w = a.before.before in
@@ -56,10 +56,10 @@ returns-2 c =
     let source = sink.before in
     let t = source.before in
     let s = begin t.before.before in
-    text_written s.args.input.now s.args.text.now (passed t) _ _ _ (sym (rest s.args.input.now _ r.record-length.ensures.0))
-    source.read-u16.ensures sink.read-u162.ensures _ _ w.write-dimacs.result a.answer.given.1 w.write-dimacs.ensures
+    text_written s.args.input.now s.args.text.now (passed t) _ _ _ (sym (rest s.args.input.now _ r.record_length-after.ensures.0))
+    source.read_u16-source.ensures sink.read_u16-sink.ensures _ _ w.write_dimacs-answer.result a.answer-1.given.1 w.write_dimacs-answer.ensures
 
-returns-3 : tie.Need-returns-3
+returns-3 : tie.Need-returns-in-Refused-answer
 returns-3 c =
     let a = c.before.before.before in
     let w = a.before.before in
@@ -68,12 +68,12 @@ returns-3 c =
     let source = sink.before in
     let t = source.before in
     let s = begin t.before.before in
-    text_refused s.args.input.now s.args.text.now (passed t) _ _ _ (sym (rest s.args.input.now _ r.record-length.ensures.0))
-    source.read-u16.ensures sink.read-u162.ensures _ _ _ _ _ w.write-dimacs.result a.answer2.given.1 w.write-dimacs.ensures
-    c.put-refused2.ensures
+    text_refused s.args.input.now s.args.text.now (passed t) _ _ _ (sym (rest s.args.input.now _ r.record_length-after.ensures.0))
+    source.read_u16-source.ensures sink.read_u16-sink.ensures _ _ _ _ _ w.write_dimacs-answer.result a.answer-in-Refused-answer-1.given.1 w.write_dimacs-answer.ensures
+    c.put_refused-in-Refused-answer.ensures
 
-pub put-text-spec : {M : Type 1} → statement M
-put-text-spec =
+pub put_text_spec : {M : Type 1} → statement M
+put_text_spec =
     tie.close
     (tie.spec
     (λ c κs. search rules)

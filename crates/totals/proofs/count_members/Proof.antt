@@ -10,38 +10,38 @@ use Rattle.totals.proofs.Listing.{count_in, count_out}
 use Rattle.totals.proofs.count_members.Statement.{statement}
 use Rattle.totals.proofs.count_members.Tie as tie
 
-abbrev invariant-loop : tie.invariant-loop
+abbrev invariant-loop : tie.invariant-loop-v
 invariant-loop set nodes members₀ v₀ members v = (v ≤ nodes) × (members ≤ v) × (members ≡ count v (member set))
 
-abbrev decreases-loop : tie.decreases-loop
+abbrev decreases-loop : tie.decreases-loop-v
 decreases-loop set nodes members₀ v₀ members v = nodes - v
 
-loop-holds : tie.Need-loop-init invariant-loop decreases-loop
+loop-holds : tie.Need-loop-v-init invariant-loop decreases-loop
 unfolding sum
 loop-holds c = (omega arith, omega arith, refl)
 
 contains-requires : tie.Need-contains-requires invariant-loop decreases-loop
-contains-requires c κs = let s = c.before.before.before in omega (arith, s.requires.exact, c.loop-test.true)
+contains-requires c κs = let s = c.before.before.before in omega (arith, s.requires.exact, c.loop-v-test.true)
 
-loop-again : tie.Need-loop-preserved invariant-loop decreases-loop
+loop-again : tie.Need-loop-v-preserved invariant-loop decreases-loop
 loop-again c =
-    let o = c.before.before.before.loop in
+    let o = c.before.before.before.loop-v in
     let set = c.before.before.before.before.before.args.set.now in
     let t = c.before.contains.ensures in
     ⊎_elim
     (λ w. (omega arith, omega (arith, w.1, o.invariant.1), w.1 ∙ ap (λ (x : ℕ). x + 1) o.invariant.2 ∙ sym (count_in o.v (member set) (sym t ∙ w.0.taken))))
     (λ w. (omega arith, omega (arith, w.1, o.invariant.1), w.1 ∙ o.invariant.2 ∙ sym (count_out o.v (member set) (sym t ∙ w.0.left))))
-    c.if1.branch
+    c.if-contains.branch
 
 returns : tie.Need-returns invariant-loop decreases-loop
 returns c =
-    let o = c.before.loop in
+    let o = c.before.loop-v in
     let a = c.before.before.before.args in
-    let e : o.v ≡ a.nodes = omega (arith, o.invariant.0, c.loop-test.false) in
+    let e : o.v ≡ a.nodes = omega (arith, o.invariant.0, c.loop-v-test.false) in
     o.invariant.2 ∙ ap (λ n. count n (member a.set.now)) e
 
-pub count-members-spec : {M : Type 1} → statement M
-count-members-spec =
+pub count_members_spec : {M : Type 1} → statement M
+count_members_spec =
     tie.close
     (tie.spec
     invariant-loop

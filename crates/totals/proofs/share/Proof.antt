@@ -11,8 +11,8 @@ use Rattle.totals.proofs.share.Statement.{statement}
 use Rattle.totals.proofs.share.Tie as tie
 
 -- the head is the tail of the reverse
-head_is : (c : tie.After-wide) → c.wide.result ≡ at c.before.before.before.before.args.tails.now (rev c.before.before.before.before.args.d)
-head_is c = c.wide.ensures ∙ ap (at c.before.before.before.before.args.tails.now) c.before.before.reverse.ensures.0
+head_is : (c : tie.After-wide-head) → c.wide-head.result ≡ at c.before.before.before.before.args.tails.now (rev c.before.before.before.before.args.d)
+head_is c = c.wide-head.ensures ∙ ap (at c.before.before.before.before.args.tails.now) c.before.before.reverse-back.ensures.0
 
 -- the test is whether the head is in the set
 inside_is : (c : tie.After-contains)
@@ -24,15 +24,15 @@ inside_is c = c.contains.ensures ∙ ap (member c.before.before.before.before.be
 contains-requires : tie.Need-contains-requires
 contains-requires c κs = let s = c.before.before.before.before.before in rw (head_is c.before) s.requires.1
 
-returns : tie.Need-returns
-returns c = when_no _ (ap not (sym (inside_is c.before) ∙ c.if1.true))
+returns : tie.Need-returns-then-contains
+returns c = when_no _ (ap not (sym (inside_is c.before) ∙ c.if-contains.true))
 
-returns-2 : tie.Need-returns-2
+returns-2 : tie.Need-returns
 returns-2 c =
-    number_of_bits _ (record { sfits = c.before.before.limit.given }) ∙ when_yes _ (ap not (sym (inside_is c.before) ∙ c.if1.false))
+    number_of_bits _ (record { sfits = c.before.before.limit-1.given }) ∙ when_yes _ (ap not (sym (inside_is c.before) ∙ c.if-contains.false))
 
-pub share-spec : {M : Type 1} → statement M
-share-spec =
+pub share_spec : {M : Type 1} → statement M
+share_spec =
     tie.close
     (tie.spec
     (λ c κs. search rules)

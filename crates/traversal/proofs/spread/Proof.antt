@@ -6,14 +6,14 @@ use Rattle.traversal.proofs.Spreading.{growing_none, finished}
 use Rattle.traversal.proofs.spread.Statement.{statement}
 use Rattle.traversal.proofs.spread.Tie as tie
 
-unmark-all-requires : tie.Need-unmark-all-requires
+unmark-all-requires : tie.Need-unmark_all-requires
 unmark-all-requires c κs = c.before.requires.1
 
 grow-requires : tie.Need-grow-requires
 grow-requires c κs =
     let u = c.before.before in
     let p = u.before.before.requires in
-    let e = u.unmark-all.ensures in (
+    let e = u.unmark_all.ensures in (
       p.0,
       e.0,
       p.2,
@@ -29,5 +29,5 @@ returns c =
     let e = c.grow.ensures in
     (e.0, e.1, finished e.2 p.3 p.5)
 
-pub spread-spec : {M : Type 1} → statement M
-spread-spec = tie.close (tie.spec unmark-all-requires grow-requires returns)
+pub spread_spec : {M : Type 1} → statement M
+spread_spec = tie.close (tie.spec unmark-all-requires grow-requires returns)

@@ -12,22 +12,22 @@ use Rattle.traversal.proofs.Spreading.{few, trees_few, growing_none, all_grown}
 use Rattle.traversal.proofs.spread_all.Statement.{statement}
 use Rattle.traversal.proofs.spread_all.Tie as tie
 
-abbrev invariant-loop : tie.invariant-loop
+abbrev invariant-loop : tie.invariant-loop-next
 invariant-loop rotations darts first order₀ from₀ end₀ trees₀ next₀ order from end trees next =
     (length order ≡ 1024) × (length from ≡ 1024) × (next ≤ darts) × (0 < trees)
     × Growing darts (at rotations) first (at order) (at from) end end trees × ((e : ℕ) → e < next → at from e ≢ unmarked)
 
-abbrev decreases-loop : tie.decreases-loop
+abbrev decreases-loop : tie.decreases-loop-next
 decreases-loop rotations darts first order₀ from₀ end₀ trees₀ next₀ order from end trees next = darts - next
 
-unmark-all-requires : tie.Need-unmark-all-requires invariant-loop decreases-loop
+unmark-all-requires : tie.Need-unmark_all-requires invariant-loop decreases-loop
 unmark-all-requires c κs = c.before.requires.1
 
-grow-requires : tie.Need-grow-requires invariant-loop decreases-loop
+grow-requires : tie.Need-grow-end-requires invariant-loop decreases-loop
 grow-requires c κs =
     let u = c.before.before in
     let p = u.before.before.requires in
-    let e = u.unmark-all.ensures in (
+    let e = u.unmark_all.ensures in (
       p.0,
       e.0,
       p.2,
@@ -37,79 +37,79 @@ grow-requires c κs =
       record { inside = p.4; fresh = e.1 _ (omega (arith, p.2, p.4)); next = inl (refl, refl, refl) },
     )
 
-loop-holds : tie.Need-loop-init invariant-loop decreases-loop
+loop-holds : tie.Need-loop-next-init invariant-loop decreases-loop
 loop-holds c =
-    let e = c.grow.ensures in
+    let e = c.grow-end.ensures in
     (e.0, e.1, omega arith, omega arith, e.2, λ e l. absurd (omega arith))
 
 -- ── in the loop ──
-abbrev begun : tie.At-loop invariant-loop decreases-loop → tie.Start invariant-loop decreases-loop
+abbrev begun : tie.At-loop-next invariant-loop decreases-loop → tie.Start invariant-loop decreases-loop
 begun c = c.before.before.before.before.before.before
 
-add-next : tie.Need-overflow-add-next invariant-loop decreases-loop
-add-next c = omega (arith, (begun c.before).pre.2, c.loop-test.true)
+add-next : tie.Need-overflow_add-next invariant-loop decreases-loop
+add-next c = omega (arith, (begun c.before).pre.2, c.loop-next-test.true)
 
-mul-if1 : tie.Need-overflow-mul-if1 invariant-loop decreases-loop
-mul-if1 c = omega (arith, (begun c.before).pre.2, c.loop-test.true)
+mul-if1 : tie.Need-offset_bounds-from-d invariant-loop decreases-loop
+mul-if1 c = omega (arith, (begun c.before).pre.2, c.loop-next-test.true)
 
-element-copy-out-if1 : tie.Need-element-copy-out-if1 invariant-loop decreases-loop
-element-copy-out-if1 c = omega (arith, (begun c.before).pre.2, c.loop-test.true, c.before.loop.invariant.1)
+element-copy-out-if1 : tie.Need-bounds-from-d invariant-loop decreases-loop
+element-copy-out-if1 c = omega (arith, (begun c.before).pre.2, c.loop-next-test.true, c.before.loop-next.invariant.1)
 
-grow-requires-2 : tie.Need-grow-requires-2 invariant-loop decreases-loop
+grow-requires-2 : tie.Need-grow-end-requires-then-from-d invariant-loop decreases-loop
 grow-requires-2 c κs =
     let b = c.before.before in
     let t = b.before.before in
     let p = (begun t.before).pre in
-    let o = t.before.loop in (
+    let o = t.before.loop-next in (
       o.invariant.0,
       o.invariant.1,
       p.2,
       p.3,
       p.5,
       o.invariant.4,
-      record { inside = t.loop-test.true; fresh = b.if1.true; next = inr (o.invariant.3, o.invariant.5) },
+      record { inside = t.loop-next-test.true; fresh = b.if-from-d.true; next = inr (o.invariant.3, o.invariant.5) },
     )
 
-abbrev turn : tie.After-grow2 invariant-loop decreases-loop → tie.In-loop invariant-loop decreases-loop
+abbrev turn : tie.After-grow-end-then-from-d invariant-loop decreases-loop → tie.In-loop-next invariant-loop decreases-loop
 turn c = c.before.before.before.before.before
 
-add-trees : tie.Need-overflow-add-trees invariant-loop decreases-loop
+add-trees : tie.Need-overflow_add-trees invariant-loop decreases-loop
 add-trees c =
-    let o = (turn c).before.loop in
+    let o = (turn c).before.loop-next in
     omega (arith, trees_few o.inv.4, few o.inv.4, (begun (turn c).before).pre.2)
 
-loop-less : tie.Need-loop-smaller invariant-loop decreases-loop
+loop-less : tie.Need-loop-next-smaller-then-from-d invariant-loop decreases-loop
 loop-less c = omega (arith, (turn c).loop-test.true)
 
-loop-again : tie.Need-loop-preserved invariant-loop decreases-loop
+loop-again : tie.Need-loop-next-preserved-then-from-d invariant-loop decreases-loop
 loop-again c =
     let t = turn c in
-    let o = t.before.loop in
-    let e = c.grow2.ensures in (
+    let o = t.before.loop-next in
+    let e = c.grow-end-then-from-d.ensures in (
       e.0,
       e.1,
-      omega (arith, t.loop-test.taken),
+      omega (arith, t.loop-next-test.taken),
       omega arith,
       e.2,
       below_more _ o.next (λ y l. e.4 y (o.inv.5 y l)) e.3,
     )
 
-loop-less-2 : tie.Need-loop-smaller-2 invariant-loop decreases-loop
-loop-less-2 c = omega (arith, c.before.before.loop-test.true)
+loop-less-2 : tie.Need-loop-next-smaller invariant-loop decreases-loop
+loop-less-2 c = omega (arith, c.before.before.loop-next-test.true)
 
-loop-again-2 : tie.Need-loop-preserved-2 invariant-loop decreases-loop
+loop-again-2 : tie.Need-loop-next-preserved invariant-loop decreases-loop
 loop-again-2 c =
     let t = c.before.before in
-    let o = t.before.loop in
-    (o.invariant.0, o.invariant.1, omega (arith, t.loop-test.true), o.invariant.3, o.invariant.4, below_more _ o.next o.invariant.5 c.if1.false)
+    let o = t.before.loop-next in
+    (o.invariant.0, o.invariant.1, omega (arith, t.loop-next-test.true), o.invariant.3, o.invariant.4, below_more _ o.next o.invariant.5 c.if-from-d.false)
 
 returns : tie.Need-returns invariant-loop decreases-loop
 returns c =
-    let o = c.before.loop in
-    (o.invariant.0, o.invariant.1, all_grown o.invariant.4 o.invariant.3 (λ d l. o.invariant.5 d (omega (arith, c.loop-test.false))))
+    let o = c.before.loop-next in
+    (o.invariant.0, o.invariant.1, all_grown o.invariant.4 o.invariant.3 (λ d l. o.invariant.5 d (omega (arith, c.loop-next-test.false))))
 
-pub spread-all-spec : {M : Type 1} → statement M
-spread-all-spec =
+pub spread_all_spec : {M : Type 1} → statement M
+spread_all_spec =
     tie.close
     (tie.spec
     invariant-loop

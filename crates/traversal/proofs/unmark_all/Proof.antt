@@ -12,30 +12,30 @@ use Rattle.traversal.specs.inner.Mark.{unmarked}
 use Rattle.traversal.proofs.unmark_all.Statement.{statement}
 use Rattle.traversal.proofs.unmark_all.Tie as tie
 
-abbrev invariant-loop : tie.invariant-loop
+abbrev invariant-loop : tie.invariant-loop-i
 invariant-loop label₀ i₀ label i = (i ≤ 1024) × (length label ≡ 1024) × ((d : ℕ) → d < i → at label d ≡ unmarked)
 
-abbrev decreases-loop : tie.decreases-loop
+abbrev decreases-loop : tie.decreases-loop-i
 decreases-loop label₀ i₀ label i = 1024 - i
 
-loop-holds : tie.Need-loop-init invariant-loop decreases-loop
+loop-holds : tie.Need-loop-i-init invariant-loop decreases-loop
 loop-holds c = (omega arith, c.requires, λ d l. absurd (omega arith))
 
-loop-again : tie.Need-loop-preserved invariant-loop decreases-loop
+loop-again : tie.Need-loop-i-preserved invariant-loop decreases-loop
 loop-again c =
-    let i = c.before.loop.i in
-    let label = c.before.loop.label in (
+    let i = c.before.loop-i.i in
+    let label = c.before.loop-i.label in (
       omega arith,
       search rules,
       below_more (λ d. at (set label i unmarked) d ≡ unmarked) i
-          (λ d l. read_below _ label i d unmarked 0 unmarked l (c.before.loop.invariant.2 d l)) (get_or-set_same label i unmarked 0 (omega arith)),
+          (λ d l. read_below _ label i d unmarked 0 unmarked l (c.before.loop-i.invariant.2 d l)) (get_or-set_same label i unmarked 0 (omega arith)),
     )
 
 returns : tie.Need-returns invariant-loop decreases-loop
-returns c = (c.before.loop.invariant.1, λ d l. c.before.loop.invariant.2 d (omega arith))
+returns c = (c.before.loop-i.invariant.1, λ d l. c.before.loop-i.invariant.2 d (omega arith))
 
-pub unmark-all-spec : {M : Type 1} → statement M
-unmark-all-spec =
+pub unmark_all_spec : {M : Type 1} → statement M
+unmark_all_spec =
     tie.close
     (tie.spec
     invariant-loop

@@ -21,7 +21,7 @@ plus16-requires c κs = plus_fits c.before.before.requires.2
 minus16-requires : tie.Need-minus16-requires
 minus16-requires c κs =
     let s = c.before.before.before.before in
-    let o = c.before.before.before.reverse in
+    let o = c.before.before.before.reverse-back in
     let l = s.args.winding.now in
     let a = to_z w16 (of_z w16 c.before.plus16.result) in
     let same = get_or-set_other l s.args.p o.result a (pos 0) (λ q. rev_apart s.args.p (sym o.ensures.0 ∙ q)) in
@@ -30,7 +30,7 @@ minus16-requires c κs =
 returns : tie.Need-returns
 returns c =
     let s = c.before.before.before.before.before in
-    let o = c.before.before.before.before.reverse in
+    let o = c.before.before.before.before.reverse-back in
     let l = s.args.winding.now in
     let p = s.args.p in
     let x = o.result in
@@ -40,12 +40,12 @@ returns c =
     let b = to_z w16 (of_z w16 c.minus16.result) in
     let same : atℤ (set l p a) x ≡ atℤ l x = get_or-set_other l p x a (pos 0) (λ q. rev_apart p (sym o.ensures.0 ∙ q)) in
     let h-x : Limited 1024 (atℤ (set l p a) x) = subst (Limited 1024) (sym (same ∙ ap (atℤ l) o.ensures.0)) h.3 in
-    let is-a : a ≡ atℤ l p +ℤ pos 1 = to_z-of_z w16 _ (record { sfits = more.type-inv }) ∙ more.ensures ∙ plus_read h.2 in
-    let is_b : b ≡ atℤ l x -ℤ pos 1 = to_z-of_z w16 _ (record { sfits = c.minus16.type-inv }) ∙ c.minus16.ensures ∙ minus_read h-x ∙ ap (λ y. y -ℤ pos 1) same in
+    let is-a : a ≡ atℤ l p +ℤ pos 1 = to_z-of_z w16 _ (record { sfits = more.type_inv }) ∙ more.ensures ∙ plus_read h.2 in
+    let is_b : b ≡ atℤ l x -ℤ pos 1 = to_z-of_z w16 _ (record { sfits = c.minus16.type_inv }) ∙ c.minus16.ensures ∙ minus_read h-x ∙ ap (λ y. y -ℤ pos 1) same in
     crossed_once l p x a b h.0 h.1 o.ensures.1 o.ensures.0 is-a is_b
 
-pub cross-spec : {M : Type 1} → statement M
-cross-spec =
+pub cross_spec : {M : Type 1} → statement M
+cross_spec =
     tie.close
     (tie.spec
     (λ c κs. search rules)

@@ -15,10 +15,10 @@ told : (rows columns seed : ℕ) (out out' : List ℕ) (answer : PracticeAnswer)
     → Practises rows columns seed out out' answer → answer ≡ Bytes n → IsPrefixLen n out'
 told rows columns seed out out' answer n h e = front_counted rows columns seed out out' n (subst (λ a. Practises rows columns seed out out' a) e h)
 
-returns-2 : tie.Need-returns-2
+returns-2 : tie.Need-returns-in-Bytes
 returns-2 c =
     let w = c.before.before.before.before.before in
-    told _ _ _ _ _ _ _ w.practice-sheet.ensures c.before.answer.given.1
+    told _ _ _ _ _ _ _ w.practice_sheet-answer.ensures c.before.answer-1.given.1
 
 pub make_spec : {M : Type 1} → statement M
 make_spec =

@@ -5,14 +5,14 @@ use borrow.Author.Rules.{rules}
 use Rattle.worksheet.proofs.natural.Statement.{statement}
 use Rattle.worksheet.proofs.natural.Tie as tie
 
-abbrev invariant-loop : tie.invariant-loop
+abbrev invariant-loop : tie.invariant-loop-i
 invariant-loop text from value₀ i₀ value i = (i ≤ length text) × (value ≤ 4294967295)
 
-abbrev decreases-loop : tie.decreases-loop
+abbrev decreases-loop : tie.decreases-loop-i
 decreases-loop text from value₀ i₀ value i = length text - i
 
-pub natural-spec : {M : Type 1} → statement M
-natural-spec =
+pub natural_spec : {M : Type 1} → statement M
+natural_spec =
     tie.close
     (tie.spec
     invariant-loop

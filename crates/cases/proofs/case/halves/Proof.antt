@@ -7,17 +7,17 @@ use borrow.Author.Rules.{rules}
 use Rattle.cases.proofs.case.halves.Statement.{statement}
 use Rattle.cases.proofs.case.halves.Tie as tie
 
-abbrev invariant-loop : tie.invariant-loop
+abbrev invariant-loop : tie.invariant-loop-i
 invariant-loop s k to₀ from n i₀ to i = (length to ≡ length to₀) × (i ≤ length to)
 
-abbrev decreases-loop : tie.decreases-loop
+abbrev decreases-loop : tie.decreases-loop-i
 decreases-loop s k to₀ from n i₀ to i = length to₀ - i
 
-loop-again : tie.Need-loop-preserved invariant-loop decreases-loop
+loop-again : tie.Need-loop-i-preserved invariant-loop decreases-loop
 loop-again c = (simp length-set (omega arith), simp length-set (omega arith))
 
-pub halves-spec : {M : Type 1} → statement M
-halves-spec =
+pub halves_spec : {M : Type 1} → statement M
+halves_spec =
     tie.close
     (tie.spec
     invariant-loop

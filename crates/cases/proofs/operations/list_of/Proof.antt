@@ -4,14 +4,14 @@ use borrow.Author.Rules.{rules}
 use Rattle.cases.proofs.operations.list_of.Statement.{statement}
 use Rattle.cases.proofs.operations.list_of.Tie as tie
 
-abbrev invariant-loop : tie.invariant-loop
+abbrev invariant-loop : tie.invariant-loop-i
 invariant-loop sources sinks values next₀ i₀ next i = i ≤ 64
 
-abbrev decreases-loop : tie.decreases-loop
+abbrev decreases-loop : tie.decreases-loop-i
 decreases-loop sources sinks values next₀ i₀ next i = 64 - i
 
-pub list-of-spec : {M : Type 1} → statement M
-list-of-spec =
+pub list_of_spec : {M : Type 1} → statement M
+list_of_spec =
     tie.close
     (tie.spec
     invariant-loop

@@ -4,14 +4,14 @@ use borrow.Author.Rules.{rules}
 use Rattle.cases.proofs.operations.say_answers.Statement.{statement}
 use Rattle.cases.proofs.operations.say_answers.Tie as tie
 
-abbrev invariant-loop : tie.invariant-loop
+abbrev invariant-loop : tie.invariant-loop-i
 invariant-loop page i₀ i = i ≤ 64
 
-abbrev decreases-loop : tie.decreases-loop
+abbrev decreases-loop : tie.decreases-loop-i
 decreases-loop page i₀ i = 64 - i
 
-pub say-answers-spec : {M : Type 1} → statement M
-say-answers-spec =
+pub say_answers_spec : {M : Type 1} → statement M
+say_answers_spec =
     tie.close
     (tie.spec
     invariant-loop

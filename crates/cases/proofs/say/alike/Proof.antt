@@ -5,10 +5,10 @@ use borrow.Author.Rules.{rules}
 use Rattle.cases.proofs.say.alike.Statement.{statement}
 use Rattle.cases.proofs.say.alike.Tie as tie
 
-abbrev invariant-loop : tie.invariant-loop
+abbrev invariant-loop : tie.invariant-loop-end
 invariant-loop s at end₀ end = (at < end) × (end ≤ length s)
 
-abbrev decreases-loop : tie.decreases-loop
+abbrev decreases-loop : tie.decreases-loop-end
 decreases-loop s at end₀ end = length s - end
 
 pub alike_spec : {M : Type 1} → statement M

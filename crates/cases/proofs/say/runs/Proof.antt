@@ -5,14 +5,14 @@ use borrow.Author.Rules.{rules}
 use Rattle.cases.proofs.say.runs.Statement.{statement}
 use Rattle.cases.proofs.say.runs.Tie as tie
 
-abbrev invariant-loop : tie.invariant-loop
+abbrev invariant-loop : tie.invariant-loop-at
 invariant-loop values at₀ at = at ≤ length values
 
-abbrev decreases-loop : tie.decreases-loop
+abbrev decreases-loop : tie.decreases-loop-at
 decreases-loop values at₀ at = length values - at
 
-pub runs-spec : {M : Type 1} → statement M
-runs-spec =
+pub runs_spec : {M : Type 1} → statement M
+runs_spec =
     tie.close
     (tie.spec
     invariant-loop

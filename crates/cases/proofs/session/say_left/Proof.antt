@@ -4,14 +4,14 @@ use borrow.Author.Rules.{rules}
 use Rattle.cases.proofs.session.say_left.Statement.{statement}
 use Rattle.cases.proofs.session.say_left.Tie as tie
 
-abbrev invariant-loop : tie.invariant-loop
+abbrev invariant-loop : tie.invariant-loop-d
 invariant-loop edges left m d₀ d = d ≤ 1024
 
-abbrev decreases-loop : tie.decreases-loop
+abbrev decreases-loop : tie.decreases-loop-d
 decreases-loop edges left m d₀ d = 1024 - d
 
-pub say-left-spec : {M : Type 1} → statement M
-say-left-spec =
+pub say_left_spec : {M : Type 1} → statement M
+say_left_spec =
     tie.close
     (tie.spec
     invariant-loop

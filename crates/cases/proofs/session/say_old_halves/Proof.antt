@@ -4,14 +4,14 @@ use borrow.Author.Rules.{rules}
 use Rattle.cases.proofs.session.say_old_halves.Statement.{statement}
 use Rattle.cases.proofs.session.say_old_halves.Tie as tie
 
-abbrev invariant-loop : tie.invariant-loop
+abbrev invariant-loop : tie.invariant-loop-d
 invariant-loop from values d₀ d = Unit
 
-abbrev decreases-loop : tie.decreases-loop
+abbrev decreases-loop : tie.decreases-loop-d
 decreases-loop from values d₀ d = 1024 - d
 
-pub say-old-halves-spec : {M : Type 1} → statement M
-say-old-halves-spec =
+pub say_old_halves_spec : {M : Type 1} → statement M
+say_old_halves_spec =
     tie.close
     (tie.spec
     invariant-loop

@@ -6,16 +6,16 @@ use borrow.Author.Rules.{rules}
 use Rattle.cases.proofs.session.session.Statement.{statement}
 use Rattle.cases.proofs.session.session.Tie as tie
 
-abbrev invariant-loop : tie.invariant-loop
+abbrev invariant-loop : tie.invariant-loop-at
 invariant-loop s flows₀ set₀ nodes edges outer tails rotations limits left₀ standing₀ first₀ second₀ darts calls at₀ flows set left standing first second at =
     (at ≤ length calls) × (length flows ≡ length flows₀) × (length set ≡ length set₀)
 
-abbrev decreases-loop : tie.decreases-loop
+abbrev decreases-loop : tie.decreases-loop-at
 decreases-loop s flows₀ set₀ nodes edges outer tails rotations limits left₀ standing₀ first₀ second₀ darts calls at₀ flows set left standing first second at =
     length calls - at
 
-pub session-spec : {M : Type 1} → statement M
-session-spec =
+pub session_spec : {M : Type 1} → statement M
+session_spec =
     tie.close
     (tie.spec
     invariant-loop
