@@ -48,7 +48,7 @@ loop-again c =
     (omega arith, below_more _ o.v o.inv.1 (said_no (judged-here c.before) c.if-off_balance.false))
 
 -- ── all nodes are tested ──
-returns-2 : tie.Need-returns-then-off_balance invariant-loop decreases-loop
+returns-2 : tie.Need-returns invariant-loop decreases-loop
 unfolding off_checks
 returns-2 c = let s = c.before.before in none_holds s.args.nodes 18 (OffAt s) (λ u l. c.before.loop-v.invariant.1 u (omega arith))
 

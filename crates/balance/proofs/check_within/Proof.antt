@@ -57,7 +57,7 @@ loop-again c =
     (omega arith, below_more _ o.e o.inv.1 (said_no (judged-here c.before) c.if-exceeds.false))
 
 -- ── all edges are tested ──
-returns-2 : tie.Need-returns-then-exceeds invariant-loop decreases-loop
+returns-2 : tie.Need-returns invariant-loop decreases-loop
 unfolding within_checks
 returns-2 c = let s = c.before.before in none_holds s.args.edges 17 (Exceeding s) (λ k l. c.before.loop-e.invariant.1 k (omega arith))
 

@@ -17,7 +17,7 @@ use Rattle.balance.proofs.exceeds.Tie as tie
 returns : tie.Need-returns-then-forward-x
 returns c = inl (lt_of_test _ _ (rw (number_of_bits _ c.before.ranges.forward, number_of_bits _ c.before.ranges.x) at c.if-forward-x.true))
 
-returns-2 : tie.Need-returns-then-forward-x
+returns-2 : tie.Need-returns
 returns-2 c =
     let a = c.before.before.before.args in
     let f = c.before.before.before.ranges in

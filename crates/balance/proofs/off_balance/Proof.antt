@@ -14,7 +14,7 @@ returns c = λ p. p.0 (inl c.if-v-a.true)
 returns-2 : tie.Need-returns-then-v-b
 returns-2 c = λ p. p.0 (inr c.if-v-b.true)
 
-returns-3 : tie.Need-returns-then-v-a
+returns-3 : tie.Need-returns
 returns-3 c =
     let x = c.before.before.args.sum in
     decides_ne (of_z w32 x) 0
