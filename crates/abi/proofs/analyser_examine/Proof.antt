@@ -32,14 +32,14 @@ returns c = (
 returns-2 : tie.Need-returns-in-Marked
 returns-2 c = (
   Marked _ _ _ _,
-  found c.before.before.before.before.before (Marked _ _ _ _) c.before.class-1.given.1,
+  found c.before.before.before.before.before (Marked _ _ _ _) c.class-1.given.1,
   record { result_told = refl; number-told = refl; sum_told = refl; least_told = refl; greatest_told = refl; place_told = refl },
 )
 
 returns-3 : tie.Need-returns-in-Refused
 returns-3 c = (
   Refused _ _,
-  found c.before.before.before.before.before (Refused _ _) c.before.class-in-Refused-1.given.1,
+  found c.before.before.before.before.before (Refused _ _) c.class-in-Refused-1.given.1,
   record { result_told = refl; number-told = refl; sum_told = refl; least_told = refl; greatest_told = refl; place_told = refl },
 )
 

@@ -25,13 +25,13 @@ named c answer e = rw e at c.write_key-answer.ensures.1
 
 returns : tie.Need-returns-in-Bytes
 returns c =
-    let k = c.before.before.before.before.before in
-    (Bytes _, found k (Bytes _) c.before.answer-1.given.1, named k (Bytes _) c.before.answer-1.given.1, (refl, refl, refl))
+    let k = c in
+    (Bytes _, found k.before.before.before.before.before (Bytes _) c.answer-1.given.1, named k.before.before.before.before.before (Bytes _) c.answer-1.given.1, (refl, refl, refl))
 
 returns-2 : tie.Need-returns-in-Refused
 returns-2 c =
-    let k = c.before.before.before.before.before in
-    (Refused _ _, found k (Refused _ _) c.before.answer-in-Refused-1.given.1, named k (Refused _ _) c.before.answer-in-Refused-1.given.1, (refl, refl, refl))
+    let k = c in
+    (Refused _ _, found k.before.before.before.before.before (Refused _ _) c.answer-in-Refused-1.given.1, named k.before.before.before.before.before (Refused _ _) c.answer-in-Refused-1.given.1, (refl, refl, refl))
 
 pub analyser_key_text_spec : {M : Type 1} → statement M
 analyser_key_text_spec =

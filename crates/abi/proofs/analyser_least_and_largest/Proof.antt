@@ -34,7 +34,7 @@ found c answer e = rw e at c.least_and_largest-answer.ensures
 returns : tie.Need-returns-in-Values
 returns c = (
   Values _ _,
-  found c.before.before.before.before.before.before.before.before.before (Values _ _) c.before.answer-1.given.1,
+  found c.before.before.before.before.before.before.before.before.before (Values _ _) c.answer-1.given.1,
   (
     refl,
     refl,
@@ -50,7 +50,7 @@ returns-2 c = (None, found c.before.before.before.before.before.before.before.be
 returns-3 : tie.Need-returns-in-Refused
 returns-3 c = (
   Refused _ _,
-  found c.before.before.before.before.before.before.before.before.before (Refused _ _) c.before.answer-in-Refused-1.given.1,
+  found c.before.before.before.before.before.before.before.before.before (Refused _ _) c.answer-in-Refused-1.given.1,
   (refl, refl, refl, refl, refl),
 )
 

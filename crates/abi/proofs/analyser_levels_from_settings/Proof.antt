@@ -23,7 +23,7 @@ returns : tie.Need-returns-in-Done
 returns c = (Done, found c.before.before.before Done c.enum_told-1.given.1, (refl, refl))
 
 returns-2 : tie.Need-returns-in-Refused
-returns-2 c = (Refused _ _, found c.before.before.before.before (Refused _ _) c.before.answer-1.given.1, (refl, refl))
+returns-2 c = (Refused _ _, found c.before.before.before.before (Refused _ _) c.answer-1.given.1, (refl, refl))
 
 pub analyser_levels_from_settings_spec : {M : Type 1} → statement M
 analyser_levels_from_settings_spec =

@@ -25,9 +25,9 @@ abbrev left' : tie.After-ask-answer → Shared
 left' c =
     let a = (begun c).args in
     shared_of a.nodes a.edges a.outer a.tails.now a.rotations.now a.limits.now a.left.now
-    c.ask-answer.new.1.1.1.1.1.1.0
-    c.ask-answer.new.1.1.1.1.1.1.1.0
-    c.ask-answer.new.1.1.1.1.1.1.1.1.0
+    c.ask-answer.new.standing
+    c.ask-answer.new.first
+    c.ask-answer.new.second
 
 abbrev flows' : tie.After-ask-answer → List ℤ
 flows' c = c.ask-answer.new.1.1.1.1.1.1.1.1.1.1.1.1.0
@@ -49,10 +49,10 @@ returns : tie.Need-returns-in-Can
 returns c = (Can, asked c.before.before.before.before.before Can c.enum_told-1.given.1, (refl, refl, refl, refl))
 
 returns-2 : tie.Need-returns-in-Cannot
-returns-2 c = (Cannot _, asked c.before.before.before.before.before.before (Cannot _) c.before.answer-1.given.1, (refl, refl, refl, refl))
+returns-2 c = (Cannot _, asked c.before.before.before.before.before.before (Cannot _) c.answer-1.given.1, (refl, refl, refl, refl))
 
 returns-3 : tie.Need-returns-in-Refused
-returns-3 c = (Refused _ _, asked c.before.before.before.before.before.before (Refused _ _) c.before.answer-in-Refused-1.given.1, (refl, refl, refl, refl))
+returns-3 c = (Refused _ _, asked c.before.before.before.before.before.before (Refused _ _) c.answer-in-Refused-1.given.1, (refl, refl, refl, refl))
 
 pub analyser_session_ask_spec : {M : Type 1} → statement M
 analyser_session_ask_spec =

@@ -35,18 +35,18 @@ named c answer e = rw (number_of_bits _ (start c).ranges.value, e) at c.solve-an
 
 returns : tie.Need-returns-in-Can
 returns c =
-    let k = c.before.before.before.before.before in
-    (Can, solved k Can c.enum_told-1.given.1, named k Can c.enum_told-1.given.1, (refl, refl, refl, refl))
+    let k = c in
+    (Can, solved k.before.before.before.before.before Can c.enum_told-1.given.1, named k.before.before.before.before.before Can c.enum_told-1.given.1, (refl, refl, refl, refl))
 
 returns-2 : tie.Need-returns-in-Cannot
 returns-2 c =
-    let k = c.before.before.before.before.before.before in
-    (Cannot _, solved k (Cannot _) c.before.answer-1.given.1, named k (Cannot _) c.before.answer-1.given.1, (refl, refl, refl, refl))
+    let k = c in
+    (Cannot _, solved k.before.before.before.before.before.before (Cannot _) c.answer-1.given.1, named k.before.before.before.before.before.before (Cannot _) c.answer-1.given.1, (refl, refl, refl, refl))
 
 returns-3 : tie.Need-returns-in-Refused
 returns-3 c =
-    let k = c.before.before.before.before.before.before in
-    (Refused _ _, solved k (Refused _ _) c.before.answer-in-Refused-1.given.1, named k (Refused _ _) c.before.answer-in-Refused-1.given.1, (refl, refl, refl, refl))
+    let k = c in
+    (Refused _ _, solved k.before.before.before.before.before.before (Refused _ _) c.answer-in-Refused-1.given.1, named k.before.before.before.before.before.before (Refused _ _) c.answer-in-Refused-1.given.1, (refl, refl, refl, refl))
 
 pub analyser_solve_spec : {M : Type 1} → statement M
 analyser_solve_spec =

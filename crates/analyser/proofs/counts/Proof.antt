@@ -41,9 +41,9 @@ accepted c = totals_passed _ no_set no_totals (out' (asked c)) _ (found (asked c
 -- ── the needs, in the order of the code ──
 returns : tie.Need-returns-in-Refused
 returns c =
-    let t = c.before.before.before.before in
-    totals_refused _ no_set no_totals (out' t) (omega (arith, length-replicate {A = ℕ} 9 0)) (omega (arith, length-replicate 513 (pos 0))) _ _
-    (found t (totals.Refused _ _) c.before.answer-1.given.1)
+    let t = c in
+    totals_refused _ no_set no_totals (out' t.before.before.before.before) (omega (arith, length-replicate {A = ℕ} 9 0)) (omega (arith, length-replicate 513 (pos 0))) _ _
+    (found t.before.before.before.before (totals.Refused _ _) c.answer-1.given.1)
 
 nodes-of-requires : tie.Need-nodes_of-nodes-requires
 nodes-of-requires c κs = (head_counts _ (accepted c)).0
@@ -52,16 +52,16 @@ edges-of-requires : tie.Need-edges_of-edges-requires
 edges-of-requires c κs = (head_counts _ (accepted c.before)).0
 
 narrow-requires : tie.Need-narrow-requires
-narrow-requires c κs = let n = c.before in omega (arith, n.nodes_of-nodes.ensures, (head_counts _ (accepted n.before)).1)
+narrow-requires c κs = let n = c in omega (arith, n.nodes_of-nodes.ensures, (head_counts _ (accepted n.before.before)).1)
 
 narrow-requires-2 : tie.Need-narrow-requires-2
-narrow-requires-2 c κs = let e = c.before in omega (arith, e.edges_of-edges.ensures, (head_counts _ (accepted e.before.before)).2)
+narrow-requires-2 c κs = let e = c in omega (arith, e.edges_of-edges.ensures, (head_counts _ (accepted e.before.before.before)).2)
 
 returns-2 : tie.Need-returns
 returns-2 c =
-    let e = c.before.before in
-    let n = e.before in
-    (accepted n.before, c.before.narrow.ensures ∙ n.nodes_of-nodes.ensures, c.narrow-2.ensures ∙ e.edges_of-edges.ensures)
+    let e = c in
+    let n = e in
+    (accepted n.before.before.before.before, c.narrow.ensures ∙ n.nodes_of-nodes.ensures, c.narrow-2.ensures ∙ e.edges_of-edges.ensures)
 
 pub counts_spec : {M : Type 1} → statement M
 counts_spec =

@@ -12,10 +12,10 @@ read-full-requires : tie.Need-read_full-n-requires
 read-full-requires c κs = tt
 
 array-share-prefix-input : tie.Need-slice_bounds-input-end
-array-share-prefix-input c = c.before.read_full-n.ensures.0
+array-share-prefix-input c = c.read_full-n.ensures.0
 
 slice-aggregate-cases : tie.Need-slice_bounds-cases-end
-slice-aggregate-cases c = c.before.before.read_full-n.ensures.1
+slice-aggregate-cases c = c.read_full-n.ensures.1
 
 cases-requires : tie.Need-cases-requires
 cases-requires c κs = tt

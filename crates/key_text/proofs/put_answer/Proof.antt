@@ -78,8 +78,8 @@ refused c = c.before.before.before.before
 -- ── the needs, in the order of the code: it can ──
 edges-of-requires : tie.Need-edges_of-requires
 edges-of-requires c κs =
-    let t = c.before in
-    let a = can t in
+    let t = c in
+    let a = can t.before in
     head_there _ _ _ _ _ (flows' a) _ (set' a) (solved a Can t.enum_told-1.given.1).0.0
 
 put-can-requires : tie.Need-put_can-requires
@@ -88,8 +88,8 @@ put-can-requires c κs =
     let a = can t in
     let h = (solved a Can t.enum_told-1.given.1).0 in
     let few = few_edges _ _ _ _ _ (flows' a) _ (set' a) h.0 in
-    let e = c.before.edges_of.ensures in (
-      omega (arith, few, e, (start a).pre),
+    let e = c.edges_of.ensures in (
+      omega (arith, few, e, (start a).requires),
       subst (Limited 600000000) (sym (value-is a)) (value_fits _ _ _ _ _ (flows' a) _ (set' a) h.0),
       omega (arith, few, e),
       λ i l. flows_fit _ _ _ _ _ (flows' a) _ (set' a) h i (subst (λ k. i < k) e l),
@@ -97,12 +97,12 @@ put-can-requires c κs =
 
 returns : tie.Need-returns-in-Can
 returns c b question sheet source sink value =
-    let p = c.before.before in
-    let edges = p.before.before in
-    let t = can-told edges in
+    let p = c in
+    let edges = p in
+    let t = can-told edges.before.before.before.before in
     let a = can t in
     let s = start a in
-    can_printed b question no_flows (flows' a) no_set (set' a) long wide s.args.text-1.now p.put_can.new.0 s.pre p.put_can.result _
+    can_printed b question no_flows (flows' a) no_set (set' a) long wide s.args.text-1.now p.put_can.new.text-1 s.requires p.put_can.result _
     (value-is a ∙ sym value)
     (solved-of a b question sheet source sink value Can t.enum_told-1.given.1)
     _
@@ -112,8 +112,8 @@ returns c b question sheet source sink value =
 -- ── it cannot ──
 nodes-of-requires : tie.Need-nodes_of-requires
 nodes-of-requires c κs =
-    let t = c.before.before in
-    let a = cannot t in
+    let t = c in
+    let a = cannot t.before.before in
     head_there _ _ _ _ _ (flows' a) _ (set' a) (solved a (Cannot _) t.answer-1.given.1).0.0
 
 put-cannot-requires : tie.Need-put_cannot-requires
@@ -122,23 +122,23 @@ put-cannot-requires c κs =
     let a = cannot t in
     let h = (solved a (Cannot _) t.answer-1.given.1).0 in
     let few = few_nodes _ _ _ _ _ (flows' a) _ (set' a) h.0 in
-    let e = c.before.nodes_of.ensures in (
-      omega (arith, few, e, (start a).pre),
+    let e = c.nodes_of.ensures in (
+      omega (arith, few, e, (start a).requires),
       subst (Limited 600000000) (sym (value-is a)) (value_fits _ _ _ _ _ (flows' a) _ (set' a) h.0),
       omega (arith, few, e),
     )
 
 returns-2 : tie.Need-returns-in-Cannot
 returns-2 c b question sheet source sink value =
-    let p = c.before.before in
-    let nodes = p.before.before in
-    let t = cannot-told nodes in
+    let p = c in
+    let nodes = p in
+    let t = cannot-told nodes.before.before.before.before in
     let a = cannot t in
     let s = start a in
-    cannot_printed b question no_flows (flows' a) no_set (set' a) long wide s.args.text-1.now p.put_cannot.new.0 s.pre p.put_cannot.result _
+    cannot_printed b question no_flows (flows' a) no_set (set' a) long wide s.args.text-1.now p.put_cannot.new.text-1 s.requires p.put_cannot.result _
     (value-is a ∙ sym value)
     _
-    nodes.before.before.known_told-1.given.0.1
+    nodes.known_told-1.given.0.1
     (solved-of a b question sheet source sink value (Cannot _) t.answer-1.given.1)
     _
     (nodes.nodes_of.ensures ∙ ap nodes_of (sym sheet))
@@ -150,12 +150,12 @@ put-refused-requires c κs = omega (arith, (start (refused c.before.before)).req
 
 returns-3 : tie.Need-returns-in-Refused
 returns-3 c b question sheet source sink value =
-    let p = c.before.before in
-    let known = p.before.before in
-    let t = known.before in
-    let a = refused t in
+    let p = c in
+    let known = p in
+    let t = known in
+    let a = refused t.before.before.before.before.before in
     let s = start a in
-    refused_printed b question no_flows (flows' a) no_set (set' a) long wide s.args.text-1.now p.Put-refused.new.0 s.pre p.Put-refused.result _ _
+    refused_printed b question no_flows (flows' a) no_set (set' a) long wide s.args.text-1.now p.Put-refused.new.0 s.requires p.Put-refused.result _ _
     known.known_told-in-Refused-1.given.0.1
     (solved-of a b question sheet source sink value (Refused _ _) t.answer-in-Refused-1.given.1)
     p.Put-refused.ensures

@@ -26,8 +26,8 @@ loop-holds c = (omega arith, c.requires.1, c.requires.0, λ k l. absurd (omega a
 
 loop-again : tie.Need-loop-d-preserved invariant-loop decreases-loop
 loop-again c =
-    let o = c.before.before.loop-d in
-    let t = c.before.before.before.args.capacities.now in
+    let o = c.loop-d in
+    let t = c.args.capacities.now in
     let v = to_z w32 (of_z w32 (atℤ t o.d)) in (
       omega arith,
       o.invariant.1,
@@ -37,7 +37,7 @@ loop-again c =
     )
 
 returns : tie.Need-returns invariant-loop decreases-loop
-returns c = (c.before.loop-d.invariant.2, λ d l. c.before.loop-d.invariant.3 d (omega arith))
+returns c = (c.loop-d.invariant.2, λ d l. c.loop-d.invariant.3 d (omega arith))
 
 pub copy_capacities_spec : {M : Type 1} → statement M
 copy_capacities_spec =

@@ -16,17 +16,17 @@ use Rattle.maximum.proofs.first_bounds.Tie as tie
 
 -- the two cuts, as the machine holds them
 high_is : (c : tie.After-capacity-high)
-    → to_z w32 (of_z w32 c.capacity-high.result) ≡ cut_of c.before.args.darts (at c.before.args.tails.now)
-    (atℤ c.before.args.capacities.now) (flagged c.before.args.a.now)
+    → to_z w32 (of_z w32 c.capacity-high.result) ≡ cut_of c.args.darts (at c.args.tails.now)
+    (atℤ c.args.capacities.now) (flagged c.args.a.now)
 high_is c = number_of_bits _ (record { sfits = c.capacity-high.type_inv }) ∙ c.capacity-high.ensures
 
 abbrev given : tie.After-capacity → tie.Start
 given c = c.before.before.before
 
 low_is : (c : tie.After-capacity)
-    → to_z w32 (of_z w32 c.capacity.result) ≡ cut_of (given c).args.darts (at (given c).args.tails.now)
+    → to_z w32 (of_z w32 c.capacity-high.result) ≡ cut_of (given c).args.darts (at (given c).args.tails.now)
     (atℤ (given c).args.capacities.now) (flagged (given c).args.b.now)
-low_is c = number_of_bits _ (record { sfits = c.capacity.type_inv }) ∙ c.capacity.ensures
+low_is c = number_of_bits _ (record { sfits = c.capacity-high.type_inv }) ∙ c.capacity-high.ensures
 
 returns : tie.Need-returns-then-likely
 returns c = (refl, high_is c.before, inl refl)

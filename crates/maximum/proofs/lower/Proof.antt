@@ -15,12 +15,12 @@ use Rattle.maximum.proofs.lower.Tie as tie
 
 returns : tie.Need-returns-in-Source
 returns c =
-    let told = c.before.before in
-    let sided = told.before.before in
-    let less = sided.before in
-    let tested = less.before in
-    let added = tested.before in
-    let s = added.before in
+    let told = c in
+    let sided = told in
+    let less = sided in
+    let tested = less in
+    let added = tested in
+    let s = added in
     let total = number_of_bits added.capacity-total.result (record { sfits = added.capacity-total.type_inv }) in (
       c.copy_flags.ensures.0,
       falls
@@ -33,12 +33,12 @@ returns c =
 
 returns-2 : tie.Need-returns-then-is_less
 returns-2 c =
-    let s = c.before.before.before.before.before in
+    let s = c in
     (s.requires.0, stays (number_of_bits _ s.ranges.high) refl)
 
 returns-3 : tie.Need-returns
 returns-3 c =
-    let s = c.before.before.before in
+    let s = c in
     (s.requires.0, stays (number_of_bits _ s.ranges.high) refl)
 
 pub lower_spec : {M : Type 1} → statement M

@@ -108,8 +108,8 @@ closer-of-bits c {low'} {high'} {found'} h =
 -- ── the value probed ──
 next-value-requires : tie.Need-next_value-value-requires
 next-value-requires c κs =
-    let s = c.before.before.before.before in
-    (in_order s, limited_more (omega arith) (bits-limited (omega arith) (lo_small s)), limited_more (omega arith) (bits-limited (omega arith) (hi_small s)))
+    let s = c in
+    (in_order s.before.before.before.before, limited_more (omega arith) (bits-limited (omega arith) (lo_small s.before.before.before.before)), limited_more (omega arith) (bits-limited (omega arith) (hi_small s.before.before.before.before)))
 
 abbrev given : tie.After-next_value-value → tie.Start
 given c = c.before.before.before.before.before
@@ -135,13 +135,13 @@ at_most c = subst (λ v. v ≤ℤ hi (given c)) (sym (same_value c)) c.next_valu
 above : (c : tie.After-next_value-value) → (given c).args.pending.bounds-1.found ≡ true → lo (given c) <ℤ value c
 above c e =
     let s = given c in
-    subst (λ v. lo s <ℤ v) (sym (same_value c)) (c.next_value-value.ensures.2 e (rw (same-lo s, same-hi s) (s.pre.3 e)))
+    subst (λ v. lo s <ℤ v) (sym (same_value c)) (c.next_value-value.ensures.2 e (rw (same-lo s, same-hi s) (s.requires.3 e)))
 
 decide-requires : tie.Need-decide-requires
 decide-requires c κs =
-    let n = c.before.before.before in
-    let p = (given n).requires in
-    (p.0.1.lent, limited_more (omega arith) (bits-limited (omega arith) (value_small n)), p.1, refl)
+    let n = c in
+    let p = (given n.before.before.before).requires in
+    (p.0.1.lent, limited_more (omega arith) (bits-limited (omega arith) (value_small n.before.before.before)), p.1, refl)
 
 -- ── the decision ──
 abbrev asked : tie.After-decide → tie.After-next_value-value
@@ -170,16 +170,16 @@ can c = c.before.before
 
 propose-requires : tie.Need-propose-requires
 propose-requires c κs =
-    let t = c.before.before.before in
-    let k = can t in
+    let t = c in
+    let k = can t.before.before in
     let b = base k in
     let g = ground b in
-    let exact = b.pre.0.1.lent.exact in
-    lent_pivots b.args.rotations.now g k.decide.ensures.2 b.pre.0.1.size_a
+    let exact = b.requires.0.1.lent.exact in
+    lent_pivots b.args.rotations.now g k.decide.ensures.2 b.requires.0.1.size_a
     (filled_length _ _ b.args.flows-1.now (flows' k) (decided k t.if-decide.true).2 (omega (arith, exact)) ∙ exact)
 
 abbrev taken : tie.After-propose → tie.Then-decide
-taken c = c.before.before.before.before
+taken c = c.before.before.before
 
 abbrev chosen : tie.After-propose → tie.After-decide
 chosen c = can (taken c)
@@ -203,13 +203,13 @@ proposed c before h =
     let v = value (asked k) in
     lowered o g before (flows' k) b.args.a.now b.args.b.now v (hi b) true
     (carried o g before b.args.flows-1.now b.args.a.now b.args.b.now (lo b) (hi b) b.args.pending.bounds-1.found (at_bits b before h)
-    v (flows' k) (inside' k) (decided k (taken c).if1.true))
+    v (flows' k) (inside' k) (decided k (taken c).if-decide.true))
     _ (a'' c) c.propose.result c.propose.ensures.2.1
 
 new-high : (c : tie.After-propose) → to_z w32 (of_z w32 c.propose.result) ≡ c.propose.result
 new-high c =
     let b = base (chosen c) in
-    let w = b.pre.0 in
+    let w = b.requires.0 in
     same_bits (omega arith) (high_small b.args.sizes.outer (ground b) (proposed c w.0 w.1.bracket).0.ceiling)
 
 returns : tie.Need-returns-then-decide
@@ -217,11 +217,11 @@ returns c =
     let k = chosen c in
     let n = asked k in
     let b = base k in
-    let w = b.pre.0 in
+    let w = b.requires.0 in
     let e = c.propose.ensures in (
       e.0,
       e.1,
-      b.pre.0.1.size_b,
+      b.requires.0.1.size_b,
       λ _. closer-of-bits b
           (carried_closer b.args.sizes.outer (ground b) (lo b) (hi b) (value n) b.args.pending.bounds-1.found (at_least n) (at_most n) _
           (rw (new-high c) (proposed c w.0 w.1.bracket).1) (above n)),
@@ -236,8 +236,8 @@ narrow-by-requires : tie.Need-narrow_by-n-requires
 narrow-by-requires c κs =
     let b = base c.before.before.before.before.before.before in
     let g = ground b in (
-      b.pre.0.1.size_a,
-      b.pre.0.1.size_b,
+      b.requires.0.1.size_a,
+      b.requires.0.1.size_b,
       source_few g,
       sink_few g,
       omega (arith, g.few_edges),
@@ -250,7 +250,7 @@ abbrev probed : tie.After-narrow_by-n → tie.After-decide
 probed c = c.before.before.before.before.before.before.before
 
 refused : (c : tie.After-narrow_by-n) → (probed c).decide.result ≡ false
-refused c = c.before.before.before.before.before.if-decide.false
+refused c = c.if-decide.false
 
 abbrev a' : tie.After-narrow_by-n → List ℕ
 a' c = c.narrow_by-n.new.1.1.1.1.1.1.1.1.0
@@ -275,29 +275,29 @@ moved c before h e =
 
 returns-2 : tie.Need-returns
 returns-2 c =
-    let m = c.before.before in
-    let k = probed m in
+    let m = c in
+    let k = probed m.before.before in
     let n = asked k in
     let b = base k in
     let o = b.args.sizes.outer in
     let g = ground b in
     let f = b.args.pending.bounds-1.found in
     let x = b.args.flows-1.now in
-    let w = b.pre.0 in
+    let w = b.requires.0 in
     let r = m.narrow_by-n.ensures.2 in
-    let d = decided k (refused m) in (
+    let d = decided k (refused m.before.before) in (
       k.decide.ensures.2,
       m.narrow_by-n.ensures.0,
       m.narrow_by-n.ensures.1,
       λ e. closer-of-bits b
-          (bits_closer o g w.0 x (a' m) (b' m) _ _ f (moved m w.0 w.1.bracket e)
-          (narrowed_closer o g (lo b) (hi b) (value n) f (at_least n) (at_most n) (inside' k) d.1 b.args.a.now (a' m) b.args.b.now (b' m)
+          (bits_closer o g w.0 x (a' m.before.before) (b' m.before.before) _ _ f (moved m.before.before w.0 w.1.bracket e)
+          (narrowed_closer o g (lo b) (hi b) (value n) f (at_least n) (at_most n) (inside' k) d.1 b.args.a.now (a' m.before.before) b.args.b.now (b' m.before.before)
           m.narrow_by-n.result r.0 r.1 r.2 e)),
       λ before h. (
-        λ e. nothing_here (𝓜 b) o (caps b) (src b) (snk b) before x (flows' k) (a' m) d.0
+        λ e. nothing_here (𝓜 b) o (caps b) (src b) (snk b) before x (flows' k) (a' m.before.before) d.0
             (nothing o g before x b.args.a.now b.args.b.now (lo b) (hi b) f (at_bits b before h) (value n) (at_least n) (at_most n)
-            (inside' k) d.1 (a' m) (b' m) m.narrow_by-n.result r.0 r.1 r.2 e),
-        λ e. same_bracket d.0 (bits_bracket o g before x (a' m) (b' m) _ _ f (moved m before h e)),
+            (inside' k) d.1 (a' m.before.before) (b' m.before.before) m.narrow_by-n.result r.0 r.1 r.2 e),
+        λ e. same_bracket d.0 (bits_bracket o g before x (a' m.before.before) (b' m.before.before) _ _ f (moved m.before.before before h e)),
       ),
     )
 

@@ -39,7 +39,7 @@ same-hi c = same_bits (omega arith) (high_small c.args.sizes.outer (ground c) c.
 -- nothing is tried: the bounds are as they were
 returns : tie.Need-returns-then-not-likely
 returns c =
-    let p = c.before.before.requires in
+    let p = c.requires in
     (p.0.1.size_a, p.0.1.size_b, λ before h. (λ none. absurd (true≢false (sym none ∙ p.1)), λ _. h))
 
 abbrev begun : tie.Then-is_less → tie.Start
@@ -49,17 +49,17 @@ below : (c : tie.Then-is_less) → (begun c).args.given.bounds-1.low <ℤ (begun
 below c =
     let s = begun c in
     subst (λ h. s.args.given.bounds-1.low <ℤ h) (same-hi s)
-    (subst (λ l. l <ℤ to_z w32 (of_z w32 s.args.given.bounds-1.high)) (same-lo s) (lt_of_test _ _ (sym c.before.is_less.ensures ∙ c.if-is_less.true)))
+    (subst (λ l. l <ℤ to_z w32 (of_z w32 s.args.given.bounds-1.high)) (same-lo s) (lt_of_test _ _ (sym c.is_less.ensures ∙ c.if-is_less.true)))
 
 probe-requires : tie.Need-probe-requires
 probe-requires c κs =
-    let t = c.before.before.before.before in
-    let p = (begun t).requires in
-    (p.0, refl, le_of_lt (below t), λ _. below t)
+    let t = c in
+    let p = (begun t.before.before.before.before).requires in
+    (p.0, refl, le_of_lt (below t.before.before.before.before), λ _. below t.before.before.before.before)
 
 returns-3 : tie.Need-returns
 returns-3 c =
-    let p = c.before.before.before.before.before.before.requires in
+    let p = c.requires in
     (p.0.1.size_a, p.0.1.size_b, λ before h. (λ none. absurd (true≢false (sym none ∙ p.1)), λ _. h))
 
 pub try_likely_spec : {M : Type 1} → statement M

@@ -214,7 +214,7 @@ module _ {M : Type 1} {𝓤 : Ura M} (𝓛 : Logic 𝓤) (mem : Memory → SProp
     abbrev to : (WithQuestion 𝓛 mem run).Ghost
     to = ((tt, tt, tt, (g i, (i, (elem, tt))), (u ∷ [], (vint w64 i ∷ [], (mq ∷ [], tt)))), tt)
 
-    goes : i < 64 → i < 2 ^ 64 → ent 𝓤 (⋆ 𝓛 (‵ (RL.own (g i) (u ∷ [])) ∷ ‵ (RQ.own elem (mq ∷ [])) ∷ [])) ((WithQuestion 𝓛 mem run).pre to)
+    goes : i < 64 → i < 2 ^ 64 → ent 𝓤 (⋆ 𝓛 (‵ (RL.own (g i) (u ∷ [])) ∷ ‵ (RQ.own elem (mq ∷ [])) ∷ [])) ((WithQuestion 𝓛 mem run).requires to)
     goes l fits =
         qed 𝓛 (‵ (RL.own (g i) (u ∷ [])) ∷ ‵ (RQ.own elem (mq ∷ [])) ∷ []) ∵ says ! l $ nothing ! $ frame ! $
         nothing ! $ move ! (2 ∷ 0 ∷ []) $ fjoin ! $ owned ! usize (Is usize) (uint_Makes 𝓛 w64) i _ (refl, fits) $ fjoin ! $ move ! (1 ∷ 0 ∷ []) $
@@ -289,7 +289,7 @@ module _ {M : Type 1} {𝓤 : Ura M} (𝓛 : Logic 𝓤) (mem : Memory → SProp
         ∷ []))) (((LL.copy TQ.the_type TQ'.the_copy) 𝓛).twice (elem i u) (mq i u ∷ [])) $ split ! $ move ! (2 ∷ 0 ∷ 3 ∷ []) $
         elem_back ! RQ q' ys i blank (mq i u ∷ []) b o inside $
         -- [the row; what the question owns; what the list owns; _4; _5; _6; …]
-        move ! (2 ∷ 1 ∷ []) $ use2 𝓛 (raw ((WithQuestion 𝓛 mem run).pre (to i u))) (goes i u (omega arith) i-fits) $
+        move ! (2 ∷ 1 ∷ []) $ use2 𝓛 (raw ((WithQuestion 𝓛 mem run).requires (to i u))) (goes i u (omega arith) i-fits) $
         calls_at ! (fm_of 𝓤 H 𝓛.laws 𝓣) (WithQuestion 𝓛 mem run) known (to i u) (and_then ! (load ! (from ! (stop !)) (look ! 2 refl)) (and_then ! (load
         ! (from ! (stop !)) (look ! 3 refl)) (and_then ! (load ! (from ! (stop !)) (look ! 4 refl)) (no_more !)))) (λ u'.
         use1 𝓛 (later (some (λ (r : Listed). (‵ ftrue ⊛ ‵ (RL.own r (u' ∷ []))) ⊛ raw (ensured 𝓛 withq.ended (withq.clauses 𝓛 mem run) tt (

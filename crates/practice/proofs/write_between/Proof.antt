@@ -10,12 +10,12 @@ use Rattle.practice.proofs.write_between.Tie as tie
 
 returns : tie.Need-returns
 returns c =
-    let w = c.before.before in
-    let back = w.before.before in
-    let rotation = back.before in
-    let head = rotation.before in
-    let tail = head.before in
-    let s = tail.before.before in
+    let w = c in
+    let back = w in
+    let rotation = back in
+    let head = rotation in
+    let tail = head in
+    let s = tail in
     let a = s.args in
     w.write_record.ensures
     ∙ (λ i. put a.place

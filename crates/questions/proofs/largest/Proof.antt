@@ -73,9 +73,9 @@ room c = room_judged c.before.before Passed c.enum_told-in_default-room-1.given.
 -- ── the needs, in the order of the code ──
 returns : tie.Need-returns-in-Refused
 returns c =
-    let e = c.before.before.before in
-    let a = (begun e).args in
-    let j = ends-judged e (Refused _ _) c.before.named-1.given.1 in
+    let e = c in
+    let a = (begun e.before.before.before).args in
+    let j = ends-judged e.before.before.before (Refused _ _) c.named-1.given.1 in
     (largest_ends a.sizes.nodes a.sizes.edges a.terminals.source a.terminals.sink a.flows-1.now a.set-1.now _ _ j, refl, refl)
 
 check-room-requires : tie.Need-check_room-room-requires
@@ -83,11 +83,11 @@ check-room-requires c κs = (base c).requires.opened.drawn.few_nodes
 
 returns-2 : tie.Need-returns-in-Refused-room
 returns-2 c =
-    let r = c.before.before.before in
-    let e = r.before in
-    let a = (base e).args in
-    let j = room_judged r (Refused _ _) c.before.room-1.given.1 in
-    (largest_room a.sizes.nodes a.sizes.edges a.terminals.source a.terminals.sink a.flows-1.now a.set-1.now (two e) _ _ j, refl, refl)
+    let r = c in
+    let e = r in
+    let a = (base e.before.before.before.before).args in
+    let j = room_judged r.before.before.before (Refused _ _) c.room-1.given.1 in
+    (largest_room a.sizes.nodes a.sizes.edges a.terminals.source a.terminals.sink a.flows-1.now a.set-1.now (two e.before.before.before.before) _ _ j, refl, refl)
 
 -- the flows of the edges are there to be lent
 flows_in : (c : tie.In_default-room) → (base (asked c)).args.sizes.edges ≤ length (base (asked c)).args.flows-1.now
@@ -98,16 +98,16 @@ part-maximize-end c = flows_in c
 
 maximize-requires : tie.Need-maximize-most-requires
 maximize-requires c κs =
-    let m = c.before.before in
-    let e = asked m in
+    let m = c in
+    let e = asked m.before.before in
     let s = base e in
     let a = s.args in (
       record {
-        opened = s.pre.opened;
+        opened = s.requires.opened;
         ends = ends_for (mapAt s) a.terminals.source a.terminals.sink (two e);
-        exact = part_length a.sizes.edges a.flows-1.now (flows_in m);
+        exact = part_length a.sizes.edges a.flows-1.now (flows_in m.before.before);
       },
-      s.pre.small,
+      s.requires.small,
       refl,
     )
 
@@ -154,20 +154,20 @@ words-for-requires : tie.Need-words_for-words-requires
 words-for-requires c κs = (start c.before).requires.opened.drawn.few_nodes
 
 part-write-set-end : tie.Need-slice_bounds-write_set-end
-part-write-set-end c = let n = c.before in omega (arith, n.words_for-words.ensures, words_in n)
+part-write-set-end c = let n = c in omega (arith, n.words_for-words.ensures, words_in n.before)
 
 write-set-requires : tie.Need-write_set-requires
 write-set-requires c κs =
-    let n = c.before.before in
-    let s = start (found_at n) in
-    words_lent s.args.set-1.now n.words_for-words.ensures (words_in n) s.pre.opened.drawn.few_nodes
+    let n = c in
+    let s = start (found_at n.before.before) in
+    words_lent s.args.set-1.now n.words_for-words.ensures (words_in n.before.before) s.requires.opened.drawn.few_nodes
 
 abbrev counted : tie.After-write_set → tie.After-words_for-words
 counted c = c.before.before.before
 
 -- the slice with the words that were lent
 abbrev set' : tie.After-write_set → List ℕ
-set' c = c.write_set.new.1.1.0 ++ drop ((counted c).words-for.result - 0) (start (found_at (counted c))).args.set-1.now
+set' c = c.write_set.new.words ++ drop ((counted c).words_for-words.result - 0) (start (found_at (counted c))).args.set-1.now
 
 written : (c : tie.After-write_set)
     → Written (inside' (found_at (counted c))) (start (found_at (counted c))).args.sizes.nodes (start (found_at (counted c))).args.set-1.now (set' c)
@@ -177,34 +177,34 @@ written c =
 
 returns-3 : tie.Need-returns-in-Value
 returns-3 c =
-    let w = c.before.before.before.before.before in
-    let m = found_at (counted w) in
+    let w = c in
+    let m = found_at (counted w.before.before.before.before.before) in
     let s = start m in
     let a = s.args in
-    let p = s.pre in
-    let r = found m c.before.most-1.given.1 in
+    let p = s.requires in
+    let r = found m c.most-1.given.1 in
     let v = told_value (mapAt s) (capacityAt s) p.opened.drawn.few_edges p.small _ (inside' m) r.2 in
     let ends = two (asked (roomy m)) in (
       none m,
       (r.0.0, highest_as (sym v) r.0.1, r.0.2),
       (
-        take (words_for a.sizes.nodes) (set' w),
-        set_written (written w),
-        next_proved p.opened.drawn.plane.sound.range (capacityAt s) (written w) a.terminals.source a.terminals.sink ends _ r.1 (v ∙ r.2),
+        take (words_for a.sizes.nodes) (set' w.before.before.before.before.before),
+        set_written (written w.before.before.before.before.before),
+        next_proved p.opened.drawn.plane.sound.range (capacityAt s) (written w.before.before.before.before.before) a.terminals.source a.terminals.sink ends _ r.1 (v ∙ r.2),
       ),
     )
 
 returns-4 : tie.Need-returns
 returns-4 c =
-    let w = c.before.before.before.before in
-    let m = found_at (counted w) in
+    let w = c in
+    let m = found_at (counted w.before.before.before.before) in
     let s = start m in
     let a = s.args in
     let r = found m c.enum_told-in_default-most-1.given.1 in
     let ends = two (asked (roomy m)) in
-    let k = none_written s.pre.opened.drawn.plane.sound.range (capacityAt s) (written w) a.terminals.source a.terminals.sink ends
+    let k = none_written s.requires.opened.drawn.plane.sound.range (capacityAt s) (written w.before.before.before.before) a.terminals.source a.terminals.sink ends
     r.1 r.2 in
-    (none m, r.0, (take (words_for a.sizes.nodes) (set' w), set_written (written w), k))
+    (none m, r.0, (take (words_for a.sizes.nodes) (set' w.before.before.before.before), set_written (written w.before.before.before.before), k))
 
 pub largest_spec : {M : Type 1} → statement M
 largest_spec =

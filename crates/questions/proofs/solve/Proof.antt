@@ -75,7 +75,7 @@ value-is c = number_of_bits _ (record { sfits = c.struct_told-1.given.1.1.0.1 })
 
 inside : (c : tie.Else-value_outside) → NoneOf (value_checks (base c).args.demand.value)
 unfolding NoneOf value_checks
-inside c = ((λ h. said_no c.before.value_outside.ensures c.if-value_outside.false (rw (value-is c.before.before) h)), tt)
+inside c = ((λ h. said_no c.value_outside.ensures c.if-value_outside.false (rw (value-is c.before.before) h)), tt)
 
 -- ── 16 did not refuse ──
 room_judged : (c : tie.After-check_room-room) (v : Verdict) → c.check_room-room.result ≡ v → Judged (room_at (base c.before)) v
@@ -90,9 +90,9 @@ room c = room_judged c.before.before Passed c.enum_told-in_default-room-1.given.
 -- ── the needs, in the order of the code ──
 returns : tie.Need-returns-in-Refused
 returns c =
-    let e = c.before.before.before in
-    let a = (begun e).args in
-    let j = ends-judged e (Refused _ _) c.before.named-1.given.1 in (
+    let e = c in
+    let a = (begun e.before.before.before).args in
+    let j = ends-judged e.before.before.before (Refused _ _) c.named-1.given.1 in (
       (
         solve_ends a.sizes.nodes a.sizes.edges a.demand.source a.demand.sink a.demand.value a.flows-1.now a.set-1.now _ _ j,
         refl,
@@ -104,12 +104,12 @@ returns c =
 returns-2 : tie.Need-returns-then-value_outside
 unfolding FirstOf value_checks
 returns-2 c =
-    let e = c.before.before.before in
-    let s = begun (checked e) in
+    let e = c in
+    let s = begun (checked e.before.before.before) in
     let a = s.args in
-    let out = rw (value-is c.before.before) at (said_yes c.before.value_outside.ensures c.if-value_outside.true) in
+    let out = rw (value-is c.before.before) at (said_yes c.value_outside.ensures c.if-value_outside.true) in
     let first = solve_value a.sizes.nodes a.sizes.edges a.demand.source a.demand.sink a.demand.value a.flows-1.now a.set-1.now
-    (two e) 15 0 (inl (out, refl, refl)) in
+    (two e.before.before.before) 15 0 (inl (out, refl, refl)) in
     ((first, refl, refl), tt)
 
 check-room-requires : tie.Need-check_room-room-requires
@@ -117,13 +117,13 @@ check-room-requires c κs = (base c).requires.drawn.few_nodes
 
 returns-3 : tie.Need-returns-in-Refused-room
 returns-3 c =
-    let r = c.before.before.before in
-    let e = r.before in
-    let a = (base e).args in
-    let j = room_judged r (Refused _ _) c.before.room-1.given.1 in (
+    let r = c in
+    let e = r in
+    let a = (base e.before.before.before.before).args in
+    let j = room_judged r.before.before.before (Refused _ _) c.room-1.given.1 in (
       (
         solve_room a.sizes.nodes a.sizes.edges a.demand.source a.demand.sink a.demand.value a.flows-1.now a.set-1.now
-            (two (ended e)) (inside e) _ _ j,
+            (two (ended e.before.before.before.before)) (inside e.before.before.before.before) _ _ j,
         refl,
         refl,
       ),
@@ -139,14 +139,14 @@ part-decide-end c = flows_in c.before
 
 decide-requires : tie.Need-decide-requires
 decide-requires c κs =
-    let m = c.before.before.before in
-    let e = asked m in
+    let m = c in
+    let e = asked m.before.before.before in
     let s = base e in
     let a = s.args in (
       record {
-        opened = s.pre;
+        opened = s.requires;
         ends = ends_for (mapAt s) a.demand.source a.demand.sink (two (ended e));
-        exact = part_length a.sizes.edges a.flows-1.now (flows_in m);
+        exact = part_length a.sizes.edges a.flows-1.now (flows_in m.before.before.before);
       },
       value_limited _ (inside e),
       refl,
@@ -187,7 +187,7 @@ none c =
     (two (ended e)) (inside e) (room (roomy c))
 
 returns-4 : tie.Need-returns-then-decide
-returns-4 c = let d = c.before.before in ((none d, decided d c.if-decide.true, refl), tt)
+returns-4 c = let d = c in ((none d.before.before, decided d.before.before c.if-decide.true, refl), tt)
 
 -- ── it cannot: the set is written ──
 abbrev decision : tie.After-words_for-words → tie.After-decide
@@ -200,20 +200,20 @@ words-for-requires : tie.Need-words_for-words-requires
 words-for-requires c κs = (start c.before.before).requires.drawn.few_nodes
 
 part-write-set-end : tie.Need-slice_bounds-write_set-end
-part-write-set-end c = let n = c.before in omega (arith, n.words_for-words.ensures, words_in n)
+part-write-set-end c = let n = c in omega (arith, n.words_for-words.ensures, words_in n.before)
 
 write-set-requires : tie.Need-write_set-requires
 write-set-requires c κs =
-    let n = c.before.before in
-    let s = start (decision n) in
-    words_lent s.args.set-1.now n.words_for-words.ensures (words_in n) s.pre.drawn.few_nodes
+    let n = c in
+    let s = start (decision n.before.before) in
+    words_lent s.args.set-1.now n.words_for-words.ensures (words_in n.before.before) s.requires.drawn.few_nodes
 
 abbrev counted : tie.After-write_set → tie.After-words_for-words
 counted c = c.before.before.before
 
 -- the slice with the words that were lent
 abbrev set' : tie.After-write_set → List ℕ
-set' c = c.write_set.new.1.1.0 ++ drop ((counted c).words-for.result - 0) (start (decision (counted c))).args.set-1.now
+set' c = c.write_set.new.words ++ drop ((counted c).words_for-words.result - 0) (start (decision (counted c))).args.set-1.now
 
 written : (c : tie.After-write_set)
     → Written (inside' (decision (counted c))) (start (decision (counted c))).args.sizes.nodes (start (decision (counted c))).args.set-1.now (set' c)
@@ -225,16 +225,16 @@ words-kept : (c : tie.After-write_set) → words_for (start (decision (counted c
 words-kept c = omega (arith, words_in (counted c), (written c).length_kept)
 
 part-count-set-end : tie.Need-slice_bounds-count_set-end
-part-count-set-end c = let w = c.before.before.before in omega (arith, (counted w).words-for.ensures, words-kept w)
+part-count-set-end c = let w = c in omega (arith, (counted w.before.before).words_for-words.ensures, words-kept w.before.before)
 
 count-set-requires : tie.Need-count_set-size-requires
 count-set-requires c κs =
-    let w = c.before.before.before.before in
-    let n = counted w in
-    words_lent (set' w) n.words_for-words.ensures (words-kept w) (start (decision n)).requires.drawn.few_nodes
+    let w = c in
+    let n = counted w.before.before.before in
+    words_lent (set' w.before.before.before) n.words_for-words.ensures (words-kept w.before.before.before) (start (decision n)).requires.drawn.few_nodes
 
 abbrev wrote : tie.After-count_set-size → tie.After-write_set
-wrote c = c.before.before.before.before.before
+wrote c = c.before.before.before.before
 
 -- the number of ones in the words
 size_is : (c : tie.After-count_set-size) → c.count_set-size.result ≡ size (take (words_for (start (decision (counted (wrote c)))).args.sizes.nodes) (set' (wrote c)))
@@ -250,13 +250,13 @@ narrow-requires c κs =
 
 returns-5 : tie.Need-returns
 returns-5 c =
-    let k = c.before in
-    let w = wrote k in
+    let k = c in
+    let w = wrote k.before in
     let n = counted w in
     let d = decision n in
     let s = start d in
     let a = s.args in
-    let left = n.before.if-decide.left in
+    let left = n.if-decide.left in
     let r = decided d left in
     let ends = two (ended (asked (roomy d))) in (
       (
@@ -264,8 +264,8 @@ returns-5 c =
         (
           take (words_for a.sizes.nodes) (set' w),
           set_written (written w),
-          proves_written s.pre.drawn.plane.sound.range (capacityAt s) (written w) a.demand.source a.demand.sink ends a.demand.value r.1,
-          c.narrow.ensures ∙ size_is k,
+          proves_written s.requires.drawn.plane.sound.range (capacityAt s) (written w) a.demand.source a.demand.sink ends a.demand.value r.1,
+          c.narrow.ensures ∙ size_is k.before,
         ),
         r.0,
       ),

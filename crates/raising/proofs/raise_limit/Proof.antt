@@ -75,7 +75,7 @@ value-is c = number_of_bits _ (record { sfits = c.struct_told-1.given.1.1.0.1 })
 
 inside : (c : tie.Else-value_outside) → NoneOf (value_checks (base c).args.demand.value)
 unfolding NoneOf value_checks
-inside c = ((λ h. said_no c.before.value_outside.ensures c.if-value_outside.false (rw (value-is c.before.before) h)), tt)
+inside c = ((λ h. said_no c.value_outside.ensures c.if-value_outside.false (rw (value-is c.before.before) h)), tt)
 
 -- ── 25 did not refuse ──
 abbrev valued : tie.Else-sizes-edge → tie.Else-value_outside
@@ -108,9 +108,9 @@ none c =
 -- ── the needs, in the order of the code ──
 returns : tie.Need-returns-in-Refused
 returns c =
-    let e = c.before.before.before in
-    let a = (begun e).args in
-    let j = ends-judged e (Refused _ _) c.before.named-1.given.1 in (
+    let e = c in
+    let a = (begun e.before.before.before).args in
+    let j = ends-judged e.before.before.before (Refused _ _) c.named-1.given.1 in (
       raise_ends a.sizes.nodes a.sizes.edges a.demand.source a.demand.sink a.demand.value a.edge a.flows-1.now a.set-1.now
           _ _ j,
       refl,
@@ -120,12 +120,12 @@ returns c =
 returns-2 : tie.Need-returns-then-value_outside
 unfolding FirstOf value_checks
 returns-2 c =
-    let e = c.before.before.before in
-    let s = begun (checked e) in
+    let e = c in
+    let s = begun (checked e.before.before.before) in
     let a = s.args in
-    let out = rw (value-is c.before.before) at (said_yes c.before.value_outside.ensures c.if-value_outside.true) in (
+    let out = rw (value-is c.before.before) at (said_yes c.value_outside.ensures c.if-value_outside.true) in (
       raise_value a.sizes.nodes a.sizes.edges a.demand.source a.demand.sink a.demand.value a.edge a.flows-1.now a.set-1.now
-          (two e) 15 0 (inl (out, refl, refl)),
+          (two e.before.before.before) 15 0 (inl (out, refl, refl)),
       refl,
       refl,
     )
@@ -133,11 +133,11 @@ returns-2 c =
 returns-3 : tie.Need-returns-then-sizes-edge
 unfolding FirstOf edge_checks
 returns-3 c =
-    let e = c.before.before in
-    let a = (base e).args in
+    let e = c in
+    let a = (base e.before.before).args in
     let out : a.sizes.edges ≤ a.edge = omega (arith, c.if-sizes-edge.true) in (
       raise_edge a.sizes.nodes a.sizes.edges a.demand.source a.demand.sink a.demand.value a.edge a.flows-1.now a.set-1.now
-          (two (ended e)) (inside e)
+          (two (ended e.before.before)) (inside e.before.before)
           25 0 (inl (out, refl, refl)),
       refl,
       refl,
@@ -148,12 +148,12 @@ check-room-requires c κs = (base (valued c)).requires.1.opened.drawn.few_nodes
 
 returns-4 : tie.Need-returns-in-Refused-room
 returns-4 c =
-    let r = c.before.before.before in
-    let e = r.before in
-    let a = (base (valued e)).args in
-    let j = room_judged r (Refused _ _) c.before.room-1.given.1 in (
+    let r = c in
+    let e = r in
+    let a = (base (valued e.before.before.before.before)).args in
+    let j = room_judged r.before.before.before (Refused _ _) c.room-1.given.1 in (
       raise_room a.sizes.nodes a.sizes.edges a.demand.source a.demand.sink a.demand.value a.edge a.flows-1.now a.set-1.now
-          (two (ended (valued e))) (inside (valued e)) (is_edge e) _ _ j,
+          (two (ended (valued e.before.before.before.before))) (inside (valued e.before.before.before.before)) (is_edge e.before.before.before.before) _ _ j,
       refl,
       refl,
     )
@@ -180,10 +180,10 @@ find-limit-requires c κs =
     let s = start m in
     let a = s.args in
     record {
-      capacities_long = s.pre.0;
+      capacities_long = s.requires.0;
       inside_long = refl;
       lent = record {
-        opened = s.pre.1.opened;
+        opened = s.requires.1.opened;
         ends = ends_for (drawing s).map a.demand.source a.demand.sink (two (ended (valued (asked m))));
         exact = part_length a.sizes.edges a.flows-1.now (flows_in m);
       };
@@ -217,13 +217,13 @@ sought c same =
 -- ── a capacity serves ──
 returns-5 : tie.Need-returns-in-At
 returns-5 c =
-    let f = c.before.before.before.before in
-    let m = known f in
+    let f = c in
+    let m = known f.before.before.before.before in
     let s = start m in
     let a = s.args in
-    let h = sought f c.before.least-1.given.1 in
-    limit_as (drawing s) (checksAt s) a.demand.source a.demand.sink a.demand.value a.edge a.flows-1.now (flows' f) a.set-1.now a.set-1.now
-    (told_limit (drawing s) a.demand.source a.demand.sink a.demand.value a.edge a.flows-1.now (flows' f) (inside' f) _ (present m) h)
+    let h = sought f.before.before.before.before c.least-1.given.1 in
+    limit_as (drawing s) (checksAt s) a.demand.source a.demand.sink a.demand.value a.edge a.flows-1.now (flows' f.before.before.before.before) a.set-1.now a.set-1.now
+    (told_limit (drawing s) a.demand.source a.demand.sink a.demand.value a.edge a.flows-1.now (flows' f.before.before.before.before) (inside' f.before.before.before.before) _ (present m) h)
     (none m, h.0, h.1, h.2, h.3, refl)
 
 -- ── none does: the set is written ──
@@ -240,29 +240,29 @@ words-for-requires : tie.Need-words_for-words-requires
 words-for-requires c κs = (start (known c.before.before.before)).requires.1.opened.drawn.few_nodes
 
 part-write-set-end : tie.Need-slice_bounds-write_set-end
-part-write-set-end c = let n = c.before in omega (arith, n.words_for-words.ensures, words_in n)
+part-write-set-end c = let n = c in omega (arith, n.words_for-words.ensures, words_in n.before)
 
 write-set-requires : tie.Need-write_set-requires
 write-set-requires c κs =
-    let n = c.before.before in
-    let s = start (home n) in
-    words_lent s.args.set-1.now n.words_for-words.ensures (words_in n) s.pre.1.opened.drawn.few_nodes
+    let n = c in
+    let s = start (home n.before.before) in
+    words_lent s.args.set-1.now n.words_for-words.ensures (words_in n.before.before) s.requires.1.opened.drawn.few_nodes
 
 returns-6 : tie.Need-returns
 returns-6 c =
-    let w = c.before.before in
-    let n = w.before.before.before in
-    let m = home n in
+    let w = c in
+    let n = w in
+    let m = home n.before.before.before.before.before in
     let s = start m in
     let a = s.args in
-    let h = sought (ending n) n.before.enum_told-in_default-least-1.given.1 in
-    let written = written_back a.set-1.now n.words_for-words.ensures (words_in n) w.write_set.ensures in (
+    let h = sought (ending n.before.before.before.before.before) n.enum_told-in_default-least-1.given.1 in
+    let written = written_back a.set-1.now n.words_for-words.ensures (words_in n.before.before.before.before.before) w.write_set.ensures in (
       none m,
       h.0,
       (
-        take (words_for a.sizes.nodes) (w.write_set.new.1.1.0 ++ drop (n.words_for-words.result - 0) a.set-1.now),
+        take (words_for a.sizes.nodes) (w.write_set.new.words ++ drop (n.words_for-words.result - 0) a.set-1.now),
         set_written written,
-        proves_written s.pre.1.opened.drawn.plane.sound.range (raised (drawing s).capacity a.edge most_limit) written
+        proves_written s.requires.1.opened.drawn.plane.sound.range (raised (drawing s).capacity a.edge most_limit) written
             a.demand.source a.demand.sink (two (ended (valued (asked m)))) a.demand.value h.1,
       ),
     )

@@ -30,10 +30,10 @@ whole c = question_whole (begin c.before.before).args.input.now (passed c)
 -- ── the needs, in the order of the code ──
 returns : tie.Need-returns-in-Refused
 returns c =
-    let w = c.before.before.before in
-    let k = w.before.before in
-    let s = begin k in
-    question_refused s.args.input.now s.args.text.now _ _ _ _ (judged k (Refused _ _) w.whole-1.given.1) c.Put-refused.ensures
+    let w = c in
+    let k = w in
+    let s = begin k.before.before.before.before.before in
+    question_refused s.args.input.now s.args.text.now _ _ _ _ (judged k.before.before.before.before.before (Refused _ _) w.whole-1.given.1) c.Put-refused.ensures
 
 read-u16-requires : tie.Need-read_u16-source-requires
 read-u16-requires c κs = omega (arith, whole c)
@@ -49,26 +49,26 @@ part-write-dimacs-start c = omega (arith, whole c.before.before.before, c.record
 
 returns-2 : tie.Need-returns-in-Bytes
 returns-2 c =
-    let a = c.before in
-    let w = a.before.before in
-    let r = w.before.before.before in
-    let sink = r.before in
-    let source = sink.before in
-    let t = source.before in
-    let s = begin t.before.before in
-    text_written s.args.input.now s.args.text.now (passed t) _ _ _ (sym (rest s.args.input.now _ r.record_length-after.ensures.0))
+    let a = c in
+    let w = a in
+    let r = w in
+    let sink = r in
+    let source = sink in
+    let t = source in
+    let s = begin t.before.before.before.before.before.before.before.before.before.before.before in
+    text_written s.args.input.now s.args.text.now (passed t.before.before.before.before.before.before.before.before.before) _ _ _ (sym (rest s.args.input.now _ r.record_length-after.ensures.0))
     source.read_u16-source.ensures sink.read_u16-sink.ensures _ _ w.write_dimacs-answer.result a.answer-1.given.1 w.write_dimacs-answer.ensures
 
 returns-3 : tie.Need-returns-in-Refused-answer
 returns-3 c =
-    let a = c.before.before.before in
-    let w = a.before.before in
-    let r = w.before.before.before in
-    let sink = r.before in
-    let source = sink.before in
-    let t = source.before in
-    let s = begin t.before.before in
-    text_refused s.args.input.now s.args.text.now (passed t) _ _ _ (sym (rest s.args.input.now _ r.record_length-after.ensures.0))
+    let a = c in
+    let w = a in
+    let r = w in
+    let sink = r in
+    let source = sink in
+    let t = source in
+    let s = begin t.before.before.before.before.before.before.before.before.before.before.before.before.before in
+    text_refused s.args.input.now s.args.text.now (passed t.before.before.before.before.before.before.before.before.before.before.before) _ _ _ (sym (rest s.args.input.now _ r.record_length-after.ensures.0))
     source.read_u16-source.ensures sink.read_u16-sink.ensures _ _ _ _ _ w.write_dimacs-answer.result a.answer-in-Refused-answer-1.given.1 w.write_dimacs-answer.ensures
     c.put_refused-in-Refused-answer.ensures
 

@@ -17,8 +17,8 @@ told rows columns seed out out' answer n h e = front_counted rows columns seed o
 
 returns-2 : tie.Need-returns-in-Bytes
 returns-2 c =
-    let w = c.before.before.before.before.before in
-    told _ _ _ _ _ _ _ w.practice_sheet-answer.ensures c.before.answer-1.given.1
+    let w = c in
+    told _ _ _ _ _ _ _ w.practice_sheet-answer.ensures c.answer-1.given.1
 
 pub make_spec : {M : Type 1} → statement M
 make_spec =
