@@ -19,7 +19,7 @@ points' c = c.examine-class.new.1.1.1.1.1.1.1.1.0
 -- the value that it is given is the one that came in
 found : (c : tie.After-examine-class) (answer : Class) → c.examine-class.result ≡ answer
     → Examines (start c).args.sheet.now (start c).args.source (start c).args.sink (start c).args.value (start c).args.claims.now
-    (start c).args.kinds.now (start c).args.settings.now (start c).args.sets.now (start c).args.points-1.now (points' c) answer
+    (start c).args.kinds.now (start c).args.settings.now (start c).args.sets.now (start c).args.points.now (points' c) answer
 found c answer e = rw (number_of_bits _ (start c).ranges.value, e) at c.examine-class.ensures
 
 returns : tie.Need-returns-in-Empty

@@ -17,7 +17,7 @@ abbrev text' : tie.After-write_key-answer → List ℕ
 text' c = c.write_key-answer.new.1.0
 
 found : (c : tie.After-write_key-answer) (answer : KeyAnswer) → c.write_key-answer.result ≡ answer
-    → Writes (start c).args.input.now (start c).args.text-1.now (text' c) answer
+    → Writes (start c).args.input.now (start c).args.text.now (text' c) answer
 found c answer e = rw e at c.write_key-answer.ensures.0
 
 named : (c : tie.After-write_key-answer) (answer : KeyAnswer) → c.write_key-answer.result ≡ answer → WriteNamed (start c).args.input.now (text' c) answer

@@ -22,7 +22,7 @@ set' c = c.largest-answer.new.1.1.1.1.0
 
 found : (c : tie.After-largest-answer) (answer : LargestAnswer) → c.largest-answer.result ≡ answer
     → FindsLargest (start c).args.sheet.now (start c).args.source (start c).args.sink
-    (start c).args.flows-1.now (flows' c) (start c).args.set-1.now (set' c) answer
+    (start c).args.flows.now (flows' c) (start c).args.set.now (set' c) answer
 found c answer e = rw e at c.largest-answer.ensures
 
 returns : tie.Need-returns-in-Value

@@ -26,7 +26,7 @@ set' c = c.largest_after-answer.new.1.1.1.1.1.1.1.1.0
 found : (c : tie.After-largest_after-answer) (answer : LargestAnswer) → c.largest_after-answer.result ≡ answer
     → FindsAfter (start c).args.sheet.now (start c).args.capture.now (start c).args.window (start c).args.named (start c).args.source
     (start c).args.sink
-    (start c).args.limits-1.now (limits' c) (start c).args.flows-1.now (flows' c) (start c).args.set-1.now (set' c) answer
+    (start c).args.limits.now (limits' c) (start c).args.flows.now (flows' c) (start c).args.set.now (set' c) answer
 found c answer e = rw e at c.largest_after-answer.ensures
 
 returns : tie.Need-returns-in-Value

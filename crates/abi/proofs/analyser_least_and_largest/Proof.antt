@@ -27,8 +27,8 @@ abbrev above' : tie.After-least_and_largest-answer → List ℕ
 above' c = c.least_and_largest-answer.last.1.1.1.1.1.1.0
 
 found : (c : tie.After-least_and_largest-answer) (answer : RangeAnswer) → c.least_and_largest-answer.result ≡ answer
-    → FindsRange (start c).args.sheet.now (start c).args.source (start c).args.sink (start c).args.low-1.now (low' c)
-    (start c).args.below-1.now (below' c) (start c).args.high-1.now (high' c) (start c).args.above-1.now (above' c) answer
+    → FindsRange (start c).args.sheet.now (start c).args.source (start c).args.sink (start c).args.low.now (low' c)
+    (start c).args.below.now (below' c) (start c).args.high.now (high' c) (start c).args.above.now (above' c) answer
 found c answer e = rw e at c.least_and_largest-answer.ensures
 
 returns : tie.Need-returns-in-Values

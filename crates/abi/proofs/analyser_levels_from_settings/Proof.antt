@@ -16,7 +16,7 @@ abbrev levels' : tie.After-levels_from_settings-answer → List ℤ
 levels' c = c.levels_from_settings-answer.new.1.1.0
 
 found : (c : tie.After-levels_from_settings-answer) (answer : LevelAnswer) → c.levels_from_settings-answer.result ≡ answer
-    → GivesLevels (start c).args.sheet.now (start c).args.flows.now (start c).args.levels-1.now (levels' c) answer
+    → GivesLevels (start c).args.sheet.now (start c).args.flows.now (start c).args.levels.now (levels' c) answer
 found c answer e = rw e at c.levels_from_settings-answer.ensures
 
 returns : tie.Need-returns-in-Done

@@ -23,13 +23,13 @@ sets' c = c.page_of-page.new.1.1.1.0
 
 -- what `page_of` ensures of the list is said of the questions in the arrays
 listed : (c : tie.After-page_of-page) → AnswersPage (begun c).args.sheet.now (begun c).args.count
-    (question_in (begun c).args.sources.now (begun c).args.sinks.now (begun c).args.values.now) (begun c).args.flows-1.now (flows' c)
-    (begun c).args.sets-1.now (sets' c) c.page_of-page.result
+    (question_in (begun c).args.sources.now (begun c).args.sinks.now (begun c).args.values.now) (begun c).args.flows.now (flows' c)
+    (begun c).args.sets.now (sets' c) c.page_of-page.result
 listed c =
     page_listed (begun c).args.sheet.now (begun c).args.count
     (question_in (begun c).args.sources.now (begun c).args.sinks.now (begun c).args.values.now)
-    c.list_from-list.result c.list_from-list.ensures (begun c).args.flows-1.now (flows' c)
-    (begun c).args.sets-1.now (sets' c) c.page_of-page.result c.page_of-page.ensures.0
+    c.list_from-list.result c.list_from-list.ensures (begun c).args.flows.now (flows' c)
+    (begun c).args.sets.now (sets' c) c.page_of-page.result c.page_of-page.ensures.0
 
 -- and its sets are those that the search names
 named : (c : tie.After-page_of-page) → PageNamed (begun c).args.sheet.now (begun c).args.count
@@ -37,8 +37,8 @@ named : (c : tie.After-page_of-page) → PageNamed (begun c).args.sheet.now (beg
 named c =
     page_named_listed (begun c).args.sheet.now (begun c).args.count
     (question_in (begun c).args.sources.now (begun c).args.sinks.now (begun c).args.values.now)
-    c.list_from-list.result c.list_from-list.ensures (begun c).args.flows-1.now (flows' c)
-    (begun c).args.sets-1.now (sets' c) c.page_of-page.result c.page_of-page.ensures.0 c.page_of-page.ensures.1
+    c.list_from-list.result c.list_from-list.ensures (begun c).args.flows.now (flows' c)
+    (begun c).args.sets.now (sets' c) c.page_of-page.result c.page_of-page.ensures.0 c.page_of-page.ensures.1
 
 returns : tie.Need-returns-in-Refused
 returns c =

@@ -16,7 +16,7 @@ abbrev sheet' : tie.After-practice_sheet-answer → List ℕ
 sheet' c = c.practice_sheet-answer.new.1.1.1.0
 
 found : (c : tie.After-practice_sheet-answer) (answer : PracticeAnswer) → c.practice_sheet-answer.result ≡ answer
-    → Practises (start c).args.rows (start c).args.columns (start c).args.seed (start c).args.sheet-1.now (sheet' c) answer
+    → Practises (start c).args.rows (start c).args.columns (start c).args.seed (start c).args.sheet.now (sheet' c) answer
 found c answer e = rw e at c.practice_sheet-answer.ensures
 
 returns : tie.Need-returns-in-Bytes

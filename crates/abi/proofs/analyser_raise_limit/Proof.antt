@@ -23,7 +23,7 @@ set' c = c.raise_limit-answer.new.1.1.1.1.1.1.0
 -- the value that it is given is the one that came in
 found : (c : tie.After-raise_limit-answer) (answer : RaiseAnswer) → c.raise_limit-answer.result ≡ answer
     → RaisesLimit (start c).args.sheet.now (start c).args.source (start c).args.sink (start c).args.value (start c).args.edge
-    (start c).args.flows-1.now (flows' c) (start c).args.set-1.now (set' c) answer
+    (start c).args.flows.now (flows' c) (start c).args.set.now (set' c) answer
 found c answer e = rw (number_of_bits _ (start c).ranges.value, e) at c.raise_limit-answer.ensures
 
 returns : tie.Need-returns-in-Limit

@@ -23,8 +23,8 @@ abbrev capacities' : tie.After-read-answer → List ℤ
 capacities' c = c.read-answer.new.1.1.1.0
 
 found : (c : tie.After-read-answer) (answer : ReadAnswer) → c.read-answer.result ≡ answer
-    → Reads (start c).args.sheet.now (start c).args.tails-1.now (start c).args.rotations-1.now
-    (start c).args.capacities-1.now (tails' c) (rotations' c) (capacities' c) answer
+    → Reads (start c).args.sheet.now (start c).args.tails.now (start c).args.rotations.now
+    (start c).args.capacities.now (tails' c) (rotations' c) (capacities' c) answer
 found c answer e = rw e at c.read-answer.ensures
 
 returns : tie.Need-returns-in-Counts

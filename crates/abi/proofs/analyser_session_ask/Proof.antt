@@ -38,7 +38,7 @@ set' c = c.ask-answer.new.1.1.1.1.1.1.1.1.1.1.1.1.1.0
 -- the value that Ask is given is the one that came in
 asked : (c : tie.After-ask-answer) (answer : SolveAnswer) → c.ask-answer.result ≡ answer
     → Asks (came c) (begun c).args.party (begun c).args.source (begun c).args.sink (begun c).args.value
-    (begun c).args.flows-1.now (flows' c) (begun c).args.set-1.now (set' c) (left' c) answer
+    (begun c).args.flows.now (flows' c) (begun c).args.set.now (set' c) (left' c) answer
 asked c answer e =
     let a = (begun c).args in
     subst (λ v. Asks (came c) a.party a.source a.sink v a.flows-1.now (flows' c) a.set-1.now (set' c) (left' c) answer)

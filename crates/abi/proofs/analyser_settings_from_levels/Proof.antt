@@ -16,7 +16,7 @@ abbrev flows' : tie.After-settings_from_levels-answer → List ℤ
 flows' c = c.settings_from_levels-answer.new.1.1.0
 
 found : (c : tie.After-settings_from_levels-answer) (answer : LevelAnswer) → c.settings_from_levels-answer.result ≡ answer
-    → GivesSettings (start c).args.sheet.now (start c).args.levels.now (start c).args.flows-1.now (flows' c) answer
+    → GivesSettings (start c).args.sheet.now (start c).args.levels.now (start c).args.flows.now (flows' c) answer
 found c answer e = rw e at c.settings_from_levels-answer.ensures
 
 returns : tie.Need-returns-in-Done

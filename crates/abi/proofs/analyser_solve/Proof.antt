@@ -25,7 +25,7 @@ set' c = c.solve-answer.new.1.1.1.1.1.0
 -- the value that Solve is given is the one that came in
 solved : (c : tie.After-solve-answer) (answer : SolveAnswer) → c.solve-answer.result ≡ answer
     → Solves (start c).args.sheet.now (start c).args.source (start c).args.sink (start c).args.value
-    (start c).args.flows-1.now (flows' c) (start c).args.set-1.now (set' c) answer
+    (start c).args.flows.now (flows' c) (start c).args.set.now (set' c) answer
 solved c answer e = rw (number_of_bits _ (start c).ranges.value, e) at c.solve-answer.ensures.0
 
 -- and its set is the one that the search names

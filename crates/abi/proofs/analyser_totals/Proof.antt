@@ -17,7 +17,7 @@ abbrev subtotals' : tie.After-totals-answer → List ℤ
 subtotals' c = c.totals-answer.new.1.1.0
 
 found : (c : tie.After-totals-answer) (answer : TotalsAnswer) → c.totals-answer.result ≡ answer
-    → GivesTotals (start c).args.sheet.now (start c).args.set.now (start c).args.subtotals-1.now (subtotals' c) answer
+    → GivesTotals (start c).args.sheet.now (start c).args.set.now (start c).args.subtotals.now (subtotals' c) answer
 found c answer e = rw e at c.totals-answer.ensures
 
 returns : tie.Need-returns-in-Total

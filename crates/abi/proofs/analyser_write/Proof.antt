@@ -17,7 +17,7 @@ sheet' c = c.write-answer.new.1.1.1.1.1.0
 
 found : (c : tie.After-write-answer) (answer : WriteAnswer) → c.write-answer.result ≡ answer
     → Writes (start c).args.nodes (start c).args.outer (start c).args.tails.now (start c).args.rotations.now
-    (start c).args.capacities.now (start c).args.sheet-1.now (sheet' c) answer
+    (start c).args.capacities.now (start c).args.sheet.now (sheet' c) answer
 found c answer e = rw e at c.write-answer.ensures
 
 returns : tie.Need-returns-in-Bytes

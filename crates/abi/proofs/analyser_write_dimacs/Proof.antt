@@ -16,7 +16,7 @@ abbrev text' : tie.After-write_dimacs-answer → List ℕ
 text' c = c.write_dimacs-answer.new.1.1.1.0
 
 found : (c : tie.After-write_dimacs-answer) (answer : DimacsAnswer) → c.write_dimacs-answer.result ≡ answer
-    → WritesDimacs (start c).args.sheet.now (start c).args.source (start c).args.sink (start c).args.text-1.now (text' c) answer
+    → WritesDimacs (start c).args.sheet.now (start c).args.source (start c).args.sink (start c).args.text.now (text' c) answer
 found c answer e = rw e at c.write_dimacs-answer.ensures
 
 returns : tie.Need-returns-in-Bytes

@@ -145,7 +145,7 @@ write-limits-requires : tie.Need-write_limits-requires
 write-limits-requires c κs =
     let h = c in
     let s = home h.before in
-    (s.requires.1.drawn.few_edges, part_length s.args.sizes.edges s.args.limits-1.now (roomy h.before).1)
+    (s.requires.1.drawn.few_edges, part_length s.args.sizes.edges s.args.limits.now (roomy h.before).1)
 
 -- ── Largest on them ──
 abbrev wrote : tie.After-write_limits → tie.After-words_for-words

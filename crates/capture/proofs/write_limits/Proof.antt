@@ -40,7 +40,7 @@ same_length c = let i = c.loop-e in filled_length _ _ _ _ i.invariant.3 (omega (
 returns : tie.Need-returns invariant-loop decreases-loop
 returns c =
     let i = c.loop-e in
-    i.invariant.3 ∙ ap (λ n. filled n (λ e. atℤ c.args.capacities.now (2 * e)) c.args.limits-1.now) (omega arith)
+    i.invariant.3 ∙ ap (λ n. filled n (λ e. atℤ c.args.capacities.now (2 * e)) c.args.limits.now) (omega arith)
 
 pub write_limits_spec : {M : Type 1} → statement M
 write_limits_spec =

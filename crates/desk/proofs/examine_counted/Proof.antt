@@ -73,7 +73,7 @@ base c = start (checked c)
 
 accepted : (c : tie.In_default-room)
     → NoneOf (class_checks (nodes_of (base c).args.sheet.now) (edges_of (base c).args.sheet.now) (length (base c).args.claims.now)
-    (length (base c).args.kinds.now) (length (base c).args.settings.now) (length (base c).args.sets.now) (length (base c).args.points-1.now))
+    (length (base c).args.kinds.now) (length (base c).args.settings.now) (length (base c).args.sets.now) (length (base c).args.points.now))
 accepted c =
     class_as _ _ _ _ _ _ _ _ _ _ Passed (checked c).check_class-room.ensures (base c).requires.1 (base c).requires.2 c.enum_told-in_default-room-1.given.1
 
@@ -97,7 +97,7 @@ room : (c : tie.In_default-room)
     → (length (base c).args.claims.now ≤ 1000) × (length (base c).args.claims.now ≤ length (base c).args.kinds.now)
     × (length (base c).args.claims.now * (base c).args.edges ≤ length (base c).args.settings.now)
     × (length (base c).args.claims.now * words_for (base c).args.nodes ≤ length (base c).args.sets.now)
-    × (length (base c).args.claims.now ≤ length (base c).args.points-1.now)
+    × (length (base c).args.claims.now ≤ length (base c).args.points.now)
 room c = class_room _ _ _ _ _ _ _ (class_as _ _ _ _ _ _ _ _ _ _ Passed (checked c).check_class-room.ensures refl refl c.enum_told-in_default-room-1.given.1)
 
 mark-papers-requires : tie.Need-mark_papers-requires

@@ -54,7 +54,7 @@ reverse-requires c κs = omega (arith, c.requires, c.loop-d-test.true)
 add-sum : tie.Need-overflow_add-sum invariant-loop decreases-loop
 add-sum c =
     let t = turn c in
-    record { fits = omega (arith, t.loop-d.invariant.2, c.arc_length-sum.ensures.1, t.loop-d-test.taken, t.requires) }
+    record { fits = omega (arith, t.loop-d.invariant.2, c.arc_length-sum.ensures.1, t.loop-d-test.true, t.requires) }
 
 loop-again : tie.Need-loop-d-preserved invariant-loop decreases-loop
 loop-again c =

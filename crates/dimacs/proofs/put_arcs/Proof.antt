@@ -32,12 +32,12 @@ abbrev line_at : tie.At-loop-d invariant-loop decreases-loop → ℕ → List �
 line_at c = line_of (started c).args.tails.now (started c).args.capacities.now
 
 -- ── the lines so far keep within the room, and so does the next ──
-so_far : (c : tie.At-loop-d invariant-loop decreases-loop) → (started c).args.first + length (lines c.loop-d.d (line_at c)) ≤ length (started c).args.text-1.now
+so_far : (c : tie.At-loop-d invariant-loop decreases-loop) → (started c).args.first + length (lines c.loop-d.d (line_at c)) ≤ length (started c).args.text.now
 so_far c = let s = started c in omega (arith, s.requires.1, lines_within s.args.darts c.loop-d.d (line_at c) c.loop-d.invariant.0)
 
 next : (c : tie.In-loop-d invariant-loop decreases-loop)
     → (started c.before).args.first + length (lines c.loop-d.d (line_at c.before)) + length (line_at c.before c.loop-d.d)
-    ≤ length (started c.before).args.text-1.now
+    ≤ length (started c.before).args.text.now
 next c =
     let o = c in
     let s = started o.before in
@@ -48,7 +48,7 @@ next c =
       lines_next o.loop-d.d (line_at o.before),
     )
 
-length-now : (c : tie.At-loop-d invariant-loop decreases-loop) → length c.loop-d.text-1 ≡ length (started c).args.text-1.now
+length-now : (c : tie.At-loop-d invariant-loop decreases-loop) → length c.loop-d.text ≡ length (started c).args.text.now
 length-now c = placed_length _ _ _ _ _ c.loop-d.invariant.1 (omega (arith, c.loop-d.invariant.1.1, so_far c))
 
 -- ── what is handed on is what the arrays have ──
@@ -74,7 +74,7 @@ abbrev loop-of : tie.After-put_arc-end invariant-loop decreases-loop → tie.At-
 loop-of c = (turn c.before).before
 
 written : (c : tie.After-put_arc-end invariant-loop decreases-loop)
-    → Placed (loop-of c).loop-d.end (line_at (loop-of c) (loop-of c).loop-d.d) (loop-of c).loop-d.text-1 c.put_arc-end.new.text-1 c.put_arc-end.result
+    → Placed (loop-of c).loop-d.end (line_at (loop-of c) (loop-of c).loop-d.d) (loop-of c).loop-d.text c.put_arc-end.new.text c.put_arc-end.result
 written c = placed_as (λ r. r) _ _ _ _ (handed c.before) c.put_arc-end.ensures
 
 -- ── the needs, in the order of the code ──
@@ -95,7 +95,7 @@ loop-again c =
     let w = c in
     let t = turn w.before.before.before in
     let o = t in
-    (omega (arith, t.loop-d-test.taken), lines_more _ _ _ o.loop-d.d (line_at o.before) _ _ _ o.loop-d.invariant.1 (written w.before.before) (next t))
+    (omega (arith, t.loop-d-test.true), lines_more _ _ _ o.loop-d.d (line_at o.before) _ _ _ o.loop-d.invariant.1 (written w.before.before) (next t))
 
 same_length : tie.Need-shape_of-text invariant-loop decreases-loop
 same_length c = length-now c.before

@@ -11,14 +11,14 @@ use Rattle.dimacs.proofs.Length.{long}
 use Rattle.dimacs.proofs.put_node.Statement.{statement}
 use Rattle.dimacs.proofs.put_node.Tie as tie
 
-room : (s : tie.Start) → s.args.at + (2 + (long (s.args.v + 1) + length s.args.role.now)) ≤ length s.args.text-1.now
+room : (s : tie.Start) → s.args.at + (2 + (long (s.args.v + 1) + length s.args.role.now)) ≤ length s.args.text.now
 room s = omega (arith, s.requires, length-append (decimal (s.args.v + 1)) s.args.role.now)
 
 abbrev start : tie.After-put_bytes-first → tie.Start
 start c = c.before.before.before.before.before.before
 
 word_room : (c : tie.After-put_bytes-first)
-    → c.put_bytes-first.result + (long ((start c).args.v + 1) + length (start c).args.role.now) ≤ length c.put_bytes-first.new.text-1
+    → c.put_bytes-first.result + (long ((start c).args.v + 1) + length (start c).args.role.now) ≤ length c.put_bytes-first.new.text
 word_room c = placed_room 2 _ _ _ _ _ _ c.put_bytes-first.ensures (omega arith) (room (start c))
 
 -- ── the needs, in the order of the code ──

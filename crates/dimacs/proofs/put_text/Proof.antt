@@ -27,7 +27,7 @@ sink s = node_line s.args.sink 116
 abbrev arcs : tie.Start → List ℕ
 arcs s = arc_lines s.args.tails.now s.args.capacities.now (2 * s.args.edges)
 
-room : (s : tie.Start) → 0 + (length (problem s) + (length (source s) + (length (sink s) + length (arcs s)))) ≤ length s.args.text-1.now
+room : (s : tie.Start) → 0 + (length (problem s) + (length (source s) + (length (sink s) + length (arcs s)))) ≤ length s.args.text.now
 room s =
     let a = s.args in
     omega (
@@ -41,7 +41,7 @@ abbrev start : tie.After-put_problem-first → tie.Start
 start c = c.before.before.before
 
 problem-room : (c : tie.After-put_problem-first)
-    → c.put_problem-first.result + (length (source (start c)) + (length (sink (start c)) + length (arcs (start c)))) ≤ length c.put_problem-first.new.text-1
+    → c.put_problem-first.result + (length (source (start c)) + (length (sink (start c)) + length (arcs (start c)))) ≤ length c.put_problem-first.new.text
 problem-room c = placed_room (length (problem (start c))) _ 0 _ _ _ _ c.put_problem-first.ensures (omega arith) (room (start c))
 
 -- ── the source ──
@@ -54,7 +54,7 @@ unfolding node_line
 source-placed c = c.put_node-second.ensures
 
 source-room : (c : tie.After-put_node-second)
-    → c.put_node-second.result + (length (sink (start (posed c))) + length (arcs (start (posed c)))) ≤ length c.put_node-second.new.text-1
+    → c.put_node-second.result + (length (sink (start (posed c))) + length (arcs (start (posed c)))) ≤ length c.put_node-second.new.text
 source-room c = placed_room (length (source (start (posed c)))) _ _ _ _ _ _ (source-placed c) (omega arith) (problem-room (posed c))
 
 -- ── the sink ──
@@ -69,7 +69,7 @@ sink-placed : (c : tie.After-put_node-third)
 unfolding node_line
 sink-placed c = c.put_node-third.ensures
 
-sink-room : (c : tie.After-put_node-third) → c.put_node-third.result + length (arcs (begun c)) ≤ length c.put_node-third.new.text-1
+sink-room : (c : tie.After-put_node-third) → c.put_node-third.result + length (arcs (begun c)) ≤ length c.put_node-third.new.text
 sink-room c = placed_room (length (sink (begun c))) _ _ _ _ _ _ (sink-placed c) (omega arith) (source-room (sourced c))
 
 -- ── the needs, in the order of the code ──

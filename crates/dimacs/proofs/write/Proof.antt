@@ -48,7 +48,7 @@ abbrev begun : tie.After-text_length-length → tie.Start
 begun c = base c.before.before.before
 
 enough : (c : tie.Else-out-length) → length (text_of (drawing (begun c.before)) (begun c.before).args.source (begun c.before).args.sink)
-    ≤ length (begun c.before).args.out-1.now
+    ≤ length (begun c.before).args.out.now
 enough c = omega (arith, c.text_length-length.ensures, c.if-out-length.false)
 
 -- the text laid into the part that is as long as it is, which is then given back
@@ -62,7 +62,7 @@ returns : tie.Need-returns-in-Refused
 returns c =
     let e = c in
     let s = start e.before.before.before in
-    (text_ends (drawing s) s.args.source s.args.sink s.args.out-1.now _ _ (ends-judged e.before.before.before (Refused _ _) c.ends-1.given.1), refl)
+    (text_ends (drawing s) s.args.source s.args.sink s.args.out.now _ _ (ends-judged e.before.before.before (Refused _ _) c.ends-1.given.1), refl)
 
 some-negative-requires : tie.Need-some_negative-requires
 some-negative-requires c κs = omega (arith, (base c).requires.1)
@@ -71,7 +71,7 @@ returns-2 : tie.Need-returns-then-some_negative
 returns-2 c =
     let t = c in
     let s = base t.before.before in (
-      text_negative (drawing s) s.args.source s.args.sink s.args.out-1.now (two t.before.before) (said_yes c.some_negative.ensures c.if-some_negative.true),
+      text_negative (drawing s) s.args.source s.args.sink s.args.out.now (two t.before.before) (said_yes c.some_negative.ensures c.if-some_negative.true),
       refl,
     )
 
@@ -83,7 +83,7 @@ returns-3 c =
     let n = c in
     let t = n in
     let s = base t.before.before.before.before in (
-      text_short (drawing s) s.args.source s.args.sink s.args.out-1.now (two t.before.before.before.before) (none n.before.before)
+      text_short (drawing s) s.args.source s.args.sink s.args.out.now (two t.before.before.before.before) (none n.before.before)
           (omega (arith, c.text_length-length.ensures, c.if-out-length.true)),
       refl,
     )
@@ -93,7 +93,7 @@ put-text-requires c κs =
     let e = c in
     let n = e.text_length-length in
     let s = begun e.before.before in
-    (s.requires.0, s.requires.1, part_length n.result s.args.out-1.now e.if-out-length.false ∙ n.ensures)
+    (s.requires.0, s.requires.1, part_length n.result s.args.out.now e.if-out-length.false ∙ n.ensures)
 
 returns-4 : tie.Need-returns
 returns-4 c =
@@ -102,9 +102,9 @@ returns-4 c =
     let n = e in
     let t = n in
     let s = base t.before.before.before.before.before.before.before.before in (
-      text_none (drawing s) s.args.source s.args.sink s.args.out-1.now (two t.before.before.before.before.before.before.before.before) (none n.before.before.before.before.before.before) (enough e.before.before.before.before),
+      text_none (drawing s) s.args.source s.args.sink s.args.out.now (two t.before.before.before.before.before.before.before.before) (none n.before.before.before.before.before.before) (enough e.before.before.before.before),
       omega (arith, p.put_text.ensures.1),
-      text-back e.text_length-length.result s.args.out-1.now _ _ _ e.text_length-length.ensures p.put_text.ensures,
+      text-back e.text_length-length.result s.args.out.now _ _ _ e.text_length-length.ensures p.put_text.ensures,
     )
 
 pub write_spec : {M : Type 1} → statement M

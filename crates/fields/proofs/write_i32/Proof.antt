@@ -13,7 +13,7 @@ unfolding le32
 returns c =
     let s = c in
     c.write_u32.ensures
-    ∙ ap (λ n. put s.args.at (le_bits n) s.args.s-1.now)
+    ∙ ap (λ n. put s.args.at (le_bits n) s.args.s.now)
     (c.to_bits.ensures ∙ ap (of_z w32) (number_of_bits s.args.x s.ranges.x))
 
 pub write_i32_spec : {M : Type 1} → statement M

@@ -54,7 +54,7 @@ met c = c.before.before.before
 origin-below : (c : tie.After-wide-p invariant-loop decreases-loop) → c.wide-p.result < (start (turn (met c))).args.darts
 origin-below c =
     let t = turn (met c) in
-    origin_in (start t).requires.1 t.loop-i-test.taken (met c).wide-d.ensures c.wide-p.ensures
+    origin_in (start t).requires.1 t.loop-i-test.true (met c).wide-d.ensures c.wide-p.ensures
 
 -- ── d is the reverse of p: both nodes ──
 abbrev origin : tie.After-wide-known invariant-loop decreases-loop → tie.After-wide-p invariant-loop decreases-loop
@@ -148,7 +148,7 @@ minus-small-requires c κs =
     let f = origin k in
     let t = turn (met f) in
     let o = t.loop-i in
-    new_fits (start t).requires.1 o.heights o.invariant.1 t.loop-i-test.taken (met f).wide-d.ensures f.wide-p.ensures k.wide-known.ensures (turned-back k)
+    new_fits (start t).requires.1 o.heights o.invariant.1 t.loop-i-test.true (met f).wide-d.ensures f.wide-p.ensures k.wide-known.ensures (turned-back k)
 
 mul-t45 : tie.Need-offset_bounds-heights-next invariant-loop decreases-loop
 mul-t45 c = omega (arith, next-in (both c))
@@ -157,7 +157,7 @@ element-set-from-heights : tie.Need-bounds-heights-next invariant-loop decreases
 element-set-from-heights c = next-in (both c)
 
 loop-less : tie.Need-loop-i-smaller-then-d-back invariant-loop decreases-loop
-loop-less c = omega (arith, (turn (met (origin (knows (both c))))).loop-i-test.taken)
+loop-less c = omega (arith, (turn (met (origin (knows (both c))))).loop-i-test.true)
 
 loop-again : tie.Need-loop-i-preserved-then-d-back invariant-loop decreases-loop
 loop-again c =
@@ -165,7 +165,7 @@ loop-again c =
     let f = origin k in
     let t = turn (met f) in
     let o = t.loop-i in
-    filling_stored (start t).requires.1 o.heights o.invariant.1 t.loop-i-test.taken (met f).wide-d.ensures f.wide-p.ensures k.wide-known.ensures
+    filling_stored (start t).requires.1 o.heights o.invariant.1 t.loop-i-test.true (met f).wide-d.ensures f.wide-p.ensures k.wide-known.ensures
     (turned-back k)
     o.invariant.0 (both c).wide-next.ensures c.minus_small.ensures
 
@@ -191,7 +191,7 @@ element-set-of-heights-2 : tie.Need-bounds-heights-base invariant-loop decreases
 element-set-of-heights-2 c = base-in c
 
 loop-less-2 : tie.Need-loop-i-smaller-then-p-d invariant-loop decreases-loop
-loop-less-2 c = omega (arith, (turn (met (branched c).before.before.before)).loop-i-test.taken)
+loop-less-2 c = omega (arith, (turn (met (branched c).before.before.before)).loop-i-test.true)
 
 loop-again-2 : tie.Need-loop-i-preserved-then-p-d invariant-loop decreases-loop
 loop-again-2 c =
@@ -200,11 +200,11 @@ loop-again-2 c =
     let d = met f.before.before.before in
     let t = turn d in
     let o = t.loop-i in
-    filling_rooted (start t).requires.1 o.heights o.invariant.1 t.loop-i-test.taken d.wide-d.ensures f.wide-p.ensures b.if-p-d.taken
+    filling_rooted (start t).requires.1 o.heights o.invariant.1 t.loop-i-test.true d.wide-d.ensures f.wide-p.ensures b.if-p-d.true
     c.wide-base.ensures o.invariant.0
 
 loop-less-3 : tie.Need-loop-i-smaller invariant-loop decreases-loop
-loop-less-3 c = omega (arith, (turn (met c.before.before.before)).loop-i-test.taken)
+loop-less-3 c = omega (arith, (turn (met c.before.before.before)).loop-i-test.true)
 
 loop-again-3 : tie.Need-loop-i-preserved invariant-loop decreases-loop
 loop-again-3 c =
@@ -213,7 +213,7 @@ loop-again-3 c =
     let o = t.loop-i in
     let back = c.reverse-back.ensures.0 in (
       o.invariant.0,
-      filling_turned (start t).requires.1 o.invariant.1 t.loop-i-test.taken (met f.before.before.before).wide-d.ensures f.wide-p.ensures c.if-p-d.false
+      filling_turned (start t).requires.1 o.invariant.1 t.loop-i-test.true (met f.before.before.before).wide-d.ensures f.wide-p.ensures c.if-p-d.false
           (λ e. c.if-d-back.false (e ∙ sym back)),
     )
 

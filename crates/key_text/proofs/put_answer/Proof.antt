@@ -102,7 +102,7 @@ returns c b question sheet source sink value =
     let t = can-told edges.before.before.before.before in
     let a = can t in
     let s = start a in
-    can_printed b question no_flows (flows' a) no_set (set' a) long wide s.args.text-1.now p.put_can.new.text-1 s.requires p.put_can.result _
+    can_printed b question no_flows (flows' a) no_set (set' a) long wide s.args.text.now p.put_can.new.text s.requires p.put_can.result _
     (value-is a ∙ sym value)
     (solved-of a b question sheet source sink value Can t.enum_told-1.given.1)
     _
@@ -135,7 +135,7 @@ returns-2 c b question sheet source sink value =
     let t = cannot-told nodes.before.before.before.before in
     let a = cannot t in
     let s = start a in
-    cannot_printed b question no_flows (flows' a) no_set (set' a) long wide s.args.text-1.now p.put_cannot.new.text-1 s.requires p.put_cannot.result _
+    cannot_printed b question no_flows (flows' a) no_set (set' a) long wide s.args.text.now p.put_cannot.new.text s.requires p.put_cannot.result _
     (value-is a ∙ sym value)
     _
     nodes.known_told-1.given.0.1
@@ -155,7 +155,7 @@ returns-3 c b question sheet source sink value =
     let t = known in
     let a = refused t.before.before.before.before.before in
     let s = start a in
-    refused_printed b question no_flows (flows' a) no_set (set' a) long wide s.args.text-1.now p.Put-refused.new.0 s.requires p.Put-refused.result _ _
+    refused_printed b question no_flows (flows' a) no_set (set' a) long wide s.args.text.now p.Put-refused.new.0 s.requires p.Put-refused.result _ _
     known.known_told-in-Refused-1.given.0.1
     (solved-of a b question sheet source sink value (Refused _ _) t.answer-in-Refused-1.given.1)
     p.Put-refused.ensures

@@ -19,10 +19,10 @@ use Rattle.key_text.proofs.put_can.Tie as tie
 abbrev begin : tie.After-put_can_line-at → tie.Start
 begin c = c.before.before.before
 
-first : (c : tie.After-put_can_line-at) → Placed 0 (can_line (begin c).args.value) (begin c).args.text-1.now c.put_can_line-at.new.text-1 c.put_can_line-at.result
+first : (c : tie.After-put_can_line-at) → Placed 0 (can_line (begin c).args.value) (begin c).args.text.now c.put_can_line-at.new.text c.put_can_line-at.result
 first c = placed_as can_line _ _ _ _ (number_of_bits _ (begin c).ranges.value) c.put_can_line-at.ensures
 
-first-room : (c : tie.After-put_can_line-at) → c.put_can_line-at.result + 13 * (begin c).args.edges ≤ length c.put_can_line-at.new.text-1
+first-room : (c : tie.After-put_can_line-at) → c.put_can_line-at.result + 13 * (begin c).args.edges ≤ length c.put_can_line-at.new.text
 first-room c =
     let s = begin c in
     placed_room 15 (13 * s.args.edges) _ _ _ _ _ (first c) (can_line_length s.args.value s.requires.1) (omega (arith, s.requires.0))

@@ -18,13 +18,13 @@ abbrev begin : tie.After-put_cannot_line-at → tie.Start
 begin c = c.before.before.before
 
 first : (c : tie.After-put_cannot_line-at)
-    → Placed 0 (cannot_line (begin c).args.value (begin c).args.size) (begin c).args.text-1.now c.put_cannot_line-at.new.text-1 c.put_cannot_line-at.result
+    → Placed 0 (cannot_line (begin c).args.value (begin c).args.size) (begin c).args.text.now c.put_cannot_line-at.new.text c.put_cannot_line-at.result
 first c = placed_as (λ x. cannot_line x (begin c).args.size) _ _ _ _ (number_of_bits _ (begin c).ranges.value) c.put_cannot_line-at.ensures
 
 short-line : (c : tie.After-put_cannot_line-at) → length (cannot_line (begin c).args.value (begin c).args.size) ≤ 24
 short-line c = cannot_line_length (begin c).args.value (begin c).args.size (begin c).ranges.size.fits (begin c).requires.1
 
-first-room : (c : tie.After-put_cannot_line-at) → c.put_cannot_line-at.result + 4 * (begin c).args.nodes ≤ length c.put_cannot_line-at.new.text-1
+first-room : (c : tie.After-put_cannot_line-at) → c.put_cannot_line-at.result + 4 * (begin c).args.nodes ≤ length c.put_cannot_line-at.new.text
 first-room c = placed_room 24 (4 * (begin c).args.nodes) _ _ _ _ _ (first c) (short-line c) (omega (arith, (begin c).requires.0))
 
 -- ── the lines of the nodes ──

@@ -21,10 +21,10 @@ nine-digits c = number_length 8 600000000 c.args.value (omega arith) c.requires.
 abbrev begin : tie.After-put_bytes-first → tie.Start
 begin c = c.before.before.before.before.before
 
-word : (c : tie.After-put_bytes-first) → Placed 0 cannot_word (begin c).args.text-1.now c.put_bytes-first.new.0 c.put_bytes-first.result
+word : (c : tie.After-put_bytes-first) → Placed 0 cannot_word (begin c).args.text.now c.put_bytes-first.new.0 c.put_bytes-first.result
 word c = c.put_bytes-first.ensures
 
-word_room : (c : tie.After-put_bytes-first) → c.put_bytes-first.result + 17 ≤ length c.put_bytes-first.new.text-1
+word_room : (c : tie.After-put_bytes-first) → c.put_bytes-first.result + 17 ≤ length c.put_bytes-first.new.text
 word_room c = placed_room 7 17 _ _ _ _ _ (word c) (omega arith) (begin c).requires.0
 
 -- ── the value ──
@@ -32,10 +32,10 @@ abbrev said : tie.After-put_number-second → tie.After-put_bytes-first
 said c = c.before.before.before.before
 
 valued : (c : tie.After-put_number-second)
-    → Placed (said c).put_bytes-first.result (number (begin (said c)).args.value) (said c).put_bytes-first.new.0 c.put_number-second.new.text-1 c.put_number-second.result
+    → Placed (said c).put_bytes-first.result (number (begin (said c)).args.value) (said c).put_bytes-first.new.0 c.put_number-second.new.text c.put_number-second.result
 valued c = placed_as number _ _ _ _ (number_of_bits _ (begin (said c)).ranges.value) c.put_number-second.ensures
 
-value_room : (c : tie.After-put_number-second) → c.put_number-second.result + 7 ≤ length c.put_number-second.new.text-1
+value_room : (c : tie.After-put_number-second) → c.put_number-second.result + 7 ≤ length c.put_number-second.new.text
 value_room c = placed_room 10 7 _ _ _ _ _ (valued c) (nine-digits (begin (said c))) (word_room (said c))
 
 -- ── a blank ──
@@ -46,7 +46,7 @@ blank : (c : tie.After-put_bytes-third)
     → Placed (told c).put_number-second.result (32 ∷ []) (told c).put_number-second.new.0 c.put_bytes-third.new.0 c.put_bytes-third.result
 blank c = c.put_bytes-third.ensures
 
-blank-room : (c : tie.After-put_bytes-third) → c.put_bytes-third.result + 6 ≤ length c.put_bytes-third.new.text-1
+blank-room : (c : tie.After-put_bytes-third) → c.put_bytes-third.result + 6 ≤ length c.put_bytes-third.new.text
 blank-room c = placed_room 1 6 _ _ _ _ _ (blank c) (omega arith) (value_room (told c))
 
 -- ── the size ──
@@ -67,10 +67,10 @@ measured c = parted c.before
 
 sized : (c : tie.After-put_decimal-end)
     → Placed (measured c).put_bytes-third.result (decimal (begun c.before).args.size) (measured c).put_bytes-third.new.0
-    c.put_decimal-end.new.text-1 c.put_decimal-end.result
+    c.put_decimal-end.new.text c.put_decimal-end.result
 sized c = placed_as decimal _ _ _ _ c.short.ensures.0 c.put_decimal-end.ensures
 
-size_room : (c : tie.After-put_decimal-end) → c.put_decimal-end.result + 1 ≤ length c.put_decimal-end.new.text-1
+size_room : (c : tie.After-put_decimal-end) → c.put_decimal-end.result + 1 ≤ length c.put_decimal-end.new.text
 size_room c = placed_room 5 1 _ _ _ _ _ (sized c) (size-digits c.before) (blank-room (measured c))
 
 -- ── a line feed ──
@@ -105,7 +105,7 @@ returns c =
     let n = told p in
     let s = begin (said n) in
     let five = size-digits d.before in
-    let rest = three_placed _ _ _ _ _ _ _ _ _ _ _ (blank p) (sized d) last.put_bytes-first.ensures (omega (arith, five, value_room n)) in
+    let rest = three_placed _ _ _ _ _ _ _ _ _ _ _ (blank p) (sized d) last.put_bytes.ensures (omega (arith, five, value_room n)) in
     let more = length-append (decimal s.args.size) (10 ∷ []) in
     three_placed _ _ _ _ _ _ _ _ _ _ _ (word (said n)) (valued n) rest (omega (arith, nine-digits s, five, more, s.requires.0))
 

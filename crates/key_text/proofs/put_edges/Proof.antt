@@ -43,7 +43,7 @@ short-line c i l = let s = started c in edge_line_length i (atℤ s.args.flows.n
 so_far : (c : tie.At-loop-e invariant-loop decreases-loop) → length (lines c.loop-e.e (line_at c)) ≤ 13 * c.loop-e.e
 so_far c = lines_length 13 c.loop-e.e (line_at c) (λ i l. short-line c i (omega (arith, c.loop-e.invariant.0)))
 
-length-now : (c : tie.At-loop-e invariant-loop decreases-loop) → length c.loop-e.text-1 ≡ length (started c).args.text-1.now
+length-now : (c : tie.At-loop-e invariant-loop decreases-loop) → length c.loop-e.text ≡ length (started c).args.text.now
 length-now c = placed_length _ _ _ _ _ c.loop-e.invariant.1 (omega (arith, c.loop-e.invariant.1.1, so_far c, (started c).requires.0, c.loop-e.invariant.0))
 
 -- ── the flow that is handed on is the one that the array has ──
@@ -59,7 +59,7 @@ abbrev loop-of : tie.After-put_edge-end invariant-loop decreases-loop → tie.At
 loop-of c = (turn c.before).before
 
 written : (c : tie.After-put_edge-end invariant-loop decreases-loop)
-    → Placed (loop-of c).loop-e.end (line_at (loop-of c) (loop-of c).loop-e.e) (loop-of c).loop-e.text-1 c.put_edge-end.new.text-1 c.put_edge-end.result
+    → Placed (loop-of c).loop-e.end (line_at (loop-of c) (loop-of c).loop-e.e) (loop-of c).loop-e.text c.put_edge-end.new.text c.put_edge-end.result
 written c = placed_as (edge_line (loop-of c).loop-e.e) _ _ _ _ (handed c.before) c.put_edge-end.ensures
 
 -- ── the needs, in the order of the code ──
@@ -72,7 +72,7 @@ put-edge-requires c κs =
     let t = turn c in
     let o = t in
     let s = started o.before in
-    let l = t.loop-e-test.taken in (
+    let l = t.loop-e-test.true in (
       omega (arith, o.loop-e.invariant.1.1, so_far o.before, length-now o.before, s.requires.0, l),
       omega (arith, s.requires.1, l),
       subst (Limited 1000000) (sym (handed c)) (s.requires.2 o.loop-e.e l),
@@ -84,7 +84,7 @@ loop-again c =
     let t = turn w.before.before.before in
     let o = t in
     let e = o.loop-e.e in
-    let l = t.loop-e-test.taken in (
+    let l = t.loop-e-test.true in (
       omega arith,
       lines_more _ _ _ e (line_at o.before) _ _ _ o.loop-e.invariant.1 (written w.before.before) (omega (arith, so_far o.before, short-line o.before e l, (started o.before).requires.0, l)),
     )

@@ -39,7 +39,7 @@ returns c =
     let w = p in
     let s = begin w.before.before.before.before.before.before.before in
     let fits = refused_text_length _ p.known_told-1.given.0.1 in
-    question_refused s.args.input.now s.args.text-1.now p.Put-refused.new.0 p.Put-refused.result _ _
+    question_refused s.args.input.now s.args.text.now p.Put-refused.new.0 p.Put-refused.result _ _
     (judged w.before.before.before.before.before.before.before (Refused _ _) w.whole-1.given.1)
     p.Put-refused.ensures
     (omega (arith, fits, s.requires))

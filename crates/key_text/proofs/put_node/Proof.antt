@@ -26,10 +26,10 @@ abbrev start : tie.After-put_decimal-end → tie.Start
 start c = begin (asked c)
 
 numbered : (c : tie.After-put_decimal-end)
-    → Placed (start c).args.at (decimal (start c).args.v) (start c).args.text-1.now c.put_decimal-end.new.text-1 c.put_decimal-end.result
+    → Placed (start c).args.at (decimal (start c).args.v) (start c).args.text.now c.put_decimal-end.new.text c.put_decimal-end.result
 numbered c = placed_as decimal _ _ _ _ c.index.ensures c.put_decimal-end.ensures
 
-number-room : (c : tie.After-put_decimal-end) → c.put_decimal-end.result + 1 ≤ length c.put_decimal-end.new.text-1
+number-room : (c : tie.After-put_decimal-end) → c.put_decimal-end.result + 1 ≤ length c.put_decimal-end.new.text
 number-room c = placed_room 3 1 _ _ _ _ _ (numbered c) (three-digits (start c)) (start c).requires.0
 
 abbrev counted : tie.After-put_bytes → tie.After-put_decimal-end
@@ -53,7 +53,7 @@ returns c =
     let d = counted last.before.before in
     let s = start d in
     placed_as (λ t. t) _ _ _ _
-    (in-set s.args.set.now s.args.v (sym (asked d).contains.ensures ∙ d.if-contains.taken))
+    (in-set s.args.set.now s.args.v (sym (asked d).contains.ensures ∙ d.if-contains.true))
     (placed_then _ _ _ _ _ _ _ _ (numbered d) last.put_bytes.ensures (omega (arith, three-digits s, s.requires.0)))
 
 returns-2 : tie.Need-returns
@@ -61,7 +61,7 @@ returns-2 c =
     let s = begin c.before in
     placed_as (λ t. t) _ _ _ _
     (not_in_set s.args.set.now s.args.v (sym c.contains.ensures ∙ c.if-contains.false))
-    (placed_none s.args.at s.args.text-1.now)
+    (placed_none s.args.at s.args.text.now)
 
 pub put_node_spec : {M : Type 1} → statement M
 put_node_spec =

@@ -28,7 +28,7 @@ so_far c =
     let set = (started c).args.set.now in
     lines_length 4 c.loop-v.v (node_line set) (λ i g. node_line_length set i (omega (arith, (started c).requires.1, c.loop-v.invariant.0)))
 
-length-now : (c : tie.At-loop-v invariant-loop decreases-loop) → length c.loop-v.text-1 ≡ length (started c).args.text-1.now
+length-now : (c : tie.At-loop-v invariant-loop decreases-loop) → length c.loop-v.text ≡ length (started c).args.text.now
 length-now c = placed_length _ _ _ _ _ c.loop-v.invariant.1 (omega (arith, c.loop-v.invariant.1.1, so_far c, (started c).requires.0, c.loop-v.invariant.0))
 
 abbrev turn : tie.After-put_node-end invariant-loop decreases-loop → tie.In-loop-v invariant-loop decreases-loop

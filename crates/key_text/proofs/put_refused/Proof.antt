@@ -16,10 +16,10 @@ use Rattle.key_text.proofs.put_refused.Tie as tie
 abbrev begin : tie.After-put_bytes-at → tie.Start
 begin c = c.before.before.before.before.before
 
-word : (c : tie.After-put_bytes-at) → Placed 0 refused_word (begin c).args.text-1.now c.put_bytes-at.new.0 c.put_bytes-at.result
+word : (c : tie.After-put_bytes-at) → Placed 0 refused_word (begin c).args.text.now c.put_bytes-at.new.0 c.put_bytes-at.result
 word c = c.put_bytes-at.ensures
 
-word_room : (c : tie.After-put_bytes-at) → c.put_bytes-at.result + 4 ≤ length c.put_bytes-at.new.text-1
+word_room : (c : tie.After-put_bytes-at) → c.put_bytes-at.result + 4 ≤ length c.put_bytes-at.new.text
 word_room c = placed_room 8 4 _ _ _ _ _ (word c) (omega arith) (begin c).requires
 
 -- ── the number ──
@@ -34,13 +34,13 @@ worded c = said c.before
 
 numbered : (c : tie.After-put_decimal-end)
     → Placed (worded c).put_bytes-at.result (decimal (begin (worded c)).args.k) (worded c).put_bytes-at.new.0
-    c.put_decimal-end.new.text-1 c.put_decimal-end.result
+    c.put_decimal-end.new.text c.put_decimal-end.result
 numbered c = placed_as decimal _ _ _ _ c.byte.ensures.0 c.put_decimal-end.ensures
 
 few-digits : (c : tie.After-byte) → length (decimal (begin (said c)).args.k) ≤ 3
 few-digits c = subst (λ n. length (decimal n) ≤ 3) c.byte.ensures.0 (three-digits c)
 
-number-room : (c : tie.After-put_decimal-end) → c.put_decimal-end.result + 1 ≤ length c.put_decimal-end.new.text-1
+number-room : (c : tie.After-put_decimal-end) → c.put_decimal-end.result + 1 ≤ length c.put_decimal-end.new.text
 number-room c = placed_room 3 1 _ _ _ _ _ (numbered c) (few-digits c.before) (word_room (worded c))
 
 -- ── a line feed ──
@@ -62,7 +62,7 @@ unfolding refused_text
 returns c =
     let last = c in
     let d = counted last.before.before in
-    three_placed _ _ _ _ _ _ _ _ _ _ _ (word (worded d)) (numbered d) last.put_bytes-at.ensures (omega (arith, few-digits d.before, (begin (worded d)).requires))
+    three_placed _ _ _ _ _ _ _ _ _ _ _ (word (worded d)) (numbered d) last.put_bytes.ensures (omega (arith, few-digits d.before, (begin (worded d)).requires))
 
 pub put_refused_spec : {M : Type 1} → statement M
 put_refused_spec =

@@ -76,7 +76,7 @@ carry-requires c κs =
     let i = turn t.before.before.before in
     let o = i.loop-p in
     let ok = by_bits (begun i.before).requires.1 in
-    let r = edge_fresh ok o.invariant.2 o.invariant.1 i.loop-p-test.taken (t.if-child-back.true ∙ t.reverse-back.ensures.0) in
+    let r = edge_fresh ok o.invariant.2 o.invariant.1 i.loop-p-test.true (t.if-child-back.true ∙ t.reverse-back.ensures.0) in
     (o.invariant.0, omega (arith, r.0, ok.few), omega (arith, r.1, ok.few), r.2, r.3, r.4, ok.small)
 
 loop-less : tie.Need-loop-p-smaller-then-child-back invariant-loop decreases-loop
@@ -92,7 +92,7 @@ loop-again c =
     let e = c.carry.ensures in (
       e.0,
       w.wide-p-in-loop-p.ensures,
-      climbing_carried ok o.invariant.2 o.invariant.1 i.loop-p-test.taken (t.if-child-back.true ∙ t.reverse-back.ensures.0) e.1,
+      climbing_carried ok o.invariant.2 o.invariant.1 i.loop-p-test.true (t.if-child-back.true ∙ t.reverse-back.ensures.0) e.1,
     )
 
 loop-less-2 : tie.Need-loop-p-smaller invariant-loop decreases-loop
@@ -106,7 +106,7 @@ loop-again-2 c =
     let ok = by_bits (begun i.before).requires.1 in (
       o.invariant.0,
       w.wide-p-in-loop-p.ensures,
-      climbing_turned ok o.invariant.2 o.invariant.1 i.loop-p-test.taken (λ e. c.if-child-back.false (e ∙ sym c.reverse-back.ensures.0)),
+      climbing_turned ok o.invariant.2 o.invariant.1 i.loop-p-test.true (λ e. c.if-child-back.false (e ∙ sym c.reverse-back.ensures.0)),
     )
 
 returns : tie.Need-returns invariant-loop decreases-loop

@@ -31,9 +31,9 @@ loop-again c =
     let v = to_z w32 (of_z w32 (atℤ t o.d)) in (
       omega arith,
       o.invariant.1,
-      length-set o.lengths-1 o.d v ∙ o.invariant.2,
-      below_more (λ k. atℤ (set o.lengths-1 o.d v) k ≡ atℤ t k) o.d (λ k l. read_below _ o.lengths-1 o.d k v (pos 0) (atℤ t k) l (o.invariant.3 k l))
-          (get_or-set_same o.lengths-1 o.d v (pos 0) (omega (arith, o.invariant.2)) ∙ number_of_bits (atℤ t o.d) (record { sfits = c.lengths-1.given })),
+      length-set o.lengths o.d v ∙ o.invariant.2,
+      below_more (λ k. atℤ (set o.lengths o.d v) k ≡ atℤ t k) o.d (λ k l. read_below _ o.lengths o.d k v (pos 0) (atℤ t k) l (o.invariant.3 k l))
+          (get_or-set_same o.lengths o.d v (pos 0) (omega (arith, o.invariant.2)) ∙ number_of_bits (atℤ t o.d) (record { sfits = c.lengths-1.given })),
     )
 
 returns : tie.Need-returns invariant-loop decreases-loop

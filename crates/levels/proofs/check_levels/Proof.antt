@@ -70,7 +70,7 @@ root_in : (c : tie.After-wide-z invariant-loop decreases-loop invariant-loop2 de
 root_in c =
     let t = turn c in
     let p = (begun t.before).requires in
-    omega (arith, c.wide-z.ensures, p.1 t.loop-m.m t.loop-m-test.taken, p.2)
+    omega (arith, c.wide-z.ensures, p.1 t.loop-m.m t.loop-m-test.true, p.2)
 
 mul-if2 : tie.Need-offset_bounds-levels-z invariant-loop decreases-loop invariant-loop2 decreases-loop2
 mul-if2 c = omega (arith, root_in c)
@@ -84,20 +84,20 @@ returns-2 c =
     let t = turn w.before.before in
     let a = (begun t.before).args in
     levels_off a.faces (OneOf (at a.roots.now) a.count) (atℤ a.levels.now) (all-inside t.before)
-    w.wide-z.result (t.loop-m.m, t.loop-m-test.taken, sym w.wide-z.ensures) (bits_not_zero _ c.if-levels-z-ne0.true)
+    w.wide-z.result (t.loop-m.m, t.loop-m-test.true, sym w.wide-z.ensures) (bits_not_zero _ c.if-levels-z-ne0.true)
 
 add-m : tie.Need-overflow_add-m invariant-loop decreases-loop invariant-loop2 decreases-loop2
-add-m c = let t = turn c.before.before in omega (arith, (begun t.before).requires.0, t.loop-m-test.taken)
+add-m c = let t = turn c.before.before in omega (arith, (begun t.before).requires.0, t.loop-m-test.true)
 
 loop2-less : tie.Need-loop-m-smaller invariant-loop decreases-loop invariant-loop2 decreases-loop2
-loop2-less c = omega (arith, (turn c.before.before).loop-m-test.taken)
+loop2-less c = omega (arith, (turn c.before.before).loop-m-test.true)
 
 loop2-again : tie.Need-loop-m-preserved invariant-loop decreases-loop invariant-loop2 decreases-loop2
 loop2-again c =
     let w = c in
     let t = turn w.before.before in
     let o = t.loop-m in (
-      omega (arith, t.loop-m-test.taken),
+      omega (arith, t.loop-m-test.true),
       below_more _ o.m o.invariant.1
           (ap (atℤ (begun t.before).args.levels.now) (sym w.wide-z.ensures) ∙ bits_zero _ (record { sfits = c.t19-1.given }) c.if-levels-z-ne0.false),
     )

@@ -35,9 +35,9 @@ returns-2 c =
     let a = c.args in
     let h = c.requires.1 in
     let x = atℤ a.flows.now _ in
-    let is : c.minus.result-1 ≡ neg_ℤ x = c.minus.ensures ∙ rw (bits x h) (zero_minus x) in
-    let g : Limited most_on_sheet c.minus.result-1 = subst (Limited most_on_sheet) (sym is) (limited_neg h) in
-    let e = bits c.minus.result-1 g in
+    let is : c.minus.result ≡ neg_ℤ x = c.minus.ensures ∙ rw (bits x h) (zero_minus x) in
+    let g : Limited most_on_sheet c.minus.result = subst (Limited most_on_sheet) (sym is) (limited_neg h) in
+    let e = bits c.minus.result g in
     (e ∙ is ∙ sym (flow_back (atℤ a.flows.now) a.d c.if-d-eq0.false), subst (Limited most_on_sheet) (sym e) g)
 
 pub dart_flow_spec : {M : Type 1} → statement M

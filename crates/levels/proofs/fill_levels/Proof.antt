@@ -98,7 +98,7 @@ met c = c.before.before.before
 origin-below : (c : tie.After-wide-p invariant-loop decreases-loop) → c.wide-p.result < (start (turn (met c)).before).args.darts
 origin-below c =
     let t = turn (met c) in
-    origin_in (start t.before).requires t.loop-i-test.taken (met c).wide-d.ensures c.wide-p.ensures
+    origin_in (start t.before).requires t.loop-i-test.true (met c).wide-d.ensures c.wide-p.ensures
 
 mul-wide-4 : tie.Need-offset_bounds-lefts-d invariant-loop decreases-loop
 mul-wide-4 c = let d = met c in omega (arith, (start (turn d).before).requires.few, dart-below d)
@@ -123,7 +123,7 @@ slice-set-of-levels-2 : tie.Need-slice_set_of-levels-then-p-d invariant-loop dec
 slice-set-of-levels-2 c = let a = c in omega (arith, across_in a.before, long (looped a.before))
 
 loop-less : tie.Need-loop-i-smaller-then-p-d invariant-loop decreases-loop
-loop-less c = omega (arith, (turn (met (origin c.before))).loop-i-test.taken)
+loop-less c = omega (arith, (turn (met (origin c.before))).loop-i-test.true)
 
 loop-again : tie.Need-loop-i-preserved-then-p-d invariant-loop decreases-loop
 loop-again c =
@@ -135,7 +135,7 @@ loop-again c =
     let o = l.loop-i in
     let p = (start l).requires in (
       length-set o.levels a.wide-across.result (pos 0) ∙ o.invariant.0,
-      filling_rooted p o.levels o.invariant.1 t.loop-i-test.taken d.wide-d.ensures f.wide-p.ensures c.if-p-d.true (long l) a.wide-across.ensures,
+      filling_rooted p o.levels o.invariant.1 t.loop-i-test.true d.wide-d.ensures f.wide-p.ensures c.if-p-d.true (long l) a.wide-across.ensures,
       kept_stored (rooted l) o.levels (pos 0) (dart-below d) a.wide-across.ensures o.invariant.2,
     )
 
@@ -174,7 +174,7 @@ minus-requires c κs =
     let d = met f in
     let o = (looped a).loop-i in
     let flow = w.dart_flow-flow.ensures in
-    new_fits (start (looped a)).requires o.levels o.invariant.1 (turn d).loop-i-test.taken d.wide-d.ensures f.wide-p.ensures k.wide-known.ensures
+    new_fits (start (looped a)).requires o.levels o.invariant.1 (turn d).loop-i-test.true d.wide-d.ensures f.wide-p.ensures k.wide-known.ensures
     flow.0 flow.1 k.if-p-d.false
 
 abbrev flowed : tie.After-minus invariant-loop decreases-loop → tie.After-dart_flow-flow invariant-loop decreases-loop
@@ -187,7 +187,7 @@ slice-set-from-levels : tie.Need-bounds-levels-across invariant-loop decreases-l
 slice-set-from-levels c = let a = faced (flowed c).before in omega (arith, long (looped a), across_in a)
 
 loop-less-2 : tie.Need-loop-i-smaller invariant-loop decreases-loop
-loop-less-2 c = omega (arith, (turn (met (origin (faced (flowed c).before)))).loop-i-test.taken)
+loop-less-2 c = omega (arith, (turn (met (origin (faced (flowed c).before)))).loop-i-test.true)
 
 loop-again-2 : tie.Need-loop-i-preserved invariant-loop decreases-loop
 loop-again-2 c =
@@ -200,8 +200,8 @@ loop-again-2 c =
     let o = l.loop-i in
     let flow = w.dart_flow-flow.ensures in (
       length-set o.levels a.wide-across.result _ ∙ o.invariant.0,
-      filling_stored (start l).requires o.levels o.invariant.1 (turn d).loop-i-test.taken d.wide-d.ensures f.wide-p.ensures k.wide-known.ensures
-          flow.0 flow.1 k.if-p-d.left (long l) a.wide-across.ensures c.minus.ensures,
+      filling_stored (start l).requires o.levels o.invariant.1 (turn d).loop-i-test.true d.wide-d.ensures f.wide-p.ensures k.wide-known.ensures
+          flow.0 flow.1 k.if-p-d.false (long l) a.wide-across.ensures c.minus.ensures,
       kept_stored (rooted l) o.levels _ (dart-below d) a.wide-across.ensures o.invariant.2,
     )
 

@@ -31,7 +31,7 @@ abbrev flows_of : tie.Start → List ℤ
 flows_of s = s.args.flows.now
 
 abbrev levelsOf : tie.Start → List ℤ
-levelsOf s = s.args.levels-1.now
+levelsOf s = s.args.levels.now
 
 -- ── 16 did not refuse ──
 abbrev given : tie.Else-levels-faces → tie.Start
@@ -62,7 +62,7 @@ roomy c = c.before.before.before.before
 
 within-lent : (c : tie.In_default)
     → NoneOf (within_checks (drawing (given (roomy c))).map.edges (drawing (given (roomy c))).capacity (atℤ (lentFlows (given (roomy c)))))
-within-lent c = rw c.enum_told-1.given-1.1 at c.check_within-within.ensures
+within-lent c = rw c.enum_told-1.given.1 at c.check_within-within.ensures
 
 within : (c : tie.In_default)
     → NoneOf (within_checks (drawing (given (roomy c))).map.edges (drawing (given (roomy c))).capacity (atℤ (flows_of (given (roomy c)))))
@@ -88,7 +88,7 @@ asked c = c.before.before
 
 balanced : (c : tie.In_default-balanced)
     → NoneOf (balance_checks (drawing (given (roomy (limited (asked c))))).map NoNode (atℤ (flows_of (given (roomy (limited (asked c)))))))
-balanced c = judged (asked c) Passed c.enum_told-in_default-balanced-1.given-1.1
+balanced c = judged (asked c) Passed c.enum_told-in_default-balanced-1.given.1
 
 -- the faces that the code counts are those of the map
 written_back : {n : ℕ} (m : ℕ) (l : List ℤ) (x : ℕ → ℤ) (y : List ℤ) → m ≡ n → y ≡ filled n x (take (m - 0) l) → y ++ drop (m - 0) l ≡ filled n x l
@@ -113,7 +113,7 @@ returns-3 c =
     let r = w in
     let s = given r.before.before.before.before.before in (
       balanced_within (drawing s) (flows_of s) (levelsOf s) (room-edges r.before.before.before.before.before) (room-faces r.before.before.before.before.before) _ _
-          (part_within (drawing s).map (flows_of s) (drawing s).capacity (Refused _ _) (rw c.within-1.given-1.1 at w.check_within-within.ensures)),
+          (part_within (drawing s).map (flows_of s) (drawing s).capacity (Refused _ _) (rw c.within-1.given.1 at w.check_within-within.ensures)),
       refl,
     )
 
@@ -130,7 +130,7 @@ returns-4 c =
     let r = roomy t in
     let s = given r in (
       balanced_balance (drawing s) (flows_of s) (levelsOf s) (room-edges r) (room-faces r) (within t) _ _
-          (judged b.before.before.before (Refused _ _) c.balanced-1.given-1.1),
+          (judged b.before.before.before (Refused _ _) c.balanced-1.given.1),
       refl,
     )
 
@@ -156,7 +156,7 @@ returns-5 c =
       (
         atℤ lent',
         levels_agree (drawing s).map s.args.outer (atℤ (lentFlows s)) (atℤ (flows_of s)) (atℤ lent') (part_flows (drawing s).map (flows_of s))
-            (found s.requires.0 (lentFlows s) (lentLevels s) lent' w.ensures (judged-lent (asked m.before.before.before) Passed m.enum_told-in_default-balanced-1.given-1.1)),
+            (found s.requires.0 (lentFlows s) (lentLevels s) lent' w.ensures (judged-lent (asked m.before.before.before) Passed m.enum_told-in_default-balanced-1.given.1)),
         written_back s.args.faces (levelsOf s) (atℤ lent') lent' s.requires.0.counted
             (in_place s.requires.0 (lentFlows s) (lentLevels s) lent' w.ensures (omega (arith, lent-faces r))),
       ),

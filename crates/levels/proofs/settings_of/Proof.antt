@@ -33,7 +33,7 @@ abbrev levelsOf : tie.Start → List ℤ
 levelsOf s = s.args.levels.now
 
 abbrev flows_of : tie.Start → List ℤ
-flows_of s = s.args.flows-1.now
+flows_of s = s.args.flows.now
 
 -- ── 16 did not refuse ──
 abbrev given : tie.Else-levels-faces → tie.Start
@@ -78,7 +78,7 @@ levelled c = roomy c.before.before
 inside : (c : tie.In_default)
     → NoneOf (level_checks (faces (drawing (given (levelled c))).map) (ZeroFace (drawing (given (levelled c))).map (given (levelled c)).args.outer)
     (atℤ (levelsOf (given (levelled c)))))
-inside c = judged c.before.before Passed c.enum_told-1.given-1.1
+inside c = judged c.before.before Passed c.enum_told-1.given.1
 
 ready : (c : tie.In_default) → HaveLevels (given (levelled c)).args.edges (at (given (levelled c)).args.lefts.now) (lentLevels (given (levelled c)))
 ready c =
@@ -87,7 +87,7 @@ ready c =
     let s = given r in
     levels_ready s.requires (lentLevels s) (omega (arith, lent-faces r, s.requires.counted))
     (levels_judged s.requires (walked k.before.before).roots_of-count.ensures.1 (atℤ (lentLevels s)) (atℤ (lentLevels s)) (λ f l. refl) Passed
-    (rw c.enum_told-1.given-1.1 at k.check_levels-judged.ensures))
+    (rw c.enum_told-1.given.1 at k.check_levels-judged.ensures))
 
 -- ── 17 did not refuse ──
 abbrev limited : tie.After-check_differences-within → tie.In_default
@@ -132,7 +132,7 @@ returns-3 c =
     let l = c in
     let r = roomy l.before.before.before in
     let s = given r in (
-      leveled_levels (drawing s) (levelsOf s) (flows_of s) (room-edges r) (room-faces r) _ _ (judged l.before.before.before (Refused _ _) c.judged-1.given-1.1),
+      leveled_levels (drawing s) (levelsOf s) (flows_of s) (room-edges r) (room-faces r) _ _ (judged l.before.before.before (Refused _ _) c.judged-1.given.1),
       refl,
     )
 
@@ -145,7 +145,7 @@ returns-4 c =
     let t = limited d.before.before.before in
     let r = levelled t in
     let s = given r in (
-      leveled_within (drawing s) (levelsOf s) (flows_of s) (room-edges r) (room-faces r) (inside t) _ _ (kept d.before.before.before (Refused _ _) c.within-1.given-1.1),
+      leveled_within (drawing s) (levelsOf s) (flows_of s) (room-edges r) (room-faces r) (inside t) _ _ (kept d.before.before.before (Refused _ _) c.within-1.given.1),
       refl,
     )
 
@@ -166,7 +166,7 @@ returns-5 c =
     let t = limited d.before.before.before.before.before in
     let r = levelled t in
     let s = given r in (
-      leveled_none (drawing s) (levelsOf s) (flows_of s) (room-edges r) (room-faces r) (inside t) (kept d.before.before.before.before.before Passed m.enum_told-in_default-within-1.given-1.1),
+      leveled_none (drawing s) (levelsOf s) (flows_of s) (room-edges r) (room-faces r) (inside t) (kept d.before.before.before.before.before Passed m.enum_told-in_default-within-1.given.1),
       differences_filled s.requires (atℤ (lentLevels s)) (atℤ (levelsOf s)) (same_face s) (flows_of s) _
           (part_filled s.args.edges (flows_of s) _ _ c.fill_differences.ensures),
     )

@@ -65,32 +65,32 @@ abbrev start : tie.At-loop-terminals invariant-loop decreases-loop → tie.Start
 start c = c.before.before.before
 
 abbrev entered : tie.At-loop-terminals invariant-loop decreases-loop → List ℤ
-entered c = (start c).args.flows-1.now
+entered c = (start c).args.flows.now
 
 -- the bounds, as the numbers of their bits
 abbrev lo : tie.At-loop-terminals invariant-loop decreases-loop → ℤ
-lo c = to_z w32 (of_z w32 c.loop-terminals.bounds-1.low)
+lo c = to_z w32 (of_z w32 c.loop-terminals.bounds.low)
 
 abbrev hi : tie.At-loop-terminals invariant-loop decreases-loop → ℤ
-hi c = to_z w32 (of_z w32 c.loop-terminals.bounds-1.high)
+hi c = to_z w32 (of_z w32 c.loop-terminals.bounds.high)
 
-same-lo : (c : tie.At-loop-terminals invariant-loop decreases-loop) → lo c ≡ c.loop-terminals.bounds-1.low
+same-lo : (c : tie.At-loop-terminals invariant-loop decreases-loop) → lo c ≡ c.loop-terminals.bounds.low
 same-lo c =
-    same_bits (omega arith) (low_small (start c).args.sizes.outer (ground (start c)) (entered c) c.loop-terminals.flows-1 (flagged c.loop-terminals.b)
-    c.loop-terminals.bounds-1.low c.loop-terminals.bounds-1.found c.loop-terminals.invariant.bracket.floor)
+    same_bits (omega arith) (low_small (start c).args.sizes.outer (ground (start c)) (entered c) c.loop-terminals.flows (flagged c.loop-terminals.b)
+    c.loop-terminals.bounds.low c.loop-terminals.bounds.found c.loop-terminals.invariant.bracket.floor)
 
-same-hi : (c : tie.At-loop-terminals invariant-loop decreases-loop) → hi c ≡ c.loop-terminals.bounds-1.high
+same-hi : (c : tie.At-loop-terminals invariant-loop decreases-loop) → hi c ≡ c.loop-terminals.bounds.high
 same-hi c = same_bits (omega arith) (high_small (start c).args.sizes.outer (ground (start c)) c.loop-terminals.invariant.bracket.ceiling)
 
 at_bits : (c : tie.At-loop-terminals invariant-loop decreases-loop)
     → Bracket (𝓜 (start c)) (start c).args.sizes.outer (caps (start c)) (start c).args.begun.terminals-1.source (start c).args.begun.terminals-1.sink
-    (entered c) c.loop-terminals.flows-1 c.loop-terminals.a c.loop-terminals.b (lo c) (hi c) c.loop-terminals.bounds-1.found
+    (entered c) c.loop-terminals.flows c.loop-terminals.a c.loop-terminals.b (lo c) (hi c) c.loop-terminals.bounds.found
 at_bits c =
-    bits_bracket (start c).args.sizes.outer (ground (start c)) (entered c) c.loop-terminals.flows-1 c.loop-terminals.a c.loop-terminals.b _ _ c.loop-terminals.bounds-1.found
+    bits_bracket (start c).args.sizes.outer (ground (start c)) (entered c) c.loop-terminals.flows c.loop-terminals.a c.loop-terminals.b _ _ c.loop-terminals.bounds.found
     c.loop-terminals.invariant.bracket
 
-as_long : (c : tie.At-loop-terminals invariant-loop decreases-loop) → length c.loop-terminals.flows-1 ≡ length (entered c)
-as_long c = bracket_length c.loop-terminals.bounds-1.found (omega (arith, (start c).requires.0.lent.exact)) c.loop-terminals.invariant.bracket
+as_long : (c : tie.At-loop-terminals invariant-loop decreases-loop) → length c.loop-terminals.flows ≡ length (entered c)
+as_long c = bracket_length c.loop-terminals.bounds.found (omega (arith, (start c).requires.0.lent.exact)) c.loop-terminals.invariant.bracket
 
 -- ── the bounds have passed each other ──
 abbrev looping : tie.After-is_less invariant-loop decreases-loop → tie.At-loop-terminals invariant-loop decreases-loop
@@ -115,7 +115,7 @@ returns c =
     let b = start l in (
       l.loop-terminals.invariant.size_parents,
       c.join.ensures.0,
-      passed b.args.sizes.outer (ground b) (entered l) l.loop-terminals.flows-1 l.loop-terminals.a l.loop-terminals.b (lo l) (hi l) l.loop-terminals.bounds-1.found (at_bits l)
+      passed b.args.sizes.outer (ground b) (entered l) l.loop-terminals.flows l.loop-terminals.a l.loop-terminals.b (lo l) (hi l) l.loop-terminals.bounds.found (at_bits l)
           (lt_of_test _ _ (sym t.is_less.ensures ∙ t.if-is_less.true)) c.join.new.a c.join.ensures.1,
     )
 
@@ -133,7 +133,7 @@ returns-2 c =
     let r = c.finished.ensures.0 c.if-finished.true in (
       l.loop-terminals.invariant.size_parents,
       l.loop-terminals.invariant.size_a,
-      met b.args.sizes.outer (ground b) (entered l) l.loop-terminals.flows-1 l.loop-terminals.a l.loop-terminals.b (lo l) (hi l) l.loop-terminals.bounds-1.found (at_bits l)
+      met b.args.sizes.outer (ground b) (entered l) l.loop-terminals.flows l.loop-terminals.a l.loop-terminals.b (lo l) (hi l) l.loop-terminals.bounds.found (at_bits l)
           r.0 r.1,
     )
 
@@ -141,16 +141,16 @@ returns-2 c =
 in_order : (c : tie.After-finished invariant-loop decreases-loop) → lo (ordered c) ≤ℤ hi (ordered c)
 in_order c = let e = c in ge_of_test _ _ (sym e.is_less.ensures ∙ e.if-is_less.false)
 
-in-turn : (c : tie.After-finished invariant-loop decreases-loop) → (ordered c).loop-terminals.bounds-1.low ≤ℤ (ordered c).loop-terminals.bounds-1.high
-in-turn c = let l = ordered c in subst (λ h. l.loop-terminals.bounds-1.low ≤ℤ h) (same-hi l) (subst (λ x. x ≤ℤ hi l) (same-lo l) (in_order c))
+in-turn : (c : tie.After-finished invariant-loop decreases-loop) → (ordered c).loop-terminals.bounds.low ≤ℤ (ordered c).loop-terminals.bounds.high
+in-turn c = let l = ordered c in subst (λ h. l.loop-terminals.bounds.low ≤ℤ h) (same-hi l) (subst (λ x. x ≤ℤ hi l) (same-lo l) (in_order c))
 
-apart : (c : tie.Else-finished invariant-loop decreases-loop) → (ordered c.before).loop-terminals.bounds-1.found ≡ true
-    → (ordered c.before).loop-terminals.bounds-1.low <ℤ (ordered c.before).loop-terminals.bounds-1.high
+apart : (c : tie.Else-finished invariant-loop decreases-loop) → (ordered c.before).loop-terminals.bounds.found ≡ true
+    → (ordered c.before).loop-terminals.bounds.low <ℤ (ordered c.before).loop-terminals.bounds.high
 apart c e =
     let l = ordered c.before in
-    subst (λ h. l.loop-terminals.bounds-1.low <ℤ h) (same-hi l)
+    subst (λ h. l.loop-terminals.bounds.low <ℤ h) (same-hi l)
     (subst (λ x. x <ℤ hi l) (same-lo l)
-    (above_low (lo l) (hi l) (hi l) l.loop-terminals.bounds-1.found (in_order c.before) (c.finished.ensures.1 c.if-finished.false) (λ k. k) e))
+    (above_low (lo l) (hi l) (hi l) l.loop-terminals.bounds.found (in_order c.before) (c.finished.ensures.1 c.if-finished.false) (λ k. k) e))
 
 probe-requires : tie.Need-probe-bounds-requires invariant-loop decreases-loop
 probe-requires c κs =
@@ -194,7 +194,7 @@ loop-less c =
     let k = c in
     let l = ordered (probed k.before.before) in
     let r = k.probe-bounds.result in
-    gap_closer l.loop-terminals.bounds-1.low l.loop-terminals.bounds-1.high l.loop-terminals.bounds-1.found r.low r.high r.found (in-turn (probed k.before.before))
+    gap_closer l.loop-terminals.bounds.low l.loop-terminals.bounds.high l.loop-terminals.bounds.found r.low r.high r.found (in-turn (probed k.before.before))
     (k.probe-bounds.ensures.3 c.if-bounds.false)
 
 loop-again : tie.Need-loop-terminals-preserved invariant-loop decreases-loop

@@ -24,9 +24,9 @@ abbrev given : tie.After-capacity → tie.Start
 given c = c.before.before.before
 
 low_is : (c : tie.After-capacity)
-    → to_z w32 (of_z w32 c.capacity-high.result) ≡ cut_of (given c).args.darts (at (given c).args.tails.now)
+    → to_z w32 (of_z w32 c.capacity.result) ≡ cut_of (given c).args.darts (at (given c).args.tails.now)
     (atℤ (given c).args.capacities.now) (flagged (given c).args.b.now)
-low_is c = number_of_bits _ (record { sfits = c.capacity-high.type_inv }) ∙ c.capacity-high.ensures
+low_is c = number_of_bits _ (record { sfits = c.capacity.type_inv }) ∙ c.capacity.ensures
 
 returns : tie.Need-returns-then-likely
 returns c = (refl, high_is c.before, inl refl)

@@ -56,7 +56,7 @@ first-set c = (flagged-sink c).before.before
 
 bounds : (c : tie.After-first_bounds-bounds)
     → let s = given (flagged-sink c) in
-    Bracket (𝓜 s) s.args.sizes.outer (caps s) s.args.terminals.source s.args.terminals.sink s.args.flows-1.now s.args.flows-1.now
+    Bracket (𝓜 s) s.args.sizes.outer (caps s) s.args.terminals.source s.args.terminals.sink s.args.flows.now s.args.flows.now
     (first-set c).begin-likely.new.1.1.1.1.1.1.0 (flagged-sink c).flag_one.new.inside
     c.first_bounds-bounds.result.low c.first_bounds-bounds.result.high c.first_bounds-bounds.result.found
 bounds c =
@@ -65,9 +65,9 @@ bounds c =
     let B = (flagged-sink c).flag_one.new.inside in
     let r = c.first_bounds-bounds.result in
     let e = c.first_bounds-bounds.ensures in
-    subst (Bracket (𝓜 s) s.args.sizes.outer (caps s) s.args.terminals.source s.args.terminals.sink s.args.flows-1.now
-    s.args.flows-1.now A B r.low r.high) (sym e.0)
-    (begins s.args.sizes.outer (ground s) s.args.flows-1.now A B r.low r.high (first-set c).begin-likely.ensures.1
+    subst (Bracket (𝓜 s) s.args.sizes.outer (caps s) s.args.terminals.source s.args.terminals.sink s.args.flows.now
+    s.args.flows.now A B r.low r.high) (sym e.0)
+    (begins s.args.sizes.outer (ground s) s.args.flows.now A B r.low r.high (first-set c).begin-likely.ensures.1
     (flagged-sink c).flag_one.ensures.1 e.1 e.2)
 
 close-in-requires : tie.Need-close_in-requires

@@ -79,16 +79,16 @@ given c = c.before.before.before
 abbrev since : tie.After-copy_flows → List ℤ
 since c = c.copy_flows.new.1.1.0
 
-is-since : (c : tie.After-copy_flows) → since c ≡ filled (given c).args.sizes.edges (given c).requires.4.0 (given c).args.flows-1.now
+is-since : (c : tie.After-copy_flows) → since c ≡ filled (given c).args.sizes.edges (given c).requires.4.0 (given c).args.flows.now
 is-since c =
     let s = given c in
     let k = s.requires.4 in
-    copied s.args.sizes.edges k.0 k.1 s.args.known.now k.3 (omega (arith, k.4)) s.args.flows-1.now (since c) c.copy_flows.ensures
+    copied s.args.sizes.edges k.0 k.1 s.args.known.now k.3 (omega (arith, k.4)) s.args.flows.now (since c) c.copy_flows.ensures
 
-same-room : (c : tie.After-copy_flows) → length (since c) ≡ length (given c).args.flows-1.now
+same-room : (c : tie.After-copy_flows) → length (since c) ≡ length (given c).args.flows.now
 same-room c =
     let s = given c in
-    filled_length s.args.sizes.edges s.requires.4.0 s.args.flows-1.now (since c) (is-since c) (omega (arith, s.requires.0.exact))
+    filled_length s.args.sizes.edges s.requires.4.0 s.args.flows.now (since c) (is-since c) (omega (arith, s.requires.0.exact))
 
 begin-requires : tie.Need-begin-likely-requires
 begin-requires c κs =
@@ -128,12 +128,12 @@ a₀ c = (first-set c).begin-likely.new.1.1.1.1.1.1.0
 
 bounds : (c : tie.After-capacity) (B : List ℕ)
     → Bracket (𝓜 (start c)) (start c).args.sizes.outer (caps (start c)) (start c).args.demand.source (start c).args.demand.sink
-    (start c).args.flows-1.now (since (copy (first-set c))) (a₀ c) B (to_z w32 (of_z w32 (start c).args.demand.value))
+    (start c).args.flows.now (since (copy (first-set c))) (a₀ c) B (to_z w32 (of_z w32 (start c).args.demand.value))
     (to_z w32 (of_z w32 c.capacity.result)) true
 bounds c B =
     let s = start c in
     let k = s.requires.4 in
-    begins_on s.args.sizes.outer (ground s) s.args.flows-1.now (since (copy (first-set c))) (a₀ c) B _ _ k.0 (first-set c).begin-likely.ensures.1
+    begins_on s.args.sizes.outer (ground s) s.args.flows.now (since (copy (first-set c))) (a₀ c) B _ _ k.0 (first-set c).begin-likely.ensures.1
     (number_of_bits _ (record { sfits = c.capacity.type_inv }) ∙ c.capacity.ensures)
     (subst (λ v. Highest (𝓜 s) s.args.sizes.outer (caps s) s.args.demand.source s.args.demand.sink v k.0) (sym (same-carried s)) k.2)
     (is-since (copy (first-set c)))
@@ -144,7 +144,7 @@ try-likely-requires c κs =
     let s = start q.before.before.before in
     let p = s.requires in (
       (
-        s.args.flows-1.now,
+        s.args.flows.now,
         record {
           lent = record { opened = p.0.opened; ends = p.0.ends; exact = same-room (copy (first-set q.before.before.before)) ∙ p.0.exact };
           small = p.1;
@@ -176,13 +176,13 @@ same_length : tie.Need-shape_of-flows-then-tried
 same_length c =
     let t = c in
     let s = origin t.before.before in
-    ap length ((t.try_likely-tried.ensures.2 s.args.flows-1.now (bounds (measured t.before.before) _)).0 c.if-tried.true).0
+    ap length ((t.try_likely-tried.ensures.2 s.args.flows.now (bounds (measured t.before.before) _)).0 c.if-tried.true).0
 
 returns : tie.Need-returns-then-tried
 returns c =
     let t = c in
     let e = t.try_likely-tried.ensures in
-    (e.0, (e.2 (origin t.before.before).args.flows-1.now (bounds (measured t.before.before) _)).0 c.if-tried.true)
+    (e.0, (e.2 (origin t.before.before).args.flows.now (bounds (measured t.before.before) _)).0 c.if-tried.true)
 
 abbrev tried : tie.Else-tried → tie.After-try_likely-tried
 tried c = c.before.before
@@ -190,13 +190,13 @@ tried c = c.before.before
 -- the bounds then, as the numbers of their bits
 still : (c : tie.Else-tried)
     → let s = origin (tried c) in let r = (tried c).try_likely-tried.result in
-    Bracket (𝓜 s) s.args.sizes.outer (caps s) s.args.demand.source s.args.demand.sink s.args.flows-1.now (flows₁ (tried c))
+    Bracket (𝓜 s) s.args.sizes.outer (caps s) s.args.demand.source s.args.demand.sink s.args.flows.now (flows₁ (tried c))
     (a₁ (tried c)) (b₁ (tried c)) (to_z w32 (of_z w32 r.low)) (to_z w32 (of_z w32 r.high)) r.found
 still c =
     let t = tried c in
     let s = origin t in
-    bits_bracket s.args.sizes.outer (ground s) s.args.flows-1.now (flows₁ t) (a₁ t) (b₁ t) _ _ t.try_likely-tried.result.found
-    ((t.try_likely-tried.ensures.2 s.args.flows-1.now (bounds (measured t) _)).1 c.if-tried.false)
+    bits_bracket s.args.sizes.outer (ground s) s.args.flows.now (flows₁ t) (a₁ t) (b₁ t) _ _ t.try_likely-tried.result.found
+    ((t.try_likely-tried.ensures.2 s.args.flows.now (bounds (measured t) _)).1 c.if-tried.false)
 
 room : (c : tie.Else-tried) → length (flows₁ (tried c)) ≡ (origin (tried c)).args.sizes.edges
 room c =
@@ -219,13 +219,13 @@ a₂ c = c.propose-high.new.1.1.1.1.1.1.1.1.1.0
 
 begun : (c : tie.After-propose-high)
     → let t = tried (left c) in let s = origin t in let r = t.try_likely-tried.result in
-    Bracket (𝓜 s) s.args.sizes.outer (caps s) s.args.demand.source s.args.demand.sink s.args.flows-1.now (flows₁ t) (a₂ c) (b₁ t)
+    Bracket (𝓜 s) s.args.sizes.outer (caps s) s.args.demand.source s.args.demand.sink s.args.flows.now (flows₁ t) (a₂ c) (b₁ t)
     (to_z w32 (of_z w32 r.low)) (to_z w32 (of_z w32 c.propose-high.result)) r.found
 begun c =
     let t = tried (left c) in
     let s = origin t in
     let f = t.try_likely-tried.result.found in
-    let l = (lowered s.args.sizes.outer (ground s) s.args.flows-1.now (flows₁ t) (a₁ t) (b₁ t) _ _ f (still (left c)) _ (a₂ c) c.propose-high.result
+    let l = (lowered s.args.sizes.outer (ground s) s.args.flows.now (flows₁ t) (a₁ t) (b₁ t) _ _ f (still (left c)) _ (a₂ c) c.propose-high.result
     c.propose-high.ensures.2.1).0 in
     rw (same_bits (omega arith) (high_small s.args.sizes.outer (ground s) l.ceiling)) l
 
@@ -273,7 +273,7 @@ returns-2 c =
     let t = tried (left w) in
     let s = origin t in (
       z.close_in.ensures.1,
-      told_before s.args.sizes.outer (ground s) s.args.flows-1.now (flows₁ t) (a₂ w) (b₁ t) _ _ t.try_likely-tried.result.found (begun w) (flows₂ z.before)
+      told_before s.args.sizes.outer (ground s) s.args.flows.now (flows₁ t) (a₂ w) (b₁ t) _ _ t.try_likely-tried.result.found (begun w) (flows₂ z.before)
           (a₃ z.before) z.close_in.result z.close_in.ensures.2,
     )
 

@@ -71,7 +71,7 @@ ground c = let u = c.requires.0.1 in ground_of u.lent u.small
 lo_small : (c : tie.Start) → Limited 512000000 c.args.pending.bounds-1.low
 lo_small c =
     let b = c.requires.0 in
-    low_small c.args.sizes.outer (ground c) b.0 c.args.flows-1.now (flagged c.args.b.now) c.args.pending.bounds-1.low
+    low_small c.args.sizes.outer (ground c) b.0 c.args.flows.now (flagged c.args.b.now) c.args.pending.bounds-1.low
     c.args.pending.bounds-1.found b.1.bracket.floor
 
 hi_small : (c : tie.Start) → Limited 512000000 c.args.pending.bounds-1.high
@@ -92,12 +92,12 @@ in_order c = rw (same-lo c, same-hi c) c.requires.2
 
 -- what holds of the bounds holds of the numbers of their bits
 at_bits : (c : tie.Start) (before : List ℤ)
-    → Bracket (𝓜 c) c.args.sizes.outer (caps c) (src c) (snk c) before c.args.flows-1.now c.args.a.now c.args.b.now
+    → Bracket (𝓜 c) c.args.sizes.outer (caps c) (src c) (snk c) before c.args.flows.now c.args.a.now c.args.b.now
     c.args.pending.bounds-1.low c.args.pending.bounds-1.high c.args.pending.bounds-1.found
-    → Bracket (𝓜 c) c.args.sizes.outer (caps c) (src c) (snk c) before c.args.flows-1.now c.args.a.now c.args.b.now
+    → Bracket (𝓜 c) c.args.sizes.outer (caps c) (src c) (snk c) before c.args.flows.now c.args.a.now c.args.b.now
     (lo c) (hi c) c.args.pending.bounds-1.found
 at_bits c before b =
-    bits_bracket c.args.sizes.outer (ground c) before c.args.flows-1.now c.args.a.now c.args.b.now _ _ c.args.pending.bounds-1.found b
+    bits_bracket c.args.sizes.outer (ground c) before c.args.flows.now c.args.a.now c.args.b.now _ _ c.args.pending.bounds-1.found b
 
 closer-of-bits : (c : tie.Start) {low' high' : ℤ} {found' : Bool} → Closer (lo c) (hi c) c.args.pending.bounds-1.found low' high' found'
     → Closer c.args.pending.bounds-1.low c.args.pending.bounds-1.high c.args.pending.bounds-1.found low' high' found'
@@ -157,11 +157,11 @@ abbrev inside' : tie.After-decide → List ℕ
 inside' c = c.decide.new.1.1.1.1.1.1.1.1.1.1.1.1.0
 
 decided : (c : tie.After-decide) {r : Bool} → c.decide.result ≡ r
-    → Decided (𝓜 (base c)) (base c).args.sizes.outer (caps (base c)) (src (base c)) (snk (base c)) (value (asked c)) (base c).args.flows-1.now (flows' c)
+    → Decided (𝓜 (base c)) (base c).args.sizes.outer (caps (base c)) (src (base c)) (snk (base c)) (value (asked c)) (base c).args.flows.now (flows' c)
     (inside' c) r
 decided c e =
     let b = base c in
-    subst (Decided (𝓜 b) b.args.sizes.outer (caps b) (src b) (snk b) (value (asked c)) b.args.flows-1.now (flows' c) (inside' c)) e
+    subst (Decided (𝓜 b) b.args.sizes.outer (caps b) (src b) (snk b) (value (asked c)) b.args.flows.now (flows' c) (inside' c)) e
     c.decide.ensures.1
 
 -- ── it is carried ──
@@ -176,7 +176,7 @@ propose-requires c κs =
     let g = ground b in
     let exact = b.requires.0.1.lent.exact in
     lent_pivots b.args.rotations.now g k.decide.ensures.2 b.requires.0.1.size_a
-    (filled_length _ _ b.args.flows-1.now (flows' k) (decided k t.if-decide.true).2 (omega (arith, exact)) ∙ exact)
+    (filled_length _ _ b.args.flows.now (flows' k) (decided k t.if-decide.true).2 (omega (arith, exact)) ∙ exact)
 
 abbrev taken : tie.After-propose → tie.Then-decide
 taken c = c.before.before.before
@@ -190,7 +190,7 @@ a'' c = c.propose.new.1.1.1.1.1.1.1.1.1.0
 -- the bounds then, before the high one is held as bits
 proposed : (c : tie.After-propose) (before : List ℤ)
     → Bracket (𝓜 (base (chosen c))) (base (chosen c)).args.sizes.outer (caps (base (chosen c))) (src (base (chosen c))) (snk (base (chosen c))) before
-    (base (chosen c)).args.flows-1.now (base (chosen c)).args.a.now (base (chosen c)).args.b.now
+    (base (chosen c)).args.flows.now (base (chosen c)).args.a.now (base (chosen c)).args.b.now
     (base (chosen c)).args.pending.bounds-1.low (base (chosen c)).args.pending.bounds-1.high (base (chosen c)).args.pending.bounds-1.found
     → Bracket (𝓜 (base (chosen c))) (base (chosen c)).args.sizes.outer (caps (base (chosen c))) (src (base (chosen c))) (snk (base (chosen c))) before
     (flows' (chosen c)) (a'' c) (base (chosen c)).args.b.now (value (asked (chosen c))) c.propose.result true
@@ -202,7 +202,7 @@ proposed c before h =
     let g = ground b in
     let v = value (asked k) in
     lowered o g before (flows' k) b.args.a.now b.args.b.now v (hi b) true
-    (carried o g before b.args.flows-1.now b.args.a.now b.args.b.now (lo b) (hi b) b.args.pending.bounds-1.found (at_bits b before h)
+    (carried o g before b.args.flows.now b.args.a.now b.args.b.now (lo b) (hi b) b.args.pending.bounds-1.found (at_bits b before h)
     v (flows' k) (inside' k) (decided k (taken c).if-decide.true))
     _ (a'' c) c.propose.result c.propose.ensures.2.1
 
@@ -260,17 +260,17 @@ b' c = c.narrow_by-n.new.1.1.1.1.1.1.1.1.1.0
 
 moved : (c : tie.After-narrow_by-n) (before : List ℤ)
     → Bracket (𝓜 (base (probed c))) (base (probed c)).args.sizes.outer (caps (base (probed c))) (src (base (probed c))) (snk (base (probed c))) before
-    (base (probed c)).args.flows-1.now (base (probed c)).args.a.now (base (probed c)).args.b.now
+    (base (probed c)).args.flows.now (base (probed c)).args.a.now (base (probed c)).args.b.now
     (base (probed c)).args.pending.bounds-1.low (base (probed c)).args.pending.bounds-1.high (base (probed c)).args.pending.bounds-1.found
     → c.narrow_by-n.result.none ≡ false
     → Bracket (𝓜 (base (probed c))) (base (probed c)).args.sizes.outer (caps (base (probed c))) (src (base (probed c))) (snk (base (probed c))) before
-    (base (probed c)).args.flows-1.now (a' c) (b' c) c.narrow_by-n.result.low c.narrow_by-n.result.high (base (probed c)).args.pending.bounds-1.found
+    (base (probed c)).args.flows.now (a' c) (b' c) c.narrow_by-n.result.low c.narrow_by-n.result.high (base (probed c)).args.pending.bounds-1.found
 moved c before h e =
     let k = probed c in
     let n = asked k in
     let b = base k in
     let r = c.narrow_by-n.ensures.2 in
-    narrowed b.args.sizes.outer (ground b) before b.args.flows-1.now b.args.a.now b.args.b.now (lo b) (hi b) b.args.pending.bounds-1.found
+    narrowed b.args.sizes.outer (ground b) before b.args.flows.now b.args.a.now b.args.b.now (lo b) (hi b) b.args.pending.bounds-1.found
     (at_bits b before h) (value n) (at_least n) (at_most n) (inside' k) (decided k (refused c)).1 (a' c) (b' c) c.narrow_by-n.result r.0 r.1 r.2 e
 
 returns-2 : tie.Need-returns
@@ -282,7 +282,7 @@ returns-2 c =
     let o = b.args.sizes.outer in
     let g = ground b in
     let f = b.args.pending.bounds-1.found in
-    let x = b.args.flows-1.now in
+    let x = b.args.flows.now in
     let w = b.requires.0 in
     let r = m.narrow_by-n.ensures.2 in
     let d = decided k (refused m.before.before) in (

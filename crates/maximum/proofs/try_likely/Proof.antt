@@ -30,7 +30,7 @@ ground c = let u = c.requires.0.1 in ground_of u.lent u.small
 same-lo : (c : tie.Start) → to_z w32 (of_z w32 c.args.given.bounds-1.low) ≡ c.args.given.bounds-1.low
 same-lo c =
     let b = c.requires.0 in
-    same_bits (omega arith) (low_small c.args.sizes.outer (ground c) b.0 c.args.flows-1.now (flagged c.args.b.now)
+    same_bits (omega arith) (low_small c.args.sizes.outer (ground c) b.0 c.args.flows.now (flagged c.args.b.now)
     c.args.given.bounds-1.low c.args.given.bounds-1.found b.1.bracket.floor)
 
 same-hi : (c : tie.Start) → to_z w32 (of_z w32 c.args.given.bounds-1.high) ≡ c.args.given.bounds-1.high

@@ -20,7 +20,7 @@ loop-holds c = filled_start _ _ c.requires
 loop-again : tie.Need-loop-u-preserved invariant-loop decreases-loop
 loop-again c =
     let o = c.loop-u in
-    filled_step _ o.to-1 o.u _ (omega arith) o.invariant refl
+    filled_step _ o.to o.u _ (omega arith) o.invariant refl
 
 returns : tie.Need-returns invariant-loop decreases-loop
 returns c =

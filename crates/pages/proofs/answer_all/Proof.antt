@@ -40,11 +40,11 @@ sets-small c =
     small_end _ _ _ c.loop-i-test.true (begun c).requires.1.few (omega (arith, w, c.words_for-words.ensures))
 
 flows_room : (c : tie.In-loop-i invariant-loop decreases-loop)
-    → c.loop-i.i * (begun c).args.sizes.edges + (begun c).args.sizes.edges ≤ length c.loop-i.flows-1
+    → c.loop-i.i * (begun c).args.sizes.edges + (begun c).args.sizes.edges ≤ length c.loop-i.flows
 flows_room c = stretch_room _ _ _ _ _ c.loop-i-test.true (begun c).requires.1.flows_room c.loop-i.invariant.3.flows_behind
 
 sets_room : (c : tie.In-loop-i invariant-loop decreases-loop)
-    → c.loop-i.i * c.words_for-words.result + c.words_for-words.result ≤ length c.loop-i.sets-1
+    → c.loop-i.i * c.words_for-words.result + c.words_for-words.result ≤ length c.loop-i.sets
 sets_room c =
     stretch_room _ _ _ _ _ c.loop-i-test.true (rw c.words_for-words.ensures (begun c).requires.1.sets_room)
     c.loop-i.invariant.3.sets_behind
@@ -86,8 +86,8 @@ ask-requires c κs =
     let w = t.words_for-words in (
       (begun t.before.before.before).requires.0,
       record {
-        flows_exact = stretch_exact e t.loop-i.i t.loop-i.flows-1 (flows_room t.before.before.before);
-        set_exact = stretch_exact w.result t.loop-i.i t.loop-i.sets-1 (sets_room t.before.before.before) ∙ w.ensures;
+        flows_exact = stretch_exact e t.loop-i.i t.loop-i.flows (flows_room t.before.before.before);
+        set_exact = stretch_exact w.result t.loop-i.i t.loop-i.sets (sets_room t.before.before.before) ∙ w.ensures;
       },
     )
 
@@ -101,10 +101,10 @@ loop-again c =
       omega arith,
       refl,
       l.invariant.2,
-      halfway_turn e w _ _ _ l.i l.flows-1 l.sets-1 l.answers l.invariant.3
+      halfway_turn e w _ _ _ l.i l.flows l.sets l.answers l.invariant.3
           (flows_room t.before.before.before.before.before.before.before) (sets_room t.before.before.before.before.before.before.before) (omega (arith, t.loop-i-test.true, (begun t.before.before.before.before.before.before.before).requires.1.few))
           (l.i * e + e - l.i * e) (l.i * w + w - l.i * w) (omega arith) (omega arith)
-          k.ask-answer.new.flows-1 k.ask-answer.new.set k.ask-answer.result
+          k.ask-answer.new.flows k.ask-answer.new.set k.ask-answer.result
           c.flows-1.given.0 c.sets-1.given.0 k.ask-answer.ensures,
     )
 
@@ -118,8 +118,8 @@ returns : tie.Need-returns invariant-loop decreases-loop
 returns c =
     let s = c in
     let l = c.loop-i in
-    all_answered s.args.sizes.nodes s.args.sizes.edges s.args.t10.count _ l.i _ s.args.flows-1.now l.flows-1
-    s.args.sets-1.now l.sets-1 l.answers
+    all_answered s.args.sizes.nodes s.args.sizes.edges s.args.t10.count _ l.i _ s.args.flows.now l.flows
+    s.args.sets.now l.sets l.answers
     l.invariant.2 l.invariant.3 (omega (arith, l.invariant.0, c.loop-i-test.false)) s.requires.1.few s.requires.1.flows_room s.requires.1.sets_room
 
 pub answer_all_spec : {M : Type 1} → statement M

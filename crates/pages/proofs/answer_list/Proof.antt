@@ -15,7 +15,7 @@ answer-all-requires : tie.Need-answer_all-requires
 answer-all-requires c κs =
     let k = c in
     let s = k in
-    let h = list_accepted s.args.sizes.nodes s.args.sizes.edges s.args.list.count s.args.flows-1.now s.args.sets-1.now
+    let h = list_accepted s.args.sizes.nodes s.args.sizes.edges s.args.list.count s.args.flows.now s.args.sets.now
     (rw c.enum_told-1.given.1 at k.check_list-verdict.ensures) in
     (s.requires, record { few = h.0; flows_room = h.1; sets_room = h.2 })
 

@@ -56,14 +56,14 @@ start c = begun (widened c)
 
 can : (c : tie.In-Can)
     → Left (shared (start (answer c.before.before))) (start (answer c.before.before)).args.source (start (answer c.before.before)).args.sink
-    (start (answer c.before.before)).args.value (start (answer c.before.before)).args.flows-1.now
-    (answer c.before.before).answer_left-answer.new.1.1.1.1.1.1.1.1.1.0 (start (answer c.before.before)).args.set-1.now
+    (start (answer c.before.before)).args.value (start (answer c.before.before)).args.flows.now
+    (answer c.before.before).answer_left-answer.new.1.1.1.1.1.1.1.1.1.0 (start (answer c.before.before)).args.set.now
     (answer c.before.before).answer_left-answer.new.1.1.1.1.1.1.1.1.1.1.0 Can
 can c =
     let k = answer c.before.before in
     let s = start k in
-    left_as (shared s) s.args.party s.args.source s.args.sink (number_of_bits _ s.fits.value) s.args.flows-1.now
-    k.answer_left-answer.last.1.1.1.1.1.1.1.1.1.0 s.args.set-1.now k.answer_left-answer.last.1.1.1.1.1.1.1.1.1.1.0 c.enum_told-1.given.1
+    left_as (shared s) s.args.party s.args.source s.args.sink (number_of_bits _ s.fits.value) s.args.flows.now
+    k.answer_left-answer.last.1.1.1.1.1.1.1.1.1.0 s.args.set.now k.answer_left-answer.last.1.1.1.1.1.1.1.1.1.1.0 c.enum_told-1.given.1
     k.answer_left-answer.ensures
 
 keep-offer-requires : tie.Need-keep_offer-requires
@@ -76,9 +76,9 @@ keep-offer-requires c κs =
     let few = asked_few (shared_drawing S) _ _ _ _ _ h.0 in
     let room = asked_room (shared_drawing S) _ _ _ _ _ h.0 in (
       omega (arith, (widened k).wide-p.ensures, is-party (widened k)),
-      omega (arith, w.wide-p.ensures, filled_length _ _ _ _ h.1.2 room, room),
-      omega (arith, w.wide-p.ensures, few, c.keep_offer-arg-in-Can-1.given.0.1),
-      omega (arith, w.wide-p.ensures, few, c.keep-offer-arg3.given.0.1),
+      omega (arith, w.wide.ensures, filled_length _ _ _ _ h.1.2 room, room),
+      omega (arith, w.wide.ensures, few, c.keep_offer-arg-in-Can-1.given.0.1),
+      omega (arith, w.wide.ensures, few, c.keep-offer-arg3.given.0.1),
     )
 
 returns-3 : tie.Need-returns-in-Can
@@ -88,10 +88,10 @@ returns-3 c =
     let t = w in
     let k = answer t.before.before.before.before.before.before.before.before in
     let s = start k in
-    told_as (shared s) s.args.party s.args.source s.args.sink (number_of_bits _ s.fits.value) s.args.flows-1.now
-    k.answer_left-answer.last.1.1.1.1.1.1.1.1.1.0 s.args.set-1.now k.answer_left-answer.last.1.1.1.1.1.1.1.1.1.1.0 t.enum_told-1.given.1
+    told_as (shared s) s.args.party s.args.source s.args.sink (number_of_bits _ s.fits.value) s.args.flows.now
+    k.answer_left-answer.last.1.1.1.1.1.1.1.1.1.0 s.args.set.now k.answer_left-answer.last.1.1.1.1.1.1.1.1.1.1.0 t.enum_told-1.given.1
     (is-party (widened k)) (may-ask (uncommitted k)) _
-    (after_can (shared s) (widened k).wide-p.ensures _ w.wide-p.ensures k.answer_left-answer.last.1.1.1.1.1.1.1.1.1.0 _ c.stand.ensures
+    (after_can (shared s) (widened k).wide-p.ensures _ w.wide.ensures k.answer_left-answer.last.1.1.1.1.1.1.1.1.1.0 _ c.stand.ensures
     o.keep_offer.ensures)
     k.answer_left-answer.ensures
 
@@ -100,8 +100,8 @@ returns-4 c =
     let t = c in
     let k = answer t.before.before.before.before.before in
     let s = start k in
-    told_as (shared s) s.args.party s.args.source s.args.sink (number_of_bits _ s.fits.value) s.args.flows-1.now
-    k.answer_left-answer.last.1.1.1.1.1.1.1.1.1.0 s.args.set-1.now k.answer_left-answer.last.1.1.1.1.1.1.1.1.1.1.0 t.answer-1.given.1
+    told_as (shared s) s.args.party s.args.source s.args.sink (number_of_bits _ s.fits.value) s.args.flows.now
+    k.answer_left-answer.last.1.1.1.1.1.1.1.1.1.0 s.args.set.now k.answer_left-answer.last.1.1.1.1.1.1.1.1.1.1.0 t.answer-1.given.1
     (is-party (widened k)) (may-ask (uncommitted k)) _
     (after_cannot (shared s) (widened k).wide-p.ensures _ c.stand-in-Cannot.ensures)
     k.answer_left-answer.ensures
@@ -111,8 +111,8 @@ returns-5 c =
     let t = c in
     let k = answer t.before.before.before in
     let s = start k in
-    told_as (shared s) s.args.party s.args.source s.args.sink (number_of_bits _ s.fits.value) s.args.flows-1.now
-    k.answer_left-answer.last.1.1.1.1.1.1.1.1.1.0 s.args.set-1.now k.answer_left-answer.last.1.1.1.1.1.1.1.1.1.1.0 t.answer-in-Refused-1.given.1
+    told_as (shared s) s.args.party s.args.source s.args.sink (number_of_bits _ s.fits.value) s.args.flows.now
+    k.answer_left-answer.last.1.1.1.1.1.1.1.1.1.0 s.args.set.now k.answer_left-answer.last.1.1.1.1.1.1.1.1.1.1.0 t.answer-in-Refused-1.given.1
     (is-party (widened k)) (may-ask (uncommitted k)) _ refl k.answer_left-answer.ensures
 
 pub ask_spec : {M : Type 1} → statement M

@@ -43,7 +43,7 @@ returns c =
     let s = c in
     let a = s.args in
     let all : o.dart ≡ 1024 = omega arith in
-    copied_whole 1024 a.limits.now a.left-1.now o.left-1 s.requires.0 s.requires.1
+    copied_whole 1024 a.limits.now a.left-1.now o.left s.requires.0 s.requires.1
     (o.invariant.1 ∙ ap (λ k. tabulate k (atℤ a.limits.now) ++ drop k a.left-1.now) all)
 
 pub restore_spec : {M : Type 1} → statement M

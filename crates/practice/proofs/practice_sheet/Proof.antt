@@ -80,9 +80,9 @@ roomy c = c.before.before.before.before.before
 abbrev base : tie.After-write_head → tie.Start
 base c = start (ranged (roomy c).before)
 
-head-length : (c : tie.After-write_head) → length c.write_head.new.out-1 ≡ length (base c).args.out-1.now
+head-length : (c : tie.After-write_head) → length c.write_head.new.out ≡ length (base c).args.out.now
 head-length c =
-    head_kept c.narrow.result c.narrow-2.result (base c).args.out-1.now _ c.write_head.ensures
+    head_kept c.narrow.result c.narrow-2.result (base c).args.out.now _ c.write_head.ensures
     (omega (arith, (roomy c).if-out-end.false, long (roomy c).before))
 
 nodes_are : (c : tie.After-write_head) → c.narrow.result ≡ grid_nodes (base c).args.rows (base c).args.columns
@@ -91,9 +91,9 @@ nodes_are c =
     let o = (ranged t.before.before.before.before.before.before) in
     c.narrow.ensures ∙ t.times-nodes.ensures.0 ∙ ap₂ ◌*◌ o.wide-height.ensures o.wide-width.ensures
 
-headed : (c : tie.After-write_head) → c.write_head.new.out-1 ≡ plain_head (drawn (base c)) ++ drop (record_length 1) (base c).args.out-1.now
+headed : (c : tie.After-write_head) → c.write_head.new.out ≡ plain_head (drawn (base c)) ++ drop (record_length 1) (base c).args.out.now
 headed c =
-    head_written (drawn (base c)) (base c).args.out-1.now _ c.narrow.result c.narrow-2.result (nodes_are c)
+    head_written (drawn (base c)) (base c).args.out.now _ c.narrow.result c.narrow-2.result (nodes_are c)
     (c.narrow-2.ensures ∙ edges_are (roomy c).before.before.before) c.write_head.ensures
 
 -- ── the needs, in the order of the code ──

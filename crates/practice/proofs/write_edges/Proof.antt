@@ -78,8 +78,8 @@ place : (c : tie.After-edge_at-place invariant-loop decreases-loop) → c.edge_a
 place c = c.edge_at-place.ensures ∙ ap (λ n. edge_after n (turn c).loop-e.e) (turn c).record_length-head.ensures.0
 
 written : (c : tie.After-write_edge invariant-loop decreases-loop)
-    → c.write_edge.new.out-1 ≡ put (edge_after (record_length 1) (turn c.before.before).loop-e.e)
-    (encode_edge (drawn (begun (turn c.before.before))) (turn c.before.before).loop-e.e) (turn c.before.before).loop-e.out-1
+    → c.write_edge.new.out ≡ put (edge_after (record_length 1) (turn c.before.before).loop-e.e)
+    (encode_edge (drawn (begun (turn c.before.before))) (turn c.before.before).loop-e.e) (turn c.before.before).loop-e.out
 written c =
     let l = c in
     let o = turn l.before.before in
@@ -89,11 +89,11 @@ written c =
     ∙ (λ i. put (place l.before.before i)
     (edge_bytes (node_at a.rows a.columns (beginning a.rows a.columns e)) (node_at a.rows a.columns (ending a.rows a.columns e))
     (rotation_at a.rows a.columns (beginning a.rows a.columns e)) (rotation_at a.rows a.columns (ending a.rows a.columns e))
-    (bits l.before.before.before i) (pos 0)) o.loop-e.out-1)
-    ∙ ap (λ b. put (edge_after (record_length 1) e) b o.loop-e.out-1) (sym (grid_record a.rows a.columns a.seed e (inside l.before.before)))
+    (bits l.before.before.before i) (pos 0)) o.loop-e.out)
+    ∙ ap (λ b. put (edge_after (record_length 1) e) b o.loop-e.out) (sym (grid_record a.rows a.columns a.seed e (inside l.before.before)))
 
 -- so the length is kept
-kept : (c : tie.After-write_edge invariant-loop decreases-loop) → length c.write_edge.new.out-1 ≡ length (turn c.before.before).loop-e.out-1
+kept : (c : tie.After-write_edge invariant-loop decreases-loop) → length c.write_edge.new.out ≡ length (turn c.before.before).loop-e.out
 kept c =
     let o = turn c.before.before in
     let s = begun o in
@@ -132,7 +132,7 @@ loop-again c =
       stepped n.before.before.before.before.before.before,
       n.next_state-state.ensures.1,
       kept w.before.before ∙ o.loop-e.invariant.3,
-      λ old e. front_step (drawn (begun o)) old o.loop-e.e o.loop-e.out-1 _ (o.loop-e.invariant.4 old e) (written w.before.before),
+      λ old e. front_step (drawn (begun o)) old o.loop-e.e o.loop-e.out _ (o.loop-e.invariant.4 old e) (written w.before.before),
     )
 
 returns : tie.Need-returns invariant-loop decreases-loop

@@ -10,7 +10,7 @@ returns c =
     let nodes = edges in
     let kind = nodes in
     let s = kind in
-    head_placed s.args.out-1.now s.args.nodes s.args.edges s.requires
+    head_placed s.args.out.now s.args.nodes s.args.edges s.requires
     kind.write_u8.ensures nodes.write_u16.ensures edges.write_u16-2.ensures
 
 pub write_head_spec : {M : Type 1} → statement M

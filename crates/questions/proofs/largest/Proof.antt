@@ -37,7 +37,7 @@ abbrev ends_at : tie.Start → List Check
 ends_at s = end_checks s.args.sizes.nodes s.args.terminals.source s.args.terminals.sink
 
 abbrev room_at : tie.Start → List Check
-room_at s = room_checks s.args.sizes.nodes s.args.sizes.edges (length s.args.flows-1.now) (length s.args.set-1.now)
+room_at s = room_checks s.args.sizes.nodes s.args.sizes.edges (length s.args.flows.now) (length s.args.set.now)
 
 abbrev checksAt : tie.Start → List Check
 checksAt s =
@@ -90,7 +90,7 @@ returns-2 c =
     (largest_room a.sizes.nodes a.sizes.edges a.terminals.source a.terminals.sink a.flows-1.now a.set-1.now (two e.before.before.before.before) _ _ j, refl, refl)
 
 -- the flows of the edges are there to be lent
-flows_in : (c : tie.In_default-room) → (base (asked c)).args.sizes.edges ≤ length (base (asked c)).args.flows-1.now
+flows_in : (c : tie.In_default-room) → (base (asked c)).args.sizes.edges ≤ length (base (asked c)).args.flows.now
 flows_in c = (room_flows _ _ _ _ (room c)).0
 
 part-maximize-end : tie.Need-slice_bounds-maximize-end
@@ -123,14 +123,14 @@ abbrev lent' : tie.After-maximize-most → List ℤ
 lent' c = c.maximize-most.new.1.1.1.1.1.1.1.1.1.1.0
 
 abbrev flows' : tie.After-maximize-most → List ℤ
-flows' c = lent' c ++ drop ((start c).args.sizes.edges - 0) (start c).args.flows-1.now
+flows' c = lent' c ++ drop ((start c).args.sizes.edges - 0) (start c).args.flows.now
 
 abbrev inside' : tie.After-maximize-most → List ℕ
 inside' c = c.maximize-most.new.1.1.1.1.1.1.1.1.1.1.1.0
 
 found : (c : tie.After-maximize-most) {answer : Maximum} → c.maximize-most.result ≡ answer
     → Maximized (mapAt (start c)) (start c).args.sizes.outer (capacityAt (start c)) (start c).args.terminals.source (start c).args.terminals.sink
-    (start c).args.flows-1.now (flows' c) (inside' c) answer
+    (start c).args.flows.now (flows' c) (inside' c) answer
 found c same =
     let s = start c in
     let a = s.args in
@@ -147,7 +147,7 @@ none c =
 abbrev found_at : tie.After-words_for-words → tie.After-maximize-most
 found_at c = c.before.before
 
-words_in : (c : tie.After-words_for-words) → words_for (start (found_at c)).args.sizes.nodes ≤ length (start (found_at c)).args.set-1.now
+words_in : (c : tie.After-words_for-words) → words_for (start (found_at c)).args.sizes.nodes ≤ length (start (found_at c)).args.set.now
 words_in c = (room_flows _ _ _ _ (room (roomy (found_at c)))).1
 
 words-for-requires : tie.Need-words_for-words-requires
@@ -160,20 +160,20 @@ write-set-requires : tie.Need-write_set-requires
 write-set-requires c κs =
     let n = c in
     let s = start (found_at n.before.before) in
-    words_lent s.args.set-1.now n.words_for-words.ensures (words_in n.before.before) s.requires.opened.drawn.few_nodes
+    words_lent s.args.set.now n.words_for-words.ensures (words_in n.before.before) s.requires.opened.drawn.few_nodes
 
 abbrev counted : tie.After-write_set → tie.After-words_for-words
 counted c = c.before.before.before
 
 -- the slice with the words that were lent
 abbrev set' : tie.After-write_set → List ℕ
-set' c = c.write_set.new.words ++ drop ((counted c).words_for-words.result - 0) (start (found_at (counted c))).args.set-1.now
+set' c = c.write_set.new.words ++ drop ((counted c).words_for-words.result - 0) (start (found_at (counted c))).args.set.now
 
 written : (c : tie.After-write_set)
-    → Written (inside' (found_at (counted c))) (start (found_at (counted c))).args.sizes.nodes (start (found_at (counted c))).args.set-1.now (set' c)
+    → Written (inside' (found_at (counted c))) (start (found_at (counted c))).args.sizes.nodes (start (found_at (counted c))).args.set.now (set' c)
 written c =
     let n = counted c in
-    written_back (start (found_at n)).args.set-1.now n.words_for-words.ensures (words_in n) c.write_set.ensures
+    written_back (start (found_at n)).args.set.now n.words_for-words.ensures (words_in n) c.write_set.ensures
 
 returns-3 : tie.Need-returns-in-Value
 returns-3 c =

@@ -42,7 +42,7 @@ abbrev ends_at : tie.Start → List Check
 ends_at s = end_checks s.args.sizes.nodes s.args.demand.source s.args.demand.sink
 
 abbrev room_at : tie.Start → List Check
-room_at s = room_checks s.args.sizes.nodes s.args.sizes.edges (length s.args.flows-1.now) (length s.args.set-1.now)
+room_at s = room_checks s.args.sizes.nodes s.args.sizes.edges (length s.args.flows.now) (length s.args.set.now)
 
 abbrev checksAt : tie.Start → List Check
 checksAt s =
@@ -131,7 +131,7 @@ returns-3 c =
     )
 
 -- the flows of the edges are there to be lent
-flows_in : (c : tie.In_default-room) → (base (asked c)).args.sizes.edges ≤ length (base (asked c)).args.flows-1.now
+flows_in : (c : tie.In_default-room) → (base (asked c)).args.sizes.edges ≤ length (base (asked c)).args.flows.now
 flows_in c = (room_flows _ _ _ _ (room c)).0
 
 part-decide-end : tie.Need-slice_bounds-decide-end
@@ -165,14 +165,14 @@ abbrev lent' : tie.After-decide → List ℤ
 lent' c = c.decide.new.1.1.1.1.1.1.1.1.1.1.1.0
 
 abbrev flows' : tie.After-decide → List ℤ
-flows' c = lent' c ++ drop ((start c).args.sizes.edges - 0) (start c).args.flows-1.now
+flows' c = lent' c ++ drop ((start c).args.sizes.edges - 0) (start c).args.flows.now
 
 abbrev inside' : tie.After-decide → List ℕ
 inside' c = c.decide.new.1.1.1.1.1.1.1.1.1.1.1.1.0
 
 decided : (c : tie.After-decide) {answer : Bool} → c.decide.result ≡ answer
     → Decided (mapAt (start c)) (start c).args.sizes.outer (capacityAt (start c)) (start c).args.demand.source (start c).args.demand.sink
-    (start c).args.demand.value (start c).args.flows-1.now (flows' c) (inside' c) answer
+    (start c).args.demand.value (start c).args.flows.now (flows' c) (inside' c) answer
 decided c same =
     let s = start c in
     let a = s.args in
@@ -193,7 +193,7 @@ returns-4 c = let d = c in ((none d.before.before, decided d.before.before c.if-
 abbrev decision : tie.After-words_for-words → tie.After-decide
 decision c = c.before.before.before
 
-words_in : (c : tie.After-words_for-words) → words_for (start (decision c)).args.sizes.nodes ≤ length (start (decision c)).args.set-1.now
+words_in : (c : tie.After-words_for-words) → words_for (start (decision c)).args.sizes.nodes ≤ length (start (decision c)).args.set.now
 words_in c = (room_flows _ _ _ _ (room (roomy (decision c)))).1
 
 words-for-requires : tie.Need-words_for-words-requires
@@ -206,20 +206,20 @@ write-set-requires : tie.Need-write_set-requires
 write-set-requires c κs =
     let n = c in
     let s = start (decision n.before.before) in
-    words_lent s.args.set-1.now n.words_for-words.ensures (words_in n.before.before) s.requires.drawn.few_nodes
+    words_lent s.args.set.now n.words_for-words.ensures (words_in n.before.before) s.requires.drawn.few_nodes
 
 abbrev counted : tie.After-write_set → tie.After-words_for-words
 counted c = c.before.before.before
 
 -- the slice with the words that were lent
 abbrev set' : tie.After-write_set → List ℕ
-set' c = c.write_set.new.words ++ drop ((counted c).words_for-words.result - 0) (start (decision (counted c))).args.set-1.now
+set' c = c.write_set.new.words ++ drop ((counted c).words_for-words.result - 0) (start (decision (counted c))).args.set.now
 
 written : (c : tie.After-write_set)
-    → Written (inside' (decision (counted c))) (start (decision (counted c))).args.sizes.nodes (start (decision (counted c))).args.set-1.now (set' c)
+    → Written (inside' (decision (counted c))) (start (decision (counted c))).args.sizes.nodes (start (decision (counted c))).args.set.now (set' c)
 written c =
     let n = counted c in
-    written_back (start (decision n)).args.set-1.now n.words_for-words.ensures (words_in n) c.write_set.ensures
+    written_back (start (decision n)).args.set.now n.words_for-words.ensures (words_in n) c.write_set.ensures
 
 words-kept : (c : tie.After-write_set) → words_for (start (decision (counted c))).args.sizes.nodes ≤ length (set' c)
 words-kept c = omega (arith, words_in (counted c), (written c).length_kept)
@@ -241,7 +241,7 @@ size_is : (c : tie.After-count_set-size) → c.count_set-size.result ≡ size (t
 size_is c =
     let w = wrote c in
     let n = counted w in
-    c.count_set-size.ensures ∙ words_again (start (decision n)).args.set-1.now n.words_for-words.ensures (words_in n) w.write_set.ensures
+    c.count_set-size.ensures ∙ words_again (start (decision n)).args.set.now n.words_for-words.ensures (words_in n) w.write_set.ensures
 
 narrow-requires : tie.Need-narrow-requires
 narrow-requires c κs =
@@ -256,7 +256,7 @@ returns-5 c =
     let d = decision n in
     let s = start d in
     let a = s.args in
-    let left = n.if-decide.left in
+    let left = n.if-decide.false in
     let r = decided d left in
     let ends = two (ended (asked (roomy d))) in (
       (

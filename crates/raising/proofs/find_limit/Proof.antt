@@ -32,14 +32,14 @@ abbrev begun : tie.After-flows-1 → tie.Start
 begun c = c.before.before.before.before
 
 abbrev flows' : tie.After-flows-1 → List ℤ
-flows' c = c.decide_from.new.flows-1
+flows' c = c.decide_from.new.flows
 
 abbrev inside' : tie.After-flows-1 → List ℕ
 inside' c = c.decide_from.new.inside
 
 decided : (c : tie.After-flows-1) {r : Bool} → c.decide_from.result ≡ r
     → Decided (drawing (begun c)).map (begun c).args.sizes.outer (drawing (begun c)).capacity (begun c).args.demand.source (begun c).args.demand.sink
-    (begun c).args.demand.value (begun c).args.flows-1.now (flows' c) (inside' c) r
+    (begun c).args.demand.value (begun c).args.flows.now (flows' c) (inside' c) r
 decided c e =
     let s = begun c in
     let a = s.args in

@@ -73,14 +73,14 @@ abbrev begun : tie.After-flows-1 → tie.Start
 begun c = c.before.before.before.before
 
 abbrev between : tie.After-flows-1 → List ℤ
-between c = c.decide_from.new.flows-1
+between c = c.decide_from.new.flows
 
 abbrev first : tie.After-flows-1 → List ℕ
 first c = c.decide_from.new.inside
 
 decided : (c : tie.After-flows-1) {r : Bool} → c.decide_from.result ≡ r
     → Decided (drawing (begun c)).map (2 * (begun c).args.edge) (raised (drawing (begun c)).capacity (begun c).args.edge most_limit)
-    (begun c).args.demand.source (begun c).args.demand.sink (begun c).args.demand.value (begun c).args.flows-1.now (between c) (first c) r
+    (begun c).args.demand.source (begun c).args.demand.sink (begun c).args.demand.value (begun c).args.flows.now (between c) (first c) r
 decided c e =
     let s = begun c in
     let a = s.args in
@@ -114,7 +114,7 @@ small c =
 mul-limit : tie.Need-offset_bounds-flows-edge
 mul-limit c = omega (arith, dart_in (start c))
 
-sized : (c : tie.Then-decide_from) → length (between c.before) ≡ length (start c).args.flows-1.now
+sized : (c : tie.Then-decide_from) → length (between c.before) ≡ length (start c).args.flows.now
 sized c = filled_length _ _ _ _ (decided c.before c.if-decide_from.true).2 (omega (arith, (start c).requires.0.lent.exact))
 
 slice-copy-out-limit : tie.Need-slice_copy_out-limit
@@ -126,7 +126,7 @@ bits c = to_z w32 (of_z w32 (atℤ (between c.before) (start c).args.edge))
 bits_are : (c : tie.Then-decide_from) → bits c ≡ limit c
 bits_are c =
     ap (λ z. to_z w32 (of_z w32 z))
-    (filled_front (pos 0) (start c).args.sizes.edges (decided c.before c.if-decide_from.true).0 (start c).args.flows-1.now (between c.before)
+    (filled_front (pos 0) (start c).args.sizes.edges (decided c.before c.if-decide_from.true).0 (start c).args.flows.now (between c.before)
     (decided c.before c.if-decide_from.true).2 (start c).args.edge (start c).requires.0.edge_in)
     ∙ same_bits (omega arith) (small c)
 
@@ -181,7 +181,7 @@ returns c =
     let p = s.requires.0 in
     let d = decided t.before.before.before.before.before.before t.if-decide_from.true in
     let σ = p.lent.opened.drawn.plane.sound in
-    let flows' = e.decide_from-then-decide_from.new.flows-1 in
+    let flows' = e.decide_from-then-decide_from.new.flows in
     let inside' = e.decide_from-then-decide_from.new.inside in (
       e.decide_from-then-decide_from.ensures.0,
       sought_as (drawing s) a.demand.source a.demand.sink a.demand.value a.edge {old = a.flows-1.now} refl flows' inside'

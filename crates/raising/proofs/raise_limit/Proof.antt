@@ -42,7 +42,7 @@ abbrev ends_at : tie.Start → List Check
 ends_at s = end_checks s.args.sizes.nodes s.args.demand.source s.args.demand.sink
 
 abbrev room_at : tie.Start → List Check
-room_at s = room_checks s.args.sizes.nodes s.args.sizes.edges (length s.args.flows-1.now) (length s.args.set-1.now)
+room_at s = room_checks s.args.sizes.nodes s.args.sizes.edges (length s.args.flows.now) (length s.args.set.now)
 
 abbrev checksAt : tie.Start → List Check
 checksAt s =
@@ -165,7 +165,7 @@ edge-at c = edge_in _ _ (is_edge (asked c))
 present : (c : tie.In_default-room) → Limited 1000000 ((drawing (start c)).capacity (2 * (start c).args.edge))
 present c = (start c).requires.1.small _ (omega (arith, edge-at c))
 
-flows_in : (c : tie.In_default-room) → (start c).args.sizes.edges ≤ length (start c).args.flows-1.now
+flows_in : (c : tie.In_default-room) → (start c).args.sizes.edges ≤ length (start c).args.flows.now
 flows_in c = (room_flows _ _ _ _ (room c)).0
 
 part-find-limit-end : tie.Need-slice_bounds-find_limit-end
@@ -200,14 +200,14 @@ abbrev lent' : tie.After-find_limit-least → List ℤ
 lent' c = c.find_limit-least.new.1.1.1.1.1.1.1.1.1.1.1.0
 
 abbrev flows' : tie.After-find_limit-least → List ℤ
-flows' c = lent' c ++ drop ((start (known c)).args.sizes.edges - 0) (start (known c)).args.flows-1.now
+flows' c = lent' c ++ drop ((start (known c)).args.sizes.edges - 0) (start (known c)).args.flows.now
 
 abbrev inside' : tie.After-find_limit-least → List ℕ
 inside' c = c.find_limit-least.new.1.1.1.1.1.1.1.1.1.1.1.1.0
 
 sought : (c : tie.After-find_limit-least) {answer : Found} → c.find_limit-least.result ≡ answer
     → Sought (drawing (start (known c))) (start (known c)).args.demand.source (start (known c)).args.demand.sink (start (known c)).args.demand.value
-    (start (known c)).args.edge (start (known c)).args.flows-1.now (flows' c) (inside' c) answer
+    (start (known c)).args.edge (start (known c)).args.flows.now (flows' c) (inside' c) answer
 sought c same =
     let s = start (known c) in
     let a = s.args in
@@ -233,7 +233,7 @@ ending c = c.before.before.before.before
 abbrev home : tie.After-words_for-words → tie.In_default-room
 home c = known (ending c)
 
-words_in : (c : tie.After-words_for-words) → words_for (start (home c)).args.sizes.nodes ≤ length (start (home c)).args.set-1.now
+words_in : (c : tie.After-words_for-words) → words_for (start (home c)).args.sizes.nodes ≤ length (start (home c)).args.set.now
 words_in c = (room_flows _ _ _ _ (room (home c))).1
 
 words-for-requires : tie.Need-words_for-words-requires
@@ -246,7 +246,7 @@ write-set-requires : tie.Need-write_set-requires
 write-set-requires c κs =
     let n = c in
     let s = start (home n.before.before) in
-    words_lent s.args.set-1.now n.words_for-words.ensures (words_in n.before.before) s.requires.1.opened.drawn.few_nodes
+    words_lent s.args.set.now n.words_for-words.ensures (words_in n.before.before) s.requires.1.opened.drawn.few_nodes
 
 returns-6 : tie.Need-returns
 returns-6 c =

@@ -53,10 +53,10 @@ abbrev ends_at : tie.Start → List Check
 ends_at s = end_checks s.args.sizes.nodes s.args.terminals.source s.args.terminals.sink
 
 abbrev lowerAt : tie.Start → List Check
-lowerAt s = room_checks s.args.sizes.nodes s.args.sizes.edges (length s.args.low-1.now) (length s.args.below-1.now)
+lowerAt s = room_checks s.args.sizes.nodes s.args.sizes.edges (length s.args.low.now) (length s.args.below.now)
 
 abbrev upperAt : tie.Start → List Check
-upperAt s = room_checks s.args.sizes.nodes s.args.sizes.edges (length s.args.high-1.now) (length s.args.above-1.now)
+upperAt s = room_checks s.args.sizes.nodes s.args.sizes.edges (length s.args.high.now) (length s.args.above.now)
 
 abbrev checksAt : tie.Start → List Check
 checksAt s =
@@ -112,16 +112,16 @@ none c =
     (ends_two c) (lower (half c)) (upper c)
 
 -- ── what is there to be lent ──
-low_in : (c : tie.After-words_for-words) → (start c).args.sizes.edges ≤ length (start c).args.low-1.now
+low_in : (c : tie.After-words_for-words) → (start c).args.sizes.edges ≤ length (start c).args.low.now
 low_in c = (room_flows _ _ _ _ (lower (half c))).0
 
-below_in : (c : tie.After-words_for-words) → words_for (start c).args.sizes.nodes ≤ length (start c).args.below-1.now
+below_in : (c : tie.After-words_for-words) → words_for (start c).args.sizes.nodes ≤ length (start c).args.below.now
 below_in c = (room_flows _ _ _ _ (lower (half c))).1
 
-high-in : (c : tie.After-words_for-words) → (start c).args.sizes.edges ≤ length (start c).args.high-1.now
+high-in : (c : tie.After-words_for-words) → (start c).args.sizes.edges ≤ length (start c).args.high.now
 high-in c = (room_flows _ _ _ _ (upper c)).0
 
-above_in : (c : tie.After-words_for-words) → words_for (start c).args.sizes.nodes ≤ length (start c).args.above-1.now
+above_in : (c : tie.After-words_for-words) → words_for (start c).args.sizes.nodes ≤ length (start c).args.above.now
 above_in c = (room_flows _ _ _ _ (upper c)).1
 
 -- ── the needs, in the order of the code ──
@@ -203,14 +203,14 @@ abbrev lentHigh' : tie.After-maximize_from-most → List ℤ
 lentHigh' c = c.maximize_from-most.last.1.1.1.1.1.1.1.1.1.1.0
 
 abbrev high' : tie.After-maximize_from-most → List ℤ
-high' c = lentHigh' c ++ drop ((start (passed c)).args.sizes.edges - 0) (start (passed c)).args.high-1.now
+high' c = lentHigh' c ++ drop ((start (passed c)).args.sizes.edges - 0) (start (passed c)).args.high.now
 
 abbrev inside' : tie.After-maximize_from-most → List ℕ
 inside' c = c.maximize_from-most.last.1.1.1.1.1.1.1.1.1.1.1.1.0
 
 there-lent : (c : tie.After-maximize_from-most) {answer : Maximum} → c.maximize_from-most.result ≡ answer
     → Maximized (mapAt (start (passed c))) (start (passed c)).args.sizes.outer (capacityAt (start (passed c))) (start (passed c)).args.terminals.source
-    (start (passed c)).args.terminals.sink (take ((start (passed c)).args.sizes.edges - 0) (start (passed c)).args.high-1.now) (lentHigh' c)
+    (start (passed c)).args.terminals.sink (take ((start (passed c)).args.sizes.edges - 0) (start (passed c)).args.high.now) (lentHigh' c)
     (inside' c) answer
 there-lent c same =
     let s = start (passed c) in
@@ -220,7 +220,7 @@ there-lent c same =
 
 there : (c : tie.After-maximize_from-most) {answer : Maximum} → c.maximize_from-most.result ≡ answer
     → Maximized (mapAt (start (passed c))) (start (passed c)).args.sizes.outer (capacityAt (start (passed c))) (start (passed c)).args.terminals.source
-    (start (passed c)).args.terminals.sink (start (passed c)).args.high-1.now (high' c) (inside' c) answer
+    (start (passed c)).args.terminals.sink (start (passed c)).args.high.now (high' c) (inside' c) answer
 there c same =
     let s = start (passed c) in
     let a = s.args in
@@ -233,7 +233,7 @@ part-write-set-end c = let m = passed c.before.before in omega (arith, m.words_f
 write-set-requires : tie.Need-write_set-requires
 write-set-requires c κs =
     let m = passed c.before.before.before in
-    words_lent (start m).args.above-1.now m.words_for-words.ensures (above_in m) (start m).requires.opened.drawn.few_nodes
+    words_lent (start m).args.above.now m.words_for-words.ensures (above_in m) (start m).requires.opened.drawn.few_nodes
 
 abbrev found : tie.After-write_set → tie.After-maximize_from-most
 found c = c.before.before.before.before
@@ -242,10 +242,10 @@ abbrev origin : tie.After-write_set → tie.After-words_for-words
 origin c = passed (found c)
 
 abbrev above' : tie.After-write_set → List ℕ
-above' c = c.write_set.last.1.1.0 ++ drop ((origin c).words_for-words.result - 0) (start (origin c)).args.above-1.now
+above' c = c.write_set.last.1.1.0 ++ drop ((origin c).words_for-words.result - 0) (start (origin c)).args.above.now
 
-above-written : (c : tie.After-write_set) → Written (inside' (found c)) (start (origin c)).args.sizes.nodes (start (origin c)).args.above-1.now (above' c)
-above-written c = let m = origin c in written_back (start m).args.above-1.now m.words_for-words.ensures (above_in m) c.write_set.ensures
+above-written : (c : tie.After-write_set) → Written (inside' (found c)) (start (origin c)).args.sizes.nodes (start (origin c)).args.above.now (above' c)
+above-written c = let m = origin c in written_back (start m).args.above.now m.words_for-words.ensures (above_in m) c.write_set.ensures
 
 -- ── nothing can be carried ──
 abbrev written : tie.In_default-most → tie.After-write_set
@@ -257,7 +257,7 @@ part-write-set-end-2 c = let m = origin (written c.before) in omega (arith, m.wo
 write-set-requires-2 : tie.Need-write_set-requires-in_default-most
 write-set-requires-2 c κs =
     let m = origin (written c.before.before) in
-    words_lent (start m).args.below-1.now m.words_for-words.ensures (below_in m) (start m).requires.opened.drawn.few_nodes
+    words_lent (start m).args.below.now m.words_for-words.ensures (below_in m) (start m).requires.opened.drawn.few_nodes
 
 returns-4 : tie.Need-returns-in_default-most
 returns-4 c =
@@ -290,7 +290,7 @@ given c = c.before.before.before.before.before
 value_there : (c : tie.In-Value)
     → Maximized (mapAt (start (origin (given c)))) (start (origin (given c))).args.sizes.outer (capacityAt (start (origin (given c))))
     (start (origin (given c))).args.terminals.source (start (origin (given c))).args.terminals.sink
-    (start (origin (given c))).args.high-1.now (high' (found (given c))) (inside' (found (given c))) (Value c.most-1.given.0.0)
+    (start (origin (given c))).args.high.now (high' (found (given c))) (inside' (found (given c))) (Value c.most-1.given.0.0)
 value_there c = there (found (given c)) c.most-1.given.1
 
 negate-requires : tie.Need-negate-requires
@@ -303,7 +303,7 @@ negate-requires c κs =
 high-kept : (c : tie.In-Value) → (start (origin (given c))).args.sizes.edges ≤ length (high' (found (given c)))
 high-kept c =
     let o = origin (given c) in
-    omega (arith, filled_length _ _ (start o).args.high-1.now _ (value_there c).0.2 (high-in o), high-in o)
+    omega (arith, filled_length _ _ (start o).args.high.now _ (value_there c).0.2 (high-in o), high-in o)
 
 part-maximize-on-end : tie.Need-slice_bounds-maximize_on-end
 part-maximize-on-end c = high-kept c.before
@@ -351,7 +351,7 @@ abbrev lentLow' : tie.After-maximize_on-back → List ℤ
 lentLow' c = c.maximize_on-back.last.1.1.1.1.1.1.1.1.1.1.1.0
 
 abbrev low' : tie.After-maximize_on-back → List ℤ
-low' c = lentLow' c ++ drop ((start (origin (first c))).args.sizes.edges - 0) (start (origin (first c))).args.low-1.now
+low' c = lentLow' c ++ drop ((start (origin (first c))).args.sizes.edges - 0) (start (origin (first c))).args.low.now
 
 abbrev inside2' : tie.After-maximize_on-back → List ℕ
 inside2' c = c.maximize_on-back.last.1.1.1.1.1.1.1.1.1.1.1.1.1.0
@@ -359,7 +359,7 @@ inside2' c = c.maximize_on-back.last.1.1.1.1.1.1.1.1.1.1.1.1.1.0
 back : (c : tie.After-maximize_on-back) {answer : Maximum} → c.maximize_on-back.result ≡ answer
     → Maximized (mapAt (start (origin (first c)))) (start (origin (first c))).args.sizes.outer (capacityAt (start (origin (first c))))
     (start (origin (first c))).args.terminals.sink (start (origin (first c))).args.terminals.source
-    (start (origin (first c))).args.low-1.now (low' c) (inside2' c) answer
+    (start (origin (first c))).args.low.now (low' c) (inside2' c) answer
 back c same =
     let s = start (origin (first c)) in
     let a = s.args in
@@ -372,7 +372,7 @@ part-write-set-end-3 c = let m = origin (first c.before.before) in omega (arith,
 write-set-requires-3 : tie.Need-write_set-requires-2
 write-set-requires-3 c κs =
     let m = origin (first c.before.before.before) in
-    words_lent (start m).args.below-1.now m.words_for-words.ensures (below_in m) (start m).requires.opened.drawn.few_nodes
+    words_lent (start m).args.below.now m.words_for-words.ensures (below_in m) (start m).requires.opened.drawn.few_nodes
 
 -- the set of the least value written
 abbrev returned : tie.After-write_set-2 → tie.After-maximize_on-back
@@ -382,10 +382,10 @@ abbrev home : tie.After-write_set-2 → tie.After-words_for-words
 home c = origin (first (returned c))
 
 abbrev below' : tie.After-write_set-2 → List ℕ
-below' c = c.write_set-2.last.1.1.0 ++ drop ((home c).words_for-words.result - 0) (start (home c)).args.below-1.now
+below' c = c.write_set-2.last.1.1.0 ++ drop ((home c).words_for-words.result - 0) (start (home c)).args.below.now
 
-below-written : (c : tie.After-write_set-2) → Written (inside2' (returned c)) (start (home c)).args.sizes.nodes (start (home c)).args.below-1.now (below' c)
-below-written c = let m = home c in written_back (start m).args.below-1.now m.words_for-words.ensures (below_in m) c.write_set-2.ensures
+below-written : (c : tie.After-write_set-2) → Written (inside2' (returned c)) (start (home c)).args.sizes.nodes (start (home c)).args.below.now (below' c)
+below-written c = let m = home c in written_back (start m).args.below.now m.words_for-words.ensures (below_in m) c.write_set-2.ensures
 
 abbrev least : tie.In-Value-back → tie.After-write_set-2
 least c = c.before.before.before.before.before
@@ -393,7 +393,7 @@ least c = c.before.before.before.before.before
 value-back : (c : tie.In-Value-back)
     → Maximized (mapAt (start (home (least c)))) (start (home (least c))).args.sizes.outer (capacityAt (start (home (least c))))
     (start (home (least c))).args.terminals.sink (start (home (least c))).args.terminals.source
-    (start (home (least c))).args.low-1.now (low' (returned (least c))) (inside2' (returned (least c))) (Value c.back-1.given.0.0)
+    (start (home (least c))).args.low.now (low' (returned (least c))) (inside2' (returned (least c))) (Value c.back-1.given.0.0)
 value-back c = back (returned (least c)) c.back-1.given.1
 
 negate-requires-2 : tie.Need-negate-requires-in-Value-back
@@ -445,10 +445,10 @@ returns-6 c =
     _ r.1 r.2 _ h.0.0 h.0.1.carries)
 
 -- the slice of the way there is as long as it was
-high-length : (c : tie.After-write_set) → length (high' (found c)) ≡ length (start (origin c)).args.high-1.now
+high-length : (c : tie.After-write_set) → length (high' (found c)) ≡ length (start (origin c)).args.high.now
 high-length c =
     let s = start (origin c) in
-    length_front s.args.high-1.now (lentHigh' (found c)) (s.args.sizes.edges - 0) c.high-1.given.0
+    length_front s.args.high.now (lentHigh' (found c)) (s.args.sizes.edges - 0) c.high-1.given.0
 
 same-length-6 : tie.Need-shape_of-high-in-Value-back
 same-length-6 c = high-length (first (returned (least c.before)))

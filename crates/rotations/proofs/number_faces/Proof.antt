@@ -169,11 +169,11 @@ loop-again c =
       e.0,
       e.1,
       length-set o.starts o.f last.result ∙ i.2,
-      mark (few s) s.requires.4 i.3 (next-in t) b.if-lefts-d.taken marked,
+      mark (few s) s.requires.4 i.3 (next-in t) b.if-lefts-d.true marked,
       grouping_on i.4 (face b) marked e.3 begins starts-kept,
       e.4,
-      rounding_on i.6 (next-in t) (is-lowest (few s) s.requires.4 i.3 (next-in t) b.if-lefts-d.taken)
-          (number_is (few s) s.requires.4 i.3 (next-in t) b.if-lefts-d.taken) e.5 e.3.kept begins starts-kept i.4.low_is,
+      rounding_on i.6 (next-in t) (is-lowest (few s) s.requires.4 i.3 (next-in t) b.if-lefts-d.true)
+          (number_is (few s) s.requires.4 i.3 (next-in t) b.if-lefts-d.true) e.5 e.3.kept begins starts-kept i.4.low_is,
     )
 
 -- ── the dart has a number already ──

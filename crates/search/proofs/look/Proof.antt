@@ -124,7 +124,7 @@ push-requires c κs =
     )
 
 loop-less : tie.Need-loop-j-smaller-then-relax invariant-loop decreases-loop
-loop-less c = omega (arith, (dart c.before.before.before.before).loop-j-test.taken)
+loop-less c = omega (arith, (dart c.before.before.before.before).loop-j-test.true)
 
 loop-again : tie.Need-loop-j-preserved-then-relax invariant-loop decreases-loop
 loop-again c =
@@ -138,7 +138,7 @@ loop-again c =
 
 -- ── it could not ──
 loop-less-2 : tie.Need-loop-j-smaller invariant-loop decreases-loop
-loop-less-2 c = omega (arith, (dart c.before).loop-j-test.taken)
+loop-less-2 c = omega (arith, (dart c.before).loop-j-test.true)
 
 loop-again-2 : tie.Need-loop-j-preserved invariant-loop decreases-loop
 loop-again-2 c =

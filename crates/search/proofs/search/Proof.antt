@@ -112,7 +112,7 @@ begun c = base (round c)
 
 abbrev now : At-loop → Configuration
 now c =
-    configuration (tables_of c.loop-left.potentials c.loop-left.parents c.loop-left.waiting c.loop-left.queue c.loop-left.last) c.loop-left.first c.loop-left.left
+    configuration (tables_of c.loop-left.potentials c.loop-left.parents c.loop-left.waiting c.loop-left.queue c.loop-left.last) c.loop-left.first c.loop-left.false
 
 passing : (c : At-loop) → PassingAt (dual (givenAt (begun c)) (rootsAt (begun c))) (now c)
 passing c = let s = begun c in goes_passing (givenAt s) (rootsAt s) s.requires.0 s.requires.2 (here-passing (round c)) c.loop-left.invariant.0

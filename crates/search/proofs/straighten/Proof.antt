@@ -54,7 +54,7 @@ returns c =
     let u = t in
     let n = turn u.before.before.before.before.before.before.before.before in
     let i = n.loop-f.invariant in
-    (_, pass_ring i n.loop-f-test.taken (u.ascend-risen.ensures i.marks i.matched) r.0 r.1 c.wide.result c.wide.ensures)
+    (_, pass_ring i n.loop-f-test.true (u.ascend-risen.ensures i.marks i.matched) r.0 r.1 c.wide.result c.wide.ensures)
 
 -- ── it has not come round ──
 descend-requires : tie.Need-descend-end-requires invariant-loop decreases-loop
@@ -64,7 +64,7 @@ descend-requires c κs =
     let u = o in
     let n = turn u.before.before.before.before.before.before.before.before.before.before in
     let i = n.loop-f.invariant in
-    pass_down i n.loop-f-test.taken (u.ascend-risen.ensures i.marks i.matched) (t.is_round.ensures.1 t.if-is_round.false)
+    pass_down i n.loop-f-test.true (u.ascend-risen.ensures i.marks i.matched) (t.is_round.ensures.1 t.if-is_round.false)
 
 loop-again : tie.Need-loop-f-preserved invariant-loop decreases-loop
 loop-again c =
@@ -75,8 +75,8 @@ loop-again c =
     ⊎_elim
     (λ d.
     rw (d.11, d.12, d.13, d.14, d.15, d.16)
-    (let q = d.10.ensures in pass_next i n.loop-f-test.taken a (d.3.ensures.1 d.4.left) q.1 q.0))
-    (λ d. rw (d.1, d.2, d.3, d.4, d.5, d.6) (pass_none i n.loop-f-test.taken a (omega (arith, d.0.left))))
+    (let q = d.10.ensures in pass_next i n.loop-f-test.true a (d.3.ensures.1 d.4.left) q.1 q.0))
+    (λ d. rw (d.1, d.2, d.3, d.4, d.5, d.6) (pass_none i n.loop-f-test.true a (omega (arith, d.0.left))))
     c.if-risen-gt0.branch
 
 returns-2 : tie.Need-returns invariant-loop decreases-loop
@@ -97,6 +97,6 @@ straighten_spec =
     returns
     descend-requires
     (λ c. record { fits = omega (arith, f-small (turn c)) })
-    (λ c. omega (arith, (turn c).loop-f-test.taken))
+    (λ c. omega (arith, (turn c).loop-f-test.true))
     loop-again
     returns-2)

@@ -84,11 +84,11 @@ returns-2 c =
 passed : (c : tie.In_default)
     → NoneOf (map_checks (held (within c.before.before).before).map)
     × ((d : ℕ) → d < darts (held (within c.before.before).before).map
-    → at c.check_map-checked.new.lefts-1 d ≡ left (held (within c.before.before).before).map d)
+    → at c.check_map-checked.new.lefts d ≡ left (held (within c.before.before).before).map d)
     × (c.check_map-checked.result.faces ≡ faces (held (within c.before.before).before).map)
 passed c =
     let m = c in
-    map_passed (held (within m.before.before).before) (at m.check_map-checked.new.lefts-1) m.check_map-checked.result.faces c.enum_told-1.given.1
+    map_passed (held (within m.before.before).before) (at m.check_map-checked.new.lefts) m.check_map-checked.result.faces c.enum_told-1.given.1
     m.check_map-checked.ensures.5
 
 fit : (c : tie.In_default) → Fit (held (within c.before.before).before)
@@ -111,7 +111,7 @@ returns-3 c =
     let b = (within t.before.before.before.before.before.before.before.before.before.before.before.before.before.before.before) in
     let s = begun b.before in
     let q = number_of_bits _ s.fits.value in
-    let from = w.wide-n.ensures in
+    let from = w.wide.ensures in
     let to = w.wide-2.ensures in (
       answered (held b.before) (given b.before) (same b.before) (fit t.before.before.before.before.before.before.before.before.before.before.before.before.before) from to q _ _ _ _ k.solve.result k.solve.ensures.0,
       named_answered (held b.before) (given b.before) (same b.before) from to q _ k.solve.result k.solve.ensures.1,

@@ -30,7 +30,7 @@ loop-again c =
 returns : tie.Need-returns invariant-loop decreases-loop
 returns c =
     let o = c.loop-d in
-    let old = c.args.to-1.now in
+    let old = c.args.to.now in
     let all : o.d ≡ length old = omega (arith, o.invariant.2) in
     o.invariant.3 ∙ filled_all _ _ old all
 

@@ -106,13 +106,13 @@ returns-5 c =
     let e = a.1.edges_are in
     let all : 2 * (net t).sizes-1.edges ≡ _ = ap (λ m. 2 * m) e in (
       read_whole (sheet t.before) _ _ _ a.0
-          (omega (arith, e, r.if-tails-darts.left)) (omega (arith, e, r.if-rotations-darts.left)) (omega (arith, e, r.if-capacities-darts.left)),
+          (omega (arith, e, r.if-tails-darts.false)) (omega (arith, e, r.if-rotations-darts.false)) (omega (arith, e, r.if-capacities-darts.false)),
       c.narrow.ensures ∙ a.1.nodes_are,
       c.narrow-2.ensures ∙ e,
       c.narrow-3.ensures ∙ a.1.outer_is,
-      part_copied _ _ _ _ _ _ r.if-tails-darts.left all a.1.tails_are tails.copy_darts.ensures,
-      part_copied _ _ _ _ _ _ r.if-rotations-darts.left all a.1.rotations_are rotations.copy_darts-2.ensures,
-      part_copied _ _ _ _ _ _ r.if-capacities-darts.left all a.1.capacities_are k.copy_capacities.ensures,
+      part_copied _ _ _ _ _ _ r.if-tails-darts.false all a.1.tails_are tails.copy_darts.ensures,
+      part_copied _ _ _ _ _ _ r.if-rotations-darts.false all a.1.rotations_are rotations.copy_darts-2.ensures,
+      part_copied _ _ _ _ _ _ r.if-capacities-darts.false all a.1.capacities_are k.copy_capacities.ensures,
     )
 
 pub read_spec : {M : Type 1} → statement M

@@ -29,8 +29,8 @@ uneven : (s : tie.Start)
     → (length s.args.rotations.now ≢ length s.args.tails.now)
     ⊎ ((length s.args.capacities.now ≢ length s.args.tails.now) ⊎ (length s.args.tails.now % 2 ≢ 0))
     → FirstOf (write_checks s.args.nodes s.args.outer s.args.tails.now s.args.rotations.now s.args.capacities.now
-    s.args.out-1.now) 16 0
-uneven s = write_uneven s.args.nodes s.args.outer s.args.tails.now s.args.rotations.now s.args.capacities.now s.args.out-1.now
+    s.args.out.now) 16 0
+uneven s = write_uneven s.args.nodes s.args.outer s.args.tails.now s.args.rotations.now s.args.capacities.now s.args.out.now
 
 abbrev begun : tie.Else-length-ne0 → tie.Start
 begun c = c.before.before.before.before.before.before
@@ -78,15 +78,15 @@ roomy c = c.before.before.before
 abbrev start : tie.After-write_head → tie.Start
 start c = base (told (roomy c))
 
-head-length : (c : tie.After-write_head) → length c.write_head.new.out-1 ≡ length (start c).args.out-1.now
+head-length : (c : tie.After-write_head) → length c.write_head.new.out ≡ length (start c).args.out.now
 head-length c =
     let a = (start c).args in
     head_kept a.nodes c.narrow.result a.outer a.out-1.now _ c.write_head.ensures (omega (arith, long (roomy c)))
 
-headed : (c : tie.After-write_head) → c.write_head.new.out-1 ≡ encode_head (drawn (start c)) ++ drop (record_length 4) (start c).args.out-1.now
+headed : (c : tie.After-write_head) → c.write_head.new.out ≡ encode_head (drawn (start c)) ++ drop (record_length 4) (start c).args.out.now
 headed c =
     let n = c.narrow in
-    head_written (drawn (start c)) (start c).args.out-1.now _ n.result n.ensures c.write_head.ensures
+    head_written (drawn (start c)) (start c).args.out.now _ n.result n.ensures c.write_head.ensures
 
 -- ── the needs, in the order of the code ──
 returns : tie.Need-returns-then-rotations-length
@@ -107,7 +107,7 @@ returns-4 c =
     let e = even j.before.before.before in
     let a = (begun e).args in (
       write_refused a.nodes a.outer a.tails.now a.rotations.now a.capacities.now a.out-1.now
-          (same-rotations e) (same-capacities e) e.if-length-ne0.left _ _ (judged j.before.before.before (Refused _ _) c.drawing-1.given.1),
+          (same-rotations e) (same-capacities e) e.if-length-ne0.false _ _ (judged j.before.before.before (Refused _ _) c.drawing-1.given.1),
       refl,
     )
 
@@ -120,7 +120,7 @@ returns-5 c =
     let e = sliced t.before.before.before in
     let a = (begun e).args in (
       write_short a.nodes a.outer a.tails.now a.rotations.now a.capacities.now a.out-1.now
-          (same-rotations e) (same-capacities e) e.if-length-ne0.left (passed t.before.before.before) (omega (arith, end c.before)),
+          (same-rotations e) (same-capacities e) e.if-length-ne0.false (passed t.before.before.before) (omega (arith, end c.before)),
       refl,
     )
 
@@ -135,7 +135,7 @@ write-edges-requires c κs =
     let h = c in
     let t = told (roomy h.before.before.before) in
     let e = sliced t in
-    (same-rotations e, same-capacities e, omega (arith, e.if-length-ne0.left, few t), omega (arith, long (roomy h.before.before.before), head-length h.before.before.before))
+    (same-rotations e, same-capacities e, omega (arith, e.if-length-ne0.false, few t), omega (arith, long (roomy h.before.before.before), head-length h.before.before.before))
 
 returns-6 : tie.Need-returns
 returns-6 c =
@@ -147,7 +147,7 @@ returns-6 c =
     let a = s.args in
     let n = long (roomy h.before.before.before.before.before.before) in (
       write_whole a.nodes a.outer a.tails.now a.rotations.now a.capacities.now a.out-1.now
-          (same-rotations e) (same-capacities e) e.if-length-ne0.left (passed t) (omega (arith, n)),
+          (same-rotations e) (same-capacities e) e.if-length-ne0.false (passed t) (omega (arith, n)),
       n,
       w.write_edges.ensures a.nodes a.outer a.out-1.now (headed h.before.before.before.before.before.before) ∙ ap (λ k. encode (drawn s) ++ drop k a.out-1.now) (sym n),
     )

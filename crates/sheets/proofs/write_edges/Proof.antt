@@ -52,7 +52,7 @@ record_of nodes outer c = encode_edge (drawn nodes outer (begun c)) (turn c).loo
 
 -- its record stands where the call was told; the nodes and the outer dart play no part in it
 put-there : (c : tie.After-write_edge invariant-loop decreases-loop) (nodes outer : ℕ)
-    → c.write_edge.new.out-1 ≡ put (located c.before).edge_at-place.result (record_of nodes outer c.before) (turn c.before).loop-e.out-1
+    → c.write_edge.new.out ≡ put (located c.before).edge_at-place.result (record_of nodes outer c.before) (turn c.before).loop-e.out
 unfolding encode_edge
 put-there c nodes outer =
     let a = c in
@@ -68,13 +68,13 @@ place : (c : tie.After-edge_at-place invariant-loop decreases-loop) → c.edge_a
 place c = let o = c in c.edge_at-place.ensures ∙ ap (λ n. edge_after n o.loop-e.e) o.record_length-head.ensures.0
 
 written : (c : tie.After-write_edge invariant-loop decreases-loop) (nodes outer : ℕ)
-    → c.write_edge.new.out-1 ≡ put (encode_length (turn c.before).loop-e.e) (record_of nodes outer c.before) (turn c.before).loop-e.out-1
+    → c.write_edge.new.out ≡ put (encode_length (turn c.before).loop-e.e) (record_of nodes outer c.before) (turn c.before).loop-e.out
 written c nodes outer =
     let a = c in
-    put-there c nodes outer ∙ ap (λ n. put n (record_of nodes outer a.before) (turn a.before).loop-e.out-1) (place (located a.before))
+    put-there c nodes outer ∙ ap (λ n. put n (record_of nodes outer a.before) (turn a.before).loop-e.out) (place (located a.before))
 
 -- so the length is kept
-kept : (c : tie.After-write_edge invariant-loop decreases-loop) → length c.write_edge.new.out-1 ≡ length (turn c.before).loop-e.out-1
+kept : (c : tie.After-write_edge invariant-loop decreases-loop) → length c.write_edge.new.out ≡ length (turn c.before).loop-e.out
 kept c =
     let a = c in
     placed_length (placed_first {bs = record_of 0 0 a.before} (written c 0 0) (edge_length (drawn 0 0 (begun a.before)) (turn a.before).loop-e.e))
@@ -94,7 +94,7 @@ loop-again c =
     let o = (turn a.before.before.before).loop-e in (
       omega arith,
       kept w.before.before ∙ o.invariant.1,
-      λ nodes outer old e. write_step (drawn nodes outer (begun a.before.before.before)) old o.e o.out-1 _ (o.invariant.2 nodes outer old e) (written w.before.before nodes outer),
+      λ nodes outer old e. write_step (drawn nodes outer (begun a.before.before.before)) old o.e o.out _ (o.invariant.2 nodes outer old e) (written w.before.before nodes outer),
     )
 
 returns : tie.Need-returns invariant-loop decreases-loop

@@ -107,7 +107,7 @@ returns c =
       l.cut_apart.ensures.1,
       decided_apart (mapAt s) s.args.sizes.outer (atℤ s.args.capacities.now) s.args.demand.source s.args.demand.sink
           s.args.demand.value (atℤ (row l.before))
-          s.args.flows-1.now (flags l.before) c.if-cut_apart.true (measured l.before),
+          s.args.flows.now (flags l.before) c.if-cut_apart.true (measured l.before),
       s.requires.2,
       λ e. named-apart l.before c.if-cut_apart.true,
     )
@@ -173,7 +173,7 @@ cut-of-ring-requires c κs =
       f.cut_apart.ensures.1,
       treed_of p.0.opened.drawn.plane.sound p.0.opened.walked.forest,
       ringed (begun f).args.lefts.now p.0.opened.drawn p.0.ends (row f) (known (joined s)) q.0 q.1 q.2
-          _ w.wide-y.ensures (searched_ring _ _ _ _ _ _ _ o.outcome-1.given.1 s.settle_all-outcome.ensures.1.3).2,
+          _ w.wide-y.ensures (searched_ring _ _ _ _ _ _ _ o.outcome.given.1 s.settle_all-outcome.ensures.1.3).2,
     )
 
 -- the set made from the ring
@@ -193,7 +193,7 @@ named-ring c inside' made =
     let ok = searchable s.args.lefts.now p.0.opened.drawn p.0.ends (row f) (known j) q.0 q.1 q.2 in
     named_of s.args.lefts.now s.args.order.now s.args.from.now s.args.grouped.now s.args.starts.now
     p.0.opened.drawn p.0.opened.walked (started f).dart_at-start.ensures (finished f).dart_at-finish.ensures
-    s.args.parents.now (row f) false (measured_other (measured-how f false j.if-cut_apart.left))
+    s.args.parents.now (row f) false (measured_other (measured-how f false j.if-cut_apart.false))
     (record {
       queue = q.0;
       size = q.1;
@@ -204,8 +204,8 @@ named-ring c inside' made =
       potentials = q.5.0;
       parents = _;
       closing = _;
-      closing_in = (searched_ring _ _ _ _ _ _ _ o.outcome-1.given.1 q.3).1;
-      searched = searches_known o.outcome-1.given.1 q.5.1;
+      closing_in = (searched_ring _ _ _ _ _ _ _ o.outcome.given.1 q.3).1;
+      searched = searches_known o.outcome.given.1 q.5.1;
       made = rw (← c.wide-y.ensures) made;
     })
 
@@ -220,7 +220,7 @@ returns-2 c =
     let inside' = c.cut_of_ring.new.inside in (
       e.0,
       decided_cannot (begun f).args.lefts.now p.0.opened.drawn p.0.ends (row f) (known (joined s)) q.0 q.1 q.2
-          _ _ inside' (searched_ring _ _ _ _ _ _ _ o.outcome-1.given.1 s.settle_all-outcome.ensures.1.3).0 e.1,
+          _ _ inside' (searched_ring _ _ _ _ _ _ _ o.outcome.given.1 s.settle_all-outcome.ensures.1.3).0 e.1,
       s.settle_all-outcome.ensures.0,
       λ z. named-ring c.before.before.before inside' e.2,
     )

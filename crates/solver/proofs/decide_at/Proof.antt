@@ -81,7 +81,7 @@ returns c =
       l.cut_apart.ensures.1,
       decided_apart (mapAt s) s.args.sizes.outer (atℤ s.args.capacities.now) s.args.demand.source s.args.demand.sink
           s.args.demand.value (atℤ (row l.before))
-          s.args.flows-1.now (flags l.before) c.if-cut_apart.true (measured l.before),
+          s.args.flows.now (flags l.before) c.if-cut_apart.true (measured l.before),
     )
 
 known : (c : tie.Else-cut_apart)
@@ -149,7 +149,7 @@ cut-of-ring-requires c κs =
       f.cut_apart.ensures.1,
       p.0.treed,
       ringed b.args.lefts.now p.0.drawn p.0.ends (row f) (known (joined s)) b.args.queue.now p.2 p.0.roots
-          _ w.wide-y.ensures (searched_ring _ _ _ _ _ _ _ o.outcome-1.given.1 s.settle-outcome.ensures.1).2,
+          _ w.wide-y.ensures (searched_ring _ _ _ _ _ _ _ o.outcome.given.1 s.settle-outcome.ensures.1).2,
     )
 
 returns-2 : tie.Need-returns-in-Ring
@@ -164,7 +164,7 @@ returns-2 c =
       k.0,
       decided_cannot b.args.lefts.now p.0.drawn p.0.ends (row f) (known (joined s)) b.args.queue.now p.2 p.0.roots
           _ _ c.cut_of_ring.new.inside
-          (searched_ring _ _ _ _ _ _ _ o.outcome-1.given.1 s.settle-outcome.ensures.1).0 k.1,
+          (searched_ring _ _ _ _ _ _ _ o.outcome.given.1 s.settle-outcome.ensures.1).0 k.1,
     )
 
 -- ── settled ──

@@ -33,15 +33,15 @@ without c =
     ap decimal (size c.before) ∙ sym (number_not_below s.args.x b)
 
 fits : (c : tie.Then-x-lt0)
-    → c.args.at + 1 + length (decimal c.magnitude-size.result) ≤ length c.args.text-1.now
+    → c.args.at + 1 + length (decimal c.magnitude-size.result) ≤ length c.args.text.now
 fits c = omega (arith, ap length (with-minus c), c.requires)
 
 written : (c : tie.After-put_decimal)
-    → let a = c.args in c.put_decimal.new.text-1 ≡ put a.at (number a.x) a.text-1.now
+    → let a = c.args in c.put_decimal.new.text ≡ put a.at (number a.x) a.text-1.now
 written c =
     let t = c in
     let a = t.args in
-    let behind : c.put_decimal.new.text-1 ≡ put (a.at + 1) (decimal t.magnitude-size.result) (set a.text-1.now a.at 45) =
+    let behind : c.put_decimal.new.text ≡ put (a.at + 1) (decimal t.magnitude-size.result) (set a.text-1.now a.at 45) =
     c.put_decimal.ensures.0 in
     behind
     ∙ put_behind a.at 45 (decimal t.magnitude-size.result) a.text-1.now (fits t.before.before)
@@ -59,7 +59,7 @@ put-decimal-requires-2 c κs = omega (arith, ap length (without c.before), c.req
 same_length : tie.Need-shape_of-text-then-x-lt0
 same_length c =
     let s = c in
-    ap length (written c.before.before) ∙ put_length s.args.at (number s.args.x) s.args.text-1.now s.requires
+    ap length (written c.before.before) ∙ put_length s.args.at (number s.args.x) s.args.text.now s.requires
 
 returns : tie.Need-returns-then-x-lt0
 returns c =

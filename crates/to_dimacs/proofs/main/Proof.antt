@@ -21,7 +21,7 @@ full-there : (buffer : List ℕ) (r : Input) (k n : ℕ) → Filled buffer r →
 full-there buffer r k n filled e p = omega (arith, subst (Filled buffer) e filled)
 
 -- where the two ways meet, by which the count came
-there : (c : tie.Joined-read_input) → c.in-Ended.n-1 ≤ length c.read_input.new.buffer-1
+there : (c : tie.Joined-read_input) → c.in-Ended.n-1 ≤ length c.read_input.new.buffer
 there c =
     let filled = c.read_input.ensures in
     ⊎_elim (λ w. ended-there _ _ _ _ filled w.1.given.1 w.3) (λ w. full-there _ _ _ _ filled w.1.given.1 w.3) c.in-Ended.branch

@@ -83,10 +83,10 @@ plus-wide-requires : tie.Need-plus_wide-total-requires invariant-loop decreases-
 plus-wide-requires c κs =
     let t = turn c in
     let p = (begun t).requires in
-    sum_fits _ _ _ _ t.loop-next.invariant.1 p.0.few_edges p.0.small t.loop-next-test.taken p.0.few_nodes (in-set c) (sum_is c)
+    sum_fits _ _ _ _ t.loop-next.invariant.1 p.0.few_edges p.0.small t.loop-next-test.true p.0.few_nodes (in-set c) (sum_is c)
 
 mul-sum : tie.Need-offset_bounds-subtotals-place invariant-loop decreases-loop
-mul-sum c = let t = turn c.before in omega (arith, place_few _ _ _ _ t.loop-next.invariant.1, t.loop-next-test.taken, (begun t).requires.0.few_nodes)
+mul-sum c = let t = turn c.before in omega (arith, place_few _ _ _ _ t.loop-next.invariant.1, t.loop-next-test.true, (begun t).requires.0.few_nodes)
 
 slice-set-from-sum : tie.Need-bounds-subtotals-place invariant-loop decreases-loop
 slice-set-from-sum c =
@@ -96,24 +96,24 @@ slice-set-from-sum c =
     let p = (begun t).requires in
     omega (
       arith,
-      place_in _ _ _ _ φ (in-set k.before) t.loop-next-test.taken (omega (arith, p.2)),
+      place_in _ _ _ _ φ (in-set k.before) t.loop-next-test.true (omega (arith, p.2)),
       same_long _ _ _ _ φ t.loop-next.invariant.0
           (omega (arith, p.2)),
     )
 
 add-place : tie.Need-overflow_add-place invariant-loop decreases-loop
-add-place c = let t = turn c.before in omega (arith, place_few _ _ _ _ t.loop-next.invariant.1, t.loop-next-test.taken, (begun t).requires.0.few_nodes)
+add-place c = let t = turn c.before in omega (arith, place_few _ _ _ _ t.loop-next.invariant.1, t.loop-next-test.true, (begun t).requires.0.few_nodes)
 
 loop-less : tie.Need-loop-next-smaller-then-contains invariant-loop decreases-loop
-loop-less c = omega (arith, (turn c.before).loop-next-test.taken)
+loop-less c = omega (arith, (turn c.before).loop-next-test.true)
 
 loop-again : tie.Need-loop-next-preserved-then-contains invariant-loop decreases-loop
 loop-again c =
     let k = c in
     let t = turn k.before in
     let p = (begun t).requires in (
-      omega (arith, t.loop-next-test.taken),
-      fill_put _ _ _ _ t.loop-next.invariant.1 (in-set k.before) t.loop-next-test.taken (omega (arith, p.2)) (sum_is k.before)
+      omega (arith, t.loop-next-test.true),
+      fill_put _ _ _ _ t.loop-next.invariant.1 (in-set k.before) t.loop-next-test.true (omega (arith, p.2)) (sum_is k.before)
           (to_z-of_z w64 _ (record { sfits = c.plus_wide-total.type_inv }) ∙ c.plus_wide-total.ensures) refl,
     )
 

@@ -61,9 +61,9 @@ drawn c = let a = (begun c).args in map_of a.nodes a.edges a.tails.now a.rotatio
 
 -- what is added is what the dart adds
 share-is : (c : tie.After-share invariant-loop decreases-loop)
-    → to_z w32 (of_z w32 c.share-first.result)
+    → to_z w32 (of_z w32 c.share.result)
     ≡ outward (drawn c.before) (atℤ (begun c.before).args.capacities.now) (member (begun c.before).args.set.now) c.loop-d.d
-share-is c = number_of_bits _ (record { sfits = c.share-first.type_inv }) ∙ c.share-first.ensures
+share-is c = number_of_bits _ (record { sfits = c.share.type_inv }) ∙ c.share.ensures
 
 plus-requires : tie.Need-plus-sum-requires invariant-loop decreases-loop
 plus-requires c κs =

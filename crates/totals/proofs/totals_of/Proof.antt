@@ -67,7 +67,7 @@ returns-2 c =
 abbrev begun : tie.Else-subtotals-members → tie.Start
 begun c = (asked c.before).before.before.before
 
-room : (c : tie.Else-subtotals-members) → count (begun c).args.nodes (member (begun c).args.set.now) ≤ length (begun c).args.subtotals-1.now
+room : (c : tie.Else-subtotals-members) → count (begun c).args.nodes (member (begun c).args.set.now) ≤ length (begun c).args.subtotals.now
 room c = omega (arith, members-are c.before, c.if-subtotals-members.false)
 
 mul-fill-starts : tie.Need-overflow_mul-edges
@@ -90,7 +90,7 @@ fill-subtotals-requires c κs =
     let k = e in (
       record { few_nodes = p.0; few_edges = p.1; sound = p.2; small = p.3; exact = words_lent (asked k.before.before.before.before.before) },
       f.fill_starts.ensures.1,
-      part_length k.count_members-members.result s.args.subtotals-1.now e.if-subtotals-members.false ∙ k.count_members-members.ensures,
+      part_length k.count_members-members.result s.args.subtotals.now e.if-subtotals-members.false ∙ k.count_members-members.ensures,
     )
 
 abbrev passed : tie.After-fill_subtotals-total → tie.Else-subtotals-members

@@ -111,7 +111,7 @@ loop-holds c =
       e.0,
       e.1,
       p.10 _ _ _ e.2,
-      rounding_start p.11 p.6 e.2 p.9 (ap (at owner) (sym is-v) ∙ f.if-owner-v-ne0.left)
+      rounding_start p.11 p.6 e.2 p.9 (ap (at owner) (sym is-v) ∙ f.if-owner-v-ne0.false)
           (ap (at (set owner v n.result)) (sym is-v) ∙ get_or-set_same owner v n.result 0 (omega (arith, p.2, node_below w)) ∙ n.ensures)
           (λ u h. get_or-set_other owner v u n.result 0 (λ q. h (q ∙ is-v))),
       t.wide-next.ensures,
@@ -171,7 +171,7 @@ returns-3 c =
       i.1,
       owner-long l,
       (λ h. absurd (h refl)),
-      λ z. rounding_astray i.3 i.4 (λ e. c.if-wide-v.true (c.wide-v.ensures ∙ e ∙ sym (before-loop l).wide-v.ensures)),
+      λ z. rounding_astray i.3 i.4 (λ e. c.if-wide-v.true (c.wide.ensures ∙ e ∙ sym (before-loop l).wide-v.ensures)),
     )
 
 -- the dart is new, and leaves the node
@@ -204,7 +204,7 @@ loop-less c =
     let a = c in
     let f = fresh (joined a.before.before.before) in
     let l = at-loop f in
-    omega (arith, added_grew a.add-listed-in-loop-next.ensures.2 f.if-from-next.left, room l.loop-next.invariant.2 l.loop-next.next (next_below l) f.if-from-next.left)
+    omega (arith, added_grew a.add-listed-in-loop-next.ensures.2 f.if-from-next.false, room l.loop-next.invariant.2 l.loop-next.next (next_below l) f.if-from-next.false)
 
 loop-again : tie.Need-loop-next-preserved invariant-loop decreases-loop
 loop-again c =
@@ -215,19 +215,19 @@ loop-again c =
     let i = l.loop-next.invariant in
     let q = a.add-listed-in-loop-next.ensures in
     let w = before-loop l in
-    let longer = added_grew q.2 f.if-from-next.left in
-    let leave = sym j.wide-v.ensures ∙ j.if-wide-v.left ∙ w.wide-v.ensures in (
+    let longer = added_grew q.2 f.if-from-next.false in
+    let leave = sym j.wide.ensures ∙ j.if-wide-v.false ∙ w.wide-v.ensures in (
       q.0,
       q.1,
       growing_added i.2 (next_below l) q.2 (omega (arith, i.5.1)) (sym i.5.2)
           (inr (i.4 ∙ ap (at (start l).args.rotations.now) (sym i.5.2))),
-      rounding_on i.3 q.2 f.if-from-next.left i.4 (next_below l) leave,
+      rounding_on i.3 q.2 f.if-from-next.false i.4 (next_below l) leave,
       c.wide-next-in-loop-next.ensures,
       (l.loop-next.listed, omega (arith, q.2.by_one), (q.2.new (omega arith)).0),
       omega (arith, i.6),
       (λ k m. q.2.kept k (omega (arith, i.6)) ∙ i.7 k m),
       (λ y h. stay q.2 y (i.8 y h)),
-      first_come_added q.2 i.2.marked i.9 (comes_turned q.2 f.if-from-next.left i.5.1 i.5.2 i.4),
+      first_come_added q.2 i.2.marked i.9 (comes_turned q.2 f.if-from-next.false i.5.1 i.5.2 i.4),
     )
 
 -- the dart listed last leads back to the first

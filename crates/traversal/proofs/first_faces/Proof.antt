@@ -106,11 +106,11 @@ loop-again c =
     let o = t.loop-count in
     let a = (begun t.before).args in
     let face = at a.lefts.now d.wide-d.result in (
-      length-set o.roots-1 o.count face ∙ o.invariant.0,
+      length-set o.roots o.count face ∙ o.invariant.0,
       (λ 𝓕. rooting_written 𝓕.planted (o.invariant.1 𝓕) (place_in t) 𝓕.apart (own b.before.before.before)
-          (get_or-set_same o.roots-1 o.count face 0 (omega (arith, room b.before.before.before, few t, o.invariant.0)) ∙ ap (at a.lefts.now) d.wide-d.ensures)
-          (λ u h. get_or-set_other o.roots-1 o.count u face 0 h)),
-      λ u h. get_or-set_other o.roots-1 o.count u face 0 (λ e. omega (arith, e, h)) ∙ o.invariant.2 u (omega (arith, h)),
+          (get_or-set_same o.roots o.count face 0 (omega (arith, room b.before.before.before, few t, o.invariant.0)) ∙ ap (at a.lefts.now) d.wide-d.ensures)
+          (λ u h. get_or-set_other o.roots o.count u face 0 h)),
+      λ u h. get_or-set_other o.roots o.count u face 0 (λ e. omega (arith, e, h)) ∙ o.invariant.2 u (omega (arith, h)),
     )
 
 loop-less-2 : tie.Need-loop-count-smaller invariant-loop decreases-loop

@@ -68,7 +68,7 @@ turn c = c.before.before.before.before.before.before
 node_below : (c : tie.After-wide-v invariant-loop decreases-loop invariant-loop2 decreases-loop2) → c.wide-v.result < 1024
 node_below c =
     let t = turn c in
-    omega (arith, c.wide-v.ensures, (begun t.before).requires.2 t.loop-next.next t.loop-next-test.taken)
+    omega (arith, c.wide-v.ensures, (begun t.before).requires.2 t.loop-next.next t.loop-next-test.true)
 
 element-write-inside-2 : tie.Need-bounds-inside-v-then-from-d invariant-loop decreases-loop invariant-loop2 decreases-loop2
 element-write-inside-2 c = omega (arith, node_below c.before, (turn c.before).loop-next.invariant.1)
@@ -82,7 +82,7 @@ loop2-again c =
     let o = t.loop-next in
     let v = c.wide-v.result in
     let is-v = c.wide-v.ensures in (
-      omega (arith, t.loop-next-test.taken),
+      omega (arith, t.loop-next-test.true),
       length-set o.inside v 1 ∙ o.invariant.1,
       flags_set o.invariant.2 c.if-from-d.true
           (ap (at (set o.inside v 1)) (sym is-v) ∙ get_or-set_same o.inside v 1 0 (omega (arith, node_below c.before, o.invariant.1)))

@@ -109,7 +109,7 @@ add-requires-3 c κs =
       λ z. omega (
         arith,
         p.2,
-        room_between o.invariant.2 w.loop-head-test.taken (sym w.wide-p.ensures) (sym t.wide-t.ensures) (turn_below t) q.2
+        room_between o.invariant.2 w.loop-head-test.true (sym w.wide-p.ensures) (sym t.wide-t.ensures) (turn_below t) q.2
             v.reverse-back.result (back_below v.before.before) z,
       ),
     )
@@ -120,12 +120,12 @@ reversed c = c.before.before.before
 add-head : tie.Need-overflow_add-head invariant-loop decreases-loop
 add-head c =
     let w = (turned (reversed c).before) in
-    omega (arith, few (at-loop w.before.before.before).loop-head.invariant.2, (begun (at-loop w.before.before.before)).requires.2, w.loop-head-test.taken)
+    omega (arith, few (at-loop w.before.before.before).loop-head.invariant.2, (begun (at-loop w.before.before.before)).requires.2, w.loop-head-test.true)
 
 loop-less : tie.Need-loop-head-smaller invariant-loop decreases-loop
 loop-less c =
     let w = (turned (reversed c).before) in
-    omega (arith, few (at-loop w.before.before.before).loop-head.invariant.2, (begun (at-loop w.before.before.before)).requires.2, w.loop-head-test.taken)
+    omega (arith, few (at-loop w.before.before.before).loop-head.invariant.2, (begun (at-loop w.before.before.before)).requires.2, w.loop-head-test.true)
 
 loop-again : tie.Need-loop-head-preserved invariant-loop decreases-loop
 loop-again c =
@@ -137,7 +137,7 @@ loop-again c =
     let r = c.add-end-in-loop-head-2.ensures in (
       r.0,
       r.1,
-      growing_on o.invariant.2 w.loop-head-test.taken (sym w.wide-p.ensures) (sym t.wide-t.ensures) (sym v.reverse-back.ensures.0)
+      growing_on o.invariant.2 w.loop-head-test.true (sym w.wide-p.ensures) (sym t.wide-t.ensures) (sym v.reverse-back.ensures.0)
           (turn_below t) (back_below v) q.2 r.2,
       marks_stay q.2 r.2 _ o.invariant.3,
       λ y h. marks_stay q.2 r.2 y (o.invariant.4 y h),

@@ -94,7 +94,7 @@ back_below c =
 add-head : tie.Need-overflow_add-head invariant-loop decreases-loop
 add-head c =
     let i = in-loop c.before in
-    omega (arith, few (grown i), (begun i.before).requires.3, i.loop-head-test.taken)
+    omega (arith, few (grown i), (begun i.before).requires.3, i.loop-head-test.true)
 
 mul-if1 : tie.Need-offset_bounds-from-back invariant-loop decreases-loop
 mul-if1 c = omega (arith, back_below c, (begun (in-loop c.before).before).requires.3)
@@ -125,11 +125,11 @@ add-round-requires-2 c κs =
       omega (arith, dart-below w.before, p.3),
       omega (arith, room (grown i) v.reverse-back.result (back_below v) z, p.3),
       z,
-      (λ o f e a. growing_added (grown i) (back_below v) a i.loop-head-test.taken w.wide-p.ensures (inl (v.reverse-back.ensures.0 ∙ ap rev w.wide-p.ensures))),
+      (λ o f e a. growing_added (grown i) (back_below v) a i.loop-head-test.true w.wide-p.ensures (inl (v.reverse-back.ensures.0 ∙ ap rev w.wide-p.ensures))),
       old.1,
       old.5,
       old.0.marked,
-      comes_crossed old.0 (back_in p.4) old.6 i.loop-head-test.taken (v.reverse-back.ensures.0 ∙ ap rev w.wide-p.ensures) w.wide-p.ensures z,
+      comes_crossed old.0 (back_in p.4) old.6 i.loop-head-test.true (v.reverse-back.ensures.0 ∙ ap rev w.wide-p.ensures) w.wide-p.ensures z,
     )
 
 abbrev then : tie.After-add_round-end-then-from-back invariant-loop decreases-loop → tie.Then-from-back invariant-loop decreases-loop
@@ -138,7 +138,7 @@ then c = c.before.before.before.before
 loop-less : tie.Need-loop-head-smaller-then-from-back invariant-loop decreases-loop
 loop-less c =
     let i = in-loop (reversed (then c)).before in
-    omega (arith, few (grown i), i.loop-head-test.taken)
+    omega (arith, few (grown i), i.loop-head-test.true)
 
 loop-again : tie.Need-loop-head-preserved-then-from-back invariant-loop decreases-loop
 loop-again c =
@@ -154,8 +154,8 @@ loop-again c =
       (λ h.
           let g = q.3 h in
           let front = l.loop-head.head in
-          let m : front < c.add_round-end-then-from-back.result = omega (arith, i.loop-head-test.taken, g.4) in
-          let same = g.3 front i.loop-head-test.taken in
+          let m : front < c.add_round-end-then-from-back.result = omega (arith, i.loop-head-test.true, g.4) in
+          let same = g.3 front i.loop-head-test.true in
           let at_front = v.reverse-back.ensures.0 ∙ ap rev (w.wide-p.ensures ∙ sym same) in (
             growing_turned g.0 g.1 m at_front g.2,
             g.1,
@@ -171,7 +171,7 @@ loop-again c =
 loop-less-2 : tie.Need-loop-head-smaller invariant-loop decreases-loop
 loop-less-2 c =
     let i = in-loop c.before.before.before.before in
-    omega (arith, few (grown i), i.loop-head-test.taken)
+    omega (arith, few (grown i), i.loop-head-test.true)
 
 loop-again-2 : tie.Need-loop-head-preserved invariant-loop decreases-loop
 loop-again-2 c =
@@ -180,7 +180,7 @@ loop-again-2 c =
     let i = in-loop w.before.before.before.before in
     let l = i in
     let old = l.loop-head.invariant.3 (going i) in
-    let m = i.loop-head-test.taken in
+    let m = i.loop-head-test.true in
     let at_front = v.reverse-back.ensures.0 ∙ ap rev w.wide-p.ensures in (
       l.loop-head.invariant.0,
       l.loop-head.invariant.1,

@@ -88,7 +88,7 @@ loop-again c =
     let e = c.grow-end-then-from-d.ensures in (
       e.0,
       e.1,
-      omega (arith, t.loop-next-test.taken),
+      omega (arith, t.loop-next-test.true),
       omega arith,
       e.2,
       below_more _ o.next (λ y l. e.4 y (o.invariant.5 y l)) e.3,

@@ -107,7 +107,7 @@ turn c = c.before.before.before.before.before.before.before.before
 add-trees : tie.Need-overflow_add-trees invariant-loop decreases-loop
 add-trees c =
     let t = turn c in
-    omega (arith, trees_few t.loop-end.invariant.4, t.loop-end-test.taken, (begun t.before).requires.3)
+    omega (arith, trees_few t.loop-end.invariant.4, t.loop-end-test.true, (begun t.before).requires.3)
 
 loop-less : tie.Need-loop-end-smaller-then-from-d invariant-loop decreases-loop
 loop-less c = omega (arith, dart-below (turn c))
