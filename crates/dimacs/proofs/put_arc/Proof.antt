@@ -98,16 +98,12 @@ pub put_arc_spec : {M : Type 1} → statement M
 put_arc_spec =
     tie.close
     (tie.spec
-    (λ c. search rules)
     put-bytes-requires
     (λ c κs. search rules)
-    (λ c. search rules)
     put-field-requires
     (λ c κs. search rules)
-    (λ c. search rules)
     put-field-requires-2
     (λ c κs. search rules)
-    (λ c. search rules)
     put-field-requires-3
     (λ c. search rules)
     returns)

@@ -61,13 +61,10 @@ pub put_problem_spec : {M : Type 1} → statement M
 put_problem_spec =
     tie.close
     (tie.spec
-    (λ c. search rules)
     put-bytes-requires
     (λ c κs. search rules)
-    (λ c. search rules)
     put-field-requires
     (λ c κs. search rules)
-    (λ c. search rules)
     put-field-requires-2
     (λ c. search rules)
     returns)

@@ -106,9 +106,7 @@ put_text_spec =
     (tie.spec
     (λ c. search rules)
     put-problem-requires
-    (λ c. search rules)
     put-node-requires
-    (λ c. search rules)
     put-node-requires-2
     (λ c. search rules)
     put-arcs-requires

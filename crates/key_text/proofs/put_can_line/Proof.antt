@@ -66,10 +66,8 @@ pub put_can_line_spec : {M : Type 1} → statement M
 put_can_line_spec =
     tie.close
     (tie.spec
-    (λ c. search rules)
     put-bytes-requires
     put-number-requires
-    (λ c. search rules)
     put-bytes-requires-2
     (λ c. search rules)
     returns)

@@ -113,14 +113,11 @@ pub put_cannot_line_spec : {M : Type 1} → statement M
 put_cannot_line_spec =
     tie.close
     (tie.spec
-    (λ c. search rules)
     put-bytes-requires
     put-number-requires
-    (λ c. search rules)
     put-bytes-requires-2
     (λ c κs. search rules)
     put-decimal-requires
-    (λ c. search rules)
     put-bytes-requires-3
     (λ c. search rules)
     returns)

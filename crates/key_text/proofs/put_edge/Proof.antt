@@ -93,10 +93,8 @@ put_edge_spec =
     (tie.spec
     (λ c κs. search rules)
     put-decimal-requires
-    (λ c. search rules)
     put-bytes-requires
     put-number-requires
-    (λ c. search rules)
     put-bytes-requires-2
     (λ c. search rules)
     returns)

@@ -68,11 +68,9 @@ pub put_refused_spec : {M : Type 1} → statement M
 put_refused_spec =
     tie.close
     (tie.spec
-    (λ c. search rules)
     put-bytes-requires
     (λ c κs. search rules)
     put-decimal-requires
-    (λ c. search rules)
     put-bytes-requires-2
     (λ c. search rules)
     returns)
