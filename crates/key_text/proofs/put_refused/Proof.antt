@@ -33,7 +33,7 @@ abbrev worded : tie.After-put_decimal-end → tie.After-put_bytes-at
 worded c = said c.before
 
 numbered : (c : tie.After-put_decimal-end)
-    → Placed (worded c).put_bytes-at.result (decimal (begin (worded c)).args.k) (worded c).put_bytes-at.new.0
+    → Placed (worded c).put_bytes-at.result (decimal (begin (worded c)).args.k) (worded c).put_bytes-at.new.text
     c.put_decimal-end.new.text c.put_decimal-end.result
 numbered c = placed_as decimal _ _ _ _ c.byte.ensures.0 c.put_decimal-end.ensures
 
