@@ -1,7 +1,7 @@
 // Standard input and output of the programs: bytes read into a buffer until it is full or the input ends, and a text written whole.
 #![tactic(auto)]
 
-ghost use Rattle.std.specs.Prelude.{OnOk};
+ghost use Rattle.std.specs.Prelude.{◌≤◌, OnOk, length};
 ghost use Rattle.std.specs.Io.KnownBytes.{Appends};
 ghost use Rattle.streams.specs.inner.Input.{Filled, Gave};
 
@@ -71,4 +71,37 @@ pub fn write_text<W: Write>(writer: &mut W, text: &[u8]) -> io::Result<()>
         }
     }
     Ok(())
+}
+
+// How many bytes the words for an error take in its text: std puts the system's number behind them.
+fn words_length(text: &[u8]) -> usize
+    ensures { result ≤ length text.now }
+{
+    for (at, part) in text.windows(11).enumerate() {
+        if part == b" (os error ".as_slice() {
+            return at;
+        }
+    }
+    text.len()
+}
+
+// The words for an error, put at the start of a buffer that is longer than every text of one: how many bytes.
+fn put_words(buffer: &mut [u8; 320], error: Error) -> usize
+    ensures { result ≤ 320 }
+{
+    let mut rest: &mut [u8] = &mut *buffer;
+    let _written = write!(rest, "{error}");
+    let left = rest.len();
+    let n = buffer.len().saturating_sub(left);
+    words_length(&buffer[..n])
+}
+
+// Writes a line where errors are told: what failed, as the caller names it, a colon and the words for the error. A write that fails there has nowhere to be told.
+pub fn tell<W: Write>(writer: &mut W, what: &[u8], error: Error) {
+    let mut words = [0u8; 320];
+    let n = put_words(&mut words, error);
+    let _what = write_text(writer, what);
+    let _colon = write_text(writer, b": ");
+    let _words = write_text(writer, &words[..n]);
+    let _end = write_text(writer, b"\n");
 }
