@@ -5,8 +5,8 @@ ghost use Rattle.std.specs.Prelude.{◌≤◌, OnOk, length};
 ghost use Rattle.std.specs.Io.KnownBytes.{Appends};
 ghost use Rattle.streams.specs.inner.Input.{Filled, Gave};
 
-use std::io;
 use std::io::{Error, ErrorKind, Read, Write};
+use std::{io, str};
 
 // The input ended after so many bytes, or filled the buffer; or a read failed with this error.
 #[derive(Clone, Copy)]
@@ -96,12 +96,10 @@ fn put_words(buffer: &mut [u8; 320], error: Error) -> usize
     words_length(&buffer[..n])
 }
 
-// Writes a line where errors are told: what failed, as the caller names it, a colon and the words for the error. A write that fails there has nowhere to be told.
-pub fn tell<W: Write>(writer: &mut W, what: &[u8], error: Error) {
+// Writes a line to standard error: what failed, as the caller names it, a colon and the words for the error. A write that fails there has nowhere to be told.
+pub fn tell<R: Eprint>(rt: &R, what: &str, error: Error) {
     let mut words = [0u8; 320];
     let n = put_words(&mut words, error);
-    let _what = write_text(writer, what);
-    let _colon = write_text(writer, b": ");
-    let _words = write_text(writer, &words[..n]);
-    let _end = write_text(writer, b"\n");
+    let text = str::from_utf8(&words[..n]).unwrap_or("");
+    let _told = eprintln!(rt; "{what}: {text}");
 }
