@@ -4,7 +4,7 @@
 // Where there is none, standard output stays empty and standard error has one line, and the exit status is zero all the same.
 #![tactic(auto)]
 
-ghost use Rattle.std.specs.Prelude.{◌≤◌, length};
+ghost use Rattle.std.specs.Prelude.{◌≡◌, ◌≤◌, length, take};
 
 use practice::PracticeAnswer;
 use std::env::FillError;
@@ -96,7 +96,8 @@ fn refused<R: Eprint>(rt: &R, k: u8) {
 
 // The sheet that the first three arguments ask for: how many bytes, or 0 where there is none.
 fn make<R: Env + Eprint>(rt: &R, out: &mut [u8]) -> usize
-    ensures { IsPrefixLen result out.new }
+    ensures within { result ≤ length out.new }
+    ensures front { result ≡ length (take result out.new) }
 {
     let rows = number(rt, 1);
     let columns = number(rt, 2);
