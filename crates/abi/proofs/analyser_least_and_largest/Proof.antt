@@ -15,26 +15,26 @@ abbrev start : tie.After-least_and_largest-answer → tie.Start
 start c = c.before.before.before.before.before.before.before.before
 
 abbrev low' : tie.After-least_and_largest-answer → List ℤ
-low' c = c.least_and_largest-answer.last.1.1.1.0
+low' c = c.least_and_largest-answer.new.low
 
 abbrev below' : tie.After-least_and_largest-answer → List ℕ
-below' c = c.least_and_largest-answer.last.1.1.1.1.0
+below' c = c.least_and_largest-answer.new.below
 
 abbrev high' : tie.After-least_and_largest-answer → List ℤ
-high' c = c.least_and_largest-answer.last.1.1.1.1.1.0
+high' c = c.least_and_largest-answer.new.high
 
 abbrev above' : tie.After-least_and_largest-answer → List ℕ
-above' c = c.least_and_largest-answer.last.1.1.1.1.1.1.0
+above' c = c.least_and_largest-answer.new.above
 
 found : (c : tie.After-least_and_largest-answer) (answer : RangeAnswer) → c.least_and_largest-answer.result ≡ answer
-    → FindsRange (start c).args.sheet.now (start c).args.source (start c).args.sink (start c).args.low-1.now (low' c)
-    (start c).args.below-1.now (below' c) (start c).args.high-1.now (high' c) (start c).args.above-1.now (above' c) answer
+    → FindsRange (start c).args.sheet.now (start c).args.source (start c).args.sink (start c).args.low.now (low' c)
+    (start c).args.below.now (below' c) (start c).args.high.now (high' c) (start c).args.above.now (above' c) answer
 found c answer e = rw e at c.least_and_largest-answer.ensures
 
 returns : tie.Need-returns-in-Values
 returns c = (
   Values _ _,
-  found c.before.before.before.before.before.before.before.before.before (Values _ _) c.before.answer-1.given.1,
+  found c.before.before.before.before.before.before.before (Values _ _) c.in-Values.is,
   (
     refl,
     refl,
@@ -45,12 +45,12 @@ returns c = (
 )
 
 returns-2 : tie.Need-returns-in-None
-returns-2 c = (None, found c.before.before.before.before.before.before.before.before None c.enum_told-1.given.1, (refl, refl, refl, refl, refl))
+returns-2 c = (None, found c.before.before.before.before.before.before.before None c.in-None.is, (refl, refl, refl, refl, refl))
 
 returns-3 : tie.Need-returns-in-Refused
 returns-3 c = (
   Refused _ _,
-  found c.before.before.before.before.before.before.before.before.before (Refused _ _) c.before.answer-in-Refused-1.given.1,
+  found c.before.before.before.before.before.before.before (Refused _ _) c.in-Refused.is,
   (refl, refl, refl, refl, refl),
 )
 

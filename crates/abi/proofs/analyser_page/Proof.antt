@@ -16,20 +16,20 @@ abbrev begun : tie.After-page_of-page → tie.Start
 begun c = c.before.before.before.before.before.before
 
 abbrev flows' : tie.After-page_of-page → List ℤ
-flows' c = c.page_of-page.new.1.1.0
+flows' c = c.page_of-page.new.flows
 
 abbrev sets' : tie.After-page_of-page → List ℕ
-sets' c = c.page_of-page.new.1.1.1.0
+sets' c = c.page_of-page.new.sets
 
 -- what `page_of` ensures of the list is said of the questions in the arrays
 listed : (c : tie.After-page_of-page) → AnswersPage (begun c).args.sheet.now (begun c).args.count
-    (question_in (begun c).args.sources.now (begun c).args.sinks.now (begun c).args.values.now) (begun c).args.flows-1.now (flows' c)
-    (begun c).args.sets-1.now (sets' c) c.page_of-page.result
+    (question_in (begun c).args.sources.now (begun c).args.sinks.now (begun c).args.values.now) (begun c).args.flows.now (flows' c)
+    (begun c).args.sets.now (sets' c) c.page_of-page.result
 listed c =
     page_listed (begun c).args.sheet.now (begun c).args.count
     (question_in (begun c).args.sources.now (begun c).args.sinks.now (begun c).args.values.now)
-    c.before.before.before.list_from-list.result c.before.before.before.list_from-list.ensures (begun c).args.flows-1.now (flows' c)
-    (begun c).args.sets-1.now (sets' c) c.page_of-page.result c.page_of-page.ensures.0
+    c.list_from-list.result c.list_from-list.ensures (begun c).args.flows.now (flows' c)
+    (begun c).args.sets.now (sets' c) c.page_of-page.result c.page_of-page.ensures.0
 
 -- and its sets are those that the search names
 named : (c : tie.After-page_of-page) → PageNamed (begun c).args.sheet.now (begun c).args.count
@@ -37,32 +37,32 @@ named : (c : tie.After-page_of-page) → PageNamed (begun c).args.sheet.now (beg
 named c =
     page_named_listed (begun c).args.sheet.now (begun c).args.count
     (question_in (begun c).args.sources.now (begun c).args.sinks.now (begun c).args.values.now)
-    c.before.before.before.list_from-list.result c.before.before.before.list_from-list.ensures (begun c).args.flows-1.now (flows' c)
-    (begun c).args.sets-1.now (sets' c) c.page_of-page.result c.page_of-page.ensures.0 c.page_of-page.ensures.1
+    c.list_from-list.result c.list_from-list.ensures (begun c).args.flows.now (flows' c)
+    (begun c).args.sets.now (sets' c) c.page_of-page.result c.page_of-page.ensures.0 c.page_of-page.ensures.1
 
 returns : tie.Need-returns-in-Refused
 returns c =
-    let k = c.before.before.before.before.before.before in
-    (k.page_of-page.result, listed k, named k, told_refused (begun k).args.count k.page_of-page.result _ _ c.before.verdict-1.given.1 _ _ _)
+    let k = c in
+    (k.page_of-page.result, listed k.before.before.before.before, named k.before.before.before.before, told_refused (begun k.before.before.before.before).args.count k.page_of-page.result _ _ c.in-Refused.is _ _ _)
 
 tell-numbers-requires : tie.Need-tell_numbers-requires
 tell-numbers-requires c κs =
-    let k = c.before.before.before.before.before.before in
-    (page_few _ _ _ _ _ _ _ k.page_of-page.result (listed k) c.before.enum_told-1.given.1, omega (arith, c.tell_numbers-arg-1.given.0.1))
+    let k = c in
+    (page_few _ _ _ _ _ _ _ k.page_of-page.result (listed k.before.before.before.before.before) c.in_default.is, omega (arith, c.tell_numbers-arg-1.given.0.1))
 
 tell-sizes-requires : tie.Need-tell_sizes-requires
 tell-sizes-requires c κs =
-    let k = c.before.before.before.before.before.before.before.before in
-    (page_few _ _ _ _ _ _ _ k.page_of-page.result (listed k) c.before.before.before.enum_told-1.given.1, omega (arith, c.tell_sizes-arg-1.given.0.1))
+    let k = c in
+    (page_few _ _ _ _ _ _ _ k.page_of-page.result (listed k.before.before.before.before.before.before.before) c.in_default.is, omega (arith, c.tell_sizes-arg-1.given.0.1))
 
 returns-2 : tie.Need-returns
 returns-2 c =
-    let k = c.before.before.before.before.before.before.before.before.before in (
+    let k = c in (
       k.page_of-page.result,
-      listed k,
-      named k,
-      told_passed _ _ _ _ _ _ _ k.page_of-page.result (listed k) c.before.before.before.before.enum_told-1.given.1 _ _ _ _ _
-          c.before.before.tell_numbers.ensures c.tell_sizes.ensures,
+      listed k.before.before.before.before.before.before.before.before,
+      named k.before.before.before.before.before.before.before.before,
+      told_passed _ _ _ _ _ _ _ k.page_of-page.result (listed k.before.before.before.before.before.before.before.before) c.in_default.is _ _ _ _ _
+          c.tell_numbers.ensures c.tell_sizes.ensures,
     )
 
 pub analyser_page_spec : {M : Type 1} → statement M

@@ -20,17 +20,17 @@ came c =
 abbrev left' : tie.After-commit-answer → Shared
 left' c =
     let a = (begun c).args in
-    shared_of a.nodes a.edges a.outer a.tails.now a.rotations.now a.limits.now c.commit-answer.new.1.1.1.1.1.1.1.0
-    c.commit-answer.new.1.1.1.1.1.1.1.1.0 a.first.now a.second.now
+    shared_of a.nodes a.edges a.outer a.tails.now a.rotations.now a.limits.now c.commit-answer.new.left
+    c.commit-answer.new.standing a.first.now a.second.now
 
 committed : (c : tie.After-commit-answer) (answer : Verdict) → c.commit-answer.result ≡ answer → Commits (came c) (begun c).args.party (left' c) answer
 committed c answer e = subst (Commits (came c) (begun c).args.party (left' c)) e c.commit-answer.ensures
 
 returns : tie.Need-returns-in-Passed
-returns c = (Passed, committed c.before.before Passed c.enum_told-1.given.1, (refl, refl))
+returns c = (Passed, committed c.before Passed c.in-Passed.is, (refl, refl))
 
 returns-2 : tie.Need-returns-in-Refused
-returns-2 c = (Refused _ _, committed c.before.before.before (Refused _ _) c.before.answer-1.given.1, (refl, refl))
+returns-2 c = (Refused _ _, committed c.before (Refused _ _) c.in-Refused.is, (refl, refl))
 
 pub analyser_session_commit_spec : {M : Type 1} → statement M
 analyser_session_commit_spec = tie.close (tie.spec (λ c κs. search rules) (λ c. search rules) (λ c. search rules) returns returns-2)

@@ -17,15 +17,15 @@ abbrev start : tie.After-solve-answer → tie.Start
 start c = c.before.before.before.before.before
 
 abbrev flows' : tie.After-solve-answer → List ℤ
-flows' c = c.solve-answer.new.1.1.1.1.0
+flows' c = c.solve-answer.new.flows
 
 abbrev set' : tie.After-solve-answer → List ℕ
-set' c = c.solve-answer.new.1.1.1.1.1.0
+set' c = c.solve-answer.new.set
 
 -- the value that Solve is given is the one that came in
 solved : (c : tie.After-solve-answer) (answer : SolveAnswer) → c.solve-answer.result ≡ answer
     → Solves (start c).args.sheet.now (start c).args.source (start c).args.sink (start c).args.value
-    (start c).args.flows-1.now (flows' c) (start c).args.set-1.now (set' c) answer
+    (start c).args.flows.now (flows' c) (start c).args.set.now (set' c) answer
 solved c answer e = rw (number_of_bits _ (start c).ranges.value, e) at c.solve-answer.ensures.0
 
 -- and its set is the one that the search names
@@ -35,18 +35,18 @@ named c answer e = rw (number_of_bits _ (start c).ranges.value, e) at c.solve-an
 
 returns : tie.Need-returns-in-Can
 returns c =
-    let k = c.before.before.before.before.before in
-    (Can, solved k Can c.enum_told-1.given.1, named k Can c.enum_told-1.given.1, (refl, refl, refl, refl))
+    let k = c in
+    (Can, solved k.before.before.before.before Can c.in-Can.is, named k.before.before.before.before Can c.in-Can.is, (refl, refl, refl, refl))
 
 returns-2 : tie.Need-returns-in-Cannot
 returns-2 c =
-    let k = c.before.before.before.before.before.before in
-    (Cannot _, solved k (Cannot _) c.before.answer-1.given.1, named k (Cannot _) c.before.answer-1.given.1, (refl, refl, refl, refl))
+    let k = c in
+    (Cannot _, solved k.before.before.before.before (Cannot _) c.in-Cannot.is, named k.before.before.before.before (Cannot _) c.in-Cannot.is, (refl, refl, refl, refl))
 
 returns-3 : tie.Need-returns-in-Refused
 returns-3 c =
-    let k = c.before.before.before.before.before.before in
-    (Refused _ _, solved k (Refused _ _) c.before.answer-in-Refused-1.given.1, named k (Refused _ _) c.before.answer-in-Refused-1.given.1, (refl, refl, refl, refl))
+    let k = c in
+    (Refused _ _, solved k.before.before.before.before (Refused _ _) c.in-Refused.is, named k.before.before.before.before (Refused _ _) c.in-Refused.is, (refl, refl, refl, refl))
 
 pub analyser_solve_spec : {M : Type 1} → statement M
 analyser_solve_spec =

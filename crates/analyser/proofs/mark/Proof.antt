@@ -23,31 +23,31 @@ net c = c.«open».result
 -- ── it is refused ──
 returns : tie.Need-returns-then-not-net
 returns c =
-    let o = c.before in
-    let a = (begun o).args in
-    let first = opens_refused (sheet o) (net o) c.if-not-net.true o.«open».ensures in
-    mark_refused (sheet o) _ _ first a.source a.sink a.flows.now
+    let o = c in
+    let a = (begun o.before).args in
+    let first = opens_refused (sheet o.before) (net o.before) c.if-not-net.true-raw o.«open».ensures in
+    mark_refused (sheet o.before) _ _ first a.source a.sink a.flows.now
 
 -- ── it is accepted ──
 accepted : (c : tie.Else-not-net) → NoneOf (sheet_checks (sheet c.before)) × Holds (sheet c.before) (net c.before)
-accepted c = let o = c.before in opens_passed (sheet o) (net o) c.if-not-net.false o.«open».ensures
+accepted c = let o = c in opens_passed (sheet o.before) (net o.before) c.if-not-net.false-raw o.«open».ensures
 
 mark-requires : tie.Need-mark-requires
 mark-requires c κs =
-    let t = c.before.before.before.before.before.before.before in
-    let o = t.before in
-    markable (sheet o) (net o) (accepted t)
+    let t = c in
+    let o = t in
+    markable (sheet o.before.before.before.before.before.before.before) (net o.before.before.before.before.before.before.before) (accepted t.before.before.before.before.before.before)
 
 returns-2 : tie.Need-returns
 returns-2 c =
     let k = c in
-    let w = k.before.before.before.before.before in
-    let from' = w.before.wide.ensures in
+    let w = k in
+    let from' = w.wide.ensures in
     let to = w.wide-2.ensures in
-    let t = k.before.before.before.before.before.before.before.before in
-    let o = t.before in
-    let a = (begun o).args in
-    marked_sheet (sheet o) (net o) (accepted t) from' to a.flows.now k.mark.result k.mark.ensures
+    let t = k in
+    let o = t in
+    let a = (begun o.before.before.before.before.before.before.before.before).args in
+    marked_sheet (sheet o.before.before.before.before.before.before.before.before) (net o.before.before.before.before.before.before.before.before) (accepted t.before.before.before.before.before.before.before) from' to a.flows.now k.mark.result k.mark.ensures
 
 pub mark_spec : {M : Type 1} → statement M
 mark_spec =

@@ -212,7 +212,7 @@ module _ {M : Type 1} {𝓤 : Ura M} (𝓛 : Logic 𝓤) (mem : Memory → SProp
   abbrev to-list : (ListOf 𝓛 mem run).Ghost
   to-list = (((κ₁, tt), (q₁, tt), tt, (x₁, tt), (s₁ ∷ [], tt)), tt)
 
-  goes-list : ent 𝓤 (⋆ 𝓛 (‵ (flft κ₁ q₁) ∷ ‵ O₁ ∷ [])) ((ListOf 𝓛 mem run).pre to-list)
+  goes-list : ent 𝓤 (⋆ 𝓛 (‵ (flft κ₁ q₁) ∷ ‵ O₁ ∷ [])) ((ListOf 𝓛 mem run).requires to-list)
   goes-list =
       qed 𝓛 (‵ (flft κ₁ q₁) ∷ ‵ O₁ ∷ []) ∵ nothing ! $ move ! (2 ∷ 0 ∷ []) $ fjoin ! $ nothing ! $ move ! (2 ∷ 0 ∷ []) $ join ! $ join ! $ frame ! $ done !
 
@@ -234,7 +234,7 @@ module _ {M : Type 1} {𝓤 : Ura M} (𝓛 : Logic 𝓤) (mem : Memory → SProp
   abbrev Owned : Val → Fml
   Owned u = owns (ShrSlice (named 0) κ₀ u8 ∷ RL ∷ MutSlice (named 1) κ₂ i32 ∷ MutSlice (named 2) κ₃ u64 ∷ []) a' (at' u)
 
-  goes-page : (u : Val) → ent 𝓤 (⋆ 𝓛 (Others ∷ ‵ (Owned u) ∷ [])) ((PageOf 𝓛 mem run).pre (to-page u))
+  goes-page : (u : Val) → ent 𝓤 (⋆ 𝓛 (Others ∷ ‵ (Owned u) ∷ [])) ((PageOf 𝓛 mem run).requires (to-page u))
   goes-page u = qed 𝓛 (Others ∷ ‵ (Owned u) ∷ []) ∵ join ! $ frame ! $ done !
 
   abbrev Left : Page → Val → List ℤ → List ℕ → List (Item 𝓤)
@@ -269,7 +269,7 @@ module _ {M : Type 1} {𝓤 : Ura M} (𝓛 : Logic 𝓤) (mem : Memory → SProp
         -- [what sheet owns, twice; what questions owns, twice; sets'; flows'; _9; …; .. room for _0; …; the tokens]
         move ! (26 ∷ []) $ split ! $ move ! (1 ∷ []) $ split ! $ move ! (0 ∷ 5 ∷ []) $
         -- `list_of`
-        use2 𝓛 (raw ((ListOf 𝓛 mem run).pre to-list)) goes-list $
+        use2 𝓛 (raw ((ListOf 𝓛 mem run).requires to-list)) goes-list $
         calls_at ! fm (ListOf 𝓛 mem run) known-list to-list (and_then ! (load ! (from ! (stop !)) (look ! 22 refl)) (no_more !)) (λ u.
         use1 𝓛 (later (some (λ (r : Listed). (Token₁ ⊛ ‵ (RL.own r (u ∷ [])))
         ⊛ raw (ensured 𝓛 list_of.ended (list_of.clauses 𝓛 mem run) (κ₁, tt) (x₁, tt) tt r)))) (id⊢ 𝓤 _) $ await ! tt $ pick ! (λ r.
@@ -286,7 +286,7 @@ module _ {M : Type 1} {𝓤 : Ura M} (𝓛 : Logic 𝓤) (mem : Memory → SProp
         (look_in ! 19 (sub ! 1 refl (whole !)))) (no_more !)))) (from ! (stop !)) (init ! 9 refl (tt, (tt, (record { fits = r₃.0 }, tt)))) $
         -- `page_of`
         move ! (3 ∷ 2 ∷ []) $ join ! $ nothing ! $ move ! (7 ∷ 0 ∷ []) $ fjoin ! $ move ! (7 ∷ 0 ∷ []) $ fjoin ! $ move ! (2 ∷ 0 ∷ []) $ fjoin ! $
-        move ! (3 ∷ 0 ∷ []) $ fjoin ! $ move ! (1 ∷ 0 ∷ []) $ use2 𝓛 (raw ((PageOf 𝓛 mem run).pre (to-page u))) (goes-page u) $
+        move ! (3 ∷ 0 ∷ []) $ fjoin ! $ move ! (1 ∷ 0 ∷ []) $ use2 𝓛 (raw ((PageOf 𝓛 mem run).requires (to-page u))) (goes-page u) $
         calls_at ! fm (PageOf 𝓛 mem run) known-page (to-page u) (and_then ! (load ! (from ! (stop !)) (look ! 20 refl))
         (and_then ! (load ! (from ! (stop !)) (look ! 12 refl)) (and_then ! (load ! (from ! (stop !)) (look ! 8 refl))
         (and_then ! (load ! (from ! (stop !)) (look ! 4 refl)) (no_more !))))) (λ w.

@@ -27,18 +27,18 @@ loop-holds : tie.Need-loop-i-init invariant-loop decreases-loop
 loop-holds c = (omega arith, refl, copy_start _ _)
 
 element-copy-out-answered : tie.Need-bounds-page-i invariant-loop decreases-loop
-element-copy-out-answered c = omega (arith, c.loop-i-test.true, c.before.before.before.requires.0)
+element-copy-out-answered c = omega (arith, c.loop-i-test.true, c.requires.0)
 
 slice-write-answers : tie.Need-bounds-answers-i invariant-loop decreases-loop
 slice-write-answers c =
-    let l = c.before.before.before.loop-i in
-    let t = c.before.before.before.before.before in
+    let l = c.loop-i in
+    let t = c in
     omega (arith, filled_length _ _ _ _ l.invariant.2 (omega (arith, t.requires.0, t.requires.1)), t.requires.0, t.requires.1)
 
 loop-again : tie.Need-loop-i-preserved invariant-loop decreases-loop
 loop-again c =
-    let l = c.before.before.before.loop-i in
-    let t = c.before.before.before.before.before in
+    let l = c.loop-i in
+    let t = c in
     let long : length t.args.t1.answers ≡ 64 =
     sym (length-map t.args.t1.answers _) ∙ (LL.owed TP.the_type TP'.the_laws t.args.t1 _ t.well_formed.0).1.1.0.1.0.1 in
     let same = any_default t.args.t1.answers l.i _ _ (omega (arith, long, t.requires.0)) in
@@ -47,13 +47,13 @@ loop-again c =
 
 same_length : tie.Need-shape_of-answers invariant-loop decreases-loop
 same_length c =
-    let t = c.before.before.before in
-    filled_length _ _ _ _ c.before.loop-i.invariant.2 (omega (arith, t.requires.0, t.requires.1))
+    let t = c in
+    filled_length _ _ _ _ c.loop-i.invariant.2 (omega (arith, t.requires.0, t.requires.1))
 
 returns : tie.Need-returns invariant-loop decreases-loop
 returns c =
-    let l = c.before.loop-i in
-    let a = c.before.before.before.args in
+    let l = c.loop-i in
+    let a = c.args in
     let e : l.i ≡ a.t1.count = omega (arith, l.invariant.0, l.invariant.1, c.loop-i-test.false) in
     l.invariant.2 ∙ ap (λ k. tabulate k (λ j. number_told (answer_at a.t1 j)) ++ drop k a.answers.now) e
 

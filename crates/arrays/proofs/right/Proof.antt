@@ -6,7 +6,7 @@ use Rattle.arrays.proofs.right.Statement.{statement}
 use Rattle.arrays.proofs.right.Tie as tie
 
 returns : tie.Need-returns
-returns c = c.wide.ensures ∙ ap (λ e. get_or c.before.before.before.args.lefts.now e 0) c.before.before.reverse-r.ensures.0
+returns c = c.wide.ensures ∙ ap (λ e. get_or c.args.lefts.now e 0) c.reverse-r.ensures.0
 
 pub right_spec : {M : Type 1} → statement M
 right_spec =

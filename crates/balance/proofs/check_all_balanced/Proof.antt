@@ -12,15 +12,15 @@ use Rattle.balance.proofs.check_all_balanced.Statement.{statement}
 use Rattle.balance.proofs.check_all_balanced.Tie as tie
 
 fill-nets-requires : tie.Need-fill_nets-requires
-fill-nets-requires c κs = let s = c.before in (s.requires.1, s.requires.2, refl, s.requires.3, s.requires.4, same_everywhere 1024 (pos 0))
+fill-nets-requires c κs = let s = c in (s.requires.1, s.requires.2, refl, s.requires.3, s.requires.4, same_everywhere 1024 (pos 0))
 
 returns : tie.Need-returns
 returns c rotation =
-    let filled = c.before.before.fill_nets in
-    let start = c.before.before.before.before in
+    let filled = c.fill_nets in
+    let start = c in
     let a = start.args in
     let 𝓜 : Map = record { nodes = a.nodes; edges = a.edges; tail = at a.tails.now; rotation = rotation } in
-    judged_all 𝓜 (atℤ a.flows.now) (atℤ filled.new.1.1.1.0)
+    judged_all 𝓜 (atℤ a.flows.now) (atℤ filled.new.nets)
     (λ v l. filled.ensures.1 v (omega (arith, l, start.requires.0)) ∙ up_to_all 𝓜 (atℤ a.flows.now) v)
     a.nodes a.nodes c.check_balance.result (omega arith) (omega arith) c.check_balance.ensures
 

@@ -28,29 +28,29 @@ Tested = tie.After-off_balance invariant-loop decreases-loop
 abbrev at-loop : Tested → tie.At-loop-v invariant-loop decreases-loop
 at-loop c = c.before.before.before
 
-judged-here : (c : Tested) → Decides (OffAt (at-loop c).before (at-loop c).loop.v) c.off_balance.result
+judged-here : (c : Tested) → Decides (OffAt (at-loop c).before (at-loop c).loop-v.v) c.off_balance.result
 judged-here c =
-    rw (number_of_bits (atℤ (at-loop c).before.args.nets.now (at-loop c).loop.v) (record { sfits = c.before.off_balance-arg-1.given }))
+    rw (number_of_bits (atℤ (at-loop c).args.nets.now (at-loop c).loop-v.v) (record { sfits = c.off_balance-arg-1.given }))
     at c.off_balance.ensures
 
 returns : tie.Need-returns-then-off_balance invariant-loop decreases-loop
 unfolding off_checks
 returns c =
-    let t = c.before.before in
-    let l = at-loop t in
-    let s = l.before in
-    lowest s.args.nodes 18 (OffAt s) l.loop-v.v c.narrow.result (omega arith) l.loop-v.inv.1
-    (said_yes (judged-here t) c.before.if-off_balance.true) c.narrow.ensures
+    let t = c in
+    let l = at-loop t.before.before in
+    let s = l in
+    lowest s.args.nodes 18 (OffAt s.before) l.loop-v.v c.narrow.result (omega arith) l.loop-v.invariant.1
+    (said_yes (judged-here t.before.before) c.if-off_balance.true) c.narrow.ensures
 
 loop-again : tie.Need-loop-v-preserved invariant-loop decreases-loop
 loop-again c =
-    let o = (at-loop c.before).loop in
-    (omega arith, below_more _ o.v o.inv.1 (said_no (judged-here c.before) c.if-off_balance.false))
+    let o = (at-loop c.before).loop-v in
+    (omega arith, below_more _ o.v o.invariant.1 (said_no (judged-here c.before) c.if-off_balance.false))
 
 -- ── all nodes are tested ──
 returns-2 : tie.Need-returns invariant-loop decreases-loop
 unfolding off_checks
-returns-2 c = let s = c.before.before in none_holds s.args.nodes 18 (OffAt s) (λ u l. c.before.loop-v.invariant.1 u (omega arith))
+returns-2 c = let s = c in none_holds s.args.nodes 18 (OffAt s.before.before) (λ u l. c.loop-v.invariant.1 u (omega arith))
 
 pub check_balance_spec : {M : Type 1} → statement M
 check_balance_spec =

@@ -31,35 +31,35 @@ read c = c.before.before.before
 abbrev at-loop : Tested → tie.At-loop-e invariant-loop decreases-loop
 at-loop c = (read c).before.before
 
-judged-here : (c : Tested) → Decides (Exceeding (at-loop c).before (at-loop c).loop.e) c.exceeds.result
+judged-here : (c : Tested) → Decides (Exceeding (at-loop c).before (at-loop c).loop-e.e) c.exceeds.result
 judged-here c =
-    let a = (at-loop c).before.args in
-    let e = (at-loop c).loop.e in
+    let a = (at-loop c).args in
+    let e = (at-loop c).loop-e.e in
     rw (
-      number_of_bits (atℤ a.capacities.now (2 * e)) (record { sfits = (read c).exceeds-arg.given }),
-      number_of_bits (atℤ a.capacities.now (2 * e + 1)) (record { sfits = c.before.before.exceeds-arg-in-loop-e-1.given }),
-      number_of_bits (atℤ a.flows.now e) (record { sfits = c.before.exceeds-arg-in-loop-e-2-1.given }),
+      number_of_bits (atℤ a.capacities.now (2 * e)) (record { sfits = (read c).exceeds-arg-1.given }),
+      number_of_bits (atℤ a.capacities.now (2 * e + 1)) (record { sfits = c.exceeds-arg-in-loop-e-1.given }),
+      number_of_bits (atℤ a.flows.now e) (record { sfits = c.exceeds-arg-in-loop-e-2-1.given }),
     ) at c.exceeds.ensures
 
 -- it exceeds, and no edge below it does
 returns : tie.Need-returns-then-exceeds invariant-loop decreases-loop
 unfolding within_checks
 returns c =
-    let t = c.before.before in
-    let l = at-loop t in
-    let s = l.before in
-    lowest s.args.edges 17 (Exceeding s) l.loop-e.e c.narrow.result (omega arith) l.loop-e.inv.1
-    (said_yes (judged-here t) c.before.if-exceeds.true) c.narrow.ensures
+    let t = c in
+    let l = at-loop t.before.before in
+    let s = l in
+    lowest s.args.edges 17 (Exceeding s.before) l.loop-e.e c.narrow.result (omega arith) l.loop-e.invariant.1
+    (said_yes (judged-here t.before.before) c.if-exceeds.true) c.narrow.ensures
 
 loop-again : tie.Need-loop-e-preserved invariant-loop decreases-loop
 loop-again c =
-    let o = (at-loop c.before).loop in
-    (omega arith, below_more _ o.e o.inv.1 (said_no (judged-here c.before) c.if-exceeds.false))
+    let o = (at-loop c.before).loop-e in
+    (omega arith, below_more _ o.e o.invariant.1 (said_no (judged-here c.before) c.if-exceeds.false))
 
 -- ── all edges are tested ──
 returns-2 : tie.Need-returns invariant-loop decreases-loop
 unfolding within_checks
-returns-2 c = let s = c.before.before in none_holds s.args.edges 17 (Exceeding s) (λ k l. c.before.loop-e.invariant.1 k (omega arith))
+returns-2 c = let s = c in none_holds s.args.edges 17 (Exceeding s.before.before) (λ k l. c.loop-e.invariant.1 k (omega arith))
 
 pub check_within_spec : {M : Type 1} → statement M
 check_within_spec =

@@ -15,15 +15,15 @@ use Rattle.balance.proofs.exceeds.Statement.{statement}
 use Rattle.balance.proofs.exceeds.Tie as tie
 
 returns : tie.Need-returns-then-forward-x
-returns c = inl (lt_of_test _ _ (rw (number_of_bits _ c.before.ranges.forward, number_of_bits _ c.before.ranges.x) at c.if-forward-x.true))
+returns c = inl (lt_of_test _ _ (rw (number_of_bits _ c.ranges.forward, number_of_bits _ c.ranges.x) at c.if-forward-x.true))
 
 returns-2 : tie.Need-returns
 returns-2 c =
-    let a = c.before.before.before.args in
-    let f = c.before.before.before.ranges in
-    let left = ge_of_test _ _ (rw (number_of_bits _ f.forward, number_of_bits _ f.x) at c.before.before.if-forward-x.false) in
-    let sum : to_z w64 (of_z w64 c.before.add32.result) ≡ a.x +ℤ a.backward =
-    to_z-of_z w64 _ (record { sfits = c.before.add32.type_inv }) ∙ c.before.add32.ensures ∙ ap₂ ◌+ℤ◌ (number_of_bits _ f.x) (number_of_bits _ f.backward) in
+    let a = c.args in
+    let f = c.ranges in
+    let left = ge_of_test _ _ (rw (number_of_bits _ f.forward, number_of_bits _ f.x) at c.if-forward-x.false) in
+    let sum : to_z w64 (of_z w64 c.add32.result) ≡ a.x +ℤ a.backward =
+    to_z-of_z w64 _ (record { sfits = c.add32.type_inv }) ∙ c.add32.ensures ∙ ap₂ ◌+ℤ◌ (number_of_bits _ f.x) (number_of_bits _ f.backward) in
     decides_by c.below_zero.result
     (λ h. inr (below_against a.x a.backward h))
     (λ h. neither (λ g. lt_le_clash g left) (λ g. h (against_below a.x a.backward g)))

@@ -47,21 +47,21 @@ abbrev Tail : Type 0
 Tail = tie.After-wide invariant-loop decreases-loop
 
 abbrev turn : Tail → At-loop
-turn c = c.before.before.before.before
+turn c = c.before.before.before.before.before
 
 tail-below : (c : Tail) → c.wide.result < 1024
-tail-below c = let l = turn c in omega (arith, c.wide.ensures, (begun l).pre.3 (2 * l.loop-e.e) (omega arith))
+tail-below c = let l = turn c in omega (arith, c.wide.ensures, (begun l).requires.3 (2 * l.loop-e.e) (omega arith))
 
 add-at-requires : tie.Need-add_at-requires invariant-loop decreases-loop
 add-at-requires c κs =
-    let t = c.before in
-    let l = turn t in
+    let t = c in
+    let l = turn t.before in
     let s = begun l in
     let v = t.wide.result in (
-      l.loop-e.inv.1,
-      tail-below t,
-      rw (number_of_bits (flow l) (record { sfits = c.add_at-arg-in-loop-e-1.given }), l.loop-e.inv.2 v (tail-below t))
-          (added_fits (tailsAt l) (flowsAt l) s.args.edges s.pre.4 l.loop-e.e v (omega arith) s.pre.0),
+      l.loop-e.invariant.1,
+      tail-below t.before,
+      rw (number_of_bits (flow l) (record { sfits = c.add_at-arg-in-loop-e-1.given }), l.loop-e.invariant.2 v (tail-below t.before))
+          (added_fits (tailsAt l) (flowsAt l) s.args.edges s.requires.4 l.loop-e.e v (omega arith) s.requires.0),
     )
 
 -- ── the head is read: the flow is taken away there ──
@@ -78,7 +78,7 @@ abbrev round : Head → At-loop
 round c = turn (tail c)
 
 head-below : (c : Head) → c.wide-in-loop-e.result < 1024
-head-below c = let l = round c in omega (arith, c.wide-in-loop-e.ensures, (begun l).pre.3 (2 * l.loop-e.e + 1) (omega arith))
+head-below c = let l = round c in omega (arith, c.wide-in-loop-e.ensures, (begun l).requires.3 (2 * l.loop-e.e + 1) (omega arith))
 
 -- the flow is the number of its bits
 flow_is : (c : tie.After-sub_at-arg-in-loop-e-1 invariant-loop decreases-loop) → to_z w32 (of_z w32 (flow (round c.before))) ≡ flow (round c.before)
@@ -86,36 +86,36 @@ flow_is c = number_of_bits (flow (round c.before)) (record { sfits = c.sub_at-ar
 
 sub-at-requires : tie.Need-sub_at-requires invariant-loop decreases-loop
 sub-at-requires c κs =
-    let h = c.before in
-    let l = round h in
+    let h = c in
+    let l = round h.before in
     let s = begun l in
-    let sums = (added h).add_at.ensures in
+    let sums = (added h.before).add_at.ensures in
     let v = h.wide-in-loop-e.result in
-    let at_tail = eqb v (tail h).wide.result in (
+    let at_tail = eqb v (tail h.before).wide.result in (
       sums.0,
-      head-below h,
-      rw (flow_is c, sums.1 v, flow_is c, l.loop-e.inv.2 v (head-below h))
-          (taken_fits (tailsAt l) (flowsAt l) s.args.edges s.pre.4 l.loop-e.e v at_tail (omega arith) s.pre.0),
+      head-below h.before,
+      rw (flow_is c, sums.1 v, flow_is c, l.loop-e.invariant.2 v (head-below h.before))
+          (taken_fits (tailsAt l) (flowsAt l) s.args.edges s.requires.4 l.loop-e.e v at_tail (omega arith) s.requires.0),
     )
 
 -- ── both sums are done ──
 loop-again : tie.Need-loop-e-preserved invariant-loop decreases-loop
 loop-again c =
-    let b = c.before in
-    let h = b.before in
-    let l = round h in
-    let first = (tail h).wide in
+    let b = c in
+    let h = b in
+    let l = round h.before.before in
+    let first = (tail h.before.before).wide in
     let second = h.wide-in-loop-e in (
       omega arith,
       c.sub_at.ensures.0,
-      λ v k. net_stepped (tailsAt l) (flowsAt l) l.loop-e.e v first.result second.result first.ensures second.ensures (l.loop-e.inv.2 v k)
-          (rw (flow_is b) at ((added h).add_at.ensures.1 v)) (rw (flow_is b) at (c.sub_at.ensures.1 v)),
+      λ v k. net_stepped (tailsAt l) (flowsAt l) l.loop-e.e v first.result second.result first.ensures second.ensures (l.loop-e.invariant.2 v k)
+          (rw (flow_is b.before) at ((added h.before.before).add_at.ensures.1 v)) (rw (flow_is b.before) at (c.sub_at.ensures.1 v)),
     )
 
 returns : tie.Need-returns invariant-loop decreases-loop
 returns c =
-    let o = c.before.loop-e in
-    let all : o.e ≡ c.before.before.args.edges = omega arith in
+    let o = c.loop-e in
+    let all : o.e ≡ c.args.edges = omega arith in
     (o.invariant.1, λ v l. rw all at (o.invariant.2 v l))
 
 pub fill_nets_spec : {M : Type 1} → statement M

@@ -16,10 +16,10 @@ returns-2 c = λ p. p.0 (inr c.if-v-b.true)
 
 returns-3 : tie.Need-returns
 returns-3 c =
-    let x = c.before.before.args.sum in
+    let x = c.args.sum in
     decides_ne (of_z w32 x) 0
-    (λ h. (neither c.before.if-v-a.false c.if-v-b.false, bits_not_zero x h))
-    (λ h p. p.1 (bits_zero x c.before.before.ranges.sum h))
+    (λ h. (neither c.if-v-a.false c.if-v-b.false, bits_not_zero x h))
+    (λ h p. p.1 (bits_zero x c.ranges.sum h))
 
 pub off_balance_spec : {M : Type 1} → statement M
 off_balance_spec = tie.close (tie.spec returns returns-2 returns-3)

@@ -14,13 +14,13 @@ use Rattle.balance.proofs.sub_at.Tie as tie
 
 returns : tie.Need-returns
 returns c =
-    let l = c.before.before.args.nets.now in
-    let v = c.before.before.args.v in
-    let x = c.before.before.args.x in
+    let l = c.args.nets.now in
+    let v = c.args.v in
+    let x = c.args.x in
     let r : to_z w32 (of_z w32 c.minus.result) ≡ atℤ l v -ℤ x =
     number_of_bits _ (record { sfits = c.minus.type_inv }) ∙ c.minus.ensures
-    ∙ ap₂ ◌-ℤ◌ (number_of_bits (atℤ l v) (record { sfits = c.before.minus-arg-1.given })) (number_of_bits x c.before.before.ranges.x) in
-    (simp length-set c.before.before.requires.0, set_added l v (neg_ℤ x) _ (omega (arith, c.before.before.requires.0)) r)
+    ∙ ap₂ ◌-ℤ◌ (number_of_bits (atℤ l v) (record { sfits = c.minus-arg-1.given })) (number_of_bits x c.ranges.x) in
+    (simp length-set c.requires.0, set_added l v (neg_ℤ x) _ (omega (arith, c.requires.0)) r)
 
 pub sub_at_spec : {M : Type 1} → statement M
 sub_at_spec =

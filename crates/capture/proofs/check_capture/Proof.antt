@@ -186,7 +186,7 @@ module _ {M : Type 1} {𝓤 : Ura M} (𝓛 : Logic 𝓤) (mem : Memory → SProp
     abbrev to-goes : (Goes 𝓛 mem run).Ghost
     to-goes = (((κ, tt), (q, tt), tt, (s, (p, (r, tt))), (v ∷ [], (vint w64 p ∷ [], (u ∷ [], tt)))), tt)
 
-    goes-asked : p < 2 ^ 64 → ent 𝓤 (⋆ 𝓛 (‵ Own ∷ Token ∷ ‵ (RC.own r (u ∷ [])) ∷ [])) ((Goes 𝓛 mem run).pre to-goes)
+    goes-asked : p < 2 ^ 64 → ent 𝓤 (⋆ 𝓛 (‵ Own ∷ Token ∷ ‵ (RC.own r (u ∷ [])) ∷ [])) ((Goes 𝓛 mem run).requires to-goes)
     goes-asked fits =
         qed 𝓛 (‵ Own ∷ Token ∷ ‵ (RC.own r (u ∷ [])) ∷ []) ∵ nothing ! $ move ! (3 ∷ 0 ∷ []) $ fjoin ! $
         owned ! usize (Is usize) (uint_Makes 𝓛 w64) p _ (refl, fits) $ fjoin ! $ move ! (1 ∷ 0 ∷ []) $ fjoin ! $ move ! (1 ∷ 0 ∷ []) $ join ! $
@@ -200,7 +200,7 @@ module _ {M : Type 1} {𝓤 : Ura M} (𝓛 : Logic 𝓤) (mem : Memory → SProp
     to-check = (((κ, tt), (q, tt), tt, (s, (p, (edges, (r, tt)))), (v ∷ [], (vint w64 p ∷ [], (vint w64 edges ∷ [], (u ∷ [], tt))))), tt)
 
     check-asked : p < 2 ^ 64 → (p < length b) × Passing edges b p r.last
-        → ent 𝓤 (⋆ 𝓛 (‵ Own ∷ Token ∷ ‵ (RC.own r (u ∷ [])) ∷ [])) ((Check 𝓛 mem run).pre to-check)
+        → ent 𝓤 (⋆ 𝓛 (‵ Own ∷ Token ∷ ‵ (RC.own r (u ∷ [])) ∷ [])) ((Check 𝓛 mem run).requires to-check)
     check-asked fits φ =
         qed 𝓛 (‵ Own ∷ Token ∷ ‵ (RC.own r (u ∷ [])) ∷ []) ∵ says ! φ $ nothing ! $ move ! (3 ∷ 0 ∷ []) $ fjoin ! $
         owned ! usize (Is usize) (uint_Makes 𝓛 w64) edges _ (refl, edges-fits) $ fjoin ! $
@@ -216,7 +216,7 @@ module _ {M : Type 1} {𝓤 : Ura M} (𝓛 : Logic 𝓤) (mem : Memory → SProp
     abbrev to-behind : (Behind 𝓛 mem run).Ghost
     to-behind = (((κ, tt), (q, tt), tt, (s, (p, tt)), (v ∷ [], (vint w64 p ∷ [], tt))), tt)
 
-    behind-asked : p < 2 ^ 64 → ent 𝓤 (⋆ 𝓛 (‵ Own ∷ Token ∷ [])) ((Behind 𝓛 mem run).pre to-behind)
+    behind-asked : p < 2 ^ 64 → ent 𝓤 (⋆ 𝓛 (‵ Own ∷ Token ∷ [])) ((Behind 𝓛 mem run).requires to-behind)
     behind-asked fits =
         qed 𝓛 (‵ Own ∷ Token ∷ []) ∵ nothing ! $ owned ! usize (Is usize) (uint_Makes 𝓛 w64) p _ (refl, fits) $ fjoin ! $ move ! (1 ∷ 0 ∷ []) $ fjoin ! $
         move ! (1 ∷ 0 ∷ []) $ join ! $ frame ! $ done !
@@ -227,7 +227,7 @@ module _ {M : Type 1} {𝓤 : Ura M} (𝓛 : Logic 𝓤) (mem : Memory → SProp
     abbrev to-say : (SaysAll 𝓛 mem run).Ghost
     to-say = ((tt, tt, tt, (r, tt), (u ∷ [], tt)), tt)
 
-    say-asked : ent 𝓤 (⋆ 𝓛 (‵ (RC.own r (u ∷ [])) ∷ [])) ((SaysAll 𝓛 mem run).pre to-say)
+    say-asked : ent 𝓤 (⋆ 𝓛 (‵ (RC.own r (u ∷ [])) ∷ [])) ((SaysAll 𝓛 mem run).requires to-say)
     say-asked = qed 𝓛 (‵ (RC.own r (u ∷ [])) ∷ []) ∵ nothing ! $ move ! (1 ∷ 0 ∷ []) $ fjoin ! $ nothing ! $ join ! $ frame ! $ done !
 
     say-said : (d : Verdict) → ent 𝓤 (ensured 𝓛 Says-All.ended (Says-All.clauses 𝓛 mem run) tt (r, tt) tt d) (fact 𝓤 (d ≡ verdict_of r.refusal))
@@ -275,10 +275,10 @@ module _ {M : Type 1} {𝓤 : Ura M} (𝓛 : Logic 𝓤) (mem : Memory → SProp
     -- a turn in which a record is checked
     more : (p : ℕ) (r : Checked) (u : Val) (X : SProp 𝓤) → p < 2 ^ 64 → goesOn b p r.refusal ≡ true → (p < length b) × Passing edges b p r.last
         → ((r' : Checked) (u' : Val) → Stands edges b (place_behind b p) r'.refusal r'.last → ent 𝓤 (⋆ 𝓛 (At (place_behind b p) r' u')) X)
-        → ent 𝓤 (⋆ 𝓛 (At p r u)) (Wp 𝓤 H Cs Λ En mirs.turn-1 (after_turn 𝓤 H X Left))
+        → ent 𝓤 (⋆ 𝓛 (At p r u)) (Wp 𝓤 H Cs Λ En mirs.turn (after_turn 𝓤 H X Left))
     unfolding after_turn
     more p r u X fits on φ k =
-        qed 𝓛 (At p r u) ∵ exec ! Cs Λ En mirs.turn-1 (any_q (after_turn 𝓤 H X Left)) $
+        qed 𝓛 (At p r u) ∵ exec ! Cs Λ En mirs.turn (any_q (after_turn 𝓤 H X Left)) $
         assigns ! (of_opd ! (load ! (from ! (fld ! refl (stop !))) (look_in ! 3 (sub ! 0 refl (whole !))))) (from ! (stop !)) (init ! 6 refl (tt, v-typed)) $
         assigns ! (of_opd ! (load ! (from ! (fld ! refl (stop !))) (look_in ! 3 (sub ! 1 refl (whole !))))) (from ! (stop !)) (init ! 7 refl (
           tt,
@@ -287,7 +287,7 @@ module _ {M : Type 1} {𝓤 : Ura M} (𝓛 : Logic 𝓤) (mem : Memory → SProp
         use1 𝓛 (‵ Own ⊛ ‵ Own) ((shr_slice_copy 𝓛 (named 0) κ u8).twice s (v ∷ [])) $ split ! $ move ! (3 ∷ []) $
         use1 𝓛 (‵ (RC.own r (u ∷ [])) ⊛ ‵ (RC.own r (u ∷ []))) ((LL.copy C.the_type C'.the_copy 𝓛).twice r (u ∷ [])) $ split ! $
         -- [what is checked owns, twice; what the slice owns, twice; the token; _3; _4; …]
-        move ! (2 ∷ 4 ∷ 0 ∷ []) $ use3 𝓛 (raw ((Goes 𝓛 mem run).pre (to-goes p r u))) (goes-asked p r u fits) $
+        move ! (2 ∷ 4 ∷ 0 ∷ []) $ use3 𝓛 (raw ((Goes 𝓛 mem run).requires (to-goes p r u))) (goes-asked p r u fits) $
         calls_at ! (fm_of 𝓤 H 𝓛.laws 𝓣) (Goes 𝓛 mem run) known.goes-met (to-goes p r u) (and_then ! (load ! (from ! (stop !)) (look ! 6 refl))
         (and_then ! (load ! (from ! (stop !)) (look ! 7 refl)) (and_then ! (load ! (from ! (stop !)) (look ! 4 refl)) (no_more !)))) (λ u₁.
         use1 𝓛 (later (some (λ (t : Bool). (Token ⊛ ‵ (bool.own_val t (u₁ ∷ []))) ⊛ raw (ensured 𝓛 goes.ended (goes.clauses 𝓛 mem run) (κ, tt)
@@ -305,7 +305,7 @@ module _ {M : Type 1} {𝓤 : Ura M} (𝓛 : Logic 𝓤) (mem : Memory → SProp
         )) $
         move ! (2 ∷ []) $ use1 𝓛 (‵ Own ⊛ ‵ Own) ((shr_slice_copy 𝓛 (named 0) κ u8).twice s (v ∷ [])) $ split ! $ move ! (0 ∷ 2 ∷ 3 ∷ []) $
         -- [what the slice owns; the token; what is checked owns; what the slice owns; _3; …]
-        use3 𝓛 (raw ((Check 𝓛 mem run).pre (to-check p r u))) (check-asked p r u fits φ) $
+        use3 𝓛 (raw ((Check 𝓛 mem run).requires (to-check p r u))) (check-asked p r u fits φ) $
         calls_at ! (fm_of 𝓤 H 𝓛.laws 𝓣) (Check 𝓛 mem run) known.check-met (to-check p r u) (and_then ! (load ! (from ! (stop !)) (look ! 7 refl))
         (and_then ! (load ! (from ! (stop !)) (look ! 8 refl)) (and_then ! (load ! (from ! (stop !)) (look ! 12 refl)) (and_then ! (load ! (from ! (stop !))
         (look ! 3 refl)) (no_more !))))) (λ u₂.
@@ -322,7 +322,7 @@ module _ {M : Type 1} {𝓤 : Ura M} (𝓛 : Logic 𝓤) (mem : Memory → SProp
         )) $
         move ! (2 ∷ []) $ use1 𝓛 (‵ Own ⊛ ‵ Own) ((shr_slice_copy 𝓛 (named 0) κ u8).twice s (v ∷ [])) $ split ! $ move ! (0 ∷ 3 ∷ []) $
         -- [what the slice owns; the token; what the slice owns; what is checked owns; _3; …]
-        use2 𝓛 (raw ((Behind 𝓛 mem run).pre (to-behind p r u))) (behind-asked p r u fits) $
+        use2 𝓛 (raw ((Behind 𝓛 mem run).requires (to-behind p r u))) (behind-asked p r u fits) $
         calls_at_last ! (fm_of 𝓤 H 𝓛.laws 𝓣) (Behind 𝓛 mem run) known.behind-met (to-behind p r u) (and_then ! (load ! (from ! (stop !))
         (look ! 10 refl)) (and_then ! (load ! (from ! (stop !)) (look ! 11 refl)) (no_more !))) (λ u₃.
         use1 𝓛 (later (some (λ (n : ℕ). (Token ⊛ ‵ (usize.own_val n (u₃ ∷ []))) ⊛ raw (ensured 𝓛 behind.ended (behind.clauses 𝓛 mem run) (κ, tt)
@@ -338,10 +338,10 @@ module _ {M : Type 1} {𝓤 : Ura M} (𝓛 : Logic 𝓤) (mem : Memory → SProp
 
     -- the turn that leaves the loop, and the rest of the body
     ends : (p : ℕ) (r : Checked) (u : Val) (X : SProp 𝓤) → p < 2 ^ 64 → goesOn b p r.refusal ≡ false → Stands edges b p r.refusal r.last
-        → ent 𝓤 (⋆ 𝓛 (At p r u)) (Wp 𝓤 H Cs Λ En mirs.turn-1 (after_turn 𝓤 H X Left))
+        → ent 𝓤 (⋆ 𝓛 (At p r u)) (Wp 𝓤 H Cs Λ En mirs.turn (after_turn 𝓤 H X Left))
     unfolding after_turn
     ends p r u X fits off stands =
-        qed 𝓛 (At p r u) ∵ exec ! Cs Λ En mirs.turn-1 (any_q (after_turn 𝓤 H X Left)) $
+        qed 𝓛 (At p r u) ∵ exec ! Cs Λ En mirs.turn (any_q (after_turn 𝓤 H X Left)) $
         assigns ! (of_opd ! (load ! (from ! (fld ! refl (stop !))) (look_in ! 3 (sub ! 0 refl (whole !))))) (from ! (stop !)) (init ! 6 refl (tt, v-typed)) $
         assigns ! (of_opd ! (load ! (from ! (fld ! refl (stop !))) (look_in ! 3 (sub ! 1 refl (whole !))))) (from ! (stop !)) (init ! 7 refl (
           tt,
@@ -349,7 +349,7 @@ module _ {M : Type 1} {𝓤 : Ura M} (𝓛 : Logic 𝓤) (mem : Memory → SProp
         )) $
         use1 𝓛 (‵ Own ⊛ ‵ Own) ((shr_slice_copy 𝓛 (named 0) κ u8).twice s (v ∷ [])) $ split ! $ move ! (3 ∷ []) $
         use1 𝓛 (‵ (RC.own r (u ∷ [])) ⊛ ‵ (RC.own r (u ∷ []))) ((LL.copy C.the_type C'.the_copy 𝓛).twice r (u ∷ [])) $ split ! $
-        move ! (2 ∷ 4 ∷ 0 ∷ []) $ use3 𝓛 (raw ((Goes 𝓛 mem run).pre (to-goes p r u))) (goes-asked p r u fits) $
+        move ! (2 ∷ 4 ∷ 0 ∷ []) $ use3 𝓛 (raw ((Goes 𝓛 mem run).requires (to-goes p r u))) (goes-asked p r u fits) $
         calls_at ! (fm_of 𝓤 H 𝓛.laws 𝓣) (Goes 𝓛 mem run) known.goes-met (to-goes p r u) (and_then ! (load ! (from ! (stop !)) (look ! 6 refl))
         (and_then ! (load ! (from ! (stop !)) (look ! 7 refl)) (and_then ! (load ! (from ! (stop !)) (look ! 4 refl)) (no_more !)))) (λ u₁.
         use1 𝓛 (later (some (λ (t : Bool). (Token ⊛ ‵ (bool.own_val t (u₁ ∷ []))) ⊛ raw (ensured 𝓛 goes.ended (goes.clauses 𝓛 mem run) (κ, tt)
@@ -359,7 +359,7 @@ module _ {M : Type 1} {𝓤 : Ura M} (𝓛 : Logic 𝓤) (mem : Memory → SProp
         land ! (from ! (stop !)) (init ! 5 refl ((bool_Lawful 𝓛).typed t (u₁ ∷ []) is₁).0) $
         rewrite ! 5 (λ (w : Val). ‵ (fat full_share test l₅ 0 w)) (ap only (bool_Tells t (u₁ ∷ []) is₁) ∙ ap vbool (e₁ ∙ off)) refl $
         leaves_loop ! (load ! (from ! (stop !)) (look ! 5 refl)) $ exec ! Cs Λ En mirs.t-4 (at_ret En Post) $
-        move ! (1 ∷ []) $ use1 𝓛 (raw ((SaysAll 𝓛 mem run).pre (to-say p r u))) (say-asked p r u) $
+        move ! (1 ∷ []) $ use1 𝓛 (raw ((SaysAll 𝓛 mem run).requires (to-say p r u))) (say-asked p r u) $
         calls_at ! (fm_of 𝓤 H 𝓛.laws 𝓣) (SaysAll 𝓛 mem run) known.says-all-met (to-say p r u) (and_then ! (load ! (from ! (stop !)) (look ! 4 refl))
         (no_more !)) (λ u₂.
         use1 𝓛 (later (some (λ (d : Verdict). (‵ ftrue ⊛ ‵ (RV.own d (u₂ ∷ []))) ⊛ raw (ensured 𝓛 Says-All.ended (Says-All.clauses 𝓛 mem run) tt
@@ -383,13 +383,13 @@ module _ {M : Type 1} {𝓤 : Ura M} (𝓛 : Logic 𝓤) (mem : Memory → SProp
         (ex_i 𝓤 (λ (c : Checked). ex 𝓤 (λ (w : Val). guard 𝓤 (Holds t p c) (⋆ 𝓛 (At p c w)))) r)
         (ex_i 𝓤 (λ (j : ℕ). ex 𝓤 (λ (c : Checked). ex 𝓤 (λ (w : Val). guard 𝓤 (Holds t j c) (⋆ 𝓛 (At j c w))))) p)))
 
-    turn_at : (t p : ℕ) (r : Checked) (u : Val) → Holds t p r → ent 𝓤 (⋆ 𝓛 (At p r u)) (Wp 𝓤 H Cs Λ En mirs.turn-1 (after_turn 𝓤 H (Below t) Left))
+    turn_at : (t p : ℕ) (r : Checked) (u : Val) → Holds t p r → ent 𝓤 (⋆ 𝓛 (At p r u)) (Wp 𝓤 H Cs Λ En mirs.turn (after_turn 𝓤 H (Below t) Left))
     turn_at t p r u h = go (goesOn b p r.refusal) refl
       where
         fits : p < 2 ^ 64
         fits = omega (arith, h.0, long)
 
-        go : (on : Bool) → goesOn b p r.refusal ≡ on → ent 𝓤 (⋆ 𝓛 (At p r u)) (Wp 𝓤 H Cs Λ En mirs.turn-1 (after_turn 𝓤 H (Below t) Left))
+        go : (on : Bool) → goesOn b p r.refusal ≡ on → ent 𝓤 (⋆ 𝓛 (At p r u)) (Wp 𝓤 H Cs Λ En mirs.turn (after_turn 𝓤 H (Below t) Left))
         go false off = ends p r u (Below t) fits off h.1
         go true on =
             let m = goes_more b p r.refusal on in
@@ -400,16 +400,16 @@ module _ {M : Type 1} {𝓤 : Ura M} (𝓛 : Logic 𝓤) (mem : Memory → SProp
             (via 𝓤 (guard 𝓤 (left < t) (Inv left)) (guard_i 𝓤 (left < t) (Inv left) (omega (arith, h.0, f.0, f.1)))
             (ex_i 𝓤 (λ (t' : ℕ). guard 𝓤 (t' < t) (Inv t')) left)))
 
-    turns : (t : ℕ) → ent 𝓤 (Inv t) (Wp 𝓤 H Cs Λ En mirs.turn-1 (after_turn 𝓤 H (Below t) Left))
+    turns : (t : ℕ) → ent 𝓤 (Inv t) (Wp 𝓤 H Cs Λ En mirs.turn (after_turn 𝓤 H (Below t) Left))
     turns t =
         ex_e 𝓤 (λ (p : ℕ). ex 𝓤 (λ (r : Checked). ex 𝓤 (λ (u : Val). guard 𝓤 (Holds t p r) (⋆ 𝓛 (At p r u))))) (λ p.
         ex_e 𝓤 (λ (r : Checked). ex 𝓤 (λ (u : Val). guard 𝓤 (Holds t p r) (⋆ 𝓛 (At p r u)))) (λ r.
         ex_e 𝓤 (λ (u : Val). guard 𝓤 (Holds t p r) (⋆ 𝓛 (At p r u))) (λ u. guard_e 𝓤 (Holds t p r) (⋆ 𝓛 (At p r u)) (λ h. turn_at t p r u h))))
 
-    loops : ent 𝓤 (⋆ 𝓛 (At 0 start (C'.lowered start))) (Wp 𝓤 H Cs Λ En (mir.Syntax.loop-reader mirs.turn-1) Left)
+    loops : ent 𝓤 (⋆ 𝓛 (At 0 start (C'.lowered start))) (Wp 𝓤 H Cs Λ En (mir.Syntax.loop-reader mirs.turn) Left)
     loops =
         via 𝓤 (Inv (length b)) (into (length b) 0 start (C'.lowered start) (omega arith, stands_start edges b))
-        (loop_rule 𝓤 H 𝓛.laws 𝓣 ◌<◌ lt-wf_rel.wf En mirs.turn-1 Left Inv turns (length b))
+        (loop_rule 𝓤 H 𝓛.laws 𝓣 ◌<◌ lt-wf_rel.wf En mirs.turn Left Inv turns (length b))
 
     -- the locals as they are passed
     abbrev Passed : List (Item 𝓤)
@@ -420,9 +420,9 @@ module _ {M : Type 1} {𝓤 : Ura M} (𝓛 : Logic 𝓤) (mem : Memory → SProp
         ∷ ‵ (froom verdictTy l₀ 0) ∷ ‵ (fdies verdictTy l₀) ∷ Token ∷ ‵ (owns (ShrSlice (named 0) κ u8 ∷ usize ∷ []) (s, (edges, tt)) at) ∷ []
 
     -- the two assignments before the loop: the reader stands at 0, and nothing is checked
-    assigned : ent 𝓤 (⋆ 𝓛 Passed) (Wp 𝓤 H Cs Λ En mirs.t-1 (at_return 𝓤 H En Post))
+    assigned : ent 𝓤 (⋆ 𝓛 Passed) (Wp 𝓤 H Cs Λ En mirs.t (at_return 𝓤 H En Post))
     assigned =
-        qed 𝓛 Passed ∵ exec ! Cs Λ En mirs.t-1 (at_ret En Post) $
+        qed 𝓛 Passed ∵ exec ! Cs Λ En mirs.t (at_ret En Post) $
         assigns ! (agg ! (and_then ! (load ! (from ! (stop !)) (look ! 20 refl)) (and_then ! (lit ! tt) (no_more !)))) (from ! (stop !)) (init ! 16 refl (
           tt,
           (v-typed, (record { fits = lit< tt }, tt)),

@@ -25,13 +25,13 @@ abbrev turn : tie.After-check_capacities-channel invariant-loop decreases-loop �
 turn k = k.before.before.before.before
 
 judged : (k : tie.After-check_capacities-channel invariant-loop decreases-loop)
-    → Judged (capacity_checks (atℤ (turn k).before.args.capacities.now (2 * (turn k).loop.e)) (atℤ (turn k).before.args.capacities.now
-    (2 * (turn k).loop.e + 1)))
+    → Judged (capacity_checks (atℤ (turn k).args.capacities.now (2 * (turn k).loop-e.e)) (atℤ (turn k).args.capacities.now
+    (2 * (turn k).loop-e.e + 1)))
     k.check_capacities-channel.result
 judged k =
     rw (
-      number_of_bits _ (record { sfits = k.before.before.check_capacities-arg-1.given }),
-      number_of_bits _ (record { sfits = k.before.check_capacities-arg-in-loop-e-1.given }),
+      number_of_bits _ (record { sfits = k.check_capacities-arg-1.given }),
+      number_of_bits _ (record { sfits = k.check_capacities-arg-in-loop-e-1.given }),
     ) at k.check_capacities-channel.ensures
 
 -- ── the needs, in the order of the code ──
@@ -41,19 +41,19 @@ loop-holds c = (omega arith, omega arith, λ i l. absurd (omega arith))
 returns : tie.Need-returns-in-Refused invariant-loop decreases-loop
 unfolding limits_checks
 returns c =
-    let k = c.before.before.before in
-    let i = (turn k).loop in
-    first_in_turn _ _ i.e _ _ (omega arith) i.inv.2 (subst (Judged _) c.before.channel-1.given.1 (judged k))
+    let k = c in
+    let i = (turn k.before).loop-e in
+    first_in_turn _ _ i.e _ _ (omega arith) i.invariant.2 (subst (Judged _) c.in-Refused.is (judged k.before))
 
 loop-again : tie.Need-loop-e-preserved invariant-loop decreases-loop
 loop-again c =
-    let k = c.before.before in
-    let i = (turn k).loop in
-    (omega arith, i.inv.1, below_more _ i.e i.inv.2 (subst (Judged _) c.enum_told-1.given.1 (judged k)))
+    let k = c in
+    let i = (turn k.before).loop-e in
+    (omega arith, i.invariant.1, below_more _ i.e i.invariant.2 (subst (Judged _) c.in_default.is (judged k.before)))
 
 returns-2 : tie.Need-returns invariant-loop decreases-loop
 unfolding limits_checks
-returns-2 c = let i = c.before.loop-e in none_in_turn _ _ (λ e l. i.invariant.2 e (omega arith))
+returns-2 c = let i = c.loop-e in none_in_turn _ _ (λ e l. i.invariant.2 e (omega arith))
 
 pub check_found_spec : {M : Type 1} → statement M
 check_found_spec =

@@ -11,9 +11,9 @@ use Rattle.capture.proofs.entry_at.Statement.{statement}
 use Rattle.capture.proofs.entry_at.Tie as tie
 
 -- ── what is known once the length is enough ──
-whole : (c : tie.Else-capture-at-2) → c.before.before.before.before.before.before.args.at + record_length 5
-    ≤ length c.before.before.before.before.before.before.args.capture.now
-whole c = omega (arith, c.before.record_length.ensures.0)
+whole : (c : tie.Else-capture-at-2) → c.args.at + record_length 5
+    ≤ length c.args.capture.now
+whole c = omega (arith, c.record_length.ensures.0)
 
 -- ── the needs, in the order of the code ──
 returns : tie.Need-returns-then-capture-at
@@ -23,7 +23,7 @@ returns-2 : tie.Need-returns-then-capture-at-ne5
 returns-2 c = sym (reads_wrong _ _ c.if-capture-at-ne5.true)
 
 returns-3 : tie.Need-returns-then-capture-at-2
-returns-3 c = sym (reads_cut _ _ c.before.before.if-capture-at-ne5.false (omega (arith, c.before.record_length.ensures.0)))
+returns-3 c = sym (reads_cut _ _ c.if-capture-at-ne5.false (omega (arith, c.record_length.ensures.0)))
 
 add-read-u32 : tie.Need-overflow_add-at
 add-read-u32 c = omega (arith, whole c)
@@ -45,11 +45,11 @@ read-i32-requires c κs = omega (arith, whole c.before.before)
 
 returns-4 : tie.Need-returns
 returns-4 c =
-    let edge = c.before in
-    let tick = edge.before in
-    let long = tick.before in
+    let edge = c in
+    let tick = edge in
+    let long = tick in
     full_of tick.read_u32-tick.ensures edge.read_u16-edge.ensures (number_of_bits _ (record { sfits = c.read_i32-limit.type_inv }) ∙ c.read_i32-limit.ensures)
-    (sym (reads_full _ _ long.before.before.if-capture-at-ne5.false (whole long)))
+    (sym (reads_full _ _ long.if-capture-at-ne5.false (whole long.before.before.before)))
 
 pub entry_at_spec : {M : Type 1} → statement M
 entry_at_spec =

@@ -36,18 +36,18 @@ drawing s =
     drawing_of a.sizes.nodes a.sizes.edges a.sizes.outer a.tails.now a.rotations.now a.capacities.now
 
 abbrev capacities' : tie.After-take_limits-taken → List ℤ
-capacities' c = c.take_limits-taken.new.1.1.1.1.0
+capacities' c = c.take_limits-taken.new.capacities
 
 taken_as : (c : tie.After-take_limits-taken) (v : Verdict) → c.take_limits-taken.result ≡ v
     → LimitsTaken (begun c).args.sizes.edges (atℤ (begun c).args.capacities.now) (atℤ (capacities' c)) (begun c).args.capture.now
     (begun c).args.after.window (begun c).args.after.named v
 taken_as c v e =
     taken_widened (begun c).args.sizes.edges (atℤ (begun c).args.capacities.now) (atℤ (capacities' c)) (begun c).args.capture.now
-    c.before.before.before.wide.ensures c.before.before.wide64.ensures e c.take_limits-taken.ensures.1
+    c.wide.ensures c.wide64.ensures e c.take_limits-taken.ensures.1
 
 -- ── they passed ──
 abbrev limited : tie.In_default → tie.After-take_limits-taken
-limited c = c.before.before
+limited c = c.before
 
 abbrev start : tie.In_default → tie.Start
 start c = begun (limited c)
@@ -55,37 +55,37 @@ start c = begun (limited c)
 taken : (c : tie.In_default)
     → LimitsTaken (start c).args.sizes.edges (atℤ (start c).args.capacities.now) (atℤ (capacities' (limited c))) (start c).args.capture.now
     (start c).args.after.window (start c).args.after.named Passed
-taken c = taken_as (limited c) Passed c.enum_told-1.given.1
+taken c = taken_as (limited c) Passed c.in_default.is
 
 -- ── the last checks ──
 abbrev told : tie.After-check_last-last → tie.In_default
-told c = c.before.before.before.before
+told c = c.before
 
 last_as : (c : tie.After-check_last-last) (v : Verdict) → c.check_last-last.result ≡ v →
     let a = (start (told c)).args in
-    Judged (last_checks a.sizes.nodes a.sizes.edges a.after.source a.after.sink a.limits-1.now a.flows-1.now a.set-1.now) v
+    Judged (last_checks a.sizes.nodes a.sizes.edges a.after.source a.after.sink a.limits.now a.flows.now a.set.now) v
 last_as c v e = rw e at c.check_last-last.ensures
 
 -- ── all passed ──
 abbrev checked : tie.In_default-last → tie.In_default
-checked c = told c.before.before
+checked c = told c.before
 
 abbrev home : tie.After-words_for-words → tie.Start
 home c = start (checked c.before)
 
 last : (c : tie.In_default-last) →
     let a = (start (checked c)).args in
-    NoneOf (last_checks a.sizes.nodes a.sizes.edges a.after.source a.after.sink a.limits-1.now a.flows-1.now a.set-1.now)
-last c = last_as c.before.before Passed c.enum_told-in_default-last-1.given.1
+    NoneOf (last_checks a.sizes.nodes a.sizes.edges a.after.source a.after.sink a.limits.now a.flows.now a.set.now)
+last c = last_as c.before Passed c.in_default-last.is
 
 -- the checks of Largest, and room for the limits
 roomy : (c : tie.After-words_for-words) →
     let a = (home c).args in
-    NoneOf (search_checks a.sizes.nodes a.sizes.edges a.after.source a.after.sink a.flows-1.now a.set-1.now)
-    × (a.sizes.edges ≤ length a.limits-1.now)
+    NoneOf (search_checks a.sizes.nodes a.sizes.edges a.after.source a.after.sink a.flows.now a.set.now)
+    × (a.sizes.edges ≤ length a.limits.now)
 roomy c =
     let a = (home c).args in
-    last_search a.sizes.nodes a.sizes.edges a.after.source a.after.sink a.limits-1.now a.flows-1.now a.set-1.now (last c.before)
+    last_search a.sizes.nodes a.sizes.edges a.after.source a.after.sink a.limits.now a.flows.now a.set.now (last c.before)
 
 -- the capacities are those found
 are : (c : tie.In_default-last) →
@@ -101,35 +101,35 @@ found_at c =
 
 -- ── the needs, in the order of the code ──
 take-limits-requires : tie.Need-take_limits-taken-requires
-take-limits-requires c κs = let p = c.before.before.before.before.before.requires in (p.0, p.1.drawn.few_edges)
+take-limits-requires c κs = let p = c.requires in (p.0, p.1.drawn.few_edges)
 
 returns : tie.Need-returns-in-Refused
 returns c =
-    let k = c.before.before.before in
-    let a = (begun k).args in (
+    let k = c in
+    let a = (begun k.before).args in (
       refl,
       (
-        taking_refused (drawing (begun k)) a.capture.now a.after.window a.after.named a.after.source a.after.sink a.limits-1.now
-            a.flows-1.now a.set-1.now _ _
-            (taken_as k (Refused _ _) c.before.taken-1.given.1),
+        taking_refused (drawing (begun k.before)) a.capture.now a.after.window a.after.named a.after.source a.after.sink a.limits.now
+            a.flows.now a.set.now _ _
+            (taken_as k.before (Refused _ _) c.in-Refused.is),
         refl,
         refl,
       ),
     )
 
 check-last-requires : tie.Need-check_last-last-requires
-check-last-requires c κs = (start c.before.before.before).requires.1.drawn.few_nodes
+check-last-requires c κs = (start c).requires.1.drawn.few_nodes
 
 returns-2 : tie.Need-returns-in-Refused-last
 returns-2 c =
-    let k = c.before.before.before in
-    let t = told k in
+    let k = c in
+    let t = told k.before in
     let a = (start t).args in (
       refl,
       (
-        last_refused (drawing (start t)) a.capture.now a.after.window a.after.named a.after.source a.after.sink a.limits-1.now
-            a.flows-1.now a.set-1.now
-            (taken t).0 _ _ (last_as k (Refused _ _) c.before.last-1.given.1),
+        last_refused (drawing (start t)) a.capture.now a.after.window a.after.named a.after.source a.after.sink a.limits.now
+            a.flows.now a.set.now
+            (taken t).0 _ _ (last_as k.before (Refused _ _) c.in-Refused-last.is),
         refl,
         refl,
       ),
@@ -139,61 +139,61 @@ words-for-requires : tie.Need-words_for-words-requires
 words-for-requires c κs = (start (checked c)).requires.1.drawn.few_nodes
 
 part-write-limits-end : tie.Need-slice_bounds-write_limits-end
-part-write-limits-end c = (roomy c.before).1
+part-write-limits-end c = (roomy c).1
 
 write-limits-requires : tie.Need-write_limits-requires
 write-limits-requires c κs =
-    let h = c.before.before in
-    let s = home h in
-    (s.pre.1.drawn.few_edges, part_length s.args.sizes.edges s.args.limits-1.now (roomy h).1)
+    let h = c in
+    let s = home h.before in
+    (s.requires.1.drawn.few_edges, part_length s.args.sizes.edges s.args.limits.now (roomy h.before).1)
 
 -- ── Largest on them ──
 abbrev wrote : tie.After-write_limits → tie.After-words_for-words
-wrote c = c.before.before.before
+wrote c = c.before.before
 
 part-largest-end : tie.Need-slice_bounds-largest-end
 part-largest-end c =
-    let h = wrote c.before.before in
+    let h = wrote c.before in
     let a = (home h).args in
-    flows_in (found_at h) a.after.source a.after.sink a.flows-1.now a.set-1.now (roomy h).0
+    flows_in (found_at h) a.after.source a.after.sink a.flows.now a.set.now (roomy h).0
 
 part-largest-end-2 : tie.Need-slice_bounds-largest-end-2
 part-largest-end-2 c =
-    let h = wrote c.before.before.before in
+    let h = wrote c.before.before in
     let a = (home h).args in
-    omega (arith, words_in (found_at h) a.after.source a.after.sink a.flows-1.now a.set-1.now (roomy h).0, h.words_for-words.ensures)
+    omega (arith, words_in (found_at h) a.after.source a.after.sink a.flows.now a.set.now (roomy h).0, h.words_for-words.ensures)
 
 largest-requires : tie.Need-largest-requires
 largest-requires c κs =
-    let t = (wrote c.before.before.before.before).before in
-    let s = start (checked t) in
+    let t = (wrote c.before.before.before) in
+    let s = start (checked t.before) in
     let a = s.args in
     let 𝓜 = map_of a.sizes.nodes a.sizes.edges a.tails.now a.rotations.now in
-    let passed = (taken (checked t)).0 in
+    let passed = (taken (checked t.before)).0 in
     record {
       opened = record {
-        drawn = subst (Drawn 𝓜 (at a.lefts.now) a.sizes.faces a.sizes.outer) (sym (are t))
+        drawn = subst (Drawn 𝓜 (at a.lefts.now) a.sizes.faces a.sizes.outer) (sym (are t.before))
             (found_drawn 𝓜 (atℤ a.capacities.now) a.capture.now a.after.window a.after.named passed
-            (at a.lefts.now) a.sizes.faces a.sizes.outer s.pre.1.drawn);
-        walked = s.pre.1.walked;
+            (at a.lefts.now) a.sizes.faces a.sizes.outer s.requires.1.drawn);
+        walked = s.requires.1.walked;
       };
-      small = subst (λ f. (d : ℕ) → d < 2 * a.sizes.edges → Limited most_on_sheet (f d)) (sym (are t))
+      small = subst (λ f. (d : ℕ) → d < 2 * a.sizes.edges → Limited most_on_sheet (f d)) (sym (are t.before))
           (found_limited 𝓜 (atℤ a.capacities.now) a.capture.now a.after.window a.after.named passed);
     }
 
 returns-3 : tie.Need-returns
 returns-3 c =
-    let k = c.before.before.before in
-    let w = k.before.before.before.before.before in
-    let h = wrote w in
-    let t = h.before in
-    let s = start (checked t) in
+    let k = c in
+    let w = k in
+    let h = wrote w.before.before.before.before.before.before.before in
+    let t = h in
+    let s = start (checked t.before) in
     let a = s.args in
-    largest_given (drawing s) a.capture.now a.after.window a.after.named a.after.source a.after.sink a.limits-1.now
-    a.flows-1.now a.set-1.now
-    (taken (checked t)).0 (atℤ (capacities' (limited (checked t)))) (taken (checked t)).1 (last t) _ _ _ k.largest.result
-    (part_filled a.sizes.edges a.limits-1.now _ _ w.write_limits.ensures)
-    (largest_back (found_at h) a.after.source a.after.sink a.flows-1.now a.set-1.now (roomy h).0 h.words_for-words.result h.words_for-words.ensures
+    largest_given (drawing s) a.capture.now a.after.window a.after.named a.after.source a.after.sink a.limits.now
+    a.flows.now a.set.now
+    (taken (checked t.before)).0 (atℤ (capacities' (limited (checked t.before)))) (taken (checked t.before)).1 (last t.before) _ _ _ k.largest.result
+    (part_filled a.sizes.edges a.limits.now _ _ w.write_limits.ensures)
+    (largest_back (found_at h) a.after.source a.after.sink a.flows.now a.set.now (roomy h).0 h.words_for-words.result h.words_for-words.ensures
     _ _ k.largest.result k.largest.ensures)
 
 pub largest_after_spec : {M : Type 1} → statement M

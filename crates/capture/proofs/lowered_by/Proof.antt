@@ -6,17 +6,17 @@ use Rattle.capture.proofs.lowered_by.Statement.{statement}
 use Rattle.capture.proofs.lowered_by.Tie as tie
 
 returns : tie.Need-returns-then-mark-eq0
-returns c = let f = c.before.ranges in number_of_bits _ f.limit ∙ lowered_first _ _ _ c.if-mark-eq0.true
+returns c = let f = c.ranges in number_of_bits _ f.limit ∙ lowered_first _ _ _ c.if-mark-eq0.true
 
 returns-2 : tie.Need-returns-then-limit-present
 returns-2 c =
-    let f = c.before.before.ranges in
-    number_of_bits _ f.limit ∙ lowered_less _ _ _ c.before.if-mark-eq0.false (rw (number_of_bits _ f.limit, number_of_bits _ f.present) at c.if-limit-present.true)
+    let f = c.ranges in
+    number_of_bits _ f.limit ∙ lowered_less _ _ _ c.if-mark-eq0.false (rw (number_of_bits _ f.limit, number_of_bits _ f.present) at c.if-limit-present.true)
 
 returns-3 : tie.Need-returns-else-limit-present
 returns-3 c =
-    let f = c.before.before.ranges in
-    number_of_bits _ f.present ∙ lowered_kept _ _ _ c.before.if-mark-eq0.false (rw (number_of_bits _ f.limit, number_of_bits _ f.present) at
+    let f = c.ranges in
+    number_of_bits _ f.present ∙ lowered_kept _ _ _ c.if-mark-eq0.false (rw (number_of_bits _ f.limit, number_of_bits _ f.present) at
     c.if-limit-present.false)
 
 pub lowered_by_spec : {M : Type 1} → statement M

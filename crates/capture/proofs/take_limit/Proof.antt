@@ -11,8 +11,8 @@ use Rattle.capture.proofs.take_limit.Tie as tie
 
 returns : tie.Need-returns
 returns c =
-    let present = c.before in
-    let start = present.before.before in (
+    let present = c in
+    let start = present in (
       refl,
       ap (set start.args.capacities.now (2 * start.args.edge))
           (number_of_bits _ (record { sfits = c.Lowered-by.type_inv }) ∙ c.Lowered-by.ensures

@@ -44,15 +44,15 @@ abbrev begin : tie.After-entry_at-entry invariant-loop decreases-loop → tie.St
 begin k = (turn k).before.before
 
 abbrev number : tie.After-entry_at-entry invariant-loop decreases-loop → ℕ
-number k = (begin k).args.first + (turn k).loop.i
+number k = (begin k).args.first + (turn k).loop-i.i
 
 passed : (k : tie.After-entry_at-entry invariant-loop decreases-loop) → NoneOf (entry_checks (begin k).args.edges (begin k).args.capture.now (number k))
-passed k = (turn k).loop.invariant.3 (number k) (omega arith)
+passed k = (turn k).loop-i.invariant.3 (number k) (omega arith)
 
 -- what is found stands at its place, by the table of lengths
 found : (k : tie.After-entry_at-entry invariant-loop decreases-loop) → entry_at (begin k).args.capture.now (entry_place (number k)) ≡ k.entry_at-entry.result
 found k =
-    sym (k.entry_at-entry.ensures ∙ ap (λ n. entry_at (begin k).args.capture.now (n * number k)) k.before.record_length.ensures.0)
+    sym (k.entry_at-entry.ensures ∙ ap (λ n. entry_at (begin k).args.capture.now (n * number k)) k.record_length.ensures.0)
 
 -- so it is found whole, and nothing else is
 whole : (k : tie.After-entry_at-entry invariant-loop decreases-loop)
@@ -68,47 +68,47 @@ not_full (Full t' e' x') t e x (inl one) h = omega arith
 not_full (Full t' e' x') t e x (inr one) h = omega arith
 
 -- its edge
-channel : (e : tie.In-Full-2 invariant-loop decreases-loop)
-    → e.entry-1.given.0.1.0 ≡ channel_of (begin e.before.before).args.capture.now (number e.before.before)
-channel e = let k = e.before.before in full_channel _ _ _ _ _ (found k ∙ e.entry-1.given.1)
+channel : (e : tie.In-Full invariant-loop decreases-loop)
+    → e.in-Full.edge ≡ channel_of (begin e.before).args.capture.now (number e.before)
+channel e = let k = e in full_channel _ _ _ _ _ (found k.before ∙ e.in-Full.is)
 
-few : (e : tie.In-Full-2 invariant-loop decreases-loop) → e.entry-1.given.0.1.0 < 512
+few : (e : tie.In-Full invariant-loop decreases-loop) → e.in-Full.edge < 512
 few e =
-    let k = e.before.before in
-    omega (arith, channel e, passed_channel (begin k).args.edges (begin k).args.capture.now (number k) (passed k), (turn k).loop.invariant.1)
+    let k = e in
+    omega (arith, channel e, passed_channel (begin k.before).args.edges (begin k.before).args.capture.now (number k.before) (passed k.before), (turn k.before).loop-i.invariant.1)
 
 -- ── the needs, in the order of the code ──
 loop-holds : tie.Need-loop-i-init invariant-loop decreases-loop
-loop-holds c = let p = c.before.requires in (omega arith, p.1, p.2, p.3, taken_start _ _ _ _ p.0 (λ d. refl))
+loop-holds c = let p = c.requires in (omega arith, p.1, p.2, p.3, taken_start _ _ _ _ p.0 (λ d. refl))
 
 mul-entry-at : tie.Need-overflow_mul-record_length invariant-loop decreases-loop
 mul-entry-at c =
-    let i = c.before.before.loop-i in
+    let i = c.loop-i in
     let length_is = c.record_length.ensures.0 in
-    omega (arith, ap (λ n. n * (c.before.before.before.before.args.first + i.i)) length_is, i.invariant.2)
+    omega (arith, ap (λ n. n * (c.args.first + i.i)) length_is, i.invariant.2)
 
 take-limit-requires : tie.Need-take_limit-requires invariant-loop decreases-loop
 take-limit-requires c κs =
-    let e = c.before.before.before.before in
-    let τ = (turn e.before.before).loop.inv.4 in
-    (τ.marks_long, τ.long, omega (arith, c.wide.ensures, few e))
+    let e = c in
+    let τ = (turn e.before.before.before.before).loop-i.invariant.4 in
+    (τ.marks_long, τ.long, omega (arith, c.wide.ensures, few e.before.before.before))
 
 loop-less : tie.Need-loop-i-smaller-in-Full invariant-loop decreases-loop
 loop-less c = omega arith
 
 loop-again : tie.Need-loop-i-preserved-in-Full invariant-loop decreases-loop
 loop-again c =
-    let w = c.before in
-    let told = w.before.before.before in
-    let e = told.before in
-    let k = e.before.before in
-    let i = (turn k).loop in (
+    let w = c in
+    let told = w in
+    let e = told in
+    let k = e in
+    let i = (turn k.before.before.before.before.before).loop-i in (
       omega arith,
-      i.inv.1,
-      i.inv.2,
-      i.inv.3,
-      taken_step _ _ _ i.inv.4 w.wide.result _ (w.wide.ensures ∙ channel e) (omega (arith, w.wide.ensures, few e))
-          (number_of_bits _ (record { sfits = told.known_told-1.given.1.1.0.1 }) ∙ full_limit _ _ _ _ _ (found k ∙ e.entry-1.given.1))
+      i.invariant.1,
+      i.invariant.2,
+      i.invariant.3,
+      taken_step _ _ _ i.invariant.4 w.wide.result _ (w.wide.ensures ∙ channel e.before.before.before.before) (omega (arith, w.wide.ensures, few e.before.before.before.before))
+          (number_of_bits _ (record { sfits = told.known_told-1.given.1.1.0.1 }) ∙ full_limit _ _ _ _ _ (found k.before.before.before.before.before ∙ e.in-Full.is))
           c.take_limit.ensures.0 c.take_limit.ensures.1,
     )
 
@@ -116,16 +116,16 @@ loop-less-2 : tie.Need-loop-i-smaller invariant-loop decreases-loop
 loop-less-2 c = omega arith
 
 loop-again-2 : tie.Need-loop-i-preserved invariant-loop decreases-loop
-loop-again-2 c = let k = c.before in absurd (not_full k.entry_at-entry.result _ _ _ c.in-Full.keys2 (whole k))
+loop-again-2 c = let k = c in absurd (not_full k.entry_at-entry.result _ _ _ c.in-Full.keys2 (whole k.before))
 
 returns : tie.Need-returns invariant-loop decreases-loop
 returns c =
-    let i = c.before.loop-i in
-    let done : i.i ≡ c.before.before.before.args.count = omega arith in (
+    let i = c.loop-i in
+    let done : i.i ≡ c.args.count = omega arith in (
       i.invariant.4.long,
       λ d. i.invariant.4.capacities_are d
-          ∙ ap (λ n. laid (atℤ c.before.before.before.args.capacities.now) c.before.before.before.args.capture.now
-          c.before.before.before.args.first n d) done,
+          ∙ ap (λ n. laid (atℤ c.args.capacities.now) c.args.capture.now
+          c.args.first n d) done,
     )
 
 pub take_window_spec : {M : Type 1} → statement M

@@ -22,11 +22,11 @@ loop-holds : tie.Need-loop-e-init invariant-loop decreases-loop
 loop-holds c = (omega arith, omega arith, omega arith, copy_start _ _)
 
 slice-set-from-limits : tie.Need-bounds-limits-e invariant-loop decreases-loop
-slice-set-from-limits c = let i = c.before.before.loop-e in omega (arith, filled_length _ _ _ _ i.invariant.3 (omega (arith, i.invariant.0, i.invariant.2)), i.invariant.2)
+slice-set-from-limits c = let i = c.loop-e in omega (arith, filled_length _ _ _ _ i.invariant.3 (omega (arith, i.invariant.0, i.invariant.2)), i.invariant.2)
 
 loop-again : tie.Need-loop-e-preserved invariant-loop decreases-loop
 loop-again c =
-    let t = c.before.before in
+    let t = c in
     let i = t.loop-e in (
       omega arith,
       i.invariant.1,
@@ -35,12 +35,12 @@ loop-again c =
     )
 
 same_length : tie.Need-shape_of-limits invariant-loop decreases-loop
-same_length c = let i = c.before.loop-e in filled_length _ _ _ _ i.invariant.3 (omega (arith, i.invariant.0, i.invariant.2))
+same_length c = let i = c.loop-e in filled_length _ _ _ _ i.invariant.3 (omega (arith, i.invariant.0, i.invariant.2))
 
 returns : tie.Need-returns invariant-loop decreases-loop
 returns c =
-    let i = c.before.loop-e in
-    i.invariant.3 ∙ ap (λ n. filled n (λ e. atℤ c.before.before.args.capacities.now (2 * e)) c.before.before.args.limits-1.now) (omega arith)
+    let i = c.loop-e in
+    i.invariant.3 ∙ ap (λ n. filled n (λ e. atℤ c.args.capacities.now (2 * e)) c.args.limits.now) (omega arith)
 
 pub write_limits_spec : {M : Type 1} → statement M
 write_limits_spec =

@@ -20,14 +20,14 @@ Added = lts.After-total (total-reads.Asked, total-reads.Learnt, narrow-reads.Ask
 
 sum_is : (c : Added)
     → to_z w64 (of_z w64 c.total.result)
-    ≡ cut_of c.before.args.darts (at c.before.args.tails.now) (atℤ c.before.args.capacities.now) (flagged c.before.args.inside.now)
+    ≡ cut_of c.args.darts (at c.args.tails.now) (atℤ c.args.capacities.now) (flagged c.args.inside.now)
 sum_is c = to_z-of_z w64 _ (record { sfits = c.total.type_inv }) ∙ c.total.ensures
 
 total-requires : tie.Need-total-requires
 total-requires c κs = (c.requires.0, c.requires.1, c.requires.2, λ d l. capacity_short (c.requires.3 d l))
 
 narrow-requires : tie.Need-narrow-requires
-narrow-requires c κs = rw (sum_is c) (capacity_fits _ _ _ _ c.before.requires.0 c.before.requires.3)
+narrow-requires c κs = rw (sum_is c) (capacity_fits _ _ _ _ c.requires.0 c.requires.3)
 
 returns : tie.Need-returns
 returns c = number_of_bits _ (record { sfits = c.narrow.type_inv }) ∙ c.narrow.ensures ∙ sum_is c.before

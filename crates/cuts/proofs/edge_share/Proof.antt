@@ -12,59 +12,59 @@ use Rattle.cuts.proofs.edge_share.Tie as tie
 
 -- the mark of a node, and whether it is flagged
 abbrev mark_of : tie.After-at_head-1 → ℕ → ℕ
-mark_of c = at c.before.before.before.before.before.before.args.inside.now
+mark_of c = at c.args.inside.now
 
 abbrev flag-of : tie.After-at_head-1 → ℕ → Bool
-flag-of c = flagged c.before.before.before.before.before.before.args.inside.now
+flag-of c = flagged c.args.inside.now
 
 abbrev tail_at : tie.After-at_head-1 → ℕ
-tail_at c = c.before.before.before.before.wide-tail.result-1
+tail_at c = c.wide-tail.result
 
 abbrev head_at : tie.After-at_head-1 → ℕ
-head_at c = c.before.before.wide-head.result-1
+head_at c = c.wide-head.result
 
 tail_is : (c : tie.After-at_head-1)
     → flag-of c (tail_at c)
-    ≡ flag-of c (at c.before.before.before.before.before.before.args.tails.now (2 * c.before.before.before.before.before.before.args.e))
-tail_is c = ap (flag-of c) c.before.before.before.before.wide-tail.ensures
+    ≡ flag-of c (at c.args.tails.now (2 * c.args.e))
+tail_is c = ap (flag-of c) c.wide-tail.ensures
 
 head_is : (c : tie.After-at_head-1)
     → flag-of c (head_at c)
-    ≡ flag-of c (at c.before.before.before.before.before.before.args.tails.now (2 * c.before.before.before.before.before.before.args.e + 1))
-head_is c = ap (flag-of c) c.before.before.wide-head.ensures
+    ≡ flag-of c (at c.args.tails.now (2 * c.args.e + 1))
+head_is c = ap (flag-of c) c.wide-head.ensures
 
 returns : tie.Need-returns-then-at_tail-at_head
 returns c =
-    let l = c.before in
-    let s = l.before.before.before.before.before.before in
-    let n = one_mark (mark_of l (tail_at l)) (mark_of l (head_at l)) c.if-at_tail-at_head.true in
-    share_none s.args.e (at s.args.tails.now) (atℤ s.args.lengths.now) (flagged s.args.inside.now) _ _ (tail_is l) (head_is l) n.0 n.1
+    let l = c in
+    let s = l in
+    let n = one_mark (mark_of l.before (tail_at l.before)) (mark_of l.before (head_at l.before)) c.if-at_tail-at_head.true in
+    share_none s.args.e (at s.args.tails.now) (atℤ s.args.lengths.now) (flagged s.args.inside.now) _ _ (tail_is l.before) (head_is l.before) n.0 n.1
 
 returns-2 : tie.Need-returns-then-at_tail-eq1
 returns-2 c =
-    let o = c.before.before in
-    let l = o.before in
-    let s = l.before.before.before.before.before.before in
+    let o = c in
+    let l = o in
+    let s = l in
     number_of_bits _ (record { sfits = c.result-1.given })
-    ∙ share_first s.args.e (at s.args.tails.now) (atℤ s.args.lengths.now) (flagged s.args.inside.now) _ _ (tail_is l) (head_is l)
-    (first_marked (mark_of l (tail_at l)) (mark_of l (head_at l)) o.if-at_tail-at_head.false c.before.if-at_tail-eq1.true)
+    ∙ share_first s.args.e (at s.args.tails.now) (atℤ s.args.lengths.now) (flagged s.args.inside.now) _ _ (tail_is l.before.before.before) (head_is l.before.before.before)
+    (first_marked (mark_of l.before.before.before (tail_at l.before.before.before)) (mark_of l.before.before.before (head_at l.before.before.before)) o.if-at_tail-at_head.false c.if-at_tail-eq1.true)
 
 returns-3 : tie.Need-returns-then-at_head-eq1
 returns-3 c =
-    let o = c.before.before in
-    let l = o.before.before in
-    let s = l.before.before.before.before.before.before in
+    let o = c in
+    let l = o in
+    let s = l in
     number_of_bits _ (record { sfits = c.result-then-at_head-eq1-1.given })
-    ∙ share_second s.args.e (at s.args.tails.now) (atℤ s.args.lengths.now) (flagged s.args.inside.now) _ _ (tail_is l) (head_is l)
-    (second_marked (mark_of l (tail_at l)) (mark_of l (head_at l)) o.if-at_tail-eq1.false c.before.if-at_head-eq1.true)
+    ∙ share_second s.args.e (at s.args.tails.now) (atℤ s.args.lengths.now) (flagged s.args.inside.now) _ _ (tail_is l.before.before.before.before) (head_is l.before.before.before.before)
+    (second_marked (mark_of l.before.before.before.before (tail_at l.before.before.before.before)) (mark_of l.before.before.before.before (head_at l.before.before.before.before)) o.if-at_tail-eq1.false c.if-at_head-eq1.true)
 
 returns-4 : tie.Need-returns
 returns-4 c =
-    let o = c.before in
-    let l = o.before.before in
-    let s = l.before.before.before.before.before.before in
-    let n = none_marked (mark_of l (tail_at l)) (mark_of l (head_at l)) o.if-at_tail-eq1.false c.if-at_head-eq1.false in
-    share_none s.args.e (at s.args.tails.now) (atℤ s.args.lengths.now) (flagged s.args.inside.now) _ _ (tail_is l) (head_is l) n.0 n.1
+    let o = c in
+    let l = o in
+    let s = l in
+    let n = none_marked (mark_of l.before.before.before (tail_at l.before.before.before)) (mark_of l.before.before.before (head_at l.before.before.before)) o.if-at_tail-eq1.false c.if-at_head-eq1.false in
+    share_none s.args.e (at s.args.tails.now) (atℤ s.args.lengths.now) (flagged s.args.inside.now) _ _ (tail_is l.before.before.before) (head_is l.before.before.before) n.0 n.1
 
 pub edge_share_spec : {M : Type 1} → statement M
 edge_share_spec =

@@ -31,23 +31,23 @@ share c = c.before.before
 
 -- the cut over the darts of the first n edges
 abbrev cut_to : tie.At-loop-e invariant-loop decreases-loop → ℕ → ℤ
-cut_to l n = cut_of (2 * n) (at l.before.args.tails.now) (atℤ l.before.args.lengths.now) (flagged l.before.args.inside.now)
+cut_to l n = cut_of (2 * n) (at l.args.tails.now) (atℤ l.args.lengths.now) (flagged l.args.inside.now)
 
 -- the share of edge e is added: the sum is the cut over the darts of the edges to e
 sum_next : (c : tie.After-widen invariant-loop decreases-loop)
-    → to_z w64 (turn (share c)).loop.sum +ℤ to_z w64 (of_z w64 c.widen.result) ≡ cut_to (turn (share c)) ((turn (share c)).loop.e + 1)
+    → to_z w64 (turn (share c)).loop-e.sum-bits +ℤ to_z w64 (of_z w64 c.widen.result) ≡ cut_to (turn (share c)) ((turn (share c)).loop-e.e + 1)
 sum_next c =
-    ap₂ ◌+ℤ◌ (turn (share c)).loop.inv.1
+    ap₂ ◌+ℤ◌ (turn (share c)).loop-e.invariant.1
     (to_z-of_z w64 _ (record { sfits = c.widen.type_inv }) ∙ c.widen.ensures
-    ∙ number_of_bits _ (record { sfits = (share c).edge-share.type_inv }) ∙ (share c).edge-share.ensures)
+    ∙ number_of_bits _ (record { sfits = (share c).edge_share-share.type_inv }) ∙ (share c).edge_share-share.ensures)
     ∙ cut_edge _ _ _ _
 
 -- a share of 0 is left out
 sum-stays : (c : tie.After-edge_share-share invariant-loop decreases-loop) → of_z w32 c.edge_share-share.result ≡ 0
-    → cut_to (turn c) (turn c).loop.e ≡ cut_to (turn c) ((turn c).loop.e + 1)
+    → cut_to (turn c) (turn c).loop-e.e ≡ cut_to (turn c) ((turn c).loop-e.e + 1)
 sum-stays c z =
     let none : pos 0 ≡ c.edge_share-share.result = sym (ap (to_z w32) z) ∙ number_of_bits _ (record { sfits = c.edge_share-share.type_inv }) in
-    zero_right _ ∙ ap (λ x. cut_to (turn c) (turn c).loop.e +ℤ x) (none ∙ c.edge_share-share.ensures) ∙ cut_edge _ _ _ _
+    zero_right _ ∙ ap (λ x. cut_to (turn c) (turn c).loop-e.e +ℤ x) (none ∙ c.edge_share-share.ensures) ∙ cut_edge _ _ _ _
 
 -- ── the needs, in the order of the code ──
 loop-holds : tie.Need-loop-e-init invariant-loop decreases-loop
@@ -55,33 +55,33 @@ loop-holds c = (omega arith, sym (cut_none _ _ _))
 
 edge-share-requires : tie.Need-edge_share-share-requires invariant-loop decreases-loop
 edge-share-requires c κs =
-    let s = c.before.before in
-    let e = c.before.loop-e.e in
+    let s = c in
+    let e = c.loop-e.e in
     let l = c.loop-e-test.true in
     (omega (arith, s.requires.0), s.requires.2 (2 * e) (omega (arith, s.requires.1)), s.requires.2 (2 * e + 1) (omega (arith, s.requires.1)))
 
 plus64-requires : tie.Need-plus64-sum-requires invariant-loop decreases-loop
 plus64-requires c κs =
     let l = turn (share c) in
-    let p = l.before.pre in
-    let t = (share c).before.loop-e-test.true in
+    let p = l.requires in
+    let t = (share c).loop-e-test.true in
     rw (sum_next c) (cut_fits (2 * (l.loop-e.e + 1)) _ _ _ (omega (arith, p.0)) (λ i m. p.3 i (omega (arith, p.1))))
 
 loop-again : tie.Need-loop-e-preserved invariant-loop decreases-loop
 loop-again c =
-    let t = c.before.before.loop-e-test.true in (
+    let t = c.loop-e-test.true in (
       omega arith,
       ⊎_elim
-          (λ w. ap (to_z w64) w.3 ∙ to_z-of_z w64 _ (record { sfits = w.2.ok }) ∙ w.2.ensures
-          ∙ sum_next (record { before = record { before = c.before; if1 = w.0 }; widen = w.1 }))
-          (λ w. ap (to_z w64) w.1 ∙ (turn c.before).loop.inv.1 ∙ sum-stays c.before w.0.left)
-          c.if-share-ne0.branch,
+          (λ w. ap (to_z w64) w.sum-is-bits ∙ to_z-of_z w64 _ (record { sfits = w.plus64-sum.type_inv }) ∙ w.plus64-sum.ensures
+          ∙ sum_next (record { before = record { before = c.before; if-share-ne0 = w.if-share-ne0 }; widen = w.widen }))
+          (λ w. ap (to_z w64) w.sum-is-bits ∙ (turn c.before).loop-e.invariant.1 ∙ sum-stays c.before w.if-share-ne0.false)
+          c.if-share-ne0.branch-raw,
     )
 
 returns : tie.Need-returns invariant-loop decreases-loop
 returns c =
-    let s = c.before.before in
-    let o = c.before.loop-e in
+    let s = c in
+    let o = c.loop-e in
     let all : 2 * o.e ≡ s.args.darts = omega (arith, s.requires.1) in
     o.invariant.1 ∙ ap (λ n. cut_of n (at s.args.tails.now) (atℤ s.args.lengths.now) (flagged s.args.inside.now)) all
 

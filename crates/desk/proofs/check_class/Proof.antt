@@ -21,8 +21,8 @@ returns-2 c = inr (λ h. omega arith, inl (inl (omega arith), refl, refl))
 
 mul-if3 : tie.Need-overflow_mul-n
 mul-if3 c =
-    let few : c.before.before.args.n ≤ 1000 = omega arith in
-    record { fits = omega (arith, mul-le-mul few c.before.before.requires.1) }
+    let few : c.args.n ≤ 1000 = omega arith in
+    record { fits = omega (arith, mul-le-mul few c.requires.1) }
 
 returns-3 : tie.Need-returns-then-settings-n
 unfolding class_checks FirstOf
@@ -30,14 +30,14 @@ returns-3 c = inr (λ h. omega arith, inl (inr (inl (omega arith)), refl, refl))
 
 mul-if4 : tie.Need-overflow_mul-n-2
 mul-if4 c =
-    let few : c.before.before.before.before.args.n ≤ 1000 = omega arith in
+    let few : c.args.n ≤ 1000 = omega arith in
     record { fits = omega (arith, mul-le-mul few c.words_for.ensures.1) }
 
 returns-4 : tie.Need-returns-then-sets-n
 unfolding class_checks FirstOf
 returns-4 c =
-    let a = c.before.before.before.before.before.args in
-    let short = subst (λ k. a.sets < a.n * k) c.before.words_for.ensures.0 c.if-sets-n.true in
+    let a = c.args in
+    let short = subst (λ k. a.sets < a.n * k) c.words_for.ensures.0 c.if-sets-n.true in
     inr (λ h. omega arith, inl (inr (inr (inl short)), refl, refl))
 
 returns-5 : tie.Need-returns-then-points-n
@@ -47,10 +47,10 @@ returns-5 c = inr (λ h. omega arith, inl (inr (inr (inr (omega arith))), refl, 
 returns-6 : tie.Need-returns
 unfolding class_checks NoneOf
 returns-6 c =
-    let a = c.before.before.before.before.before.before.args in
+    let a = c.args in
     let f : a.kinds < a.n → ⊥ = λ l. omega arith in
     let g : a.settings < a.n * a.edges → ⊥ = λ l. omega arith in
-    let h = subst (λ k. a.sets < a.n * k → ⊥) c.before.before.words_for.ensures.0 (λ l. omega (arith, c.before.if-sets-n.false)) in
+    let h = subst (λ k. a.sets < a.n * k → ⊥) c.words_for.ensures.0 (λ l. omega (arith, c.if-sets-n.false)) in
     let i : a.points < a.n → ⊥ = λ l. omega arith in
     (λ l. omega arith, (neither f (neither g (neither h i)), tt))
 

@@ -25,22 +25,22 @@ returns-3 c = inr (neither (λ l. omega arith) (λ l. omega arith), inl (omega a
 returns-4 : tie.Need-returns-then-value-ltminus600000000
 unfolding end_checks value_checks FirstOf
 returns-4 c =
-    let f = c.before.before.before.before.ranges.value in
+    let f = c.ranges.value in
     let low = lt_of_test _ _ (rw (number_of_bits _ f) at c.if-value-ltminus600000000.true) in
     inr (neither (λ l. omega arith) (λ l. omega arith), inr (λ e. omega arith, inl (inl low, refl, refl)))
 
 returns-5 : tie.Need-returns-then-value-gt600000000
 unfolding end_checks value_checks FirstOf
 returns-5 c =
-    let f = c.before.before.before.before.before.ranges.value in
+    let f = c.ranges.value in
     let high = lt_of_test _ _ (rw (number_of_bits _ f) at c.if-value-gt600000000.true) in
     inr (neither (λ l. omega arith) (λ l. omega arith), inr (λ e. omega arith, inl (inr high, refl, refl)))
 
 returns-6 : tie.Need-returns
 unfolding end_checks value_checks NoneOf
 returns-6 c =
-    let f = c.before.before.before.before.before.ranges.value in
-    let low = ge_of_test _ _ (rw (number_of_bits _ f) at c.before.if-value-ltminus600000000.false) in
+    let f = c.ranges.value in
+    let low = ge_of_test _ _ (rw (number_of_bits _ f) at c.if-value-ltminus600000000.false) in
     let high = ge_of_test _ _ (rw (number_of_bits _ f) at c.if-value-gt600000000.false) in
     (neither (λ l. omega arith) (λ l. omega arith), (λ e. omega arith, (neither (λ h. lt_le_clash h low) (λ h. lt_le_clash h high), tt)))
 

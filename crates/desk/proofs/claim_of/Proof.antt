@@ -11,7 +11,7 @@ returns : tie.Need-returns-then-kind-eq1
 returns c = claim_none _ _ (omega arith)
 
 returns-2 : tie.Need-returns
-returns-2 c = ap Value (number_of_bits _ c.before.ranges.number) ∙ claim_value _ _ (λ e. omega arith)
+returns-2 c = ap Value (number_of_bits _ c.ranges.number) ∙ claim_value _ _ (λ e. omega arith)
 
 pub claim_of_spec : {M : Type 1} → statement M
 claim_of_spec = tie.close (tie.spec returns returns-2)

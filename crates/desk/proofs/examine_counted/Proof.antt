@@ -27,68 +27,68 @@ begun c = c.before.before.before.before.before.before.before
 asked : (c : tie.After-check_question-asked) (v : Verdict) → c.check_question-asked.result ≡ v
     → Judged (end_checks (nodes_of (begun c).args.sheet.now) (begun c).args.source (begun c).args.sink ++ value_checks (begun c).args.value) v
 asked c v e =
-    question_as _ _ _ _ _ _ _ _ _ v c.check_question-asked.ensures (begun c).requires.1 c.before.before.wide.ensures c.before.wide-2.ensures
+    question_as _ _ _ _ _ _ _ _ _ v c.check_question-asked.ensures (begun c).requires.1 c.wide.ensures c.wide-2.ensures
     (number_of_bits _ (begun c).ranges.value) e
 
 returns : tie.Need-returns-in-Refused
 returns c =
-    let q = c.before.before.before in
-    let s = begun q in
+    let q = c in
+    let s = begun q.before in
     let a = s.args in
-    (question_refused a.sheet.now a.source a.sink a.value _ _ _ _ _ s.pre.0 _ _ (asked q (Refused _ _) c.before.asked-1.given.1), refl)
+    (question_refused a.sheet.now a.source a.sink a.value _ _ _ _ _ s.requires.0 _ _ (asked q.before (Refused _ _) c.in-Refused.is), refl)
 
 -- ── 32 and 16 ──
 abbrev first : tie.After-check_class-room → tie.After-check_question-asked
-first c = c.before.before.before
+first c = c.before.before
 
 abbrev start : tie.After-check_class-room → tie.Start
 start c = begun (first c)
 
 check-class-requires : tie.Need-check_class-room-requires
 check-class-requires c κs =
-    let s = begun c.before.before in
-    let few = counts_fit _ s.pre.0 in
-    (omega (arith, few.0, s.pre.1), omega (arith, few.1, s.pre.2))
+    let s = begun c.before in
+    let few = counts_fit _ s.requires.0 in
+    (omega (arith, few.0, s.requires.1), omega (arith, few.1, s.requires.2))
 
 passed : (c : tie.After-check_class-room)
     → NoneOf (end_checks (nodes_of (start c).args.sheet.now) (start c).args.source (start c).args.sink ++ value_checks (start c).args.value)
-passed c = asked (first c) Passed c.before.enum_told-1.given.1
+passed c = asked (first c) Passed c.in_default.is
 
 returns-2 : tie.Need-returns-in-Refused-room
 returns-2 c =
-    let k = c.before.before.before in
-    let s = start k in
+    let k = c in
+    let s = start k.before in
     let a = s.args in (
-      class_refused a.sheet.now a.source a.sink a.value _ _ _ _ _ s.pre.0 (passed k) _ _
-          (class_as _ _ _ _ _ _ _ _ _ _ (Refused _ _) k.check_class-room.ensures s.pre.1 s.pre.2 c.before.room-1.given.1),
+      class_refused a.sheet.now a.source a.sink a.value _ _ _ _ _ s.requires.0 (passed k.before) _ _
+          (class_as _ _ _ _ _ _ _ _ _ _ (Refused _ _) k.check_class-room.ensures s.requires.1 s.requires.2 c.in-Refused-room.is),
       refl,
     )
 
 -- ── the class is accepted ──
 abbrev checked : tie.In_default-room → tie.After-check_class-room
-checked c = c.before.before
+checked c = c.before
 
 abbrev base : tie.In_default-room → tie.Start
 base c = start (checked c)
 
 accepted : (c : tie.In_default-room)
     → NoneOf (class_checks (nodes_of (base c).args.sheet.now) (edges_of (base c).args.sheet.now) (length (base c).args.claims.now)
-    (length (base c).args.kinds.now) (length (base c).args.settings.now) (length (base c).args.sets.now) (length (base c).args.points-1.now))
+    (length (base c).args.kinds.now) (length (base c).args.settings.now) (length (base c).args.sets.now) (length (base c).args.points.now))
 accepted c =
-    class_as _ _ _ _ _ _ _ _ _ _ Passed (checked c).check-class.ensures (base c).requires.1 (base c).requires.2 c.enum_told-in_default-room-1.given.1
+    class_as _ _ _ _ _ _ _ _ _ _ Passed (checked c).check_class-room.ensures (base c).requires.1 (base c).requires.2 c.in_default-room.is
 
 returns-3 : tie.Need-returns-then-n-eq0
 returns-3 c =
-    let t = c.before in
-    let s = base t in
+    let t = c in
+    let s = base t.before in
     let a = s.args in
-    (class_accepted a.sheet.now a.source a.sink a.value _ _ _ _ _ s.pre.0 (passed (checked t)) (accepted t), c.if-n-eq0.true, refl)
+    (class_accepted a.sheet.now a.source a.sink a.value _ _ _ _ _ s.requires.0 (passed (checked t.before)) (accepted t.before), c.if-n-eq0.true, refl)
 
 whole : (c : tie.In_default-room) → Asked (base c).args.sheet.now (base c).args.source (base c).args.sink
 whole c =
     let s = base c in
     let a = s.args in
-    asked_of a.sheet.now a.source a.sink a.value 0 0 0 0 0 s.pre.0 (passed (checked c))
+    asked_of a.sheet.now a.source a.sink a.value 0 0 0 0 0 s.requires.0 (passed (checked c))
 
 find-largest-requires : tie.Need-find_largest-largest-requires
 find-largest-requires c κs = whole c.before
@@ -97,78 +97,78 @@ room : (c : tie.In_default-room)
     → (length (base c).args.claims.now ≤ 1000) × (length (base c).args.claims.now ≤ length (base c).args.kinds.now)
     × (length (base c).args.claims.now * (base c).args.edges ≤ length (base c).args.settings.now)
     × (length (base c).args.claims.now * words_for (base c).args.nodes ≤ length (base c).args.sets.now)
-    × (length (base c).args.claims.now ≤ length (base c).args.points-1.now)
-room c = class_room _ _ _ _ _ _ _ (class_as _ _ _ _ _ _ _ _ _ _ Passed (checked c).check-class.ensures refl refl c.enum_told-in_default-room-1.given.1)
+    × (length (base c).args.claims.now ≤ length (base c).args.points.now)
+room c = class_room _ _ _ _ _ _ _ (class_as _ _ _ _ _ _ _ _ _ _ Passed (checked c).check_class-room.ensures refl refl c.in_default-room.is)
 
 mark-papers-requires : tie.Need-mark_papers-requires
 mark-papers-requires c κs =
-    let t = c.before.before.before in
-    let s = base t in
-    let r = room t in
-    (whole t, s.pre.1, s.pre.2, r.0, r.1, r.2, r.3, r.4)
+    let t = c in
+    let s = base t.before.before.before in
+    let r = room t.before.before.before in
+    (whole t.before.before.before, s.requires.1, s.requires.2, r.0, r.1, r.2, r.3, r.4)
 
 -- ── the papers are marked ──
 abbrev settled : tie.After-mark_papers → tie.In_default-room
 settled c = c.before.before.before.before
 
 abbrev points' : tie.After-mark_papers → List ℕ
-points' c = c.mark_papers.new.1.1.1.1.1.1.1.1.1.1.1.0
+points' c = c.mark_papers.new.points
 
 -- a place for each paper's points, and a paper
 places : (c : tie.After-mark_papers) → length (base (settled c)).args.claims.now ≤ length (points' c)
 places c = omega (arith, (room (settled c)).4, c.mark_papers.ensures.2.0)
 
 some : (c : tie.After-mark_papers) → 0 < length (base (settled c)).args.claims.now
-some c = omega (arith, c.before.before.before.if-n-eq0.false)
+some c = omega (arith, c.if-n-eq0.false)
 
 sum-of-requires : tie.Need-sum_of-sum-requires
-sum-of-requires c κs = let m = c.before.before.before in (places m, (room (settled m)).0, m.mark_papers.ensures.1)
+sum-of-requires c κs = let m = c in (places m.before.before, (room (settled m.before.before)).0, m.mark_papers.ensures.1)
 
 least-of-requires : tie.Need-least_of-least-requires
-least-of-requires c κs = let m = c.before.before.before.before.before in (places m, some m)
+least-of-requires c κs = let m = c in (places m.before.before.before, some m.before.before.before)
 
 greatest-of-requires : tie.Need-greatest_of-greatest-requires
-greatest-of-requires c κs = let m = c.before.before.before.before.before.before.before in (places m, some m)
+greatest-of-requires c κs = let m = c in (places m.before.before.before.before, some m.before.before.before.before)
 
 -- the places of the figures
 abbrev lowest : tie.After-greatest_of-greatest → tie.After-least_of-least
-lowest c = c.before.before
+lowest c = c.before
 
 abbrev added : tie.After-greatest_of-greatest → tie.After-sum_of-sum
-added c = (lowest c).before.before
+added c = (lowest c).before
 
 abbrev marked : tie.After-greatest_of-greatest → tie.After-mark_papers
-marked c = (added c).before.before.before.before
+marked c = (added c).before.before.before
 
 narrow-requires : tie.Need-narrow-requires
 narrow-requires c κs = omega (arith, (room (settled (marked c))).0)
 
 narrow-requires-2 : tie.Need-narrow-requires-2
-narrow-requires-2 c κs = (added c.before).sum_of.ensures.1
+narrow-requires-2 c κs = (added c.before).sum_of-sum.ensures.1
 
 slice-read-t40 : tie.Need-bounds-points-least
 slice-read-t40 c =
-    let g = c.before.before.before in
-    omega (arith, (lowest g).least_of.ensures.0, places (marked g))
+    let g = c in
+    omega (arith, (lowest g.before.before.before).least_of-least.ensures.0, places (marked g.before.before.before))
 
 slice-read-t42 : tie.Need-bounds-points-greatest
 slice-read-t42 c =
-    let g = c.before.before.before.before in
-    omega (arith, g.greatest_of-greatest.ensures.0, places (marked g))
+    let g = c in
+    omega (arith, g.greatest_of-greatest.ensures.0, places (marked g.before.before.before.before))
 
 same_length : tie.Need-shape_of-points
-same_length c = let g = c.before.before.before.before in (marked g).mark-papers.ensures.2.0
+same_length c = let g = c in (marked g.before.before.before.before).mark_papers.ensures.2.0
 
 returns-4 : tie.Need-returns
 returns-4 c =
-    let n = c.before.before.before in
-    let g = n.before in
-    let m = marked g in
+    let n = c in
+    let g = n in
+    let m = marked g.before.before.before.before in
     let t = settled m in
     let s = base t in
     let a = s.args in
-    let f = m.before.before in (
-      class_accepted a.sheet.now a.source a.sink a.value _ _ _ _ _ s.pre.0 (passed (checked t)) (accepted t),
+    let f = m in (
+      class_accepted a.sheet.now a.source a.sink a.value _ _ _ _ _ s.requires.0 (passed (checked t)) (accepted t),
       (
         f.find_largest-largest.result,
         f.find_largest-largest.ensures,
@@ -180,9 +180,9 @@ returns-4 c =
       m.mark_papers.ensures.2,
       record {
         number_is = n.narrow.ensures;
-        sum_is = c.before.before.narrow-2.ensures ∙ (added g).sum_of.ensures.0;
-        least_reached = ((lowest g).least_of.result, (lowest g).least_of.ensures.0, refl);
-        least_below = (lowest g).least_of.ensures.1;
+        sum_is = c.narrow-2.ensures ∙ (added g.before.before.before.before).sum_of-sum.ensures.0;
+        least_reached = ((lowest g.before.before.before.before).least_of-least.result, (lowest g.before.before.before.before).least_of-least.ensures.0, refl);
+        least_below = (lowest g.before.before.before.before).least_of-least.ensures.1;
         greatest_reached = (g.greatest_of-greatest.result, g.greatest_of-greatest.ensures.0, refl);
         greatest_above = g.greatest_of-greatest.ensures.1;
       },

@@ -22,9 +22,9 @@ loop-holds c = (omega (arith, c.requires.1), omega arith, omega arith, first (at
 
 loop-again : tie.Need-loop-q-preserved-then-points-best invariant-loop decreases-loop
 loop-again c =
-    let t = c.before.before.before in
-    let l = t.before.loop-q in
-    let p = t.before.before.args.points.now in (
+    let t = c in
+    let l = t.loop-q in
+    let p = t.args.points.now in (
       omega (arith, t.loop-q-test.true),
       omega arith,
       omega arith,
@@ -33,9 +33,9 @@ loop-again c =
 
 loop-again-2 : tie.Need-loop-q-preserved invariant-loop decreases-loop
 loop-again-2 c =
-    let t = c.before.before.before in
-    let l = t.before.loop-q in
-    let p = t.before.before.args.points.now in (
+    let t = c in
+    let l = t.loop-q in
+    let p = t.args.points.now in (
       omega (arith, t.loop-q-test.true),
       omega arith,
       omega (arith, l.invariant.2),
@@ -44,7 +44,7 @@ loop-again-2 c =
 
 returns : tie.Need-returns invariant-loop decreases-loop
 returns c =
-    let l = c.before.loop-q in
+    let l = c.loop-q in
     (omega (arith, l.invariant.2, l.invariant.0), λ j m. l.invariant.3 j (omega (arith, m, c.loop-q-test.false)))
 
 pub greatest_of_spec : {M : Type 1} → statement M

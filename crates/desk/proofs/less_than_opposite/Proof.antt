@@ -11,7 +11,7 @@ use Rattle.desk.proofs.less_than_opposite.Tie as tie
 
 returns : tie.Need-returns
 returns c =
-    let f = c.before.ranges in
+    let f = c.ranges in
     ap (λ x. lt_z x (negsuc 0))
     (to_z-of_z w64 _ (record { sfits = c.add32.type_inv }) ∙ c.add32.ensures ∙ ap₂ ◌+ℤ◌ (number_of_bits _ f.x) (number_of_bits _ f.v))
 

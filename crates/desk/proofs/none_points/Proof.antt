@@ -16,14 +16,14 @@ proved c = rw (number_of_bits _ (begun c).ranges.total) at c.proves_none.ensures
 
 returns : tie.Need-returns-then-proves_none
 returns c =
-    let p = c.before in
-    earned 6 (said_yes p.before.before.claims_none.ensures p.before.if-claims_none.true, said_yes (proved p) c.if-proves_none.true)
+    let p = c in
+    earned 6 (said_yes p.claims_none.ensures p.if-claims_none.true, said_yes (proved p.before) c.if-proves_none.true)
 
 returns-2 : tie.Need-returns-else-proves_none
 returns-2 c = missed 6 (λ h. said_no (proved c.before) c.if-proves_none.false h.1)
 
 returns-3 : tie.Need-returns-else-claims_none
-returns-3 c = missed 6 (λ h. said_no c.before.claims_none.ensures c.if-claims_none.false h.0)
+returns-3 c = missed 6 (λ h. said_no c.claims_none.ensures c.if-claims_none.false h.0)
 
 pub none_points_spec : {M : Type 1} → statement M
 none_points_spec =

@@ -15,10 +15,10 @@ use Rattle.desk.proofs.paper_points.Statement.{statement}
 use Rattle.desk.proofs.paper_points.Tie as tie
 
 settings-points-requires : tie.Need-settings_points-first-requires
-settings-points-requires c κs = let p = c.before.before.requires in (p.0, p.1)
+settings-points-requires c κs = let p = c.requires in (p.0, p.1)
 
 outward-total-requires : tie.Need-outward_total-total-requires
-outward-total-requires c κs = let p = c.before.before.before.requires in (p.0.sheet, p.2)
+outward-total-requires c κs = let p = c.requires in (p.0.sheet, p.2)
 
 -- a node's word is one of the set's
 word_in : (nodes words v w : ℕ) → words_for nodes ≤ words → w ≡ v → v < nodes → w / 64 < words
@@ -26,12 +26,12 @@ word_in nodes words v w long e l = omega arith
 
 holds-requires : tie.Need-holds-from-requires
 holds-requires c κs =
-    let s = c.before.before.before.before.before in
+    let s = c in
     word_in _ _ _ _ s.requires.2 c.wide.ensures (ends_inside _ _ _ s.requires.0.ends).0
 
 holds-requires-2 : tie.Need-holds-into-requires
 holds-requires-2 c κs =
-    let s = c.before.before.before.before.before.before.before in
+    let s = c in
     word_in _ _ _ _ s.requires.2 c.wide-2.ensures (ends_inside _ _ _ s.requires.0.ends).1
 
 -- ── the places ──
@@ -43,31 +43,31 @@ begun c = (total-at c).before.before.before.before
 
 first : (c : tie.After-last_six-rest)
     → Earns (Delivers (begun c).args.sheet.now (begun c).args.source (begun c).args.sink (begun c).args.value (atℤ (begun c).args.settings.now)) 4
-    (total-at c).before.settings_points-first.result
-first c = rw (number_of_bits _ (begun c).ranges.value) at (total-at c).before.settings_points-first.ensures
+    (total-at c).settings_points-first.result
+first c = rw (number_of_bits _ (begun c).ranges.value) at (total-at c).settings_points-first.ensures
 
 rest : (c : tie.After-last_six-rest)
-    → LastSixBy (begun c).args.largest (begun c).args.claim (total-at c).outward-total.result c.before.before.before.holds-from.result
-    c.before.holds-into.result c.last_six-rest.result
-rest c = rw (number_of_bits _ (record { sfits = (total-at c).outward-total.type_inv })) at c.last_six-rest.ensures
+    → LastSixBy (begun c).args.largest (begun c).args.claim (total-at c).outward_total-total.result c.holds-from.result
+    c.holds-into.result c.last_six-rest.result
+rest c = rw (number_of_bits _ (record { sfits = (total-at c).outward_total-total.type_inv })) at c.last_six-rest.ensures
 
 add-result : tie.Need-overflow_add-result
 add-result c = record {
   fits = omega (
     arith,
     earns_at_most 4 _ (first c),
-    judged_at_most (begun c).args.largest (begun c).args.claim (total-at c).outward-total.result c.before.before.before.holds-from.result
-        c.before.holds-into.result c.last_six-rest.result (rest c),
+    judged_at_most (begun c).args.largest (begun c).args.claim (total-at c).outward_total-total.result c.holds-from.result
+        c.holds-into.result c.last_six-rest.result (rest c),
   );
 }
 
 returns : tie.Need-returns
 returns c =
     let s = begun c in
-    paper_earns _ _ _ s.args.value s.args.largest s.args.claim s.args.settings.now s.args.set.now (total-at c).outward-total.result
-    _ _ _ _ s.pre.0 (first c) (total-at c).outward-total.ensures
-    (c.before.before.before.holds-from.ensures ∙ ap (member s.args.set.now) c.before.before.before.before.wide.ensures)
-    (c.before.holds-into.ensures ∙ ap (member s.args.set.now) c.before.before.wide-2.ensures)
+    paper_earns _ _ _ s.args.value s.args.largest s.args.claim s.args.settings.now s.args.set.now (total-at c).outward_total-total.result
+    _ _ _ _ s.requires.0 (first c) (total-at c).outward_total-total.ensures
+    (c.holds-from.ensures ∙ ap (member s.args.set.now) c.wide.ensures)
+    (c.holds-into.ensures ∙ ap (member s.args.set.now) c.wide-2.ensures)
     (rest c)
 
 pub paper_points_spec : {M : Type 1} → statement M

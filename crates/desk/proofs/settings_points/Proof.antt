@@ -19,17 +19,17 @@ found c answer e = rw e at c.mark-answer.ensures
 
 returns : tie.Need-returns-in-Value
 returns c =
-    let t = c.before in
-    let m = t.before.before.before in
-    let s = start m in
-    marked_earns _ _ _ s.pre.0 s.args.value _ s.args.settings.now _ s.pre.1 (found m (mark.Value _) t.before.answer-1.given.1)
+    let t = c in
+    let m = t in
+    let s = start m.before.before in
+    marked_earns _ _ _ s.requires.0 s.args.value _ s.args.settings.now _ s.requires.1 (found m.before.before (mark.Value _) t.in-Value.is)
     (earns_same _ _ _ _ _ (number_of_bits _ (record { sfits = t.known_told-1.given.0.1 })) (number_of_bits _ s.fits.value) c.value_asked.ensures)
 
 returns-2 : tie.Need-returns-in-Refused
 returns-2 c =
-    let m = c.before.before.before in
-    let s = start m in
-    refused_earns _ _ _ s.pre.0 s.args.value _ _ s.args.settings.now s.pre.1 (found m (mark.Refused _ _) c.before.answer-in-Refused-1.given.1)
+    let m = c in
+    let s = start m.before in
+    refused_earns _ _ _ s.requires.0 s.args.value _ _ s.args.settings.now s.requires.1 (found m.before (mark.Refused _ _) c.in-Refused.is)
 
 pub settings_points_spec : {M : Type 1} → statement M
 settings_points_spec =

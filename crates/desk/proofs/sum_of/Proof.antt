@@ -25,27 +25,27 @@ loop-holds c = (omega arith, none _, omega arith)
 -- the points of paper q
 few : (c : tie.After-wide_points-sum invariant-loop decreases-loop) → c.wide_points-sum.result ≤ 10
 few c =
-    let t = c.before.before in
-    omega (arith, c.wide_points-sum.ensures, t.before.before.before.requires.2 t.before.loop-q.q t.loop-q-test.true)
+    let t = c in
+    omega (arith, c.wide_points-sum.ensures, t.requires.2 t.loop-q.q t.loop-q-test.true)
 
 add-sum : tie.Need-overflow_add-sum invariant-loop decreases-loop
 add-sum c =
-    let t = c.before.before in
-    record { fits = omega (arith, few c, t.before.loop-q.invariant.2, t.loop-q-test.true, t.before.before.before.requires.1) }
+    let t = c in
+    record { fits = omega (arith, few c, t.loop-q.invariant.2, t.loop-q-test.true, t.requires.1) }
 
 loop-again : tie.Need-loop-q-preserved invariant-loop decreases-loop
 loop-again c =
-    let t = c.before.before in
-    let l = t.before.loop-q in (
+    let t = c in
+    let l = t.loop-q in (
       omega (arith, t.loop-q-test.true),
-      ap₂ ◌+◌ l.invariant.1 c.wide_points-sum.ensures ∙ sym (sum_next l.q (at t.before.before.before.args.points.now)),
+      ap₂ ◌+◌ l.invariant.1 c.wide_points-sum.ensures ∙ sym (sum_next l.q (at t.args.points.now)),
       omega (arith, few c, l.invariant.2),
     )
 
 returns : tie.Need-returns invariant-loop decreases-loop
 returns c =
-    let l = c.before.loop-q in
-    let s = c.before.before.before in
+    let l = c.loop-q in
+    let s = c in
     let whole : l.q ≡ s.args.n = omega (arith, c.loop-q-test.false, l.invariant.0) in
     (l.invariant.1 ∙ ap (λ k. sumℕ k (at s.args.points.now)) whole, omega (arith, l.invariant.2, l.invariant.0, s.requires.1))
 

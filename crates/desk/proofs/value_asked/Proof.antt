@@ -7,7 +7,7 @@ use Rattle.desk.proofs.value_asked.Statement.{statement}
 use Rattle.desk.proofs.value_asked.Tie as tie
 
 returns : tie.Need-returns-then-v-value
-returns c = earned 4 (same_bits c.before.ranges.v c.before.ranges.value c.if-v-value.true)
+returns c = earned 4 (same_bits c.ranges.v c.ranges.value c.if-v-value.true)
 
 returns-2 : tie.Need-returns
 returns-2 c = missed 4 (λ e. c.if-v-value.false (ap (of_z w32) e))

@@ -13,8 +13,8 @@ use Rattle.desk.proofs.value_points.Tie as tie
 abbrev begun : tie.After-proves_next-proved → tie.Start
 begun c = c.before.before
 
-claimed : (c : tie.After-proves_next-proved) → Decides (IsValue (begun c).args.claim (begun c).args.v) c.before.claims_value-claimed.result
-claimed c = rw (number_of_bits _ (begun c).ranges.v) at c.before.claims_value-claimed.ensures
+claimed : (c : tie.After-proves_next-proved) → Decides (IsValue (begun c).args.claim (begun c).args.v) c.claims_value-claimed.result
+claimed c = rw (number_of_bits _ (begun c).ranges.v) at c.claims_value-claimed.ensures
 
 proved : (c : tie.After-proves_next-proved)
     → Decides (ProvesBy (begun c).args.total ((begun c).args.v +ℤ pos 1) (begun c).args.from (begun c).args.into) c.proves_next-proved.result
@@ -22,23 +22,23 @@ proved c = rw (number_of_bits _ (begun c).ranges.v, number_of_bits _ (begun c).r
 
 returns : tie.Need-returns-then-proved
 returns c =
-    let p = c.before.before in
-    (3, 3, earned 3 (said_yes (claimed p) c.before.if-claimed.true), earned 3 (said_yes (proved p) c.if-proved.true), refl)
+    let p = c in
+    (3, 3, earned 3 (said_yes (claimed p.before.before) c.if-claimed.true), earned 3 (said_yes (proved p.before.before) c.if-proved.true), refl)
 
 returns-2 : tie.Need-returns-then-claimed
 returns-2 c =
-    let p = c.before.before in
-    (3, 0, earned 3 (said_yes (claimed p) c.before.if-claimed.true), missed 3 (said_no (proved p) c.if-proved.false), refl)
+    let p = c in
+    (3, 0, earned 3 (said_yes (claimed p.before.before) c.if-claimed.true), missed 3 (said_no (proved p.before.before) c.if-proved.false), refl)
 
 returns-3 : tie.Need-returns-then-proved-2
 returns-3 c =
-    let p = c.before.before in
-    (0, 3, missed 3 (said_no (claimed p) c.before.if-claimed.false), earned 3 (said_yes (proved p) c.if-proved-2.true), refl)
+    let p = c in
+    (0, 3, missed 3 (said_no (claimed p.before.before) c.if-claimed.false), earned 3 (said_yes (proved p.before.before) c.if-proved-2.true), refl)
 
 returns-4 : tie.Need-returns
 returns-4 c =
-    let p = c.before.before in
-    (0, 0, missed 3 (said_no (claimed p) c.before.if-claimed.false), missed 3 (said_no (proved p) c.if-proved-2.false), refl)
+    let p = c in
+    (0, 0, missed 3 (said_no (claimed p.before.before) c.if-claimed.false), missed 3 (said_no (proved p.before.before) c.if-proved-2.false), refl)
 
 pub value_points_spec : {M : Type 1} → statement M
 value_points_spec =

@@ -10,19 +10,19 @@ use Rattle.dimacs.proofs.arc_length.Statement.{statement}
 use Rattle.dimacs.proofs.arc_length.Tie as tie
 
 -- ── the digits of each ──
-tail-digits : (c : tie.After-digit_count) → (c.digit_count.result ≡ long (c.before.before.args.tail + 1)) × (c.digit_count.result ≤ 10)
-tail-digits c = let n = c.before.node_number in counted c.digit_count.ensures n.ensures (omega (arith, n.type_inv))
+tail-digits : (c : tie.After-digit_count) → (c.digit_count.result ≡ long (c.args.tail + 1)) × (c.digit_count.result ≤ 10)
+tail-digits c = let n = c.node_number in counted c.digit_count.ensures n.ensures (omega (arith, n.type_inv))
 
 head-digits : (c : tie.After-digit_count-2)
-    → (c.digit_count-2.result ≡ long (c.before.before.before.before.args.head + 1)) × (c.digit_count-2.result ≤ 10)
-head-digits c = let n = c.before.node_number-2 in counted c.digit_count-2.ensures n.ensures (omega (arith, n.type_inv))
+    → (c.digit_count-2.result ≡ long (c.args.head + 1)) × (c.digit_count-2.result ≤ 10)
+head-digits c = let n = c.node_number-2 in counted c.digit_count-2.ensures n.ensures (omega (arith, n.type_inv))
 
 abbrev start : tie.After-digit_count-3 → tie.Start
 start c = c.before.before.before.before.before.before
 
 capacity-digits : (c : tie.After-digit_count-3) → (c.digit_count-3.result ≡ long (natural (start c).args.capacity)) × (c.digit_count-3.result ≤ 10)
 capacity-digits c =
-    let n = c.before.capacity_number in
+    let n = c.capacity_number in
     counted c.digit_count-3.ensures (n.ensures ∙ ap natural (number_of_bits _ (start c).ranges.capacity)) (omega (arith, n.type_inv))
 
 -- ── the needs, in the order of the code ──

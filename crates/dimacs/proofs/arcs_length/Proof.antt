@@ -24,23 +24,23 @@ decreases-loop tails capacities darts sum₀ d₀ sum d = darts - d
 
 -- ── the length of one line, by what the arrays hold ──
 abbrev turn : tie.After-arc_length-sum invariant-loop decreases-loop → tie.In-loop-d invariant-loop decreases-loop
-turn c = c.before.before.before.before.before
+turn c = c.before.before.before.before.before.before
 
 abbrev tails : tie.After-arc_length-sum invariant-loop decreases-loop → List ℕ
-tails c = (turn c).before.before.args.tails.now
+tails c = (turn c).args.tails.now
 
 abbrev capacities : tie.After-arc_length-sum invariant-loop decreases-loop → List ℤ
-capacities c = (turn c).before.before.args.capacities.now
+capacities c = (turn c).args.capacities.now
 
 abbrev dart : tie.After-arc_length-sum invariant-loop decreases-loop → ℕ
-dart c = (turn c).before.loop-d.d
+dart c = (turn c).loop-d.d
 
 one : (c : tie.After-arc_length-sum invariant-loop decreases-loop) → c.arc_length-sum.result ≡ length (line_of (tails c) (capacities c) (dart c))
 one c =
-    let b = c.before.before.before.before.reverse-back in
+    let b = c.reverse-back in
     c.arc_length-sum.ensures.0
     ∙ ap (λ x. length (arc_line (at (tails c) (dart c)) (at (tails c) b.result) x))
-    (number_of_bits (atℤ (capacities c) (dart c)) (record { sfits = c.before.arc_length-arg-in-loop-d-2-1.given }))
+    (number_of_bits (atℤ (capacities c) (dart c)) (record { sfits = c.arc_length-arg-in-loop-d-2-1.given }))
     ∙ ap (λ k. length (arc_line (at (tails c) (dart c)) (at (tails c) k) (atℤ (capacities c) (dart c)))) b.ensures.0
 
 -- ── the needs, in the order of the code ──
@@ -49,25 +49,25 @@ unfolding lines
 loop-holds c = (omega arith, refl, omega arith)
 
 reverse-requires : tie.Need-reverse-back-requires invariant-loop decreases-loop
-reverse-requires c κs = omega (arith, c.before.before.requires, c.loop-d-test.true)
+reverse-requires c κs = omega (arith, c.requires, c.loop-d-test.true)
 
 add-sum : tie.Need-overflow_add-sum invariant-loop decreases-loop
 add-sum c =
     let t = turn c in
-    record { fits = omega (arith, t.before.loop-d.inv.2, c.arc_length-sum.ensures.1, t.loop-d-test.taken, t.before.before.pre) }
+    record { fits = omega (arith, t.loop-d.invariant.2, c.arc_length-sum.ensures.1, t.loop-d-test.true, t.requires) }
 
 loop-again : tie.Need-loop-d-preserved invariant-loop decreases-loop
 loop-again c =
-    let o = (turn c).before.loop-d in (
-      omega (arith, (turn c).loop-test.true),
-      omega (arith, o.inv.1, one c, lines_next o.d (line_of (tails c) (capacities c))),
-      omega (arith, o.inv.2, c.arc_length-sum.ensures.1),
+    let o = (turn c).loop-d in (
+      omega (arith, (turn c).loop-d-test.true),
+      omega (arith, o.invariant.1, one c, lines_next o.d (line_of (tails c) (capacities c))),
+      omega (arith, o.invariant.2, c.arc_length-sum.ensures.1),
     )
 
 returns : tie.Need-returns invariant-loop decreases-loop
 returns c =
-    let o = c.before.loop-d in
-    let s = c.before.before in
+    let o = c.loop-d in
+    let s = c in
     let all : o.d ≡ s.args.darts = le_antisymm o.invariant.0 c.loop-d-test.false in
     (o.invariant.1 ∙ ap (λ k. length (arc_lines s.args.tails.now s.args.capacities.now k)) all, omega (arith, o.invariant.2, all, s.requires))
 

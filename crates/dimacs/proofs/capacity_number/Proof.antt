@@ -25,18 +25,18 @@ own-size (negsuc k) h = absurd (omega (arith, from_at_most (ge_of_test (negsuc k
 
 cast-result : tie.Need-overflow_cast-result
 cast-result c =
-    let x = c.before.args.c in
-    let f = c.before.ranges.c in
+    let x = c.args.c in
+    let f = c.ranges.c in
     let b : lt_z x (pos 0) ≡ false = rw (number_of_bits x f) at c.if-c-lt0.false in
     rw (number_of_bits x f) ((not_below x b).0, record { fits = omega (arith, (not_below x b).1, bits_below x f) })
 
 returns : tie.Need-returns-then-c-lt0
-returns c = below_none c.before.args.c (rw (number_of_bits c.before.args.c c.before.ranges.c) at c.if-c-lt0.true)
+returns c = below_none c.args.c (rw (number_of_bits c.args.c c.ranges.c) at c.if-c-lt0.true)
 
 returns-2 : tie.Need-returns-else-c-lt0
 returns-2 c =
-    let x = c.before.args.c in
-    let e = number_of_bits x c.before.ranges.c in
+    let x = c.args.c in
+    let e = number_of_bits x c.ranges.c in
     ap nat_abs e ∙ own-size x (rw e at c.if-c-lt0.false)
 
 pub capacity_number_spec : {M : Type 1} → statement M

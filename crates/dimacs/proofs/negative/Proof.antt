@@ -5,10 +5,10 @@ use Rattle.dimacs.proofs.negative.Statement.{statement}
 use Rattle.dimacs.proofs.negative.Tie as tie
 
 returns : tie.Need-returns-then-c-lt0
-returns c = let s = c.before in lt_of_test _ _ (rw (number_of_bits s.args.c s.ranges.c) at c.if-c-lt0.true)
+returns c = let s = c in lt_of_test _ _ (rw (number_of_bits s.args.c s.ranges.c) at c.if-c-lt0.true)
 
 returns-2 : tie.Need-returns
-returns-2 c = let s = c.before in λ h. lt_le_clash h (ge_of_test _ _ (rw (number_of_bits s.args.c s.ranges.c) at c.if-c-lt0.false))
+returns-2 c = let s = c in λ h. lt_le_clash h (ge_of_test _ _ (rw (number_of_bits s.args.c s.ranges.c) at c.if-c-lt0.false))
 
 pub negative_spec : {M : Type 1} → statement M
 negative_spec = tie.close (tie.spec returns returns-2)

@@ -6,9 +6,9 @@ use Rattle.dimacs.proofs.put_field.Tie as tie
 
 returns : tie.Need-returns
 returns c =
-    let p = c.before.before in
-    let d = p.before.before.before.before in
-    placed_then _ _ _ _ _ _ _ _ d.put_decimal-end.ensures p.put_bytes.ensures d.before.before.before.before.requires
+    let p = c in
+    let d = p in
+    placed_then _ _ _ _ _ _ _ _ d.put_decimal-end.ensures p.put_bytes.ensures d.requires
 
 pub put_field_spec : {M : Type 1} → statement M
 put_field_spec = tie.close (tie.spec (λ c κs. search rules) (λ c κs. search rules) (λ c. search rules) returns)

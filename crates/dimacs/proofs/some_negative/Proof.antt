@@ -23,24 +23,24 @@ loop-holds c = (omega arith, λ i l. absurd (omega arith))
 
 -- the test of dart d, on the number in the array
 judged-here : (c : tie.After-negative invariant-loop decreases-loop)
-    → Decides (atℤ c.before.before.before.before.args.capacities.now c.before.before.before.loop-d.d <ℤ pos 0) c.negative.result
+    → Decides (atℤ c.args.capacities.now c.loop-d.d <ℤ pos 0) c.negative.result
 judged-here c =
-    rw (number_of_bits (atℤ c.before.before.before.before.args.capacities.now c.before.before.before.loop-d.d)
-    (record { sfits = c.before.negative-arg-1.given }))
+    rw (number_of_bits (atℤ c.args.capacities.now c.loop-d.d)
+    (record { sfits = c.negative-arg-1.given }))
     at c.negative.ensures
 
 returns : tie.Need-returns-then-negative invariant-loop decreases-loop
 returns c =
-    let o = c.before.before.before.before.loop-d in
-    (o.d, omega (arith, c.before.before.before.loop-d-test.true), said_yes (judged-here c.before) c.if-negative.true)
+    let o = c.loop-d in
+    (o.d, omega (arith, c.loop-d-test.true), said_yes (judged-here c.before) c.if-negative.true)
 
 loop-again : tie.Need-loop-d-preserved invariant-loop decreases-loop
 loop-again c =
-    let o = c.before.before.before.before.loop-d in
+    let o = c.loop-d in
     (omega arith, below_more _ o.d o.invariant.1 (said_no (judged-here c.before) c.if-negative.false))
 
 returns-2 : tie.Need-returns invariant-loop decreases-loop
-returns-2 c = λ h. c.before.loop-d.invariant.1 h.0 (omega (arith, h.1, c.loop-d-test.false)) h.2
+returns-2 c = λ h. c.loop-d.invariant.1 h.0 (omega (arith, h.1, c.loop-d-test.false)) h.2
 
 pub some_negative_spec : {M : Type 1} → statement M
 some_negative_spec =

@@ -11,22 +11,22 @@ use Rattle.dimacs.proofs.text_length.Statement.{statement}
 use Rattle.dimacs.proofs.text_length.Tie as tie
 
 -- ── the digits of each ──
-nodes-digits : (c : tie.After-digit_count) → (c.digit_count.result ≡ long c.before.before.args.nodes) × (c.digit_count.result ≤ 10)
-nodes-digits c = let n = c.before.count in counted c.digit_count.ensures n.ensures (omega (arith, n.type_inv))
+nodes-digits : (c : tie.After-digit_count) → (c.digit_count.result ≡ long c.args.nodes) × (c.digit_count.result ≤ 10)
+nodes-digits c = let n = c.count in counted c.digit_count.ensures n.ensures (omega (arith, n.type_inv))
 
 arcs-digits : (c : tie.After-digit_count-2)
-    → (c.digit_count-2.result ≡ long (2 * c.before.before.before.before.args.edges)) × (c.digit_count-2.result ≤ 10)
-arcs-digits c = let n = c.before.count-2 in counted c.digit_count-2.ensures n.ensures (omega (arith, n.type_inv))
+    → (c.digit_count-2.result ≡ long (2 * c.args.edges)) × (c.digit_count-2.result ≤ 10)
+arcs-digits c = let n = c.count-2 in counted c.digit_count-2.ensures n.ensures (omega (arith, n.type_inv))
 
 source-digits : (c : tie.After-digit_count-3)
-    → (c.digit_count-3.result ≡ long (c.before.before.before.before.before.before.args.source + 1)) × (c.digit_count-3.result ≤ 10)
-source-digits c = let n = c.before.node_number in counted c.digit_count-3.ensures n.ensures (omega (arith, n.type_inv))
+    → (c.digit_count-3.result ≡ long (c.args.source + 1)) × (c.digit_count-3.result ≤ 10)
+source-digits c = let n = c.node_number in counted c.digit_count-3.ensures n.ensures (omega (arith, n.type_inv))
 
 abbrev start : tie.After-digit_count-4 → tie.Start
 start c = c.before.before.before.before.before.before.before.before
 
 sink-digits : (c : tie.After-digit_count-4) → (c.digit_count-4.result ≡ long ((start c).args.sink + 1)) × (c.digit_count-4.result ≤ 10)
-sink-digits c = let n = c.before.node_number-2 in counted c.digit_count-4.ensures n.ensures (omega (arith, n.type_inv))
+sink-digits c = let n = c.node_number-2 in counted c.digit_count-4.ensures n.ensures (omega (arith, n.type_inv))
 
 -- ── the needs, in the order of the code ──
 add-counts : tie.Need-overflow_add-counts
@@ -43,16 +43,16 @@ add-ends-2 c = record { fits = omega (arith, (source-digits c.before.before).1, 
 
 -- ── all of it ──
 small : (c : tie.After-arcs_length-arcs)
-    → c.before.before.before.before.before.before.before.digit_count.result + c.before.before.before.before.before.digit_count-2.result + 8
-    + (c.before.before.before.digit_count-3.result + c.before.digit_count-4.result + 10) + c.arcs_length-arcs.result ≤ 40000
+    → c.digit_count.result + c.digit_count-2.result + 8
+    + (c.digit_count-3.result + c.digit_count-4.result + 10) + c.arcs_length-arcs.result ≤ 40000
 small c =
-    let k = c.before in
+    let k = c in
     omega (
       arith,
-      (nodes-digits k.before.before.before.before.before.before).1,
-      (arcs-digits k.before.before.before.before).1,
-      (source-digits k.before.before).1,
-      (sink-digits k).1,
+      (nodes-digits k.before.before.before.before.before.before.before).1,
+      (arcs-digits k.before.before.before.before.before).1,
+      (source-digits k.before.before.before).1,
+      (sink-digits k.before).1,
       c.arcs_length-arcs.ensures.1,
     )
 
@@ -64,14 +64,14 @@ add-result-2 c = record { fits = omega (arith, small c) }
 
 returns : tie.Need-returns
 returns c =
-    let k = c.before in
-    let a = (start k).args in
+    let k = c in
+    let a = (start k.before).args in
     omega (
       arith,
-      (nodes-digits k.before.before.before.before.before.before).0,
-      (arcs-digits k.before.before.before.before).0,
-      (source-digits k.before.before).0,
-      (sink-digits k).0,
+      (nodes-digits k.before.before.before.before.before.before.before).0,
+      (arcs-digits k.before.before.before.before.before).0,
+      (source-digits k.before.before.before).0,
+      (sink-digits k.before).0,
       c.arcs_length-arcs.ensures.0,
       measure.text_length (map_of a.nodes a.edges a.tails.now a.rotations.now) (atℤ a.capacities.now) a.source a.sink,
     )

@@ -31,25 +31,25 @@ start c = c.before.before.before.before
 
 ends-judged : (c : tie.After-check_ends-ends) (v : Verdict) → c.check_ends-ends.result ≡ v
     → Judged (end_checks (start c).args.nodes (start c).args.source (start c).args.sink) v
-ends-judged c v e = ends_as c.before.before.wide.ensures c.before.wide-2.ensures (start c).args.nodes v (rw e at c.check_ends-ends.ensures)
+ends-judged c v e = ends_as c.wide.ensures c.wide-2.ensures (start c).args.nodes v (rw e at c.check_ends-ends.ensures)
 
 abbrev base : tie.In_default → tie.Start
-base c = start c.before.before
+base c = start c.before
 
 two : (c : tie.In_default) → NoneOf (end_checks (base c).args.nodes (base c).args.source (base c).args.sink)
-two c = ends-judged c.before.before Passed c.enum_told-1.given.1
+two c = ends-judged c.before Passed c.in_default.is
 
 -- ── 22 ──
 none : (c : tie.Else-some_negative) → BelowZero (2 * (base c.before.before).args.edges) (atℤ (base c.before.before).args.capacities.now) → ⊥
-none c = said_no c.before.some_negative.ensures c.if-some_negative.false
+none c = said_no c.some_negative.ensures c.if-some_negative.false
 
 -- ── 16 ──
 abbrev begun : tie.After-text_length-length → tie.Start
 begun c = base c.before.before.before
 
 enough : (c : tie.Else-out-length) → length (text_of (drawing (begun c.before)) (begun c.before).args.source (begun c.before).args.sink)
-    ≤ length (begun c.before).args.out-1.now
-enough c = omega (arith, c.before.text_length-length.ensures, c.if-out-length.false)
+    ≤ length (begun c.before).args.out.now
+enough c = omega (arith, c.text_length-length.ensures, c.if-out-length.false)
 
 -- the text laid into the part that is as long as it is, which is then given back
 text-back : (n : ℕ) (out text y : List ℕ) (end : ℕ) → n ≡ length text → Placed 0 text (take (n - 0) out) y end → y ++ drop (n - 0) out ≡ text ++ drop end out
@@ -60,18 +60,18 @@ text-back n out text y end e h =
 -- ── the needs, in the order of the code ──
 returns : tie.Need-returns-in-Refused
 returns c =
-    let e = c.before.before.before in
-    let s = start e in
-    (text_ends (drawing s) s.args.source s.args.sink s.args.out-1.now _ _ (ends-judged e (Refused _ _) c.before.ends-1.given.1), refl)
+    let e = c in
+    let s = start e.before in
+    (text_ends (drawing s) s.args.source s.args.sink s.args.out.now _ _ (ends-judged e.before (Refused _ _) c.in-Refused.is), refl)
 
 some-negative-requires : tie.Need-some_negative-requires
 some-negative-requires c κs = omega (arith, (base c).requires.1)
 
 returns-2 : tie.Need-returns-then-some_negative
 returns-2 c =
-    let t = c.before.before in
-    let s = base t in (
-      text_negative (drawing s) s.args.source s.args.sink s.args.out-1.now (two t) (said_yes c.before.some_negative.ensures c.if-some_negative.true),
+    let t = c in
+    let s = base t.before.before in (
+      text_negative (drawing s) s.args.source s.args.sink s.args.out.now (two t.before.before) (said_yes c.some_negative.ensures c.if-some_negative.true),
       refl,
     )
 
@@ -80,31 +80,31 @@ text-length-requires c κs = (base c.before.before).requires
 
 returns-3 : tie.Need-returns-then-out-length
 returns-3 c =
-    let n = c.before.before in
-    let t = n.before.before in
-    let s = base t in (
-      text_short (drawing s) s.args.source s.args.sink s.args.out-1.now (two t) (none n)
-          (omega (arith, c.before.text_length-length.ensures, c.if-out-length.true)),
+    let n = c in
+    let t = n in
+    let s = base t.before.before.before.before in (
+      text_short (drawing s) s.args.source s.args.sink s.args.out.now (two t.before.before.before.before) (none n.before.before)
+          (omega (arith, c.text_length-length.ensures, c.if-out-length.true)),
       refl,
     )
 
 put-text-requires : tie.Need-put_text-requires
 put-text-requires c κs =
-    let e = c.before in
-    let n = e.before.text_length-length in
-    let s = begun e.before in
-    (s.pre.0, s.pre.1, part_length n.result s.args.out-1.now e.if-out-length.false ∙ n.ensures)
+    let e = c in
+    let n = e.text_length-length in
+    let s = begun e.before.before in
+    (s.requires.0, s.requires.1, part_length n.result s.args.out.now e.if-out-length.false ∙ n.ensures)
 
 returns-4 : tie.Need-returns
 returns-4 c =
-    let p = c.before.before in
-    let e = p.before.before in
-    let n = e.before.before in
-    let t = n.before.before in
-    let s = base t in (
-      text_none (drawing s) s.args.source s.args.sink s.args.out-1.now (two t) (none n) (enough e),
+    let p = c in
+    let e = p in
+    let n = e in
+    let t = n in
+    let s = base t.before.before.before.before.before.before.before.before in (
+      text_none (drawing s) s.args.source s.args.sink s.args.out.now (two t.before.before.before.before.before.before.before.before) (none n.before.before.before.before.before.before) (enough e.before.before.before.before),
       omega (arith, p.put_text.ensures.1),
-      text-back e.before.text_length-length.result s.args.out-1.now _ _ _ e.before.text_length-length.ensures p.put_text.ensures,
+      text-back e.text_length-length.result s.args.out.now _ _ _ e.text_length-length.ensures p.put_text.ensures,
     )
 
 pub write_spec : {M : Type 1} → statement M

@@ -21,7 +21,7 @@ Place = lts.After-wide-right (wide-reads.Asked, wide-reads.Learnt, minus64-reads
 
 right_in : (c : Place) → c.wide-right.result < 1024
 right_in c =
-    let s = c.before.before.before.before in
+    let s = c in
     rw (c.wide-right.ensures, sym (rev_even s.args.e)) s.requires.2
 
 mul-minus64-2 : tie.Need-offset_bounds-potentials-right
@@ -32,27 +32,27 @@ element-copy-out-minus64-2 c = omega (arith, right_in c.before)
 
 minus64-requires : tie.Need-minus64-requires
 minus64-requires c κs =
-    let s = c.before.before.before.before.before.before in
+    let s = c in
     let ρ = atℤ s.args.potentials.now in
     rw (
-      to_z-of_z w64 (ρ c.before.before.before.before.wide-left.result) (record { sfits = c.before.minus64-arg-1.given }),
-      to_z-of_z w64 (ρ c.before.before.wide-right.result) (record { sfits = c.minus64-arg-2-1.given }),
-      c.before.before.before.before.wide-left.ensures,
-      c.before.before.wide-right.ensures,
+      to_z-of_z w64 (ρ c.wide-left.result) (record { sfits = c.minus64-arg-1.given }),
+      to_z-of_z w64 (ρ c.wide-right.result) (record { sfits = c.minus64-arg-2-1.given }),
+      c.wide-left.ensures,
+      c.wide-right.ensures,
       sym (rev_even s.args.e),
     ) s.requires.3
 
 returns : tie.Need-returns
 returns c =
-    let s = c.before.before.before.before.before.before.before in
+    let s = c in
     let ρ = atℤ s.args.potentials.now in
     let left = at s.args.lefts.now in
     to_z-of_z w64 _ (record { sfits = c.minus64.type_inv })
     ∙ c.minus64.ensures
     ∙ ap₂ ◌-ℤ◌
-    (to_z-of_z w64 _ (record { sfits = c.before.before.minus64-arg-1.given }) ∙ ap ρ c.before.before.before.before.before.wide-left.ensures)
-    (to_z-of_z w64 _ (record { sfits = c.before.minus64-arg-2-1.given })
-    ∙ ap ρ (c.before.before.before.wide-right.ensures ∙ ap left (sym (rev_even s.args.e))))
+    (to_z-of_z w64 _ (record { sfits = c.minus64-arg-1.given }) ∙ ap ρ c.wide-left.ensures)
+    (to_z-of_z w64 _ (record { sfits = c.minus64-arg-2-1.given })
+    ∙ ap ρ (c.wide-right.ensures ∙ ap left (sym (rev_even s.args.e))))
 
 pub drop_over_spec : {M : Type 1} → statement M
 drop_over_spec =

@@ -24,26 +24,26 @@ loop-holds : tie.Need-loop-e-init invariant-loop decreases-loop
 loop-holds c = (omega arith, copy_start _ _)
 
 flow-of-requires : tie.Need-flow_of-requires invariant-loop decreases-loop
-flow-of-requires c κs = let s = c.before.before in (s.requires.0, c.loop-e-test.true, s.requires.2)
+flow-of-requires c κs = let s = c in (s.requires.0, c.loop-e-test.true, s.requires.2)
 
 slice-set-from-flows : tie.Need-bounds-flows-e invariant-loop decreases-loop
-slice-set-from-flows c = omega (arith, filled_length _ _ _ _ c.before.before.loop-e.invariant.1 (omega arith))
+slice-set-from-flows c = omega (arith, filled_length _ _ _ _ c.loop-e.invariant.1 (omega arith))
 
 loop-again : tie.Need-loop-e-preserved invariant-loop decreases-loop
 loop-again c =
-    let o = c.before.before.loop-e in
+    let o = c.loop-e in
     (omega arith, copy_step _ o.e _ _ _ o.invariant.1 (omega arith) (number_of_bits _ (record { sfits = c.flow_of.type_inv }) ∙ c.flow_of.ensures))
 
 same_length : tie.Need-shape_of-flows invariant-loop decreases-loop
-same_length c = filled_length _ _ _ _ c.before.loop-e.invariant.1 (omega arith)
+same_length c = filled_length _ _ _ _ c.loop-e.invariant.1 (omega arith)
 
 returns : tie.Need-returns invariant-loop decreases-loop
 returns c =
-    let a = c.before.before.args in
+    let a = c.args in
     let flow = flow_of (at a.lefts.now) (atℤ a.capacities.now) (atℤ a.lengths.now) (atℤ a.potentials.now) in
-    c.before.loop-e.invariant.1 ∙ ap (λ k. tabulate k flow ++ drop k a.flows.now) same
+    c.loop-e.invariant.1 ∙ ap (λ k. tabulate k flow ++ drop k a.flows.now) same
   where
-    same : c.before.loop-e.e ≡ c.before.before.args.edges
+    same : c.loop-e.e ≡ c.args.edges
     same = omega arith
 
 pub fill_flows_spec : {M : Type 1} → statement M

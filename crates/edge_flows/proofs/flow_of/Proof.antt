@@ -55,38 +55,38 @@ Sum =
 
 -- the sum of the two terms, as they are held in 64 bits, is the flow
 flow-here : (c : Place)
-    → to_z w64 (of_z w64 c.before.before.before.drop_over-fall.result) +ℤ to_z w64 (of_z w64 c.sub32-along.result)
+    → to_z w64 (of_z w64 c.drop_over-fall.result) +ℤ to_z w64 (of_z w64 c.sub32-along.result)
     ≡ flow_of
-    (at c.before.before.before.before.args.lefts.now)
-    (atℤ c.before.before.before.before.args.capacities.now)
-    (atℤ c.before.before.before.before.args.lengths.now)
-    (atℤ c.before.before.before.before.args.potentials.now)
-    c.before.before.before.before.args.e
+    (at c.args.lefts.now)
+    (atℤ c.args.capacities.now)
+    (atℤ c.args.lengths.now)
+    (atℤ c.args.potentials.now)
+    c.args.e
 flow-here c =
-    let a = c.before.before.before.before.args in
+    let a = c.args in
     let d = 2 * a.e in
     ap₂ ◌+ℤ◌
-    (to_z-of_z w64 _ (record { sfits = c.before.before.before.drop_over-fall.type_inv }) ∙ c.before.before.before.drop_over-fall.ensures)
+    (to_z-of_z w64 _ (record { sfits = c.drop_over-fall.type_inv }) ∙ c.drop_over-fall.ensures)
     (to_z-of_z w64 _ (record { sfits = c.sub32-along.type_inv })
     ∙ c.sub32-along.ensures
     ∙ ap₂ ◌-ℤ◌
-    (number_of_bits (atℤ a.capacities.now d) (record { sfits = c.before.before.sub32-arg-1.given }))
-    (number_of_bits (atℤ a.lengths.now d) (record { sfits = c.before.sub32-arg-2-1.given })))
+    (number_of_bits (atℤ a.capacities.now d) (record { sfits = c.sub32-arg-1.given }))
+    (number_of_bits (atℤ a.lengths.now d) (record { sfits = c.sub32-arg-2-1.given })))
 
 -- the sum as it is held in 64 bits is the sum of the two terms
 sum-here : (c : Sum)
     → to_z w64 (of_z w64 c.plus64.result)
-    ≡ to_z w64 (of_z w64 c.before.before.before.before.drop_over-fall.result) +ℤ to_z w64 (of_z w64 c.before.sub32-along.result)
+    ≡ to_z w64 (of_z w64 c.drop_over-fall.result) +ℤ to_z w64 (of_z w64 c.sub32-along.result)
 sum-here c = to_z-of_z w64 _ (record { sfits = c.plus64.type_inv }) ∙ c.plus64.ensures
 
 plus64-requires : tie.Need-plus64-requires
 plus64-requires c κs =
-    let s = c.before.before.before.before in
+    let s = c in
     rw (flow-here c) (flow_fits64 s.requires.2 s.args.e s.requires.1)
 
 narrow-requires : tie.Need-narrow-requires
 narrow-requires c κs =
-    let s = c.before.before.before.before.before in
+    let s = c in
     rw (sum-here c ∙ flow-here c.before) (flow_fits s.requires.2 s.args.e s.requires.1)
 
 returns : tie.Need-returns

@@ -11,10 +11,10 @@ use Rattle.fields.proofs.write_i32.Tie as tie
 returns : tie.Need-returns
 unfolding le32
 returns c =
-    let s = c.before.before.before.before.before.before in
-    c.before.before.write_u32.ensures
-    ∙ ap (λ n. put s.args.at (le_bits n) s.args.s-1.now)
-    (c.before.before.before.to_bits.ensures ∙ ap (of_z w32) (number_of_bits s.args.x s.ranges.x))
+    let s = c in
+    c.write_u32.ensures
+    ∙ ap (λ n. put s.args.at (le_bits n) s.args.s.now)
+    (c.to_bits.ensures ∙ ap (of_z w32) (number_of_bits s.args.x s.ranges.x))
 
 pub write_i32_spec : {M : Type 1} → statement M
 write_i32_spec = tie.close (tie.spec (λ c κs. search rules) (λ c κs. search rules) (λ c. search rules) returns)

@@ -23,16 +23,16 @@ decreases-loop tails order from darts winding heights₀ start root i₀ heights
 
 -- ── the node of the first dart ──
 abbrev begun : tie.After-wide-start invariant-loop decreases-loop → tie.Start invariant-loop decreases-loop
-begun c = c.before.before
+begun c = c.before.before.before
 
 first_in : (c : tie.After-wide-start invariant-loop decreases-loop) → c.wide-start.result < (begun c).args.darts
 first_in c = let p = (begun c).requires.1 in dart_in p (some-dart p) c.wide-start.ensures
 
 abbrev rooted : tie.After-wide-root invariant-loop decreases-loop → tie.After-wide-start invariant-loop decreases-loop
-rooted c = c.before.before
+rooted c = c.before.before.before
 
 root_in : (c : tie.After-wide-root invariant-loop decreases-loop) → c.wide-root.result < 1024
-root_in c = let w = rooted c in node_in (begun w).pre.1 (first_in w) c.wide-root.ensures
+root_in c = let w = rooted c in node_in (begun w).requires.1 (first_in w) c.wide-root.ensures
 
 -- ── the turn of the loop: its dart d ──
 abbrev start : tie.In-loop-i invariant-loop decreases-loop → tie.Start invariant-loop decreases-loop
@@ -42,35 +42,35 @@ few : (c : tie.In-loop-i invariant-loop decreases-loop) → (start c).args.darts
 few c = (start c).requires.1.few
 
 abbrev turn : tie.After-wide-d invariant-loop decreases-loop → tie.In-loop-i invariant-loop decreases-loop
-turn c = c.before.before
+turn c = c.before.before.before
 
 dart-below : (c : tie.After-wide-d invariant-loop decreases-loop) → c.wide-d.result < (start (turn c)).args.darts
-dart-below c = dart_in (start (turn c)).pre.1 (turn c).loop-test.true c.wide-d.ensures
+dart-below c = dart_in (start (turn c)).requires.1 (turn c).loop-i-test.true c.wide-d.ensures
 
 -- ── the dart p from which d was met ──
 abbrev met : tie.After-wide-p invariant-loop decreases-loop → tie.After-wide-d invariant-loop decreases-loop
-met c = c.before.before
+met c = c.before.before.before
 
 origin-below : (c : tie.After-wide-p invariant-loop decreases-loop) → c.wide-p.result < (start (turn (met c))).args.darts
 origin-below c =
     let t = turn (met c) in
-    origin_in (start t).pre.1 t.loop-i-test.taken (met c).wide3.ensures c.wide-p.ensures
+    origin_in (start t).requires.1 t.loop-i-test.true (met c).wide-d.ensures c.wide-p.ensures
 
 -- ── d is the reverse of p: both nodes ──
 abbrev origin : tie.After-wide-known invariant-loop decreases-loop → tie.After-wide-p invariant-loop decreases-loop
-origin c = c.before.before.before.before
+origin c = c.before.before.before.before.before
 
-turned-back : (c : tie.After-wide-known invariant-loop decreases-loop) → (met (origin c)).wide3.result ≡ rev (origin c).wide4.result
-turned-back c = let branch = c.before.before in branch.if-d-back.true ∙ branch.before.reverse-back.ensures.0
+turned-back : (c : tie.After-wide-known invariant-loop decreases-loop) → (met (origin c)).wide-d.result ≡ rev (origin c).wide-p.result
+turned-back c = let branch = c in branch.if-d-back.true ∙ branch.reverse-back.ensures.0
 
 known_in : (c : tie.After-wide-known invariant-loop decreases-loop) → c.wide-known.result < 1024
-known_in c = let f = origin c in node_in (start (turn (met f))).pre.1 (origin-below f) c.wide-known.ensures
+known_in c = let f = origin c in node_in (start (turn (met f))).requires.1 (origin-below f) c.wide-known.ensures
 
 abbrev knows : tie.After-wide-next invariant-loop decreases-loop → tie.After-wide-known invariant-loop decreases-loop
 knows c = c.before.before
 
 next-in : (c : tie.After-wide-next invariant-loop decreases-loop) → c.wide-next.result < 1024
-next-in c = let d = met (origin (knows c)) in node_in (start (turn d)).pre.1 (dart-below d) c.wide-next.ensures
+next-in c = let d = met (origin (knows c)) in node_in (start (turn d)).requires.1 (dart-below d) c.wide-next.ensures
 
 abbrev both : tie.After-minus_small invariant-loop decreases-loop → tie.After-wide-next invariant-loop decreases-loop
 both c = c.before.before.before
@@ -80,7 +80,7 @@ mul_wide : tie.Need-offset_bounds-tails-start invariant-loop decreases-loop
 mul_wide c = omega (arith, (begun c).requires.1.few, first_in c)
 
 element-copy-out-wide-2 : tie.Need-bounds-tails-start invariant-loop decreases-loop
-element-copy-out-wide-2 c = omega (arith, (begun c).requires.1.few, first_in c)
+element-copy-out-wide-2 c = omega (arith, (begun c.before).requires.1.few, first_in c.before)
 
 mul-heights : tie.Need-offset_bounds-heights-root invariant-loop decreases-loop
 mul-heights c = omega (arith, root_in c)
@@ -92,7 +92,7 @@ loop-holds : tie.Need-loop-i-init invariant-loop decreases-loop
 loop-holds c =
     let w = rooted c in
     let a = (begun w).args in
-    let p = (begun w).pre in
+    let p = (begun w).requires in
     let root = c.wide-root.result in
     let same : at a.tails.now (at a.order.now 0) ≡ root = ap (at a.tails.now) (sym w.wide-start.ensures) ∙ sym c.wide-root.ensures in
     let zero = get_or-set_same a.heights.now root (pos 0) (pos 0) (omega (arith, p.0, root_in c)) in (
@@ -104,25 +104,25 @@ mul-wide-2 : tie.Need-offset_bounds-order-i invariant-loop decreases-loop
 mul-wide-2 c = omega (arith, few c, c.loop-i-test.true)
 
 element-copy-out-wide-3 : tie.Need-bounds-order-i invariant-loop decreases-loop
-element-copy-out-wide-3 c = omega (arith, few c, c.loop-i-test.true)
+element-copy-out-wide-3 c = omega (arith, few c.before, c.loop-i-test.true)
 
 add-i : tie.Need-overflow_add-i invariant-loop decreases-loop
-add-i c = omega (arith, few (turn c), (turn c).loop-test.true)
+add-i c = omega (arith, few (turn c), (turn c).loop-i-test.true)
 
 mul-wide-3 : tie.Need-offset_bounds-from-d invariant-loop decreases-loop
 mul-wide-3 c = omega (arith, few (turn c), dart-below c)
 
 element-copy-out-wide-4 : tie.Need-bounds-from-d invariant-loop decreases-loop
-element-copy-out-wide-4 c = omega (arith, few (turn c), dart-below c)
+element-copy-out-wide-4 c = omega (arith, few (turn c.before), dart-below c.before)
 
 reverse-requires : tie.Need-reverse-back-requires invariant-loop decreases-loop
 reverse-requires c κs = omega (arith, few (turn (met c)), origin-below c)
 
 mul-wide-4 : tie.Need-offset_bounds-tails-p invariant-loop decreases-loop
-mul-wide-4 c = let f = c.before.before in omega (arith, few (turn (met f)), origin-below f)
+mul-wide-4 c = let f = c in omega (arith, few (turn (met f.before.before)), origin-below f.before.before)
 
 element-copy-out-wide-5 : tie.Need-bounds-tails-p invariant-loop decreases-loop
-element-copy-out-wide-5 c = let f = c.before.before in omega (arith, few (turn (met f)), origin-below f)
+element-copy-out-wide-5 c = let f = c in omega (arith, few (turn (met f.before.before.before)), origin-below f.before.before.before)
 
 mul-wide-5 : tie.Need-offset_bounds-tails-d invariant-loop decreases-loop
 mul-wide-5 c = let d = met (origin c) in omega (arith, few (turn d), dart-below d)
@@ -147,8 +147,8 @@ minus-small-requires c κs =
     let k = knows c.before.before in
     let f = origin k in
     let t = turn (met f) in
-    let o = t.before.loop-i in
-    new_fits (start t).pre.1 o.heights o.inv.1 t.loop-i-test.taken (met f).wide3.ensures f.wide-p.ensures k.wide-known.ensures (turned-back k)
+    let o = t.loop-i in
+    new_fits (start t).requires.1 o.heights o.invariant.1 t.loop-i-test.true (met f).wide-d.ensures f.wide-p.ensures k.wide-known.ensures (turned-back k)
 
 mul-t45 : tie.Need-offset_bounds-heights-next invariant-loop decreases-loop
 mul-t45 c = omega (arith, next-in (both c))
@@ -157,32 +157,32 @@ element-set-from-heights : tie.Need-bounds-heights-next invariant-loop decreases
 element-set-from-heights c = next-in (both c)
 
 loop-less : tie.Need-loop-i-smaller-then-d-back invariant-loop decreases-loop
-loop-less c = omega (arith, (turn (met (origin (knows (both c))))).loop-test.taken)
+loop-less c = omega (arith, (turn (met (origin (knows (both c))))).loop-i-test.true)
 
 loop-again : tie.Need-loop-i-preserved-then-d-back invariant-loop decreases-loop
 loop-again c =
     let k = knows (both c) in
     let f = origin k in
     let t = turn (met f) in
-    let o = t.before.loop-i in
-    filling_stored (start t).pre.1 o.heights o.inv.1 t.loop-i-test.taken (met f).wide3.ensures f.wide-p.ensures k.wide-known.ensures
+    let o = t.loop-i in
+    filling_stored (start t).requires.1 o.heights o.invariant.1 t.loop-i-test.true (met f).wide-d.ensures f.wide-p.ensures k.wide-known.ensures
     (turned-back k)
-    o.inv.0 (both c).wide6.ensures c.minus_small.ensures
+    o.invariant.0 (both c).wide-next.ensures c.minus_small.ensures
 
 -- ── d begins a tree: its node ──
 abbrev branched : tie.After-wide-base invariant-loop decreases-loop → tie.Then-p-d invariant-loop decreases-loop
-branched c = c.before.before
+branched c = c.before.before.before
 
 base-in : (c : tie.After-wide-base invariant-loop decreases-loop) → c.wide-base.result < 1024
 base-in c =
     let d = met (branched c).before.before.before in
-    node_in (start (turn d)).pre.1 (dart-below d) c.wide-base.ensures
+    node_in (start (turn d)).requires.1 (dart-below d) c.wide-base.ensures
 
 mul-wide-6 : tie.Need-offset_bounds-tails-d-then-p-d invariant-loop decreases-loop
 mul-wide-6 c = let d = met c.before.before.before in omega (arith, few (turn d), dart-below d)
 
 element-copy-out-wide-7 : tie.Need-bounds-tails-d-then-p-d invariant-loop decreases-loop
-element-copy-out-wide-7 c = let d = met c.before.before.before in omega (arith, few (turn d), dart-below d)
+element-copy-out-wide-7 c = let d = met c.before.before.before.before in omega (arith, few (turn d), dart-below d)
 
 mul-heights-2 : tie.Need-offset_bounds-heights-base invariant-loop decreases-loop
 mul-heights-2 c = omega (arith, base-in c)
@@ -191,36 +191,36 @@ element-set-of-heights-2 : tie.Need-bounds-heights-base invariant-loop decreases
 element-set-of-heights-2 c = base-in c
 
 loop-less-2 : tie.Need-loop-i-smaller-then-p-d invariant-loop decreases-loop
-loop-less-2 c = omega (arith, (turn (met (branched c).before.before.before)).loop-test.taken)
+loop-less-2 c = omega (arith, (turn (met (branched c).before.before.before)).loop-i-test.true)
 
 loop-again-2 : tie.Need-loop-i-preserved-then-p-d invariant-loop decreases-loop
 loop-again-2 c =
     let b = branched c in
-    let f = b.before.before.before in
-    let d = met f in
+    let f = b in
+    let d = met f.before.before.before in
     let t = turn d in
-    let o = t.before.loop-i in
-    filling_rooted (start t).pre.1 o.heights o.inv.1 t.loop-i-test.taken d.wide-d.ensures f.wide-p.ensures b.if-p-d.taken
-    c.wide-base.ensures o.inv.0
+    let o = t.loop-i in
+    filling_rooted (start t).requires.1 o.heights o.invariant.1 t.loop-i-test.true d.wide-d.ensures f.wide-p.ensures b.if-p-d.true
+    c.wide-base.ensures o.invariant.0
 
 loop-less-3 : tie.Need-loop-i-smaller invariant-loop decreases-loop
-loop-less-3 c = omega (arith, (turn (met c.before.before.before)).loop-test.taken)
+loop-less-3 c = omega (arith, (turn (met c.before.before.before)).loop-i-test.true)
 
 loop-again-3 : tie.Need-loop-i-preserved invariant-loop decreases-loop
 loop-again-3 c =
-    let f = c.before.before.before in
-    let t = turn (met f) in
-    let o = t.before.loop-i in
-    let back = c.before.before.reverse-back.ensures.0 in (
-      o.inv.0,
-      filling_turned (start t).pre.1 o.inv.1 t.loop-i-test.taken (met f).wide3.ensures f.wide-p.ensures c.if-p-d.false
-          (λ e. c.before.if-d-back.false (e ∙ sym back)),
+    let f = c in
+    let t = turn (met f.before.before.before) in
+    let o = t.loop-i in
+    let back = c.reverse-back.ensures.0 in (
+      o.invariant.0,
+      filling_turned (start t).requires.1 o.invariant.1 t.loop-i-test.true (met f.before.before.before).wide-d.ensures f.wide-p.ensures c.if-p-d.false
+          (λ e. c.if-d-back.false (e ∙ sym back)),
     )
 
 returns : tie.Need-returns invariant-loop decreases-loop
 returns c =
-    let o = c.before in
-    let ok = (begun (rooted o.before)).pre.1 in
+    let o = c in
+    let ok = (begun (rooted o.before.before)).requires.1 in
     (o.loop-i.invariant.0, filled ok o.loop-i.invariant.1 c.loop-i-test.false, filled_rooted ok o.loop-i.invariant.1 c.loop-i-test.false)
 
 pub fill_heights_spec : {M : Type 1} → statement M

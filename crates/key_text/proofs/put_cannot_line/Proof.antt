@@ -19,12 +19,12 @@ nine-digits c = number_length 8 600000000 c.args.value (omega arith) c.requires.
 
 -- ── the word ──
 abbrev begin : tie.After-put_bytes-first → tie.Start
-begin c = c.before.before.before.before
+begin c = c.before.before.before.before.before
 
-word : (c : tie.After-put_bytes-first) → Placed 0 cannot_word (begin c).args.text-1.now c.put_bytes-first.new.0 c.put_bytes-first.result
+word : (c : tie.After-put_bytes-first) → Placed 0 cannot_word (begin c).args.text.now c.put_bytes-first.new.text c.put_bytes-first.result
 word c = c.put_bytes-first.ensures
 
-word_room : (c : tie.After-put_bytes-first) → c.put_bytes-first.result + 17 ≤ length c.put_bytes-first.new.0
+word_room : (c : tie.After-put_bytes-first) → c.put_bytes-first.result + 17 ≤ length c.put_bytes-first.new.text
 word_room c = placed_room 7 17 _ _ _ _ _ (word c) (omega arith) (begin c).requires.0
 
 -- ── the value ──
@@ -32,21 +32,21 @@ abbrev said : tie.After-put_number-second → tie.After-put_bytes-first
 said c = c.before.before.before.before
 
 valued : (c : tie.After-put_number-second)
-    → Placed (said c).put-bytes.result (number (begin (said c)).args.value) (said c).put-bytes.new.0 c.put_number-second.new.0 c.put_number-second.result
+    → Placed (said c).put_bytes-first.result (number (begin (said c)).args.value) (said c).put_bytes-first.new.0 c.put_number-second.new.text c.put_number-second.result
 valued c = placed_as number _ _ _ _ (number_of_bits _ (begin (said c)).ranges.value) c.put_number-second.ensures
 
-value_room : (c : tie.After-put_number-second) → c.put_number-second.result + 7 ≤ length c.put_number-second.new.0
+value_room : (c : tie.After-put_number-second) → c.put_number-second.result + 7 ≤ length c.put_number-second.new.text
 value_room c = placed_room 10 7 _ _ _ _ _ (valued c) (nine-digits (begin (said c))) (word_room (said c))
 
 -- ── a blank ──
 abbrev told : tie.After-put_bytes-third → tie.After-put_number-second
-told c = c.before.before.before.before.before
+told c = c.before.before.before.before.before.before
 
 blank : (c : tie.After-put_bytes-third)
-    → Placed (told c).put-number.result (32 ∷ []) (told c).put-number.new.0 c.put_bytes-third.new.0 c.put_bytes-third.result
+    → Placed (told c).put_number-second.result (32 ∷ []) (told c).put_number-second.new.0 c.put_bytes-third.new.text c.put_bytes-third.result
 blank c = c.put_bytes-third.ensures
 
-blank-room : (c : tie.After-put_bytes-third) → c.put_bytes-third.result + 6 ≤ length c.put_bytes-third.new.0
+blank-room : (c : tie.After-put_bytes-third) → c.put_bytes-third.result + 6 ≤ length c.put_bytes-third.new.text
 blank-room c = placed_room 1 6 _ _ _ _ _ (blank c) (omega arith) (value_room (told c))
 
 -- ── the size ──
@@ -66,48 +66,48 @@ abbrev measured : tie.After-put_decimal-end → tie.After-put_bytes-third
 measured c = parted c.before
 
 sized : (c : tie.After-put_decimal-end)
-    → Placed (measured c).put-bytes2.result (decimal (begun c.before).args.size) (measured c).put-bytes2.new.0
-    c.put_decimal-end.new.0 c.put_decimal-end.result
-sized c = placed_as decimal _ _ _ _ c.before.short.ensures.0 c.put_decimal-end.ensures
+    → Placed (measured c).put_bytes-third.result (decimal (begun c.before).args.size) (measured c).put_bytes-third.new.0
+    c.put_decimal-end.new.text c.put_decimal-end.result
+sized c = placed_as decimal _ _ _ _ c.short.ensures.0 c.put_decimal-end.ensures
 
-size_room : (c : tie.After-put_decimal-end) → c.put_decimal-end.result + 1 ≤ length c.put_decimal-end.new.0
+size_room : (c : tie.After-put_decimal-end) → c.put_decimal-end.result + 1 ≤ length c.put_decimal-end.new.text
 size_room c = placed_room 5 1 _ _ _ _ _ (sized c) (size-digits c.before) (blank-room (measured c))
 
 -- ── a line feed ──
 abbrev counted : tie.After-put_bytes → tie.After-put_decimal-end
-counted c = c.before.before.before.before.before
+counted c = c.before.before.before.before.before.before
 
 -- ── the needs, in the order of the code ──
 put-bytes-requires : tie.Need-put_bytes-first-requires
-put-bytes-requires c κs = omega (arith, c.before.before.before.requires.0)
+put-bytes-requires c κs = omega (arith, c.requires.0)
 
 put-number-requires : tie.Need-put_number-second-requires
 put-number-requires c κs =
-    let b = c.before.before.before in
-    let s = begin b in
-    omega (arith, subst (λ x. length (number x) ≤ 10) (sym (number_of_bits _ s.fits.value)) (nine-digits s), word_room b)
+    let b = c in
+    let s = begin b.before.before.before in
+    omega (arith, subst (λ x. length (number x) ≤ 10) (sym (number_of_bits _ s.fits.value)) (nine-digits s), word_room b.before.before.before)
 
 put-bytes-requires-2 : tie.Need-put_bytes-third-requires
-put-bytes-requires-2 c κs = omega (arith, value_room c.before.before.before.before)
+put-bytes-requires-2 c κs = omega (arith, value_room c.before.before.before.before.before)
 
 put-decimal-requires : tie.Need-put_decimal-end-requires
 put-decimal-requires c κs = omega (arith, five-digits c, blank-room (parted c))
 
 put-bytes-requires-3 : tie.Need-put_bytes-requires
-put-bytes-requires-3 c κs = size_room c.before.before.before.before
+put-bytes-requires-3 c κs = size_room c.before.before.before.before.before
 
 returns : tie.Need-returns
 unfolding cannot_line
 returns c =
-    let last = c.before.before in
-    let d = counted last in
+    let last = c in
+    let d = counted last.before.before in
     let p = measured d in
     let n = told p in
     let s = begin (said n) in
     let five = size-digits d.before in
     let rest = three_placed _ _ _ _ _ _ _ _ _ _ _ (blank p) (sized d) last.put_bytes.ensures (omega (arith, five, value_room n)) in
     let more = length-append (decimal s.args.size) (10 ∷ []) in
-    three_placed _ _ _ _ _ _ _ _ _ _ _ (word (said n)) (valued n) rest (omega (arith, nine-digits s, five, more, s.pre.0))
+    three_placed _ _ _ _ _ _ _ _ _ _ _ (word (said n)) (valued n) rest (omega (arith, nine-digits s, five, more, s.requires.0))
 
 pub put_cannot_line_spec : {M : Type 1} → statement M
 put_cannot_line_spec =

@@ -19,24 +19,24 @@ abbrev begin : tie.After-put_decimal-first → tie.Start
 begin c = c.before.before.before.before
 
 edge : (c : tie.After-put_decimal-first)
-    → Placed (begin c).args.at (decimal (begin c).args.e) (begin c).args.text-1.now c.put_decimal-first.new.0 c.put_decimal-first.result
-edge c = placed_as decimal _ _ _ _ c.before.index.ensures c.put_decimal-first.ensures
+    → Placed (begin c).args.at (decimal (begin c).args.e) (begin c).args.text.now c.put_decimal-first.new.text c.put_decimal-first.result
+edge c = placed_as decimal _ _ _ _ c.index.ensures c.put_decimal-first.ensures
 
 three-digits : (c : tie.Start) → length (decimal c.args.e) ≤ 3
 three-digits c = decimal_length 2 c.args.e (omega (arith, c.requires.1))
 
-edge-room : (c : tie.After-put_decimal-first) → c.put_decimal-first.result + 10 ≤ length c.put_decimal-first.new.0
+edge-room : (c : tie.After-put_decimal-first) → c.put_decimal-first.result + 10 ≤ length c.put_decimal-first.new.text
 edge-room c = placed_room 3 10 _ _ _ _ _ (edge c) (three-digits (begin c)) (begin c).requires.0
 
 -- ── a blank ──
 abbrev named : tie.After-put_bytes-second → tie.After-put_decimal-first
-named c = c.before.before.before.before.before
+named c = c.before.before.before.before.before.before
 
 blank : (c : tie.After-put_bytes-second)
-    → Placed (named c).put-decimal.result (32 ∷ []) (named c).put-decimal.new.0 c.put_bytes-second.new.0 c.put_bytes-second.result
+    → Placed (named c).put_decimal-first.result (32 ∷ []) (named c).put_decimal-first.new.0 c.put_bytes-second.new.text c.put_bytes-second.result
 blank c = c.put_bytes-second.ensures
 
-blank-room : (c : tie.After-put_bytes-second) → c.put_bytes-second.result + 9 ≤ length c.put_bytes-second.new.0
+blank-room : (c : tie.After-put_bytes-second) → c.put_bytes-second.result + 9 ≤ length c.put_bytes-second.new.text
 blank-room c = placed_room 1 9 _ _ _ _ _ (blank c) (omega arith) (edge-room (named c))
 
 -- ── the flow ──
@@ -47,45 +47,45 @@ abbrev begun : tie.After-put_number-end → tie.Start
 begun c = begin (named (parted c))
 
 flow : (c : tie.After-put_number-end)
-    → Placed (parted c).put-bytes.result (number (begun c).args.flow) (parted c).put-bytes.new.0 c.put_number-end.new.0 c.put_number-end.result
+    → Placed (parted c).put_bytes-second.result (number (begun c).args.flow) (parted c).put_bytes-second.new.0 c.put_number-end.new.text c.put_number-end.result
 flow c = placed_as number _ _ _ _ (number_of_bits _ (begun c).ranges.flow) c.put_number-end.ensures
 
 seven-digits : (c : tie.Start) → length (number c.args.flow) ≤ 8
 seven-digits c = number_length 6 1000000 c.args.flow (omega arith) c.requires.2
 
-flow-room : (c : tie.After-put_number-end) → c.put_number-end.result + 1 ≤ length c.put_number-end.new.0
+flow-room : (c : tie.After-put_number-end) → c.put_number-end.result + 1 ≤ length c.put_number-end.new.text
 flow-room c = placed_room 8 1 _ _ _ _ _ (flow c) (seven-digits (begun c)) (blank-room (parted c))
 
 -- ── a line feed ──
 abbrev valued : tie.After-put_bytes → tie.After-put_number-end
-valued c = c.before.before.before.before.before
+valued c = c.before.before.before.before.before.before
 
 -- ── the needs, in the order of the code ──
 put-decimal-requires : tie.Need-put_decimal-first-requires
 put-decimal-requires c κs =
-    let s = c.before.before.before in
-    omega (arith, subst (λ n. length (decimal n) ≤ 3) (sym c.index.ensures) (three-digits s), s.requires.0)
+    let s = c in
+    omega (arith, subst (λ n. length (decimal n) ≤ 3) (sym c.index.ensures) (three-digits s.before.before.before), s.requires.0)
 
 put-bytes-requires : tie.Need-put_bytes-second-requires
-put-bytes-requires c κs = omega (arith, edge-room c.before.before.before.before)
+put-bytes-requires c κs = omega (arith, edge-room c.before.before.before.before.before)
 
 put-number-requires : tie.Need-put_number-end-requires
 put-number-requires c κs =
-    let b = c.before.before.before in
-    let s = begin (named b) in
-    omega (arith, subst (λ x. length (number x) ≤ 8) (sym (number_of_bits _ s.fits.flow)) (seven-digits s), blank-room b)
+    let b = c in
+    let s = begin (named b.before.before.before) in
+    omega (arith, subst (λ x. length (number x) ≤ 8) (sym (number_of_bits _ s.fits.flow)) (seven-digits s), blank-room b.before.before.before)
 
 put-bytes-requires-2 : tie.Need-put_bytes-requires
-put-bytes-requires-2 c κs = flow-room c.before.before.before.before
+put-bytes-requires-2 c κs = flow-room c.before.before.before.before.before
 
 returns : tie.Need-returns
 unfolding edge_line
 returns c =
-    let last = c.before.before in
-    let f = valued last in
+    let last = c in
+    let f = valued last.before.before in
     let s = begun f in
     four_placed _ _ _ _ _ _ _ _ _ _ _ _ _ _ (edge (named (parted f))) (blank (parted f)) (flow f) last.put_bytes.ensures
-    (omega (arith, three-digits s, seven-digits s, s.pre.0))
+    (omega (arith, three-digits s, seven-digits s, s.requires.0))
 
 pub put_edge_spec : {M : Type 1} → statement M
 put_edge_spec =

@@ -38,12 +38,12 @@ line_at c = line (started c).args.flows.now
 
 -- ── a line is at most 13 bytes, and the lines so far keep within the room ──
 short-line : (c : tie.At-loop-e invariant-loop decreases-loop) (i : ℕ) → i < (started c).args.edges → length (line_at c i) ≤ 13
-short-line c i l = let s = started c in edge_line_length i (atℤ s.args.flows.now i) (omega (arith, s.pre.1)) (s.pre.2 i l)
+short-line c i l = let s = started c in edge_line_length i (atℤ s.args.flows.now i) (omega (arith, s.requires.1)) (s.requires.2 i l)
 
 so_far : (c : tie.At-loop-e invariant-loop decreases-loop) → length (lines c.loop-e.e (line_at c)) ≤ 13 * c.loop-e.e
 so_far c = lines_length 13 c.loop-e.e (line_at c) (λ i l. short-line c i (omega (arith, c.loop-e.invariant.0)))
 
-length-now : (c : tie.At-loop-e invariant-loop decreases-loop) → length c.loop-e.text-1 ≡ length (started c).args.text-1.now
+length-now : (c : tie.At-loop-e invariant-loop decreases-loop) → length c.loop-e.text ≡ length (started c).args.text.now
 length-now c = placed_length _ _ _ _ _ c.loop-e.invariant.1 (omega (arith, c.loop-e.invariant.1.1, so_far c, (started c).requires.0, c.loop-e.invariant.0))
 
 -- ── the flow that is handed on is the one that the array has ──
@@ -51,16 +51,16 @@ abbrev turn : tie.After-put_edge-arg-in-loop-e-1 invariant-loop decreases-loop �
 turn c = c.before.before
 
 handed : (c : tie.After-put_edge-arg-in-loop-e-1 invariant-loop decreases-loop)
-    → to_z w32 (of_z w32 (atℤ (started (turn c).before).args.flows.now (turn c).before.loop-e.e))
-    ≡ atℤ (started (turn c).before).args.flows.now (turn c).before.loop-e.e
+    → to_z w32 (of_z w32 (atℤ (started (turn c).before).args.flows.now (turn c).loop-e.e))
+    ≡ atℤ (started (turn c).before).args.flows.now (turn c).loop-e.e
 handed c = number_of_bits _ (record { sfits = c.put_edge-arg-in-loop-e-1.given })
 
 abbrev loop-of : tie.After-put_edge-end invariant-loop decreases-loop → tie.At-loop-e invariant-loop decreases-loop
 loop-of c = (turn c.before).before
 
 written : (c : tie.After-put_edge-end invariant-loop decreases-loop)
-    → Placed (loop-of c).loop.end (line_at (loop-of c) (loop-of c).loop.e) (loop-of c).loop.text-1 c.put_edge-end.new.0 c.put_edge-end.result
-written c = placed_as (edge_line (loop-of c).loop.e) _ _ _ _ (handed c.before) c.put_edge-end.ensures
+    → Placed (loop-of c).loop-e.end (line_at (loop-of c) (loop-of c).loop-e.e) (loop-of c).loop-e.text c.put_edge-end.new.text c.put_edge-end.result
+written c = placed_as (edge_line (loop-of c).loop-e.e) _ _ _ _ (handed c.before) c.put_edge-end.ensures
 
 -- ── the needs, in the order of the code ──
 loop-holds : tie.Need-loop-e-init invariant-loop decreases-loop
@@ -70,23 +70,23 @@ loop-holds c = (omega arith, placed_none _ _)
 put-edge-requires : tie.Need-put_edge-end-requires invariant-loop decreases-loop
 put-edge-requires c κs =
     let t = turn c in
-    let o = t.before in
-    let s = started o in
-    let l = t.loop-e-test.taken in (
-      omega (arith, o.loop-e.inv.1.1, so_far o, length-now o, s.pre.0, l),
-      omega (arith, s.pre.1, l),
-      subst (Limited 1000000) (sym (handed c)) (s.pre.2 o.loop-e.e l),
+    let o = t in
+    let s = started o.before in
+    let l = t.loop-e-test.true in (
+      omega (arith, o.loop-e.invariant.1.1, so_far o.before, length-now o.before, s.requires.0, l),
+      omega (arith, s.requires.1, l),
+      subst (Limited 1000000) (sym (handed c)) (s.requires.2 o.loop-e.e l),
     )
 
 loop-again : tie.Need-loop-e-preserved invariant-loop decreases-loop
 loop-again c =
-    let w = c.before.before in
-    let t = turn w.before in
-    let o = t.before in
+    let w = c in
+    let t = turn w.before.before.before in
+    let o = t in
     let e = o.loop-e.e in
-    let l = t.loop-e-test.taken in (
+    let l = t.loop-e-test.true in (
       omega arith,
-      lines_more _ _ _ e (line_at o) _ _ _ o.loop-e.inv.1 (written w) (omega (arith, so_far o, short-line o e l, (started o).pre.0, l)),
+      lines_more _ _ _ e (line_at o.before) _ _ _ o.loop-e.invariant.1 (written w.before.before) (omega (arith, so_far o.before, short-line o.before e l, (started o.before).requires.0, l)),
     )
 
 same_length : tie.Need-shape_of-text invariant-loop decreases-loop
@@ -94,8 +94,8 @@ same_length c = length-now c.before
 
 returns : tie.Need-returns invariant-loop decreases-loop
 returns c =
-    let o = c.before in
-    placed_as (λ k. lines k (line_at o)) _ _ _ _ (le_antisymm o.loop-e.invariant.0 c.loop-e-test.false) o.loop-e.invariant.1
+    let o = c in
+    placed_as (λ k. lines k (line_at o.before)) _ _ _ _ (le_antisymm o.loop-e.invariant.0 c.loop-e-test.false) o.loop-e.invariant.1
 
 pub put_edges_spec : {M : Type 1} → statement M
 put_edges_spec =

@@ -24,10 +24,10 @@ judged c v e = rw e at c.check_record-whole.ensures
 
 -- ── the question is whole ──
 abbrev asked : tie.In_default → tie.After-check_record-whole
-asked c = c.before.before
+asked c = c.before
 
 passed : (c : tie.In_default) → NoneOf (record_checks (begin (asked c)).args.input.now 3 0)
-passed c = judged (asked c) Passed c.enum_told-1.given.1
+passed c = judged (asked c) Passed c.in_default.is
 
 whole : (c : tie.In_default) → 9 ≤ length (begin (asked c)).args.input.now
 whole c = question_whole (begin (asked c)).args.input.now (passed c)
@@ -35,14 +35,14 @@ whole c = question_whole (begin (asked c)).args.input.now (passed c)
 -- ── the needs, in the order of the code ──
 returns : tie.Need-returns-in-Refused
 returns c =
-    let p = c.before.before in
-    let w = p.before.before.before in
-    let s = begin w.before.before in
-    let fits = refused_text_length _ p.before.before.known_told-1.given.0.1 in
-    question_refused s.args.input.now s.args.text-1.now p.Put-refused.new.0 p.Put-refused.result _ _
-    (judged w.before.before (Refused _ _) w.whole-1.given.1)
+    let p = c in
+    let w = p in
+    let s = begin w.before.before.before.before.before in
+    let fits = refused_text_length _ p.known_told-1.given.0.1 in
+    question_refused s.args.input.now s.args.text.now p.Put-refused.new.0 p.Put-refused.result _ _
+    (judged w.before.before.before.before.before (Refused _ _) w.in-Refused.is)
     p.Put-refused.ensures
-    (omega (arith, fits, s.pre))
+    (omega (arith, fits, s.requires))
 
 read-u16-requires : tie.Need-read_u16-source-requires
 read-u16-requires c κs = omega (arith, whole c)
@@ -61,14 +61,14 @@ part-put-answer-start c = omega (arith, whole c.before.before.before.before, c.r
 
 returns-2 : tie.Need-returns
 returns-2 c =
-    let p = c.before.before in
-    let r = p.before.before.before in
-    let value = r.before in
-    let sink = value.before in
-    let source = sink.before in
-    let t = source.before in
-    let b = (begin (asked t)).args.input.now in
-    p.put_answer.ensures b (passed t) (rest b _ r.record_length-after.ensures.0) (sym source.read_u16-source.ensures) (sym sink.read_u16-sink.ensures)
+    let p = c in
+    let r = p in
+    let value = r in
+    let sink = value in
+    let source = sink in
+    let t = source in
+    let b = (begin (asked t.before.before.before.before.before.before.before.before.before)).args.input.now in
+    p.put_answer.ensures b (passed t.before.before.before.before.before.before.before.before.before) (rest b _ r.record_length-after.ensures.0) (sym source.read_u16-source.ensures) (sym sink.read_u16-sink.ensures)
     (sym (number_of_bits _ (record { sfits = value.read_i32-value.type_inv }) ∙ value.read_i32-value.ensures))
 
 pub put_key_spec : {M : Type 1} → statement M

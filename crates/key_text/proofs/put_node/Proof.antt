@@ -26,42 +26,42 @@ abbrev start : tie.After-put_decimal-end → tie.Start
 start c = begin (asked c)
 
 numbered : (c : tie.After-put_decimal-end)
-    → Placed (start c).args.at (decimal (start c).args.v) (start c).args.text-1.now c.put_decimal-end.new.0 c.put_decimal-end.result
-numbered c = placed_as decimal _ _ _ _ c.before.index.ensures c.put_decimal-end.ensures
+    → Placed (start c).args.at (decimal (start c).args.v) (start c).args.text.now c.put_decimal-end.new.text c.put_decimal-end.result
+numbered c = placed_as decimal _ _ _ _ c.index.ensures c.put_decimal-end.ensures
 
-number-room : (c : tie.After-put_decimal-end) → c.put_decimal-end.result + 1 ≤ length c.put_decimal-end.new.0
+number-room : (c : tie.After-put_decimal-end) → c.put_decimal-end.result + 1 ≤ length c.put_decimal-end.new.text
 number-room c = placed_room 3 1 _ _ _ _ _ (numbered c) (three-digits (start c)) (start c).requires.0
 
 abbrev counted : tie.After-put_bytes → tie.After-put_decimal-end
-counted c = c.before.before.before.before.before
+counted c = c.before.before.before.before.before.before
 
 -- ── the needs, in the order of the code ──
 contains-requires : tie.Need-contains-requires
-contains-requires c κs = omega (arith, c.before.before.requires.1, c.contains-arg-1.given.0)
+contains-requires c κs = omega (arith, c.requires.1, c.contains-arg-1.given.0)
 
 put-decimal-requires : tie.Need-put_decimal-end-requires
 put-decimal-requires c κs =
     let s = begin c.before.before.before in
-    omega (arith, subst (λ n. length (decimal n) ≤ 3) (sym c.index.ensures) (three-digits s), s.pre.0)
+    omega (arith, subst (λ n. length (decimal n) ≤ 3) (sym c.index.ensures) (three-digits s), s.requires.0)
 
 put-bytes-requires : tie.Need-put_bytes-requires
-put-bytes-requires c κs = number-room c.before.before.before.before
+put-bytes-requires c κs = number-room c.before.before.before.before.before
 
 returns : tie.Need-returns-then-contains
 returns c =
-    let last = c.before.before in
-    let d = counted last in
+    let last = c in
+    let d = counted last.before.before in
     let s = start d in
     placed_as (λ t. t) _ _ _ _
-    (in-set s.args.set.now s.args.v (sym (asked d).contains.ensures ∙ d.before.before.before.if-contains.taken))
-    (placed_then _ _ _ _ _ _ _ _ (numbered d) last.put_bytes.ensures (omega (arith, three-digits s, s.pre.0)))
+    (in-set s.args.set.now s.args.v (sym (asked d).contains.ensures ∙ d.if-contains.true))
+    (placed_then _ _ _ _ _ _ _ _ (numbered d) last.put_bytes.ensures (omega (arith, three-digits s, s.requires.0)))
 
 returns-2 : tie.Need-returns
 returns-2 c =
     let s = begin c.before in
     placed_as (λ t. t) _ _ _ _
-    (not_in_set s.args.set.now s.args.v (sym c.before.contains.ensures ∙ c.if-contains.false))
-    (placed_none s.args.at s.args.text-1.now)
+    (not_in_set s.args.set.now s.args.v (sym c.contains.ensures ∙ c.if-contains.false))
+    (placed_none s.args.at s.args.text.now)
 
 pub put_node_spec : {M : Type 1} → statement M
 put_node_spec =

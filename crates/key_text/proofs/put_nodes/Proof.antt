@@ -28,7 +28,7 @@ so_far c =
     let set = (started c).args.set.now in
     lines_length 4 c.loop-v.v (node_line set) (λ i g. node_line_length set i (omega (arith, (started c).requires.1, c.loop-v.invariant.0)))
 
-length-now : (c : tie.At-loop-v invariant-loop decreases-loop) → length c.loop-v.text-1 ≡ length (started c).args.text-1.now
+length-now : (c : tie.At-loop-v invariant-loop decreases-loop) → length c.loop-v.text ≡ length (started c).args.text.now
 length-now c = placed_length _ _ _ _ _ c.loop-v.invariant.1 (omega (arith, c.loop-v.invariant.1.1, so_far c, (started c).requires.0, c.loop-v.invariant.0))
 
 abbrev turn : tie.After-put_node-end invariant-loop decreases-loop → tie.In-loop-v invariant-loop decreases-loop
@@ -41,21 +41,21 @@ loop-holds c = (omega arith, placed_none _ _)
 
 put-node-requires : tie.Need-put_node-end-requires invariant-loop decreases-loop
 put-node-requires c κs =
-    let a = c.before.before in
-    let s = started a in (
-      omega (arith, a.loop-v.invariant.1.1, so_far a, length-now a, s.pre.0, c.before.loop-v-test.true),
-      omega (arith, s.pre.1, c.before.loop-v-test.true),
+    let a = c in
+    let s = started a.before.before in (
+      omega (arith, a.loop-v.invariant.1.1, so_far a.before.before, length-now a.before.before, s.requires.0, c.loop-v-test.true),
+      omega (arith, s.requires.1, c.loop-v-test.true),
     )
 
 loop-again : tie.Need-loop-v-preserved invariant-loop decreases-loop
 loop-again c =
-    let w = c.before.before in
-    let a = (turn w).before in
-    let s = started a in
-    let t = (turn w).loop-test.true in (
+    let w = c in
+    let a = (turn w.before.before) in
+    let s = started a.before in
+    let t = (turn w.before.before).loop-v-test.true in (
       omega arith,
-      lines_more _ _ _ a.loop-v.v (node_line s.args.set.now) _ _ _ a.loop-v.inv.1 w.put_node-end.ensures
-          (omega (arith, so_far a, node_line_length s.args.set.now a.loop-v.v (omega (arith, s.pre.1, t)), s.pre.0, t)),
+      lines_more _ _ _ a.loop-v.v (node_line s.args.set.now) _ _ _ a.loop-v.invariant.1 w.put_node-end.ensures
+          (omega (arith, so_far a.before, node_line_length s.args.set.now a.loop-v.v (omega (arith, s.requires.1, t)), s.requires.0, t)),
     )
 
 same_length : tie.Need-shape_of-text invariant-loop decreases-loop
@@ -63,8 +63,8 @@ same_length c = length-now c.before
 
 returns : tie.Need-returns invariant-loop decreases-loop
 returns c =
-    let o = c.before in
-    let set = (started o).args.set.now in
+    let o = c in
+    let set = (started o.before).args.set.now in
     placed_as (λ k. lines k (node_line set)) _ _ _ _ (le_antisymm o.loop-v.invariant.0 c.loop-v-test.false) o.loop-v.invariant.1
 
 pub put_nodes_spec : {M : Type 1} → statement M

@@ -13,7 +13,7 @@ returns c = ((inl (c.if-text-lt6671.true, refl, refl), refl), tt)
 
 returns-2 : tie.Need-returns
 unfolding NoneOf
-returns-2 c = let key = c.before.before.put_key.ensures in ((((λ l. omega arith), tt), key.0), key.1)
+returns-2 c = let key = c.put_key.ensures in ((((λ l. omega arith), tt), key.0), key.1)
 
 pub write_key_spec : {M : Type 1} → statement M
 write_key_spec = tie.close (tie.spec returns (λ c κs. search rules) (λ c. search rules) returns-2)

@@ -16,25 +16,25 @@ use Rattle.lengths.proofs.carry.Statement.{statement}
 use Rattle.lengths.proofs.carry.Tie as tie
 
 minus-requires : tie.Need-minus-requires
-minus-requires c κs = let h = c.before.requires in minus_fits h.4 h.6
+minus-requires c κs = let h = c.requires in minus_fits h.4 h.6
 
 -- the first store left the length at x as it was
 plus-requires : tie.Need-plus-requires
 plus-requires c κs =
-    let s = c.before.before.before in
-    let a = to_z w32 (of_z w32 c.before.minus.result) in
+    let s = c in
+    let a = to_z w32 (of_z w32 c.minus.result) in
     let same = get_or-set_other s.args.lengths.now s.args.p s.args.x a (pos 0) s.requires.3 in
     plus_fits (subst (Limited most_length) (sym same) s.requires.5) s.requires.6
 
 returns : tie.Need-returns
 returns c =
-    let s = c.before.before.before.before in
+    let s = c in
     let l = s.args.lengths.now in
     let p = s.args.p in
     let x = s.args.x in
     let value = s.args.value in
     let h = s.requires in
-    let less = c.before.before.minus in
+    let less = c.minus in
     let a = to_z w32 (of_z w32 less.result) in
     let b = to_z w32 (of_z w32 c.plus.result) in
     let same : atℤ (set l p a) x ≡ atℤ l x = get_or-set_other l p x a (pos 0) h.3 in

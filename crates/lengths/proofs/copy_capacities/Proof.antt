@@ -26,18 +26,18 @@ loop-holds c = (omega arith, c.requires.1, c.requires.0, λ k l. absurd (omega a
 
 loop-again : tie.Need-loop-d-preserved invariant-loop decreases-loop
 loop-again c =
-    let o = c.before.before.loop-d in
-    let t = c.before.before.before.args.capacities.now in
+    let o = c.loop-d in
+    let t = c.args.capacities.now in
     let v = to_z w32 (of_z w32 (atℤ t o.d)) in (
       omega arith,
       o.invariant.1,
-      length-set o.lengths-1 o.d v ∙ o.invariant.2,
-      below_more (λ k. atℤ (set o.lengths-1 o.d v) k ≡ atℤ t k) o.d (λ k l. read_below _ o.lengths-1 o.d k v (pos 0) (atℤ t k) l (o.invariant.3 k l))
-          (get_or-set_same o.lengths-1 o.d v (pos 0) (omega (arith, o.invariant.2)) ∙ number_of_bits (atℤ t o.d) (record { sfits = c.lengths-1.given })),
+      length-set o.lengths o.d v ∙ o.invariant.2,
+      below_more (λ k. atℤ (set o.lengths o.d v) k ≡ atℤ t k) o.d (λ k l. read_below _ o.lengths o.d k v (pos 0) (atℤ t k) l (o.invariant.3 k l))
+          (get_or-set_same o.lengths o.d v (pos 0) (omega (arith, o.invariant.2)) ∙ number_of_bits (atℤ t o.d) (record { sfits = c.lengths-1.given })),
     )
 
 returns : tie.Need-returns invariant-loop decreases-loop
-returns c = (c.before.loop-d.invariant.2, λ d l. c.before.loop-d.invariant.3 d (omega arith))
+returns c = (c.loop-d.invariant.2, λ d l. c.loop-d.invariant.3 d (omega arith))
 
 pub copy_capacities_spec : {M : Type 1} → statement M
 copy_capacities_spec =

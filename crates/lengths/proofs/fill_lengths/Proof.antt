@@ -9,16 +9,16 @@ use Rattle.lengths.proofs.fill_lengths.Statement.{statement}
 use Rattle.lengths.proofs.fill_lengths.Tie as tie
 
 copy-capacities-requires : tie.Need-copy_capacities-requires
-copy-capacities-requires c κs = (c.before.requires.0, c.before.requires.1.few)
+copy-capacities-requires c κs = (c.requires.0, c.requires.1.few)
 
 abbrev begun : tie.After-copy_capacities → tie.Start
 begun c = c.before.before
 
 climb-requires : tie.Need-climb-down-requires
 climb-requires c κs =
-    let w = c.before in
+    let w = c in
     let e = w.copy_capacities.ensures in
-    (e.0, down_climbable (fill_by_bits (begun w).requires.1) e.1)
+    (e.0, down_climbable (fill_by_bits (begun w.before).requires.1) e.1)
 
 abbrev copied : tie.After-climb-down → tie.After-copy_capacities
 copied c = c.before.before
@@ -32,19 +32,19 @@ turned c = number_of_bits _ (record { sfits = c.minus-against.type_inv }) ∙ c.
 
 climb-requires-2 : tie.Need-climb-up-requires
 climb-requires-2 c κs =
-    let m = c.before in
-    let d = m.before in
-    let w = copied d in
-    (d.climb-down.ensures.0, up_climbable (fill_by_bits (begun w).pre.1) w.copy_capacities.ensures.1 d.climb-down.ensures.1 (turned m))
+    let m = c in
+    let d = m in
+    let w = copied d.before.before in
+    (d.climb-down.ensures.0, up_climbable (fill_by_bits (begun w).requires.1) w.copy_capacities.ensures.1 d.climb-down.ensures.1 (turned m.before))
 
 returns : tie.Need-returns
 returns c =
-    let m = c.before.before in
-    let d = m.before in
-    let w = copied d in
-    let p = (begun w).pre.1 in
+    let m = c in
+    let d = m in
+    let w = copied d.before.before.before in
+    let p = (begun w).requires.1 in
     let e = c.climb-up.ensures in
-    (e.0, fill_from_bits p.small (both_filled (fill_by_bits p) w.copy_capacities.ensures.1 d.climb-down.ensures.1 (turned m) e.1))
+    (e.0, fill_from_bits p.small (both_filled (fill_by_bits p) w.copy_capacities.ensures.1 d.climb-down.ensures.1 (turned m.before.before) e.1))
 
 pub fill_lengths_spec : {M : Type 1} → statement M
 fill_lengths_spec =

@@ -29,8 +29,8 @@ loop-holds c = (omega arith, λ k l. absurd (omega arith))
 
 drop-across-requires : tie.Need-drop_across-x-requires invariant-loop decreases-loop
 drop-across-requires c κs =
-    let s = c.before.before in
-    let o = c.before.loop-e in
+    let s = c in
+    let o = c.loop-e in
     (omega (arith, s.requires.0), s.requires.1 (2 * o.e) (omega arith), s.requires.1 (2 * o.e + 1) (omega arith))
 
 -- the test of edge e, on the numbers in the arrays
@@ -47,17 +47,17 @@ Place =
 
 judged-here : (c : Place)
     → Decides (Exceeds
-    (atℤ c.before.before.before.before.before.before.args.capacities.now)
-    (across (at c.before.before.before.before.before.before.args.lefts.now)
-    (atℤ c.before.before.before.before.before.before.args.levels.now))
-    c.before.before.before.before.before.loop-e.e) c.exceeds.result
+    (atℤ c.args.capacities.now)
+    (across (at c.args.lefts.now)
+    (atℤ c.args.levels.now))
+    c.loop-e.e) c.exceeds.result
 judged-here c =
-    let capacity = atℤ c.before.before.before.before.before.before.args.capacities.now in
-    let e = c.before.before.before.before.before.loop-e.e in
-    let drop = c.before.before.before.drop_across-x in
+    let capacity = atℤ c.args.capacities.now in
+    let e = c.loop-e.e in
+    let drop = c.drop_across-x in
     rw (
-      number_of_bits (capacity (2 * e)) (record { sfits = c.before.before.exceeds-arg-1.given }),
-      number_of_bits (capacity (2 * e + 1)) (record { sfits = c.before.exceeds-arg-in-loop-e-1.given }),
+      number_of_bits (capacity (2 * e)) (record { sfits = c.exceeds-arg-1.given }),
+      number_of_bits (capacity (2 * e + 1)) (record { sfits = c.exceeds-arg-in-loop-e-1.given }),
       number_of_bits drop.result (record { sfits = drop.type_inv }),
       drop.ensures,
     ) at c.exceeds.ensures
@@ -65,23 +65,23 @@ judged-here c =
 returns : tie.Need-returns-then-exceeds invariant-loop decreases-loop
 unfolding within_checks
 returns c =
-    let s = c.before.before.before.before.before.before.before.before in
-    let o = c.before.before.before.before.before.before.before.loop-e in
+    let s = c in
+    let o = c.loop-e in
     lowest s.args.edges 17 (Exceeds (atℤ s.args.capacities.now) (across (at s.args.lefts.now) (atℤ s.args.levels.now)))
     o.e c.narrow.result (omega arith) o.invariant.1
-    (said_yes (judged-here c.before.before) c.before.if-exceeds.true) c.narrow.ensures
+    (said_yes (judged-here c.before.before) c.if-exceeds.true) c.narrow.ensures
 
 loop-again : tie.Need-loop-e-preserved invariant-loop decreases-loop
 loop-again c =
-    let o = c.before.before.before.before.before.before.loop-e in
+    let o = c.loop-e in
     (omega arith, below_more _ o.e o.invariant.1 (said_no (judged-here c.before) c.if-exceeds.false))
 
 returns-2 : tie.Need-returns invariant-loop decreases-loop
 unfolding within_checks
 returns-2 c =
-    let s = c.before.before in
+    let s = c in
     none_holds s.args.edges 17 (Exceeds (atℤ s.args.capacities.now) (across (at s.args.lefts.now) (atℤ s.args.levels.now)))
-    (λ k l. c.before.loop-e.invariant.1 k (omega arith))
+    (λ k l. c.loop-e.invariant.1 k (omega arith))
 
 pub check_differences_spec : {M : Type 1} → statement M
 check_differences_spec =

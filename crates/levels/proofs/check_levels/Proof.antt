@@ -34,17 +34,17 @@ loop-holds c = (omega arith, λ k l. absurd (omega arith))
 
 -- the test of face f, on the number in the slice
 judged-here : (c : tie.After-level_outside invariant-loop decreases-loop invariant-loop2 decreases-loop2)
-    → Decides (LevelOutside (atℤ c.before.before.before.before.args.levels.now c.before.before.before.loop-f.f)) c.level_outside.result
-judged-here c = rw (number_of_bits _ (record { sfits = c.before.level_outside-arg-1.given })) at c.level_outside.ensures
+    → Decides (LevelOutside (atℤ c.args.levels.now c.loop-f.f)) c.level_outside.result
+judged-here c = rw (number_of_bits _ (record { sfits = c.level_outside-arg-1.given })) at c.level_outside.ensures
 
 returns : tie.Need-returns-then-level_outside invariant-loop decreases-loop invariant-loop2 decreases-loop2
 returns c =
-    let o = c.before.before.before.before.loop-f in
+    let o = c.loop-f in
     levels_outside _ _ _ o.f (omega arith) (said_yes (judged-here c.before) c.if-level_outside.true)
 
 loop-again : tie.Need-loop-f-preserved invariant-loop decreases-loop invariant-loop2 decreases-loop2
 loop-again c =
-    let o = c.before.before.before.before.loop-f in
+    let o = c.loop-f in
     (omega arith, below_more _ o.f o.invariant.1 (said_no (judged-here c.before) c.if-level_outside.false))
 
 -- ── the roots ──
@@ -55,22 +55,22 @@ abbrev begun : tie.At-loop-m invariant-loop decreases-loop invariant-loop2 decre
 begun c = c.before.before.before
 
 all-inside : (c : tie.At-loop-m invariant-loop decreases-loop invariant-loop2 decreases-loop2) → (k : ℕ) → k < (begun c).args.faces → LevelOutside (atℤ (begun c).args.levels.now k) → ⊥
-all-inside c k l = c.before.before.loop-f.invariant.1 k (omega (arith, c.before.loop-f-test.false))
+all-inside c k l = c.loop-f.invariant.1 k (omega (arith, c.loop-f-test.false))
 
 mul_wide : tie.Need-offset_bounds-roots-m invariant-loop decreases-loop invariant-loop2 decreases-loop2
-mul_wide c = omega (arith, (begun c.before).pre.0, c.loop-m-test.true)
+mul_wide c = omega (arith, (begun c.before).requires.0, c.loop-m-test.true)
 
 element-copy-out-wide : tie.Need-bounds-roots-m invariant-loop decreases-loop invariant-loop2 decreases-loop2
-element-copy-out-wide c = omega (arith, (begun c.before).pre.0, c.loop-m-test.true)
+element-copy-out-wide c = omega (arith, (begun c.before.before).requires.0, c.loop-m-test.true)
 
 abbrev turn : tie.After-wide-z invariant-loop decreases-loop invariant-loop2 decreases-loop2 → tie.In-loop-m invariant-loop decreases-loop invariant-loop2 decreases-loop2
-turn c = c.before.before
+turn c = c.before.before.before
 
 root_in : (c : tie.After-wide-z invariant-loop decreases-loop invariant-loop2 decreases-loop2) → c.wide-z.result < length (begun (turn c).before).args.levels.now
 root_in c =
     let t = turn c in
-    let p = (begun t.before).pre in
-    omega (arith, c.wide-z.ensures, p.1 t.before.loop-m.m t.loop-m-test.taken, p.2)
+    let p = (begun t.before).requires in
+    omega (arith, c.wide-z.ensures, p.1 t.loop-m.m t.loop-m-test.true, p.2)
 
 mul-if2 : tie.Need-offset_bounds-levels-z invariant-loop decreases-loop invariant-loop2 decreases-loop2
 mul-if2 c = omega (arith, root_in c)
@@ -80,33 +80,33 @@ shared-slice-copy-out-if2 c = omega (arith, root_in c)
 
 returns-2 : tie.Need-returns-then-levels-z-ne0 invariant-loop decreases-loop invariant-loop2 decreases-loop2
 returns-2 c =
-    let w = c.before.before in
-    let t = turn w in
+    let w = c in
+    let t = turn w.before.before in
     let a = (begun t.before).args in
     levels_off a.faces (OneOf (at a.roots.now) a.count) (atℤ a.levels.now) (all-inside t.before)
-    w.wide-z.result (t.before.loop-m.m, t.loop-m-test.taken, sym w.wide-z.ensures) (bits_not_zero _ c.if-levels-z-ne0.true)
+    w.wide-z.result (t.loop-m.m, t.loop-m-test.true, sym w.wide-z.ensures) (bits_not_zero _ c.if-levels-z-ne0.true)
 
 add-m : tie.Need-overflow_add-m invariant-loop decreases-loop invariant-loop2 decreases-loop2
-add-m c = let t = turn c.before.before in omega (arith, (begun t.before).pre.0, t.loop-m-test.taken)
+add-m c = let t = turn c.before.before in omega (arith, (begun t.before).requires.0, t.loop-m-test.true)
 
 loop2-less : tie.Need-loop-m-smaller invariant-loop decreases-loop invariant-loop2 decreases-loop2
-loop2-less c = omega (arith, (turn c.before.before).loop2-test.taken)
+loop2-less c = omega (arith, (turn c.before.before).loop-m-test.true)
 
 loop2-again : tie.Need-loop-m-preserved invariant-loop decreases-loop invariant-loop2 decreases-loop2
 loop2-again c =
-    let w = c.before.before in
-    let t = turn w in
-    let o = t.before.loop-m in (
-      omega (arith, t.loop-m-test.taken),
-      below_more _ o.m o.inv.1
-          (ap (atℤ (begun t.before).args.levels.now) (sym w.wide-z.ensures) ∙ bits_zero _ (record { sfits = c.before.t19-1.given }) c.if-levels-z-ne0.false),
+    let w = c in
+    let t = turn w.before.before in
+    let o = t.loop-m in (
+      omega (arith, t.loop-m-test.true),
+      below_more _ o.m o.invariant.1
+          (ap (atℤ (begun t.before).args.levels.now) (sym w.wide-z.ensures) ∙ bits_zero _ (record { sfits = c.t19-1.given }) c.if-levels-z-ne0.false),
     )
 
 returns-3 : tie.Need-returns invariant-loop decreases-loop invariant-loop2 decreases-loop2
 returns-3 c =
-    let l = c.before in
-    let a = (begun l).args in
-    levels_none a.faces (OneOf (at a.roots.now) a.count) (atℤ a.levels.now) (all-inside l)
+    let l = c in
+    let a = (begun l.before).args in
+    levels_none a.faces (OneOf (at a.roots.now) a.count) (atℤ a.levels.now) (all-inside l.before)
     (λ f r. ap (atℤ a.levels.now) (sym r.2) ∙ l.loop-m.invariant.1 r.0 (omega (arith, r.1, c.loop-m-test.false)))
 
 pub check_levels_spec : {M : Type 1} → statement M

@@ -20,25 +20,25 @@ bits x h = same_bits (omega arith) h
 
 returns : tie.Need-returns-then-d-eq0
 returns c =
-    let a = c.before.before.args in
-    let h = c.before.before.requires.1 in
+    let a = c.args in
+    let h = c.requires.1 in
     let e = bits (atℤ a.flows.now _) h in
-    (e ∙ sym (flow_forth (atℤ a.flows.now) a.d c.before.if-d-eq0.true), subst (Limited most_on_sheet) (sym e) h)
+    (e ∙ sym (flow_forth (atℤ a.flows.now) a.d c.if-d-eq0.true), subst (Limited most_on_sheet) (sym e) h)
 
 minus-requires : tie.Need-minus-requires
 minus-requires c κs =
-    let h = c.before.before.requires.1 in
+    let h = c.requires.1 in
     subst (λ y. SFits w32 (pos 0 -ℤ y)) (sym (bits _ h)) (rw (zero_minus _) (limited_fits most_on_sheet _ (omega arith) (limited_neg h)))
 
 returns-2 : tie.Need-returns
 returns-2 c =
-    let a = c.before.before.before.args in
-    let h = c.before.before.before.requires.1 in
+    let a = c.args in
+    let h = c.requires.1 in
     let x = atℤ a.flows.now _ in
-    let is : c.minus.result-1 ≡ neg_ℤ x = c.minus.ensures ∙ rw (bits x h) (zero_minus x) in
-    let g : Limited most_on_sheet c.minus.result-1 = subst (Limited most_on_sheet) (sym is) (limited_neg h) in
-    let e = bits c.minus.result-1 g in
-    (e ∙ is ∙ sym (flow_back (atℤ a.flows.now) a.d c.before.before.if-d-eq0.false), subst (Limited most_on_sheet) (sym e) g)
+    let is : c.minus.result ≡ neg_ℤ x = c.minus.ensures ∙ rw (bits x h) (zero_minus x) in
+    let g : Limited most_on_sheet c.minus.result = subst (Limited most_on_sheet) (sym is) (limited_neg h) in
+    let e = bits c.minus.result g in
+    (e ∙ is ∙ sym (flow_back (atℤ a.flows.now) a.d c.if-d-eq0.false), subst (Limited most_on_sheet) (sym e) g)
 
 pub dart_flow_spec : {M : Type 1} → statement M
 dart_flow_spec =

@@ -11,26 +11,26 @@ use Rattle.levels.proofs.drop_across.Tie as tie
 
 minus-requires : tie.Need-minus-requires
 minus-requires c κs =
-    let s = c.before.before.before.before.before.before in
+    let s = c in
     let ρ = atℤ s.args.levels.now in
     rw (
-      number_of_bits (ρ c.before.before.before.before.wide-left.result) (record { sfits = c.before.minus-arg-1.given }),
-      number_of_bits (ρ c.before.before.wide-right.result) (record { sfits = c.minus-arg-2-1.given }),
-      c.before.before.before.before.wide-left.ensures,
-      c.before.before.wide-right.ensures,
+      number_of_bits (ρ c.wide-left.result) (record { sfits = c.minus-arg-1.given }),
+      number_of_bits (ρ c.wide-right.result) (record { sfits = c.minus-arg-2-1.given }),
+      c.wide-left.ensures,
+      c.wide-right.ensures,
     ) (difference_fits _ _ s.requires.1.inside s.requires.2.inside)
 
 returns : tie.Need-returns
 returns c =
-    let s = c.before.before.before.before.before.before.before in
+    let s = c in
     let ρ = atℤ s.args.levels.now in
     let lefts = at s.args.lefts.now in
     number_of_bits _ (record { sfits = c.minus.type_inv })
     ∙ c.minus.ensures
     ∙ ap₂ ◌-ℤ◌
-    (number_of_bits _ (record { sfits = c.before.before.minus-arg-1.given }) ∙ ap ρ c.before.before.before.before.before.wide-left.ensures)
-    (number_of_bits _ (record { sfits = c.before.minus-arg-2-1.given })
-    ∙ ap ρ (c.before.before.before.wide-right.ensures ∙ ap lefts (sym (rev_even s.args.e))))
+    (number_of_bits _ (record { sfits = c.minus-arg-1.given }) ∙ ap ρ c.wide-left.ensures)
+    (number_of_bits _ (record { sfits = c.minus-arg-2-1.given })
+    ∙ ap ρ (c.wide-right.ensures ∙ ap lefts (sym (rev_even s.args.e))))
 
 pub drop_across_spec : {M : Type 1} → statement M
 drop_across_spec =

@@ -24,27 +24,27 @@ loop-holds c = (omega arith, copy_start _ _)
 
 drop-across-requires : tie.Need-drop_across-requires invariant-loop decreases-loop
 drop-across-requires c κs =
-    let s = c.before.before in
-    let o = c.before.loop-e in
+    let s = c in
+    let o = c.loop-e in
     (omega (arith, s.requires.0), s.requires.2 (2 * o.e) (omega arith), s.requires.2 (2 * o.e + 1) (omega arith))
 
 slice-set-from-flows : tie.Need-bounds-flows-e invariant-loop decreases-loop
-slice-set-from-flows c = omega (arith, filled_length _ _ _ _ c.before.before.loop-e.invariant.1 (omega arith))
+slice-set-from-flows c = omega (arith, filled_length _ _ _ _ c.loop-e.invariant.1 (omega arith))
 
 loop-again : tie.Need-loop-e-preserved invariant-loop decreases-loop
 loop-again c =
-    let o = c.before.before.loop-e in
+    let o = c.loop-e in
     (omega arith, copy_step _ o.e _ _ _ o.invariant.1 (omega arith) (number_of_bits _ (record { sfits = c.drop_across.type_inv }) ∙ c.drop_across.ensures))
 
 same_length : tie.Need-shape_of-flows invariant-loop decreases-loop
-same_length c = filled_length _ _ _ _ c.before.loop-e.invariant.1 (omega arith)
+same_length c = filled_length _ _ _ _ c.loop-e.invariant.1 (omega arith)
 
 returns : tie.Need-returns invariant-loop decreases-loop
 returns c =
-    let a = c.before.before.args in
-    c.before.loop-e.invariant.1 ∙ ap (λ k. tabulate k (across (at a.lefts.now) (atℤ a.levels.now)) ++ drop k a.flows.now) same
+    let a = c.args in
+    c.loop-e.invariant.1 ∙ ap (λ k. tabulate k (across (at a.lefts.now) (atℤ a.levels.now)) ++ drop k a.flows.now) same
   where
-    same : c.before.loop-e.e ≡ c.before.before.args.edges
+    same : c.loop-e.e ≡ c.args.edges
     same = omega arith
 
 pub fill_differences_spec : {M : Type 1} → statement M

@@ -7,16 +7,16 @@ use Rattle.levels.proofs.level_outside.Statement.{statement}
 use Rattle.levels.proofs.level_outside.Tie as tie
 
 returns : tie.Need-returns-then-x-ltminus600000000
-returns c = inl (lt_of_test _ _ (rw (number_of_bits _ c.before.ranges.x) at c.if-x-ltminus600000000.true))
+returns c = inl (lt_of_test _ _ (rw (number_of_bits _ c.ranges.x) at c.if-x-ltminus600000000.true))
 
 returns-2 : tie.Need-returns-then-x-gt600000000
-returns-2 c = inr (lt_of_test _ _ (rw (number_of_bits _ c.before.before.ranges.x) at c.if-x-gt600000000.true))
+returns-2 c = inr (lt_of_test _ _ (rw (number_of_bits _ c.ranges.x) at c.if-x-gt600000000.true))
 
 returns-3 : tie.Need-returns
 returns-3 c =
-    let f = c.before.before.ranges.x in
+    let f = c.ranges.x in
     neither
-    (λ h. lt_le_clash h (ge_of_test _ _ (rw (number_of_bits _ f) at c.before.if-x-ltminus600000000.false)))
+    (λ h. lt_le_clash h (ge_of_test _ _ (rw (number_of_bits _ f) at c.if-x-ltminus600000000.false)))
     (λ h. lt_le_clash h (ge_of_test _ _ (rw (number_of_bits _ f) at c.if-x-gt600000000.false)))
 
 pub level_outside_spec : {M : Type 1} → statement M

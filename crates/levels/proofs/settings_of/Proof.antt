@@ -33,14 +33,14 @@ abbrev levelsOf : tie.Start → List ℤ
 levelsOf s = s.args.levels.now
 
 abbrev flows_of : tie.Start → List ℤ
-flows_of s = s.args.flows-1.now
+flows_of s = s.args.flows.now
 
 -- ── 16 did not refuse ──
 abbrev given : tie.Else-levels-faces → tie.Start
 given c = c.before.before
 
 room-edges : (c : tie.Else-levels-faces) → (drawing (given c)).map.edges ≤ length (flows_of (given c))
-room-edges c = omega (arith, c.before.if-flows-edges.false)
+room-edges c = omega (arith, c.if-flows-edges.false)
 
 room-faces : (c : tie.Else-levels-faces) → faces (drawing (given c)).map ≤ length (levelsOf (given c))
 room-faces c = omega (arith, c.if-levels-faces.false, (given c).requires.counted)
@@ -70,24 +70,24 @@ judged : (c : tie.After-check_levels-judged) (v : Verdict) → c.check_levels-ju
     (atℤ (levelsOf (given (roomy c))))) v
 judged c v e =
     let s = given (roomy c) in
-    levels_judged s.pre (walked c).roots-of.ensures.1 (atℤ (lentLevels s)) (atℤ (levelsOf s)) (same s) v (rw e at c.check_levels-judged.ensures)
+    levels_judged s.requires (walked c).roots_of-count.ensures.1 (atℤ (lentLevels s)) (atℤ (levelsOf s)) (same s) v (rw e at c.check_levels-judged.ensures)
 
 abbrev levelled : tie.In_default → tie.Else-levels-faces
-levelled c = roomy c.before.before
+levelled c = roomy c.before
 
 inside : (c : tie.In_default)
     → NoneOf (level_checks (faces (drawing (given (levelled c))).map) (ZeroFace (drawing (given (levelled c))).map (given (levelled c)).args.outer)
     (atℤ (levelsOf (given (levelled c)))))
-inside c = judged c.before.before Passed c.enum_told-1.given-1.1
+inside c = judged c.before Passed c.in_default.is
 
 ready : (c : tie.In_default) → HaveLevels (given (levelled c)).args.edges (at (given (levelled c)).args.lefts.now) (lentLevels (given (levelled c)))
 ready c =
-    let k = c.before.before in
+    let k = c in
     let r = levelled c in
     let s = given r in
-    levels_ready s.pre (lentLevels s) (omega (arith, lent-faces r, s.pre.counted))
-    (levels_judged s.pre (walked k).roots-of.ensures.1 (atℤ (lentLevels s)) (atℤ (lentLevels s)) (λ f l. refl) Passed
-    (rw c.enum_told-1.given-1.1 at k.check_levels-judged.ensures))
+    levels_ready s.requires (lentLevels s) (omega (arith, lent-faces r, s.requires.counted))
+    (levels_judged s.requires (walked k.before).roots_of-count.ensures.1 (atℤ (lentLevels s)) (atℤ (lentLevels s)) (λ f l. refl) Passed
+    (rw c.in_default.is at k.check_levels-judged.ensures))
 
 -- ── 17 did not refuse ──
 abbrev limited : tie.After-check_differences-within → tie.In_default
@@ -98,16 +98,16 @@ kept : (c : tie.After-check_differences-within) (v : Verdict) → c.check_differ
     (from_levels (drawing (given (levelled (limited c)))).map (atℤ (levelsOf (given (levelled (limited c))))))) v
 kept c v e =
     let s = given (levelled (limited c)) in
-    differences_within s.pre (atℤ (lentLevels s)) (atℤ (levelsOf s)) (same_face s) v (rw e at c.check_differences-within.ensures)
+    differences_within s.requires (atℤ (lentLevels s)) (atℤ (levelsOf s)) (same_face s) v (rw e at c.check_differences-within.ensures)
 
 -- ── the needs, in the order of the code ──
 returns : tie.Need-returns-then-flows-edges
-returns c = let s = c.before in (leveled_short (drawing s) (levelsOf s) (flows_of s) (inl (omega (arith, c.if-flows-edges.true))), refl)
+returns c = let s = c in (leveled_short (drawing s.before) (levelsOf s.before) (flows_of s.before) (inl (omega (arith, c.if-flows-edges.true))), refl)
 
 returns-2 : tie.Need-returns-then-levels-faces
 returns-2 c =
-    let s = c.before.before in
-    (leveled_short (drawing s) (levelsOf s) (flows_of s) (inr (omega (arith, c.if-levels-faces.true, s.requires.counted))), refl)
+    let s = c in
+    (leveled_short (drawing s.before.before) (levelsOf s.before.before) (flows_of s.before.before) (inr (omega (arith, c.if-levels-faces.true, s.requires.counted))), refl)
 
 mul-roots-of : tie.Need-overflow_mul-edges
 mul-roots-of c = omega (arith, (given c).requires.few_edges)
@@ -118,21 +118,21 @@ roots-of-requires c κs =
     (refl, omega (arith, p.few_edges), omega arith, p.outer_in, p.plane.sound.range.rotation_in)
 
 part-given-end : tie.Need-slice_bounds-given-end
-part-given-end c = c.before.before.if-levels-faces.false
+part-given-end c = c.if-levels-faces.false
 
 check-levels-requires : tie.Need-check_levels-judged-requires
 check-levels-requires c κs =
-    let w = c.before.before in
-    let r = w.before.before in
+    let w = c in
+    let r = w in
     let e = w.roots_of-count.ensures.1 in
-    (few_roots (given r).requires e, roots_in (given r).requires e, lent-faces r)
+    (few_roots (given r.before.before.before.before).requires e, roots_in (given r.before.before.before.before).requires e, lent-faces r.before.before.before.before)
 
 returns-3 : tie.Need-returns-in-Refused
 returns-3 c =
-    let l = c.before.before.before in
-    let r = roomy l in
+    let l = c in
+    let r = roomy l.before in
     let s = given r in (
-      leveled_levels (drawing s) (levelsOf s) (flows_of s) (room-edges r) (room-faces r) _ _ (judged l (Refused _ _) c.before.judged-1.given-1.1),
+      leveled_levels (drawing s) (levelsOf s) (flows_of s) (room-edges r) (room-faces r) _ _ (judged l.before (Refused _ _) c.in-Refused.is),
       refl,
     )
 
@@ -141,34 +141,34 @@ check-differences-requires c κs = ((given (levelled c)).requires.few_edges, rea
 
 returns-4 : tie.Need-returns-in-Refused-within
 returns-4 c =
-    let d = c.before.before.before in
-    let t = limited d in
+    let d = c in
+    let t = limited d.before in
     let r = levelled t in
     let s = given r in (
-      leveled_within (drawing s) (levelsOf s) (flows_of s) (room-edges r) (room-faces r) (inside t) _ _ (kept d (Refused _ _) c.before.within-1.given-1.1),
+      leveled_within (drawing s) (levelsOf s) (flows_of s) (room-edges r) (room-faces r) (inside t) _ _ (kept d.before (Refused _ _) c.in-Refused-within.is),
       refl,
     )
 
 part-fill-differences-end : tie.Need-slice_bounds-fill_differences-end
-part-fill-differences-end c = room-edges (levelled (limited c.before.before))
+part-fill-differences-end c = room-edges (levelled (limited c.before))
 
 fill-differences-requires : tie.Need-fill_differences-requires
 fill-differences-requires c κs =
-    let t = limited c.before.before.before in
+    let t = limited c.before.before in
     let r = levelled t in
     let s = given r in
-    (s.pre.few_edges, part_length s.args.edges (flows_of s) (room-edges r), ready t)
+    (s.requires.few_edges, part_length s.args.edges (flows_of s) (room-edges r), ready t)
 
 returns-5 : tie.Need-returns
 returns-5 c =
-    let m = c.before.before.before in
-    let d = m.before.before in
-    let t = limited d in
+    let m = c in
+    let d = m in
+    let t = limited d.before.before.before.before in
     let r = levelled t in
     let s = given r in (
-      leveled_none (drawing s) (levelsOf s) (flows_of s) (room-edges r) (room-faces r) (inside t) (kept d Passed m.enum_told-in_default-within-1.given-1.1),
-      differences_filled s.pre (atℤ (lentLevels s)) (atℤ (levelsOf s)) (same_face s) (flows_of s) _
-          (part_filled s.args.edges (flows_of s) _ _ c.before.fill_differences.ensures),
+      leveled_none (drawing s) (levelsOf s) (flows_of s) (room-edges r) (room-faces r) (inside t) (kept d.before.before.before.before Passed m.in_default-within.is),
+      differences_filled s.requires (atℤ (lentLevels s)) (atℤ (levelsOf s)) (same_face s) (flows_of s) _
+          (part_filled s.args.edges (flows_of s) _ _ c.fill_differences.ensures),
     )
 
 pub settings_of_spec : {M : Type 1} → statement M

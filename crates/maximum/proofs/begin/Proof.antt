@@ -9,16 +9,16 @@ use Rattle.maximum.proofs.begin.Tie as tie
 
 returns : tie.Need-returns-in-Source
 returns c =
-    let sided = c.before.before in
-    let s = sided.before.before.before.before.before in (
-      sided.before.before.spread-likely.ensures,
-      subst (Sided s.args.source s.args.sink (flagged sided.before.before.spread-likely.new.1.1.1.1.1.0)) c.enum_told-1.given.1
+    let sided = c in
+    let s = sided in (
+      sided.spread-likely.ensures,
+      subst (Sided s.args.source s.args.sink (flagged sided.spread-likely.new.inside)) c.in-Source.is
           sided.side_of-side.ensures,
     )
 
 returns-2 : tie.Need-returns
 returns-2 c =
-    let s = c.before.before.before.before.before.before.before.before in
+    let s = c in
     let f = c.flag_one.ensures in
     let u = s.args.source in
     let w = s.args.sink in

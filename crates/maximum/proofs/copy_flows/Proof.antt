@@ -22,22 +22,22 @@ loop-holds : tie.Need-loop-e-init invariant-loop decreases-loop
 loop-holds c = (omega arith, copy_start _ _)
 
 slice-set-from-to : tie.Need-bounds-to-e invariant-loop decreases-loop
-slice-set-from-to c = omega (arith, filled_length _ _ _ _ c.before.before.loop-e.invariant.1 (omega arith))
+slice-set-from-to c = omega (arith, filled_length _ _ _ _ c.loop-e.invariant.1 (omega arith))
 
 loop-again : tie.Need-loop-e-preserved invariant-loop decreases-loop
 loop-again c =
-    let o = c.before.before.loop-e in
-    (omega arith, copy_step _ o.e _ _ _ o.invariant.1 (omega arith) (same_bits (omega arith) (c.before.before.before.requires.2 o.e (omega arith))))
+    let o = c.loop-e in
+    (omega arith, copy_step _ o.e _ _ _ o.invariant.1 (omega arith) (same_bits (omega arith) (c.requires.2 o.e (omega arith))))
 
 same_length : tie.Need-shape_of-to invariant-loop decreases-loop
-same_length c = filled_length _ _ _ _ c.before.loop-e.invariant.1 (omega arith)
+same_length c = filled_length _ _ _ _ c.loop-e.invariant.1 (omega arith)
 
 returns : tie.Need-returns invariant-loop decreases-loop
 returns c =
-    let a = c.before.before.args in
-    c.before.loop-e.invariant.1 ∙ ap (λ k. tabulate k (atℤ a.from.now) ++ drop k a.to-1.now) same
+    let a = c.args in
+    c.loop-e.invariant.1 ∙ ap (λ k. tabulate k (atℤ a.from.now) ++ drop k a.to.now) same
   where
-    same : c.before.loop-e.e ≡ c.before.before.args.edges
+    same : c.loop-e.e ≡ c.args.edges
     same = omega arith
 
 pub copy_flows_spec : {M : Type 1} → statement M

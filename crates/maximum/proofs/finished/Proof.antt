@@ -7,7 +7,7 @@ use Rattle.maximum.proofs.finished.Tie as tie
 
 returns : tie.Need-returns-then-found
 returns c =
-    let f = c.before.ranges in
+    let f = c.ranges in
     (λ e. (c.if-found.true, same_of_test f.low f.high e), λ e _. apart_of_test f.low f.high e)
 
 returns-2 : tie.Need-returns

@@ -16,8 +16,8 @@ use Rattle.maximum.proofs.first_bounds.Tie as tie
 
 -- the two cuts, as the machine holds them
 high_is : (c : tie.After-capacity-high)
-    → to_z w32 (of_z w32 c.capacity-high.result) ≡ cut_of c.before.args.darts (at c.before.args.tails.now)
-    (atℤ c.before.args.capacities.now) (flagged c.before.args.a.now)
+    → to_z w32 (of_z w32 c.capacity-high.result) ≡ cut_of c.args.darts (at c.args.tails.now)
+    (atℤ c.args.capacities.now) (flagged c.args.a.now)
 high_is c = number_of_bits _ (record { sfits = c.capacity-high.type_inv }) ∙ c.capacity-high.ensures
 
 abbrev given : tie.After-capacity → tie.Start

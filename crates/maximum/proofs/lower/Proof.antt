@@ -15,16 +15,16 @@ use Rattle.maximum.proofs.lower.Tie as tie
 
 returns : tie.Need-returns-in-Source
 returns c =
-    let told = c.before.before in
-    let sided = told.before.before in
-    let less = sided.before in
-    let tested = less.before in
-    let added = tested.before in
-    let s = added.before in
+    let told = c in
+    let sided = told in
+    let less = sided in
+    let tested = less in
+    let added = tested in
+    let s = added in
     let total = number_of_bits added.capacity-total.result (record { sfits = added.capacity-total.type_inv }) in (
       c.copy_flags.ensures.0,
       falls
-          (subst (Sided s.args.source s.args.sink (flagged s.args.inside.now)) told.enum_told-1.given.1 sided.side_of-side.ensures)
+          (subst (Sided s.args.source s.args.sink (flagged s.args.inside.now)) told.in-Source.is sided.side_of-side.ensures)
           (total ∙ added.capacity-total.ensures)
           (subst (λ h. to_z w32 (of_z w32 added.capacity-total.result) <ℤ h) (number_of_bits _ s.ranges.high)
           (lt_of_test _ _ (sym tested.is_less.ensures ∙ less.if-is_less.true)))
@@ -33,12 +33,12 @@ returns c =
 
 returns-2 : tie.Need-returns-then-is_less
 returns-2 c =
-    let s = c.before.before.before.before.before in
+    let s = c in
     (s.requires.0, stays (number_of_bits _ s.ranges.high) refl)
 
 returns-3 : tie.Need-returns
 returns-3 c =
-    let s = c.before.before.before in
+    let s = c in
     (s.requires.0, stays (number_of_bits _ s.ranges.high) refl)
 
 pub lower_spec : {M : Type 1} → statement M

@@ -6,7 +6,7 @@ use Rattle.maximum.proofs.maximize.Tie as tie
 
 maximize-from-requires : tie.Need-maximize_from-requires
 maximize-from-requires c κs =
-    let p = c.before.before.before.requires in
+    let p = c.requires in
     (p.0, p.1, p.2, refl)
 
 pub maximize_spec : {M : Type 1} → statement M

@@ -10,9 +10,9 @@ use Rattle.maximum.proofs.middle.Statement.{statement}
 use Rattle.maximum.proofs.middle.Tie as tie
 
 -- what lies between the bounds
-between : (c : tie.After-minus) → to_z w32 (of_z w32 c.minus.result) ≡ c.before.args.high -ℤ c.before.args.low
+between : (c : tie.After-minus) → to_z w32 (of_z w32 c.minus.result) ≡ c.args.high -ℤ c.args.low
 between c =
-    let h = c.before.requires in
+    let h = c.requires in
     number_of_bits _ (record { sfits = c.minus.type_inv }) ∙ c.minus.ensures ∙ between_is h.0 h.1 h.2
 
 -- the half, read back from its bits
@@ -20,10 +20,10 @@ half : (c : tie.After-halve) → to_z w32 (of_z w32 c.halve.result) ≡ c.halve.
 half c = number_of_bits _ (record { sfits = c.halve.type_inv })
 
 halves : (c : tie.After-halve)
-    → (pos 0 ≤ℤ c.halve.result) × (c.halve.result ≤ℤ to_z w32 (of_z w32 c.before.minus.result))
-    × (pos 0 <ℤ to_z w32 (of_z w32 c.before.minus.result) → c.halve.result <ℤ to_z w32 (of_z w32 c.before.minus.result))
+    → (pos 0 ≤ℤ c.halve.result) × (c.halve.result ≤ℤ to_z w32 (of_z w32 c.minus.result))
+    × (pos 0 <ℤ to_z w32 (of_z w32 c.minus.result) → c.halve.result <ℤ to_z w32 (of_z w32 c.minus.result))
 halves c =
-    let h = c.before.before.requires in
+    let h = c.requires in
     half_of (between_positive h.0 h.1 h.2 _ (between c.before)) c.halve.ensures
 
 minus-requires : tie.Need-minus-requires
@@ -33,19 +33,19 @@ minus-requires c κs =
 
 halve-requires : tie.Need-halve-requires
 halve-requires c κs =
-    let h = c.before.requires in
+    let h = c.requires in
     between_positive h.0 h.1 h.2 _ (between c)
 
 minus-requires-2 : tie.Need-minus-requires-2
 minus-requires-2 c κs =
-    let s = c.before.before in
+    let s = c in
     let h = s.requires in
     subst (λ y. SFits w32 (to_z w32 (of_z w32 s.args.high) -ℤ y)) (sym (half c))
     (middle_fits h.0 h.1 h.2 _ _ (between c.before) (halves c))
 
 returns : tie.Need-returns
 returns c =
-    let s = c.before.before.before in
+    let s = c in
     let h = s.requires in
     at_middle h.0 h.1 h.2 _ _ (between c.before.before) (halves c.before) _
     (number_of_bits _ (record { sfits = c.minus-2.type_inv }) ∙ c.minus-2.ensures ∙ ap₂ (λ x y. x -ℤ y) (number_of_bits _ s.ranges.high) (half c.before))

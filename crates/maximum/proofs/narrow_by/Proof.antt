@@ -1,13 +1,9 @@
 -- `maximum::narrow_by` meets its contract: one way out for each side on which the set can lie.
 use mathlib.Core.Path.{◌≡◌, refl, sym, ◌∙◌, ap, subst}
-use mathlib.Core.Logic.{inl, inr}
-use mathlib.Core.List.{[], ◌∷◌}
 use native.Mathlib.Omega.{arith}
 use lib.IntN.{neg_ℤ}
 use mir.Syntax.{w32}
 use mir.Val.{to_z, of_z}
-use types.Run.{OneOf}
-use denote.Enum.Declared.{tag_of}
 use borrow.Author.Rules.{rules}
 use Rattle.integers.specs.inner.Limited.{Limited}
 use Rattle.signed.proofs.Laws.{number_of_bits}
@@ -17,23 +13,20 @@ use Rattle.node_flags.specs.inner.Flags.{Sided}
 use Rattle.arrays.specs.inner.Flags.{flagged}
 use Rattle.node_flags.specs.declared.Side.{Side}
 use Rattle.node_flags.specs.declared.Side.TheVariants as side
-use Rattle.node_flags.specs.contracts.Side as tags
 use Rattle.maximum.proofs.Joining.{cut_limited}
 use Rattle.maximum.proofs.narrow_by.Statement.{statement}
 use Rattle.maximum.proofs.narrow_by.Tie as tie
 
 -- neither the first variant nor the second: the third is left
-third : (r : Side) → OneOf (1 ∷ 2 ∷ []) (tag_of tags.the_type r) → OneOf (0 ∷ 2 ∷ []) (tag_of tags.the_type r) → r ≡ side.Beside
-third side.Source (inl e) h = absurd (omega arith)
-third side.Source (inr e) h = absurd (omega arith)
-third side.Sink g (inl e) = absurd (omega arith)
-third side.Sink g (inr e) = absurd (omega arith)
+third : (r : Side) → (r ≡ side.Source → ⊥) → (r ≡ side.Sink → ⊥) → r ≡ side.Beside
+third side.Source g h = absurd (g refl)
+third side.Sink g h = absurd (h refl)
 third side.Beside g h = refl
 
 -- the total is the cut of the flagged nodes
 abbrev Total : tie.After-capacity-total → Type 0
 Total c =
-    let s = c.before in
+    let s = c in
     to_z w32 (of_z w32 c.capacity-total.result)
     ≡ cut_of s.args.darts (at s.args.tails.now) (atℤ s.args.capacities.now) (flagged s.args.inside.now)
 
@@ -43,7 +36,7 @@ total_is c = number_of_bits _ (record { sfits = c.capacity-total.type_inv }) ∙
 -- the set lies on the side that was told
 abbrev OnSide : tie.After-side_of-side → Side → Type 0
 OnSide c r =
-    let s = c.before.before in
+    let s = c in
     Sided s.args.source s.args.sink (flagged s.args.inside.now) r
 
 on-side : (c : tie.After-side_of-side) (r : Side) → c.side_of-side.result ≡ r → OnSide c r
@@ -51,54 +44,54 @@ on-side c r e = subst (OnSide c) e c.side_of-side.ensures
 
 returns : tie.Need-returns-in-Source
 returns c =
-    let told = c.before.before in
-    let sided = told.before.before in
-    let s = sided.before.before in (
+    let told = c in
+    let sided = told in
+    let s = sided in (
       c.copy_flags.ensures.0,
       s.requires.1,
       (
         side.Source,
-        on-side sided side.Source told.enum_told-1.given.1,
-        (refl, number_of_bits _ s.ranges.low, total_is sided.before, c.copy_flags.ensures.1, refl),
+        on-side sided.before.before.before side.Source told.in-Source.is,
+        (refl, number_of_bits _ s.ranges.low, total_is sided.before.before.before.before, c.copy_flags.ensures.1, refl),
       ),
     )
 
 negate-requires : tie.Need-negate-requires
 negate-requires c κs =
-    let total = c.before.before.before.before.before.before in
-    let h = total.before.requires in
-    subst (Limited 2048000000) (sym (total_is total)) (cut_limited _ _ _ _ h.4 h.7)
+    let total = c in
+    let h = total.requires in
+    subst (Limited 2048000000) (sym (total_is total.before.before.before.before.before)) (cut_limited _ _ _ _ h.4 h.7)
 
 returns-2 : tie.Need-returns-in-Sink
 returns-2 c =
-    let told = c.before.before.before in
-    let sided = told.before.before.before in
-    let s = sided.before.before in (
+    let told = c in
+    let sided = told in
+    let s = sided in (
       search rules,
       search rules,
       (
         side.Sink,
-        on-side sided side.Sink told.enum_told-in-Sink-1.given.1,
+        on-side sided.before.before.before.before.before side.Sink told.in-Sink.is,
         (
           refl,
-          number_of_bits _ (record { sfits = c.negate.type_inv }) ∙ c.negate.ensures ∙ ap neg_ℤ (total_is sided.before),
+          number_of_bits _ (record { sfits = c.negate.type_inv }) ∙ c.negate.ensures ∙ ap neg_ℤ (total_is sided.before.before.before.before.before.before),
           number_of_bits _ s.ranges.high,
           refl,
-          c.before.copy_flags-in-Sink.ensures.1,
+          c.copy_flags-in-Sink.ensures.1,
         ),
       ),
     )
 
 returns-3 : tie.Need-returns
 returns-3 c =
-    let left = c.before.before in
-    let sided = left.before.before in
-    let s = sided.before.before in (
+    let left = c in
+    let sided = left in
+    let s = sided in (
       c.copy_flags-2.ensures.0,
       s.requires.1,
       (
         side.Beside,
-        on-side sided side.Beside (third sided.side_of-side.result left.before.in-Source.keys2 left.in-Sink.keys2),
+        on-side sided.before.before.before.before side.Beside (third sided.side_of-side.result left.in_default.not-Source left.in_default-side.not-Sink),
         (refl, c.copy_flags-2.ensures.1),
       ),
     )

@@ -25,22 +25,22 @@ not_below x f e = subst (λ y. pos 0 ≤ℤ y) (number_of_bits x f) (ge_of_test 
 
 returns : tie.Need-returns-then-is_less
 returns c =
-    let s = c.before.before in
+    let s = c in
     let e = number_of_bits _ s.ranges.low in
     rw e (at-itself _, s.requires)
 
 returns-2 : tie.Need-returns-then-is_less-2
 returns-2 c =
-    let s = c.before.before.before.before in
+    let s = c in
     let e = number_of_bits _ s.ranges.high in
     rw e (s.requires, at-itself _)
 
 returns-3 : tie.Need-returns
 returns-3 c =
-    let h = c.before in
-    let l = h.before.before in
-    let s = l.before in (
-      not_above s.args.low s.ranges.low (sym l.is_less.ensures ∙ h.before.if-is_less.false),
+    let h = c in
+    let l = h in
+    let s = l in (
+      not_above s.args.low s.ranges.low (sym l.is_less.ensures ∙ h.if-is_less.false),
       not_below s.args.high s.ranges.high (sym h.is_less-2.ensures ∙ c.if-is_less-2.false),
     )
 

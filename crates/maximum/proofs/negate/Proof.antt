@@ -9,7 +9,7 @@ minus-requires : tie.Need-minus-requires
 minus-requires c κs = negative_fits c.ranges.x c.requires
 
 returns : tie.Need-returns
-returns c = number_of_bits _ (record { sfits = c.minus.type_inv }) ∙ c.minus.ensures ∙ negative_is c.before.ranges.x
+returns c = number_of_bits _ (record { sfits = c.minus.type_inv }) ∙ c.minus.ensures ∙ negative_is c.ranges.x
 
 pub negate_spec : {M : Type 1} → statement M
 negate_spec = tie.close (tie.spec minus-requires returns)

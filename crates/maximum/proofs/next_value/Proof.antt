@@ -11,7 +11,7 @@ use Rattle.maximum.proofs.next_value.Tie as tie
 returns : tie.Need-returns-in-Middle
 returns c =
     let e = c.middle.ensures in
-    let s = c.before.before.before in
+    let s = c in
     let r = number_of_bits c.middle.result (record { sfits = c.middle.type_inv }) in
     let low = number_of_bits _ s.ranges.low in
     let high = number_of_bits _ s.ranges.high in (
@@ -22,7 +22,7 @@ returns c =
 
 returns-2 : tie.Need-returns-then-found
 returns-2 c =
-    let s = c.before.before in
+    let s = c in
     let h = s.requires in
     let r = at_top h.0 h.1 h.2 _ (number_of_bits _ s.ranges.high) in
     (r.0, r.1, λ _. r.2)
@@ -30,8 +30,8 @@ returns-2 c =
 returns-3 : tie.Need-returns-in-Zero
 returns-3 c =
     let e = c.nearest_zero.ensures in
-    let f = c.before.before.before in
-    let s = f.before.before in
+    let f = c in
+    let s = f in
     let r = number_of_bits c.nearest_zero.result (record { sfits = c.nearest_zero.type_inv }) in (
       rw r (subst (λ l. l ≤ℤ c.nearest_zero.result) (number_of_bits _ s.ranges.low) e.0),
       rw r (subst (λ h. c.nearest_zero.result ≤ℤ h) (number_of_bits _ s.ranges.high) e.1),
@@ -40,7 +40,7 @@ returns-3 c =
 
 returns-4 : tie.Need-returns
 returns-4 c =
-    let s = c.before.before.before in
+    let s = c in
     let h = s.requires in
     let r = at_top h.0 h.1 h.2 _ (number_of_bits _ s.ranges.high) in
     (r.0, r.1, λ _. r.2)

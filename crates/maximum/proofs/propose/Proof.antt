@@ -11,7 +11,7 @@ use Rattle.maximum.proofs.propose.Tie as tie
 
 returns : tie.Need-returns-then-finished
 returns c =
-    let s = c.before.before in
+    let s = c in
     (s.requires.size_parents, s.requires.size_a, ([], stays (number_of_bits _ s.ranges.high) refl))
 
 -- bounds that the machine holds as bits
@@ -23,7 +23,7 @@ same-bounds {s} {t} {total} {high} {high₁} {low} {low₁} {inside} {A} {A'} e 
 returns-2 : tie.Need-returns
 returns-2 c =
     let e = c.lower.ensures in
-    let s = c.before.before.before.before.before.before.before.before.before in (
+    let s = c in (
       search rules,
       e.0,
       (_, same-bounds (number_of_bits _ s.ranges.high) (sym (number_of_bits _ (record { sfits = c.lower.type_inv }))) e.1),

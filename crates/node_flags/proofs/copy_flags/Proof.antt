@@ -19,12 +19,12 @@ loop-holds c = filled_start _ _ c.requires
 
 loop-again : tie.Need-loop-u-preserved invariant-loop decreases-loop
 loop-again c =
-    let o = c.before.before.loop-u in
-    filled_step _ o.to-1 o.u _ (omega arith) o.invariant refl
+    let o = c.loop-u in
+    filled_step _ o.to o.u _ (omega arith) o.invariant refl
 
 returns : tie.Need-returns invariant-loop decreases-loop
 returns c =
-    let o = c.before.loop-u in
+    let o = c.loop-u in
     (o.invariant.long, filled_all _ (omega arith) o.invariant)
 
 pub copy_flags_spec : {M : Type 1} → statement M

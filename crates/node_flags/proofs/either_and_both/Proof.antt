@@ -17,13 +17,13 @@ loop-holds c = joining_start _ _ c.requires.0 c.requires.1
 
 loop-again : tie.Need-loop-u-preserved invariant-loop decreases-loop
 loop-again c =
-    let e = c.before in
-    let o = e.before.before.before.before.loop-u in
+    let e = c in
+    let o = e.loop-u in
     joining_step e.either.result c.both.result (omega arith) o.invariant e.either.ensures c.both.ensures
 
 returns : tie.Need-returns invariant-loop decreases-loop
 returns c =
-    let i = c.before.loop-u.invariant in
+    let i = c.loop-u.invariant in
     (i.united.long, i.common.long, filled_all _ (omega arith) i.united, filled_all _ (omega arith) i.common)
 
 pub either_and_both_spec : {M : Type 1} → statement M

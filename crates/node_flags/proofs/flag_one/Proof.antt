@@ -20,13 +20,13 @@ loop-holds c = filled_start _ _ c.requires.0
 
 loop-again : tie.Need-loop-u-preserved invariant-loop decreases-loop
 loop-again c =
-    let o = c.before.loop-u in
+    let o = c.loop-u in
     filled_step (λ w. false) o.inside o.u 0 (omega arith) o.invariant refl
 
 returns : tie.Need-returns invariant-loop decreases-loop
 returns c =
-    let s = c.before.before in
-    let o = c.before.loop-u in
+    let s = c in
+    let o = c.loop-u in
     (simp length-set o.invariant.long, one_flagged s.args.v s.requires.1 (omega arith) o.invariant)
 
 pub flag_one_spec : {M : Type 1} → statement M

@@ -6,16 +6,16 @@ use Rattle.node_flags.proofs.side_of.Statement.{statement}
 use Rattle.node_flags.proofs.side_of.Tie as tie
 
 returns : tie.Need-returns-then-inside-sink-eq1
-returns c = eqb_true _ 1 c.before.before.if-inside-source-eq1.true ∙ sym (eqb_true _ 1 c.if-inside-sink-eq1.true)
+returns c = eqb_true _ 1 c.if-inside-source-eq1.true ∙ sym (eqb_true _ 1 c.if-inside-sink-eq1.true)
 
 returns-2 : tie.Need-returns-then-inside-source-eq1
-returns-2 c = (eqb_true _ 1 c.before.before.if-inside-source-eq1.true, eqb_false _ 1 c.if-inside-sink-eq1.false)
+returns-2 c = (eqb_true _ 1 c.if-inside-source-eq1.true, eqb_false _ 1 c.if-inside-sink-eq1.false)
 
 returns-3 : tie.Need-returns-then-inside-sink-eq1-2
-returns-3 c = (eqb_false _ 1 c.before.before.if-inside-source-eq1.false, eqb_true _ 1 c.if-inside-sink-eq1-2.true)
+returns-3 c = (eqb_false _ 1 c.if-inside-source-eq1.false, eqb_true _ 1 c.if-inside-sink-eq1-2.true)
 
 returns-4 : tie.Need-returns
-returns-4 c = eqb_false _ 1 c.before.before.if-inside-source-eq1.false ∙ sym (eqb_false _ 1 c.if-inside-sink-eq1-2.false)
+returns-4 c = eqb_false _ 1 c.if-inside-source-eq1.false ∙ sym (eqb_false _ 1 c.if-inside-sink-eq1-2.false)
 
 pub side_of_spec : {M : Type 1} → statement M
 side_of_spec =

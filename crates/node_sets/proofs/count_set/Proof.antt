@@ -17,12 +17,12 @@ abbrev decreases-loop : tie.decreases-loop-i
 decreases-loop words nodes n total₀ i₀ total i = n - i
 
 words-for-requires : tie.Need-words_for-n-requires invariant-loop decreases-loop
-words-for-requires c κs = c.before.requires.few_nodes
+words-for-requires c κs = c.requires.few_nodes
 
 loop-holds : tie.Need-loop-i-init invariant-loop decreases-loop
 unfolding size
 loop-holds c =
-    let p = c.before.before.requires in
+    let p = c.requires in
     let e = c.words_for-n.ensures in
     (omega arith, omega (arith, e, p.exact), omega (arith, e, p.few_nodes), e, omega arith, refl)
 
@@ -31,17 +31,17 @@ count-word-requires c κs = tt
 
 loop-again : tie.Need-loop-i-preserved invariant-loop decreases-loop
 loop-again c =
-    let o = c.before.before.before.loop-i in
-    let words = c.before.before.before.before.before.before.args.words.now in
+    let o = c.loop-i in
+    let words = c.args.words.now in
     let m = size_more words o.i (omega (arith, o.invariant.1)) in
     let e = c.count_word-total.ensures in
     (omega arith, o.invariant.1, o.invariant.2, o.invariant.3, omega (arith, e.1, o.invariant.4), omega (arith, m, e.0, o.invariant.5))
 
 returns : tie.Need-returns invariant-loop decreases-loop
 returns c =
-    let o = c.before.loop-i in
-    let words = c.before.before.before.before.args.words.now in
-    let e : o.i ≡ words_for c.before.before.before.before.args.nodes = omega (arith, o.invariant.3, o.invariant.0) in
+    let o = c.loop-i in
+    let words = c.args.words.now in
+    let e : o.i ≡ words_for c.args.nodes = omega (arith, o.invariant.3, o.invariant.0) in
     o.invariant.5 ∙ ap (λ (x : ℕ). size (take x words)) e
 
 pub count_set_spec : {M : Type 1} → statement M

@@ -7,12 +7,12 @@ use Rattle.node_sets.proofs.flagged.Statement.{statement}
 use Rattle.node_sets.proofs.flagged.Tie as tie
 
 returns : tie.Need-returns-then-v-nodes
-returns c = sym (flag_inside c.before.before.args.inside.now c.before.before.args.nodes c.before.before.args.v c.before.if-v-nodes.true)
+returns c = sym (flag_inside c.args.inside.now c.args.nodes c.args.v c.if-v-nodes.true)
 
 returns-2 : tie.Need-returns-else-v-nodes
 returns-2 c =
-    ltb_false c.before.args.v c.before.args.nodes c.if-v-nodes.false
-    ∙ sym (flag_outside c.before.args.inside.now c.before.args.nodes c.before.args.v c.if-v-nodes.false)
+    ltb_false c.args.v c.args.nodes c.if-v-nodes.false
+    ∙ sym (flag_outside c.args.inside.now c.args.nodes c.args.v c.if-v-nodes.false)
 
 pub flagged_spec : {M : Type 1} → statement M
 flagged_spec = tie.close (tie.spec (λ c. search rules) returns returns-2)

@@ -27,25 +27,25 @@ loop-holds c = (omega arith, refl)
 
 set-bit-requires : tie.Need-set_bit-w-requires invariant-loop decreases-loop
 set-bit-requires c κs =
-    let o = c.before.before.before.loop-k in
-    let a = c.before.before.before.before.args in
+    let o = c.loop-k in
+    let a = c.args in
     (omega arith, subst (λ (x : ℕ). x < 2 ^ o.k) (sym o.invariant.1) (word_below (tests a.inside.now a.nodes a.j) o.k))
 
 loop-again : tie.Need-loop-k-preserved invariant-loop decreases-loop
 loop-again c =
-    let o = c.before.before.before.loop-k in
-    let a = c.before.before.before.before.args in
+    let o = c.loop-k in
+    let a = c.args in
     let b = tests a.inside.now a.nodes a.j in
-    let t = c.before.flagged.ensures in
+    let t = c.flagged.ensures in
     ⊎_elim
-    (λ w. (omega arith, w.2 ∙ w.1.ensures ∙ ap (λ (x : ℕ). 2 ^ o.k + x) o.invariant.1 ∙ sym (word_with b o.k (sym t ∙ w.0.taken))))
-    (λ w. (omega arith, w.1 ∙ o.invariant.1 ∙ sym (word_without b o.k (sym t ∙ w.0.left))))
-    c.if-flagged.branch
+    (λ w. (omega arith, w.w-is ∙ w.set_bit-w.ensures ∙ ap (λ (x : ℕ). 2 ^ o.k + x) o.invariant.1 ∙ sym (word_with b o.k (sym t ∙ w.if-flagged.true))))
+    (λ w. (omega arith, w.w-is ∙ o.invariant.1 ∙ sym (word_without b o.k (sym t ∙ w.if-flagged.false))))
+    c.if-flagged.branch-raw
 
 returns : tie.Need-returns invariant-loop decreases-loop
 returns c =
-    let o = c.before.loop-k in
-    let a = c.before.before.args in
+    let o = c.loop-k in
+    let a = c.args in
     let e : o.k ≡ 64 = omega arith in
     o.invariant.1 ∙ ap (word (tests a.inside.now a.nodes a.j)) e
 

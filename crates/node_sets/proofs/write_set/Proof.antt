@@ -17,11 +17,11 @@ abbrev decreases-loop : tie.decreases-loop-j
 decreases-loop inside nodes words₀ n j₀ words j = n - j
 
 words-for-requires : tie.Need-words_for-n-requires invariant-loop decreases-loop
-words-for-requires c κs = c.before.requires.few_nodes
+words-for-requires c κs = c.requires.few_nodes
 
 loop-holds : tie.Need-loop-j-init invariant-loop decreases-loop
 loop-holds c =
-    let s = c.before.before in
+    let s = c in
     let e = c.words_for-n.ensures in (
       omega arith,
       omega (arith, e, s.requires.few_nodes),
@@ -31,12 +31,12 @@ loop-holds c =
     )
 
 word-of-requires : tie.Need-word_of-requires invariant-loop decreases-loop
-word-of-requires c κs = (c.before.before.before.before.requires.few_nodes, omega (arith, c.before.loop-j.invariant.1))
+word-of-requires c κs = (c.requires.few_nodes, omega (arith, c.loop-j.invariant.1))
 
 loop-again : tie.Need-loop-j-preserved invariant-loop decreases-loop
 loop-again c =
-    let o = c.before.before.loop-j in
-    let s = c.before.before.before.before.before in
+    let o = c.loop-j in
+    let s = c in
     let w = c.word_of.result in
     let e = o.invariant.2 in (
       omega arith,
@@ -48,12 +48,12 @@ loop-again c =
     )
 
 same_length : tie.Need-shape_of-words invariant-loop decreases-loop
-same_length c = c.before.loop-j.invariant.4.length_kept
+same_length c = c.loop-j.invariant.4.length_kept
 
 returns : tie.Need-returns invariant-loop decreases-loop
 returns c =
-    let o = c.before.loop-j in
-    let s = c.before.before.before.before in
+    let o = c.loop-j in
+    let s = c in
     let e : o.j ≡ words_for s.args.nodes = omega (arith, o.invariant.2, o.invariant.0) in
     writing_end s.args.inside.now s.args.nodes s.args.words.now o.words
     (subst (λ (x : ℕ). Writing s.args.inside.now s.args.nodes s.args.words.now o.words x) e o.invariant.4) (omega (arith, s.requires.exact))

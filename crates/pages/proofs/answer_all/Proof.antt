@@ -31,26 +31,26 @@ decreases-loop tails rotations lefts capacities order from grouped starts sizes 
 abbrev begun : tie.In-loop-i invariant-loop decreases-loop → tie.Start invariant-loop decreases-loop
 begun c = c.before.before.before.before
 
-flows_small : (c : tie.In-loop-i invariant-loop decreases-loop) → c.before.loop-i.i * (begun c).args.sizes.edges + (begun c).args.sizes.edges ≤ 32768
+flows_small : (c : tie.In-loop-i invariant-loop decreases-loop) → c.loop-i.i * (begun c).args.sizes.edges + (begun c).args.sizes.edges ≤ 32768
 flows_small c = small_end _ _ _ c.loop-i-test.true (begun c).requires.1.few (begun c).requires.0.drawn.few_edges
 
-sets-small : (c : tie.In-loop-i invariant-loop decreases-loop) → c.before.loop-i.i * c.before.before.words_for-words.result + c.before.before.words_for-words.result ≤ 32768
+sets-small : (c : tie.In-loop-i invariant-loop decreases-loop) → c.loop-i.i * c.words_for-words.result + c.words_for-words.result ≤ 32768
 sets-small c =
     let w = words_few _ (begun c).requires.0.drawn.few_nodes in
-    small_end _ _ _ c.loop-i-test.true (begun c).requires.1.few (omega (arith, w, c.before.before.words_for-words.ensures))
+    small_end _ _ _ c.loop-i-test.true (begun c).requires.1.few (omega (arith, w, c.words_for-words.ensures))
 
 flows_room : (c : tie.In-loop-i invariant-loop decreases-loop)
-    → c.before.loop-i.i * (begun c).args.sizes.edges + (begun c).args.sizes.edges ≤ length c.before.loop-i.flows-1
-flows_room c = stretch_room _ _ _ _ _ c.loop-i-test.true (begun c).requires.1.flows_room c.before.loop-i.invariant.3.flows_behind
+    → c.loop-i.i * (begun c).args.sizes.edges + (begun c).args.sizes.edges ≤ length c.loop-i.flows
+flows_room c = stretch_room _ _ _ _ _ c.loop-i-test.true (begun c).requires.1.flows_room c.loop-i.invariant.3.flows_behind
 
 sets_room : (c : tie.In-loop-i invariant-loop decreases-loop)
-    → c.before.loop-i.i * c.before.before.words_for-words.result + c.before.before.words_for-words.result ≤ length c.before.loop-i.sets-1
+    → c.loop-i.i * c.words_for-words.result + c.words_for-words.result ≤ length c.loop-i.sets
 sets_room c =
-    stretch_room _ _ _ _ _ c.loop-i-test.true (rw c.before.before.words_for-words.ensures (begun c).requires.1.sets_room)
-    c.before.loop-i.invariant.3.sets_behind
+    stretch_room _ _ _ _ _ c.loop-i-test.true (rw c.words_for-words.ensures (begun c).requires.1.sets_room)
+    c.loop-i.invariant.3.sets_behind
 
 words-for-requires : tie.Need-words_for-words-requires invariant-loop decreases-loop
-words-for-requires c κs = c.before.requires.0.drawn.few_nodes
+words-for-requires c κs = c.requires.0.drawn.few_nodes
 
 loop-holds : tie.Need-loop-i-init invariant-loop decreases-loop
 loop-holds c = (omega arith, refl, c.words_for-words.ensures, halfway_start _ _ _ _ _)
@@ -77,49 +77,49 @@ mul-ask-2 : tie.Need-offset_bounds-sets-word invariant-loop decreases-loop
 mul-ask-2 c = record { fits = omega (arith, sets-small c.before.before) }
 
 part-ask-end-2 : tie.Need-slice-bounds-ask-end-2 invariant-loop decreases-loop
-part-ask-end-2 c = sets_room c.before.before
+part-ask-end-2 c = sets_room c
 
 ask-requires : tie.Need-ask-answer-requires invariant-loop decreases-loop
 ask-requires c κs =
-    let t = c.before.before.before in
-    let e = (begun t).args.sizes.edges in
-    let w = t.before.before.words_for-words in (
-      (begun t).requires.0,
+    let t = c in
+    let e = (begun t.before.before.before).args.sizes.edges in
+    let w = t.words_for-words in (
+      (begun t.before.before.before).requires.0,
       record {
-        flows_exact = stretch_exact e t.before.loop-i.i t.before.loop-i.flows-1 (flows_room t);
-        set_exact = stretch_exact w.result t.before.loop-i.i t.before.loop-i.sets-1 (sets_room t) ∙ w.ensures;
+        flows_exact = stretch_exact e t.loop-i.i t.loop-i.flows (flows_room t.before.before.before);
+        set_exact = stretch_exact w.result t.loop-i.i t.loop-i.sets (sets_room t.before.before.before) ∙ w.ensures;
       },
     )
 
 loop-again : tie.Need-loop-i-preserved invariant-loop decreases-loop
 loop-again c =
-    let k = c.before.before.before in
-    let t = k.before.before.before.before in
-    let l = t.before.loop-i in
-    let e = (begun t).args.sizes.edges in
-    let w = t.before.before.words_for-words.result in (
+    let k = c in
+    let t = k in
+    let l = t.loop-i in
+    let e = (begun t.before.before.before.before.before.before.before).args.sizes.edges in
+    let w = t.words_for-words.result in (
       omega arith,
       refl,
       l.invariant.2,
-      halfway_turn e w _ _ _ l.i l.flows-1 l.sets-1 l.answers l.invariant.3
-          (flows_room t) (sets_room t) (omega (arith, t.loop-i-test.true, (begun t).requires.1.few))
+      halfway_turn e w _ _ _ l.i l.flows l.sets l.answers l.invariant.3
+          (flows_room t.before.before.before.before.before.before.before) (sets_room t.before.before.before.before.before.before.before) (omega (arith, t.loop-i-test.true, (begun t.before.before.before.before.before.before.before).requires.1.few))
           (l.i * e + e - l.i * e) (l.i * w + w - l.i * w) (omega arith) (omega arith)
-          k.ask-answer.new.1.1.1.1.1.1.1.1.1.1.0 k.ask-answer.new.1.1.1.1.1.1.1.1.1.1.1.0 k.ask-answer.result
-          c.before.before.flows-1.given.0 c.before.sets-1.given.0 k.ask-answer.ensures,
+          k.ask-answer.new.flows k.ask-answer.new.set k.ask-answer.result
+          c.flows-1.given.0 c.sets-1.given.0 k.ask-answer.ensures,
     )
 
 same_length : tie.Need-shape_of-flows invariant-loop decreases-loop
-same_length c = c.before.loop-i.invariant.3.flows_behind.0
+same_length c = c.loop-i.invariant.3.flows_behind.0
 
 same-length-2 : tie.Need-shape_of-sets invariant-loop decreases-loop
-same-length-2 c = c.before.loop-i.invariant.3.sets_behind.0
+same-length-2 c = c.loop-i.invariant.3.sets_behind.0
 
 returns : tie.Need-returns invariant-loop decreases-loop
 returns c =
-    let s = c.before.before.before.before in
-    let l = c.before.loop-i in
-    all_answered s.args.sizes.nodes s.args.sizes.edges s.args.t10.count _ l.i _ s.args.flows-1.now l.flows-1
-    s.args.sets-1.now l.sets-1 l.answers
+    let s = c in
+    let l = c.loop-i in
+    all_answered s.args.sizes.nodes s.args.sizes.edges s.args.t10.count _ l.i _ s.args.flows.now l.flows
+    s.args.sets.now l.sets l.answers
     l.invariant.2 l.invariant.3 (omega (arith, l.invariant.0, c.loop-i-test.false)) s.requires.1.few s.requires.1.flows_room s.requires.1.sets_room
 
 pub answer_all_spec : {M : Type 1} → statement M

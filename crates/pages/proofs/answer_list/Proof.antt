@@ -6,17 +6,17 @@ use Rattle.pages.proofs.answer_list.Tie as tie
 
 returns : tie.Need-returns-in-Refused
 returns c =
-    let k = c.before.before.before.before in
-    let a = k.before.before.before.before.args in
-    refused_so _ a.sizes.edges _ _ _ a.flows-1.now a.sets-1.now _ _ c.refused_page.result
-    (rw c.before.before.verdict-1.given.1 at k.check_list-verdict.ensures) c.refused_page.ensures
+    let k = c in
+    let a = k.args in
+    refused_so _ a.sizes.edges _ _ _ a.flows.now a.sets.now _ _ c.refused_page.result
+    (rw c.in-Refused.is at k.check_list-verdict.ensures) c.refused_page.ensures
 
 answer-all-requires : tie.Need-answer_all-requires
 answer-all-requires c κs =
-    let k = c.before.before.before.before in
-    let s = k.before.before.before.before in
-    let h = list_accepted s.args.sizes.nodes s.args.sizes.edges s.args.list.count s.args.flows-1.now s.args.sets-1.now
-    (rw c.before.before.enum_told-1.given.1 at k.check_list-verdict.ensures) in
+    let k = c in
+    let s = k in
+    let h = list_accepted s.args.sizes.nodes s.args.sizes.edges s.args.list.count s.args.flows.now s.args.sets.now
+    (rw c.in_default.is at k.check_list-verdict.ensures) in
     (s.requires, record { few = h.0; flows_room = h.1; sets_room = h.2 })
 
 pub answer_list_spec : {M : Type 1} → statement M

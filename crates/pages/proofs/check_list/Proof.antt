@@ -19,8 +19,8 @@ returns c = inl (omega arith, refl, refl)
 
 mul-if2 : tie.Need-overflow_mul-n
 mul-if2 c =
-    let few : c.before.before.args.n ≤ 64 = omega arith in
-    record { fits = omega (arith, mul-le-mul few c.before.before.requires.1) }
+    let few : c.args.n ≤ 64 = omega arith in
+    record { fits = omega (arith, mul-le-mul few c.requires.1) }
 
 returns-2 : tie.Need-returns-then-flows-n
 unfolding list_checks FirstOf
@@ -28,23 +28,23 @@ returns-2 c = inr (λ h. omega arith, inl (inl (omega arith), refl, refl))
 
 mul-if3 : tie.Need-overflow_mul-n-2
 mul-if3 c =
-    let few : c.before.before.before.before.args.n ≤ 64 = omega arith in
-    let words : c.words_for.result ≤ 16 = omega (arith, c.words_for.ensures, words_few _ c.before.before.before.before.requires.0) in
+    let few : c.args.n ≤ 64 = omega arith in
+    let words : c.words_for.result ≤ 16 = omega (arith, c.words_for.ensures, words_few _ c.requires.0) in
     record { fits = omega (arith, mul-le-mul few words) }
 
 returns-3 : tie.Need-returns-then-sets-n
 unfolding list_checks FirstOf
 returns-3 c =
-    let a = c.before.before.before.before.before.args in
-    let short = subst (λ k. length a.sets.now < a.n * k) c.before.words_for.ensures c.if-sets-n.true in
+    let a = c.args in
+    let short = subst (λ k. length a.sets.now < a.n * k) c.words_for.ensures c.if-sets-n.true in
     inr (λ h. omega arith, inl (inr short, refl, refl))
 
 returns-4 : tie.Need-returns
 unfolding list_checks NoneOf
 returns-4 c =
-    let a = c.before.before.before.before.before.args in
+    let a = c.args in
     let f : length a.flows.now < a.n * a.edges → ⊥ = λ l. omega arith in
-    let g = subst (λ k. length a.sets.now < a.n * k → ⊥) c.before.words_for.ensures (λ l. omega (arith, c.if-sets-n.false)) in
+    let g = subst (λ k. length a.sets.now < a.n * k → ⊥) c.words_for.ensures (λ l. omega (arith, c.if-sets-n.false)) in
     (λ l. omega arith, (neither f g, tt))
 
 pub check_list_spec : {M : Type 1} → statement M

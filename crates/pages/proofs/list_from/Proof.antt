@@ -23,29 +23,29 @@ abbrev decreases-loop : tie.decreases-loop-i
 decreases-loop count sources sinks values few next₀ i₀ next i = few - i
 
 loop-holds : tie.Need-loop-i-init invariant-loop decreases-loop
-loop-holds c = (omega arith, c.before.held-few.ensures, c.empty_list-next.ensures ∙ gathered_start _ _)
+loop-holds c = (omega arith, c.held-few.ensures, c.empty_list-next.ensures ∙ gathered_start _ _)
 
 with-question-requires : tie.Need-with_question-next-requires invariant-loop decreases-loop
 with-question-requires c κs =
-    let t = c.before.before.before in
-    omega (arith, t.before.loop-i.invariant.1, t.loop-i-test.true)
+    let t = c in
+    omega (arith, t.loop-i.invariant.1, t.loop-i-test.true)
 
 loop-again : tie.Need-loop-i-preserved invariant-loop decreases-loop
 loop-again c =
-    let l = c.before.before.before.before.before.loop-i in
-    let a = c.before.before.before.before.before.before.before.before.args in
+    let l = c.loop-i in
+    let a = c.args in
     let v = atℤ a.values.now l.i in
     let q : ℤ → Question = λ w. record { source = at a.sources.now l.i; sink = at a.sinks.now l.i; value = w } in (
       omega arith,
       l.invariant.1,
       gathered_next (question_in a.sources.now a.sinks.now a.values.now) (emptyList a.count) l.next _ l.i (q (to_z w32 (of_z w32 v)))
-          l.invariant.2 (ap q (number_of_bits v (record { sfits = c.before.q-in-loop-i-2-1.given }))) c.with_question-next.ensures,
+          l.invariant.2 (ap q (number_of_bits v (record { sfits = c.q-in-loop-i-2-1.given }))) c.with_question-next.ensures,
     )
 
 returns : tie.Need-returns invariant-loop decreases-loop
 returns c =
-    let l = c.before.loop-i in
-    let a = c.before.before.before.before.args in
+    let l = c.loop-i in
+    let a = c.args in
     let e : l.i ≡ min a.count 64 = omega (arith, l.invariant.0, l.invariant.1, c.loop-i-test.false) in
     l.invariant.2 ∙ ap (λ (k : ℕ). gathered (question_in a.sources.now a.sinks.now a.values.now) k (emptyList a.count)) e
 

@@ -175,7 +175,7 @@ module _ {M : Type 1} {𝓤 : Ura M} (𝓛 : Logic 𝓤) (mem : Memory → SProp
   abbrev to-empty : (Empty 𝓛 mem run).Ghost
   to-empty = ((tt, tt, tt, (n, tt), (vint w64 n ∷ [], tt)), tt)
 
-  goes-empty : ent 𝓤 (sem 𝓛 ftrue) ((Empty 𝓛 mem run).pre to-empty)
+  goes-empty : ent 𝓤 (sem 𝓛 ftrue) ((Empty 𝓛 mem run).requires to-empty)
   goes-empty =
       qed 𝓛 (‵ ftrue ∷ []) ∵ nothing ! $ owned ! usize (Is usize) (uint_Makes 𝓛 w64) n _ (refl, room.0) $ fjoin ! $ move ! (1 ∷ 0 ∷ []) $ join ! $
       frame ! $
@@ -184,7 +184,7 @@ module _ {M : Type 1} {𝓤 : Ura M} (𝓛 : Logic 𝓤) (mem : Memory → SProp
   abbrev to_held : (Held 𝓛 mem run).Ghost
   to_held = ((tt, tt, tt, (n, tt), (vint w64 n ∷ [], tt)), tt)
 
-  goes-held : ent 𝓤 (sem 𝓛 ftrue) ((Held 𝓛 mem run).pre to_held)
+  goes-held : ent 𝓤 (sem 𝓛 ftrue) ((Held 𝓛 mem run).requires to_held)
   goes-held =
       qed 𝓛 (‵ ftrue ∷ []) ∵ nothing ! $ owned ! usize (Is usize) (uint_Makes 𝓛 w64) n _ (refl, room.0) $ fjoin ! $ move ! (1 ∷ 0 ∷ []) $ join ! $
       frame ! $
@@ -195,7 +195,7 @@ module _ {M : Type 1} {𝓤 : Ura M} (𝓛 : Logic 𝓤) (mem : Memory → SProp
 
   goes-gather : (w u : Val)
       → ent 𝓤 (sep 𝓤 (sep 𝓤 (A.lft κ q) (sem 𝓛 ftrue)) (sep 𝓤 (sem 𝓛 Own)
-      (sep 𝓤 (sem 𝓛 (usize.own_val (min n 64) (w ∷ []))) (sem 𝓛 (RL.own (emptyList n) (u ∷ [])))))) ((Gather 𝓛 mem run).pre (to-gather w u))
+      (sep 𝓤 (sem 𝓛 (usize.own_val (min n 64) (w ∷ []))) (sem 𝓛 (RL.own (emptyList n) (u ∷ [])))))) ((Gather 𝓛 mem run).requires (to-gather w u))
   goes-gather w u =
       qed 𝓛 ((‵ (flft κ q) ⊛ ‵ ftrue) ∷ ‵ Own ∷ ‵ (usize.own_val (min n 64) (w ∷ [])) ∷ ‵ (RL.own (emptyList n) (u ∷ [])) ∷ []) ∵ says ! (few, few') $ frame ! $
       nothing ! $ move ! (3 ∷ 0 ∷ []) $ fjoin ! $ move ! (2 ∷ 0 ∷ []) $ fjoin ! $ move ! (1 ∷ 0 ∷ []) $ fjoin ! $ done !
@@ -218,7 +218,7 @@ module _ {M : Type 1} {𝓤 : Ura M} (𝓛 : Logic 𝓤) (mem : Memory → SProp
         (init ! 4 refl (tt, record { fits = room.0 })) $
         move ! (11 ∷ []) $ fsplit ! $ use1 𝓛 (‵ Own ⊛ ‵ Own) ((shr_slice_copy 𝓛 (named 0) κ RQ).twice x (s ∷ [])) $ split ! $ move ! (2 ∷ []) $
         -- `empty_list`: [true; what questions owns, twice; _4; …; _3; …; _2; …; _1; …; room for _0; …; the token]
-        use1 𝓛 (raw ((Empty 𝓛 mem run).pre to-empty)) goes-empty $
+        use1 𝓛 (raw ((Empty 𝓛 mem run).requires to-empty)) goes-empty $
         calls_at ! fm (Empty 𝓛 mem run) known-empty to-empty (and_then ! (load ! (from ! (stop !)) (look ! 7 refl)) (no_more !)) (λ u.
         use1 𝓛 (later (some (λ (r : Listed). (‵ ftrue ⊛ ‵ (RL.own r (u ∷ []))) ⊛ raw (ensured 𝓛 empty.ended (empty.clauses 𝓛 mem run) tt (n, tt) tt
         r))))
@@ -228,7 +228,7 @@ module _ {M : Type 1} {𝓤 : Ura M} (𝓛 : Logic 𝓤) (mem : Memory → SProp
         peeks ! RL (Is RL) (shows 𝓛 RL) (emptyList n) (u ∷ []) (λ is.
         land ! (from ! (stop !)) (init ! 6 refl ((LL.lawful TL.the_type TL'.the_laws 𝓛).typed (emptyList n) (u ∷ []) is).0) $ move ! (1 ∷ []) $
         -- `held`: [true; the list; what questions owns, twice; _4; …; _3; …; _2; …; _1; …; room for _0; …; the token]
-        use1 𝓛 (raw ((Held 𝓛 mem run).pre to_held)) goes-held $
+        use1 𝓛 (raw ((Held 𝓛 mem run).requires to_held)) goes-held $
         calls_at ! fm (Held 𝓛 mem run) known-held to_held (and_then ! (load ! (from ! (stop !)) (look ! 8 refl)) (no_more !)) (λ w.
         use1 𝓛 (later (some (λ (k : ℕ). (‵ ftrue ⊛ ‵ (usize.own_val k (w ∷ []))) ⊛ raw (ensured 𝓛 held.ended (held.clauses 𝓛 mem run) tt (n, tt) tt k))))
         (id⊢ 𝓤 _) $ await ! tt $ pick ! (λ k.
@@ -237,7 +237,7 @@ module _ {M : Type 1} {𝓤 : Ura M} (𝓛 : Logic 𝓤) (mem : Memory → SProp
         peeks ! usize (Is usize) (shows 𝓛 usize) (min n 64) (w ∷ []) (λ js.
         land ! (from ! (stop !)) (init ! 5 refl ((uint_Lawful 𝓛 w64).typed (min n 64) _ js).0) $ move ! (1 ∷ []) $ drop ! $
         -- `gather`: [the number; the list; what questions owns, twice; _4; …; _3; …; _2; …; _1; …; room for _0; …; the token]
-        join ! $ move ! (13 ∷ 1 ∷ 0 ∷ []) $ use3 𝓛 (raw ((Gather 𝓛 mem run).pre (to-gather w u))) (goes-gather w u) $
+        join ! $ move ! (13 ∷ 1 ∷ 0 ∷ []) $ use3 𝓛 (raw ((Gather 𝓛 mem run).requires (to-gather w u))) (goes-gather w u) $
         calls_at ! fm (Gather 𝓛 mem run) known-gather (to-gather w u) (and_then ! (load ! (from ! (stop !)) (look ! 8 refl))
         (and_then ! (load ! (from ! (stop !)) (look ! 2 refl)) (and_then ! (load ! (from ! (stop !)) (look ! 4 refl)) (no_more !)))) (λ v.
         use1 𝓛 (later (some (λ (t : Listed). ((‵ (flft κ q) ⊛ ‵ ftrue) ⊛ ‵ (RL.own t (v ∷ [])))

@@ -11,15 +11,15 @@ session s =
     a.first.now a.second.now
 
 restore-requires : tie.Need-restore-requires
-restore-requires c κs = (c.before.restore-arg-1.given.0, c.restore-arg-2-1.given.0.1)
+restore-requires c κs = (c.restore-arg-1.given.0, c.restore-arg-2-1.given.0.1)
 
 stand-idle-requires : tie.Need-stand_idle-requires
 stand-idle-requires c κs = c.stand_idle-arg-1.given.0.1
 
 returns : tie.Need-returns
 returns c =
-    let r = c.before.before in
-    after_clear (session r.before.before.before) _ _ r.restore.ensures c.stand_idle.ensures.1
+    let r = c in
+    after_clear (session r.before.before.before.before.before) _ _ r.restore.ensures c.stand_idle.ensures.1
 
 pub clear_spec : {M : Type 1} → statement M
 clear_spec = tie.close (tie.spec restore-requires stand-idle-requires returns)

@@ -31,33 +31,33 @@ session s =
     a.first.now a.second.now
 
 returns : tie.Need-returns-then-party-ge2
-returns c = (no_party (session c.before) c.before.args.party c.if-party-ge2.true, refl)
+returns c = (no_party (session c.before) c.args.party c.if-party-ge2.true, refl)
 
 -- ── where the party stands ──
 abbrev start : tie.After-stands-1 → tie.Start
-start c = c.before.before.before
+start c = c.before.before.before.before
 
 known : (c : tie.After-stands-1) → 2 ≤ (start c).args.party → ⊥
-known c l = absurd (omega (arith, l, c.before.before.if-party-ge2.false))
+known c l = absurd (omega (arith, l, c.if-party-ge2.false))
 
-stood : (c : tie.After-stands-1) → at (start c).args.standing.now c.before.wide.result ≡ at (start c).args.standing.now (start c).args.party
-stood c = ap (at (start c).args.standing.now) c.before.wide.ensures
+stood : (c : tie.After-stands-1) → at (start c).args.standing.now c.wide.result ≡ at (start c).args.standing.now (start c).args.party
+stood c = ap (at (start c).args.standing.now) c.wide.ensures
 
 returns-2 : tie.Need-returns-then-stands-eq3
 returns-2 c =
-    let t = c.before in
-    (has_committed (session (start t)) (start t).args.party (known t) (sym (stood t) ∙ c.if-stands-eq3.true), refl)
+    let t = c in
+    (has_committed (session (start t.before)) (start t.before).args.party (known t.before) (sym (stood t.before) ∙ c.if-stands-eq3.true), refl)
 
 returns-3 : tie.Need-returns-then-stands-eq2
 returns-3 c =
-    let t = c.before.before in
-    (stale_offer (session (start t)) (start t).args.party (known t) (λ e. c.before.if-stands-eq3.false (stood t ∙ e)) (sym (stood t) ∙ c.if-stands-eq2.true), refl)
+    let t = c in
+    (stale_offer (session (start t.before.before)) (start t.before.before).args.party (known t.before.before) (λ e. c.if-stands-eq3.false (stood t.before.before ∙ e)) (sym (stood t.before.before) ∙ c.if-stands-eq2.true), refl)
 
 returns-4 : tie.Need-returns-then-stands-ne1
 returns-4 c =
-    let t = c.before.before.before in (
-      no_offer (session (start t)) (start t).args.party (known t) (λ e. c.before.before.if-stands-eq3.false (stood t ∙ e))
-          (λ e. c.before.if-stands-eq2.false (stood t ∙ e)) (λ e. c.if-stands-ne1.true (stood t ∙ e)),
+    let t = c in (
+      no_offer (session (start t.before.before.before)) (start t.before.before.before).args.party (known t.before.before.before) (λ e. c.if-stands-eq3.false (stood t.before.before.before ∙ e))
+          (λ e. c.if-stands-eq2.false (stood t.before.before.before ∙ e)) (λ e. c.if-stands-ne1.true (stood t.before.before.before ∙ e)),
       refl,
     )
 
@@ -66,29 +66,29 @@ abbrev stands : tie.After-take_of → tie.After-stands-1
 stands c = c.before.before.before.before.before
 
 stand-committed-requires : tie.Need-stand_committed-requires
-stand-committed-requires c κs = ((stands c.before.before).before.before.if-party-ge2.false, c.stand_committed-arg-1.given.0.1)
+stand-committed-requires c κs = ((stands c.before.before).if-party-ge2.false, c.stand_committed-arg-1.given.0.1)
 
 returns-5 : tie.Need-returns-then-take_of
 returns-5 c =
-    let k = c.before.before.before in
-    let t = stands k in
+    let k = c in
+    let t = stands k.before.before.before in
     let S = session (start t) in
     let a = (start t).args in
-    let h = taken_yes k.take_of.ensures c.before.before.if-take_of.true in
+    let h = taken_yes k.take_of.ensures c.if-take_of.true in
     let e = own_offer a.party a.first.now a.second.now (known t) in (
-      lets_in S a.party (known t) (sym (stood t) ∙ k.before.before.if-stands-ne1.false) (offer_lowerable S a.party _ e h.0),
+      lets_in S a.party (known t) (sym (stood t) ∙ k.if-stands-ne1.false) (offer_lowerable S a.party _ e h.0),
       after_commit S a.party _ _ (lowered_offer S a.party _ e _ h.1) c.stand_committed.ensures.1,
     )
 
 returns-6 : tie.Need-returns
 returns-6 c =
-    let k = c.before in
-    let t = stands k in
+    let k = c in
+    let t = stands k.before in
     let S = session (start t) in
     let a = (start t).args in
     let h = taken_no k.take_of.ensures c.if-take_of.false in
     let e = own_offer a.party a.first.now a.second.now (known t) in (
-      too_much S a.party (known t) (sym (stood t) ∙ k.before.before.if-stands-ne1.false) (λ l. h.0 (lowerable_offer S a.party _ e l)),
+      too_much S a.party (known t) (sym (stood t) ∙ k.if-stands-ne1.false) (λ l. h.0 (lowerable_offer S a.party _ e l)),
       left_alone S _ h.1,
     )
 

@@ -24,27 +24,27 @@ loop-holds c = (omega arith, copy_start _ _)
 
 slice-set-from-left : tie.Need-bounds-left-dart invariant-loop decreases-loop
 slice-set-from-left c =
-    let s = c.before.before.before in
-    omega (arith, filled_length _ _ _ _ c.before.before.loop-dart.invariant.1 (omega (arith, s.requires.1)), s.requires.1)
+    let s = c in
+    omega (arith, filled_length _ _ _ _ c.loop-dart.invariant.1 (omega (arith, s.requires.1)), s.requires.1)
 
 loop-again : tie.Need-loop-dart-preserved invariant-loop decreases-loop
 loop-again c =
-    let o = c.before.before.loop-dart in (
+    let o = c.loop-dart in (
       omega arith,
-      copy_step _ o.dart _ _ _ o.invariant.1 (omega (arith, c.before.before.before.requires.1)) (number_of_bits _ (record { sfits = c.left-1.given })),
+      copy_step _ o.dart _ _ _ o.invariant.1 (omega (arith, c.requires.1)) (number_of_bits _ (record { sfits = c.left-1.given })),
     )
 
 same_length : tie.Need-shape_of-left invariant-loop decreases-loop
-same_length c = filled_length _ _ _ _ c.before.loop-dart.invariant.1 (omega (arith, c.before.before.requires.1))
+same_length c = filled_length _ _ _ _ c.loop-dart.invariant.1 (omega (arith, c.requires.1))
 
 returns : tie.Need-returns invariant-loop decreases-loop
 returns c =
-    let o = c.before.loop-dart in
-    let s = c.before.before in
+    let o = c.loop-dart in
+    let s = c in
     let a = s.args in
     let all : o.dart ≡ 1024 = omega arith in
-    copied_whole 1024 a.limits.now a.left-1.now o.left-1 s.requires.0 s.requires.1
-    (o.invariant.1 ∙ ap (λ k. tabulate k (atℤ a.limits.now) ++ drop k a.left-1.now) all)
+    copied_whole 1024 a.limits.now a.left.now o.left s.requires.0 s.requires.1
+    (o.invariant.1 ∙ ap (λ k. tabulate k (atℤ a.limits.now) ++ drop k a.left.now) all)
 
 pub restore_spec : {M : Type 1} → statement M
 restore_spec =

@@ -6,13 +6,13 @@ use Rattle.parties.proofs.stand_committed.Tie as tie
 
 returns : tie.Need-returns-then-party-eq0
 returns c =
-    let s = c.before.before.before.before in
-    first_commits s.args.standing.now s.requires.1 s.args.party s.requires.0 _ c.before.before.if-party-eq0.true c.staled_by.ensures
+    let s = c in
+    first_commits s.args.standing.now s.requires.1 s.args.party s.requires.0 _ c.if-party-eq0.true c.staled_by.ensures
 
 returns-2 : tie.Need-returns-else-party-eq0
 returns-2 c =
-    let s = c.before.before.before.before in
-    second_commits s.args.standing.now s.requires.1 s.args.party s.requires.0 _ c.before.before.if-party-eq0.false c.staled_by-else-party-eq0.ensures
+    let s = c in
+    second_commits s.args.standing.now s.requires.1 s.args.party s.requires.0 _ c.if-party-eq0.false c.staled_by-else-party-eq0.ensures
 
 pub stand_committed_spec : {M : Type 1} → statement M
 stand_committed_spec =

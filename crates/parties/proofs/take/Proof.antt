@@ -10,14 +10,14 @@ use Rattle.parties.proofs.take.Statement.{statement}
 use Rattle.parties.proofs.take.Tie as tie
 
 abbrev start : tie.After-lowerable → tie.Start
-start c = c.before.before.before.before
+start c = c.before.before.before
 
-width : (c : tie.After-lowerable) → c.before.before.before.wide-m.result ≡ (start c).args.edges
-width c = c.before.before.before.wide-m.ensures
+width : (c : tie.After-lowerable) → c.wide-m.result ≡ (start c).args.edges
+width c = c.wide-m.ensures
 
-tested : (c : tie.Then-lowerable) → Lowerable c.before.before.before.before.wide-m.result (atℤ (start c.before).args.left.now)
+tested : (c : tie.Then-lowerable) → Lowerable c.wide-m.result (atℤ (start c.before).args.left.now)
     (atℤ (start c.before).args.offer.now)
-tested c = said_yes c.before.lowerable.ensures c.if-lowerable.true
+tested c = said_yes c.lowerable.ensures c.if-lowerable.true
 
 lower-requires : tie.Need-lower-requires
 lower-requires c κs =
@@ -27,11 +27,11 @@ lower-requires c κs =
 
 returns : tie.Need-returns-then-lowerable
 returns c =
-    let t = c.before.before in
-    let a = (start t.before).args in
-    let e = width t.before in
+    let t = c in
+    let a = (start t.before.before.before).args in
+    let e = width t.before.before.before in
     record {
-      tested = subst (λ k. Lowerable k (atℤ a.left.now) (atℤ a.offer.now)) e (tested t);
+      tested = subst (λ k. Lowerable k (atℤ a.left.now) (atℤ a.offer.now)) e (tested t.before.before);
       after = lowered_by_flows _ a.edges a.left.now a.offer.now _ e c.lower.ensures.1;
     }
 
@@ -39,7 +39,7 @@ returns-2 : tie.Need-returns
 returns-2 c =
     let a = (start c.before).args in
     record {
-      tested = λ h. said_no c.before.lowerable.ensures c.if-lowerable.false
+      tested = λ h. said_no c.lowerable.ensures c.if-lowerable.false
           (subst (λ k. Lowerable k (atℤ a.left.now) (atℤ a.offer.now)) (sym (width c.before)) h);
       after = refl;
     }

@@ -19,7 +19,7 @@ small-number n l = number_of_bits (to_z w32 n) (number_fits n (omega arith)) ∙
 returns : tie.Need-returns
 unfolding capacity_from
 returns c =
-    let n = c.before.args.state / 65536 in
+    let n = c.args.state / 65536 in
     ap (λ x. to_z w32 (of_z w32 x)) c.of_bits.ensures ∙ small-number (n % 100) (mod-lt n (omega arith))
 
 pub capacity_from_spec : {M : Type 1} → statement M

@@ -12,16 +12,16 @@ use Rattle.practice.proofs.dart_at.Statement.{statement}
 use Rattle.practice.proofs.dart_at.Tie as tie
 
 -- ── where there is an edge, the row or the column is not the first ──
-north-of : (c : tie.Then-s-eq0) → 0 < c.before.args.r
+north-of : (c : tie.Then-s-eq0) → 0 < c.args.r
 unfolding present side
-north-of c = ltb_lt 0 c.before.args.r (rw c.if-s-eq0.true at c.before.requires.4)
+north-of c = ltb_lt 0 c.args.r (rw c.if-s-eq0.true at c.requires.4)
 
-is-west : (c : tie.Else-s-eq2) → side c.before.before.before.args.s ≡ west
-is-west c = side_west _ c.before.before.if-s-eq0.false c.before.if-s-eq1.false c.if-s-eq2.false
+is-west : (c : tie.Else-s-eq2) → side c.args.s ≡ west
+is-west c = side_west _ c.if-s-eq0.false c.if-s-eq1.false c.if-s-eq2.false
 
-west-of : (c : tie.Else-s-eq2) → 0 < c.before.before.before.args.c
+west-of : (c : tie.Else-s-eq2) → 0 < c.args.c
 unfolding present
-west-of c = ltb_lt 0 c.before.before.before.args.c (rw (is-west c) at c.before.before.before.requires.4)
+west-of c = ltb_lt 0 c.args.c (rw (is-west c) at c.requires.4)
 
 -- ── the needs, in the order of the code ──
 sub-edge-south : tie.Need-overflow_sub-r
@@ -29,15 +29,15 @@ sub-edge-south c = omega (arith, north-of c)
 
 returns : tie.Need-returns-then-s-eq0
 unfolding dart_at side
-returns c = rw c.before.if-s-eq0.true (ap (λ e. 2 * e + 1) c.edge_south.ensures.0)
+returns c = rw c.if-s-eq0.true (ap (λ e. 2 * e + 1) c.edge_south.ensures.0)
 
 returns-2 : tie.Need-returns-then-s-eq1
 unfolding dart_at side
-returns-2 c = rw c.before.if-s-eq1.true (ap (λ e. 2 * e) c.edge_east.ensures.0)
+returns-2 c = rw c.if-s-eq1.true (ap (λ e. 2 * e) c.edge_east.ensures.0)
 
 returns-3 : tie.Need-returns-then-s-eq2
 unfolding dart_at side
-returns-3 c = rw c.before.if-s-eq2.true (ap (λ e. 2 * e) c.edge_south-then-s-eq2.ensures.0)
+returns-3 c = rw c.if-s-eq2.true (ap (λ e. 2 * e) c.edge_south-then-s-eq2.ensures.0)
 
 sub-edge-east : tie.Need-overflow_sub-c
 sub-edge-east c = omega (arith, west-of c)

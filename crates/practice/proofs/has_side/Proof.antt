@@ -20,7 +20,7 @@ returns-3 c = rw c.if-s-eq2.true
 
 returns-4 : tie.Need-returns
 unfolding present
-returns-4 c = rw (side_west _ c.before.before.if-s-eq0.false c.before.if-s-eq1.false c.if-s-eq2.false)
+returns-4 c = rw (side_west _ c.if-s-eq0.false c.if-s-eq1.false c.if-s-eq2.false)
 
 pub has_side_spec : {M : Type 1} → statement M
 has_side_spec = tie.close (tie.spec returns (λ c. search rules) returns-2 (λ c. search rules) returns-3 returns-4)

@@ -14,35 +14,35 @@ use Rattle.practice.proofs.rotation_at.Tie as tie
 
 -- the next side has an edge
 turned : (c : tie.After-next_side-t)
-    → present c.before.args.rows c.before.args.columns c.before.args.r c.before.args.c (side c.next_side-t.result) ≡ true
+    → present c.args.rows c.args.columns c.args.r c.args.c (side c.next_side-t.result) ≡ true
 turned c =
-    let a = c.before.args in
-    let p = c.before.requires in
+    let a = c.args in
+    let p = c.requires in
     ap (present a.rows a.columns a.r a.c) c.next_side-t.ensures
     ∙ next_here a.rows a.columns a.r a.c p.2 p.3 (side a.s) p.5
 
 small : (c : tie.After-dart_at-d) → c.dart_at-d.result < 65536
 small c =
-    let n = c.before in
-    let a = n.before.args in
-    let p = n.before.requires in
+    let n = c in
+    let a = n.args in
+    let p = n.requires in
     omega (
       arith,
       c.dart_at-d.ensures,
-      dart_in a.rows a.columns a.r a.c p.2 p.3 (side n.next_side-t.result) (turned n),
+      dart_in a.rows a.columns a.r a.c p.2 p.3 (side n.next_side-t.result) (turned n.before),
       few_edges a.rows a.columns p.0 p.1,
     )
 
 dart-at-requires : tie.Need-dart_at-d-requires
-dart-at-requires c κs = let p = c.before.requires in (p.0, p.1, p.2, p.3, turned c)
+dart-at-requires c κs = let p = c.requires in (p.0, p.1, p.2, p.3, turned c)
 
 narrow-requires : tie.Need-narrow-requires
 narrow-requires c κs = small c
 
 returns : tie.Need-returns
 returns c =
-    let a = c.before.before.before.args in
-    c.narrow.ensures ∙ c.before.dart_at-d.ensures ∙ ap (dart_at a.rows a.columns a.r a.c) c.before.before.next_side-t.ensures
+    let a = c.args in
+    c.narrow.ensures ∙ c.dart_at-d.ensures ∙ ap (dart_at a.rows a.columns a.r a.c) c.next_side-t.ensures
 
 pub rotation_at_spec : {M : Type 1} → statement M
 rotation_at_spec = tie.close (tie.spec (λ c κs. search rules) dart-at-requires narrow-requires returns)

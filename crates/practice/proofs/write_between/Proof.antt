@@ -10,17 +10,17 @@ use Rattle.practice.proofs.write_between.Tie as tie
 
 returns : tie.Need-returns
 returns c =
-    let w = c.before.before in
-    let back = w.before.before in
-    let rotation = back.before in
-    let head = rotation.before in
-    let tail = head.before in
-    let s = tail.before.before in
+    let w = c in
+    let back = w in
+    let rotation = back in
+    let head = rotation in
+    let tail = head in
+    let s = tail in
     let a = s.args in
     w.write_record.ensures
     ∙ (λ i. put a.place
-    (edge_bytes (tail.Node-at.ensures i) (head.node_at-head.ensures i) (rotation.rotation_at-rotation.ensures i) (back.rotation_at-turned.ensures i)
-    (number_of_bits a.forward s.ranges.forward i) (pos 0)) a.out-1.now)
+    (edge_bytes (tail.node_at-tail.ensures i) (head.node_at-head.ensures i) (rotation.rotation_at-rotation.ensures i) (back.rotation_at-turned.ensures i)
+    (number_of_bits a.forward s.ranges.forward i) (pos 0)) a.out.now)
 
 pub write_between_spec : {M : Type 1} → statement M
 write_between_spec =

@@ -31,7 +31,7 @@ abbrev eastward : tie.Then-e-first → tie.Start
 eastward c = start c.before
 
 first : (c : tie.Then-e-first) → (eastward c).args.e < (eastward c).args.rows * ((eastward c).args.columns - 1)
-first c = omega (arith, c.if-e-first.true, c.before.times-first.ensures.0)
+first c = omega (arith, c.if-e-first.true, c.times-first.ensures.0)
 
 in_row : (c : tie.Then-e-first)
     → ((eastward c).args.e / ((eastward c).args.columns - 1) < (eastward c).args.rows)
@@ -46,16 +46,16 @@ abbrev southward : tie.Else-e-first → tie.Start
 southward c = start c.before
 
 abbrev rest : tie.Else-e-first → ℕ
-rest c = (southward c).args.e - c.before.times-first.result
+rest c = (southward c).args.e - c.times-first.result
 
 second : (c : tie.Else-e-first) → (southward c).args.rows * ((southward c).args.columns - 1) ≤ (southward c).args.e
-second c = omega (arith, c.if-e-first.false, c.before.times-first.ensures.0)
+second c = omega (arith, c.if-e-first.false, c.times-first.ensures.0)
 
 in-column : (c : tie.Else-e-first)
     → (rest c / (southward c).args.columns + 1 < (southward c).args.rows) × (rest c % (southward c).args.columns < (southward c).args.columns)
 in-column c =
     let a = (southward c).args in
-    let q = row_of a.columns (a.rows - 1) (rest c) (omega (arith, (southward c).requires.5, second c, c.before.times-first.ensures.0)) in
+    let q = row_of a.columns (a.rows - 1) (rest c) (omega (arith, (southward c).requires.5, second c, c.times-first.ensures.0)) in
     (omega (arith, q.0), q.1)
 
 -- ── the needs, in the order of the code ──
@@ -85,13 +85,13 @@ write-between-requires c κs =
 
 returns : tie.Need-returns-then-e-first
 returns c =
-    let w = c.before.before in
-    let t = w.before.before in
-    let s = eastward t in
+    let w = c in
+    let t = w in
+    let s = eastward t.before.before.before.before in
     let a = s.args in
     w.write_between.ensures
-    ∙ same-record a.rows a.columns a.place a.out-1.now (sym (begins_across a.rows a.columns a.e (first t)))
-    (sym (ends_across a.rows a.columns a.e (first t))) (number_of_bits a.forward s.fits.forward)
+    ∙ same-record a.rows a.columns a.place a.out.now (sym (begins_across a.rows a.columns a.e (first t.before.before.before.before)))
+    (sym (ends_across a.rows a.columns a.e (first t.before.before.before.before))) (number_of_bits a.forward s.ranges.forward)
 
 add-write-between-2 : tie.Need-overflow_add-r
 add-write-between-2 c = omega (arith, (in-column c.before).0, (southward c.before).requires.2)
@@ -119,16 +119,16 @@ write-between-requires-2 c κs =
 
 returns-2 : tie.Need-returns
 returns-2 c =
-    let w = c.before.before in
-    let t = w.before.before in
-    let s = southward t in
+    let w = c in
+    let t = w in
+    let s = southward t.before.before.before.before in
     let a = s.args in
-    let k = c.before.before.before.before.before.times-first.ensures.0 in
+    let k = c.times-first.ensures.0 in
     w.write_between-2.ensures
-    ∙ same-record a.rows a.columns a.place a.out-1.now
-    (ap (λ n. placed ((a.e - n) / a.columns) ((a.e - n) % a.columns) (side 2)) k ∙ sym (begins_down a.rows a.columns a.e (second t)))
-    (ap (λ n. placed ((a.e - n) / a.columns + 1) ((a.e - n) % a.columns) (side 0)) k ∙ sym (ends_down a.rows a.columns a.e (second t)))
-    (number_of_bits a.forward s.fits.forward)
+    ∙ same-record a.rows a.columns a.place a.out.now
+    (ap (λ n. placed ((a.e - n) / a.columns) ((a.e - n) % a.columns) (side 2)) k ∙ sym (begins_down a.rows a.columns a.e (second t.before.before.before.before)))
+    (ap (λ n. placed ((a.e - n) / a.columns + 1) ((a.e - n) % a.columns) (side 0)) k ∙ sym (ends_down a.rows a.columns a.e (second t.before.before.before.before)))
+    (number_of_bits a.forward s.ranges.forward)
 
 pub write_edge_spec : {M : Type 1} → statement M
 write_edge_spec =

@@ -47,98 +47,98 @@ begun o = o.before.before.before.before
 abbrev turn : tie.After-edge_at-place invariant-loop decreases-loop → tie.At-loop-e invariant-loop decreases-loop
 turn c = c.before.before.before.before
 
-inside : (c : tie.After-edge_at-place invariant-loop decreases-loop) → (turn c).loop.e < grid_edges (begun (turn c)).args.rows (begun (turn c)).args.columns
-inside c = omega (arith, c.before.before.before.loop-e-test.true, (turn c).before.IsEdge-count.ensures.0)
+inside : (c : tie.After-edge_at-place invariant-loop decreases-loop) → (turn c).loop-e.e < grid_edges (begun (turn c)).args.rows (begun (turn c)).args.columns
+inside c = omega (arith, c.loop-e-test.true, (turn c).edge_count-edges.ensures.0)
 
 -- ── the state and the capacity of this turn ──
 stepped : (c : tie.After-next_state-state invariant-loop decreases-loop)
-    → c.next_state-state.result ≡ state_after (begun c.before.before).args.seed (c.before.before.loop-e.e + 1)
+    → c.next_state-state.result ≡ state_after (begun c.before.before).args.seed (c.loop-e.e + 1)
 unfolding state_after
 stepped c =
-    let o = c.before.before in
-    c.next_state-state.ensures.0 ∙ ap next_state o.loop-e.invariant.1 ∙ ap (state_after (begun o).args.seed) (sym (add-one o.loop-e.e))
+    let o = c in
+    c.next_state-state.ensures.0 ∙ ap next_state o.loop-e.invariant.1 ∙ ap (state_after (begun o.before.before).args.seed) (sym (add-one o.loop-e.e))
 
 capacity : (c : tie.After-capacity_from-forward invariant-loop decreases-loop)
-    → c.capacity_from-forward.result ≡ pos (forward_of (begun c.before.before.before).args.seed c.before.before.before.loop-e.e)
+    → c.capacity_from-forward.result ≡ pos (forward_of (begun c.before.before.before).args.seed c.loop-e.e)
 unfolding forward_of
 capacity c =
-    let o = c.before.before.before in
+    let o = c in
     c.capacity_from-forward.ensures
-    ∙ ap (λ x. pos (capacity_from x)) (stepped c.before ∙ ap (state_after (begun o).args.seed) (add-one o.loop-e.e))
+    ∙ ap (λ x. pos (capacity_from x)) (stepped c.before ∙ ap (state_after (begun o.before.before.before).args.seed) (add-one o.loop-e.e))
 
 bits : (c : tie.After-capacity_from-forward invariant-loop decreases-loop)
-    → to_z w32 (of_z w32 c.capacity_from-forward.result) ≡ pos (forward_of (begun c.before.before.before).args.seed c.before.before.before.loop-e.e)
+    → to_z w32 (of_z w32 c.capacity_from-forward.result) ≡ pos (forward_of (begun c.before.before.before).args.seed c.loop-e.e)
 bits c =
-    let o = c.before.before.before in
-    let n = forward_of (begun o).args.seed o.loop-e.e in
-    ap (λ x. to_z w32 (of_z w32 x)) (capacity c) ∙ number_of_bits (pos n) (record { sfits = omega (arith, forward_small (begun o).args.seed o.loop-e.e) })
+    let o = c in
+    let n = forward_of (begun o.before.before.before).args.seed o.loop-e.e in
+    ap (λ x. to_z w32 (of_z w32 x)) (capacity c) ∙ number_of_bits (pos n) (record { sfits = omega (arith, forward_small (begun o.before.before.before).args.seed o.loop-e.e) })
 
 -- ── an edge is written ──
-place : (c : tie.After-edge_at-place invariant-loop decreases-loop) → c.edge_at-place.result ≡ edge_after (record_length 1) (turn c).loop.e
-place c = c.edge_at-place.ensures ∙ ap (λ n. edge_after n (turn c).loop.e) (turn c).before.before.record_length-head.ensures.0
+place : (c : tie.After-edge_at-place invariant-loop decreases-loop) → c.edge_at-place.result ≡ edge_after (record_length 1) (turn c).loop-e.e
+place c = c.edge_at-place.ensures ∙ ap (λ n. edge_after n (turn c).loop-e.e) (turn c).record_length-head.ensures.0
 
 written : (c : tie.After-write_edge invariant-loop decreases-loop)
-    → c.write_edge.new.0 ≡ put (edge_after (record_length 1) (turn c.before.before).loop.e)
-    (encode_edge (drawn (begun (turn c.before.before))) (turn c.before.before).loop.e) (turn c.before.before).loop.out-1
+    → c.write_edge.new.out ≡ put (edge_after (record_length 1) (turn c.before.before).loop-e.e)
+    (encode_edge (drawn (begun (turn c.before.before))) (turn c.before.before).loop-e.e) (turn c.before.before).loop-e.out
 written c =
-    let l = c.before.before in
-    let o = turn l in
+    let l = c in
+    let o = turn l.before.before in
     let a = (begun o).args in
     let e = o.loop-e.e in
     c.write_edge.ensures
-    ∙ (λ i. put (place l i)
+    ∙ (λ i. put (place l.before.before i)
     (edge_bytes (node_at a.rows a.columns (beginning a.rows a.columns e)) (node_at a.rows a.columns (ending a.rows a.columns e))
     (rotation_at a.rows a.columns (beginning a.rows a.columns e)) (rotation_at a.rows a.columns (ending a.rows a.columns e))
-    (bits l.before i) (pos 0)) o.loop-e.out-1)
-    ∙ ap (λ b. put (edge_after (record_length 1) e) b o.loop-e.out-1) (sym (grid_record a.rows a.columns a.seed e (inside l)))
+    (bits l.before.before.before i) (pos 0)) o.loop-e.out)
+    ∙ ap (λ b. put (edge_after (record_length 1) e) b o.loop-e.out) (sym (grid_record a.rows a.columns a.seed e (inside l.before.before)))
 
 -- so the length is kept
-kept : (c : tie.After-write_edge invariant-loop decreases-loop) → length c.write_edge.new.0 ≡ length (turn c.before.before).loop.out-1
+kept : (c : tie.After-write_edge invariant-loop decreases-loop) → length c.write_edge.new.out ≡ length (turn c.before.before).loop-e.out
 kept c =
     let o = turn c.before.before in
     let s = begun o in
     placed_length (placed_first {bs = encode_edge (drawn s) o.loop-e.e} (written c) (edge_length (drawn s) o.loop-e.e))
-    (omega (arith, o.loop-e.inv.3, s.pre.5, inside c.before.before))
+    (omega (arith, o.loop-e.invariant.3, s.requires.5, inside c.before.before))
 
 -- ── the needs, in the order of the code ──
 loop-holds : tie.Need-loop-e-init invariant-loop decreases-loop
 unfolding state_after
-loop-holds c = let s = c.before.before.before in (omega arith, refl, s.requires.4, refl, λ old e. front_start (drawn s) old _ e)
+loop-holds c = let s = c in (omega arith, refl, s.requires.4, refl, λ old e. front_start (drawn s.before.before.before) old _ e)
 
 next-state-requires : tie.Need-next_state-state-requires invariant-loop decreases-loop
-next-state-requires c κs = c.before.loop-e.invariant.2
+next-state-requires c κs = c.loop-e.invariant.2
 
 write-edge-requires : tie.Need-write_edge-requires invariant-loop decreases-loop
 write-edge-requires c κs =
-    let l = c.before in
-    let o = turn l in
+    let l = c in
+    let o = turn l.before in
     let s = begun o in
-    let p = s.pre in (
-      omega (arith, place l, o.before.IsEdge-count.ensures.1, inside l),
-      omega (arith, place l, inside l, o.loop-e.inv.3, p.5),
+    let p = s.requires in (
+      omega (arith, place l.before, o.edge_count-edges.ensures.1, inside l.before),
+      omega (arith, place l.before, inside l.before, o.loop-e.invariant.3, p.5),
       p.1,
       p.2,
       p.3,
-      inside l,
+      inside l.before,
     )
 
 loop-again : tie.Need-loop-e-preserved invariant-loop decreases-loop
 loop-again c =
-    let w = c.before.before in
-    let l = w.before.before in
-    let n = l.before.before in
-    let o = turn l in (
+    let w = c in
+    let l = w in
+    let n = l in
+    let o = turn l.before.before.before.before in (
       omega arith,
-      stepped n,
+      stepped n.before.before.before.before.before.before,
       n.next_state-state.ensures.1,
-      kept w ∙ o.loop-e.inv.3,
-      λ old e. front_step (drawn (begun o)) old o.loop-e.e o.loop-e.out-1 _ (o.loop-e.inv.4 old e) (written w),
+      kept w.before.before ∙ o.loop-e.invariant.3,
+      λ old e. front_step (drawn (begun o)) old o.loop-e.e o.loop-e.out _ (o.loop-e.invariant.4 old e) (written w.before.before),
     )
 
 returns : tie.Need-returns invariant-loop decreases-loop
 returns c = λ old e.
-    let o = c.before in
-    front_end (drawn (begun o)) old o.loop-e.e _ (omega (arith, o.before.IsEdge-count.ensures.0)) (o.loop-e.invariant.4 old e)
+    let o = c in
+    front_end (drawn (begun o.before)) old o.loop-e.e _ (omega (arith, o.edge_count-edges.ensures.0)) (o.loop-e.invariant.4 old e)
 
 pub write_edges_spec : {M : Type 1} → statement M
 write_edges_spec =

@@ -6,11 +6,11 @@ use Rattle.practice.proofs.write_head.Tie as tie
 
 returns : tie.Need-returns
 returns c =
-    let edges = c.before.before in
-    let nodes = edges.before.before.before.before in
-    let kind = nodes.before.before.before.before in
-    let s = kind.before.before.before in
-    head_placed s.args.out-1.now s.args.nodes s.args.edges s.requires
+    let edges = c in
+    let nodes = edges in
+    let kind = nodes in
+    let s = kind in
+    head_placed s.args.out.now s.args.nodes s.args.edges s.requires
     kind.write_u8.ensures nodes.write_u16.ensures edges.write_u16-2.ensures
 
 pub write_head_spec : {M : Type 1} → statement M

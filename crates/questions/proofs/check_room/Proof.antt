@@ -13,15 +13,15 @@ unfolding room_checks FirstOf
 returns c = inl (inl c.if-flows-edges.true, refl, refl)
 
 words-for-requires : tie.Need-words_for-requires
-words-for-requires c κs = c.before.requires
+words-for-requires c κs = c.requires
 
 returns-2 : tie.Need-returns-then-set-words_for
 unfolding room_checks FirstOf
-returns-2 c = inl (inr (omega (arith, c.if-set-words_for.true, c.before.words_for.ensures)), refl, refl)
+returns-2 c = inl (inr (omega (arith, c.if-set-words_for.true, c.words_for.ensures)), refl, refl)
 
 returns-3 : tie.Need-returns
 unfolding room_checks NoneOf
-returns-3 c = (neither (λ l. omega (arith, c.before.before.if-flows-edges.false)) (λ l. omega (arith, c.if-set-words_for.false, c.before.words_for.ensures)), tt)
+returns-3 c = (neither (λ l. omega (arith, c.if-flows-edges.false)) (λ l. omega (arith, c.if-set-words_for.false, c.words_for.ensures)), tt)
 
 pub check_room_spec : {M : Type 1} → statement M
 check_room_spec = tie.close (tie.spec returns words-for-requires returns-2 returns-3)

@@ -42,12 +42,12 @@ abbrev ends_at : tie.Start → List Check
 ends_at s = end_checks s.args.sizes.nodes s.args.demand.source s.args.demand.sink
 
 abbrev room_at : tie.Start → List Check
-room_at s = room_checks s.args.sizes.nodes s.args.sizes.edges (length s.args.flows-1.now) (length s.args.set-1.now)
+room_at s = room_checks s.args.sizes.nodes s.args.sizes.edges (length s.args.flows.now) (length s.args.set.now)
 
 abbrev checksAt : tie.Start → List Check
 checksAt s =
     let a = s.args in
-    question_checks a.sizes.nodes a.sizes.edges a.demand.source a.demand.sink a.demand.value a.flows-1.now a.set-1.now
+    question_checks a.sizes.nodes a.sizes.edges a.demand.source a.demand.sink a.demand.value a.flows.now a.set.now
 
 -- ── 13 and 14 did not refuse ──
 abbrev begun : tie.After-check_ends-named → tie.Start
@@ -57,10 +57,10 @@ ends-judged : (c : tie.After-check_ends-named) (v : Verdict) → c.check_ends-na
 ends-judged c v e = rw e at c.check_ends-named.ensures
 
 abbrev checked : tie.In_default → tie.After-check_ends-named
-checked c = c.before.before
+checked c = c.before
 
 two : (c : tie.In_default) → NoneOf (ends_at (begun (checked c)))
-two c = ends-judged (checked c) Passed c.enum_told-1.given.1
+two c = ends-judged (checked c) Passed c.in_default.is
 
 -- ── 15 did not refuse ──
 abbrev ended : tie.Else-value_outside → tie.In_default
@@ -75,26 +75,26 @@ value-is c = number_of_bits _ (record { sfits = c.struct_told-1.given.1.1.0.1 })
 
 inside : (c : tie.Else-value_outside) → NoneOf (value_checks (base c).args.demand.value)
 unfolding NoneOf value_checks
-inside c = ((λ h. said_no c.before.value_outside.ensures c.if-value_outside.false (rw (value-is c.before.before) h)), tt)
+inside c = ((λ h. said_no c.value_outside.ensures c.if-value_outside.false (rw (value-is c.before.before) h)), tt)
 
 -- ── 16 did not refuse ──
 room_judged : (c : tie.After-check_room-room) (v : Verdict) → c.check_room-room.result ≡ v → Judged (room_at (base c.before)) v
 room_judged c v e = rw e at c.check_room-room.ensures
 
 abbrev asked : tie.In_default-room → tie.Else-value_outside
-asked c = c.before.before.before
+asked c = c.before.before
 
 room : (c : tie.In_default-room) → NoneOf (room_at (base (asked c)))
-room c = room_judged c.before.before Passed c.enum_told-in_default-room-1.given.1
+room c = room_judged c.before Passed c.in_default-room.is
 
 -- ── the needs, in the order of the code ──
 returns : tie.Need-returns-in-Refused
 returns c =
-    let e = c.before.before.before in
-    let a = (begun e).args in
-    let j = ends-judged e (Refused _ _) c.before.named-1.given.1 in (
+    let e = c in
+    let a = (begun e.before).args in
+    let j = ends-judged e.before (Refused _ _) c.in-Refused.is in (
       (
-        solve_ends a.sizes.nodes a.sizes.edges a.demand.source a.demand.sink a.demand.value a.flows-1.now a.set-1.now _ _ j,
+        solve_ends a.sizes.nodes a.sizes.edges a.demand.source a.demand.sink a.demand.value a.flows.now a.set.now _ _ j,
         refl,
         refl,
       ),
@@ -104,12 +104,12 @@ returns c =
 returns-2 : tie.Need-returns-then-value_outside
 unfolding FirstOf value_checks
 returns-2 c =
-    let e = c.before.before.before in
-    let s = begun (checked e) in
+    let e = c in
+    let s = begun (checked e.before.before.before) in
     let a = s.args in
-    let out = rw (value-is c.before.before) at (said_yes c.before.value_outside.ensures c.if-value_outside.true) in
-    let first = solve_value a.sizes.nodes a.sizes.edges a.demand.source a.demand.sink a.demand.value a.flows-1.now a.set-1.now
-    (two e) 15 0 (inl (out, refl, refl)) in
+    let out = rw (value-is c.before.before) at (said_yes c.value_outside.ensures c.if-value_outside.true) in
+    let first = solve_value a.sizes.nodes a.sizes.edges a.demand.source a.demand.sink a.demand.value a.flows.now a.set.now
+    (two e.before.before.before) 15 0 (inl (out, refl, refl)) in
     ((first, refl, refl), tt)
 
 check-room-requires : tie.Need-check_room-room-requires
@@ -117,13 +117,13 @@ check-room-requires c κs = (base c).requires.drawn.few_nodes
 
 returns-3 : tie.Need-returns-in-Refused-room
 returns-3 c =
-    let r = c.before.before.before in
-    let e = r.before in
-    let a = (base e).args in
-    let j = room_judged r (Refused _ _) c.before.room-1.given.1 in (
+    let r = c in
+    let e = r in
+    let a = (base e.before.before).args in
+    let j = room_judged r.before (Refused _ _) c.in-Refused-room.is in (
       (
-        solve_room a.sizes.nodes a.sizes.edges a.demand.source a.demand.sink a.demand.value a.flows-1.now a.set-1.now
-            (two (ended e)) (inside e) _ _ j,
+        solve_room a.sizes.nodes a.sizes.edges a.demand.source a.demand.sink a.demand.value a.flows.now a.set.now
+            (two (ended e.before.before)) (inside e.before.before) _ _ j,
         refl,
         refl,
       ),
@@ -131,7 +131,7 @@ returns-3 c =
     )
 
 -- the flows of the edges are there to be lent
-flows_in : (c : tie.In_default-room) → (base (asked c)).args.sizes.edges ≤ length (base (asked c)).args.flows-1.now
+flows_in : (c : tie.In_default-room) → (base (asked c)).args.sizes.edges ≤ length (base (asked c)).args.flows.now
 flows_in c = (room_flows _ _ _ _ (room c)).0
 
 part-decide-end : tie.Need-slice_bounds-decide-end
@@ -139,14 +139,14 @@ part-decide-end c = flows_in c.before
 
 decide-requires : tie.Need-decide-requires
 decide-requires c κs =
-    let m = c.before.before.before in
-    let e = asked m in
+    let m = c in
+    let e = asked m.before.before.before in
     let s = base e in
     let a = s.args in (
       record {
-        opened = s.pre;
+        opened = s.requires;
         ends = ends_for (mapAt s) a.demand.source a.demand.sink (two (ended e));
-        exact = part_length a.sizes.edges a.flows-1.now (flows_in m);
+        exact = part_length a.sizes.edges a.flows.now (flows_in m.before.before.before);
       },
       value_limited _ (inside e),
       refl,
@@ -162,86 +162,86 @@ start c = base (asked (roomy c))
 
 -- the part lent, as it came back, and the slice with it
 abbrev lent' : tie.After-decide → List ℤ
-lent' c = c.decide.new.1.1.1.1.1.1.1.1.1.1.1.0
+lent' c = c.decide.new.flows
 
 abbrev flows' : tie.After-decide → List ℤ
-flows' c = lent' c ++ drop ((start c).args.sizes.edges - 0) (start c).args.flows-1.now
+flows' c = lent' c ++ drop ((start c).args.sizes.edges - 0) (start c).args.flows.now
 
 abbrev inside' : tie.After-decide → List ℕ
-inside' c = c.decide.new.1.1.1.1.1.1.1.1.1.1.1.1.0
+inside' c = c.decide.new.inside
 
 decided : (c : tie.After-decide) {answer : Bool} → c.decide.result ≡ answer
     → Decided (mapAt (start c)) (start c).args.sizes.outer (capacityAt (start c)) (start c).args.demand.source (start c).args.demand.sink
-    (start c).args.demand.value (start c).args.flows-1.now (flows' c) (inside' c) answer
+    (start c).args.demand.value (start c).args.flows.now (flows' c) (inside' c) answer
 decided c same =
     let s = start c in
     let a = s.args in
-    decided_back (mapAt s) a.sizes.outer (capacityAt s) a.demand.source a.demand.sink a.demand.value a.flows-1.now (lent' c) (inside' c) same
+    decided_back (mapAt s) a.sizes.outer (capacityAt s) a.demand.source a.demand.sink a.demand.value a.flows.now (lent' c) (inside' c) same
     c.decide.ensures.1
 
 none : (c : tie.After-decide) → NoneOf (checksAt (start c))
 none c =
     let e = asked (roomy c) in
     let a = (start c).args in
-    solve_none a.sizes.nodes a.sizes.edges a.demand.source a.demand.sink a.demand.value a.flows-1.now a.set-1.now
+    solve_none a.sizes.nodes a.sizes.edges a.demand.source a.demand.sink a.demand.value a.flows.now a.set.now
     (two (ended e)) (inside e) (room (roomy c))
 
 returns-4 : tie.Need-returns-then-decide
-returns-4 c = let d = c.before.before in ((none d, decided d c.if-decide.true, refl), tt)
+returns-4 c = let d = c in ((none d.before.before, decided d.before.before c.if-decide.true, refl), tt)
 
 -- ── it cannot: the set is written ──
 abbrev decision : tie.After-words_for-words → tie.After-decide
 decision c = c.before.before.before
 
-words_in : (c : tie.After-words_for-words) → words_for (start (decision c)).args.sizes.nodes ≤ length (start (decision c)).args.set-1.now
+words_in : (c : tie.After-words_for-words) → words_for (start (decision c)).args.sizes.nodes ≤ length (start (decision c)).args.set.now
 words_in c = (room_flows _ _ _ _ (room (roomy (decision c)))).1
 
 words-for-requires : tie.Need-words_for-words-requires
 words-for-requires c κs = (start c.before.before).requires.drawn.few_nodes
 
 part-write-set-end : tie.Need-slice_bounds-write_set-end
-part-write-set-end c = let n = c.before in omega (arith, n.words_for-words.ensures, words_in n)
+part-write-set-end c = let n = c in omega (arith, n.words_for-words.ensures, words_in n.before)
 
 write-set-requires : tie.Need-write_set-requires
 write-set-requires c κs =
-    let n = c.before.before in
-    let s = start (decision n) in
-    words_lent s.args.set-1.now n.words_for-words.ensures (words_in n) s.pre.drawn.few_nodes
+    let n = c in
+    let s = start (decision n.before.before) in
+    words_lent s.args.set.now n.words_for-words.ensures (words_in n.before.before) s.requires.drawn.few_nodes
 
 abbrev counted : tie.After-write_set → tie.After-words_for-words
 counted c = c.before.before.before
 
 -- the slice with the words that were lent
 abbrev set' : tie.After-write_set → List ℕ
-set' c = c.write_set.new.1.1.0 ++ drop ((counted c).words-for.result - 0) (start (decision (counted c))).args.set-1.now
+set' c = c.write_set.new.words ++ drop ((counted c).words_for-words.result - 0) (start (decision (counted c))).args.set.now
 
 written : (c : tie.After-write_set)
-    → Written (inside' (decision (counted c))) (start (decision (counted c))).args.sizes.nodes (start (decision (counted c))).args.set-1.now (set' c)
+    → Written (inside' (decision (counted c))) (start (decision (counted c))).args.sizes.nodes (start (decision (counted c))).args.set.now (set' c)
 written c =
     let n = counted c in
-    written_back (start (decision n)).args.set-1.now n.words_for-words.ensures (words_in n) c.write_set.ensures
+    written_back (start (decision n)).args.set.now n.words_for-words.ensures (words_in n) c.write_set.ensures
 
 words-kept : (c : tie.After-write_set) → words_for (start (decision (counted c))).args.sizes.nodes ≤ length (set' c)
 words-kept c = omega (arith, words_in (counted c), (written c).length_kept)
 
 part-count-set-end : tie.Need-slice_bounds-count_set-end
-part-count-set-end c = let w = c.before.before.before in omega (arith, (counted w).words-for.ensures, words-kept w)
+part-count-set-end c = let w = c in omega (arith, (counted w.before.before).words_for-words.ensures, words-kept w.before.before)
 
 count-set-requires : tie.Need-count_set-size-requires
 count-set-requires c κs =
-    let w = c.before.before.before.before in
-    let n = counted w in
-    words_lent (set' w) n.words_for-words.ensures (words-kept w) (start (decision n)).requires.drawn.few_nodes
+    let w = c in
+    let n = counted w.before.before.before in
+    words_lent (set' w.before.before.before) n.words_for-words.ensures (words-kept w.before.before.before) (start (decision n)).requires.drawn.few_nodes
 
 abbrev wrote : tie.After-count_set-size → tie.After-write_set
-wrote c = c.before.before.before.before.before
+wrote c = c.before.before.before.before
 
 -- the number of ones in the words
 size_is : (c : tie.After-count_set-size) → c.count_set-size.result ≡ size (take (words_for (start (decision (counted (wrote c)))).args.sizes.nodes) (set' (wrote c)))
 size_is c =
     let w = wrote c in
     let n = counted w in
-    c.count_set-size.ensures ∙ words_again (start (decision n)).args.set-1.now n.words_for-words.ensures (words_in n) w.write_set.ensures
+    c.count_set-size.ensures ∙ words_again (start (decision n)).args.set.now n.words_for-words.ensures (words_in n) w.write_set.ensures
 
 narrow-requires : tie.Need-narrow-requires
 narrow-requires c κs =
@@ -250,13 +250,13 @@ narrow-requires c κs =
 
 returns-5 : tie.Need-returns
 returns-5 c =
-    let k = c.before in
-    let w = wrote k in
+    let k = c in
+    let w = wrote k.before in
     let n = counted w in
     let d = decision n in
     let s = start d in
     let a = s.args in
-    let left = n.before.if-decide.left in
+    let left = n.if-decide.false in
     let r = decided d left in
     let ends = two (ended (asked (roomy d))) in (
       (
@@ -264,8 +264,8 @@ returns-5 c =
         (
           take (words_for a.sizes.nodes) (set' w),
           set_written (written w),
-          proves_written s.pre.drawn.plane.sound.range (capacityAt s) (written w) a.demand.source a.demand.sink ends a.demand.value r.1,
-          c.narrow.ensures ∙ size_is k,
+          proves_written s.requires.drawn.plane.sound.range (capacityAt s) (written w) a.demand.source a.demand.sink ends a.demand.value r.1,
+          c.narrow.ensures ∙ size_is k.before,
         ),
         r.0,
       ),

@@ -7,16 +7,16 @@ use Rattle.questions.proofs.value_outside.Statement.{statement}
 use Rattle.questions.proofs.value_outside.Tie as tie
 
 returns : tie.Need-returns-then-value-ltminus600000000
-returns c = inl (lt_of_test _ _ (rw (number_of_bits _ c.before.ranges.value) at c.if-value-ltminus600000000.true))
+returns c = inl (lt_of_test _ _ (rw (number_of_bits _ c.ranges.value) at c.if-value-ltminus600000000.true))
 
 returns-2 : tie.Need-returns-then-value-gt600000000
-returns-2 c = inr (lt_of_test _ _ (rw (number_of_bits _ c.before.before.ranges.value) at c.if-value-gt600000000.true))
+returns-2 c = inr (lt_of_test _ _ (rw (number_of_bits _ c.ranges.value) at c.if-value-gt600000000.true))
 
 returns-3 : tie.Need-returns
 returns-3 c =
-    let f = c.before.before.ranges.value in
+    let f = c.ranges.value in
     neither
-    (λ h. lt_le_clash h (ge_of_test _ _ (rw (number_of_bits _ f) at c.before.if-value-ltminus600000000.false)))
+    (λ h. lt_le_clash h (ge_of_test _ _ (rw (number_of_bits _ f) at c.if-value-ltminus600000000.false)))
     (λ h. lt_le_clash h (ge_of_test _ _ (rw (number_of_bits _ f) at c.if-value-gt600000000.false)))
 
 pub value_outside_spec : {M : Type 1} → statement M

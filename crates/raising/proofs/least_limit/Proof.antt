@@ -53,12 +53,12 @@ greatest-is c =
 
 decide-from-requires : tie.Need-decide_from-requires
 decide-from-requires c κs =
-    let s = c.before.before.before in
+    let s = c in
     let a = s.args in
     let p = s.requires.0 in (
       record {
         opened = record {
-          drawn = rw (greatest-is s) (raised_drawn a.edge p.present.high (le_same most_limit) p.lent.opened.drawn);
+          drawn = rw (greatest-is s.before.before) (raised_drawn a.edge p.present.high (le_same most_limit) p.lent.opened.drawn);
           walked = p.lent.opened.walked;
         };
         ends = p.lent.ends;
@@ -70,22 +70,22 @@ decide-from-requires c κs =
     )
 
 abbrev begun : tie.After-flows-1 → tie.Start
-begun c = c.before.before.before.before.before
+begun c = c.before.before.before.before
 
 abbrev between : tie.After-flows-1 → List ℤ
-between c = c.before.decide_from.new.1.1.1.1.1.1.1.1.1.1.1.0
+between c = c.decide_from.new.flows
 
 abbrev first : tie.After-flows-1 → List ℕ
-first c = c.before.decide_from.new.1.1.1.1.1.1.1.1.1.1.1.1.0
+first c = c.decide_from.new.inside
 
-decided : (c : tie.After-flows-1) {r : Bool} → c.before.decide_from.result ≡ r
+decided : (c : tie.After-flows-1) {r : Bool} → c.decide_from.result ≡ r
     → Decided (drawing (begun c)).map (2 * (begun c).args.edge) (raised (drawing (begun c)).capacity (begun c).args.edge most_limit)
-    (begun c).args.demand.source (begun c).args.demand.sink (begun c).args.demand.value (begun c).args.flows-1.now (between c) (first c) r
+    (begun c).args.demand.source (begun c).args.demand.sink (begun c).args.demand.value (begun c).args.flows.now (between c) (first c) r
 decided c e =
     let s = begun c in
     let a = s.args in
-    decided_as (drawing s).map (2 * a.edge) (greatest-is s) a.demand.source a.demand.sink a.demand.value a.flows-1.now (between c) (first c) e
-    c.before.decide_from.ensures.1
+    decided_as (drawing s).map (2 * a.edge) (greatest-is s) a.demand.source a.demand.sink a.demand.value a.flows.now (between c) (first c) e
+    c.decide_from.ensures.1
 
 -- ── it serves: the flow on the edge is above the present capacity, so 32 bits hold it ──
 abbrev start : tie.Then-decide_from → tie.Start
@@ -99,22 +99,22 @@ small c =
     let s = start c in
     let a = s.args in
     let d = decided c.before c.if-decide_from.true in
-    let σ = s.pre.0.lent.opened.drawn.plane.sound in
+    let σ = s.requires.0.lent.opened.drawn.plane.sound in
     record {
       low =
-          le_trans s.pre.0.present.low
-          (le_of_lt (above_present (drawing s) a.demand.source a.demand.sink a.demand.value a.edge a.flows-1.now σ.range
-          s.pre.0.lent.ends σ
-          (omega (arith, s.pre.0.edge_in)) s.pre.1 d.0 d.1));
+          le_trans s.requires.0.present.low
+          (le_of_lt (above_present (drawing s) a.demand.source a.demand.sink a.demand.value a.edge a.flows.now σ.range
+          s.requires.0.lent.ends σ
+          (omega (arith, s.requires.0.edge_in)) s.requires.1 d.0 d.1));
       high =
-          under_most (drawing s) a.demand.source a.demand.sink a.demand.value a.edge a.flows-1.now σ.range s.pre.0.lent.ends σ
-          (omega (arith, s.pre.0.edge_in)) s.pre.1 d.0 d.1;
+          under_most (drawing s) a.demand.source a.demand.sink a.demand.value a.edge a.flows.now σ.range s.requires.0.lent.ends σ
+          (omega (arith, s.requires.0.edge_in)) s.requires.1 d.0 d.1;
     }
 
 mul-limit : tie.Need-offset_bounds-flows-edge
 mul-limit c = omega (arith, dart_in (start c))
 
-sized : (c : tie.Then-decide_from) → length (between c.before) ≡ length (start c).args.flows-1.now
+sized : (c : tie.Then-decide_from) → length (between c.before) ≡ length (start c).args.flows.now
 sized c = filled_length _ _ _ _ (decided c.before c.if-decide_from.true).2 (omega (arith, (start c).requires.0.lent.exact))
 
 slice-copy-out-limit : tie.Need-slice_copy_out-limit
@@ -126,7 +126,7 @@ bits c = to_z w32 (of_z w32 (atℤ (between c.before) (start c).args.edge))
 bits_are : (c : tie.Then-decide_from) → bits c ≡ limit c
 bits_are c =
     ap (λ z. to_z w32 (of_z w32 z))
-    (filled_front (pos 0) (start c).args.sizes.edges (decided c.before c.if-decide_from.true).0 (start c).args.flows-1.now (between c.before)
+    (filled_front (pos 0) (start c).args.sizes.edges (decided c.before c.if-decide_from.true).0 (start c).args.flows.now (between c.before)
     (decided c.before c.if-decide_from.true).2 (start c).args.edge (start c).requires.0.edge_in)
     ∙ same_bits (omega arith) (small c)
 
@@ -135,7 +135,7 @@ mul-limit-2 c = omega (arith, dart_in (start c.before))
 
 element-set-from-limit : tie.Need-bounds-capacities-dart-then-decide_from
 element-set-from-limit c =
-    let s = start c.before in omega (arith, dart_in s, s.pre.0.capacities_long, length-set s.args.capacities.now (2 * s.args.edge) most_limit)
+    let s = start c.before in omega (arith, dart_in s, s.requires.0.capacities_long, length-set s.args.capacities.now (2 * s.args.edge) most_limit)
 
 -- ── it is stored, and its highest flow written ──
 capacities_are : (c : tie.Then-decide_from)
@@ -144,57 +144,57 @@ capacities_are c =
     let s = start c in
     let a = s.args in
     stored a.edge (greatest s) a.capacities.now (stored_elsewhere a.edge a.capacities.now a.capacities.now (λ d n. refl) most_limit) (bits c)
-    (omega (arith, dart_in s, s.pre.0.capacities_long, length-set a.capacities.now (2 * a.edge) most_limit))
+    (omega (arith, dart_in s, s.requires.0.capacities_long, length-set a.capacities.now (2 * a.edge) most_limit))
     ∙ ap (raised (atℤ a.capacities.now) a.edge) (bits_are c)
 
 decide-from-requires-2 : tie.Need-decide_from-requires-then-decide_from
 decide-from-requires-2 c κs =
-    let t = c.before.before.before.before in
-    let s = start t in
+    let t = c in
+    let s = start t.before.before.before in
     let a = s.args in
-    let p = s.pre.0 in
-    let d = decided t.before t.if-decide_from.true in
+    let p = s.requires.0 in
+    let d = decided t.before.before.before.before t.if-decide_from.true in
     let σ = p.lent.opened.drawn.plane.sound in (
       record {
         opened = record {
-          drawn = rw (capacities_are t)
+          drawn = rw (capacities_are t.before.before.before)
               (raised_drawn a.edge
-              (le_of_lt (above_present (drawing s) a.demand.source a.demand.sink a.demand.value a.edge a.flows-1.now σ.range
+              (le_of_lt (above_present (drawing s) a.demand.source a.demand.sink a.demand.value a.edge a.flows.now σ.range
               p.lent.ends σ
-              (omega (arith, p.edge_in)) s.pre.1 d.0 d.1)) (small t).high p.lent.opened.drawn);
+              (omega (arith, p.edge_in)) s.requires.1 d.0 d.1)) (small t.before.before.before).high p.lent.opened.drawn);
           walked = p.lent.opened.walked;
         };
         ends = p.lent.ends;
-        exact = sized t ∙ p.lent.exact;
+        exact = sized t.before.before.before ∙ p.lent.exact;
       },
       p.limited,
       p.lent.opened.drawn.outer_in,
-      t.before.before.decide_from.ensures.0,
+      t.decide_from.ensures.0,
     )
 
 returns : tie.Need-returns-then-decide_from
 returns c =
-    let e = c.before in
-    let t = e.before.before.before.before.before in
-    let s = start t in
+    let e = c in
+    let t = e in
+    let s = start t.before.before.before.before.before in
     let a = s.args in
-    let p = s.pre.0 in
-    let d = decided t.before t.if-decide_from.true in
+    let p = s.requires.0 in
+    let d = decided t.before.before.before.before.before.before t.if-decide_from.true in
     let σ = p.lent.opened.drawn.plane.sound in
-    let flows' = e.decide_from-then-decide_from.new.1.1.1.1.1.1.1.1.1.1.1.0 in
-    let inside' = e.decide_from-then-decide_from.new.1.1.1.1.1.1.1.1.1.1.1.1.0 in (
+    let flows' = e.decide_from-then-decide_from.new.flows in
+    let inside' = e.decide_from-then-decide_from.new.inside in (
       e.decide_from-then-decide_from.ensures.0,
-      sought_as (drawing s) a.demand.source a.demand.sink a.demand.value a.edge {old = a.flows-1.now} refl flows' inside'
-          {r = At (limit t)} (ap At (sym (bits_are t)))
-          (least_serves (drawing s) a.demand.source a.demand.sink a.demand.value a.edge a.flows-1.now σ.range p.lent.ends σ
-          (omega (arith, p.edge_in)) s.pre.1 d.0 d.1 (between t.before) flows' inside' e.decide_from-then-decide_from.result d.2
-          (decided_as (drawing s).map a.sizes.outer (capacities_are t) a.demand.source a.demand.sink a.demand.value (between t.before)
+      sought_as (drawing s) a.demand.source a.demand.sink a.demand.value a.edge {old = a.flows.now} refl flows' inside'
+          {r = At (limit t.before.before.before.before.before)} (ap At (sym (bits_are t.before.before.before.before.before)))
+          (least_serves (drawing s) a.demand.source a.demand.sink a.demand.value a.edge a.flows.now σ.range p.lent.ends σ
+          (omega (arith, p.edge_in)) s.requires.1 d.0 d.1 (between t.before.before.before.before.before.before) flows' inside' e.decide_from-then-decide_from.result d.2
+          (decided_as (drawing s).map a.sizes.outer (capacities_are t.before.before.before.before.before) a.demand.source a.demand.sink a.demand.value (between t.before.before.before.before.before.before)
           flows' inside' {r = e.decide_from-then-decide_from.result} refl e.decide_from-then-decide_from.ensures.1)),
     )
 
 -- ── none does ──
 returns-2 : tie.Need-returns
-returns-2 c = let f = c.before in (f.before.decide_from.ensures.0, decided f c.if-decide_from.false)
+returns-2 c = let f = c in (f.decide_from.ensures.0, decided f.before c.if-decide_from.false)
 
 pub least_limit_spec : {M : Type 1} → statement M
 least_limit_spec =

@@ -16,10 +16,10 @@ exact : (c : tie.After-add32-sum) → c.add32-sum.result ≡ (begun c).args.x +�
 exact c = let f = (begun c).ranges in rw (number_of_bits _ f.x, number_of_bits _ f.y) at c.add32-sum.ensures
 
 returns : tie.Need-returns-then-sum-lt0
-returns c = let s = c.before in lt_of_test _ _ (rw (to_z-of_z _ _ (record { sfits = s.add32-sum.type_inv }), exact s) at c.if-sum-lt0.true)
+returns c = let s = c in lt_of_test _ _ (rw (to_z-of_z _ _ (record { sfits = s.add32-sum.type_inv }), exact s.before) at c.if-sum-lt0.true)
 
 returns-2 : tie.Need-returns
-returns-2 c = let s = c.before in λ h. lt_le_clash h (ge_of_test _ _ (rw (to_z-of_z _ _ (record { sfits = s.add32-sum.type_inv }), exact s) at c.if-sum-lt0.false))
+returns-2 c = let s = c in λ h. lt_le_clash h (ge_of_test _ _ (rw (to_z-of_z _ _ (record { sfits = s.add32-sum.type_inv }), exact s.before) at c.if-sum-lt0.false))
 
 pub below_zero_spec : {M : Type 1} → statement M
 below_zero_spec = tie.close (tie.spec (λ c κs. search rules) returns returns-2)

@@ -24,12 +24,12 @@ second c = rw (number_of_bits _ (begun (tested c)).ranges.y) at c.capacity_outsi
 
 -- ── the needs, in the order of the code ──
 returns : tie.Need-returns-then-capacity_outside
-returns c = let t = c.before in inl (said_yes {b = t.capacity_outside.result} (first t) c.if-capacity_outside.true)
+returns c = let t = c in inl (said_yes {b = t.capacity_outside.result} (first t.before) c.if-capacity_outside.true)
 
 returns-2 : tie.Need-returns
 returns-2 c =
     let t = tested c in
-    second_decides _ c.capacity_outside-2.result (said_no {b = t.capacity_outside.result} (first t) c.before.if-capacity_outside.false) (second c)
+    second_decides _ c.capacity_outside-2.result (said_no {b = t.capacity_outside.result} (first t) c.if-capacity_outside.false) (second c)
 
 pub capacities_outside_spec : {M : Type 1} → statement M
 capacities_outside_spec = tie.close (tie.spec (λ c κs. search rules) returns (λ c κs. search rules) returns-2)

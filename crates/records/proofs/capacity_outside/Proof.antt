@@ -7,16 +7,16 @@ use Rattle.records.proofs.capacity_outside.Statement.{statement}
 use Rattle.records.proofs.capacity_outside.Tie as tie
 
 returns : tie.Need-returns-then-c-ltminus1000000
-returns c = inl (lt_of_test _ _ (rw (number_of_bits _ c.before.ranges.c) at c.if-c-ltminus1000000.true))
+returns c = inl (lt_of_test _ _ (rw (number_of_bits _ c.ranges.c) at c.if-c-ltminus1000000.true))
 
 returns-2 : tie.Need-returns-then-c-gt1000000
-returns-2 c = inr (lt_of_test _ _ (rw (number_of_bits _ c.before.before.ranges.c) at c.if-c-gt1000000.true))
+returns-2 c = inr (lt_of_test _ _ (rw (number_of_bits _ c.ranges.c) at c.if-c-gt1000000.true))
 
 returns-3 : tie.Need-returns
 returns-3 c =
-    let f = c.before.before.ranges.c in
+    let f = c.ranges.c in
     neither
-    (λ h. lt_le_clash h (ge_of_test _ _ (rw (number_of_bits _ f) at c.before.if-c-ltminus1000000.false)))
+    (λ h. lt_le_clash h (ge_of_test _ _ (rw (number_of_bits _ f) at c.if-c-ltminus1000000.false)))
     (λ h. lt_le_clash h (ge_of_test _ _ (rw (number_of_bits _ f) at c.if-c-gt1000000.false)))
 
 pub capacity_outside_spec : {M : Type 1} → statement M

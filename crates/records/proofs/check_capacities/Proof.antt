@@ -46,16 +46,16 @@ returns c =
 returns-2 : tie.Need-returns-then-negative
 unfolding FirstOf
 returns-2 c =
-    let e = c.before in
-    let z = tested e in
-    inr (in-range e, inl (said_yes {b = z.below_zero-negative.result} (sum-decided z) c.if-negative.true, refl, refl))
+    let e = c in
+    let z = tested e.before in
+    inr (in-range e.before, inl (said_yes {b = z.below_zero-negative.result} (sum-decided z) c.if-negative.true, refl, refl))
 
 returns-3 : tie.Need-returns
 unfolding NoneOf
 returns-3 c =
-    let e = c.before in
-    let z = tested e in
-    (in-range e, (said_no {b = z.below_zero-negative.result} (sum-decided z) c.if-negative.false, tt))
+    let e = c in
+    let z = tested e.before in
+    (in-range e.before, (said_no {b = z.below_zero-negative.result} (sum-decided z) c.if-negative.false, tt))
 
 pub check_capacities_spec : {M : Type 1} → statement M
 check_capacities_spec = tie.close (tie.spec (λ c κs. search rules) (λ c κs. search rules) returns returns-2 returns-3)

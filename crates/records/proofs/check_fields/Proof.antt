@@ -16,32 +16,32 @@ abbrev start : tie.Else-names_none → tie.Start
 start c = c.before.before
 
 ends : (c : tie.Else-names_none) → ((start c).args.nodes ≤ (start c).args.tail) ⊎ ((start c).args.nodes ≤ (start c).args.head) → ⊥
-ends c = said_no c.before.names_none.ensures c.if-names_none.false
+ends c = said_no c.names_none.ensures c.if-names_none.false
 
 -- ── 5 did not refuse ──
 abbrev ended : tie.Else-names_none-2 → tie.Else-names_none
 ended c = c.before.before
 
 rotations : (c : tie.Else-names_none-2)
-    → (2 * (start (ended c)).args.edges ≤ (start (ended c)).args.rotation) ⊎ (2 * (start (ended c)).args.edges ≤ (start (ended c)).args.back-rotation) → ⊥
-rotations c = said_no c.before.names_none-2.ensures c.if-names_none-2.false
+    → (2 * (start (ended c)).args.edges ≤ (start (ended c)).args.rotation) ⊎ (2 * (start (ended c)).args.edges ≤ (start (ended c)).args.back_rotation) → ⊥
+rotations c = said_no c.names_none-2.ensures c.if-names_none-2.false
 
 -- ── the needs, in the order of the code ──
 returns : tie.Need-returns-then-names_none
 unfolding FirstOf field_checks
-returns c = inl (said_yes c.before.names_none.ensures c.if-names_none.true, refl, refl)
+returns c = inl (said_yes c.names_none.ensures c.if-names_none.true, refl, refl)
 
 returns-2 : tie.Need-returns-then-names_none-2
 unfolding FirstOf field_checks
-returns-2 c = inr (ends c.before.before, inl (said_yes c.before.names_none-2.ensures c.if-names_none-2.true, refl, refl))
+returns-2 c = inr (ends c.before.before, inl (said_yes c.names_none-2.ensures c.if-names_none-2.true, refl, refl))
 
 -- ── 6 and 7 decide ──
 returns-3 : tie.Need-returns
 unfolding FirstOf NoneOf field_checks
 returns-3 c =
-    let e = c.before in
-    let f = (start (ended e)).ranges in
-    judged_right ((4 when _) ∷ (5 when _) ∷ []) (capacity_checks _ _) c.check_capacities.result (ends (ended e), (rotations e, tt))
+    let e = c in
+    let f = (start (ended e.before)).ranges in
+    judged_right ((4 when _) ∷ (5 when _) ∷ []) (capacity_checks _ _) c.check_capacities.result (ends (ended e.before), (rotations e.before, tt))
     (rw (number_of_bits _ f.forward, number_of_bits _ f.backward) at c.check_capacities.ensures)
 
 pub check_fields_spec : {M : Type 1} → statement M

@@ -15,20 +15,20 @@ returns c = inl (omega arith, refl, refl)
 
 returns-2 : tie.Need-returns-then-no_head
 unfolding FirstOf head_record_checks
-returns-2 c = inr (λ h. omega arith, inl (said_yes c.before.no_head.ensures c.if-no_head.true, refl, refl))
+returns-2 c = inr (λ h. omega arith, inl (said_yes c.no_head.ensures c.if-no_head.true, refl, refl))
 
 returns-3 : tie.Need-returns-then-s-head_length
 unfolding FirstOf head_record_checks
 returns-3 c =
-    let kind = c.before.before in
-    let long = c.before.head_length.ensures.0 in
-    inr (λ h. omega arith, inr (said_no kind.before.no_head.ensures kind.if-no_head.false, inl (omega (arith, long), refl, refl)))
+    let kind = c in
+    let long = c.head_length.ensures.0 in
+    inr (λ h. omega arith, inr (said_no kind.no_head.ensures kind.if-no_head.false, inl (omega (arith, long), refl, refl)))
 
 returns-4 : tie.Need-returns
 unfolding NoneOf head_record_checks
 returns-4 c =
-    let kind = c.before.before in
-    (λ h. omega arith, (said_no kind.before.no_head.ensures kind.if-no_head.false, (λ h. omega (arith, c.before.head_length.ensures.0), tt)))
+    let kind = c in
+    (λ h. omega arith, (said_no kind.no_head.ensures kind.if-no_head.false, (λ h. omega (arith, c.head_length.ensures.0), tt)))
 
 pub check_head_record_spec : {M : Type 1} → statement M
 check_head_record_spec =

@@ -12,11 +12,11 @@ use Rattle.records.proofs.check_numbers.Tie as tie
 
 returns : tie.Need-returns-then-outside
 unfolding FirstOf number_checks
-returns c = inl (inl (said_yes c.before.outside.ensures c.if-outside.true), refl, refl)
+returns c = inl (inl (said_yes c.outside.ensures c.if-outside.true), refl, refl)
 
 returns-2 : tie.Need-returns-then-outside-2
 unfolding FirstOf number_checks
-returns-2 c = inl (inr (said_yes c.before.outside-2.ensures c.if-outside-2.true), refl, refl)
+returns-2 c = inl (inr (said_yes c.outside-2.ensures c.if-outside-2.true), refl, refl)
 
 -- ── both counts are in range ──
 abbrev start : tie.Else-outside-2 → tie.Start
@@ -24,8 +24,8 @@ start c = c.before.before.before.before
 
 in-range : (c : tie.Else-outside-2) → Outside 2 513 (start c).args.nodes ⊎ Outside 1 512 (start c).args.edges → ⊥
 in-range c =
-    let nodes = c.before.before in
-    neither (said_no nodes.before.outside.ensures nodes.if-outside.false) (said_no c.before.outside-2.ensures c.if-outside-2.false)
+    let nodes = c in
+    neither (said_no nodes.outside.ensures nodes.if-outside.false) (said_no c.outside-2.ensures c.if-outside-2.false)
 
 mul-if3 : tie.Need-overflow_mul-edges
 mul-if3 c = omega (arith, not_right (not_right (in-range c)))

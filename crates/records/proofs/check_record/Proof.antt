@@ -10,18 +10,18 @@ use Rattle.records.proofs.check_record.Tie as tie
 
 -- ── the record is whole ──
 shared-slice-read-if2 : tie.Need-bounds-s-at
-shared-slice-read-if2 c = omega (arith, c.before.before.record_length.ensures)
+shared-slice-read-if2 c = omega (arith, c.record_length.ensures)
 
 returns : tie.Need-returns-then-s-at
 unfolding NoneOf record_checks
 returns c =
-    let r = c.before.before.before.record_length.ensures in
+    let r = c.record_length.ensures in
     (λ h. omega (arith, r), (λ h. h c.if-s-at.true, (λ h. omega (arith, r), tt)))
 
 returns-2 : tie.Need-returns-then-end-s
 unfolding FirstOf record_checks
 returns-2 c =
-    let r = c.before.before.before.record_length.ensures in
+    let r = c.record_length.ensures in
     inr (λ h. omega (arith, r), inl (c.if-s-at.false, refl, refl))
 
 -- ── it is cut short ──
@@ -35,7 +35,7 @@ returns-4 c = inr (λ h. omega arith, inl (c.if-s-at-3.true, refl, refl))
 
 returns-5 : tie.Need-returns
 unfolding FirstOf record_checks
-returns-5 c = inr (λ h. omega arith, inr (λ h. h c.if-s-at-3.false, inl (omega (arith, c.before.before.before.before.record_length.ensures), refl, refl)))
+returns-5 c = inr (λ h. omega arith, inr (λ h. h c.if-s-at-3.false, inl (omega (arith, c.record_length.ensures), refl, refl)))
 
 pub check_record_spec : {M : Type 1} → statement M
 check_record_spec =

@@ -10,10 +10,10 @@ mul-result : tie.Need-overflow_mul-result
 mul-result c = rw c.record_length.ensures.0 (omega arith)
 
 add-result : tie.Need-overflow_add-result
-add-result c = rw c.record_length.ensures.0 (omega (arith, c.before.requires.0))
+add-result c = rw c.record_length.ensures.0 (omega (arith, c.requires.0))
 
 returns : tie.Need-returns
-returns c = let a = c.before.args in ap (λ n. a.head + n * a.e) c.record_length.ensures.0
+returns c = let a = c.args in ap (λ n. a.head + n * a.e) c.record_length.ensures.0
 
 pub edge_at_spec : {M : Type 1} → statement M
 edge_at_spec = tie.close (tie.spec (λ c κs. search rules) mul-result add-result returns)

@@ -9,7 +9,7 @@ returns-2 : tie.Need-returns-then-kind-eq4
 returns-2 c = λ h. h.1 c.if-kind-eq4.true
 
 returns-3 : tie.Need-returns
-returns-3 c = (c.before.if-kind-eq1.false, c.if-kind-eq4.false)
+returns-3 c = (c.if-kind-eq1.false, c.if-kind-eq4.false)
 
 pub no_head_spec : {M : Type 1} → statement M
 no_head_spec = tie.close (tie.spec returns returns-2 returns-3)

@@ -10,15 +10,15 @@ use Rattle.records.proofs.read_head.Statement.{statement}
 use Rattle.records.proofs.read_head.Tie as tie
 
 -- ── the head is whole, and of one of the two kinds ──
-whole : (c : tie.In_default) → NoneOf (head_record_checks c.before.before.before.before.args.s.now)
-whole c = rw c.enum_told-1.given.1 at c.before.before.check_head_record-whole.ensures
+whole : (c : tie.In_default) → NoneOf (head_record_checks c.args.s.now)
+whole c = rw c.in_default.is at c.check_head_record-whole.ensures
 
 -- ── the needs, in the order of the code ──
 returns : tie.Need-returns-in-Refused
 unfolding head_checks
 returns c =
     rw c.refused_head.ensures
-    (first_left _ _ _ _ (rw c.before.before.whole-1.given.1 at c.before.before.before.before.check_head_record-whole.ensures))
+    (first_left _ _ _ _ (rw c.in-Refused.is at c.check_head_record-whole.ensures))
 
 head-length-requires : tie.Need-head_length-length-requires
 head-length-requires c κs = omega (arith, head_counted _ (whole c))
@@ -35,12 +35,12 @@ outer-of-requires c κs = head_body _ (whole c.before.before.before)
 returns-2 : tie.Need-returns
 unfolding head_checks
 returns-2 c =
-    let outer = c.before in
-    let edges = outer.before in
-    let nodes = edges.before in
-    let length = nodes.before in
+    let outer = c in
+    let edges = outer in
+    let nodes = edges in
+    let length = nodes in
     head_told _ _ c.check_numbers-verdict.result
-    (judged_right _ _ c.check_numbers-verdict.result (whole length.before)
+    (judged_right _ _ c.check_numbers-verdict.result (whole length.before.before.before.before.before)
     (rw (nodes.read_wide-nodes.ensures, edges.read_wide-edges.ensures, outer.outer_of-outer.ensures) at c.check_numbers-verdict.ensures))
     (record {
       length_is = length.head_length-length.ensures.0;

@@ -17,7 +17,7 @@ mapAt c = map_of c.args.nodes c.args.edges c.args.tails.now c.args.rotations.now
 
 number-faces-requires : tie.Need-number_faces-faces-requires
 number-faces-requires c κs =
-    let p = c.before.before.before.requires in
+    let p = c.requires in
     (p.0, p.2, p.3, p.4, step_permutes p.5)
 
 -- ── the faces are numbered ──
@@ -38,26 +38,26 @@ add-if1-2 c = let p = (begun c).requires in omega (arith, p.0, p.6)
 
 returns : tie.Need-returns-then-nodes-faces
 returns c =
-    let n = c.before.before in
-    let s = begun n in
-    let σ = s.pre.5 in
+    let n = c in
+    let s = begun n.before.before in
+    let σ = s.requires.5 in
     let e = n.number_faces-faces.ensures in
-    let far = refused_12 (mapAt s) (no_rotation_fault σ) (no_node_fault σ) σ s.pre.7.1 (counted n) c.before.if-nodes-faces.true in
+    let far = refused_12 (mapAt s) (no_rotation_fault σ) (no_node_fault σ) σ s.requires.7.1 (counted n.before.before) c.if-nodes-faces.true in
     (e.0, e.1, e.2, rw c.refused.ensures far, rw c.refused.ensures tt)
 
 returns-2 : tie.Need-returns
 returns-2 c =
-    let n = c.before in
-    let s = begun n in
-    let σ = s.pre.5 in
+    let n = c in
+    let s = begun n.before in
+    let σ = s.requires.5 in
     let e = n.number_faces-faces.ensures in (
       e.0,
       e.1,
       e.2,
       (
-        none_refused (mapAt s) (no_rotation_fault σ) (no_node_fault σ) σ s.pre.7.1 (counted n) c.if-nodes-faces.false,
+        none_refused (mapAt s) (no_rotation_fault σ) (no_node_fault σ) σ s.requires.7.1 (counted n.before) c.if-nodes-faces.false,
         lefts_are (mapAt s) e.4,
-        counted n,
+        counted n.before,
       ),
       (refl, e.5, e.6),
     )

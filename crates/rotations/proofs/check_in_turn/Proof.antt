@@ -20,9 +20,9 @@ rotation-fault-requires c κs = (c.requires.0, c.requires.8.rotation_in)
 
 returns : tie.Need-returns-then-rotation_fault
 returns c =
-    let s = c.before.before.before in
+    let s = c in
     let p = s.requires in
-    let nine = refused_9 (mapAt s) (said_yes c.before.before.rotation_fault.ensures c.before.if-rotation_fault.true) in
+    let nine = refused_9 (mapAt s.before.before.before) (said_yes c.rotation_fault.ensures c.if-rotation_fault.true) in
     (p.3, p.4, p.5, p.6, p.7, rw c.refused.ensures nine, rw c.refused.ensures tt)
 
 -- ── 9 was passed ──
@@ -30,21 +30,21 @@ abbrev begun : tie.Else-rotation_fault → tie.Start
 begun c = c.before.before
 
 not-9 : (c : tie.Else-rotation_fault) → RotationFault (mapAt (begun c)) → ⊥
-not-9 c = said_no c.before.rotation_fault.ensures c.if-rotation_fault.false
+not-9 c = said_no c.rotation_fault.ensures c.if-rotation_fault.false
 
 node-fault-requires : tie.Need-node_fault-requires
 node-fault-requires c κs =
-    let e = c.before.before in
-    let p = (begun e).requires in
-    (p.0, p.1, p.8, not-9 e, p.6)
+    let e = c in
+    let p = (begun e.before.before).requires in
+    (p.0, p.1, p.8, not-9 e.before.before, p.6)
 
 returns-2 : tie.Need-returns-then-node_fault
 returns-2 c =
-    let f = c.before.before in
-    let e = f.before.before.before in
-    let p = (begun e).requires in
+    let f = c in
+    let e = f in
+    let p = (begun e.before.before.before.before.before).requires in
     let n = f.node_fault.ensures in
-    let ten = refused_10 (mapAt (begun e)) (not-9 e) (said_yes n.0 c.before.if-node_fault.true) in
+    let ten = refused_10 (mapAt (begun e.before.before.before.before.before)) (not-9 e.before.before.before.before.before) (said_yes n.0 c.if-node_fault.true) in
     (p.3, p.4, p.5, n.1, n.2, rw c.refused-then-node_fault.ensures ten, rw c.refused-then-node_fault.ensures tt)
 
 -- ── 10 was passed ──
@@ -52,7 +52,7 @@ abbrev turned : tie.Else-node_fault → tie.Else-rotation_fault
 turned c = c.before.before.before.before
 
 not-10 : (c : tie.Else-node_fault) → NodeFault (mapAt (begun (turned c))) → ⊥
-not-10 c = said_no c.before.node_fault.ensures.0 c.if-node_fault.false
+not-10 c = said_no c.node_fault.ensures.0 c.if-node_fault.false
 
 sound : (c : tie.Else-node_fault) → Sound (mapAt (begun (turned c)))
 sound c = sound_of_checks (begun (turned c)).requires.8 (not-9 (turned c)) (not-10 c)
@@ -77,7 +77,7 @@ check-flat-requires c κs =
     let w = walked c in
     let e = passed w in
     let p = (begun (turned e)).requires in
-    let n = e.before.node_fault.ensures in
+    let n = e.node_fault.ensures in
     let 𝓕 = w.spread_all-parts.ensures.2 in
     (p.0, p.1, p.3, n.1, n.2, sound e, trees_few 𝓕, (tree_of (sound e) 𝓕, trees_components (sound e) 𝓕))
 

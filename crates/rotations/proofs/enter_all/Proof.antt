@@ -28,55 +28,55 @@ abbrev Keyed : Type 0
 Keyed = tie.After-wide-k invariant-loop decreases-loop
 
 abbrev turn : Keyed → tie.At-loop-d invariant-loop decreases-loop
-turn c = c.before.before.before
+turn c = c.before.before.before.before
 
 abbrev begun : Keyed → tie.Start invariant-loop decreases-loop
 begun c = (turn c).before
 
-place_in : (c : Keyed) → (turn c).loop.d < (begun c).args.n
+place_in : (c : Keyed) → (turn c).loop-d.d < (begun c).args.n
 place_in c = omega arith
 
 key_below : (c : Keyed) → c.wide-k.result < 1024
-key_below c = omega (arith, (begun c).requires.3 (turn c).loop.d (place_in c), c.wide-k.ensures)
+key_below c = omega (arith, (begun c).requires.3 (turn c).loop-d.d (place_in c), c.wide-k.ensures)
 
 abbrev Valued : Type 0
 Valued = tie.After-wide-entry invariant-loop decreases-loop
 
 abbrev keyed : Valued → Keyed
-keyed c = c.before.before
+keyed c = c.before.before.before
 
 value-below : (c : Valued) → c.wide-entry.result < 1024
-value-below c = let k = keyed c in omega (arith, (begun k).pre.4 (turn k).loop.d (place_in k), c.wide-entry.ensures)
+value-below c = let k = keyed c in omega (arith, (begun k).requires.4 (turn k).loop-d.d (place_in k), c.wide-entry.ensures)
 
 -- the entry is one more than the place's value
-entry-is : (c : Valued) → let k = keyed c in c.wide-entry.result + 1 ≡ at (begun k).args.values.now (turn k).loop.d + 1
+entry-is : (c : Valued) → let k = keyed c in c.wide-entry.result + 1 ≡ at (begun k).args.values.now (turn k).loop-d.d + 1
 entry-is c = ap (λ x. x + 1) c.wide-entry.ensures
 
 abbrev Looked : Type 0
 Looked = tie.After-wide-old invariant-loop decreases-loop
 
 abbrev valued : Looked → Valued
-valued c = c.before.before
+valued c = c.before.before.before
 
 abbrev place : Looked → Keyed
 place c = keyed (valued c)
 
 -- the old entry is that of the place's key
-old-is : (c : Looked) → let k = place c in c.wide-old.result ≡ at (turn k).loop.table (at (begun k).args.keys.now (turn k).loop.d)
-old-is c = c.wide-old.ensures ∙ ap (at (turn (place c)).loop.table) (place c).wide.ensures
+old-is : (c : Looked) → let k = place c in c.wide-old.result ≡ at (turn k).loop-d.table (at (begun k).args.keys.now (turn k).loop-d.d)
+old-is c = c.wide-old.ensures ∙ ap (at (turn (place c)).loop-d.table) (place c).wide-k.ensures
 
 -- ── the needs, in the order of the code ──
 mul_wide : tie.Need-offset_bounds-keys-d invariant-loop decreases-loop
 mul_wide c = omega (arith, few c.before.before)
 
 element-copy-out-wide : tie.Need-bounds-keys-d invariant-loop decreases-loop
-element-copy-out-wide c = omega (arith, few c.before.before)
+element-copy-out-wide c = omega (arith, few c.before.before.before)
 
 mul-wide-2 : tie.Need-offset_bounds-values-d invariant-loop decreases-loop
 mul-wide-2 c = omega (arith, few (begun c), place_in c)
 
 element-copy-out-wide-2 : tie.Need-bounds-values-d invariant-loop decreases-loop
-element-copy-out-wide-2 c = omega (arith, few (begun c), place_in c)
+element-copy-out-wide-2 c = omega (arith, few (begun c.before), place_in c.before)
 
 add-entry : tie.Need-overflow_add-entry invariant-loop decreases-loop
 add-entry c = omega (arith, value-below c)
@@ -85,7 +85,7 @@ mul-wide-3 : tie.Need-offset_bounds-table-k invariant-loop decreases-loop
 mul-wide-3 c = omega (arith, key_below (keyed c))
 
 element-copy-out-wide-3 : tie.Need-bounds-table-k invariant-loop decreases-loop
-element-copy-out-wide-3 c = omega (arith, key_below (keyed c))
+element-copy-out-wide-3 c = omega (arith, key_below (keyed c.before))
 
 -- the key had no entry
 narrow-requires : tie.Need-narrow-requires invariant-loop decreases-loop
@@ -100,9 +100,9 @@ element-write-table c = omega (arith, key_below (place c.before.before))
 -- it had another
 returns : tie.Need-returns-then-old-entry invariant-loop decreases-loop
 returns c =
-    let k = c.before.before in
-    let i = (turn (place k)).loop.inv in
-    (i.1, clash i.2 (place_in (place k)) (λ e. c.before.if-old-eq0.false (old-is k ∙ e)) (λ e. c.if-old-entry.true (old-is k ∙ e ∙ sym (entry-is (valued k)))))
+    let k = c in
+    let i = (turn (place k.before.before)).loop-d.invariant in
+    (i.1, clash i.2 (place_in (place k.before.before)) (λ e. c.if-old-eq0.false (old-is k.before.before ∙ e)) (λ e. c.if-old-entry.true (old-is k.before.before ∙ e ∙ sym (entry-is (valued k.before.before)))))
 
 -- ── the place is entered ──
 add-d : tie.Need-overflow_add-d invariant-loop decreases-loop
@@ -113,24 +113,24 @@ loop-less c = omega (arith, place_in (place c.before))
 
 loop-again : tie.Need-loop-d-preserved invariant-loop decreases-loop
 loop-again c =
-    let k = c.before in
-    let o = (turn (place k)).loop in
-    let key = (place k).wide in
-    let entry = entry-is (valued k) in
-    let l : key.result < length o.table = omega (arith, key_below (place k), o.inv.1) in
+    let k = c in
+    let o = (turn (place k.before)).loop-d in
+    let key = (place k.before).wide-k in
+    let entry = entry-is (valued k.before) in
+    let l : key.result < length o.table = omega (arith, key_below (place k.before), o.invariant.1) in
     ⊎_elim
-    (λ w. rw w.2 (
+    (λ w. rw w.table-is (
       omega arith,
-      length-set o.table key.result w.1.result ∙ o.inv.1,
-      register_new o.table key.result w.1.result o.inv.2 l key.ensures (w.1.ensures ∙ entry) (sym k.wide-old.ensures ∙ w.0.taken),
+      length-set o.table key.result w.narrow.result ∙ o.invariant.1,
+      register_new o.table key.result w.narrow.result o.invariant.2 l key.ensures (w.narrow.ensures ∙ entry) (sym k.wide-old.ensures ∙ w.if-old-eq0.true),
     ))
-    (λ w. rw w.2 (omega arith, o.inv.1, register_same o.inv.2 (sym (old-is k) ∙ w.1.left ∙ entry)))
-    c.if-old-eq0.branch
+    (λ w. rw w.table-is (omega arith, o.invariant.1, register_same o.invariant.2 (sym (old-is k.before) ∙ w.if-old-entry.false ∙ entry)))
+    c.if-old-eq0.branch-raw
 
 returns-2 : tie.Need-returns invariant-loop decreases-loop
 returns-2 c =
-    let o = c.before.loop-d in
-    let e : o.d ≡ c.before.before.args.n = omega arith in
+    let o = c.loop-d in
+    let e : o.d ≡ c.args.n = omega arith in
     (o.invariant.1, rw e at o.invariant.2)
 
 pub enter_all_spec : {M : Type 1} → statement M

@@ -23,40 +23,40 @@ loop-holds : tie.Need-loop-x-init invariant-loop decreases-loop
 loop-holds c = (c.requires.0, c.requires.1, (0, set_off _ _ _ _))
 
 -- ── in the loop ──
-below : (l : tie.At-loop-x invariant-loop decreases-loop) → l.loop-x.x < l.before.args.n
+below : (l : tie.At-loop-x invariant-loop decreases-loop) → l.loop-x.x < l.args.n
 below l = let i = l.loop-x.invariant in still_in i.1 i.2.1
 
 mul-label : tie.Need-offset_bounds-label-x invariant-loop decreases-loop
 mul-label c = omega (arith, below c, c.loop-x.invariant.1.few)
 
 element-write-label : tie.Need-bounds-label-x invariant-loop decreases-loop
-element-write-label c = omega (arith, below c, c.loop-x.invariant.1.few)
+element-write-label c = omega (arith, below c.before, c.loop-x.invariant.1.few)
 
 mul_wide : tie.Need-offset_bounds-next-x invariant-loop decreases-loop
-mul_wide c = omega (arith, below c, c.loop-x.invariant.1.few)
+mul_wide c = omega (arith, below c.before, c.loop-x.invariant.1.few)
 
 element-copy-out-wide : tie.Need-bounds-next-x invariant-loop decreases-loop
-element-copy-out-wide c = omega (arith, below c, c.loop-x.invariant.1.few)
+element-copy-out-wide c = omega (arith, below c.before.before, c.loop-x.invariant.1.few)
 
 -- ── the place is marked, and the walk has stepped on ──
 abbrev over : tie.After-wide-x invariant-loop decreases-loop → tie.At-loop-x invariant-loop decreases-loop
-over c = c.before.before
+over c = c.before.before.before.before
 
-long : (c : tie.After-wide-x invariant-loop decreases-loop) → length (set (over c).loop.label (over c).loop.x (over c).before.args.number) ≡ 1024
-long c = let o = (over c).loop in length-set o.label o.x (over c).before.args.number ∙ o.inv.0
+long : (c : tie.After-wide-x invariant-loop decreases-loop) → length (set (over c).loop-x.label (over c).loop-x.x (over c).args.number) ≡ 1024
+long c = let o = (over c).loop-x in length-set o.label o.x (over c).args.number ∙ o.invariant.0
 
 loop-less : tie.Need-loop-x-smaller invariant-loop decreases-loop
-loop-less c = let o = (over c.before).loop in let i = o.inv in omega (arith, fewer o.label i.0 i.1 i.2.1)
+loop-less c = let o = (over c.before).loop-x in let i = o.invariant in omega (arith, fewer o.label i.0 i.1 i.2.1)
 
 loop-again : tie.Need-loop-x-preserved invariant-loop decreases-loop
 loop-again c =
-    let w = c.before in
-    let o = (over w).loop in
-    let i = o.inv in
-    let a = (over w).before.args in
+    let w = c in
+    let o = (over w.before).loop-x in
+    let i = o.invariant in
+    let a = (over w.before).args in
     let at_x = w.wide-x.ensures in
     let on = walk_on o.label i.0 i.1 i.2.1 (λ e. c.if-x-start.false (at_x ∙ e)) in (
-      long w,
+      long w.before,
       i.1,
       (
         suc i.2.0,
@@ -66,10 +66,10 @@ loop-again c =
 
 returns : tie.Need-returns invariant-loop decreases-loop
 returns c =
-    let w = c.before in
-    let o = (over w).loop in
-    let i = o.inv in
-    (long w, walk_end o.label i.0 i.1 i.2.1 (sym w.wide-x.ensures ∙ c.if-x-start.true))
+    let w = c in
+    let o = (over w.before).loop-x in
+    let i = o.invariant in
+    (long w.before, walk_end o.label i.0 i.1 i.2.1 (sym w.wide-x.ensures ∙ c.if-x-start.true))
 
 pub mark_orbit_spec : {M : Type 1} → statement M
 mark_orbit_spec =

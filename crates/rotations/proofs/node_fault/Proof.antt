@@ -13,13 +13,13 @@ use Rattle.rotations.proofs.node_fault.Tie as tie
 
 number-orbits-requires : tie.Need-number_orbits-requires
 number-orbits-requires c κs =
-    let p = c.before.requires in
+    let p = c.requires in
     (p.4, omega (arith, p.0), rotation_permutes p.2 p.3)
 
 enter-all-requires : tie.Need-enter_all-requires
 enter-all-requires c κs =
-    let p = c.before.before.before.before.before.requires in
-    let n = c.before.before.before.number_orbits.ensures in (
+    let p = c.requires in
+    let n = c.number_orbits.ensures in (
       omega (arith, p.0),
       length-replicate {A = ℕ} 1024 0,
       zeros,
@@ -29,19 +29,19 @@ enter-all-requires c κs =
 
 returns : tie.Need-returns-then-enter_all
 returns c =
-    let p = c.before.before.before.before.before.before.before.requires in
-    let n = c.before.before.before.before.before.number_orbits.ensures in
-    let e = c.before.enter_all.ensures in
+    let p = c.requires in
+    let n = c.number_orbits.ensures in
+    let e = c.enter_all.ensures in
     (two_rounds p.2 (rotation_permutes p.2 p.3) n.2 (rw c.if-enter_all.true at e.1), n.0, e.0)
 
 returns-2 : tie.Need-returns
 returns-2 c =
-    let p = c.before.before.before.before.before.before.before.before.before.requires in
-    let n = c.before.before.before.before.before.before.before.number_orbits.ensures in
-    let e = c.before.before.before.enter_all.ensures in
+    let p = c.requires in
+    let n = c.number_orbits.ensures in
+    let e = c.enter_all.ensures in
     let π = rotation_permutes p.2 p.3 in
     let rounds = n.2 in
-    let ρ = rw c.before.before.if-enter_all.false at e.1 in
+    let ρ = rw c.if-enter_all.false at e.1 in
     (decides_by c.some_empty.result (no_dart p.2 π rounds ρ) (nodes_good p.2 π rounds ρ) c.some_empty.ensures, n.0, e.0)
 
 pub node_fault_spec : {M : Type 1} → statement M

@@ -34,7 +34,7 @@ abbrev Read : Type 0
 Read = tie.After-wide-t invariant-loop decreases-loop
 
 abbrev turn : Read → tie.At-loop-d invariant-loop decreases-loop
-turn c = c.before.before.before
+turn c = c.before.before.before.before
 
 abbrev begun : Read → tie.Start invariant-loop decreases-loop
 begun c = (turn c).before
@@ -42,53 +42,53 @@ begun c = (turn c).before
 abbrev mapAt : tie.Start invariant-loop decreases-loop → Map
 mapAt s = let a = s.args in map_of a.nodes a.edges a.tails.now a.rotations.now
 
-dart-below : (c : Read) → (turn c).loop.d < 2 * (begun c).args.edges
+dart-below : (c : Read) → (turn c).loop-d.d < 2 * (begun c).args.edges
 dart-below c = omega arith
 
 rotation-below : (c : Read) → c.wide-t.result < 1024
-rotation-below c = let s = begun c in omega (arith, few s, s.pre.1 (turn c).loop.d (dart-below c), c.wide-t.ensures)
+rotation-below c = let s = begun c in omega (arith, few s, s.requires.1 (turn c).loop-d.d (dart-below c), c.wide-t.ensures)
 
 -- ── the needs, in the order of the code ──
 mul_wide : tie.Need-offset_bounds-rotations-d invariant-loop decreases-loop
 mul_wide c = omega (arith, few c.before.before)
 
 element-copy-out-wide : tie.Need-bounds-rotations-d invariant-loop decreases-loop
-element-copy-out-wide c = omega (arith, few c.before.before)
+element-copy-out-wide c = omega (arith, few c.before.before.before)
 
 mul-if1 : tie.Need-offset_bounds-tails-t invariant-loop decreases-loop
 mul-if1 c = omega (arith, rotation-below c)
 
 element-copy-out-if1 : tie.Need-bounds-tails-t invariant-loop decreases-loop
-element-copy-out-if1 c = omega (arith, rotation-below c)
+element-copy-out-if1 c = omega (arith, rotation-below c.before)
 
 mul-if1-2 : tie.Need-offset_bounds-tails-d invariant-loop decreases-loop
-mul-if1-2 c = omega (arith, few (begun c.before), dart-below c.before)
+mul-if1-2 c = omega (arith, few (begun c.before.before), dart-below c.before.before)
 
 element-copy-out-if1-2 : tie.Need-bounds-tails-d invariant-loop decreases-loop
-element-copy-out-if1-2 c = omega (arith, few (begun c.before), dart-below c.before)
+element-copy-out-if1-2 c = omega (arith, few (begun c.before.before), dart-below c.before.before)
 
 -- it has another tail
 returns : tie.Need-returns-then-tails-t invariant-loop decreases-loop
 returns c =
-    let r = c.before.before.before in
-    inl ((turn r).loop.d, dart-below r, λ e. c.if-tails-t.true (ap (at (begun r).args.tails.now) r.wide-t.ensures ∙ e))
+    let r = c in
+    inl ((turn r.before.before.before.before).loop-d.d, dart-below r.before.before.before.before, λ e. c.if-tails-t.true (ap (at (begun r.before.before.before.before).args.tails.now) r.wide-t.ensures ∙ e))
 
 -- ── it has the same tail ──
 abbrev read : tie.Else-tails-t invariant-loop decreases-loop → Read
-read c = c.before.before.before
+read c = c.before.before.before.before
 
 mul-if2 : tie.Need-offset_bounds-origin-t invariant-loop decreases-loop
-mul-if2 c = omega (arith, rotation-below (read c))
+mul-if2 c = omega (arith, rotation-below c.before.before.before.before)
 
 array-read-if2 : tie.Need-bounds-origin-t invariant-loop decreases-loop
-array-read-if2 c = omega (arith, rotation-below (read c))
+array-read-if2 c = omega (arith, rotation-below c.before.before.before.before)
 
 -- another dart has this rotation
 returns-2 : tie.Need-returns-then-origin-t-ne0 invariant-loop decreases-loop
 returns-2 c =
     let r = read c.before in
-    let o = (turn r).loop in
-    rotation_twice (mapAt (begun r)) o.inv.2 (dart-below r) (λ e. c.if-origin-t-ne0.true (ap (at o.origin) r.wide-t.ensures ∙ e))
+    let o = (turn r).loop-d in
+    rotation_twice (mapAt (begun r)) o.invariant.2 (dart-below r) (λ e. c.if-origin-t-ne0.true (ap (at o.origin) r.wide-t.ensures ∙ e))
 
 -- ── and no other dart has it: it is entered ──
 abbrev alone : tie.Else-origin-t-ne0 invariant-loop decreases-loop → Read
@@ -114,29 +114,29 @@ add-d c = omega (arith, few (begun (entered c)), dart-below (entered c))
 
 -- the rotation's tail is the dart's
 same_tail : (c : tie.Else-tails-t invariant-loop decreases-loop) → let r = read c in let a = (begun r).args in
-    at a.tails.now (at a.rotations.now (turn r).loop.d) ≡ at a.tails.now (turn r).loop.d
+    at a.tails.now (at a.rotations.now (turn r).loop-d.d) ≡ at a.tails.now (turn r).loop-d.d
 same_tail c = let r = read c in ap (at (begun r).args.tails.now) (sym r.wide-t.ensures) ∙ c.if-tails-t.false
 
 loop-again : tie.Need-loop-d-preserved invariant-loop decreases-loop
 loop-again c =
     let r = entered c in
-    let o = (turn r).loop in
+    let o = (turn r).loop-d in
     let n = c.narrow in
     let w = r.wide-t in
-    let l : w.result < length o.origin = omega (arith, rotation-below r, o.inv.1) in (
+    let l : w.result < length o.origin = omega (arith, rotation-below r, o.invariant.1) in (
       omega (arith, dart-below r),
-      length-set o.origin w.result n.result ∙ o.inv.1,
-      register_new o.origin w.result n.result o.inv.2 l w.ensures n.ensures c.before.if-origin-t-ne0.false,
-      below_more _ o.d o.inv.3 (same_tail c.before.before),
+      length-set o.origin w.result n.result ∙ o.invariant.1,
+      register_new o.origin w.result n.result o.invariant.2 l w.ensures n.ensures c.if-origin-t-ne0.false,
+      below_more _ o.d o.invariant.3 (same_tail c.before.before),
     )
 
 -- ── all darts are entered ──
 returns-3 : tie.Need-returns invariant-loop decreases-loop
 returns-3 c =
-    let o = c.before.loop-d in
-    let s = c.before.before in
+    let o = c.loop-d in
+    let s = c in
     let e : o.d ≡ 2 * s.args.edges = omega arith in
-    rotation_good (mapAt s) (rw e at o.invariant.2) (rw e at o.invariant.3)
+    rotation_good (mapAt s.before.before) (rw e at o.invariant.2) (rw e at o.invariant.3)
 
 pub rotation_fault_spec : {M : Type 1} → statement M
 rotation_fault_spec =

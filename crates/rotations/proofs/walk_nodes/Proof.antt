@@ -9,7 +9,7 @@ use Rattle.rotations.proofs.walk_nodes.Tie as tie
 
 spread-rounds-requires : tie.Need-spread_rounds-trees-requires
 spread-rounds-requires c κs =
-    let p = c.before.before.before.requires in (
+    let p = c.requires in (
       p.3,
       p.4,
       p.6,
@@ -23,27 +23,27 @@ spread-rounds-requires c κs =
 
 returns : tie.Need-returns-then-trees-eq0
 returns c =
-    let e = c.before.spread_rounds-trees.ensures in
+    let e = c.spread_rounds-trees.ensures in
     (e.0, e.1, (λ h. absurd (h refl)), (λ z σ. unround_unsound σ (e.4 c.if-trees-eq0.true)), e.2)
 
 returns-2 : tie.Need-returns-then-some_empty
 returns-2 c =
-    let s = c.before.before.before.before in
+    let s = c in
     let e = s.spread_rounds-trees.ensures in
-    let g = e.3 c.before.before.before.if-trees-eq0.false in
-    (e.0, e.1, (λ h. absurd (h refl)), (λ z σ. empty_unsound σ g.1 g.2 (said_yes c.before.some_empty.ensures c.if-some_empty.true)), e.2)
+    let g = e.3 c.if-trees-eq0.false in
+    (e.0, e.1, (λ h. absurd (h refl)), (λ z σ. empty_unsound σ g.1 g.2 (said_yes c.some_empty.ensures c.if-some_empty.true)), e.2)
 
 returns-3 : tie.Need-returns
 returns-3 c =
-    let s = c.before.before.before.before in
-    let p = s.before.before.before.before.requires in
+    let s = c in
+    let p = s.requires in
     let e = s.spread_rounds-trees.ensures in (
       e.0,
       e.1,
       (λ h.
           let g = e.3 h in
-          (rounds_sound p.5 g.1 g.2 (said_no c.before.some_empty.ensures c.if-some_empty.false), g.0, g.3)),
-      (λ z. absurd (c.before.before.before.if-trees-eq0.false z)),
+          (rounds_sound p.5 g.1 g.2 (said_no c.some_empty.ensures c.if-some_empty.false), g.0, g.3)),
+      (λ z. absurd (c.if-trees-eq0.false z)),
       e.2,
     )
 

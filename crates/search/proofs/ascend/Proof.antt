@@ -23,20 +23,20 @@ abbrev At-loop : Type 0
 At-loop = tie.At-loop-darts invariant-loop decreases-loop
 
 small : (c : At-loop) → c.loop-darts.y < 1024
-small c = let p = c.before.requires in omega (arith, y_in _ _ _ _ _ p.2 p.3 c.loop-darts.invariant, p.2)
+small c = let p = c.requires in omega (arith, y_in _ _ _ _ _ p.2 p.3 c.loop-darts.invariant, p.2)
 
 -- ── it stops ──
 returns : tie.Need-returns-then-darts-p invariant-loop decreases-loop
 returns c =
-    let k = c.before in
-    let l = k.before.before in
-    rising_stops _ _ _ _ _ l.before.requires.2 l.before.requires.3 l.loop-darts.invariant (λ h e. omega (arith, c.if-darts-p.true, k.wide-p.ensures))
+    let k = c in
+    let l = k in
+    rising_stops _ _ _ _ _ l.requires.2 l.requires.3 l.loop-darts.invariant (λ h e. omega (arith, c.if-darts-p.true, k.wide-p.ensures))
 
 abbrev at-link : tie.After-t14-1 invariant-loop decreases-loop → At-loop
-at-link c = c.before.before.before.before
+at-link c = c.before.before.before.before.before.before
 
 returns-2 : tie.Need-returns-then-links-y-ne1024 invariant-loop decreases-loop
-returns-2 c = let l = at-link c.before in rising_stops _ _ _ _ _ l.before.pre.2 l.before.pre.3 l.loop-darts.inv (λ h e. c.if-links-y-ne1024.true e)
+returns-2 c = let l = at-link c.before in rising_stops _ _ _ _ _ l.requires.2 l.requires.3 l.loop-darts.invariant (λ h e. c.if-links-y-ne1024.true e)
 
 -- ── it goes on ──
 abbrev Onward : Type 0
@@ -45,29 +45,29 @@ Onward = tie.Else-links-y-ne1024 invariant-loop decreases-loop
 abbrev there : Onward → At-loop
 there c = at-link c.before
 
-new : (c : Onward) → at (there c).loop.links (there c).loop.y ≡ 1024
+new : (c : Onward) → at (there c).loop-darts.links (there c).loop-darts.y ≡ 1024
 new c = c.if-links-y-ne1024.false
 
-dart_in : (c : Onward) → c.before.before.before.wide-p.result < (there c).before.args.darts
-dart_in c = omega (arith, c.before.before.if-darts-p.false)
+dart_in : (c : Onward) → c.wide-p.result < (there c).args.darts
+dart_in c = omega (arith, c.if-darts-p.false)
 
-below-small : (c : Onward) → (there c).loop.below < 1024
-below-small c = let l = there c in let p = l.before.pre in omega (arith, last_in _ _ _ _ _ p.2 p.3 l.loop-darts.inv, p.2)
+below-small : (c : Onward) → (there c).loop-darts.below < 1024
+below-small c = let l = there c in let p = l.requires in omega (arith, last_in _ _ _ _ _ p.2 p.3 l.loop-darts.invariant, p.2)
 
-room : (c : Onward) → (there c).loop.count < 1024
-room c = let l = there c in rising_room _ _ _ _ _ l.before.pre.2 l.before.pre.3 l.loop-darts.inv (new c)
+room : (c : Onward) → (there c).loop-darts.count < 1024
+room c = let l = there c in rising_room _ _ _ _ _ l.requires.2 l.requires.3 l.loop-darts.invariant (new c)
 
 loop-less : tie.Need-loop-darts-smaller invariant-loop decreases-loop
-loop-less c = let l = there c.before in rising_less _ _ _ _ _ l.before.pre.2 l.before.pre.3 l.loop-darts.inv (new c.before)
+loop-less c = let l = there c.before in rising_less _ _ _ _ _ l.requires.2 l.requires.3 l.loop-darts.invariant (new c.before)
 
 loop-again : tie.Need-loop-darts-preserved invariant-loop decreases-loop
 loop-again c =
-    let k = c.before in
-    let w = k.before.before.before.wide-p in
-    let l = there k in
-    rising_more _ _ _ _ _ l.before.pre.2 l.before.pre.3 l.loop-darts.inv w.result c.right-y.result w.ensures
-    (dart_in k) (new k) c.right-y.ensures
-    (omega (arith, c.right-y.ensures, l.before.pre.4 w.result (dart_in k)))
+    let k = c in
+    let w = k.wide-p in
+    let l = there k.before in
+    rising_more _ _ _ _ _ l.requires.2 l.requires.3 l.loop-darts.invariant w.result c.right-y.result w.ensures
+    (dart_in k.before) (new k.before) c.right-y.ensures
+    (omega (arith, c.right-y.ensures, l.requires.4 w.result (dart_in k.before)))
 
 pub ascend_spec : {M : Type 1} → statement M
 ascend_spec =
@@ -77,16 +77,16 @@ ascend_spec =
     decreases-loop
     loop-holds
     (λ c. record { fits = omega (arith, small c) })
-    (λ c. small c)
+    (λ c. small c.before)
     (λ c κs. search rules)
     returns
-    (λ c. record { fits = omega (arith, small c.before.before.before) })
-    (λ c. small c.before.before.before)
+    (λ c. record { fits = omega (arith, small c.before.before.before.before) })
+    (λ c. small c.before.before.before.before.before)
     returns-2
     (λ c. record { fits = omega (arith, below-small c) })
     (λ c. record { fits = omega (arith, small (there c)) })
     (λ c. small (there c))
     (λ c. record { fits = omega (arith, room c) })
-    (λ c κs. omega (arith, dart_in c, (there c).before.requires.1))
+    (λ c κs. omega (arith, dart_in c, (there c).requires.1))
     loop-less
     loop-again)

@@ -15,14 +15,14 @@ invariant-loop lefts lengths darts faces f count from links₀ potentials₀ par
 abbrev decreases-loop : tie.decreases-loop-k
 decreases-loop lefts lengths darts faces f count from links₀ potentials₀ parents₀ waiting₀ queue₀ last k₀ y₀ end₀ links potentials parents waiting queue k y end = k
 
-y-small : (c : tie.In-loop-k invariant-loop decreases-loop) → c.before.loop-k.y < 1024
-y-small c = let i = c.before.loop-k.invariant in omega (arith, face_in i c.loop-k-test.true, i.sound.few_faces)
+y-small : (c : tie.In-loop-k invariant-loop decreases-loop) → c.loop-k.y < 1024
+y-small c = let i = c.loop-k.invariant in omega (arith, face_in i c.loop-k-test.true, i.sound.few_faces)
 
 follow-requires : tie.Need-follow-end-requires invariant-loop decreases-loop
 follow-requires c κs =
-    let w = c.before.before.before.before in
-    let n = w.before.before in
-    let i = n.before.loop-k.invariant in
+    let w = c in
+    let n = w in
+    let i = n.loop-k.invariant in
     let some = n.loop-k-test.true in
     let r = i.descending.passing in
     let few = i.sound.few_faces in (
@@ -30,7 +30,7 @@ follow-requires c κs =
       r.size_parents,
       r.size_waiting,
       r.size_queue,
-      y-small n,
+      y-small n.before.before.before.before.before.before.before,
       omega (arith, dart_in i some, i.sound.few_darts),
       omega (arith, left_in i some),
       omega (arith, right_in i some),
@@ -40,9 +40,9 @@ follow-requires c κs =
 
 loop-again : tie.Need-loop-k-preserved invariant-loop decreases-loop
 loop-again c =
-    let w = c.before.before.before.before.before in
-    let n = w.before.before in
-    falling_on n.before.loop-k.invariant n.loop-k-test.true w.wide-below.result w.wide-below.ensures c.follow-end.ensures
+    let w = c in
+    let n = w in
+    falling_on n.loop-k.invariant n.loop-k-test.true w.wide-below.result w.wide-below.ensures c.follow-end.ensures
 
 pub descend_spec : {M : Type 1} → statement M
 descend_spec =
@@ -53,11 +53,11 @@ descend_spec =
     (λ c. falling_first c.requires)
     (λ c. search rules)
     (λ c. record { fits = omega (arith, y-small c) })
-    (λ c. y-small c)
+    (λ c. y-small c.before)
     (λ c κs. search rules)
-    (λ c. record { fits = omega (arith, y-small c.before.before) })
-    (λ c. y-small c.before.before)
+    (λ c. record { fits = omega (arith, y-small c.before.before.before) })
+    (λ c. y-small c.before.before.before)
     follow-requires
-    (λ c. omega (arith, c.before.before.before.before.before.before.before.loop-k-test.true))
+    (λ c. omega (arith, c.loop-k-test.true))
     loop-again
-    (λ c. falling_last c.before.loop-k.invariant (omega (arith, c.loop-k-test.false))))
+    (λ c. falling_last c.loop-k.invariant (omega (arith, c.loop-k-test.false))))

@@ -16,59 +16,59 @@ abbrev tablesAt : tie.Start → Tables
 tablesAt s = let a = s.args in tables_of a.potentials.now a.parents.now a.waiting.now a.queue.now a.last
 
 abbrev base : tie.After-right-w → tie.Start
-base c = c.before.before.before
+base c = c.before.before.before.before
 
 across : (c : tie.After-right-w) → c.right-w.result ≡ right_of (base c).args.lefts.now (at (base c).args.parents.now (base c).args.y)
-across c = c.right-w.ensures ∙ ap (right_of (base c).args.lefts.now) c.before.wide-p.ensures
+across c = c.right-w.ensures ∙ ap (right_of (base c).args.lefts.now) c.wide-p.ensures
 
 w-small : (c : tie.After-right-w) → c.right-w.result < 1024
 w-small c = omega (arith, across c, (base c).requires.7)
 
 returns : tie.Need-returns-then-is_far
 returns c =
-    let k = c.before in
-    let r = k.before.before in
-    follow_leaves _ _ (tablesAt (base r)) _ r.before.wide-p.result r.right-w.result r.before.wide-p.ensures r.right-w.ensures
+    let k = c in
+    let r = k in
+    follow_leaves _ _ (tablesAt (base r.before.before)) _ r.wide-p.result r.right-w.result r.wide-p.ensures r.right-w.ensures
     (k.is_far.ensures.0 c.if-is_far.true)
 
 -- ── the face across has a level ──
 abbrev crossing : tie.Else-is_far → tie.After-right-w
-crossing c = c.before.before.before
+crossing c = c.before.before
 
-has : (c : tie.Else-is_far) → HasLevel (atℤ (base (crossing c)).args.potentials.now) (crossing c).right.result
-has c = c.before.is_far.ensures.1 c.if-is_far.false
+has : (c : tie.Else-is_far) → HasLevel (atℤ (base (crossing c)).args.potentials.now) (crossing c).right-w.result
+has c = c.is_far.ensures.1 c.if-is_far.false
 
 relax-requires : tie.Need-relax-requires
 relax-requires c κs =
-    let e = c.before.before in
-    let r = crossing e in
+    let e = c in
+    let r = crossing e.before.before in
     let s = base r in
     let a = s.args in
-    let w = r.before.wide-p.ensures in
-    let near = s.pre.9 (λ q. has e (ap (atℤ a.potentials.now) (across r) ∙ q)) in (
-      s.pre.0,
-      s.pre.1,
+    let w = r.wide-p.ensures in
+    let near = s.requires.9 (λ q. has e.before.before (ap (atℤ a.potentials.now) (across r) ∙ q)) in (
+      s.requires.0,
+      s.requires.1,
       w-small r,
-      omega (arith, w, s.pre.5),
-      omega (arith, ap (at a.lefts.now) w, s.pre.6),
+      omega (arith, w, s.requires.5),
+      omega (arith, ap (at a.lefts.now) w, s.requires.6),
       omega (arith, near, ap (λ x. mag (atℤ a.potentials.now x)) (across r), ap (λ x. mag (atℤ a.lengths.now x)) w),
     )
 
 returns-2 : tie.Need-returns-then-relax
 returns-2 c =
-    let t = c.before.before.before in
-    let x = t.before.relax in
-    let e = t.before.before.before.before in
-    let r = crossing e in
-    follow_falls _ _ (tablesAt (base r)) _ r.before.wide-p.result r.right-w.result r.before.wide-p.ensures r.right-w.ensures (has e) _
+    let t = c in
+    let x = t.relax in
+    let e = t in
+    let r = crossing e.before.before.before.before.before.before.before in
+    follow_falls _ _ (tablesAt (base r)) _ r.wide-p.result r.right-w.result r.wide-p.ensures r.right-w.ensures (has e.before.before.before.before.before.before.before) _
     x.result t.if-relax.true x.ensures c.push.ensures
 
 returns-3 : tie.Need-returns
 returns-3 c =
-    let x = c.before.relax in
-    let e = c.before.before.before.before in
-    let r = crossing e in
-    follow_keeps _ _ (tablesAt (base r)) _ r.before.wide-p.result r.right-w.result r.before.wide-p.ensures r.right-w.ensures (has e) _ _
+    let x = c.relax in
+    let e = c in
+    let r = crossing e.before.before.before.before in
+    follow_keeps _ _ (tablesAt (base r)) _ r.wide-p.result r.right-w.result r.wide-p.ensures r.right-w.ensures (has e.before.before.before.before) _ _
     x.result c.if-relax.false x.ensures
 
 pub follow_spec : {M : Type 1} → statement M
@@ -79,7 +79,7 @@ follow_spec =
     (λ c. search rules)
     (λ c κs. search rules)
     (λ c κs. search rules)
-    (λ c κs. w-small c.before)
+    (λ c κs. w-small c)
     (λ c. search rules)
     (λ c. search rules)
     returns

@@ -13,12 +13,12 @@ before darts starts zero h = absurd (h (omega arith))
 before darts starts (suc f) h = let e : f ≡ suc f - 1 = omega arith in ap starts e
 
 returns : tie.Need-returns-then-f-eq0
-returns c = let s = c.before in sym (ap (end_of s.args.darts (at s.args.starts.now)) c.if-f-eq0.true)
+returns c = let s = c in sym (ap (end_of s.args.darts (at s.args.starts.now)) c.if-f-eq0.true)
 
 returns-2 : tie.Need-returns
 returns-2 c =
-    let t = c.before.before in
-    let a = t.before.args in
+    let t = c in
+    let a = t.args in
     c.wide.ensures ∙ sym (before a.darts (at a.starts.now) a.f t.if-f-eq0.false)
 
 pub group_end_spec : {M : Type 1} → statement M

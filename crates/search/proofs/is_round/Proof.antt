@@ -10,7 +10,7 @@ use Rattle.search.proofs.is_round.Tie as tie
 returns : tie.Need-returns-then-links-y-lt1024
 returns c =
     let e = c.is_far.ensures in
-    (λ q. (c.before.if-links-y-lt1024.true, e.1 (not-true c.is_far.result q)), λ q m h. h (e.0 (not-false c.is_far.result q)))
+    (λ q. (c.if-links-y-lt1024.true, e.1 (not-true c.is_far.result q)), λ q m h. h (e.0 (not-false c.is_far.result q)))
 
 returns-2 : tie.Need-returns
 returns-2 c = (λ q. absurd (true≢false (sym q)), λ q m h. omega (arith, c.if-links-y-lt1024.false, m))

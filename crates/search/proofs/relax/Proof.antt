@@ -18,48 +18,48 @@ use Rattle.signed.proofs.plus_wide.Reads as plus-wide-reads
 
 plus-wide-requires : tie.Need-plus_wide-v-requires
 plus-wide-requires c κs =
-    let a = c.before.before.before.before.args in
+    let a = c.args in
     rw (
-      to_z-of_z w64 (atℤ a.potentials.now a.i) (record { sfits = c.before.plus_wide-arg-1.given }),
+      to_z-of_z w64 (atℤ a.potentials.now a.i) (record { sfits = c.plus_wide-arg-1.given }),
       to_z-of_z w32 (atℤ a.lengths.now a.d) (record { sfits = c.plus_wide-arg-2-1.given }),
     )
-    (record { sfits = omega (arith, mag_add (atℤ a.potentials.now a.i) (atℤ a.lengths.now a.d), c.before.before.before.before.requires.5) })
+    (record { sfits = omega (arith, mag_add (atℤ a.potentials.now a.i) (atℤ a.lengths.now a.d), c.requires.5) })
 
 abbrev Place : Type 0
 Place = lts.After-t15-1 (wide-reads.Asked, wide-reads.Learnt, plus-wide-reads.Asked, plus-wide-reads.Learnt) reads.Pre reads.Post
 
 new : (c : Place) → ℤ
-new c = let a = c.before.before.before.before.before.before.args in atℤ a.potentials.now a.i +ℤ atℤ a.lengths.now a.d
+new c = let a = c.args in atℤ a.potentials.now a.i +ℤ atℤ a.lengths.now a.d
 
-new_is : (c : Place) → to_z w64 (of_z w64 c.before.plus_wide-v.result) ≡ new c
+new_is : (c : Place) → to_z w64 (of_z w64 c.plus_wide-v.result) ≡ new c
 unfolding new
 new_is c =
-    let a = c.before.before.before.before.before.before.args in
-    to_z-of_z w64 c.before.plus_wide-v.result (record { sfits = c.before.plus_wide-v.type_inv })
-    ∙ c.before.plus_wide-v.ensures
+    let a = c.args in
+    to_z-of_z w64 c.plus_wide-v.result (record { sfits = c.plus_wide-v.type_inv })
+    ∙ c.plus_wide-v.ensures
     ∙ ap₂ ◌+ℤ◌
-    (to_z-of_z w64 (atℤ a.potentials.now a.i) (record { sfits = c.before.before.before.plus_wide-arg-1.given }))
-    (to_z-of_z w32 (atℤ a.lengths.now a.d) (record { sfits = c.before.before.plus_wide-arg-2-1.given }))
+    (to_z-of_z w64 (atℤ a.potentials.now a.i) (record { sfits = c.plus_wide-arg-1.given }))
+    (to_z-of_z w32 (atℤ a.lengths.now a.d) (record { sfits = c.plus_wide-arg-2-1.given }))
 
 old : (c : Place) → ℤ
-old c = let a = c.before.before.before.before.before.before.args in atℤ a.potentials.now (at a.lefts.now a.d)
+old c = let a = c.args in atℤ a.potentials.now (at a.lefts.now a.d)
 
 old-is : (c : Place)
-    → let w = c.before.before.before.before in to_z w64 (of_z w64 (atℤ w.before.before.args.potentials.now w.wide-f.result)) ≡ old c
+    → let w = c in to_z w64 (of_z w64 (atℤ w.args.potentials.now w.wide-f.result)) ≡ old c
 unfolding old
 old-is c =
-    let p = c.before.before.before.before.before.before.args.potentials.now in
-    let w = c.before.before.before.before.wide-f in
+    let p = c.args.potentials.now in
+    let w = c.wide-f in
     to_z-of_z w64 (atℤ p w.result) (record { sfits = c.t15-1.given }) ∙ ap (atℤ p) w.ensures
 
 returns : tie.Need-returns-then-v-potentials
 unfolding new old
 returns c =
-    let a = c.before.before.before.before.before.before.before.args in
-    let w = c.before.before.before.before.before.wide-f.ensures in (
-      ap₂ (set a.potentials.now) w (new_is c.before),
+    let a = c.args in
+    let w = c.wide-f.ensures in (
+      ap₂ (set a.potentials.now) w (new_is c.before.before),
       ap (λ f. set a.parents.now f a.d) w,
-      test_yes _ _ _ _ (new_is c.before) (old-is c.before) c.if-v-potentials.true,
+      test_yes _ _ _ _ (new_is c.before.before) (old-is c.before.before) c.if-v-potentials.true,
     )
 
 returns-2 : tie.Need-returns

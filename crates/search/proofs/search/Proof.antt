@@ -63,10 +63,10 @@ rootsAt s = take s.args.roots s.args.queue.now
 
 begin-requires : tie.Need-begin-taken-requires invariant-loop decreases-loop invariant-search decreases-search
 begin-requires c κs =
-    let s = c.before.before.before.before in
+    let s = c in
     let p = s.requires in
     let roots_in : (m : ℕ) → m < s.args.roots → at s.args.queue.now m < 1024 =
-    λ m l. omega (arith, root_face (givenAt s) s.args.queue.now s.args.roots p.6 p.7 p.0 m l, p.0.few_faces) in
+    λ m l. omega (arith, root_face (givenAt s.before.before.before) s.args.queue.now s.args.roots p.6 p.7 p.0 m l, p.0.few_faces) in
     (p.3, p.4, p.5, p.7, roots_in, p.0.few_darts, p.0.few_faces, p.8, p.9)
 
 from_start : (proposal : List ℕ) {G : Given} {potentials : List ℤ} {parents waiting queue : List ℕ} {roots left : ℕ} {c : Configuration}
@@ -81,23 +81,23 @@ abbrev At-search : Type 0
 At-search = tie.At-search invariant-loop decreases-loop invariant-search decreases-search
 
 abbrev base : At-search → Start
-base c = c.before.before.before.before.before.before.before
+base c = c.before.before.before.before.before.before
 
 abbrev here : At-search → Configuration
 here c =
-    configuration (tables_of c.search.potentials c.search.parents c.search.waiting c.search.queue c.search.new)
+    configuration (tables_of c.search.potentials c.search.parents c.search.waiting c.search.queue c.search.last)
     c.search.first c.search.left
 
-first_left : (c : At-search) → c.before.first_looks-left.result
+first_left : (c : At-search) → c.first_looks-left.result
     ≡ first_looks (base c).args.faces (taken_from (base c).args.lefts.now (base c).args.darts (base c).args.faces (base c).args.parents.now)
-first_left c = c.before.first_looks-left.ensures ∙ ap (first_looks (base c).args.faces) c.before.before.begin-taken.ensures.1
+first_left c = c.first_looks-left.ensures ∙ ap (first_looks (base c).args.faces) c.begin-taken.ensures.1
 
 here-passing : (c : At-search) → PassingAt (dual (givenAt (base c)) (rootsAt (base c))) (here c)
 here-passing c =
     let s = base c in
-    let p = s.pre in
+    let p = s.requires in
     goes_passing (givenAt s) (rootsAt s) p.0 p.2
-    (start_passing (givenAt s) s.args.queue.now s.args.roots p.6 p.7 p.0 p.1 p.2 c.before.before.begin-taken.ensures.0)
+    (start_passing (givenAt s) s.args.queue.now s.args.roots p.6 p.7 p.0 p.1 p.2 c.begin-taken.ensures.0)
     (from_start s.args.parents.now (first_left c) c.search.invariant)
 
 -- ── looks ──
@@ -115,37 +115,37 @@ now c =
     configuration (tables_of c.loop-left.potentials c.loop-left.parents c.loop-left.waiting c.loop-left.queue c.loop-left.last) c.loop-left.first c.loop-left.left
 
 passing : (c : At-loop) → PassingAt (dual (givenAt (begun c)) (rootsAt (begun c))) (now c)
-passing c = let s = begun c in goes_passing (givenAt s) (rootsAt s) s.pre.0 s.pre.2 (here-passing (round c)) c.loop-left.invariant.0
+passing c = let s = begun c in goes_passing (givenAt s) (rootsAt s) s.requires.0 s.requires.2 (here-passing (round c)) c.loop-left.invariant.0
 
 abbrev Look : Type 0
 Look = tie.After-wide-i invariant-loop decreases-loop invariant-search decreases-search
 
 abbrev turn : Look → At-loop
-turn c = c.before.before.before.before
+turn c = c.before.before.before.before.before
 
 left-some : (c : Look) → 0 < (now (turn c)).left
-left-some c = c.before.before.before.loop-left-test.true
+left-some c = c.loop-left-test.true
 
 some : (c : Look) → (now (turn c)).first < (now (turn c)).tables.last
-some c = omega (arith, c.before.before.if-first-last.false, (passing (turn c)).passing.ordered)
+some c = omega (arith, c.if-first-last.false, (passing (turn c)).passing.ordered)
 
 look-requires : tie.Need-look-last-requires invariant-loop decreases-loop invariant-search decreases-search
 look-requires c κs =
-    let w = c.before.before.before.before in
-    let l = turn w in
+    let w = c in
+    let l = turn w.before.before.before.before in
     let s = begun l in
     let n = s.args.faces in (
       record {
         roots = rootsAt s;
-        sound = s.pre.0;
+        sound = s.requires.0;
         first = (now l).first;
         bound = bound n (now l).left;
-        few = bound_look n (now l).left s.pre.0.few_faces (left-some w) (passing l).in-period;
-        some = some w;
+        few = bound_look n (now l).left s.requires.0.few_faces (left-some w.before.before.before.before) (passing l).in-period;
+        some = some w.before.before.before.before;
         front_is = w.wide-i.ensures;
         passing = (passing l).passing;
       },
-      s.pre.2,
+      s.requires.2,
     )
 
 abbrev looked : tie.After-look-last invariant-loop decreases-loop invariant-search decreases-search → Look
@@ -155,25 +155,25 @@ loop-again : tie.Need-loop-left-preserved invariant-loop decreases-loop invarian
 loop-again c =
     let w = looked c in
     let l = turn w in (
-      goes_on l.loop-left.inv.0
+      goes_on l.loop-left.invariant.0
           (looks {c = now l} w.wide-i.result w.wide-i.ensures (left-some w) (some w) c.look-last.ensures),
-      omega (arith, l.loop-left.inv.1, left-some w),
+      omega (arith, l.loop-left.invariant.1, left-some w),
     )
 
 -- ── the period is over: a straightening ──
 straighten-requires : tie.Need-straighten-pass-requires invariant-loop decreases-loop invariant-search decreases-search
 straighten-requires c κs =
-    let l = c.before.before.before.before.before in
-    let s = begun l in
+    let l = c in
+    let s = begun l.before.before.before.before.before in
     let n = s.args.faces in
     record {
       roots = rootsAt s;
-      sound = s.pre.0;
-      first = (now l).first;
-      bound = bound n (now l).left;
-      wide = bound_wide n (now l).left;
-      few = bound_few n (now l).left s.pre.0.few_faces;
-      passing = (passing l).passing;
+      sound = s.requires.0;
+      first = (now l.before.before.before.before.before).first;
+      bound = bound n (now l.before.before.before.before.before).left;
+      wide = bound_wide n (now l.before.before.before.before.before).left;
+      few = bound_few n (now l.before.before.before.before.before).left s.requires.0.few_faces;
+      passing = (passing l.before.before.before.before.before).passing;
     }
 
 -- it was straight
@@ -181,29 +181,29 @@ abbrev Straight : Type 0
 Straight = tie.In-Straight invariant-loop decreases-loop invariant-search decreases-search
 
 abbrev over : Straight → At-loop
-over c = c.before.before.before.before.before.before.before.before.before
+over c = c.before.before.before.before.before.before.before
 
 none_left : (c : Straight) → (now (over c)).left ≡ 0
-none_left c = omega (arith, c.before.before.before.before.before.before.before.before.loop-left-test.false)
+none_left c = omega (arith, c.loop-left-test.false)
 
 search-less : tie.Need-search-smaller invariant-loop decreases-loop invariant-search decreases-search
 search-less c =
     let l = over c in
     let s = begun l in
-    let w = c.before.before.before.straighten-pass in
+    let w = c.straighten-pass in
     let p =
-    goes_on l.loop-left.inv.0 (straightens (givenAt s) (now l) (none_left c) _ _ _ _ _ _ w.result c.before.pass-in-Straight-1.given.1 w.ensures.1) in
-    let k = (goes_kept (givenAt s) (rootsAt s) s.pre.0 s.pre.2 (here-passing (round l)) p).1 in
-    let r = goes_passing (givenAt s) (rootsAt s) s.pre.0 s.pre.2 (here-passing (round l)) p in
-    omega (arith, none_left c, l.loop-left.inv.1, k.longer, k.spends, r.passing.ordered, (here-passing (round l)).passing.ordered)
+    goes_on l.loop-left.invariant.0 (straightens (givenAt s) (now l) (none_left c) _ _ _ _ _ _ w.result c.in-Straight.is w.ensures.1) in
+    let k = (goes_kept (givenAt s) (rootsAt s) s.requires.0 s.requires.2 (here-passing (round l)) p).1 in
+    let r = goes_passing (givenAt s) (rootsAt s) s.requires.0 s.requires.2 (here-passing (round l)) p in
+    omega (arith, none_left c, l.loop-left.invariant.1, k.longer, k.spends, r.passing.ordered, (here-passing (round l)).passing.ordered)
 
 search-again : tie.Need-search-preserved invariant-loop decreases-loop invariant-search decreases-search
 search-again c =
     let l = over c in
-    let w = c.before.before.before.straighten-pass in
-    goes_then (round l).search.inv
-    (goes_on l.loop-left.inv.0
-    (straightens (givenAt (begun l)) (now l) (none_left c) _ _ _ _ _ _ w.result c.before.pass-in-Straight-1.given.1 w.ensures.1))
+    let w = c.straighten-pass in
+    goes_then (round l).search.invariant
+    (goes_on l.loop-left.invariant.0
+    (straightens (givenAt (begun l)) (now l) (none_left c) _ _ _ _ _ _ w.result c.in-Straight.is w.ensures.1))
 
 -- ── the ways out ──
 answers : (s : Start) {potentials : List ℤ} {parents : List ℕ} (o : Outcome)
@@ -215,42 +215,42 @@ answers s o w =
 
 returns : tie.Need-returns-then-first-last invariant-loop decreases-loop invariant-search decreases-search
 returns c =
-    let l = c.before.before in
-    let r = round l in
+    let l = c in
+    let r = round l.before.before in
     let s = base r in
     answers s outcome.Settled (record {
       first_potentials = _;
       first_parents = _;
       first_waiting = _;
-      begun = r.before.before.begin-taken.ensures.0;
-      end = now l;
-      run = from_start s.args.parents.now (first_left r) (goes_then r.search.inv l.loop-left.invariant.0);
-      left = (now l).tables;
-      ended = (c.before.loop-left-test.true, c.if-first-last.true, refl);
+      begun = r.begin-taken.ensures.0;
+      end = now l.before.before;
+      run = from_start s.args.parents.now (first_left r) (goes_then r.search.invariant l.loop-left.invariant.0);
+      left = (now l.before.before).tables;
+      ended = (c.loop-left-test.true, c.if-first-last.true, refl);
       potentials_are = refl;
       parents_are = refl;
     })
 
 returns-2 : tie.Need-returns-in-Ring invariant-loop decreases-loop invariant-search decreases-search
 returns-2 c =
-    let p = c.before in
-    let w = p.before.before.straighten-pass in
-    let o = p.before.before.before.before.before.before.before in
-    let l = o.before in
-    let r = round l in
+    let p = c in
+    let w = p.straighten-pass in
+    let o = p in
+    let l = o in
+    let r = round l.before.before.before.before.before.before.before in
     let s = base r in
-    answers s (outcome.Ring p.pass-1.given.0.0) (record {
+    answers s (outcome.Ring p.in-Ring.d) (record {
       first_potentials = _;
       first_parents = _;
       first_waiting = _;
-      begun = r.before.before.begin-taken.ensures.0;
-      end = now l;
-      run = from_start s.args.parents.now (first_left r) (goes_then r.search.inv l.loop-left.invariant.0);
+      begun = r.begin-taken.ensures.0;
+      end = now l.before.before.before.before.before.before.before;
+      run = from_start s.args.parents.now (first_left r) (goes_then r.search.invariant l.loop-left.invariant.0);
       left = tables_of _ _ _ _ w.ensures.0;
       ended = (
         omega (arith, o.loop-left-test.false),
-        subst (Straightens s.args.lefts.now s.args.lengths.now s.args.darts s.args.faces 0 unmarked (now l).tables _)
-            p.pass-1.given.1 w.ensures.1,
+        subst (Straightens s.args.lefts.now s.args.lengths.now s.args.darts s.args.faces 0 unmarked (now l.before.before.before.before.before.before.before).tables _)
+            p.in-Ring.is w.ensures.1,
       );
       potentials_are = refl;
       parents_are = refl;
@@ -268,7 +268,7 @@ search_spec =
     invariant-search
     decreases-search
     begin-requires
-    (λ c κs. c.before.before.before.before.before.requires.0.few_faces)
+    (λ c κs. c.requires.0.few_faces)
     (λ c. stay)
     (λ c. (stay, refl))
     (λ c. search rules)

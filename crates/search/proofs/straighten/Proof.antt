@@ -22,13 +22,13 @@ loop-holds c = pass_first c.requires
 abbrev Turn : Type 0
 Turn = tie.In-loop-f invariant-loop decreases-loop
 
-f-small : (c : Turn) → c.before.loop-f.f < 1024
-f-small c = omega (arith, c.loop-f-test.true, c.before.loop-f.invariant.sound.few_faces)
+f-small : (c : Turn) → c.loop-f.f < 1024
+f-small c = omega (arith, c.loop-f-test.true, c.loop-f.invariant.sound.few_faces)
 
 ascend-requires : tie.Need-ascend-risen-requires invariant-loop decreases-loop
 ascend-requires c κs =
-    let n = c.before.before in
-    let i = n.before.loop-f.invariant in
+    let n = c in
+    let i = n.loop-f.invariant in
     (i.size_links, i.sound.few_darts, i.sound.few_faces, n.loop-f-test.true, i.sound.right_in)
 
 -- ── the ascent has come to a face ──
@@ -36,51 +36,51 @@ abbrev Up : Type 0
 Up = tie.After-ascend-risen invariant-loop decreases-loop
 
 abbrev turn : Up → Turn
-turn c = c.before.before.before
+turn c = c.before.before
 
-top_in : (c : Up) → c.ascend-risen.result.top < (turn c).before.before.args.faces
-top_in c = let i = (turn c).before.loop-f.invariant in (c.ascend-risen.ensures i.marks i.matched).top_in
+top_in : (c : Up) → c.ascend-risen.result.top < (turn c).args.faces
+top_in c = let i = (turn c).loop-f.invariant in (c.ascend-risen.ensures i.marks i.matched).top_in
 
 top_small : (c : Up) → c.ascend-risen.result.top < 1024
-top_small c = omega (arith, top_in c, (turn c).before.loop-f.invariant.sound.few_faces)
+top_small c = omega (arith, top_in c, (turn c).loop-f.invariant.sound.few_faces)
 
 is-round-requires : tie.Need-is_round-requires invariant-loop decreases-loop
-is-round-requires c κs = top_small c.before.before.before.before
+is-round-requires c κs = top_small c.before.before.before
 
 returns : tie.Need-returns-then-is_round invariant-loop decreases-loop
 returns c =
-    let t = c.before.before in
-    let r = t.before.is_round.ensures.0 t.if-is_round.true in
-    let u = t.before.before.before.before.before.before in
-    let n = turn u in
-    let i = n.before.loop-f.inv in
-    (_, pass_ring i n.loop-f-test.taken (u.ascend-risen.ensures i.marks i.matched) r.0 r.1 c.wide.result c.wide.ensures)
+    let t = c in
+    let r = t.is_round.ensures.0 t.if-is_round.true in
+    let u = t in
+    let n = turn u.before.before.before.before.before.before.before.before in
+    let i = n.loop-f.invariant in
+    (_, pass_ring i n.loop-f-test.true (u.ascend-risen.ensures i.marks i.matched) r.0 r.1 c.wide.result c.wide.ensures)
 
 -- ── it has not come round ──
 descend-requires : tie.Need-descend-end-requires invariant-loop decreases-loop
 descend-requires c κs =
-    let t = c.before.before.before.before.before in
-    let o = t.before.before.before.before in
-    let u = o.before.before in
-    let n = turn u in
-    let i = n.before.loop-f.inv in
-    pass_down i n.loop-f-test.taken (u.ascend-risen.ensures i.marks i.matched) (t.before.is_round.ensures.1 t.if-is_round.false)
+    let t = c in
+    let o = t in
+    let u = o in
+    let n = turn u.before.before.before.before.before.before.before.before.before.before in
+    let i = n.loop-f.invariant in
+    pass_down i n.loop-f-test.true (u.ascend-risen.ensures i.marks i.matched) (t.is_round.ensures.1 t.if-is_round.false)
 
 loop-again : tie.Need-loop-f-preserved invariant-loop decreases-loop
 loop-again c =
-    let u = c.before.before in
-    let n = turn u in
-    let i = n.before.loop-f.inv in
+    let u = c in
+    let n = turn u.before.before in
+    let i = n.loop-f.invariant in
     let a = u.ascend-risen.ensures i.marks i.matched in
     ⊎_elim
     (λ d.
-    rw (d.11, d.12, d.13, d.14, d.15, d.16)
-    (let q = d.10.ensures in pass_next i n.loop-f-test.taken a (d.3.ensures.1 d.4.left) q.1 q.0))
-    (λ d. rw (d.1, d.2, d.3, d.4, d.5, d.6) (pass_none i n.loop-f-test.taken a (omega (arith, d.0.left))))
-    c.if-risen-gt0.branch
+    rw (d.potentials-is, d.parents-is, d.waiting-is, d.queue-is, d.links-is, d.end-is)
+    (let q = d.descend-end.ensures in pass_next i n.loop-f-test.true a (d.is_round.ensures.1 d.if-is_round.false) q.1 q.0))
+    (λ d. rw (d.potentials-is, d.parents-is, d.waiting-is, d.queue-is, d.links-is, d.end-is) (pass_none i n.loop-f-test.true a (omega (arith, d.if-risen-gt0.false))))
+    c.if-risen-gt0.branch-raw
 
 returns-2 : tie.Need-returns invariant-loop decreases-loop
-returns-2 c = (_, pass_last _ c.before.loop-f.invariant (omega (arith, c.loop-f-test.false)) refl)
+returns-2 c = (_, pass_last _ c.loop-f.invariant (omega (arith, c.loop-f-test.false)) refl)
 
 pub straighten_spec : {M : Type 1} → statement M
 straighten_spec =
@@ -91,12 +91,12 @@ straighten_spec =
     loop-holds
     ascend-requires
     is-round-requires
-    (λ c. record { fits = omega (arith, top_small c.before.before.before.before.before.before) })
+    (λ c. record { fits = omega (arith, top_small c.before.before.before.before.before) })
     (λ c. top_small c.before.before.before.before.before.before)
     (λ c κs. search rules)
     returns
     descend-requires
     (λ c. record { fits = omega (arith, f-small (turn c.before.before)) })
-    (λ c. omega (arith, (turn c.before.before).loop-test.taken))
+    (λ c. omega (arith, (turn c.before.before).loop-f-test.true))
     loop-again
     returns-2)

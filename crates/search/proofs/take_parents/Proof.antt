@@ -24,28 +24,28 @@ loop-holds c = (
   omega arith,
 )
 
-small : (c : tie.In-loop-f invariant-loop decreases-loop) → c.before.loop-f.f < 1024
-small c = omega (arith, c.loop-f-test.true, c.before.before.requires.2)
+small : (c : tie.In-loop-f invariant-loop decreases-loop) → c.loop-f.f < 1024
+small c = omega (arith, c.loop-f-test.true, c.requires.2)
 
 loop-again : tie.Need-loop-f-preserved invariant-loop decreases-loop
 loop-again c =
-    let k = c.before in
-    let w = k.before.wide-p in
-    let l = k.before.before.before.before.loop-f in
-    let s = small k.before.before.before in
+    let k = c in
+    let w = k.wide-p in
+    let l = k.loop-f in
+    let s = small k.before.before.before.before.before in
     let b = k.is_sensible in (
       ⊎_elim
-          (λ u. taking_keep l.invariant.0 s w.result w.ensures b.result b.ensures u.0.taken _ u.1 _ u.2)
-          (λ u. taking_drop l.invariant.0 s w.result w.ensures b.result b.ensures u.0.left _ u.1 _ u.2)
-          c.if-is_sensible.branch,
-      omega (arith, k.before.before.before.loop-f-test.true),
-      ⊎_elim (λ u. omega (arith, u.2, l.invariant.2)) (λ u. omega (arith, u.2, l.invariant.2)) c.if-is_sensible.branch,
+          (λ u. taking_keep l.invariant.0 s w.result w.ensures b.result b.ensures u.if-is_sensible.true _ u.parents-is _ u.taken-is)
+          (λ u. taking_drop l.invariant.0 s w.result w.ensures b.result b.ensures u.if-is_sensible.false _ u.parents-is _ u.taken-is)
+          c.if-is_sensible.branch-raw,
+      omega (arith, k.loop-f-test.true),
+      ⊎_elim (λ u. omega (arith, u.taken-is, l.invariant.2)) (λ u. omega (arith, u.taken-is, l.invariant.2)) c.if-is_sensible.branch-raw,
     )
 
 returns : tie.Need-returns invariant-loop decreases-loop
 returns c =
-    let l = c.before.loop-f in
-    let s = c.before.before in
+    let l = c.loop-f in
+    let s = c in
     let all : l.f ≡ s.args.faces = omega (arith, c.loop-f-test.false, l.invariant.1) in
     subst (λ f. Taking s.args.lefts.now s.args.darts s.args.parents.now f l.parents l.taken) all l.invariant.0
 
@@ -57,13 +57,13 @@ take_parents_spec =
     decreases-loop
     loop-holds
     (λ c. record { fits = omega (arith, small c) })
-    (λ c. small c)
+    (λ c. small c.before)
     (λ c κs. search rules)
     (λ c κs. search rules)
-    (λ c. record { fits = omega (arith, c.before.before.before.before.before.loop-f.invariant.2, small c.before.before.before.before) })
-    (λ c. record { fits = omega (arith, small c.before.before.before.before) })
-    (λ c. small c.before.before.before.before)
-    (λ c. record { fits = omega (arith, small c.before.before.before.before) })
-    (λ c. omega (arith, c.before.before.before.before.loop-f-test.true))
+    (λ c. record { fits = omega (arith, c.loop-f.invariant.2, small c.before.before.before.before.before) })
+    (λ c. record { fits = omega (arith, small c.before.before.before.before.before) })
+    (λ c. small c.before.before.before.before.before)
+    (λ c. record { fits = omega (arith, small c.before.before.before.before.before) })
+    (λ c. omega (arith, c.loop-f-test.true))
     loop-again
     returns)

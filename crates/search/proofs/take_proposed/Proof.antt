@@ -6,8 +6,8 @@ use Rattle.search.proofs.take_proposed.Tie as tie
 
 returns : tie.Need-returns-then-none_proposed
 returns c =
-    let n = c.before in
-    let s = n.before.before in
+    let n = c in
+    let s = n in
     let p = s.requires in
     taking_none s.args.lefts.now s.args.parents.now p.1 (n.none_proposed.ensures c.if-none_proposed.true) p.0
 

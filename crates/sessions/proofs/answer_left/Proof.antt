@@ -36,7 +36,7 @@ begun c = c.before.before.before.before.before
 abbrev held : tie.After-in_bounds → Drawing
 held c =
     let a = (begun c).args in
-    drawing_of c.before.before.before.wide-n.result c.before.before.wide-m.result c.before.wide-o.result a.tails.now a.rotations.now
+    drawing_of c.wide-n.result c.wide-m.result c.wide-o.result a.tails.now a.rotations.now
     a.left.now
 
 abbrev given : tie.After-in_bounds → Drawing
@@ -45,14 +45,14 @@ given c = let a = (begun c).args in drawing_of a.nodes a.edges a.outer a.tails.n
 same : (c : tie.After-in_bounds) → held c ≡ given c
 same c =
     let a = (begun c).args in
-    drawings_same c.before.before.before.wide-n.ensures c.before.before.wide-m.ensures c.before.wide-o.ensures a.tails.now
+    drawings_same c.wide-n.ensures c.wide-m.ensures c.wide-o.ensures a.tails.now
     a.rotations.now a.left.now
 
 returns : tie.Need-returns-then-not-in_bounds
 returns c =
-    let b = c.before in (
+    let b = c in (
       (
-        unfit_answered (held b) (given b) (same b) (λ f. said_no b.in_bounds.ensures (unless_taken b.in_bounds.result c.if-not-in_bounds.true) f.bounds) _ _
+        unfit_answered (held b.before) (given b.before) (same b.before) (λ f. said_no b.in_bounds.ensures (unless_taken b.in_bounds.result c.if-not-in_bounds.true-raw) f.bounds) _ _
             _ _ _,
         refl,
         refl,
@@ -63,7 +63,7 @@ returns c =
 
 -- ── in bounds ──
 bounded : (c : tie.Else-not-in_bounds) → InBounds (held c.before)
-bounded c = said_yes c.before.in_bounds.ensures (unless_left c.before.in_bounds.result c.if-not-in_bounds.false)
+bounded c = said_yes c.in_bounds.ensures (unless_left c.in_bounds.result c.if-not-in_bounds.false-raw)
 
 abbrev within : tie.After-check_map-checked → tie.Else-not-in_bounds
 within c = c.before.before.before.before.before.before
@@ -75,47 +75,47 @@ check-map-requires c κs =
 
 returns-2 : tie.Need-returns-in-Refused
 returns-2 c =
-    let m = c.before.before.before in
-    let b = (within (m)).before in
-    let r = map_refused (held b) _ _ _ _ c.before.verdict-1.given.1 m.check_map-checked.ensures.5 in
-    ((unfit_answered (held b) (given b) (same b) r _ _ _ _ _, refl, refl), tt, tt)
+    let m = c in
+    let b = (within (m).before) in
+    let r = map_refused (held b.before) _ _ _ _ c.in-Refused.is m.check_map-checked.ensures.5 in
+    ((unfit_answered (held b.before) (given b.before) (same b.before) r _ _ _ _ _, refl, refl), tt, tt)
 
 -- ── fit ──
 passed : (c : tie.In_default)
-    → NoneOf (map_checks (held (within c.before.before).before).map)
-    × ((d : ℕ) → d < darts (held (within c.before.before).before).map
-    → at c.before.before.check_map-checked.new.1.1.1.1.1.0 d ≡ left (held (within c.before.before).before).map d)
-    × (c.before.before.check_map-checked.result.faces ≡ faces (held (within c.before.before).before).map)
+    → NoneOf (map_checks (held (within c.before).before).map)
+    × ((d : ℕ) → d < darts (held (within c.before).before).map
+    → at c.check_map-checked.new.lefts d ≡ left (held (within c.before).before).map d)
+    × (c.check_map-checked.result.faces ≡ faces (held (within c.before).before).map)
 passed c =
-    let m = c.before.before in
-    map_passed (held (within m).before) (at m.check_map-checked.new.1.1.1.1.1.0) m.check_map-checked.result.faces c.enum_told-1.given.1
+    let m = c in
+    map_passed (held (within m.before).before) (at m.check_map-checked.new.lefts) m.check_map-checked.result.faces c.in_default.is
     m.check_map-checked.ensures.5
 
-fit : (c : tie.In_default) → Fit (held (within c.before.before).before)
-fit c = record { bounds = bounded (within c.before.before); passes = (passed c).0 }
+fit : (c : tie.In_default) → Fit (held (within c.before).before)
+fit c = record { bounds = bounded (within c.before); passes = (passed c).0 }
 
 solve-requires : tie.Need-solve-requires
 solve-requires c κs =
-    let t = c.before.before.before.before.before.before.before.before.before in
-    let m = t.before.before in
-    let p = passed t in record {
-      drawn = fit_drawn (held (within m).before) (fit t) _ _ p.1 p.2;
-      walked = if-passed t.enum_told-1.given.1 m.check_map-checked.ensures.6;
+    let t = c in
+    let m = t in
+    let p = passed t.before.before.before.before.before.before.before.before.before in record {
+      drawn = fit_drawn (held (within m.before.before.before.before.before.before.before.before.before.before).before) (fit t.before.before.before.before.before.before.before.before.before) _ _ p.1 p.2;
+      walked = if-passed t.in_default.is m.check_map-checked.ensures.6;
     }
 
 returns-3 : tie.Need-returns
 returns-3 c =
-    let k = c.before.before.before in
-    let w = k.before.before.before.before.before.before.before.before in
-    let t = w.before.before in
-    let b = (within t.before.before).before in
-    let s = begun b in
+    let k = c in
+    let w = k in
+    let t = w in
+    let b = (within t.before.before.before.before.before.before.before.before.before.before.before.before.before.before) in
+    let s = begun b.before in
     let q = number_of_bits _ s.fits.value in
-    let from = w.before.wide.ensures in
+    let from = w.wide.ensures in
     let to = w.wide-2.ensures in (
-      answered (held b) (given b) (same b) (fit t) from to q _ _ _ _ k.solve.result k.solve.ensures.0,
-      named_answered (held b) (given b) (same b) from to q _ k.solve.result k.solve.ensures.1,
-      fit_answered (held b) (given b) (same b) (fit t) k.solve.result,
+      answered (held b.before) (given b.before) (same b.before) (fit t.before.before.before.before.before.before.before.before.before.before.before.before.before) from to q _ _ _ _ k.solve.result k.solve.ensures.0,
+      named_answered (held b.before) (given b.before) (same b.before) from to q _ k.solve.result k.solve.ensures.1,
+      fit_answered (held b.before) (given b.before) (same b.before) (fit t.before.before.before.before.before.before.before.before.before.before.before.before.before) k.solve.result,
     )
 
 pub answer_left_spec : {M : Type 1} → statement M

@@ -8,20 +8,20 @@ use Rattle.sessions.proofs.in_bounds.Tie as tie
 
 returns-4 : tie.Need-returns-then-in_range
 returns-4 c =
-    let r = c.before.before in
+    let r = c in
     decides_by c.limits_fit.result
     (λ h. record {
-      few_nodes = omega (arith, r.before.before.before.if-nodes-gt1024.false);
-      few_edges = omega (arith, r.before.before.if-edges-gt512.false);
-      outer_in = omega (arith, r.before.if-outer-edges.false);
-      range = said_yes r.in_range.ensures c.before.if-in_range.true;
+      few_nodes = omega (arith, r.if-nodes-gt1024.false);
+      few_edges = omega (arith, r.if-edges-gt512.false);
+      outer_in = omega (arith, r.if-outer-edges.false);
+      range = said_yes r.in_range.ensures c.if-in_range.true;
       limits = h;
     })
     (λ none h. none h.limits)
     c.limits_fit.ensures
 
 returns-5 : tie.Need-returns
-returns-5 c = λ h. said_no c.before.in_range.ensures c.if-in_range.false h.range
+returns-5 c = λ h. said_no c.in_range.ensures c.if-in_range.false h.range
 
 pub in_bounds_spec : {M : Type 1} → statement M
 in_bounds_spec =

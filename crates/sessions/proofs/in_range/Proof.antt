@@ -19,32 +19,32 @@ loop-holds : tie.Need-loop-d-init invariant-loop decreases-loop
 loop-holds c = (omega arith, refl, c.requires, λ k l. absurd (omega arith))
 
 returns : tie.Need-returns-then-nodes-wide invariant-loop decreases-loop
-returns c = λ h. omega (arith, h.tail_in c.before.before.before.before.loop-d.d (omega arith), c.if-nodes-wide.true, c.before.wide.ensures)
+returns c = λ h. omega (arith, h.tail_in c.loop-d.d (omega arith), c.if-nodes-wide.true, c.wide.ensures)
 
 returns-2 : tie.Need-returns-then-darts-wide invariant-loop decreases-loop
 returns-2 c =
     λ h. omega (
       arith,
-      h.rotation_in c.before.before.before.before.before.before.before.loop-d.d (omega arith),
+      h.rotation_in c.loop-d.d (omega arith),
       c.if-darts-wide.true,
-      c.before.wide-in-loop-d.ensures,
+      c.wide-in-loop-d.ensures,
     )
 
 loop-again : tie.Need-loop-d-preserved invariant-loop decreases-loop
 loop-again c =
-    let o = c.before.before.before.before.before.before.before.loop-d in (
+    let o = c.loop-d in (
       omega arith,
       o.invariant.1,
       o.invariant.2,
       below_more _ o.d o.invariant.3 (
-        omega (arith, c.before.before.before.if-nodes-wide.false, c.before.before.before.before.wide.ensures),
+        omega (arith, c.if-nodes-wide.false, c.wide.ensures),
         omega
-            (arith, c.if-darts-wide.false, c.before.wide-in-loop-d.ensures, o.invariant.1),
+            (arith, c.if-darts-wide.false, c.wide-in-loop-d.ensures, o.invariant.1),
       ),
     )
 
 returns-3 : tie.Need-returns invariant-loop decreases-loop
-returns-3 c = let o = c.before.loop-d in record { tail_in = λ k l. (o.invariant.3 k (omega arith)).0; rotation_in = λ k l. (o.invariant.3 k (omega arith)).1 }
+returns-3 c = let o = c.loop-d in record { tail_in = λ k l. (o.invariant.3 k (omega arith)).0; rotation_in = λ k l. (o.invariant.3 k (omega arith)).1 }
 
 pub in_range_spec : {M : Type 1} → statement M
 in_range_spec =

@@ -23,25 +23,25 @@ loop-holds c = (omega arith, copy_start _ _)
 
 slice-set-from-offer : tie.Need-bounds-offer-e invariant-loop decreases-loop
 slice-set-from-offer c =
-    omega (arith, filled_length _ _ _ _ c.before.before.loop-e.invariant.1 (omega (arith, c.before.before.before.requires.1)), c.before.before.before.requires.1)
+    omega (arith, filled_length _ _ _ _ c.loop-e.invariant.1 (omega (arith, c.requires.1)), c.requires.1)
 
 loop-again : tie.Need-loop-e-preserved invariant-loop decreases-loop
 loop-again c =
-    let o = c.before.before.loop-e in (
+    let o = c.loop-e in (
       omega arith,
-      copy_step _ o.e _ _ _ o.invariant.1 (omega (arith, c.before.before.before.requires.1))
+      copy_step _ o.e _ _ _ o.invariant.1 (omega (arith, c.requires.1))
           (number_of_bits _ (record { sfits = c.offer-1.given })),
     )
 
 same_length : tie.Need-shape_of-offer invariant-loop decreases-loop
-same_length c = filled_length _ _ _ _ c.before.loop-e.invariant.1 (omega (arith, c.before.before.requires.1))
+same_length c = filled_length _ _ _ _ c.loop-e.invariant.1 (omega (arith, c.requires.1))
 
 returns : tie.Need-returns invariant-loop decreases-loop
 returns c =
-    let o = c.before.loop-e in
-    let a = c.before.before.args in
+    let o = c.loop-e in
+    let a = c.args in
     let all : o.e ≡ a.edges = omega arith in
-    o.invariant.1 ∙ ap (λ k. tabulate k (atℤ a.flows.now) ++ drop k a.offer-1.now) all
+    o.invariant.1 ∙ ap (λ k. tabulate k (atℤ a.flows.now) ++ drop k a.offer.now) all
 
 pub keep_spec : {M : Type 1} → statement M
 keep_spec =

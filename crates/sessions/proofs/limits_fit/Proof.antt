@@ -25,14 +25,14 @@ abbrev Place : Type 0
 Place = lts.After-pair_fits (pair-fits-reads.Asked, pair-fits-reads.Learnt) reads.Pre reads.Post invariant-loop decreases-loop
 
 judged-here : (c : Place)
-    → Decides (PairFits (atℤ c.before.before.before.before.before.args.left.now (2 * c.before.before.before.before.loop-e.e))
-    (atℤ c.before.before.before.before.before.args.left.now (2 * c.before.before.before.before.loop-e.e + 1))) c.pair_Fits.result
+    → Decides (PairFits (atℤ c.args.left.now (2 * c.loop-e.e))
+    (atℤ c.args.left.now (2 * c.loop-e.e + 1))) c.pair_Fits.result
 judged-here c =
-    let limit = atℤ c.before.before.before.before.before.args.left.now in
-    let e = c.before.before.before.before.loop-e.e in
+    let limit = atℤ c.args.left.now in
+    let e = c.loop-e.e in
     rw (
-      number_of_bits (limit (2 * e)) (record { sfits = c.before.before.pair_fits-arg-1.given }),
-      number_of_bits (limit (2 * e + 1)) (record { sfits = c.before.pair_fits-arg-in-loop-e-1.given }),
+      number_of_bits (limit (2 * e)) (record { sfits = c.pair_fits-arg-1.given }),
+      number_of_bits (limit (2 * e + 1)) (record { sfits = c.pair_fits-arg-in-loop-e-1.given }),
     ) at c.pair_Fits.ensures
 
 loop-holds : tie.Need-loop-e-init invariant-loop decreases-loop
@@ -40,14 +40,14 @@ loop-holds c = (omega arith, c.requires, λ k l. absurd (omega arith))
 
 loop-again : tie.Need-loop-e-preserved invariant-loop decreases-loop
 loop-again c =
-    let o = c.before.before.before.before.before.loop-e in
+    let o = c.loop-e in
     (omega arith, o.invariant.1, below_more _ o.e o.invariant.2 (said_yes (judged-here c.before) c.if-pair_fits.true))
 
 returns : tie.Need-returns-else-pair_fits invariant-loop decreases-loop
-returns c = λ h. said_no (judged-here c.before) c.if-pair_fits.false (h c.before.before.before.before.before.loop-e.e (omega arith))
+returns c = λ h. said_no (judged-here c.before) c.if-pair_fits.false (h c.loop-e.e (omega arith))
 
 returns-2 : tie.Need-returns invariant-loop decreases-loop
-returns-2 c = λ e l. c.before.loop-e.invariant.2 e (omega arith)
+returns-2 c = λ e l. c.loop-e.invariant.2 e (omega arith)
 
 pub limits_fit_spec : {M : Type 1} → statement M
 limits_fit_spec =

@@ -31,39 +31,39 @@ loop-holds c = (omega arith, refl, copy_start _ _)
 
 slice-copy-out-lowered-by : tie.Need-slice_copy_out-lowered_by invariant-loop decreases-loop
 slice-copy-out-lowered-by c =
-    let s = c.before.before in omega (arith, filled_length _ _ _ _ c.before.loop-d.invariant.2 (omega (arith, s.requires.0, s.requires.1)), s.requires.0, s.requires.1)
+    let s = c in omega (arith, filled_length _ _ _ _ c.loop-d.invariant.2 (omega (arith, s.requires.0, s.requires.1)), s.requires.0, s.requires.1)
 
 -- the limit that is read is the one at entry, and the flow is its edge's
 limit_is : (c : tie.After-lowered_by-arg-1 invariant-loop decreases-loop)
-    → to_z w32 (of_z w32 (atℤ c.before.before.loop-d.left c.before.before.loop-d.d)) ≡ atℤ c.before.before.before.args.left.now
-    c.before.before.loop-d.d
+    → to_z w32 (of_z w32 (atℤ c.loop-d.left c.loop-d.d)) ≡ atℤ c.args.left.now
+    c.loop-d.d
 limit_is c =
-    let o = c.before.before.loop-d in
-    let s = c.before.before.before in
+    let o = c.loop-d in
+    let s = c in
     number_of_bits _ (record { sfits = c.lowered_by-arg-1.given }) ∙ not_yet o.d _ s.args.left.now o.left o.invariant.2
     (omega (arith, s.requires.0, s.requires.1))
 
 flow_is : (c : tie.After-lowered_by-arg-in-loop-d-1 invariant-loop decreases-loop)
-    → to_z w32 (of_z w32 (atℤ c.before.before.before.before.args.offer.now (c.before.before.before.loop-d.d / 2)))
-    ≡ atℤ c.before.before.before.before.args.offer.now (c.before.before.before.loop-d.d / 2)
+    → to_z w32 (of_z w32 (atℤ c.args.offer.now (c.loop-d.d / 2)))
+    ≡ atℤ c.args.offer.now (c.loop-d.d / 2)
 flow_is c = number_of_bits _ (record { sfits = c.lowered_by-arg-in-loop-d-1.given })
 
 lowered-by-requires : tie.Need-lowered_by-requires invariant-loop decreases-loop
 lowered-by-requires c κs =
-    let s = c.before.before.before.before in
-    let o = c.before.before.before.loop-d in
+    let s = c in
+    let o = c.loop-d in
     rw (limit_is c.before, flow_is c) (subst (SFits w32) (sym (own_flow (atℤ s.args.left.now o.d) (atℤ s.args.offer.now) o.d))
     (s.requires.2 o.d (omega arith)))
 
 slice-set-from-left : tie.Need-bounds-left-d invariant-loop decreases-loop
 slice-set-from-left c =
-    let s = c.before.before.before.before.before in
-    omega (arith, filled_length _ _ _ _ c.before.before.before.before.loop-d.invariant.2 (omega (arith, s.requires.0, s.requires.1)), s.requires.0, s.requires.1)
+    let s = c in
+    omega (arith, filled_length _ _ _ _ c.loop-d.invariant.2 (omega (arith, s.requires.0, s.requires.1)), s.requires.0, s.requires.1)
 
 loop-again : tie.Need-loop-d-preserved invariant-loop decreases-loop
 loop-again c =
-    let s = c.before.before.before.before.before in
-    let o = c.before.before.before.before.loop-d in (
+    let s = c in
+    let o = c.loop-d in (
       omega arith,
       o.invariant.1,
       copy_step _ o.d _ _ _ o.invariant.2 (omega (arith, s.requires.0, s.requires.1))
@@ -72,12 +72,12 @@ loop-again c =
     )
 
 same_length : tie.Need-shape_of-left invariant-loop decreases-loop
-same_length c = let s = c.before.before in filled_length _ _ _ _ c.before.loop-d.invariant.2 (omega (arith, s.requires.0, s.requires.1))
+same_length c = let s = c in filled_length _ _ _ _ c.loop-d.invariant.2 (omega (arith, s.requires.0, s.requires.1))
 
 returns : tie.Need-returns invariant-loop decreases-loop
 returns c =
-    let s = c.before.before in
-    let o = c.before.loop-d in
+    let s = c in
+    let o = c.loop-d in
     let all : o.d ≡ 2 * s.args.edges = omega (arith, o.invariant.0, o.invariant.1, c.loop-d-test.false) in
     let whole = o.invariant.2 ∙ ap (λ k. tabulate k (λ j. atℤ s.args.left.now j -ℤ on_darts (atℤ s.args.offer.now) j) ++ drop k s.args.left.now)
     all in

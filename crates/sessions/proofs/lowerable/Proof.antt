@@ -11,18 +11,18 @@ returns c = λ h. omega (arith, h.few_edges, c.if-edges-gt512.true)
 
 returns-2 : tie.Need-returns-in-Refused
 returns-2 c =
-    let w = c.before.before.before in
-    λ h. first_none _ _ _ (rw c.before.within-1.given.1 at w.check_within-within.ensures) (lowerable_none _ _ _ h)
+    let w = c in
+    λ h. first_none _ _ _ (rw c.in-Refused.is at w.check_within-within.ensures) (lowerable_none _ _ _ h)
 
 returns-3 : tie.Need-returns-then-limits_fit
 returns-3 c =
-    let w = c.before.before in
-    let l = w.before.before in
-    tested_lowerable _ _ _ (omega (arith, l.before.if-edges-gt512.false)) (said_yes l.limits_fit.ensures w.before.if-limits_fit.true)
-    (rw c.enum_told-1.given.1 at w.check_within-within.ensures)
+    let w = c in
+    let l = w in
+    tested_lowerable _ _ _ (omega (arith, l.if-edges-gt512.false)) (said_yes l.limits_fit.ensures w.if-limits_fit.true)
+    (rw c.in_default.is at w.check_within-within.ensures)
 
 returns-4 : tie.Need-returns
-returns-4 c = λ h. said_no c.before.limits_fit.ensures c.if-limits_fit.false h.limits
+returns-4 c = λ h. said_no c.limits_fit.ensures c.if-limits_fit.false h.limits
 
 pub lowerable_spec : {M : Type 1} → statement M
 lowerable_spec =

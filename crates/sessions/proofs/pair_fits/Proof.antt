@@ -8,18 +8,18 @@ use Rattle.sessions.proofs.pair_fits.Statement.{statement}
 use Rattle.sessions.proofs.pair_fits.Tie as tie
 
 returns : tie.Need-returns-then-back-gt2000000
-returns c = λ h. lt_le_clash (lt_of_test _ _ (rw (number_of_bits _ c.before.ranges.back) at c.if-back-gt2000000.true)) h.1
+returns c = λ h. lt_le_clash (lt_of_test _ _ (rw (number_of_bits _ c.ranges.back) at c.if-back-gt2000000.true)) h.1
 
 returns-2 : tie.Need-returns-then-exceeds
 returns-2 c =
-    let f = c.before.before.before.ranges in
-    too_great _ _ (rw (number_of_bits _ f.forward, number_of_bits _ f.back) at (said_yes c.before.exceeds.ensures c.if-exceeds.true))
+    let f = c.ranges in
+    too_great _ _ (rw (number_of_bits _ f.forward, number_of_bits _ f.back) at (said_yes c.exceeds.ensures c.if-exceeds.true))
 
 returns-3 : tie.Need-returns
 returns-3 c =
-    let s = c.before.before.before in
-    fits_pair _ _ (ge_of_test _ _ (rw (number_of_bits _ s.ranges.back) at c.before.before.if-back-gt2000000.false))
-    (rw (number_of_bits _ s.ranges.forward, number_of_bits _ s.ranges.back) at (said_no c.before.exceeds.ensures c.if-exceeds.false))
+    let s = c in
+    fits_pair _ _ (ge_of_test _ _ (rw (number_of_bits _ s.ranges.back) at c.if-back-gt2000000.false))
+    (rw (number_of_bits _ s.ranges.forward, number_of_bits _ s.ranges.back) at (said_no c.exceeds.ensures c.if-exceeds.false))
 
 pub pair_fits_spec : {M : Type 1} → statement M
 pair_fits_spec = tie.close (tie.spec returns (λ c κs. search rules) returns-2 returns-3)

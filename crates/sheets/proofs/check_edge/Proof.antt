@@ -49,15 +49,15 @@ backward_is c = number_of_bits _ (record { sfits = c.backward-1.given })
 -- ── the verdict on the fields is the verdict on the edge ──
 returns : tie.Need-returns
 returns c =
-    let backward = c.before in
-    let forward = backward.before in
-    let back = back-rotation-at forward in
+    let backward = c in
+    let forward = backward in
+    let back = back-rotation-at forward.before.before in
     let rotation = rotation-at back in
     let head = head_at rotation in
     let tail = tail_at head in
     let s = begun tail in
     edge_judged (drawn s) s.args.e c.check_fields.result
-    tail.wide-tail.ensures head.wide-head.ensures rotation.wide-rotation.ensures back.wide-back_rotation.ensures (forward_is forward) (backward_is backward)
+    tail.wide-tail.ensures head.wide-head.ensures rotation.wide-rotation.ensures back.wide-back_rotation.ensures (forward_is forward.before.before) (backward_is backward.before)
     c.check_fields.ensures
 
 pub check_edge_spec : {M : Type 1} → statement M

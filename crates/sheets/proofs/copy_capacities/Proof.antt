@@ -24,14 +24,14 @@ loop-holds c = (omega arith, c.requires, refl, copy_start _ _)
 
 loop-again : tie.Need-loop-d-preserved invariant-loop decreases-loop
 loop-again c =
-    let o = c.before.before.loop-d in
+    let o = c.loop-d in
     let more = copy_step _ o.d _ _ _ o.invariant.3 (omega (arith, o.invariant.2)) (number_of_bits _ (record { sfits = c.to-1.given })) in
     (omega arith, o.invariant.1, filled_length _ _ _ _ more (omega (arith, o.invariant.2)), more)
 
 returns : tie.Need-returns invariant-loop decreases-loop
 returns c =
-    let o = c.before.loop-d in
-    let old = c.before.before.args.to-1.now in
+    let o = c.loop-d in
+    let old = c.args.to.now in
     let all : o.d ≡ length old = omega (arith, o.invariant.2) in
     o.invariant.3 ∙ filled_all _ _ old all
 

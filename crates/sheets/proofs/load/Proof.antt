@@ -27,12 +27,12 @@ loop-holds : tie.Need-loop-d-init invariant-loop decreases-loop
 loop-holds c = (omega arith, filling_start _ c.requires.0 c.requires.2)
 
 loop-again : tie.Need-loop-d-preserved invariant-loop decreases-loop
-loop-again c = let o = turn c in (omega arith, filling_step o.loop-d.inv.1 _ (omega (arith, (begun o).pre.1)) refl)
+loop-again c = let o = turn c.before in (omega arith, filling_step o.loop-d.invariant.1 _ (omega (arith, (begun o).requires.1)) refl)
 
 returns : tie.Need-returns invariant-loop decreases-loop
 returns c =
-    let o = c.before in
-    let from = (begun o).args.from.now in
+    let o = c in
+    let from = (begun o.before).args.from.now in
     let all : o.loop-d.d ≡ length from = omega arith in
     (o.loop-d.invariant.1.long, λ d. loaded from (rw all at o.loop-d.invariant.1) d)
 

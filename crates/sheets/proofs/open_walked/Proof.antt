@@ -7,7 +7,7 @@ use Rattle.sheets.proofs.open_walked.Tie as tie
 
 read-sheet-requires : tie.Need-read_sheet-opened-requires
 read-sheet-requires c κs =
-    let p = c.before.before.before.before.before.before.before.before.before.requires in (
+    let p = c.requires in (
       refl,
       same_everywhere 1024 0,
       refl,
@@ -23,7 +23,7 @@ read-sheet-requires c κs =
     )
 
 returns : tie.Need-returns
-returns c = let e = c.before.read_sheet-opened.ensures in (e.4, e.5, e.6, e.7, e.8, λ a. (e.2, e.9 a))
+returns c = let e = c.read_sheet-opened.ensures in (e.4, e.5, e.6, e.7, e.8, λ a. (e.2, e.9 a))
 
 pub open_walked_spec : {M : Type 1} → statement M
 open_walked_spec = tie.close (tie.spec read-sheet-requires returns)

@@ -18,13 +18,13 @@ use Rattle.sheets.proofs.read.Tie as tie
 
 -- ── the sheet is accepted ──
 abbrev sheet : tie.After-open_walked-net → List ℕ
-sheet c = c.before.before.before.before.before.before.before.before.args.sheet.now
+sheet c = c.args.sheet.now
 
 abbrev net : tie.After-open_walked-net → Network
 net c = c.open_walked-net.result
 
 accepted : (c : tie.Else-not-net) → NoneOf (sheet_checks (sheet c.before)) × Holds (sheet c.before) (net c.before)
-accepted c = opens_passed (sheet c.before) (net c.before) c.if-not-net.false c.before.open_walked-net.ensures.4
+accepted c = opens_passed (sheet c.before) (net c.before) c.if-not-net.false-raw c.open_walked-net.ensures.4
 
 few : (c : tie.Else-not-net) → ((net c.before).sizes.edges ≤ 512) × ((net c.before).sizes.nodes ≤ 513) × ((net c.before).sizes.outer ≤ 1023)
 few c =
@@ -39,13 +39,13 @@ told c = c.before.before.before.before.before
 
 -- ── the slices are filled, one after another ──
 abbrev roomy : tie.After-copy_darts → tie.Else-capacities-darts
-roomy c = c.before.before.before.before
+roomy c = c.before.before.before
 
 abbrev tails-copied : tie.After-copy_darts-2 → tie.After-copy_darts
-tails-copied c = c.before.before.before.before.before.before
+tails-copied c = c.before.before.before.before.before
 
 abbrev rotations-copied : tie.After-copy_capacities → tie.After-copy_darts-2
-rotations-copied c = c.before.before.before.before.before.before
+rotations-copied c = c.before.before.before.before.before
 
 abbrev copied : tie.After-copy_capacities → tie.Else-capacities-darts
 copied c = roomy (tails-copied (rotations-copied c))
@@ -56,8 +56,8 @@ open-walked-requires c κs = (refl, refl, refl, refl)
 
 returns : tie.Need-returns-then-not-net
 returns c =
-    let o = c.before in
-    (read_refused _ _ _ _ _ _ (opens_refused (sheet o) (net o) c.if-not-net.true o.open_walked-net.ensures.4), refl, refl, refl)
+    let o = c in
+    (read_refused _ _ _ _ _ _ (opens_refused (sheet o.before) (net o.before) c.if-not-net.true-raw o.open_walked-net.ensures.4), refl, refl, refl)
 
 mul-darts : tie.Need-overflow_mul-darts
 mul-darts c = omega (arith, (few c.before.before).0)
@@ -78,13 +78,13 @@ lent : {A : Type 0} (c : tie.Else-not-net) (l : List A) → length (take (2 * (n
 lent c l = omega (arith, part_short (2 * (net c.before).sizes.edges) l, (few c).0)
 
 copy-darts-requires : tie.Need-copy_darts-requires
-copy-darts-requires c κs = lent (told c.before.before.before) _
+copy-darts-requires c κs = lent (told c.before.before) _
 
 copy-darts-requires-2 : tie.Need-copy_darts-requires-2
-copy-darts-requires-2 c κs = lent (told (roomy c.before.before.before.before.before)) _
+copy-darts-requires-2 c κs = lent (told (roomy c.before.before.before.before)) _
 
 copy-capacities-requires : tie.Need-copy_capacities-requires
-copy-capacities-requires c κs = lent (told (roomy (tails-copied c.before.before.before.before.before))) _
+copy-capacities-requires c κs = lent (told (roomy (tails-copied c.before.before.before.before))) _
 
 narrow-requires : tie.Need-narrow-requires
 narrow-requires c κs = omega (arith, (few (told (copied c.before))).1)
@@ -97,22 +97,22 @@ narrow-requires-3 c κs = omega (arith, (few (told (copied c.before.before.befor
 
 returns-5 : tie.Need-returns
 returns-5 c =
-    let k = c.before.before.before.before in
-    let rotations = rotations-copied k in
+    let k = c in
+    let rotations = rotations-copied k.before.before.before.before in
     let tails = tails-copied rotations in
-    let r = copied k in
+    let r = copied k.before.before.before.before in
     let t = told r in
     let a = accepted t in
     let e = a.1.edges_are in
     let all : 2 * (net t.before).sizes.edges ≡ _ = ap (λ m. 2 * m) e in (
       read_whole (sheet t.before) _ _ _ a.0
-          (omega (arith, e, r.before.before.if-tails-darts.left)) (omega (arith, e, r.before.if-rotations-darts.left)) (omega (arith, e, r.if-capacities-darts.left)),
-      c.before.before.narrow.ensures ∙ a.1.nodes_are,
-      c.before.narrow-2.ensures ∙ e,
+          (omega (arith, e, r.if-tails-darts.false)) (omega (arith, e, r.if-rotations-darts.false)) (omega (arith, e, r.if-capacities-darts.false)),
+      c.narrow.ensures ∙ a.1.nodes_are,
+      c.narrow-2.ensures ∙ e,
       c.narrow-3.ensures ∙ a.1.outer_is,
-      part_copied _ _ _ _ _ _ r.before.before.if-tails-darts.left all a.1.tails_are tails.copy_darts.ensures,
-      part_copied _ _ _ _ _ _ r.before.if-rotations-darts.left all a.1.rotations_are rotations.copy_darts-2.ensures,
-      part_copied _ _ _ _ _ _ r.if-capacities-darts.left all a.1.capacities_are k.copy_capacities.ensures,
+      part_copied _ _ _ _ _ _ r.if-tails-darts.false all a.1.tails_are tails.copy_darts.ensures,
+      part_copied _ _ _ _ _ _ r.if-rotations-darts.false all a.1.rotations_are rotations.copy_darts-2.ensures,
+      part_copied _ _ _ _ _ _ r.if-capacities-darts.false all a.1.capacities_are k.copy_capacities.ensures,
     )
 
 pub read_spec : {M : Type 1} → statement M

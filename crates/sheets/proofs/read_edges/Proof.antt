@@ -37,15 +37,15 @@ abbrev turn : tie.After-read_edge-edge invariant-loop decreases-loop → tie.At-
 turn c = c.before.before
 
 abbrev read : tie.After-struct_told-in-loop-e-1 invariant-loop decreases-loop → tie.After-read_edge-edge invariant-loop decreases-loop
-read c = c.before.before.before.before
+read c = c.before.before.before.before.before
 
 -- ── the edge that was read passed ──
 passed : (c : tie.After-struct_told-in-loop-e-1 invariant-loop decreases-loop)
-    → NoneOf (edge_record_checks (begun (turn (read c))).args.s.now (turn (read c)).loop.e)
-    × FieldsOf (begun (turn (read c))).args.s.now (turn (read c)).loop.e (read c).read-edge.result
+    → NoneOf (edge_record_checks (begun (turn (read c))).args.s.now (turn (read c)).loop-e.e)
+    × FieldsOf (begun (turn (read c))).args.s.now (turn (read c)).loop-e.e (read c).read_edge-edge.result
 passed c =
-    subst (EdgeRead (begun (turn (read c))).args.s.now (turn (read c)).loop.e (read c).read-edge.result) c.before.before.enum_told-1.given.1
-    (read c).read-edge.ensures
+    subst (EdgeRead (begun (turn (read c))).args.s.now (turn (read c)).loop-e.e (read c).read_edge-edge.result) c.in_default.is
+    (read c).read_edge-edge.ensures
 
 -- two places further
 two-more : {A : Type 0} {z : A} {f : ℕ → A} (e : ℕ) (to : List A) → Filling z f (2 * e + 1 + 1) to → Filling z f (2 * (e + 1)) to
@@ -54,7 +54,7 @@ two-more {z = z} {f = f} e to φ = subst (λ k. Filling z f k to) (omega arith) 
 -- ── the needs, in the order of the code ──
 loop-holds : tie.Need-loop-e-init invariant-loop decreases-loop
 loop-holds c =
-    let p = c.before.requires in (
+    let p = c.requires in (
       omega arith,
       omega (arith, p.3, (head_counts _ p.0).3),
       λ i l. absurd (omega arith),
@@ -65,67 +65,67 @@ loop-holds c =
 
 read-edge-requires : tie.Need-read_edge-edge-requires invariant-loop decreases-loop
 read-edge-requires c κs =
-    let p = (begun c.before).pre in
-    (c.before.loop-e.invariant.1, omega arith, omega (arith, p.1, head_whole _ p.0), p.1, p.2, p.3)
+    let p = (begun c.before).requires in
+    (c.loop-e.invariant.1, omega arith, omega (arith, p.1, head_whole _ p.0), p.1, p.2, p.3)
 
 returns : tie.Need-returns-in-Refused invariant-loop decreases-loop
 returns c =
-    let edge = c.before.before.before in
-    let o = (turn edge).loop in
-    let p = (begun (turn edge)).pre in (
-      o.inv.3.long,
-      o.inv.4.long,
-      o.inv.5.long,
-      refused_edge _ p.0 o.e _ _ (omega (arith, p.3)) o.inv.2
-          (subst (EdgeRead (begun (turn edge)).args.s.now o.e edge.read_edge-edge.result) c.before.verdict-1.given.1 edge.read_edge-edge.ensures),
+    let edge = c in
+    let o = (turn edge.before).loop-e in
+    let p = (begun (turn edge.before)).requires in (
+      o.invariant.3.long,
+      o.invariant.4.long,
+      o.invariant.5.long,
+      refused_edge _ p.0 o.e _ _ (omega (arith, p.3)) o.invariant.2
+          (subst (EdgeRead (begun (turn edge.before)).args.s.now o.e edge.read_edge-edge.result) c.in-Refused.is edge.read_edge-edge.ensures),
     )
 
 loop-again : tie.Need-loop-e-preserved invariant-loop decreases-loop
 loop-again c =
-    let o = (turn (read c)).loop in
+    let o = (turn (read c)).loop-e in
     let e = o.e in
-    let few = o.inv.1 in
-    let r = (read c).read-edge.result in
+    let few = o.invariant.1 in
+    let r = (read c).read_edge-edge.result in
     let f = (passed c).1 in
     let told = c.struct_told-in-loop-e-1.given in (
       omega arith,
       few,
-      below_more _ e o.inv.2 (passed c).0,
-      two-more e _ (filling_step (filling_step o.inv.3 r.tail (omega (arith, few)) f.tail_is) r.head (omega (arith, few)) f.head_is),
+      below_more _ e o.invariant.2 (passed c).0,
+      two-more e _ (filling_step (filling_step o.invariant.3 r.tail (omega (arith, few)) f.tail_is) r.head (omega (arith, few)) f.head_is),
       two-more e _
-          (filling_step (filling_step o.inv.4 r.rotation (omega (arith, few)) f.rotation_is) r.back_rotation (omega (arith, few)) f.back_is),
+          (filling_step (filling_step o.invariant.4 r.rotation (omega (arith, few)) f.rotation_is) r.back_rotation (omega (arith, few)) f.back_is),
       two-more e _
           (filling_step
-          (filling_step o.inv.5 _ (omega (arith, few)) (number_of_bits r.forward (record { sfits = told.1.1.1.1.1.0.1 }) ∙ f.forward_is))
+          (filling_step o.invariant.5 _ (omega (arith, few)) (number_of_bits r.forward (record { sfits = told.1.1.1.1.1.0.1 }) ∙ f.forward_is))
           _ (omega (arith, few)) (number_of_bits r.backward (record { sfits = told.1.1.1.1.1.1.0.1 }) ∙ f.backward_is)),
     )
 
 edge-at-requires : tie.Need-edge_at-requires invariant-loop decreases-loop
-edge-at-requires c κs = let p = (begun c.before).pre in (omega (arith, p.1, head_whole _ p.0), c.before.loop-e.invariant.1)
+edge-at-requires c κs = let p = (begun c.before).requires in (omega (arith, p.1, head_whole _ p.0), c.loop-e.invariant.1)
 
 returns-2 : tie.Need-returns-then-edge_at-s invariant-loop decreases-loop
 unfolding FirstOf
 returns-2 c =
-    let o = c.before.before.before.loop-e in
-    let p = (begun c.before.before.before).pre in (
+    let o = c.loop-e in
+    let p = (begun c.before.before.before).requires in (
       o.invariant.3.long,
       o.invariant.4.long,
       o.invariant.5.long,
-      refused_left _ p.0 (λ k l. o.invariant.2 k (omega (arith, p.3))) (inl (omega (arith, c.before.edge_at.ensures, p.1, p.3), refl, refl)),
+      refused_left _ p.0 (λ k l. o.invariant.2 k (omega (arith, p.3))) (inl (omega (arith, c.edge_at.ensures, p.1, p.3), refl, refl)),
     )
 
 returns-3 : tie.Need-returns invariant-loop decreases-loop
 unfolding NoneOf
 returns-3 c =
-    let o = c.before.before.before.loop-e in
-    let p = (begun c.before.before.before).pre in
+    let o = c.loop-e in
+    let p = (begun c.before.before.before).requires in
     let s = (begun c.before.before.before).args.s.now in
     let all : 2 * o.e ≡ 2 * edges_of s = omega (arith, p.3) in (
       o.invariant.3.long,
       o.invariant.4.long,
       o.invariant.5.long,
       (
-        all_passed _ p.0 (λ k l. o.invariant.2 k (omega (arith, p.3))) (λ l. omega (arith, c.before.edge_at.ensures, p.1, p.3), tt),
+        all_passed _ p.0 (λ k l. o.invariant.2 k (omega (arith, p.3))) (λ l. omega (arith, c.edge_at.ensures, p.1, p.3), tt),
         record {
           tails_are = tails_are s _ all _ o.invariant.3;
           rotations_are = rotations_are s _ all _ o.invariant.4;

@@ -29,34 +29,34 @@ uneven : (s : tie.Start)
     → (length s.args.rotations.now ≢ length s.args.tails.now)
     ⊎ ((length s.args.capacities.now ≢ length s.args.tails.now) ⊎ (length s.args.tails.now % 2 ≢ 0))
     → FirstOf (write_checks s.args.nodes s.args.outer s.args.tails.now s.args.rotations.now s.args.capacities.now
-    s.args.out-1.now) 16 0
-uneven s = write_uneven s.args.nodes s.args.outer s.args.tails.now s.args.rotations.now s.args.capacities.now s.args.out-1.now
+    s.args.out.now) 16 0
+uneven s = write_uneven s.args.nodes s.args.outer s.args.tails.now s.args.rotations.now s.args.capacities.now s.args.out.now
 
 abbrev begun : tie.Else-length-ne0 → tie.Start
 begun c = c.before.before.before.before.before.before
 
 same-rotations : (c : tie.Else-length-ne0) → length (begun c).args.rotations.now ≡ length (begun c).args.tails.now
-same-rotations c = c.before.before.if-rotations-length.false
+same-rotations c = c.if-rotations-length.false
 
 same-capacities : (c : tie.Else-length-ne0) → length (begun c).args.capacities.now ≡ length (begun c).args.tails.now
-same-capacities c = c.before.if-capacities-length.false
+same-capacities c = c.if-capacities-length.false
 
 -- ── the checks on the drawing ──
 abbrev even : tie.After-check_slices-drawing → tie.Else-length-ne0
 even c = c.before.before.before
 
 judged : (c : tie.After-check_slices-drawing) (v : Verdict) → c.check_slices-drawing.result ≡ v → Judged (drawing_checks (drawn (begun (even c)))) v
-judged c v e = rw (e, c.before.before.wide.ensures, c.before.wide-2.ensures) at c.check_slices-drawing.ensures
+judged c v e = rw (e, c.wide.ensures, c.wide-2.ensures) at c.check_slices-drawing.ensures
 
 -- ── the drawing passed ──
 abbrev sliced : tie.In_default → tie.Else-length-ne0
-sliced c = even c.before.before
+sliced c = even c.before
 
 abbrev base : tie.In_default → tie.Start
 base c = begun (sliced c)
 
 passed : (c : tie.In_default) → NoneOf (drawing_checks (drawn (base c)))
-passed c = judged c.before.before Passed c.enum_told-1.given.1
+passed c = judged c.before Passed c.in_default.is
 
 few : (c : tie.In_default) → edges_in (base c).args.tails.now ≤ 512
 few c = (counts_range _ _ _ (drawing_parts (drawn (base c)) (passed c)).0).3
@@ -66,9 +66,9 @@ abbrev told : tie.Else-out-end → tie.In_default
 told c = c.before.before.before
 
 end : (c : tie.After-edge_at-end) → c.edge_at-end.result ≡ encode_length (edges_in (base c.before.before).args.tails.now)
-end c = c.edge_at-end.ensures ∙ ap (λ n. edge_after n (edges_in (base c.before.before).args.tails.now)) c.before.record_length.ensures.0
+end c = c.edge_at-end.ensures ∙ ap (λ n. edge_after n (edges_in (base c.before.before).args.tails.now)) c.record_length.ensures.0
 
-long : (c : tie.Else-out-end) → c.before.edge_at-end.result ≡ encode_length (edges_in (base (told c)).args.tails.now)
+long : (c : tie.Else-out-end) → c.edge_at-end.result ≡ encode_length (edges_in (base (told c)).args.tails.now)
 long c = end c.before
 
 -- ── the head is written ──
@@ -78,15 +78,15 @@ roomy c = c.before.before.before
 abbrev start : tie.After-write_head → tie.Start
 start c = base (told (roomy c))
 
-head-length : (c : tie.After-write_head) → length c.write_head.new.0 ≡ length (start c).args.out-1.now
+head-length : (c : tie.After-write_head) → length c.write_head.new.out ≡ length (start c).args.out.now
 head-length c =
     let a = (start c).args in
-    head_kept a.nodes c.before.narrow.result a.outer a.out-1.now _ c.write_head.ensures (omega (arith, long (roomy c)))
+    head_kept a.nodes c.narrow.result a.outer a.out.now _ c.write_head.ensures (omega (arith, long (roomy c)))
 
-headed : (c : tie.After-write_head) → c.write_head.new.0 ≡ encode_head (drawn (start c)) ++ drop (record_length 4) (start c).args.out-1.now
+headed : (c : tie.After-write_head) → c.write_head.new.out ≡ encode_head (drawn (start c)) ++ drop (record_length 4) (start c).args.out.now
 headed c =
-    let n = c.before.narrow in
-    head_written (drawn (start c)) (start c).args.out-1.now _ n.result n.ensures c.write_head.ensures
+    let n = c.narrow in
+    head_written (drawn (start c)) (start c).args.out.now _ n.result n.ensures c.write_head.ensures
 
 -- ── the needs, in the order of the code ──
 returns : tie.Need-returns-then-rotations-length
@@ -99,15 +99,15 @@ returns-3 : tie.Need-returns-then-length-ne0
 returns-3 c = (uneven c.before.before.before.before.before.before (inr (inr c.if-length-ne0.true)), refl)
 
 check-slices-requires : tie.Need-check_slices-drawing-requires
-check-slices-requires c κs = let e = c.before.before in (same-rotations e, same-capacities e, e.if-length-ne0.false)
+check-slices-requires c κs = let e = c in (same-rotations e.before.before, same-capacities e.before.before, e.if-length-ne0.false)
 
 returns-4 : tie.Need-returns-in-Refused
 returns-4 c =
-    let j = c.before.before.before in
-    let e = even j in
+    let j = c in
+    let e = even j.before in
     let a = (begun e).args in (
-      write_refused a.nodes a.outer a.tails.now a.rotations.now a.capacities.now a.out-1.now
-          (same-rotations e) (same-capacities e) e.if-length-ne0.left _ _ (judged j (Refused _ _) c.before.drawing-1.given.1),
+      write_refused a.nodes a.outer a.tails.now a.rotations.now a.capacities.now a.out.now
+          (same-rotations e) (same-capacities e) e.if-length-ne0.false _ _ (judged j.before (Refused _ _) c.in-Refused.is),
       refl,
     )
 
@@ -116,11 +116,11 @@ edge-at-requires c κs = (c.record_length.ensures.1, few c.before)
 
 returns-5 : tie.Need-returns-then-out-end
 returns-5 c =
-    let t = c.before.before.before in
-    let e = sliced t in
+    let t = c in
+    let e = sliced t.before.before.before in
     let a = (begun e).args in (
-      write_short a.nodes a.outer a.tails.now a.rotations.now a.capacities.now a.out-1.now
-          (same-rotations e) (same-capacities e) e.if-length-ne0.left (passed t) (omega (arith, end c.before)),
+      write_short a.nodes a.outer a.tails.now a.rotations.now a.capacities.now a.out.now
+          (same-rotations e) (same-capacities e) e.if-length-ne0.false (passed t.before.before.before) (omega (arith, end c.before)),
       refl,
     )
 
@@ -132,24 +132,24 @@ write-head-requires c κs = omega (arith, long c.before.before)
 
 write-edges-requires : tie.Need-write_edges-requires
 write-edges-requires c κs =
-    let h = c.before.before.before in
-    let t = told (roomy h) in
+    let h = c in
+    let t = told (roomy h.before.before.before) in
     let e = sliced t in
-    (same-rotations e, same-capacities e, omega (arith, e.if-length-ne0.left, few t), omega (arith, long (roomy h), head-length h))
+    (same-rotations e, same-capacities e, omega (arith, e.if-length-ne0.false, few t), omega (arith, long (roomy h.before.before.before), head-length h.before.before.before))
 
 returns-6 : tie.Need-returns
 returns-6 c =
-    let w = c.before.before in
-    let h = w.before.before.before.before in
-    let t = told (roomy h) in
+    let w = c in
+    let h = w in
+    let t = told (roomy h.before.before.before.before.before.before) in
     let e = sliced t in
-    let s = start h in
+    let s = start h.before.before.before.before.before.before in
     let a = s.args in
-    let n = long (roomy h) in (
-      write_whole a.nodes a.outer a.tails.now a.rotations.now a.capacities.now a.out-1.now
-          (same-rotations e) (same-capacities e) e.if-length-ne0.left (passed t) (omega (arith, n)),
+    let n = long (roomy h.before.before.before.before.before.before) in (
+      write_whole a.nodes a.outer a.tails.now a.rotations.now a.capacities.now a.out.now
+          (same-rotations e) (same-capacities e) e.if-length-ne0.false (passed t) (omega (arith, n)),
       n,
-      w.write_edges.ensures a.nodes a.outer a.out-1.now (headed h) ∙ ap (λ k. encode (drawn s) ++ drop k a.out-1.now) (sym n),
+      w.write_edges.ensures a.nodes a.outer a.out.now (headed h.before.before.before.before.before.before) ∙ ap (λ k. encode (drawn s) ++ drop k a.out.now) (sym n),
     )
 
 pub write_spec : {M : Type 1} → statement M

@@ -48,60 +48,60 @@ begun c = (turn c).before.before.before.before.before
 
 -- ── an edge is written ──
 abbrev record_of : (nodes outer : ℕ) → tie.After-write_edge-arg-in-loop-e-2-1 invariant-loop decreases-loop → List ℕ
-record_of nodes outer c = encode_edge (drawn nodes outer (begun c)) (turn c).loop.e
+record_of nodes outer c = encode_edge (drawn nodes outer (begun c)) (turn c).loop-e.e
 
 -- its record stands where the call was told; the nodes and the outer dart play no part in it
 put-there : (c : tie.After-write_edge invariant-loop decreases-loop) (nodes outer : ℕ)
-    → c.write_edge.new.0 ≡ put (located c.before).edge-at.result (record_of nodes outer c.before) (turn c.before).loop.out-1
+    → c.write_edge.new.out ≡ put (located c.before).edge_at-place.result (record_of nodes outer c.before) (turn c.before).loop-e.out
 unfolding encode_edge
 put-there c nodes outer =
-    let a = c.before in
-    let e = (turn a).loop.e in
-    let capacities = (begun a).args.capacities.now in
+    let a = c in
+    let e = (turn a.before).loop-e.e in
+    let capacities = (begun a.before).args.capacities.now in
     rw (
-      number_of_bits (get_or capacities (2 * e) (pos 0)) (record { sfits = a.before.write_edge-arg-in-loop-e-1.given }),
+      number_of_bits (get_or capacities (2 * e) (pos 0)) (record { sfits = a.write_edge-arg-in-loop-e-1.given }),
       number_of_bits (get_or capacities (2 * e + 1) (pos 0)) (record { sfits = a.write_edge-arg-in-loop-e-2-1.given }),
     ) at c.write_edge.ensures
 
 -- and that is where the table has it, behind a head of kind 4
-place : (c : tie.After-edge_at-place invariant-loop decreases-loop) → c.edge_at-place.result ≡ encode_length c.before.before.loop-e.e
-place c = let o = c.before.before in c.edge_at-place.ensures ∙ ap (λ n. edge_after n o.loop-e.e) o.before.record_length-head.ensures.0
+place : (c : tie.After-edge_at-place invariant-loop decreases-loop) → c.edge_at-place.result ≡ encode_length c.loop-e.e
+place c = let o = c in c.edge_at-place.ensures ∙ ap (λ n. edge_after n o.loop-e.e) o.record_length-head.ensures.0
 
 written : (c : tie.After-write_edge invariant-loop decreases-loop) (nodes outer : ℕ)
-    → c.write_edge.new.0 ≡ put (encode_length (turn c.before).loop.e) (record_of nodes outer c.before) (turn c.before).loop.out-1
+    → c.write_edge.new.out ≡ put (encode_length (turn c.before).loop-e.e) (record_of nodes outer c.before) (turn c.before).loop-e.out
 written c nodes outer =
-    let a = c.before in
-    put-there c nodes outer ∙ ap (λ n. put n (record_of nodes outer a) (turn a).loop.out-1) (place (located a))
+    let a = c in
+    put-there c nodes outer ∙ ap (λ n. put n (record_of nodes outer a.before) (turn a.before).loop-e.out) (place (located a.before))
 
 -- so the length is kept
-kept : (c : tie.After-write_edge invariant-loop decreases-loop) → length c.write_edge.new.0 ≡ length (turn c.before).loop.out-1
+kept : (c : tie.After-write_edge invariant-loop decreases-loop) → length c.write_edge.new.out ≡ length (turn c.before).loop-e.out
 kept c =
-    let a = c.before in
-    placed_length (placed_first {bs = record_of 0 0 a} (written c 0 0) (edge_length (drawn 0 0 (begun a)) (turn a).loop.e))
-    (omega (arith, (turn a).loop.invariant.1, (begun a).requires.3))
+    let a = c in
+    placed_length (placed_first {bs = record_of 0 0 a.before} (written c 0 0) (edge_length (drawn 0 0 (begun a.before)) (turn a.before).loop-e.e))
+    (omega (arith, (turn a.before).loop-e.invariant.1, (begun a.before).requires.3))
 
 -- ── the needs, in the order of the code ──
 loop-holds : tie.Need-loop-e-init invariant-loop decreases-loop
 loop-holds c = (omega arith, refl, λ nodes outer old e. write_start (drawn nodes outer c.before.before.before.before) old _ e)
 
 write-edge-requires : tie.Need-write_edge-requires invariant-loop decreases-loop
-write-edge-requires c κs = omega (arith, place (located c), (turn c).loop.invariant.1, (begun c).requires.3)
+write-edge-requires c κs = omega (arith, place (located c), (turn c).loop-e.invariant.1, (begun c).requires.3)
 
 loop-again : tie.Need-loop-e-preserved invariant-loop decreases-loop
 loop-again c =
-    let w = c.before.before in
-    let a = w.before in
-    let o = (turn a).loop in (
+    let w = c in
+    let a = w in
+    let o = (turn a.before.before.before).loop-e in (
       omega arith,
-      kept w ∙ o.inv.1,
-      λ nodes outer old e. write_step (drawn nodes outer (begun a)) old o.e o.out-1 _ (o.inv.2 nodes outer old e) (written w nodes outer),
+      kept w.before.before ∙ o.invariant.1,
+      λ nodes outer old e. write_step (drawn nodes outer (begun a.before.before.before)) old o.e o.out _ (o.invariant.2 nodes outer old e) (written w.before.before nodes outer),
     )
 
 returns : tie.Need-returns invariant-loop decreases-loop
 returns c = λ nodes outer old e.
-    let o = c.before in
-    let s = o.before.before.before.before.before in
-    write_end (drawn nodes outer s) old o.loop-e.e _ (omega arith) (o.loop-e.invariant.2 nodes outer old e)
+    let o = c in
+    let s = o in
+    write_end (drawn nodes outer s.before.before.before.before.before.before) old o.loop-e.e _ (omega arith) (o.loop-e.invariant.2 nodes outer old e)
 
 pub write_edges_spec : {M : Type 1} → statement M
 write_edges_spec =

@@ -20,12 +20,12 @@ begun c = c.before.before.before
 -- ── all four fields are one record ──
 returns : tie.Need-returns
 returns c =
-    let outer = c.before.before in
-    let edges = edges_at outer in
+    let outer = c in
+    let edges = edges_at outer.before.before in
     let nodes = nodes-at edges in
     let kind = kind_at nodes in
     let s = begun kind in
-    head_placed s.args.out-1.now s.args.nodes s.args.edges s.args.outer s.pre
+    head_placed s.args.out.now s.args.nodes s.args.edges s.args.outer s.requires
     kind.write_u8.ensures nodes.write_u16.ensures edges.write_u16-2.ensures outer.write_u16-3.ensures
 
 pub write_head_spec : {M : Type 1} → statement M

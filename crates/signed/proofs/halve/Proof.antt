@@ -9,9 +9,9 @@ use Rattle.signed.proofs.halve.Tie as tie
 
 returns : tie.Need-returns
 returns c =
-    let s = c.before.before in
-    halved s.args.x _ c.before.to_bits.result s.ranges.x s.requires
-    (c.before.to_bits.ensures ∙ ap (of_z w32) (number_of_bits _ s.ranges.x))
+    let s = c in
+    halved s.args.x _ c.to_bits.result s.ranges.x s.requires
+    (c.to_bits.ensures ∙ ap (of_z w32) (number_of_bits _ s.ranges.x))
     (number_of_bits _ (record { sfits = c.of_bits.type_inv }) ∙ c.of_bits.ensures)
 
 pub halve_spec : {M : Type 1} → statement M

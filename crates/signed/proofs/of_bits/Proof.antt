@@ -9,7 +9,7 @@ use Rattle.signed.proofs.of_bits.Statement.{statement}
 use Rattle.signed.proofs.of_bits.Tie as tie
 
 returns-2 : tie.Need-returns-else-n-lt2147483648
-returns-2 c = let n = c.before.args.n in let twice : 4294967295 - (4294967295 - n) ≡ n = omega (arith, c.before.ranges.n) in ap (to_z w32) twice
+returns-2 c = let n = c.args.n in let twice : 4294967295 - (4294967295 - n) ≡ n = omega (arith, c.ranges.n) in ap (to_z w32) twice
 
 pub of_bits_spec : {M : Type 1} → statement M
 of_bits_spec = tie.close (tie.spec (λ c. search rules) (λ c. search rules) (λ c. search rules) (λ c. search rules) returns-2)

@@ -16,7 +16,7 @@ mul-fill-lengths c = omega (arith, c.requires.2)
 
 fill-lengths-requires : tie.Need-fill_lengths-requires
 fill-lengths-requires c κs =
-    let p = c.before.requires in
+    let p = c.requires in
     (p.0, lengths_fillable p.2 p.6 p.4 p.5 p.7 (small_value p.8))
 
 -- ── in one tree ──
@@ -25,8 +25,8 @@ begun c = c.before.before
 
 returns : tie.Need-returns-then-fill_lengths
 returns c =
-    let w = c.before in
-    let p = (begun w).requires in
+    let w = c in
+    let p = (begun w.before).requires in
     let e = w.fill_lengths.ensures in
     (e.0, p.1, lengthened p.2 p.6 (same_value p.8) e.1 c.if-fill_lengths.true, measured_by (same_value p.8) e.1 (inl c.if-fill_lengths.true))
 
@@ -38,17 +38,17 @@ flag-part-requires c κs =
 
 returns-2 : tie.Need-returns-then-value-gt0
 returns-2 c =
-    let t = c.before.before in
-    let o = t.before in
-    let w = o.before in
-    let s = begun w in
-    let p = s.pre in
+    let t = c in
+    let o = t in
+    let w = o in
+    let s = begun w.before.before.before.before in
+    let p = s.requires in
     let f = w.fill_lengths.ensures in
     let e = c.flag_part.ensures in
-    let above : pos 0 <ℤ s.args.value = lt_of_test _ _ (rw (number_of_bits _ s.fits.value) at t.if-value-gt0.true) in (
+    let above : pos 0 <ℤ s.args.value = lt_of_test _ _ (rw (number_of_bits _ s.ranges.value) at t.if-value-gt0.true) in (
       f.0,
       e.0,
-      source_part p.2 p.6 (same_value p.8) f.1 (flagged c.flag_part.new.1.1.1.1.1.0) o.if-fill_lengths.false p.5 e.1
+      source_part p.2 p.6 (same_value p.8) f.1 (flagged c.flag_part.new.inside) o.if-fill_lengths.false p.5 e.1
           above,
       measured_by (same_value p.8) f.1 (o.if-fill_lengths.false, inl (above, e.1)),
     )
@@ -61,17 +61,17 @@ flag-part-requires-2 c κs =
 
 returns-3 : tie.Need-returns-then-value-lt0
 returns-3 c =
-    let t = c.before.before in
-    let o = t.before.before in
-    let w = o.before in
-    let s = begun w in
-    let p = s.pre in
+    let t = c in
+    let o = t in
+    let w = o in
+    let s = begun w.before.before.before.before.before in
+    let p = s.requires in
     let f = w.fill_lengths.ensures in
     let e = c.flag_part-then-value-lt0.ensures in
-    let below : s.args.value <ℤ pos 0 = lt_of_test _ _ (rw (number_of_bits _ s.fits.value) at t.if-value-lt0.true) in (
+    let below : s.args.value <ℤ pos 0 = lt_of_test _ _ (rw (number_of_bits _ s.ranges.value) at t.if-value-lt0.true) in (
       f.0,
       e.0,
-      sink_part p.2 p.6 (same_value p.8) f.1 (flagged c.flag_part-then-value-lt0.new.1.1.1.1.1.0) o.if-fill_lengths.false p.4 e.1
+      sink_part p.2 p.6 (same_value p.8) f.1 (flagged c.flag_part-then-value-lt0.new.inside) o.if-fill_lengths.false p.4 e.1
           below,
       measured_by (same_value p.8) f.1 (o.if-fill_lengths.false, inr (below, e.1)),
     )
@@ -79,12 +79,12 @@ returns-3 c =
 -- ── 0: along no path ──
 returns-4 : tie.Need-returns
 returns-4 c =
-    let w = c.before.before.before in
-    let s = begun w in
-    let p = s.pre in
+    let w = c in
+    let s = begun w.before.before.before in
+    let p = s.requires in
     let e = w.fill_lengths.ensures in
-    let high : s.args.value ≤ℤ pos 0 = ge_of_test _ _ (rw (number_of_bits _ s.fits.value) at c.before.if-value-gt0.false) in
-    let low : pos 0 ≤ℤ s.args.value = ge_of_test _ _ (rw (number_of_bits _ s.fits.value) at c.if-value-lt0.false) in
+    let high : s.args.value ≤ℤ pos 0 = ge_of_test _ _ (rw (number_of_bits _ s.ranges.value) at c.if-value-gt0.false) in
+    let low : pos 0 ≤ℤ s.args.value = ge_of_test _ _ (rw (number_of_bits _ s.ranges.value) at c.if-value-lt0.false) in
     let none = le_antisym high low in
     (e.0, p.1, lengthened_none p.2 p.6 (same_value p.8) e.1 none, measured_by (same_value p.8) e.1 (inr none))
 

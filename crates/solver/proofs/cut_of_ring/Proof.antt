@@ -11,7 +11,7 @@ mul-fill-winding : tie.Need-overflow_mul-edges
 mul-fill-winding c = omega (arith, c.requires.2.few_edges)
 
 fill-winding-requires : tie.Need-fill_winding-requires
-fill-winding-requires c κs = let q = c.before.requires.2 in (refl, few_darts q, omega arith, ring_round q, same_everywhere 1024 (pos 0))
+fill-winding-requires c κs = let q = c.requires.2 in (refl, few_darts q, omega arith, ring_round q, same_everywhere 1024 (pos 0))
 
 abbrev begun : tie.After-fill_winding → tie.Start
 begun c = c.before.before
@@ -21,8 +21,8 @@ mul-fill-heights c = omega (arith, (begun c).requires.2.few_edges)
 
 fill-heights-requires : tie.Need-fill_heights-requires
 fill-heights-requires c κs =
-    let w = c.before.before in
-    let p = (begun w).requires in
+    let w = c in
+    let p = (begun w.before.before).requires in
     (refl, heights_fillable p.2 p.1.forest w.fill_winding.ensures.1)
 
 abbrev wound : tie.After-fill_heights → tie.After-fill_winding
@@ -33,17 +33,17 @@ mul-choose-set c = omega (arith, (begun (wound c.before)).requires.2.few_edges)
 
 choose-set-requires : tie.Need-choose_set-requires
 choose-set-requires c κs =
-    let h = c.before.before in
-    let w = wound h in
-    let p = (begun w).pre in
+    let h = c in
+    let w = wound h.before.before in
+    let p = (begun w).requires in
     (p.0, choosable p.2 p.1.forest w.fill_winding.ensures.1 h.fill_heights.ensures.1)
 
 returns : tie.Need-returns
 returns c =
     let e = c.choose_set.ensures in
-    let h = c.before.before.before in
-    let w = wound h in
-    let p = (begun w).pre in
+    let h = c in
+    let w = wound h.before.before.before in
+    let p = (begun w).requires in
     let f = h.fill_heights.ensures in
     (e.0, chosen p.2 _ e.1, made_of_ring p.2 p.1.forest w.fill_winding.ensures.1 f.1 refl f.2 e.2)
 

@@ -6,7 +6,7 @@ use native.Mathlib.Omega.{arith}
 use lib.IntN.{ℤ}
 use borrow.Author.Rules.{rules}
 use Rattle.maps.specs.Map.{Map}
-use Rattle.arrays.specs.At.{atℤ}
+use Rattle.arrays.specs.At.{at, atℤ}
 use Rattle.arrays.specs.Maps.{map_of}
 use Rattle.traversal.proofs.Rooting.{roots_few}
 use Rattle.solver.specs.inner.Search.{Lengthened, Measured}
@@ -20,26 +20,26 @@ abbrev mapAt : tie.Start → Map
 mapAt s = map_of s.args.sizes.nodes s.args.sizes.edges s.args.tails.now s.args.rotations.now
 
 mul-dart-at : tie.Need-overflow_mul-sizes
-mul-dart-at c = omega (arith, c.before.requires.0.drawn.few_edges)
+mul-dart-at c = omega (arith, c.requires.0.drawn.few_edges)
 
 dart-at-requires : tie.Need-dart_at-start-requires
 dart-at-requires c κs =
-    let p = c.before.requires.0 in
+    let p = c.requires.0 in
     (omega (arith, p.drawn.few_edges), p.drawn.plane.sound.has_dart _ p.ends.source_in)
 
 mul-dart-at-2 : tie.Need-overflow_mul-sizes-2
-mul-dart-at-2 c = omega (arith, c.before.before.before.requires.0.drawn.few_edges)
+mul-dart-at-2 c = omega (arith, c.requires.0.drawn.few_edges)
 
 dart-at-requires-2 : tie.Need-dart_at-finish-requires
 dart-at-requires-2 c κs =
-    let p = c.before.before.before.requires.0 in
+    let p = c.requires.0 in
     (omega (arith, p.drawn.few_edges), p.drawn.plane.sound.has_dart _ p.ends.sink_in)
 
 cut-apart-requires : tie.Need-cut_apart-requires
 cut-apart-requires c κs =
-    let t = c.before.before.before in
-    let d = t.before.before in
-    let p = d.before.before.requires in (
+    let t = c in
+    let d = t in
+    let p = d.requires in (
       refl,
       p.3,
       p.0.drawn.few_edges,
@@ -62,26 +62,26 @@ abbrev begun : tie.After-cut_apart → tie.Start
 begun c = (started c).before.before
 
 abbrev row : tie.After-cut_apart → List ℤ
-row c = c.cut_apart.new.1.1.1.1.1.1.1.1.1.1.0
+row c = c.cut_apart.new.lengths
 
 abbrev flags : tie.After-cut_apart → List ℕ
-flags c = c.cut_apart.new.1.1.1.1.1.1.1.1.1.1.1.0
+flags c = c.cut_apart.new.inside
 
 measured : (c : tie.After-cut_apart)
     → Measured (mapAt (begun c)) (begun c).args.demand.source (begun c).args.demand.sink (atℤ (begun c).args.capacities.now)
     (begun c).args.demand.value (atℤ (row c)) (flags c) c.cut_apart.result
 measured c =
-    measured_for (mapAt (begun c)) (atℤ (begun c).args.capacities.now) (atℤ (row c)) (flags c) c.cut_apart.result (started c).dart-at.ensures.1
-    (finished c).dart-at2.ensures.1 (same_value (begun c).requires.1) c.cut_apart.ensures.2
+    measured_for (mapAt (begun c)) (atℤ (begun c).args.capacities.now) (atℤ (row c)) (flags c) c.cut_apart.result (started c).dart_at-start.ensures.1
+    (finished c).dart_at-finish.ensures.1 (same_value (begun c).requires.1) c.cut_apart.ensures.2
 
 returns : tie.Need-returns-then-cut_apart
 returns c =
-    let l = c.before in
-    let s = begun l in (
+    let l = c in
+    let s = begun l.before in (
       l.cut_apart.ensures.1,
       decided_apart (mapAt s) s.args.sizes.outer (atℤ s.args.capacities.now) s.args.demand.source s.args.demand.sink
-          s.args.demand.value (atℤ (row l))
-          s.args.flows-1.now (flags l) c.if-cut_apart.true (measured l),
+          s.args.demand.value (atℤ (row l.before))
+          s.args.flows.now (flags l.before) c.if-cut_apart.true (measured l.before),
     )
 
 known : (c : tie.Else-cut_apart)
@@ -95,17 +95,17 @@ known c =
 -- ── the search from the roots ──
 settle-requires : tie.Need-settle-outcome-requires
 settle-requires c κs =
-    let e = c.before.before.before.before in
-    let f = e.before in
-    let s = begun f in
-    let p = s.pre in
+    let e = c in
+    let f = e in
+    let s = begun f.before.before.before.before.before in
+    let p = s.requires in
     let o = p.0 in
     record {
       few_edges = o.drawn.few_edges;
       few_roots = omega (arith, roots_few o.roots, o.drawn.few_edges);
       size_parents = refl;
       size_queue = p.2;
-      searchable = searchable s.args.lefts.now o.drawn o.ends (row f) (known e) s.args.queue.now p.2 o.roots;
+      searchable = searchable s.args.lefts.now o.drawn o.ends (row f.before.before.before.before.before) (known e.before.before.before.before) s.args.queue.now p.2 o.roots;
       groups = o.groups;
       exact = o.exact;
     }
@@ -117,66 +117,67 @@ abbrev lengthened : tie.After-settle-outcome → tie.After-cut_apart
 lengthened c = (joined c).before
 
 -- ── a ring: the dart that closes it ──
-abbrev settled : tie.In-Ring-2 → tie.After-settle-outcome
-settled c = c.before.before.before
+abbrev settled : tie.In-Ring → tie.After-settle-outcome
+settled c = c.before.before
 
-closes : (c : tie.In-Ring) → c.before.outcome-1.given.0.0 < 1024
+closes : (c : tie.In-Ring) → c.in-Ring.d < 1024
 closes c =
-    let s = settled c.before in
+    let s = settled c in
+    let b = begun (lengthened s) in
     omega (
       arith,
-      (searched_ring _ _ _ _ _ _ _ c.before.outcome-1.given.1 s.settle-outcome.ensures.1).1,
-      (begun (lengthened s)).requires.0.drawn.few_edges,
+      (searched_ring _ _ (atℤ b.args.capacities.now) b.args.flows.now _ (at s.settle-outcome.new.parents) _ c.in-Ring.is s.settle-outcome.ensures.1).1,
+      b.requires.0.drawn.few_edges,
     )
 
 mul_wide : tie.Need-offset_bounds-lefts-d
 mul_wide c = omega (arith, closes c)
 
 element-copy-out-wide : tie.Need-bounds-lefts-d
-element-copy-out-wide c = omega (arith, closes c)
+element-copy-out-wide c = omega (arith, closes c.before)
 
-abbrev ringed-at : tie.After-wide-y → tie.In-Ring-2
+abbrev ringed-at : tie.After-wide-y → tie.In-Ring
 ringed-at c = c.before.before.before
 
 cut-of-ring-requires : tie.Need-cut_of_ring-requires
 cut-of-ring-requires c κs =
-    let w = c.before.before.before in
-    let o = ringed-at w in
+    let w = c in
+    let o = ringed-at w.before.before.before in
     let s = settled o in
     let f = lengthened s in
     let b = begun f in
-    let p = b.pre in (
+    let p = b.requires in (
       f.cut_apart.ensures.1,
       p.0.treed,
       ringed b.args.lefts.now p.0.drawn p.0.ends (row f) (known (joined s)) b.args.queue.now p.2 p.0.roots
-          _ w.wide-y.ensures (searched_ring _ _ _ _ _ _ _ o.outcome-1.given.1 s.settle-outcome.ensures.1).2,
+          _ w.wide-y.ensures (searched_ring _ _ (atℤ b.args.capacities.now) b.args.flows.now _ (at s.settle-outcome.new.parents) _ o.in-Ring.is s.settle-outcome.ensures.1).2,
     )
 
 returns-2 : tie.Need-returns-in-Ring
 returns-2 c =
-    let w = c.before.before.before.before in
-    let o = ringed-at w in
+    let w = c in
+    let o = ringed-at w.before.before.before.before in
     let s = settled o in
     let f = lengthened s in
     let b = begun f in
-    let p = b.pre in
+    let p = b.requires in
     let k = c.cut_of_ring.ensures in (
       k.0,
       decided_cannot b.args.lefts.now p.0.drawn p.0.ends (row f) (known (joined s)) b.args.queue.now p.2 p.0.roots
-          _ _ c.cut_of_ring.new.1.1.1.1.1.1.1.1.1.1.1.0
-          (searched_ring _ _ _ _ _ _ _ o.outcome-1.given.1 s.settle-outcome.ensures.1).0 k.1,
+          _ _ c.cut_of_ring.new.inside
+          (searched_ring _ _ (atℤ b.args.capacities.now) b.args.flows.now _ (at s.settle-outcome.new.parents) _ o.in-Ring.is s.settle-outcome.ensures.1).0 k.1,
     )
 
 -- ── settled ──
 returns-3 : tie.Need-returns
 returns-3 c =
-    let s = c.before.before.before in
-    let f = lengthened s in
+    let s = c in
+    let f = lengthened s.before.before in
     let b = begun f in
-    let p = b.pre in
-    let q = rw c.enum_told-1.given.1 at s.settle-outcome.ensures.1 in (
+    let p = b.requires in
+    let q = rw c.in_default.is at s.settle-outcome.ensures.1 in (
       f.cut_apart.ensures.1,
-      decided_can b.args.lefts.now p.0.drawn p.0.ends (row f) (known (joined s)) b.args.queue.now p.2 p.0.roots
+      decided_can b.args.lefts.now p.0.drawn p.0.ends (row f) (known (joined s.before.before)) b.args.queue.now p.2 p.0.roots
           q.0 q.1 _ _ (flags f) q.2,
     )
 

@@ -8,14 +8,14 @@ use Rattle.solver.proofs.decide_from.Tie as tie
 
 fill-roots-requires : tie.Need-fill_roots-roots-requires
 fill-roots-requires c κs =
-    let p = c.before.requires in
+    let p = c.requires in
     let o = p.0.opened in
     (refl, o.drawn.few_edges, p.2, o.drawn.plane.sound.range.rotation_in, o.walked.forest)
 
 decide-at-requires : tie.Need-decide_at-requires
 decide-at-requires c κs =
-    let r = c.before.before.before in
-    let p = r.before.before.requires in
+    let r = c in
+    let p = r.requires in
     let o = p.0.opened in
     let e = r.fill_roots-roots.ensures in (
       record {
@@ -32,7 +32,7 @@ decide-at-requires c κs =
     )
 
 returns : tie.Need-returns
-returns c = c.before.decide_at.ensures
+returns c = c.decide_at.ensures
 
 pub decide_from_spec : {M : Type 1} → statement M
 decide_from_spec = tie.close (tie.spec fill-roots-requires decide-at-requires (λ c. search rules) returns)

@@ -9,18 +9,18 @@ use Rattle.solver.proofs.fill_roots.Statement.{statement}
 use Rattle.solver.proofs.fill_roots.Tie as tie
 
 first-faces-requires : tie.Need-first_faces-requires
-first-faces-requires c κs = let p = c.before.before.before.before.requires in (p.0, omega (arith, p.1), p.4)
+first-faces-requires c κs = let p = c.requires in (p.0, omega (arith, p.1), p.4)
 
 returns : tie.Need-returns-then-first-sizes
 returns c =
-    let t = c.before.before.before in
-    let a = t.before.before.args in
+    let t = c in
+    let a = t.args in
     let e = c.first_faces.ensures in
-    let queue = c.first_faces.new.1.1.1.1.1.1.1.0 in
+    let queue = c.first_faces.new.roots in
     (e.0, subst (λ f. RootsOf (2 * a.sizes.edges) (at a.rotations.now) f (at a.lefts.now) (at queue) a.sizes.parts) (sym t.if-first-sizes.true) e.1)
 
 roots-of-requires : tie.Need-roots_of-requires
-roots-of-requires c κs = let p = c.before.before.before.before.requires in (p.0, omega (arith, p.1), omega arith, p.2, p.3)
+roots-of-requires c κs = let p = c.requires in (p.0, omega (arith, p.1), omega arith, p.2, p.3)
 
 returns-2 : tie.Need-returns
 returns-2 c = c.roots_of.ensures

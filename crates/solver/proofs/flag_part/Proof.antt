@@ -10,7 +10,7 @@ mul-spread c = omega (arith, c.requires.1)
 
 spread-requires : tie.Need-spread-requires
 spread-requires c κs =
-    let p = c.before.before.requires in
+    let p = c.requires in
     (refl, refl, omega (arith, p.1), omega arith, p.3, p.4.range.rotation_in)
 
 abbrev begun : tie.After-spread → tie.Start
@@ -26,10 +26,10 @@ flag-met-requires c κs =
 
 returns : tie.Need-returns
 returns c =
-    let w = c.before.before.before in
-    let p = (begun w).requires in
+    let w = c in
+    let p = (begun w.before.before.before).requires in
     let e = c.flag_met.ensures in
-    (e.0, part_flagged p.4 w.spread.ensures.2 p.2 c.flag_met.new.1.1.1.0 e.1)
+    (e.0, part_flagged p.4 w.spread.ensures.2 p.2 c.flag_met.new.inside e.1)
 
 pub flag_part_spec : {M : Type 1} → statement M
 flag_part_spec = tie.close (tie.spec mul-spread spread-requires mul-flag-met flag-met-requires returns)

@@ -8,13 +8,13 @@ use Rattle.solver.proofs.settle_all.Tie as tie
 
 first-faces-requires : tie.Need-first_faces-requires
 first-faces-requires c κs =
-    let p = c.before.before.requires in
+    let p = c.requires in
     (refl, omega (arith, p.few_edges), p.forest)
 
 settle-requires : tie.Need-settle-requires
 settle-requires c κs =
-    let f = c.before.before.before in
-    let p = f.before.before.before.requires in
+    let f = c in
+    let p = f.requires in
     let o = f.first_faces.ensures in
     record {
       few_edges = p.few_edges;
@@ -28,9 +28,9 @@ settle-requires c κs =
 
 returns : tie.Need-returns
 returns c =
-    let f = c.before.before.before.before.before in
+    let f = c in
     let o = f.first_faces.ensures in
-    let e = c.before.settle.ensures in
+    let e = c.settle.ensures in
     (e.0, (_, o.0, o.1, e.1, record { are = o.2.are; kept = λ i l. o.2.kept i l ∙ same_everywhere 1024 0 i }, e.2))
 
 pub settle_all_spec : {M : Type 1} → statement M

@@ -21,8 +21,8 @@ loop-holds c = (omega arith, refl, sym (put_none c.args.at c.args.text.now))
 
 loop-again : tie.Need-loop-i-preserved invariant-loop decreases-loop
 loop-again c =
-    let o = c.before.before.loop-i in
-    let a = c.before.before.before.args in
+    let o = c.loop-i in
+    let a = c.args in
     let b = get_or a.bytes.now o.i 0 in (
       omega arith,
       length-set o.text (a.at + o.i) b ∙ o.invariant.1,
@@ -31,8 +31,8 @@ loop-again c =
 
 returns : tie.Need-returns invariant-loop decreases-loop
 returns c =
-    let o = c.before.loop-i in
-    let a = c.before.before.args in
+    let o = c.loop-i in
+    let a = c.args in
     let all : o.i ≡ length a.bytes.now = omega arith in (
       o.invariant.2 ∙ ap (λ k. put a.at (take k a.bytes.now) a.text.now) all ∙ ap (λ s. put a.at s a.text.now) (take-length a.bytes.now),
       ap (λ k. a.at + k) all,

@@ -17,16 +17,16 @@ decreases-loop text₀ at n end m₀ i₀ text m i = m
 
 inside : (l : tie.At-loop-m invariant-loop decreases-loop) → l.loop-m.i < length l.loop-m.text
 inside l =
-    let a = l.before.before.before.args in
+    let a = l.args in
     let o = l.loop-m in
-    right_inside a.n a.at a.text.now l.before.before.before.requires o.m o.i o.text o.invariant
+    right_inside a.n a.at a.text.now l.requires o.m o.i o.text o.invariant
 
 sub-i : tie.Need-overflow_sub-i invariant-loop decreases-loop
-sub-i c = omega (arith, c.digit_count.ensures, decimal_positive c.before.before.args.n)
+sub-i c = omega (arith, c.digit_count.ensures, decimal_positive c.args.n)
 
 loop-holds : tie.Need-loop-m-init invariant-loop decreases-loop
 loop-holds c =
-    let a = c.before.before.args in
+    let a = c.args in
     right_start a.n a.at _ a.text.now (omega (arith, c.digit_count.ensures, decimal_positive a.n))
 
 slice-write-text : tie.Need-bounds-text-i invariant-loop decreases-loop
@@ -34,38 +34,38 @@ slice-write-text c = inside c.before.before
 
 sub-i-2 : tie.Need-overflow_sub-i-in-loop-m invariant-loop decreases-loop
 sub-i-2 c =
-    let l = c.before.before in
-    let a = l.before.before.before.args in
+    let l = c in
+    let a = l.args in
     let o = l.loop-m in
-    omega (arith, right_before a.n a.at a.text.now l.before.before.before.requires o.m o.i o.text o.invariant c.before.loop-m-test.true)
+    omega (arith, right_before a.n a.at a.text.now l.requires o.m o.i o.text o.invariant c.loop-m-test.true)
 
 loop-again : tie.Need-loop-m-preserved invariant-loop decreases-loop
 loop-again c =
-    let l = c.before.before in
-    let a = l.before.before.before.args in
+    let l = c in
+    let a = l.args in
     let o = l.loop-m in
-    right_step a.n a.at a.text.now l.before.before.before.requires o.m o.i o.text
-    o.invariant c.last_digit.result c.last_digit.ensures c.before.loop-m-test.true
+    right_step a.n a.at a.text.now l.requires o.m o.i o.text
+    o.invariant c.last_digit.result c.last_digit.ensures c.loop-m-test.true
 
 slice-write-text-2 : tie.Need-bounds-text-i-2 invariant-loop decreases-loop
 slice-write-text-2 c = inside c.before.before
 
 same_length : tie.Need-shape_of-text invariant-loop decreases-loop
 same_length c =
-    let l = c.before.before in
-    let a = l.before.before.before.args in
+    let l = c in
+    let a = l.args in
     let o = l.loop-m in
     length-set o.text o.i c.last_digit-2.result
-    ∙ right_length a.n a.at a.text.now l.before.before.before.requires o.m o.i o.text o.invariant
+    ∙ right_length a.n a.at a.text.now l.requires o.m o.i o.text o.invariant
 
 returns : tie.Need-returns invariant-loop decreases-loop
 returns c =
-    let l = c.before.before in
-    let a = l.before.before.before.args in
+    let l = c in
+    let a = l.args in
     let o = l.loop-m in (
-      right_end a.n a.at a.text.now l.before.before.before.requires o.m o.i o.text
-          o.invariant c.last_digit-2.result c.last_digit-2.ensures c.before.loop-m-test.false,
-      ap (λ k. a.at + k) l.before.digit_count.ensures,
+      right_end a.n a.at a.text.now l.requires o.m o.i o.text
+          o.invariant c.last_digit-2.result c.last_digit-2.ensures c.loop-m-test.false,
+      ap (λ k. a.at + k) l.digit_count.ensures,
     )
 
 pub put_decimal_spec : {M : Type 1} → statement M

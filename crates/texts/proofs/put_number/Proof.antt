@@ -17,35 +17,35 @@ use Rattle.texts.proofs.Sign.{number_below, number_not_below}
 use Rattle.texts.proofs.put_number.Statement.{statement}
 use Rattle.texts.proofs.put_number.Tie as tie
 
-size : (c : tie.After-magnitude-size) → c.magnitude-size.result ≡ nat_abs c.before.before.args.x
-size c = c.magnitude-size.ensures ∙ ap nat_abs (number_of_bits c.before.before.args.x c.before.before.ranges.x)
+size : (c : tie.After-magnitude-size) → c.magnitude-size.result ≡ nat_abs c.args.x
+size c = c.magnitude-size.ensures ∙ ap nat_abs (number_of_bits c.args.x c.ranges.x)
 
-with-minus : (c : tie.Then-x-lt0) → 45 ∷ decimal c.before.magnitude-size.result ≡ number c.before.before.before.args.x
+with-minus : (c : tie.Then-x-lt0) → 45 ∷ decimal c.magnitude-size.result ≡ number c.args.x
 with-minus c =
-    let s = c.before.before.before in
+    let s = c in
     let b : lt_z s.args.x (pos 0) ≡ true = rw (number_of_bits s.args.x s.ranges.x) at c.if-x-lt0.true in
     ap (λ n. 45 ∷ decimal n) (size c.before) ∙ sym (number_below s.args.x b)
 
-without : (c : tie.Else-x-lt0) → decimal c.before.magnitude-size.result ≡ number c.before.before.before.args.x
+without : (c : tie.Else-x-lt0) → decimal c.magnitude-size.result ≡ number c.args.x
 without c =
-    let s = c.before.before.before in
+    let s = c in
     let b : lt_z s.args.x (pos 0) ≡ false = rw (number_of_bits s.args.x s.ranges.x) at c.if-x-lt0.false in
     ap decimal (size c.before) ∙ sym (number_not_below s.args.x b)
 
 fits : (c : tie.Then-x-lt0)
-    → c.before.before.before.args.at + 1 + length (decimal c.before.magnitude-size.result) ≤ length c.before.before.before.args.text-1.now
-fits c = omega (arith, ap length (with-minus c), c.before.before.before.requires)
+    → c.args.at + 1 + length (decimal c.magnitude-size.result) ≤ length c.args.text.now
+fits c = omega (arith, ap length (with-minus c), c.requires)
 
 written : (c : tie.After-put_decimal)
-    → let a = c.before.before.before.before.before.args in c.put_decimal.new.0 ≡ put a.at (number a.x) a.text-1.now
+    → let a = c.args in c.put_decimal.new.text ≡ put a.at (number a.x) a.text.now
 written c =
-    let t = c.before.before in
-    let a = t.before.before.before.args in
-    let behind : c.put_decimal.new.0 ≡ put (a.at + 1) (decimal t.before.magnitude-size.result) (set a.text-1.now a.at 45) =
+    let t = c in
+    let a = t.args in
+    let behind : c.put_decimal.new.text ≡ put (a.at + 1) (decimal t.magnitude-size.result) (set a.text.now a.at 45) =
     c.put_decimal.ensures.0 in
     behind
-    ∙ put_behind a.at 45 (decimal t.before.magnitude-size.result) a.text-1.now (fits t)
-    ∙ ap (λ s. put a.at s a.text-1.now) (with-minus t)
+    ∙ put_behind a.at 45 (decimal t.magnitude-size.result) a.text.now (fits t.before.before)
+    ∙ ap (λ s. put a.at s a.text.now) (with-minus t.before.before)
 
 slice-write-text : tie.Need-bounds-text-at
 slice-write-text c = omega (arith, fits c)
@@ -54,24 +54,24 @@ put-decimal-requires : tie.Need-put_decimal-requires
 put-decimal-requires c κs = simp length-set (omega (arith, fits c.before))
 
 put-decimal-requires-2 : tie.Need-put_decimal-requires-else-x-lt0
-put-decimal-requires-2 c κs = omega (arith, ap length (without c.before), c.before.before.before.before.requires)
+put-decimal-requires-2 c κs = omega (arith, ap length (without c.before), c.requires)
 
 same_length : tie.Need-shape_of-text-then-x-lt0
 same_length c =
-    let s = c.before.before.before.before.before.before.before in
-    ap length (written c.before.before) ∙ put_length s.args.at (number s.args.x) s.args.text-1.now s.requires
+    let s = c in
+    ap length (written c.before.before) ∙ put_length s.args.at (number s.args.x) s.args.text.now s.requires
 
 returns : tie.Need-returns-then-x-lt0
 returns c =
-    let t = c.before.before.before.before in
-    (written c.before.before, omega (arith, c.before.before.put_decimal.ensures.1, ap length (with-minus t)))
+    let t = c in
+    (written c.before.before, omega (arith, c.put_decimal.ensures.1, ap length (with-minus t.before.before.before.before)))
 
 returns-2 : tie.Need-returns-else-x-lt0
 returns-2 c =
-    let t = c.before.before.before.before in
-    let a = t.before.before.before.args in (
-      c.before.before.put_decimal-else-x-lt0.ensures.0 ∙ ap (λ s. put a.at s a.text-1.now) (without t),
-      c.before.before.put_decimal-else-x-lt0.ensures.1 ∙ ap (λ s. a.at + length s) (without t),
+    let t = c in
+    let a = t.args in (
+      c.put_decimal-else-x-lt0.ensures.0 ∙ ap (λ s. put a.at s a.text.now) (without t.before.before.before.before),
+      c.put_decimal-else-x-lt0.ensures.1 ∙ ap (λ s. a.at + length s) (without t.before.before.before.before),
     )
 
 pub put_number_spec : {M : Type 1} → statement M

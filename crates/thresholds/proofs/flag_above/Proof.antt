@@ -28,8 +28,8 @@ loop-holds c = (omega arith, c.requires.0, λ u l. absurd (omega arith))
 
 loop-again : tie.Need-loop-v-preserved invariant-loop decreases-loop
 loop-again c =
-    let s = c.before.before.before.before in
-    let o = c.before.before.before.loop-v in
+    let s = c in
+    let o = c.loop-v in
     let r = c.flag.result in
     let height = atℤ s.args.heights.now in
     let t = to_z w32 (of_z w32 s.args.threshold) in (
@@ -38,13 +38,13 @@ loop-again c =
       below_more (λ u. eqb (at (set o.inside o.v r) u) 1 ≡ above height t u) o.v
           (λ u l. ap (λ x. eqb x 1) (get_or-set_other o.inside o.v u r 0 (λ e. omega arith)) ∙ o.invariant.2 u l)
           (ap (λ x. eqb x 1) (get_or-set_same o.inside o.v r 0 (omega arith)) ∙ c.flag.ensures
-          ∙ ap (lt_z t) (number_of_bits _ (record { sfits = c.before.flag-arg-1.given }))),
+          ∙ ap (lt_z t) (number_of_bits _ (record { sfits = c.flag-arg-1.given }))),
     )
 
 returns : tie.Need-returns invariant-loop decreases-loop
 returns c =
-    let s = c.before.before in
-    let o = c.before.loop-v in
+    let s = c in
+    let o = c.loop-v in
     (o.invariant.1, λ v l. o.invariant.2 v (omega arith) ∙ ap (λ t. lt_z t (atℤ s.args.heights.now v)) (number_of_bits _ s.ranges.threshold))
 
 pub flag_above_spec : {M : Type 1} → statement M

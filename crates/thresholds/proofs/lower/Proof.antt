@@ -9,18 +9,18 @@ use Rattle.thresholds.proofs.lower.Tie as tie
 
 returns : tie.Need-returns-then-x-y
 returns c =
-    let x = c.before.args.x in
-    let y = c.before.args.y in
-    let px = number_of_bits x c.before.ranges.x in
-    let py = number_of_bits y c.before.ranges.y in
+    let x = c.args.x in
+    let y = c.args.y in
+    let px = number_of_bits x c.ranges.x in
+    let py = number_of_bits y c.ranges.y in
     rw px (≤ℤ_refl x, le_of_lt (lt_of_test x y (rw (px, py) at c.if-x-y.true)), inl refl)
 
 returns-2 : tie.Need-returns-else-x-y
 returns-2 c =
-    let x = c.before.args.x in
-    let y = c.before.args.y in
-    let px = number_of_bits x c.before.ranges.x in
-    let py = number_of_bits y c.before.ranges.y in
+    let x = c.args.x in
+    let y = c.args.y in
+    let px = number_of_bits x c.ranges.x in
+    let py = number_of_bits y c.ranges.y in
     rw py (ge_of_test x y (rw (px, py) at c.if-x-y.false), ≤ℤ_refl y, inr refl)
 
 pub lower_spec : {M : Type 1} → statement M

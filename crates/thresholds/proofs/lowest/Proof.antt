@@ -18,13 +18,13 @@ decreases-loop heights nodes low₀ v₀ low v = nodes - v
 
 loop-holds : tie.Need-loop-v-init invariant-loop decreases-loop
 loop-holds c =
-    (omega arith, low_start _ _ _ c.before.requires.0 (number_of_bits _ (record { sfits = c.low-1.given })))
+    (omega arith, low_start _ _ _ c.requires.0 (number_of_bits _ (record { sfits = c.low-1.given })))
 
 loop-again : tie.Need-loop-v-preserved invariant-loop decreases-loop
 loop-again c =
-    let s = c.before.before.before.before.before in
-    let height = number_of_bits _ (record { sfits = c.before.lower-arg-1.given }) in
-    let o = c.before.before.before.loop-v in (
+    let s = c in
+    let height = number_of_bits _ (record { sfits = c.lower-arg-1.given }) in
+    let o = c.loop-v in (
       omega arith,
       rw (number_of_bits _ (record { sfits = c.lower-low.type_inv }))
           (low_step s.args.nodes (atℤ s.args.heights.now) o.v _ _ _ (omega arith) o.invariant.1 height c.lower-low.ensures),
@@ -32,7 +32,7 @@ loop-again c =
 
 returns : tie.Need-returns invariant-loop decreases-loop
 returns c =
-    let o = c.before.loop-v in
+    let o = c.loop-v in
     (λ v l. o.invariant.1.all v (omega arith), o.invariant.1.one)
 
 pub lowest_spec : {M : Type 1} → statement M

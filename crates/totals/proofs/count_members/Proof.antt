@@ -21,22 +21,22 @@ unfolding sum
 loop-holds c = (omega arith, omega arith, refl)
 
 contains-requires : tie.Need-contains-requires invariant-loop decreases-loop
-contains-requires c κs = let s = c.before.before.before in omega (arith, s.requires.exact, c.loop-v-test.true)
+contains-requires c κs = let s = c in omega (arith, s.requires.exact, c.loop-v-test.true)
 
 loop-again : tie.Need-loop-v-preserved invariant-loop decreases-loop
 loop-again c =
-    let o = c.before.before.before.loop-v in
-    let set = c.before.before.before.before.before.args.set.now in
-    let t = c.before.contains.ensures in
+    let o = c.loop-v in
+    let set = c.args.set.now in
+    let t = c.contains.ensures in
     ⊎_elim
-    (λ w. (omega arith, omega (arith, w.1, o.invariant.1), w.1 ∙ ap (λ (x : ℕ). x + 1) o.invariant.2 ∙ sym (count_in o.v (member set) (sym t ∙ w.0.taken))))
-    (λ w. (omega arith, omega (arith, w.1, o.invariant.1), w.1 ∙ o.invariant.2 ∙ sym (count_out o.v (member set) (sym t ∙ w.0.left))))
-    c.if-contains.branch
+    (λ w. (omega arith, omega (arith, w.members-is, o.invariant.1), w.members-is ∙ ap (λ (x : ℕ). x + 1) o.invariant.2 ∙ sym (count_in o.v (member set) (sym t ∙ w.if-contains.true))))
+    (λ w. (omega arith, omega (arith, w.members-is, o.invariant.1), w.members-is ∙ o.invariant.2 ∙ sym (count_out o.v (member set) (sym t ∙ w.if-contains.false))))
+    c.if-contains.branch-raw
 
 returns : tie.Need-returns invariant-loop decreases-loop
 returns c =
-    let o = c.before.loop-v in
-    let a = c.before.before.before.args in
+    let o = c.loop-v in
+    let a = c.args in
     let e : o.v ≡ a.nodes = omega (arith, o.invariant.0, c.loop-v-test.false) in
     o.invariant.2 ∙ ap (λ n. count n (member a.set.now)) e
 

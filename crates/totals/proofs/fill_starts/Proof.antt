@@ -20,53 +20,53 @@ decreases-loop tails darts starts₀ d₀ starts d = darts - d
 loop-holds : tie.Need-loop-d-init invariant-loop decreases-loop
 loop-holds c = (omega arith, c.requires.1, λ d l. absurd (omega arith))
 
-below : (c : tie.In-loop-d invariant-loop decreases-loop) → c.before.loop-d.d < 1024
-below c = omega (arith, c.loop-d-test.true, c.before.before.requires.0)
+below : (c : tie.In-loop-d invariant-loop decreases-loop) → c.loop-d.d < 1024
+below c = omega (arith, c.loop-d-test.true, c.requires.0)
 
 mul_wide : tie.Need-offset_bounds-tails-d invariant-loop decreases-loop
 mul_wide c = omega (arith, below c)
 
 element-copy-out-wide : tie.Need-bounds-tails-d invariant-loop decreases-loop
-element-copy-out-wide c = omega (arith, below c)
+element-copy-out-wide c = omega (arith, below c.before)
 
 narrow-requires : tie.Need-narrow-requires invariant-loop decreases-loop
-narrow-requires c κs = omega (arith, below c.before.before)
+narrow-requires c κs = omega (arith, below c.before.before.before)
 
 node_below : (c : tie.After-wide-v invariant-loop decreases-loop) → c.wide-v.result < 1024
 node_below c =
-    let t = c.before.before in
-    omega (arith, c.wide-v.ensures, t.before.before.requires.2 t.before.loop-d.d t.loop-d-test.true)
+    let t = c in
+    omega (arith, c.wide-v.ensures, t.requires.2 t.loop-d.d t.loop-d-test.true)
 
 mul-starts : tie.Need-offset_bounds-starts-v invariant-loop decreases-loop
 mul-starts c = omega (arith, node_below c.before)
 
 element-write-starts : tie.Need-bounds-starts-v invariant-loop decreases-loop
-element-write-starts c = omega (arith, node_below c.before, c.before.before.before.before.loop-d.invariant.1)
+element-write-starts c = omega (arith, node_below c.before.before, c.loop-d.invariant.1)
 
 add-d : tie.Need-overflow_step-d invariant-loop decreases-loop
-add-d c = omega (arith, below c.before.before.before)
+add-d c = omega (arith, below c.before.before.before.before.before)
 
 loop-less : tie.Need-loop-d-smaller invariant-loop decreases-loop
-loop-less c = omega (arith, c.before.before.before.loop-d-test.true)
+loop-less c = omega (arith, c.loop-d-test.true)
 
 loop-again : tie.Need-loop-d-preserved invariant-loop decreases-loop
 loop-again c =
-    let t = c.before.before.before in
-    let o = t.before.loop-d in
-    let v = c.before.wide-v.result in
-    let is-v = c.before.wide-v.ensures in (
+    let t = c in
+    let o = t.loop-d in
+    let v = c.wide-v.result in
+    let is-v = c.wide-v.ensures in (
       omega (arith, t.loop-d-test.true),
       length-set o.starts v c.narrow.result ∙ o.invariant.1,
       starts_more o.invariant.2
           (ap (at (set o.starts v c.narrow.result)) (sym is-v)
-          ∙ get_or-set_same o.starts v c.narrow.result 0 (omega (arith, node_below c.before, o.invariant.1)) ∙ c.narrow.ensures)
+          ∙ get_or-set_same o.starts v c.narrow.result 0 (omega (arith, node_below c.before.before, o.invariant.1)) ∙ c.narrow.ensures)
           (λ u h. get_or-set_other o.starts v u c.narrow.result 0 (λ e. h (e ∙ is-v))),
     )
 
 returns : tie.Need-returns invariant-loop decreases-loop
 returns c =
-    let o = c.before.loop-d in
-    let a = c.before.before.args in
+    let o = c.loop-d in
+    let a = c.args in
     let e : o.d ≡ a.darts = omega (arith, c.loop-d-test.false, o.invariant.0) in
     (o.invariant.1, subst (λ n. Starts n (at a.tails.now) (at o.starts)) e o.invariant.2)
 

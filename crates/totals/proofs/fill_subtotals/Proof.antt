@@ -41,100 +41,100 @@ abbrev drawn : tie.In-loop-next invariant-loop decreases-loop → Map
 drawn c = let a = (begun c).args in map_of a.nodes a.edges a.tails.now a.rotations.now
 
 mul_wide : tie.Need-offset_bounds-starts-v invariant-loop decreases-loop
-mul_wide c = let t = c.before.before in omega (arith, t.loop-next-test.true, (begun t).requires.0.few_nodes)
+mul_wide c = let t = c in omega (arith, t.loop-next-test.true, (begun t.before.before).requires.0.few_nodes)
 
 element-copy-out-wide : tie.Need-bounds-starts-v invariant-loop decreases-loop
-element-copy-out-wide c = let t = c.before.before in omega (arith, t.loop-next-test.true, (begun t).requires.0.few_nodes)
+element-copy-out-wide c = let t = c in omega (arith, t.loop-next-test.true, (begun t.before.before.before).requires.0.few_nodes)
 
 -- its dart in the table is one of the darts, and leaves it
 start-at : (c : tie.After-wide-start invariant-loop decreases-loop)
-    → (c.wide-start.result < 2 * (begun c.before.before.before.before).args.edges)
-    × (at (begun c.before.before.before.before).args.tails.now c.wide-start.result ≡ c.before.before.before.before.before.loop-next.next)
+    → (c.wide-start.result < 2 * (begun c.before.before.before.before.before).args.edges)
+    × (at (begun c.before.before.before.before.before).args.tails.now c.wide-start.result ≡ c.loop-next.next)
 start-at c =
-    let t = c.before.before.before.before in
-    let p = (begun t).requires in
-    let d = p.0.sound.has_dart t.before.loop-next.next t.loop-next-test.true in
+    let t = c in
+    let p = (begun t.before.before.before.before.before).requires in
+    let d = p.0.sound.has_dart t.loop-next.next t.loop-next-test.true in
     let s = p.1 d.0 d.1 in
-    let is : c.wide-start.result ≡ at (begun t).args.starts.now (at (begun t).args.tails.now d.0) =
-    c.wide-start.ensures ∙ ap (at (begun t).args.starts.now) (sym d.2) in
-    (omega (arith, is, s.0), ap (at (begun t).args.tails.now) is ∙ s.1 ∙ d.2)
+    let is : c.wide-start.result ≡ at (begun t.before.before.before.before.before).args.starts.now (at (begun t.before.before.before.before.before).args.tails.now d.0) =
+    c.wide-start.ensures ∙ ap (at (begun t.before.before.before.before.before).args.starts.now) (sym d.2) in
+    (omega (arith, is, s.0), ap (at (begun t.before.before.before.before.before).args.tails.now) is ∙ s.1 ∙ d.2)
 
 round-total-requires : tie.Need-round_total-sum-requires invariant-loop decreases-loop
 round-total-requires c κs =
-    let p = (begun c.before.before.before.before).pre in
+    let p = (begun c.before.before.before.before.before).requires in
     (p.0, (start-at c).0)
 
 abbrev turn : tie.After-round_total-sum invariant-loop decreases-loop → tie.In-loop-next invariant-loop decreases-loop
-turn c = c.before.before.before.before.before
+turn c = c.before.before.before.before.before.before
 
 -- what is added is its subtotal
 sum_is : (c : tie.After-round_total-sum invariant-loop decreases-loop)
     → to_z w32 (of_z w32 c.round_total-sum.result)
-    ≡ subtotal (drawn (turn c)) (atℤ (begun (turn c)).args.capacities.now) (member (begun (turn c)).args.set.now) (turn c).before.loop-next.next
+    ≡ subtotal (drawn (turn c)) (atℤ (begun (turn c)).args.capacities.now) (member (begun (turn c)).args.set.now) (turn c).loop-next.next
 sum_is c =
     let a = (begun (turn c)).args in
     number_of_bits _ (record { sfits = c.round_total-sum.type_inv }) ∙ c.round_total-sum.ensures
     ∙ ap (subtotal (drawn (turn c)) (atℤ a.capacities.now) (member a.set.now)) (start-at c.before).1
 
-in-set : (c : tie.After-round_total-sum invariant-loop decreases-loop) → member (begun (turn c)).args.set.now (turn c).before.loop-next.next ≡ true
-in-set c = let t = c.before.before.before in sym t.before.contains.ensures ∙ t.if-contains.true
+in-set : (c : tie.After-round_total-sum invariant-loop decreases-loop) → member (begun (turn c)).args.set.now (turn c).loop-next.next ≡ true
+in-set c = let t = c in sym t.contains.ensures ∙ t.if-contains.true
 
 plus-wide-requires : tie.Need-plus_wide-total-requires invariant-loop decreases-loop
 plus-wide-requires c κs =
     let t = turn c in
-    let p = (begun t).pre in
-    sum_fits _ _ _ _ t.before.loop-next.inv.1 p.0.few_edges p.0.small t.loop-next-test.taken p.0.few_nodes (in-set c) (sum_is c)
+    let p = (begun t).requires in
+    sum_fits _ _ _ _ t.loop-next.invariant.1 p.0.few_edges p.0.small t.loop-next-test.true p.0.few_nodes (in-set c) (sum_is c)
 
 mul-sum : tie.Need-offset_bounds-subtotals-place invariant-loop decreases-loop
-mul-sum c = let t = turn c.before in omega (arith, place_few _ _ _ _ t.before.loop-next.inv.1, t.loop-next-test.taken, (begun t).pre.0.few_nodes)
+mul-sum c = let t = turn c.before in omega (arith, place_few _ _ _ _ t.loop-next.invariant.1, t.loop-next-test.true, (begun t).requires.0.few_nodes)
 
 slice-set-from-sum : tie.Need-bounds-subtotals-place invariant-loop decreases-loop
 slice-set-from-sum c =
-    let k = c.before in
-    let t = turn k in
-    let φ = t.before.loop-next.inv.1 in
-    let p = (begun t).pre in
+    let k = c in
+    let t = turn k.before in
+    let φ = t.loop-next.invariant.1 in
+    let p = (begun t).requires in
     omega (
       arith,
-      place_in _ _ _ _ φ (in-set k) t.loop-next-test.taken (omega (arith, p.2)),
-      same_long _ _ _ _ φ t.before.loop-next.inv.0
+      place_in _ _ _ _ φ (in-set k.before) t.loop-next-test.true (omega (arith, p.2)),
+      same_long _ _ _ _ φ t.loop-next.invariant.0
           (omega (arith, p.2)),
     )
 
 add-place : tie.Need-overflow_add-place invariant-loop decreases-loop
-add-place c = let t = turn c.before in omega (arith, place_few _ _ _ _ t.before.loop-next.inv.1, t.loop-next-test.taken, (begun t).pre.0.few_nodes)
+add-place c = let t = turn c.before in omega (arith, place_few _ _ _ _ t.loop-next.invariant.1, t.loop-next-test.true, (begun t).requires.0.few_nodes)
 
 loop-less : tie.Need-loop-next-smaller-then-contains invariant-loop decreases-loop
-loop-less c = omega (arith, (turn c.before).loop-test.taken)
+loop-less c = omega (arith, (turn c.before).loop-next-test.true)
 
 loop-again : tie.Need-loop-next-preserved-then-contains invariant-loop decreases-loop
 loop-again c =
-    let k = c.before in
-    let t = turn k in
-    let p = (begun t).pre in (
-      omega (arith, t.loop-next-test.taken),
-      fill_put _ _ _ _ t.before.loop-next.inv.1 (in-set k) t.loop-next-test.taken (omega (arith, p.2)) (sum_is k)
+    let k = c in
+    let t = turn k.before in
+    let p = (begun t).requires in (
+      omega (arith, t.loop-next-test.true),
+      fill_put _ _ _ _ t.loop-next.invariant.1 (in-set k.before) t.loop-next-test.true (omega (arith, p.2)) (sum_is k.before)
           (to_z-of_z w64 _ (record { sfits = c.plus_wide-total.type_inv }) ∙ c.plus_wide-total.ensures) refl,
     )
 
 -- ── another ──
 loop-less-2 : tie.Need-loop-next-smaller invariant-loop decreases-loop
-loop-less-2 c = omega (arith, c.before.before.loop-next-test.true)
+loop-less-2 c = omega (arith, c.loop-next-test.true)
 
 loop-again-2 : tie.Need-loop-next-preserved invariant-loop decreases-loop
 loop-again-2 c =
-    let t = c.before.before in
-    (omega (arith, t.loop-next-test.true), fill_pass _ _ _ _ t.before.loop-next.invariant.1 (sym c.before.contains.ensures ∙ c.if-contains.false))
+    let t = c in
+    (omega (arith, t.loop-next-test.true), fill_pass _ _ _ _ t.loop-next.invariant.1 (sym c.contains.ensures ∙ c.if-contains.false))
 
 same_length : tie.Need-shape_of-subtotals invariant-loop decreases-loop
 same_length c =
-    let o = c.before.loop-next in
-    same_long _ _ _ _ o.invariant.1 o.invariant.0 (omega (arith, c.before.before.before.requires.2))
+    let o = c.loop-next in
+    same_long _ _ _ _ o.invariant.1 o.invariant.0 (omega (arith, c.requires.2))
 
 returns : tie.Need-returns invariant-loop decreases-loop
 returns c =
-    let o = c.before.loop-next in
-    let a = c.before.before.before.args in
+    let o = c.loop-next in
+    let a = c.args in
     let e : o.next ≡ a.nodes = omega (arith, o.invariant.0, c.loop-next-test.false) in
     fill_end _ _ _ _ o.invariant.1 e
 

@@ -32,26 +32,26 @@ head-word : {𝓜 : Map} → Sound 𝓜 → {n : ℕ} → words_for 𝓜.nodes �
 head-word {𝓜} σ room d l = omega (arith, σ.range.tail_in (rev d) (rev_in 𝓜.edges d l))
 
 share-requires : tie.Need-share-first-requires invariant-loop decreases-loop
-share-requires c κs = let p = c.before.requires in (omega (arith, p.0.few_edges, p.1), head-word p.0.sound (omega (arith, p.0.exact)) _ p.1)
+share-requires c κs = let p = c.requires in (omega (arith, p.0.few_edges, p.1), head-word p.0.sound (omega (arith, p.0.exact)) _ p.1)
 
 mul_wide : tie.Need-offset_bounds-rotations-start invariant-loop decreases-loop
-mul_wide c = let p = c.before.before.requires in omega (arith, p.0.few_edges, p.1)
+mul_wide c = let p = c.requires in omega (arith, p.0.few_edges, p.1)
 
 element-copy-out-wide : tie.Need-bounds-rotations-start invariant-loop decreases-loop
-element-copy-out-wide c = let p = c.before.before.requires in omega (arith, p.0.few_edges, p.1)
+element-copy-out-wide c = let p = c.requires in omega (arith, p.0.few_edges, p.1)
 
 loop-holds : tie.Need-loop-d-init invariant-loop decreases-loop
 loop-holds c =
-    let p = c.before.before.before.before.requires in
-    let f = c.before.before.share-first in
+    let p = c.requires in
+    let f = c.share-first in
     set_off p.0.sound _ _ p.1 (number_of_bits _ (record { sfits = f.type_inv }) ∙ f.ensures) c.wide-d.ensures
 
 -- ── in the loop ──
 abbrev begun : tie.In-loop-d invariant-loop decreases-loop → tie.Start invariant-loop decreases-loop
-begun c = c.before.before.before.before.before.before
+begun c = c.before.before.before.before.before.before.before
 
-below : (c : tie.In-loop-d invariant-loop decreases-loop) → c.before.loop-d.d < 2 * (begun c).args.edges
-below c = dart_in (begun c).requires.0.sound _ _ (begun c).requires.1 c.before.loop-d.invariant
+below : (c : tie.In-loop-d invariant-loop decreases-loop) → c.loop-d.d < 2 * (begun c).args.edges
+below c = dart_in (begun c).requires.0.sound _ _ (begun c).requires.1 c.loop-d.invariant
 
 share-requires-2 : tie.Need-share-requires invariant-loop decreases-loop
 share-requires-2 c κs = let p = (begun c).requires in (omega (arith, p.0.few_edges, below c), head-word p.0.sound (omega (arith, p.0.exact)) _ (below c))
@@ -62,40 +62,40 @@ drawn c = let a = (begun c).args in map_of a.nodes a.edges a.tails.now a.rotatio
 -- what is added is what the dart adds
 share-is : (c : tie.After-share invariant-loop decreases-loop)
     → to_z w32 (of_z w32 c.share.result)
-    ≡ outward (drawn c.before) (atℤ (begun c.before).args.capacities.now) (member (begun c.before).args.set.now) c.before.before.loop-d.d
+    ≡ outward (drawn c.before) (atℤ (begun c.before).args.capacities.now) (member (begun c.before).args.set.now) c.loop-d.d
 share-is c = number_of_bits _ (record { sfits = c.share.type_inv }) ∙ c.share.ensures
 
 plus-requires : tie.Need-plus-sum-requires invariant-loop decreases-loop
 plus-requires c κs =
-    let t = c.before in
-    let p = (begun t).requires in
-    rw (share-is c) (more_fits p.0.sound _ _ p.1 t.before.loop-d.invariant t.loop-d-test.true p.0.few_edges p.0.small)
+    let t = c in
+    let p = (begun t.before).requires in
+    rw (share-is c) (more_fits p.0.sound _ _ p.1 t.loop-d.invariant t.loop-d-test.true p.0.few_edges p.0.small)
 
 mul-wide-2 : tie.Need-offset_bounds-rotations-d invariant-loop decreases-loop
-mul-wide-2 c = let t = c.before.before in omega (arith, (begun t).requires.0.few_edges, below t)
+mul-wide-2 c = let t = c in omega (arith, (begun t.before.before).requires.0.few_edges, below t.before.before)
 
 element-copy-out-wide-2 : tie.Need-bounds-rotations-d invariant-loop decreases-loop
-element-copy-out-wide-2 c = let t = c.before.before in omega (arith, (begun t).requires.0.few_edges, below t)
+element-copy-out-wide-2 c = let t = c in omega (arith, (begun t.before.before.before).requires.0.few_edges, below t.before.before.before)
 
 loop-less : tie.Need-loop-d-smaller invariant-loop decreases-loop
 loop-less c =
-    let t = c.before.before.before.before in
-    let p = (begun t).requires in
-    nearer p.0.sound _ _ p.1 t.before.loop-d.invariant t.loop-d-test.true refl c.wide-d-in-loop-d.ensures
+    let t = c in
+    let p = (begun t.before.before.before.before.before).requires in
+    nearer p.0.sound _ _ p.1 t.loop-d.invariant t.loop-d-test.true refl c.wide-d-in-loop-d.ensures
 
 loop-again : tie.Need-loop-d-preserved invariant-loop decreases-loop
 loop-again c =
-    let t = c.before.before.before.before in
-    let s = c.before.before in
-    let p = (begun t).requires in
-    turn_on p.0.sound _ _ p.1 t.before.loop-d.invariant t.loop-d-test.true
-    (number_of_bits _ (record { sfits = s.plus-sum.type_inv }) ∙ s.plus-sum.ensures ∙ ap (λ z. to_z w32 t.before.loop-d.sum +ℤ z) (share-is s.before))
+    let t = c in
+    let s = c in
+    let p = (begun t.before.before.before.before.before).requires in
+    turn_on p.0.sound _ _ p.1 t.loop-d.invariant t.loop-d-test.true
+    (number_of_bits _ (record { sfits = s.plus-sum.type_inv }) ∙ s.plus-sum.ensures ∙ ap (λ z. to_z w32 t.loop-d.sum-bits +ℤ z) (share-is s.before.before.before.before))
     c.wide-d-in-loop-d.ensures
 
 returns : tie.Need-returns invariant-loop decreases-loop
 returns c =
-    let p = c.before.before.before.before.before.before.requires in
-    turned p.0.sound _ _ p.1 c.before.loop-d.invariant c.loop-d-test.false
+    let p = c.requires in
+    turned p.0.sound _ _ p.1 c.loop-d.invariant c.loop-d-test.false
 
 pub round_total_spec : {M : Type 1} → statement M
 round_total_spec =

@@ -21,53 +21,53 @@ use Rattle.totals.proofs.totals_of.Statement.{statement}
 use Rattle.totals.proofs.totals_of.Tie as tie
 
 words-for-requires : tie.Need-words_for-words-requires
-words-for-requires c κs = c.before.requires.0
+words-for-requires c κs = c.requires.0
 
 returns : tie.Need-returns-then-set-words
 returns c =
-    let a = c.before.before.before.args in
-    (set_short a.nodes a.set.now a.subtotals-1.now (omega (arith, c.before.words_for-words.ensures, c.if-set-words.true)), refl)
+    let a = c.args in
+    (set_short a.nodes a.set.now a.subtotals.now (omega (arith, c.words_for-words.ensures, c.if-set-words.true)), refl)
 
 -- the set has its words
-long : (c : tie.Else-set-words) → words_for c.before.before.before.args.nodes ≤ length c.before.before.before.args.set.now
-long c = omega (arith, c.before.words_for-words.ensures, c.if-set-words.false)
+long : (c : tie.Else-set-words) → words_for c.args.nodes ≤ length c.args.set.now
+long c = omega (arith, c.words_for-words.ensures, c.if-set-words.false)
 
 -- the words lent
 abbrev lentSet : tie.Else-set-words → List ℕ
-lentSet c = take (c.before.words_for-words.result - 0) c.before.before.before.args.set.now
+lentSet c = take (c.words_for-words.result - 0) c.args.set.now
 
-same : (c : tie.Else-set-words) (v : ℕ) → v < c.before.before.before.args.nodes → member (lentSet c) v ≡ member c.before.before.before.args.set.now v
-same c v l = let a = c.before.before.before.args in part_member a.nodes c.before.words_for-words.result a.set.now c.before.words_for-words.ensures v l
+same : (c : tie.Else-set-words) (v : ℕ) → v < c.args.nodes → member (lentSet c) v ≡ member c.args.set.now v
+same c v l = let a = c.args in part_member a.nodes c.words_for-words.result a.set.now c.words_for-words.ensures v l
 
-words_lent : (c : tie.Else-set-words) → length (lentSet c) ≡ words_for c.before.before.before.args.nodes
+words_lent : (c : tie.Else-set-words) → length (lentSet c) ≡ words_for c.args.nodes
 words_lent c =
-    let w = c.before in
-    part_length w.words_for-words.result w.before.before.args.set.now (omega (arith, w.words_for-words.ensures, long c)) ∙ w.words_for-words.ensures
+    let w = c in
+    part_length w.words_for-words.result w.args.set.now (omega (arith, w.words_for-words.ensures, long c)) ∙ w.words_for-words.ensures
 
 count-members-requires : tie.Need-count_members-members-requires
-count-members-requires c κs = let e = c.before in record { few_nodes = e.before.before.before.requires.0; exact = words_lent e }
+count-members-requires c κs = let e = c in record { few_nodes = e.requires.0; exact = words_lent e.before }
 
 -- the nodes of the set, counted
 abbrev asked : tie.After-count_members-members → tie.Else-set-words
 asked c = c.before.before
 
 members-are : (c : tie.After-count_members-members)
-    → c.count_members-members.result ≡ count (asked c).before.before.before.args.nodes (member (asked c).before.before.before.args.set.now)
+    → c.count_members-members.result ≡ count (asked c).args.nodes (member (asked c).args.set.now)
 members-are c =
     let e = asked c in
-    c.count_members-members.ensures ∙ count_agrees e.before.before.before.args.nodes (member (lentSet e)) _ (same e)
+    c.count_members-members.ensures ∙ count_agrees e.args.nodes (member (lentSet e)) _ (same e)
 
 returns-2 : tie.Need-returns-then-subtotals-members
 returns-2 c =
-    let k = c.before in
-    let a = (asked k).before.before.before.args in
-    (out_short a.nodes a.set.now a.subtotals-1.now (omega (arith, members-are k, c.if-subtotals-members.true)), refl)
+    let k = c in
+    let a = (asked k.before).args in
+    (out_short a.nodes a.set.now a.subtotals.now (omega (arith, members-are k.before, c.if-subtotals-members.true)), refl)
 
 -- there is room for the subtotals
 abbrev begun : tie.Else-subtotals-members → tie.Start
 begun c = (asked c.before).before.before.before
 
-room : (c : tie.Else-subtotals-members) → count (begun c).args.nodes (member (begun c).args.set.now) ≤ length (begun c).args.subtotals-1.now
+room : (c : tie.Else-subtotals-members) → count (begun c).args.nodes (member (begun c).args.set.now) ≤ length (begun c).args.subtotals.now
 room c = omega (arith, members-are c.before, c.if-subtotals-members.false)
 
 mul-fill-starts : tie.Need-overflow_mul-edges
@@ -79,18 +79,18 @@ fill-starts-requires c κs =
     (omega (arith, p.1), refl, λ d l. omega (arith, p.0, p.2.range.tail_in d l))
 
 part-fill-subtotals-end : tie.Need-slice_bounds-fill_subtotals-end
-part-fill-subtotals-end c = c.before.before.before.if-subtotals-members.false
+part-fill-subtotals-end c = c.if-subtotals-members.false
 
 fill-subtotals-requires : tie.Need-fill_subtotals-total-requires
 fill-subtotals-requires c κs =
-    let f = c.before.before in
-    let e = f.before.before in
-    let s = begun e in
-    let p = s.pre in
-    let k = e.before in (
-      record { few_nodes = p.0; few_edges = p.1; sound = p.2; small = p.3; exact = words_lent (asked k) },
+    let f = c in
+    let e = f in
+    let s = begun e.before.before.before.before in
+    let p = s.requires in
+    let k = e in (
+      record { few_nodes = p.0; few_edges = p.1; sound = p.2; small = p.3; exact = words_lent (asked k.before.before.before.before.before) },
       f.fill_starts.ensures.1,
-      part_length k.count_members-members.result s.args.subtotals-1.now e.if-subtotals-members.false ∙ k.count_members-members.ensures,
+      part_length k.count_members-members.result s.args.subtotals.now e.if-subtotals-members.false ∙ k.count_members-members.ensures,
     )
 
 abbrev passed : tie.After-fill_subtotals-total → tie.Else-subtotals-members
@@ -105,7 +105,7 @@ sum_is c =
     let s = begun (passed c) in
     to_z-of_z w64 _ (record { sfits = c.fill_subtotals-total.type_inv })
     ∙ c.fill_subtotals-total.ensures.1
-    ∙ total_agrees s.pre.2.range (atℤ s.args.capacities.now) _ _ (same (asked (passed c).before))
+    ∙ total_agrees s.requires.2.range (atℤ s.args.capacities.now) _ _ (same (asked (passed c).before))
 
 narrow-requires : tie.Need-narrow-requires
 narrow-requires c κs =
@@ -114,15 +114,15 @@ narrow-requires c κs =
 
 returns-3 : tie.Need-returns
 returns-3 c =
-    let f = c.before.before in
-    let e = passed f in
+    let f = c in
+    let e = passed f.before.before in
     let s = begun e in
     let a = s.args in
-    let k = e.before in (
-      both_long a.nodes a.set.now a.subtotals-1.now (long (asked k)) (room e),
-      subtotaled_back s.pre.2.range (atℤ a.capacities.now) (member (lentSet (asked k))) (member a.set.now) (same (asked k))
-          k.count_members-members.result a.subtotals-1.now _ k.count_members-members.ensures f.fill_subtotals-total.ensures.0,
-      number_of_bits _ (record { sfits = c.narrow.type_inv }) ∙ c.narrow.ensures ∙ sum_is f,
+    let k = e in (
+      both_long a.nodes a.set.now a.subtotals.now (long (asked k.before)) (room e),
+      subtotaled_back s.requires.2.range (atℤ a.capacities.now) (member (lentSet (asked k.before))) (member a.set.now) (same (asked k.before))
+          k.count_members-members.result a.subtotals.now _ k.count_members-members.ensures f.fill_subtotals-total.ensures.0,
+      number_of_bits _ (record { sfits = c.narrow.type_inv }) ∙ c.narrow.ensures ∙ sum_is f.before.before,
     )
 
 pub totals_of_spec : {M : Type 1} → statement M

@@ -30,19 +30,19 @@ decreases-loop tails rotations darts first trees front order₀ from₀ owner en
 
 -- ── before the loop ──
 abbrev begun : tie.After-wide-v invariant-loop decreases-loop → tie.Start invariant-loop decreases-loop
-begun c = c.before.before
+begun c = c.before.before.before
 
 abbrev free : tie.After-narrow invariant-loop decreases-loop → tie.Else-owner-v-ne0 invariant-loop decreases-loop
 free c = c.before
 
 abbrev named : tie.Else-owner-v-ne0 invariant-loop decreases-loop → tie.After-wide-v invariant-loop decreases-loop
-named c = c.before.before
+named c = c.before.before.before
 
 abbrev turned : tie.After-add-listed invariant-loop decreases-loop → tie.After-wide-next invariant-loop decreases-loop
 turned c = c.before.before.before
 
 abbrev owned : tie.After-wide-next invariant-loop decreases-loop → tie.After-narrow invariant-loop decreases-loop
-owned c = c.before.before
+owned c = c.before.before.before
 
 -- the node is below 1,024
 node_below : (c : tie.After-wide-v invariant-loop decreases-loop) → c.wide-v.result < 1024
@@ -58,13 +58,13 @@ mul-if1 : tie.Need-offset_bounds-owner-v invariant-loop decreases-loop
 mul-if1 c = omega (arith, node_below c)
 
 element-copy-out-if1 : tie.Need-bounds-owner-v invariant-loop decreases-loop
-element-copy-out-if1 c = omega (arith, node_below c)
+element-copy-out-if1 c = omega (arith, node_below c.before)
 
 returns : tie.Need-returns-then-owner-v-ne0 invariant-loop decreases-loop
 returns c =
-    let w = c.before.before in
-    let p = (begun w).requires in
-    let owner = (begun w).args.owner.now in (
+    let w = c in
+    let p = (begun w.before.before.before).requires in
+    let owner = (begun w.before.before.before).args.owner.now in (
       p.0,
       p.1,
       p.2,
@@ -73,10 +73,10 @@ returns c =
     )
 
 add-narrow : tie.Need-overflow_add-d invariant-loop decreases-loop
-add-narrow c = let p = (begun (named c)).pre in omega (arith, p.3, p.6)
+add-narrow c = let p = (begun (named c)).requires in omega (arith, p.3, p.6)
 
 narrow-requires : tie.Need-narrow-requires invariant-loop decreases-loop
-narrow-requires c κs = let p = (begun (named c)).pre in omega (arith, p.3, p.6)
+narrow-requires c κs = let p = (begun (named c)).requires in omega (arith, p.3, p.6)
 
 mul-owner : tie.Need-offset_bounds-owner-v-2 invariant-loop decreases-loop
 mul-owner c = omega (arith, node_below (named (free c)))
@@ -85,14 +85,14 @@ element-write-owner : tie.Need-bounds-owner-v-2 invariant-loop decreases-loop
 element-write-owner c = omega (arith, node_below (named (free c)))
 
 mul-wide-2 : tie.Need-offset_bounds-rotations-d invariant-loop decreases-loop
-mul-wide-2 c = let p = (begun (named (free c))).pre in omega (arith, p.3, p.6)
+mul-wide-2 c = let p = (begun (named (free c))).requires in omega (arith, p.3, p.6)
 
 element-copy-out-wide-2 : tie.Need-bounds-rotations-d invariant-loop decreases-loop
-element-copy-out-wide-2 c = let p = (begun (named (free c))).pre in omega (arith, p.3, p.6)
+element-copy-out-wide-2 c = let p = (begun (named (free c.before))).requires in omega (arith, p.3, p.6)
 
 add-requires : tie.Need-add-listed-requires invariant-loop decreases-loop
 add-requires c κs =
-    let p = (begun (named (free (owned c.before.before)))).pre in
+    let p = (begun (named (free (owned c.before.before)))).requires in
     (p.0, p.1, omega (arith, p.3, p.6), p.7, λ z. p.8)
 
 loop-holds : tie.Need-loop-next-init invariant-loop decreases-loop
@@ -100,7 +100,7 @@ loop-holds c =
     let t = turned c in
     let f = free (owned t) in
     let w = named f in
-    let p = (begun w).pre in
+    let p = (begun w).requires in
     let a = (begun w).args in
     let e = c.add-listed.ensures in
     let v = w.wide-v.result in
@@ -111,7 +111,7 @@ loop-holds c =
       e.0,
       e.1,
       p.10 _ _ _ e.2,
-      rounding_start p.11 p.6 e.2 p.9 (ap (at owner) (sym is-v) ∙ f.if-owner-v-ne0.left)
+      rounding_start p.11 p.6 e.2 p.9 (ap (at owner) (sym is-v) ∙ f.if-owner-v-ne0.false)
           (ap (at (set owner v n.result)) (sym is-v) ∙ get_or-set_same owner v n.result 0 (omega (arith, p.2, node_below w)) ∙ n.ensures)
           (λ u h. get_or-set_other owner v u n.result 0 (λ q. h (q ∙ is-v))),
       t.wide-next.ensures,
@@ -130,59 +130,59 @@ abbrev start : tie.At-loop-next invariant-loop decreases-loop → tie.Start inva
 start c = begun (before-loop c)
 
 owner-long : (c : tie.At-loop-next invariant-loop decreases-loop)
-    → length (set (start c).args.owner.now (before-loop c).wide.result (owned (turned c.before)).narrow.result) ≡ 1024
+    → length (set (start c).args.owner.now (before-loop c).wide-v.result (owned (turned c.before)).narrow.result) ≡ 1024
 owner-long c =
-    length-set (start c).args.owner.now (before-loop c).wide.result (owned (turned c.before)).narrow.result ∙ (start c).requires.2
+    length-set (start c).args.owner.now (before-loop c).wide-v.result (owned (turned c.before)).narrow.result ∙ (start c).requires.2
 
 next_below : (c : tie.At-loop-next invariant-loop decreases-loop) → c.loop-next.next < (start c).args.darts
 next_below c = let i = c.loop-next.invariant in omega (arith, i.4, (start c).requires.4 c.loop-next.last i.3.inside)
 
 mul-if2 : tie.Need-offset_bounds-from-next invariant-loop decreases-loop
-mul-if2 c = omega (arith, next_below c.before, (start c.before).pre.3)
+mul-if2 c = omega (arith, next_below c.before, (start c.before).requires.3)
 
 element-copy-out-if2 : tie.Need-bounds-from-next invariant-loop decreases-loop
-element-copy-out-if2 c = omega (arith, next_below c.before, (start c.before).pre.3, c.before.loop-next.invariant.1)
+element-copy-out-if2 c = omega (arith, next_below c.before.before, (start c.before.before).requires.3, c.loop-next.invariant.1)
 
 returns-2 : tie.Need-returns-then-from-next invariant-loop decreases-loop
 returns-2 c =
-    let l = c.before.before.before in
+    let l = c in
+    let i = l.loop-next.invariant in (
+      i.0,
+      i.1,
+      owner-long l.before.before.before.before,
+      (λ h. absurd (h refl)),
+      λ z. rounding_merged i.3 i.4 (next_below l.before.before.before.before) c.if-from-next.true c.loop-next-test.true,
+    )
+
+abbrev at-loop : tie.Else-from-next invariant-loop decreases-loop → tie.At-loop-next invariant-loop decreases-loop
+at-loop c = c.before.before.before.before
+
+mul-wide-3 : tie.Need-offset_bounds-tails-next invariant-loop decreases-loop
+mul-wide-3 c = omega (arith, next_below (at-loop c), (start (at-loop c)).requires.3)
+
+element-copy-out-wide-3 : tie.Need-bounds-tails-next invariant-loop decreases-loop
+element-copy-out-wide-3 c = omega (arith, next_below (at-loop c.before), (start (at-loop c.before)).requires.3)
+
+returns-3 : tie.Need-returns-then-wide-v invariant-loop decreases-loop
+returns-3 c =
+    let l = at-loop c.before.before.before.before in
     let i = l.loop-next.invariant in (
       i.0,
       i.1,
       owner-long l,
       (λ h. absurd (h refl)),
-      λ z. rounding_merged i.3 i.4 (next_below l) c.if-from-next.true c.before.before.loop-next-test.true,
-    )
-
-abbrev at-loop : tie.Else-from-next invariant-loop decreases-loop → tie.At-loop-next invariant-loop decreases-loop
-at-loop c = c.before.before.before
-
-mul-wide-3 : tie.Need-offset_bounds-tails-next invariant-loop decreases-loop
-mul-wide-3 c = omega (arith, next_below (at-loop c), (start (at-loop c)).pre.3)
-
-element-copy-out-wide-3 : tie.Need-bounds-tails-next invariant-loop decreases-loop
-element-copy-out-wide-3 c = omega (arith, next_below (at-loop c), (start (at-loop c)).pre.3)
-
-returns-3 : tie.Need-returns-then-wide-v invariant-loop decreases-loop
-returns-3 c =
-    let l = at-loop c.before.before.before in
-    let i = l.loop-next.inv in (
-      i.0,
-      i.1,
-      owner-long l,
-      (λ h. absurd (h refl)),
-      λ z. rounding_astray i.3 i.4 (λ e. c.if-wide-v.true (c.before.wide.ensures ∙ e ∙ sym (before-loop l).wide.ensures)),
+      λ z. rounding_astray i.3 i.4 (λ e. c.if-wide-v.true (c.wide.ensures ∙ e ∙ sym (before-loop l).wide-v.ensures)),
     )
 
 -- the dart is new, and leaves the node
 abbrev fresh : tie.Else-wide-v invariant-loop decreases-loop → tie.Else-from-next invariant-loop decreases-loop
-fresh c = c.before.before.before
+fresh c = c.before.before.before.before
 
 add-requires-2 : tie.Need-add-listed-requires-in-loop-next invariant-loop decreases-loop
 add-requires-2 c κs =
     let l = at-loop (fresh c.before.before) in
-    let i = l.loop-next.inv in
-    let p = (start l).pre in (
+    let i = l.loop-next.invariant in
+    let p = (start l).requires in (
       i.0,
       i.1,
       omega (arith, next_below l, p.3),
@@ -194,40 +194,40 @@ abbrev joined : tie.After-add-listed-in-loop-next invariant-loop decreases-loop 
 joined c = c.before.before.before
 
 mul-wide-4 : tie.Need-offset_bounds-rotations-next invariant-loop decreases-loop
-mul-wide-4 c = let l = at-loop (fresh (joined c)) in omega (arith, next_below l, (start l).pre.3)
+mul-wide-4 c = let l = at-loop (fresh (joined c)) in omega (arith, next_below l, (start l).requires.3)
 
 element-copy-out-wide-4 : tie.Need-bounds-rotations-next invariant-loop decreases-loop
-element-copy-out-wide-4 c = let l = at-loop (fresh (joined c)) in omega (arith, next_below l, (start l).pre.3)
+element-copy-out-wide-4 c = let l = at-loop (fresh (joined c.before)) in omega (arith, next_below l, (start l).requires.3)
 
 loop-less : tie.Need-loop-next-smaller invariant-loop decreases-loop
 loop-less c =
-    let a = c.before.before in
-    let f = fresh (joined a) in
+    let a = c in
+    let f = fresh (joined a.before.before.before) in
     let l = at-loop f in
-    omega (arith, added_grew a.add-listed-in-loop-next.ensures.2 f.if-from-next.left, room l.loop-next.inv.2 l.loop-next.next (next_below l) f.if-from-next.left)
+    omega (arith, added_grew a.add-listed-in-loop-next.ensures.2 f.if-from-next.false, room l.loop-next.invariant.2 l.loop-next.next (next_below l) f.if-from-next.false)
 
 loop-again : tie.Need-loop-next-preserved invariant-loop decreases-loop
 loop-again c =
-    let a = c.before.before in
-    let j = joined a in
+    let a = c in
+    let j = joined a.before.before.before in
     let f = fresh j in
     let l = at-loop f in
-    let i = l.loop-next.inv in
+    let i = l.loop-next.invariant in
     let q = a.add-listed-in-loop-next.ensures in
     let w = before-loop l in
-    let longer = added_grew q.2 f.if-from-next.left in
-    let leave = sym j.before.wide.ensures ∙ j.if-wide-v.left ∙ w.wide-v.ensures in (
+    let longer = added_grew q.2 f.if-from-next.false in
+    let leave = sym j.wide.ensures ∙ j.if-wide-v.false ∙ w.wide-v.ensures in (
       q.0,
       q.1,
       growing_added i.2 (next_below l) q.2 (omega (arith, i.5.1)) (sym i.5.2)
           (inr (i.4 ∙ ap (at (start l).args.rotations.now) (sym i.5.2))),
-      rounding_on i.3 q.2 f.if-from-next.left i.4 (next_below l) leave,
+      rounding_on i.3 q.2 f.if-from-next.false i.4 (next_below l) leave,
       c.wide-next-in-loop-next.ensures,
       (l.loop-next.listed, omega (arith, q.2.by_one), (q.2.new (omega arith)).0),
       omega (arith, i.6),
       (λ k m. q.2.kept k (omega (arith, i.6)) ∙ i.7 k m),
       (λ y h. stay q.2 y (i.8 y h)),
-      first_come_added q.2 i.2.marked i.9 (comes_turned q.2 f.if-from-next.left i.5.1 i.5.2 i.4),
+      first_come_added q.2 i.2.marked i.9 (comes_turned q.2 f.if-from-next.false i.5.1 i.5.2 i.4),
     )
 
 -- the dart listed last leads back to the first
@@ -239,12 +239,12 @@ back l e k n =
 
 returns-4 : tie.Need-returns invariant-loop decreases-loop
 returns-4 c =
-    let l = c.before in
+    let l = c in
     let i = l.loop-next.invariant in
-    let e = l.before.add-listed.ensures.2 in (
+    let e = l.add-listed.ensures.2 in (
       i.0,
       i.1,
-      owner-long l,
+      owner-long l.before,
       λ h. (
         i.2,
         rounding_end i.3 (sym i.4 ∙ c.loop-next-test.false),
@@ -253,7 +253,7 @@ returns-4 c =
         i.6,
         (λ y m. i.8 y (stay e y m)),
         i.9,
-        λ k n. let m = i.2.listed _ (start l).requires.6 i.3.begun in (m.0, m.1, m.2 ∙ back l c.loop-next-test.false k n),
+        λ k n. let m = i.2.listed _ (start l.before).requires.6 i.3.begun in (m.0, m.1, m.2 ∙ back l.before c.loop-next-test.false k n),
       ),
       λ z. absurd (omega (arith, z, i.6)),
     )

@@ -20,28 +20,28 @@ loop-holds : tie.Need-loop-d-init invariant-loop decreases-loop
 loop-holds c = (ahead_start c.requires.1.0 c.requires.1.1 c.requires.1.2, λ e l. absurd (omega (arith, l)))
 
 mul_wide : tie.Need-offset_bounds-tails-d invariant-loop decreases-loop
-mul_wide c = omega (arith, c.before.requires.0, ahead_in c.loop-d.invariant.0)
+mul_wide c = omega (arith, c.requires.0, ahead_in c.loop-d.invariant.0)
 
 element-copy-out-wide : tie.Need-bounds-tails-d invariant-loop decreases-loop
-element-copy-out-wide c = omega (arith, c.before.requires.0, ahead_in c.loop-d.invariant.0)
+element-copy-out-wide c = omega (arith, c.requires.0, ahead_in c.loop-d.invariant.0)
 
 add-d : tie.Need-overflow_add-d invariant-loop decreases-loop
-add-d c = omega (arith, c.before.before.before.before.requires.0, ahead_in c.before.before.before.loop-d.invariant.0)
+add-d c = omega (arith, c.requires.0, ahead_in c.loop-d.invariant.0)
 
 loop-less : tie.Need-loop-d-smaller invariant-loop decreases-loop
-loop-less c = omega (arith, ahead_in c.before.before.before.loop-d.invariant.0)
+loop-less c = omega (arith, ahead_in c.loop-d.invariant.0)
 
 loop-again : tie.Need-loop-d-preserved invariant-loop decreases-loop
 loop-again c =
-    let o = c.before.before.before.loop-d in
-    let other : at c.before.before.before.before.args.tails.now o.d ≢ c.before.before.before.before.args.v =
-    λ p. c.loop-d-test.true (c.before.wide.ensures ∙ p) in
+    let o = c.loop-d in
+    let other : at c.args.tails.now o.d ≢ c.args.v =
+    λ p. c.loop-d-test.true (c.wide.ensures ∙ p) in
     (ahead_step o.invariant.0 other, below_more _ o.d o.invariant.1 other)
 
 returns : tie.Need-returns invariant-loop decreases-loop
 returns c =
-    let i = c.before.before.before.loop-d.invariant in
-    (ahead_in i.0, sym c.before.wide.ensures ∙ c.loop-d-test.false, i.1)
+    let i = c.loop-d.invariant in
+    (ahead_in i.0, sym c.wide.ensures ∙ c.loop-d-test.false, i.1)
 
 pub dart_at_spec : {M : Type 1} → statement M
 dart_at_spec =

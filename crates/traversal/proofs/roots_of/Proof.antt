@@ -4,12 +4,12 @@ use Rattle.traversal.proofs.roots_of.Statement.{statement}
 use Rattle.traversal.proofs.roots_of.Tie as tie
 
 spread-all-requires : tie.Need-spread_all-trees-requires
-spread-all-requires c κs = let p = c.before.before.requires in (search rules, search rules, p.1, p.2, p.3, p.4)
+spread-all-requires c κs = let p = c.requires in (search rules, search rules, p.1, p.2, p.3, p.4)
 
 first-faces-requires : tie.Need-first_faces-requires
 first-faces-requires c κs =
-    let w = c.before.before.before in
-    let p = w.before.before.before.requires in
+    let w = c in
+    let p = w.requires in
     (p.0, p.1, w.spread_all-trees.ensures.2)
 
 returns : tie.Need-returns

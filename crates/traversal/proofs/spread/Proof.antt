@@ -7,12 +7,12 @@ use Rattle.traversal.proofs.spread.Statement.{statement}
 use Rattle.traversal.proofs.spread.Tie as tie
 
 unmark-all-requires : tie.Need-unmark_all-requires
-unmark-all-requires c κs = c.before.requires.1
+unmark-all-requires c κs = c.requires.1
 
 grow-requires : tie.Need-grow-requires
 grow-requires c κs =
-    let u = c.before.before in
-    let p = u.before.before.requires in
+    let u = c in
+    let p = u.requires in
     let e = u.unmark_all.ensures in (
       p.0,
       e.0,
@@ -25,7 +25,7 @@ grow-requires c κs =
 
 returns : tie.Need-returns
 returns c =
-    let p = c.before.before.before.before.before.requires in
+    let p = c.requires in
     let e = c.grow.ensures in
     (e.0, e.1, finished e.2 p.3 p.5)
 

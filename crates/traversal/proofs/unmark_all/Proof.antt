@@ -23,16 +23,16 @@ loop-holds c = (omega arith, c.requires, λ d l. absurd (omega arith))
 
 loop-again : tie.Need-loop-i-preserved invariant-loop decreases-loop
 loop-again c =
-    let i = c.before.loop-i.i in
-    let label = c.before.loop-i.label in (
+    let i = c.loop-i.i in
+    let label = c.loop-i.label in (
       omega arith,
       search rules,
       below_more (λ d. at (set label i unmarked) d ≡ unmarked) i
-          (λ d l. read_below _ label i d unmarked 0 unmarked l (c.before.loop-i.invariant.2 d l)) (get_or-set_same label i unmarked 0 (omega arith)),
+          (λ d l. read_below _ label i d unmarked 0 unmarked l (c.loop-i.invariant.2 d l)) (get_or-set_same label i unmarked 0 (omega arith)),
     )
 
 returns : tie.Need-returns invariant-loop decreases-loop
-returns c = (c.before.loop-i.invariant.1, λ d l. c.before.loop-i.invariant.2 d (omega arith))
+returns c = (c.loop-i.invariant.1, λ d l. c.loop-i.invariant.2 d (omega arith))
 
 pub unmark_all_spec : {M : Type 1} → statement M
 unmark_all_spec =

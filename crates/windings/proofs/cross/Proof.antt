@@ -15,27 +15,27 @@ use Rattle.windings.proofs.cross.Statement.{statement}
 use Rattle.windings.proofs.cross.Tie as tie
 
 plus16-requires : tie.Need-plus16-requires
-plus16-requires c κs = plus_fits c.before.before.requires.2
+plus16-requires c κs = plus_fits c.requires.2
 
 -- the first store left the winding of the reverse as it was
 minus16-requires : tie.Need-minus16-requires
 minus16-requires c κs =
-    let s = c.before.before.before.before in
-    let o = c.before.before.before.reverse-back in
+    let s = c in
+    let o = c.reverse-back in
     let l = s.args.winding.now in
-    let a = to_z w16 (of_z w16 c.before.plus16.result) in
+    let a = to_z w16 (of_z w16 c.plus16.result) in
     let same = get_or-set_other l s.args.p o.result a (pos 0) (λ q. rev_apart s.args.p (sym o.ensures.0 ∙ q)) in
     minus_fits (subst (Limited 1024) (sym (same ∙ ap (atℤ l) o.ensures.0)) s.requires.3)
 
 returns : tie.Need-returns
 returns c =
-    let s = c.before.before.before.before.before in
-    let o = c.before.before.before.before.reverse-back in
+    let s = c in
+    let o = c.reverse-back in
     let l = s.args.winding.now in
     let p = s.args.p in
     let x = o.result in
     let h = s.requires in
-    let more = c.before.before.plus16 in
+    let more = c.plus16 in
     let a = to_z w16 (of_z w16 more.result) in
     let b = to_z w16 (of_z w16 c.minus16.result) in
     let same : atℤ (set l p a) x ≡ atℤ l x = get_or-set_other l p x a (pos 0) (λ q. rev_apart p (sym o.ensures.0 ∙ q)) in
