@@ -1,5 +1,7 @@
 // The C interface: each operation of the analyser under a plain name. A slice is passed as a pointer and a length. The result is the number of
 // the refusal, or 0. Answers and the place of a refusal come through pointers: a refusal writes the place alone, and an answer leaves it as it was.
+#![tactic(auto)]
+
 ghost use Rattle.std.specs.Prelude.{◌≡◌};
 ghost use Rattle.abi.specs.Read.{TellsRead};
 ghost use Rattle.abi.specs.Write.{TellsWrite};

@@ -24,8 +24,6 @@ use Rattle.records.specs.Sheet.{nodes_of, capacity_of, outer_of, sheet_map}
 use Rattle.sheets.specs.Open.{sheet_checks}
 use Rattle.questions.specs.Question.{end_checks}
 use Rattle.questions.proofs.Asked.{ends_in, ends_differ}
-use Rattle.questions.specs.declared.LargestAnswer.TheVariants as largest
-use Rattle.ranges.specs.declared.RangeAnswer.TheVariants as range
 use Rattle.analyser.specs.Statements.{Delivers, Possible, BalancedWithin, Districts}
 use Rattle.analyser.proofs.SheetPlane.{plane, outer_in}
 use Rattle.analyser.proofs.Accepted.{sought}

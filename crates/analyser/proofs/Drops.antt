@@ -22,7 +22,6 @@ use Rattle.questions.specs.declared.SolveAnswer.TheVariants.{Can, Cannot, Refuse
 use Rattle.questions.specs.declared.LargestAnswer.TheVariants as largest
 use Rattle.questions.proofs.Asked.{ends_in, ends_differ}
 use Rattle.raising.specs.Raised.{raised}
-use Rattle.raising.specs.declared.RaiseAnswer.TheVariants as raise
 use Rattle.analyser.specs.Solve.{solve_checks, Solves}
 use Rattle.analyser.specs.Largest.{FindsLargest}
 use Rattle.analyser.specs.Drops.{DeliversInParts, NotEvenInDrops, InDrops}

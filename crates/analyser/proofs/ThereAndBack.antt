@@ -8,7 +8,7 @@ use lib.ListN.{length}
 use lib.IntN.{ℤ, pos, ◌-ℤ◌}
 use Rattle.integers.specs.inner.Limited.{Limited}
 use Rattle.integers.proofs.Omega.{atoms₁, parts, from_less, from_at_most}
-use Rattle.refusals.specs.Order.{Check, NoneOf}
+use Rattle.refusals.specs.Order.{NoneOf}
 use Rattle.refusals.proofs.Order.{none_append, append_none, first_none, neither}
 use Rattle.maps.specs.Map.{Map, darts}
 use Rattle.maps.specs.Face.{faces, left, right}

@@ -2,6 +2,8 @@
 // delivery beside the largest (Job 4), what a forward limit must be raised to (Job 7), totals by node (Job 9), limits from a capture (Job 10), DIMACS text (Job
 // 2), questions by the page (Job 1). Each opens its sheet in one way: it holds the network record in its own frame and lends its arrays to the operation on
 // drawings. Operations that decide also hold the walk over the darts and their groups, which opening makes.
+#![tactic(auto)]
+
 ghost use Rattle.std.specs.Prelude.{length};
 ghost use Rattle.records.specs.Sheet.{sheet_drawing};
 ghost use Rattle.questions.specs.inner.Named.{SetNamed};

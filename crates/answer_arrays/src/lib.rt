@@ -1,4 +1,6 @@
 // The answers of a page in plain arrays, a place for each question, as a C program is told them. Document 02, Job 1.
+#![tactic(auto)]
+
 ghost use Rattle.std.specs.Prelude.{◌≤◌, ◌≡◌, length};
 ghost use Rattle.arrays.specs.Filled.{filled};
 ghost use Rattle.pages.specs.Page.{answer_at};

@@ -1,4 +1,6 @@
 // What every function on arrays uses: indices widened and narrowed, the reverse of a dart, and the face right of it.
+#![tactic(auto)]
+
 ghost use Rattle.std.specs.Prelude.{◌≡◌, ◌<◌};
 ghost use Rattle.maps.specs.Dart.{rev};
 ghost use Rattle.arrays.specs.Maps.{right_of};

@@ -1,5 +1,7 @@
 // Judges given flows of the edges: 17, each edge's flow within its capacities; 18, the flows balanced at the nodes.
 // Of a slice of flows only the first `edges` elements are read. Sums and tests of signed numbers are functions of their own.
+#![tactic(auto)]
+
 ghost use Rattle.std.specs.Prelude.{◌≡◌, ◌⊎◌, ◌≢◌, ℕ, ◌+◌, ◌*◌, ◌<◌, ◌≤◌, eqb, length, pos, neg_ℤ, ◌+ℤ◌, ◌-ℤ◌, ◌<ℤ◌};
 ghost use Rattle.std.specs.Int.{w32};
 ghost use Rattle.std.proofs.Common.{SFits};

@@ -1,5 +1,7 @@
 // Limits from a capture: the recorder's bytes, read forward record by record, and Largest on a drawing with the forward limits found. Document 02, Job 10. The
 // capture is never copied, whatever its length: what is kept of it is the tick of the record before, and for each edge the least limit of the window.
+#![tactic(auto)]
+
 ghost use Rattle.std.specs.Prelude.{◌≡◌, ℕ, ◌+◌, ◌-◌, ◌*◌, ◌<◌, ◌≤◌, length, set};
 ghost use Rattle.refusals.specs.Order.{Judged, NoneOf};
 ghost use Rattle.grouping.specs.inner.OpenDrawing.{OpenDrawing};

@@ -1,4 +1,6 @@
 // Cuts over arrays: the sum of numbers of the darts that leave a set of flagged nodes.
+#![tactic(auto)]
+
 ghost use Rattle.std.specs.Prelude.{◌≡◌, ℕ, ◌+◌, ◌*◌, ◌<◌, ◌≤◌, ◌%◌, ◌+ℤ◌};
 ghost use Rattle.integers.specs.Sum.{when};
 ghost use Rattle.integers.specs.inner.Limited.{Limited};

@@ -1,5 +1,7 @@
 // The exam desk: papers of a class marked against one drawing, source, sink and value. Document 02, Job 14. It stands above the analyser and calls what the
 // unit offers, Counts, Largest, Mark and Totals by node, of which it knows the contracts and the printed statements alone.
+#![tactic(auto)]
+
 ghost use Rattle.std.specs.Prelude.{◌≡◌, ℕ, ◌+◌, ◌*◌, ◌/◌, ◌<◌, ◌≤◌, ◌++◌, length, pos, negsuc, ◌+ℤ◌};
 ghost use Rattle.std.specs.Int.Signed.{lt_z};
 ghost use Rattle.integers.specs.Sum.{sumℕ};

@@ -1,5 +1,7 @@
 // The DIMACS maximum flow text of a drawing that is open and sound, held in lent arrays. Document 02, Job 2. How long the text is, is found before its first
 // byte is written, straight into the lent output.
+#![tactic(auto)]
+
 ghost use Rattle.std.specs.Prelude.{◌≡◌, ◌∷◌, ◌++◌, ◌+◌, ◌≤◌, length, pos, ◌<ℤ◌};
 ghost use Rattle.refusals.specs.Order.{Decides};
 ghost use Rattle.arrays.specs.At.{atℤ};

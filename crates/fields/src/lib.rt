@@ -1,5 +1,7 @@
 // Fields of records, read from and written into bytes. The paper: "Fields are little-endian, 16 bits unsigned or 32 bits signed." Document 02, Job 10: a tick
 // has 32 bits, unsigned.
+#![tactic(auto)]
+
 ghost use Rattle.std.specs.Prelude.{◌≡◌, [], ◌∷◌, ◌+◌, ◌<◌, ◌≤◌, length};
 ghost use Rattle.fields.specs.Fields.{u16_at, u32_at, i32_at, le16, le_bits, le32, put};
 

@@ -1,5 +1,7 @@
 // Heights of the nodes, in one pass along the order in which a walk over the darts met them: a dart was met as the reverse of one whose node's height is known,
 // one difference away, or at the node of one met before, or begins a tree.
+#![tactic(auto)]
+
 ghost use Rattle.std.specs.Prelude.{◌≡◌, length};
 ghost use Rattle.heights.specs.inner.Heights.{Fillable, Filled, Rooted};
 ghost use Rattle.arrays.specs.At.{at, atℤ};

@@ -7,23 +7,7 @@ use native.Mathlib.Omega.{arith}
 use native.Mathlib.Nat.{mul-le-mul}
 use lib.IntN.{ℤ, pos, neg_ℤ, ◌+ℤ◌, ◌-ℤ◌, ◌*ℤ◌}
 use lib.Signed.{◌≤ℤ◌, ◌<ℤ◌, le_z, lt_z, le_z_yes, lt_z_yes, lt_z_no}
-use Rattle.integers.proofs.Omega.{
-  Parts,
-  atom,
-  atoms₁,
-  atoms₂,
-  atoms₃,
-  atoms₄,
-  parts,
-  positive,
-  negative,
-  equal,
-  at_most,
-  less,
-  from_equal,
-  from_at_most,
-  from_less,
-}
+use Rattle.integers.proofs.Omega.{atom, atoms₂, atoms₃, atoms₄, parts, positive, negative, equal, at_most, less, from_equal, from_at_most, from_less}
 
 -- ── ring ──
 pub mul_distrib_left : (c x y : ℤ) → c *ℤ (x +ℤ y) ≡ c *ℤ x +ℤ c *ℤ y

@@ -1,4 +1,6 @@
 // The text of the program key, made in memory. Document 01, "The program key": "The text is made in memory by a proved function of the bytes read".
+#![tactic(auto)]
+
 ghost use Rattle.std.specs.Prelude.{◌≡◌, List, ℕ, ◌+◌, ◌*◌, ◌≤◌, ◌<◌, length};
 ghost use Rattle.integers.specs.inner.Limited.{Limited};
 ghost use Rattle.refusals.specs.Order.{NoneOf};

@@ -1,5 +1,7 @@
 // The length of each dart for a value: its capacity, less the value along a path from one dart to another through the trees of a walk over all darts. From both
 // ends the tree is climbed to its first dart, from each dart to the one that it was met from; what both climbs cross is cancelled.
+#![tactic(auto)]
+
 ghost use Rattle.std.specs.Prelude.{◌≡◌, ◌≢◌, ℕ, ◌<◌, ◌≤◌, eqb, length, pos, ◌-ℤ◌, ◌*ℤ◌};
 ghost use Rattle.integers.specs.Sum.{when};
 ghost use Rattle.lengths.specs.inner.Lengths.{Climbable, Climbed, Fillable, Filled};

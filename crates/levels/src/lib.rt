@@ -1,4 +1,6 @@
 // Face potentials ("levels") both ways: the levels of given flows, laid along a walk over the darts, and the flows that given levels make.
+#![tactic(auto)]
+
 ghost use Rattle.std.specs.Prelude.{ℕ, ◌+◌, ◌*◌, ◌/◌, ◌<◌, ◌≤◌, length, ◌≡◌};
 ghost use Rattle.levels.specs.inner.Across.{across, HasLevel, HaveLevels, OneOf};
 ghost use Rattle.levels.specs.Level.{LevelOutside, level_checks};

@@ -8,23 +8,7 @@ use lib.Dec.{eqb}
 use lib.IntN.{ℤ, pos, ◌+ℤ◌, ◌-ℤ◌, ◌*ℤ◌, +ℤ_invr}
 use lib.Signed.{◌≤ℤ◌, ◌<ℤ◌}
 use Rattle.integers.specs.Sum.{Integers, sumℤ, when, bit}
-use Rattle.integers.proofs.Omega.{
-  atom,
-  literal,
-  added,
-  negated,
-  atoms₁,
-  atoms₂,
-  atoms₃,
-  parts,
-  positive,
-  positive_is,
-  equal,
-  at_most,
-  less,
-  from_less,
-  from_at_most,
-}
+use Rattle.integers.proofs.Omega.{literal, added, negated, atoms₁, atoms₂, atoms₃, parts, positive, positive_is, equal, at_most, less, from_less, from_at_most}
 use Rattle.integers.proofs.Laws.{neg_sub, mul_le}
 use Rattle.integers.proofs.Sums.{sum_ext, sum_nil, sum_add, sum_pick, sum_pairs}
 use Rattle.integers.proofs.IntegerSums.{sum_le, sum_sub, when_zero}

@@ -8,6 +8,8 @@
 // are the answer; where they pass each other, the union or the intersection of their two sets shows that there is nothing.
 // Cost: one decision where the first bound is probed and is the answer, two or three where the pivots find it. After the first three probes the middle of the
 // bounds is probed at least every other time, so some 60 decisions do for any capacities. What a decision costs is said in `search`.
+#![tactic(auto)]
+
 ghost use Rattle.std.specs.Prelude.{◌≡◌, true, false, ◌⊎◌, List, ℕ, ◌*◌, ◌%◌, ◌<◌, ◌≤◌, length, ℤ, pos, neg_ℤ, ◌≤ℤ◌, ◌<ℤ◌};
 ghost use Rattle.std.specs.Int.Signed.{lt_z};
 ghost use Rattle.integers.specs.inner.Limited.{Limited};

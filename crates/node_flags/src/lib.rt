@@ -1,4 +1,6 @@
 // Sets of nodes as flags: one node, a copy, union and intersection, the cut of a set, and on which side of a question it lies.
+#![tactic(auto)]
+
 ghost use Rattle.std.specs.Prelude.{◌≡◌, ◌&&◌, ◌||◌, ℕ, ◌<◌, eqb, length};
 ghost use Rattle.maps.specs.Cut.{union, intersection};
 ghost use Rattle.node_flags.specs.inner.Flags.{Sided};

@@ -1,5 +1,7 @@
 // Sets of nodes in 64-bit words. Document 01, "A proving set": "It is written as 64-bit words, node i being bit i mod 64 of word i div 64, unused bits zero,
 // words as many as the nodes need. Its size is the number of ones in its words."
+#![tactic(auto)]
+
 ghost use Rattle.std.specs.Prelude.{◌≡◌, ◌+◌, ◌/◌, ◌^◌, ◌<◌, ◌≤◌, length, take};
 ghost use Rattle.std.specs.Int.Count.{ones};
 ghost use Rattle.flows.specs.ProvingSet.{words_for, member, size};

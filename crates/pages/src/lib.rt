@@ -1,5 +1,7 @@
 // Lists of up to 64 questions on a drawing that is open and sound, held in lent arrays. Document 02, Job 1. Each question gets a stretch of one buffer for its
 // settings and a stretch of another for its set, and is answered as Solve answers it alone.
+#![tactic(auto)]
+
 ghost use Rattle.std.specs.Prelude.{◌<◌, ◌≤◌, min, ◌≡◌, length};
 ghost use Rattle.refusals.specs.Order.{Judged};
 ghost use Rattle.flows.specs.ProvingSet.{words_for};

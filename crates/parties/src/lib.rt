@@ -1,6 +1,8 @@
 // Sessions that two parties share (document 02, Jobs 11 and 12): Start, Ask, Commit and Clear, and that a party's answers follow from what it sees. A session
 // lies in memory that the caller owns: counts, outer dart, the arrays of the drawing, the sheet's limits and those left, a byte for each party that says where
 // it stands, and an offer for each. Every call takes any value as one.
+#![tactic(auto)]
+
 ghost use Rattle.std.specs.Prelude.{◌≡◌, cond, ℕ, ◌<◌, ◌≤◌, eqb, length};
 ghost use Rattle.arrays.specs.At.{at, atℤ};
 ghost use Rattle.arrays.specs.Filled.{filled};

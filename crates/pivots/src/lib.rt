@@ -4,6 +4,8 @@
 //
 // Nothing is promised of the set but that it is found: who takes it adds up its cut. So numbers are read within their range by remainders, every walk counts
 // its steps, and sums wrap: no step rests on what an array holds.
+#![tactic(auto)]
+
 ghost use Rattle.std.specs.Prelude.{◌≡◌, ◌+◌, ◌<◌, ◌≤◌, length};
 
 // The mark of a node from which a dart leads on.

@@ -1,5 +1,7 @@
 // Practice sheets: a grid of 2 to 16 rows and columns with capacities from a seed, written as a sheet. Document 02, Job 5. A node is told by its row r and
 // column c, from 0 at the top left; its sides have the numbers 0 north, 1 east, 2 south, 3 west, clockwise.
+#![tactic(auto)]
+
 ghost use Rattle.std.specs.Prelude.{◌≡◌, true, ◌⊎◌, List, ◌++◌, ℕ, ◌+◌, ◌*◌, ◌-◌, ◌<◌, ◌≤◌, length, drop, pos};
 ghost use Rattle.refusals.specs.Order.{Decides};
 ghost use Rattle.fields.specs.Fields.{put};

@@ -1,4 +1,6 @@
 // Questions on a drawing that is open and sound, held in lent arrays: Solve, Largest and Mark with the refusals 13 to 18. They know no bytes.
+#![tactic(auto)]
+
 ghost use Rattle.std.specs.Prelude.{◌≤◌};
 ghost use Rattle.refusals.specs.Order.{Decides, Judged};
 ghost use Rattle.grouping.specs.inner.OpenDrawing.{OpenDrawing};

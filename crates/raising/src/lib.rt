@@ -3,6 +3,8 @@
 // flows of a plane drawing as shortest paths of its dual: Miller and Naor 1995.
 //
 // The drawing is open and sound, and held in lent arrays. Document 02, Job 7.
+#![tactic(auto)]
+
 ghost use Rattle.std.specs.Prelude.{◌≡◌, ◌*◌, length};
 ghost use Rattle.arrays.specs.At.{atℤ};
 ghost use Rattle.arrays.specs.Maps.{drawing_of};

@@ -1,6 +1,8 @@
 // The least and the largest value on a drawing that is open and sound, held in lent arrays. Document 02, Job 4. What carries a value from source to sink
 // carries its negative from sink to source: the least value is the negative of the largest with the ends exchanged, with the same flows and the same sets. So
 // the way back begins with what the way there found.
+#![tactic(auto)]
+
 ghost use Rattle.arrays.specs.Maps.{drawing_of};
 ghost use Rattle.questions.specs.inner.Lent.{OpenSheet};
 ghost use Rattle.ranges.specs.Range.{span_checks, RangeFound};

@@ -1,4 +1,6 @@
 // Records of a sheet: the table of body lengths, and the checks 1 to 8 on bytes, in the order of document 01, "Operations".
+#![tactic(auto)]
+
 ghost use Rattle.std.specs.Prelude.{◌≡◌, ◌⊎◌, ◌≢◌, ◌+◌, ◌*◌, ◌<◌, ◌≤◌, length, pos, ◌+ℤ◌, ◌<ℤ◌};
 ghost use Rattle.refusals.specs.Order.{Judged, Decides};
 ghost use Rattle.fields.specs.Fields.{u16_at};

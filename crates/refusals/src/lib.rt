@@ -1,4 +1,6 @@
 // What the checks of an operation found. The paper: "A refusal is its number, with a lowest channel (17) or node (18), else place 0."
+#![tactic(auto)]
+
 ghost use Rattle.std.specs.Prelude.{◌≡◌};
 
 #[derive(Clone, Copy)]

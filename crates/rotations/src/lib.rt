@@ -1,5 +1,7 @@
 // The sheet checks 9 to 12 on a map given by two arrays: the tail of each dart, and its rotation (the paper's "turn").
 // Each is decided in work that grows as the number of darts, and check 12 leaves the faces numbered in order of their lowest darts.
+#![tactic(auto)]
+
 ghost use Rattle.std.specs.Prelude.{◌≡◌, ◌≢◌, ℕ, ◌+◌, ◌*◌, ◌<◌, ◌≤◌, length};
 ghost use Rattle.refusals.specs.Order.{Decides};
 ghost use Rattle.maps.specs.Orbit.{orbits, orbit_of, Permutes};

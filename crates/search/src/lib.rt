@@ -9,6 +9,8 @@
 //
 // It takes at most as many rounds of the queue as there are faces, each linear in darts and faces, which no theorem here says: that it ends is proved.
 // Moore 1959 (the queue); Cherkassky and Goldberg 1999 (parents that lead round, levels that are updated along them).
+#![tactic(auto)]
+
 ghost use Rattle.std.specs.Prelude.{◌≡◌, true, false, List, ℕ, ◌+◌, ◌<◌, ◌≤◌, length, take};
 ghost use Rattle.std.specs.Int.Signed.{mag};
 ghost use Rattle.grouping.specs.Grouped.{end_of, Grouped};

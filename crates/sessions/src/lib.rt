@@ -1,5 +1,7 @@
 // The limits left in a session (document 02, Jobs 11 and 12): what must be so of them, Solve's answer on them, an offer kept, and the limits lowered by it. The
 // calls are made of these in crate `parties`. Any value is taken: what a question or an offer needs of it is checked before anything is written.
+#![tactic(auto)]
+
 ghost use Rattle.std.specs.Prelude.{◌≡◌, cond, ℕ, ◌*◌, ◌%◌, ◌<◌, ◌≤◌, eqb, length, neg_ℤ, ◌-ℤ◌};
 ghost use Rattle.std.specs.Int.{w32};
 ghost use Rattle.std.proofs.Common.{SFits};

@@ -1,4 +1,6 @@
 // Sheets: bytes to the network record and back. Document 01, "Operations": the sheet checks, Read and Write.
+#![tactic(auto)]
+
 ghost use Rattle.std.specs.Prelude.{◌≡◌, true, false, ℕ, ◌*◌, ◌%◌, ◌+◌, ◌<◌, ◌≤◌, length, drop, List, ◌++◌, pos};
 ghost use Rattle.refusals.specs.Order.{NoneOf, Judged, in_turn};
 ghost use Rattle.fields.specs.Fields.{put};

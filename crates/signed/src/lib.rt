@@ -1,5 +1,7 @@
 // Signed machine arithmetic, one step to a function, with contracts in ℤ: sums and differences of two i32,
 // at 32 bits where they fit and exact at 64, of two i16, an i32 made of its bits, and half of one.
+#![tactic(auto)]
+
 ghost use Rattle.std.specs.Prelude.{◌≡◌, pos, ◌+ℤ◌, ◌-ℤ◌, ◌≤ℤ◌};
 ghost use Rattle.std.specs.Int.{w16, w32, w64};
 ghost use Rattle.std.proofs.Common.{to_z, of_z, SFits};

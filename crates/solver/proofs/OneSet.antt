@@ -6,7 +6,6 @@ use mathlib.Core.List.{List, ◌∷◌}
 use Prim.Native.Nat.{ℕ, zero, suc, ◌<◌}
 use native.Mathlib.Omega.{arith}
 use native.Mathlib.Decide.{dec_lt}
-use lib.ListN as list
 use lib.Seq.{ext_get_or}
 use lib.IntN.{ℤ, pos}
 use lib.Signed.{◌<ℤ◌}

@@ -3,6 +3,8 @@
 //
 // The walk over the darts and the groups of darts by faces were made when the drawing was opened. All other arrays belong to a step, and none is kept longer.
 // Lengths and heights are made of ones, which nobody reads: of zeros the compiler makes a call of memset, which for 4 KiB takes an instruction for each byte.
+#![tactic(auto)]
+
 ghost use Rattle.std.specs.Prelude.{◌≡◌, false, List, [], ℕ, ◌*◌, ◌<◌, ◌≤◌, length, take, ℤ, pos, ◌<ℤ◌};
 ghost use Rattle.integers.specs.inner.Limited.{Limited};
 ghost use Rattle.maps.specs.Check.{Sound};

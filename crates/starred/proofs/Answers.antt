@@ -10,7 +10,6 @@ use lib.IntN.{ℤ, pos, ◌+ℤ◌}
 use lib.Signed.{◌≤ℤ◌, ◌<ℤ◌}
 use Rattle.integers.proofs.Laws.{le_trans, le_antisym}
 use Rattle.refusals.specs.Order.{NoneOf, FirstOf}
-use Rattle.refusals.specs.declared.Verdict.TheVariants as verdict
 use Rattle.refusals.proofs.Order.{first_none, first_one, neither}
 use Rattle.maps.specs.Map.{darts}
 use Rattle.maps.specs.Face.{faces, left}

@@ -1,5 +1,7 @@
 // Numbers in base ten, written into a lent slice of bytes. Document 01: "Numbers are in base ten."
 // Each function writes at a place and returns the place behind.
+#![tactic(auto)]
+
 ghost use Rattle.std.specs.Prelude.{◌≡◌, ◌+◌, ◌%◌, ◌≤◌, length, nat_abs};
 ghost use Rattle.texts.specs.Decimal.{digit, decimal, number};
 ghost use Rattle.texts.specs.inner.Placed.{Placed};

@@ -1,4 +1,6 @@
 // A set of nodes with a cut below zero: the nodes above a threshold, tried upwards. Each test of signed numbers is a function of its own.
+#![tactic(auto)]
+
 ghost use Rattle.std.specs.Prelude.{◌≡◌, ◌⊎◌, ℕ, ◌<◌, ◌≤◌, eqb, length, pos, ◌≤ℤ◌, ◌<ℤ◌};
 ghost use Rattle.std.specs.Int.Signed.{lt_z};
 ghost use Rattle.arrays.specs.At.{at, atℤ};

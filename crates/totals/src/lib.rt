@@ -1,5 +1,7 @@
 // The outward total of a set of nodes, node by node, on a drawing that is open and sound, held in lent arrays. Document 02, Job 9: "The course book adds a
 // set's outward total node by node, along each node's round of turns". A turn is a rotation here, a limit a capacity.
+#![tactic(auto)]
+
 ghost use Rattle.std.specs.Prelude.{◌≡◌, not, ℕ, ◌*◌, ◌/◌, ◌<◌, ◌≤◌, length};
 ghost use Rattle.integers.specs.Sum.{when, count};
 ghost use Rattle.integers.specs.inner.Limited.{Limited};

@@ -1,6 +1,8 @@
 // A walk over the darts from a start dart: from each dart met it goes on to the rotation and to the reverse, first come first.
 // `order` lists the darts as they are met, and `from` holds the dart from which each was met first. The work grows as the number of darts.
 // Over a drawing in several parts such a walk goes part by part.
+#![tactic(auto)]
+
 ghost use Rattle.std.specs.Prelude.{◌≡◌, ◌≢◌, ℕ, ◌+◌, ◌%◌, ◌<◌, ◌≤◌, length};
 ghost use Rattle.arrays.specs.At.{at};
 ghost use Rattle.traversal.specs.inner.Mark.{unmarked};

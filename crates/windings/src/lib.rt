@@ -1,4 +1,6 @@
 // The winding of the ring of faces that parents lead round: one for each dart crossed, minus one for its reverse.
+#![tactic(auto)]
+
 ghost use Rattle.std.specs.Prelude.{◌≡◌, ℕ, ◌<◌, ◌≤◌, ◌%◌, length, pos, ◌+ℤ◌};
 ghost use Rattle.integers.specs.inner.Limited.{Limited};
 ghost use Rattle.maps.specs.Dart.{rev};

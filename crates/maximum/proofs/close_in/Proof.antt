@@ -17,7 +17,6 @@ use Rattle.arrays.specs.At.{atℤ}
 use Rattle.arrays.specs.inner.Flags.{flagged}
 use Rattle.arrays.specs.Maps.{map_of}
 use Rattle.maximum.specs.inner.Bracket.{Bracket}
-use Rattle.maximum.specs.declared.Maximum.TheVariants as maximum
 use Rattle.maximum.proofs.Gap.{gap, gap_closer}
 use Rattle.maximum.proofs.Bracketing.{
   Ground,

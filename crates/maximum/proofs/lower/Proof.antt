@@ -8,7 +8,6 @@ use Rattle.integers.proofs.Laws.{lt_of_test}
 use Rattle.signed.proofs.Laws.{number_of_bits}
 use Rattle.arrays.specs.inner.Flags.{flagged}
 use Rattle.node_flags.specs.inner.Flags.{Sided}
-use Rattle.node_flags.specs.declared.Side.TheVariants as side
 use Rattle.maximum.specs.inner.Narrowing.{stays, falls}
 use Rattle.maximum.proofs.lower.Statement.{statement}
 use Rattle.maximum.proofs.lower.Tie as tie

@@ -1,6 +1,5 @@
 -- `maximum::narrow_by` meets its contract: one way out for each side on which the set can lie.
 use mathlib.Core.Path.{◌≡◌, refl, sym, ◌∙◌, ap, subst}
-use native.Mathlib.Omega.{arith}
 use lib.IntN.{neg_ℤ}
 use mir.Syntax.{w32}
 use mir.Val.{to_z, of_z}

@@ -10,7 +10,6 @@ use mir.ValLaws.{to_z-of_z}
 use mir.Syntax.{w32, w64}
 use mir.Val.{to_z, of_z}
 use borrow.Author.Rules.{rules}
-use Rattle.integers.proofs.Tests.{not_true}
 use Rattle.integers.proofs.Laws.{lt_of_test}
 use Rattle.signed.proofs.Laws.{number_of_bits}
 use Rattle.signed.proofs.Limits.{limited_fits}
@@ -20,7 +19,7 @@ use Rattle.arrays.specs.inner.Sizes.{most_height}
 use Rattle.cuts.specs.inner.Cut.{cut_of}
 use Rattle.thresholds.specs.inner.Above.{above}
 use Rattle.thresholds.specs.inner.Choice.{Choosable}
-use Rattle.thresholds.proofs.Choosing.{Trying, left_above, trying_start, trying_next, trying_step, trying_less, cut_same, not_false}
+use Rattle.thresholds.proofs.Choosing.{Trying, left_above, trying_start, trying_next, trying_step, trying_less, cut_same}
 use Rattle.thresholds.proofs.Choosing.{Tried, tried_start, tried_step, tried_serves}
 use Rattle.thresholds.proofs.choose_set.Statement.{statement}
 use Rattle.thresholds.proofs.choose_set.Tie as tie
