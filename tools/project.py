@@ -74,7 +74,7 @@ class Project:
     def __init__(self, faults):
         self.faults, self.kit, self.files, self.scopes, self.uses = faults, Kit(), {}, {}, {}
         lines = (TOP / "crates.txt").read_text(encoding="utf-8").splitlines()
-        self.crates = [line.split(":")[0].strip() for line in lines if line.strip() and not line.startswith("#")]
+        self.crates = [line.split(":")[0].split()[0] for line in lines if line.strip() and not line.startswith("#")]
 
     def file(self, place):
         """The file at a place below crates/, or None."""
