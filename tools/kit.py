@@ -93,9 +93,28 @@ def library(name):
     return f"{TOP}/crates/{name}/out/rlib/{name}.rlib"
 
 
+def passed():
+    """Whether rt ci has passed over the text as it stands, in this folder: tools/build --passed."""
+    try:
+        with open(f"{TOP}/target/passed", encoding="utf-8") as file:
+            return file.read() == text_sum()
+    except FileNotFoundError:
+        return False
+
+
+def libraries_of_ci(name):
+    """Whether the libraries below a crate are those that rt ci left, passing over the text as it stands. Those that `rt check` makes have a stamp beside them."""
+    made = [library(each) for each in below(name)]
+    return passed() and all(os.path.isdir(each) and not os.path.exists(f"{os.path.dirname(each)}/stamp") for each in made)
+
+
 def kept(name):
     """The folder of work that checks of a crate keep for the next one."""
     return f"{TOP}/crates/{name}/out/incremental"
+
+
+# The processor that the static library is made for, any x86-64: the kit's own choice is a later one.
+CPU = ["--cpu", "x86-64"]
 
 
 def words(name):

@@ -56,7 +56,7 @@ def module(build):
     told([f"{TOP}/tools/build", CRATE], cwd=TOP)
     with tempfile.TemporaryDirectory() as room:
         toolchain = listening(f"{room}/toolchain", f"{room}/module.bc")
-        words = [f"{kit.kit()}/bin/rattle", "build", *kit.words(CRATE), "--incremental", kit.kept(CRATE), "--toolchain", toolchain, "--backend", "llvm"]
+        words = [f"{kit.kit()}/bin/rattle", "build", *kit.words(CRATE), *kit.CPU, "--incremental", kit.kept(CRATE), "--toolchain", toolchain, "--backend", "llvm"]
         told([*words, "-o", f"{room}/lib{CRATE}.a"], cwd=kit.crates()[CRATE].folder())
         with open(f"{room}/lib{CRATE}.a", "rb") as one, open(MADE, "rb") as other:
             if one.read() != other.read():
