@@ -15,13 +15,13 @@ abbrev start : tie.After-largest_after-answer → tie.Start
 start c = c.before.before.before.before.before.before.before
 
 abbrev limits' : tie.After-largest_after-answer → List ℤ
-limits' c = c.largest_after-answer.new.1.1.1.1.1.1.0
+limits' c = c.largest_after-answer.new.limits
 
 abbrev flows' : tie.After-largest_after-answer → List ℤ
-flows' c = c.largest_after-answer.new.1.1.1.1.1.1.1.0
+flows' c = c.largest_after-answer.new.flows
 
 abbrev set' : tie.After-largest_after-answer → List ℕ
-set' c = c.largest_after-answer.new.1.1.1.1.1.1.1.1.0
+set' c = c.largest_after-answer.new.set
 
 found : (c : tie.After-largest_after-answer) (answer : LargestAnswer) → c.largest_after-answer.result ≡ answer
     → FindsAfter (start c).args.sheet.now (start c).args.capture.now (start c).args.window (start c).args.named (start c).args.source
@@ -32,16 +32,16 @@ found c answer e = rw e at c.largest_after-answer.ensures
 returns : tie.Need-returns-in-Value
 returns c = (
   Value _,
-  found c.before.before.before.before.before.before.before (Value _) c.answer-1.given.1,
+  found c.before.before.before.before.before (Value _) c.in-Value.is,
   (refl, refl, number_of_bits _ (record { sfits = c.known_told-1.given.0.1 }), refl),
 )
 
 returns-2 : tie.Need-returns-in-None
-returns-2 c = (None, found c.before.before.before.before.before.before None c.enum_told-1.given.1, (refl, refl, refl, refl))
+returns-2 c = (None, found c.before.before.before.before.before None c.in-None.is, (refl, refl, refl, refl))
 
 returns-3 : tie.Need-returns-in-Refused
 returns-3 c =
-    (Refused _ _, found c.before.before.before.before.before.before.before (Refused _ _) c.answer-in-Refused-1.given.1, (refl, refl, refl, refl))
+    (Refused _ _, found c.before.before.before.before.before (Refused _ _) c.in-Refused.is, (refl, refl, refl, refl))
 
 pub analyser_largest_after_spec : {M : Type 1} → statement M
 analyser_largest_after_spec =

@@ -13,17 +13,17 @@ abbrev start : tie.After-practice_sheet-answer → tie.Start
 start c = c.before.before.before
 
 abbrev sheet' : tie.After-practice_sheet-answer → List ℕ
-sheet' c = c.practice_sheet-answer.new.1.1.1.0
+sheet' c = c.practice_sheet-answer.new.out
 
 found : (c : tie.After-practice_sheet-answer) (answer : PracticeAnswer) → c.practice_sheet-answer.result ≡ answer
     → Practises (start c).args.rows (start c).args.columns (start c).args.seed (start c).args.sheet.now (sheet' c) answer
 found c answer e = rw e at c.practice_sheet-answer.ensures
 
 returns : tie.Need-returns-in-Bytes
-returns c = (Bytes _, found c.before.before.before.before.before (Bytes _) c.answer-1.given.1, (refl, refl, refl))
+returns c = (Bytes _, found c.before.before.before (Bytes _) c.in-Bytes.is, (refl, refl, refl))
 
 returns-2 : tie.Need-returns-in-Refused
-returns-2 c = (Refused _ _, found c.before.before.before.before.before (Refused _ _) c.answer-in-Refused-1.given.1, (refl, refl, refl))
+returns-2 c = (Refused _ _, found c.before.before.before (Refused _ _) c.in-Refused.is, (refl, refl, refl))
 
 pub analyser_practice_sheet_spec : {M : Type 1} → statement M
 analyser_practice_sheet_spec =

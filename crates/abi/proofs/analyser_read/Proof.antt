@@ -14,13 +14,13 @@ abbrev start : tie.After-read-answer → tie.Start
 start c = c.before.before.before.before.before.before.before
 
 abbrev tails' : tie.After-read-answer → List ℕ
-tails' c = c.read-answer.new.1.0
+tails' c = c.read-answer.new.tails
 
 abbrev rotations' : tie.After-read-answer → List ℕ
-rotations' c = c.read-answer.new.1.1.0
+rotations' c = c.read-answer.new.rotations
 
 abbrev capacities' : tie.After-read-answer → List ℤ
-capacities' c = c.read-answer.new.1.1.1.0
+capacities' c = c.read-answer.new.capacities
 
 found : (c : tie.After-read-answer) (answer : ReadAnswer) → c.read-answer.result ≡ answer
     → Reads (start c).args.sheet.now (start c).args.tails.now (start c).args.rotations.now
@@ -30,14 +30,14 @@ found c answer e = rw e at c.read-answer.ensures
 returns : tie.Need-returns-in-Counts
 returns c = (
   Counts _ _ _,
-  found c.before.before.before.before.before.before.before.before (Counts _ _ _) c.answer-1.given.1,
+  found c.before.before.before.before.before.before (Counts _ _ _) c.in-Counts.is,
   (refl, refl, refl, refl, refl),
 )
 
 returns-2 : tie.Need-returns-in-Refused
 returns-2 c = (
   Refused _ _,
-  found c.before.before.before.before.before.before.before.before (Refused _ _) c.answer-in-Refused-1.given.1,
+  found c.before.before.before.before.before.before (Refused _ _) c.in-Refused.is,
   (refl, refl, refl, refl, refl),
 )
 

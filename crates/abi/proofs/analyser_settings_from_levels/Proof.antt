@@ -13,17 +13,17 @@ abbrev start : tie.After-settings_from_levels-answer → tie.Start
 start c = c.before.before.before
 
 abbrev flows' : tie.After-settings_from_levels-answer → List ℤ
-flows' c = c.settings_from_levels-answer.new.1.1.0
+flows' c = c.settings_from_levels-answer.new.flows
 
 found : (c : tie.After-settings_from_levels-answer) (answer : LevelAnswer) → c.settings_from_levels-answer.result ≡ answer
     → GivesSettings (start c).args.sheet.now (start c).args.levels.now (start c).args.flows.now (flows' c) answer
 found c answer e = rw e at c.settings_from_levels-answer.ensures
 
 returns : tie.Need-returns-in-Done
-returns c = (Done, found c.before.before.before Done c.enum_told-1.given.1, (refl, refl))
+returns c = (Done, found c.before.before Done c.in-Done.is, (refl, refl))
 
 returns-2 : tie.Need-returns-in-Refused
-returns-2 c = (Refused _ _, found c.before.before.before.before (Refused _ _) c.answer-1.given.1, (refl, refl))
+returns-2 c = (Refused _ _, found c.before.before (Refused _ _) c.in-Refused.is, (refl, refl))
 
 pub analyser_settings_from_levels_spec : {M : Type 1} → statement M
 analyser_settings_from_levels_spec =

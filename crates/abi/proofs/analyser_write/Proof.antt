@@ -13,7 +13,7 @@ abbrev start : tie.After-write-answer → tie.Start
 start c = c.before.before.before.before.before
 
 abbrev sheet' : tie.After-write-answer → List ℕ
-sheet' c = c.write-answer.new.1.1.1.1.1.0
+sheet' c = c.write-answer.new.out
 
 found : (c : tie.After-write-answer) (answer : WriteAnswer) → c.write-answer.result ≡ answer
     → Writes (start c).args.nodes (start c).args.outer (start c).args.tails.now (start c).args.rotations.now
@@ -21,10 +21,10 @@ found : (c : tie.After-write-answer) (answer : WriteAnswer) → c.write-answer.r
 found c answer e = rw e at c.write-answer.ensures
 
 returns : tie.Need-returns-in-Bytes
-returns c = (Bytes _, found c.before.before.before.before.before (Bytes _) c.answer-1.given.1, (refl, refl, refl))
+returns c = (Bytes _, found c.before.before.before (Bytes _) c.in-Bytes.is, (refl, refl, refl))
 
 returns-2 : tie.Need-returns-in-Refused
-returns-2 c = (Refused _ _, found c.before.before.before.before.before (Refused _ _) c.answer-in-Refused-1.given.1, (refl, refl, refl))
+returns-2 c = (Refused _ _, found c.before.before.before (Refused _ _) c.in-Refused.is, (refl, refl, refl))
 
 pub analyser_write_spec : {M : Type 1} → statement M
 analyser_write_spec =

@@ -13,17 +13,17 @@ abbrev start : tie.After-write_dimacs-answer → tie.Start
 start c = c.before.before.before.before
 
 abbrev text' : tie.After-write_dimacs-answer → List ℕ
-text' c = c.write_dimacs-answer.new.1.1.1.0
+text' c = c.write_dimacs-answer.new.out
 
 found : (c : tie.After-write_dimacs-answer) (answer : DimacsAnswer) → c.write_dimacs-answer.result ≡ answer
     → WritesDimacs (start c).args.sheet.now (start c).args.source (start c).args.sink (start c).args.text.now (text' c) answer
 found c answer e = rw e at c.write_dimacs-answer.ensures
 
 returns : tie.Need-returns-in-Bytes
-returns c = (Bytes _, found c.before.before.before.before.before (Bytes _) c.answer-1.given.1, (refl, refl, refl))
+returns c = (Bytes _, found c.before.before.before (Bytes _) c.in-Bytes.is, (refl, refl, refl))
 
 returns-2 : tie.Need-returns-in-Refused
-returns-2 c = (Refused _ _, found c.before.before.before.before.before (Refused _ _) c.answer-in-Refused-1.given.1, (refl, refl, refl))
+returns-2 c = (Refused _ _, found c.before.before.before (Refused _ _) c.in-Refused.is, (refl, refl, refl))
 
 pub analyser_write_dimacs_spec : {M : Type 1} → statement M
 analyser_write_dimacs_spec =

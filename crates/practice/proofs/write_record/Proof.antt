@@ -33,7 +33,7 @@ start c = (kind_at (tail_at (head_at (rotation-at (turned-at c))))).before.befor
 
 -- the capacity, whose bits are the number given
 forward-put : (c : tie.After-write_i32)
-    → c.write_i32.new.s ≡ put ((start c).args.place + 9) (le32 (start c).args.forward) (turned-at c).write_u16-4.new.0
+    → c.write_i32.new.s ≡ put ((start c).args.place + 9) (le32 (start c).args.forward) (turned-at c).write_u16-4.new.s
 forward-put c = rw (number_of_bits (start c).args.forward (start c).ranges.forward) at c.write_i32.ensures
 
 -- ── all seven fields are one record ──
@@ -47,7 +47,7 @@ returns c =
     let tail = tail_at head in
     let s = start forward in
     let a = s.args in
-    edge_placed a.out-1.now a.place a.tail a.head a.rotation a.turned a.forward (pos 0) s.requires.1
+    edge_placed a.out.now a.place a.tail a.head a.rotation a.turned a.forward (pos 0) s.requires.1
     (kind_at tail).write_u8.ensures tail.write_u16.ensures head.write_u16-2.ensures rotation.write_u16-3.ensures turned.write_u16-4.ensures
     (forward-put forward) last.write_i32-2.ensures
 

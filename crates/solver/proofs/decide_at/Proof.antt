@@ -6,7 +6,7 @@ use native.Mathlib.Omega.{arith}
 use lib.IntN.{ℤ}
 use borrow.Author.Rules.{rules}
 use Rattle.maps.specs.Map.{Map}
-use Rattle.arrays.specs.At.{atℤ}
+use Rattle.arrays.specs.At.{at, atℤ}
 use Rattle.arrays.specs.Maps.{map_of}
 use Rattle.traversal.proofs.Rooting.{roots_few}
 use Rattle.solver.specs.inner.Search.{Lengthened, Measured}
@@ -62,10 +62,10 @@ abbrev begun : tie.After-cut_apart → tie.Start
 begun c = (started c).before.before
 
 abbrev row : tie.After-cut_apart → List ℤ
-row c = c.cut_apart.new.1.1.1.1.1.1.1.1.1.1.0
+row c = c.cut_apart.new.lengths
 
 abbrev flags : tie.After-cut_apart → List ℕ
-flags c = c.cut_apart.new.1.1.1.1.1.1.1.1.1.1.1.0
+flags c = c.cut_apart.new.inside
 
 measured : (c : tie.After-cut_apart)
     → Measured (mapAt (begun c)) (begun c).args.demand.source (begun c).args.demand.sink (atℤ (begun c).args.capacities.now)
@@ -117,16 +117,17 @@ abbrev lengthened : tie.After-settle-outcome → tie.After-cut_apart
 lengthened c = (joined c).before
 
 -- ── a ring: the dart that closes it ──
-abbrev settled : tie.In-Ring-2 → tie.After-settle-outcome
-settled c = c.before.before.before
+abbrev settled : tie.In-Ring → tie.After-settle-outcome
+settled c = c.before.before
 
-closes : (c : tie.In-Ring) → c.outcome-1.given.0.0 < 1024
+closes : (c : tie.In-Ring) → c.in-Ring.d < 1024
 closes c =
-    let s = settled c.before in
+    let s = settled c in
+    let b = begun (lengthened s) in
     omega (
       arith,
-      (searched_ring _ _ _ _ _ _ _ c.outcome-1.given.1 s.settle-outcome.ensures.1).1,
-      (begun (lengthened s)).requires.0.drawn.few_edges,
+      (searched_ring _ _ (atℤ b.args.capacities.now) b.args.flows.now _ (at s.settle-outcome.new.parents) _ c.in-Ring.is s.settle-outcome.ensures.1).1,
+      b.requires.0.drawn.few_edges,
     )
 
 mul_wide : tie.Need-offset_bounds-lefts-d
@@ -135,8 +136,8 @@ mul_wide c = omega (arith, closes c)
 element-copy-out-wide : tie.Need-bounds-lefts-d
 element-copy-out-wide c = omega (arith, closes c.before)
 
-abbrev ringed-at : tie.After-wide-y → tie.In-Ring-2
-ringed-at c = c.before.before.before.before
+abbrev ringed-at : tie.After-wide-y → tie.In-Ring
+ringed-at c = c.before.before.before
 
 cut-of-ring-requires : tie.Need-cut_of_ring-requires
 cut-of-ring-requires c κs =
@@ -149,7 +150,7 @@ cut-of-ring-requires c κs =
       f.cut_apart.ensures.1,
       p.0.treed,
       ringed b.args.lefts.now p.0.drawn p.0.ends (row f) (known (joined s)) b.args.queue.now p.2 p.0.roots
-          _ w.wide-y.ensures (searched_ring _ _ _ _ _ _ _ o.outcome.given.1 s.settle-outcome.ensures.1).2,
+          _ w.wide-y.ensures (searched_ring _ _ (atℤ b.args.capacities.now) b.args.flows.now _ (at s.settle-outcome.new.parents) _ o.in-Ring.is s.settle-outcome.ensures.1).2,
     )
 
 returns-2 : tie.Need-returns-in-Ring
@@ -164,19 +165,19 @@ returns-2 c =
       k.0,
       decided_cannot b.args.lefts.now p.0.drawn p.0.ends (row f) (known (joined s)) b.args.queue.now p.2 p.0.roots
           _ _ c.cut_of_ring.new.inside
-          (searched_ring _ _ _ _ _ _ _ o.outcome.given.1 s.settle-outcome.ensures.1).0 k.1,
+          (searched_ring _ _ (atℤ b.args.capacities.now) b.args.flows.now _ (at s.settle-outcome.new.parents) _ o.in-Ring.is s.settle-outcome.ensures.1).0 k.1,
     )
 
 -- ── settled ──
 returns-3 : tie.Need-returns
 returns-3 c =
     let s = c in
-    let f = lengthened s.before.before.before in
+    let f = lengthened s.before.before in
     let b = begun f in
     let p = b.requires in
-    let q = rw c.enum_told-1.given.1 at s.settle-outcome.ensures.1 in (
+    let q = rw c.in_default.is at s.settle-outcome.ensures.1 in (
       f.cut_apart.ensures.1,
-      decided_can b.args.lefts.now p.0.drawn p.0.ends (row f) (known (joined s.before.before.before)) b.args.queue.now p.2 p.0.roots
+      decided_can b.args.lefts.now p.0.drawn p.0.ends (row f) (known (joined s.before.before)) b.args.queue.now p.2 p.0.roots
           q.0 q.1 _ _ (flags f) q.2,
     )
 
