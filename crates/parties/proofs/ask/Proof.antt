@@ -77,8 +77,8 @@ keep-offer-requires c κs =
     let room = asked_room (shared_drawing S) _ _ _ _ _ h.0 in (
       omega (arith, (widened k).wide-p.ensures, is-party (widened k)),
       omega (arith, w.wide.ensures, filled_length _ _ _ _ h.1.2 room, room),
-      omega (arith, w.wide.ensures, few, c.keep_offer-arg-in-Can-1.given.0.1),
-      omega (arith, w.wide.ensures, few, c.keep_offer-arg-in-Can-1.given.0.1),
+      omega (arith, w.wide.ensures, few, c.told-first),
+      omega (arith, w.wide.ensures, few, c.told-second),
     )
 
 returns-3 : tie.Need-returns-in-Can
