@@ -1,4 +1,4 @@
-//! Has tools/bindings write the declarations into the build's own folder, and links the static library that `rt staticlib abi` makes.
+//! Has tools/bindings write the declarations into the build's own folder, and links the static library that `tools/build abi` makes.
 use std::path::{Path, PathBuf};
 use std::process::Command;
 
@@ -29,5 +29,5 @@ fn link(top: &Path) {
     println!("cargo:rerun-if-changed={}", library.display());
     println!("cargo:rustc-link-search=native={}", folder.display());
     println!("cargo:rustc-link-lib=static=abi");
-    assert!(library.exists(), "{}: run `rt staticlib abi` first", library.display());
+    assert!(library.exists(), "{}: run `tools/build abi` first", library.display());
 }

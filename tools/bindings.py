@@ -65,8 +65,8 @@ def parameter(text):
 
 def functions():
     """The functions that the library has, in the order of the source."""
-    found = re.findall(r'^#\[no_mangle\]\npub extern "C" fn (\w+)(?:<[^>]*>)?\((.*?)\n\)( -> u8)?\n', read(SOURCE), re.M | re.S)
-    if len(found) != read(SOURCE).count("#[no_mangle]"):
+    found = re.findall(r'^#\[unsafe\(no_mangle\)\]\npub extern "C" fn (\w+)(?:<[^>]*>)?\((.*?)\n\)( -> u8)?\n', read(SOURCE), re.M | re.S)
+    if len(found) != read(SOURCE).count("no_mangle"):
         raise Fault(f"{SOURCE}: a function of another form than those known")
     return [Function(name, [parameter(line) for line in inside.strip().rstrip(",").split(",\n")], bool(result)) for name, inside, result in found]
 
@@ -98,7 +98,7 @@ def constants():
     arrays = {(f.name, p.name): p.count for f in functions() for p in f.parameters if p.lent}
     body = [int(word) for word in re.search(r"^const BODY: \[u8; \d+\] = \[(.*)\];", read("crates/records/src/lib.rt"), re.M)[1].split(",")]
     head, channel, question, outer_head = (1 + body[kind] for kind in (1, 2, 3, 4))
-    nodes, channels = (said("records/specs/Check.antt", rf"^numberChecks .*Outside {low} (\d+) {what}") for low, what in ((2, "nodes"), (1, "edges")))
+    nodes, channels = (said("records/specs/Check.antt", rf"^number_checks .*Outside {low} (\d+) {what}") for low, what in ((2, "nodes"), (1, "edges")))
     side = said("practice/specs/Practice.antt", r"\(23 when Outside 2 (\d+) rows")
     if channels != arrays["analyser_session_start", "first"]:
         raise Fault(f"{SOURCE}: an offer has not an element for each of {channels} channels")
@@ -112,7 +112,7 @@ def constants():
         "CLASS_PAPERS": said("desk/specs/Class.antt", r"\(32 when (\d+) < n\)"),
         "SHEET_BYTES": outer_head + channel * channels,
         "KEY_INPUT_BYTES": question + outer_head + channel * channels,
-        "KEY_TEXT_BYTES": said("key_text/specs/Key.antt", r"^textRoom = (\d+)"),
+        "KEY_TEXT_BYTES": said("key_text/specs/Key.antt", r"^text_room = (\d+)"),
         "PRACTICE_BYTES": head + channel * 2 * side * (side - 1),
         "DIMACS_BYTES": said("analyser/specs/Statements.antt", r"longest : .*\(Bytes n\) → n ≤ (\d+)"),
     }

@@ -6,9 +6,9 @@ tools/believed), so what it does not know shows itself and is not passed over.
 import re
 
 # What every antt file and every clause of a contract is lent, and the words of the language.
-LENT = set("→ × λ = : | _ , Type Unit tt ⊥ record where let in with elim IsProp now ⌜ ⌝".split())
-OPEN, CLOSE = "({⌜", ")}⌝"
-TOKEN = re.compile(r"[(){},;⌜⌝]|[^\s(){},;⌜⌝]+")
+LENT = set("→ × λ = : | _ , Type Unit tt ⊥ record where let in with elim IsProp".split())
+OPEN, CLOSE = "({", ")}"
+TOKEN = re.compile(r"[(){},;]|[^\s(){},;]+")
 SECTION = re.compile(r"\s*-- ──.*──$")
 
 
@@ -299,10 +299,15 @@ def free_names(words, bound):
             scopes[-1].add(words[at + 1])
         elif at + 1 < len(words) and words[at + 1] == "=" and words[at - 1] in "{;":
             pass  # a field that is given its value, or an implicit argument by its name
-        elif not word.startswith(".") and not any(word.strip("«»") in scope for scope in scopes):
+        elif not word.startswith(".") and not any(is_bound(word, scope) for scope in scopes):
             found.append(word)
         at += 1
     return found
+
+
+def is_bound(word, scope):
+    """Whether a word is a name of the scope, or names a field of one, as `drawing.map.nodes` does."""
+    return word.strip("«»") in scope or word.partition(".")[0].strip("«»") in scope
 
 
 def bind_lambda(words, at, scope):
@@ -329,7 +334,7 @@ def pattern_names(patterns, is_constructor):
 
 def mentions(made, is_constructor):
     """Every free name of a definition. `is_constructor` tells a constructor in a pattern from a variable."""
-    own, found = {made.name, *made.name.split("_")}, []
+    own, found = {made.name, *made.name.split("◌")}, []
     for telescope, patterns, text in made.parts:
         bound = pattern_names(patterns, is_constructor) - own
         found.append(free_names(telescope, ()) + [word for word in patterns if word not in bound])
@@ -398,7 +403,7 @@ def operation(file, name):
     made = Definition(file, name, "operation", code, above(lines, at))
     signature, *clauses = re.split(r"^    (?:requires|ensures|ghost)\b", "\n".join(code), flags=re.M)
     made.signature = signature
-    bound = ["(", *re.findall(r"(\w+)\s*:[^:]", signature), ":", ")"]
+    bound = ["(", "result", "self", *re.findall(r"(\w+)\s*:[^:]", signature), ":", ")"]
     for clause in clauses:
         made.add((bound, [], tokens(clause[clause.index("{") + 1:clause.rindex("}")])), 0, len(code))
     return made

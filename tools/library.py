@@ -6,7 +6,6 @@ Each folder has the library, analyser.h, and about.txt: the version, what the li
 x86-64 has libanalyser.a, libanalyser.so, analyser.pc for pkg-config and analyser.py for Python. A Cortex-M has libanalyser.a, with what a controller lacks from
 library/helpers.c. WebAssembly has libanalyser.wasm, which imports nothing. Needs rt and gcc. docs/MANUAL.md, "The library", says what the proof does not cover.
 """
-import glob
 import hashlib
 import os
 import re
@@ -17,11 +16,15 @@ from typing import NamedTuple
 
 sys.dont_write_bytecode = True
 import bindings
+import kit
 import module
 
 TOP = bindings.TOP
 BUILD = f"{TOP}/target/library"
-PROVED = f"{TOP}/target/staticlib/libabi.a"
+PROVED = module.MADE
+# What rattle itself has clang do, on every machine, to keep away from known faults of LLVM.
+AS_RATTLE = [word for name in ("no-trap-after-noreturn", "trap-unreachable", "disable-machine-licm", "disable-postra-machine-licm", "sink-common-insts=false")
+             for word in ("-mllvm", f"-{name}")]
 STACK = 131072  # of WebAssembly, whose memory has it in front
 
 
@@ -69,18 +72,15 @@ def write(path, text):
         file.write(text)
 
 
-def newest(folder):
-    return max(os.path.getmtime(path) for path in glob.glob(f"{folder}/**", recursive=True))
-
-
 def proved_module():
-    """The module's text, kept beside the library that was made with it: proved again where something of crates/ is newer."""
-    kept = f"{BUILD}/module.ll"
-    if all(os.path.exists(path) and os.path.getmtime(path) > newest(f"{TOP}/crates") for path in (kept, PROVED)):
+    """The module's text, kept with the sum of the text that it is made of: proved again where that is another."""
+    kept, of, now = f"{BUILD}/module.ll", f"{BUILD}/module.sum", kit.text_sum(module.CRATE)
+    if all(os.path.exists(path) for path in (kept, of, PROVED)) and read(of) == now:
         return read(kept)
     print("tools/library: proving crates/abi and what it is made of", file=sys.stderr, flush=True)
-    os.makedirs(BUILD, exist_ok=True)
-    return module.module(BUILD)
+    text = module.module(BUILD)
+    write(of, now)
+    return text
 
 
 def for_machine(text, machine):
@@ -88,7 +88,7 @@ def for_machine(text, machine):
     word, which C callers there take for granted, and on x86-64 do not."""
     text = re.sub("^target datalayout = .*", f'target datalayout = "{machine.layout}"', text, flags=re.M)
     text = re.sub("^target triple = .*", f'target triple = "{machine.triple}"', text, flags=re.M)
-    text = text.replace('"probe-stack"="inline-asm" ', "").replace(' "target-cpu"="x86-64"', "")
+    text = re.sub(r' "(?:probe-stack|stack-probe-size|target-cpu)"="[^"]*"', "", text)
     text, changed = re.subn("^define noundef i8 @analyser_", "define noundef zeroext i8 @analyser_", text, flags=re.M)
     if changed != sum(function.result for function in bindings.functions()) or "x86" in re.sub("^source_filename.*|^; ModuleID.*", "", text, flags=re.M):
         raise Fault("the module is not of the form that is known: see for_machine")
@@ -96,7 +96,7 @@ def for_machine(text, machine):
 
 
 def compiler(machine):
-    return [module.clang(), f"--target={machine.triple}", "--no-default-config", *machine.flags, "-Werror", "-O3", "-ffunction-sections", "-fdata-sections"]
+    return [module.clang(), f"--target={machine.triple}", "--no-default-config", *machine.flags, *AS_RATTLE, "-Werror", "-O3", "-ffunction-sections", "-fdata-sections"]
 
 
 def compiled(text, machine, folder):
@@ -146,11 +146,11 @@ def build_x86(_, folder, work, target):
     library, shared, soname = f"{folder}/libanalyser.a", f"{folder}/libanalyser.so", f"libanalyser.so.{number // 10000}"
     shutil.copyfile(PROVED, library)
     run(["gcc", "-shared", f"-Wl,-soname,{soname}", "-Wl,-z,defs", "-o", shared, "-Wl,--whole-archive", library, "-Wl,--no-whole-archive"])
-    os.symlink("libanalyser.so", f"{folder}/{soname}")
+    shutil.copyfile(shared, f"{folder}/{soname}")  # no link: rt ci takes none in the repository
     write(f"{folder}/analyser.pc", "prefix=${pcfiledir}\n\nName: analyser\nDescription: flows on flat canal drawings, proved\n"
           f"Version: {version}\nCflags: -I${{prefix}}\nLibs: -L${{prefix}} -lanalyser\n")
     write(f"{folder}/analyser.py", "\n".join(bindings.python()) + "\n")
-    return about(target, "rt staticlib abi", undefined(library), [], sizes_of_elf(library, work))
+    return about(target, " ".join(["rt lib", *kit.CPU]), undefined(library), [], sizes_of_elf(library, work))
 
 
 def build_arm(text, folder, work, target):

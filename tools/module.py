@@ -1,65 +1,72 @@
-"""The LLVM module of crates/abi, for tools/library and bench/climb. The kit gives it to its clang, and to nobody else: so `rt staticlib abi` is run with a kit
-whose folders are links into the real one, but for a clang that keeps a copy of its input before it runs the real one. The library is the same, byte for byte.
-`tools/module clang` prints the path of the kit's clang.
+"""The LLVM module of crates/abi, for tools/library and bench/climb. rattle gives it to the clang of the toolchain that it is told to use, and to nobody else: so
+the library is built once more, over what its own build kept, by a toolchain whose files are copies of the kit's, but for a clang that keeps a copy of its input
+before it runs the real one. The library is the same, byte for byte, which is looked at. `tools/module clang` prints the path of the kit's clang.
 """
 import os
 import shutil
 import subprocess
 import sys
+import tempfile
 
-TOP = os.path.dirname(os.path.dirname(os.path.realpath(__file__)))
+sys.dont_write_bytecode = True
+import kit
 
-
-def toolchain():
-    """The folder of the kit's clang and linker, and what of the kit's home lies above it."""
-    rt = shutil.which("rt")
-    if not rt:
-        raise SystemExit("tools/module: the Rattle toolchain is needed: put `rt` on the path")
-    home = os.path.dirname(os.path.dirname(os.path.realpath(rt)))
-    below = f"on/{os.uname().machine}/toolchain/bin"
-    return (home, below) if os.path.isdir(f"{home}/{below}") else (home, "toolchain/bin")
+TOP, CRATE = kit.TOP, "abi"
+MADE = f"{TOP}/target/staticlib/lib{CRATE}.a"
 
 
 def tool(name):
     """A program of the kit: clang, ld.lld or llvm-ar."""
-    return "/".join(toolchain()) + "/" + name
+    return f"{kit.kit()}/toolchain/bin/{name}"
 
 
 def clang():
     return tool("clang")
 
 
-def linked(real, copy, way):
-    """Makes a folder whose entries are links into the real one, but for the folder named next on the way."""
-    os.makedirs(copy)
+def told(words, **how):
+    done = subprocess.run(words, stdin=subprocess.DEVNULL, stdout=subprocess.PIPE, stderr=subprocess.STDOUT, text=True, check=False, **how)
+    if done.returncode != 0:
+        raise SystemExit(f"{done.stdout[-4000:]}tools/module: no module of crates/{CRATE}")
+
+
+def listening(folder, kept):
+    """A toolchain in a folder, whose clang keeps the module. Its other files are links into the kit, so it stands outside the repository, where rt takes no links."""
+    real = f"{kit.kit()}/toolchain"
+    os.makedirs(f"{folder}/bin")
     for name in os.listdir(real):
-        if not way or name != way[0]:
-            os.symlink(f"{real}/{name}", f"{copy}/{name}")
-    if way:
-        linked(f"{real}/{way[0]}", f"{copy}/{way[0]}", way[1:])
+        if name != "bin":
+            os.symlink(f"{real}/{name}", f"{folder}/{name}")
+    for name in os.listdir(f"{real}/bin"):
+        if name != "clang":
+            os.symlink(f"{real}/bin/{name}", f"{folder}/bin/{name}")
+    with open(f"{folder}/bin/clang", "w", encoding="utf-8") as file:
+        file.write(f"""#!/bin/sh
+for word; do case $word in *.bc | *.ll) cp "$word" '{kept}' ;; esac; done
+exec '{clang()}' "$@"
+""")
+    os.chmod(f"{folder}/bin/clang", 0o755)
+    return folder
 
 
 def module(build):
-    """Proves crates/abi, writes target/staticlib/libabi.a, and gives the module's text."""
-    home, below = toolchain()
-    kit, kept = os.path.abspath(f"{build}/kit"), os.path.abspath(f"{build}/module")
-    shutil.rmtree(kit, ignore_errors=True)
-    linked(home, kit, below.split("/"))
-    os.remove(f"{kit}/{below}/clang")
-    with open(f"{kit}/{below}/clang", "w") as file:
-        file.write(f"""#!/bin/sh
-for word; do case $word in *.bc | *.ll) cp "$word" '{kept}.bc' ;; esac; done
-exec '{clang()}' "$@"
-""")
-    os.chmod(f"{kit}/{below}/clang", 0o755)
-    if os.path.exists(f"{kept}.bc"):
-        os.remove(f"{kept}.bc")
-    done = subprocess.run(["rt", "staticlib", "abi"], cwd=TOP, capture_output=True, text=True, env={**os.environ, "RATTLE_HOME": kit})
-    if done.returncode != 0 or not os.path.exists(f"{kept}.bc"):
-        raise SystemExit(done.stdout + done.stderr + "no module of crates/abi")
+    """Proves crates/abi, writes target/staticlib/libabi.a, and gives the module's text, which stands in the folder `build` too."""
+    kept = os.path.abspath(f"{build}/module")
+    os.makedirs(build, exist_ok=True)
+    told([f"{TOP}/tools/build", CRATE], cwd=TOP)
+    with tempfile.TemporaryDirectory() as room:
+        toolchain = listening(f"{room}/toolchain", f"{room}/module.bc")
+        words = [f"{kit.kit()}/bin/rattle", "build", *kit.words(CRATE), *kit.CPU, "--incremental", kit.kept(CRATE), "--toolchain", toolchain, "--backend", "llvm"]
+        told([*words, "-o", f"{room}/lib{CRATE}.a"], cwd=kit.crates()[CRATE].folder())
+        with open(f"{room}/lib{CRATE}.a", "rb") as one, open(MADE, "rb") as other:
+            if one.read() != other.read():
+                raise SystemExit(f"tools/module: another library than {MADE}")
+        if not os.path.exists(f"{room}/module.bc"):
+            raise SystemExit("tools/module: rattle gave its clang no module")
+        shutil.copyfile(f"{room}/module.bc", f"{kept}.bc")
     text = ["--target=x86_64-unknown-linux-gnu", "-x", "ir", f"{kept}.bc", "-S", "-emit-llvm", "-Xclang", "-disable-llvm-passes", "-o", f"{kept}.ll"]
     subprocess.run([clang(), *text], check=True)
-    with open(f"{kept}.ll") as file:
+    with open(f"{kept}.ll", encoding="utf-8") as file:
         return file.read()
 
 

@@ -3,13 +3,14 @@
 import json
 import pathlib
 import re
-import shutil
 
+import kit
 from definitions import Definition, antt_file, mentions, rt_file, type_names
 
-TOP = pathlib.Path(__file__).resolve().parent.parent
+TOP = pathlib.Path(kit.TOP)
 CRATES = TOP / "crates"
-OURS = re.compile(r"Rattle·([^·.]+)(?:·\w+)?\.(specs|proofs)\.(.+)")
+PATH = re.compile(r"Rattle\.(\w+)\.(specs|proofs)\.(.+)")
+HOLE = "◌"  # where an argument of an operator stands, in its name
 
 
 class Library:
@@ -40,32 +41,45 @@ class Kit:
     """The library's files, by the paths of its modules. The kit is where `rt` is; without one there are names only."""
 
     def __init__(self):
-        rt = shutil.which("rt")
-        self.logic = (pathlib.Path(rt).resolve().parent.parent if rt else pathlib.Path("/opt/rattle")) / "logic"
-        project = self.logic / "antt-project.json"
-        libraries = json.loads(project.read_text(encoding="utf-8"))["libraries"] if project.exists() else []
-        self.roots = {library["name"]: self.logic / library["src"] for library in libraries}
+        self.sources = pathlib.Path(kit.home() or "/opt/rattle") / "rattle"
+        logic = self.sources / "logic"
+        project = logic / "antt-project.json"
+        mounts = json.loads(project.read_text(encoding="utf-8"))["mounts"] if project.exists() else {}
+        self.roots = {name: root / "src" if (root / "src").is_dir() else root for name, root in ((name, logic / place) for name, place in mounts.items())}
         self.files = {}
+
+    def path(self, module):
+        """Where the text of a module is: `Rattle.NAME.specs.M` in the folder of the library NAME, and else where the logic mounts it."""
+        ours = PATH.fullmatch(module)
+        if ours:
+            return (self.sources / ours[1] / ours[2]).joinpath(*ours[3].split(".")).with_suffix(".antt")
+        first, *rest = module.split(".")
+        return self.roots[first].joinpath(*rest).with_suffix(".antt") if first in self.roots and rest else None
 
     def file(self, module):
         if module not in self.files:
-            first, *rest = module.split(".")
-            path = self.roots[first].joinpath(*rest).with_suffix(".antt") if first in self.roots and rest else None
+            path = self.path(module)
             self.files[module] = antt_file(path) if path and path.exists() else None
         return self.files[module]
 
+    def whole(self, module, alias):
+        """The module that a module passes on whole under a name of its own, or None."""
+        file = self.file(module)
+        return next((path for path, _, name, passed_on in file.imports if passed_on and name == alias), None) if file else None
+
     def find(self, module, name):
-        """The definition of a name that a module has or passes on, or None."""
+        """The module that has a name that a module has or passes on, and its definition, or None where the kit has no text of it."""
         file = self.file(module)
         if file is None:
-            return None
+            passed_on = self.whole(*module.rpartition(".")[::2])
+            return self.find(passed_on, name) if passed_on else (module, None)
         for made in file.definitions:
             if name == made.name or name in made.constructors:
-                return made
+                return module, made
         for path, names, _, passed_on in file.imports:
             if passed_on and names and name in names:
                 return self.find(path, names[name])
-        return None
+        return module, None
 
 
 class Project:
@@ -74,7 +88,7 @@ class Project:
     def __init__(self, faults):
         self.faults, self.kit, self.files, self.scopes, self.uses = faults, Kit(), {}, {}, {}
         lines = (TOP / "crates.txt").read_text(encoding="utf-8").splitlines()
-        self.crates = [line.split(":")[0].strip() for line in lines if line.strip() and not line.startswith("#")]
+        self.crates = [line.split(":")[0].split()[0] for line in lines if line.strip() and not line.startswith("#")]
 
     def file(self, place):
         """The file at a place below crates/, or None."""
@@ -100,9 +114,10 @@ class Project:
 
     def exported(self, path, name):
         """What `path.name` stands for: a definition, a library name, or None."""
-        ours = OURS.fullmatch(path)
-        if not ours:
-            return None if path.startswith("Rattle·") else Library(path, name, self.kit.find(path, name))
+        ours = PATH.fullmatch(path)
+        if not ours or ours[1] not in self.crates:
+            module, found = self.kit.find(path, name)
+            return Library(module, name, found)
         crate, part, rest = ours.groups()
         if rest.startswith("declared."):
             # the type itself, or one of its variants: both are read off its declaration
@@ -137,7 +152,7 @@ class Project:
         return self.scopes[file.place]
 
     def imported(self, file, path, name):
-        if file.place.endswith(".rt") and "·" not in path and path.split(".")[0] in self.crates:
+        if file.place.endswith(".rt") and path.split(".")[0] in self.crates:
             return self.declared(path.split(".")[0], name)
         found = self.exported(f"{path}.{name.rsplit('.', 1)[0]}" if "." in name else path, name.split(".")[-1])
         if found is None:
@@ -152,8 +167,8 @@ class Project:
         return known if isinstance(known, Definition) else self.exported(path or first, last) if path or "." in first else None
 
     def operators(self, file, name, near):
-        """What has the name as a part of its own, as `_at_when_` has `when`, if all its parts are near."""
-        return [made for full, made in self.scope(file).items() if "_" in full and name in full.split("_") and set(filter(None, full.split("_"))) <= set(near)]
+        """What has the name as a part of its own, as `◌at◌when◌` has `when`, if all its parts are near."""
+        return [made for full, made in self.scope(file).items() if HOLE in full and name in full.split(HOLE) and set(filter(None, full.split(HOLE))) <= set(near)]
 
     def stands_for(self, file, name, near):
         """All that a name may stand for: more than one only where operators share a word."""
@@ -168,7 +183,7 @@ class Project:
             return made_by(self.scope(file)[word], word)
         if "." in word.strip("."):
             return True
-        return any(full for full, made in self.scope(file).items() if "_" in full and made in self.operators(file, word, near) and made_by(made, full))
+        return any(full for full, made in self.scope(file).items() if HOLE in full and made in self.operators(file, word, near) and made_by(made, full))
 
     # ── what a definition uses ──
     def used(self, made):

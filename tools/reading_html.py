@@ -30,8 +30,8 @@ td, th { border-bottom: 1px solid var(--line); padding: .2rem .8rem .2rem 0; tex
 .names { columns: 16rem; padding: 0; list-style: none; max-width: none; }
 """
 
-ANTT = re.compile(r"[(){},;⌜⌝]|[^\s(){},;⌜⌝]+")
-RUST = re.compile(r"⟦.*?⟧|[^\s(){},;⌜⌝\[\]&<>:]+|.")
+ANTT = re.compile(r"[(){},;]|[^\s(){},;]+")
+RUST = re.compile(r"⟦.*?⟧|[^\s(){},;\[\]&<>:]+|.")
 COMMENT = {".antt": re.compile(r"(^|(?<=\s))--(\s.*)?$"), ".rt": re.compile(r"//.*$")}
 
 
@@ -124,10 +124,14 @@ class Html:
             return f"<b{place}>{html.escape(word, quote=False)}</b>"
         if word in names:
             return self.link(names[word], word, page)
-        return self.field(made, page, word) if word.startswith(".") and word[1:] in self.declared else html.escape(word, quote=False)
+        first, *fields = re.split(r"(?=\.)", word)
+        if any(field[1:] in self.declared for field in fields):
+            parts = [self.field(made, page, field) if field[1:] in self.declared else html.escape(field, quote=False) for field in fields]
+            return (self.link(names[first], first, page) if first in names else html.escape(first, quote=False)) + "".join(parts)
+        return html.escape(word, quote=False)
 
     def field(self, made, page, word):
-        """The field of a record, as in `r .field`: of the one record with such a field that the definition reaches; of several, a link to where they are listed."""
+        """The field of a record, as in `r.field`: of the one record with such a field that the definition reaches; of several, a link to where they are listed."""
         if made not in self.reach:
             self.reach[made] = reached(self.reading, [made])
         found = [each for each in self.declared[word[1:]] if each in self.reach[made]]
@@ -211,7 +215,7 @@ class Html:
 
 
 def field_names(made):
-    """The fields of a record or a struct, which `r .field` names."""
+    """The fields of a record or a struct, which `r.field` names."""
     if made.kind == "struct":
         return re.findall(r"^    (?:pub )?(\w+):", "\n".join(made.code), re.M)
     return [name for start, end in made.spans[1:] for name in member_of(made.code[start:end])[0]] if made.kind == "record" else []

@@ -93,5 +93,5 @@ def fold(line):
     spaces = [at for at in spaces if not re.match(r" ([-+*#>]|\d+[.)])\s", line[at:])]
     if not spaces:
         return [line]
-    margin = " " * len(re.match(r"(- |\d+\. |\s*)", line).group())
+    margin = " " * len(re.match(r"\s*(- |\d+\. )?", line).group())
     return [line[:spaces[-1]], *fold(margin + line[spaces[-1] + 1:])]

@@ -33,12 +33,13 @@ contracts, as the source has them, are counted by themselves.
 NOTATION = """
 `name : type` and then its clauses, by cases, define a name; a `record` is a list of statements that hold together, with what each speaks of in brackets before
 it; a `data` has one line for each way to make it. `(x : A) → B` is "for every x", `(x : A) × B` is "there is an x", `A × B` is "and", `A ⊎ B` is "or", `A → ⊥`
-is "not", `a ≡ b` is equality, `r .f` the field f of r, `t.V` the variant V of the type that a file calls t. `abbrev` and `unfoldable` only tell the prover when
-to open a definition. A type of the source is met as a data with its variants, every machine number as the number that it is.
+is "not", `a ≡ b` is equality, `r.f` the field f of r, `t.V` the variant V of the type that a file calls t. A `◌` in a name is where an argument stands. `abbrev`
+and `unfoldable` only tell the prover when to open a definition. A type of the source is met as a data with its variants, every machine number as the number
+that it is.
 
-A contract is from the source. `requires` is what a caller must see to; where there is none, nothing is asked. `ensures` is what the function makes true, with r
-for its answer: `now (x .entry)` is the list of the elements of a lent slice x at entry, `now (x .exit)` the same when the function has ended, and a number
-stands for itself.
+A contract is from the source. `requires` is what a caller must see to; where there is none, nothing is asked. `ensures` is what the function makes true, with
+`result` for its answer; where there are several, each has a name in front of its braces. `x.now` is the list of the elements of a slice x that is lent to be
+read; of one that may be written, `x.old` is that list when the function begins and `x.new` when it has ended. A number stands for itself.
 """
 
 LIBRARY = """
