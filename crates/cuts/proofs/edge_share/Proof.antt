@@ -45,7 +45,7 @@ returns-2 c =
     let o = c in
     let l = o in
     let s = l in
-    number_of_bits _ (record { sfits = c.result.given })
+    number_of_bits _ (record { sfits = c.result-1.given })
     ∙ share_first s.args.e (at s.args.tails.now) (atℤ s.args.lengths.now) (flagged s.args.inside.now) _ _ (tail_is l.before.before.before) (head_is l.before.before.before)
     (first_marked (mark_of l.before.before.before (tail_at l.before.before.before)) (mark_of l.before.before.before (head_at l.before.before.before)) o.if-at_tail-at_head.false c.if-at_tail-eq1.true)
 

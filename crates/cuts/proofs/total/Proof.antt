@@ -35,7 +35,7 @@ cut_to l n = cut_of (2 * n) (at l.args.tails.now) (atℤ l.args.lengths.now) (fl
 
 -- the share of edge e is added: the sum is the cut over the darts of the edges to e
 sum_next : (c : tie.After-widen invariant-loop decreases-loop)
-    → to_z w64 (turn (share c)).loop-e.sum +ℤ to_z w64 (of_z w64 c.widen.result) ≡ cut_to (turn (share c)) ((turn (share c)).loop-e.e + 1)
+    → to_z w64 (turn (share c)).loop-e.sum-bits +ℤ to_z w64 (of_z w64 c.widen.result) ≡ cut_to (turn (share c)) ((turn (share c)).loop-e.e + 1)
 sum_next c =
     ap₂ ◌+ℤ◌ (turn (share c)).loop-e.invariant.1
     (to_z-of_z w64 _ (record { sfits = c.widen.type_inv }) ∙ c.widen.ensures
@@ -72,10 +72,10 @@ loop-again c =
     let t = c.loop-e-test.true in (
       omega arith,
       ⊎_elim
-          (λ w. ap (to_z w64) w.3 ∙ to_z-of_z w64 _ (record { sfits = w.2.ok }) ∙ w.2.ensures
-          ∙ sum_next (record { before = record { before = c; if1 = w.0 }; widen = w.1 }))
-          (λ w. ap (to_z w64) w.1 ∙ (turn c.before).loop-e.invariant.1 ∙ sum-stays c.before w.0.left)
-          c.if-share-ne0.branch,
+          (λ w. ap (to_z w64) w.sum-is-bits ∙ to_z-of_z w64 _ (record { sfits = w.plus64-sum.type_inv }) ∙ w.plus64-sum.ensures
+          ∙ sum_next (record { before = record { before = c.before; if-share-ne0 = w.if-share-ne0 }; widen = w.widen }))
+          (λ w. ap (to_z w64) w.sum-is-bits ∙ (turn c.before).loop-e.invariant.1 ∙ sum-stays c.before w.if-share-ne0.false)
+          c.if-share-ne0.branch-raw,
     )
 
 returns : tie.Need-returns invariant-loop decreases-loop

@@ -38,9 +38,9 @@ loop-again c =
     let b = tests a.inside.now a.nodes a.j in
     let t = c.flagged.ensures in
     ⊎_elim
-    (λ w. (omega arith, w.2 ∙ w.1.ensures ∙ ap (λ (x : ℕ). 2 ^ o.k + x) o.invariant.1 ∙ sym (word_with b o.k (sym t ∙ w.0.taken))))
-    (λ w. (omega arith, w.1 ∙ o.invariant.1 ∙ sym (word_without b o.k (sym t ∙ w.0.left))))
-    c.if-flagged.branch
+    (λ w. (omega arith, w.w-is ∙ w.set_bit-w.ensures ∙ ap (λ (x : ℕ). 2 ^ o.k + x) o.invariant.1 ∙ sym (word_with b o.k (sym t ∙ w.if-flagged.true))))
+    (λ w. (omega arith, w.w-is ∙ o.invariant.1 ∙ sym (word_without b o.k (sym t ∙ w.if-flagged.false))))
+    c.if-flagged.branch-raw
 
 returns : tie.Need-returns invariant-loop decreases-loop
 returns c =

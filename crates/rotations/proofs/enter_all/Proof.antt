@@ -125,7 +125,7 @@ loop-again c =
       register_new o.table key.result w.1.result o.invariant.2 l key.ensures (w.1.ensures ∙ entry) (sym k.wide-old.ensures ∙ w.0.taken),
     ))
     (λ w. rw w.2 (omega arith, o.invariant.1, register_same o.invariant.2 (sym (old-is k.before) ∙ w.1.left ∙ entry)))
-    c.if-old-eq0.branch
+    c.if-old-eq0.branch-raw
 
 returns-2 : tie.Need-returns invariant-loop decreases-loop
 returns-2 c =

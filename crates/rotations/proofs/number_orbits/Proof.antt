@@ -86,7 +86,7 @@ loop-again c =
     ⊎_elim
     (λ w. rw (w.4, w.5) (w.3.ensures.0, mark (few l) (permutes l) i.1 t w.0.taken (rw w.1.ensures at w.3.ensures.1)))
     (λ w. rw (w.1, w.2) (i.0, pass (few l) (permutes l) i.1 t w.0.left))
-    c.if-label-d.branch
+    c.if-label-d.branch-raw
 
 -- ── all places have their numbers ──
 returns : tie.Need-returns invariant-loop decreases-loop

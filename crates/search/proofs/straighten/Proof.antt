@@ -77,7 +77,7 @@ loop-again c =
     rw (d.11, d.12, d.13, d.14, d.15, d.16)
     (let q = d.10.ensures in pass_next i n.loop-f-test.true a (d.3.ensures.1 d.4.left) q.1 q.0))
     (λ d. rw (d.1, d.2, d.3, d.4, d.5, d.6) (pass_none i n.loop-f-test.true a (omega (arith, d.0.left))))
-    c.if-risen-gt0.branch
+    c.if-risen-gt0.branch-raw
 
 returns-2 : tie.Need-returns invariant-loop decreases-loop
 returns-2 c = (_, pass_last _ c.loop-f.invariant (omega (arith, c.loop-f-test.false)) refl)

@@ -37,9 +37,9 @@ loop-again c =
       ⊎_elim
           (λ u. taking_keep l.invariant.0 s w.result w.ensures b.result b.ensures u.0.taken _ u.1 _ u.2)
           (λ u. taking_drop l.invariant.0 s w.result w.ensures b.result b.ensures u.0.left _ u.1 _ u.2)
-          c.if-is_sensible.branch,
+          c.if-is_sensible.branch-raw,
       omega (arith, k.loop-f-test.true),
-      ⊎_elim (λ u. omega (arith, u.2, l.invariant.2)) (λ u. omega (arith, u.2, l.invariant.2)) c.if-is_sensible.branch,
+      ⊎_elim (λ u. omega (arith, u.2, l.invariant.2)) (λ u. omega (arith, u.2, l.invariant.2)) c.if-is_sensible.branch-raw,
     )
 
 returns : tie.Need-returns invariant-loop decreases-loop

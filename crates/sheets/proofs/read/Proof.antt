@@ -104,7 +104,7 @@ returns-5 c =
     let t = told r in
     let a = accepted t in
     let e = a.1.edges_are in
-    let all : 2 * (net t).sizes-1.edges ≡ _ = ap (λ m. 2 * m) e in (
+    let all : 2 * (net t.before).sizes-1.edges ≡ _ = ap (λ m. 2 * m) e in (
       read_whole (sheet t.before) _ _ _ a.0
           (omega (arith, e, r.if-tails-darts.false)) (omega (arith, e, r.if-rotations-darts.false)) (omega (arith, e, r.if-capacities-darts.false)),
       c.narrow.ensures ∙ a.1.nodes_are,

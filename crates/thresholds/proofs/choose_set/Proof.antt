@@ -56,7 +56,7 @@ cut-flagged l = let a = (begun l).args in cut_of a.darts (at a.tails.now) (atℤ
 abbrev cut-above : At-loop → ℤ
 cut-above l =
     let a = (begun l).args in
-    cut_of a.darts (at a.tails.now) (atℤ a.lengths.now) (above (atℤ a.heights.now) (to_z w32 l.loop-threshold.threshold))
+    cut_of a.darts (at a.tails.now) (atℤ a.lengths.now) (above (atℤ a.heights.now) (to_z w32 l.loop-threshold.threshold-bits))
 
 -- the flags are those of the nodes above the threshold
 same_cut : (l : At-loop) → cut-flagged l ≡ cut-above l
@@ -114,7 +114,7 @@ abbrev raised : tie.After-plus-threshold invariant-loop decreases-loop → At-lo
 raised c = raising c.before
 
 -- the next threshold is one more
-next_is : (c : tie.After-plus-threshold invariant-loop decreases-loop) → to_z w32 (of_z w32 c.plus-threshold.result) ≡ to_z w32 (raised c).loop-threshold.threshold +ℤ pos 1
+next_is : (c : tie.After-plus-threshold invariant-loop decreases-loop) → to_z w32 (of_z w32 c.plus-threshold.result) ≡ to_z w32 (raised c).loop-threshold.threshold-bits +ℤ pos 1
 next_is c = number_of_bits _ (record { sfits = c.plus-threshold.type_inv }) ∙ c.plus-threshold.ensures
 
 flag-above-requires-2 : tie.Need-flag_above-requires-in-loop-threshold invariant-loop decreases-loop

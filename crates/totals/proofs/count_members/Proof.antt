@@ -31,7 +31,7 @@ loop-again c =
     ⊎_elim
     (λ w. (omega arith, omega (arith, w.1, o.invariant.1), w.1 ∙ ap (λ (x : ℕ). x + 1) o.invariant.2 ∙ sym (count_in o.v (member set) (sym t ∙ w.0.taken))))
     (λ w. (omega arith, omega (arith, w.1, o.invariant.1), w.1 ∙ o.invariant.2 ∙ sym (count_out o.v (member set) (sym t ∙ w.0.left))))
-    c.if-contains.branch
+    c.if-contains.branch-raw
 
 returns : tie.Need-returns invariant-loop decreases-loop
 returns c =

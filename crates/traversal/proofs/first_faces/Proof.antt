@@ -132,8 +132,8 @@ returns : tie.Need-returns invariant-loop decreases-loop
 returns c =
     let o = c.loop-count in
     let 𝓕 = treed c.before in
-    let all : (begun c).args.trees ≤ o.count = omega (arith, c.loop-count-test.false) in
-    let no_more : (begun c).args.trees < o.count → ⊥ = λ l. omega (arith, ((o.invariant.1 𝓕).written _ l).0) in (
+    let all : (begun c.before).args.trees ≤ o.count = omega (arith, c.loop-count-test.false) in
+    let no_more : (begun c.before).args.trees < o.count → ⊥ = λ l. omega (arith, ((o.invariant.1 𝓕).written _ l).0) in (
       o.invariant.0,
       rooting_end 𝓕 all (o.invariant.1 𝓕),
       record {
