@@ -4,8 +4,8 @@ use Rattle.std.specs.Prelude.{ℕ, zero, suc, ◌≡◌, ◌⊎◌, Bool, true, 
 use Rattle.refusals.specs.declared.Verdict.{Verdict}
 use Rattle.refusals.specs.declared.Verdict.TheVariants.{Passed, Refused}
 
-infix 1 ◌at◌when◌
-infix 1 ◌when◌
+infix 0 ◌at◌when◌
+infix 0 ◌when◌
 -- `k at p when P`: where P holds, the refusal is number k at the place p
 -- ("A refusal is its number, with a lowest channel (17) or node (18), else place 0")
 pub data Check : Type 1 where
