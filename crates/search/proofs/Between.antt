@@ -76,6 +76,7 @@ root_fell queue (suc m) i l = by (ℕ_discrete i m) (root_fell queue m i)
 
 fell_root : (queue : List ℕ) (roots f : ℕ) → FellSince f (first_levels queue roots) → (i : ℕ) × (i < roots) × (at queue i ≡ f)
 unfolding first_levels
+fell_root queue zero f x' = elim x' [ ]
 fell_root queue (suc m) f (now e) = (m, omega arith, e)
 fell_root queue (suc m) f (before_fall h) = let r = fell_root queue m f h in (r.0, omega (arith, r.1), r.2)
 
@@ -287,15 +288,15 @@ module _ (G : Given) (roots : List ℕ) (sound : WellFormed (dual G roots)) (g :
     pub fell_waits : {past : List Event} → Told G.faces c.tables.waiting past → (f : ℕ) → FellSince f past → Waits c f
     fell_waits h f e = let w = h.flagged f e in place f w.0 w.1
 
-    pub front_waits : c.first < c.tables.new → Waits c (front c)
+    pub front_waits : c.first < c.tables.last → Waits c (front c)
     front_waits l = (c.first, (omega arith, l, refl))
 
     pub kept_place : {d : Configuration} → Goes G c d → (i f : ℕ) → WaitsAt c i f → d.first ≤ i → WaitsAt d i f
     kept_place p i f w l = let k = goes_kept r p in (l, omega (arith, w.1, k.1.longer), k.1.places i l w.1 ∙ w.2)
 
-    pub came_behind : {d : Configuration} → Goes G c d → (i f : ℕ) → WaitsAt d i f → WaitsAt c i f ⊎ (c.tables.new ≤ i)
-    came_behind {d} p i f w = by (dec_lt i c.tables.new)
+    pub came_behind : {d : Configuration} → Goes G c d → (i f : ℕ) → WaitsAt d i f → WaitsAt c i f ⊎ (c.tables.last ≤ i)
+    came_behind {d} p i f w = by (dec_lt i c.tables.last)
       where
-        by : Dec (i < c.tables.new) → WaitsAt c i f ⊎ (c.tables.new ≤ i)
+        by : Dec (i < c.tables.last) → WaitsAt c i f ⊎ (c.tables.last ≤ i)
         by (yes l) = let k = goes_kept r p in inl (omega (arith, k.0, w.0), l, sym (k.1.places i w.0 l) ∙ w.2)
         by (no n) = inr (omega (arith, n))

@@ -24,7 +24,7 @@ use Rattle.search.proofs.Run.{PassingAt, bound, bound_wide, bound_few, goes_pass
 
 module _ (G : Given) (roots : List ℕ) (sound : WellFormed (dual G roots)) where
   module _ (c : Configuration) (r : PassingAt (dual G roots) c) where
-    end_settled : Joined (dual G roots) → c.first ≡ c.tables.new → Settled (dual G roots) (atℤ c.tables.potentials)
+    end_settled : Joined (dual G roots) → c.first ≡ c.tables.last → Settled (dual G roots) (atℤ c.tables.potentials)
     end_settled joined e =
         settled sound joined r.passing.state r.passing.quiet
         (λ f l h. let s = r.passing.line.stands f l h in omega (arith, s.1, s.2)) (bound_few G.faces c.left sound.few_faces)

@@ -96,9 +96,9 @@ module _ {N : Dual} {𝓜 : Map} (of : OfMap N 𝓜) where
   pub face_walk : {e f g : ℕ} {ds : List ℕ} → e ≡ f → Crossing N f g ds → (w : FaceWalk 𝓜 e g) × (faceWalk.total N.length w ≡ total N.length ds)
   unfolding total faceWalk.total
   face_walk q stay = rw q (faceWalk.stay, refl)
-  face_walk q (cross d l e r) =
+  face_walk {e = e'} q (cross d l e r) =
       let d_in : d < darts 𝓜 = omega (arith, of.darts_are) in
-      let w = face_walk (sym (of.left_is d d_in)) r in
+      let w = face_walk {e = left 𝓜 d} (sym (of.left_is d d_in)) r in
       (faceWalk.cross d d_in (sym (of.right_is d d_in) ∙ e ∙ sym q) w.0, ap (λ z. N.length d +ℤ z) w.1)
 
   pub ring_walk : {x : ℕ} → Ring N x → (w : FaceWalk 𝓜 x x) × (faceWalk.total N.length w <ℤ pos 0)

@@ -43,7 +43,7 @@ module _ (G : Given) (roots : List ℕ) (sound : WellFormed (dual G roots)) (g :
   crosses_passing {j = j} r (lower {u = v} l a p q) = crosses_passing (try_lower sound g r (at G.order j) l refl v a.0 a.1 a.2 p) q
 
   -- what a look begins with
-  pub look_trying : (c : Configuration) → PassingAt (dual G roots) c → 0 < c.left → c.first < c.tables.new
+  pub look_trying : (c : Configuration) → PassingAt (dual G roots) c → 0 < c.left → c.first < c.tables.last
       → Trying (dual G roots) G.order G.starts (taken_up (front c) c.tables) c.first (bound G.faces c.left) (front c)
       (at G.starts (front c))
   look_trying c r l m = begin_trying sound g r.passing (bound_look G.faces c.left sound.few_faces l r.in-period) m (front c) refl
@@ -75,7 +75,7 @@ straight_last : {lefts : List ℕ} {lengths : List ℤ} {darts faces f e : ℕ} 
 straight_last (end l q) = q
 straight_last (next count l a c q w) = straight_last w
 
-pub looks : {G : Given} {c : Configuration} {u : Tables} (i : ℕ) → i ≡ front c → 0 < c.left → c.first < c.tables.new → LookAt G i c.tables u
+pub looks : {G : Given} {c : Configuration} {u : Tables} (i : ℕ) → i ≡ front c → 0 < c.left → c.first < c.tables.last → LookAt G i c.tables u
     → Step G c (configuration u (c.first + 1) (c.left - 1))
 looks {G} {c} {u} i e l m q = look l m (subst (λ x. LookAt G x c.tables u) e q)
 

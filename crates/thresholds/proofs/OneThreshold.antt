@@ -37,10 +37,10 @@ module _ {nodes darts : ℕ} {tail : ℕ → ℕ} (even : darts % 2 ≡ 0) (tail
         by : (α.threshold <ℤ β.threshold) ⊎ (β.threshold ≤ℤ α.threshold) → (β.threshold <ℤ α.threshold) ⊎ (α.threshold ≤ℤ β.threshold)
             → α.threshold ≡ β.threshold
         by (inl l) q =
-            absurd (β.none_lower α.threshold (subst (λ z. z ≤ℤ α.threshold) lowests α.from_Lowest) l
+            absurd (β.none_lower α.threshold (subst (λ z. z ≤ℤ α.threshold) lowests α.from_lowest) l
             (subst (λ z. z <ℤ pos 0) (same_cut α.threshold) α.serves))
         by (inr g) (inl l) =
-            absurd (α.none_lower β.threshold (subst (λ z. z ≤ℤ β.threshold) (sym lowests) β.from_Lowest) l
+            absurd (α.none_lower β.threshold (subst (λ z. z ≤ℤ β.threshold) (sym lowests) β.from_lowest) l
             (subst (λ z. z <ℤ pos 0) (sym (same_cut β.threshold)) β.serves))
         by (inr g) (inr k) = le_antisym k g
 

@@ -12,6 +12,7 @@ use Rattle.integers.specs.Sum.{when, bit}
 use Rattle.integers.proofs.Omega.{parts, equal}
 use Rattle.maps.specs.Dart.{rev}
 use Rattle.maps.specs.Map.{Map, darts}
+use Rattle.maps.specs.Face.{left}
 use Rattle.maps.specs.inner.FaceWalk.{FaceWalk}
 use Rattle.maps.specs.inner.FaceWalk as faceWalk
 use Rattle.maps.proofs.Darts.{eqb_rev}
@@ -39,9 +40,9 @@ crossed_walk : {N : Dual} {𝓜 : Map} → OfMap N 𝓜 → {e f g : ℕ} {ds : 
     → (w : FaceWalk 𝓜 e g) × (faceWalk.total N.length w ≡ total N.length ds) × ((i : ℕ) → winding w i ≡ crossings ds i)
 unfolding total faceWalk.total winding times crossings
 crossed_walk of q stay = rw q (faceWalk.stay, refl, λ i. refl)
-crossed_walk {N} {𝓜} of q (cross d l e r) =
+crossed_walk {N} {𝓜} of {e = e'} q (cross d l e r) =
     let d_in : d < darts 𝓜 = omega (arith, of.darts_are) in
-    let w = crossed_walk of (sym (of.left_is d d_in)) r in (
+    let w = crossed_walk of {e = left 𝓜 d} (sym (of.left_is d d_in)) r in (
       faceWalk.cross d d_in (sym (of.right_is d d_in) ∙ e ∙ sym q) w.0,
       ap (λ z. N.length d +ℤ z) w.1,
       λ i. one_more d i (times w.0 i) (times w.0 (rev i)) ∙ ap (λ z. single d i +ℤ z) (w.2 i),

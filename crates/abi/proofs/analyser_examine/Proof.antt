@@ -25,21 +25,21 @@ found c answer e = rw (number_of_bits _ (start c).ranges.value, e) at c.examine-
 returns : tie.Need-returns-in-Empty
 returns c = (
   Empty,
-  found c.before.before.before.before Empty c.enum_told-1.given.1,
+  found c.before.before.before Empty c.in-Empty.is,
   record { result_told = refl; number-told = refl; sum_told = refl; least_told = refl; greatest_told = refl; place_told = refl },
 )
 
 returns-2 : tie.Need-returns-in-Marked
 returns-2 c = (
   Marked _ _ _ _,
-  found c.before.before.before.before.before (Marked _ _ _ _) c.class-1.given.1,
+  found c.before.before.before (Marked _ _ _ _) c.in-Marked.is,
   record { result_told = refl; number-told = refl; sum_told = refl; least_told = refl; greatest_told = refl; place_told = refl },
 )
 
 returns-3 : tie.Need-returns-in-Refused
 returns-3 c = (
   Refused _ _,
-  found c.before.before.before.before.before (Refused _ _) c.class-in-Refused-1.given.1,
+  found c.before.before.before (Refused _ _) c.in-Refused.is,
   record { result_told = refl; number-told = refl; sum_told = refl; least_told = refl; greatest_told = refl; place_told = refl },
 )
 

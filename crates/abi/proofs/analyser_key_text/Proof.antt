@@ -26,12 +26,12 @@ named c answer e = rw e at c.write_key-answer.ensures.1
 returns : tie.Need-returns-in-Bytes
 returns c =
     let k = c in
-    (Bytes _, found k.before.before.before.before.before (Bytes _) c.answer-1.given.1, named k.before.before.before.before.before (Bytes _) c.answer-1.given.1, (refl, refl, refl))
+    (Bytes _, found k.before.before.before (Bytes _) c.in-Bytes.is, named k.before.before.before (Bytes _) c.in-Bytes.is, (refl, refl, refl))
 
 returns-2 : tie.Need-returns-in-Refused
 returns-2 c =
     let k = c in
-    (Refused _ _, found k.before.before.before.before.before (Refused _ _) c.answer-in-Refused-1.given.1, named k.before.before.before.before.before (Refused _ _) c.answer-in-Refused-1.given.1, (refl, refl, refl))
+    (Refused _ _, found k.before.before.before (Refused _ _) c.in-Refused.is, named k.before.before.before (Refused _ _) c.in-Refused.is, (refl, refl, refl))
 
 pub analyser_key_text_spec : {M : Type 1} → statement M
 analyser_key_text_spec =

@@ -32,16 +32,16 @@ found c answer e = rw e at c.largest_after-answer.ensures
 returns : tie.Need-returns-in-Value
 returns c = (
   Value _,
-  found c.before.before.before.before.before.before.before (Value _) c.answer-1.given.1,
+  found c.before.before.before.before.before (Value _) c.in-Value.is,
   (refl, refl, number_of_bits _ (record { sfits = c.known_told-1.given.0.1 }), refl),
 )
 
 returns-2 : tie.Need-returns-in-None
-returns-2 c = (None, found c.before.before.before.before.before.before None c.enum_told-1.given.1, (refl, refl, refl, refl))
+returns-2 c = (None, found c.before.before.before.before.before None c.in-None.is, (refl, refl, refl, refl))
 
 returns-3 : tie.Need-returns-in-Refused
 returns-3 c =
-    (Refused _ _, found c.before.before.before.before.before.before.before (Refused _ _) c.answer-in-Refused-1.given.1, (refl, refl, refl, refl))
+    (Refused _ _, found c.before.before.before.before.before (Refused _ _) c.in-Refused.is, (refl, refl, refl, refl))
 
 pub analyser_largest_after_spec : {M : Type 1} → statement M
 analyser_largest_after_spec =

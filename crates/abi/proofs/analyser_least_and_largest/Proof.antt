@@ -34,7 +34,7 @@ found c answer e = rw e at c.least_and_largest-answer.ensures
 returns : tie.Need-returns-in-Values
 returns c = (
   Values _ _,
-  found c.before.before.before.before.before.before.before.before.before (Values _ _) c.answer-1.given.1,
+  found c.before.before.before.before.before.before.before (Values _ _) c.in-Values.is,
   (
     refl,
     refl,
@@ -45,12 +45,12 @@ returns c = (
 )
 
 returns-2 : tie.Need-returns-in-None
-returns-2 c = (None, found c.before.before.before.before.before.before.before.before None c.enum_told-1.given.1, (refl, refl, refl, refl, refl))
+returns-2 c = (None, found c.before.before.before.before.before.before.before None c.in-None.is, (refl, refl, refl, refl, refl))
 
 returns-3 : tie.Need-returns-in-Refused
 returns-3 c = (
   Refused _ _,
-  found c.before.before.before.before.before.before.before.before.before (Refused _ _) c.answer-in-Refused-1.given.1,
+  found c.before.before.before.before.before.before.before (Refused _ _) c.in-Refused.is,
   (refl, refl, refl, refl, refl),
 )
 

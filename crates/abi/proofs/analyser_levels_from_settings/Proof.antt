@@ -20,10 +20,10 @@ found : (c : tie.After-levels_from_settings-answer) (answer : LevelAnswer) → c
 found c answer e = rw e at c.levels_from_settings-answer.ensures
 
 returns : tie.Need-returns-in-Done
-returns c = (Done, found c.before.before.before Done c.enum_told-1.given.1, (refl, refl))
+returns c = (Done, found c.before.before Done c.in-Done.is, (refl, refl))
 
 returns-2 : tie.Need-returns-in-Refused
-returns-2 c = (Refused _ _, found c.before.before.before.before (Refused _ _) c.answer-1.given.1, (refl, refl))
+returns-2 c = (Refused _ _, found c.before.before (Refused _ _) c.in-Refused.is, (refl, refl))
 
 pub analyser_levels_from_settings_spec : {M : Type 1} → statement M
 analyser_levels_from_settings_spec =

@@ -18,12 +18,12 @@ found c answer e = rw e at c.mark-answer.ensures
 returns : tie.Need-returns-in-Value
 returns c = (
   Value _,
-  found c.before.before.before (Value _) c.answer-1.given.1,
+  found c.before (Value _) c.in-Value.is,
   (refl, number_of_bits _ (record { sfits = c.known_told-1.given.0.1 }), refl),
 )
 
 returns-2 : tie.Need-returns-in-Refused
-returns-2 c = (Refused _ _, found c.before.before.before (Refused _ _) c.answer-in-Refused-1.given.1, (refl, refl, refl))
+returns-2 c = (Refused _ _, found c.before (Refused _ _) c.in-Refused.is, (refl, refl, refl))
 
 pub analyser_mark_spec : {M : Type 1} → statement M
 analyser_mark_spec =

@@ -43,25 +43,25 @@ named c =
 returns : tie.Need-returns-in-Refused
 returns c =
     let k = c in
-    (k.page_of-page.result, listed k.before.before.before.before.before.before, named k.before.before.before.before.before.before, told_refused (begun k.before.before.before.before.before.before).args.count k.page_of-page.result _ _ c.verdict-1.given.1 _ _ _)
+    (k.page_of-page.result, listed k.before.before.before.before, named k.before.before.before.before, told_refused (begun k.before.before.before.before).args.count k.page_of-page.result _ _ c.in-Refused.is _ _ _)
 
 tell-numbers-requires : tie.Need-tell_numbers-requires
 tell-numbers-requires c κs =
     let k = c in
-    (page_few _ _ _ _ _ _ _ k.page_of-page.result (listed k.before.before.before.before.before.before) c.enum_told-1.given.1, omega (arith, c.tell_numbers-arg-1.given.0.1))
+    (page_few _ _ _ _ _ _ _ k.page_of-page.result (listed k.before.before.before.before.before) c.in_default.is, omega (arith, c.tell_numbers-arg-1.given.0.1))
 
 tell-sizes-requires : tie.Need-tell_sizes-requires
 tell-sizes-requires c κs =
     let k = c in
-    (page_few _ _ _ _ _ _ _ k.page_of-page.result (listed k.before.before.before.before.before.before.before.before) c.enum_told-1.given.1, omega (arith, c.tell_sizes-arg-1.given.0.1))
+    (page_few _ _ _ _ _ _ _ k.page_of-page.result (listed k.before.before.before.before.before.before.before) c.in_default.is, omega (arith, c.tell_sizes-arg-1.given.0.1))
 
 returns-2 : tie.Need-returns
 returns-2 c =
     let k = c in (
       k.page_of-page.result,
-      listed k.before.before.before.before.before.before.before.before.before,
-      named k.before.before.before.before.before.before.before.before.before,
-      told_passed _ _ _ _ _ _ _ k.page_of-page.result (listed k.before.before.before.before.before.before.before.before.before) c.enum_told-1.given.1 _ _ _ _ _
+      listed k.before.before.before.before.before.before.before.before,
+      named k.before.before.before.before.before.before.before.before,
+      told_passed _ _ _ _ _ _ _ k.page_of-page.result (listed k.before.before.before.before.before.before.before.before) c.in_default.is _ _ _ _ _
           c.tell_numbers.ensures c.tell_sizes.ensures,
     )
 

@@ -30,14 +30,14 @@ found c answer e = rw e at c.read-answer.ensures
 returns : tie.Need-returns-in-Counts
 returns c = (
   Counts _ _ _,
-  found c.before.before.before.before.before.before.before.before (Counts _ _ _) c.answer-1.given.1,
+  found c.before.before.before.before.before.before (Counts _ _ _) c.in-Counts.is,
   (refl, refl, refl, refl, refl),
 )
 
 returns-2 : tie.Need-returns-in-Refused
 returns-2 c = (
   Refused _ _,
-  found c.before.before.before.before.before.before.before.before (Refused _ _) c.answer-in-Refused-1.given.1,
+  found c.before.before.before.before.before.before (Refused _ _) c.in-Refused.is,
   (refl, refl, refl, refl, refl),
 )
 

@@ -41,18 +41,18 @@ asked : (c : tie.After-ask-answer) (answer : SolveAnswer) → c.ask-answer.resul
     (begun c).args.flows.now (flows' c) (begun c).args.set.now (set' c) (left' c) answer
 asked c answer e =
     let a = (begun c).args in
-    subst (λ v. Asks (came c) a.party a.source a.sink v a.flows-1.now (flows' c) a.set-1.now (set' c) (left' c) answer)
+    subst (λ v. Asks (came c) a.party a.source a.sink v a.flows.now (flows' c) a.set.now (set' c) (left' c) answer)
     (number_of_bits _ (begun c).ranges.value)
-    (subst (Asks (came c) a.party a.source a.sink _ a.flows-1.now (flows' c) a.set-1.now (set' c) (left' c)) e c.ask-answer.ensures)
+    (subst (Asks (came c) a.party a.source a.sink _ a.flows.now (flows' c) a.set.now (set' c) (left' c)) e c.ask-answer.ensures)
 
 returns : tie.Need-returns-in-Can
-returns c = (Can, asked c.before.before.before.before.before Can c.enum_told-1.given.1, (refl, refl, refl, refl))
+returns c = (Can, asked c.before.before.before.before Can c.in-Can.is, (refl, refl, refl, refl))
 
 returns-2 : tie.Need-returns-in-Cannot
-returns-2 c = (Cannot _, asked c.before.before.before.before.before.before (Cannot _) c.answer-1.given.1, (refl, refl, refl, refl))
+returns-2 c = (Cannot _, asked c.before.before.before.before (Cannot _) c.in-Cannot.is, (refl, refl, refl, refl))
 
 returns-3 : tie.Need-returns-in-Refused
-returns-3 c = (Refused _ _, asked c.before.before.before.before.before.before (Refused _ _) c.answer-in-Refused-1.given.1, (refl, refl, refl, refl))
+returns-3 c = (Refused _ _, asked c.before.before.before.before (Refused _ _) c.in-Refused.is, (refl, refl, refl, refl))
 
 pub analyser_session_ask_spec : {M : Type 1} → statement M
 analyser_session_ask_spec =

@@ -27,10 +27,10 @@ committed : (c : tie.After-commit-answer) (answer : Verdict) → c.commit-answer
 committed c answer e = subst (Commits (came c) (begun c).args.party (left' c)) e c.commit-answer.ensures
 
 returns : tie.Need-returns-in-Passed
-returns c = (Passed, committed c.before.before Passed c.enum_told-1.given.1, (refl, refl))
+returns c = (Passed, committed c.before Passed c.in-Passed.is, (refl, refl))
 
 returns-2 : tie.Need-returns-in-Refused
-returns-2 c = (Refused _ _, committed c.before.before.before (Refused _ _) c.answer-1.given.1, (refl, refl))
+returns-2 c = (Refused _ _, committed c.before (Refused _ _) c.in-Refused.is, (refl, refl))
 
 pub analyser_session_commit_spec : {M : Type 1} → statement M
 analyser_session_commit_spec = tie.close (tie.spec (λ c κs. search rules) (λ c. search rules) (λ c. search rules) returns returns-2)

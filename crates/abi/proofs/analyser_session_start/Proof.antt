@@ -29,10 +29,10 @@ started : (c : tie.After-start-answer) (answer : Verdict) → c.start-answer.res
 started c answer e = subst (Starts (begun c).args.sheet.now (left' c)) e c.start-answer.ensures
 
 returns : tie.Need-returns-in-Passed
-returns c = (Passed, started c.before.before Passed c.enum_told-1.given.1, (refl, refl))
+returns c = (Passed, started c.before Passed c.in-Passed.is, (refl, refl))
 
 returns-2 : tie.Need-returns-in-Refused
-returns-2 c = (Refused _ _, started c.before.before.before (Refused _ _) c.answer-1.given.1, (refl, refl))
+returns-2 c = (Refused _ _, started c.before (Refused _ _) c.in-Refused.is, (refl, refl))
 
 pub analyser_session_start_spec : {M : Type 1} → statement M
 analyser_session_start_spec = tie.close (tie.spec (λ c κs. search rules) (λ c. search rules) (λ c. search rules) returns returns-2)

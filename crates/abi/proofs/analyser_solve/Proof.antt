@@ -36,17 +36,17 @@ named c answer e = rw (number_of_bits _ (start c).ranges.value, e) at c.solve-an
 returns : tie.Need-returns-in-Can
 returns c =
     let k = c in
-    (Can, solved k.before.before.before.before.before Can c.enum_told-1.given.1, named k.before.before.before.before.before Can c.enum_told-1.given.1, (refl, refl, refl, refl))
+    (Can, solved k.before.before.before.before Can c.in-Can.is, named k.before.before.before.before Can c.in-Can.is, (refl, refl, refl, refl))
 
 returns-2 : tie.Need-returns-in-Cannot
 returns-2 c =
     let k = c in
-    (Cannot _, solved k.before.before.before.before.before.before (Cannot _) c.answer-1.given.1, named k.before.before.before.before.before.before (Cannot _) c.answer-1.given.1, (refl, refl, refl, refl))
+    (Cannot _, solved k.before.before.before.before (Cannot _) c.in-Cannot.is, named k.before.before.before.before (Cannot _) c.in-Cannot.is, (refl, refl, refl, refl))
 
 returns-3 : tie.Need-returns-in-Refused
 returns-3 c =
     let k = c in
-    (Refused _ _, solved k.before.before.before.before.before.before (Refused _ _) c.answer-in-Refused-1.given.1, named k.before.before.before.before.before.before (Refused _ _) c.answer-in-Refused-1.given.1, (refl, refl, refl, refl))
+    (Refused _ _, solved k.before.before.before.before (Refused _ _) c.in-Refused.is, named k.before.before.before.before (Refused _ _) c.in-Refused.is, (refl, refl, refl, refl))
 
 pub analyser_solve_spec : {M : Type 1} → statement M
 analyser_solve_spec =

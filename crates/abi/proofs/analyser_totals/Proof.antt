@@ -23,12 +23,12 @@ found c answer e = rw e at c.totals-answer.ensures
 returns : tie.Need-returns-in-Total
 returns c = (
   Total _,
-  found c.before.before.before.before (Total _) c.answer-1.given.1,
+  found c.before.before (Total _) c.in-Total.is,
   (refl, number_of_bits _ (record { sfits = c.known_told-1.given.0.1 }), refl),
 )
 
 returns-2 : tie.Need-returns-in-Refused
-returns-2 c = (Refused _ _, found c.before.before.before.before (Refused _ _) c.answer-in-Refused-1.given.1, (refl, refl, refl))
+returns-2 c = (Refused _ _, found c.before.before (Refused _ _) c.in-Refused.is, (refl, refl, refl))
 
 pub analyser_totals_spec : {M : Type 1} → statement M
 analyser_totals_spec =

@@ -20,10 +20,10 @@ found : (c : tie.After-write_dimacs-answer) (answer : DimacsAnswer) → c.write_
 found c answer e = rw e at c.write_dimacs-answer.ensures
 
 returns : tie.Need-returns-in-Bytes
-returns c = (Bytes _, found c.before.before.before.before.before (Bytes _) c.answer-1.given.1, (refl, refl, refl))
+returns c = (Bytes _, found c.before.before.before (Bytes _) c.in-Bytes.is, (refl, refl, refl))
 
 returns-2 : tie.Need-returns-in-Refused
-returns-2 c = (Refused _ _, found c.before.before.before.before.before (Refused _ _) c.answer-in-Refused-1.given.1, (refl, refl, refl))
+returns-2 c = (Refused _ _, found c.before.before.before (Refused _ _) c.in-Refused.is, (refl, refl, refl))
 
 pub analyser_write_dimacs_spec : {M : Type 1} → statement M
 analyser_write_dimacs_spec =

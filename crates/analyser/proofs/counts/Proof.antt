@@ -33,17 +33,17 @@ found c answer e = rw e at c.totals-answer.ensures
 
 -- ── the sheet is accepted ──
 abbrev asked : tie.In_default → tie.After-totals-answer
-asked c = c.before.before.before
+asked c = c.before.before
 
 accepted : (c : tie.In_default) → NoneOf (sheet_checks (start (asked c)).args.sheet.now)
-accepted c = totals_passed _ no_set no_totals (out' (asked c)) _ (found (asked c) (totals.Total _) c.enum_told-1.given.1)
+accepted c = totals_passed _ no_set no_totals (out' (asked c)) _ (found (asked c) (totals.Total _) c.in_default.is)
 
 -- ── the needs, in the order of the code ──
 returns : tie.Need-returns-in-Refused
 returns c =
     let t = c in
-    totals_refused _ no_set no_totals (out' t.before.before.before.before) (omega (arith, length-replicate {A = ℕ} 9 0)) (omega (arith, length-replicate 513 (pos 0))) _ _
-    (found t.before.before.before.before (totals.Refused _ _) c.answer-1.given.1)
+    totals_refused _ no_set no_totals (out' t.before.before) (omega (arith, length-replicate {A = ℕ} 9 0)) (omega (arith, length-replicate 513 (pos 0))) _ _
+    (found t.before.before (totals.Refused _ _) c.in-Refused.is)
 
 nodes-of-requires : tie.Need-nodes_of-nodes-requires
 nodes-of-requires c κs = (head_counts _ (accepted c)).0

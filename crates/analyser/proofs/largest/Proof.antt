@@ -32,7 +32,7 @@ returns c =
     let o = c in
     let a = (begun o.before).args in
     let first = opens_refused (sheet o.before) (net o.before) c.if-not-net.true o.open_walked-net.ensures.4 in
-    (largest_refused (sheet o.before) _ _ first a.source a.sink a.flows-1.now a.set-1.now, refl, refl)
+    (largest_refused (sheet o.before) _ _ first a.source a.sink a.flows.now a.set.now, refl, refl)
 
 -- ── it is accepted ──
 accepted : (c : tie.Else-not-net) → NoneOf (sheet_checks (sheet c.before)) × Holds (sheet c.before) (net c.before)
@@ -70,7 +70,7 @@ returns-2 c =
     let t = k in
     let o = t in
     let a = (begun o.before.before.before.before.before.before.before.before.before.before.before.before.before.before.before.before.before.before).args in
-    largest_sheet (sheet o.before.before.before.before.before.before.before.before.before.before.before.before.before.before.before.before.before.before) (net o.before.before.before.before.before.before.before.before.before.before.before.before.before.before.before.before.before.before) (accepted t.before.before.before.before.before.before.before.before.before.before.before.before.before.before.before.before.before) from' to a.flows-1.now _ a.set-1.now _ k.largest.result k.largest.ensures
+    largest_sheet (sheet o.before.before.before.before.before.before.before.before.before.before.before.before.before.before.before.before.before.before) (net o.before.before.before.before.before.before.before.before.before.before.before.before.before.before.before.before.before.before) (accepted t.before.before.before.before.before.before.before.before.before.before.before.before.before.before.before.before.before) from' to a.flows.now _ a.set.now _ k.largest.result k.largest.ensures
 
 pub largest_spec : {M : Type 1} → statement M
 largest_spec =

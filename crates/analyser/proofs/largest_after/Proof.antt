@@ -34,7 +34,7 @@ returns c =
     let first = opens_refused (sheet o.before) (net o.before) c.if-not-net.true o.open_walked-net.ensures.4 in (
       refl,
       (
-        after_refused (sheet o.before) _ _ first a.capture.now a.window a.named a.source a.sink a.limits-1.now a.flows-1.now a.set-1.now,
+        after_refused (sheet o.before) _ _ first a.capture.now a.window a.named a.source a.sink a.limits.now a.flows.now a.set.now,
         refl,
         refl,
       ),
@@ -78,7 +78,7 @@ returns-2 c =
     let o = t in
     let a = (begun o.before.before.before.before.before.before.before.before.before.before.before.before.before.before.before.before.before.before.before.before.before).args in
     after_sheet (sheet o.before.before.before.before.before.before.before.before.before.before.before.before.before.before.before.before.before.before.before.before.before) (net o.before.before.before.before.before.before.before.before.before.before.before.before.before.before.before.before.before.before.before.before.before) (accepted t.before.before.before.before.before.before.before.before.before.before.before.before.before.before.before.before.before.before.before.before) a.capture.now a.window a.named from' to
-    a.limits-1.now _ a.flows-1.now _ a.set-1.now _ k.largest_after.result k.largest_after.ensures
+    a.limits.now _ a.flows.now _ a.set.now _ k.largest_after.result k.largest_after.ensures
 
 pub largest_after_spec : {M : Type 1} → statement M
 largest_after_spec =

@@ -32,7 +32,7 @@ returns c =
     let o = c in
     let a = (begun o.before).args in
     let first = opens_refused (sheet o.before) (net o.before) c.if-not-net.true o.open_walked-net.ensures.4 in
-    (range_refused (sheet o.before) _ _ first a.source a.sink a.low-1.now a.below-1.now a.high-1.now a.above-1.now, refl, refl, refl, refl)
+    (range_refused (sheet o.before) _ _ first a.source a.sink a.low.now a.below.now a.high.now a.above.now, refl, refl, refl, refl)
 
 -- ── it is accepted ──
 accepted : (c : tie.Else-not-net) → NoneOf (sheet_checks (sheet c.before)) × Holds (sheet c.before) (net c.before)
@@ -71,7 +71,7 @@ returns-2 c =
     let o = t in
     let a = (begun o.before.before.before.before.before.before.before.before.before.before.before.before.before.before.before.before.before.before.before.before.before.before.before).args in
     range_sheet (sheet o.before.before.before.before.before.before.before.before.before.before.before.before.before.before.before.before.before.before.before.before.before.before.before) (net o.before.before.before.before.before.before.before.before.before.before.before.before.before.before.before.before.before.before.before.before.before.before.before) (accepted t.before.before.before.before.before.before.before.before.before.before.before.before.before.before.before.before.before.before.before.before.before.before) from' to
-    a.low-1.now _ a.below-1.now _ a.high-1.now _ a.above-1.now _ k.least_and_largest.result k.least_and_largest.ensures
+    a.low.now _ a.below.now _ a.high.now _ a.above.now _ k.least_and_largest.result k.least_and_largest.ensures
 
 pub least_and_largest_spec : {M : Type 1} → statement M
 least_and_largest_spec =

@@ -27,7 +27,7 @@ returns c =
     let o = c in
     let a = (begun o.before).args in
     let first = opens_refused (sheet o.before) (net o.before) c.if-not-net.true o.«open».ensures in
-    (levels_refused (sheet o.before) _ _ first a.flows.now a.levels-1.now, refl)
+    (levels_refused (sheet o.before) _ _ first a.flows.now a.levels.now, refl)
 
 -- ── it is accepted ──
 accepted : (c : tie.Else-not-net) → NoneOf (sheet_checks (sheet c.before)) × Holds (sheet c.before) (net c.before)
@@ -45,7 +45,7 @@ returns-2 c =
     let t = k in
     let o = t in
     let a = (begun o.before.before.before.before.before.before.before.before.before).args in
-    levels_sheet (sheet o.before.before.before.before.before.before.before.before.before) (net o.before.before.before.before.before.before.before.before.before) (accepted t.before.before.before.before.before.before.before.before) a.flows.now a.levels-1.now _ k.levels_of.result k.levels_of.ensures
+    levels_sheet (sheet o.before.before.before.before.before.before.before.before.before) (net o.before.before.before.before.before.before.before.before.before) (accepted t.before.before.before.before.before.before.before.before) a.flows.now a.levels.now _ k.levels_of.result k.levels_of.ensures
 
 pub levels_from_settings_spec : {M : Type 1} → statement M
 levels_from_settings_spec =

@@ -36,8 +36,8 @@ returns c =
     let o = c in
     let a = (begun o.before.before).args in
     let first = opens_refused (sheet o.before.before) (net o.before.before) c.if-not-net.true o.open_walked-net.ensures.4 in (
-      refused_so _ _ _ _ _ a.flows-1.now a.sets-1.now _ _ c.refused_page.result
-          (page_refused (sheet o.before.before) _ _ first a.list.count a.flows-1.now a.sets-1.now) c.refused_page.ensures,
+      refused_so _ _ _ _ _ a.flows.now a.sets.now _ _ c.refused_page.result
+          (page_refused (sheet o.before.before) _ _ first a.list.count a.flows.now a.sets.now) c.refused_page.ensures,
       λ e. absurd (not_passed (sym (ap (λ (p : Page). p.verdict) c.refused_page.ensures) ∙ e)),
     )
 
@@ -76,9 +76,9 @@ returns-2 c =
     let a = (begun o.before.before.before.before.before.before.before.before.before.before.before.before.before.before.before.before).args in
     let e = k.answer_list.ensures in (
       page_sheet (sheet o.before.before.before.before.before.before.before.before.before.before.before.before.before.before.before.before) (net o.before.before.before.before.before.before.before.before.before.before.before.before.before.before.before.before) (accepted t.before.before.before.before.before.before.before.before.before.before.before.before.before.before.before) a.list.count (question_at a.list.questions)
-          a.flows-1.now _ a.sets-1.now _ k.answer_list.result e,
+          a.flows.now _ a.sets.now _ k.answer_list.result e,
       page_named (sheet o.before.before.before.before.before.before.before.before.before.before.before.before.before.before.before.before) (net o.before.before.before.before.before.before.before.before.before.before.before.before.before.before.before.before) (accepted t.before.before.before.before.before.before.before.before.before.before.before.before.before.before.before) a.list.count (question_at a.list.questions)
-          a.flows-1.now _ a.sets-1.now _ k.answer_list.result e,
+          a.flows.now _ a.sets.now _ k.answer_list.result e,
     )
 
 pub page_of_spec : {M : Type 1} → statement M

@@ -33,7 +33,7 @@ returns c =
     let o = c in
     let a = (begun o.before).args in
     let first = opens_refused (sheet o.before) (net o.before) c.if-not-net.true o.open_walked-net.ensures.4 in
-    (raise_refused (sheet o.before) _ _ first a.source a.sink a.value a.edge a.flows-1.now a.set-1.now, refl, refl)
+    (raise_refused (sheet o.before) _ _ first a.source a.sink a.value a.edge a.flows.now a.set.now, refl, refl)
 
 -- ── it is accepted ──
 accepted : (c : tie.Else-not-net) → NoneOf (sheet_checks (sheet c.before)) × Holds (sheet c.before) (net c.before)
@@ -74,7 +74,7 @@ returns-2 c =
     let o = t in
     let a = (begun o.before.before.before.before.before.before.before.before.before.before.before.before.before.before.before.before.before.before.before.before).args in
     raise_sheet (sheet o.before.before.before.before.before.before.before.before.before.before.before.before.before.before.before.before.before.before.before.before) (net o.before.before.before.before.before.before.before.before.before.before.before.before.before.before.before.before.before.before.before.before) (accepted t.before.before.before.before.before.before.before.before.before.before.before.before.before.before.before.before.before.before.before) from' to (number_of_bits _ (begun o.before.before.before.before.before.before.before.before.before.before.before.before.before.before.before.before.before.before.before.before).ranges.value) along
-    a.flows-1.now _ a.set-1.now _ k.raise_limit.result k.raise_limit.ensures
+    a.flows.now _ a.set.now _ k.raise_limit.result k.raise_limit.ensures
 
 pub raise_limit_spec : {M : Type 1} → statement M
 raise_limit_spec =

@@ -33,7 +33,7 @@ returns c =
     let o = c in
     let a = (begun o.before).args in
     let first = opens_refused (sheet o.before) (net o.before) c.if-not-net.true o.open_walked-net.ensures.4 in
-    ((solve_refused (sheet o.before) _ _ first a.source a.sink a.value a.flows-1.now a.set-1.now, refl, refl), tt)
+    ((solve_refused (sheet o.before) _ _ first a.source a.sink a.value a.flows.now a.set.now, refl, refl), tt)
 
 -- ── it is accepted ──
 accepted : (c : tie.Else-not-net) → NoneOf (sheet_checks (sheet c.before)) × Holds (sheet c.before) (net c.before)
@@ -72,7 +72,7 @@ returns-2 c =
     let o = t in
     let a = (begun o.before.before.before.before.before.before.before.before.before.before.before.before.before.before.before.before.before.before).args in
     let q = number_of_bits _ (begun o.before.before.before.before.before.before.before.before.before.before.before.before.before.before.before.before.before.before).ranges.value in (
-      solved_sheet (sheet o.before.before.before.before.before.before.before.before.before.before.before.before.before.before.before.before.before.before) (net o.before.before.before.before.before.before.before.before.before.before.before.before.before.before.before.before.before.before) (accepted t.before.before.before.before.before.before.before.before.before.before.before.before.before.before.before.before.before) from' to q a.flows-1.now _ a.set-1.now _ k.solve.result k.solve.ensures.0,
+      solved_sheet (sheet o.before.before.before.before.before.before.before.before.before.before.before.before.before.before.before.before.before.before) (net o.before.before.before.before.before.before.before.before.before.before.before.before.before.before.before.before.before.before) (accepted t.before.before.before.before.before.before.before.before.before.before.before.before.before.before.before.before.before) from' to q a.flows.now _ a.set.now _ k.solve.result k.solve.ensures.0,
       named_sheet (sheet o.before.before.before.before.before.before.before.before.before.before.before.before.before.before.before.before.before.before) (net o.before.before.before.before.before.before.before.before.before.before.before.before.before.before.before.before.before.before) (accepted t.before.before.before.before.before.before.before.before.before.before.before.before.before.before.before.before.before) from' to q _ k.solve.result k.solve.ensures.1,
     )
 

@@ -27,7 +27,7 @@ returns c =
     let o = c in
     let a = (begun o.before).args in
     let first = opens_refused (sheet o.before) (net o.before) c.if-not-net.true o.«open».ensures in
-    (totals_refused (sheet o.before) _ _ first a.set.now a.subtotals-1.now, refl)
+    (totals_refused (sheet o.before) _ _ first a.set.now a.subtotals.now, refl)
 
 -- ── it is accepted ──
 accepted : (c : tie.Else-not-net) → NoneOf (sheet_checks (sheet c.before)) × Holds (sheet c.before) (net c.before)
@@ -45,7 +45,7 @@ returns-2 c =
     let t = k in
     let o = t in
     let a = (begun o.before.before.before.before.before.before.before.before).args in
-    totals_sheet (sheet o.before.before.before.before.before.before.before.before) (net o.before.before.before.before.before.before.before.before) (accepted t.before.before.before.before.before.before.before) a.set.now a.subtotals-1.now _ k.totals_of.result k.totals_of.ensures
+    totals_sheet (sheet o.before.before.before.before.before.before.before.before) (net o.before.before.before.before.before.before.before.before) (accepted t.before.before.before.before.before.before.before) a.set.now a.subtotals.now _ k.totals_of.result k.totals_of.ensures
 
 pub totals_spec : {M : Type 1} → statement M
 totals_spec =

@@ -27,7 +27,7 @@ returns c =
     let o = c in
     let a = (begun o.before).args in
     let first = opens_refused (sheet o.before) (net o.before) c.if-not-net.true o.«open».ensures in
-    (dimacs_refused (sheet o.before) _ _ first a.source a.sink a.out-1.now, refl)
+    (dimacs_refused (sheet o.before) _ _ first a.source a.sink a.out.now, refl)
 
 -- ── it is accepted ──
 accepted : (c : tie.Else-not-net) → NoneOf (sheet_checks (sheet c.before)) × Holds (sheet c.before) (net c.before)
@@ -45,7 +45,7 @@ returns-2 c =
     let t = k in
     let o = t in
     let a = (begun o.before.before.before.before.before.before.before.before.before).args in
-    dimacs_sheet (sheet o.before.before.before.before.before.before.before.before.before) (net o.before.before.before.before.before.before.before.before.before) (accepted t.before.before.before.before.before.before.before.before) a.source a.sink a.out-1.now _ k.write.result k.write.ensures
+    dimacs_sheet (sheet o.before.before.before.before.before.before.before.before.before) (net o.before.before.before.before.before.before.before.before.before) (accepted t.before.before.before.before.before.before.before.before) a.source a.sink a.out.now _ k.write.result k.write.ensures
 
 pub write_dimacs_spec : {M : Type 1} → statement M
 write_dimacs_spec =

@@ -13,7 +13,7 @@ returns c =
     let e = w in
     let k = e in
     let s = k in
-    let found = sym k.entry_at-entry.ensures ∙ e.entry-1.given.1 in
+    let found = sym k.entry_at-entry.ensures ∙ e.in-Full.is in
     inr (omega arith, out_channel s.requires.1 s.requires.0 _ _ _ found (omega (arith, w.wide.ensures, c.if-edges-wide.true)))
 
 returns-2 : tie.Need-returns-then-tick-passed
@@ -23,20 +23,20 @@ returns-2 c =
     let e = w in
     let k = e in
     let s = k in
-    let found = sym k.entry_at-entry.ensures ∙ e.entry-1.given.1 in
+    let found = sym k.entry_at-entry.ensures ∙ e.in-Full.is in
     inr (omega arith, out_tick s.requires.1 s.requires.0 _ _ _ found (omega (arith, w.wide.ensures, left.if-edges-wide.false)) c.if-tick-passed.true)
 
 returns-3 : tie.Need-returns-in-Wrong
 returns-3 c =
     let k = c in
     let s = k in
-    inr (omega arith, out_wrong s.requires.1 s.requires.0 (sym k.entry_at-entry.ensures ∙ c.enum_told-1.given.1))
+    inr (omega arith, out_wrong s.requires.1 s.requires.0 (sym k.entry_at-entry.ensures ∙ c.in-Wrong.is))
 
 returns-4 : tie.Need-returns-in-Cut
 returns-4 c =
     let k = c in
     let s = k in
-    inr (omega arith, out_cut s.requires.1 s.requires.0 (sym k.entry_at-entry.ensures ∙ c.enum_told-in-Cut-1.given.1))
+    inr (omega arith, out_cut s.requires.1 s.requires.0 (sym k.entry_at-entry.ensures ∙ c.in-Cut.is))
 
 returns-5 : tie.Need-returns-else-tick-passed
 returns-5 c =
@@ -45,7 +45,7 @@ returns-5 c =
     let e = w in
     let k = e in
     let s = k in
-    let found = sym k.entry_at-entry.ensures ∙ e.entry-1.given.1 in
+    let found = sym k.entry_at-entry.ensures ∙ e.in-Full.is in
     stands_step s.requires.1 s.requires.0 _ _ _ found (omega (arith, w.wide.ensures, left.if-edges-wide.false)) c.if-tick-passed.false
 
 pub check_entry_spec : {M : Type 1} → statement M

@@ -42,14 +42,14 @@ returns : tie.Need-returns-in-Refused invariant-loop decreases-loop
 unfolding limits_checks
 returns c =
     let k = c in
-    let i = (turn k.before.before.before).loop-e in
-    first_in_turn _ _ i.e _ _ (omega arith) i.invariant.2 (subst (Judged _) c.channel-1.given.1 (judged k.before.before.before))
+    let i = (turn k.before).loop-e in
+    first_in_turn _ _ i.e _ _ (omega arith) i.invariant.2 (subst (Judged _) c.in-Refused.is (judged k.before))
 
 loop-again : tie.Need-loop-e-preserved invariant-loop decreases-loop
 loop-again c =
     let k = c in
-    let i = (turn k.before.before).loop-e in
-    (omega arith, i.invariant.1, below_more _ i.e i.invariant.2 (subst (Judged _) c.enum_told-1.given.1 (judged k.before.before)))
+    let i = (turn k.before).loop-e in
+    (omega arith, i.invariant.1, below_more _ i.e i.invariant.2 (subst (Judged _) c.in_default.is (judged k.before)))
 
 returns-2 : tie.Need-returns invariant-loop decreases-loop
 unfolding limits_checks

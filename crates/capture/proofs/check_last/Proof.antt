@@ -6,15 +6,15 @@ use Rattle.capture.proofs.check_last.Statement.{statement}
 use Rattle.capture.proofs.check_last.Tie as tie
 
 returns : tie.Need-returns-in-Refused
-returns c = ends_refused _ _ _ _ _ _ _ _ _ (rw c.named-1.given.1 at c.check_ends-named.ensures)
+returns c = ends_refused _ _ _ _ _ _ _ _ _ (rw c.in-Refused.is at c.check_ends-named.ensures)
 
 returns-2 : tie.Need-returns-then-limits-edges
-returns-2 c = let e = c in limits_short _ _ _ _ _ _ _ (rw e.enum_told-1.given.1 at e.check_ends-named.ensures) (omega arith)
+returns-2 c = let e = c in limits_short _ _ _ _ _ _ _ (rw e.in_default.is at e.check_ends-named.ensures) (omega arith)
 
 returns-3 : tie.Need-returns
 returns-3 c =
     let e = c in
-    room_judged _ _ _ _ _ _ _ (rw e.enum_told-1.given.1 at e.check_ends-named.ensures) (omega arith) c.check_room.result
+    room_judged _ _ _ _ _ _ _ (rw e.in_default.is at e.check_ends-named.ensures) (omega arith) c.check_room.result
     c.check_room.ensures
 
 pub check_last_spec : {M : Type 1} → statement M

@@ -47,7 +47,7 @@ taken_as c v e =
 
 -- ── they passed ──
 abbrev limited : tie.In_default → tie.After-take_limits-taken
-limited c = c.before.before
+limited c = c.before
 
 abbrev start : tie.In_default → tie.Start
 start c = begun (limited c)
@@ -55,7 +55,7 @@ start c = begun (limited c)
 taken : (c : tie.In_default)
     → LimitsTaken (start c).args.sizes.edges (atℤ (start c).args.capacities.now) (atℤ (capacities' (limited c))) (start c).args.capture.now
     (start c).args.after.window (start c).args.after.named Passed
-taken c = taken_as (limited c) Passed c.enum_told-1.given.1
+taken c = taken_as (limited c) Passed c.in_default.is
 
 -- ── the last checks ──
 abbrev told : tie.After-check_last-last → tie.In_default
@@ -63,29 +63,29 @@ told c = c.before
 
 last_as : (c : tie.After-check_last-last) (v : Verdict) → c.check_last-last.result ≡ v →
     let a = (start (told c)).args in
-    Judged (last_checks a.sizes.nodes a.sizes.edges a.after.source a.after.sink a.limits-1.now a.flows-1.now a.set-1.now) v
+    Judged (last_checks a.sizes.nodes a.sizes.edges a.after.source a.after.sink a.limits.now a.flows.now a.set.now) v
 last_as c v e = rw e at c.check_last-last.ensures
 
 -- ── all passed ──
 abbrev checked : tie.In_default-last → tie.In_default
-checked c = told c.before.before
+checked c = told c.before
 
 abbrev home : tie.After-words_for-words → tie.Start
 home c = start (checked c.before)
 
 last : (c : tie.In_default-last) →
     let a = (start (checked c)).args in
-    NoneOf (last_checks a.sizes.nodes a.sizes.edges a.after.source a.after.sink a.limits-1.now a.flows-1.now a.set-1.now)
-last c = last_as c.before.before Passed c.enum_told-in_default-last-1.given.1
+    NoneOf (last_checks a.sizes.nodes a.sizes.edges a.after.source a.after.sink a.limits.now a.flows.now a.set.now)
+last c = last_as c.before Passed c.in_default-last.is
 
 -- the checks of Largest, and room for the limits
 roomy : (c : tie.After-words_for-words) →
     let a = (home c).args in
-    NoneOf (search_checks a.sizes.nodes a.sizes.edges a.after.source a.after.sink a.flows-1.now a.set-1.now)
-    × (a.sizes.edges ≤ length a.limits-1.now)
+    NoneOf (search_checks a.sizes.nodes a.sizes.edges a.after.source a.after.sink a.flows.now a.set.now)
+    × (a.sizes.edges ≤ length a.limits.now)
 roomy c =
     let a = (home c).args in
-    last_search a.sizes.nodes a.sizes.edges a.after.source a.after.sink a.limits-1.now a.flows-1.now a.set-1.now (last c.before)
+    last_search a.sizes.nodes a.sizes.edges a.after.source a.after.sink a.limits.now a.flows.now a.set.now (last c.before)
 
 -- the capacities are those found
 are : (c : tie.In_default-last) →
@@ -106,12 +106,12 @@ take-limits-requires c κs = let p = c.requires in (p.0, p.1.drawn.few_edges)
 returns : tie.Need-returns-in-Refused
 returns c =
     let k = c in
-    let a = (begun k.before.before.before).args in (
+    let a = (begun k.before).args in (
       refl,
       (
-        taking_refused (drawing (begun k.before.before.before)) a.capture.now a.after.window a.after.named a.after.source a.after.sink a.limits-1.now
-            a.flows-1.now a.set-1.now _ _
-            (taken_as k.before.before.before (Refused _ _) c.taken-1.given.1),
+        taking_refused (drawing (begun k.before)) a.capture.now a.after.window a.after.named a.after.source a.after.sink a.limits.now
+            a.flows.now a.set.now _ _
+            (taken_as k.before (Refused _ _) c.in-Refused.is),
         refl,
         refl,
       ),
@@ -123,13 +123,13 @@ check-last-requires c κs = (start c).requires.1.drawn.few_nodes
 returns-2 : tie.Need-returns-in-Refused-last
 returns-2 c =
     let k = c in
-    let t = told k.before.before.before in
+    let t = told k.before in
     let a = (start t).args in (
       refl,
       (
-        last_refused (drawing (start t)) a.capture.now a.after.window a.after.named a.after.source a.after.sink a.limits-1.now
-            a.flows-1.now a.set-1.now
-            (taken t).0 _ _ (last_as k.before.before.before (Refused _ _) c.last-1.given.1),
+        last_refused (drawing (start t)) a.capture.now a.after.window a.after.named a.after.source a.after.sink a.limits.now
+            a.flows.now a.set.now
+            (taken t).0 _ _ (last_as k.before (Refused _ _) c.in-Refused-last.is),
         refl,
         refl,
       ),
@@ -155,13 +155,13 @@ part-largest-end : tie.Need-slice_bounds-largest-end
 part-largest-end c =
     let h = wrote c.before in
     let a = (home h).args in
-    flows_in (found_at h) a.after.source a.after.sink a.flows-1.now a.set-1.now (roomy h).0
+    flows_in (found_at h) a.after.source a.after.sink a.flows.now a.set.now (roomy h).0
 
 part-largest-end-2 : tie.Need-slice_bounds-largest-end-2
 part-largest-end-2 c =
     let h = wrote c.before.before in
     let a = (home h).args in
-    omega (arith, words_in (found_at h) a.after.source a.after.sink a.flows-1.now a.set-1.now (roomy h).0, h.words_for-words.ensures)
+    omega (arith, words_in (found_at h) a.after.source a.after.sink a.flows.now a.set.now (roomy h).0, h.words_for-words.ensures)
 
 largest-requires : tie.Need-largest-requires
 largest-requires c κs =
@@ -189,11 +189,11 @@ returns-3 c =
     let t = h in
     let s = start (checked t.before) in
     let a = s.args in
-    largest_given (drawing s) a.capture.now a.after.window a.after.named a.after.source a.after.sink a.limits-1.now
-    a.flows-1.now a.set-1.now
+    largest_given (drawing s) a.capture.now a.after.window a.after.named a.after.source a.after.sink a.limits.now
+    a.flows.now a.set.now
     (taken (checked t.before)).0 (atℤ (capacities' (limited (checked t.before)))) (taken (checked t.before)).1 (last t.before) _ _ _ k.largest.result
-    (part_filled a.sizes.edges a.limits-1.now _ _ w.write_limits.ensures)
-    (largest_back (found_at h) a.after.source a.after.sink a.flows-1.now a.set-1.now (roomy h).0 h.words_for-words.result h.words_for-words.ensures
+    (part_filled a.sizes.edges a.limits.now _ _ w.write_limits.ensures)
+    (largest_back (found_at h) a.after.source a.after.sink a.flows.now a.set.now (roomy h).0 h.words_for-words.result h.words_for-words.ensures
     _ _ k.largest.result k.largest.ensures)
 
 pub largest_after_spec : {M : Type 1} → statement M

@@ -13,10 +13,10 @@ use Rattle.capture.proofs.take_limits.Tie as tie
 
 -- ── the window is in range ──
 abbrev start : tie.In_default → tie.Start
-start c = c.before.before.before.before
+start c = c.before.before.before
 
 ranged : (c : tie.In_default) → NoneOf (window_checks (start c).args.capture.now (start c).args.window (start c).args.named)
-ranged c = rw c.enum_told-1.given.1 at c.check_window-ranged.ensures
+ranged c = rw c.in_default.is at c.check_window-ranged.ensures
 
 inside : (c : tie.In_default)
     → (1 ≤ (start c).args.window) × ((start c).args.window ≤ 256) × (11 * ((start c).args.named + 1) ≤ length (start c).args.capture.now)
@@ -24,24 +24,24 @@ inside c = window_inside (start c).args.capture.now (start c).args.window (start
 
 -- ── the capture is whole ──
 abbrev in-range : tie.In_default-whole → tie.In_default
-in-range c = c.before.before.before
+in-range c = c.before.before
 
 whole : (c : tie.In_default-whole) → NoneOf (records_checks (start (in-range c)).args.edges (start (in-range c)).args.capture.now)
-whole c = rw c.enum_told-in_default-whole-1.given.1 at c.check_capture-whole.ensures
+whole c = rw c.in_default-whole.is at c.check_capture-whole.ensures
 
 -- ── the needs, in the order of the code ──
 returns : tie.Need-returns-in-Refused
 returns c =
     let k = c in
     let s = k in
-    (s.requires.0, window_refused _ _ (atℤ s.args.capacities.now) _ _ _ _ _ (rw c.ranged-1.given.1 at k.check_window-ranged.ensures))
+    (s.requires.0, window_refused _ _ (atℤ s.args.capacities.now) _ _ _ _ _ (rw c.in-Refused.is at k.check_window-ranged.ensures))
 
 returns-2 : tie.Need-returns-in-Refused-whole
 returns-2 c =
     let k = c in
-    let s = start k.before.before.before.before in (
+    let s = start k.before.before in (
       s.requires.0,
-      records_refused _ _ (atℤ s.args.capacities.now) _ _ _ (ranged k.before.before.before.before) _ _ (rw c.whole-1.given.1 at
+      records_refused _ _ (atℤ s.args.capacities.now) _ _ _ (ranged k.before.before) _ _ (rw c.in-Refused-whole.is at
           k.check_capture-whole.ensures),
     )
 

@@ -68,14 +68,14 @@ not_full (Full t' e' x') t e x (inl one) h = omega arith
 not_full (Full t' e' x') t e x (inr one) h = omega arith
 
 -- its edge
-channel : (e : tie.In-Full-2 invariant-loop decreases-loop)
-    → e.entry-1.given.0.1.0 ≡ channel_of (begin e.before.before).args.capture.now (number e.before.before)
-channel e = let k = e in full_channel _ _ _ _ _ (found k.before.before ∙ e.entry-1.given.1)
+channel : (e : tie.In-Full invariant-loop decreases-loop)
+    → e.in-Full.edge ≡ channel_of (begin e.before).args.capture.now (number e.before)
+channel e = let k = e in full_channel _ _ _ _ _ (found k.before ∙ e.in-Full.is)
 
-few : (e : tie.In-Full-2 invariant-loop decreases-loop) → e.entry-1.given.0.1.0 < 512
+few : (e : tie.In-Full invariant-loop decreases-loop) → e.in-Full.edge < 512
 few e =
     let k = e in
-    omega (arith, channel e, passed_channel (begin k.before.before).args.edges (begin k.before.before).args.capture.now (number k.before.before) (passed k.before.before), (turn k.before.before).loop-i.invariant.1)
+    omega (arith, channel e, passed_channel (begin k.before).args.edges (begin k.before).args.capture.now (number k.before) (passed k.before), (turn k.before).loop-i.invariant.1)
 
 -- ── the needs, in the order of the code ──
 loop-holds : tie.Need-loop-i-init invariant-loop decreases-loop
@@ -90,8 +90,8 @@ mul-entry-at c =
 take-limit-requires : tie.Need-take_limit-requires invariant-loop decreases-loop
 take-limit-requires c κs =
     let e = c in
-    let τ = (turn e.before.before.before.before.before.before).loop-i.invariant.4 in
-    (τ.marks_long, τ.long, omega (arith, c.wide.ensures, few e.before.before.before.before))
+    let τ = (turn e.before.before.before.before).loop-i.invariant.4 in
+    (τ.marks_long, τ.long, omega (arith, c.wide.ensures, few e.before.before.before))
 
 loop-less : tie.Need-loop-i-smaller-in-Full invariant-loop decreases-loop
 loop-less c = omega arith
@@ -102,13 +102,13 @@ loop-again c =
     let told = w in
     let e = told in
     let k = e in
-    let i = (turn k.before.before.before.before.before.before.before).loop-i in (
+    let i = (turn k.before.before.before.before.before).loop-i in (
       omega arith,
       i.invariant.1,
       i.invariant.2,
       i.invariant.3,
-      taken_step _ _ _ i.invariant.4 w.wide.result _ (w.wide.ensures ∙ channel e.before.before.before.before.before) (omega (arith, w.wide.ensures, few e.before.before.before.before.before))
-          (number_of_bits _ (record { sfits = told.known_told-1.given.1.1.0.1 }) ∙ full_limit _ _ _ _ _ (found k.before.before.before.before.before.before.before ∙ e.entry-1.given.1))
+      taken_step _ _ _ i.invariant.4 w.wide.result _ (w.wide.ensures ∙ channel e.before.before.before.before) (omega (arith, w.wide.ensures, few e.before.before.before.before))
+          (number_of_bits _ (record { sfits = told.known_told-1.given.1.1.0.1 }) ∙ full_limit _ _ _ _ _ (found k.before.before.before.before.before ∙ e.in-Full.is))
           c.take_limit.ensures.0 c.take_limit.ensures.1,
     )
 

@@ -6,10 +6,10 @@ use Rattle.desk.proofs.claims_none.Statement.{statement}
 use Rattle.desk.proofs.claims_none.Tie as tie
 
 returns : tie.Need-returns-in-Value
-returns c = λ e. no_value _ (sym e ∙ c.claim-1.given.1)
+returns c = λ e. no_value _ (sym e ∙ c.in-Value.is)
 
 returns-2 : tie.Need-returns-in-None
-returns-2 c = c.enum_told-1.given.1
+returns-2 c = c.in-None.is
 
 pub claims_none_spec : {M : Type 1} → statement M
 claims_none_spec = tie.close (tie.spec (λ c. search rules) (λ c. search rules) returns returns-2)

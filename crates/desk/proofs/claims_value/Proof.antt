@@ -8,10 +8,10 @@ use Rattle.desk.proofs.claims_value.Tie as tie
 returns : tie.Need-returns-in-Value
 returns c =
     let s = c in
-    claim_decides _ _ s.args.claim _ c.claim-1.given.1 (record { sfits = c.known_told-1.given.0.1 }) s.ranges.v refl
+    claim_decides _ _ s.args.claim _ c.in-Value.is (record { sfits = c.known_told-1.given.0.1 }) s.ranges.v refl
 
 returns-2 : tie.Need-returns-in-None
-returns-2 c = λ e. no_value _ (sym c.enum_told-1.given.1 ∙ e)
+returns-2 c = λ e. no_value _ (sym c.in-None.is ∙ e)
 
 pub claims_value_spec : {M : Type 1} → statement M
 claims_value_spec = tie.close (tie.spec (λ c. search rules) (λ c. search rules) returns returns-2)

@@ -22,22 +22,22 @@ examine-counted-requires c κs =
     let m = c in
     let n = m in
     let e = n in
-    let given = said e.before.before.before.before.before.before (Counts _ _) e.counted-in-Counts-1.given.1 in
+    let given = said e.before.before.before.before (Counts _ _) e.in-Counts.is in
     (given.0, n.wide.ensures ∙ given.1, m.wide-in-Counts.ensures ∙ given.2)
 
 returns : tie.Need-returns-in-Refused
 returns c =
     let k = c in
-    let a = (start k.before.before.before).args in
-    (sheet_refused a.sheet.now a.source a.sink a.value _ _ _ _ _ _ _ (said k.before.before.before (Refused _ _) c.counted-1.given.1), refl)
+    let a = (start k.before).args in
+    (sheet_refused a.sheet.now a.source a.sink a.value _ _ _ _ _ _ _ (said k.before (Refused _ _) c.in-Refused.is), refl)
 
 returns-2 : tie.Need-returns-in-Counts
 returns-2 c =
     let x = c in
     let e = x in
-    let s = start e.before.before.before.before.before.before.before.before.before in
+    let s = start e.before.before.before.before.before.before.before in
     let a = s.args in
-    examined_as a.sheet.now a.source a.sink a.value _ a.claims.now a.kinds.now a.settings.now a.sets.now a.points-1.now
+    examined_as a.sheet.now a.source a.sink a.value _ a.claims.now a.kinds.now a.settings.now a.sets.now a.points.now
     x.examine_counted.new.points x.examine_counted.result (number_of_bits _ s.fits.value) x.examine_counted.ensures
 
 pub examine_spec : {M : Type 1} → statement M

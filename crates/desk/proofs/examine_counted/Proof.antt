@@ -33,40 +33,40 @@ asked c v e =
 returns : tie.Need-returns-in-Refused
 returns c =
     let q = c in
-    let s = begun q.before.before.before in
+    let s = begun q.before in
     let a = s.args in
-    (question_refused a.sheet.now a.source a.sink a.value _ _ _ _ _ s.requires.0 _ _ (asked q.before.before.before (Refused _ _) c.asked-1.given.1), refl)
+    (question_refused a.sheet.now a.source a.sink a.value _ _ _ _ _ s.requires.0 _ _ (asked q.before (Refused _ _) c.in-Refused.is), refl)
 
 -- ── 32 and 16 ──
 abbrev first : tie.After-check_class-room → tie.After-check_question-asked
-first c = c.before.before.before
+first c = c.before.before
 
 abbrev start : tie.After-check_class-room → tie.Start
 start c = begun (first c)
 
 check-class-requires : tie.Need-check_class-room-requires
 check-class-requires c κs =
-    let s = begun c.before.before in
+    let s = begun c.before in
     let few = counts_fit _ s.requires.0 in
     (omega (arith, few.0, s.requires.1), omega (arith, few.1, s.requires.2))
 
 passed : (c : tie.After-check_class-room)
     → NoneOf (end_checks (nodes_of (start c).args.sheet.now) (start c).args.source (start c).args.sink ++ value_checks (start c).args.value)
-passed c = asked (first c) Passed c.enum_told-1.given.1
+passed c = asked (first c) Passed c.in_default.is
 
 returns-2 : tie.Need-returns-in-Refused-room
 returns-2 c =
     let k = c in
-    let s = start k.before.before.before in
+    let s = start k.before in
     let a = s.args in (
-      class_refused a.sheet.now a.source a.sink a.value _ _ _ _ _ s.requires.0 (passed k.before.before.before) _ _
-          (class_as _ _ _ _ _ _ _ _ _ _ (Refused _ _) k.check_class-room.ensures s.requires.1 s.requires.2 c.room-1.given.1),
+      class_refused a.sheet.now a.source a.sink a.value _ _ _ _ _ s.requires.0 (passed k.before) _ _
+          (class_as _ _ _ _ _ _ _ _ _ _ (Refused _ _) k.check_class-room.ensures s.requires.1 s.requires.2 c.in-Refused-room.is),
       refl,
     )
 
 -- ── the class is accepted ──
 abbrev checked : tie.In_default-room → tie.After-check_class-room
-checked c = c.before.before
+checked c = c.before
 
 abbrev base : tie.In_default-room → tie.Start
 base c = start (checked c)
@@ -75,7 +75,7 @@ accepted : (c : tie.In_default-room)
     → NoneOf (class_checks (nodes_of (base c).args.sheet.now) (edges_of (base c).args.sheet.now) (length (base c).args.claims.now)
     (length (base c).args.kinds.now) (length (base c).args.settings.now) (length (base c).args.sets.now) (length (base c).args.points.now))
 accepted c =
-    class_as _ _ _ _ _ _ _ _ _ _ Passed (checked c).check_class-room.ensures (base c).requires.1 (base c).requires.2 c.enum_told-in_default-room-1.given.1
+    class_as _ _ _ _ _ _ _ _ _ _ Passed (checked c).check_class-room.ensures (base c).requires.1 (base c).requires.2 c.in_default-room.is
 
 returns-3 : tie.Need-returns-then-n-eq0
 returns-3 c =
@@ -98,7 +98,7 @@ room : (c : tie.In_default-room)
     × (length (base c).args.claims.now * (base c).args.edges ≤ length (base c).args.settings.now)
     × (length (base c).args.claims.now * words_for (base c).args.nodes ≤ length (base c).args.sets.now)
     × (length (base c).args.claims.now ≤ length (base c).args.points.now)
-room c = class_room _ _ _ _ _ _ _ (class_as _ _ _ _ _ _ _ _ _ _ Passed (checked c).check_class-room.ensures refl refl c.enum_told-in_default-room-1.given.1)
+room c = class_room _ _ _ _ _ _ _ (class_as _ _ _ _ _ _ _ _ _ _ Passed (checked c).check_class-room.ensures refl refl c.in_default-room.is)
 
 mark-papers-requires : tie.Need-mark_papers-requires
 mark-papers-requires c κs =

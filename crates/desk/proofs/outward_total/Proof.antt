@@ -25,15 +25,15 @@ found c answer e = rw e at c.totals-answer.ensures
 returns : tie.Need-returns-in-Total
 returns c =
     let t = c in
-    let s = start t.before.before.before.before in
+    let s = start t.before.before in
     number_of_bits _ (record { sfits = c.known_told-1.given.0.1 })
-    ∙ total_is _ _ s.requires.0 s.requires.1 (out' t.before.before.before.before) _ (found t.before.before.before.before (totals.Total _) c.answer-1.given.1)
+    ∙ total_is _ _ s.requires.0 s.requires.1 (out' t.before.before) _ (found t.before.before (totals.Total _) c.in-Total.is)
 
 returns-2 : tie.Need-returns-in-Refused
 returns-2 c =
     let t = c in
-    let s = start t.before.before.before.before in
-    absurd (total_never_refused _ _ s.requires.0 s.requires.1 (out' t.before.before.before.before) _ _ (found t.before.before.before.before (totals.Refused _ _) c.answer-in-Refused-1.given.1))
+    let s = start t.before.before in
+    absurd (total_never_refused _ _ s.requires.0 s.requires.1 (out' t.before.before) _ _ (found t.before.before (totals.Refused _ _) c.in-Refused.is))
 
 pub outward_total_spec : {M : Type 1} → statement M
 outward_total_spec =

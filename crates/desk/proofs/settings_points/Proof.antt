@@ -21,15 +21,15 @@ returns : tie.Need-returns-in-Value
 returns c =
     let t = c in
     let m = t in
-    let s = start m.before.before.before.before in
-    marked_earns _ _ _ s.requires.0 s.args.value _ s.args.settings.now _ s.requires.1 (found m.before.before.before.before (mark.Value _) t.answer-1.given.1)
+    let s = start m.before.before in
+    marked_earns _ _ _ s.requires.0 s.args.value _ s.args.settings.now _ s.requires.1 (found m.before.before (mark.Value _) t.in-Value.is)
     (earns_same _ _ _ _ _ (number_of_bits _ (record { sfits = t.known_told-1.given.0.1 })) (number_of_bits _ s.fits.value) c.value_asked.ensures)
 
 returns-2 : tie.Need-returns-in-Refused
 returns-2 c =
     let m = c in
-    let s = start m.before.before.before in
-    refused_earns _ _ _ s.requires.0 s.args.value _ _ s.args.settings.now s.requires.1 (found m.before.before.before (mark.Refused _ _) c.answer-in-Refused-1.given.1)
+    let s = start m.before in
+    refused_earns _ _ _ s.requires.0 s.args.value _ _ s.args.settings.now s.requires.1 (found m.before (mark.Refused _ _) c.in-Refused.is)
 
 pub settings_points_spec : {M : Type 1} → statement M
 settings_points_spec =

@@ -34,10 +34,10 @@ ends-judged : (c : tie.After-check_ends-ends) (v : Verdict) → c.check_ends-end
 ends-judged c v e = ends_as c.wide.ensures c.wide-2.ensures (start c).args.nodes v (rw e at c.check_ends-ends.ensures)
 
 abbrev base : tie.In_default → tie.Start
-base c = start c.before.before
+base c = start c.before
 
 two : (c : tie.In_default) → NoneOf (end_checks (base c).args.nodes (base c).args.source (base c).args.sink)
-two c = ends-judged c.before.before Passed c.enum_told-1.given.1
+two c = ends-judged c.before Passed c.in_default.is
 
 -- ── 22 ──
 none : (c : tie.Else-some_negative) → BelowZero (2 * (base c.before.before).args.edges) (atℤ (base c.before.before).args.capacities.now) → ⊥
@@ -61,8 +61,8 @@ text-back n out text y end e h =
 returns : tie.Need-returns-in-Refused
 returns c =
     let e = c in
-    let s = start e.before.before.before in
-    (text_ends (drawing s) s.args.source s.args.sink s.args.out.now _ _ (ends-judged e.before.before.before (Refused _ _) c.ends-1.given.1), refl)
+    let s = start e.before in
+    (text_ends (drawing s) s.args.source s.args.sink s.args.out.now _ _ (ends-judged e.before (Refused _ _) c.in-Refused.is), refl)
 
 some-negative-requires : tie.Need-some_negative-requires
 some-negative-requires c κs = omega (arith, (base c).requires.1)

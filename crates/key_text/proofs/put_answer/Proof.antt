@@ -61,32 +61,32 @@ module _ (c : tie.After-solve-answer) (b : List ℕ) (question : NoneOf (record_
 
 -- ── the places: where each answer is told, and where its numbers are read ──
 abbrev can : tie.In-Can → tie.After-solve-answer
-can c = c.before.before.before.before
+can c = c.before.before.before
 
 abbrev can-told : tie.After-edges_of → tie.In-Can
 can-told c = c.before.before
 
-abbrev cannot : tie.In-Cannot-2 → tie.After-solve-answer
-cannot c = c.before.before.before.before
+abbrev cannot : tie.In-Cannot → tie.After-solve-answer
+cannot c = c.before.before.before
 
-abbrev cannot-told : tie.After-nodes_of → tie.In-Cannot-2
-cannot-told c = c.before.before.before
+abbrev cannot-told : tie.After-nodes_of → tie.In-Cannot
+cannot-told c = c.before.before
 
-abbrev refused : tie.In-Refused-2 → tie.After-solve-answer
-refused c = c.before.before.before.before
+abbrev refused : tie.In-Refused → tie.After-solve-answer
+refused c = c.before.before.before
 
 -- ── the needs, in the order of the code: it can ──
 edges-of-requires : tie.Need-edges_of-requires
 edges-of-requires c κs =
     let t = c in
     let a = can t.before in
-    head_there _ _ _ _ _ (flows' a) _ (set' a) (solved a Can t.enum_told-1.given.1).0.0
+    head_there _ _ _ _ _ (flows' a) _ (set' a) (solved a Can t.in-Can.is).0.0
 
 put-can-requires : tie.Need-put_can-requires
 put-can-requires c κs =
     let t = can-told c.before in
     let a = can t in
-    let h = (solved a Can t.enum_told-1.given.1).0 in
+    let h = (solved a Can t.in-Can.is).0 in
     let few = few_edges _ _ _ _ _ (flows' a) _ (set' a) h.0 in
     let e = c.edges_of.ensures in (
       omega (arith, few, e, (start a).requires),
@@ -104,7 +104,7 @@ returns c b question sheet source sink value =
     let s = start a in
     can_printed b question no_flows (flows' a) no_set (set' a) long wide s.args.text.now p.put_can.new.text s.requires p.put_can.result _
     (value-is a ∙ sym value)
-    (solved-of a b question sheet source sink value Can t.enum_told-1.given.1)
+    (solved-of a b question sheet source sink value Can t.in-Can.is)
     _
     (edges.edges_of.ensures ∙ ap edges_of (sym sheet))
     p.put_can.ensures
@@ -113,14 +113,14 @@ returns c b question sheet source sink value =
 nodes-of-requires : tie.Need-nodes_of-requires
 nodes-of-requires c κs =
     let t = c in
-    let a = cannot t.before.before in
-    head_there _ _ _ _ _ (flows' a) _ (set' a) (solved a (Cannot _) t.answer-1.given.1).0.0
+    let a = cannot t.before in
+    head_there _ _ _ _ _ (flows' a) _ (set' a) (solved a (Cannot _) t.in-Cannot.is).0.0
 
 put-cannot-requires : tie.Need-put_cannot-requires
 put-cannot-requires c κs =
     let t = cannot-told c.before in
     let a = cannot t in
-    let h = (solved a (Cannot _) t.answer-1.given.1).0 in
+    let h = (solved a (Cannot _) t.in-Cannot.is).0 in
     let few = few_nodes _ _ _ _ _ (flows' a) _ (set' a) h.0 in
     let e = c.nodes_of.ensures in (
       omega (arith, few, e, (start a).requires),
@@ -139,25 +139,25 @@ returns-2 c b question sheet source sink value =
     (value-is a ∙ sym value)
     _
     nodes.known_told-1.given.0.1
-    (solved-of a b question sheet source sink value (Cannot _) t.answer-1.given.1)
+    (solved-of a b question sheet source sink value (Cannot _) t.in-Cannot.is)
     _
     (nodes.nodes_of.ensures ∙ ap nodes_of (sym sheet))
     p.put_cannot.ensures
 
 -- ── refused ──
 put-refused-requires : tie.Need-put_refused-requires
-put-refused-requires c κs = omega (arith, (start (refused c.before.before)).requires)
+put-refused-requires c κs = omega (arith, (start (refused c.before)).requires)
 
 returns-3 : tie.Need-returns-in-Refused
 returns-3 c b question sheet source sink value =
     let p = c in
     let known = p in
     let t = known in
-    let a = refused t.before.before.before.before.before in
+    let a = refused t.before.before.before.before in
     let s = start a in
     refused_printed b question no_flows (flows' a) no_set (set' a) long wide s.args.text.now p.Put-refused.new.0 s.requires p.Put-refused.result _ _
     known.known_told-in-Refused-1.given.0.1
-    (solved-of a b question sheet source sink value (Refused _ _) t.answer-in-Refused-1.given.1)
+    (solved-of a b question sheet source sink value (Refused _ _) t.in-Refused.is)
     p.Put-refused.ensures
 
 pub put_answer_spec : {M : Type 1} → statement M

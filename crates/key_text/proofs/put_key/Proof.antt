@@ -24,10 +24,10 @@ judged c v e = rw e at c.check_record-whole.ensures
 
 -- ── the question is whole ──
 abbrev asked : tie.In_default → tie.After-check_record-whole
-asked c = c.before.before
+asked c = c.before
 
 passed : (c : tie.In_default) → NoneOf (record_checks (begin (asked c)).args.input.now 3 0)
-passed c = judged (asked c) Passed c.enum_told-1.given.1
+passed c = judged (asked c) Passed c.in_default.is
 
 whole : (c : tie.In_default) → 9 ≤ length (begin (asked c)).args.input.now
 whole c = question_whole (begin (asked c)).args.input.now (passed c)
@@ -37,10 +37,10 @@ returns : tie.Need-returns-in-Refused
 returns c =
     let p = c in
     let w = p in
-    let s = begin w.before.before.before.before.before.before.before in
+    let s = begin w.before.before.before.before.before in
     let fits = refused_text_length _ p.known_told-1.given.0.1 in
     question_refused s.args.input.now s.args.text.now p.Put-refused.new.0 p.Put-refused.result _ _
-    (judged w.before.before.before.before.before.before.before (Refused _ _) w.whole-1.given.1)
+    (judged w.before.before.before.before.before (Refused _ _) w.in-Refused.is)
     p.Put-refused.ensures
     (omega (arith, fits, s.requires))
 

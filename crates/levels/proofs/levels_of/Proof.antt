@@ -58,11 +58,11 @@ lent-faces c = let s = given c in part_length s.args.faces (levelsOf s) c.if-lev
 
 -- ── 17 did not refuse ──
 abbrev roomy : tie.In_default → tie.Else-levels-faces
-roomy c = c.before.before.before.before
+roomy c = c.before.before.before
 
 within-lent : (c : tie.In_default)
     → NoneOf (within_checks (drawing (given (roomy c))).map.edges (drawing (given (roomy c))).capacity (atℤ (lentFlows (given (roomy c)))))
-within-lent c = rw c.enum_told-1.given.1 at c.check_within-within.ensures
+within-lent c = rw c.in_default.is at c.check_within-within.ensures
 
 within : (c : tie.In_default)
     → NoneOf (within_checks (drawing (given (roomy c))).map.edges (drawing (given (roomy c))).capacity (atℤ (flows_of (given (roomy c)))))
@@ -84,11 +84,11 @@ judged : (c : tie.After-check_all_balanced-balanced) (v : Verdict) → c.check_a
 judged c v e = let s = given (roomy (limited c)) in part_balance (drawing s).map (flows_of s) NoNode v (judged-lent c v e)
 
 abbrev asked : tie.In_default-balanced → tie.After-check_all_balanced-balanced
-asked c = c.before.before
+asked c = c.before
 
 balanced : (c : tie.In_default-balanced)
     → NoneOf (balance_checks (drawing (given (roomy (limited (asked c))))).map NoNode (atℤ (flows_of (given (roomy (limited (asked c)))))))
-balanced c = judged (asked c) Passed c.enum_told-in_default-balanced-1.given.1
+balanced c = judged (asked c) Passed c.in_default-balanced.is
 
 -- the faces that the code counts are those of the map
 written_back : {n : ℕ} (m : ℕ) (l : List ℤ) (x : ℕ → ℤ) (y : List ℤ) → m ≡ n → y ≡ filled n x (take (m - 0) l) → y ++ drop (m - 0) l ≡ filled n x l
@@ -111,9 +111,9 @@ returns-3 : tie.Need-returns-in-Refused
 returns-3 c =
     let w = c in
     let r = w in
-    let s = given r.before.before.before.before.before in (
-      balanced_within (drawing s) (flows_of s) (levelsOf s) (room-edges r.before.before.before.before.before) (room-faces r.before.before.before.before.before) _ _
-          (part_within (drawing s).map (flows_of s) (drawing s).capacity (Refused _ _) (rw c.within-1.given.1 at w.check_within-within.ensures)),
+    let s = given r.before.before.before in (
+      balanced_within (drawing s) (flows_of s) (levelsOf s) (room-edges r.before.before.before) (room-faces r.before.before.before) _ _
+          (part_within (drawing s).map (flows_of s) (drawing s).capacity (Refused _ _) (rw c.in-Refused.is at w.check_within-within.ensures)),
       refl,
     )
 
@@ -126,11 +126,11 @@ check-all-balanced-requires c κs =
 returns-4 : tie.Need-returns-in-Refused-balanced
 returns-4 c =
     let b = c in
-    let t = limited b.before.before.before in
+    let t = limited b.before in
     let r = roomy t in
     let s = given r in (
       balanced_balance (drawing s) (flows_of s) (levelsOf s) (room-edges r) (room-faces r) (within t) _ _
-          (judged b.before.before.before (Refused _ _) c.balanced-1.given.1),
+          (judged b.before (Refused _ _) c.in-Refused-balanced.is),
       refl,
     )
 
@@ -156,7 +156,7 @@ returns-5 c =
       (
         atℤ lent',
         levels_agree (drawing s).map s.args.outer (atℤ (lentFlows s)) (atℤ (flows_of s)) (atℤ lent') (part_flows (drawing s).map (flows_of s))
-            (found s.requires.0 (lentFlows s) (lentLevels s) lent' w.ensures (judged-lent (asked m.before.before.before) Passed m.enum_told-in_default-balanced-1.given.1)),
+            (found s.requires.0 (lentFlows s) (lentLevels s) lent' w.ensures (judged-lent (asked m.before.before.before) Passed m.in_default-balanced.is)),
         written_back s.args.faces (levelsOf s) (atℤ lent') lent' s.requires.0.counted
             (in_place s.requires.0 (lentFlows s) (lentLevels s) lent' w.ensures (omega (arith, lent-faces r))),
       ),

@@ -73,12 +73,12 @@ judged c v e =
     levels_judged s.requires (walked c).roots_of-count.ensures.1 (atℤ (lentLevels s)) (atℤ (levelsOf s)) (same s) v (rw e at c.check_levels-judged.ensures)
 
 abbrev levelled : tie.In_default → tie.Else-levels-faces
-levelled c = roomy c.before.before
+levelled c = roomy c.before
 
 inside : (c : tie.In_default)
     → NoneOf (level_checks (faces (drawing (given (levelled c))).map) (ZeroFace (drawing (given (levelled c))).map (given (levelled c)).args.outer)
     (atℤ (levelsOf (given (levelled c)))))
-inside c = judged c.before.before Passed c.enum_told-1.given.1
+inside c = judged c.before Passed c.in_default.is
 
 ready : (c : tie.In_default) → HaveLevels (given (levelled c)).args.edges (at (given (levelled c)).args.lefts.now) (lentLevels (given (levelled c)))
 ready c =
@@ -86,8 +86,8 @@ ready c =
     let r = levelled c in
     let s = given r in
     levels_ready s.requires (lentLevels s) (omega (arith, lent-faces r, s.requires.counted))
-    (levels_judged s.requires (walked k.before.before).roots_of-count.ensures.1 (atℤ (lentLevels s)) (atℤ (lentLevels s)) (λ f l. refl) Passed
-    (rw c.enum_told-1.given.1 at k.check_levels-judged.ensures))
+    (levels_judged s.requires (walked k.before).roots_of-count.ensures.1 (atℤ (lentLevels s)) (atℤ (lentLevels s)) (λ f l. refl) Passed
+    (rw c.in_default.is at k.check_levels-judged.ensures))
 
 -- ── 17 did not refuse ──
 abbrev limited : tie.After-check_differences-within → tie.In_default
@@ -130,9 +130,9 @@ check-levels-requires c κs =
 returns-3 : tie.Need-returns-in-Refused
 returns-3 c =
     let l = c in
-    let r = roomy l.before.before.before in
+    let r = roomy l.before in
     let s = given r in (
-      leveled_levels (drawing s) (levelsOf s) (flows_of s) (room-edges r) (room-faces r) _ _ (judged l.before.before.before (Refused _ _) c.judged-1.given.1),
+      leveled_levels (drawing s) (levelsOf s) (flows_of s) (room-edges r) (room-faces r) _ _ (judged l.before (Refused _ _) c.in-Refused.is),
       refl,
     )
 
@@ -142,19 +142,19 @@ check-differences-requires c κs = ((given (levelled c)).requires.few_edges, rea
 returns-4 : tie.Need-returns-in-Refused-within
 returns-4 c =
     let d = c in
-    let t = limited d.before.before.before in
+    let t = limited d.before in
     let r = levelled t in
     let s = given r in (
-      leveled_within (drawing s) (levelsOf s) (flows_of s) (room-edges r) (room-faces r) (inside t) _ _ (kept d.before.before.before (Refused _ _) c.within-1.given.1),
+      leveled_within (drawing s) (levelsOf s) (flows_of s) (room-edges r) (room-faces r) (inside t) _ _ (kept d.before (Refused _ _) c.in-Refused-within.is),
       refl,
     )
 
 part-fill-differences-end : tie.Need-slice_bounds-fill_differences-end
-part-fill-differences-end c = room-edges (levelled (limited c.before.before))
+part-fill-differences-end c = room-edges (levelled (limited c.before))
 
 fill-differences-requires : tie.Need-fill_differences-requires
 fill-differences-requires c κs =
-    let t = limited c.before.before.before in
+    let t = limited c.before.before in
     let r = levelled t in
     let s = given r in
     (s.requires.few_edges, part_length s.args.edges (flows_of s) (room-edges r), ready t)
@@ -163,10 +163,10 @@ returns-5 : tie.Need-returns
 returns-5 c =
     let m = c in
     let d = m in
-    let t = limited d.before.before.before.before.before in
+    let t = limited d.before.before.before.before in
     let r = levelled t in
     let s = given r in (
-      leveled_none (drawing s) (levelsOf s) (flows_of s) (room-edges r) (room-faces r) (inside t) (kept d.before.before.before.before.before Passed m.enum_told-in_default-within-1.given.1),
+      leveled_none (drawing s) (levelsOf s) (flows_of s) (room-edges r) (room-faces r) (inside t) (kept d.before.before.before.before Passed m.in_default-within.is),
       differences_filled s.requires (atℤ (lentLevels s)) (atℤ (levelsOf s)) (same_face s) (flows_of s) _
           (part_filled s.args.edges (flows_of s) _ _ c.fill_differences.ensures),
     )

@@ -12,7 +12,7 @@ returns c =
     let sided = c in
     let s = sided in (
       sided.spread-likely.ensures,
-      subst (Sided s.args.source s.args.sink (flagged sided.spread-likely.new.inside)) c.enum_told-1.given.1
+      subst (Sided s.args.source s.args.sink (flagged sided.spread-likely.new.inside)) c.in-Source.is
           sided.side_of-side.ensures,
     )
 

@@ -35,7 +35,7 @@ same_length c = filled_length _ _ _ _ c.loop-e.invariant.1 (omega arith)
 returns : tie.Need-returns invariant-loop decreases-loop
 returns c =
     let a = c.args in
-    c.loop-e.invariant.1 ∙ ap (λ k. tabulate k (atℤ a.from.now) ++ drop k a.to-1.now) same
+    c.loop-e.invariant.1 ∙ ap (λ k. tabulate k (atℤ a.from.now) ++ drop k a.to.now) same
   where
     same : c.loop-e.e ≡ c.args.edges
     same = omega arith

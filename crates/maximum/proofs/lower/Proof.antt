@@ -24,7 +24,7 @@ returns c =
     let total = number_of_bits added.capacity-total.result (record { sfits = added.capacity-total.type_inv }) in (
       c.copy_flags.ensures.0,
       falls
-          (subst (Sided s.args.source s.args.sink (flagged s.args.inside.now)) told.enum_told-1.given.1 sided.side_of-side.ensures)
+          (subst (Sided s.args.source s.args.sink (flagged s.args.inside.now)) told.in-Source.is sided.side_of-side.ensures)
           (total ∙ added.capacity-total.ensures)
           (subst (λ h. to_z w32 (of_z w32 added.capacity-total.result) <ℤ h) (number_of_bits _ s.ranges.high)
           (lt_of_test _ _ (sym tested.is_less.ensures ∙ less.if-is_less.true)))

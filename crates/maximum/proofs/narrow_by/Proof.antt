@@ -58,8 +58,8 @@ returns c =
       s.requires.1,
       (
         side.Source,
-        on-side sided.before.before.before.before side.Source told.enum_told-1.given.1,
-        (refl, number_of_bits _ s.ranges.low, total_is sided.before.before.before.before.before, c.copy_flags.ensures.1, refl),
+        on-side sided.before.before.before side.Source told.in-Source.is,
+        (refl, number_of_bits _ s.ranges.low, total_is sided.before.before.before.before, c.copy_flags.ensures.1, refl),
       ),
     )
 
@@ -67,7 +67,7 @@ negate-requires : tie.Need-negate-requires
 negate-requires c κs =
     let total = c in
     let h = total.requires in
-    subst (Limited 2048000000) (sym (total_is total.before.before.before.before.before.before)) (cut_limited _ _ _ _ h.4 h.7)
+    subst (Limited 2048000000) (sym (total_is total.before.before.before.before.before)) (cut_limited _ _ _ _ h.4 h.7)
 
 returns-2 : tie.Need-returns-in-Sink
 returns-2 c =
@@ -78,10 +78,10 @@ returns-2 c =
       search rules,
       (
         side.Sink,
-        on-side sided.before.before.before.before.before.before side.Sink told.enum_told-in-Sink-1.given.1,
+        on-side sided.before.before.before.before.before side.Sink told.in-Sink.is,
         (
           refl,
-          number_of_bits _ (record { sfits = c.negate.type_inv }) ∙ c.negate.ensures ∙ ap neg_ℤ (total_is sided.before.before.before.before.before.before.before),
+          number_of_bits _ (record { sfits = c.negate.type_inv }) ∙ c.negate.ensures ∙ ap neg_ℤ (total_is sided.before.before.before.before.before.before),
           number_of_bits _ s.ranges.high,
           refl,
           c.copy_flags-in-Sink.ensures.1,

@@ -8,15 +8,15 @@ returns : tie.Need-returns-in-Refused
 returns c =
     let k = c in
     let a = k.args in
-    refused_so _ a.sizes.edges _ _ _ a.flows-1.now a.sets-1.now _ _ c.refused_page.result
-    (rw c.verdict-1.given.1 at k.check_list-verdict.ensures) c.refused_page.ensures
+    refused_so _ a.sizes.edges _ _ _ a.flows.now a.sets.now _ _ c.refused_page.result
+    (rw c.in-Refused.is at k.check_list-verdict.ensures) c.refused_page.ensures
 
 answer-all-requires : tie.Need-answer_all-requires
 answer-all-requires c κs =
     let k = c in
     let s = k in
     let h = list_accepted s.args.sizes.nodes s.args.sizes.edges s.args.list.count s.args.flows.now s.args.sets.now
-    (rw c.enum_told-1.given.1 at k.check_list-verdict.ensures) in
+    (rw c.in_default.is at k.check_list-verdict.ensures) in
     (s.requires, record { few = h.0; flows_room = h.1; sets_room = h.2 })
 
 pub answer_list_spec : {M : Type 1} → statement M

@@ -30,7 +30,7 @@ returns c =
     let a = w.args in
     alone-as (drawing_of a.sizes.nodes a.sizes.edges a.sizes.outer a.tails.now a.rotations.now a.capacities.now) a.q
     w.wide.ensures w.wide-2.ensures (number_of_bits a.q.value (record { sfits = t.struct_told-1.given.1.1.0.1 }))
-    a.flows-1.now _ a.set-1.now _ k.solve.result k.solve.ensures
+    a.flows.now _ a.set.now _ k.solve.result k.solve.ensures
 
 pub ask_spec : {M : Type 1} → statement M
 ask_spec = tie.close (tie.spec (λ c κs. search rules) (λ c κs. search rules) (λ c κs. search rules) (λ c. search rules) (λ c. search rules) returns)

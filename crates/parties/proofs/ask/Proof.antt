@@ -55,22 +55,22 @@ abbrev start : tie.After-answer_left-answer → tie.Start
 start c = begun (widened c)
 
 can : (c : tie.In-Can)
-    → Left (shared (start (answer c.before.before))) (start (answer c.before.before)).args.source (start (answer c.before.before)).args.sink
-    (start (answer c.before.before)).args.value (start (answer c.before.before)).args.flows.now
-    (answer c.before.before).answer_left-answer.new.1.1.1.1.1.1.1.1.1.0 (start (answer c.before.before)).args.set.now
-    (answer c.before.before).answer_left-answer.new.1.1.1.1.1.1.1.1.1.1.0 Can
+    → Left (shared (start (answer c.before))) (start (answer c.before)).args.source (start (answer c.before)).args.sink
+    (start (answer c.before)).args.value (start (answer c.before)).args.flows.now
+    (answer c.before).answer_left-answer.new.1.1.1.1.1.1.1.1.1.0 (start (answer c.before)).args.set.now
+    (answer c.before).answer_left-answer.new.1.1.1.1.1.1.1.1.1.1.0 Can
 can c =
-    let k = answer c.before.before in
+    let k = answer c.before in
     let s = start k in
     left_as (shared s) s.args.party s.args.source s.args.sink (number_of_bits _ s.fits.value) s.args.flows.now
-    k.answer_left-answer.last.1.1.1.1.1.1.1.1.1.0 s.args.set.now k.answer_left-answer.last.1.1.1.1.1.1.1.1.1.1.0 c.enum_told-1.given.1
+    k.answer_left-answer.last.1.1.1.1.1.1.1.1.1.0 s.args.set.now k.answer_left-answer.last.1.1.1.1.1.1.1.1.1.1.0 c.in-Can.is
     k.answer_left-answer.ensures
 
 keep-offer-requires : tie.Need-keep_offer-requires
 keep-offer-requires c κs =
     let w = c in
     let t = w in
-    let k = answer t.before.before.before.before.before in
+    let k = answer t.before.before.before.before in
     let S = shared (start k) in
     let h = (can t.before.before.before).0 in
     let few = asked_few (shared_drawing S) _ _ _ _ _ h.0 in
@@ -86,10 +86,10 @@ returns-3 c =
     let o = c in
     let w = o in
     let t = w in
-    let k = answer t.before.before.before.before.before.before.before.before in
+    let k = answer t.before.before.before.before.before.before.before in
     let s = start k in
     told_as (shared s) s.args.party s.args.source s.args.sink (number_of_bits _ s.fits.value) s.args.flows.now
-    k.answer_left-answer.last.1.1.1.1.1.1.1.1.1.0 s.args.set.now k.answer_left-answer.last.1.1.1.1.1.1.1.1.1.1.0 t.enum_told-1.given.1
+    k.answer_left-answer.last.1.1.1.1.1.1.1.1.1.0 s.args.set.now k.answer_left-answer.last.1.1.1.1.1.1.1.1.1.1.0 t.in-Can.is
     (is-party (widened k)) (may-ask (uncommitted k)) _
     (after_can (shared s) (widened k).wide-p.ensures _ w.wide.ensures k.answer_left-answer.last.1.1.1.1.1.1.1.1.1.0 _ c.stand.ensures
     o.keep_offer.ensures)
@@ -98,10 +98,10 @@ returns-3 c =
 returns-4 : tie.Need-returns-in-Cannot
 returns-4 c =
     let t = c in
-    let k = answer t.before.before.before.before.before in
+    let k = answer t.before.before.before in
     let s = start k in
     told_as (shared s) s.args.party s.args.source s.args.sink (number_of_bits _ s.fits.value) s.args.flows.now
-    k.answer_left-answer.last.1.1.1.1.1.1.1.1.1.0 s.args.set.now k.answer_left-answer.last.1.1.1.1.1.1.1.1.1.1.0 t.answer-1.given.1
+    k.answer_left-answer.last.1.1.1.1.1.1.1.1.1.0 s.args.set.now k.answer_left-answer.last.1.1.1.1.1.1.1.1.1.1.0 t.in-Cannot.is
     (is-party (widened k)) (may-ask (uncommitted k)) _
     (after_cannot (shared s) (widened k).wide-p.ensures _ c.stand-in-Cannot.ensures)
     k.answer_left-answer.ensures
@@ -109,10 +109,10 @@ returns-4 c =
 returns-5 : tie.Need-returns-in-Refused
 returns-5 c =
     let t = c in
-    let k = answer t.before.before.before in
+    let k = answer t.before in
     let s = start k in
     told_as (shared s) s.args.party s.args.source s.args.sink (number_of_bits _ s.fits.value) s.args.flows.now
-    k.answer_left-answer.last.1.1.1.1.1.1.1.1.1.0 s.args.set.now k.answer_left-answer.last.1.1.1.1.1.1.1.1.1.1.0 t.answer-in-Refused-1.given.1
+    k.answer_left-answer.last.1.1.1.1.1.1.1.1.1.0 s.args.set.now k.answer_left-answer.last.1.1.1.1.1.1.1.1.1.1.0 t.in-Refused.is
     (is-party (widened k)) (may-ask (uncommitted k)) _ refl k.answer_left-answer.ensures
 
 pub ask_spec : {M : Type 1} → statement M

@@ -43,8 +43,8 @@ returns c =
     let s = c in
     let a = s.args in
     let all : o.dart ≡ 1024 = omega arith in
-    copied_whole 1024 a.limits.now a.left-1.now o.left s.requires.0 s.requires.1
-    (o.invariant.1 ∙ ap (λ k. tabulate k (atℤ a.limits.now) ++ drop k a.left-1.now) all)
+    copied_whole 1024 a.limits.now a.left.now o.left s.requires.0 s.requires.1
+    (o.invariant.1 ∙ ap (λ k. tabulate k (atℤ a.limits.now) ++ drop k a.left.now) all)
 
 pub restore_spec : {M : Type 1} → statement M
 restore_spec =

@@ -55,7 +55,7 @@ sizes : (c : tie.Else-out_of_range)
     × ((start c).args.seed < 2147483648)
 sizes c =
     let a = (start c).args in
-    let p = made_sizes a.rows a.columns a.seed a.out-1.now (made c) in
+    let p = made_sizes a.rows a.columns a.seed a.out.now (made c) in
     let r = c.wide-height.ensures in
     let w = c.wide-width.ensures in
     (omega (arith, p.0, r), omega (arith, p.1, r), omega (arith, p.2, w), omega (arith, p.3, w), p.4)
@@ -100,7 +100,7 @@ headed c =
 returns : tie.Need-returns-then-out_of_range
 returns c =
     let a = (begun c.before).args in
-    (practice_refused a.rows a.columns a.seed a.out-1.now (judged c.before true c.if-out_of_range.true), refl)
+    (practice_refused a.rows a.columns a.seed a.out.now (judged c.before true c.if-out_of_range.true), refl)
 
 edge-count-requires : tie.Need-edge_count-edges-requires
 edge-count-requires c κs = let p = sizes c in (omega (arith, p.0), p.1, omega (arith, p.2), p.3)
@@ -109,7 +109,7 @@ returns-2 : tie.Need-returns-then-out-end
 returns-2 c =
     let e = ranged c.before in
     let a = (start e).args in
-    (practice_short a.rows a.columns a.seed a.out-1.now (made e) (omega (arith, c.if-out-end.true, long c.before)), refl)
+    (practice_short a.rows a.columns a.seed a.out.now (made e) (omega (arith, c.if-out-end.true, long c.before)), refl)
 
 times-requires : tie.Need-times-nodes-requires
 times-requires c κs = let p = sizes (ranged c.before) in (p.1, p.3)
@@ -136,10 +136,10 @@ returns-3 c =
     let o = e in
     let a = (base h.before.before.before.before.before.before).args in
     let n = long (roomy h.before.before.before.before.before.before).before in (
-      practice_passes a.rows a.columns a.seed a.out-1.now (made e) (omega (arith, (roomy h.before.before.before.before.before.before).if-out-end.false, n)),
+      practice_passes a.rows a.columns a.seed a.out.now (made e) (omega (arith, (roomy h.before.before.before.before.before.before).if-out-end.false, n)),
       n,
-      widened a.seed _ _ o.wide-height.ensures o.wide-width.ensures w.write_edges.ensures a.out-1.now (headed h.before.before.before.before.before.before)
-          ∙ ap (λ k. encode_plain (drawn (base h.before.before.before.before.before.before)) ++ drop k a.out-1.now) (sym n),
+      widened a.seed _ _ o.wide-height.ensures o.wide-width.ensures w.write_edges.ensures a.out.now (headed h.before.before.before.before.before.before)
+          ∙ ap (λ k. encode_plain (drawn (base h.before.before.before.before.before.before)) ++ drop k a.out.now) (sym n),
     )
 
 pub practice_sheet_spec : {M : Type 1} → statement M

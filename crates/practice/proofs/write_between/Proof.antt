@@ -20,7 +20,7 @@ returns c =
     w.write_record.ensures
     ∙ (λ i. put a.place
     (edge_bytes (tail.Node-at.ensures i) (head.node_at-head.ensures i) (rotation.rotation_at-rotation.ensures i) (back.rotation_at-turned.ensures i)
-    (number_of_bits a.forward s.ranges.forward i) (pos 0)) a.out-1.now)
+    (number_of_bits a.forward s.ranges.forward i) (pos 0)) a.out.now)
 
 pub write_between_spec : {M : Type 1} → statement M
 write_between_spec =

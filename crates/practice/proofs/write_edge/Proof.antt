@@ -90,7 +90,7 @@ returns c =
     let s = eastward t.before.before.before.before in
     let a = s.args in
     w.write_between.ensures
-    ∙ same-record a.rows a.columns a.place a.out-1.now (sym (begins_across a.rows a.columns a.e (first t.before.before.before.before)))
+    ∙ same-record a.rows a.columns a.place a.out.now (sym (begins_across a.rows a.columns a.e (first t.before.before.before.before)))
     (sym (ends_across a.rows a.columns a.e (first t.before.before.before.before))) (number_of_bits a.forward s.fits.forward)
 
 add-write-between-2 : tie.Need-overflow_add-r
@@ -125,7 +125,7 @@ returns-2 c =
     let a = s.args in
     let k = c.times-first.ensures.0 in
     w.write_between-2.ensures
-    ∙ same-record a.rows a.columns a.place a.out-1.now
+    ∙ same-record a.rows a.columns a.place a.out.now
     (ap (λ n. placed ((a.e - n) / a.columns) ((a.e - n) % a.columns) (side 2)) k ∙ sym (begins_down a.rows a.columns a.e (second t.before.before.before.before)))
     (ap (λ n. placed ((a.e - n) / a.columns + 1) ((a.e - n) % a.columns) (side 0)) k ∙ sym (ends_down a.rows a.columns a.e (second t.before.before.before.before)))
     (number_of_bits a.forward s.fits.forward)

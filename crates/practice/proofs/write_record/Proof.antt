@@ -47,7 +47,7 @@ returns c =
     let tail = tail_at head in
     let s = start forward in
     let a = s.args in
-    edge_placed a.out-1.now a.place a.tail a.head a.rotation a.turned a.forward (pos 0) s.requires.1
+    edge_placed a.out.now a.place a.tail a.head a.rotation a.turned a.forward (pos 0) s.requires.1
     (kind_at tail).write_u8.ensures tail.write_u16.ensures head.write_u16-2.ensures rotation.write_u16-3.ensures turned.write_u16-4.ensures
     (forward-put forward) last.write_i32-2.ensures
 

@@ -42,7 +42,7 @@ room_at s = room_checks s.args.sizes.nodes s.args.sizes.edges (length s.args.flo
 abbrev checksAt : tie.Start → List Check
 checksAt s =
     let a = s.args in
-    search_checks a.sizes.nodes a.sizes.edges a.terminals.source a.terminals.sink a.flows-1.now a.set-1.now
+    search_checks a.sizes.nodes a.sizes.edges a.terminals.source a.terminals.sink a.flows.now a.set.now
 
 -- ── 13 and 14 did not refuse ──
 abbrev begun : tie.After-check_ends-named → tie.Start
@@ -52,31 +52,31 @@ ends-judged : (c : tie.After-check_ends-named) (v : Verdict) → c.check_ends-na
 ends-judged c v e = rw e at c.check_ends-named.ensures
 
 abbrev checked : tie.In_default → tie.After-check_ends-named
-checked c = c.before.before
+checked c = c.before
 
 abbrev base : tie.In_default → tie.Start
 base c = begun (checked c)
 
 two : (c : tie.In_default) → NoneOf (ends_at (base c))
-two c = ends-judged (checked c) Passed c.enum_told-1.given.1
+two c = ends-judged (checked c) Passed c.in_default.is
 
 -- ── 16 did not refuse ──
 room_judged : (c : tie.After-check_room-room) (v : Verdict) → c.check_room-room.result ≡ v → Judged (room_at (base c.before)) v
 room_judged c v e = rw e at c.check_room-room.ensures
 
 abbrev asked : tie.In_default-room → tie.In_default
-asked c = c.before.before.before
+asked c = c.before.before
 
 room : (c : tie.In_default-room) → NoneOf (room_at (base (asked c)))
-room c = room_judged c.before.before Passed c.enum_told-in_default-room-1.given.1
+room c = room_judged c.before Passed c.in_default-room.is
 
 -- ── the needs, in the order of the code ──
 returns : tie.Need-returns-in-Refused
 returns c =
     let e = c in
-    let a = (begun e.before.before.before).args in
-    let j = ends-judged e.before.before.before (Refused _ _) c.named-1.given.1 in
-    (largest_ends a.sizes.nodes a.sizes.edges a.terminals.source a.terminals.sink a.flows-1.now a.set-1.now _ _ j, refl, refl)
+    let a = (begun e.before).args in
+    let j = ends-judged e.before (Refused _ _) c.in-Refused.is in
+    (largest_ends a.sizes.nodes a.sizes.edges a.terminals.source a.terminals.sink a.flows.now a.set.now _ _ j, refl, refl)
 
 check-room-requires : tie.Need-check_room-room-requires
 check-room-requires c κs = (base c).requires.opened.drawn.few_nodes
@@ -85,9 +85,9 @@ returns-2 : tie.Need-returns-in-Refused-room
 returns-2 c =
     let r = c in
     let e = r in
-    let a = (base e.before.before.before.before).args in
-    let j = room_judged r.before.before.before (Refused _ _) c.room-1.given.1 in
-    (largest_room a.sizes.nodes a.sizes.edges a.terminals.source a.terminals.sink a.flows-1.now a.set-1.now (two e.before.before.before.before) _ _ j, refl, refl)
+    let a = (base e.before.before).args in
+    let j = room_judged r.before (Refused _ _) c.in-Refused-room.is in
+    (largest_room a.sizes.nodes a.sizes.edges a.terminals.source a.terminals.sink a.flows.now a.set.now (two e.before.before) _ _ j, refl, refl)
 
 -- the flows of the edges are there to be lent
 flows_in : (c : tie.In_default-room) → (base (asked c)).args.sizes.edges ≤ length (base (asked c)).args.flows.now
@@ -105,7 +105,7 @@ maximize-requires c κs =
       record {
         opened = s.requires.opened;
         ends = ends_for (mapAt s) a.terminals.source a.terminals.sink (two e);
-        exact = part_length a.sizes.edges a.flows-1.now (flows_in m.before.before);
+        exact = part_length a.sizes.edges a.flows.now (flows_in m.before.before);
       },
       s.requires.small,
       refl,
@@ -134,13 +134,13 @@ found : (c : tie.After-maximize-most) {answer : Maximum} → c.maximize-most.res
 found c same =
     let s = start c in
     let a = s.args in
-    maximized_back (mapAt s) a.sizes.outer (capacityAt s) a.terminals.source a.terminals.sink a.flows-1.now (lent' c) (inside' c) same
+    maximized_back (mapAt s) a.sizes.outer (capacityAt s) a.terminals.source a.terminals.sink a.flows.now (lent' c) (inside' c) same
     c.maximize-most.ensures.1
 
 none : (c : tie.After-maximize-most) → NoneOf (checksAt (start c))
 none c =
     let a = (start c).args in
-    largest_none a.sizes.nodes a.sizes.edges a.terminals.source a.terminals.sink a.flows-1.now a.set-1.now (two (asked (roomy c)))
+    largest_none a.sizes.nodes a.sizes.edges a.terminals.source a.terminals.sink a.flows.now a.set.now (two (asked (roomy c)))
     (room (roomy c))
 
 -- ── the set written ──
@@ -178,33 +178,33 @@ written c =
 returns-3 : tie.Need-returns-in-Value
 returns-3 c =
     let w = c in
-    let m = found_at (counted w.before.before.before.before.before) in
+    let m = found_at (counted w.before.before.before) in
     let s = start m in
     let a = s.args in
     let p = s.requires in
-    let r = found m c.most-1.given.1 in
+    let r = found m c.in-Value.is in
     let v = told_value (mapAt s) (capacityAt s) p.opened.drawn.few_edges p.small _ (inside' m) r.2 in
     let ends = two (asked (roomy m)) in (
       none m,
       (r.0.0, highest_as (sym v) r.0.1, r.0.2),
       (
-        take (words_for a.sizes.nodes) (set' w.before.before.before.before.before),
-        set_written (written w.before.before.before.before.before),
-        next_proved p.opened.drawn.plane.sound.range (capacityAt s) (written w.before.before.before.before.before) a.terminals.source a.terminals.sink ends _ r.1 (v ∙ r.2),
+        take (words_for a.sizes.nodes) (set' w.before.before.before),
+        set_written (written w.before.before.before),
+        next_proved p.opened.drawn.plane.sound.range (capacityAt s) (written w.before.before.before) a.terminals.source a.terminals.sink ends _ r.1 (v ∙ r.2),
       ),
     )
 
 returns-4 : tie.Need-returns
 returns-4 c =
     let w = c in
-    let m = found_at (counted w.before.before.before.before) in
+    let m = found_at (counted w.before.before.before) in
     let s = start m in
     let a = s.args in
-    let r = found m c.enum_told-in_default-most-1.given.1 in
+    let r = found m c.in_default-most.is in
     let ends = two (asked (roomy m)) in
-    let k = none_written s.requires.opened.drawn.plane.sound.range (capacityAt s) (written w.before.before.before.before) a.terminals.source a.terminals.sink ends
+    let k = none_written s.requires.opened.drawn.plane.sound.range (capacityAt s) (written w.before.before.before) a.terminals.source a.terminals.sink ends
     r.1 r.2 in
-    (none m, r.0, (take (words_for a.sizes.nodes) (set' w.before.before.before.before), set_written (written w.before.before.before.before), k))
+    (none m, r.0, (take (words_for a.sizes.nodes) (set' w.before.before.before), set_written (written w.before.before.before), k))
 
 pub largest_spec : {M : Type 1} → statement M
 largest_spec =

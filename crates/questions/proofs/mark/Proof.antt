@@ -45,7 +45,7 @@ ends-judged : (c : tie.After-check_ends-ends) (v : Verdict) → c.check_ends-end
 ends-judged c v e = rw e at c.check_ends-ends.ensures
 
 abbrev checked : tie.In_default → tie.After-check_ends-ends
-checked c = c.before.before
+checked c = c.before
 
 abbrev base : tie.In_default → tie.Start
 base c = begun (checked c)
@@ -71,10 +71,10 @@ within-judged c v e =
     part_within (drawingAt s).map s.args.flows.now (atℤ s.args.capacities.now) v (within-given c v e)
 
 abbrev roomy : tie.In_default-within → tie.In_default
-roomy c = long c.before.before
+roomy c = long c.before
 
 within : (c : tie.In_default-within) → NoneOf (withinAt (base (roomy c)))
-within c = within-judged c.before.before Passed c.enum_told-in_default-within-1.given.1
+within c = within-judged c.before Passed c.enum_told-in_default-within-1.given.1
 
 -- ── 18 did not refuse ──
 abbrev fitting : tie.After-fill_nets → tie.In_default-within
@@ -100,9 +100,9 @@ balance-judged c v e =
 returns : tie.Need-returns-in-Refused
 returns c =
     let e = c in
-    let s = begun e.before.before.before in
+    let s = begun e.before in
     mark_ends (drawingAt s) s.args.terminals.source s.args.terminals.sink s.args.flows.now _ _
-    (ends-judged e.before.before.before (Refused _ _) c.ends-1.given.1)
+    (ends-judged e.before (Refused _ _) c.ends-1.given.1)
 
 returns-2 : tie.Need-returns-then-flows-many
 returns-2 c =
@@ -119,9 +119,9 @@ check-within-requires c κs =
 returns-3 : tie.Need-returns-in-Refused-within
 returns-3 c =
     let w = c in
-    let e = long w.before.before.before in
+    let e = long w.before in
     let s = base e in
-    let j = within-judged w.before.before.before (Refused _ _) c.within-1.given.1 in
+    let j = within-judged w.before (Refused _ _) c.within-1.given.1 in
     mark_within (drawingAt s) s.args.terminals.source s.args.terminals.sink s.args.flows.now (two e) w.if-flows-many.false _ _ j
 
 fill-nets-requires : tie.Need-fill_nets-requires
@@ -134,7 +134,7 @@ fill-nets-requires c κs =
       refl,
       (λ d l. omega (arith, p.tails_in d l, p.few_nodes)),
       flows_small (drawingAt s).map (atℤ (given s)) (atℤ s.args.capacities.now) p.small
-          (within-given t.before.before.before Passed t.enum_told-in_default-within-1.given.1),
+          (within-given t.before.before Passed t.enum_told-in_default-within-1.given.1),
       same_everywhere 1024 (pos 0),
     )
 
@@ -144,15 +144,15 @@ check-balance-requires c κs = (start c.before).requires.few_nodes
 returns-4 : tie.Need-returns-in-Refused-balanced
 returns-4 c =
     let b = c in
-    let t = fitting (filled b.before.before.before) in
+    let t = fitting (filled b.before) in
     let s = base (roomy t) in
     mark_balance (drawingAt s) s.args.terminals.source s.args.terminals.sink s.args.flows.now (two (roomy t))
     t.if-flows-many.false (within t) _ _
-    (balance-judged b.before.before.before (Refused _ _) c.balanced-1.given.1)
+    (balance-judged b.before (Refused _ _) c.balanced-1.given.1)
 
 -- ── the value is the sum at the source ──
 abbrev sums : tie.In_default-balanced → tie.After-fill_nets
-sums c = filled c.before.before
+sums c = filled c.before
 
 source_in : (c : tie.After-fill_nets) → (start c).args.terminals.source < (start c).args.sizes.nodes
 source_in c = (ends_in _ _ _ (two (roomy (fitting c)))).0
@@ -172,7 +172,7 @@ returns-5 c =
     let x = s.args.flows.now in (
       mark_none (drawingAt s) s.args.terminals.source s.args.terminals.sink x (two (roomy t)) t.if-flows-many.false
           (within t)
-          (balance-judged e.before.before.before Passed e.enum_told-in_default-balanced-1.given.1),
+          (balance-judged e.before.before Passed e.enum_told-in_default-balanced-1.given.1),
       number_of_bits _ (record { sfits = c.result.given-1 })
           ∙ net_of (drawingAt s).map (atℤ (given s)) s.requires.few_nodes (nets' n) n.fill_nets.ensures.1 s.args.terminals.source (source_in n)
           ∙ part_net (drawingAt s).map x s.args.terminals.source,

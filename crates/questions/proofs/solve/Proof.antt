@@ -47,7 +47,7 @@ room_at s = room_checks s.args.sizes.nodes s.args.sizes.edges (length s.args.flo
 abbrev checksAt : tie.Start → List Check
 checksAt s =
     let a = s.args in
-    question_checks a.sizes.nodes a.sizes.edges a.demand.source a.demand.sink a.demand.value a.flows-1.now a.set-1.now
+    question_checks a.sizes.nodes a.sizes.edges a.demand.source a.demand.sink a.demand.value a.flows.now a.set.now
 
 -- ── 13 and 14 did not refuse ──
 abbrev begun : tie.After-check_ends-named → tie.Start
@@ -57,10 +57,10 @@ ends-judged : (c : tie.After-check_ends-named) (v : Verdict) → c.check_ends-na
 ends-judged c v e = rw e at c.check_ends-named.ensures
 
 abbrev checked : tie.In_default → tie.After-check_ends-named
-checked c = c.before.before
+checked c = c.before
 
 two : (c : tie.In_default) → NoneOf (ends_at (begun (checked c)))
-two c = ends-judged (checked c) Passed c.enum_told-1.given.1
+two c = ends-judged (checked c) Passed c.in_default.is
 
 -- ── 15 did not refuse ──
 abbrev ended : tie.Else-value_outside → tie.In_default
@@ -82,19 +82,19 @@ room_judged : (c : tie.After-check_room-room) (v : Verdict) → c.check_room-roo
 room_judged c v e = rw e at c.check_room-room.ensures
 
 abbrev asked : tie.In_default-room → tie.Else-value_outside
-asked c = c.before.before.before
+asked c = c.before.before
 
 room : (c : tie.In_default-room) → NoneOf (room_at (base (asked c)))
-room c = room_judged c.before.before Passed c.enum_told-in_default-room-1.given.1
+room c = room_judged c.before Passed c.in_default-room.is
 
 -- ── the needs, in the order of the code ──
 returns : tie.Need-returns-in-Refused
 returns c =
     let e = c in
-    let a = (begun e.before.before.before).args in
-    let j = ends-judged e.before.before.before (Refused _ _) c.named-1.given.1 in (
+    let a = (begun e.before).args in
+    let j = ends-judged e.before (Refused _ _) c.in-Refused.is in (
       (
-        solve_ends a.sizes.nodes a.sizes.edges a.demand.source a.demand.sink a.demand.value a.flows-1.now a.set-1.now _ _ j,
+        solve_ends a.sizes.nodes a.sizes.edges a.demand.source a.demand.sink a.demand.value a.flows.now a.set.now _ _ j,
         refl,
         refl,
       ),
@@ -108,7 +108,7 @@ returns-2 c =
     let s = begun (checked e.before.before.before) in
     let a = s.args in
     let out = rw (value-is c.before.before) at (said_yes c.value_outside.ensures c.if-value_outside.true) in
-    let first = solve_value a.sizes.nodes a.sizes.edges a.demand.source a.demand.sink a.demand.value a.flows-1.now a.set-1.now
+    let first = solve_value a.sizes.nodes a.sizes.edges a.demand.source a.demand.sink a.demand.value a.flows.now a.set.now
     (two e.before.before.before) 15 0 (inl (out, refl, refl)) in
     ((first, refl, refl), tt)
 
@@ -119,11 +119,11 @@ returns-3 : tie.Need-returns-in-Refused-room
 returns-3 c =
     let r = c in
     let e = r in
-    let a = (base e.before.before.before.before).args in
-    let j = room_judged r.before.before.before (Refused _ _) c.room-1.given.1 in (
+    let a = (base e.before.before).args in
+    let j = room_judged r.before (Refused _ _) c.in-Refused-room.is in (
       (
-        solve_room a.sizes.nodes a.sizes.edges a.demand.source a.demand.sink a.demand.value a.flows-1.now a.set-1.now
-            (two (ended e.before.before.before.before)) (inside e.before.before.before.before) _ _ j,
+        solve_room a.sizes.nodes a.sizes.edges a.demand.source a.demand.sink a.demand.value a.flows.now a.set.now
+            (two (ended e.before.before)) (inside e.before.before) _ _ j,
         refl,
         refl,
       ),
@@ -146,7 +146,7 @@ decide-requires c κs =
       record {
         opened = s.requires;
         ends = ends_for (mapAt s) a.demand.source a.demand.sink (two (ended e));
-        exact = part_length a.sizes.edges a.flows-1.now (flows_in m.before.before.before);
+        exact = part_length a.sizes.edges a.flows.now (flows_in m.before.before.before);
       },
       value_limited _ (inside e),
       refl,
@@ -176,14 +176,14 @@ decided : (c : tie.After-decide) {answer : Bool} → c.decide.result ≡ answer
 decided c same =
     let s = start c in
     let a = s.args in
-    decided_back (mapAt s) a.sizes.outer (capacityAt s) a.demand.source a.demand.sink a.demand.value a.flows-1.now (lent' c) (inside' c) same
+    decided_back (mapAt s) a.sizes.outer (capacityAt s) a.demand.source a.demand.sink a.demand.value a.flows.now (lent' c) (inside' c) same
     c.decide.ensures.1
 
 none : (c : tie.After-decide) → NoneOf (checksAt (start c))
 none c =
     let e = asked (roomy c) in
     let a = (start c).args in
-    solve_none a.sizes.nodes a.sizes.edges a.demand.source a.demand.sink a.demand.value a.flows-1.now a.set-1.now
+    solve_none a.sizes.nodes a.sizes.edges a.demand.source a.demand.sink a.demand.value a.flows.now a.set.now
     (two (ended e)) (inside e) (room (roomy c))
 
 returns-4 : tie.Need-returns-then-decide

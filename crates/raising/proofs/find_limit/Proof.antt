@@ -43,7 +43,7 @@ decided : (c : tie.After-flows-1) {r : Bool} → c.decide_from.result ≡ r
 decided c e =
     let s = begun c in
     let a = s.args in
-    decided_as (drawing s).map a.sizes.outer {c = (drawing s).capacity} refl a.demand.source a.demand.sink a.demand.value a.flows-1.now
+    decided_as (drawing s).map a.sizes.outer {c = (drawing s).capacity} refl a.demand.source a.demand.sink a.demand.value a.flows.now
     (flows' c) (inside' c) e c.decide_from.ensures.1
 
 mul-t19 : tie.Need-overflow_mul-result
@@ -63,9 +63,9 @@ returns c =
     let s = begun d.before.before in
     let a = s.args in (
       d.decide_from.ensures.0,
-      sought_as (drawing s) a.demand.source a.demand.sink a.demand.value a.edge {old = a.flows-1.now} refl (flows' d.before.before) (inside' d.before.before)
+      sought_as (drawing s) a.demand.source a.demand.sink a.demand.value a.edge {old = a.flows.now} refl (flows' d.before.before) (inside' d.before.before)
           {r = At ((drawing s).capacity (2 * a.edge))} (ap At (sym (same_bits (omega arith) s.requires.present)))
-          (present_serves (drawing s) a.demand.source a.demand.sink a.demand.value a.edge a.flows-1.now s.requires.present.high
+          (present_serves (drawing s) a.demand.source a.demand.sink a.demand.value a.edge a.flows.now s.requires.present.high
           (flows' d.before.before) (inside' d.before.before) (decided d.before.before t.if-decide_from.true)),
     )
 
@@ -86,7 +86,7 @@ least-limit-requires c κs =
         limited = p.limited;
         present = p.present;
       },
-      present_fails (drawing s) a.demand.source a.demand.sink a.demand.value a.edge a.flows-1.now p.lent.opened.drawn.plane.sound.range
+      present_fails (drawing s) a.demand.source a.demand.sink a.demand.value a.edge a.flows.now p.lent.opened.drawn.plane.sound.range
           p.lent.ends (flows' d.before.before.before.before) (inside' d.before.before.before.before) q,
     )
 

@@ -84,7 +84,7 @@ decided : (c : tie.After-flows-1) {r : Bool} → c.decide_from.result ≡ r
 decided c e =
     let s = begun c in
     let a = s.args in
-    decided_as (drawing s).map (2 * a.edge) (greatest-is s) a.demand.source a.demand.sink a.demand.value a.flows-1.now (between c) (first c) e
+    decided_as (drawing s).map (2 * a.edge) (greatest-is s) a.demand.source a.demand.sink a.demand.value a.flows.now (between c) (first c) e
     c.decide_from.ensures.1
 
 -- ── it serves: the flow on the edge is above the present capacity, so 32 bits hold it ──
@@ -103,11 +103,11 @@ small c =
     record {
       low =
           le_trans s.requires.0.present.low
-          (le_of_lt (above_present (drawing s) a.demand.source a.demand.sink a.demand.value a.edge a.flows-1.now σ.range
+          (le_of_lt (above_present (drawing s) a.demand.source a.demand.sink a.demand.value a.edge a.flows.now σ.range
           s.requires.0.lent.ends σ
           (omega (arith, s.requires.0.edge_in)) s.requires.1 d.0 d.1));
       high =
-          under_most (drawing s) a.demand.source a.demand.sink a.demand.value a.edge a.flows-1.now σ.range s.requires.0.lent.ends σ
+          under_most (drawing s) a.demand.source a.demand.sink a.demand.value a.edge a.flows.now σ.range s.requires.0.lent.ends σ
           (omega (arith, s.requires.0.edge_in)) s.requires.1 d.0 d.1;
     }
 
@@ -159,7 +159,7 @@ decide-from-requires-2 c κs =
         opened = record {
           drawn = rw (capacities_are t.before.before.before)
               (raised_drawn a.edge
-              (le_of_lt (above_present (drawing s) a.demand.source a.demand.sink a.demand.value a.edge a.flows-1.now σ.range
+              (le_of_lt (above_present (drawing s) a.demand.source a.demand.sink a.demand.value a.edge a.flows.now σ.range
               p.lent.ends σ
               (omega (arith, p.edge_in)) s.requires.1 d.0 d.1)) (small t.before.before.before).high p.lent.opened.drawn);
           walked = p.lent.opened.walked;
@@ -184,9 +184,9 @@ returns c =
     let flows' = e.decide_from-then-decide_from.new.flows in
     let inside' = e.decide_from-then-decide_from.new.inside in (
       e.decide_from-then-decide_from.ensures.0,
-      sought_as (drawing s) a.demand.source a.demand.sink a.demand.value a.edge {old = a.flows-1.now} refl flows' inside'
+      sought_as (drawing s) a.demand.source a.demand.sink a.demand.value a.edge {old = a.flows.now} refl flows' inside'
           {r = At (limit t.before.before.before.before.before)} (ap At (sym (bits_are t.before.before.before.before.before)))
-          (least_serves (drawing s) a.demand.source a.demand.sink a.demand.value a.edge a.flows-1.now σ.range p.lent.ends σ
+          (least_serves (drawing s) a.demand.source a.demand.sink a.demand.value a.edge a.flows.now σ.range p.lent.ends σ
           (omega (arith, p.edge_in)) s.requires.1 d.0 d.1 (between t.before.before.before.before.before.before) flows' inside' e.decide_from-then-decide_from.result d.2
           (decided_as (drawing s).map a.sizes.outer (capacities_are t.before.before.before.before.before) a.demand.source a.demand.sink a.demand.value (between t.before.before.before.before.before.before)
           flows' inside' {r = e.decide_from-then-decide_from.result} refl e.decide_from-then-decide_from.ensures.1)),

@@ -47,7 +47,7 @@ room_at s = room_checks s.args.sizes.nodes s.args.sizes.edges (length s.args.flo
 abbrev checksAt : tie.Start → List Check
 checksAt s =
     let a = s.args in
-    limit_checks a.sizes.nodes a.sizes.edges a.demand.source a.demand.sink a.demand.value a.edge a.flows-1.now a.set-1.now
+    limit_checks a.sizes.nodes a.sizes.edges a.demand.source a.demand.sink a.demand.value a.edge a.flows.now a.set.now
 
 -- ── 13 and 14 did not refuse ──
 abbrev begun : tie.After-check_ends-named → tie.Start
@@ -57,10 +57,10 @@ ends-judged : (c : tie.After-check_ends-named) (v : Verdict) → c.check_ends-na
 ends-judged c v e = rw e at c.check_ends-named.ensures
 
 abbrev checked : tie.In_default → tie.After-check_ends-named
-checked c = c.before.before
+checked c = c.before
 
 two : (c : tie.In_default) → NoneOf (ends_at (begun (checked c)))
-two c = ends-judged (checked c) Passed c.enum_told-1.given.1
+two c = ends-judged (checked c) Passed c.in_default.is
 
 -- ── 15 did not refuse ──
 abbrev ended : tie.Else-value_outside → tie.In_default
@@ -90,28 +90,28 @@ room_judged : (c : tie.After-check_room-room) (v : Verdict) → c.check_room-roo
 room_judged c v e = rw e at c.check_room-room.ensures
 
 abbrev asked : tie.In_default-room → tie.Else-sizes-edge
-asked c = c.before.before.before
+asked c = c.before.before
 
 abbrev start : tie.In_default-room → tie.Start
 start c = base (valued (asked c))
 
 room : (c : tie.In_default-room) → NoneOf (room_at (start c))
-room c = room_judged c.before.before Passed c.enum_told-in_default-room-1.given.1
+room c = room_judged c.before Passed c.in_default-room.is
 
 none : (c : tie.In_default-room) → NoneOf (checksAt (start c))
 none c =
     let e = asked c in
     let a = (start c).args in
-    raise_none a.sizes.nodes a.sizes.edges a.demand.source a.demand.sink a.demand.value a.edge a.flows-1.now a.set-1.now
+    raise_none a.sizes.nodes a.sizes.edges a.demand.source a.demand.sink a.demand.value a.edge a.flows.now a.set.now
     (two (ended (valued e))) (inside (valued e)) (is_edge e) (room c)
 
 -- ── the needs, in the order of the code ──
 returns : tie.Need-returns-in-Refused
 returns c =
     let e = c in
-    let a = (begun e.before.before.before).args in
-    let j = ends-judged e.before.before.before (Refused _ _) c.named-1.given.1 in (
-      raise_ends a.sizes.nodes a.sizes.edges a.demand.source a.demand.sink a.demand.value a.edge a.flows-1.now a.set-1.now
+    let a = (begun e.before).args in
+    let j = ends-judged e.before (Refused _ _) c.in-Refused.is in (
+      raise_ends a.sizes.nodes a.sizes.edges a.demand.source a.demand.sink a.demand.value a.edge a.flows.now a.set.now
           _ _ j,
       refl,
       refl,
@@ -124,7 +124,7 @@ returns-2 c =
     let s = begun (checked e.before.before.before) in
     let a = s.args in
     let out = rw (value-is c.before.before) at (said_yes c.value_outside.ensures c.if-value_outside.true) in (
-      raise_value a.sizes.nodes a.sizes.edges a.demand.source a.demand.sink a.demand.value a.edge a.flows-1.now a.set-1.now
+      raise_value a.sizes.nodes a.sizes.edges a.demand.source a.demand.sink a.demand.value a.edge a.flows.now a.set.now
           (two e.before.before.before) 15 0 (inl (out, refl, refl)),
       refl,
       refl,
@@ -136,7 +136,7 @@ returns-3 c =
     let e = c in
     let a = (base e.before.before).args in
     let out : a.sizes.edges ≤ a.edge = omega (arith, c.if-sizes-edge.true) in (
-      raise_edge a.sizes.nodes a.sizes.edges a.demand.source a.demand.sink a.demand.value a.edge a.flows-1.now a.set-1.now
+      raise_edge a.sizes.nodes a.sizes.edges a.demand.source a.demand.sink a.demand.value a.edge a.flows.now a.set.now
           (two (ended e.before.before)) (inside e.before.before)
           25 0 (inl (out, refl, refl)),
       refl,
@@ -150,10 +150,10 @@ returns-4 : tie.Need-returns-in-Refused-room
 returns-4 c =
     let r = c in
     let e = r in
-    let a = (base (valued e.before.before.before.before)).args in
-    let j = room_judged r.before.before.before (Refused _ _) c.room-1.given.1 in (
-      raise_room a.sizes.nodes a.sizes.edges a.demand.source a.demand.sink a.demand.value a.edge a.flows-1.now a.set-1.now
-          (two (ended (valued e.before.before.before.before))) (inside (valued e.before.before.before.before)) (is_edge e.before.before.before.before) _ _ j,
+    let a = (base (valued e.before.before)).args in
+    let j = room_judged r.before (Refused _ _) c.in-Refused-room.is in (
+      raise_room a.sizes.nodes a.sizes.edges a.demand.source a.demand.sink a.demand.value a.edge a.flows.now a.set.now
+          (two (ended (valued e.before.before))) (inside (valued e.before.before)) (is_edge e.before.before) _ _ j,
       refl,
       refl,
     )
@@ -185,7 +185,7 @@ find-limit-requires c κs =
       lent = record {
         opened = s.requires.1.opened;
         ends = ends_for (drawing s).map a.demand.source a.demand.sink (two (ended (valued (asked m))));
-        exact = part_length a.sizes.edges a.flows-1.now (flows_in m);
+        exact = part_length a.sizes.edges a.flows.now (flows_in m);
       };
       edge_in = edge-at m;
       limited = value_limited _ (inside (valued (asked m)));
@@ -211,24 +211,24 @@ sought : (c : tie.After-find_limit-least) {answer : Found} → c.find_limit-leas
 sought c same =
     let s = start (known c) in
     let a = s.args in
-    sought_back (drawing s) a.demand.source a.demand.sink a.demand.value a.edge a.flows-1.now (lent' c) (inside' c) same
+    sought_back (drawing s) a.demand.source a.demand.sink a.demand.value a.edge a.flows.now (lent' c) (inside' c) same
     c.find_limit-least.ensures.1
 
 -- ── a capacity serves ──
 returns-5 : tie.Need-returns-in-At
 returns-5 c =
     let f = c in
-    let m = known f.before.before.before.before in
+    let m = known f.before.before in
     let s = start m in
     let a = s.args in
-    let h = sought f.before.before.before.before c.least-1.given.1 in
-    limit_as (drawing s) (checksAt s) a.demand.source a.demand.sink a.demand.value a.edge a.flows-1.now (flows' f.before.before.before.before) a.set-1.now a.set-1.now
-    (told_limit (drawing s) a.demand.source a.demand.sink a.demand.value a.edge a.flows-1.now (flows' f.before.before.before.before) (inside' f.before.before.before.before) _ (present m) h)
+    let h = sought f.before.before c.in-At.is in
+    limit_as (drawing s) (checksAt s) a.demand.source a.demand.sink a.demand.value a.edge a.flows.now (flows' f.before.before) a.set.now a.set.now
+    (told_limit (drawing s) a.demand.source a.demand.sink a.demand.value a.edge a.flows.now (flows' f.before.before) (inside' f.before.before) _ (present m) h)
     (none m, h.0, h.1, h.2, h.3, refl)
 
 -- ── none does: the set is written ──
 abbrev ending : tie.After-words_for-words → tie.After-find_limit-least
-ending c = c.before.before.before.before
+ending c = c.before.before.before
 
 abbrev home : tie.After-words_for-words → tie.In_default-room
 home c = known (ending c)
@@ -237,7 +237,7 @@ words_in : (c : tie.After-words_for-words) → words_for (start (home c)).args.s
 words_in c = (room_flows _ _ _ _ (room (home c))).1
 
 words-for-requires : tie.Need-words_for-words-requires
-words-for-requires c κs = (start (known c.before.before.before)).requires.1.opened.drawn.few_nodes
+words-for-requires c κs = (start (known c.before.before)).requires.1.opened.drawn.few_nodes
 
 part-write-set-end : tie.Need-slice_bounds-write_set-end
 part-write-set-end c = let n = c in omega (arith, n.words_for-words.ensures, words_in n.before)
@@ -255,12 +255,12 @@ returns-6 c =
     let m = home n.before.before.before.before.before in
     let s = start m in
     let a = s.args in
-    let h = sought (ending n.before.before.before.before.before) n.enum_told-in_default-least-1.given.1 in
-    let written = written_back a.set-1.now n.words_for-words.ensures (words_in n.before.before.before.before.before) w.write_set.ensures in (
+    let h = sought (ending n.before.before.before.before.before) n.in_default-least.is in
+    let written = written_back a.set.now n.words_for-words.ensures (words_in n.before.before.before.before.before) w.write_set.ensures in (
       none m,
       h.0,
       (
-        take (words_for a.sizes.nodes) (w.write_set.new.words ++ drop (n.words_for-words.result - 0) a.set-1.now),
+        take (words_for a.sizes.nodes) (w.write_set.new.words ++ drop (n.words_for-words.result - 0) a.set.now),
         set_written written,
         proves_written s.requires.1.opened.drawn.plane.sound.range (raised (drawing s).capacity a.edge most_limit) written
             a.demand.source a.demand.sink (two (ended (valued (asked m)))) a.demand.value h.1,

@@ -61,7 +61,7 @@ upperAt s = room_checks s.args.sizes.nodes s.args.sizes.edges (length s.args.hig
 abbrev checksAt : tie.Start → List Check
 checksAt s =
     let a = s.args in
-    span_checks a.sizes.nodes a.sizes.edges a.terminals.source a.terminals.sink a.low-1.now a.below-1.now a.high-1.now a.above-1.now
+    span_checks a.sizes.nodes a.sizes.edges a.terminals.source a.terminals.sink a.low.now a.below.now a.high.now a.above.now
 
 -- ── 13 and 14 did not refuse ──
 abbrev begun : tie.After-check_ends-named → tie.Start
@@ -71,30 +71,30 @@ ends-judged : (c : tie.After-check_ends-named) (v : Verdict) → c.check_ends-na
 ends-judged c v e = rw e at c.check_ends-named.ensures
 
 abbrev checked : tie.In_default → tie.After-check_ends-named
-checked c = c.before.before
+checked c = c.before
 
 abbrev base : tie.In_default → tie.Start
 base c = begun (checked c)
 
 two : (c : tie.In_default) → NoneOf (ends_at (base c))
-two c = ends-judged (checked c) Passed c.enum_told-1.given.1
+two c = ends-judged (checked c) Passed c.in_default.is
 
 -- ── 16 did not refuse the slices of the least value ──
 lower-judged : (c : tie.After-check_room-low_room) (v : Verdict) → c.check_room-low_room.result ≡ v → Judged (lowerAt (base c.before)) v
 lower-judged c v e = rw e at c.check_room-low_room.ensures
 
 abbrev asked : tie.In_default-low_room → tie.In_default
-asked c = c.before.before.before
+asked c = c.before.before
 
 lower : (c : tie.In_default-low_room) → NoneOf (lowerAt (base (asked c)))
-lower c = lower-judged c.before.before Passed c.enum_told-in_default-low_room-1.given.1
+lower c = lower-judged c.before Passed c.in_default-low_room.is
 
 -- ── nor those of the largest ──
 upper-judged : (c : tie.After-check_room-high_room) (v : Verdict) → c.check_room-high_room.result ≡ v → Judged (upperAt (base (asked c.before))) v
 upper-judged c v e = rw e at c.check_room-high_room.ensures
 
 abbrev half : tie.After-words_for-words → tie.In_default-low_room
-half c = c.before.before.before.before
+half c = c.before.before.before
 
 abbrev start : tie.After-words_for-words → tie.Start
 start c = base (asked (half c))
@@ -103,12 +103,12 @@ ends_two : (c : tie.After-words_for-words) → NoneOf (ends_at (start c))
 ends_two c = two (asked (half c))
 
 upper : (c : tie.After-words_for-words) → NoneOf (upperAt (start c))
-upper c = let t = c in upper-judged t.before.before.before Passed t.enum_told-in_default-high_room-1.given.1
+upper c = let t = c in upper-judged t.before.before Passed t.in_default-high_room.is
 
 none : (c : tie.After-words_for-words) → NoneOf (checksAt (start c))
 none c =
     let a = (start c).args in
-    range_none a.sizes.nodes a.sizes.edges a.terminals.source a.terminals.sink a.low-1.now a.below-1.now a.high-1.now a.above-1.now
+    range_none a.sizes.nodes a.sizes.edges a.terminals.source a.terminals.sink a.low.now a.below.now a.high.now a.above.now
     (ends_two c) (lower (half c)) (upper c)
 
 -- ── what is there to be lent ──
@@ -128,10 +128,10 @@ above_in c = (room_flows _ _ _ _ (upper c)).1
 returns : tie.Need-returns-in-Refused
 returns c =
     let e = c in
-    let a = (begun e.before.before.before).args in
-    let j = ends-judged e.before.before.before (Refused _ _) c.named-1.given.1 in (
-      range_ends a.sizes.nodes a.sizes.edges a.terminals.source a.terminals.sink a.low-1.now a.below-1.now a.high-1.now
-          a.above-1.now _ _ j,
+    let a = (begun e.before).args in
+    let j = ends-judged e.before (Refused _ _) c.in-Refused.is in (
+      range_ends a.sizes.nodes a.sizes.edges a.terminals.source a.terminals.sink a.low.now a.below.now a.high.now
+          a.above.now _ _ j,
       refl,
       refl,
       refl,
@@ -145,10 +145,10 @@ returns-2 : tie.Need-returns-in-Refused-low_room
 returns-2 c =
     let r = c in
     let e = r in
-    let a = (base e.before.before.before.before).args in
-    let j = lower-judged r.before.before.before (Refused _ _) c.low_room-1.given.1 in (
-      range_lower a.sizes.nodes a.sizes.edges a.terminals.source a.terminals.sink a.low-1.now a.below-1.now a.high-1.now
-          a.above-1.now (two e.before.before.before.before) _ _ j,
+    let a = (base e.before.before).args in
+    let j = lower-judged r.before (Refused _ _) c.in-Refused-low_room.is in (
+      range_lower a.sizes.nodes a.sizes.edges a.terminals.source a.terminals.sink a.low.now a.below.now a.high.now
+          a.above.now (two e.before.before) _ _ j,
       refl,
       refl,
       refl,
@@ -162,10 +162,10 @@ returns-3 : tie.Need-returns-in-Refused-high_room
 returns-3 c =
     let r = c in
     let e = r in
-    let a = (base (asked e.before.before.before.before)).args in
-    let j = upper-judged r.before.before.before (Refused _ _) c.high_room-1.given.1 in (
-      range_upper a.sizes.nodes a.sizes.edges a.terminals.source a.terminals.sink a.low-1.now a.below-1.now a.high-1.now
-          a.above-1.now (two (asked e.before.before.before.before)) (lower e.before.before.before.before)
+    let a = (base (asked e.before.before)).args in
+    let j = upper-judged r.before (Refused _ _) c.in-Refused-high_room.is in (
+      range_upper a.sizes.nodes a.sizes.edges a.terminals.source a.terminals.sink a.low.now a.below.now a.high.now
+          a.above.now (two (asked e.before.before)) (lower e.before.before)
           _ _ j,
       refl,
       refl,
@@ -174,7 +174,7 @@ returns-3 c =
     )
 
 words-for-requires : tie.Need-words_for-words-requires
-words-for-requires c κs = (base (asked c.before.before.before)).requires.opened.drawn.few_nodes
+words-for-requires c κs = (base (asked c.before.before)).requires.opened.drawn.few_nodes
 
 -- ── there ──
 part-maximize-from-end : tie.Need-slice_bounds-maximize_from-end
@@ -188,7 +188,7 @@ maximize-from-requires c κs =
       record {
         opened = s.requires.opened;
         ends = ends_for (mapAt s) a.terminals.source a.terminals.sink (ends_two m.before.before.before);
-        exact = part_length a.sizes.edges a.high-1.now (high-in m.before.before.before);
+        exact = part_length a.sizes.edges a.high.now (high-in m.before.before.before);
       },
       s.requires.small,
       refl,
@@ -216,7 +216,7 @@ there-lent c same =
     let s = start (passed c) in
     let a = s.args in
     subst (Maximized (mapAt s) a.sizes.outer (capacityAt s) a.terminals.source a.terminals.sink
-    (take (a.sizes.edges - 0) a.high-1.now) (lentHigh' c) (inside' c)) same c.maximize_from-most.ensures.2
+    (take (a.sizes.edges - 0) a.high.now) (lentHigh' c) (inside' c)) same c.maximize_from-most.ensures.2
 
 there : (c : tie.After-maximize_from-most) {answer : Maximum} → c.maximize_from-most.result ≡ answer
     → Maximized (mapAt (start (passed c))) (start (passed c)).args.sizes.outer (capacityAt (start (passed c))) (start (passed c)).args.terminals.source
@@ -224,7 +224,7 @@ there : (c : tie.After-maximize_from-most) {answer : Maximum} → c.maximize_fro
 there c same =
     let s = start (passed c) in
     let a = s.args in
-    maximized_back (mapAt s) a.sizes.outer (capacityAt s) a.terminals.source a.terminals.sink a.high-1.now (lentHigh' c) (inside' c) same
+    maximized_back (mapAt s) a.sizes.outer (capacityAt s) a.terminals.source a.terminals.sink a.high.now (lentHigh' c) (inside' c) same
     c.maximize_from-most.ensures.2
 
 part-write-set-end : tie.Need-slice_bounds-write_set-end
@@ -249,7 +249,7 @@ above-written c = let m = origin c in written_back (start m).args.above.now m.wo
 
 -- ── nothing can be carried ──
 abbrev written : tie.In_default-most → tie.After-write_set
-written c = c.before.before.before.before
+written c = c.before.before.before
 
 part-write-set-end-2 : tie.Need-slice_bounds-write_set-end-in_default-most
 part-write-set-end-2 c = let m = origin (written c.before) in omega (arith, m.words_for-words.ensures, below_in m)
@@ -268,7 +268,7 @@ returns-4 c =
     let o = origin w in
     let s = start o in
     let a = s.args in
-    let r = there m e.enum_told-in_default-most-1.given.1 in
+    let r = there m e.in_default-most.is in
     let k = none_written s.requires.opened.drawn.plane.sound.range (capacityAt s) (above-written w) a.terminals.source a.terminals.sink
     (ends_two o) r.1 r.2 in (
       none o,
@@ -276,7 +276,7 @@ returns-4 c =
       r.0,
       (
         take (words_for a.sizes.nodes) (above' w),
-        also_written (written_back a.below-1.now o.words_for-words.ensures (below_in o) b.write_set-in_default-most.ensures) (above-written w),
+        also_written (written_back a.below.now o.words_for-words.ensures (below_in o) b.write_set-in_default-most.ensures) (above-written w),
         set_written (above-written w),
         k,
       ),
@@ -284,14 +284,14 @@ returns-4 c =
 
 -- ── something can: then back ──
 abbrev given : tie.In-Value → tie.After-write_set
-given c = c.before.before.before.before.before
+given c = c.before.before.before
 
 -- the largest value, which stands since the way there
 value_there : (c : tie.In-Value)
     → Maximized (mapAt (start (origin (given c)))) (start (origin (given c))).args.sizes.outer (capacityAt (start (origin (given c))))
     (start (origin (given c))).args.terminals.source (start (origin (given c))).args.terminals.sink
-    (start (origin (given c))).args.high.now (high' (found (given c))) (inside' (found (given c))) (Value c.most-1.given.0.0)
-value_there c = there (found (given c)) c.most-1.given.1
+    (start (origin (given c))).args.high.now (high' (found (given c))) (inside' (found (given c))) (Value c.in-Value.largest)
+value_there c = there (found (given c)) c.in-Value.is
 
 negate-requires : tie.Need-negate-requires
 negate-requires c κs =
@@ -319,25 +319,25 @@ maximize-on-requires c κs =
     let m = passed f in
     let s = start m in
     let a = s.args in
-    let h = there-lent f k.most-1.given.1 in
+    let h = there-lent f k.in-Value.is in
     let ends = ends_two m in
     let back = told_least (mapAt s) (capacityAt s) s.requires.opened.drawn.few_edges s.requires.small (inside' f) h.2
     n.negate.result n.negate.ensures in (
       record {
         opened = s.requires.opened;
         ends = ends_for (mapAt s) a.terminals.sink a.terminals.source (ends_exchanged _ _ _ ends);
-        exact = part_length a.sizes.edges a.low-1.now (low_in m);
+        exact = part_length a.sizes.edges a.low.now (low_in m);
       },
       s.requires.small,
       f.maximize_from-most.ensures.0,
       f.maximize_from-most.ensures.1,
       (
         h.0.0,
-        take (a.sizes.edges - 0) a.high-1.now,
+        take (a.sizes.edges - 0) a.high.now,
         known_back s.requires.opened.drawn.plane.sound.range (capacityAt s) a.terminals.source a.terminals.sink ends a.sizes.outer back
             h.0.1,
-        filled_again a.sizes.edges h.0.0 a.high-1.now (lentHigh' f) (high-in m) h.0.2,
-        part_length a.sizes.edges a.high-1.now (high-in m),
+        filled_again a.sizes.edges h.0.0 a.high.now (lentHigh' f) (high-in m) h.0.2,
+        part_length a.sizes.edges a.high.now (high-in m),
       ),
     )
 
@@ -363,7 +363,7 @@ back : (c : tie.After-maximize_on-back) {answer : Maximum} → c.maximize_on-bac
 back c same =
     let s = start (origin (first c)) in
     let a = s.args in
-    maximized_back (mapAt s) a.sizes.outer (capacityAt s) a.terminals.sink a.terminals.source a.low-1.now (lentLow' c) (inside2' c) same
+    maximized_back (mapAt s) a.sizes.outer (capacityAt s) a.terminals.sink a.terminals.source a.low.now (lentLow' c) (inside2' c) same
     c.maximize_on-back.ensures.1
 
 part-write-set-end-3 : tie.Need-slice_bounds-write_set-end-2
@@ -388,13 +388,13 @@ below-written : (c : tie.After-write_set-2) → Written (inside2' (returned c)) 
 below-written c = let m = home c in written_back (start m).args.below.now m.words_for-words.ensures (below_in m) c.write_set-2.ensures
 
 abbrev least : tie.In-Value-back → tie.After-write_set-2
-least c = c.before.before.before.before.before
+least c = c.before.before.before
 
 value-back : (c : tie.In-Value-back)
     → Maximized (mapAt (start (home (least c)))) (start (home (least c))).args.sizes.outer (capacityAt (start (home (least c))))
     (start (home (least c))).args.terminals.sink (start (home (least c))).args.terminals.source
-    (start (home (least c))).args.low.now (low' (returned (least c))) (inside2' (returned (least c))) (Value c.back-1.given.0.0)
-value-back c = back (returned (least c)) c.back-1.given.1
+    (start (home (least c))).args.low.now (low' (returned (least c))) (inside2' (returned (least c))) (Value c.in-Value-back.v)
+value-back c = back (returned (least c)) c.in-Value-back.is
 
 negate-requires-2 : tie.Need-negate-requires-in-Value-back
 negate-requires-2 c κs =
@@ -421,7 +421,7 @@ returns-5 c =
       (
         take (words_for a.sizes.nodes) (below' w),
         set_written (below-written w),
-        next_lower range (capacityAt s) a.terminals.source a.terminals.sink ends q.back-1.given.0.0 _ n
+        next_lower range (capacityAt s) a.terminals.source a.terminals.sink ends q.in-Value-back.v _ n
             (next_proved range (capacityAt s) (below-written w) a.terminals.sink a.terminals.source (ends_exchanged _ _ _ ends) _ l.1 l.2),
       ),
       (h.0.0, highest_as (sym v) h.0.1, h.0.2),
@@ -436,12 +436,12 @@ returns-5 c =
 returns-6 : tie.Need-returns
 returns-6 c =
     let w = c in
-    let m = returned w.before.before.before.before in
-    let s = start (home w.before.before.before.before) in
+    let m = returned w.before.before.before in
+    let s = start (home w.before.before.before) in
     let a = s.args in
     let h = value_there (told m) in
-    let r = back m c.enum_told-in_default-back-1.given.1 in
-    absurd (never_nothing s.requires.opened.drawn.plane.sound.range (capacityAt s) a.terminals.source a.terminals.sink (ends_two (home w.before.before.before.before))
+    let r = back m c.in_default-back.is in
+    absurd (never_nothing s.requires.opened.drawn.plane.sound.range (capacityAt s) a.terminals.source a.terminals.sink (ends_two (home w.before.before.before))
     _ r.1 r.2 _ h.0.0 h.0.1.carries)
 
 -- the slice of the way there is as long as it was
@@ -454,7 +454,7 @@ same-length-6 : tie.Need-shape_of-high-in-Value-back
 same-length-6 c = high-length (first (returned (least c.before)))
 
 same-length-10 : tie.Need-shape_of-high
-same-length-10 c = high-length (first (returned c.before.before.before.before))
+same-length-10 c = high-length (first (returned c.before.before.before))
 
 pub least_and_largest_spec : {M : Type 1} → statement M
 least_and_largest_spec =

@@ -23,7 +23,7 @@ abbrev ended : tie.Else-names_none-2 → tie.Else-names_none
 ended c = c.before.before
 
 rotations : (c : tie.Else-names_none-2)
-    → (2 * (start (ended c)).args.edges ≤ (start (ended c)).args.rotation) ⊎ (2 * (start (ended c)).args.edges ≤ (start (ended c)).args.back-rotation) → ⊥
+    → (2 * (start (ended c)).args.edges ≤ (start (ended c)).args.rotation) ⊎ (2 * (start (ended c)).args.edges ≤ (start (ended c)).args.back_rotation) → ⊥
 rotations c = said_no c.names_none-2.ensures c.if-names_none-2.false
 
 -- ── the needs, in the order of the code ──

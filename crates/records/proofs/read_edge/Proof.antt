@@ -29,19 +29,19 @@ judged c v e = subst (λ n. Judged (record_checks (begun c).args.s.now 2 n) v) (
 
 -- ── and is whole ──
 abbrev checked : tie.In_default → tie.After-check_record-whole
-checked c = c.before.before
+checked c = c.before
 
 whole : (c : tie.In_default) → (checked c).edge_at-at.result + 17 ≤ length (begun (checked c)).args.s.now
 whole c =
     let k = checked c in
-    omega (arith, place k, edge_body _ (begun k).args.e (judged k _ c.enum_told-1.given.1))
+    omega (arith, place k, edge_body _ (begun k).args.e (judged k _ c.in_default.is))
 
 -- ── the needs, in the order of the code ──
 returns : tie.Need-returns-in-Refused
 unfolding edge_record_checks
 returns c =
     let k = c in
-    rw c.refused_edge.ensures (first_left _ _ _ _ (judged k.before.before.before.before _ c.whole-1.given.1))
+    rw c.refused_edge.ensures (first_left _ _ _ _ (judged k.before.before _ c.in-Refused.is))
 
 read-u16-requires : tie.Need-read_u16-tail-requires
 read-u16-requires c κs = omega (arith, whole c)
@@ -78,7 +78,7 @@ returns-2 c =
     let forward_is = number_of_bits forward.read_i32-forward.result (record { sfits = forward.read_i32-forward.type_inv }) ∙ forward.read_i32-forward.ensures in
     let backward_is = number_of_bits backward.read_i32-backward.result (record { sfits = backward.read_i32-backward.type_inv }) ∙ backward.read_i32-backward.ensures in
     edge_told s a.e _ v
-    (judged_right _ _ v (judged k _ told.enum_told-1.given.1)
+    (judged_right _ _ v (judged k _ told.in_default.is)
     (edge_read s a.e v (begun k).requires.1 (begun k).requires.4 (begun k).requires.5 (place k)
     tail.read_u16-tail.ensures head.read_u16-other.ensures rotation.read_u16-rotation.ensures back.read_u16-back_rotation.ensures forward_is backward_is
     c.check_fields-verdict.ensures))

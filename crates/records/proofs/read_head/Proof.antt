@@ -11,14 +11,14 @@ use Rattle.records.proofs.read_head.Tie as tie
 
 -- ── the head is whole, and of one of the two kinds ──
 whole : (c : tie.In_default) → NoneOf (head_record_checks c.args.s.now)
-whole c = rw c.enum_told-1.given.1 at c.check_head_record-whole.ensures
+whole c = rw c.in_default.is at c.check_head_record-whole.ensures
 
 -- ── the needs, in the order of the code ──
 returns : tie.Need-returns-in-Refused
 unfolding head_checks
 returns c =
     rw c.refused_head.ensures
-    (first_left _ _ _ _ (rw c.whole-1.given.1 at c.check_head_record-whole.ensures))
+    (first_left _ _ _ _ (rw c.in-Refused.is at c.check_head_record-whole.ensures))
 
 head-length-requires : tie.Need-head_length-length-requires
 head-length-requires c κs = omega (arith, head_counted _ (whole c))

@@ -119,12 +119,12 @@ loop-again c =
     let entry = entry-is (valued k.before) in
     let l : key.result < length o.table = omega (arith, key_below (place k.before), o.invariant.1) in
     ⊎_elim
-    (λ w. rw w.2 (
+    (λ w. rw w.table-is (
       omega arith,
-      length-set o.table key.result w.1.result ∙ o.invariant.1,
-      register_new o.table key.result w.1.result o.invariant.2 l key.ensures (w.1.ensures ∙ entry) (sym k.wide-old.ensures ∙ w.0.taken),
+      length-set o.table key.result w.narrow.result ∙ o.invariant.1,
+      register_new o.table key.result w.narrow.result o.invariant.2 l key.ensures (w.narrow.ensures ∙ entry) (sym k.wide-old.ensures ∙ w.if-old-eq0.true),
     ))
-    (λ w. rw w.2 (omega arith, o.invariant.1, register_same o.invariant.2 (sym (old-is k.before) ∙ w.1.left ∙ entry)))
+    (λ w. rw w.table-is (omega arith, o.invariant.1, register_same o.invariant.2 (sym (old-is k.before) ∙ w.if-old-entry.false ∙ entry)))
     c.if-old-eq0.branch-raw
 
 returns-2 : tie.Need-returns invariant-loop decreases-loop

@@ -128,7 +128,7 @@ marking c = free (numbered c)
 
 -- the darts' numbers afterwards
 abbrev lefts-after : tie.After-mark_face-free invariant-loop decreases-loop → ℕ → ℕ
-lefts-after c = at c.mark_face-free.new.1.1.1.1.0
+lefts-after c = at c.mark_face-free.new.lefts
 
 laid-below : (c : tie.After-mark_face-free invariant-loop decreases-loop) → c.mark_face-free.result ≤ 1024
 laid-below c = let t = turn (marking c) in omega (arith, c.mark_face-free.ensures.3.some, few (begun t), t.loop-free.invariant.4.room)

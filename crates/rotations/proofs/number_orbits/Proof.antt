@@ -69,8 +69,8 @@ add-f : tie.Need-overflow_add-f invariant-loop decreases-loop
 add-f c = omega (arith, few (marked c), used (marked c))
 
 -- ── the place has its number ──
-abbrev over : tie.Joined1 invariant-loop decreases-loop → At-loop
-over c = c
+abbrev over : tie.Joined-label-d invariant-loop decreases-loop → At-loop
+over c = c.before.before.before.before
 
 add-d : tie.Need-overflow_add-d invariant-loop decreases-loop
 add-d c = omega (arith, few (over c))
@@ -84,8 +84,8 @@ loop-again c =
     let i = l.loop-d.invariant in
     let t = c.loop-d-test.true in
     ⊎_elim
-    (λ w. rw (w.4, w.5) (w.3.ensures.0, mark (few l) (permutes l) i.1 t w.0.taken (rw w.1.ensures at w.3.ensures.1)))
-    (λ w. rw (w.1, w.2) (i.0, pass (few l) (permutes l) i.1 t w.0.left))
+    (λ w. rw (w.label-is, w.f-is) (w.mark_orbit.ensures.0, mark (few l) (permutes l) i.1 t w.if-label-d.true (rw w.narrow.ensures at w.mark_orbit.ensures.1)))
+    (λ w. rw (w.label-is, w.f-is) (i.0, pass (few l) (permutes l) i.1 t w.if-label-d.false))
     c.if-label-d.branch-raw
 
 -- ── all places have their numbers ──

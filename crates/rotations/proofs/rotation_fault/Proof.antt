@@ -78,10 +78,10 @@ abbrev read : tie.Else-tails-t invariant-loop decreases-loop → Read
 read c = c.before.before.before.before
 
 mul-if2 : tie.Need-offset_bounds-origin-t invariant-loop decreases-loop
-mul-if2 c = omega (arith, rotation-below (read c))
+mul-if2 c = omega (arith, rotation-below c.before.before.before.before)
 
 array-read-if2 : tie.Need-bounds-origin-t invariant-loop decreases-loop
-array-read-if2 c = omega (arith, rotation-below (read c))
+array-read-if2 c = omega (arith, rotation-below c.before.before.before.before)
 
 -- another dart has this rotation
 returns-2 : tie.Need-returns-then-origin-t-ne0 invariant-loop decreases-loop

@@ -77,11 +77,11 @@ ascend_spec =
     decreases-loop
     loop-holds
     (λ c. record { fits = omega (arith, small c) })
-    (λ c. small c)
+    (λ c. small c.before)
     (λ c κs. search rules)
     returns
-    (λ c. record { fits = omega (arith, small c) })
-    (λ c. small c)
+    (λ c. record { fits = omega (arith, small c.before.before.before.before) })
+    (λ c. small c.before.before.before.before.before)
     returns-2
     (λ c. record { fits = omega (arith, below-small c) })
     (λ c. record { fits = omega (arith, small (there c)) })

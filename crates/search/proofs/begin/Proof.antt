@@ -64,14 +64,14 @@ begin_spec =
     (λ c κs. let p = c.requires in (p.1, p.5, p.6))
     loop-holds
     (λ c. record { fits = omega (arith, m-in c) })
-    (λ c. m-in c)
+    (λ c. m-in c.before)
     (λ c κs. search rules)
     (λ c. record { fits = omega (arith, root_in c) })
     (λ c. root_in c)
     (λ c. record { fits = omega (arith, root_in c) })
-    (λ c. root_in c)
-    (λ c. root_in c)
-    (λ c. record { fits = omega (arith, m-in c) })
+    (λ c. root_in c.before)
+    (λ c. root_in c.before.before)
+    (λ c. record { fits = omega (arith, m-in c.before.before.before.before.before) })
     (λ c. omega (arith, c.loop-m-test.true))
     loop-again
     returns)

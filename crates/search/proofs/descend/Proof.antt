@@ -53,10 +53,10 @@ descend_spec =
     (λ c. falling_first c.requires)
     (λ c. search rules)
     (λ c. record { fits = omega (arith, y-small c) })
-    (λ c. y-small c)
+    (λ c. y-small c.before)
     (λ c κs. search rules)
-    (λ c. record { fits = omega (arith, y-small c) })
-    (λ c. y-small c)
+    (λ c. record { fits = omega (arith, y-small c.before.before.before) })
+    (λ c. y-small c.before.before.before)
     follow-requires
     (λ c. omega (arith, c.loop-k-test.true))
     loop-again

@@ -50,10 +50,10 @@ none_proposed_spec =
     decreases-loop
     loop-holds
     (λ c. record { fits = omega (arith, small c) })
-    (λ c. small c)
+    (λ c. small c.before)
     (λ c κs. search rules)
-    (λ c. record { fits = omega (arith, c.proposed-some.ensures.0, c.loop-f.invariant.0, small c) })
-    (λ c. record { fits = omega (arith, small c) })
+    (λ c. record { fits = omega (arith, c.proposed-some.ensures.0, c.loop-f.invariant.0, small c.before.before.before) })
+    (λ c. record { fits = omega (arith, small c.before.before.before) })
     (λ c. omega (arith, c.loop-f-test.true))
     loop-again
     returns)

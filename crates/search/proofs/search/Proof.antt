@@ -85,7 +85,7 @@ base c = c.before.before.before.before.before.before
 
 abbrev here : At-search → Configuration
 here c =
-    configuration (tables_of c.search.potentials c.search.parents c.search.waiting c.search.queue c.search.new)
+    configuration (tables_of c.search.potentials c.search.parents c.search.waiting c.search.queue c.search.last)
     c.search.first c.search.left
 
 first_left : (c : At-search) → c.first_looks-left.result
@@ -112,7 +112,7 @@ begun c = base (round c)
 
 abbrev now : At-loop → Configuration
 now c =
-    configuration (tables_of c.loop-left.potentials c.loop-left.parents c.loop-left.waiting c.loop-left.queue c.loop-left.last) c.loop-left.first c.loop-left.false
+    configuration (tables_of c.loop-left.potentials c.loop-left.parents c.loop-left.waiting c.loop-left.queue c.loop-left.last) c.loop-left.first c.loop-left.left
 
 passing : (c : At-loop) → PassingAt (dual (givenAt (begun c)) (rootsAt (begun c))) (now c)
 passing c = let s = begun c in goes_passing (givenAt s) (rootsAt s) s.requires.0 s.requires.2 (here-passing (round c)) c.loop-left.invariant.0
@@ -181,7 +181,7 @@ abbrev Straight : Type 0
 Straight = tie.In-Straight invariant-loop decreases-loop invariant-search decreases-search
 
 abbrev over : Straight → At-loop
-over c = c.before.before.before.before.before.before.before.before.before
+over c = c.before.before.before.before.before.before.before
 
 none_left : (c : Straight) → (now (over c)).left ≡ 0
 none_left c = omega (arith, c.loop-left-test.false)
@@ -192,7 +192,7 @@ search-less c =
     let s = begun l in
     let w = c.straighten-pass in
     let p =
-    goes_on l.loop-left.invariant.0 (straightens (givenAt s) (now l) (none_left c) _ _ _ _ _ _ w.result c.pass-in-Straight-1.given.1 w.ensures.1) in
+    goes_on l.loop-left.invariant.0 (straightens (givenAt s) (now l) (none_left c) _ _ _ _ _ _ w.result c.in-Straight.is w.ensures.1) in
     let k = (goes_kept (givenAt s) (rootsAt s) s.requires.0 s.requires.2 (here-passing (round l)) p).1 in
     let r = goes_passing (givenAt s) (rootsAt s) s.requires.0 s.requires.2 (here-passing (round l)) p in
     omega (arith, none_left c, l.loop-left.invariant.1, k.longer, k.spends, r.passing.ordered, (here-passing (round l)).passing.ordered)
@@ -203,7 +203,7 @@ search-again c =
     let w = c.straighten-pass in
     goes_then (round l).search.invariant
     (goes_on l.loop-left.invariant.0
-    (straightens (givenAt (begun l)) (now l) (none_left c) _ _ _ _ _ _ w.result c.pass-in-Straight-1.given.1 w.ensures.1))
+    (straightens (givenAt (begun l)) (now l) (none_left c) _ _ _ _ _ _ w.result c.in-Straight.is w.ensures.1))
 
 -- ── the ways out ──
 answers : (s : Start) {potentials : List ℤ} {parents : List ℕ} (o : Outcome)
@@ -237,20 +237,20 @@ returns-2 c =
     let w = p.straighten-pass in
     let o = p in
     let l = o in
-    let r = round l.before.before.before.before.before.before.before.before.before in
+    let r = round l.before.before.before.before.before.before.before in
     let s = base r in
-    answers s (outcome.Ring p.pass-1.given.0.0) (record {
+    answers s (outcome.Ring p.in-Ring.d) (record {
       first_potentials = _;
       first_parents = _;
       first_waiting = _;
       begun = r.begin-taken.ensures.0;
-      end = now l.before.before.before.before.before.before.before.before.before;
+      end = now l.before.before.before.before.before.before.before;
       run = from_start s.args.parents.now (first_left r) (goes_then r.search.invariant l.loop-left.invariant.0);
       left = tables_of _ _ _ _ w.ensures.0;
       ended = (
         omega (arith, o.loop-left-test.false),
-        subst (Straightens s.args.lefts.now s.args.lengths.now s.args.darts s.args.faces 0 unmarked (now l.before.before.before.before.before.before.before.before.before).tables _)
-            p.pass-1.given.1 w.ensures.1,
+        subst (Straightens s.args.lefts.now s.args.lengths.now s.args.darts s.args.faces 0 unmarked (now l.before.before.before.before.before.before.before).tables _)
+            p.in-Ring.is w.ensures.1,
       );
       potentials_are = refl;
       parents_are = refl;

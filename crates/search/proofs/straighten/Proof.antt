@@ -74,9 +74,9 @@ loop-again c =
     let a = u.ascend-risen.ensures i.marks i.matched in
     ⊎_elim
     (λ d.
-    rw (d.11, d.12, d.13, d.14, d.15, d.16)
-    (let q = d.10.ensures in pass_next i n.loop-f-test.true a (d.3.ensures.1 d.4.left) q.1 q.0))
-    (λ d. rw (d.1, d.2, d.3, d.4, d.5, d.6) (pass_none i n.loop-f-test.true a (omega (arith, d.0.left))))
+    rw (d.potentials-is, d.parents-is, d.waiting-is, d.queue-is, d.links-is, d.end-is)
+    (let q = d.descend-end.ensures in pass_next i n.loop-f-test.true a (d.is_round.ensures.1 d.if-is_round.false) q.1 q.0))
+    (λ d. rw (d.potentials-is, d.parents-is, d.waiting-is, d.queue-is, d.links-is, d.end-is) (pass_none i n.loop-f-test.true a (omega (arith, d.if-risen-gt0.false))))
     c.if-risen-gt0.branch-raw
 
 returns-2 : tie.Need-returns invariant-loop decreases-loop
@@ -91,12 +91,12 @@ straighten_spec =
     loop-holds
     ascend-requires
     is-round-requires
-    (λ c. record { fits = omega (arith, top_small c) })
-    (λ c. top_small c)
+    (λ c. record { fits = omega (arith, top_small c.before.before.before.before.before) })
+    (λ c. top_small c.before.before.before.before.before.before)
     (λ c κs. search rules)
     returns
     descend-requires
-    (λ c. record { fits = omega (arith, f-small (turn c)) })
-    (λ c. omega (arith, (turn c).loop-f-test.true))
+    (λ c. record { fits = omega (arith, f-small (turn c.before.before)) })
+    (λ c. omega (arith, (turn c.before.before).loop-f-test.true))
     loop-again
     returns-2)

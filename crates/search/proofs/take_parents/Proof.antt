@@ -35,11 +35,11 @@ loop-again c =
     let s = small k.before.before.before.before.before in
     let b = k.is_sensible in (
       ⊎_elim
-          (λ u. taking_keep l.invariant.0 s w.result w.ensures b.result b.ensures u.0.taken _ u.1 _ u.2)
-          (λ u. taking_drop l.invariant.0 s w.result w.ensures b.result b.ensures u.0.left _ u.1 _ u.2)
+          (λ u. taking_keep l.invariant.0 s w.result w.ensures b.result b.ensures u.if-is_sensible.true _ u.parents-is _ u.taken-is)
+          (λ u. taking_drop l.invariant.0 s w.result w.ensures b.result b.ensures u.if-is_sensible.false _ u.parents-is _ u.taken-is)
           c.if-is_sensible.branch-raw,
       omega (arith, k.loop-f-test.true),
-      ⊎_elim (λ u. omega (arith, u.2, l.invariant.2)) (λ u. omega (arith, u.2, l.invariant.2)) c.if-is_sensible.branch-raw,
+      ⊎_elim (λ u. omega (arith, u.taken-is, l.invariant.2)) (λ u. omega (arith, u.taken-is, l.invariant.2)) c.if-is_sensible.branch-raw,
     )
 
 returns : tie.Need-returns invariant-loop decreases-loop
@@ -57,13 +57,13 @@ take_parents_spec =
     decreases-loop
     loop-holds
     (λ c. record { fits = omega (arith, small c) })
-    (λ c. small c)
+    (λ c. small c.before)
     (λ c κs. search rules)
     (λ c κs. search rules)
-    (λ c. record { fits = omega (arith, c.loop-f.invariant.2, small c) })
-    (λ c. record { fits = omega (arith, small c) })
-    (λ c. small c)
-    (λ c. record { fits = omega (arith, small c) })
+    (λ c. record { fits = omega (arith, c.loop-f.invariant.2, small c.before.before.before.before.before) })
+    (λ c. record { fits = omega (arith, small c.before.before.before.before.before) })
+    (λ c. small c.before.before.before.before.before)
+    (λ c. record { fits = omega (arith, small c.before.before.before.before.before) })
     (λ c. omega (arith, c.loop-f-test.true))
     loop-again
     returns)

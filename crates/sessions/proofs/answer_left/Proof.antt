@@ -76,31 +76,31 @@ check-map-requires c κs =
 returns-2 : tie.Need-returns-in-Refused
 returns-2 c =
     let m = c in
-    let b = (within (m).before.before.before) in
-    let r = map_refused (held b.before) _ _ _ _ c.verdict-1.given.1 m.check_map-checked.ensures.5 in
+    let b = (within (m).before) in
+    let r = map_refused (held b.before) _ _ _ _ c.in-Refused.is m.check_map-checked.ensures.5 in
     ((unfit_answered (held b.before) (given b.before) (same b.before) r _ _ _ _ _, refl, refl), tt, tt)
 
 -- ── fit ──
 passed : (c : tie.In_default)
-    → NoneOf (map_checks (held (within c.before.before).before).map)
-    × ((d : ℕ) → d < darts (held (within c.before.before).before).map
-    → at c.check_map-checked.new.lefts d ≡ left (held (within c.before.before).before).map d)
-    × (c.check_map-checked.result.faces ≡ faces (held (within c.before.before).before).map)
+    → NoneOf (map_checks (held (within c.before).before).map)
+    × ((d : ℕ) → d < darts (held (within c.before).before).map
+    → at c.check_map-checked.new.lefts d ≡ left (held (within c.before).before).map d)
+    × (c.check_map-checked.result.faces ≡ faces (held (within c.before).before).map)
 passed c =
     let m = c in
-    map_passed (held (within m.before.before).before) (at m.check_map-checked.new.lefts) m.check_map-checked.result.faces c.enum_told-1.given.1
+    map_passed (held (within m.before).before) (at m.check_map-checked.new.lefts) m.check_map-checked.result.faces c.in_default.is
     m.check_map-checked.ensures.5
 
-fit : (c : tie.In_default) → Fit (held (within c.before.before).before)
-fit c = record { bounds = bounded (within c.before.before); passes = (passed c).0 }
+fit : (c : tie.In_default) → Fit (held (within c.before).before)
+fit c = record { bounds = bounded (within c.before); passes = (passed c).0 }
 
 solve-requires : tie.Need-solve-requires
 solve-requires c κs =
     let t = c in
     let m = t in
     let p = passed t.before.before.before.before.before.before.before.before.before in record {
-      drawn = fit_drawn (held (within m.before.before.before.before.before.before.before.before.before.before.before).before) (fit t.before.before.before.before.before.before.before.before.before) _ _ p.1 p.2;
-      walked = if-passed t.enum_told-1.given.1 m.check_map-checked.ensures.6;
+      drawn = fit_drawn (held (within m.before.before.before.before.before.before.before.before.before.before).before) (fit t.before.before.before.before.before.before.before.before.before) _ _ p.1 p.2;
+      walked = if-passed t.in_default.is m.check_map-checked.ensures.6;
     }
 
 returns-3 : tie.Need-returns
@@ -108,7 +108,7 @@ returns-3 c =
     let k = c in
     let w = k in
     let t = w in
-    let b = (within t.before.before.before.before.before.before.before.before.before.before.before.before.before.before.before) in
+    let b = (within t.before.before.before.before.before.before.before.before.before.before.before.before.before.before) in
     let s = begun b.before in
     let q = number_of_bits _ s.fits.value in
     let from = w.wide.ensures in

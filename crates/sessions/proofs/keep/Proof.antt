@@ -41,7 +41,7 @@ returns c =
     let o = c.loop-e in
     let a = c.args in
     let all : o.e ≡ a.edges = omega arith in
-    o.invariant.1 ∙ ap (λ k. tabulate k (atℤ a.flows.now) ++ drop k a.offer-1.now) all
+    o.invariant.1 ∙ ap (λ k. tabulate k (atℤ a.flows.now) ++ drop k a.offer.now) all
 
 pub keep_spec : {M : Type 1} → statement M
 keep_spec =

@@ -35,7 +35,7 @@ slice-copy-out-lowered-by c =
 
 -- the limit that is read is the one at entry, and the flow is its edge's
 limit_is : (c : tie.After-lowered_by-arg-1 invariant-loop decreases-loop)
-    → to_z w32 (of_z w32 (atℤ c.loop-d.false c.loop-d.d)) ≡ atℤ c.args.left.now
+    → to_z w32 (of_z w32 (atℤ c.loop-d.left c.loop-d.d)) ≡ atℤ c.args.left.now
     c.loop-d.d
 limit_is c =
     let o = c.loop-d in

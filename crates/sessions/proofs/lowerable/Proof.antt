@@ -12,14 +12,14 @@ returns c = λ h. omega (arith, h.few_edges, c.if-edges-gt512.true)
 returns-2 : tie.Need-returns-in-Refused
 returns-2 c =
     let w = c in
-    λ h. first_none _ _ _ (rw c.within-1.given.1 at w.check_within-within.ensures) (lowerable_none _ _ _ h)
+    λ h. first_none _ _ _ (rw c.in-Refused.is at w.check_within-within.ensures) (lowerable_none _ _ _ h)
 
 returns-3 : tie.Need-returns-then-limits_fit
 returns-3 c =
     let w = c in
     let l = w in
     tested_lowerable _ _ _ (omega (arith, l.if-edges-gt512.false)) (said_yes l.limits_fit.ensures w.if-limits_fit.true)
-    (rw c.enum_told-1.given.1 at w.check_within-within.ensures)
+    (rw c.in_default.is at w.check_within-within.ensures)
 
 returns-4 : tie.Need-returns
 returns-4 c = λ h. said_no c.limits_fit.ensures c.if-limits_fit.false h.limits

@@ -28,13 +28,13 @@ loop-holds c = (omega arith, λ i l. absurd (omega arith))
 returns : tie.Need-returns-in-Refused invariant-loop decreases-loop
 returns c =
     let edge = c in
-    let o = (turn edge.before.before.before).loop-e in
-    first_in_turn _ _ o.e _ _ (omega arith) o.invariant.1 (rw c.edge-1.given.1 at edge.check_edge-edge.ensures)
+    let o = (turn edge.before).loop-e in
+    first_in_turn _ _ o.e _ _ (omega arith) o.invariant.1 (rw c.in-Refused.is at edge.check_edge-edge.ensures)
 
 loop-again : tie.Need-loop-e-preserved invariant-loop decreases-loop
 loop-again c =
     let edge = c in
-    (omega arith, below_more _ _ (turn edge.before.before).loop-e.invariant.1 (rw c.enum_told-1.given.1 at edge.check_edge-edge.ensures))
+    (omega arith, below_more _ _ (turn edge.before).loop-e.invariant.1 (rw c.in_default.is at edge.check_edge-edge.ensures))
 
 returns-2 : tie.Need-returns invariant-loop decreases-loop
 returns-2 c = none_in_turn _ _ (λ i l. c.loop-e.invariant.1 i (omega arith))

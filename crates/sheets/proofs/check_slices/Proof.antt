@@ -25,17 +25,17 @@ drawn s = slices_drawing s.args.nodes s.args.outer s.args.tails.now s.args.rotat
 
 -- ── the numbers passed ──
 abbrev begun : tie.In_default → tie.Start
-begun c = c.before.before.before.before.before
+begun c = c.before.before.before.before
 
 numbers-passed : (c : tie.In_default) → NoneOf (number_checks (begun c).args.nodes (edges_in (begun c).args.tails.now) (begun c).args.outer)
-numbers-passed c = rw c.enum_told-1.given.1 at c.check_numbers-numbers.ensures
+numbers-passed c = rw c.in_default.is at c.check_numbers-numbers.ensures
 
 -- ── the edges passed ──
 abbrev counted : tie.In_default-fields → tie.In_default
-counted c = c.before.before.before
+counted c = c.before.before
 
 edges-passed : (c : tie.In_default-fields) → NoneOf (in_turn (edges_in (begun (counted c)).args.tails.now) (edge_checks (drawn (begun (counted c)))))
-edges-passed c = rw c.enum_told-in_default-fields-1.given.1 at c.check_edges-fields.ensures
+edges-passed c = rw c.in_default-fields.is at c.check_edges-fields.ensures
 
 long : (c : tie.In_default-fields) → length (begun (counted c)).args.tails.now ≤ 1024
 long c = omega (arith, (begun (counted c)).requires.2, (counts_range _ _ _ (numbers-passed (counted c))).3)
@@ -62,7 +62,7 @@ map_is c =
 returns : tie.Need-returns-in-Refused
 returns c =
     let numbers = c in
-    refused_numbers (drawn numbers.before.before.before.before.before.before) _ _ (rw c.numbers-1.given.1 at numbers.check_numbers-numbers.ensures)
+    refused_numbers (drawn numbers.before.before.before.before) _ _ (rw c.in-Refused.is at numbers.check_numbers-numbers.ensures)
 
 check-edges-requires : tie.Need-check_edges-fields-requires
 check-edges-requires c κs =
@@ -72,7 +72,7 @@ check-edges-requires c κs =
 returns-2 : tie.Need-returns-in-Refused-fields
 returns-2 c =
     let t = c in
-    refused_edges (drawn (begun t.before.before.before.before)) _ _ (numbers-passed t.before.before.before.before) (rw c.fields-1.given.1 at c.check_edges-fields.ensures)
+    refused_edges (drawn (begun t.before.before)) _ _ (numbers-passed t.before.before) (rw c.in-Refused-fields.is at c.check_edges-fields.ensures)
 
 load-requires : tie.Need-load-requires
 load-requires c κs = (refl, long c.before, same_everywhere 1024 0)

@@ -37,14 +37,14 @@ abbrev turn : tie.After-read_edge-edge invariant-loop decreases-loop → tie.At-
 turn c = c.before.before
 
 abbrev read : tie.After-struct_told-in-loop-e-1 invariant-loop decreases-loop → tie.After-read_edge-edge invariant-loop decreases-loop
-read c = c.before.before.before.before.before.before
+read c = c.before.before.before.before.before
 
 -- ── the edge that was read passed ──
 passed : (c : tie.After-struct_told-in-loop-e-1 invariant-loop decreases-loop)
     → NoneOf (edge_record_checks (begun (turn (read c))).args.s.now (turn (read c)).loop-e.e)
     × FieldsOf (begun (turn (read c))).args.s.now (turn (read c)).loop-e.e (read c).read_edge-edge.result
 passed c =
-    subst (EdgeRead (begun (turn (read c))).args.s.now (turn (read c)).loop-e.e (read c).read_edge-edge.result) c.enum_told-1.given.1
+    subst (EdgeRead (begun (turn (read c))).args.s.now (turn (read c)).loop-e.e (read c).read_edge-edge.result) c.in_default.is
     (read c).read_edge-edge.ensures
 
 -- two places further
@@ -71,13 +71,13 @@ read-edge-requires c κs =
 returns : tie.Need-returns-in-Refused invariant-loop decreases-loop
 returns c =
     let edge = c in
-    let o = (turn edge.before.before.before).loop-e in
-    let p = (begun (turn edge.before.before.before)).requires in (
+    let o = (turn edge.before).loop-e in
+    let p = (begun (turn edge.before)).requires in (
       o.invariant.3.long,
       o.invariant.4.long,
       o.invariant.5.long,
       refused_edge _ p.0 o.e _ _ (omega (arith, p.3)) o.invariant.2
-          (subst (EdgeRead (begun (turn edge.before.before.before)).args.s.now o.e edge.read_edge-edge.result) c.verdict-1.given.1 edge.read_edge-edge.ensures),
+          (subst (EdgeRead (begun (turn edge.before)).args.s.now o.e edge.read_edge-edge.result) c.in-Refused.is edge.read_edge-edge.ensures),
     )
 
 loop-again : tie.Need-loop-e-preserved invariant-loop decreases-loop

@@ -28,11 +28,11 @@ head_read : (c : tie.After-read_head-head) (v : Verdict) → c.read_head-head.re
 head_read c v e = subst (HeadRead (begun c).args.s.now c.read_head-head.result) e c.read_head-head.ensures
 
 abbrev headed : tie.In_default → tie.After-read_head-head
-headed c = c.before.before
+headed c = c.before
 
 head_passed : (c : tie.In_default)
     → NoneOf (head_checks (begun (headed c)).args.s.now) × HeadOf (begun (headed c)).args.s.now (headed c).read_head-head.result
-head_passed c = head_read (headed c) _ c.enum_told-1.given.1
+head_passed c = head_read (headed c) _ c.in_default.is
 
 -- ── the edges passed ──
 abbrev told : tie.After-read_edges-read → tie.In_default
@@ -57,11 +57,11 @@ edges-read : (c : tie.After-read_edges-read) (v : Verdict) → c.read_edges-read
 edges-read c v e = subst (EdgesRead (sheet c) (tails c) (rotations c) (capacities c)) e c.read_edges-read.ensures.3
 
 abbrev read : tie.In_default-read → tie.After-read_edges-read
-read c = c.before.before
+read c = c.before
 
 edges-passed : (c : tie.In_default-read)
     → NoneOf (byte_checks (sheet (read c))) × FieldsRead (sheet (read c)) (tails (read c)) (rotations (read c)) (capacities (read c))
-edges-passed c = edges-read (read c) _ c.enum_told-in_default-read-1.given.1
+edges-passed c = edges-read (read c) _ c.in_default-read.is
 
 -- ── the map that the arrays hold is the sheet's ──
 abbrev head : (c : tie.In_default-read) → HeadOf (sheet (read c)) (headed (told (read c))).read_head-head.result
@@ -91,8 +91,8 @@ judged c v e =
 returns : tie.Need-returns-in-Refused
 returns c =
     let h = c in
-    let a = (begun h.before.before.before.before).args in
-    let p = (begun h.before.before.before.before).requires in
+    let a = (begun h.before.before).args in
+    let p = (begun h.before.before).requires in
     let r = c.refused.ensures in
     let n = network_of c.refused.result a.tails.now a.rotations.now a.capacities.now a.lefts.now in (
       p.0,
@@ -103,7 +103,7 @@ returns c =
       p.9,
       p.10,
       p.11,
-      opens_bytes a.s.now n _ _ r (refused_head _ _ _ (head_read h.before.before.before.before _ c.whole-1.given.1)),
+      opens_bytes a.s.now n _ _ r (refused_head _ _ _ (head_read h.before.before _ c.in-Refused.is)),
       not_accepted r.0,
     )
 
@@ -117,10 +117,10 @@ read-edges-requires c κs =
 returns-2 : tie.Need-returns-in-Refused-read
 returns-2 c =
     let e = c in
-    let p = (start e.before.before.before.before).requires in
+    let p = (start e.before.before).requires in
     let l = e.read_edges-read.ensures in
     let r = c.refused-in-Refused-read.ensures in
-    let n = network_of c.refused-in-Refused-read.result (tails e.before.before.before.before) (rotations e.before.before.before.before) (capacities e.before.before.before.before) (start e.before.before.before.before).args.lefts.now in (
+    let n = network_of c.refused-in-Refused-read.result (tails e.before.before) (rotations e.before.before) (capacities e.before.before) (start e.before.before).args.lefts.now in (
       l.0,
       l.1,
       l.2,
@@ -129,7 +129,7 @@ returns-2 c =
       p.9,
       p.10,
       p.11,
-      opens_bytes (sheet e.before.before.before.before) n _ _ r (edges-read e.before.before.before.before _ c.read-1.given.1),
+      opens_bytes (sheet e.before.before) n _ _ r (edges-read e.before.before _ c.in-Refused-read.is),
       not_accepted r.0,
     )
 
@@ -156,11 +156,11 @@ check-map-requires c κs =
 returns-3 : tie.Need-returns-in-Refused-verdict
 returns-3 c =
     let m = c in
-    let k = read (lent m.before.before.before.before) in
+    let k = read (lent m.before.before) in
     let l = k.read_edges-read.ensures in
     let e = m.check_map-checked.ensures in
     let r = c.refused-in-Refused-verdict.ensures in
-    let n = network_of c.refused-in-Refused-verdict.result (tails k) (rotations k) (capacities k) (lefts m.before.before.before.before) in (
+    let n = network_of c.refused-in-Refused-verdict.result (tails k) (rotations k) (capacities k) (lefts m.before.before) in (
       l.0,
       l.1,
       l.2,
@@ -169,18 +169,18 @@ returns-3 c =
       e.2,
       e.3,
       e.4,
-      opens_map (sheet k) n _ _ r (edges-passed (lent m.before.before.before.before)).0 (judged m.before.before.before.before _ c.verdict-1.given.1),
+      opens_map (sheet k) n _ _ r (edges-passed (lent m.before.before)).0 (judged m.before.before _ c.in-Refused-verdict.is),
       not_accepted r.0,
     )
 
 returns-4 : tie.Need-returns
 returns-4 c =
     let m = c in
-    let l = lent m.before.before in
+    let l = lent m.before in
     let r = (read l).read_edges-read.ensures in
     let h = head l in
     let f = (edges-passed l).1 in
-    let j = judged m.before.before _ c.enum_told-in_default-verdict-1.given.1 in
+    let j = judged m.before _ c.in_default-verdict.is in
     let e = m.check_map-checked.ensures in (
       r.0,
       r.1,
@@ -203,7 +203,7 @@ returns-4 c =
           lefts_are = j.1;
         },
       ),
-      λ _. if-passed c.enum_told-in_default-verdict-1.given.1 e.6,
+      λ _. if-passed c.in_default-verdict.is e.6,
     )
 
 pub read_sheet_spec : {M : Type 1} → statement M

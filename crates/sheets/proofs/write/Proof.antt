@@ -50,13 +50,13 @@ judged c v e = rw (e, c.wide.ensures, c.wide-2.ensures) at c.check_slices-drawin
 
 -- ── the drawing passed ──
 abbrev sliced : tie.In_default → tie.Else-length-ne0
-sliced c = even c.before.before
+sliced c = even c.before
 
 abbrev base : tie.In_default → tie.Start
 base c = begun (sliced c)
 
 passed : (c : tie.In_default) → NoneOf (drawing_checks (drawn (base c)))
-passed c = judged c.before.before Passed c.enum_told-1.given.1
+passed c = judged c.before Passed c.in_default.is
 
 few : (c : tie.In_default) → edges_in (base c).args.tails.now ≤ 512
 few c = (counts_range _ _ _ (drawing_parts (drawn (base c)) (passed c)).0).3
@@ -81,7 +81,7 @@ start c = base (told (roomy c))
 head-length : (c : tie.After-write_head) → length c.write_head.new.out ≡ length (start c).args.out.now
 head-length c =
     let a = (start c).args in
-    head_kept a.nodes c.narrow.result a.outer a.out-1.now _ c.write_head.ensures (omega (arith, long (roomy c)))
+    head_kept a.nodes c.narrow.result a.outer a.out.now _ c.write_head.ensures (omega (arith, long (roomy c)))
 
 headed : (c : tie.After-write_head) → c.write_head.new.out ≡ encode_head (drawn (start c)) ++ drop (record_length 4) (start c).args.out.now
 headed c =
@@ -104,10 +104,10 @@ check-slices-requires c κs = let e = c in (same-rotations e.before.before, same
 returns-4 : tie.Need-returns-in-Refused
 returns-4 c =
     let j = c in
-    let e = even j.before.before.before in
+    let e = even j.before in
     let a = (begun e).args in (
-      write_refused a.nodes a.outer a.tails.now a.rotations.now a.capacities.now a.out-1.now
-          (same-rotations e) (same-capacities e) e.if-length-ne0.false _ _ (judged j.before.before.before (Refused _ _) c.drawing-1.given.1),
+      write_refused a.nodes a.outer a.tails.now a.rotations.now a.capacities.now a.out.now
+          (same-rotations e) (same-capacities e) e.if-length-ne0.false _ _ (judged j.before (Refused _ _) c.in-Refused.is),
       refl,
     )
 
@@ -119,7 +119,7 @@ returns-5 c =
     let t = c in
     let e = sliced t.before.before.before in
     let a = (begun e).args in (
-      write_short a.nodes a.outer a.tails.now a.rotations.now a.capacities.now a.out-1.now
+      write_short a.nodes a.outer a.tails.now a.rotations.now a.capacities.now a.out.now
           (same-rotations e) (same-capacities e) e.if-length-ne0.false (passed t.before.before.before) (omega (arith, end c.before)),
       refl,
     )
@@ -146,10 +146,10 @@ returns-6 c =
     let s = start h.before.before.before.before.before.before in
     let a = s.args in
     let n = long (roomy h.before.before.before.before.before.before) in (
-      write_whole a.nodes a.outer a.tails.now a.rotations.now a.capacities.now a.out-1.now
+      write_whole a.nodes a.outer a.tails.now a.rotations.now a.capacities.now a.out.now
           (same-rotations e) (same-capacities e) e.if-length-ne0.false (passed t) (omega (arith, n)),
       n,
-      w.write_edges.ensures a.nodes a.outer a.out-1.now (headed h.before.before.before.before.before.before) ∙ ap (λ k. encode (drawn s) ++ drop k a.out-1.now) (sym n),
+      w.write_edges.ensures a.nodes a.outer a.out.now (headed h.before.before.before.before.before.before) ∙ ap (λ k. encode (drawn s) ++ drop k a.out.now) (sym n),
     )
 
 pub write_spec : {M : Type 1} → statement M

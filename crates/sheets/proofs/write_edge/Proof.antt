@@ -53,7 +53,7 @@ returns c =
     let tail = tail_at head in
     let s = start forward in
     let a = s.args in
-    edge_placed a.out-1.now a.place a.tail a.head a.rotation a.back-rotation a.forward a.backward s.requires.1
+    edge_placed a.out.now a.place a.tail a.head a.rotation a.back-rotation a.forward a.backward s.requires.1
     (kind_at tail).write_u8.ensures tail.write_u16.ensures head.write_u16-2.ensures rotation.write_u16-3.ensures back.write_u16-4.ensures
     (forward-put forward) (backward-put last.before.before)
 

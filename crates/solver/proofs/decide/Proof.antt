@@ -144,11 +144,11 @@ joined c = c.before.before.before.before
 abbrev lengthened : tie.After-settle_all-outcome → tie.After-cut_apart
 lengthened c = (joined c).before
 
-closes : (c : tie.In-Ring) → c.outcome-1.given.0.0 < 1024
+closes : (c : tie.In-Ring) → c.in-Ring.d < 1024
 closes c =
     let s = c in
-    let p = (begun (lengthened s.before.before.before.before)).requires in
-    omega (arith, (searched_ring _ _ _ _ _ _ _ c.outcome-1.given.1 s.settle_all-outcome.ensures.1.3).1, p.0.opened.drawn.few_edges)
+    let p = (begun (lengthened s.before.before)).requires in
+    omega (arith, (searched_ring _ _ _ _ _ _ _ c.in-Ring.is s.settle_all-outcome.ensures.1.3).1, p.0.opened.drawn.few_edges)
 
 mul_wide : tie.Need-offset_bounds-lefts-d
 mul_wide c = omega (arith, closes c)
@@ -156,11 +156,11 @@ mul_wide c = omega (arith, closes c)
 element-copy-out-wide : tie.Need-bounds-lefts-d
 element-copy-out-wide c = omega (arith, closes c.before)
 
-abbrev ringed-at : tie.After-wide-y → tie.In-Ring-2
-ringed-at c = c.before.before.before.before
+abbrev ringed-at : tie.After-wide-y → tie.In-Ring
+ringed-at c = c.before.before.before
 
-abbrev settled : tie.In-Ring-2 → tie.After-settle_all-outcome
-settled c = c.before.before.before
+abbrev settled : tie.In-Ring → tie.After-settle_all-outcome
+settled c = c.before.before
 
 cut-of-ring-requires : tie.Need-cut_of_ring-requires
 cut-of-ring-requires c κs =
@@ -173,7 +173,7 @@ cut-of-ring-requires c κs =
       f.cut_apart.ensures.1,
       treed_of p.0.opened.drawn.plane.sound p.0.opened.walked.forest,
       ringed (begun f).args.lefts.now p.0.opened.drawn p.0.ends (row f) (known (joined s)) q.0 q.1 q.2
-          _ w.wide-y.ensures (searched_ring _ _ _ _ _ _ _ o.outcome.given.1 s.settle_all-outcome.ensures.1.3).2,
+          _ w.wide-y.ensures (searched_ring _ _ _ _ _ _ _ o.in-Ring.is s.settle_all-outcome.ensures.1.3).2,
     )
 
 -- the set made from the ring
@@ -204,8 +204,8 @@ named-ring c inside' made =
       potentials = q.5.0;
       parents = _;
       closing = _;
-      closing_in = (searched_ring _ _ _ _ _ _ _ o.outcome.given.1 q.3).1;
-      searched = searches_known o.outcome.given.1 q.5.1;
+      closing_in = (searched_ring _ _ _ _ _ _ _ o.in-Ring.is q.3).1;
+      searched = searches_known o.in-Ring.is q.5.1;
       made = rw (← c.wide-y.ensures) made;
     })
 
@@ -220,7 +220,7 @@ returns-2 c =
     let inside' = c.cut_of_ring.new.inside in (
       e.0,
       decided_cannot (begun f).args.lefts.now p.0.opened.drawn p.0.ends (row f) (known (joined s)) q.0 q.1 q.2
-          _ _ inside' (searched_ring _ _ _ _ _ _ _ o.outcome.given.1 s.settle_all-outcome.ensures.1.3).0 e.1,
+          _ _ inside' (searched_ring _ _ _ _ _ _ _ o.in-Ring.is s.settle_all-outcome.ensures.1.3).0 e.1,
       s.settle_all-outcome.ensures.0,
       λ z. named-ring c.before.before.before inside' e.2,
     )
@@ -229,11 +229,11 @@ returns-3 : tie.Need-returns
 returns-3 c =
     let s = c in
     let q = s.settle_all-outcome.ensures.1 in
-    let f = lengthened s.before.before.before in
+    let f = lengthened s.before.before in
     let p = (begun f).requires in
-    let r = rw c.enum_told-1.given.1 at s.settle_all-outcome.ensures.1.3 in (
+    let r = rw c.in_default.is at s.settle_all-outcome.ensures.1.3 in (
       f.cut_apart.ensures.1,
-      decided_can (begun f).args.lefts.now p.0.opened.drawn p.0.ends (row f) (known (joined s.before.before.before)) q.0 q.1 q.2
+      decided_can (begun f).args.lefts.now p.0.opened.drawn p.0.ends (row f) (known (joined s.before.before)) q.0 q.1 q.2
           r.0 r.1 _ _ (flags f) r.2,
       s.settle_all-outcome.ensures.0,
       λ z. absurd (true≢false z),

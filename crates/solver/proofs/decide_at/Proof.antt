@@ -117,15 +117,15 @@ abbrev lengthened : tie.After-settle-outcome → tie.After-cut_apart
 lengthened c = (joined c).before
 
 -- ── a ring: the dart that closes it ──
-abbrev settled : tie.In-Ring-2 → tie.After-settle-outcome
-settled c = c.before.before.before
+abbrev settled : tie.In-Ring → tie.After-settle-outcome
+settled c = c.before.before
 
-closes : (c : tie.In-Ring) → c.outcome-1.given.0.0 < 1024
+closes : (c : tie.In-Ring) → c.in-Ring.d < 1024
 closes c =
-    let s = settled c.before in
+    let s = settled c in
     omega (
       arith,
-      (searched_ring _ _ _ _ _ _ _ c.outcome-1.given.1 s.settle-outcome.ensures.1).1,
+      (searched_ring _ _ _ _ _ _ _ c.in-Ring.is s.settle-outcome.ensures.1).1,
       (begun (lengthened s)).requires.0.drawn.few_edges,
     )
 
@@ -135,8 +135,8 @@ mul_wide c = omega (arith, closes c)
 element-copy-out-wide : tie.Need-bounds-lefts-d
 element-copy-out-wide c = omega (arith, closes c.before)
 
-abbrev ringed-at : tie.After-wide-y → tie.In-Ring-2
-ringed-at c = c.before.before.before.before
+abbrev ringed-at : tie.After-wide-y → tie.In-Ring
+ringed-at c = c.before.before.before
 
 cut-of-ring-requires : tie.Need-cut_of_ring-requires
 cut-of-ring-requires c κs =
@@ -149,7 +149,7 @@ cut-of-ring-requires c κs =
       f.cut_apart.ensures.1,
       p.0.treed,
       ringed b.args.lefts.now p.0.drawn p.0.ends (row f) (known (joined s)) b.args.queue.now p.2 p.0.roots
-          _ w.wide-y.ensures (searched_ring _ _ _ _ _ _ _ o.outcome.given.1 s.settle-outcome.ensures.1).2,
+          _ w.wide-y.ensures (searched_ring _ _ _ _ _ _ _ o.in-Ring.is s.settle-outcome.ensures.1).2,
     )
 
 returns-2 : tie.Need-returns-in-Ring
@@ -164,19 +164,19 @@ returns-2 c =
       k.0,
       decided_cannot b.args.lefts.now p.0.drawn p.0.ends (row f) (known (joined s)) b.args.queue.now p.2 p.0.roots
           _ _ c.cut_of_ring.new.inside
-          (searched_ring _ _ _ _ _ _ _ o.outcome.given.1 s.settle-outcome.ensures.1).0 k.1,
+          (searched_ring _ _ _ _ _ _ _ o.in-Ring.is s.settle-outcome.ensures.1).0 k.1,
     )
 
 -- ── settled ──
 returns-3 : tie.Need-returns
 returns-3 c =
     let s = c in
-    let f = lengthened s.before.before.before in
+    let f = lengthened s.before.before in
     let b = begun f in
     let p = b.requires in
-    let q = rw c.enum_told-1.given.1 at s.settle-outcome.ensures.1 in (
+    let q = rw c.in_default.is at s.settle-outcome.ensures.1 in (
       f.cut_apart.ensures.1,
-      decided_can b.args.lefts.now p.0.drawn p.0.ends (row f) (known (joined s.before.before.before)) b.args.queue.now p.2 p.0.roots
+      decided_can b.args.lefts.now p.0.drawn p.0.ends (row f) (known (joined s.before.before)) b.args.queue.now p.2 p.0.roots
           q.0 q.1 _ _ (flags f) q.2,
     )
 

@@ -34,29 +34,29 @@ begun c = c.before.before.before.before.before
 returns : tie.Need-returns-in-Ring
 returns c =
     let s = c in
-    let p = (begun s.before.before.before).requires in
-    let a = rw c.outcome-1.given.1 at s.search-outcome.ensures.0 in
+    let p = (begun s.before).requires in
+    let a = rw c.in-Ring.is at s.search-outcome.ensures.0 in
     let went = s.search-outcome.ensures.1 in (
       parents_sized _ _ _ p.size_queue p.few_roots p.searchable.sound p.searchable.joined p.groups went,
       ring_kept _ a.0 a.2,
-      (_, searches_known c.outcome-1.given.1 went),
+      (_, searches_known c.in-Ring.is went),
     )
 
 fill-flows-requires : tie.Need-fill_flows-requires
 fill-flows-requires c κs =
     let t = c in
     let s = t in
-    let p = (begun s.before.before.before.before).requires in
-    (p.few_edges, omega (arith, p.exact), flowing p.searchable _ (rw t.enum_told-1.given.1 at s.search-outcome.ensures.0))
+    let p = (begun s.before.before.before).requires in
+    (p.few_edges, omega (arith, p.exact), flowing p.searchable _ (rw t.in_default.is at s.search-outcome.ensures.0))
 
 returns-2 : tie.Need-returns
 returns-2 c =
     let t = c in
     let s = t in
-    let p = (begun s.before.before.before.before.before.before).requires in (
+    let p = (begun s.before.before.before.before.before).requires in (
       parents_sized _ _ _ p.size_queue p.few_roots p.searchable.sound p.searchable.joined p.groups s.search-outcome.ensures.1,
-      (_, (rw t.enum_told-1.given.1 at s.search-outcome.ensures.0), c.fill_flows.ensures),
-      (_, searches_known t.enum_told-1.given.1 s.search-outcome.ensures.1),
+      (_, (rw t.in_default.is at s.search-outcome.ensures.0), c.fill_flows.ensures),
+      (_, searches_known t.in_default.is s.search-outcome.ensures.1),
     )
 
 pub settle_spec : {M : Type 1} → statement M

@@ -24,10 +24,10 @@ loop-less : tie.Need-loop-left-smaller invariant-loop decreases-loop
 loop-less c = omega arith
 
 loop-again : tie.Need-loop-left-preserved invariant-loop decreases-loop
-loop-again c = (omega (arith, length_more c.loop-left.false (omega arith)), omega arith)
+loop-again c = (omega (arith, length_more c.loop-left.left (omega arith)), omega arith)
 
 returns : tie.Need-returns invariant-loop decreases-loop
-returns c = omega (arith, length_one c.loop-left.false (omega arith))
+returns c = omega (arith, length_one c.loop-left.left (omega arith))
 
 pub digit_count_spec : {M : Type 1} → statement M
 digit_count_spec =

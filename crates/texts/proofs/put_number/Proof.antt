@@ -37,15 +37,15 @@ fits : (c : tie.Then-x-lt0)
 fits c = omega (arith, ap length (with-minus c), c.requires)
 
 written : (c : tie.After-put_decimal)
-    → let a = c.args in c.put_decimal.new.text ≡ put a.at (number a.x) a.text-1.now
+    → let a = c.args in c.put_decimal.new.text ≡ put a.at (number a.x) a.text.now
 written c =
     let t = c in
     let a = t.args in
-    let behind : c.put_decimal.new.text ≡ put (a.at + 1) (decimal t.magnitude-size.result) (set a.text-1.now a.at 45) =
+    let behind : c.put_decimal.new.text ≡ put (a.at + 1) (decimal t.magnitude-size.result) (set a.text.now a.at 45) =
     c.put_decimal.ensures.0 in
     behind
-    ∙ put_behind a.at 45 (decimal t.magnitude-size.result) a.text-1.now (fits t.before.before)
-    ∙ ap (λ s. put a.at s a.text-1.now) (with-minus t.before.before)
+    ∙ put_behind a.at 45 (decimal t.magnitude-size.result) a.text.now (fits t.before.before)
+    ∙ ap (λ s. put a.at s a.text.now) (with-minus t.before.before)
 
 slice-write-text : tie.Need-bounds-text-at
 slice-write-text c = omega (arith, fits c)
@@ -70,7 +70,7 @@ returns-2 : tie.Need-returns-else-x-lt0
 returns-2 c =
     let t = c in
     let a = t.args in (
-      c.put_decimal-else-x-lt0.ensures.0 ∙ ap (λ s. put a.at s a.text-1.now) (without t.before.before.before.before),
+      c.put_decimal-else-x-lt0.ensures.0 ∙ ap (λ s. put a.at s a.text.now) (without t.before.before.before.before),
       c.put_decimal-else-x-lt0.ensures.1 ∙ ap (λ s. a.at + length s) (without t.before.before.before.before),
     )
 

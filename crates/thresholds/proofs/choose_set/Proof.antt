@@ -105,7 +105,7 @@ abbrev raising : tie.In-loop-threshold invariant-loop decreases-loop → At-loop
 raising c = turn c.before
 
 goes_on : (c : tie.In-loop-threshold invariant-loop decreases-loop) → lt_z (cut-above (raising c)) (pos 0) ≡ false
-goes_on c = ap (λ z. lt_z z (pos 0)) (sym (same_cut (raising c))) ∙ sym (test_is c.before) ∙ not_true _ c.loop-threshold-test.true
+goes_on c = ap (λ z. lt_z z (pos 0)) (sym (same_cut (raising c))) ∙ sym (test_is c.before) ∙ c.loop-threshold-test.true
 
 plus-requires : tie.Need-plus-threshold-requires invariant-loop decreases-loop
 plus-requires c κs = limited_fits most_height _ (omega arith) (trying_next (raising c).loop-threshold.invariant.2 (goes_on c))
@@ -142,7 +142,7 @@ abbrev found : tie.After-loop-threshold invariant-loop decreases-loop → At-loo
 found c = turn c.before
 
 negative : (c : tie.After-loop-threshold invariant-loop decreases-loop) → cut-flagged (found c) <ℤ pos 0
-negative c = lt_of_test _ _ (sym (test_is c.before) ∙ not_false _ c.loop-threshold-test.false)
+negative c = lt_of_test _ _ (sym (test_is c.before) ∙ c.loop-threshold-test.false)
 
 returns : tie.Need-returns invariant-loop decreases-loop
 returns c =

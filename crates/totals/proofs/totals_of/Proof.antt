@@ -26,7 +26,7 @@ words-for-requires c κs = c.requires.0
 returns : tie.Need-returns-then-set-words
 returns c =
     let a = c.args in
-    (set_short a.nodes a.set.now a.subtotals-1.now (omega (arith, c.words_for-words.ensures, c.if-set-words.true)), refl)
+    (set_short a.nodes a.set.now a.subtotals.now (omega (arith, c.words_for-words.ensures, c.if-set-words.true)), refl)
 
 -- the set has its words
 long : (c : tie.Else-set-words) → words_for c.args.nodes ≤ length c.args.set.now
@@ -61,7 +61,7 @@ returns-2 : tie.Need-returns-then-subtotals-members
 returns-2 c =
     let k = c in
     let a = (asked k.before).args in
-    (out_short a.nodes a.set.now a.subtotals-1.now (omega (arith, members-are k.before, c.if-subtotals-members.true)), refl)
+    (out_short a.nodes a.set.now a.subtotals.now (omega (arith, members-are k.before, c.if-subtotals-members.true)), refl)
 
 -- there is room for the subtotals
 abbrev begun : tie.Else-subtotals-members → tie.Start
@@ -119,9 +119,9 @@ returns-3 c =
     let s = begun e in
     let a = s.args in
     let k = e in (
-      both_long a.nodes a.set.now a.subtotals-1.now (long (asked k.before)) (room e),
+      both_long a.nodes a.set.now a.subtotals.now (long (asked k.before)) (room e),
       subtotaled_back s.requires.2.range (atℤ a.capacities.now) (member (lentSet (asked k.before))) (member a.set.now) (same (asked k.before))
-          k.count_members-members.result a.subtotals-1.now _ k.count_members-members.ensures f.fill_subtotals-total.ensures.0,
+          k.count_members-members.result a.subtotals.now _ k.count_members-members.ensures f.fill_subtotals-total.ensures.0,
       number_of_bits _ (record { sfits = c.narrow.type_inv }) ∙ c.narrow.ensures ∙ sum_is f.before.before,
     )
 
