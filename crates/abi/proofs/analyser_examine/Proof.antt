@@ -14,7 +14,7 @@ abbrev start : tie.After-examine-class → tie.Start
 start c = c.before.before.before.before.before.before
 
 abbrev points' : tie.After-examine-class → List ℕ
-points' c = c.examine-class.new.1.1.1.1.1.1.1.1.0
+points' c = c.examine-class.new.points
 
 -- the value that it is given is the one that came in
 found : (c : tie.After-examine-class) (answer : Class) → c.examine-class.result ≡ answer

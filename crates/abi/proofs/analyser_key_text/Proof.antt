@@ -14,7 +14,7 @@ abbrev start : tie.After-write_key-answer → tie.Start
 start c = c.before.before.before.before
 
 abbrev text' : tie.After-write_key-answer → List ℕ
-text' c = c.write_key-answer.new.1.0
+text' c = c.write_key-answer.new.text
 
 found : (c : tie.After-write_key-answer) (answer : KeyAnswer) → c.write_key-answer.result ≡ answer
     → Writes (start c).args.input.now (start c).args.text.now (text' c) answer

@@ -15,13 +15,13 @@ abbrev start : tie.After-largest_after-answer → tie.Start
 start c = c.before.before.before.before.before.before.before
 
 abbrev limits' : tie.After-largest_after-answer → List ℤ
-limits' c = c.largest_after-answer.new.1.1.1.1.1.1.0
+limits' c = c.largest_after-answer.new.limits
 
 abbrev flows' : tie.After-largest_after-answer → List ℤ
-flows' c = c.largest_after-answer.new.1.1.1.1.1.1.1.0
+flows' c = c.largest_after-answer.new.flows
 
 abbrev set' : tie.After-largest_after-answer → List ℕ
-set' c = c.largest_after-answer.new.1.1.1.1.1.1.1.1.0
+set' c = c.largest_after-answer.new.set
 
 found : (c : tie.After-largest_after-answer) (answer : LargestAnswer) → c.largest_after-answer.result ≡ answer
     → FindsAfter (start c).args.sheet.now (start c).args.capture.now (start c).args.window (start c).args.named (start c).args.source

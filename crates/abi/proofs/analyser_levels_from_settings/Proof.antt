@@ -13,7 +13,7 @@ abbrev start : tie.After-levels_from_settings-answer → tie.Start
 start c = c.before.before.before
 
 abbrev levels' : tie.After-levels_from_settings-answer → List ℤ
-levels' c = c.levels_from_settings-answer.new.1.1.0
+levels' c = c.levels_from_settings-answer.new.levels
 
 found : (c : tie.After-levels_from_settings-answer) (answer : LevelAnswer) → c.levels_from_settings-answer.result ≡ answer
     → GivesLevels (start c).args.sheet.now (start c).args.flows.now (start c).args.levels.now (levels' c) answer

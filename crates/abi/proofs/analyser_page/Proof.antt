@@ -16,10 +16,10 @@ abbrev begun : tie.After-page_of-page → tie.Start
 begun c = c.before.before.before.before.before.before
 
 abbrev flows' : tie.After-page_of-page → List ℤ
-flows' c = c.page_of-page.new.1.1.0
+flows' c = c.page_of-page.new.flows
 
 abbrev sets' : tie.After-page_of-page → List ℕ
-sets' c = c.page_of-page.new.1.1.1.0
+sets' c = c.page_of-page.new.sets
 
 -- what `page_of` ensures of the list is said of the questions in the arrays
 listed : (c : tie.After-page_of-page) → AnswersPage (begun c).args.sheet.now (begun c).args.count

@@ -13,7 +13,7 @@ abbrev start : tie.After-practice_sheet-answer → tie.Start
 start c = c.before.before.before
 
 abbrev sheet' : tie.After-practice_sheet-answer → List ℕ
-sheet' c = c.practice_sheet-answer.new.1.1.1.0
+sheet' c = c.practice_sheet-answer.new.out
 
 found : (c : tie.After-practice_sheet-answer) (answer : PracticeAnswer) → c.practice_sheet-answer.result ≡ answer
     → Practises (start c).args.rows (start c).args.columns (start c).args.seed (start c).args.sheet.now (sheet' c) answer

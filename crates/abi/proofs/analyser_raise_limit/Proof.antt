@@ -15,10 +15,10 @@ abbrev start : tie.After-raise_limit-answer → tie.Start
 start c = c.before.before.before.before.before
 
 abbrev flows' : tie.After-raise_limit-answer → List ℤ
-flows' c = c.raise_limit-answer.new.1.1.1.1.1.0
+flows' c = c.raise_limit-answer.new.flows
 
 abbrev set' : tie.After-raise_limit-answer → List ℕ
-set' c = c.raise_limit-answer.new.1.1.1.1.1.1.0
+set' c = c.raise_limit-answer.new.set
 
 -- the value that it is given is the one that came in
 found : (c : tie.After-raise_limit-answer) (answer : RaiseAnswer) → c.raise_limit-answer.result ≡ answer

@@ -14,13 +14,13 @@ abbrev start : tie.After-read-answer → tie.Start
 start c = c.before.before.before.before.before.before.before
 
 abbrev tails' : tie.After-read-answer → List ℕ
-tails' c = c.read-answer.new.1.0
+tails' c = c.read-answer.new.tails
 
 abbrev rotations' : tie.After-read-answer → List ℕ
-rotations' c = c.read-answer.new.1.1.0
+rotations' c = c.read-answer.new.rotations
 
 abbrev capacities' : tie.After-read-answer → List ℤ
-capacities' c = c.read-answer.new.1.1.1.0
+capacities' c = c.read-answer.new.capacities
 
 found : (c : tie.After-read-answer) (answer : ReadAnswer) → c.read-answer.result ≡ answer
     → Reads (start c).args.sheet.now (start c).args.tails.now (start c).args.rotations.now

@@ -30,10 +30,10 @@ left' c =
     c.ask-answer.new.second
 
 abbrev flows' : tie.After-ask-answer → List ℤ
-flows' c = c.ask-answer.new.1.1.1.1.1.1.1.1.1.1.1.1.0
+flows' c = c.ask-answer.new.flows
 
 abbrev set' : tie.After-ask-answer → List ℕ
-set' c = c.ask-answer.new.1.1.1.1.1.1.1.1.1.1.1.1.1.0
+set' c = c.ask-answer.new.set
 
 -- the value that Ask is given is the one that came in
 asked : (c : tie.After-ask-answer) (answer : SolveAnswer) → c.ask-answer.result ≡ answer

@@ -14,16 +14,16 @@ begun c = c.before.before.before.before.before.before.before.before.before.befor
 abbrev left' : tie.After-start-answer → Shared
 left' c =
     shared_of
-    c.start-answer.new.1.0
-    c.start-answer.new.1.1.0
-    c.start-answer.new.1.1.1.0
-    c.start-answer.new.1.1.1.1.0
-    c.start-answer.new.1.1.1.1.1.0
-    c.start-answer.new.1.1.1.1.1.1.0
-    c.start-answer.new.1.1.1.1.1.1.1.0
-    c.start-answer.new.1.1.1.1.1.1.1.1.0
-    c.start-answer.new.1.1.1.1.1.1.1.1.1.0
-    c.start-answer.new.1.1.1.1.1.1.1.1.1.1.0
+    c.start-answer.new.nodes
+    c.start-answer.new.edges
+    c.start-answer.new.outer
+    c.start-answer.new.tails
+    c.start-answer.new.rotations
+    c.start-answer.new.limits
+    c.start-answer.new.left
+    c.start-answer.new.standing
+    c.start-answer.new.first
+    c.start-answer.new.second
 
 started : (c : tie.After-start-answer) (answer : Verdict) → c.start-answer.result ≡ answer → Starts (begun c).args.sheet.now (left' c) answer
 started c answer e = subst (Starts (begun c).args.sheet.now (left' c)) e c.start-answer.ensures

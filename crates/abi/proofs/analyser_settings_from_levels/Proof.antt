@@ -13,7 +13,7 @@ abbrev start : tie.After-settings_from_levels-answer → tie.Start
 start c = c.before.before.before
 
 abbrev flows' : tie.After-settings_from_levels-answer → List ℤ
-flows' c = c.settings_from_levels-answer.new.1.1.0
+flows' c = c.settings_from_levels-answer.new.flows
 
 found : (c : tie.After-settings_from_levels-answer) (answer : LevelAnswer) → c.settings_from_levels-answer.result ≡ answer
     → GivesSettings (start c).args.sheet.now (start c).args.levels.now (start c).args.flows.now (flows' c) answer

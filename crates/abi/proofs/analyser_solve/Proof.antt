@@ -17,10 +17,10 @@ abbrev start : tie.After-solve-answer → tie.Start
 start c = c.before.before.before.before.before
 
 abbrev flows' : tie.After-solve-answer → List ℤ
-flows' c = c.solve-answer.new.1.1.1.1.0
+flows' c = c.solve-answer.new.flows
 
 abbrev set' : tie.After-solve-answer → List ℕ
-set' c = c.solve-answer.new.1.1.1.1.1.0
+set' c = c.solve-answer.new.set
 
 -- the value that Solve is given is the one that came in
 solved : (c : tie.After-solve-answer) (answer : SolveAnswer) → c.solve-answer.result ≡ answer

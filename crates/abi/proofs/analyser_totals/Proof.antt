@@ -14,7 +14,7 @@ abbrev start : tie.After-totals-answer → tie.Start
 start c = c.before.before.before.before
 
 abbrev subtotals' : tie.After-totals-answer → List ℤ
-subtotals' c = c.totals-answer.new.1.1.0
+subtotals' c = c.totals-answer.new.subtotals
 
 found : (c : tie.After-totals-answer) (answer : TotalsAnswer) → c.totals-answer.result ≡ answer
     → GivesTotals (start c).args.sheet.now (start c).args.set.now (start c).args.subtotals.now (subtotals' c) answer

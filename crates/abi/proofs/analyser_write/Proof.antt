@@ -13,7 +13,7 @@ abbrev start : tie.After-write-answer → tie.Start
 start c = c.before.before.before.before.before
 
 abbrev sheet' : tie.After-write-answer → List ℕ
-sheet' c = c.write-answer.new.1.1.1.1.1.0
+sheet' c = c.write-answer.new.out
 
 found : (c : tie.After-write-answer) (answer : WriteAnswer) → c.write-answer.result ≡ answer
     → Writes (start c).args.nodes (start c).args.outer (start c).args.tails.now (start c).args.rotations.now

@@ -13,7 +13,7 @@ abbrev start : tie.After-write_dimacs-answer → tie.Start
 start c = c.before.before.before.before
 
 abbrev text' : tie.After-write_dimacs-answer → List ℕ
-text' c = c.write_dimacs-answer.new.1.1.1.0
+text' c = c.write_dimacs-answer.new.out
 
 found : (c : tie.After-write_dimacs-answer) (answer : DimacsAnswer) → c.write_dimacs-answer.result ≡ answer
     → WritesDimacs (start c).args.sheet.now (start c).args.source (start c).args.sink (start c).args.text.now (text' c) answer

@@ -25,7 +25,7 @@ abbrev start : tie.After-totals-answer → tie.Start
 start c = c.before.before.before.before
 
 abbrev out' : tie.After-totals-answer → List ℤ
-out' c = c.totals-answer.new.1.1.0
+out' c = c.totals-answer.new.subtotals
 
 found : (c : tie.After-totals-answer) (answer : TotalsAnswer) → c.totals-answer.result ≡ answer
     → GivesTotals (start c).args.sheet.now no_set no_totals (out' c) answer

@@ -32,35 +32,35 @@ returns : tie.Need-returns-then-not-net
 returns c =
     let o = c in
     let a = (begun o.before).args in
-    let first = opens_refused (sheet o.before) (net o.before) c.if-not-net.true o.open_walked-net.ensures.4 in
+    let first = opens_refused (sheet o.before) (net o.before) c.if-not-net.true-raw o.open_walked-net.ensures.4 in
     (raise_refused (sheet o.before) _ _ first a.source a.sink a.value a.edge a.flows.now a.set.now, refl, refl)
 
 -- ── it is accepted ──
 accepted : (c : tie.Else-not-net) → NoneOf (sheet_checks (sheet c.before)) × Holds (sheet c.before) (net c.before)
-accepted c = let o = c in opens_passed (sheet o.before) (net o.before) c.if-not-net.false o.open_walked-net.ensures.4
+accepted c = let o = c in opens_passed (sheet o.before) (net o.before) c.if-not-net.false-raw o.open_walked-net.ensures.4
 
 abbrev order : tie.After-open_walked-net → List ℕ
-order c = c.open_walked-net.new.1.0
+order c = c.open_walked-net.new.order
 
 abbrev from : tie.After-open_walked-net → List ℕ
-from c = c.open_walked-net.new.1.1.0
+from c = c.open_walked-net.new.from
 
 abbrev grouped : tie.After-open_walked-net → List ℕ
-grouped c = c.open_walked-net.new.1.1.1.0
+grouped c = c.open_walked-net.new.grouped
 
 abbrev starts : tie.After-open_walked-net → List ℕ
-starts c = c.open_walked-net.new.1.1.1.1.0
+starts c = c.open_walked-net.new.starts
 
 walked : (c : tie.Else-not-net)
-    → Walked (2 * (net c.before).sizes-1.edges) (net c.before).sizes-1.faces (net c.before).sizes-1.outer (net c.before).sizes-1.parts
+    → Walked (2 * (net c.before).sizes.edges) (net c.before).sizes.faces (net c.before).sizes.outer (net c.before).sizes.parts
     (at (net c.before).rotations) (net c.before).lefts (order c.before) (from c.before) (grouped c.before) (starts c.before)
-walked c = let o = c in (o.open_walked-net.ensures.5 (is_accepted (net o.before).accepted c.if-not-net.false)).1
+walked c = let o = c in (o.open_walked-net.ensures.5 (is_accepted (net o.before).accepted c.if-not-net.false-raw)).1
 
 raise-limit-requires : tie.Need-raise_limit-requires
 raise-limit-requires c κs =
     let t = c in
     let o = t in
-    let long = (o.open_walked-net.ensures.5 (is_accepted (net o.before.before.before.before.before.before.before.before.before.before.before.before.before.before.before.before).accepted t.if-not-net.false)).0 in
+    let long = (o.open_walked-net.ensures.5 (is_accepted (net o.before.before.before.before.before.before.before.before.before.before.before.before.before.before.before.before).accepted t.if-not-net.false-raw)).0 in
     (long, opened_sheet (sheet o.before.before.before.before.before.before.before.before.before.before.before.before.before.before.before.before) (net o.before.before.before.before.before.before.before.before.before.before.before.before.before.before.before.before) (accepted t.before.before.before.before.before.before.before.before.before.before.before.before.before.before.before) (order o.before.before.before.before.before.before.before.before.before.before.before.before.before.before.before.before) (from o.before.before.before.before.before.before.before.before.before.before.before.before.before.before.before.before) (grouped o.before.before.before.before.before.before.before.before.before.before.before.before.before.before.before.before) (starts o.before.before.before.before.before.before.before.before.before.before.before.before.before.before.before.before) (walked t.before.before.before.before.before.before.before.before.before.before.before.before.before.before.before))
 
 returns-2 : tie.Need-returns

@@ -275,10 +275,10 @@ module _ {M : Type 1} {𝓤 : Ura M} (𝓛 : Logic 𝓤) (mem : Memory → SProp
     -- a turn in which a record is checked
     more : (p : ℕ) (r : Checked) (u : Val) (X : SProp 𝓤) → p < 2 ^ 64 → goesOn b p r.refusal ≡ true → (p < length b) × Passing edges b p r.last
         → ((r' : Checked) (u' : Val) → Stands edges b (place_behind b p) r'.refusal r'.last → ent 𝓤 (⋆ 𝓛 (At (place_behind b p) r' u')) X)
-        → ent 𝓤 (⋆ 𝓛 (At p r u)) (Wp 𝓤 H Cs Λ En mirs.turn-1 (after_turn 𝓤 H X Left))
+        → ent 𝓤 (⋆ 𝓛 (At p r u)) (Wp 𝓤 H Cs Λ En mirs.turn (after_turn 𝓤 H X Left))
     unfolding after_turn
     more p r u X fits on φ k =
-        qed 𝓛 (At p r u) ∵ exec ! Cs Λ En mirs.turn-1 (any_q (after_turn 𝓤 H X Left)) $
+        qed 𝓛 (At p r u) ∵ exec ! Cs Λ En mirs.turn (any_q (after_turn 𝓤 H X Left)) $
         assigns ! (of_opd ! (load ! (from ! (fld ! refl (stop !))) (look_in ! 3 (sub ! 0 refl (whole !))))) (from ! (stop !)) (init ! 6 refl (tt, v-typed)) $
         assigns ! (of_opd ! (load ! (from ! (fld ! refl (stop !))) (look_in ! 3 (sub ! 1 refl (whole !))))) (from ! (stop !)) (init ! 7 refl (
           tt,
@@ -338,10 +338,10 @@ module _ {M : Type 1} {𝓤 : Ura M} (𝓛 : Logic 𝓤) (mem : Memory → SProp
 
     -- the turn that leaves the loop, and the rest of the body
     ends : (p : ℕ) (r : Checked) (u : Val) (X : SProp 𝓤) → p < 2 ^ 64 → goesOn b p r.refusal ≡ false → Stands edges b p r.refusal r.last
-        → ent 𝓤 (⋆ 𝓛 (At p r u)) (Wp 𝓤 H Cs Λ En mirs.turn-1 (after_turn 𝓤 H X Left))
+        → ent 𝓤 (⋆ 𝓛 (At p r u)) (Wp 𝓤 H Cs Λ En mirs.turn (after_turn 𝓤 H X Left))
     unfolding after_turn
     ends p r u X fits off stands =
-        qed 𝓛 (At p r u) ∵ exec ! Cs Λ En mirs.turn-1 (any_q (after_turn 𝓤 H X Left)) $
+        qed 𝓛 (At p r u) ∵ exec ! Cs Λ En mirs.turn (any_q (after_turn 𝓤 H X Left)) $
         assigns ! (of_opd ! (load ! (from ! (fld ! refl (stop !))) (look_in ! 3 (sub ! 0 refl (whole !))))) (from ! (stop !)) (init ! 6 refl (tt, v-typed)) $
         assigns ! (of_opd ! (load ! (from ! (fld ! refl (stop !))) (look_in ! 3 (sub ! 1 refl (whole !))))) (from ! (stop !)) (init ! 7 refl (
           tt,
@@ -383,13 +383,13 @@ module _ {M : Type 1} {𝓤 : Ura M} (𝓛 : Logic 𝓤) (mem : Memory → SProp
         (ex_i 𝓤 (λ (c : Checked). ex 𝓤 (λ (w : Val). guard 𝓤 (Holds t p c) (⋆ 𝓛 (At p c w)))) r)
         (ex_i 𝓤 (λ (j : ℕ). ex 𝓤 (λ (c : Checked). ex 𝓤 (λ (w : Val). guard 𝓤 (Holds t j c) (⋆ 𝓛 (At j c w))))) p)))
 
-    turn_at : (t p : ℕ) (r : Checked) (u : Val) → Holds t p r → ent 𝓤 (⋆ 𝓛 (At p r u)) (Wp 𝓤 H Cs Λ En mirs.turn-1 (after_turn 𝓤 H (Below t) Left))
+    turn_at : (t p : ℕ) (r : Checked) (u : Val) → Holds t p r → ent 𝓤 (⋆ 𝓛 (At p r u)) (Wp 𝓤 H Cs Λ En mirs.turn (after_turn 𝓤 H (Below t) Left))
     turn_at t p r u h = go (goesOn b p r.refusal) refl
       where
         fits : p < 2 ^ 64
         fits = omega (arith, h.0, long)
 
-        go : (on : Bool) → goesOn b p r.refusal ≡ on → ent 𝓤 (⋆ 𝓛 (At p r u)) (Wp 𝓤 H Cs Λ En mirs.turn-1 (after_turn 𝓤 H (Below t) Left))
+        go : (on : Bool) → goesOn b p r.refusal ≡ on → ent 𝓤 (⋆ 𝓛 (At p r u)) (Wp 𝓤 H Cs Λ En mirs.turn (after_turn 𝓤 H (Below t) Left))
         go false off = ends p r u (Below t) fits off h.1
         go true on =
             let m = goes_more b p r.refusal on in
@@ -400,16 +400,16 @@ module _ {M : Type 1} {𝓤 : Ura M} (𝓛 : Logic 𝓤) (mem : Memory → SProp
             (via 𝓤 (guard 𝓤 (left < t) (Inv left)) (guard_i 𝓤 (left < t) (Inv left) (omega (arith, h.0, f.0, f.1)))
             (ex_i 𝓤 (λ (t' : ℕ). guard 𝓤 (t' < t) (Inv t')) left)))
 
-    turns : (t : ℕ) → ent 𝓤 (Inv t) (Wp 𝓤 H Cs Λ En mirs.turn-1 (after_turn 𝓤 H (Below t) Left))
+    turns : (t : ℕ) → ent 𝓤 (Inv t) (Wp 𝓤 H Cs Λ En mirs.turn (after_turn 𝓤 H (Below t) Left))
     turns t =
         ex_e 𝓤 (λ (p : ℕ). ex 𝓤 (λ (r : Checked). ex 𝓤 (λ (u : Val). guard 𝓤 (Holds t p r) (⋆ 𝓛 (At p r u))))) (λ p.
         ex_e 𝓤 (λ (r : Checked). ex 𝓤 (λ (u : Val). guard 𝓤 (Holds t p r) (⋆ 𝓛 (At p r u)))) (λ r.
         ex_e 𝓤 (λ (u : Val). guard 𝓤 (Holds t p r) (⋆ 𝓛 (At p r u))) (λ u. guard_e 𝓤 (Holds t p r) (⋆ 𝓛 (At p r u)) (λ h. turn_at t p r u h))))
 
-    loops : ent 𝓤 (⋆ 𝓛 (At 0 start (C'.lowered start))) (Wp 𝓤 H Cs Λ En (mir.Syntax.loop-reader mirs.turn-1) Left)
+    loops : ent 𝓤 (⋆ 𝓛 (At 0 start (C'.lowered start))) (Wp 𝓤 H Cs Λ En (mir.Syntax.loop-reader mirs.turn) Left)
     loops =
         via 𝓤 (Inv (length b)) (into (length b) 0 start (C'.lowered start) (omega arith, stands_start edges b))
-        (loop_rule 𝓤 H 𝓛.laws 𝓣 ◌<◌ lt-wf_rel.wf En mirs.turn-1 Left Inv turns (length b))
+        (loop_rule 𝓤 H 𝓛.laws 𝓣 ◌<◌ lt-wf_rel.wf En mirs.turn Left Inv turns (length b))
 
     -- the locals as they are passed
     abbrev Passed : List (Item 𝓤)
@@ -420,9 +420,9 @@ module _ {M : Type 1} {𝓤 : Ura M} (𝓛 : Logic 𝓤) (mem : Memory → SProp
         ∷ ‵ (froom verdictTy l₀ 0) ∷ ‵ (fdies verdictTy l₀) ∷ Token ∷ ‵ (owns (ShrSlice (named 0) κ u8 ∷ usize ∷ []) (s, (edges, tt)) at) ∷ []
 
     -- the two assignments before the loop: the reader stands at 0, and nothing is checked
-    assigned : ent 𝓤 (⋆ 𝓛 Passed) (Wp 𝓤 H Cs Λ En mirs.t-1 (at_return 𝓤 H En Post))
+    assigned : ent 𝓤 (⋆ 𝓛 Passed) (Wp 𝓤 H Cs Λ En mirs.t (at_return 𝓤 H En Post))
     assigned =
-        qed 𝓛 Passed ∵ exec ! Cs Λ En mirs.t-1 (at_ret En Post) $
+        qed 𝓛 Passed ∵ exec ! Cs Λ En mirs.t (at_ret En Post) $
         assigns ! (agg ! (and_then ! (load ! (from ! (stop !)) (look ! 20 refl)) (and_then ! (lit ! tt) (no_more !)))) (from ! (stop !)) (init ! 16 refl (
           tt,
           (v-typed, (record { fits = lit< tt }, tt)),

@@ -36,7 +36,7 @@ drawing s =
     drawing_of a.sizes.nodes a.sizes.edges a.sizes.outer a.tails.now a.rotations.now a.capacities.now
 
 abbrev capacities' : tie.After-take_limits-taken → List ℤ
-capacities' c = c.take_limits-taken.new.1.1.1.1.0
+capacities' c = c.take_limits-taken.new.capacities
 
 taken_as : (c : tie.After-take_limits-taken) (v : Verdict) → c.take_limits-taken.result ≡ v
     → LimitsTaken (begun c).args.sizes.edges (atℤ (begun c).args.capacities.now) (atℤ (capacities' c)) (begun c).args.capture.now

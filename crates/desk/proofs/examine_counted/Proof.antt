@@ -112,7 +112,7 @@ abbrev settled : tie.After-mark_papers → tie.In_default-room
 settled c = c.before.before.before.before
 
 abbrev points' : tie.After-mark_papers → List ℕ
-points' c = c.mark_papers.new.1.1.1.1.1.1.1.1.1.1.1.0
+points' c = c.mark_papers.new.points
 
 -- a place for each paper's points, and a paper
 places : (c : tie.After-mark_papers) → length (base (settled c)).args.claims.now ≤ length (points' c)

@@ -19,10 +19,10 @@ abbrev start : tie.After-largest-answer → tie.Start
 start c = c.before.before.before.before
 
 abbrev flows' : tie.After-largest-answer → List ℤ
-flows' c = c.largest-answer.new.1.1.1.0
+flows' c = c.largest-answer.new.flows
 
 abbrev set' : tie.After-largest-answer → List ℕ
-set' c = c.largest-answer.new.1.1.1.1.0
+set' c = c.largest-answer.new.set
 
 found : (c : tie.After-largest-answer) (answer : LargestAnswer) → c.largest-answer.result ≡ answer
     → FindsLargest (start c).args.sheet.now (start c).args.source (start c).args.sink

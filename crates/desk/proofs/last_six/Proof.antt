@@ -9,14 +9,14 @@ returns : tie.Need-returns-in-Value
 returns c =
     let t = c in
     let a = t.args in
-    of_value a.largest-1 _ _ a.claim _ _ a.from a.into _ t.in-Value.is
+    of_value a.largest _ _ a.claim _ _ a.from a.into _ t.in-Value.is
     (number_of_bits _ (record { sfits = t.known_told-1.given.0.1 })) (number_of_bits _ t.ranges.total) c.value_points.ensures
 
 returns-2 : tie.Need-returns-in-None
 returns-2 c =
     let t = c in
     let a = t.args in
-    of_none a.largest-1 a.claim _ _ a.from a.into _ t.in-None.is
+    of_none a.largest a.claim _ _ a.from a.into _ t.in-None.is
     (number_of_bits _ t.ranges.total) c.none_points.ensures
 
 pub last_six_spec : {M : Type 1} → statement M

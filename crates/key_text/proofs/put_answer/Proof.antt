@@ -26,10 +26,10 @@ abbrev start : tie.After-solve-answer → tie.Start
 start c = c.before.before.before.before.before
 
 abbrev flows' : tie.After-solve-answer → List ℤ
-flows' c = c.solve-answer.new.1.1.1.1.0
+flows' c = c.solve-answer.new.flows
 
 abbrev set' : tie.After-solve-answer → List ℕ
-set' c = c.solve-answer.new.1.1.1.1.1.0
+set' c = c.solve-answer.new.set
 
 -- the key's own slices, before Solve
 abbrev no_flows : List ℤ

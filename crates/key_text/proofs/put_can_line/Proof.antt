@@ -20,7 +20,7 @@ nine-digits c = number_length 8 600000000 c.args.value (omega arith) c.requires.
 abbrev begin : tie.After-put_bytes-at → tie.Start
 begin c = c.before.before.before.before.before
 
-word : (c : tie.After-put_bytes-at) → Placed 0 can_word (begin c).args.text.now c.put_bytes-at.new.0 c.put_bytes-at.result
+word : (c : tie.After-put_bytes-at) → Placed 0 can_word (begin c).args.text.now c.put_bytes-at.new.text c.put_bytes-at.result
 word c = c.put_bytes-at.ensures
 
 word_room : (c : tie.After-put_bytes-at) → c.put_bytes-at.result + 11 ≤ length c.put_bytes-at.new.text

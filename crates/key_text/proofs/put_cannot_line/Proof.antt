@@ -21,7 +21,7 @@ nine-digits c = number_length 8 600000000 c.args.value (omega arith) c.requires.
 abbrev begin : tie.After-put_bytes-first → tie.Start
 begin c = c.before.before.before.before.before
 
-word : (c : tie.After-put_bytes-first) → Placed 0 cannot_word (begin c).args.text.now c.put_bytes-first.new.0 c.put_bytes-first.result
+word : (c : tie.After-put_bytes-first) → Placed 0 cannot_word (begin c).args.text.now c.put_bytes-first.new.text c.put_bytes-first.result
 word c = c.put_bytes-first.ensures
 
 word_room : (c : tie.After-put_bytes-first) → c.put_bytes-first.result + 17 ≤ length c.put_bytes-first.new.text
@@ -43,7 +43,7 @@ abbrev told : tie.After-put_bytes-third → tie.After-put_number-second
 told c = c.before.before.before.before.before.before
 
 blank : (c : tie.After-put_bytes-third)
-    → Placed (told c).put_number-second.result (32 ∷ []) (told c).put_number-second.new.0 c.put_bytes-third.new.0 c.put_bytes-third.result
+    → Placed (told c).put_number-second.result (32 ∷ []) (told c).put_number-second.new.0 c.put_bytes-third.new.text c.put_bytes-third.result
 blank c = c.put_bytes-third.ensures
 
 blank-room : (c : tie.After-put_bytes-third) → c.put_bytes-third.result + 6 ≤ length c.put_bytes-third.new.text

@@ -33,7 +33,7 @@ abbrev named : tie.After-put_bytes-second → tie.After-put_decimal-first
 named c = c.before.before.before.before.before.before
 
 blank : (c : tie.After-put_bytes-second)
-    → Placed (named c).put_decimal-first.result (32 ∷ []) (named c).put_decimal-first.new.0 c.put_bytes-second.new.0 c.put_bytes-second.result
+    → Placed (named c).put_decimal-first.result (32 ∷ []) (named c).put_decimal-first.new.0 c.put_bytes-second.new.text c.put_bytes-second.result
 blank c = c.put_bytes-second.ensures
 
 blank-room : (c : tie.After-put_bytes-second) → c.put_bytes-second.result + 9 ≤ length c.put_bytes-second.new.text

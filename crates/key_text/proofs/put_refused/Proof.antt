@@ -16,7 +16,7 @@ use Rattle.key_text.proofs.put_refused.Tie as tie
 abbrev begin : tie.After-put_bytes-at → tie.Start
 begin c = c.before.before.before.before.before
 
-word : (c : tie.After-put_bytes-at) → Placed 0 refused_word (begin c).args.text.now c.put_bytes-at.new.0 c.put_bytes-at.result
+word : (c : tie.After-put_bytes-at) → Placed 0 refused_word (begin c).args.text.now c.put_bytes-at.new.text c.put_bytes-at.result
 word c = c.put_bytes-at.ensures
 
 word_room : (c : tie.After-put_bytes-at) → c.put_bytes-at.result + 4 ≤ length c.put_bytes-at.new.text

@@ -262,10 +262,10 @@ module _ {M : Type 1} {𝓤 : Ura M} (𝓛 : Logic 𝓤) (mem : Memory → SProp
 
     -- a turn that lists one question
     more : (i : ℕ) (u : Val) (X : SProp 𝓤) → i < n → ((u' : Val) → ent 𝓤 (⋆ 𝓛 (At (suc i) u')) X)
-        → ent 𝓤 (⋆ 𝓛 (At i u)) (Wp 𝓤 H C Λ En mirs.turn-1 (after_turn 𝓤 H X Left))
+        → ent 𝓤 (⋆ 𝓛 (At i u)) (Wp 𝓤 H C Λ En mirs.turn (after_turn 𝓤 H X Left))
     unfolding after_turn gathered
     more i u X small k =
-        qed 𝓛 (At i u) ∵ exec ! C Λ En mirs.turn-1 (any_q (after_turn 𝓤 H X Left)) $
+        qed 𝓛 (At i u) ∵ exec ! C Λ En mirs.turn (any_q (after_turn 𝓤 H X Left)) $
         assigns ! (bin ! (load ! (from ! (stop !)) (look ! 3 refl)) (load ! (from ! (stop !)) (look ! 10 refl)) tt) (from ! (stop !)) (init ! 5 refl (tt, tt)) $
         rewrite ! 5 (λ (t : Bool). ‵ (fat full_share test l₇ 0 (vbool t))) (holds (ltb i n) (lt→ltb i n small)) refl $
         stays ! (load ! (from ! (stop !)) (look ! 5 refl)) $
@@ -325,10 +325,10 @@ module _ {M : Type 1} {𝓤 : Ura M} (𝓛 : Logic 𝓤) (mem : Memory → SProp
         next_fits = omega arith
 
     -- the turn that leaves the loop, and the rest of the body
-    ends : (u : Val) (X : SProp 𝓤) → Is RL (g n) (u ∷ []) → ent 𝓤 (⋆ 𝓛 (At n u)) (Wp 𝓤 H C Λ En mirs.turn-1 (after_turn 𝓤 H X Left))
+    ends : (u : Val) (X : SProp 𝓤) → Is RL (g n) (u ∷ []) → ent 𝓤 (⋆ 𝓛 (At n u)) (Wp 𝓤 H C Λ En mirs.turn (after_turn 𝓤 H X Left))
     unfolding after_turn
     ends u X is =
-        qed 𝓛 (At n u) ∵ exec ! C Λ En mirs.turn-1 (any_q (after_turn 𝓤 H X Left)) $
+        qed 𝓛 (At n u) ∵ exec ! C Λ En mirs.turn (any_q (after_turn 𝓤 H X Left)) $
         assigns ! (bin ! (load ! (from ! (stop !)) (look ! 3 refl)) (load ! (from ! (stop !)) (look ! 10 refl)) tt) (from ! (stop !)) (init ! 5 refl (tt, tt)) $
         rewrite ! 5 (λ (t : Bool). ‵ (fat full_share test l₇ 0 (vbool t))) (fails (ltb n n) (λ a. let l = ltb→lt n n a in omega arith)) refl $
         leaves_loop ! (load ! (from ! (stop !)) (look ! 5 refl)) $ exec ! C Λ En mirs.t-4 (at_ret En Post) $
@@ -345,7 +345,7 @@ module _ {M : Type 1} {𝓤 : Ura M} (𝓛 : Logic 𝓤) (mem : Memory → SProp
         move ! (2 ∷ 8 ∷ []) $ free1 ! $ free0 ! $
         move ! (3 ∷ 2 ∷ []) $ fjoin ! $ move ! (3 ∷ 0 ∷ []) $ fjoin ! $ keep ! (1 ∷ 0 ∷ 3 ∷ 4 ∷ 2 ∷ []) $ by ! (exits u)
 
-    leaves : (u : Val) (X : SProp 𝓤) → ent 𝓤 (⋆ 𝓛 (At n u)) (Wp 𝓤 H C Λ En mirs.turn-1 (after_turn 𝓤 H X Left))
+    leaves : (u : Val) (X : SProp 𝓤) → ent 𝓤 (⋆ 𝓛 (At n u)) (Wp 𝓤 H C Λ En mirs.turn (after_turn 𝓤 H X Left))
     leaves u X = qed 𝓛 (At n u) ∵ move ! (1 ∷ []) $ peeks ! RL (Is RL) (shows 𝓛 RL) (g n) (u ∷ []) (λ is. move ! (1 ∷ 0 ∷ []) $ by ! (ends u X is))
 
     into : (t i : ℕ) (u : Val) → i + t ≡ n → ent 𝓤 (⋆ 𝓛 (At i u)) (Inv t)
@@ -354,8 +354,8 @@ module _ {M : Type 1} {𝓤 : Ura M} (𝓛 : Logic 𝓤) (mem : Memory → SProp
         (via 𝓤 (ex 𝓤 (λ (v : Val). guard 𝓤 (i + t ≡ n) (⋆ 𝓛 (At i v)))) (ex_i 𝓤 (λ (v : Val). guard 𝓤 (i + t ≡ n) (⋆ 𝓛 (At i v))) u)
         (ex_i 𝓤 (λ (j : ℕ). ex 𝓤 (λ (v : Val). guard 𝓤 (j + t ≡ n) (⋆ 𝓛 (At j v)))) i))
 
-    turn_at : (t i : ℕ) (u : Val) → i + t ≡ n → ent 𝓤 (⋆ 𝓛 (At i u)) (Wp 𝓤 H C Λ En mirs.turn-1 (after_turn 𝓤 H (Below t) Left))
-    turn_at zero i u e = subst (λ (k : ℕ). ent 𝓤 (⋆ 𝓛 (At k u)) (Wp 𝓤 H C Λ En mirs.turn-1 (after_turn 𝓤 H (Below 0) Left))) same (leaves u (Below 0))
+    turn_at : (t i : ℕ) (u : Val) → i + t ≡ n → ent 𝓤 (⋆ 𝓛 (At i u)) (Wp 𝓤 H C Λ En mirs.turn (after_turn 𝓤 H (Below t) Left))
+    turn_at zero i u e = subst (λ (k : ℕ). ent 𝓤 (⋆ 𝓛 (At k u)) (Wp 𝓤 H C Λ En mirs.turn (after_turn 𝓤 H (Below 0) Left))) same (leaves u (Below 0))
       where
         same : n ≡ i
         same = omega arith
@@ -364,12 +364,12 @@ module _ {M : Type 1} {𝓤 : Ura M} (𝓛 : Logic 𝓤) (mem : Memory → SProp
         via 𝓤 (Inv t) (into t (suc i) u' (omega arith))
         (via 𝓤 (guard 𝓤 (t < suc t) (Inv t)) (guard_i 𝓤 (t < suc t) (Inv t) (omega arith)) (ex_i 𝓤 (λ (v : ℕ). guard 𝓤 (v < suc t) (Inv v)) t)))
 
-    turns : (t : ℕ) → ent 𝓤 (Inv t) (Wp 𝓤 H C Λ En mirs.turn-1 (after_turn 𝓤 H (Below t) Left))
+    turns : (t : ℕ) → ent 𝓤 (Inv t) (Wp 𝓤 H C Λ En mirs.turn (after_turn 𝓤 H (Below t) Left))
     turns t = ex_e 𝓤 (λ (i : ℕ). ex 𝓤 (λ (u : Val). guard 𝓤 (i + t ≡ n) (⋆ 𝓛 (At i u)))) (λ i.
         ex_e 𝓤 (λ (u : Val). guard 𝓤 (i + t ≡ n) (⋆ 𝓛 (At i u))) (λ u. guard_e 𝓤 (i + t ≡ n) (⋆ 𝓛 (At i u)) (λ e. turn_at t i u e)))
 
-    loops : ent 𝓤 (⋆ 𝓛 (At 0 m)) (Wp 𝓤 H C Λ En (mir.Syntax.loop-i mirs.turn-1) Left)
-    loops = via 𝓤 (Inv n) (into n 0 m (omega arith)) (loop_rule 𝓤 H 𝓛.laws 𝓣 ◌<◌ lt-wf_rel.wf En mirs.turn-1 Left Inv turns n)
+    loops : ent 𝓤 (⋆ 𝓛 (At 0 m)) (Wp 𝓤 H C Λ En (mir.Syntax.loop-i mirs.turn) Left)
+    loops = via 𝓤 (Inv n) (into n 0 m (omega arith)) (loop_rule 𝓤 H 𝓛.laws 𝓣 ◌<◌ lt-wf_rel.wf En mirs.turn Left Inv turns n)
 
   module _ (l₀ l₁ l₂ l₃ l₄ l₅ l₆ l₇ l₈ l₉ l₁₀ : ℕ) where
     abbrev Env₀ : Env 𝓤 H
@@ -395,7 +395,7 @@ module _ {M : Type 1} {𝓤 : Ura M} (𝓛 : Logic 𝓤) (mem : Memory → SProp
       After = after_block 𝓤 H (after_seq 𝓤 H (Wp 𝓤 H 𝓣.C 𝓣.Λ Env₀ mirs.t-4 (at_return 𝓤 H Env₀ Post)) (at_return 𝓤 H Env₀ Post))
 
       abbrev Loop : SProp 𝓤
-      Loop = Wp 𝓤 H 𝓣.C 𝓣.Λ Env₀ (mir.Syntax.loop-i mirs.turn-1) After
+      Loop = Wp 𝓤 H 𝓣.C 𝓣.Λ Env₀ (mir.Syntax.loop-i mirs.turn) After
 
       sorted : (q' : Share) → ent 𝓤 (⋆ 𝓛 (‵ (row RQ q' ys b o) ∷ ‵ (fobor κ q ((arr_parts (shares RQ) (length ys)).part q' ys b o))
           ∷ ‵ (fshr_bor κ (λ s. (arr_parts (shares RQ) (length ys)).part s ys b o)) ∷ Facts)) Loop
@@ -410,7 +410,7 @@ module _ {M : Type 1} {𝓤 : Ura M} (𝓛 : Logic 𝓤) (mem : Memory → SProp
       looked : ent 𝓤 (⋆ 𝓛 (‵ (fshr_bor κ (λ s. (arr_parts (shares RQ) (length ys)).part s ys b o)) ∷ ‵ (flft κ q) ∷ Facts)) Loop
       looked =
           qed 𝓛 (‵ (fshr_bor κ (λ s. (arr_parts (shares RQ) (length ys)).part s ys b o)) ∷ ‵ (flft κ q)
-          ∷ Facts) ∵ exec ! 𝓣.C 𝓣.Λ Env₀ (mir.Syntax.loop-i mirs.turn-1) (any_q After) $
+          ∷ Facts) ∵ exec ! 𝓣.C 𝓣.Λ Env₀ (mir.Syntax.loop-i mirs.turn) (any_q After) $
           looks_slice ! tt RQ (Is RQ) (shows 𝓛 RQ) (LL.vals TQ.the_type TQ'.the_laws) (LL.tells TQ.the_type TQ'.the_laws) ((LL.copy TQ.the_type
           TQ'.the_copy) 𝓛) ys b o (λ q'. by ! (sorted q'))
 
@@ -433,9 +433,9 @@ module _ {M : Type 1} {𝓤 : Ura M} (𝓛 : Logic 𝓤) (mem : Memory → SProp
           ∷ ‵ (fat full_share slice l₁ 0 (slice_val (b, o) (length ys))) ∷ ‵ (fdies slice l₁) ∷ ‵ (froom list_ty l₀ 0) ∷ ‵ (fdies list_ty l₀)
           ∷ (‵ (flft κ q) ⊛ ‵ ftrue) ∷ ‵ (owns (ShrSlice (named 0) κ RQ ∷ usize ∷ RL ∷ []) x at) ∷ []
 
-      assigned : Is RL list (m ∷ []) → ent 𝓤 (⋆ 𝓛 Passed) (Wp 𝓤 H 𝓣.C 𝓣.Λ Env₀ mirs.t-1 (at_return 𝓤 H Env₀ Post))
+      assigned : Is RL list (m ∷ []) → ent 𝓤 (⋆ 𝓛 Passed) (Wp 𝓤 H 𝓣.C 𝓣.Λ Env₀ mirs.t (at_return 𝓤 H Env₀ Post))
       assigned is =
-          qed 𝓛 Passed ∵ exec ! 𝓣.C 𝓣.Λ Env₀ mirs.t-1 (at_ret Env₀ Post) $
+          qed 𝓛 Passed ∵ exec ! 𝓣.C 𝓣.Λ Env₀ mirs.t (at_ret Env₀ Post) $
           assigns ! (of_opd ! (load ! (from ! (stop !)) (look ! 14 refl))) (from ! (stop !)) (init ! 12 refl ((LL.lawful TL.the_type TL'.the_laws 𝓛).typed
           list (m ∷ []) is).0) $
           assigns ! (of_opd ! (lit ! tt)) (from ! (stop !)) (init ! 10 refl (tt, record { fits = lit< tt })) $

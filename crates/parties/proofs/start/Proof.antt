@@ -31,11 +31,11 @@ open-walked-requires c κs = (refl, refl, refl, refl)
 
 -- it was accepted
 accepted : (t : tie.Else-not-net) → NoneOf (sheet_checks (sheet (opening t.before))) × Holds (sheet (opening t.before)) (net (opening t.before))
-accepted t = let o = opening t.before in opens_passed (sheet o) (net o) t.if-not-net.false o.open_walked-net.ensures.4
+accepted t = let o = opening t.before in opens_passed (sheet o) (net o) t.if-not-net.false-raw o.open_walked-net.ensures.4
 
 -- ── it is refused ──
 returns : tie.Need-returns-then-not-net
-returns c = let o = opening c.before in (opens_refused (sheet o) (net o) c.if-not-net.true o.open_walked-net.ensures.4, c.erase.ensures)
+returns c = let o = opening c.before in (opens_refused (sheet o) (net o) c.if-not-net.true-raw o.open_walked-net.ensures.4, c.erase.ensures)
 
 -- ── it is accepted ──
 narrow-requires : tie.Need-narrow-requires

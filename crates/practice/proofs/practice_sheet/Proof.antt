@@ -64,13 +64,13 @@ sizes c =
 abbrev ranged : tie.After-edge_at-end → tie.Else-out_of_range
 ranged c = c.before.before.before
 
-edges_are : (c : tie.After-edge_count-edges) → c.IsEdge-count.result ≡ grid_edges (start c.before).args.rows (start c.before).args.columns
-edges_are c = rw (c.wide-height.ensures, c.wide-width.ensures) at c.IsEdge-count.ensures.0
+edges_are : (c : tie.After-edge_count-edges) → c.edge_count-edges.result ≡ grid_edges (start c.before).args.rows (start c.before).args.columns
+edges_are c = rw (c.wide-height.ensures, c.wide-width.ensures) at c.edge_count-edges.ensures.0
 
 long : (c : tie.After-edge_at-end) → c.edge_at-end.result ≡ practice_length (start (ranged c)).args.rows (start (ranged c)).args.columns
 long c =
     c.edge_at-end.ensures
-    ∙ ap (λ n. edge_after n c.IsEdge-count.result) c.record_length.ensures.0
+    ∙ ap (λ n. edge_after n c.edge_count-edges.result) c.record_length.ensures.0
     ∙ ap (edge_after (record_length 1)) (edges_are c.before.before)
 
 -- ── the head is written ──

@@ -19,7 +19,7 @@ returns c =
     let a = s.args in
     w.write_record.ensures
     ∙ (λ i. put a.place
-    (edge_bytes (tail.Node-at.ensures i) (head.node_at-head.ensures i) (rotation.rotation_at-rotation.ensures i) (back.rotation_at-turned.ensures i)
+    (edge_bytes (tail.node_at-tail.ensures i) (head.node_at-head.ensures i) (rotation.rotation_at-rotation.ensures i) (back.rotation_at-turned.ensures i)
     (number_of_bits a.forward s.ranges.forward i) (pos 0)) a.out.now)
 
 pub write_between_spec : {M : Type 1} → statement M

@@ -91,7 +91,7 @@ returns c =
     let a = s.args in
     w.write_between.ensures
     ∙ same-record a.rows a.columns a.place a.out.now (sym (begins_across a.rows a.columns a.e (first t.before.before.before.before)))
-    (sym (ends_across a.rows a.columns a.e (first t.before.before.before.before))) (number_of_bits a.forward s.fits.forward)
+    (sym (ends_across a.rows a.columns a.e (first t.before.before.before.before))) (number_of_bits a.forward s.ranges.forward)
 
 add-write-between-2 : tie.Need-overflow_add-r
 add-write-between-2 c = omega (arith, (in-column c.before).0, (southward c.before).requires.2)
@@ -128,7 +128,7 @@ returns-2 c =
     ∙ same-record a.rows a.columns a.place a.out.now
     (ap (λ n. placed ((a.e - n) / a.columns) ((a.e - n) % a.columns) (side 2)) k ∙ sym (begins_down a.rows a.columns a.e (second t.before.before.before.before)))
     (ap (λ n. placed ((a.e - n) / a.columns + 1) ((a.e - n) % a.columns) (side 0)) k ∙ sym (ends_down a.rows a.columns a.e (second t.before.before.before.before)))
-    (number_of_bits a.forward s.fits.forward)
+    (number_of_bits a.forward s.ranges.forward)
 
 pub write_edge_spec : {M : Type 1} → statement M
 write_edge_spec =

@@ -48,7 +48,7 @@ abbrev turn : tie.After-edge_at-place invariant-loop decreases-loop → tie.At-l
 turn c = c.before.before.before.before
 
 inside : (c : tie.After-edge_at-place invariant-loop decreases-loop) → (turn c).loop-e.e < grid_edges (begun (turn c)).args.rows (begun (turn c)).args.columns
-inside c = omega (arith, c.loop-e-test.true, (turn c).IsEdge-count.ensures.0)
+inside c = omega (arith, c.loop-e-test.true, (turn c).edge_count-edges.ensures.0)
 
 -- ── the state and the capacity of this turn ──
 stepped : (c : tie.After-next_state-state invariant-loop decreases-loop)
@@ -114,7 +114,7 @@ write-edge-requires c κs =
     let o = turn l.before in
     let s = begun o in
     let p = s.requires in (
-      omega (arith, place l.before, o.IsEdge-count.ensures.1, inside l.before),
+      omega (arith, place l.before, o.edge_count-edges.ensures.1, inside l.before),
       omega (arith, place l.before, inside l.before, o.loop-e.invariant.3, p.5),
       p.1,
       p.2,
@@ -138,7 +138,7 @@ loop-again c =
 returns : tie.Need-returns invariant-loop decreases-loop
 returns c = λ old e.
     let o = c in
-    front_end (drawn (begun o.before)) old o.loop-e.e _ (omega (arith, o.IsEdge-count.ensures.0)) (o.loop-e.invariant.4 old e)
+    front_end (drawn (begun o.before)) old o.loop-e.e _ (omega (arith, o.edge_count-edges.ensures.0)) (o.loop-e.invariant.4 old e)
 
 pub write_edges_spec : {M : Type 1} → statement M
 write_edges_spec =

@@ -33,7 +33,7 @@ start c = (kind_at (tail_at (head_at (rotation-at (turned-at c))))).before.befor
 
 -- the capacity, whose bits are the number given
 forward-put : (c : tie.After-write_i32)
-    → c.write_i32.new.s ≡ put ((start c).args.place + 9) (le32 (start c).args.forward) (turned-at c).write_u16-4.new.0
+    → c.write_i32.new.s ≡ put ((start c).args.place + 9) (le32 (start c).args.forward) (turned-at c).write_u16-4.new.s
 forward-put c = rw (number_of_bits (start c).args.forward (start c).ranges.forward) at c.write_i32.ensures
 
 -- ── all seven fields are one record ──

@@ -120,13 +120,13 @@ start c = base (asked (roomy c))
 
 -- the part lent, as it came back, and the slice with it
 abbrev lent' : tie.After-maximize-most → List ℤ
-lent' c = c.maximize-most.new.1.1.1.1.1.1.1.1.1.1.0
+lent' c = c.maximize-most.new.flows
 
 abbrev flows' : tie.After-maximize-most → List ℤ
 flows' c = lent' c ++ drop ((start c).args.sizes.edges - 0) (start c).args.flows.now
 
 abbrev inside' : tie.After-maximize-most → List ℕ
-inside' c = c.maximize-most.new.1.1.1.1.1.1.1.1.1.1.1.0
+inside' c = c.maximize-most.new.a
 
 found : (c : tie.After-maximize-most) {answer : Maximum} → c.maximize-most.result ≡ answer
     → Maximized (mapAt (start c)) (start c).args.sizes.outer (capacityAt (start c)) (start c).args.terminals.source (start c).args.terminals.sink

@@ -84,7 +84,7 @@ abbrev start : tie.After-fill_nets → tie.Start
 start c = base (roomy (fitting c))
 
 abbrev nets' : tie.After-fill_nets → List ℤ
-nets' c = c.fill_nets.new.1.1.1.0
+nets' c = c.fill_nets.new.nets
 
 abbrev filled : tie.After-check_balance-balanced → tie.After-fill_nets
 filled c = c.before.before
@@ -173,7 +173,7 @@ returns-5 c =
       mark_none (drawingAt s) s.args.terminals.source s.args.terminals.sink x (two (roomy t)) t.if-flows-many.false
           (within t)
           (balance-judged e.before.before Passed e.enum_told-in_default-balanced-1.given.1),
-      number_of_bits _ (record { sfits = c.result.given-1 })
+      number_of_bits _ (record { sfits = c.result.given })
           ∙ net_of (drawingAt s).map (atℤ (given s)) s.requires.few_nodes (nets' n) n.fill_nets.ensures.1 s.args.terminals.source (source_in n)
           ∙ part_net (drawingAt s).map x s.args.terminals.source,
     )

@@ -162,13 +162,13 @@ start c = base (asked (roomy c))
 
 -- the part lent, as it came back, and the slice with it
 abbrev lent' : tie.After-decide → List ℤ
-lent' c = c.decide.new.1.1.1.1.1.1.1.1.1.1.1.0
+lent' c = c.decide.new.flows
 
 abbrev flows' : tie.After-decide → List ℤ
 flows' c = lent' c ++ drop ((start c).args.sizes.edges - 0) (start c).args.flows.now
 
 abbrev inside' : tie.After-decide → List ℕ
-inside' c = c.decide.new.1.1.1.1.1.1.1.1.1.1.1.1.0
+inside' c = c.decide.new.inside
 
 decided : (c : tie.After-decide) {answer : Bool} → c.decide.result ≡ answer
     → Decided (mapAt (start c)) (start c).args.sizes.outer (capacityAt (start c)) (start c).args.demand.source (start c).args.demand.sink

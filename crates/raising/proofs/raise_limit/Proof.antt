@@ -197,13 +197,13 @@ known c = roomy c.before
 
 -- the part lent, as it came back, and the slice with it
 abbrev lent' : tie.After-find_limit-least → List ℤ
-lent' c = c.find_limit-least.new.1.1.1.1.1.1.1.1.1.1.1.0
+lent' c = c.find_limit-least.new.flows
 
 abbrev flows' : tie.After-find_limit-least → List ℤ
 flows' c = lent' c ++ drop ((start (known c)).args.sizes.edges - 0) (start (known c)).args.flows.now
 
 abbrev inside' : tie.After-find_limit-least → List ℕ
-inside' c = c.find_limit-least.new.1.1.1.1.1.1.1.1.1.1.1.1.0
+inside' c = c.find_limit-least.new.inside
 
 sought : (c : tie.After-find_limit-least) {answer : Found} → c.find_limit-least.result ≡ answer
     → Sought (drawing (start (known c))) (start (known c)).args.demand.source (start (known c)).args.demand.sink (start (known c)).args.demand.value

@@ -52,7 +52,7 @@ returns : tie.Need-returns-then-not-in_bounds
 returns c =
     let b = c in (
       (
-        unfit_answered (held b.before) (given b.before) (same b.before) (λ f. said_no b.in_bounds.ensures (unless_taken b.in_bounds.result c.if-not-in_bounds.true) f.bounds) _ _
+        unfit_answered (held b.before) (given b.before) (same b.before) (λ f. said_no b.in_bounds.ensures (unless_taken b.in_bounds.result c.if-not-in_bounds.true-raw) f.bounds) _ _
             _ _ _,
         refl,
         refl,
@@ -63,7 +63,7 @@ returns c =
 
 -- ── in bounds ──
 bounded : (c : tie.Else-not-in_bounds) → InBounds (held c.before)
-bounded c = said_yes c.in_bounds.ensures (unless_left c.in_bounds.result c.if-not-in_bounds.false)
+bounded c = said_yes c.in_bounds.ensures (unless_left c.in_bounds.result c.if-not-in_bounds.false-raw)
 
 abbrev within : tie.After-check_map-checked → tie.Else-not-in_bounds
 within c = c.before.before.before.before.before.before

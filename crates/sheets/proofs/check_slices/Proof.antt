@@ -51,7 +51,7 @@ abbrev tails' : tie.After-load-2 → List ℕ
 tails' c = c.load.new.to
 
 abbrev rotations' : tie.After-load-2 → List ℕ
-rotations' c = c.load-2.new.1.0
+rotations' c = c.load-2.new.to
 
 map_is : (c : tie.After-load-2) → map_of (start c).args.nodes (edges_in (start c).args.tails.now) (tails' c) (rotations' c) ≡ (drawn (start c)).map
 map_is c =

@@ -24,9 +24,9 @@ abbrev net : tie.After-open_walked-net → Network
 net c = c.open_walked-net.result
 
 accepted : (c : tie.Else-not-net) → NoneOf (sheet_checks (sheet c.before)) × Holds (sheet c.before) (net c.before)
-accepted c = opens_passed (sheet c.before) (net c.before) c.if-not-net.false c.open_walked-net.ensures.4
+accepted c = opens_passed (sheet c.before) (net c.before) c.if-not-net.false-raw c.open_walked-net.ensures.4
 
-few : (c : tie.Else-not-net) → ((net c.before).sizes-1.edges ≤ 512) × ((net c.before).sizes-1.nodes ≤ 513) × ((net c.before).sizes-1.outer ≤ 1023)
+few : (c : tie.Else-not-net) → ((net c.before).sizes.edges ≤ 512) × ((net c.before).sizes.nodes ≤ 513) × ((net c.before).sizes.outer ≤ 1023)
 few c =
     let s = sheet c.before in
     let a = accepted c in
@@ -57,7 +57,7 @@ open-walked-requires c κs = (refl, refl, refl, refl)
 returns : tie.Need-returns-then-not-net
 returns c =
     let o = c in
-    (read_refused _ _ _ _ _ _ (opens_refused (sheet o.before) (net o.before) c.if-not-net.true o.open_walked-net.ensures.4), refl, refl, refl)
+    (read_refused _ _ _ _ _ _ (opens_refused (sheet o.before) (net o.before) c.if-not-net.true-raw o.open_walked-net.ensures.4), refl, refl, refl)
 
 mul-darts : tie.Need-overflow_mul-darts
 mul-darts c = omega (arith, (few c.before.before).0)
@@ -74,8 +74,8 @@ returns-4 c =
     (read_short _ _ _ _ a.0 (inr (inr (omega (arith, a.1.edges_are)))), refl, refl, refl)
 
 -- the part of a slice that is lent has room for every dart and no more
-lent : {A : Type 0} (c : tie.Else-not-net) (l : List A) → length (take (2 * (net c).sizes-1.edges - 0) l) ≤ 1024
-lent c l = omega (arith, part_short (2 * (net c).sizes-1.edges) l, (few c).0)
+lent : {A : Type 0} (c : tie.Else-not-net) (l : List A) → length (take (2 * (net c.before).sizes.edges - 0) l) ≤ 1024
+lent c l = omega (arith, part_short (2 * (net c.before).sizes.edges) l, (few c).0)
 
 copy-darts-requires : tie.Need-copy_darts-requires
 copy-darts-requires c κs = lent (told c.before.before) _
@@ -104,7 +104,7 @@ returns-5 c =
     let t = told r in
     let a = accepted t in
     let e = a.1.edges_are in
-    let all : 2 * (net t.before).sizes-1.edges ≡ _ = ap (λ m. 2 * m) e in (
+    let all : 2 * (net t.before).sizes.edges ≡ _ = ap (λ m. 2 * m) e in (
       read_whole (sheet t.before) _ _ _ a.0
           (omega (arith, e, r.if-tails-darts.false)) (omega (arith, e, r.if-rotations-darts.false)) (omega (arith, e, r.if-capacities-darts.false)),
       c.narrow.ensures ∙ a.1.nodes_are,

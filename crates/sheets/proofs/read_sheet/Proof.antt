@@ -24,7 +24,7 @@ use Rattle.sheets.proofs.read_sheet.Tie as tie
 abbrev begun : tie.After-read_head-head → tie.Start
 begun c = c.before.before
 
-head_read : (c : tie.After-read_head-head) (v : Verdict) → c.read_head-head.result.verdict-1 ≡ v → HeadRead (begun c).args.s.now c.read_head-head.result v
+head_read : (c : tie.After-read_head-head) (v : Verdict) → c.read_head-head.result.verdict ≡ v → HeadRead (begun c).args.s.now c.read_head-head.result v
 head_read c v e = subst (HeadRead (begun c).args.s.now c.read_head-head.result) e c.read_head-head.ensures
 
 abbrev headed : tie.In_default → tie.After-read_head-head
@@ -45,13 +45,13 @@ abbrev sheet : tie.After-read_edges-read → List ℕ
 sheet c = (start c).args.s.now
 
 abbrev tails : tie.After-read_edges-read → List ℕ
-tails c = c.read_edges-read.new.1.1.1.1.0
+tails c = c.read_edges-read.new.tails
 
 abbrev rotations : tie.After-read_edges-read → List ℕ
-rotations c = c.read_edges-read.new.1.1.1.1.1.0
+rotations c = c.read_edges-read.new.rotations
 
 abbrev capacities : tie.After-read_edges-read → List ℤ
-capacities c = c.read_edges-read.new.1.1.1.1.1.1.0
+capacities c = c.read_edges-read.new.capacities
 
 edges-read : (c : tie.After-read_edges-read) (v : Verdict) → c.read_edges-read.result ≡ v → EdgesRead (sheet c) (tails c) (rotations c) (capacities c) v
 edges-read c v e = subst (EdgesRead (sheet c) (tails c) (rotations c) (capacities c)) e c.read_edges-read.ensures.3
@@ -79,13 +79,13 @@ abbrev lent : tie.After-check_map-checked → tie.In_default-read
 lent c = c.before.before.before.before.before.before
 
 abbrev lefts : tie.After-check_map-checked → List ℕ
-lefts c = c.check_map-checked.new.1.1.1.1.1.0
+lefts c = c.check_map-checked.new.lefts
 
-judged : (c : tie.After-check_map-checked) (v : Verdict) → c.check_map-checked.result.verdict-1 ≡ v
+judged : (c : tie.After-check_map-checked) (v : Verdict) → c.check_map-checked.result.verdict ≡ v
     → MapJudged (sheet_map (sheet (read (lent c)))) (at (lefts c)) c.check_map-checked.result.faces v
 judged c v e =
     subst (MapJudged (sheet_map (sheet (read (lent c)))) (at (lefts c)) c.check_map-checked.result.faces) e
-    (subst (λ 𝓜. MapJudged 𝓜 (at (lefts c)) c.check_map-checked.result.faces c.check_map-checked.result.verdict-1) (map_is (lent c)) c.check_map-checked.ensures.5)
+    (subst (λ 𝓜. MapJudged 𝓜 (at (lefts c)) c.check_map-checked.result.faces c.check_map-checked.result.verdict) (map_is (lent c)) c.check_map-checked.ensures.5)
 
 -- ── the needs, in the order of the code ──
 returns : tie.Need-returns-in-Refused

@@ -35,11 +35,11 @@ start c = begun (kind_at (tail_at (head_at (rotation-at (back-rotation-at c)))))
 
 -- ── the capacities, whose bits are the numbers given ──
 forward-put : (c : tie.After-write_i32)
-    → c.write_i32.new.s ≡ put ((start c).args.place + 9) (le32 (start c).args.forward) (back-rotation-at c).write_u16-4.new.0
+    → c.write_i32.new.s ≡ put ((start c).args.place + 9) (le32 (start c).args.forward) (back-rotation-at c).write_u16-4.new.s
 forward-put c = rw (number_of_bits (start c).args.forward (start c).ranges.forward) at c.write_i32.ensures
 
 backward-put : (c : tie.After-write_i32-2)
-    → c.write_i32-2.new.s ≡ put ((start (forward-at c)).args.place + 13) (le32 (start (forward-at c)).args.backward) (forward-at c).write_i32.new.0
+    → c.write_i32-2.new.s ≡ put ((start (forward-at c)).args.place + 13) (le32 (start (forward-at c)).args.backward) (forward-at c).write_i32.new.s
 backward-put c = rw (number_of_bits (start (forward-at c)).args.backward (start (forward-at c)).ranges.backward) at c.write_i32-2.ensures
 
 -- ── all seven fields are one record ──
@@ -53,7 +53,7 @@ returns c =
     let tail = tail_at head in
     let s = start forward in
     let a = s.args in
-    edge_placed a.out.now a.place a.tail a.head a.rotation a.back-rotation a.forward a.backward s.requires.1
+    edge_placed a.out.now a.place a.tail a.head a.rotation a.back_rotation a.forward a.backward s.requires.1
     (kind_at tail).write_u8.ensures tail.write_u16.ensures head.write_u16-2.ensures rotation.write_u16-3.ensures back.write_u16-4.ensures
     (forward-put forward) (backward-put last.before.before)
 

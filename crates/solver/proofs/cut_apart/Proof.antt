@@ -45,7 +45,7 @@ returns-2 c =
     let p = s.requires in
     let f = w.fill_lengths.ensures in
     let e = c.flag_part.ensures in
-    let above : pos 0 <ℤ s.args.value = lt_of_test _ _ (rw (number_of_bits _ s.fits.value) at t.if-value-gt0.true) in (
+    let above : pos 0 <ℤ s.args.value = lt_of_test _ _ (rw (number_of_bits _ s.ranges.value) at t.if-value-gt0.true) in (
       f.0,
       e.0,
       source_part p.2 p.6 (same_value p.8) f.1 (flagged c.flag_part.new.inside) o.if-fill_lengths.false p.5 e.1
@@ -68,7 +68,7 @@ returns-3 c =
     let p = s.requires in
     let f = w.fill_lengths.ensures in
     let e = c.flag_part-then-value-lt0.ensures in
-    let below : s.args.value <ℤ pos 0 = lt_of_test _ _ (rw (number_of_bits _ s.fits.value) at t.if-value-lt0.true) in (
+    let below : s.args.value <ℤ pos 0 = lt_of_test _ _ (rw (number_of_bits _ s.ranges.value) at t.if-value-lt0.true) in (
       f.0,
       e.0,
       sink_part p.2 p.6 (same_value p.8) f.1 (flagged c.flag_part-then-value-lt0.new.inside) o.if-fill_lengths.false p.4 e.1
@@ -83,8 +83,8 @@ returns-4 c =
     let s = begun w.before.before.before in
     let p = s.requires in
     let e = w.fill_lengths.ensures in
-    let high : s.args.value ≤ℤ pos 0 = ge_of_test _ _ (rw (number_of_bits _ s.fits.value) at c.if-value-gt0.false) in
-    let low : pos 0 ≤ℤ s.args.value = ge_of_test _ _ (rw (number_of_bits _ s.fits.value) at c.if-value-lt0.false) in
+    let high : s.args.value ≤ℤ pos 0 = ge_of_test _ _ (rw (number_of_bits _ s.ranges.value) at c.if-value-gt0.false) in
+    let low : pos 0 ≤ℤ s.args.value = ge_of_test _ _ (rw (number_of_bits _ s.ranges.value) at c.if-value-lt0.false) in
     let none = le_antisym high low in
     (e.0, p.1, lengthened_none p.2 p.6 (same_value p.8) e.1 none, measured_by (same_value p.8) e.1 (inr none))
 

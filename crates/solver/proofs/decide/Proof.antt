@@ -69,10 +69,10 @@ abbrev begun : tie.After-cut_apart → tie.Start
 begun c = (started c).before.before
 
 abbrev row : tie.After-cut_apart → List ℤ
-row c = c.cut_apart.new.1.1.1.1.1.1.1.1.1.1.0
+row c = c.cut_apart.new.lengths
 
 abbrev flags : tie.After-cut_apart → List ℕ
-flags c = c.cut_apart.new.1.1.1.1.1.1.1.1.1.1.1.0
+flags c = c.cut_apart.new.inside
 
 measured : (c : tie.After-cut_apart)
     → Measured (mapAt (begun c)) (begun c).args.demand.source (begun c).args.demand.sink (atℤ (begun c).args.capacities.now)
@@ -147,8 +147,12 @@ lengthened c = (joined c).before
 closes : (c : tie.In-Ring) → c.in-Ring.d < 1024
 closes c =
     let s = c in
-    let p = (begun (lengthened s.before.before)).requires in
-    omega (arith, (searched_ring _ _ _ _ _ _ _ c.in-Ring.is s.settle_all-outcome.ensures.1.3).1, p.0.opened.drawn.few_edges)
+    let b = begun (lengthened s.before.before) in
+    omega (
+      arith,
+      (searched_ring _ _ (atℤ b.args.capacities.now) b.args.flows.now _ (at s.settle_all-outcome.new.parents) _ c.in-Ring.is s.settle_all-outcome.ensures.1.3).1,
+      b.requires.0.opened.drawn.few_edges,
+    )
 
 mul_wide : tie.Need-offset_bounds-lefts-d
 mul_wide c = omega (arith, closes c)
@@ -173,13 +177,13 @@ cut-of-ring-requires c κs =
       f.cut_apart.ensures.1,
       treed_of p.0.opened.drawn.plane.sound p.0.opened.walked.forest,
       ringed (begun f).args.lefts.now p.0.opened.drawn p.0.ends (row f) (known (joined s)) q.0 q.1 q.2
-          _ w.wide-y.ensures (searched_ring _ _ _ _ _ _ _ o.in-Ring.is s.settle_all-outcome.ensures.1.3).2,
+          _ w.wide-y.ensures (searched_ring _ _ (atℤ (begun f).args.capacities.now) (begun f).args.flows.now _ (at s.settle_all-outcome.new.parents) _ o.in-Ring.is s.settle_all-outcome.ensures.1.3).2,
     )
 
 -- the set made from the ring
 named-ring : (c : tie.After-wide-y) (inside' : List ℕ) → let o = ringed-at c in let f = lengthened (settled o) in let s = begun f in
     MadeOfRing (mapAt s) (right_of s.args.lefts.now) (atℤ (row f)) (at s.args.order.now) (at s.args.from.now)
-    (at (settled o).settle_all-outcome.last.1.1.1.1.1.1.1.1.1.0) c.wide-y.result (flagged inside')
+    (at (settled o).settle_all-outcome.new.parents) c.wide-y.result (flagged inside')
     → Named (mapAt s) s.args.sizes.outer (atℤ s.args.capacities.now) s.args.demand.source s.args.demand.sink s.args.demand.value
     s.args.parents.now (flagged inside')
 named-ring c inside' made =
@@ -204,7 +208,7 @@ named-ring c inside' made =
       potentials = q.5.0;
       parents = _;
       closing = _;
-      closing_in = (searched_ring _ _ _ _ _ _ _ o.in-Ring.is q.3).1;
+      closing_in = (searched_ring _ _ (atℤ s.args.capacities.now) s.args.flows.now _ (at a.settle_all-outcome.new.parents) _ o.in-Ring.is q.3).1;
       searched = searches_known o.in-Ring.is q.5.1;
       made = rw (← c.wide-y.ensures) made;
     })
@@ -220,7 +224,7 @@ returns-2 c =
     let inside' = c.cut_of_ring.new.inside in (
       e.0,
       decided_cannot (begun f).args.lefts.now p.0.opened.drawn p.0.ends (row f) (known (joined s)) q.0 q.1 q.2
-          _ _ inside' (searched_ring _ _ _ _ _ _ _ o.in-Ring.is s.settle_all-outcome.ensures.1.3).0 e.1,
+          _ _ inside' (searched_ring _ _ (atℤ (begun f).args.capacities.now) (begun f).args.flows.now _ (at s.settle_all-outcome.new.parents) _ o.in-Ring.is s.settle_all-outcome.ensures.1.3).0 e.1,
       s.settle_all-outcome.ensures.0,
       λ z. named-ring c.before.before.before inside' e.2,
     )

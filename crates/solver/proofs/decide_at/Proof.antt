@@ -6,7 +6,7 @@ use native.Mathlib.Omega.{arith}
 use lib.IntN.{ℤ}
 use borrow.Author.Rules.{rules}
 use Rattle.maps.specs.Map.{Map}
-use Rattle.arrays.specs.At.{atℤ}
+use Rattle.arrays.specs.At.{at, atℤ}
 use Rattle.arrays.specs.Maps.{map_of}
 use Rattle.traversal.proofs.Rooting.{roots_few}
 use Rattle.solver.specs.inner.Search.{Lengthened, Measured}
@@ -62,10 +62,10 @@ abbrev begun : tie.After-cut_apart → tie.Start
 begun c = (started c).before.before
 
 abbrev row : tie.After-cut_apart → List ℤ
-row c = c.cut_apart.new.1.1.1.1.1.1.1.1.1.1.0
+row c = c.cut_apart.new.lengths
 
 abbrev flags : tie.After-cut_apart → List ℕ
-flags c = c.cut_apart.new.1.1.1.1.1.1.1.1.1.1.1.0
+flags c = c.cut_apart.new.inside
 
 measured : (c : tie.After-cut_apart)
     → Measured (mapAt (begun c)) (begun c).args.demand.source (begun c).args.demand.sink (atℤ (begun c).args.capacities.now)
@@ -123,10 +123,11 @@ settled c = c.before.before
 closes : (c : tie.In-Ring) → c.in-Ring.d < 1024
 closes c =
     let s = settled c in
+    let b = begun (lengthened s) in
     omega (
       arith,
-      (searched_ring _ _ _ _ _ _ _ c.in-Ring.is s.settle-outcome.ensures.1).1,
-      (begun (lengthened s)).requires.0.drawn.few_edges,
+      (searched_ring _ _ (atℤ b.args.capacities.now) b.args.flows.now _ (at s.settle-outcome.new.parents) _ c.in-Ring.is s.settle-outcome.ensures.1).1,
+      b.requires.0.drawn.few_edges,
     )
 
 mul_wide : tie.Need-offset_bounds-lefts-d
@@ -149,7 +150,7 @@ cut-of-ring-requires c κs =
       f.cut_apart.ensures.1,
       p.0.treed,
       ringed b.args.lefts.now p.0.drawn p.0.ends (row f) (known (joined s)) b.args.queue.now p.2 p.0.roots
-          _ w.wide-y.ensures (searched_ring _ _ _ _ _ _ _ o.in-Ring.is s.settle-outcome.ensures.1).2,
+          _ w.wide-y.ensures (searched_ring _ _ (atℤ b.args.capacities.now) b.args.flows.now _ (at s.settle-outcome.new.parents) _ o.in-Ring.is s.settle-outcome.ensures.1).2,
     )
 
 returns-2 : tie.Need-returns-in-Ring
@@ -164,7 +165,7 @@ returns-2 c =
       k.0,
       decided_cannot b.args.lefts.now p.0.drawn p.0.ends (row f) (known (joined s)) b.args.queue.now p.2 p.0.roots
           _ _ c.cut_of_ring.new.inside
-          (searched_ring _ _ _ _ _ _ _ o.in-Ring.is s.settle-outcome.ensures.1).0 k.1,
+          (searched_ring _ _ (atℤ b.args.capacities.now) b.args.flows.now _ (at s.settle-outcome.new.parents) _ o.in-Ring.is s.settle-outcome.ensures.1).0 k.1,
     )
 
 -- ── settled ──
