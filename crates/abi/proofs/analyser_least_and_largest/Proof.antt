@@ -15,16 +15,16 @@ abbrev start : tie.After-least_and_largest-answer → tie.Start
 start c = c.before.before.before.before.before.before.before.before
 
 abbrev low' : tie.After-least_and_largest-answer → List ℤ
-low' c = c.least_and_largest-answer.last.1.1.1.0
+low' c = c.least_and_largest-answer.new.low
 
 abbrev below' : tie.After-least_and_largest-answer → List ℕ
-below' c = c.least_and_largest-answer.last.1.1.1.1.0
+below' c = c.least_and_largest-answer.new.below
 
 abbrev high' : tie.After-least_and_largest-answer → List ℤ
-high' c = c.least_and_largest-answer.last.1.1.1.1.1.0
+high' c = c.least_and_largest-answer.new.high
 
 abbrev above' : tie.After-least_and_largest-answer → List ℕ
-above' c = c.least_and_largest-answer.last.1.1.1.1.1.1.0
+above' c = c.least_and_largest-answer.new.above
 
 found : (c : tie.After-least_and_largest-answer) (answer : RangeAnswer) → c.least_and_largest-answer.result ≡ answer
     → FindsRange (start c).args.sheet.now (start c).args.source (start c).args.sink (start c).args.low.now (low' c)

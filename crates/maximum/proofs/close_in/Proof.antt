@@ -52,7 +52,7 @@ abbrev 𝓜 : tie.Start invariant-loop decreases-loop → Map
 abbrev caps : tie.Start invariant-loop decreases-loop → ℕ → ℤ
 caps c = atℤ c.args.capacities.now
 
-ground : (c : tie.Start invariant-loop decreases-loop) → Ground (𝓜 c) (caps c) c.args.begun.terminals-1.source c.args.begun.terminals-1.sink
+ground : (c : tie.Start invariant-loop decreases-loop) → Ground (𝓜 c) (caps c) c.args.begun.terminals.source c.args.begun.terminals.sink
 ground c = ground_of c.requires.0.lent c.requires.0.small
 
 loop-holds : tie.Need-loop-terminals-init invariant-loop decreases-loop
@@ -83,7 +83,7 @@ same-hi : (c : tie.At-loop-terminals invariant-loop decreases-loop) → hi c ≡
 same-hi c = same_bits (omega arith) (high_small (start c).args.sizes.outer (ground (start c)) c.loop-terminals.invariant.bracket.ceiling)
 
 at_bits : (c : tie.At-loop-terminals invariant-loop decreases-loop)
-    → Bracket (𝓜 (start c)) (start c).args.sizes.outer (caps (start c)) (start c).args.begun.terminals-1.source (start c).args.begun.terminals-1.sink
+    → Bracket (𝓜 (start c)) (start c).args.sizes.outer (caps (start c)) (start c).args.begun.terminals.source (start c).args.begun.terminals.sink
     (entered c) c.loop-terminals.flows c.loop-terminals.a c.loop-terminals.b (lo c) (hi c) c.loop-terminals.bounds.found
 at_bits c =
     bits_bracket (start c).args.sizes.outer (ground (start c)) (entered c) c.loop-terminals.flows c.loop-terminals.a c.loop-terminals.b _ _ c.loop-terminals.bounds.found

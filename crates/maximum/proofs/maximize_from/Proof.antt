@@ -57,11 +57,11 @@ first-set c = (flagged-sink c).before.before
 bounds : (c : tie.After-first_bounds-bounds)
     → let s = given (flagged-sink c) in
     Bracket (𝓜 s) s.args.sizes.outer (caps s) s.args.terminals.source s.args.terminals.sink s.args.flows.now s.args.flows.now
-    (first-set c).begin-likely.new.1.1.1.1.1.1.0 (flagged-sink c).flag_one.new.inside
+    (first-set c).begin-likely.new.a (flagged-sink c).flag_one.new.inside
     c.first_bounds-bounds.result.low c.first_bounds-bounds.result.high c.first_bounds-bounds.result.found
 bounds c =
     let s = given (flagged-sink c) in
-    let A = (first-set c).begin-likely.new.1.1.1.1.1.1.0 in
+    let A = (first-set c).begin-likely.new.a in
     let B = (flagged-sink c).flag_one.new.inside in
     let r = c.first_bounds-bounds.result in
     let e = c.first_bounds-bounds.ensures in

@@ -77,7 +77,7 @@ abbrev given : tie.After-copy_flows → tie.Start
 given c = c.before.before.before
 
 abbrev since : tie.After-copy_flows → List ℤ
-since c = c.copy_flows.new.1.1.0
+since c = c.copy_flows.new.to
 
 is-since : (c : tie.After-copy_flows) → since c ≡ filled (given c).args.sizes.edges (given c).requires.4.0 (given c).args.flows.now
 is-since c =
@@ -124,7 +124,7 @@ abbrev start : tie.After-capacity → tie.Start
 start c = base (first-set c)
 
 abbrev a₀ : tie.After-capacity → List ℕ
-a₀ c = (first-set c).begin-likely.new.1.1.1.1.1.1.0
+a₀ c = (first-set c).begin-likely.new.a
 
 bounds : (c : tie.After-capacity) (B : List ℕ)
     → Bracket (𝓜 (start c)) (start c).args.sizes.outer (caps (start c)) (start c).args.demand.source (start c).args.demand.sink
@@ -164,13 +164,13 @@ abbrev origin : tie.After-try_likely-tried → tie.Start
 origin c = start (measured c)
 
 abbrev flows₁ : tie.After-try_likely-tried → List ℤ
-flows₁ c = c.try_likely-tried.new.1.1.1.1.1.1.1.1.1.1.1.0
+flows₁ c = c.try_likely-tried.new.flows
 
 abbrev a₁ : tie.After-try_likely-tried → List ℕ
-a₁ c = c.try_likely-tried.new.1.1.1.1.1.1.1.1.1.1.1.1.0
+a₁ c = c.try_likely-tried.new.a
 
 abbrev b₁ : tie.After-try_likely-tried → List ℕ
-b₁ c = c.try_likely-tried.new.1.1.1.1.1.1.1.1.1.1.1.1.1.0
+b₁ c = c.try_likely-tried.new.b
 
 same_length : tie.Need-shape_of-flows-then-tried
 same_length c =
@@ -215,7 +215,7 @@ abbrev left : tie.After-propose-high → tie.Else-tried
 left c = c.before.before.before.before.before
 
 abbrev a₂ : tie.After-propose-high → List ℕ
-a₂ c = c.propose-high.new.1.1.1.1.1.1.1.1.1.0
+a₂ c = c.propose-high.new.a
 
 begun : (c : tie.After-propose-high)
     → let t = tried (left c) in let s = origin t in let r = t.try_likely-tried.result in
@@ -250,10 +250,10 @@ abbrev proposed : tie.After-close_in → tie.After-propose-high
 proposed c = c.before.before.before.before.before.before
 
 abbrev flows₂ : tie.After-close_in → List ℤ
-flows₂ c = c.close_in.new.1.1.1.1.1.1.1.1.1.1.0
+flows₂ c = c.close_in.new.flows
 
 abbrev a₃ : tie.After-close_in → List ℕ
-a₃ c = c.close_in.new.1.1.1.1.1.1.1.1.1.1.1.1.0
+a₃ c = c.close_in.new.a
 
 same-length-2 : tie.Need-shape_of-flows
 same-length-2 c =

@@ -1,13 +1,9 @@
 -- `maximum::narrow_by` meets its contract: one way out for each side on which the set can lie.
 use mathlib.Core.Path.{◌≡◌, refl, sym, ◌∙◌, ap, subst}
-use mathlib.Core.Logic.{inl, inr}
-use mathlib.Core.List.{[], ◌∷◌}
 use native.Mathlib.Omega.{arith}
 use lib.IntN.{neg_ℤ}
 use mir.Syntax.{w32}
 use mir.Val.{to_z, of_z}
-use types.Run.{OneOf}
-use denote.Enum.Declared.{tag_of}
 use borrow.Author.Rules.{rules}
 use Rattle.integers.specs.inner.Limited.{Limited}
 use Rattle.signed.proofs.Laws.{number_of_bits}
@@ -17,17 +13,14 @@ use Rattle.node_flags.specs.inner.Flags.{Sided}
 use Rattle.arrays.specs.inner.Flags.{flagged}
 use Rattle.node_flags.specs.declared.Side.{Side}
 use Rattle.node_flags.specs.declared.Side.TheVariants as side
-use Rattle.node_flags.specs.contracts.Side as tags
 use Rattle.maximum.proofs.Joining.{cut_limited}
 use Rattle.maximum.proofs.narrow_by.Statement.{statement}
 use Rattle.maximum.proofs.narrow_by.Tie as tie
 
 -- neither the first variant nor the second: the third is left
-third : (r : Side) → OneOf (1 ∷ 2 ∷ []) (tag_of tags.the_type r) → OneOf (0 ∷ 2 ∷ []) (tag_of tags.the_type r) → r ≡ side.Beside
-third side.Source (inl e) h = absurd (omega arith)
-third side.Source (inr e) h = absurd (omega arith)
-third side.Sink g (inl e) = absurd (omega arith)
-third side.Sink g (inr e) = absurd (omega arith)
+third : (r : Side) → (r ≡ side.Source → ⊥) → (r ≡ side.Sink → ⊥) → r ≡ side.Beside
+third side.Source g h = absurd (g refl)
+third side.Sink g h = absurd (h refl)
 third side.Beside g h = refl
 
 -- the total is the cut of the flagged nodes
@@ -98,7 +91,7 @@ returns-3 c =
       s.requires.1,
       (
         side.Beside,
-        on-side sided.before.before.before.before side.Beside (third sided.side_of-side.result left.in-Source.keys2 left.in-Sink.keys2),
+        on-side sided.before.before.before.before side.Beside (third sided.side_of-side.result left.in_default.not-Source left.in_default-side.not-Sink),
         (refl, c.copy_flags-2.ensures.1),
       ),
     )

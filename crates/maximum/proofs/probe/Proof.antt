@@ -52,35 +52,35 @@ abbrev caps : tie.Start → ℕ → ℤ
 caps c = atℤ c.args.capacities.now
 
 abbrev src : tie.Start → ℕ
-src c = c.args.pending.terminals-1.source
+src c = c.args.pending.terminals.source
 
 abbrev snk : tie.Start → ℕ
-snk c = c.args.pending.terminals-1.sink
+snk c = c.args.pending.terminals.sink
 
 -- the bounds, as the numbers of their bits
 abbrev lo : tie.Start → ℤ
-lo c = to_z w32 (of_z w32 c.args.pending.bounds-1.low)
+lo c = to_z w32 (of_z w32 c.args.pending.bounds.low)
 
 abbrev hi : tie.Start → ℤ
-hi c = to_z w32 (of_z w32 c.args.pending.bounds-1.high)
+hi c = to_z w32 (of_z w32 c.args.pending.bounds.high)
 
 ground : (c : tie.Start) → Ground (𝓜 c) (caps c) (src c) (snk c)
 ground c = let u = c.requires.0.1 in ground_of u.lent u.small
 
 -- they are small
-lo_small : (c : tie.Start) → Limited 512000000 c.args.pending.bounds-1.low
+lo_small : (c : tie.Start) → Limited 512000000 c.args.pending.bounds.low
 lo_small c =
     let b = c.requires.0 in
-    low_small c.args.sizes.outer (ground c) b.0 c.args.flows.now (flagged c.args.b.now) c.args.pending.bounds-1.low
-    c.args.pending.bounds-1.found b.1.bracket.floor
+    low_small c.args.sizes.outer (ground c) b.0 c.args.flows.now (flagged c.args.b.now) c.args.pending.bounds.low
+    c.args.pending.bounds.found b.1.bracket.floor
 
-hi_small : (c : tie.Start) → Limited 512000000 c.args.pending.bounds-1.high
+hi_small : (c : tie.Start) → Limited 512000000 c.args.pending.bounds.high
 hi_small c = high_small c.args.sizes.outer (ground c) c.requires.0.1.bracket.ceiling
 
-same-lo : (c : tie.Start) → lo c ≡ c.args.pending.bounds-1.low
+same-lo : (c : tie.Start) → lo c ≡ c.args.pending.bounds.low
 same-lo c = same_bits (omega arith) (lo_small c)
 
-same-hi : (c : tie.Start) → hi c ≡ c.args.pending.bounds-1.high
+same-hi : (c : tie.Start) → hi c ≡ c.args.pending.bounds.high
 same-hi c = same_bits (omega arith) (hi_small c)
 
 bits-limited : {b : ℕ} {x : ℤ} → b < 2147483648 → Limited b x → Limited b (to_z w32 (of_z w32 x))
@@ -93,17 +93,17 @@ in_order c = rw (same-lo c, same-hi c) c.requires.2
 -- what holds of the bounds holds of the numbers of their bits
 at_bits : (c : tie.Start) (before : List ℤ)
     → Bracket (𝓜 c) c.args.sizes.outer (caps c) (src c) (snk c) before c.args.flows.now c.args.a.now c.args.b.now
-    c.args.pending.bounds-1.low c.args.pending.bounds-1.high c.args.pending.bounds-1.found
+    c.args.pending.bounds.low c.args.pending.bounds.high c.args.pending.bounds.found
     → Bracket (𝓜 c) c.args.sizes.outer (caps c) (src c) (snk c) before c.args.flows.now c.args.a.now c.args.b.now
-    (lo c) (hi c) c.args.pending.bounds-1.found
+    (lo c) (hi c) c.args.pending.bounds.found
 at_bits c before b =
-    bits_bracket c.args.sizes.outer (ground c) before c.args.flows.now c.args.a.now c.args.b.now _ _ c.args.pending.bounds-1.found b
+    bits_bracket c.args.sizes.outer (ground c) before c.args.flows.now c.args.a.now c.args.b.now _ _ c.args.pending.bounds.found b
 
-closer-of-bits : (c : tie.Start) {low' high' : ℤ} {found' : Bool} → Closer (lo c) (hi c) c.args.pending.bounds-1.found low' high' found'
-    → Closer c.args.pending.bounds-1.low c.args.pending.bounds-1.high c.args.pending.bounds-1.found low' high' found'
+closer-of-bits : (c : tie.Start) {low' high' : ℤ} {found' : Bool} → Closer (lo c) (hi c) c.args.pending.bounds.found low' high' found'
+    → Closer c.args.pending.bounds.low c.args.pending.bounds.high c.args.pending.bounds.found low' high' found'
 closer-of-bits c {low'} {high'} {found'} h =
-    subst (λ l. Closer l c.args.pending.bounds-1.high c.args.pending.bounds-1.found low' high' found') (same-lo c)
-    (subst (λ k. Closer (lo c) k c.args.pending.bounds-1.found low' high' found') (same-hi c) h)
+    subst (λ l. Closer l c.args.pending.bounds.high c.args.pending.bounds.found low' high' found') (same-lo c)
+    (subst (λ k. Closer (lo c) k c.args.pending.bounds.found low' high' found') (same-hi c) h)
 
 -- ── the value probed ──
 next-value-requires : tie.Need-next_value-value-requires
@@ -132,7 +132,7 @@ at_least c = subst (λ v. lo (given c) ≤ℤ v) (sym (same_value c)) c.next_val
 at_most : (c : tie.After-next_value-value) → value c ≤ℤ hi (given c)
 at_most c = subst (λ v. v ≤ℤ hi (given c)) (sym (same_value c)) c.next_value-value.ensures.1
 
-above : (c : tie.After-next_value-value) → (given c).args.pending.bounds-1.found ≡ true → lo (given c) <ℤ value c
+above : (c : tie.After-next_value-value) → (given c).args.pending.bounds.found ≡ true → lo (given c) <ℤ value c
 above c e =
     let s = given c in
     subst (λ v. lo s <ℤ v) (sym (same_value c)) (c.next_value-value.ensures.2 e (rw (same-lo s, same-hi s) (s.requires.3 e)))
@@ -151,10 +151,10 @@ abbrev base : tie.After-decide → tie.Start
 base c = given (asked c)
 
 abbrev flows' : tie.After-decide → List ℤ
-flows' c = c.decide.new.1.1.1.1.1.1.1.1.1.1.1.0
+flows' c = c.decide.new.flows
 
 abbrev inside' : tie.After-decide → List ℕ
-inside' c = c.decide.new.1.1.1.1.1.1.1.1.1.1.1.1.0
+inside' c = c.decide.new.inside
 
 decided : (c : tie.After-decide) {r : Bool} → c.decide.result ≡ r
     → Decided (𝓜 (base c)) (base c).args.sizes.outer (caps (base c)) (src (base c)) (snk (base c)) (value (asked c)) (base c).args.flows.now (flows' c)
@@ -185,13 +185,13 @@ abbrev chosen : tie.After-propose → tie.After-decide
 chosen c = can (taken c)
 
 abbrev a'' : tie.After-propose → List ℕ
-a'' c = c.propose.new.1.1.1.1.1.1.1.1.1.0
+a'' c = c.propose.new.a
 
 -- the bounds then, before the high one is held as bits
 proposed : (c : tie.After-propose) (before : List ℤ)
     → Bracket (𝓜 (base (chosen c))) (base (chosen c)).args.sizes.outer (caps (base (chosen c))) (src (base (chosen c))) (snk (base (chosen c))) before
     (base (chosen c)).args.flows.now (base (chosen c)).args.a.now (base (chosen c)).args.b.now
-    (base (chosen c)).args.pending.bounds-1.low (base (chosen c)).args.pending.bounds-1.high (base (chosen c)).args.pending.bounds-1.found
+    (base (chosen c)).args.pending.bounds.low (base (chosen c)).args.pending.bounds.high (base (chosen c)).args.pending.bounds.found
     → Bracket (𝓜 (base (chosen c))) (base (chosen c)).args.sizes.outer (caps (base (chosen c))) (src (base (chosen c))) (snk (base (chosen c))) before
     (flows' (chosen c)) (a'' c) (base (chosen c)).args.b.now (value (asked (chosen c))) c.propose.result true
     × (c.propose.result ≤ℤ hi (base (chosen c)))
@@ -202,7 +202,7 @@ proposed c before h =
     let g = ground b in
     let v = value (asked k) in
     lowered o g before (flows' k) b.args.a.now b.args.b.now v (hi b) true
-    (carried o g before b.args.flows.now b.args.a.now b.args.b.now (lo b) (hi b) b.args.pending.bounds-1.found (at_bits b before h)
+    (carried o g before b.args.flows.now b.args.a.now b.args.b.now (lo b) (hi b) b.args.pending.bounds.found (at_bits b before h)
     v (flows' k) (inside' k) (decided k (taken c).if-decide.true))
     _ (a'' c) c.propose.result c.propose.ensures.2.1
 
@@ -223,7 +223,7 @@ returns c =
       e.1,
       b.requires.0.1.size_b,
       λ _. closer-of-bits b
-          (carried_closer b.args.sizes.outer (ground b) (lo b) (hi b) (value n) b.args.pending.bounds-1.found (at_least n) (at_most n) _
+          (carried_closer b.args.sizes.outer (ground b) (lo b) (hi b) (value n) b.args.pending.bounds.found (at_least n) (at_most n) _
           (rw (new-high c) (proposed c w.0 w.1.bracket).1) (above n)),
       λ before h. (λ none. absurd (false≢true none), λ _. rw (new-high c) (proposed c before h).0),
     )
@@ -253,24 +253,24 @@ refused : (c : tie.After-narrow_by-n) → (probed c).decide.result ≡ false
 refused c = c.if-decide.false
 
 abbrev a' : tie.After-narrow_by-n → List ℕ
-a' c = c.narrow_by-n.new.1.1.1.1.1.1.1.1.0
+a' c = c.narrow_by-n.new.a
 
 abbrev b' : tie.After-narrow_by-n → List ℕ
-b' c = c.narrow_by-n.new.1.1.1.1.1.1.1.1.1.0
+b' c = c.narrow_by-n.new.b
 
 moved : (c : tie.After-narrow_by-n) (before : List ℤ)
     → Bracket (𝓜 (base (probed c))) (base (probed c)).args.sizes.outer (caps (base (probed c))) (src (base (probed c))) (snk (base (probed c))) before
     (base (probed c)).args.flows.now (base (probed c)).args.a.now (base (probed c)).args.b.now
-    (base (probed c)).args.pending.bounds-1.low (base (probed c)).args.pending.bounds-1.high (base (probed c)).args.pending.bounds-1.found
+    (base (probed c)).args.pending.bounds.low (base (probed c)).args.pending.bounds.high (base (probed c)).args.pending.bounds.found
     → c.narrow_by-n.result.none ≡ false
     → Bracket (𝓜 (base (probed c))) (base (probed c)).args.sizes.outer (caps (base (probed c))) (src (base (probed c))) (snk (base (probed c))) before
-    (base (probed c)).args.flows.now (a' c) (b' c) c.narrow_by-n.result.low c.narrow_by-n.result.high (base (probed c)).args.pending.bounds-1.found
+    (base (probed c)).args.flows.now (a' c) (b' c) c.narrow_by-n.result.low c.narrow_by-n.result.high (base (probed c)).args.pending.bounds.found
 moved c before h e =
     let k = probed c in
     let n = asked k in
     let b = base k in
     let r = c.narrow_by-n.ensures.2 in
-    narrowed b.args.sizes.outer (ground b) before b.args.flows.now b.args.a.now b.args.b.now (lo b) (hi b) b.args.pending.bounds-1.found
+    narrowed b.args.sizes.outer (ground b) before b.args.flows.now b.args.a.now b.args.b.now (lo b) (hi b) b.args.pending.bounds.found
     (at_bits b before h) (value n) (at_least n) (at_most n) (inside' k) (decided k (refused c)).1 (a' c) (b' c) c.narrow_by-n.result r.0 r.1 r.2 e
 
 returns-2 : tie.Need-returns
@@ -281,7 +281,7 @@ returns-2 c =
     let b = base k in
     let o = b.args.sizes.outer in
     let g = ground b in
-    let f = b.args.pending.bounds-1.found in
+    let f = b.args.pending.bounds.found in
     let x = b.args.flows.now in
     let w = b.requires.0 in
     let r = m.narrow_by-n.ensures.2 in

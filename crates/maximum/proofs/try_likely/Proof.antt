@@ -27,13 +27,13 @@ caps c = atℤ c.args.capacities.now
 ground : (c : tie.Start) → Ground (𝓜 c) (caps c) c.args.given.terminals.source c.args.given.terminals.sink
 ground c = let u = c.requires.0.1 in ground_of u.lent u.small
 
-same-lo : (c : tie.Start) → to_z w32 (of_z w32 c.args.given.bounds-1.low) ≡ c.args.given.bounds-1.low
+same-lo : (c : tie.Start) → to_z w32 (of_z w32 c.args.given.bounds.low) ≡ c.args.given.bounds.low
 same-lo c =
     let b = c.requires.0 in
     same_bits (omega arith) (low_small c.args.sizes.outer (ground c) b.0 c.args.flows.now (flagged c.args.b.now)
-    c.args.given.bounds-1.low c.args.given.bounds-1.found b.1.bracket.floor)
+    c.args.given.bounds.low c.args.given.bounds.found b.1.bracket.floor)
 
-same-hi : (c : tie.Start) → to_z w32 (of_z w32 c.args.given.bounds-1.high) ≡ c.args.given.bounds-1.high
+same-hi : (c : tie.Start) → to_z w32 (of_z w32 c.args.given.bounds.high) ≡ c.args.given.bounds.high
 same-hi c = same_bits (omega arith) (high_small c.args.sizes.outer (ground c) c.requires.0.1.bracket.ceiling)
 
 -- nothing is tried: the bounds are as they were
@@ -45,11 +45,11 @@ returns c =
 abbrev begun : tie.Then-is_less → tie.Start
 begun c = c.before.before.before.before.before.before
 
-below : (c : tie.Then-is_less) → (begun c).args.given.bounds-1.low <ℤ (begun c).args.given.bounds-1.high
+below : (c : tie.Then-is_less) → (begun c).args.given.bounds.low <ℤ (begun c).args.given.bounds.high
 below c =
     let s = begun c in
-    subst (λ h. s.args.given.bounds-1.low <ℤ h) (same-hi s)
-    (subst (λ l. l <ℤ to_z w32 (of_z w32 s.args.given.bounds-1.high)) (same-lo s) (lt_of_test _ _ (sym c.is_less.ensures ∙ c.if-is_less.true)))
+    subst (λ h. s.args.given.bounds.low <ℤ h) (same-hi s)
+    (subst (λ l. l <ℤ to_z w32 (of_z w32 s.args.given.bounds.high)) (same-lo s) (lt_of_test _ _ (sym c.is_less.ensures ∙ c.if-is_less.true)))
 
 probe-requires : tie.Need-probe-requires
 probe-requires c κs =

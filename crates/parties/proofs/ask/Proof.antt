@@ -63,7 +63,7 @@ can c =
     let k = answer c.before in
     let s = start k in
     left_as (shared s) s.args.party s.args.source s.args.sink (number_of_bits _ s.fits.value) s.args.flows.now
-    k.answer_left-answer.last.1.1.1.1.1.1.1.1.1.0 s.args.set.now k.answer_left-answer.last.1.1.1.1.1.1.1.1.1.1.0 c.in-Can.is
+    k.answer_left-answer.new.flows s.args.set.now k.answer_left-answer.new.set c.in-Can.is
     k.answer_left-answer.ensures
 
 keep-offer-requires : tie.Need-keep_offer-requires
@@ -89,9 +89,9 @@ returns-3 c =
     let k = answer t.before.before.before.before.before.before.before in
     let s = start k in
     told_as (shared s) s.args.party s.args.source s.args.sink (number_of_bits _ s.fits.value) s.args.flows.now
-    k.answer_left-answer.last.1.1.1.1.1.1.1.1.1.0 s.args.set.now k.answer_left-answer.last.1.1.1.1.1.1.1.1.1.1.0 t.in-Can.is
+    k.answer_left-answer.new.flows s.args.set.now k.answer_left-answer.new.set t.in-Can.is
     (is-party (widened k)) (may-ask (uncommitted k)) _
-    (after_can (shared s) (widened k).wide-p.ensures _ w.wide.ensures k.answer_left-answer.last.1.1.1.1.1.1.1.1.1.0 _ c.stand.ensures
+    (after_can (shared s) (widened k).wide-p.ensures _ w.wide.ensures k.answer_left-answer.new.flows _ c.stand.ensures
     o.keep_offer.ensures)
     k.answer_left-answer.ensures
 
@@ -101,7 +101,7 @@ returns-4 c =
     let k = answer t.before.before.before in
     let s = start k in
     told_as (shared s) s.args.party s.args.source s.args.sink (number_of_bits _ s.fits.value) s.args.flows.now
-    k.answer_left-answer.last.1.1.1.1.1.1.1.1.1.0 s.args.set.now k.answer_left-answer.last.1.1.1.1.1.1.1.1.1.1.0 t.in-Cannot.is
+    k.answer_left-answer.new.flows s.args.set.now k.answer_left-answer.new.set t.in-Cannot.is
     (is-party (widened k)) (may-ask (uncommitted k)) _
     (after_cannot (shared s) (widened k).wide-p.ensures _ c.stand-in-Cannot.ensures)
     k.answer_left-answer.ensures
@@ -112,7 +112,7 @@ returns-5 c =
     let k = answer t.before in
     let s = start k in
     told_as (shared s) s.args.party s.args.source s.args.sink (number_of_bits _ s.fits.value) s.args.flows.now
-    k.answer_left-answer.last.1.1.1.1.1.1.1.1.1.0 s.args.set.now k.answer_left-answer.last.1.1.1.1.1.1.1.1.1.1.0 t.in-Refused.is
+    k.answer_left-answer.new.flows s.args.set.now k.answer_left-answer.new.set t.in-Refused.is
     (is-party (widened k)) (may-ask (uncommitted k)) _ refl k.answer_left-answer.ensures
 
 pub ask_spec : {M : Type 1} → statement M

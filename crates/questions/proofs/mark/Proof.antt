@@ -51,7 +51,7 @@ abbrev base : tie.In_default → tie.Start
 base c = begun (checked c)
 
 two : (c : tie.In_default) → NoneOf (ends_at (base c))
-two c = ends-judged (checked c) Passed c.enum_told-1.given.1
+two c = ends-judged (checked c) Passed c.in_default.is
 
 -- ── 17 did not refuse ──
 abbrev long : tie.After-check_within-within → tie.In_default
@@ -74,7 +74,7 @@ abbrev roomy : tie.In_default-within → tie.In_default
 roomy c = long c.before
 
 within : (c : tie.In_default-within) → NoneOf (withinAt (base (roomy c)))
-within c = within-judged c.before Passed c.enum_told-in_default-within-1.given.1
+within c = within-judged c.before Passed c.in_default-within.is
 
 -- ── 18 did not refuse ──
 abbrev fitting : tie.After-fill_nets → tie.In_default-within
@@ -102,7 +102,7 @@ returns c =
     let e = c in
     let s = begun e.before in
     mark_ends (drawingAt s) s.args.terminals.source s.args.terminals.sink s.args.flows.now _ _
-    (ends-judged e.before (Refused _ _) c.ends-1.given.1)
+    (ends-judged e.before (Refused _ _) c.in-Refused.is)
 
 returns-2 : tie.Need-returns-then-flows-many
 returns-2 c =
@@ -121,7 +121,7 @@ returns-3 c =
     let w = c in
     let e = long w.before in
     let s = base e in
-    let j = within-judged w.before (Refused _ _) c.within-1.given.1 in
+    let j = within-judged w.before (Refused _ _) c.in-Refused-within.is in
     mark_within (drawingAt s) s.args.terminals.source s.args.terminals.sink s.args.flows.now (two e) w.if-flows-many.false _ _ j
 
 fill-nets-requires : tie.Need-fill_nets-requires
@@ -134,7 +134,7 @@ fill-nets-requires c κs =
       refl,
       (λ d l. omega (arith, p.tails_in d l, p.few_nodes)),
       flows_small (drawingAt s).map (atℤ (given s)) (atℤ s.args.capacities.now) p.small
-          (within-given t.before.before Passed t.enum_told-in_default-within-1.given.1),
+          (within-given t.before.before Passed t.in_default-within.is),
       same_everywhere 1024 (pos 0),
     )
 
@@ -148,7 +148,7 @@ returns-4 c =
     let s = base (roomy t) in
     mark_balance (drawingAt s) s.args.terminals.source s.args.terminals.sink s.args.flows.now (two (roomy t))
     t.if-flows-many.false (within t) _ _
-    (balance-judged b.before (Refused _ _) c.balanced-1.given.1)
+    (balance-judged b.before (Refused _ _) c.in-Refused-balanced.is)
 
 -- ── the value is the sum at the source ──
 abbrev sums : tie.In_default-balanced → tie.After-fill_nets
@@ -172,8 +172,8 @@ returns-5 c =
     let x = s.args.flows.now in (
       mark_none (drawingAt s) s.args.terminals.source s.args.terminals.sink x (two (roomy t)) t.if-flows-many.false
           (within t)
-          (balance-judged e.before.before Passed e.enum_told-in_default-balanced-1.given.1),
-      number_of_bits _ (record { sfits = c.result.given })
+          (balance-judged e.before.before Passed e.in_default-balanced.is),
+      number_of_bits _ (record { sfits = c.result-1.given })
           ∙ net_of (drawingAt s).map (atℤ (given s)) s.requires.few_nodes (nets' n) n.fill_nets.ensures.1 s.args.terminals.source (source_in n)
           ∙ part_net (drawingAt s).map x s.args.terminals.source,
     )

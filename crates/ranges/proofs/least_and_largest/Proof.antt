@@ -200,13 +200,13 @@ passed c = c.before.before.before.before
 
 -- the part lent, as it came back, and the slice with it
 abbrev lentHigh' : tie.After-maximize_from-most → List ℤ
-lentHigh' c = c.maximize_from-most.last.1.1.1.1.1.1.1.1.1.1.0
+lentHigh' c = c.maximize_from-most.new.flows
 
 abbrev high' : tie.After-maximize_from-most → List ℤ
 high' c = lentHigh' c ++ drop ((start (passed c)).args.sizes.edges - 0) (start (passed c)).args.high.now
 
 abbrev inside' : tie.After-maximize_from-most → List ℕ
-inside' c = c.maximize_from-most.last.1.1.1.1.1.1.1.1.1.1.1.1.0
+inside' c = c.maximize_from-most.new.a
 
 there-lent : (c : tie.After-maximize_from-most) {answer : Maximum} → c.maximize_from-most.result ≡ answer
     → Maximized (mapAt (start (passed c))) (start (passed c)).args.sizes.outer (capacityAt (start (passed c))) (start (passed c)).args.terminals.source
@@ -242,7 +242,7 @@ abbrev origin : tie.After-write_set → tie.After-words_for-words
 origin c = passed (found c)
 
 abbrev above' : tie.After-write_set → List ℕ
-above' c = c.write_set.last.1.1.0 ++ drop ((origin c).words_for-words.result - 0) (start (origin c)).args.above.now
+above' c = c.write_set.new.words ++ drop ((origin c).words_for-words.result - 0) (start (origin c)).args.above.now
 
 above-written : (c : tie.After-write_set) → Written (inside' (found c)) (start (origin c)).args.sizes.nodes (start (origin c)).args.above.now (above' c)
 above-written c = let m = origin c in written_back (start m).args.above.now m.words_for-words.ensures (above_in m) c.write_set.ensures
@@ -348,13 +348,13 @@ abbrev first : tie.After-maximize_on-back → tie.After-write_set
 first c = given (told c)
 
 abbrev lentLow' : tie.After-maximize_on-back → List ℤ
-lentLow' c = c.maximize_on-back.last.1.1.1.1.1.1.1.1.1.1.1.0
+lentLow' c = c.maximize_on-back.new.flows
 
 abbrev low' : tie.After-maximize_on-back → List ℤ
 low' c = lentLow' c ++ drop ((start (origin (first c))).args.sizes.edges - 0) (start (origin (first c))).args.low.now
 
 abbrev inside2' : tie.After-maximize_on-back → List ℕ
-inside2' c = c.maximize_on-back.last.1.1.1.1.1.1.1.1.1.1.1.1.1.0
+inside2' c = c.maximize_on-back.new.a
 
 back : (c : tie.After-maximize_on-back) {answer : Maximum} → c.maximize_on-back.result ≡ answer
     → Maximized (mapAt (start (origin (first c)))) (start (origin (first c))).args.sizes.outer (capacityAt (start (origin (first c))))
@@ -382,7 +382,7 @@ abbrev home : tie.After-write_set-2 → tie.After-words_for-words
 home c = origin (first (returned c))
 
 abbrev below' : tie.After-write_set-2 → List ℕ
-below' c = c.write_set-2.last.1.1.0 ++ drop ((home c).words_for-words.result - 0) (start (home c)).args.below.now
+below' c = c.write_set-2.new.words ++ drop ((home c).words_for-words.result - 0) (start (home c)).args.below.now
 
 below-written : (c : tie.After-write_set-2) → Written (inside2' (returned c)) (start (home c)).args.sizes.nodes (start (home c)).args.below.now (below' c)
 below-written c = let m = home c in written_back (start m).args.below.now m.words_for-words.ensures (below_in m) c.write_set-2.ensures
