@@ -15,30 +15,40 @@ use refusals::Verdict;
 use sheets::{ReadAnswer, WriteAnswer};
 use totals::TotalsAnswer;
 
-fn say_read(answer: ReadAnswer) {
+fn say_read<R: Print>(rt: &R, answer: ReadAnswer) {
     match answer {
         ReadAnswer::Counts(nodes, edges, outer) => {
-            say::say(b": counts");
-            say::half(nodes);
-            say::half(edges);
-            say::half(outer);
+            say::say(rt, b": counts");
+            say::half(rt, nodes);
+            say::half(rt, edges);
+            say::half(rt, outer);
         }
-        ReadAnswer::Refused(k, p) => say::refused(k, p),
+        ReadAnswer::Refused(k, p) => say::refused(rt, k, p),
     }
 }
 
-pub fn read(s: &[u8], tails: &mut [u16], rotations: &mut [u16], capacities: &mut [i32]) {
-    say_read(sheets::read(case::part(s, 1), tails, rotations, capacities));
+pub fn read<R: Print>(
+    rt: &R,
+    s: &[u8],
+    tails: &mut [u16],
+    rotations: &mut [u16],
+    capacities: &mut [i32],
+) {
+    say_read(
+        rt,
+        sheets::read(case::part(s, 1), tails, rotations, capacities),
+    );
 }
 
-fn say_write(answer: WriteAnswer) {
+fn say_write<R: Print>(rt: &R, answer: WriteAnswer) {
     match answer {
-        WriteAnswer::Bytes(n) => say::count(b": bytes", n),
-        WriteAnswer::Refused(k, p) => say::refused(k, p),
+        WriteAnswer::Bytes(n) => say::count(rt, b": bytes", n),
+        WriteAnswer::Refused(k, p) => say::refused(rt, k, p),
     }
 }
 
-pub fn write(
+pub fn write<R: Print>(
+    rt: &R,
     s: &[u8],
     tails: &mut [u16],
     rotations: &mut [u16],
@@ -47,25 +57,31 @@ pub fn write(
 ) {
     let nodes = case::half(s, 2);
     let outer = case::half(s, 4);
-    say_write(sheets::write(nodes, outer, tails, rotations, capacities, out));
+    say_write(
+        rt,
+        sheets::write(nodes, outer, tails, rotations, capacities, out),
+    );
 }
 
-pub fn say_solve(answer: SolveAnswer) {
+pub fn say_solve<R: Print>(rt: &R, answer: SolveAnswer) {
     match answer {
-        SolveAnswer::Can => say::say(b": can"),
+        SolveAnswer::Can => say::say(rt, b": can"),
         SolveAnswer::Cannot(n) => {
-            say::say(b": cannot");
-            say::half(n);
+            say::say(rt, b": cannot");
+            say::half(rt, n);
         }
-        SolveAnswer::Refused(k, p) => say::refused(k, p),
+        SolveAnswer::Refused(k, p) => say::refused(rt, k, p),
     }
 }
 
-pub fn solve(s: &[u8], flows: &mut [i32], set: &mut [u64]) {
+pub fn solve<R: Print>(rt: &R, s: &[u8], flows: &mut [i32], set: &mut [u64]) {
     let source = case::half(s, 2);
     let sink = case::half(s, 4);
     let value = case::word(s, 6);
-    say_solve(analyser::solve(case::part(s, 1), source, sink, value, flows, set));
+    say_solve(
+        rt,
+        analyser::solve(case::part(s, 1), source, sink, value, flows, set),
+    );
 }
 
 // The question at a place of three slices, put into the list where all have it.
@@ -98,7 +114,7 @@ fn list_of(sources: &[u16], sinks: &[u16], values: &[i32]) -> Listed {
     next
 }
 
-fn say_answers(page: Page) {
+fn say_answers<R: Print>(rt: &R, page: Page) {
     let mut i: usize = 0;
     while i < 64 {
         if page.count <= i {
@@ -106,22 +122,23 @@ fn say_answers(page: Page) {
         }
         let answered = page.answers[i];
         let answer = answered.answer;
-        say_solve(answer);
+        say_solve(rt, answer);
         i += 1;
     }
 }
 
-fn say_page(page: Page) {
+fn say_page<R: Print>(rt: &R, page: Page) {
     let verdict = page.verdict;
     if let Verdict::Refused(k, p) = verdict {
-        say::refused(k, p);
+        say::refused(rt, k, p);
         return;
     }
-    say::say(b": answers");
-    say_answers(page);
+    say::say(rt, b": answers");
+    say_answers(rt, page);
 }
 
-pub fn page(
+pub fn page<R: Print>(
+    rt: &R,
     s: &[u8],
     sources: &[u16],
     sinks: &[u16],
@@ -130,58 +147,71 @@ pub fn page(
     sets: &mut [u64],
 ) {
     let list = list_of(sources, sinks, values);
-    say_page(analyser::page_of(case::part(s, 1), list, flows, sets));
+    say_page(rt, analyser::page_of(case::part(s, 1), list, flows, sets));
 }
 
-fn say_largest(answer: LargestAnswer) {
+fn say_largest<R: Print>(rt: &R, answer: LargestAnswer) {
     match answer {
         LargestAnswer::Value(v) => {
-            say::say(b": largest");
-            say::signed(v);
+            say::say(rt, b": largest");
+            say::signed(rt, v);
         }
-        LargestAnswer::None => say::say(b": none"),
-        LargestAnswer::Refused(k, p) => say::refused(k, p),
+        LargestAnswer::None => say::say(rt, b": none"),
+        LargestAnswer::Refused(k, p) => say::refused(rt, k, p),
     }
 }
 
-pub fn largest(s: &[u8], flows: &mut [i32], set: &mut [u64]) {
+pub fn largest<R: Print>(rt: &R, s: &[u8], flows: &mut [i32], set: &mut [u64]) {
     let source = case::half(s, 2);
     let sink = case::half(s, 4);
-    say_largest(analyser::largest(case::part(s, 1), source, sink, flows, set));
+    say_largest(
+        rt,
+        analyser::largest(case::part(s, 1), source, sink, flows, set),
+    );
 }
 
 // The capture's bytes stand where other operations have their tails.
-pub fn largest_after(s: &[u8], limits: &mut [i32], flows: &mut [i32], set: &mut [u64]) {
+pub fn largest_after<R: Print>(
+    rt: &R,
+    s: &[u8],
+    limits: &mut [i32],
+    flows: &mut [i32],
+    set: &mut [u64],
+) {
     let source = case::half(s, 2);
     let sink = case::half(s, 4);
     let window = case::half(s, 6);
     let named = case::natural(s, 10);
-    say_largest(analyser::largest_after(
-        case::part(s, 1),
-        case::part(s, 2),
-        window,
-        named,
-        source,
-        sink,
-        limits,
-        flows,
-        set,
-    ));
+    say_largest(
+        rt,
+        analyser::largest_after(
+            case::part(s, 1),
+            case::part(s, 2),
+            window,
+            named,
+            source,
+            sink,
+            limits,
+            flows,
+            set,
+        ),
+    );
 }
 
-fn say_range(answer: RangeAnswer) {
+fn say_range<R: Print>(rt: &R, answer: RangeAnswer) {
     match answer {
         RangeAnswer::Values(v, w) => {
-            say::say(b": values");
-            say::signed(v);
-            say::signed(w);
+            say::say(rt, b": values");
+            say::signed(rt, v);
+            say::signed(rt, w);
         }
-        RangeAnswer::None => say::say(b": none"),
-        RangeAnswer::Refused(k, p) => say::refused(k, p),
+        RangeAnswer::None => say::say(rt, b": none"),
+        RangeAnswer::Refused(k, p) => say::refused(rt, k, p),
     }
 }
 
-pub fn least_and_largest(
+pub fn least_and_largest<R: Print>(
+    rt: &R,
     s: &[u8],
     low: &mut [i32],
     high: &mut [i32],
@@ -190,150 +220,172 @@ pub fn least_and_largest(
 ) {
     let source = case::half(s, 2);
     let sink = case::half(s, 4);
-    say_range(analyser::least_and_largest(case::part(s, 1), source, sink, low, below, high, above));
+    say_range(
+        rt,
+        analyser::least_and_largest(case::part(s, 1), source, sink, low, below, high, above),
+    );
 }
 
-fn say_raise(answer: RaiseAnswer) {
+fn say_raise<R: Print>(rt: &R, answer: RaiseAnswer) {
     match answer {
         RaiseAnswer::Limit(v) => {
-            say::say(b": limit");
-            say::signed(v);
+            say::say(rt, b": limit");
+            say::signed(rt, v);
         }
-        RaiseAnswer::None => say::say(b": none"),
-        RaiseAnswer::Refused(k, p) => say::refused(k, p),
+        RaiseAnswer::None => say::say(rt, b": none"),
+        RaiseAnswer::Refused(k, p) => say::refused(rt, k, p),
     }
 }
 
-pub fn raise_limit(s: &[u8], flows: &mut [i32], set: &mut [u64]) {
+pub fn raise_limit<R: Print>(rt: &R, s: &[u8], flows: &mut [i32], set: &mut [u64]) {
     let source = case::half(s, 2);
     let sink = case::half(s, 4);
     let value = case::word(s, 6);
     let edge = case::half(s, 10);
-    say_raise(analyser::raise_limit(case::part(s, 1), source, sink, value, edge, flows, set));
+    say_raise(
+        rt,
+        analyser::raise_limit(case::part(s, 1), source, sink, value, edge, flows, set),
+    );
 }
 
-fn say_mark(answer: MarkAnswer) {
+fn say_mark<R: Print>(rt: &R, answer: MarkAnswer) {
     match answer {
         MarkAnswer::Value(x) => {
-            say::say(b": value");
-            say::signed(x);
+            say::say(rt, b": value");
+            say::signed(rt, x);
         }
-        MarkAnswer::Refused(k, p) => say::refused(k, p),
+        MarkAnswer::Refused(k, p) => say::refused(rt, k, p),
     }
 }
 
-pub fn mark(s: &[u8], flows: &mut [i32]) {
+pub fn mark<R: Print>(rt: &R, s: &[u8], flows: &mut [i32]) {
     let source = case::half(s, 2);
     let sink = case::half(s, 4);
-    say_mark(analyser::mark(case::part(s, 1), source, sink, flows));
+    say_mark(rt, analyser::mark(case::part(s, 1), source, sink, flows));
 }
 
-fn say_levels(answer: LevelAnswer) {
+fn say_levels<R: Print>(rt: &R, answer: LevelAnswer) {
     match answer {
-        LevelAnswer::Done => say::say(b": done"),
-        LevelAnswer::Refused(k, p) => say::refused(k, p),
+        LevelAnswer::Done => say::say(rt, b": done"),
+        LevelAnswer::Refused(k, p) => say::refused(rt, k, p),
     }
 }
 
-pub fn levels(s: &[u8], flows: &mut [i32], levels: &mut [i32]) {
-    say_levels(analyser::levels_from_settings(case::part(s, 1), flows, levels));
+pub fn levels<R: Print>(rt: &R, s: &[u8], flows: &mut [i32], levels: &mut [i32]) {
+    say_levels(
+        rt,
+        analyser::levels_from_settings(case::part(s, 1), flows, levels),
+    );
 }
 
-pub fn settings(s: &[u8], levels: &mut [i32], flows: &mut [i32]) {
-    say_levels(analyser::settings_from_levels(case::part(s, 1), levels, flows));
+pub fn settings<R: Print>(rt: &R, s: &[u8], levels: &mut [i32], flows: &mut [i32]) {
+    say_levels(
+        rt,
+        analyser::settings_from_levels(case::part(s, 1), levels, flows),
+    );
 }
 
-fn say_totals(answer: TotalsAnswer) {
+fn say_totals<R: Print>(rt: &R, answer: TotalsAnswer) {
     match answer {
         TotalsAnswer::Total(x) => {
-            say::say(b": total");
-            say::signed(x);
+            say::say(rt, b": total");
+            say::signed(rt, x);
         }
-        TotalsAnswer::Refused(k, p) => say::refused(k, p),
+        TotalsAnswer::Refused(k, p) => say::refused(rt, k, p),
     }
 }
 
-pub fn totals(s: &[u8], subtotals: &mut [i32], set: &[u64]) {
-    say_totals(analyser::totals(case::part(s, 1), set, subtotals));
+pub fn totals<R: Print>(rt: &R, s: &[u8], subtotals: &mut [i32], set: &[u64]) {
+    say_totals(rt, analyser::totals(case::part(s, 1), set, subtotals));
 }
 
-fn say_practice(answer: PracticeAnswer) {
+fn say_practice<R: Print>(rt: &R, answer: PracticeAnswer) {
     match answer {
-        PracticeAnswer::Bytes(n) => say::count(b": bytes", n),
-        PracticeAnswer::Refused(k, p) => say::refused(k, p),
+        PracticeAnswer::Bytes(n) => say::count(rt, b": bytes", n),
+        PracticeAnswer::Refused(k, p) => say::refused(rt, k, p),
     }
 }
 
-pub fn practice(s: &[u8], out: &mut [u8]) {
+pub fn practice<R: Print>(rt: &R, s: &[u8], out: &mut [u8]) {
     let rows = case::half(s, 2);
     let columns = case::half(s, 4);
     let seed = signed::to_bits(case::word(s, 6));
-    say_practice(practice::practice_sheet(rows, columns, seed, out));
+    say_practice(rt, practice::practice_sheet(rows, columns, seed, out));
 }
 
-fn say_text(text: &[u8; 6671], n: usize) {
-    say::text(text, n);
+fn say_text<R: Print>(rt: &R, text: &[u8; 6671], n: usize) {
+    say::text(rt, text, n);
 }
 
 // The key's text in an array of zeros that is long enough for every key.
-pub fn key(s: &[u8]) {
+pub fn key<R: Print>(rt: &R, s: &[u8]) {
     let mut text = [0u8; 6671];
     let n = key_text::key_text(case::part(s, 1), &mut text);
-    say_text(&text, n);
+    say_text(rt, &text, n);
 }
 
-pub fn write_key(s: &[u8], text: &mut [u8]) {
+pub fn write_key<R: Print>(rt: &R, s: &[u8], text: &mut [u8]) {
     let answer = key_text::write_key(case::part(s, 1), text);
     match answer {
-        KeyAnswer::Bytes(n) => say::text(text, n),
+        KeyAnswer::Bytes(n) => say::text(rt, text, n),
         KeyAnswer::Refused(k, p) => {
-            say::refused(k, p);
-            say::bytes(s, 16, text);
+            say::refused(rt, k, p);
+            say::bytes(rt, s, 16, text);
         }
     }
 }
 
-pub fn write_dimacs(s: &[u8], text: &mut [u8]) {
+pub fn write_dimacs<R: Print>(rt: &R, s: &[u8], text: &mut [u8]) {
     let source = case::half(s, 2);
     let sink = case::half(s, 4);
     let answer = analyser::write_dimacs(case::part(s, 1), source, sink, text);
     match answer {
-        DimacsAnswer::Bytes(n) => say::text(text, n),
+        DimacsAnswer::Bytes(n) => say::text(rt, text, n),
         DimacsAnswer::Refused(k, p) => {
-            say::refused(k, p);
-            say::bytes(s, 16, text);
+            say::refused(rt, k, p);
+            say::bytes(rt, s, 16, text);
         }
     }
 }
 
-fn say_class(class: Class) {
+fn say_class<R: Print>(rt: &R, class: Class) {
     match class {
-        Class::Empty => say::say(b": empty"),
+        Class::Empty => say::say(rt, b": empty"),
         Class::Marked(number, sum, least, greatest) => {
-            say::say(b": class");
-            say::half(number);
-            say::half(sum);
-            say::half(least as u16);
-            say::half(greatest as u16);
+            say::say(rt, b": class");
+            say::half(rt, number);
+            say::half(rt, sum);
+            say::half(rt, least as u16);
+            say::half(rt, greatest as u16);
         }
-        Class::Refused(k, p) => say::refused(k, p),
+        Class::Refused(k, p) => say::refused(rt, k, p),
     }
 }
 
 // The kinds of the claims are the bytes of part 2.
-pub fn examine(s: &[u8], claims: &[i32], settings: &[i32], sets: &[u64], points: &mut [u8]) {
+pub fn examine<R: Print>(
+    rt: &R,
+    s: &[u8],
+    claims: &[i32],
+    settings: &[i32],
+    sets: &[u64],
+    points: &mut [u8],
+) {
     let source = case::half(s, 2);
     let sink = case::half(s, 4);
     let value = case::word(s, 6);
-    say_class(desk::examine(
-        case::part(s, 1),
-        source,
-        sink,
-        value,
-        claims,
-        case::part(s, 2),
-        settings,
-        sets,
-        points,
-    ));
+    say_class(
+        rt,
+        desk::examine(
+            case::part(s, 1),
+            source,
+            sink,
+            value,
+            claims,
+            case::part(s, 2),
+            settings,
+            sets,
+            points,
+        ),
+    );
 }

@@ -1,21 +1,23 @@
 // The program key: standard input to standard output (document 01, "The program key"). It reads a question and a sheet into a buffer one byte longer than the
 // longest that can be accepted, so that a byte left over is seen (`key_text::key_of_input` asks for it). A read or write that fails is told on standard error,
-// since a program of this kit has no exit status.
+// and the exit status is zero all the same.
+#![tactic(auto)]
+
 use streams::Input;
 
-fn main() {
+fn main(rt: HostRuntime) {
     let mut buffer = [0u8; 8721];
-    let n = match streams::read_input(&mut buffer) {
+    let n = match streams::read_input(&mut rt.stdin(), &mut buffer) {
         Input::Ended(n) => n,
         Input::Full(n) => n,
-        Input::Failed => {
-            os::fail(b"key: standard input");
+        Input::Failed(error) => {
+            streams::tell(&rt, "key: standard input", error);
             return;
         }
     };
     let mut text = [0u8; 6671];
     let m = key_text::key_of_input(&buffer, n, &mut text);
-    if !streams::write_text(&text[..m]) {
-        os::fail(b"key: standard output");
+    if let Err(error) = streams::write_text(&mut rt.stdout(), &text[..m]) {
+        streams::tell(&rt, "key: standard output", error);
     }
 }

@@ -1,56 +1,105 @@
 // Standard input and output of the programs: bytes read into a buffer until it is full or the input ends, and a text written whole.
-ghost use Rattle.streams.specs.inner.Input.{Filled};
+#![tactic(auto)]
 
-// The input ended after so many bytes, or filled the buffer; or a read failed, and errno says why.
+ghost use Rattle.std.specs.Prelude.{◌≤◌, OnOk, length};
+ghost use Rattle.std.specs.Io.KnownBytes.{Appends};
+ghost use Rattle.streams.specs.inner.Input.{Filled, Gave};
+
+use std::io::{Error, ErrorKind, Read, Write};
+use std::{io, str};
+
+// The input ended after so many bytes, or filled the buffer; or a read failed with this error.
 #[derive(Clone, Copy)]
 pub enum Input {
     Ended(usize),
     Full(usize),
-    Failed,
+    Failed(Error),
 }
 
-// Whether a call that gave this answer failed only because a signal came before it moved a byte: it is made again.
-fn interrupted(answer: isize) -> bool {
-    answer < 0 && os::errno() == libc::EINTR
+// Whether a call failed only because a signal came before it moved a byte: it is made again.
+fn interrupted(error: Error) -> bool {
+    error.kind() == ErrorKind::Interrupted
 }
 
 // Reads straight into what is left of the buffer, until the input ends or the buffer is full. A proved loop has to end, so interrupted calls are counted down,
 // from a number that no run uses up. Any other failure is one, that of a non-blocking input with nothing to read yet (EAGAIN) too: half an input has no answer.
-pub fn read_input(buffer: &mut [u8]) -> Input
-    ensures { Filled buffer.new result }
+pub fn read_input<R: Read>(reader: &mut R, buffer: &mut [u8]) -> Input
+    ensures filled { Filled buffer.new result }
+    ensures gave { Gave (R.remaining reader.old) (R.remaining reader.new) buffer.new result }
 {
     let mut at: usize = 0;
     let mut again = u64::MAX;
     while at < buffer.len() {
-        let got = libc::read(libc::STDIN_FILENO, &mut buffer[at..]);
-        let n = io::count(got, &buffer[at..]);
-        if n > 0 {
-            at += n;
-        } else if got == 0 {
-            return Input::Ended(at);
-        } else if again > 0 && interrupted(got) {
-            again -= 1;
-        } else {
-            return Input::Failed;
+        match reader.read(&mut buffer[at..]) {
+            Ok(n) => {
+                if n == 0 {
+                    return Input::Ended(at);
+                }
+                at += n;
+            }
+            Err(error) => {
+                if again == 0 || !interrupted(error) {
+                    return Input::Failed(error);
+                }
+                again -= 1;
+            }
         }
     }
     Input::Full(at)
 }
 
-// Writes all of the text, or answers false at the first call that fails or takes nothing; what was written before it stays. Interrupted calls as above.
-pub fn write_text(text: &[u8]) -> bool {
+// Writes all of the text, or answers the error of the first call that fails or takes nothing; what was written before it stays. Interrupted calls as above.
+pub fn write_text<W: Write>(writer: &mut W, text: &[u8]) -> io::Result<()>
+    ensures { OnOk result (Appends (W.contents writer.old) (W.contents writer.new) text.now) }
+{
     let mut at: usize = 0;
     let mut again = u64::MAX;
     while at < text.len() {
-        let put = libc::write(libc::STDOUT_FILENO, &text[at..]);
-        let n = io::count(put, &text[at..]);
-        if n > 0 {
-            at += n;
-        } else if again > 0 && interrupted(put) {
-            again -= 1;
-        } else {
-            return false;
+        match writer.write(&text[at..]) {
+            Ok(n) => {
+                if n == 0 {
+                    return Err(Error::from(ErrorKind::WriteZero));
+                }
+                at += n;
+            }
+            Err(error) => {
+                if again == 0 || !interrupted(error) {
+                    return Err(error);
+                }
+                again -= 1;
+            }
         }
     }
-    true
+    Ok(())
+}
+
+// How many bytes the words for an error take in its text: std puts the system's number behind them.
+fn words_length(text: &[u8]) -> usize
+    ensures { result ≤ length text.now }
+{
+    for (at, part) in text.windows(11).enumerate() {
+        if part == b" (os error ".as_slice() {
+            return at;
+        }
+    }
+    text.len()
+}
+
+// The words for an error, put at the start of a buffer that is longer than every text of one: how many bytes.
+fn put_words(buffer: &mut [u8; 320], error: Error) -> usize
+    ensures { result ≤ 320 }
+{
+    let mut rest: &mut [u8] = &mut *buffer;
+    let _written = write!(rest, "{error}");
+    let left = rest.len();
+    let n = buffer.len().saturating_sub(left);
+    words_length(&buffer[..n])
+}
+
+// Writes a line to standard error: what failed, as the caller names it, a colon and the words for the error. A write that fails there has nowhere to be told.
+pub fn tell<R: Eprint>(rt: &R, what: &str, error: Error) {
+    let mut words = [0u8; 320];
+    let n = put_words(&mut words, error);
+    let text = str::from_utf8(&words[..n]).unwrap_or("");
+    let _told = eprintln!(rt; "{what}: {text}");
 }

@@ -1,6 +1,8 @@
 // The program to_dimacs: a question and a sheet from standard input, as for the program key, to the DIMACS text on standard output (document 02,
 // Job 2). The question's delivery is passed over: the text asks for the greatest. What is refused is told as the key tells it, "refused" and the
 // number. The buffer is one byte longer than the longest input that can be accepted, so that a byte left over is seen; the text has room for the longest.
+#![tactic(auto)]
+
 ghost use Rattle.to_dimacs.specs.inner.Export.{Exports};
 
 use dimacs::DimacsAnswer;
@@ -25,19 +27,19 @@ fn put_text(input: &[u8], text: &mut [u8; 18463]) -> usize
     }
 }
 
-fn main() {
+fn main(rt: HostRuntime) {
     let mut buffer = [0u8; 8721];
-    let n = match streams::read_input(&mut buffer) {
+    let n = match streams::read_input(&mut rt.stdin(), &mut buffer) {
         Input::Ended(n) => n,
         Input::Full(n) => n,
-        Input::Failed => {
-            os::fail(b"to_dimacs: standard input");
+        Input::Failed(error) => {
+            streams::tell(&rt, "to_dimacs: standard input", error);
             return;
         }
     };
     let mut text = [0u8; 18463];
     let m = put_text(&buffer[0..n], &mut text);
-    if !streams::write_text(&text[..m]) {
-        os::fail(b"to_dimacs: standard output");
+    if let Err(error) = streams::write_text(&mut rt.stdout(), &text[..m]) {
+        streams::tell(&rt, "to_dimacs: standard output", error);
     }
 }

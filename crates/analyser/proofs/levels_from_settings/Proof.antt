@@ -19,19 +19,19 @@ abbrev sheet : tie.After-open-net → List ℕ
 sheet c = (begun c).args.sheet.now
 
 abbrev net : tie.After-open-net → Network
-net c = c.«open».result
+net c = c.open-net.result
 
 -- ── it is refused ──
 returns : tie.Need-returns-then-not-net
 returns c =
     let o = c in
     let a = (begun o.before).args in
-    let first = opens_refused (sheet o.before) (net o.before) c.if-not-net.true-raw o.«open».ensures in
+    let first = opens_refused (sheet o.before) (net o.before) c.if-not-net.true-raw o.open-net.ensures in
     (levels_refused (sheet o.before) _ _ first a.flows.now a.levels.now, refl)
 
 -- ── it is accepted ──
 accepted : (c : tie.Else-not-net) → NoneOf (sheet_checks (sheet c.before)) × Holds (sheet c.before) (net c.before)
-accepted c = let o = c in opens_passed (sheet o.before) (net o.before) c.if-not-net.false-raw o.«open».ensures
+accepted c = let o = c in opens_passed (sheet o.before) (net o.before) c.if-not-net.false-raw o.open-net.ensures
 
 levels-of-requires : tie.Need-levels_of-requires
 levels-of-requires c κs =

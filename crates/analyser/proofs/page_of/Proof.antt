@@ -6,6 +6,9 @@ use borrow.Author.Rules.{rules}
 use Rattle.pages.specs.Question.{question_at}
 use Rattle.pages.specs.declared.Page.{Page}
 use Rattle.refusals.specs.Order.{NoneOf}
+use Rattle.flows.specs.ProvingSet.{words_for}
+use Rattle.records.specs.Sheet.{nodes_of, edges_of}
+use Rattle.analyser.specs.Page.{solves_alone}
 use Rattle.arrays.specs.At.{at}
 use Rattle.grouping.specs.inner.Walked.{Walked}
 use Rattle.sheets.specs.Open.{sheet_checks, Holds}
@@ -36,7 +39,7 @@ returns c =
     let o = c in
     let a = (begun o.before.before).args in
     let first = opens_refused (sheet o.before.before) (net o.before.before) c.if-not-net.true-raw o.open_walked-net.ensures.4 in (
-      refused_so _ _ _ _ _ a.flows.now a.sets.now _ _ c.refused_page.result
+      refused_so _ (edges_of a.sheet.now) (words_for (nodes_of a.sheet.now)) _ (λ i. solves_alone a.sheet.now (question_at a.list.questions i)) a.flows.now a.sets.now _ _ c.refused_page.result
           (page_refused (sheet o.before.before) _ _ first a.list.count a.flows.now a.sets.now) c.refused_page.ensures,
       λ e. absurd (not_passed (sym (ap (λ (p : Page). p.verdict) c.refused_page.ensures) ∙ e)),
     )

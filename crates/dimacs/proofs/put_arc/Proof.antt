@@ -37,7 +37,7 @@ abbrev begun : tie.After-put_field-second → tie.Start
 begun c = start (word c)
 
 tail-placed : (c : tie.After-put_field-second)
-    → Placed (word c).put_bytes-first.result (ended ((begun c).args.tail + 1) 32) (word c).put_bytes-first.new.0 c.put_field-second.new.text c.put_field-second.result
+    → Placed (word c).put_bytes-first.result (ended ((begun c).args.tail + 1) 32) (word c).put_bytes-first.new.text c.put_field-second.new.text c.put_field-second.result
 tail-placed c = placed_as (λ k. ended k 32) _ _ _ _ c.node_number.ensures c.put_field-second.ensures
 
 tail-room : (c : tie.After-put_field-second) → c.put_field-second.result + headRoom (begun c) ≤ length c.put_field-second.new.text
@@ -53,7 +53,7 @@ abbrev base : tie.After-put_field-third → tie.Start
 base c = begun (tailed c)
 
 head_placed : (c : tie.After-put_field-third)
-    → Placed (tailed c).put_field-second.result (ended ((base c).args.head + 1) 32) (tailed c).put_field-second.new.0 c.put_field-third.new.text c.put_field-third.result
+    → Placed (tailed c).put_field-second.result (ended ((base c).args.head + 1) 32) (tailed c).put_field-second.new.text c.put_field-third.new.text c.put_field-third.result
 head_placed c = placed_as (λ k. ended k 32) _ _ _ _ c.node_number-2.ensures c.put_field-third.ensures
 
 head-room : (c : tie.After-put_field-third) → c.put_field-third.result + lastRoom (base c) ≤ length c.put_field-third.new.text
@@ -98,16 +98,12 @@ pub put_arc_spec : {M : Type 1} → statement M
 put_arc_spec =
     tie.close
     (tie.spec
-    (λ c. search rules)
     put-bytes-requires
     (λ c κs. search rules)
-    (λ c. search rules)
     put-field-requires
     (λ c κs. search rules)
-    (λ c. search rules)
     put-field-requires-2
     (λ c κs. search rules)
-    (λ c. search rules)
     put-field-requires-3
     (λ c. search rules)
     returns)

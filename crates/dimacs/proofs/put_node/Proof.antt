@@ -41,7 +41,6 @@ pub put_node_spec : {M : Type 1} → statement M
 put_node_spec =
     tie.close
     (tie.spec
-    (λ c. search rules)
     put-bytes-requires
     (λ c κs. search rules)
     put-field-requires

@@ -27,7 +27,7 @@ abbrev word : tie.After-put_field-second → tie.After-put_bytes-first
 word c = c.before.before.before.before.before.before.before
 
 nodes-placed : (c : tie.After-put_field-second)
-    → Placed (word c).put_bytes-first.result (ended (start (word c)).args.nodes 32) (word c).put_bytes-first.new.0 c.put_field-second.new.text c.put_field-second.result
+    → Placed (word c).put_bytes-first.result (ended (start (word c)).args.nodes 32) (word c).put_bytes-first.new.text c.put_field-second.new.text c.put_field-second.result
 nodes-placed c = placed_as (λ k. ended k 32) _ _ _ _ c.count.ensures c.put_field-second.ensures
 
 nodes-room : (c : tie.After-put_field-second) → c.put_field-second.result + (long (start (word c)).args.arcs + 1) ≤ length c.put_field-second.new.text
@@ -61,13 +61,10 @@ pub put_problem_spec : {M : Type 1} → statement M
 put_problem_spec =
     tie.close
     (tie.spec
-    (λ c. search rules)
     put-bytes-requires
     (λ c κs. search rules)
-    (λ c. search rules)
     put-field-requires
     (λ c κs. search rules)
-    (λ c. search rules)
     put-field-requires-2
     (λ c. search rules)
     returns)

@@ -49,7 +49,7 @@ abbrev posed : tie.After-put_node-second → tie.After-put_problem-first
 posed c = c.before.before.before.before.before.before
 
 source-placed : (c : tie.After-put_node-second)
-    → Placed (posed c).put_problem-first.result (source (start (posed c))) (posed c).put_problem-first.new.0 c.put_node-second.new.text c.put_node-second.result
+    → Placed (posed c).put_problem-first.result (source (start (posed c))) (posed c).put_problem-first.new.text c.put_node-second.new.text c.put_node-second.result
 unfolding node_line
 source-placed c = c.put_node-second.ensures
 
@@ -65,7 +65,7 @@ abbrev begun : tie.After-put_node-third → tie.Start
 begun c = start (posed (sourced c))
 
 sink-placed : (c : tie.After-put_node-third)
-    → Placed (sourced c).put_node-second.result (sink (begun c)) (sourced c).put_node-second.new.0 c.put_node-third.new.text c.put_node-third.result
+    → Placed (sourced c).put_node-second.result (sink (begun c)) (sourced c).put_node-second.new.text c.put_node-third.new.text c.put_node-third.result
 unfolding node_line
 sink-placed c = c.put_node-third.ensures
 
@@ -106,9 +106,7 @@ put_text_spec =
     (tie.spec
     (λ c. search rules)
     put-problem-requires
-    (λ c. search rules)
     put-node-requires
-    (λ c. search rules)
     put-node-requires-2
     (λ c. search rules)
     put-arcs-requires

@@ -31,7 +31,7 @@ abbrev said : tie.After-put_number-end → tie.After-put_bytes-at
 said c = c.before.before.before.before
 
 valued : (c : tie.After-put_number-end)
-    → Placed (said c).put_bytes-at.result (number (begin (said c)).args.value) (said c).put_bytes-at.new.0 c.put_number-end.new.text c.put_number-end.result
+    → Placed (said c).put_bytes-at.result (number (begin (said c)).args.value) (said c).put_bytes-at.new.text c.put_number-end.new.text c.put_number-end.result
 valued c = placed_as number _ _ _ _ (number_of_bits _ (begin (said c)).ranges.value) c.put_number-end.ensures
 
 value_room : (c : tie.After-put_number-end) → c.put_number-end.result + 1 ≤ length c.put_number-end.new.text
@@ -66,10 +66,8 @@ pub put_can_line_spec : {M : Type 1} → statement M
 put_can_line_spec =
     tie.close
     (tie.spec
-    (λ c. search rules)
     put-bytes-requires
     put-number-requires
-    (λ c. search rules)
     put-bytes-requires-2
     (λ c. search rules)
     returns)

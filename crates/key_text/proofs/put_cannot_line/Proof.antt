@@ -32,7 +32,7 @@ abbrev said : tie.After-put_number-second → tie.After-put_bytes-first
 said c = c.before.before.before.before
 
 valued : (c : tie.After-put_number-second)
-    → Placed (said c).put_bytes-first.result (number (begin (said c)).args.value) (said c).put_bytes-first.new.0 c.put_number-second.new.text c.put_number-second.result
+    → Placed (said c).put_bytes-first.result (number (begin (said c)).args.value) (said c).put_bytes-first.new.text c.put_number-second.new.text c.put_number-second.result
 valued c = placed_as number _ _ _ _ (number_of_bits _ (begin (said c)).ranges.value) c.put_number-second.ensures
 
 value_room : (c : tie.After-put_number-second) → c.put_number-second.result + 7 ≤ length c.put_number-second.new.text
@@ -43,7 +43,7 @@ abbrev told : tie.After-put_bytes-third → tie.After-put_number-second
 told c = c.before.before.before.before.before.before
 
 blank : (c : tie.After-put_bytes-third)
-    → Placed (told c).put_number-second.result (32 ∷ []) (told c).put_number-second.new.0 c.put_bytes-third.new.text c.put_bytes-third.result
+    → Placed (told c).put_number-second.result (32 ∷ []) (told c).put_number-second.new.text c.put_bytes-third.new.text c.put_bytes-third.result
 blank c = c.put_bytes-third.ensures
 
 blank-room : (c : tie.After-put_bytes-third) → c.put_bytes-third.result + 6 ≤ length c.put_bytes-third.new.text
@@ -66,7 +66,7 @@ abbrev measured : tie.After-put_decimal-end → tie.After-put_bytes-third
 measured c = parted c.before
 
 sized : (c : tie.After-put_decimal-end)
-    → Placed (measured c).put_bytes-third.result (decimal (begun c.before).args.size) (measured c).put_bytes-third.new.0
+    → Placed (measured c).put_bytes-third.result (decimal (begun c.before).args.size) (measured c).put_bytes-third.new.text
     c.put_decimal-end.new.text c.put_decimal-end.result
 sized c = placed_as decimal _ _ _ _ c.short.ensures.0 c.put_decimal-end.ensures
 
@@ -113,14 +113,11 @@ pub put_cannot_line_spec : {M : Type 1} → statement M
 put_cannot_line_spec =
     tie.close
     (tie.spec
-    (λ c. search rules)
     put-bytes-requires
     put-number-requires
-    (λ c. search rules)
     put-bytes-requires-2
     (λ c κs. search rules)
     put-decimal-requires
-    (λ c. search rules)
     put-bytes-requires-3
     (λ c. search rules)
     returns)

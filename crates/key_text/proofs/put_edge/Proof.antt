@@ -33,7 +33,7 @@ abbrev named : tie.After-put_bytes-second → tie.After-put_decimal-first
 named c = c.before.before.before.before.before.before
 
 blank : (c : tie.After-put_bytes-second)
-    → Placed (named c).put_decimal-first.result (32 ∷ []) (named c).put_decimal-first.new.0 c.put_bytes-second.new.text c.put_bytes-second.result
+    → Placed (named c).put_decimal-first.result (32 ∷ []) (named c).put_decimal-first.new.text c.put_bytes-second.new.text c.put_bytes-second.result
 blank c = c.put_bytes-second.ensures
 
 blank-room : (c : tie.After-put_bytes-second) → c.put_bytes-second.result + 9 ≤ length c.put_bytes-second.new.text
@@ -47,7 +47,7 @@ abbrev begun : tie.After-put_number-end → tie.Start
 begun c = begin (named (parted c))
 
 flow : (c : tie.After-put_number-end)
-    → Placed (parted c).put_bytes-second.result (number (begun c).args.flow) (parted c).put_bytes-second.new.0 c.put_number-end.new.text c.put_number-end.result
+    → Placed (parted c).put_bytes-second.result (number (begun c).args.flow) (parted c).put_bytes-second.new.text c.put_number-end.new.text c.put_number-end.result
 flow c = placed_as number _ _ _ _ (number_of_bits _ (begun c).ranges.flow) c.put_number-end.ensures
 
 seven-digits : (c : tie.Start) → length (number c.args.flow) ≤ 8
@@ -93,10 +93,8 @@ put_edge_spec =
     (tie.spec
     (λ c κs. search rules)
     put-decimal-requires
-    (λ c. search rules)
     put-bytes-requires
     put-number-requires
-    (λ c. search rules)
     put-bytes-requires-2
     (λ c. search rules)
     returns)

@@ -70,7 +70,6 @@ put_node_spec =
     contains-requires
     (λ c κs. search rules)
     put-decimal-requires
-    (λ c. search rules)
     put-bytes-requires
     (λ c. search rules)
     returns

@@ -33,7 +33,7 @@ abbrev worded : tie.After-put_decimal-end → tie.After-put_bytes-at
 worded c = said c.before
 
 numbered : (c : tie.After-put_decimal-end)
-    → Placed (worded c).put_bytes-at.result (decimal (begin (worded c)).args.k) (worded c).put_bytes-at.new.0
+    → Placed (worded c).put_bytes-at.result (decimal (begin (worded c)).args.k) (worded c).put_bytes-at.new.text
     c.put_decimal-end.new.text c.put_decimal-end.result
 numbered c = placed_as decimal _ _ _ _ c.byte.ensures.0 c.put_decimal-end.ensures
 
@@ -68,11 +68,9 @@ pub put_refused_spec : {M : Type 1} → statement M
 put_refused_spec =
     tie.close
     (tie.spec
-    (λ c. search rules)
     put-bytes-requires
     (λ c κs. search rules)
     put-decimal-requires
-    (λ c. search rules)
     put-bytes-requires-2
     (λ c. search rules)
     returns)

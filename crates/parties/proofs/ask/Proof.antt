@@ -57,8 +57,8 @@ start c = begun (widened c)
 can : (c : tie.In-Can)
     → Left (shared (start (answer c.before))) (start (answer c.before)).args.source (start (answer c.before)).args.sink
     (start (answer c.before)).args.value (start (answer c.before)).args.flows.now
-    (answer c.before).answer_left-answer.new.1.1.1.1.1.1.1.1.1.0 (start (answer c.before)).args.set.now
-    (answer c.before).answer_left-answer.new.1.1.1.1.1.1.1.1.1.1.0 Can
+    (answer c.before).answer_left-answer.new.flows (start (answer c.before)).args.set.now
+    (answer c.before).answer_left-answer.new.set Can
 can c =
     let k = answer c.before in
     let s = start k in

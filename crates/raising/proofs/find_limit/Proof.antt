@@ -100,7 +100,7 @@ returns-2 c =
     let last = l.least_limit.new in (
       l.least_limit.ensures.0,
       sought_as (drawing s) a.demand.source a.demand.sink a.demand.value a.edge (decided d.before.before.before.before.before.before e.if-decide_from.false).0
-          last.1.1.1.1.1.1.1.1.1.1.1.0 last.1.1.1.1.1.1.1.1.1.1.1.1.0 {r = l.least_limit.result} refl
+          last.flows last.inside {r = l.least_limit.result} refl
           l.least_limit.ensures.1,
     )
 

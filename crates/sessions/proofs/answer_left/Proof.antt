@@ -110,7 +110,7 @@ returns-3 c =
     let t = w in
     let b = (within t.before.before.before.before.before.before.before.before.before.before.before.before.before.before) in
     let s = begun b.before in
-    let q = number_of_bits _ s.fits.value in
+    let q = number_of_bits _ s.ranges.value in
     let from = w.wide.ensures in
     let to = w.wide-2.ensures in (
       answered (held b.before) (given b.before) (same b.before) (fit t.before.before.before.before.before.before.before.before.before.before.before.before.before) from to q _ _ _ _ k.solve.result k.solve.ensures.0,

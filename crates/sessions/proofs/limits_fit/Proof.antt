@@ -26,14 +26,14 @@ Place = lts.After-pair_fits (pair-fits-reads.Asked, pair-fits-reads.Learnt) read
 
 judged-here : (c : Place)
     → Decides (PairFits (atℤ c.args.left.now (2 * c.loop-e.e))
-    (atℤ c.args.left.now (2 * c.loop-e.e + 1))) c.pair_Fits.result
+    (atℤ c.args.left.now (2 * c.loop-e.e + 1))) c.pair_fits.result
 judged-here c =
     let limit = atℤ c.args.left.now in
     let e = c.loop-e.e in
     rw (
       number_of_bits (limit (2 * e)) (record { sfits = c.pair_fits-arg-1.given }),
       number_of_bits (limit (2 * e + 1)) (record { sfits = c.pair_fits-arg-in-loop-e-1.given }),
-    ) at c.pair_Fits.ensures
+    ) at c.pair_fits.ensures
 
 loop-holds : tie.Need-loop-e-init invariant-loop decreases-loop
 loop-holds c = (omega arith, c.requires, λ k l. absurd (omega arith))

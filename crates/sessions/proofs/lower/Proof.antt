@@ -67,7 +67,7 @@ loop-again c =
       omega arith,
       o.invariant.1,
       copy_step _ o.d _ _ _ o.invariant.2 (omega (arith, s.requires.0, s.requires.1))
-          (number_of_bits _ (record { sfits = c.Lowered-by.type_inv }) ∙ (rw (limit_is c.before.before, flow_is c.before) at c.Lowered-by.ensures) ∙
+          (number_of_bits _ (record { sfits = c.lowered_by.type_inv }) ∙ (rw (limit_is c.before.before, flow_is c.before) at c.lowered_by.ensures) ∙
           own_flow (atℤ s.args.left.now o.d) (atℤ s.args.offer.now) o.d),
     )
 
