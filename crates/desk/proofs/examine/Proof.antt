@@ -38,7 +38,7 @@ returns-2 c =
     let s = start e.before.before.before.before.before.before.before in
     let a = s.args in
     examined_as a.sheet.now a.source a.sink a.value _ a.claims.now a.kinds.now a.settings.now a.sets.now a.points.now
-    x.examine_counted.new.points x.examine_counted.result (number_of_bits _ s.fits.value) x.examine_counted.ensures
+    x.examine_counted.new.points x.examine_counted.result (number_of_bits _ s.ranges.value) x.examine_counted.ensures
 
 pub examine_spec : {M : Type 1} → statement M
 examine_spec =

@@ -175,7 +175,7 @@ returns-4 c =
         λ q l. subst
             (λ v. Points a.sheet.now a.source a.sink v f.find_largest-largest.result
             (paper_of a.sheet.now a.claims.now a.kinds.now a.settings.now a.sets.now q) (at (points' m) q))
-            (number_of_bits _ s.fits.value) (m.mark_papers.ensures.0 q l),
+            (number_of_bits _ s.ranges.value) (m.mark_papers.ensures.0 q l),
       ),
       m.mark_papers.ensures.2,
       record {

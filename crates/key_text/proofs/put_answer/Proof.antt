@@ -138,7 +138,7 @@ returns-2 c b question sheet source sink value =
     cannot_printed b question no_flows (flows' a) no_set (set' a) long wide s.args.text.now p.put_cannot.new.text s.requires p.put_cannot.result _
     (value-is a ∙ sym value)
     _
-    nodes.known_told-1.given.0.1
+    (omega arith)
     (solved-of a b question sheet source sink value (Cannot _) t.in-Cannot.is)
     _
     (nodes.nodes_of.ensures ∙ ap nodes_of (sym sheet))
@@ -155,10 +155,10 @@ returns-3 c b question sheet source sink value =
     let t = known in
     let a = refused t.before.before.before.before in
     let s = start a in
-    refused_printed b question no_flows (flows' a) no_set (set' a) long wide s.args.text.now p.Put-refused.new.0 s.requires p.Put-refused.result _ _
-    known.known_told-in-Refused-1.given.0.1
+    refused_printed b question no_flows (flows' a) no_set (set' a) long wide s.args.text.now p.put_refused.new.text s.requires p.put_refused.result _ _
+    (omega arith)
     (solved-of a b question sheet source sink value (Refused _ _) t.in-Refused.is)
-    p.Put-refused.ensures
+    p.put_refused.ensures
 
 pub put_answer_spec : {M : Type 1} → statement M
 put_answer_spec =

@@ -49,7 +49,7 @@ put-number-requires : tie.Need-put_number-end-requires
 put-number-requires c κs =
     let b = c in
     let s = begin b.before.before.before in
-    omega (arith, subst (λ x. length (number x) ≤ 10) (sym (number_of_bits _ s.fits.value)) (nine-digits s), word_room b.before.before.before)
+    omega (arith, subst (λ x. length (number x) ≤ 10) (sym (number_of_bits _ s.ranges.value)) (nine-digits s), word_room b.before.before.before)
 
 put-bytes-requires-2 : tie.Need-put_bytes-requires
 put-bytes-requires-2 c κs = value_room c.before.before.before.before.before

@@ -73,7 +73,7 @@ put-number-requires : tie.Need-put_number-end-requires
 put-number-requires c κs =
     let b = c in
     let s = begin (named b.before.before.before) in
-    omega (arith, subst (λ x. length (number x) ≤ 8) (sym (number_of_bits _ s.fits.flow)) (seven-digits s), blank-room b.before.before.before)
+    omega (arith, subst (λ x. length (number x) ≤ 8) (sym (number_of_bits _ s.ranges.flow)) (seven-digits s), blank-room b.before.before.before)
 
 put-bytes-requires-2 : tie.Need-put_bytes-requires
 put-bytes-requires-2 c κs = flow-room c.before.before.before.before.before

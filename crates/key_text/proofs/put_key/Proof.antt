@@ -1,6 +1,6 @@
 -- The key of the bytes read: the question is looked at first; where it is whole, the key is that of its question on the rest of the bytes.
 use mathlib.Core.Path.{◌≡◌, sym, ◌∙◌}
-use Prim.Native.Nat.{◌≤◌}
+use Prim.Native.Nat.{◌<◌, ◌≤◌}
 use native.Mathlib.Omega.{arith}
 use lib.ListN.{length}
 use borrow.Author.Rules.{rules}
@@ -38,10 +38,11 @@ returns c =
     let p = c in
     let w = p in
     let s = begin w.before.before.before.before.before in
-    let fits = refused_text_length _ p.known_told-1.given.0.1 in
-    question_refused s.args.input.now s.args.text.now p.Put-refused.new.0 p.Put-refused.result _ _
+    let small : p.in-Refused.k < 256 = omega arith in
+    let fits = refused_text_length p.in-Refused.k small in
+    question_refused s.args.input.now s.args.text.now p.put_refused.new.text p.put_refused.result _ _
     (judged w.before.before.before.before.before (Refused _ _) w.in-Refused.is)
-    p.Put-refused.ensures
+    p.put_refused.ensures
     (omega (arith, fits, s.requires))
 
 read-u16-requires : tie.Need-read_u16-source-requires

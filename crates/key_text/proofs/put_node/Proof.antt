@@ -37,7 +37,7 @@ counted c = c.before.before.before.before.before.before
 
 -- ── the needs, in the order of the code ──
 contains-requires : tie.Need-contains-requires
-contains-requires c κs = omega (arith, c.requires.1, c.contains-arg-1.given.0)
+contains-requires c κs = omega (arith, c.requires.1, c.contains-arg-1.given)
 
 put-decimal-requires : tie.Need-put_decimal-end-requires
 put-decimal-requires c κs =

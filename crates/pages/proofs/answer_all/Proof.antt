@@ -76,8 +76,8 @@ part-ask-end c = flows_room c.before
 mul-ask-2 : tie.Need-offset_bounds-sets-word invariant-loop decreases-loop
 mul-ask-2 c = record { fits = omega (arith, sets-small c.before.before) }
 
-part-ask-end-2 : tie.Need-slice-bounds-ask-end-2 invariant-loop decreases-loop
-part-ask-end-2 c = sets_room c
+part-ask-end-2 : tie.Need-slice_bounds-ask-end-in-loop-i invariant-loop decreases-loop
+part-ask-end-2 c = sets_room c.before.before
 
 ask-requires : tie.Need-ask-answer-requires invariant-loop decreases-loop
 ask-requires c κs =
@@ -118,7 +118,7 @@ returns : tie.Need-returns invariant-loop decreases-loop
 returns c =
     let s = c in
     let l = c.loop-i in
-    all_answered s.args.sizes.nodes s.args.sizes.edges s.args.t10.count _ l.i _ s.args.flows.now l.flows
+    all_answered s.args.sizes.nodes s.args.sizes.edges s.args.list.count _ l.i _ s.args.flows.now l.flows
     s.args.sets.now l.sets l.answers
     l.invariant.2 l.invariant.3 (omega (arith, l.invariant.0, c.loop-i-test.false)) s.requires.1.few s.requires.1.flows_room s.requires.1.sets_room
 

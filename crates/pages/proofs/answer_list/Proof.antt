@@ -1,5 +1,9 @@
 -- A list of questions: the way out by each check, and then the answers.
 use borrow.Author.Rules.{rules}
+use Rattle.flows.specs.ProvingSet.{words_for}
+use Rattle.arrays.specs.Maps.{drawing_of}
+use Rattle.pages.specs.Question.{question_at}
+use Rattle.pages.specs.inner.Listed.{solved_alone}
 use Rattle.pages.proofs.Listing.{refused_so, list_accepted}
 use Rattle.pages.proofs.answer_list.Statement.{statement}
 use Rattle.pages.proofs.answer_list.Tie as tie
@@ -8,7 +12,10 @@ returns : tie.Need-returns-in-Refused
 returns c =
     let k = c in
     let a = k.args in
-    refused_so _ a.sizes.edges _ _ _ a.flows.now a.sets.now _ _ c.refused_page.result
+    refused_so _ a.sizes.edges (words_for a.sizes.nodes) _
+    (λ i. solved_alone (drawing_of a.sizes.nodes a.sizes.edges a.sizes.outer a.tails.now a.rotations.now a.capacities.now)
+    (question_at a.list.questions i))
+    a.flows.now a.sets.now _ _ c.refused_page.result
     (rw c.in-Refused.is at k.check_list-verdict.ensures) c.refused_page.ensures
 
 answer-all-requires : tie.Need-answer_all-requires

@@ -62,7 +62,7 @@ can : (c : tie.In-Can)
 can c =
     let k = answer c.before in
     let s = start k in
-    left_as (shared s) s.args.party s.args.source s.args.sink (number_of_bits _ s.fits.value) s.args.flows.now
+    left_as (shared s) s.args.party s.args.source s.args.sink (number_of_bits _ s.ranges.value) s.args.flows.now
     k.answer_left-answer.new.flows s.args.set.now k.answer_left-answer.new.set c.in-Can.is
     k.answer_left-answer.ensures
 
@@ -77,8 +77,8 @@ keep-offer-requires c κs =
     let room = asked_room (shared_drawing S) _ _ _ _ _ h.0 in (
       omega (arith, (widened k).wide-p.ensures, is-party (widened k)),
       omega (arith, w.wide.ensures, filled_length _ _ _ _ h.1.2 room, room),
-      omega (arith, w.wide.ensures, few, c.keep_offer-arg-in-Can-1.given.0.1),
-      omega (arith, w.wide.ensures, few, c.keep-offer-arg3.given.0.1),
+      omega (arith, w.wide.ensures, few, c.told-first),
+      omega (arith, w.wide.ensures, few, c.told-second),
     )
 
 returns-3 : tie.Need-returns-in-Can
@@ -88,7 +88,7 @@ returns-3 c =
     let t = w in
     let k = answer t.before.before.before.before.before.before.before in
     let s = start k in
-    told_as (shared s) s.args.party s.args.source s.args.sink (number_of_bits _ s.fits.value) s.args.flows.now
+    told_as (shared s) s.args.party s.args.source s.args.sink (number_of_bits _ s.ranges.value) s.args.flows.now
     k.answer_left-answer.new.flows s.args.set.now k.answer_left-answer.new.set t.in-Can.is
     (is-party (widened k)) (may-ask (uncommitted k)) _
     (after_can (shared s) (widened k).wide-p.ensures _ w.wide.ensures k.answer_left-answer.new.flows _ c.stand.ensures
@@ -100,7 +100,7 @@ returns-4 c =
     let t = c in
     let k = answer t.before.before.before in
     let s = start k in
-    told_as (shared s) s.args.party s.args.source s.args.sink (number_of_bits _ s.fits.value) s.args.flows.now
+    told_as (shared s) s.args.party s.args.source s.args.sink (number_of_bits _ s.ranges.value) s.args.flows.now
     k.answer_left-answer.new.flows s.args.set.now k.answer_left-answer.new.set t.in-Cannot.is
     (is-party (widened k)) (may-ask (uncommitted k)) _
     (after_cannot (shared s) (widened k).wide-p.ensures _ c.stand-in-Cannot.ensures)
@@ -111,7 +111,7 @@ returns-5 c =
     let t = c in
     let k = answer t.before in
     let s = start k in
-    told_as (shared s) s.args.party s.args.source s.args.sink (number_of_bits _ s.fits.value) s.args.flows.now
+    told_as (shared s) s.args.party s.args.source s.args.sink (number_of_bits _ s.ranges.value) s.args.flows.now
     k.answer_left-answer.new.flows s.args.set.now k.answer_left-answer.new.set t.in-Refused.is
     (is-party (widened k)) (may-ask (uncommitted k)) _ refl k.answer_left-answer.ensures
 

@@ -11,10 +11,10 @@ session s =
     a.first.now a.second.now
 
 restore-requires : tie.Need-restore-requires
-restore-requires c κs = (c.restore-arg-1.given.0, c.restore-arg-2-1.given.0.1)
+restore-requires c κs = (c.told-limits, c.told-left)
 
 stand-idle-requires : tie.Need-stand_idle-requires
-stand-idle-requires c κs = c.stand_idle-arg-1.given.0.1
+stand-idle-requires c κs = c.told-standing
 
 returns : tie.Need-returns
 returns c =
