@@ -103,22 +103,22 @@ module _ {cs : List Check} {result place place' : ℕ} {Same : Type 0} where
 
 -- ── and so of each ──
 module _ {place place' result : ℕ} where
-  pub write_says : {nodes outer : ℕ} {tails rotations sheet sheet' : List ℕ} {capacities : List ℤ} {length length' : ℕ}
+  pub write_says : (nodes outer : ℕ) (tails rotations : List ℕ) (capacities : List ℤ) {sheet sheet' : List ℕ} {length length' : ℕ}
       → TellsWrite nodes outer tails rotations capacities sheet sheet' length length' place place' result
       → Says (write_checks nodes outer tails rotations capacities sheet) result place place' ((sheet' ≡ sheet) × (length' ≡ length))
-  write_says (write.Bytes n, h, t) = says_answer h.0 t.0 t.2
-  write_says (write.Refused k p, h, t) = says_refusal k p (write_numbered _ _ _ _ _ _) h.0 t.0 t.2 (h.1, t.1)
+  write_says nodes outer tails rotations capacities (write.Bytes n, h, t) = says_answer h.0 t.0 t.2
+  write_says nodes outer tails rotations capacities (write.Refused k p, h, t) = says_refusal k p (write_numbered _ _ _ _ _ _) h.0 t.0 t.2 (h.1, t.1)
 
   pub key_says : (input text : List ℕ) {text' : List ℕ} {length length' : ℕ} → TellsKey input text text' length length' place place' result
       → Says (key_room_checks text) result place place' ((text' ≡ text) × (length' ≡ length))
   key_says input text (key.Bytes n, h, named, t) = says_answer h.0 t.0 t.2
   key_says input text (key.Refused k p, h, named, t) = says_refusal k p (key_numbered text) h.0 t.0 t.2 (h.1, t.1)
 
-  pub practice_says : {rows columns seed : ℕ} {sheet sheet' : List ℕ} {length length' : ℕ}
+  pub practice_says : (rows columns seed : ℕ) {sheet sheet' : List ℕ} {length length' : ℕ}
       → TellsPractice rows columns seed sheet sheet' length length' place place' result
       → Says (practice_checks rows columns seed sheet) result place place' ((sheet' ≡ sheet) × (length' ≡ length))
-  practice_says (practice.Bytes n, h, t) = says_answer h.0 t.0 t.2
-  practice_says (practice.Refused k p, h, t) = says_refusal k p (practice_numbered _ _ _ _) h.0 t.0 t.2 (h.1, t.1)
+  practice_says rows columns seed (practice.Bytes n, h, t) = says_answer h.0 t.0 t.2
+  practice_says rows columns seed (practice.Refused k p, h, t) = says_refusal k p (practice_numbered _ _ _ _) h.0 t.0 t.2 (h.1, t.1)
 
   module _ (s : List ℕ) where
     pub read_says : {tails rotations tails' rotations' : List ℕ} {capacities capacities' : List ℤ} {nodes nodes' edges edges' outer outer' : ℕ}
@@ -152,12 +152,12 @@ module _ {place place' result : ℕ} where
     range_says (range.Refused k p, h, t) =
         says_refusal k p (range_numbered s _ _ _ _ _ _) h.0 t.0 t.4 (h.1, h.2, h.3, h.4, t.1, t.2, t.3)
 
-    pub raise_says : {source sink : ℕ} {value : ℤ} {edge : ℕ} {flows flows' : List ℤ} {set set' : List ℕ} {found found' : ℕ} {limit limit' : ℤ}
+    pub raise_says : {source sink : ℕ} {value : ℤ} (edge : ℕ) {flows flows' : List ℤ} {set set' : List ℕ} {found found' : ℕ} {limit limit' : ℤ}
         → TellsRaise s source sink value edge flows flows' set set' found found' limit limit' place place' result
         → Says (raise_checks s source sink value edge flows set) result place place' ((flows' ≡ flows) × (set' ≡ set) × (found' ≡ found) × (limit' ≡ limit))
-    raise_says (raise.Limit v, h, t) = says_answer h.0 t.0 t.3
-    raise_says (raise.None, h, t) = says_answer h.0 t.0 t.3
-    raise_says (raise.Refused k p, h, t) = says_refusal k p (raise_numbered s _ _ _ _ _ _) h.0 t.0 t.3 (h.1, h.2, t.1, t.2)
+    raise_says edge (raise.Limit v, h, t) = says_answer h.0 t.0 t.3
+    raise_says edge (raise.None, h, t) = says_answer h.0 t.0 t.3
+    raise_says edge (raise.Refused k p, h, t) = says_refusal k p (raise_numbered s _ _ _ _ _ _) h.0 t.0 t.3 (h.1, h.2, t.1, t.2)
 
     pub after_says : (b : List ℕ) (w n : ℕ) {source sink : ℕ} {limits limits' flows flows' : List ℤ} {set set' : List ℕ} {found found' : ℕ} {value value' : ℤ}
         → TellsAfter s b w n source sink limits limits' flows flows' set set' found found' value value' place place' result
@@ -168,14 +168,14 @@ module _ {place place' result : ℕ} where
     after_says b w n (largest.Refused k p, h, t) =
         says_refusal k p (after_numbered s b w n _ _ _ _ _) h.1.0 t.0 t.3 (h.0, h.1.1, h.1.2, t.1, t.2)
 
-    pub examine_says : {source sink : ℕ} {value : ℤ} {claims : List ℤ} {kinds : List ℕ} {settings : List ℤ} {sets points points' : List ℕ}
+    pub examine_says : {source sink : ℕ} {value : ℤ} (claims : List ℤ) (kinds : List ℕ) (settings : List ℤ) (sets : List ℕ) {points points' : List ℕ}
         {number number' sum sum' least least' greatest greatest' : ℕ}
         → TellsExamine s source sink value claims kinds settings sets points points' number number' sum sum' least least' greatest greatest' place place' result
         → Says (examine_checks s source sink value (length claims) (length kinds) (length settings) (length sets) (length points)) result place place'
         ((points' ≡ points) × (number' ≡ number) × (sum' ≡ sum) × (least' ≡ least) × (greatest' ≡ greatest))
-    examine_says (class.Empty, h, t) = says_answer h.0 t.result_told t.place_told
-    examine_says (class.Marked n m l g, h, t) = says_answer h.0 t.result_told t.place_told
-    examine_says (class.Refused k p, h, t) =
+    examine_says claims kinds settings sets (class.Empty, h, t) = says_answer h.0 t.result_told t.place_told
+    examine_says claims kinds settings sets (class.Marked n m l g, h, t) = says_answer h.0 t.result_told t.place_told
+    examine_says claims kinds settings sets (class.Refused k p, h, t) =
         says_refusal k p (examine_numbered s _ _ _ _ _ _ _ _) h.0 t.result_told t.place_told
         (h.1, t.number-told, t.sum_told, t.least_told, t.greatest_told)
 
@@ -193,31 +193,31 @@ module _ {place place' result : ℕ} where
         go verdict.Passed h t = says_answer h.0 t.0 t.3
         go (verdict.Refused k p) h t = says_refusal k p (page_numbered s _ _ _) h.0 t.0 t.3 (h.2, h.3, t.1, t.2)
 
-    pub mark_says : {source sink : ℕ} {flows : List ℤ} {value value' : ℤ}
+    pub mark_says : (source sink : ℕ) (flows : List ℤ) {value value' : ℤ}
         → TellsMark s source sink flows value value' place place' result → Says (mark_checks s source sink flows) result place place' (value' ≡ value)
-    mark_says (mark.Value v, h, t) = says_answer h.0 t.0 t.2
-    mark_says (mark.Refused k p, h, t) = says_refusal k p (mark_numbered s _ _ _) h t.0 t.2 t.1
+    mark_says source sink flows (mark.Value v, h, t) = says_answer h.0 t.0 t.2
+    mark_says source sink flows (mark.Refused k p, h, t) = says_refusal k p (mark_numbered s _ _ _) h t.0 t.2 t.1
 
-    pub levels_says : {flows levels levels' : List ℤ} → TellsLevels s flows levels levels' place place' result
+    pub levels_says : (flows : List ℤ) {levels levels' : List ℤ} → TellsLevels s flows levels levels' place place' result
         → Says (levels_checks s flows levels) result place place' (levels' ≡ levels)
-    levels_says (level.Done, h, t) = says_answer h.0 t.0 t.1
-    levels_says (level.Refused k p, h, t) = says_refusal k p (levels_numbered s _ _) h.0 t.0 t.1 h.1
+    levels_says flows (level.Done, h, t) = says_answer h.0 t.0 t.1
+    levels_says flows (level.Refused k p, h, t) = says_refusal k p (levels_numbered s _ _) h.0 t.0 t.1 h.1
 
-    pub settings_says : {levels flows flows' : List ℤ} → TellsSettings s levels flows flows' place place' result
+    pub settings_says : (levels : List ℤ) {flows flows' : List ℤ} → TellsSettings s levels flows flows' place place' result
         → Says (settings_checks s levels flows) result place place' (flows' ≡ flows)
-    settings_says (level.Done, h, t) = says_answer h.0 t.0 t.1
-    settings_says (level.Refused k p, h, t) = says_refusal k p (settings_numbered s _ _) h.0 t.0 t.1 h.1
+    settings_says levels (level.Done, h, t) = says_answer h.0 t.0 t.1
+    settings_says levels (level.Refused k p, h, t) = says_refusal k p (settings_numbered s _ _) h.0 t.0 t.1 h.1
 
-    pub totals_says : {set : List ℕ} {out out' : List ℤ} {total total' : ℤ} → TellsTotals s set out out' total total' place place' result
+    pub totals_says : (set : List ℕ) {out out' : List ℤ} {total total' : ℤ} → TellsTotals s set out out' total total' place place' result
         → Says (totals_checks s set out) result place place' ((out' ≡ out) × (total' ≡ total))
-    totals_says (totals.Total t, h, w) = says_answer h.0 w.0 w.2
-    totals_says (totals.Refused k p, h, w) = says_refusal k p (totals_numbered s _ _) h.0 w.0 w.2 (h.1, w.1)
+    totals_says set (totals.Total t, h, w) = says_answer h.0 w.0 w.2
+    totals_says set (totals.Refused k p, h, w) = says_refusal k p (totals_numbered s _ _) h.0 w.0 w.2 (h.1, w.1)
 
-    pub dimacs_says : {source sink : ℕ} {text text' : List ℕ} {length length' : ℕ}
+    pub dimacs_says : (source sink : ℕ) {text text' : List ℕ} {length length' : ℕ}
         → TellsDimacs s source sink text text' length length' place place' result
         → Says (dimacs_checks s source sink text) result place place' ((text' ≡ text) × (length' ≡ length))
-    dimacs_says (dimacs.Bytes n, h, t) = says_answer h.0 t.0 t.2
-    dimacs_says (dimacs.Refused k p, h, t) = says_refusal k p (dimacs_numbered s _ _ _) h.0 t.0 t.2 (h.1, t.1)
+    dimacs_says source sink (dimacs.Bytes n, h, t) = says_answer h.0 t.0 t.2
+    dimacs_says source sink (dimacs.Refused k p, h, t) = says_refusal k p (dimacs_numbered s _ _ _) h.0 t.0 t.2 (h.1, t.1)
 
     -- a refused start leaves the session of no nodes
     pub start_says : (S' : Shared) → TellsStart s S' place place' result → Says (sheet_checks s) result place place' (S' ≡ emptied)

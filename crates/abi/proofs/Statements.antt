@@ -29,23 +29,23 @@ use Rattle.abi.proofs.Numbered.{
 pub results : Results
 results = record {
   read_says = λ s tails rotations tails' rotations' capacities capacities' nodes nodes' edges edges' outer outer' place place' result h. says.read_says s h;
-  write_says = λ nodes outer tails rotations sheet sheet' capacities length length' place place' result h. says.write_says h;
+  write_says = λ nodes outer tails rotations sheet sheet' capacities length length' place place' result h. says.write_says nodes outer tails rotations capacities h;
   solve_says = λ s source sink value flows flows' set set' can can' size size' place place' result h. says.solve_says s h;
   largest_says = λ s source sink flows flows' set set' found found' value value' place place' result h. says.largest_says s h;
   range_says = λ s source sink low low' below below' high high' above above' found found' least least' largest largest' place place' result h.
       says.range_says s h;
-  raise_says = λ s source sink value edge flows flows' set set' found found' limit limit' place place' result h. says.raise_says s h;
+  raise_says = λ s source sink value edge flows flows' set set' found found' limit limit' place place' result h. says.raise_says s edge h;
   after_says = λ s b w n source sink limits limits' flows flows' set set' found found' value value' place place' result h. says.after_says s b w n h;
   page_says = λ s count sources sinks values flows flows' sets sets' answers answers' sizes sizes' place place' result h.
       says.page_says s count sources sinks values h;
-  mark_says = λ s source sink flows value value' place place' result h. says.mark_says s h;
-  levels_says = λ s flows levels levels' place place' result h. says.levels_says s h;
-  settings_says = λ s levels flows flows' place place' result h. says.settings_says s h;
-  totals_says = λ s set out out' total total' place place' result h. says.totals_says s h;
-  dimacs_says = λ s source sink text text' length length' place place' result h. says.dimacs_says s h;
-  practice_says = λ rows columns seed sheet sheet' length length' place place' result h. says.practice_says h;
+  mark_says = λ s source sink flows value value' place place' result h. says.mark_says s source sink flows h;
+  levels_says = λ s flows levels levels' place place' result h. says.levels_says s flows h;
+  settings_says = λ s levels flows flows' place place' result h. says.settings_says s levels h;
+  totals_says = λ s set out out' total total' place place' result h. says.totals_says s set h;
+  dimacs_says = λ s source sink text text' length length' place place' result h. says.dimacs_says s source sink h;
+  practice_says = λ rows columns seed sheet sheet' length length' place place' result h. says.practice_says rows columns seed h;
   examine_says = λ s source sink value claims kinds settings sets points points' number number' sum sum' least least' greatest greatest' place place' result h.
-      says.examine_says s h;
+      says.examine_says s claims kinds settings sets h;
   key_says = λ input text text' length length' place place' result h. says.key_says input text h;
   start_says = λ s S' place place' result h. says.start_says s S' h;
   ask_says = λ S S' p source sink value flows flows' set set' can can' size size' place place' result h. says.ask_says S S' p h;

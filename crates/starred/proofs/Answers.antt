@@ -95,7 +95,7 @@ filled_front z n f new old now' long same e =
     e ∙ ap₂ (λ (a b : List _). a ++ b) (tabulate_ext n f (λ i. get_or new i z) same ∙ tabulate_get_d n new z long) (ap (λ (k : ℕ). drop k old) (sym long))
 
 set_front : {nodes : ℕ} {ws words set set' : List ℕ} → SetWritten nodes ws set set' → ws ≡ words → set' ≡ front words set
-set_front {nodes} {ws} {words} {set} w e = w.placed ∙ ap (λ (k : ℕ). ws ++ drop k set) (sym w.is-set.long) ∙ ap (λ (l : List ℕ). front l set) e
+set_front {nodes} {ws} {words} {set} w e = w.placed ∙ ap (λ (k : ℕ). ws ++ drop k set) (sym w.is_set.long) ∙ ap (λ (l : List ℕ). front l set) e
 
 has_room : (s : List ℕ) (flows : List ℤ) (set : List ℕ) → Room s flows set → NoneOf (room_checks (nodes_of s) (edges_of s) (length flows) (length set))
 unfolding NoneOf room_checks

@@ -38,8 +38,8 @@ returns c = (
   (
     refl,
     refl,
-    number_of_bits _ (record { sfits = c.known_told-1.given.0.1 }),
-    number_of_bits _ (record { sfits = c.known_told-1.given.1.0.1 }),
+    number_of_bits _ (record { sfits = search rules }),
+    number_of_bits _ (record { sfits = search rules }),
     refl,
   ),
 )

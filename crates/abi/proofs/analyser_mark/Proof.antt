@@ -19,7 +19,7 @@ returns : tie.Need-returns-in-Value
 returns c = (
   Value _,
   found c.before (Value _) c.in-Value.is,
-  (refl, number_of_bits _ (record { sfits = c.known_told-1.given.0.1 }), refl),
+  (refl, number_of_bits _ (record { sfits = search rules }), refl),
 )
 
 returns-2 : tie.Need-returns-in-Refused

@@ -30,7 +30,7 @@ returns : tie.Need-returns-in-Limit
 returns c = (
   Limit _,
   found c.before.before.before.before (Limit _) c.in-Limit.is,
-  (refl, refl, number_of_bits _ (record { sfits = c.known_told-1.given.0.1 }), refl),
+  (refl, refl, number_of_bits _ (record { sfits = search rules }), refl),
 )
 
 returns-2 : tie.Need-returns-in-None

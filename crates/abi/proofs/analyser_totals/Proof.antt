@@ -24,7 +24,7 @@ returns : tie.Need-returns-in-Total
 returns c = (
   Total _,
   found c.before.before (Total _) c.in-Total.is,
-  (refl, number_of_bits _ (record { sfits = c.known_told-1.given.0.1 }), refl),
+  (refl, number_of_bits _ (record { sfits = search rules }), refl),
 )
 
 returns-2 : tie.Need-returns-in-Refused

@@ -15,7 +15,7 @@ returns c =
     let start = present in (
       refl,
       ap (set start.args.capacities.now (2 * start.args.edge))
-          (number_of_bits _ (record { sfits = c.Lowered-by.type_inv }) ∙ c.Lowered-by.ensures
+          (number_of_bits _ (record { sfits = c.lowered_by-least.type_inv }) ∙ c.lowered_by-least.ensures
           ∙ ap₂ (lowered (at start.args.seen.now start.args.edge))
           (number_of_bits (atℤ start.args.capacities.now (2 * start.args.edge)) (record { sfits = present.present-1.given })) (number_of_bits _
           start.ranges.limit)),

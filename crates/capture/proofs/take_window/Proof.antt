@@ -1,13 +1,8 @@
 -- The window's records taken one by one. Invariant: so many are taken, as `Taken` says. A record that passed its checks is whole, so no other is found.
 use mathlib.Core.Path.{◌≡◌, refl, sym, ◌∙◌, ap}
-use mathlib.Core.Logic.{inl, inr}
-use mathlib.Core.List.{[], ◌∷◌}
 use Prim.Native.Nat.{ℕ, ◌+◌, ◌*◌, ◌-◌, ◌≤◌, ◌<◌}
 use native.Mathlib.Omega.{arith}
 use lib.ListN.{length}
-use lib.IntN.{ℤ}
-use types.Run.{OneOf}
-use denote.Enum.Declared.{tag_of}
 use borrow.Author.Rules.{rules}
 use Rattle.signed.proofs.Laws.{number_of_bits}
 use Rattle.refusals.specs.Order.{NoneOf}
@@ -16,10 +11,8 @@ use Rattle.capture.specs.Entry.{entry_place, tick_of, channel_of, limit_of, entr
 use Rattle.capture.specs.Window.{laid}
 use Rattle.capture.specs.inner.Read.{entry_at}
 use Rattle.capture.specs.inner.Taken.{Taken}
-use Rattle.capture.specs.declared.Entry.{Entry}
-use Rattle.capture.specs.declared.Entry.TheVariants.{Wrong, Cut, Full}
-use Rattle.capture.specs.contracts.Entry as tags
-use Rattle.capture.proofs.Reading.{full_apart, full_channel, full_limit}
+use Rattle.capture.specs.declared.Entry.TheVariants.{Full}
+use Rattle.capture.proofs.Reading.{full_channel, full_limit}
 use Rattle.capture.proofs.Checking.{passed_full, passed_channel}
 use Rattle.capture.proofs.Taking.{taken_start, taken_step}
 use Rattle.capture.proofs.take_window.Statement.{statement}
@@ -60,12 +53,6 @@ whole : (k : tie.After-entry_at-entry invariant-loop decreases-loop)
     ≡ Full (tick_of (begin k).args.capture.now (number k)) (channel_of (begin k).args.capture.now (number k)) (limit_of (begin k).args.capture.now
     (number k))
 whole k = sym (found k) ∙ passed_full (begin k).args.edges (begin k).args.capture.now (number k) (passed k)
-
-not_full : (r : Entry) (t e : ℕ) (x : ℤ) → OneOf (0 ∷ 1 ∷ []) (tag_of tags.the_type r) → r ≡ Full t e x → ⊥
-not_full Wrong t e x one h = full_apart t e x (inl h)
-not_full Cut t e x one h = full_apart t e x (inr h)
-not_full (Full t' e' x') t e x (inl one) h = omega arith
-not_full (Full t' e' x') t e x (inr one) h = omega arith
 
 -- its edge
 channel : (e : tie.In-Full invariant-loop decreases-loop)
@@ -108,7 +95,7 @@ loop-again c =
       i.invariant.2,
       i.invariant.3,
       taken_step _ _ _ i.invariant.4 w.wide.result _ (w.wide.ensures ∙ channel e.before.before.before.before) (omega (arith, w.wide.ensures, few e.before.before.before.before))
-          (number_of_bits _ (record { sfits = told.known_told-1.given.1.1.0.1 }) ∙ full_limit _ _ _ _ _ (found k.before.before.before.before.before ∙ e.in-Full.is))
+          (number_of_bits _ (record { sfits = search rules }) ∙ full_limit _ _ _ _ _ (found k.before.before.before.before.before ∙ e.in-Full.is))
           c.take_limit.ensures.0 c.take_limit.ensures.1,
     )
 
@@ -116,7 +103,7 @@ loop-less-2 : tie.Need-loop-i-smaller invariant-loop decreases-loop
 loop-less-2 c = omega arith
 
 loop-again-2 : tie.Need-loop-i-preserved invariant-loop decreases-loop
-loop-again-2 c = let k = c in absurd (not_full k.entry_at-entry.result _ _ _ c.in-Full.keys2 (whole k.before))
+loop-again-2 c = absurd (c.in_default.not-Full _ _ _ (whole c.before))
 
 returns : tie.Need-returns invariant-loop decreases-loop
 returns c =

@@ -8,7 +8,7 @@ use Rattle.desk.proofs.claims_value.Tie as tie
 returns : tie.Need-returns-in-Value
 returns c =
     let s = c in
-    claim_decides _ _ s.args.claim _ c.in-Value.is (record { sfits = c.known_told-1.given.0.1 }) s.ranges.v refl
+    claim_decides _ _ s.args.claim _ c.in-Value.is (record { sfits = search rules }) s.ranges.v refl
 
 returns-2 : tie.Need-returns-in-None
 returns-2 c = λ e. no_value _ (sym c.in-None.is ∙ e)

@@ -34,7 +34,7 @@ returns c =
     let l = c in
     let s = start l.before.before.before in
     subst (λ v. IsLargest s.args.sheet.now s.args.source s.args.sink (Value v))
-    (sym (number_of_bits _ (record { sfits = c.known_told-1.given.0.1 })))
+    (sym (number_of_bits _ (record { sfits = search rules })))
     (value_largest _ _ _ s.requires _ (flows' l.before.before.before) (set' l.before.before.before) (found l.before.before.before (largest.Value _) c.in-Value.is))
 
 returns-2 : tie.Need-returns-in-None

@@ -10,7 +10,7 @@ returns c =
     let t = c in
     let a = t.args in
     of_value a.largest _ _ a.claim _ _ a.from a.into _ t.in-Value.is
-    (number_of_bits _ (record { sfits = t.known_told-1.given.0.1 })) (number_of_bits _ t.ranges.total) c.value_points.ensures
+    (number_of_bits _ (record { sfits = search rules })) (number_of_bits _ t.ranges.total) c.value_points.ensures
 
 returns-2 : tie.Need-returns-in-None
 returns-2 c =

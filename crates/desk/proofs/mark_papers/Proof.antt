@@ -82,8 +82,8 @@ part-paper-points-end c = settings-room c.before.before.before
 mul-paper-points-2 : tie.Need-offset_bounds-sets-word invariant-loop decreases-loop
 mul-paper-points-2 c = record { fits = omega (arith, sets-small c.before.before.before.before) }
 
-part-paper-points-end-2 : tie.Need-slice-bounds-paper-points-end-2 invariant-loop decreases-loop
-part-paper-points-end-2 c = sets_room c
+part-paper-points-end-2 : tie.Need-slice_bounds-paper_points-end-in-loop-q invariant-loop decreases-loop
+part-paper-points-end-2 c = sets_room c.before.before.before.before
 
 paper-points-requires : tie.Need-paper_points-requires invariant-loop decreases-loop
 paper-points-requires c κs =

@@ -26,7 +26,7 @@ returns : tie.Need-returns-in-Total
 returns c =
     let t = c in
     let s = start t.before.before in
-    number_of_bits _ (record { sfits = c.known_told-1.given.0.1 })
+    number_of_bits _ (record { sfits = search rules })
     ∙ total_is _ _ s.requires.0 s.requires.1 (out' t.before.before) _ (found t.before.before (totals.Total _) c.in-Total.is)
 
 returns-2 : tie.Need-returns-in-Refused

@@ -23,7 +23,7 @@ returns c =
     let m = t in
     let s = start m.before.before in
     marked_earns _ _ _ s.requires.0 s.args.value _ s.args.settings.now _ s.requires.1 (found m.before.before (mark.Value _) t.in-Value.is)
-    (earns_same _ _ _ _ _ (number_of_bits _ (record { sfits = t.known_told-1.given.0.1 })) (number_of_bits _ s.ranges.value) c.value_asked.ensures)
+    (earns_same _ _ _ _ _ (number_of_bits _ (record { sfits = search rules })) (number_of_bits _ s.ranges.value) c.value_asked.ensures)
 
 returns-2 : tie.Need-returns-in-Refused
 returns-2 c =
