@@ -20,7 +20,8 @@ use Rattle.abi.specs.Page.{PageTold}
 
 module _ (s : List ℕ) (n : ℕ) (question : ℕ → Question) (flows flows' : List ℤ) (sets sets' : List ℕ) (page : Page)
     (h : AnswersPage s n question flows flows' sets sets' page) (passed : page.verdict ≡ verdict.Passed) where
-  as_passed : PageAs (page_checks s n flows sets) (edges_of s) (words_for (nodes_of s)) n (λ i. solves_alone s (question i)) flows flows' sets sets' verdict.Passed
+  as_passed : PageAs (page_checks s n flows sets) (edges_of s) (words_for (nodes_of s)) n (λ i. solves_alone s (question i)) flows flows' sets sets'
+      verdict.Passed
       page.count (answer_at page)
   as_passed =
       subst (λ v. PageAs (page_checks s n flows sets) (edges_of s) (words_for (nodes_of s)) n (λ i. solves_alone s (question i)) flows flows' sets sets' v

@@ -29,7 +29,8 @@ use Rattle.abi.proofs.Numbered.{
 pub results : Results
 results = record {
   read_says = λ s tails rotations tails' rotations' capacities capacities' nodes nodes' edges edges' outer outer' place place' result h. says.read_says s h;
-  write_says = λ nodes outer tails rotations sheet sheet' capacities length length' place place' result h. says.write_says nodes outer tails rotations capacities h;
+  write_says = λ nodes outer tails rotations sheet sheet' capacities length length' place place' result h. says.write_says nodes outer tails rotations
+      capacities h;
   solve_says = λ s source sink value flows flows' set set' can can' size size' place place' result h. says.solve_says s h;
   largest_says = λ s source sink flows flows' set set' found found' value value' place place' result h. says.largest_says s h;
   range_says = λ s source sink low low' below below' high high' above above' found found' least least' largest largest' place place' result h.

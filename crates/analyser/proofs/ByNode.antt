@@ -47,7 +47,8 @@ module _ (s set : List ℕ) (out out' : List ℤ) (t : ℤ) (h : GivesTotals s s
   totals_cut : t ≡ cut (sheet_map s) (capacity_of s) (member set)
   totals_cut = h.2 ∙ total_cut 𝓜 (capacity_of s) S in-range
 
-  totals_by_channel : t ≡ sumℤ (edges_of s) (λ e. when (leaves 𝓜 S (2 * e)) (capacity_of s (2 * e)) +ℤ when (leaves 𝓜 S (2 * e + 1)) (capacity_of s (2 * e + 1)))
+  totals_by_channel : t ≡ sumℤ (edges_of s)
+      (λ e. when (leaves 𝓜 S (2 * e)) (capacity_of s (2 * e)) +ℤ when (leaves 𝓜 S (2 * e + 1)) (capacity_of s (2 * e + 1)))
   totals_by_channel = totals_cut ∙ cut_by_edges 𝓜 (capacity_of s) S
 
   totals_any_set : (T : ℕ → Bool) → ((v : ℕ) → v < nodes_of s → S v ≡ T v) → t ≡ cut (sheet_map s) (capacity_of s) T
@@ -63,7 +64,8 @@ module _ (s set : List ℕ) (out out' : List ℤ) (t : ℤ) (h : GivesTotals s s
   empty_set : ((v : ℕ) → v < nodes_of s → S v ≡ false) → (t ≡ pos 0) × (out' ≡ out)
   unfolding total
   empty_set none = (
-    h.2 ∙ sum_nil Integers (nodes_of s) (λ v. when (S v) (subtotal 𝓜 (capacity_of s) S v)) (λ v l. ap (λ b. when b (subtotal 𝓜 (capacity_of s) S v)) (none v l)),
+    h.2 ∙ sum_nil Integers (nodes_of s) (λ v. when (S v) (subtotal 𝓜 (capacity_of s) S v))
+        (λ v l. ap (λ b. when b (subtotal 𝓜 (capacity_of s) S v)) (none v l)),
     h.1 ∙ listed_none (nodes_of s) S (subtotal 𝓜 (capacity_of s) S) out none,
   )
 

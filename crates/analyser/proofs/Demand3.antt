@@ -121,7 +121,8 @@ module _ (s : List ℕ) (source sink : ℕ) (flows flows' : List ℤ) (set set' 
     largest_only y = one_highest s known.sheet source sink known.ends_two v (atℤ flows') y largest_highest
 
     -- ── its set proves the next one impossible ──
-    pub next_impossible : (words : List ℕ) × SetWritten (nodes_of s) words set set' × Proves (sheet_map s) (capacity_of s) source sink (v +ℤ pos 1) (member words)
+    pub next_impossible : (words : List ℕ) × SetWritten (nodes_of s) words set set' × Proves (sheet_map s) (capacity_of s) source sink (v +ℤ pos 1)
+        (member words)
     next_impossible = h.2
 
     -- ── nothing greater can be delivered ──

@@ -89,7 +89,8 @@ module _ (s : List ℕ) (k p : ℕ) (first : FirstOf (sheet_checks s) k p) where
   unfolding raise_checks
   raise_refused source sink value edge flows set = first_left (sheet_checks s) _ k p first
 
-  pub after_refused : (b : List ℕ) (w n source sink : ℕ) (limits flows : List ℤ) (set : List ℕ) → FirstOf (after_checks s b w n source sink limits flows set) k p
+  pub after_refused : (b : List ℕ) (w n source sink : ℕ) (limits flows : List ℤ) (set : List ℕ) → FirstOf (after_checks s b w n source sink limits flows set) k
+      p
   unfolding after_checks
   after_refused b w n source sink limits flows set = first_left (sheet_checks s) _ k p first
 

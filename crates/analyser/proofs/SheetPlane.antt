@@ -64,5 +64,6 @@ module _ (s : List ℕ) (h : NoneOf (sheet_checks s)) where
   pub levels_exist : (x : ℕ → ℤ) → Balanced (sheet_map s) x → (ρ : ℕ → ℤ) × Levels (sheet_map s) (outer_of s) x ρ
   levels_exist x b = let r = potentials_at plane (outer_of s) outer_in (on_darts x) b in (r.0, record { differences = r.1; rooted = r.2 })
 
-  pub levels_unique : (x ρ τ : ℕ → ℤ) → Levels (sheet_map s) (outer_of s) x ρ → Levels (sheet_map s) (outer_of s) x τ → (f : ℕ) → f < faces (sheet_map s) → ρ f ≡ τ f
+  pub levels_unique : (x ρ τ : ℕ → ℤ) → Levels (sheet_map s) (outer_of s) x ρ → Levels (sheet_map s) (outer_of s) x τ → (f : ℕ) → f < faces (sheet_map s) → ρ f
+      ≡ τ f
   levels_unique x ρ τ p q = potentials_one plane (outer_of s) outer_in (on_darts x) ρ τ p.differences q.differences p.rooted q.rooted

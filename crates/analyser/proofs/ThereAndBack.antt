@@ -54,7 +54,8 @@ module _ (s : List ℕ) where
   F = faces (sheet_map s)
 
   -- the parts of the two lists of checks
-  levels_parts : (flows levels : List ℤ) → NoneOf (levels_checks s flows levels) → NoneOf (sheet_checks s) × NoneOf (balanced_checks (sheet_drawing s) flows levels)
+  levels_parts : (flows levels : List ℤ) → NoneOf (levels_checks s flows levels) → NoneOf (sheet_checks s) × NoneOf
+      (balanced_checks (sheet_drawing s) flows levels)
   unfolding levels_checks
   levels_parts flows levels h = append_none (sheet_checks s) _ h
 

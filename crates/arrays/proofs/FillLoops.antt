@@ -85,10 +85,12 @@ filled_at n f old z room d = go (dec_lt d n)
         ∙ (rw (ltb_false d n (omega (arith, l))))
 
 -- zeros filled in front are the function below n, and zero further on
-pub filled_zeros : {A : Type 0} (z : A) (n m : ℕ) (f : ℕ → A) (old new : List A) → n ≤ length old → n ≡ m → ((d : ℕ) → get_or old d z ≡ z) → new ≡ filled n f old
+pub filled_zeros : {A : Type 0} (z : A) (n m : ℕ) (f : ℕ → A) (old new : List A) → n ≤ length old → n ≡ m → ((d : ℕ) → get_or old d z ≡ z) → new ≡ filled n f
+    old
     → ◌≡◌ {A = ℕ → A} (λ d. get_or new d z) (λ d. cond (ltb d m) (f d) z)
 filled_zeros z n m f old new room e zeros h =
-    fun_ext (λ d. ap (λ l. get_or l d z) h ∙ filled_at n f old z room d ∙ ap (λ k. cond (ltb d k) (f d) (get_or old d z)) e ∙ ap (cond (ltb d m) (f d)) (zeros d))
+    fun_ext (λ d. ap (λ l. get_or l d z) h ∙ filled_at n f old z room d ∙ ap (λ k. cond (ltb d k) (f d) (get_or old d z)) e ∙ ap (cond (ltb d m) (f d))
+    (zeros d))
 
 -- one function for another, where they agree below the count
 pub filled_below : {A : Type 0} (n m : ℕ) (f g : ℕ → A) (old new : List A) → new ≡ filled n f old → n ≡ m → ((d : ℕ) → d < m → f d ≡ g d) → new ≡ filled m g old

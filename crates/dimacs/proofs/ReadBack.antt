@@ -139,7 +139,13 @@ module _ (𝓜 : Map) (c : ℕ → ℤ) where
       ap problem_of (append_assoc (lines n line_of) (line_of n) rest)
       ∙ reads_arcs n (line_of n ++ rest)
       ∙ ap (with_arcs (tabulate n (arc_of 𝓜 c))) (reads_arc (𝓜.tail n) (head 𝓜 n) (c n) rest)
-      ∙ ap (λ l. record { nodes = (problem_of rest).nodes; size = (problem_of rest).size; source = (problem_of rest).source; sink = (problem_of rest).sink; arcs = l })
+      ∙ ap (λ l. record {
+        nodes = (problem_of rest).nodes;
+        size = (problem_of rest).size;
+        source = (problem_of rest).source;
+        sink = (problem_of rest).sink;
+        arcs = l;
+      })
       (sym (append_assoc (tabulate n (arc_of 𝓜 c)) (arc_of 𝓜 c n ∷ []) (problem_of rest).arcs))
 
   all_arcs : (n : ℕ) → problem_of (lines n line_of) ≡ record { nodes = 0; size = 0; source = 0; sink = 0; arcs = tabulate n (arc_of 𝓜 c) }

@@ -12,7 +12,8 @@ use Rattle.flows.specs.Settings.{on_darts, Within}
 use Rattle.flows.proofs.OnDarts.{on_darts_antisymmetric}
 
 -- settings within capacities of at most C are at most C in magnitude: the reverse dart has the negative, and its own capacity
-pub settings_limited : (𝓜 : Map) (C : ℕ) (c x : ℕ → ℤ) → ((d : ℕ) → d < darts 𝓜 → c d ≤ℤ pos C) → Within 𝓜 c x → (d : ℕ) → d < darts 𝓜 → Limited C (on_darts x d)
+pub settings_limited : (𝓜 : Map) (C : ℕ) (c x : ℕ → ℤ) → ((d : ℕ) → d < darts 𝓜 → c d ≤ℤ pos C) → Within 𝓜 c x → (d : ℕ) → d < darts 𝓜 → Limited C
+    (on_darts x d)
 settings_limited 𝓜 C c x low within d l =
     limited_both (le_trans (within d l) (low d l))
     (rw (on_darts_antisymmetric 𝓜 x d l) at (le_trans (within (rev d) (rev_in 𝓜.edges d l)) (low (rev d) (rev_in 𝓜.edges d l))))

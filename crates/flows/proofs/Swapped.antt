@@ -18,7 +18,8 @@ pub bound_back : (S : ℕ → Bool) (s t : ℕ) (value : ℤ) → bound S t s va
 unfolding bound
 bound_back S s t value = go (S s) (S t)
   where
-    go : (a b : Bool) → cond b (cond a (pos 0) value) (cond a (neg_ℤ value) (pos 0)) ≡ cond a (cond b (pos 0) (neg_ℤ value)) (cond b (neg_ℤ (neg_ℤ value)) (pos 0))
+    go : (a b : Bool) → cond b (cond a (pos 0) value) (cond a (neg_ℤ value) (pos 0)) ≡ cond a (cond b (pos 0) (neg_ℤ value))
+        (cond b (neg_ℤ (neg_ℤ value)) (pos 0))
     go true true = refl
     go true false = refl
     go false true = sym (neg_ℤ-neg_ℤ value)

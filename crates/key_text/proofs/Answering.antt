@@ -155,7 +155,8 @@ module _ (b : List ℕ) (question : NoneOf (record_checks b 3 0)) (flows flows' 
   key_first : (k p : ℕ) → (NoneOf (sheet_checks s) → FirstOf room k p → ⊥) → FirstOf checks k p → FirstOf (key_checks b) k p
   unfolding key_checks solve_checks question_checks
   key_first k p roomy f =
-      first_right (record_checks b 3 0) (sheet_checks s ++ (ends ++ asked)) k p question (by_sheet (append_first (sheet_checks s) (ends ++ (asked ++ room)) k p f))
+      first_right (record_checks b 3 0) (sheet_checks s ++ (ends ++ asked)) k p question
+      (by_sheet (append_first (sheet_checks s) (ends ++ (asked ++ room)) k p f))
     where
       ends : List Check
       ends = end_checks (nodes_of s) (source_of b) (sink_of b)
@@ -171,7 +172,8 @@ module _ (b : List ℕ) (question : NoneOf (record_checks b 3 0)) (flows flows' 
       by_ends h (inl g) = first_left ends asked k p g
       by_ends h (inr g) = first_right ends asked k p g.0 (by_value h (append_first asked room k p g.1))
 
-      by_sheet : FirstOf (sheet_checks s) k p ⊎ (NoneOf (sheet_checks s) × FirstOf (ends ++ (asked ++ room)) k p) → FirstOf (sheet_checks s ++ (ends ++ asked)) k p
+      by_sheet : FirstOf (sheet_checks s) k p ⊎ (NoneOf (sheet_checks s) × FirstOf (ends ++ (asked ++ room)) k p) → FirstOf (sheet_checks s ++ (ends ++ asked))
+          k p
       by_sheet (inl g) = first_left (sheet_checks s) (ends ++ asked) k p g
       by_sheet (inr g) = first_right (sheet_checks s) (ends ++ asked) k p g.0 (by_ends g.0 (append_first ends (asked ++ room) k p g.1))
 

@@ -129,7 +129,8 @@ module _ {n N F k : ℕ} {turn tail left part on_node on_face : ℕ → ℕ} (�
   incidence_bound = euler_bound as_graphs
 
   -- in each component
-  pub incidence_part_bound : (c : ℕ) → count N (λ v. eqb c (part (on_node v))) + count F (λ f. eqb c (part (on_face f))) ≤ count n (λ e. eqb c (part (2 * e))) + 2
+  pub incidence_part_bound : (c : ℕ) → count N (λ v. eqb c (part (on_node v))) + count F (λ f. eqb c (part (on_face f))) ≤ count n (λ e. eqb c (part (2 * e))) +
+      2
   incidence_part_bound = part_bound as_graphs
 
   -- antisymmetric and zero at every node: a difference of face values

@@ -160,7 +160,8 @@ module _ {n N F k : ℕ} {s t l r partN partF partE : ℕ → ℕ} (𝓖 : TwoGr
 
   -- by Euler's count every edge is in the tree or in the cotree
   cover : n + 2 * k ≤ N + F → (e : ℕ) → e < n → in_tree e ≡ false → in_cotree e ≡ true
-  cover euler e m h = bit_one (in_cotree e) (omega (arith, rw h at (sum_full n (λ e. bit (in_tree e) + bit (in_cotree e)) at_most_one (omega (arith, both)) e m)))
+  cover euler e m h = bit_one (in_cotree e)
+      (omega (arith, rw h at (sum_full n (λ e. bit (in_tree e) + bit (in_cotree e)) at_most_one (omega (arith, both)) e m)))
 
   pub closed_difference : n + 2 * k ≤ N + F → (φ : ℕ → ℤ) → Closed n s t φ → (ρ : ℕ → ℤ) × ((e : ℕ) → e < n → φ e ≡ ρ (l e) -ℤ ρ (r e))
   unfolding in_tree in_cotree

@@ -16,7 +16,32 @@ use Rattle.parties.specs.Shared.{idle, committed, staled, Shared, put, lowered_b
 use Rattle.parties.specs.Start.{Starts}
 use Rattle.parties.specs.Calls.{after_ask, Asks, Commits}
 use Rattle.parties.specs.Statements.{TwoParties}
-use Rattle.parties.specs.Seen.{Question, Gift, answered, judged, Event, asks, commits, Seen, own_ask, own_commit, theirs, wiped, accepted, seen, all_seen, gift, gifts, Step, ask_step, commit_step, clear_step, Run, end, next}
+use Rattle.parties.specs.Seen.{
+  Question,
+  Gift,
+  answered,
+  judged,
+  Event,
+  asks,
+  commits,
+  Seen,
+  own_ask,
+  own_commit,
+  theirs,
+  wiped,
+  accepted,
+  seen,
+  all_seen,
+  gift,
+  gifts,
+  Step,
+  ask_step,
+  commit_step,
+  clear_step,
+  Run,
+  end,
+  next,
+}
 use Rattle.parties.proofs.Starting.{one_start}
 use Rattle.parties.proofs.Views.{View, view, turned, other, ask_one, commit_one}
 

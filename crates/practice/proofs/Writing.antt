@@ -120,7 +120,8 @@ module _ (R C seed e : ℕ) (l : e < grid_edges R C) where
   rotation_odd : grid_rotation R C (2 * e + 1) ≡ rotation_at R C (ending R C e)
   unfolding grid_rotation
   rotation_odd =
-      ap (λ b. cond b (rotation_at R C (place_of R C (2 * e + 1))) 0) (ltb_true (2 * e + 1) (2 * grid_edges R C) odd_in) ∙ ap (rotation_at R C) (place_odd R C e)
+      ap (λ b. cond b (rotation_at R C (place_of R C (2 * e + 1))) 0) (ltb_true (2 * e + 1) (2 * grid_edges R C) odd_in) ∙ ap (rotation_at R C)
+      (place_odd R C e)
 
   pub grid_record : encode_edge (grid_drawing R C seed) e
       ≡ edge_bytes (node_at R C (beginning R C e)) (node_at R C (ending R C e)) (rotation_at R C (beginning R C e)) (rotation_at R C (ending R C e))

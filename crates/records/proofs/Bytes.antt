@@ -121,7 +121,8 @@ module _ (s : List ℕ) where
     pub refused_left : ((i : ℕ) → i < edges_of s → NoneOf (edge_record_checks s i)) → FirstOf (leftOver s) 8 0 → FirstOf (byte_checks s) 8 0
     unfolding byte_checks
     refused_left h g =
-        first_right (head_checks s) (edges s ++ leftOver s) 8 0 head (first_right (edges s) (leftOver s) 8 0 (none_in_turn (edges_of s) (edge_record_checks s) h) g)
+        first_right (head_checks s) (edges s ++ leftOver s) 8 0 head
+        (first_right (edges s) (leftOver s) 8 0 (none_in_turn (edges_of s) (edge_record_checks s) h) g)
 
     pub all_passed : ((i : ℕ) → i < edges_of s → NoneOf (edge_record_checks s i)) → NoneOf (leftOver s) → NoneOf (byte_checks s)
     unfolding byte_checks

@@ -67,7 +67,8 @@ first_in_turn (suc n) f e k p l h g = go (ℕ_discrete e n) (first_in_turn n f e
     go (no q) r = first_left (in_turn n f) (f n) k p (r (omega (arith, q)) h g)
 
 -- the first that holds is of some e, and of none lower
-pub in-turn-first : (n : ℕ) (f : ℕ → List Check) (k p : ℕ) → FirstOf (in_turn n f) k p → (e : ℕ) × (e < n) × ((i : ℕ) → i < e → NoneOf (f i)) × FirstOf (f e) k p
+pub in-turn-first : (n : ℕ) (f : ℕ → List Check) (k p : ℕ) → FirstOf (in_turn n f) k p → (e : ℕ) × (e < n) × ((i : ℕ) → i < e → NoneOf (f i)) × FirstOf (f e) k
+    p
 unfolding in_turn FirstOf
 in-turn-first zero f k p h = absurd h
 in-turn-first (suc n) f k p h = go (append_first (in_turn n f) (f n) k p h) (in-turn-first n f k p)

@@ -134,6 +134,7 @@ module _ (nodes outer : ℕ) (tails rotations : List ℕ) (capacities : List ℤ
     unfolding write_checks FirstOf
     write_short h l = inr (even, first_right (drawing_checks drawn) short 16 0 h (inl (l, refl, refl)))
 
-    pub write_whole : NoneOf (drawing_checks drawn) → encode_length (edges_in tails) ≤ length out → NoneOf (write_checks nodes outer tails rotations capacities out)
+    pub write_whole : NoneOf (drawing_checks drawn) → encode_length (edges_in tails) ≤ length out → NoneOf
+        (write_checks nodes outer tails rotations capacities out)
     unfolding write_checks NoneOf
     write_whole h l = (even, none_append (drawing_checks drawn) short h ((λ s. omega arith), tt))

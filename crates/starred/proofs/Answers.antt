@@ -102,7 +102,8 @@ has_room s flows set room = (neither (λ h. omega (arith, room.0)) (λ h. omega 
 
 -- ── Solve ──
 module _ {s : List ℕ} {𝓓 : Drawing} (good : Good s 𝓓) (source sink : ℕ) (value : ℤ) (inside : NoneOf (value_checks value)) where
-  asked : (flows : List ℤ) (set : List ℕ) → NoneOf (end_checks (nodes_of s) source sink) → Room s flows set → NoneOf (solve_checks s source sink value flows set)
+  asked : (flows : List ℤ) (set : List ℕ) → NoneOf (end_checks (nodes_of s) source sink) → Room s flows set → NoneOf
+      (solve_checks s source sink value flows set)
   asked flows set two room =
       solve_none s source sink value flows set (record { sheet = good.accepted; ends_two = two; value_inside = inside; has_room = has_room s flows set room })
 

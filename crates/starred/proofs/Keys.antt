@@ -73,7 +73,8 @@ module _ (b : List ℕ) (whole : NoneOf (record_checks b 3 0)) where
         (none_append (sheet_checks (sheet_of b)) rest good.accepted
         (none_append (end_checks (nodes_of (sheet_of b)) (source_of b) (sink_of b)) (value_checks (value_of b)) two inside))
 
-    pub key_can : (settings : List ℤ) → CanBy (source_of b) (sink_of b) (value_of b) settings 𝓓 → OnlyKey b (can_text (value_of b) (length settings) (atℤ settings))
+    pub key_can : (settings : List ℤ) → CanBy (source_of b) (sink_of b) (value_of b) settings 𝓓 → OnlyKey b
+        (can_text (value_of b) (length settings) (atℤ settings))
     key_can settings by t key = go key
       where
         k : CanBy (source_of b) (sink_of b) (value_of b) settings (sheet_drawing (sheet_of b))

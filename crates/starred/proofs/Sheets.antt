@@ -194,7 +194,8 @@ b_sound = record {
   range = record { tail_in = every_below 4 (maps.B).tail (λ d. 3) refl; rotation_in = every_below 4 (maps.B).rotation (λ d. 4) refl };
   same_tail = every_equal 4 (λ d. (maps.B).tail ((maps.B).rotation d)) (maps.B).tail refl;
   injective = λ c d lc ld e.
-      eqb_eq c d (every_two 4 (λ c d. eqb ((maps.B).rotation c) ((maps.B).rotation d)) eqb refl c d lc ld (eqb_true ((maps.B).rotation c) ((maps.B).rotation d) e));
+      eqb_eq c d (every_two 4 (λ c d. eqb ((maps.B).rotation c) ((maps.B).rotation d)) eqb refl c d lc ld
+      (eqb_true ((maps.B).rotation c) ((maps.B).rotation d) e));
   one_round = λ c d lc ld e. (
     steps c d,
     eqb_eq (iter (maps.B).rotation (steps c d) c) d

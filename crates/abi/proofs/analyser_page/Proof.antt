@@ -42,8 +42,13 @@ named c =
 
 returns : tie.Need-returns-in-Refused
 returns c =
-    let k = c in
-    (k.page_of-page.result, listed k.before.before.before.before, named k.before.before.before.before, told_refused (begun k.before.before.before.before).args.count k.page_of-page.result _ _ c.in-Refused.is _ _ _)
+    let k = c in (
+      k.page_of-page.result,
+      listed k.before.before.before.before,
+      named k.before.before.before.before,
+      told_refused
+          (begun k.before.before.before.before).args.count k.page_of-page.result _ _ c.in-Refused.is _ _ _,
+    )
 
 tell-numbers-requires : tie.Need-tell_numbers-requires
 tell-numbers-requires c κs =
@@ -52,8 +57,11 @@ tell-numbers-requires c κs =
 
 tell-sizes-requires : tie.Need-tell_sizes-requires
 tell-sizes-requires c κs =
-    let k = c in
-    (page_few _ _ _ _ _ _ _ k.page_of-page.result (listed k.before.before.before.before.before.before.before) c.in_default.is, omega (arith, c.tell_sizes-arg-1.given.0.1))
+    let k = c in (
+      page_few _ _ _ _ _ _ _ k.page_of-page.result (listed k.before.before.before.before.before.before.before) c.in_default.is,
+      omega
+          (arith, c.tell_sizes-arg-1.given.0.1),
+    )
 
 returns-2 : tie.Need-returns
 returns-2 c =

@@ -40,13 +40,21 @@ returns c =
 
 returns-2 : tie.Need-returns-in-Cannot
 returns-2 c =
-    let k = c in
-    (Cannot _, solved k.before.before.before.before (Cannot _) c.in-Cannot.is, named k.before.before.before.before (Cannot _) c.in-Cannot.is, (refl, refl, refl, refl))
+    let k = c in (
+      Cannot _,
+      solved k.before.before.before.before (Cannot _) c.in-Cannot.is,
+      named k.before.before.before.before (Cannot _) c.in-Cannot.is,
+      (refl, refl, refl, refl),
+    )
 
 returns-3 : tie.Need-returns-in-Refused
 returns-3 c =
-    let k = c in
-    (Refused _ _, solved k.before.before.before.before (Refused _ _) c.in-Refused.is, named k.before.before.before.before (Refused _ _) c.in-Refused.is, (refl, refl, refl, refl))
+    let k = c in (
+      Refused _ _,
+      solved k.before.before.before.before (Refused _ _) c.in-Refused.is,
+      named k.before.before.before.before (Refused _ _) c.in-Refused.is,
+      (refl, refl, refl, refl),
+    )
 
 pub analyser_solve_spec : {M : Type 1} → statement M
 analyser_solve_spec =

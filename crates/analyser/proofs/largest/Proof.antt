@@ -59,7 +59,14 @@ largest-requires : tie.Need-largest-requires
 largest-requires c κs =
     let t = c in
     let o = t in
-    opened_sheet (sheet o.before.before.before.before.before.before.before.before.before.before.before.before.before.before) (net o.before.before.before.before.before.before.before.before.before.before.before.before.before.before) (accepted t.before.before.before.before.before.before.before.before.before.before.before.before.before) (order o.before.before.before.before.before.before.before.before.before.before.before.before.before.before) (from o.before.before.before.before.before.before.before.before.before.before.before.before.before.before) (grouped o.before.before.before.before.before.before.before.before.before.before.before.before.before.before) (starts o.before.before.before.before.before.before.before.before.before.before.before.before.before.before) (walked t.before.before.before.before.before.before.before.before.before.before.before.before.before)
+    opened_sheet (sheet o.before.before.before.before.before.before.before.before.before.before.before.before.before.before)
+    (net o.before.before.before.before.before.before.before.before.before.before.before.before.before.before)
+    (accepted t.before.before.before.before.before.before.before.before.before.before.before.before.before)
+    (order o.before.before.before.before.before.before.before.before.before.before.before.before.before.before)
+    (from o.before.before.before.before.before.before.before.before.before.before.before.before.before.before)
+    (grouped o.before.before.before.before.before.before.before.before.before.before.before.before.before.before)
+    (starts o.before.before.before.before.before.before.before.before.before.before.before.before.before.before)
+    (walked t.before.before.before.before.before.before.before.before.before.before.before.before.before)
 
 returns-2 : tie.Need-returns
 returns-2 c =
@@ -70,7 +77,10 @@ returns-2 c =
     let t = k in
     let o = t in
     let a = (begun o.before.before.before.before.before.before.before.before.before.before.before.before.before.before.before.before.before.before).args in
-    largest_sheet (sheet o.before.before.before.before.before.before.before.before.before.before.before.before.before.before.before.before.before.before) (net o.before.before.before.before.before.before.before.before.before.before.before.before.before.before.before.before.before.before) (accepted t.before.before.before.before.before.before.before.before.before.before.before.before.before.before.before.before.before) from' to a.flows.now _ a.set.now _ k.largest.result k.largest.ensures
+    largest_sheet (sheet o.before.before.before.before.before.before.before.before.before.before.before.before.before.before.before.before.before.before)
+    (net o.before.before.before.before.before.before.before.before.before.before.before.before.before.before.before.before.before.before)
+    (accepted t.before.before.before.before.before.before.before.before.before.before.before.before.before.before.before.before.before) from' to a.flows.now
+    _ a.set.now _ k.largest.result k.largest.ensures
 
 pub largest_spec : {M : Type 1} → statement M
 largest_spec =

@@ -65,8 +65,19 @@ largest-after-requires : tie.Need-largest_after-requires
 largest-after-requires c κs =
     let t = c in
     let o = t in
-    let long = (o.open_walked-net.ensures.5 (is_accepted (net o.before.before.before.before.before.before.before.before.before.before.before.before.before.before.before.before).accepted t.if-not-net.false-raw)).0 in
-    (long, opened (sheet o.before.before.before.before.before.before.before.before.before.before.before.before.before.before.before.before) (net o.before.before.before.before.before.before.before.before.before.before.before.before.before.before.before.before) (accepted t.before.before.before.before.before.before.before.before.before.before.before.before.before.before.before) (order o.before.before.before.before.before.before.before.before.before.before.before.before.before.before.before.before) (from o.before.before.before.before.before.before.before.before.before.before.before.before.before.before.before.before) (grouped o.before.before.before.before.before.before.before.before.before.before.before.before.before.before.before.before) (starts o.before.before.before.before.before.before.before.before.before.before.before.before.before.before.before.before) (walked t.before.before.before.before.before.before.before.before.before.before.before.before.before.before.before))
+    let long = (o.open_walked-net.ensures.5
+    (is_accepted (net o.before.before.before.before.before.before.before.before.before.before.before.before.before.before.before.before).accepted
+    t.if-not-net.false-raw)).0 in (
+      long,
+      opened (sheet o.before.before.before.before.before.before.before.before.before.before.before.before.before.before.before.before)
+          (net o.before.before.before.before.before.before.before.before.before.before.before.before.before.before.before.before)
+          (accepted t.before.before.before.before.before.before.before.before.before.before.before.before.before.before.before)
+          (order o.before.before.before.before.before.before.before.before.before.before.before.before.before.before.before.before)
+          (from o.before.before.before.before.before.before.before.before.before.before.before.before.before.before.before.before)
+          (grouped o.before.before.before.before.before.before.before.before.before.before.before.before.before.before.before.before)
+          (starts o.before.before.before.before.before.before.before.before.before.before.before.before.before.before.before.before)
+          (walked t.before.before.before.before.before.before.before.before.before.before.before.before.before.before.before),
+    )
 
 returns-2 : tie.Need-returns
 returns-2 c =
@@ -76,8 +87,10 @@ returns-2 c =
     let to = w.wide-2.ensures in
     let t = k in
     let o = t in
-    let a = (begun o.before.before.before.before.before.before.before.before.before.before.before.before.before.before.before.before.before.before.before.before.before).args in
-    after_sheet (sheet o.before.before.before.before.before.before.before.before.before.before.before.before.before.before.before.before.before.before.before.before.before) (net o.before.before.before.before.before.before.before.before.before.before.before.before.before.before.before.before.before.before.before.before.before) (accepted t.before.before.before.before.before.before.before.before.before.before.before.before.before.before.before.before.before.before.before.before) a.capture.now a.window a.named from' to
+    let middle = o.before.before.before.before.before.before.before.before.before.before in
+    let passed = middle.before.before.before.before.before.before.before.before.before.before in
+    let a = (begun passed.before).args in
+    after_sheet (sheet passed.before) (net passed.before) (accepted passed) a.capture.now a.window a.named from' to
     a.limits.now _ a.flows.now _ a.set.now _ k.largest_after.result k.largest_after.ensures
 
 pub largest_after_spec : {M : Type 1} → statement M

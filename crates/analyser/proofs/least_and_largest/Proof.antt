@@ -59,7 +59,14 @@ least-and-largest-requires : tie.Need-least_and_largest-requires
 least-and-largest-requires c κs =
     let t = c in
     let o = t in
-    opened_sheet (sheet o.before.before.before.before.before.before.before.before.before.before.before.before.before.before.before.before) (net o.before.before.before.before.before.before.before.before.before.before.before.before.before.before.before.before) (accepted t.before.before.before.before.before.before.before.before.before.before.before.before.before.before.before) (order o.before.before.before.before.before.before.before.before.before.before.before.before.before.before.before.before) (from o.before.before.before.before.before.before.before.before.before.before.before.before.before.before.before.before) (grouped o.before.before.before.before.before.before.before.before.before.before.before.before.before.before.before.before) (starts o.before.before.before.before.before.before.before.before.before.before.before.before.before.before.before.before) (walked t.before.before.before.before.before.before.before.before.before.before.before.before.before.before.before)
+    opened_sheet (sheet o.before.before.before.before.before.before.before.before.before.before.before.before.before.before.before.before)
+    (net o.before.before.before.before.before.before.before.before.before.before.before.before.before.before.before.before)
+    (accepted t.before.before.before.before.before.before.before.before.before.before.before.before.before.before.before)
+    (order o.before.before.before.before.before.before.before.before.before.before.before.before.before.before.before.before)
+    (from o.before.before.before.before.before.before.before.before.before.before.before.before.before.before.before.before)
+    (grouped o.before.before.before.before.before.before.before.before.before.before.before.before.before.before.before.before)
+    (starts o.before.before.before.before.before.before.before.before.before.before.before.before.before.before.before.before)
+    (walked t.before.before.before.before.before.before.before.before.before.before.before.before.before.before.before)
 
 returns-2 : tie.Need-returns
 returns-2 c =
@@ -69,8 +76,10 @@ returns-2 c =
     let to = w.wide-2.ensures in
     let t = k in
     let o = t in
-    let a = (begun o.before.before.before.before.before.before.before.before.before.before.before.before.before.before.before.before.before.before.before.before.before.before.before).args in
-    range_sheet (sheet o.before.before.before.before.before.before.before.before.before.before.before.before.before.before.before.before.before.before.before.before.before.before.before) (net o.before.before.before.before.before.before.before.before.before.before.before.before.before.before.before.before.before.before.before.before.before.before.before) (accepted t.before.before.before.before.before.before.before.before.before.before.before.before.before.before.before.before.before.before.before.before.before.before) from' to
+    let middle = o.before.before.before.before.before.before.before.before.before.before.before in
+    let passed = middle.before.before.before.before.before.before.before.before.before.before.before in
+    let a = (begun passed.before).args in
+    range_sheet (sheet passed.before) (net passed.before) (accepted passed) from' to
     a.low.now _ a.below.now _ a.high.now _ a.above.now _ k.least_and_largest.result k.least_and_largest.ensures
 
 pub least_and_largest_spec : {M : Type 1} → statement M

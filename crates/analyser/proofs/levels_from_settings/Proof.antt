@@ -36,8 +36,12 @@ accepted c = let o = c in opens_passed (sheet o.before) (net o.before) c.if-not-
 levels-of-requires : tie.Need-levels_of-requires
 levels-of-requires c κs =
     let t = c in
-    let o = t in
-    (drawn (sheet o.before.before.before.before.before.before.before) (net o.before.before.before.before.before.before.before) (accepted t.before.before.before.before.before.before), small (sheet o.before.before.before.before.before.before.before) (net o.before.before.before.before.before.before.before) (accepted t.before.before.before.before.before.before))
+    let o = t in (
+      drawn (sheet o.before.before.before.before.before.before.before) (net o.before.before.before.before.before.before.before)
+          (accepted t.before.before.before.before.before.before),
+      small (sheet o.before.before.before.before.before.before.before)
+          (net o.before.before.before.before.before.before.before) (accepted t.before.before.before.before.before.before),
+    )
 
 returns-2 : tie.Need-returns
 returns-2 c =
@@ -45,7 +49,8 @@ returns-2 c =
     let t = k in
     let o = t in
     let a = (begun o.before.before.before.before.before.before.before.before.before).args in
-    levels_sheet (sheet o.before.before.before.before.before.before.before.before.before) (net o.before.before.before.before.before.before.before.before.before) (accepted t.before.before.before.before.before.before.before.before) a.flows.now a.levels.now _ k.levels_of.result k.levels_of.ensures
+    levels_sheet (sheet o.before.before.before.before.before.before.before.before.before) (net o.before.before.before.before.before.before.before.before.before)
+    (accepted t.before.before.before.before.before.before.before.before) a.flows.now a.levels.now _ k.levels_of.result k.levels_of.ensures
 
 pub levels_from_settings_spec : {M : Type 1} → statement M
 levels_from_settings_spec =

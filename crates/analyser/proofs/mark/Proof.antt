@@ -36,7 +36,8 @@ mark-requires : tie.Need-mark-requires
 mark-requires c κs =
     let t = c in
     let o = t in
-    markable (sheet o.before.before.before.before.before.before.before) (net o.before.before.before.before.before.before.before) (accepted t.before.before.before.before.before.before)
+    markable (sheet o.before.before.before.before.before.before.before) (net o.before.before.before.before.before.before.before)
+    (accepted t.before.before.before.before.before.before)
 
 returns-2 : tie.Need-returns
 returns-2 c =
@@ -47,7 +48,8 @@ returns-2 c =
     let t = k in
     let o = t in
     let a = (begun o.before.before.before.before.before.before.before.before).args in
-    marked_sheet (sheet o.before.before.before.before.before.before.before.before) (net o.before.before.before.before.before.before.before.before) (accepted t.before.before.before.before.before.before.before) from' to a.flows.now k.mark.result k.mark.ensures
+    marked_sheet (sheet o.before.before.before.before.before.before.before.before) (net o.before.before.before.before.before.before.before.before)
+    (accepted t.before.before.before.before.before.before.before) from' to a.flows.now k.mark.result k.mark.ensures
 
 pub mark_spec : {M : Type 1} → statement M
 mark_spec =

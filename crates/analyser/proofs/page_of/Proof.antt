@@ -39,7 +39,8 @@ returns c =
     let o = c in
     let a = (begun o.before.before).args in
     let first = opens_refused (sheet o.before.before) (net o.before.before) c.if-not-net.true-raw o.open_walked-net.ensures.4 in (
-      refused_so _ (edges_of a.sheet.now) (words_for (nodes_of a.sheet.now)) _ (λ i. solves_alone a.sheet.now (question_at a.list.questions i)) a.flows.now a.sets.now _ _ c.refused_page.result
+      refused_so _ (edges_of a.sheet.now) (words_for (nodes_of a.sheet.now)) _ (λ i. solves_alone a.sheet.now (question_at a.list.questions i)) a.flows.now
+          a.sets.now _ _ c.refused_page.result
           (page_refused (sheet o.before.before) _ _ first a.list.count a.flows.now a.sets.now) c.refused_page.ensures,
       λ e. absurd (not_passed (sym (ap (λ (p : Page). p.verdict) c.refused_page.ensures) ∙ e)),
     )
@@ -69,7 +70,14 @@ answer-list-requires : tie.Need-answer_list-requires
 answer-list-requires c κs =
     let t = c in
     let o = t in
-    opened (sheet o.before.before.before.before.before.before.before.before.before.before.before.before) (net o.before.before.before.before.before.before.before.before.before.before.before.before) (accepted t.before.before.before.before.before.before.before.before.before.before.before) (order o.before.before.before.before.before.before.before.before.before.before.before.before) (from o.before.before.before.before.before.before.before.before.before.before.before.before) (grouped o.before.before.before.before.before.before.before.before.before.before.before.before) (starts o.before.before.before.before.before.before.before.before.before.before.before.before) (walked t.before.before.before.before.before.before.before.before.before.before.before)
+    opened (sheet o.before.before.before.before.before.before.before.before.before.before.before.before)
+    (net o.before.before.before.before.before.before.before.before.before.before.before.before)
+    (accepted t.before.before.before.before.before.before.before.before.before.before.before)
+    (order o.before.before.before.before.before.before.before.before.before.before.before.before)
+    (from o.before.before.before.before.before.before.before.before.before.before.before.before)
+    (grouped o.before.before.before.before.before.before.before.before.before.before.before.before)
+    (starts o.before.before.before.before.before.before.before.before.before.before.before.before)
+    (walked t.before.before.before.before.before.before.before.before.before.before.before)
 
 returns-2 : tie.Need-returns
 returns-2 c =
@@ -78,9 +86,15 @@ returns-2 c =
     let o = t in
     let a = (begun o.before.before.before.before.before.before.before.before.before.before.before.before.before.before.before.before).args in
     let e = k.answer_list.ensures in (
-      page_sheet (sheet o.before.before.before.before.before.before.before.before.before.before.before.before.before.before.before.before) (net o.before.before.before.before.before.before.before.before.before.before.before.before.before.before.before.before) (accepted t.before.before.before.before.before.before.before.before.before.before.before.before.before.before.before) a.list.count (question_at a.list.questions)
+      page_sheet (sheet o.before.before.before.before.before.before.before.before.before.before.before.before.before.before.before.before)
+          (net o.before.before.before.before.before.before.before.before.before.before.before.before.before.before.before.before)
+          (accepted t.before.before.before.before.before.before.before.before.before.before.before.before.before.before.before) a.list.count
+          (question_at a.list.questions)
           a.flows.now _ a.sets.now _ k.answer_list.result e,
-      page_named (sheet o.before.before.before.before.before.before.before.before.before.before.before.before.before.before.before.before) (net o.before.before.before.before.before.before.before.before.before.before.before.before.before.before.before.before) (accepted t.before.before.before.before.before.before.before.before.before.before.before.before.before.before.before) a.list.count (question_at a.list.questions)
+      page_named (sheet o.before.before.before.before.before.before.before.before.before.before.before.before.before.before.before.before)
+          (net o.before.before.before.before.before.before.before.before.before.before.before.before.before.before.before.before)
+          (accepted t.before.before.before.before.before.before.before.before.before.before.before.before.before.before.before) a.list.count
+          (question_at a.list.questions)
           a.flows.now _ a.sets.now _ k.answer_list.result e,
     )
 

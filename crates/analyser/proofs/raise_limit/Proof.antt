@@ -60,8 +60,19 @@ raise-limit-requires : tie.Need-raise_limit-requires
 raise-limit-requires c κs =
     let t = c in
     let o = t in
-    let long = (o.open_walked-net.ensures.5 (is_accepted (net o.before.before.before.before.before.before.before.before.before.before.before.before.before.before.before.before).accepted t.if-not-net.false-raw)).0 in
-    (long, opened_sheet (sheet o.before.before.before.before.before.before.before.before.before.before.before.before.before.before.before.before) (net o.before.before.before.before.before.before.before.before.before.before.before.before.before.before.before.before) (accepted t.before.before.before.before.before.before.before.before.before.before.before.before.before.before.before) (order o.before.before.before.before.before.before.before.before.before.before.before.before.before.before.before.before) (from o.before.before.before.before.before.before.before.before.before.before.before.before.before.before.before.before) (grouped o.before.before.before.before.before.before.before.before.before.before.before.before.before.before.before.before) (starts o.before.before.before.before.before.before.before.before.before.before.before.before.before.before.before.before) (walked t.before.before.before.before.before.before.before.before.before.before.before.before.before.before.before))
+    let long = (o.open_walked-net.ensures.5
+    (is_accepted (net o.before.before.before.before.before.before.before.before.before.before.before.before.before.before.before.before).accepted
+    t.if-not-net.false-raw)).0 in (
+      long,
+      opened_sheet (sheet o.before.before.before.before.before.before.before.before.before.before.before.before.before.before.before.before)
+          (net o.before.before.before.before.before.before.before.before.before.before.before.before.before.before.before.before)
+          (accepted t.before.before.before.before.before.before.before.before.before.before.before.before.before.before.before)
+          (order o.before.before.before.before.before.before.before.before.before.before.before.before.before.before.before.before)
+          (from o.before.before.before.before.before.before.before.before.before.before.before.before.before.before.before.before)
+          (grouped o.before.before.before.before.before.before.before.before.before.before.before.before.before.before.before.before)
+          (starts o.before.before.before.before.before.before.before.before.before.before.before.before.before.before.before.before)
+          (walked t.before.before.before.before.before.before.before.before.before.before.before.before.before.before.before),
+    )
 
 returns-2 : tie.Need-returns
 returns-2 c =
@@ -72,8 +83,10 @@ returns-2 c =
     let along = k.wide-3.ensures in
     let t = k in
     let o = t in
-    let a = (begun o.before.before.before.before.before.before.before.before.before.before.before.before.before.before.before.before.before.before.before.before).args in
-    raise_sheet (sheet o.before.before.before.before.before.before.before.before.before.before.before.before.before.before.before.before.before.before.before.before) (net o.before.before.before.before.before.before.before.before.before.before.before.before.before.before.before.before.before.before.before.before) (accepted t.before.before.before.before.before.before.before.before.before.before.before.before.before.before.before.before.before.before.before) from' to (number_of_bits _ (begun o.before.before.before.before.before.before.before.before.before.before.before.before.before.before.before.before.before.before.before.before).ranges.value) along
+    let middle = o.before.before.before.before.before.before.before.before.before in
+    let passed = middle.before.before.before.before.before.before.before.before.before.before in
+    let a = (begun passed.before).args in
+    raise_sheet (sheet passed.before) (net passed.before) (accepted passed) from' to (number_of_bits _ (begun passed.before).ranges.value) along
     a.flows.now _ a.set.now _ k.raise_limit.result k.raise_limit.ensures
 
 pub raise_limit_spec : {M : Type 1} → statement M

@@ -37,7 +37,8 @@ settings-of-requires : tie.Need-settings_of-requires
 settings-of-requires c κs =
     let t = c in
     let o = t in
-    drawn (sheet o.before.before.before.before.before.before.before) (net o.before.before.before.before.before.before.before) (accepted t.before.before.before.before.before.before)
+    drawn (sheet o.before.before.before.before.before.before.before) (net o.before.before.before.before.before.before.before)
+    (accepted t.before.before.before.before.before.before)
 
 returns-2 : tie.Need-returns
 returns-2 c =
@@ -45,7 +46,9 @@ returns-2 c =
     let t = k in
     let o = t in
     let a = (begun o.before.before.before.before.before.before.before.before.before).args in
-    settings_sheet (sheet o.before.before.before.before.before.before.before.before.before) (net o.before.before.before.before.before.before.before.before.before) (accepted t.before.before.before.before.before.before.before.before) a.levels.now a.flows.now _ k.settings_of.result k.settings_of.ensures
+    settings_sheet (sheet o.before.before.before.before.before.before.before.before.before)
+    (net o.before.before.before.before.before.before.before.before.before) (accepted t.before.before.before.before.before.before.before.before) a.levels.now
+    a.flows.now _ k.settings_of.result k.settings_of.ensures
 
 pub settings_from_levels_spec : {M : Type 1} → statement M
 settings_from_levels_spec =

@@ -60,7 +60,14 @@ solve-requires : tie.Need-solve-requires
 solve-requires c κs =
     let t = c in
     let o = t in
-    opened (sheet o.before.before.before.before.before.before.before.before.before.before.before.before.before.before) (net o.before.before.before.before.before.before.before.before.before.before.before.before.before.before) (accepted t.before.before.before.before.before.before.before.before.before.before.before.before.before) (order o.before.before.before.before.before.before.before.before.before.before.before.before.before.before) (from o.before.before.before.before.before.before.before.before.before.before.before.before.before.before) (grouped o.before.before.before.before.before.before.before.before.before.before.before.before.before.before) (starts o.before.before.before.before.before.before.before.before.before.before.before.before.before.before) (walked t.before.before.before.before.before.before.before.before.before.before.before.before.before)
+    opened (sheet o.before.before.before.before.before.before.before.before.before.before.before.before.before.before)
+    (net o.before.before.before.before.before.before.before.before.before.before.before.before.before.before)
+    (accepted t.before.before.before.before.before.before.before.before.before.before.before.before.before)
+    (order o.before.before.before.before.before.before.before.before.before.before.before.before.before.before)
+    (from o.before.before.before.before.before.before.before.before.before.before.before.before.before.before)
+    (grouped o.before.before.before.before.before.before.before.before.before.before.before.before.before.before)
+    (starts o.before.before.before.before.before.before.before.before.before.before.before.before.before.before)
+    (walked t.before.before.before.before.before.before.before.before.before.before.before.before.before)
 
 returns-2 : tie.Need-returns
 returns-2 c =
@@ -71,9 +78,16 @@ returns-2 c =
     let t = k in
     let o = t in
     let a = (begun o.before.before.before.before.before.before.before.before.before.before.before.before.before.before.before.before.before.before).args in
-    let q = number_of_bits _ (begun o.before.before.before.before.before.before.before.before.before.before.before.before.before.before.before.before.before.before).ranges.value in (
-      solved_sheet (sheet o.before.before.before.before.before.before.before.before.before.before.before.before.before.before.before.before.before.before) (net o.before.before.before.before.before.before.before.before.before.before.before.before.before.before.before.before.before.before) (accepted t.before.before.before.before.before.before.before.before.before.before.before.before.before.before.before.before.before) from' to q a.flows.now _ a.set.now _ k.solve.result k.solve.ensures.0,
-      named_sheet (sheet o.before.before.before.before.before.before.before.before.before.before.before.before.before.before.before.before.before.before) (net o.before.before.before.before.before.before.before.before.before.before.before.before.before.before.before.before.before.before) (accepted t.before.before.before.before.before.before.before.before.before.before.before.before.before.before.before.before.before) from' to q _ k.solve.result k.solve.ensures.1,
+    let q = number_of_bits _
+    (begun o.before.before.before.before.before.before.before.before.before.before.before.before.before.before.before.before.before.before).ranges.value in (
+      solved_sheet (sheet o.before.before.before.before.before.before.before.before.before.before.before.before.before.before.before.before.before.before)
+          (net o.before.before.before.before.before.before.before.before.before.before.before.before.before.before.before.before.before.before)
+          (accepted t.before.before.before.before.before.before.before.before.before.before.before.before.before.before.before.before.before) from' to q
+          a.flows.now _ a.set.now _ k.solve.result k.solve.ensures.0,
+      named_sheet (sheet o.before.before.before.before.before.before.before.before.before.before.before.before.before.before.before.before.before.before)
+          (net o.before.before.before.before.before.before.before.before.before.before.before.before.before.before.before.before.before.before)
+          (accepted t.before.before.before.before.before.before.before.before.before.before.before.before.before.before.before.before.before) from' to q _
+          k.solve.result k.solve.ensures.1,
     )
 
 pub solve_spec : {M : Type 1} → statement M

@@ -37,7 +37,8 @@ totals-of-requires : tie.Need-totals_of-requires
 totals-of-requires c κs =
     let t = c in
     let o = t in
-    roundable (sheet o.before.before.before.before.before.before) (net o.before.before.before.before.before.before) (accepted t.before.before.before.before.before)
+    roundable (sheet o.before.before.before.before.before.before) (net o.before.before.before.before.before.before)
+    (accepted t.before.before.before.before.before)
 
 returns-2 : tie.Need-returns
 returns-2 c =
@@ -45,7 +46,8 @@ returns-2 c =
     let t = k in
     let o = t in
     let a = (begun o.before.before.before.before.before.before.before.before).args in
-    totals_sheet (sheet o.before.before.before.before.before.before.before.before) (net o.before.before.before.before.before.before.before.before) (accepted t.before.before.before.before.before.before.before) a.set.now a.subtotals.now _ k.totals_of.result k.totals_of.ensures
+    totals_sheet (sheet o.before.before.before.before.before.before.before.before) (net o.before.before.before.before.before.before.before.before)
+    (accepted t.before.before.before.before.before.before.before) a.set.now a.subtotals.now _ k.totals_of.result k.totals_of.ensures
 
 pub totals_spec : {M : Type 1} → statement M
 totals_spec =

@@ -37,7 +37,8 @@ write-requires : tie.Need-write-requires
 write-requires c κs =
     let t = c in
     let o = t in
-    counts_small (sheet o.before.before.before.before.before.before) (net o.before.before.before.before.before.before) (accepted t.before.before.before.before.before)
+    counts_small (sheet o.before.before.before.before.before.before) (net o.before.before.before.before.before.before)
+    (accepted t.before.before.before.before.before)
 
 returns-2 : tie.Need-returns
 returns-2 c =
@@ -45,7 +46,8 @@ returns-2 c =
     let t = k in
     let o = t in
     let a = (begun o.before.before.before.before.before.before.before.before.before).args in
-    dimacs_sheet (sheet o.before.before.before.before.before.before.before.before.before) (net o.before.before.before.before.before.before.before.before.before) (accepted t.before.before.before.before.before.before.before.before) a.source a.sink a.out.now _ k.write.result k.write.ensures
+    dimacs_sheet (sheet o.before.before.before.before.before.before.before.before.before) (net o.before.before.before.before.before.before.before.before.before)
+    (accepted t.before.before.before.before.before.before.before.before) a.source a.sink a.out.now _ k.write.result k.write.ensures
 
 pub write_dimacs_spec : {M : Type 1} → statement M
 write_dimacs_spec =

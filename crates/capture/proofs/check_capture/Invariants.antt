@@ -1,4 +1,5 @@
--- The reader holds the capture that was passed, and its place is no farther than the end; the records before it have passed, or one of them is refused (`Stands`).
+-- The reader holds the capture that was passed, and its place is no farther than the end; the records before it have passed, or one of them is refused
+-- (`Stands`).
 -- Measure: the bytes left.
 use Rattle.std.proofs.Common.{◌≡◌, ◌-◌, ◌≤◌, length}
 use Rattle.capture.specs.inner.Taken.{Stands}

@@ -72,7 +72,8 @@ returns-3 c =
     let b = t in
     let i = in-range b.before.before.before.before in (
       t.take_window.ensures.0,
-      limits_judged _ _ _ _ _ _ (ranged i) (whole b.before.before.before.before) b.window_start-first.result _ b.window_start-first.ensures refl t.take_window.ensures.1
+      limits_judged _ _ _ _ _ _ (ranged i) (whole b.before.before.before.before) b.window_start-first.result _ b.window_start-first.ensures refl
+          t.take_window.ensures.1
           c.check_found.result c.check_found.ensures,
     )
 

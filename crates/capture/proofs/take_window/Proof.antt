@@ -62,7 +62,12 @@ channel e = let k = e in full_channel _ _ _ _ _ (found k.before ∙ e.in-Full.is
 few : (e : tie.In-Full invariant-loop decreases-loop) → e.in-Full.edge < 512
 few e =
     let k = e in
-    omega (arith, channel e, passed_channel (begin k.before).args.edges (begin k.before).args.capture.now (number k.before) (passed k.before), (turn k.before).loop-i.invariant.1)
+    omega (
+      arith,
+      channel e,
+      passed_channel (begin k.before).args.edges (begin k.before).args.capture.now (number k.before) (passed k.before),
+      (turn k.before).loop-i.invariant.1,
+    )
 
 -- ── the needs, in the order of the code ──
 loop-holds : tie.Need-loop-i-init invariant-loop decreases-loop
@@ -94,7 +99,8 @@ loop-again c =
       i.invariant.1,
       i.invariant.2,
       i.invariant.3,
-      taken_step _ _ _ i.invariant.4 w.wide.result _ (w.wide.ensures ∙ channel e.before.before.before.before) (omega (arith, w.wide.ensures, few e.before.before.before.before))
+      taken_step _ _ _ i.invariant.4 w.wide.result _ (w.wide.ensures ∙ channel e.before.before.before.before)
+          (omega (arith, w.wide.ensures, few e.before.before.before.before))
           (number_of_bits _ (record { sfits = search rules }) ∙ full_limit _ _ _ _ _ (found k.before.before.before.before.before ∙ e.in-Full.is))
           c.take_limit.ensures.0 c.take_limit.ensures.1,
     )

@@ -46,8 +46,10 @@ returns-2 c =
     let l = o in
     let s = l in
     number_of_bits _ (record { sfits = c.result-1.given })
-    ∙ share_first s.args.e (at s.args.tails.now) (atℤ s.args.lengths.now) (flagged s.args.inside.now) _ _ (tail_is l.before.before.before) (head_is l.before.before.before)
-    (first_marked (mark_of l.before.before.before (tail_at l.before.before.before)) (mark_of l.before.before.before (head_at l.before.before.before)) o.if-at_tail-at_head.false c.if-at_tail-eq1.true)
+    ∙ share_first s.args.e (at s.args.tails.now) (atℤ s.args.lengths.now) (flagged s.args.inside.now) _ _ (tail_is l.before.before.before)
+    (head_is l.before.before.before)
+    (first_marked (mark_of l.before.before.before (tail_at l.before.before.before)) (mark_of l.before.before.before (head_at l.before.before.before))
+    o.if-at_tail-at_head.false c.if-at_tail-eq1.true)
 
 returns-3 : tie.Need-returns-then-at_head-eq1
 returns-3 c =
@@ -55,16 +57,20 @@ returns-3 c =
     let l = o in
     let s = l in
     number_of_bits _ (record { sfits = c.result-then-at_head-eq1-1.given })
-    ∙ share_second s.args.e (at s.args.tails.now) (atℤ s.args.lengths.now) (flagged s.args.inside.now) _ _ (tail_is l.before.before.before.before) (head_is l.before.before.before.before)
-    (second_marked (mark_of l.before.before.before.before (tail_at l.before.before.before.before)) (mark_of l.before.before.before.before (head_at l.before.before.before.before)) o.if-at_tail-eq1.false c.if-at_head-eq1.true)
+    ∙ share_second s.args.e (at s.args.tails.now) (atℤ s.args.lengths.now) (flagged s.args.inside.now) _ _ (tail_is l.before.before.before.before)
+    (head_is l.before.before.before.before)
+    (second_marked (mark_of l.before.before.before.before (tail_at l.before.before.before.before))
+    (mark_of l.before.before.before.before (head_at l.before.before.before.before)) o.if-at_tail-eq1.false c.if-at_head-eq1.true)
 
 returns-4 : tie.Need-returns
 returns-4 c =
     let o = c in
     let l = o in
     let s = l in
-    let n = none_marked (mark_of l.before.before.before (tail_at l.before.before.before)) (mark_of l.before.before.before (head_at l.before.before.before)) o.if-at_tail-eq1.false c.if-at_head-eq1.false in
-    share_none s.args.e (at s.args.tails.now) (atℤ s.args.lengths.now) (flagged s.args.inside.now) _ _ (tail_is l.before.before.before) (head_is l.before.before.before) n.0 n.1
+    let n = none_marked (mark_of l.before.before.before (tail_at l.before.before.before)) (mark_of l.before.before.before (head_at l.before.before.before))
+    o.if-at_tail-eq1.false c.if-at_head-eq1.false in
+    share_none s.args.e (at s.args.tails.now) (atℤ s.args.lengths.now) (flagged s.args.inside.now) _ _ (tail_is l.before.before.before)
+    (head_is l.before.before.before) n.0 n.1
 
 pub edge_share_spec : {M : Type 1} → statement M
 edge_share_spec =

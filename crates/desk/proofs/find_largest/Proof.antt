@@ -35,17 +35,20 @@ returns c =
     let s = start l.before.before.before in
     subst (λ v. IsLargest s.args.sheet.now s.args.source s.args.sink (Value v))
     (sym (number_of_bits _ (record { sfits = search rules })))
-    (value_largest _ _ _ s.requires _ (flows' l.before.before.before) (set' l.before.before.before) (found l.before.before.before (largest.Value _) c.in-Value.is))
+    (value_largest _ _ _ s.requires _ (flows' l.before.before.before) (set' l.before.before.before)
+    (found l.before.before.before (largest.Value _) c.in-Value.is))
 
 returns-2 : tie.Need-returns-in-None
 returns-2 c =
     let l = c in
-    none_largest _ _ _ (start l.before.before.before).requires (flows' l.before.before.before) (set' l.before.before.before) (found l.before.before.before largest.None c.in-None.is)
+    none_largest _ _ _ (start l.before.before.before).requires (flows' l.before.before.before) (set' l.before.before.before)
+    (found l.before.before.before largest.None c.in-None.is)
 
 returns-3 : tie.Need-returns-in-Refused
 returns-3 c =
     let l = c in
-    absurd (never_refused _ _ _ (start l.before.before.before).requires _ _ (flows' l.before.before.before) (set' l.before.before.before) (found l.before.before.before (largest.Refused _ _) c.in-Refused.is))
+    absurd (never_refused _ _ _ (start l.before.before.before).requires _ _ (flows' l.before.before.before) (set' l.before.before.before)
+    (found l.before.before.before (largest.Refused _ _) c.in-Refused.is))
 
 pub find_largest_spec : {M : Type 1} → statement M
 find_largest_spec =

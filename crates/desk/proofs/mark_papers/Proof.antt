@@ -49,7 +49,8 @@ settings_small c = small_end _ _ _ c.loop-q-test.true (begun c).requires.3 (edge
 sets-small : (c : tie.In-loop-q invariant-loop decreases-loop) → c.loop-q.q * words-at c + words-at c ≤ 512000
 sets-small c = small_end _ _ _ c.loop-q-test.true (begun c).requires.3 (omega (arith, c.loop-q.invariant.3))
 
-settings-room : (c : tie.In-loop-q invariant-loop decreases-loop) → c.loop-q.q * (begun c).args.edges + (begun c).args.edges ≤ length (begun c).args.settings.now
+settings-room : (c : tie.In-loop-q invariant-loop decreases-loop) → c.loop-q.q * (begun c).args.edges + (begun c).args.edges ≤ length
+    (begun c).args.settings.now
 settings-room c =
     omega (arith, ends_before (begun c).args.edges c.loop-q.q (length (begun c).args.claims.now) c.loop-q-test.true, (begun c).requires.5)
 
@@ -93,7 +94,8 @@ paper-points-requires c κs =
     let w = words-at t.before.before.before.before.before in
     let q = t.loop-q.q in (
       s.requires.0,
-      part_long q e (q * e + e - q * e) s.args.settings.now (edges_of s.args.sheet.now) s.requires.2 (omega arith) (settings-room t.before.before.before.before.before),
+      part_long q e (q * e + e - q * e) s.args.settings.now (edges_of s.args.sheet.now) s.requires.2 (omega arith)
+          (settings-room t.before.before.before.before.before),
       part_long q w (q * w + w - q * w) s.args.sets.now (words_for (nodes_of s.args.sheet.now))
           (t.loop-q.invariant.2 ∙ ap words_for s.requires.1) (omega arith) (sets_room t.before.before.before.before.before),
     )

@@ -26,7 +26,8 @@ room s = omega (arith, s.requires, arc_length s.args.tail s.args.head s.args.cap
 abbrev start : tie.After-put_bytes-first → tie.Start
 start c = c.before.before.before.before.before
 
-word_room : (c : tie.After-put_bytes-first) → c.put_bytes-first.result + (long ((start c).args.tail + 1) + 1 + headRoom (start c)) ≤ length c.put_bytes-first.new.text
+word_room : (c : tie.After-put_bytes-first) → c.put_bytes-first.result + (long ((start c).args.tail + 1) + 1 + headRoom (start c)) ≤ length
+    c.put_bytes-first.new.text
 word_room c = placed_room 2 _ _ _ _ _ _ c.put_bytes-first.ensures (omega arith) (room (start c))
 
 -- ── the tail ──
@@ -37,7 +38,8 @@ abbrev begun : tie.After-put_field-second → tie.Start
 begun c = start (word c)
 
 tail-placed : (c : tie.After-put_field-second)
-    → Placed (word c).put_bytes-first.result (ended ((begun c).args.tail + 1) 32) (word c).put_bytes-first.new.text c.put_field-second.new.text c.put_field-second.result
+    → Placed (word c).put_bytes-first.result (ended ((begun c).args.tail + 1) 32) (word c).put_bytes-first.new.text c.put_field-second.new.text
+    c.put_field-second.result
 tail-placed c = placed_as (λ k. ended k 32) _ _ _ _ c.node_number.ensures c.put_field-second.ensures
 
 tail-room : (c : tie.After-put_field-second) → c.put_field-second.result + headRoom (begun c) ≤ length c.put_field-second.new.text
@@ -53,7 +55,8 @@ abbrev base : tie.After-put_field-third → tie.Start
 base c = begun (tailed c)
 
 head_placed : (c : tie.After-put_field-third)
-    → Placed (tailed c).put_field-second.result (ended ((base c).args.head + 1) 32) (tailed c).put_field-second.new.text c.put_field-third.new.text c.put_field-third.result
+    → Placed (tailed c).put_field-second.result (ended ((base c).args.head + 1) 32) (tailed c).put_field-second.new.text c.put_field-third.new.text
+    c.put_field-third.result
 head_placed c = placed_as (λ k. ended k 32) _ _ _ _ c.node_number-2.ensures c.put_field-third.ensures
 
 head-room : (c : tie.After-put_field-third) → c.put_field-third.result + lastRoom (base c) ≤ length c.put_field-third.new.text

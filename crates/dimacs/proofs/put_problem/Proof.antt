@@ -27,7 +27,8 @@ abbrev word : tie.After-put_field-second → tie.After-put_bytes-first
 word c = c.before.before.before.before.before.before.before
 
 nodes-placed : (c : tie.After-put_field-second)
-    → Placed (word c).put_bytes-first.result (ended (start (word c)).args.nodes 32) (word c).put_bytes-first.new.text c.put_field-second.new.text c.put_field-second.result
+    → Placed (word c).put_bytes-first.result (ended (start (word c)).args.nodes 32) (word c).put_bytes-first.new.text c.put_field-second.new.text
+    c.put_field-second.result
 nodes-placed c = placed_as (λ k. ended k 32) _ _ _ _ c.count.ensures c.put_field-second.ensures
 
 nodes-room : (c : tie.After-put_field-second) → c.put_field-second.result + (long (start (word c)).args.arcs + 1) ≤ length c.put_field-second.new.text
@@ -53,7 +54,8 @@ returns c =
     let f = last in
     let s = start (word f.before.before.before.before.before.before.before.before.before) in
     placed_as (λ r. r) _ _ _ _ (problem_joined s.args.nodes s.args.arcs)
-    (three_placed _ _ _ _ _ _ _ _ _ _ _ (word f.before.before.before.before.before.before.before.before.before).put_bytes-first.ensures (nodes-placed f.before.before.before.before.before.before.before.before.before)
+    (three_placed _ _ _ _ _ _ _ _ _ _ _ (word f.before.before.before.before.before.before.before.before.before).put_bytes-first.ensures
+    (nodes-placed f.before.before.before.before.before.before.before.before.before)
     (placed_as (λ k. ended k 10) _ _ _ _ last.count-2.ensures last.put_field.ensures)
     (omega (arith, room s, ended_length s.args.nodes 32, ended_length s.args.arcs 10)))
 

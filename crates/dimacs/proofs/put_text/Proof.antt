@@ -49,7 +49,8 @@ abbrev posed : tie.After-put_node-second → tie.After-put_problem-first
 posed c = c.before.before.before.before.before.before
 
 source-placed : (c : tie.After-put_node-second)
-    → Placed (posed c).put_problem-first.result (source (start (posed c))) (posed c).put_problem-first.new.text c.put_node-second.new.text c.put_node-second.result
+    → Placed (posed c).put_problem-first.result (source (start (posed c))) (posed c).put_problem-first.new.text c.put_node-second.new.text
+    c.put_node-second.result
 unfolding node_line
 source-placed c = c.put_node-second.ensures
 
@@ -97,7 +98,8 @@ returns c =
     let last = c in
     let n = last in
     let s = begun n.before.before.before.before.before.before in
-    four_placed _ _ _ _ _ _ _ _ _ _ _ _ _ _ (posed (sourced n.before.before.before.before.before.before)).put_problem-first.ensures (source-placed (sourced n.before.before.before.before.before.before)) (sink-placed n.before.before.before.before.before.before)
+    four_placed _ _ _ _ _ _ _ _ _ _ _ _ _ _ (posed (sourced n.before.before.before.before.before.before)).put_problem-first.ensures
+    (source-placed (sourced n.before.before.before.before.before.before)) (sink-placed n.before.before.before.before.before.before)
     last.put_arcs.ensures (omega (arith, room s))
 
 pub put_text_spec : {M : Type 1} → statement M

@@ -102,7 +102,8 @@ returns-4 c =
     let n = e in
     let t = n in
     let s = base t.before.before.before.before.before.before.before.before in (
-      text_none (drawing s) s.args.source s.args.sink s.args.out.now (two t.before.before.before.before.before.before.before.before) (none n.before.before.before.before.before.before) (enough e.before.before.before.before),
+      text_none (drawing s) s.args.source s.args.sink s.args.out.now (two t.before.before.before.before.before.before.before.before)
+          (none n.before.before.before.before.before.before) (enough e.before.before.before.before),
       omega (arith, p.put_text.ensures.1),
       text-back e.text_length-length.result s.args.out.now _ _ _ e.text_length-length.ensures p.put_text.ensures,
     )

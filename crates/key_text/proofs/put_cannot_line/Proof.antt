@@ -32,7 +32,8 @@ abbrev said : tie.After-put_number-second → tie.After-put_bytes-first
 said c = c.before.before.before.before
 
 valued : (c : tie.After-put_number-second)
-    → Placed (said c).put_bytes-first.result (number (begin (said c)).args.value) (said c).put_bytes-first.new.text c.put_number-second.new.text c.put_number-second.result
+    → Placed (said c).put_bytes-first.result (number (begin (said c)).args.value) (said c).put_bytes-first.new.text c.put_number-second.new.text
+    c.put_number-second.result
 valued c = placed_as number _ _ _ _ (number_of_bits _ (begin (said c)).ranges.value) c.put_number-second.ensures
 
 value_room : (c : tie.After-put_number-second) → c.put_number-second.result + 7 ≤ length c.put_number-second.new.text

@@ -47,7 +47,8 @@ abbrev begun : tie.After-put_number-end → tie.Start
 begun c = begin (named (parted c))
 
 flow : (c : tie.After-put_number-end)
-    → Placed (parted c).put_bytes-second.result (number (begun c).args.flow) (parted c).put_bytes-second.new.text c.put_number-end.new.text c.put_number-end.result
+    → Placed (parted c).put_bytes-second.result (number (begun c).args.flow) (parted c).put_bytes-second.new.text c.put_number-end.new.text
+    c.put_number-end.result
 flow c = placed_as number _ _ _ _ (number_of_bits _ (begun c).ranges.flow) c.put_number-end.ensures
 
 seven-digits : (c : tie.Start) → length (number c.args.flow) ≤ 8

@@ -86,7 +86,8 @@ loop-again c =
     let e = o.loop-e.e in
     let l = t.loop-e-test.true in (
       omega arith,
-      lines_more _ _ _ e (line_at o.before) _ _ _ o.loop-e.invariant.1 (written w.before.before) (omega (arith, so_far o.before, short-line o.before e l, (started o.before).requires.0, l)),
+      lines_more _ _ _ e (line_at o.before) _ _ _ o.loop-e.invariant.1 (written w.before.before)
+          (omega (arith, so_far o.before, short-line o.before e l, (started o.before).requires.0, l)),
     )
 
 same_length : tie.Need-shape_of-text invariant-loop decreases-loop

@@ -69,7 +69,8 @@ returns-2 c =
     let source = sink in
     let t = source in
     let b = (begin (asked t.before.before.before.before.before.before.before.before.before)).args.input.now in
-    p.put_answer.ensures b (passed t.before.before.before.before.before.before.before.before.before) (rest b _ r.record_length-after.ensures.0) (sym source.read_u16-source.ensures) (sym sink.read_u16-sink.ensures)
+    p.put_answer.ensures b (passed t.before.before.before.before.before.before.before.before.before) (rest b _ r.record_length-after.ensures.0)
+    (sym source.read_u16-source.ensures) (sym sink.read_u16-sink.ensures)
     (sym (number_of_bits _ (record { sfits = value.read_i32-value.type_inv }) ∙ value.read_i32-value.ensures))
 
 pub put_key_spec : {M : Type 1} → statement M

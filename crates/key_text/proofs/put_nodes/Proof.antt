@@ -68,4 +68,5 @@ returns c =
     placed_as (λ k. lines k (node_line set)) _ _ _ _ (le_antisymm o.loop-v.invariant.0 c.loop-v-test.false) o.loop-v.invariant.1
 
 pub put_nodes_spec : {M : Type 1} → statement M
-put_nodes_spec = tie.close (tie.spec invariant-loop decreases-loop loop-holds put-node-requires (λ c. search rules) (λ c. search rules) loop-again same_length returns)
+put_nodes_spec = tie.close
+    (tie.spec invariant-loop decreases-loop loop-holds put-node-requires (λ c. search rules) (λ c. search rules) loop-again same_length returns)

@@ -51,10 +51,12 @@ loop-again c =
 loop2-holds : tie.Need-loop-m-init invariant-loop decreases-loop invariant-loop2 decreases-loop2
 loop2-holds c = (omega arith, λ k l. absurd (omega arith))
 
-abbrev begun : tie.At-loop-m invariant-loop decreases-loop invariant-loop2 decreases-loop2 → tie.Start invariant-loop decreases-loop invariant-loop2 decreases-loop2
+abbrev begun : tie.At-loop-m invariant-loop decreases-loop invariant-loop2 decreases-loop2 → tie.Start invariant-loop decreases-loop invariant-loop2
+    decreases-loop2
 begun c = c.before.before.before
 
-all-inside : (c : tie.At-loop-m invariant-loop decreases-loop invariant-loop2 decreases-loop2) → (k : ℕ) → k < (begun c).args.faces → LevelOutside (atℤ (begun c).args.levels.now k) → ⊥
+all-inside : (c : tie.At-loop-m invariant-loop decreases-loop invariant-loop2 decreases-loop2) → (k : ℕ) → k < (begun c).args.faces → LevelOutside
+    (atℤ (begun c).args.levels.now k) → ⊥
 all-inside c k l = c.loop-f.invariant.1 k (omega (arith, c.loop-f-test.false))
 
 mul_wide : tie.Need-offset_bounds-roots-m invariant-loop decreases-loop invariant-loop2 decreases-loop2
@@ -63,10 +65,12 @@ mul_wide c = omega (arith, (begun c.before).requires.0, c.loop-m-test.true)
 element-copy-out-wide : tie.Need-bounds-roots-m invariant-loop decreases-loop invariant-loop2 decreases-loop2
 element-copy-out-wide c = omega (arith, (begun c.before.before).requires.0, c.loop-m-test.true)
 
-abbrev turn : tie.After-wide-z invariant-loop decreases-loop invariant-loop2 decreases-loop2 → tie.In-loop-m invariant-loop decreases-loop invariant-loop2 decreases-loop2
+abbrev turn : tie.After-wide-z invariant-loop decreases-loop invariant-loop2 decreases-loop2 → tie.In-loop-m invariant-loop decreases-loop invariant-loop2
+    decreases-loop2
 turn c = c.before.before.before
 
-root_in : (c : tie.After-wide-z invariant-loop decreases-loop invariant-loop2 decreases-loop2) → c.wide-z.result < length (begun (turn c).before).args.levels.now
+root_in : (c : tie.After-wide-z invariant-loop decreases-loop invariant-loop2 decreases-loop2) → c.wide-z.result < length
+    (begun (turn c).before).args.levels.now
 root_in c =
     let t = turn c in
     let p = (begun t.before).requires in

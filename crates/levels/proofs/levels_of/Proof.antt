@@ -101,8 +101,11 @@ returns c = let s = c in (balanced_short (drawing s.before) (flows_of s.before) 
 
 returns-2 : tie.Need-returns-then-levels-faces
 returns-2 c =
-    let s = c in
-    (balanced_short (drawing s.before.before) (flows_of s.before.before) (levelsOf s.before.before) (inr (omega (arith, c.if-levels-faces.true, s.requires.0.counted))), refl)
+    let s = c in (
+      balanced_short (drawing s.before.before) (flows_of s.before.before) (levelsOf s.before.before)
+          (inr (omega (arith, c.if-levels-faces.true, s.requires.0.counted))),
+      refl,
+    )
 
 check-within-requires : tie.Need-check_within-within-requires
 check-within-requires c κs = let r = c in ((given r.before).requires.0.few_edges, omega (arith, lent-edges r.before))

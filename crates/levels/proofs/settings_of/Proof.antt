@@ -106,8 +106,11 @@ returns c = let s = c in (leveled_short (drawing s.before) (levelsOf s.before) (
 
 returns-2 : tie.Need-returns-then-levels-faces
 returns-2 c =
-    let s = c in
-    (leveled_short (drawing s.before.before) (levelsOf s.before.before) (flows_of s.before.before) (inr (omega (arith, c.if-levels-faces.true, s.requires.counted))), refl)
+    let s = c in (
+      leveled_short (drawing s.before.before) (levelsOf s.before.before) (flows_of s.before.before)
+          (inr (omega (arith, c.if-levels-faces.true, s.requires.counted))),
+      refl,
+    )
 
 mul-roots-of : tie.Need-overflow_mul-edges
 mul-roots-of c = omega (arith, (given c).requires.few_edges)
@@ -124,8 +127,12 @@ check-levels-requires : tie.Need-check_levels-judged-requires
 check-levels-requires c κs =
     let w = c in
     let r = w in
-    let e = w.roots_of-count.ensures.1 in
-    (few_roots (given r.before.before.before.before).requires e, roots_in (given r.before.before.before.before).requires e, lent-faces r.before.before.before.before)
+    let e = w.roots_of-count.ensures.1 in (
+      few_roots (given r.before.before.before.before).requires e,
+      roots_in (given r.before.before.before.before).requires e,
+      lent-faces
+          r.before.before.before.before,
+    )
 
 returns-3 : tie.Need-returns-in-Refused
 returns-3 c =
@@ -166,7 +173,8 @@ returns-5 c =
     let t = limited d.before.before.before.before in
     let r = levelled t in
     let s = given r in (
-      leveled_none (drawing s) (levelsOf s) (flows_of s) (room-edges r) (room-faces r) (inside t) (kept d.before.before.before.before Passed m.in_default-within.is),
+      leveled_none (drawing s) (levelsOf s) (flows_of s) (room-edges r) (room-faces r) (inside t)
+          (kept d.before.before.before.before Passed m.in_default-within.is),
       differences_filled s.requires (atℤ (lentLevels s)) (atℤ (levelsOf s)) (same_face s) (flows_of s) _
           (part_filled s.args.edges (flows_of s) _ _ c.fill_differences.ensures),
     )

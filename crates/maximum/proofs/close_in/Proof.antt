@@ -85,7 +85,8 @@ at_bits : (c : tie.At-loop-terminals invariant-loop decreases-loop)
     → Bracket (𝓜 (start c)) (start c).args.sizes.outer (caps (start c)) (start c).args.begun.terminals.source (start c).args.begun.terminals.sink
     (entered c) c.loop-terminals.flows c.loop-terminals.a c.loop-terminals.b (lo c) (hi c) c.loop-terminals.bounds.found
 at_bits c =
-    bits_bracket (start c).args.sizes.outer (ground (start c)) (entered c) c.loop-terminals.flows c.loop-terminals.a c.loop-terminals.b _ _ c.loop-terminals.bounds.found
+    bits_bracket (start c).args.sizes.outer (ground (start c)) (entered c) c.loop-terminals.flows c.loop-terminals.a c.loop-terminals.b _ _
+    c.loop-terminals.bounds.found
     c.loop-terminals.invariant.bracket
 
 as_long : (c : tie.At-loop-terminals invariant-loop decreases-loop) → length c.loop-terminals.flows ≡ length (entered c)
@@ -101,8 +102,14 @@ mul-join c = omega (arith, (ground (start (looping c.before.before))).few_edges)
 join-requires : tie.Need-join-requires invariant-loop decreases-loop
 join-requires c κs =
     let l = looping c.before.before.before.before in
-    let b = start l in
-    (l.loop-terminals.invariant.size_a, l.loop-terminals.invariant.size_b, omega (arith, (ground b).few_edges), omega arith, tails_few (ground b), capacities_few (ground b))
+    let b = start l in (
+      l.loop-terminals.invariant.size_a,
+      l.loop-terminals.invariant.size_b,
+      omega (arith, (ground b).few_edges),
+      omega arith,
+      tails_few (ground b),
+      capacities_few (ground b),
+    )
 
 same_length : tie.Need-shape_of-flows-then-is_less invariant-loop decreases-loop
 same_length c = as_long (looping c.before.before.before.before.before)
@@ -114,7 +121,8 @@ returns c =
     let b = start l in (
       l.loop-terminals.invariant.size_parents,
       c.join.ensures.0,
-      passed b.args.sizes.outer (ground b) (entered l) l.loop-terminals.flows l.loop-terminals.a l.loop-terminals.b (lo l) (hi l) l.loop-terminals.bounds.found (at_bits l)
+      passed b.args.sizes.outer (ground b) (entered l) l.loop-terminals.flows l.loop-terminals.a l.loop-terminals.b (lo l) (hi l) l.loop-terminals.bounds.found
+          (at_bits l)
           (lt_of_test _ _ (sym t.is_less.ensures ∙ t.if-is_less.true)) c.join.new.a c.join.ensures.1,
     )
 
@@ -132,7 +140,8 @@ returns-2 c =
     let r = c.finished.ensures.0 c.if-finished.true in (
       l.loop-terminals.invariant.size_parents,
       l.loop-terminals.invariant.size_a,
-      met b.args.sizes.outer (ground b) (entered l) l.loop-terminals.flows l.loop-terminals.a l.loop-terminals.b (lo l) (hi l) l.loop-terminals.bounds.found (at_bits l)
+      met b.args.sizes.outer (ground b) (entered l) l.loop-terminals.flows l.loop-terminals.a l.loop-terminals.b (lo l) (hi l) l.loop-terminals.bounds.found
+          (at_bits l)
           r.0 r.1,
     )
 

@@ -108,8 +108,12 @@ closer-of-bits c {low'} {high'} {found'} h =
 -- ── the value probed ──
 next-value-requires : tie.Need-next_value-value-requires
 next-value-requires c κs =
-    let s = c in
-    (in_order s.before.before.before.before, limited_more (omega arith) (bits-limited (omega arith) (lo_small s.before.before.before.before)), limited_more (omega arith) (bits-limited (omega arith) (hi_small s.before.before.before.before)))
+    let s = c in (
+      in_order s.before.before.before.before,
+      limited_more (omega arith) (bits-limited (omega arith) (lo_small s.before.before.before.before)),
+      limited_more
+          (omega arith) (bits-limited (omega arith) (hi_small s.before.before.before.before)),
+    )
 
 abbrev given : tie.After-next_value-value → tie.Start
 given c = c.before.before.before.before.before
@@ -291,7 +295,8 @@ returns-2 c =
       m.narrow_by-n.ensures.1,
       λ e. closer-of-bits b
           (bits_closer o g w.0 x (a' m.before.before) (b' m.before.before) _ _ f (moved m.before.before w.0 w.1.bracket e)
-          (narrowed_closer o g (lo b) (hi b) (value n) f (at_least n) (at_most n) (inside' k) d.1 b.args.a.now (a' m.before.before) b.args.b.now (b' m.before.before)
+          (narrowed_closer o g (lo b) (hi b) (value n) f (at_least n) (at_most n) (inside' k) d.1 b.args.a.now (a' m.before.before) b.args.b.now
+          (b' m.before.before)
           m.narrow_by-n.result r.0 r.1 r.2 e)),
       λ before h. (
         λ e. nothing_here (𝓜 b) o (caps b) (src b) (snk b) before x (flows' k) (a' m.before.before) d.0

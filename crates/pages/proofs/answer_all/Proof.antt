@@ -102,7 +102,8 @@ loop-again c =
       refl,
       l.invariant.2,
       halfway_turn e w _ _ _ l.i l.flows l.sets l.answers l.invariant.3
-          (flows_room t.before.before.before.before.before.before.before) (sets_room t.before.before.before.before.before.before.before) (omega (arith, t.loop-i-test.true, (begun t.before.before.before.before.before.before.before).requires.1.few))
+          (flows_room t.before.before.before.before.before.before.before) (sets_room t.before.before.before.before.before.before.before)
+          (omega (arith, t.loop-i-test.true, (begun t.before.before.before.before.before.before.before).requires.1.few))
           (l.i * e + e - l.i * e) (l.i * w + w - l.i * w) (omega arith) (omega arith)
           k.ask-answer.new.flows k.ask-answer.new.set k.ask-answer.result
           c.flows-1.given.0 c.sets-1.given.0 k.ask-answer.ensures,

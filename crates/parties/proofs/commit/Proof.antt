@@ -50,13 +50,17 @@ returns-2 c =
 
 returns-3 : tie.Need-returns-then-stands-eq2
 returns-3 c =
-    let t = c in
-    (stale_offer (session (start t.before.before)) (start t.before.before).args.party (known t.before.before) (λ e. c.if-stands-eq3.false (stood t.before.before ∙ e)) (sym (stood t.before.before) ∙ c.if-stands-eq2.true), refl)
+    let t = c in (
+      stale_offer (session (start t.before.before)) (start t.before.before).args.party (known t.before.before)
+          (λ e. c.if-stands-eq3.false (stood t.before.before ∙ e)) (sym (stood t.before.before) ∙ c.if-stands-eq2.true),
+      refl,
+    )
 
 returns-4 : tie.Need-returns-then-stands-ne1
 returns-4 c =
     let t = c in (
-      no_offer (session (start t.before.before.before)) (start t.before.before.before).args.party (known t.before.before.before) (λ e. c.if-stands-eq3.false (stood t.before.before.before ∙ e))
+      no_offer (session (start t.before.before.before)) (start t.before.before.before).args.party (known t.before.before.before)
+          (λ e. c.if-stands-eq3.false (stood t.before.before.before ∙ e))
           (λ e. c.if-stands-eq2.false (stood t.before.before.before ∙ e)) (λ e. c.if-stands-ne1.true (stood t.before.before.before ∙ e)),
       refl,
     )

@@ -13,4 +13,5 @@ decreases-loop inside₀ v₀ inside v = 1024 - v
 pub flag_none_spec : {M : Type 1} → statement M
 flag_none_spec =
     tie.close
-    (tie.spec invariant-loop decreases-loop (λ c. search rules) (λ c. search rules) (λ c. search rules) (λ c. search rules) (λ c. search rules) (λ c. search rules))
+    (tie.spec invariant-loop decreases-loop (λ c. search rules) (λ c. search rules) (λ c. search rules) (λ c. search rules) (λ c. search rules)
+    (λ c. search rules))

@@ -32,20 +32,24 @@ returns c = let s = c in
 returns-2 : tie.Need-returns-then-has_side-2
 returns-2 c = let b = c in
     let s = b in
-    two_turns s.args.s s.requires.2 ∙ sym (next_second (has s.before.before.before.before) (side s.args.s) (first b.before.before.before ∙ b.if-has_side.false) (second c.before ∙ c.if-has_side-2.true))
+    two_turns s.args.s s.requires.2 ∙ sym
+    (next_second (has s.before.before.before.before) (side s.args.s) (first b.before.before.before ∙ b.if-has_side.false)
+    (second c.before ∙ c.if-has_side-2.true))
 
 returns-3 : tie.Need-returns-then-has_side-3
 returns-3 c = let b = c in
     let a = b in
     let s = a in
     three_turns s.args.s s.requires.2
-    ∙ sym (next_third (has s.before.before.before.before.before.before) (side s.args.s) (first a.before.before.before.before.before ∙ a.if-has_side.false) (second b.before.before.before ∙ b.if-has_side-2.false) (third c.before ∙ c.if-has_side-3.true))
+    ∙ sym (next_third (has s.before.before.before.before.before.before) (side s.args.s) (first a.before.before.before.before.before ∙ a.if-has_side.false)
+    (second b.before.before.before ∙ b.if-has_side-2.false) (third c.before ∙ c.if-has_side-3.true))
 
 returns-4 : tie.Need-returns
 returns-4 c = let b = c in
     let a = b in
     let s = a in
-    sym (next_none (has s.before.before.before.before.before.before) (side s.args.s) (first a.before.before.before.before.before ∙ a.if-has_side.false) (second b.before.before.before ∙ b.if-has_side-2.false) (third c.before ∙ c.if-has_side-3.false))
+    sym (next_none (has s.before.before.before.before.before.before) (side s.args.s) (first a.before.before.before.before.before ∙ a.if-has_side.false)
+    (second b.before.before.before ∙ b.if-has_side-2.false) (third c.before ∙ c.if-has_side-3.false))
 
 pub next_side_spec : {M : Type 1} → statement M
 next_side_spec =

@@ -126,8 +126,10 @@ returns-2 c =
     let k = c.times-first.ensures.0 in
     w.write_between-2.ensures
     ∙ same-record a.rows a.columns a.place a.out.now
-    (ap (λ n. placed ((a.e - n) / a.columns) ((a.e - n) % a.columns) (side 2)) k ∙ sym (begins_down a.rows a.columns a.e (second t.before.before.before.before)))
-    (ap (λ n. placed ((a.e - n) / a.columns + 1) ((a.e - n) % a.columns) (side 0)) k ∙ sym (ends_down a.rows a.columns a.e (second t.before.before.before.before)))
+    (ap (λ n. placed ((a.e - n) / a.columns) ((a.e - n) % a.columns) (side 2)) k ∙ sym
+    (begins_down a.rows a.columns a.e (second t.before.before.before.before)))
+    (ap (λ n. placed ((a.e - n) / a.columns + 1) ((a.e - n) % a.columns) (side 0)) k ∙ sym
+    (ends_down a.rows a.columns a.e (second t.before.before.before.before)))
     (number_of_bits a.forward s.ranges.forward)
 
 pub write_edge_spec : {M : Type 1} → statement M

@@ -71,7 +71,8 @@ bits : (c : tie.After-capacity_from-forward invariant-loop decreases-loop)
 bits c =
     let o = c in
     let n = forward_of (begun o.before.before.before).args.seed o.loop-e.e in
-    ap (λ x. to_z w32 (of_z w32 x)) (capacity c) ∙ number_of_bits (pos n) (record { sfits = omega (arith, forward_small (begun o.before.before.before).args.seed o.loop-e.e) })
+    ap (λ x. to_z w32 (of_z w32 x)) (capacity c) ∙ number_of_bits (pos n)
+    (record { sfits = omega (arith, forward_small (begun o.before.before.before).args.seed o.loop-e.e) })
 
 -- ── an edge is written ──
 place : (c : tie.After-edge_at-place invariant-loop decreases-loop) → c.edge_at-place.result ≡ edge_after (record_length 1) (turn c).loop-e.e

@@ -237,7 +237,8 @@ abbrev wrote : tie.After-count_set-size → tie.After-write_set
 wrote c = c.before.before.before.before
 
 -- the number of ones in the words
-size_is : (c : tie.After-count_set-size) → c.count_set-size.result ≡ size (take (words_for (start (decision (counted (wrote c)))).args.sizes.nodes) (set' (wrote c)))
+size_is : (c : tie.After-count_set-size) → c.count_set-size.result ≡ size
+    (take (words_for (start (decision (counted (wrote c)))).args.sizes.nodes) (set' (wrote c)))
 size_is c =
     let w = wrote c in
     let n = counted w in

@@ -187,8 +187,10 @@ returns c =
       sought_as (drawing s) a.demand.source a.demand.sink a.demand.value a.edge {old = a.flows.now} refl flows' inside'
           {r = At (limit t.before.before.before.before.before)} (ap At (sym (bits_are t.before.before.before.before.before)))
           (least_serves (drawing s) a.demand.source a.demand.sink a.demand.value a.edge a.flows.now σ.range p.lent.ends σ
-          (omega (arith, p.edge_in)) s.requires.1 d.0 d.1 (between t.before.before.before.before.before.before) flows' inside' e.decide_from-then-decide_from.result d.2
-          (decided_as (drawing s).map a.sizes.outer (capacities_are t.before.before.before.before.before) a.demand.source a.demand.sink a.demand.value (between t.before.before.before.before.before.before)
+          (omega (arith, p.edge_in)) s.requires.1 d.0 d.1 (between t.before.before.before.before.before.before) flows' inside'
+          e.decide_from-then-decide_from.result d.2
+          (decided_as (drawing s).map a.sizes.outer (capacities_are t.before.before.before.before.before) a.demand.source a.demand.sink a.demand.value
+          (between t.before.before.before.before.before.before)
           flows' inside' {r = e.decide_from-then-decide_from.result} refl e.decide_from-then-decide_from.ensures.1)),
     )
 

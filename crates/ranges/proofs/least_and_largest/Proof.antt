@@ -415,7 +415,8 @@ returns-5 c =
     let h = value_there (told m) in
     let v = told_value (mapAt s) (capacityAt s) p.opened.drawn.few_edges p.small _ (inside' (found f)) h.2 in
     let l = value-back q.before in
-    let n = told_least (mapAt s) (capacityAt s) p.opened.drawn.few_edges p.small (inside2' m) l.2 c.negate-in-Value-back.result c.negate-in-Value-back.ensures in (
+    let n = told_least (mapAt s) (capacityAt s) p.opened.drawn.few_edges p.small (inside2' m) l.2 c.negate-in-Value-back.result c.negate-in-Value-back.ensures
+    in (
       none (home w),
       (l.0.0, least_highest range (capacityAt s) a.terminals.source a.terminals.sink ends a.sizes.outer n l.0.1, l.0.2),
       (

@@ -19,7 +19,8 @@ returns : tie.Need-returns-then-sum-lt0
 returns c = let s = c in lt_of_test _ _ (rw (to_z-of_z _ _ (record { sfits = s.add32-sum.type_inv }), exact s.before) at c.if-sum-lt0.true)
 
 returns-2 : tie.Need-returns
-returns-2 c = let s = c in λ h. lt_le_clash h (ge_of_test _ _ (rw (to_z-of_z _ _ (record { sfits = s.add32-sum.type_inv }), exact s.before) at c.if-sum-lt0.false))
+returns-2 c = let s = c in λ h. lt_le_clash h
+    (ge_of_test _ _ (rw (to_z-of_z _ _ (record { sfits = s.add32-sum.type_inv }), exact s.before) at c.if-sum-lt0.false))
 
 pub below_zero_spec : {M : Type 1} → statement M
 below_zero_spec = tie.close (tie.spec (λ c κs. search rules) returns returns-2)

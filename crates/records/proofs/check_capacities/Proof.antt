@@ -24,7 +24,8 @@ range-decided c =
 abbrev ranged : tie.After-below_zero-negative → tie.After-capacities_outside-beyond
 ranged c = c.before
 
-sum-decided : (c : tie.After-below_zero-negative) → Decides (((begun (ranged c)).args.forward +ℤ (begun (ranged c)).args.backward) <ℤ pos 0) c.below_zero-negative.result
+sum-decided : (c : tie.After-below_zero-negative) → Decides (((begun (ranged c)).args.forward +ℤ (begun (ranged c)).args.backward) <ℤ pos 0)
+    c.below_zero-negative.result
 sum-decided c =
     let f = (begun (ranged c)).ranges in
     rw (number_of_bits _ f.forward, number_of_bits _ f.backward) at c.below_zero-negative.ensures

@@ -76,7 +76,8 @@ returns-2 c =
     let s = a.s.now in
     let v = c.check_fields-verdict.result in
     let forward_is = number_of_bits forward.read_i32-forward.result (record { sfits = forward.read_i32-forward.type_inv }) ∙ forward.read_i32-forward.ensures in
-    let backward_is = number_of_bits backward.read_i32-backward.result (record { sfits = backward.read_i32-backward.type_inv }) ∙ backward.read_i32-backward.ensures in
+    let backward_is = number_of_bits backward.read_i32-backward.result (record { sfits = backward.read_i32-backward.type_inv }) ∙
+    backward.read_i32-backward.ensures in
     edge_told s a.e _ v
     (judged_right _ _ v (judged k _ told.in_default.is)
     (edge_read s a.e v (begun k).requires.1 (begun k).requires.4 (begun k).requires.5 (place k)

@@ -44,7 +44,8 @@ returns-2 c =
     let e = f in
     let p = (begun e.before.before.before.before.before).requires in
     let n = f.node_fault.ensures in
-    let ten = refused_10 (mapAt (begun e.before.before.before.before.before)) (not-9 e.before.before.before.before.before) (said_yes n.0 c.if-node_fault.true) in
+    let ten = refused_10 (mapAt (begun e.before.before.before.before.before)) (not-9 e.before.before.before.before.before) (said_yes n.0 c.if-node_fault.true)
+    in
     (p.3, p.4, p.5, n.1, n.2, rw c.refused-then-node_fault.ensures ten, rw c.refused-then-node_fault.ensures tt)
 
 -- ── 10 was passed ──

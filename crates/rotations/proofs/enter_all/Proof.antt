@@ -101,8 +101,11 @@ element-write-table c = omega (arith, key_below (place c.before.before))
 returns : tie.Need-returns-then-old-entry invariant-loop decreases-loop
 returns c =
     let k = c in
-    let i = (turn (place k.before.before)).loop-d.invariant in
-    (i.1, clash i.2 (place_in (place k.before.before)) (λ e. c.if-old-eq0.false (old-is k.before.before ∙ e)) (λ e. c.if-old-entry.true (old-is k.before.before ∙ e ∙ sym (entry-is (valued k.before.before)))))
+    let i = (turn (place k.before.before)).loop-d.invariant in (
+      i.1,
+      clash i.2 (place_in (place k.before.before)) (λ e. c.if-old-eq0.false (old-is k.before.before ∙ e))
+          (λ e. c.if-old-entry.true (old-is k.before.before ∙ e ∙ sym (entry-is (valued k.before.before)))),
+    )
 
 -- ── the place is entered ──
 add-d : tie.Need-overflow_add-d invariant-loop decreases-loop

@@ -61,7 +61,8 @@ mul-grouped : tie.Need-offset_bounds-grouped-begin invariant-loop decreases-loop
 mul-grouped c = omega (arith, (at-loop c).loop-x.invariant.5, (at-loop c).loop-x.invariant.2.few)
 
 element-write-grouped : tie.Need-bounds-grouped-begin invariant-loop decreases-loop
-element-write-grouped c = omega (arith, some (at-loop c.before), (at-loop c.before).loop-x.invariant.5, (at-loop c.before).loop-x.invariant.2.few, (at-loop c.before).loop-x.invariant.1)
+element-write-grouped c = omega
+    (arith, some (at-loop c.before), (at-loop c.before).loop-x.invariant.5, (at-loop c.before).loop-x.invariant.2.few, (at-loop c.before).loop-x.invariant.1)
 
 mul_wide : tie.Need-offset_bounds-rotations-back invariant-loop decreases-loop
 mul_wide c = omega (arith, back_below c.before.before, (at-loop c.before).loop-x.invariant.2.few)
@@ -82,7 +83,8 @@ stepped c = c.wide-x.ensures ∙ ap (at (over c).args.rotations.now) (laid c).re
 long : (c : tie.After-wide-x invariant-loop decreases-loop) → length (set (over c).loop-x.lefts (over c).loop-x.x (over c).args.number) ≡ 1024
 long c = let o = (over c).loop-x in length-set o.lefts o.x (over c).args.number ∙ o.invariant.0
 
-long-grouped : (c : tie.After-wide-x invariant-loop decreases-loop) → length (set (over c).loop-x.grouped ((over c).loop-x.begin - 1) (laid c).narrow.result) ≡ 1024
+long-grouped : (c : tie.After-wide-x invariant-loop decreases-loop) → length (set (over c).loop-x.grouped ((over c).loop-x.begin - 1) (laid c).narrow.result) ≡
+    1024
 long-grouped c = let o = (over c).loop-x in length-set o.grouped (o.begin - 1) (laid c).narrow.result ∙ o.invariant.1
 
 one_more : (c : tie.After-wide-x invariant-loop decreases-loop) → let o = (over c).loop-x in let a = (over c).args in

@@ -71,7 +71,12 @@ element-copy-out-if1-2 c = omega (arith, few (begun c.before.before), dart-below
 returns : tie.Need-returns-then-tails-t invariant-loop decreases-loop
 returns c =
     let r = c in
-    inl ((turn r.before.before.before.before).loop-d.d, dart-below r.before.before.before.before, λ e. c.if-tails-t.true (ap (at (begun r.before.before.before.before).args.tails.now) r.wide-t.ensures ∙ e))
+    inl (
+      (turn r.before.before.before.before).loop-d.d,
+      dart-below r.before.before.before.before,
+      λ e. c.if-tails-t.true
+          (ap (at (begun r.before.before.before.before).args.tails.now) r.wide-t.ensures ∙ e),
+    )
 
 -- ── it has the same tail ──
 abbrev read : tie.Else-tails-t invariant-loop decreases-loop → Read

@@ -11,7 +11,8 @@ use Rattle.search.proofs.ascend.Statement.{statement}
 use Rattle.search.proofs.ascend.Tie as tie
 
 abbrev invariant-loop : tie.invariant-loop-darts
-invariant-loop lefts parents darts faces f links₀ y₀ below₀ count₀ links y below count = Rising (right_of lefts) darts faces parents f links₀ links y below count
+invariant-loop lefts parents darts faces f links₀ y₀ below₀ count₀ links y below count = Rising (right_of lefts) darts faces parents f links₀ links y below
+    count
 
 abbrev decreases-loop : tie.decreases-loop-darts
 decreases-loop lefts parents darts faces f links₀ y₀ below₀ count₀ links y below count = fresh faces links

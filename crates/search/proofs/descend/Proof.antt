@@ -8,12 +8,14 @@ use Rattle.search.proofs.descend.Statement.{statement}
 use Rattle.search.proofs.descend.Tie as tie
 
 abbrev invariant-loop : tie.invariant-loop-k
-invariant-loop lefts lengths darts faces f count from links₀ potentials₀ parents₀ waiting₀ queue₀ last k₀ y₀ end₀ links potentials parents waiting queue k y end =
+invariant-loop lefts lengths darts faces f count from links₀ potentials₀ parents₀ waiting₀ queue₀ last k₀ y₀ end₀ links potentials parents waiting queue k y end
+    =
     Falling lefts lengths darts faces (tables_of potentials₀ parents₀ waiting₀ queue₀ last) f count links₀ k y links
     (tables_of potentials parents waiting queue end)
 
 abbrev decreases-loop : tie.decreases-loop-k
-decreases-loop lefts lengths darts faces f count from links₀ potentials₀ parents₀ waiting₀ queue₀ last k₀ y₀ end₀ links potentials parents waiting queue k y end = k
+decreases-loop lefts lengths darts faces f count from links₀ potentials₀ parents₀ waiting₀ queue₀ last k₀ y₀ end₀ links potentials parents waiting queue k y end
+    = k
 
 y-small : (c : tie.In-loop-k invariant-loop decreases-loop) → c.loop-k.y < 1024
 y-small c = let i = c.loop-k.invariant in omega (arith, face_in i c.loop-k-test.true, i.sound.few_faces)

@@ -60,7 +60,8 @@ returns-2 c =
     let x = t.relax in
     let e = t in
     let r = crossing e.before.before.before.before.before.before.before in
-    follow_falls _ _ (tablesAt (base r)) _ r.wide-p.result r.right-w.result r.wide-p.ensures r.right-w.ensures (has e.before.before.before.before.before.before.before) _
+    follow_falls _ _ (tablesAt (base r)) _ r.wide-p.result r.right-w.result r.wide-p.ensures r.right-w.ensures
+    (has e.before.before.before.before.before.before.before) _
     x.result t.if-relax.true x.ensures c.push.ensures
 
 returns-3 : tie.Need-returns

@@ -112,7 +112,8 @@ begun c = base (round c)
 
 abbrev now : At-loop → Configuration
 now c =
-    configuration (tables_of c.loop-left.potentials c.loop-left.parents c.loop-left.waiting c.loop-left.queue c.loop-left.last) c.loop-left.first c.loop-left.left
+    configuration (tables_of c.loop-left.potentials c.loop-left.parents c.loop-left.waiting c.loop-left.queue c.loop-left.last) c.loop-left.first
+    c.loop-left.left
 
 passing : (c : At-loop) → PassingAt (dual (givenAt (begun c)) (rootsAt (begun c))) (now c)
 passing c = let s = begun c in goes_passing (givenAt s) (rootsAt s) s.requires.0 s.requires.2 (here-passing (round c)) c.loop-left.invariant.0
@@ -249,7 +250,8 @@ returns-2 c =
       left = tables_of _ _ _ _ w.ensures.0;
       ended = (
         omega (arith, o.loop-left-test.false),
-        subst (Straightens s.args.lefts.now s.args.lengths.now s.args.darts s.args.faces 0 unmarked (now l.before.before.before.before.before.before.before).tables _)
+        subst (Straightens s.args.lefts.now s.args.lengths.now s.args.darts s.args.faces 0 unmarked
+            (now l.before.before.before.before.before.before.before).tables _)
             p.in-Ring.is w.ensures.1,
       );
       potentials_are = refl;

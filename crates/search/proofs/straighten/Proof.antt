@@ -76,7 +76,8 @@ loop-again c =
     (λ d.
     rw (d.potentials-is, d.parents-is, d.waiting-is, d.queue-is, d.links-is, d.end-is)
     (let q = d.descend-end.ensures in pass_next i n.loop-f-test.true a (d.is_round.ensures.1 d.if-is_round.false) q.1 q.0))
-    (λ d. rw (d.potentials-is, d.parents-is, d.waiting-is, d.queue-is, d.links-is, d.end-is) (pass_none i n.loop-f-test.true a (omega (arith, d.if-risen-gt0.false))))
+    (λ d. rw (d.potentials-is, d.parents-is, d.waiting-is, d.queue-is, d.links-is, d.end-is)
+    (pass_none i n.loop-f-test.true a (omega (arith, d.if-risen-gt0.false))))
     c.if-risen-gt0.branch-raw
 
 returns-2 : tie.Need-returns invariant-loop decreases-loop

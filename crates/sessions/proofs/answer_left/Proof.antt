@@ -52,7 +52,8 @@ returns : tie.Need-returns-then-not-in_bounds
 returns c =
     let b = c in (
       (
-        unfit_answered (held b.before) (given b.before) (same b.before) (λ f. said_no b.in_bounds.ensures (unless_taken b.in_bounds.result c.if-not-in_bounds.true-raw) f.bounds) _ _
+        unfit_answered (held b.before) (given b.before) (same b.before)
+            (λ f. said_no b.in_bounds.ensures (unless_taken b.in_bounds.result c.if-not-in_bounds.true-raw) f.bounds) _ _
             _ _ _,
         refl,
         refl,
@@ -99,7 +100,8 @@ solve-requires c κs =
     let t = c in
     let m = t in
     let p = passed t.before.before.before.before.before.before.before.before.before in record {
-      drawn = fit_drawn (held (within m.before.before.before.before.before.before.before.before.before.before).before) (fit t.before.before.before.before.before.before.before.before.before) _ _ p.1 p.2;
+      drawn = fit_drawn (held (within m.before.before.before.before.before.before.before.before.before.before).before)
+          (fit t.before.before.before.before.before.before.before.before.before) _ _ p.1 p.2;
       walked = if-passed t.in_default.is m.check_map-checked.ensures.6;
     }
 
@@ -113,9 +115,11 @@ returns-3 c =
     let q = number_of_bits _ s.ranges.value in
     let from = w.wide.ensures in
     let to = w.wide-2.ensures in (
-      answered (held b.before) (given b.before) (same b.before) (fit t.before.before.before.before.before.before.before.before.before.before.before.before.before) from to q _ _ _ _ k.solve.result k.solve.ensures.0,
+      answered (held b.before) (given b.before) (same b.before)
+          (fit t.before.before.before.before.before.before.before.before.before.before.before.before.before) from to q _ _ _ _ k.solve.result k.solve.ensures.0,
       named_answered (held b.before) (given b.before) (same b.before) from to q _ k.solve.result k.solve.ensures.1,
-      fit_answered (held b.before) (given b.before) (same b.before) (fit t.before.before.before.before.before.before.before.before.before.before.before.before.before) k.solve.result,
+      fit_answered (held b.before) (given b.before) (same b.before)
+          (fit t.before.before.before.before.before.before.before.before.before.before.before.before.before) k.solve.result,
     )
 
 pub answer_left_spec : {M : Type 1} → statement M

@@ -18,7 +18,8 @@ use Rattle.sessions.proofs.lower.Statement.{statement}
 use Rattle.sessions.proofs.lower.Tie as tie
 
 abbrev invariant-loop : tie.invariant-loop-d
-invariant-loop left₀ offer edges darts d₀ left d = (d ≤ darts) × (darts ≡ 2 * edges) × (left ≡ tabulate d (λ k. atℤ left₀ k -ℤ on_darts (atℤ offer) k) ++ drop d left₀)
+invariant-loop left₀ offer edges darts d₀ left d = (d ≤ darts) × (darts ≡ 2 * edges) ×
+    (left ≡ tabulate d (λ k. atℤ left₀ k -ℤ on_darts (atℤ offer) k) ++ drop d left₀)
 
 abbrev decreases-loop : tie.decreases-loop-d
 decreases-loop left₀ offer edges darts d₀ left d = darts - d

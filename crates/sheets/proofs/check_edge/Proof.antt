@@ -57,7 +57,8 @@ returns c =
     let tail = tail_at head in
     let s = begun tail in
     edge_judged (drawn s) s.args.e c.check_fields.result
-    tail.wide-tail.ensures head.wide-head.ensures rotation.wide-rotation.ensures back.wide-back_rotation.ensures (forward_is forward.before.before) (backward_is backward.before)
+    tail.wide-tail.ensures head.wide-head.ensures rotation.wide-rotation.ensures back.wide-back_rotation.ensures (forward_is forward.before.before)
+    (backward_is backward.before)
     c.check_fields.ensures
 
 pub check_edge_spec : {M : Type 1} → statement M

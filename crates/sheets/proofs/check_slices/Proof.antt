@@ -78,14 +78,16 @@ load-requires : tie.Need-load-requires
 load-requires c κs = (refl, long c.before, same_everywhere 1024 0)
 
 load-requires-2 : tie.Need-load-requires-2
-load-requires-2 c κs = let t = c in (refl, omega (arith, long t.before.before.before, (begun (counted t.before.before.before)).requires.0), same_everywhere 1024 0)
+load-requires-2 c κs = let t = c in
+    (refl, omega (arith, long t.before.before.before, (begun (counted t.before.before.before)).requires.0), same_everywhere 1024 0)
 
 check-map-requires : tie.Need-check_map-checked-requires
 check-map-requires c κs =
     let l = c in
     let t = told l.before.before.before.before.before.before.before in
     let n = counts_range _ _ _ (numbers-passed (counted t)) in
-    let range = subst InRange (sym (map_is l.before.before.before.before.before.before.before)) (turns_range (drawn (start l.before.before.before.before.before.before.before)) (edges-passed t)) in
+    let range = subst InRange (sym (map_is l.before.before.before.before.before.before.before))
+    (turns_range (drawn (start l.before.before.before.before.before.before.before)) (edges-passed t)) in
     (n.3, omega (arith, n.1), outer_range _ _ _ (numbers-passed (counted t)), refl, refl, refl, refl, refl, range, same_everywhere 1024 0)
 
 returns-3 : tie.Need-returns
@@ -96,7 +98,8 @@ returns-3 c =
     let v = m.result.verdict in
     let lefts = m.new.lefts in
     judged_map (drawn (start l.before.before.before.before.before.before.before.before)) v (numbers-passed (counted t)) (edges-passed t)
-    (map_judged _ (at lefts) m.result.faces v (subst (λ 𝓜. MapJudged 𝓜 (at lefts) m.result.faces v) (map_is l.before.before.before.before.before.before.before.before) m.ensures.5))
+    (map_judged _ (at lefts) m.result.faces v
+    (subst (λ 𝓜. MapJudged 𝓜 (at lefts) m.result.faces v) (map_is l.before.before.before.before.before.before.before.before) m.ensures.5))
 
 pub check_slices_spec : {M : Type 1} → statement M
 check_slices_spec =

@@ -85,7 +85,8 @@ judged : (c : tie.After-check_map-checked) (v : Verdict) → c.check_map-checked
     → MapJudged (sheet_map (sheet (read (lent c)))) (at (lefts c)) c.check_map-checked.result.faces v
 judged c v e =
     subst (MapJudged (sheet_map (sheet (read (lent c)))) (at (lefts c)) c.check_map-checked.result.faces) e
-    (subst (λ 𝓜. MapJudged 𝓜 (at (lefts c)) c.check_map-checked.result.faces c.check_map-checked.result.verdict) (map_is (lent c)) c.check_map-checked.ensures.5)
+    (subst (λ 𝓜. MapJudged 𝓜 (at (lefts c)) c.check_map-checked.result.faces c.check_map-checked.result.verdict) (map_is (lent c))
+    c.check_map-checked.ensures.5)
 
 -- ── the needs, in the order of the code ──
 returns : tie.Need-returns-in-Refused
@@ -120,7 +121,8 @@ returns-2 c =
     let p = (start e.before.before).requires in
     let l = e.read_edges-read.ensures in
     let r = c.refused-in-Refused-read.ensures in
-    let n = network_of c.refused-in-Refused-read.result (tails e.before.before) (rotations e.before.before) (capacities e.before.before) (start e.before.before).args.lefts.now in (
+    let n = network_of c.refused-in-Refused-read.result (tails e.before.before) (rotations e.before.before) (capacities e.before.before)
+    (start e.before.before).args.lefts.now in (
       l.0,
       l.1,
       l.2,

@@ -134,8 +134,13 @@ write-edges-requires : tie.Need-write_edges-requires
 write-edges-requires c κs =
     let h = c in
     let t = told (roomy h.before.before.before) in
-    let e = sliced t in
-    (same-rotations e, same-capacities e, omega (arith, e.if-length-ne0.false, few t), omega (arith, long (roomy h.before.before.before), head-length h.before.before.before))
+    let e = sliced t in (
+      same-rotations e,
+      same-capacities e,
+      omega (arith, e.if-length-ne0.false, few t),
+      omega
+          (arith, long (roomy h.before.before.before), head-length h.before.before.before),
+    )
 
 returns-6 : tie.Need-returns
 returns-6 c =
@@ -149,7 +154,8 @@ returns-6 c =
       write_whole a.nodes a.outer a.tails.now a.rotations.now a.capacities.now a.out.now
           (same-rotations e) (same-capacities e) e.if-length-ne0.false (passed t) (omega (arith, n)),
       n,
-      w.write_edges.ensures a.nodes a.outer a.out.now (headed h.before.before.before.before.before.before) ∙ ap (λ k. encode (drawn s) ++ drop k a.out.now) (sym n),
+      w.write_edges.ensures a.nodes a.outer a.out.now (headed h.before.before.before.before.before.before) ∙ ap (λ k. encode (drawn s) ++ drop k a.out.now)
+          (sym n),
     )
 
 pub write_spec : {M : Type 1} → statement M

@@ -94,7 +94,8 @@ loop-again c =
     let o = (turn a.before.before.before).loop-e in (
       omega arith,
       kept w.before.before ∙ o.invariant.1,
-      λ nodes outer old e. write_step (drawn nodes outer (begun a.before.before.before)) old o.e o.out _ (o.invariant.2 nodes outer old e) (written w.before.before nodes outer),
+      λ nodes outer old e. write_step (drawn nodes outer (begun a.before.before.before)) old o.e o.out _ (o.invariant.2 nodes outer old e)
+          (written w.before.before nodes outer),
     )
 
 returns : tie.Need-returns invariant-loop decreases-loop

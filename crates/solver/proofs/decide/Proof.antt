@@ -132,7 +132,8 @@ settle-all-requires c κs =
       few_parts = omega (arith, trees_few o.walked.forest, o.drawn.few_edges);
       size_parents = p.2;
       forest = o.walked.forest;
-      searchable = λ queue long roots. searchable s.args.lefts.now o.drawn p.0.ends (row e.before.before.before.before) (known e.before.before.before) queue long roots;
+      searchable = λ queue long roots. searchable s.args.lefts.now o.drawn p.0.ends (row e.before.before.before.before) (known e.before.before.before) queue
+          long roots;
       groups = o.walked.groups;
       exact = p.0.exact;
     }
@@ -150,7 +151,8 @@ closes c =
     let b = begun (lengthened s.before.before) in
     omega (
       arith,
-      (searched_ring _ _ (atℤ b.args.capacities.now) b.args.flows.now _ (at s.settle_all-outcome.new.parents) _ c.in-Ring.is s.settle_all-outcome.ensures.1.3).1,
+      (searched_ring _ _ (atℤ b.args.capacities.now) b.args.flows.now _ (at s.settle_all-outcome.new.parents) _ c.in-Ring.is
+          s.settle_all-outcome.ensures.1.3).1,
       b.requires.0.opened.drawn.few_edges,
     )
 
@@ -177,7 +179,8 @@ cut-of-ring-requires c κs =
       f.cut_apart.ensures.1,
       treed_of p.0.opened.drawn.plane.sound p.0.opened.walked.forest,
       ringed (begun f).args.lefts.now p.0.opened.drawn p.0.ends (row f) (known (joined s)) q.0 q.1 q.2
-          _ w.wide-y.ensures (searched_ring _ _ (atℤ (begun f).args.capacities.now) (begun f).args.flows.now _ (at s.settle_all-outcome.new.parents) _ o.in-Ring.is s.settle_all-outcome.ensures.1.3).2,
+          _ w.wide-y.ensures (searched_ring _ _ (atℤ (begun f).args.capacities.now) (begun f).args.flows.now _ (at s.settle_all-outcome.new.parents) _
+          o.in-Ring.is s.settle_all-outcome.ensures.1.3).2,
     )
 
 -- the set made from the ring
@@ -224,7 +227,8 @@ returns-2 c =
     let inside' = c.cut_of_ring.new.inside in (
       e.0,
       decided_cannot (begun f).args.lefts.now p.0.opened.drawn p.0.ends (row f) (known (joined s)) q.0 q.1 q.2
-          _ _ inside' (searched_ring _ _ (atℤ (begun f).args.capacities.now) (begun f).args.flows.now _ (at s.settle_all-outcome.new.parents) _ o.in-Ring.is s.settle_all-outcome.ensures.1.3).0 e.1,
+          _ _ inside' (searched_ring _ _ (atℤ (begun f).args.capacities.now) (begun f).args.flows.now _ (at s.settle_all-outcome.new.parents) _ o.in-Ring.is
+          s.settle_all-outcome.ensures.1.3).0 e.1,
       s.settle_all-outcome.ensures.0,
       λ z. named-ring c.before.before.before inside' e.2,
     )

@@ -105,7 +105,8 @@ settle-requires c κs =
       few_roots = omega (arith, roots_few o.roots, o.drawn.few_edges);
       size_parents = refl;
       size_queue = p.2;
-      searchable = searchable s.args.lefts.now o.drawn o.ends (row f.before.before.before.before.before) (known e.before.before.before.before) s.args.queue.now p.2 o.roots;
+      searchable = searchable s.args.lefts.now o.drawn o.ends (row f.before.before.before.before.before) (known e.before.before.before.before) s.args.queue.now
+          p.2 o.roots;
       groups = o.groups;
       exact = o.exact;
     }
@@ -150,7 +151,8 @@ cut-of-ring-requires c κs =
       f.cut_apart.ensures.1,
       p.0.treed,
       ringed b.args.lefts.now p.0.drawn p.0.ends (row f) (known (joined s)) b.args.queue.now p.2 p.0.roots
-          _ w.wide-y.ensures (searched_ring _ _ (atℤ b.args.capacities.now) b.args.flows.now _ (at s.settle-outcome.new.parents) _ o.in-Ring.is s.settle-outcome.ensures.1).2,
+          _ w.wide-y.ensures (searched_ring _ _ (atℤ b.args.capacities.now) b.args.flows.now _ (at s.settle-outcome.new.parents) _ o.in-Ring.is
+          s.settle-outcome.ensures.1).2,
     )
 
 returns-2 : tie.Need-returns-in-Ring

@@ -113,7 +113,8 @@ abbrev raised : tie.After-plus-threshold invariant-loop decreases-loop → At-lo
 raised c = raising c.before
 
 -- the next threshold is one more
-next_is : (c : tie.After-plus-threshold invariant-loop decreases-loop) → to_z w32 (of_z w32 c.plus-threshold.result) ≡ to_z w32 (raised c).loop-threshold.threshold-bits +ℤ pos 1
+next_is : (c : tie.After-plus-threshold invariant-loop decreases-loop) → to_z w32 (of_z w32 c.plus-threshold.result) ≡ to_z w32
+    (raised c).loop-threshold.threshold-bits +ℤ pos 1
 next_is c = number_of_bits _ (record { sfits = c.plus-threshold.type_inv }) ∙ c.plus-threshold.ensures
 
 flag-above-requires-2 : tie.Need-flag_above-requires-in-loop-threshold invariant-loop decreases-loop

@@ -29,8 +29,18 @@ loop-again c =
     let set = c.args.set.now in
     let t = c.contains.ensures in
     ⊎_elim
-    (λ w. (omega arith, omega (arith, w.members-is, o.invariant.1), w.members-is ∙ ap (λ (x : ℕ). x + 1) o.invariant.2 ∙ sym (count_in o.v (member set) (sym t ∙ w.if-contains.true))))
-    (λ w. (omega arith, omega (arith, w.members-is, o.invariant.1), w.members-is ∙ o.invariant.2 ∙ sym (count_out o.v (member set) (sym t ∙ w.if-contains.false))))
+    (λ w. (
+      omega arith,
+      omega (arith, w.members-is, o.invariant.1),
+      w.members-is ∙ ap (λ (x : ℕ). x + 1) o.invariant.2 ∙ sym
+          (count_in o.v (member set) (sym t ∙ w.if-contains.true)),
+    ))
+    (λ w. (
+      omega arith,
+      omega (arith, w.members-is, o.invariant.1),
+      w.members-is ∙ o.invariant.2 ∙ sym
+          (count_out o.v (member set) (sym t ∙ w.if-contains.false)),
+    ))
     c.if-contains.branch-raw
 
 returns : tie.Need-returns invariant-loop decreases-loop

@@ -55,7 +55,8 @@ start-at c =
     let p = (begun t.before.before.before.before.before).requires in
     let d = p.0.sound.has_dart t.loop-next.next t.loop-next-test.true in
     let s = p.1 d.0 d.1 in
-    let is : c.wide-start.result ≡ at (begun t.before.before.before.before.before).args.starts.now (at (begun t.before.before.before.before.before).args.tails.now d.0) =
+    let is : c.wide-start.result ≡ at (begun t.before.before.before.before.before).args.starts.now
+    (at (begun t.before.before.before.before.before).args.tails.now d.0) =
     c.wide-start.ensures ∙ ap (at (begun t.before.before.before.before.before).args.starts.now) (sym d.2) in
     (omega (arith, is, s.0), ap (at (begun t.before.before.before.before.before).args.tails.now) is ∙ s.1 ∙ d.2)
 

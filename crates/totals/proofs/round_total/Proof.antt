@@ -89,7 +89,8 @@ loop-again c =
     let s = c in
     let p = (begun t.before.before.before.before.before).requires in
     turn_on p.0.sound _ _ p.1 t.loop-d.invariant t.loop-d-test.true
-    (number_of_bits _ (record { sfits = s.plus-sum.type_inv }) ∙ s.plus-sum.ensures ∙ ap (λ z. to_z w32 t.loop-d.sum-bits +ℤ z) (share-is s.before.before.before.before))
+    (number_of_bits _ (record { sfits = s.plus-sum.type_inv }) ∙ s.plus-sum.ensures ∙ ap (λ z. to_z w32 t.loop-d.sum-bits +ℤ z)
+    (share-is s.before.before.before.before))
     c.wide-d-in-loop-d.ensures
 
 returns : tie.Need-returns invariant-loop decreases-loop

@@ -204,7 +204,12 @@ loop-less c =
     let a = c in
     let f = fresh (joined a.before.before.before) in
     let l = at-loop f in
-    omega (arith, added_grew a.add-listed-in-loop-next.ensures.2 f.if-from-next.false, room l.loop-next.invariant.2 l.loop-next.next (next_below l) f.if-from-next.false)
+    omega (
+      arith,
+      added_grew a.add-listed-in-loop-next.ensures.2 f.if-from-next.false,
+      room l.loop-next.invariant.2 l.loop-next.next (next_below l)
+          f.if-from-next.false,
+    )
 
 loop-again : tie.Need-loop-next-preserved invariant-loop decreases-loop
 loop-again c =

@@ -41,7 +41,8 @@ loop2-holds : tie.Need-loop-next-init invariant-loop decreases-loop invariant-lo
 loop2-holds c = (omega arith, c.loop-v.invariant.1, flags_none (λ v l. c.loop-v.invariant.2 v (omega arith)))
 
 -- ── the darts ──
-abbrev begun : tie.At-loop-next invariant-loop decreases-loop invariant-loop2 decreases-loop2 → tie.Start invariant-loop decreases-loop invariant-loop2 decreases-loop2
+abbrev begun : tie.At-loop-next invariant-loop decreases-loop invariant-loop2 decreases-loop2 → tie.Start invariant-loop decreases-loop invariant-loop2
+    decreases-loop2
 begun c = c.before.before.before
 
 below : (c : tie.In-loop-next invariant-loop decreases-loop invariant-loop2 decreases-loop2) → c.loop-next.next < 1024
@@ -62,7 +63,8 @@ mul_wide c = omega (arith, below c.before.before.before)
 element-copy-out-wide : tie.Need-bounds-tails-d invariant-loop decreases-loop invariant-loop2 decreases-loop2
 element-copy-out-wide c = omega (arith, below c.before.before.before.before)
 
-abbrev turn : tie.After-wide-v invariant-loop decreases-loop invariant-loop2 decreases-loop2 → tie.In-loop-next invariant-loop decreases-loop invariant-loop2 decreases-loop2
+abbrev turn : tie.After-wide-v invariant-loop decreases-loop invariant-loop2 decreases-loop2 → tie.In-loop-next invariant-loop decreases-loop invariant-loop2
+    decreases-loop2
 turn c = c.before.before.before.before.before.before
 
 node_below : (c : tie.After-wide-v invariant-loop decreases-loop invariant-loop2 decreases-loop2) → c.wide-v.result < 1024

@@ -86,7 +86,8 @@ reverse-requires c κs =
     omega (arith, dart-below w.before.before.before, (begun (at-loop w.before.before.before)).requires.2)
 
 -- and its reverse
-back_below : (c : tie.After-reverse-back invariant-loop decreases-loop) → c.reverse-back.result < (begun (at-loop (turned c.before).before.before.before)).args.darts
+back_below : (c : tie.After-reverse-back invariant-loop decreases-loop) → c.reverse-back.result <
+    (begun (at-loop (turned c.before).before.before.before)).args.darts
 back_below c =
     let w = (turned c.before) in
     let a = (begun (at-loop w.before.before.before)).args in

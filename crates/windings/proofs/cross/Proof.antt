@@ -41,7 +41,8 @@ returns c =
     let same : atℤ (set l p a) x ≡ atℤ l x = get_or-set_other l p x a (pos 0) (λ q. rev_apart p (sym o.ensures.0 ∙ q)) in
     let h-x : Limited 1024 (atℤ (set l p a) x) = subst (Limited 1024) (sym (same ∙ ap (atℤ l) o.ensures.0)) h.3 in
     let is-a : a ≡ atℤ l p +ℤ pos 1 = to_z-of_z w16 _ (record { sfits = more.type_inv }) ∙ more.ensures ∙ plus_read h.2 in
-    let is_b : b ≡ atℤ l x -ℤ pos 1 = to_z-of_z w16 _ (record { sfits = c.minus16.type_inv }) ∙ c.minus16.ensures ∙ minus_read h-x ∙ ap (λ y. y -ℤ pos 1) same in
+    let is_b : b ≡ atℤ l x -ℤ pos 1 = to_z-of_z w16 _ (record { sfits = c.minus16.type_inv }) ∙ c.minus16.ensures ∙ minus_read h-x ∙ ap (λ y. y -ℤ pos 1) same
+    in
     crossed_once l p x a b h.0 h.1 o.ensures.1 o.ensures.0 is-a is_b
 
 pub cross_spec : {M : Type 1} → statement M
