@@ -154,14 +154,14 @@ class Html:
         return "<nav>" + " · ".join(['<a href="index.html">All pages and names</a>', *links]) + "</nav>"
 
     def beginning(self, page):
-        rests = ", ".join(f'<a href="{other.name}.html">{inline(short(other))}</a>' for other in self.reading.rests_on(page)) or "no other"
+        rests = ", ".join(f'<a href="{other.name}.html">{inline(short(other))}</a>' for other in self.reading.rests_on(page)) or "no other page"
         statements = ", ".join(self.link(made.whole, made.name, page) if self.at[made.whole] is page else f'<a href="#{quote(id_of(made))}">{made.name}</a>'
                                for made in page.statements)
         yield f"<p>{counted(len(page.definitions()), 'definition')} and statements in {counted(page.lines(), 'line')}. This page rests on {rests}.</p>"
         if statements:
-            yield f"<p>Its statements: {statements}.</p>"
+            yield f"<p>The statements: {statements}.</p>"
         if page.operations:
-            yield "<p>Its operations: " + ", ".join(self.link(made, made.name, page) for made in page.operations) + ".</p>"
+            yield "<p>The operations: " + ", ".join(self.link(made, made.name, page) for made in page.operations) + ".</p>"
 
     def about(self, page, file):
         others = [other for other in self.reading.pages[:page.number] if file in self.orders[other]]
@@ -174,7 +174,7 @@ class Html:
         """Where the other fields of a record stand."""
         pages = [other for other in self.reading.pages if other is not page and any(each.whole is made.whole for each in other.statements)]
         links = ", ".join(f'<a href="{other.name}.html#{quote(id_of(made))}">{inline(short(other))}</a>' for other in pages)
-        return [f"<p>Other fields of <code>{made.name}</code> are on {links}.</p>"] if made.whole is not made and links else []
+        return [f"<p><code>{made.name}</code> has other fields on {links}.</p>"] if made.whole is not made and links else []
 
     def library(self, page):
         names = sorted((each for each in page.shown if isinstance(each, Library)), key=lambda each: (each.module, each.name))

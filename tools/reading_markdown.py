@@ -10,41 +10,46 @@ from reading import reading_order
 WIDTH = 160
 
 HEADER = """
-Every definition that the contracts of the operations and the printed statements rest on. Who has read a page, and those that it rests on, has read all that
-must be believed of the statements there, and needs neither `proofs/` nor the code. The first page is document 01 alone. Each Job of document 02 has a page of
-its own. The last page is how C is told all this. A page shows what its operations and statements need and no earlier page has, each definition after those that
-it uses; what an earlier page has is a link. [STATEMENTS](../STATEMENTS.md) has each printed sentence, with a link to where its statement stands here.
+These pages have every definition that the contracts of the operations and the printed statements rest on. To know what a statement says, read its page and the
+pages that it rests on. You need neither the proofs nor the code.
 
-`tools/believed --write` makes these pages from the files themselves, comments included, and the gate fails where one is stale: change the files, not the pages.
-`tools/believed.roots` says which operations and statements a page begins with. `tools/believed --html DIR` writes the same as HTML, with every name a link to its
-definition. Definitions that speak of loops and of inner functions are not here (most stand in `specs/inner/`; `tools/believed --inner` lists them all).
+The first page has document 01 alone. Each Job of document 02 has a page of its own. The last page has the C interface. A page shows each definition after those
+that it uses. If an earlier page has a definition, there is a link to it. [STATEMENTS](../STATEMENTS.md) has each printed sentence, with a link to its statement
+here.
+
+`tools/believed --write` makes these pages from the source files and their comments. Change the files, not the pages: the gate fails if a page is stale.
+`tools/believed.roots` lists the operations and statements that each page begins with. `tools/believed --html DIR` writes the same pages as HTML, in which every
+name is a link to its definition. Definitions that only loops and inner functions need are not here. Most of them are in `specs/inner/`; `tools/believed --inner`
+lists them all.
 """
 
 ONE_END = """
-Contracts and statements also name relations of which all that is used is that they have one end, so that nobody need believe what they say: a run is shown
-to be in the relation, and two runs that are in it to leave the same. They are not followed. They stand in
+Some contracts and statements name a relation that you need not believe. The proofs use only two facts about it: each run is in the relation, and two runs in it
+leave the same result. So these pages do not show what it says. Such relations are in
 """
 
 COUNTED = """
-Lines are those of definitions and statements, without comments and blank lines. A record whose fields stand on several pages has its first line counted once. The
-contracts, as the source has them, are counted by themselves.
+The lines are those of definitions and statements, without comments and blank lines. If the fields of a record are on several pages, the record's first line counts
+once. The contracts have a column of their own, with their lines in the source.
 """
 
 NOTATION = """
-`name : type` and then its clauses, by cases, define a name; a `record` is a list of statements that hold together, with what each speaks of in brackets before
-it; a `data` has one line for each way to make it. `(x : A) → B` is "for every x", `(x : A) × B` is "there is an x", `A × B` is "and", `A ⊎ B` is "or", `A → ⊥`
-is "not", `a ≡ b` is equality, `r.f` the field f of r, `t.V` the variant V of the type that a file calls t. A `◌` in a name is where an argument stands. `abbrev`
-and `unfoldable` only tell the prover when to open a definition. A type of the source is met as a data with its variants, every machine number as the number
-that it is.
+A definition has a line `name : type` and then its clauses, one for each case. A `record` is a list of statements that all hold. What a statement speaks of stands
+in brackets before it. A `data` has one line for each way to make it. A `◌` in a name is where an argument stands. `abbrev` and `unfoldable` tell the prover when to
+open a definition, and nothing else.
 
-A contract is from the source. `requires` is what a caller must see to; where there is none, nothing is asked. `ensures` is what the function makes true, with
-`result` for its answer; where there are several, each has a name in front of its braces. `x.now` is the list of the elements of a slice x that is lent to be
-read; of one that may be written, `x.old` is that list when the function begins and `x.new` when it has ended. A number stands for itself.
+`(x : A) → B` is "for every x"; `(x : A) × B` is "there is an x"; `A × B` is "and"; `A ⊎ B` is "or"; `A → ⊥` is "not"; `a ≡ b` is equality. `r.f` is the field f of
+r. `t.V` is the variant V of the type that a file calls t. A type of the source appears as a `data` with its variants, and a machine number as the number that it
+is.
+
+A contract is copied from the source. `requires` is what the caller must ensure; if there is none, the function accepts everything. `ensures` is what the function
+makes true, and `result` is its answer; where there are several, each has a name in front of its braces. `x.now` is the list of the elements of a slice x that is
+lent to be read; of one that may be written, `x.old` is that list when the function begins and `x.new` when it has ended. A number stands for itself.
 """
 
 LIBRARY = """
-What the definitions take from Rattle's library, by module: the type of each name, and what the library's file says of it. The numbers of `Prim` are the
-prover's own.
+These names are from Rattle's library, module by module, each with its type and with what the library's file says of it. The numbers of `Prim` are built into the
+prover.
 """
 
 
@@ -146,14 +151,14 @@ class Markdown:
     def beginning(self, page):
         rests = [to_page(other) for other in self.reading.rests_on(page)]
         text = f"{counted(len(page.definitions()), 'definition')} and statements in {counted(page.lines(), 'line')}"
-        text += f", of at most {page.limit:,}." if page.limit else "."
-        text += f" This page rests on {listed(rests)}." if rests else " This page rests on no other."
-        lines = prose(text + " [How to read it](README.md).") + [""]
+        text += f", at most {page.limit:,}." if page.limit else "."
+        text += f" This page rests on {listed(rests)}." if rests else " This page rests on no other page."
+        lines = prose(text + " [How to read a page](README.md#how-to-read-a-page).") + [""]
         statements = [f"[`{made.name}`](#{anchor(made.name)})" for file in self.orders[page].values() for made in file if made in page.statements]
         if statements:
-            lines += prose(f"Its statements: {listed(statements)}.") + [""]
+            lines += prose(f"The statements: {listed(statements)}.") + [""]
         if page.operations:
-            lines += prose("Its [operations](#operations): " + listed(f"`{made.name}`" for made in page.operations) + ".") + [""]
+            lines += prose("The [operations](#operations): " + listed(f"`{made.name}`" for made in page.operations) + ".") + [""]
         return lines
 
     def contents(self, page):
@@ -185,14 +190,14 @@ class Markdown:
         found = {}
         for each in self.reading.earlier(page, definitions):
             found.setdefault(self.reading.home[each], []).append(f"[`{each.name}`]({self.reading.home[each].name}.md#{anchor(each.file.place)})")
-        said = [f"of {short(other)} {listed(links)}" for other, links in sorted(found.items(), key=lambda item: item[0].number)]
-        return prose(f"It uses {'; '.join(said)}.") + [""] if said else []
+        said = [f"{short(other)} has {listed(links)}" for other, links in sorted(found.items(), key=lambda item: item[0].number)]
+        return prose(f"From earlier pages: {'; '.join(said)}.") + [""] if said else []
 
     def statement(self, page, record):
         lines = [f"### {record.name}", ""]
         if record.whole is not record:
             others = [other for other in self.reading.pages if other is not page and any(each.whole is record.whole for each in other.statements)]
-            lines += prose(f"Other fields of this record are on {listed(to_page(other, record.name) for other in others)}.") + [""]
+            lines += prose(f"This record has other fields on {listed(to_page(other, record.name) for other in others)}.") + [""]
         return lines + code("agda", shown([record]))
 
     def operations(self, page):
@@ -207,7 +212,7 @@ class Markdown:
         names = [each for each in page.shown if isinstance(each, Library)]
         lines = ["## The library", "", *paragraphs(LIBRARY)] if names else []
         if names and page.number:
-            lines += prose("Earlier pages have the names that they use; these are new.") + [""]
+            lines += prose("These names are new on this page; earlier pages have the others.") + [""]
         for module in sorted({each.module for each in names}):
             lines += [f"**`{module}`**", ""]
             for each in sorted((each for each in names if each.module == module), key=lambda each: each.name):
