@@ -67,6 +67,10 @@ pub struct View {
     /// The outer dart, where the sheet names one; else the picture may choose.
     pub outer: Option<u16>,
     pub ends: Option<Ends>,
+    /// The delivery that is asked, where one is.
+    pub asked: Option<i32>,
+    /// Whether it is an exam page: black and white, with lines for the answer and without it.
+    pub exam: bool,
     pub settings: Option<Vec<i32>>,
     pub set: Option<Vec<u16>>,
     pub subtotals: Option<Vec<i32>>,
@@ -77,13 +81,24 @@ impl View {
     pub fn new(title: String, caption: String, sheet: &[u8], ends: Option<Ends>) -> Result<View, Refusal> {
         let drawing = library::read(sheet)?;
         let outer = Some(drawing.outer).filter(|_| sheet[0] == NAMES_OUTER);
-        Ok(View { title, caption, drawing, outer, ends, settings: None, set: None, subtotals: None, levels: None })
+        Ok(View { title, caption, drawing, outer, ends, asked: None, exam: false, settings: None, set: None, subtotals: None, levels: None })
     }
 
     /// Other limits than the sheet's, one to a dart.
     pub fn limits(mut self, limits: &[i32]) -> View {
         self.drawing.limits = limits.to_vec();
         self
+    }
+
+    pub fn asks(mut self, delivery: Option<i32>) -> View {
+        self.asked = delivery;
+        self
+    }
+
+    /// The same question as an exam page, word for word as the examiner's page prints it.
+    pub fn exam(self, title: String) -> View {
+        let caption = self.ends.zip(self.asked).map_or(String::new(), |(ends, value)| format!("{value} from node {} to node {}", ends.0, ends.1));
+        View { title, caption, exam: true, settings: None, set: None, subtotals: None, levels: None, ..self }
     }
 
     pub fn settings(mut self, settings: &[i32]) -> View {

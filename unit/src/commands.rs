@@ -60,7 +60,7 @@ pub fn read(words: &Words) -> Outcome {
             ("turns", Json::numbers(turns)),
             ("limits", Json::numbers(limits)),
         ],
-        views: vec![plain(&sheet.bytes, sheet.question.as_ref().map(ends_of))?],
+        views: vec![plain(&sheet.bytes, sheet.question.as_ref().map(ends_of))?.asks(sheet.question.map(|question| question.delivery))],
         ..Answer::default()
     })
 }
@@ -95,10 +95,11 @@ fn cannot_view(sheet: &[u8], ends: Ends, title: String, delivery: i32, set: &[u6
 
 /// The picture of Solve's answer.
 fn solved_view(sheet: &[u8], ends: Ends, delivery: i32, solved: &Solved) -> Result<View, Refusal> {
-    match solved {
+    let view = match solved {
         Solved::Can(settings) => can_view(sheet, ends, format!("can {delivery}"), delivery, settings),
         Solved::Cannot { set, .. } => cannot_view(sheet, ends, format!("cannot {delivery}"), delivery, set),
-    }
+    };
+    Ok(view?.asks(Some(delivery)))
 }
 
 pub fn solve(words: &Words) -> Outcome {

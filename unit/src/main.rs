@@ -89,7 +89,8 @@ fn answered(words: &Words, answer: Answer) -> Parsed<u8> {
     if answer.views.is_empty() {
         return fault(words.command.name, "there is nothing to see, so no picture");
     }
-    let drawn = progress::during("drawing", || picture::draw(&answer.views))?;
+    let views = if words.exam { answer.views.into_iter().map(|view| view.exam(words.title())).collect() } else { answer.views };
+    let drawn = progress::during("drawing", || picture::draw(&views))?;
     keep(file, &drawn).map(|_| status)
 }
 

@@ -10,6 +10,8 @@ const DARTS: usize = 1024;
 const BENDS: usize = 8192;
 const WORK: usize = 8 << 20;
 const NONE: i32 = -1;
+/// Lines for the answer on an exam page, as the examiner's page has them.
+const EXAM_LINES: u32 = 8;
 /// What drawing.h's functions say.
 const DONE: u32 = 0;
 const CROSSES: u32 = 3;
@@ -98,6 +100,8 @@ fn sheet_of(view: &View) -> Box<Sheet> {
 
 fn shown_of(view: &View) -> Box<Shown> {
     let mut shown: Box<Shown> = zeroed();
+    shown.style = view.exam.into();
+    shown.lines = if view.exam && view.asked.is_some() { EXAM_LINES } else { 0 };
     (shown.headgate, shown.outfall) = view.ends.map_or((NONE, NONE), |ends| (ends.0.into(), ends.1.into()));
     if let Some(settings) = &view.settings {
         shown.has_settings = 1;

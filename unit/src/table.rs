@@ -428,6 +428,8 @@ SHEET is a sheet as bytes or as text, told by the first byte. The text has a lin
     --json           the answer as one line of JSON: \"operation\", \"answer\", and the fields that 'tools/unit COMMAND --help' names;
                      a refusal has \"answer\": \"refused\", \"refused\": its number, \"place\" and \"sentence\"
     --picture FILE   a picture (SVG) of the answer as well; several answers, as of a page or a session, stand one below the other
+    --style exam     of --picture, with read, write, practice, solve, key and page: an exam page, black and white, with what is asked, lines for
+                     the answer, and no answer. --style key is what a picture has otherwise
     --csv            of class: the marks as a CSV file
     --out FILE       of pack, unpack, write, practice, dimacs, dimacs-sheet and class --csv: into a file, and nothing on standard output
     --help, -h       this; behind a command, more about it with examples

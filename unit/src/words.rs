@@ -9,6 +9,8 @@ pub struct Words {
     pub json: bool,
     pub csv: bool,
     pub picture: Option<String>,
+    /// Whether the picture is an exam page.
+    pub exam: bool,
     pub out: Option<String>,
     /// The sheet that was read, for a hint where it is refused.
     pub kept: std::cell::OnceCell<Sheet>,
@@ -22,7 +24,7 @@ pub enum Wanted {
 
 pub fn parse(arguments: Vec<String>) -> Parsed<Wanted> {
     let mut rest = vec![];
-    let (mut json, mut csv, mut help, mut picture, mut out) = (false, false, false, None, None);
+    let (mut json, mut csv, mut help, mut picture, mut style, mut out) = (false, false, false, None, None, None);
     let mut arguments = arguments.into_iter();
     while let Some(word) = arguments.next() {
         match word.as_str() {
@@ -31,6 +33,7 @@ pub fn parse(arguments: Vec<String>) -> Parsed<Wanted> {
             "--help" | "-h" => help = true,
             "--version" => return Ok(Wanted::Version),
             "--picture" => picture = Some(file_behind(&word, arguments.next())?),
+            "--style" => style = Some(arguments.next().unwrap_or_default()),
             "--out" => out = Some(file_behind(&word, arguments.next())?),
             _ if word.starts_with("--") => return bad(format!("no option {word}")),
             _ => rest.push(word),
@@ -44,13 +47,27 @@ pub fn parse(arguments: Vec<String>) -> Parsed<Wanted> {
     if help {
         return Ok(Wanted::Help(Some(command)));
     }
-    let words = Words { command, given: rest, json, csv, picture, out, kept: Default::default() };
+    let words = Words { command, given: rest, json, csv, exam: exam(&name, style, picture.is_some())?, picture, out, kept: Default::default() };
     words.check()?;
     Ok(Wanted::Run(words))
 }
 
 fn bad<T>(what: String) -> Parsed<T> {
     Err(Fault(format!("{what}; 'tools/unit --help' lists the commands and their options")))
+}
+
+/// Commands whose picture can be an exam page: it has what is asked, and no answer.
+const EXAMS: [&str; 6] = ["read", "write", "practice", "solve", "key", "page"];
+
+fn exam(name: &str, style: Option<String>, drawn: bool) -> Parsed<bool> {
+    match style.as_deref() {
+        None => Ok(false),
+        Some("key" | "exam") if !drawn => fault(name, "--style is of a picture: give --picture FILE too"),
+        Some("key") => Ok(false),
+        Some("exam") if EXAMS.contains(&name) => Ok(true),
+        Some("exam") => fault(name, format!("--style exam is of {}", EXAMS.join(", "))),
+        Some(_) => bad("--style needs key or exam behind it".to_string()),
+    }
 }
 
 fn file_behind(option: &str, word: Option<String>) -> Parsed<String> {
@@ -74,6 +91,14 @@ impl Words {
 
     pub fn last(&self) -> &str {
         &self.given[self.given.len() - 1]
+    }
+
+    /// The name of the sheet without folder and ending, as on the examiner's page.
+    pub fn title(&self) -> String {
+        let file = self.given[0].rsplit('/').next().unwrap_or_default();
+        let (name, ending) = file.rsplit_once('.').unwrap_or((file, ""));
+        let name = if ending.bytes().all(|byte| byte.is_ascii_lowercase()) { name } else { file };
+        if matches!(name, "" | "-") || self.command.name == "practice" { "drawing" } else { name }.to_string()
     }
 
     pub fn number(&self, at: usize, field: &Field) -> Parsed<i64> {
