@@ -3,7 +3,7 @@
 // it.
 //
 // Freestanding C: no function of a C library is called (but memcpy, memmove and memset, which a compiler may put in), and no memory is taken: you lend it. The
-// structs have no pointers and only numbers of a fixed width, so they lie alike in C, in Rust (#[repr(C)]) and in JavaScript (by offset: the lines at the end).
+// structs have no pointers and only numbers of a fixed width, so they lie alike everywhere: tools/pictures.py reads them here for other languages.
 //
 // A sheet here is one that the unit accepts: call Read first (analyser_read), and give what it filled. On anything else the functions end all the same and say
 // DRAWING_NOT_FLAT.
@@ -90,39 +90,9 @@ struct drawing_shown {
 uint32_t drawing_svg(const struct drawing_sheet *sheet, const struct drawing_places *places, const struct drawing_shown *shown, void *work, uint8_t *text,
                      uint32_t length, uint32_t size[2]);
 
-// The offsets of all fields, for JavaScript.
-#define DRAWING_AT(type, field, offset) _Static_assert(__builtin_offsetof(struct type, field) == (offset), #field)
-DRAWING_AT(drawing_sheet, nodes, 0);
-DRAWING_AT(drawing_sheet, channels, 2);
-DRAWING_AT(drawing_sheet, outer, 4);
-DRAWING_AT(drawing_sheet, tails, 8);
-DRAWING_AT(drawing_sheet, turns, 2056);
-DRAWING_AT(drawing_sheet, limits, 4104);
+// As tools/pictures.py lays them out, for Rust, Python and JavaScript.
 _Static_assert(sizeof(struct drawing_sheet) == 8200, "drawing_sheet");
-DRAWING_AT(drawing_places, x, 0);
-DRAWING_AT(drawing_places, y, 2052);
-DRAWING_AT(drawing_places, first, 4104);
-DRAWING_AT(drawing_places, sharp, 5130);
-DRAWING_AT(drawing_places, bend_x, 5648);
-DRAWING_AT(drawing_places, bend_y, 38416);
 _Static_assert(sizeof(struct drawing_places) == 71184, "drawing_places");
-DRAWING_AT(drawing_shown, style, 0);
-DRAWING_AT(drawing_shown, lines, 4);
-DRAWING_AT(drawing_shown, headgate, 8);
-DRAWING_AT(drawing_shown, outfall, 12);
-DRAWING_AT(drawing_shown, has_settings, 16);
-DRAWING_AT(drawing_shown, has_set, 17);
-DRAWING_AT(drawing_shown, has_subtotals, 18);
-DRAWING_AT(drawing_shown, has_levels, 19);
-DRAWING_AT(drawing_shown, has_wrong, 20);
-DRAWING_AT(drawing_shown, settings, 24);
-DRAWING_AT(drawing_shown, set, 2072);
-DRAWING_AT(drawing_shown, subtotals, 2144);
-DRAWING_AT(drawing_shown, levels, 4196);
-DRAWING_AT(drawing_shown, wrong_channels, 8296);
-DRAWING_AT(drawing_shown, wrong_nodes, 8360);
-DRAWING_AT(drawing_shown, title, 8432);
-DRAWING_AT(drawing_shown, caption, 8688);
 _Static_assert(sizeof(struct drawing_shown) == 10736, "drawing_shown");
 
 #endif

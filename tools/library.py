@@ -6,6 +6,7 @@ Each folder has the library, analyser.h, and about.txt: the version, what the li
 x86-64 has libanalyser.a, libanalyser.so, analyser.pc for pkg-config and analyser.py for Python. A Cortex-M has libanalyser.a, with what a controller lacks from
 library/helpers.c. WebAssembly has libanalyser.wasm, which imports nothing. Needs rt and gcc. docs/MANUAL.md, "The library", says what the proof does not cover.
 """
+import glob
 import hashlib
 import os
 import re
@@ -126,11 +127,25 @@ def sizes_of_elf(library, folder):
     return found
 
 
-def linked_wasm(object_file, machine, exported, path):
+def linked_wasm(objects, machine, exported, path):
     width = ["-mwasm64"] if machine.triple.startswith("wasm64") else []
     words = [module.tool("ld.lld"), "-flavor", "wasm", *width, "--no-entry", "--gc-sections", "--stack-first", "-z", f"stack-size={STACK}", "--strip-all"]
-    run([*words, *(f"--export={name}" for name in [*exported, "__heap_base"]), object_file, "-o", path])
+    run([*words, *(f"--export={name}" for name in [*exported, "__heap_base"]), *objects, "-o", path])
     return os.path.getsize(path)
+
+
+def drawing(folder):
+    """drawing/ as WebAssembly, compiled as the unit is and with the flags of drawing/build.rs; its bytes."""
+    os.makedirs(folder, exist_ok=True)
+    machine, path = MACHINES["wasm32"], f"{folder}/drawing.wasm"
+    headers = ["-ffreestanding", "-fno-math-errno", "-ffp-contract=off", "-nostdinc", "-isystem", run(["gcc", "-print-file-name=include"]).strip()]
+    objects = []
+    for source in sorted(glob.glob(f"{TOP}/drawing/*.c")):
+        objects.append(f"{folder}/{os.path.basename(source)}.o")
+        run([*compiler(machine), *headers, "-std=c11", "-Wall", "-Wextra", "-c", source, "-o", objects[-1]])
+    linked_wasm(objects, machine, ["drawing_places", "drawing_follows", "drawing_svg"], path)
+    with open(path, "rb") as file:
+        return file.read()
 
 
 def about(target, compiler_words, needs, supplied, sizes):
@@ -170,8 +185,8 @@ def build_arm(text, folder, work, target):
 def build_wasm(text, folder, work, target):
     machine = MACHINES[target]
     made = compiled(text, machine, work)
-    sizes = {name: linked_wasm(made, machine, [name], f"{work}/alone.wasm") for name in names()}
-    sizes["all"] = linked_wasm(made, machine, names(), f"{folder}/libanalyser.wasm")
+    sizes = {name: linked_wasm([made], machine, [name], f"{work}/alone.wasm") for name in names()}
+    sizes["all"] = linked_wasm([made], machine, names(), f"{folder}/libanalyser.wasm")
     return about(target, " ".join(["clang -O3", *machine.flags]), [], [], sizes)
 
 

@@ -1,6 +1,6 @@
 "use strict";
 // Places and pictures by drawing/ (C, compiled to WebAssembly): the same code as behind `tools/unit --picture`, so the same layout and the same look. It is no part
-// of the unit and nothing of it is proved. The fields lie where drawing/drawing.h says, which tools/page reads.
+// of the unit and nothing of it is proved. The fields lie where drawing/drawing.h says, which tools/pictures.py reads.
 
 const PENS = JSON.parse($("drawing-about").textContent); // the constants of drawing/drawing.h, and where the fields of its structs lie
 const NOT_NAMED = -1;
@@ -10,18 +10,15 @@ async function beginPens() {
   pens = (await WebAssembly.instantiate(bytesOf("drawing-wasm"))).instance.exports;
   let at = pens.__heap_base.value + 15 & ~15;
   const room = size => { const first = at; at += size + 15 & ~15; return first; }, { sizes, WORK, TEXT } = PENS;
-  rooms = { sheet: room(sizes.drawing_sheet), places: room(sizes.drawing_places), shown: room(sizes.drawing_shown), size: room(8), work: room(WORK), text: room(TEXT) };
+  rooms = { sheet: room(sizes.sheet), places: room(sizes.places), shown: room(sizes.shown), size: room(8), work: room(WORK), text: room(TEXT) };
   const missing = Math.ceil((at - pens.memory.buffer.byteLength) / 65536);
   if (missing > 0) pens.memory.grow(missing);
 }
 
-const KINDS_OF = { x: Int32Array, y: Int32Array, bend_x: Int32Array, bend_y: Int32Array, outer: Int32Array, limits: Int32Array, headgate: Int32Array,
-  outfall: Int32Array, settings: Int32Array, subtotals: Int32Array, levels: Int32Array, style: Uint32Array, lines: Uint32Array, nodes: Uint16Array,
-  channels: Uint16Array, tails: Uint16Array, turns: Uint16Array, first: Uint16Array, set: BigUint64Array, wrong_channels: BigUint64Array,
-  wrong_nodes: BigUint64Array }; // all others are bytes
-
-const part = (struct, name, count) =>
-  new (KINDS_OF[name] || Uint8Array)(pens.memory.buffer, rooms[struct] + PENS.fields[`drawing_${struct}`][name], count);
+function part(struct, name, count) {
+  const [offset, kind] = PENS.fields[struct][name];
+  return new globalThis[kind](pens.memory.buffer, rooms[struct] + offset, count);
+}
 const put = (struct, name, values) => part(struct, name, values.length).set(values);
 const taken = (struct, name, count) => Array.from(part(struct, name, count));
 
@@ -72,7 +69,7 @@ function pictureOf(shown, { title, caption, bare = false, paper = false, lines =
   const end = v => !bare && v !== null && v < nodes.length ? v : NOT_NAMED, { settings, inside, subtotals, levels, fault } = shown || {};
   putSheet(sheet, shown && shown.limits);
   putPlaces();
-  new Uint8Array(pens.memory.buffer, rooms.shown, PENS.sizes.drawing_shown).fill(0);
+  new Uint8Array(pens.memory.buffer, rooms.shown, PENS.sizes.shown).fill(0);
   put("shown", "style", [paper ? 1 : 0]);
   put("shown", "lines", [lines]);
   put("shown", "headgate", [end(source)]);

@@ -4,64 +4,15 @@ use crate::answer::View;
 use crate::text::{fault, Parsed};
 use std::sync::Mutex;
 
-const NODES: usize = 513;
-const CHANNELS: usize = 512;
-const DARTS: usize = 1024;
-const BENDS: usize = 8192;
-const WORK: usize = 8 << 20;
-const NONE: i32 = -1;
+/// The constants and structs of drawing/drawing.h.
+#[allow(dead_code)]
+mod made {
+    include!(concat!(env!("OUT_DIR"), "/drawing.rs"));
+}
+use made::{Places, Sheet, Shown, BENDS, CROSSES, DONE, NONE, WORK};
+
 /// Lines for the answer on an exam page, as the examiner's page has them.
 const EXAM_LINES: u32 = 8;
-/// What drawing.h's functions say.
-const DONE: u32 = 0;
-const CROSSES: u32 = 3;
-
-// The structs of drawing/drawing.h.
-#[repr(C)]
-struct Sheet {
-    nodes: u16,
-    channels: u16,
-    outer: i32,
-    tails: [u16; DARTS],
-    turns: [u16; DARTS],
-    limits: [i32; DARTS],
-}
-
-#[repr(C)]
-struct Places {
-    x: [i32; NODES],
-    y: [i32; NODES],
-    first: [u16; CHANNELS + 1],
-    sharp: [u8; CHANNELS],
-    unused: [u8; 6],
-    bend_x: [i32; BENDS],
-    bend_y: [i32; BENDS],
-}
-
-#[repr(C)]
-struct Shown {
-    style: u32,
-    lines: u32,
-    headgate: i32,
-    outfall: i32,
-    has_settings: u8,
-    has_set: u8,
-    has_subtotals: u8,
-    has_levels: u8,
-    has_wrong: u8,
-    unused: [u8; 3],
-    settings: [i32; CHANNELS],
-    set: [u64; 9],
-    subtotals: [i32; NODES],
-    levels: [i32; DARTS],
-    wrong_channels: [u64; 8],
-    wrong_nodes: [u64; 9],
-    title: [u8; 256],
-    caption: [u8; 2048],
-}
-
-const _: () = assert!(size_of::<Sheet>() == 8200 && size_of::<Places>() == 71184 && size_of::<Shown>() == 10736);
-
 extern "C" {
     fn drawing_places(sheet: *const Sheet, places: *mut Places, work: *mut u64) -> u32;
     fn drawing_follows(sheet: *const Sheet, places: *const Places, work: *mut u64, at: *mut u32) -> u32;
@@ -70,7 +21,7 @@ extern "C" {
 
 /// A struct of numbers, all 0.
 fn zeroed<T>() -> Box<T> {
-    // Safety: only used for the three structs above, whose fields are whole numbers and arrays of them.
+    // Safety: only used for the three structs of drawing.h, whose fields are whole numbers and arrays of them.
     unsafe { Box::new(std::mem::zeroed()) }
 }
 
@@ -222,7 +173,7 @@ fn saved(sheet: &Sheet, work: &mut [u64]) -> Option<Box<Places>> {
     let mut node = 0;
     // Safety: the structs are drawing.h's, and `work` is as long as it asks.
     let follows = unsafe { drawing_follows(sheet, &*places, work.as_mut_ptr(), &mut node) };
-    (follows == DONE || follows == CROSSES).then_some(places)
+    (follows as usize == DONE || follows as usize == CROSSES).then_some(places)
 }
 
 /// Saved places, or such as the turns give. The views of a session or a page are of one sheet: places that were made are used again.
@@ -236,7 +187,7 @@ fn places_of(sheet: &Sheet, before: Option<(Box<Sheet>, Box<Places>)>, work: &mu
     }
     let mut places: Box<Places> = zeroed();
     // Safety: the structs are drawing.h's, and `work` is as long as it asks.
-    match unsafe { drawing_places(sheet, &mut *places, work.as_mut_ptr()) } {
+    match unsafe { drawing_places(sheet, &mut *places, work.as_mut_ptr()) } as usize {
         DONE => Ok(places),
         _ => fault("picture", "the drawing is not flat"),
     }
