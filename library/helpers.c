@@ -1,13 +1,12 @@
-// What libanalyser asks of a controller beside itself: the functions of ARM's run-time ABI that its compiler calls. tools/library puts this file into the
-// library for each Cortex-M. Every function is weak: where a C library or a compiler's own has one, that one is taken. Nothing is proved of them;
-// `tests/machines --qemu` runs them.
+// The functions of ARM's run-time ABI that the compiler of libanalyser calls. tools/library puts this file into the library for each Cortex-M. Every function is
+// weak: if your C library or your compiler has one of the same name, the linker takes that one. Nothing here is proved; `tests/machines --qemu` runs it.
 #include <stddef.h>
 #include <stdint.h>
 
 #define WEAK __attribute__((weak))
 #define SAME(name) __attribute__((weak, alias(#name)))
 
-// Memory, sixteen bytes at a time where it is aligned.
+// Memory, sixteen bytes at a time if it is aligned.
 WEAK void *memset(void *at, int byte, size_t count) {
     uint8_t *to = at, *end = to + count;
     uint32_t word = (uint8_t)byte * 0x01010101u;
@@ -51,7 +50,7 @@ void *__aeabi_memmove4(void *, const void *, size_t) SAME(memmove);
 void *__aeabi_memmove8(void *, const void *, size_t) SAME(memmove);
 
 #if __ARM_ARCH == 6
-// ARMv6-M divides nothing, multiplies 32 bits and shifts 32. A result of two words is the first in the lower half.
+// ARMv6-M has no division, and multiplies and shifts 32 bits only. A result of two words has the first word in its lower half.
 static uint64_t pair(uint32_t low, uint32_t high) { return (uint64_t)high << 32 | low; }
 WEAK uint64_t __aeabi_uidivmod(uint32_t what, uint32_t by) {
     uint32_t quotient = 0, bit = 1;
@@ -76,14 +75,14 @@ WEAK uint64_t __aeabi_llsr(uint64_t value, int by) {
 WEAK uint64_t __aeabi_lmul(uint64_t a, uint64_t b) {
     uint32_t x = (uint32_t)a, y = (uint32_t)b, x0 = x & 0xffff, x1 = x >> 16, y0 = y & 0xffff, y1 = y >> 16;
     uint32_t cross = x1 * y0, other = x0 * y1;
-    __asm__("" : "+r"(cross), "+r"(other)); // else the compiler sees a product of 64 bits, and calls this function for it
+    __asm__("" : "+r"(cross), "+r"(other)); // without this the compiler sees a product of 64 bits, and calls this very function for it
     uint32_t middle = (x0 * y0 >> 16) + (cross & 0xffff) + (other & 0xffff);
     uint32_t high = x1 * y1 + (cross >> 16) + (other >> 16) + (middle >> 16);
     return pair(x * y, high + x * (uint32_t)(b >> 32) + (uint32_t)(a >> 32) * y);
 }
 #endif
 
-// A division of 64 bits: the quotient in r0 and r1, the rest in r2 and r3. The unit divides by nothing that is 0.
+// A division of 64 bits: the quotient is in r0 and r1, the remainder in r2 and r3. The unit never divides by 0.
 __attribute__((used)) static uint64_t divided(uint64_t what, uint64_t by, uint64_t *rest) {
     uint64_t quotient = 0, bit = 1;
     if ((what | by) >> 32 == 0) {
