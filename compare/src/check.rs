@@ -920,7 +920,7 @@ fn differ(text: &mut String, got: &Lent, due: &Lent) {
         claims kinds points; answers: can found size value least largest total nodes edges outer length place number sum least_points greatest_points guards);
 }
 
-/// The drawing and what was lent with it: as text that tools/sheet reads, else the bytes or slices.
+/// The drawing and what was lent with it: as text that tools/unit reads, else the bytes or slices.
 fn picture(call: &Call, before: &Lent) -> String {
     let mut text = String::new();
     let (question, sheet) = match call {

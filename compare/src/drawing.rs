@@ -142,7 +142,7 @@ impl Drawing {
         (head..bytes.len()).step_by(EDGE).all(|at| bytes[at] == 2).then_some(drawing)
     }
 
-    /// As tools/sheet reads it.
+    /// As tools/unit reads it.
     pub fn text(&self) -> String {
         let mut text = format!("nodes {}\n", self.nodes);
         if let Some(outer) = self.outer {

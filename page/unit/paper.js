@@ -154,6 +154,13 @@ button("save-png", () => {
 
 // ---- Paper: the exam page, and the key page ---------------------------------------------------------------
 
+const asks = () => drawing.source !== null && drawing.sink !== null;
+
+function examPicture() { // as `tools/unit solve .. --style exam` draws it
+  const { source, sink, value } = drawing, caption = asks() ? minus(`${value} from node ${source} to node ${sink}`) : "";
+  return pictureOf(null, { title: minus(fileName), caption, paper: true, lines: asks() ? 8 : 0 });
+}
+
 function paperPages() {
   const { source, sink, value } = drawing, now = answered(), section = ({ text }, words = "") => {
     const made = document.createElement("section");
@@ -161,10 +168,9 @@ function paperPages() {
     if (words) made.prepend(paragraph(words));
     return made;
   };
-  const asks = source !== null && sink !== null, question = `Can ${value} be delivered from node ${source} to node ${sink}? `
+  const question = `Can ${value} be delivered from node ${source} to node ${sink}? `
     + "If it can, give the setting of each channel. If it cannot, give a set of nodes that proves it, with its outward total.";
-  const exam = { title: minus(fileName), caption: asks ? minus(`${value} from node ${source} to node ${sink}`) : "", paper: true, lines: asks ? 8 : 0 };
-  const pages = [section(pictureOf(null, exam), asks ? question : "")], key = now && NAMED.key(now);
+  const pages = [section(examPicture(), asks() ? question : "")], key = now && NAMED.key(now);
   if (key) pages.push(section(pictureOf(now.found, { title: minus(key[0]), caption: minus(key[1]) }), `Key: ${fileName}`));
   return pages;
 }
